@@ -1,0 +1,6 @@
+pub mod Told
+pub mod Outside
+pub mod Gets
+pub mod Sinks
+pub mod Shelves
+pub mod Folder

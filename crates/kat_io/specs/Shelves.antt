@@ -1,0 +1,56 @@
+-- The shelf in memory as a whole: its contents by name, which calls are to fail, and what has been.
+use Rattle.std.specs.Prelude.{◌≡◌, ◌⊎◌, ℕ, List, Option, Some, None, Result, Ok, Err, Vec, IsTrue, string_bytes, String, map as mapped}
+use Rattle.std.specs.Ordering.{nat_cmp}
+use Rattle.std.specs.Cmp.Lexicographic.{slice_cmp}
+use Rattle.std.specs.Coded.{Coded, coded_list, coded_ℕ}
+use Rattle.std.specs.FinMap.{FinMap, code, get, from_entries}
+use Rattle.std.specs.declared.alloc.Global.{Global}
+use Rattle.kat_io.specs.declared.outside.GetFault.{GetFault}
+use Rattle.kat_io.specs.declared.outside.GetFault.TheVariants.{NoMemory, Failed, TooLong}
+use Rattle.kat_io.specs.Outside.{one_more}
+use Rattle.kat_io.specs.Told.{Told, Missing, Holds}
+use Rattle.kat_io.specs.Sinks.{is_due}
+
+-- contents by name
+abbrev pub Contents : Type 0
+Contents = FinMap (slice_cmp nat_cmp) (List ℕ)
+
+abbrev pub coded_contents : Coded Contents
+coded_contents = code (coded_list coded_ℕ) (coded_list coded_ℕ)
+
+pub record ShelfState : Type 0 where
+  pub files : Contents
+  pub schedule : List ℕ
+  pub calls : ℕ
+  pub faults : ℕ
+  pub last : Option (List ℕ)
+
+-- the contents that entries of texts hold
+abbrev pub contents_of : List (String Global × Vec ℕ Global) → Contents
+contents_of entries = from_entries (mapped (λ e. (string_bytes e.0, e.1.items)) entries)
+
+abbrev pub told_of : Option (List ℕ) → Told
+told_of None = Missing
+told_of (Some bytes) = Holds bytes
+
+-- what the shelf tells of a name
+abbrev pub tells : ShelfState → List ℕ → Told
+tells s name = told_of (get s.files name)
+
+-- what a call leaves that does not fail, and what a fault leaves
+abbrev pub after_call : ShelfState → ShelfState
+after_call s = record s { calls = one_more s.calls }
+
+abbrev pub after_fault : ShelfState → List ℕ → ShelfState
+after_fault s name = record s { calls = one_more s.calls; faults = one_more s.faults; last = Some name }
+
+-- a get of the name has to fail: the call is due, or there is no such name
+abbrev pub HasToFail : ShelfState → List ℕ → Type 0
+HasToFail s name = IsTrue (is_due s.schedule s.calls) ⊎ (tells s name ≡ Missing)
+
+-- each answer comes where it has to, and leaves this; want of memory leaves all as it was
+abbrev pub Leaves : Result (Vec ℕ Global) GetFault → ShelfState → List ℕ → ShelfState → Type 0
+Leaves (Err NoMemory) old name now = now ≡ old
+Leaves (Err Failed) old name now = HasToFail old name × (now ≡ after_fault old name)
+Leaves (Err TooLong) old name now = (HasToFail old name → ⊥) × (now ≡ after_call old)
+Leaves (Ok v) old name now = (HasToFail old name → ⊥) × (now ≡ after_call old)

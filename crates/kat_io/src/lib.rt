@@ -1,0 +1,14 @@
+//! The outside of the program: a shelf of named contents, and a sink of bytes.
+#![tactic(auto)]
+
+mod mem_shelf;
+mod mem_sink;
+mod outside;
+mod system;
+#[cfg(test)]
+mod tests;
+
+pub use mem_shelf::MemShelf;
+pub use mem_sink::MemSink;
+pub use outside::{Failed, GetFault, Shelf, Sink, send};
+pub use system::{FolderShelf, StdoutSink};

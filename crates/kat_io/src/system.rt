@@ -1,0 +1,157 @@
+//! The real outside: the current folder, and standard output. Neither tells what it holds, so only the
+//! causes of their answers are proved.
+ghost use Rattle.std.specs.Prelude.{◌≡◌, ◌≢◌, ◌^◌, ◌≤◌, ◌<◌, ℕ, List, None, IfOk, length};
+ghost use Rattle.kat_io.specs.Told.{Untold};
+ghost use Rattle.kat_io.specs.Gets.{IsWithin};
+ghost use Rattle.kat_io.specs.Folder.{FolderState};
+
+use crate::mem_shelf::is_past;
+use crate::mem_sink::more;
+use crate::outside::{Failed, GetFault, Shelf, Sink};
+use std::alloc::Global;
+use std::io::{Read, Write};
+use std::marker::Model;
+use std::rt::Files;
+use std::{fs, io};
+
+/// The files of the current folder by their names.
+#[derive(Drop)]
+pub struct FolderShelf<'a, R: Files> {
+    rt: &'a R,
+    faults: u64,
+    last: Option<String>,
+}
+
+impl<'a, R: Files> Model for FolderShelf<'a, R> {
+    ghost use Rattle.std.specs.Prelude.{string_bytes};
+    ghost use Rattle.std.specs.Option.{option_map};
+    ghost use Rattle.kat_io.specs.Folder.{FolderState};
+
+    ghost Value = { FolderState };
+
+    ghost view = { λ s. record { faults = s.faults; last = option_map string_bytes s.last } };
+}
+
+impl<'a, R: Files> FolderShelf<'a, R> {
+    /// A shelf with no faults so far.
+    pub fn new(rt: &'a R) -> FolderShelf<'a, R>
+        ensures { result ≡ record { faults = 0; last = None } }
+    {
+        FolderShelf {
+            rt,
+            faults: 0,
+            last: None,
+        }
+    }
+}
+
+// The file's bytes, up to one piece past the limit. Each turn takes at least one byte, so a file that
+// outlives the turns is larger than any vector.
+fn read_file<R: Files>(
+    rt: &R,
+    alloc: Global,
+    name: &str,
+    limit: Option<u64>,
+) -> Result<Vec<u8>, GetFault>
+    ensures within { IfOk result (λ v. IsWithin (length v.items) limit) }
+    ensures unlimited { limit ≡ None → result ≢ Err GetFault.TooLong }
+{
+    let mut file = fs::open(rt, name).map_err(|_| GetFault::Failed)?;
+    let mut bytes = Vec::new(alloc);
+    let mut piece = [0u8; 4096];
+    for _ in 0..u64::MAX {
+        let count = file.read(&mut piece).map_err(|_| GetFault::Failed)?;
+        if count == 0 {
+            return Ok(bytes);
+        }
+        bytes.extend_from_slice(&piece[..count])?;
+        if is_past(bytes.len(), limit) {
+            return Err(GetFault::TooLong);
+        }
+    }
+    Err(GetFault::NoMemory)
+}
+
+impl<'a, R: Files> Shelf for FolderShelf<'a, R> {
+    ghost content = { λ s name. Untold };
+
+    ghost faults = { λ s. s.faults };
+
+    ghost last_failed = { λ s. s.last };
+
+    fn get(&mut self, alloc: Global, name: &str, limit: Option<u64>) -> Result<Vec<u8>, GetFault> {
+        let copy = String::from_str(alloc, name)?;
+        let got = read_file(self.rt, alloc, name, limit);
+        if let Err(GetFault::Failed) = got {
+            self.faults = more(self.faults);
+            self.last = Some(copy);
+        }
+        got
+    }
+}
+
+/// The standard output.
+#[derive(Drop)]
+pub struct StdoutSink<'a, R: Print> {
+    rt: &'a R,
+    faults: u64,
+}
+
+impl<'a, R: Print> Model for StdoutSink<'a, R> {
+    ghost use Rattle.std.specs.Prelude.{ℕ};
+
+    ghost Value = { ℕ };
+
+    ghost view = { λ s. s.faults };
+}
+
+impl<'a, R: Print> StdoutSink<'a, R> {
+    /// A sink with no faults so far.
+    pub fn new(rt: &'a R) -> StdoutSink<'a, R>
+        ensures { result ≡ 0 }
+    {
+        StdoutSink { rt, faults: 0 }
+    }
+}
+
+impl<'a, R: Print> Sink for StdoutSink<'a, R> {
+    ghost taken = { λ s. None };
+
+    ghost faults = { λ s. s };
+
+    fn put(&mut self, piece: &[u8]) -> Result<usize, Failed> {
+        match io::writer(self.rt).write(piece) {
+            Ok(count) if count > 0 || piece.is_empty() => Ok(count),
+            _ => {
+                self.faults = more(self.faults);
+                Err(Failed)
+            }
+        }
+    }
+}
+
+#[cfg(test)]
+mod tests {
+    use super::*;
+    use std::test::Fail;
+
+    #[test]
+    fn gets_a_file_of_the_folder(rt: HostRuntime) -> Result<(), Fail> {
+        fs::write(&rt, "held", "abc")?;
+        let mut shelf = FolderShelf::new(&rt);
+        let whole = shelf.get(rt.alloc(), "held", Some(3))?;
+        assert_eq!(rt; whole.as_slice(), b"abc".as_slice());
+        let past = shelf.get(rt.alloc(), "held", Some(2));
+        assert!(rt; matches!(past, Err(GetFault::TooLong)));
+        let missing = shelf.get(rt.alloc(), "none", None);
+        assert!(rt; matches!(missing, Err(GetFault::Failed)));
+        Ok(())
+    }
+
+    #[test]
+    fn writes_to_standard_output(rt: HostRuntime) {
+        let mut sink = StdoutSink::new(&rt);
+        assert_eq!(rt; sink.put(b"abc"), Ok(3));
+        assert_eq!(rt; sink.put(b""), Ok(0));
+    }
+}

@@ -1,0 +1,93 @@
+-- How many different pairs of sets there are over two terms.
+use Rattle.std.proofs.Common.{◌≡◌, ◌+◌, ◌*◌, ◌^◌, ◌≤◌, inl, inr, ⊎_elim, List, [], ◌∷◌, map, length, refl, sym, ◌∙◌, subst, arith, Bool}
+use Rattle.std.proofs.lemmas.List.{length-map}
+use Rattle.kat_model.specs.Trees.{Term, acts}
+use Rattle.kat_model.specs.Members.{Has, IsSubset, SameMembers}
+use Rattle.kat_model.specs.Steps.{reach}
+use Rattle.kat_model.specs.Pairs.{SetPair, holds, AllDiffer}
+use Rattle.kat_model.specs.Guarded.{IsSingle}
+use Rattle.kat_model.specs.Laws.{AreReached, AreSingle}
+use Rattle.kat_model.proofs.Lists.{map_has, same_members_sym, same_members_trans}
+use Rattle.kat_model.proofs.SameTrees.{holds-true, has-holds}
+use Rattle.kat_model.proofs.Reach.{length-reach}
+use Rattle.kat_model.proofs.Counting.{AreToldApart, told_apart_within, all_bits, length-all_bits, all_bits_has, all_pairs, length-all_pairs, all_pairs_has}
+
+-- where a list tells each set of a kind
+record AreTold {Y : Type 0} (ys : List Y) (Tells : Y → List Term → Type 0) (Kind : List Term → Type 0) : Type 0 where
+  pub told : (es : List Term) → Kind es → (y : Y) × Has ys y × Tells y es
+  pub same : (y : Y) (es fs : List Term) → Tells y es → Tells y fs → SameMembers es fs
+
+-- different pairs are no more than the product of the numbers of what tells their sets
+module _ {Y Z : Type 0} (ys : List Y) (zs : List Z) (Left : Y → List Term → Type 0) (Right : Z → List Term → Type 0) (KindLeft KindRight : List Term → Type 0) (lefts : AreTold ys Left KindLeft) (rights : AreTold zs Right KindRight) where
+  abbrev TellBoth : Y × Z → SetPair → Type 0
+  TellBoth k p = Left k.0 p.left × Right k.1 p.right
+
+  apart : (pairs : List SetPair) → AllDiffer pairs → AreToldApart TellBoth pairs
+  apart [] d = tt
+  apart (p ∷ ps) d = (
+    (λ k q h s t. d.0 (record { pair = q; listed = h; lefts = lefts.same k.0 p.left q.left s.0 t.0; rights = rights.same k.1 p.right q.right s.1 t.1 })),
+    apart ps d.1,
+  )
+
+  pairs_within : (pairs : List SetPair) → AllDiffer pairs → ((p : SetPair) → Has pairs p → KindLeft p.left × KindRight p.right) → length pairs ≤ length ys * length zs
+  pairs_within pairs d kinds =
+      let bound = told_apart_within TellBoth pairs (all_pairs ys zs) (apart pairs d) both in
+      omega (arith, bound, length-all_pairs ys zs)
+    where
+      both : (p : SetPair) → Has pairs p → (k : Y × Z) × Has (all_pairs ys zs) k × TellBoth k p
+      both p h =
+          let l = lefts.told p.left (kinds p h).0 in
+          let r = rights.told p.right (kinds p h).1 in
+          ((l.0, r.0), all_pairs_has ys zs l.0 r.0 l.1 r.1, (l.2, r.2))
+
+-- a set is told by which of these terms it has
+module _ (us : List Term) where
+  abbrev HasThese : List Bool → List Term → Type 0
+  HasThese bits es = IsSubset es us × (map (holds es) us ≡ bits)
+
+  holds-at : (vs es fs : List Term) (x : Term) → map (holds es) vs ≡ map (holds fs) vs → Has vs x → holds es x ≡ holds fs x
+  holds-at [] es fs x e h = absurd h
+  holds-at (v ∷ vs) es fs x e h =
+      let first : holds es v ≡ holds fs v = cc in
+      let rest : map (holds es) vs ≡ map (holds fs) vs = cc in
+      ⊎_elim (λ s. subst (λ z. holds es z ≡ holds fs z) s first) (λ k. holds-at vs es fs x rest k) h
+
+  same_these : (bits : List Bool) (es fs : List Term) → HasThese bits es → HasThese bits fs → SameMembers es fs
+  same_these bits es fs h k x =
+      let e = h.1 ∙ sym k.1 in (
+        (λ m. holds-true fs x (sym (holds-at us es fs x e (h.0 x m)) ∙ has-holds es x m)),
+        (λ m. holds-true es x (holds-at us es fs x e (k.0 x m) ∙ has-holds fs x m)),
+      )
+
+  subsets_told : AreTold (all_bits (length us)) HasThese (λ es. IsSubset es us)
+  subsets_told =
+      record {
+        told = λ es h. (map (holds es) us, subst (λ n. Has (all_bits n) (map (holds es) us)) (length-map us (holds es)) (all_bits_has (map (holds es) us)), (h, refl));
+        same = same_these;
+      }
+
+-- a set of at most one member is told by that member
+abbrev singles_of : Term → List (List Term)
+singles_of e = [] ∷ map (λ x. x ∷ []) (e ∷ reach e)
+
+singles_told : (e : Term) → AreTold (singles_of e) (λ fs es. SameMembers es fs) (IsSingle e)
+singles_told e =
+    record {
+      told = λ es s. ⊎_elim (λ none. ([], inl refl, none)) (λ r. (r.0 ∷ [], inr (map_has (λ x. x ∷ []) (e ∷ reach e) r.0 r.1), r.2)) s;
+      same = λ gs es fs h k. same_members_trans es gs fs h (same_members_sym fs gs k);
+    }
+
+module _ (l r : Term) (pairs : List SetPair) (differ : AllDiffer pairs) where
+  pub pairs_bound : AreReached l r pairs → length pairs ≤ 2 ^ (acts l + 1) * 2 ^ (acts r + 1)
+  pairs_bound reached =
+      let bound = pairs_within (all_bits (length (l ∷ reach l))) (all_bits (length (r ∷ reach r))) _ _ _ _ (subsets_told (l ∷ reach l)) (subsets_told (r ∷ reach r)) pairs differ reached in
+      let m : length (l ∷ reach l) ≡ acts l + 1 = omega (arith, length-reach l) in
+      let n : length (r ∷ reach r) ≡ acts r + 1 = omega (arith, length-reach r) in
+      rw (← length-all_bits (acts l + 1), ← length-all_bits (acts r + 1), ← m, ← n) bound
+
+  pub single_pairs_bound : AreSingle l r pairs → length pairs ≤ (acts l + 2) * (acts r + 2)
+  single_pairs_bound single =
+      let bound = pairs_within (singles_of l) (singles_of r) _ _ _ _ (singles_told l) (singles_told r) pairs differ single in
+      let m : length (singles_of l) ≡ acts l + 2 = omega (arith, length-map (l ∷ reach l) (λ x. x ∷ []), length-reach l) in
+      let n : length (singles_of r) ≡ acts r + 2 = omega (arith, length-map (r ∷ reach r) (λ x. x ∷ []), length-reach r) in
+      rw (← m, ← n) bound

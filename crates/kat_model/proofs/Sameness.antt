@@ -1,0 +1,58 @@
+-- Terms that accept the same strings relate the same states, and so do the sides of a problem of which the
+-- closed sides do, in a table that keeps the hypotheses.
+use Rattle.std.proofs.Common.{◌≡◌, ℕ, ◌<◌, ◌↔◌, inl, ⊎_elim, List, [], ◌∷◌, length, sym, ◌∙◌, subst}
+use Rattle.kat_model.specs.Trees.{Term}
+use Rattle.kat_model.specs.Balanced.{sum_of}
+use Rattle.kat_model.specs.Problems.{Question}
+use Rattle.kat_model.specs.Steps.{Atom}
+use Rattle.kat_model.specs.Relations.{Table, IsTable, atom_at, frame_of, Relates, Keeps, Same}
+use Rattle.kat_model.specs.Strings.{Move, AreMoves, accepts, Hop, IsPath, spelled}
+use Rattle.kat_model.specs.Closed.{universal_of, inside, closed_under, closed}
+use Rattle.kat_model.specs.Pairs.{SetPair, Style, AreAccepted}
+use Rattle.kat_model.proofs.BalancedSums.{relates_sum_of}
+use Rattle.kat_model.proofs.Paths.{spelled_relates, relates_spelled}
+use Rattle.kat_model.proofs.Soundness.{accepted_agree}
+
+-- the terms accept the same strings over so many tests and actions
+abbrev pub AcceptAlike : ℕ → ℕ → Term → Term → Type 0
+AcceptAlike tests actions e f = (atom : Atom) (ms : List Move) → length atom ≡ tests → AreMoves tests actions ms → accepts e atom ms ≡ accepts f atom ms
+
+module _ (tests actions : ℕ) (t : Table) (is_table : IsTable tests actions t) where
+  -- a path of a table spells actions and atoms in range
+  pub spelled_moves : (i : ℕ) (hops : List (Hop ℕ)) (j : ℕ) → IsPath (frame_of t) i hops j → AreMoves tests actions (spelled (frame_of t) hops)
+  spelled_moves i [] j path m h = absurd h
+  spelled_moves i (hop ∷ hops) j path m h =
+      ⊎_elim
+      (λ e. subst (λ n. (n.act < actions) × (length n.atom ≡ tests)) e ((is_table.moves _ path.1).1, is_table.wide hop.to path.0))
+      (spelled_moves hop.to hops j path.2 m)
+      h
+
+  -- terms that accept alike relate the same states
+  alike_leads : (e f : Term) (i j : ℕ) → i < t.states → j < t.states → AcceptAlike tests actions e f → Relates t e i j → Relates t f i j
+  alike_leads e f i j li lj alike r =
+      let h = relates_spelled (frame_of t) e i j li lj r in
+      let same = alike (atom_at t i) (spelled (frame_of t) h.0) (is_table.wide i li) (spelled_moves i h.0 j h.1) in
+      spelled_relates (frame_of t) f i j h.0 li h.1 (sym same ∙ h.2)
+
+  pub alike_relates : (e f : Term) (i j : ℕ) → i < t.states → j < t.states → AcceptAlike tests actions e f → Relates t e i j ↔ Relates t f i j
+  alike_relates e f i j li lj alike = (alike_leads e f i j li lj alike, alike_leads f e i j li lj (λ atom ms wide are. sym (alike atom ms wide are)))
+
+-- a hypothesis with anything around it relates nothing in a table that keeps the hypotheses
+pub inside_relates_none : (t : Table) (hyps : List Term) (u : Term) (i j : ℕ) → Keeps t hyps → Relates t (inside u (sum_of hyps)) i j → ⊥
+inside_relates_none t hyps u i j keeps r =
+    let s = relates_sum_of (frame_of t) r.0 r.3.0 hyps r.3.2 in
+    keeps s.0 s.1 r.0 r.3.0 r.1 r.3.1 s.2
+
+-- so there the sides relate the same states where the closed sides do
+pub closed_relates : (actions : ℕ) (hyps : List Term) (left right : Term) (t : Table) (i j : ℕ) → Keeps t hyps → Relates t (closed_under actions hyps left right).left i j ↔ Relates t (closed_under actions hyps left right).right i j → Relates t left i j ↔ Relates t right i j
+closed_relates actions [] left right t i j keeps s = s
+closed_relates actions (h ∷ hs) left right t i j keeps s =
+    let none = inside_relates_none t (h ∷ hs) (universal_of actions) i j keeps in (
+      (λ r. ⊎_elim (λ p. p) (λ q. absurd (none q)) (s.0 (inl r))),
+      (λ r. ⊎_elim (λ p. p) (λ q. absurd (none q)) (s.1 (inl r))),
+    )
+
+pub accepted_same : (style : Style) (q : Question) (pairs : List SetPair) → AreAccepted style q pairs → Same q
+accepted_same style q pairs acc t is_table keeps i j li lj =
+    closed_relates q.actions q.hyps q.left q.right t i j keeps
+    (alike_relates q.tests q.actions t is_table (closed q).left (closed q).right i j li lj (accepted_agree style q pairs acc))

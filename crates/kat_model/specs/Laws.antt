@@ -1,0 +1,99 @@
+-- The laws of the definitions. Each stands on a function of the crate that does nothing.
+use Rattle.std.specs.Prelude.{◌≡◌, ◌↔◌, ◌+◌, ◌*◌, ◌^◌, ◌<◌, ◌≤◌, ℕ, false, ◌||◌, IsTrue, List, [], ◌∷◌, ◌++◌, length, None}
+use Rattle.std.specs.List.{flat_map}
+use Rattle.kat_model.specs.Trees.{TestTree, Term, zero, one, test, act, sum, product, star, acts}
+use Rattle.kat_model.specs.Members.{Has, IsSubset}
+use Rattle.kat_model.specs.Problems.{Question, IsProblem, problem_fault}
+use Rattle.kat_model.specs.Steps.{Atom, truth, out, next, set_next, reach}
+use Rattle.kat_model.specs.Relations.{Table, atom_at, frame_of, Relates, Same}
+use Rattle.kat_model.specs.Strings.{Move, last_atom, accepts, Hop, IsPath, spelled}
+use Rattle.kat_model.specs.Closed.{universal_of, inside}
+use Rattle.kat_model.specs.Pairs.{SetPair, Style, AreAccepted, AllDiffer}
+use Rattle.kat_model.specs.Guarded.{IsSingle}
+
+-- the moves are two parts, and each term accepts one, the second from the atom at the cut
+pub record IsCut (e f : Term) (atom : Atom) (ms : List Move) : Type 0 where
+  pub before : List Move
+  pub after : List Move
+  pub whole : ms ≡ before ++ after
+  pub first : IsTrue (accepts e atom before)
+  pub second : IsTrue (accepts f (last_atom atom before) after)
+
+-- the term accepts each piece, from the last atom of the one before it
+abbrev pub AcceptsEach : Term → Atom → List (List Move) → Type 0
+AcceptsEach e atom [] = Unit {0}
+AcceptsEach e atom (p ∷ ps) = IsTrue (accepts e atom p) × AcceptsEach e (last_atom atom p) ps
+
+-- the moves are pieces that the term accepts
+abbrev pub AreJoined : Term → Atom → List Move → Type 0
+AreJoined e atom ms = (ps : List (List Move)) × (ms ≡ flat_map (λ p. p) ps) × AcceptsEach e atom ps
+
+-- which strings a term accepts, by its form
+pub record AcceptsByForm (atom : Atom) (ms : List Move) : Type 0 where
+  pub of_zero : accepts zero atom ms ≡ false
+  pub of_one : IsTrue (accepts one atom ms) ↔ (ms ≡ [])
+  pub of_test : (b : TestTree) → IsTrue (accepts (test b) atom ms) ↔ ((ms ≡ []) × IsTrue (truth b atom))
+  pub of_act : (a : ℕ) → IsTrue (accepts (act a) atom ms) ↔ ((after : Atom) × (ms ≡ record { act = a; atom = after } ∷ []))
+  pub of_sum : (e f : Term) → accepts (sum e f) atom ms ≡ (accepts e atom ms || accepts f atom ms)
+  pub of_product : (e f : Term) → IsTrue (accepts (product e f) atom ms) ↔ IsCut e f atom ms
+  pub of_star : (e : Term) → IsTrue (accepts (star e) atom ms) ↔ AreJoined e atom ms
+
+-- the term accepts a part of the moves
+pub record IsWithin (e : Term) (atom : Atom) (ms : List Move) : Type 0 where
+  pub before : List Move
+  pub part : List Move
+  pub after : List Move
+  pub whole : ms ≡ before ++ part ++ after
+  pub taken : IsTrue (accepts e (last_atom atom before) part)
+
+-- the universal term accepts every string, and puts anything around a term
+pub record UniversalAccepts (tests actions : ℕ) (atom : Atom) (ms : List Move) : Type 0 where
+  pub whole : IsTrue (accepts (universal_of actions) atom ms)
+  pub around : (e : Term) → IsTrue (accepts (inside (universal_of actions) e) atom ms) ↔ IsWithin e atom ms
+
+-- some path from i to j spells a string that the term accepts
+pub record IsSpelled (t : Table) (e : Term) (i j : ℕ) : Type 0 where
+  pub hops : List (Hop ℕ)
+  pub path : IsPath (frame_of t) i hops j
+  pub accepted : IsTrue (accepts e (atom_at t i) (spelled (frame_of t) hops))
+
+-- a term relates two states of a table exactly where it accepts what a path between them spells
+abbrev pub RelatesBySpelling : Type 0
+RelatesBySpelling = (t : Table) (e : Term) (i j : ℕ) → i < t.states → j < t.states → Relates t e i j ↔ IsSpelled t e i j
+
+-- accepted pairs show that both sides are the same
+abbrev pub AcceptedAreSame : Type 0
+AcceptedAreSame = (style : Style) (q : Question) (pairs : List SetPair) → AreAccepted style q pairs → Same q
+
+-- the reach of a term is as long as the term has actions, and steps do not leave it
+pub record ReachIsClosed (e : Term) : Type 0 where
+  pub count : length (reach e) ≡ acts e
+  pub first : (atom : Atom) (a : ℕ) → IsSubset (next e atom a) (reach e)
+  pub further : (atom : Atom) (a : ℕ) (x : Term) → Has (reach e) x → IsSubset (next x atom a) (reach e)
+
+-- under each atom the term accepts and has no next term, or has one by one action, or neither
+pub record HasOneStep (e : Term) : Type 0 where
+  pub ended : (atom : Atom) (a : ℕ) (x : Term) → IsTrue (out e atom) → Has (next e atom a) x → ⊥
+  pub alone : (atom : Atom) (a b : ℕ) (x y : Term) → Has (next e atom a) x → Has (next e atom b) y → (a ≡ b) × (x ≡ y)
+
+-- so it is with a guarded term and all that its steps lead to
+pub record StaysGuarded (e : Term) : Type 0 where
+  pub own : HasOneStep e
+  pub further : (x : Term) → Has (reach e) x → HasOneStep x
+  pub sets : (es : List Term) (atom : Atom) (a : ℕ) → IsSingle e es → IsSingle e (set_next es atom a)
+
+-- each set of each pair has its members among a side and what its steps lead to
+abbrev pub AreReached : Term → Term → List SetPair → Type 0
+AreReached l r pairs = (p : SetPair) → Has pairs p → IsSubset p.left (l ∷ reach l) × IsSubset p.right (r ∷ reach r)
+
+abbrev pub AreSingle : Term → Term → List SetPair → Type 0
+AreSingle l r pairs = (p : SetPair) → Has pairs p → IsSingle l p.left × IsSingle r p.right
+
+-- how many different pairs there are over two sides
+pub record PairsAreBounded (l r : Term) (pairs : List SetPair) : Type 0 where
+  pub all : AllDiffer pairs → AreReached l r pairs → length pairs ≤ 2 ^ (acts l + 1) * 2 ^ (acts r + 1)
+  pub single : AllDiffer pairs → AreSingle l r pairs → length pairs ≤ (acts l + 2) * (acts r + 2)
+
+-- a question is that of a problem exactly where it has no fault
+abbrev pub FaultlessAreProblems : Type 0
+FaultlessAreProblems = (q : Question) → (problem_fault q ≡ None) ↔ IsProblem q

@@ -1,0 +1,13 @@
+pub mod Members
+pub mod Trees
+pub mod Codes
+pub mod Balanced
+pub mod Joined
+pub mod Steps
+pub mod Relations
+pub mod Strings
+pub mod Problems
+pub mod Closed
+pub mod Pairs
+pub mod Guarded
+pub mod Laws

@@ -1,0 +1,50 @@
+//! Laws of the definitions. Each function does nothing: its contract is the law.
+ghost use Rattle.std.specs.Prelude.{ℕ, List};
+ghost use Rattle.kat_model.specs.Trees.{Term};
+ghost use Rattle.kat_model.specs.Steps.{Atom};
+ghost use Rattle.kat_model.specs.Strings.{Move, AreMoves};
+ghost use Rattle.kat_model.specs.Pairs.{SetPair};
+ghost use Rattle.kat_model.specs.Guarded.{IsGuarded};
+ghost use Rattle.kat_model.specs.Laws.{AcceptsByForm, UniversalAccepts, RelatesBySpelling, AcceptedAreSame, ReachIsClosed, StaysGuarded, PairsAreBounded, FaultlessAreProblems};
+
+/// Which strings a term accepts, by its form: the language of a sum is the union of two languages, that of
+/// a product their concatenation, that of a star the concatenations of any number of its strings.
+pub fn accepts_by_form()
+    ensures { (atom : Atom) (ms : List Move) → AcceptsByForm atom ms }
+{}
+
+/// The universal term accepts every string over its actions.
+pub fn universal_accepts()
+    ensures { (tests actions : ℕ) (atom : Atom) (ms : List Move) → AreMoves tests actions ms → UniversalAccepts tests actions atom ms }
+{}
+
+/// A term relates two states of a table exactly where it accepts what some path between them spells.
+pub fn relates_by_spelling()
+    ensures { RelatesBySpelling }
+{}
+
+/// Pairs of sets that begin with the closed sides and are a bisimulation, plain or up to congruence, show
+/// that both sides denote one relation in each table that keeps the hypotheses.
+pub fn accepted_are_same()
+    ensures { AcceptedAreSame }
+{}
+
+/// The terms that steps lead to are as many as the occurrences of actions.
+pub fn reach_is_closed()
+    ensures { (e : Term) → ReachIsClosed e }
+{}
+
+/// A guarded term has at most one step under each atom, and so have all that its steps lead to.
+pub fn guarded_has_one_step()
+    ensures { (e : Term) → IsGuarded e → StaysGuarded e }
+{}
+
+/// Different pairs of sets over two terms are finite in number.
+pub fn pairs_are_bounded()
+    ensures { (l : Term) (r : Term) (pairs : List SetPair) → PairsAreBounded l r pairs }
+{}
+
+/// A question has no fault exactly where it is within the limits of a problem.
+pub fn faultless_are_problems()
+    ensures { FaultlessAreProblems }
+{}

@@ -1,0 +1,200 @@
+//! A problem: two terms, and the hypotheses under which they are compared.
+ghost use Rattle.std.specs.Prelude.{◌≡◌, map, IfOk, IfErr, Some};
+ghost use Rattle.std.specs.Option.{option_map};
+ghost use Rattle.kat_model.specs.Trees.{kat_tree, test_tree};
+ghost use Rattle.kat_model.specs.Problems.{IsProblem, first_test_out, first_out, first_out_of_all, terms_size, counted, question_of, problem_fault};
+
+use crate::tree::{Kat, Test};
+use std::marker::Model;
+
+const MOST_TESTS: usize = 48;
+
+const MOST_ACTIONS: usize = 48;
+
+const MOST_NODES: u64 = 100_000;
+
+/// Why there is no such problem: the first of these, in this order.
+#[derive(Clone, Copy, Debug, PartialEq, Eq)]
+pub enum BadProblem {
+    /// More than 48 tests: this many.
+    TooManyTests(usize),
+    /// More than 48 actions: this many.
+    TooManyActions(usize),
+    /// This number of a primitive test is not below the number of tests. It is the first number out of
+    /// range, in preorder over the hypotheses, left and right.
+    TestRange(usize),
+    /// This number of an action is not below the number of actions, likewise.
+    ActionRange(usize),
+    /// More than 100,000 nodes in hypotheses, left and right: this many, which stops at `u64::MAX`.
+    TooLarge(u64),
+}
+
+/// A question that is within the limits: do `left` and `right` denote one relation wherever no hypothesis
+/// relates anything? Tests and actions are numbered from 0.
+#[derive(Drop)]
+pub struct Problem {
+    tests: usize,
+    actions: usize,
+    hyps: Vec<Kat>,
+    left: Kat,
+    right: Kat,
+}
+
+impl Model for Problem {
+    ghost use Rattle.std.specs.Prelude.{◌≡◌, None};
+    ghost use Rattle.std.specs.Coded.{codes};
+    ghost use Rattle.kat_model.specs.Problems.{Question, question_of, problem_fault};
+    ghost use Rattle.kat_model.specs.Codes.{coded_term};
+
+    ghost Value = { Question };
+
+    ghost coded = { Prim.hlevel (codes, coded_term) };
+
+    ghost view = { λ p. question_of p.tests p.actions p.hyps.items p.left p.right };
+
+    ghost invariant = { λ p. problem_fault (question_of p.tests p.actions p.hyps.items p.left p.right) ≡ None };
+}
+
+fn test_out(test: &Test, tests: usize) -> Option<usize>
+    ensures { result ≡ first_test_out tests (test_tree test.now) }
+{
+    match test {
+        Test::False | Test::True => None,
+        Test::Prim(k) => { if *k < tests { None } else { Some(*k) } }
+        Test::Not(b) => test_out(b, tests),
+        Test::And(b, c) | Test::Or(b, c) => match test_out(b, tests) {
+            Some(k) => Some(k),
+            None => test_out(c, tests),
+        },
+    }
+}
+
+fn term_out(term: &Kat, tests: usize, actions: usize) -> Option<BadProblem>
+    ensures { result ≡ first_out tests actions (kat_tree term.now) }
+{
+    match term {
+        Kat::Zero | Kat::One => None,
+        Kat::Test(b) => match test_out(b, tests) {
+            Some(k) => Some(BadProblem::TestRange(k)),
+            None => None,
+        },
+        Kat::Act(a) => {
+            if *a < actions {
+                None
+            } else {
+                Some(BadProblem::ActionRange(*a))
+            }
+        }
+        Kat::Sum(e, f) | Kat::Seq(e, f) => match term_out(e, tests, actions) {
+            Some(bad) => Some(bad),
+            None => term_out(f, tests, actions),
+        },
+        Kat::Star(e) => term_out(e, tests, actions),
+    }
+}
+
+fn terms_out(terms: &[Kat], tests: usize, actions: usize) -> Option<BadProblem>
+    ensures { result ≡ first_out_of_all tests actions (map kat_tree terms.now) }
+{
+    for term in terms {
+        if let Some(bad) = term_out(term, tests, actions) {
+            return Some(bad);
+        }
+    }
+    None
+}
+
+fn total_size(terms: &[Kat]) -> u64
+    ensures { result ≡ counted (terms_size (map kat_tree terms.now)) }
+{
+    let mut total: u64 = 0;
+    for term in terms {
+        total = total.saturating_add(term.size());
+    }
+    total
+}
+
+impl Problem {
+    /// The problem of these parts, where they are within the limits, and otherwise the first reason why
+    /// not. The trees are dropped then. It takes no memory.
+    pub fn new(
+        tests: usize,
+        actions: usize,
+        hyps: Vec<Kat>,
+        left: Kat,
+        right: Kat,
+    ) -> Result<Problem, BadProblem>
+        ensures made { IfOk result (λ p. p ≡ question_of tests actions hyps.items left right) }
+        ensures within { IfOk result IsProblem }
+        ensures refused { IfErr result (λ bad. problem_fault (question_of tests actions hyps.items left right) ≡ Some bad) }
+    {
+        if tests > MOST_TESTS {
+            return Err(BadProblem::TooManyTests(tests));
+        }
+        if actions > MOST_ACTIONS {
+            return Err(BadProblem::TooManyActions(actions));
+        }
+        if let Some(bad) = terms_out(&hyps, tests, actions) {
+            return Err(bad);
+        }
+        if let Some(bad) = term_out(&left, tests, actions) {
+            return Err(bad);
+        }
+        if let Some(bad) = term_out(&right, tests, actions) {
+            return Err(bad);
+        }
+        let total = total_size(&hyps)
+            .saturating_add(left.size())
+            .saturating_add(right.size());
+        if total > MOST_NODES {
+            return Err(BadProblem::TooLarge(total));
+        }
+        Ok(Problem {
+            tests,
+            actions,
+            hyps,
+            left,
+            right,
+        })
+    }
+
+    /// The number of tests, at most 48.
+    pub fn tests(&self) -> usize
+        ensures value { result ≡ self.now.tests }
+        ensures within { IsProblem self.now }
+    {
+        self.tests
+    }
+
+    /// The number of actions, at most 48.
+    pub fn actions(&self) -> usize
+        ensures value { result ≡ self.now.actions }
+        ensures within { IsProblem self.now }
+    {
+        self.actions
+    }
+
+    /// The hypotheses, each of which says that a term is 0.
+    pub fn hyps(&self) -> &[Kat]
+        ensures value { map kat_tree result.now ≡ self.now.hyps }
+        ensures within { IsProblem self.now }
+    {
+        &self.hyps
+    }
+
+    /// The left side.
+    pub fn left(&self) -> &Kat
+        ensures value { kat_tree result.now ≡ self.now.left }
+        ensures within { IsProblem self.now }
+    {
+        &self.left
+    }
+
+    /// The right side.
+    pub fn right(&self) -> &Kat
+        ensures value { kat_tree result.now ≡ self.now.right }
+        ensures within { IsProblem self.now }
+    {
+        &self.right
+    }
+}

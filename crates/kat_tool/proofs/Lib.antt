@@ -1,0 +1,9 @@
+pub mod Atoms
+pub mod Causes
+pub mod Completeness
+pub mod Cuts
+pub mod Digits
+pub mod Exclusion
+pub mod NameLists
+pub mod OneReading
+pub mod Readings

@@ -1,0 +1,5 @@
+use Rattle.kat_tool.proofs.Exclusion.{causes_exclude}
+use Rattle.kat_tool.proofs.laws.causes_exclude.Goals as goal
+
+pub returns : goal.returns
+returns c = causes_exclude

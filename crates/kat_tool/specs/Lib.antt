@@ -1,0 +1,5 @@
+pub mod Commands
+pub mod Marks
+pub mod Reading
+pub mod Verdicts
+pub mod Replies

@@ -1,0 +1,70 @@
+//! The words of a command line, and the table of those that have a command.
+ghost use Rattle.std.specs.Prelude.{◌≡◌, ◌++◌, ◌∷◌, [], List, ℕ, OnOk, OnErr, Option};
+ghost use Rattle.std.specs.Option.{option_map};
+ghost use Rattle.kat_tool.specs.Commands.{command_of, command_seen, is_value};
+
+use kat_model::NoMemory;
+use std::alloc::Global;
+use std::marker::Model;
+
+/// The words of a command line, without the program's name.
+#[derive(Drop)]
+pub struct Words {
+    alloc: Global,
+    texts: Vec<String>,
+}
+
+impl Model for Words {
+    ghost use Rattle.std.specs.Prelude.{List, ℕ, map, string_bytes};
+
+    ghost Value = { List (List ℕ) };
+
+    ghost view = { λ w. map string_bytes w.texts.items };
+}
+
+/// What a list of words asks for.
+#[derive(Clone, Copy)]
+pub(crate) enum Command<'a> {
+    /// `decide` FILE
+    Decide(&'a str),
+}
+
+impl Words {
+    /// No words. It takes no memory.
+    pub fn new(alloc: Global) -> Words
+        ensures { result ≡ [] }
+    {
+        Words {
+            alloc,
+            texts: Vec::new(alloc),
+        }
+    }
+
+    /// Adds a word at the end. A refusal, for want of memory, leaves the list as it was.
+    pub fn push(&mut self, word: &str) -> Result<(), NoMemory>
+        ensures ok { OnOk result (self.new ≡ self.old ++ word.now ∷ []) }
+        ensures err { OnErr result (self.new ≡ self.old) }
+    {
+        let text = String::from_str(self.alloc, word)?;
+        self.texts.push(text)?;
+        Ok(())
+    }
+
+    // The command that the table has for the words.
+    pub(crate) fn command(&self) -> Option<Command<'_>>
+        ensures { option_map command_seen result ≡ command_of self.now }
+    {
+        match self.texts.as_slice() {
+            [name, file] if name.as_str() == "decide" && is_value(file.as_str()) => {
+                Some(Command::Decide(file.as_str()))
+            }
+            _ => None,
+        }
+    }
+}
+
+fn is_value(word: &str) -> bool
+    ensures { result ≡ is_value word.now }
+{
+    !word.is_empty() && !word.starts_with('-')
+}
