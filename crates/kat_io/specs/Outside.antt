@@ -15,6 +15,11 @@ pub record HasCause {T E : Type 0} (before now : ℕ) (result : Result T E) : Ty
   pub later : before ≤ now
   pub failed : OnErr result (Rose before now)
 
+-- the count that a call leaves in which each fault is counted once
+abbrev pub faults_after : {T E : Type 0} → Result T E → ℕ → ℕ
+faults_after (Ok x) before = before
+faults_after (Err e) before = one_more before
+
 -- what was taken grew by a front of these bytes, where it is told
 abbrev pub AppendsFront : Option (List ℕ) → Option (List ℕ) → List ℕ → Type 0
 AppendsFront old now bytes = (n : ℕ) × (n ≤ length bytes) × Appends old now (take n bytes)

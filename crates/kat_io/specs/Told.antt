@@ -1,8 +1,13 @@
 -- What a shelf tells of a name.
-use Rattle.std.specs.Prelude.{ℕ, List}
+use Rattle.std.specs.Prelude.{ℕ, List, Option, None, Some}
 
 -- nothing, that it is missing, or the content
 pub data Told : Type 0 where
   Untold : Told
   Missing : Told
   Holds : List ℕ → Told
+
+-- what a reader tells that has these bytes left, where they are known
+abbrev pub told_left : Option (List ℕ) → Told
+told_left None = Untold
+told_left (Some bytes) = Holds bytes

@@ -1,9 +1,11 @@
-//! The real outside: the current folder, and standard output. Neither tells what it holds, so only the
-//! causes of their answers are proved.
+//! The real outside: the current folder, and standard output. The loop that reads and the step that writes
+//! are proved over any reader and any writer. The folder and standard output tell no content themselves, so
+//! of them only the causes of their answers are proved.
 ghost use Rattle.std.specs.Prelude.{◌≡◌, ◌≢◌, ◌^◌, ◌≤◌, ◌<◌, ℕ, List, None, IfOk, length};
-ghost use Rattle.kat_io.specs.Told.{Untold};
-ghost use Rattle.kat_io.specs.Gets.{IsWithin};
-ghost use Rattle.kat_io.specs.Folder.{FolderState};
+ghost use Rattle.kat_io.specs.Told.{Untold, told_left};
+ghost use Rattle.kat_io.specs.Gets.{GetsFrom, IsCounted};
+ghost use Rattle.kat_io.specs.Outside.{Puts, HasCause, faults_after};
+ghost use Rattle.kat_io.specs.Folder.{FolderState, after_get};
 
 use crate::mem_shelf::is_past;
 use crate::mem_sink::more;
@@ -45,22 +47,22 @@ impl<'a, R: Files> FolderShelf<'a, R> {
     }
 }
 
-// The file's bytes, up to one piece past the limit. Each turn takes at least one byte, so a file that
-// outlives the turns is larger than any vector.
-fn read_file<R: Files>(
-    rt: &R,
+// All bytes that the reader has left, unless they are more than the limit. Up to one piece past the limit
+// is read. Each turn takes at least one byte, so a content that outlives the turns is larger than any
+// vector.
+fn read_within<R: Read>(
+    reader: &mut R,
     alloc: Global,
-    name: &str,
     limit: Option<u64>,
 ) -> Result<Vec<u8>, GetFault>
-    ensures within { IfOk result (λ v. IsWithin (length v.items) limit) }
-    ensures unlimited { limit ≡ None → result ≢ Err GetFault.TooLong }
+    ensures { GetsFrom (told_left (R.remaining reader.old)) result limit }
 {
-    let mut file = fs::open(rt, name).map_err(|_| GetFault::Failed)?;
     let mut bytes = Vec::new(alloc);
     let mut piece = [0u8; 4096];
     for _ in 0..u64::MAX {
-        let count = file.read(&mut piece).map_err(|_| GetFault::Failed)?;
+        let Ok(count) = reader.read(&mut piece) else {
+            return Err(GetFault::Failed);
+        };
         if count == 0 {
             return Ok(bytes);
         }
@@ -72,6 +74,18 @@ fn read_file<R: Files>(
     Err(GetFault::NoMemory)
 }
 
+fn read_file<R: Files>(
+    rt: &R,
+    alloc: Global,
+    name: &str,
+    limit: Option<u64>,
+) -> Result<Vec<u8>, GetFault>
+    ensures { GetsFrom Untold result limit }
+{
+    let mut file = fs::open(rt, name).map_err(|_| GetFault::Failed)?;
+    read_within(&mut file, alloc, limit)
+}
+
 impl<'a, R: Files> Shelf for FolderShelf<'a, R> {
     ghost content = { λ s name. Untold };
 
@@ -79,7 +93,14 @@ impl<'a, R: Files> Shelf for FolderShelf<'a, R> {
 
     ghost last_failed = { λ s. s.last };
 
-    fn get(&mut self, alloc: Global, name: &str, limit: Option<u64>) -> Result<Vec<u8>, GetFault> {
+    fn get(&mut self, alloc: Global, name: &str, limit: Option<u64>) -> Result<Vec<u8>, GetFault>
+        ensures cause { IsCounted result name.now self.old.faults self.new.faults self.old.last self.new.last }
+        ensures whole { GetsFrom Untold result limit }
+        ensures kept { (other : List ℕ) → Untold ≡ Untold }
+
+        // A fault is counted once, with its name.
+        ensures after { self.new ≡ after_get result self.old name.now }
+    {
         let copy = String::from_str(alloc, name)?;
         let got = read_file(self.rt, alloc, name, limit);
         if let Err(GetFault::Failed) = got {
@@ -87,6 +108,16 @@ impl<'a, R: Files> Shelf for FolderShelf<'a, R> {
             self.last = Some(copy);
         }
         got
+    }
+}
+
+// A writer that takes nothing of a piece that is not empty has failed.
+fn write_some<W: Write>(writer: &mut W, piece: &[u8]) -> Result<usize, Failed>
+    ensures { Puts (W.contents writer.old) (W.contents writer.new) result piece.now }
+{
+    match writer.write(piece) {
+        Ok(count) if count > 0 || piece.is_empty() => Ok(count),
+        _ => Err(Failed),
     }
 }
 
@@ -119,14 +150,18 @@ impl<'a, R: Print> Sink for StdoutSink<'a, R> {
 
     ghost faults = { λ s. s };
 
-    fn put(&mut self, piece: &[u8]) -> Result<usize, Failed> {
-        match io::writer(self.rt).write(piece) {
-            Ok(count) if count > 0 || piece.is_empty() => Ok(count),
-            _ => {
-                self.faults = more(self.faults);
-                Err(Failed)
-            }
+    fn put(&mut self, piece: &[u8]) -> Result<usize, Failed>
+        ensures bytes { Puts None None result piece.now }
+        ensures cause { HasCause self.old self.new result }
+
+        // A fault is counted once.
+        ensures after { self.new ≡ faults_after result self.old }
+    {
+        let put = write_some(&mut io::writer(self.rt), piece);
+        if put.is_err() {
+            self.faults = more(self.faults);
         }
+        put
     }
 }
 
