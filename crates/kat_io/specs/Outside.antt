@@ -20,9 +20,9 @@ abbrev pub faults_after : {T E : Type 0} → Result T E → ℕ → ℕ
 faults_after (Ok x) before = before
 faults_after (Err e) before = one_more before
 
--- what was taken grew by a front of these bytes, where it is told
+-- what was taken grew by a front of these bytes and not by all of them, where it is told
 abbrev pub AppendsFront : Option (List ℕ) → Option (List ℕ) → List ℕ → Type 0
-AppendsFront old now bytes = (n : ℕ) × (n ≤ length bytes) × Appends old now (take n bytes)
+AppendsFront old now bytes = (n : ℕ) × (n < length bytes) × Appends old now (take n bytes)
 
 -- a put takes a front of the piece, of at least one byte where there is one, and a fault takes nothing
 abbrev pub Puts : {E : Type 0} → Option (List ℕ) → Option (List ℕ) → Result ℕ E → List ℕ → Type 0

@@ -4,6 +4,7 @@ use Rattle.std.proofs.Common.{◌≡◌, ℕ, zero, suc, ◌<◌, ◌≤◌, ◌
 use Rattle.std.specs.Bool.{IsTrue}
 use Rattle.std.proofs.lemmas.Bool.{eqb-true, eq-eqb, or_cases, or_left, or_right, and_parts, and_from}
 use Rattle.kat_model.specs.Relations.{Along}
+use Rattle.kat_model.specs.Decided.{through_now}
 
 module _ {S : Type 0} (IsState : S → Type 0) where
   pub along_append : (R : S → S → Type 0) (ks ls : List S) (i m j : S) → Along IsState R i ks m → Along IsState R m ls j → Along IsState R i (ks ++ ls) j
@@ -79,10 +80,6 @@ module _ (R : ℕ → ℕ → Type 0) where
   )
 
 -- the same steps on a relation that is given by a test
-abbrev pub through_now : (ℕ → ℕ → Bool) → ℕ → ℕ → ℕ → Bool
-through_now r zero i j = eqb i j || r i j
-through_now r (suc k) i j = through_now r k i j || (through_now r k i k && through_now r k k j)
-
 module _ (r : ℕ → ℕ → Bool) where
   pub through_now_through : (k i j : ℕ) → IsTrue (through_now r k i j) → Through (λ m l. IsTrue (r m l)) k i j
   through_now_through zero i j h = ⊎_elim (λ e. inl (eqb-true i j e)) inr (or_cases (eqb i j) (r i j) h)

@@ -1,5 +1,4 @@
--- Whether a term relates two states of a table, computed by the plainest search: a product tries each state
--- in between, and a star takes Warshall's steps. It is true exactly where the term relates the states.
+-- The plainest search is true exactly where the term relates the states.
 use Rattle.std.proofs.Common.{◌≡◌, ℕ, zero as nought, suc, ◌<◌, ◌⊎◌, inl, inr, ⊎_elim, ◌↔◌, refl, sym, ◌∙◌, subst, arith, Bool, false, ◌&&◌, ◌||◌, eqb}
 use Rattle.std.specs.Bool.{IsTrue}
 use Rattle.std.specs.List.{list_any}
@@ -9,24 +8,8 @@ use Rattle.kat_model.specs.Members.{Has}
 use Rattle.kat_model.specs.Steps.{truth}
 use Rattle.kat_model.specs.Relations.{Step, Table, atom_at, Relates}
 use Rattle.kat_model.proofs.Lists.{has_any, any_has}
-use Rattle.kat_model.proofs.Closure.{through_now, through_now_leads}
-
-abbrev pub same_step : Step → Step → Bool
-same_step m n = eqb m.from n.from && (eqb m.act n.act && eqb m.to n.to)
-
--- some number below n passes the test
-abbrev pub some_below : (ℕ → Bool) → ℕ → Bool
-some_below p nought = false
-some_below p (suc n) = p n || some_below p n
-
-abbrev pub relates_now : Table → Term → ℕ → ℕ → Bool
-relates_now t zero i j = false
-relates_now t one i j = eqb i j
-relates_now t (test b) i j = eqb i j && truth b (atom_at t i)
-relates_now t (act a) i j = list_any (same_step (record { from = i; act = a; to = j })) t.moves
-relates_now t (sum e f) i j = relates_now t e i j || relates_now t f i j
-relates_now t (product e f) i j = some_below (λ k. relates_now t e i k && relates_now t f k j) t.states
-relates_now t (star e) i j = through_now (relates_now t e) t.states i j
+use Rattle.kat_model.specs.Decided.{same_step, some_below, relates_now}
+use Rattle.kat_model.proofs.Closure.{through_now_leads}
 
 same_step_true : (m n : Step) → IsTrue (same_step m n) → n ≡ m
 same_step_true m n h =

@@ -27,3 +27,4 @@ pub mod StringExamples
 pub mod TableExamples
 pub mod HypothesisExamples
 pub mod PairExamples
+pub mod StoreExamples

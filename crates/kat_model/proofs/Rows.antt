@@ -7,7 +7,8 @@ use Rattle.std.proofs.lemmas.List.FromFn.{get_or-map-range_with_len}
 use Rattle.kat_model.specs.Trees.{Term}
 use Rattle.kat_model.specs.Members.{Has}
 use Rattle.kat_model.specs.Relations.{Table, Relates}
-use Rattle.kat_model.proofs.Decided.{relates_now, relates_now_decides}
+use Rattle.kat_model.specs.Decided.{relates_now}
+use Rattle.kat_model.proofs.Decided.{relates_now_decides}
 
 abbrev pub rows_now : Table → Term → List (List ℕ)
 rows_now t e = map (λ i. filter (relates_now t e i) (range_with_len 0 t.states)) (range_with_len 0 t.states)

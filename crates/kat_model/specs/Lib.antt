@@ -3,8 +3,12 @@ pub mod Trees
 pub mod Codes
 pub mod Balanced
 pub mod Joined
+pub mod Expressions
+pub mod Stores
+pub mod Gathered
 pub mod Steps
 pub mod Relations
+pub mod Decided
 pub mod Strings
 pub mod Problems
 pub mod Closed

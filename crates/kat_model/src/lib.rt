@@ -2,6 +2,8 @@
 #![tactic(auto)]
 
 mod balanced;
+mod conditions;
+mod expression;
 mod laws;
 mod problem;
 #[cfg(test)]
@@ -9,6 +11,8 @@ mod tests;
 mod tree;
 
 pub use balanced::{seq_of, sum_of};
+pub use conditions::{all_of, any_of};
+pub use expression::{Cond, Expr, Rel, Width};
 pub use laws::{
     accepted_are_same, accepts_by_form, faultless_are_problems, guarded_has_one_step,
     pairs_are_bounded, reach_is_closed, relates_by_spelling, universal_accepts,

@@ -4,7 +4,9 @@ ghost use Rattle.kat_model.specs.Trees.{test_tree};
 ghost use Rattle.kat_model.specs.Problems.{IsTestInRange};
 
 use crate::tree::{boxed_kat, boxed_test};
-use crate::{BadProblem, Kat, NoMemory, Problem, Test, seq_of, sum_of};
+use crate::{
+    BadProblem, Cond, Expr, Kat, NoMemory, Problem, Rel, Test, all_of, any_of, seq_of, sum_of,
+};
 use std::alloc::Global;
 use std::test::Fail;
 
@@ -130,5 +132,43 @@ fn refuses_more_than_a_hundred_thousand_nodes(rt: HostRuntime) -> Result<(), Fai
     let two = Kat::Test(Test::True);
     let large = Problem::new(0, 0, Vec::new(alloc), sum_of(alloc, more)?, two);
     assert!(rt; matches!(large, Err(BadProblem::TooLarge(100_001))));
+    Ok(())
+}
+
+// How many comparisons a condition has, and how many nodes are on its longest path.
+fn spread(cond: &Cond) -> (u64, u64) {
+    match cond {
+        Cond::True | Cond::False | Cond::Test(_) => (0, 1),
+        Cond::Compare(_, _, _) => (1, 1),
+        Cond::Not(b) => {
+            let (count, height) = spread(b);
+            (count, height.saturating_add(1))
+        }
+        Cond::And(b, c) | Cond::Or(b, c) => {
+            let (left, right) = (spread(b), spread(c));
+            let count = left.0.saturating_add(right.0);
+            (count, left.1.max(right.1).saturating_add(1))
+        }
+    }
+}
+
+#[test]
+fn gathers_conditions_by_halves(rt: HostRuntime) -> Result<(), Fail> {
+    let alloc = rt.alloc();
+    for (count, height) in [(1, 1), (2, 2), (3, 3), (5, 4)] {
+        let mut list = Vec::new(alloc);
+        let mut other = Vec::new(alloc);
+        for k in 0..count {
+            let cond = Cond::Compare(Rel::Lt, Expr::Var(0), Expr::Num(k));
+            other.push(cond.copy(alloc)?)?;
+            list.push(cond)?;
+        }
+        assert_eq!(rt; spread(&any_of(alloc, list)?), (count, height));
+        assert_eq!(rt; spread(&all_of(alloc, other)?), (count, height));
+    }
+    let none = Vec::new(alloc);
+    assert!(rt; matches!(any_of(alloc, none)?, Cond::False));
+    let none = Vec::new(alloc);
+    assert!(rt; matches!(all_of(alloc, none)?, Cond::True));
     Ok(())
 }

@@ -69,7 +69,7 @@ module _ (words : List (List ℕ)) (told : List ℕ → Told) (before now : ℕ)
         (λ h.
         ⊎_elim
         (λ x. equal_replies (record { text = text; decides = decides; asked = h.0; reads = h.1; same = x.1 }) x.0 x.2)
-        (λ x. different_replies (record { text = text; decides = decides; asked = h.0; reads = h.1; differ = x.1; atom = x.2.0; wide = x.2.1; apart = x.2.2; printed = x.2.3 }) x.0)
+        (λ x. different_replies (record { text = text; decides = decides; asked = h.0; reads = h.1; differ = x.1; string = x.2.0; refutes = x.2.1; printed = x.2.2 }) x.0)
         h.2)
         (λ h. refused_replies (inl (record { text = text; decides = decides; unread = h.0; printed = h.2 })) h.1)
         judges

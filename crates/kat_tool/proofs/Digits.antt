@@ -1,8 +1,8 @@
 -- The digits of an atom at which one test alone is true, or none.
-use Rattle.std.proofs.Common.{◌≡◌, ℕ, zero, suc, List, ◌∷◌, ◌++◌, codes, length, map, true, false, Option, None, Some, replicate, set, refl, ap, ◌∙◌}
+use Rattle.std.proofs.Common.{◌≡◌, ℕ, zero, suc, List, ◌∷◌, ◌++◌, codes, length, map, true, false, Option, None, Some, replicate, set, refl, sym, ap, ◌∙◌, append_assoc, []}
 use Rattle.std.proofs.lemmas.List.{map-set, length-set, length-replicate}
 use Rattle.kat_model.specs.Steps.{Atom}
-use Rattle.kat_tool.specs.Verdicts.{only_true, bits, different_text}
+use Rattle.kat_tool.specs.Verdicts.{only_true, bits, spaced, single, string_text}
 
 map-replicate : {A B : Type 0} (f : A → B) (n : ℕ) (x : A) → map f (replicate n x) ≡ replicate n (f x)
 map-replicate f zero x = refl
@@ -19,6 +19,7 @@ pub length-only_true : (tests : ℕ) (holds : Option ℕ) → length (only_true 
 length-only_true tests None = length-replicate tests false
 length-only_true tests (Some k) = length-set (replicate tests false) k true ∙ length-replicate tests false
 
--- the text is what is put together of its parts
-pub different_text-parts : (atom : Atom) (front digits pushed middle text : List ℕ) → front ≡ codes "kat 1 different\nA " → digits ≡ bits atom → pushed ≡ digits → middle ≡ front ++ pushed → text ≡ middle ++ codes "\nend\n" → text ≡ different_text atom
-different_text-parts atom front digits pushed middle text f d p m t = rw (t, m, f, p, d) refl
+-- the text of the string of one atom, as it is put together
+pub string_text-single : (atom : Atom) (digits spaces front middle text : List ℕ) → digits ≡ bits atom → spaces ≡ spaced digits → front ≡ codes "kat 1 different\nA" → middle ≡ front ++ spaces → text ≡ middle ++ codes "\nend\n" → text ≡ string_text (single atom)
+string_text-single atom digits spaces front middle text d s f m t =
+    rw (t, m, f, s, d) (sym (append_assoc (codes "kat 1 different\nA" ++ spaced (bits atom)) (10 ∷ []) (codes "end\n")))

@@ -2,12 +2,13 @@
 use Rattle.std.specs.Prelude.{◌≡◌, ◌≢◌, ◌⊎◌, ◌≤◌, ◌<◌, ℕ, List, [], ◌∷◌, ◌++◌, length, Option, None, Some, codes}
 use Rattle.kat_io.specs.Told.{Told, Untold, Missing, Holds}
 use Rattle.kat_io.specs.Outside.{Rose}
-use Rattle.kat_model.specs.Steps.{Atom, out}
+use Rattle.kat_model.specs.Strings.{GuardedString}
 use Rattle.kat_model.specs.Relations.{Same}
+use Rattle.string_tables.specs.Tables.{Refutes}
 use Rattle.kat_tool.specs.declared.reading.Asked.{Asked}
 use Rattle.kat_tool.specs.Commands.{decide, command_of}
 use Rattle.kat_tool.specs.Reading.{Reads, question}
-use Rattle.kat_tool.specs.Verdicts.{different_text}
+use Rattle.kat_tool.specs.Verdicts.{string_text}
 
 -- a text has at most so many bytes
 abbrev pub text_limit : ℕ
@@ -40,17 +41,16 @@ pub record IsEqual (words : List (List ℕ)) (told : List ℕ → Told) : Type 0
   pub reads : Reads text asked
   pub same : Same (question asked)
 
--- the text is read, the sides of its problem do not, and the atom tells them apart
+-- the text is read, the sides of its problem do not, and the string that is printed refutes it
 pub record IsDifferent (words : List (List ℕ)) (told : List ℕ → Told) (output : List ℕ) : Type 0 where
   pub text : List ℕ
   pub decides : Decides words told text
   pub asked : Asked
   pub reads : Reads text asked
   pub differ : Same (question asked) → ⊥
-  pub atom : Atom
-  pub wide : length atom ≡ asked.tests
-  pub apart : out (question asked).left atom ≢ out (question asked).right atom
-  pub printed : output ≡ different_text atom
+  pub string : GuardedString
+  pub refutes : Refutes (question asked) string
+  pub printed : output ≡ string_text string
 
 -- the text is not read, or is past the limit
 pub record IsNotYet (words : List (List ℕ)) (told : List ℕ → Told) (output : List ℕ) : Type 0 where
@@ -87,7 +87,7 @@ pub record Replies (words : List (List ℕ)) (told : List ℕ → Told) (before 
 abbrev pub Judges : Asked → ℕ → List ℕ → Type 0
 Judges asked status output =
     ((status ≡ 0) × Same (question asked) × (output ≡ codes "equal\n"))
-    ⊎ ((status ≡ 1) × (Same (question asked) → ⊥) × ((atom : Atom) × (length atom ≡ asked.tests) × (out (question asked).left atom ≢ out (question asked).right atom) × (output ≡ different_text atom)))
+    ⊎ ((status ≡ 1) × (Same (question asked) → ⊥) × ((x : GuardedString) × Refutes (question asked) x × (output ≡ string_text x)))
 
 -- the text is judged so
 abbrev pub JudgesText : List ℕ → ℕ → List ℕ → Type 0

@@ -1,7 +1,7 @@
 //! Whether two sides are the same, and an atom at which they differ.
 ghost use Rattle.std.specs.Prelude.{◌≡◌, ◌<◌, IfOk, IfSome};
 ghost use Rattle.kat_tool.specs.Reading.{question, IsAskedInRange};
-ghost use Rattle.kat_tool.specs.Verdicts.{only_true, IsVerdict, different_text as different_output};
+ghost use Rattle.kat_tool.specs.Verdicts.{only_true, IsVerdict, bits, spaced, single, string_text};
 
 use crate::reading::{Asked, Side};
 use kat_model::NoMemory;
@@ -32,6 +32,29 @@ pub(crate) fn compare(asked: Asked) -> Verdict
     }
 }
 
+fn digits(alloc: Global, tests: usize, holds: Option<usize>) -> Result<Vec<u8>, NoMemory>
+    requires { IfSome holds (λ k. k < tests) }
+    ensures { IfOk result (λ v. v.items ≡ bits (only_true tests holds)) }
+{
+    let mut digits = vec![in alloc; b'0'; tests]?;
+    if let Some(k) = holds {
+        digits[k] = b'1';
+    }
+    Ok(digits)
+}
+
+fn spaced(alloc: Global, digits: &[u8]) -> Result<Vec<u8>, NoMemory>
+    ensures { IfOk result (λ v. v.items ≡ spaced digits.now) }
+{
+    let mut text = Vec::new(alloc);
+    if digits.is_empty() {
+        return Ok(text);
+    }
+    text.push(b' ')?;
+    text.extend_from_slice(digits)?;
+    Ok(text)
+}
+
 /// The evidence that the string of one atom is.
 pub(crate) fn different_text(
     alloc: Global,
@@ -39,14 +62,12 @@ pub(crate) fn different_text(
     holds: Option<usize>,
 ) -> Result<Vec<u8>, NoMemory>
     requires { IfSome holds (λ k. k < tests) }
-    ensures { IfOk result (λ v. v.items ≡ different_output (only_true tests holds)) }
+    ensures { IfOk result (λ v. v.items ≡ string_text (single (only_true tests holds))) }
 {
-    let mut bits = vec![in alloc; b'0'; tests]?;
-    if let Some(k) = holds {
-        bits[k] = b'1';
-    }
-    let mut text = b"kat 1 different\nA ".to_vec(alloc)?;
-    text.extend_from_slice(&bits)?;
+    let digits = digits(alloc, tests, holds)?;
+    let atom = spaced(alloc, &digits)?;
+    let mut text = b"kat 1 different\nA".to_vec(alloc)?;
+    text.extend_from_slice(&atom)?;
     text.extend_from_slice(b"\nend\n")?;
     Ok(text)
 }

@@ -1,0 +1,15 @@
+pub mod Places
+pub mod Readings
+pub mod Rooms
+pub mod Told
+pub mod OneMoveMore
+pub mod Positions
+pub mod Fitting
+pub mod Counterexamples
+pub mod FirstBreaks
+pub mod TermHeights
+pub mod Asking
+pub mod Ends
+pub mod Elimination
+pub mod OneFinding
+pub mod Parts

@@ -1,0 +1,32 @@
+-- Products and closures of relations that matrices tell.
+use Rattle.std.proofs.Common.{◌≡◌, ℕ, zero, suc, ◌<◌, ◌≤◌, ◌↔◌, Bool, ◌&&◌, ◌||◌, eqb, refl, ap, ◌∙◌, arith}
+use mathlib.Core.Path.{ap₂}
+use Rattle.std.specs.Bool.{IsTrue}
+use Rattle.kat_model.specs.Trees.{Term}
+use Rattle.kat_model.specs.Relations.{Table, Relates}
+use Rattle.kat_model.specs.Decided.{some_below, relates_now, through_now}
+use Rattle.kat_model.proofs.Decided.{relates_now_decides}
+use Rattle.string_tables.specs.Matrices.{Square, entry, Tells}
+
+some_below_same : (p q : ℕ → Bool) (n : ℕ) → ((k : ℕ) → k < n → p k ≡ q k) → some_below p n ≡ some_below q n
+some_below_same p q zero same = refl
+some_below_same p q (suc n) same = ap₂ ◌||◌ (same n (omega arith)) (some_below_same p q n (λ k lt. same k (omega arith)))
+
+through_now_same : (r q : ℕ → ℕ → Bool) (n k : ℕ) → k ≤ n → ((i j : ℕ) → i < n → j < n → r i j ≡ q i j) → (i j : ℕ) → i < n → j < n → through_now r k i j ≡ through_now q k i j
+through_now_same r q n zero le same i j li lj = ap (λ b. eqb i j || b) (same i j li lj)
+through_now_same r q n (suc k) le same i j li lj =
+    let lk : k < n = omega arith in
+    let less : k ≤ n = omega arith in
+    ap₂ ◌||◌ (through_now_same r q n k less same i j li lj)
+    (ap₂ ◌&&◌ (through_now_same r q n k less same i k li lk) (through_now_same r q n k less same k j lk lj))
+
+pub product_told : (n : ℕ) (r q : ℕ → ℕ → Bool) (a b m : Square) → Tells n a r → Tells n b q → Tells n m (λ i j. some_below (λ k. entry a i k && entry b k j) n) → Tells n m (λ i j. some_below (λ k. r i k && q k j) n)
+product_told n r q a b m left right told i j li lj =
+    told i j li lj ∙ some_below_same _ _ n (λ k lk. ap₂ ◌&&◌ (left i k li lk) (right k j lk lj))
+
+pub closure_told : (n : ℕ) (r : ℕ → ℕ → Bool) (a m : Square) → Tells n a r → Tells n m (through_now (entry a) n) → Tells n m (through_now r n)
+closure_told n r a m part told i j li lj = told i j li lj ∙ through_now_same (entry a) r n n (omega arith) part i j li lj
+
+-- an entry of a term's matrix decides whether the term relates the states
+pub entry_decides : (t : Table) (e : Term) (m : Square) → Tells t.states m (relates_now t e) → (i j : ℕ) → i < t.states → j < t.states → (b : Bool) → b ≡ entry m i j → IsTrue b ↔ Relates t e i j
+entry_decides t e m told i j li lj b is = rw (is, told i j li lj) (relates_now_decides t e i j li lj)

@@ -1,0 +1,17 @@
+-- The matrices that a term is evaluated in.
+use Rattle.std.specs.Prelude.{◌≡◌, ◌+◌, List, Bool, length, replicate}
+use Rattle.string_tables.specs.Tables.{Room}
+use Rattle.string_tables.specs.Matrices.{Square, sizes}
+
+-- the room that there is, and the matrix of the last term
+pub record Filled : Type 0 where
+  pub room : Room
+  pub top : Square
+
+abbrev pub filled : Square → List Square → Filled
+filled top below = record { room = record { depth = length below + 1; states = top.size }; top = top }
+
+-- all matrices have one size, which is also the length of the spare row
+pub record IsEven (top : Square) (below : List Square) (spare : List Bool) : Type 0 where
+  pub sizes_below : sizes below ≡ replicate (length below) top.size
+  pub width : length spare ≡ top.size

@@ -1,0 +1,56 @@
+//! Evaluation of terms over small tables, in memory that is taken before.
+ghost use Rattle.std.specs.Prelude.{◌≡◌, ◌<◌, ◌↔◌, IfOk, IsTrue};
+ghost use Rattle.kat_model.specs.Trees.{kat_tree};
+ghost use Rattle.kat_model.specs.Relations.{Relates};
+ghost use Rattle.string_tables.specs.Tables.{MayBeAsked};
+
+use crate::levels::Levels;
+use crate::table::Table;
+use kat_model::{Kat, NoMemory};
+use std::alloc::Global;
+use std::marker::Model;
+
+/// Room to evaluate terms of at most a given height over tables of at most a given number of states.
+#[derive(Drop)]
+pub struct Bench {
+    depth: usize,
+    states: usize,
+    levels: Levels,
+}
+
+impl Model for Bench {
+    ghost use Rattle.std.specs.Prelude.{◌≤◌};
+    ghost use Rattle.string_tables.specs.Tables.{Room};
+
+    ghost Value = { Room };
+
+    ghost view = { λ b. record { depth = b.depth; states = b.states } };
+
+    ghost invariant = { λ b. (b.depth ≤ b.levels.room.depth) × (b.states ≤ b.levels.room.states) };
+}
+
+impl Bench {
+    /// Takes all memory that terms of that height over tables of that many states need.
+    pub fn new(alloc: Global, depth: usize, states: usize) -> Result<Bench, NoMemory>
+        ensures { IfOk result (λ b. b ≡ record { depth = depth; states = states }) }
+    {
+        let levels = Levels::new(alloc, depth, states)?;
+        Ok(Bench {
+            depth,
+            states,
+            levels,
+        })
+    }
+
+    /// Whether the term relates state i of the table to state j. It takes no memory and cannot be refused.
+    pub fn relates(&mut self, table: &Table, term: &Kat, i: usize, j: usize) -> bool
+        requires asked { MayBeAsked self.old table.now (kat_tree term.now) }
+        requires from { i < table.now.states }
+        requires to { j < table.now.states }
+        ensures relates { IsTrue result ↔ Relates table.now (kat_tree term.now) i j }
+        ensures kept { self.new ≡ self.old }
+    {
+        self.levels.fill(table, term);
+        self.levels.relates(i, j)
+    }
+}

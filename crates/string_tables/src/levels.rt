@@ -1,0 +1,65 @@
+//! The memory that terms are evaluated in.
+ghost use Rattle.std.specs.Prelude.{◌≡◌, ◌<◌, ◌≤◌, IfOk};
+ghost use Rattle.kat_model.specs.Trees.{kat_tree};
+ghost use Rattle.kat_model.specs.Decided.{relates_now};
+ghost use Rattle.string_tables.specs.Tables.{MayBeAsked};
+ghost use Rattle.string_tables.specs.Matrices.{entry, Tells};
+
+use crate::evaluation::evaluate;
+use crate::matrix::{Matrix, Row};
+use crate::table::Table;
+use kat_model::{Kat, NoMemory};
+use std::alloc::Global;
+use std::marker::Model;
+
+/// A matrix for the term that is evaluated, one for each level below it, and a row.
+#[derive(Drop)]
+pub(crate) struct Levels {
+    top: Matrix,
+    below: Vec<Matrix>,
+    spare: Row,
+}
+
+impl Model for Levels {
+    ghost use Rattle.string_tables.specs.Filled.{Filled, filled, IsEven};
+
+    ghost Value = { Filled };
+
+    ghost view = { λ l. filled l.top l.below.items };
+
+    ghost invariant = { λ l. IsEven l.top l.below.items l.spare };
+}
+
+impl Levels {
+    /// Takes memory for terms that are at most so high, over tables of at most so many states.
+    pub(crate) fn new(alloc: Global, depth: usize, states: usize) -> Result<Levels, NoMemory>
+        ensures depth { IfOk result (λ l. depth ≤ l.room.depth) }
+        ensures states { IfOk result (λ l. l.room.states ≡ states) }
+    {
+        let top = Matrix::new(alloc, states)?;
+        let mut below = Vec::new(alloc);
+        for _ in 1..depth {
+            below.push(Matrix::new(alloc, states)?)?;
+        }
+        let spare = Row::new(alloc, states)?;
+        Ok(Levels { top, below, spare })
+    }
+
+    /// Evaluates a term.
+    pub(crate) fn fill(&mut self, table: &Table, term: &Kat)
+        requires { MayBeAsked self.old.room table.now (kat_tree term.now) }
+        ensures told { Tells table.now.states self.new.top (relates_now table.now (kat_tree term.now)) }
+        ensures room { self.new.room ≡ self.old.room }
+    {
+        evaluate(table, term, &mut self.top, &mut self.below, &mut self.spare);
+    }
+
+    /// Whether the last term relates i to j.
+    pub(crate) fn relates(&self, i: usize, j: usize) -> bool
+        requires from { i < self.now.room.states }
+        requires to { j < self.now.room.states }
+        ensures { result ≡ entry self.now.top i j }
+    {
+        self.top.at(i, j)
+    }
+}

@@ -1,0 +1,34 @@
+//! Guarded strings.
+use crate::items::Items;
+use std::marker::Model;
+
+/// An action, and the truth values after it. The action is a number from 0, and the values are those of the
+/// tests in order, test 0 first.
+#[derive(Drop)]
+pub struct Move {
+    pub act: usize,
+    pub atom: Items<bool>,
+}
+
+impl Model for Move {
+    ghost use Rattle.kat_model.specs.Strings.{Move as Move'};
+
+    ghost Value = { Move' };
+
+    ghost view = { λ m. record { act = m.act; atom = m.atom } };
+}
+
+/// A guarded string: the truth values at first, and moves (Kaplan 1969; Kozen and Smith 1996).
+#[derive(Drop)]
+pub struct GString {
+    pub first: Items<bool>,
+    pub rest: Items<Move>,
+}
+
+impl Model for GString {
+    ghost use Rattle.kat_model.specs.Strings.{GuardedString};
+
+    ghost Value = { GuardedString };
+
+    ghost view = { λ x. record { first = x.first; rest = x.rest } };
+}
