@@ -1,4 +1,6 @@
 pub mod Lists
+pub mod Places
+pub mod ValuesInOrder
 pub mod Faults
 pub mod BalancedTrees
 pub mod Acceptance

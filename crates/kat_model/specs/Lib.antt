@@ -1,4 +1,5 @@
 pub mod Members
+pub mod CourseOfValues
 pub mod Trees
 pub mod Codes
 pub mod Balanced

@@ -1,0 +1,13 @@
+//! The terms that a goal compares: goals as two sides, and elimination of hypotheses.
+#![tactic(auto)]
+
+mod elimination;
+mod goals;
+mod laws;
+mod nodes;
+#[cfg(test)]
+mod tests;
+
+pub use elimination::{Closed, eliminate};
+pub use goals::{Sides, below, triple};
+pub use laws::goals_mean;

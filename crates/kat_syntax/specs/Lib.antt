@@ -1,0 +1,12 @@
+pub mod Signs
+pub mod Lexemes
+pub mod Parsed
+pub mod Actions
+pub mod Exprs
+pub mod Conds
+pub mod Terms
+pub mod Phrases
+pub mod Folds
+pub mod Scans
+pub mod Ends
+pub mod Faults

@@ -1,0 +1,168 @@
+//! Terms.
+ghost use Rattle.std.specs.Prelude.{◌≡◌, ℕ, ◌+◌, ◌<◌, ◌≤◌, length, drop, IfOk};
+ghost use Rattle.kat_syntax.specs.Lexemes.{lexemes};
+ghost use Rattle.kat_syntax.specs.Parsed.{Reads, Goes};
+ghost use Rattle.kat_syntax.specs.Terms.{parenthesis, bracket, negation, star_or_not, parse_term, choice, sequence, unit};
+
+use crate::cond::read_cond;
+use crate::reading::{Around, Reading};
+use crate::sign::{
+    Sign, close_round, close_square, is_dot_at, is_plus_at, is_star_at, sign_at, text_at,
+};
+use kat_tokens::{TextFault, Token};
+
+/// Reads the term that begins at `from`: what the reading makes of it, and the index after it. Otherwise the fault that
+/// comes first in the text: `Syntax` at the token that cannot stand there (the place `usize::MAX` after the last token),
+/// `TooDeep` at the token with which more than 200 constructs are open, `NumberTooWide` at a number of 2^64 or more, or
+/// that with which the reading refuses a part. `NoMemory` comes from the reading alone.
+pub fn read_term<R: Reading>(
+    reading: &R,
+    toks: &[Token],
+    from: usize,
+    around: Around,
+) -> Result<(R::Term, usize), TextFault>
+    ensures value { Reads R.memory R.term (lexemes toks.now) result (parse_term (R.actions reading.now) choice around (drop from (lexemes toks.now))) }
+    ensures goes { Goes from (length toks.now) result }
+{
+    choice(reading, toks, from, around)
+}
+
+#[cycle(terms)]
+#[tactic(auto, using(crate::proofs::TermSteps::term_step, crate::proofs::Tokens::next_drop))]
+fn choice<R: Reading>(
+    reading: &R,
+    toks: &[Token],
+    from: usize,
+    around: Around,
+) -> Result<(R::Term, usize), TextFault>
+    ensures value { Reads R.memory R.term (lexemes toks.now) result (parse_term (R.actions reading.now) choice around (drop from (lexemes toks.now))) }
+    ensures goes { Goes from (length toks.now) result }
+{
+    let (first, next) = sequence(reading, toks, from, around)?;
+    let mut list = reading.one_term(first)?;
+    let mut at = next;
+    'parts: while is_plus_at(toks, at) {
+        let (more, next) = sequence(reading, toks, at + 1, around)?;
+        list = reading.more_terms(list, more)?;
+        at = next;
+    }
+    Ok((reading.sum(list)?, at))
+}
+
+#[cycle(terms)]
+#[tactic(auto, using(crate::proofs::TermSteps::term_step, crate::proofs::Tokens::next_drop))]
+fn sequence<R: Reading>(
+    reading: &R,
+    toks: &[Token],
+    from: usize,
+    around: Around,
+) -> Result<(R::Term, usize), TextFault>
+    ensures value { Reads R.memory R.term (lexemes toks.now) result (parse_term (R.actions reading.now) sequence around (drop from (lexemes toks.now))) }
+    ensures goes { Goes from (length toks.now) result }
+{
+    let (first, next) = unit(reading, toks, from, around)?;
+    let (first, next) = star_or_not(reading, toks, next, around, first)?;
+    let mut list = reading.one_term(first)?;
+    let mut at = next;
+    'parts: while is_dot_at(toks, at) {
+        let (more, next) = unit(reading, toks, at + 1, around)?;
+        let (more, next) = star_or_not(reading, toks, next, around, more)?;
+        list = reading.more_terms(list, more)?;
+        at = next;
+    }
+    Ok((reading.product(list)?, at))
+}
+
+fn star_or_not<R: Reading>(
+    reading: &R,
+    toks: &[Token],
+    i: usize,
+    around: Around,
+    operand: R::Term,
+) -> Result<(R::Term, usize), TextFault>
+    ensures value { Reads R.memory R.term (lexemes toks.now) result (star_or_not (R.actions reading.now) around (R.term operand) (drop i (lexemes toks.now))) }
+    ensures goes { IfOk result (λ x. i ≤ x.1) }
+    ensures within { i ≤ length toks.now → IfOk result (λ x. x.1 ≤ length toks.now) }
+{
+    match sign_at(toks, i) {
+        Some((Sign::Star, at)) => Ok((reading.starred(around, at, operand)?, i + 1)),
+        _ => Ok((operand, i)),
+    }
+}
+
+#[cycle(terms)]
+#[tactic(auto, using(crate::proofs::TermSteps::term_step, crate::proofs::Tokens::next_drop))]
+fn unit<R: Reading>(
+    reading: &R,
+    toks: &[Token],
+    from: usize,
+    around: Around,
+) -> Result<(R::Term, usize), TextFault>
+    ensures value { Reads R.memory R.term (lexemes toks.now) result (parse_term (R.actions reading.now) unit around (drop from (lexemes toks.now))) }
+    ensures goes { Goes from (length toks.now) result }
+{
+    let Some((sign, at)) = sign_at(toks, from) else {
+        return Err(TextFault::Syntax(usize::MAX));
+    };
+    match sign {
+        Sign::Zero => Ok((reading.zero(), from + 1)),
+        Sign::One => Ok((reading.one(), from + 1)),
+        Sign::Name => Ok((
+            reading.named_term(around, at, text_at(toks, from))?,
+            from + 1,
+        )),
+        Sign::Bang => negation(reading, toks, from + 1, around, at),
+        Sign::SquareOpen => bracket(reading, toks, from + 1, around, at),
+        Sign::RoundOpen => parenthesis(reading, toks, from + 1, around, at),
+        _ => Err(TextFault::Syntax(at)),
+    }
+}
+
+#[cycle(terms)]
+fn negation<R: Reading>(
+    reading: &R,
+    toks: &[Token],
+    from: usize,
+    around: Around,
+    at: usize,
+) -> Result<(R::Term, usize), TextFault>
+    ensures value { Reads R.memory R.term (lexemes toks.now) result (negation (R.actions reading.now) (parse_term (R.actions reading.now)) around at (drop from (lexemes toks.now))) }
+    ensures goes { Goes from (length toks.now) result }
+{
+    let inside = around.enter_not(at)?;
+    let (operand, end) = unit(reading, toks, from, inside)?;
+    Ok((reading.negated_term(operand)?, end))
+}
+
+fn bracket<R: Reading>(
+    reading: &R,
+    toks: &[Token],
+    from: usize,
+    around: Around,
+    at: usize,
+) -> Result<(R::Term, usize), TextFault>
+    ensures value { Reads R.memory R.term (lexemes toks.now) result (bracket (R.actions reading.now) around at (drop from (lexemes toks.now))) }
+    ensures goes { Goes from (length toks.now) result }
+{
+    let inside = around.enter(at)?;
+    let (cond, end) = read_cond(reading, toks, from, inside)?;
+    let end = close_square(toks, end)?;
+    Ok((reading.tested(cond)?, end))
+}
+
+#[cycle(terms)]
+fn parenthesis<R: Reading>(
+    reading: &R,
+    toks: &[Token],
+    from: usize,
+    around: Around,
+    at: usize,
+) -> Result<(R::Term, usize), TextFault>
+    ensures value { Reads R.memory R.term (lexemes toks.now) result (parenthesis (R.actions reading.now) (parse_term (R.actions reading.now)) around at (drop from (lexemes toks.now))) }
+    ensures goes { Goes from (length toks.now) result }
+{
+    let inside = around.enter(at)?;
+    let (term, end) = choice(reading, toks, from, inside)?;
+    let end = close_round(toks, end)?;
+    Ok((reading.enclosed_term(term), end))
+}

@@ -1,0 +1,11 @@
+pub mod Beginnings
+pub mod Runs
+pub mod Fronts
+pub mod NameRuns
+pub mod Gaps
+pub mod Ends
+pub mod Readings
+pub mod Slices
+pub mod Printed
+pub mod Words
+pub mod PieceExamples

@@ -1,0 +1,18 @@
+-- The pieces of `x := 12;` and a line feed, and their tokens.
+use Rattle.std.proofs.Common.{List, [], ◌∷◌, refl, lit≤}
+use Rattle.std.specs.Prelude.{codes}
+use Rattle.kat_tokens.specs.declared.token.Kind.TheVariants.{Name, Number, Symbol}
+use Rattle.kat_tokens.specs.Marks.{mark}
+use Rattle.kat_tokens.specs.Lex.{Lexes}
+use Rattle.kat_tokens.specs.Pieces.{Piece, word, number, sign, gap, AreSeparate}
+use Rattle.kat_tokens.proofs.Printed.{printed}
+use Rattle.kat_tokens.proofs.Words.{word_is_name}
+
+abbrev set_x : List Piece
+set_x = word (codes "x") ∷ gap 32 ∷ sign (codes ":=") ∷ gap 32 ∷ number (codes "12") ∷ sign (codes ";") ∷ gap 10 ∷ []
+
+set_x_is_separate : AreSeparate set_x
+set_x_is_separate = (word_is_name (codes "x") refl, refl, (refl, (refl, refl, (refl, (refl, refl, (refl, refl, (refl, tt)))))))
+
+set_x_tokens : Lexes (codes "x := 12;\n") (mark Name 0 (codes "x") ∷ mark Symbol 2 (codes ":=") ∷ mark Number 5 (codes "12") ∷ mark Symbol 7 (codes ";") ∷ [])
+set_x_tokens = printed set_x set_x_is_separate (lit≤ tt)

@@ -1,0 +1,6 @@
+pub mod Fronts
+pub mod Keywords
+pub mod Kinds
+pub mod Lex
+pub mod Marks
+pub mod Pieces

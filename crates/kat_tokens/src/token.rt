@@ -1,0 +1,21 @@
+//! A token of a text.
+
+/// What a token is.
+#[derive(Clone, Copy, Debug, PartialEq, Eq)]
+pub enum Kind {
+    /// An identifier by Unicode Standard Annex 31 (`XID_Start` or `_`, then `XID_Continue`). Keywords are names.
+    Name,
+    /// A run of ASCII digits; leading zeros are allowed.
+    Number,
+    /// One of the 24 symbols of one or two ASCII characters.
+    Symbol,
+}
+
+/// A token, whose text is the slice of the source at its place.
+#[derive(Clone, Copy, Debug)]
+pub struct Token<'a> {
+    pub kind: Kind,
+    pub text: &'a str,
+    /// How many bytes of the source stand before it.
+    pub at: usize,
+}

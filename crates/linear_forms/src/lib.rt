@@ -1,0 +1,24 @@
+//! Linear forms over opaque products: normal forms of expressions and comparisons, modulo 2 to a width.
+#![tactic(auto)]
+
+mod arithmetic;
+mod comparison;
+mod expression;
+mod form;
+mod laws;
+mod order;
+mod residue;
+mod substitution;
+#[cfg(test)]
+mod tests;
+
+pub use arithmetic::{minus, plus};
+pub use comparison::{Atomic, CondForm, atomic_size, canon, holds, normal_cond, same_atomic};
+pub use expression::{normal, value};
+pub use form::{Form, Mono, Term, form_size};
+pub use laws::{
+    comparisons_stay_settled, forms_are_ordered, forms_go_by_coefficients, forms_have_one_sign,
+    forms_keep_values,
+};
+pub use order::same_form;
+pub use substitution::subst;

@@ -1,0 +1,6 @@
+pub mod Fronts
+pub mod Insertions
+pub mod TestTrees
+pub mod TermTrees
+pub mod Kept
+pub mod Found

@@ -1,0 +1,57 @@
+//! The ids of a store, and the nodes that name them.
+use std::marker::Model;
+
+/// The number of a test in its store.
+#[derive(Clone, Copy, Debug, PartialEq, Eq, PartialOrd, Ord, Hash)]
+pub struct TestId {
+    pub(crate) index: usize,
+}
+
+impl Model for TestId {
+    ghost use Rattle.std.specs.Prelude.{ℕ};
+
+    ghost Value = { ℕ };
+
+    ghost view = { λ a. a.index };
+
+    ghost inverse = { λ n. record { index = n } };
+}
+
+/// The number of a term in its store.
+#[derive(Clone, Copy, Debug, PartialEq, Eq, PartialOrd, Ord, Hash)]
+pub struct TermId {
+    pub(crate) index: usize,
+}
+
+impl Model for TermId {
+    ghost use Rattle.std.specs.Prelude.{ℕ};
+
+    ghost Value = { ℕ };
+
+    ghost view = { λ a. a.index };
+
+    ghost inverse = { λ n. record { index = n } };
+}
+
+/// A node of a test, over the ids of its parts.
+#[derive(Clone, Copy, Debug, PartialEq, Eq, Hash)]
+pub enum TestShape {
+    False,
+    True,
+    Prim(usize),
+    Not(TestId),
+    And(TestId, TestId),
+    Or(TestId, TestId),
+}
+
+/// A node of a term, over the ids of its parts.
+#[derive(Clone, Copy, Debug, PartialEq, Eq, Hash)]
+pub enum Shape {
+    Zero,
+    One,
+    Test(TestId),
+    Act(usize),
+    Sum(TermId, TermId),
+    Seq(TermId, TermId),
+    Star(TermId),
+}

@@ -1,0 +1,225 @@
+//! The store.
+ghost use Rattle.std.specs.Prelude.{◌≡◌, ◌≢◌, [], length, Contains, IfOk, IsOk, OnErr, slice_get};
+ghost use Rattle.kat_model.specs.Trees.{one, test_tree, kat_tree};
+ghost use Rattle.kat_model.specs.Steps.{dot};
+ghost use Rattle.term_store.specs.Trees.{test_tree_of, tree_of, test_node_tree, node_tree, HasTestTree, HasTree, HasTestParts, HasParts};
+ghost use Rattle.term_store.specs.Growth.{KeepsTrees, AddsTest, AddsTerm};
+
+use crate::nodes::{Shape, TermId, TestId, TestShape};
+use indexmap::IndexSet;
+use kat_model::{Kat, NoMemory, Test};
+use std::alloc::Global;
+use std::marker::Model;
+
+/// The nodes of tests and terms. Each names only earlier ones, and none stands twice.
+#[derive(Drop)]
+pub struct Store {
+    tests: IndexSet<TestShape>,
+    terms: IndexSet<Shape>,
+}
+
+impl Model for Store {
+    ghost use Rattle.term_store.specs.Nodes.{Nodes, IsStore};
+
+    ghost Value = { Nodes };
+
+    ghost view = { λ s. record { tests = s.tests.keys; terms = s.terms.keys } };
+
+    ghost invariant = { λ s. IsStore (record { tests = s.tests.keys; terms = s.terms.keys }) };
+}
+
+impl Store {
+    ghost use Rattle.term_store.specs.Nodes.{IsTestId, IsTermId, IsTestOver, IsOver, IsStore};
+
+    /// A store with no nodes. It takes no memory.
+    pub fn new(alloc: Global) -> Store
+        ensures tests { result.tests ≡ [] }
+        ensures terms { result.terms ≡ [] }
+        ensures store { IsStore result }
+    {
+        Store {
+            tests: IndexSet::new(alloc),
+            terms: IndexSet::new(alloc),
+        }
+    }
+
+    /// The id of the node of a test, which is added where it does not stand yet. The only refusal is want
+    /// of memory.
+    pub fn intern_test(&mut self, shape: TestShape) -> Result<TestId, NoMemory>
+        requires { IsTestOver (length self.old.tests) shape }
+        ensures id { IfOk result (λ id. slice_get self.new.tests id ≡ Some shape) }
+        ensures tree { IfOk result (λ id. test_tree_of self.new id ≡ test_node_tree self.old shape) }
+        ensures is_id { IfOk result (IsTestId self.new) }
+
+        // Where the node stands already, it is not refused, and nothing changes.
+        ensures found { Contains self.old.tests shape → IsOk result × (self.new ≡ self.old) }
+        ensures refused { OnErr result (self.new ≡ self.old) }
+
+        ensures added { AddsTest self.old self.new shape }
+        ensures kept { KeepsTrees self.old self.new }
+        ensures store { IsStore self.new }
+    {
+        match self.tests.insert_full(shape) {
+            Ok((index, _)) => Ok(TestId { index }),
+            Err(_) => Err(NoMemory),
+        }
+    }
+
+    /// The id of the node of a term, likewise.
+    pub fn intern(&mut self, shape: Shape) -> Result<TermId, NoMemory>
+        requires { IsOver (length self.old.tests) (length self.old.terms) shape }
+        ensures id { IfOk result (λ id. slice_get self.new.terms id ≡ Some shape) }
+        ensures tree { IfOk result (λ id. tree_of self.new id ≡ node_tree self.old shape) }
+        ensures is_id { IfOk result (IsTermId self.new) }
+
+        // Where the node stands already, it is not refused, and nothing changes.
+        ensures found { Contains self.old.terms shape → IsOk result × (self.new ≡ self.old) }
+        ensures refused { OnErr result (self.new ≡ self.old) }
+
+        ensures added { AddsTerm self.old self.new shape }
+        ensures kept { KeepsTrees self.old self.new }
+        ensures store { IsStore self.new }
+    {
+        match self.terms.insert_full(shape) {
+            Ok((index, _)) => Ok(TermId { index }),
+            Err(_) => Err(NoMemory),
+        }
+    }
+
+    /// The node of a test.
+    pub fn test_shape(&self, id: TestId) -> TestShape
+        requires { IsTestId self.now id }
+        ensures value { slice_get self.now.tests id ≡ Some result }
+        ensures tree { test_tree_of self.now id ≡ test_node_tree self.now result }
+        ensures parts { IsTestOver id result }
+        ensures store { IsStore self.now }
+    {
+        *self.tests.get_index(id.index).unwrap()
+    }
+
+    /// The node of a term.
+    pub fn shape(&self, id: TermId) -> Shape
+        requires { IsTermId self.now id }
+        ensures value { slice_get self.now.terms id ≡ Some result }
+        ensures tree { tree_of self.now id ≡ node_tree self.now result }
+        ensures parts { IsOver (length self.now.tests) id result }
+        ensures store { IsStore self.now }
+    {
+        *self.terms.get_index(id.index).unwrap()
+    }
+
+    /// The number of nodes of terms. Those of tests are not counted.
+    pub fn count(&self) -> usize
+        ensures value { result ≡ length self.now.terms }
+        ensures store { IsStore self.now }
+    {
+        self.terms.len()
+    }
+
+    /// An id of one term and then another, whose tree is `dot` of their trees. The only refusal is want of
+    /// memory.
+    pub fn dot(&mut self, first: TermId, second: TermId) -> Result<TermId, NoMemory>
+        requires first_id { IsTermId self.old first }
+        requires second_id { IsTermId self.old second }
+        // `second` where the first tree is `one`, and then nothing changes; else the node of the product.
+        ensures of_one { tree_of self.old first ≡ one → (result ≡ Ok second) × (self.new ≡ self.old) }
+        ensures of_other { tree_of self.old first ≢ one →
+            IfOk result (λ id. slice_get self.new.terms id ≡ Some (Shape.Seq first second)) }
+
+        ensures tree { IfOk result (λ id.
+            tree_of self.new id ≡ dot (tree_of self.old first) (tree_of self.old second)) }
+        ensures is_id { IfOk result (IsTermId self.new) }
+
+        // Where the node of the product stands already, it is not refused, and nothing changes.
+        ensures found { Contains self.old.terms (Shape.Seq first second) →
+            IsOk result × (self.new ≡ self.old) }
+        ensures refused { OnErr result (self.new ≡ self.old) }
+
+        ensures added { AddsTerm self.old self.new (Shape.Seq first second) }
+        ensures kept { KeepsTrees self.old self.new }
+        ensures store { IsStore self.new }
+    {
+        match self.shape(first) {
+            Shape::One => Ok(second),
+            _ => self.intern(Shape::Seq(first, second)),
+        }
+    }
+
+    // An id whose tree is this test. A refusal may leave further nodes.
+    #[cycle(of_test)]
+    fn of_test(&mut self, test: &Test) -> Result<TestId, NoMemory>
+        ensures tree { IfOk result (λ id. test_tree_of self.new id ≡ test_tree test.now) }
+        ensures is_id { IfOk result (IsTestId self.new) }
+        ensures found { HasTestTree self.old (test_tree test.now) →
+            IsOk result × (self.new ≡ self.old) }
+        ensures kept { KeepsTrees self.old self.new }
+        ensures store { IsStore self.new }
+    {
+        let shape = self.shape_of_test(test)?;
+        self.intern_test(shape)
+    }
+
+    // The node of this test, over ids of its parts.
+    #[cycle(of_test)]
+    fn shape_of_test(&mut self, test: &Test) -> Result<TestShape, NoMemory>
+        ensures tree { IfOk result (λ shape. test_node_tree self.new shape ≡ test_tree test.now) }
+        ensures parts { IfOk result (IsTestOver (length self.new.tests)) }
+        ensures found { HasTestParts self.old (test_tree test.now) →
+            IsOk result × (self.new ≡ self.old) }
+        ensures kept { KeepsTrees self.old self.new }
+        ensures was_store { IsStore self.old }
+        ensures store { IsStore self.new }
+    {
+        // The proof needs the type's invariant.
+        let _ = &self.tests;
+        match test {
+            Test::False => Ok(TestShape::False),
+            Test::True => Ok(TestShape::True),
+            Test::Prim(k) => Ok(TestShape::Prim(*k)),
+            Test::Not(b) => Ok(TestShape::Not(self.of_test(b)?)),
+            Test::And(b, c) => Ok(TestShape::And(self.of_test(b)?, self.of_test(c)?)),
+            Test::Or(b, c) => Ok(TestShape::Or(self.of_test(b)?, self.of_test(c)?)),
+        }
+    }
+
+    /// An id whose tree is this term. The only refusal is want of memory, and it may leave further nodes.
+    #[cycle(of_tree)]
+    pub fn of_tree(&mut self, term: &Kat) -> Result<TermId, NoMemory>
+        ensures tree { IfOk result (λ id. tree_of self.new id ≡ kat_tree term.now) }
+        ensures is_id { IfOk result (IsTermId self.new) }
+
+        // Where some id has the tree already, it is not refused, and nothing changes.
+        ensures found { HasTree self.old (kat_tree term.now) →
+            IsOk result × (self.new ≡ self.old) }
+
+        ensures kept { KeepsTrees self.old self.new }
+        ensures store { IsStore self.new }
+    {
+        let shape = self.shape_of_tree(term)?;
+        self.intern(shape)
+    }
+
+    // The node of this term, over ids of its parts.
+    #[cycle(of_tree)]
+    fn shape_of_tree(&mut self, term: &Kat) -> Result<Shape, NoMemory>
+        ensures tree { IfOk result (λ shape. node_tree self.new shape ≡ kat_tree term.now) }
+        ensures parts { IfOk result (IsOver (length self.new.tests) (length self.new.terms)) }
+        ensures found { HasParts self.old (kat_tree term.now) →
+            IsOk result × (self.new ≡ self.old) }
+        ensures kept { KeepsTrees self.old self.new }
+        ensures was_store { IsStore self.old }
+        ensures store { IsStore self.new }
+    {
+        // The proof needs the type's invariant.
+        let _ = &self.terms;
+        match term {
+            Kat::Zero => Ok(Shape::Zero),
+            Kat::One => Ok(Shape::One),
+            Kat::Test(b) => Ok(Shape::Test(self.of_test(b)?)),
+            Kat::Act(a) => Ok(Shape::Act(*a)),
+            Kat::Sum(e, f) => Ok(Shape::Sum(self.of_tree(e)?, self.of_tree(f)?)),
+            Kat::Seq(e, f) => Ok(Shape::Seq(self.of_tree(e)?, self.of_tree(f)?)),
+            Kat::Star(e) => Ok(Shape::Star(self.of_tree(e)?)),
+        }
+    }
+}

@@ -1,0 +1,10 @@
+pub mod Values
+pub mod Kept
+pub mod Levels
+pub mod Apart
+pub mod Tops
+pub mod Growth
+pub mod Results
+pub mod Shannon
+pub mod Parts
+pub mod Settled

@@ -1,0 +1,5 @@
+use Rattle.test_diagrams.specs.Operations.{weight_of}
+use Rattle.test_diagrams.proofs.diagrams.Diagrams.+apply.Given as goal
+
+abbrev pub decreases-apply : goal.decreases-apply
+decreases-apply l = weight_of l.operation

@@ -1,0 +1,14 @@
+-- Which of two operands is the result of an operation that has an absorbing and a neutral value, as `and` and `or` have.
+use Rattle.std.specs.Prelude.{◌≡◌, ◌⊎◌, ℕ}
+
+-- the first operand is the result: it is the absorbing value, or the second is the neutral value, or both are one
+abbrev pub FirstSuffices : ℕ → ℕ → ℕ → ℕ → Type 0
+FirstSuffices a b absorbing neutral = (a ≡ absorbing) ⊎ ((b ≡ neutral) ⊎ (a ≡ b))
+
+-- the second operand is the result: the first is the neutral value, or the second is the absorbing value
+abbrev pub SecondSuffices : ℕ → ℕ → ℕ → ℕ → Type 0
+SecondSuffices a b absorbing neutral = (a ≡ neutral) ⊎ (b ≡ absorbing)
+
+-- the operand that is the result
+abbrev pub IsAbsorbed : ℕ → ℕ → ℕ → ℕ → ℕ → Type 0
+IsAbsorbed a b absorbing neutral id = ((id ≡ a) × FirstSuffices a b absorbing neutral) ⊎ ((id ≡ b) × SecondSuffices a b absorbing neutral)
