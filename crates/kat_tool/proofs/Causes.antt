@@ -6,7 +6,7 @@ use Rattle.kat_io.specs.Gets.{GetsFrom, IsCounted}
 use Rattle.kat_io.specs.declared.outside.GetFault.{GetFault}
 use Rattle.kat_io.specs.declared.outside.GetFault.TheVariants.{TooLong}
 use Rattle.kat_tool.specs.Commands.{decide, command_of}
-use Rattle.kat_tool.specs.Replies.{Replies, Decides, IsEqual, IsDifferent, IsNotYet, IsTooLong, JudgesText, MayHold, MayPass, text_limit}
+use Rattle.kat_tool.specs.Replies.{Replies, Decides, IsEqual, IsDifferent, IsStatusTwo, JudgesText, MayHold, MayPass, text_limit}
 
 -- what was got is within the limit, and is what the shelf may hold
 pub got_text : (told : Told) (v : Vec ℕ Global) → GetsFrom told (Ok v) (Some text_limit) → MayHold told v.items × (length v.items ≤ text_limit)
@@ -49,7 +49,7 @@ module _ (words : List (List ℕ)) (told : List ℕ → Told) (before now : ℕ)
     unfailed = λ _. kept;
   }
 
-  refused_replies : IsNotYet words told output ⊎ IsTooLong words told output → status ≡ 2 → Replies words told before now last status output
+  refused_replies : IsStatusTwo words told output → status ≡ 2 → Replies words told before now last status output
   refused_replies h s = record {
     known = inr (inr (inl s));
     equal = λ e. absurd (omega arith);
@@ -66,13 +66,19 @@ module _ (words : List (List ℕ)) (told : List ℕ → Told) (before now : ℕ)
     judged_replies text got judges =
         let decides : Decides words told text = record { file = file; command = command; held = got.0; within = got.1 } in
         ⊎_elim
+        (⊎_elim
         (λ h.
         ⊎_elim
-        (λ x. equal_replies (record { text = text; decides = decides; asked = h.0; reads = h.1; same = x.1 }) x.0 x.2)
-        (λ x. different_replies (record { text = text; decides = decides; asked = h.0; reads = h.1; differ = x.1; string = x.2.0; refutes = x.2.1; printed = x.2.2 }) x.0)
-        h.2)
-        (λ h. refused_replies (inl (record { text = text; decides = decides; unread = h.0; printed = h.2 })) h.1)
+        (λ x. equal_replies (record { text = text; decides = decides; question = h.0; asks = h.1; decided = (h.2, x.1); same = x.2 }) x.0 x.3)
+        (⊎_elim
+        (λ x. different_replies (record { text = text; decides = decides; question = h.0; asks = h.1; decided = (h.2, x.1); differ = x.2; string = x.3.0; refutes = x.3.1; printed = x.3.2 }) x.0)
+        (λ x. refused_replies (inr (inr (inr (record { text = text; decides = decides; beyond = inr (h.0, h.1, h.2, x.1); printed = x.2 })))) x.0))
+        h.3)
+        (⊎_elim
+        (λ h. refused_replies (inr (inr (inl (record { text = text; decides = decides; question = h.0; asks = h.1; large = h.2; printed = h.4 })))) h.3)
+        (λ h. refused_replies (inr (inr (inr (record { text = text; decides = decides; beyond = inl h.0; printed = h.2 })))) h.1)))
+        (λ h. refused_replies (inl (record { text = text; decides = decides; fault = h.0; first = h.1; printed = h.3 })) h.2)
         judges
 
     pub past_replies : MayPass (told file) text_limit → (status ≡ 2) × (output ≡ codes "refused: TooLong\n") → Replies words told before now last status output
-    past_replies past line = refused_replies (inr (record { file = file; command = command; past = past; printed = line.1 })) line.0
+    past_replies past line = refused_replies (inr (inl (record { file = file; command = command; past = past; printed = line.1 }))) line.0

@@ -2,6 +2,8 @@
 use Rattle.std.proofs.Common.{◌≡◌, ◌<◌, ℕ, List, length, Option, ⊎_elim, refl, sym, ◌∙◌}
 use Rattle.kat_io.specs.Told.{Told, Untold, Missing, Holds}
 use Rattle.kat_io.specs.Outside.{Rose}
+use Rattle.kat_tokens.specs.declared.fault.TextFault.TheVariants.{TooLong}
+use Rattle.problem_file.specs.Reads.{too_long}
 use Rattle.kat_tool.specs.Replies.{Replies, CausesExclude, Decides, IsStatusOf, MayHold, MayPass, text_limit}
 use Rattle.kat_tool.proofs.Completeness.{replied_status, none_status}
 
@@ -24,16 +26,20 @@ module _ (words : List (List ℕ)) (told : List ℕ → Told) (before now : ℕ)
   one_status : (status : ℕ) (output : List ℕ) → Replies words told before now last status output → status ≡ other
   one_status status output q =
       ⊎_elim
-      (λ s. let h = (q.equal s).0 in s ∙ sym ((decided_status h.text h.decides).equal h.asked h.decides.within h.reads h.same))
+      (λ s. let h = (q.equal s).0 in s ∙ sym ((decided_status h.text h.decides).equal h.question h.asks h.decided h.same))
       (⊎_elim
-      (λ s. let h = q.different s in s ∙ sym ((decided_status h.text h.decides).different h.asked h.decides.within h.reads h.differ))
+      (λ s. let h = q.different s in s ∙ sym ((decided_status h.text h.decides).different h.question h.asks h.decided h.differ))
       (⊎_elim
       (λ s.
       ⊎_elim
-      (λ h. s ∙ sym ((decided_status h.text h.decides).unread h.decides.within h.unread))
+      (λ h. s ∙ sym ((decided_status h.text h.decides).refused h.fault h.first))
+      (⊎_elim
       (λ h.
       let past = told_past (told h.file) (is_told h.file) h.past in
-      s ∙ sym ((replied_status words told h.file past.0 h.command past.1 before now last other printed unfailed r).too_long past.2))
+      s ∙ sym ((replied_status words told h.file past.0 h.command past.1 before now last other printed unfailed r).refused TooLong (too_long refl past.2)))
+      (⊎_elim
+      (λ h. s ∙ sym ((decided_status h.text h.decides).large h.question h.asks h.large))
+      (λ h. s ∙ sym ((decided_status h.text h.decides).beyond h.beyond))))
       (q.refused s))
       (⊎_elim
       (λ s. absurd (unfailed (q.failed s).rose))

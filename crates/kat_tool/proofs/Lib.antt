@@ -1,9 +1,6 @@
-pub mod Atoms
 pub mod Causes
 pub mod Completeness
-pub mod Cuts
-pub mod Digits
 pub mod Exclusion
-pub mod NameLists
-pub mod OneReading
-pub mod Readings
+pub mod Questions
+pub mod Askable
+pub mod Said

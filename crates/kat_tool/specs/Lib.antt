@@ -1,5 +1,4 @@
 pub mod Commands
-pub mod Marks
-pub mod Reading
-pub mod Verdicts
+pub mod Asking
+pub mod Askings
 pub mod Replies

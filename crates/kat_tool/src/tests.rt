@@ -3,6 +3,7 @@ use crate::{Words, run};
 use kat_io::{MemShelf, MemSink};
 use kat_model::NoMemory;
 use std::alloc::Global;
+use std::process::Abort;
 use std::test::Fail;
 
 fn words_of(alloc: Global, line: &str) -> Result<Words, NoMemory> {
@@ -13,47 +14,179 @@ fn words_of(alloc: Global, line: &str) -> Result<Words, NoMemory> {
     Ok(words)
 }
 
+// What `decide` answers to a text, and what it prints.
+fn reply(rt: &impl Abort, alloc: Global, text: &str, status: u8, output: &str) -> Result<(), Fail> {
+    let mut shelf = MemShelf::new(alloc);
+    shelf.add("f", text.as_bytes())?;
+    let mut sink = MemSink::new(alloc, 100, 10)?;
+    let words = words_of(alloc, "decide f")?;
+    assert_eq!(rt;
+        run(alloc, &words, &mut shelf, &mut sink),
+        status,
+        "on {text}"
+    );
+    assert_eq!(rt; sink.taken(), output.as_bytes(), "on {text}");
+    Ok(())
+}
+
 #[test]
-fn prints_the_reply_to_a_text(rt: HostRuntime) -> Result<(), Fail> {
-    let alloc = rt.alloc();
+fn decides_problems_of_tests(rt: HostRuntime) -> Result<(), Fail> {
     let rows = [
-        ("test b; goal equal b, b;", 0, "equal\n"),
+        ("test b; goal equal b + !b, 1;", 0, "equal\n"),
         (
-            "# b and c\ntest b,\tc ;\r\ngoal equal\n c , c; # both",
+            "# both hold\ntest b, c;\r\ngoal below\n [b && c],\tb; # so b does",
             0,
             "equal\n",
         ),
-        ("test b; goal equal 1, 1;", 0, "equal\n"),
-        ("test b; goal equal b, 1;", 1, "kat 1 different\nA 0\nend\n"),
-        ("test b; goal equal 0, b;", 1, "kat 1 different\nA 1\nend\n"),
-        ("test b; goal equal 1, 0;", 1, "kat 1 different\nA 0\nend\n"),
+        ("goal equal 1, 1;", 0, "equal\n"),
         (
-            "test b, c, d; goal equal c, d;",
+            "test b; term t = !(b.!b) + 0; goal equal t, 1;",
+            0,
+            "equal\n",
+        ),
+        ("test b, c; goal triple {b} c {c};", 0, "equal\n"),
+        (
+            "test b, c; goal equal [b && c], b;",
+            1,
+            "kat 1 different\nA 10\nend\n",
+        ),
+        (
+            "test b, c; goal equal b.c, b;",
+            1,
+            "kat 1 different\nA 10\nend\n",
+        ),
+        ("goal equal 0, 1;", 1, "kat 1 different\nA\nend\n"),
+        ("test b; goal equal b, 1;", 1, "kat 1 different\nA 0\nend\n"),
+        (
+            "test b, c, d; goal below c, d;",
             1,
             "kat 1 different\nA 010\nend\n",
         ),
-        ("action p; goal equal p, p;", 2, "refused: NotYet\n"),
-        ("test b; goal equal b + b, b;", 2, "refused: NotYet\n"),
-        ("test b; goal equal c, b;", 2, "refused: NotYet\n"),
-        ("test b, b; goal equal b, b;", 2, "refused: NotYet\n"),
-        ("test goal; goal equal goal, goal;", 2, "refused: NotYet\n"),
-        ("test b; goal equal 01, 1;", 2, "refused: NotYet\n"),
-        ("test b; goal equal b, b; test c;", 2, "refused: NotYet\n"),
-        ("test b; goal equal b, b", 2, "refused: NotYet\n"),
-        ("", 2, "refused: NotYet\n"),
+        (
+            "test b, c; goal triple {b || c} 1 {c};",
+            1,
+            "kat 1 different\nA 10\nend\n",
+        ),
     ];
     for (text, status, output) in rows {
-        let mut shelf = MemShelf::new(alloc);
-        shelf.add("f", text.as_bytes())?;
-        let mut sink = MemSink::new(alloc, 100, 10)?;
-        let words = words_of(alloc, "decide f")?;
-        assert_eq!(rt;
-            run(alloc, &words, &mut shelf, &mut sink),
-            status,
-            "on {text}"
-        );
-        assert_eq!(rt; sink.taken(), output.as_bytes(), "on {text}");
+        reply(&rt, rt.alloc(), text, status, output)?;
     }
+    Ok(())
+}
+
+#[test]
+fn refuses_texts(rt: HostRuntime) -> Result<(), Fail> {
+    let rows = [
+        ("", "refused: NoGoal\n"),
+        ("goal equal b, b;", "refused: UnknownName 11\n"),
+        ("test b, b; goal equal 1, 1;", "refused: DoubleName 8\n"),
+        ("action p; goal equal !p, 1;", "refused: Sort 22\n"),
+        ("test b; goal equal b ? b;", "refused: BadToken 21\n"),
+        ("test b; goal equal b, ;", "refused: Syntax 22\n"),
+        ("test b; goal equal b, b", "refused: Syntax 23\n"),
+        (
+            "test b; goal equal b, b; goal equal b, b;",
+            "refused: TwoGoals 25\n",
+        ),
+        (
+            "goal triple {1 == 18446744073709551616} 1 {true};",
+            "refused: NumberTooWide 18\n",
+        ),
+        ("var x; goal equal 1, 1;", "refused: NotYet\n"),
+        ("goal triple {1 == 1} 1 {true};", "refused: NotYet\n"),
+        ("action p; goal equal p, p;", "refused: NotYet\n"),
+        ("goal equal 1*, 1;", "refused: NotYet\n"),
+        ("test b; hyp b = 0; goal equal b, 0;", "refused: NotYet\n"),
+    ];
+    for (text, output) in rows {
+        reply(&rt, rt.alloc(), text, 2, output)?;
+    }
+    Ok(())
+}
+
+// So many tests, and a goal over the first.
+fn tests_below(alloc: Global, count: usize) -> Result<String, NoMemory> {
+    let mut text = String::new(alloc);
+    text.push_str("test t0")?;
+    for i in 1..count {
+        text.push_str(&format!(in alloc; ", t{i}")?)?;
+    }
+    text.push_str("; goal equal t0, t0;")?;
+    Ok(text)
+}
+
+// A test in so many parentheses.
+fn enclosed(alloc: Global, depth: usize) -> Result<String, NoMemory> {
+    let mut text = String::new(alloc);
+    text.push_str("test b; goal equal ")?;
+    for _ in 0..depth {
+        text.push('(')?;
+    }
+    text.push('b')?;
+    for _ in 0..depth {
+        text.push(')')?;
+    }
+    text.push_str(", b;")?;
+    Ok(text)
+}
+
+// Terms up to this one, each the product of the one before it with itself, and a goal over a14. The term a14 has
+// 65,535 nodes.
+fn squares(alloc: Global, last: usize) -> Result<String, NoMemory> {
+    let mut text = String::new(alloc);
+    text.push_str("action p;term a0 = p.p;")?;
+    for i in 0..last {
+        text.push_str(&format!(in alloc; "term a{} = a{i}.a{i};", i + 1)?)?;
+    }
+    text.push_str("goal equal a14, a14;")?;
+    Ok(text)
+}
+
+#[test]
+fn refuses_bytes_that_are_no_text(rt: HostRuntime) -> Result<(), Fail> {
+    let alloc = rt.alloc();
+    let mut shelf = MemShelf::new(alloc);
+    shelf.add("f", b"\xFF")?;
+    let mut sink = MemSink::new(alloc, 100, 10)?;
+    let words = words_of(alloc, "decide f")?;
+    assert_eq!(rt; run(alloc, &words, &mut shelf, &mut sink), 2);
+    assert_eq!(rt; sink.taken(), b"refused: NotUtf8 0\n".as_slice());
+    Ok(())
+}
+
+#[test]
+fn holds_texts_to_their_limits(rt: HostRuntime) -> Result<(), Fail> {
+    let alloc = rt.alloc();
+    reply(&rt, alloc, &tests_below(alloc, 48)?, 0, "equal\n")?;
+    reply(
+        &rt,
+        alloc,
+        &tests_below(alloc, 49)?,
+        2,
+        "refused: TooMany 235\n",
+    )?;
+    reply(&rt, alloc, &enclosed(alloc, 200)?, 0, "equal\n")?;
+    reply(
+        &rt,
+        alloc,
+        &enclosed(alloc, 201)?,
+        2,
+        "refused: TooDeep 219\n",
+    )?;
+    reply(
+        &rt,
+        alloc,
+        &squares(alloc, 14)?,
+        2,
+        "refused: ProblemTooLarge\n",
+    )?;
+    reply(
+        &rt,
+        alloc,
+        &squares(alloc, 15)?,
+        2,
+        "refused: TooLarge 260\n",
+    )?;
     Ok(())
 }
 
@@ -116,7 +249,7 @@ fn keeps_the_front_that_was_taken_before_a_fault(rt: HostRuntime) -> Result<(), 
     ];
     for (call, status, taken) in rows {
         let mut shelf = MemShelf::new(alloc);
-        shelf.add("f", b"test b, c; goal equal b, c;")?;
+        shelf.add("f", b"test b, c; goal equal [b && c], b;")?;
         let mut sink = MemSink::new(alloc, 100, 10)?;
         sink.fail_at(call)?;
         let words = words_of(alloc, "decide f")?;
@@ -134,7 +267,7 @@ fn keeps_the_front_that_was_taken_before_a_fault(rt: HostRuntime) -> Result<(), 
 fn refuses_a_text_past_the_limit(rt: HostRuntime) -> Result<(), Fail> {
     let alloc = rt.alloc();
     for (length, output) in [
-        (1_048_576, "refused: NotYet\n"),
+        (1_048_576, "refused: NoGoal\n"),
         (1_048_577, "refused: TooLong\n"),
     ] {
         let mut shelf = MemShelf::new(alloc);

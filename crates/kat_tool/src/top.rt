@@ -3,15 +3,23 @@ ghost use Rattle.std.specs.Prelude.{◌≡◌, ◌≢◌, ◌⊎◌, ℕ, List, 
 ghost use Rattle.std.specs.Io.KnownBytes.{Appends, Keeps};
 ghost use Rattle.kat_io.specs.Outside.{Rose, AppendsFront};
 ghost use Rattle.kat_tool.specs.Commands.{decide, command_of};
-ghost use Rattle.kat_tool.specs.Reading.{IsAskedInRange};
-ghost use Rattle.kat_tool.specs.Replies.{Replies, Judges, JudgesText, IsEqual, IsDifferent, IsNotYet, IsTooLong, IsFailed, Completes};
+ghost use Rattle.certificate.specs.Texts.{text_of};
+ghost use Rattle.certificate.specs.declared.evidence.Evidence.TheVariants.{Different};
+ghost use Rattle.problem_file.specs.Reads.{Reads};
+ghost use Rattle.test_problems.specs.Verdicts.{single};
+ghost use Rattle.kat_tool.specs.Replies.{Replies, Judges, JudgesSaid, JudgesText, IsEqual, IsDifferent, IsStatusTwo, IsFailed, Completes};
 
-use crate::reading::{Asked, read};
-use crate::verdict::{Verdict, compare, different_text};
+use crate::asking::{Asked, problem_of};
 use crate::words::{Command, Words};
+use certificate::{Evidence, write};
 use kat_io::{GetFault, Shelf, Sink, send};
-use kat_model::NoMemory;
+use kat_model::{NoMemory, Problem};
+use kat_report::text_fault_line;
+use kat_tokens::TextFault;
+use problem_file::{File, read};
 use std::alloc::Global;
+use string_tables::{GString, Items};
+use test_problems::Verdict;
 
 const TEXT_LIMIT: u64 = 1_048_576;
 
@@ -40,25 +48,51 @@ fn cannot_read(alloc: Global, file: &str) -> Result<Reply, NoMemory>
     Ok(Reply { status: 4, output })
 }
 
-fn decided(alloc: Global, asked: Asked) -> Result<Reply, NoMemory>
-    requires { IsAskedInRange asked }
-    ensures { IfOk result (λ r. Judges asked r.status r.output.items) }
+// The evidence that the string of one atom is.
+fn different(alloc: Global, atom: Vec<bool>) -> Result<Vec<u8>, NoMemory>
+    ensures { IfOk result (λ v. v.items ≡ text_of (Different (single atom.items))) }
 {
-    match compare(asked) {
+    let string = GString {
+        first: Items::of(atom),
+        rest: Items::of(Vec::new(alloc)),
+    };
+    write(alloc, &Evidence::Different(string))
+}
+
+fn decided(alloc: Global, problem: &Problem) -> Result<Reply, NoMemory>
+    ensures { IfOk result (λ r. Judges problem.now r.status r.output.items) }
+{
+    match test_problems::decide(alloc, problem)? {
+        Verdict::Undecided => line(alloc, 2, b"refused: NotYet\n"),
         Verdict::Equal => line(alloc, 0, b"equal\n"),
-        Verdict::Different(holds) => {
-            let output = different_text(alloc, asked.tests, holds)?;
-            Ok(Reply { status: 1, output })
-        }
+        Verdict::Different(atom) => Ok(Reply {
+            status: 1,
+            output: different(alloc, atom)?,
+        }),
+    }
+}
+
+fn said(alloc: Global, file: File) -> Result<Reply, NoMemory>
+    ensures { (text : List ℕ) → Reads text file → IfOk result (λ r. JudgesSaid text r.status r.output.items) }
+{
+    let asked = problem_of(alloc, file)?;
+    match asked {
+        Asked::Problem(problem) => decided(alloc, &problem),
+        Asked::TooLarge => line(alloc, 2, b"refused: ProblemTooLarge\n"),
+        Asked::Compares => line(alloc, 2, b"refused: NotYet\n"),
     }
 }
 
 fn judged(alloc: Global, text: &[u8]) -> Result<Reply, NoMemory>
     ensures { IfOk result (λ r. JudgesText text.now r.status r.output.items) }
 {
-    match read(alloc, text)? {
-        Some(asked) => decided(alloc, asked),
-        None => line(alloc, 2, b"refused: NotYet\n"),
+    match read(alloc, text) {
+        Ok(file) => said(alloc, file),
+        Err(TextFault::NoMemory) => Err(NoMemory),
+        Err(fault) => Ok(Reply {
+            status: 2,
+            output: text_fault_line(alloc, &fault)?,
+        }),
     }
 }
 
@@ -92,9 +126,9 @@ fn answer<S: Shelf>(alloc: Global, words: &Words, shelf: &mut S) -> Result<Reply
 ///
 /// | status | meaning |
 /// |---|---|
-/// | 0 | both sides of the goal denote one relation in every table |
-/// | 1 | they do not, and the atom that is printed tells them apart |
-/// | 2 | the text is refused |
+/// | 0 | both sides of the goal denote one relation in every table that keeps the hypotheses |
+/// | 1 | they do not, and the string that is printed tells them apart |
+/// | 2 | the text is refused, and the line that is printed says why |
 /// | 4 | the shelf failed in this call on the file that the words name |
 /// | 5 | the sink failed in this call, and a front of the output was taken |
 /// | 6 | memory was wanted and could not be had; nothing was sent |
@@ -106,7 +140,7 @@ pub fn run<S: Shelf, K: Sink>(alloc: Global, words: &Words, shelf: &mut S, sink:
         × Appends (K.taken sink.old) (K.taken sink.new) output }
     ensures equal { result ≡ 0 → IsEqual words.now (S.content shelf.old) × Appends (K.taken sink.old) (K.taken sink.new) (codes "equal\n") }
     ensures different { result ≡ 1 → (output : List ℕ) × IsDifferent words.now (S.content shelf.old) output × Appends (K.taken sink.old) (K.taken sink.new) output }
-    ensures refused { result ≡ 2 → (output : List ℕ) × (IsNotYet words.now (S.content shelf.old) output ⊎ IsTooLong words.now (S.content shelf.old) output) × Appends (K.taken sink.old) (K.taken sink.new) output }
+    ensures refused { result ≡ 2 → (output : List ℕ) × IsStatusTwo words.now (S.content shelf.old) output × Appends (K.taken sink.old) (K.taken sink.new) output }
     ensures failed { result ≡ 4 → (output : List ℕ) × IsFailed words.now (S.faults shelf.old) (S.faults shelf.new) (S.last_failed shelf.new) output × Appends (K.taken sink.old) (K.taken sink.new) output }
     ensures no_command { result ≡ 7 → (command_of words.now ≡ None) × Appends (K.taken sink.old) (K.taken sink.new) (codes "refused: words\n") }
 

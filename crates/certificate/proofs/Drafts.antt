@@ -1,0 +1,67 @@
+-- Drafts with one more entry.
+use Rattle.std.proofs.Common.{◌≡◌, ℕ, inl, inr, ⊎_elim, List, [], ◌∷◌, ◌++◌, true, Some, None, refl, sym, subst}
+use Rattle.std.specs.Map.{keys_of}
+use Rattle.kat_model.specs.Members.{Has, SameMembers}
+use Rattle.kat_model.proofs.Lists.{has_left, has_right}
+use Rattle.certificate.specs.declared.nodes.TestNode.{TestNode}
+use Rattle.certificate.specs.declared.nodes.TermNode.{TermNode}
+use Rattle.certificate.specs.declared.entry.Entry.{Entry}
+use Rattle.certificate.specs.declared.entry.Entry.TheVariants.{TestLine, TermLine, PairLine}
+use Rattle.certificate.specs.declared.draft.Draft.{Draft}
+use Rattle.certificate.specs.declared.evidence.EvidenceFault.TheVariants.{DoubleNode}
+use Rattle.certificate.specs.Certs.{IsCert}
+use Rattle.certificate.specs.Faults.{entry_fault, with_entry}
+use Rattle.certificate.specs.Nodes.{NumberPair, same_test_node, same_term_node, are_ascending}
+use Rattle.certificate.specs.Readings.{draft_parts, IsDraft, MayBeAdded}
+use Rattle.certificate.proofs.Growth.{Passes, passes_faultless, double_fault, cert_grown, any_same, any_lacks, same_test_equal, test_same_itself, same_term_equal, term_same_itself, has_pushed}
+
+-- the keys of a map with one more key, and the list with one more node
+pub known_pushed : {X : Type 0} (keys olds xs : List X) (x : X) → SameMembers keys (x ∷ olds) → SameMembers olds xs → SameMembers keys (xs ++ x ∷ [])
+known_pushed keys olds xs x now was y = (
+  (λ h. ⊎_elim (λ e. has_right xs (x ∷ []) y (inl e)) (λ k. has_left xs (x ∷ []) y ((was y).0 k)) ((now y).0 h)),
+  (λ h. ⊎_elim (λ k. (now y).1 (inr ((was y).1 k))) (λ e. (now y).1 (inl e)) (has_pushed xs x y h)),
+)
+
+module _ (d : Draft) (n : ℕ) where
+  -- a known node is a double
+  pub test_double : (node : TestNode) → IsDraft d → MayBeAdded d (TestLine node) → Has (keys_of d.known_tests.entries) node → entry_fault (draft_parts d) n (TestLine node) ≡ Some (DoubleNode n)
+  test_double node draft may known =
+      double_fault (draft_parts d) n (TestLine node) may.stands may.narrow may.earlier (any_same same_test_node same_test_equal test_same_itself d.test_nodes.items node ((draft.tests node).0 known))
+
+  pub term_double : (node : TermNode) → IsDraft d → MayBeAdded d (TermLine node) → Has (keys_of d.known_terms.entries) node → entry_fault (draft_parts d) n (TermLine node) ≡ Some (DoubleNode n)
+  term_double node draft may known =
+      double_fault (draft_parts d) n (TermLine node) may.stands may.narrow may.earlier (any_same same_term_node same_term_equal term_same_itself d.term_nodes.items node ((draft.terms node).0 known))
+
+  -- a node that is not known passes
+  pub test_passes : (node : TestNode) → IsDraft d → MayBeAdded d (TestLine node) → (Has (keys_of d.known_tests.entries) node → ⊥) → Passes (draft_parts d) (TestLine node)
+  test_passes node draft may new =
+      record {
+        stands = may.stands;
+        narrow = may.narrow;
+        earlier = may.earlier;
+        new = any_lacks same_test_node same_test_equal test_same_itself d.test_nodes.items node (λ h. new ((draft.tests node).1 h));
+        ordered = refl;
+      }
+
+  pub term_passes : (node : TermNode) → IsDraft d → MayBeAdded d (TermLine node) → (Has (keys_of d.known_terms.entries) node → ⊥) → Passes (draft_parts d) (TermLine node)
+  term_passes node draft may new =
+      record {
+        stands = may.stands;
+        narrow = may.narrow;
+        earlier = may.earlier;
+        new = any_lacks same_term_node same_term_equal term_same_itself d.term_nodes.items node (λ h. new ((draft.terms node).1 h));
+        ordered = refl;
+      }
+
+  -- what an entry that passes makes of the draft
+  pub added : (e : Entry) (new : Draft) → IsDraft d → Passes (draft_parts d) e → draft_parts new ≡ with_entry (draft_parts d) e → SameMembers (keys_of new.known_tests.entries) new.test_nodes.items → SameMembers (keys_of new.known_terms.entries) new.term_nodes.items
+      → IsDraft new × ((f : Entry) × (◌≡◌ {A = _} (Some e) (Some f)) × (entry_fault (draft_parts d) n f ≡ None) × (draft_parts new ≡ with_entry (draft_parts d) f))
+  added e new draft passes is tests terms = (
+    record { cert = subst IsCert (sym is) (cert_grown (draft_parts d) e draft.cert passes); tests = tests; terms = terms },
+    (e, refl, passes_faultless (draft_parts d) n e passes, is),
+  )
+
+  -- a pair of ascending sets passes
+  pub pair_passes : (p : NumberPair) → MayBeAdded d (PairLine p) → are_ascending p.left ≡ true → are_ascending p.right ≡ true → Passes (draft_parts d) (PairLine p)
+  pair_passes p may left right =
+      record { stands = may.stands; narrow = may.narrow; earlier = may.earlier; new = refl; ordered = rw (left, right) refl }

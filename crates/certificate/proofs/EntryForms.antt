@@ -1,0 +1,258 @@
+-- The forms of the lines of a certificate, and what the numbers in them have to do with them.
+use Rattle.std.proofs.Common.{◌≡◌, ℕ, suc, ◌+◌, ◌-◌, ◌<◌, ◌⊎◌, inl, inr, ⊎_elim, List, [], ◌∷◌, map, length, take, drop, Bool, true, false, ◌||◌, not, cond, Option, Some, None, position, refl, sym, ap, ◌∙◌, subst, arith, codes, length-drop}
+use Rattle.std.specs.Borrow.{Bor}
+use Rattle.std.specs.List.{list_all, list_any, prefix_len, position_or_len, before_first, after_first}
+use Rattle.std.specs.Option.{option_map, option_and_then}
+use Rattle.std.specs.Str.{bytes_eq}
+use Rattle.std.proofs.lemmas.Slice.Eq.{bytes_eq-Decides}
+use mathlib.Core.Path.{ap₂}
+use Rattle.std.proofs.lemmas.List.{take-map, drop-map, take_all}
+use Rattle.std.proofs.lemmas.List.Folds.{list_any-append}
+use Rattle.certificate.specs.declared.nodes.TestNode.{TestNode}
+use Rattle.certificate.specs.declared.nodes.TestNode.TheVariants.{False, True, Prim, Not, And, Or}
+use Rattle.certificate.specs.declared.nodes.TermNode.{TermNode}
+use Rattle.certificate.specs.declared.nodes.TermNode.TheVariants.{Zero, One, Test, Act, Sum, Seq, Star}
+use Rattle.certificate.specs.declared.words.Numbers.{Numbers}
+use Rattle.certificate.specs.declared.entry.Entry.{Entry}
+use Rattle.certificate.specs.declared.entry.Entry.TheVariants.{TestLine, TermLine, PairLine}
+use Rattle.certificate.specs.declared.entry.Section.{Section}
+use Rattle.certificate.specs.declared.entry.Section.TheVariants.{Tests, Terms, Pairs}
+use Rattle.certificate.specs.Texts.{test_name, test_numbers, term_name, term_numbers, entry_numbers}
+use Rattle.certificate.specs.Forms.{is_numeral, value_of, numbers_of, test_node_of, term_node_of, is_bar, both_sets, pair_of}
+use Rattle.certificate.specs.Faults.{too_wide, is_wide, section_of}
+use Rattle.certificate.specs.Readings.{texts, HasNumbers}
+use Rattle.certificate.specs.Nodes.{NumberPair}
+use Rattle.certificate.proofs.Splits.{position_at, position_none}
+
+two_forms : {N : Type 0} (b c : Bool) (x y n : N) → cond b (Some x) (cond c (Some y) None) ≡ Some n → ((b ≡ true) × (x ≡ n)) ⊎ ((c ≡ true) × (y ≡ n))
+two_forms true c x y n e = inl (refl, cc)
+two_forms false true x y n e = inr (refl, cc)
+two_forms false false x y n e = cc
+
+three_forms : {N : Type 0} (b c d : Bool) (x y z n : N) → cond b (Some x) (cond c (Some y) (cond d (Some z) None)) ≡ Some n → ((b ≡ true) × (x ≡ n)) ⊎ (((c ≡ true) × (y ≡ n)) ⊎ ((d ≡ true) × (z ≡ n)))
+three_forms true c d x y z n e = inl (refl, cc)
+three_forms false true d x y z n e = inr (inl (refl, cc))
+three_forms false false true x y z n e = inr (inr (refl, cc))
+three_forms false false false x y z n e = cc
+
+some_of_two : {N : Type 0} (b c : Bool) (x y : N) → (b ≡ true) ⊎ (c ≡ true) → (n : N) × (cond b (Some x) (cond c (Some y) None) ≡ Some n)
+some_of_two true c x y h = (x, refl)
+some_of_two false true x y h = (y, refl)
+some_of_two false false x y h = ⊎_elim (λ p. cc) (λ p. cc) h
+
+some_of_three : {N : Type 0} (b c d : Bool) (x y z : N) → (b ≡ true) ⊎ ((c ≡ true) ⊎ (d ≡ true)) → (n : N) × (cond b (Some x) (cond c (Some y) (cond d (Some z) None)) ≡ Some n)
+some_of_three true c d x y z h = (x, refl)
+some_of_three false true d x y z h = (y, refl)
+some_of_three false false true x y z h = (z, refl)
+some_of_three false false false x y z h = ⊎_elim (λ p. cc) (λ q. ⊎_elim (λ p. cc) (λ p. cc) q) h
+
+-- a name that is compared with a word is that word
+pub named : (name word : List ℕ) → bytes_eq name word ≡ true → name ≡ word
+named name word e = (bytes_eq-Decides name word).0 e
+
+-- a node's name and numbers are those that are read
+test_two : (name v w : List ℕ) (ks : List ℕ) (x y n : TestNode) → test_name x ≡ v → test_name y ≡ w → ks ≡ test_numbers x → ks ≡ test_numbers y → cond (bytes_eq name v) (Some x) (cond (bytes_eq name w) (Some y) None) ≡ Some n → (name ≡ test_name n) × (ks ≡ test_numbers n)
+test_two name v w ks x y n nx ny kx ky e =
+    ⊎_elim
+    (λ p. (named name v p.0 ∙ sym nx ∙ ap test_name p.1, kx ∙ ap test_numbers p.1))
+    (λ p. (named name w p.0 ∙ sym ny ∙ ap test_name p.1, ky ∙ ap test_numbers p.1))
+    (two_forms (bytes_eq name v) (bytes_eq name w) x y n e)
+
+pub test_node_told : (name ks : List ℕ) (n : TestNode) → test_node_of name ks ≡ Some n → (name ≡ test_name n) × (ks ≡ test_numbers n)
+test_node_told name [] n e = test_two name _ _ [] False True n refl refl refl refl e
+test_node_told name (x ∷ []) n e = test_two name _ _ (x ∷ []) (Prim x) (Not x) n refl refl refl refl e
+test_node_told name (x ∷ y ∷ []) n e = test_two name _ _ (x ∷ y ∷ []) (And x y) (Or x y) n refl refl refl refl e
+test_node_told name (x ∷ y ∷ z ∷ ks) n e = cc
+
+pub test_node_made : (n : TestNode) → test_node_of (test_name n) (test_numbers n) ≡ Some n
+test_node_made False = refl
+test_node_made True = refl
+test_node_made (Prim k) = refl
+test_node_made (Not x) = refl
+test_node_made (And x y) = refl
+test_node_made (Or x y) = refl
+
+term_two : (name v w : List ℕ) (ks : List ℕ) (x y n : TermNode) → term_name x ≡ v → term_name y ≡ w → ks ≡ term_numbers x → ks ≡ term_numbers y → cond (bytes_eq name v) (Some x) (cond (bytes_eq name w) (Some y) None) ≡ Some n → (name ≡ term_name n) × (ks ≡ term_numbers n)
+term_two name v w ks x y n nx ny kx ky e =
+    ⊎_elim
+    (λ p. (named name v p.0 ∙ sym nx ∙ ap term_name p.1, kx ∙ ap term_numbers p.1))
+    (λ p. (named name w p.0 ∙ sym ny ∙ ap term_name p.1, ky ∙ ap term_numbers p.1))
+    (two_forms (bytes_eq name v) (bytes_eq name w) x y n e)
+
+term_three : (name u v w : List ℕ) (ks : List ℕ) (x y z n : TermNode) → term_name x ≡ u → term_name y ≡ v → term_name z ≡ w → ks ≡ term_numbers x → ks ≡ term_numbers y → ks ≡ term_numbers z → cond (bytes_eq name u) (Some x) (cond (bytes_eq name v) (Some y) (cond (bytes_eq name w) (Some z) None)) ≡ Some n → (name ≡ term_name n) × (ks ≡ term_numbers n)
+term_three name u v w ks x y z n nx ny nz kx ky kz e =
+    ⊎_elim
+    (λ p. (named name u p.0 ∙ sym nx ∙ ap term_name p.1, kx ∙ ap term_numbers p.1))
+    (λ q. ⊎_elim
+    (λ p. (named name v p.0 ∙ sym ny ∙ ap term_name p.1, ky ∙ ap term_numbers p.1))
+    (λ p. (named name w p.0 ∙ sym nz ∙ ap term_name p.1, kz ∙ ap term_numbers p.1))
+    q)
+    (three_forms (bytes_eq name u) (bytes_eq name v) (bytes_eq name w) x y z n e)
+
+pub term_node_told : (name ks : List ℕ) (n : TermNode) → term_node_of name ks ≡ Some n → (name ≡ term_name n) × (ks ≡ term_numbers n)
+term_node_told name [] n e = term_two name _ _ [] Zero One n refl refl refl refl e
+term_node_told name (x ∷ []) n e = term_three name _ _ _ (x ∷ []) (Test x) (Act x) (Star x) n refl refl refl refl refl refl e
+term_node_told name (x ∷ y ∷ []) n e = term_two name _ _ (x ∷ y ∷ []) (Sum x y) (Seq x y) n refl refl refl refl e
+term_node_told name (x ∷ y ∷ z ∷ ks) n e = cc
+
+pub term_node_made : (n : TermNode) → term_node_of (term_name n) (term_numbers n) ≡ Some n
+term_node_made Zero = refl
+term_node_made One = refl
+term_node_made (Test x) = refl
+term_node_made (Act a) = refl
+term_node_made (Sum x y) = refl
+term_node_made (Seq x y) = refl
+term_node_made (Star x) = refl
+
+-- whether there is a node depends on how many numbers there are, and not on which
+of_two : {N : Type 0} (b c : Bool) (w x y z n : N) → cond b (Some w) (cond c (Some x) None) ≡ Some n → (m : N) × (cond b (Some y) (cond c (Some z) None) ≡ Some m)
+of_two b c w x y z n e = some_of_two b c y z (⊎_elim (λ p. inl p.0) (λ p. inr p.0) (two_forms b c w x n e))
+
+of_three : {N : Type 0} (b c d : Bool) (u v w x y z n : N) → cond b (Some u) (cond c (Some v) (cond d (Some w) None)) ≡ Some n → (m : N) × (cond b (Some x) (cond c (Some y) (cond d (Some z) None)) ≡ Some m)
+of_three b c d u v w x y z n e =
+    some_of_three b c d x y z (⊎_elim (λ p. inl p.0) (λ q. inr (⊎_elim (λ p. inl p.0) (λ p. inr p.0) q)) (three_forms b c d u v w n e))
+
+pub test_node_same : (name xs ys : List ℕ) (n : TestNode) → length xs ≡ length ys → test_node_of name xs ≡ Some n → (m : TestNode) × (test_node_of name ys ≡ Some m)
+test_node_same name [] [] n h e = (n, e)
+test_node_same name [] (y ∷ ys) n h e = absurd (omega arith)
+test_node_same name (x ∷ xs) [] n h e = absurd (omega arith)
+test_node_same name (x ∷ []) (y ∷ []) n h e = of_two (bytes_eq name (codes "prim")) (bytes_eq name (codes "not")) (Prim x) (Not x) (Prim y) (Not y) n e
+test_node_same name (x ∷ []) (y ∷ z ∷ ys) n h e = absurd (omega arith)
+test_node_same name (x ∷ w ∷ xs) (y ∷ []) n h e = absurd (omega arith)
+test_node_same name (w ∷ x ∷ []) (y ∷ z ∷ []) n h e = of_two (bytes_eq name (codes "and")) (bytes_eq name (codes "or")) (And w x) (Or w x) (And y z) (Or y z) n e
+test_node_same name (w ∷ x ∷ []) (y ∷ z ∷ k ∷ ys) n h e = absurd (omega arith)
+test_node_same name (w ∷ x ∷ k ∷ xs) ys n h e = cc
+
+pub term_node_same : (name xs ys : List ℕ) (n : TermNode) → length xs ≡ length ys → term_node_of name xs ≡ Some n → (m : TermNode) × (term_node_of name ys ≡ Some m)
+term_node_same name [] [] n h e = (n, e)
+term_node_same name [] (y ∷ ys) n h e = absurd (omega arith)
+term_node_same name (x ∷ xs) [] n h e = absurd (omega arith)
+term_node_same name (x ∷ []) (y ∷ []) n h e =
+    of_three (bytes_eq name (codes "test")) (bytes_eq name (codes "act")) (bytes_eq name (codes "star")) (Test x) (Act x) (Star x) (Test y) (Act y) (Star y) n e
+term_node_same name (x ∷ []) (y ∷ z ∷ ys) n h e = absurd (omega arith)
+term_node_same name (x ∷ w ∷ xs) (y ∷ []) n h e = absurd (omega arith)
+term_node_same name (w ∷ x ∷ []) (y ∷ z ∷ []) n h e = of_two (bytes_eq name (codes "sum")) (bytes_eq name (codes "seq")) (Sum w x) (Seq w x) (Sum y z) (Seq y z) n e
+term_node_same name (w ∷ x ∷ []) (y ∷ z ∷ k ∷ ys) n h e = absurd (omega arith)
+term_node_same name (w ∷ x ∷ k ∷ xs) ys n h e = cc
+
+-- words that are numerals spell their values
+pub numbers_of_all : (ws : List (List ℕ)) → list_all is_numeral ws ≡ true → numbers_of ws ≡ Some (map value_of ws)
+numbers_of_all ws e = rw e refl
+
+pub numbers_of_none : (ws : List (List ℕ)) → list_all is_numeral ws ≡ false → numbers_of ws ≡ None
+numbers_of_none ws e = rw e refl
+
+-- the entry of a node of one sort
+module _ {N : Type 0} (node_of : List ℕ → Option N) (made : N → Entry) (numbers : N → List ℕ) (section : Section)
+    (same : (xs ys : List ℕ) (n : N) → length xs ≡ length ys → node_of xs ≡ Some n → (m : N) × (node_of ys ≡ Some m))
+    (told : (ks : List ℕ) (n : N) → node_of ks ≡ Some n → ks ≡ numbers n)
+    (of_numbers : (n : N) → entry_numbers (made n) ≡ numbers n) (of_section : (n : N) → section_of (made n) ≡ section) where
+  abbrev pub read_node : List (List ℕ) → Option Entry
+  read_node ws = option_map made (option_and_then node_of (numbers_of ws))
+
+  pub no_numerals : (ws : List (List ℕ)) → list_all is_numeral ws ≡ false → read_node ws ≡ None
+  no_numerals ws e = rw (numbers_of_none ws e) refl
+
+  node_at : (ws : List (List ℕ)) (o : Option N) → list_all is_numeral ws ≡ true → node_of (map value_of ws) ≡ o → read_node ws ≡ option_map made o
+  node_at ws o e f = rw (numbers_of_all ws e, f) refl
+
+  pub no_node : (ws : List (List ℕ)) (v : Numbers) → list_all is_numeral ws ≡ true → HasNumbers (map value_of ws) v → node_of v.values.items ≡ None → read_node ws ≡ None
+  no_node ws v e has none = node_at ws None e (by_cases (node_of (map value_of ws)) refl)
+    where
+      by_cases : (o : Option N) → node_of (map value_of ws) ≡ o → node_of (map value_of ws) ≡ None
+      by_cases None is = is
+      by_cases (Some n) is = let other = same (map value_of ws) v.values.items n (sym has.count) is in let clash : None ≡ Some other.0 = sym none ∙ other.1 in cc
+
+  pub wide_node : (ws : List (List ℕ)) (v : Numbers) (n : N) → list_all is_numeral ws ≡ true → HasNumbers (map value_of ws) v → node_of v.values.items ≡ Some n → v.wide ≡ true → (e : Entry) × (read_node ws ≡ Some e) × (is_wide e ≡ true) × (section_of e ≡ section)
+  wide_node ws v n e has is wide =
+      let other = same v.values.items (map value_of ws) n has.count is in
+      let ks : map value_of ws ≡ entry_numbers (made other.0) = told (map value_of ws) other.0 other.1 ∙ sym (of_numbers other.0) in
+      (made other.0, node_at ws (Some other.0) e other.1, ap (λ l. list_any too_wide l) (sym ks) ∙ sym has.wide ∙ wide, of_section other.0)
+
+  pub narrow_node : (ws : List (List ℕ)) (v : Numbers) (n : N) → list_all is_numeral ws ≡ true → HasNumbers (map value_of ws) v → node_of v.values.items ≡ Some n → v.wide ≡ false → (read_node ws ≡ Some (made n)) × (is_wide (made n) ≡ false)
+  narrow_node ws v n e has is narrow =
+      let there : node_of (map value_of ws) ≡ Some n = ap node_of (sym (has.values narrow)) ∙ is in
+      let ks : map value_of ws ≡ entry_numbers (made n) = told (map value_of ws) n there ∙ sym (of_numbers n) in
+      (node_at ws (Some n) e there, ap (λ l. list_any too_wide l) (sym ks) ∙ sym has.wide ∙ narrow)
+
+pub wide_test : (name : List ℕ) (ws : List (List ℕ)) (v : Numbers) (n : TestNode) → list_all is_numeral ws ≡ true → HasNumbers (map value_of ws) v → test_node_of name v.values.items ≡ Some n → v.wide ≡ true → (e : Entry) × (option_map TestLine (option_and_then (test_node_of name) (numbers_of ws)) ≡ Some e) × (is_wide e ≡ true) × (section_of e ≡ Tests)
+wide_test name = wide_node (test_node_of name) TestLine test_numbers Tests (test_node_same name) (λ ks n e. (test_node_told name ks n e).1) (λ n. refl) (λ n. refl)
+
+pub wide_term : (name : List ℕ) (ws : List (List ℕ)) (v : Numbers) (n : TermNode) → list_all is_numeral ws ≡ true → HasNumbers (map value_of ws) v → term_node_of name v.values.items ≡ Some n → v.wide ≡ true → (e : Entry) × (option_map TermLine (option_and_then (term_node_of name) (numbers_of ws)) ≡ Some e) × (is_wide e ≡ true) × (section_of e ≡ Terms)
+wide_term name = wide_node (term_node_of name) TermLine term_numbers Terms (term_node_same name) (λ ks n e. (term_node_told name ks n e).1) (λ n. refl) (λ n. refl)
+
+-- a place among words, by their bytes
+module _ {A B : Type 0} (f : A → B) (p : B → Bool) where
+  prefix_len-map : (xs : List A) → prefix_len (λ y. not (p y)) (map f xs) ≡ prefix_len (λ x. not (p (f x))) xs
+  prefix_len-map [] = refl
+  prefix_len-map (x ∷ xs) = ap (λ n. cond (not (p (f x))) (1 + n) 0) (prefix_len-map xs)
+
+  pub list_any-map : (xs : List A) → list_any p (map f xs) ≡ list_any (λ x. p (f x)) xs
+  list_any-map [] = refl
+  list_any-map (x ∷ xs) = ap (λ b. p (f x) || b) (list_any-map xs)
+
+-- where one passes, some does
+found_head : {X : Type 0} (p : X → Bool) (x : X) (xs : List X) (b : Bool) → p x ≡ b → cond (not b) (1 + position_or_len p xs) 0 < suc (length xs) → (position_or_len p xs < length xs → list_any p xs ≡ true) → list_any p (x ∷ xs) ≡ true
+found_head p x xs true e below more = rw e refl
+found_head p x xs false e below more = rw (e, more (omega (arith, below))) refl
+
+found_any : {X : Type 0} (p : X → Bool) (xs : List X) → position_or_len p xs < length xs → list_any p xs ≡ true
+found_any p [] below = absurd (omega arith)
+found_any p (x ∷ xs) below = found_head p x xs (p x) refl below (found_any p xs)
+
+pub pair_none : (words : List (Bor (List ℕ))) → None ≡ position (λ w. is_bar w.now) words → pair_of (texts words) ≡ None
+pair_none words e = rw (list_any-map (λ (w : Bor (List ℕ)). w.now) is_bar words ∙ position_none (λ w. is_bar w.now) words e) refl
+
+-- the words before the bar at place i, and those after it, as slices give them
+abbrev pub words_before : List (Bor (List ℕ)) → ℕ → List (List ℕ)
+words_before words i = texts (take i words)
+
+abbrev pub words_after : List (Bor (List ℕ)) → ℕ → List (List ℕ)
+words_after words i = texts (take (length words - (i + 1)) (drop (i + 1) words))
+
+pub pair_cut : (words : List (Bor (List ℕ))) (i : ℕ) → Some i ≡ position (λ w. is_bar w.now) words → pair_of (texts words) ≡ both_sets (numbers_of (words_before words i)) (numbers_of (words_after words i))
+pair_cut words i e =
+    let found = position_at (λ (w : Bor (List ℕ)). is_bar w.now) words i e in
+    let there : list_any is_bar (texts words) ≡ true = list_any-map (λ (w : Bor (List ℕ)). w.now) is_bar words ∙ found_any (λ (w : Bor (List ℕ)). is_bar w.now) words (subst (λ n. n < length words) found.0 found.1) in
+    let place : position_or_len is_bar (texts words) ≡ i = prefix_len-map (λ (w : Bor (List ℕ)). w.now) is_bar words ∙ sym found.0 in
+    let before : before_first is_bar (texts words) ≡ words_before words i = ap (λ n. take n (texts words)) place ∙ take-map (λ (w : Bor (List ℕ)). w.now) i words in
+    let rest : take (length words - (i + 1)) (drop (i + 1) words) ≡ drop (i + 1) words = take_all (length words - (i + 1)) (drop (i + 1) words) (omega (arith, length-drop (i + 1) words)) in
+    let after : after_first is_bar (texts words) ≡ words_after words i =
+    ap (λ n. drop (n + 1) (texts words)) place ∙ drop-map (λ (w : Bor (List ℕ)). w.now) (i + 1) words ∙ ap texts (sym rest) in
+    rw there (ap₂ (λ l r. both_sets (numbers_of l) (numbers_of r)) before after)
+
+pub no_left : (ws vs : List (List ℕ)) → list_all is_numeral ws ≡ false → both_sets (numbers_of ws) (numbers_of vs) ≡ None
+no_left ws vs e = rw (numbers_of_none ws e) refl
+
+pub no_right : (ws vs : List (List ℕ)) → list_all is_numeral ws ≡ true → list_all is_numeral vs ≡ false → both_sets (numbers_of ws) (numbers_of vs) ≡ None
+no_right ws vs d e = rw (numbers_of_all ws d, numbers_of_none vs e) refl
+
+pub both_read : (ws vs : List (List ℕ)) → list_all is_numeral ws ≡ true → list_all is_numeral vs ≡ true → both_sets (numbers_of ws) (numbers_of vs) ≡ Some (record { left = map value_of ws; right = map value_of vs })
+both_read ws vs d e = rw (numbers_of_all ws d, numbers_of_all vs e) refl
+
+-- a pair is wide where a number of either set is
+pub wide_pair : (ks ls : List ℕ) (v w : Numbers) → HasNumbers ks v → HasNumbers ls w → is_wide (PairLine (record { left = ks; right = ls })) ≡ (v.wide || w.wide)
+wide_pair ks ls v w hv hw = list_any-append too_wide ks ls ∙ ap₂ (λ b c. b || c) (sym hv.wide) (sym hw.wide)
+
+or_true_right : (b c : Bool) → c ≡ true → (b || c) ≡ true
+or_true_right true c e = refl
+or_true_right false c e = e
+
+-- the pair of words that are read
+module _ (o : Option NumberPair) (ws vs : List (List ℕ)) (v w : Numbers) (told : o ≡ both_sets (numbers_of ws) (numbers_of vs))
+    (nv : list_all is_numeral ws ≡ true) (nw : list_all is_numeral vs ≡ true) (hv : HasNumbers (map value_of ws) v) (hw : HasNumbers (map value_of vs) w) where
+  both_told : option_map PairLine o ≡ Some (PairLine (record { left = map value_of ws; right = map value_of vs }))
+  both_told = ap (option_map PairLine) (told ∙ both_read ws vs nv nw)
+
+  pub wide_left : v.wide ≡ true → (e : Entry) × (option_map PairLine o ≡ Some e) × (is_wide e ≡ true) × (section_of e ≡ Pairs)
+  wide_left e = (PairLine (record { left = map value_of ws; right = map value_of vs }), both_told, wide_pair (map value_of ws) (map value_of vs) v w hv hw ∙ ap (λ b. b || w.wide) e, refl)
+
+  pub wide_right : w.wide ≡ true → (e : Entry) × (option_map PairLine o ≡ Some e) × (is_wide e ≡ true) × (section_of e ≡ Pairs)
+  wide_right e = (PairLine (record { left = map value_of ws; right = map value_of vs }), both_told, wide_pair (map value_of ws) (map value_of vs) v w hv hw ∙ or_true_right v.wide w.wide e, refl)
+
+  pub narrow_pair : (p : NumberPair) → v.wide ≡ false → w.wide ≡ false → p.left ≡ v.values.items → p.right ≡ w.values.items → (option_map PairLine o ≡ Some (PairLine p)) × (is_wide (PairLine p) ≡ false)
+  narrow_pair p nl nr left right =
+      let same : record { left = map value_of ws; right = map value_of vs } ≡ p = λ j. record { left = sym (left ∙ hv.values nl) j; right = sym (right ∙ hw.values nr) j } in (
+        both_told ∙ ap (λ q. Some (PairLine q)) same,
+        ap (λ q. is_wide (PairLine q)) (sym same) ∙ wide_pair (map value_of ws) (map value_of vs) v w hv hw ∙ ap₂ (λ b c. b || c) nl nr,
+      )

@@ -1,0 +1,202 @@
+-- A certificate with one more entry that has no fault keeps the rules.
+use Rattle.std.proofs.Common.{◌≡◌, ℕ, zero, suc, ◌≤◌, ◌⊎◌, inl, inr, ⊎_elim, List, [], ◌∷◌, ◌++◌, length, Bool, true, false, not, ◌&&◌, eqb, nat_lt, Option, Some, None, slice_get, refl, sym, ap, ◌∙◌, subst, arith, length-append, eqb-true, eq-eqb, ltb-true}
+use mathlib.Core.Path.{ap₂}
+use Rattle.std.specs.Bool.{IsTrue}
+use Rattle.std.specs.List.{list_any}
+use Rattle.std.specs.Option.{option_or}
+use Rattle.std.proofs.lemmas.Bool.{lt-ltb}
+use Rattle.std.proofs.lemmas.List.Folds.{list_all-append}
+use Rattle.kat_model.specs.Members.{Has, HasNoDoubles}
+use Rattle.kat_model.proofs.Lists.{has_append, has_any, any_has}
+use Rattle.certificate.specs.declared.nodes.TestNode.{TestNode}
+use Rattle.certificate.specs.declared.nodes.TestNode.TheVariants.{False, True, Prim, Not, And, Or}
+use Rattle.certificate.specs.declared.nodes.TermNode.{TermNode}
+use Rattle.certificate.specs.declared.nodes.TermNode.TheVariants.{Zero, One, Test, Act, Sum, Seq, Star}
+use Rattle.certificate.specs.declared.entry.Entry.{Entry}
+use Rattle.certificate.specs.declared.entry.Entry.TheVariants.{TestLine, TermLine, PairLine}
+use Rattle.certificate.specs.declared.evidence.EvidenceFault.{EvidenceFault}
+use Rattle.certificate.specs.declared.evidence.EvidenceFault.TheVariants.{Line, NodeOrder, DoubleNode, SetOrder, NumberTooWide}
+use Rattle.certificate.specs.Nodes.{test_parts, term_parts, tests_of_term, same_test_node, same_term_node, are_below, are_ascending}
+use Rattle.certificate.specs.Certs.{CertParts, IsNumberSet, IsCert}
+use Rattle.certificate.proofs.Numerals.{both}
+use Rattle.certificate.specs.Faults.{is_wide, section_of, may_stand, names_earlier, stands_already, has_order, fault_where, entry_fault, with_entry}
+
+-- an entry passes every test
+pub record Passes (c : CertParts) (e : Entry) : Type 0 where
+  pub stands : may_stand c (section_of e) ≡ true
+  pub narrow : is_wide e ≡ false
+  pub earlier : names_earlier c e ≡ true
+  pub new : stands_already c e ≡ false
+  pub ordered : has_order e ≡ true
+
+-- ---- the tests in their order
+
+none_parts : {X : Type 0} (o p : Option X) → option_or o p ≡ None → (o ≡ None) × (p ≡ None)
+none_parts None p e = (refl, e)
+none_parts (Some x) p e = cc
+
+right_where : (b : Bool) (fault : EvidenceFault) → fault_where b fault ≡ None → b ≡ false
+right_where true fault e = cc
+right_where false fault e = refl
+
+not_false : (b : Bool) → not b ≡ false → b ≡ true
+not_false true e = refl
+not_false false e = cc
+
+pub faultless_passes : (c : CertParts) (n : ℕ) (e : Entry) → entry_fault c n e ≡ None → Passes c e
+faultless_passes c n e h =
+    let one = none_parts (fault_where (not (may_stand c (section_of e))) (Line n)) _ h in
+    let two = none_parts (fault_where (is_wide e) (NumberTooWide n)) _ one.1 in
+    let three = none_parts (fault_where (not (names_earlier c e)) (NodeOrder n)) _ two.1 in
+    let four = none_parts (fault_where (stands_already c e) (DoubleNode n)) _ three.1 in
+    record {
+      stands = not_false _ (right_where _ _ one.0);
+      narrow = right_where _ _ two.0;
+      earlier = not_false _ (right_where _ _ three.0);
+      new = right_where _ _ four.0;
+      ordered = not_false _ (right_where _ _ four.1);
+    }
+
+-- the first fault where the tests before it are passed
+module _ (c : CertParts) (n : ℕ) (e : Entry) where
+  pub passes_faultless : Passes c e → entry_fault c n e ≡ None
+  passes_faultless p = rw (p.stands, p.narrow, p.earlier, p.new, p.ordered) refl
+
+  pub double_fault : may_stand c (section_of e) ≡ true → is_wide e ≡ false → names_earlier c e ≡ true → stands_already c e ≡ true → entry_fault c n e ≡ Some (DoubleNode n)
+  double_fault stands narrow earlier double = rw (stands, narrow, earlier, double) refl
+
+  pub order_fault : may_stand c (section_of e) ≡ true → is_wide e ≡ false → names_earlier c e ≡ true → stands_already c e ≡ false → has_order e ≡ false → entry_fault c n e ≡ Some (SetOrder n)
+  order_fault stands narrow earlier new wrong = rw (stands, narrow, earlier, new, wrong) refl
+
+-- ---- equal nodes
+
+same_numbers : {N : Type 0} (made : ℕ → ℕ → N) (w x y z : ℕ) → (eqb w y && eqb x z) ≡ true → made w x ≡ made y z
+same_numbers made w x y z e = let p = both (eqb w y) (eqb x z) e in ap₂ made (eqb-true w y p.0) (eqb-true x z p.1)
+
+pub same_test_equal : (m n : TestNode) → same_test_node m n ≡ true → m ≡ n
+same_test_equal False False e = refl
+same_test_equal True True e = refl
+same_test_equal (Prim k) (Prim l) e = ap Prim (eqb-true k l e)
+same_test_equal (Not x) (Not y) e = ap Not (eqb-true x y e)
+same_test_equal (And w x) (And y z) e = same_numbers And w x y z e
+same_test_equal (Or w x) (Or y z) e = same_numbers Or w x y z e
+same_test_equal m n e = cc
+
+two_equal : (x y : ℕ) → (eqb x x && eqb y y) ≡ true
+two_equal x y = rw (eq-eqb x x refl, eq-eqb y y refl) refl
+
+pub test_same_itself : (n : TestNode) → same_test_node n n ≡ true
+test_same_itself False = refl
+test_same_itself True = refl
+test_same_itself (Prim k) = eq-eqb k k refl
+test_same_itself (Not x) = eq-eqb x x refl
+test_same_itself (And x y) = two_equal x y
+test_same_itself (Or x y) = two_equal x y
+
+pub same_term_equal : (m n : TermNode) → same_term_node m n ≡ true → m ≡ n
+same_term_equal Zero Zero e = refl
+same_term_equal One One e = refl
+same_term_equal (Test x) (Test y) e = ap Test (eqb-true x y e)
+same_term_equal (Act a) (Act b) e = ap Act (eqb-true a b e)
+same_term_equal (Sum w x) (Sum y z) e = same_numbers Sum w x y z e
+same_term_equal (Seq w x) (Seq y z) e = same_numbers Seq w x y z e
+same_term_equal (Star x) (Star y) e = ap Star (eqb-true x y e)
+same_term_equal m n e = cc
+
+pub term_same_itself : (n : TermNode) → same_term_node n n ≡ true
+term_same_itself Zero = refl
+term_same_itself One = refl
+term_same_itself (Test x) = eq-eqb x x refl
+term_same_itself (Act a) = eq-eqb a a refl
+term_same_itself (Sum x y) = two_equal x y
+term_same_itself (Seq x y) = two_equal x y
+term_same_itself (Star x) = eq-eqb x x refl
+
+-- a test of equality finds a member
+module _ {X : Type 0} (same : X → X → Bool) (equal : (x y : X) → same x y ≡ true → x ≡ y) (itself : (x : X) → same x x ≡ true) where
+  pub any_same : (xs : List X) (x : X) → Has xs x → list_any (same x) xs ≡ true
+  any_same xs x h = any_has (same x) xs x h (itself x)
+
+  pub same_any : (xs : List X) (x : X) → list_any (same x) xs ≡ true → Has xs x
+  same_any xs x e = let found = has_any (same x) xs e in subst (Has xs) (sym (equal x found.0 found.2)) found.1
+
+  pub lacks_any : (xs : List X) (x : X) → list_any (same x) xs ≡ false → Has xs x → ⊥
+  lacks_any xs x e h = let there = any_same xs x h in cc
+
+  pub any_lacks : (xs : List X) (x : X) → (Has xs x → ⊥) → list_any (same x) xs ≡ false
+  any_lacks xs x lacks = by_cases (list_any (same x) xs) refl
+    where
+      by_cases : (b : Bool) → list_any (same x) xs ≡ b → list_any (same x) xs ≡ false
+      by_cases true e = absurd (lacks (same_any xs x e))
+      by_cases false e = e
+
+-- ---- one more member of a list
+
+pub get_pushed : {X : Type 0} (xs : List X) (x y : X) (k : ℕ) → slice_get (xs ++ x ∷ []) k ≡ Some y → (slice_get xs k ≡ Some y) ⊎ ((k ≡ length xs) × (x ≡ y))
+get_pushed [] x y zero e = inr (refl, cc)
+get_pushed [] x y (suc k) e = cc
+get_pushed (z ∷ xs) x y zero e = inl e
+get_pushed (z ∷ xs) x y (suc k) e = ⊎_elim inl (λ p. inr (ap suc p.0, p.1)) (get_pushed xs x y k e)
+
+pub has_pushed : {X : Type 0} (xs : List X) (x y : X) → Has (xs ++ x ∷ []) y → Has xs y ⊎ (x ≡ y)
+has_pushed xs x y h = ⊎_elim inl (λ k. ⊎_elim inr absurd k) (has_append xs (x ∷ []) y h)
+
+pub no_doubles_pushed : {X : Type 0} (xs : List X) (x : X) → HasNoDoubles xs → (Has xs x → ⊥) → HasNoDoubles (xs ++ x ∷ [])
+no_doubles_pushed [] x none lacks = ((λ h. h), tt)
+no_doubles_pushed (y ∷ xs) x none lacks = (
+  (λ h. ⊎_elim none.0 (λ e. lacks (inl (sym e))) (has_pushed xs x y h)),
+  no_doubles_pushed xs x none.1 (λ h. lacks (inr h)),
+)
+
+below_step : (m n k : ℕ) → m ≤ n → nat_lt k m ≡ true → nat_lt k n ≡ true
+below_step m n k le e = lt-ltb k n (omega (arith, ltb-true k m e))
+
+pub below_more : (m n : ℕ) (ks : List ℕ) → m ≤ n → are_below m ks ≡ true → are_below n ks ≡ true
+below_more m n [] le e = refl
+below_more m n (k ∷ ks) le e =
+    let p = both (nat_lt k m) (are_below m ks) e in
+    rw (below_step m n k le p.0, below_more m n ks le p.1) refl
+
+pub set_more : (m n : ℕ) (ks : List ℕ) → m ≤ n → IsNumberSet m ks → IsNumberSet n ks
+set_more m n ks le s = record { there = below_more m n ks le s.there; ascending = s.ascending }
+
+longer : {X : Type 0} (xs : List X) (x : X) → length xs ≤ length (xs ++ x ∷ [])
+longer xs x = omega (arith, length-append xs (x ∷ []))
+
+-- ---- one more entry
+
+pub cert_grown : (c : CertParts) (e : Entry) → IsCert c → Passes c e → IsCert (with_entry c e)
+cert_grown c (TestLine n) cert p =
+    let earlier = (both (are_below (length c.test_nodes) (test_parts n)) _ p.earlier).0 in
+    record {
+      tests = λ k m e. ⊎_elim (cert.tests k m) (λ q. subst (λ l. IsTrue (are_below l (test_parts m))) (sym q.0) (subst (λ l. IsTrue (are_below (length c.test_nodes) (test_parts l))) q.1 earlier)) (get_pushed c.test_nodes n m k e);
+      terms = cert.terms;
+      tests_of_terms = λ m h. below_more (length c.test_nodes) (length (c.test_nodes ++ n ∷ [])) (tests_of_term m) (longer c.test_nodes n) (cert.tests_of_terms m h);
+      each_test_once = no_doubles_pushed c.test_nodes n cert.each_test_once (lacks_any same_test_node same_test_equal test_same_itself c.test_nodes n p.new);
+      each_term_once = cert.each_term_once;
+      pairs = cert.pairs;
+    }
+cert_grown c (TermLine n) cert p =
+    let earlier = both (are_below (length c.test_nodes) (tests_of_term n)) (are_below (length c.term_nodes) (term_parts n)) p.earlier in
+    record {
+      tests = cert.tests;
+      terms = λ k m e. ⊎_elim (cert.terms k m) (λ q. subst (λ l. IsTrue (are_below l (term_parts m))) (sym q.0) (subst (λ l. IsTrue (are_below (length c.term_nodes) (term_parts l))) q.1 earlier.1)) (get_pushed c.term_nodes n m k e);
+      tests_of_terms = λ m h. ⊎_elim (cert.tests_of_terms m) (λ q. subst (λ l. IsTrue (are_below (length c.test_nodes) (tests_of_term l))) q earlier.0) (has_pushed c.term_nodes n m h);
+      each_test_once = cert.each_test_once;
+      each_term_once = no_doubles_pushed c.term_nodes n cert.each_term_once (lacks_any same_term_node same_term_equal term_same_itself c.term_nodes n p.new);
+      pairs = λ q h. let old = cert.pairs q h in (set_more _ _ q.left (longer c.term_nodes n) old.0, set_more _ _ q.right (longer c.term_nodes n) old.1);
+    }
+cert_grown c (PairLine q) cert p =
+    let earlier = (both (are_below (length c.test_nodes) []) (are_below (length c.term_nodes) (q.left ++ q.right)) p.earlier).1 in
+    let there = both (are_below (length c.term_nodes) q.left) (are_below (length c.term_nodes) q.right) (sym (list_all-append (λ k. nat_lt k (length c.term_nodes)) q.left q.right) ∙ earlier) in
+    let ascend = both (are_ascending q.left) (are_ascending q.right) p.ordered in
+    let sets : IsNumberSet (length c.term_nodes) q.left × IsNumberSet (length c.term_nodes) q.right =
+    (record { there = there.0; ascending = ascend.0 }, record { there = there.1; ascending = ascend.1 }) in
+    record {
+      tests = cert.tests;
+      terms = cert.terms;
+      tests_of_terms = cert.tests_of_terms;
+      each_test_once = cert.each_test_once;
+      each_term_once = cert.each_term_once;
+      pairs = λ r h. ⊎_elim (cert.pairs r) (λ e. subst (λ s. IsNumberSet (length c.term_nodes) s.left × IsNumberSet (length c.term_nodes) s.right) e sets) (has_pushed c.pairs q r h);
+    }

@@ -1,0 +1,333 @@
+-- What is spelled is read, and what is read is spelled so: numerals, words and the lines of entries.
+use Rattle.std.proofs.Common.{◌≡◌, ℕ, suc, ◌+◌, ◌^◌, ◌<◌, ◌≤◌, ◌⊎◌, inl, inr, ⊎_elim, List, [], ◌∷◌, ◌++◌, map, length, take, drop, get_or, Bool, true, false, ◌||◌, not, cond, ◌==◌, nat_lt, Option, Some, None, refl, sym, ap, ◌∙◌, subst, arith, codes, add-one}
+use mathlib.Core.Path.{ap₂}
+use Rattle.std.specs.List.{list_all, list_any, position_or_len, before_first, after_first}
+use Rattle.std.specs.Option.{option_map, option_and_then}
+use Rattle.std.specs.Char.{is_ascii_digit}
+use Rattle.std.specs.Fmt.{decimal}
+use Rattle.std.specs.Str.{bytes_eq}
+use Rattle.std.proofs.lemmas.Bool.{or_right}
+use Rattle.std.proofs.lemmas.Bool.Decides.{nat_tests}
+use Rattle.std.proofs.lemmas.Fmt.{digits_decimal}
+use Rattle.std.proofs.lemmas.List.Splits.{join_with_byte-slice_split}
+use Rattle.std.proofs.lemmas.List.Sums.{split_at_first, passes_at_first}
+use Rattle.kat_model.specs.Members.{Has}
+use Rattle.kat_model.proofs.Lists.{has_left, has_right}
+use Rattle.certificate.specs.declared.nodes.TestNode.{TestNode}
+use Rattle.certificate.specs.declared.nodes.TestNode.TheVariants.{False, True, Prim, Not, And, Or}
+use Rattle.certificate.specs.declared.nodes.TermNode.{TermNode}
+use Rattle.certificate.specs.declared.nodes.TermNode.TheVariants.{Zero, One, Test, Act, Sum, Seq, Star}
+use Rattle.certificate.specs.declared.entry.Entry.{Entry}
+use Rattle.certificate.specs.declared.entry.Entry.TheVariants.{TestLine, TermLine, PairLine}
+use Rattle.certificate.specs.Nodes.{NumberPair}
+use Rattle.certificate.specs.Texts.{test_name, test_numbers, term_name, term_numbers, entry_words, entry_numbers, line_of, IsNarrow}
+use Rattle.certificate.specs.Forms.{words_of, is_numeral, value_of, numbers_of, test_node_of, term_node_of, is_bar, both_sets, pair_of, entry_of_words, entry_of}
+use Rattle.certificate.specs.Faults.{too_wide}
+use Rattle.certificate.proofs.Splits.{LacksByte, both_false, split_lacking, split_at}
+use Rattle.certificate.proofs.Numerals.{own, both, numeral_decimal, decimal_numeral}
+use Rattle.certificate.proofs.EntryForms.{named, test_node_told, test_node_made, term_node_told, term_node_made}
+use Rattle.certificate.proofs.Lines.{line_of-cons}
+
+-- ---- numbers of the program
+
+abbrev pub AreNarrow : List ℕ → Type 0
+AreNarrow ks = (k : ℕ) → Has ks k → k < 2 ^ 64
+
+narrow_number : (k : ℕ) → too_wide k ≡ false → k < 2 ^ 64
+narrow_number k e = grind (arith, nat_tests)
+
+number_narrow : (k : ℕ) → k < 2 ^ 64 → too_wide k ≡ false
+number_narrow k small = grind (arith, nat_tests)
+
+pub are_narrow : (ks : List ℕ) → list_any too_wide ks ≡ false → AreNarrow ks
+are_narrow [] e k h = absurd h
+are_narrow (l ∷ ks) e k h =
+    let parts = both_false (too_wide l) (list_any too_wide ks) e in
+    ⊎_elim (λ p. subst (λ m. m < 2 ^ 64) p (narrow_number l parts.0)) (are_narrow ks parts.1 k) h
+
+pub none_wide : (ks : List ℕ) → AreNarrow ks → list_any too_wide ks ≡ false
+none_wide [] narrow = refl
+none_wide (k ∷ ks) narrow = rw (number_narrow k (narrow k (inl refl)), none_wide ks (λ l h. narrow l (inr h))) refl
+
+-- ---- numerals
+
+all_numerals : (ks : List ℕ) → AreNarrow ks → list_all is_numeral (map decimal ks) ≡ true
+all_numerals [] narrow = refl
+all_numerals (k ∷ ks) narrow = rw ((decimal_numeral k (narrow k (inl refl))).0, all_numerals ks (λ l h. narrow l (inr h))) refl
+
+values_back : (ks : List ℕ) → AreNarrow ks → map value_of (map decimal ks) ≡ ks
+values_back [] narrow = refl
+values_back (k ∷ ks) narrow = ap₂ (λ x l. x ∷ l) (decimal_numeral k (narrow k (inl refl))).1 (values_back ks (λ l h. narrow l (inr h)))
+
+pub numbers_back : (ks : List ℕ) → AreNarrow ks → numbers_of (map decimal ks) ≡ Some ks
+numbers_back ks narrow = rw (all_numerals ks narrow) (ap (λ (l : List ℕ). Some l) (values_back ks narrow))
+
+numerals_back : (ws : List (List ℕ)) → list_all is_numeral ws ≡ true → AreNarrow (map value_of ws) → ws ≡ map decimal (map value_of ws)
+numerals_back [] all narrow = refl
+numerals_back (w ∷ ws) all narrow =
+    let parts = both (is_numeral w) (list_all is_numeral ws) all in
+    ap₂ (λ x l. x ∷ l) (sym (numeral_decimal w parts.0 (narrow (value_of w) (inl refl)))) (numerals_back ws parts.1 (λ l h. narrow l (inr h)))
+
+pub numbers_told : (ws : List (List ℕ)) (ks : List ℕ) → numbers_of ws ≡ Some ks → AreNarrow ks → ws ≡ map decimal ks
+numbers_told ws ks e narrow = by_test (list_all is_numeral ws) refl e
+  where
+    by_test : (b : Bool) → list_all is_numeral ws ≡ b → cond b (Some (map value_of ws)) None ≡ Some ks → ws ≡ map decimal ks
+    by_test true all e =
+        let same : map value_of ws ≡ ks = cc in
+        numerals_back ws all (subst AreNarrow (sym same) narrow) ∙ ap (map decimal) same
+    by_test false all e = cc
+
+-- ---- words: bytes above the blank
+
+abbrev pub IsWord : List ℕ → Type 0
+IsWord w = list_all (λ b. nat_lt 32 b) w ≡ true
+
+abbrev pub AreWords : List (List ℕ) → Type 0
+AreWords [] = Unit {0}
+AreWords (w ∷ ws) = IsWord w × AreWords ws
+
+not_low : (mark b : ℕ) → mark ≤ 32 → nat_lt 32 b ≡ true → (b == mark) ≡ false
+not_low mark b low e = grind (arith, nat_tests)
+
+pub word_lacks : (mark : ℕ) (w : List ℕ) → mark ≤ 32 → IsWord w → LacksByte mark w
+word_lacks mark [] low word = refl
+word_lacks mark (b ∷ w) low word =
+    let parts = both (nat_lt 32 b) (list_all (λ c. nat_lt 32 c) w) word in
+    rw (not_low mark b low parts.0, word_lacks mark w low parts.1) refl
+
+digit_high : (b : ℕ) → is_ascii_digit b ≡ true → nat_lt 32 b ≡ true
+digit_high b e = grind (arith, nat_tests)
+
+digits_word : (w : List ℕ) → list_all is_ascii_digit w ≡ true → IsWord w
+digits_word [] e = refl
+digits_word (b ∷ w) e =
+    let parts = both (is_ascii_digit b) (list_all is_ascii_digit w) e in
+    rw (digit_high b parts.0, digits_word w parts.1) refl
+
+pub decimals_words : (ks : List ℕ) → AreNarrow ks → AreWords (map decimal ks)
+decimals_words [] narrow = tt
+decimals_words (k ∷ ks) narrow = (digits_word (decimal k) (digits_decimal own k (narrow k (inl refl))), decimals_words ks (λ l h. narrow l (inr h)))
+
+pub words_append : (vs ws : List (List ℕ)) → AreWords vs → AreWords ws → AreWords (vs ++ ws)
+words_append [] ws a b = b
+words_append (v ∷ vs) ws a b = (a.0, words_append vs ws a.1 b)
+
+-- the words of a line of words
+pub words_back : (w : List ℕ) (ws : List (List ℕ)) → AreWords (w ∷ ws) → words_of (line_of (w ∷ ws)) ≡ w ∷ ws
+words_back w [] words = split_lacking 32 w (word_lacks 32 w (omega arith) words.0)
+words_back w (v ∷ ws) words =
+    split_at 32 w (line_of (v ∷ ws)) (word_lacks 32 w (omega arith) words.0) ∙ ap (λ l. w ∷ l) (words_back v ws words.1)
+
+-- a line is that of its words
+pub line_back : (line : List ℕ) → line_of (words_of line) ≡ line
+line_back line = join_with_byte-slice_split 32 line
+
+lacks_append : (mark : ℕ) (xs ys : List ℕ) → LacksByte mark xs → LacksByte mark ys → LacksByte mark (xs ++ ys)
+lacks_append mark [] ys a b = b
+lacks_append mark (x ∷ xs) ys a b =
+    let parts = both_false (x == mark) (list_any (λ c. c == mark) xs) a in
+    rw (parts.0, lacks_append mark xs ys parts.1 b) refl
+
+-- a line of words has no line feed
+pub line_lacks : (w : List ℕ) (ws : List (List ℕ)) → AreWords (w ∷ ws) → LacksByte 10 (line_of (w ∷ ws))
+line_lacks w [] words = word_lacks 10 w (omega arith) words.0
+line_lacks w (v ∷ ws) words = lacks_append 10 w (32 ∷ line_of (v ∷ ws)) (word_lacks 10 w (omega arith) words.0) (line_lacks v ws words.1)
+
+-- ---- the words of an entry
+
+test_name_word : (n : TestNode) → IsWord (test_name n)
+test_name_word False = refl
+test_name_word True = refl
+test_name_word (Prim k) = refl
+test_name_word (Not x) = refl
+test_name_word (And x y) = refl
+test_name_word (Or x y) = refl
+
+term_name_word : (n : TermNode) → IsWord (term_name n)
+term_name_word Zero = refl
+term_name_word One = refl
+term_name_word (Test x) = refl
+term_name_word (Act a) = refl
+term_name_word (Sum x y) = refl
+term_name_word (Seq x y) = refl
+term_name_word (Star x) = refl
+
+pub entry_are_words : (e : Entry) → IsNarrow e → AreWords (entry_words e)
+entry_are_words (TestLine n) narrow = (refl, (test_name_word n, decimals_words (test_numbers n) narrow))
+entry_are_words (TermLine n) narrow = (refl, (term_name_word n, decimals_words (term_numbers n) narrow))
+entry_are_words (PairLine p) narrow = (
+  refl,
+  words_append (map decimal p.left) (codes "|" ∷ map decimal p.right)
+      (decimals_words p.left (λ k h. narrow k (has_left p.left p.right k h)))
+      (refl, decimals_words p.right (λ k h. narrow k (has_right p.left p.right k h))),
+)
+
+-- ---- the bar of a pair
+
+not_bar : (k : ℕ) → k < 2 ^ 64 → is_bar (decimal k) ≡ false
+not_bar k small = by_test (is_bar (decimal k)) refl
+  where
+    by_test : (b : Bool) → is_bar (decimal k) ≡ b → is_bar (decimal k) ≡ false
+    by_test true e =
+        let bar : decimal k ≡ codes "|" = named (decimal k) (codes "|") e in
+        let numeral : is_numeral (codes "|") ≡ true = ap is_numeral (sym bar) ∙ (decimal_numeral k small).0 in
+        cc
+    by_test false e = e
+
+-- the first place that passes after those that do not
+first_at : {X : Type 0} (p : X → Bool) (xs : List X) (y : X) (ys : List X) → list_all (λ x. not (p x)) xs ≡ true → p y ≡ true → position_or_len p (xs ++ y ∷ ys) ≡ length xs
+first_at p [] y ys lacks passes = rw passes refl
+first_at p (x ∷ xs) y ys lacks passes =
+    let parts = both (not (p x)) (list_all (λ z. not (p z)) xs) lacks in
+    rw (parts.0, first_at p xs y ys parts.1 passes) (omega arith)
+
+any_after : {X : Type 0} (p : X → Bool) (xs : List X) (y : X) (ys : List X) → p y ≡ true → list_any p (xs ++ y ∷ ys) ≡ true
+any_after p [] y ys passes = rw passes refl
+any_after p (x ∷ xs) y ys passes = or_right (p x) (list_any p (xs ++ y ∷ ys)) (any_after p xs y ys passes)
+
+no_bars : (ks : List ℕ) → AreNarrow ks → list_all (λ w. not (is_bar w)) (map decimal ks) ≡ true
+no_bars [] narrow = refl
+no_bars (k ∷ ks) narrow = rw (not_bar k (narrow k (inl refl)), no_bars ks (λ l h. narrow l (inr h))) refl
+
+take_front : {X : Type 0} (xs ys : List X) → take (length xs) (xs ++ ys) ≡ xs
+take_front [] ys = refl
+take_front (x ∷ xs) ys = ap (λ l. x ∷ l) (take_front xs ys)
+
+drop_after : {X : Type 0} (xs : List X) (y : X) (ys : List X) → drop (suc (length xs)) (xs ++ y ∷ ys) ≡ ys
+drop_after [] y ys = refl
+drop_after (x ∷ xs) y ys = drop_after xs y ys
+
+drop_front : {X : Type 0} (xs : List X) (y : X) (ys : List X) → drop (length xs + 1) (xs ++ y ∷ ys) ≡ ys
+drop_front xs y ys = ap (λ n. drop n (xs ++ y ∷ ys)) (add-one (length xs)) ∙ drop_after xs y ys
+
+pub pair_back : (p : NumberPair) → AreNarrow p.left → AreNarrow p.right → pair_of (map decimal p.left ++ codes "|" ∷ map decimal p.right) ≡ Some p
+pair_back p left right =
+    let ls : List (List ℕ) = map decimal p.left in
+    let rs : List (List ℕ) = map decimal p.right in
+    let place : position_or_len is_bar (ls ++ codes "|" ∷ rs) ≡ length ls = first_at is_bar ls (codes "|") rs (no_bars p.left left) refl in
+    let before : before_first is_bar (ls ++ codes "|" ∷ rs) ≡ ls = ap (λ n. take n (ls ++ codes "|" ∷ rs)) place ∙ take_front ls (codes "|" ∷ rs) in
+    let after : after_first is_bar (ls ++ codes "|" ∷ rs) ≡ rs = ap (λ n. drop (n + 1) (ls ++ codes "|" ∷ rs)) place ∙ drop_front ls (codes "|") rs in
+    rw (any_after is_bar ls (codes "|") rs refl)
+    (ap₂ (λ l r. both_sets (numbers_of l) (numbers_of r)) before after ∙ ap₂ both_sets (numbers_back p.left left) (numbers_back p.right right))
+
+-- the words of a pair's line after the first are one or more
+pair_words : (p : NumberPair) → (ls : List (List ℕ)) → entry_of_words (codes "P" ∷ (ls ++ codes "|" ∷ map decimal p.right)) ≡ option_map PairLine (pair_of (ls ++ codes "|" ∷ map decimal p.right))
+pair_words p [] = refl
+pair_words p (l ∷ ls) = refl
+
+-- an entry is read of its words, and of its line
+entry_of_its_words : (e : Entry) → IsNarrow e → entry_of_words (entry_words e) ≡ Some e
+entry_of_its_words (TestLine n) narrow = ap (λ o. option_map TestLine (option_and_then (test_node_of (test_name n)) o)) (numbers_back (test_numbers n) narrow) ∙ ap (option_map TestLine) (test_node_made n)
+entry_of_its_words (TermLine n) narrow = ap (λ o. option_map TermLine (option_and_then (term_node_of (term_name n)) o)) (numbers_back (term_numbers n) narrow) ∙ ap (option_map TermLine) (term_node_made n)
+entry_of_its_words (PairLine p) narrow =
+    pair_words p (map decimal p.left)
+    ∙ ap (option_map PairLine) (pair_back p (λ k h. narrow k (has_left p.left p.right k h)) (λ k h. narrow k (has_right p.left p.right k h)))
+
+first_of_entry : (e : Entry) → (w : List ℕ) × (ws : List (List ℕ)) × (entry_words e ≡ w ∷ ws)
+first_of_entry (TestLine n) = (_, _, refl)
+first_of_entry (TermLine n) = (_, _, refl)
+first_of_entry (PairLine p) = (_, _, refl)
+
+pub entry_back : (e : Entry) → IsNarrow e → entry_of (line_of (entry_words e)) ≡ Some e
+entry_back e narrow =
+    let first = first_of_entry e in
+    let words = subst AreWords first.2 (entry_are_words e narrow) in
+    ap (λ ws. entry_of (line_of ws)) first.2 ∙ ap entry_of_words (words_back first.0 first.1 words) ∙ ap entry_of_words (sym first.2) ∙ entry_of_its_words e narrow
+
+pub entry_lacks : (e : Entry) → IsNarrow e → LacksByte 10 (line_of (entry_words e))
+entry_lacks e narrow =
+    let first = first_of_entry e in
+    let words = subst AreWords first.2 (entry_are_words e narrow) in
+    subst (λ ws. LacksByte 10 (line_of ws)) (sym first.2) (line_lacks first.0 first.1 words)
+
+-- no entry is the line `end`
+pub entry_not_end : (e : Entry) → bytes_eq (line_of (entry_words e)) (codes "end") ≡ false
+entry_not_end (TestLine n) = refl
+entry_not_end (TermLine n) = refl
+entry_not_end (PairLine p) = ap (λ l. bytes_eq l (codes "end")) (line_of-cons (codes "P") (map decimal p.left ++ codes "|" ∷ map decimal p.right))
+
+-- ---- what is read of a line is spelled so
+
+some_of_map : {X Y : Type 0} (f : X → Y) (o : Option X) (y : Y) → option_map f o ≡ Some y → (x : X) × (o ≡ Some x) × (f x ≡ y)
+some_of_map f None y e = cc
+some_of_map f (Some x) y e = (x, refl, cc)
+
+some_of_then : {X Y : Type 0} (f : X → Option Y) (o : Option X) (y : Y) → option_and_then f o ≡ Some y → (x : X) × (o ≡ Some x) × (f x ≡ Some y)
+some_of_then f None y e = cc
+some_of_then f (Some x) y e = (x, refl, e)
+
+some_of_both : (o q : Option (List ℕ)) (p : NumberPair) → both_sets o q ≡ Some p → (o ≡ Some p.left) × (q ≡ Some p.right)
+some_of_both None q p e = cc
+some_of_both (Some ks) None p e = cc
+some_of_both (Some ks) (Some ls) p e =
+    let same : record { left = ks; right = ls } ≡ p = cc in
+    (ap (λ (r : NumberPair). Some r.left) same, ap (λ (r : NumberPair). Some r.right) same)
+
+-- where some passes, there is a first place
+place_head : {X : Type 0} (p : X → Bool) (x : X) (xs : List X) (b : Bool) → p x ≡ b → (b || list_any p xs) ≡ true → (list_any p xs ≡ true → position_or_len p xs < length xs) → position_or_len p (x ∷ xs) < length (x ∷ xs)
+place_head p x xs true e any more = rw e (omega arith)
+place_head p x xs false e any more = let rest = more any in rw e (omega arith)
+
+any_place : {X : Type 0} (p : X → Bool) (xs : List X) → list_any p xs ≡ true → position_or_len p xs < length xs
+any_place p [] any = cc
+any_place p (x ∷ xs) any = place_head p x xs (p x) refl any (any_place p xs)
+
+pair_told : (ws : List (List ℕ)) (p : NumberPair) → pair_of ws ≡ Some p → AreNarrow p.left → AreNarrow p.right → ws ≡ map decimal p.left ++ codes "|" ∷ map decimal p.right
+pair_told ws p e left right = by_bar (list_any is_bar ws) refl e
+  where
+    by_bar : (b : Bool) → list_any is_bar ws ≡ b → cond b (both_sets (numbers_of (before_first is_bar ws)) (numbers_of (after_first is_bar ws))) None ≡ Some p → ws ≡ map decimal p.left ++ codes "|" ∷ map decimal p.right
+    by_bar false none f = cc
+    by_bar true some f =
+        let below : position_or_len is_bar ws < length ws = any_place is_bar ws some in
+        let cut = split_at_first is_bar ws [] below in
+        let bar : get_or ws (position_or_len is_bar ws) [] ≡ codes "|" = named (get_or ws (position_or_len is_bar ws) []) (codes "|") (passes_at_first is_bar ws [] below) in
+        let sets = some_of_both (numbers_of (before_first is_bar ws)) (numbers_of (after_first is_bar ws)) p f in
+        let before = numbers_told (before_first is_bar ws) p.left sets.0 left in
+        let after = numbers_told (after_first is_bar ws) p.right sets.1 right in
+        cut ∙ ap₂ (λ l r. l ++ r) before (ap₂ (λ w l. w ∷ l) bar after)
+
+-- the cases of an entry by its first word
+three_kinds : (a b c : Bool) (x y z : Option Entry) (e : Entry) → cond a x (cond b y (cond c z None)) ≡ Some e → ((a ≡ true) × (x ≡ Some e)) ⊎ (((b ≡ true) × (y ≡ Some e)) ⊎ ((c ≡ true) × (z ≡ Some e)))
+three_kinds true b c x y z e h = inl (refl, h)
+three_kinds false true c x y z e h = inr (inl (refl, h))
+three_kinds false false true x y z e h = inr (inr (refl, h))
+three_kinds false false false x y z e h = cc
+
+test_told : (kind name : List ℕ) (ws : List (List ℕ)) (e : Entry) → IsNarrow e → kind ≡ codes "T" → option_map TestLine (option_and_then (test_node_of name) (numbers_of ws)) ≡ Some e → kind ∷ name ∷ ws ≡ entry_words e
+test_told kind name ws e narrow is h =
+    let made = some_of_map TestLine (option_and_then (test_node_of name) (numbers_of ws)) e h in
+    let read = some_of_then (test_node_of name) (numbers_of ws) made.0 made.1 in
+    let told = test_node_told name read.0 made.0 read.2 in
+    let small = subst AreNarrow (sym told.1) (subst (λ f. AreNarrow (entry_numbers f)) (sym made.2) narrow) in
+    ap₂ (λ k l. k ∷ l) is (ap₂ (λ n l. n ∷ l) told.0 (numbers_told ws read.0 read.1 small ∙ ap (map decimal) told.1)) ∙ ap entry_words made.2
+
+term_told : (kind name : List ℕ) (ws : List (List ℕ)) (e : Entry) → IsNarrow e → kind ≡ codes "E" → option_map TermLine (option_and_then (term_node_of name) (numbers_of ws)) ≡ Some e → kind ∷ name ∷ ws ≡ entry_words e
+term_told kind name ws e narrow is h =
+    let made = some_of_map TermLine (option_and_then (term_node_of name) (numbers_of ws)) e h in
+    let read = some_of_then (term_node_of name) (numbers_of ws) made.0 made.1 in
+    let told = term_node_told name read.0 made.0 read.2 in
+    let small = subst AreNarrow (sym told.1) (subst (λ f. AreNarrow (entry_numbers f)) (sym made.2) narrow) in
+    ap₂ (λ k l. k ∷ l) is (ap₂ (λ n l. n ∷ l) told.0 (numbers_told ws read.0 read.1 small ∙ ap (map decimal) told.1)) ∙ ap entry_words made.2
+
+set_told : (kind : List ℕ) (ws : List (List ℕ)) (e : Entry) → IsNarrow e → kind ≡ codes "P" → option_map PairLine (pair_of ws) ≡ Some e → kind ∷ ws ≡ entry_words e
+set_told kind ws e narrow is h =
+    let made = some_of_map PairLine (pair_of ws) e h in
+    let p : NumberPair = made.0 in
+    let small = subst (λ f. AreNarrow (entry_numbers f)) (sym made.2) narrow in
+    ap₂ (λ k l. k ∷ l) is (pair_told ws p made.1 (λ k m. small k (has_left p.left p.right k m)) (λ k m. small k (has_right p.left p.right k m))) ∙ ap entry_words made.2
+
+words_told : (ws : List (List ℕ)) (e : Entry) → IsNarrow e → entry_of_words ws ≡ Some e → ws ≡ entry_words e
+words_told [] e narrow h = cc
+words_told (kind ∷ []) e narrow h = cc
+words_told (kind ∷ name ∷ ws) e narrow h =
+    ⊎_elim
+    (λ p. test_told kind name ws e narrow (named kind (codes "T") p.0) p.1)
+    (λ q. ⊎_elim
+    (λ p. term_told kind name ws e narrow (named kind (codes "E") p.0) p.1)
+    (λ p. set_told kind (name ∷ ws) e narrow (named kind (codes "P") p.0) p.1)
+    q)
+    (three_kinds (bytes_eq kind (codes "T")) (bytes_eq kind (codes "E")) (bytes_eq kind (codes "P")) _ _ _ e h)
+
+-- the line of an entry that is read
+pub entry_told : (line : List ℕ) (e : Entry) → IsNarrow e → entry_of line ≡ Some e → line ≡ line_of (entry_words e)
+entry_told line e narrow h = sym (line_back line) ∙ ap line_of (words_told (words_of line) e narrow h)

@@ -1,0 +1,5 @@
+use Rattle.certificate.proofs.FirstFaults.{faults_are_first_lem}
+use Rattle.certificate.proofs.laws.faults_are_first.Goals as goal
+
+pub returns : goal.returns
+returns c = faults_are_first_lem

@@ -1,0 +1,5 @@
+use Rattle.certificate.proofs.OneSpelling.{lines_have_one_spelling_lem}
+use Rattle.certificate.proofs.laws.lines_have_one_spelling.Goals as goal
+
+pub returns : goal.returns
+returns c = lines_have_one_spelling_lem

@@ -1,0 +1,15 @@
+use Rattle.std.proofs.Common.{◌≡◌, ◌+◌, ◌≤◌, length}
+use Rattle.certificate.specs.Faults.{cert_from, no_entries, parts_of}
+use Rattle.certificate.specs.Readings.{draft_parts, IsDraft}
+use Rattle.certificate.proofs.reading.read_cert.Given as goal
+
+-- the lines that are left say after the entries so far what all lines say
+abbrev pub invariant-loop-line : goal.invariant-loop-line
+invariant-loop-line l = record {
+  same : cert_from (draft_parts l.draft) l.number (parts_of l.rest) ≡ cert_from (no_entries l.fn.style) 2 (parts_of l.bytes);
+  draft : IsDraft l.draft;
+  few : l.number + length l.rest ≤ length l.bytes + 2;
+}
+
+abbrev pub decreases-loop-line : goal.decreases-loop-line
+decreases-loop-line l = length l.rest

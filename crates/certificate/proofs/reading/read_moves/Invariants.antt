@@ -1,0 +1,13 @@
+use Rattle.std.proofs.Common.{◌≡◌, ◌+◌, ◌≤◌, length, []}
+use Rattle.certificate.specs.Faults.{moves_from, parts_of}
+use Rattle.certificate.proofs.reading.read_moves.Given as goal
+
+-- the lines that are left say after the moves so far what all lines say
+abbrev pub invariant-loop-line : goal.invariant-loop-line
+invariant-loop-line l = record {
+  same : moves_from (record { first = l.first; rest = l.moves.items }) l.number (parts_of l.rest) ≡ moves_from (record { first = l.fn.first; rest = [] }) 3 (parts_of l.bytes);
+  few : l.number + length l.rest ≤ length l.bytes + 3;
+}
+
+abbrev pub decreases-loop-line : goal.decreases-loop-line
+decreases-loop-line l = length l.rest

@@ -1,0 +1,8 @@
+use Rattle.std.proofs.Common.{◌∙◌, ap, sym}
+use Rattle.certificate.specs.Faults.{after_first, parts_of}
+use Rattle.certificate.proofs.LineSteps.{string_first}
+use Rattle.certificate.proofs.reading.read_string.Goals as goal
+
+pub returns-in-None : goal.returns-in-None
+returns-in-None c =
+    string_first c.args.bytes.now c.in-Some.line.now c.in-Some.rest.now c.in-Some.ensures.line.parts ∙ ap (λ o. after_first o (parts_of c.in-Some.rest.now)) (sym c.in_ok-first.ensures ∙ c.in-None.is)

@@ -1,0 +1,105 @@
+-- What a line says, where it has a form: its words, and the numbers that they spell.
+use Rattle.std.specs.Prelude.{ℕ, ◌+◌, ◌-◌, ◌*◌, Bool, not, ◌&&◌, ◌||◌, ◌==◌, nat_lt, if◌then◌else◌, List, [], ◌∷◌, length, map, slice_index, codes, Option, Some, None}
+use Rattle.std.specs.List.{slice_split, list_all, list_any, before_first, after_first}
+use Rattle.std.specs.Option.{option_map, option_and_then}
+use Rattle.std.specs.Str.{bytes_eq}
+use Rattle.std.specs.Char.{is_ascii_digit}
+use Rattle.kat_model.specs.Steps.{Atom}
+use Rattle.kat_model.specs.Strings.{Move}
+use Rattle.certificate.specs.declared.nodes.TestNode.{TestNode}
+use Rattle.certificate.specs.declared.nodes.TestNode.TheVariants.{False, True, Prim, Not, And, Or}
+use Rattle.certificate.specs.declared.nodes.TermNode.{TermNode}
+use Rattle.certificate.specs.declared.nodes.TermNode.TheVariants.{Zero, One, Test, Act, Sum, Seq, Star}
+use Rattle.certificate.specs.declared.entry.Entry.{Entry}
+use Rattle.certificate.specs.declared.entry.Entry.TheVariants.{TestLine, TermLine, PairLine}
+use Rattle.certificate.specs.Nodes.{NumberPair}
+
+-- the words of a line, which single blanks separate
+abbrev pub words_of : List ℕ → List (List ℕ)
+words_of line = slice_split (λ b. b == 32) line
+
+-- `0`, or a digit other than 0 followed by digits
+abbrev pub is_numeral : List ℕ → Bool
+is_numeral w = nat_lt 0 (length w) && ((not (slice_index w 0 == 48) || (length w == 1)) && list_all is_ascii_digit w)
+
+abbrev pub value_from : ℕ → List ℕ → ℕ
+value_from n [] = n
+value_from n (c ∷ cs) = value_from (10 * n + (c - 48)) cs
+
+abbrev pub value_of : List ℕ → ℕ
+value_of w = value_from 0 w
+
+-- the numbers that words spell, where each is a numeral
+abbrev pub numbers_of : List (List ℕ) → Option (List ℕ)
+numbers_of ws = if list_all is_numeral ws then Some (map value_of ws) else None
+
+-- the node of a name and of the numbers after it
+abbrev pub test_node_of : List ℕ → List ℕ → Option TestNode
+test_node_of name [] = if bytes_eq name (codes "false") then Some False else (if bytes_eq name (codes "true") then Some True else None)
+test_node_of name (x ∷ []) = if bytes_eq name (codes "prim") then Some (Prim x) else (if bytes_eq name (codes "not") then Some (Not x) else None)
+test_node_of name (x ∷ y ∷ []) = if bytes_eq name (codes "and") then Some (And x y) else (if bytes_eq name (codes "or") then Some (Or x y) else None)
+test_node_of name (x ∷ y ∷ z ∷ ks) = None
+
+abbrev pub term_node_of : List ℕ → List ℕ → Option TermNode
+term_node_of name [] = if bytes_eq name (codes "zero") then Some Zero else (if bytes_eq name (codes "one") then Some One else None)
+term_node_of name (x ∷ []) =
+    if bytes_eq name (codes "test") then Some (Test x)
+    else (if bytes_eq name (codes "act") then Some (Act x) else (if bytes_eq name (codes "star") then Some (Star x) else None))
+term_node_of name (x ∷ y ∷ []) = if bytes_eq name (codes "sum") then Some (Sum x y) else (if bytes_eq name (codes "seq") then Some (Seq x y) else None)
+term_node_of name (x ∷ y ∷ z ∷ ks) = None
+
+abbrev pub is_bar : List ℕ → Bool
+is_bar w = bytes_eq w (codes "|")
+
+-- two sets of numbers, before the first bar and after it
+abbrev pub both_sets : Option (List ℕ) → Option (List ℕ) → Option NumberPair
+both_sets None right = None
+both_sets (Some ks) None = None
+both_sets (Some ks) (Some ls) = Some (record { left = ks; right = ls })
+
+abbrev pub pair_of : List (List ℕ) → Option NumberPair
+pair_of ws = if list_any is_bar ws then both_sets (numbers_of (before_first is_bar ws)) (numbers_of (after_first is_bar ws)) else None
+
+-- a test node, a term node or a pair, by the first word
+abbrev pub entry_of_words : List (List ℕ) → Option Entry
+entry_of_words [] = None
+entry_of_words (kind ∷ []) = None
+entry_of_words (kind ∷ name ∷ ws) =
+    if bytes_eq kind (codes "T") then option_map TestLine (option_and_then (test_node_of name) (numbers_of ws))
+    else (if bytes_eq kind (codes "E") then option_map TermLine (option_and_then (term_node_of name) (numbers_of ws))
+    else (if bytes_eq kind (codes "P") then option_map PairLine (pair_of (name ∷ ws)) else None))
+
+abbrev pub entry_of : List ℕ → Option Entry
+entry_of line = entry_of_words (words_of line)
+
+-- the truth values that no word spells, or one word of bits
+abbrev pub is_bit : ℕ → Bool
+is_bit c = c == 48 || c == 49
+
+abbrev pub bits_of : List ℕ → Option Atom
+bits_of w = if nat_lt 0 (length w) && list_all is_bit w then Some (map (λ c. c == 49) w) else None
+
+abbrev pub atom_of_words : List (List ℕ) → Option Atom
+atom_of_words [] = Some []
+atom_of_words (w ∷ []) = bits_of w
+atom_of_words (w ∷ v ∷ ws) = None
+
+-- the first atom of a string
+abbrev pub first_of_words : List (List ℕ) → Option Atom
+first_of_words [] = None
+first_of_words (kind ∷ ws) = if bytes_eq kind (codes "A") then atom_of_words ws else None
+
+abbrev pub first_of : List ℕ → Option Atom
+first_of line = first_of_words (words_of line)
+
+-- a move of a string: an action, and the atom after it
+abbrev pub move_after : List ℕ → List (List ℕ) → Option Move
+move_after act ws = if is_numeral act then option_map (λ atom. record { act = value_of act; atom = atom }) (atom_of_words ws) else None
+
+abbrev pub move_of_words : List (List ℕ) → Option Move
+move_of_words [] = None
+move_of_words (kind ∷ []) = None
+move_of_words (kind ∷ act ∷ ws) = if bytes_eq kind (codes "M") then move_after act ws else None
+
+abbrev pub move_of : List ℕ → Option Move
+move_of line = move_of_words (words_of line)

@@ -1,0 +1,9 @@
+pub mod Nodes
+pub mod Certs
+pub mod Texts
+pub mod Forms
+pub mod Faults
+pub mod Readings
+pub mod Writings
+pub mod Accepted
+pub mod Laws

@@ -1,0 +1,79 @@
+//! Certificates.
+ghost use Rattle.std.specs.Prelude.{◌≡◌};
+ghost use Rattle.certificate.specs.Certs.{cert_of, IsCert};
+
+use crate::nodes::{Pair, Style, TermNode, TestNode};
+use std::marker::Model;
+
+/// A certificate that two terms are the same: nodes of tests and terms, and pairs of sets of terms. A node
+/// names only earlier nodes of its list, and test nodes where it is `Test`; no node stands twice in a list;
+/// the sets of a pair name term nodes, in strictly ascending order.
+#[derive(Drop)]
+pub struct Cert {
+    style: Style,
+    test_nodes: Vec<TestNode>,
+    term_nodes: Vec<TermNode>,
+    pairs: Vec<Pair>,
+}
+
+impl Model for Cert {
+    ghost use Rattle.certificate.specs.Certs.{CertParts, cert_of, IsCert};
+
+    ghost Value = { CertParts };
+
+    ghost view = { λ c. cert_of c.style c.test_nodes.items c.term_nodes.items c.pairs.items };
+
+    ghost invariant = { λ c. IsCert (cert_of c.style c.test_nodes.items c.term_nodes.items c.pairs.items) };
+}
+
+impl Cert {
+    /// The certificate of these parts, which keep its rules. It takes no memory.
+    pub fn of_parts(
+        style: Style,
+        test_nodes: Vec<TestNode>,
+        term_nodes: Vec<TermNode>,
+        pairs: Vec<Pair>,
+    ) -> Cert
+        requires { IsCert (cert_of style test_nodes.items term_nodes.items pairs.items) }
+        ensures { result ≡ cert_of style test_nodes.items term_nodes.items pairs.items }
+    {
+        Cert {
+            style,
+            test_nodes,
+            term_nodes,
+            pairs,
+        }
+    }
+
+    /// How the successors of a pair are told.
+    pub fn style(&self) -> Style
+        ensures value { result ≡ self.now.style }
+        ensures rules { IsCert self.now }
+    {
+        self.style
+    }
+
+    /// The test nodes.
+    pub fn test_nodes(&self) -> &[TestNode]
+        ensures value { result.now ≡ self.now.test_nodes }
+        ensures rules { IsCert self.now }
+    {
+        &self.test_nodes
+    }
+
+    /// The term nodes.
+    pub fn term_nodes(&self) -> &[TermNode]
+        ensures value { result.now ≡ self.now.term_nodes }
+        ensures rules { IsCert self.now }
+    {
+        &self.term_nodes
+    }
+
+    /// The pairs of sets of terms. The first is that of both sides.
+    pub fn pairs(&self) -> &[Pair]
+        ensures value { result.now ≡ self.now.pairs }
+        ensures rules { IsCert self.now }
+    {
+        &self.pairs
+    }
+}

@@ -1,0 +1,217 @@
+//! A certificate that is being read.
+ghost use Rattle.std.specs.Prelude.{◌≡◌, ◌↔◌, ◌∷◌, ◌&&◌, ◌++◌, false, Some, IsTrue, IfOk, OnOk};
+ghost use Rattle.std.specs.Map.{keys_of};
+ghost use Rattle.kat_model.specs.Members.{Has, SameMembers};
+ghost use Rattle.certificate.specs.Nodes.{test_parts, term_parts, tests_of_term, are_below, are_ascending};
+ghost use Rattle.certificate.specs.Forms.{entry_of};
+ghost use Rattle.certificate.specs.Faults.{no_entries, may_stand, is_wide, names_earlier};
+ghost use Rattle.certificate.specs.Readings.{draft_parts, IsDraft, MayBeAdded, AddsEntry};
+ghost use Rattle.certificate.specs.declared.entry.Entry.TheVariants.{TestLine, TermLine, PairLine};
+
+use crate::cert::Cert;
+use crate::entry::{Entry, LineFault, Section, read_entry};
+use crate::evidence::EvidenceFault;
+use crate::nodes::{Pair, Style, TermNode, TestNode};
+use kat_model::NoMemory;
+use std::alloc::Global;
+use std::collections::BTreeMap;
+
+// The entries so far. The maps have the nodes as their keys, so that an equal node is found fast.
+#[derive(Drop)]
+pub(crate) struct Draft {
+    style: Style,
+    test_nodes: Vec<TestNode>,
+    term_nodes: Vec<TermNode>,
+    pairs: Vec<Pair>,
+    known_tests: BTreeMap<TestNode, ()>,
+    known_terms: BTreeMap<TermNode, ()>,
+}
+
+fn all_below(numbers: &[usize], count: usize) -> bool
+    ensures { result ≡ are_below count numbers.now }
+{
+    numbers.iter().all(|k| *k < count)
+}
+
+fn is_ascending(numbers: &[usize]) -> bool
+    ensures { result ≡ are_ascending numbers.now }
+{
+    for i in 1..numbers.len() {
+        if numbers[i - 1] >= numbers[i] {
+            return false;
+        }
+    }
+    true
+}
+
+fn test_names_earlier(node: TestNode, count: usize) -> bool
+    ensures { result ≡ are_below count (test_parts node) }
+{
+    match node {
+        TestNode::False | TestNode::True | TestNode::Prim(_) => true,
+        TestNode::Not(x) => x < count,
+        TestNode::And(x, y) | TestNode::Or(x, y) => x < count && y < count,
+    }
+}
+
+fn term_names_earlier(node: TermNode, tests: usize, terms: usize) -> bool
+    ensures { result ≡ (are_below tests (tests_of_term node) && are_below terms (term_parts node)) }
+{
+    match node {
+        TermNode::Zero | TermNode::One | TermNode::Act(_) => true,
+        TermNode::Test(x) => x < tests,
+        TermNode::Sum(x, y) | TermNode::Seq(x, y) => x < terms && y < terms,
+        TermNode::Star(x) => x < terms,
+    }
+}
+
+// Notes the node, and answers whether it was known.
+fn note_test(known: &mut BTreeMap<TestNode, ()>, node: TestNode) -> Result<bool, NoMemory>
+    ensures was { IfOk result (λ was. IsTrue was ↔ Has (keys_of known.old.entries) node) }
+    ensures now { OnOk result (SameMembers (keys_of known.new.entries) (node ∷ keys_of known.old.entries)) }
+{
+    Ok(known.insert(node, ())?.is_some())
+}
+
+fn note_term(known: &mut BTreeMap<TermNode, ()>, node: TermNode) -> Result<bool, NoMemory>
+    ensures was { IfOk result (λ was. IsTrue was ↔ Has (keys_of known.old.entries) node) }
+    ensures now { OnOk result (SameMembers (keys_of known.new.entries) (node ∷ keys_of known.old.entries)) }
+{
+    Ok(known.insert(node, ())?.is_some())
+}
+
+impl Draft {
+    pub(crate) fn new(alloc: Global, style: Style) -> Draft
+        ensures entries { draft_parts result ≡ no_entries style }
+        ensures draft { IsDraft result }
+    {
+        Draft {
+            style,
+            test_nodes: Vec::new(alloc),
+            term_nodes: Vec::new(alloc),
+            pairs: Vec::new(alloc),
+            known_tests: BTreeMap::new(alloc),
+            known_terms: BTreeMap::new(alloc),
+        }
+    }
+
+    // The certificate of the entries.
+    pub(crate) fn into_cert(self) -> Cert
+        requires { IsDraft self }
+        ensures { result ≡ draft_parts self }
+    {
+        let Draft {
+            style,
+            test_nodes,
+            term_nodes,
+            pairs,
+            known_tests: _,
+            known_terms: _,
+        } = self;
+        Cert::of_parts(style, test_nodes, term_nodes, pairs)
+    }
+
+    fn may_stand(&self, section: Section) -> bool
+        ensures { result ≡ may_stand (draft_parts self.now) section }
+    {
+        match section {
+            Section::Tests => self.term_nodes.is_empty() && self.pairs.is_empty(),
+            Section::Terms => self.pairs.is_empty(),
+            Section::Pairs => true,
+        }
+    }
+
+    fn names_earlier(&self, entry: &Entry) -> bool
+        ensures { result ≡ names_earlier (draft_parts self.now) entry.now }
+    {
+        let tests = self.test_nodes.len();
+        let terms = self.term_nodes.len();
+        match entry {
+            Entry::TestLine(node) => test_names_earlier(*node, tests),
+            Entry::TermLine(node) => term_names_earlier(*node, tests, terms),
+            Entry::PairLine(pair) => {
+                all_below(pair.left.as_slice(), terms) && all_below(pair.right.as_slice(), terms)
+            }
+        }
+    }
+
+    fn add_test(&mut self, node: TestNode, number: u64) -> Result<(), EvidenceFault>
+        requires draft { IsDraft self.old }
+        requires tested { MayBeAdded self.old (TestLine node) }
+        ensures { AddsEntry self.old number (Some (TestLine node)) self.new result }
+    {
+        if note_test(&mut self.known_tests, node)? {
+            return Err(EvidenceFault::DoubleNode(number));
+        }
+        self.test_nodes.push(node)?;
+        Ok(())
+    }
+
+    fn add_term(&mut self, node: TermNode, number: u64) -> Result<(), EvidenceFault>
+        requires draft { IsDraft self.old }
+        requires tested { MayBeAdded self.old (TermLine node) }
+        ensures { AddsEntry self.old number (Some (TermLine node)) self.new result }
+    {
+        if note_term(&mut self.known_terms, node)? {
+            return Err(EvidenceFault::DoubleNode(number));
+        }
+        self.term_nodes.push(node)?;
+        Ok(())
+    }
+
+    fn add_pair(&mut self, pair: Pair, number: u64) -> Result<(), EvidenceFault>
+        requires draft { IsDraft self.old }
+        requires tested { MayBeAdded self.old (PairLine pair) }
+        ensures { AddsEntry self.old number (Some (PairLine pair)) self.new result }
+    {
+        if !is_ascending(pair.left.as_slice()) {
+            return Err(EvidenceFault::SetOrder(number));
+        }
+        if !is_ascending(pair.right.as_slice()) {
+            return Err(EvidenceFault::SetOrder(number));
+        }
+        self.pairs.push(pair)?;
+        Ok(())
+    }
+
+    fn add_entry(&mut self, entry: Entry, number: u64) -> Result<(), EvidenceFault>
+        requires draft { IsDraft self.old }
+        requires narrow { is_wide entry ≡ false }
+        ensures { AddsEntry self.old number (Some entry) self.new result }
+    {
+        if !self.may_stand(entry.section()) {
+            return Err(EvidenceFault::Line(number));
+        }
+        if !self.names_earlier(&entry) {
+            return Err(EvidenceFault::NodeOrder(number));
+        }
+        match entry {
+            Entry::TestLine(node) => self.add_test(node, number),
+            Entry::TermLine(node) => self.add_term(node, number),
+            Entry::PairLine(pair) => self.add_pair(pair, number),
+        }
+    }
+
+    // Adds the entry of the line of this number. After a fault the draft is of no use.
+    pub(crate) fn add(
+        &mut self,
+        alloc: Global,
+        line: &[u8],
+        number: u64,
+    ) -> Result<(), EvidenceFault>
+        requires { IsDraft self.old }
+        ensures { AddsEntry self.old number (entry_of line.now) self.new result }
+    {
+        match read_entry(alloc, line) {
+            Ok(entry) => self.add_entry(entry, number),
+            Err(LineFault::NoMemory) => Err(EvidenceFault::NoMemory),
+            Err(LineFault::Form) => Err(EvidenceFault::Line(number)),
+            Err(LineFault::Wide(section)) => {
+                if self.may_stand(section) {
+                    return Err(EvidenceFault::NumberTooWide(number));
+                }
+                Err(EvidenceFault::Line(number))
+            }
+        }
+    }
+}

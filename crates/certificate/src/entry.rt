@@ -1,0 +1,232 @@
+//! The entries of a certificate, each on a line: test nodes, term nodes and pairs.
+ghost use Rattle.std.specs.Prelude.{◌≡◌, ◌∷◌, IfOk, position};
+ghost use Rattle.std.specs.Option.{option_map, option_and_then};
+ghost use Rattle.certificate.specs.Forms.{numbers_of, test_node_of, term_node_of, is_bar, pair_of, entry_of_words, entry_of};
+ghost use Rattle.certificate.specs.Faults.{section_of};
+ghost use Rattle.certificate.specs.Readings.{texts, ReadsEntry};
+ghost use Rattle.certificate.specs.declared.entry.Entry.TheVariants.{TestLine, TermLine, PairLine};
+ghost use Rattle.certificate.specs.declared.entry.LineFault.TheVariants.{NoMemory as NoRoom};
+
+use crate::nodes::{Pair, TermNode, TestNode};
+use crate::words::{read_numbers, words_of};
+use kat_model::NoMemory;
+use std::alloc::Global;
+use string_tables::Items;
+
+// What a line of a certificate says.
+#[derive(Drop)]
+pub(crate) enum Entry {
+    TestLine(TestNode),
+    TermLine(TermNode),
+    PairLine(Pair),
+}
+
+// The parts of a certificate, in the order in which they stand.
+#[derive(Clone, Copy)]
+pub(crate) enum Section {
+    Tests,
+    Terms,
+    Pairs,
+}
+
+// Why a line is not read.
+#[derive(Clone, Copy)]
+pub(crate) enum LineFault {
+    NoMemory,
+    Form,
+    Wide(Section),
+}
+
+impl From<NoMemory> for LineFault {
+    ghost from_gives = { λ _ fault. fault ≡ NoRoom };
+
+    fn from(_: NoMemory) -> Self {
+        LineFault::NoMemory
+    }
+}
+
+impl Entry {
+    pub(crate) fn section(&self) -> Section
+        ensures { result ≡ section_of self.now }
+    {
+        match self {
+            Entry::TestLine(_) => Section::Tests,
+            Entry::TermLine(_) => Section::Terms,
+            Entry::PairLine(_) => Section::Pairs,
+        }
+    }
+}
+
+// The test node of this name and these numbers.
+fn test_node(name: &[u8], numbers: &[usize]) -> Option<TestNode>
+    ensures { result ≡ test_node_of name.now numbers.now }
+{
+    match numbers {
+        [] => {
+            if name == b"false".as_slice() {
+                return Some(TestNode::False);
+            }
+            if name == b"true".as_slice() {
+                return Some(TestNode::True);
+            }
+            None
+        }
+        [x] => {
+            if name == b"prim".as_slice() {
+                return Some(TestNode::Prim(*x));
+            }
+            if name == b"not".as_slice() {
+                return Some(TestNode::Not(*x));
+            }
+            None
+        }
+        [x, y] => {
+            if name == b"and".as_slice() {
+                return Some(TestNode::And(*x, *y));
+            }
+            if name == b"or".as_slice() {
+                return Some(TestNode::Or(*x, *y));
+            }
+            None
+        }
+        _ => None,
+    }
+}
+
+// The term node of this name and these numbers.
+fn term_node(name: &[u8], numbers: &[usize]) -> Option<TermNode>
+    ensures { result ≡ term_node_of name.now numbers.now }
+{
+    match numbers {
+        [] => {
+            if name == b"zero".as_slice() {
+                return Some(TermNode::Zero);
+            }
+            if name == b"one".as_slice() {
+                return Some(TermNode::One);
+            }
+            None
+        }
+        [x] => {
+            if name == b"test".as_slice() {
+                return Some(TermNode::Test(*x));
+            }
+            if name == b"act".as_slice() {
+                return Some(TermNode::Act(*x));
+            }
+            if name == b"star".as_slice() {
+                return Some(TermNode::Star(*x));
+            }
+            None
+        }
+        [x, y] => {
+            if name == b"sum".as_slice() {
+                return Some(TermNode::Sum(*x, *y));
+            }
+            if name == b"seq".as_slice() {
+                return Some(TermNode::Seq(*x, *y));
+            }
+            None
+        }
+        _ => None,
+    }
+}
+
+fn test_line(alloc: Global, name: &[u8], words: &[&[u8]]) -> Result<Entry, LineFault>
+    ensures { ReadsEntry (option_map TestLine (option_and_then (test_node_of name.now) (numbers_of (texts words.now)))) result }
+{
+    let Some(numbers) = read_numbers(alloc, words)? else {
+        return Err(LineFault::Form);
+    };
+    match test_node(name, &numbers.values) {
+        None => Err(LineFault::Form),
+        Some(node) => {
+            if numbers.wide {
+                return Err(LineFault::Wide(Section::Tests));
+            }
+            Ok(Entry::TestLine(node))
+        }
+    }
+}
+
+fn term_line(alloc: Global, name: &[u8], words: &[&[u8]]) -> Result<Entry, LineFault>
+    ensures { ReadsEntry (option_map TermLine (option_and_then (term_node_of name.now) (numbers_of (texts words.now)))) result }
+{
+    let Some(numbers) = read_numbers(alloc, words)? else {
+        return Err(LineFault::Form);
+    };
+    match term_node(name, &numbers.values) {
+        None => Err(LineFault::Form),
+        Some(node) => {
+            if numbers.wide {
+                return Err(LineFault::Wide(Section::Terms));
+            }
+            Ok(Entry::TermLine(node))
+        }
+    }
+}
+
+fn is_bar(word: &[u8]) -> bool
+    ensures { result ≡ is_bar word.now }
+{
+    word == b"|".as_slice()
+}
+
+fn bar_place(words: &[&[u8]]) -> Option<usize>
+    ensures { result ≡ position (λ w. is_bar w.now) words.now }
+{
+    words.iter().position(|word| is_bar(word))
+}
+
+fn pair_line(alloc: Global, words: &[&[u8]]) -> Result<Entry, LineFault>
+    ensures { ReadsEntry (option_map PairLine (pair_of (texts words.now))) result }
+{
+    let Some(bar) = bar_place(words) else {
+        return Err(LineFault::Form);
+    };
+    let Some(left) = read_numbers(alloc, &words[..bar])? else {
+        return Err(LineFault::Form);
+    };
+    let Some(right) = read_numbers(alloc, &words[bar + 1..])? else {
+        return Err(LineFault::Form);
+    };
+    if left.wide {
+        return Err(LineFault::Wide(Section::Pairs));
+    }
+    if right.wide {
+        return Err(LineFault::Wide(Section::Pairs));
+    }
+    Ok(Entry::PairLine(Pair {
+        left: Items::of(left.values),
+        right: Items::of(right.values),
+    }))
+}
+
+// The entry of words.
+fn entry_of_words(alloc: Global, words: &[&[u8]]) -> Result<Entry, LineFault>
+    ensures { ReadsEntry (entry_of_words (texts words.now)) result }
+{
+    match words {
+        [kind, name, rest @ ..] => {
+            if *kind == b"T".as_slice() {
+                return test_line(alloc, name, rest);
+            }
+            if *kind == b"E".as_slice() {
+                return term_line(alloc, name, rest);
+            }
+            if *kind == b"P".as_slice() {
+                return pair_line(alloc, &words[1..]);
+            }
+            Err(LineFault::Form)
+        }
+        _ => Err(LineFault::Form),
+    }
+}
+
+// The entry of a line.
+pub(crate) fn read_entry(alloc: Global, line: &[u8]) -> Result<Entry, LineFault>
+    ensures { ReadsEntry (entry_of line.now) result }
+{
+    let words = words_of(alloc, line)?;
+    entry_of_words(alloc, &words)
+}

@@ -1,0 +1,64 @@
+//! Evidence, and what is wrong with a text that is none.
+ghost use Rattle.std.specs.Prelude.{◌≡◌};
+ghost use Rattle.certificate.specs.declared.evidence.EvidenceFault.TheVariants.{NoMemory as NoRoom};
+
+use crate::cert::Cert;
+use kat_model::NoMemory;
+use std::alloc::{AllocError, AllocFailed};
+use string_tables::GString;
+
+/// What shows an answer.
+#[derive(Drop)]
+pub enum Evidence {
+    /// A certificate that both sides are the same.
+    Equal(Cert),
+    /// A string that refutes that they are the same.
+    Different(GString),
+}
+
+/// The first fault of a text that is not the text of evidence. Lines are counted from 1.
+#[derive(Clone, Copy, Debug, PartialEq, Eq)]
+pub enum EvidenceFault {
+    /// Memory ran out.
+    NoMemory,
+    /// Line 1 is none of `kat 1 equal`, `kat 2 equal` and `kat 1 different`.
+    Header,
+    /// The line has none of the forms that may stand there.
+    Line(u64),
+    /// The line names a node that is not earlier, or a pair names a node that is not there.
+    NodeOrder(u64),
+    /// The node of the line equals an earlier one of its sort.
+    DoubleNode(u64),
+    /// A set of the line is not strictly ascending.
+    SetOrder(u64),
+    /// A numeral of the line is 2^64 or more.
+    NumberTooWide(u64),
+    /// The text ends before a complete line `end`.
+    Truncated,
+    /// Bytes follow the line `end`: this is the number of the line after it.
+    Trailing(u64),
+}
+
+impl From<NoMemory> for EvidenceFault {
+    ghost from_gives = { λ _ fault. fault ≡ NoRoom };
+
+    fn from(_: NoMemory) -> Self {
+        EvidenceFault::NoMemory
+    }
+}
+
+impl From<AllocError> for EvidenceFault {
+    ghost from_gives = { λ _ fault. fault ≡ NoRoom };
+
+    fn from(_: AllocError) -> Self {
+        EvidenceFault::NoMemory
+    }
+}
+
+impl<T: Drop> From<AllocFailed<T>> for EvidenceFault {
+    ghost from_gives = { λ _ fault. fault ≡ NoRoom };
+
+    fn from(_: AllocFailed<T>) -> Self {
+        EvidenceFault::NoMemory
+    }
+}

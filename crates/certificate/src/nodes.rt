@@ -1,0 +1,51 @@
+//! Nodes of tests and terms, and pairs of sets of terms.
+use std::marker::Model;
+use string_tables::Items;
+
+/// How the successors of a pair are told by the pairs that are listed.
+#[derive(Clone, Copy, Debug, PartialEq, Eq)]
+pub enum Style {
+    /// Each is a listed pair (bisimulation; Hopcroft and Karp 1971).
+    Plain,
+    /// Each is made one set by the listed pairs (up to congruence; Bonchi and Pous 2013).
+    UpTo,
+}
+
+/// A node of a test. The numbers of `Not`, `And` and `Or` are those of earlier test nodes, from 0.
+#[derive(Clone, Copy, Debug, PartialEq, Eq, PartialOrd, Ord, Hash)]
+pub enum TestNode {
+    False,
+    True,
+    Prim(usize),
+    Not(usize),
+    And(usize, usize),
+    Or(usize, usize),
+}
+
+/// A node of a term. The number of `Test` is that of a test node, those of `Sum`, `Seq` and `Star` are of
+/// earlier term nodes, from 0.
+#[derive(Clone, Copy, Debug, PartialEq, Eq, PartialOrd, Ord, Hash)]
+pub enum TermNode {
+    Zero,
+    One,
+    Test(usize),
+    Act(usize),
+    Sum(usize, usize),
+    Seq(usize, usize),
+    Star(usize),
+}
+
+/// Two sets of terms, by the numbers of their nodes.
+#[derive(Drop)]
+pub struct Pair {
+    pub left: Items<usize>,
+    pub right: Items<usize>,
+}
+
+impl Model for Pair {
+    ghost use Rattle.certificate.specs.Nodes.{NumberPair};
+
+    ghost Value = { NumberPair };
+
+    ghost view = { λ p. record { left = p.left; right = p.right } };
+}

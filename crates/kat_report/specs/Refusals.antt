@@ -1,0 +1,48 @@
+-- The line that tells why a text is refused.
+use Rattle.std.specs.Prelude.{ℕ, List, [], ◌∷◌, ◌++◌, codes, Option, Some, None}
+use Rattle.std.specs.Fmt.{decimal}
+use Rattle.kat_tokens.specs.declared.fault.TextFault.{TextFault}
+use Rattle.kat_tokens.specs.declared.fault.TextFault.TheVariants.{NoMemory, TooLong, NotUtf8, BadToken, Syntax, TooDeep, NumberTooWide, UnknownName, DoubleName, Sort, TooLarge, TooMany, NoGoal, TwoGoals, NotYet}
+
+abbrev pub fault_word : TextFault → List ℕ
+fault_word NoMemory = codes "NoMemory"
+fault_word TooLong = codes "TooLong"
+fault_word (NotUtf8 at) = codes "NotUtf8"
+fault_word (BadToken at) = codes "BadToken"
+fault_word (Syntax at) = codes "Syntax"
+fault_word (TooDeep at) = codes "TooDeep"
+fault_word (NumberTooWide at) = codes "NumberTooWide"
+fault_word (UnknownName at) = codes "UnknownName"
+fault_word (DoubleName at) = codes "DoubleName"
+fault_word (Sort at) = codes "Sort"
+fault_word (TooLarge at) = codes "TooLarge"
+fault_word (TooMany at) = codes "TooMany"
+fault_word NoGoal = codes "NoGoal"
+fault_word (TwoGoals at) = codes "TwoGoals"
+fault_word NotYet = codes "NotYet"
+
+abbrev pub fault_place : TextFault → Option ℕ
+fault_place NoMemory = None
+fault_place TooLong = None
+fault_place (NotUtf8 at) = Some at
+fault_place (BadToken at) = Some at
+fault_place (Syntax at) = Some at
+fault_place (TooDeep at) = Some at
+fault_place (NumberTooWide at) = Some at
+fault_place (UnknownName at) = Some at
+fault_place (DoubleName at) = Some at
+fault_place (Sort at) = Some at
+fault_place (TooLarge at) = Some at
+fault_place (TooMany at) = Some at
+fault_place NoGoal = None
+fault_place (TwoGoals at) = Some at
+fault_place NotYet = None
+
+-- a place after a space, where there is one
+abbrev pub place_text : Option ℕ → List ℕ
+place_text None = []
+place_text (Some at) = 32 ∷ decimal at
+
+-- `refused: WORD`, the place, and a line feed
+abbrev pub text_fault_line : TextFault → List ℕ
+text_fault_line fault = codes "refused: " ++ fault_word fault ++ place_text (fault_place fault) ++ 10 ∷ []

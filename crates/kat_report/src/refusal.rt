@@ -1,0 +1,64 @@
+//! Why a text is refused, as a line.
+ghost use Rattle.std.specs.Prelude.{◌≡◌, ◌≢◌, codes, IfOk};
+ghost use Rattle.kat_report.specs.Refusals.{fault_word, fault_place, text_fault_line, place_text};
+
+use kat_model::NoMemory;
+use kat_tokens::TextFault;
+use std::alloc::Global;
+use std::fmt::Write;
+
+fn word(fault: &TextFault) -> &'static str
+    ensures { result.now ≡ fault_word fault.now }
+{
+    match fault {
+        TextFault::NoMemory => "NoMemory",
+        TextFault::TooLong => "TooLong",
+        TextFault::NotUtf8(_) => "NotUtf8",
+        TextFault::BadToken(_) => "BadToken",
+        TextFault::Syntax(_) => "Syntax",
+        TextFault::TooDeep(_) => "TooDeep",
+        TextFault::NumberTooWide(_) => "NumberTooWide",
+        TextFault::UnknownName(_) => "UnknownName",
+        TextFault::DoubleName(_) => "DoubleName",
+        TextFault::Sort(_) => "Sort",
+        TextFault::TooLarge(_) => "TooLarge",
+        TextFault::TooMany(_) => "TooMany",
+        TextFault::NoGoal => "NoGoal",
+        TextFault::TwoGoals(_) => "TwoGoals",
+        TextFault::NotYet => "NotYet",
+    }
+}
+
+fn place(fault: &TextFault) -> Option<usize>
+    ensures { result ≡ fault_place fault.now }
+{
+    match fault {
+        TextFault::NoMemory | TextFault::TooLong | TextFault::NoGoal | TextFault::NotYet => None,
+        TextFault::NotUtf8(at)
+        | TextFault::BadToken(at)
+        | TextFault::Syntax(at)
+        | TextFault::TooDeep(at)
+        | TextFault::NumberTooWide(at)
+        | TextFault::UnknownName(at)
+        | TextFault::DoubleName(at)
+        | TextFault::Sort(at)
+        | TextFault::TooLarge(at)
+        | TextFault::TooMany(at)
+        | TextFault::TwoGoals(at) => Some(*at),
+    }
+}
+
+/// The line that tells why a text is refused: `refused: WORD`, and a space and the place in bytes where there is one.
+/// The only refusal is want of memory.
+pub fn text_fault_line(alloc: Global, fault: &TextFault) -> Result<Vec<u8>, NoMemory>
+    requires { fault.now ≢ TextFault.NoMemory }
+    ensures { IfOk result (λ line. line.items ≡ text_fault_line fault.now) }
+{
+    let mut line = b"refused: ".to_vec(alloc)?;
+    line.extend_from_slice(word(fault).as_bytes())?;
+    if let Some(at) = place(fault) {
+        line.extend_from_slice(format!(in alloc; " {at}")?.as_bytes())?;
+    }
+    line.push(b'\n')?;
+    Ok(line)
+}

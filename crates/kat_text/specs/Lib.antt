@@ -1,0 +1,10 @@
+pub mod Sizes
+pub mod Worlds
+pub mod Names
+pub mod Definitions
+pub mod Building
+pub mod Measuring
+pub mod Readings
+pub mod Sound
+pub mod Printing
+pub mod Laws

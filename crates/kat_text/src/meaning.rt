@@ -1,0 +1,16 @@
+//! What a name can stand for.
+
+/// What a name stands for, by its number among those of its kind.
+#[derive(Clone, Copy, Debug, PartialEq, Eq, PartialOrd, Ord)]
+pub enum Meaning {
+    /// A primitive test.
+    Test(usize),
+    /// A primitive action.
+    Action(usize),
+    /// A variable of the store.
+    Var(usize),
+    /// A defined term.
+    Term(usize),
+    /// A program.
+    Prog(usize),
+}

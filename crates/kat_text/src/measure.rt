@@ -1,0 +1,225 @@
+//! The faults of the names of a phrase, and how large and how deep it is.
+ghost use Rattle.std.specs.Prelude.{◌≡◌, slice_get};
+ghost use Rattle.kat_syntax.specs.Parsed.{Makes};
+ghost use Rattle.kat_text.specs.Worlds.{meaning};
+ghost use Rattle.kat_text.specs.Measuring.{number_extent, variable_extent, condition_extent, defined_extent, name_extent, extents};
+
+use crate::extent::{Extent, MOST_OPEN, limited};
+use crate::meaning::Meaning;
+use crate::scope::Scope;
+use kat_model::Rel;
+use kat_syntax::{Around, Operator, Reading};
+use kat_tokens::TextFault;
+
+// Measures a phrase, and refuses what may not stand in it.
+#[derive(Clone, Copy)]
+pub(crate) struct Measure<'a> {
+    pub(crate) scope: &'a Scope,
+}
+
+fn of_number(around: Around, at: usize) -> Result<Extent, TextFault>
+    ensures { result ≡ number_extent around at }
+{
+    if !around.compares {
+        return Err(TextFault::Sort(at));
+    }
+    Ok(limited(1, 0, 0))
+}
+
+fn of_variable(around: Around, at: usize, meaning: Option<Meaning>) -> Result<Extent, TextFault>
+    ensures { result ≡ variable_extent around at meaning }
+{
+    match meaning {
+        None => Err(TextFault::UnknownName(at)),
+        Some(Meaning::Var(_)) => of_number(around, at),
+        Some(_) => Err(TextFault::Sort(at)),
+    }
+}
+
+fn of_condition(at: usize, meaning: Option<Meaning>) -> Result<Extent, TextFault>
+    ensures { result ≡ condition_extent at meaning }
+{
+    match meaning {
+        None => Err(TextFault::UnknownName(at)),
+        Some(Meaning::Test(_)) => Ok(limited(1, 1, 0)),
+        Some(_) => Err(TextFault::Sort(at)),
+    }
+}
+
+fn of_definition(scope: &Scope, around: Around, at: usize, i: usize) -> Result<Extent, TextFault>
+    ensures { result ≡ defined_extent around at (slice_get scope.now.terms i) }
+{
+    let Some(definition) = scope.definition(i) else {
+        return Ok(limited(1, 1, 0));
+    };
+    if around.negated && !definition.testable {
+        return Err(TextFault::Sort(at));
+    }
+    if around.depth.saturating_add(definition.nesting) > MOST_OPEN {
+        return Err(TextFault::TooDeep(at));
+    }
+    Ok(definition.extent)
+}
+
+fn of_name(
+    scope: &Scope,
+    around: Around,
+    at: usize,
+    meaning: Option<Meaning>,
+) -> Result<Extent, TextFault>
+    ensures { result ≡ name_extent scope.now around at meaning }
+{
+    match meaning {
+        None => Err(TextFault::UnknownName(at)),
+        Some(Meaning::Test(_)) => Ok(limited(2, 1, 0)),
+        Some(Meaning::Action(_)) => {
+            if around.negated {
+                return Err(TextFault::Sort(at));
+            }
+            Ok(limited(1, 1, 0))
+        }
+        Some(Meaning::Term(i)) => of_definition(scope, around, at, i),
+        Some(_) => Err(TextFault::Sort(at)),
+    }
+}
+
+impl Reading for Measure<'_> {
+    type Expr = Extent;
+
+    type Cond = Extent;
+
+    type Conds = Extent;
+
+    type Term = Extent;
+
+    type Terms = Extent;
+
+    ghost use Rattle.kat_text.specs.declared.extent.Extent.{Extent};
+
+    ghost E = { Extent };
+
+    ghost B = { Extent };
+
+    ghost L = { Extent };
+
+    ghost T = { Extent };
+
+    ghost M = { Extent };
+
+    ghost memory = { ⊥ };
+
+    ghost expr = { λ m. m };
+
+    ghost cond = { λ m. m };
+
+    ghost conds = { λ m. m };
+
+    ghost term = { λ m. m };
+
+    ghost terms = { λ m. m };
+
+    ghost actions = { λ s. extents s.scope.now };
+
+    fn number(&self, around: Around, at: usize, _: u64) -> Result<Extent, TextFault> {
+        of_number(around, at)
+    }
+
+    fn variable(&self, around: Around, at: usize, name: &str) -> Result<Extent, TextFault> {
+        of_variable(around, at, self.scope.find(name))
+    }
+
+    fn join(&self, _: Operator, left: Extent, right: Extent) -> Result<Extent, TextFault> {
+        Ok(left.linked(right))
+    }
+
+    fn enclosed_expr(&self, inside: Extent) -> Extent {
+        inside.deeper()
+    }
+
+    fn always(&self) -> Extent {
+        limited(1, 1, 0)
+    }
+
+    fn never(&self) -> Extent {
+        limited(1, 1, 0)
+    }
+
+    fn named_cond(&self, _: Around, at: usize, name: &str) -> Result<Extent, TextFault> {
+        of_condition(at, self.scope.find(name))
+    }
+
+    fn compare(&self, _: Rel, left: Extent, right: Extent) -> Extent {
+        left.compare(right)
+    }
+
+    fn negated_cond(&self, operand: Extent) -> Result<Extent, TextFault> {
+        Ok(operand.topped().deeper())
+    }
+
+    fn enclosed_cond(&self, inside: Extent) -> Extent {
+        inside.deeper()
+    }
+
+    fn one_cond(&self, first: Extent) -> Result<Extent, TextFault> {
+        Ok(first)
+    }
+
+    fn more_conds(&self, list: Extent, next: Extent) -> Result<Extent, TextFault> {
+        Ok(list.linked(next))
+    }
+
+    fn all(&self, list: Extent) -> Result<Extent, TextFault> {
+        Ok(list)
+    }
+
+    fn any(&self, list: Extent) -> Result<Extent, TextFault> {
+        Ok(list)
+    }
+
+    fn zero(&self) -> Extent {
+        limited(1, 1, 0)
+    }
+
+    fn one(&self) -> Extent {
+        limited(1, 1, 0)
+    }
+
+    fn named_term(&self, around: Around, at: usize, name: &str) -> Result<Extent, TextFault> {
+        of_name(self.scope, around, at, self.scope.find(name))
+    }
+
+    fn negated_term(&self, operand: Extent) -> Result<Extent, TextFault> {
+        Ok(operand.negated())
+    }
+
+    fn tested(&self, inside: Extent) -> Result<Extent, TextFault> {
+        Ok(inside.tested())
+    }
+
+    fn enclosed_term(&self, inside: Extent) -> Extent {
+        inside.deeper()
+    }
+
+    fn starred(&self, around: Around, at: usize, operand: Extent) -> Result<Extent, TextFault> {
+        if around.negated {
+            return Err(TextFault::Sort(at));
+        }
+        Ok(operand.topped())
+    }
+
+    fn one_term(&self, first: Extent) -> Result<Extent, TextFault> {
+        Ok(first)
+    }
+
+    fn more_terms(&self, list: Extent, next: Extent) -> Result<Extent, TextFault> {
+        Ok(list.linked(next))
+    }
+
+    fn sum(&self, list: Extent) -> Result<Extent, TextFault> {
+        Ok(list)
+    }
+
+    fn product(&self, list: Extent) -> Result<Extent, TextFault> {
+        Ok(list)
+    }
+}

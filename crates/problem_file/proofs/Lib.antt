@@ -1,0 +1,15 @@
+pub mod Grown
+pub mod Lists
+pub mod NameLists
+pub mod PhraseFronts
+pub mod ScannedFiles
+pub mod Nestings
+pub mod MeasuredPhrases
+pub mod WalkSteps
+pub mod WalkedItems
+pub mod OneAnswer
+pub mod InRanges
+pub mod NameSigns
+pub mod Numbering
+pub mod NumberedStates
+pub mod ReadTexts

@@ -1,0 +1,66 @@
+-- A phrase that may stand somewhere and fits there is not too deep with its names expanded.
+use Rattle.std.proofs.Common.{◌≡◌, ℕ, ◌+◌, ◌<◌, ◌≤◌, max, Bool, true, false, slice_get, Option, Some, None, arith}
+use Rattle.kat_syntax.specs.declared.reading.Around.{Around}
+use Rattle.kat_syntax.specs.Phrases.{Symbol, Phrase, one_prod, more_prods, one_star, more_stars, bare, starred, zero_unit, one_unit, name_unit, not_unit, square_unit, round_unit, one_conj, more_conjs, one_lit, more_lits, true_lit, false_lit, name_lit, not_lit, round_lit, relation_lit, one_mul, more_muls, one_fac, more_facs, zero_fac, one_fac_number, number_fac, wide_fac, name_fac, round_fac, Fits}
+use Rattle.kat_text.specs.declared.meaning.Meaning.{Meaning}
+use Rattle.kat_text.specs.declared.meaning.Meaning.TheVariants.{Test, Action, Var, Term as TermName, Prog}
+use Rattle.kat_text.specs.Worlds.{Definition, World, meaning}
+use Rattle.kat_text.specs.Sound.{inside, inside_not, IsUsable, IsTermName, IsSound, defined_nesting, name_nesting, nesting}
+
+used_fits : (c : Around) (o : Option Definition) → IsUsable c o → c.depth ≤ 200 → c.depth + defined_nesting o ≤ 200
+used_fits c None sound le = omega (arith, le)
+used_fits c (Some d) sound le = sound.1
+
+name_fits : (w : World) (c : Around) (o : Option Meaning) → IsTermName w c o → c.depth ≤ 200 → c.depth + name_nesting w o ≤ 200
+name_fits w c None sound le = absurd sound
+name_fits w c (Some (Test k)) sound le = omega (arith, le)
+name_fits w c (Some (Action a)) sound le = omega (arith, le)
+name_fits w c (Some (Var k)) sound le = absurd sound
+name_fits w c (Some (TermName i)) sound le = used_fits c (slice_get w.terms i) sound le
+name_fits w c (Some (Prog i)) sound le = absurd sound
+
+most : (d m n : ℕ) → d + m ≤ 200 → d + n ≤ 200 → d + max m n ≤ 200
+most d m n h k = omega (arith, h, k)
+
+deeper : (d n : ℕ) → d + 1 + n ≤ 200 → d + (n + 1) ≤ 200
+deeper d n h = omega (arith, h)
+
+flat : (d : ℕ) → d ≤ 200 → d + 0 ≤ 200
+flat d le = omega (arith, le)
+
+next : (d : ℕ) → d < 200 → d + 1 ≤ 200
+next d lt = omega (arith, lt)
+
+pub nesting_fits : (w : World) (c : Around) {x : Symbol} (p : Phrase x) → IsSound w c p → Fits c.depth p → c.depth ≤ 200 → c.depth + nesting w p ≤ 200
+nesting_fits w c (one_prod p) s f le = nesting_fits w c p s f le
+nesting_fits w c (more_prods p l t) s f le = most c.depth (nesting w p) (nesting w t) (nesting_fits w c p s.0 f.0 le) (nesting_fits w c t s.1 f.1 le)
+nesting_fits w c (one_star p) s f le = nesting_fits w c p s f le
+nesting_fits w c (more_stars p l t) s f le = most c.depth (nesting w p) (nesting w t) (nesting_fits w c p s.0 f.0 le) (nesting_fits w c t s.1 f.1 le)
+nesting_fits w c (bare u) s f le = nesting_fits w c u s f le
+nesting_fits w c (starred u l) s f le = nesting_fits w c u s.1 f le
+nesting_fits w c (zero_unit l) s f le = flat c.depth le
+nesting_fits w c (one_unit l) s f le = flat c.depth le
+nesting_fits w c (name_unit l) s f le = name_fits w c (meaning w l.text) s le
+nesting_fits w c (not_unit l u) s f le = deeper c.depth (nesting w u) (nesting_fits w (inside_not c) u s f.1 (next c.depth f.0))
+nesting_fits w c (square_unit l b r) s f le = deeper c.depth (nesting w b) (nesting_fits w (inside c) b s f.1 (next c.depth f.0))
+nesting_fits w c (round_unit l t r) s f le = deeper c.depth (nesting w t) (nesting_fits w (inside c) t s f.1 (next c.depth f.0))
+nesting_fits w c (one_conj b) s f le = nesting_fits w c b s f le
+nesting_fits w c (more_conjs b l d) s f le = most c.depth (nesting w b) (nesting w d) (nesting_fits w c b s.0 f.0 le) (nesting_fits w c d s.1 f.1 le)
+nesting_fits w c (one_lit x) s f le = nesting_fits w c x s f le
+nesting_fits w c (more_lits x l b) s f le = most c.depth (nesting w x) (nesting w b) (nesting_fits w c x s.0 f.0 le) (nesting_fits w c b s.1 f.1 le)
+nesting_fits w c (true_lit l) s f le = flat c.depth le
+nesting_fits w c (false_lit l) s f le = flat c.depth le
+nesting_fits w c (name_lit l) s f le = flat c.depth le
+nesting_fits w c (not_lit l x) s f le = deeper c.depth (nesting w x) (nesting_fits w (inside_not c) x s f.1 (next c.depth f.0))
+nesting_fits w c (round_lit l b r) s f le = deeper c.depth (nesting w b) (nesting_fits w (inside c) b s f.1 (next c.depth f.0))
+nesting_fits w c (relation_lit e l r g) s f le = most c.depth (nesting w e) (nesting w g) (nesting_fits w c e s.0 f.0 le) (nesting_fits w c g s.1 f.1 le)
+nesting_fits w c (one_mul m) s f le = nesting_fits w c m s f le
+nesting_fits w c (more_muls m l minus e) s f le = most c.depth (nesting w m) (nesting w e) (nesting_fits w c m s.0 f.0 le) (nesting_fits w c e s.1 f.1 le)
+nesting_fits w c (one_fac x) s f le = nesting_fits w c x s f le
+nesting_fits w c (more_facs x l m) s f le = most c.depth (nesting w x) (nesting w m) (nesting_fits w c x s.0 f.0 le) (nesting_fits w c m s.1 f.1 le)
+nesting_fits w c (zero_fac l) s f le = flat c.depth le
+nesting_fits w c (one_fac_number l) s f le = flat c.depth le
+nesting_fits w c (number_fac l n) s f le = flat c.depth le
+nesting_fits w c (wide_fac l) s f le = absurd f
+nesting_fits w c (name_fac l) s f le = flat c.depth le
+nesting_fits w c (round_fac l e r) s f le = deeper c.depth (nesting w e) (nesting_fits w (inside c) e s f.1 (next c.depth f.0))

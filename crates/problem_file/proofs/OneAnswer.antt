@@ -1,0 +1,189 @@
+-- Bytes say one thing or have one first fault, and not both.
+use Rattle.std.proofs.Common.{◌≡◌, ◌≢◌, ◌≤◌, ◌<◌, ◌⊎◌, inl, inr, ⊎_elim, ℕ, zero, suc, List, length, take, map, Bool, true, false, eqb, cond as if_true, Result, Ok, Err, Option, Some, None, IsSome, is_some, nat_lt, arith, refl, sym, ap, subst, ◌∙◌, take_all}
+use Rattle.std.specs.Str.{IsUtf8, IsValidUpTo, is_utf8}
+use Rattle.std.proofs.lemmas.Str.{IsUtf8-nil, IsUtf8-from_is_utf8, is_utf8-from_IsUtf8, utf8_valid_len-IsValidUpTo}
+use Rattle.std.proofs.lemmas.Bool.{false≢true, eqb-true, eqb-false, ltb-true, ltb-false}
+use Rattle.kat_tokens.specs.declared.lexer.TheConstants.{MAX_LEN}
+use Rattle.kat_tokens.specs.declared.fault.TextFault.{TextFault}
+use Rattle.kat_tokens.specs.declared.fault.TextFault.TheVariants.{TooLong, NotUtf8, BadToken, NoGoal, NotYet}
+use Rattle.kat_tokens.specs.Marks.{Mark}
+use Rattle.kat_tokens.specs.Lex.{IsText, Lexes, FirstBad}
+use Rattle.kat_syntax.specs.Lexemes.{Lexeme, lexeme_of}
+use Rattle.problem_file.specs.Files.{GoalTree, State, start}
+use Rattle.problem_file.specs.Items.{scan_file, walk}
+use Rattle.problem_file.specs.Phrases.{Item, Spells}
+use Rattle.problem_file.specs.Sound.{MakeAll}
+use Rattle.problem_file.specs.Reads.{Says, Refuses, FirstFault, too_long, not_utf8, bad_token, refused, has_later, check_built, check_goal, tested, placing, placed}
+use Rattle.problem_file.specs.Laws.{HaveOneAnswer}
+use Rattle.kat_tokens.proofs.Readings.{one_lexing, one_bad, not_both, some_reading}
+use Rattle.kat_syntax.proofs.Found.{bind_ok}
+use Rattle.problem_file.proofs.NameLists.{ok_of, err_of}
+use Rattle.problem_file.proofs.ScannedFiles.{files_are_scanned}
+use Rattle.problem_file.proofs.WalkedItems.{items_are_walked}
+
+-- ---- the longest front that is UTF-8
+
+-- the front of k bytes is UTF-8, k is at most n, and no longer front is
+abbrev IsLongestFront : List ℕ → ℕ → ℕ → Type 0
+IsLongestFront bs n k = (k ≤ n) × IsUtf8 (take k bs) × ((m : ℕ) → k < m → IsUtf8 (take m bs) → ⊥)
+
+-- past n no front is UTF-8
+abbrev NonePast : List ℕ → ℕ → Type 0
+NonePast bs n = (m : ℕ) → n < m → IsUtf8 (take m bs) → ⊥
+
+past_next : (m n : ℕ) → (m ≡ suc n → ⊥) → n < m → suc n < m
+past_next m n differ h = omega (arith, differ, h)
+
+none_at : (bs : List ℕ) (n : ℕ) → is_utf8 (take (suc n) bs) ≡ false → NonePast bs (suc n) → (m : ℕ) (same : Bool) → eqb m (suc n) ≡ same → n < m → IsUtf8 (take m bs) → ⊥
+none_at bs n e none m true s h u = false≢true (sym e ∙ is_utf8-from_IsUtf8 (take (suc n) bs) (subst (λ k. IsUtf8 (take k bs)) (eqb-true m (suc n) s) u))
+none_at bs n e none m false s h u = none m (past_next m n (eqb-false m (suc n) s) h) u
+
+pick : (bs : List ℕ) (n : ℕ) (b : Bool) → is_utf8 (take (suc n) bs) ≡ b → NonePast bs (suc n) → (NonePast bs n → (k : ℕ) × IsLongestFront bs n k) → (k : ℕ) × IsLongestFront bs (suc n) k
+pick bs n true e none shorter = (suc n, (omega arith, IsUtf8-from_is_utf8 (take (suc n) bs) e, none))
+pick bs n false e none shorter =
+    let found = shorter (λ m h u. none_at bs n e none m (eqb m (suc n)) refl h u) in
+    (found.0, (omega (arith, (found.1).0), (found.1).1, (found.1).2))
+
+longest_front : (bs : List ℕ) (n : ℕ) → NonePast bs n → (k : ℕ) × IsLongestFront bs n k
+longest_front bs zero none = (0, (omega arith, IsUtf8-nil, none))
+longest_front bs (suc n) none = pick bs n (is_utf8 (take (suc n) bs)) refl none (longest_front bs n)
+
+-- bytes that are no UTF-8 have a longest front that is
+some_front : (bs : List ℕ) → is_utf8 bs ≡ false → (k : ℕ) × IsValidUpTo bs k
+some_front bs e =
+    let bad = λ (u : IsUtf8 bs). false≢true (sym e ∙ is_utf8-from_IsUtf8 bs u) in
+    let found = longest_front bs (length bs) (λ m h u. bad (subst IsUtf8 (take_all m bs (omega (arith, h))) u)) in
+    let k = found.0 in
+    let front = found.1 in
+    let short : k < length bs = omega (arith, front.0, λ (same : k ≡ length bs). bad (subst IsUtf8 (take_all k bs (omega (arith, same))) front.1)) in
+    (k, record { short = short; front = front.1; longest = front.2 })
+
+-- ---- what the tests of tokens tell
+
+pub goal_there : (s : State) (goal : Option GoalTree) → goal ≡ s.goal → IsSome goal → check_goal s ≡ Ok s
+goal_there s None e h = absurd (false≢true h)
+goal_there s (Some g) e h = subst (λ o. if_true (is_some o) (Ok s) (Err NoGoal) ≡ Ok s) e refl
+
+said_tested : (bytes : List ℕ) (s : State) (x : Says bytes s) → tested (map lexeme_of x.marks) ≡ Ok s
+said_tested bytes s x =
+    let ts = map lexeme_of x.marks in
+    let scanned : scan_file ts ≡ Ok tt = (files_are_scanned ts).1 (x.items, x.spells) in
+    let walked : walk start ts ≡ Ok s = (items_are_walked start s x.items ts x.spells).1 x.make in
+    rw (x.all_built, scanned, walked) (goal_there s s.goal refl x.has_goal)
+
+all_built : (ts : List Lexeme) (later : Bool) → has_later ts ≡ later → (r : Unit {0}) → check_built ts ≡ Ok r → has_later ts ≡ false
+all_built ts true e r h = let told : err_of (Unit {0}) NotYet ≡ Ok r = subst (λ b. if_true b (Err NotYet) (Ok tt) ≡ Ok r) e h in absurd cc
+all_built ts false e r h = e
+
+goal_told : (s t : State) (goal : Option GoalTree) → goal ≡ s.goal → check_goal s ≡ Ok t → (t ≡ s) × IsSome t.goal
+goal_told s t None e h = let told : err_of State NoGoal ≡ Ok t = subst (λ o. if_true (is_some o) (Ok s) (Err NoGoal) ≡ Ok t) (sym e) h in absurd cc
+goal_told s t (Some g) e h =
+    let same : ok_of s ≡ Ok t = subst (λ o. if_true (is_some o) (Ok s) (Err NoGoal) ≡ Ok t) (sym e) h in
+    let is : t ≡ s = cc in
+    (is, subst (λ (x : State). IsSome x.goal) (sym is) (subst IsSome e refl))
+
+pub tested_says : (bytes : List ℕ) (ms : List Mark) → Lexes bytes ms → (s : State) → tested (map lexeme_of ms) ≡ Ok s → Says bytes s
+tested_says bytes ms lexes s t =
+    let ts = map lexeme_of ms in
+    let built = bind_ok (check_built ts) _ s t in
+    let scanned = bind_ok (scan_file ts) _ s built.2 in
+    let walked = bind_ok (walk start ts) check_goal s scanned.2 in
+    let goal = goal_told walked.0 s walked.0.goal refl walked.2 in
+    let file = (files_are_scanned ts).0 scanned.1 in
+    record {
+      marks = ms;
+      lexes = lexes;
+      all_built = all_built ts (has_later ts) refl built.0 built.1;
+      items = file.0;
+      spells = file.1;
+      make = (items_are_walked start s file.0 ts file.1).0 (subst (λ x. walk start ts ≡ Ok x) (sym goal.0) walked.1);
+      has_goal = goal.1;
+    }
+
+-- what the tests give is what the bytes say, or their first fault
+tested_tells : (bytes : List ℕ) (ms : List Mark) → Lexes bytes ms → (m : Result State TextFault) → tested (map lexeme_of ms) ≡ m → ((s : State) × Says bytes s) ⊎ ((e : TextFault) × FirstFault bytes e)
+tested_tells bytes ms lexes (Ok s) t = inl (s, tested_says bytes ms lexes s t)
+tested_tells bytes ms lexes (Err e) t = inr (placed (length bytes) e, refused (record { marks = ms; lexes = lexes; tests = ap (placing (length bytes)) t }))
+
+-- ---- the law
+
+text_tells : (bytes : List ℕ) → IsText bytes → ((s : State) × Says bytes s) ⊎ ((e : TextFault) × FirstFault bytes e)
+text_tells bytes text =
+    ⊎_elim
+    (λ x. tested_tells bytes x.0 x.1 (tested (map lexeme_of x.0)) refl)
+    (λ x. inr (BadToken x.0, bad_token x.0 refl x.1))
+    (some_reading bytes text)
+
+short_tells : (bytes : List ℕ) → length bytes ≤ MAX_LEN → (u : Bool) → is_utf8 bytes ≡ u → ((s : State) × Says bytes s) ⊎ ((e : TextFault) × FirstFault bytes e)
+short_tells bytes within true u = text_tells bytes (record { within = within; utf8 = IsUtf8-from_is_utf8 bytes u })
+short_tells bytes within false u = let front = some_front bytes u in inr (NotUtf8 front.0, not_utf8 front.0 refl within front.1)
+
+bytes_tell : (bytes : List ℕ) (past : Bool) → nat_lt MAX_LEN (length bytes) ≡ past → ((s : State) × Says bytes s) ⊎ ((e : TextFault) × FirstFault bytes e)
+bytes_tell bytes true p = inr (TooLong, too_long refl (ltb-true MAX_LEN (length bytes) p))
+bytes_tell bytes false p = short_tells bytes (ltb-false MAX_LEN (length bytes) p) (is_utf8 bytes) refl
+
+-- a text is no longer than it may be, and UTF-8
+
+no_front : (bytes : List ℕ) (at : ℕ) → IsText bytes → IsValidUpTo bytes at → ⊥
+no_front bytes at text front = front.longest (length bytes) front.short (subst IsUtf8 (sym (take_all (length bytes) bytes (omega arith))) text.utf8)
+
+pub not_both_ways : (bytes : List ℕ) (s : State) (e : TextFault) → Says bytes s → FirstFault bytes e → ⊥
+not_both_ways bytes s e x (too_long told past) = let within = x.lexes.is_text.within in omega (arith, past, within)
+not_both_ways bytes s e x (not_utf8 at told within front) = no_front bytes at x.lexes.is_text front
+not_both_ways bytes s e x (bad_token at told bad) = not_both bytes x.marks at x.lexes bad
+not_both_ways bytes s e x (refused r) =
+    let same : r.marks ≡ x.marks = one_lexing bytes r.marks x.marks r.lexes x.lexes in
+    let told : placing (length bytes) (tested (map lexeme_of x.marks)) ≡ Err e = subst (λ ms. placing (length bytes) (tested (map lexeme_of ms)) ≡ Err e) same r.tests in
+    let said : ok_of s ≡ Err e = subst (λ m. placing (length bytes) m ≡ Err e) (said_tested bytes s x) told in
+    absurd cc
+
+one_state : (bytes : List ℕ) (s t : State) → Says bytes s → Says bytes t → s ≡ t
+one_state bytes s t x y =
+    let same : x.marks ≡ y.marks = one_lexing bytes x.marks y.marks x.lexes y.lexes in
+    let one : ok_of s ≡ Ok t = sym (said_tested bytes s x) ∙ (ap (λ ms. tested (map lexeme_of ms)) same ∙ said_tested bytes t y) in
+    cc
+
+-- of a text of which this is known there is one first fault
+past_fault : (bytes : List ℕ) (e : TextFault) → MAX_LEN < length bytes → FirstFault bytes e → e ≡ TooLong
+past_fault bytes e past (too_long told h) = told
+past_fault bytes e past (not_utf8 at told within front) = absurd (omega (arith, past, within))
+past_fault bytes e past (bad_token at told bad) = let within = bad.is_text.within in absurd (omega (arith, past, within))
+past_fault bytes e past (refused r) = let within = r.lexes.is_text.within in absurd (omega (arith, past, within))
+
+one_front : (bytes : List ℕ) (m n : ℕ) → IsValidUpTo bytes m → IsValidUpTo bytes n → m ≡ n
+one_front bytes m n f g = sym (utf8_valid_len-IsValidUpTo bytes m f) ∙ utf8_valid_len-IsValidUpTo bytes n g
+
+front_fault : (bytes : List ℕ) (n : ℕ) (e : TextFault) → length bytes ≤ MAX_LEN → IsValidUpTo bytes n → FirstFault bytes e → e ≡ NotUtf8 n
+front_fault bytes n e short f (too_long told past) = absurd (omega (arith, past, short))
+front_fault bytes n e short f (not_utf8 at told within front) = told ∙ ap NotUtf8 (one_front bytes at n front f)
+front_fault bytes n e short f (bad_token at told bad) = absurd (no_front bytes n bad.is_text f)
+front_fault bytes n e short f (refused r) = absurd (no_front bytes n r.lexes.is_text f)
+
+bad_fault : (bytes : List ℕ) (n : ℕ) (e : TextFault) → FirstBad bytes n → FirstFault bytes e → e ≡ BadToken n
+bad_fault bytes n e f (too_long told past) = let within = f.is_text.within in absurd (omega (arith, past, within))
+bad_fault bytes n e f (not_utf8 at told within front) = absurd (no_front bytes at f.is_text front)
+bad_fault bytes n e f (bad_token at told bad) = told ∙ ap BadToken (one_bad bytes at n bad f)
+bad_fault bytes n e f (refused r) = absurd (not_both bytes r.marks n r.lexes f)
+
+token_fault : (bytes : List ℕ) (d e : TextFault) → Refuses bytes d → FirstFault bytes e → e ≡ d
+token_fault bytes d e q (too_long told past) = let within = q.lexes.is_text.within in absurd (omega (arith, past, within))
+token_fault bytes d e q (not_utf8 at told within front) = absurd (no_front bytes at q.lexes.is_text front)
+token_fault bytes d e q (bad_token at told bad) = absurd (not_both bytes q.marks at q.lexes bad)
+token_fault bytes d e q (refused r) =
+    let same : r.marks ≡ q.marks = one_lexing bytes r.marks q.marks r.lexes q.lexes in
+    let one : err_of (State) e ≡ Err d = sym r.tests ∙ (ap (λ ms. placing (length bytes) (tested (map lexeme_of ms))) same ∙ q.tests) in
+    cc
+
+one_fault : (bytes : List ℕ) (d e : TextFault) → FirstFault bytes d → FirstFault bytes e → d ≡ e
+one_fault bytes d e (too_long told past) y = told ∙ sym (past_fault bytes e past y)
+one_fault bytes d e (not_utf8 at told within front) y = told ∙ sym (front_fault bytes at e within front y)
+one_fault bytes d e (bad_token at told bad) y = told ∙ sym (bad_fault bytes at e bad y)
+one_fault bytes d e (refused r) y = sym (token_fault bytes d e r y)
+
+pub have_one_answer : HaveOneAnswer
+have_one_answer = record {
+  some = λ bytes. bytes_tell bytes (nat_lt MAX_LEN (length bytes)) refl;
+  either = not_both_ways;
+  states = one_state;
+  faults = one_fault;
+}

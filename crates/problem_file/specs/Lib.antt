@@ -1,0 +1,11 @@
+pub mod Files
+pub mod Numbers
+pub mod Tokens
+pub mod Trees
+pub mod Items
+pub mod Walks
+pub mod Phrases
+pub mod Sound
+pub mod Ranges
+pub mod Reads
+pub mod Laws

@@ -1,0 +1,8 @@
+-- Tokens that a lexer made, and the names among them.
+use Rattle.std.specs.Prelude.{◌≡◌, ℕ, List, slice_get, Some}
+use Rattle.kat_tokens.specs.declared.token.Token.{Token}
+use Rattle.kat_tokens.specs.Kinds.{IsToken}
+
+-- each token's text is a token of its kind
+abbrev pub AreTokens : List Token → Type 0
+AreTokens ts = (i : ℕ) (t : Token) → slice_get ts i ≡ Some t → IsToken t.kind t.text.now

@@ -1,0 +1,24 @@
+//! Laws of the definitions. Each function does nothing: its contract is the law.
+ghost use Rattle.problem_file.specs.Laws.{FilesAreScanned, ItemsAreWalked, HaveOneAnswer, AreInRanges};
+
+/// The test of the syntax takes all tokens exactly where they are one phrase `file` of the grammar and nothing in them is
+/// too deep or too wide.
+pub fn files_are_scanned()
+    ensures { FilesAreScanned }
+{}
+
+/// Where the syntax is right, the walk over the items gives no fault exactly where each item makes what it is to make,
+/// and then it gives what they make.
+pub fn items_are_walked()
+    ensures { ItemsAreWalked }
+{}
+
+/// Bytes say one thing or have one first fault, and not both.
+pub fn have_one_answer()
+    ensures { HaveOneAnswer }
+{}
+
+/// At most 48 tests and 48 actions are declared, and only those stand in hypotheses and in the goal.
+pub fn are_in_ranges()
+    ensures { AreInRanges }
+{}

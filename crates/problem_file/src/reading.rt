@@ -1,0 +1,116 @@
+//! The text of a problem file, read.
+ghost use Rattle.std.specs.Prelude.{◌≡◌, ◌≤◌, length, IfErr};
+ghost use Rattle.kat_tokens.specs.declared.fault.TextFault.TheVariants.{NoMemory as NoRoom};
+ghost use Rattle.kat_syntax.specs.Lexemes.{lexemes};
+ghost use Rattle.kat_syntax.specs.Parsed.{Makes};
+ghost use Rattle.kat_tokens.specs.declared.lexer.TheConstants.{MAX_LEN as MOST};
+ghost use Rattle.problem_file.specs.Files.{State, start};
+ghost use Rattle.problem_file.specs.Items.{walk};
+ghost use Rattle.problem_file.specs.Tokens.{AreTokens};
+ghost use Rattle.problem_file.specs.Walks.{state_of, Does};
+ghost use Rattle.problem_file.specs.Reads.{is_later, has_later, placed, tested, Says, HoldsTested, Answers};
+
+use crate::file::File;
+use crate::scan::test_syntax;
+use crate::walk::Walk;
+use kat_syntax::{Keyword, Separator, Sign, sign_of};
+use kat_tokens::{MAX_LEN, TextFault, Token, tokens};
+use std::alloc::Global;
+
+// Whether only programs and their items have such a token.
+fn is_later(sign: Sign) -> bool
+    ensures { result ≡ is_later sign }
+{
+    matches!(
+        sign,
+        Sign::Keyword(Keyword::Var | Keyword::Prog | Keyword::Rounds | Keyword::Width)
+            | Sign::Separator(Separator::Becomes)
+    )
+}
+
+fn has_later(toks: &[Token]) -> bool
+    ensures { result ≡ has_later (lexemes toks.now) }
+{
+    for token in toks {
+        if is_later(sign_of(token)) {
+            return true;
+        }
+    }
+    false
+}
+
+// A fault past the last token is at the text's length.
+fn placed(fault: TextFault, len: usize) -> TextFault
+    ensures { result ≡ placed len fault }
+{
+    match fault {
+        TextFault::Syntax(at) => TextFault::Syntax(at.min(len)),
+        other => other,
+    }
+}
+
+// All items, up to the first that has a fault.
+fn items(alloc: Global, toks: &[Token], walker: &mut Walk) -> Result<(), TextFault>
+    requires tokens { AreTokens toks.now }
+    ensures { Does result (state_of walker.new) (walk (state_of walker.old) (lexemes toks.now)) }
+{
+    let mut at = 0;
+    'items: while at < toks.len() {
+        at = walker.item(alloc, toks, at)?;
+    }
+    Ok(())
+}
+
+fn walk(alloc: Global, toks: &[Token]) -> Result<Walk, TextFault>
+    requires tokens { AreTokens toks.now }
+    ensures { Makes (Unit {0}) state_of result (walk start (lexemes toks.now)) }
+{
+    let mut walker = Walk::new(alloc);
+    items(alloc, toks, &mut walker)?;
+    Ok(walker)
+}
+
+// The file, or the first fault of the tokens.
+fn test(alloc: Global, toks: &[Token]) -> Result<File, TextFault>
+    requires tokens { AreTokens toks.now }
+    ensures { HoldsTested result (tested (lexemes toks.now)) }
+{
+    if has_later(toks) {
+        return Err(TextFault::NotYet);
+    }
+    test_syntax(toks)?;
+    walk(alloc, toks)?.file()
+}
+
+fn read_text(alloc: Global, text: &str) -> Result<File, TextFault>
+    requires within { length text.now ≤ MOST }
+    ensures { Answers text.now result }
+{
+    let toks = tokens(alloc, text)?;
+    match test(alloc, &toks) {
+        Ok(file) => Ok(file),
+        Err(fault) => Err(placed(fault, text.len())),
+    }
+}
+
+/// What the text of a problem file says. A text that says nothing is refused for its first fault, in this order:
+/// `TooLong` past 1,048,576 bytes; `NotUtf8`; `BadToken`; `NotYet` where a token stands in it that only programs have
+/// (`var`, `prog`, `rounds`, `width`, `:=`); the first in text order of `Syntax`, of `TooDeep` where more than 200 are
+/// open, and of `NumberTooWide` from 2^64 on; the first fault of the first item that has one (`DoubleName`,
+/// `UnknownName`, `Sort`, `TooDeep` through a defined name, `TooMany`, `TwoGoals`, and last `TooLarge`); `NoGoal`.
+pub fn read(alloc: Global, bytes: &[u8]) -> Result<File, TextFault>
+    // The file holds what the bytes say; a refusal is want of memory or the first fault of the bytes.
+    ensures answers { Answers bytes.now result }
+
+    // Bytes that say something are refused for want of memory only.
+    ensures only { (s : State) → Says bytes.now s → IfErr result (λ e. e ≡ NoRoom) }
+{
+    if bytes.len() > MAX_LEN {
+        return Err(TextFault::TooLong);
+    }
+    let text = match std::str::from_utf8(bytes) {
+        Ok(text) => text,
+        Err(fault) => return Err(TextFault::NotUtf8(fault.valid_up_to())),
+    };
+    read_text(alloc, text)
+}

@@ -1,0 +1,4 @@
+pub mod Singles
+pub mod TestTerms
+pub mod Found
+pub mod Differing
