@@ -1,10 +1,9 @@
 -- The question of a text is refused for its size only.
-use Rattle.std.proofs.Common.{◌≡◌, ◌<◌, ◌≤◌, ◌||◌, ℕ, List, map, Bool, true, false, nat_lt, Option, Some, None, IfSome, refl, sym, ap, subst, ◌∙◌}
-use Rattle.std.proofs.lemmas.Bool.{ltb-true, ltb-false, false≢true}
+use Rattle.std.proofs.Common.{◌≡◌, ◌≤◌, ℕ, Bool, true, false, nat_lt, Option, Some, None, IfSome, refl, sym, ap, subst, ◌∙◌}
+use Rattle.std.proofs.lemmas.Bool.{ltb-true, ltb-false}
 use Rattle.kat_model.specs.declared.tree.Kat.{Kat}
 use Rattle.kat_model.specs.declared.problem.BadProblem.{BadProblem}
 use Rattle.kat_model.specs.Trees.{kat_tree}
-use Rattle.kat_model.specs.Expressions.{CondTree}
 use Rattle.kat_model.specs.Problems.{Question, IsInRange, IsProblem, question_size, problem_fault, question_of as model_question}
 use Rattle.kat_model.proofs.Faults.{problem_has_no_fault}
 use Rattle.goal_forms.specs.Sides.{SideTrees}

@@ -1,5 +1,5 @@
 -- Where the shelf tells the text of the file and did not fail, the status of a reply is that of the text.
-use Rattle.std.proofs.Common.{◌≡◌, ◌≤◌, ◌<◌, ℕ, List, length, true, false, Option, None, Some, inl, ⊎_elim, arith, refl, sym, subst, ap, ◌∙◌}
+use Rattle.std.proofs.Common.{◌≡◌, ◌<◌, ℕ, List, length, true, false, Option, None, Some, inl, ⊎_elim, arith, refl, sym, subst, ap, ◌∙◌}
 use Rattle.std.proofs.lemmas.Bool.{false≢true}
 use Rattle.kat_io.specs.Told.{Told, Untold, Missing, Holds}
 use Rattle.kat_io.specs.Outside.{Rose}
@@ -10,7 +10,7 @@ use Rattle.kat_tokens.specs.declared.fault.TextFault.TheVariants.{TooLong}
 use Rattle.problem_file.specs.Reads.{FirstFault, too_long}
 use Rattle.test_problems.specs.Verdicts.{is_of_tests}
 use Rattle.kat_tool.specs.Commands.{decide, command_of}
-use Rattle.kat_tool.specs.Asking.{Asks, Compares, IsSmall, IsLarge, IsDecided}
+use Rattle.kat_tool.specs.Asking.{Asks, IsSmall, IsLarge, IsDecided}
 use Rattle.kat_tool.specs.Replies.{Replies, Decides, IsEqual, IsDifferent, IsRefused, IsTooLong, IsTooLarge, IsNotYet, IsBeyond, IsStatusOf, Completes, MayHold, MayPass, text_limit}
 use Rattle.kat_tool.proofs.Questions.{one_question, asks_plain, asks_faultless}
 

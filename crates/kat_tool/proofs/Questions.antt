@@ -1,11 +1,11 @@
 -- A text asks one question at most, and where it asks one it has no fault and no comparison.
-use Rattle.std.proofs.Common.{◌≡◌, ◌⊎◌, ⊎_elim, ℕ, List, Bool, true, false, Option, Some, sym, ap, subst, ◌∙◌}
+use Rattle.std.proofs.Common.{◌≡◌, ℕ, List, Bool, true, false, sym, ap, ◌∙◌}
 use Rattle.std.proofs.lemmas.Bool.{false≢true}
 use Rattle.std.proofs.lemmas.Option.{same_Some}
 use Rattle.kat_model.specs.Problems.{Question}
 use Rattle.kat_tokens.specs.declared.fault.TextFault.{TextFault}
 use Rattle.problem_file.specs.Files.{GoalTree, State}
-use Rattle.problem_file.specs.Reads.{Says, FirstFault}
+use Rattle.problem_file.specs.Reads.{FirstFault}
 use Rattle.problem_file.proofs.OneAnswer.{have_one_answer}
 use Rattle.kat_tool.specs.Asking.{goal_compares, question_of, HasGoal, Asks, Compares}
 

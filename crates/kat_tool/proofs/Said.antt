@@ -1,5 +1,5 @@
 -- What was read of a text and asked of it is what the text asks.
-use Rattle.std.proofs.Common.{◌≡◌, ◌⊎◌, inl, inr, ℕ, List, false, codes, Result, Ok, Err, IfOk, refl, sym}
+use Rattle.std.proofs.Common.{◌≡◌, inl, inr, ℕ, List, false, codes, Result, Ok, Err, IfOk, refl, sym}
 use Rattle.kat_model.specs.Problems.{Question}
 use Rattle.problem_file.specs.declared.file.File.{File}
 use Rattle.problem_file.specs.Trees.{goal_tree}
@@ -10,7 +10,7 @@ use Rattle.problem_file.proofs.NumberedStates.{are_in_ranges}
 use Rattle.kat_tool.specs.declared.top.Reply.{Reply}
 use Rattle.kat_tool.specs.declared.asking.Asked.{Asked}
 use Rattle.kat_tool.specs.declared.asking.Asked.TheVariants.{Problem, TooLarge, Compares as HasComparison}
-use Rattle.kat_tool.specs.Asking.{goal_compares, question_of, HasGoal, Asks, Compares, IsSmall, IsLarge}
+use Rattle.kat_tool.specs.Asking.{goal_compares, question_of, Asks}
 use Rattle.kat_tool.specs.Askings.{IsAskedOf}
 use Rattle.kat_tool.specs.Replies.{Judges, JudgesSaid}
 

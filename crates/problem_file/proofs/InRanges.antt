@@ -1,19 +1,18 @@
 -- What a text says has no other tests and actions than those that it declares.
-use Rattle.std.proofs.Common.{◌≡◌, ◌<◌, ◌≤◌, ◌+◌, ℕ, List, [], ◌∷◌, ◌++◌, length, slice_get, Option, Some, None, IfSome, Result, Ok, Err, refl, sym, ap, subst, ◌∙◌, arith}
-use Rattle.kat_model.specs.Trees.{TestTree, bottom, top, prim, complement, meet, join, Term, zero, one, test, act, sum, product, star}
+use Rattle.std.proofs.Common.{◌≡◌, ℕ, List, [], ◌∷◌, ◌++◌, slice_get, Option, Some, None, Result, Ok, refl, subst}
+use Rattle.kat_model.specs.Trees.{Term, zero, one, test, act, sum, product, star}
 use Rattle.kat_model.specs.Balanced.{balanced}
 use Rattle.kat_model.specs.Expressions.{ExprTree, CondTree, always, never, named, compared, negation, both, either}
 use Rattle.kat_model.specs.Problems.{IsTestInRange, IsInRange, AreInRange}
 use Rattle.kat_model.proofs.BalancedTrees.{balanced_holds}
 use Rattle.kat_tokens.specs.declared.fault.TextFault.{TextFault}
 use Rattle.kat_syntax.specs.declared.reading.Around.{Around}
-use Rattle.kat_syntax.specs.Actions.{around}
 use Rattle.kat_syntax.specs.Phrases.{term, cond, Phrase}
 use Rattle.kat_syntax.specs.Folds.{fold}
 use Rattle.kat_text.specs.declared.meaning.Meaning.{Meaning}
 use Rattle.kat_text.specs.declared.meaning.Meaning.TheVariants.{Test, Action, Var, Term as TermName, Prog}
 use Rattle.kat_text.specs.Sizes.{as_test, test_of}
-use Rattle.kat_text.specs.Worlds.{Definition, World, meaning, Means}
+use Rattle.kat_text.specs.Worlds.{Definition, World, meaning}
 use Rattle.kat_text.specs.Building.{condition_tree, defined_tree, name_tree, trees}
 use Rattle.kat_text.proofs.Related.{Both, AreRelated, related}
 use Rattle.problem_file.specs.Numbers.{AreNumbered}

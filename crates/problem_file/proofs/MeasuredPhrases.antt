@@ -1,11 +1,11 @@
 -- What is measured and built of phrases whose syntax is right.
-use Rattle.std.proofs.Common.{◌≡◌, ℕ, ◌+◌, ◌<◌, ◌≤◌, min, List, [], ◌∷◌, Bool, true, false, nat_lt, cond as if_true, Result, Ok, Err, IsOk, refl, sym, ap, subst, ◌∙◌, arith}
-use Rattle.std.proofs.lemmas.Bool.{ltb-true, ltb-false, lt-ltb, le-ltb}
+use Rattle.std.proofs.Common.{◌≡◌, ℕ, ◌≤◌, List, [], ◌∷◌, Bool, true, false, nat_lt, cond as if_true, Result, Ok, Err, IsOk, refl, sym, ap, subst, ◌∙◌, arith}
+use Rattle.std.proofs.lemmas.Bool.{ltb-true, ltb-false}
 use Rattle.kat_model.specs.Trees.{Term, test_size, term_size}
 use Rattle.kat_model.specs.Expressions.{CondTree}
 use Rattle.kat_tokens.specs.declared.fault.TextFault.{TextFault}
 use Rattle.kat_syntax.specs.Lexemes.{Lexeme}
-use Rattle.kat_syntax.specs.Parsed.{Parsed, ◌>>=◌, before}
+use Rattle.kat_syntax.specs.Parsed.{◌>>=◌, before}
 use Rattle.kat_syntax.specs.Actions.{around}
 use Rattle.kat_syntax.specs.Phrases.{term, cond, Phrase, onto, Obeys, Fits}
 use Rattle.kat_syntax.specs.Ends.{Ends}
@@ -21,7 +21,7 @@ use Rattle.kat_text.specs.Sound.{IsSound, nesting}
 use Rattle.kat_text.specs.Laws.{told_nodes}
 use Rattle.kat_text.proofs.Measured.{term_decided, cond_decided, term_measured, cond_measured}
 use Rattle.problem_file.specs.Files.{State}
-use Rattle.problem_file.specs.Items.{Stepped, term_extent, built_term, cond_extent, built_cond}
+use Rattle.problem_file.specs.Items.{term_extent, built_term, cond_extent, built_cond}
 use Rattle.problem_file.specs.Sound.{IsTerm, IsCond}
 use Rattle.problem_file.proofs.NameLists.{ok_of}
 use Rattle.problem_file.proofs.Nestings.{nesting_fits}

@@ -1,5 +1,5 @@
 -- A phrase that may stand somewhere and fits there is not too deep with its names expanded.
-use Rattle.std.proofs.Common.{◌≡◌, ℕ, ◌+◌, ◌<◌, ◌≤◌, max, Bool, true, false, slice_get, Option, Some, None, arith}
+use Rattle.std.proofs.Common.{ℕ, ◌+◌, ◌<◌, ◌≤◌, max, slice_get, Option, Some, None, arith}
 use Rattle.kat_syntax.specs.declared.reading.Around.{Around}
 use Rattle.kat_syntax.specs.Phrases.{Symbol, Phrase, one_prod, more_prods, one_star, more_stars, bare, starred, zero_unit, one_unit, name_unit, not_unit, square_unit, round_unit, one_conj, more_conjs, one_lit, more_lits, true_lit, false_lit, name_lit, not_lit, round_lit, relation_lit, one_mul, more_muls, one_fac, more_facs, zero_fac, one_fac_number, number_fac, wide_fac, name_fac, round_fac, Fits}
 use Rattle.kat_text.specs.declared.meaning.Meaning.{Meaning}

@@ -1,5 +1,5 @@
 -- The items of a text keep the numbers of tests and actions below those that are declared.
-use Rattle.std.proofs.Common.{◌≡◌, ◌<◌, ◌≤◌, ◌+◌, ◌⊎◌, ⊎_elim, ℕ, List, [], ◌∷◌, ◌++◌, length, slice_get, Option, Some, None, IfSome, refl, sym, ap, subst, ◌∙◌, false, true, arith}
+use Rattle.std.proofs.Common.{◌≡◌, ◌≤◌, ◌+◌, ⊎_elim, ℕ, List, [], ◌∷◌, slice_get, Option, Some, None, IfSome, refl, sym, subst, ◌∙◌, false, true, arith}
 use Rattle.std.proofs.lemmas.Option.{slice_get_past, none-some}
 use Rattle.kat_model.specs.Trees.{TestTree, bottom, top, prim, complement, meet, join, Term, zero, one, test, act, sum, product, star, term_size}
 use Rattle.kat_model.specs.Expressions.{CondTree, always, never, named, compared, negation, both, either}
@@ -7,12 +7,11 @@ use Rattle.kat_model.specs.Problems.{IsTestInRange, IsInRange, AreInRange}
 use Rattle.kat_model.proofs.Places.{slice_get_last}
 use Rattle.kat_syntax.specs.Actions.{around}
 use Rattle.kat_syntax.specs.Phrases.{term, Leaf, Phrase}
-use Rattle.kat_text.specs.declared.meaning.Meaning.TheVariants.{Test, Action}
 use Rattle.kat_text.specs.Sizes.{cond_size}
 use Rattle.kat_text.specs.Sound.{nesting}
 use Rattle.kat_text.specs.Worlds.{Definition, World, defined}
 use Rattle.problem_file.specs.Numbers.{AreNumbered}
-use Rattle.problem_file.specs.Files.{GoalTree, equal, below, triple, State, start, define, state_hyp, state_goal, triple_term}
+use Rattle.problem_file.specs.Files.{GoalTree, equal, below, triple, State, start, state_hyp, state_goal, triple_term}
 use Rattle.problem_file.specs.Phrases.{Names, one_name, more_names, Body, tests, actions, definition, hypothesis, hyp_triple, goal_equal, goal_below, goal_triple, Item}
 use Rattle.problem_file.specs.Sound.{with_test, with_action, grown, EachName, DeclaresTest, DeclaresAction, AsksSides, Makes, MakeAll}
 use Rattle.problem_file.specs.Ranges.{IsCondInRange, IsGoalInRange, IsNumbered}

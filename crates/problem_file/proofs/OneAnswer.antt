@@ -1,5 +1,5 @@
 -- Bytes say one thing or have one first fault, and not both.
-use Rattle.std.proofs.Common.{◌≡◌, ◌≢◌, ◌≤◌, ◌<◌, ◌⊎◌, inl, inr, ⊎_elim, ℕ, zero, suc, List, length, take, map, Bool, true, false, eqb, cond as if_true, Result, Ok, Err, Option, Some, None, IsSome, is_some, nat_lt, arith, refl, sym, ap, subst, ◌∙◌, take_all}
+use Rattle.std.proofs.Common.{◌≡◌, ◌≤◌, ◌<◌, ◌⊎◌, inl, inr, ⊎_elim, ℕ, zero, suc, List, length, take, map, Bool, true, false, eqb, cond as if_true, Result, Ok, Err, Option, Some, None, IsSome, is_some, nat_lt, arith, refl, sym, ap, subst, ◌∙◌, take_all}
 use Rattle.std.specs.Str.{IsUtf8, IsValidUpTo, is_utf8}
 use Rattle.std.proofs.lemmas.Str.{IsUtf8-nil, IsUtf8-from_is_utf8, is_utf8-from_IsUtf8, utf8_valid_len-IsValidUpTo}
 use Rattle.std.proofs.lemmas.Bool.{false≢true, eqb-true, eqb-false, ltb-true, ltb-false}
@@ -11,8 +11,6 @@ use Rattle.kat_tokens.specs.Lex.{IsText, Lexes, FirstBad}
 use Rattle.kat_syntax.specs.Lexemes.{Lexeme, lexeme_of}
 use Rattle.problem_file.specs.Files.{GoalTree, State, start}
 use Rattle.problem_file.specs.Items.{scan_file, walk}
-use Rattle.problem_file.specs.Phrases.{Item, Spells}
-use Rattle.problem_file.specs.Sound.{MakeAll}
 use Rattle.problem_file.specs.Reads.{Says, Refuses, FirstFault, too_long, not_utf8, bad_token, refused, has_later, check_built, check_goal, tested, placing, placed}
 use Rattle.problem_file.specs.Laws.{HaveOneAnswer}
 use Rattle.kat_tokens.proofs.Readings.{one_lexing, one_bad, not_both, some_reading}

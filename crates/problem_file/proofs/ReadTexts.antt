@@ -1,12 +1,11 @@
 -- What the tests of tokens tell is the answer to a text.
-use Rattle.std.proofs.Common.{◌≡◌, ◌<◌, ◌⊎◌, inl, inr, ℕ, zero, suc, List, [], ◌∷◌, length, drop, map, All, slice_get, get_or, Some, Result, Ok, Err, IfErr, refl, sym, ap, subst, ◌∙◌, ⊎_elim}
+use Rattle.std.proofs.Common.{◌≡◌, ◌<◌, ◌⊎◌, inl, inr, ℕ, List, length, drop, slice_get, get_or, Some, Result, Ok, Err, IfErr, refl, ap, subst, ◌∙◌, ⊎_elim}
 use Rattle.std.specs.Option.{option_map}
 use Rattle.std.proofs.lemmas.Option.{slice_get-map, slice_get_within, get_or_from_slice_get}
 use Rattle.kat_tokens.specs.declared.token.Token.{Token}
 use Rattle.kat_tokens.specs.declared.fault.TextFault.{TextFault}
 use Rattle.kat_tokens.specs.declared.fault.TextFault.TheVariants.{NoMemory, BadToken}
-use Rattle.kat_tokens.specs.Kinds.{IsToken}
-use Rattle.kat_tokens.specs.Marks.{Mark, marks, mark_of}
+use Rattle.kat_tokens.specs.Marks.{marks, mark_of}
 use Rattle.kat_tokens.specs.Lex.{Lexes, IsFault, IsSlice}
 use Rattle.kat_tokens.proofs.Slices.{slices_from}
 use Rattle.kat_syntax.specs.Lexemes.{Lexeme, lexemes}

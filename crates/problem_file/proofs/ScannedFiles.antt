@@ -1,5 +1,5 @@
 -- The test of the syntax takes just the files of the grammar in which nothing is too deep or too wide.
-use Rattle.std.proofs.Common.{◌≡◌, ◌↔◌, ℕ, zero, suc, ◌+◌, ◌<◌, ◌≤◌, List, [], ◌∷◌, ◌++◌, length, drop, Bool, true, false, cond as if_true, Result, Ok, Err, refl, sym, ap, subst, ◌∙◌, arith, length-append, le_trans}
+use Rattle.std.proofs.Common.{◌≡◌, ℕ, zero, suc, List, [], ◌∷◌, length, true, false, Result, Ok, Err, refl, sym, ap, subst, ◌∙◌, arith}
 use Rattle.kat_tokens.specs.declared.fault.TextFault.{TextFault}
 use Rattle.kat_syntax.specs.declared.sign.Sign.{Sign}
 use Rattle.kat_syntax.specs.declared.sign.Sign.TheVariants.{Name, Keyword, Separator, Zero}
@@ -13,8 +13,8 @@ use Rattle.kat_syntax.specs.Scans.{scan_term, scan_cond}
 use Rattle.kat_syntax.proofs.Found.{bind_ok}
 use Rattle.kat_syntax.proofs.Scanned.{terms_taken, conds_taken}
 use Rattle.kat_syntax.proofs.Longest.{ended as ends_taken}
-use Rattle.problem_file.specs.Items.{Stepped, Scanned, is_comma, is_semicolon, opens_curly, closes_curly, is_equals, is_zero, is_triple, at_name, over_names, names_within, items_within, scan_names, scan_name, scan_braced, scan_triple, scan_sides, scan_goal, scan_hyp, scan_definition, scan_body, scan_item, scan_file}
-use Rattle.problem_file.specs.Phrases.{Names, one_name, more_names, Braced, TriplePhrase, Body, tests, actions, definition, hypothesis, hyp_triple, goal_equal, goal_below, goal_triple, Item, word_of, names_onto, braced_onto, triple_onto, body_onto, ended, item_onto, spelled, BracedObeys, TripleObeys, SidesObey, BodyObeys, ItemsObey, TripleFits, BodyFits, ItemsFit, Spells}
+use Rattle.problem_file.specs.Items.{Stepped, Scanned, is_comma, is_semicolon, opens_curly, closes_curly, is_equals, is_zero, at_name, over_names, items_within, scan_names, scan_name, scan_braced, scan_triple, scan_sides, scan_goal, scan_hyp, scan_definition, scan_body, scan_item, scan_file}
+use Rattle.problem_file.specs.Phrases.{Names, one_name, more_names, Braced, TriplePhrase, Body, tests, actions, definition, hypothesis, hyp_triple, goal_equal, goal_below, goal_triple, Item, word_of, names_onto, braced_onto, triple_onto, body_onto, ended, item_onto, spelled, BracedObeys, TripleObeys, SidesObey, BodyObeys, ItemsObey, TripleFits, BodyFits, ItemsFit}
 use Rattle.problem_file.specs.Sound.{EachName}
 use Rattle.problem_file.specs.Laws.{IsSomeFile, FilesAreScanned}
 use Rattle.problem_file.proofs.PhraseFronts.{no_triple, items_long}

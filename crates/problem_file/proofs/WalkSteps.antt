@@ -1,11 +1,10 @@
 -- The steps of an item: where each goes on, and with what.
-use Rattle.std.proofs.Common.{◌≡◌, ℕ, ◌+◌, ◌<◌, ◌≤◌, List, length, Bool, true, false, nat_lt, cond as if_true, Option, Some, None, is_some, Result, Ok, Err, refl, sym, ap, subst, ◌∙◌, arith}
-use Rattle.std.proofs.lemmas.Bool.{ltb-true, ltb-false, lt-ltb, le-ltb}
+use Rattle.std.proofs.Common.{◌≡◌, ℕ, ◌+◌, ◌≤◌, List, Bool, true, false, nat_lt, cond as if_true, Option, Some, None, is_some, Result, Ok, Err, refl, arith}
+use Rattle.std.proofs.lemmas.Bool.{ltb-false, le-ltb}
 use Rattle.kat_tokens.specs.declared.fault.TextFault.{TextFault}
 use Rattle.kat_tokens.specs.declared.fault.TextFault.TheVariants.{DoubleName, TooMany, TooLarge}
 use Rattle.kat_syntax.specs.Parsed.{◌>>=◌}
 use Rattle.kat_syntax.specs.Phrases.{Leaf}
-use Rattle.kat_text.specs.declared.meaning.Meaning.{Meaning}
 use Rattle.kat_text.specs.Worlds.{meaning, IsUndeclared}
 use Rattle.problem_file.specs.Files.{State, declare_test, declare_action, check_new, grow, check_size}
 use Rattle.problem_file.specs.Sound.{with_test, with_action, grown, DeclaresTest, DeclaresAction, HasRoom}

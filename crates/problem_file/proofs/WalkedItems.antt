@@ -1,14 +1,13 @@
 -- Where the syntax is right, an item passes its tests exactly where it makes what it is to make, and gives that.
-use Rattle.std.proofs.Common.{◌≡◌, ◌↔◌, ℕ, zero, suc, ◌+◌, ◌<◌, ◌≤◌, List, [], ◌∷◌, length, drop, Bool, true, false, nat_lt, cond as if_true, Option, Some, None, is_some, Result, Ok, Err, refl, sym, ap, subst, ◌∙◌, arith}
+use Rattle.std.proofs.Common.{◌≡◌, ℕ, zero, suc, ◌+◌, ◌≤◌, List, [], ◌∷◌, length, drop, Bool, true, false, nat_lt, cond as if_true, Option, Some, None, is_some, Result, Ok, Err, refl, sym, ap, subst, ◌∙◌, arith}
 use Rattle.std.proofs.lemmas.Bool.{ltb-false, le-ltb}
-use Rattle.kat_model.specs.Trees.{TestTree, Term, test_size, term_size}
+use Rattle.kat_model.specs.Trees.{Term, test_size, term_size}
 use Rattle.kat_model.specs.Expressions.{CondTree}
 use Rattle.kat_tokens.specs.declared.fault.TextFault.{TextFault}
 use Rattle.kat_tokens.specs.declared.fault.TextFault.TheVariants.{NoMemory, TooMany, TwoGoals}
-use Rattle.kat_syntax.specs.declared.sign.Sign.TheVariants.{Name, Keyword, Separator, Zero}
-use Rattle.kat_syntax.specs.declared.sign.Keyword.TheVariants as word
-use Rattle.kat_syntax.specs.declared.sign.Separator.TheVariants.{Comma, Semicolon, CurlyOpen, CurlyClose, Equals}
-use Rattle.kat_syntax.specs.Lexemes.{Lexeme, heads}
+use Rattle.kat_syntax.specs.declared.sign.Sign.TheVariants.{Keyword, Separator, Zero}
+use Rattle.kat_syntax.specs.declared.sign.Separator.TheVariants.{Comma, CurlyClose, Equals}
+use Rattle.kat_syntax.specs.Lexemes.{Lexeme}
 use Rattle.kat_syntax.specs.Parsed.{◌>>=◌, wants}
 use Rattle.kat_syntax.specs.Actions.{around}
 use Rattle.kat_syntax.specs.Phrases.{term, cond, Leaf, Phrase, put, onto, Obeys, Fits}
@@ -18,13 +17,12 @@ use Rattle.kat_text.specs.declared.extent.Extent.{Extent}
 use Rattle.kat_text.specs.Sizes.{cond_size, test_of}
 use Rattle.kat_syntax.specs.Folds.{fold}
 use Rattle.kat_text.specs.Measuring.{extents}
-use Rattle.kat_text.specs.Sound.{nesting}
 use Rattle.problem_file.specs.declared.walk.Declared.{Declared}
 use Rattle.problem_file.specs.declared.walk.Declared.TheVariants as what
-use Rattle.problem_file.specs.Files.{GoalTree, equal, below, triple, State, check_size, grow, define, state_hyp, state_goal, triple_term}
-use Rattle.problem_file.specs.Items.{Stepped, is_comma, is_semicolon, is_equals, is_zero, is_triple, names_within, over_names, and_then, items_within, TripleExtent, braced_extent, triple_extent, triple_nodes, triple_trees, triple_tree, term_extent, built_term, define_term, add_triple_hyp, add_term_hyp, add_hyp, sides_in, goal_triple_in, goal_in, add_goal, declare, walk_item, walk}
-use Rattle.problem_file.specs.Phrases.{Names, one_name, more_names, Braced, TriplePhrase, Body, tests, actions, definition, hypothesis, hyp_triple, goal_equal, goal_below, goal_triple, Item, word_of, names_onto, braced_onto, triple_onto, body_onto, ended, item_onto, spelled, BracedObeys, TripleObeys, SidesObey, BodyObeys, ItemsObey, TripleFits, BodyFits, ItemsFit, Spells}
-use Rattle.problem_file.specs.Sound.{EachName, DeclaresTest, DeclaresAction, grown, IsTerm, IsCond, HasRoom, Defines, States, StatesTriple, AsksSides, AsksTriple, Makes, MakeAll}
+use Rattle.problem_file.specs.Files.{GoalTree, equal, below, triple, State, define, state_hyp, state_goal, triple_term}
+use Rattle.problem_file.specs.Items.{Stepped, is_semicolon, over_names, and_then, items_within, TripleExtent, braced_extent, triple_extent, triple_trees, triple_tree, built_term, define_term, add_triple_hyp, add_term_hyp, add_hyp, sides_in, goal_triple_in, declare, walk_item, walk}
+use Rattle.problem_file.specs.Phrases.{Names, one_name, more_names, Braced, TriplePhrase, Body, tests, actions, definition, hypothesis, hyp_triple, goal_equal, goal_below, goal_triple, Item, word_of, names_onto, braced_onto, triple_onto, body_onto, ended, item_onto, spelled, BracedObeys, TripleObeys, SidesObey, BodyObeys, ItemsObey, TripleFits, BodyFits, ItemsFit}
+use Rattle.problem_file.specs.Sound.{EachName, grown, HasRoom, Defines, States, StatesTriple, AsksSides, AsksTriple, Makes, MakeAll}
 use Rattle.problem_file.specs.Laws.{ItemsAreWalked}
 use Rattle.problem_file.proofs.NameLists.{ok_of, err_of, Gives, names_taken, names_walked, EachItem, items_taken}
 use Rattle.problem_file.proofs.PhraseFronts.{no_triple, items_long}

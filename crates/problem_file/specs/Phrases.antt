@@ -1,5 +1,5 @@
 -- The phrases of a problem file, item by item, and the tokens that spell them.
-use Rattle.std.specs.Prelude.{◌≡◌, ℕ, ◌+◌, List, [], ◌∷◌}
+use Rattle.std.specs.Prelude.{◌≡◌, List, [], ◌∷◌}
 use Rattle.kat_syntax.specs.declared.sign.Sign.TheVariants.{Name, Keyword, Separator, Zero}
 use Rattle.kat_syntax.specs.declared.sign.Keyword.{Keyword as Word}
 use Rattle.kat_syntax.specs.declared.sign.Keyword.TheVariants as word

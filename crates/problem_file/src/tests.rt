@@ -10,7 +10,7 @@ fn reads_what_a_text_says(rt: HostRuntime) -> Result<(), Fail> {
     let alloc = rt.alloc();
     let text =
         b"test b, c; action p; term t = b.p + !b; hyp t.c = 0; hyp triple {b} p {c}; goal below t*, (p);";
-    let file = read(alloc, text).unwrap();
+    let file = read(alloc, text).expect(&rt, "the text says a file");
     assert_eq!(rt; (file.tests, file.actions, file.terms), (2, 1, 1));
     assert!(rt; file.scope.find("t") == Some(Meaning::Term(0)));
     let hyps = ["(((b.p) + [!b]).c)", "(b.(p.[!c]))"];
