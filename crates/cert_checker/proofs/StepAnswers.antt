@@ -1,0 +1,246 @@
+-- What the tests of two lists of targets say of the question whether the rules match them.
+use Rattle.std.proofs.Common.{◌≡◌, ℕ, zero, suc, ◌<◌, inl, inr, ⊎_elim, List, [], ◌∷◌, length, slice_get, refl, sym, ap, ◌∙◌, subst, arith, Bool, true, false, nat_lt, nat_eq, ◌&&◌, cond, Option, Some, None}
+use mathlib.Core.Bool.{beq}
+use mathlib.Core.Path.{ap₂}
+use Rattle.std.specs.Option.{option_map}
+use Rattle.std.specs.List.{AllByRecursion}
+use Rattle.std.specs.List.Sorted.{IsStrictlySortedBy}
+use Rattle.std.specs.Map.{keys_of}
+use Rattle.std.specs.BTreeMap.{is_at}
+use Rattle.std.specs.Cmp.Lexicographic.{pointwise}
+use Rattle.std.specs.declared.cmp.Ordering.TheVariants.{Less, Equal, Greater}
+use Rattle.std.specs.Ordering.{nat_cmp, is_eq}
+use Rattle.std.proofs.lemmas.Bool.{true≢false, and_parts, and_from, eqb-true, eq-eqb, ltb-true}
+use Rattle.std.proofs.lemmas.Map.Keys.{sorted_head, sorted_tail}
+use Rattle.kat_model.specs.Trees.{Term}
+use Rattle.kat_model.specs.Members.{Has, SameMembers}
+use Rattle.kat_model.specs.Steps.{Atom}
+use Rattle.kat_model.specs.Pairs.{SetPair, plain, sat, BothUniversal, IsListed, IsCongruent, AreMatched}
+use Rattle.kat_model.proofs.Lists.{has_any, any_has, has_map, map_has, same_members_sym, same_members_trans}
+use Rattle.kat_model.proofs.Saturation.{sat_keeps}
+use Rattle.certificate.specs.declared.nodes.Style.{Style}
+use Rattle.certificate.specs.declared.nodes.Style.TheVariants.{Plain, UpTo}
+use Rattle.certificate.specs.Nodes.{NumberPair, are_ascending}
+use Rattle.certificate.specs.Accepted.{pair_style}
+use Rattle.cert_checker.specs.declared.known.Known.{Known}
+use Rattle.cert_checker.specs.declared.known.Known.TheVariants.{Value, Waits}
+use Rattle.cert_checker.specs.NodeTables.{Nodes, AreTables, IsTerm, term_at, holds_at}
+use Rattle.cert_checker.specs.Targets.{chosen, AreEntries}
+use Rattle.cert_checker.specs.Cases.{Extends, AreKnown, HoldsThroughout}
+use Rattle.cert_checker.specs.Matching.{RuleParts, AreRules, MatchAt, pairs_of, known_of, truly, sure_targets, guard_of, is_sure, option_any, covers, lists, terms_of, AreSettled}
+use Rattle.cert_checker.proofs.OneNumber.{one_number_a_term}
+use Rattle.cert_checker.proofs.Covering.{chosen_has, has_chosen, known_value, truly_value, sure_chosen, guard_member, any_value}
+use Rattle.cert_checker.proofs.Covered.{sure_below, settled_sure, covered_congruent, congruent_covered}
+use Rattle.cert_checker.proofs.ListedPairs.{same_numbers}
+
+-- a guard that waits is there
+pub waits_there : (known : List Known) (g k : ℕ) → known_of known g ≡ Waits k → slice_get known g ≡ Some (Waits k)
+waits_there [] g k e = absurd cc
+waits_there (x ∷ known) zero k e = ap (λ (z : Known). Some z) e
+waits_there (x ∷ known) (suc g) k e = waits_there known g k e
+
+pub beq_same : (x y : Bool) → beq x y ≡ true → x ≡ y
+beq_same false false e = refl
+beq_same true true e = refl
+beq_same false true e = absurd cc
+beq_same true false e = absurd cc
+
+pub beq_other : (x y : Bool) → beq x y ≡ false → x ≡ y → ⊥
+beq_other false false e s = absurd cc
+beq_other true true e s = absurd cc
+beq_other false true e s = absurd cc
+beq_other true false e s = absurd cc
+
+-- ---- keys of targets ascend
+
+less_lt : (x y : ℕ) → nat_cmp x y ≡ Less → nat_lt x y ≡ true
+less_lt x y = go (nat_lt x y) (nat_eq x y)
+  where
+    go : (a b : Bool) → cond a Less (cond b Equal Greater) ≡ Less → a ≡ true
+    go true b e = refl
+    go false true e = absurd cc
+    go false false e = absurd cc
+
+-- a number below the keys is below the targets that surely are there
+sure_above : (known : List Known) (x : ℕ) (es : List (ℕ × ℕ)) → AllByRecursion (λ y. nat_cmp x y ≡ Less) (keys_of es) → are_ascending (sure_targets known es) ≡ true → are_ascending (x ∷ sure_targets known es) ≡ true
+sure_above known x [] above a = refl
+sure_above known x (e ∷ es) above a = go (truly (known_of known e.1)) (sure_above known x es above.1) a
+  where
+    go : (b : Bool) → (are_ascending (sure_targets known es) ≡ true → are_ascending (x ∷ sure_targets known es) ≡ true) → are_ascending (cond b (e.0 ∷ sure_targets known es) (sure_targets known es)) ≡ true → are_ascending (x ∷ cond b (e.0 ∷ sure_targets known es) (sure_targets known es)) ≡ true
+    go true rest h = and_from (nat_lt x e.0) _ (less_lt x e.0 above.0) h
+    go false rest h = rest h
+
+pub sure_ascending : (known : List Known) (es : List (ℕ × ℕ)) → IsStrictlySortedBy nat_cmp (keys_of es) → are_ascending (sure_targets known es) ≡ true
+sure_ascending known [] sorted = refl
+sure_ascending known (e ∷ es) sorted = go (truly (known_of known e.1)) (sure_ascending known es (sorted_tail nat_cmp e.0 (keys_of es) sorted))
+  where
+    go : (b : Bool) → are_ascending (sure_targets known es) ≡ true → are_ascending (cond b (e.0 ∷ sure_targets known es) (sure_targets known es)) ≡ true
+    go true rest = sure_above known e.0 es (sorted_head nat_cmp e.0 (keys_of es) sorted) rest
+    go false rest = rest
+
+key_above : (x : ℕ) (es : List (ℕ × ℕ)) (e : ℕ × ℕ) → AllByRecursion (λ y. nat_cmp x y ≡ Less) (keys_of es) → Has es e → x < e.0
+key_above x [] e above h = absurd h
+key_above x (d ∷ es) e above h =
+    ⊎_elim
+    (λ s. let low : x < d.0 = ltb-true x d.0 (less_lt x d.0 above.0) in subst (λ (p : ℕ × ℕ). x < p.0) s low)
+    (λ r. key_above x es e above.1 r)
+    h
+
+is_eq_eq : (x y : ℕ) → is_eq (nat_cmp x y) ≡ true → x ≡ y
+is_eq_eq x y = go (nat_lt x y) (nat_eq x y) refl
+  where
+    go : (a b : Bool) → nat_eq x y ≡ b → is_eq (cond a Less (cond b Equal Greater)) ≡ true → x ≡ y
+    go true b s e = absurd cc
+    go false true s e = eqb-true x y s
+    go false false s e = absurd cc
+
+eq_is_eq : (x : ℕ) → is_eq (nat_cmp x x) ≡ true
+eq_is_eq x = go (nat_lt x x) (nat_eq x x) refl refl
+  where
+    go : (a b : Bool) → nat_lt x x ≡ a → nat_eq x x ≡ b → is_eq (cond a Less (cond b Equal Greater)) ≡ true
+    go true b s e = let low : x < x = ltb-true x x s in absurd (omega (arith, low))
+    go false true s e = refl
+    go false false s e = absurd (true≢false (sym (eq-eqb x x refl) ∙ e))
+
+-- the guard of a target is found
+pub guard_found : (es : List (ℕ × ℕ)) (e : ℕ × ℕ) → IsStrictlySortedBy nat_cmp (keys_of es) → Has es e → guard_of es e.0 ≡ Some e.1
+guard_found [] e sorted h = absurd h
+guard_found (d ∷ es) e sorted h = ⊎_elim same (λ r. later (is_at (nat_cmp e.0) d.0) refl r (guard_found es e (sorted_tail nat_cmp d.0 (keys_of es) sorted) r)) h
+  where
+    same : d ≡ e → cond (is_at (nat_cmp e.0) d.0) (Some d.1) (guard_of es e.0) ≡ Some e.1
+    same s = subst (λ (p : ℕ × ℕ). cond (is_at (nat_cmp p.0) d.0) (Some d.1) (guard_of es p.0) ≡ Some p.1) s (rw (eq_is_eq d.0) refl)
+
+    later : (b : Bool) → is_at (nat_cmp e.0) d.0 ≡ b → Has es e → guard_of es e.0 ≡ Some e.1 → cond b (Some d.1) (guard_of es e.0) ≡ Some e.1
+    later true s r rest =
+        let one : e.0 ≡ d.0 = is_eq_eq e.0 d.0 s in
+        let low : d.0 < e.0 = key_above d.0 es e (sorted_head nat_cmp d.0 (keys_of es) sorted) r in
+        absurd (omega (arith, one, low))
+    later false s r rest = rest
+
+-- ---- lists of numbers
+
+same_pointwise : (ks ls : List ℕ) → pointwise nat_eq ks ls ≡ true → ks ≡ ls
+same_pointwise [] [] e = refl
+same_pointwise [] (l ∷ ls) e = absurd cc
+same_pointwise (k ∷ ks) [] e = absurd cc
+same_pointwise (k ∷ ks) (l ∷ ls) e =
+    let parts = and_parts (nat_eq k l) (pointwise nat_eq ks ls) e in
+    ap₂ (λ (z : ℕ) (zs : List ℕ). z ∷ zs) (eqb-true k l parts.0) (same_pointwise ks ls parts.1)
+
+pointwise_itself : (ks : List ℕ) → pointwise nat_eq ks ks ≡ true
+pointwise_itself [] = refl
+pointwise_itself (k ∷ ks) = and_from (nat_eq k k) (pointwise nat_eq ks ks) (eq-eqb k k refl) (pointwise_itself ks)
+
+-- ---- what the tests say
+
+module _ (t : Nodes) (are : AreTables t) (decided : List (Option Bool)) (known : List Known) (ak : AreKnown t decided known) (r : RuleParts) (rules : AreRules t r)
+    (left right : List (ℕ × ℕ)) (own : AreEntries t left) (other : AreEntries t right) where
+  by_plain : r.style ≡ Plain → (atom : Atom) → AreMatched plain (option_map (term_at t) r.universal) (pairs_of t r.pairs) (chosen t left atom) (chosen t right atom) → MatchAt t r left right atom
+  by_plain e atom m = subst (λ (s : Style). AreMatched (pair_style s) (option_map (term_at t) r.universal) (pairs_of t r.pairs) (chosen t left atom) (chosen t right atom)) (sym e) m
+
+  to_plain : r.style ≡ Plain → (atom : Atom) → MatchAt t r left right atom → AreMatched plain (option_map (term_at t) r.universal) (pairs_of t r.pairs) (chosen t left atom) (chosen t right atom)
+  to_plain e atom m = subst (λ (s : Style). AreMatched (pair_style s) (option_map (term_at t) r.universal) (pairs_of t r.pairs) (chosen t left atom) (chosen t right atom)) e m
+
+  by_up_to : r.style ≡ UpTo → (atom : Atom) → IsCongruent (option_map (term_at t) r.universal) (pairs_of t r.pairs) (chosen t left atom) (chosen t right atom) → MatchAt t r left right atom
+  by_up_to e atom m = subst (λ (s : Style). AreMatched (pair_style s) (option_map (term_at t) r.universal) (pairs_of t r.pairs) (chosen t left atom) (chosen t right atom)) (sym e) m
+
+  to_up_to : r.style ≡ UpTo → (atom : Atom) → MatchAt t r left right atom → IsCongruent (option_map (term_at t) r.universal) (pairs_of t r.pairs) (chosen t left atom) (chosen t right atom)
+  to_up_to e atom m = subst (λ (s : Style). AreMatched (pair_style s) (option_map (term_at t) r.universal) (pairs_of t r.pairs) (chosen t left atom) (chosen t right atom)) e m
+
+  -- a term that surely is among the targets is chosen
+  sure_has : (atom : Atom) → Extends decided atom → (u : ℕ) (es : List (ℕ × ℕ)) → AreEntries t es → is_sure known es u ≡ true → Has (chosen t es atom) (term_at t u)
+  sure_has atom extends u es entries s =
+      let v = any_value (λ g. truly (known_of known g)) (guard_of es u) s in
+      let member = guard_member u es v.0 v.1 in
+      chosen_has t es atom (u, v.0) member (known_value t decided known ak atom extends v.0 true (entries (u, v.0) member).1 (truly_value (known_of known v.0) v.2))
+
+  both_universal : (atom : Atom) → Extends decided atom → (universal : Option ℕ) → option_any (λ u. is_sure known left u && is_sure known right u) universal ≡ true → BothUniversal (option_map (term_at t) universal) (chosen t left atom) (chosen t right atom)
+  both_universal atom extends None e = absurd cc
+  both_universal atom extends (Some u) e =
+      let parts = and_parts (is_sure known left u) (is_sure known right u) e in
+      (sure_has atom extends u left own parts.0, sure_has atom extends u right other parts.1)
+
+  more_universal : (universal : Option Term) (ps : List SetPair) (es fs : List Term) → BothUniversal universal es fs → BothUniversal universal (sat ps es) (sat ps fs)
+  more_universal None ps es fs h = h
+  more_universal (Some u) ps es fs h = (sat_keeps ps es u h.0, sat_keeps ps fs u h.1)
+
+  -- both sets surely hold the universal term
+  pub universal_holds : option_any (λ u. is_sure known left u && is_sure known right u) r.universal ≡ true → HoldsThroughout (MatchAt t r left right) decided
+  universal_holds e atom extends =
+      by_style r.style
+    where
+      both : BothUniversal (option_map (term_at t) r.universal) (chosen t left atom) (chosen t right atom)
+      both = both_universal atom extends r.universal e
+
+      by_style : (s : Style) → AreMatched (pair_style s) (option_map (term_at t) r.universal) (pairs_of t r.pairs) (chosen t left atom) (chosen t right atom)
+      by_style Plain = inr both
+      by_style UpTo = inr (more_universal (option_map (term_at t) r.universal) (pairs_of t r.pairs) (chosen t left atom) (chosen t right atom) both)
+
+  -- where all guards are settled, the chosen terms are those that surely are there
+  settled_same : (atom : Atom) → Extends decided atom → (es : List (ℕ × ℕ)) → AreEntries t es → AreSettled known es → SameMembers (chosen t es atom) (terms_of t (sure_targets known es))
+  settled_same atom extends es entries settled x = (settled_sure t are decided known ak r rules atom extends es entries settled x, sure_chosen t decided known ak atom extends es entries x)
+
+  module _ (settled : AreSettled known left) (settled_other : AreSettled known right) where
+    -- the sets that surely are there are listed
+    pub listed_holds : r.style ≡ Plain → lists r.pairs (sure_targets known left) (sure_targets known right) ≡ true → HoldsThroughout (MatchAt t r left right) decided
+    listed_holds plainly e atom extends =
+        let found = has_any (λ (p : NumberPair). pointwise nat_eq p.left (sure_targets known left) && pointwise nat_eq p.right (sure_targets known right)) r.pairs e in
+        let parts = and_parts (pointwise nat_eq found.0.left (sure_targets known left)) (pointwise nat_eq found.0.right (sure_targets known right)) found.2 in
+        by_plain plainly atom (inl (record {
+          pair = record { left = terms_of t found.0.left; right = terms_of t found.0.right };
+          listed = map_has (λ (p : NumberPair). record { left = terms_of t p.left; right = terms_of t p.right }) r.pairs found.0 found.1;
+          lefts = subst (λ ks. SameMembers (chosen t left atom) (terms_of t ks)) (sym (same_pointwise found.0.left (sure_targets known left) parts.0)) (settled_same atom extends left own settled);
+          rights = subst (λ ks. SameMembers (chosen t right atom) (terms_of t ks)) (sym (same_pointwise found.0.right (sure_targets known right) parts.1)) (settled_same atom extends right other settled_other);
+        }))
+
+    module _ (sorted : IsStrictlySortedBy nat_cmp (keys_of left)) (sorted_other : IsStrictlySortedBy nat_cmp (keys_of right)) where
+      -- a universal term that is chosen surely is there
+      chosen_sure : (atom : Atom) → Extends decided atom → (u : ℕ) → IsTerm t u → (es : List (ℕ × ℕ)) → AreEntries t es → AreSettled known es → IsStrictlySortedBy nat_cmp (keys_of es) → Has (chosen t es atom) (term_at t u) → is_sure known es u ≡ true
+      chosen_sure atom extends u is_term es entries all_settled keys h =
+          let f = has_chosen t es atom (term_at t u) h in
+          let one : f.0.0 ≡ u = one_number_a_term t are f.0.0 u (entries f.0 f.1).0 is_term f.3 in
+          let s = all_settled f.0 f.1 in
+          let value : holds_at t f.0.1 atom ≡ s.0 = known_value t decided known ak atom extends f.0.1 s.0 (entries f.0 f.1).1 s.1 in
+          let sure : known_of known f.0.1 ≡ Value true = s.1 ∙ ap Value (sym value ∙ f.2) in
+          let found : guard_of es u ≡ Some f.0.1 = ap (guard_of es) (sym one) ∙ guard_found es f.0 keys f.1 in
+          ap (option_any (λ g. truly (known_of known g))) found ∙ ap truly sure
+
+      universal_sure : (atom : Atom) → Extends decided atom → (universal : Option ℕ) → ((u : ℕ) → universal ≡ Some u → IsTerm t u) → BothUniversal (option_map (term_at t) universal) (chosen t left atom) (chosen t right atom) → option_any (λ u. is_sure known left u && is_sure known right u) universal ≡ true
+      universal_sure atom extends None within h = absurd h
+      universal_sure atom extends (Some u) within h =
+          and_from (is_sure known left u) (is_sure known right u)
+          (chosen_sure atom extends u (within u refl) left own settled sorted h.0)
+          (chosen_sure atom extends u (within u refl) right other settled_other sorted_other h.1)
+
+      listed_found : (atom : Atom) → Extends decided atom → IsListed (pairs_of t r.pairs) (chosen t left atom) (chosen t right atom) → lists r.pairs (sure_targets known left) (sure_targets known right) ≡ true
+      listed_found atom extends h =
+          let f = has_map (λ (p : NumberPair). record { left = terms_of t p.left; right = terms_of t p.right }) r.pairs h.pair h.listed in
+          let numbers = rules.pairs f.0 f.1 in
+          let lefts : f.0.left ≡ sure_targets known left =
+          same_numbers t are f.0.left (sure_targets known left) numbers.0.there (sure_below t known left own) numbers.0.ascending (sure_ascending known left sorted)
+          (same_members_trans (terms_of t f.0.left) (chosen t left atom) (terms_of t (sure_targets known left))
+          (same_members_sym (chosen t left atom) (terms_of t f.0.left) (subst (λ (p : SetPair). SameMembers (chosen t left atom) p.left) (sym f.2) h.lefts))
+          (settled_same atom extends left own settled)) in
+          let rights : f.0.right ≡ sure_targets known right =
+          same_numbers t are f.0.right (sure_targets known right) numbers.1.there (sure_below t known right other) numbers.1.ascending (sure_ascending known right sorted_other)
+          (same_members_trans (terms_of t f.0.right) (chosen t right atom) (terms_of t (sure_targets known right))
+          (same_members_sym (chosen t right atom) (terms_of t f.0.right) (subst (λ (p : SetPair). SameMembers (chosen t right atom) p.right) (sym f.2) h.rights))
+          (settled_same atom extends right other settled_other)) in
+          any_has (λ (p : NumberPair). pointwise nat_eq p.left (sure_targets known left) && pointwise nat_eq p.right (sure_targets known right)) r.pairs f.0 f.1
+          (and_from (pointwise nat_eq f.0.left (sure_targets known left)) _
+          (ap (λ ks. pointwise nat_eq ks (sure_targets known left)) lefts ∙ pointwise_itself (sure_targets known left))
+          (ap (λ ks. pointwise nat_eq ks (sure_targets known right)) rights ∙ pointwise_itself (sure_targets known right)))
+
+      pub unlisted_fails : r.style ≡ Plain → option_any (λ u. is_sure known left u && is_sure known right u) r.universal ≡ false → lists r.pairs (sure_targets known left) (sure_targets known right) ≡ false → (atom : Atom) → Extends decided atom → MatchAt t r left right atom → ⊥
+      unlisted_fails plainly unsure none atom extends m =
+          ⊎_elim
+          (λ l. true≢false (sym (listed_found atom extends l) ∙ none))
+          (λ u. true≢false (sym (universal_sure atom extends r.universal rules.universal u) ∙ unsure))
+          (to_plain plainly atom m)
+
+    pub uncovered_fails : r.style ≡ UpTo → covers (length t.terms) r known left right ≡ false → (atom : Atom) → Extends decided atom → MatchAt t r left right atom → ⊥
+    uncovered_fails congruent none atom extends m =
+        true≢false (sym (congruent_covered t are decided known ak r rules atom extends left right own other settled settled_other (to_up_to congruent atom m)) ∙ none)
+
+  pub covered_holds : r.style ≡ UpTo → covers (length t.terms) r known left right ≡ true → HoldsThroughout (MatchAt t r left right) decided
+  covered_holds congruent e atom extends = by_up_to congruent atom (covered_congruent t are decided known ak r rules atom extends left right own other e)

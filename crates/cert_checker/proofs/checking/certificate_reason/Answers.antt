@@ -1,0 +1,17 @@
+use Rattle.std.proofs.Common.{◌<◌, sym, subst}
+use Rattle.kat_model.specs.Members.{Has}
+use Rattle.certificate.specs.declared.nodes.TestNode.TheVariants.{Prim}
+use Rattle.certificate.specs.declared.nodes.TermNode.TheVariants.{Act}
+use Rattle.cert_checker.specs.Ranges.{IsFirstOut}
+use Rattle.cert_checker.proofs.FirstReasons.{first_term}
+use Rattle.cert_checker.proofs.checking.certificate_reason.Goals as goal
+
+pub returns-in-Some-action_out : goal.returns-in-Some-action_out
+returns-in-Some-action_out c =
+    let q = c.args.problem.now in
+    let cert = c.args.cert.now in
+    first_term q cert
+    (λ i h. subst (λ n. i < n) c.tests.ensures.value (c.in_default.ensures i (subst (λ l. Has l (Prim i)) (sym c.test_nodes.ensures.value) h)))
+    c.in-Some-action_out.k
+    (subst (λ n. IsFirstOut Act n cert.term_nodes c.in-Some-action_out.k) c.actions.ensures.value
+    (subst (λ l. IsFirstOut Act c.actions.result l c.in-Some-action_out.k) c.term_nodes.ensures.value c.in-Some-action_out.ensures))

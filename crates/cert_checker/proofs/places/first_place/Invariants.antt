@@ -1,0 +1,14 @@
+use Rattle.std.proofs.Common.{◌<◌, ◌+◌}
+use Rattle.std.specs.Option.{option_map}
+use Rattle.cert_checker.specs.NodeTables.{AreTables, Grows, nodes_of}
+use Rattle.cert_checker.specs.Targets.{AreAcceptances}
+use Rattle.cert_checker.specs.Places.{IsFirstOf, place_reason}
+use Rattle.cert_checker.proofs.places.first_place.Given as goal
+
+abbrev pub invariant-loop-action : goal.invariant-loop-action
+invariant-loop-action l = record {
+  tables : AreTables l.tables;
+  grows : Grows (nodes_of l.problem.tests l.cert) l.tables;
+  accepting : AreAcceptances l.tables l.accepting.items;
+  place : IsFirstOf l.problem l.cert (λ n. n < l.action + 1) (option_map place_reason l.place);
+}

@@ -1,0 +1,26 @@
+use Rattle.std.proofs.Common.{◌≡◌, ◌<◌, ◌+◌, ℕ, List, ◌∷◌, length, get_or, drop, subst, arith}
+use Rattle.std.proofs.lemmas.List.{drop_more}
+use Rattle.cert_checker.proofs.TargetSets.{test_within}
+use Rattle.cert_checker.proofs.StepLists.{below_at, accept_at}
+use Rattle.cert_checker.proofs.SetAcceptances.{IsAccepting, accepting_more}
+use Rattle.cert_checker.proofs.places.set_acceptance.Goals as goal
+
+pub either-requires-clause-second : goal.either-requires-clause-second
+either-requires-clause-second c =
+    let now = c.loop-number.invariant in
+    let set = c.args.set.now in
+    let k = get_or set c.loop-number.number-index 0 in
+    let low : k < length c.args.accepting.now = below_at (length c.args.accepting.now) set c.loop-number.number-index 0 c.requires.set (omega arith) in
+    test_within c.args.tables.now c.loop-number.tables now.was now.grows _ (accept_at c.args.tables.now c.args.accepting.now k c.requires.accepting low).0
+
+pub loop-number-preserved : goal.loop-number-preserved
+loop-number-preserved c =
+    let now = c.loop-number.invariant in
+    let set = c.args.set.now in
+    let i = c.loop-number.number-index in
+    let k = get_or set i 0 in
+    let low : k < length c.args.accepting.now = below_at (length c.args.accepting.now) set i 0 c.requires.set (omega arith) in
+    let cut : drop i set ≡ k ∷ drop (i + 1) set = drop_more set i 0 (omega arith) in
+    accepting_more c.args.tables.now c.loop-number.tables c.either.new.self c.loop-number.guard c.in_ok-guard-2.guard k (drop (i + 1) set) set c.args.accepting.now
+    (subst (λ (l : List ℕ). IsAccepting c.args.tables.now c.loop-number.tables c.loop-number.guard l set) cut now)
+    c.requires.accepting low c.either.ensures.tables c.either.ensures.grows c.either.ensures.terms c.in_ok-guard-2.ensures.is_test c.in_ok-guard-2.ensures.value

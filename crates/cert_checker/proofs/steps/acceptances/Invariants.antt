@@ -1,0 +1,13 @@
+use Rattle.std.proofs.Common.{◌≡◌, length}
+use Rattle.cert_checker.specs.NodeTables.{AreTables, Grows}
+use Rattle.cert_checker.specs.Targets.{AreAcceptances}
+use Rattle.cert_checker.proofs.steps.acceptances.Given as goal
+
+abbrev pub invariant-loop-number : goal.invariant-loop-number
+invariant-loop-number l = record {
+  count : length l.guards.items ≡ l.number;
+  tables : AreTables l.tables;
+  grows : Grows l.initial.tables l.tables;
+  terms : l.tables.terms ≡ l.initial.tables.terms;
+  values : AreAcceptances l.tables l.guards.items;
+}

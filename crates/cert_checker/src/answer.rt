@@ -1,0 +1,37 @@
+//! Answers of the checker.
+use string_tables::Items;
+
+/// Why evidence is rejected. Pairs, nodes, hypotheses, positions and actions are numbered from 0; an atom has
+/// a truth value for each test, test 0 first.
+///
+/// The reason of a certificate is the first in this order: `TestNode`, `TermNode`, `FirstPair`, and then the
+/// least pair that fails, in it the least atom at which it fails (atoms are compared from test 0, false before
+/// true), and there `Output` before `Missing`, which names the least action.
+#[derive(Drop)]
+pub enum Reason {
+    /// There is no pair, or the first one is not the two closed sides, each as a set of one term.
+    FirstPair,
+    /// At this pair and atom one set accepts and the other does not.
+    Output(usize, Items<bool>),
+    /// At this pair and atom, the sets that this action leads to are not matched by the listed pairs.
+    Missing(usize, Items<bool>, usize),
+    /// At this position the atom has not a value for each test, or the action into it is out of range.
+    Shape(usize),
+    /// This hypothesis relates the first position named to the second.
+    HypBroken(usize, usize, usize),
+    /// Both sides relate the ends of the string, or neither does.
+    EndsAgree,
+    /// The primitive test of this test node is out of range.
+    TestNode(usize),
+    /// The action of this term node is out of range.
+    TermNode(usize),
+}
+
+/// What the checker says of evidence.
+#[derive(Drop)]
+pub enum Answer {
+    /// It shows what it says: that the sides are the same, or that they are not.
+    Accepted,
+    /// It does not, and this is the first reason.
+    Rejected(Reason),
+}

@@ -1,0 +1,132 @@
+//! The checker.
+ghost use Rattle.std.specs.Prelude.{◌≡◌, ◌↔◌, ◌<◌, ℕ, MatchOption, IfOk};
+ghost use Rattle.kat_model.specs.Members.{Has};
+ghost use Rattle.kat_model.specs.Closed.{closed as closed'};
+ghost use Rattle.goal_forms.specs.ClosedTrees.{closed_trees};
+ghost use Rattle.certificate.specs.declared.nodes.TestNode.TheVariants.{Prim};
+ghost use Rattle.certificate.specs.declared.nodes.TermNode.TheVariants.{Act};
+ghost use Rattle.certificate.specs.Accepted.{set_pairs, IsAccepted};
+ghost use Rattle.cert_checker.specs.declared.answer.Answer.TheVariants.{Accepted};
+ghost use Rattle.cert_checker.specs.Answers.{Shows, BeginsWithSides, FailsFirstBy, IsFoundBy, IsAnswer, finding_reason};
+ghost use Rattle.cert_checker.specs.Laws.{Says};
+ghost use Rattle.cert_checker.specs.Places.{IsScope, place_reason};
+
+use crate::answer::{Answer, Reason};
+use crate::places::{Place, first_place};
+use crate::range::{action_out, test_out};
+use crate::sides::{begins_with, node_of};
+use certificate::{Cert, Evidence};
+use goal_forms::{Closed, eliminate};
+use kat_model::{NoMemory, Problem};
+use std::alloc::Global;
+use string_tables::{Finding, Items, verdict};
+
+fn reason_of_place(place: Place) -> Reason
+    ensures { result ≡ place_reason place }
+{
+    let Place { pair, atom, action } = place;
+    match action {
+        None => Reason::Output(pair, Items::of(atom)),
+        Some(action) => Reason::Missing(pair, Items::of(atom), action),
+    }
+}
+
+// The node of the universal term, where there is one. The first pair spells it.
+fn universal_node(problem: &Problem, cert: &Cert, closed: &Closed) -> Option<usize>
+    requires closed { closed_trees closed.now ≡ closed' problem.now }
+    requires first { BeginsWithSides problem.now (set_pairs cert.now) }
+    ensures { IsScope problem.now cert.now result }
+{
+    match &closed.universal {
+        Some(term) => node_of(cert, term),
+        None => None,
+    }
+}
+
+// The first reason of the pairs, where all nodes are in range.
+fn pairs_reason(
+    alloc: Global,
+    problem: &Problem,
+    cert: &Cert,
+    closed: &Closed,
+) -> Result<Option<Reason>, NoMemory>
+    requires tests { (k : ℕ) → Has cert.now.test_nodes (Prim k) → k < problem.now.tests }
+    requires actions { (a : ℕ) → Has cert.now.term_nodes (Act a) → a < problem.now.actions }
+    requires closed { closed_trees closed.now ≡ closed' problem.now }
+    ensures { IfOk result (λ o. MatchOption o (IsAccepted problem.now cert.now) (λ r. FailsFirstBy problem.now cert.now r)) }
+{
+    if !begins_with(cert, closed) {
+        return Ok(Some(Reason::FirstPair));
+    }
+    let universal = universal_node(problem, cert, closed);
+    match first_place(alloc, problem, cert, universal)? {
+        Some(place) => Ok(Some(reason_of_place(place))),
+        None => Ok(None),
+    }
+}
+
+// The first reason why the certificate is not accepted.
+fn certificate_reason(
+    alloc: Global,
+    problem: &Problem,
+    cert: &Cert,
+) -> Result<Option<Reason>, NoMemory>
+    ensures { IfOk result (λ o. MatchOption o (IsAccepted problem.now cert.now) (λ r. FailsFirstBy problem.now cert.now r)) }
+{
+    if let Some(k) = test_out(cert.test_nodes(), problem.tests()) {
+        return Ok(Some(Reason::TestNode(k)));
+    }
+    if let Some(k) = action_out(cert.term_nodes(), problem.actions()) {
+        return Ok(Some(Reason::TermNode(k)));
+    }
+    let closed = eliminate(alloc, problem)?;
+    pairs_reason(alloc, problem, cert, &closed)
+}
+
+// Why a string with this finding does not refute the problem.
+fn string_reason(finding: Finding) -> Option<Reason>
+    ensures { result ≡ finding_reason finding }
+{
+    match finding {
+        Finding::Refutes(_) => None,
+        Finding::Shape(k) => Some(Reason::Shape(k)),
+        Finding::HypBroken(h, i, j) => Some(Reason::HypBroken(h, i, j)),
+        Finding::EndsAgree(_) => Some(Reason::EndsAgree),
+    }
+}
+
+// The first reason why the evidence does not show what it says.
+fn first_reason(
+    alloc: Global,
+    problem: &Problem,
+    evidence: &Evidence,
+) -> Result<Option<Reason>, NoMemory>
+    ensures { IfOk result (λ o. MatchOption o (Shows problem.now evidence.now) (λ r. IsFoundBy problem.now evidence.now r)) }
+{
+    match evidence {
+        Evidence::Equal(cert) => certificate_reason(alloc, problem, cert),
+        Evidence::Different(string) => {
+            let finding = verdict(alloc, problem, string)?;
+            Ok(string_reason(finding))
+        }
+    }
+}
+
+/// Whether the evidence shows what it says of the problem: `Accepted` exactly where the certificate is accepted
+/// or the string refutes the problem, and otherwise `Rejected` with the first reason. Nothing is assumed of who
+/// made it. The only refusal is want of memory.
+///
+/// The reason is the one that `Reason` says: the certificate or the string fails so, and in no way that stands
+/// before.
+pub fn check(alloc: Global, problem: &Problem, evidence: &Evidence) -> Result<Answer, NoMemory>
+    ensures accepted { IfOk result (λ answer. (answer ≡ Accepted) ↔ Shows problem.now evidence.now) }
+    ensures answer { IfOk result (λ answer. IsAnswer problem.now evidence.now answer) }
+
+    // What accepted evidence says is so: both sides are the same, or they are not.
+    ensures shown { IfOk result (λ answer. answer ≡ Accepted → Says problem.now evidence.now) }
+{
+    match first_reason(alloc, problem, evidence)? {
+        None => Ok(Answer::Accepted),
+        Some(reason) => Ok(Answer::Rejected(reason)),
+    }
+}

@@ -1,0 +1,292 @@
+//! Whether the listed pairs match the sets that an action leads to, as far as the decided tests tell.
+ghost use Rattle.std.specs.Prelude.{◌≡◌, ◌<◌, ℕ, ◌&&◌, Bool, List, Option, Some, length, MatchOption, IfSome, IfOk};
+ghost use Rattle.std.specs.List.Sorted.{IsStrictlySortedBy};
+ghost use Rattle.std.specs.Map.{keys_of};
+ghost use Rattle.std.specs.Ordering.{nat_cmp};
+ghost use Rattle.cert_checker.specs.Targets.{AreEntries};
+ghost use Rattle.cert_checker.specs.Cases.{AreKnown, IsWaited, waiting_for};
+ghost use Rattle.cert_checker.specs.Matching.{AreRules, MatchAt, known_of, IsState, option_any, truly, falsely, sure_targets, is_sure, guarded_by, open_targets, are_both_marked, covers, lists, AreSettled};
+
+use crate::known::{Known, guard_value};
+use crate::saturation::{holds_all, is_marked, saturated};
+use crate::tables::Tables;
+use crate::targets::Targets;
+use certificate::{Pair, Style};
+use kat_model::NoMemory;
+use std::alloc::Global;
+use std::marker::Model;
+
+/// What a step has to be matched by: the style and the listed pairs of a certificate, and the universal term.
+#[derive(Drop)]
+pub(crate) struct Rules<'a> {
+    pub style: Style,
+    pub pairs: &'a [Pair],
+    pub universal: Option<usize>,
+}
+
+impl<'a> Model for Rules<'a> {
+    ghost use Rattle.cert_checker.specs.Matching.{RuleParts};
+
+    ghost Value = { RuleParts };
+
+    ghost view = { λ r. record { style = r.style; pairs = r.pairs.now; universal = r.universal } };
+}
+
+/// What is known of a question at the atoms with the decided tests.
+#[derive(Clone, Copy, Debug, PartialEq, Eq)]
+pub(crate) enum State {
+    /// It holds at each of them.
+    Holds,
+    /// It fails at each of them.
+    Fails,
+    /// It may depend on this test, which is not decided.
+    Waits(usize),
+}
+
+fn is_true(known: Known) -> bool
+    ensures { result ≡ truly known }
+{
+    matches!(known, Known::Value(true))
+}
+
+fn is_false(known: Known) -> bool
+    ensures { result ≡ falsely known }
+{
+    matches!(known, Known::Value(false))
+}
+
+// Whether the term surely is among the targets.
+fn surely_has(targets: &Targets, term: usize, known: &[Known]) -> bool
+    ensures { result ≡ is_sure known.now targets.now.entries term }
+{
+    match targets.get(&term) {
+        Some(guard) => is_true(guard_value(known, *guard)),
+        None => false,
+    }
+}
+
+// Whether the term has this guard among the targets.
+fn has_guard(targets: &Targets, term: usize, guard: usize) -> bool
+    ensures { result ≡ guarded_by targets.now.entries term guard }
+{
+    match targets.get(&term) {
+        Some(other) => *other == guard,
+        None => false,
+    }
+}
+
+// The targets that surely are in the set, in ascending order.
+fn sure_terms(alloc: Global, targets: &Targets, known: &[Known]) -> Result<Vec<usize>, NoMemory>
+    ensures { IfOk result (λ v. v.items ≡ sure_targets known.now targets.now.entries) }
+{
+    let mut terms = Vec::new(alloc);
+    for (term, guard) in targets.iter() {
+        if is_true(guard_value(known, *guard)) {
+            terms.push(*term)?;
+        }
+    }
+    Ok(terms)
+}
+
+// The targets that may be in the set at an atom at which they are not in the other.
+fn open_terms(
+    alloc: Global,
+    targets: &Targets,
+    others: &Targets,
+    known: &[Known],
+) -> Result<Vec<usize>, NoMemory>
+    ensures { IfOk result (λ v. v.items ≡ open_targets known.now others.now.entries targets.now.entries) }
+{
+    let mut terms = Vec::new(alloc);
+    for (term, guard) in targets.iter() {
+        if !is_false(guard_value(known, *guard))
+            && !has_guard(others, *term, *guard)
+            && !surely_has(others, *term, known)
+        {
+            terms.push(*term)?;
+        }
+    }
+    Ok(terms)
+}
+
+fn both_marked(universal: Option<usize>, left: &[bool], right: &[bool]) -> bool
+    ensures { result ≡ are_both_marked universal left.now right.now }
+{
+    match universal {
+        Some(term) => is_marked(left, term) && is_marked(right, term),
+        None => false,
+    }
+}
+
+// Whether the sets are congruent at all the atoms: what may be in one set is in the other, or is brought there
+// by what surely is.
+fn is_covered(
+    alloc: Global,
+    count: usize,
+    rules: &Rules,
+    left: &Targets,
+    right: &Targets,
+    known: &[Known],
+) -> Result<bool, NoMemory>
+    ensures { IfOk result (λ b. b ≡ covers count rules.now known.now left.now.entries right.now.entries) }
+{
+    let left_open = open_terms(alloc, left, right, known)?;
+    let right_open = open_terms(alloc, right, left, known)?;
+    if left_open.is_empty() && right_open.is_empty() {
+        return Ok(true);
+    }
+    let left_sure = sure_terms(alloc, left, known)?;
+    let right_sure = sure_terms(alloc, right, known)?;
+    let left_marks = saturated(alloc, count, rules.pairs, &left_sure)?;
+    let right_marks = saturated(alloc, count, rules.pairs, &right_sure)?;
+    Ok(
+        both_marked(rules.universal, &left_marks, &right_marks)
+            || holds_all(&right_marks, &left_open) && holds_all(&left_marks, &right_open),
+    )
+}
+
+// Whether some pair has just these terms.
+fn is_listed(pairs: &[Pair], left: &[usize], right: &[usize]) -> bool
+    ensures { result ≡ lists pairs.now left.now right.now }
+{
+    for pair in pairs {
+        if pair.left.as_slice() == left && pair.right.as_slice() == right {
+            return true;
+        }
+    }
+    false
+}
+
+// Whether the terms that surely are in the sets are those of some pair.
+fn are_listed(
+    alloc: Global,
+    pairs: &[Pair],
+    left: &Targets,
+    right: &Targets,
+    known: &[Known],
+) -> Result<bool, NoMemory>
+    ensures { IfOk result (λ b. b ≡ lists pairs.now (sure_targets known.now left.now.entries) (sure_targets known.now right.now.entries)) }
+{
+    let left_terms = sure_terms(alloc, left, known)?;
+    let right_terms = sure_terms(alloc, right, known)?;
+    Ok(is_listed(pairs, &left_terms, &right_terms))
+}
+
+// The test that a guard waits for.
+fn waiting(known: &[Known], guard: usize) -> Option<usize>
+    ensures value { result ≡ waiting_for (known_of known.now guard) }
+    ensures waited { IfSome result (IsWaited known.now) }
+{
+    match guard_value(known, guard) {
+        Known::Value(_) => None,
+        Known::Waits(test) => Some(test),
+    }
+}
+
+// A test that the guard of some target waits for.
+fn waiting_target(targets: &Targets, known: &[Known]) -> Option<usize>
+    ensures waits { MatchOption result (AreSettled known.now targets.now.entries) (IsWaited known.now) }
+    ensures ordered { IsStrictlySortedBy nat_cmp (keys_of targets.now.entries) }
+{
+    for (_, guard) in targets.iter() {
+        if let Some(test) = waiting(known, *guard) {
+            return Some(test);
+        }
+    }
+    None
+}
+
+// A test that the guard of some target waits for which has not the same guard among the others.
+fn waiting_difference(targets: &Targets, others: &Targets, known: &[Known]) -> Option<usize>
+    ensures { IfSome result (IsWaited known.now) }
+{
+    for (term, guard) in targets.iter() {
+        if !has_guard(others, *term, *guard) {
+            if let Some(test) = waiting(known, *guard) {
+                return Some(test);
+            }
+        }
+    }
+    None
+}
+
+// A test that the guard of the universal term waits for.
+fn waiting_universal(universal: Option<usize>, targets: &Targets, known: &[Known]) -> Option<usize>
+    ensures { IfSome result (IsWaited known.now) }
+{
+    match targets.get(&universal?) {
+        Some(guard) => waiting(known, *guard),
+        None => None,
+    }
+}
+
+// The test to decide next, while some guard waits: first one of the guards of the universal term, then one of a
+// guard in which the sides differ, then any. Each choice gives the same answer; this one keeps the cases few.
+fn next_test(
+    universal: Option<usize>,
+    left: &Targets,
+    right: &Targets,
+    known: &[Known],
+) -> Option<usize>
+    ensures waits { MatchOption result (AreSettled known.now left.now.entries × AreSettled known.now right.now.entries) (IsWaited known.now) }
+    ensures left_ordered { IsStrictlySortedBy nat_cmp (keys_of left.now.entries) }
+    ensures right_ordered { IsStrictlySortedBy nat_cmp (keys_of right.now.entries) }
+{
+    waiting_universal(universal, left, known)
+        .or(waiting_universal(universal, right, known))
+        .or(waiting_difference(left, right, known))
+        .or(waiting_difference(right, left, known))
+        .or(waiting_target(left, known))
+        .or(waiting_target(right, known))
+}
+
+// Whether both sets surely hold the universal term.
+fn are_universal(universal: Option<usize>, left: &Targets, right: &Targets, known: &[Known]) -> bool
+    ensures { result ≡ option_any (λ u. is_sure known.now left.now.entries u && is_sure known.now right.now.entries u) universal }
+{
+    match universal {
+        Some(term) => surely_has(left, term, known) && surely_has(right, term, known),
+        None => false,
+    }
+}
+
+/// Whether two sets of targets are matched by the rules, as far as the decided tests tell.
+pub(crate) fn step_state(
+    alloc: Global,
+    tables: &Tables,
+    rules: &Rules,
+    left: &Targets,
+    right: &Targets,
+    known: &[Known],
+) -> Result<State, NoMemory>
+    requires rules { AreRules tables.now rules.now }
+    requires left { AreEntries tables.now left.now.entries }
+    requires right { AreEntries tables.now right.now.entries }
+    ensures { IfOk result (λ s. (decided : List (Option Bool)) → AreKnown tables.now decided known.now → IsState (MatchAt tables.now rules.now left.now.entries right.now.entries) decided s) }
+{
+    let count = tables.term_count();
+    if are_universal(rules.universal, left, right, known) {
+        return Ok(State::Holds);
+    }
+    let next = next_test(rules.universal, left, right, known);
+    match rules.style {
+        Style::Plain => match next {
+            Some(test) => Ok(State::Waits(test)),
+            None => {
+                if are_listed(alloc, rules.pairs, left, right, known)? {
+                    return Ok(State::Holds);
+                }
+                Ok(State::Fails)
+            }
+        },
+        Style::UpTo => {
+            if is_covered(alloc, count, rules, left, right, known)? {
+                return Ok(State::Holds);
+            }
+            match next {
+                Some(test) => Ok(State::Waits(test)),
+                None => Ok(State::Fails),
+            }
+        }
+    }
+}

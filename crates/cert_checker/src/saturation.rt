@@ -1,0 +1,97 @@
+//! Saturation of a set by pairs (congruence closure: Bonchi and Pous 2013). A set is a mark for each term.
+ghost use Rattle.std.specs.Prelude.{◌≡◌, false, length, slice_index_or, IfOk};
+ghost use Rattle.cert_checker.specs.Marks.{are_marked, with_marks, with_pair_marked, round_marked, rounds_marked, saturated_marks};
+
+use certificate::Pair;
+use kat_model::NoMemory;
+use std::alloc::Global;
+
+/// Whether the term is marked.
+pub(crate) fn is_marked(marks: &[bool], term: usize) -> bool
+    ensures { result ≡ slice_index_or marks.now term false }
+{
+    marks.get(term).copied().unwrap_or(false)
+}
+
+/// Whether each of the terms is marked.
+pub(crate) fn holds_all(marks: &[bool], terms: &[usize]) -> bool
+    ensures { result ≡ are_marked marks.now terms.now }
+{
+    for term in terms {
+        if !is_marked(marks, *term) {
+            return false;
+        }
+    }
+    true
+}
+
+// Marks the terms, and answers whether one is new.
+fn mark_all(marks: &mut [bool], terms: &[usize]) -> bool
+    ensures marks { marks.new ≡ with_marks marks.old terms.now }
+    ensures same { result ≡ false → marks.new ≡ marks.old }
+{
+    let mut grew = false;
+    for term in terms {
+        if *term < marks.len() && !marks[*term] {
+            marks[*term] = true;
+            grew = true;
+        }
+    }
+    grew
+}
+
+// Where the set holds all of one side of the pair, adds both. Answers whether a term is new.
+fn add_pair(marks: &mut [bool], pair: &Pair) -> bool
+    ensures marks { marks.new ≡ with_pair_marked marks.old pair.now }
+    ensures same { result ≡ false → marks.new ≡ marks.old }
+{
+    let left = pair.left.as_slice();
+    let right = pair.right.as_slice();
+    if holds_all(marks, left) {
+        return mark_all(marks, right);
+    }
+    if holds_all(marks, right) {
+        return mark_all(marks, left);
+    }
+    false
+}
+
+// One round over the pairs. Answers whether a term is new.
+fn round(marks: &mut [bool], pairs: &[Pair]) -> bool
+    ensures marks { marks.new ≡ round_marked pairs.now marks.old }
+    ensures same { result ≡ false → marks.new ≡ marks.old }
+{
+    let mut grew = false;
+    for pair in pairs {
+        if add_pair(marks, pair) {
+            grew = true;
+        }
+    }
+    grew
+}
+
+// As many rounds as there are pairs. After one that adds nothing, no other would.
+fn saturate(marks: &mut [bool], pairs: &[Pair])
+    ensures { marks.new ≡ rounds_marked (length pairs.now) pairs.now marks.old }
+{
+    for _turn in 0..pairs.len() {
+        if !round(marks, pairs) {
+            return;
+        }
+    }
+}
+
+/// The marks of these terms, of `count` terms, saturated by the pairs.
+pub(crate) fn saturated(
+    alloc: Global,
+    count: usize,
+    pairs: &[Pair],
+    terms: &[usize],
+) -> Result<Vec<bool>, NoMemory>
+    ensures { IfOk result (λ v. v.items ≡ saturated_marks count pairs.now terms.now) }
+{
+    let mut marks = vec![in alloc; false; count]?;
+    mark_all(&mut marks, terms);
+    saturate(&mut marks, pairs);
+    Ok(marks)
+}

@@ -1,0 +1,129 @@
+-- Moves to which one is added, where moves of one target have one guard.
+use Rattle.std.proofs.Common.{◌≡◌, ◌⊎◌, inl, inr, ⊎_elim, ℕ, Bool, true, ◌||◌, Option, Some, None, List, refl, sym, ap, ◌∙◌, subst}
+use Rattle.std.specs.Bool.{IsTrue}
+use Rattle.std.specs.Map.{lookup}
+use Rattle.std.proofs.lemmas.Bool.{false≢true, or_cases, or_left, or_right}
+use Rattle.indexmap.specs.IndexMap.{insert_entry}
+use Rattle.kat_model.specs.Trees.{Term}
+use Rattle.kat_model.specs.Members.{Has}
+use Rattle.kat_model.specs.Steps.{Atom}
+use Rattle.kat_model.proofs.Lists.{has_map, map_has}
+use Rattle.term_store.specs.Nodes.{Nodes}
+use Rattle.term_store.specs.Trees.{tree_of}
+use Rattle.test_diagrams.specs.Functions.{Collection, value_of, IsDiagramId, IsAtomOf, IsDiagramOf, KeepsFunctions}
+use Rattle.partial_derivs.specs.declared.moves.Guarded.{Guarded}
+use Rattle.partial_derivs.specs.declared.gathered.Target.{Target}
+use Rattle.partial_derivs.specs.Moves.{IsTermOf, AreGuards, AreTargets, LeadsTo}
+use Rattle.partial_derivs.specs.Gathered.{move_of, moves_of, guard_at, AddsMove}
+use Rattle.partial_derivs.proofs.Entries.{insert_entry_has, has_insert_entry, has_kept, lookup_has}
+
+-- what is found at a target is the guard of a move
+pub found_guard : (c : Collection) (eq : Target → Target → Bool) → ((x y : Target) → eq x y ≡ true → x ≡ y) → (entries : List (Target × ℕ)) (target : Target) (id : ℕ) → AreGuards c (moves_of entries) → lookup (eq target) entries ≡ Some id → IsDiagramId c id
+found_guard c eq same entries target id guards e = guards (move_of (target, id)) (map_has move_of entries (target, id) (lookup_has eq same target entries id e))
+
+-- a guard that is true is there
+guard_there : (c : Collection) (atom : Atom) (found : Option ℕ) → IsTrue (guard_at c found atom) → (id : ℕ) × (found ≡ Some id) × IsTrue (value_of c id atom)
+guard_there c atom None h = absurd (false≢true h)
+guard_there c atom (Some id) h = (id, refl, h)
+
+module _ (eq : Target → Target → Bool) (same : (x y : Target) → eq x y ≡ true → x ≡ y) (entries : List (Target × ℕ)) (target : Target) (joined : ℕ) where
+  -- a move was there, or is the new one
+  added_has : (m : Guarded) → Has (moves_of (insert_entry eq entries target joined)) m → Has (moves_of entries) m ⊎ (m ≡ move_of (target, joined))
+  added_has m h =
+      let r = has_map move_of (insert_entry eq entries target joined) m h in
+      ⊎_elim
+      (λ old. inl (subst (Has (moves_of entries)) r.2 (map_has move_of entries r.0 old)))
+      (λ new. inr (sym r.2 ∙ ap move_of new))
+      (insert_entry_has eq same target joined entries r.0 r.1)
+
+  has_added : Has (moves_of (insert_entry eq entries target joined)) (move_of (target, joined))
+  has_added = map_has move_of (insert_entry eq entries target joined) (target, joined) (has_insert_entry eq same target joined entries)
+
+  -- a move stays, or it is that of the target
+  stays : (m : Guarded) → Has (moves_of entries) m
+      → Has (moves_of (insert_entry eq entries target joined)) m ⊎ ((m.act ≡ target.act) × (m.to ≡ target.to) × (lookup (eq target) entries ≡ Some m.guard))
+  stays m h =
+      let r = has_map move_of entries m h in
+      ⊎_elim
+      (λ new. inl (subst (Has (moves_of (insert_entry eq entries target joined))) r.2 (map_has move_of (insert_entry eq entries target joined) r.0 new)))
+      (λ own. inr (
+        ap (λ (n : Guarded). n.act) (sym r.2) ∙ ap (λ (t : Target). t.act) own.0,
+        ap (λ (n : Guarded). n.to) (sym r.2) ∙ ap (λ (t : Target). t.to) own.0,
+        own.1 ∙ ap (λ (n : Guarded). Some n.guard) r.2,
+      ))
+      (has_kept eq same target joined entries r.0 r.1)
+
+module _ (c d : Collection) (eq : Target → Target → Bool) (same : (x y : Target) → eq x y ≡ true → x ≡ y) (entries : List (Target × ℕ)) (target : Target) (guard joined : ℕ) (kept : KeepsFunctions c d) (guards : AreGuards c (moves_of entries)) (value : IsDiagramOf d joined (λ atom. guard_at c (lookup (eq target) entries) atom || value_of c guard atom)) where
+  added_guards : AreGuards d (moves_of (insert_entry eq entries target joined))
+  added_guards m h =
+      ⊎_elim
+      (λ old. kept.ids m.guard (guards m old))
+      (λ new. subst (λ (n : Guarded). IsDiagramId d n.guard) (sym new) value.in_range)
+      (added_has eq same entries target joined m h)
+
+  added_targets : (store : Nodes) (n : ℕ) → AreTargets store n (moves_of entries) → IsTermOf store n target.to → AreTargets store n (moves_of (insert_entry eq entries target joined))
+  added_targets store n old own m h =
+      ⊎_elim
+      (λ there. old m there)
+      (λ new. subst (λ (k : Guarded). IsTermOf store n k.to) (sym new) own)
+      (added_has eq same entries target joined m h)
+
+  module _ (store : Nodes) (atom : Atom) (fits : IsAtomOf d atom) (a : ℕ) (e : Term) where
+    -- the move of the target was there, and its guard true
+    was_open : IsTrue (guard_at c (lookup (eq target) entries) atom) → target.act ≡ a → tree_of store target.to ≡ e → LeadsTo store c (moves_of entries) atom a e
+    was_open t act tree =
+        let r = guard_there c atom (lookup (eq target) entries) t in
+        record {
+          through = move_of (target, r.0);
+          member = map_has move_of entries (target, r.0) (lookup_has eq same target entries r.0 r.1);
+          action = act;
+          guard = r.2;
+          tree = tree;
+        }
+
+    leads_by_new : (m : Guarded) → m ≡ move_of (target, joined) → m.act ≡ a → IsTrue (value_of d m.guard atom) → tree_of store m.to ≡ e
+        → LeadsTo store c (moves_of entries) atom a e ⊎ ((target.act ≡ a) × IsTrue (value_of c guard atom) × (tree_of store target.to ≡ e))
+    leads_by_new m new act t tree =
+        let own_act : target.act ≡ a = subst (λ (k : Guarded). k.act ≡ a) new act in
+        let own_tree : tree_of store target.to ≡ e = subst (λ (k : Guarded). tree_of store k.to ≡ e) new tree in
+        let own_guard : IsTrue (value_of d joined atom) = subst (λ (k : Guarded). IsTrue (value_of d k.guard atom)) new t in
+        ⊎_elim
+        (λ old. inl (was_open old own_act own_tree))
+        (λ more. inr (own_act, more, own_tree))
+        (or_cases (guard_at c (lookup (eq target) entries) atom) (value_of c guard atom) (sym (value.value atom fits) ∙ own_guard))
+
+    added_leads : LeadsTo store d (moves_of (insert_entry eq entries target joined)) atom a e
+        → LeadsTo store c (moves_of entries) atom a e ⊎ ((target.act ≡ a) × IsTrue (value_of c guard atom) × (tree_of store target.to ≡ e))
+    added_leads r =
+        ⊎_elim
+        (λ old. inl (record { through = r.through; member = old; action = r.action; guard = sym (kept.values r.through.guard (guards r.through old) atom) ∙ r.guard; tree = r.tree }))
+        (λ new. leads_by_new r.through new r.action r.guard r.tree)
+        (added_has eq same entries target joined r.through r.member)
+
+    open_now : IsTrue (guard_at c (lookup (eq target) entries) atom) ⊎ IsTrue (value_of c guard atom) → target.act ≡ a → tree_of store target.to ≡ e
+        → LeadsTo store d (moves_of (insert_entry eq entries target joined)) atom a e
+    open_now t act tree = record {
+      through = move_of (target, joined);
+      member = has_added eq same entries target joined;
+      action = act;
+      guard = value.value atom fits ∙ ⊎_elim (λ p. or_left (guard_at c (lookup (eq target) entries) atom) (value_of c guard atom) p) (λ q. or_right (guard_at c (lookup (eq target) entries) atom) (value_of c guard atom) q) t;
+      tree = tree;
+    }
+
+    leads_still : LeadsTo store c (moves_of entries) atom a e → LeadsTo store d (moves_of (insert_entry eq entries target joined)) atom a e
+    leads_still r =
+        ⊎_elim
+        (λ new. record { through = r.through; member = new; action = r.action; guard = kept.values r.through.guard (guards r.through r.member) atom ∙ r.guard; tree = r.tree })
+        (λ own. open_now (inl (ap (λ (o : Option ℕ). guard_at c o atom) own.2 ∙ r.guard)) (sym own.0 ∙ r.action) (ap (tree_of store) (sym own.1) ∙ r.tree))
+        (stays eq same entries target joined r.through r.member)
+
+  -- the table after an insert has the old moves and the new one
+  pub adds_move : (new : List (Target × ℕ)) → new ≡ insert_entry eq entries target joined → AddsMove c d (moves_of entries) (moves_of new) (record { guard = guard; act = target.act; to = target.to })
+  adds_move new e = subst (λ l. AddsMove c d (moves_of entries) (moves_of l) (record { guard = guard; act = target.act; to = target.to })) (sym e) (record {
+    guards = added_guards;
+    targets = added_targets;
+    leads = λ store atom fits a e. (
+      (λ r. added_leads store atom fits a e r),
+      (λ r. ⊎_elim (λ old. leads_still store atom fits a e old) (λ own. open_now store atom fits a e (inr own.1) own.0 own.2) r),
+    );
+  })

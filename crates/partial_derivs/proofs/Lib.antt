@@ -1,0 +1,11 @@
+pub mod Items
+pub mod Entries
+pub mod Kept
+pub mod Merged
+pub mod Joined
+pub mod Under
+pub mod Followed
+pub mod Unions
+pub mod ByForm
+pub mod Tables
+pub mod Derived

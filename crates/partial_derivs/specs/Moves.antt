@@ -1,0 +1,73 @@
+-- Symbolic derivatives: what terms accept and where they move, as functions of the tests.
+use Rattle.std.specs.Prelude.{◌≡◌, ◌↔◌, ℕ, Bool, IsTrue, List, [], ◌∷◌}
+use Rattle.kat_model.specs.Trees.{Term, zero, one, test, act, sum, product, star}
+use Rattle.kat_model.specs.Members.{Has}
+use Rattle.kat_model.specs.Problems.{IsTestInRange}
+use Rattle.kat_model.specs.Steps.{Atom, out, next, set_out, set_next}
+use Rattle.term_store.specs.Nodes.{Nodes, IsTermId}
+use Rattle.term_store.specs.Trees.{tree_of}
+use Rattle.term_store.specs.Growth.{KeepsTrees}
+use Rattle.test_diagrams.specs.Functions.{Collection, value_of, IsDiagramId, IsAtomOf, IsDiagramOf, KeepsFunctions}
+use Rattle.partial_derivs.specs.declared.moves.Guarded.{Guarded}
+use Rattle.partial_derivs.specs.declared.moves.Steps.{Steps}
+
+-- each primitive test in the term is below n
+abbrev pub HasTestsBelow : ℕ → Term → Type 0
+HasTestsBelow n zero = Unit {0}
+HasTestsBelow n one = Unit {0}
+HasTestsBelow n (test b) = IsTestInRange n b
+HasTestsBelow n (act a) = Unit {0}
+HasTestsBelow n (sum e f) = HasTestsBelow n e × HasTestsBelow n f
+HasTestsBelow n (product e f) = HasTestsBelow n e × HasTestsBelow n f
+HasTestsBelow n (star e) = HasTestsBelow n e
+
+-- the number is the id of a term, whose tests are below n
+pub record IsTermOf (store : Nodes) (n i : ℕ) : Type 0 where
+  pub is_id : IsTermId store i
+  pub in_range : HasTestsBelow n (tree_of store i)
+
+-- the guards are ids of diagrams
+abbrev pub AreGuards : Collection → List Guarded → Type 0
+AreGuards d moves = (m : Guarded) → Has moves m → IsDiagramId d m.guard
+
+-- the moves lead to ids of terms, whose tests are below n
+abbrev pub AreTargets : Nodes → ℕ → List Guarded → Type 0
+AreTargets store n moves = (m : Guarded) → Has moves m → IsTermOf store n m.to
+
+-- some move has the action, a guard that is true at the atom, and the term
+pub record LeadsTo (store : Nodes) (d : Collection) (moves : List Guarded) (atom : Atom) (a : ℕ) (e : Term) : Type 0 where
+  pub through : Guarded
+  pub member : Has moves through
+  pub action : through.act ≡ a
+  pub guard : IsTrue (value_of d through.guard atom)
+  pub tree : tree_of store through.to ≡ e
+
+-- no two moves have one action and one term
+abbrev pub AreMerged : List Guarded → Type 0
+AreMerged [] = Unit {0}
+AreMerged (m ∷ ms) = ((n : Guarded) → Has ms n → n.act ≡ m.act → n.to ≡ m.to → ⊥) × AreMerged ms
+
+-- the steps accept what is accepted, and lead to just the terms that are left
+pub record IsStepsBy (store : Nodes) (d : Collection) (accepted : Atom → Bool) (left : Atom → ℕ → List Term) (steps : Steps) : Type 0 where
+  pub accepts : IsDiagramOf d steps.accepts accepted
+  pub guards : AreGuards d steps.moves.items
+  pub targets : AreTargets store d.tests steps.moves.items
+  pub leads : (atom : Atom) → IsAtomOf d atom → (a : ℕ) (e : Term) → Has (left atom a) e ↔ LeadsTo store d steps.moves.items atom a e
+  pub merged : AreMerged steps.moves.items
+
+-- the symbolic derivative of a set of terms, and of a term
+abbrev pub IsStepsOf : Nodes → Collection → List Term → Steps → Type 0
+IsStepsOf store d es steps = IsStepsBy store d (set_out es) (set_next es) steps
+
+abbrev pub IsDerivativeOf : Nodes → Collection → Term → Steps → Type 0
+IsDerivativeOf store d e steps = IsStepsBy store d (out e) (next e) steps
+
+-- the guards and what is accepted are ids of diagrams
+pub record HasIds (d : Collection) (steps : Steps) : Type 0 where
+  pub accepts : IsDiagramId d steps.accepts
+  pub guards : AreGuards d steps.moves.items
+
+-- older ids of both keep their trees and functions
+pub record Keeps (old new : Nodes) (older newer : Collection) : Type 0 where
+  pub trees : KeepsTrees old new
+  pub functions : KeepsFunctions older newer

@@ -1,0 +1,236 @@
+//! Derivatives of terms, and of sets of terms.
+ghost use Rattle.std.specs.Prelude.{◌≡◌, ◌++◌, ◌∷◌, [], List, All, map, IfOk, IfSome, OnOk};
+ghost use Rattle.kat_model.specs.Trees.{Term, sum, product, star};
+ghost use Rattle.kat_model.specs.Steps.{set_out, set_next};
+ghost use Rattle.term_store.specs.Nodes.{Nodes};
+ghost use Rattle.term_store.specs.Trees.{tree_of};
+ghost use Rattle.test_diagrams.specs.Functions.{Collection};
+ghost use Rattle.partial_derivs.specs.Moves.{IsTermOf, IsDerivativeOf, IsStepsOf, Keeps};
+ghost use Rattle.partial_derivs.specs.Unions.{IsUnionBy, IsUnionOfIds};
+ghost use Rattle.partial_derivs.specs.Tables.{IsRight, AreRight};
+
+use crate::forms::{action_steps, constant_steps, product_steps, star_steps, test_steps};
+use crate::moves::Steps;
+use crate::sets::{Union, sum_steps};
+use indexmap::IndexMap;
+use kat_model::NoMemory;
+use std::alloc::Global;
+use term_store::{Shape, Store, TermId};
+use test_diagrams::Diagrams;
+
+/// The derivatives of terms that were met, those of parts of terms among them. A table belongs to the store
+/// and the collection of diagrams that it was filled with.
+#[derive(Drop)]
+pub struct Derivatives {
+    table: IndexMap<TermId, Steps>,
+}
+
+impl Derivatives {
+    /// No derivatives, which is right for each store and collection. It takes no memory.
+    pub fn new(alloc: Global) -> Derivatives
+        ensures { (store : Nodes) (d : Collection) → AreRight store d result }
+    {
+        Derivatives {
+            table: IndexMap::new(alloc),
+        }
+    }
+
+    /// The steps of a set of terms, with the derivatives that the table has; those that it lacks are added to
+    /// it. The recursion goes down the terms, as deep as they are. The only refusal is want of memory; it may
+    /// leave further nodes, diagrams and derivatives.
+    pub fn step(
+        &mut self,
+        alloc: Global,
+        store: &mut Store,
+        diagrams: &mut Diagrams,
+        terms: &[TermId],
+    ) -> Result<Steps, NoMemory>
+        requires terms { All (IsTermOf store.old diagrams.old.tests) terms.now }
+        requires right { AreRight store.old diagrams.old self.old }
+        ensures steps { IfOk result (IsStepsOf store.new diagrams.new (map (tree_of store.old) terms.now)) }
+        ensures right { AreRight store.new diagrams.new self.new }
+        ensures kept { Keeps store.old store.new diagrams.old diagrams.new }
+    {
+        let mut whole = Union::new(alloc, diagrams);
+        for term in terms {
+            self.add_term(alloc, store, diagrams, &mut whole, *term)?;
+        }
+        whole.steps(alloc)
+    }
+
+    // Adds a term to a set.
+    fn add_term(
+        &mut self,
+        alloc: Global,
+        store: &mut Store,
+        diagrams: &mut Diagrams,
+        whole: &mut Union,
+        term: TermId,
+    ) -> Result<(), NoMemory>
+        requires term { IsTermOf store.old diagrams.old.tests term }
+        requires right { AreRight store.old diagrams.old self.old }
+        requires ids { IsUnionOfIds diagrams.old whole.old }
+        ensures ids { OnOk result (IsUnionOfIds diagrams.new whole.new) }
+        ensures added { OnOk result ((es : List Term)
+            → IsUnionBy store.old diagrams.old (set_out es) (set_next es) whole.old
+            → IsUnionBy store.new diagrams.new (set_out (es ++ tree_of store.old term ∷ [])) (set_next (es ++ tree_of store.old term ∷ [])) whole.new) }
+        ensures right { AreRight store.new diagrams.new self.new }
+        ensures kept { Keeps store.old store.new diagrams.old diagrams.new }
+    {
+        let steps = self.steps_of(alloc, store, diagrams, term)?;
+        whole.add(diagrams, &steps)
+    }
+
+    // The derivative of the term, where the table has it.
+    fn known(&self, alloc: Global, term: TermId) -> Result<Option<Steps>, NoMemory>
+        ensures { IfOk result (λ found. IfSome found (λ steps. (store : Nodes) (d : Collection)
+            → AreRight store d self.now → IsDerivativeOf store d (tree_of store term) steps)) }
+    {
+        match self.table.get(&term) {
+            Some(steps) => Ok(Some(steps.copy(alloc)?)),
+            None => Ok(None),
+        }
+    }
+
+    // Adds a derivative to the table.
+    fn note(&mut self, alloc: Global, term: TermId, steps: &Steps) -> Result<(), NoMemory>
+        ensures { (store : Nodes) (d : Collection)
+            → IsRight store d term steps.now → AreRight store d self.old → AreRight store d self.new }
+    {
+        let copy = steps.copy(alloc)?;
+        self.table.insert(term, copy)?;
+        Ok(())
+    }
+
+    // The derivative of the term.
+    #[cycle(derive)]
+    fn steps_of(
+        &mut self,
+        alloc: Global,
+        store: &mut Store,
+        diagrams: &mut Diagrams,
+        term: TermId,
+    ) -> Result<Steps, NoMemory>
+        requires term { IsTermOf store.old diagrams.old.tests term }
+        requires right { AreRight store.old diagrams.old self.old }
+        ensures steps { IfOk result (IsDerivativeOf store.new diagrams.new (tree_of store.old term)) }
+        ensures right { AreRight store.new diagrams.new self.new }
+        ensures kept { Keeps store.old store.new diagrams.old diagrams.new }
+    {
+        if let Some(steps) = self.known(alloc, term)? {
+            return Ok(steps);
+        }
+        let steps = self.derive(alloc, store, diagrams, term)?;
+        self.note(alloc, term, &steps)?;
+        Ok(steps)
+    }
+
+    // The derivative of the term, from those of its parts.
+    #[cycle(derive)]
+    fn derive(
+        &mut self,
+        alloc: Global,
+        store: &mut Store,
+        diagrams: &mut Diagrams,
+        term: TermId,
+    ) -> Result<Steps, NoMemory>
+        requires term { IsTermOf store.old diagrams.old.tests term }
+        requires right { AreRight store.old diagrams.old self.old }
+        ensures steps { IfOk result (IsDerivativeOf store.new diagrams.new (tree_of store.old term)) }
+        ensures right { AreRight store.new diagrams.new self.new }
+        ensures kept { Keeps store.old store.new diagrams.old diagrams.new }
+    {
+        match store.shape(term) {
+            Shape::Zero => Ok(constant_steps(alloc, diagrams, false)),
+            Shape::One => Ok(constant_steps(alloc, diagrams, true)),
+            Shape::Test(test) => test_steps(alloc, store, diagrams, test),
+            Shape::Act(act) => action_steps(alloc, store, diagrams, act),
+            Shape::Sum(e, f) => self.derive_sum(alloc, store, diagrams, e, f),
+            Shape::Seq(e, f) => self.derive_product(alloc, store, diagrams, e, f),
+            Shape::Star(e) => self.derive_star(alloc, store, diagrams, e, term),
+        }
+    }
+
+    // The derivative of the sum of two terms.
+    #[cycle(derive)]
+    fn derive_sum(
+        &mut self,
+        alloc: Global,
+        store: &mut Store,
+        diagrams: &mut Diagrams,
+        e: TermId,
+        f: TermId,
+    ) -> Result<Steps, NoMemory>
+        requires first { IsTermOf store.old diagrams.old.tests e }
+        requires second { IsTermOf store.old diagrams.old.tests f }
+        requires right { AreRight store.old diagrams.old self.old }
+        ensures steps { IfOk result (IsDerivativeOf store.new diagrams.new (sum (tree_of store.old e) (tree_of store.old f))) }
+        ensures right { AreRight store.new diagrams.new self.new }
+        ensures kept { Keeps store.old store.new diagrams.old diagrams.new }
+    {
+        let first = self.steps_of(alloc, store, diagrams, e)?;
+        let second = self.steps_of(alloc, store, diagrams, f)?;
+        sum_steps(alloc, diagrams, &first, &second)
+    }
+
+    // The derivative of the product of two terms.
+    #[cycle(derive)]
+    fn derive_product(
+        &mut self,
+        alloc: Global,
+        store: &mut Store,
+        diagrams: &mut Diagrams,
+        e: TermId,
+        f: TermId,
+    ) -> Result<Steps, NoMemory>
+        requires first { IsTermOf store.old diagrams.old.tests e }
+        requires second { IsTermOf store.old diagrams.old.tests f }
+        requires right { AreRight store.old diagrams.old self.old }
+        ensures steps { IfOk result (IsDerivativeOf store.new diagrams.new (product (tree_of store.old e) (tree_of store.old f))) }
+        ensures right { AreRight store.new diagrams.new self.new }
+        ensures kept { Keeps store.old store.new diagrams.old diagrams.new }
+    {
+        let first = self.steps_of(alloc, store, diagrams, e)?;
+        let second = self.steps_of(alloc, store, diagrams, f)?;
+        product_steps(alloc, store, diagrams, &first, &second, f)
+    }
+
+    // The derivative of the star of a term. The id of the star is given.
+    #[cycle(derive)]
+    fn derive_star(
+        &mut self,
+        alloc: Global,
+        store: &mut Store,
+        diagrams: &mut Diagrams,
+        e: TermId,
+        own: TermId,
+    ) -> Result<Steps, NoMemory>
+        requires inner { IsTermOf store.old diagrams.old.tests e }
+        requires own { IsTermOf store.old diagrams.old.tests own }
+        requires tree { tree_of store.old own ≡ star (tree_of store.old e) }
+        requires right { AreRight store.old diagrams.old self.old }
+        ensures steps { IfOk result (IsDerivativeOf store.new diagrams.new (star (tree_of store.old e))) }
+        ensures right { AreRight store.new diagrams.new self.new }
+        ensures kept { Keeps store.old store.new diagrams.old diagrams.new }
+    {
+        let inner = self.steps_of(alloc, store, diagrams, e)?;
+        star_steps(alloc, store, diagrams, &inner, own)
+    }
+}
+
+/// The steps of a set of terms. At each atom it accepts what some of the terms accepts, and its moves lead to
+/// just the terms that steps of the set leave. The recursion goes down the terms, as deep as they are. The
+/// only refusal is want of memory; it may leave further nodes and diagrams.
+pub fn step(
+    alloc: Global,
+    store: &mut Store,
+    diagrams: &mut Diagrams,
+    terms: &[TermId],
+) -> Result<Steps, NoMemory>
+    requires terms { All (IsTermOf store.old diagrams.old.tests) terms.now }
+    ensures steps { IfOk result (IsStepsOf store.new diagrams.new (map (tree_of store.old) terms.now)) }
+    ensures kept { Keeps store.old store.new diagrams.old diagrams.new }
+{
+    let mut derivatives = Derivatives::new(alloc);
+    derivatives.step(alloc, store, diagrams, terms)
+}

@@ -1,0 +1,41 @@
+//! Moves under guards.
+ghost use Rattle.std.specs.Prelude.{◌≡◌, IfOk};
+
+use kat_model::NoMemory;
+use std::alloc::Global;
+use term_store::TermId;
+use test_diagrams::DiagramId;
+
+/// A move: at each atom at which the guard is true, the action may lead to the term.
+#[derive(Clone, Copy, Debug, PartialEq, Eq)]
+pub struct Guarded {
+    /// The atoms of the move, as a diagram.
+    pub guard: DiagramId,
+    /// The action, numbered from 0.
+    pub act: usize,
+    /// What is left to do, as a term of the store.
+    pub to: TermId,
+}
+
+/// A symbolic derivative: the atoms that are accepted, as a diagram, and the moves.
+#[derive(Drop)]
+pub struct Steps {
+    /// The atoms that are accepted.
+    pub accepts: DiagramId,
+    /// The moves, at most one for each action and term.
+    pub moves: Vec<Guarded>,
+}
+
+impl Steps {
+    // The same again.
+    pub(crate) fn copy(&self, alloc: Global) -> Result<Steps, NoMemory>
+        ensures accepts { IfOk result (λ s. s.accepts ≡ self.now.accepts) }
+        ensures moves { IfOk result (λ s. s.moves.items ≡ self.now.moves.items) }
+    {
+        let moves = self.moves.iter().copied().collect(alloc)?;
+        Ok(Steps {
+            accepts: self.accepts,
+            moves,
+        })
+    }
+}

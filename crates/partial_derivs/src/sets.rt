@@ -1,0 +1,80 @@
+//! Steps of a set of terms, from those of its members.
+ghost use Rattle.std.specs.Prelude.{[], ℕ, Bool, false, List, IfOk, OnOk};
+ghost use Rattle.kat_model.specs.Trees.{Term, sum};
+ghost use Rattle.kat_model.specs.Steps.{Atom};
+ghost use Rattle.term_store.specs.Nodes.{Nodes};
+ghost use Rattle.test_diagrams.specs.Functions.{Collection, KeepsFunctions};
+ghost use Rattle.partial_derivs.specs.Moves.{IsStepsBy, IsDerivativeOf, HasIds};
+ghost use Rattle.partial_derivs.specs.Unions.{IsUnionBy, IsUnionOfIds, AddsSteps};
+
+use crate::gathered::Gathered;
+use crate::moves::Steps;
+use kat_model::NoMemory;
+use std::alloc::Global;
+use test_diagrams::{DiagramId, Diagrams};
+
+/// What the terms so far accept, and their moves.
+#[derive(Drop)]
+pub(crate) struct Union {
+    accepts: DiagramId,
+    gathered: Gathered,
+}
+
+impl Union {
+    /// The steps of no term. It takes no memory.
+    pub(crate) fn new(alloc: Global, diagrams: &Diagrams) -> Union
+        ensures ids { IsUnionOfIds diagrams.now result }
+        ensures none { (store : Nodes) → IsUnionBy store diagrams.now (λ atom. false) (λ atom a. []) result }
+    {
+        Union {
+            accepts: diagrams.constant(false),
+            gathered: Gathered::new(alloc),
+        }
+    }
+
+    /// Adds the steps of a term.
+    pub(crate) fn add(&mut self, diagrams: &mut Diagrams, steps: &Steps) -> Result<(), NoMemory>
+        requires ids { IsUnionOfIds diagrams.old self.old }
+        requires steps { HasIds diagrams.old steps.now }
+        ensures ids { OnOk result (IsUnionOfIds diagrams.new self.new) }
+        ensures added { OnOk result (AddsSteps diagrams.old diagrams.new self.old self.new steps.now) }
+        ensures kept { KeepsFunctions diagrams.old diagrams.new }
+    {
+        let always = diagrams.constant(true);
+        self.gathered.add_under(diagrams, &steps.moves, always)?;
+        self.accepts = diagrams.or(self.accepts, steps.accepts)?;
+        Ok(())
+    }
+
+    /// The steps of the terms so far.
+    pub(crate) fn steps(&self, alloc: Global) -> Result<Steps, NoMemory>
+        ensures { IfOk result (λ s. (store : Nodes) (d : Collection) (accepted : Atom → Bool) (left : Atom → ℕ → List Term)
+            → IsUnionBy store d accepted left self.now → IsStepsBy store d accepted left s) }
+    {
+        let moves = self.gathered.moves(alloc)?;
+        Ok(Steps {
+            accepts: self.accepts,
+            moves,
+        })
+    }
+}
+
+/// The steps of a sum.
+pub(crate) fn sum_steps(
+    alloc: Global,
+    diagrams: &mut Diagrams,
+    first: &Steps,
+    second: &Steps,
+) -> Result<Steps, NoMemory>
+    requires first { HasIds diagrams.old first.now }
+    requires second { HasIds diagrams.old second.now }
+    ensures sum { IfOk result (λ s. (store : Nodes) (e f : Term)
+        → IsDerivativeOf store diagrams.old e first.now → IsDerivativeOf store diagrams.old f second.now
+        → IsDerivativeOf store diagrams.new (sum e f) s) }
+    ensures kept { KeepsFunctions diagrams.old diagrams.new }
+{
+    let mut whole = Union::new(alloc, diagrams);
+    whole.add(diagrams, first)?;
+    whole.add(diagrams, second)?;
+    whole.steps(alloc)
+}
