@@ -3,6 +3,7 @@ use Rattle.std.proofs.Common.{◌≡◌, ℕ, ◌+◌, ◌<◌, inl, inr, List, 
 use Rattle.std.proofs.lemmas.Option.{get_or_from_slice_get}
 use Rattle.std.proofs.lemmas.List.{get_or_append_left}
 use Rattle.kat_model.specs.Trees.{TestTree, bottom, Term, zero as nothing, test}
+use Rattle.kat_model.specs.CourseOfValues.{continued}
 use Rattle.kat_model.specs.Members.{Has}
 use Rattle.kat_model.proofs.Places.{slice_get-append_left}
 use Rattle.certificate.specs.declared.nodes.TestNode.{TestNode}
@@ -10,7 +11,7 @@ use Rattle.certificate.specs.declared.nodes.TermNode.{TermNode}
 use Rattle.certificate.specs.declared.nodes.TermNode.TheVariants.{Zero, One, Test, Act, Sum, Seq, Star}
 use Rattle.certificate.specs.Nodes.{test_parts, term_parts, tests_of_term, are_below}
 use Rattle.certificate.specs.Certs.{IsCert}
-use Rattle.certificate.specs.Accepted.{test_node_tree, term_node_tree, trees_after, test_trees, term_trees}
+use Rattle.certificate.specs.Accepted.{test_node_tree, term_node_tree, test_trees, term_trees}
 use Rattle.certificate.proofs.NodeTrees.{nodes_have_trees_lem, below_has, test_local, term_local}
 use Rattle.cert_checker.specs.NodeTables.{Nodes, nodes_cert, AreTables, IsFront, Grows, test_at, term_at, IsTest, IsTerm, MayBeTest, MayBeTerm, test_tree_in, term_tree_in}
 
@@ -18,25 +19,25 @@ use Rattle.cert_checker.specs.NodeTables.{Nodes, nodes_cert, AreTables, IsFront,
 
 module _ {N X : Type 0} where
   -- the trees so far are a front of the trees after more nodes
-  after_front : (make : List X → N → X) (trees : List X) (ns : List N) → IsFront trees (trees_after make trees ns)
+  after_front : (make : List X → N → X) (trees : List X) (ns : List N) → IsFront trees (continued make trees ns)
   after_front make trees [] = ([], sym (append-nil trees))
   after_front make trees (n ∷ ns) =
       let rest = after_front make (trees ++ make trees n ∷ []) ns in
       (make trees n ∷ rest.0, rest.1 ∙ append_assoc trees (make trees n ∷ []) rest.0)
 
-  pub after_length : (make : List X → N → X) (trees : List X) (ns : List N) → length (trees_after make trees ns) ≡ length trees + length ns
+  pub after_length : (make : List X → N → X) (trees : List X) (ns : List N) → length (continued make trees ns) ≡ length trees + length ns
   after_length make trees [] = omega arith
   after_length make trees (n ∷ ns) = omega (arith, after_length make (trees ++ make trees n ∷ []) ns, length-append trees (make trees n ∷ []))
 
-  after_append : (make : List X → N → X) (trees : List X) (ns more : List N) → trees_after make trees (ns ++ more) ≡ trees_after make (trees_after make trees ns) more
+  after_append : (make : List X → N → X) (trees : List X) (ns more : List N) → continued make trees (ns ++ more) ≡ continued make (continued make trees ns) more
   after_append make trees [] more = refl
   after_append make trees (n ∷ ns) more = after_append make (trees ++ make trees n ∷ []) ns more
 
   -- two ways to make trees that agree at each node make the same trees
-  after_same : (make other : List X → N → X) (trees : List X) (ns : List N) → ((n : N) → Has ns n → (xs : List X) → make xs n ≡ other xs n) → trees_after make trees ns ≡ trees_after other trees ns
+  after_same : (make other : List X → N → X) (trees : List X) (ns : List N) → ((n : N) → Has ns n → (xs : List X) → make xs n ≡ other xs n) → continued make trees ns ≡ continued other trees ns
   after_same make other trees [] same = refl
   after_same make other trees (n ∷ ns) same =
-      ap (λ x. trees_after make (trees ++ x ∷ []) ns) (same n (inl refl) trees) ∙ after_same make other (trees ++ other trees n ∷ []) ns (λ m h. same m (inr h))
+      ap (λ x. continued make (trees ++ x ∷ []) ns) (same n (inl refl) trees) ∙ after_same make other (trees ++ other trees n ∷ []) ns (λ m h. same m (inr h))
 
 front_read : {X : Type 0} (xs ys : List X) (d : X) (k : ℕ) → IsFront xs ys → k < length xs → get_or ys k d ≡ get_or xs k d
 front_read xs ys d k (more, e) h = ap (λ l. get_or l k d) e ∙ get_or_append_left xs more d k h
@@ -64,7 +65,7 @@ term_of_node t are k n e = term_by_rules t are.rules k n e
 tests_front : (old new : Nodes) → Grows old new → IsFront (test_trees (nodes_cert old)) (test_trees (nodes_cert new))
 tests_front old new grows =
     let f = after_front test_node_tree (test_trees (nodes_cert old)) grows.tests.0 in
-    (f.0, ap (trees_after test_node_tree []) grows.tests.1 ∙ after_append test_node_tree [] old.tests grows.tests.0 ∙ f.1)
+    (f.0, ap (continued test_node_tree []) grows.tests.1 ∙ after_append test_node_tree [] old.tests grows.tests.0 ∙ f.1)
 
 pub test_kept : (old new : Nodes) → Grows old new → (k : ℕ) → IsTest old k → test_at new k ≡ test_at old k
 test_kept old new grows k h =
@@ -85,9 +86,9 @@ terms_front : (old new : Nodes) → AreTables old → Grows old new → IsFront 
 terms_front old new are grows =
     let now = term_node_tree (test_trees (nodes_cert new)) in
     let was = term_node_tree (test_trees (nodes_cert old)) in
-    let same : trees_after now [] old.terms ≡ trees_after was [] old.terms = after_same now was [] old.terms (λ n m xs. tests_suffice (test_trees (nodes_cert new)) (test_trees (nodes_cert old)) (length old.tests) n xs (λ i low. test_kept old new grows i low) (are.rules.tests_of_terms n m)) in
-    let f = after_front now (trees_after now [] old.terms) grows.terms.0 in
-    (f.0, ap (trees_after now []) grows.terms.1 ∙ after_append now [] old.terms grows.terms.0 ∙ f.1 ∙ ap (λ l. l ++ f.0) same)
+    let same : continued now [] old.terms ≡ continued was [] old.terms = after_same now was [] old.terms (λ n m xs. tests_suffice (test_trees (nodes_cert new)) (test_trees (nodes_cert old)) (length old.tests) n xs (λ i low. test_kept old new grows i low) (are.rules.tests_of_terms n m)) in
+    let f = after_front now (continued now [] old.terms) grows.terms.0 in
+    (f.0, ap (continued now []) grows.terms.1 ∙ after_append now [] old.terms grows.terms.0 ∙ f.1 ∙ ap (λ l. l ++ f.0) same)
 
 pub term_kept : (old new : Nodes) → AreTables old → Grows old new → (k : ℕ) → IsTerm old k → term_at new k ≡ term_at old k
 term_kept old new are grows k h =

@@ -3,13 +3,14 @@ use Rattle.std.proofs.Common.{◌≡◌, ℕ, zero, suc, ◌+◌, ◌<◌, inl, 
 use mathlib.Core.Path.{ap₂}
 use Rattle.std.proofs.lemmas.Option.{unwrap_or-slice_get}
 use Rattle.kat_model.specs.Trees.{TestTree, bottom, complement, meet, join, Term, zero as nothing, sum, product, star}
+use Rattle.kat_model.specs.CourseOfValues.{continued}
 use Rattle.kat_model.specs.Members.{Has}
 use Rattle.certificate.specs.declared.nodes.TestNode.{TestNode}
 use Rattle.certificate.specs.declared.nodes.TestNode.TheVariants.{False, True, Prim, Not, And, Or}
 use Rattle.certificate.specs.declared.nodes.TermNode.{TermNode}
 use Rattle.certificate.specs.declared.nodes.TermNode.TheVariants.{Zero, One, Test, Act, Sum, Seq, Star}
 use Rattle.certificate.specs.Nodes.{test_parts, term_parts, are_below}
-use Rattle.certificate.specs.Accepted.{test_node_tree, term_node_tree, trees_after, test_trees}
+use Rattle.certificate.specs.Accepted.{test_node_tree, term_node_tree, test_trees}
 use Rattle.certificate.specs.Laws.{NodesHaveTrees}
 use Rattle.certificate.proofs.Numerals.{both}
 use Rattle.certificate.proofs.Completeness.{get_at}
@@ -37,17 +38,17 @@ below_has n (l ∷ ks) e k h =
 
 module _ {N X : Type 0} (make : List X → N → X) (named : N → List ℕ)
     (local : (n : N) (xs ys : List X) → ((k : ℕ) → Has (named n) k → slice_get xs k ≡ slice_get ys k) → make xs n ≡ make ys n) where
-  kept : (ns : List N) (trees : List X) (k : ℕ) (x : X) → slice_get trees k ≡ Some x → slice_get (trees_after make trees ns) k ≡ Some x
+  kept : (ns : List N) (trees : List X) (k : ℕ) (x : X) → slice_get trees k ≡ Some x → slice_get (continued make trees ns) k ≡ Some x
   kept [] trees k x e = e
   kept (n ∷ ns) trees k x e = kept ns (trees ++ make trees n ∷ []) k x (get_front trees (make trees n ∷ []) k x e)
 
-  made : (ns : List N) (trees : List X) → ((j : ℕ) (n : N) → slice_get ns j ≡ Some n → are_below (length trees + j) (named n) ≡ true) → (j i : ℕ) (n : N) → i ≡ length trees + j → slice_get ns j ≡ Some n → slice_get (trees_after make trees ns) i ≡ Some (make (trees_after make trees ns) n)
+  made : (ns : List N) (trees : List X) → ((j : ℕ) (n : N) → slice_get ns j ≡ Some n → are_below (length trees + j) (named n) ≡ true) → (j i : ℕ) (n : N) → i ≡ length trees + j → slice_get ns j ≡ Some n → slice_get (continued make trees ns) i ≡ Some (make (continued make trees ns) n)
   made [] trees below j i n place e = cc
   made (m ∷ ns) trees below zero i n place e =
       let first : m ≡ n = cc in
       let here : i ≡ length trees = omega (arith, place) in
       let low : are_below (length trees) (named m) ≡ true = subst (λ l. are_below l (named m) ≡ true) (let z : length trees + 0 ≡ length trees = omega arith in z) (below zero m refl) in
-      let after : List X = trees_after make trees (m ∷ ns) in
+      let after : List X = continued make trees (m ∷ ns) in
       let there : slice_get after (length trees) ≡ Some (make trees m) = kept ns (trees ++ make trees m ∷ []) (length trees) (make trees m) (get_at trees (make trees m) []) in
       let same : make trees m ≡ make after m = local m trees after (λ k h. let found = get_some trees k (below_has (length trees) (named m) low k h) in found.1 ∙ sym (kept (m ∷ ns) trees k found.0 found.1)) in
       ap (slice_get after) here ∙ there ∙ ap (λ (x : X). Some x) (same ∙ ap (make after) first)

@@ -3,6 +3,7 @@
 use Rattle.std.specs.Prelude.{◌<◌, ℕ, List, [], ◌∷◌, ◌++◌, map, slice_index_or}
 use Rattle.kat_model.specs.Trees.{TestTree, bottom, top, prim, complement, meet, join, Term, zero, one, test, act, sum, product, star}
 use Rattle.kat_model.specs.Members.{Has}
+use Rattle.kat_model.specs.CourseOfValues.{course_of_values}
 use Rattle.kat_model.specs.Problems.{Question}
 use Rattle.kat_model.specs.Pairs.{SetPair, Style as PairStyle, plain, up_to, AreAccepted}
 use Rattle.certificate.specs.declared.nodes.TestNode.{TestNode}
@@ -32,17 +33,12 @@ term_node_tree tests trees (Sum x y) = sum (slice_index_or trees x zero) (slice_
 term_node_tree tests trees (Seq x y) = product (slice_index_or trees x zero) (slice_index_or trees y zero)
 term_node_tree tests trees (Star x) = star (slice_index_or trees x zero)
 
--- the trees of nodes in order, each over those before it
-abbrev pub trees_after : {N X : Type 0} → (List X → N → X) → List X → List N → List X
-trees_after make trees [] = trees
-trees_after make trees (n ∷ ns) = trees_after make (trees ++ make trees n ∷ []) ns
-
--- the trees of a certificate's nodes
+-- the trees of a certificate's nodes, each made over those of the nodes before it
 abbrev pub test_trees : CertParts → List TestTree
-test_trees c = trees_after test_node_tree [] c.test_nodes
+test_trees c = course_of_values test_node_tree c.test_nodes
 
 abbrev pub term_trees : CertParts → List Term
-term_trees c = trees_after (term_node_tree (test_trees c)) [] c.term_nodes
+term_trees c = course_of_values (term_node_tree (test_trees c)) c.term_nodes
 
 -- the terms of numbers of nodes
 abbrev pub terms_at : List Term → List ℕ → List Term

@@ -23,7 +23,17 @@ IsTestInRange tests (complement b) = IsTestInRange tests b
 IsTestInRange tests (meet b c) = IsTestInRange tests b × IsTestInRange tests c
 IsTestInRange tests (join b c) = IsTestInRange tests b × IsTestInRange tests c
 
--- and each action is below the number of actions
+-- each primitive test in the term is below n
+abbrev pub HasTestsBelow : ℕ → Term → Type 0
+HasTestsBelow n zero = Unit {0}
+HasTestsBelow n one = Unit {0}
+HasTestsBelow n (test b) = IsTestInRange n b
+HasTestsBelow n (act a) = Unit {0}
+HasTestsBelow n (sum e f) = HasTestsBelow n e × HasTestsBelow n f
+HasTestsBelow n (product e f) = HasTestsBelow n e × HasTestsBelow n f
+HasTestsBelow n (star e) = HasTestsBelow n e
+
+-- each primitive test in the term is below the number of tests, and each action below that of actions
 abbrev pub IsInRange : ℕ → ℕ → Term → Type 0
 IsInRange tests actions zero = Unit {0}
 IsInRange tests actions one = Unit {0}

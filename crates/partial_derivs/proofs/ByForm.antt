@@ -4,6 +4,7 @@ use Rattle.std.proofs.Common.{◌≡◌, ◌⊎◌, inl, inr, ⊎_elim, ℕ, tru
 use Rattle.std.specs.Bool.{IsTrue}
 use Rattle.kat_model.specs.Trees.{Term, one, act, product, star}
 use Rattle.kat_model.specs.Members.{Has}
+use Rattle.kat_model.specs.Problems.{HasTestsBelow}
 use Rattle.kat_model.specs.Steps.{Atom, dot, out, next}
 use Rattle.kat_model.proofs.Lists.{has_map, map_has, has_next_act, next_act_has, has_next_product, next_product_first, next_product_second}
 use Rattle.term_store.specs.Nodes.{Nodes, IsTermId}
@@ -11,7 +12,7 @@ use Rattle.term_store.specs.Trees.{tree_of}
 use Rattle.test_diagrams.specs.Functions.{Collection, value_of, IsDiagramId, IsAtomOf, IsDiagramOf, KeepsFunctions}
 use Rattle.partial_derivs.specs.declared.moves.Guarded.{Guarded}
 use Rattle.partial_derivs.specs.declared.moves.Steps.{Steps}
-use Rattle.partial_derivs.specs.Moves.{HasTestsBelow, IsTermOf, AreGuards, AreTargets, AreMerged, LeadsTo, IsDerivativeOf, Keeps}
+use Rattle.partial_derivs.specs.Moves.{IsTermOf, AreGuards, AreTargets, AreMerged, LeadsTo, IsDerivativeOf, Keeps}
 use Rattle.partial_derivs.specs.Gathered.{AddsUnder, Follows}
 use Rattle.partial_derivs.proofs.Kept.{AreTargets-kept, LeadsTo-kept, LeadsTo-was, LeadsTo-more, LeadsTo-less}
 

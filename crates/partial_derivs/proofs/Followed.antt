@@ -2,6 +2,7 @@
 use Rattle.std.proofs.Common.{◌≡◌, inl, inr, ⊎_elim, ℕ, ◌<◌, ◌+◌, List, [], ◌∷◌, ◌++◌, length, get_or, take, refl, sym, ap, ◌∙◌, subst}
 use Rattle.std.specs.Bool.{IsTrue}
 use Rattle.kat_model.specs.Trees.{Term}
+use Rattle.kat_model.specs.Problems.{HasTestsBelow}
 use Rattle.kat_model.specs.Steps.{Atom, dot}
 use Rattle.kat_model.proofs.Lists.{has_right, has_append}
 use Rattle.term_store.specs.Nodes.{Nodes, IsTermId}
@@ -10,7 +11,7 @@ use Rattle.term_store.specs.Growth.{KeepsTrees}
 use Rattle.test_diagrams.specs.Functions.{Collection, value_of, IsDiagramId, IsAtomOf, KeepsFunctions}
 use Rattle.test_diagrams.proofs.Kept.{KeepsFunctions-itself}
 use Rattle.partial_derivs.specs.declared.moves.Guarded.{Guarded}
-use Rattle.partial_derivs.specs.Moves.{HasTestsBelow, IsTermOf, AreGuards, AreTargets, LeadsTo, Keeps}
+use Rattle.partial_derivs.specs.Moves.{IsTermOf, AreGuards, AreTargets, LeadsTo, Keeps}
 use Rattle.partial_derivs.specs.Gathered.{AddsMove, AddsFollowed, Follows}
 use Rattle.partial_derivs.proofs.Items.{has_item, take_item}
 use Rattle.partial_derivs.proofs.Kept.{HasTestsBelow-dot, AreTargets-trees, LeadsTo-kept, LeadsTo-was, LeadsTo-left}

@@ -3,6 +3,7 @@ use Rattle.std.proofs.Common.{ℕ, Bool, List, ◌++◌, sym, ◌∙◌, subst}
 use Rattle.std.specs.Bool.{IsTrue}
 use Rattle.kat_model.specs.Trees.{Term, zero, one, test, act, sum, product, star}
 use Rattle.kat_model.specs.Members.{Has}
+use Rattle.kat_model.specs.Problems.{HasTestsBelow}
 use Rattle.kat_model.specs.Steps.{Atom, dot}
 use Rattle.term_store.specs.Nodes.{Nodes}
 use Rattle.term_store.specs.Growth.{KeepsTrees}
@@ -11,7 +12,7 @@ use Rattle.test_diagrams.specs.Functions.{Collection, IsAtomOf, KeepsFunctions}
 use Rattle.test_diagrams.proofs.Kept.{KeepsFunctions-itself, KeepsFunctions-trans, IsDiagramOf-kept}
 use Rattle.partial_derivs.specs.declared.moves.Guarded.{Guarded}
 use Rattle.partial_derivs.specs.declared.moves.Steps.{Steps}
-use Rattle.partial_derivs.specs.Moves.{HasTestsBelow, IsTermOf, AreGuards, AreTargets, LeadsTo, IsStepsBy, HasIds, Keeps}
+use Rattle.partial_derivs.specs.Moves.{IsTermOf, AreGuards, AreTargets, LeadsTo, IsStepsBy, HasIds, Keeps}
 use Rattle.kat_model.proofs.Lists.{has_left, has_right}
 
 pub Keeps-itself : (s : Nodes) (c : Collection) → Keeps s s c c

@@ -1,8 +1,8 @@
 -- Symbolic derivatives: what terms accept and where they move, as functions of the tests.
 use Rattle.std.specs.Prelude.{◌≡◌, ◌↔◌, ℕ, Bool, IsTrue, List, [], ◌∷◌}
-use Rattle.kat_model.specs.Trees.{Term, zero, one, test, act, sum, product, star}
+use Rattle.kat_model.specs.Trees.{Term}
 use Rattle.kat_model.specs.Members.{Has}
-use Rattle.kat_model.specs.Problems.{IsTestInRange}
+use Rattle.kat_model.specs.Problems.{HasTestsBelow}
 use Rattle.kat_model.specs.Steps.{Atom, out, next, set_out, set_next}
 use Rattle.term_store.specs.Nodes.{Nodes, IsTermId}
 use Rattle.term_store.specs.Trees.{tree_of}
@@ -10,16 +10,6 @@ use Rattle.term_store.specs.Growth.{KeepsTrees}
 use Rattle.test_diagrams.specs.Functions.{Collection, value_of, IsDiagramId, IsAtomOf, IsDiagramOf, KeepsFunctions}
 use Rattle.partial_derivs.specs.declared.moves.Guarded.{Guarded}
 use Rattle.partial_derivs.specs.declared.moves.Steps.{Steps}
-
--- each primitive test in the term is below n
-abbrev pub HasTestsBelow : ℕ → Term → Type 0
-HasTestsBelow n zero = Unit {0}
-HasTestsBelow n one = Unit {0}
-HasTestsBelow n (test b) = IsTestInRange n b
-HasTestsBelow n (act a) = Unit {0}
-HasTestsBelow n (sum e f) = HasTestsBelow n e × HasTestsBelow n f
-HasTestsBelow n (product e f) = HasTestsBelow n e × HasTestsBelow n f
-HasTestsBelow n (star e) = HasTestsBelow n e
 
 -- the number is the id of a term, whose tests are below n
 pub record IsTermOf (store : Nodes) (n i : ℕ) : Type 0 where

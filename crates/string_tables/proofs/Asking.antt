@@ -1,10 +1,10 @@
 -- The hypotheses and sides of a problem may be asked of the table of a string that fits it.
 use Rattle.std.proofs.Common.{◌≡◌, ℕ, zero as nought, suc, ◌<◌, ◌≤◌, List, [], ◌∷◌, All, length, get_or, sym, subst, arith, None}
 use Rattle.kat_model.specs.Trees.{Term, zero, one, test, act, sum, product, star, term_height}
-use Rattle.kat_model.specs.Problems.{Question, IsProblem, IsInRange, AreInRange}
+use Rattle.kat_model.specs.Problems.{Question, IsProblem, HasTestsBelow, IsInRange, AreInRange}
 use Rattle.kat_model.specs.Relations.{Table, atom_at}
 use Rattle.kat_model.specs.Strings.{GuardedString}
-use Rattle.string_tables.specs.Tables.{table_of, HasTestsBelow, Room, MayBeAsked}
+use Rattle.string_tables.specs.Tables.{table_of, Room, MayBeAsked}
 use Rattle.string_tables.specs.Findings.{misfit}
 use Rattle.string_tables.specs.Heights.{question_height}
 use Rattle.string_tables.proofs.Fitting.{no_misfit_is_string}

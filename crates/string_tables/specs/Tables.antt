@@ -1,8 +1,8 @@
 -- The table of a guarded string, and the strings that refute a problem.
 use Rattle.std.specs.Prelude.{◌≡◌, ◌⊎◌, ◌<◌, ◌≤◌, ℕ, suc, List, [], ◌∷◌, length, map}
-use Rattle.kat_model.specs.Trees.{Term, zero, one, test, act, sum, product, star, term_height}
+use Rattle.kat_model.specs.Trees.{Term, term_height}
 use Rattle.kat_model.specs.Members.{Has}
-use Rattle.kat_model.specs.Problems.{Question, IsTestInRange}
+use Rattle.kat_model.specs.Problems.{Question, HasTestsBelow}
 use Rattle.kat_model.specs.Relations.{Step, Table, atom_at, Relates, Keeps}
 use Rattle.kat_model.specs.Strings.{Move, GuardedString, IsString}
 
@@ -33,16 +33,6 @@ pub record Refutes (q : Question) (x : GuardedString) : Type 0 where
 pub record IsWhole (t : Table) : Type 0 where
   pub rows : length t.truths ≡ t.states
   pub moves : (m : Step) → Has t.moves m → (m.from < t.states) × (m.to < t.states)
-
--- each primitive test in the term is below n
-abbrev pub HasTestsBelow : ℕ → Term → Type 0
-HasTestsBelow n zero = Unit {0}
-HasTestsBelow n one = Unit {0}
-HasTestsBelow n (test b) = IsTestInRange n b
-HasTestsBelow n (act a) = Unit {0}
-HasTestsBelow n (sum e f) = HasTestsBelow n e × HasTestsBelow n f
-HasTestsBelow n (product e f) = HasTestsBelow n e × HasTestsBelow n f
-HasTestsBelow n (star e) = HasTestsBelow n e
 
 -- how high terms and how many states a bench has room for
 pub record Room : Type 0 where

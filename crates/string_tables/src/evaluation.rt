@@ -3,7 +3,8 @@ ghost use Rattle.std.specs.Prelude.{◌≡◌, ◌+◌, ◌<◌, ◌≤◌, ℕ,
 ghost use Rattle.kat_model.specs.Trees.{kat_tree, term_height};
 ghost use Rattle.kat_model.specs.Relations.{atom_at};
 ghost use Rattle.kat_model.specs.Decided.{relates_now};
-ghost use Rattle.string_tables.specs.Tables.{IsWhole, HasTestsBelow};
+ghost use Rattle.kat_model.specs.Problems.{HasTestsBelow};
+ghost use Rattle.string_tables.specs.Tables.{IsWhole};
 ghost use Rattle.string_tables.specs.Matrices.{Tells, sizes};
 
 use crate::leaves::{put_action, put_test};

@@ -4,10 +4,9 @@ use Rattle.std.proofs.lemmas.Bool.{false≢true, eqb-true}
 use Rattle.std.specs.Bool.{IsTrue}
 use Rattle.kat_model.specs.Trees.{Term, zero, one, test, act, sum, product, star}
 use Rattle.kat_model.specs.Steps.{Atom, out}
-use Rattle.kat_model.specs.Problems.{Question, IsInRange}
+use Rattle.kat_model.specs.Problems.{Question, HasTestsBelow, IsInRange}
 use Rattle.kat_model.specs.Relations.{Table, atom_at, Relates, Same}
 use Rattle.kat_text.specs.Sizes.{is_test}
-use Rattle.string_tables.specs.Tables.{HasTestsBelow}
 use Rattle.test_problems.specs.Verdicts.{is_of_tests}
 
 both_true : (a b : Bool) → (a && b) ≡ true → (a ≡ true) × (b ≡ true)

@@ -2,7 +2,7 @@
 ghost use Rattle.std.specs.Prelude.{◌≡◌, ◌<◌, IfOk, true, not, ◌&&◌, ◌||◌};
 ghost use Rattle.kat_model.specs.Trees.{kat_tree};
 ghost use Rattle.kat_model.specs.Steps.{out};
-ghost use Rattle.string_tables.specs.Tables.{HasTestsBelow};
+ghost use Rattle.kat_model.specs.Problems.{HasTestsBelow};
 ghost use Rattle.test_diagrams.specs.Functions.{value_of, IsDiagramId, IsAtomOf, IsDiagramOf, KeepsFunctions};
 ghost use Rattle.test_diagrams.specs.Reduced.{IsReduced};
 ghost use Rattle.test_problems.specs.Atoms.{IsTrueSomewhere, IsTrueWith};
