@@ -1,8 +1,10 @@
--- The line that tells why a text is refused.
+-- The lines that tell why a text or evidence is refused.
 use Rattle.std.specs.Prelude.{ℕ, List, [], ◌∷◌, ◌++◌, codes, Option, Some, None}
 use Rattle.std.specs.Fmt.{decimal}
 use Rattle.kat_tokens.specs.declared.fault.TextFault.{TextFault}
 use Rattle.kat_tokens.specs.declared.fault.TextFault.TheVariants.{NoMemory, TooLong, NotUtf8, BadToken, Syntax, TooDeep, NumberTooWide, UnknownName, DoubleName, Sort, TooLarge, TooMany, NoGoal, TwoGoals, NotYet}
+use Rattle.certificate.specs.declared.evidence.EvidenceFault.{EvidenceFault}
+use Rattle.certificate.specs.declared.evidence.EvidenceFault.TheVariants.{NoMemory as NoRoom, Header, Line, NodeOrder, DoubleNode, SetOrder, NumberTooWide as NumeralTooWide, Truncated, Trailing}
 
 abbrev pub fault_word : TextFault → List ℕ
 fault_word NoMemory = codes "NoMemory"
@@ -46,3 +48,30 @@ place_text (Some at) = 32 ∷ decimal at
 -- `refused: WORD`, the place, and a line feed
 abbrev pub text_fault_line : TextFault → List ℕ
 text_fault_line fault = codes "refused: " ++ fault_word fault ++ place_text (fault_place fault) ++ 10 ∷ []
+
+abbrev pub evidence_word : EvidenceFault → List ℕ
+evidence_word NoRoom = codes "NoMemory"
+evidence_word Header = codes "Header"
+evidence_word (Line n) = codes "Line"
+evidence_word (NodeOrder n) = codes "NodeOrder"
+evidence_word (DoubleNode n) = codes "DoubleNode"
+evidence_word (SetOrder n) = codes "SetOrder"
+evidence_word (NumeralTooWide n) = codes "NumberTooWide"
+evidence_word Truncated = codes "Truncated"
+evidence_word (Trailing n) = codes "Trailing"
+
+-- the number of the line at fault
+abbrev pub evidence_place : EvidenceFault → Option ℕ
+evidence_place NoRoom = None
+evidence_place Header = None
+evidence_place (Line n) = Some n
+evidence_place (NodeOrder n) = Some n
+evidence_place (DoubleNode n) = Some n
+evidence_place (SetOrder n) = Some n
+evidence_place (NumeralTooWide n) = Some n
+evidence_place Truncated = None
+evidence_place (Trailing n) = Some n
+
+-- `refused: evidence WORD`, the number of the line, and a line feed
+abbrev pub evidence_fault_line : EvidenceFault → List ℕ
+evidence_fault_line fault = codes "refused: evidence " ++ evidence_word fault ++ place_text (evidence_place fault) ++ 10 ∷ []

@@ -1,8 +1,15 @@
 //! The lines that the program prints.
 #![tactic(auto)]
 
+mod evidence;
+mod reason;
 mod refusal;
+mod replay;
 #[cfg(test)]
 mod tests;
+mod writing;
 
+pub use evidence::evidence_fault_line;
+pub use reason::reason_line;
 pub use refusal::text_fault_line;
+pub use replay::replay_text;

@@ -1,6 +1,11 @@
-pub mod Causes
-pub mod Completeness
-pub mod Exclusion
+pub mod Contents
+pub mod Posed
 pub mod Questions
 pub mod Askable
+pub mod AnswerStatuses
+pub mod Completeness
+pub mod Exclusion
+pub mod Causes
+pub mod Outcomes
 pub mod Said
+pub mod Serving

@@ -1,5 +1,5 @@
 -- What was read of a text and asked of it is what the text asks.
-use Rattle.std.proofs.Common.{◌≡◌, inl, inr, ℕ, List, false, codes, Result, Ok, Err, IfOk, refl, sym}
+use Rattle.std.proofs.Common.{◌≡◌, inl, inr, ℕ, List, false, codes, refl, sym}
 use Rattle.kat_model.specs.Problems.{Question}
 use Rattle.problem_file.specs.declared.file.File.{File}
 use Rattle.problem_file.specs.Trees.{goal_tree}
@@ -7,12 +7,14 @@ use Rattle.problem_file.specs.Reads.{Reads, Holds}
 use Rattle.problem_file.specs.Ranges.{IsNumbered}
 use Rattle.problem_file.specs.Files.{State}
 use Rattle.problem_file.proofs.NumberedStates.{are_in_ranges}
-use Rattle.kat_tool.specs.declared.top.Reply.{Reply}
 use Rattle.kat_tool.specs.declared.asking.Asked.{Asked}
 use Rattle.kat_tool.specs.declared.asking.Asked.TheVariants.{Problem, TooLarge, Compares as HasComparison}
-use Rattle.kat_tool.specs.Asking.{goal_compares, question_of, Asks}
+use Rattle.kat_tool.specs.declared.reply.Stop.{Stop}
+use Rattle.kat_tool.specs.Asking.{goal_compares, question_of, Asks, IsSmall}
 use Rattle.kat_tool.specs.Askings.{IsAskedOf}
-use Rattle.kat_tool.specs.Replies.{Judges, JudgesSaid}
+use Rattle.kat_tool.specs.Posing.{PosesNone}
+use Rattle.kat_tool.specs.Outcomes.{IsStop, IsRefusal}
+use Rattle.kat_tool.proofs.Outcomes.{IsStop-weaker}
 
 -- what is asked of the file, as it is told of each state
 abbrev pub IsTold : File → Asked → Type 0
@@ -30,29 +32,22 @@ module _ (text : List ℕ) (f : File) (reads : Reads text f) where
     question = same;
   }
 
-  problem_judged : (status : ℕ) (output : List ℕ) (p : Question) → IsTold f (Problem p) → Judges p status output → JudgesSaid text status output
-  problem_judged status output p h judges = let t = told (Problem p) h in inl (p, asks p t.0 t.1, t.2, judges)
+  pub problem_posed : (p : Question) → IsTold f (Problem p) → Asks text p × IsSmall p
+  problem_posed p h = let t = told (Problem p) h in (asks p t.0 t.1, t.2)
 
-  large_judged : (status : ℕ) (output : List ℕ) → IsTold f TooLarge → (status ≡ 2) × (output ≡ codes "refused: ProblemTooLarge\n") → JudgesSaid text status output
-  large_judged status output h line =
+  pub large_posed : (stop : Stop) → IsTold f TooLarge → IsStop (IsRefusal (λ l. l ≡ codes "refused: ProblemTooLarge\n")) stop → IsStop (IsRefusal (PosesNone text)) stop
+  large_posed stop h line =
       let t = told TooLarge h in
       let q = question_of reads.state (goal_tree f.goal) in
-      inr (inl (q, asks q t.0 refl, t.1, line.0, line.1))
+      IsStop-weaker (IsRefusal (λ l. l ≡ codes "refused: ProblemTooLarge\n")) (IsRefusal (PosesNone text)) (λ status output r. (r.0, inr (inl (record { question = q; asks = asks q t.0 refl; large = t.1; printed = r.1 })))) stop line
 
-  comparison_judged : (status : ℕ) (output : List ℕ) → IsTold f HasComparison → (status ≡ 2) × (output ≡ codes "refused: NotYet\n") → JudgesSaid text status output
-  comparison_judged status output h line =
+  pub comparison_posed : (stop : Stop) → IsTold f HasComparison → IsStop (IsRefusal (λ l. l ≡ codes "refused: NotYet\n")) stop → IsStop (IsRefusal (PosesNone text)) stop
+  comparison_posed stop h line =
       let t = told HasComparison h in
-      inr (inr (record { state = reads.state; goal = goal_tree f.goal; has = record { says = reads.says; is_goal = sym reads.holds.goal; compares = t } }, line.0, line.1))
-
-  -- the replies to what is asked
-  pub problem_reply : {E : Type 0} (r : Result Reply E) (p : Question) → IsTold f (Problem p) → IfOk r (λ r. Judges p r.status r.output.items) → IfOk r (λ r. JudgesSaid text r.status r.output.items)
-  problem_reply (Ok r) p h j = problem_judged r.status r.output.items p h j
-  problem_reply (Err e) p h j = tt
-
-  pub large_reply : {E : Type 0} (r : Result Reply E) → IsTold f TooLarge → IfOk r (λ r. (r.status ≡ 2) × (r.output.items ≡ codes "refused: ProblemTooLarge\n")) → IfOk r (λ r. JudgesSaid text r.status r.output.items)
-  large_reply (Ok r) h line = large_judged r.status r.output.items h line
-  large_reply (Err e) h line = tt
-
-  pub comparison_reply : {E : Type 0} (r : Result Reply E) → IsTold f HasComparison → IfOk r (λ r. (r.status ≡ 2) × (r.output.items ≡ codes "refused: NotYet\n")) → IfOk r (λ r. JudgesSaid text r.status r.output.items)
-  comparison_reply (Ok r) h line = comparison_judged r.status r.output.items h line
-  comparison_reply (Err e) h line = tt
+      IsStop-weaker
+      (IsRefusal (λ l. l ≡ codes "refused: NotYet\n"))
+      (IsRefusal (PosesNone text))
+      (λ status output r.
+      (r.0, inr (inr (record { compares = record { state = reads.state; goal = goal_tree f.goal; has = record { says = reads.says; is_goal = sym reads.holds.goal; compares = t } }; printed = r.1 }))))
+      stop
+      line

@@ -1,4 +1,4 @@
--- The problem that a text asks, and which problems are decided so far.
+-- The problem that a text asks.
 use Rattle.std.specs.Prelude.{◌≡◌, ◌≤◌, ◌<◌, ℕ, List, Bool, true, false, ◌||◌, Some}
 use Rattle.kat_model.specs.Expressions.{CondTree, always, never, named, compared, negation, both, either}
 use Rattle.kat_model.specs.Problems.{Question, question_size}
@@ -6,7 +6,6 @@ use Rattle.goal_forms.specs.Sides.{SideTrees, below_sides, triple_sides}
 use Rattle.kat_text.specs.Sizes.{test_of}
 use Rattle.problem_file.specs.Files.{GoalTree, equal, below, triple, State}
 use Rattle.problem_file.specs.Reads.{Says}
-use Rattle.test_problems.specs.Verdicts.{is_of_tests}
 
 -- whether a comparison stands in the condition
 abbrev pub compares : CondTree → Bool
@@ -59,7 +58,3 @@ IsSmall q = question_size q ≤ 100000
 
 abbrev pub IsLarge : Question → Type 0
 IsLarge q = 100000 < question_size q
-
--- the problems that are decided so far
-abbrev pub IsDecided : Question → Type 0
-IsDecided q = IsSmall q × (is_of_tests q ≡ true)

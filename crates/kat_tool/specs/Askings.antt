@@ -1,4 +1,4 @@
--- What is asked of a file, and the functions of tests that decide it.
+-- What is asked of a file.
 use Rattle.std.specs.Prelude.{◌≡◌, true, false}
 use Rattle.problem_file.specs.Files.{GoalTree, State}
 use Rattle.kat_tool.specs.Asking.{goal_compares, question_of, IsSmall, IsLarge}

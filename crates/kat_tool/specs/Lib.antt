@@ -1,4 +1,11 @@
 pub mod Commands
+pub mod Held
 pub mod Asking
 pub mod Askings
+pub mod Posing
+pub mod Deciding
+pub mod Consulting
 pub mod Replies
+pub mod Causes
+pub mod Statuses
+pub mod Outcomes

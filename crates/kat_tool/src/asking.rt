@@ -11,7 +11,7 @@ ghost use Rattle.kat_tool.specs.Asking.{compares, goal_compares, sides_of};
 ghost use Rattle.kat_tool.specs.Askings.{IsAskedOf};
 
 use goal_forms::{Sides, below, triple};
-use kat_model::{Cond, Kat, NoMemory, Problem as Question};
+use kat_model::{Cond, Kat, NoMemory, Problem};
 use kat_text::test_of;
 use problem_file::{File, Goal, Side};
 use std::alloc::Global;
@@ -19,7 +19,7 @@ use std::alloc::Global;
 /// What a file asks.
 #[derive(Drop)]
 pub(crate) enum Asked {
-    Problem(Question),
+    Problem(Problem),
     /// The problem has more than 100,000 nodes.
     TooLarge,
     /// A comparison stands in a condition of the goal, which makes no problem yet.
@@ -73,14 +73,14 @@ fn sides(alloc: Global, goal: Goal) -> Result<Sides, NoMemory>
 
 /// What the file asks. Of the reasons why there is no problem only its size can come, since files hold no other tests
 /// and actions than they declare.
-pub(crate) fn problem_of(alloc: Global, file: File) -> Result<Asked, NoMemory>
+pub(crate) fn asked_of(alloc: Global, file: File) -> Result<Asked, NoMemory>
     ensures { (s : State) → Holds file s → IsNumbered s → IfOk result (IsAskedOf s (goal_tree file.goal)) }
 {
     if goal_compares(&file.goal) {
         return Ok(Asked::Compares);
     }
     let sides = sides(alloc, file.goal)?;
-    match Question::new(file.tests, file.actions, file.hyps, sides.left, sides.right) {
+    match Problem::new(file.tests, file.actions, file.hyps, sides.left, sides.right) {
         Ok(problem) => Ok(Asked::Problem(problem)),
         Err(_) => Ok(Asked::TooLarge),
     }

@@ -1,7 +1,7 @@
 //! Laws of the top call's causes. Each function does nothing: its contract is the law.
-ghost use Rattle.kat_tool.specs.Replies.{CausesExclude};
+ghost use Rattle.kat_tool.specs.Statuses.{CausesExclude};
 
-/// Where the shelf tells the text of the file and did not fail, two replies to the same words have one
+/// Where the shelf tells what the files hold and did not fail, two replies to the same words have one
 /// status, so that each status comes exactly where its cause holds.
 pub fn causes_exclude()
     ensures { CausesExclude }

@@ -2,7 +2,16 @@
 #![tactic(auto)]
 
 mod asking;
+mod consulting;
+mod deciding;
+#[cfg(test)]
+mod evidence_tests;
+#[cfg(test)]
+mod forty_tests;
+mod getting;
 mod laws;
+mod posing;
+mod reply;
 #[cfg(test)]
 mod tests;
 mod top;

@@ -207,6 +207,10 @@ fn refuses_words_without_a_command(rt: HostRuntime) -> Result<(), Fail> {
         "decide -f",
         "Decide f",
         "check f",
+        "check f f f",
+        "check f -e",
+        "replay f",
+        "replay  f",
         "--help",
         "decide f --json",
     ];

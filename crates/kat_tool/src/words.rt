@@ -1,7 +1,7 @@
 //! The words of a command line, and the table of those that have a command.
 ghost use Rattle.std.specs.Prelude.{◌≡◌, ◌++◌, ◌∷◌, [], List, ℕ, OnOk, OnErr, Option};
 ghost use Rattle.std.specs.Option.{option_map};
-ghost use Rattle.kat_tool.specs.Commands.{command_of, command_seen, is_value};
+ghost use Rattle.kat_tool.specs.Commands.{command_of, command_seen, is_value, with_file, with_evidence};
 
 use kat_model::NoMemory;
 use std::alloc::Global;
@@ -27,6 +27,10 @@ impl Model for Words {
 pub(crate) enum Command<'a> {
     /// `decide` FILE
     Decide(&'a str),
+    /// `check` FILE EVIDENCE
+    Check(&'a str, &'a str),
+    /// `replay` FILE EVIDENCE
+    Replay(&'a str, &'a str),
 }
 
 impl Words {
@@ -55,11 +59,33 @@ impl Words {
         ensures { option_map command_seen result ≡ command_of self.now }
     {
         match self.texts.as_slice() {
-            [name, file] if name.as_str() == "decide" && is_value(file.as_str()) => {
-                Some(Command::Decide(file.as_str()))
+            [name, file] if is_value(file.as_str()) => with_file(name.as_str(), file.as_str()),
+            [name, file, evidence] if is_value(file.as_str()) && is_value(evidence.as_str()) => {
+                with_evidence(name.as_str(), file.as_str(), evidence.as_str())
             }
             _ => None,
         }
+    }
+}
+
+// The commands of one file.
+fn with_file<'a>(name: &str, file: &'a str) -> Option<Command<'a>>
+    ensures { option_map command_seen result ≡ with_file name.now file.now }
+{
+    match name {
+        "decide" => Some(Command::Decide(file)),
+        _ => None,
+    }
+}
+
+// The commands of a file and its evidence.
+fn with_evidence<'a>(name: &str, file: &'a str, evidence: &'a str) -> Option<Command<'a>>
+    ensures { option_map command_seen result ≡ with_evidence name.now file.now evidence.now }
+{
+    match name {
+        "check" => Some(Command::Check(file, evidence)),
+        "replay" => Some(Command::Replay(file, evidence)),
+        _ => None,
     }
 }
 

@@ -1,5 +1,5 @@
 -- Moves to which one is added, where moves of one target have one guard.
-use Rattle.std.proofs.Common.{◌≡◌, ◌⊎◌, inl, inr, ⊎_elim, ℕ, Bool, true, ◌||◌, Option, Some, None, List, refl, sym, ap, ◌∙◌, subst}
+use Rattle.std.proofs.Common.{◌≡◌, ◌⊎◌, inl, inr, ⊎_elim, ℕ, Bool, true, false, ◌||◌, Option, Some, None, List, refl, sym, ap, ◌∙◌, subst}
 use Rattle.std.specs.Bool.{IsTrue}
 use Rattle.std.specs.Map.{lookup}
 use Rattle.std.proofs.lemmas.Bool.{false≢true, or_cases, or_left, or_right}
@@ -127,3 +127,11 @@ module _ (c d : Collection) (eq : Target → Target → Bool) (same : (x y : Tar
       (λ r. ⊎_elim (λ old. leads_still store atom fits a e old) (λ own. open_now store atom fits a e (inr own.1) own.0 own.2) r),
     );
   })
+
+-- a move whose guard is never true leads nowhere, and is left out
+pub adds_never : (d : Collection) (moves : List Guarded) (m : Guarded) → AreGuards d moves → IsDiagramOf d m.guard (λ atom. false) → AddsMove d d moves moves m
+adds_never d moves m guards never = record {
+  guards = guards;
+  targets = λ store n old own. old;
+  leads = λ store atom fits a e. (inl, λ h. ⊎_elim (λ old. old) (λ new. absurd (false≢true (sym (never.value atom fits) ∙ new.1))) h);
+}

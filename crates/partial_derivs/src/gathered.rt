@@ -56,7 +56,7 @@ impl Gathered {
         }
     }
 
-    // Adds a move.
+    // Adds a move. One whose guard is never true is left out.
     fn add(
         &mut self,
         diagrams: &mut Diagrams,
@@ -70,6 +70,9 @@ impl Gathered {
             (moves_of self.old.guards.entries) (moves_of self.new.guards.entries) (record { guard = guard; act = act; to = to })) }
         ensures kept { KeepsFunctions diagrams.old diagrams.new }
     {
+        if guard == diagrams.constant(false) {
+            return Ok(());
+        }
         let target = Target { act, to };
         let joined = self.joined(diagrams, &target, guard)?;
         self.guards.insert(target, joined)?;

@@ -2,7 +2,7 @@ use Rattle.std.proofs.Common.{◌≡◌, Some, sym, subst}
 use Rattle.kat_model.specs.Problems.{problem_fault}
 use Rattle.problem_file.specs.Trees.{goal_tree}
 use Rattle.kat_tool.proofs.Askable.{refused_large, parts_ask}
-use Rattle.kat_tool.proofs.asking.problem_of.Goals as goal
+use Rattle.kat_tool.proofs.asking.asked_of.Goals as goal
 
 pub returns : goal.returns
 returns c s holds numbered =

@@ -1,0 +1,29 @@
+//! Appending to a text.
+ghost use Rattle.std.specs.Prelude.{◌≡◌, ◌++◌, OnOk};
+ghost use Rattle.std.specs.Fmt.{decimal};
+
+use kat_model::NoMemory;
+use std::alloc::Global;
+use std::fmt::Write;
+
+/// Appends a word.
+pub(crate) fn put_word(out: &mut Vec<u8>, word: &str) -> Result<(), NoMemory>
+    ensures { OnOk result (out.new.items ≡ out.old.items ++ word.now) }
+{
+    out.extend_from_slice(word.as_bytes())?;
+    Ok(())
+}
+
+/// Appends a word and a number in decimal right after it.
+pub(crate) fn put_numbered(
+    alloc: Global,
+    out: &mut Vec<u8>,
+    word: &str,
+    number: usize,
+) -> Result<(), NoMemory>
+    ensures { OnOk result (out.new.items ≡ out.old.items ++ (word.now ++ decimal number)) }
+{
+    put_word(out, word)?;
+    out.extend_from_slice(format!(in alloc; "{number}")?.as_bytes())?;
+    Ok(())
+}
