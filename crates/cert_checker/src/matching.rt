@@ -5,10 +5,11 @@ ghost use Rattle.std.specs.Map.{keys_of};
 ghost use Rattle.std.specs.Ordering.{nat_cmp};
 ghost use Rattle.cert_checker.specs.Targets.{AreEntries};
 ghost use Rattle.cert_checker.specs.Cases.{AreKnown, IsWaited, waiting_for};
+ghost use Rattle.cert_checker.specs.Marks.{saturated_marks};
 ghost use Rattle.cert_checker.specs.Matching.{AreRules, MatchAt, known_of, IsState, option_any, truly, falsely, sure_targets, is_sure, guarded_by, open_targets, are_both_marked, covers, lists, AreSettled};
 
 use crate::known::{Known, guard_value};
-use crate::saturation::{holds_all, is_marked, saturated};
+use crate::saturation::reaches;
 use crate::tables::Tables;
 use crate::targets::Targets;
 use certificate::{Pair, Style};
@@ -109,17 +110,27 @@ fn open_terms(
     Ok(terms)
 }
 
-fn both_marked(universal: Option<usize>, left: &[bool], right: &[bool]) -> bool
-    ensures { result ≡ are_both_marked universal left.now right.now }
+// Whether both sets, saturated, hold the universal term.
+fn both_reach(
+    alloc: Global,
+    count: usize,
+    rules: &Rules,
+    left: &[usize],
+    right: &[usize],
+) -> Result<bool, NoMemory>
+    ensures { IfOk result (λ b. b ≡ are_both_marked rules.now.universal (saturated_marks count rules.now.pairs left.now) (saturated_marks count rules.now.pairs right.now)) }
 {
-    match universal {
-        Some(term) => is_marked(left, term) && is_marked(right, term),
-        None => false,
+    match rules.universal {
+        Some(term) => Ok(
+            reaches(alloc, count, rules.pairs, left, &[term])?
+                && reaches(alloc, count, rules.pairs, right, &[term])?,
+        ),
+        None => Ok(false),
     }
 }
 
 // Whether the sets are congruent at all the atoms: what may be in one set is in the other, or is brought there
-// by what surely is.
+// by what surely is; or both are brought to the universal term.
 fn is_covered(
     alloc: Global,
     count: usize,
@@ -137,12 +148,12 @@ fn is_covered(
     }
     let left_sure = sure_terms(alloc, left, known)?;
     let right_sure = sure_terms(alloc, right, known)?;
-    let left_marks = saturated(alloc, count, rules.pairs, &left_sure)?;
-    let right_marks = saturated(alloc, count, rules.pairs, &right_sure)?;
-    Ok(
-        both_marked(rules.universal, &left_marks, &right_marks)
-            || holds_all(&right_marks, &left_open) && holds_all(&left_marks, &right_open),
-    )
+    if reaches(alloc, count, rules.pairs, &right_sure, &left_open)?
+        && reaches(alloc, count, rules.pairs, &left_sure, &right_open)?
+    {
+        return Ok(true);
+    }
+    both_reach(alloc, count, rules, &left_sure, &right_sure)
 }
 
 // Whether some pair has just these terms.

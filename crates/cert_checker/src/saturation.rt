@@ -6,15 +6,15 @@ use certificate::Pair;
 use kat_model::NoMemory;
 use std::alloc::Global;
 
-/// Whether the term is marked.
-pub(crate) fn is_marked(marks: &[bool], term: usize) -> bool
+// Whether the term is marked.
+fn is_marked(marks: &[bool], term: usize) -> bool
     ensures { result ≡ slice_index_or marks.now term false }
 {
     marks.get(term).copied().unwrap_or(false)
 }
 
-/// Whether each of the terms is marked.
-pub(crate) fn holds_all(marks: &[bool], terms: &[usize]) -> bool
+// Whether each of the terms is marked.
+fn holds_all(marks: &[bool], terms: &[usize]) -> bool
     ensures { result ≡ are_marked marks.now terms.now }
 {
     for term in terms {
@@ -56,42 +56,51 @@ fn add_pair(marks: &mut [bool], pair: &Pair) -> bool
     false
 }
 
-// One round over the pairs. Answers whether a term is new.
-fn round(marks: &mut [bool], pairs: &[Pair]) -> bool
-    ensures marks { marks.new ≡ round_marked pairs.now marks.old }
+// One round over the pairs, left as soon as all the wanted terms are marked. Answers whether a term is new.
+fn round(marks: &mut [bool], pairs: &[Pair], wanted: &[usize]) -> bool
+    ensures wanted { are_marked marks.new wanted.now ≡ are_marked (round_marked pairs.now marks.old) wanted.now }
+    ensures marks { are_marked marks.new wanted.now ≡ false → marks.new ≡ round_marked pairs.now marks.old }
     ensures same { result ≡ false → marks.new ≡ marks.old }
 {
     let mut grew = false;
     for pair in pairs {
         if add_pair(marks, pair) {
             grew = true;
+            if holds_all(marks, wanted) {
+                return true;
+            }
         }
     }
     grew
 }
 
-// As many rounds as there are pairs. After one that adds nothing, no other would.
-fn saturate(marks: &mut [bool], pairs: &[Pair])
-    ensures { marks.new ≡ rounds_marked (length pairs.now) pairs.now marks.old }
+// As many rounds as there are pairs, or until the others would tell no more: all the wanted terms are marked, and
+// stay so, or a round has added nothing.
+fn saturate(marks: &mut [bool], pairs: &[Pair], wanted: &[usize])
+    ensures { are_marked marks.new wanted.now ≡ are_marked (rounds_marked (length pairs.now) pairs.now marks.old) wanted.now }
 {
     for _turn in 0..pairs.len() {
-        if !round(marks, pairs) {
+        if holds_all(marks, wanted) {
+            return;
+        }
+        if !round(marks, pairs, wanted) {
             return;
         }
     }
 }
 
-/// The marks of these terms, of `count` terms, saturated by the pairs.
-pub(crate) fn saturated(
+/// Whether all the wanted terms are among these terms, of `count` terms, saturated by the pairs.
+pub(crate) fn reaches(
     alloc: Global,
     count: usize,
     pairs: &[Pair],
     terms: &[usize],
-) -> Result<Vec<bool>, NoMemory>
-    ensures { IfOk result (λ v. v.items ≡ saturated_marks count pairs.now terms.now) }
+    wanted: &[usize],
+) -> Result<bool, NoMemory>
+    ensures { IfOk result (λ b. b ≡ are_marked (saturated_marks count pairs.now terms.now) wanted.now) }
 {
     let mut marks = vec![in alloc; false; count]?;
     mark_all(&mut marks, terms);
-    saturate(&mut marks, pairs);
-    Ok(marks)
+    saturate(&mut marks, pairs, wanted);
+    Ok(holds_all(&marks, wanted))
 }

@@ -19,3 +19,4 @@ pub mod FirstFaults
 pub mod OneSpelling
 pub mod NodeTrees
 pub mod EvidenceExamples
+pub mod Written

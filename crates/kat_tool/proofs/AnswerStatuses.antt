@@ -1,6 +1,5 @@
 -- The reply to a problem, and to evidence, has the status that they have.
 use Rattle.std.proofs.Common.{◌≡◌, ◌⊎◌, ℕ, true, false, List, None, Some, inl, inr, ⊎_elim, refl, sym, subst, ap, ◌∙◌}
-use Rattle.std.proofs.lemmas.Bool.{false≢true}
 use Rattle.kat_io.specs.Told.{Told, Holds}
 use Rattle.kat_model.specs.Problems.{Question}
 use Rattle.kat_model.specs.Strings.{GuardedString, IsString}
@@ -16,17 +15,15 @@ use Rattle.certificate.specs.Faults.{line_fault}
 use Rattle.certificate.proofs.Exactness.{texts_differ_lem, is_text_or_faulty_lem}
 use Rattle.cert_checker.specs.Answers.{Shows}
 use Rattle.kat_tool.specs.Deciding.{IsDecided}
-use Rattle.kat_tool.specs.Consulting.{Spells, accepted_status, IsChecked, IsReplayed, IsTold, IsConsulted, Consults}
+use Rattle.kat_tool.specs.Consulting.{Spells, evidence_status, IsChecked, IsReplayed, IsTold, IsConsulted, Consults}
 use Rattle.kat_tool.specs.Statuses.{DecideStatus, CheckStatus, ReplayStatus}
 use Rattle.kat_tool.proofs.Contents.{held_same}
 
 pub decided_status : (q : Question) (status : ℕ) (output : List ℕ) → IsDecided q status output → DecideStatus q status
 decided_status q status output d =
     ⊎_elim
-    (λ h. record { beyond = λ b. absurd (false≢true (sym b ∙ h.1.of_tests)); equal = λ _ _. h.0; different = λ _ differ. absurd (differ h.1.same) })
-    (⊎_elim
-    (λ h. record { beyond = λ b. absurd (false≢true (sym b ∙ h.1.of_tests)); equal = λ _ same. absurd (h.1.differ same); different = λ _ _. h.0 })
-    (λ h. record { beyond = λ _. h.0; equal = λ t _. absurd (false≢true (sym h.1.beyond ∙ t)); different = λ t _. absurd (false≢true (sym h.1.beyond ∙ t)) }))
+    (λ h. record { answers = inl h.0; equal = λ _. h.0; different = λ differ. absurd (differ h.1.same) })
+    (λ h. record { answers = inr h.0; equal = λ same. absurd (h.1.differ same); different = λ _. h.0 })
     d
 
 -- a string that is told fits or does not
@@ -64,8 +61,8 @@ module _ (bytes : List ℕ) where
       ⊎_elim
       (λ h. record {
         faulty = λ fault f. absurd (spelled_faultless e fault s f);
-        equal = λ c t _. h.has_status ∙ ap accepted_status (spelled_same e (Equal c) s t);
-        different = λ x t _. h.has_status ∙ ap accepted_status (spelled_same e (Different x) s t);
+        equal = λ c t _. h.has_status ∙ ap evidence_status (spelled_same e (Equal c) s t);
+        different = λ x t _. h.has_status ∙ ap evidence_status (spelled_same e (Different x) s t);
         rejected = λ f t fails. absurd (fails (subst (Shows q) (spelled_same e f s t) h.shows));
       })
       (λ h. record {

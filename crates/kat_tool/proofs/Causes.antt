@@ -63,12 +63,12 @@ check_three : (status : ℕ) → (status ≤ 1) ⊎ (status ≡ 3) → status �
 check_three status small = ⊎_elim (λ h. omega (arith, h)) (λ h. omega (arith, h)) small
 
 answered_small : (told : List ℕ → Told) (command : Command) (q : Question) (status : ℕ) (output : List ℕ) → IsAnswered told command q status output → status ≤ 3
-answered_small told (decide file) q status output d = ⊎_elim (λ h. let is = h.0 in omega (arith, is)) (⊎_elim (λ h. let is = h.0 in omega (arith, is)) (λ h. let is = h.0 in omega (arith, is))) d
+answered_small told (decide file) q status output d = ⊎_elim (λ h. let is = h.0 in omega (arith, is)) (λ h. let is = h.0 in omega (arith, is)) d
 answered_small told (check file other) q status output c = consulted_small told other (IsChecked q) status output c (λ e k. check_three status (checked_small q e status output k))
 answered_small told (replay file other) q status output c = consulted_small told other (IsReplayed q) status output c (λ e r. up_to_three status (replayed_small q e status output r))
 
 answered_declined : (told : List ℕ → Told) (command : Command) (q : Question) (output : List ℕ) → IsAnswered told command q 2 output → IsDeclined told command q output
-answered_declined told (decide file) q output d = ⊎_elim (λ h. let is = h.0 in absurd (omega (arith, is))) (⊎_elim (λ h. let is = h.0 in absurd (omega (arith, is))) (λ h. h.1)) d
+answered_declined told (decide file) q output d = ⊎_elim (λ h. let is = h.0 in absurd (omega (arith, is))) (λ h. let is = h.0 in absurd (omega (arith, is))) d
 answered_declined told (check file other) q output c = consulted_declined told other (IsChecked q) 2 output c (λ e k two. check_two 2 (checked_small q e 2 output k) two) refl
 answered_declined told (replay file other) q output c = consulted_declined told other (IsReplayed q) 2 output c (λ e r two. no_two 2 (replayed_small q e 2 output r) two) refl
 
@@ -97,14 +97,14 @@ module _ (words : List (List ℕ)) (told : List ℕ → Told) (before now : ℕ)
   decides_equal file is r =
       ⊎_elim
       (λ h. let clash = h.0 in absurd (omega (arith, clash)))
-      (λ h. (h.0, h.1, ⊎_elim (λ d. d.1) (⊎_elim (λ d. let clash = d.0 in absurd (omega (arith, clash))) (λ d. let clash = d.0 in absurd (omega (arith, clash)))) h.2))
+      (λ h. (h.0, h.1, ⊎_elim (λ d. d.1) (λ d. let clash = d.0 in absurd (omega (arith, clash))) h.2))
       (served_by_status words told before now last 0 output (decide file) is (λ e. omega (arith, e)) r)
 
   pub decides_different : (file : List ℕ) → command_of words ≡ Some (decide file) → Replies words told before now last 1 output → DecidesDifferent told file output
   decides_different file is r =
       ⊎_elim
       (λ h. let clash = h.0 in absurd (omega (arith, clash)))
-      (λ h. (h.0, h.1, ⊎_elim (λ d. let clash = d.0 in absurd (omega (arith, clash))) (⊎_elim (λ d. d.1) (λ d. let clash = d.0 in absurd (omega (arith, clash)))) h.2))
+      (λ h. (h.0, h.1, ⊎_elim (λ d. let clash = d.0 in absurd (omega (arith, clash))) (λ d. d.1) h.2))
       (served_by_status words told before now last 1 output (decide file) is (λ e. omega (arith, e)) r)
 
   module _ (file other : List ℕ) where

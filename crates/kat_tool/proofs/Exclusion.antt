@@ -21,7 +21,7 @@ use Rattle.kat_tool.proofs.Completeness.{none_status, served}
 decided_once : (q : Question) (s t : ℕ) (o p : List ℕ) → IsDecided q s o → IsDecided q t p → s ≡ t
 decided_once q s t o p d e =
     let other = decided_status q t p e in
-    ⊎_elim (λ h. h.0 ∙ sym (other.equal h.1.of_tests h.1.same)) (⊎_elim (λ h. h.0 ∙ sym (other.different h.1.of_tests h.1.differ)) (λ h. h.0 ∙ sym (other.beyond h.1.beyond))) d
+    ⊎_elim (λ h. h.0 ∙ sym (other.equal h.1.same)) (λ h. h.0 ∙ sym (other.different h.1.differ)) d
 
 module _ (bytes : List ℕ) (q : Question) (s t : ℕ) (o : List ℕ) where
   accepted_once : (e : Evidence) → Spells bytes e → IsAccepting q e s o → CheckStatus bytes q t → s ≡ t

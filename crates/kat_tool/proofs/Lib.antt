@@ -4,6 +4,8 @@ pub mod Questions
 pub mod Askable
 pub mod AnswerStatuses
 pub mod Completeness
+pub mod Agreement
+pub mod Decided
 pub mod Exclusion
 pub mod Causes
 pub mod Outcomes

@@ -38,7 +38,7 @@ module _ (told : List ℕ → Told) (file text : List ℕ) (is_told : told file 
   refused_nothing output r =
       ⊎_elim (λ h. long_nothing text (held_past (told file) text is_told h.past)) (λ h. subst PosesNothing (held_same (told file) text h.0 is_told h.1.0) (none_nothing h.0 output h.2)) r
 
-  poses_asks : (q : Question) → Poses told file q → Asks text q
+  pub poses_asks : (q : Question) → Poses told file q → Asks text q
   poses_asks q p = subst (λ t. Asks t q) (held_same (told file) text p.text is_told p.given.0) p.asks
 
 module _ (told : List ℕ → Told) (command : Command) (text : List ℕ) (is_told : told (file_of command) ≡ Holds text) (status : ℕ) (output : List ℕ) (served : IsServed told command status output) where

@@ -15,7 +15,7 @@ use Rattle.kat_report.specs.Replays.{replay_text, Fits}
 use Rattle.kat_tool.specs.Commands.{Command, decide, check, replay, command_of, file_of}
 use Rattle.kat_tool.specs.Held.{MayHold}
 use Rattle.kat_tool.specs.Posing.{IsRefused, Poses}
-use Rattle.kat_tool.specs.Deciding.{IsEqual, IsDifferent, IsUndecided}
+use Rattle.kat_tool.specs.Deciding.{IsEqual, IsDifferent}
 use Rattle.kat_tool.specs.Consulting.{Spells, IsNoEvidence, IsRejecting, IsReplayed}
 use Rattle.kat_tool.specs.Replies.{HasFailed}
 
@@ -73,9 +73,9 @@ RejectsReplay told file other output = (q : Question) × (e : Evidence) × Holds
 abbrev pub IsBadEvidence : (List ℕ → Told) → List ℕ → List ℕ → Type 0
 IsBadEvidence told other output = (bytes : List ℕ) × MayHold (told other) bytes × IsNoEvidence bytes output
 
--- why a command is refused over a problem
+-- why a command is refused over a problem; `decide` answers each
 abbrev pub IsDeclined : (List ℕ → Told) → Command → Question → List ℕ → Type 0
-IsDeclined told (decide file) q output = IsUndecided q output
+IsDeclined told (decide file) q output = ⊥
 IsDeclined told (check file other) q output = IsBadEvidence told other output
 IsDeclined told (replay file other) q output = IsBadEvidence told other output
 

@@ -31,10 +31,10 @@ pub record IsNoEvidence (bytes output : List ℕ) : Type 0 where
   pub first : line_fault bytes ≡ Some fault
   pub printed : output ≡ evidence_fault_line fault
 
--- the status of accepted evidence, and the line that is printed
-abbrev pub accepted_status : Evidence → ℕ
-accepted_status (Equal c) = 0
-accepted_status (Different x) = 1
+-- the status that says what evidence says, and the line that `check` prints where it accepts it
+abbrev pub evidence_status : Evidence → ℕ
+evidence_status (Equal c) = 0
+evidence_status (Different x) = 1
 
 abbrev pub accepted_line : Evidence → List ℕ
 accepted_line (Equal c) = codes "accepted equal\n"
@@ -44,7 +44,7 @@ accepted_line (Different x) = codes "accepted different\n"
 pub record IsAccepting (q : Question) (e : Evidence) (status : ℕ) (output : List ℕ) : Type 0 where
   pub shows : Shows q e
   pub says : Says q e
-  pub has_status : status ≡ accepted_status e
+  pub has_status : status ≡ evidence_status e
   pub printed : output ≡ accepted_line e
 
 -- it does not show it, and the first reason is printed

@@ -6,6 +6,7 @@ pub mod Posing
 pub mod Deciding
 pub mod Consulting
 pub mod Replies
+pub mod Agreement
 pub mod Causes
 pub mod Statuses
 pub mod Outcomes

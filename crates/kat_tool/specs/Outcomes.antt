@@ -45,5 +45,5 @@ IsGot told file limit before now last result =
     IsOutcome (λ v. (now ≡ before) × MayHold told v.items × IsWithin (length v.items) limit) (HasStopped file before now last (λ line. MayPassLimit told limit × (line ≡ codes "refused: TooLong\n"))) result
 
 -- the problem that a text poses
-abbrev pub IsPosedBy : {T : Type 0} → (T → Question) → List ℕ → Result T Stop → Type 0
-IsPosedBy seen text result = IsOutcome (λ p. Asks text (seen p) × IsSmall (seen p)) (IsRefusal (PosesNone text)) result
+abbrev pub IsPosedBy : List ℕ → Result Question Stop → Type 0
+IsPosedBy text result = IsOutcome (λ q. Asks text q × IsSmall q) (IsRefusal (PosesNone text)) result

@@ -1,5 +1,5 @@
 -- The status that a command has, by what its files hold.
-use Rattle.std.specs.Prelude.{◌≡◌, ◌⊎◌, ℕ, List, None, Some, Option, true, false}
+use Rattle.std.specs.Prelude.{◌≡◌, ◌⊎◌, ℕ, List, None, Some, Option}
 use Rattle.kat_io.specs.Told.{Told, Untold, Holds}
 use Rattle.kat_io.specs.Outside.{Rose}
 use Rattle.kat_model.specs.Problems.{Question}
@@ -15,7 +15,6 @@ use Rattle.certificate.specs.declared.evidence.EvidenceFault.{EvidenceFault}
 use Rattle.cert_checker.specs.Answers.{Shows}
 use Rattle.kat_tokens.specs.declared.fault.TextFault.{TextFault}
 use Rattle.problem_file.specs.Reads.{FirstFault}
-use Rattle.test_problems.specs.Verdicts.{is_of_tests}
 use Rattle.kat_tool.specs.Commands.{Command, decide, check, replay, command_of, file_of}
 use Rattle.kat_tool.specs.Asking.{Asks, Compares, IsSmall, IsLarge}
 use Rattle.kat_tool.specs.Consulting.{Spells}
@@ -25,11 +24,11 @@ use Rattle.kat_tool.specs.Replies.{Replies}
 abbrev pub PosesNothing : List ℕ → Type 0
 PosesNothing text = ((fault : TextFault) × FirstFault text fault) ⊎ (Compares text ⊎ ((q : Question) × Asks text q × IsLarge q))
 
--- the status of `decide`
+-- the status of `decide`, which answers each problem
 pub record DecideStatus (q : Question) (status : ℕ) : Type 0 where
-  pub beyond : is_of_tests q ≡ false → status ≡ 2
-  pub equal : is_of_tests q ≡ true → Same q → status ≡ 0
-  pub different : is_of_tests q ≡ true → (Same q → ⊥) → status ≡ 1
+  pub answers : (status ≡ 0) ⊎ (status ≡ 1)
+  pub equal : Same q → status ≡ 0
+  pub different : (Same q → ⊥) → status ≡ 1
 
 -- the status of `check`
 pub record CheckStatus (bytes : List ℕ) (q : Question) (status : ℕ) : Type 0 where

@@ -3,7 +3,7 @@ ghost use Rattle.std.specs.Prelude.{◌≡◌, ℕ, List, IfOk};
 ghost use Rattle.certificate.specs.declared.evidence.Evidence.TheVariants.{Different};
 ghost use Rattle.kat_report.specs.Reasons.{reason_line};
 ghost use Rattle.kat_tool.specs.Held.{MayHold};
-ghost use Rattle.kat_tool.specs.Consulting.{Spells, IsNoEvidence, accepted_status, accepted_line, IsChecked, IsReplayed, IsTold};
+ghost use Rattle.kat_tool.specs.Consulting.{Spells, IsNoEvidence, evidence_status, accepted_line, IsChecked, IsReplayed, IsTold};
 ghost use Rattle.kat_tool.specs.Outcomes.{IsOutcome, IsRefusal, HasStopped};
 
 use crate::getting::got;
@@ -45,7 +45,7 @@ pub(crate) fn evidence_in<S: Shelf>(
 }
 
 fn accepted(alloc: Global, evidence: &Evidence) -> Result<Reply, NoMemory>
-    ensures { IfOk result (λ r. (r.status ≡ accepted_status evidence.now) × (r.output.items ≡ accepted_line evidence.now)) }
+    ensures { IfOk result (λ r. (r.status ≡ evidence_status evidence.now) × (r.output.items ≡ accepted_line evidence.now)) }
 {
     match evidence {
         Evidence::Equal(_) => line(alloc, 0, b"accepted equal\n"),

@@ -1,38 +1,55 @@
 //! `decide`: the decision of a problem.
-ghost use Rattle.std.specs.Prelude.{◌≡◌, IfOk};
-ghost use Rattle.certificate.specs.Texts.{text_of};
-ghost use Rattle.certificate.specs.declared.evidence.Evidence.TheVariants.{Different};
-ghost use Rattle.test_problems.specs.Verdicts.{single};
+ghost use Rattle.std.specs.Prelude.{◌≡◌, length, IfOk};
+ghost use Rattle.bisim_worklist.specs.Decisions.{IsDecision};
+ghost use Rattle.kat_tool.specs.Consulting.{Spells, evidence_status};
 ghost use Rattle.kat_tool.specs.Deciding.{IsDecided};
 
-use crate::reply::{Reply, line};
+use crate::reply::Reply;
+use bisim_worklist::decide;
 use certificate::{Evidence, write};
 use kat_model::{NoMemory, Problem};
 use std::alloc::Global;
-use string_tables::{GString, Items};
-use test_problems::{Verdict, decide};
 
-// The evidence that the string of one atom is.
-fn different(alloc: Global, atom: Vec<bool>) -> Result<Vec<u8>, NoMemory>
-    ensures { IfOk result (λ v. v.items ≡ text_of (Different (single atom.items))) }
+// How many nodes there are.
+fn count<T>(nodes: &[T]) -> usize
+    ensures { result ≡ length nodes.now }
 {
-    let string = GString {
-        first: Items::of(atom),
-        rest: Items::of(Vec::new(alloc)),
-    };
-    write(alloc, &Evidence::Different(string))
+    nodes.len()
+}
+
+// The text of a decision, which is read as that decision again: its numbers are those of nodes, tests and actions.
+fn text(alloc: Global, problem: &Problem, evidence: &Evidence) -> Result<Vec<u8>, NoMemory>
+    requires { IsDecision problem.now evidence.now }
+    ensures { IfOk result (λ v. Spells v.items evidence.now) }
+{
+    // The proof needs the limits of a problem, and of a certificate its rules and how many nodes it has.
+    let _ = problem.tests();
+    match evidence {
+        Evidence::Equal(cert) => {
+            let _ = count(cert.test_nodes());
+            let _ = count(cert.term_nodes());
+            write(alloc, evidence)
+        }
+        Evidence::Different(_) => write(alloc, evidence),
+    }
+}
+
+fn evidence_status(evidence: &Evidence) -> u8
+    ensures { result ≡ evidence_status evidence.now }
+{
+    match evidence {
+        Evidence::Equal(_) => 0,
+        Evidence::Different(_) => 1,
+    }
 }
 
 /// The reply of `decide` to a problem.
 pub(crate) fn decided(alloc: Global, problem: &Problem) -> Result<Reply, NoMemory>
     ensures { IfOk result (λ r. IsDecided problem.now r.status r.output.items) }
 {
-    match decide(alloc, problem)? {
-        Verdict::Undecided => line(alloc, 2, b"refused: NotYet\n"),
-        Verdict::Equal => line(alloc, 0, b"equal\n"),
-        Verdict::Different(atom) => Ok(Reply {
-            status: 1,
-            output: different(alloc, atom)?,
-        }),
-    }
+    let evidence = decide(alloc, problem)?;
+    Ok(Reply {
+        status: evidence_status(&evidence),
+        output: text(alloc, problem, &evidence)?,
+    })
 }

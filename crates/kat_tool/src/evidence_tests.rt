@@ -93,8 +93,17 @@ fn accepts_what_shows_its_answer(rt: HostRuntime) -> Result<(), Fail> {
     Ok(())
 }
 
+// `check` rejects the evidence with this line.
+fn rejected(rt: &impl Abort, alloc: Global, rows: &[(&str, &str, &str)]) -> Result<(), Fail> {
+    for (text, evidence, output) in rows {
+        let files = (*text, evidence.as_bytes());
+        reply(rt, alloc, "check", files, 3, output)?;
+    }
+    Ok(())
+}
+
 #[test]
-fn rejects_what_does_not_show_it(rt: HostRuntime) -> Result<(), Fail> {
+fn rejects_pairs_that_are_missing(rt: HostRuntime) -> Result<(), Fail> {
     let rows = [
         (
             DENESTING,
@@ -107,11 +116,23 @@ fn rejects_what_does_not_show_it(rt: HostRuntime) -> Result<(), Fail> {
             "rejected: Missing pair 0 atom - action 0\n",
         ),
         (
+            STAR_TWICE,
+            "kat 1 equal\nE act 0\nE star 0\nE seq 1 1\nP 1 | 2\nend\n",
+            "rejected: Missing pair 0 atom - action 0\n",
+        ),
+        (
             "action p, q; goal equal p.q, q.p;",
             DENESTING_EVIDENCE,
             "rejected: FirstPair\n",
         ),
         (ONE_TEST, "kat 2 equal\nend\n", "rejected: FirstPair\n"),
+    ];
+    rejected(&rt, rt.alloc(), &rows)
+}
+
+#[test]
+fn rejects_what_does_not_show_it(rt: HostRuntime) -> Result<(), Fail> {
+    let rows = [
         (
             CONJUNCTION,
             "kat 1 equal\nT prim 0\nT prim 1\nT and 0 1\nE test 2\nE test 0\nP 0 | 1\nend\n",
@@ -142,17 +163,8 @@ fn rejects_what_does_not_show_it(rt: HostRuntime) -> Result<(), Fail> {
             "kat 1 equal\nT prim 0\nE test 0\nE act 0\nP 0 | 0\nend\n",
             "rejected: TermNode 1\n",
         ),
-        (
-            STAR_TWICE,
-            "kat 1 equal\nE act 0\nE star 0\nE seq 1 1\nP 1 | 2\nend\n",
-            "rejected: Missing pair 0 atom - action 0\n",
-        ),
     ];
-    for (text, evidence, output) in rows {
-        let files = (text, evidence.as_bytes());
-        reply(&rt, rt.alloc(), "check", files, 3, output)?;
-    }
-    Ok(())
+    rejected(&rt, rt.alloc(), &rows)
 }
 
 #[test]
@@ -184,20 +196,20 @@ fn refuses_what_is_no_evidence(rt: HostRuntime) -> Result<(), Fail> {
         reply(&rt, rt.alloc(), "check", files, 2, output)?;
         reply(&rt, rt.alloc(), "replay", files, 2, output)?;
     }
-    let files = ("goal equal b, b;", ONE_TEST_EVIDENCE.as_bytes());
-    reply(
-        &rt,
-        rt.alloc(),
-        "check",
-        files,
-        2,
-        "refused: UnknownName 11\n",
-    )?;
-    let files = (
-        "goal triple {1 == 1} 1 {true};",
-        ONE_TEST_EVIDENCE.as_bytes(),
-    );
-    reply(&rt, rt.alloc(), "replay", files, 2, "refused: NotYet\n")?;
+    Ok(())
+}
+
+#[test]
+fn refuses_the_problem_before_its_evidence(rt: HostRuntime) -> Result<(), Fail> {
+    let rows = [
+        ("goal equal b, b;", "refused: UnknownName 11\n"),
+        ("goal triple {1 == 1} 1 {true};", "refused: NotYet\n"),
+    ];
+    for (text, output) in rows {
+        let files = (text, b"".as_slice());
+        reply(&rt, rt.alloc(), "check", files, 2, output)?;
+        reply(&rt, rt.alloc(), "replay", files, 2, output)?;
+    }
     Ok(())
 }
 
@@ -229,58 +241,68 @@ fn refuses_each_front_of_evidence(rt: HostRuntime) -> Result<(), Fail> {
     Ok(())
 }
 
+// What `replay` answers, and what it prints.
+fn replayed(
+    rt: &impl Abort,
+    alloc: Global,
+    rows: &[(&str, &str, &str)],
+    status: u8,
+) -> Result<(), Fail> {
+    for (text, evidence, output) in rows {
+        let files = (*text, evidence.as_bytes());
+        reply(rt, alloc, "replay", files, status, output)?;
+    }
+    Ok(())
+}
+
 #[test]
-fn replays_strings(rt: HostRuntime) -> Result<(), Fail> {
+fn tells_strings(rt: HostRuntime) -> Result<(), Fail> {
     let rows = [
         (
             TRIPLE_FAILS,
             "kat 1 different\nA 1\nM 0 0\nend\n",
-            0,
             "0 t0\na0\n1 !t0\nrefutes: left relates the ends, right does not\n",
         ),
         (
             "test b; goal equal 0, b;",
             "kat 1 different\nA 1\nend\n",
-            0,
             "0 t0\nrefutes: right relates the ends, left does not\n",
         ),
         (
             TRIPLE,
             "kat 1 different\nA 10\nM 0 00\nend\n",
-            0,
             "0 t0 !t1\na0\n1 !t0 !t1\nhypothesis 0 relates 0 to 1\n",
         ),
         (
             CONJUNCTION,
             "kat 1 different\nA 11\nend\n",
-            0,
             "0 t0 t1\nboth relate the ends\n",
         ),
         (
             CONJUNCTION,
             "kat 1 different\nA 00\nend\n",
-            0,
             "0 !t0 !t1\nneither relates the ends\n",
         ),
-        (ONE_TEST, ONE_TEST_EVIDENCE, 3, "rejected: NotAString\n"),
+    ];
+    replayed(&rt, rt.alloc(), &rows, 0)
+}
+
+#[test]
+fn tells_no_other_evidence(rt: HostRuntime) -> Result<(), Fail> {
+    let rows = [
+        (ONE_TEST, ONE_TEST_EVIDENCE, "rejected: NotAString\n"),
         (
             CONJUNCTION,
             "kat 1 different\nA 1\nend\n",
-            3,
             "rejected: Shape 0\n",
         ),
         (
             TRIPLE_FAILS,
             "kat 1 different\nA 1\nM 1 0\nend\n",
-            3,
             "rejected: Shape 1\n",
         ),
     ];
-    for (text, evidence, status, output) in rows {
-        let files = (text, evidence.as_bytes());
-        reply(&rt, rt.alloc(), "replay", files, status, output)?;
-    }
-    Ok(())
+    replayed(&rt, rt.alloc(), &rows, 3)
 }
 
 #[test]

@@ -3,6 +3,7 @@ use crate::{Words, run};
 use kat_io::{MemShelf, MemSink};
 use kat_model::NoMemory;
 use std::alloc::Global;
+use std::process::Abort;
 use std::test::Fail;
 
 // The sum of forty tests in order, and in reverse order.
@@ -88,19 +89,40 @@ fn evidence(alloc: Global) -> Result<String, NoMemory> {
     Ok(text)
 }
 
+fn answered(
+    rt: &impl Abort,
+    alloc: Global,
+    shelf: &mut MemShelf,
+    words: &[&str],
+) -> Result<Vec<u8>, Fail> {
+    let mut list = Words::new(alloc);
+    for word in words {
+        list.push(word)?;
+    }
+    let mut sink = MemSink::new(alloc, 10_000, 100)?;
+    assert_eq!(rt; run(alloc, &list, shelf, &mut sink), 0);
+    Ok(sink.taken().to_vec(alloc)?)
+}
+
 #[test]
 fn checks_forty_tests(rt: HostRuntime) -> Result<(), Fail> {
     let alloc = rt.alloc();
     let mut shelf = MemShelf::new(alloc);
     shelf.add("f", problem(alloc)?.as_bytes())?;
     shelf.add("e", evidence(alloc)?.as_bytes())?;
-    let mut sink = MemSink::new(alloc, 100, 100)?;
-    let mut words = Words::new(alloc);
-    words.push("check")?;
-    words.push("f")?;
-    words.push("e")?;
-    let status = run(alloc, &words, &mut shelf, &mut sink);
-    assert_eq!(rt; sink.taken(), b"accepted equal\n".as_slice());
-    assert_eq!(rt; status, 0);
+    let output = answered(&rt, alloc, &mut shelf, &["check", "f", "e"])?;
+    assert_eq!(rt; output.as_slice(), b"accepted equal\n".as_slice());
+    Ok(())
+}
+
+#[test]
+fn decides_forty_tests(rt: HostRuntime) -> Result<(), Fail> {
+    let alloc = rt.alloc();
+    let mut shelf = MemShelf::new(alloc);
+    shelf.add("f", problem(alloc)?.as_bytes())?;
+    let evidence = answered(&rt, alloc, &mut shelf, &["decide", "f"])?;
+    shelf.add("e", &evidence)?;
+    let output = answered(&rt, alloc, &mut shelf, &["check", "f", "e"])?;
+    assert_eq!(rt; output.as_slice(), b"accepted equal\n".as_slice());
     Ok(())
 }

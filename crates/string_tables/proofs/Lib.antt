@@ -2,6 +2,7 @@ pub mod Places
 pub mod Readings
 pub mod Rooms
 pub mod Told
+pub mod Images
 pub mod OneMoveMore
 pub mod Positions
 pub mod Fitting

@@ -1,14 +1,10 @@
 -- Products and closures of relations that matrices tell.
-use Rattle.std.proofs.Common.{◌≡◌, ℕ, zero, suc, ◌<◌, ◌≤◌, ◌↔◌, Bool, ◌&&◌, ◌||◌, eqb, refl, ap, ◌∙◌, arith}
+use Rattle.std.proofs.Common.{◌≡◌, ℕ, zero, suc, ◌<◌, ◌≤◌, Bool, ◌&&◌, ◌||◌, eqb, refl, ap, ◌∙◌, arith}
 use mathlib.Core.Path.{ap₂}
-use Rattle.std.specs.Bool.{IsTrue}
-use Rattle.kat_model.specs.Trees.{Term}
-use Rattle.kat_model.specs.Relations.{Table, Relates}
-use Rattle.kat_model.specs.Decided.{some_below, relates_now, through_now}
-use Rattle.kat_model.proofs.Decided.{relates_now_decides}
+use Rattle.kat_model.specs.Decided.{some_below, through_now}
 use Rattle.string_tables.specs.Matrices.{Square, entry, Tells}
 
-some_below_same : (p q : ℕ → Bool) (n : ℕ) → ((k : ℕ) → k < n → p k ≡ q k) → some_below p n ≡ some_below q n
+pub some_below_same : (p q : ℕ → Bool) (n : ℕ) → ((k : ℕ) → k < n → p k ≡ q k) → some_below p n ≡ some_below q n
 some_below_same p q zero same = refl
 some_below_same p q (suc n) same = ap₂ ◌||◌ (same n (omega arith)) (some_below_same p q n (λ k lt. same k (omega arith)))
 
@@ -26,7 +22,3 @@ product_told n r q a b m left right told i j li lj =
 
 pub closure_told : (n : ℕ) (r : ℕ → ℕ → Bool) (a m : Square) → Tells n a r → Tells n m (through_now (entry a) n) → Tells n m (through_now r n)
 closure_told n r a m part told i j li lj = told i j li lj ∙ through_now_same (entry a) r n n (omega arith) part i j li lj
-
--- an entry of a term's matrix decides whether the term relates the states
-pub entry_decides : (t : Table) (e : Term) (m : Square) → Tells t.states m (relates_now t e) → (i j : ℕ) → i < t.states → j < t.states → (b : Bool) → b ≡ entry m i j → IsTrue b ↔ Relates t e i j
-entry_decides t e m told i j li lj b is = rw (is, told i j li lj) (relates_now_decides t e i j li lj)

@@ -1,5 +1,6 @@
--- Square matrices of truth values.
-use Rattle.std.specs.Prelude.{◌≡◌, ◌<◌, ℕ, List, [], length, map, Bool, false, slice_index_or}
+-- Square matrices of truth values, and rows as sets of numbers.
+use Rattle.std.specs.Prelude.{◌≡◌, ◌<◌, ℕ, List, [], length, map, Bool, false, ◌&&◌, slice_index_or}
+use Rattle.kat_model.specs.Decided.{some_below}
 
 pub record Square : Type 0 where
   pub size : ℕ
@@ -26,3 +27,14 @@ level ms k = slice_index_or ms k (record { size = 0; rows = [] })
 
 abbrev pub sizes : List Square → List ℕ
 sizes ms = map (λ m. m.size) ms
+
+abbrev pub widths : List (List Bool) → List ℕ
+widths rows = map length rows
+
+-- whether the relation leads from some number below n that the row has to j
+abbrev pub in_image : ℕ → List Bool → (ℕ → ℕ → Bool) → ℕ → Bool
+in_image n row r j = some_below (λ i. slice_index_or row i false && r i j) n
+
+-- the first n entries of the second row are the image of those of the first under the relation
+abbrev pub IsImage : ℕ → List Bool → (ℕ → ℕ → Bool) → List Bool → Type 0
+IsImage n row r to = (j : ℕ) → j < n → slice_index_or to j false ≡ in_image n row r j

@@ -50,7 +50,6 @@ impl Bench {
         ensures relates { IsTrue result ↔ Relates table.now (kat_tree term.now) i j }
         ensures kept { self.new ≡ self.old }
     {
-        self.levels.fill(table, term);
-        self.levels.relates(i, j)
+        self.levels.relates(table, term, i, j)
     }
 }

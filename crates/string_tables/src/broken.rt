@@ -10,14 +10,14 @@ use crate::levels::Levels;
 use crate::table::Table;
 use kat_model::Kat;
 
-// The first two states that the last term relates.
+// The first two states that the term that was filled in relates.
 fn related_pair(levels: &Levels, n: usize) -> Option<(usize, usize)>
     requires { n ≤ levels.now.room.states }
     ensures { MatchOption result (Tells n levels.now.top (λ i j. false)) (λ pair. IsFirstEntry n levels.now.top pair.0 pair.1) }
 {
     for i in 0..n {
         for j in 0..n {
-            if levels.relates(i, j) {
+            if levels.at(i, j) {
                 return Some((i, j));
             }
         }

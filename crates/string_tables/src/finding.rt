@@ -45,8 +45,7 @@ fn relates_ends(levels: &mut Levels, table: &Table, term: &Kat) -> bool
     ensures ends { IsTrue result ↔ Relates table.now (kat_tree term.now) 0 (table.now.states - 1) }
     ensures room { levels.new.room ≡ levels.old.room }
 {
-    levels.fill(table, term);
-    levels.relates(0, table.states - 1)
+    levels.relates(table, term, 0, table.states - 1)
 }
 
 // What the string shows, by its table, in memory that is enough.

@@ -1,5 +1,5 @@
-//! Matrices of tests and actions in a table.
-ghost use Rattle.std.specs.Prelude.{◌≡◌, ◌<◌, ◌≤◌, ◌&&◌, eqb, ℕ, length};
+//! Tests and actions in a table: their matrices, and the images of sets of states under them.
+ghost use Rattle.std.specs.Prelude.{◌≡◌, ◌<◌, ◌≤◌, ◌&&◌, eqb, ℕ, false, length, slice_index_or};
 ghost use Rattle.std.specs.List.{list_any};
 ghost use Rattle.kat_model.specs.Trees.{test_tree};
 ghost use Rattle.kat_model.specs.Problems.{IsTestInRange};
@@ -7,9 +7,9 @@ ghost use Rattle.kat_model.specs.Steps.{truth};
 ghost use Rattle.kat_model.specs.Relations.{atom_at};
 ghost use Rattle.kat_model.specs.Decided.{same_step};
 ghost use Rattle.string_tables.specs.Tables.{IsWhole};
-ghost use Rattle.string_tables.specs.Matrices.{Tells};
+ghost use Rattle.string_tables.specs.Matrices.{Tells, IsImage};
 
-use crate::matrix::Matrix;
+use crate::matrix::{Matrix, Row};
 use crate::table::Table;
 use kat_model::Test;
 
@@ -41,6 +41,38 @@ pub(crate) fn put_action(m: &mut Matrix, table: &Table, act: usize)
     for step in table.moves.as_slice() {
         if step.act == act {
             m.mark(step.from, step.to);
+        }
+    }
+}
+
+/// Those states of the row at which the test is true.
+pub(crate) fn keep_true(row: &mut Row, table: &Table, test: &Test)
+    requires whole { IsWhole table.now }
+    requires tests { (i : ℕ) → i < table.now.states → IsTestInRange (length (atom_at table.now i)) (test_tree test.now) }
+    requires own { table.now.states ≤ length row.old }
+    ensures kept { (j : ℕ) → j < table.now.states → slice_index_or row.new j false ≡ (slice_index_or row.old j false && truth (test_tree test.now) (atom_at table.now j)) }
+    ensures width { length row.new ≡ length row.old }
+{
+    let truths = table.truths.as_slice();
+    for j in 0..table.states {
+        if row.at(j) && !test.truth_at(truths[j].as_slice()) {
+            row.unmark(j);
+        }
+    }
+}
+
+/// The states that the action leads to from those of the row.
+pub(crate) fn follow_action(row: &Row, table: &Table, act: usize, to: &mut Row)
+    requires whole { IsWhole table.now }
+    requires row { table.now.states ≤ length row.now }
+    requires to { table.now.states ≤ length to.old }
+    ensures image { IsImage table.now.states row.now (λ i j. list_any (same_step (record { from = i; act = act; to = j })) table.now.moves) to.new }
+    ensures width { length to.new ≡ length to.old }
+{
+    to.clear(table.states);
+    for step in table.moves.as_slice() {
+        if step.act == act && row.at(step.from) {
+            to.mark(step.to);
         }
     }
 }

@@ -1,23 +1,28 @@
 //! The memory that terms are evaluated in.
-ghost use Rattle.std.specs.Prelude.{◌≡◌, ◌<◌, ◌≤◌, IfOk};
+ghost use Rattle.std.specs.Prelude.{◌≡◌, ◌↔◌, ◌<◌, ◌≤◌, IfOk, IsTrue};
 ghost use Rattle.kat_model.specs.Trees.{kat_tree};
+ghost use Rattle.kat_model.specs.Relations.{Relates};
 ghost use Rattle.kat_model.specs.Decided.{relates_now};
 ghost use Rattle.string_tables.specs.Tables.{MayBeAsked};
 ghost use Rattle.string_tables.specs.Matrices.{entry, Tells};
 
 use crate::evaluation::evaluate;
+use crate::following::follow;
 use crate::matrix::{Matrix, Row};
 use crate::table::Table;
 use kat_model::{Kat, NoMemory};
 use std::alloc::Global;
 use std::marker::Model;
 
-/// A matrix for the term that is evaluated, one for each level below it, and a row.
+/// A matrix for the term that is evaluated and a row for the set that is followed, one of each for each level
+/// below, and a spare row.
 #[derive(Drop)]
 pub(crate) struct Levels {
     top: Matrix,
     below: Vec<Matrix>,
     spare: Row,
+    set: Row,
+    rows: Vec<Row>,
 }
 
 impl Model for Levels {
@@ -27,7 +32,7 @@ impl Model for Levels {
 
     ghost view = { λ l. filled l.top l.below.items };
 
-    ghost invariant = { λ l. IsEven l.top l.below.items l.spare };
+    ghost invariant = { λ l. IsEven l.top l.below.items l.spare l.set l.rows.items };
 }
 
 impl Levels {
@@ -38,14 +43,23 @@ impl Levels {
     {
         let top = Matrix::new(alloc, states)?;
         let mut below = Vec::new(alloc);
+        let mut rows = Vec::new(alloc);
         for _ in 1..depth {
             below.push(Matrix::new(alloc, states)?)?;
+            rows.push(Row::new(alloc, states)?)?;
         }
         let spare = Row::new(alloc, states)?;
-        Ok(Levels { top, below, spare })
+        let set = Row::new(alloc, states)?;
+        Ok(Levels {
+            top,
+            below,
+            spare,
+            set,
+            rows,
+        })
     }
 
-    /// Evaluates a term.
+    /// Evaluates a term at all states, into the top matrix.
     pub(crate) fn fill(&mut self, table: &Table, term: &Kat)
         requires { MayBeAsked self.old.room table.now (kat_tree term.now) }
         ensures told { Tells table.now.states self.new.top (relates_now table.now (kat_tree term.now)) }
@@ -54,12 +68,34 @@ impl Levels {
         evaluate(table, term, &mut self.top, &mut self.below, &mut self.spare);
     }
 
-    /// Whether the last term relates i to j.
-    pub(crate) fn relates(&self, i: usize, j: usize) -> bool
+    /// An entry of the top matrix.
+    pub(crate) fn at(&self, i: usize, j: usize) -> bool
         requires from { i < self.now.room.states }
         requires to { j < self.now.room.states }
         ensures { result ≡ entry self.now.top i j }
     {
         self.top.at(i, j)
+    }
+
+    /// Whether the term relates i to j, found from i alone. The top matrix may change.
+    pub(crate) fn relates(&mut self, table: &Table, term: &Kat, i: usize, j: usize) -> bool
+        requires asked { MayBeAsked self.old.room table.now (kat_tree term.now) }
+        requires from { i < table.now.states }
+        requires to { j < table.now.states }
+        ensures relates { IsTrue result ↔ Relates table.now (kat_tree term.now) i j }
+        ensures room { self.new.room ≡ self.old.room }
+    {
+        self.set.clear(table.states);
+        self.set.mark(i);
+        follow(
+            table,
+            term,
+            &mut self.set,
+            &mut self.rows,
+            &mut self.top,
+            &mut self.below,
+            &mut self.spare,
+        );
+        self.set.at(j)
     }
 }

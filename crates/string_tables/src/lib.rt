@@ -5,6 +5,7 @@ mod bench;
 mod broken;
 mod evaluation;
 mod finding;
+mod following;
 mod items;
 mod laws;
 mod leaves;

@@ -44,6 +44,13 @@ impl Row {
         self.values[j] = true;
     }
 
+    pub(crate) fn unmark(&mut self, j: usize)
+        requires { j < length self.old }
+        ensures { self.new ≡ slice_set self.old j false }
+    {
+        self.values[j] = false;
+    }
+
     /// Makes the first n entries false.
     pub(crate) fn clear(&mut self, n: usize)
         requires { n ≤ length self.old }

@@ -38,8 +38,8 @@ pub(crate) fn join(m: &mut Matrix, other: &Matrix, n: usize)
     }
 }
 
-// One row of a product: the union of the rows that the row names.
-fn row_product(row: &Row, right: &Matrix, to: &mut Row, n: usize)
+/// One row of a product: the union of the rows that the row names.
+pub(crate) fn row_product(row: &Row, right: &Matrix, to: &mut Row, n: usize)
     requires row { n ≤ length row.now }
     requires right { n ≤ right.now.size }
     requires to { n ≤ length to.old }

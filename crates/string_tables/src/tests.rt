@@ -24,6 +24,26 @@ enum Side {
     Zero,
     Once,
     Often,
+    Powers(usize),
+}
+
+// So many times the action.
+fn power(alloc: Global, times: usize) -> Result<Kat, NoMemory> {
+    let mut power = Kat::One;
+    for _ in 0..times {
+        power = Kat::Seq(Box::new(alloc, Kat::Act(0))?, Box::new(alloc, power)?);
+    }
+    Ok(power)
+}
+
+// The action at most so many times, as the sum of its powers.
+fn powers(alloc: Global, last: usize) -> Result<Kat, NoMemory> {
+    let mut sum = Kat::One;
+    for times in 0..last {
+        let next = power(alloc, times + 1)?;
+        sum = Kat::Sum(Box::new(alloc, sum)?, Box::new(alloc, next)?);
+    }
+    Ok(sum)
 }
 
 fn term(alloc: Global, side: Side) -> Result<Kat, NoMemory> {
@@ -31,6 +51,7 @@ fn term(alloc: Global, side: Side) -> Result<Kat, NoMemory> {
         Side::Zero => Ok(Kat::Zero),
         Side::Once => Ok(Kat::Act(0)),
         Side::Often => Ok(Kat::Star(Box::new(alloc, Kat::Act(0))?)),
+        Side::Powers(last) => powers(alloc, last),
     }
 }
 
@@ -79,6 +100,17 @@ fn the_star_takes_two_steps(rt: HostRuntime) -> Result<(), Fail> {
     let two = string(alloc, true, &[(0, false), (0, true)])?;
     let found = shown(alloc, false, Side::Often, Side::Once, &two)?;
     assert_eq!(rt; found, Some((Finding::Refutes(true), true)));
+    Ok(())
+}
+
+#[test]
+fn the_powers_take_forty_steps(rt: HostRuntime) -> Result<(), Fail> {
+    let alloc = rt.alloc();
+    let long = string(alloc, true, &[(0, false); 40])?;
+    let enough = shown(alloc, false, Side::Powers(40), Side::Zero, &long)?;
+    assert_eq!(rt; enough, Some((Finding::Refutes(true), true)));
+    let few = shown(alloc, false, Side::Powers(39), Side::Zero, &long)?;
+    assert_eq!(rt; few, Some((Finding::EndsAgree(false), false)));
     Ok(())
 }
 

@@ -1,4 +1,6 @@
 //! The ids of a store, and the nodes that name them.
+ghost use Rattle.std.specs.Prelude.{◌≡◌};
+
 use std::marker::Model;
 
 /// The number of a test in its store.
@@ -31,6 +33,15 @@ impl Model for TermId {
     ghost view = { λ a. a.index };
 
     ghost inverse = { λ n. record { index = n } };
+}
+
+impl TermId {
+    /// The number. Ids of a store are numbered from 0, in the order in which their nodes came.
+    pub fn number(self) -> usize
+        ensures { result ≡ self }
+    {
+        self.index
+    }
 }
 
 /// A node of a test, over the ids of its parts.

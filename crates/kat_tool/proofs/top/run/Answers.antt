@@ -2,10 +2,14 @@ use Rattle.std.proofs.Common.{subst}
 use Rattle.std.specs.Io.KnownBytes.{Appends}
 use Rattle.kat_tool.proofs.Causes.{at_status, decides_different, accepts_different, rejects, has_refusal}
 use Rattle.kat_tool.proofs.Completeness.{replies_complete}
+use Rattle.kat_tool.proofs.Agreement.{agreed}
 use Rattle.kat_tool.proofs.top.run.Goals as goal
 
 pub returns-in-Ok-send-clause-different : goal.returns-in-Ok-send-clause-different
 returns-in-Ok-send-clause-different g c file is status = (_, decides_different _ _ _ _ _ _ file is (at_status _ _ _ _ _ _ _ _ status c.in-Ok.ensures.replies), subst (λ o. Appends (g.K.Sink.taken c.args.sink.now) (g.K.Sink.taken c.send.new.sink) o) c.deref.ensures.value c.in-Ok-send.ensures.sent)
+
+pub returns-in-Ok-send-clause-agrees : goal.returns-in-Ok-send-clause-agrees
+returns-in-Ok-send-clause-agrees g c file is small = (_, agreed _ _ _ _ _ _ _ _ is small c.in-Ok.ensures.replies, subst (λ o. Appends (g.K.Sink.taken c.args.sink.now) (g.K.Sink.taken c.send.new.sink) o) c.deref.ensures.value c.in-Ok-send.ensures.sent)
 
 pub returns-in-Ok-send-clause-accepted_different :
     goal.returns-in-Ok-send-clause-accepted_different

@@ -2,7 +2,7 @@ use Rattle.std.proofs.Common.{◌≡◌, ◌<◌, length, get_or, set, refl, ap,
 use Rattle.kat_model.specs.Trees.{kat_tree, term_height, sum, product, star, test, test_tree}
 use Rattle.kat_model.specs.Relations.{Table}
 use Rattle.kat_model.specs.Decided.{relates_now}
-use Rattle.string_tables.specs.Matrices.{Tells}
+use Rattle.string_tables.specs.Matrices.{Square, Tells}
 use Rattle.string_tables.proofs.Rooms.{term_height_positive, room_first, room_rest}
 use Rattle.string_tables.proofs.Told.{product_told, closure_told}
 use Rattle.string_tables.proofs.evaluation.+evaluate.Goals as goal
@@ -29,8 +29,8 @@ evaluate-requires-in-Sum t c =
     let tests = rw tree at c.requires.tests in
     let height = ap term_height tree in
     let parts = c.split_at_mut-next.ensures in
-    let first = room_first c.args.table.now.states c.args.below.now c.evaluate.new.below _ _ c.requires.below c.evaluate.ensures.sizes parts.value parts.front_len c.index-next-0.result in
-    let rest = room_rest c.args.table.now.states c.args.below.now c.evaluate.new.below c.split_at_mut-next.result.0.now c.split_at_mut-next.result.1.now c.requires.below c.evaluate.ensures.sizes parts.value in
+    let first = room_first (λ (m : Square). m.size) c.args.table.now.states c.args.below.now c.evaluate.new.below _ _ c.requires.below c.evaluate.ensures.sizes parts.value parts.front_len c.index-next-0.result in
+    let rest = room_rest (λ (m : Square). m.size) c.args.table.now.states c.args.below.now c.evaluate.new.below c.split_at_mut-next.result.0.now c.split_at_mut-next.result.1.now c.requires.below c.evaluate.ensures.sizes parts.value in
     (omega (arith, c.decreases), (c.requires.whole, ((λ i li. (tests i li).1), (omega arith, (first, (rest, omega arith))))))
 
 pub evaluate-requires-in-Seq : goal.evaluate-requires-in-Seq
@@ -52,8 +52,8 @@ evaluate-requires-in-Seq-2 t c =
     let tests = rw tree at c.requires.tests in
     let height = ap term_height tree in
     let parts = c.split_at_mut-next-in-Seq.ensures in
-    let first = room_first c.args.table.now.states c.args.below.now c.evaluate-in-Seq.new.below _ _ c.requires.below c.evaluate-in-Seq.ensures.sizes parts.value parts.front_len c.index-next-0-in-Seq.result in
-    let rest = room_rest c.args.table.now.states c.args.below.now c.evaluate-in-Seq.new.below c.split_at_mut-next-in-Seq.result.0.now c.split_at_mut-next-in-Seq.result.1.now c.requires.below c.evaluate-in-Seq.ensures.sizes parts.value in
+    let first = room_first (λ (m : Square). m.size) c.args.table.now.states c.args.below.now c.evaluate-in-Seq.new.below _ _ c.requires.below c.evaluate-in-Seq.ensures.sizes parts.value parts.front_len c.index-next-0-in-Seq.result in
+    let rest = room_rest (λ (m : Square). m.size) c.args.table.now.states c.args.below.now c.evaluate-in-Seq.new.below c.split_at_mut-next-in-Seq.result.0.now c.split_at_mut-next-in-Seq.result.1.now c.requires.below c.evaluate-in-Seq.ensures.sizes parts.value in
     (omega (arith, c.decreases), (c.requires.whole, ((λ i li. (tests i li).1), (omega arith, (first, (rest, omega arith))))))
 
 pub evaluate-requires-in-Star : goal.evaluate-requires-in-Star

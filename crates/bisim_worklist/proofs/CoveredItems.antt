@@ -1,0 +1,91 @@
+-- What the marks of ids tell of the sets of terms: which are reached, and which are covered.
+use Rattle.std.proofs.Common.{◌≡◌, ◌↔◌, ℕ, inl, inr, ⊎_elim, List, length, get_or, refl, sym, ◌∙◌, subst, Bool, true, false, Option, Some, None, nat_eq}
+use Rattle.std.specs.Option.{option_map}
+use Rattle.std.proofs.lemmas.Bool.{or_cases, or_left, or_right, and_parts, and_from}
+use Rattle.kat_model.specs.Trees.{Term}
+use Rattle.kat_model.specs.Members.{Has, IsSubset}
+use Rattle.kat_model.specs.Pairs.{SetPair, sat}
+use Rattle.kat_model.specs.Problems.{Question}
+use Rattle.kat_model.specs.Closed.{closed}
+use Rattle.term_store.specs.Nodes.{Nodes, IsTermId}
+use Rattle.term_store.specs.Trees.{tree_of}
+use Rattle.bisim_worklist.specs.Walks.{pairs_of}
+use Rattle.bisim_worklist.specs.Covered.{HasUniversal, IsReached, IsCovered}
+use Rattle.bisim_worklist.specs.Listings.{terms_of, entries_of}
+use Rattle.bisim_worklist.specs.Marks.{RuleParts, option_any, are_marked, saturated_marks, reaches_targets}
+use Rattle.bisim_worklist.specs.Items.{targets_under, open_targets, is_open, guard_of}
+use Rattle.bisim_worklist.specs.Covers.{covers_on, covers}
+use Rattle.bisim_worklist.specs.IdWalks.{AreRulesOf}
+use Rattle.bisim_worklist.specs.declared.items.Item.{Item}
+use Rattle.bisim_worklist.specs.declared.items.Ends.{Ends}
+use Rattle.bisim_worklist.specs.declared.items.Side.{Side}
+use Rattle.bisim_worklist.specs.declared.items.Side.TheVariants.{Left, Right}
+use Rattle.bisim_worklist.proofs.MarkedTerms.{AreIds, ArePairIds, MarksAre, marked_id, all_marked, saturated_set, saturated_length}
+use Rattle.bisim_worklist.proofs.ItemTargets.{targets_where, under_where, open_where, has_where}
+
+-- the targets of items are ids, and so are those of some of them
+abbrev pub AreTargetIds : Nodes → List Item → Type 0
+AreTargetIds store is = (i : Item) → Has is i → IsTermId store i.target
+
+pub where_ids : (store : Nodes) (p : Item → Bool) (is : List Item) → AreTargetIds store is → AreIds store (targets_where p is)
+where_ids store p is own k h = let f = has_where p is k h in subst (IsTermId store) f.3 (own f.0 f.1)
+
+pub under_ids : (store : Nodes) (guard : ℕ) (side : Side) (is : List Item) → AreTargetIds store is → AreIds store (targets_under guard side is)
+under_ids store guard side is own = subst (AreIds store) (sym (under_where guard side is)) (where_ids store (λ i. nat_eq (guard_of side i) guard) is own)
+
+pub open_ids : (store : Nodes) (never always : ℕ) (side : Side) (is : List Item) → AreTargetIds store is → AreIds store (open_targets never always side is)
+open_ids store never always side is own = subst (AreIds store) (sym (open_where never always side is)) (where_ids store (is_open never always side) is own)
+
+module _ (q : Question) (store : Nodes) (r : RuleParts) (done : ℕ) (rules : AreRulesOf q store r done) where
+  pub pair_ids : ArePairIds store r.pairs
+  pair_ids p h = let s = rules.sets p h in ((λ k m. (s.0.there k m).is_id), (λ k m. (s.1.there k m).is_id))
+
+  abbrev pub listed_pairs : List SetPair
+  listed_pairs = pairs_of (entries_of store r.pairs)
+
+  module _ (ids : List ℕ) (own : AreIds store ids) where
+    abbrev marks : List Bool
+    marks = saturated_marks r.count r.pairs ids
+
+    abbrev made : List Term
+    made = sat listed_pairs (terms_of store ids)
+
+    wide : length marks ≡ length store.terms
+    wide = saturated_length r.count r.pairs ids ∙ rules.count
+
+    marked : MarksAre store marks made
+    marked = subst (λ n. MarksAre store (saturated_marks n r.pairs ids) made) (sym rules.count) (saturated_set store rules.sound r.pairs ids pair_ids own)
+
+    universal_told : (u : Option ℕ) → ((k : ℕ) → u ≡ Some k → IsTermId store k) → (option_any (λ k. get_or marks k false) u ≡ true) ↔ HasUniversal (option_map (tree_of store) u) made
+    universal_told None there = ((λ e. absurd cc), (λ h. absurd h))
+    universal_told (Some k) there = marked_id store rules.sound marks made wide marked k (there k refl)
+
+    -- what is told to be reached is so, and nothing else
+    pub reached_told : (targets : List ℕ) → AreIds store targets → (reaches_targets r ids targets ≡ true) ↔ IsReached (closed q).universal listed_pairs (terms_of store ids) (terms_of store targets)
+    reached_told targets there = (
+      (λ e. ⊎_elim (λ u. inr (subst (λ o. HasUniversal o made) rules.universal (told.0 u))) (λ m. inl (all.0 m)) (or_cases any (are_marked marks targets) e)),
+      (λ h. ⊎_elim (λ m. or_right any (are_marked marks targets) (all.1 m)) (λ u. or_left any (are_marked marks targets) (told.1 (subst (λ o. HasUniversal o made) (sym rules.universal) u))) h),
+    )
+      where
+        any : Bool
+        any = option_any (λ k. get_or marks k false) r.universal
+
+        told : (any ≡ true) ↔ HasUniversal (option_map (tree_of store) r.universal) made
+        told = universal_told r.universal (λ k e. (rules.universal_id k e).is_id)
+
+        all : (are_marked marks targets ≡ true) ↔ IsSubset (terms_of store targets) made
+        all = all_marked store rules.sound marks made wide marked targets there
+
+  module _ (ends : Ends) (items : List Item) (own : AreTargetIds store items) where
+    pub side_told : (side other : Side) → (covers_on r ends items side other ≡ true) ↔ IsReached (closed q).universal listed_pairs (terms_of store (targets_under ends.always other items)) (terms_of store (open_targets ends.never ends.always side items))
+    side_told side other = reached_told (targets_under ends.always other items) (under_ids store ends.always other items own) (open_targets ends.never ends.always side items) (open_ids store ends.never ends.always side items own)
+
+    abbrev pub CoversTerms : Type 0
+    CoversTerms = IsCovered (closed q).universal listed_pairs (terms_of store (targets_under ends.always Left items)) (terms_of store (targets_under ends.always Right items)) (terms_of store (open_targets ends.never ends.always Left items)) (terms_of store (open_targets ends.never ends.always Right items))
+
+    -- and so are covers
+    pub covers_told : (covers r ends items ≡ true) ↔ CoversTerms
+    covers_told = (
+      (λ e. let parts = and_parts (covers_on r ends items Left Right) (covers_on r ends items Right Left) e in record { lefts = (side_told Left Right).0 parts.0; rights = (side_told Right Left).0 parts.1 }),
+      (λ c. and_from (covers_on r ends items Left Right) (covers_on r ends items Right Left) ((side_told Left Right).1 c.lefts) ((side_told Right Left).1 c.rights)),
+    )

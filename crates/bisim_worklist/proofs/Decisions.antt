@@ -1,0 +1,115 @@
+-- The evidence at the end of a walk decides the question, and the store has ids of its terms.
+use Rattle.std.proofs.Common.{◌≡◌, ◌<◌, inl, ⊎_elim, ℕ, zero, suc, List, [], ◌∷◌, ◌++◌, length, slice_get, Option, Some, None, refl, sym, ap, ◌∙◌, subst, arith}
+use Rattle.std.specs.Option.{option_map}
+use Rattle.std.proofs.lemmas.List.{length-map}
+use Rattle.std.proofs.lemmas.Option.{slice_get-map, slice_get_within, same_Some}
+use Rattle.kat_model.specs.Trees.{Term}
+use Rattle.kat_model.specs.Members.{Has}
+use Rattle.kat_model.specs.Strings.{GuardedString}
+use Rattle.kat_model.specs.Steps.{Atom}
+use Rattle.kat_model.specs.Problems.{Question, IsProblem, IsInRange}
+use Rattle.kat_model.specs.Closed.{closed}
+use Rattle.kat_model.proofs.Lists.{has_append, has_flat_map, map_has}
+use Rattle.string_tables.proofs.Counterexamples.{refuted_not_same}
+use Rattle.certificate.specs.declared.evidence.Evidence.TheVariants.{Equal, Different}
+use Rattle.certificate.specs.Certs.{CertParts}
+use Rattle.term_store.specs.Nodes.{Nodes}
+use Rattle.term_store.specs.Trees.{tree_of, HasTree}
+use Rattle.partial_derivs.specs.Moves.{IsTermOf}
+use Rattle.bisim_worklist.specs.Decisions.{IsDecision, HasIdsOf}
+use Rattle.bisim_worklist.specs.Walks.{Origin, Entry, IsWalk, IsTrail, after_trail}
+use Rattle.bisim_worklist.specs.Listings.{IdEntry, terms_of, entry_of, entries_of, AreIdSets, ComesEarlier, AreTraced, origin_in, LeadsBack}
+use Rattle.bisim_worklist.specs.Needed.{members_of}
+use Rattle.bisim_worklist.specs.Numbering.{IsCertOf}
+use Rattle.bisim_worklist.specs.Walking.{IsUnderWay, IsDifference}
+use Rattle.bisim_worklist.specs.declared.walk.Walk.{Walk}
+use Rattle.bisim_worklist.proofs.WalkSteps.{first_entry}
+use Rattle.bisim_worklist.proofs.ReachedRanges.{left_in_range, right_in_range}
+use Rattle.bisim_worklist.proofs.Endings.{walk_same}
+use Rattle.bisim_worklist.proofs.Concise.{walk_concise}
+use Rattle.bisim_worklist.proofs.Shortest.{found_shortest}
+
+-- the entry of a listed pair
+entry_at : (store : Nodes) (es : List IdEntry) (k : ℕ) (e : IdEntry) → slice_get es k ≡ Some e → slice_get (entries_of store es) k ≡ Some (entry_of store e)
+entry_at store es k e at = slice_get-map (entry_of store) es k ∙ ap (option_map (entry_of store)) at
+
+-- the steps that lead back to the first pair are a trail
+trail_back : (store : Nodes) (es : List IdEntry) (k : ℕ) (os : List Origin) → LeadsBack es k os → IsTrail (entries_of store es) k os
+trail_back store es k [] h = h
+trail_back store es k (o ∷ os) h = (here (slice_get es k) refl h.0, trail_back store es o.place os h.1)
+  where
+    here : (r : Option IdEntry) → slice_get es k ≡ r → origin_in r ≡ Some o → (e : Entry) × (slice_get (entries_of store es) k ≡ Some e) × (e.origin ≡ Some o)
+    here None at f = absurd cc
+    here (Some e) at f = (entry_of store e, entry_at store es k e at, f)
+
+-- a set of one term is one id
+one_id : (store : Nodes) (n : ℕ) (ids : List ℕ) (t : Term) → ((i : ℕ) → Has ids i → IsTermOf store n i) → terms_of store ids ≡ t ∷ [] → HasTree store t
+one_id store n [] t there e = absurd cc
+one_id store n (i ∷ ids) t there e =
+    let tree : tree_of store i ≡ t = cc in
+    (i, (there i (inl refl)).is_id, tree)
+
+module _ (q : Question) (store : Nodes) where
+  -- of the first pair
+  sides_of_first : (es : List IdEntry) → AreIdSets store q.tests es → slice_get (entries_of store es) 0 ≡ Some (first_entry q) → HasTree store (closed q).left × HasTree store (closed q).right
+  sides_of_first [] sets first = absurd cc
+  sides_of_first (e ∷ es) sets first =
+      let same : entry_of store e ≡ first_entry q = same_Some (entry_of store e) (first_entry q) first in
+      let set = sets e (inl refl) in (
+        one_id store q.tests e.left (closed q).left set.0.there (ap (λ (x : Entry). x.pair.left) same),
+        one_id store q.tests e.right (closed q).right set.1.there (ap (λ (x : Entry). x.pair.right) same),
+      )
+
+  module _ (es : List IdEntry) (done : ℕ) (walk : IsWalk q (entries_of store es) done) where
+    walk_traced : AreTraced es
+    walk_traced zero e at =
+        let same : entry_of store e ≡ first_entry q = same_Some (entry_of store e) (first_entry q) (sym (entry_at store es 0 e at) ∙ walk.first) in
+        subst (ComesEarlier 0) (sym (ap (λ (x : Entry). x.origin) same)) refl
+    walk_traced (suc k) e at =
+        let c = walk.origins k (entry_of store e) (entry_at store es (suc k) e at) in
+        subst (ComesEarlier (suc k)) (sym c.is) (let l = c.earlier in omega (arith, l))
+
+    members_in_range : IsProblem q → (i : ℕ) → Has (members_of es) i → IsInRange q.tests q.actions (tree_of store i)
+    members_in_range problem i h =
+        let r = has_flat_map (λ (e : IdEntry). e.left ++ e.right) es i h in
+        let listed = map_has (entry_of store) es r.0 r.1 in
+        ⊎_elim
+        (λ l. left_in_range q problem (entries_of store es) done walk (entry_of store r.0) listed (tree_of store i) (map_has (tree_of store) r.0.left i l))
+        (λ m. right_in_range q problem (entries_of store es) done walk (entry_of store r.0) listed (tree_of store i) (map_has (tree_of store) r.0.right i m))
+        (has_append r.0.left r.0.right i r.2)
+
+  module _ (w : Walk) where
+    pub traced : (done : ℕ) → IsUnderWay q store w done → AreTraced w.rules.pairs
+    traced done way = walk_traced w.rules.pairs done way.rules.walk
+
+    sides_have_ids : (done : ℕ) → IsUnderWay q store w done → HasTree store (closed q).left × HasTree store (closed q).right
+    sides_have_ids done way = sides_of_first w.rules.pairs way.rules.sets way.rules.walk.first
+
+    -- where all pairs are taken, their certificate decides
+    pub certified : (c : CertParts) → IsProblem q → IsUnderWay q store w (length w.rules.pairs) → IsCertOf store w.rules.pairs c → IsDecision q (Equal c)
+    certified c problem way cert =
+        let es = entries_of store w.rules.pairs in
+        let whole : IsWalk q es (length es) = subst (IsWalk q es) (sym (length-map w.rules.pairs (entry_of store))) way.rules.walk in
+        let in_range = members_in_range w.rules.pairs (length w.rules.pairs) way.rules.walk problem in (
+          walk_same q es (length es) whole (omega arith),
+          walk_concise q es c whole cert.up_to cert.pairs (cert.tests_in_range q.tests q.actions in_range) (cert.actions_in_range q.tests q.actions in_range),
+        )
+
+    pub certified_ids : (c : CertParts) (done : ℕ) → IsUnderWay q store w done → IsCertOf store w.rules.pairs c → HasIdsOf store q (Equal c)
+    certified_ids c done way cert = let sides = sides_have_ids done way in record { left = sides.0; right = sides.1; nodes = cert.ids }
+
+    -- where a difference is found, the string that leads to it decides
+    module _ (place : ℕ) (atom : Atom) (way : IsUnderWay q store w place) (d : IsDifference q store w place atom) where
+      pub difference_within : place < length w.rules.pairs
+      difference_within = subst (λ n. place < n) (length-map w.rules.pairs (entry_of store)) (slice_get_within (entries_of store w.rules.pairs) place d.entry d.at)
+
+      pub refuted : (ps : List IdEntry) (x : GuardedString) → ps ≡ w.rules.pairs → ((trail : List Origin) × LeadsBack ps place trail × (x ≡ after_trail trail (record { first = atom; rest = [] }))) → IsDecision q (Different x)
+      refuted ps x same leads =
+          let es = entries_of store w.rules.pairs in
+          let spelled = after_trail leads.0 (record { first = atom; rest = [] }) in
+          let trail = trail_back store w.rules.pairs place leads.0 (subst (λ l. LeadsBack l place leads.0) same leads.1) in
+          let shortest = found_shortest q es place way.rules.walk d.entry d.at atom d.fits d.differ leads.0 trail in
+          subst (λ y. IsDecision q (Different y)) (sym leads.2) (refuted_not_same q spelled shortest.refutes, shortest)
+
+      pub refuted_ids : (x : GuardedString) → HasIdsOf store q (Different x)
+      refuted_ids x = let sides = sides_have_ids place way in record { left = sides.0; right = sides.1; nodes = λ t h. absurd h }

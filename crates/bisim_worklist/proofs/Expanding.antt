@@ -1,0 +1,194 @@
+-- The pair that is processed, by one action after another: the items of an action stand for its next sets, and the
+-- pairs that its cases list make them congruent.
+use Rattle.std.proofs.Common.{◌≡◌, ◌<◌, ℕ, zero, suc, inl, inr, ⊎_elim, List, [], ◌∷◌, ◌++◌, length, replicate, slice_get, Bool, true, false, ◌&&◌, cond, nat_eq, Option, Some, None, refl, sym, ap, ◌∙◌, subst, arith}
+use Rattle.std.proofs.lemmas.Bool.{false≢true, eqb-true, eq-eqb}
+use Rattle.kat_model.specs.Trees.{Term}
+use Rattle.kat_model.specs.Members.{Has, SameMembers}
+use Rattle.kat_model.specs.Steps.{Atom, set_next}
+use Rattle.kat_model.specs.Problems.{Question}
+use Rattle.kat_model.specs.Pairs.{SetPair}
+use Rattle.kat_model.proofs.Lists.{has_map, map_has, has_append}
+use Rattle.kat_model.proofs.Places.{has_at}
+use Rattle.term_store.specs.Nodes.{Nodes, IsTermId, IsStore}
+use Rattle.term_store.specs.Trees.{tree_of}
+use Rattle.term_store.proofs.TermTrees.{one_id_a_tree}
+use Rattle.test_diagrams.specs.Functions.{Collection, value_of, IsAtomOf, KeepsFunctions}
+use Rattle.partial_derivs.specs.declared.moves.Guarded.{Guarded}
+use Rattle.partial_derivs.specs.declared.moves.Steps.{Steps}
+use Rattle.partial_derivs.specs.Moves.{IsTermOf, AreTargets, LeadsTo, IsStepsOf}
+use Rattle.partial_derivs.specs.Tables.{AreRight}
+use Rattle.partial_derivs.proofs.Kept.{Keeps-functions, IsStepsBy-kept}
+use Rattle.partial_derivs.proofs.Tables.{AreRight-kept}
+use Rattle.bisim_worklist.specs.Walks.{Entry, pairs_of, AreCongruentAfter}
+use Rattle.bisim_worklist.specs.Visits.{Grows}
+use Rattle.bisim_worklist.specs.Listings.{IdEntry, terms_of, pair_of, entry_of, entries_of, IsIdSet}
+use Rattle.bisim_worklist.specs.Marks.{RuleParts}
+use Rattle.bisim_worklist.specs.Items.{led, led_to, AreItemsOf, AreLedTo}
+use Rattle.bisim_worklist.specs.Cases.{Extends}
+use Rattle.bisim_worklist.specs.IdWalks.{AreRulesOf, StandFor, AreVisited, Visits}
+use Rattle.bisim_worklist.specs.Walking.{IsUnderWay, AreStepsAt, IsExpanded}
+use Rattle.bisim_worklist.specs.declared.items.Item.{Item}
+use Rattle.bisim_worklist.specs.declared.branching.Stride.{Stride}
+use Rattle.bisim_worklist.specs.declared.walk.Walk.{Walk}
+use Rattle.bisim_worklist.specs.declared.walk.BothSteps.{BothSteps}
+use Rattle.bisim_worklist.proofs.PlaceNumbers.{mapped_at, at_mapped}
+use Rattle.bisim_worklist.proofs.Visiting.{grows_then, grown_at, grown_after}
+
+-- ---- the items of an action
+
+-- moves lead to just the terms of their targets
+module _ (store : Nodes) (d : Collection) (act : ℕ) (atom : Atom) where
+  led_leads : (moves : List Guarded) (t : ℕ) → Has (led d moves act atom) t → LeadsTo store d moves atom act (tree_of store t)
+  led_leads [] t h = absurd h
+  led_leads (m ∷ ms) t h = go (λ r. later (led_leads ms t r)) (nat_eq m.act act) refl (value_of d m.guard atom) refl h
+    where
+      later : LeadsTo store d ms atom act (tree_of store t) → LeadsTo store d (m ∷ ms) atom act (tree_of store t)
+      later r = record { through = r.through; member = inr r.member; action = r.action; guard = r.guard; tree = r.tree }
+
+      go : (Has (led d ms act atom) t → LeadsTo store d (m ∷ ms) atom act (tree_of store t)) → (a : Bool) → nat_eq m.act act ≡ a → (b : Bool) → value_of d m.guard atom ≡ b
+          → Has (cond (a && b) (m.to ∷ led d ms act atom) (led d ms act atom)) t → LeadsTo store d (m ∷ ms) atom act (tree_of store t)
+      go rest true e true v k = ⊎_elim (λ s. record { through = m; member = inl refl; action = eqb-true m.act act e; guard = v; tree = ap (tree_of store) s }) rest k
+      go rest true e false v k = rest k
+      go rest false e b v k = rest k
+
+  led_has : (moves : List Guarded) (m : Guarded) → Has moves m → m.act ≡ act → value_of d m.guard atom ≡ true → Has (led d moves act atom) m.to
+  led_has [] m h a v = absurd h
+  led_has (n ∷ ms) m h a v = go (λ r. led_has ms m r a v) (nat_eq n.act act) refl (value_of d n.guard atom) refl h
+    where
+      go : (Has ms m → Has (led d ms act atom) m.to) → (x : Bool) → nat_eq n.act act ≡ x → (y : Bool) → value_of d n.guard atom ≡ y
+          → Has (n ∷ ms) m → Has (cond (x && y) (n.to ∷ led d ms act atom) (led d ms act atom)) m.to
+      go rest true e true f k = ⊎_elim (λ s. inl (ap (λ (z : Guarded). z.to) s)) (λ r. inr (rest r)) k
+      go rest true e false f k = ⊎_elim (λ s. absurd (false≢true (sym f ∙ subst (λ (z : Guarded). value_of d z.guard atom ≡ true) (sym s) v))) rest k
+      go rest false e y f k = ⊎_elim (λ s. absurd (false≢true (sym e ∙ eq-eqb n.act act (ap (λ (z : Guarded). z.act) s ∙ a)))) rest k
+
+  -- so ids with just the targets of the moves have the next set
+  next_of_ids : (es : List Term) (steps : Steps) (ids : List ℕ) → IsStepsOf store d es steps → IsAtomOf d atom → SameMembers ids (led d steps.moves.items act atom) → SameMembers (set_next es atom act) (terms_of store ids)
+  next_of_ids es steps ids is fits same x = (
+    (λ h.
+        let r = (is.leads atom fits act x).0 h in
+        subst (Has (terms_of store ids)) r.tree (map_has (tree_of store) ids r.through.to ((same r.through.to).1 (led_has steps.moves.items r.through r.member r.action r.guard)))),
+    (λ h.
+        let f = has_map (tree_of store) ids x h in
+        (is.leads atom fits act x).1 (subst (LeadsTo store d steps.moves.items atom act) f.2 (led_leads steps.moves.items f.0 ((same f.0).0 f.1)))),
+  )
+
+target_term : (store : Nodes) (n : ℕ) (moves : List Guarded) → AreTargets store n moves → (t : ℕ) → Has (led_to moves) t → IsTermOf store n t
+target_term store n moves are t h = let f = has_map (λ (m : Guarded). m.to) moves t h in subst (IsTermOf store n) f.2 (are f.0 f.1)
+
+items_stand : (q : Question) (store : Nodes) (d : Collection) (p : SetPair) (left right : Steps) (act : ℕ) (items : List Item) (decided : List (Option Bool)) → d.tests ≡ q.tests
+    → IsStepsOf store d p.left left → IsStepsOf store d p.right right → AreItemsOf d left.moves.items right.moves.items act items → AreLedTo left.moves.items right.moves.items items
+    → StandFor q store d items p act decided
+items_stand q store d p left right act items decided tests on_left on_right are led_items = record {
+  targets = λ i h.
+      subst (λ n. IsTermOf store n i.target) tests
+      (⊎_elim (target_term store d.tests left.moves.items on_left.targets i.target) (target_term store d.tests right.moves.items on_right.targets i.target) (led_items i h));
+  lefts = λ atom wide c. next_of_ids store d act atom p.left left _ on_left (wide ∙ sym tests) (are.lefts atom (wide ∙ sym tests));
+  rights = λ atom wide c. next_of_ids store d act atom p.right right _ on_right (wide ∙ sym tests) (are.rights atom (wide ∙ sym tests));
+}
+
+-- each atom is one of the case in which no test is decided
+extends_none : (n : ℕ) (atom : Atom) → length atom ≡ n → Extends (replicate n None) atom
+extends_none zero [] e = tt
+extends_none zero (b ∷ bs) e = absurd (omega (arith, e))
+extends_none (suc n) [] e = absurd (omega (arith, e))
+extends_none (suc n) (b ∷ bs) e = extends_none n bs (omega (arith, e))
+
+-- ---- entries of ids
+
+-- ids of a store have their trees alone
+module _ (store : Nodes) (is : IsStore store) where
+  one_list : (ks ls : List ℕ) → ((i : ℕ) → Has ks i → IsTermId store i) → ((i : ℕ) → Has ls i → IsTermId store i) → terms_of store ks ≡ terms_of store ls → ks ≡ ls
+  one_list [] [] p r e = refl
+  one_list [] (l ∷ ls) p r e = absurd cc
+  one_list (k ∷ ks) [] p r e = absurd cc
+  one_list (k ∷ ks) (l ∷ ls) p r e =
+      let first : tree_of store k ≡ tree_of store l = cc in
+      let others : terms_of store ks ≡ terms_of store ls = cc in
+      let same : k ≡ l = one_id_a_tree store is k l (p k (inl refl)) (r l (inl refl)) first in
+      let rest : ks ≡ ls = one_list ks ls (λ i h. p i (inr h)) (λ i h. r i (inr h)) others in
+      λ v. same v ∷ rest v
+
+  one_set : (n : ℕ) (ks ls : List ℕ) → IsIdSet store n ks → IsIdSet store n ls → terms_of store ks ≡ terms_of store ls → ks ≡ ls
+  one_set n ks ls p r e = one_list ks ls (λ i h. (p.there i h).is_id) (λ i h. (r.there i h).is_id) e
+
+  one_entry : (n : ℕ) (a b : IdEntry) → IsIdSet store n a.left × IsIdSet store n a.right → IsIdSet store n b.left × IsIdSet store n b.right → entry_of store a ≡ entry_of store b → a ≡ b
+  one_entry n a b p r e =
+      let left : a.left ≡ b.left = one_set n a.left b.left p.0 r.0 (ap (λ (x : Entry). x.pair.left) e) in
+      let right : a.right ≡ b.right = one_set n a.right b.right p.1 r.1 (ap (λ (x : Entry). x.pair.right) e) in
+      λ v. record { left = left v; right = right v; origin = (ap (λ (x : Entry). x.origin) e) v }
+
+-- so an entry of ids keeps its place when entries are listed
+kept_entry : (q : Question) (store : Nodes) (old new : RuleParts) (done place : ℕ) (e : IdEntry) → AreRulesOf q store old done → AreRulesOf q store new done → Grows (entries_of store old.pairs) (entries_of store new.pairs)
+    → slice_get old.pairs place ≡ Some e → slice_get new.pairs place ≡ Some e
+kept_entry q store old new done place e was is grows at =
+    let there = grown_at (entries_of store old.pairs) (entries_of store new.pairs) place (entry_of store e) grows (at_mapped (entry_of store) old.pairs place e at) in
+    let f = mapped_at (entry_of store) new.pairs place (entry_of store e) there in
+    f.1 ∙ ap (λ (x : IdEntry). Some x) (one_entry store is.sound q.tests f.0 e (is.sets f.0 (has_at new.pairs place f.0 f.1)) (was.sets e (has_at old.pairs place e at)) f.2)
+
+-- ---- one action after another
+
+-- the new rules are the old ones and further pairs, under which the next sets of the pair by each of the actions are congruent
+pub record HasStepped (q : Question) (store : Nodes) (old new : RuleParts) (place : ℕ) (p : SetPair) (acts : List ℕ) : Type 0 where
+  pub rules : AreRulesOf q store new place
+  pub grows : Grows (entries_of store old.pairs) (entries_of store new.pairs)
+  pub congruent : (a : ℕ) → Has acts a → AreCongruentAfter q (pairs_of (entries_of store new.pairs)) p a
+
+-- whatever the question, the store and the pair are
+abbrev pub StepsBy : ℕ → Walk → RuleParts → ℕ → BothSteps → List ℕ → Type 0
+StepsBy actions old new place steps acts =
+    (q : Question) (store : Nodes) → actions ≡ q.actions → (e : IdEntry) → IsUnderWay q store old place → slice_get old.rules.pairs place ≡ Some e → AreStepsAt store old e steps
+    → HasStepped q store old.rules new place (pair_of store e) acts
+
+module _ (actions : ℕ) (old : Walk) (place : ℕ) (steps : BothSteps) (acts : List ℕ) where
+  -- one action more
+  pub steps_more : (d : Collection) (mid new : RuleParts) (stride : Stride) (items : List Item) → KeepsFunctions old.diagrams d → stride.place ≡ place → stride.act < actions
+      → AreItemsOf d steps.left.moves.items steps.right.moves.items stride.act items → AreLedTo steps.left.moves.items steps.right.moves.items items
+      → Visits d stride (replicate d.tests None) items mid new
+      → StepsBy actions old mid place steps acts → StepsBy actions old new place steps (acts ++ stride.act ∷ [])
+  steps_more d mid new stride items kept same_place below are led_items visits before q store count e under at steps_at =
+      record { rules = subst (AreRulesOf q store new) same_place u.rules; grows = grows_then (entries_of store old.rules.pairs) (entries_of store mid.pairs) (entries_of store new.pairs) m.grows u.visited.grows; congruent = all }
+    where
+      m : HasStepped q store old.rules mid place (pair_of store e) acts
+      m = before q store count e under at steps_at
+
+      tests : d.tests ≡ q.tests
+      tests = kept.tests ∙ under.tests
+
+      stands : StandFor q store d items (pair_of store e) stride.act (replicate d.tests None)
+      stands =
+          items_stand q store d (pair_of store e) steps.left steps.right stride.act items (replicate d.tests None) tests
+          (IsStepsBy-kept store store old.diagrams d (Keeps-functions store old.diagrams d kept) _ _ steps.left steps_at.left)
+          (IsStepsBy-kept store store old.diagrams d (Keeps-functions store old.diagrams d kept) _ _ steps.right steps_at.right)
+          are led_items
+
+      there : slice_get (entries_of store mid.pairs) place ≡ Some (entry_of store e)
+      there = grown_at (entries_of store old.rules.pairs) (entries_of store mid.pairs) place (entry_of store e) m.grows (at_mapped (entry_of store) old.rules.pairs place e at)
+
+      u : AreVisited q store stride (pair_of store e) (replicate d.tests None) mid new
+      u =
+          visits q store (entry_of store e) tests (subst (λ n. stride.act < n) count below) (subst (AreRulesOf q store mid) (sym same_place) m.rules)
+          (subst (λ n. slice_get (entries_of store mid.pairs) n ≡ Some (entry_of store e)) (sym same_place) there) stands
+
+      all : (a : ℕ) → Has (acts ++ stride.act ∷ []) a → AreCongruentAfter q (pairs_of (entries_of store new.pairs)) (pair_of store e) a
+      all a h =
+          ⊎_elim
+          (λ o. grown_after q (entries_of store mid.pairs) (entries_of store new.pairs) u.visited.grows (pair_of store e) a (m.congruent a o))
+          (λ l.
+          ⊎_elim
+          (λ s. subst (AreCongruentAfter q (pairs_of (entries_of store new.pairs)) (pair_of store e)) s (λ atom wide. u.visited.congruent atom wide (extends_none d.tests atom (wide ∙ sym tests))))
+          absurd l)
+          (has_append acts (stride.act ∷ []) a h)
+
+  -- all actions
+  pub steps_all : (new : Walk) → KeepsFunctions old.diagrams new.diagrams → new.derivatives ≡ old.derivatives → ((a : ℕ) → a < actions → Has acts a) → StepsBy actions old new.rules place steps acts
+      → (q : Question) (store : Nodes) → actions ≡ q.actions → IsExpanded q store old new place steps
+  steps_all new kept same all before q store count e under at steps_at =
+      let m = before q store count e under at steps_at in (
+        record {
+          tests = kept.tests ∙ under.tests;
+          rules = m.rules;
+          right = subst (AreRight store new.diagrams) (sym same) (AreRight-kept store store old.diagrams new.diagrams old.derivatives (Keeps-functions store old.diagrams new.diagrams kept) under.right);
+        },
+        (λ a l. m.congruent a (all a (subst (λ n. a < n) (sym count) l))),
+        kept_entry q store old.rules new.rules place place e under.rules m.rules m.grows at,
+      )

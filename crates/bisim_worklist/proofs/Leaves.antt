@@ -1,0 +1,130 @@
+-- A case in which no guard depends on a test: it is covered, or its pair is listed.
+use Rattle.std.proofs.Common.{◌≡◌, ◌<◌, ◌∷◌, ◌++◌, ⊎_elim, List, [], length, slice_get, refl, sym, ap, ◌∙◌, subst, Bool, true, false, suc, Option, Some, None, nat_eq}
+use Rattle.std.proofs.lemmas.Bool.{true≢false}
+use Rattle.kat_model.specs.Members.{Has, IsSubset}
+use Rattle.kat_model.specs.Steps.{set_next}
+use Rattle.kat_model.specs.Problems.{Question}
+use Rattle.certificate.specs.Nodes.{are_ascending}
+use Rattle.std.specs.Option.{option_map}
+use Rattle.term_store.specs.Trees.{tree_of}
+use Rattle.kat_model.proofs.Lists.{has_append}
+use Rattle.term_store.specs.Nodes.{Nodes}
+use Rattle.test_diagrams.specs.Functions.{Collection, IsDiagramId, IsConstant}
+use Rattle.test_diagrams.specs.Reduced.{IsReduced}
+use Rattle.partial_derivs.specs.Moves.{IsTermOf}
+use Rattle.bisim_worklist.specs.Walks.{Origin, Entry, IsWalk}
+use Rattle.bisim_worklist.specs.Visits.{IsVisited}
+use Rattle.bisim_worklist.specs.Listings.{IdEntry, terms_of, pair_of, entry_of, entries_of, IsIdSet, AreIdSets}
+use Rattle.bisim_worklist.specs.Marks.{RuleParts}
+use Rattle.bisim_worklist.specs.Items.{guard_of, targets_under, open_targets}
+use Rattle.bisim_worklist.specs.Covers.{AreEnds, covers}
+use Rattle.bisim_worklist.specs.Cases.{Extends, least_of, AreConstant, IsCase}
+use Rattle.bisim_worklist.specs.IdWalks.{AreRulesOf, StandFor, AreVisited, Visits}
+use Rattle.bisim_worklist.specs.declared.items.Item.{Item}
+use Rattle.bisim_worklist.specs.declared.items.Ends.{Ends}
+use Rattle.bisim_worklist.specs.declared.items.Side.{Side}
+use Rattle.bisim_worklist.specs.declared.items.Side.TheVariants.{Left, Right}
+use Rattle.bisim_worklist.specs.declared.branching.Stride.{Stride}
+use Rattle.bisim_worklist.proofs.ItemTargets.{under_where, has_where, where_ascending}
+use Rattle.bisim_worklist.proofs.CoveredItems.{AreTargetIds, covers_told}
+use Rattle.bisim_worklist.proofs.CaseItems.{terms_within, are_between, open_sure, same_sure}
+use Rattle.bisim_worklist.proofs.Visiting.{visited_covered, visited_listed}
+
+pub entries_append : (store : Nodes) (es fs : List IdEntry) → entries_of store (es ++ fs) ≡ entries_of store es ++ entries_of store fs
+entries_append store [] fs = refl
+entries_append store (e ∷ es) fs = ap (λ xs. entry_of store e ∷ xs) (entries_append store es fs)
+
+least_length : (ds : List (Option Bool)) → length (least_of ds) ≡ length ds
+least_length [] = refl
+least_length (None ∷ ds) = ap suc (least_length ds)
+least_length (Some b ∷ ds) = ap suc (least_length ds)
+
+least_extends : (ds : List (Option Bool)) → Extends ds (least_of ds)
+least_extends [] = tt
+least_extends (None ∷ ds) = least_extends ds
+least_extends (Some b ∷ ds) = (refl, least_extends ds)
+
+module _ (d : Collection) (stride : Stride) (decided : List (Option Bool)) (items : List Item) (ends : Ends) (are_ends : AreEnds d ends) where
+  target_ids : (q : Question) (store : Nodes) (from : Entry) → StandFor q store d items from.pair stride.act decided → AreTargetIds store items
+  target_ids q store from stands i h = (stands.targets i h).is_id
+
+  -- a case that is covered lists nothing
+  pub visits_covered : (r : RuleParts) → covers r ends items ≡ true → Visits d stride decided items r r
+  visits_covered r e q store from tests acts rules at stands = record {
+    rules = rules;
+    visited =
+        visited_covered q stride.place from.pair stride.act (entries_of store r.pairs) (Extends decided) (terms_of store (targets_under ends.always Left items)) (terms_of store (targets_under ends.always Right items)) (terms_of store (open_targets ends.never ends.always Left items)) (terms_of store (open_targets ends.never ends.always Right items)) rules.walk
+        (λ atom wide c. (
+          are_between d ends are_ends items atom (wide ∙ sym tests) Left Right (λ i. refl) (λ i s. s) store (set_next from.pair.left atom stride.act) (set_next from.pair.right atom stride.act) (stands.lefts atom wide c) (stands.rights atom wide c),
+          are_between d ends are_ends items atom (wide ∙ sym tests) Right Left (λ i. refl) (λ i s. sym s) store (set_next from.pair.right atom stride.act) (set_next from.pair.left atom stride.act) (stands.rights atom wide c) (stands.lefts atom wide c),
+        ))
+        ((covers_told q store r stride.place rules ends items (target_ids q store from stands)).0 e);
+  }
+
+  abbrev pub leaf_origin : Origin
+  leaf_origin = record { place = stride.place; atom = least_of decided; act = stride.act }
+
+  abbrev pub leaf_entry : IdEntry
+  leaf_entry = record { left = targets_under ends.always Left items; right = targets_under ends.always Right items; origin = Some leaf_origin }
+
+  -- one that is not covered lists its pair
+  module _ (r new : RuleParts) (is_case : IsCase d decided items) (constant : AreConstant d items) (reduced : IsReduced d) (uncovered : covers r ends items ≡ false) (pairs : new.pairs ≡ r.pairs ++ leaf_entry ∷ []) (universal : new.universal ≡ r.universal) (count : new.count ≡ r.count) where
+    module _ (q : Question) (store : Nodes) (from : Entry) (tests : d.tests ≡ q.tests) (acts : stride.act < q.actions) (rules : AreRulesOf q store r stride.place) (at : slice_get (entries_of store r.pairs) stride.place ≡ Some from) (stands : StandFor q store d items from.pair stride.act decided) where
+      side_set : (side : Side) → IsIdSet store q.tests (targets_under ends.always side items)
+      side_set side = record {
+        there = λ k h.
+            let f = has_where (λ j. nat_eq (guard_of side j) ends.always) items k (subst (λ ts. Has ts k) (under_where ends.always side items) h) in
+            subst (IsTermOf store q.tests) f.3 (stands.targets f.0 f.1);
+        ascending = subst (λ ts. are_ascending ts ≡ true) (sym (under_where ends.always side items)) (where_ascending (λ j. nat_eq (guard_of side j) ends.always) items is_case.are.ascending);
+      }
+
+      sets : AreIdSets store q.tests (r.pairs ++ leaf_entry ∷ [])
+      sets e h =
+          ⊎_elim
+          (rules.sets e)
+          (λ l. ⊎_elim (λ s. subst (λ (x : IdEntry). IsIdSet store q.tests x.left × IsIdSet store q.tests x.right) s (side_set Left, side_set Right)) absurd l)
+          (has_append r.pairs (leaf_entry ∷ []) e h)
+
+      least_wide : length (least_of decided) ≡ q.tests
+      least_wide = least_length decided ∙ is_case.tests ∙ tests
+
+      ids : (side : Side) (i : Item) → Has items i → IsDiagramId d (guard_of side i)
+      ids Left i h = is_case.are.lefts i h
+      ids Right i h = is_case.are.rights i h
+
+      constants : (side : Side) (i : Item) → Has items i → IsConstant d (guard_of side i)
+      constants Left i h = (constant i h).0
+      constants Right i h = (constant i h).1
+
+      opens : (side : Side) → IsSubset (terms_of store (open_targets ends.never ends.always side items)) (terms_of store (targets_under ends.always side items))
+      opens side = terms_within store (open_targets ends.never ends.always side items) (targets_under ends.always side items) (open_sure d ends are_ends items (least_of decided) (least_wide ∙ sym tests) reduced side (ids side) (constants side))
+
+      listed : IsVisited q (entries_of store r.pairs) (entries_of store r.pairs ++ entry_of store leaf_entry ∷ []) stride.place from.pair stride.act (Extends decided)
+      listed =
+          visited_listed q (entries_of store r.pairs) stride.place from (pair_of store leaf_entry) leaf_origin (Extends decided) (terms_of store (open_targets ends.never ends.always Left items)) (terms_of store (open_targets ends.never ends.always Right items)) rules.walk at refl least_wide acts (least_extends decided)
+          (λ atom wide c. (
+            same_sure d ends are_ends items atom (wide ∙ sym tests) reduced Left (ids Left) (constants Left) store (set_next from.pair.left atom stride.act) (stands.lefts atom wide c),
+            same_sure d ends are_ends items atom (wide ∙ sym tests) reduced Right (ids Right) (constants Right) store (set_next from.pair.right atom stride.act) (stands.rights atom wide c),
+          ))
+          (opens Left)
+          (opens Right)
+          (λ c. true≢false (sym ((covers_told q store r stride.place rules ends items (target_ids q store from stands)).1 c) ∙ uncovered))
+
+      more : entries_of store r.pairs ++ entry_of store leaf_entry ∷ [] ≡ entries_of store new.pairs
+      more = sym (entries_append store r.pairs (leaf_entry ∷ [])) ∙ sym (ap (entries_of store) pairs)
+
+      leaf_visited : AreVisited q store stride from.pair decided r new
+      leaf_visited = record {
+        rules = record {
+          sound = rules.sound;
+          count = count ∙ rules.count;
+          sets = subst (AreIdSets store q.tests) (sym pairs) sets;
+          universal = ap (option_map (tree_of store)) universal ∙ rules.universal;
+          universal_id = λ u e. rules.universal_id u (sym universal ∙ e);
+          walk = subst (λ es. IsWalk q es stride.place) more listed.walk;
+        };
+        visited = subst (λ es. IsVisited q (entries_of store r.pairs) es stride.place from.pair stride.act (Extends decided)) more listed;
+      }
+
+    pub visits_listed : Visits d stride decided items r new
+    visits_listed = leaf_visited

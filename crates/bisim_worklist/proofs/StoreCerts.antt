@@ -1,0 +1,211 @@
+-- The certificate of ids of a store, with all their parts, keeps the rules of certificates.
+use Rattle.std.proofs.Common.{◌≡◌, ◌<◌, inl, inr, ⊎_elim, ℕ, true, List, ◌++◌, length, get_or, map, slice_get, Some, refl, sym, ap, ◌∙◌, subst}
+use Rattle.std.proofs.lemmas.List.{length-map}
+use Rattle.std.proofs.lemmas.Option.{slice_get-get_or}
+use Rattle.kat_model.specs.Members.{Has, IsSubset, HasNoDoubles}
+use Rattle.kat_model.proofs.Lists.{has_left, has_right, has_append, has_map, has_flat_map}
+use Rattle.kat_model.proofs.Places.{has_at, one_place}
+use Rattle.certificate.specs.declared.nodes.TestNode.{TestNode}
+use Rattle.certificate.specs.declared.nodes.TermNode.{TermNode}
+use Rattle.certificate.specs.declared.nodes.Style.TheVariants.{UpTo}
+use Rattle.certificate.specs.Nodes.{test_parts, term_parts, tests_of_term, are_below, are_ascending, NumberPair}
+use Rattle.certificate.specs.Certs.{CertParts, cert_of, IsNumberSet, IsCert}
+use Rattle.term_store.specs.Nodes.{Nodes, IsStore}
+use Rattle.term_store.specs.declared.nodes.TestShape.{TestShape}
+use Rattle.term_store.specs.declared.nodes.TestShape.TheVariants as test
+use Rattle.term_store.specs.declared.nodes.Shape.{Shape}
+use Rattle.term_store.specs.declared.nodes.Shape.TheVariants.{Zero, One, Test, Act, Sum, Seq, Star}
+use Rattle.bisim_worklist.specs.Listings.{IdEntry, AreIdSets}
+use Rattle.bisim_worklist.specs.Needed.{AreParts, NamesTests, terms_in, tests_in, test_parts_in, members_of}
+use Rattle.bisim_worklist.specs.Numbering.{number_of, numbers_of, number_pair_of, test_node_of, term_node_of, test_nodes_of, term_nodes_of}
+use Rattle.bisim_worklist.proofs.AscendingLists.{ascending_once}
+use Rattle.bisim_worklist.proofs.PartSets.{terms_less, tests_less, member_of}
+use Rattle.bisim_worklist.proofs.PlaceNumbers.{number_within, number_of_place, number_once, number_less, numbers_below, numbers_ascend, once_mapped, mapped_at}
+
+-- the certificate
+abbrev pub numbered_cert : Nodes → List ℕ → List ℕ → List IdEntry → CertParts
+numbered_cert store tests terms es = cert_of UpTo (test_nodes_of store tests tests) (term_nodes_of store tests terms terms) (map (number_pair_of terms) es)
+
+-- a node names the numbers of what the node of the store names
+test_parts_numbered : (tests : List ℕ) (s : TestShape) → test_parts (test_node_of tests s) ≡ numbers_of tests (test_parts_in s)
+test_parts_numbered tests test.False = refl
+test_parts_numbered tests test.True = refl
+test_parts_numbered tests (test.Prim k) = refl
+test_parts_numbered tests (test.Not i) = refl
+test_parts_numbered tests (test.And i j) = refl
+test_parts_numbered tests (test.Or i j) = refl
+
+term_parts_numbered : (tests terms : List ℕ) (s : Shape) → term_parts (term_node_of tests terms s) ≡ numbers_of terms (terms_in s)
+term_parts_numbered tests terms Zero = refl
+term_parts_numbered tests terms One = refl
+term_parts_numbered tests terms (Test i) = refl
+term_parts_numbered tests terms (Act a) = refl
+term_parts_numbered tests terms (Sum i j) = refl
+term_parts_numbered tests terms (Seq i j) = refl
+term_parts_numbered tests terms (Star i) = refl
+
+named_tests_numbered : (tests terms : List ℕ) (s : Shape) → tests_of_term (term_node_of tests terms s) ≡ numbers_of tests (tests_in s)
+named_tests_numbered tests terms Zero = refl
+named_tests_numbered tests terms One = refl
+named_tests_numbered tests terms (Test i) = refl
+named_tests_numbered tests terms (Act a) = refl
+named_tests_numbered tests terms (Sum i j) = refl
+named_tests_numbered tests terms (Seq i j) = refl
+named_tests_numbered tests terms (Star i) = refl
+
+-- nodes with one numbered node are one, where what they name is numbered
+module _ (tests : List ℕ) where
+  one_test : (i j : ℕ) → Has tests i → Has tests j → number_of tests i ≡ number_of tests j → i ≡ j
+  one_test i j h k e = number_once tests i j h k e
+
+  same_test_shape : (a b : TestShape) → IsSubset (test_parts_in a) tests → IsSubset (test_parts_in b) tests → test_node_of tests a ≡ test_node_of tests b → a ≡ b
+  same_test_shape test.False test.False p q e = refl
+  same_test_shape test.True test.True p q e = refl
+  same_test_shape (test.Prim k) (test.Prim l) p q e = cc
+  same_test_shape (test.Not i) (test.Not j) p q e =
+      let inner : number_of tests i ≡ number_of tests j = cc in
+      ap test.Not (one_test i j (p i (inl refl)) (q j (inl refl)) inner)
+  same_test_shape (test.And i j) (test.And k l) p q e =
+      let left : number_of tests i ≡ number_of tests k = cc in
+      let right : number_of tests j ≡ number_of tests l = cc in
+      λ v. test.And (one_test i k (p i (inl refl)) (q k (inl refl)) left v) (one_test j l (p j (inr (inl refl))) (q l (inr (inl refl))) right v)
+  same_test_shape (test.Or i j) (test.Or k l) p q e =
+      let left : number_of tests i ≡ number_of tests k = cc in
+      let right : number_of tests j ≡ number_of tests l = cc in
+      λ v. test.Or (one_test i k (p i (inl refl)) (q k (inl refl)) left v) (one_test j l (p j (inr (inl refl))) (q l (inr (inl refl))) right v)
+  same_test_shape _ _ p q e = cc
+
+  module _ (terms : List ℕ) where
+    one_term : (i j : ℕ) → Has terms i → Has terms j → number_of terms i ≡ number_of terms j → i ≡ j
+    one_term i j h k e = number_once terms i j h k e
+
+    same_shape : (a b : Shape) → IsSubset (tests_in a) tests → IsSubset (tests_in b) tests → IsSubset (terms_in a) terms → IsSubset (terms_in b) terms → term_node_of tests terms a ≡ term_node_of tests terms b → a ≡ b
+    same_shape Zero Zero m n p q e = refl
+    same_shape One One m n p q e = refl
+    same_shape (Test i) (Test j) m n p q e =
+        let inner : number_of tests i ≡ number_of tests j = cc in
+        ap Test (one_test i j (m i (inl refl)) (n j (inl refl)) inner)
+    same_shape (Act a) (Act b) m n p q e = cc
+    same_shape (Sum i j) (Sum k l) m n p q e =
+        let left : number_of terms i ≡ number_of terms k = cc in
+        let right : number_of terms j ≡ number_of terms l = cc in
+        λ v. Sum (one_term i k (p i (inl refl)) (q k (inl refl)) left v) (one_term j l (p j (inr (inl refl))) (q l (inr (inl refl))) right v)
+    same_shape (Seq i j) (Seq k l) m n p q e =
+        let left : number_of terms i ≡ number_of terms k = cc in
+        let right : number_of terms j ≡ number_of terms l = cc in
+        λ v. Seq (one_term i k (p i (inl refl)) (q k (inl refl)) left v) (one_term j l (p j (inr (inl refl))) (q l (inr (inl refl))) right v)
+    same_shape (Star i) (Star j) m n p q e =
+        let inner : number_of terms i ≡ number_of terms j = cc in
+        ap Star (one_term i j (p i (inl refl)) (q j (inl refl)) inner)
+    same_shape _ _ m n p q e = cc
+
+-- the ids of pairs with all their parts, and the tests that they name with all theirs
+pub record AreNeeded (store : Nodes) (es : List IdEntry) (terms named tests : List ℕ) : Type 0 where
+  pub rules : IsStore store
+  pub of_terms : AreParts Shape store.terms terms_in (members_of es) terms
+  pub names : NamesTests store terms named
+  pub of_tests : AreParts TestShape store.tests test_parts_in named tests
+
+-- the members of pairs are ids
+pub members_are_ids : (store : Nodes) (n : ℕ) (es : List IdEntry) → AreIdSets store n es → (i : ℕ) → Has (members_of es) i → i < length store.terms
+members_are_ids store n es sets i h =
+    let r = has_flat_map (λ (e : IdEntry). e.left ++ e.right) es i h in
+    let set = sets r.0 r.1 in
+    ⊎_elim (λ l. (set.0.there i l).is_id) (λ m. (set.1.there i m).is_id) (has_append r.0.left r.0.right i r.2)
+
+-- the nodes of ids
+abbrev pub test_at : Nodes → ℕ → TestShape
+test_at store i = get_or store.tests i test.False
+
+abbrev pub term_at : Nodes → ℕ → Shape
+term_at store i = get_or store.terms i Zero
+
+module _ (store : Nodes) (es : List IdEntry) (terms named tests : List ℕ) (needed : AreNeeded store es terms named tests) where
+  pub test_there : (i : ℕ) → Has tests i → slice_get store.tests i ≡ Some (test_at store i)
+  test_there i h = slice_get-get_or store.tests i test.False (needed.of_tests.there i h)
+
+  pub term_there : (i : ℕ) → Has terms i → slice_get store.terms i ≡ Some (term_at store i)
+  term_there i h = slice_get-get_or store.terms i Zero (needed.of_terms.there i h)
+
+  pub test_parts_there : (i : ℕ) → Has tests i → IsSubset (test_parts_in (test_at store i)) tests
+  test_parts_there i h = needed.of_tests.parts i (test_at store i) h (test_there i h)
+
+  pub terms_there : (i : ℕ) → Has terms i → IsSubset (terms_in (term_at store i)) terms
+  terms_there i h = needed.of_terms.parts i (term_at store i) h (term_there i h)
+
+  -- the tests that a node of these terms names are there
+  pub tests_there_in : (i : ℕ) (shape : Shape) → Has terms i → slice_get store.terms i ≡ Some shape → IsSubset (tests_in shape) tests
+  tests_there_in i shape h e j k = needed.of_tests.holds j ((needed.names j).1 (i, shape, h, e, k))
+
+  pub tests_there : (i : ℕ) → Has terms i → IsSubset (tests_in (term_at store i)) tests
+  tests_there i h = tests_there_in i (term_at store i) h (term_there i h)
+
+  pub members_there : (e : IdEntry) → Has es e → IsSubset e.left terms × IsSubset e.right terms
+  members_there e h = (
+    (λ x m. needed.of_terms.holds x (member_of es e h x (has_left e.left e.right x m))),
+    (λ x m. needed.of_terms.holds x (member_of es e h x (has_right e.left e.right x m))),
+  )
+
+  -- each test node names earlier ones
+  test_rule : (k : ℕ) (n : TestNode) → slice_get (test_nodes_of store tests tests) k ≡ Some n → are_below k (test_parts n) ≡ true
+  test_rule k n e =
+      let r = mapped_at (λ i. test_node_of tests (test_at store i)) tests k n e in
+      let h = has_at tests k r.0 r.1 in
+      let own : number_of tests r.0 ≡ k = number_of_place tests (ascending_once tests needed.of_tests.ascending) k r.0 r.1 in
+      let less = tests_less r.0 (test_at store r.0) (needed.rules.tests_ordered r.0 (test_at store r.0) (test_there r.0 h)) in
+      let low : are_below k (numbers_of tests (test_parts_in (test_at store r.0))) ≡ true =
+      numbers_below tests (test_parts_in (test_at store r.0)) k (λ j p. subst (λ z. number_of tests j < z) own (number_less tests needed.of_tests.ascending j r.0 (test_parts_there r.0 h j p) h (less j p))) in
+      subst (λ m. are_below k (test_parts m) ≡ true) r.2 (subst (λ ks. are_below k ks ≡ true) (sym (test_parts_numbered tests (test_at store r.0))) low)
+
+  -- and so does each term node
+  term_rule : (k : ℕ) (n : TermNode) → slice_get (term_nodes_of store tests terms terms) k ≡ Some n → are_below k (term_parts n) ≡ true
+  term_rule k n e =
+      let r = mapped_at (λ i. term_node_of tests terms (term_at store i)) terms k n e in
+      let h = has_at terms k r.0 r.1 in
+      let own : number_of terms r.0 ≡ k = number_of_place terms (ascending_once terms needed.of_terms.ascending) k r.0 r.1 in
+      let less = terms_less (length store.tests) r.0 (term_at store r.0) (needed.rules.terms_ordered r.0 (term_at store r.0) (term_there r.0 h)) in
+      let low : are_below k (numbers_of terms (terms_in (term_at store r.0))) ≡ true =
+      numbers_below terms (terms_in (term_at store r.0)) k (λ j p. subst (λ z. number_of terms j < z) own (number_less terms needed.of_terms.ascending j r.0 (terms_there r.0 h j p) h (less j p))) in
+      subst (λ m. are_below k (term_parts m) ≡ true) r.2 (subst (λ ks. are_below k ks ≡ true) (sym (term_parts_numbered tests terms (term_at store r.0))) low)
+
+  -- the tests of a term node are there
+  named_rule : (n : TermNode) → Has (term_nodes_of store tests terms terms) n → are_below (length (test_nodes_of store tests tests)) (tests_of_term n) ≡ true
+  named_rule n h =
+      let r = has_map (λ i. term_node_of tests terms (term_at store i)) terms n h in
+      let low : are_below (length tests) (numbers_of tests (tests_in (term_at store r.0))) ≡ true = numbers_below tests (tests_in (term_at store r.0)) (length tests) (λ j p. number_within tests j (tests_there r.0 r.1 j p)) in
+      subst (λ m. are_below (length (test_nodes_of store tests tests)) (tests_of_term m) ≡ true) r.2
+      (subst (λ ks. are_below (length (test_nodes_of store tests tests)) ks ≡ true) (sym (named_tests_numbered tests terms (term_at store r.0)))
+      (subst (λ z. are_below z (numbers_of tests (tests_in (term_at store r.0))) ≡ true) (sym (length-map tests (λ i. test_node_of tests (test_at store i)))) low))
+
+  tests_once : HasNoDoubles (test_nodes_of store tests tests)
+  tests_once =
+      once_mapped (λ i. test_node_of tests (test_at store i)) tests (ascending_once tests needed.of_tests.ascending)
+      (λ i j h k e. one_place store.tests needed.rules.tests_once i j (test_at store j) (test_there i h ∙ ap Some (same_test_shape tests (test_at store i) (test_at store j) (test_parts_there i h) (test_parts_there j k) e)) (test_there j k))
+
+  terms_once : HasNoDoubles (term_nodes_of store tests terms terms)
+  terms_once =
+      once_mapped (λ i. term_node_of tests terms (term_at store i)) terms (ascending_once terms needed.of_terms.ascending)
+      (λ i j h k e.
+      one_place store.terms needed.rules.terms_once i j (term_at store j)
+      (term_there i h ∙ ap Some (same_shape tests terms (term_at store i) (term_at store j) (tests_there i h) (tests_there j k) (terms_there i h) (terms_there j k) e)) (term_there j k))
+
+  number_set : (set : List ℕ) → IsSubset set terms → are_ascending set ≡ true → IsNumberSet (length (term_nodes_of store tests terms terms)) (numbers_of terms set)
+  number_set set within up = record {
+    there = subst (λ z. are_below z (numbers_of terms set) ≡ true) (sym (length-map terms (λ i. term_node_of tests terms (term_at store i)))) (numbers_below terms set (length terms) (λ i h. number_within terms i (within i h)));
+    ascending = numbers_ascend terms needed.of_terms.ascending set up within;
+  }
+
+  pub numbered_rules : (n : ℕ) → AreIdSets store n es → IsCert (numbered_cert store tests terms es)
+  numbered_rules n sets = record {
+    tests = test_rule;
+    terms = term_rule;
+    tests_of_terms = named_rule;
+    each_test_once = tests_once;
+    each_term_once = terms_once;
+    pairs = λ p h.
+        let r = has_map (number_pair_of terms) es p h in
+        let set = sets r.0 r.1 in
+        let within = members_there r.0 r.1 in
+        subst (λ (q : NumberPair). IsNumberSet (length (term_nodes_of store tests terms terms)) q.left × IsNumberSet (length (term_nodes_of store tests terms terms)) q.right) r.2
+        (number_set r.0.left within.0 set.0.ascending, number_set r.0.right within.1 set.1.ascending);
+  }

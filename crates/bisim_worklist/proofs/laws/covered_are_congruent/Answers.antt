@@ -1,0 +1,5 @@
+use Rattle.bisim_worklist.proofs.Covered.{covered_congruent}
+use Rattle.bisim_worklist.proofs.laws.covered_are_congruent.Goals as goal
+
+pub returns : goal.returns
+returns c = covered_congruent

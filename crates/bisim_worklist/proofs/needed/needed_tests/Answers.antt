@@ -1,0 +1,14 @@
+use Rattle.std.proofs.Common.{sym, subst}
+use Rattle.std.proofs.lemmas.Result.{IfOk-weaker}
+use Rattle.term_store.specs.declared.nodes.TestShape.{TestShape}
+use Rattle.bisim_worklist.specs.Needed.{AreParts, test_parts_in}
+use Rattle.bisim_worklist.proofs.SameParts.{named_there}
+use Rattle.bisim_worklist.proofs.needed.needed_tests.Goals as goal
+
+pub with_test_parts-requires : goal.with_test_parts-requires
+with_test_parts-requires c = named_there c.args.store.now c.count.ensures.store c.args.terms.now.keys c.in_ok-named.named.keys c.in_ok-named.ensures
+
+pub returns : goal.returns
+returns c =
+    IfOk-weaker c.tests_in_order.result _ _
+    (λ s e. (c.in_ok-named.named.keys, c.in_ok-named.ensures, subst (AreParts TestShape c.args.store.now.tests test_parts_in c.in_ok-named.named.keys) (sym e) c.in_ok-all.ensures)) c.tests_in_order.ensures

@@ -1,0 +1,12 @@
+use Rattle.std.proofs.Common.{◌≡◌, take}
+use Rattle.test_diagrams.specs.Functions.{KeepsFunctions}
+use Rattle.bisim_worklist.proofs.Expanding.{StepsBy}
+use Rattle.bisim_worklist.proofs.walk.Walk.expand.Given as goal
+
+-- the actions so far are gone through
+abbrev pub invariant-loop-act : goal.invariant-loop-act
+invariant-loop-act l = record {
+  kept : KeepsFunctions l.initial.self.diagrams l.self.diagrams;
+  same : l.self.derivatives ≡ l.initial.self.derivatives;
+  stepped : StepsBy l.actions l.initial.self l.self.rules l.place l.steps (take l.act-index l.act-items);
+}

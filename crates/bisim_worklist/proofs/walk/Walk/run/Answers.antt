@@ -1,0 +1,16 @@
+use Rattle.std.proofs.Common.{◌≤◌, ◌<◌, length, subst}
+use borrow.Author.Count.{falls}
+use Rattle.bisim_worklist.specs.Decisions.{pair_limit}
+use Rattle.bisim_worklist.proofs.UnderWay.{place_limit, all_taken}
+use Rattle.bisim_worklist.proofs.walk.Walk.run.Goals as goal
+
+pub loop-place-smaller : goal.loop-place-smaller
+loop-place-smaller c =
+    falls (pair_limit c.args.problem.now) c.loop-place.place
+    (place_limit c.args.problem.now c.loop-place.store c.loop-place.self c.loop-place.place c.loop-place.invariant.under_way
+    (subst (λ ps. c.loop-place.place < length ps) c.pairs.ensures.value c.loop-place-test.true))
+
+pub returns-clause-answer : goal.returns-clause-answer
+returns-clause-answer c =
+    all_taken c.args.problem.now c.loop-place.store c.loop-place.self c.loop-place.place c.loop-place.invariant.under_way
+    (subst (λ ps. length ps ≤ c.loop-place.place) c.pairs.ensures.value c.loop-place-test.false)

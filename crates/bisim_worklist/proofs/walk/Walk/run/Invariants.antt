@@ -1,0 +1,15 @@
+use Rattle.std.proofs.Common.{◌-◌}
+use Rattle.term_store.specs.Growth.{KeepsTrees}
+use Rattle.bisim_worklist.specs.Decisions.{pair_limit}
+use Rattle.bisim_worklist.specs.Walking.{IsUnderWay}
+use Rattle.bisim_worklist.proofs.walk.Walk.run.Given as goal
+
+abbrev pub invariant-loop-place : goal.invariant-loop-place
+invariant-loop-place l = record {
+  under_way : IsUnderWay l.problem l.store l.self l.place;
+  kept : KeepsTrees l.initial.store l.store;
+}
+
+-- there are not many pairs
+abbrev pub decreases-loop-place : goal.decreases-loop-place
+decreases-loop-place l = pair_limit l.problem - l.place

@@ -1,0 +1,15 @@
+pub mod Decisions
+pub mod Walks
+pub mod Covered
+pub mod Visits
+pub mod Laws
+pub mod Listings
+pub mod Marks
+pub mod Items
+pub mod Covers
+pub mod Cases
+pub mod IdWalks
+pub mod Outputs
+pub mod Needed
+pub mod Numbering
+pub mod Walking

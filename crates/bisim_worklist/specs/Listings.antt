@@ -1,0 +1,58 @@
+-- The pairs of a walk as the program keeps them, by the ids of their terms.
+use Rattle.std.specs.Prelude.{◌≡◌, ◌<◌, ℕ, List, [], ◌∷◌, map, slice_get, Option, Some, None, IsTrue}
+use Rattle.kat_model.specs.Trees.{Term}
+use Rattle.kat_model.specs.Members.{Has}
+use Rattle.kat_model.specs.Pairs.{SetPair}
+use Rattle.certificate.specs.Nodes.{are_ascending}
+use Rattle.term_store.specs.Nodes.{Nodes}
+use Rattle.term_store.specs.Trees.{tree_of}
+use Rattle.partial_derivs.specs.Moves.{IsTermOf}
+use Rattle.bisim_worklist.specs.Walks.{Origin, Entry}
+
+pub record IdEntry : Type 0 where
+  pub left : List ℕ
+  pub right : List ℕ
+  pub origin : Option Origin
+
+-- the terms of ids
+abbrev pub terms_of : Nodes → List ℕ → List Term
+terms_of store ids = map (tree_of store) ids
+
+abbrev pub pair_of : Nodes → IdEntry → SetPair
+pair_of store e = record { left = terms_of store e.left; right = terms_of store e.right }
+
+abbrev pub entry_of : Nodes → IdEntry → Entry
+entry_of store e = record { pair = pair_of store e; origin = e.origin }
+
+abbrev pub entries_of : Nodes → List IdEntry → List Entry
+entries_of store es = map (entry_of store) es
+
+-- the list is a set of ids of terms whose tests are below n, in ascending order
+pub record IsIdSet (store : Nodes) (n : ℕ) (ids : List ℕ) : Type 0 where
+  pub there : (i : ℕ) → Has ids i → IsTermOf store n i
+  pub ascending : IsTrue (are_ascending ids)
+
+-- both sets of each pair are such sets
+abbrev pub AreIdSets : Nodes → ℕ → List IdEntry → Type 0
+AreIdSets store n es = (e : IdEntry) → Has es e → IsIdSet store n e.left × IsIdSet store n e.right
+
+-- each pair but the first comes from an earlier one
+abbrev pub ComesEarlier : ℕ → Option Origin → Type 0
+ComesEarlier k None = k ≡ 0
+ComesEarlier k (Some o) = o.place < k
+
+abbrev pub AreTraced : List IdEntry → Type 0
+AreTraced es = (k : ℕ) (e : IdEntry) → slice_get es k ≡ Some e → ComesEarlier k e.origin
+
+-- the step that led to the pair at a place
+abbrev pub origin_in : Option IdEntry → Option Origin
+origin_in None = None
+origin_in (Some e) = e.origin
+
+abbrev pub origin_of : List IdEntry → ℕ → Option Origin
+origin_of es k = origin_in (slice_get es k)
+
+-- the steps lead back from the pair at a place to the first
+abbrev pub LeadsBack : List IdEntry → ℕ → List Origin → Type 0
+LeadsBack es k [] = k ≡ 0
+LeadsBack es k (o ∷ os) = (origin_of es k ≡ Some o) × LeadsBack es o.place os

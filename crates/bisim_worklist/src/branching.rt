@@ -1,0 +1,146 @@
+//! The pairs of sets that a step of a listed pair by one action leads to, of which those that are not congruent yet
+//! are listed.
+ghost use Rattle.std.specs.Prelude.{◌≡◌, ◌++◌, ◌∷◌, [], Some, None, length, replicate, OnOk};
+ghost use Rattle.test_diagrams.specs.Functions.{KeepsFunctions};
+ghost use Rattle.bisim_worklist.specs.Items.{AreItems, targets_under};
+ghost use Rattle.bisim_worklist.specs.Cases.{IsCase, AreConstant, least_of};
+ghost use Rattle.bisim_worklist.specs.IdWalks.{Visits};
+ghost use Rattle.bisim_worklist.specs.declared.items.Side.TheVariants.{Left as OnLeft, Right as OnRight};
+
+use crate::cases::{Case, case_with, is_lighter, least_atom};
+use crate::cover::{is_covered, sure_targets};
+use crate::items::{Ends, Item, Side, ends_of};
+use crate::pair::{Listed, Origin};
+use crate::rules::Rules;
+use crate::splitting::next_test;
+use kat_model::NoMemory;
+use std::alloc::Global;
+use string_tables::Items;
+use test_diagrams::Diagrams;
+
+/// Steps from the listed pair at this place, by this action.
+#[derive(Clone, Copy, Debug)]
+pub(crate) struct Stride {
+    pub place: usize,
+    pub act: usize,
+}
+
+// What is decided in a case: how many targets surely are on the left, and on the right, and on how many items the
+// sides differ. No more is covered where it is as it was.
+#[derive(Clone, Copy, Debug, PartialEq, Eq)]
+struct Census {
+    left: usize,
+    right: usize,
+    open: usize,
+}
+
+fn census_of(ends: &Ends, items: &[Item]) -> Census {
+    let always = ends.always;
+    Census {
+        left: items.iter().filter(|item| item.left == always).count(),
+        right: items.iter().filter(|item| item.right == always).count(),
+        open: items.iter().filter(|item| item.left != item.right).count(),
+    }
+}
+
+// Lists the pair of a case in which no guard depends on a test.
+fn list_case(
+    alloc: Global,
+    rules: &mut Rules,
+    ends: &Ends,
+    stride: &Stride,
+    case: &Case,
+) -> Result<(), NoMemory>
+    ensures pairs { OnOk result (rules.new.pairs ≡ rules.old.pairs ++ record {
+      left = targets_under ends.now.always OnLeft case.now.items.items;
+      right = targets_under ends.now.always OnRight case.now.items.items;
+      origin = Some (record { place = stride.now.place; atom = least_of case.now.decided.items; act = stride.now.act });
+    } ∷ []) }
+    ensures universal { rules.new.universal ≡ rules.old.universal }
+    ensures count { rules.new.count ≡ rules.old.count }
+{
+    let left = sure_targets(alloc, ends, &case.items, Side::Left)?;
+    let right = sure_targets(alloc, ends, &case.items, Side::Right)?;
+    let atom = least_atom(alloc, &case.decided)?;
+    let origin = Origin {
+        place: stride.place,
+        atom: Items::of(atom),
+        act: stride.act,
+    };
+    rules.list(Listed {
+        left: Items::of(left),
+        right: Items::of(right),
+        origin: Some(origin),
+    })
+}
+
+// Lists the pair of a case in which no guard depends on a test, unless it is congruent.
+fn visit_leaf(
+    alloc: Global,
+    rules: &mut Rules,
+    diagrams: &Diagrams,
+    stride: &Stride,
+    case: &Case,
+) -> Result<(), NoMemory>
+    requires case { IsCase diagrams.now case.now.decided.items case.now.items.items }
+    requires constant { AreConstant diagrams.now case.now.items.items }
+    ensures { OnOk result (Visits diagrams.now stride.now case.now.decided.items case.now.items.items rules.old rules.new) }
+{
+    let ends = ends_of(diagrams);
+    if is_covered(alloc, rules, &ends, &case.items)? {
+        return Ok(());
+    }
+    list_case(alloc, rules, &ends, stride, case)
+}
+
+// Lists pairs until at each atom of the case the sets of the step are congruent. A pair that is listed covers what
+// comes after it.
+fn visit(
+    alloc: Global,
+    rules: &mut Rules,
+    diagrams: &mut Diagrams,
+    stride: &Stride,
+    case: &Case,
+    before: Option<Census>,
+) -> Result<(), NoMemory>
+    requires case { IsCase diagrams.old case.now.decided.items case.now.items.items }
+    ensures visited { OnOk result (Visits diagrams.old stride.now case.now.decided.items case.now.items.items rules.old rules.new) }
+    ensures kept { KeepsFunctions diagrams.old diagrams.new }
+{
+    let Some(test) = next_test(rules.universal(), diagrams, &case.items) else {
+        return visit_leaf(alloc, rules, diagrams, stride, case);
+    };
+    let ends = ends_of(diagrams);
+    let census = census_of(&ends, &case.items);
+    if before != Some(census) {
+        if is_covered(alloc, rules, &ends, &case.items)? {
+            return Ok(());
+        }
+    }
+    let low = case_with(alloc, diagrams, &ends, case, test, false)?;
+    let high = case_with(alloc, diagrams, &ends, case, test, true)?;
+    if is_lighter(&ends, &low, &high) {
+        visit(alloc, rules, diagrams, stride, &high, Some(census))?;
+        return visit(alloc, rules, diagrams, stride, &low, Some(census));
+    }
+    visit(alloc, rules, diagrams, stride, &low, Some(census))?;
+    visit(alloc, rules, diagrams, stride, &high, Some(census))
+}
+
+/// Lists pairs until at each atom the sets that the stride leads to are congruent under the listed pairs. Each pair
+/// that is listed is one of such sets, and is not congruent under the pairs before it.
+pub(crate) fn visit_all(
+    alloc: Global,
+    rules: &mut Rules,
+    diagrams: &mut Diagrams,
+    stride: &Stride,
+    items: Vec<Item>,
+) -> Result<(), NoMemory>
+    requires items { AreItems diagrams.old items.items }
+    ensures visited { OnOk result (Visits diagrams.old stride.now (replicate diagrams.old.tests None) items.items rules.old rules.new) }
+    ensures kept { KeepsFunctions diagrams.old diagrams.new }
+{
+    let decided = vec![in alloc; None; diagrams.tests()]?;
+    let case = Case { decided, items };
+    visit(alloc, rules, diagrams, stride, &case, None)
+}

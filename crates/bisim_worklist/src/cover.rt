@@ -1,0 +1,92 @@
+//! Whether the sets that a step leads to are congruent, as far as the tests that are decided tell.
+ghost use Rattle.std.specs.Prelude.{◌≡◌, ◌&&◌, IfOk};
+ghost use Rattle.bisim_worklist.specs.Items.{targets_under, is_open as is_open', open_targets as open_targets'};
+ghost use Rattle.bisim_worklist.specs.Covers.{covers_on, covers};
+
+use crate::items::{Ends, Item, Side, guard_across, guard_on};
+use crate::rules::Rules;
+use crate::saturation::reaches;
+use kat_model::NoMemory;
+use std::alloc::Global;
+use term_store::TermId;
+
+/// The targets that surely are in the side's set, in ascending order.
+pub(crate) fn sure_targets(
+    alloc: Global,
+    ends: &Ends,
+    items: &[Item],
+    side: Side,
+) -> Result<Vec<TermId>, NoMemory>
+    ensures { IfOk result (λ v. v.items ≡ targets_under ends.now.always side items.now) }
+{
+    let mut targets = Vec::new(alloc);
+    for item in items {
+        if guard_on(item, side) == ends.always {
+            targets.push(item.target)?;
+        }
+    }
+    Ok(targets)
+}
+
+// Whether the target may be in the side's set at an atom at which it is not in the other.
+fn is_open(ends: &Ends, item: &Item, side: Side) -> bool
+    ensures { result ≡ is_open' ends.now.never ends.now.always side item.now }
+{
+    item.left != item.right
+        && guard_on(item, side) != ends.never
+        && guard_across(item, side) != ends.always
+}
+
+// The targets that may be in the side's set at an atom at which they are not in the other.
+fn open_targets(
+    alloc: Global,
+    ends: &Ends,
+    items: &[Item],
+    side: Side,
+) -> Result<Vec<TermId>, NoMemory>
+    ensures { IfOk result (λ v. v.items ≡ open_targets' ends.now.never ends.now.always side items.now) }
+{
+    let mut targets = Vec::new(alloc);
+    for item in items {
+        if is_open(ends, item, side) {
+            targets.push(item.target)?;
+        }
+    }
+    Ok(targets)
+}
+
+// Whether what may be in the side's set alone is brought to the other by what surely is there.
+fn is_covered_on(
+    alloc: Global,
+    rules: &Rules,
+    ends: &Ends,
+    items: &[Item],
+    side: Side,
+    other: Side,
+) -> Result<bool, NoMemory>
+    ensures { IfOk result (λ b. b ≡ covers_on rules.now ends.now items.now side other) }
+{
+    let open = open_targets(alloc, ends, items, side)?;
+    if open.is_empty() {
+        return Ok(true);
+    }
+    let sure = sure_targets(alloc, ends, items, other)?;
+    reaches(alloc, rules, &sure, &open)
+}
+
+/// Whether the sets are congruent at each atom with the decided tests: what may be in one set alone is brought to
+/// the other by what surely is there. At a leaf, where all tests that count are decided, it is just whether they
+/// are congruent.
+pub(crate) fn is_covered(
+    alloc: Global,
+    rules: &Rules,
+    ends: &Ends,
+    items: &[Item],
+) -> Result<bool, NoMemory>
+    ensures { IfOk result (λ b. b ≡ covers rules.now ends.now items.now) }
+{
+    if !is_covered_on(alloc, rules, ends, items, Side::Left, Side::Right)? {
+        return Ok(false);
+    }
+    is_covered_on(alloc, rules, ends, items, Side::Right, Side::Left)
+}

@@ -1,0 +1,34 @@
+//! The prover: it decides whether the two sides of a problem are the same, and answers with evidence.
+//!
+//! A walk, breadth first, over pairs of sets of terms, from the pair of the closed sides. Under each atom and
+//! action the pair of the sets that a step leads to is listed, unless the pairs listed so far make one set of
+//! both (Hopcroft and Karp 1971; up to congruence, Bonchi and Pous 2013). The listed pairs are a bisimulation up
+//! to congruence, in which none is redundant. Where two sets accept different atoms, the steps that led to them
+//! spell a string that refutes the problem, and none with fewer moves does.
+#![tactic(auto)]
+
+mod branching;
+mod cases;
+mod cert;
+mod cover;
+mod deciding;
+mod items;
+mod laws;
+mod needed;
+mod order;
+mod outputs;
+mod pair;
+mod rules;
+mod saturation;
+mod splitting;
+mod string;
+#[cfg(test)]
+mod tests;
+mod walk;
+
+pub use deciding::{decide, decide_in};
+pub use laws::{
+    concise_are_few, congruent_are_covered, covered_are_congruent, finished_are_accepted,
+    finished_are_concise, found_are_shortest, listed_have_trails, members_are_in_range, more_pairs,
+    no_redundant_are_few, walk_goes_on, walks_are_few,
+};

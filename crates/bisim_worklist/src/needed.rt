@@ -1,0 +1,175 @@
+//! The nodes of the terms of pairs, and of all their parts, in the order of their ids, which has parts before wholes.
+ghost use Rattle.std.specs.Prelude.{◌≡◌, ◌<◌, ℕ, List, length, IfOk, OnOk};
+ghost use Rattle.kat_model.specs.Members.{Has, SameMembers};
+ghost use Rattle.bisim_worklist.specs.Needed.{terms_in, tests_in, test_parts_in, AreParts, members_of, AddsAll, NamesTests};
+
+use crate::pair::Listed;
+use crate::rules::add_all;
+use indexmap::IndexSet;
+use kat_model::NoMemory;
+use std::alloc::Global;
+use std::collections::BTreeSet;
+use term_store::{Shape, Store, TermId, TestId, TestShape};
+
+/// Ids of terms that are numbered from 0 in ascending order.
+pub(crate) type Terms = IndexSet<TermId>;
+
+/// Ids of tests, likewise.
+pub(crate) type Tests = IndexSet<TestId>;
+
+// The terms of the pairs.
+fn members(alloc: Global, pairs: &[Listed]) -> Result<BTreeSet<TermId>, NoMemory>
+    ensures { IfOk result (λ s. SameMembers s.keys (members_of pairs.now)) }
+{
+    let mut set = BTreeSet::new(alloc);
+    for pair in pairs {
+        add_all(&mut set, pair.left.as_slice())?;
+        add_all(&mut set, pair.right.as_slice())?;
+    }
+    Ok(set)
+}
+
+// Adds the terms that the node names.
+fn add_parts(set: &mut BTreeSet<TermId>, shape: Shape) -> Result<(), NoMemory>
+    ensures { OnOk result (AddsAll set.old.keys set.new.keys (terms_in shape)) }
+{
+    match shape {
+        Shape::Zero | Shape::One | Shape::Test(_) | Shape::Act(_) => Ok(()),
+        Shape::Sum(e, f) | Shape::Seq(e, f) => {
+            set.insert(e)?;
+            set.insert(f)?;
+            Ok(())
+        }
+        Shape::Star(e) => {
+            set.insert(e)?;
+            Ok(())
+        }
+    }
+}
+
+// The terms of the set with all their parts. Parts have lesser ids, so the greatest comes first and only once.
+fn with_parts(
+    alloc: Global,
+    store: &Store,
+    mut pending: BTreeSet<TermId>,
+) -> Result<BTreeSet<TermId>, NoMemory>
+    requires { (i : ℕ) → Has pending.keys i → i < length store.now.terms }
+    ensures { IfOk result (λ s. AreParts Shape store.now.terms terms_in pending.keys s.keys) }
+{
+    let mut all = BTreeSet::new(alloc);
+    while let Some(term) = pending.pop_last() {
+        add_parts(&mut pending, store.shape(term))?;
+        all.insert(term)?;
+    }
+    Ok(all)
+}
+
+// The terms of the set, numbered in order.
+fn terms_in_order(alloc: Global, all: &BTreeSet<TermId>) -> Result<Terms, NoMemory>
+    ensures { IfOk result (λ s. s.keys ≡ all.now.keys) }
+{
+    let mut terms = IndexSet::new(alloc);
+    for term in all.iter() {
+        terms.insert(*term)?;
+    }
+    Ok(terms)
+}
+
+/// The terms of the pairs with all their parts.
+pub(crate) fn needed_terms(
+    alloc: Global,
+    store: &Store,
+    pairs: &[Listed],
+) -> Result<Terms, NoMemory>
+    requires { (i : ℕ) → Has (members_of pairs.now) i → i < length store.now.terms }
+    ensures { IfOk result (λ s. AreParts Shape store.now.terms terms_in (members_of pairs.now) s.keys) }
+{
+    let members = members(alloc, pairs)?;
+    let all = with_parts(alloc, store, members)?;
+    terms_in_order(alloc, &all)
+}
+
+// Adds the tests that the node names.
+fn add_tests(set: &mut BTreeSet<TestId>, shape: Shape) -> Result<(), NoMemory>
+    ensures { OnOk result (AddsAll set.old.keys set.new.keys (tests_in shape)) }
+{
+    match shape {
+        Shape::Zero | Shape::One | Shape::Act(_) | Shape::Sum(_, _) | Shape::Seq(_, _) => Ok(()),
+        Shape::Test(b) => {
+            set.insert(b)?;
+            Ok(())
+        }
+        Shape::Star(_) => Ok(()),
+    }
+}
+
+// The tests that the terms name.
+fn tests_of(alloc: Global, store: &Store, terms: &Terms) -> Result<BTreeSet<TestId>, NoMemory>
+    requires { (i : ℕ) → Has terms.now.keys i → i < length store.now.terms }
+    ensures { IfOk result (λ s. NamesTests store.now terms.now.keys s.keys) }
+{
+    let mut set = BTreeSet::new(alloc);
+    let ids = terms.as_slice();
+    for term in ids {
+        add_tests(&mut set, store.shape(*term))?;
+    }
+    Ok(set)
+}
+
+// Adds the tests that the node names.
+fn add_test_parts(set: &mut BTreeSet<TestId>, shape: TestShape) -> Result<(), NoMemory>
+    ensures { OnOk result (AddsAll set.old.keys set.new.keys (test_parts_in shape)) }
+{
+    match shape {
+        TestShape::False | TestShape::True | TestShape::Prim(_) => Ok(()),
+        TestShape::Not(b) => {
+            set.insert(b)?;
+            Ok(())
+        }
+        TestShape::And(b, c) | TestShape::Or(b, c) => {
+            set.insert(b)?;
+            set.insert(c)?;
+            Ok(())
+        }
+    }
+}
+
+// The tests of the set with all their parts, likewise.
+fn with_test_parts(
+    alloc: Global,
+    store: &Store,
+    mut pending: BTreeSet<TestId>,
+) -> Result<BTreeSet<TestId>, NoMemory>
+    requires { (i : ℕ) → Has pending.keys i → i < length store.now.tests }
+    ensures { IfOk result (λ s. AreParts TestShape store.now.tests test_parts_in pending.keys s.keys) }
+{
+    let mut all = BTreeSet::new(alloc);
+    while let Some(test) = pending.pop_last() {
+        add_test_parts(&mut pending, store.test_shape(test))?;
+        all.insert(test)?;
+    }
+    Ok(all)
+}
+
+// The tests of the set, numbered in order.
+fn tests_in_order(alloc: Global, all: &BTreeSet<TestId>) -> Result<Tests, NoMemory>
+    ensures { IfOk result (λ s. s.keys ≡ all.now.keys) }
+{
+    let mut tests = IndexSet::new(alloc);
+    for test in all.iter() {
+        tests.insert(*test)?;
+    }
+    Ok(tests)
+}
+
+/// The tests that the terms name, with all their parts.
+pub(crate) fn needed_tests(alloc: Global, store: &Store, terms: &Terms) -> Result<Tests, NoMemory>
+    requires { (i : ℕ) → Has terms.now.keys i → i < length store.now.terms }
+    ensures { IfOk result (λ s. (named : List ℕ) × NamesTests store.now terms.now.keys named × AreParts TestShape store.now.tests test_parts_in named s.keys) }
+{
+    // The proof needs the rules of the store.
+    let _ = store.count();
+    let named = tests_of(alloc, store, terms)?;
+    let all = with_test_parts(alloc, store, named)?;
+    tests_in_order(alloc, &all)
+}

@@ -1,0 +1,82 @@
+//! The test that is decided next.
+ghost use Rattle.std.specs.Prelude.{MatchOption, IfSome};
+ghost use Rattle.test_diagrams.specs.Functions.{IsDiagramId};
+ghost use Rattle.bisim_worklist.specs.Items.{AreItems};
+ghost use Rattle.bisim_worklist.specs.Cases.{HasNextTest, IsNextTest, AreConstant, IsConstantItem};
+
+use crate::items::Item;
+use term_store::TermId;
+use test_diagrams::Diagrams;
+
+// The least test on which a guard of the item depends.
+fn test_of(diagrams: &Diagrams, item: &Item) -> Option<usize>
+    requires left { IsDiagramId diagrams.now item.now.left }
+    requires right { IsDiagramId diagrams.now item.now.right }
+    ensures { MatchOption result (IsConstantItem diagrams.now item.now) (HasNextTest diagrams.now item.now) }
+{
+    match diagrams.top(item.left) {
+        Some(test) => Some(test),
+        None => diagrams.top(item.right),
+    }
+}
+
+// A test on which a guard of the universal term depends.
+fn universal_test(universal: Option<TermId>, diagrams: &Diagrams, items: &[Item]) -> Option<usize>
+    requires { AreItems diagrams.now items.now }
+    ensures { IfSome result (IsNextTest diagrams.now items.now) }
+{
+    let term = universal?;
+    for item in items {
+        if item.target == term {
+            return test_of(diagrams, item);
+        }
+    }
+    None
+}
+
+// A test on which a guard depends of an item on which the sides differ.
+fn difference_test(diagrams: &Diagrams, items: &[Item]) -> Option<usize>
+    requires { AreItems diagrams.now items.now }
+    ensures { IfSome result (IsNextTest diagrams.now items.now) }
+{
+    for item in items {
+        if item.left != item.right {
+            if let Some(test) = test_of(diagrams, item) {
+                return Some(test);
+            }
+        }
+    }
+    None
+}
+
+// A test on which some guard depends.
+fn any_test(diagrams: &Diagrams, items: &[Item]) -> Option<usize>
+    requires { AreItems diagrams.now items.now }
+    ensures { MatchOption result (AreConstant diagrams.now items.now) (IsNextTest diagrams.now items.now) }
+{
+    for item in items {
+        if let Some(test) = test_of(diagrams, item) {
+            return Some(test);
+        }
+    }
+    None
+}
+
+/// The test to decide next, while some guard depends on one: first one of the guards of the universal term, then one
+/// of guards in which the sides differ, then any. Each choice leads to a right answer; this one keeps the cases few.
+pub(crate) fn next_test(
+    universal: Option<TermId>,
+    diagrams: &Diagrams,
+    items: &[Item],
+) -> Option<usize>
+    requires { AreItems diagrams.now items.now }
+    ensures { MatchOption result (AreConstant diagrams.now items.now) (IsNextTest diagrams.now items.now) }
+{
+    if let Some(test) = universal_test(universal, diagrams, items) {
+        return Some(test);
+    }
+    if let Some(test) = difference_test(diagrams, items) {
+        return Some(test);
+    }
+    any_test(diagrams, items)
+}

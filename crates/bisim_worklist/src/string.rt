@@ -1,0 +1,50 @@
+//! The string that leads to a listed pair.
+ghost use Rattle.std.specs.Prelude.{◌≡◌, ◌<◌, [], ℕ, List, length, slice_get, Some, None, IfOk, MatchOption};
+ghost use Rattle.bisim_worklist.specs.Walks.{Origin as Origin', after_trail};
+ghost use Rattle.bisim_worklist.specs.Listings.{AreTraced, LeadsBack, origin_of};
+
+use crate::pair::{Listed, Origin};
+use kat_model::NoMemory;
+use std::alloc::Global;
+use std::mem;
+use string_tables::{GString, Items, Move};
+
+// The step that led to the pair at this place, where there is one.
+fn origin_at(pairs: &[Listed], place: usize) -> Option<&Origin>
+    ensures { MatchOption result (origin_of pairs.now place ≡ None) (λ o. origin_of pairs.now place ≡ Some o.now) }
+{
+    match pairs.get(place) {
+        Some(pair) => pair.origin.as_ref(),
+        None => None,
+    }
+}
+
+/// The string of the steps that led from the first pair to the one at this place, with the atom at its end.
+pub(crate) fn string_to(
+    alloc: Global,
+    pairs: &[Listed],
+    place: usize,
+    last: Vec<bool>,
+) -> Result<GString, NoMemory>
+    requires traced { AreTraced pairs.now }
+    requires place { place < length pairs.now }
+    ensures { IfOk result (λ x. (trail : List Origin') × LeadsBack pairs.now place trail × (x ≡ after_trail trail (record { first = last.items; rest = [] }))) }
+{
+    let mut place = place;
+    let mut first = last;
+    let mut moves = Vec::new(alloc);
+    while let Some(origin) = origin_at(pairs, place) {
+        let before = origin.atom.as_slice().to_vec(alloc)?;
+        let atom = Items::of(mem::replace(&mut first, before));
+        moves.push(Move {
+            act: origin.act,
+            atom,
+        })?;
+        place = origin.place;
+    }
+    moves.reverse();
+    Ok(GString {
+        first: Items::of(first),
+        rest: Items::of(moves),
+    })
+}

@@ -1,0 +1,209 @@
+//! The walk over the listed pairs, in their order.
+ghost use Rattle.std.specs.Prelude.{◌≡◌, ◌≢◌, ◌<◌, ◌+◌, ◌∷◌, [], ℕ, length, IfOk, OnOk, MatchOption, Some, slice_get};
+ghost use Rattle.kat_model.specs.Problems.{Question, IsProblem};
+ghost use Rattle.kat_model.specs.Closed.{closed};
+ghost use Rattle.std.specs.Option.{option_map};
+ghost use Rattle.term_store.specs.Nodes.{Nodes, IsTermId, IsStore};
+ghost use Rattle.term_store.specs.Trees.{tree_of};
+ghost use Rattle.term_store.specs.Growth.{KeepsTrees};
+ghost use Rattle.test_diagrams.specs.Functions.{value_of, IsDiagramId, IsAtomOf, KeepsFunctions};
+ghost use Rattle.bisim_worklist.specs.Listings.{IdEntry};
+ghost use Rattle.bisim_worklist.specs.Walking.{IsUnderWay, AreStepsAt, HasStepIds, IsExpanded, IsDifference};
+
+use crate::branching::{Stride, visit_all};
+use crate::items::items_of;
+use crate::order::actions_in_order;
+use crate::outputs::differing_atom;
+use crate::pair::Listed;
+use crate::rules::Rules;
+use kat_model::{NoMemory, Problem};
+use partial_derivs::{Derivatives, Steps};
+use std::alloc::Global;
+use string_tables::Items;
+use term_store::{Store, TermId};
+use test_diagrams::Diagrams;
+
+/// What a walk keeps: the listed pairs, and the derivatives of terms with their diagrams.
+#[derive(Drop)]
+pub(crate) struct Walk {
+    rules: Rules,
+    diagrams: Diagrams,
+    derivatives: Derivatives,
+}
+
+/// An atom at which just one of the sets of the listed pair at this place accepts.
+#[derive(Drop)]
+pub(crate) struct Difference {
+    pub place: usize,
+    pub atom: Vec<bool>,
+}
+
+// The steps of both sets of a pair.
+#[derive(Drop)]
+struct BothSteps {
+    left: Steps,
+    right: Steps,
+}
+
+// The set of one term.
+fn single(alloc: Global, term: TermId) -> Result<Items<TermId>, NoMemory>
+    ensures { IfOk result (λ set. set ≡ term ∷ []) }
+{
+    Ok(Items::of(vec![in alloc; term]?))
+}
+
+impl Walk {
+    /// A walk that has listed the pair of two terms.
+    pub(crate) fn new(
+        alloc: Global,
+        tests: usize,
+        left: TermId,
+        right: TermId,
+        universal: Option<TermId>,
+        count: usize,
+    ) -> Result<Walk, NoMemory>
+        ensures { IfOk result (λ w. (q : Question) (store : Nodes) → IsProblem q → IsStore store → tests ≡ q.tests → count ≡ length store.terms
+            → IsTermId store left → tree_of store left ≡ (closed q).left
+            → IsTermId store right → tree_of store right ≡ (closed q).right
+            → ((u : ℕ) → universal ≡ Some u → IsTermId store u)
+            → option_map (tree_of store) universal ≡ (closed q).universal
+            → IsUnderWay q store w 0) }
+    {
+        let mut rules = Rules::new(alloc, universal, count);
+        rules.list(Listed {
+            left: single(alloc, left)?,
+            right: single(alloc, right)?,
+            origin: None,
+        })?;
+        Ok(Walk {
+            rules,
+            diagrams: Diagrams::new(alloc, tests)?,
+            derivatives: Derivatives::new(alloc),
+        })
+    }
+
+    /// The listed pairs.
+    pub(crate) fn pairs(&self) -> &[Listed]
+        ensures { result.now ≡ self.now.rules.pairs }
+    {
+        self.rules.pairs()
+    }
+
+    // The steps of both sets of the pair at the place.
+    fn steps_at(
+        &mut self,
+        alloc: Global,
+        store: &mut Store,
+        place: usize,
+    ) -> Result<BothSteps, NoMemory>
+        requires under_way { (q : Question) × IsUnderWay q store.old self.old place }
+        requires place { place < length self.old.rules.pairs }
+        ensures steps { IfOk result (λ steps. (q : Question) (e : IdEntry) → IsUnderWay q store.old self.old place
+            → slice_get self.old.rules.pairs place ≡ Some e → IsUnderWay q store.new self.new place × AreStepsAt store.new self.new e steps × HasStepIds self.new steps) }
+        ensures pairs { self.new.rules.pairs ≡ self.old.rules.pairs }
+        ensures kept { KeepsTrees store.old store.new }
+    {
+        let pair = &self.rules.pairs()[place];
+        let left = self
+            .derivatives
+            .step(alloc, store, &mut self.diagrams, pair.left.as_slice())?;
+        let right = self
+            .derivatives
+            .step(alloc, store, &mut self.diagrams, pair.right.as_slice())?;
+        self.rules.widen(store.count());
+        Ok(BothSteps { left, right })
+    }
+
+    // Lists pairs until, at each atom and for each action, the sets that a step of the pair at the place leads to
+    // are congruent.
+    fn expand(
+        &mut self,
+        alloc: Global,
+        place: usize,
+        actions: usize,
+        steps: &BothSteps,
+    ) -> Result<(), NoMemory>
+        requires ids { HasStepIds self.old steps.now }
+        ensures expanded { OnOk result ((q : Question) (store : Nodes) → actions ≡ q.actions → IsExpanded q store self.old self.new place steps.now) }
+        ensures tests { self.new.diagrams.tests ≡ self.old.diagrams.tests }
+    {
+        let left = &steps.left.moves;
+        let right = &steps.right.moves;
+        for act in &actions_in_order(alloc, left, right, actions)? {
+            let items = items_of(alloc, &self.diagrams, left, right, *act)?;
+            let stride = Stride { place, act: *act };
+            visit_all(alloc, &mut self.rules, &mut self.diagrams, &stride, items)?;
+        }
+        Ok(())
+    }
+
+    // An atom at which just one of the steps accepts, where there is one.
+    fn difference(
+        &mut self,
+        alloc: Global,
+        steps: &BothSteps,
+    ) -> Result<Option<Vec<bool>>, NoMemory>
+        requires left { IsDiagramId self.old.diagrams steps.now.left.accepts }
+        requires right { IsDiagramId self.old.diagrams steps.now.right.accepts }
+        ensures found { IfOk result (λ found. MatchOption found (steps.now.left.accepts ≡ steps.now.right.accepts) (λ atom. IsAtomOf self.old.diagrams atom.items
+            × (value_of self.old.diagrams steps.now.left.accepts atom.items ≢ value_of self.old.diagrams steps.now.right.accepts atom.items))) }
+        ensures rules { self.new.rules ≡ self.old.rules }
+        ensures derivatives { self.new.derivatives ≡ self.old.derivatives }
+        ensures kept { KeepsFunctions self.old.diagrams self.new.diagrams }
+    {
+        let left = steps.left.accepts;
+        let right = steps.right.accepts;
+        if left == right {
+            return Ok(None);
+        }
+        let atom = differing_atom(alloc, &mut self.diagrams, left, right)?;
+        Ok(Some(atom))
+    }
+
+    // Takes the pair at the place. Answers an atom at which just one of its sets accepts, where there is one.
+    fn take(
+        &mut self,
+        alloc: Global,
+        store: &mut Store,
+        actions: usize,
+        place: usize,
+    ) -> Result<Option<Vec<bool>>, NoMemory>
+        requires under_way { (q : Question) × IsUnderWay q store.old self.old place }
+        requires place { place < length self.old.rules.pairs }
+        ensures taken { IfOk result (λ found. (q : Question) → actions ≡ q.actions → IsUnderWay q store.old self.old place →
+            MatchOption found (IsUnderWay q store.new self.new (place + 1))
+            (λ atom. IsUnderWay q store.new self.new place × IsDifference q store.new self.new place atom.items)) }
+        ensures kept { KeepsTrees store.old store.new }
+    {
+        let steps = self.steps_at(alloc, store, place)?;
+        if let Some(atom) = self.difference(alloc, &steps)? {
+            return Ok(Some(atom));
+        }
+        self.expand(alloc, place, actions, &steps)?;
+        Ok(None)
+    }
+
+    /// Takes the listed pairs in order, those that are listed meanwhile among them. Answers the first difference, or
+    /// none where the pairs are a bisimulation up to congruence.
+    pub(crate) fn run(
+        &mut self,
+        alloc: Global,
+        store: &mut Store,
+        problem: &Problem,
+    ) -> Result<Option<Difference>, NoMemory>
+        requires { IsUnderWay problem.now store.old self.old 0 }
+        ensures answer { IfOk result (λ found.
+            MatchOption found (IsUnderWay problem.now store.new self.new (length self.new.rules.pairs))
+            (λ d. IsUnderWay problem.now store.new self.new d.place × IsDifference problem.now store.new self.new d.place d.atom.items)) }
+        ensures kept { KeepsTrees store.old store.new }
+    {
+        let mut place = 0;
+        while place < self.rules.pairs().len() {
+            if let Some(atom) = self.take(alloc, store, problem.actions(), place)? {
+                return Ok(Some(Difference { place, atom }));
+            }
+            place += 1;
+        }
+        Ok(None)
+    }
+}

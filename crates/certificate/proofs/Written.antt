@@ -1,0 +1,75 @@
+-- A certificate is evidence of the program where its tests and actions are numbers of the program and its nodes so many.
+use Rattle.std.proofs.Common.{◌≡◌, ◌<◌, ◌^◌, ℕ, zero, suc, ⊎_elim, List, [], ◌∷◌, ◌++◌, map, length, Some, slice_get, refl, subst, arith}
+use Rattle.kat_model.specs.Members.{Has}
+use Rattle.kat_model.proofs.Lists.{has_append, has_map}
+use Rattle.certificate.specs.declared.nodes.TestNode.{TestNode}
+use Rattle.certificate.specs.declared.nodes.TestNode.TheVariants.{False, True, Prim, Not, And, Or}
+use Rattle.certificate.specs.declared.nodes.TermNode.{TermNode}
+use Rattle.certificate.specs.declared.nodes.TermNode.TheVariants.{Zero, One, Test, Act, Sum, Seq, Star}
+use Rattle.certificate.specs.declared.entry.Entry.{Entry}
+use Rattle.certificate.specs.declared.entry.Entry.TheVariants.{TestLine, TermLine, PairLine}
+use Rattle.certificate.specs.declared.evidence.Evidence.TheVariants.{Equal}
+use Rattle.certificate.specs.Nodes.{NumberPair, test_parts, term_parts, tests_of_term}
+use Rattle.certificate.specs.Certs.{CertParts, IsCert}
+use Rattle.certificate.specs.Texts.{test_numbers, term_numbers, entries_of, IsNarrow, IsEvidence}
+use Rattle.certificate.proofs.NodeTrees.{below_has}
+
+place_of : {X : Type 0} (xs : List X) (x : X) → Has xs x → (k : ℕ) × (slice_get xs k ≡ Some x) × (k < length xs)
+place_of [] x h = absurd h
+place_of (y ∷ ys) x h = ⊎_elim (λ e. (0, (let first : y ≡ x = e in cc), omega arith)) (λ m. let r = place_of ys x m in (suc r.0, r.1, (let lt = r.2 in omega (arith, lt)))) h
+
+module _ (c : CertParts) (cert : IsCert c)
+    (prims : (k : ℕ) → Has c.test_nodes (Prim k) → k < 2 ^ 64) (acts : (a : ℕ) → Has c.term_nodes (Act a) → a < 2 ^ 64)
+    (tests : length c.test_nodes < 2 ^ 64) (terms : length c.term_nodes < 2 ^ 64) where
+  test_part : (n : TestNode) → Has c.test_nodes n → (k : ℕ) → Has (test_parts n) k → k < 2 ^ 64
+  test_part n h k m =
+      let at = place_of c.test_nodes n h in
+      let low = below_has at.0 (test_parts n) (cert.tests at.0 n at.1) k m in
+      let within = at.2 in
+      omega (arith, low, within, tests)
+
+  test_line : (n : TestNode) → Has c.test_nodes n → (k : ℕ) → Has (test_numbers n) k → k < 2 ^ 64
+  test_line False h k m = absurd m
+  test_line True h k m = absurd m
+  test_line (Prim j) h k m = ⊎_elim (λ e. subst (λ i. i < 2 ^ 64) e (prims j h)) absurd m
+  test_line (Not x) h k m = test_part (Not x) h k m
+  test_line (And x y) h k m = test_part (And x y) h k m
+  test_line (Or x y) h k m = test_part (Or x y) h k m
+
+  term_part : (n : TermNode) → Has c.term_nodes n → (k : ℕ) → Has (term_parts n) k → k < 2 ^ 64
+  term_part n h k m =
+      let at = place_of c.term_nodes n h in
+      let low = below_has at.0 (term_parts n) (cert.terms at.0 n at.1) k m in
+      let within = at.2 in
+      omega (arith, low, within, terms)
+
+  term_line : (n : TermNode) → Has c.term_nodes n → (k : ℕ) → Has (term_numbers n) k → k < 2 ^ 64
+  term_line Zero h k m = absurd m
+  term_line One h k m = absurd m
+  term_line (Test x) h k m = let low = below_has (length c.test_nodes) (tests_of_term (Test x)) (cert.tests_of_terms (Test x) h) k m in omega (arith, low, tests)
+  term_line (Act a) h k m = ⊎_elim (λ e. subst (λ i. i < 2 ^ 64) e (acts a h)) absurd m
+  term_line (Sum x y) h k m = term_part (Sum x y) h k m
+  term_line (Seq x y) h k m = term_part (Seq x y) h k m
+  term_line (Star x) h k m = term_part (Star x) h k m
+
+  pair_line : (p : NumberPair) → Has c.pairs p → (k : ℕ) → Has (p.left ++ p.right) k → k < 2 ^ 64
+  pair_line p h k m =
+      let sets = cert.pairs p h in
+      ⊎_elim
+      (λ l. let low = below_has (length c.term_nodes) p.left sets.0.there k l in omega (arith, low, terms))
+      (λ r. let low = below_has (length c.term_nodes) p.right sets.1.there k r in omega (arith, low, terms))
+      (has_append p.left p.right k m)
+
+  are_narrow : (e : Entry) → Has (entries_of c) e → IsNarrow e
+  are_narrow e h =
+      ⊎_elim
+      (λ t. let r = has_map TestLine c.test_nodes e t in subst IsNarrow r.2 (test_line r.0 r.1))
+      (λ m.
+      ⊎_elim
+      (λ t. let r = has_map TermLine c.term_nodes e t in subst IsNarrow r.2 (term_line r.0 r.1))
+      (λ p. let r = has_map PairLine c.pairs e p in subst IsNarrow r.2 (pair_line r.0 r.1))
+      (has_append (map TermLine c.term_nodes) (map PairLine c.pairs) e m))
+      (has_append (map TestLine c.test_nodes) (map TermLine c.term_nodes ++ map PairLine c.pairs) e h)
+
+  pub cert_is_evidence : IsEvidence (Equal c)
+  cert_is_evidence = (cert, are_narrow)

@@ -1,4 +1,0 @@
-pub mod Singles
-pub mod TestTerms
-pub mod Found
-pub mod Differing
