@@ -97,7 +97,7 @@ fn answered(
 ) -> Result<Vec<u8>, Fail> {
     let mut list = Words::new(alloc);
     for word in words {
-        list.push(word)?;
+        list.push(*word)?;
     }
     let mut sink = MemSink::new(alloc, 10_000, 100)?;
     assert_eq!(rt; run(alloc, &list, shelf, &mut sink), 0);

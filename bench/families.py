@@ -1,0 +1,169 @@
+#!/usr/bin/env python3
+"""Measures `kat decide`, and `kat check` on what it prints, on families of problems, and prints a table.
+
+    python3 bench/families.py [--kat PROGRAM] [--runs N] [--keep FOLDER] [FAMILY[=SIZE] ..]
+
+Without names all families are measured at the sizes below. The program is the repository's own, which its script
+`kat` proves and builds first where that is wanted; another that takes the same words may be named. Times are the
+least of N runs (5) of the whole process, in seconds; memory is its peak, in MB. `pairs` are those of a certificate,
+`moves` those of a string. With --keep the problems and their evidence stay in that folder.
+"""
+
+import argparse
+import os
+import subprocess
+import sys
+import tempfile
+import time
+from pathlib import Path
+
+TOP = Path(__file__).resolve().parent.parent
+
+
+# Problems, as texts
+
+def names(letter, count):
+    return [f"{letter}{i}" for i in range(count)]
+
+
+def declared(kind, list_of_names):
+    return f"{kind} {', '.join(list_of_names)};\n" if list_of_names else ""
+
+
+def tests(n):
+    """A sum of tests, and the sum in reverse order."""
+    t = names("t", n)
+    return declared("test", t) + f"goal equal {' + '.join(t)}, {' + '.join(reversed(t))};\n"
+
+
+def denest(n):
+    """Any of n actions any number of times, as a star of a product of stars."""
+    p = names("p", n)
+    stars = ".".join(f"{it}*" for it in p)
+    return declared("action", p) + f"goal equal ({' + '.join(p)})*, ({stars})*;\n"
+
+
+def lastbut(n):
+    """The last action but n is p, and the same with a star more."""
+    more = ".".join(["(p + q)"] * n)
+    return f"action p, q;\ngoal equal (p + q)*.p.{more}, (p + q)*.(p + q)*.p.{more};\n"
+
+
+def nest(n):
+    """n loops in one another, and each of them unrolled once."""
+    text = declared("test", names("b", n)) + declared("action", names("p", n))
+    loop, unrolled = "b0.p0", "b0.p0"
+    for k in range(n):
+        text += f"term w{k} = ({loop})*.!b{k};\nterm u{k} = {unrolled}.({unrolled})*.!b{k} + !b{k};\n"
+        loop, unrolled = f"b{k + 1}.p{k + 1}.w{k}", f"b{k + 1}.p{k + 1}.u{k}"
+    return text + f"goal equal w{n - 1}, u{n - 1};\n"
+
+
+def chain(n):
+    """n triples give the triple of their sequence."""
+    t, p = names("t", n + 1), names("p", n)
+    text = declared("test", t) + declared("action", p)
+    text += "".join(f"hyp t{i}.p{i}.!t{i + 1} = 0;\n" for i in range(n))
+    return text + f"goal triple {{t0}} {'.'.join(p)} {{t{n}}};\n"
+
+
+def broken(n):
+    """The same with the hypothesis in the middle left out."""
+    middle = f"hyp t{n // 2}.p{n // 2}.!t{n // 2 + 1} = 0;\n"
+    return chain(n).replace(middle, "")
+
+
+def ring(n):
+    """n triples of one action lead from test to test and back to the first."""
+    t = names("t", n)
+    text = declared("test", t) + "action p;\n"
+    text += "".join(f"hyp t{i}.p.!t{(i + 1) % n} = 0;\n" for i in range(n))
+    return text + f"goal triple {{t0}} {'.'.join(['p'] * n)} {{t0}};\n"
+
+
+def differ(n):
+    """Fewer than n times p, each power of p written out, and any number of times."""
+    powers = ["1"] + [".".join(["p"] * k) for k in range(1, n)]
+    return f"action p;\ngoal equal {' + '.join(powers)}, p*;\n"
+
+
+FAMILIES = {
+    "tests": (tests, 48),
+    "denest": (denest, 48),
+    "lastbut": (lastbut, 400),
+    "nest": (nest, 10),
+    "chain": (chain, 47),
+    "broken": (broken, 47),
+    "ring": (ring, 47),
+    "differ": (differ, 256),
+}
+
+
+# Measuring
+
+def run(program, words, out):
+    """The status, the seconds and the peak of memory in MB of one run, whose output goes to the file."""
+    with open(out, "wb") as to:
+        start = time.perf_counter()
+        child = subprocess.Popen([program, *words], stdout=to, cwd=out.parent)
+        _, status, used = os.wait4(child.pid, 0)
+        seconds = time.perf_counter() - start
+    child.returncode = os.waitstatus_to_exitcode(status)
+    return child.returncode, seconds, used.ru_maxrss / 1024
+
+
+def least(program, words, out, runs):
+    found = [run(program, words, out) for _ in range(runs)]
+    statuses = {status for status, _, _ in found}
+    if len(statuses) > 1:
+        sys.exit(f"{' '.join(words)}: statuses {statuses}")
+    return statuses.pop(), min(it for _, it, _ in found), max(it for _, _, it in found)
+
+
+def measure(program, name, size, folder, runs):
+    text, evidence, said = (folder / f"{name}-{size}.{end}" for end in ("kat", "evidence", "said"))
+    text.write_text(FAMILIES[name][0](size))
+    status, decided, much = least(program, ["decide", text.name], evidence, runs)
+    if status not in (0, 1):
+        return [name, size, f"status {status}: {evidence.read_text().strip()}", "", "", "", "", "", ""]
+    checked, seconds, room = least(program, ["check", text.name, evidence.name], said, runs)
+    if checked != status:
+        sys.exit(f"{name} {size}: decide ends with {status}, check with {checked}: {said.read_text()}")
+    lines = evidence.read_bytes().split(b"\n")
+    count = sum(it.startswith(b"P ") for it in lines) if status == 0 else sum(it.startswith(b"M ") for it in lines)
+    what = f"{count:,} {'pairs' if status == 0 else 'moves'}"
+    return [name, size, ("equal", "different")[status], what, f"{decided:.3f}", f"{seconds:.3f}",
+            f"{much:.0f}", f"{room:.0f}", f"{evidence.stat().st_size:,}"]
+
+
+HEADS = ["family", "n", "answer", "size", "decide s", "check s", "decide MB", "check MB", "bytes"]
+
+
+def main():
+    reader = argparse.ArgumentParser(description="Measures kat on families of problems.")
+    reader.add_argument("--kat", default=str(TOP / "kat"))
+    reader.add_argument("--runs", type=int, default=5)
+    reader.add_argument("--keep")
+    reader.add_argument("family", nargs="*")
+    said = reader.parse_args()
+    asked = [it.partition("=") for it in said.family] or [(it, "", "") for it in FAMILIES]
+    lost = [name for name, _, _ in asked if name not in FAMILIES]
+    if lost:
+        sys.exit(f"no family {lost[0]}; there are {', '.join(FAMILIES)}")
+    program = os.path.abspath(said.kat)
+    if program == str(TOP / "kat"):
+        # The script builds it; it is then run without the script, whose time is not to be measured.
+        subprocess.run([program], stdout=subprocess.DEVNULL)
+        program = str(TOP / "crates/kat/out/kat")
+    with tempfile.TemporaryDirectory() as room:
+        folder = Path(said.keep or room).resolve()
+        folder.mkdir(parents=True, exist_ok=True)
+        print("| " + " | ".join(HEADS) + " |")
+        print("|" + "---|" * len(HEADS))
+        for name, _, size in asked:
+            row = measure(program, name, int(size or FAMILIES[name][1]), folder, said.runs)
+            print("| " + " | ".join(str(it) for it in row) + " |", flush=True)
+
+
+if __name__ == "__main__":
+    main()
