@@ -5,12 +5,14 @@
 
 Without names all families are measured at the sizes below. The program is the repository's own, which its script
 `kat` proves and builds first where that is wanted; another that takes the same words may be named. Times are the
-least of N runs (5) of the whole process, in seconds; memory is its peak, in MB. `pairs` are those of a certificate,
-`moves` those of a string. With --keep the problems and their evidence stay in that folder.
+least of N runs (5) of the whole process, in seconds; memory is the greatest peak of N more, in MB, with `-` where
+each ended before it could be read. `pairs` are those of a certificate, `moves` those of a string. With --keep the
+problems and their evidence stay in that folder.
 """
 
 import argparse
 import os
+import re
 import subprocess
 import sys
 import tempfile
@@ -102,22 +104,30 @@ FAMILIES = {
 # Measuring
 
 def run(program, words, out):
-    """The status, the seconds and the peak of memory in MB of one run, whose output goes to the file."""
+    """The status and the seconds of one run, whose output goes to the file."""
     with open(out, "wb") as to:
         start = time.perf_counter()
+        status = subprocess.run([program, *words], stdout=to, cwd=out.parent).returncode
+        return status, time.perf_counter() - start
+
+
+def peak(program, words, out):
+    """The peak of memory of one run in MB, as the system last told it before the end."""
+    with open(out, "wb") as to:
         child = subprocess.Popen([program, *words], stdout=to, cwd=out.parent)
-        _, status, used = os.wait4(child.pid, 0)
-        seconds = time.perf_counter() - start
-    child.returncode = os.waitstatus_to_exitcode(status)
-    return child.returncode, seconds, used.ru_maxrss / 1024
+        most = 0
+        while child.poll() is None:
+            told = re.search(r"VmHWM:\s+(\d+) kB", Path(f"/proc/{child.pid}/status").read_text())
+            most = max(most, int(told[1])) if told else most
+    return most / 1024
 
 
 def least(program, words, out, runs):
     found = [run(program, words, out) for _ in range(runs)]
-    statuses = {status for status, _, _ in found}
+    statuses = {status for status, _ in found}
     if len(statuses) > 1:
         sys.exit(f"{' '.join(words)}: statuses {statuses}")
-    return statuses.pop(), min(it for _, it, _ in found), max(it for _, _, it in found)
+    return statuses.pop(), min(it for _, it in found), max(peak(program, words, out) for _ in range(runs))
 
 
 def measure(program, name, size, folder, runs):
@@ -131,9 +141,9 @@ def measure(program, name, size, folder, runs):
         sys.exit(f"{name} {size}: decide ends with {status}, check with {checked}: {said.read_text()}")
     lines = evidence.read_bytes().split(b"\n")
     count = sum(it.startswith(b"P ") for it in lines) if status == 0 else sum(it.startswith(b"M ") for it in lines)
-    what = f"{count:,} {'pairs' if status == 0 else 'moves'}"
+    what = f"{count:,} {('pair', 'move')[status]}{'s' if count != 1 else ''}"
     return [name, size, ("equal", "different")[status], what, f"{decided:.3f}", f"{seconds:.3f}",
-            f"{much:.0f}", f"{room:.0f}", f"{evidence.stat().st_size:,}"]
+            f"{much:.1f}" if much else "-", f"{room:.1f}" if room else "-", f"{evidence.stat().st_size:,}"]
 
 
 HEADS = ["family", "n", "answer", "size", "decide s", "check s", "decide MB", "check MB", "bytes"]
