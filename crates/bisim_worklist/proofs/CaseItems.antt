@@ -1,14 +1,14 @@
 -- Items at an atom: what surely is on a side is chosen there, and what is chosen on one side alone is open. Where the
 -- guards are constant, just what surely is there is chosen.
 use Rattle.std.proofs.Common.{◌≡◌, ◌⊎◌, ℕ, inl, inr, ⊎_elim, List, refl, sym, ap, ◌∙◌, subst, Bool, true, false, not, ◌&&◌, nat_eq}
-use Rattle.std.proofs.lemmas.Bool.{true≢false, eqb-true, eq-eqb, and_parts}
+use Rattle.std.proofs.lemmas.Bool.{not-true, true≢false, eqb-true, eq-eqb, and_parts}
 use Rattle.kat_model.specs.Trees.{Term}
 use Rattle.kat_model.specs.Members.{Has, IsSubset, SameMembers}
 use Rattle.kat_model.specs.Steps.{Atom}
 use Rattle.kat_model.proofs.Lists.{has_map, map_has}
-use Rattle.term_store.specs.Nodes.{Nodes}
+use Rattle.term_store.specs.Nodes.{StoreParts}
 use Rattle.term_store.specs.Trees.{tree_of}
-use Rattle.test_diagrams.specs.Functions.{Collection, value_of, IsDiagramId, IsAtomOf, IsConstant}
+use Rattle.test_diagrams.specs.Functions.{DiagramsParts, value_of, IsDiagramId, IsAtomOf, IsConstant}
 use Rattle.test_diagrams.specs.Reduced.{IsReduced}
 use Rattle.test_diagrams.proofs.Apart.{same_function_same_id}
 use Rattle.bisim_worklist.specs.Covered.{IsBetween}
@@ -20,14 +20,10 @@ use Rattle.bisim_worklist.specs.declared.items.Ends.{Ends}
 use Rattle.bisim_worklist.specs.declared.items.Side.{Side}
 use Rattle.bisim_worklist.proofs.ItemTargets.{under_where, open_where, chosen_where, where_has, has_where}
 
-pub terms_within : (store : Nodes) (ks ls : List ℕ) → IsSubset ks ls → IsSubset (terms_of store ks) (terms_of store ls)
+pub terms_within : (store : StoreParts) (ks ls : List ℕ) → IsSubset ks ls → IsSubset (terms_of store ks) (terms_of store ls)
 terms_within store ks ls s x h = let f = has_map (tree_of store) ks x h in subst (Has (terms_of store ls)) f.2 (map_has (tree_of store) ls f.0 (s f.0 f.1))
 
-not_true : (b : Bool) → not b ≡ true → b ≡ false
-not_true true e = sym e
-not_true false e = refl
-
-module _ (d : Collection) (ends : Ends) (are_ends : AreEnds d ends) (items : List Item) (atom : Atom) (fits : IsAtomOf d atom) where
+module _ (d : DiagramsParts) (ends : Ends) (are_ends : AreEnds d ends) (items : List Item) (atom : Atom) (fits : IsAtomOf d atom) where
   chosen_has : (side : Side) (i : Item) → Has items i → value_of d (guard_of side i) atom ≡ true → Has (chosen d side items atom) i.target
   chosen_has side i h e = subst (λ ts. Has ts i.target) (sym (chosen_where d side items atom)) (where_has (λ j. value_of d (guard_of side j) atom) items i h e)
 
@@ -63,7 +59,7 @@ module _ (d : Collection) (ends : Ends) (are_ends : AreEnds d ends) (items : Lis
         go i m v same false e = inl (subst (Has (chosen d other items atom)) same (chosen_has other i m (shut_chosen i v e)))
 
     -- sets with the chosen terms are between what surely is there and what may be
-    pub are_between : (store : Nodes) (es fs : List Term) → SameMembers es (terms_of store (chosen d side items atom)) → SameMembers fs (terms_of store (chosen d other items atom)) → IsBetween (terms_of store (targets_under ends.always side items)) (terms_of store (open_targets ends.never ends.always side items)) es fs
+    pub are_between : (store : StoreParts) (es fs : List Term) → SameMembers es (terms_of store (chosen d side items atom)) → SameMembers fs (terms_of store (chosen d other items atom)) → IsBetween (terms_of store (targets_under ends.always side items)) (terms_of store (open_targets ends.never ends.always side items)) es fs
     are_between store es fs s t = record {
       has = λ x h. (s x).1 (terms_within store (targets_under ends.always side items) (chosen d side items atom) (sure_chosen side) x h);
       only = λ x h.
@@ -102,10 +98,10 @@ module _ (d : Collection) (ends : Ends) (are_ends : AreEnds d ends) (items : Lis
         go i m o true v = under_has i m (is_always i m v)
         go i m o false v =
             let may = and_parts (not (nat_eq (guard_of side i) ends.never)) (not (nat_eq (guard_beyond side i) ends.always)) (and_parts (not (nat_eq i.left i.right)) (not (nat_eq (guard_of side i) ends.never) && not (nat_eq (guard_beyond side i) ends.always)) o).1 in
-            absurd (true≢false (sym (eq-eqb (guard_of side i) ends.never (is_never i m v)) ∙ not_true (nat_eq (guard_of side i) ends.never) may.0))
+            absurd (true≢false (sym (eq-eqb (guard_of side i) ends.never (is_never i m v)) ∙ not-true (nat_eq (guard_of side i) ends.never) may.0))
 
     -- the sets with the chosen terms have what surely is there
-    pub same_sure : (store : Nodes) (es : List Term) → SameMembers es (terms_of store (chosen d side items atom)) → SameMembers es (terms_of store (targets_under ends.always side items))
+    pub same_sure : (store : StoreParts) (es : List Term) → SameMembers es (terms_of store (chosen d side items atom)) → SameMembers es (terms_of store (targets_under ends.always side items))
     same_sure store es s x = (
       (λ h. terms_within store (chosen d side items atom) (targets_under ends.always side items) chosen_sure x ((s x).0 h)),
       (λ h. (s x).1 (terms_within store (targets_under ends.always side items) (chosen d side items atom) (sure_chosen side) x h)),

@@ -6,7 +6,7 @@ use Rattle.kat_model.specs.Problems.{IsTestInRange, IsInRange}
 use Rattle.kat_model.proofs.Lists.{has_map}
 use Rattle.certificate.specs.declared.nodes.TestNode.TheVariants as test_node
 use Rattle.certificate.specs.declared.nodes.TermNode.TheVariants as term_node
-use Rattle.term_store.specs.Nodes.{Nodes}
+use Rattle.term_store.specs.Nodes.{StoreParts}
 use Rattle.term_store.specs.Trees.{test_tree_over, tree_over, test_tree_of, tree_of, test_trees, trees}
 use Rattle.term_store.specs.declared.nodes.TestShape.{TestShape}
 use Rattle.term_store.specs.declared.nodes.TestShape.TheVariants as test
@@ -75,7 +75,7 @@ module _ (tests actions : ℕ) where
   act_in_range ids more guards below (Seq i j) a e r = absurd cc
   act_in_range ids more guards below (Star j) a e r = absurd cc
 
-module _ (store : Nodes) (es : List IdEntry) (terms named ids : List ℕ) (needed : AreNeeded store es terms named ids) where
+module _ (store : StoreParts) (es : List IdEntry) (terms named ids : List ℕ) (needed : AreNeeded store es terms named ids) where
   module _ (tests actions : ℕ) (in_range : (i : ℕ) → Has (members_of es) i → IsInRange tests actions (tree_of store i)) where
     node_range : (i : ℕ) (s : Shape) → slice_get store.terms i ≡ Some s → IsInRange tests actions (tree_of store i) → IsInRange tests actions (tree_over (test_trees store) (trees store) s)
     node_range i s at r = subst (IsInRange tests actions) (tree_of-node store needed.rules i s at) r

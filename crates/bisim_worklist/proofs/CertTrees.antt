@@ -6,12 +6,12 @@ use Rattle.kat_model.specs.Trees.{TestTree, bottom, complement, meet, join, Term
 use Rattle.kat_model.specs.Members.{Has, IsSubset}
 use Rattle.kat_model.specs.Pairs.{SetPair}
 use Rattle.kat_model.proofs.ValuesInOrder.{length-course_of_values}
-use Rattle.kat_model.proofs.Places.{has_at}
+use Rattle.kat_model.proofs.Places.{has_at, place_of_member}
 use Rattle.certificate.specs.Nodes.{NumberPair}
 use Rattle.certificate.specs.Laws.{HasNodeTrees}
 use Rattle.certificate.specs.Accepted.{test_node_tree, term_node_tree, test_trees, term_trees, terms_at, set_pairs}
 use Rattle.certificate.proofs.NodeTrees.{nodes_have_trees_lem}
-use Rattle.term_store.specs.Nodes.{Nodes}
+use Rattle.term_store.specs.Nodes.{StoreParts}
 use Rattle.term_store.specs.Trees.{test_tree_over, tree_over, test_tree_of, tree_of, HasTree, test_trees as store_test_trees, trees as store_trees}
 use Rattle.term_store.specs.declared.nodes.TestShape.{TestShape}
 use Rattle.term_store.specs.declared.nodes.TestShape.TheVariants as test
@@ -23,8 +23,7 @@ use Rattle.bisim_worklist.specs.Walks.{pairs_of}
 use Rattle.bisim_worklist.specs.Listings.{IdEntry, AreIdSets, terms_of, entries_of}
 use Rattle.bisim_worklist.specs.Needed.{terms_in, tests_in, test_parts_in}
 use Rattle.bisim_worklist.specs.Numbering.{number_of, numbers_of, number_pair_of, test_node_of, term_node_of}
-use Rattle.bisim_worklist.proofs.AscendingLists.{ascending_once}
-use Rattle.bisim_worklist.proofs.Entries.{place_of}
+use Rattle.certificate.proofs.Ascending.{ascending_once}
 use Rattle.bisim_worklist.proofs.PartSets.{terms_less, tests_less}
 use Rattle.bisim_worklist.proofs.PlaceNumbers.{number_at, number_of_place, at_mapped}
 use Rattle.bisim_worklist.proofs.StoreCerts.{numbered_cert, AreNeeded, test_at, term_at, test_there, term_there, test_parts_there, terms_there, tests_there, members_there, numbered_rules}
@@ -32,7 +31,7 @@ use Rattle.bisim_worklist.proofs.StoreCerts.{numbered_cert, AreNeeded, test_at, 
 abbrev pair_at : List Term → NumberPair → SetPair
 pair_at trees p = record { left = terms_at trees p.left; right = terms_at trees p.right }
 
-module _ (store : Nodes) (es : List IdEntry) (terms named tests : List ℕ) (needed : AreNeeded store es terms named tests) (n : ℕ) (sets : AreIdSets store n es) where
+module _ (store : StoreParts) (es : List IdEntry) (terms named tests : List ℕ) (needed : AreNeeded store es terms named tests) (n : ℕ) (sets : AreIdSets store n es) where
   by_node : HasNodeTrees (numbered_cert store tests terms es)
   by_node = nodes_have_trees_lem (numbered_cert store tests terms es) (numbered_rules store es terms named tests needed n sets)
 
@@ -111,7 +110,7 @@ module _ (store : Nodes) (es : List IdEntry) (terms named tests : List ℕ) (nee
   -- each tree is that of an id
   pub trees_have_ids : (t : Term) → Has cert_terms t → HasTree store t
   trees_have_ids t h =
-      let place = place_of cert_terms t h in
+      let place = place_of_member cert_terms t h in
       let k : ℕ = place.0 in
       let within : k < length cert_terms = slice_get_within cert_terms k t place.1 in
       let many : length cert_terms ≡ length terms =

@@ -1,7 +1,7 @@
 -- A certificate of the pairs of a finished walk is concise, and a concise one has few pairs where both sides are guarded.
 use Rattle.std.proofs.Common.{◌≡◌, ◌+◌, ◌*◌, ◌≤◌, ◌<◌, ℕ, List, [], length, sym, ap, subst, arith}
 use Rattle.kat_model.specs.Trees.{acts}
-use Rattle.kat_model.specs.Problems.{Question}
+use Rattle.kat_model.specs.Problems.{ProblemParts}
 use Rattle.kat_model.specs.Guarded.{IsGuarded}
 use Rattle.kat_model.specs.Members.{Has}
 use Rattle.kat_model.specs.Pairs.{up_to, AreAccepted, AllDiffer}
@@ -15,14 +15,14 @@ use Rattle.bisim_worklist.specs.Walks.{Entry, pairs_of, IsWalk}
 use Rattle.bisim_worklist.proofs.NoRedundancy.{guarded_few}
 use Rattle.bisim_worklist.proofs.Endings.{walk_accepted, walk_bounds}
 
-pub concise_few : (q : Question) (c : CertParts) → IsConcise q c → q.hyps ≡ [] → IsGuarded q.left → IsGuarded q.right → length (set_pairs c) ≤ (acts q.left + 2) * (acts q.right + 2)
+pub concise_few : (q : ProblemParts) (c : CertParts) → IsConcise q c → q.hyps ≡ [] → IsGuarded q.left → IsGuarded q.right → length (set_pairs c) ≤ (acts q.left + 2) * (acts q.right + 2)
 concise_few q c concise none left right =
     let first = concise.accepted.pairs.first in
     subst (λ ps. length ps ≤ (acts q.left + 2) * (acts q.right + 2)) (sym first)
     (guarded_few q concise.accepted.pairs.rest (subst (HasNoRedundantPair q) first concise.needed) none left right)
 
 -- the certificate lists the pairs of a walk that has processed all of them
-pub walk_concise : (q : Question) (es : List Entry) (c : CertParts) → IsWalk q es (length es) → c.style ≡ UpTo → set_pairs c ≡ pairs_of es → ((k : ℕ) → Has c.test_nodes (Prim k) → k < q.tests) → ((a : ℕ) → Has c.term_nodes (Act a) → a < q.actions) → IsConcise q c
+pub walk_concise : (q : ProblemParts) (es : List Entry) (c : CertParts) → IsWalk q es (length es) → c.style ≡ UpTo → set_pairs c ≡ pairs_of es → ((k : ℕ) → Has c.test_nodes (Prim k) → k < q.tests) → ((a : ℕ) → Has c.term_nodes (Act a) → a < q.actions) → IsConcise q c
 walk_concise q es c walk style same tests actions = record {
   accepted = record {
     tests = tests;

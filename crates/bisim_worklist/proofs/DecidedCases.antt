@@ -2,7 +2,7 @@
 use Rattle.std.proofs.Common.{◌≡◌, inl, inr, ℕ, zero, suc, Bool, true, false, nat_eq, List, [], ◌∷◌, length, set, slice_get, Option, Some, refl, sym, ap, ◌∙◌, length-set}
 use Rattle.std.proofs.lemmas.Bool.{eqb-true, eqb-false}
 use Rattle.kat_model.specs.Members.{Has}
-use Rattle.test_diagrams.specs.Functions.{Collection, KeepsFunctions}
+use Rattle.test_diagrams.specs.Functions.{DiagramsParts, KeepsFunctions}
 use Rattle.bisim_worklist.specs.declared.items.Item.{Item}
 use Rattle.bisim_worklist.specs.Cases.{IsFixedItem, IsCase, AreItemsWith}
 
@@ -13,7 +13,7 @@ get_apart (x ∷ ds) zero (suc k) d apart = refl
 get_apart (x ∷ ds) (suc j) zero d apart = refl
 get_apart (x ∷ ds) (suc j) (suc k) d apart = get_apart ds j k d (λ e. apart (ap suc e))
 
-pub decided_case : (c d : Collection) (decided ds : List (Option Bool)) (items new : List Item) (test : ℕ) (value : Bool) → KeepsFunctions c d → IsCase c decided items → AreItemsWith c d items test value new → ds ≡ set decided test (Some value) → IsCase d ds new
+pub decided_case : (c d : DiagramsParts) (decided ds : List (Option Bool)) (items new : List Item) (test : ℕ) (value : Bool) → KeepsFunctions c d → IsCase c decided items → AreItemsWith c d items test value new → ds ≡ set decided test (Some value) → IsCase d ds new
 decided_case c d decided ds items new test value kept before gathered is = record {
   tests = ap length is ∙ length-set decided test (Some value) ∙ before.tests ∙ sym kept.tests;
   are = gathered.are;

@@ -7,13 +7,13 @@ use Rattle.kat_model.specs.Trees.{Term}
 use Rattle.kat_model.specs.Members.{Has}
 use Rattle.kat_model.specs.Strings.{GuardedString}
 use Rattle.kat_model.specs.Steps.{Atom}
-use Rattle.kat_model.specs.Problems.{Question, IsProblem, IsInRange}
+use Rattle.kat_model.specs.Problems.{ProblemParts, IsProblem, IsInRange}
 use Rattle.kat_model.specs.Closed.{closed}
 use Rattle.kat_model.proofs.Lists.{has_append, has_flat_map, map_has}
 use Rattle.string_tables.proofs.Counterexamples.{refuted_not_same}
 use Rattle.certificate.specs.declared.evidence.Evidence.TheVariants.{Equal, Different}
 use Rattle.certificate.specs.Certs.{CertParts}
-use Rattle.term_store.specs.Nodes.{Nodes}
+use Rattle.term_store.specs.Nodes.{StoreParts}
 use Rattle.term_store.specs.Trees.{tree_of, HasTree}
 use Rattle.partial_derivs.specs.Moves.{IsTermOf}
 use Rattle.bisim_worklist.specs.Decisions.{IsDecision, HasIdsOf}
@@ -30,11 +30,11 @@ use Rattle.bisim_worklist.proofs.Concise.{walk_concise}
 use Rattle.bisim_worklist.proofs.Shortest.{found_shortest}
 
 -- the entry of a listed pair
-entry_at : (store : Nodes) (es : List IdEntry) (k : ℕ) (e : IdEntry) → slice_get es k ≡ Some e → slice_get (entries_of store es) k ≡ Some (entry_of store e)
+entry_at : (store : StoreParts) (es : List IdEntry) (k : ℕ) (e : IdEntry) → slice_get es k ≡ Some e → slice_get (entries_of store es) k ≡ Some (entry_of store e)
 entry_at store es k e at = slice_get-map (entry_of store) es k ∙ ap (option_map (entry_of store)) at
 
 -- the steps that lead back to the first pair are a trail
-trail_back : (store : Nodes) (es : List IdEntry) (k : ℕ) (os : List Origin) → LeadsBack es k os → IsTrail (entries_of store es) k os
+trail_back : (store : StoreParts) (es : List IdEntry) (k : ℕ) (os : List Origin) → LeadsBack es k os → IsTrail (entries_of store es) k os
 trail_back store es k [] h = h
 trail_back store es k (o ∷ os) h = (here (slice_get es k) refl h.0, trail_back store es o.place os h.1)
   where
@@ -43,13 +43,13 @@ trail_back store es k (o ∷ os) h = (here (slice_get es k) refl h.0, trail_back
     here (Some e) at f = (entry_of store e, entry_at store es k e at, f)
 
 -- a set of one term is one id
-one_id : (store : Nodes) (n : ℕ) (ids : List ℕ) (t : Term) → ((i : ℕ) → Has ids i → IsTermOf store n i) → terms_of store ids ≡ t ∷ [] → HasTree store t
+one_id : (store : StoreParts) (n : ℕ) (ids : List ℕ) (t : Term) → ((i : ℕ) → Has ids i → IsTermOf store n i) → terms_of store ids ≡ t ∷ [] → HasTree store t
 one_id store n [] t there e = absurd cc
 one_id store n (i ∷ ids) t there e =
     let tree : tree_of store i ≡ t = cc in
     (i, (there i (inl refl)).is_id, tree)
 
-module _ (q : Question) (store : Nodes) where
+module _ (q : ProblemParts) (store : StoreParts) where
   -- of the first pair
   sides_of_first : (es : List IdEntry) → AreIdSets store q.tests es → slice_get (entries_of store es) 0 ≡ Some (first_entry q) → HasTree store (closed q).left × HasTree store (closed q).right
   sides_of_first [] sets first = absurd cc

@@ -3,23 +3,24 @@ use Rattle.std.proofs.Common.{◌≡◌, ◌≤◌, ◌∙◌, ℕ, zero, suc, L
 use Rattle.std.proofs.lemmas.List.{length-map}
 use Rattle.std.proofs.lemmas.Option.{slice_get_within, same_Some}
 use Rattle.kat_model.specs.Members.{Has}
-use Rattle.kat_model.specs.Problems.{Question}
+use Rattle.kat_model.specs.Problems.{ProblemParts}
 use Rattle.kat_model.specs.Relations.{Same}
 use Rattle.kat_model.specs.Pairs.{SetPair, up_to, AreAccepted}
+use Rattle.kat_model.proofs.Places.{place_of_member}
 use Rattle.kat_model.proofs.Sameness.{accepted_same}
 use Rattle.bisim_worklist.specs.Decisions.{HasNoRedundantPair, pair_limit}
 use Rattle.bisim_worklist.specs.Laws.{AreFew}
 use Rattle.bisim_worklist.specs.Walks.{Entry, pairs_of, closed_pair, IsFoundBy, IsSettled, IsWalk}
-use Rattle.bisim_worklist.proofs.Entries.{place_of, has_pair, pair_has}
+use Rattle.bisim_worklist.proofs.Entries.{has_pair, pair_has}
 use Rattle.bisim_worklist.proofs.MorePairs.{settled_more}
 use Rattle.bisim_worklist.proofs.WalkSteps.{first_entry}
 use Rattle.bisim_worklist.proofs.NoRedundancy.{no_redundant_bounds}
 
-begins : (q : Question) (es : List Entry) → slice_get es 0 ≡ Some (first_entry q) → (rest : List SetPair) × (pairs_of es ≡ closed_pair q ∷ rest)
+begins : (q : ProblemParts) (es : List Entry) → slice_get es 0 ≡ Some (first_entry q) → (rest : List SetPair) × (pairs_of es ≡ closed_pair q ∷ rest)
 begins q [] h = absurd cc
 begins q (e ∷ es) h = (pairs_of es, ap (λ (x : Entry). x.pair ∷ pairs_of es) (same_Some e (first_entry q) h))
 
-module _ (q : Question) (es : List Entry) (done : ℕ) (walk : IsWalk q es done) where
+module _ (q : ProblemParts) (es : List Entry) (done : ℕ) (walk : IsWalk q es done) where
   pub walk_bounds : AreFew q (pairs_of es)
   walk_bounds = let b = begins q es walk.first in subst (AreFew q) (sym b.1) (no_redundant_bounds q b.0 (subst (HasNoRedundantPair q) b.1 walk.needed))
 
@@ -31,7 +32,7 @@ module _ (q : Question) (es : List Entry) (done : ℕ) (walk : IsWalk q es done)
     all_settled : (p : SetPair) → Has (pairs_of es) p → IsSettled q (pairs_of es) p
     all_settled p h =
         let e = pair_has es p h in
-        let k = place_of es e.0 e.1 in
+        let k = place_of_member es e.0 e.1 in
         let c = walk.processed k.0 e.0 (let l = slice_get_within es k.0 e.0 k.1 in omega arith) k.1 in
         subst (IsSettled q (pairs_of es)) e.2 (settled_more q c.pairs (pairs_of es) (λ r m. let f = c.found r m in subst (Has (pairs_of es)) f.2 (has_pair es f.0 f.1)) e.0.pair c.settled)
 
@@ -54,7 +55,7 @@ module _ (q : Question) (es : List Entry) (done : ℕ) (walk : IsWalk q es done)
       origins = walk.origins;
       needed = walk.needed;
       in_order = walk.in_order;
-      so_far = λ e h. let k = place_of es e h in found_within k.0 e k.1;
+      so_far = λ e h. let k = place_of_member es e h in found_within k.0 e k.1;
       processed = λ k e l h. walk.processed k e (omega arith) h;
     }
       where

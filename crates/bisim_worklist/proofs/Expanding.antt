@@ -5,14 +5,14 @@ use Rattle.std.proofs.lemmas.Bool.{false≢true, eqb-true, eq-eqb}
 use Rattle.kat_model.specs.Trees.{Term}
 use Rattle.kat_model.specs.Members.{Has, SameMembers}
 use Rattle.kat_model.specs.Steps.{Atom, set_next}
-use Rattle.kat_model.specs.Problems.{Question}
+use Rattle.kat_model.specs.Problems.{ProblemParts}
 use Rattle.kat_model.specs.Pairs.{SetPair}
 use Rattle.kat_model.proofs.Lists.{has_map, map_has, has_append}
 use Rattle.kat_model.proofs.Places.{has_at}
-use Rattle.term_store.specs.Nodes.{Nodes, IsTermId, IsStore}
+use Rattle.term_store.specs.Nodes.{StoreParts, IsTermId, IsStore}
 use Rattle.term_store.specs.Trees.{tree_of}
 use Rattle.term_store.proofs.TermTrees.{one_id_a_tree}
-use Rattle.test_diagrams.specs.Functions.{Collection, value_of, IsAtomOf, KeepsFunctions}
+use Rattle.test_diagrams.specs.Functions.{DiagramsParts, value_of, IsAtomOf, KeepsFunctions}
 use Rattle.partial_derivs.specs.declared.moves.Guarded.{Guarded}
 use Rattle.partial_derivs.specs.declared.moves.Steps.{Steps}
 use Rattle.partial_derivs.specs.Moves.{IsTermOf, AreTargets, LeadsTo, IsStepsOf}
@@ -37,7 +37,7 @@ use Rattle.bisim_worklist.proofs.Visiting.{grows_then, grown_at, grown_after}
 -- ---- the items of an action
 
 -- moves lead to just the terms of their targets
-module _ (store : Nodes) (d : Collection) (act : ℕ) (atom : Atom) where
+module _ (store : StoreParts) (d : DiagramsParts) (act : ℕ) (atom : Atom) where
   led_leads : (moves : List Guarded) (t : ℕ) → Has (led d moves act atom) t → LeadsTo store d moves atom act (tree_of store t)
   led_leads [] t h = absurd h
   led_leads (m ∷ ms) t h = go (λ r. later (led_leads ms t r)) (nat_eq m.act act) refl (value_of d m.guard atom) refl h
@@ -72,10 +72,10 @@ module _ (store : Nodes) (d : Collection) (act : ℕ) (atom : Atom) where
         (is.leads atom fits act x).1 (subst (LeadsTo store d steps.moves.items atom act) f.2 (led_leads steps.moves.items f.0 ((same f.0).0 f.1)))),
   )
 
-target_term : (store : Nodes) (n : ℕ) (moves : List Guarded) → AreTargets store n moves → (t : ℕ) → Has (led_to moves) t → IsTermOf store n t
+target_term : (store : StoreParts) (n : ℕ) (moves : List Guarded) → AreTargets store n moves → (t : ℕ) → Has (led_to moves) t → IsTermOf store n t
 target_term store n moves are t h = let f = has_map (λ (m : Guarded). m.to) moves t h in subst (IsTermOf store n) f.2 (are f.0 f.1)
 
-items_stand : (q : Question) (store : Nodes) (d : Collection) (p : SetPair) (left right : Steps) (act : ℕ) (items : List Item) (decided : List (Option Bool)) → d.tests ≡ q.tests
+items_stand : (q : ProblemParts) (store : StoreParts) (d : DiagramsParts) (p : SetPair) (left right : Steps) (act : ℕ) (items : List Item) (decided : List (Option Bool)) → d.tests ≡ q.tests
     → IsStepsOf store d p.left left → IsStepsOf store d p.right right → AreItemsOf d left.moves.items right.moves.items act items → AreLedTo left.moves.items right.moves.items items
     → StandFor q store d items p act decided
 items_stand q store d p left right act items decided tests on_left on_right are led_items = record {
@@ -96,7 +96,7 @@ extends_none (suc n) (b ∷ bs) e = extends_none n bs (omega (arith, e))
 -- ---- entries of ids
 
 -- ids of a store have their trees alone
-module _ (store : Nodes) (is : IsStore store) where
+module _ (store : StoreParts) (is : IsStore store) where
   one_list : (ks ls : List ℕ) → ((i : ℕ) → Has ks i → IsTermId store i) → ((i : ℕ) → Has ls i → IsTermId store i) → terms_of store ks ≡ terms_of store ls → ks ≡ ls
   one_list [] [] p r e = refl
   one_list [] (l ∷ ls) p r e = absurd cc
@@ -118,7 +118,7 @@ module _ (store : Nodes) (is : IsStore store) where
       λ v. record { left = left v; right = right v; origin = (ap (λ (x : Entry). x.origin) e) v }
 
 -- so an entry of ids keeps its place when entries are listed
-kept_entry : (q : Question) (store : Nodes) (old new : RuleParts) (done place : ℕ) (e : IdEntry) → AreRulesOf q store old done → AreRulesOf q store new done → Grows (entries_of store old.pairs) (entries_of store new.pairs)
+kept_entry : (q : ProblemParts) (store : StoreParts) (old new : RuleParts) (done place : ℕ) (e : IdEntry) → AreRulesOf q store old done → AreRulesOf q store new done → Grows (entries_of store old.pairs) (entries_of store new.pairs)
     → slice_get old.pairs place ≡ Some e → slice_get new.pairs place ≡ Some e
 kept_entry q store old new done place e was is grows at =
     let there = grown_at (entries_of store old.pairs) (entries_of store new.pairs) place (entry_of store e) grows (at_mapped (entry_of store) old.pairs place e at) in
@@ -128,7 +128,7 @@ kept_entry q store old new done place e was is grows at =
 -- ---- one action after another
 
 -- the new rules are the old ones and further pairs, under which the next sets of the pair by each of the actions are congruent
-pub record HasStepped (q : Question) (store : Nodes) (old new : RuleParts) (place : ℕ) (p : SetPair) (acts : List ℕ) : Type 0 where
+pub record HasStepped (q : ProblemParts) (store : StoreParts) (old new : RuleParts) (place : ℕ) (p : SetPair) (acts : List ℕ) : Type 0 where
   pub rules : AreRulesOf q store new place
   pub grows : Grows (entries_of store old.pairs) (entries_of store new.pairs)
   pub congruent : (a : ℕ) → Has acts a → AreCongruentAfter q (pairs_of (entries_of store new.pairs)) p a
@@ -136,12 +136,12 @@ pub record HasStepped (q : Question) (store : Nodes) (old new : RuleParts) (plac
 -- whatever the question, the store and the pair are
 abbrev pub StepsBy : ℕ → Walk → RuleParts → ℕ → BothSteps → List ℕ → Type 0
 StepsBy actions old new place steps acts =
-    (q : Question) (store : Nodes) → actions ≡ q.actions → (e : IdEntry) → IsUnderWay q store old place → slice_get old.rules.pairs place ≡ Some e → AreStepsAt store old e steps
+    (q : ProblemParts) (store : StoreParts) → actions ≡ q.actions → (e : IdEntry) → IsUnderWay q store old place → slice_get old.rules.pairs place ≡ Some e → AreStepsAt store old e steps
     → HasStepped q store old.rules new place (pair_of store e) acts
 
 module _ (actions : ℕ) (old : Walk) (place : ℕ) (steps : BothSteps) (acts : List ℕ) where
   -- one action more
-  pub steps_more : (d : Collection) (mid new : RuleParts) (stride : Stride) (items : List Item) → KeepsFunctions old.diagrams d → stride.place ≡ place → stride.act < actions
+  pub steps_more : (d : DiagramsParts) (mid new : RuleParts) (stride : Stride) (items : List Item) → KeepsFunctions old.diagrams d → stride.place ≡ place → stride.act < actions
       → AreItemsOf d steps.left.moves.items steps.right.moves.items stride.act items → AreLedTo steps.left.moves.items steps.right.moves.items items
       → Visits d stride (replicate d.tests None) items mid new
       → StepsBy actions old mid place steps acts → StepsBy actions old new place steps (acts ++ stride.act ∷ [])
@@ -181,7 +181,7 @@ module _ (actions : ℕ) (old : Walk) (place : ℕ) (steps : BothSteps) (acts : 
 
   -- all actions
   pub steps_all : (new : Walk) → KeepsFunctions old.diagrams new.diagrams → new.derivatives ≡ old.derivatives → ((a : ℕ) → a < actions → Has acts a) → StepsBy actions old new.rules place steps acts
-      → (q : Question) (store : Nodes) → actions ≡ q.actions → IsExpanded q store old new place steps
+      → (q : ProblemParts) (store : StoreParts) → actions ≡ q.actions → IsExpanded q store old new place steps
   steps_all new kept same all before q store count e under at steps_at =
       let m = before q store count e under at steps_at in (
         record {

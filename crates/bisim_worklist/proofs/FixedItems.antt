@@ -6,7 +6,7 @@ use Rattle.kat_model.specs.Members.{Has}
 use Rattle.kat_model.specs.Steps.{Atom}
 use Rattle.kat_model.proofs.Lists.{has_left, has_right, has_append, has_map, map_has}
 use Rattle.certificate.specs.Nodes.{are_ascending}
-use Rattle.test_diagrams.specs.Functions.{Collection, value_of, IsAtomOf, IsDiagramId, IsDiagramOf, IsIndependent, KeepsFunctions}
+use Rattle.test_diagrams.specs.Functions.{DiagramsParts, value_of, IsAtomOf, IsDiagramId, IsDiagramOf, IsIndependent, KeepsFunctions}
 use Rattle.test_diagrams.proofs.Kept.{IsDiagramOf-kept}
 use Rattle.partial_derivs.proofs.Items.{has_item, take_item}
 use Rattle.bisim_worklist.specs.declared.items.Item.{Item}
@@ -14,7 +14,7 @@ use Rattle.bisim_worklist.specs.declared.items.Side.{Side}
 use Rattle.bisim_worklist.specs.declared.items.Side.TheVariants.{Left, Right}
 use Rattle.bisim_worklist.specs.Items.{targets_of, chosen, guard_of}
 use Rattle.bisim_worklist.specs.Cases.{AreItemsWith, IsFixedItem}
-use Rattle.bisim_worklist.proofs.AscendingLists.{ascending_tail, ascending_first, ascending_more}
+use Rattle.certificate.proofs.Ascending.{ascending_tail, ascending_first, ascending_more}
 
 -- ---- atoms with tests set
 
@@ -31,11 +31,11 @@ set_apart (x ∷ xs) (suc j) zero a b apart = refl
 set_apart (x ∷ xs) (suc j) (suc k) a b apart = ap (λ l. x ∷ l) (set_apart xs j k a b (λ e. apart (ap suc e)))
 
 -- the id is that of the older one's function with the test set
-abbrev pub IsFixedTo : Collection → Collection → ℕ → Bool → ℕ → ℕ → Type 0
+abbrev pub IsFixedTo : DiagramsParts → DiagramsParts → ℕ → Bool → ℕ → ℕ → Type 0
 IsFixedTo c d test value old id = IsDiagramOf d id (λ atom. value_of c old (set atom test value))
 
 -- it does not depend on that test, nor on what the older one does not depend on
-fixed_independent : (c d : Collection) (test : ℕ) (value : Bool) (old id k : ℕ) → d.tests ≡ c.tests → IsFixedTo c d test value old id → IsIndependent c old k ⊎ (k ≡ test) → IsIndependent d id k
+fixed_independent : (c d : DiagramsParts) (test : ℕ) (value : Bool) (old id k : ℕ) → d.tests ≡ c.tests → IsFixedTo c d test value old id → IsIndependent c old k ⊎ (k ≡ test) → IsIndependent d id k
 fixed_independent c d test value old id k tests is free atom fits b =
     is.value (set atom k b) (length-set atom k b ∙ fits) ∙ middle (nat_eq k test) refl ∙ sym (is.value atom fits)
   where
@@ -47,7 +47,7 @@ fixed_independent c d test value old id k tests is free atom fits b =
 
 -- ---- what is chosen
 
-chosen-append : (d : Collection) (side : Side) (xs ys : List Item) (atom : Atom) → chosen d side (xs ++ ys) atom ≡ chosen d side xs atom ++ chosen d side ys atom
+chosen-append : (d : DiagramsParts) (side : Side) (xs ys : List Item) (atom : Atom) → chosen d side (xs ++ ys) atom ≡ chosen d side xs atom ++ chosen d side ys atom
 chosen-append d side [] ys atom = refl
 chosen-append d side (x ∷ xs) ys atom = go (chosen-append d side xs ys atom) (value_of d (guard_of side x) atom)
   where
@@ -55,11 +55,11 @@ chosen-append d side (x ∷ xs) ys atom = go (chosen-append d side xs ys atom) (
     go rest true = ap (λ l. x.target ∷ l) rest
     go rest false = rest
 
-guard_id : (d : Collection) (side : Side) (i : Item) → IsDiagramId d i.left → IsDiagramId d i.right → IsDiagramId d (guard_of side i)
+guard_id : (d : DiagramsParts) (side : Side) (i : Item) → IsDiagramId d i.left → IsDiagramId d i.right → IsDiagramId d (guard_of side i)
 guard_id d Left i left right = left
 guard_id d Right i left right = right
 
-chosen-kept : (d e : Collection) → KeepsFunctions d e → (side : Side) (xs : List Item) (atom : Atom) → ((i : Item) → Has xs i → IsDiagramId d (guard_of side i)) → chosen e side xs atom ≡ chosen d side xs atom
+chosen-kept : (d e : DiagramsParts) → KeepsFunctions d e → (side : Side) (xs : List Item) (atom : Atom) → ((i : Item) → Has xs i → IsDiagramId d (guard_of side i)) → chosen e side xs atom ≡ chosen d side xs atom
 chosen-kept d e kept side [] atom ids = refl
 chosen-kept d e kept side (x ∷ xs) atom ids =
     ap (λ b. cond b (x.target ∷ chosen e side xs atom) (chosen e side xs atom)) (kept.values (guard_of side x) (ids x (inl refl)) atom)
@@ -78,7 +78,7 @@ earlier_less (y ∷ ys) ascends (suc i) item lt is t h =
 
 -- ---- one item more
 
-module _ (c d e : Collection) (more : KeepsFunctions d e) (test : ℕ) (value : Bool) where
+module _ (c d e : DiagramsParts) (more : KeepsFunctions d e) (test : ℕ) (value : Bool) where
   -- what was gathered stays right
   pub with_kept : (old new : List Item) → AreItemsWith c d old test value new → AreItemsWith c e old test value new
   with_kept old new gathered = record {
@@ -110,7 +110,7 @@ module _ (c d e : Collection) (more : KeepsFunctions d e) (test : ℕ) (value : 
     value = λ atom fits. is.value atom fits ∙ kept.values old there (set atom test value);
   }
 
-module _ (c e : Collection) (tests : e.tests ≡ c.tests) (test : ℕ) (value : Bool) (items : List Item) (ascends : are_ascending (targets_of items) ≡ true) (i : ℕ) (item : Item)
+module _ (c e : DiagramsParts) (tests : e.tests ≡ c.tests) (test : ℕ) (value : Bool) (items : List Item) (ascends : are_ascending (targets_of items) ≡ true) (i : ℕ) (item : Item)
     (lt : i < length items) (is : item ≡ get_or items i item) (new : List Item) (gathered : AreItemsWith c e (take i items) test value new) where
   front : take (i + 1) items ≡ take i items ++ item ∷ []
   front = take_item items i item lt is

@@ -7,7 +7,7 @@ use Rattle.kat_model.specs.Members.{Has, SameMembers}
 use Rattle.kat_model.specs.Steps.{Atom}
 use Rattle.kat_model.proofs.Lists.{has_map}
 use Rattle.certificate.specs.Nodes.{are_ascending}
-use Rattle.test_diagrams.specs.Functions.{Collection, value_of, IsAtomOf, IsDiagramId, IsDiagramOf}
+use Rattle.test_diagrams.specs.Functions.{DiagramsParts, value_of, IsAtomOf, IsDiagramId, IsDiagramOf}
 use Rattle.partial_derivs.specs.declared.moves.Guarded.{Guarded}
 use Rattle.partial_derivs.specs.Moves.{AreGuards, AreMerged}
 use Rattle.bisim_worklist.specs.declared.items.Item.{Item}
@@ -18,7 +18,7 @@ use Rattle.bisim_worklist.proofs.PartSets.{sorted_ascending}
 use Rattle.bisim_worklist.proofs.ItemTables.{sorted_finds, targets_are_keys, chosen_item}
 use Rattle.bisim_worklist.proofs.LastGuards.{last_guard_all, led_last}
 
-module _ (d : Collection) (left right : List Guarded) (act never : ℕ) (mid es : List (ℕ × Item)) (nowhere : IsDiagramOf d never (λ atom. false)) (first : AddsMoves never Left Right [] mid left act) (second : AddsMoves never Right Left mid es right act)
+module _ (d : DiagramsParts) (left right : List Guarded) (act never : ℕ) (mid es : List (ℕ × Item)) (nowhere : IsDiagramOf d never (λ atom. false)) (first : AddsMoves never Left Right [] mid left act) (second : AddsMoves never Right Left mid es right act)
     (keyed : AreKeyed es) (sorted : IsStrictlySortedBy nat_cmp (keys_of es)) where
   -- the guards are those of the last moves
   left_guard : (t : ℕ) → guard_of Left (item_in never es t) ≡ last_guard left act t never

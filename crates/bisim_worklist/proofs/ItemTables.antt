@@ -1,6 +1,9 @@
 -- Tables of items by their targets.
 use Rattle.std.proofs.Common.{◌≡◌, ◌↔◌, ◌⊎◌, inl, inr, ⊎_elim, ℕ, Bool, true, false, cond, List, [], ◌∷◌, Option, Some, None, refl, sym, ap, ◌∙◌, subst, arith}
 use Rattle.std.proofs.lemmas.Bool.{false≢true}
+use Rattle.std.proofs.lemmas.Cmp.{nat_cmp_total}
+use Rattle.std.proofs.lemmas.Map.Lookups.{exact_unsigned}
+use Rattle.std.proofs.lemmas.Map.Views.{tells_apart}
 use Rattle.std.specs.List.{AllByRecursion}
 use Rattle.std.specs.List.Sorted.{IsStrictlySortedBy}
 use Rattle.std.specs.Map.{lookup, keys_of}
@@ -11,21 +14,18 @@ use Rattle.std.specs.declared.cmp.Ordering.TheVariants.{Less, Equal, Greater}
 use Rattle.kat_model.specs.Members.{Has}
 use Rattle.kat_model.specs.Steps.{Atom}
 use Rattle.kat_model.proofs.Lists.{has_map, map_has}
-use Rattle.test_diagrams.specs.Functions.{Collection, value_of}
+use Rattle.kat_model.proofs.SetKeys.{is_at_own}
+use Rattle.test_diagrams.specs.Functions.{DiagramsParts, value_of}
 use Rattle.partial_derivs.specs.declared.moves.Guarded.{Guarded}
 use Rattle.partial_derivs.proofs.Entries.{lookup_has}
 use Rattle.bisim_worklist.specs.declared.items.Item.{Item}
 use Rattle.bisim_worklist.specs.declared.items.Side.{Side}
 use Rattle.bisim_worklist.specs.declared.items.Side.TheVariants.{Left, Right}
 use Rattle.bisim_worklist.specs.Items.{guard_of, targets_of, chosen, items_in, AreKeyed, found_item, item_in, led_to, AddsTargets, AreLedTo}
-use Rattle.bisim_worklist.proofs.KeySets.{is_at_same, is_at_own}
-
-found_same : (k j : ℕ) → is_at (nat_cmp k) j ≡ true → k ≡ j
-found_same k j e = sym (is_at_same k j e)
 
 -- what is found is an entry
 pub found_entry : (es : List (ℕ × Item)) (k : ℕ) (i : Item) → lookup (is_at (nat_cmp k)) es ≡ Some i → Has es (k, i)
-found_entry es k i e = lookup_has (λ q. is_at (nat_cmp q)) found_same k es i e
+found_entry es k i e = lookup_has (λ q. is_at (nat_cmp q)) (tells_apart exact_unsigned) k es i e
 
 -- the item of a target has that target
 pub item_target : (never : ℕ) (es : List (ℕ × Item)) (k : ℕ) → AreKeyed es → (item_in never es k).target ≡ k
@@ -79,7 +79,7 @@ unfolding IsStrictlySortedBy
 sorted_finds [] s x h = absurd h
 sorted_finds (e ∷ es) s x h =
     ⊎_elim
-    (λ is. subst (λ (z : ℕ × Item). lookup (is_at (nat_cmp z.0)) (e ∷ es) ≡ Some z.1) is (ap (λ b. cond b (Some e.1) (lookup (is_at (nat_cmp e.0)) es)) (is_at_own e.0)))
+    (λ is. subst (λ (z : ℕ × Item). lookup (is_at (nat_cmp z.0)) (e ∷ es) ≡ Some z.1) is (ap (λ b. cond b (Some e.1) (lookup (is_at (nat_cmp e.0)) es)) (is_at_own nat_cmp_total e.0)))
     (λ r.
     let less = all_less e.0 (keys_of es) s.0 x.0 (map_has (λ (z : ℕ × Item). z.0) es x r) in
     let other : is_at (nat_cmp x.0) e.0 ≡ false = grind (arith, less) in
@@ -99,7 +99,7 @@ are_led_to left right mid es first second keyed i h =
 
 -- ---- the targets at an atom
 
-module _ (d : Collection) (side : Side) (atom : Atom) where
+module _ (d : DiagramsParts) (side : Side) (atom : Atom) where
   chosen_has : (items : List Item) (i : Item) → Has items i → value_of d (guard_of side i) atom ≡ true → Has (chosen d side items atom) i.target
   chosen_has [] i h v = absurd h
   chosen_has (j ∷ items) i h v = go (λ r. chosen_has items i r v) (value_of d (guard_of side j) atom) refl

@@ -1,11 +1,12 @@
 -- The targets of items that are chosen by a truth value of the item.
-use Rattle.std.proofs.Common.{◌≡◌, ◌<◌, ℕ, inl, inr, ⊎_elim, List, [], ◌∷◌, refl, sym, ap, subst, arith, Bool, true, false, cond, nat_lt, ltb-true, nat_eq}
-use Rattle.std.proofs.lemmas.Bool.{and_parts, and_from, lt-ltb}
+use Rattle.std.proofs.Common.{◌≡◌, ◌<◌, ℕ, inl, inr, ⊎_elim, List, [], ◌∷◌, refl, sym, ap, subst, Bool, true, false, cond, nat_lt, nat_eq}
+use Rattle.std.proofs.lemmas.Bool.{and_from, lt-ltb}
 use Rattle.kat_model.specs.Members.{Has}
 use Rattle.kat_model.specs.Steps.{Atom}
 use Rattle.kat_model.proofs.Lists.{map_has}
 use Rattle.certificate.specs.Nodes.{are_ascending}
-use Rattle.test_diagrams.specs.Functions.{Collection, value_of}
+use Rattle.certificate.proofs.Ascending.{ascending_tail, ascending_first}
+use Rattle.test_diagrams.specs.Functions.{DiagramsParts, value_of}
 use Rattle.bisim_worklist.specs.Items.{guard_of, targets_of, targets_under, is_open, open_targets, chosen}
 use Rattle.bisim_worklist.specs.declared.items.Item.{Item}
 use Rattle.bisim_worklist.specs.declared.items.Side.{Side}
@@ -23,7 +24,7 @@ pub open_where : (never always : ℕ) (side : Side) (is : List Item) → open_ta
 open_where never always side [] = refl
 open_where never always side (i ∷ is) = ap (λ ts. cond (is_open never always side i) (i.target ∷ ts) ts) (open_where never always side is)
 
-pub chosen_where : (d : Collection) (side : Side) (is : List Item) (atom : Atom) → chosen d side is atom ≡ targets_where (λ i. value_of d (guard_of side i) atom) is
+pub chosen_where : (d : DiagramsParts) (side : Side) (is : List Item) (atom : Atom) → chosen d side is atom ≡ targets_where (λ i. value_of d (guard_of side i) atom) is
 chosen_where d side [] atom = refl
 chosen_where d side (i ∷ is) atom = ap (λ ts. cond (value_of d (guard_of side i) atom) (i.target ∷ ts) ts) (chosen_where d side is atom)
 
@@ -53,31 +54,18 @@ module _ (p : Item → Bool) where
 
 -- ---- they ascend as all do
 
-pub ascending_rest : (x : ℕ) (ks : List ℕ) → are_ascending (x ∷ ks) ≡ true → are_ascending ks ≡ true
-ascending_rest x [] e = refl
-ascending_rest x (y ∷ ks) e = (and_parts (nat_lt x y) (are_ascending (y ∷ ks)) e).1
-
-ascending_above : (x : ℕ) (ks : List ℕ) → are_ascending (x ∷ ks) ≡ true → (k : ℕ) → Has ks k → x < k
-ascending_above x [] e k h = absurd h
-ascending_above x (y ∷ ks) e k h =
-    let first : x < y = ltb-true x y (and_parts (nat_lt x y) (are_ascending (y ∷ ks)) e).0 in
-    ⊎_elim
-    (λ s. subst (λ m. x < m) s first)
-    (λ r. let more : y < k = ascending_above y ks (ascending_rest x (y ∷ ks) e) k r in omega arith)
-    h
-
 above_ascending : (x : ℕ) (ks : List ℕ) → ((k : ℕ) → Has ks k → x < k) → are_ascending ks ≡ true → are_ascending (x ∷ ks) ≡ true
 above_ascending x [] above e = refl
 above_ascending x (y ∷ ks) above e = and_from (nat_lt x y) (are_ascending (y ∷ ks)) (lt-ltb x y (above y (inl refl))) e
 
 pub where_ascending : (p : Item → Bool) (is : List Item) → are_ascending (targets_of is) ≡ true → are_ascending (targets_where p is) ≡ true
 where_ascending p [] e = refl
-where_ascending p (i ∷ is) e = go (p i) (where_ascending p is (ascending_rest i.target (targets_of is) e))
+where_ascending p (i ∷ is) e = go (p i) (where_ascending p is (ascending_tail i.target (targets_of is) e))
   where
     above : (k : ℕ) → Has (targets_where p is) k → i.target < k
     above k h =
         let f = has_where p is k h in
-        subst (λ n. i.target < n) f.3 (ascending_above i.target (targets_of is) e f.0.target (map_has (λ (x : Item). x.target) is f.0 f.1))
+        subst (λ n. i.target < n) f.3 (ascending_first i.target (targets_of is) e f.0.target (map_has (λ (x : Item). x.target) is f.0 f.1))
 
     go : (b : Bool) → are_ascending (targets_where p is) ≡ true → are_ascending (cond b (i.target ∷ targets_where p is) (targets_where p is)) ≡ true
     go true rest = above_ascending i.target (targets_where p is) above rest

@@ -1,27 +1,29 @@
 -- The guards of the last moves to targets, and the tables to which moves are added.
 use Rattle.std.proofs.Common.{◌≡◌, ◌<◌, ◌+◌, ◌↔◌, inl, inr, ⊎_elim, ℕ, Bool, true, false, cond, ◌&&◌, nat_eq, List, [], ◌∷◌, ◌++◌, length, get_or, take, Some, refl, sym, ap, ◌∙◌, subst}
-use Rattle.std.proofs.lemmas.Bool.{false≢true, eqb-true, eq-eqb, ne_eqb, and_from, and_right}
+use Rattle.std.proofs.lemmas.Bool.{and_parts, false≢true, eqb-true, eq-eqb, ne_eqb, and_from, and_right}
+use Rattle.std.proofs.lemmas.Cmp.{nat_cmp_total}
+use Rattle.std.proofs.lemmas.Map.Lookups.{exact_unsigned}
+use Rattle.std.proofs.lemmas.Map.Views.{tells_apart}
 use Rattle.std.specs.Map.{lookup}
 use Rattle.std.specs.BTreeMap.{is_at}
 use Rattle.std.specs.Ordering.{nat_cmp}
 use Rattle.kat_model.specs.Members.{Has}
 use Rattle.kat_model.specs.Steps.{Atom}
-use Rattle.test_diagrams.specs.Functions.{Collection, value_of}
-use Rattle.certificate.proofs.Numerals.{both}
+use Rattle.kat_model.proofs.SetKeys.{is_at_own}
+use Rattle.test_diagrams.specs.Functions.{DiagramsParts, value_of}
 use Rattle.partial_derivs.specs.declared.moves.Guarded.{Guarded}
 use Rattle.partial_derivs.specs.Moves.{AreMerged}
 use Rattle.partial_derivs.proofs.Items.{take_item}
 use Rattle.bisim_worklist.specs.declared.items.Item.{Item}
 use Rattle.bisim_worklist.specs.declared.items.Side.{Side}
 use Rattle.bisim_worklist.specs.Items.{guard_of, led, last_guard, found_item, item_in, AddsMoves}
-use Rattle.bisim_worklist.proofs.KeySets.{is_at_same, is_at_own}
 
 -- a move by the action to the target
 abbrev pub is_hit : ℕ → ℕ → Guarded → Bool
 is_hit act t m = nat_eq m.act act && nat_eq m.to t
 
 hit_parts : (act t : ℕ) (m : Guarded) → is_hit act t m ≡ true → (m.act ≡ act) × (m.to ≡ t)
-hit_parts act t m e = let p = both (nat_eq m.act act) (nat_eq m.to t) e in (eqb-true m.act act p.0, eqb-true m.to t p.1)
+hit_parts act t m e = let p = and_parts (nat_eq m.act act) (nat_eq m.to t) e in (eqb-true m.act act p.0, eqb-true m.to t p.1)
 
 no_hit : (act t : ℕ) (m : Guarded) → (m.act ≡ act → m.to ≡ t → ⊥) → is_hit act t m ≡ false
 no_hit act t m f = go (is_hit act t m) refl
@@ -45,7 +47,7 @@ last_guard_all P (m ∷ ms) act t before all p = last_guard_all P ms act t (cond
 
 -- ---- the targets at an atom
 
-module _ (d : Collection) (act : ℕ) (atom : Atom) (t : ℕ) where
+module _ (d : DiagramsParts) (act : ℕ) (atom : Atom) (t : ℕ) where
   -- no move by the action leads to the target
   abbrev IsMissed : List Guarded → Type 0
   IsMissed ms = (n : Guarded) → Has ms n → n.act ≡ act → n.to ≡ t → ⊥
@@ -119,14 +121,14 @@ module _ (never : ℕ) (side other : Side) (act : ℕ) (old es : List (ℕ × It
           there : (t : ℕ) (b : Bool) → is_at (nat_cmp m.to) t ≡ b
               → guard_of side (found_item never t (cond b (Some item) (lookup (is_at (nat_cmp t)) es))) ≡ cond (is_hit act t m) m.guard (last_guard (take i moves) act t (guard_of side (item_in never old t)))
           there t true f =
-              let same : m.to ≡ t = sym (is_at_same m.to t f) in
+              let same : m.to ≡ t = tells_apart exact_unsigned m.to t f in
               let hit : is_hit act t m ≡ true = and_from (nat_eq m.act act) (nat_eq m.to t) e (eq-eqb m.to t same) in
               own ∙ sym (ap (λ b. cond b m.guard (last_guard (take i moves) act t (guard_of side (item_in never old t)))) hit)
           there t false f =
-              let apart : m.to ≡ t → ⊥ = λ s. false≢true (sym f ∙ subst (λ q. is_at (nat_cmp m.to) q ≡ true) s (is_at_own m.to)) in
+              let apart : m.to ≡ t → ⊥ = λ s. false≢true (sym f ∙ subst (λ q. is_at (nat_cmp m.to) q ≡ true) s (is_at_own nat_cmp_total m.to)) in
               let miss : is_hit act t m ≡ false = and_right (nat_eq m.act act) (nat_eq m.to t) (ne_eqb m.to t apart) in
               a.there t ∙ sym (ap (λ b. cond b m.guard (last_guard (take i moves) act t (guard_of side (item_in never old t)))) miss)
 
           kept : (t : ℕ) (b : Bool) → is_at (nat_cmp m.to) t ≡ b → guard_of other (found_item never t (cond b (Some item) (lookup (is_at (nat_cmp t)) es))) ≡ guard_of other (item_in never es t)
-          kept t true f = across ∙ ap (λ q. guard_of other (item_in never es q)) (sym (is_at_same m.to t f))
+          kept t true f = across ∙ ap (λ q. guard_of other (item_in never es q)) (tells_apart exact_unsigned m.to t f)
           kept t false f = refl

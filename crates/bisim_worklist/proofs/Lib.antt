@@ -23,7 +23,6 @@ pub mod StepsBack
 pub mod ActionOrders
 pub mod ItemTables
 pub mod LastGuards
-pub mod AscendingLists
 pub mod FixedItems
 pub mod PlaceNumbers
 pub mod StoreCerts

@@ -1,6 +1,7 @@
 -- Rounds over pairs: the next one, one that changes nothing, and what stays.
 use Rattle.std.proofs.Common.{◌≡◌, ℕ, zero, suc, ◌+◌, ◌-◌, ◌<◌, ⊎_elim, List, [], ◌∷◌, get_or, set, refl, sym, ap, ◌∙◌, arith, Bool, true, false, cond, Option, Some, None}
 use Rattle.std.proofs.lemmas.Bool.{and_parts, and_from, or_cases, or_left, or_right}
+use Rattle.kat_model.proofs.Places.{get_or-set_kept}
 use Rattle.bisim_worklist.specs.Listings.{IdEntry}
 use Rattle.bisim_worklist.specs.Marks.{are_marked, with_marks, with_pair_marked, round_marked, rounds_marked, are_reached}
 
@@ -16,20 +17,13 @@ rounds_next n i ps marks h =
 
 -- ---- marks stay
 
-get_set_kept : (marks : List Bool) (k j : ℕ) → get_or marks j false ≡ true → get_or (set marks k true) j false ≡ true
-get_set_kept [] k j e = e
-get_set_kept (m ∷ marks) zero zero e = refl
-get_set_kept (m ∷ marks) zero (suc j) e = e
-get_set_kept (m ∷ marks) (suc k) zero e = e
-get_set_kept (m ∷ marks) (suc k) (suc j) e = get_set_kept marks k j e
-
 -- what is marked stays so with more marks
 abbrev pub Stays : List Bool → List Bool → Type 0
 Stays marks more = (j : ℕ) → get_or marks j false ≡ true → get_or more j false ≡ true
 
 marks_stay : (marks : List Bool) (ids : List ℕ) → Stays marks (with_marks marks ids)
 marks_stay marks [] j e = e
-marks_stay marks (i ∷ ids) j e = marks_stay (set marks i true) ids j (get_set_kept marks i j e)
+marks_stay marks (i ∷ ids) j e = marks_stay (set marks i true) ids j (get_or-set_kept marks i j true false e)
 
 pair_stays : (marks : List Bool) (p : IdEntry) → Stays marks (with_pair_marked marks p)
 pair_stays marks p = go (are_marked marks p.left) (are_marked marks p.right)

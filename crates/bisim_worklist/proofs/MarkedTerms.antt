@@ -9,7 +9,8 @@ use Rattle.kat_model.specs.Members.{Has, IsSubset}
 use Rattle.kat_model.specs.Pairs.{holds_all, with_pair, round, rounds, sat}
 use Rattle.kat_model.proofs.Lists.{has_left, has_right, has_append}
 use Rattle.kat_model.proofs.SameTrees.{holds_all-true, subset-holds_all}
-use Rattle.term_store.specs.Nodes.{Nodes, IsStore, IsTermId}
+use Rattle.kat_model.proofs.Places.{slice_get-set_same, slice_get-set_kept, slice_get-set_cases}
+use Rattle.term_store.specs.Nodes.{StoreParts, IsStore, IsTermId}
 use Rattle.term_store.specs.Trees.{tree_of}
 use Rattle.term_store.proofs.TermTrees.{one_id_a_tree}
 use Rattle.bisim_worklist.specs.Walks.{Entry, pairs_of}
@@ -17,36 +18,17 @@ use Rattle.bisim_worklist.specs.Listings.{IdEntry, terms_of, pair_of, entry_of, 
 use Rattle.bisim_worklist.specs.Marks.{are_marked, with_marks, with_pair_marked, round_marked, rounds_marked, saturated_marks}
 
 -- the numbers are ids of terms, as are those of both sides of each pair
-abbrev pub AreIds : Nodes → List ℕ → Type 0
+abbrev pub AreIds : StoreParts → List ℕ → Type 0
 AreIds store ks = (k : ℕ) → Has ks k → IsTermId store k
 
-abbrev pub ArePairIds : Nodes → List IdEntry → Type 0
+abbrev pub ArePairIds : StoreParts → List IdEntry → Type 0
 ArePairIds store ps = (p : IdEntry) → Has ps p → AreIds store p.left × AreIds store p.right
 
 -- the marked ids are those of the terms of the list
-abbrev pub MarksAre : Nodes → List Bool → List Term → Type 0
+abbrev pub MarksAre : StoreParts → List Bool → List Term → Type 0
 MarksAre store marks es = (e : Term) → ((k : ℕ) × (slice_get marks k ≡ Some true) × (tree_of store k ≡ e)) ↔ Has es e
 
 -- ---- one mark more
-
-get_set : (marks : List Bool) (k : ℕ) → k < length marks → slice_get (set marks k true) k ≡ Some true
-get_set [] k h = absurd (omega arith)
-get_set (m ∷ marks) zero h = refl
-get_set (m ∷ marks) (suc k) h = get_set marks k (omega arith)
-
-get_set_kept : (marks : List Bool) (k j : ℕ) → slice_get marks j ≡ Some true → slice_get (set marks k true) j ≡ Some true
-get_set_kept [] k j e = e
-get_set_kept (m ∷ marks) zero zero e = refl
-get_set_kept (m ∷ marks) zero (suc j) e = e
-get_set_kept (m ∷ marks) (suc k) zero e = e
-get_set_kept (m ∷ marks) (suc k) (suc j) e = get_set_kept marks k j e
-
-get_set_cases : (marks : List Bool) (k j : ℕ) → slice_get (set marks k true) j ≡ Some true → (j ≡ k) ⊎ (slice_get marks j ≡ Some true)
-get_set_cases [] k j e = inr e
-get_set_cases (m ∷ marks) zero zero e = inl refl
-get_set_cases (m ∷ marks) zero (suc j) e = inr e
-get_set_cases (m ∷ marks) (suc k) zero e = inr e
-get_set_cases (m ∷ marks) (suc k) (suc j) e = ⊎_elim (λ s. inl (ap suc s)) inr (get_set_cases marks k j e)
 
 pub length_with_marks : (marks : List Bool) (ks : List ℕ) → length (with_marks marks ks) ≡ length marks
 length_with_marks marks [] = refl
@@ -73,7 +55,7 @@ saturated_length n ps ks = length_rounds (length ps) ps (with_marks (replicate n
 
 -- ---- marks and terms
 
-module _ (store : Nodes) (is : IsStore store) where
+module _ (store : StoreParts) (is : IsStore store) where
   -- an id is marked exactly where its term is in the set
   pub marked_id : (marks : List Bool) (es : List Term) → length marks ≡ length store.terms → MarksAre store marks es → (k : ℕ) → IsTermId store k → (get_or marks k false ≡ true) ↔ Has es (tree_of store k)
   marked_id marks es l m k h = (
@@ -107,8 +89,8 @@ module _ (store : Nodes) (is : IsStore store) where
 
   one_more : (marks : List Bool) (es : List Term) (k : ℕ) → length marks ≡ length store.terms → MarksAre store marks es → IsTermId store k → MarksAre store (set marks k true) (tree_of store k ∷ es)
   one_more marks es k l m h e = (
-    (λ f. ⊎_elim (λ s. inl (ap (tree_of store) (sym s) ∙ f.2)) (λ r. inr ((m e).0 (f.0, r, f.2))) (get_set_cases marks k f.0 f.1)),
-    (λ r. ⊎_elim (λ s. (k, get_set marks k (omega (arith, l, h)), s)) (λ q. let f = (m e).1 q in (f.0, get_set_kept marks k f.0 f.1, f.2)) r),
+    (λ f. ⊎_elim (λ s. inl (ap (tree_of store) (sym s) ∙ f.2)) (λ r. inr ((m e).0 (f.0, r, f.2))) (slice_get-set_cases marks k f.0 true true f.1)),
+    (λ r. ⊎_elim (λ s. (k, slice_get-set_same marks k true (omega (arith, l, h)), s)) (λ q. let f = (m e).1 q in (f.0, slice_get-set_kept marks k f.0 true f.1, f.2)) r),
   )
 
   -- the marks of more ids stand for a set with their terms

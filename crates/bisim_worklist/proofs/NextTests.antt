@@ -3,17 +3,17 @@ use Rattle.std.proofs.Common.{◌≡◌, ◌<◌, ◌+◌, ℕ, ⊎_elim, List, 
 use Rattle.std.specs.Option.{MatchOption, IfSome}
 use Rattle.std.proofs.lemmas.List.{drop_more}
 use Rattle.kat_model.specs.Members.{Has}
-use Rattle.test_diagrams.specs.Functions.{Collection}
+use Rattle.test_diagrams.specs.Functions.{DiagramsParts}
 use Rattle.bisim_worklist.specs.declared.items.Item.{Item}
 use Rattle.bisim_worklist.specs.Cases.{IsConstantItem, HasNextTest, IsNextTest, AreConstant}
 
 -- a test of one item is one of the items
-pub next_of : (d : Collection) (items : List Item) (x : Item) → Has items x → (r : Option ℕ) → MatchOption r (IsConstantItem d x) (HasNextTest d x) → IfSome r (IsNextTest d items)
+pub next_of : (d : DiagramsParts) (items : List Item) (x : Item) → Has items x → (r : Option ℕ) → MatchOption r (IsConstantItem d x) (HasNextTest d x) → IfSome r (IsNextTest d items)
 next_of d items x h None m = tt
 next_of d items x h (Some test) m = record { item = x; member = h; depends = m }
 
 -- items are constant where one is and those after it are
-pub constant_next : (d : Collection) (items : List Item) (i : ℕ) (x : Item) → i < length items → x ≡ get_or items i x → IsConstantItem d x
+pub constant_next : (d : DiagramsParts) (items : List Item) (i : ℕ) (x : Item) → i < length items → x ≡ get_or items i x → IsConstantItem d x
     → (AreConstant d (drop i items) → AreConstant d items) → AreConstant d (drop (i + 1) items) → AreConstant d items
 constant_next d items i x lt is own before rest =
     before (subst (AreConstant d) (sym (drop_more items i x lt)) (λ y h. ⊎_elim (λ s. subst (IsConstantItem d) (is ∙ s) own) (λ r. rest y r) h))

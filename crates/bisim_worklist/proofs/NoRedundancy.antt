@@ -2,7 +2,7 @@
 use Rattle.std.proofs.Common.{◌≡◌, ◌+◌, ◌*◌, ◌≤◌, inl, inr, ⊎_elim, ℕ, List, [], ◌∷◌, ◌++◌, length, refl, sym, ap, subst}
 use Rattle.kat_model.specs.Trees.{Term, acts}
 use Rattle.kat_model.specs.Members.{Has, IsSubset, SameMembers}
-use Rattle.kat_model.specs.Problems.{Question}
+use Rattle.kat_model.specs.Problems.{ProblemParts}
 use Rattle.kat_model.specs.Steps.{Atom, next, set_next, reach}
 use Rattle.kat_model.specs.Closed.{closed_under, closed}
 use Rattle.kat_model.specs.Guarded.{IsGuarded, IsSingle}
@@ -20,7 +20,7 @@ use Rattle.bisim_worklist.specs.Walks.{closed_pair}
 
 -- ---- a property of pairs that the steps keep
 
-module _ (q : Question) (P : SetPair → Type 0) (kept : (from to : SetPair) (atom : Atom) (a : ℕ) → SameMembers (set_next from.left atom a) to.left → SameMembers (set_next from.right atom a) to.right → P from → P to) where
+module _ (q : ProblemParts) (P : SetPair → Type 0) (kept : (from to : SetPair) (atom : Atom) (a : ℕ) → SameMembers (set_next from.left atom a) to.left → SameMembers (set_next from.right atom a) to.right → P from → P to) where
   needed_have : (before ps : List SetPair) → AreNeeded q before ps → ((p : SetPair) → Has before p → P p) → (p : SetPair) → Has ps p → P p
   needed_have before [] all each p h = absurd h
   needed_have before (r ∷ ps) all each p h = ⊎_elim (λ e. subst P e own) (λ k. needed_have (before ++ r ∷ []) ps all.1 more p k) h
@@ -37,7 +37,7 @@ module _ (q : Question) (P : SetPair → Type 0) (kept : (from to : SetPair) (at
 
 -- ---- they are different
 
-module _ (q : Question) where
+module _ (q : ProblemParts) where
   -- none has the sets of one before
   not_again : (before ps : List SetPair) (p : SetPair) → AreNeeded q before ps → Has before p → IsListed ps p.left p.right → ⊥
   not_again before [] p all h l = l.listed
@@ -62,7 +62,7 @@ next_within e es fs atom a same within y h =
     let r = has_flat_map (λ x. next x atom a) es y ((same y).1 h) in
     inr (⊎_elim (λ s. next_reach atom a e y (subst (λ x. Has (next x atom a) y) (sym s) r.2)) (λ k. reach_next atom a e r.0 y k r.2) (within r.0 r.1))
 
-module _ (q : Question) (ps : List SetPair) (all : HasNoRedundantPair q (closed_pair q ∷ ps)) where
+module _ (q : ProblemParts) (ps : List SetPair) (all : HasNoRedundantPair q (closed_pair q ∷ ps)) where
   pub no_redundant_reached : AreReached (closed q).left (closed q).right (closed_pair q ∷ ps)
   no_redundant_reached =
       all_have q (λ p. IsSubset p.left ((closed q).left ∷ reach (closed q).left) × IsSubset p.right ((closed q).right ∷ reach (closed q).right))
@@ -86,7 +86,7 @@ single_kept : (e : Term) → IsGuarded e → (es fs : List Term) (atom : Atom) (
 single_kept e g es fs atom a same s = single_same e (set_next es atom a) fs same (single_next e (one_step_guarded g) (one_step_reached g) es atom a s)
 
 -- each side guarded, and the first pair that of the sides
-module _ (q : Question) (l r : Term) (left : IsGuarded l) (right : IsGuarded r) (ps : List SetPair) (all : HasNoRedundantPair q (record { left = l ∷ []; right = r ∷ [] } ∷ ps)) where
+module _ (q : ProblemParts) (l r : Term) (left : IsGuarded l) (right : IsGuarded r) (ps : List SetPair) (all : HasNoRedundantPair q (record { left = l ∷ []; right = r ∷ [] } ∷ ps)) where
   sides_single : AreSingle l r (record { left = l ∷ []; right = r ∷ [] } ∷ ps)
   sides_single =
       all_have q (λ p. IsSingle l p.left × IsSingle r p.right)
@@ -98,7 +98,7 @@ module _ (q : Question) (l r : Term) (left : IsGuarded l) (right : IsGuarded r) 
   sides_few = single_pairs_bound l r (record { left = l ∷ []; right = r ∷ [] } ∷ ps) (no_redundant_differ q (record { left = l ∷ []; right = r ∷ [] } ∷ ps) all) sides_single
 
 -- without hypotheses the closed sides are the sides
-pub guarded_few : (q : Question) (ps : List SetPair) → HasNoRedundantPair q (closed_pair q ∷ ps) → q.hyps ≡ [] → IsGuarded q.left → IsGuarded q.right → length (closed_pair q ∷ ps) ≤ (acts q.left + 2) * (acts q.right + 2)
+pub guarded_few : (q : ProblemParts) (ps : List SetPair) → HasNoRedundantPair q (closed_pair q ∷ ps) → q.hyps ≡ [] → IsGuarded q.left → IsGuarded q.right → length (closed_pair q ∷ ps) ≤ (acts q.left + 2) * (acts q.right + 2)
 guarded_few q ps all none left right =
     let same : closed_pair q ≡ record { left = q.left ∷ []; right = q.right ∷ [] } = ap (λ hs. pair_under hs) none in
     sides_few q q.left q.right left right ps (subst (λ (p : SetPair). HasNoRedundantPair q (p ∷ ps)) same all)
@@ -106,7 +106,7 @@ guarded_few q ps all none left right =
     pair_under : List Term → SetPair
     pair_under hs = record { left = (closed_under q.actions hs q.left q.right).left ∷ []; right = (closed_under q.actions hs q.left q.right).right ∷ [] }
 
-pub no_redundant_bounds : (q : Question) (rest : List SetPair) → HasNoRedundantPair q (closed_pair q ∷ rest) → AreFew q (closed_pair q ∷ rest)
+pub no_redundant_bounds : (q : ProblemParts) (rest : List SetPair) → HasNoRedundantPair q (closed_pair q ∷ rest) → AreFew q (closed_pair q ∷ rest)
 no_redundant_bounds q rest all = record {
   differ = no_redundant_differ q (closed_pair q ∷ rest) all;
   reached = no_redundant_reached q rest all;

@@ -1,17 +1,12 @@
 -- What rounds over pairs cannot mark.
 use Rattle.std.proofs.Common.{◌≡◌, ℕ, zero, suc, ◌⊎◌, inl, inr, ⊎_elim, List, [], ◌∷◌, get_or, set, refl, sym, ap, ◌∙◌, subst, Bool, true, false, ◌&&◌, ◌||◌, cond, Option, Some, None}
+use Rattle.std.proofs.lemmas.Bool.{and_right}
 use Rattle.kat_model.specs.Members.{Has, IsSubset}
+use Rattle.kat_model.proofs.Places.{get_or-set_cases}
 use Rattle.bisim_worklist.specs.Listings.{IdEntry}
 use Rattle.bisim_worklist.specs.Marks.{are_marked, with_marks, with_pair_marked, round_marked, rounds_marked, are_reached, RuleParts, AreMembers}
 use Rattle.bisim_worklist.proofs.MarkSteps.{Stays, rounds_keep}
 use Rattle.bisim_worklist.proofs.KeySets.{AreWithin}
-
-get_set_cases : (marks : List Bool) (k j : ℕ) → get_or (set marks k true) j false ≡ true → (k ≡ j) ⊎ (get_or marks j false ≡ true)
-get_set_cases [] k j e = inr e
-get_set_cases (m ∷ marks) zero zero e = inl refl
-get_set_cases (m ∷ marks) zero (suc j) e = inr e
-get_set_cases (m ∷ marks) (suc k) zero e = inr e
-get_set_cases (m ∷ marks) (suc k) (suc j) e = ⊎_elim (λ s. inl (ap suc s)) inr (get_set_cases marks k j e)
 
 -- what is marked was so, or is one of these
 abbrev pub IsFrom : List ℕ → List Bool → List Bool → Type 0
@@ -21,7 +16,7 @@ marks_from : (all : List ℕ) (marks : List Bool) (ids : List ℕ) → IsSubset 
 marks_from all marks [] s j e = inl e
 marks_from all marks (i ∷ ids) s j e =
     ⊎_elim
-    (λ h. ⊎_elim (λ own. inr (subst (Has all) own (s i (inl refl)))) inl (get_set_cases marks i j h))
+    (λ h. ⊎_elim (λ own. inr (subst (Has all) (sym own) (s i (inl refl)))) inl (get_or-set_cases marks i j true true false h))
     inr
     (marks_from all (set marks i true) ids (λ x h. s x (inr h)) j e)
 
@@ -56,16 +51,12 @@ same_bool false false f g = refl
 other_same : (all : List ℕ) (marks more : List Bool) → Stays marks more → IsFrom all marks more → (j : ℕ) → (Has all j → ⊥) → get_or more j false ≡ get_or marks j false
 other_same all marks more s f j none = same_bool (get_or more j false) (get_or marks j false) (s j) (λ e. ⊎_elim (λ h. h) (λ h. absurd (none h)) (f j e))
 
-and_false : (b : Bool) → (b && false) ≡ false
-and_false true = refl
-and_false false = refl
-
 unmarked : (marks : List Bool) (ids : List ℕ) (t : ℕ) → Has ids t → get_or marks t false ≡ false → are_marked marks ids ≡ false
 unmarked marks [] t h e = absurd h
 unmarked marks (i ∷ ids) t h e =
     ⊎_elim
     (λ own. ap (λ (b : Bool). b && are_marked marks ids) (subst (λ k. get_or marks k false ≡ false) (sym own) e))
-    (λ r. ap (λ (b : Bool). get_or marks i false && b) (unmarked marks ids t r e) ∙ and_false (get_or marks i false))
+    (λ r. and_right (get_or marks i false) (are_marked marks ids) (unmarked marks ids t r e))
     h
 
 -- where neither the universal term nor some target is or may be marked, rounds change nothing of what is reached

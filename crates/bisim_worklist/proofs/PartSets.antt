@@ -7,8 +7,10 @@ use Rattle.std.specs.BTreeSet.{insert_key}
 use Rattle.std.specs.declared.cmp.Ordering.TheVariants.{Less}
 use Rattle.std.proofs.lemmas.Bool.{and_from}
 use Rattle.std.proofs.lemmas.List.{drop_more, drop_all}
+use Rattle.std.proofs.lemmas.Map.Lookups.{exact_unsigned}
 use Rattle.kat_model.specs.Members.{Has, SameMembers}
 use Rattle.kat_model.proofs.Lists.{has_left, has_right, has_append}
+use Rattle.kat_model.proofs.SetKeys.{inserted_has}
 use Rattle.certificate.specs.Nodes.{are_ascending}
 use Rattle.term_store.specs.Nodes.{IsTestOver, IsOver}
 use Rattle.term_store.specs.declared.nodes.TestShape.{TestShape}
@@ -17,7 +19,6 @@ use Rattle.term_store.specs.declared.nodes.Shape.{Shape}
 use Rattle.term_store.specs.declared.nodes.Shape.TheVariants.{Zero, One, Test, Act, Sum, Seq, Star}
 use Rattle.bisim_worklist.specs.Needed.{IsPart, own, part, AreParts, AddsAll, terms_in, test_parts_in, members_of}
 use Rattle.bisim_worklist.specs.Listings.{IdEntry}
-use Rattle.bisim_worklist.proofs.KeySets.{inserted_has}
 
 -- ---- lists of numbers
 
@@ -97,14 +98,14 @@ module _ (N : Type 0) (nodes : List N) (named : N → List ℕ) (from : List ℕ
     under i h = ⊎_elim (λ o. let l = all_of (λ q. nat_cmp q k ≡ Less) rest less i o in grind (arith, l)) (smaller i) ((adds i).0 h)
 
     into : (i : ℕ) → Has all i → Has (insert_key nat_cmp all k) i
-    into i h = (inserted_has k all i).1 (inl h)
+    into i h = (inserted_has exact_unsigned k all i).1 (inl h)
 
     -- what was pending is so still, or was taken
     moved : (i : ℕ) → Has pending i → Has next i ⊎ Has (insert_key nat_cmp all k) i
     moved i h =
         ⊎_elim
         (λ o. inl ((adds i).1 (inl o)))
-        (λ s. ⊎_elim (λ is. inr ((inserted_has k all i).1 (inr is))) absurd s)
+        (λ s. ⊎_elim (λ is. inr ((inserted_has exact_unsigned k all i).1 (inr is))) absurd s)
         (has_append rest (k ∷ []) i (subst (λ l. Has l i) e h))
 
     kept : (i : ℕ) → Has pending i ⊎ Has all i → Has next i ⊎ Has (insert_key nat_cmp all k) i
@@ -115,18 +116,18 @@ module _ (N : Type 0) (nodes : List N) (named : N → List ℕ) (from : List ℕ
         ⊎_elim
         (λ o. kept j (g.parts i n o f j m))
         (λ s. let same : node ≡ n = some_same (sym at ∙ ap (slice_get nodes) s ∙ f) in inl ((adds j).1 (inr (subst (λ x. Has (named x) j) (sym same) m))))
-        ((inserted_has k all i).0 h)
+        ((inserted_has exact_unsigned k all i).0 h)
 
     -- the greatest id is taken, and its parts are added, which are less
     pub gathering_goes_on : (new : List ℕ) → new ≡ insert_key nat_cmp all k → IsGathering next new
     gathering_goes_on new inserted = subst (IsGathering next) (sym inserted) (record {
       pending_there = λ i h. let b = under i h in let c = g.pending_there k taken in omega (arith, b, c);
-      there = λ i h. ⊎_elim (λ o. g.there i o) (λ s. subst (λ n. n < length nodes) s (g.pending_there k taken)) ((inserted_has k all i).0 h);
-      below = λ i j h m. ⊎_elim (λ o. let b = under i h in let c = g.below k j taken o in omega (arith, b, c)) (λ s. subst (λ n. i < n) s (under i h)) ((inserted_has k all j).0 m);
+      there = λ i h. ⊎_elim (λ o. g.there i o) (λ s. subst (λ n. n < length nodes) s (g.pending_there k taken)) ((inserted_has exact_unsigned k all i).0 h);
+      below = λ i j h m. ⊎_elim (λ o. let b = under i h in let c = g.below k j taken o in omega (arith, b, c)) (λ s. subst (λ n. i < n) s (under i h)) ((inserted_has exact_unsigned k all j).0 m);
       holds = λ i h. kept i (g.holds i h);
       parts = parts_kept;
       pending_only = λ i h. ⊎_elim (λ o. g.pending_only i (old i o)) (λ m. part i k node (g.pending_only k taken) at m) ((adds i).0 h);
-      only = λ i h. ⊎_elim (λ o. g.only i o) (λ s. subst (IsPart N nodes named from) s (g.pending_only k taken)) ((inserted_has k all i).0 h);
+      only = λ i h. ⊎_elim (λ o. g.only i o) (λ s. subst (IsPart N nodes named from) s (g.pending_only k taken)) ((inserted_has exact_unsigned k all i).0 h);
     })
 
     -- and what is pending is bounded by it

@@ -1,7 +1,7 @@
 -- Parts of sets with the same members, and the tests that terms name.
 use Rattle.std.proofs.Common.{◌≡◌, ◌<◌, ⊎_elim, ℕ, List, length, sym, subst}
 use Rattle.kat_model.specs.Members.{Has, SameMembers}
-use Rattle.term_store.specs.Nodes.{Nodes, IsOver, IsStore}
+use Rattle.term_store.specs.Nodes.{StoreParts, IsOver, IsStore}
 use Rattle.term_store.specs.declared.nodes.Shape.{Shape}
 use Rattle.term_store.specs.declared.nodes.Shape.TheVariants.{Zero, One, Test, Act, Sum, Seq, Star}
 use Rattle.bisim_worklist.specs.Needed.{IsPart, own, part, AreParts, NamesTests, tests_in}
@@ -30,7 +30,7 @@ tests_below m k (Sum x y) o i h = absurd h
 tests_below m k (Seq x y) o i h = absurd h
 tests_below m k (Star x) o i h = absurd h
 
-pub named_there : (store : Nodes) → IsStore store → (terms named : List ℕ) → NamesTests store terms named → (i : ℕ) → Has named i → i < length store.tests
+pub named_there : (store : StoreParts) → IsStore store → (terms named : List ℕ) → NamesTests store terms named → (i : ℕ) → Has named i → i < length store.tests
 named_there store rules terms named names i h =
     let r = (names i).0 h in
     tests_below (length store.tests) r.0 r.1 (rules.terms_ordered r.0 r.1 r.3) i r.4

@@ -1,7 +1,7 @@
 -- The string that a walk spells to a pair that does not accept alike refutes, and none is shorter.
 use Rattle.std.proofs.Common.{◌≡◌, ◌≢◌, ◌+◌, ◌≤◌, ◌<◌, ◌⊎◌, ⊎_elim, ℕ, List, [], ◌∷◌, length, slice_get, Some, None, refl, sym, ap, ◌∙◌, subst, arith}
 use Rattle.std.proofs.lemmas.Option.{same_Some}
-use Rattle.kat_model.specs.Problems.{Question}
+use Rattle.kat_model.specs.Problems.{ProblemParts}
 use Rattle.kat_model.specs.Steps.{Atom, set_out, set_next}
 use Rattle.kat_model.specs.Strings.{Move, GuardedString, IsString, accepts, set_accepts}
 use Rattle.kat_model.specs.Closed.{closed}
@@ -19,7 +19,7 @@ use Rattle.bisim_worklist.proofs.Levels.{short_agree}
 abbrev pub SetsDiffer : SetPair → GuardedString → Type 0
 SetsDiffer p x = set_accepts p.left x.first x.rest ≢ set_accepts p.right x.first x.rest
 
-module _ (q : Question) where
+module _ (q : ProblemParts) where
   -- so it is with the pair that a step leads from, and the string after that step
   step_differs : (from to : SetPair) (o : Origin) (x : GuardedString) → IsNextOf q.tests q.actions from o.atom o.act to → SetsDiffer to x → SetsDiffer from (after_step o x)
   step_differs from to o x next ne same =

@@ -5,11 +5,11 @@ use Rattle.std.proofs.lemmas.List.{set-get_or, length-replicate}
 use Rattle.std.proofs.lemmas.Option.{slice_get-get_or}
 use Rattle.kat_model.specs.Members.{Has, SameMembers}
 use Rattle.kat_model.specs.Steps.{Atom, set_next}
-use Rattle.kat_model.specs.Problems.{Question}
+use Rattle.kat_model.specs.Problems.{ProblemParts}
 use Rattle.kat_model.specs.Pairs.{SetPair}
 use Rattle.kat_model.proofs.Lists.{has_map, map_has}
-use Rattle.term_store.specs.Nodes.{Nodes}
-use Rattle.test_diagrams.specs.Functions.{Collection, IsDiagramId, IsDiagramOf, IsIndependent, DependsOn, KeepsFunctions}
+use Rattle.term_store.specs.Nodes.{StoreParts}
+use Rattle.test_diagrams.specs.Functions.{DiagramsParts, IsDiagramId, IsDiagramOf, IsIndependent, DependsOn, KeepsFunctions}
 use Rattle.partial_derivs.specs.Moves.{IsTermOf}
 use Rattle.bisim_worklist.specs.Listings.{terms_of, entries_of}
 use Rattle.bisim_worklist.specs.Marks.{RuleParts}
@@ -26,10 +26,10 @@ use Rattle.bisim_worklist.proofs.Visiting.{grown_at, visited_both}
 
 -- ---- the test that is decided next
 
-depends_not : (d : Collection) (id k : ℕ) → DependsOn d id k → IsIndependent d id k → ⊥
+depends_not : (d : DiagramsParts) (id k : ℕ) → DependsOn d id k → IsIndependent d id k → ⊥
 depends_not d id k dep ind = dep.changes (ind dep.atom dep.fits false ∙ sym (ind dep.atom dep.fits true))
 
-pub next_open : (d : Collection) (decided : List (Option Bool)) (items : List Item) (test : ℕ) → IsCase d decided items → IsNextTest d items test → IsOpen decided test
+pub next_open : (d : DiagramsParts) (decided : List (Option Bool)) (items : List Item) (test : ℕ) → IsCase d decided items → IsNextTest d items test → IsOpen decided test
 next_open d decided items test is_case next = go (get_or decided test None) refl
   where
     here : slice_get decided test ≡ Some (get_or decided test None)
@@ -72,7 +72,7 @@ extends_without (Some c ∷ ds) (x ∷ xs) (suc k) b o h = let r = extends_witho
 
 -- ---- collections that keep their functions
 
-module _ (d e : Collection) (kept : KeepsFunctions d e) where
+module _ (d e : DiagramsParts) (kept : KeepsFunctions d e) where
   diagram_kept : (id : ℕ) (f : Atom → Bool) → IsDiagramOf d id f → IsDiagramOf e id f
   diagram_kept id f is = record { in_range = kept.ids id is.in_range; value = λ atom fits. kept.values id is.in_range atom ∙ is.value atom (fits ∙ kept.tests) }
 
@@ -96,7 +96,7 @@ module _ (d e : Collection) (kept : KeepsFunctions d e) where
   chosen_kept side [] atom own = refl
   chosen_kept side (i ∷ is) atom own = ap₂ (λ (b : Bool) (ts : List ℕ). cond b (i.target ∷ ts) ts) (kept.values (guard_of side i) (own i (inl refl)) atom) (chosen_kept side is atom (λ j h. own j (inr h)))
 
-  stands_kept : (q : Question) (store : Nodes) (items : List Item) (p : SetPair) (a : ℕ) (decided : List (Option Bool)) → AreItems d items → StandFor q store d items p a decided → StandFor q store e items p a decided
+  stands_kept : (q : ProblemParts) (store : StoreParts) (items : List Item) (p : SetPair) (a : ℕ) (decided : List (Option Bool)) → AreItems d items → StandFor q store d items p a decided → StandFor q store e items p a decided
   stands_kept q store items p a decided are stands = record {
     targets = stands.targets;
     lefts = λ atom wide c. subst (λ ts. SameMembers (set_next p.left atom a) (terms_of store ts)) (sym (chosen_kept Left items atom are.lefts)) (stands.lefts atom wide c);
@@ -106,10 +106,10 @@ module _ (d e : Collection) (kept : KeepsFunctions d e) where
 -- ---- the parts of a case
 
 -- what stands for the next sets at the atoms of one case has others that do at those of another
-abbrev pub Carries : (c : Collection) (items : List Item) (decided : List (Option Bool)) (d : Collection) (others : List Item) (more : List (Option Bool)) → Type 0
-Carries c items decided d others more = (q : Question) (store : Nodes) (p : SetPair) (a : ℕ) → c.tests ≡ q.tests → StandFor q store c items p a decided → StandFor q store d others p a more
+abbrev pub Carries : (c : DiagramsParts) (items : List Item) (decided : List (Option Bool)) (d : DiagramsParts) (others : List Item) (more : List (Option Bool)) → Type 0
+Carries c items decided d others more = (q : ProblemParts) (store : StoreParts) (p : SetPair) (a : ℕ) → c.tests ≡ q.tests → StandFor q store c items p a decided → StandFor q store d others p a more
 
-module _ (c d : Collection) (items others : List Item) (decided : List (Option Bool)) (test : ℕ) (value : Bool) (parts : AreItemsWith c d items test value others) (undecided : IsOpen decided test) (same : d.tests ≡ c.tests) where
+module _ (c d : DiagramsParts) (items others : List Item) (decided : List (Option Bool)) (test : ℕ) (value : Bool) (parts : AreItemsWith c d items test value others) (undecided : IsOpen decided test) (same : d.tests ≡ c.tests) where
   side_same : (side : Side) (atom : Atom) → length atom ≡ d.tests → get_or atom test false ≡ value → chosen c side items atom ≡ chosen d side others atom
   side_same side atom fits v = ap (chosen c side items) (sym (set-get_or atom test false) ∙ ap (set atom test) v) ∙ sym (parts.told side atom fits)
 
@@ -127,22 +127,22 @@ module _ (c d : Collection) (items others : List Item) (decided : List (Option B
   }
 
 -- the part that is made first, and one that is made after it
-pub first_carries : (c d e : Collection) (items others : List Item) (decided : List (Option Bool)) (test : ℕ) (value : Bool) → AreItemsWith c d items test value others → IsOpen decided test → KeepsFunctions c d → KeepsFunctions d e → Carries c items decided e others (set decided test (Some value))
+pub first_carries : (c d e : DiagramsParts) (items others : List Item) (decided : List (Option Bool)) (test : ℕ) (value : Bool) → AreItemsWith c d items test value others → IsOpen decided test → KeepsFunctions c d → KeepsFunctions d e → Carries c items decided e others (set decided test (Some value))
 first_carries c d e items others decided test value parts undecided k l q store p a tests stands =
     stands_kept d e l q store others p a (set decided test (Some value)) parts.are (part_stands c d items others decided test value parts undecided k.tests q store p a tests stands)
 
-pub second_carries : (b c d e : Collection) (items others : List Item) (decided : List (Option Bool)) (test : ℕ) (value : Bool) → AreItems b items → KeepsFunctions b c → AreItemsWith c d items test value others → IsOpen decided test → KeepsFunctions c d → KeepsFunctions d e → Carries b items decided e others (set decided test (Some value))
+pub second_carries : (b c d e : DiagramsParts) (items others : List Item) (decided : List (Option Bool)) (test : ℕ) (value : Bool) → AreItems b items → KeepsFunctions b c → AreItemsWith c d items test value others → IsOpen decided test → KeepsFunctions c d → KeepsFunctions d e → Carries b items decided e others (set decided test (Some value))
 second_carries b c d e items others decided test value are j parts undecided k l q store p a tests stands =
     first_carries c d e items others decided test value parts undecided k l q store p a (j.tests ∙ tests) (stands_kept b c j q store items p a decided are stands)
 
-module _ (c : Collection) (stride : Stride) (decided : List (Option Bool)) (items : List Item) (test : ℕ) (undecided : IsOpen decided test) (value : Bool) where
+module _ (c : DiagramsParts) (stride : Stride) (decided : List (Option Bool)) (items : List Item) (test : ℕ) (undecided : IsOpen decided test) (value : Bool) where
   either : (x y : Bool) (atom : Atom) → Extends decided atom → get_or atom test false ≡ y → Extends (set decided test (Some x)) atom ⊎ Extends (set decided test (Some (not x))) atom
   either true true atom h e = inl (extends_with decided atom test true undecided h e)
   either true false atom h e = inr (extends_with decided atom test false undecided h e)
   either false true atom h e = inr (extends_with decided atom test true undecided h e)
   either false false atom h e = inl (extends_with decided atom test false undecided h e)
 
-  pub visits_both : (d e : Collection) (one other : List Item) (old middle new : RuleParts) → d.tests ≡ c.tests → e.tests ≡ c.tests
+  pub visits_both : (d e : DiagramsParts) (one other : List Item) (old middle new : RuleParts) → d.tests ≡ c.tests → e.tests ≡ c.tests
       → Carries c items decided d one (set decided test (Some value))
       → Carries c items decided e other (set decided test (Some (not value)))
       → Visits d stride (set decided test (Some value)) one old middle
@@ -170,7 +170,7 @@ none_decided zero k b e = absurd cc
 none_decided (suc n) zero b e = absurd cc
 none_decided (suc n) (suc k) b e = none_decided n k b e
 
-pub whole_case : (d : Collection) (decided : List (Option Bool)) (items : List Item) → decided ≡ replicate d.tests None → AreItems d items → IsCase d decided items
+pub whole_case : (d : DiagramsParts) (decided : List (Option Bool)) (items : List Item) → decided ≡ replicate d.tests None → AreItems d items → IsCase d decided items
 whole_case d decided items e are = record {
   tests = ap length e ∙ length-replicate d.tests None;
   are = are;

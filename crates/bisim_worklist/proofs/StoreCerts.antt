@@ -10,7 +10,7 @@ use Rattle.certificate.specs.declared.nodes.TermNode.{TermNode}
 use Rattle.certificate.specs.declared.nodes.Style.TheVariants.{UpTo}
 use Rattle.certificate.specs.Nodes.{test_parts, term_parts, tests_of_term, are_below, are_ascending, NumberPair}
 use Rattle.certificate.specs.Certs.{CertParts, cert_of, IsNumberSet, IsCert}
-use Rattle.term_store.specs.Nodes.{Nodes, IsStore}
+use Rattle.term_store.specs.Nodes.{StoreParts, IsStore}
 use Rattle.term_store.specs.declared.nodes.TestShape.{TestShape}
 use Rattle.term_store.specs.declared.nodes.TestShape.TheVariants as test
 use Rattle.term_store.specs.declared.nodes.Shape.{Shape}
@@ -18,12 +18,12 @@ use Rattle.term_store.specs.declared.nodes.Shape.TheVariants.{Zero, One, Test, A
 use Rattle.bisim_worklist.specs.Listings.{IdEntry, AreIdSets}
 use Rattle.bisim_worklist.specs.Needed.{AreParts, NamesTests, terms_in, tests_in, test_parts_in, members_of}
 use Rattle.bisim_worklist.specs.Numbering.{number_of, numbers_of, number_pair_of, test_node_of, term_node_of, test_nodes_of, term_nodes_of}
-use Rattle.bisim_worklist.proofs.AscendingLists.{ascending_once}
+use Rattle.certificate.proofs.Ascending.{ascending_once}
 use Rattle.bisim_worklist.proofs.PartSets.{terms_less, tests_less, member_of}
 use Rattle.bisim_worklist.proofs.PlaceNumbers.{number_within, number_of_place, number_once, number_less, numbers_below, numbers_ascend, once_mapped, mapped_at}
 
 -- the certificate
-abbrev pub numbered_cert : Nodes → List ℕ → List ℕ → List IdEntry → CertParts
+abbrev pub numbered_cert : StoreParts → List ℕ → List ℕ → List IdEntry → CertParts
 numbered_cert store tests terms es = cert_of UpTo (test_nodes_of store tests tests) (term_nodes_of store tests terms terms) (map (number_pair_of terms) es)
 
 -- a node names the numbers of what the node of the store names
@@ -100,27 +100,27 @@ module _ (tests : List ℕ) where
     same_shape _ _ m n p q e = cc
 
 -- the ids of pairs with all their parts, and the tests that they name with all theirs
-pub record AreNeeded (store : Nodes) (es : List IdEntry) (terms named tests : List ℕ) : Type 0 where
+pub record AreNeeded (store : StoreParts) (es : List IdEntry) (terms named tests : List ℕ) : Type 0 where
   pub rules : IsStore store
   pub of_terms : AreParts Shape store.terms terms_in (members_of es) terms
   pub names : NamesTests store terms named
   pub of_tests : AreParts TestShape store.tests test_parts_in named tests
 
 -- the members of pairs are ids
-pub members_are_ids : (store : Nodes) (n : ℕ) (es : List IdEntry) → AreIdSets store n es → (i : ℕ) → Has (members_of es) i → i < length store.terms
+pub members_are_ids : (store : StoreParts) (n : ℕ) (es : List IdEntry) → AreIdSets store n es → (i : ℕ) → Has (members_of es) i → i < length store.terms
 members_are_ids store n es sets i h =
     let r = has_flat_map (λ (e : IdEntry). e.left ++ e.right) es i h in
     let set = sets r.0 r.1 in
     ⊎_elim (λ l. (set.0.there i l).is_id) (λ m. (set.1.there i m).is_id) (has_append r.0.left r.0.right i r.2)
 
 -- the nodes of ids
-abbrev pub test_at : Nodes → ℕ → TestShape
+abbrev pub test_at : StoreParts → ℕ → TestShape
 test_at store i = get_or store.tests i test.False
 
-abbrev pub term_at : Nodes → ℕ → Shape
+abbrev pub term_at : StoreParts → ℕ → Shape
 term_at store i = get_or store.terms i Zero
 
-module _ (store : Nodes) (es : List IdEntry) (terms named tests : List ℕ) (needed : AreNeeded store es terms named tests) where
+module _ (store : StoreParts) (es : List IdEntry) (terms named tests : List ℕ) (needed : AreNeeded store es terms named tests) where
   pub test_there : (i : ℕ) → Has tests i → slice_get store.tests i ≡ Some (test_at store i)
   test_there i h = slice_get-get_or store.tests i test.False (needed.of_tests.there i h)
 

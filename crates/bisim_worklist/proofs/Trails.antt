@@ -2,12 +2,12 @@
 use Rattle.std.proofs.Common.{◌≡◌, ◌≤◌, ◌<◌, ℕ, zero, suc, List, [], ◌∷◌, length, slice_get, Option, Some, None, refl, sym, ap, ◌∙◌, subst, arith}
 use Rattle.std.proofs.lemmas.Option.{slice_get_within, same_Some}
 use Rattle.kat_model.specs.Members.{Has}
-use Rattle.kat_model.specs.Problems.{Question}
+use Rattle.kat_model.specs.Problems.{ProblemParts}
 use Rattle.bisim_worklist.specs.Walks.{Origin, Entry, IsNextOf, IsFoundBy, IsWalk, IsTrail}
-use Rattle.bisim_worklist.proofs.Entries.{at_place, place_of}
+use Rattle.kat_model.proofs.Places.{element_at, place_of_member}
 use Rattle.bisim_worklist.proofs.WalkSteps.{first_entry}
 
-module _ (q : Question) (es : List Entry) (done : ℕ) (walk : IsWalk q es done) where
+module _ (q : ProblemParts) (es : List Entry) (done : ℕ) (walk : IsWalk q es done) where
   -- the first entry has no origin, and each other has one
   first_has_none : (e : Entry) (o : Origin) → slice_get es 0 ≡ Some e → e.origin ≡ Some o → ⊥
   first_has_none e o h is =
@@ -46,7 +46,7 @@ module _ (q : Question) (es : List Entry) (done : ℕ) (walk : IsWalk q es done)
   trail_below zero k l within = absurd (omega arith)
   trail_below (suc n) zero l within = ([], refl)
   trail_below (suc n) (suc k) l within =
-      let at = at_place es (suc k) within in
+      let at = element_at es (suc k) within in
       let c = walk.origins k at.0 at.1 in
       let rest = trail_below n c.origin.place (let e = c.earlier in omega arith) (slice_get_within es c.origin.place c.from c.at) in
       (c.origin ∷ rest.0, ((at.0, at.1, c.is), rest.1))
@@ -56,7 +56,7 @@ module _ (q : Question) (es : List Entry) (done : ℕ) (walk : IsWalk q es done)
 
   -- an entry that is found by place k has a trail that is at most one longer
   pub found_trail : (k : ℕ) (os : List Origin) (e : Entry) → IsTrail es k os → Has es e → IsFoundBy k e.origin → (j : ℕ) × (slice_get es j ≡ Some e) × ((ps : List Origin) × IsTrail es j ps × (length ps ≤ suc (length os)))
-  found_trail k os e t h found = let place = place_of es e h in go e.origin place.0 refl found place.1
+  found_trail k os e t h found = let place = place_of_member es e h in go e.origin place.0 refl found place.1
     where
       go : (r : Option Origin) (j : ℕ) → e.origin ≡ r → IsFoundBy k r → slice_get es j ≡ Some e → (j : ℕ) × (slice_get es j ≡ Some e) × ((ps : List Origin) × IsTrail es j ps × (length ps ≤ suc (length os)))
       go None j is by at = (j, at, ([], no_origin_first j e at is, omega arith))

@@ -1,20 +1,16 @@
 -- How an atom is found at which a diagram is true, test by test.
 use Rattle.std.proofs.Common.{◌≡◌, ◌≢◌, ◌<◌, ◌+◌, ℕ, Bool, true, false, nat_eq, [], ◌∷◌, ◌++◌, length, get_or, set, drop, refl, sym, ap, ◌∙◌, arith, append_assoc, append-nil, ◌≤◌}
 use Rattle.std.specs.Bool.{IsTrue}
-use Rattle.std.proofs.lemmas.Bool.{false≢true}
+use Rattle.std.proofs.lemmas.Bool.{true_from_ne_false, false≢true}
 use Rattle.std.proofs.lemmas.List.{set-get_or, drop-set, drop_all}
 use Rattle.std.proofs.Math.ListN.{length-set}
 use Rattle.kat_model.specs.Steps.{Atom}
-use Rattle.test_diagrams.specs.Functions.{Collection, value_of, IsDiagramId, IsAtomOf, IsDiagramOf, KeepsFunctions}
+use Rattle.test_diagrams.specs.Functions.{DiagramsParts, value_of, IsDiagramId, IsAtomOf, IsDiagramOf, KeepsFunctions}
 use Rattle.test_diagrams.specs.Reduced.{IsReduced}
 use Rattle.test_diagrams.proofs.Apart.{different_apart}
 use Rattle.bisim_worklist.specs.Outputs.{one_of, IsSomewhereTrue, IsFirstValue}
 
-not_false : (b : Bool) → b ≢ false → b ≡ true
-not_false true n = refl
-not_false false n = absurd (n refl)
-
-module _ (d e : Collection) (id low never test : ℕ) (tests : e.tests ≡ d.tests) (is_low : IsDiagramOf e low (λ atom. value_of d id (set atom test false))) (is_never : IsDiagramOf e never (λ atom. false)) where
+module _ (d e : DiagramsParts) (id low never test : ℕ) (tests : e.tests ≡ d.tests) (is_low : IsDiagramOf e low (λ atom. value_of d id (set atom test false))) (is_never : IsDiagramOf e never (λ atom. false)) where
   -- where nothing is true with the value false, something is with the other
   other_value : low ≡ never → IsSomewhereTrue d id → IsFirstValue d id test true
   other_value same s = go (get_or s.atom test false) refl
@@ -32,7 +28,7 @@ module _ (d e : Collection) (id low never test : ℕ) (tests : e.tests ≡ d.tes
       record {
         atom = apart.atom;
         fits = apart.fits ∙ tests;
-        holds = sym (is_low.value apart.atom apart.fits) ∙ not_false (value_of e low apart.atom) (λ f. apart.apart (f ∙ sym (is_never.value apart.atom apart.fits)));
+        holds = sym (is_low.value apart.atom apart.fits) ∙ true_from_ne_false (value_of e low apart.atom) (λ f. apart.apart (f ∙ sym (is_never.value apart.atom apart.fits)));
       }
 
   pub value_found : (b : Bool) → b ≡ nat_eq low never → IsReduced e → IsSomewhereTrue d id → IsFirstValue d id test b
@@ -42,17 +38,17 @@ module _ (d e : Collection) (id low never test : ℕ) (tests : e.tests ≡ d.tes
 -- ---- test by test
 
 -- the rest is true somewhere, and has the values of the diagram where the first tests have those of the atom
-pub record IsRest (d : Collection) (id : ℕ) (e : Collection) (rest : ℕ) (atom : Atom) (k : ℕ) : Type 0 where
+pub record IsRest (d : DiagramsParts) (id : ℕ) (e : DiagramsParts) (rest : ℕ) (atom : Atom) (k : ℕ) : Type 0 where
   pub kept : KeepsFunctions d e
   pub is_id : IsDiagramId e rest
   pub somewhere : IsSomewhereTrue e rest
   pub count : length atom ≡ k
   pub told : (b : Atom) → IsAtomOf e b → value_of e rest b ≡ value_of d id (atom ++ drop k b)
 
-pub rest_first : (d : Collection) (id : ℕ) → IsDiagramId d id → KeepsFunctions d d → IsSomewhereTrue d id → IsRest d id d id [] 0
+pub rest_first : (d : DiagramsParts) (id : ℕ) → IsDiagramId d id → KeepsFunctions d d → IsSomewhereTrue d id → IsRest d id d id [] 0
 rest_first d id is kept s = record { kept = kept; is_id = is; somewhere = s; count = refl; told = λ b fits. refl }
 
-pub rest_next : (d : Collection) (id : ℕ) (e f g : Collection) (rest next : ℕ) (atom : Atom) (k : ℕ) (value : Bool) → KeepsFunctions d g → IsRest d id e rest atom k → k < e.tests → KeepsFunctions e f → KeepsFunctions f g
+pub rest_next : (d : DiagramsParts) (id : ℕ) (e f g : DiagramsParts) (rest next : ℕ) (atom : Atom) (k : ℕ) (value : Bool) → KeepsFunctions d g → IsRest d id e rest atom k → k < e.tests → KeepsFunctions e f → KeepsFunctions f g
     → IsFirstValue e rest k value → IsDiagramOf g next (λ b. value_of f rest (set b k value)) → IsRest d id g next (atom ++ value ∷ []) (k + 1)
 rest_next d id e f g rest next atom k value all r lt kept more first is = record {
   kept = all;
@@ -74,7 +70,7 @@ rest_next d id e f g rest next atom k value all r lt kept more first is = record
     grown [] = refl
     grown (x ∷ xs) = let g = grown xs in omega (arith, g)
 
-pub rest_last : (d : Collection) (id : ℕ) (e : Collection) (rest : ℕ) (atom : Atom) (k : ℕ) → IsRest d id e rest atom k → e.tests ≤ k → IsTrue (value_of d id atom)
+pub rest_last : (d : DiagramsParts) (id : ℕ) (e : DiagramsParts) (rest : ℕ) (atom : Atom) (k : ℕ) → IsRest d id e rest atom k → e.tests ≤ k → IsTrue (value_of d id atom)
 rest_last d id e rest atom k r n =
     let s = r.somewhere in
     let gone : drop k s.atom ≡ [] = drop_all k s.atom (omega (arith, s.fits, n)) in
@@ -94,7 +90,7 @@ differ_one true false e s = absurd cc
 differ_one false true e s = absurd cc
 differ_one false false e s = absurd cc
 
-module _ (d e : Collection) (a b id : ℕ) (kept : KeepsFunctions d e) (first : IsDiagramId d a) (second : IsDiagramId d b) (is : IsDiagramOf e id (λ atom. one_of (value_of d a atom) (value_of d b atom))) where
+module _ (d e : DiagramsParts) (a b id : ℕ) (kept : KeepsFunctions d e) (first : IsDiagramId d a) (second : IsDiagramId d b) (is : IsDiagramOf e id (λ atom. one_of (value_of d a atom) (value_of d b atom))) where
   pub apart_somewhere : IsReduced e → a ≢ b → IsSomewhereTrue e id
   apart_somewhere r two =
       let apart = different_apart e r a b (kept.ids a first) (kept.ids b second) two in

@@ -3,16 +3,17 @@
 use Rattle.std.proofs.Common.{◌≡◌, ◌<◌, ◌⊎◌, inl, ⊎_elim, ℕ, List, [], ◌∷◌, ◌++◌, length, slice_get, Some, refl, sym, ap, ◌∙◌, subst, append-nil, append_assoc}
 use Rattle.kat_model.specs.Trees.{Term}
 use Rattle.kat_model.specs.Members.{IsSubset, SameMembers}
-use Rattle.kat_model.specs.Problems.{Question}
+use Rattle.kat_model.specs.Problems.{ProblemParts}
 use Rattle.kat_model.specs.Steps.{Atom, set_next}
 use Rattle.kat_model.specs.Closed.{closed}
 use Rattle.kat_model.specs.Pairs.{SetPair, IsCongruent}
 use Rattle.kat_model.proofs.Lists.{has_right}
+use Rattle.kat_model.proofs.Places.{slice_get-append_some}
 use Rattle.bisim_worklist.specs.Covered.{IsBetween, IsCovered}
 use Rattle.bisim_worklist.specs.Walks.{Origin, Entry, pairs_of, IsNextOf, AreCongruentAfter, IsWalk}
 use Rattle.bisim_worklist.specs.Visits.{Grows, IsVisited}
 use Rattle.bisim_worklist.proofs.Covered.{covered_congruent, congruent_covered, listed_congruent}
-use Rattle.bisim_worklist.proofs.Entries.{kept_at, pairs_of-append, has_pair}
+use Rattle.bisim_worklist.proofs.Entries.{pairs_of-append, has_pair}
 use Rattle.bisim_worklist.proofs.MorePairs.{congruent_front}
 use Rattle.bisim_worklist.proofs.WalkSteps.{walk_lists}
 
@@ -25,9 +26,9 @@ pub grows_then : (es fs gs : List Entry) → Grows es fs → Grows fs gs → Gro
 grows_then es fs gs g h = record { more = g.more ++ h.more; is = h.is ∙ ap (λ xs. xs ++ h.more) g.is ∙ append_assoc es g.more h.more }
 
 pub grown_at : (es fs : List Entry) (k : ℕ) (e : Entry) → Grows es fs → slice_get es k ≡ Some e → slice_get fs k ≡ Some e
-grown_at es fs k e g h = subst (λ xs. slice_get xs k ≡ Some e) (sym g.is) (kept_at es g.more k e h)
+grown_at es fs k e g h = subst (λ xs. slice_get xs k ≡ Some e) (sym g.is) (slice_get-append_some es g.more k e h)
 
-module _ (q : Question) (es fs : List Entry) (g : Grows es fs) where
+module _ (q : ProblemParts) (es fs : List Entry) (g : Grows es fs) where
   grown_pairs : pairs_of fs ≡ pairs_of es ++ pairs_of g.more
   grown_pairs = ap pairs_of g.is ∙ pairs_of-append es g.more
 
@@ -39,7 +40,7 @@ module _ (q : Question) (es fs : List Entry) (g : Grows es fs) where
 
 -- ---- cases
 
-module _ (q : Question) (done : ℕ) (p : SetPair) (a : ℕ) where
+module _ (q : ProblemParts) (done : ℕ) (p : SetPair) (a : ℕ) where
   -- a case that is covered lists nothing
   pub visited_covered : (es : List Entry) (IsCase : Atom → Type 0) (sure_left sure_right open_left open_right : List Term)
       → IsWalk q es done
@@ -71,7 +72,7 @@ module _ (q : Question) (done : ℕ) (p : SetPair) (a : ℕ) where
   }
 
 -- a case that is not covered, in which all terms are sure, lists their pair
-module _ (q : Question) (es : List Entry) (done : ℕ) (from : Entry) (r : SetPair) (o : Origin) (IsCase : Atom → Type 0) (open_left open_right : List Term) where
+module _ (q : ProblemParts) (es : List Entry) (done : ℕ) (from : Entry) (r : SetPair) (o : Origin) (IsCase : Atom → Type 0) (open_left open_right : List Term) where
   pub visited_listed : IsWalk q es done
       → slice_get es done ≡ Some from
       → o.place ≡ done

@@ -2,22 +2,22 @@
 use Rattle.std.proofs.Common.{◌≡◌, ◌≤◌, ◌<◌, ◌⊎◌, ⊎_elim, ℕ, zero, suc, List, [], ◌∷◌, ◌++◌, slice_get, Some, None, refl, sym, ap, ◌∙◌, subst, arith, append-nil, append_assoc}
 use Rattle.std.proofs.lemmas.Option.{slice_get_within, same_Some}
 use Rattle.kat_model.specs.Members.{Has}
-use Rattle.kat_model.specs.Problems.{Question}
+use Rattle.kat_model.specs.Problems.{ProblemParts}
 use Rattle.kat_model.specs.Closed.{closed}
 use Rattle.kat_model.specs.Pairs.{SetPair, IsCongruent}
 use Rattle.kat_model.proofs.Lists.{has_left, has_append}
-use Rattle.kat_model.proofs.Places.{has_at, slice_get_last}
+use Rattle.kat_model.proofs.Places.{has_at, slice_get-append_some, slice_get_last}
 use Rattle.bisim_worklist.specs.Decisions.{IsNeeded, AreNeeded, HasNoRedundantPair}
 use Rattle.bisim_worklist.specs.Walks.{Origin, Entry, pairs_of, closed_pair, IsNextOf, ComesFrom, IsFoundBy, AreInOrder, IsSettled, IsProcessed, IsWalk}
-use Rattle.bisim_worklist.proofs.Entries.{kept_at, pairs_of-append, has_pair, pair_has, found_later}
+use Rattle.bisim_worklist.proofs.Entries.{pairs_of-append, has_pair, pair_has, found_later}
 
 -- ---- the start
 
 -- the walk with the closed pair alone
-abbrev pub first_entry : Question → Entry
+abbrev pub first_entry : ProblemParts → Entry
 first_entry q = record { pair = closed_pair q; origin = None }
 
-pub walk_starts : (q : Question) → IsWalk q (first_entry q ∷ []) 0
+pub walk_starts : (q : ProblemParts) → IsWalk q (first_entry q ∷ []) 0
 walk_starts q = record {
   first = refl;
   origins = λ k e h. absurd cc;
@@ -33,16 +33,16 @@ walk_starts q = record {
 
 -- ---- one pair more
 
-needed_more : (q : Question) (before ps : List SetPair) (p : SetPair) → AreNeeded q before ps → IsNeeded q (before ++ ps) p → AreNeeded q before (ps ++ p ∷ [])
+needed_more : (q : ProblemParts) (before ps : List SetPair) (p : SetPair) → AreNeeded q before ps → IsNeeded q (before ++ ps) p → AreNeeded q before (ps ++ p ∷ [])
 needed_more q before [] p all new = (subst (λ z. IsNeeded q z p) (append-nil before) new, tt)
 needed_more q before (r ∷ ps) p all new = (all.0, needed_more q (before ++ r ∷ []) ps p all.1 (subst (λ z. IsNeeded q z p) (sym (append_assoc before (r ∷ []) ps)) new))
 
-pub no_redundant_more : (q : Question) (ps : List SetPair) (p : SetPair) → HasNoRedundantPair q ps → IsNeeded q ps p → HasNoRedundantPair q (ps ++ p ∷ [])
+pub no_redundant_more : (q : ProblemParts) (ps : List SetPair) (p : SetPair) → HasNoRedundantPair q ps → IsNeeded q ps p → HasNoRedundantPair q (ps ++ p ∷ [])
 no_redundant_more q [] p all new = tt
 no_redundant_more q (r ∷ ps) p all new = needed_more q (r ∷ []) ps p all new
 
 -- the step from the pair that is being processed leads to a pair that is not congruent yet
-module _ (q : Question) (es : List Entry) (done : ℕ) (walk : IsWalk q es done) where
+module _ (q : ProblemParts) (es : List Entry) (done : ℕ) (walk : IsWalk q es done) where
   module _ (from : Entry) (here : slice_get es done ≡ Some from) (p : SetPair) (o : Origin) (at : o.place ≡ done) (next : IsNextOf q.tests q.actions from.pair o.atom o.act p) (fresh : IsCongruent (closed q).universal (pairs_of es) p.left p.right → ⊥) where
     abbrev new_entry : Entry
     new_entry = record { pair = p; origin = Some o }
@@ -60,14 +60,14 @@ module _ (q : Question) (es : List Entry) (done : ℕ) (walk : IsWalk q es done)
         ⊎_elim
         (λ old.
         let c = walk.origins k e old in
-        record { origin = c.origin; is = c.is; from = c.from; at = kept_at es (new_entry ∷ []) c.origin.place c.from c.at; earlier = c.earlier; next = c.next })
+        record { origin = c.origin; is = c.is; from = c.from; at = slice_get-append_some es (new_entry ∷ []) c.origin.place c.from c.at; earlier = c.earlier; next = c.next })
         (λ last.
         subst (ComesFrom q (es ++ new_entry ∷ []) k) last.1
         (record {
           origin = o;
           is = refl;
           from = from;
-          at = kept_at es (new_entry ∷ []) o.place from (subst (λ n. slice_get es n ≡ Some from) (sym at) here);
+          at = slice_get-append_some es (new_entry ∷ []) o.place from (subst (λ n. slice_get es n ≡ Some from) (sym at) here);
           earlier = let l = slice_get_within es done from here in let n = last.0 in omega arith;
           next = next;
         }))
@@ -105,7 +105,7 @@ module _ (q : Question) (es : List Entry) (done : ℕ) (walk : IsWalk q es done)
     -- it is listed at the end
     pub walk_lists : IsWalk q (es ++ record { pair = p; origin = Some o } ∷ []) done
     walk_lists = record {
-      first = kept_at es (new_entry ∷ []) 0 (first_entry q) walk.first;
+      first = slice_get-append_some es (new_entry ∷ []) 0 (first_entry q) walk.first;
       origins = new_origins;
       needed = subst (HasNoRedundantPair q) (sym (pairs_of-append es (new_entry ∷ []))) (no_redundant_more q (pairs_of es) p walk.needed new_needed);
       in_order = new_in_order;

@@ -1,6 +1,6 @@
 -- Whether sets of targets are congruent as far as the decided tests tell.
 use Rattle.std.specs.Prelude.{◌&&◌, Bool, false, true, List}
-use Rattle.test_diagrams.specs.Functions.{Collection, IsDiagramOf}
+use Rattle.test_diagrams.specs.Functions.{DiagramsParts, IsDiagramOf}
 use Rattle.bisim_worklist.specs.declared.items.Item.{Item}
 use Rattle.bisim_worklist.specs.declared.items.Ends.{Ends}
 use Rattle.bisim_worklist.specs.declared.items.Side.{Side}
@@ -9,7 +9,7 @@ use Rattle.bisim_worklist.specs.Items.{targets_under, open_targets}
 use Rattle.bisim_worklist.specs.Marks.{RuleParts, reaches_targets}
 
 -- the ids are those of the constants
-pub record AreEnds (d : Collection) (ends : Ends) : Type 0 where
+pub record AreEnds (d : DiagramsParts) (ends : Ends) : Type 0 where
   pub never : IsDiagramOf d ends.never (λ atom. false)
   pub always : IsDiagramOf d ends.always (λ atom. true)
 

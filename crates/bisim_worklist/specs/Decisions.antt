@@ -5,7 +5,7 @@ use Rattle.kat_model.specs.Trees.{Term, acts}
 use Rattle.kat_model.specs.Members.{Has, SameMembers}
 use Rattle.kat_model.specs.Steps.{Atom, set_next}
 use Rattle.kat_model.specs.Strings.{GuardedString}
-use Rattle.kat_model.specs.Problems.{Question}
+use Rattle.kat_model.specs.Problems.{ProblemParts}
 use Rattle.kat_model.specs.Relations.{Same}
 use Rattle.kat_model.specs.Closed.{closed}
 use Rattle.kat_model.specs.Pairs.{SetPair, IsCongruent, AllDiffer}
@@ -15,7 +15,7 @@ use Rattle.certificate.specs.declared.evidence.Evidence.{Evidence}
 use Rattle.certificate.specs.declared.evidence.Evidence.TheVariants.{Equal, Different}
 use Rattle.certificate.specs.Certs.{CertParts}
 use Rattle.certificate.specs.Accepted.{set_pairs, term_trees, IsAccepted}
-use Rattle.term_store.specs.Nodes.{Nodes}
+use Rattle.term_store.specs.Nodes.{StoreParts}
 use Rattle.term_store.specs.Trees.{HasTree}
 
 -- a step under some atom by some action leads from the sets of one pair to those of the other
@@ -28,28 +28,28 @@ pub record LeadsTo (tests actions : ℕ) (from to : SetPair) : Type 0 where
   pub rights : SameMembers (set_next from.right atom act) to.right
 
 -- a step leads to the pair from one of those before it, under which it is not congruent
-pub record IsNeeded (q : Question) (before : List SetPair) (p : SetPair) : Type 0 where
+pub record IsNeeded (q : ProblemParts) (before : List SetPair) (p : SetPair) : Type 0 where
   pub from : SetPair
   pub earlier : Has before from
   pub leads : LeadsTo q.tests q.actions from p
   pub fresh : IsCongruent (closed q).universal before p.left p.right → ⊥
 
 -- each of the pairs is needed after those before it
-abbrev pub AreNeeded : Question → List SetPair → List SetPair → Type 0
+abbrev pub AreNeeded : ProblemParts → List SetPair → List SetPair → Type 0
 AreNeeded q before [] = Unit {0}
 AreNeeded q before (p ∷ ps) = IsNeeded q before p × AreNeeded q (before ++ p ∷ []) ps
 
 -- each pair after the first is needed
-abbrev pub HasNoRedundantPair : Question → List SetPair → Type 0
+abbrev pub HasNoRedundantPair : ProblemParts → List SetPair → Type 0
 HasNoRedundantPair q [] = Unit {0}
 HasNoRedundantPair q (p ∷ ps) = AreNeeded q (p ∷ []) ps
 
 -- how many pairs there can be
-abbrev pub pair_limit : Question → ℕ
+abbrev pub pair_limit : ProblemParts → ℕ
 pair_limit q = 2 ^ (acts (closed q).left + 1) * 2 ^ (acts (closed q).right + 1)
 
 -- the certificate is accepted, in the style up to congruence, and none of its pairs is redundant
-pub record IsConcise (q : Question) (c : CertParts) : Type 0 where
+pub record IsConcise (q : ProblemParts) (c : CertParts) : Type 0 where
   pub accepted : IsAccepted q c
   pub up_to : c.style ≡ UpTo
   pub differ : AllDiffer (set_pairs c)
@@ -57,12 +57,12 @@ pub record IsConcise (q : Question) (c : CertParts) : Type 0 where
   pub bounded : length (set_pairs c) ≤ pair_limit q
 
 -- the string refutes the question, and none with fewer moves does
-pub record IsShortest (q : Question) (x : GuardedString) : Type 0 where
+pub record IsShortest (q : ProblemParts) (x : GuardedString) : Type 0 where
   pub refutes : Refutes q x
   pub fewest : (y : GuardedString) → Refutes q y → length x.rest ≤ length y.rest
 
 -- what the prover answers to a question
-abbrev pub IsDecision : Question → Evidence → Type 0
+abbrev pub IsDecision : ProblemParts → Evidence → Type 0
 IsDecision q (Equal c) = Same q × IsConcise q c
 IsDecision q (Different x) = (Same q → ⊥) × IsShortest q x
 
@@ -72,7 +72,7 @@ node_terms (Equal c) = term_trees c
 node_terms (Different x) = []
 
 -- the store has ids of both closed sides, and of the terms of the evidence's nodes
-pub record HasIdsOf (store : Nodes) (q : Question) (e : Evidence) : Type 0 where
+pub record HasIdsOf (store : StoreParts) (q : ProblemParts) (e : Evidence) : Type 0 where
   pub left : HasTree store (closed q).left
   pub right : HasTree store (closed q).right
   pub nodes : (t : Term) → Has (node_terms e) t → HasTree store t

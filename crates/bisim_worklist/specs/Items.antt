@@ -6,7 +6,7 @@ use Rattle.std.specs.Ordering.{nat_cmp}
 use Rattle.kat_model.specs.Members.{Has, SameMembers}
 use Rattle.kat_model.specs.Steps.{Atom}
 use Rattle.certificate.specs.Nodes.{are_ascending}
-use Rattle.test_diagrams.specs.Functions.{Collection, value_of, IsDiagramId, IsAtomOf}
+use Rattle.test_diagrams.specs.Functions.{DiagramsParts, value_of, IsDiagramId, IsAtomOf}
 use Rattle.partial_derivs.specs.declared.moves.Guarded.{Guarded}
 use Rattle.bisim_worklist.specs.declared.items.Item.{Item}
 use Rattle.bisim_worklist.specs.declared.items.Side.{Side}
@@ -40,12 +40,12 @@ open_targets never always side [] = []
 open_targets never always side (i ∷ is) = if is_open never always side i then i.target ∷ open_targets never always side is else open_targets never always side is
 
 -- the targets on the side at an atom
-abbrev pub chosen : Collection → Side → List Item → Atom → List ℕ
+abbrev pub chosen : DiagramsParts → Side → List Item → Atom → List ℕ
 chosen d side [] atom = []
 chosen d side (i ∷ is) atom = if value_of d (guard_of side i) atom then i.target ∷ chosen d side is atom else chosen d side is atom
 
 -- the targets of the moves by an action at an atom
-abbrev pub led : Collection → List Guarded → ℕ → Atom → List ℕ
+abbrev pub led : DiagramsParts → List Guarded → ℕ → Atom → List ℕ
 led d [] act atom = []
 led d (m ∷ ms) act atom = if nat_eq m.act act && value_of d m.guard atom then m.to ∷ led d ms act atom else led d ms act atom
 
@@ -88,13 +88,13 @@ abbrev pub AreLedTo : List Guarded → List Guarded → List Item → Type 0
 AreLedTo left right items = (i : Item) → Has items i → Has (led_to left) i.target ⊎ Has (led_to right) i.target
 
 -- the guards are ids of diagrams, and the targets ascend
-pub record AreItems (d : Collection) (items : List Item) : Type 0 where
+pub record AreItems (d : DiagramsParts) (items : List Item) : Type 0 where
   pub lefts : (i : Item) → Has items i → IsDiagramId d i.left
   pub rights : (i : Item) → Has items i → IsDiagramId d i.right
   pub ascending : IsTrue (are_ascending (targets_of items))
 
 -- at each atom the items have the targets of the moves by the action
-pub record AreItemsOf (d : Collection) (left right : List Guarded) (act : ℕ) (items : List Item) : Type 0 where
+pub record AreItemsOf (d : DiagramsParts) (left right : List Guarded) (act : ℕ) (items : List Item) : Type 0 where
   pub are : AreItems d items
   pub lefts : (atom : Atom) → IsAtomOf d atom → SameMembers (chosen d Left items atom) (led d left act atom)
   pub rights : (atom : Atom) → IsAtomOf d atom → SameMembers (chosen d Right items atom) (led d right act atom)

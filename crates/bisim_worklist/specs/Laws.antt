@@ -2,7 +2,7 @@
 use Rattle.std.specs.Prelude.{◌≡◌, ◌≢◌, ◌≤◌, ◌<◌, ◌+◌, ◌*◌, ℕ, suc, List, [], ◌∷◌, ◌++◌, length, slice_get, Option, Some, None}
 use Rattle.kat_model.specs.Trees.{Term, acts}
 use Rattle.kat_model.specs.Members.{Has, IsSubset, SameMembers}
-use Rattle.kat_model.specs.Problems.{Question, IsInRange, IsProblem}
+use Rattle.kat_model.specs.Problems.{ProblemParts, IsInRange, IsProblem}
 use Rattle.kat_model.specs.Relations.{Same}
 use Rattle.kat_model.specs.Steps.{Atom, set_out}
 use Rattle.kat_model.specs.Closed.{closed}
@@ -43,7 +43,7 @@ CongruentAreCovered =
     → IsCovered universal pairs sure_left sure_right open_left open_right
 
 -- how a walk begins and goes on
-pub record WalkGoesOn (q : Question) : Type 0 where
+pub record WalkGoesOn (q : ProblemParts) : Type 0 where
   pub starts : IsWalk q (record { pair = closed_pair q; origin = None } ∷ []) 0
   pub lists : (es : List Entry) (done : ℕ) (from : Entry) (p : SetPair) (o : Origin)
       → IsWalk q es done
@@ -55,26 +55,26 @@ pub record WalkGoesOn (q : Question) : Type 0 where
   pub processes : (es : List Entry) (done : ℕ) (e : Entry) → IsWalk q es done → slice_get es done ≡ Some e → IsSettled q (pairs_of es) e.pair → IsWalk q es (suc done)
 
 -- pairs from the closed pair on, none redundant, are different and not many
-pub record AreFew (q : Question) (pairs : List SetPair) : Type 0 where
+pub record AreFew (q : ProblemParts) (pairs : List SetPair) : Type 0 where
   pub differ : AllDiffer pairs
   pub reached : AreReached (closed q).left (closed q).right pairs
   pub few : length pairs ≤ pair_limit q
   pub guarded : q.hyps ≡ [] → IsGuarded q.left → IsGuarded q.right → length pairs ≤ (acts q.left + 2) * (acts q.right + 2)
 
 abbrev pub NoRedundantAreFew : Type 0
-NoRedundantAreFew = (q : Question) (rest : List SetPair) → HasNoRedundantPair q (closed_pair q ∷ rest) → AreFew q (closed_pair q ∷ rest)
+NoRedundantAreFew = (q : ProblemParts) (rest : List SetPair) → HasNoRedundantPair q (closed_pair q ∷ rest) → AreFew q (closed_pair q ∷ rest)
 
 abbrev pub WalksAreFew : Type 0
-WalksAreFew = (q : Question) (es : List Entry) (done : ℕ) → IsWalk q es done → AreFew q (pairs_of es)
+WalksAreFew = (q : ProblemParts) (es : List Entry) (done : ℕ) → IsWalk q es done → AreFew q (pairs_of es)
 
 -- a walk that has processed all its pairs shows that the sides are the same
 abbrev pub FinishedAreAccepted : Type 0
-FinishedAreAccepted = (q : Question) (es : List Entry) → IsWalk q es (length es) → AreAccepted up_to q (pairs_of es) × Same q
+FinishedAreAccepted = (q : ProblemParts) (es : List Entry) → IsWalk q es (length es) → AreAccepted up_to q (pairs_of es) × Same q
 
 -- and so does a certificate of those pairs, which is concise
 abbrev pub FinishedAreConcise : Type 0
 FinishedAreConcise =
-    (q : Question) (es : List Entry) (c : CertParts)
+    (q : ProblemParts) (es : List Entry) (c : CertParts)
     → IsWalk q es (length es)
     → c.style ≡ UpTo
     → set_pairs c ≡ pairs_of es
@@ -85,12 +85,12 @@ FinishedAreConcise =
 -- the terms of the pairs of a walk are in the problem's range
 abbrev pub MembersAreInRange : Type 0
 MembersAreInRange =
-    (q : Question) (es : List Entry) (done : ℕ) (e : Entry) (x : Term) → IsProblem q → IsWalk q es done → Has es e → (Has e.pair.left x → IsInRange q.tests q.actions x) × (Has e.pair.right x → IsInRange q.tests q.actions x)
+    (q : ProblemParts) (es : List Entry) (done : ℕ) (e : Entry) (x : Term) → IsProblem q → IsWalk q es done → Has es e → (Has e.pair.left x → IsInRange q.tests q.actions x) × (Has e.pair.right x → IsInRange q.tests q.actions x)
 
 -- where the pair that is processed does not accept alike, the steps to it and the atom are a shortest string
 abbrev pub FoundAreShortest : Type 0
 FoundAreShortest =
-    (q : Question) (es : List Entry) (done : ℕ) (e : Entry) (os : List Origin) (atom : Atom)
+    (q : ProblemParts) (es : List Entry) (done : ℕ) (e : Entry) (os : List Origin) (atom : Atom)
     → IsWalk q es done
     → slice_get es done ≡ Some e
     → IsTrail es done os
@@ -100,8 +100,8 @@ FoundAreShortest =
 
 -- each listed pair has such steps
 abbrev pub ListedHaveTrails : Type 0
-ListedHaveTrails = (q : Question) (es : List Entry) (done : ℕ) → IsWalk q es done → (k : ℕ) (e : Entry) → slice_get es k ≡ Some e → (os : List Origin) × IsTrail es k os
+ListedHaveTrails = (q : ProblemParts) (es : List Entry) (done : ℕ) → IsWalk q es done → (k : ℕ) (e : Entry) → slice_get es k ≡ Some e → (os : List Origin) × IsTrail es k os
 
 -- the pairs of a concise certificate, where there are no hypotheses and both sides are guarded
 abbrev pub ConciseAreFew : Type 0
-ConciseAreFew = (q : Question) (c : CertParts) → IsConcise q c → q.hyps ≡ [] → IsGuarded q.left → IsGuarded q.right → length (set_pairs c) ≤ (acts q.left + 2) * (acts q.right + 2)
+ConciseAreFew = (q : ProblemParts) (c : CertParts) → IsConcise q c → q.hyps ≡ [] → IsGuarded q.left → IsGuarded q.right → length (set_pairs c) ≤ (acts q.left + 2) * (acts q.right + 2)

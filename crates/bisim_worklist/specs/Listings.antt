@@ -4,7 +4,7 @@ use Rattle.kat_model.specs.Trees.{Term}
 use Rattle.kat_model.specs.Members.{Has}
 use Rattle.kat_model.specs.Pairs.{SetPair}
 use Rattle.certificate.specs.Nodes.{are_ascending}
-use Rattle.term_store.specs.Nodes.{Nodes}
+use Rattle.term_store.specs.Nodes.{StoreParts}
 use Rattle.term_store.specs.Trees.{tree_of}
 use Rattle.partial_derivs.specs.Moves.{IsTermOf}
 use Rattle.bisim_worklist.specs.Walks.{Origin, Entry}
@@ -15,25 +15,25 @@ pub record IdEntry : Type 0 where
   pub origin : Option Origin
 
 -- the terms of ids
-abbrev pub terms_of : Nodes → List ℕ → List Term
+abbrev pub terms_of : StoreParts → List ℕ → List Term
 terms_of store ids = map (tree_of store) ids
 
-abbrev pub pair_of : Nodes → IdEntry → SetPair
+abbrev pub pair_of : StoreParts → IdEntry → SetPair
 pair_of store e = record { left = terms_of store e.left; right = terms_of store e.right }
 
-abbrev pub entry_of : Nodes → IdEntry → Entry
+abbrev pub entry_of : StoreParts → IdEntry → Entry
 entry_of store e = record { pair = pair_of store e; origin = e.origin }
 
-abbrev pub entries_of : Nodes → List IdEntry → List Entry
+abbrev pub entries_of : StoreParts → List IdEntry → List Entry
 entries_of store es = map (entry_of store) es
 
 -- the list is a set of ids of terms whose tests are below n, in ascending order
-pub record IsIdSet (store : Nodes) (n : ℕ) (ids : List ℕ) : Type 0 where
+pub record IsIdSet (store : StoreParts) (n : ℕ) (ids : List ℕ) : Type 0 where
   pub there : (i : ℕ) → Has ids i → IsTermOf store n i
   pub ascending : IsTrue (are_ascending ids)
 
 -- both sets of each pair are such sets
-abbrev pub AreIdSets : Nodes → ℕ → List IdEntry → Type 0
+abbrev pub AreIdSets : StoreParts → ℕ → List IdEntry → Type 0
 AreIdSets store n es = (e : IdEntry) → Has es e → IsIdSet store n e.left × IsIdSet store n e.right
 
 -- each pair but the first comes from an earlier one

@@ -1,5 +1,6 @@
 -- Sets of terms as marks, one for each id of a store, and their saturation by pairs of sets of ids.
-use Rattle.std.specs.Prelude.{zero, suc, ℕ, Bool, true, false, ◌||◌, if◌then◌else◌, List, [], ◌∷◌, length, slice_index_or, slice_set, replicate, Option, Some, None}
+use Rattle.std.specs.Prelude.{zero, suc, ℕ, Bool, true, false, ◌||◌, if◌then◌else◌, List, [], ◌∷◌, length, slice_index_or, slice_set, replicate, Option}
+use Rattle.std.specs.Option.{option_map_or}
 use Rattle.std.specs.List.{list_all}
 use Rattle.kat_model.specs.Members.{Has, IsSubset}
 use Rattle.bisim_worklist.specs.Listings.{IdEntry}
@@ -30,14 +31,9 @@ rounds_marked (suc n) es marks = rounds_marked n es (round_marked es marks)
 abbrev pub saturated_marks : ℕ → List IdEntry → List ℕ → List Bool
 saturated_marks n es ids = rounds_marked (length es) es (with_marks (replicate n false) ids)
 
--- whether there is a value that passes
-abbrev pub option_any : {X : Type 0} → (X → Bool) → Option X → Bool
-option_any p None = false
-option_any p (Some x) = p x
-
 -- whether the universal term is marked, or all targets are
 abbrev pub are_reached : Option ℕ → List ℕ → List Bool → Bool
-are_reached universal targets marks = option_any (λ u. slice_index_or marks u false) universal || are_marked marks targets
+are_reached universal targets marks = option_map_or (λ u. slice_index_or marks u false) universal false || are_marked marks targets
 
 -- the listed pairs, which are rules of congruence, the universal term, and how many ids there are
 pub record RuleParts : Type 0 where

@@ -3,7 +3,7 @@ use Rattle.std.specs.Prelude.{◌≡◌, ◌⊎◌, ◌↔◌, ◌<◌, ℕ, Lis
 use Rattle.std.specs.List.{flat_map}
 use Rattle.kat_model.specs.Members.{Has, IsSubset}
 use Rattle.certificate.specs.Nodes.{are_ascending}
-use Rattle.term_store.specs.Nodes.{Nodes}
+use Rattle.term_store.specs.Nodes.{StoreParts}
 use Rattle.term_store.specs.declared.nodes.TestShape.{TestShape}
 use Rattle.term_store.specs.declared.nodes.TestShape.TheVariants as test
 use Rattle.term_store.specs.declared.nodes.Shape.{Shape}
@@ -60,5 +60,5 @@ abbrev pub AddsAll : List ℕ → List ℕ → List ℕ → Type 0
 AddsAll old new ids = (i : ℕ) → Has new i ↔ (Has old i ⊎ Has ids i)
 
 -- the tests are those that nodes of these terms name
-abbrev pub NamesTests : Nodes → List ℕ → List ℕ → Type 0
+abbrev pub NamesTests : StoreParts → List ℕ → List ℕ → Type 0
 NamesTests store terms tests = (i : ℕ) → Has tests i ↔ ((j : ℕ) × (shape : Shape) × Has terms j × (slice_get store.terms j ≡ Some shape) × Has (tests_in shape) i)

@@ -13,7 +13,7 @@ use Rattle.certificate.specs.declared.nodes.Style.TheVariants.{UpTo}
 use Rattle.certificate.specs.Nodes.{NumberPair}
 use Rattle.certificate.specs.Certs.{CertParts}
 use Rattle.certificate.specs.Accepted.{set_pairs, term_trees}
-use Rattle.term_store.specs.Nodes.{Nodes}
+use Rattle.term_store.specs.Nodes.{StoreParts}
 use Rattle.term_store.specs.Trees.{tree_of, HasTree}
 use Rattle.term_store.specs.declared.nodes.TestShape.{TestShape}
 use Rattle.term_store.specs.declared.nodes.TestShape.TheVariants as test_shape
@@ -52,14 +52,14 @@ term_node_of tests terms (shape.Seq i j) = term_node.Seq (number_of terms i) (nu
 term_node_of tests terms (shape.Star i) = term_node.Star (number_of terms i)
 
 -- the nodes of these ids of a store
-abbrev pub test_nodes_of : Nodes → List ℕ → List ℕ → List TestNode
+abbrev pub test_nodes_of : StoreParts → List ℕ → List ℕ → List TestNode
 test_nodes_of store tests ids = map (λ i. test_node_of tests (slice_index_or store.tests i test_shape.False)) ids
 
-abbrev pub term_nodes_of : Nodes → List ℕ → List ℕ → List ℕ → List TermNode
+abbrev pub term_nodes_of : StoreParts → List ℕ → List ℕ → List ℕ → List TermNode
 term_nodes_of store tests terms ids = map (λ i. term_node_of tests terms (slice_index_or store.terms i shape.Zero)) ids
 
 -- the certificate is that of the pairs, and has nodes only for terms of the store that stand in them as parts
-pub record IsCertOf (store : Nodes) (es : List IdEntry) (c : CertParts) : Type 0 where
+pub record IsCertOf (store : StoreParts) (es : List IdEntry) (c : CertParts) : Type 0 where
   pub up_to : c.style ≡ UpTo
   pub pairs : set_pairs c ≡ pairs_of (entries_of store es)
   pub ids : (t : Term) → Has (term_trees c) t → HasTree store t

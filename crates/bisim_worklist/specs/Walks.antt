@@ -4,7 +4,7 @@ use Rattle.std.specs.Prelude.{◌≡◌, ◌≤◌, ◌<◌, ℕ, suc, List, [],
 use Rattle.kat_model.specs.Members.{Has, SameMembers}
 use Rattle.kat_model.specs.Steps.{Atom, set_out, set_next}
 use Rattle.kat_model.specs.Strings.{GuardedString}
-use Rattle.kat_model.specs.Problems.{Question}
+use Rattle.kat_model.specs.Problems.{ProblemParts}
 use Rattle.kat_model.specs.Closed.{closed}
 use Rattle.kat_model.specs.Pairs.{SetPair, IsCongruent}
 use Rattle.bisim_worklist.specs.Decisions.{HasNoRedundantPair, IsShortest}
@@ -24,7 +24,7 @@ abbrev pub pairs_of : List Entry → List SetPair
 pairs_of es = map (λ e. e.pair) es
 
 -- the closed sides, each as a set of one term
-abbrev pub closed_pair : Question → SetPair
+abbrev pub closed_pair : ProblemParts → SetPair
 closed_pair q = record { left = (closed q).left ∷ []; right = (closed q).right ∷ [] }
 
 -- the step leads from the sets of one pair to those of the other
@@ -35,7 +35,7 @@ pub record IsNextOf (tests actions : ℕ) (from : SetPair) (atom : Atom) (act : 
   pub rights : SameMembers (set_next from.right atom act) to.right
 
 -- the entry comes from one at place k or before
-pub record ComesFrom (q : Question) (es : List Entry) (k : ℕ) (e : Entry) : Type 0 where
+pub record ComesFrom (q : ProblemParts) (es : List Entry) (k : ℕ) (e : Entry) : Type 0 where
   pub origin : Origin
   pub is : e.origin ≡ Some origin
   pub from : Entry
@@ -53,26 +53,26 @@ abbrev pub AreInOrder : List Entry → Type 0
 AreInOrder es = (i j : ℕ) (e f : Entry) (o : Origin) → i ≤ j → slice_get es i ≡ Some e → slice_get es j ≡ Some f → f.origin ≡ Some o → IsFoundBy o.place e.origin
 
 -- both sets of the pair accept the same atoms
-abbrev pub AcceptAlike : Question → SetPair → Type 0
+abbrev pub AcceptAlike : ProblemParts → SetPair → Type 0
 AcceptAlike q p = (atom : Atom) → length atom ≡ q.tests → set_out p.left atom ≡ set_out p.right atom
 
 -- the next sets of the pair by the action are congruent under each atom
-abbrev pub AreCongruentAfter : Question → List SetPair → SetPair → ℕ → Type 0
+abbrev pub AreCongruentAfter : ProblemParts → List SetPair → SetPair → ℕ → Type 0
 AreCongruentAfter q pairs p a = (atom : Atom) → length atom ≡ q.tests → IsCongruent (closed q).universal pairs (set_next p.left atom a) (set_next p.right atom a)
 
 -- the pair accepts alike, and its next sets are congruent under the pairs
-pub record IsSettled (q : Question) (pairs : List SetPair) (p : SetPair) : Type 0 where
+pub record IsSettled (q : ProblemParts) (pairs : List SetPair) (p : SetPair) : Type 0 where
   pub outputs : AcceptAlike q p
   pub steps : (a : ℕ) → a < q.actions → AreCongruentAfter q pairs p a
 
 -- the pair at place k is settled by pairs that are found by then
-pub record IsProcessed (q : Question) (es : List Entry) (k : ℕ) (p : SetPair) : Type 0 where
+pub record IsProcessed (q : ProblemParts) (es : List Entry) (k : ℕ) (p : SetPair) : Type 0 where
   pub pairs : List SetPair
   pub found : (r : SetPair) → Has pairs r → (e : Entry) × Has es e × (e.pair ≡ r) × IsFoundBy k e.origin
   pub settled : IsSettled q pairs p
 
 -- the walk has listed these entries, and processed the first so many of them
-pub record IsWalk (q : Question) (es : List Entry) (done : ℕ) : Type 0 where
+pub record IsWalk (q : ProblemParts) (es : List Entry) (done : ℕ) : Type 0 where
   pub first : slice_get es 0 ≡ Some (record { pair = closed_pair q; origin = None })
   pub origins : (k : ℕ) (e : Entry) → slice_get es (suc k) ≡ Some e → ComesFrom q es k e
   pub needed : HasNoRedundantPair q (pairs_of es)
@@ -95,5 +95,5 @@ after_trail [] x = x
 after_trail (o ∷ os) x = after_trail os (after_step o x)
 
 -- with the steps that lead to place k before it, the string is a shortest one that refutes
-abbrev pub IsShortestFrom : Question → List Entry → ℕ → GuardedString → Type 0
+abbrev pub IsShortestFrom : ProblemParts → List Entry → ℕ → GuardedString → Type 0
 IsShortestFrom q es k x = (os : List Origin) → IsTrail es k os → IsShortest q (after_trail os x)

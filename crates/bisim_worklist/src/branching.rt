@@ -13,9 +13,8 @@ use crate::items::{Ends, Item, Side, ends_of};
 use crate::pair::{Listed, Origin};
 use crate::rules::Rules;
 use crate::splitting::next_test;
-use kat_model::NoMemory;
+use kat_model::{Items, NoMemory};
 use std::alloc::Global;
-use string_tables::Items;
 use test_diagrams::Diagrams;
 
 /// Steps from the listed pair at this place, by this action.

@@ -8,9 +8,8 @@ ghost use Rattle.bisim_worklist.specs.Numbering.{test_node_of, term_node_of, num
 use crate::needed::{Terms, Tests, needed_terms, needed_tests};
 use crate::pair::Listed;
 use certificate::{Cert, Pair, Style, TermNode, TestNode};
-use kat_model::NoMemory;
+use kat_model::{Items, NoMemory};
 use std::alloc::Global;
-use string_tables::Items;
 use term_store::{Shape, Store, TermId, TestId, TestShape};
 
 // The number of a test, which is one of them.

@@ -78,7 +78,7 @@ fn evidence_of(
 }
 
 /// The answer to a problem, as `decide` gives it, over a store that may hold nodes already. After an answer the store
-/// has ids of both closed sides and of the terms of a certificate's nodes. The only refusal is want of memory; it may
+/// has ids of both closed sides and of the terms of a certificate's nodes. Fails only when out of memory; it may
 /// leave further nodes. All older ids keep their trees.
 pub fn decide_in(alloc: Global, store: &mut Store, problem: &Problem) -> Result<Evidence, NoMemory>
     ensures decision { IfOk result (IsDecision problem.now) }
@@ -92,7 +92,7 @@ pub fn decide_in(alloc: Global, store: &mut Store, problem: &Problem) -> Result<
 
 /// Whether both sides of a problem denote one relation in each table that keeps the hypotheses, with evidence: a
 /// certificate whose pairs are a bisimulation up to congruence, none of them redundant (Bonchi and Pous 2013), or a
-/// string that refutes the problem, than which none has fewer moves. The only refusal is want of memory.
+/// string that refutes the problem, than which none has fewer moves. Fails only when out of memory.
 pub fn decide(alloc: Global, problem: &Problem) -> Result<Evidence, NoMemory>
     ensures { IfOk result (IsDecision problem.now) }
 {

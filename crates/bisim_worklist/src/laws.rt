@@ -1,5 +1,5 @@
 //! Laws of walks. Each function does nothing: its contract is the law.
-ghost use Rattle.kat_model.specs.Problems.{Question};
+ghost use Rattle.kat_model.specs.Problems.{ProblemParts};
 ghost use Rattle.bisim_worklist.specs.Laws.{MorePairs, CoveredAreCongruent, CongruentAreCovered, WalkGoesOn, NoRedundantAreFew, WalksAreFew, FinishedAreAccepted, FoundAreShortest, ListedHaveTrails, FinishedAreConcise, MembersAreInRange, ConciseAreFew};
 
 /// Sets that are congruent under some pairs are congruent under more.
@@ -19,7 +19,7 @@ pub fn congruent_are_covered()
 
 /// A walk begins with the pair of the closed sides, lists what a step leads to, and processes one pair more.
 pub fn walk_goes_on()
-    ensures { (q : Question) → WalkGoesOn q }
+    ensures { (q : ProblemParts) → WalkGoesOn q }
 {}
 
 /// Pairs of which none is redundant are different and finite in number, with a smaller bound where both sides are

@@ -22,8 +22,6 @@ mod rules;
 mod saturation;
 mod splitting;
 mod string;
-#[cfg(test)]
-mod tests;
 mod walk;
 
 pub use deciding::{decide, decide_in};

@@ -1,6 +1,6 @@
 //! Pairs of sets of terms, and how the walk came to them.
+use kat_model::Items;
 use std::marker::Model;
-use string_tables::Items;
 use term_store::TermId;
 
 /// A step from a listed pair: the place of the pair, and the atom and the action of the step.

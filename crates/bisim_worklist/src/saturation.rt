@@ -1,8 +1,9 @@
 //! Saturation of a set of terms by pairs of sets (congruence closure: Bonchi and Pous 2013). A set is a mark for
 //! each id of a store.
 ghost use Rattle.std.specs.Prelude.{◌≡◌, ◌↔◌, ℕ, Some, false, length, slice_index_or, IsTrue, IfOk};
+ghost use Rattle.std.specs.Option.{option_map_or};
 ghost use Rattle.kat_model.specs.Members.{Has};
-ghost use Rattle.bisim_worklist.specs.Marks.{option_any, are_marked, with_marks, with_pair_marked, round_marked, rounds_marked, saturated_marks, are_reached, reaches_targets};
+ghost use Rattle.bisim_worklist.specs.Marks.{are_marked, with_marks, with_pair_marked, round_marked, rounds_marked, saturated_marks, are_reached, reaches_targets};
 
 use crate::pair::Listed;
 use crate::rules::Rules;
@@ -77,12 +78,9 @@ fn round(marks: &mut [bool], pairs: &[Listed]) -> bool
 
 // Whether the universal term is marked, where there is one.
 fn is_universal(marks: &[bool], universal: Option<TermId>) -> bool
-    ensures { result ≡ option_any (λ u. slice_index_or marks.now u false) universal }
+    ensures { result ≡ option_map_or (λ u. slice_index_or marks.now u false) universal false }
 {
-    match universal {
-        Some(term) => is_marked(marks, term),
-        None => false,
-    }
+    universal.is_some_and(|term| is_marked(marks, term))
 }
 
 // Whether the universal term is marked, or all targets are.
@@ -96,10 +94,7 @@ fn is_reached(marks: &[bool], universal: Option<TermId>, targets: &[TermId]) -> 
 fn has_universal(rules: &Rules, universal: Option<TermId>) -> bool
     ensures { IsTrue result ↔ ((u : ℕ) × (universal ≡ Some u) × Has rules.now.members u) }
 {
-    match universal {
-        Some(term) => rules.has_member(term),
-        None => false,
-    }
+    universal.is_some_and(|term| rules.has_member(term))
 }
 
 // Whether each target is marked or stands in a pair.

@@ -4,10 +4,10 @@ ghost use Rattle.bisim_worklist.specs.Walks.{Origin as Origin', after_trail};
 ghost use Rattle.bisim_worklist.specs.Listings.{AreTraced, LeadsBack, origin_of};
 
 use crate::pair::{Listed, Origin};
-use kat_model::NoMemory;
+use kat_model::{Items, NoMemory};
 use std::alloc::Global;
 use std::mem;
-use string_tables::{GString, Items, Move};
+use string_tables::{GString, Move};
 
 // The step that led to the pair at this place, where there is one.
 fn origin_at(pairs: &[Listed], place: usize) -> Option<&Origin>

@@ -1,9 +1,9 @@
 //! The walk over the listed pairs, in their order.
 ghost use Rattle.std.specs.Prelude.{◌≡◌, ◌≢◌, ◌<◌, ◌+◌, ◌∷◌, [], ℕ, length, IfOk, OnOk, MatchOption, Some, slice_get};
-ghost use Rattle.kat_model.specs.Problems.{Question, IsProblem};
+ghost use Rattle.kat_model.specs.Problems.{ProblemParts, IsProblem};
 ghost use Rattle.kat_model.specs.Closed.{closed};
 ghost use Rattle.std.specs.Option.{option_map};
-ghost use Rattle.term_store.specs.Nodes.{Nodes, IsTermId, IsStore};
+ghost use Rattle.term_store.specs.Nodes.{StoreParts, IsTermId, IsStore};
 ghost use Rattle.term_store.specs.Trees.{tree_of};
 ghost use Rattle.term_store.specs.Growth.{KeepsTrees};
 ghost use Rattle.test_diagrams.specs.Functions.{value_of, IsDiagramId, IsAtomOf, KeepsFunctions};
@@ -16,10 +16,9 @@ use crate::order::actions_in_order;
 use crate::outputs::differing_atom;
 use crate::pair::Listed;
 use crate::rules::Rules;
-use kat_model::{NoMemory, Problem};
+use kat_model::{Items, NoMemory, Problem};
 use partial_derivs::{Derivatives, Steps};
 use std::alloc::Global;
-use string_tables::Items;
 use term_store::{Store, TermId};
 use test_diagrams::Diagrams;
 
@@ -62,7 +61,7 @@ impl Walk {
         universal: Option<TermId>,
         count: usize,
     ) -> Result<Walk, NoMemory>
-        ensures { IfOk result (λ w. (q : Question) (store : Nodes) → IsProblem q → IsStore store → tests ≡ q.tests → count ≡ length store.terms
+        ensures { IfOk result (λ w. (q : ProblemParts) (store : StoreParts) → IsProblem q → IsStore store → tests ≡ q.tests → count ≡ length store.terms
             → IsTermId store left → tree_of store left ≡ (closed q).left
             → IsTermId store right → tree_of store right ≡ (closed q).right
             → ((u : ℕ) → universal ≡ Some u → IsTermId store u)
@@ -96,9 +95,9 @@ impl Walk {
         store: &mut Store,
         place: usize,
     ) -> Result<BothSteps, NoMemory>
-        requires under_way { (q : Question) × IsUnderWay q store.old self.old place }
+        requires under_way { (q : ProblemParts) × IsUnderWay q store.old self.old place }
         requires place { place < length self.old.rules.pairs }
-        ensures steps { IfOk result (λ steps. (q : Question) (e : IdEntry) → IsUnderWay q store.old self.old place
+        ensures steps { IfOk result (λ steps. (q : ProblemParts) (e : IdEntry) → IsUnderWay q store.old self.old place
             → slice_get self.old.rules.pairs place ≡ Some e → IsUnderWay q store.new self.new place × AreStepsAt store.new self.new e steps × HasStepIds self.new steps) }
         ensures pairs { self.new.rules.pairs ≡ self.old.rules.pairs }
         ensures kept { KeepsTrees store.old store.new }
@@ -124,7 +123,7 @@ impl Walk {
         steps: &BothSteps,
     ) -> Result<(), NoMemory>
         requires ids { HasStepIds self.old steps.now }
-        ensures expanded { OnOk result ((q : Question) (store : Nodes) → actions ≡ q.actions → IsExpanded q store self.old self.new place steps.now) }
+        ensures expanded { OnOk result ((q : ProblemParts) (store : StoreParts) → actions ≡ q.actions → IsExpanded q store self.old self.new place steps.now) }
         ensures tests { self.new.diagrams.tests ≡ self.old.diagrams.tests }
     {
         let left = &steps.left.moves;
@@ -168,9 +167,9 @@ impl Walk {
         actions: usize,
         place: usize,
     ) -> Result<Option<Vec<bool>>, NoMemory>
-        requires under_way { (q : Question) × IsUnderWay q store.old self.old place }
+        requires under_way { (q : ProblemParts) × IsUnderWay q store.old self.old place }
         requires place { place < length self.old.rules.pairs }
-        ensures taken { IfOk result (λ found. (q : Question) → actions ≡ q.actions → IsUnderWay q store.old self.old place →
+        ensures taken { IfOk result (λ found. (q : ProblemParts) → actions ≡ q.actions → IsUnderWay q store.old self.old place →
             MatchOption found (IsUnderWay q store.new self.new (place + 1))
             (λ atom. IsUnderWay q store.new self.new place × IsDifference q store.new self.new place atom.items)) }
         ensures kept { KeepsTrees store.old store.new }

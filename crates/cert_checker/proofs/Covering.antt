@@ -2,10 +2,10 @@
 -- the decided tests; and where all guards are settled, they are congruent only there.
 use Rattle.std.proofs.Common.{◌≡◌, ℕ, ◌<◌, ◌⊎◌, inl, inr, ⊎_elim, List, [], ◌∷◌, length, refl, sym, ◌∙◌, subst, arith, Bool, true, false, ◌||◌, cond, Option, Some, None, nat_eq}
 use Rattle.std.specs.BTreeMap.{is_at}
-use Rattle.std.specs.declared.cmp.Ordering.{Ordering}
-use Rattle.std.specs.declared.cmp.Ordering.TheVariants.{Less, Equal, Greater}
-use Rattle.std.specs.Ordering.{nat_cmp, is_eq}
+use Rattle.std.specs.Option.{option_map_or}
+use Rattle.std.specs.Ordering.{nat_cmp}
 use Rattle.std.proofs.lemmas.Map.Lookups.{exact_unsigned}
+use Rattle.std.proofs.lemmas.Map.Views.{tells_apart}
 use Rattle.std.proofs.lemmas.Bool.{true≢false, eqb-true, or_cases}
 use Rattle.std.proofs.lemmas.Option.{slice_get-get_or}
 use Rattle.kat_model.specs.Trees.{Term}
@@ -17,7 +17,7 @@ use Rattle.cert_checker.specs.declared.known.Known.TheVariants.{Value, Waits}
 use Rattle.cert_checker.specs.NodeTables.{Nodes, term_at, holds_at}
 use Rattle.cert_checker.specs.Targets.{chosen, AreEntries}
 use Rattle.cert_checker.specs.Cases.{Extends, IsKnown, AreKnown}
-use Rattle.cert_checker.specs.Matching.{known_of, truly, falsely, sure_targets, guard_of, is_sure, guarded_by, open_targets, option_any, terms_of}
+use Rattle.cert_checker.specs.Matching.{known_of, truly, falsely, sure_targets, guard_of, is_sure, guarded_by, open_targets, terms_of}
 
 -- ---- the terms that are chosen at an atom
 
@@ -78,23 +78,18 @@ module _ (t : Nodes) (decided : List (Option Bool)) (known : List Known) (are : 
 
 -- ---- a term's guard
 
-eq_ordering : (o : Ordering) → is_eq o ≡ true → o ≡ Equal
-eq_ordering Less e = absurd cc
-eq_ordering Equal e = refl
-eq_ordering Greater e = absurd cc
-
 pub guard_member : (k : ℕ) (es : List (ℕ × ℕ)) (g : ℕ) → guard_of es k ≡ Some g → Has es (k, g)
 guard_member k [] g e = absurd cc
 guard_member k (d ∷ es) g e = go (is_at (nat_cmp k) d.0) refl (guard_member k es g) e
   where
     go : (b : Bool) → is_at (nat_cmp k) d.0 ≡ b → (guard_of es k ≡ Some g → Has es (k, g)) → cond b (Some d.1) (guard_of es k) ≡ Some g → Has (d ∷ es) (k, g)
     go true s rest f =
-        let key : k ≡ d.0 = exact_unsigned k d.0 (eq_ordering (nat_cmp k d.0) s) in
+        let key : k ≡ d.0 = tells_apart exact_unsigned k d.0 s in
         let value : d.1 ≡ g = cc in
         inl (λ i. (sym key i, value i))
     go false s rest f = inr (rest f)
 
-pub any_value : {X : Type 0} (p : X → Bool) (o : Option X) → option_any p o ≡ true → (x : X) × (o ≡ Some x) × (p x ≡ true)
+pub any_value : {X : Type 0} (p : X → Bool) (o : Option X) → option_map_or p o false ≡ true → (x : X) × (o ≡ Some x) × (p x ≡ true)
 any_value p None e = absurd cc
 any_value p (Some x) e = (x, refl, e)
 

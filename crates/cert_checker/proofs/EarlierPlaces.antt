@@ -2,7 +2,7 @@
 use Rattle.std.proofs.Common.{◌≡◌, ℕ, suc, ◌<◌, ◌⊎◌, inl, inr, ⊎_elim, refl, sym, ◌∙◌, subst, arith, Bool, true, false, nat_eq, nat_lt, cond, Option, Some, None}
 use Rattle.std.specs.Option.{option_map}
 use Rattle.std.proofs.lemmas.Bool.{true≢false, or_cases, or_left, or_right, and_parts, and_from, ltb-true, lt-ltb, eqb-true, eq-eqb}
-use Rattle.kat_model.specs.Problems.{Question}
+use Rattle.kat_model.specs.Problems.{ProblemParts}
 use Rattle.kat_model.specs.Steps.{Atom}
 use Rattle.certificate.specs.Certs.{CertParts}
 use Rattle.cert_checker.specs.declared.answer.Reason.{Reason}
@@ -74,7 +74,7 @@ before_place x y h =
     or_right (nat_lt x.pair y.pair) _ (and_from (nat_eq x.pair y.pair) _ (eq-eqb x.pair y.pair (sym px.0 ∙ r.0 ∙ py.0)) (less_is_true x.atom.items y.atom.items less)))
     h
 
-module _ (q : Question) (c : CertParts) (m : ℕ) where
+module _ (q : ProblemParts) (c : CertParts) (m : ℕ) where
   low_or_last : (s : Reason) → IsAmong (λ n. n < suc m) s → IsAmong (λ n. n < m) s ⊎ IsAmong (λ n. n ≡ m) s
   low_or_last s a = ⊎_elim (λ l. inl (a.0, l)) (λ r. inr (a.0, r)) (cases (turn_of s).action a.1)
     where

@@ -1,18 +1,17 @@
 -- The first reason of a certificate, from the first of each stage.
 use Rattle.std.proofs.Common.{ℕ, ◌+◌, ◌<◌, ◌≤◌, ⊎_elim, [], refl, arith, Some, None}
-use Rattle.kat_model.specs.Problems.{Question}
+use Rattle.kat_model.specs.Problems.{ProblemParts}
 use Rattle.kat_model.specs.Members.{Has}
 use Rattle.certificate.specs.declared.nodes.TestNode.TheVariants.{Prim}
 use Rattle.certificate.specs.declared.nodes.TermNode.TheVariants.{Act}
 use Rattle.certificate.specs.Certs.{CertParts}
 use Rattle.certificate.specs.Accepted.{IsAccepted, set_pairs}
-use Rattle.kat_model.proofs.Places.{has_at}
+use Rattle.kat_model.proofs.Places.{has_at, place_of_member}
 use Rattle.cert_checker.specs.declared.answer.Reason.{Reason}
 use Rattle.cert_checker.specs.declared.answer.Reason.TheVariants.{FirstPair, Output, Missing, Shape, HypBroken, EndsAgree, TestNode, TermNode}
 use Rattle.cert_checker.specs.Answers.{Turn, turn_of, IsEarlier, BeginsWithSides, FailsBy, FailsFirstBy}
 use Rattle.cert_checker.specs.Ranges.{IsFirstOut}
 use Rattle.cert_checker.specs.Places.{IsFirstOf}
-use Rattle.cert_checker.proofs.NodeRanges.{place_of}
 
 stage_grows : (s t : Turn) → IsEarlier s t → s.stage ≤ t.stage
 stage_grows s t h = ⊎_elim (λ l. omega (arith, l)) (λ k. omega (arith, k.0)) h
@@ -24,7 +23,7 @@ lesser_node stage j k h =
     (λ a. ⊎_elim (λ l. l) (λ b. ⊎_elim absurd (λ m. absurd (omega (arith, m.1))) b.1) a.1)
     h
 
-module _ (q : Question) (c : CertParts) where
+module _ (q : ProblemParts) (c : CertParts) where
   module _ (tests : (i : ℕ) → Has c.test_nodes (Prim i) → i < q.tests) where
     no_test : (j : ℕ) → FailsBy q c (TestNode j) → ⊥
     no_test j g = let low : g.0 < q.tests = tests g.0 (has_at c.test_nodes j (Prim g.0) g.1) in absurd (omega (arith, g.2))
@@ -82,8 +81,8 @@ module _ (q : Question) (c : CertParts) where
                 rest = begins.0;
                 first = begins.1;
                 bisimulation = record {
-                  outputs = λ p h atom l. let k = place_of (set_pairs c) p h in f (Output k.0 atom) (refl, omega arith) p k.1 l;
-                  steps = λ p h atom l a low. let k = place_of (set_pairs c) p h in f (Missing k.0 atom a) (refl, omega (arith, low)) p k.1 l low;
+                  outputs = λ p h atom l. let k = place_of_member (set_pairs c) p h in f (Output k.0 atom) (refl, omega arith) p k.1 l;
+                  steps = λ p h atom l a low. let k = place_of_member (set_pairs c) p h in f (Missing k.0 atom a) (refl, omega (arith, low)) p k.1 l low;
                 };
               };
             }

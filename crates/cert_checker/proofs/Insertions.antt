@@ -1,7 +1,6 @@
 -- Tables to which a node is added keep their rules, and older numbers their nodes.
-use Rattle.std.proofs.Common.{◌≡◌, ◌⊎◌, ◌≤◌, ◌<◌, inl, inr, ⊎_elim, ℕ, List, [], ◌∷◌, ◌++◌, length, Bool, true, false, nat_lt, if◌then◌else◌, Some, slice_get, refl, sym, ◌∙◌, subst, arith, length-append, append-nil, Result, Ok, Err, IfOk, OnErr}
+use Rattle.std.proofs.Common.{◌≡◌, ◌⊎◌, ◌≤◌, ◌<◌, inl, inr, ⊎_elim, ℕ, List, [], ◌∷◌, ◌++◌, length, Bool, true, false, if◌then◌else◌, Some, slice_get, refl, sym, ◌∙◌, subst, arith, length-append, append-nil, Result, Ok, Err, IfOk, OnErr}
 use Rattle.std.specs.List.{list_any, IsDistinct}
-use Rattle.std.proofs.lemmas.Bool.{and_parts, and_from, lt-ltb}
 use Rattle.indexmap.specs.IndexSet.{insert_key}
 use Rattle.kat_model.specs.Members.{Has}
 use Rattle.kat_model.proofs.Places.{no_doubles, slice_get_last}
@@ -10,7 +9,7 @@ use Rattle.certificate.specs.declared.nodes.TestNode.{TestNode}
 use Rattle.certificate.specs.declared.nodes.TestNode.TheVariants.{Prim}
 use Rattle.certificate.specs.declared.nodes.TermNode.{TermNode}
 use Rattle.certificate.specs.Nodes.{test_parts, term_parts, tests_of_term, are_below}
-use Rattle.certificate.proofs.NodeTrees.{below_has}
+use Rattle.certificate.proofs.Growth.{below_more}
 use Rattle.cert_checker.specs.NodeTables.{Nodes, AreTables, IsFront, Grows, AddsTest, AddsTerm, MayBeTest, MayBeTerm, IsWithin}
 
 -- the list stayed, or x is new and stands last
@@ -54,13 +53,6 @@ adds_longer old new x adds =
 adds_front : {X : Type 0} (old new : List X) (x : X) → AddsLast old new x → IsFront old new
 adds_front old new x adds = elim adds [ inl same ↦ ([], same ∙ sym (append-nil old)) | inr more ↦ (x ∷ [], more) ]
 
--- numbers below one bound are below a higher one
-pub numbers_more : (m n : ℕ) (ks : List ℕ) → m ≤ n → are_below m ks ≡ true → are_below n ks ≡ true
-numbers_more m n [] le e = refl
-numbers_more m n (k ∷ ks) le e =
-    let low : k < m = below_has m (k ∷ ks) e k (inl refl) in
-    and_from (nat_lt k n) (are_below n ks) (lt-ltb k n (omega arith)) (numbers_more m n ks le (and_parts (nat_lt k m) (are_below m ks) e).1)
-
 within_prim : (width k : ℕ) (n : TestNode) → n ≡ Prim k → IsWithin width n → k < width
 within_prim width k n e h = subst (IsWithin width) e h
 
@@ -73,7 +65,7 @@ test_inserted eq own r t tests n are may unique e same =
       rules = record {
         tests = added_each (λ k m. are_below k (test_parts m) ≡ true) t.tests tests n adds are.rules.tests may.0;
         terms = are.rules.terms;
-        tests_of_terms = λ m h. numbers_more (length t.tests) (length tests) (tests_of_term m) (adds_longer t.tests tests n adds) (are.rules.tests_of_terms m h);
+        tests_of_terms = λ m h. below_more (length t.tests) (length tests) (tests_of_term m) (adds_longer t.tests tests n adds) (are.rules.tests_of_terms m h);
         each_test_once = no_doubles eq own tests unique;
         each_term_once = are.rules.each_term_once;
         pairs = λ p h. absurd h;

@@ -1,5 +1,6 @@
 -- What is known of a test is so at each atom with the decided tests.
 use Rattle.std.proofs.Common.{◌≡◌, ℕ, zero, suc, ◌<◌, ◌≤◌, ◌⊎◌, ⊎_elim, inl, inr, ◌++◌, set, List, [], ◌∷◌, length, get_or, slice_get, refl, sym, ap, ◌∙◌, subst, arith, Bool, true, false, not, ◌&&◌, ◌||◌, Option, Some, None}
+use Rattle.std.proofs.lemmas.Bool.{and_right}
 use Rattle.std.proofs.lemmas.Option.{slice_get-get_or}
 use Rattle.kat_model.specs.Steps.{Atom, truth}
 use Rattle.kat_model.proofs.Places.{has_at, slice_get_last}
@@ -12,7 +13,7 @@ use Rattle.cert_checker.specs.NodeTables.{Nodes, AreTables, IsWithin, holds_at, 
 use Rattle.cert_checker.specs.Cases.{Extends, IsKnown, known_not, known_and, known_or, known_at, known_node}
 use Rattle.cert_checker.proofs.TableTrees.{test_of_node}
 use Rattle.cert_checker.proofs.OneNumber.{first_below, second_below}
-use Rattle.cert_checker.proofs.Insertions.{numbers_more}
+use Rattle.certificate.proofs.Growth.{below_more}
 
 -- ---- values that are put together
 
@@ -25,11 +26,7 @@ module _ (decided : List (Option Bool)) where
   and_known v w (Value false) y h k = λ atom e. ap (λ b. b && w atom) (h atom e)
   and_known v w (Value true) (Value c) h k = λ atom e. ap (λ b. b && w atom) (h atom e) ∙ k atom e
   and_known v w (Value true) (Waits l) h k = k
-  and_known v w (Waits l) (Value false) h k = λ atom e. ap (λ b. v atom && b) (k atom e) ∙ none (v atom)
-    where
-      none : (b : Bool) → (b && false) ≡ false
-      none true = refl
-      none false = refl
+  and_known v w (Waits l) (Value false) h k = λ atom e. and_right (v atom) (w atom) (k atom e)
   and_known v w (Waits l) (Value true) h k = h
   and_known v w (Waits l) (Waits m) h k = h
 
@@ -74,7 +71,7 @@ set_get (z ∷ xs) (suc j) (suc k) x y e = ⊎_elim (λ h. inl (ap suc h.0, h.1)
 
 -- the numbers that a node names, below more
 pub parts_within : (t : Nodes) → AreTables t → (k m : ℕ) (n : TestNode) → k ≤ m → slice_get t.tests k ≡ Some n → are_below m (test_parts n) ≡ true
-parts_within t are k m n le e = numbers_more k m (test_parts n) le (are.rules.tests k n e)
+parts_within t are k m n le e = below_more k m (test_parts n) le (are.rules.tests k n e)
 
 module _ (t : Nodes) (are : AreTables t) (decided : List (Option Bool)) (earlier : List Known)
     (each : (k : ℕ) (x : Known) → slice_get earlier k ≡ Some x → IsKnown decided (holds_at t k) x) where

@@ -1,27 +1,14 @@
 -- Ascending lists of numbers with the same members are one, so that a listed pair is found by its numbers.
-use Rattle.std.proofs.Common.{◌≡◌, ◌↔◌, ℕ, ◌<◌, inl, inr, ⊎_elim, List, [], ◌∷◌, length, refl, sym, subst, arith, true, nat_lt, ltb-true}
+use Rattle.std.proofs.Common.{◌≡◌, ◌↔◌, ℕ, ◌<◌, inl, inr, ⊎_elim, List, [], ◌∷◌, length, refl, sym, subst, arith, true}
 use mathlib.Core.Path.{ap₂}
-use Rattle.std.proofs.lemmas.Bool.{and_parts}
 use Rattle.kat_model.specs.Members.{Has, SameMembers}
 use Rattle.kat_model.proofs.Lists.{has_map, map_has}
 use Rattle.certificate.specs.Nodes.{are_below, are_ascending}
+use Rattle.certificate.proofs.Ascending.{ascending_tail, ascending_first}
 use Rattle.certificate.proofs.NodeTrees.{below_has}
 use Rattle.cert_checker.specs.NodeTables.{Nodes, AreTables, term_at}
 use Rattle.cert_checker.specs.Matching.{terms_of}
 use Rattle.cert_checker.proofs.OneNumber.{one_number_a_term}
-
-ascending_rest : (x : ℕ) (ks : List ℕ) → are_ascending (x ∷ ks) ≡ true → are_ascending ks ≡ true
-ascending_rest x [] e = refl
-ascending_rest x (y ∷ ks) e = (and_parts (nat_lt x y) (are_ascending (y ∷ ks)) e).1
-
-ascending_above : (x : ℕ) (ks : List ℕ) → are_ascending (x ∷ ks) ≡ true → (k : ℕ) → Has ks k → x < k
-ascending_above x [] e k h = absurd h
-ascending_above x (y ∷ ks) e k h =
-    let first : x < y = ltb-true x y (and_parts (nat_lt x y) (are_ascending (y ∷ ks)) e).0 in
-    ⊎_elim
-    (λ s. subst (λ m. x < m) s first)
-    (λ r. let more : y < k = ascending_above y ks (ascending_rest x (y ∷ ks) e) k r in omega arith)
-    h
 
 pub ascending_same : (ks ls : List ℕ) → are_ascending ks ≡ true → are_ascending ls ≡ true → ((k : ℕ) → Has ks k ↔ Has ls k) → ks ≡ ls
 ascending_same [] [] a b same = refl
@@ -30,16 +17,16 @@ ascending_same (x ∷ ks) [] a b same = absurd ((same x).0 (inl refl))
 ascending_same (x ∷ ks) (y ∷ ls) a b same =
     let one : x ≡ y = head in
     ap₂ (λ (z : ℕ) (zs : List ℕ). z ∷ zs) one
-    (ascending_same ks ls (ascending_rest x ks a) (ascending_rest y ls b)
+    (ascending_same ks ls (ascending_tail x ks a) (ascending_tail y ls b)
     (λ k. (
-      (λ h. ⊎_elim (λ s. let above : x < k = ascending_above x ks a k h in absurd (omega (arith, one, s))) (λ r. r) ((same k).0 (inr h))),
-      (λ h. ⊎_elim (λ s. let above : y < k = ascending_above y ls b k h in absurd (omega (arith, one, s))) (λ r. r) ((same k).1 (inr h))),
+      (λ h. ⊎_elim (λ s. let above : x < k = ascending_first x ks a k h in absurd (omega (arith, one, s))) (λ r. r) ((same k).0 (inr h))),
+      (λ h. ⊎_elim (λ s. let above : y < k = ascending_first y ls b k h in absurd (omega (arith, one, s))) (λ r. r) ((same k).1 (inr h))),
     )))
   where
     head : x ≡ y
     head =
         ⊎_elim sym
-        (λ r. ⊎_elim (λ s. s) (λ q. let up : y < x = ascending_above y ls b x r in let down : x < y = ascending_above x ks a y q in absurd (omega arith)) ((same y).1 (inl refl)))
+        (λ r. ⊎_elim (λ s. s) (λ q. let up : y < x = ascending_first y ls b x r in let down : x < y = ascending_first x ks a y q in absurd (omega arith)) ((same y).1 (inl refl)))
         ((same x).0 (inl refl))
 
 -- sets of numbers of terms are told apart by their terms

@@ -1,23 +1,17 @@
 -- Rounds over pairs: they keep what is marked; the next one, and one that changes nothing.
 use Rattle.std.proofs.Common.{◌≡◌, ℕ, zero, suc, ◌+◌, ◌-◌, ◌<◌, List, [], ◌∷◌, length, drop, drop-cons, get_or, set, refl, sym, ap, ◌∙◌, arith, Bool, true, false, cond}
 use Rattle.std.proofs.lemmas.Bool.{and_parts, and_from}
+use Rattle.kat_model.proofs.Places.{get_or-set_kept}
 use Rattle.certificate.specs.Nodes.{NumberPair}
 use Rattle.cert_checker.specs.Marks.{are_marked, with_marks, with_pair_marked, round_marked, rounds_marked}
 
 -- ---- what is marked stays so
 
-set_keeps_one : (marks : List Bool) (k j : ℕ) → get_or marks j false ≡ true → get_or (set marks k true) j false ≡ true
-set_keeps_one [] k j e = e
-set_keeps_one (m ∷ marks) zero zero e = refl
-set_keeps_one (m ∷ marks) zero (suc j) e = e
-set_keeps_one (m ∷ marks) (suc k) zero e = e
-set_keeps_one (m ∷ marks) (suc k) (suc j) e = set_keeps_one marks k j e
-
 set_keeps : (ks : List ℕ) (marks : List Bool) (k : ℕ) → are_marked marks ks ≡ true → are_marked (set marks k true) ks ≡ true
 set_keeps [] marks k e = refl
 set_keeps (j ∷ ks) marks k e =
     let parts = and_parts (get_or marks j false) (are_marked marks ks) e in
-    and_from (get_or (set marks k true) j false) (are_marked (set marks k true) ks) (set_keeps_one marks k j parts.0) (set_keeps ks marks k parts.1)
+    and_from (get_or (set marks k true) j false) (are_marked (set marks k true) ks) (get_or-set_kept marks k j true false parts.0) (set_keeps ks marks k parts.1)
 
 marks_keep : (ls : List ℕ) (marks : List Bool) (ks : List ℕ) → are_marked marks ks ≡ true → are_marked (with_marks marks ls) ks ≡ true
 marks_keep [] marks ks e = e

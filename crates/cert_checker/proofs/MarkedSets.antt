@@ -9,6 +9,7 @@ use Rattle.kat_model.specs.Members.{Has, IsSubset}
 use Rattle.kat_model.specs.Pairs.{holds_all, with_pair, round, rounds, sat}
 use Rattle.kat_model.proofs.Lists.{has_left, has_right, has_append}
 use Rattle.kat_model.proofs.SameTrees.{holds_all-true, subset-holds_all}
+use Rattle.kat_model.proofs.Places.{slice_get-set_same, slice_get-set_kept, slice_get-set_cases}
 use Rattle.certificate.specs.Nodes.{NumberPair, are_below}
 use Rattle.certificate.proofs.NodeTrees.{below_has}
 use Rattle.cert_checker.specs.NodeTables.{Nodes, AreTables, IsTerm, term_at}
@@ -17,25 +18,6 @@ use Rattle.cert_checker.specs.Matching.{terms_of, pairs_of, MarksAre}
 use Rattle.cert_checker.proofs.OneNumber.{one_number_a_term}
 
 -- ---- one mark more
-
-get_set : (marks : List Bool) (k : ℕ) → k < length marks → slice_get (set marks k true) k ≡ Some true
-get_set [] k h = absurd (omega arith)
-get_set (m ∷ marks) zero h = refl
-get_set (m ∷ marks) (suc k) h = get_set marks k (omega arith)
-
-get_set_kept : (marks : List Bool) (k j : ℕ) → slice_get marks j ≡ Some true → slice_get (set marks k true) j ≡ Some true
-get_set_kept [] k j e = e
-get_set_kept (m ∷ marks) zero zero e = refl
-get_set_kept (m ∷ marks) zero (suc j) e = e
-get_set_kept (m ∷ marks) (suc k) zero e = e
-get_set_kept (m ∷ marks) (suc k) (suc j) e = get_set_kept marks k j e
-
-get_set_cases : (marks : List Bool) (k j : ℕ) → slice_get (set marks k true) j ≡ Some true → (j ≡ k) ⊎ (slice_get marks j ≡ Some true)
-get_set_cases [] k j e = inr e
-get_set_cases (m ∷ marks) zero zero e = inl refl
-get_set_cases (m ∷ marks) zero (suc j) e = inr e
-get_set_cases (m ∷ marks) (suc k) zero e = inr e
-get_set_cases (m ∷ marks) (suc k) (suc j) e = ⊎_elim (λ s. inl (ap suc s)) inr (get_set_cases marks k j e)
 
 pub length_with_marks : (marks : List Bool) (ks : List ℕ) → length (with_marks marks ks) ≡ length marks
 length_with_marks marks [] = refl
@@ -96,8 +78,8 @@ module _ (t : Nodes) (are : AreTables t) where
 
   one_more : (marks : List Bool) (es : List Term) (k : ℕ) → length marks ≡ length t.terms → MarksAre t marks es → IsTerm t k → MarksAre t (set marks k true) (term_at t k ∷ es)
   one_more marks es k l m h e = (
-    (λ f. ⊎_elim (λ s. inl (ap (term_at t) (sym s) ∙ f.2)) (λ r. inr ((m e).0 (f.0, r, f.2))) (get_set_cases marks k f.0 f.1)),
-    (λ r. ⊎_elim (λ s. (k, get_set marks k (omega (arith, l, h)), s)) (λ q. let f = (m e).1 q in (f.0, get_set_kept marks k f.0 f.1, f.2)) r),
+    (λ f. ⊎_elim (λ s. inl (ap (term_at t) (sym s) ∙ f.2)) (λ r. inr ((m e).0 (f.0, r, f.2))) (slice_get-set_cases marks k f.0 true true f.1)),
+    (λ r. ⊎_elim (λ s. (k, slice_get-set_same marks k true (omega (arith, l, h)), s)) (λ q. let f = (m e).1 q in (f.0, slice_get-set_kept marks k f.0 true f.1, f.2)) r),
   )
 
   -- the marks of more numbers stand for a set with their terms

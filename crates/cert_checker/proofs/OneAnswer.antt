@@ -2,7 +2,7 @@
 use Rattle.std.proofs.Common.{◌≡◌, ℕ, suc, ◌<◌, ◌⊎◌, inl, inr, ⊎_elim, [], length, refl, sym, ap, ◌∙◌, arith, Some, None}
 use Rattle.std.specs.Option.{MatchOption}
 use Rattle.kat_model.specs.Strings.{GuardedString}
-use Rattle.kat_model.specs.Problems.{Question}
+use Rattle.kat_model.specs.Problems.{ProblemParts}
 use Rattle.certificate.specs.Certs.{CertParts}
 use Rattle.kat_model.proofs.Places.{has_at}
 use Rattle.kat_model.proofs.Sameness.{accepted_same}
@@ -61,7 +61,7 @@ turns_total s t long =
         h
 
 -- how long the atom of a reason is
-atom_length : (q : Question) (c : CertParts) (r : Reason) → FailsBy q c r → ((turn_of r).stage < 3) × ((turn_of r).atom ≡ []) ⊎ ((turn_of r).stage ≡ 3) × (length (turn_of r).atom ≡ q.tests)
+atom_length : (q : ProblemParts) (c : CertParts) (r : Reason) → FailsBy q c r → ((turn_of r).stage < 3) × ((turn_of r).atom ≡ []) ⊎ ((turn_of r).stage ≡ 3) × (length (turn_of r).atom ≡ q.tests)
 atom_length q c (TestNode k) f = inl (omega arith, refl)
 atom_length q c (TermNode k) f = inl (omega arith, refl)
 atom_length q c FirstPair f = inl (omega arith, refl)
@@ -71,7 +71,7 @@ atom_length q c (Shape k) f = absurd f
 atom_length q c (HypBroken h i j) f = absurd f
 atom_length q c EndsAgree f = absurd f
 
-pub same_length : (q : Question) (c : CertParts) (r s : Reason) → FailsBy q c r → FailsBy q c s → (turn_of r).stage ≡ (turn_of s).stage → length (turn_of r).atom ≡ length (turn_of s).atom
+pub same_length : (q : ProblemParts) (c : CertParts) (r s : Reason) → FailsBy q c r → FailsBy q c s → (turn_of r).stage ≡ (turn_of s).stage → length (turn_of r).atom ≡ length (turn_of s).atom
 same_length q c r s f g e =
     ⊎_elim
     (λ a. ⊎_elim (λ b. ap length (a.1 ∙ sym b.1)) (λ b. absurd (omega (arith, a.0, b.0, e))) (atom_length q c s g))
@@ -79,7 +79,7 @@ same_length q c r s f g e =
     (atom_length q c r f)
 
 -- reasons of a certificate with one turn are one
-one_turn : (q : Question) (c : CertParts) (r s : Reason) → FailsBy q c r → FailsBy q c s → turn_of r ≡ turn_of s → r ≡ s
+one_turn : (q : ProblemParts) (c : CertParts) (r s : Reason) → FailsBy q c r → FailsBy q c s → turn_of r ≡ turn_of s → r ≡ s
 one_turn q c (TestNode k) (TestNode l) f g e = ap TestNode (ap (λ (t : Turn). t.number) e)
 one_turn q c (TermNode k) (TermNode l) f g e = ap TermNode (ap (λ (t : Turn). t.number) e)
 one_turn q c FirstPair FirstPair f g e = refl
@@ -100,7 +100,7 @@ one_turn q c r s f g e =
     absurd cc
 
 -- a certificate has one first reason
-pub one_first : (q : Question) (c : CertParts) (r s : Reason) → FailsFirstBy q c r → FailsFirstBy q c s → r ≡ s
+pub one_first : (q : ProblemParts) (c : CertParts) (r s : Reason) → FailsFirstBy q c r → FailsFirstBy q c s → r ≡ s
 one_first q c r s f g =
     ⊎_elim
     (λ l. absurd (g.first r l f.fails))
@@ -109,7 +109,7 @@ one_first q c r s f g =
 
 -- ---- what fails is not accepted
 
-pub fails_not_accepted : (q : Question) (c : CertParts) (r : Reason) → FailsBy q c r → IsAccepted q c → ⊥
+pub fails_not_accepted : (q : ProblemParts) (c : CertParts) (r : Reason) → FailsBy q c r → IsAccepted q c → ⊥
 fails_not_accepted q c (TestNode k) f a = let low : f.0 < q.tests = a.tests f.0 (has_at c.test_nodes k (Prim f.0) f.1) in absurd (omega (arith, f.2))
 fails_not_accepted q c (TermNode k) f a = let low : f.0 < q.actions = a.actions f.0 (has_at c.term_nodes k (Act f.0) f.1) in absurd (omega (arith, f.2))
 fails_not_accepted q c FirstPair f a = f (a.pairs.rest, a.pairs.first)
@@ -119,7 +119,7 @@ fails_not_accepted q c (Shape k) f a = f
 fails_not_accepted q c (HypBroken h i j) f a = f
 fails_not_accepted q c EndsAgree f a = f
 
-pub found_not_shown : (q : Question) (e : Evidence) (r : Reason) → IsFoundBy q e r → Shows q e → ⊥
+pub found_not_shown : (q : ProblemParts) (e : Evidence) (r : Reason) → IsFoundBy q e r → Shows q e → ⊥
 found_not_shown q (Equal c) r f a = fails_not_accepted q c r f.fails a
 found_not_shown q (Different x) r (f, is, e) shown = not_refuted q x f (λ b g. let none : finding_reason f ≡ None = ap finding_reason g in absurd cc) is shown
 
@@ -139,7 +139,7 @@ shown_so q (Equal c) h = accepted_same (pair_style c.style) q (set_pairs c) h.pa
 shown_so q (Different x) h = refuted_not_same q x h
 
 -- a string with a finding refutes, or the finding has its reason
-pub string_told : (q : Question) (x : GuardedString) (f : Finding) → IsFinding q x f → MatchOption (finding_reason f) (Refutes q x) (λ r. IsFoundBy q (Different x) r)
+pub string_told : (q : ProblemParts) (x : GuardedString) (f : Finding) → IsFinding q x f → MatchOption (finding_reason f) (Refutes q x) (λ r. IsFoundBy q (Different x) r)
 string_told q x (FoundRefutes b) is = refuted_by q x b is
 string_told q x (FoundShape k) is = (FoundShape k, is, refl)
 string_told q x (FoundHypBroken h i j) is = (FoundHypBroken h i j, is, refl)

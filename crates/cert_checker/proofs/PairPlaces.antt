@@ -2,7 +2,7 @@
 use Rattle.std.proofs.Common.{◌≡◌, ◌↔◌, ℕ, zero, suc, ◌+◌, ◌<◌, ◌⊎◌, ⊎_elim, List, [], ◌∷◌, length, slice_get, refl, sym, ap, ◌∙◌, subst, arith, Bool, Option, Some, None}
 use Rattle.std.proofs.lemmas.Option.{slice_get_within}
 use Rattle.std.proofs.lemmas.List.{length-map}
-use Rattle.kat_model.specs.Problems.{Question}
+use Rattle.kat_model.specs.Problems.{ProblemParts}
 use Rattle.kat_model.specs.Steps.{Atom}
 use Rattle.kat_model.specs.Pairs.{SetPair}
 use Rattle.certificate.specs.Certs.{CertParts}
@@ -30,7 +30,7 @@ undecided_length (suc n) (b ∷ bs) h = ap suc (undecided_length n bs h)
 earlier_number : (s t : Turn) → s.stage ≡ t.stage → IsEarlier s t → (s.number < t.number) ⊎ ((s.number ≡ t.number) × (IsLess s.atom t.atom ⊎ ((s.atom ≡ t.atom) × (s.action < t.action))))
 earlier_number s t e h = ⊎_elim (λ l. absurd (omega (arith, l, e))) (λ k. k.1) h
 
-module _ (q : Question) (c : CertParts) where
+module _ (q : ProblemParts) (c : CertParts) where
   -- the pair at the place passes under each atom, for the outputs or for an action
   abbrev pub AllAlike : ℕ → Type 0
   AllAlike k = (p : SetPair) → slice_get (set_pairs c) k ≡ Some p → (atom : Atom) → length atom ≡ q.tests → AcceptAlike p atom

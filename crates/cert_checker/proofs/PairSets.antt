@@ -7,7 +7,7 @@ use Rattle.std.proofs.lemmas.Option.{slice_get-map}
 use Rattle.kat_model.specs.Trees.{Term}
 use Rattle.kat_model.specs.Members.{Has, SameMembers}
 use Rattle.kat_model.specs.Steps.{Atom, set_out, set_next}
-use Rattle.kat_model.specs.Problems.{Question}
+use Rattle.kat_model.specs.Problems.{ProblemParts}
 use Rattle.kat_model.specs.Closed.{closed}
 use Rattle.kat_model.specs.Pairs.{SetPair, Style as PairStyle, plain, up_to, sat, BothUniversal, AreMatched}
 use Rattle.kat_model.proofs.Lists.{has_left, same_members_sym, same_members_trans}
@@ -35,7 +35,7 @@ set_pair c p = record { left = terms_at (term_trees c) p.left; right = terms_at 
 pub pair_at : (c : CertParts) (k : ℕ) (p : NumberPair) → slice_get c.pairs k ≡ Some p → slice_get (set_pairs c) k ≡ Some (set_pair c p)
 pair_at c k p e = slice_get-map (set_pair c) c.pairs k ∙ ap (option_map (set_pair c)) e
 
-module _ (q : Question) (c : CertParts) (rules : IsCert c) (t : Nodes) (are : AreTables t) (grows : Grows (nodes_of q.tests c) t) where
+module _ (q : ProblemParts) (c : CertParts) (rules : IsCert c) (t : Nodes) (are : AreTables t) (grows : Grows (nodes_of q.tests c) t) where
   pub first_tables : AreTables (nodes_of q.tests c)
   first_tables = record {
     rules = nodes_rules q.tests c rules;
@@ -108,7 +108,7 @@ matched_same up_to universal ps es fs gs hs s u m =
 
 -- ---- first failures told of the certificate
 
-module _ (q : Question) (c : CertParts) (rules : IsCert c) (t : Nodes) (are : AreTables t) (grows : Grows (nodes_of q.tests c) t) (k : ℕ) (p : NumberPair) (at : slice_get c.pairs k ≡ Some p) where
+module _ (q : ProblemParts) (c : CertParts) (rules : IsCert c) (t : Nodes) (are : AreTables t) (grows : Grows (nodes_of q.tests c) t) (k : ℕ) (p : NumberPair) (at : slice_get c.pairs k ≡ Some p) where
   sets : IsNumberSet (length c.term_nodes) p.left × IsNumberSet (length c.term_nodes) p.right
   sets = rules.pairs p (has_at c.pairs k p at)
 

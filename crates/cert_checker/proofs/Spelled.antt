@@ -1,5 +1,6 @@
 -- A node has the tree that recursion on the tree finds at it.
 use Rattle.std.proofs.Common.{◌≡◌, ◌↔◌, ℕ, ◌<◌, inl, List, [], ◌∷◌, length, get_or, map, slice_get, refl, sym, ap, ◌∙◌, arith, Bool, true, false, ◌&&◌, Option, Some}
+use Rattle.std.specs.Option.{option_map_or}
 use mathlib.Core.Path.{ap₂}
 use Rattle.std.proofs.lemmas.Bool.{and_parts, and_from, eqb-true, eq-eqb}
 use Rattle.std.proofs.lemmas.Option.{slice_get-get_or}
@@ -15,7 +16,6 @@ use Rattle.certificate.specs.Nodes.{NumberPair, test_parts, term_parts, tests_of
 use Rattle.certificate.specs.Certs.{CertParts, IsCert}
 use Rattle.certificate.specs.Accepted.{set_pairs, terms_at, term_trees}
 use Rattle.cert_checker.specs.NodeTables.{nodes_cert, nodes_of, test_at, term_at, test_tree_in, term_tree_in}
-use Rattle.cert_checker.specs.Matching.{option_any}
 use Rattle.cert_checker.specs.Spelling.{is_constant, is_prim, negated, conjuncts, disjuncts, spells_test_tree, is_zero, is_one, is_act, tested, summands, factors, repeated, spells_tree}
 use Rattle.cert_checker.proofs.TableTrees.{test_by_rules, term_by_rules}
 use Rattle.cert_checker.proofs.OneNumber.{first_below, second_below}
@@ -56,7 +56,7 @@ module _ (c : CertParts) (rules : IsCert c) where
     part_told : (x : ℕ) → x < k → (f x ≡ true) ↔ (test_at (nodes_of 0 c) x ≡ b)
     part_told x h = told x (omega (arith, h, low))
 
-    is_complement : (n : TestNode) → are_below k (test_parts n) ≡ true → (option_any f (negated (Some n)) ≡ true) ↔ (test_tree_in (nodes_of 0 c) n ≡ complement b)
+    is_complement : (n : TestNode) → are_below k (test_parts n) ≡ true → (option_map_or f (negated (Some n)) false ≡ true) ↔ (test_tree_in (nodes_of 0 c) n ≡ complement b)
     is_complement (Not x) below =
         let both = part_told x (first_below k x [] below) in
         ((λ e. ap complement (both.0 e)), (λ e. both.1 cc))
@@ -66,7 +66,7 @@ module _ (c : CertParts) (rules : IsCert c) where
       also_told : (x : ℕ) → x < k → (g x ≡ true) ↔ (test_at (nodes_of 0 c) x ≡ d)
       also_told x h = also x (omega (arith, h, low))
 
-      is_meet : (n : TestNode) → are_below k (test_parts n) ≡ true → (option_any (λ (p : ℕ × ℕ). f p.0 && g p.1) (conjuncts (Some n)) ≡ true) ↔ (test_tree_in (nodes_of 0 c) n ≡ meet b d)
+      is_meet : (n : TestNode) → are_below k (test_parts n) ≡ true → (option_map_or (λ (p : ℕ × ℕ). f p.0 && g p.1) (conjuncts (Some n)) false ≡ true) ↔ (test_tree_in (nodes_of 0 c) n ≡ meet b d)
       is_meet (And x y) below =
           let first = part_told x (first_below k x (y ∷ []) below) in
           let second = also_told y (second_below k x y [] below) in (
@@ -75,7 +75,7 @@ module _ (c : CertParts) (rules : IsCert c) where
           )
       is_meet n below = ((λ e. absurd cc), (λ e. absurd cc))
 
-      is_join : (n : TestNode) → are_below k (test_parts n) ≡ true → (option_any (λ (p : ℕ × ℕ). f p.0 && g p.1) (disjuncts (Some n)) ≡ true) ↔ (test_tree_in (nodes_of 0 c) n ≡ join b d)
+      is_join : (n : TestNode) → are_below k (test_parts n) ≡ true → (option_map_or (λ (p : ℕ × ℕ). f p.0 && g p.1) (disjuncts (Some n)) false ≡ true) ↔ (test_tree_in (nodes_of 0 c) n ≡ join b d)
       is_join (Or x y) below =
           let first = part_told x (first_below k x (y ∷ []) below) in
           let second = also_told y (second_below k x y [] below) in (
@@ -89,13 +89,13 @@ module _ (c : CertParts) (rules : IsCert c) where
   test_spelled top k low = by_test_node k low (is_constant true) top (λ n below. is_top n)
   test_spelled (prim l) k low = by_test_node k low (is_prim l) (prim l) (λ n below. is_primitive l n)
   test_spelled (complement b) k low =
-      by_test_node k low (λ o. option_any (λ x. spells_test_tree c.test_nodes b x) (negated o)) (complement b)
+      by_test_node k low (λ o. option_map_or (λ x. spells_test_tree c.test_nodes b x) (negated o) false) (complement b)
       (is_complement b (spells_test_tree c.test_nodes b) k low (λ x h. test_spelled b x h))
   test_spelled (meet b d) k low =
-      by_test_node k low (λ o. option_any (λ p. spells_test_tree c.test_nodes b p.0 && spells_test_tree c.test_nodes d p.1) (conjuncts o)) (meet b d)
+      by_test_node k low (λ o. option_map_or (λ p. spells_test_tree c.test_nodes b p.0 && spells_test_tree c.test_nodes d p.1) (conjuncts o) false) (meet b d)
       (is_meet b (spells_test_tree c.test_nodes b) k low (λ x h. test_spelled b x h) d (spells_test_tree c.test_nodes d) (λ x h. test_spelled d x h))
   test_spelled (join b d) k low =
-      by_test_node k low (λ o. option_any (λ p. spells_test_tree c.test_nodes b p.0 && spells_test_tree c.test_nodes d p.1) (disjuncts o)) (join b d)
+      by_test_node k low (λ o. option_map_or (λ p. spells_test_tree c.test_nodes b p.0 && spells_test_tree c.test_nodes d p.1) (disjuncts o) false) (join b d)
       (is_join b (spells_test_tree c.test_nodes b) k low (λ x h. test_spelled b x h) d (spells_test_tree c.test_nodes d) (λ x h. test_spelled d x h))
 
   -- ---- terms
@@ -121,7 +121,7 @@ module _ (c : CertParts) (rules : IsCert c) where
   is_action a (Act b) = ((λ e. ap act (eqb-true b a e)), (λ e. eq-eqb b a cc))
   is_action a n = ((λ e. absurd cc), (λ e. absurd cc))
 
-  is_test : (b : TestTree) (n : TermNode) → are_below (length c.test_nodes) (tests_of_term n) ≡ true → (option_any (λ x. spells_test_tree c.test_nodes b x) (tested (Some n)) ≡ true) ↔ (term_tree_in (nodes_of 0 c) n ≡ test b)
+  is_test : (b : TestTree) (n : TermNode) → are_below (length c.test_nodes) (tests_of_term n) ≡ true → (option_map_or (λ x. spells_test_tree c.test_nodes b x) (tested (Some n)) false ≡ true) ↔ (term_tree_in (nodes_of 0 c) n ≡ test b)
   is_test b (Test x) below =
       let both = test_spelled b x (first_below (length c.test_nodes) x [] below) in
       ((λ e. ap test (both.0 e)), (λ e. both.1 cc))
@@ -131,7 +131,7 @@ module _ (c : CertParts) (rules : IsCert c) where
     term_told : (x : ℕ) → x < k → (f x ≡ true) ↔ (term_at (nodes_of 0 c) x ≡ e)
     term_told x h = told x (omega (arith, h, low))
 
-    is_star : (n : TermNode) → are_below k (term_parts n) ≡ true → (option_any f (repeated (Some n)) ≡ true) ↔ (term_tree_in (nodes_of 0 c) n ≡ star e)
+    is_star : (n : TermNode) → are_below k (term_parts n) ≡ true → (option_map_or f (repeated (Some n)) false ≡ true) ↔ (term_tree_in (nodes_of 0 c) n ≡ star e)
     is_star (Star x) below =
         let both = term_told x (first_below k x [] below) in
         ((λ h. ap star (both.0 h)), (λ h. both.1 cc))
@@ -141,7 +141,7 @@ module _ (c : CertParts) (rules : IsCert c) where
       other_told : (x : ℕ) → x < k → (g x ≡ true) ↔ (term_at (nodes_of 0 c) x ≡ d)
       other_told x h = also x (omega (arith, h, low))
 
-      is_sum : (n : TermNode) → are_below k (term_parts n) ≡ true → (option_any (λ (p : ℕ × ℕ). f p.0 && g p.1) (summands (Some n)) ≡ true) ↔ (term_tree_in (nodes_of 0 c) n ≡ sum e d)
+      is_sum : (n : TermNode) → are_below k (term_parts n) ≡ true → (option_map_or (λ (p : ℕ × ℕ). f p.0 && g p.1) (summands (Some n)) false ≡ true) ↔ (term_tree_in (nodes_of 0 c) n ≡ sum e d)
       is_sum (Sum x y) below =
           let first = term_told x (first_below k x (y ∷ []) below) in
           let second = other_told y (second_below k x y [] below) in (
@@ -150,7 +150,7 @@ module _ (c : CertParts) (rules : IsCert c) where
           )
       is_sum n below = ((λ h. absurd cc), (λ h. absurd cc))
 
-      is_product : (n : TermNode) → are_below k (term_parts n) ≡ true → (option_any (λ (p : ℕ × ℕ). f p.0 && g p.1) (factors (Some n)) ≡ true) ↔ (term_tree_in (nodes_of 0 c) n ≡ product e d)
+      is_product : (n : TermNode) → are_below k (term_parts n) ≡ true → (option_map_or (λ (p : ℕ × ℕ). f p.0 && g p.1) (factors (Some n)) false ≡ true) ↔ (term_tree_in (nodes_of 0 c) n ≡ product e d)
       is_product (Seq x y) below =
           let first = term_told x (first_below k x (y ∷ []) below) in
           let second = other_told y (second_below k x y [] below) in (
@@ -162,16 +162,16 @@ module _ (c : CertParts) (rules : IsCert c) where
   pub term_spelled : (e : Term) (k : ℕ) → k < length c.term_nodes → (spells_tree c.test_nodes c.term_nodes e k ≡ true) ↔ (term_at (nodes_of 0 c) k ≡ e)
   term_spelled nothing k low = by_term_node k low is_zero nothing (λ n first below. is_nothing n)
   term_spelled one k low = by_term_node k low is_one one (λ n first below. is_skip n)
-  term_spelled (test b) k low = by_term_node k low (λ o. option_any (λ x. spells_test_tree c.test_nodes b x) (tested o)) (test b) (λ n first below. is_test b n first)
+  term_spelled (test b) k low = by_term_node k low (λ o. option_map_or (λ x. spells_test_tree c.test_nodes b x) (tested o) false) (test b) (λ n first below. is_test b n first)
   term_spelled (act a) k low = by_term_node k low (is_act a) (act a) (λ n first below. is_action a n)
   term_spelled (sum e d) k low =
-      by_term_node k low (λ o. option_any (λ p. spells_tree c.test_nodes c.term_nodes e p.0 && spells_tree c.test_nodes c.term_nodes d p.1) (summands o)) (sum e d)
+      by_term_node k low (λ o. option_map_or (λ p. spells_tree c.test_nodes c.term_nodes e p.0 && spells_tree c.test_nodes c.term_nodes d p.1) (summands o) false) (sum e d)
       (λ n first below. is_sum e (spells_tree c.test_nodes c.term_nodes e) k low (λ x h. term_spelled e x h) d (spells_tree c.test_nodes c.term_nodes d) (λ x h. term_spelled d x h) n below)
   term_spelled (product e d) k low =
-      by_term_node k low (λ o. option_any (λ p. spells_tree c.test_nodes c.term_nodes e p.0 && spells_tree c.test_nodes c.term_nodes d p.1) (factors o)) (product e d)
+      by_term_node k low (λ o. option_map_or (λ p. spells_tree c.test_nodes c.term_nodes e p.0 && spells_tree c.test_nodes c.term_nodes d p.1) (factors o) false) (product e d)
       (λ n first below. is_product e (spells_tree c.test_nodes c.term_nodes e) k low (λ x h. term_spelled e x h) d (spells_tree c.test_nodes c.term_nodes d) (λ x h. term_spelled d x h) n below)
   term_spelled (star e) k low =
-      by_term_node k low (λ o. option_any (λ x. spells_tree c.test_nodes c.term_nodes e x) (repeated o)) (star e)
+      by_term_node k low (λ o. option_map_or (λ x. spells_tree c.test_nodes c.term_nodes e x) (repeated o) false) (star e)
       (λ n first below. is_star e (spells_tree c.test_nodes c.term_nodes e) k low (λ x h. term_spelled e x h) n below)
 
   -- ---- the sets of one term

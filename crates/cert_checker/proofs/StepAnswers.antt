@@ -2,7 +2,7 @@
 use Rattle.std.proofs.Common.{◌≡◌, ℕ, zero, suc, ◌<◌, inl, inr, ⊎_elim, List, [], ◌∷◌, length, slice_get, refl, sym, ap, ◌∙◌, subst, arith, Bool, true, false, nat_lt, nat_eq, ◌&&◌, cond, Option, Some, None}
 use mathlib.Core.Bool.{beq}
 use mathlib.Core.Path.{ap₂}
-use Rattle.std.specs.Option.{option_map}
+use Rattle.std.specs.Option.{option_map, option_map_or}
 use Rattle.std.specs.List.{AllByRecursion}
 use Rattle.std.specs.List.Sorted.{IsStrictlySortedBy}
 use Rattle.std.specs.Map.{keys_of}
@@ -27,7 +27,7 @@ use Rattle.cert_checker.specs.declared.known.Known.TheVariants.{Value, Waits}
 use Rattle.cert_checker.specs.NodeTables.{Nodes, AreTables, IsTerm, term_at, holds_at}
 use Rattle.cert_checker.specs.Targets.{chosen, AreEntries}
 use Rattle.cert_checker.specs.Cases.{Extends, AreKnown, HoldsThroughout}
-use Rattle.cert_checker.specs.Matching.{RuleParts, AreRules, MatchAt, pairs_of, known_of, truly, sure_targets, guard_of, is_sure, option_any, covers, lists, terms_of, AreSettled}
+use Rattle.cert_checker.specs.Matching.{RuleParts, AreRules, MatchAt, pairs_of, known_of, truly, sure_targets, guard_of, is_sure, covers, lists, terms_of, AreSettled}
 use Rattle.cert_checker.proofs.OneNumber.{one_number_a_term}
 use Rattle.cert_checker.proofs.Covering.{chosen_has, has_chosen, known_value, truly_value, sure_chosen, guard_member, any_value}
 use Rattle.cert_checker.proofs.Covered.{sure_below, settled_sure, covered_congruent, congruent_covered}
@@ -154,7 +154,7 @@ module _ (t : Nodes) (are : AreTables t) (decided : List (Option Bool)) (known :
       let member = guard_member u es v.0 v.1 in
       chosen_has t es atom (u, v.0) member (known_value t decided known ak atom extends v.0 true (entries (u, v.0) member).1 (truly_value (known_of known v.0) v.2))
 
-  both_universal : (atom : Atom) → Extends decided atom → (universal : Option ℕ) → option_any (λ u. is_sure known left u && is_sure known right u) universal ≡ true → BothUniversal (option_map (term_at t) universal) (chosen t left atom) (chosen t right atom)
+  both_universal : (atom : Atom) → Extends decided atom → (universal : Option ℕ) → option_map_or (λ u. is_sure known left u && is_sure known right u) universal false ≡ true → BothUniversal (option_map (term_at t) universal) (chosen t left atom) (chosen t right atom)
   both_universal atom extends None e = absurd cc
   both_universal atom extends (Some u) e =
       let parts = and_parts (is_sure known left u) (is_sure known right u) e in
@@ -165,7 +165,7 @@ module _ (t : Nodes) (are : AreTables t) (decided : List (Option Bool)) (known :
   more_universal (Some u) ps es fs h = (sat_keeps ps es u h.0, sat_keeps ps fs u h.1)
 
   -- both sets surely hold the universal term
-  pub universal_holds : option_any (λ u. is_sure known left u && is_sure known right u) r.universal ≡ true → HoldsThroughout (MatchAt t r left right) decided
+  pub universal_holds : option_map_or (λ u. is_sure known left u && is_sure known right u) r.universal false ≡ true → HoldsThroughout (MatchAt t r left right) decided
   universal_holds e atom extends =
       by_style r.style
     where
@@ -203,9 +203,9 @@ module _ (t : Nodes) (are : AreTables t) (decided : List (Option Bool)) (known :
           let value : holds_at t f.0.1 atom ≡ s.0 = known_value t decided known ak atom extends f.0.1 s.0 (entries f.0 f.1).1 s.1 in
           let sure : known_of known f.0.1 ≡ Value true = s.1 ∙ ap Value (sym value ∙ f.2) in
           let found : guard_of es u ≡ Some f.0.1 = ap (guard_of es) (sym one) ∙ guard_found es f.0 keys f.1 in
-          ap (option_any (λ g. truly (known_of known g))) found ∙ ap truly sure
+          ap (λ o. option_map_or (λ g. truly (known_of known g)) o false) found ∙ ap truly sure
 
-      universal_sure : (atom : Atom) → Extends decided atom → (universal : Option ℕ) → ((u : ℕ) → universal ≡ Some u → IsTerm t u) → BothUniversal (option_map (term_at t) universal) (chosen t left atom) (chosen t right atom) → option_any (λ u. is_sure known left u && is_sure known right u) universal ≡ true
+      universal_sure : (atom : Atom) → Extends decided atom → (universal : Option ℕ) → ((u : ℕ) → universal ≡ Some u → IsTerm t u) → BothUniversal (option_map (term_at t) universal) (chosen t left atom) (chosen t right atom) → option_map_or (λ u. is_sure known left u && is_sure known right u) universal false ≡ true
       universal_sure atom extends None within h = absurd h
       universal_sure atom extends (Some u) within h =
           and_from (is_sure known left u) (is_sure known right u)
@@ -231,7 +231,7 @@ module _ (t : Nodes) (are : AreTables t) (decided : List (Option Bool)) (known :
           (ap (λ ks. pointwise nat_eq ks (sure_targets known left)) lefts ∙ pointwise_itself (sure_targets known left))
           (ap (λ ks. pointwise nat_eq ks (sure_targets known right)) rights ∙ pointwise_itself (sure_targets known right)))
 
-      pub unlisted_fails : r.style ≡ Plain → option_any (λ u. is_sure known left u && is_sure known right u) r.universal ≡ false → lists r.pairs (sure_targets known left) (sure_targets known right) ≡ false → (atom : Atom) → Extends decided atom → MatchAt t r left right atom → ⊥
+      pub unlisted_fails : r.style ≡ Plain → option_map_or (λ u. is_sure known left u && is_sure known right u) r.universal false ≡ false → lists r.pairs (sure_targets known left) (sure_targets known right) ≡ false → (atom : Atom) → Extends decided atom → MatchAt t r left right atom → ⊥
       unlisted_fails plainly unsure none atom extends m =
           ⊎_elim
           (λ l. true≢false (sym (listed_found atom extends l) ∙ none))

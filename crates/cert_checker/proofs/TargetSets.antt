@@ -2,6 +2,7 @@
 use Rattle.std.proofs.Common.{◌≡◌, ℕ, ◌⊎◌, inl, inr, ⊎_elim, List, [], ◌∷◌, ◌++◌, refl, sym, ap, ◌∙◌, subst, Bool, true, false, ◌||◌, cond, Some}
 use mathlib.Core.Path.{ap₂}
 use Rattle.std.specs.declared.cmp.Ordering.{Ordering}
+use Rattle.std.specs.Option.{option_map_or}
 use Rattle.std.specs.declared.cmp.Ordering.TheVariants.{Less, Equal, Greater}
 use Rattle.std.specs.Ordering.{nat_cmp, is_eq, match_ordering}
 use Rattle.std.specs.BTreeMap.{insert_entry}
@@ -13,7 +14,7 @@ use Rattle.kat_model.specs.Steps.{Atom, truth}
 use Rattle.kat_model.proofs.Lists.{has_left, has_right, has_append}
 use Rattle.cert_checker.specs.NodeTables.{Nodes, AreTables, Grows, IsTest, IsTerm, term_at, holds_at}
 use Rattle.cert_checker.specs.Targets.{chosen, AreEntries, StandFor}
-use Rattle.cert_checker.specs.Matching.{option_any, guard_of}
+use Rattle.cert_checker.specs.Matching.{guard_of}
 use Rattle.cert_checker.proofs.TableTrees.{test_kept, term_kept, front_within}
 use Rattle.cert_checker.proofs.Covering.{chosen_has, has_chosen, guard_member, any_value}
 
@@ -80,7 +81,7 @@ module _ (k g : ℕ) where
 
 module _ (old new : Nodes) (are : AreTables old) (grows : Grows old new) (es : List (ℕ × ℕ)) (own : AreEntries old es)
     (k guard joined : ℕ) (is_term : IsTerm old k) (is_test : IsTest new joined)
-    (value : (atom : Atom) → holds_at new joined atom ≡ (option_any (λ o. holds_at old o atom) (guard_of es k) || holds_at old guard atom)) where
+    (value : (atom : Atom) → holds_at new joined atom ≡ (option_map_or (λ o. holds_at old o atom) (guard_of es k) false || holds_at old guard atom)) where
   -- the list with the target added stands for the terms before and this one
   pub added_stands : StandFor new (insert_entry nat_cmp es k joined) (λ atom. chosen old es atom ++ cond (holds_at old guard atom) (term_at old k ∷ []) [])
   added_stands = record { entries = entries; same = λ atom x. (to atom x, from atom x) }
@@ -103,14 +104,14 @@ module _ (old new : Nodes) (are : AreTables old) (grows : Grows old new) (es : L
           let f = has_chosen new (insert_entry nat_cmp es k joined) atom x h in
           ⊎_elim
           (λ s.
-          let both : (option_any (λ o. holds_at old o atom) (guard_of es k) || holds_at old guard atom) ≡ true = sym (value atom) ∙ ap (λ (p : ℕ × ℕ). holds_at new p.1 atom) (sym s) ∙ f.2 in
+          let both : (option_map_or (λ o. holds_at old o atom) (guard_of es k) false || holds_at old guard atom) ≡ true = sym (value atom) ∙ ap (λ (p : ℕ × ℕ). holds_at new p.1 atom) (sym s) ∙ f.2 in
           let here : term_at old k ≡ x = sym name ∙ ap (λ (p : ℕ × ℕ). term_at new p.0) (sym s) ∙ f.3 in
           ⊎_elim
           (λ o.
           let v = any_value (λ o. holds_at old o atom) (guard_of es k) o in
           has_left (chosen old es atom) _ x (subst (Has (chosen old es atom)) here (chosen_has old es atom (k, v.0) (guard_member k es v.0 v.1) v.2)))
           (λ g. has_right (chosen old es atom) _ x (right atom x g here))
-          (or_cases (option_any (λ o. holds_at old o atom) (guard_of es k)) (holds_at old guard atom) both))
+          (or_cases (option_map_or (λ o. holds_at old o atom) (guard_of es k) false) (holds_at old guard atom) both))
           (λ m.
           let true_here : holds_at old f.0.1 atom ≡ true = sym (holds_kept old new are grows f.0.1 atom (own f.0 m).1) ∙ f.2 in
           let there : term_at old f.0.0 ≡ x = sym (term_kept old new are grows f.0.0 (own f.0 m).0) ∙ f.3 in
@@ -118,7 +119,7 @@ module _ (old new : Nodes) (are : AreTables old) (grows : Grows old new) (es : L
           (insert_only k joined es f.0 f.1)
 
       -- the added target is chosen where its guard is true or was
-      chosen_added : (atom : Atom) → (option_any (λ o. holds_at old o atom) (guard_of es k) || holds_at old guard atom) ≡ true → Has (chosen new (insert_entry nat_cmp es k joined) atom) (term_at old k)
+      chosen_added : (atom : Atom) → (option_map_or (λ o. holds_at old o atom) (guard_of es k) false || holds_at old guard atom) ≡ true → Has (chosen new (insert_entry nat_cmp es k joined) atom) (term_at old k)
       chosen_added atom h =
           subst (Has (chosen new (insert_entry nat_cmp es k joined) atom)) name
           (chosen_has new (insert_entry nat_cmp es k joined) atom (k, joined) (insert_new k joined es) (value atom ∙ h))
@@ -133,12 +134,12 @@ module _ (old new : Nodes) (are : AreTables old) (grows : Grows old new) (es : L
           subst (Has (chosen new (insert_entry nat_cmp es k joined) atom)) (term_kept old new are grows f.0.0 (own f.0 f.1).0 ∙ f.3)
           (chosen_has new (insert_entry nat_cmp es k joined) atom f.0 m (holds_kept old new are grows f.0.1 atom (own f.0 f.1).1 ∙ f.2)))
           (λ s.
-          let was : option_any (λ o. holds_at old o atom) (guard_of es k) ≡ true = ap (option_any (λ o. holds_at old o atom)) s.1 ∙ f.2 in
+          let was : option_map_or (λ o. holds_at old o atom) (guard_of es k) false ≡ true = ap (λ g. option_map_or (λ o. holds_at old o atom) g false) s.1 ∙ f.2 in
           subst (Has (chosen new (insert_entry nat_cmp es k joined) atom)) (ap (term_at old) (sym s.0) ∙ f.3) (chosen_added atom (or_left _ (holds_at old guard atom) was)))
           (insert_old k joined es f.0 f.1))
           (λ r. by_guard (holds_at old guard atom) refl r)
           (has_append (chosen old es atom) _ x h)
         where
           by_guard : (b : Bool) → holds_at old guard atom ≡ b → Has (cond b (term_at old k ∷ []) []) x → Has (chosen new (insert_entry nat_cmp es k joined) atom) x
-          by_guard true e m = ⊎_elim (λ s. subst (Has (chosen new (insert_entry nat_cmp es k joined) atom)) s (chosen_added atom (or_right (option_any (λ o. holds_at old o atom) (guard_of es k)) _ e))) absurd m
+          by_guard true e m = ⊎_elim (λ s. subst (Has (chosen new (insert_entry nat_cmp es k joined) atom)) s (chosen_added atom (or_right (option_map_or (λ o. holds_at old o atom) (guard_of es k) false) _ e))) absurd m
           by_guard false e m = absurd m

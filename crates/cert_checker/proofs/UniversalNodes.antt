@@ -4,7 +4,7 @@ use Rattle.std.specs.Option.{MatchOption}
 use Rattle.std.proofs.lemmas.Option.{slice_get-get_or}
 use Rattle.kat_model.specs.Trees.{Term, sum, product}
 use Rattle.kat_model.specs.Members.{Has}
-use Rattle.kat_model.specs.Problems.{Question}
+use Rattle.kat_model.specs.Problems.{ProblemParts}
 use Rattle.kat_model.specs.Balanced.{sum_of}
 use Rattle.kat_model.specs.Closed.{closed, closed_under, universal_of, inside}
 use Rattle.kat_model.specs.Pairs.{SetPair}
@@ -61,7 +61,7 @@ module _ (c : CertParts) (rules : IsCert c) where
           let heads : ◌≡◌ {A = SetPair} (record { left = terms_at (term_trees c) p.left; right = terms_at (term_trees c) p.right }) (record { left = e ∷ []; right = f ∷ [] }) = cc h in
           by_set p (each p (inl refl)).0 p.left refl (ap (λ (z : SetPair). z.left) heads)
 
-  pub universal_there : (q : Question) (u : Term) → BeginsWithSides q (set_pairs c) → (closed q).universal ≡ Some u → (k : ℕ) × (k < length c.term_nodes) × (term_at (nodes_of 0 c) k ≡ u)
+  pub universal_there : (q : ProblemParts) (u : Term) → BeginsWithSides q (set_pairs c) → (closed q).universal ≡ Some u → (k : ℕ) × (k < length c.term_nodes) × (term_at (nodes_of 0 c) k ≡ u)
   universal_there q u begins is = go q.hyps begins.1 is
     where
       named : {v : Term} → v ≡ u → (k : ℕ) × (k < length c.term_nodes) × (term_at (nodes_of 0 c) k ≡ v) → (k : ℕ) × (k < length c.term_nodes) × (term_at (nodes_of 0 c) k ≡ u)
@@ -76,7 +76,7 @@ module _ (c : CertParts) (rules : IsCert c) where
           let third = factor_there second.0 second.1 (universal_of q.actions) (product (sum_of (g ∷ hyps)) (universal_of q.actions)) second.2 in
           named universal third
 
-  pub scope_told : (q : Question) (u : Term) (r : Option ℕ) → BeginsWithSides q (set_pairs c) → (closed q).universal ≡ Some u → MatchOption r ((k : ℕ) → k < length c.term_nodes → term_at (nodes_of 0 c) k ≢ u) (λ k. (k < length c.term_nodes) × (term_at (nodes_of 0 c) k ≡ u)) → IsScope q c r
+  pub scope_told : (q : ProblemParts) (u : Term) (r : Option ℕ) → BeginsWithSides q (set_pairs c) → (closed q).universal ≡ Some u → MatchOption r ((k : ℕ) → k < length c.term_nodes → term_at (nodes_of 0 c) k ≢ u) (λ k. (k < length c.term_nodes) × (term_at (nodes_of 0 c) k ≡ u)) → IsScope q c r
   scope_told q u None begins is none = let there = universal_there q u begins is in absurd (none there.0 there.1 there.2)
   scope_told q u (Some k) begins is h = record {
     term = ap (λ (x : Term). Some x) h.1 ∙ sym is;

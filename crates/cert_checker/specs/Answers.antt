@@ -1,6 +1,6 @@
 -- What evidence has to show, and the first reason why it does not.
 use Rattle.std.specs.Prelude.{◌≡◌, ◌⊎◌, ◌<◌, ◌≤◌, ℕ, suc, true, false, List, [], ◌∷◌, length, slice_get, Option, Some, None}
-use Rattle.kat_model.specs.Problems.{Question}
+use Rattle.kat_model.specs.Problems.{ProblemParts}
 use Rattle.kat_model.specs.Steps.{Atom, set_out, set_next}
 use Rattle.kat_model.specs.Closed.{closed}
 use Rattle.kat_model.specs.Pairs.{SetPair, AreMatched}
@@ -20,12 +20,12 @@ use Rattle.cert_checker.specs.declared.answer.Answer.{Answer}
 use Rattle.cert_checker.specs.declared.answer.Answer.TheVariants.{Accepted, Rejected}
 
 -- the evidence shows what it says: the certificate is accepted, or the string refutes
-abbrev pub Shows : Question → Evidence → Type 0
+abbrev pub Shows : ProblemParts → Evidence → Type 0
 Shows q (Equal c) = IsAccepted q c
 Shows q (Different x) = Refutes q x
 
 -- the first pair is the two closed sides, each as a set of one term
-abbrev pub BeginsWithSides : Question → List SetPair → Type 0
+abbrev pub BeginsWithSides : ProblemParts → List SetPair → Type 0
 BeginsWithSides q pairs = (rest : List SetPair) × (pairs ≡ record { left = (closed q).left ∷ []; right = (closed q).right ∷ [] } ∷ rest)
 
 -- under the atom both sets of the pair accept, or neither does
@@ -33,11 +33,11 @@ abbrev pub AcceptAlike : SetPair → Atom → Type 0
 AcceptAlike p atom = set_out p.left atom ≡ set_out p.right atom
 
 -- the sets that the pair leads to by the action are matched by the listed pairs
-abbrev pub IsMatchedBy : Question → CertParts → SetPair → Atom → ℕ → Type 0
+abbrev pub IsMatchedBy : ProblemParts → CertParts → SetPair → Atom → ℕ → Type 0
 IsMatchedBy q c p atom a = AreMatched (pair_style c.style) (closed q).universal (set_pairs c) (set_next p.left atom a) (set_next p.right atom a)
 
 -- the certificate fails so
-abbrev pub FailsBy : Question → CertParts → Reason → Type 0
+abbrev pub FailsBy : ProblemParts → CertParts → Reason → Type 0
 FailsBy q c (TestNode k) = (i : ℕ) × (slice_get c.test_nodes k ≡ Some (Prim i)) × (q.tests ≤ i)
 FailsBy q c (TermNode k) = (a : ℕ) × (slice_get c.term_nodes k ≡ Some (Act a)) × (q.actions ≤ a)
 FailsBy q c FirstPair = BeginsWithSides q (set_pairs c) → ⊥
@@ -84,7 +84,7 @@ IsEarlier s t =
     ⊎ ((s.atom ≡ t.atom) × (s.action < t.action))))))
 
 -- the certificate fails so, and in no way that stands before
-pub record FailsFirstBy (q : Question) (c : CertParts) (r : Reason) : Type 0 where
+pub record FailsFirstBy (q : ProblemParts) (c : CertParts) (r : Reason) : Type 0 where
   pub fails : FailsBy q c r
   pub first : (s : Reason) → IsEarlier (turn_of s) (turn_of r) → FailsBy q c s → ⊥
 
@@ -96,11 +96,11 @@ finding_reason (FoundHypBroken h i j) = Some (HypBroken h i j)
 finding_reason (FoundEndsAgree b) = Some EndsAgree
 
 -- the first reason why the evidence does not show what it says
-abbrev pub IsFoundBy : Question → Evidence → Reason → Type 0
+abbrev pub IsFoundBy : ProblemParts → Evidence → Reason → Type 0
 IsFoundBy q (Equal c) r = FailsFirstBy q c r
 IsFoundBy q (Different x) r = (f : Finding) × IsFinding q x f × (finding_reason f ≡ Some r)
 
 -- the answer to evidence: accepted where it shows what it says, and otherwise rejected with the first reason
-abbrev pub IsAnswer : Question → Evidence → Answer → Type 0
+abbrev pub IsAnswer : ProblemParts → Evidence → Answer → Type 0
 IsAnswer q e Accepted = Shows q e
 IsAnswer q e (Rejected r) = (Shows q e → ⊥) × IsFoundBy q e r

@@ -1,6 +1,6 @@
 -- The laws of answers. Each stands on a function of the crate that does nothing.
 use Rattle.std.specs.Prelude.{◌≡◌}
-use Rattle.kat_model.specs.Problems.{Question}
+use Rattle.kat_model.specs.Problems.{ProblemParts}
 use Rattle.kat_model.specs.Relations.{Same}
 use Rattle.certificate.specs.declared.evidence.Evidence.{Evidence}
 use Rattle.certificate.specs.declared.evidence.Evidence.TheVariants.{Equal, Different}
@@ -8,14 +8,14 @@ use Rattle.cert_checker.specs.declared.answer.Answer.{Answer}
 use Rattle.cert_checker.specs.Answers.{Shows, IsAnswer}
 
 -- what evidence says of a question: a certificate that both sides are the same, a string that they are not
-abbrev pub Says : Question → Evidence → Type 0
+abbrev pub Says : ProblemParts → Evidence → Type 0
 Says q (Equal c) = Same q
 Says q (Different x) = Same q → ⊥
 
 -- what evidence shows is so
 abbrev pub ShownIsSo : Type 0
-ShownIsSo = (q : Question) (e : Evidence) → Shows q e → Says q e
+ShownIsSo = (q : ProblemParts) (e : Evidence) → Shows q e → Says q e
 
 -- evidence has one answer
 abbrev pub HasOneAnswer : Type 0
-HasOneAnswer = (q : Question) (e : Evidence) (a b : Answer) → IsAnswer q e a → IsAnswer q e b → a ≡ b
+HasOneAnswer = (q : ProblemParts) (e : Evidence) (a b : Answer) → IsAnswer q e a → IsAnswer q e b → a ≡ b

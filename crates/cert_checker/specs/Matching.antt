@@ -1,6 +1,6 @@
 -- Whether pairs by the numbers of terms match two sets of terms, and what is known of it.
-use Rattle.std.specs.Prelude.{◌≡◌, ◌↔◌, ℕ, Bool, true, false, not, ◌&&◌, ◌||◌, nat_eq, if◌then◌else◌, List, [], ◌∷◌, length, map, slice_get, slice_index_or, Option, Some, None}
-use Rattle.std.specs.Option.{option_map}
+use Rattle.std.specs.Prelude.{◌≡◌, ◌↔◌, ℕ, Bool, true, false, not, ◌&&◌, ◌||◌, nat_eq, if◌then◌else◌, List, [], ◌∷◌, length, map, slice_get, slice_index_or, Option, Some}
+use Rattle.std.specs.Option.{option_map, option_map_or}
 use Rattle.std.specs.List.{list_any}
 use Rattle.std.specs.Cmp.Lexicographic.{pointwise}
 use Rattle.std.specs.Ordering.{nat_cmp}
@@ -72,11 +72,6 @@ marked t marks e = (k : ℕ) × (slice_get marks k ≡ Some true) × (term_at t 
 abbrev pub MarksAre : Nodes → List Bool → List Term → Type 0
 MarksAre t marks es = (e : Term) → marked t marks e ↔ Has es e
 
--- whether there is a value that passes
-abbrev pub option_any : {X : Type 0} → (X → Bool) → Option X → Bool
-option_any p None = false
-option_any p (Some x) = p x
-
 -- what is known of a guard
 abbrev pub known_of : List Known → ℕ → Known
 known_of known g = slice_index_or known g (Value false)
@@ -100,11 +95,11 @@ guard_of es k = lookup (is_at (nat_cmp k)) es
 
 -- whether the term is surely among the targets
 abbrev pub is_sure : List Known → List (ℕ × ℕ) → ℕ → Bool
-is_sure known es k = option_any (λ g. truly (known_of known g)) (guard_of es k)
+is_sure known es k = option_map_or (λ g. truly (known_of known g)) (guard_of es k) false
 
 -- whether the term has this guard among the targets
 abbrev pub guarded_by : List (ℕ × ℕ) → ℕ → ℕ → Bool
-guarded_by es k g = option_any (λ h. nat_eq h g) (guard_of es k)
+guarded_by es k g = option_map_or (λ h. nat_eq h g) (guard_of es k) false
 
 -- the terms that may be among the targets at an atom at which they are not among the others
 abbrev pub open_targets : List Known → List (ℕ × ℕ) → List (ℕ × ℕ) → List ℕ
@@ -114,7 +109,7 @@ open_targets known others (e ∷ es) =
 
 -- whether both sets of marks hold the universal term
 abbrev pub are_both_marked : Option ℕ → List Bool → List Bool → Bool
-are_both_marked universal left right = option_any (λ u. slice_index_or left u false && slice_index_or right u false) universal
+are_both_marked universal left right = option_map_or (λ u. slice_index_or left u false && slice_index_or right u false) universal false
 
 -- whether what may be in one set is in the other, or is brought there by what surely is
 abbrev pub covers : ℕ → RuleParts → List Known → List (ℕ × ℕ) → List (ℕ × ℕ) → Bool

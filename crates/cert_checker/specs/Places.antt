@@ -2,7 +2,7 @@
 -- each action at the turn after its number.
 use Rattle.std.specs.Prelude.{◌≡◌, ◌<◌, ℕ, Bool, ◌&&◌, ◌||◌, nat_eq, nat_lt, if◌then◌else◌, List, length, slice_get, replicate, Option, Some, None}
 use Rattle.std.specs.Option.{option_map}
-use Rattle.kat_model.specs.Problems.{Question}
+use Rattle.kat_model.specs.Problems.{ProblemParts}
 use Rattle.kat_model.specs.Closed.{closed}
 use Rattle.certificate.specs.Certs.{CertParts}
 use Rattle.cert_checker.specs.declared.places.Place.{Place}
@@ -36,7 +36,7 @@ abbrev pub undecided : ℕ → List (Option Bool)
 undecided n = replicate n None
 
 -- the universal term of the question is that of the node of this number, where there is one
-pub record IsScope (q : Question) (c : CertParts) (universal : Option ℕ) : Type 0 where
+pub record IsScope (q : ProblemParts) (c : CertParts) (universal : Option ℕ) : Type 0 where
   pub term : option_map (term_at (nodes_of q.tests c)) universal ≡ (closed q).universal
   pub within : (u : ℕ) → universal ≡ Some u → u < length c.term_nodes
 
@@ -45,7 +45,7 @@ abbrev pub IsAmong : (ℕ → Type 0) → Reason → Type 0
 IsAmong T r = ((turn_of r).stage ≡ 3) × T (turn_of r).action
 
 -- the pairs do not fail so
-abbrev pub Passes : Question → CertParts → Reason → Type 0
+abbrev pub Passes : ProblemParts → CertParts → Reason → Type 0
 Passes q c (Output k atom) = (p : SetPair) → slice_get (set_pairs c) k ≡ Some p → length atom ≡ q.tests → AcceptAlike p atom
 Passes q c (Missing k atom a) = (p : SetPair) → slice_get (set_pairs c) k ≡ Some p → length atom ≡ q.tests → a < q.actions → IsMatchedBy q c p atom a
 Passes q c FirstPair = Unit {0}
@@ -56,6 +56,6 @@ Passes q c (TestNode k) = Unit {0}
 Passes q c (TermNode k) = Unit {0}
 
 -- the first reason of these turns for which the certificate fails, where there is one
-abbrev pub IsFirstOf : Question → CertParts → (ℕ → Type 0) → Option Reason → Type 0
+abbrev pub IsFirstOf : ProblemParts → CertParts → (ℕ → Type 0) → Option Reason → Type 0
 IsFirstOf q c T None = (s : Reason) → IsAmong T s → Passes q c s
 IsFirstOf q c T (Some r) = IsAmong T r × FailsBy q c r × ((s : Reason) → IsAmong T s → IsEarlier (turn_of s) (turn_of r) → FailsBy q c s → ⊥)

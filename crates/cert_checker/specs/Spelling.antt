@@ -1,11 +1,11 @@
 -- Whether a node has a given tree, by recursion on the tree.
 use Rattle.std.specs.Prelude.{ℕ, Bool, true, false, not, ◌&&◌, nat_eq, List, slice_get, Option, Some, None}
+use Rattle.std.specs.Option.{option_map_or}
 use Rattle.kat_model.specs.Trees.{TestTree, bottom, top, prim, complement, meet, join, Term, zero, one, test, act, sum, product, star}
 use Rattle.certificate.specs.declared.nodes.TestNode.{TestNode}
 use Rattle.certificate.specs.declared.nodes.TestNode.TheVariants.{False, True, Prim, Not, And, Or}
 use Rattle.certificate.specs.declared.nodes.TermNode.{TermNode}
 use Rattle.certificate.specs.declared.nodes.TermNode.TheVariants.{Zero, One, Test, Act, Sum, Seq, Star}
-use Rattle.cert_checker.specs.Matching.{option_any}
 
 -- whether a test node is there and is the constant of this value, or this primitive test
 abbrev pub is_constant : Bool → Option TestNode → Bool
@@ -35,9 +35,9 @@ abbrev pub spells_test_tree : List TestNode → TestTree → ℕ → Bool
 spells_test_tree nodes bottom k = is_constant false (slice_get nodes k)
 spells_test_tree nodes top k = is_constant true (slice_get nodes k)
 spells_test_tree nodes (prim l) k = is_prim l (slice_get nodes k)
-spells_test_tree nodes (complement b) k = option_any (λ x. spells_test_tree nodes b x) (negated (slice_get nodes k))
-spells_test_tree nodes (meet b c) k = option_any (λ p. spells_test_tree nodes b p.0 && spells_test_tree nodes c p.1) (conjuncts (slice_get nodes k))
-spells_test_tree nodes (join b c) k = option_any (λ p. spells_test_tree nodes b p.0 && spells_test_tree nodes c p.1) (disjuncts (slice_get nodes k))
+spells_test_tree nodes (complement b) k = option_map_or (λ x. spells_test_tree nodes b x) (negated (slice_get nodes k)) false
+spells_test_tree nodes (meet b c) k = option_map_or (λ p. spells_test_tree nodes b p.0 && spells_test_tree nodes c p.1) (conjuncts (slice_get nodes k)) false
+spells_test_tree nodes (join b c) k = option_map_or (λ p. spells_test_tree nodes b p.0 && spells_test_tree nodes c p.1) (disjuncts (slice_get nodes k)) false
 
 -- whether a term node is there and is `Zero`, `One` or this action
 abbrev pub is_zero : Option TermNode → Bool
@@ -73,8 +73,8 @@ repeated o = None
 abbrev pub spells_tree : List TestNode → List TermNode → Term → ℕ → Bool
 spells_tree tests terms zero k = is_zero (slice_get terms k)
 spells_tree tests terms one k = is_one (slice_get terms k)
-spells_tree tests terms (test b) k = option_any (λ x. spells_test_tree tests b x) (tested (slice_get terms k))
+spells_tree tests terms (test b) k = option_map_or (λ x. spells_test_tree tests b x) (tested (slice_get terms k)) false
 spells_tree tests terms (act a) k = is_act a (slice_get terms k)
-spells_tree tests terms (sum e f) k = option_any (λ p. spells_tree tests terms e p.0 && spells_tree tests terms f p.1) (summands (slice_get terms k))
-spells_tree tests terms (product e f) k = option_any (λ p. spells_tree tests terms e p.0 && spells_tree tests terms f p.1) (factors (slice_get terms k))
-spells_tree tests terms (star e) k = option_any (λ x. spells_tree tests terms e x) (repeated (slice_get terms k))
+spells_tree tests terms (sum e f) k = option_map_or (λ p. spells_tree tests terms e p.0 && spells_tree tests terms f p.1) (summands (slice_get terms k)) false
+spells_tree tests terms (product e f) k = option_map_or (λ p. spells_tree tests terms e p.0 && spells_tree tests terms f p.1) (factors (slice_get terms k)) false
+spells_tree tests terms (star e) k = option_map_or (λ x. spells_tree tests terms e x) (repeated (slice_get terms k)) false

@@ -1,5 +1,5 @@
 //! Answers of the checker.
-use string_tables::Items;
+use kat_model::Items;
 
 /// Why evidence is rejected. Pairs, nodes, hypotheses, positions and actions are numbered from 0; an atom has
 /// a truth value for each test, test 0 first.

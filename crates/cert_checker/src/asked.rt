@@ -3,7 +3,7 @@
 ghost use Rattle.std.specs.Prelude.{◌≡◌, IsTrue, length, IfOk};
 ghost use Rattle.certificate.specs.Nodes.{are_below};
 
-use crate::cases::Question;
+use crate::cases::PairTest;
 use crate::tables::Tables;
 use crate::targets::Targets;
 use certificate::TestNode;
@@ -59,17 +59,17 @@ fn marked(alloc: Global, marks: &[bool]) -> Result<Vec<usize>, NoMemory>
 pub(crate) fn asked_tests(
     alloc: Global,
     tables: &Tables,
-    question: &Question,
+    question: &PairTest,
 ) -> Result<Vec<usize>, NoMemory>
     ensures { IfOk result (λ v. IsTrue (are_below (length tables.now.tests) v.items)) }
 {
     let mut marks = vec![in alloc; false; tables.test_count()]?;
     match question {
-        Question::Outputs(left, right) => {
+        PairTest::Outputs(left, right) => {
             mark(&mut marks, *left);
             mark(&mut marks, *right);
         }
-        Question::Steps(left, right) => {
+        PairTest::Steps(left, right) => {
             mark_guards(&mut marks, left);
             mark_guards(&mut marks, right);
         }

@@ -15,7 +15,7 @@ use std::alloc::Global;
 
 /// What is asked of a pair at each atom.
 #[derive(Drop)]
-pub(crate) enum Question {
+pub(crate) enum PairTest {
     /// Have these two tests, which say where its sets accept, one value?
     Outputs(usize, usize),
     /// Are the sets that these targets stand for matched by the rules?
@@ -45,7 +45,7 @@ fn state(
     alloc: Global,
     tables: &Tables,
     rules: &Rules,
-    question: &Question,
+    question: &PairTest,
     asked: &[usize],
     decided: &[Option<bool>],
 ) -> Result<State, NoMemory>
@@ -57,8 +57,8 @@ fn state(
 {
     let known = known_tests(alloc, tables, asked, decided)?;
     match question {
-        Question::Outputs(left, right) => Ok(output_state(tables, *left, *right, &known)),
-        Question::Steps(left, right) => step_state(alloc, tables, rules, left, right, &known),
+        PairTest::Outputs(left, right) => Ok(output_state(tables, *left, *right, &known)),
+        PairTest::Steps(left, right) => step_state(alloc, tables, rules, left, right, &known),
     }
 }
 
@@ -116,7 +116,7 @@ pub(crate) fn first_atom(
     alloc: Global,
     tables: &Tables,
     rules: &Rules,
-    question: &Question,
+    question: &PairTest,
     asked: &[usize],
     decided: &[Option<bool>],
 ) -> Result<Option<Vec<bool>>, NoMemory>

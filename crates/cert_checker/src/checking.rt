@@ -17,9 +17,9 @@ use crate::range::{action_out, test_out};
 use crate::sides::{begins_with, node_of};
 use certificate::{Cert, Evidence};
 use goal_forms::{Closed, eliminate};
-use kat_model::{NoMemory, Problem};
+use kat_model::{Items, NoMemory, Problem};
 use std::alloc::Global;
-use string_tables::{Finding, Items, verdict};
+use string_tables::{Finding, verdict};
 
 fn reason_of_place(place: Place) -> Reason
     ensures { result ≡ place_reason place }
@@ -114,7 +114,7 @@ fn first_reason(
 
 /// Whether the evidence shows what it says of the problem: `Accepted` exactly where the certificate is accepted
 /// or the string refutes the problem, and otherwise `Rejected` with the first reason. Nothing is assumed of who
-/// made it. The only refusal is want of memory.
+/// made it. Fails only when out of memory.
 ///
 /// The reason is the one that `Reason` says: the certificate or the string fails so, and in no way that stands
 /// before.

@@ -22,8 +22,6 @@ mod spelling;
 mod steps;
 mod tables;
 mod targets;
-#[cfg(test)]
-mod tests;
 
 pub use answer::{Answer, Reason};
 pub use checking::check;

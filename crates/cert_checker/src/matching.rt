@@ -1,12 +1,13 @@
 //! Whether the listed pairs match the sets that an action leads to, as far as the decided tests tell.
-ghost use Rattle.std.specs.Prelude.{◌≡◌, ◌<◌, ℕ, ◌&&◌, Bool, List, Option, Some, length, MatchOption, IfSome, IfOk};
+ghost use Rattle.std.specs.Prelude.{◌≡◌, ◌<◌, ℕ, ◌&&◌, Bool, false, List, Option, Some, length, MatchOption, IfSome, IfOk};
+ghost use Rattle.std.specs.Option.{option_map_or};
 ghost use Rattle.std.specs.List.Sorted.{IsStrictlySortedBy};
 ghost use Rattle.std.specs.Map.{keys_of};
 ghost use Rattle.std.specs.Ordering.{nat_cmp};
 ghost use Rattle.cert_checker.specs.Targets.{AreEntries};
 ghost use Rattle.cert_checker.specs.Cases.{AreKnown, IsWaited, waiting_for};
 ghost use Rattle.cert_checker.specs.Marks.{saturated_marks};
-ghost use Rattle.cert_checker.specs.Matching.{AreRules, MatchAt, known_of, IsState, option_any, truly, falsely, sure_targets, is_sure, guarded_by, open_targets, are_both_marked, covers, lists, AreSettled};
+ghost use Rattle.cert_checker.specs.Matching.{AreRules, MatchAt, known_of, IsState, truly, falsely, sure_targets, is_sure, guarded_by, open_targets, are_both_marked, covers, lists, AreSettled};
 
 use crate::known::{Known, guard_value};
 use crate::saturation::reaches;
@@ -60,20 +61,16 @@ fn is_false(known: Known) -> bool
 fn surely_has(targets: &Targets, term: usize, known: &[Known]) -> bool
     ensures { result ≡ is_sure known.now targets.now.entries term }
 {
-    match targets.get(&term) {
-        Some(guard) => is_true(guard_value(known, *guard)),
-        None => false,
-    }
+    targets
+        .get(&term)
+        .is_some_and(|guard| is_true(guard_value(known, *guard)))
 }
 
 // Whether the term has this guard among the targets.
 fn has_guard(targets: &Targets, term: usize, guard: usize) -> bool
     ensures { result ≡ guarded_by targets.now.entries term guard }
 {
-    match targets.get(&term) {
-        Some(other) => *other == guard,
-        None => false,
-    }
+    targets.get(&term).is_some_and(|other| *other == guard)
 }
 
 // The targets that surely are in the set, in ascending order.
@@ -253,12 +250,9 @@ fn next_test(
 
 // Whether both sets surely hold the universal term.
 fn are_universal(universal: Option<usize>, left: &Targets, right: &Targets, known: &[Known]) -> bool
-    ensures { result ≡ option_any (λ u. is_sure known.now left.now.entries u && is_sure known.now right.now.entries u) universal }
+    ensures { result ≡ option_map_or (λ u. is_sure known.now left.now.entries u && is_sure known.now right.now.entries u) universal false }
 {
-    match universal {
-        Some(term) => surely_has(left, term, known) && surely_has(right, term, known),
-        None => false,
-    }
+    universal.is_some_and(|term| surely_has(left, term, known) && surely_has(right, term, known))
 }
 
 /// Whether two sets of targets are matched by the rules, as far as the decided tests tell.

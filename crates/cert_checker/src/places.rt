@@ -13,7 +13,7 @@ ghost use Rattle.cert_checker.specs.Questions.{IsAsked, IsSo};
 ghost use Rattle.cert_checker.specs.Targets.{AreAcceptances, AreSteps};
 
 use crate::asked::asked_tests;
-use crate::cases::{Question, first_atom, is_less};
+use crate::cases::{PairTest, first_atom, is_less};
 use crate::matching::Rules;
 use crate::steps::{acceptances, of_set, steps};
 use crate::tables::Tables;
@@ -46,7 +46,7 @@ fn failing_atom(
     alloc: Global,
     tables: &Tables,
     rules: &Rules,
-    question: &Question,
+    question: &PairTest,
 ) -> Result<Option<Vec<bool>>, NoMemory>
     requires rules { AreRules tables.now rules.now }
     requires asked { IsAsked tables.now question.now }
@@ -100,7 +100,7 @@ fn pair_output(
     tables.rules();
     let left = set_acceptance(tables, accepting, pair.left.as_slice())?;
     let right = set_acceptance(tables, accepting, pair.right.as_slice())?;
-    failing_atom(alloc, tables, rules, &Question::Outputs(left, right))
+    failing_atom(alloc, tables, rules, &PairTest::Outputs(left, right))
 }
 
 // The first pair whose sets do not accept alike, with its least atom.
@@ -155,7 +155,7 @@ fn pair_step(
     tables.rules();
     let left = of_set(alloc, tables, list, pair.left.as_slice(), action)?;
     let right = of_set(alloc, tables, list, pair.right.as_slice(), action)?;
-    failing_atom(alloc, tables, rules, &Question::Steps(left, right))
+    failing_atom(alloc, tables, rules, &PairTest::Steps(left, right))
 }
 
 // The first pair whose sets under the action are not matched, with its least atom.

@@ -1,10 +1,11 @@
 //! Lists of targets: the terms that a step may lead to, each with its guard, the test that is true where it does.
-ghost use Rattle.std.specs.Prelude.{◌≡◌, ℕ, ◌||◌, ◌++◌, ◌∷◌, [], if◌then◌else◌, IfOk, OnOk, map};
+ghost use Rattle.std.specs.Prelude.{◌≡◌, ℕ, ◌||◌, ◌++◌, ◌∷◌, [], false, if◌then◌else◌, IfOk, OnOk, map};
+ghost use Rattle.std.specs.Option.{option_map_or};
 ghost use Rattle.kat_model.specs.Trees.{one as one'};
 ghost use Rattle.kat_model.specs.Steps.{Atom, dot};
 ghost use Rattle.cert_checker.specs.NodeTables.{AreTables, Grows, IsTest, IsTerm, term_at, holds_at};
 ghost use Rattle.cert_checker.specs.Targets.{AreEntries, StandFor, chosen};
-ghost use Rattle.cert_checker.specs.Matching.{option_any, guard_of};
+ghost use Rattle.cert_checker.specs.Matching.{guard_of};
 
 use crate::tables::Tables;
 use certificate::TermNode;
@@ -24,7 +25,7 @@ fn joined(
 ) -> Result<usize, NoMemory>
     requires entries { AreEntries tables.old targets.now.entries }
     requires is_test { IsTest tables.old guard }
-    ensures value { IfOk result (λ g. (atom : Atom) → holds_at tables.new g atom ≡ (option_any (λ o. holds_at tables.old o atom) (guard_of targets.now.entries term) || holds_at tables.old guard atom)) }
+    ensures value { IfOk result (λ g. (atom : Atom) → holds_at tables.new g atom ≡ (option_map_or (λ o. holds_at tables.old o atom) (guard_of targets.now.entries term) false || holds_at tables.old guard atom)) }
     ensures is_test { IfOk result (IsTest tables.new) }
     ensures terms { tables.new.terms ≡ tables.old.terms }
     ensures grows { Grows tables.old tables.new }

@@ -1,11 +1,13 @@
 -- The text of evidence is read as this evidence.
 use Rattle.std.proofs.Common.{◌≡◌, ℕ, ◌+◌, ◌^◌, ◌<◌, inl, inr, ⊎_elim, List, [], ◌∷◌, ◌++◌, map, length, false, ◌&&◌, nat_lt, Some, slice_get, Ok, refl, sym, ap, ◌∙◌, subst, codes, arith, append_assoc, append-nil}
+use Rattle.std.proofs.lemmas.Bool.{or_parts}
 use mathlib.Core.Path.{ap₂}
 use Rattle.std.proofs.lemmas.List.{length-map}
 use Rattle.std.proofs.lemmas.Grind.{flat_map-append}
 use Rattle.std.proofs.lemmas.List.Folds.{list_all-append}
 use Rattle.kat_model.specs.Members.{Has, HasNoDoubles}
 use Rattle.kat_model.proofs.Lists.{has_left, has_right, map_has}
+use Rattle.kat_model.proofs.Places.{slice_get-append_seam}
 use Rattle.kat_model.specs.Strings.{Move, GuardedString}
 use Rattle.certificate.specs.declared.nodes.TestNode.{TestNode}
 use Rattle.certificate.specs.declared.nodes.TermNode.{TermNode}
@@ -20,7 +22,7 @@ use Rattle.certificate.specs.Certs.{CertParts, IsCert}
 use Rattle.certificate.specs.Texts.{entry_words, entry_numbers, move_words, line_of, heading, entries_of, lines_before_end, text_of_lines, text_of, IsNarrow, IsEvidence}
 use Rattle.certificate.specs.Faults.{Answer, with_entry, cert_from, with_move, moves_from, no_entries, all_from, parts_of, answer_of, too_wide}
 use Rattle.certificate.proofs.Growth.{Passes, passes_faultless, any_lacks, same_test_equal, test_same_itself, same_term_equal, term_same_itself}
-use Rattle.certificate.proofs.Splits.{LacksByte, both_false}
+use Rattle.certificate.proofs.Splits.{LacksByte}
 use Rattle.certificate.proofs.Spellings.{none_wide, entry_back, entry_lacks, entry_not_end}
 use Rattle.certificate.proofs.StringSpellings.{first_back, first_lacks, move_back, move_lacks}
 use Rattle.certificate.proofs.TextParts.{LackFeeds, parts_after, complete}
@@ -54,10 +56,6 @@ entries_scanned (e ∷ es) c n i part parts pass place =
 
 -- ---- the entries of a certificate pass
 
-pub get_at : {X : Type 0} (xs : List X) (y : X) (ys : List X) → slice_get (xs ++ y ∷ ys) (length xs) ≡ Some y
-get_at [] y ys = refl
-get_at (x ∷ xs) y ys = get_at xs y ys
-
 no_earlier : {X : Type 0} (xs : List X) (y : X) (ys : List X) → HasNoDoubles (xs ++ y ∷ ys) → Has xs y → ⊥
 no_earlier [] y ys none h = h
 no_earlier (x ∷ xs) y ys none h =
@@ -87,7 +85,7 @@ module _ (c : CertParts) (cert : IsCert c) (narrow : (e : Entry) → Has (entrie
 
   test_passes : (done : List TestNode) (n : TestNode) (left : List TestNode) → c.test_nodes ≡ done ++ n ∷ left → Passes (parts done [] []) (TestLine n)
   test_passes done n left e =
-      let there : slice_get c.test_nodes (length done) ≡ Some n = ap (λ l. slice_get l (length done)) e ∙ get_at done n left in
+      let there : slice_get c.test_nodes (length done) ≡ Some n = ap (λ l. slice_get l (length done)) e ∙ slice_get-append_seam done n left in
       record {
         stands = refl;
         narrow = none_wide (entry_numbers (TestLine n)) (narrow_test n (subst (λ l. Has l n) (sym e) (has_at done n left)));
@@ -98,7 +96,7 @@ module _ (c : CertParts) (cert : IsCert c) (narrow : (e : Entry) → Has (entrie
 
   term_passes : (done : List TermNode) (n : TermNode) (left : List TermNode) → c.term_nodes ≡ done ++ n ∷ left → Passes (parts c.test_nodes done []) (TermLine n)
   term_passes done n left e =
-      let there : slice_get c.term_nodes (length done) ≡ Some n = ap (λ l. slice_get l (length done)) e ∙ get_at done n left in
+      let there : slice_get c.term_nodes (length done) ≡ Some n = ap (λ l. slice_get l (length done)) e ∙ slice_get-append_seam done n left in
       let has : Has c.term_nodes n = subst (λ l. Has l n) (sym e) (has_at done n left) in
       record {
         stands = refl;
@@ -176,7 +174,7 @@ abbrev AreSmall : List Move → Type 0
 AreSmall ms = (m : Move) → Has ms m → m.act < 2 ^ 64
 
 small_narrow : (m : Move) → m.act < 2 ^ 64 → too_wide m.act ≡ false
-small_narrow m small = (both_false (too_wide m.act) false (none_wide (m.act ∷ []) (λ k h. ⊎_elim (λ p. subst (λ n. n < 2 ^ 64) p small) absurd h))).0
+small_narrow m small = (or_parts (too_wide m.act) false (none_wide (m.act ∷ []) (λ k h. ⊎_elim (λ p. subst (λ n. n < 2 ^ 64) p small) absurd h))).0
 
 -- after moves, the next part
 pub moves_scanned : (ms : List Move) (x : GuardedString) (n i : ℕ) (part : List ℕ) (parts : List (List ℕ)) → AreSmall ms → i ≡ n + length ms → moves_from x n (map move_line ms ++ part ∷ parts) ≡ moves_from (record { first = x.first; rest = x.rest ++ ms }) i (part ∷ parts)

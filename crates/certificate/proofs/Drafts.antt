@@ -1,8 +1,11 @@
 -- Drafts with one more entry.
 use Rattle.std.proofs.Common.{◌≡◌, ℕ, inl, inr, ⊎_elim, List, [], ◌∷◌, ◌++◌, true, Some, None, refl, sym, subst}
-use Rattle.std.specs.Map.{keys_of}
+use Rattle.std.specs.declared.cmp.Ordering.{Ordering}
+use Rattle.std.specs.BTreeSet.{insert_key}
+use Rattle.std.proofs.lemmas.Map.Lookups.{CmpEqualImpliesEq}
 use Rattle.kat_model.specs.Members.{Has, SameMembers}
 use Rattle.kat_model.proofs.Lists.{has_left, has_right}
+use Rattle.kat_model.proofs.SetKeys.{inserted_has}
 use Rattle.certificate.specs.declared.nodes.TestNode.{TestNode}
 use Rattle.certificate.specs.declared.nodes.TermNode.{TermNode}
 use Rattle.certificate.specs.declared.entry.Entry.{Entry}
@@ -15,25 +18,26 @@ use Rattle.certificate.specs.Nodes.{NumberPair, same_test_node, same_term_node, 
 use Rattle.certificate.specs.Readings.{draft_parts, IsDraft, MayBeAdded}
 use Rattle.certificate.proofs.Growth.{Passes, passes_faultless, double_fault, cert_grown, any_same, any_lacks, same_test_equal, test_same_itself, same_term_equal, term_same_itself, has_pushed}
 
--- the keys of a map with one more key, and the list with one more node
-pub known_pushed : {X : Type 0} (keys olds xs : List X) (x : X) → SameMembers keys (x ∷ olds) → SameMembers olds xs → SameMembers keys (xs ++ x ∷ [])
-known_pushed keys olds xs x now was y = (
-  (λ h. ⊎_elim (λ e. has_right xs (x ∷ []) y (inl e)) (λ k. has_left xs (x ∷ []) y ((was y).0 k)) ((now y).0 h)),
-  (λ h. ⊎_elim (λ k. (now y).1 (inr ((was y).1 k))) (λ e. (now y).1 (inl e)) (has_pushed xs x y h)),
-)
+-- the keys of a set with one more key, and the list with one more node
+pub known_pushed : {X : Type 0} {R : X → X → Ordering} → CmpEqualImpliesEq R → (olds xs : List X) (x : X) → SameMembers olds xs → SameMembers (insert_key R olds x) (xs ++ x ∷ [])
+known_pushed exact olds xs x was y =
+    let keys = inserted_has exact x olds y in (
+      (λ h. ⊎_elim (λ k. has_left xs (x ∷ []) y ((was y).0 k)) (λ e. has_right xs (x ∷ []) y (inl e)) (keys.0 h)),
+      (λ h. keys.1 (⊎_elim (λ k. inl ((was y).1 k)) inr (has_pushed xs x y h))),
+    )
 
 module _ (d : Draft) (n : ℕ) where
   -- a known node is a double
-  pub test_double : (node : TestNode) → IsDraft d → MayBeAdded d (TestLine node) → Has (keys_of d.known_tests.entries) node → entry_fault (draft_parts d) n (TestLine node) ≡ Some (DoubleNode n)
+  pub test_double : (node : TestNode) → IsDraft d → MayBeAdded d (TestLine node) → Has d.known_tests.keys node → entry_fault (draft_parts d) n (TestLine node) ≡ Some (DoubleNode n)
   test_double node draft may known =
       double_fault (draft_parts d) n (TestLine node) may.stands may.narrow may.earlier (any_same same_test_node same_test_equal test_same_itself d.test_nodes.items node ((draft.tests node).0 known))
 
-  pub term_double : (node : TermNode) → IsDraft d → MayBeAdded d (TermLine node) → Has (keys_of d.known_terms.entries) node → entry_fault (draft_parts d) n (TermLine node) ≡ Some (DoubleNode n)
+  pub term_double : (node : TermNode) → IsDraft d → MayBeAdded d (TermLine node) → Has d.known_terms.keys node → entry_fault (draft_parts d) n (TermLine node) ≡ Some (DoubleNode n)
   term_double node draft may known =
       double_fault (draft_parts d) n (TermLine node) may.stands may.narrow may.earlier (any_same same_term_node same_term_equal term_same_itself d.term_nodes.items node ((draft.terms node).0 known))
 
   -- a node that is not known passes
-  pub test_passes : (node : TestNode) → IsDraft d → MayBeAdded d (TestLine node) → (Has (keys_of d.known_tests.entries) node → ⊥) → Passes (draft_parts d) (TestLine node)
+  pub test_passes : (node : TestNode) → IsDraft d → MayBeAdded d (TestLine node) → (Has d.known_tests.keys node → ⊥) → Passes (draft_parts d) (TestLine node)
   test_passes node draft may new =
       record {
         stands = may.stands;
@@ -43,7 +47,7 @@ module _ (d : Draft) (n : ℕ) where
         ordered = refl;
       }
 
-  pub term_passes : (node : TermNode) → IsDraft d → MayBeAdded d (TermLine node) → (Has (keys_of d.known_terms.entries) node → ⊥) → Passes (draft_parts d) (TermLine node)
+  pub term_passes : (node : TermNode) → IsDraft d → MayBeAdded d (TermLine node) → (Has d.known_terms.keys node → ⊥) → Passes (draft_parts d) (TermLine node)
   term_passes node draft may new =
       record {
         stands = may.stands;
@@ -54,7 +58,7 @@ module _ (d : Draft) (n : ℕ) where
       }
 
   -- what an entry that passes makes of the draft
-  pub added : (e : Entry) (new : Draft) → IsDraft d → Passes (draft_parts d) e → draft_parts new ≡ with_entry (draft_parts d) e → SameMembers (keys_of new.known_tests.entries) new.test_nodes.items → SameMembers (keys_of new.known_terms.entries) new.term_nodes.items
+  pub added : (e : Entry) (new : Draft) → IsDraft d → Passes (draft_parts d) e → draft_parts new ≡ with_entry (draft_parts d) e → SameMembers new.known_tests.keys new.test_nodes.items → SameMembers new.known_terms.keys new.term_nodes.items
       → IsDraft new × ((f : Entry) × (◌≡◌ {A = _} (Some e) (Some f)) × (entry_fault (draft_parts d) n f ≡ None) × (draft_parts new ≡ with_entry (draft_parts d) f))
   added e new draft passes is tests terms = (
     record { cert = subst IsCert (sym is) (cert_grown (draft_parts d) e draft.cert passes); tests = tests; terms = terms },

@@ -1,13 +1,14 @@
 -- A certificate with one more entry that has no fault keeps the rules.
-use Rattle.std.proofs.Common.{◌≡◌, ℕ, zero, suc, ◌≤◌, ◌⊎◌, inl, inr, ⊎_elim, List, [], ◌∷◌, ◌++◌, length, Bool, true, false, not, ◌&&◌, eqb, nat_lt, Option, Some, None, slice_get, refl, sym, ap, ◌∙◌, subst, arith, length-append, eqb-true, eq-eqb, ltb-true}
+use Rattle.std.proofs.Common.{◌≡◌, ℕ, ◌≤◌, ◌⊎◌, inl, inr, ⊎_elim, List, [], ◌∷◌, ◌++◌, length, Bool, true, false, not, ◌&&◌, eqb, nat_lt, Option, Some, None, refl, sym, ap, ◌∙◌, subst, arith, length-append, eqb-true, eq-eqb, ltb-true}
 use mathlib.Core.Path.{ap₂}
 use Rattle.std.specs.Bool.{IsTrue}
 use Rattle.std.specs.List.{list_any}
 use Rattle.std.specs.Option.{option_or}
-use Rattle.std.proofs.lemmas.Bool.{lt-ltb}
+use Rattle.std.proofs.lemmas.Bool.{and_parts, not-false, lt-ltb}
 use Rattle.std.proofs.lemmas.List.Folds.{list_all-append}
 use Rattle.kat_model.specs.Members.{Has, HasNoDoubles}
 use Rattle.kat_model.proofs.Lists.{has_append, has_any, any_has}
+use Rattle.kat_model.proofs.Places.{slice_get_last}
 use Rattle.certificate.specs.declared.nodes.TestNode.{TestNode}
 use Rattle.certificate.specs.declared.nodes.TestNode.TheVariants.{False, True, Prim, Not, And, Or}
 use Rattle.certificate.specs.declared.nodes.TermNode.{TermNode}
@@ -18,7 +19,6 @@ use Rattle.certificate.specs.declared.evidence.EvidenceFault.{EvidenceFault}
 use Rattle.certificate.specs.declared.evidence.EvidenceFault.TheVariants.{Line, NodeOrder, DoubleNode, SetOrder, NumberTooWide}
 use Rattle.certificate.specs.Nodes.{test_parts, term_parts, tests_of_term, same_test_node, same_term_node, are_below, are_ascending}
 use Rattle.certificate.specs.Certs.{CertParts, IsNumberSet, IsCert}
-use Rattle.certificate.proofs.Numerals.{both}
 use Rattle.certificate.specs.Faults.{is_wide, section_of, may_stand, names_earlier, stands_already, has_order, fault_where, entry_fault, with_entry}
 
 -- an entry passes every test
@@ -39,10 +39,6 @@ right_where : (b : Bool) (fault : EvidenceFault) → fault_where b fault ≡ Non
 right_where true fault e = cc
 right_where false fault e = refl
 
-not_false : (b : Bool) → not b ≡ false → b ≡ true
-not_false true e = refl
-not_false false e = cc
-
 pub faultless_passes : (c : CertParts) (n : ℕ) (e : Entry) → entry_fault c n e ≡ None → Passes c e
 faultless_passes c n e h =
     let one = none_parts (fault_where (not (may_stand c (section_of e))) (Line n)) _ h in
@@ -50,11 +46,11 @@ faultless_passes c n e h =
     let three = none_parts (fault_where (not (names_earlier c e)) (NodeOrder n)) _ two.1 in
     let four = none_parts (fault_where (stands_already c e) (DoubleNode n)) _ three.1 in
     record {
-      stands = not_false _ (right_where _ _ one.0);
+      stands = not-false _ (right_where _ _ one.0);
       narrow = right_where _ _ two.0;
-      earlier = not_false _ (right_where _ _ three.0);
+      earlier = not-false _ (right_where _ _ three.0);
       new = right_where _ _ four.0;
-      ordered = not_false _ (right_where _ _ four.1);
+      ordered = not-false _ (right_where _ _ four.1);
     }
 
 -- the first fault where the tests before it are passed
@@ -71,7 +67,7 @@ module _ (c : CertParts) (n : ℕ) (e : Entry) where
 -- ---- equal nodes
 
 same_numbers : {N : Type 0} (made : ℕ → ℕ → N) (w x y z : ℕ) → (eqb w y && eqb x z) ≡ true → made w x ≡ made y z
-same_numbers made w x y z e = let p = both (eqb w y) (eqb x z) e in ap₂ made (eqb-true w y p.0) (eqb-true x z p.1)
+same_numbers made w x y z e = let p = and_parts (eqb w y) (eqb x z) e in ap₂ made (eqb-true w y p.0) (eqb-true x z p.1)
 
 pub same_test_equal : (m n : TestNode) → same_test_node m n ≡ true → m ≡ n
 same_test_equal False False e = refl
@@ -132,12 +128,6 @@ module _ {X : Type 0} (same : X → X → Bool) (equal : (x y : X) → same x y 
 
 -- ---- one more member of a list
 
-pub get_pushed : {X : Type 0} (xs : List X) (x y : X) (k : ℕ) → slice_get (xs ++ x ∷ []) k ≡ Some y → (slice_get xs k ≡ Some y) ⊎ ((k ≡ length xs) × (x ≡ y))
-get_pushed [] x y zero e = inr (refl, cc)
-get_pushed [] x y (suc k) e = cc
-get_pushed (z ∷ xs) x y zero e = inl e
-get_pushed (z ∷ xs) x y (suc k) e = ⊎_elim inl (λ p. inr (ap suc p.0, p.1)) (get_pushed xs x y k e)
-
 pub has_pushed : {X : Type 0} (xs : List X) (x y : X) → Has (xs ++ x ∷ []) y → Has xs y ⊎ (x ≡ y)
 has_pushed xs x y h = ⊎_elim inl (λ k. ⊎_elim inr absurd k) (has_append xs (x ∷ []) y h)
 
@@ -154,7 +144,7 @@ below_step m n k le e = lt-ltb k n (omega (arith, ltb-true k m e))
 pub below_more : (m n : ℕ) (ks : List ℕ) → m ≤ n → are_below m ks ≡ true → are_below n ks ≡ true
 below_more m n [] le e = refl
 below_more m n (k ∷ ks) le e =
-    let p = both (nat_lt k m) (are_below m ks) e in
+    let p = and_parts (nat_lt k m) (are_below m ks) e in
     rw (below_step m n k le p.0, below_more m n ks le p.1) refl
 
 pub set_more : (m n : ℕ) (ks : List ℕ) → m ≤ n → IsNumberSet m ks → IsNumberSet n ks
@@ -167,9 +157,9 @@ longer xs x = omega (arith, length-append xs (x ∷ []))
 
 pub cert_grown : (c : CertParts) (e : Entry) → IsCert c → Passes c e → IsCert (with_entry c e)
 cert_grown c (TestLine n) cert p =
-    let earlier = (both (are_below (length c.test_nodes) (test_parts n)) _ p.earlier).0 in
+    let earlier = (and_parts (are_below (length c.test_nodes) (test_parts n)) _ p.earlier).0 in
     record {
-      tests = λ k m e. ⊎_elim (cert.tests k m) (λ q. subst (λ l. IsTrue (are_below l (test_parts m))) (sym q.0) (subst (λ l. IsTrue (are_below (length c.test_nodes) (test_parts l))) q.1 earlier)) (get_pushed c.test_nodes n m k e);
+      tests = λ k m e. ⊎_elim (cert.tests k m) (λ q. subst (λ l. IsTrue (are_below l (test_parts m))) (sym q.0) (subst (λ l. IsTrue (are_below (length c.test_nodes) (test_parts l))) q.1 earlier)) (slice_get_last c.test_nodes n k m e);
       terms = cert.terms;
       tests_of_terms = λ m h. below_more (length c.test_nodes) (length (c.test_nodes ++ n ∷ [])) (tests_of_term m) (longer c.test_nodes n) (cert.tests_of_terms m h);
       each_test_once = no_doubles_pushed c.test_nodes n cert.each_test_once (lacks_any same_test_node same_test_equal test_same_itself c.test_nodes n p.new);
@@ -177,19 +167,19 @@ cert_grown c (TestLine n) cert p =
       pairs = cert.pairs;
     }
 cert_grown c (TermLine n) cert p =
-    let earlier = both (are_below (length c.test_nodes) (tests_of_term n)) (are_below (length c.term_nodes) (term_parts n)) p.earlier in
+    let earlier = and_parts (are_below (length c.test_nodes) (tests_of_term n)) (are_below (length c.term_nodes) (term_parts n)) p.earlier in
     record {
       tests = cert.tests;
-      terms = λ k m e. ⊎_elim (cert.terms k m) (λ q. subst (λ l. IsTrue (are_below l (term_parts m))) (sym q.0) (subst (λ l. IsTrue (are_below (length c.term_nodes) (term_parts l))) q.1 earlier.1)) (get_pushed c.term_nodes n m k e);
+      terms = λ k m e. ⊎_elim (cert.terms k m) (λ q. subst (λ l. IsTrue (are_below l (term_parts m))) (sym q.0) (subst (λ l. IsTrue (are_below (length c.term_nodes) (term_parts l))) q.1 earlier.1)) (slice_get_last c.term_nodes n k m e);
       tests_of_terms = λ m h. ⊎_elim (cert.tests_of_terms m) (λ q. subst (λ l. IsTrue (are_below (length c.test_nodes) (tests_of_term l))) q earlier.0) (has_pushed c.term_nodes n m h);
       each_test_once = cert.each_test_once;
       each_term_once = no_doubles_pushed c.term_nodes n cert.each_term_once (lacks_any same_term_node same_term_equal term_same_itself c.term_nodes n p.new);
       pairs = λ q h. let old = cert.pairs q h in (set_more _ _ q.left (longer c.term_nodes n) old.0, set_more _ _ q.right (longer c.term_nodes n) old.1);
     }
 cert_grown c (PairLine q) cert p =
-    let earlier = (both (are_below (length c.test_nodes) []) (are_below (length c.term_nodes) (q.left ++ q.right)) p.earlier).1 in
-    let there = both (are_below (length c.term_nodes) q.left) (are_below (length c.term_nodes) q.right) (sym (list_all-append (λ k. nat_lt k (length c.term_nodes)) q.left q.right) ∙ earlier) in
-    let ascend = both (are_ascending q.left) (are_ascending q.right) p.ordered in
+    let earlier = (and_parts (are_below (length c.test_nodes) []) (are_below (length c.term_nodes) (q.left ++ q.right)) p.earlier).1 in
+    let there = and_parts (are_below (length c.term_nodes) q.left) (are_below (length c.term_nodes) q.right) (sym (list_all-append (λ k. nat_lt k (length c.term_nodes)) q.left q.right) ∙ earlier) in
+    let ascend = and_parts (are_ascending q.left) (are_ascending q.right) p.ordered in
     let sets : IsNumberSet (length c.term_nodes) q.left × IsNumberSet (length c.term_nodes) q.right =
     (record { there = there.0; ascending = ascend.0 }, record { there = there.1; ascending = ascend.1 }) in
     record {

@@ -1,5 +1,6 @@
 -- Numerals and their values.
 use Rattle.std.proofs.Common.{◌≡◌, ◌<◌, ◌≤◌, ◌^◌, ℕ, zero, suc, List, [], ◌∷◌, length, Bool, true, false, ◌&&◌, ◌||◌, ◌==◌, not, nat_lt, ltb-true, Result, refl, subst, arith, rules, get_or, lit<}
+use Rattle.std.proofs.lemmas.Bool.{and_parts}
 use Rattle.std.specs.Char.{is_ascii_digit}
 use Rattle.std.specs.List.{list_all, list_any}
 use Rattle.std.specs.Fmt.{decimal}
@@ -17,16 +18,11 @@ use Rattle.certificate.specs.Forms.{value_from, is_numeral, value_of}
 pub own : IsNumeralModel (λ ds. list_all is_ascii_digit ds ≡ true) value_of
 own = numerals_by_fold _ (search rules) value_from (search rules)
 
-pub both : (a b : Bool) → (a && b) ≡ true → (a ≡ true) × (b ≡ true)
-both true true e = (refl, refl)
-both true false e = cc
-both false b e = cc
-
 -- a numeral is digits, and no zero stands before others
 pub numeral_digits : (ds : List ℕ) → is_numeral ds ≡ true → (list_all is_ascii_digit ds ≡ true) × (0 < length ds) × (get_or ds 0 0 ≡ 48 → length ds ≡ 1)
 numeral_digits ds e =
-    let parts = both (nat_lt 0 (length ds)) ((not (get_or ds 0 0 == 48) || (length ds == 1)) && list_all is_ascii_digit ds) e in
-    let inner = both (not (get_or ds 0 0 == 48) || (length ds == 1)) (list_all is_ascii_digit ds) parts.1 in
+    let parts = and_parts (nat_lt 0 (length ds)) ((not (get_or ds 0 0 == 48) || (length ds == 1)) && list_all is_ascii_digit ds) e in
+    let inner = and_parts (not (get_or ds 0 0 == 48) || (length ds == 1)) (list_all is_ascii_digit ds) parts.1 in
     (inner.1, ltb-true 0 (length ds) parts.0, alone (get_or ds 0 0) (length ds) inner.0)
   where
     alone : (c n : ℕ) → (not (c == 48) || (n == 1)) ≡ true → c ≡ 48 → n ≡ 1
@@ -77,4 +73,4 @@ numeral_lacks mark ds low e = digits_lack mark ds low (numeral_digits ds e).0
 
     digits_lack : (mark : ℕ) (ds : List ℕ) → mark < 48 → list_all is_ascii_digit ds ≡ true → LacksByte mark ds
     digits_lack mark [] low all = refl
-    digits_lack mark (c ∷ cs) low all = let parts = both (is_ascii_digit c) (list_all is_ascii_digit cs) all in join (c == mark) (list_any (λ b. b == mark) cs) (no_mark mark c low parts.0) (digits_lack mark cs low parts.1)
+    digits_lack mark (c ∷ cs) low all = let parts = and_parts (is_ascii_digit c) (list_all is_ascii_digit cs) all in join (c == mark) (list_any (λ b. b == mark) cs) (no_mark mark c low parts.0) (digits_lack mark cs low parts.1)

@@ -1,5 +1,6 @@
 -- What a text is read as has this text.
 use Rattle.std.proofs.Common.{◌≡◌, ℕ, ◌+◌, ◌^◌, ◌<◌, inl, ⊎_elim, List, [], ◌∷◌, ◌++◌, map, length, Bool, true, false, cond, ◌==◌, eqb-true, Option, Some, None, Ok, Err, refl, sym, ap, ◌∙◌, subst, codes, append_assoc, append-nil, unwrap_or, arith}
+use Rattle.std.proofs.lemmas.Bool.{and_parts}
 use mathlib.Core.Path.{ap₂}
 use Rattle.std.specs.Option.{option_map}
 use Rattle.std.specs.Str.{bytes_eq}
@@ -24,7 +25,6 @@ use Rattle.certificate.specs.Forms.{entry_of, move_of, first_of}
 use Rattle.certificate.specs.Faults.{section_of, may_stand, entry_fault, with_entry, ended, after_line, cert_from, with_move, after_move, moves_from, after_first, string_from, no_entries, all_from, parts_of, answer_of, too_wide}
 use Rattle.certificate.proofs.EntryForms.{named}
 use Rattle.certificate.proofs.Growth.{Passes, faultless_passes, cert_grown}
-use Rattle.certificate.proofs.Numerals.{both}
 use Rattle.certificate.proofs.Spellings.{are_narrow, entry_told}
 use Rattle.certificate.proofs.StringSpellings.{first_told, move_told}
 use Rattle.certificate.proofs.TextParts.{with_last, text_back}
@@ -48,7 +48,7 @@ AllNarrow c = (e : Entry) → Has (entries_of c) e → IsNarrow e
 
 entries_grown : (c : CertParts) (e : Entry) → may_stand c (section_of e) ≡ true → entries_of (with_entry c e) ≡ entries_of c ++ e ∷ []
 entries_grown c (TestLine n) stands =
-    let none = both (length c.term_nodes == 0) (length c.pairs == 0) stands in
+    let none = and_parts (length c.term_nodes == 0) (length c.pairs == 0) stands in
     let terms : c.term_nodes ≡ [] = empty_list c.term_nodes none.0 in
     let pairs : c.pairs ≡ [] = empty_list c.pairs none.1 in
     let alone : (ts : List TestNode) → map TestLine ts ++ (map TermLine c.term_nodes ++ map PairLine c.pairs) ≡ map TestLine ts = λ ts. ap₂ (λ l r. map TestLine ts ++ (map TermLine l ++ map PairLine r)) terms pairs ∙ append-nil (map TestLine ts) in

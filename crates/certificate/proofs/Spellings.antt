@@ -6,7 +6,7 @@ use Rattle.std.specs.Option.{option_map, option_and_then}
 use Rattle.std.specs.Char.{is_ascii_digit}
 use Rattle.std.specs.Fmt.{decimal}
 use Rattle.std.specs.Str.{bytes_eq}
-use Rattle.std.proofs.lemmas.Bool.{or_right}
+use Rattle.std.proofs.lemmas.Bool.{or_parts, and_parts, or_right}
 use Rattle.std.proofs.lemmas.Bool.Decides.{nat_tests}
 use Rattle.std.proofs.lemmas.Fmt.{digits_decimal}
 use Rattle.std.proofs.lemmas.List.Splits.{join_with_byte-slice_split}
@@ -23,8 +23,8 @@ use Rattle.certificate.specs.Nodes.{NumberPair}
 use Rattle.certificate.specs.Texts.{test_name, test_numbers, term_name, term_numbers, entry_words, entry_numbers, line_of, IsNarrow}
 use Rattle.certificate.specs.Forms.{words_of, is_numeral, value_of, numbers_of, test_node_of, term_node_of, is_bar, both_sets, pair_of, entry_of_words, entry_of}
 use Rattle.certificate.specs.Faults.{too_wide}
-use Rattle.certificate.proofs.Splits.{LacksByte, both_false, split_lacking, split_at}
-use Rattle.certificate.proofs.Numerals.{own, both, numeral_decimal, decimal_numeral}
+use Rattle.certificate.proofs.Splits.{LacksByte, split_lacking, split_at}
+use Rattle.certificate.proofs.Numerals.{own, numeral_decimal, decimal_numeral}
 use Rattle.certificate.proofs.EntryForms.{named, test_node_told, test_node_made, term_node_told, term_node_made}
 use Rattle.certificate.proofs.Lines.{line_of-cons}
 
@@ -42,7 +42,7 @@ number_narrow k small = grind (arith, nat_tests)
 pub are_narrow : (ks : List ℕ) → list_any too_wide ks ≡ false → AreNarrow ks
 are_narrow [] e k h = absurd h
 are_narrow (l ∷ ks) e k h =
-    let parts = both_false (too_wide l) (list_any too_wide ks) e in
+    let parts = or_parts (too_wide l) (list_any too_wide ks) e in
     ⊎_elim (λ p. subst (λ m. m < 2 ^ 64) p (narrow_number l parts.0)) (are_narrow ks parts.1 k) h
 
 pub none_wide : (ks : List ℕ) → AreNarrow ks → list_any too_wide ks ≡ false
@@ -65,7 +65,7 @@ numbers_back ks narrow = rw (all_numerals ks narrow) (ap (λ (l : List ℕ). Som
 numerals_back : (ws : List (List ℕ)) → list_all is_numeral ws ≡ true → AreNarrow (map value_of ws) → ws ≡ map decimal (map value_of ws)
 numerals_back [] all narrow = refl
 numerals_back (w ∷ ws) all narrow =
-    let parts = both (is_numeral w) (list_all is_numeral ws) all in
+    let parts = and_parts (is_numeral w) (list_all is_numeral ws) all in
     ap₂ (λ x l. x ∷ l) (sym (numeral_decimal w parts.0 (narrow (value_of w) (inl refl)))) (numerals_back ws parts.1 (λ l h. narrow l (inr h)))
 
 pub numbers_told : (ws : List (List ℕ)) (ks : List ℕ) → numbers_of ws ≡ Some ks → AreNarrow ks → ws ≡ map decimal ks
@@ -92,7 +92,7 @@ not_low mark b low e = grind (arith, nat_tests)
 pub word_lacks : (mark : ℕ) (w : List ℕ) → mark ≤ 32 → IsWord w → LacksByte mark w
 word_lacks mark [] low word = refl
 word_lacks mark (b ∷ w) low word =
-    let parts = both (nat_lt 32 b) (list_all (λ c. nat_lt 32 c) w) word in
+    let parts = and_parts (nat_lt 32 b) (list_all (λ c. nat_lt 32 c) w) word in
     rw (not_low mark b low parts.0, word_lacks mark w low parts.1) refl
 
 digit_high : (b : ℕ) → is_ascii_digit b ≡ true → nat_lt 32 b ≡ true
@@ -101,7 +101,7 @@ digit_high b e = grind (arith, nat_tests)
 digits_word : (w : List ℕ) → list_all is_ascii_digit w ≡ true → IsWord w
 digits_word [] e = refl
 digits_word (b ∷ w) e =
-    let parts = both (is_ascii_digit b) (list_all is_ascii_digit w) e in
+    let parts = and_parts (is_ascii_digit b) (list_all is_ascii_digit w) e in
     rw (digit_high b parts.0, digits_word w parts.1) refl
 
 pub decimals_words : (ks : List ℕ) → AreNarrow ks → AreWords (map decimal ks)
@@ -125,7 +125,7 @@ line_back line = join_with_byte-slice_split 32 line
 lacks_append : (mark : ℕ) (xs ys : List ℕ) → LacksByte mark xs → LacksByte mark ys → LacksByte mark (xs ++ ys)
 lacks_append mark [] ys a b = b
 lacks_append mark (x ∷ xs) ys a b =
-    let parts = both_false (x == mark) (list_any (λ c. c == mark) xs) a in
+    let parts = or_parts (x == mark) (list_any (λ c. c == mark) xs) a in
     rw (parts.0, lacks_append mark xs ys parts.1 b) refl
 
 -- a line of words has no line feed
@@ -178,7 +178,7 @@ not_bar k small = by_test (is_bar (decimal k)) refl
 first_at : {X : Type 0} (p : X → Bool) (xs : List X) (y : X) (ys : List X) → list_all (λ x. not (p x)) xs ≡ true → p y ≡ true → position_or_len p (xs ++ y ∷ ys) ≡ length xs
 first_at p [] y ys lacks passes = rw passes refl
 first_at p (x ∷ xs) y ys lacks passes =
-    let parts = both (not (p x)) (list_all (λ z. not (p z)) xs) lacks in
+    let parts = and_parts (not (p x)) (list_all (λ z. not (p z)) xs) lacks in
     rw (parts.0, first_at p xs y ys parts.1 passes) (omega arith)
 
 any_after : {X : Type 0} (p : X → Bool) (xs : List X) (y : X) (ys : List X) → p y ≡ true → list_any p (xs ++ y ∷ ys) ≡ true

@@ -1,7 +1,7 @@
 -- Texts cut at a byte: into lines at line feeds, and into words at blanks.
 use Rattle.std.proofs.Common.{◌≡◌, ℕ, suc, ◌+◌, ◌<◌, ◌≤◌, List, [], ◌∷◌, ◌++◌, length, take, drop, Bool, true, false, ◌||◌, ◌==◌, None, Some, refl, sym, ap, ◌∙◌, subst, position, cond, arith, eq-eqb, ltb-true, nat_lt, not, length-drop, length-take-le}
 use Rattle.std.specs.List.{slice_split, onto_first, list_any, position_or_len, prefix_len}
-use Rattle.std.proofs.lemmas.Bool.{ltb-false}
+use Rattle.std.proofs.lemmas.Bool.{or_parts, ltb-false}
 use Rattle.std.proofs.lemmas.List.{take_all}
 use Rattle.std.proofs.lemmas.List.Splits.{slice_split_first, slice_split-cons_yes, slice_split-cons_no}
 use Rattle.certificate.specs.Faults.{parts_of}
@@ -14,23 +14,18 @@ LacksByte mark bytes = list_any (λ b. b == mark) bytes ≡ false
 pub same_byte : (mark : ℕ) → (mark == mark) ≡ true
 same_byte mark = eq-eqb mark mark refl
 
-pub both_false : (s t : Bool) → (s || t) ≡ false → (s ≡ false) × (t ≡ false)
-both_false false false e = (refl, refl)
-both_false false true e = cc
-both_false true t e = cc
-
 -- cut at a byte, a list that lacks it is one part
 pub split_lacking : (mark : ℕ) (xs : List ℕ) → LacksByte mark xs → slice_split (λ b. b == mark) xs ≡ xs ∷ []
 split_lacking mark [] lacks = refl
 split_lacking mark (x ∷ xs) lacks =
-    let both = both_false (x == mark) (list_any (λ b. b == mark) xs) lacks in
+    let both = or_parts (x == mark) (list_any (λ b. b == mark) xs) lacks in
     slice_split-cons_no (λ b. b == mark) x xs both.0 ∙ ap (onto_first x) (split_lacking mark xs both.1)
 
 -- the first part of a list ends before the first such byte
 pub split_at : (mark : ℕ) (xs ys : List ℕ) → LacksByte mark xs → slice_split (λ b. b == mark) (xs ++ mark ∷ ys) ≡ xs ∷ slice_split (λ b. b == mark) ys
 split_at mark [] ys lacks = slice_split-cons_yes (λ b. b == mark) mark ys (same_byte mark)
 split_at mark (x ∷ xs) ys lacks =
-    let both = both_false (x == mark) (list_any (λ b. b == mark) xs) lacks in
+    let both = or_parts (x == mark) (list_any (λ b. b == mark) xs) lacks in
     slice_split-cons_no (λ b. b == mark) x (xs ++ mark ∷ ys) both.0 ∙ ap (onto_first x) (split_at mark xs ys both.1)
 
 -- there is a part

@@ -1,5 +1,6 @@
 -- The lines of a string: what is spelled is read, and what is read is spelled so.
 use Rattle.std.proofs.Common.{◌≡◌, ℕ, ◌^◌, ◌<◌, List, [], ◌∷◌, map, length, Bool, true, false, ◌&&◌, cond, ◌==◌, nat_lt, Option, Some, None, refl, sym, ap, ◌∙◌, subst, arith, codes, ⊎_elim}
+use Rattle.std.proofs.lemmas.Bool.{and_parts}
 use mathlib.Core.Path.{ap₂}
 use Rattle.std.specs.List.{list_all}
 use Rattle.std.specs.Option.{option_map}
@@ -11,7 +12,7 @@ use Rattle.kat_model.specs.Strings.{Move}
 use Rattle.certificate.specs.Texts.{bits, bit_words, atom_words, move_words, line_of}
 use Rattle.certificate.specs.Forms.{words_of, is_numeral, value_of, is_bit, bits_of, atom_of_words, first_of_words, first_of, move_after, move_of_words, move_of}
 use Rattle.certificate.proofs.Splits.{LacksByte}
-use Rattle.certificate.proofs.Numerals.{both, numeral_decimal, decimal_numeral}
+use Rattle.certificate.proofs.Numerals.{numeral_decimal, decimal_numeral}
 use Rattle.certificate.proofs.EntryForms.{named}
 use Rattle.certificate.proofs.Spellings.{IsWord, AreWords, words_back, line_back, line_lacks, decimals_words}
 
@@ -50,7 +51,7 @@ bit_back c e = grind (arith, nat_tests)
 word_back : (w : List ℕ) → list_all is_bit w ≡ true → bits (map (λ c. c == 49) w) ≡ w
 word_back [] all = refl
 word_back (c ∷ w) all =
-    let parts = both (is_bit c) (list_all is_bit w) all in
+    let parts = and_parts (is_bit c) (list_all is_bit w) all in
     ap₂ (λ x l. x ∷ l) (bit_back c parts.0) (word_back w parts.1)
 
 bits_told : (w : List ℕ) (atom : Atom) → bits_of w ≡ Some atom → w ∷ [] ≡ bit_words atom
@@ -62,7 +63,7 @@ bits_told w atom e = by_test (nat_lt 0 (length w) && list_all is_bit w) refl e
 
     by_test : (b : Bool) → (nat_lt 0 (length w) && list_all is_bit w) ≡ b → cond b (Some (map (λ c. c == 49) w)) None ≡ Some atom → w ∷ [] ≡ bit_words atom
     by_test true is f =
-        let parts = both (nat_lt 0 (length w)) (list_all is_bit w) is in
+        let parts = and_parts (nat_lt 0 (length w)) (list_all is_bit w) is in
         let same : map (λ c. c == 49) w ≡ atom = cc in
         words_at w parts.0 parts.1 ∙ ap bit_words same
     by_test false is f = cc

@@ -1,7 +1,9 @@
 -- A certificate is evidence of the program where its tests and actions are numbers of the program and its nodes so many.
-use Rattle.std.proofs.Common.{◌≡◌, ◌<◌, ◌^◌, ℕ, zero, suc, ⊎_elim, List, [], ◌∷◌, ◌++◌, map, length, Some, slice_get, refl, subst, arith}
+use Rattle.std.proofs.Common.{◌<◌, ◌^◌, ℕ, ⊎_elim, ◌++◌, map, length, subst, arith}
+use Rattle.std.proofs.lemmas.Option.{slice_get_within}
 use Rattle.kat_model.specs.Members.{Has}
 use Rattle.kat_model.proofs.Lists.{has_append, has_map}
+use Rattle.kat_model.proofs.Places.{place_of_member}
 use Rattle.certificate.specs.declared.nodes.TestNode.{TestNode}
 use Rattle.certificate.specs.declared.nodes.TestNode.TheVariants.{False, True, Prim, Not, And, Or}
 use Rattle.certificate.specs.declared.nodes.TermNode.{TermNode}
@@ -14,18 +16,14 @@ use Rattle.certificate.specs.Certs.{CertParts, IsCert}
 use Rattle.certificate.specs.Texts.{test_numbers, term_numbers, entries_of, IsNarrow, IsEvidence}
 use Rattle.certificate.proofs.NodeTrees.{below_has}
 
-place_of : {X : Type 0} (xs : List X) (x : X) → Has xs x → (k : ℕ) × (slice_get xs k ≡ Some x) × (k < length xs)
-place_of [] x h = absurd h
-place_of (y ∷ ys) x h = ⊎_elim (λ e. (0, (let first : y ≡ x = e in cc), omega arith)) (λ m. let r = place_of ys x m in (suc r.0, r.1, (let lt = r.2 in omega (arith, lt)))) h
-
 module _ (c : CertParts) (cert : IsCert c)
     (prims : (k : ℕ) → Has c.test_nodes (Prim k) → k < 2 ^ 64) (acts : (a : ℕ) → Has c.term_nodes (Act a) → a < 2 ^ 64)
     (tests : length c.test_nodes < 2 ^ 64) (terms : length c.term_nodes < 2 ^ 64) where
   test_part : (n : TestNode) → Has c.test_nodes n → (k : ℕ) → Has (test_parts n) k → k < 2 ^ 64
   test_part n h k m =
-      let at = place_of c.test_nodes n h in
+      let at = place_of_member c.test_nodes n h in
       let low = below_has at.0 (test_parts n) (cert.tests at.0 n at.1) k m in
-      let within = at.2 in
+      let within = slice_get_within c.test_nodes at.0 n at.1 in
       omega (arith, low, within, tests)
 
   test_line : (n : TestNode) → Has c.test_nodes n → (k : ℕ) → Has (test_numbers n) k → k < 2 ^ 64
@@ -38,9 +36,9 @@ module _ (c : CertParts) (cert : IsCert c)
 
   term_part : (n : TermNode) → Has c.term_nodes n → (k : ℕ) → Has (term_parts n) k → k < 2 ^ 64
   term_part n h k m =
-      let at = place_of c.term_nodes n h in
+      let at = place_of_member c.term_nodes n h in
       let low = below_has at.0 (term_parts n) (cert.terms at.0 n at.1) k m in
-      let within = at.2 in
+      let within = slice_get_within c.term_nodes at.0 n at.1 in
       omega (arith, low, within, terms)
 
   term_line : (n : TermNode) → Has c.term_nodes n → (k : ℕ) → Has (term_numbers n) k → k < 2 ^ 64

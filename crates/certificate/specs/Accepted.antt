@@ -1,10 +1,10 @@
 -- The certificates that are accepted: those whose pairs of sets of terms are a bisimulation, plain or up to
 -- congruence (Hopcroft and Karp 1971; Bonchi and Pous 2013).
-use Rattle.std.specs.Prelude.{◌<◌, ℕ, List, [], ◌∷◌, ◌++◌, map, slice_index_or}
+use Rattle.std.specs.Prelude.{◌<◌, ℕ, List, map, slice_index_or}
 use Rattle.kat_model.specs.Trees.{TestTree, bottom, top, prim, complement, meet, join, Term, zero, one, test, act, sum, product, star}
 use Rattle.kat_model.specs.Members.{Has}
 use Rattle.kat_model.specs.CourseOfValues.{course_of_values}
-use Rattle.kat_model.specs.Problems.{Question}
+use Rattle.kat_model.specs.Problems.{ProblemParts}
 use Rattle.kat_model.specs.Pairs.{SetPair, Style as PairStyle, plain, up_to, AreAccepted}
 use Rattle.certificate.specs.declared.nodes.TestNode.{TestNode}
 use Rattle.certificate.specs.declared.nodes.TestNode.TheVariants.{False, True, Prim, Not, And, Or}
@@ -53,7 +53,7 @@ pair_style Plain = plain
 pair_style UpTo = up_to
 
 -- the certificate shows that the sides of the question are the same
-pub record IsAccepted (q : Question) (c : CertParts) : Type 0 where
+pub record IsAccepted (q : ProblemParts) (c : CertParts) : Type 0 where
   pub tests : (k : ℕ) → Has c.test_nodes (Prim k) → k < q.tests
   pub actions : (a : ℕ) → Has c.term_nodes (Act a) → a < q.actions
   pub pairs : AreAccepted (pair_style c.style) q (set_pairs c)

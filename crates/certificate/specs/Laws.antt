@@ -3,7 +3,7 @@ use Rattle.std.specs.Prelude.{◌≡◌, ◌≢◌, ◌↔◌, ◌+◌, ◌^◌,
 use Rattle.std.specs.List.{list_any}
 use Rattle.kat_model.specs.Steps.{Atom}
 use Rattle.kat_model.specs.Strings.{Move, GuardedString}
-use Rattle.kat_model.specs.Problems.{Question}
+use Rattle.kat_model.specs.Problems.{ProblemParts}
 use Rattle.kat_model.specs.Relations.{Same}
 use Rattle.string_tables.specs.Tables.{ExactlyOne}
 use Rattle.certificate.specs.declared.nodes.TestNode.{TestNode}
@@ -78,4 +78,4 @@ NodesHaveTrees = (c : CertParts) → IsCert c → HasNodeTrees c
 
 -- an accepted certificate shows that both sides are the same
 abbrev pub AcceptedAreSame : Type 0
-AcceptedAreSame = (q : Question) (c : CertParts) → IsAccepted q c → Same q
+AcceptedAreSame = (q : ProblemParts) (c : CertParts) → IsAccepted q c → Same q

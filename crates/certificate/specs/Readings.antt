@@ -2,7 +2,6 @@
 use Rattle.std.specs.Prelude.{◌≡◌, ◌+◌, ℕ, true, false, List, ◌∷◌, length, map, Option, Some, None, Result, Ok, Err}
 use Rattle.std.specs.Borrow.{Bor}
 use Rattle.std.specs.List.{list_all, list_any}
-use Rattle.std.specs.Map.{keys_of}
 use Rattle.kat_model.specs.Members.{SameMembers}
 use Rattle.kat_model.specs.Strings.{Move}
 use Rattle.certificate.specs.declared.words.Numbers.{Numbers}
@@ -70,8 +69,8 @@ draft_parts d = cert_of d.style d.test_nodes.items d.term_nodes.items d.pairs.it
 -- a draft keeps the rules, and knows its nodes
 pub record IsDraft (d : Draft) : Type 0 where
   pub cert : IsCert (draft_parts d)
-  pub tests : SameMembers (keys_of d.known_tests.entries) d.test_nodes.items
-  pub terms : SameMembers (keys_of d.known_terms.entries) d.term_nodes.items
+  pub tests : SameMembers d.known_tests.keys d.test_nodes.items
+  pub terms : SameMembers d.known_terms.keys d.term_nodes.items
 
 -- an entry of line n passes the first three tests
 pub record MayBeAdded (d : Draft) (e : Entry) : Type 0 where

@@ -1,7 +1,5 @@
 //! A certificate that is being read.
-ghost use Rattle.std.specs.Prelude.{◌≡◌, ◌↔◌, ◌∷◌, ◌&&◌, ◌++◌, false, Some, IsTrue, IfOk, OnOk};
-ghost use Rattle.std.specs.Map.{keys_of};
-ghost use Rattle.kat_model.specs.Members.{Has, SameMembers};
+ghost use Rattle.std.specs.Prelude.{◌≡◌, ◌&&◌, ◌++◌, false, Some};
 ghost use Rattle.certificate.specs.Nodes.{test_parts, term_parts, tests_of_term, are_below, are_ascending};
 ghost use Rattle.certificate.specs.Forms.{entry_of};
 ghost use Rattle.certificate.specs.Faults.{no_entries, may_stand, is_wide, names_earlier};
@@ -12,19 +10,18 @@ use crate::cert::Cert;
 use crate::entry::{Entry, LineFault, Section, read_entry};
 use crate::evidence::EvidenceFault;
 use crate::nodes::{Pair, Style, TermNode, TestNode};
-use kat_model::NoMemory;
 use std::alloc::Global;
-use std::collections::BTreeMap;
+use std::collections::BTreeSet;
 
-// The entries so far. The maps have the nodes as their keys, so that an equal node is found fast.
+// The entries so far. The sets have the nodes too, so that an equal node is found fast.
 #[derive(Drop)]
 pub(crate) struct Draft {
     style: Style,
     test_nodes: Vec<TestNode>,
     term_nodes: Vec<TermNode>,
     pairs: Vec<Pair>,
-    known_tests: BTreeMap<TestNode, ()>,
-    known_terms: BTreeMap<TermNode, ()>,
+    known_tests: BTreeSet<TestNode>,
+    known_terms: BTreeSet<TermNode>,
 }
 
 fn all_below(numbers: &[usize], count: usize) -> bool
@@ -36,12 +33,7 @@ fn all_below(numbers: &[usize], count: usize) -> bool
 fn is_ascending(numbers: &[usize]) -> bool
     ensures { result ≡ are_ascending numbers.now }
 {
-    for i in 1..numbers.len() {
-        if numbers[i - 1] >= numbers[i] {
-            return false;
-        }
-    }
-    true
+    numbers.is_sorted_by(|a, b| *a < *b)
 }
 
 fn test_names_earlier(node: TestNode, count: usize) -> bool
@@ -65,21 +57,6 @@ fn term_names_earlier(node: TermNode, tests: usize, terms: usize) -> bool
     }
 }
 
-// Notes the node, and answers whether it was known.
-fn note_test(known: &mut BTreeMap<TestNode, ()>, node: TestNode) -> Result<bool, NoMemory>
-    ensures was { IfOk result (λ was. IsTrue was ↔ Has (keys_of known.old.entries) node) }
-    ensures now { OnOk result (SameMembers (keys_of known.new.entries) (node ∷ keys_of known.old.entries)) }
-{
-    Ok(known.insert(node, ())?.is_some())
-}
-
-fn note_term(known: &mut BTreeMap<TermNode, ()>, node: TermNode) -> Result<bool, NoMemory>
-    ensures was { IfOk result (λ was. IsTrue was ↔ Has (keys_of known.old.entries) node) }
-    ensures now { OnOk result (SameMembers (keys_of known.new.entries) (node ∷ keys_of known.old.entries)) }
-{
-    Ok(known.insert(node, ())?.is_some())
-}
-
 impl Draft {
     pub(crate) fn new(alloc: Global, style: Style) -> Draft
         ensures entries { draft_parts result ≡ no_entries style }
@@ -90,8 +67,8 @@ impl Draft {
             test_nodes: Vec::new(alloc),
             term_nodes: Vec::new(alloc),
             pairs: Vec::new(alloc),
-            known_tests: BTreeMap::new(alloc),
-            known_terms: BTreeMap::new(alloc),
+            known_tests: BTreeSet::new(alloc),
+            known_terms: BTreeSet::new(alloc),
         }
     }
 
@@ -140,7 +117,8 @@ impl Draft {
         requires tested { MayBeAdded self.old (TestLine node) }
         ensures { AddsEntry self.old number (Some (TestLine node)) self.new result }
     {
-        if note_test(&mut self.known_tests, node)? {
+        let is_new = self.known_tests.insert(node)?;
+        if !is_new {
             return Err(EvidenceFault::DoubleNode(number));
         }
         self.test_nodes.push(node)?;
@@ -152,7 +130,8 @@ impl Draft {
         requires tested { MayBeAdded self.old (TermLine node) }
         ensures { AddsEntry self.old number (Some (TermLine node)) self.new result }
     {
-        if note_term(&mut self.known_terms, node)? {
+        let is_new = self.known_terms.insert(node)?;
+        if !is_new {
             return Err(EvidenceFault::DoubleNode(number));
         }
         self.term_nodes.push(node)?;

@@ -9,9 +9,8 @@ ghost use Rattle.certificate.specs.declared.entry.LineFault.TheVariants.{NoMemor
 
 use crate::nodes::{Pair, TermNode, TestNode};
 use crate::words::{read_numbers, words_of};
-use kat_model::NoMemory;
+use kat_model::{Items, NoMemory};
 use std::alloc::Global;
-use string_tables::Items;
 
 // What a line of a certificate says.
 #[derive(Drop)]

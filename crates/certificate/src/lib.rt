@@ -9,8 +9,6 @@ mod laws;
 mod moves;
 mod nodes;
 mod reading;
-#[cfg(test)]
-mod tests;
 mod words;
 mod writing;
 

@@ -6,9 +6,9 @@ ghost use Rattle.certificate.specs.Readings.{texts, ReadsMove};
 ghost use Rattle.certificate.specs.declared.moves.MoveFault.TheVariants.{NoMemory as NoRoom};
 
 use crate::words::{is_numeral, number, words_of};
-use kat_model::NoMemory;
+use kat_model::{Items, NoMemory};
 use std::alloc::Global;
-use string_tables::{Items, Move};
+use string_tables::Move;
 
 // Why a line is no move.
 #[derive(Clone, Copy)]

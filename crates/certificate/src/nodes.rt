@@ -1,6 +1,6 @@
 //! Nodes of tests and terms, and pairs of sets of terms.
+use kat_model::Items;
 use std::marker::Model;
-use string_tables::Items;
 
 /// How the successors of a pair are told by the pairs that are listed.
 #[derive(Clone, Copy, Debug, PartialEq, Eq)]

@@ -10,8 +10,9 @@ use crate::evidence::{Evidence, EvidenceFault};
 use crate::moves::{MoveFault, read_first, read_move};
 use crate::nodes::Style;
 use crate::words::first_line;
+use kat_model::Items;
 use std::alloc::Global;
-use string_tables::{GString, Items};
+use string_tables::GString;
 
 // What the line `end` gives, where line `number` would begin after it.
 fn ended(evidence: Evidence, number: u64, after: &[u8]) -> Result<Evidence, EvidenceFault>

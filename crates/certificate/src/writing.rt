@@ -199,7 +199,7 @@ fn put_body(alloc: Global, out: &mut Vec<u8>, evidence: &Evidence) -> Result<(),
     }
 }
 
-/// The one spelling of evidence. The only refusal is want of memory.
+/// The one spelling of evidence. Fails only when out of memory.
 pub fn write(alloc: Global, evidence: &Evidence) -> Result<Vec<u8>, NoMemory>
     ensures { IfOk result (λ text. text.items ≡ text_of evidence.now) }
 {

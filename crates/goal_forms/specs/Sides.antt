@@ -14,6 +14,10 @@ side_trees s = record { left = kat_tree s.left; right = kat_tree s.right }
 abbrev pub below_sides : Term → Term → SideTrees
 below_sides small large = record { left = sum small large; right = large }
 
+-- the runs that break a triple: those of the body that begin in pre and end outside post
+abbrev pub failing_run : TestTree → Term → TestTree → Term
+failing_run pre body post = product (test pre) (product body (test (complement post)))
+
 -- no run of the body from pre ends outside post
 abbrev pub triple_sides : TestTree → Term → TestTree → SideTrees
-triple_sides pre body post = record { left = product (test pre) (product body (test (complement post))); right = zero }
+triple_sides pre body post = record { left = failing_run pre body post; right = zero }

@@ -4,7 +4,6 @@ ghost use Rattle.kat_model.specs.Trees.{kat_tree};
 ghost use Rattle.kat_model.specs.Closed.{closed, actions_below, universal_of, inside};
 ghost use Rattle.goal_forms.specs.ClosedTrees.{closed_trees};
 
-use crate::nodes::{seq, star, sum};
 use kat_model::{Kat, NoMemory, Problem, sum_of};
 use std::alloc::Global;
 
@@ -34,7 +33,7 @@ fn universal(alloc: Global, count: usize) -> Result<Kat, NoMemory>
 {
     let list = actions(alloc, count)?;
     let step = sum_of(alloc, list)?;
-    star(alloc, step)
+    Kat::new_star(alloc, step)
 }
 
 fn copies(alloc: Global, terms: &[Kat]) -> Result<Vec<Kat>, NoMemory>
@@ -48,19 +47,19 @@ fn copies(alloc: Global, terms: &[Kat]) -> Result<Vec<Kat>, NoMemory>
 }
 
 // Anything, then the term, then anything.
-fn surrounded(alloc: Global, anything: &Kat, term: Kat) -> Result<Kat, NoMemory>
+fn surround(alloc: Global, anything: &Kat, term: Kat) -> Result<Kat, NoMemory>
     ensures { IfOk result (λ e. kat_tree e ≡ inside (kat_tree anything.now) (kat_tree term)) }
 {
     let before = anything.copy(alloc)?;
     let after = anything.copy(alloc)?;
-    let end = seq(alloc, term, after)?;
-    seq(alloc, before, end)
+    let end = Kat::new_seq(alloc, term, after)?;
+    Kat::new_seq(alloc, before, end)
 }
 
 /// The closed terms of a problem (elimination of hypotheses `e = 0`: Cohen 1994; Kozen and Smith 1996).
 /// Without hypotheses they are both sides, and there is no universal term. Otherwise let `u` be the star of
 /// the sum of all actions in order and `h` the sum of the hypotheses; each side `e` becomes `e + u.(h.u)`,
-/// and `u` is the universal term. The only refusal is want of memory.
+/// and `u` is the universal term. Fails only when out of memory.
 pub fn eliminate(alloc: Global, problem: &Problem) -> Result<Closed, NoMemory>
     ensures { IfOk result (λ c. closed_trees c ≡ closed problem.now) }
 {
@@ -76,11 +75,11 @@ pub fn eliminate(alloc: Global, problem: &Problem) -> Result<Closed, NoMemory>
     let anything = universal(alloc, problem.actions())?;
     let hyps = copies(alloc, problem.hyps())?;
     let excluded = sum_of(alloc, hyps)?;
-    let broken = surrounded(alloc, &anything, excluded)?;
+    let broken = surround(alloc, &anything, excluded)?;
     let again = broken.copy(alloc)?;
     Ok(Closed {
-        left: sum(alloc, left, broken)?,
-        right: sum(alloc, right, again)?,
+        left: Kat::new_sum(alloc, left, broken)?,
+        right: Kat::new_sum(alloc, right, again)?,
         universal: Some(anything),
     })
 }

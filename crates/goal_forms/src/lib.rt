@@ -4,10 +4,7 @@
 mod elimination;
 mod goals;
 mod laws;
-mod nodes;
-#[cfg(test)]
-mod tests;
 
 pub use elimination::{Closed, eliminate};
-pub use goals::{Sides, below, triple};
+pub use goals::{Sides, below, failing_run, triple};
 pub use laws::goals_mean;

@@ -48,7 +48,7 @@ after_fault s name = record s { calls = one_more s.calls; faults = one_more s.fa
 abbrev pub HasToFail : ShelfState → List ℕ → Type 0
 HasToFail s name = IsTrue (is_due s.schedule s.calls) ⊎ (tells s name ≡ Missing)
 
--- each answer comes where it has to, and leaves this; want of memory leaves all as it was
+-- each answer comes where it has to, and leaves this; out of memory leaves all as it was
 abbrev pub Leaves : Result (Vec ℕ Global) GetFault → ShelfState → List ℕ → ShelfState → Type 0
 Leaves (Err NoMemory) old name now = now ≡ old
 Leaves (Err Failed) old name now = HasToFail old name × (now ≡ after_fault old name)

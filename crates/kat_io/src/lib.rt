@@ -5,8 +5,6 @@ mod mem_shelf;
 mod mem_sink;
 mod outside;
 mod system;
-#[cfg(test)]
-mod tests;
 
 pub use mem_shelf::MemShelf;
 pub use mem_sink::MemSink;

@@ -164,29 +164,3 @@ impl<'a, R: Print> Sink for StdoutSink<'a, R> {
         put
     }
 }
-
-#[cfg(test)]
-mod tests {
-    use super::*;
-    use std::test::Fail;
-
-    #[test]
-    fn gets_a_file_of_the_folder(rt: HostRuntime) -> Result<(), Fail> {
-        fs::write(&rt, "held", "abc")?;
-        let mut shelf = FolderShelf::new(&rt);
-        let whole = shelf.get(rt.alloc(), "held", Some(3))?;
-        assert_eq!(rt; whole.as_slice(), b"abc".as_slice());
-        let past = shelf.get(rt.alloc(), "held", Some(2));
-        assert!(rt; matches!(past, Err(GetFault::TooLong)));
-        let missing = shelf.get(rt.alloc(), "none", None);
-        assert!(rt; matches!(missing, Err(GetFault::Failed)));
-        Ok(())
-    }
-
-    #[test]
-    fn writes_to_standard_output(rt: HostRuntime) {
-        let mut sink = StdoutSink::new(&rt);
-        assert_eq!(rt; sink.put(b"abc"), Ok(3));
-        assert_eq!(rt; sink.put(b""), Ok(0));
-    }
-}

@@ -6,7 +6,7 @@ use Rattle.std.proofs.lemmas.Grind.{flat_map-append}
 use Rattle.kat_model.specs.Trees.{Term, zero as term_zero, sum}
 use Rattle.kat_model.specs.Members.{Has}
 use Rattle.kat_model.specs.Steps.{Atom, out, next, set_out, set_next}
-use Rattle.kat_model.specs.Relations.{Frame, RelatesIn}
+use Rattle.kat_model.specs.Relations.{Frame, RelatesIn, SomeRelates}
 use Rattle.kat_model.specs.Strings.{Move, accepts, set_accepts}
 use Rattle.kat_model.specs.Balanced.{sum_of}
 use Rattle.kat_model.proofs.Lists.{has_left, has_right, has_append}
@@ -34,12 +34,9 @@ next-sum_of es atom a =
 pub out-sum_of : (es : List Term) (atom : Atom) → out (sum_of es) atom ≡ set_out es atom
 out-sum_of es atom = accepts-sum_of es atom []
 
--- some member relates the states
-abbrev pub SomeRelates : {S : Type 0} → Frame S → List Term → S → S → Type 0
-SomeRelates frame es i j = (e : Term) × Has es e × RelatesIn frame e i j
-
 module _ {S : Type 0} (frame : Frame S) (i j : S) where
-  sum_of_relations : (es : List Term) → RelatesIn frame (sum_of es) i j ↔ SomeRelates frame es i j
+  -- a sum relates what some member does
+  pub sum_of_relations : (es : List Term) → RelatesIn frame (sum_of es) i j ↔ SomeRelates frame es i j
   sum_of_relations es = balanced_holds term_zero sum (λ fs e. RelatesIn frame e i j ↔ SomeRelates frame fs i j) none one two es
     where
       none : RelatesIn frame term_zero i j ↔ SomeRelates frame [] i j

@@ -1,10 +1,10 @@
 -- The closure of a relation on the numbers below a bound, by Warshall's steps (Warshall 1962): it relates two
 -- numbers exactly where some list of numbers leads from one to the other.
-use Rattle.std.proofs.Common.{◌≡◌, ℕ, zero, suc, ◌<◌, ◌≤◌, ◌⊎◌, inl, inr, ⊎_elim, ◌↔◌, List, [], ◌∷◌, ◌++◌, refl, sym, subst, arith, Bool, ◌&&◌, ◌||◌, eqb}
+use Rattle.std.proofs.Common.{◌≡◌, ℕ, zero, suc, ◌<◌, ◌≤◌, ◌⊎◌, inl, inr, ⊎_elim, ◌↔◌, List, [], ◌∷◌, ◌++◌, refl, sym, subst, arith, Bool, eqb}
 use Rattle.std.specs.Bool.{IsTrue}
 use Rattle.std.proofs.lemmas.Bool.{eqb-true, eq-eqb, or_cases, or_left, or_right, and_parts, and_from}
 use Rattle.kat_model.specs.Relations.{Along}
-use Rattle.kat_model.specs.Decided.{through_now}
+use Rattle.kat_model.specs.Decided.{warshall}
 
 module _ {S : Type 0} (IsState : S → Type 0) where
   pub along_append : (R : S → S → Type 0) (ks ls : List S) (i m j : S) → Along IsState R i ks m → Along IsState R m ls j → Along IsState R i (ks ++ ls) j
@@ -81,24 +81,24 @@ module _ (R : ℕ → ℕ → Type 0) where
 
 -- the same steps on a relation that is given by a test
 module _ (r : ℕ → ℕ → Bool) where
-  pub through_now_through : (k i j : ℕ) → IsTrue (through_now r k i j) → Through (λ m l. IsTrue (r m l)) k i j
+  pub through_now_through : (k i j : ℕ) → IsTrue (warshall r k i j) → Through (λ m l. IsTrue (r m l)) k i j
   through_now_through zero i j h = ⊎_elim (λ e. inl (eqb-true i j e)) inr (or_cases (eqb i j) (r i j) h)
   through_now_through (suc k) i j h =
       ⊎_elim
       (λ p. inl (through_now_through k i j p))
-      (λ q. let b = and_parts (through_now r k i k) (through_now r k k j) q in inr (through_now_through k i k b.0, through_now_through k k j b.1))
-      (or_cases (through_now r k i j) _ h)
+      (λ q. let b = and_parts (warshall r k i k) (warshall r k k j) q in inr (through_now_through k i k b.0, through_now_through k k j b.1))
+      (or_cases (warshall r k i j) _ h)
 
-  pub through_through_now : (k i j : ℕ) → Through (λ m l. IsTrue (r m l)) k i j → IsTrue (through_now r k i j)
+  pub through_through_now : (k i j : ℕ) → Through (λ m l. IsTrue (r m l)) k i j → IsTrue (warshall r k i j)
   through_through_now zero i j h = ⊎_elim (λ e. or_left (eqb i j) (r i j) (eq-eqb i j e)) (λ q. or_right (eqb i j) (r i j) q) h
   through_through_now (suc k) i j h =
       ⊎_elim
-      (λ p. or_left (through_now r k i j) _ (through_through_now k i j p))
-      (λ q. or_right (through_now r k i j) _ (and_from (through_now r k i k) (through_now r k k j) (through_through_now k i k q.0) (through_through_now k k j q.1)))
+      (λ p. or_left (warshall r k i j) _ (through_through_now k i j p))
+      (λ q. or_right (warshall r k i j) _ (and_from (warshall r k i k) (warshall r k k j) (through_through_now k i k q.0) (through_through_now k k j q.1)))
       h
 
 -- where the test tells the relation, the steps on it tell whether some list leads from i to j
-pub through_now_leads : (n : ℕ) (r : ℕ → ℕ → Bool) (R : ℕ → ℕ → Type 0) → ((i j : ℕ) → i < n → j < n → IsTrue (r i j) ↔ R i j) → (i j : ℕ) → i < n → j < n → IsTrue (through_now r n i j) ↔ Leads n R i j
+pub through_now_leads : (n : ℕ) (r : ℕ → ℕ → Bool) (R : ℕ → ℕ → Type 0) → ((i j : ℕ) → i < n → j < n → IsTrue (r i j) ↔ R i j) → (i j : ℕ) → i < n → j < n → IsTrue (warshall r n i j) ↔ Leads n R i j
 through_now_leads n r R same i j li lj = (
   (λ h.
       let p = through_leads (λ m l. IsTrue (r m l)) n n i j (omega arith) lj (through_now_through r n i j h) in

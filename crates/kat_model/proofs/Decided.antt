@@ -1,14 +1,13 @@
 -- The plainest search is true exactly where the term relates the states.
-use Rattle.std.proofs.Common.{◌≡◌, ℕ, zero as nought, suc, ◌<◌, ◌⊎◌, inl, inr, ⊎_elim, ◌↔◌, refl, sym, ◌∙◌, subst, arith, Bool, false, ◌&&◌, ◌||◌, eqb}
+use Rattle.std.proofs.Common.{◌≡◌, ℕ, zero as nought, suc, ◌<◌, ◌⊎◌, inl, inr, ⊎_elim, ◌↔◌, refl, sym, ◌∙◌, subst, arith, Bool, false, ◌&&◌, eqb}
 use Rattle.std.specs.Bool.{IsTrue}
-use Rattle.std.specs.List.{list_any}
 use Rattle.std.proofs.lemmas.Bool.{true≢false, false≢true, eqb-true, eq-eqb, or_cases, or_left, or_right, and_parts, and_from}
 use Rattle.kat_model.specs.Trees.{Term, zero, one, test, act, sum, product, star}
 use Rattle.kat_model.specs.Members.{Has}
 use Rattle.kat_model.specs.Steps.{truth}
 use Rattle.kat_model.specs.Relations.{Step, Table, atom_at, Relates}
 use Rattle.kat_model.proofs.Lists.{has_any, any_has}
-use Rattle.kat_model.specs.Decided.{same_step, some_below, relates_now}
+use Rattle.kat_model.specs.Decided.{same_step, some_below, computes_relation}
 use Rattle.kat_model.proofs.Closure.{through_now_leads}
 
 same_step_true : (m n : Step) → IsTrue (same_step m n) → n ≡ m
@@ -42,7 +41,7 @@ below_some p (suc n) k lt h =
     cases k n lt = grind arith
 
 module _ (t : Table) where
-  pub relates_now_decides : (e : Term) (i j : ℕ) → i < t.states → j < t.states → IsTrue (relates_now t e i j) ↔ Relates t e i j
+  pub relates_now_decides : (e : Term) (i j : ℕ) → i < t.states → j < t.states → IsTrue (computes_relation t e i j) ↔ Relates t e i j
   relates_now_decides zero i j li lj = ((λ h. absurd (false≢true h)), absurd)
   relates_now_decides one i j li lj = ((λ h. eqb-true i j h), (λ r. eq-eqb i j r))
   relates_now_decides (test b) i j li lj = (
@@ -57,24 +56,24 @@ module _ (t : Table) where
   relates_now_decides (sum e f) i j li lj =
       let a = relates_now_decides e i j li lj in
       let b = relates_now_decides f i j li lj in (
-        (λ h. ⊎_elim (λ p. inl (a.0 p)) (λ q. inr (b.0 q)) (or_cases (relates_now t e i j) (relates_now t f i j) h)),
-        (λ r. ⊎_elim (λ p. or_left (relates_now t e i j) _ (a.1 p)) (λ q. or_right (relates_now t e i j) _ (b.1 q)) r),
+        (λ h. ⊎_elim (λ p. inl (a.0 p)) (λ q. inr (b.0 q)) (or_cases (computes_relation t e i j) (computes_relation t f i j) h)),
+        (λ r. ⊎_elim (λ p. or_left (computes_relation t e i j) _ (a.1 p)) (λ q. or_right (computes_relation t e i j) _ (b.1 q)) r),
       )
   relates_now_decides (product e f) i j li lj = (
     (λ h.
-        let r = some_below_true (λ k. relates_now t e i k && relates_now t f k j) t.states h in
-        let p = and_parts (relates_now t e i r.0) (relates_now t f r.0 j) r.2 in
+        let r = some_below_true (λ k. computes_relation t e i k && computes_relation t f k j) t.states h in
+        let p = and_parts (computes_relation t e i r.0) (computes_relation t f r.0 j) r.2 in
         (r.0, r.1, (relates_now_decides e i r.0 li r.1).0 p.0, (relates_now_decides f r.0 j r.1 lj).0 p.1)),
     (λ r.
-        below_some (λ k. relates_now t e i k && relates_now t f k j) t.states r.0 r.1
-        (and_from (relates_now t e i r.0) (relates_now t f r.0 j) ((relates_now_decides e i r.0 li r.1).1 r.2) ((relates_now_decides f r.0 j r.1 lj).1 r.3))),
+        below_some (λ k. computes_relation t e i k && computes_relation t f k j) t.states r.0 r.1
+        (and_from (computes_relation t e i r.0) (computes_relation t f r.0 j) ((relates_now_decides e i r.0 li r.1).1 r.2) ((relates_now_decides f r.0 j r.1 lj).1 r.3))),
   )
   relates_now_decides (star e) i j li lj =
-      through_now_leads t.states (relates_now t e) (Relates t e) (λ k l sk sl. relates_now_decides e k l sk sl) i j li lj
+      through_now_leads t.states (computes_relation t e) (Relates t e) (λ k l sk sl. relates_now_decides e k l sk sl) i j li lj
 
   -- what is computed as true holds, and what is computed as false does not
-  pub computed_relates : (e : Term) (i j : ℕ) → i < t.states → j < t.states → IsTrue (relates_now t e i j) → Relates t e i j
+  pub computed_relates : (e : Term) (i j : ℕ) → i < t.states → j < t.states → IsTrue (computes_relation t e i j) → Relates t e i j
   computed_relates e i j li lj h = (relates_now_decides e i j li lj).0 h
 
-  pub computed_relates_not : (e : Term) (i j : ℕ) → i < t.states → j < t.states → relates_now t e i j ≡ false → Relates t e i j → ⊥
+  pub computed_relates_not : (e : Term) (i j : ℕ) → i < t.states → j < t.states → computes_relation t e i j ≡ false → Relates t e i j → ⊥
   computed_relates_not e i j li lj h r = true≢false (sym ((relates_now_decides e i j li lj).1 r) ∙ h)

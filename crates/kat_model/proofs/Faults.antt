@@ -3,9 +3,10 @@ use Rattle.std.proofs.Common.{◌≡◌, ℕ, ◌≤◌, List, [], ◌∷◌, Op
 use Rattle.std.specs.Option.{option_or, option_map}
 use Rattle.std.proofs.lemmas.Bool.{ltb-true, ltb-false, lt-ltb, le-ltb}
 use Rattle.kat_model.specs.Trees.{TestTree, bottom, top, prim, complement, meet, join, Term, zero, one, test, act, sum, product, star}
-use Rattle.kat_model.specs.Problems.{Question, IsTestInRange, IsInRange, AreInRange, IsProblem, question_size, first_test_out, first_out, first_out_of_all, bad_above, problem_fault, counted}
+use Rattle.kat_model.specs.Problems.{ProblemParts, IsTestInRange, IsInRange, AreInRange, IsProblem, problem_size, first_test_out, first_out, first_out_of_all, bad_above, problem_fault, counted}
 use Rattle.kat_model.specs.declared.problem.BadProblem.{BadProblem}
 use Rattle.kat_model.specs.declared.problem.BadProblem.TheVariants.{TooManyTests, TooManyActions, TestRange, TooLarge}
+use Rattle.kat_model.specs.declared.limits.TheConstants.{MAX_TESTS, MAX_ACTIONS, MAX_TERM_NODES}
 
 -- the first of two faults is none where both are
 module _ {X : Type 0} where
@@ -79,27 +80,27 @@ module _ (limit n : ℕ) (bad : BadProblem) where
   none_above : n ≤ limit → bad_above limit n bad ≡ None
   none_above h = rw (le-ltb limit n h) refl
 
-pub faultless_is_problem : (q : Question) → problem_fault q ≡ None → IsProblem q
+pub faultless_is_problem : (q : ProblemParts) → problem_fault q ≡ None → IsProblem q
 faultless_is_problem q h =
-    let a = none_parts (bad_above 48 q.tests (TooManyTests q.tests)) _ h in
-    let b = none_parts (bad_above 48 q.actions (TooManyActions q.actions)) _ a.1 in
+    let a = none_parts (bad_above MAX_TESTS q.tests (TooManyTests q.tests)) _ h in
+    let b = none_parts (bad_above MAX_ACTIONS q.actions (TooManyActions q.actions)) _ a.1 in
     let c = none_parts (first_out_of_all q.tests q.actions q.hyps) _ b.1 in
     let d = none_parts (first_out q.tests q.actions q.left) _ c.1 in
     let e = none_parts (first_out q.tests q.actions q.right) _ d.1 in
     record {
-      tests = not_above 48 q.tests _ a.0;
-      actions = not_above 48 q.actions _ b.0;
+      tests = not_above MAX_TESTS q.tests _ a.0;
+      actions = not_above MAX_ACTIONS q.actions _ b.0;
       hyps = terms_in_range q.tests q.actions q.hyps c.0;
       left = term_in_range q.tests q.actions q.left d.0;
       right = term_in_range q.tests q.actions q.right e.0;
-      size = not_above 100000 (question_size q) _ e.1;
+      size = not_above MAX_TERM_NODES (problem_size q) _ e.1;
     }
 
-pub problem_has_no_fault : (q : Question) → IsProblem q → problem_fault q ≡ None
+pub problem_has_no_fault : (q : ProblemParts) → IsProblem q → problem_fault q ≡ None
 problem_has_no_fault q h =
-    none_both (bad_above 48 q.tests (TooManyTests q.tests)) _ (none_above 48 q.tests (TooManyTests q.tests) h.tests)
-    (none_both (bad_above 48 q.actions (TooManyActions q.actions)) _ (none_above 48 q.actions (TooManyActions q.actions) h.actions)
+    none_both (bad_above MAX_TESTS q.tests (TooManyTests q.tests)) _ (none_above MAX_TESTS q.tests (TooManyTests q.tests) h.tests)
+    (none_both (bad_above MAX_ACTIONS q.actions (TooManyActions q.actions)) _ (none_above MAX_ACTIONS q.actions (TooManyActions q.actions) h.actions)
     (none_both (first_out_of_all q.tests q.actions q.hyps) _ (no_terms_out q.tests q.actions q.hyps h.hyps)
     (none_both (first_out q.tests q.actions q.left) _ (no_term_out q.tests q.actions q.left h.left)
     (none_both (first_out q.tests q.actions q.right) _ (no_term_out q.tests q.actions q.right h.right)
-    (none_above 100000 (question_size q) (TooLarge (counted (question_size q))) h.size)))))
+    (none_above MAX_TERM_NODES (problem_size q) (TooLarge (counted (problem_size q))) h.size)))))

@@ -5,7 +5,7 @@ use Rattle.std.proofs.lemmas.Bool.{cases_Bool, not_from_false}
 use Rattle.kat_model.specs.Trees.{complement, Term, zero, one, test, product, star}
 use Rattle.kat_model.specs.Members.{Has}
 use Rattle.kat_model.specs.Steps.{Atom, truth, set_out, set_next}
-use Rattle.kat_model.specs.Problems.{Question}
+use Rattle.kat_model.specs.Problems.{ProblemParts}
 use Rattle.kat_model.specs.Relations.{Step, Table, IsTable, atom_at, Relates, Keeps, Same}
 use Rattle.kat_model.specs.Closed.{closed, inside}
 use Rattle.kat_model.specs.Pairs.{SetPair, plain, AreMatched, AreAccepted}
@@ -56,7 +56,7 @@ broken_keeps_none h k = absurd k
 
 -- b.p = b.p.c holds under the hypothesis, and not without
 
-abbrev asks : List Term → Question
+abbrev asks : List Term → ProblemParts
 asks hyps = record { tests = 2; actions = 1; hyps = hyps; left = left; right = right }
 
 triple_same : Same (asks (triple ∷ []))
@@ -102,7 +102,7 @@ differ_without h =
 -- Under the hypothesis 1 = 0 all terms are the same, since no table with a state keeps it. The pair of closed
 -- sides alone shows it: after p both have the universal term.
 
-abbrev collapsed : Question
+abbrev collapsed : ProblemParts
 collapsed = record { tests = 0; actions = 1; hyps = one ∷ []; left = zero; right = one }
 
 collapsed_same : Same collapsed

@@ -1,11 +1,14 @@
 pub mod Lists
 pub mod Places
+pub mod SetKeys
 pub mod ValuesInOrder
 pub mod Faults
+pub mod Ranges
 pub mod BalancedTrees
 pub mod Acceptance
 pub mod Cuts
 pub mod BalancedSums
+pub mod ProductRelations
 pub mod Universal
 pub mod Paths
 pub mod SameTrees

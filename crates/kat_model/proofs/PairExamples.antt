@@ -5,7 +5,7 @@ use Rattle.std.proofs.lemmas.Bool.{true≢false}
 use Rattle.kat_model.specs.Trees.{Term, one, product, star}
 use Rattle.kat_model.specs.Members.{Has, SameMembers}
 use Rattle.kat_model.specs.Steps.{Atom, set_out, set_next}
-use Rattle.kat_model.specs.Problems.{Question}
+use Rattle.kat_model.specs.Problems.{ProblemParts}
 use Rattle.kat_model.specs.Pairs.{holds, holds_all, SetPair, sat, IsListed, IsCongruent, plain, up_to, AreMatched, IsBisimulation, AreAccepted, AllDiffer}
 use Rattle.kat_model.proofs.Examples.{p, q}
 
@@ -99,7 +99,7 @@ one_pair_up_to = record { outputs = outputs; steps = steps }
         (subst (λ k. AreMatched up_to None (start ∷ []) (set_next (once ∷ []) atom k) (set_next (twice ∷ []) atom k)) zeroth next_congruent))
         absurd h
 
-abbrev asks : Question
+abbrev asks : ProblemParts
 asks = record { tests = 0; actions = 1; hyps = []; left = once; right = twice }
 
 one_pair_accepted : AreAccepted up_to asks (start ∷ [])

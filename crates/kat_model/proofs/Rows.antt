@@ -7,11 +7,11 @@ use Rattle.std.proofs.lemmas.List.FromFn.{get_or-map-range_with_len}
 use Rattle.kat_model.specs.Trees.{Term}
 use Rattle.kat_model.specs.Members.{Has}
 use Rattle.kat_model.specs.Relations.{Table, Relates}
-use Rattle.kat_model.specs.Decided.{relates_now}
+use Rattle.kat_model.specs.Decided.{computes_relation}
 use Rattle.kat_model.proofs.Decided.{relates_now_decides}
 
 abbrev pub rows_now : Table → Term → List (List ℕ)
-rows_now t e = map (λ i. filter (relates_now t e i) (range_with_len 0 t.states)) (range_with_len 0 t.states)
+rows_now t e = map (λ i. filter (computes_relation t e i) (range_with_len 0 t.states)) (range_with_len 0 t.states)
 
 -- the term relates each state of the table to those in its row, and to no others
 pub record HasRows (t : Table) (e : Term) (rows : List (List ℕ)) : Type 0 where
@@ -43,8 +43,8 @@ range_has a (suc n) x le lt = ⊎_elim inl (λ l. inr (range_has (a + 1) n x l (
     cases a x le = grind arith
 
 module _ (t : Table) (e : Term) where
-  row_here : (i : ℕ) → i < t.states → slice_index_or (rows_now t e) i [] ≡ filter (relates_now t e i) (range_with_len 0 t.states)
-  row_here i li = get_or-map-range_with_len (λ k. filter (relates_now t e k) (range_with_len 0 t.states)) 0 t.states i i [] li (omega arith)
+  row_here : (i : ℕ) → i < t.states → slice_index_or (rows_now t e) i [] ≡ filter (computes_relation t e i) (range_with_len 0 t.states)
+  row_here i li = get_or-map-range_with_len (λ k. filter (computes_relation t e k) (range_with_len 0 t.states)) 0 t.states i i [] li (omega arith)
 
   -- the rows that are computed are those of the relation
   pub computed_rows : HasRows t e (rows_now t e)
@@ -56,8 +56,8 @@ module _ (t : Table) (e : Term) where
       same : (i j : ℕ) → i < t.states → j < t.states → Relates t e i j ↔ Has (slice_index_or (rows_now t e) i []) j
       same i j li lj =
           let here = relates_now_decides t e i j li lj in (
-            (λ r. subst (λ l. Has l j) (sym (row_here i li)) (filter_has (relates_now t e i) all j (range_has 0 t.states j (omega arith) (omega arith)) (here.1 r))),
-            (λ h. here.0 (has_filter (relates_now t e i) all j (subst (λ l. Has l j) (row_here i li) h))),
+            (λ r. subst (λ l. Has l j) (sym (row_here i li)) (filter_has (computes_relation t e i) all j (range_has 0 t.states j (omega arith) (omega arith)) (here.1 r))),
+            (λ h. here.0 (has_filter (computes_relation t e i) all j (subst (λ l. Has l j) (row_here i li) h))),
           )
 
 pub has_rows : {t : Table} {e : Term} {rows : List (List ℕ)} → rows_now t e ≡ rows → HasRows t e rows

@@ -3,7 +3,7 @@
 use Rattle.std.proofs.Common.{◌≡◌, ℕ, ◌<◌, ◌↔◌, inl, ⊎_elim, List, [], ◌∷◌, length, sym, ◌∙◌, subst}
 use Rattle.kat_model.specs.Trees.{Term}
 use Rattle.kat_model.specs.Balanced.{sum_of}
-use Rattle.kat_model.specs.Problems.{Question}
+use Rattle.kat_model.specs.Problems.{ProblemParts}
 use Rattle.kat_model.specs.Steps.{Atom}
 use Rattle.kat_model.specs.Relations.{Table, IsTable, atom_at, frame_of, Relates, Keeps, Same}
 use Rattle.kat_model.specs.Strings.{Move, AreMoves, accepts, Hop, IsPath, spelled}
@@ -52,7 +52,7 @@ closed_relates actions (h ∷ hs) left right t i j keeps s =
       (λ r. ⊎_elim (λ p. p) (λ q. absurd (none q)) (s.1 (inl r))),
     )
 
-pub accepted_same : (style : Style) (q : Question) (pairs : List SetPair) → AreAccepted style q pairs → Same q
+pub accepted_same : (style : Style) (q : ProblemParts) (pairs : List SetPair) → AreAccepted style q pairs → Same q
 accepted_same style q pairs acc t is_table keeps i j li lj =
     closed_relates q.actions q.hyps q.left q.right t i j keeps
     (alike_relates q.tests q.actions t is_table (closed q).left (closed q).right i j li lj (accepted_agree style q pairs acc))

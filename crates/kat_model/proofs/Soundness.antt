@@ -4,7 +4,7 @@ use Rattle.std.specs.Bool.{IsTrue}
 use Rattle.std.specs.Cmp.{both_ways}
 use Rattle.kat_model.specs.Trees.{Term}
 use Rattle.kat_model.specs.Members.{Has}
-use Rattle.kat_model.specs.Problems.{Question}
+use Rattle.kat_model.specs.Problems.{ProblemParts}
 use Rattle.kat_model.specs.Steps.{Atom, set_next}
 use Rattle.kat_model.specs.Strings.{Move, AreMoves, accepts, set_accepts}
 use Rattle.kat_model.specs.Closed.{universal_of, closed_under, closed}
@@ -80,7 +80,7 @@ module _ (tests actions : ℕ) where
       ∙ sym (set_accepts-cons p.right atom m ms)
 
 -- the closed sides of accepted pairs accept the same strings
-pub accepted_agree : (style : Style) (q : Question) (pairs : List SetPair) → AreAccepted style q pairs → (atom : Atom) (ms : List Move) → length atom ≡ q.tests → AreMoves q.tests q.actions ms → accepts (closed q).left atom ms ≡ accepts (closed q).right atom ms
+pub accepted_agree : (style : Style) (q : ProblemParts) (pairs : List SetPair) → AreAccepted style q pairs → (atom : Atom) (ms : List Move) → length atom ≡ q.tests → AreMoves q.tests q.actions ms → accepts (closed q).left atom ms ≡ accepts (closed q).right atom ms
 accepted_agree style q pairs acc atom ms wide are =
     let universal = closed_universal q.actions q.hyps q.left q.right in
     let first : Has pairs (record { left = (closed q).left ∷ []; right = (closed q).right ∷ [] }) = rw acc.first (inl refl) in

@@ -1,5 +1,5 @@
 -- Worked examples of values and conditions in stores. The values are found by hand.
-use Rattle.std.proofs.Common.{◌≡◌, ℕ, [], ◌∷◌, Bool, true, false, refl}
+use Rattle.std.proofs.Common.{◌≡◌, [], ◌∷◌, true, false, refl}
 use Rattle.kat_model.specs.Expressions.{ExprTree, number, variable, plus, minus, times, CondTree, always, never, named, compared, negation, both, either, any_of, all_of}
 use Rattle.kat_model.specs.Stores.{value, holds}
 use Rattle.kat_model.specs.declared.expression.Width.TheVariants.{W8, W16, W64}

@@ -4,7 +4,7 @@ use Rattle.std.proofs.Common.{◌≡◌, ℕ, ◌<◌, true, false, inl, inr, �
 use Rattle.std.proofs.lemmas.List.{get_or-replicate}
 use Rattle.kat_model.specs.Trees.{bottom, top, complement, zero, one, test, sum, product, star}
 use Rattle.kat_model.specs.Members.{Has}
-use Rattle.kat_model.specs.Problems.{Question}
+use Rattle.kat_model.specs.Problems.{ProblemParts}
 use Rattle.kat_model.specs.Relations.{Step, Table, IsTable, atom_at, frame_of, Relates, Same}
 use Rattle.kat_model.specs.Strings.{IsPath, spelled}
 use Rattle.kat_model.proofs.Decided.{computed_relates_not}
@@ -86,7 +86,7 @@ line_needs_two : IsTable 0 1 line → ⊥
 line_needs_two h = absurd (omega (arith, h.moves (step 1 1 2) (inr (inl refl))))
 
 -- products do not commute
-abbrev commutes : Question
+abbrev commutes : ProblemParts
 commutes = record { tests = 0; actions = 2; hyps = []; left = product p q; right = product q p }
 
 products_differ : Same commutes → ⊥

@@ -4,7 +4,7 @@ use Rattle.std.proofs.Common.{◌≡◌, ℕ, List, [], ◌∷◌, Option, Some,
 use Rattle.kat_model.specs.Trees.{prim, complement, meet, Term, zero, one, test, act, sum, product, star, test_size, term_size, term_height, acts}
 use Rattle.kat_model.specs.Steps.{reach}
 use Rattle.kat_model.specs.Balanced.{sum_of, product_of}
-use Rattle.kat_model.specs.Problems.{Question, problem_fault}
+use Rattle.kat_model.specs.Problems.{ProblemParts, problem_fault}
 use Rattle.kat_model.specs.Closed.{universal_of, closed}
 use Rattle.kat_model.specs.Guarded.{IsGuarded, guarded_act, guarded_choice, guarded_loop}
 use Rattle.kat_model.specs.Laws.{HasOneStep}
@@ -87,7 +87,7 @@ universal_of_none = refl
 universal_of_three : universal_of 3 ≡ star (sum p (sum q r))
 universal_of_three = refl
 
-abbrev asks : List Term → Question
+abbrev asks : List Term → ProblemParts
 asks hyps = record { tests = 2; actions = 2; hyps = hyps; left = p; right = q }
 
 closed_without : closed (asks []) ≡ record { left = p; right = q; universal = None }

@@ -3,7 +3,7 @@
 use Rattle.std.specs.Prelude.{ℕ, zero, suc, List, [], ◌∷◌, ◌++◌, Option, Some, None}
 use Rattle.kat_model.specs.Trees.{Term, act, sum, product, star}
 use Rattle.kat_model.specs.Balanced.{sum_of}
-use Rattle.kat_model.specs.Problems.{Question}
+use Rattle.kat_model.specs.Problems.{ProblemParts}
 
 -- the first n actions in order
 abbrev pub actions_below : ℕ → List Term
@@ -33,5 +33,5 @@ closed_under actions (h ∷ hs) left right =
     }
 
 -- the closed sides of a problem, and the universal term where there are hypotheses
-abbrev pub closed : Question → Closed
+abbrev pub closed : ProblemParts → Closed
 closed q = closed_under q.actions q.hyps q.left q.right

@@ -15,15 +15,15 @@ some_below p nought = false
 some_below p (suc n) = p n || some_below p n
 
 -- some list of numbers leads from i to j, of which those between are below k
-abbrev pub through_now : (ℕ → ℕ → Bool) → ℕ → ℕ → ℕ → Bool
-through_now r nought i j = eqb i j || r i j
-through_now r (suc k) i j = through_now r k i j || (through_now r k i k && through_now r k k j)
+abbrev pub warshall : (ℕ → ℕ → Bool) → ℕ → ℕ → ℕ → Bool
+warshall r nought i j = eqb i j || r i j
+warshall r (suc k) i j = warshall r k i j || (warshall r k i k && warshall r k k j)
 
-abbrev pub relates_now : Table → Term → ℕ → ℕ → Bool
-relates_now t zero i j = false
-relates_now t one i j = eqb i j
-relates_now t (test b) i j = eqb i j && truth b (atom_at t i)
-relates_now t (act a) i j = list_any (same_step (record { from = i; act = a; to = j })) t.moves
-relates_now t (sum e f) i j = relates_now t e i j || relates_now t f i j
-relates_now t (product e f) i j = some_below (λ k. relates_now t e i k && relates_now t f k j) t.states
-relates_now t (star e) i j = through_now (relates_now t e) t.states i j
+abbrev pub computes_relation : Table → Term → ℕ → ℕ → Bool
+computes_relation t zero i j = false
+computes_relation t one i j = eqb i j
+computes_relation t (test b) i j = eqb i j && truth b (atom_at t i)
+computes_relation t (act a) i j = list_any (same_step (record { from = i; act = a; to = j })) t.moves
+computes_relation t (sum e f) i j = computes_relation t e i j || computes_relation t f i j
+computes_relation t (product e f) i j = some_below (λ k. computes_relation t e i k && computes_relation t f k j) t.states
+computes_relation t (star e) i j = warshall (computes_relation t e) t.states i j

@@ -1,5 +1,6 @@
 -- Expressions and conditions as trees, without the addresses that the boxes of the program have.
-use Rattle.std.specs.Prelude.{ℕ, List}
+use Rattle.std.specs.Prelude.{ℕ, List, Bool, true, false, ◌||◌}
+use Rattle.kat_model.specs.Trees.{TestTree, bottom, top, prim, complement, meet, join}
 use Rattle.kat_model.specs.Balanced.{balanced}
 use Rattle.kat_model.specs.declared.expression.Rel.{Rel}
 use Rattle.kat_model.specs.declared.expression.Expr.{Expr}
@@ -49,3 +50,23 @@ any_of = balanced never either
 
 abbrev pub all_of : List CondTree → CondTree
 all_of = balanced always both
+
+-- whether a comparison occurs in the condition
+abbrev pub has_comparison : CondTree → Bool
+has_comparison always = false
+has_comparison never = false
+has_comparison (named k) = false
+has_comparison (compared rel e f) = true
+has_comparison (negation b) = has_comparison b
+has_comparison (both b c) = has_comparison b || has_comparison c
+has_comparison (either b c) = has_comparison b || has_comparison c
+
+-- the test of a condition without comparisons; a comparison counts as false
+abbrev pub test_without_comparisons : CondTree → TestTree
+test_without_comparisons always = top
+test_without_comparisons never = bottom
+test_without_comparisons (named k) = prim k
+test_without_comparisons (compared rel e f) = bottom
+test_without_comparisons (negation b) = complement (test_without_comparisons b)
+test_without_comparisons (both b c) = meet (test_without_comparisons b) (test_without_comparisons c)
+test_without_comparisons (either b c) = join (test_without_comparisons b) (test_without_comparisons c)

@@ -3,9 +3,10 @@ use Rattle.std.specs.Prelude.{◌≡◌, ◌↔◌, ◌+◌, ◌*◌, ◌^◌, �
 use Rattle.std.specs.List.{flat_map}
 use Rattle.kat_model.specs.Trees.{TestTree, Term, zero, one, test, act, sum, product, star, acts}
 use Rattle.kat_model.specs.Members.{Has, IsSubset}
-use Rattle.kat_model.specs.Problems.{Question, IsProblem, problem_fault}
+use Rattle.kat_model.specs.Problems.{ProblemParts, IsProblem, problem_fault}
 use Rattle.kat_model.specs.Steps.{Atom, truth, out, next, set_next, reach}
-use Rattle.kat_model.specs.Relations.{Table, atom_at, frame_of, Relates, Same}
+use Rattle.kat_model.specs.Balanced.{sum_of, product_of}
+use Rattle.kat_model.specs.Relations.{SomeRelates, RelateInTurn, Table, atom_at, frame_of, Relates, Same}
 use Rattle.kat_model.specs.Strings.{Move, last_atom, accepts, Hop, IsPath, spelled}
 use Rattle.kat_model.specs.Closed.{universal_of, inside}
 use Rattle.kat_model.specs.Pairs.{SetPair, Style, AreAccepted, AllDiffer}
@@ -63,7 +64,7 @@ RelatesBySpelling = (t : Table) (e : Term) (i j : ℕ) → i < t.states → j < 
 
 -- accepted pairs show that both sides are the same
 abbrev pub AcceptedAreSame : Type 0
-AcceptedAreSame = (style : Style) (q : Question) (pairs : List SetPair) → AreAccepted style q pairs → Same q
+AcceptedAreSame = (style : Style) (q : ProblemParts) (pairs : List SetPair) → AreAccepted style q pairs → Same q
 
 -- the reach of a term is as long as the term has actions, and steps do not leave it
 pub record ReachIsClosed (e : Term) : Type 0 where
@@ -94,6 +95,12 @@ pub record PairsAreBounded (l r : Term) (pairs : List SetPair) : Type 0 where
   pub all : AllDiffer pairs → AreReached l r pairs → length pairs ≤ 2 ^ (acts l + 1) * 2 ^ (acts r + 1)
   pub single : AllDiffer pairs → AreSingle l r pairs → length pairs ≤ (acts l + 2) * (acts r + 2)
 
+-- what the balanced trees of a list relate in a table: the product what the members do in turn, and the sum
+-- what some member does
+pub record ListsRelate (t : Table) (es : List Term) (i j : ℕ) : Type 0 where
+  pub of_product : i < t.states → j < t.states → Relates t (product_of es) i j ↔ RelateInTurn (frame_of t) es i j
+  pub of_sum : Relates t (sum_of es) i j ↔ SomeRelates (frame_of t) es i j
+
 -- a question is that of a problem exactly where it has no fault
 abbrev pub FaultlessAreProblems : Type 0
-FaultlessAreProblems = (q : Question) → (problem_fault q ≡ None) ↔ IsProblem q
+FaultlessAreProblems = (q : ProblemParts) → (problem_fault q ≡ None) ↔ IsProblem q

@@ -3,10 +3,9 @@ pub mod CourseOfValues
 pub mod Trees
 pub mod Codes
 pub mod Balanced
-pub mod Joined
 pub mod Expressions
+pub mod ConditionCodes
 pub mod Stores
-pub mod Gathered
 pub mod Steps
 pub mod Relations
 pub mod Decided

@@ -5,7 +5,7 @@ use Rattle.std.specs.List.{list_any, list_all}
 use Rattle.kat_model.specs.Trees.{TestTree, bottom, top, prim, complement, meet, join, Term, zero, one, test, act, sum, product, star}
 use Rattle.kat_model.specs.Members.{Has, SameMembers}
 use Rattle.kat_model.specs.Steps.{Atom, set_out, set_next}
-use Rattle.kat_model.specs.Problems.{Question}
+use Rattle.kat_model.specs.Problems.{ProblemParts}
 use Rattle.kat_model.specs.Closed.{closed}
 
 -- whether two tests, or two terms, are one tree
@@ -89,7 +89,7 @@ pub record IsBisimulation (style : Style) (tests actions : ℕ) (universal : Opt
   pub steps : (p : SetPair) → Has pairs p → (atom : Atom) → length atom ≡ tests → (a : ℕ) → a < actions → AreMatched style universal pairs (set_next p.left atom a) (set_next p.right atom a)
 
 -- the pairs begin with the closed sides, each as a set of one term, and are a bisimulation
-pub record AreAccepted (style : Style) (q : Question) (pairs : List SetPair) : Type 0 where
+pub record AreAccepted (style : Style) (q : ProblemParts) (pairs : List SetPair) : Type 0 where
   pub rest : List SetPair
   pub first : pairs ≡ record { left = (closed q).left ∷ []; right = (closed q).right ∷ [] } ∷ rest
   pub bisimulation : IsBisimulation style q.tests q.actions (closed q).universal pairs

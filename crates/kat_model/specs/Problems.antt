@@ -2,12 +2,13 @@
 use Rattle.std.specs.Prelude.{ℕ, ◌+◌, ◌-◌, ◌^◌, ◌<◌, ◌≤◌, min, nat_lt, if◌then◌else◌, List, [], ◌∷◌, map, Option, Some, None}
 use Rattle.std.specs.Option.{option_or, option_map}
 use Rattle.kat_model.specs.Trees.{TestTree, bottom, top, prim, complement, meet, join, Term, zero, one, test, act, sum, product, star, term_size, kat_tree}
+use Rattle.kat_model.specs.declared.limits.TheConstants.{MAX_TESTS, MAX_ACTIONS, MAX_TERM_NODES}
 use Rattle.kat_model.specs.declared.tree.Kat.{Kat}
 use Rattle.kat_model.specs.declared.problem.BadProblem.{BadProblem}
 use Rattle.kat_model.specs.declared.problem.BadProblem.TheVariants.{TooManyTests, TooManyActions, TestRange, ActionRange, TooLarge}
 
 -- are two terms the same where each hypothesis is zero?
-pub record Question : Type 0 where
+pub record ProblemParts : Type 0 where
   pub tests : ℕ
   pub actions : ℕ
   pub hyps : List Term
@@ -52,17 +53,17 @@ terms_size [] = 0
 terms_size (e ∷ es) = term_size e + terms_size es
 
 -- the nodes of the hypotheses and of both sides
-abbrev pub question_size : Question → ℕ
-question_size q = terms_size q.hyps + term_size q.left + term_size q.right
+abbrev pub problem_size : ProblemParts → ℕ
+problem_size q = terms_size q.hyps + term_size q.left + term_size q.right
 
 -- the question is within the limits of a problem
-pub record IsProblem (q : Question) : Type 0 where
-  pub tests : q.tests ≤ 48
-  pub actions : q.actions ≤ 48
+pub record IsProblem (q : ProblemParts) : Type 0 where
+  pub tests : q.tests ≤ MAX_TESTS
+  pub actions : q.actions ≤ MAX_ACTIONS
   pub hyps : AreInRange q.tests q.actions q.hyps
   pub left : IsInRange q.tests q.actions q.left
   pub right : IsInRange q.tests q.actions q.right
-  pub size : question_size q ≤ 100000
+  pub size : problem_size q ≤ MAX_TERM_NODES
 
 -- the first primitive test out of range, in preorder
 abbrev pub first_test_out : ℕ → TestTree → Option ℕ
@@ -95,16 +96,16 @@ abbrev pub bad_above : ℕ → ℕ → BadProblem → Option BadProblem
 bad_above limit n bad = if nat_lt limit n then Some bad else None
 
 -- the first reason why there is no such problem
-abbrev pub problem_fault : Question → Option BadProblem
+abbrev pub problem_fault : ProblemParts → Option BadProblem
 problem_fault q =
-    option_or (bad_above 48 q.tests (TooManyTests q.tests))
-    (option_or (bad_above 48 q.actions (TooManyActions q.actions))
+    option_or (bad_above MAX_TESTS q.tests (TooManyTests q.tests))
+    (option_or (bad_above MAX_ACTIONS q.actions (TooManyActions q.actions))
     (option_or (first_out_of_all q.tests q.actions q.hyps)
     (option_or (first_out q.tests q.actions q.left)
     (option_or (first_out q.tests q.actions q.right)
-    (bad_above 100000 (question_size q) (TooLarge (counted (question_size q))))))))
+    (bad_above MAX_TERM_NODES (problem_size q) (TooLarge (counted (problem_size q))))))))
 
 -- what a problem of these parts asks
-abbrev pub question_of : ℕ → ℕ → List Kat → Kat → Kat → Question
-question_of tests actions hyps left right =
+abbrev pub problem_parts : ℕ → ℕ → List Kat → Kat → Kat → ProblemParts
+problem_parts tests actions hyps left right =
     record { tests = tests; actions = actions; hyps = map kat_tree hyps; left = kat_tree left; right = kat_tree right }

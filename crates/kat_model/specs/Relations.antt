@@ -2,7 +2,7 @@
 use Rattle.std.specs.Prelude.{◌≡◌, ℕ, ◌<◌, ◌⊎◌, ◌↔◌, List, [], ◌∷◌, length, slice_index_or, IsTrue}
 use Rattle.kat_model.specs.Trees.{Term, zero, one, test, act, sum, product, star}
 use Rattle.kat_model.specs.Members.{Has}
-use Rattle.kat_model.specs.Problems.{Question}
+use Rattle.kat_model.specs.Problems.{ProblemParts}
 use Rattle.kat_model.specs.Steps.{Atom, truth}
 
 -- A Kripke frame (Kozen and Smith 1996): its states, the truth values at each, and the pairs of states
@@ -26,6 +26,15 @@ RelatesIn frame (act a) i j = frame.Acts a i j
 RelatesIn frame (sum e f) i j = RelatesIn frame e i j ⊎ RelatesIn frame f i j
 RelatesIn {S} frame (product e f) i j = (k : S) × frame.IsState k × RelatesIn frame e i k × RelatesIn frame f k j
 RelatesIn {S} frame (star e) i j = (ks : List S) × Along frame.IsState (RelatesIn frame e) i ks j
+
+-- some term of a list relates the states
+abbrev pub SomeRelates : {S : Type 0} → Frame S → List Term → S → S → Type 0
+SomeRelates frame es i j = (e : Term) × Has es e × RelatesIn frame e i j
+
+-- the terms of a list relate the states one after the other, over a chain of states in between
+abbrev pub RelateInTurn : {S : Type 0} → Frame S → List Term → S → S → Type 0
+RelateInTurn frame [] i j = i ≡ j
+RelateInTurn {S} frame (e ∷ es) i j = (k : S) × frame.IsState k × RelatesIn frame e i k × RelateInTurn frame es k j
 
 -- one action, from a state to a state
 pub record Step : Type 0 where
@@ -67,6 +76,6 @@ abbrev pub Keeps : Table → List Term → Type 0
 Keeps t hyps = (h : Term) → Has hyps h → (i j : ℕ) → i < t.states → j < t.states → Relates t h i j → ⊥
 
 -- both sides denote one relation in each table that keeps the hypotheses
-abbrev pub Same : Question → Type 0
+abbrev pub Same : ProblemParts → Type 0
 Same p =
     (t : Table) → IsTable p.tests p.actions t → Keeps t p.hyps → (i j : ℕ) → i < t.states → j < t.states → Relates t p.left i j ↔ Relates t p.right i j

@@ -1,78 +1,191 @@
-//! Balanced sums and products of a list of terms.
-ghost use Rattle.std.specs.Prelude.{◌≡◌, ◌-◌, ◌≤◌, [], map, take, drop, IfOk, vec_len};
+//! Balanced trees over a list: sums and products of terms, and that some or all conditions hold.
+ghost use Rattle.std.specs.Prelude.{◌≡◌, ◌-◌, ◌≤◌, map, take, drop, IfOk, vec_len};
 ghost use Rattle.kat_model.specs.Trees.{kat_tree};
-ghost use Rattle.kat_model.specs.Balanced.{sum_of as sum_tree, product_of};
-ghost use Rattle.kat_model.specs.Joined.{joined, node_of};
+ghost use Rattle.kat_model.specs.Expressions.{cond_tree, any_of as any_tree, all_of as all_tree};
+ghost use Rattle.kat_model.specs.Balanced.{balanced, sum_of as sum_tree, product_of};
 
-use crate::tree::{Kat, NoMemory, boxed_kat};
+use crate::expression::Cond;
+use crate::tree::{Kat, NoMemory};
 use std::alloc::Global;
 
-// What joins the terms of a list.
-#[derive(Clone, Copy)]
-enum Joint {
-    Sum,
-    Seq,
+// How the members of a list become one tree.
+trait Joint {
+    type Tree: Drop;
+
+    // What contracts see of a tree.
+    ghost View: { Type 0 };
+
+    ghost view: { Self.Tree → View };
+
+    ghost unit: { View };
+
+    ghost node: { View → View → View };
+
+    // The tree of no member.
+    fn unit() -> Self::Tree
+        ensures { view result ≡ unit };
+
+    // The tree over those of two lists.
+    fn node(alloc: Global, left: Self::Tree, right: Self::Tree) -> Result<Self::Tree, NoMemory>
+        ensures { IfOk result (λ e. view e ≡ node (view left) (view right)) };
 }
 
-fn unit(joint: Joint) -> Kat
-    ensures { kat_tree result ≡ joined joint [] }
-{
-    match joint {
-        Joint::Sum => Kat::Zero,
-        Joint::Seq => Kat::One,
+struct Sum;
+
+struct Product;
+
+struct Any;
+
+struct All;
+
+impl Joint for Sum {
+    type Tree = Kat;
+
+    ghost use Rattle.kat_model.specs.Trees.{Term, zero, sum};
+
+    ghost View = { Term };
+
+    ghost view = { kat_tree };
+
+    ghost unit = { zero };
+
+    ghost node = { sum };
+
+    fn unit() -> Kat {
+        Kat::Zero
+    }
+
+    fn node(alloc: Global, left: Kat, right: Kat) -> Result<Kat, NoMemory> {
+        Kat::new_sum(alloc, left, right)
     }
 }
 
-fn node(alloc: Global, joint: Joint, left: Kat, right: Kat) -> Result<Kat, NoMemory>
-    ensures { IfOk result (λ e. kat_tree e ≡ node_of joint (kat_tree left) (kat_tree right)) }
-{
-    let left = boxed_kat(alloc, left)?;
-    let right = boxed_kat(alloc, right)?;
-    match joint {
-        Joint::Sum => Ok(Kat::Sum(left, right)),
-        Joint::Seq => Ok(Kat::Seq(left, right)),
+impl Joint for Product {
+    type Tree = Kat;
+
+    ghost use Rattle.kat_model.specs.Trees.{Term, one, product};
+
+    ghost View = { Term };
+
+    ghost view = { kat_tree };
+
+    ghost unit = { one };
+
+    ghost node = { product };
+
+    fn unit() -> Kat {
+        Kat::One
+    }
+
+    fn node(alloc: Global, left: Kat, right: Kat) -> Result<Kat, NoMemory> {
+        Kat::new_seq(alloc, left, right)
     }
 }
 
-// The tree of the last terms of a list, which are taken from it.
-fn joined_last(
+impl Joint for Any {
+    type Tree = Cond;
+
+    ghost use Rattle.kat_model.specs.Expressions.{CondTree, never, either};
+
+    ghost View = { CondTree };
+
+    ghost view = { cond_tree };
+
+    ghost unit = { never };
+
+    ghost node = { either };
+
+    fn unit() -> Cond {
+        Cond::False
+    }
+
+    fn node(alloc: Global, left: Cond, right: Cond) -> Result<Cond, NoMemory> {
+        Cond::new_or(alloc, left, right)
+    }
+}
+
+impl Joint for All {
+    type Tree = Cond;
+
+    ghost use Rattle.kat_model.specs.Expressions.{CondTree, always, both};
+
+    ghost View = { CondTree };
+
+    ghost view = { cond_tree };
+
+    ghost unit = { always };
+
+    ghost node = { both };
+
+    fn unit() -> Cond {
+        Cond::True
+    }
+
+    fn node(alloc: Global, left: Cond, right: Cond) -> Result<Cond, NoMemory> {
+        Cond::new_and(alloc, left, right)
+    }
+}
+
+// The tree of the last members of a list, which are taken from it.
+fn tree_of_last<J: Joint>(
     alloc: Global,
-    joint: Joint,
-    list: &mut Vec<Kat>,
+    list: &mut Vec<J::Tree>,
     count: usize,
-) -> Result<Kat, NoMemory>
+) -> Result<J::Tree, NoMemory>
     requires { count ≤ vec_len list.old }
     ensures left { IfOk result (λ _. list.new.items ≡ take (vec_len list.old - count) list.old.items) }
-    ensures tree { IfOk result (λ e. kat_tree e ≡ joined joint (map kat_tree (drop (vec_len list.old - count) list.old.items))) }
+    ensures tree { IfOk result (λ e. J.view e
+        ≡ balanced J.unit J.node (map J.view (drop (vec_len list.old - count) list.old.items))) }
 {
     if count == 0 {
-        return Ok(unit(joint));
+        return Ok(J::unit());
     }
     if count == 1 {
         return match list.pop() {
-            Some(term) => Ok(term),
-            None => Ok(unit(joint)),
+            Some(tree) => Ok(tree),
+            None => Ok(J::unit()),
         };
     }
-    let right = joined_last(alloc, joint, list, count - count / 2)?;
-    let left = joined_last(alloc, joint, list, count / 2)?;
-    node(alloc, joint, left, right)
+    let right = tree_of_last::<J>(alloc, list, count - count / 2)?;
+    let left = tree_of_last::<J>(alloc, list, count / 2)?;
+    J::node(alloc, left, right)
+}
+
+fn tree_of<J: Joint>(alloc: Global, mut list: Vec<J::Tree>) -> Result<J::Tree, NoMemory>
+    ensures { IfOk result (λ e. J.view e ≡ balanced J.unit J.node (map J.view list.items)) }
+{
+    let count = list.len();
+    tree_of_last::<J>(alloc, &mut list, count)
 }
 
 /// The balanced sum of a list of terms: `Zero` of none, the term itself of one, and otherwise the sum of
-/// the tree of the first half, rounded down, and that of the rest. The only refusal is want of memory, and
+/// the tree of the first half, rounded down, and that of the rest. It fails only when out of memory, and
 /// the terms are dropped then.
-pub fn sum_of(alloc: Global, mut list: Vec<Kat>) -> Result<Kat, NoMemory>
+pub fn sum_of(alloc: Global, list: Vec<Kat>) -> Result<Kat, NoMemory>
     ensures { IfOk result (λ e. kat_tree e ≡ sum_tree (map kat_tree list.items)) }
 {
-    let count = list.len();
-    joined_last(alloc, Joint::Sum, &mut list, count)
+    tree_of::<Sum>(alloc, list)
 }
 
 /// The balanced product of a list of terms in order, as for a sum, and `One` of none.
-pub fn seq_of(alloc: Global, mut list: Vec<Kat>) -> Result<Kat, NoMemory>
+pub fn seq_of(alloc: Global, list: Vec<Kat>) -> Result<Kat, NoMemory>
     ensures { IfOk result (λ e. kat_tree e ≡ product_of (map kat_tree list.items)) }
 {
-    let count = list.len();
-    joined_last(alloc, Joint::Seq, &mut list, count)
+    tree_of::<Product>(alloc, list)
+}
+
+/// The balanced disjunction of a list of conditions: `False` of none, the condition itself of one, and
+/// otherwise `Or` over the tree of the first half, rounded down, and that of the rest. It fails only when
+/// out of memory, and the conditions are dropped then.
+pub fn any_of(alloc: Global, list: Vec<Cond>) -> Result<Cond, NoMemory>
+    ensures { IfOk result (λ b. cond_tree b ≡ any_tree (map cond_tree list.items)) }
+{
+    tree_of::<Any>(alloc, list)
+}
+
+/// The balanced conjunction of a list of conditions in order, as for a disjunction, and `True` of none.
+pub fn all_of(alloc: Global, list: Vec<Cond>) -> Result<Cond, NoMemory>
+    ensures { IfOk result (λ b. cond_tree b ≡ all_tree (map cond_tree list.items)) }
+{
+    tree_of::<All>(alloc, list)
 }

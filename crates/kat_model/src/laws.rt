@@ -3,9 +3,10 @@ ghost use Rattle.std.specs.Prelude.{ℕ, List};
 ghost use Rattle.kat_model.specs.Trees.{Term};
 ghost use Rattle.kat_model.specs.Steps.{Atom};
 ghost use Rattle.kat_model.specs.Strings.{Move, AreMoves};
+ghost use Rattle.kat_model.specs.Relations.{Table};
 ghost use Rattle.kat_model.specs.Pairs.{SetPair};
 ghost use Rattle.kat_model.specs.Guarded.{IsGuarded};
-ghost use Rattle.kat_model.specs.Laws.{AcceptsByForm, UniversalAccepts, RelatesBySpelling, AcceptedAreSame, ReachIsClosed, StaysGuarded, PairsAreBounded, FaultlessAreProblems};
+ghost use Rattle.kat_model.specs.Laws.{AcceptsByForm, UniversalAccepts, RelatesBySpelling, ListsRelate, AcceptedAreSame, ReachIsClosed, StaysGuarded, PairsAreBounded, FaultlessAreProblems};
 
 /// Which strings a term accepts, by its form: the language of a sum is the union of two languages, that of
 /// a product their concatenation, that of a star the concatenations of any number of its strings.
@@ -21,6 +22,13 @@ pub fn universal_accepts()
 /// A term relates two states of a table exactly where it accepts what some path between them spells.
 pub fn relates_by_spelling()
     ensures { RelatesBySpelling }
+{}
+
+/// In a table, the balanced product of a list of terms relates two states exactly where its members relate
+/// them one after the other, over a chain of states in between; the balanced sum exactly where some member
+/// relates them.
+pub fn product_relates_in_turn()
+    ensures { (t : Table) (es : List Term) (i j : ℕ) → ListsRelate t es i j }
 {}
 
 /// Pairs of sets that begin with the closed sides and are a bisimulation, plain or up to congruence, show

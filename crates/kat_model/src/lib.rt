@@ -2,20 +2,25 @@
 #![tactic(auto)]
 
 mod balanced;
-mod conditions;
 mod expression;
+mod items;
 mod laws;
+mod limits;
 mod problem;
-#[cfg(test)]
-mod tests;
+mod residue;
 mod tree;
 
-pub use balanced::{seq_of, sum_of};
-pub use conditions::{all_of, any_of};
-pub use expression::{Cond, Expr, Rel, Width};
+pub use balanced::{all_of, any_of, seq_of, sum_of};
+pub use expression::{Cond, Expr, Rel, Width, test_without_comparisons};
+pub use items::Items;
 pub use laws::{
     accepted_are_same, accepts_by_form, faultless_are_problems, guarded_has_one_step,
-    pairs_are_bounded, reach_is_closed, relates_by_spelling, universal_accepts,
+    pairs_are_bounded, product_relates_in_turn, reach_is_closed, relates_by_spelling,
+    universal_accepts,
+};
+pub use limits::{
+    MAX_ACTIONS, MAX_EXPR_NODES, MAX_HYPS, MAX_OPEN, MAX_TERM_NODES, MAX_TESTS, MAX_TEXT_BYTES,
+    MAX_TEXT_NODES,
 };
 pub use problem::{BadProblem, Problem};
 pub use tree::{Kat, NoMemory, Test};

@@ -2,16 +2,11 @@
 ghost use Rattle.std.specs.Prelude.{◌≡◌, map, IfOk, IfErr, Some};
 ghost use Rattle.std.specs.Option.{option_map};
 ghost use Rattle.kat_model.specs.Trees.{kat_tree, test_tree};
-ghost use Rattle.kat_model.specs.Problems.{IsProblem, first_test_out, first_out, first_out_of_all, terms_size, counted, question_of, problem_fault};
+ghost use Rattle.kat_model.specs.Problems.{IsProblem, first_test_out, first_out, first_out_of_all, terms_size, counted, problem_parts, problem_fault};
 
+use crate::limits::{MAX_ACTIONS, MAX_TERM_NODES, MAX_TESTS};
 use crate::tree::{Kat, Test};
 use std::marker::Model;
-
-const MOST_TESTS: usize = 48;
-
-const MOST_ACTIONS: usize = 48;
-
-const MOST_NODES: u64 = 100_000;
 
 /// Why there is no such problem: the first of these, in this order.
 #[derive(Clone, Copy, Debug, PartialEq, Eq)]
@@ -43,16 +38,16 @@ pub struct Problem {
 impl Model for Problem {
     ghost use Rattle.std.specs.Prelude.{◌≡◌, None};
     ghost use Rattle.std.specs.Coded.{codes};
-    ghost use Rattle.kat_model.specs.Problems.{Question, question_of, problem_fault};
+    ghost use Rattle.kat_model.specs.Problems.{ProblemParts, problem_parts, problem_fault};
     ghost use Rattle.kat_model.specs.Codes.{coded_term};
 
-    ghost Value = { Question };
+    ghost Value = { ProblemParts };
 
     ghost coded = { Prim.hlevel (codes, coded_term) };
 
-    ghost view = { λ p. question_of p.tests p.actions p.hyps.items p.left p.right };
+    ghost view = { λ p. problem_parts p.tests p.actions p.hyps.items p.left p.right };
 
-    ghost invariant = { λ p. problem_fault (question_of p.tests p.actions p.hyps.items p.left p.right) ≡ None };
+    ghost invariant = { λ p. problem_fault (problem_parts p.tests p.actions p.hyps.items p.left p.right) ≡ None };
 }
 
 fn test_out(test: &Test, tests: usize) -> Option<usize>
@@ -124,14 +119,14 @@ impl Problem {
         left: Kat,
         right: Kat,
     ) -> Result<Problem, BadProblem>
-        ensures made { IfOk result (λ p. p ≡ question_of tests actions hyps.items left right) }
+        ensures made { IfOk result (λ p. p ≡ problem_parts tests actions hyps.items left right) }
         ensures within { IfOk result IsProblem }
-        ensures refused { IfErr result (λ bad. problem_fault (question_of tests actions hyps.items left right) ≡ Some bad) }
+        ensures refused { IfErr result (λ bad. problem_fault (problem_parts tests actions hyps.items left right) ≡ Some bad) }
     {
-        if tests > MOST_TESTS {
+        if tests > MAX_TESTS {
             return Err(BadProblem::TooManyTests(tests));
         }
-        if actions > MOST_ACTIONS {
+        if actions > MAX_ACTIONS {
             return Err(BadProblem::TooManyActions(actions));
         }
         if let Some(bad) = terms_out(&hyps, tests, actions) {
@@ -146,7 +141,7 @@ impl Problem {
         let total = total_size(&hyps)
             .saturating_add(left.size())
             .saturating_add(right.size());
-        if total > MOST_NODES {
+        if total > MAX_TERM_NODES {
             return Err(BadProblem::TooLarge(total));
         }
         Ok(Problem {

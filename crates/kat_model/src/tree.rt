@@ -1,6 +1,6 @@
 //! Tests and terms.
 ghost use Rattle.std.specs.Prelude.{◌≡◌, ◌<◌, length, IfOk};
-ghost use Rattle.kat_model.specs.Trees.{test_tree, kat_tree, test_size, term_size, term_height, acts};
+ghost use Rattle.kat_model.specs.Trees.{complement, meet, join, sum, product, star, test_tree, kat_tree, test_size, term_size, term_height, acts};
 ghost use Rattle.kat_model.specs.Steps.{truth};
 ghost use Rattle.kat_model.specs.Problems.{counted, IsTestInRange};
 
@@ -46,20 +46,29 @@ pub enum Kat {
     Star(Box<Kat>),
 }
 
-pub(crate) fn boxed_test(alloc: Global, test: Test) -> Result<Box<Test>, NoMemory>
-    ensures { IfOk result (λ b. test_tree b.value ≡ test_tree test) }
-{
-    Ok(Box::new(alloc, test)?)
-}
-
-pub(crate) fn boxed_kat(alloc: Global, term: Kat) -> Result<Box<Kat>, NoMemory>
-    ensures { IfOk result (λ b. kat_tree b.value ≡ kat_tree term) }
-{
-    Ok(Box::new(alloc, term)?)
-}
-
 impl Test {
-    /// The same tree again. The only refusal is want of memory.
+    /// `Not` over a test. It fails only when out of memory, and the part is dropped then.
+    pub fn new_not(alloc: Global, inner: Test) -> Result<Self, NoMemory>
+        ensures { IfOk result (λ b. test_tree b ≡ complement (test_tree inner)) }
+    {
+        Ok(Test::Not(Box::new(alloc, inner)?))
+    }
+
+    /// `And` over two tests. It fails only when out of memory, and the parts are dropped then.
+    pub fn new_and(alloc: Global, left: Test, right: Test) -> Result<Self, NoMemory>
+        ensures { IfOk result (λ b. test_tree b ≡ meet (test_tree left) (test_tree right)) }
+    {
+        Ok(Test::And(Box::new(alloc, left)?, Box::new(alloc, right)?))
+    }
+
+    /// `Or` over two tests. It fails only when out of memory, and the parts are dropped then.
+    pub fn new_or(alloc: Global, left: Test, right: Test) -> Result<Self, NoMemory>
+        ensures { IfOk result (λ b. test_tree b ≡ join (test_tree left) (test_tree right)) }
+    {
+        Ok(Test::Or(Box::new(alloc, left)?, Box::new(alloc, right)?))
+    }
+
+    /// The same tree again. It fails only when out of memory.
     pub fn copy(&self, alloc: Global) -> Result<Test, NoMemory>
         ensures { IfOk result (λ b. test_tree b ≡ test_tree self.now) }
     {
@@ -67,20 +76,9 @@ impl Test {
             Test::False => Ok(Test::False),
             Test::True => Ok(Test::True),
             Test::Prim(k) => Ok(Test::Prim(*k)),
-            Test::Not(b) => {
-                let inner = b.copy(alloc)?;
-                Ok(Test::Not(boxed_test(alloc, inner)?))
-            }
-            Test::And(b, c) => {
-                let left = b.copy(alloc)?;
-                let right = c.copy(alloc)?;
-                Ok(Test::And(boxed_test(alloc, left)?, boxed_test(alloc, right)?))
-            }
-            Test::Or(b, c) => {
-                let left = b.copy(alloc)?;
-                let right = c.copy(alloc)?;
-                Ok(Test::Or(boxed_test(alloc, left)?, boxed_test(alloc, right)?))
-            }
+            Test::Not(b) => Test::new_not(alloc, b.copy(alloc)?),
+            Test::And(b, c) => Test::new_and(alloc, b.copy(alloc)?, c.copy(alloc)?),
+            Test::Or(b, c) => Test::new_or(alloc, b.copy(alloc)?, c.copy(alloc)?),
         }
     }
 
@@ -112,7 +110,28 @@ impl Test {
 }
 
 impl Kat {
-    /// The same tree again. The only refusal is want of memory.
+    /// `Sum` over two terms. It fails only when out of memory, and the parts are dropped then.
+    pub fn new_sum(alloc: Global, left: Kat, right: Kat) -> Result<Self, NoMemory>
+        ensures { IfOk result (λ e. kat_tree e ≡ sum (kat_tree left) (kat_tree right)) }
+    {
+        Ok(Kat::Sum(Box::new(alloc, left)?, Box::new(alloc, right)?))
+    }
+
+    /// `Seq` over two terms. It fails only when out of memory, and the parts are dropped then.
+    pub fn new_seq(alloc: Global, first: Kat, second: Kat) -> Result<Self, NoMemory>
+        ensures { IfOk result (λ e. kat_tree e ≡ product (kat_tree first) (kat_tree second)) }
+    {
+        Ok(Kat::Seq(Box::new(alloc, first)?, Box::new(alloc, second)?))
+    }
+
+    /// `Star` over a term. It fails only when out of memory, and the part is dropped then.
+    pub fn new_star(alloc: Global, inner: Kat) -> Result<Self, NoMemory>
+        ensures { IfOk result (λ e. kat_tree e ≡ star (kat_tree inner)) }
+    {
+        Ok(Kat::Star(Box::new(alloc, inner)?))
+    }
+
+    /// The same tree again. It fails only when out of memory.
     pub fn copy(&self, alloc: Global) -> Result<Kat, NoMemory>
         ensures { IfOk result (λ e. kat_tree e ≡ kat_tree self.now) }
     {
@@ -121,20 +140,9 @@ impl Kat {
             Kat::One => Ok(Kat::One),
             Kat::Test(b) => Ok(Kat::Test(b.copy(alloc)?)),
             Kat::Act(a) => Ok(Kat::Act(*a)),
-            Kat::Sum(e, f) => {
-                let left = e.copy(alloc)?;
-                let right = f.copy(alloc)?;
-                Ok(Kat::Sum(boxed_kat(alloc, left)?, boxed_kat(alloc, right)?))
-            }
-            Kat::Seq(e, f) => {
-                let left = e.copy(alloc)?;
-                let right = f.copy(alloc)?;
-                Ok(Kat::Seq(boxed_kat(alloc, left)?, boxed_kat(alloc, right)?))
-            }
-            Kat::Star(e) => {
-                let inner = e.copy(alloc)?;
-                Ok(Kat::Star(boxed_kat(alloc, inner)?))
-            }
+            Kat::Sum(e, f) => Kat::new_sum(alloc, e.copy(alloc)?, f.copy(alloc)?),
+            Kat::Seq(e, f) => Kat::new_seq(alloc, e.copy(alloc)?, f.copy(alloc)?),
+            Kat::Star(e) => Kat::new_star(alloc, e.copy(alloc)?),
         }
     }
 

@@ -38,7 +38,7 @@ fn place(fault: &EvidenceFault) -> Option<u64>
 }
 
 /// The line that tells why evidence is refused: `refused: evidence WORD`, the fault's name, and where the fault is
-/// in a line a space and its number, counted from 1. The only refusal is want of memory, so a fault that is want
+/// in a line a space and its number, counted from 1. Fails only when out of memory, so a fault that is want
 /// of memory itself has no line.
 pub fn evidence_fault_line(alloc: Global, fault: &EvidenceFault) -> Result<Vec<u8>, NoMemory>
     requires { fault.now ≢ EvidenceFault.NoMemory }

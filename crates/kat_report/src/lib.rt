@@ -5,8 +5,6 @@ mod evidence;
 mod reason;
 mod refusal;
 mod replay;
-#[cfg(test)]
-mod tests;
 mod writing;
 
 pub use evidence::evidence_fault_line;

@@ -6,9 +6,8 @@ ghost use Rattle.kat_report.specs.Reasons.{atom_text, reason_text, reason_line};
 
 use crate::writing::{put_numbered, put_word};
 use cert_checker::Reason;
-use kat_model::NoMemory;
+use kat_model::{Items, NoMemory};
 use std::alloc::Global;
-use string_tables::Items;
 
 fn bit(value: bool) -> u8
     ensures { result ≡ (if value then 49 else 48) }
@@ -94,7 +93,7 @@ fn put_reason(alloc: Global, out: &mut Vec<u8>, reason: &Reason) -> Result<(), N
 
 /// The line that tells why evidence is rejected: `rejected: `, the reason's name, and its numbers with the words
 /// that name them, as in `rejected: Missing pair 1 atom 010 action 2`. An atom has a bit for each test, test 0
-/// first, and is `-` where there are no tests. The only refusal is want of memory.
+/// first, and is `-` where there are no tests. Fails only when out of memory.
 pub fn reason_line(alloc: Global, reason: &Reason) -> Result<Vec<u8>, NoMemory>
     ensures { IfOk result (λ line. line.items ≡ reason_line reason.now) }
 {

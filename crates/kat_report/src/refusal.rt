@@ -49,7 +49,7 @@ fn place(fault: &TextFault) -> Option<usize>
 }
 
 /// The line that tells why a text is refused: `refused: WORD`, and a space and the place in bytes where there is one.
-/// The only refusal is want of memory.
+/// Fails only when out of memory.
 pub fn text_fault_line(alloc: Global, fault: &TextFault) -> Result<Vec<u8>, NoMemory>
     requires { fault.now ≢ TextFault.NoMemory }
     ensures { IfOk result (λ line. line.items ≡ text_fault_line fault.now) }

@@ -103,7 +103,7 @@ fn put_finding(alloc: Global, out: &mut Vec<u8>, finding: &Finding) -> Result<()
 /// A string told position by position, and what it shows. For each position, counted from 0, there is a line of
 /// its number and of each test, ` tI` where test I is true and ` !tI` where it is false; between two positions
 /// stands a line `aI` of the action I that leads from one to the next. The last line tells the finding, which is
-/// of a string that fits: where it does not fit there is nothing to tell. The only refusal is want of memory.
+/// of a string that fits: where it does not fit there is nothing to tell. Fails only when out of memory.
 pub fn replay_text(alloc: Global, string: &GString, verdict: &Finding) -> Result<Vec<u8>, NoMemory>
     requires { Fits verdict.now }
     ensures { IfOk result (λ text. text.items ≡ replay_text string.now verdict.now) }

@@ -1,12 +1,13 @@
 mod Seen
 pub mod Parentheses
 pub mod Tokens
+pub mod TerminalEquality
 pub mod Within
 pub mod ExprSteps
 pub mod CondSteps
 pub mod TermSteps
-pub mod Folded
-pub mod Found
+pub mod ParserCompleteness
+pub mod ParserSoundness
 pub mod Scanned
 pub mod Longest
 pub mod Unique

@@ -2,7 +2,7 @@
 use Rattle.std.proofs.Common.{◌≡◌, ℕ, ◌<◌, ◌≤◌, List, [], ◌∷◌, length, Bool, true, false, cond, Result, Ok, Err, refl, ap, ◌∙◌, arith, drop}
 use Rattle.kat_tokens.specs.declared.fault.TextFault.{TextFault}
 use Rattle.kat_tokens.specs.declared.fault.TextFault.TheVariants.{Syntax}
-use Rattle.kat_syntax.specs.declared.sign.Sign.{Sign}
+use Rattle.kat_syntax.specs.declared.terminal.Terminal.{Terminal}
 use Rattle.kat_syntax.specs.Lexemes.{Lexeme, lexeme, heads}
 use Rattle.kat_syntax.specs.Parsed.{Parsed, ◌>>=◌, before, change, wants, then_wants}
 
@@ -35,15 +35,15 @@ pub change_within : {V W : Type 0} (n : ℕ) (f : V → W) (s : Parsed V) → Wi
 change_within n f (Ok x) h = h
 change_within n f (Err e) h = tt
 
-wanted_within : {V : Type 0} (p : Sign → Bool) (n : ℕ) (v : V) (ts : List Lexeme) → length ts < n → Within n (wants p ts >>= λ r. Ok (v, r))
+wanted_within : {V : Type 0} (p : Terminal → Bool) (n : ℕ) (v : V) (ts : List Lexeme) → length ts < n → Within n (wants p ts >>= λ r. Ok (v, r))
 wanted_within p n v [] lt = tt
 wanted_within p n v (lexeme s at text ∷ ts) lt = elim (p s) as (λ b. Within n (cond b (Ok ts) (Err (Syntax at)) >>= λ r. Ok (v, r))) [ true ↦ omega arith | false ↦ tt ]
 
-pub then_wants_within : {V : Type 0} (p : Sign → Bool) (n : ℕ) (s : Parsed V) → Within n s → Within n (then_wants p s)
+pub then_wants_within : {V : Type 0} (p : Terminal → Bool) (n : ℕ) (s : Parsed V) → Within n s → Within n (then_wants p s)
 then_wants_within p n (Ok x) h = wanted_within p n x.0 x.1 h
 then_wants_within p n (Err e) h = tt
 
-pub headed : (p : Sign → Bool) (ts : List Lexeme) → heads p ts ≡ true → length (drop 1 ts) < length ts
+pub headed : (p : Terminal → Bool) (ts : List Lexeme) → heads p ts ≡ true → length (drop 1 ts) < length ts
 headed p [] e = absurd cc
 headed p (m ∷ ts) e = omega arith
 

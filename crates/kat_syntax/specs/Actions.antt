@@ -4,25 +4,25 @@ use Rattle.std.specs.Prelude.{ℕ, ◌+◌, List, Bool, true, if◌then◌else�
 use Rattle.kat_model.specs.declared.expression.Rel.{Rel}
 use Rattle.kat_tokens.specs.declared.fault.TextFault.{TextFault}
 use Rattle.kat_tokens.specs.declared.fault.TextFault.TheVariants.{TooDeep}
-use Rattle.kat_syntax.specs.declared.reading.Around.{Around}
+use Rattle.kat_syntax.specs.declared.reading.Context.{Context}
 use Rattle.kat_syntax.specs.declared.reading.Operator.{Operator}
 
 -- what is known of a place
-abbrev pub around : ℕ → Bool → Bool → Around
-around depth negated compares = record { depth = depth; negated = negated; compares = compares }
+abbrev pub context : ℕ → Bool → Bool → Context
+context depth negated compares = record { depth = depth; negated = negated; compares = compares }
 
 -- one construct more is open
-abbrev pub enter : Around → ℕ → Result Around TextFault
-enter c at = if nat_lt c.depth 200 then Ok (around (c.depth + 1) c.negated c.compares) else Err (TooDeep at)
+abbrev pub enter : Context → ℕ → Result Context TextFault
+enter c at = if nat_lt c.depth 200 then Ok (context (c.depth + 1) c.negated c.compares) else Err (TooDeep at)
 
 -- a `!` more is open
-abbrev pub enter_not : Around → ℕ → Result Around TextFault
-enter_not c at = if nat_lt c.depth 200 then Ok (around (c.depth + 1) true c.compares) else Err (TooDeep at)
+abbrev pub enter_not : Context → ℕ → Result Context TextFault
+enter_not c at = if nat_lt c.depth 200 then Ok (context (c.depth + 1) true c.compares) else Err (TooDeep at)
 
 -- of an expression
 pub record ExprActions (E : Type 0) : Type 0 where
-  pub number : Around → ℕ → ℕ → Result E TextFault
-  pub variable : Around → ℕ → List ℕ → Result E TextFault
+  pub number : Context → ℕ → ℕ → Result E TextFault
+  pub variable : Context → ℕ → List ℕ → Result E TextFault
   pub join : Operator → E → E → E
   pub enclosed : E → E
 
@@ -31,7 +31,7 @@ pub record CondActions (E B L : Type 0) : Type 0 where
   pub exprs : ExprActions E
   pub always : B
   pub never : B
-  pub named : Around → ℕ → List ℕ → Result B TextFault
+  pub named : Context → ℕ → List ℕ → Result B TextFault
   pub compare : Rel → E → E → B
   pub negated : B → B
   pub enclosed : B → B
@@ -45,11 +45,11 @@ pub record Actions (E B L T M : Type 0) : Type 0 where
   pub conds : CondActions E B L
   pub zero : T
   pub one : T
-  pub named : Around → ℕ → List ℕ → Result T TextFault
+  pub named : Context → ℕ → List ℕ → Result T TextFault
   pub negated : T → T
   pub tested : B → T
   pub enclosed : T → T
-  pub starred : Around → ℕ → T → Result T TextFault
+  pub starred : Context → ℕ → T → Result T TextFault
   pub one_of : T → M
   pub more : M → T → M
   pub sum : M → T

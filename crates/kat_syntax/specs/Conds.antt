@@ -2,9 +2,9 @@
 use Rattle.std.specs.Prelude.{ℕ, zero, suc, ◌+◌, ◌*◌, List, [], ◌∷◌, length, drop, Bool, if◌then◌else◌, Ok, Err}
 use Rattle.kat_model.specs.declared.expression.Rel.{Rel}
 use Rattle.kat_tokens.specs.declared.fault.TextFault.TheVariants.{NoMemory, Syntax}
-use Rattle.kat_syntax.specs.declared.sign.Sign.TheVariants.{RoundOpen, Bang, Compares, Zero, One, Number, WideNumber, True, False, Name}
-use Rattle.kat_syntax.specs.declared.reading.Around.{Around}
-use Rattle.kat_syntax.specs.Lexemes.{Lexeme, lexeme, heads, is_and, is_or, opens_round, closes_round, makes_expr}
+use Rattle.kat_syntax.specs.declared.terminal.Terminal.TheVariants.{RoundOpen, RoundClose, Bang, And, Or, Compares, Zero, One, Number, WideNumber, True, False, Name}
+use Rattle.kat_syntax.specs.declared.reading.Context.{Context}
+use Rattle.kat_syntax.specs.Lexemes.{Lexeme, lexeme, heads, makes_expr, is_terminal}
 use Rattle.kat_syntax.specs.Parsed.{Parsed, ◌>>=◌, at_end, before, change, then_wants}
 use Rattle.kat_syntax.specs.Actions.{CondActions, enter, enter_not}
 use Rattle.kat_syntax.specs.Exprs.{parse_expr, sums}
@@ -12,8 +12,8 @@ use Rattle.kat_syntax.specs.Exprs.{parse_expr, sums}
 -- what follows the matching parenthesis, with so many open inside; nothing where there is none
 abbrev pub after_close : ℕ → List Lexeme → List Lexeme
 after_close n [] = []
-after_close zero (lexeme s at text ∷ ts) = if opens_round s then after_close 1 ts else if closes_round s then ts else after_close 0 ts
-after_close (suc n) (lexeme s at text ∷ ts) = if opens_round s then after_close (suc (suc n)) ts else if closes_round s then after_close n ts else after_close (suc n) ts
+after_close zero (lexeme s at text ∷ ts) = if is_terminal RoundOpen s then after_close 1 ts else if is_terminal RoundClose s then ts else after_close 0 ts
+after_close (suc n) (lexeme s at text ∷ ts) = if is_terminal RoundOpen s then after_close (suc (suc n)) ts else if is_terminal RoundClose s then after_close n ts else after_close (suc n) ts
 
 -- the token that follows makes an expression of what is before it
 abbrev pub begins_expr : List Lexeme → Bool
@@ -29,7 +29,7 @@ pub data CondAim (L : Type 0) : Type 0 where
 
 -- what reads an aim from the front of tokens, with what is known around it
 abbrev pub CondParser : Type 0 → Type 0 → Type 0
-CondParser B L = CondAim L → Around → List Lexeme → Parsed B
+CondParser B L = CondAim L → Context → List Lexeme → Parsed B
 
 -- one relation
 abbrev pub relation : List Lexeme → Parsed Rel
@@ -38,19 +38,19 @@ relation (lexeme (Compares r) at text ∷ ts) = Ok (r, ts)
 relation (lexeme _ at text ∷ ts) = Err (Syntax at)
 
 -- two expressions with a relation between them
-abbrev pub comparison : {E B L : Type 0} → CondActions E B L → Around → List Lexeme → Parsed B
+abbrev pub comparison : {E B L : Type 0} → CondActions E B L → Context → List Lexeme → Parsed B
 comparison g c ts = parse_expr g.exprs sums c ts >>= λ x. relation x.1 >>= λ r. parse_expr g.exprs sums c r.1 >>= λ y. Ok (g.compare r.0 x.0 y.0, y.1)
 
 -- a condition and the parenthesis that closes it
-abbrev pub parenthesis : {E B L : Type 0} → CondActions E B L → CondParser B L → Around → ℕ → List Lexeme → Parsed B
-parenthesis g f c at ts = enter c at >>= λ d. change g.enclosed (then_wants closes_round (f disjunction d ts))
+abbrev pub parenthesis : {E B L : Type 0} → CondActions E B L → CondParser B L → Context → ℕ → List Lexeme → Parsed B
+parenthesis g f c at ts = enter c at >>= λ d. change g.enclosed (then_wants (is_terminal RoundClose) (f disjunction d ts))
 
 -- a `!` and its operand
-abbrev pub negation : {E B L : Type 0} → CondActions E B L → CondParser B L → Around → ℕ → List Lexeme → Parsed B
+abbrev pub negation : {E B L : Type 0} → CondActions E B L → CondParser B L → Context → ℕ → List Lexeme → Parsed B
 negation g f c at ts = enter_not c at >>= λ d. change g.negated (f literal d ts)
 
 -- a literal; by the token after a name or a parenthesis it is a comparison
-abbrev pub literal_by : {E B L : Type 0} → CondActions E B L → CondParser B L → Around → List Lexeme → Parsed B
+abbrev pub literal_by : {E B L : Type 0} → CondActions E B L → CondParser B L → Context → List Lexeme → Parsed B
 literal_by g f c [] = Err (Syntax at_end)
 literal_by g f c (lexeme True at text ∷ ts) = Ok (g.always, ts)
 literal_by g f c (lexeme False at text ∷ ts) = Ok (g.never, ts)
@@ -66,9 +66,9 @@ literal_by g f c (lexeme _ at text ∷ ts) = Err (Syntax at)
 -- one step: each aim by aims on fewer tokens, or on as many with a lower rank
 abbrev pub cond_by : {E B L : Type 0} → CondActions E B L → CondParser B L → CondParser B L
 cond_by g f disjunction c ts = f conjunction c ts >>= λ x. f (disjunction_after (g.one_of x.0)) c x.1
-cond_by g f (disjunction_after l) c ts = if heads is_or ts then (f conjunction c (drop 1 ts) >>= λ x. f (disjunction_after (g.more l x.0)) c x.1) else Ok (g.any l, ts)
+cond_by g f (disjunction_after l) c ts = if heads (is_terminal Or) ts then (f conjunction c (drop 1 ts) >>= λ x. f (disjunction_after (g.more l x.0)) c x.1) else Ok (g.any l, ts)
 cond_by g f conjunction c ts = f literal c ts >>= λ x. f (conjunction_after (g.one_of x.0)) c x.1
-cond_by g f (conjunction_after l) c ts = if heads is_and ts then (f literal c (drop 1 ts) >>= λ x. f (conjunction_after (g.more l x.0)) c x.1) else Ok (g.all l, ts)
+cond_by g f (conjunction_after l) c ts = if heads (is_terminal And) ts then (f literal c (drop 1 ts) >>= λ x. f (conjunction_after (g.more l x.0)) c x.1) else Ok (g.all l, ts)
 cond_by g f literal c ts = literal_by g f c ts
 
 -- the aims that may stand before a token is read, in descending order

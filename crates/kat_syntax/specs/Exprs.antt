@@ -1,11 +1,11 @@
 -- Expressions, read from the front of the tokens.
 use Rattle.std.specs.Prelude.{ℕ, zero, suc, ◌+◌, ◌*◌, List, [], ◌∷◌, length, drop, if◌then◌else◌, Ok, Err}
 use Rattle.kat_tokens.specs.declared.fault.TextFault.TheVariants.{NoMemory, Syntax, NumberTooWide}
-use Rattle.kat_syntax.specs.declared.sign.Sign.TheVariants.{RoundOpen, Minus, Zero, One, Number, WideNumber, Name}
-use Rattle.kat_syntax.specs.declared.reading.Around.{Around}
+use Rattle.kat_syntax.specs.declared.terminal.Terminal.TheVariants.{RoundOpen, RoundClose, Star, Minus, Zero, One, Number, WideNumber, Name}
+use Rattle.kat_syntax.specs.declared.reading.Context.{Context}
 use Rattle.kat_syntax.specs.declared.reading.Operator.{Operator}
 use Rattle.kat_syntax.specs.declared.reading.Operator.TheVariants.{Add, Subtract, Multiply}
-use Rattle.kat_syntax.specs.Lexemes.{Lexeme, lexeme, heads, is_sum, is_star, closes_round}
+use Rattle.kat_syntax.specs.Lexemes.{Lexeme, lexeme, heads, is_sum, is_terminal}
 use Rattle.kat_syntax.specs.Parsed.{Parsed, ◌>>=◌, at_end, before, change, then_wants}
 use Rattle.kat_syntax.specs.Actions.{ExprActions, enter}
 
@@ -25,14 +25,14 @@ pub data ExprAim (E : Type 0) : Type 0 where
 
 -- what reads an aim from the front of tokens, with what is known around it
 abbrev pub ExprParser : Type 0 → Type 0
-ExprParser E = ExprAim E → Around → List Lexeme → Parsed E
+ExprParser E = ExprAim E → Context → List Lexeme → Parsed E
 
 -- an expression and the parenthesis that closes it
-abbrev pub parenthesis : {E : Type 0} → ExprActions E → ExprParser E → Around → ℕ → List Lexeme → Parsed E
-parenthesis g f c at ts = enter c at >>= λ d. change g.enclosed (then_wants closes_round (f sums d ts))
+abbrev pub parenthesis : {E : Type 0} → ExprActions E → ExprParser E → Context → ℕ → List Lexeme → Parsed E
+parenthesis g f c at ts = enter c at >>= λ d. change g.enclosed (then_wants (is_terminal RoundClose) (f sums d ts))
 
 -- a number, a name, or an expression in parentheses
-abbrev pub factor_by : {E : Type 0} → ExprActions E → ExprParser E → Around → List Lexeme → Parsed E
+abbrev pub factor_by : {E : Type 0} → ExprActions E → ExprParser E → Context → List Lexeme → Parsed E
 factor_by g f c [] = Err (Syntax at_end)
 factor_by g f c (lexeme Zero at text ∷ ts) = before ts (g.number c at 0)
 factor_by g f c (lexeme One at text ∷ ts) = before ts (g.number c at 1)
@@ -47,7 +47,7 @@ abbrev pub expr_by : {E : Type 0} → ExprActions E → ExprParser E → ExprPar
 expr_by g f sums c ts = f products c ts >>= λ x. f (sums_after x.0) c x.1
 expr_by g f (sums_after e) c ts = if heads is_sum ts then (f products c (drop 1 ts) >>= λ x. f (sums_after (g.join (operator_at ts) e x.0)) c x.1) else Ok (e, ts)
 expr_by g f products c ts = f factor c ts >>= λ x. f (products_after x.0) c x.1
-expr_by g f (products_after e) c ts = if heads is_star ts then (f factor c (drop 1 ts) >>= λ x. f (products_after (g.join Multiply e x.0)) c x.1) else Ok (e, ts)
+expr_by g f (products_after e) c ts = if heads (is_terminal Star) ts then (f factor c (drop 1 ts) >>= λ x. f (products_after (g.join Multiply e x.0)) c x.1) else Ok (e, ts)
 expr_by g f factor c ts = factor_by g f c ts
 
 -- the aims that may stand before a token is read, in descending order

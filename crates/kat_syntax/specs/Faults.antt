@@ -2,25 +2,25 @@
 use Rattle.std.specs.Prelude.{◌≡◌, ◌⊎◌, ℕ, List, [], ◌∷◌, Bool, true, false, Result, Err}
 use Rattle.kat_tokens.specs.declared.fault.TextFault.{TextFault}
 use Rattle.kat_tokens.specs.declared.fault.TextFault.TheVariants.{Syntax, TooDeep, NumberTooWide}
-use Rattle.kat_syntax.specs.declared.sign.Sign.{Sign}
-use Rattle.kat_syntax.specs.declared.sign.Sign.TheVariants.{RoundOpen, SquareOpen, Bang, WideNumber}
+use Rattle.kat_syntax.specs.declared.terminal.Terminal.{Terminal}
+use Rattle.kat_syntax.specs.declared.terminal.Terminal.TheVariants.{RoundOpen, SquareOpen, Bang, WideNumber}
 use Rattle.kat_syntax.specs.Lexemes.{Lexeme, lexeme}
 use Rattle.kat_syntax.specs.Parsed.{at_end}
 
 -- what opens a construct of a phrase
-abbrev pub opens : Sign → Bool
+abbrev pub opens : Terminal → Bool
 opens RoundOpen = true
 opens SquareOpen = true
 opens Bang = true
 opens _ = false
 
 -- a number that is too wide
-abbrev pub is_wide : Sign → Bool
+abbrev pub is_wide : Terminal → Bool
 is_wide WideNumber = true
 is_wide _ = false
 
--- a token of such a sign stands at the place
-abbrev pub StandsAt : (Sign → Bool) → ℕ → List Lexeme → Type 0
+-- a token of such a terminal stands at the place
+abbrev pub StandsAt : (Terminal → Bool) → ℕ → List Lexeme → Type 0
 StandsAt p place [] = ⊥
 StandsAt p place (lexeme s at text ∷ ts) = ((p s ≡ true) × (at ≡ place)) ⊎ StandsAt p place ts
 

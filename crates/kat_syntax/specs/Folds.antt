@@ -2,7 +2,7 @@
 use Rattle.std.specs.Prelude.{Bool, if◌then◌else◌, Result, Ok, Err}
 use Rattle.kat_tokens.specs.declared.fault.TextFault.{TextFault}
 use Rattle.kat_tokens.specs.declared.fault.TextFault.TheVariants.{NumberTooWide}
-use Rattle.kat_syntax.specs.declared.reading.Around.{Around}
+use Rattle.kat_syntax.specs.declared.reading.Context.{Context}
 use Rattle.kat_syntax.specs.declared.reading.Operator.{Operator}
 use Rattle.kat_syntax.specs.declared.reading.Operator.TheVariants.{Add, Subtract, Multiply}
 use Rattle.kat_syntax.specs.Parsed.{◌>>=◌}
@@ -27,7 +27,7 @@ Folded E B L T M mul = (E → E) → Result E TextFault
 Folded E B L T M fac = Result E TextFault
 
 -- by the form of the phrase
-abbrev pub fold : {E B L T M : Type 0} → Actions E B L T M → Around → {x : Symbol} → Phrase x → Folded E B L T M x
+abbrev pub fold : {E B L T M : Type 0} → Actions E B L T M → Context → {x : Symbol} → Phrase x → Folded E B L T M x
 fold g c (one_prod p) = λ k. fold g c p g.one_of >>= λ v. Ok (g.sum (k v))
 fold g c (more_prods p l t) = λ k. fold g c p g.one_of >>= λ v. fold g c t (g.more (k v))
 fold g c (one_star s) = λ k. fold g c s >>= λ v. Ok (g.product (k v))

@@ -1,4 +1,4 @@
-pub mod Signs
+pub mod Terminals
 pub mod Lexemes
 pub mod Parsed
 pub mod Actions

@@ -2,7 +2,7 @@
 use Rattle.std.specs.Prelude.{◌≡◌, ◌<◌, ◌≤◌, ℕ, List, [], ◌∷◌, drop, Bool, if◌then◌else◌, Result, Ok, Err}
 use Rattle.kat_tokens.specs.declared.fault.TextFault.{TextFault}
 use Rattle.kat_tokens.specs.declared.fault.TextFault.TheVariants.{NoMemory, Syntax}
-use Rattle.kat_syntax.specs.declared.sign.Sign.{Sign}
+use Rattle.kat_syntax.specs.declared.terminal.Terminal.{Terminal}
 use Rattle.kat_syntax.specs.Lexemes.{Lexeme, lexeme}
 
 -- a value and the tokens that follow, or a fault
@@ -37,13 +37,13 @@ before ts m = m >>= λ v. Ok (v, ts)
 abbrev pub change : {V W : Type 0} → (V → W) → Parsed V → Parsed W
 change f m = m >>= λ x. Ok (f x.0, x.1)
 
--- one token of that sign
-abbrev pub wants : (Sign → Bool) → List Lexeme → Result (List Lexeme) TextFault
+-- one token of that terminal
+abbrev pub wants : (Terminal → Bool) → List Lexeme → Result (List Lexeme) TextFault
 wants p [] = Err (Syntax at_end)
 wants p (lexeme s at text ∷ ts) = if p s then Ok ts else Err (Syntax at)
 
--- a value, and then one token of that sign
-abbrev pub then_wants : {V : Type 0} → (Sign → Bool) → Parsed V → Parsed V
+-- a value, and then one token of that terminal
+abbrev pub then_wants : {V : Type 0} → (Terminal → Bool) → Parsed V → Parsed V
 then_wants p m = m >>= λ x. wants p x.1 >>= λ r. Ok (x.0, r)
 
 -- a value of the program is what was to be made, or the fault that was to come

@@ -3,7 +3,7 @@ use Rattle.std.specs.Prelude.{◌≡◌, ◌↔◌, ℕ, List, true, false, Resu
 use Rattle.kat_tokens.specs.declared.fault.TextFault.{TextFault}
 use Rattle.kat_syntax.specs.Lexemes.{Lexeme}
 use Rattle.kat_syntax.specs.Parsed.{◌>>=◌}
-use Rattle.kat_syntax.specs.Actions.{ExprActions, CondActions, Actions, around}
+use Rattle.kat_syntax.specs.Actions.{ExprActions, CondActions, Actions, context}
 use Rattle.kat_syntax.specs.Exprs.{parse_expr, sums}
 use Rattle.kat_syntax.specs.Conds.{parse_cond, disjunction}
 use Rattle.kat_syntax.specs.Terms.{parse_term, choice}
@@ -53,15 +53,15 @@ scanning = record {
 
 -- where the term at the front ends, with so many constructs open around it
 abbrev pub scan_term : ℕ → List Lexeme → Result (List Lexeme) TextFault
-scan_term d ts = parse_term scanning choice (around d false true) ts >>= λ x. Ok x.1
+scan_term d ts = parse_term scanning choice (context d false true) ts >>= λ x. Ok x.1
 
 -- likewise of a condition
 abbrev pub scan_cond : ℕ → List Lexeme → Result (List Lexeme) TextFault
-scan_cond d ts = parse_cond scanning_conds disjunction (around d false true) ts >>= λ x. Ok x.1
+scan_cond d ts = parse_cond scanning_conds disjunction (context d false true) ts >>= λ x. Ok x.1
 
 -- and of an expression
 abbrev pub scan_expr : ℕ → List Lexeme → Result (List Lexeme) TextFault
-scan_expr d ts = parse_expr scanning_exprs sums (around d false true) ts >>= λ x. Ok x.1
+scan_expr d ts = parse_expr scanning_exprs sums (context d false true) ts >>= λ x. Ok x.1
 
 -- the test takes the phrases of the symbol, and no other tokens
 abbrev pub TakesPhrases : Symbol → (ℕ → List Lexeme → Result (List Lexeme) TextFault) → Type 0

@@ -1,9 +1,9 @@
 -- Terms, read from the front of the tokens.
 use Rattle.std.specs.Prelude.{ℕ, zero, suc, ◌+◌, ◌*◌, List, [], ◌∷◌, length, drop, if◌then◌else◌, Ok, Err}
 use Rattle.kat_tokens.specs.declared.fault.TextFault.TheVariants.{NoMemory, Syntax}
-use Rattle.kat_syntax.specs.declared.sign.Sign.TheVariants.{RoundOpen, SquareOpen, Bang, Zero, One, Name}
-use Rattle.kat_syntax.specs.declared.reading.Around.{Around}
-use Rattle.kat_syntax.specs.Lexemes.{Lexeme, lexeme, heads, is_plus, is_dot, is_star, closes_round, closes_square}
+use Rattle.kat_syntax.specs.declared.terminal.Terminal.TheVariants.{RoundOpen, RoundClose, SquareOpen, SquareClose, Bang, Star, Plus, Dot, Zero, One, Name}
+use Rattle.kat_syntax.specs.declared.reading.Context.{Context}
+use Rattle.kat_syntax.specs.Lexemes.{Lexeme, lexeme, heads, is_terminal}
 use Rattle.kat_syntax.specs.Parsed.{Parsed, ◌>>=◌, at_end, before, change, then_wants, place_of}
 use Rattle.kat_syntax.specs.Actions.{Actions, enter, enter_not}
 use Rattle.kat_syntax.specs.Conds.{parse_cond, disjunction}
@@ -18,22 +18,22 @@ pub data TermAim (M : Type 0) : Type 0 where
 
 -- what reads an aim from the front of tokens, with what is known around it
 abbrev pub TermParser : Type 0 → Type 0 → Type 0
-TermParser T M = TermAim M → Around → List Lexeme → Parsed T
+TermParser T M = TermAim M → Context → List Lexeme → Parsed T
 
 -- a term and the parenthesis that closes it
-abbrev pub parenthesis : {E B L T M : Type 0} → Actions E B L T M → TermParser T M → Around → ℕ → List Lexeme → Parsed T
-parenthesis g f c at ts = enter c at >>= λ d. change g.enclosed (then_wants closes_round (f choice d ts))
+abbrev pub parenthesis : {E B L T M : Type 0} → Actions E B L T M → TermParser T M → Context → ℕ → List Lexeme → Parsed T
+parenthesis g f c at ts = enter c at >>= λ d. change g.enclosed (then_wants (is_terminal RoundClose) (f choice d ts))
 
 -- a condition and the bracket that closes it
-abbrev pub bracket : {E B L T M : Type 0} → Actions E B L T M → Around → ℕ → List Lexeme → Parsed T
-bracket g c at ts = enter c at >>= λ d. change g.tested (then_wants closes_square (parse_cond g.conds disjunction d ts))
+abbrev pub bracket : {E B L T M : Type 0} → Actions E B L T M → Context → ℕ → List Lexeme → Parsed T
+bracket g c at ts = enter c at >>= λ d. change g.tested (then_wants (is_terminal SquareClose) (parse_cond g.conds disjunction d ts))
 
 -- a `!` and its operand
-abbrev pub negation : {E B L T M : Type 0} → Actions E B L T M → TermParser T M → Around → ℕ → List Lexeme → Parsed T
+abbrev pub negation : {E B L T M : Type 0} → Actions E B L T M → TermParser T M → Context → ℕ → List Lexeme → Parsed T
 negation g f c at ts = enter_not c at >>= λ d. change g.negated (f unit d ts)
 
 -- a unit, by its first token
-abbrev pub unit_by : {E B L T M : Type 0} → Actions E B L T M → TermParser T M → Around → List Lexeme → Parsed T
+abbrev pub unit_by : {E B L T M : Type 0} → Actions E B L T M → TermParser T M → Context → List Lexeme → Parsed T
 unit_by g f c [] = Err (Syntax at_end)
 unit_by g f c (lexeme Zero at text ∷ ts) = Ok (g.zero, ts)
 unit_by g f c (lexeme One at text ∷ ts) = Ok (g.one, ts)
@@ -44,15 +44,15 @@ unit_by g f c (lexeme RoundOpen at text ∷ ts) = parenthesis g f c at ts
 unit_by g f c (lexeme _ at text ∷ ts) = Err (Syntax at)
 
 -- the star after a unit, if one stands there
-abbrev pub star_or_not : {E B L T M : Type 0} → Actions E B L T M → Around → T → List Lexeme → Parsed T
-star_or_not g c t ts = if heads is_star ts then before (drop 1 ts) (g.starred c (place_of ts) t) else Ok (t, ts)
+abbrev pub star_or_not : {E B L T M : Type 0} → Actions E B L T M → Context → T → List Lexeme → Parsed T
+star_or_not g c t ts = if heads (is_terminal Star) ts then before (drop 1 ts) (g.starred c (place_of ts) t) else Ok (t, ts)
 
 -- one step: each aim by aims on fewer tokens, or on as many with a lower rank
 abbrev pub term_by : {E B L T M : Type 0} → Actions E B L T M → TermParser T M → TermParser T M
 term_by g f choice c ts = f sequence c ts >>= λ x. f (choice_after (g.one_of x.0)) c x.1
-term_by g f (choice_after m) c ts = if heads is_plus ts then (f sequence c (drop 1 ts) >>= λ x. f (choice_after (g.more m x.0)) c x.1) else Ok (g.sum m, ts)
+term_by g f (choice_after m) c ts = if heads (is_terminal Plus) ts then (f sequence c (drop 1 ts) >>= λ x. f (choice_after (g.more m x.0)) c x.1) else Ok (g.sum m, ts)
 term_by g f sequence c ts = f unit c ts >>= λ x. star_or_not g c x.0 x.1 >>= λ y. f (sequence_after (g.one_of y.0)) c y.1
-term_by g f (sequence_after m) c ts = if heads is_dot ts then (f unit c (drop 1 ts) >>= λ x. star_or_not g c x.0 x.1 >>= λ y. f (sequence_after (g.more m y.0)) c y.1) else Ok (g.product m, ts)
+term_by g f (sequence_after m) c ts = if heads (is_terminal Dot) ts then (f unit c (drop 1 ts) >>= λ x. star_or_not g c x.0 x.1 >>= λ y. f (sequence_after (g.more m y.0)) c y.1) else Ok (g.product m, ts)
 term_by g f unit c ts = unit_by g f c ts
 
 -- the aims that may stand before a token is read, in descending order

@@ -10,9 +10,10 @@ ghost use Rattle.kat_syntax.specs.Parsed.{Reads, Goes};
 ghost use Rattle.kat_syntax.specs.Conds.{after_close, begins_expr, relation, comparison, parenthesis, negation, parse_cond, disjunction, conjunction, literal};
 
 use crate::expr::read_expr;
-use crate::reading::{Around, Reading};
-use crate::sign::{
-    Sign, close_round, is_and_at, is_or_at, is_round_close_at, is_round_open_at, sign_at, text_at,
+use crate::reading::{Context, Reading};
+use crate::terminal::{
+    Terminal, expect, is_at, is_round_close_at, is_round_open_at, syntax_fault_at, terminal_at,
+    text_at,
 };
 use kat_model::Rel;
 use kat_tokens::{TextFault, Token};
@@ -40,8 +41,11 @@ fn begins_expr(toks: &[Token], i: usize) -> bool
     ensures { result ≡ begins_expr (drop i (lexemes toks.now)) }
 {
     matches!(
-        sign_at(toks, i),
-        Some((Sign::Plus | Sign::Minus | Sign::Star | Sign::Compares(_), _))
+        terminal_at(toks, i),
+        Some((
+            Terminal::Plus | Terminal::Minus | Terminal::Star | Terminal::Compares(_),
+            _
+        ))
     )
 }
 
@@ -49,10 +53,9 @@ fn relation(toks: &[Token], i: usize) -> Result<(Rel, usize), TextFault>
     ensures value { Reads ⊥ (λ r. r) (lexemes toks.now) result (relation (drop i (lexemes toks.now))) }
     ensures goes { Goes i (length toks.now) result }
 {
-    match sign_at(toks, i) {
-        Some((Sign::Compares(relation), _)) => Ok((relation, i + 1)),
-        Some((_, at)) => Err(TextFault::Syntax(at)),
-        None => Err(TextFault::Syntax(usize::MAX)),
+    match terminal_at(toks, i) {
+        Some((Terminal::Compares(relation), _)) => Ok((relation, i + 1)),
+        _ => Err(syntax_fault_at(toks, i)),
     }
 }
 
@@ -60,14 +63,14 @@ fn comparison<R: Reading>(
     reading: &R,
     toks: &[Token],
     from: usize,
-    around: Around,
+    context: Context,
 ) -> Result<(R::Cond, usize), TextFault>
-    ensures value { Reads R.memory R.cond (lexemes toks.now) result (comparison (R.actions reading.now).conds around (drop from (lexemes toks.now))) }
+    ensures value { Reads R.memory R.cond (lexemes toks.now) result (comparison (R.actions reading.now).conds context (drop from (lexemes toks.now))) }
     ensures goes { Goes from (length toks.now) result }
 {
-    let (left, next) = read_expr(reading, toks, from, around)?;
+    let (left, next) = read_expr(reading, toks, from, context)?;
     let (relation, next) = relation(toks, next)?;
-    let (right, end) = read_expr(reading, toks, next, around)?;
+    let (right, end) = read_expr(reading, toks, next, context)?;
     Ok((reading.compare(relation, left, right), end))
 }
 
@@ -76,12 +79,12 @@ pub fn read_cond<R: Reading>(
     reading: &R,
     toks: &[Token],
     from: usize,
-    around: Around,
+    context: Context,
 ) -> Result<(R::Cond, usize), TextFault>
-    ensures value { Reads R.memory R.cond (lexemes toks.now) result (parse_cond (R.actions reading.now).conds disjunction around (drop from (lexemes toks.now))) }
+    ensures value { Reads R.memory R.cond (lexemes toks.now) result (parse_cond (R.actions reading.now).conds disjunction context (drop from (lexemes toks.now))) }
     ensures goes { Goes from (length toks.now) result }
 {
-    disjunction(reading, toks, from, around)
+    disjunction(reading, toks, from, context)
 }
 
 #[cycle(conds)]
@@ -90,16 +93,16 @@ fn disjunction<R: Reading>(
     reading: &R,
     toks: &[Token],
     from: usize,
-    around: Around,
+    context: Context,
 ) -> Result<(R::Cond, usize), TextFault>
-    ensures value { Reads R.memory R.cond (lexemes toks.now) result (parse_cond (R.actions reading.now).conds disjunction around (drop from (lexemes toks.now))) }
+    ensures value { Reads R.memory R.cond (lexemes toks.now) result (parse_cond (R.actions reading.now).conds disjunction context (drop from (lexemes toks.now))) }
     ensures goes { Goes from (length toks.now) result }
 {
-    let (first, next) = conjunction(reading, toks, from, around)?;
+    let (first, next) = conjunction(reading, toks, from, context)?;
     let mut list = reading.one_cond(first)?;
     let mut at = next;
-    'parts: while is_or_at(toks, at) {
-        let (more, next) = conjunction(reading, toks, at + 1, around)?;
+    'parts: while is_at(toks, at, Terminal::Or) {
+        let (more, next) = conjunction(reading, toks, at + 1, context)?;
         list = reading.more_conds(list, more)?;
         at = next;
     }
@@ -112,16 +115,16 @@ fn conjunction<R: Reading>(
     reading: &R,
     toks: &[Token],
     from: usize,
-    around: Around,
+    context: Context,
 ) -> Result<(R::Cond, usize), TextFault>
-    ensures value { Reads R.memory R.cond (lexemes toks.now) result (parse_cond (R.actions reading.now).conds conjunction around (drop from (lexemes toks.now))) }
+    ensures value { Reads R.memory R.cond (lexemes toks.now) result (parse_cond (R.actions reading.now).conds conjunction context (drop from (lexemes toks.now))) }
     ensures goes { Goes from (length toks.now) result }
 {
-    let (first, next) = literal(reading, toks, from, around)?;
+    let (first, next) = literal(reading, toks, from, context)?;
     let mut list = reading.one_cond(first)?;
     let mut at = next;
-    'parts: while is_and_at(toks, at) {
-        let (more, next) = literal(reading, toks, at + 1, around)?;
+    'parts: while is_at(toks, at, Terminal::And) {
+        let (more, next) = literal(reading, toks, at + 1, context)?;
         list = reading.more_conds(list, more)?;
         at = next;
     }
@@ -134,35 +137,35 @@ fn literal<R: Reading>(
     reading: &R,
     toks: &[Token],
     from: usize,
-    around: Around,
+    context: Context,
 ) -> Result<(R::Cond, usize), TextFault>
-    ensures value { Reads R.memory R.cond (lexemes toks.now) result (parse_cond (R.actions reading.now).conds literal around (drop from (lexemes toks.now))) }
+    ensures value { Reads R.memory R.cond (lexemes toks.now) result (parse_cond (R.actions reading.now).conds literal context (drop from (lexemes toks.now))) }
     ensures goes { Goes from (length toks.now) result }
 {
-    let Some((sign, at)) = sign_at(toks, from) else {
-        return Err(TextFault::Syntax(usize::MAX));
+    let Some((terminal, at)) = terminal_at(toks, from) else {
+        return Err(syntax_fault_at(toks, from));
     };
-    match sign {
-        Sign::True => Ok((reading.always(), from + 1)),
-        Sign::False => Ok((reading.never(), from + 1)),
-        Sign::Bang => negation(reading, toks, from + 1, around, at),
-        Sign::Name => {
+    match terminal {
+        Terminal::True => Ok((reading.always(), from + 1)),
+        Terminal::False => Ok((reading.never(), from + 1)),
+        Terminal::Bang => negation(reading, toks, from + 1, context, at),
+        Terminal::Name => {
             if begins_expr(toks, from + 1) {
-                return comparison(reading, toks, from, around);
+                return comparison(reading, toks, from, context);
             }
             Ok((
-                reading.named_cond(around, at, text_at(toks, from))?,
+                reading.named_cond(context, at, text_at(toks, from))?,
                 from + 1,
             ))
         }
-        Sign::RoundOpen => {
+        Terminal::RoundOpen => {
             if begins_expr(toks, after_close(toks, from + 1)) {
-                return comparison(reading, toks, from, around);
+                return comparison(reading, toks, from, context);
             }
-            parenthesis(reading, toks, from + 1, around, at)
+            parenthesis(reading, toks, from + 1, context, at)
         }
-        Sign::Zero | Sign::One | Sign::Number(_) | Sign::WideNumber => {
-            comparison(reading, toks, from, around)
+        Terminal::Zero | Terminal::One | Terminal::Number(_) | Terminal::WideNumber => {
+            comparison(reading, toks, from, context)
         }
         _ => Err(TextFault::Syntax(at)),
     }
@@ -173,13 +176,13 @@ fn negation<R: Reading>(
     reading: &R,
     toks: &[Token],
     from: usize,
-    around: Around,
+    context: Context,
     at: usize,
 ) -> Result<(R::Cond, usize), TextFault>
-    ensures value { Reads R.memory R.cond (lexemes toks.now) result (negation (R.actions reading.now).conds (parse_cond (R.actions reading.now).conds) around at (drop from (lexemes toks.now))) }
+    ensures value { Reads R.memory R.cond (lexemes toks.now) result (negation (R.actions reading.now).conds (parse_cond (R.actions reading.now).conds) context at (drop from (lexemes toks.now))) }
     ensures goes { Goes from (length toks.now) result }
 {
-    let inside = around.enter_not(at)?;
+    let inside = context.enter_not(at)?;
     let (operand, end) = literal(reading, toks, from, inside)?;
     Ok((reading.negated_cond(operand)?, end))
 }
@@ -189,14 +192,14 @@ fn parenthesis<R: Reading>(
     reading: &R,
     toks: &[Token],
     from: usize,
-    around: Around,
+    context: Context,
     at: usize,
 ) -> Result<(R::Cond, usize), TextFault>
-    ensures value { Reads R.memory R.cond (lexemes toks.now) result (parenthesis (R.actions reading.now).conds (parse_cond (R.actions reading.now).conds) around at (drop from (lexemes toks.now))) }
+    ensures value { Reads R.memory R.cond (lexemes toks.now) result (parenthesis (R.actions reading.now).conds (parse_cond (R.actions reading.now).conds) context at (drop from (lexemes toks.now))) }
     ensures goes { Goes from (length toks.now) result }
 {
-    let inside = around.enter(at)?;
+    let inside = context.enter(at)?;
     let (cond, end) = disjunction(reading, toks, from, inside)?;
-    let end = close_round(toks, end)?;
+    let end = expect(toks, end, Terminal::RoundClose)?;
     Ok((reading.enclosed_cond(cond), end))
 }

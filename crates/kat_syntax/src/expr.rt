@@ -4,15 +4,15 @@ ghost use Rattle.kat_syntax.specs.Lexemes.{lexemes};
 ghost use Rattle.kat_syntax.specs.Parsed.{Reads, Goes};
 ghost use Rattle.kat_syntax.specs.Exprs.{parse_expr, sums, products, factor, operator_at, parenthesis};
 
-use crate::reading::{Around, Operator, Reading};
-use crate::sign::{Sign, close_round, is_star_at, is_sum_at, sign_at, text_at};
+use crate::reading::{Context, Operator, Reading};
+use crate::terminal::{Terminal, expect, is_at, is_sum_at, syntax_fault_at, terminal_at, text_at};
 use kat_tokens::{TextFault, Token};
 
 fn operator_at(toks: &[Token], i: usize) -> Operator
     ensures { result ≡ operator_at (drop i (lexemes toks.now)) }
 {
-    match sign_at(toks, i) {
-        Some((Sign::Minus, _)) => Operator::Subtract,
+    match terminal_at(toks, i) {
+        Some((Terminal::Minus, _)) => Operator::Subtract,
         _ => Operator::Add,
     }
 }
@@ -22,12 +22,12 @@ pub fn read_expr<R: Reading>(
     reading: &R,
     toks: &[Token],
     from: usize,
-    around: Around,
+    context: Context,
 ) -> Result<(R::Expr, usize), TextFault>
-    ensures value { Reads R.memory R.expr (lexemes toks.now) result (parse_expr (R.actions reading.now).conds.exprs sums around (drop from (lexemes toks.now))) }
+    ensures value { Reads R.memory R.expr (lexemes toks.now) result (parse_expr (R.actions reading.now).conds.exprs sums context (drop from (lexemes toks.now))) }
     ensures goes { Goes from (length toks.now) result }
 {
-    sum(reading, toks, from, around)
+    sum(reading, toks, from, context)
 }
 
 #[cycle(exprs)]
@@ -36,17 +36,17 @@ fn sum<R: Reading>(
     reading: &R,
     toks: &[Token],
     from: usize,
-    around: Around,
+    context: Context,
 ) -> Result<(R::Expr, usize), TextFault>
-    ensures value { Reads R.memory R.expr (lexemes toks.now) result (parse_expr (R.actions reading.now).conds.exprs sums around (drop from (lexemes toks.now))) }
+    ensures value { Reads R.memory R.expr (lexemes toks.now) result (parse_expr (R.actions reading.now).conds.exprs sums context (drop from (lexemes toks.now))) }
     ensures goes { Goes from (length toks.now) result }
 {
-    let (first, next) = product(reading, toks, from, around)?;
+    let (first, next) = product(reading, toks, from, context)?;
     let mut all = first;
     let mut at = next;
     'parts: while is_sum_at(toks, at) {
         let operator = operator_at(toks, at);
-        let (more, next) = product(reading, toks, at + 1, around)?;
+        let (more, next) = product(reading, toks, at + 1, context)?;
         all = reading.join(operator, all, more)?;
         at = next;
     }
@@ -59,16 +59,16 @@ fn product<R: Reading>(
     reading: &R,
     toks: &[Token],
     from: usize,
-    around: Around,
+    context: Context,
 ) -> Result<(R::Expr, usize), TextFault>
-    ensures value { Reads R.memory R.expr (lexemes toks.now) result (parse_expr (R.actions reading.now).conds.exprs products around (drop from (lexemes toks.now))) }
+    ensures value { Reads R.memory R.expr (lexemes toks.now) result (parse_expr (R.actions reading.now).conds.exprs products context (drop from (lexemes toks.now))) }
     ensures goes { Goes from (length toks.now) result }
 {
-    let (first, next) = factor(reading, toks, from, around)?;
+    let (first, next) = factor(reading, toks, from, context)?;
     let mut all = first;
     let mut at = next;
-    'parts: while is_star_at(toks, at) {
-        let (more, next) = factor(reading, toks, at + 1, around)?;
+    'parts: while is_at(toks, at, Terminal::Star) {
+        let (more, next) = factor(reading, toks, at + 1, context)?;
         all = reading.join(Operator::Multiply, all, more)?;
         at = next;
     }
@@ -81,21 +81,24 @@ fn factor<R: Reading>(
     reading: &R,
     toks: &[Token],
     from: usize,
-    around: Around,
+    context: Context,
 ) -> Result<(R::Expr, usize), TextFault>
-    ensures value { Reads R.memory R.expr (lexemes toks.now) result (parse_expr (R.actions reading.now).conds.exprs factor around (drop from (lexemes toks.now))) }
+    ensures value { Reads R.memory R.expr (lexemes toks.now) result (parse_expr (R.actions reading.now).conds.exprs factor context (drop from (lexemes toks.now))) }
     ensures goes { Goes from (length toks.now) result }
 {
-    let Some((sign, at)) = sign_at(toks, from) else {
-        return Err(TextFault::Syntax(usize::MAX));
+    let Some((terminal, at)) = terminal_at(toks, from) else {
+        return Err(syntax_fault_at(toks, from));
     };
-    match sign {
-        Sign::Zero => Ok((reading.number(around, at, 0)?, from + 1)),
-        Sign::One => Ok((reading.number(around, at, 1)?, from + 1)),
-        Sign::Number(n) => Ok((reading.number(around, at, n)?, from + 1)),
-        Sign::WideNumber => Err(TextFault::NumberTooWide(at)),
-        Sign::Name => Ok((reading.variable(around, at, text_at(toks, from))?, from + 1)),
-        Sign::RoundOpen => parenthesis(reading, toks, from + 1, around, at),
+    match terminal {
+        Terminal::Zero => Ok((reading.number(context, at, 0)?, from + 1)),
+        Terminal::One => Ok((reading.number(context, at, 1)?, from + 1)),
+        Terminal::Number(n) => Ok((reading.number(context, at, n)?, from + 1)),
+        Terminal::WideNumber => Err(TextFault::NumberTooWide(at)),
+        Terminal::Name => Ok((
+            reading.variable(context, at, text_at(toks, from))?,
+            from + 1,
+        )),
+        Terminal::RoundOpen => parenthesis(reading, toks, from + 1, context, at),
         _ => Err(TextFault::Syntax(at)),
     }
 }
@@ -105,14 +108,14 @@ fn parenthesis<R: Reading>(
     reading: &R,
     toks: &[Token],
     from: usize,
-    around: Around,
+    context: Context,
     at: usize,
 ) -> Result<(R::Expr, usize), TextFault>
-    ensures value { Reads R.memory R.expr (lexemes toks.now) result (parenthesis (R.actions reading.now).conds.exprs (parse_expr (R.actions reading.now).conds.exprs) around at (drop from (lexemes toks.now))) }
+    ensures value { Reads R.memory R.expr (lexemes toks.now) result (parenthesis (R.actions reading.now).conds.exprs (parse_expr (R.actions reading.now).conds.exprs) context at (drop from (lexemes toks.now))) }
     ensures goes { Goes from (length toks.now) result }
 {
-    let inside = around.enter(at)?;
+    let inside = context.enter(at)?;
     let (expr, end) = sum(reading, toks, from, inside)?;
-    let end = close_round(toks, end)?;
+    let end = expect(toks, end, Terminal::RoundClose)?;
     Ok((reading.enclosed_expr(expr), end))
 }

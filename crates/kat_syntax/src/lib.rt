@@ -7,20 +7,18 @@ mod expr;
 mod laws;
 mod reading;
 mod scan;
-mod sign;
 mod term;
-#[cfg(test)]
-mod tests;
+mod terminal;
 
 pub use cond::read_cond;
 pub use expr::read_expr;
 pub use laws::{
     grammar_is_scanned, phrases_are_folded, phrases_are_unique, phrases_end, readings_are_phrases,
 };
-pub use reading::{Around, Operator, Reading};
-pub use scan::{cond_end, expr_end, term_end};
-pub use sign::{
-    Keyword, Separator, Sign, close_round, close_square, is_and_at, is_dot_at, is_or_at,
-    is_plus_at, is_star_at, is_sum_at, sign_at, sign_of, text_at,
-};
+pub use reading::{Context, Operator, Reading};
+pub use scan::{Scan, cond_end, expr_end, term_end};
 pub use term::read_term;
+pub use terminal::{
+    Keyword, Separator, Terminal, expect, is_at, is_sum_at, place_at, syntax_fault_at, terminal_at,
+    terminal_of, text_at,
+};

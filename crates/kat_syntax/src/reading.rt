@@ -1,13 +1,10 @@
 //! What is made of the parts of a phrase while it is read.
-ghost use Rattle.std.specs.Prelude.{◌≡◌, ℕ, Ok};
+ghost use Rattle.std.specs.Prelude.{◌≡◌, ℕ, Ok, false};
 ghost use Rattle.kat_syntax.specs.Parsed.{Makes};
-ghost use Rattle.kat_syntax.specs.Actions.{Actions, enter, enter_not};
+ghost use Rattle.kat_syntax.specs.Actions.{Actions, context, enter, enter_not};
 
-use kat_model::Rel;
+use kat_model::{MAX_OPEN, Rel};
 use kat_tokens::TextFault;
-
-// How many constructs may be open at one place.
-const MOST_OPEN: usize = 200;
 
 /// An operation on numbers. Lists of operations group to the left.
 #[derive(Clone, Copy, Debug, PartialEq, Eq)]
@@ -22,7 +19,7 @@ pub enum Operator {
 
 /// What is known of a place from what is around it.
 #[derive(Clone, Copy, Debug, PartialEq, Eq)]
-pub struct Around {
+pub struct Context {
     /// How many constructs are open: each `(`, `[` or `{` that is not closed yet, and each `!` whose operand is read.
     pub depth: usize,
     /// Whether the place is in the operand of a `!`.
@@ -31,16 +28,27 @@ pub struct Around {
     pub compares: bool,
 }
 
-impl Around {
+impl Context {
+    /// What is known outside of a `!`, with `depth` constructs open.
+    pub fn outermost(depth: usize, compares: bool) -> Context
+        ensures { result ≡ context depth false compares }
+    {
+        Context {
+            depth,
+            negated: false,
+            compares,
+        }
+    }
+
     /// What is known inside a parenthesis or bracket that opens at the place `at`. `TooDeep` with that place comes
     /// exactly where 200 or more constructs are open already.
-    pub fn enter(self, at: usize) -> Result<Around, TextFault>
+    pub fn enter(self, at: usize) -> Result<Context, TextFault>
         ensures { result ≡ enter self at }
     {
-        if self.depth >= MOST_OPEN {
+        if self.depth >= MAX_OPEN {
             return Err(TextFault::TooDeep(at));
         }
-        Ok(Around {
+        Ok(Context {
             depth: self.depth + 1,
             negated: self.negated,
             compares: self.compares,
@@ -48,11 +56,11 @@ impl Around {
     }
 
     /// What is known in the operand of a `!` at the place `at`, with `TooDeep` as for a bracket.
-    pub fn enter_not(self, at: usize) -> Result<Around, TextFault>
+    pub fn enter_not(self, at: usize) -> Result<Context, TextFault>
         ensures { result ≡ enter_not self at }
     {
         let inside = self.enter(at)?;
-        Ok(Around {
+        Ok(Context {
             negated: true,
             ..inside
         })
@@ -102,12 +110,12 @@ pub trait Reading {
     ghost actions: { Self → Actions E B L T M };
 
     /// The number `n` in an expression.
-    fn number(&self, around: Around, at: usize, n: u64) -> Result<Self::Expr, TextFault>
-        ensures { Makes memory expr result ((actions self.now).conds.exprs.number around at n) };
+    fn number(&self, context: Context, at: usize, n: u64) -> Result<Self::Expr, TextFault>
+        ensures { Makes memory expr result ((actions self.now).conds.exprs.number context at n) };
 
     /// A name in an expression.
-    fn variable(&self, around: Around, at: usize, name: &str) -> Result<Self::Expr, TextFault>
-        ensures { Makes memory expr result ((actions self.now).conds.exprs.variable around at name.now) };
+    fn variable(&self, context: Context, at: usize, name: &str) -> Result<Self::Expr, TextFault>
+        ensures { Makes memory expr result ((actions self.now).conds.exprs.variable context at name.now) };
 
     /// Two expressions with an operator between them.
     fn join(
@@ -131,8 +139,8 @@ pub trait Reading {
         ensures { cond result ≡ (actions self.now).conds.never };
 
     /// A name that is a condition by itself.
-    fn named_cond(&self, around: Around, at: usize, name: &str) -> Result<Self::Cond, TextFault>
-        ensures { Makes memory cond result ((actions self.now).conds.named around at name.now) };
+    fn named_cond(&self, context: Context, at: usize, name: &str) -> Result<Self::Cond, TextFault>
+        ensures { Makes memory cond result ((actions self.now).conds.named context at name.now) };
 
     /// Two expressions with a relation between them.
     fn compare(&self, relation: Rel, left: Self::Expr, right: Self::Expr) -> Self::Cond
@@ -171,8 +179,8 @@ pub trait Reading {
         ensures { term result ≡ (actions self.now).one };
 
     /// A name in a term.
-    fn named_term(&self, around: Around, at: usize, name: &str) -> Result<Self::Term, TextFault>
-        ensures { Makes memory term result ((actions self.now).named around at name.now) };
+    fn named_term(&self, context: Context, at: usize, name: &str) -> Result<Self::Term, TextFault>
+        ensures { Makes memory term result ((actions self.now).named context at name.now) };
 
     /// The complement of a term.
     fn negated_term(&self, operand: Self::Term) -> Result<Self::Term, TextFault>
@@ -189,11 +197,11 @@ pub trait Reading {
     /// The star of a term, with the place of its `*`.
     fn starred(
         &self,
-        around: Around,
+        context: Context,
         at: usize,
         operand: Self::Term,
     ) -> Result<Self::Term, TextFault>
-        ensures { Makes memory term result ((actions self.now).starred around at (term operand)) };
+        ensures { Makes memory term result ((actions self.now).starred context at (term operand)) };
 
     /// A list of one term.
     fn one_term(&self, first: Self::Term) -> Result<Self::Terms, TextFault>

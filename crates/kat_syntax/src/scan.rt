@@ -3,18 +3,17 @@ ghost use Rattle.std.specs.Prelude.{◌≡◌, ℕ, ◌+◌, ◌<◌, ◌≤◌,
 ghost use Rattle.kat_syntax.specs.Lexemes.{lexemes};
 ghost use Rattle.kat_syntax.specs.Parsed.{Wants};
 ghost use Rattle.kat_syntax.specs.Scans.{scanning, scan_term, scan_cond, scan_expr};
-ghost use Rattle.kat_syntax.specs.Actions.{around};
 ghost use Rattle.kat_syntax.specs.Faults.{IsSyntaxFault};
 
 use crate::cond::read_cond;
 use crate::expr::read_expr;
-use crate::reading::{Around, Operator, Reading};
+use crate::reading::{Context, Operator, Reading};
 use crate::term::read_term;
 use kat_model::Rel;
 use kat_tokens::{TextFault, Token};
 
-// Makes nothing, and refuses no part.
-struct Scan;
+/// The reading that makes nothing and refuses no part: what is read by it tells only whether the syntax is right.
+pub struct Scan;
 
 impl Reading for Scan {
     type Expr = ();
@@ -51,11 +50,11 @@ impl Reading for Scan {
 
     ghost actions = { λ s. scanning };
 
-    fn number(&self, _: Around, _: usize, _: u64) -> Result<(), TextFault> {
+    fn number(&self, _: Context, _: usize, _: u64) -> Result<(), TextFault> {
         Ok(())
     }
 
-    fn variable(&self, _: Around, _: usize, _: &str) -> Result<(), TextFault> {
+    fn variable(&self, _: Context, _: usize, _: &str) -> Result<(), TextFault> {
         Ok(())
     }
 
@@ -69,7 +68,7 @@ impl Reading for Scan {
 
     fn never(&self) {}
 
-    fn named_cond(&self, _: Around, _: usize, _: &str) -> Result<(), TextFault> {
+    fn named_cond(&self, _: Context, _: usize, _: &str) -> Result<(), TextFault> {
         Ok(())
     }
 
@@ -101,7 +100,7 @@ impl Reading for Scan {
 
     fn one(&self) {}
 
-    fn named_term(&self, _: Around, _: usize, _: &str) -> Result<(), TextFault> {
+    fn named_term(&self, _: Context, _: usize, _: &str) -> Result<(), TextFault> {
         Ok(())
     }
 
@@ -115,7 +114,7 @@ impl Reading for Scan {
 
     fn enclosed_term(&self, _: ()) {}
 
-    fn starred(&self, _: Around, _: usize, _: ()) -> Result<(), TextFault> {
+    fn starred(&self, _: Context, _: usize, _: ()) -> Result<(), TextFault> {
         Ok(())
     }
 
@@ -136,16 +135,6 @@ impl Reading for Scan {
     }
 }
 
-fn outermost(depth: usize) -> Around
-    ensures { result ≡ around depth false true }
-{
-    Around {
-        depth,
-        negated: false,
-        compares: true,
-    }
-}
-
 /// The index after the term that begins at `from`, with `depth` constructs open around it; or `Syntax`, `TooDeep` or
 /// `NumberTooWide`, whichever is met first, with the place in bytes of its token. A `Syntax` after the last token has the
 /// place `usize::MAX`. It takes no memory, and time in proportion to the number of tokens.
@@ -154,7 +143,7 @@ pub fn term_end(toks: &[Token], from: usize, depth: usize) -> Result<usize, Text
     ensures goes { IfOk result (λ end. (from < end) × (end ≤ length toks.now)) }
     ensures fault { IfErr result (λ fault. IsSyntaxFault (drop from (lexemes toks.now)) fault) }
 {
-    let (_, end) = read_term(&Scan, toks, from, outermost(depth))?;
+    let (_, end) = read_term(&Scan, toks, from, Context::outermost(depth, true))?;
     Ok(end)
 }
 
@@ -164,7 +153,7 @@ pub fn cond_end(toks: &[Token], from: usize, depth: usize) -> Result<usize, Text
     ensures goes { IfOk result (λ end. (from < end) × (end ≤ length toks.now)) }
     ensures fault { IfErr result (λ fault. IsSyntaxFault (drop from (lexemes toks.now)) fault) }
 {
-    let (_, end) = read_cond(&Scan, toks, from, outermost(depth))?;
+    let (_, end) = read_cond(&Scan, toks, from, Context::outermost(depth, true))?;
     Ok(end)
 }
 
@@ -174,6 +163,6 @@ pub fn expr_end(toks: &[Token], from: usize, depth: usize) -> Result<usize, Text
     ensures goes { IfOk result (λ end. (from < end) × (end ≤ length toks.now)) }
     ensures fault { IfErr result (λ fault. IsSyntaxFault (drop from (lexemes toks.now)) fault) }
 {
-    let (_, end) = read_expr(&Scan, toks, from, outermost(depth))?;
+    let (_, end) = read_expr(&Scan, toks, from, Context::outermost(depth, true))?;
     Ok(end)
 }

@@ -5,10 +5,8 @@ ghost use Rattle.kat_syntax.specs.Parsed.{Reads, Goes};
 ghost use Rattle.kat_syntax.specs.Terms.{parenthesis, bracket, negation, star_or_not, parse_term, choice, sequence, unit};
 
 use crate::cond::read_cond;
-use crate::reading::{Around, Reading};
-use crate::sign::{
-    Sign, close_round, close_square, is_dot_at, is_plus_at, is_star_at, sign_at, text_at,
-};
+use crate::reading::{Context, Reading};
+use crate::terminal::{Terminal, expect, is_at, syntax_fault_at, terminal_at, text_at};
 use kat_tokens::{TextFault, Token};
 
 /// Reads the term that begins at `from`: what the reading makes of it, and the index after it. Otherwise the fault that
@@ -19,12 +17,12 @@ pub fn read_term<R: Reading>(
     reading: &R,
     toks: &[Token],
     from: usize,
-    around: Around,
+    context: Context,
 ) -> Result<(R::Term, usize), TextFault>
-    ensures value { Reads R.memory R.term (lexemes toks.now) result (parse_term (R.actions reading.now) choice around (drop from (lexemes toks.now))) }
+    ensures value { Reads R.memory R.term (lexemes toks.now) result (parse_term (R.actions reading.now) choice context (drop from (lexemes toks.now))) }
     ensures goes { Goes from (length toks.now) result }
 {
-    choice(reading, toks, from, around)
+    choice(reading, toks, from, context)
 }
 
 #[cycle(terms)]
@@ -33,16 +31,16 @@ fn choice<R: Reading>(
     reading: &R,
     toks: &[Token],
     from: usize,
-    around: Around,
+    context: Context,
 ) -> Result<(R::Term, usize), TextFault>
-    ensures value { Reads R.memory R.term (lexemes toks.now) result (parse_term (R.actions reading.now) choice around (drop from (lexemes toks.now))) }
+    ensures value { Reads R.memory R.term (lexemes toks.now) result (parse_term (R.actions reading.now) choice context (drop from (lexemes toks.now))) }
     ensures goes { Goes from (length toks.now) result }
 {
-    let (first, next) = sequence(reading, toks, from, around)?;
+    let (first, next) = sequence(reading, toks, from, context)?;
     let mut list = reading.one_term(first)?;
     let mut at = next;
-    'parts: while is_plus_at(toks, at) {
-        let (more, next) = sequence(reading, toks, at + 1, around)?;
+    'parts: while is_at(toks, at, Terminal::Plus) {
+        let (more, next) = sequence(reading, toks, at + 1, context)?;
         list = reading.more_terms(list, more)?;
         at = next;
     }
@@ -55,18 +53,18 @@ fn sequence<R: Reading>(
     reading: &R,
     toks: &[Token],
     from: usize,
-    around: Around,
+    context: Context,
 ) -> Result<(R::Term, usize), TextFault>
-    ensures value { Reads R.memory R.term (lexemes toks.now) result (parse_term (R.actions reading.now) sequence around (drop from (lexemes toks.now))) }
+    ensures value { Reads R.memory R.term (lexemes toks.now) result (parse_term (R.actions reading.now) sequence context (drop from (lexemes toks.now))) }
     ensures goes { Goes from (length toks.now) result }
 {
-    let (first, next) = unit(reading, toks, from, around)?;
-    let (first, next) = star_or_not(reading, toks, next, around, first)?;
+    let (first, next) = unit(reading, toks, from, context)?;
+    let (first, next) = star_or_not(reading, toks, next, context, first)?;
     let mut list = reading.one_term(first)?;
     let mut at = next;
-    'parts: while is_dot_at(toks, at) {
-        let (more, next) = unit(reading, toks, at + 1, around)?;
-        let (more, next) = star_or_not(reading, toks, next, around, more)?;
+    'parts: while is_at(toks, at, Terminal::Dot) {
+        let (more, next) = unit(reading, toks, at + 1, context)?;
+        let (more, next) = star_or_not(reading, toks, next, context, more)?;
         list = reading.more_terms(list, more)?;
         at = next;
     }
@@ -77,15 +75,15 @@ fn star_or_not<R: Reading>(
     reading: &R,
     toks: &[Token],
     i: usize,
-    around: Around,
+    context: Context,
     operand: R::Term,
 ) -> Result<(R::Term, usize), TextFault>
-    ensures value { Reads R.memory R.term (lexemes toks.now) result (star_or_not (R.actions reading.now) around (R.term operand) (drop i (lexemes toks.now))) }
+    ensures value { Reads R.memory R.term (lexemes toks.now) result (star_or_not (R.actions reading.now) context (R.term operand) (drop i (lexemes toks.now))) }
     ensures goes { IfOk result (λ x. i ≤ x.1) }
     ensures within { i ≤ length toks.now → IfOk result (λ x. x.1 ≤ length toks.now) }
 {
-    match sign_at(toks, i) {
-        Some((Sign::Star, at)) => Ok((reading.starred(around, at, operand)?, i + 1)),
+    match terminal_at(toks, i) {
+        Some((Terminal::Star, at)) => Ok((reading.starred(context, at, operand)?, i + 1)),
         _ => Ok((operand, i)),
     }
 }
@@ -96,24 +94,24 @@ fn unit<R: Reading>(
     reading: &R,
     toks: &[Token],
     from: usize,
-    around: Around,
+    context: Context,
 ) -> Result<(R::Term, usize), TextFault>
-    ensures value { Reads R.memory R.term (lexemes toks.now) result (parse_term (R.actions reading.now) unit around (drop from (lexemes toks.now))) }
+    ensures value { Reads R.memory R.term (lexemes toks.now) result (parse_term (R.actions reading.now) unit context (drop from (lexemes toks.now))) }
     ensures goes { Goes from (length toks.now) result }
 {
-    let Some((sign, at)) = sign_at(toks, from) else {
-        return Err(TextFault::Syntax(usize::MAX));
+    let Some((terminal, at)) = terminal_at(toks, from) else {
+        return Err(syntax_fault_at(toks, from));
     };
-    match sign {
-        Sign::Zero => Ok((reading.zero(), from + 1)),
-        Sign::One => Ok((reading.one(), from + 1)),
-        Sign::Name => Ok((
-            reading.named_term(around, at, text_at(toks, from))?,
+    match terminal {
+        Terminal::Zero => Ok((reading.zero(), from + 1)),
+        Terminal::One => Ok((reading.one(), from + 1)),
+        Terminal::Name => Ok((
+            reading.named_term(context, at, text_at(toks, from))?,
             from + 1,
         )),
-        Sign::Bang => negation(reading, toks, from + 1, around, at),
-        Sign::SquareOpen => bracket(reading, toks, from + 1, around, at),
-        Sign::RoundOpen => parenthesis(reading, toks, from + 1, around, at),
+        Terminal::Bang => negation(reading, toks, from + 1, context, at),
+        Terminal::SquareOpen => bracket(reading, toks, from + 1, context, at),
+        Terminal::RoundOpen => parenthesis(reading, toks, from + 1, context, at),
         _ => Err(TextFault::Syntax(at)),
     }
 }
@@ -123,13 +121,13 @@ fn negation<R: Reading>(
     reading: &R,
     toks: &[Token],
     from: usize,
-    around: Around,
+    context: Context,
     at: usize,
 ) -> Result<(R::Term, usize), TextFault>
-    ensures value { Reads R.memory R.term (lexemes toks.now) result (negation (R.actions reading.now) (parse_term (R.actions reading.now)) around at (drop from (lexemes toks.now))) }
+    ensures value { Reads R.memory R.term (lexemes toks.now) result (negation (R.actions reading.now) (parse_term (R.actions reading.now)) context at (drop from (lexemes toks.now))) }
     ensures goes { Goes from (length toks.now) result }
 {
-    let inside = around.enter_not(at)?;
+    let inside = context.enter_not(at)?;
     let (operand, end) = unit(reading, toks, from, inside)?;
     Ok((reading.negated_term(operand)?, end))
 }
@@ -138,15 +136,15 @@ fn bracket<R: Reading>(
     reading: &R,
     toks: &[Token],
     from: usize,
-    around: Around,
+    context: Context,
     at: usize,
 ) -> Result<(R::Term, usize), TextFault>
-    ensures value { Reads R.memory R.term (lexemes toks.now) result (bracket (R.actions reading.now) around at (drop from (lexemes toks.now))) }
+    ensures value { Reads R.memory R.term (lexemes toks.now) result (bracket (R.actions reading.now) context at (drop from (lexemes toks.now))) }
     ensures goes { Goes from (length toks.now) result }
 {
-    let inside = around.enter(at)?;
+    let inside = context.enter(at)?;
     let (cond, end) = read_cond(reading, toks, from, inside)?;
-    let end = close_square(toks, end)?;
+    let end = expect(toks, end, Terminal::SquareClose)?;
     Ok((reading.tested(cond)?, end))
 }
 
@@ -155,14 +153,14 @@ fn parenthesis<R: Reading>(
     reading: &R,
     toks: &[Token],
     from: usize,
-    around: Around,
+    context: Context,
     at: usize,
 ) -> Result<(R::Term, usize), TextFault>
-    ensures value { Reads R.memory R.term (lexemes toks.now) result (parenthesis (R.actions reading.now) (parse_term (R.actions reading.now)) around at (drop from (lexemes toks.now))) }
+    ensures value { Reads R.memory R.term (lexemes toks.now) result (parenthesis (R.actions reading.now) (parse_term (R.actions reading.now)) context at (drop from (lexemes toks.now))) }
     ensures goes { Goes from (length toks.now) result }
 {
-    let inside = around.enter(at)?;
+    let inside = context.enter(at)?;
     let (term, end) = choice(reading, toks, from, inside)?;
-    let end = close_round(toks, end)?;
+    let end = expect(toks, end, Terminal::RoundClose)?;
     Ok((reading.enclosed_term(term), end))
 }

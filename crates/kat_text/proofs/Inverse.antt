@@ -13,7 +13,7 @@ use Rattle.std.proofs.lemmas.Option.{none-some}
 use Rattle.std.proofs.lemmas.Slice.Eq.{bytes_eq-Decides}
 use Rattle.kat_text.specs.declared.meaning.Meaning.{Meaning}
 use Rattle.kat_text.specs.contracts.meaning.MeaningOrd.TheImpl.{ghosts}
-use Rattle.kat_text.specs.Worlds.{Meanings, meanings_of}
+use Rattle.kat_text.specs.ScopeParts.{Meanings, meanings_of}
 use Rattle.kat_text.specs.Names.{text_of, AreInverse}
 use Rattle.kat_text.proofs.MeaningOrder.{same_meaning}
 use Rattle.kat_text.proofs.MeaningEntries.{get-insert_name}
@@ -85,8 +85,8 @@ text_extends old new v text name named updates = record {
 
 -- a text that was set where none was, and then taken out
 pub text_of-removed : (old set new : BTreeMap Meaning (String Global)) (v : Meaning) (text : String Global) → text_of old v ≡ None → Updates ghosts.cmp old set v (Some text) → Updates ghosts.cmp set new v None → (q : Meaning) → text_of new q ≡ text_of old q
-text_of-removed old set new v text none put taken q =
+text_of-removed old set new v text none cons_token taken q =
     ⊎_elim
     (λ e. subst (λ r. text_of new r ≡ text_of old r) (same_meaning v q e) (ap (option_map string_bytes) taken.1 ∙ sym none))
-    (λ e. ap (option_map string_bytes) (taken.2 q e ∙ put.2 q e))
+    (λ e. ap (option_map string_bytes) (taken.2 q e ∙ cons_token.2 q e))
     (cases_Bool (eq_by_cmp ghosts.cmp v q))

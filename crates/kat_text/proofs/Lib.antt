@@ -1,15 +1,8 @@
 pub mod MeaningOrder
 pub mod MeaningEntries
 pub mod Inverse
-pub mod WorldLemmas
-pub mod NameOf
-pub mod PieceTexts
-pub mod Judged
+pub mod ScopeLemmas
+pub mod MeasureSoundness
 pub mod Related
 pub mod BalancedMeasures
 pub mod Measured
-pub mod Separate
-pub mod Matching
-pub mod WordSigns
-pub mod ReadBack
-pub mod PrintedReadings

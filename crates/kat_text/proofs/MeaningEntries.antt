@@ -11,7 +11,7 @@ use Rattle.std.specs.Str.{bytes_eq}
 use Rattle.std.specs.declared.alloc.Global.{Global}
 use Rattle.std.proofs.lemmas.Map.Text.{btree_map_updates_text, is_eq-slice_cmp}
 use Rattle.kat_text.specs.declared.meaning.Meaning.{Meaning}
-use Rattle.kat_text.specs.Worlds.{Meanings, meanings_of}
+use Rattle.kat_text.specs.ScopeParts.{Meanings, meanings_of}
 
 -- a text is found among the entries as their texts are
 find-entries : (es : List (String Global × Meaning)) (q : List ℕ) → find (slice_cmp nat_cmp) q (mapped (λ e. (string_bytes e.0, e.1)) es) ≡ lookup (is_at (λ k. slice_cmp nat_cmp q (string_bytes k))) es

@@ -3,7 +3,7 @@ use Rattle.std.proofs.Common.{ℕ, List, true, false, cond, nat_lt, Result, Ok, 
 use Rattle.kat_model.specs.declared.expression.Rel.{Rel}
 use Rattle.kat_tokens.specs.declared.fault.TextFault.{TextFault}
 use Rattle.kat_tokens.specs.declared.fault.TextFault.TheVariants.{TooDeep}
-use Rattle.kat_syntax.specs.declared.reading.Around.{Around}
+use Rattle.kat_syntax.specs.declared.reading.Context.{Context}
 use Rattle.kat_syntax.specs.declared.reading.Operator.{Operator}
 use Rattle.kat_syntax.specs.declared.reading.Operator.TheVariants.{Multiply}
 use Rattle.kat_syntax.specs.Parsed.{◌>>=◌}
@@ -23,49 +23,49 @@ both_then R S (Ok x) (Ok y) f g h k = k x y h
 both_then R S (Ok x) (Err e) f g h k = absurd h
 both_then R S (Err e) s f g h k = tt
 
-both_inside : {A B : Type 0} (S : A → B → Type 0) (c d : Around) (at : ℕ) (f : Around → Result A TextFault) (g : Around → Result B TextFault) → Both S (f d) (g d) → Both S (cond (nat_lt c.depth 200) (Ok d) (Err (TooDeep at)) >>= f) (cond (nat_lt c.depth 200) (Ok d) (Err (TooDeep at)) >>= g)
+both_inside : {A B : Type 0} (S : A → B → Type 0) (c d : Context) (at : ℕ) (f : Context → Result A TextFault) (g : Context → Result B TextFault) → Both S (f d) (g d) → Both S (cond (nat_lt c.depth 200) (Ok d) (Err (TooDeep at)) >>= f) (cond (nat_lt c.depth 200) (Ok d) (Err (TooDeep at)) >>= g)
 both_inside S c d at f g h = elim (nat_lt c.depth 200) as (λ b. Both S (cond b (Ok d) (Err (TooDeep at)) >>= f) (cond b (Ok d) (Err (TooDeep at)) >>= g)) [ true ↦ h | false ↦ tt ]
 
-module _ {E B L T M E' B' L' T' M' : Type 0} (RE : Around → E → E' → Type 0) (RB : Around → B → B' → Type 0) (RL : Around → L → L' → Type 0) (RT : Around → T → T' → Type 0) (RM : Around → M → M' → Type 0) (g : Actions E B L T M) (h : Actions E' B' L' T' M') where
+module _ {E B L T M E' B' L' T' M' : Type 0} (RE : Context → E → E' → Type 0) (RB : Context → B → B' → Type 0) (RL : Context → L → L' → Type 0) (RT : Context → T → T' → Type 0) (RM : Context → M → M' → Type 0) (g : Actions E B L T M) (h : Actions E' B' L' T' M') where
   -- the actions are related at each part
   pub record AreRelated : Type 0 where
-    pub number : (c : Around) (at n : ℕ) → Both (RE c) (g.conds.exprs.number c at n) (h.conds.exprs.number c at n)
-    pub variable : (c : Around) (at : ℕ) (text : List ℕ) → Both (RE c) (g.conds.exprs.variable c at text) (h.conds.exprs.variable c at text)
-    pub join : (c : Around) (o : Operator) (x y : E) (x' y' : E') → RE c x x' → RE c y y' → RE c (g.conds.exprs.join o x y) (h.conds.exprs.join o x' y')
-    pub enclosed_expr : (c : Around) (x : E) (x' : E') → RE (inside c) x x' → RE c (g.conds.exprs.enclosed x) (h.conds.exprs.enclosed x')
-    pub always : (c : Around) → RB c g.conds.always h.conds.always
-    pub never : (c : Around) → RB c g.conds.never h.conds.never
-    pub named_cond : (c : Around) (at : ℕ) (text : List ℕ) → Both (RB c) (g.conds.named c at text) (h.conds.named c at text)
-    pub compare : (c : Around) (r : Rel) (x y : E) (x' y' : E') → RE c x x' → RE c y y' → RB c (g.conds.compare r x y) (h.conds.compare r x' y')
-    pub negated_cond : (c : Around) (b : B) (b' : B') → RB (inside_not c) b b' → RB c (g.conds.negated b) (h.conds.negated b')
-    pub enclosed_cond : (c : Around) (b : B) (b' : B') → RB (inside c) b b' → RB c (g.conds.enclosed b) (h.conds.enclosed b')
-    pub one_cond : (c : Around) (b : B) (b' : B') → RB c b b' → RL c (g.conds.one_of b) (h.conds.one_of b')
-    pub more_conds : (c : Around) (l : L) (l' : L') (b : B) (b' : B') → RL c l l' → RB c b b' → RL c (g.conds.more l b) (h.conds.more l' b')
-    pub all : (c : Around) (l : L) (l' : L') → RL c l l' → RB c (g.conds.all l) (h.conds.all l')
-    pub any : (c : Around) (l : L) (l' : L') → RL c l l' → RB c (g.conds.any l) (h.conds.any l')
-    pub zero : (c : Around) → RT c g.zero h.zero
-    pub one : (c : Around) → RT c g.one h.one
-    pub named : (c : Around) (at : ℕ) (text : List ℕ) → Both (RT c) (g.named c at text) (h.named c at text)
-    pub negated : (c : Around) (t : T) (t' : T') → RT (inside_not c) t t' → RT c (g.negated t) (h.negated t')
-    pub tested : (c : Around) (b : B) (b' : B') → RB (inside c) b b' → RT c (g.tested b) (h.tested b')
-    pub enclosed : (c : Around) (t : T) (t' : T') → RT (inside c) t t' → RT c (g.enclosed t) (h.enclosed t')
-    pub starred : (c : Around) (at : ℕ) (t : T) (t' : T') → RT c t t' → Both (RT c) (g.starred c at t) (h.starred c at t')
-    pub one_term : (c : Around) (t : T) (t' : T') → RT c t t' → RM c (g.one_of t) (h.one_of t')
-    pub more_terms : (c : Around) (m : M) (m' : M') (t : T) (t' : T') → RM c m m' → RT c t t' → RM c (g.more m t) (h.more m' t')
-    pub sum : (c : Around) (m : M) (m' : M') → RM c m m' → RT c (g.sum m) (h.sum m')
-    pub product : (c : Around) (m : M) (m' : M') → RM c m m' → RT c (g.product m) (h.product m')
+    pub number : (c : Context) (at n : ℕ) → Both (RE c) (g.conds.exprs.number c at n) (h.conds.exprs.number c at n)
+    pub variable : (c : Context) (at : ℕ) (text : List ℕ) → Both (RE c) (g.conds.exprs.variable c at text) (h.conds.exprs.variable c at text)
+    pub join : (c : Context) (o : Operator) (x y : E) (x' y' : E') → RE c x x' → RE c y y' → RE c (g.conds.exprs.join o x y) (h.conds.exprs.join o x' y')
+    pub enclosed_expr : (c : Context) (x : E) (x' : E') → RE (inside c) x x' → RE c (g.conds.exprs.enclosed x) (h.conds.exprs.enclosed x')
+    pub always : (c : Context) → RB c g.conds.always h.conds.always
+    pub never : (c : Context) → RB c g.conds.never h.conds.never
+    pub named_cond : (c : Context) (at : ℕ) (text : List ℕ) → Both (RB c) (g.conds.named c at text) (h.conds.named c at text)
+    pub compare : (c : Context) (r : Rel) (x y : E) (x' y' : E') → RE c x x' → RE c y y' → RB c (g.conds.compare r x y) (h.conds.compare r x' y')
+    pub negated_cond : (c : Context) (b : B) (b' : B') → RB (inside_not c) b b' → RB c (g.conds.negated b) (h.conds.negated b')
+    pub enclosed_cond : (c : Context) (b : B) (b' : B') → RB (inside c) b b' → RB c (g.conds.enclosed b) (h.conds.enclosed b')
+    pub one_cond : (c : Context) (b : B) (b' : B') → RB c b b' → RL c (g.conds.one_of b) (h.conds.one_of b')
+    pub more_conds : (c : Context) (l : L) (l' : L') (b : B) (b' : B') → RL c l l' → RB c b b' → RL c (g.conds.more l b) (h.conds.more l' b')
+    pub all : (c : Context) (l : L) (l' : L') → RL c l l' → RB c (g.conds.all l) (h.conds.all l')
+    pub any : (c : Context) (l : L) (l' : L') → RL c l l' → RB c (g.conds.any l) (h.conds.any l')
+    pub zero : (c : Context) → RT c g.zero h.zero
+    pub one : (c : Context) → RT c g.one h.one
+    pub named : (c : Context) (at : ℕ) (text : List ℕ) → Both (RT c) (g.named c at text) (h.named c at text)
+    pub negated : (c : Context) (t : T) (t' : T') → RT (inside_not c) t t' → RT c (g.negated t) (h.negated t')
+    pub tested : (c : Context) (b : B) (b' : B') → RB (inside c) b b' → RT c (g.tested b) (h.tested b')
+    pub enclosed : (c : Context) (t : T) (t' : T') → RT (inside c) t t' → RT c (g.enclosed t) (h.enclosed t')
+    pub starred : (c : Context) (at : ℕ) (t : T) (t' : T') → RT c t t' → Both (RT c) (g.starred c at t) (h.starred c at t')
+    pub one_term : (c : Context) (t : T) (t' : T') → RT c t t' → RM c (g.one_of t) (h.one_of t')
+    pub more_terms : (c : Context) (m : M) (m' : M') (t : T) (t' : T') → RM c m m' → RT c t t' → RM c (g.more m t) (h.more m' t')
+    pub sum : (c : Context) (m : M) (m' : M') → RM c m m' → RT c (g.sum m) (h.sum m')
+    pub product : (c : Context) (m : M) (m' : M') → RM c m m' → RT c (g.product m) (h.product m')
 
   -- how a part joins what was before it, on both sides
-  abbrev JoinE : Around → (E → E) → (E' → E') → Type 0
+  abbrev JoinE : Context → (E → E) → (E' → E') → Type 0
   JoinE c k l = (x : E) (x' : E') → RE c x x' → RE c (k x) (l x')
 
-  abbrev JoinB : Around → (B → L) → (B' → L') → Type 0
+  abbrev JoinB : Context → (B → L) → (B' → L') → Type 0
   JoinB c k l = (x : B) (x' : B') → RB c x x' → RL c (k x) (l x')
 
-  abbrev JoinT : Around → (T → M) → (T' → M') → Type 0
+  abbrev JoinT : Context → (T → M) → (T' → M') → Type 0
   JoinT c k l = (x : T) (x' : T') → RT c x x' → RM c (k x) (l x')
 
-  abbrev pub Relates : (x : Symbol) → Around → Folded E B L T M x → Folded E' B' L' T' M' x → Type 0
+  abbrev pub Relates : (x : Symbol) → Context → Folded E B L T M x → Folded E' B' L' T' M' x → Type 0
   Relates term c v v' = (k : T → M) (l : T' → M') → JoinT c k l → Both (RT c) (v k) (v' l)
   Relates prod c v v' = (k : T → M) (l : T' → M') → JoinT c k l → Both (RT c) (v k) (v' l)
   Relates star c v v' = Both (RT c) v v'
@@ -78,7 +78,7 @@ module _ {E B L T M E' B' L' T' M' : Type 0} (RE : Around → E → E' → Type 
   Relates fac c v v' = Both (RE c) v v'
 
   module _ (r : AreRelated) where
-    pub related : {x : Symbol} (p : Phrase x) (c : Around) → Relates x c (fold g c p) (fold h c p)
+    pub related : {x : Symbol} (p : Phrase x) (c : Context) → Relates x c (fold g c p) (fold h c p)
     related (one_prod p) c = λ k l j. both_then (RT c) (RT c) (fold g c p g.one_of) (fold h c p h.one_of) (λ v. Ok (g.sum (k v))) (λ v. Ok (h.sum (l v))) (related p c g.one_of h.one_of (r.one_term c)) (λ x y q. r.sum c (k x) (l y) (j x y q))
     related (more_prods p m t) c = λ k l j. both_then (RT c) (RT c) (fold g c p g.one_of) (fold h c p h.one_of) (λ v. fold g c t (g.more (k v))) (λ v. fold h c t (h.more (l v))) (related p c g.one_of h.one_of (r.one_term c)) (λ x y q. related t c (g.more (k x)) (h.more (l y)) (λ u v e. r.more_terms c (k x) (l y) u v (j x y q) e))
     related (one_star s) c = λ k l j. both_then (RT c) (RT c) (fold g c s) (fold h c s) (λ v. Ok (g.product (k v))) (λ v. Ok (h.product (l v))) (related s c) (λ x y q. r.product c (k x) (l y) (j x y q))

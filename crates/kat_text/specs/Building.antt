@@ -3,14 +3,14 @@ use Rattle.std.specs.Prelude.{List, [], ◌∷◌, ◌++◌, slice_get, Ok, Opti
 use Rattle.kat_model.specs.Trees.{prim, Term, zero, one, test, act, star}
 use Rattle.kat_model.specs.Trees.{complement}
 use Rattle.kat_model.specs.Balanced.{sum_of, product_of}
-use Rattle.kat_model.specs.Expressions.{ExprTree, number, variable, plus, minus, times, CondTree, always, never, named, compared, negation, any_of, all_of}
+use Rattle.kat_model.specs.Expressions.{ExprTree, number, variable, plus, minus, times, CondTree, always, never, named, compared, negation, any_of, all_of, test_without_comparisons}
 use Rattle.kat_syntax.specs.declared.reading.Operator.{Operator}
 use Rattle.kat_syntax.specs.declared.reading.Operator.TheVariants.{Add, Subtract, Multiply}
 use Rattle.kat_syntax.specs.Actions.{ExprActions, CondActions, Actions}
 use Rattle.kat_text.specs.declared.meaning.Meaning.{Meaning}
 use Rattle.kat_text.specs.declared.meaning.Meaning.TheVariants.{Test, Action, Var, Term as TermName}
-use Rattle.kat_text.specs.Sizes.{as_test, test_of}
-use Rattle.kat_text.specs.Worlds.{Definition, World, meaning}
+use Rattle.kat_text.specs.Sizes.{as_test}
+use Rattle.kat_text.specs.ScopeParts.{Definition, ScopeParts, meaning}
 
 abbrev pub joined : Operator → ExprTree → ExprTree → ExprTree
 joined Add e f = plus e f
@@ -30,13 +30,13 @@ abbrev pub defined_tree : Option Definition → Term
 defined_tree (Some d) = d.tree
 defined_tree None = zero
 
-abbrev pub name_tree : World → Option Meaning → Term
+abbrev pub name_tree : ScopeParts → Option Meaning → Term
 name_tree w (Some (Test k)) = test (prim k)
 name_tree w (Some (Action a)) = act a
 name_tree w (Some (TermName i)) = defined_tree (slice_get w.terms i)
 name_tree w _ = zero
 
-abbrev pub expr_trees : World → ExprActions ExprTree
+abbrev pub expr_trees : ScopeParts → ExprActions ExprTree
 expr_trees w = record {
   number = λ c at n. Ok (number n);
   variable = λ c at text. Ok (variable_tree (meaning w text));
@@ -44,7 +44,7 @@ expr_trees w = record {
   enclosed = λ e. e;
 }
 
-abbrev pub cond_trees : World → CondActions ExprTree CondTree (List CondTree)
+abbrev pub cond_trees : ScopeParts → CondActions ExprTree CondTree (List CondTree)
 cond_trees w = record {
   exprs = expr_trees w;
   always = always;
@@ -59,14 +59,14 @@ cond_trees w = record {
   any = any_of;
 }
 
-abbrev pub trees : World → Actions ExprTree CondTree (List CondTree) Term (List Term)
+abbrev pub trees : ScopeParts → Actions ExprTree CondTree (List CondTree) Term (List Term)
 trees w = record {
   conds = cond_trees w;
   zero = zero;
   one = one;
   named = λ c at text. Ok (name_tree w (meaning w text));
   negated = λ e. test (complement (as_test e));
-  tested = λ b. test (test_of b);
+  tested = λ b. test (test_without_comparisons b);
   enclosed = λ e. e;
   starred = λ c at e. Ok (star e);
   one_of = λ e. e ∷ [];

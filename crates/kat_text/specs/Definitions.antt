@@ -4,7 +4,7 @@ use Rattle.std.specs.FinMap.{code}
 use Rattle.kat_model.specs.Trees.{kat_tree}
 use Rattle.kat_text.specs.contracts.meaning.Meaning.{the_row}
 use Rattle.kat_text.specs.declared.definition.Definition.{Definition as Defined}
-use Rattle.kat_text.specs.Worlds.{Definition, Meanings}
+use Rattle.kat_text.specs.ScopeParts.{Definition, Meanings}
 
 -- what a definition that the program keeps defines
 abbrev pub definition_of : Defined → Definition

@@ -3,13 +3,13 @@ use Rattle.std.specs.Prelude.{ℕ, ◌+◌, max, min, if◌then◌else◌, nat_l
 use Rattle.kat_model.specs.Trees.{term_size, test_size}
 use Rattle.kat_tokens.specs.declared.fault.TextFault.{TextFault}
 use Rattle.kat_tokens.specs.declared.fault.TextFault.TheVariants.{UnknownName, Sort, TooDeep}
-use Rattle.kat_syntax.specs.declared.reading.Around.{Around}
+use Rattle.kat_syntax.specs.declared.reading.Context.{Context}
 use Rattle.kat_syntax.specs.Actions.{ExprActions, CondActions, Actions}
 use Rattle.kat_text.specs.declared.meaning.Meaning.{Meaning}
 use Rattle.kat_text.specs.declared.meaning.Meaning.TheVariants.{Test, Action, Var, Term as TermName}
 use Rattle.kat_text.specs.declared.extent.Extent.{Extent}
 use Rattle.kat_text.specs.Sizes.{is_test, as_test, capped}
-use Rattle.kat_text.specs.Worlds.{Definition, World, meaning}
+use Rattle.kat_text.specs.ScopeParts.{Definition, ScopeParts, meaning}
 
 -- nodes as it stands and as a test, and levels of nesting; all stop past their limits
 abbrev pub limited : ℕ → ℕ → ℕ → Extent
@@ -34,10 +34,10 @@ compared_nodes n = if nat_lt 1000 n then 100001 else n
 abbrev pub compare : Extent → Extent → Extent
 compare m n = limited (compared_nodes m.nodes + compared_nodes n.nodes + 1) 0 (max m.nesting n.nesting)
 
-abbrev pub number_extent : Around → ℕ → Result Extent TextFault
+abbrev pub number_extent : Context → ℕ → Result Extent TextFault
 number_extent c at = if c.compares then Ok (limited 1 0 0) else Err (Sort at)
 
-abbrev pub variable_extent : Around → ℕ → Option Meaning → Result Extent TextFault
+abbrev pub variable_extent : Context → ℕ → Option Meaning → Result Extent TextFault
 variable_extent c at None = Err (UnknownName at)
 variable_extent c at (Some (Var k)) = if c.compares then Ok (limited 1 0 0) else Err (Sort at)
 variable_extent c at (Some m) = Err (Sort at)
@@ -47,7 +47,7 @@ condition_extent at None = Err (UnknownName at)
 condition_extent at (Some (Test k)) = Ok (limited 1 1 0)
 condition_extent at (Some m) = Err (Sort at)
 
-abbrev pub expr_extents : World → ExprActions Extent
+abbrev pub expr_extents : ScopeParts → ExprActions Extent
 expr_extents w = record {
   number = λ c at n. number_extent c at;
   variable = λ c at text. variable_extent c at (meaning w text);
@@ -55,7 +55,7 @@ expr_extents w = record {
   enclosed = deeper;
 }
 
-abbrev pub cond_extents : World → CondActions Extent Extent Extent
+abbrev pub cond_extents : ScopeParts → CondActions Extent Extent Extent
 cond_extents w = record {
   exprs = expr_extents w;
   always = limited 1 1 0;
@@ -71,7 +71,7 @@ cond_extents w = record {
 }
 
 -- a defined term, where it may stand
-abbrev pub defined_extent : Around → ℕ → Option Definition → Result Extent TextFault
+abbrev pub defined_extent : Context → ℕ → Option Definition → Result Extent TextFault
 defined_extent c at None = Ok (limited 1 1 0)
 defined_extent c at (Some d) =
     if c.negated then
@@ -80,7 +80,7 @@ defined_extent c at (Some d) =
     else Err (Sort at))
     else (if nat_lt 200 (c.depth + d.nesting) then Err (TooDeep at) else Ok (limited (term_size d.tree) (test_size (as_test d.tree)) d.nesting))
 
-abbrev pub name_extent : World → Around → ℕ → Option Meaning → Result Extent TextFault
+abbrev pub name_extent : ScopeParts → Context → ℕ → Option Meaning → Result Extent TextFault
 name_extent w c at None = Err (UnknownName at)
 name_extent w c at (Some (Test k)) = Ok (limited 2 1 0)
 name_extent w c at (Some (Action a)) = if c.negated then Err (Sort at) else Ok (limited 1 1 0)
@@ -95,10 +95,10 @@ negated m = limited (m.test_nodes + 2) (m.test_nodes + 1) (m.nesting + 1)
 abbrev pub tested : Extent → Extent
 tested m = limited (m.nodes + 1) m.nodes (m.nesting + 1)
 
-abbrev pub starred : Around → ℕ → Extent → Result Extent TextFault
+abbrev pub starred : Context → ℕ → Extent → Result Extent TextFault
 starred c at m = if c.negated then Err (Sort at) else Ok (topped m)
 
-abbrev pub extents : World → Actions Extent Extent Extent Extent Extent
+abbrev pub extents : ScopeParts → Actions Extent Extent Extent Extent Extent
 extents w = record {
   conds = cond_extents w;
   zero = limited 1 1 0;

@@ -6,12 +6,12 @@ use Rattle.kat_tokens.specs.declared.fault.TextFault.{TextFault}
 use Rattle.kat_tokens.specs.declared.fault.TextFault.TheVariants.{NoMemory, TooLarge}
 use Rattle.kat_syntax.specs.Lexemes.{Lexeme}
 use Rattle.kat_syntax.specs.Parsed.{Parsed, ◌>>=◌, place_of}
-use Rattle.kat_syntax.specs.Actions.{around}
+use Rattle.kat_syntax.specs.Actions.{context}
 use Rattle.kat_syntax.specs.Exprs.{parse_expr, sums}
 use Rattle.kat_syntax.specs.Conds.{parse_cond, disjunction}
 use Rattle.kat_syntax.specs.Terms.{parse_term, choice}
 use Rattle.kat_text.specs.declared.extent.Extent.{Extent}
-use Rattle.kat_text.specs.Worlds.{World}
+use Rattle.kat_text.specs.ScopeParts.{ScopeParts}
 use Rattle.kat_text.specs.Building.{expr_trees, cond_trees, trees}
 use Rattle.kat_text.specs.Measuring.{expr_extents, cond_extents, extents}
 
@@ -29,16 +29,16 @@ abbrev pub phrased : {V : Type 0} → Parsed Extent → Parsed V → Result (Phr
 phrased m t = m >>= λ x. t >>= λ y. Ok (record { tree = y.0; nesting = (x.0).nesting; rest = y.1 })
 
 -- the term, condition or expression at the front of the tokens, with so many constructs open around it
-abbrev pub term_at : World → ℕ → List Lexeme → Result (Phrased Term) TextFault
-term_at w d ts = phrased (within 100000 (place_of ts) (parse_term (extents w) choice (around d false false) ts)) (parse_term (trees w) choice (around d false false) ts)
+abbrev pub term_at : ScopeParts → ℕ → List Lexeme → Result (Phrased Term) TextFault
+term_at w d ts = phrased (within 100000 (place_of ts) (parse_term (extents w) choice (context d false false) ts)) (parse_term (trees w) choice (context d false false) ts)
 
-abbrev pub cond_at : World → ℕ → Bool → List Lexeme → Result (Phrased CondTree) TextFault
-cond_at w d compares ts = phrased (within 100000 (place_of ts) (parse_cond (cond_extents w) disjunction (around d false compares) ts)) (parse_cond (cond_trees w) disjunction (around d false compares) ts)
+abbrev pub cond_at : ScopeParts → ℕ → Bool → List Lexeme → Result (Phrased CondTree) TextFault
+cond_at w d compares ts = phrased (within 100000 (place_of ts) (parse_cond (cond_extents w) disjunction (context d false compares) ts)) (parse_cond (cond_trees w) disjunction (context d false compares) ts)
 
-abbrev pub expr_at : World → ℕ → List Lexeme → Result (Phrased ExprTree) TextFault
-expr_at w d ts = phrased (within 1000 (place_of ts) (parse_expr (expr_extents w) sums (around d false true) ts)) (parse_expr (expr_trees w) sums (around d false true) ts)
+abbrev pub expr_at : ScopeParts → ℕ → List Lexeme → Result (Phrased ExprTree) TextFault
+expr_at w d ts = phrased (within 1000 (place_of ts) (parse_expr (expr_extents w) sums (context d false true) ts)) (parse_expr (expr_trees w) sums (context d false true) ts)
 
--- what the program answers is what is read, or want of memory
+-- what the program answers is what is read, or out of memory
 abbrev pub Answers : {V W : Type 0} → (V → W) → List Lexeme → Result (V × ℕ × ℕ) TextFault → Result (Phrased W) TextFault → Type 0
 Answers means ts (Ok x) m = m ≡ Ok (record { tree = means x.0; nesting = x.2; rest = drop x.1 ts })
 Answers means ts (Err NoMemory) m = Unit {0}

@@ -1,6 +1,6 @@
 -- The sizes of trees, and terms as tests.
 use Rattle.std.specs.Prelude.{ℕ, ◌+◌, max, min, Bool, true, false, ◌&&◌}
-use Rattle.kat_model.specs.Trees.{TestTree, bottom, top, prim, complement, meet, join, Term, zero, one, test, act, sum, product, star}
+use Rattle.kat_model.specs.Trees.{TestTree, bottom, top, meet, join, Term, zero, one, test, act, sum, product, star}
 use Rattle.kat_model.specs.Expressions.{ExprTree, number, variable, plus, minus, times, CondTree, always, never, named, compared, negation, both, either}
 
 -- the number of nodes
@@ -50,16 +50,6 @@ as_test (act a) = bottom
 as_test (sum e f) = join (as_test e) (as_test f)
 as_test (product e f) = meet (as_test e) (as_test f)
 as_test (star e) = bottom
-
--- the condition as a test; a comparison counts as false
-abbrev pub test_of : CondTree → TestTree
-test_of always = top
-test_of never = bottom
-test_of (named k) = prim k
-test_of (compared r e f) = bottom
-test_of (negation b) = complement (test_of b)
-test_of (both b c) = meet (test_of b) (test_of c)
-test_of (either b c) = join (test_of b) (test_of c)
 
 -- the most nodes of a phrase, and one more
 abbrev pub capped : ℕ → ℕ

@@ -1,28 +1,28 @@
 -- Which phrases may stand in a world, and how deep they are with their names expanded.
 use Rattle.std.specs.Prelude.{◌≡◌, ◌≤◌, ◌+◌, ℕ, max, true, false, slice_get, Option, Some, None}
-use Rattle.kat_syntax.specs.declared.reading.Around.{Around}
-use Rattle.kat_syntax.specs.Actions.{around}
+use Rattle.kat_syntax.specs.declared.reading.Context.{Context}
+use Rattle.kat_syntax.specs.Actions.{context}
 use Rattle.kat_syntax.specs.Phrases.{Symbol, Phrase, one_prod, more_prods, one_star, more_stars, bare, starred, name_unit, not_unit, square_unit, round_unit, one_conj, more_conjs, one_lit, more_lits, name_lit, not_lit, round_lit, relation_lit, one_mul, more_muls, one_fac, more_facs, zero_fac, one_fac_number, number_fac, name_fac, round_fac}
 use Rattle.kat_text.specs.declared.meaning.Meaning.{Meaning}
 use Rattle.kat_text.specs.declared.meaning.Meaning.TheVariants.{Test, Action, Var, Term as TermName}
 use Rattle.kat_text.specs.Sizes.{is_test}
-use Rattle.kat_text.specs.Worlds.{Definition, World, meaning}
+use Rattle.kat_text.specs.ScopeParts.{Definition, ScopeParts, meaning}
 
 -- what is known inside a parenthesis or a bracket
-abbrev pub inside : Around → Around
-inside c = around (c.depth + 1) c.negated c.compares
+abbrev pub inside : Context → Context
+inside c = context (c.depth + 1) c.negated c.compares
 
 -- and in the operand of a `!`
-abbrev pub inside_not : Around → Around
-inside_not c = around (c.depth + 1) true c.compares
+abbrev pub inside_not : Context → Context
+inside_not c = context (c.depth + 1) true c.compares
 
 -- a defined term may stand here: it is a test where a `!` negates it, and it is not too deep
-abbrev pub IsUsable : Around → Option Definition → Type 0
+abbrev pub IsUsable : Context → Option Definition → Type 0
 IsUsable c None = Unit {0}
 IsUsable c (Some d) = (c.negated ≡ true → is_test d.tree ≡ true) × (c.depth + d.nesting ≤ 200)
 
 -- a name in a term stands for a test, for an action that no `!` negates, or for a term that may stand here
-abbrev pub IsTermName : World → Around → Option Meaning → Type 0
+abbrev pub IsTermName : ScopeParts → Context → Option Meaning → Type 0
 IsTermName w c (Some (Test k)) = Unit {0}
 IsTermName w c (Some (Action a)) = c.negated ≡ false
 IsTermName w c (Some (TermName i)) = IsUsable c (slice_get w.terms i)
@@ -40,7 +40,7 @@ IsExprName _ = ⊥
 
 -- each name is declared, is of its sort and is not too deep, each number stands where comparisons may, and no `!`
 -- negates a star
-abbrev pub IsSound : World → Around → {x : Symbol} → Phrase x → Type 0
+abbrev pub IsSound : ScopeParts → Context → {x : Symbol} → Phrase x → Type 0
 IsSound w c (one_prod p) = IsSound w c p
 IsSound w c (more_prods p l t) = IsSound w c p × IsSound w c t
 IsSound w c (one_star s) = IsSound w c s
@@ -76,12 +76,12 @@ defined_nesting None = 0
 defined_nesting (Some d) = d.nesting
 
 -- how deep a name is
-abbrev pub name_nesting : World → Option Meaning → ℕ
+abbrev pub name_nesting : ScopeParts → Option Meaning → ℕ
 name_nesting w (Some (TermName i)) = defined_nesting (slice_get w.terms i)
 name_nesting w _ = 0
 
 -- how many constructs are open at one place at most, defined names expanded
-abbrev pub nesting : World → {x : Symbol} → Phrase x → ℕ
+abbrev pub nesting : ScopeParts → {x : Symbol} → Phrase x → ℕ
 nesting w (one_prod p) = nesting w p
 nesting w (more_prods p l t) = max (nesting w p) (nesting w t)
 nesting w (one_star s) = nesting w s

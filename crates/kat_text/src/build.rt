@@ -2,14 +2,16 @@
 ghost use Rattle.std.specs.Prelude.{◌≡◌, IfOk, map, slice_get};
 ghost use Rattle.kat_model.specs.Trees.{kat_tree, test};
 ghost use Rattle.kat_model.specs.Expressions.{expr_tree, cond_tree};
-ghost use Rattle.kat_text.specs.Worlds.{meaning};
+ghost use Rattle.kat_text.specs.ScopeParts.{meaning};
 ghost use Rattle.kat_text.specs.Building.{joined, variable_tree, condition_tree, name_tree, defined_tree, trees};
 
-use crate::convert::{negated, test_of};
+use crate::convert::negated;
 use crate::meaning::Meaning;
 use crate::scope::Scope;
-use kat_model::{Cond, Expr, Kat, NoMemory, Rel, Test, all_of, any_of, seq_of, sum_of};
-use kat_syntax::{Around, Operator, Reading};
+use kat_model::{
+    Cond, Expr, Kat, NoMemory, Rel, Test, all_of, any_of, seq_of, sum_of, test_without_comparisons,
+};
+use kat_syntax::{Context, Operator, Reading};
 use kat_tokens::TextFault;
 use std::alloc::Global;
 
@@ -23,12 +25,10 @@ pub(crate) struct Build<'a> {
 fn join(alloc: Global, operator: Operator, left: Expr, right: Expr) -> Result<Expr, NoMemory>
     ensures { IfOk result (λ e. expr_tree e ≡ joined operator (expr_tree left) (expr_tree right)) }
 {
-    let left = Box::new(alloc, left)?;
-    let right = Box::new(alloc, right)?;
     match operator {
-        Operator::Add => Ok(Expr::Add(left, right)),
-        Operator::Subtract => Ok(Expr::Sub(left, right)),
-        Operator::Multiply => Ok(Expr::Mul(left, right)),
+        Operator::Add => Expr::new_add(alloc, left, right),
+        Operator::Subtract => Expr::new_sub(alloc, left, right),
+        Operator::Multiply => Expr::new_mul(alloc, left, right),
     }
 }
 
@@ -109,11 +109,11 @@ impl Reading for Build<'_> {
 
     ghost actions = { λ s. trees s.scope.now };
 
-    fn number(&self, _: Around, _: usize, n: u64) -> Result<Expr, TextFault> {
+    fn number(&self, _: Context, _: usize, n: u64) -> Result<Expr, TextFault> {
         Ok(Expr::Num(n))
     }
 
-    fn variable(&self, _: Around, _: usize, name: &str) -> Result<Expr, TextFault> {
+    fn variable(&self, _: Context, _: usize, name: &str) -> Result<Expr, TextFault> {
         Ok(variable(self.scope.find(name)))
     }
 
@@ -133,7 +133,7 @@ impl Reading for Build<'_> {
         Cond::False
     }
 
-    fn named_cond(&self, _: Around, _: usize, name: &str) -> Result<Cond, TextFault> {
+    fn named_cond(&self, _: Context, _: usize, name: &str) -> Result<Cond, TextFault> {
         Ok(condition(self.scope.find(name)))
     }
 
@@ -142,7 +142,7 @@ impl Reading for Build<'_> {
     }
 
     fn negated_cond(&self, operand: Cond) -> Result<Cond, TextFault> {
-        Ok(Cond::Not(Box::new(self.alloc, operand)?))
+        Ok(Cond::new_not(self.alloc, operand)?)
     }
 
     fn enclosed_cond(&self, inside: Cond) -> Cond {
@@ -176,7 +176,7 @@ impl Reading for Build<'_> {
         Kat::One
     }
 
-    fn named_term(&self, _: Around, _: usize, text: &str) -> Result<Kat, TextFault> {
+    fn named_term(&self, _: Context, _: usize, text: &str) -> Result<Kat, TextFault> {
         Ok(name(self.alloc, self.scope, self.scope.find(text))?)
     }
 
@@ -185,15 +185,15 @@ impl Reading for Build<'_> {
     }
 
     fn tested(&self, inside: Cond) -> Result<Kat, TextFault> {
-        Ok(Kat::Test(test_of(self.alloc, inside)?))
+        Ok(Kat::Test(test_without_comparisons(self.alloc, inside)?))
     }
 
     fn enclosed_term(&self, inside: Kat) -> Kat {
         inside
     }
 
-    fn starred(&self, _: Around, _: usize, operand: Kat) -> Result<Kat, TextFault> {
-        Ok(Kat::Star(Box::new(self.alloc, operand)?))
+    fn starred(&self, _: Context, _: usize, operand: Kat) -> Result<Kat, TextFault> {
+        Ok(Kat::new_star(self.alloc, operand)?)
     }
 
     fn one_term(&self, first: Kat) -> Result<Vec<Kat>, TextFault> {

@@ -2,14 +2,7 @@
 ghost use Rattle.std.specs.Prelude.{◌≡◌};
 ghost use Rattle.kat_text.specs.Measuring.{limited, deeper, linked, topped, negated, tested, compared_nodes, compare};
 
-// The most nodes of a phrase.
-pub(crate) const MOST_NODES: u64 = 100_000;
-
-// The most nodes of an expression.
-pub(crate) const MOST_EXPR_NODES: u64 = 1_000;
-
-// The most levels of nesting.
-pub(crate) const MOST_OPEN: usize = 200;
+use kat_model::{MAX_EXPR_NODES, MAX_OPEN, MAX_TERM_NODES};
 
 /// How large and how deep a phrase is. Each number stops one past its limit.
 #[derive(Clone, Copy, Debug, PartialEq, Eq)]
@@ -26,9 +19,9 @@ pub(crate) fn limited(nodes: u64, test_nodes: u64, nesting: usize) -> Extent
     ensures { result ≡ limited nodes test_nodes nesting }
 {
     Extent {
-        nodes: nodes.min(MOST_NODES + 1),
-        test_nodes: test_nodes.min(MOST_NODES + 1),
-        nesting: nesting.min(MOST_OPEN + 1),
+        nodes: nodes.min(MAX_TERM_NODES + 1),
+        test_nodes: test_nodes.min(MAX_TERM_NODES + 1),
+        nesting: nesting.min(MAX_OPEN + 1),
     }
 }
 
@@ -97,8 +90,8 @@ impl Extent {
 fn compared_nodes(nodes: u64) -> u64
     ensures { result ≡ compared_nodes nodes }
 {
-    if nodes > MOST_EXPR_NODES {
-        return MOST_NODES + 1;
+    if nodes > MAX_EXPR_NODES {
+        return MAX_TERM_NODES + 1;
     }
     nodes
 }

@@ -1,42 +1,25 @@
 //! Laws of the definitions. Each function does nothing: its contract is the law.
-ghost use Rattle.std.specs.Prelude.{◌≡◌, ◌≤◌, ◌+◌, ◌↔◌, ℕ, List, [], length, Bool, true, false, Ok, IsOk};
-ghost use Rattle.kat_model.specs.Trees.{Term, term_size};
-ghost use Rattle.kat_model.specs.Expressions.{ExprTree, CondTree};
-ghost use Rattle.kat_tokens.specs.declared.lexer.TheConstants.{MAX_LEN};
-ghost use Rattle.kat_tokens.specs.Pieces.{spelled};
-ghost use Rattle.kat_syntax.specs.declared.reading.Around.{Around};
-ghost use Rattle.kat_syntax.specs.Phrases.{term, cond, expr, Phrase, Fits};
+ghost use Rattle.std.specs.Prelude.{◌≡◌, ◌↔◌, false, Ok, IsOk};
+ghost use Rattle.kat_syntax.specs.declared.reading.Context.{Context};
+ghost use Rattle.kat_syntax.specs.Phrases.{term, cond, expr, Phrase, IsWithinLimits};
 ghost use Rattle.kat_syntax.specs.Folds.{fold};
-ghost use Rattle.kat_text.specs.declared.meaning.Meaning.{Meaning};
 ghost use Rattle.kat_text.specs.declared.extent.Extent.{Extent};
-ghost use Rattle.kat_text.specs.Sizes.{expr_size, cond_size, largest_expr};
-ghost use Rattle.kat_text.specs.Worlds.{World, IsNameOf};
+ghost use Rattle.kat_text.specs.ScopeParts.{ScopeParts};
 ghost use Rattle.kat_text.specs.Measuring.{extents};
-ghost use Rattle.kat_text.specs.Readings.{term_at, cond_at, expr_at};
 ghost use Rattle.kat_text.specs.Sound.{IsSound};
-ghost use Rattle.kat_text.specs.Printing.{name_of, expr_pieces, cond_pieces, term_pieces, ExprIsNamed, CondIsNamed, TermIsNamed, has_comparison, expr_nesting, cond_nesting, term_nesting};
-ghost use Rattle.kat_text.specs.Laws.{MeasuresTerm, MeasuresCond, MeasuresExpr, ReadsBack};
+ghost use Rattle.kat_text.specs.Laws.{MeasuresTerm, MeasuresCond, MeasuresExpr};
 
 /// A phrase is measured exactly where it is sound, nests at most 200 constructs and has no number of 2^64 or more.
 pub fn sound_phrases_are_measured()
-    ensures terms { (w : World) (c : Around) (p : Phrase term) → IsOk (fold (extents w) c p (λ m. m)) ↔ (IsSound w c p × Fits c.depth p) }
-    ensures conds { (w : World) (c : Around) (p : Phrase cond) → IsOk (fold (extents w) c p (λ m. m)) ↔ (IsSound w c p × Fits c.depth p) }
-    ensures exprs { (w : World) (c : Around) (p : Phrase expr) → IsOk (fold (extents w) c p (λ m. m)) ↔ (IsSound w c p × Fits c.depth p) }
+    ensures terms { (w : ScopeParts) (c : Context) (p : Phrase term) → IsOk (fold (extents w) c p (λ m. m)) ↔ (IsSound w c p × IsWithinLimits c.depth p) }
+    ensures conds { (w : ScopeParts) (c : Context) (p : Phrase cond) → IsOk (fold (extents w) c p (λ m. m)) ↔ (IsSound w c p × IsWithinLimits c.depth p) }
+    ensures exprs { (w : ScopeParts) (c : Context) (p : Phrase expr) → IsOk (fold (extents w) c p (λ m. m)) ↔ (IsSound w c p × IsWithinLimits c.depth p) }
 {}
 
 /// A phrase that is measured has a tree, and the measures are the size of the tree and the nesting of the phrase, each
 /// up to one past its limit.
 pub fn measures_are_of_trees()
-    ensures terms { (w : World) (c : Around) (p : Phrase term) (m : Extent) → c.compares ≡ false → fold (extents w) c p (λ m. m) ≡ Ok m → MeasuresTerm w c p m }
-    ensures conds { (w : World) (c : Around) (p : Phrase cond) (m : Extent) → fold (extents w) c p (λ m. m) ≡ Ok m → MeasuresCond w c p m }
-    ensures exprs { (w : World) (c : Around) (p : Phrase expr) (m : Extent) → fold (extents w) c p (λ m. m) ≡ Ok m → MeasuresExpr w c p m }
-{}
-
-/// What is printed with the one name of each number reads back to the same tree with nothing left, where the text, the
-/// size of the tree and the nesting of the text are within the limits.
-pub fn printed_reads_back()
-    ensures terms { (w : World) (names : Meaning → List ℕ) (e : Term) (d : ℕ) → TermIsNamed w names e → length (spelled (term_pieces names e [])) ≤ MAX_LEN → term_size e ≤ 100000 → d + term_nesting e ≤ 200 → ReadsBack (term_pieces names e []) (term_at w d) e (term_nesting e) }
-    ensures conds { (w : World) (names : Meaning → List ℕ) (b : CondTree) (d : ℕ) (compares : Bool) → CondIsNamed w names b → (has_comparison b ≡ true → compares ≡ true) → length (spelled (cond_pieces names b [])) ≤ MAX_LEN → largest_expr b ≤ 1000 → cond_size b ≤ 100000 → d + cond_nesting b ≤ 200 → ReadsBack (cond_pieces names b []) (cond_at w d compares) b (cond_nesting b) }
-    ensures exprs { (w : World) (names : Meaning → List ℕ) (e : ExprTree) (d : ℕ) → ExprIsNamed w names e → length (spelled (expr_pieces names e [])) ≤ MAX_LEN → expr_size e ≤ 1000 → d + expr_nesting e ≤ 200 → ReadsBack (expr_pieces names e []) (expr_at w d) e (expr_nesting e) }
-    ensures names { (w : World) (m : Meaning) (name : List ℕ) → IsNameOf w name m → name_of w m ≡ name }
+    ensures terms { (w : ScopeParts) (c : Context) (p : Phrase term) (m : Extent) → c.compares ≡ false → fold (extents w) c p (λ m. m) ≡ Ok m → MeasuresTerm w c p m }
+    ensures conds { (w : ScopeParts) (c : Context) (p : Phrase cond) (m : Extent) → fold (extents w) c p (λ m. m) ≡ Ok m → MeasuresCond w c p m }
+    ensures exprs { (w : ScopeParts) (c : Context) (p : Phrase expr) (m : Extent) → fold (extents w) c p (λ m. m) ≡ Ok m → MeasuresExpr w c p m }
 {}

@@ -1,14 +1,14 @@
 //! The faults of the names of a phrase, and how large and how deep it is.
 ghost use Rattle.std.specs.Prelude.{◌≡◌, slice_get};
 ghost use Rattle.kat_syntax.specs.Parsed.{Makes};
-ghost use Rattle.kat_text.specs.Worlds.{meaning};
+ghost use Rattle.kat_text.specs.ScopeParts.{meaning};
 ghost use Rattle.kat_text.specs.Measuring.{number_extent, variable_extent, condition_extent, defined_extent, name_extent, extents};
 
-use crate::extent::{Extent, MOST_OPEN, limited};
+use crate::extent::{Extent, limited};
 use crate::meaning::Meaning;
 use crate::scope::Scope;
-use kat_model::Rel;
-use kat_syntax::{Around, Operator, Reading};
+use kat_model::{MAX_OPEN, Rel};
+use kat_syntax::{Context, Operator, Reading};
 use kat_tokens::TextFault;
 
 // Measures a phrase, and refuses what may not stand in it.
@@ -17,21 +17,21 @@ pub(crate) struct Measure<'a> {
     pub(crate) scope: &'a Scope,
 }
 
-fn of_number(around: Around, at: usize) -> Result<Extent, TextFault>
-    ensures { result ≡ number_extent around at }
+fn of_number(context: Context, at: usize) -> Result<Extent, TextFault>
+    ensures { result ≡ number_extent context at }
 {
-    if !around.compares {
+    if !context.compares {
         return Err(TextFault::Sort(at));
     }
     Ok(limited(1, 0, 0))
 }
 
-fn of_variable(around: Around, at: usize, meaning: Option<Meaning>) -> Result<Extent, TextFault>
-    ensures { result ≡ variable_extent around at meaning }
+fn of_variable(context: Context, at: usize, meaning: Option<Meaning>) -> Result<Extent, TextFault>
+    ensures { result ≡ variable_extent context at meaning }
 {
     match meaning {
         None => Err(TextFault::UnknownName(at)),
-        Some(Meaning::Var(_)) => of_number(around, at),
+        Some(Meaning::Var(_)) => of_number(context, at),
         Some(_) => Err(TextFault::Sort(at)),
     }
 }
@@ -46,16 +46,16 @@ fn of_condition(at: usize, meaning: Option<Meaning>) -> Result<Extent, TextFault
     }
 }
 
-fn of_definition(scope: &Scope, around: Around, at: usize, i: usize) -> Result<Extent, TextFault>
-    ensures { result ≡ defined_extent around at (slice_get scope.now.terms i) }
+fn of_definition(scope: &Scope, context: Context, at: usize, i: usize) -> Result<Extent, TextFault>
+    ensures { result ≡ defined_extent context at (slice_get scope.now.terms i) }
 {
     let Some(definition) = scope.definition(i) else {
         return Ok(limited(1, 1, 0));
     };
-    if around.negated && !definition.testable {
+    if context.negated && !definition.testable {
         return Err(TextFault::Sort(at));
     }
-    if around.depth.saturating_add(definition.nesting) > MOST_OPEN {
+    if context.depth.saturating_add(definition.nesting) > MAX_OPEN {
         return Err(TextFault::TooDeep(at));
     }
     Ok(definition.extent)
@@ -63,22 +63,22 @@ fn of_definition(scope: &Scope, around: Around, at: usize, i: usize) -> Result<E
 
 fn of_name(
     scope: &Scope,
-    around: Around,
+    context: Context,
     at: usize,
     meaning: Option<Meaning>,
 ) -> Result<Extent, TextFault>
-    ensures { result ≡ name_extent scope.now around at meaning }
+    ensures { result ≡ name_extent scope.now context at meaning }
 {
     match meaning {
         None => Err(TextFault::UnknownName(at)),
         Some(Meaning::Test(_)) => Ok(limited(2, 1, 0)),
         Some(Meaning::Action(_)) => {
-            if around.negated {
+            if context.negated {
                 return Err(TextFault::Sort(at));
             }
             Ok(limited(1, 1, 0))
         }
-        Some(Meaning::Term(i)) => of_definition(scope, around, at, i),
+        Some(Meaning::Term(i)) => of_definition(scope, context, at, i),
         Some(_) => Err(TextFault::Sort(at)),
     }
 }
@@ -120,12 +120,12 @@ impl Reading for Measure<'_> {
 
     ghost actions = { λ s. extents s.scope.now };
 
-    fn number(&self, around: Around, at: usize, _: u64) -> Result<Extent, TextFault> {
-        of_number(around, at)
+    fn number(&self, context: Context, at: usize, _: u64) -> Result<Extent, TextFault> {
+        of_number(context, at)
     }
 
-    fn variable(&self, around: Around, at: usize, name: &str) -> Result<Extent, TextFault> {
-        of_variable(around, at, self.scope.find(name))
+    fn variable(&self, context: Context, at: usize, name: &str) -> Result<Extent, TextFault> {
+        of_variable(context, at, self.scope.find(name))
     }
 
     fn join(&self, _: Operator, left: Extent, right: Extent) -> Result<Extent, TextFault> {
@@ -144,7 +144,7 @@ impl Reading for Measure<'_> {
         limited(1, 1, 0)
     }
 
-    fn named_cond(&self, _: Around, at: usize, name: &str) -> Result<Extent, TextFault> {
+    fn named_cond(&self, _: Context, at: usize, name: &str) -> Result<Extent, TextFault> {
         of_condition(at, self.scope.find(name))
     }
 
@@ -184,8 +184,8 @@ impl Reading for Measure<'_> {
         limited(1, 1, 0)
     }
 
-    fn named_term(&self, around: Around, at: usize, name: &str) -> Result<Extent, TextFault> {
-        of_name(self.scope, around, at, self.scope.find(name))
+    fn named_term(&self, context: Context, at: usize, name: &str) -> Result<Extent, TextFault> {
+        of_name(self.scope, context, at, self.scope.find(name))
     }
 
     fn negated_term(&self, operand: Extent) -> Result<Extent, TextFault> {
@@ -200,8 +200,8 @@ impl Reading for Measure<'_> {
         inside.deeper()
     }
 
-    fn starred(&self, around: Around, at: usize, operand: Extent) -> Result<Extent, TextFault> {
-        if around.negated {
+    fn starred(&self, context: Context, at: usize, operand: Extent) -> Result<Extent, TextFault> {
+        if context.negated {
             return Err(TextFault::Sort(at));
         }
         Ok(operand.topped())

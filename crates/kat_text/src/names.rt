@@ -19,7 +19,7 @@ pub(crate) struct Names {
 
 impl Model for Names {
     ghost use Rattle.std.specs.FinMap.{get};
-    ghost use Rattle.kat_text.specs.Worlds.{Meanings, meanings_of};
+    ghost use Rattle.kat_text.specs.ScopeParts.{Meanings, meanings_of};
     ghost use Rattle.kat_text.specs.Definitions.{coded_meanings};
     ghost use Rattle.kat_text.specs.Names.{AreInverse, text_of};
 

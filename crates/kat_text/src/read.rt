@@ -3,8 +3,8 @@ ghost use Rattle.std.specs.Prelude.{◌≡◌, ◌<◌, ◌≤◌, length, drop,
 ghost use Rattle.kat_model.specs.Trees.{kat_tree};
 ghost use Rattle.kat_model.specs.Expressions.{cond_tree, expr_tree};
 ghost use Rattle.kat_syntax.specs.Lexemes.{lexemes};
-ghost use Rattle.kat_syntax.specs.Parsed.{place_of, Reads, Goes};
-ghost use Rattle.kat_syntax.specs.Actions.{around};
+ghost use Rattle.kat_syntax.specs.Parsed.{Reads, Goes};
+ghost use Rattle.kat_syntax.specs.Actions.{context};
 ghost use Rattle.kat_syntax.specs.Exprs.{parse_expr, sums};
 ghost use Rattle.kat_syntax.specs.Conds.{parse_cond, disjunction};
 ghost use Rattle.kat_syntax.specs.Terms.{parse_term, choice};
@@ -13,32 +13,13 @@ ghost use Rattle.kat_text.specs.Building.{trees, cond_trees, expr_trees};
 ghost use Rattle.kat_text.specs.Readings.{Answers, term_at, cond_at, expr_at};
 
 use crate::build::Build;
-use crate::extent::{Extent, MOST_EXPR_NODES, MOST_NODES};
+use crate::extent::Extent;
 use crate::measure::Measure;
 use crate::scope::Scope;
-use kat_model::{Cond, Expr, Kat};
-use kat_syntax::{Around, sign_at};
+use kat_model::{Cond, Expr, Kat, MAX_EXPR_NODES, MAX_TERM_NODES};
+use kat_syntax::{Context, place_at};
 use kat_tokens::{TextFault, Token};
 use std::alloc::Global;
-
-fn place_at(toks: &[Token], i: usize) -> usize
-    ensures { result ≡ place_of (drop i (lexemes toks.now)) }
-{
-    match sign_at(toks, i) {
-        Some((_, at)) => at,
-        None => usize::MAX,
-    }
-}
-
-fn outermost(depth: usize, compares: bool) -> Around
-    ensures { result ≡ around depth false compares }
-{
-    Around {
-        depth,
-        negated: false,
-        compares,
-    }
-}
 
 /// How large and how deep the term that begins at `from` is, with `depth` constructs open around it, and the index
 /// after it; or the first fault of its syntax or its names in text order. It takes no memory.
@@ -48,10 +29,15 @@ pub fn measure_term(
     depth: usize,
     scope: &Scope,
 ) -> Result<(Extent, usize), TextFault>
-    ensures value { Reads ⊥ (λ m. m) (lexemes toks.now) result (parse_term (extents scope.now) choice (around depth false false) (drop from (lexemes toks.now))) }
+    ensures value { Reads ⊥ (λ m. m) (lexemes toks.now) result (parse_term (extents scope.now) choice (context depth false false) (drop from (lexemes toks.now))) }
     ensures goes { Goes from (length toks.now) result }
 {
-    kat_syntax::read_term(&Measure { scope }, toks, from, outermost(depth, false))
+    kat_syntax::read_term(
+        &Measure { scope },
+        toks,
+        from,
+        Context::outermost(depth, false),
+    )
 }
 
 /// How large and how deep the condition that begins at `from` is, as `measure_term` for a term. Where `compares` is
@@ -63,21 +49,33 @@ pub fn measure_cond(
     scope: &Scope,
     compares: bool,
 ) -> Result<(Extent, usize), TextFault>
-    ensures value { Reads ⊥ (λ m. m) (lexemes toks.now) result (parse_cond (cond_extents scope.now) disjunction (around depth false compares) (drop from (lexemes toks.now))) }
+    ensures value { Reads ⊥ (λ m. m) (lexemes toks.now) result (parse_cond (cond_extents scope.now) disjunction (context depth false compares) (drop from (lexemes toks.now))) }
     ensures goes { Goes from (length toks.now) result }
 {
-    kat_syntax::read_cond(&Measure { scope }, toks, from, outermost(depth, compares))
+    kat_syntax::read_cond(
+        &Measure { scope },
+        toks,
+        from,
+        Context::outermost(depth, compares),
+    )
 }
 
-fn measure_expr(
+/// How large and how deep the expression that begins at `from` is, as `measure_term` for a term.
+pub fn measure_expr(
     toks: &[Token],
     from: usize,
     depth: usize,
     scope: &Scope,
 ) -> Result<(Extent, usize), TextFault>
-    ensures { Reads ⊥ (λ m. m) (lexemes toks.now) result (parse_expr (expr_extents scope.now) sums (around depth false true) (drop from (lexemes toks.now))) }
+    ensures value { Reads ⊥ (λ m. m) (lexemes toks.now) result (parse_expr (expr_extents scope.now) sums (context depth false true) (drop from (lexemes toks.now))) }
+    ensures goes { Goes from (length toks.now) result }
 {
-    kat_syntax::read_expr(&Measure { scope }, toks, from, outermost(depth, true))
+    kat_syntax::read_expr(
+        &Measure { scope },
+        toks,
+        from,
+        Context::outermost(depth, true),
+    )
 }
 
 /// The tree of the term that begins at `from`, with `depth` constructs open around it, and the index after it. What
@@ -89,10 +87,15 @@ pub fn build_term(
     depth: usize,
     scope: &Scope,
 ) -> Result<(Kat, usize), TextFault>
-    ensures value { Reads (Unit {0}) kat_tree (lexemes toks.now) result (parse_term (trees scope.now) choice (around depth false false) (drop from (lexemes toks.now))) }
+    ensures value { Reads (Unit {0}) kat_tree (lexemes toks.now) result (parse_term (trees scope.now) choice (context depth false false) (drop from (lexemes toks.now))) }
     ensures goes { Goes from (length toks.now) result }
 {
-    kat_syntax::read_term(&Build { alloc, scope }, toks, from, outermost(depth, false))
+    kat_syntax::read_term(
+        &Build { alloc, scope },
+        toks,
+        from,
+        Context::outermost(depth, false),
+    )
 }
 
 /// The tree of the condition that begins at `from`, as `build_term` for a term.
@@ -104,28 +107,34 @@ pub fn build_cond(
     scope: &Scope,
     compares: bool,
 ) -> Result<(Cond, usize), TextFault>
-    ensures value { Reads (Unit {0}) cond_tree (lexemes toks.now) result (parse_cond (cond_trees scope.now) disjunction (around depth false compares) (drop from (lexemes toks.now))) }
+    ensures value { Reads (Unit {0}) cond_tree (lexemes toks.now) result (parse_cond (cond_trees scope.now) disjunction (context depth false compares) (drop from (lexemes toks.now))) }
     ensures goes { Goes from (length toks.now) result }
 {
     kat_syntax::read_cond(
         &Build { alloc, scope },
         toks,
         from,
-        outermost(depth, compares),
+        Context::outermost(depth, compares),
     )
 }
 
-fn build_expr(
+/// The tree of the expression that begins at `from`, as `build_term` for a term.
+pub fn build_expr(
     alloc: Global,
     toks: &[Token],
     from: usize,
     depth: usize,
     scope: &Scope,
 ) -> Result<(Expr, usize), TextFault>
-    ensures value { Reads (Unit {0}) expr_tree (lexemes toks.now) result (parse_expr (expr_trees scope.now) sums (around depth false true) (drop from (lexemes toks.now))) }
+    ensures value { Reads (Unit {0}) expr_tree (lexemes toks.now) result (parse_expr (expr_trees scope.now) sums (context depth false true) (drop from (lexemes toks.now))) }
     ensures goes { Goes from (length toks.now) result }
 {
-    kat_syntax::read_expr(&Build { alloc, scope }, toks, from, outermost(depth, true))
+    kat_syntax::read_expr(
+        &Build { alloc, scope },
+        toks,
+        from,
+        Context::outermost(depth, true),
+    )
 }
 
 fn within(extent: Extent, limit: u64, at: usize) -> Result<(), TextFault>
@@ -153,7 +162,7 @@ pub fn read_term(
     ensures goes { IfOk result (λ x. (from < x.1) × (x.1 ≤ length toks.now)) }
 {
     let (extent, _) = measure_term(toks, from, depth, scope)?;
-    within(extent, MOST_NODES, place_at(toks, from))?;
+    within(extent, MAX_TERM_NODES, place_at(toks, from))?;
     let (term, end) = build_term(alloc, toks, from, depth, scope)?;
     Ok((term, end, extent.nesting))
 }
@@ -172,7 +181,7 @@ pub fn read_cond(
     ensures goes { IfOk result (λ x. (from < x.1) × (x.1 ≤ length toks.now)) }
 {
     let (extent, _) = measure_cond(toks, from, depth, scope, compares)?;
-    within(extent, MOST_NODES, place_at(toks, from))?;
+    within(extent, MAX_TERM_NODES, place_at(toks, from))?;
     let (cond, end) = build_cond(alloc, toks, from, depth, scope, compares)?;
     Ok((cond, end, extent.nesting))
 }
@@ -189,10 +198,7 @@ pub fn read_expr(
     ensures goes { IfOk result (λ x. (from < x.1) × (x.1 ≤ length toks.now)) }
 {
     let (extent, _) = measure_expr(toks, from, depth, scope)?;
-    within(extent, MOST_EXPR_NODES, place_at(toks, from))?;
+    within(extent, MAX_EXPR_NODES, place_at(toks, from))?;
     let (expr, end) = build_expr(alloc, toks, from, depth, scope)?;
     Ok((expr, end, extent.nesting))
 }
-
-#[cfg(test)]
-mod tests;

@@ -5,7 +5,7 @@ ghost use Rattle.kat_model.specs.Trees.{kat_tree};
 ghost use Rattle.kat_tokens.specs.declared.token.Kind.TheVariants.{Name};
 ghost use Rattle.kat_tokens.specs.Kinds.{IsToken};
 ghost use Rattle.kat_tokens.specs.Keywords.{is_keyword};
-ghost use Rattle.kat_text.specs.Worlds.{meaning, IsWellFormed, IsNameOf, IsUnnamed, IsUndeclared, empty_world, is_term, declared, defined, IsRefusal};
+ghost use Rattle.kat_text.specs.ScopeParts.{meaning, IsWellFormed, IsNameOf, IsUnnamed, IsUndeclared, empty_scope, is_term, declared, defined, IsRefusal};
 ghost use Rattle.kat_text.specs.Definitions.{definition_of};
 
 use crate::definition::Definition;
@@ -27,10 +27,10 @@ impl Model for Scope {
     ghost use Rattle.std.specs.Prelude.{map};
     ghost use Rattle.std.specs.Coded.{codes};
     ghost use Rattle.kat_model.specs.Codes.{coded_term};
-    ghost use Rattle.kat_text.specs.Worlds.{World, IsWellFormed};
+    ghost use Rattle.kat_text.specs.ScopeParts.{ScopeParts, IsWellFormed};
     ghost use Rattle.kat_text.specs.Definitions.{definition_of, coded_meanings};
 
-    ghost Value = { World };
+    ghost Value = { ScopeParts };
 
     ghost coded = { Prim.hlevel (codes, coded_term, coded_meanings) };
 
@@ -42,7 +42,7 @@ impl Model for Scope {
 impl Scope {
     /// The scope that declares nothing.
     pub fn new(alloc: Global) -> Scope
-        ensures { result ≡ empty_world }
+        ensures { result ≡ empty_scope }
     {
         Scope {
             names: Names::new(alloc),
@@ -66,9 +66,9 @@ impl Scope {
         self.names.name(meaning)
     }
 
-    /// Declares a name. The token is a name, as [`crate::tokens`] gives them, and no keyword. The meaning is no term,
+    /// Declares a name. The token is a name, as [`kat_tokens::tokens`] gives them, and no keyword. The meaning is no term,
     /// and no name stands for it yet, as [`Scope::name`] tells. `DoubleName` comes with the token's place exactly where
-    /// the name is there, whatever it stands for. The other refusal is want of memory. Both leave the scope as it was.
+    /// the name is there, whatever it stands for. Otherwise it fails only when out of memory. Both leave the scope as it was.
     pub fn declare(&mut self, name: &Token, meaning: Meaning) -> Result<(), TextFault>
         requires name { IsToken Name name.now.text.now }
         requires no_keyword { is_keyword name.now.text.now ≡ false }
@@ -120,6 +120,3 @@ impl Scope {
         self.definitions.get(i)
     }
 }
-
-#[cfg(test)]
-mod tests;

@@ -1,5 +1,6 @@
 -- The token at the front, by its first character.
-use Rattle.std.proofs.Common.{◌≡◌, ◌≤◌, ◌<◌, ◌+◌, ℕ, List, [], ◌∷◌, ◌++◌, length, drop, take, Bool, true, false, not, refl, sym, ap, ◌∙◌, arith, subst, length-append, length-take-le, length-drop, take-append-drop, append_assoc, get_or, zero, suc, cond, add-one, if◌then◌else◌}
+use Rattle.std.proofs.Common.{◌≡◌, ◌≤◌, ◌<◌, ◌+◌, ℕ, List, [], ◌∷◌, ◌++◌, length, drop, take, Bool, true, false, refl, sym, ap, ◌∙◌, arith, subst, length-append, length-take-le, length-drop, take-append-drop, append_assoc, get_or, zero, suc, cond, add-one, if◌then◌else◌}
+use Rattle.std.proofs.lemmas.Bool.{not-false, and_parts}
 use Rattle.std.proofs.lemmas.List.{length-take}
 use Rattle.std.proofs.lemmas.List.Sums.{take_while-cons}
 use Rattle.std.specs.Cmp.Derive.{both_true}
@@ -15,7 +16,7 @@ use Rattle.kat_tokens.specs.Kinds.{is_name, begins_name, is_symbol, IsToken}
 use Rattle.kat_tokens.specs.Lex.{BeginsNone}
 use Rattle.kat_tokens.specs.Fronts.{symbol_len, IsNameLen, IsFirst}
 use Rattle.kat_tokens.proofs.NameRuns.{ends_run}
-use Rattle.kat_tokens.proofs.Beginnings.{both, is_mark, symbol_marks, symbol_begins, number_begins, number_digits, digits_number, name_begins, name_from_parts, begins_continues, begins_no_digit, begins_no_mark, digit_no_mark, digit_small, mark_small, char_some}
+use Rattle.kat_tokens.proofs.Beginnings.{is_mark, symbol_marks, symbol_begins, number_begins, number_digits, digits_number, name_begins, name_from_parts, begins_continues, begins_no_digit, begins_no_mark, digit_no_mark, digit_small, mark_small, char_some}
 use Rattle.kat_tokens.proofs.Runs.{run_longest, digits_longest, digits_all, symbol_longest}
 
 -- the text begins with this character
@@ -54,18 +55,14 @@ first_mark text c token more begins symbol front =
 
 continues_all : (cs : List ℕ) → NonePass ends_run cs → list_all is_xid_continue cs ≡ true
 continues_all [] none = refl
-continues_all (c ∷ cs) (here, none) = both_true (not_false (is_xid_continue c) here) (continues_all cs none)
-  where
-    not_false : (b : Bool) → not b ≡ false → b ≡ true
-    not_false true e = refl
-    not_false false e = cc
+continues_all (c ∷ cs) (here, none) = both_true (not-false (is_xid_continue c) here) (continues_all cs none)
 
 -- the run at the front has a character, and is a name
 run_is_name : (text : List ℕ) (n c : ℕ) (cs : List ℕ) → Begins text c → begins_name c ≡ true → encode_utf8_all cs ≡ take n text → list_all is_xid_continue cs ≡ true → 0 < n → n ≤ length text → is_name cs ≡ true
 run_is_name text n c [] begins starts e all some within = absurd (omega (arith, ap length e, length-take-le n text within))
 run_is_name text n c (d ∷ ds) begins starts e all some within =
     let same : d ≡ c = same_first text c d (take n text) (encode_utf8_all ds) (drop n text) begins (sym e) (sym (take-append-drop n text)) in
-    both_true (subst (λ v. begins_name v ≡ true) (sym same) starts) (both (is_xid_continue d) (list_all is_xid_continue ds) all).1
+    both_true (subst (λ v. begins_name v ≡ true) (sym same) starts) (and_parts (is_xid_continue d) (list_all is_xid_continue ds) all).1
 
 -- at a character that begins a name the run is not empty
 run_some : (text : List ℕ) (n c : ℕ) → Begins text c → begins_name c ≡ true → IsNameLen text n → 0 < n
@@ -188,8 +185,8 @@ two_parts : (a b : ℕ) (more : List ℕ) (t : Bool) → is_symbol (a ∷ b ∷ 
 two_parts a b more true e some = record { within = omega arith; symbol = e; small = λ i below. at i below }
   where
     at : (i : ℕ) → i < 2 → get_or (a ∷ b ∷ more) i 0 < 128
-    at zero below = mark_small a (both (is_mark a) (is_mark b) (symbol_marks (a ∷ b ∷ []) e)).0
-    at (suc zero) below = mark_small b (both (is_mark a) (is_mark b) (symbol_marks (a ∷ b ∷ []) e)).1
+    at zero below = mark_small a (and_parts (is_mark a) (is_mark b) (symbol_marks (a ∷ b ∷ []) e)).0
+    at (suc zero) below = mark_small b (and_parts (is_mark a) (is_mark b) (symbol_marks (a ∷ b ∷ []) e)).1
     at (suc (suc i)) below = absurd (omega (arith, below))
 two_parts a b more false e some = one_parts a (b ∷ more) (is_symbol (a ∷ [])) refl some
 

@@ -1,6 +1,6 @@
 -- Separators and comments end between characters.
 use Rattle.std.proofs.Common.{◌≡◌, ◌≤◌, ◌<◌, ◌+◌, ℕ, List, [], ◌∷◌, ◌++◌, length, drop, Bool, true, false, not, nat_lt, refl, sym, ap, ◌∙◌, arith, subst, get_or, ◌==◌, append-nil, zero, suc, if◌then◌else◌, lit<}
-use Rattle.std.proofs.lemmas.Bool.{ltb-true, ltb-false}
+use Rattle.std.proofs.lemmas.Bool.{and_parts, ltb-true, ltb-false}
 use Rattle.std.specs.Prelude.{encode_utf8, encode_utf8_all}
 use Rattle.std.specs.Str.{IsUtf8, IsCharBoundary}
 use Rattle.std.proofs.lemmas.Str.{encode_ascii, inside_one, IsUtf8-nil, IsCharBoundary-from_drop}
@@ -8,7 +8,7 @@ use Rattle.std.proofs.lemmas.Bool.Decides.{nat_tests}
 use lib.Utf8.{scalars}
 use Rattle.kat_tokens.specs.Kinds.{is_separator}
 use Rattle.kat_tokens.specs.Lex.{gap_len}
-use Rattle.kat_tokens.proofs.Beginnings.{both, char_some}
+use Rattle.kat_tokens.proofs.Beginnings.{char_some}
 
 -- ---- how long a gap is
 
@@ -99,7 +99,7 @@ char_step c cs false false e valid more =
 
 gap_utf8 : (cs : List ℕ) (m : Bool) → scalars cs ≡ true → IsUtf8 (after_gap m (encode_utf8_all cs))
 gap_utf8 [] m valid = IsUtf8-nil
-gap_utf8 (c ∷ cs) m valid = char_step c cs m (nat_lt c 128) refl valid (λ n. gap_utf8 cs n (both _ _ valid).1)
+gap_utf8 (c ∷ cs) m valid = char_step c cs m (nat_lt c 128) refl valid (λ n. gap_utf8 cs n (and_parts _ _ valid).1)
 
 -- so a gap ends where the text may be cut
 pub gap_cut : (text : List ℕ) → IsUtf8 text → IsCharBoundary text (gap_len false text)

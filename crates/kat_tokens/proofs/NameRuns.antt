@@ -1,5 +1,6 @@
 -- The run of characters that continue a name.
-use Rattle.std.proofs.Common.{◌≡◌, ◌≤◌, ℕ, List, length, drop, take, Bool, true, false, not, refl, sym, arith, subst}
+use Rattle.std.proofs.Common.{◌≡◌, ◌≤◌, ℕ, List, length, drop, take, Bool, true, not, sym, arith, subst}
+use Rattle.std.proofs.lemmas.Bool.{not-true}
 use Rattle.std.specs.Str.{NoCharPasses, IsCharBoundary}
 use Rattle.std.specs.Str.Pattern.{HasCharAt}
 use Rattle.std.proofs.Math.Seq.{take-length}
@@ -10,14 +11,10 @@ use Rattle.kat_tokens.specs.Fronts.{IsNameLen}
 abbrev pub ends_run : ℕ → Bool
 ends_run c = not (is_xid_continue c)
 
-not_true : (b : Bool) → not b ≡ true → b ≡ false
-not_true true e = cc
-not_true false e = refl
-
 -- the run ends where the search found a character
 pub run_to : (bytes : List ℕ) (n to : ℕ) → n ≤ length bytes → IsCharBoundary bytes n → NoCharPasses ends_run (take n bytes) × ((c : ℕ) × (ends_run c ≡ true) × HasCharAt c bytes n to) → IsNameLen bytes n
 run_to bytes n to within cut (run, (c, ends, here)) =
-    record { within = within; cut = cut; run = run; ends = λ _. (c, drop to bytes, here.split, not_true _ ends) }
+    record { within = within; cut = cut; run = run; ends = λ _. (c, drop to bytes, here.split, not-true _ ends) }
 
 -- all of the text is one run
 pub run_whole : (bytes : List ℕ) → NoCharPasses ends_run bytes → IsNameLen bytes (length bytes)

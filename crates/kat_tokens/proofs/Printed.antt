@@ -2,7 +2,7 @@
 use Rattle.std.proofs.Common.{◌≡◌, ◌≤◌, ◌<◌, ℕ, ◌+◌, List, [], ◌∷◌, ◌++◌, length, drop, Bool, true, false, not, nat_lt, ◌&&◌, ◌||◌, ◌==◌, if◌then◌else◌, refl, sym, ap, ◌∙◌, arith, subst, inl, inr, append_assoc, length-append, cond}
 use Rattle.std.proofs.lemmas.List.{take_at, drop_at}
 use Rattle.std.proofs.lemmas.List.Sums.{take_while-cons}
-use Rattle.std.proofs.lemmas.Bool.{cases_lt, ltb-true}
+use Rattle.std.proofs.lemmas.Bool.{not-true, and_parts, cases_lt, ltb-true}
 use Rattle.std.proofs.lemmas.Bool.Decides.{nat_tests}
 use Rattle.std.proofs.lemmas.Str.{encode_ascii, IsUtf8-append, IsUtf8-nil, IsUtf8-from_ascii, IsCharBoundary-from_drop}
 use Rattle.std.proofs.lemmas.Str.Ascii.{IsAscii-cons}
@@ -17,11 +17,11 @@ use Rattle.kat_tokens.specs.declared.lexer.TheConstants.{MAX_LEN}
 use Rattle.kat_tokens.specs.declared.token.Kind.{Kind}
 use Rattle.kat_tokens.specs.declared.token.Kind.TheVariants.{Name, Number, Symbol}
 use Rattle.kat_tokens.specs.Kinds.{is_separator, begins_name, is_symbol, IsToken}
-use Rattle.kat_tokens.specs.Marks.{Mark, mark}
+use Rattle.kat_tokens.specs.TokenParts.{TokenParts, token_parts}
 use Rattle.kat_tokens.specs.Lex.{gap_len, gap_end, IsLongest, LexesFrom, Lexes}
 use Rattle.kat_tokens.specs.Fronts.{symbol_len, IsNameLen, IsFirst}
-use Rattle.kat_tokens.specs.Pieces.{Piece, lexeme, gap, spelled, marks_from, ends_name, EndsBefore, AreSeparate}
-use Rattle.kat_tokens.proofs.Beginnings.{both, is_mark, is_marks, symbol_marks, symbol_begins, number_begins, number_digits, name_begins, name_parts, begins_continues, begins_no_digit, begins_no_mark, begins_letter, digit_no_mark, digit_small, mark_small, char_some}
+use Rattle.kat_tokens.specs.Pieces.{Piece, lexeme, gap, spelled, parts_from, ends_name, EndsBefore, AreSeparate}
+use Rattle.kat_tokens.proofs.Beginnings.{is_mark, is_marks, symbol_marks, symbol_begins, number_begins, number_digits, name_begins, name_parts, begins_continues, begins_no_digit, begins_no_mark, begins_letter, digit_no_mark, digit_small, mark_small, char_some}
 use Rattle.kat_tokens.proofs.NameRuns.{ends_run}
 use Rattle.kat_tokens.proofs.Fronts.{Begins, name_first, number_first, symbol_first}
 use Rattle.kat_tokens.proofs.Gaps.{no_gap_at, no_gap_high, char_high}
@@ -37,17 +37,13 @@ not_both false h = refl
 
 none_passes : (cs : List ℕ) → list_all is_xid_continue cs ≡ true → NonePass ends_run cs
 none_passes [] all = tt
-none_passes (c ∷ cs) all = let parts = both (is_xid_continue c) (list_all is_xid_continue cs) all in (rw (parts.0) refl, none_passes cs parts.1)
-
-not_true : (b : Bool) → not b ≡ true → b ≡ false
-not_true true e = cc
-not_true false e = refl
+none_passes (c ∷ cs) all = let parts = and_parts (is_xid_continue c) (list_all is_xid_continue cs) all in (rw (parts.0) refl, none_passes cs parts.1)
 
 ends_small : (b : ℕ) → ends_name b ≡ true → b < 128
-ends_small b e = ltb-true b 128 (both (nat_lt b 128) _ e).0
+ends_small b e = ltb-true b 128 (and_parts (nat_lt b 128) _ e).0
 
 ends_stops : (b : ℕ) → ends_name b ≡ true → is_xid_continue b ≡ false
-ends_stops b e = is_xid_continue-ascii b (ends_small b e) ∙ not_true _ (both (nat_lt b 128) _ e).1
+ends_stops b e = is_xid_continue-ascii b (ends_small b e) ∙ not-true _ (and_parts (nat_lt b 128) _ e).1
 
 name_stops : (name rest : List ℕ) → EndsBefore Name name rest → length name < length (name ++ rest) → (e : ℕ) × (past : List ℕ) × (drop (length name) (name ++ rest) ≡ encode_utf8 e ++ past) × (is_xid_continue e ≡ false)
 name_stops name [] ends lt = absurd (omega (arith, length-append name []))
@@ -79,7 +75,7 @@ digits_stop (b ∷ bs) number ends = subst (λ t. take_while is_ascii_digit (b �
 digits_run : (number rest : List ℕ) → list_all is_ascii_digit number ≡ true → take_while is_ascii_digit rest ≡ [] → take_while is_ascii_digit (number ++ rest) ≡ number
 digits_run [] rest all stop = stop
 digits_run (d ∷ ds) rest all stop =
-    let parts = both (is_ascii_digit d) (list_all is_ascii_digit ds) all in
+    let parts = and_parts (is_ascii_digit d) (list_all is_ascii_digit ds) all in
     subst (λ t. take_while is_ascii_digit (d ∷ (ds ++ rest)) ≡ cond t (d ∷ take_while is_ascii_digit (ds ++ rest)) []) parts.0 (take_while-cons is_ascii_digit d (ds ++ rest))
     ∙ ap (λ l. d ∷ l) (digits_run ds rest parts.1 stop)
 
@@ -141,7 +137,7 @@ mark_apart : (c : ℕ) → is_mark c ≡ true → (not (c == 35) && not (is_sepa
 mark_apart c m = grind (arith, nat_tests)
 
 apart : (c : ℕ) (bs : List ℕ) → (not (c == 35) && not (is_separator c)) ≡ true → gap_len false (c ∷ bs) ≡ 0
-apart c bs e = let parts = both (not (c == 35)) (not (is_separator c)) e in no_gap_at c bs (not_true _ parts.0) (not_true _ parts.1)
+apart c bs e = let parts = and_parts (not (c == 35)) (not (is_separator c)) e in no_gap_at c bs (not-true _ parts.0) (not-true _ parts.1)
 
 char_no_gap : (c : ℕ) (rest : List ℕ) → begins_name c ≡ true → gap_len false (encode_utf8 c ++ rest) ≡ 0
 char_no_gap c rest begins = elim (cases_lt c 128) [
@@ -169,13 +165,13 @@ byte_utf8 b small = IsUtf8-from_ascii (b ∷ []) (IsAscii-cons b [] small (λ i.
 ascii_all : (bytes : List ℕ) (p : ℕ → Bool) → ((b : ℕ) → p b ≡ true → b < 128) → list_all p bytes ≡ true → IsUtf8 bytes
 ascii_all [] p small all = IsUtf8-nil
 ascii_all (b ∷ bs) p small all =
-    let parts = both (p b) (list_all p bs) all in
+    let parts = and_parts (p b) (list_all p bs) all in
     IsUtf8-append (b ∷ []) bs (byte_utf8 b (small b parts.0)) (ascii_all bs p small parts.1)
 
 marks_utf8 : (bytes : List ℕ) → is_marks bytes ≡ true → IsUtf8 bytes
 marks_utf8 [] e = cc
 marks_utf8 (a ∷ []) e = byte_utf8 a (mark_small a e)
-marks_utf8 (a ∷ b ∷ []) e = let parts = both (is_mark a) (is_mark b) e in IsUtf8-append (a ∷ []) (b ∷ []) (byte_utf8 a (mark_small a parts.0)) (byte_utf8 b (mark_small b parts.1))
+marks_utf8 (a ∷ b ∷ []) e = let parts = and_parts (is_mark a) (is_mark b) e in IsUtf8-append (a ∷ []) (b ∷ []) (byte_utf8 a (mark_small a parts.0)) (byte_utf8 b (mark_small b parts.1))
 marks_utf8 (a ∷ b ∷ c ∷ more) e = cc
 
 pub token_utf8 : (kind : Kind) (token : List ℕ) → IsToken kind token → IsUtf8 token
@@ -194,8 +190,8 @@ spelled_utf8 (gap b ∷ ps) good = IsUtf8-append (b ∷ []) (spelled ps) (byte_u
 -- ---- its tokens
 
 -- a token that stands after what came before goes before the tokens that follow it
-token_lexes : (before token rest : List ℕ) (kind : Kind) (ms : List Mark) (end : ℕ) → IsToken kind token → IsLongest kind token (token ++ rest)
-    → LexesFrom (before ++ (token ++ rest)) (length before + length token) ms end → LexesFrom (before ++ (token ++ rest)) (length before) (mark kind (length before) token ∷ ms) end
+token_lexes : (before token rest : List ℕ) (kind : Kind) (ms : List TokenParts) (end : ℕ) → IsToken kind token → IsLongest kind token (token ++ rest)
+    → LexesFrom (before ++ (token ++ rest)) (length before + length token) ms end → LexesFrom (before ++ (token ++ rest)) (length before) (token_parts kind (length before) token ∷ ms) end
 token_lexes before token rest kind ms end is longest more =
     let here : drop (length before) (before ++ (token ++ rest)) ≡ token ++ rest = drop_at before (token ++ rest) (length before) refl in
     let none : gap_len false (drop (length before) (before ++ (token ++ rest))) ≡ 0 = ap (gap_len false) here ∙ token_no_gap kind token rest is in
@@ -216,19 +212,19 @@ gap_moves before rest b e =
     ap (drop (length before + 1)) (sym (append_assoc before (b ∷ []) rest)) ∙ drop_at (before ++ b ∷ []) rest (length before + 1) longer in
     omega (arith, here, ap (gap_len false) later)
 
-gap_lexes : (before rest : List ℕ) (b : ℕ) (ms : List Mark) (end : ℕ) → is_separator b ≡ true → LexesFrom (before ++ (b ∷ rest)) (length before + 1) ms end → LexesFrom (before ++ (b ∷ rest)) (length before) ms end
+gap_lexes : (before rest : List ℕ) (b : ℕ) (ms : List TokenParts) (end : ℕ) → is_separator b ≡ true → LexesFrom (before ++ (b ∷ rest)) (length before + 1) ms end → LexesFrom (before ++ (b ∷ rest)) (length before) ms end
 gap_lexes before rest b [] end e more = sym (gap_moves before rest b e) ∙ more
-gap_lexes before rest b (mark kind place token ∷ ms) end e (here, longest, more) = (sym (gap_moves before rest b e) ∙ here, longest, more)
+gap_lexes before rest b (token_parts kind place token ∷ ms) end e (here, longest, more) = (sym (gap_moves before rest b e) ∙ here, longest, more)
 
 -- the place after a front, as the length of the front
-moved : (before front rest : List ℕ) (n : ℕ) (ps : List Piece) (end : ℕ) → length front ≡ n → LexesFrom ((before ++ front) ++ rest) (length (before ++ front)) (marks_from (length (before ++ front)) ps) end
-    → LexesFrom (before ++ (front ++ rest)) (length before + n) (marks_from (length before + n) ps) end
+moved : (before front rest : List ℕ) (n : ℕ) (ps : List Piece) (end : ℕ) → length front ≡ n → LexesFrom ((before ++ front) ++ rest) (length (before ++ front)) (parts_from (length (before ++ front)) ps) end
+    → LexesFrom (before ++ (front ++ rest)) (length before + n) (parts_from (length before + n) ps) end
 moved before front rest n ps end len more =
     let e : length (before ++ front) ≡ length before + n = length-append before front ∙ ap (λ k. length before + k) len in
-    subst (λ text. LexesFrom text (length before + n) (marks_from (length before + n) ps) end) (append_assoc before front rest)
-    (subst (λ k. LexesFrom ((before ++ front) ++ rest) k (marks_from k ps) end) e more)
+    subst (λ text. LexesFrom text (length before + n) (parts_from (length before + n) ps) end) (append_assoc before front rest)
+    (subst (λ k. LexesFrom ((before ++ front) ++ rest) k (parts_from k ps) end) e more)
 
-pub spelled_lexes : (before : List ℕ) (ps : List Piece) → AreSeparate ps → LexesFrom (before ++ spelled ps) (length before) (marks_from (length before) ps) (length before + length (spelled ps))
+pub spelled_lexes : (before : List ℕ) (ps : List Piece) → AreSeparate ps → LexesFrom (before ++ spelled ps) (length before) (parts_from (length before) ps) (length before + length (spelled ps))
 spelled_lexes before [] good =
     let none : drop (length before) (before ++ []) ≡ [] = drop_at before [] (length before) refl in
     omega (arith, ap (gap_len false) none)
@@ -236,19 +232,19 @@ spelled_lexes before (lexeme kind token ∷ ps) good =
     let whole : IsUtf8 (token ++ spelled ps) = spelled_utf8 (lexeme kind token ∷ ps) good in
     let longest = piece_longest kind token (spelled ps) whole (spelled_utf8 ps good.2) good.0 good.1 in
     let len : length (before ++ token) + length (spelled ps) ≡ length before + length (token ++ spelled ps) = omega (arith, length-append before token, length-append token (spelled ps)) in
-    let later : LexesFrom ((before ++ token) ++ spelled ps) (length (before ++ token)) (marks_from (length (before ++ token)) ps) (length before + length (token ++ spelled ps)) =
-    subst (LexesFrom ((before ++ token) ++ spelled ps) (length (before ++ token)) (marks_from (length (before ++ token)) ps)) len (spelled_lexes (before ++ token) ps good.2) in
-    token_lexes before token (spelled ps) kind (marks_from (length before + length token) ps) (length before + length (token ++ spelled ps)) good.0 longest
+    let later : LexesFrom ((before ++ token) ++ spelled ps) (length (before ++ token)) (parts_from (length (before ++ token)) ps) (length before + length (token ++ spelled ps)) =
+    subst (LexesFrom ((before ++ token) ++ spelled ps) (length (before ++ token)) (parts_from (length (before ++ token)) ps)) len (spelled_lexes (before ++ token) ps good.2) in
+    token_lexes before token (spelled ps) kind (parts_from (length before + length token) ps) (length before + length (token ++ spelled ps)) good.0 longest
     (moved before token (spelled ps) (length token) ps (length before + length (token ++ spelled ps)) refl later)
 spelled_lexes before (gap b ∷ ps) good =
     let len : length (before ++ b ∷ []) + length (spelled ps) ≡ length before + length (b ∷ spelled ps) = omega (arith, length-append before (b ∷ [])) in
-    let later : LexesFrom ((before ++ b ∷ []) ++ spelled ps) (length (before ++ b ∷ [])) (marks_from (length (before ++ b ∷ [])) ps) (length before + length (b ∷ spelled ps)) =
-    subst (LexesFrom ((before ++ b ∷ []) ++ spelled ps) (length (before ++ b ∷ [])) (marks_from (length (before ++ b ∷ [])) ps)) len (spelled_lexes (before ++ b ∷ []) ps good.1) in
-    gap_lexes before (spelled ps) b (marks_from (length before + 1) ps) (length before + length (b ∷ spelled ps)) good.0
+    let later : LexesFrom ((before ++ b ∷ []) ++ spelled ps) (length (before ++ b ∷ [])) (parts_from (length (before ++ b ∷ [])) ps) (length before + length (b ∷ spelled ps)) =
+    subst (LexesFrom ((before ++ b ∷ []) ++ spelled ps) (length (before ++ b ∷ [])) (parts_from (length (before ++ b ∷ [])) ps)) len (spelled_lexes (before ++ b ∷ []) ps good.1) in
+    gap_lexes before (spelled ps) b (parts_from (length before + 1) ps) (length before + length (b ∷ spelled ps)) good.0
     (moved before (b ∷ []) (spelled ps) 1 ps (length before + length (b ∷ spelled ps)) refl later)
 
-pub printed : (ps : List Piece) → AreSeparate ps → length (spelled ps) ≤ MAX_LEN → Lexes (spelled ps) (marks_from 0 ps)
+pub printed : (ps : List Piece) → AreSeparate ps → length (spelled ps) ≤ MAX_LEN → Lexes (spelled ps) (parts_from 0 ps)
 printed ps good within = record {
   is_text = record { within = within; utf8 = spelled_utf8 ps good };
-  tokens = subst (LexesFrom (spelled ps) 0 (marks_from 0 ps)) (omega arith) (spelled_lexes [] ps good);
+  tokens = subst (LexesFrom (spelled ps) 0 (parts_from 0 ps)) (omega arith) (spelled_lexes [] ps good);
 }

@@ -8,7 +8,7 @@ use Rattle.std.specs.Char.{is_ascii_digit}
 use Rattle.kat_tokens.specs.declared.token.Kind.{Kind}
 use Rattle.kat_tokens.specs.declared.token.Kind.TheVariants.{Name, Number, Symbol}
 use Rattle.kat_tokens.specs.Kinds.{is_token, IsToken}
-use Rattle.kat_tokens.specs.Marks.{Mark, mark}
+use Rattle.kat_tokens.specs.TokenParts.{TokenParts, token_parts}
 use Rattle.kat_tokens.specs.Lex.{gap_end, IsLongest, BeginsNone, LexesFrom, IsText, Lexes, FirstBad}
 use Rattle.kat_tokens.proofs.Beginnings.{is_mark, name_begins, number_begins, symbol_begins, begins_no_digit, begins_no_mark, digit_no_mark, digit_small, mark_small}
 use Rattle.kat_tokens.proofs.Fronts.{same_byte, token_some, none_empty}
@@ -71,13 +71,13 @@ one_longest k j v w bytes a b =
 -- ---- one list of tokens at most
 
 -- two lists of tokens that end where nothing begins are one
-pub lexes_once : (text : List ℕ) (at : ℕ) (ms ns : List Mark) (m n : ℕ) → BeginsNone (drop m text) → BeginsNone (drop n text) → LexesFrom text at ms m → LexesFrom text at ns n → (ms ≡ ns) × (m ≡ n)
+pub lexes_once : (text : List ℕ) (at : ℕ) (ms ns : List TokenParts) (m n : ℕ) → BeginsNone (drop m text) → BeginsNone (drop n text) → LexesFrom text at ms m → LexesFrom text at ns n → (ms ≡ ns) × (m ≡ n)
 lexes_once text at [] [] m n sm sn a b = (refl, sym a ∙ b)
-lexes_once text at [] (mark j q u ∷ ns) m n sm sn a (place, longest, more) =
+lexes_once text at [] (token_parts j q u ∷ ns) m n sm sn a (place, longest, more) =
     absurd (sm j u longest.front.0 longest.is_token (subst (λ p. drop p text ≡ u ++ longest.front.0) (sym place ∙ a) longest.front.1))
-lexes_once text at (mark k p t ∷ ms) [] m n sm sn (place, longest, more) b =
+lexes_once text at (token_parts k p t ∷ ms) [] m n sm sn (place, longest, more) b =
     absurd (sn k t longest.front.0 longest.is_token (subst (λ q. drop q text ≡ t ++ longest.front.0) (sym place ∙ b) longest.front.1))
-lexes_once text at (mark k p t ∷ ms) (mark j q u ∷ ns) m n sm sn (place, longest, more) (spot, best, further) =
+lexes_once text at (token_parts k p t ∷ ms) (token_parts j q u ∷ ns) m n sm sn (place, longest, more) (spot, best, further) =
     let places : p ≡ q = sym place ∙ spot in
     let same = one_longest k j t u (drop p text) longest (subst (λ r. IsLongest j u (drop r text)) (sym places) best) in
     let ends : q + length u ≡ p + length t = omega (arith, places, ap length same.1) in
@@ -90,13 +90,13 @@ lexes_once text at (mark k p t ∷ ms) (mark j q u ∷ ns) m n sm sn (place, lon
 pub none_at_end : (text : List ℕ) → BeginsNone (drop (length text) text)
 none_at_end text = subst BeginsNone (sym (drop-length text)) none_empty
 
-pub one_lexing : (text : List ℕ) (ms ns : List Mark) → Lexes text ms → Lexes text ns → ms ≡ ns
+pub one_lexing : (text : List ℕ) (ms ns : List TokenParts) → Lexes text ms → Lexes text ns → ms ≡ ns
 one_lexing text ms ns a b = (lexes_once text 0 ms ns (length text) (length text) (none_at_end text) (none_at_end text) a.tokens b.tokens).0
 
 pub one_bad : (text : List ℕ) (m n : ℕ) → FirstBad text m → FirstBad text n → m ≡ n
 one_bad text m n a b = (lexes_once text 0 a.before.0 b.before.0 m n a.none b.none a.before.1 b.before.1).1
 
-pub not_both : (text : List ℕ) (ms : List Mark) (n : ℕ) → Lexes text ms → FirstBad text n → ⊥
+pub not_both : (text : List ℕ) (ms : List TokenParts) (n : ℕ) → Lexes text ms → FirstBad text n → ⊥
 not_both text ms n a b =
     let same = lexes_once text 0 ms b.before.0 (length text) n (none_at_end text) b.none a.tokens b.before.1 in
     omega (arith, same.1, b.inside)
@@ -156,13 +156,13 @@ front_or_none bytes = front_within bytes (length bytes) (omega arith) (λ kind t
 
 -- tokens up to the end, or up to a place that begins none
 abbrev Outcome : List ℕ → ℕ → Type 0
-Outcome text at = ((ms : List Mark) × LexesFrom text at ms (length text)) ⊎ ((n : ℕ) × (ms : List Mark) × LexesFrom text at ms n × (n < length text) × BeginsNone (drop n text))
+Outcome text at = ((ms : List TokenParts) × LexesFrom text at ms (length text)) ⊎ ((n : ℕ) × (ms : List TokenParts) × LexesFrom text at ms n × (n < length text) × BeginsNone (drop n text))
 
 after_token : (text : List ℕ) (at next : ℕ) (kind : Kind) (token : List ℕ) → IsLongest kind token (drop (gap_end text at) text) → gap_end text at + length token ≡ next → Outcome text next → Outcome text at
 after_token text at next kind token longest e (inl (ms, more)) =
-    inl (mark kind (gap_end text at) token ∷ ms, (refl, longest, subst (λ p. LexesFrom text p ms (length text)) (sym e) more))
+    inl (token_parts kind (gap_end text at) token ∷ ms, (refl, longest, subst (λ p. LexesFrom text p ms (length text)) (sym e) more))
 after_token text at next kind token longest e (inr (n, ms, more, inside, none)) =
-    inr (n, mark kind (gap_end text at) token ∷ ms, (refl, longest, subst (λ p. LexesFrom text p ms n) (sym e) more), inside, none)
+    inr (n, token_parts kind (gap_end text at) token ∷ ms, (refl, longest, subst (λ p. LexesFrom text p ms n) (sym e) more), inside, none)
 
 pub gap_inside : (text : List ℕ) (at : ℕ) → at ≤ length text → gap_end text at ≤ length text
 gap_inside text at within = omega (arith, gap_within false (drop at text), length-drop at text)
@@ -184,7 +184,7 @@ outcome : (text : List ℕ) (fuel at : ℕ) → at ≤ length text → length te
 outcome text zero at within enough = outcome_step text at zero within enough (λ next inside more. absurd (omega (arith, inside, more)))
 outcome text (suc fuel) at within enough = outcome_step text at (suc fuel) within enough (λ next inside more. outcome text fuel next inside (omega (arith, more)))
 
-pub some_reading : (text : List ℕ) → IsText text → ((ms : List Mark) × Lexes text ms) ⊎ ((n : ℕ) × FirstBad text n)
+pub some_reading : (text : List ℕ) → IsText text → ((ms : List TokenParts) × Lexes text ms) ⊎ ((n : ℕ) × FirstBad text n)
 some_reading text is_text = elim (outcome text (length text) 0 (omega arith) (omega arith)) [
   | inl (ms, lexed) ↦ inl (ms, record { is_text = is_text; tokens = lexed })
   | inr (n, ms, lexed, inside, none) ↦ inr (n, record { is_text = is_text; before = (ms, lexed); inside = inside; none = none })

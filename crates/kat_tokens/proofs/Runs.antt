@@ -1,5 +1,6 @@
 -- The longest run at the front of a text.
 use Rattle.std.proofs.Common.{◌≡◌, ◌≤◌, ◌<◌, ℕ, List, [], ◌∷◌, ◌++◌, length, Bool, true, false, ◌&&◌, refl, sym, ap, ◌∙◌, arith, subst, length-append, append_assoc, cond, if◌then◌else◌}
+use Rattle.std.proofs.lemmas.Bool.{and_parts}
 use Rattle.std.proofs.lemmas.List.Sums.{take_while-cons}
 use Rattle.std.proofs.lemmas.Str.{encode_same, length-encode, len_utf8_bounds}
 use Rattle.std.specs.Prelude.{encode_utf8, encode_utf8_all, take_while}
@@ -8,7 +9,7 @@ use Rattle.std.specs.Char.{is_ascii_digit}
 use Rattle.kat_tokens.specs.declared.token.Kind.TheVariants.{Symbol}
 use Rattle.kat_tokens.specs.Kinds.{is_symbol, IsToken}
 use Rattle.kat_tokens.specs.Fronts.{symbol_len}
-use Rattle.kat_tokens.proofs.Beginnings.{both, is_marks, symbol_marks}
+use Rattle.kat_tokens.proofs.Beginnings.{is_marks, symbol_marks}
 
 -- A run of characters that pass is no longer than one that ends at the end, or where one fails.
 pub run_longest : (p : ℕ → Bool) (cs ds more rest : List ℕ) → encode_utf8_all cs ++ more ≡ encode_utf8_all ds ++ rest → list_all p cs ≡ true
@@ -19,11 +20,11 @@ run_longest p (c ∷ cs) [] more rest same pass ends =
     let some : 0 < length rest = omega (arith, ap length whole, length-append (encode_utf8 c) (encode_utf8_all cs ++ more), length-encode c, (len_utf8_bounds c).0) in
     let end = ends some in
     let first = encode_same c end.0 _ _ (sym whole ∙ end.2) in
-    let passes = (both (p c) (list_all p cs) pass).0 in
+    let passes = (and_parts (p c) (list_all p cs) pass).0 in
     let fails : p c ≡ false = subst (λ v. p v ≡ false) (sym first.0) end.3 in cc
 run_longest p (c ∷ cs) (d ∷ ds) more rest same pass ends =
     let parts = encode_same c d _ _ (sym (append_assoc (encode_utf8 c) (encode_utf8_all cs) more) ∙ same ∙ append_assoc (encode_utf8 d) (encode_utf8_all ds) rest) in
-    let shorter = run_longest p cs ds more rest parts.1 (both (p c) (list_all p cs) pass).1 ends in
+    let shorter = run_longest p cs ds more rest parts.1 (and_parts (p c) (list_all p cs) pass).1 ends in
     omega (arith, length-append (encode_utf8 c) (encode_utf8_all cs), length-append (encode_utf8 d) (encode_utf8_all ds), shorter, ap (λ v. length (encode_utf8 v)) parts.0)
 
 -- a run of digits is no longer than the longest
@@ -31,7 +32,7 @@ pub digits_longest : (xs more bytes : List ℕ) → bytes ≡ xs ++ more → lis
 digits_longest [] more bytes e all = omega arith
 digits_longest (x ∷ xs) more [] e all = cc
 digits_longest (x ∷ xs) more (b ∷ bs) e all =
-    let parts = both (is_ascii_digit x) (list_all is_ascii_digit xs) all in
+    let parts = and_parts (is_ascii_digit x) (list_all is_ascii_digit xs) all in
     let first : x ≡ b = cc in
     let passes : is_ascii_digit b ≡ true = subst (λ v. is_ascii_digit v ≡ true) first parts.0 in
     let tail : bs ≡ xs ++ more = cc in

@@ -1,5 +1,6 @@
 -- Words that a printer writes are tokens.
 use Rattle.std.proofs.Common.{◌≡◌, ◌<◌, ◌^◌, ◌+◌, ◌%◌, ℕ, List, [], ◌∷◌, ◌++◌, Bool, true, false, ◌&&◌, ◌||◌, ◌==◌, refl, sym, ◌∙◌, subst, arith}
+use Rattle.std.proofs.lemmas.Bool.{and_parts}
 use Rattle.std.proofs.lemmas.Bool.Decides.{nat_tests}
 use Rattle.std.proofs.lemmas.List.Folds.{list_all-append}
 use Rattle.std.proofs.lemmas.Fmt.{decimal_by_steps}
@@ -15,7 +16,7 @@ use Rattle.unicode_ident.proofs.IdentLemmas.{is_xid_start-ascii, is_xid_continue
 use Rattle.kat_tokens.specs.declared.token.Kind.TheVariants.{Name, Number}
 use Rattle.kat_tokens.specs.Kinds.{is_name, begins_name, IsToken}
 use Rattle.kat_tokens.specs.Keywords.{keywords, is_keyword}
-use Rattle.kat_tokens.proofs.Beginnings.{both, passes_all, name_from_parts}
+use Rattle.kat_tokens.proofs.Beginnings.{passes_all, name_from_parts}
 
 -- ---- ASCII names
 
@@ -38,12 +39,12 @@ continues_small b e = grind (arith, nat_tests)
 
 continue_ascii : (bs : List ℕ) → list_all continues_word bs ≡ true → IsAscii bs
 continue_ascii [] all = IsAscii-nil
-continue_ascii (b ∷ bs) all = let parts = both (continues_word b) (list_all continues_word bs) all in IsAscii-cons b bs (continues_small b parts.0) (continue_ascii bs parts.1)
+continue_ascii (b ∷ bs) all = let parts = and_parts (continues_word b) (list_all continues_word bs) all in IsAscii-cons b bs (continues_small b parts.0) (continue_ascii bs parts.1)
 
 continue_names : (bs : List ℕ) → list_all continues_word bs ≡ true → list_all is_xid_continue bs ≡ true
 continue_names [] all = refl
 continue_names (b ∷ bs) all =
-    let parts = both (continues_word b) (list_all continues_word bs) all in
+    let parts = and_parts (continues_word b) (list_all continues_word bs) all in
     both_true (is_xid_continue-ascii b (continues_small b parts.0) ∙ parts.0) (continue_names bs parts.1)
 
 begins_name_word : (b : ℕ) → begins_word b ≡ true → begins_name b ≡ true
@@ -52,7 +53,7 @@ begins_name_word b e = subst (λ t. (t || (b == 95)) ≡ true) (sym (is_xid_star
 pub word_is_name : (bytes : List ℕ) → is_word bytes ≡ true → IsToken Name bytes
 word_is_name [] e = cc
 word_is_name (b ∷ bs) e =
-    let parts = both (begins_word b) (list_all continues_word bs) e in
+    let parts = and_parts (begins_word b) (list_all continues_word bs) e in
     let ascii : IsAscii (b ∷ bs) = IsAscii-cons b bs (begins_small b parts.0) (continue_ascii bs parts.1) in
     let named : is_name (b ∷ bs) ≡ true = both_true (begins_name_word b parts.0) (continue_names bs parts.1) in
     name_from_parts (b ∷ bs) (IsUtf8-from_ascii (b ∷ bs) ascii) (subst (λ cs. is_name cs ≡ true) (sym (chars-IsAscii (b ∷ bs) ascii)) named)
@@ -68,7 +69,7 @@ digit_of n below = grind (arith, nat_tests)
 number_goes_on : (ds : List ℕ) (d : ℕ) → IsToken Number ds → is_ascii_digit d ≡ true → IsToken Number (ds ++ d ∷ [])
 number_goes_on [] d number digit = cc
 number_goes_on (x ∷ xs) d number digit =
-    let parts = both (is_ascii_digit x) (list_all is_ascii_digit xs) number in
+    let parts = and_parts (is_ascii_digit x) (list_all is_ascii_digit xs) number in
     both_true parts.0 (list_all-append is_ascii_digit xs (d ∷ []) ∙ both_true parts.1 (both_true digit refl))
 
 pub decimal_is_number : (n : ℕ) → n < 2 ^ 64 → IsToken Number (decimal n)

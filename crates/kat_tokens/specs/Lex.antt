@@ -6,7 +6,7 @@ use Rattle.kat_tokens.specs.declared.token.Kind.{Kind}
 use Rattle.kat_tokens.specs.declared.fault.TextFault.{TextFault}
 use Rattle.kat_tokens.specs.declared.fault.TextFault.TheVariants.{NoMemory, BadToken}
 use Rattle.kat_tokens.specs.Kinds.{is_separator, IsToken}
-use Rattle.kat_tokens.specs.Marks.{Mark, mark, kind_of, place_of, bytes_of}
+use Rattle.kat_tokens.specs.TokenParts.{TokenParts, token_parts, kind_of, place_of, bytes_of}
 
 -- how many bytes the separators and comments at the front have; a comment goes up to the next line feed
 abbrev pub gap_len : Bool → List ℕ → ℕ
@@ -30,9 +30,9 @@ BeginsNone bytes = (kind : Kind) (token rest : List ℕ) → IsToken kind token 
 
 -- From this place to the end place the text is these tokens, with separators and comments before each
 -- and after the last.
-abbrev pub LexesFrom : List ℕ → ℕ → List Mark → ℕ → Type 0
+abbrev pub LexesFrom : List ℕ → ℕ → List TokenParts → ℕ → Type 0
 LexesFrom text at [] end = gap_end text at ≡ end
-LexesFrom text at (mark kind place token ∷ ms) end =
+LexesFrom text at (token_parts kind place token ∷ ms) end =
     (gap_end text at ≡ place) × IsLongest kind token (drop place text) × LexesFrom text (place + length token) ms end
 
 -- the bytes are UTF-8, and not too many
@@ -41,14 +41,14 @@ pub record IsText (bytes : List ℕ) : Type 0 where
   pub utf8 : IsUtf8 bytes
 
 -- the text is these tokens
-pub record Lexes (text : List ℕ) (ms : List Mark) : Type 0 where
+pub record Lexes (text : List ℕ) (ms : List TokenParts) : Type 0 where
   pub is_text : IsText text
   pub tokens : LexesFrom text 0 ms (length text)
 
 -- the first place of the text that begins no token
 pub record FirstBad (text : List ℕ) (at : ℕ) : Type 0 where
   pub is_text : IsText text
-  pub before : (ms : List Mark) × LexesFrom text 0 ms at
+  pub before : (ms : List TokenParts) × LexesFrom text 0 ms at
   pub inside : at < length text
   pub none : BeginsNone (drop at text)
 
@@ -59,7 +59,7 @@ IsFault text (BadToken at) = FirstBad text at
 IsFault text other = ⊥
 
 -- the token is a slice of the text, of its kind
-pub record IsSlice (text : List ℕ) (m : Mark) : Type 0 where
+pub record IsSlice (text : List ℕ) (m : TokenParts) : Type 0 where
   pub is_token : IsToken (kind_of m) (bytes_of m)
   pub some : 0 < length (bytes_of m)
   pub inside : place_of m + length (bytes_of m) ≤ length text

@@ -2,5 +2,5 @@ pub mod Fronts
 pub mod Keywords
 pub mod Kinds
 pub mod Lex
-pub mod Marks
+pub mod TokenParts
 pub mod Pieces

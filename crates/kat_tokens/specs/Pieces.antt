@@ -4,7 +4,7 @@ use Rattle.std.specs.Char.{is_ascii_digit, is_ascii_alphanumeric}
 use Rattle.kat_tokens.specs.declared.token.Kind.{Kind}
 use Rattle.kat_tokens.specs.declared.token.Kind.TheVariants.{Name, Number, Symbol}
 use Rattle.kat_tokens.specs.Kinds.{is_separator, is_symbol, IsToken}
-use Rattle.kat_tokens.specs.Marks.{Mark, mark}
+use Rattle.kat_tokens.specs.TokenParts.{TokenParts, token_parts}
 
 -- the bytes of a token, or one separator
 pub data Piece : Type 0 where
@@ -18,8 +18,8 @@ word bytes = lexeme Name bytes
 abbrev pub number : List ℕ → Piece
 number bytes = lexeme Number bytes
 
-abbrev pub sign : List ℕ → Piece
-sign bytes = lexeme Symbol bytes
+abbrev pub symbol : List ℕ → Piece
+symbol bytes = lexeme Symbol bytes
 
 -- the bytes of the pieces
 abbrev pub spelled : List Piece → List ℕ
@@ -28,10 +28,10 @@ spelled (lexeme kind bytes ∷ ps) = bytes ++ spelled ps
 spelled (gap b ∷ ps) = b ∷ spelled ps
 
 -- the tokens of the pieces, the first of which stands at this place
-abbrev pub marks_from : ℕ → List Piece → List Mark
-marks_from at [] = []
-marks_from at (lexeme kind bytes ∷ ps) = mark kind at bytes ∷ marks_from (at + length bytes) ps
-marks_from at (gap b ∷ ps) = marks_from (at + 1) ps
+abbrev pub parts_from : ℕ → List Piece → List TokenParts
+parts_from at [] = []
+parts_from at (lexeme kind bytes ∷ ps) = token_parts kind at bytes ∷ parts_from (at + length bytes) ps
+parts_from at (gap b ∷ ps) = parts_from (at + 1) ps
 
 -- an ASCII byte with which a name does not go on
 abbrev pub ends_name : ℕ → Bool

@@ -1,17 +1,18 @@
 //! A text cut into its longest tokens.
 ghost use Rattle.std.specs.Prelude.{◌≡◌, ◌≤◌, length, take_while, false, IfOk, IfErr, IfSome, IfNone};
 ghost use Rattle.std.specs.Char.{is_ascii_digit};
-ghost use Rattle.kat_tokens.specs.Marks.{marks};
+ghost use Rattle.kat_tokens.specs.TokenParts.{parts_of_tokens};
 ghost use Rattle.kat_tokens.specs.Kinds.{is_separator, is_symbol, begins_name};
 ghost use Rattle.kat_tokens.specs.Lex.{gap_len, BeginsNone, Lexes, IsFault};
 ghost use Rattle.kat_tokens.specs.Fronts.{symbol_len, IsNameLen, IsFirst};
 
 use crate::{Kind, TextFault, Token};
+use kat_model::MAX_TEXT_BYTES;
 use std::alloc::Global;
 use unicode_ident::{is_xid_continue, is_xid_start};
 
 /// How many bytes a text may have.
-pub const MAX_LEN: usize = 1_048_576;
+pub const MAX_LEN: usize = MAX_TEXT_BYTES;
 
 fn is_separator(b: u8) -> bool
     ensures { result ≡ is_separator b }
@@ -123,7 +124,7 @@ fn first_token(text: &str) -> Option<(Kind, usize)>
 /// or the end. `BadToken` comes exactly where some place begins no token, with the first such place.
 pub fn tokens<'a>(alloc: Global, text: &'a str) -> Result<Vec<Token<'a>>, TextFault>
     requires { length text.now ≤ MAX_LEN }
-    ensures read { IfOk result (λ found. Lexes text.now (marks found.items)) }
+    ensures read { IfOk result (λ found. Lexes text.now (parts_of_tokens found.items)) }
     ensures bad { IfErr result (λ fault. IsFault text.now fault) }
 {
     let mut found = Vec::new(alloc);

@@ -5,8 +5,6 @@ mod fault;
 mod keyword;
 mod laws;
 mod lexer;
-#[cfg(test)]
-mod tests;
 mod token;
 
 pub use fault::TextFault;

@@ -1,7 +1,7 @@
 -- The reply to a problem, and to evidence, has the status that they have.
-use Rattle.std.proofs.Common.{◌≡◌, ◌⊎◌, ℕ, true, false, List, None, Some, inl, inr, ⊎_elim, refl, sym, subst, ap, ◌∙◌}
+use Rattle.std.proofs.Common.{◌≡◌, ◌⊎◌, ℕ, true, false, List, None, Some, inl, inr, ⊎_elim, refl, sym, subst, ap, ◌∙◌, arith}
 use Rattle.kat_io.specs.Told.{Told, Holds}
-use Rattle.kat_model.specs.Problems.{Question}
+use Rattle.kat_model.specs.Problems.{ProblemParts}
 use Rattle.kat_model.specs.Strings.{GuardedString, IsString}
 use Rattle.string_tables.specs.Findings.{misfit, IsFinding}
 use Rattle.string_tables.specs.declared.finding.Finding.{Finding}
@@ -19,15 +19,26 @@ use Rattle.kat_tool.specs.Consulting.{Spells, evidence_status, IsChecked, IsRepl
 use Rattle.kat_tool.specs.Statuses.{DecideStatus, CheckStatus, ReplayStatus}
 use Rattle.kat_tool.proofs.Contents.{held_same}
 
-pub decided_status : (q : Question) (status : ℕ) (output : List ℕ) → IsDecided q status output → DecideStatus q status
+pub not_both : (status : ℕ) → status ≡ 0 → status ≡ 1 → ⊥
+not_both status zero one = omega (arith, zero, one)
+
+pub decided_status : (q : ProblemParts) (status : ℕ) (output : List ℕ) → IsDecided q status output → DecideStatus q status
 decided_status q status output d =
     ⊎_elim
-    (λ h. record { answers = inl h.0; equal = λ _. h.0; different = λ differ. absurd (differ h.1.same) })
-    (λ h. record { answers = inr h.0; equal = λ same. absurd (h.1.differ same); different = λ _. h.0 })
+    (λ h. record {
+      answers = inl h.0;
+      equal = ((λ _. h.1.same), (λ _. h.0));
+      different = ((λ e. absurd (not_both status h.0 e)), (λ differ. absurd (differ h.1.same)));
+    })
+    (λ h. record {
+      answers = inr h.0;
+      equal = ((λ e. absurd (not_both status e h.0)), (λ same. absurd (h.1.differ same)));
+      different = ((λ _. h.1.differ), (λ _. h.0));
+    })
     d
 
 -- a string that is told fits or does not
-pub fits_told : (q : Question) (x : GuardedString) (f : Finding) (status : ℕ) (output : List ℕ) → IsFinding q x f → IsTold x f status output → IsString q.tests q.actions x → status ≡ 0
+pub fits_told : (q : ProblemParts) (x : GuardedString) (f : Finding) (status : ℕ) (output : List ℕ) → IsFinding q x f → IsTold x f status output → IsString q.tests q.actions x → status ≡ 0
 fits_told q x (Shape k) status output found told is =
     let fits : misfit q x ≡ None = string_has_no_misfit q x is in
     let none : None ≡ Some k = sym fits ∙ found in
@@ -36,7 +47,7 @@ fits_told q x (Refutes b) status output found told is = told.0
 fits_told q x (HypBroken h i j) status output found told is = told.0
 fits_told q x (EndsAgree b) status output found told is = told.0
 
-pub fitting : (q : Question) (x : GuardedString) (f : Finding) → IsFinding q x f → ((k : ℕ) × (f ≡ Shape k)) ⊎ (misfit q x ≡ None)
+pub fitting : (q : ProblemParts) (x : GuardedString) (f : Finding) → IsFinding q x f → ((k : ℕ) × (f ≡ Shape k)) ⊎ (misfit q x ≡ None)
 fitting q x (Shape k) found = inl (k, refl)
 fitting q x (HypBroken h i j) found = inr found.0
 fitting q x (Refutes true) found = inr found.0.0
@@ -44,7 +55,7 @@ fitting q x (Refutes false) found = inr found.0.0
 fitting q x (EndsAgree true) found = inr found.0.0
 fitting q x (EndsAgree false) found = inr found.0.0
 
-pub misfit_told : (q : Question) (x : GuardedString) (f : Finding) (status : ℕ) (output : List ℕ) → IsFinding q x f → IsTold x f status output → (IsString q.tests q.actions x → ⊥) → status ≡ 3
+pub misfit_told : (q : ProblemParts) (x : GuardedString) (f : Finding) (status : ℕ) (output : List ℕ) → IsFinding q x f → IsTold x f status output → (IsString q.tests q.actions x → ⊥) → status ≡ 3
 misfit_told q x f status output found told none =
     ⊎_elim (λ h. let misfit : IsTold x (Shape h.0) status output = subst (λ g. IsTold x g status output) h.1 told in misfit.0) (λ h. absurd (none (no_misfit_is_string q x h))) (fitting q x f found)
 
@@ -56,7 +67,7 @@ module _ (bytes : List ℕ) where
   spelled_same e f s t = texts_differ_lem e f s.evidence t.evidence (sym s.text ∙ t.text)
 
   -- evidence that is checked
-  check_status : (q : Question) (e : Evidence) (status : ℕ) (output : List ℕ) → Spells bytes e → IsChecked q e status output → CheckStatus bytes q status
+  check_status : (q : ProblemParts) (e : Evidence) (status : ℕ) (output : List ℕ) → Spells bytes e → IsChecked q e status output → CheckStatus bytes q status
   check_status q e status output s checked =
       ⊎_elim
       (λ h. record {
@@ -73,7 +84,7 @@ module _ (bytes : List ℕ) where
       })
       checked
 
-  pub checked_status : (q : Question) (status : ℕ) (output : List ℕ) → IsConsulted (IsChecked q) bytes status output → CheckStatus bytes q status
+  pub checked_status : (q : ProblemParts) (status : ℕ) (output : List ℕ) → IsConsulted (IsChecked q) bytes status output → CheckStatus bytes q status
   checked_status q status output consulted =
       ⊎_elim
       (λ h. record {
@@ -91,7 +102,7 @@ module _ (bytes : List ℕ) where
   string_and_cert : (x : GuardedString) (c : CertParts) → Spells bytes (Different x) → Spells bytes (Equal c) → ⊥
   string_and_cert x c s t = let same = spelled_same (Different x) (Equal c) s t in absurd cc
 
-  replay_status : (q : Question) (e : Evidence) (status : ℕ) (output : List ℕ) → Spells bytes e → IsReplayed q e status output → ReplayStatus bytes q status
+  replay_status : (q : ProblemParts) (e : Evidence) (status : ℕ) (output : List ℕ) → Spells bytes e → IsReplayed q e status output → ReplayStatus bytes q status
   replay_status q (Equal c) status output s replayed = record {
     faulty = λ fault f. absurd (spelled_faultless (Equal c) fault s f);
     fits = λ x t _. absurd (string_and_cert x c t s);
@@ -105,7 +116,7 @@ module _ (bytes : List ℕ) where
     certificate = λ c t. absurd (string_and_cert y c s t);
   }
 
-  pub replayed_status : (q : Question) (status : ℕ) (output : List ℕ) → IsConsulted (IsReplayed q) bytes status output → ReplayStatus bytes q status
+  pub replayed_status : (q : ProblemParts) (status : ℕ) (output : List ℕ) → IsConsulted (IsReplayed q) bytes status output → ReplayStatus bytes q status
   replayed_status q status output consulted =
       ⊎_elim
       (λ h. record {

@@ -1,7 +1,7 @@
 -- Each status of each command has its cause.
 use Rattle.std.proofs.Common.{◌≡◌, ◌⊎◌, ◌≤◌, ℕ, List, Option, Some, inl, inr, ⊎_elim, arith, refl, subst}
 use Rattle.kat_io.specs.Told.{Told}
-use Rattle.kat_model.specs.Problems.{Question}
+use Rattle.kat_model.specs.Problems.{ProblemParts}
 use Rattle.kat_model.specs.Strings.{GuardedString}
 use Rattle.string_tables.specs.Findings.{IsFinding}
 use Rattle.string_tables.specs.declared.finding.Finding.{Finding}
@@ -16,7 +16,7 @@ use Rattle.kat_tool.specs.Causes.{DecidesEqual, DecidesDifferent, Holds, Accepts
 use Rattle.kat_tool.proofs.Completeness.{served_by_status}
 
 -- a string that is told with another status than that of a misfit
-told_replays : (told : List ℕ → Told) (file other : List ℕ) (q : Question) (output : List ℕ) (x : GuardedString) → Holds told file other q (Different x) → (f : Finding) → IsFinding q x f → IsTold x f 0 output → Replays told file other output
+told_replays : (told : List ℕ → Told) (file other : List ℕ) (q : ProblemParts) (output : List ℕ) (x : GuardedString) → Holds told file other q (Different x) → (f : Finding) → IsFinding q x f → IsTold x f 0 output → Replays told file other output
 told_replays told file other q output x h (Shape k) found t = let clash = t.0 in absurd (omega (arith, clash))
 told_replays told file other q output x h (Refutes b) found t = record { question = q; string = x; holds = h; finding = Refutes b; found = found; fits = tt; printed = t.1 }
 told_replays told file other q output x h (HypBroken g i j) found t = record { question = q; string = x; holds = h; finding = HypBroken g i j; found = found; fits = tt; printed = t.1 }
@@ -28,14 +28,14 @@ told_small x (Refutes b) status output t = inl t.0
 told_small x (HypBroken h i j) status output t = inl t.0
 told_small x (EndsAgree b) status output t = inl t.0
 
-accepted_small : (q : Question) (e : Evidence) (status : ℕ) (output : List ℕ) → IsAccepting q e status output → status ≤ 1
+accepted_small : (q : ProblemParts) (e : Evidence) (status : ℕ) (output : List ℕ) → IsAccepting q e status output → status ≤ 1
 accepted_small q (Equal c) status output a = let is = a.has_status in omega (arith, is)
 accepted_small q (Different x) status output a = let is = a.has_status in omega (arith, is)
 
-checked_small : (q : Question) (e : Evidence) (status : ℕ) (output : List ℕ) → IsChecked q e status output → (status ≤ 1) ⊎ (status ≡ 3)
+checked_small : (q : ProblemParts) (e : Evidence) (status : ℕ) (output : List ℕ) → IsChecked q e status output → (status ≤ 1) ⊎ (status ≡ 3)
 checked_small q e status output k = ⊎_elim (λ a. inl (accepted_small q e status output a)) (λ r. inr r.has_status) k
 
-replayed_small : (q : Question) (e : Evidence) (status : ℕ) (output : List ℕ) → IsReplayed q e status output → (status ≡ 0) ⊎ (status ≡ 3)
+replayed_small : (q : ProblemParts) (e : Evidence) (status : ℕ) (output : List ℕ) → IsReplayed q e status output → (status ≡ 0) ⊎ (status ≡ 3)
 replayed_small q (Equal c) status output r = inr r.0
 replayed_small q (Different x) status output r = told_small x r.0 status output r.2
 
@@ -47,7 +47,7 @@ module _ (told : List ℕ → Told) (other : List ℕ) (IsReply : Evidence → �
   consulted_declined : ((e : Evidence) → IsReply e status output → status ≡ 2 → ⊥) → status ≡ 2 → IsBadEvidence told other output
   consulted_declined never two = (c.0, c.1, ⊎_elim (λ h. h.1) (λ h. absurd (never h.0 h.2 two)) c.2)
 
-  evidence_reply : (file : List ℕ) (q : Question) → Poses told file q → (status ≡ 2 → ⊥) → (e : Evidence) × Holds told file other q e × IsReply e status output
+  evidence_reply : (file : List ℕ) (q : ProblemParts) → Poses told file q → (status ≡ 2 → ⊥) → (e : Evidence) × Holds told file other q e × IsReply e status output
   evidence_reply file q poses never = ⊎_elim (λ h. absurd (never h.0)) (λ h. (h.0, record { poses = poses; bytes = c.0; held = c.1; spells = h.1 }, h.2)) c.2
 
 no_two : (status : ℕ) → (status ≡ 0) ⊎ (status ≡ 3) → status ≡ 2 → ⊥
@@ -62,17 +62,17 @@ check_two status small two = ⊎_elim (λ h. omega (arith, h, two)) (λ h. omega
 check_three : (status : ℕ) → (status ≤ 1) ⊎ (status ≡ 3) → status ≤ 3
 check_three status small = ⊎_elim (λ h. omega (arith, h)) (λ h. omega (arith, h)) small
 
-answered_small : (told : List ℕ → Told) (command : Command) (q : Question) (status : ℕ) (output : List ℕ) → IsAnswered told command q status output → status ≤ 3
+answered_small : (told : List ℕ → Told) (command : Command) (q : ProblemParts) (status : ℕ) (output : List ℕ) → IsAnswered told command q status output → status ≤ 3
 answered_small told (decide file) q status output d = ⊎_elim (λ h. let is = h.0 in omega (arith, is)) (λ h. let is = h.0 in omega (arith, is)) d
 answered_small told (check file other) q status output c = consulted_small told other (IsChecked q) status output c (λ e k. check_three status (checked_small q e status output k))
 answered_small told (replay file other) q status output c = consulted_small told other (IsReplayed q) status output c (λ e r. up_to_three status (replayed_small q e status output r))
 
-answered_declined : (told : List ℕ → Told) (command : Command) (q : Question) (output : List ℕ) → IsAnswered told command q 2 output → IsDeclined told command q output
+answered_declined : (told : List ℕ → Told) (command : Command) (q : ProblemParts) (output : List ℕ) → IsAnswered told command q 2 output → IsDeclined told command q output
 answered_declined told (decide file) q output d = ⊎_elim (λ h. let is = h.0 in absurd (omega (arith, is))) (λ h. let is = h.0 in absurd (omega (arith, is))) d
 answered_declined told (check file other) q output c = consulted_declined told other (IsChecked q) 2 output c (λ e k two. check_two 2 (checked_small q e 2 output k) two) refl
 answered_declined told (replay file other) q output c = consulted_declined told other (IsReplayed q) 2 output c (λ e r two. no_two 2 (replayed_small q e 2 output r) two) refl
 
-module _ (told : List ℕ → Told) (file other : List ℕ) (q : Question) (output : List ℕ) where
+module _ (told : List ℕ → Told) (file other : List ℕ) (q : ProblemParts) (output : List ℕ) where
   equal_accepted : (e : Evidence) → Holds told file other q e → IsChecked q e 0 output → AcceptsEqual told file other output
   equal_accepted (Equal c) h k = ⊎_elim (λ a. record { question = q; cert = c; holds = h; accepted = a.shows; same = a.says; printed = a.printed }) (λ r. let clash = r.has_status in absurd (omega (arith, clash))) k
   equal_accepted (Different x) h k = ⊎_elim (λ a. let clash = a.has_status in absurd (omega (arith, clash))) (λ r. let clash = r.has_status in absurd (omega (arith, clash))) k

@@ -2,10 +2,11 @@
 use Rattle.std.proofs.Common.{◌≡◌, ◌<◌, ℕ, List, length, Option, None, Some, Ok, Err, Vec, refl, sym, subst}
 use Rattle.std.proofs.lemmas.Bool.{false≢true}
 use Rattle.std.specs.declared.alloc.Global.{Global}
+use Rattle.kat_model.specs.declared.limits.TheConstants.{MAX_TEXT_BYTES}
 use Rattle.kat_io.specs.Told.{Told, Untold, Missing, Holds}
 use Rattle.kat_io.specs.Gets.{GetsFrom, IsWithin}
 use Rattle.kat_io.specs.declared.outside.GetFault.TheVariants.{TooLong}
-use Rattle.kat_tool.specs.Held.{MayHold, MayPass, text_limit}
+use Rattle.kat_tool.specs.Held.{MayHold, MayPass}
 use Rattle.kat_tool.specs.Outcomes.{MayPassLimit}
 
 -- what was got is what the shelf may hold, and within the limit
@@ -29,7 +30,7 @@ held_same Untold bytes got e h = cc
 held_same Missing bytes got e h = cc
 held_same (Holds held) bytes got e h = cc
 
-pub held_past : (told : Told) (bytes : List ℕ) → told ≡ Holds bytes → MayPass told text_limit → text_limit < length bytes
+pub held_past : (told : Told) (bytes : List ℕ) → told ≡ Holds bytes → MayPass told MAX_TEXT_BYTES → MAX_TEXT_BYTES < length bytes
 held_past told bytes e past = rw e at past
 
 -- a shelf that tells something, and may hold the bytes, tells them
@@ -38,7 +39,7 @@ told_bytes Untold bytes is_told h = absurd (is_told refl)
 told_bytes Missing bytes is_told h = absurd h
 told_bytes (Holds held) bytes is_told h = cc
 
-pub told_past : (told : Told) → (told ≡ Untold → ⊥) → MayPass told text_limit → (bytes : List ℕ) × (told ≡ Holds bytes) × (text_limit < length bytes)
+pub told_past : (told : Told) → (told ≡ Untold → ⊥) → MayPass told MAX_TEXT_BYTES → (bytes : List ℕ) × (told ≡ Holds bytes) × (MAX_TEXT_BYTES < length bytes)
 told_past Untold is_told h = absurd (is_told refl)
 told_past Missing is_told h = absurd h
 told_past (Holds bytes) is_told h = (bytes, refl, h)

@@ -1,6 +1,6 @@
 -- What `decide` answers is evidence, so its text is read as it again, and it is the cause of the status.
 use Rattle.std.proofs.Common.{◌≡◌, ◌<◌, ◌≤◌, ◌^◌, ℕ, inl, inr, List, length, refl, sym, subst, arith, ltb-true}
-use Rattle.kat_model.specs.Problems.{Question, IsProblem}
+use Rattle.kat_model.specs.Problems.{ProblemParts, IsProblem}
 use Rattle.kat_model.specs.Strings.{GuardedString}
 use Rattle.string_tables.specs.Tables.{Refutes}
 use Rattle.certificate.specs.declared.evidence.Evidence.{Evidence}
@@ -18,7 +18,7 @@ use Rattle.kat_tool.specs.Deciding.{IsDecided}
 small : (k n : ℕ) → k < n → n ≤ 48 → k < 2 ^ 64
 small k n lt le = let wide : 48 < 2 ^ 64 = ltb-true 48 (2 ^ 64) refl in omega (arith, lt, le, wide)
 
-module _ (q : Question) (problem : IsProblem q) where
+module _ (q : ProblemParts) (problem : IsProblem q) where
   accepted_evidence : (c : CertParts) → IsCert c → IsAccepted q c → length c.test_nodes < 2 ^ 64 → length c.term_nodes < 2 ^ 64 → IsEvidence (Equal c)
   accepted_evidence c cert accepted tests terms =
       cert_is_evidence c cert (λ k h. small k q.tests (accepted.tests k h) problem.tests) (λ a h. small a q.actions (accepted.actions a h) problem.actions) tests terms
@@ -33,6 +33,6 @@ module _ (q : Question) (problem : IsProblem q) where
     pub different_spelled : (x : GuardedString) → e ≡ Different x → Spells output e
     different_spelled x is = record { evidence = subst IsEvidence (sym is) (string_evidence x (subst (IsDecision q) is d).1.refutes); text = text }
 
-pub decided : (q : Question) (e : Evidence) (output : List ℕ) → IsDecision q e → Spells output e → IsDecided q (evidence_status e) output
+pub decided : (q : ProblemParts) (e : Evidence) (output : List ℕ) → IsDecision q e → Spells output e → IsDecided q (evidence_status e) output
 decided q (Equal c) output d s = inl (refl, record { same = d.0; cert = c; concise = d.1; few = concise_few q c d.1; printed = s })
 decided q (Different x) output d s = inr (refl, record { differ = d.0; string = x; shortest = d.1; printed = s })

@@ -1,7 +1,7 @@
 -- Where the shelf tells what the files hold and did not fail, no two statuses have a cause.
 use Rattle.std.proofs.Common.{◌≡◌, ℕ, List, None, Some, ⊎_elim, sym, subst, ◌∙◌}
 use Rattle.kat_io.specs.Told.{Told, Untold}
-use Rattle.kat_model.specs.Problems.{Question}
+use Rattle.kat_model.specs.Problems.{ProblemParts}
 use Rattle.kat_model.specs.Strings.{GuardedString, IsString}
 use Rattle.string_tables.specs.Findings.{misfit, IsFinding}
 use Rattle.string_tables.specs.declared.finding.Finding.TheVariants.{Shape}
@@ -18,12 +18,12 @@ use Rattle.kat_tool.proofs.Posed.{none_nothing, long_nothing, nothing_served, as
 use Rattle.kat_tool.proofs.AnswerStatuses.{decided_status, checked_status, replayed_status, told_consulted, fits_told, fitting}
 use Rattle.kat_tool.proofs.Completeness.{none_status, served}
 
-decided_once : (q : Question) (s t : ℕ) (o p : List ℕ) → IsDecided q s o → IsDecided q t p → s ≡ t
+decided_once : (q : ProblemParts) (s t : ℕ) (o p : List ℕ) → IsDecided q s o → IsDecided q t p → s ≡ t
 decided_once q s t o p d e =
     let other = decided_status q t p e in
-    ⊎_elim (λ h. h.0 ∙ sym (other.equal h.1.same)) (λ h. h.0 ∙ sym (other.different h.1.differ)) d
+    ⊎_elim (λ h. h.0 ∙ sym (other.equal.1 h.1.same)) (λ h. h.0 ∙ sym (other.different.1 h.1.differ)) d
 
-module _ (bytes : List ℕ) (q : Question) (s t : ℕ) (o : List ℕ) where
+module _ (bytes : List ℕ) (q : ProblemParts) (s t : ℕ) (o : List ℕ) where
   accepted_once : (e : Evidence) → Spells bytes e → IsAccepting q e s o → CheckStatus bytes q t → s ≡ t
   accepted_once (Equal c) spells a other = a.has_status ∙ sym (other.equal c spells a.shows)
   accepted_once (Different x) spells a other = a.has_status ∙ sym (other.different x spells a.shows)
@@ -55,7 +55,7 @@ module _ (bytes : List ℕ) (q : Question) (s t : ℕ) (o : List ℕ) where
   replayed_once c other = ⊎_elim (λ h. h.0 ∙ sym (other.faulty h.1.fault h.1.first)) (λ h. replay_once h.0 h.1 h.2 other) c
 
 module _ (told : List ℕ → Told) (is_told : (file : List ℕ) → told file ≡ Untold → ⊥) (s t : ℕ) (o p : List ℕ) where
-  answered_once : (command : Command) (q : Question) → IsAnswered told command q s o → IsAnswered told command q t p → s ≡ t
+  answered_once : (command : Command) (q : ProblemParts) → IsAnswered told command q s o → IsAnswered told command q t p → s ≡ t
   answered_once (decide file) q a b = decided_once q s t o p a b
   answered_once (check file other) q a b =
       let holds = told_bytes (told other) a.0 (is_told other) a.1 in

@@ -1,5 +1,6 @@
 pub mod Contents
 pub mod Posed
+pub mod Headlines
 pub mod Questions
 pub mod Askable
 pub mod AnswerStatuses

@@ -1,7 +1,7 @@
 -- The cause of each status of each command, as it follows from the replies.
 use Rattle.std.specs.Prelude.{◌≡◌, ◌⊎◌, ℕ, List, Option, Some, codes}
 use Rattle.kat_io.specs.Told.{Told}
-use Rattle.kat_model.specs.Problems.{Question}
+use Rattle.kat_model.specs.Problems.{ProblemParts}
 use Rattle.kat_model.specs.Relations.{Same}
 use Rattle.kat_model.specs.Strings.{GuardedString}
 use Rattle.string_tables.specs.Tables.{Refutes}
@@ -21,13 +21,13 @@ use Rattle.kat_tool.specs.Replies.{HasFailed}
 
 -- the file poses a problem that is decided so
 abbrev pub DecidesEqual : (List ℕ → Told) → List ℕ → List ℕ → Type 0
-DecidesEqual told file output = (q : Question) × Poses told file q × IsEqual q output
+DecidesEqual told file output = (q : ProblemParts) × Poses told file q × IsEqual q output
 
 abbrev pub DecidesDifferent : (List ℕ → Told) → List ℕ → List ℕ → Type 0
-DecidesDifferent told file output = (q : Question) × Poses told file q × IsDifferent q output
+DecidesDifferent told file output = (q : ProblemParts) × Poses told file q × IsDifferent q output
 
 -- the file poses a problem, and the other may hold the text of this evidence
-pub record Holds (told : List ℕ → Told) (file other : List ℕ) (q : Question) (e : Evidence) : Type 0 where
+pub record Holds (told : List ℕ → Told) (file other : List ℕ) (q : ProblemParts) (e : Evidence) : Type 0 where
   pub poses : Poses told file q
   pub bytes : List ℕ
   pub held : MayHold (told other) bytes
@@ -35,7 +35,7 @@ pub record Holds (told : List ℕ → Told) (file other : List ℕ) (q : Questio
 
 -- the evidence is a certificate that is accepted, so both sides are the same
 pub record AcceptsEqual (told : List ℕ → Told) (file other output : List ℕ) : Type 0 where
-  pub question : Question
+  pub question : ProblemParts
   pub cert : CertParts
   pub holds : Holds told file other question (Equal cert)
   pub accepted : IsAccepted question cert
@@ -44,7 +44,7 @@ pub record AcceptsEqual (told : List ℕ → Told) (file other output : List ℕ
 
 -- the evidence is a string that refutes, so they are not
 pub record AcceptsDifferent (told : List ℕ → Told) (file other output : List ℕ) : Type 0 where
-  pub question : Question
+  pub question : ProblemParts
   pub string : GuardedString
   pub holds : Holds told file other question (Different string)
   pub refutes : Refutes question string
@@ -53,11 +53,11 @@ pub record AcceptsDifferent (told : List ℕ → Told) (file other output : List
 
 -- the evidence does not show what it says, and the first reason is printed
 abbrev pub Rejects : (List ℕ → Told) → List ℕ → List ℕ → List ℕ → Type 0
-Rejects told file other output = (q : Question) × (e : Evidence) × Holds told file other q e × IsRejecting q e 3 output
+Rejects told file other output = (q : ProblemParts) × (e : Evidence) × Holds told file other q e × IsRejecting q e 3 output
 
 -- the evidence is a string that fits, and is told with what it shows
 pub record Replays (told : List ℕ → Told) (file other output : List ℕ) : Type 0 where
-  pub question : Question
+  pub question : ProblemParts
   pub string : GuardedString
   pub holds : Holds told file other question (Different string)
   pub finding : Finding
@@ -67,14 +67,14 @@ pub record Replays (told : List ℕ → Told) (file other output : List ℕ) : T
 
 -- the evidence is no string, or one that does not fit
 abbrev pub RejectsReplay : (List ℕ → Told) → List ℕ → List ℕ → List ℕ → Type 0
-RejectsReplay told file other output = (q : Question) × (e : Evidence) × Holds told file other q e × IsReplayed q e 3 output
+RejectsReplay told file other output = (q : ProblemParts) × (e : Evidence) × Holds told file other q e × IsReplayed q e 3 output
 
 -- the bytes of the other file are the text of no evidence
 abbrev pub IsBadEvidence : (List ℕ → Told) → List ℕ → List ℕ → Type 0
 IsBadEvidence told other output = (bytes : List ℕ) × MayHold (told other) bytes × IsNoEvidence bytes output
 
 -- why a command is refused over a problem; `decide` answers each
-abbrev pub IsDeclined : (List ℕ → Told) → Command → Question → List ℕ → Type 0
+abbrev pub IsDeclined : (List ℕ → Told) → Command → ProblemParts → List ℕ → Type 0
 IsDeclined told (decide file) q output = ⊥
 IsDeclined told (check file other) q output = IsBadEvidence told other output
 IsDeclined told (replay file other) q output = IsBadEvidence told other output
@@ -83,7 +83,7 @@ IsDeclined told (replay file other) q output = IsBadEvidence told other output
 pub record HasRefusal (words : List (List ℕ)) (told : List ℕ → Told) (output : List ℕ) : Type 0 where
   pub command : Command
   pub is_command : command_of words ≡ Some command
-  pub cause : IsRefused told (file_of command) output ⊎ ((q : Question) × Poses told (file_of command) q × IsDeclined told command q output)
+  pub cause : IsRefused told (file_of command) output ⊎ ((q : ProblemParts) × Poses told (file_of command) q × IsDeclined told command q output)
 
 -- the cause of status 4
 abbrev pub IsUnread : List (List ℕ) → ℕ → ℕ → Option (List ℕ) → List ℕ → Type 0

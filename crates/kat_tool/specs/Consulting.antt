@@ -1,7 +1,7 @@
 -- What `check` and `replay` reply to a problem and evidence.
 use Rattle.std.specs.Prelude.{◌≡◌, ◌⊎◌, ℕ, List, Some, codes}
 use Rattle.kat_io.specs.Told.{Told}
-use Rattle.kat_model.specs.Problems.{Question}
+use Rattle.kat_model.specs.Problems.{ProblemParts}
 use Rattle.kat_model.specs.Strings.{GuardedString}
 use Rattle.string_tables.specs.Findings.{IsFinding}
 use Rattle.string_tables.specs.declared.finding.Finding.{Finding}
@@ -41,14 +41,14 @@ accepted_line (Equal c) = codes "accepted equal\n"
 accepted_line (Different x) = codes "accepted different\n"
 
 -- the evidence shows what it says, and so it is
-pub record IsAccepting (q : Question) (e : Evidence) (status : ℕ) (output : List ℕ) : Type 0 where
+pub record IsAccepting (q : ProblemParts) (e : Evidence) (status : ℕ) (output : List ℕ) : Type 0 where
   pub shows : Shows q e
   pub says : Says q e
   pub has_status : status ≡ evidence_status e
   pub printed : output ≡ accepted_line e
 
 -- it does not show it, and the first reason is printed
-pub record IsRejecting (q : Question) (e : Evidence) (status : ℕ) (output : List ℕ) : Type 0 where
+pub record IsRejecting (q : ProblemParts) (e : Evidence) (status : ℕ) (output : List ℕ) : Type 0 where
   pub fails : Shows q e → ⊥
   pub reason : Reason
   pub first : IsFoundBy q e reason
@@ -56,7 +56,7 @@ pub record IsRejecting (q : Question) (e : Evidence) (status : ℕ) (output : Li
   pub printed : output ≡ reason_line reason
 
 -- the reply of `check`
-abbrev pub IsChecked : Question → Evidence → ℕ → List ℕ → Type 0
+abbrev pub IsChecked : ProblemParts → Evidence → ℕ → List ℕ → Type 0
 IsChecked q e status output = IsAccepting q e status output ⊎ IsRejecting q e status output
 
 -- a string that fits is told with what it shows, and of another the position that does not fit
@@ -67,7 +67,7 @@ IsTold x (HypBroken h i j) status output = (status ≡ 0) × (output ≡ replay_
 IsTold x (EndsAgree both) status output = (status ≡ 0) × (output ≡ replay_text x (EndsAgree both))
 
 -- the reply of `replay`
-abbrev pub IsReplayed : Question → Evidence → ℕ → List ℕ → Type 0
+abbrev pub IsReplayed : ProblemParts → Evidence → ℕ → List ℕ → Type 0
 IsReplayed q (Equal c) status output = (status ≡ 3) × (output ≡ codes "rejected: NotAString\n")
 IsReplayed q (Different x) status output = (f : Finding) × IsFinding q x f × IsTold x f status output
 

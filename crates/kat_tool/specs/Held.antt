@@ -1,5 +1,6 @@
 -- What a shelf may hold under a name, by what it tells.
 use Rattle.std.specs.Prelude.{◌≡◌, ◌≤◌, ◌<◌, ℕ, List, length}
+use Rattle.kat_model.specs.declared.limits.TheConstants.{MAX_TEXT_BYTES}
 use Rattle.kat_io.specs.Told.{Told, Untold, Missing, Holds}
 
 -- these bytes
@@ -14,10 +15,6 @@ MayPass Untold limit = Unit {0}
 MayPass Missing limit = ⊥
 MayPass (Holds held) limit = limit < length held
 
--- a text has at most so many bytes
-abbrev pub text_limit : ℕ
-text_limit = 1048576
-
 -- the file may hold this text, which is within the limit
 abbrev pub IsGiven : (List ℕ → Told) → List ℕ → List ℕ → Type 0
-IsGiven told file text = MayHold (told file) text × (length text ≤ text_limit)
+IsGiven told file text = MayHold (told file) text × (length text ≤ MAX_TEXT_BYTES)

@@ -3,10 +3,12 @@ pub mod Held
 pub mod Asking
 pub mod Askings
 pub mod Posing
+pub mod TextReplies
 pub mod Deciding
 pub mod Consulting
 pub mod Replies
 pub mod Agreement
 pub mod Causes
 pub mod Statuses
+pub mod Headline
 pub mod Outcomes

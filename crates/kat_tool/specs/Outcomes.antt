@@ -3,7 +3,7 @@ use Rattle.std.specs.Prelude.{◌≡◌, ◌⊎◌, ℕ, List, Option, None, Som
 use Rattle.std.specs.declared.alloc.Global.{Global}
 use Rattle.kat_io.specs.Told.{Told}
 use Rattle.kat_io.specs.Gets.{IsWithin}
-use Rattle.kat_model.specs.Problems.{Question}
+use Rattle.kat_model.specs.Problems.{ProblemParts}
 use Rattle.kat_tool.specs.declared.reply.Reply.{Reply}
 use Rattle.kat_tool.specs.declared.reply.Stop.{Stop}
 use Rattle.kat_tool.specs.declared.reply.Stop.TheVariants.{NoMemory, Replied}
@@ -45,5 +45,5 @@ IsGot told file limit before now last result =
     IsOutcome (λ v. (now ≡ before) × MayHold told v.items × IsWithin (length v.items) limit) (HasStopped file before now last (λ line. MayPassLimit told limit × (line ≡ codes "refused: TooLong\n"))) result
 
 -- the problem that a text poses
-abbrev pub IsPosedBy : List ℕ → Result Question Stop → Type 0
+abbrev pub IsPosedBy : List ℕ → Result ProblemParts Stop → Type 0
 IsPosedBy text result = IsOutcome (λ q. Asks text q × IsSmall q) (IsRefusal (PosesNone text)) result

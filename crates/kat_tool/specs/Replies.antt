@@ -3,14 +3,14 @@ use Rattle.std.specs.Prelude.{◌≡◌, ◌⊎◌, ℕ, List, [], ◌∷◌, �
 use Rattle.kat_io.specs.Told.{Told}
 use Rattle.kat_io.specs.Outside.{Rose}
 use Rattle.kat_model.specs.Members.{Has}
-use Rattle.kat_model.specs.Problems.{Question}
+use Rattle.kat_model.specs.Problems.{ProblemParts}
 use Rattle.kat_tool.specs.Commands.{Command, decide, check, replay, command_of, file_of, files_of}
 use Rattle.kat_tool.specs.Posing.{IsRefused, Poses}
 use Rattle.kat_tool.specs.Deciding.{IsDecided}
 use Rattle.kat_tool.specs.Consulting.{IsChecked, IsReplayed, Consults}
 
 -- the reply to a command whose file poses this problem
-abbrev pub IsAnswered : (List ℕ → Told) → Command → Question → ℕ → List ℕ → Type 0
+abbrev pub IsAnswered : (List ℕ → Told) → Command → ProblemParts → ℕ → List ℕ → Type 0
 IsAnswered told (decide file) q status output = IsDecided q status output
 IsAnswered told (check file evidence) q status output = Consults told evidence (IsChecked q) status output
 IsAnswered told (replay file evidence) q status output = Consults told evidence (IsReplayed q) status output
@@ -19,7 +19,7 @@ IsAnswered told (replay file evidence) q status output = Consults told evidence 
 abbrev pub IsServed : (List ℕ → Told) → Command → ℕ → List ℕ → Type 0
 IsServed told command status output =
     ((status ≡ 2) × IsRefused told (file_of command) output)
-    ⊎ ((q : Question) × Poses told (file_of command) q × IsAnswered told command q status output)
+    ⊎ ((q : ProblemParts) × Poses told (file_of command) q × IsAnswered told command q status output)
 
 -- the shelf failed in this call on the file, which is printed
 pub record HasFailedOn (file : List ℕ) (before now : ℕ) (last : Option (List ℕ)) (status : ℕ) (output : List ℕ) : Type 0 where

@@ -1,18 +1,16 @@
 //! The problem that a file asks.
 ghost use Rattle.std.specs.Prelude.{◌≡◌, ◌||◌, map, Some, IfOk};
 ghost use Rattle.kat_model.specs.Trees.{kat_tree};
-ghost use Rattle.kat_model.specs.Expressions.{cond_tree};
 ghost use Rattle.goal_forms.specs.Sides.{side_trees};
 ghost use Rattle.problem_file.specs.Trees.{side_tree, goal_tree};
 ghost use Rattle.problem_file.specs.Files.{State};
-ghost use Rattle.problem_file.specs.Reads.{Holds};
+ghost use Rattle.problem_file.specs.Reads.{FileHolds};
 ghost use Rattle.problem_file.specs.Ranges.{IsNumbered};
-ghost use Rattle.kat_tool.specs.Asking.{compares, goal_compares, sides_of};
+ghost use Rattle.kat_tool.specs.Asking.{goal_compares, sides_of};
 ghost use Rattle.kat_tool.specs.Askings.{IsAskedOf};
 
 use goal_forms::{Sides, below, triple};
-use kat_model::{Cond, Kat, NoMemory, Problem};
-use kat_text::test_of;
+use kat_model::{Kat, NoMemory, Problem, test_without_comparisons};
 use problem_file::{File, Goal, Side};
 use std::alloc::Global;
 
@@ -26,23 +24,12 @@ pub(crate) enum Asked {
     Compares,
 }
 
-fn compares(cond: &Cond) -> bool
-    ensures { result ≡ compares (cond_tree cond.now) }
-{
-    match cond {
-        Cond::True | Cond::False | Cond::Test(_) => false,
-        Cond::Compare(_, _, _) => true,
-        Cond::Not(b) => compares(b),
-        Cond::And(b, c) | Cond::Or(b, c) => compares(b) || compares(c),
-    }
-}
-
 fn goal_compares(goal: &Goal) -> bool
     ensures { result ≡ goal_compares (goal_tree goal.now) }
 {
     match goal {
         Goal::Equal(_, _) | Goal::Below(_, _) => false,
-        Goal::Triple(pre, _, post) => compares(pre) || compares(post),
+        Goal::Triple(pre, _, post) => pre.has_comparison() || post.has_comparison(),
     }
 }
 
@@ -64,8 +51,8 @@ fn sides(alloc: Global, goal: Goal) -> Result<Sides, NoMemory>
         }),
         Goal::Below(small, large) => below(alloc, term(small), term(large)),
         Goal::Triple(pre, body, post) => {
-            let pre = test_of(alloc, pre)?;
-            let post = test_of(alloc, post)?;
+            let pre = test_without_comparisons(alloc, pre)?;
+            let post = test_without_comparisons(alloc, post)?;
             triple(alloc, pre, term(body), post)
         }
     }
@@ -74,7 +61,7 @@ fn sides(alloc: Global, goal: Goal) -> Result<Sides, NoMemory>
 /// What the file asks. Of the reasons why there is no problem only its size can come, since files hold no other tests
 /// and actions than they declare.
 pub(crate) fn asked_of(alloc: Global, file: File) -> Result<Asked, NoMemory>
-    ensures { (s : State) → Holds file s → IsNumbered s → IfOk result (IsAskedOf s (goal_tree file.goal)) }
+    ensures { (s : State) → FileHolds file s → IsNumbered s → IfOk result (IsAskedOf s (goal_tree file.goal)) }
 {
     if goal_compares(&file.goal) {
         return Ok(Asked::Compares);

@@ -16,7 +16,8 @@ use kat_report::{evidence_fault_line, reason_line, replay_text};
 use std::alloc::Global;
 use string_tables::{Finding, GString, verdict};
 
-fn spelled(alloc: Global, bytes: &[u8]) -> Result<Evidence, Stop>
+/// The evidence of which these bytes are the text.
+pub(crate) fn spelled(alloc: Global, bytes: &[u8]) -> Result<Evidence, Stop>
     ensures { IsOutcome (Spells bytes.now) (IsRefusal (IsNoEvidence bytes.now)) result }
 {
     match read(alloc, bytes) {

@@ -3,22 +3,17 @@
 
 mod asking;
 mod consulting;
-#[cfg(test)]
-mod decide_tests;
 mod deciding;
-#[cfg(test)]
-mod evidence_tests;
-#[cfg(test)]
-mod forty_tests;
 mod getting;
 mod laws;
 mod posing;
 mod reply;
-#[cfg(test)]
-mod tests;
+mod text;
 mod top;
 mod words;
 
 pub use laws::causes_exclude;
+pub use reply::Reply;
+pub use text::{checked_texts, decided_text};
 pub use top::run;
 pub use words::Words;

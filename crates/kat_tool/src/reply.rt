@@ -6,11 +6,13 @@ ghost use Rattle.kat_tool.specs.Outcomes.{IsStop, IsRefusal};
 use kat_model::NoMemory;
 use std::alloc::{AllocError, Global};
 
-/// A status, and what is printed with it.
+/// What a command answers.
 #[derive(Drop)]
-pub(crate) struct Reply {
-    pub(crate) status: u8,
-    pub(crate) output: Vec<u8>,
+pub struct Reply {
+    /// The exit status.
+    pub status: u8,
+    /// What is printed with it.
+    pub output: Vec<u8>,
 }
 
 /// Why there is nothing to go on with.

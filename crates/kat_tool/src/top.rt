@@ -10,9 +10,9 @@ ghost use Rattle.kat_tool.specs.Agreement.{IsAgreed};
 ghost use Rattle.kat_tool.specs.Statuses.{Completes};
 
 use crate::consulting::{checked, evidence_in, replayed};
-use crate::deciding::decided;
-use crate::posing::problem_in;
+use crate::posing::{problem_in, text_in};
 use crate::reply::{Reply, Stop, line};
+use crate::text::text_reply;
 use crate::words::{Command, Words};
 use kat_io::{Shelf, Sink, send};
 use kat_model::NoMemory;
@@ -22,8 +22,8 @@ fn decide_file<S: Shelf>(alloc: Global, file: &str, shelf: &mut S) -> Result<Rep
     ensures replied { IsReplied (RepliesTo (S.content shelf.old) (S.faults shelf.old) (S.faults shelf.new) (S.last_failed shelf.new) (deciding file.now)) result }
     ensures kept { (name : List ℕ) → S.content shelf.new name ≡ S.content shelf.old name }
 {
-    let problem = problem_in(alloc, file, shelf)?;
-    Ok(decided(alloc, &problem)?)
+    let text = text_in(alloc, file, shelf)?;
+    text_reply(alloc, &text)
 }
 
 fn check_file<S: Shelf>(

@@ -44,7 +44,7 @@ impl Words {
         }
     }
 
-    /// Adds a word at the end. A refusal, for want of memory, leaves the list as it was.
+    /// Adds a word at the end. Out of memory leaves the list as it was.
     pub fn push(&mut self, word: &str) -> Result<(), NoMemory>
         ensures ok { OnOk result (self.new ≡ self.old ++ word.now ∷ []) }
         ensures err { OnErr result (self.new ≡ self.old) }

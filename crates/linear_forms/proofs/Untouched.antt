@@ -1,5 +1,6 @@
 -- A form without the variable stays itself.
-use Rattle.std.proofs.Common.{ℕ, ◌≡◌, ◌≢◌, ◌+◌, ◌*◌, ◌%◌, ◌<◌, nat_eq, Bool, true, false, ◌||◌, List, [], ◌∷◌, refl, ◌∙◌, ap, arith, Ordering, Less, Equal, Greater}
+use Rattle.std.proofs.Common.{ℕ, ◌≡◌, ◌≢◌, ◌+◌, ◌*◌, ◌%◌, ◌<◌, nat_eq, false, ◌||◌, List, [], ◌∷◌, refl, ◌∙◌, ap, arith, Ordering, Less, Equal, Greater}
+use Rattle.std.proofs.lemmas.Bool.{or_parts}
 use Rattle.std.proofs.lemmas.Bool.Decides.{nat_tests}
 use Rattle.std.proofs.Math.Nat.{mod-eq_of_lt, mul-one, mul-zero, zero-mod, zero-add}
 use Rattle.linear_forms.specs.Forms.{FormTree, constant, var_term, product_term, MonoTree, var, product, TermTree, form_of, terms_of, constant_of}
@@ -13,10 +14,6 @@ use Rattle.linear_forms.specs.declared.comparison.Atomic.TheVariants.{Zero, Less
 use Rattle.linear_forms.specs.declared.comparison.CondForm.TheVariants.{Pos}
 use Rattle.linear_forms.proofs.Ascending.{IsBeforeAll, before_all_terms, constant_of_form}
 use Rattle.linear_forms.proofs.CoefficientSums.{form_by_terms}
-
-neither : (a b : Bool) → (a || b) ≡ false → (a ≡ false) × (b ≡ false)
-neither true b e = absurd cc
-neither false b e = (refl, e)
 
 -- a first term merged with later ones stands before them
 merge_first : (m : ℕ) (x : TermTree) (ys : List TermTree) → IsBeforeAll x.0 ys → merge m (x ∷ []) ys ≡ x ∷ ys
@@ -55,14 +52,14 @@ product_in_order m f g u v n = both_varying f g u v ∙ by_cases (form_cmp f g) 
 pub replaced_untouched : (m j : ℕ) (by f : FormTree) → IsForm m f → has_var j f ≡ false → replaced m j by f ≡ f
 replaced_untouched m j by (constant c) i n = ap constant (mod-eq_of_lt i)
 replaced_untouched m j by (var_term k t rest) i n =
-    let p = neither (nat_eq k j) (has_var j rest) n in
+    let p = or_parts (nat_eq k j) (has_var j rest) n in
     rw (p.0, replaced_untouched m j by rest i.2 p.1)
     (ap (λ f. form_sum m f rest) (multiple_of_one m t (var k) i.0.0 i.0.1)
     ∙ sum_first m (var k) t rest (before_all_terms (var k) rest i.1) (constant_of_form m rest i.2)
     ∙ ap (var_term k t) (form_by_terms rest))
 replaced_untouched m j by (product_term f g t rest) i n =
-    let p = neither (has_var j f || has_var j g) (has_var j rest) n in
-    let q = neither (has_var j f) (has_var j g) p.0 in
+    let p = or_parts (has_var j f || has_var j g) (has_var j rest) n in
+    let q = or_parts (has_var j f) (has_var j g) p.0 in
     rw (replaced_untouched m j by f i.3 q.0, replaced_untouched m j by g i.4 q.1, replaced_untouched m j by rest i.2 p.1)
     (ap (λ h. form_sum m (multiple m t h) rest) (product_in_order m f g i.5 i.6 i.7)
     ∙ ap (λ h. form_sum m h rest) (multiple_of_one m t (product f g) i.0.0 i.0.1)
@@ -72,5 +69,5 @@ replaced_untouched m j by (product_term f g t rest) i n =
 pub substituted_untouched : (m j : ℕ) (by : FormTree) (a : Atomic) → IsAtomic m a → IsSettled m a → atomic_has_var j a ≡ false → substituted m j by a ≡ Pos a
 substituted_untouched m j by (Zero f) i s n = ap (zero_form m) (replaced_untouched m j by f i n) ∙ s
 substituted_untouched m j by (Below f g) i s n =
-    let p = neither (has_var j f) (has_var j g) n in
+    let p = or_parts (has_var j f) (has_var j g) n in
     rw (replaced_untouched m j by f i.0 p.0, replaced_untouched m j by g i.1 p.1) s

@@ -10,7 +10,6 @@ ghost use Rattle.linear_forms.specs.NormalForms.{IsForm};
 
 use crate::form::{Form, Mono, Term, boxed_form, push_term};
 use crate::order::{cmp_form, cmp_mono};
-use crate::residue::{add, greatest, mul};
 use kat_model::{NoMemory, Width};
 use std::alloc::Global;
 use std::cmp::Ordering;
@@ -59,13 +58,13 @@ fn join_last(
     ensures right_rest { OnOk result (reverse right.new.items ≡ drop 1 (reverse right.old.items)) }
 {
     match (left.pop(), right.pop()) {
-        (Some(x), Some(y)) => push_nonzero(to, x.mono, add(width, x.times, y.times)),
+        (Some(x), Some(y)) => push_nonzero(to, x.mono, width.add(x.times, y.times)),
         _ => Ok(()),
     }
 }
 
 // Two ascending lists of terms as one. Both are turned round first, so that their first terms can be popped.
-fn merged(
+fn merge_of(
     alloc: Global,
     width: Width,
     mut left: Vec<Term>,
@@ -96,8 +95,8 @@ fn merged(
 pub(crate) fn sum(alloc: Global, width: Width, left: Form, right: Form) -> Result<Form, NoMemory>
     ensures { IfOk result (λ f. f ≡ form_sum (modulus width) left right) }
 {
-    let constant = add(width, left.constant, right.constant);
-    let terms = merged(alloc, width, left.terms, right.terms)?;
+    let constant = width.add(left.constant, right.constant);
+    let terms = merge_of(alloc, width, left.terms, right.terms)?;
     Ok(Form { terms, constant })
 }
 
@@ -110,10 +109,10 @@ pub(crate) fn multiple(
 ) -> Result<Form, NoMemory>
     ensures { IfOk result (λ f. f ≡ form_multiple (modulus width) times form) }
 {
-    let constant = mul(width, times, form.constant);
+    let constant = width.mul(times, form.constant);
     let mut to: Vec<Term> = Vec::new(alloc);
     for term in form.terms {
-        push_nonzero(&mut to, term.mono, mul(width, times, term.times))?;
+        push_nonzero(&mut to, term.mono, width.mul(times, term.times))?;
     }
     Ok(Form {
         terms: to,
@@ -125,7 +124,7 @@ pub(crate) fn multiple(
 pub(crate) fn negative(alloc: Global, width: Width, form: Form) -> Result<Form, NoMemory>
     ensures { IfOk result (λ f. f ≡ form_negative (modulus width) form) }
 {
-    multiple(alloc, width, greatest(width), form)
+    multiple(alloc, width, width.greatest(), form)
 }
 
 /// The difference of two forms.
@@ -181,7 +180,7 @@ pub(crate) fn product(
 }
 
 /// The sum of two forms modulo 2 to the width: term by term, without the coefficients that become 0. Where both
-/// are kept as [`Form`] says, so is the sum. The only refusal is want of memory.
+/// are kept as [`Form`] says, so is the sum. Fails only when out of memory.
 pub fn plus(alloc: Global, width: Width, left: &Form, right: &Form) -> Result<Form, NoMemory>
     ensures exact { IfOk result (λ f. f ≡ form_sum (modulus width) left.now right.now) }
     ensures form { IsForm (modulus width) left.now → IsForm (modulus width) right.now → IfOk result (IsForm (modulus width)) }

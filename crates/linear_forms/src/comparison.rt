@@ -11,7 +11,6 @@ use crate::arithmetic::{difference, negative};
 use crate::expression::{normal_of, value};
 use crate::form::{Form, form_size};
 use crate::order::{cmp_form, same_form};
-use crate::residue::{greatest, mul};
 use kat_model::{Expr, NoMemory, Rel, Width};
 use std::alloc::Global;
 use std::cmp::Ordering;
@@ -34,7 +33,7 @@ pub enum CondForm {
 }
 
 impl Atomic {
-    /// The same comparison again. The only refusal is want of memory.
+    /// The same comparison again. Fails only when out of memory.
     pub fn copy(&self, alloc: Global) -> Result<Atomic, NoMemory>
         ensures { IfOk result (λ a. a ≡ self.now) }
     {
@@ -85,14 +84,14 @@ pub fn holds(width: Width, atomic: &Atomic, store: &[u64]) -> bool
 fn cmp_negative(width: Width, form: &Form) -> Ordering
     ensures { result ≡ slice_cmp nat_cmp (coefficients form.now) (map (negative_number (modulus width)) (coefficients form.now)) }
 {
-    let most = greatest(width);
+    let most = width.greatest();
     for term in &form.terms {
-        let order = term.times.cmp(&mul(width, most, term.times));
+        let order = term.times.cmp(&width.mul(most, term.times));
         if order != Ordering::Equal {
             return order;
         }
     }
-    form.constant.cmp(&mul(width, most, form.constant))
+    form.constant.cmp(&width.mul(most, form.constant))
 }
 
 // The form or its negative.
@@ -107,7 +106,7 @@ fn canonical(alloc: Global, width: Width, form: Form) -> Result<Form, NoMemory>
 
 /// The form or its negative, whichever has the lesser list of coefficients followed by the constant. One is 0
 /// exactly where the other is. Where the form is kept as [`Form`] says, so is the result. The only refusal is
-/// want of memory.
+/// out of memory.
 pub fn canon(alloc: Global, width: Width, form: &Form) -> Result<Form, NoMemory>
     ensures exact { IfOk result (λ f. f ≡ canonical_form (modulus width) form.now) }
     ensures form { IsForm (modulus width) form.now → IfOk result (IsForm (modulus width)) }
@@ -165,7 +164,7 @@ fn varying_less_cond(
     if cmp_form(&left, &right) == Ordering::Equal {
         return Ok(CondForm::False);
     }
-    if is_this(&right, 0) || is_this(&left, greatest(width)) {
+    if is_this(&right, 0) || is_this(&left, width.greatest()) {
         return Ok(CondForm::False);
     }
     if is_this(&right, 1) {
@@ -234,7 +233,7 @@ fn comparison_of(
 }
 
 /// The normal form of a comparison of two expressions. It holds in the same stores of the width as the
-/// comparison. The only refusal is want of memory.
+/// comparison. Fails only when out of memory.
 pub fn normal_cond(
     alloc: Global,
     width: Width,

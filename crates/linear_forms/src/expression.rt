@@ -9,7 +9,6 @@ ghost use Rattle.linear_forms.specs.Views.{mono_tree};
 
 use crate::arithmetic::{difference, product, sum};
 use crate::form::{Form, Mono, variable};
-use crate::residue::{add, cut, mul};
 use kat_model::{Expr, NoMemory, Width};
 use std::alloc::Global;
 
@@ -19,7 +18,7 @@ pub(crate) fn normal_of(alloc: Global, width: Width, expr: &Expr) -> Result<Form
     match expr {
         Expr::Num(n) => Ok(Form {
             terms: Vec::new(alloc),
-            constant: cut(width, *n),
+            constant: width.residue(*n),
         }),
         Expr::Var(k) => variable(alloc, *k),
         Expr::Add(e, f) => {
@@ -42,7 +41,7 @@ pub(crate) fn normal_of(alloc: Global, width: Width, expr: &Expr) -> Result<Form
 
 /// The normal form of an expression: a sum of terms, in which the product of two forms that are not constant is
 /// a monomial of its own. It has the value of the expression in every store of the width. The only refusal is
-/// want of memory.
+/// out of memory.
 pub fn normal(alloc: Global, width: Width, expr: &Expr) -> Result<Form, NoMemory>
     ensures exact { IfOk result (λ f. f ≡ normal_form (modulus width) (expr_tree expr.now)) }
     ensures form { IfOk result (IsForm (modulus width)) }
@@ -56,8 +55,8 @@ fn mono_value(width: Width, mono: &Mono, store: &[u64]) -> u64
     ensures { result ≡ mono_polynomial store.now (mono_tree mono.now) % modulus width }
 {
     match mono {
-        Mono::Var(k) => cut(width, store.get(*k).copied().unwrap_or(0)),
-        Mono::Product(f, g) => mul(width, value(width, f, store), value(width, g, store)),
+        Mono::Var(k) => width.residue(store.get(*k).copied().unwrap_or(0)),
+        Mono::Product(f, g) => width.mul(value(width, f, store), value(width, g, store)),
     }
 }
 
@@ -66,13 +65,10 @@ fn mono_value(width: Width, mono: &Mono, store: &[u64]) -> u64
 pub fn value(width: Width, form: &Form, store: &[u64]) -> u64
     ensures { result ≡ form_value (modulus width) store.now form.now }
 {
-    let mut total = cut(width, form.constant);
+    let mut total = width.residue(form.constant);
     for term in &form.terms {
-        total = add(
-            width,
-            total,
-            mul(width, term.times, mono_value(width, &term.mono, store)),
-        );
+        let part = width.mul(term.times, mono_value(width, &term.mono, store));
+        total = width.add(total, part);
     }
     total
 }

@@ -101,7 +101,7 @@ pub(crate) fn copy_mono(alloc: Global, mono: &Mono) -> Result<Mono, NoMemory>
 }
 
 impl Form {
-    /// The same form again. The only refusal is want of memory.
+    /// The same form again. Fails only when out of memory.
     #[cycle(copies)]
     pub fn copy(&self, alloc: Global) -> Result<Form, NoMemory>
         ensures { IfOk result (λ f. f ≡ self.now) }

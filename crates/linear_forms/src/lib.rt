@@ -7,10 +7,7 @@ mod expression;
 mod form;
 mod laws;
 mod order;
-mod residue;
 mod substitution;
-#[cfg(test)]
-mod tests;
 
 pub use arithmetic::{minus, plus};
 pub use comparison::{Atomic, CondForm, atomic_size, canon, holds, normal_cond, same_atomic};

@@ -9,7 +9,6 @@ ghost use Rattle.linear_forms.specs.Comparisons.{HoldsWhenSet, IsCondForm, subst
 use crate::arithmetic::{multiple, product, sum};
 use crate::comparison::{Atomic, CondForm, less_cond, zero_cond};
 use crate::form::{Form, Mono, variable};
-use crate::residue::cut;
 use kat_model::{NoMemory, Width};
 use std::alloc::Global;
 
@@ -51,7 +50,7 @@ fn replace(
 {
     let mut total = Form {
         terms: Vec::new(alloc),
-        constant: cut(width, form.constant),
+        constant: width.residue(form.constant),
     };
     let mut i = form.terms.len();
     while i > 0 {
@@ -86,7 +85,7 @@ fn substituted_in(
 /// The normal form of a comparison with a form in place of a variable, in products too. It holds in a store of
 /// the width exactly where the comparison holds in the store in which the variable is set to the value of the
 /// form. Where the form in place of the variable is kept as [`Form`] says, so are the forms of the result. The
-/// only refusal is want of memory. The use of stack grows with the depth of the products in the result: a result
+/// only failure is out of memory. The use of stack grows with the depth of the products in the result: a result
 /// of a million nodes in which products stand 998 deep is tested.
 pub fn subst(
     alloc: Global,

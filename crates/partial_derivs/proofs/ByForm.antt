@@ -7,9 +7,9 @@ use Rattle.kat_model.specs.Members.{Has}
 use Rattle.kat_model.specs.Problems.{HasTestsBelow}
 use Rattle.kat_model.specs.Steps.{Atom, dot, out, next}
 use Rattle.kat_model.proofs.Lists.{has_map, map_has, has_next_act, next_act_has, has_next_product, next_product_first, next_product_second}
-use Rattle.term_store.specs.Nodes.{Nodes, IsTermId}
+use Rattle.term_store.specs.Nodes.{StoreParts, IsTermId}
 use Rattle.term_store.specs.Trees.{tree_of}
-use Rattle.test_diagrams.specs.Functions.{Collection, value_of, IsDiagramId, IsAtomOf, IsDiagramOf, KeepsFunctions}
+use Rattle.test_diagrams.specs.Functions.{DiagramsParts, value_of, IsDiagramId, IsAtomOf, IsDiagramOf, KeepsFunctions}
 use Rattle.partial_derivs.specs.declared.moves.Guarded.{Guarded}
 use Rattle.partial_derivs.specs.declared.moves.Steps.{Steps}
 use Rattle.partial_derivs.specs.Moves.{IsTermOf, AreGuards, AreTargets, AreMerged, LeadsTo, IsDerivativeOf, Keeps}
@@ -17,7 +17,7 @@ use Rattle.partial_derivs.specs.Gathered.{AddsUnder, Follows}
 use Rattle.partial_derivs.proofs.Kept.{AreTargets-kept, LeadsTo-kept, LeadsTo-was, LeadsTo-more, LeadsTo-less}
 
 -- the one move of an action
-pub action_moves : (store : Nodes) (d : Collection) (a : ℕ) (always to : ℕ) (steps : Steps) → IsDiagramOf d steps.accepts (λ atom. false) → IsDiagramOf d always (λ atom. true) → IsTermId store to → tree_of store to ≡ one
+pub action_moves : (store : StoreParts) (d : DiagramsParts) (a : ℕ) (always to : ℕ) (steps : Steps) → IsDiagramOf d steps.accepts (λ atom. false) → IsDiagramOf d always (λ atom. true) → IsTermId store to → tree_of store to ≡ one
     → steps.moves.items ≡ record { guard = always; act = a; to = to } ∷ [] → IsDerivativeOf store d (act a) steps
 action_moves store d a always to steps accepts constant is_id tree moves = record {
   accepts = accepts;
@@ -43,7 +43,7 @@ action_moves store d a always to steps accepts constant is_id tree moves = recor
         subst (Has (next (act a) atom b)) (sym tree ∙ left) (next_act_has atom b a (sym action))
 
 -- a product: the moves of the first, each followed by the second, and those of the second where the first accepts
-module _ (s t : Nodes) (b c d g : Collection) (e : Term) (tail : ℕ) (first second steps : Steps) (mid : List Guarded) (trees : Keeps s t b c) (under_kept : KeepsFunctions c d) (both_kept : KeepsFunctions d g) (is_first : IsDerivativeOf s b e first) (is_second : IsDerivativeOf s b (tree_of s tail) second) (follows : Follows s t b c mid first.moves.items tail) (under : AddsUnder c d mid steps.moves.items second.moves.items first.accepts) (both : IsDiagramOf g steps.accepts (λ atom. value_of d first.accepts atom && value_of d second.accepts atom)) (merged : AreMerged steps.moves.items) where
+module _ (s t : StoreParts) (b c d g : DiagramsParts) (e : Term) (tail : ℕ) (first second steps : Steps) (mid : List Guarded) (trees : Keeps s t b c) (under_kept : KeepsFunctions c d) (both_kept : KeepsFunctions d g) (is_first : IsDerivativeOf s b e first) (is_second : IsDerivativeOf s b (tree_of s tail) second) (follows : Follows s t b c mid first.moves.items tail) (under : AddsUnder c d mid steps.moves.items second.moves.items first.accepts) (both : IsDiagramOf g steps.accepts (λ atom. value_of d first.accepts atom && value_of d second.accepts atom)) (merged : AreMerged steps.moves.items) where
   pub product_steps : IsDerivativeOf t g (product e (tree_of s tail)) steps
   product_steps = record {
     accepts = record { in_range = both.in_range; value = λ atom fits. both.value atom fits ∙ (λ k. (first_out atom fits k && second_out atom fits k)) };
@@ -95,7 +95,7 @@ module _ (s t : Nodes) (b c d g : Collection) (e : Term) (tail : ℕ) (first sec
           ((under.leads t atom (fits ∙ both_kept.tests) a x).0 (LeadsTo-less d g both_kept t steps.moves.items atom a x under.guards r))
 
 -- a star: the moves of the inner term, each followed by the star
-module _ (s t : Nodes) (b c : Collection) (e : Term) (own : ℕ) (inner steps : Steps) (kept : Keeps s t b c) (is_inner : IsDerivativeOf s b e inner) (tree : tree_of s own ≡ star e) (follows : Follows s t b c steps.moves.items inner.moves.items own) (accepts : IsDiagramOf c steps.accepts (λ atom. true)) (merged : AreMerged steps.moves.items) where
+module _ (s t : StoreParts) (b c : DiagramsParts) (e : Term) (own : ℕ) (inner steps : Steps) (kept : Keeps s t b c) (is_inner : IsDerivativeOf s b e inner) (tree : tree_of s own ≡ star e) (follows : Follows s t b c steps.moves.items inner.moves.items own) (accepts : IsDiagramOf c steps.accepts (λ atom. true)) (merged : AreMerged steps.moves.items) where
   pub star_steps : IsDerivativeOf t c (star e) steps
   star_steps = record {
     accepts = accepts;

@@ -2,14 +2,14 @@
 use Rattle.std.proofs.Common.{◌≡◌, ℕ, Result, IfOk, sym, ◌∙◌, subst}
 use Rattle.std.proofs.lemmas.Result.{IfOk-weaker}
 use Rattle.kat_model.specs.Trees.{Term, sum, product}
-use Rattle.term_store.specs.Nodes.{Nodes, IsTermId}
+use Rattle.term_store.specs.Nodes.{StoreParts, IsTermId}
 use Rattle.term_store.specs.Trees.{tree_of}
-use Rattle.test_diagrams.specs.Functions.{Collection}
+use Rattle.test_diagrams.specs.Functions.{DiagramsParts}
 use Rattle.partial_derivs.specs.declared.moves.Steps.{Steps}
 use Rattle.partial_derivs.specs.Moves.{IsDerivativeOf, Keeps}
 use Rattle.partial_derivs.proofs.Tables.{IsDerivativeOf-kept}
 
-module _ {E : Type 0} (r : Result Steps E) (s t u v : Nodes) (b c d g : Collection) (i j : ℕ) (first second : Steps) (one_kept : Keeps s t b c) (two_kept : Keeps t u c d) (there : IsTermId s j) (is_first : IsDerivativeOf t c (tree_of s i) first) (is_second : IsDerivativeOf u d (tree_of t j) second) where
+module _ {E : Type 0} (r : Result Steps E) (s t u v : StoreParts) (b c d g : DiagramsParts) (i j : ℕ) (first second : Steps) (one_kept : Keeps s t b c) (two_kept : Keeps t u c d) (there : IsTermId s j) (is_first : IsDerivativeOf t c (tree_of s i) first) (is_second : IsDerivativeOf u d (tree_of t j) second) where
   first_now : IsDerivativeOf u d (tree_of s i) first
   first_now = IsDerivativeOf-kept t u c d (tree_of s i) first two_kept is_first
 
@@ -19,7 +19,7 @@ module _ {E : Type 0} (r : Result Steps E) (s t u v : Nodes) (b c d g : Collecti
   tail_now : tree_of u j ≡ tree_of s j
   tail_now = two_kept.trees.trees j (one_kept.trees.term_ids j there) ∙ one_kept.trees.trees j there
 
-  pub sum_derived : IfOk r (λ steps. (store : Nodes) (e f : Term) → IsDerivativeOf store d e first → IsDerivativeOf store d f second → IsDerivativeOf store g (sum e f) steps) → IfOk r (IsDerivativeOf u g (sum (tree_of s i) (tree_of s j)))
+  pub sum_derived : IfOk r (λ steps. (store : StoreParts) (e f : Term) → IsDerivativeOf store d e first → IsDerivativeOf store d f second → IsDerivativeOf store g (sum e f) steps) → IfOk r (IsDerivativeOf u g (sum (tree_of s i) (tree_of s j)))
   sum_derived h = IfOk-weaker r _ _ (λ steps k. k u (tree_of s i) (tree_of s j) first_now second_now) h
 
   pub product_derived : IfOk r (λ steps. (e : Term) → IsDerivativeOf u d e first → IsDerivativeOf u d (tree_of u j) second → IsDerivativeOf v g (product e (tree_of u j)) steps) → IfOk r (IsDerivativeOf v g (product (tree_of s i) (tree_of s j)))

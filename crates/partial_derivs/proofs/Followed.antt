@@ -5,23 +5,24 @@ use Rattle.kat_model.specs.Trees.{Term}
 use Rattle.kat_model.specs.Problems.{HasTestsBelow}
 use Rattle.kat_model.specs.Steps.{Atom, dot}
 use Rattle.kat_model.proofs.Lists.{has_right, has_append}
-use Rattle.term_store.specs.Nodes.{Nodes, IsTermId}
+use Rattle.term_store.specs.Nodes.{StoreParts, IsTermId}
 use Rattle.term_store.specs.Trees.{tree_of}
 use Rattle.term_store.specs.Growth.{KeepsTrees}
-use Rattle.test_diagrams.specs.Functions.{Collection, value_of, IsDiagramId, IsAtomOf, KeepsFunctions}
+use Rattle.test_diagrams.specs.Functions.{DiagramsParts, value_of, IsDiagramId, IsAtomOf, KeepsFunctions}
 use Rattle.test_diagrams.proofs.Kept.{KeepsFunctions-itself}
 use Rattle.partial_derivs.specs.declared.moves.Guarded.{Guarded}
 use Rattle.partial_derivs.specs.Moves.{IsTermOf, AreGuards, AreTargets, LeadsTo, Keeps}
 use Rattle.partial_derivs.specs.Gathered.{AddsMove, AddsFollowed, Follows}
 use Rattle.partial_derivs.proofs.Items.{has_item, take_item}
-use Rattle.partial_derivs.proofs.Kept.{HasTestsBelow-dot, AreTargets-trees, LeadsTo-kept, LeadsTo-was, LeadsTo-left}
+use Rattle.kat_model.proofs.Ranges.{HasTestsBelow-dot}
+use Rattle.partial_derivs.proofs.Kept.{AreTargets-trees, LeadsTo-kept, LeadsTo-was, LeadsTo-left}
 
 -- the id of a product is that of a term in range
-pub dot_in_range : (s t : Nodes) (n i j id : ℕ) → IsTermOf s n i → IsTermOf s n j → IsTermId t id → tree_of t id ≡ dot (tree_of s i) (tree_of s j) → IsTermOf t n id
+pub dot_in_range : (s t : StoreParts) (n i j id : ℕ) → IsTermOf s n i → IsTermOf s n j → IsTermId t id → tree_of t id ≡ dot (tree_of s i) (tree_of s j) → IsTermOf t n id
 dot_in_range s t n i j id p q is same = record { is_id = is; in_range = subst (HasTestsBelow n) (sym same) (HasTestsBelow-dot n (tree_of s i) (tree_of s j) p.in_range q.in_range) }
 
 -- one move, followed
-module _ (s t : Nodes) (c d : Collection) (old new : List Guarded) (m : Guarded) (tail id : ℕ) (trees : KeepsTrees s t) (functions : KeepsFunctions c d) (guards : AreGuards c old) (targets : AreTargets s c.tests old) (to : IsTermOf s c.tests m.to) (tail_there : IsTermOf s c.tests tail) (is : IsTermId t id) (same : tree_of t id ≡ dot (tree_of s m.to) (tree_of s tail)) (adds : AddsMove c d old new (record { guard = m.guard; act = m.act; to = id })) where
+module _ (s t : StoreParts) (c d : DiagramsParts) (old new : List Guarded) (m : Guarded) (tail id : ℕ) (trees : KeepsTrees s t) (functions : KeepsFunctions c d) (guards : AreGuards c old) (targets : AreTargets s c.tests old) (to : IsTermOf s c.tests m.to) (tail_there : IsTermOf s c.tests tail) (is : IsTermId t id) (same : tree_of t id ≡ dot (tree_of s m.to) (tree_of s tail)) (adds : AddsMove c d old new (record { guard = m.guard; act = m.act; to = id })) where
   trees_only : Keeps s t c c
   trees_only = record { trees = trees; functions = KeepsFunctions-itself c }
 
@@ -40,7 +41,7 @@ module _ (s t : Nodes) (c d : Collection) (old new : List Guarded) (m : Guarded)
   }
 
 -- moves that are followed, and then one more
-module _ (s t u : Nodes) (b c d : Collection) (mid new done : List Guarded) (m : Guarded) (tail : ℕ) (first : Keeps s t b c) (second : KeepsFunctions c d) (own_guard : IsDiagramId b m.guard) (to : IsTermId s m.to) (tail_there : IsTermId s tail) (before : Follows s t b c mid done tail) (last : AddsFollowed t u c d mid new m tail) where
+module _ (s t u : StoreParts) (b c d : DiagramsParts) (mid new done : List Guarded) (m : Guarded) (tail : ℕ) (first : Keeps s t b c) (second : KeepsFunctions c d) (own_guard : IsDiagramId b m.guard) (to : IsTermId s m.to) (tail_there : IsTermId s tail) (before : Follows s t b c mid done tail) (last : AddsFollowed t u c d mid new m tail) where
   same_dot : dot (tree_of t m.to) (tree_of t tail) ≡ dot (tree_of s m.to) (tree_of s tail)
   same_dot = λ k. dot (first.trees.trees m.to to k) (first.trees.trees tail tail_there k)
 
@@ -75,7 +76,7 @@ module _ (s t u : Nodes) (b c d : Collection) (mid new done : List Guarded) (m :
           (has_append done (m ∷ []) r.through r.member)
 
 -- a step of a loop over moves
-pub step_followed : (s t u : Nodes) (b c d : Collection) (mid new moves : List Guarded) (i : ℕ) (m : Guarded) (tail : ℕ) → i < length moves → m ≡ get_or moves i m → AreGuards b moves → AreTargets s b.tests moves → IsTermOf s b.tests tail
+pub step_followed : (s t u : StoreParts) (b c d : DiagramsParts) (mid new moves : List Guarded) (i : ℕ) (m : Guarded) (tail : ℕ) → i < length moves → m ≡ get_or moves i m → AreGuards b moves → AreTargets s b.tests moves → IsTermOf s b.tests tail
     → Keeps s t b c → Follows s t b c mid (take i moves) tail → AddsFollowed t u c d mid new m tail → KeepsFunctions c d → Follows s u b d new (take (i + 1) moves) tail
 step_followed s t u b c d mid new moves i m tail lt is guards targets tail_there first before last second =
     let member = has_item moves i m lt is in

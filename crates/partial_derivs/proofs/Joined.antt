@@ -8,9 +8,9 @@ use Rattle.kat_model.specs.Trees.{Term}
 use Rattle.kat_model.specs.Members.{Has}
 use Rattle.kat_model.specs.Steps.{Atom}
 use Rattle.kat_model.proofs.Lists.{has_map, map_has}
-use Rattle.term_store.specs.Nodes.{Nodes}
+use Rattle.term_store.specs.Nodes.{StoreParts}
 use Rattle.term_store.specs.Trees.{tree_of}
-use Rattle.test_diagrams.specs.Functions.{Collection, value_of, IsDiagramId, IsAtomOf, IsDiagramOf, KeepsFunctions}
+use Rattle.test_diagrams.specs.Functions.{DiagramsParts, value_of, IsDiagramId, IsAtomOf, IsDiagramOf, KeepsFunctions}
 use Rattle.partial_derivs.specs.declared.moves.Guarded.{Guarded}
 use Rattle.partial_derivs.specs.declared.gathered.Target.{Target}
 use Rattle.partial_derivs.specs.Moves.{IsTermOf, AreGuards, AreTargets, LeadsTo}
@@ -18,11 +18,11 @@ use Rattle.partial_derivs.specs.Gathered.{move_of, moves_of, guard_at, AddsMove}
 use Rattle.partial_derivs.proofs.Entries.{insert_entry_has, has_insert_entry, has_kept, lookup_has}
 
 -- what is found at a target is the guard of a move
-pub found_guard : (c : Collection) (eq : Target → Target → Bool) → ((x y : Target) → eq x y ≡ true → x ≡ y) → (entries : List (Target × ℕ)) (target : Target) (id : ℕ) → AreGuards c (moves_of entries) → lookup (eq target) entries ≡ Some id → IsDiagramId c id
+pub found_guard : (c : DiagramsParts) (eq : Target → Target → Bool) → ((x y : Target) → eq x y ≡ true → x ≡ y) → (entries : List (Target × ℕ)) (target : Target) (id : ℕ) → AreGuards c (moves_of entries) → lookup (eq target) entries ≡ Some id → IsDiagramId c id
 found_guard c eq same entries target id guards e = guards (move_of (target, id)) (map_has move_of entries (target, id) (lookup_has eq same target entries id e))
 
 -- a guard that is true is there
-guard_there : (c : Collection) (atom : Atom) (found : Option ℕ) → IsTrue (guard_at c found atom) → (id : ℕ) × (found ≡ Some id) × IsTrue (value_of c id atom)
+guard_there : (c : DiagramsParts) (atom : Atom) (found : Option ℕ) → IsTrue (guard_at c found atom) → (id : ℕ) × (found ≡ Some id) × IsTrue (value_of c id atom)
 guard_there c atom None h = absurd (false≢true h)
 guard_there c atom (Some id) h = (id, refl, h)
 
@@ -53,7 +53,7 @@ module _ (eq : Target → Target → Bool) (same : (x y : Target) → eq x y ≡
       ))
       (has_kept eq same target joined entries r.0 r.1)
 
-module _ (c d : Collection) (eq : Target → Target → Bool) (same : (x y : Target) → eq x y ≡ true → x ≡ y) (entries : List (Target × ℕ)) (target : Target) (guard joined : ℕ) (kept : KeepsFunctions c d) (guards : AreGuards c (moves_of entries)) (value : IsDiagramOf d joined (λ atom. guard_at c (lookup (eq target) entries) atom || value_of c guard atom)) where
+module _ (c d : DiagramsParts) (eq : Target → Target → Bool) (same : (x y : Target) → eq x y ≡ true → x ≡ y) (entries : List (Target × ℕ)) (target : Target) (guard joined : ℕ) (kept : KeepsFunctions c d) (guards : AreGuards c (moves_of entries)) (value : IsDiagramOf d joined (λ atom. guard_at c (lookup (eq target) entries) atom || value_of c guard atom)) where
   added_guards : AreGuards d (moves_of (insert_entry eq entries target joined))
   added_guards m h =
       ⊎_elim
@@ -61,14 +61,14 @@ module _ (c d : Collection) (eq : Target → Target → Bool) (same : (x y : Tar
       (λ new. subst (λ (n : Guarded). IsDiagramId d n.guard) (sym new) value.in_range)
       (added_has eq same entries target joined m h)
 
-  added_targets : (store : Nodes) (n : ℕ) → AreTargets store n (moves_of entries) → IsTermOf store n target.to → AreTargets store n (moves_of (insert_entry eq entries target joined))
+  added_targets : (store : StoreParts) (n : ℕ) → AreTargets store n (moves_of entries) → IsTermOf store n target.to → AreTargets store n (moves_of (insert_entry eq entries target joined))
   added_targets store n old own m h =
       ⊎_elim
       (λ there. old m there)
       (λ new. subst (λ (k : Guarded). IsTermOf store n k.to) (sym new) own)
       (added_has eq same entries target joined m h)
 
-  module _ (store : Nodes) (atom : Atom) (fits : IsAtomOf d atom) (a : ℕ) (e : Term) where
+  module _ (store : StoreParts) (atom : Atom) (fits : IsAtomOf d atom) (a : ℕ) (e : Term) where
     -- the move of the target was there, and its guard true
     was_open : IsTrue (guard_at c (lookup (eq target) entries) atom) → target.act ≡ a → tree_of store target.to ≡ e → LeadsTo store c (moves_of entries) atom a e
     was_open t act tree =
@@ -129,7 +129,7 @@ module _ (c d : Collection) (eq : Target → Target → Bool) (same : (x y : Tar
   })
 
 -- a move whose guard is never true leads nowhere, and is left out
-pub adds_never : (d : Collection) (moves : List Guarded) (m : Guarded) → AreGuards d moves → IsDiagramOf d m.guard (λ atom. false) → AddsMove d d moves moves m
+pub adds_never : (d : DiagramsParts) (moves : List Guarded) (m : Guarded) → AreGuards d moves → IsDiagramOf d m.guard (λ atom. false) → AddsMove d d moves moves m
 adds_never d moves m guards never = record {
   guards = guards;
   targets = λ store n old own. old;

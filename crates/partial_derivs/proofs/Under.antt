@@ -5,9 +5,9 @@ use Rattle.std.proofs.lemmas.Bool.{and_parts, and_from}
 use Rattle.kat_model.specs.Trees.{Term}
 use Rattle.kat_model.specs.Steps.{Atom}
 use Rattle.kat_model.proofs.Lists.{has_left, has_right, has_append}
-use Rattle.term_store.specs.Nodes.{Nodes}
+use Rattle.term_store.specs.Nodes.{StoreParts}
 use Rattle.term_store.specs.Trees.{tree_of}
-use Rattle.test_diagrams.specs.Functions.{Collection, value_of, IsDiagramId, IsAtomOf, IsDiagramOf, KeepsFunctions}
+use Rattle.test_diagrams.specs.Functions.{DiagramsParts, value_of, IsDiagramId, IsAtomOf, IsDiagramOf, KeepsFunctions}
 use Rattle.partial_derivs.specs.declared.moves.Guarded.{Guarded}
 use Rattle.partial_derivs.specs.Moves.{AreGuards, LeadsTo}
 use Rattle.partial_derivs.specs.Gathered.{AddsMove, AddsUnder}
@@ -15,7 +15,7 @@ use Rattle.partial_derivs.proofs.Items.{has_item, has_take, take_item}
 use Rattle.partial_derivs.proofs.Kept.{LeadsTo-more, LeadsTo-less, LeadsTo-left, LeadsTo-right}
 
 -- one move, where its guard and the other are both true
-module _ (b c d : Collection) (old new : List Guarded) (m : Guarded) (guard both : ℕ) (first : KeepsFunctions b c) (guards : AreGuards b old) (value : IsDiagramOf c both (λ atom. value_of b m.guard atom && value_of b guard atom)) (adds : AddsMove c d old new (record { guard = both; act = m.act; to = m.to })) (second : KeepsFunctions c d) where
+module _ (b c d : DiagramsParts) (old new : List Guarded) (m : Guarded) (guard both : ℕ) (first : KeepsFunctions b c) (guards : AreGuards b old) (value : IsDiagramOf c both (λ atom. value_of b m.guard atom && value_of b guard atom)) (adds : AddsMove c d old new (record { guard = both; act = m.act; to = m.to })) (second : KeepsFunctions c d) where
   pub one_under : AddsUnder b d old new (m ∷ []) guard
   one_under = record {
     guards = adds.guards;
@@ -23,7 +23,7 @@ module _ (b c d : Collection) (old new : List Guarded) (m : Guarded) (guard both
     leads = λ store atom fits a e. (there store atom fits a e, back store atom fits a e);
   }
     where
-      there : (store : Nodes) (atom : Atom) → IsAtomOf d atom → (a : ℕ) (e : Term) → LeadsTo store d new atom a e → LeadsTo store b old atom a e ⊎ (IsTrue (value_of b guard atom) × LeadsTo store b (m ∷ []) atom a e)
+      there : (store : StoreParts) (atom : Atom) → IsAtomOf d atom → (a : ℕ) (e : Term) → LeadsTo store d new atom a e → LeadsTo store b old atom a e ⊎ (IsTrue (value_of b guard atom) × LeadsTo store b (m ∷ []) atom a e)
       there store atom fits a e r =
           ⊎_elim
           (λ p. inl (LeadsTo-less b c first store old atom a e guards p))
@@ -32,7 +32,7 @@ module _ (b c d : Collection) (old new : List Guarded) (m : Guarded) (guard both
           inr (parts.1, record { through = m; member = inl refl; action = q.0; guard = parts.0; tree = q.2 }))
           ((adds.leads store atom fits a e).0 r)
 
-      back : (store : Nodes) (atom : Atom) → IsAtomOf d atom → (a : ℕ) (e : Term) → LeadsTo store b old atom a e ⊎ (IsTrue (value_of b guard atom) × LeadsTo store b (m ∷ []) atom a e) → LeadsTo store d new atom a e
+      back : (store : StoreParts) (atom : Atom) → IsAtomOf d atom → (a : ℕ) (e : Term) → LeadsTo store b old atom a e ⊎ (IsTrue (value_of b guard atom) × LeadsTo store b (m ∷ []) atom a e) → LeadsTo store d new atom a e
       back store atom fits a e h =
           ⊎_elim
           (λ p. (adds.leads store atom fits a e).1 (inl (LeadsTo-more b c first store old atom a e guards p)))
@@ -47,7 +47,7 @@ module _ (b c d : Collection) (old new : List Guarded) (m : Guarded) (guard both
           h
 
 -- moves, and then one more
-module _ (b c d : Collection) (old mid new done : List Guarded) (m : Guarded) (guard : ℕ) (first : KeepsFunctions b c) (done_guards : AreGuards b done) (own_guard : IsDiagramId b m.guard) (guard_id : IsDiagramId b guard) (before : AddsUnder b c old mid done guard) (last : AddsUnder c d mid new (m ∷ []) guard) (second : KeepsFunctions c d) where
+module _ (b c d : DiagramsParts) (old mid new done : List Guarded) (m : Guarded) (guard : ℕ) (first : KeepsFunctions b c) (done_guards : AreGuards b done) (own_guard : IsDiagramId b m.guard) (guard_id : IsDiagramId b guard) (before : AddsUnder b c old mid done guard) (last : AddsUnder c d mid new (m ∷ []) guard) (second : KeepsFunctions c d) where
   single_guards : AreGuards b (m ∷ [])
   single_guards k h = ⊎_elim (λ e. subst (λ (n : Guarded). IsDiagramId b n.guard) e own_guard) absurd h
 
@@ -58,7 +58,7 @@ module _ (b c d : Collection) (old mid new done : List Guarded) (m : Guarded) (g
     leads = λ store atom fits a e. (there store atom fits a e, back store atom fits a e);
   }
     where
-      there : (store : Nodes) (atom : Atom) → IsAtomOf d atom → (a : ℕ) (e : Term) → LeadsTo store d new atom a e → LeadsTo store b old atom a e ⊎ (IsTrue (value_of b guard atom) × LeadsTo store b (done ++ m ∷ []) atom a e)
+      there : (store : StoreParts) (atom : Atom) → IsAtomOf d atom → (a : ℕ) (e : Term) → LeadsTo store d new atom a e → LeadsTo store b old atom a e ⊎ (IsTrue (value_of b guard atom) × LeadsTo store b (done ++ m ∷ []) atom a e)
       there store atom fits a e r =
           ⊎_elim
           (λ p.
@@ -69,7 +69,7 @@ module _ (b c d : Collection) (old mid new done : List Guarded) (m : Guarded) (g
           (λ q. inr (sym (first.values guard guard_id atom) ∙ q.0, LeadsTo-right store b atom a e done (m ∷ []) (LeadsTo-less b c first store (m ∷ []) atom a e single_guards q.1)))
           ((last.leads store atom fits a e).0 r)
 
-      back : (store : Nodes) (atom : Atom) → IsAtomOf d atom → (a : ℕ) (e : Term) → LeadsTo store b old atom a e ⊎ (IsTrue (value_of b guard atom) × LeadsTo store b (done ++ m ∷ []) atom a e) → LeadsTo store d new atom a e
+      back : (store : StoreParts) (atom : Atom) → IsAtomOf d atom → (a : ℕ) (e : Term) → LeadsTo store b old atom a e ⊎ (IsTrue (value_of b guard atom) × LeadsTo store b (done ++ m ∷ []) atom a e) → LeadsTo store d new atom a e
       back store atom fits a e h =
           let by_before = λ (p : LeadsTo store b old atom a e ⊎ (IsTrue (value_of b guard atom) × LeadsTo store b done atom a e)). (last.leads store atom fits a e).1 (inl ((before.leads store atom (fits ∙ second.tests) a e).1 p)) in
           ⊎_elim
@@ -84,7 +84,7 @@ module _ (b c d : Collection) (old mid new done : List Guarded) (m : Guarded) (g
           h
 
 -- a step of a loop over moves
-pub step_under : (b c d : Collection) (old mid new moves : List Guarded) (i : ℕ) (m : Guarded) (guard : ℕ) → i < length moves → m ≡ get_or moves i m → AreGuards b moves → IsDiagramId b guard
+pub step_under : (b c d : DiagramsParts) (old mid new moves : List Guarded) (i : ℕ) (m : Guarded) (guard : ℕ) → i < length moves → m ≡ get_or moves i m → AreGuards b moves → IsDiagramId b guard
     → KeepsFunctions b c → AddsUnder b c old mid (take i moves) guard → AddsUnder c d mid new (m ∷ []) guard → KeepsFunctions c d → AddsUnder b d old new (take (i + 1) moves) guard
 step_under b c d old mid new moves i m guard lt is guards id first before last second =
     subst (λ l. AddsUnder b d old new l guard) (sym (take_item moves i m lt is))

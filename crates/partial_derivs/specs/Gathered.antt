@@ -2,9 +2,9 @@
 use Rattle.std.specs.Prelude.{◌≡◌, ◌⊎◌, ◌↔◌, ℕ, Bool, false, ◌&&◌, eqb, IsTrue, Option, None, Some, List, map}
 use Rattle.kat_model.specs.Trees.{Term}
 use Rattle.kat_model.specs.Steps.{Atom, dot}
-use Rattle.term_store.specs.Nodes.{Nodes}
+use Rattle.term_store.specs.Nodes.{StoreParts}
 use Rattle.term_store.specs.Trees.{tree_of}
-use Rattle.test_diagrams.specs.Functions.{Collection, value_of, IsAtomOf}
+use Rattle.test_diagrams.specs.Functions.{DiagramsParts, value_of, IsAtomOf}
 use Rattle.partial_derivs.specs.declared.moves.Guarded.{Guarded}
 use Rattle.partial_derivs.specs.declared.gathered.Target.{Target}
 use Rattle.partial_derivs.specs.Moves.{IsTermOf, AreGuards, AreTargets, LeadsTo}
@@ -20,33 +20,33 @@ abbrev pub same_target : Target → Target → Bool
 same_target s t = eqb s.act t.act && eqb s.to t.to
 
 -- the value at an atom of a guard, where there is one
-abbrev pub guard_at : Collection → Option ℕ → Atom → Bool
+abbrev pub guard_at : DiagramsParts → Option ℕ → Atom → Bool
 guard_at d None atom = false
 guard_at d (Some id) atom = value_of d id atom
 
 -- the new moves are the old ones and this one
-pub record AddsMove (c d : Collection) (old new : List Guarded) (m : Guarded) : Type 0 where
+pub record AddsMove (c d : DiagramsParts) (old new : List Guarded) (m : Guarded) : Type 0 where
   pub guards : AreGuards d new
-  pub targets : (store : Nodes) (n : ℕ) → AreTargets store n old → IsTermOf store n m.to → AreTargets store n new
-  pub leads : (store : Nodes) (atom : Atom) → IsAtomOf d atom → (a : ℕ) (e : Term)
+  pub targets : (store : StoreParts) (n : ℕ) → AreTargets store n old → IsTermOf store n m.to → AreTargets store n new
+  pub leads : (store : StoreParts) (atom : Atom) → IsAtomOf d atom → (a : ℕ) (e : Term)
       → LeadsTo store d new atom a e ↔ (LeadsTo store c old atom a e ⊎ ((m.act ≡ a) × IsTrue (value_of c m.guard atom) × (tree_of store m.to ≡ e)))
 
 -- the new moves are the old ones, and these where the guard is true
-pub record AddsUnder (c d : Collection) (old new moves : List Guarded) (guard : ℕ) : Type 0 where
+pub record AddsUnder (c d : DiagramsParts) (old new moves : List Guarded) (guard : ℕ) : Type 0 where
   pub guards : AreGuards d new
-  pub targets : (store : Nodes) (n : ℕ) → AreTargets store n old → AreTargets store n moves → AreTargets store n new
-  pub leads : (store : Nodes) (atom : Atom) → IsAtomOf d atom → (a : ℕ) (e : Term)
+  pub targets : (store : StoreParts) (n : ℕ) → AreTargets store n old → AreTargets store n moves → AreTargets store n new
+  pub leads : (store : StoreParts) (atom : Atom) → IsAtomOf d atom → (a : ℕ) (e : Term)
       → LeadsTo store d new atom a e ↔ (LeadsTo store c old atom a e ⊎ (IsTrue (value_of c guard atom) × LeadsTo store c moves atom a e))
 
 -- the new moves are the old ones, and this one followed by the term
-pub record AddsFollowed (s t : Nodes) (c d : Collection) (old new : List Guarded) (m : Guarded) (tail : ℕ) : Type 0 where
+pub record AddsFollowed (s t : StoreParts) (c d : DiagramsParts) (old new : List Guarded) (m : Guarded) (tail : ℕ) : Type 0 where
   pub guards : AreGuards d new
   pub targets : AreTargets t d.tests new
   pub leads : (atom : Atom) → IsAtomOf d atom → (a : ℕ) (e : Term)
       → LeadsTo t d new atom a e ↔ (LeadsTo s c old atom a e ⊎ ((m.act ≡ a) × IsTrue (value_of c m.guard atom) × (dot (tree_of s m.to) (tree_of s tail) ≡ e)))
 
 -- the new moves are these, each followed by the term
-pub record Follows (s t : Nodes) (c d : Collection) (new moves : List Guarded) (tail : ℕ) : Type 0 where
+pub record Follows (s t : StoreParts) (c d : DiagramsParts) (new moves : List Guarded) (tail : ℕ) : Type 0 where
   pub guards : AreGuards d new
   pub targets : AreTargets t d.tests new
   pub leads : (atom : Atom) → IsAtomOf d atom → (a : ℕ) (e : Term)

@@ -4,28 +4,28 @@ use Rattle.kat_model.specs.Trees.{Term}
 use Rattle.kat_model.specs.Members.{Has}
 use Rattle.kat_model.specs.Problems.{HasTestsBelow}
 use Rattle.kat_model.specs.Steps.{Atom, out, next, set_out, set_next}
-use Rattle.term_store.specs.Nodes.{Nodes, IsTermId}
+use Rattle.term_store.specs.Nodes.{StoreParts, IsTermId}
 use Rattle.term_store.specs.Trees.{tree_of}
 use Rattle.term_store.specs.Growth.{KeepsTrees}
-use Rattle.test_diagrams.specs.Functions.{Collection, value_of, IsDiagramId, IsAtomOf, IsDiagramOf, KeepsFunctions}
+use Rattle.test_diagrams.specs.Functions.{DiagramsParts, value_of, IsDiagramId, IsAtomOf, IsDiagramOf, KeepsFunctions}
 use Rattle.partial_derivs.specs.declared.moves.Guarded.{Guarded}
 use Rattle.partial_derivs.specs.declared.moves.Steps.{Steps}
 
 -- the number is the id of a term, whose tests are below n
-pub record IsTermOf (store : Nodes) (n i : ℕ) : Type 0 where
+pub record IsTermOf (store : StoreParts) (n i : ℕ) : Type 0 where
   pub is_id : IsTermId store i
   pub in_range : HasTestsBelow n (tree_of store i)
 
 -- the guards are ids of diagrams
-abbrev pub AreGuards : Collection → List Guarded → Type 0
+abbrev pub AreGuards : DiagramsParts → List Guarded → Type 0
 AreGuards d moves = (m : Guarded) → Has moves m → IsDiagramId d m.guard
 
 -- the moves lead to ids of terms, whose tests are below n
-abbrev pub AreTargets : Nodes → ℕ → List Guarded → Type 0
+abbrev pub AreTargets : StoreParts → ℕ → List Guarded → Type 0
 AreTargets store n moves = (m : Guarded) → Has moves m → IsTermOf store n m.to
 
 -- some move has the action, a guard that is true at the atom, and the term
-pub record LeadsTo (store : Nodes) (d : Collection) (moves : List Guarded) (atom : Atom) (a : ℕ) (e : Term) : Type 0 where
+pub record LeadsTo (store : StoreParts) (d : DiagramsParts) (moves : List Guarded) (atom : Atom) (a : ℕ) (e : Term) : Type 0 where
   pub through : Guarded
   pub member : Has moves through
   pub action : through.act ≡ a
@@ -38,7 +38,7 @@ AreMerged [] = Unit {0}
 AreMerged (m ∷ ms) = ((n : Guarded) → Has ms n → n.act ≡ m.act → n.to ≡ m.to → ⊥) × AreMerged ms
 
 -- the steps accept what is accepted, and lead to just the terms that are left
-pub record IsStepsBy (store : Nodes) (d : Collection) (accepted : Atom → Bool) (left : Atom → ℕ → List Term) (steps : Steps) : Type 0 where
+pub record IsStepsBy (store : StoreParts) (d : DiagramsParts) (accepted : Atom → Bool) (left : Atom → ℕ → List Term) (steps : Steps) : Type 0 where
   pub accepts : IsDiagramOf d steps.accepts accepted
   pub guards : AreGuards d steps.moves.items
   pub targets : AreTargets store d.tests steps.moves.items
@@ -46,18 +46,18 @@ pub record IsStepsBy (store : Nodes) (d : Collection) (accepted : Atom → Bool)
   pub merged : AreMerged steps.moves.items
 
 -- the symbolic derivative of a set of terms, and of a term
-abbrev pub IsStepsOf : Nodes → Collection → List Term → Steps → Type 0
+abbrev pub IsStepsOf : StoreParts → DiagramsParts → List Term → Steps → Type 0
 IsStepsOf store d es steps = IsStepsBy store d (set_out es) (set_next es) steps
 
-abbrev pub IsDerivativeOf : Nodes → Collection → Term → Steps → Type 0
+abbrev pub IsDerivativeOf : StoreParts → DiagramsParts → Term → Steps → Type 0
 IsDerivativeOf store d e steps = IsStepsBy store d (out e) (next e) steps
 
 -- the guards and what is accepted are ids of diagrams
-pub record HasIds (d : Collection) (steps : Steps) : Type 0 where
+pub record HasIds (d : DiagramsParts) (steps : Steps) : Type 0 where
   pub accepts : IsDiagramId d steps.accepts
   pub guards : AreGuards d steps.moves.items
 
 -- older ids of both keep their trees and functions
-pub record Keeps (old new : Nodes) (older newer : Collection) : Type 0 where
+pub record Keeps (old new : StoreParts) (older newer : DiagramsParts) : Type 0 where
   pub trees : KeepsTrees old new
   pub functions : KeepsFunctions older newer

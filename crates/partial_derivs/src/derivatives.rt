@@ -2,9 +2,9 @@
 ghost use Rattle.std.specs.Prelude.{◌≡◌, ◌++◌, ◌∷◌, [], List, All, map, IfOk, IfSome, OnOk};
 ghost use Rattle.kat_model.specs.Trees.{Term, sum, product, star};
 ghost use Rattle.kat_model.specs.Steps.{set_out, set_next};
-ghost use Rattle.term_store.specs.Nodes.{Nodes};
+ghost use Rattle.term_store.specs.Nodes.{StoreParts};
 ghost use Rattle.term_store.specs.Trees.{tree_of};
-ghost use Rattle.test_diagrams.specs.Functions.{Collection};
+ghost use Rattle.test_diagrams.specs.Functions.{DiagramsParts};
 ghost use Rattle.partial_derivs.specs.Moves.{IsTermOf, IsDerivativeOf, IsStepsOf, Keeps};
 ghost use Rattle.partial_derivs.specs.Unions.{IsUnionBy, IsUnionOfIds};
 ghost use Rattle.partial_derivs.specs.Tables.{IsRight, AreRight};
@@ -28,7 +28,7 @@ pub struct Derivatives {
 impl Derivatives {
     /// No derivatives, which is right for each store and collection. It takes no memory.
     pub fn new(alloc: Global) -> Derivatives
-        ensures { (store : Nodes) (d : Collection) → AreRight store d result }
+        ensures { (store : StoreParts) (d : DiagramsParts) → AreRight store d result }
     {
         Derivatives {
             table: IndexMap::new(alloc),
@@ -36,7 +36,7 @@ impl Derivatives {
     }
 
     /// The steps of a set of terms, with the derivatives that the table has; those that it lacks are added to
-    /// it. The recursion goes down the terms, as deep as they are. The only refusal is want of memory; it may
+    /// it. The recursion goes down the terms, as deep as they are. Fails only when out of memory; it may
     /// leave further nodes, diagrams and derivatives.
     pub fn step(
         &mut self,
@@ -83,7 +83,7 @@ impl Derivatives {
 
     // The derivative of the term, where the table has it.
     fn known(&self, alloc: Global, term: TermId) -> Result<Option<Steps>, NoMemory>
-        ensures { IfOk result (λ found. IfSome found (λ steps. (store : Nodes) (d : Collection)
+        ensures { IfOk result (λ found. IfSome found (λ steps. (store : StoreParts) (d : DiagramsParts)
             → AreRight store d self.now → IsDerivativeOf store d (tree_of store term) steps)) }
     {
         match self.table.get(&term) {
@@ -94,7 +94,7 @@ impl Derivatives {
 
     // Adds a derivative to the table.
     fn note(&mut self, alloc: Global, term: TermId, steps: &Steps) -> Result<(), NoMemory>
-        ensures { (store : Nodes) (d : Collection)
+        ensures { (store : StoreParts) (d : DiagramsParts)
             → IsRight store d term steps.now → AreRight store d self.old → AreRight store d self.new }
     {
         let copy = steps.copy(alloc)?;
@@ -220,7 +220,7 @@ impl Derivatives {
 
 /// The steps of a set of terms. At each atom it accepts what some of the terms accepts, and its moves lead to
 /// just the terms that steps of the set leave. The recursion goes down the terms, as deep as they are. The
-/// only refusal is want of memory; it may leave further nodes and diagrams.
+/// only failure is out of memory; it may leave further nodes and diagrams.
 pub fn step(
     alloc: Global,
     store: &mut Store,

@@ -3,7 +3,7 @@ ghost use Rattle.std.specs.Prelude.{◌≡◌, [], IfOk, Bool, ℕ};
 ghost use Rattle.kat_model.specs.Trees.{Term, test as test_term, act, product, star};
 ghost use Rattle.kat_model.specs.Steps.{truth};
 ghost use Rattle.kat_model.specs.Problems.{IsTestInRange};
-ghost use Rattle.term_store.specs.Nodes.{Nodes, IsTestId};
+ghost use Rattle.term_store.specs.Nodes.{StoreParts, IsTestId};
 ghost use Rattle.term_store.specs.Trees.{test_tree_of, tree_of};
 ghost use Rattle.term_store.specs.Growth.{KeepsTrees};
 ghost use Rattle.test_diagrams.specs.Functions.{IsDiagramOf, KeepsFunctions};
@@ -46,7 +46,7 @@ fn diagram_of(store: &Store, diagrams: &mut Diagrams, test: TestId) -> Result<Di
 
 /// Steps that accept the constant and have no moves: those of zero and one. It takes no memory.
 pub(crate) fn constant_steps(alloc: Global, diagrams: &Diagrams, value: bool) -> Steps
-    ensures { (store : Nodes) → IsStepsBy store diagrams.now (λ atom. value) (λ atom a. []) result }
+    ensures { (store : StoreParts) → IsStepsBy store diagrams.now (λ atom. value) (λ atom a. []) result }
 {
     Steps {
         accepts: diagrams.constant(value),

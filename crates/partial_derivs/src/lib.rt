@@ -9,8 +9,6 @@ mod gathered;
 mod laws;
 mod moves;
 mod sets;
-#[cfg(test)]
-mod tests;
 
 pub use derivatives::{Derivatives, step};
 pub use laws::derivatives_stay_right;

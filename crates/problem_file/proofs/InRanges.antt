@@ -2,17 +2,18 @@
 use Rattle.std.proofs.Common.{◌≡◌, ℕ, List, [], ◌∷◌, ◌++◌, slice_get, Option, Some, None, Result, Ok, refl, subst}
 use Rattle.kat_model.specs.Trees.{Term, zero, one, test, act, sum, product, star}
 use Rattle.kat_model.specs.Balanced.{balanced}
-use Rattle.kat_model.specs.Expressions.{ExprTree, CondTree, always, never, named, compared, negation, both, either}
+use Rattle.kat_model.specs.Expressions.{ExprTree, CondTree, always, never, named, compared, negation, both, either, test_without_comparisons}
 use Rattle.kat_model.specs.Problems.{IsTestInRange, IsInRange, AreInRange}
 use Rattle.kat_model.proofs.BalancedTrees.{balanced_holds}
+use Rattle.kat_model.proofs.Ranges.{AreInRange-append, AreInRange-append_left, AreInRange-append_right}
 use Rattle.kat_tokens.specs.declared.fault.TextFault.{TextFault}
-use Rattle.kat_syntax.specs.declared.reading.Around.{Around}
+use Rattle.kat_syntax.specs.declared.reading.Context.{Context}
 use Rattle.kat_syntax.specs.Phrases.{term, cond, Phrase}
 use Rattle.kat_syntax.specs.Folds.{fold}
 use Rattle.kat_text.specs.declared.meaning.Meaning.{Meaning}
 use Rattle.kat_text.specs.declared.meaning.Meaning.TheVariants.{Test, Action, Var, Term as TermName, Prog}
-use Rattle.kat_text.specs.Sizes.{as_test, test_of}
-use Rattle.kat_text.specs.Worlds.{Definition, World, meaning}
+use Rattle.kat_text.specs.Sizes.{as_test}
+use Rattle.kat_text.specs.ScopeParts.{Definition, ScopeParts, meaning}
 use Rattle.kat_text.specs.Building.{condition_tree, defined_tree, name_tree, trees}
 use Rattle.kat_text.proofs.Related.{Both, AreRelated, related}
 use Rattle.problem_file.specs.Numbers.{AreNumbered}
@@ -24,7 +25,7 @@ CondsInRange t [] = Unit {0}
 CondsInRange t (b ∷ bs) = IsCondInRange t b × CondsInRange t bs
 
 -- each defined term has its numbers below these
-abbrev pub DefinedInRange : World → ℕ → ℕ → Type 0
+abbrev pub DefinedInRange : ScopeParts → ℕ → ℕ → Type 0
 DefinedInRange w t a = (i : ℕ) (d : Definition) → slice_get w.terms i ≡ Some d → IsInRange t a d.tree
 
 module _ (t a : ℕ) where
@@ -42,23 +43,11 @@ module _ (t a : ℕ) where
   conds_more [] b h k = (k, tt)
   conds_more (x ∷ xs) b h k = (h.0, conds_more xs b h.1 k)
 
-  terms_front : (xs ys : List Term) → AreInRange t a (xs ++ ys) → AreInRange t a xs
-  terms_front [] ys h = tt
-  terms_front (x ∷ xs) ys h = (h.0, terms_front xs ys h.1)
-
-  terms_rest : (xs ys : List Term) → AreInRange t a (xs ++ ys) → AreInRange t a ys
-  terms_rest [] ys h = h
-  terms_rest (x ∷ xs) ys h = terms_rest xs ys h.1
-
-  pub terms_more : (es : List Term) (e : Term) → AreInRange t a es → IsInRange t a e → AreInRange t a (es ++ e ∷ [])
-  terms_more [] e h k = (k, tt)
-  terms_more (x ∷ xs) e h k = (h.0, terms_more xs e h.1 k)
-
   conds_balanced : (unit : CondTree) (node : CondTree → CondTree → CondTree) → IsCondInRange t unit → ((b c : CondTree) → IsCondInRange t b → IsCondInRange t c → IsCondInRange t (node b c)) → (bs : List CondTree) → CondsInRange t bs → IsCondInRange t (balanced unit node bs)
   conds_balanced unit node none two bs = balanced_holds unit node (λ xs x. CondsInRange t xs → IsCondInRange t x) (λ h. none) (λ x h. h.0) (λ xs ys x y f g h. two x y (f (conds_front xs ys h)) (g (conds_rest xs ys h))) bs
 
   terms_balanced : (unit : Term) (node : Term → Term → Term) → IsInRange t a unit → ((e f : Term) → IsInRange t a e → IsInRange t a f → IsInRange t a (node e f)) → (es : List Term) → AreInRange t a es → IsInRange t a (balanced unit node es)
-  terms_balanced unit node none two es = balanced_holds unit node (λ xs x. AreInRange t a xs → IsInRange t a x) (λ h. none) (λ x h. h.0) (λ xs ys x y f g h. two x y (f (terms_front xs ys h)) (g (terms_rest xs ys h))) es
+  terms_balanced unit node none two es = balanced_holds unit node (λ xs x. AreInRange t a xs → IsInRange t a x) (λ h. none) (λ x h. h.0) (λ xs ys x y f g h. two x y (f (AreInRange-append_left t a xs ys h)) (g (AreInRange-append_right t a xs ys h))) es
 
   -- ---- tests of terms and of conditions
 
@@ -71,7 +60,7 @@ module _ (t a : ℕ) where
   as_test_in (product e f) h = (as_test_in e h.0, as_test_in f h.1)
   as_test_in (star e) h = tt
 
-  pub test_of_in : (b : CondTree) → IsCondInRange t b → IsTestInRange t (test_of b)
+  pub test_of_in : (b : CondTree) → IsCondInRange t b → IsTestInRange t (test_without_comparisons b)
   test_of_in always h = tt
   test_of_in never h = tt
   test_of_in (named k) h = h
@@ -82,7 +71,7 @@ module _ (t a : ℕ) where
 
   -- ---- names
 
-  module _ (w : World) (numbered : AreNumbered w t a) (defined : DefinedInRange w t a) where
+  module _ (w : ScopeParts) (numbered : AreNumbered w t a) (defined : DefinedInRange w t a) where
     defined_in : (i : ℕ) (o : Option Definition) → slice_get w.terms i ≡ o → IsInRange t a (defined_tree o)
     defined_in i None e = tt
     defined_in i (Some d) e = defined i d e
@@ -105,19 +94,19 @@ module _ (t a : ℕ) where
 
     -- ---- phrases
 
-    abbrev InExpr : Around → ExprTree → ExprTree → Type 0
+    abbrev InExpr : Context → ExprTree → ExprTree → Type 0
     InExpr c e f = Unit {0}
 
-    abbrev InCond : Around → CondTree → CondTree → Type 0
+    abbrev InCond : Context → CondTree → CondTree → Type 0
     InCond c b d = IsCondInRange t b
 
-    abbrev InConds : Around → List CondTree → List CondTree → Type 0
+    abbrev InConds : Context → List CondTree → List CondTree → Type 0
     InConds c bs ds = CondsInRange t bs
 
-    abbrev InTerm : Around → Term → Term → Type 0
+    abbrev InTerm : Context → Term → Term → Type 0
     InTerm c e f = IsInRange t a e
 
-    abbrev InTerms : Around → List Term → List Term → Type 0
+    abbrev InTerms : Context → List Term → List Term → Type 0
     InTerms c es fs = AreInRange t a es
 
     all_in : AreRelated InExpr InCond InConds InTerm InTerms (trees w) (trees w)
@@ -144,7 +133,7 @@ module _ (t a : ℕ) where
       enclosed = λ c e f h. h;
       starred = λ c at e f h. h;
       one_term = λ c e f h. (h, tt);
-      more_terms = λ c m n e f h k. terms_more m e h k;
+      more_terms = λ c m n e f h k. AreInRange-append t a m (e ∷ []) h (k, tt);
       sum = λ c m n h. terms_balanced zero sum tt (λ x y p q. (p, q)) m h;
       product = λ c m n h. terms_balanced one product tt (λ x y p q. (p, q)) m h;
     }
@@ -152,8 +141,8 @@ module _ (t a : ℕ) where
     holds : {A : Type 0} (R : A → A → Type 0) (r : Result A TextFault) (v : A) → r ≡ Ok v → Both R r r → R v v
     holds R r v e h = subst (λ s. Both R s s) e h
 
-    pub term_in : (c : Around) (p : Phrase term) (e : Term) → fold (trees w) c p (λ e. e ∷ []) ≡ Ok e → IsInRange t a e
+    pub term_in : (c : Context) (p : Phrase term) (e : Term) → fold (trees w) c p (λ e. e ∷ []) ≡ Ok e → IsInRange t a e
     term_in c p e h = holds (InTerm c) (fold (trees w) c p (λ e. e ∷ [])) e h (related InExpr InCond InConds InTerm InTerms (trees w) (trees w) all_in p c (λ e. e ∷ []) (λ e. e ∷ []) (λ x y k. (k, tt)))
 
-    pub cond_in : (c : Around) (p : Phrase cond) (b : CondTree) → fold (trees w) c p (λ b. b ∷ []) ≡ Ok b → IsCondInRange t b
+    pub cond_in : (c : Context) (p : Phrase cond) (b : CondTree) → fold (trees w) c p (λ b. b ∷ []) ≡ Ok b → IsCondInRange t b
     cond_in c p b h = holds (InCond c) (fold (trees w) c p (λ b. b ∷ [])) b h (related InExpr InCond InConds InTerm InTerms (trees w) (trees w) all_in p c (λ b. b ∷ []) (λ b. b ∷ []) (λ x y k. (k, tt)))

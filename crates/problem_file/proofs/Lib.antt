@@ -1,7 +1,8 @@
-pub mod Grown
 pub mod Lists
-pub mod NameLists
+pub mod Results
 pub mod PhraseFronts
+pub mod FoundItems
+pub mod FoldedItems
 pub mod ScannedFiles
 pub mod Nestings
 pub mod MeasuredPhrases
@@ -9,7 +10,7 @@ pub mod WalkSteps
 pub mod WalkedItems
 pub mod OneAnswer
 pub mod InRanges
-pub mod NameSigns
+pub mod NameTerminals
 pub mod Numbering
 pub mod NumberedStates
 pub mod ReadTexts

@@ -1,17 +1,17 @@
 -- A phrase that may stand somewhere and fits there is not too deep with its names expanded.
 use Rattle.std.proofs.Common.{ℕ, ◌+◌, ◌<◌, ◌≤◌, max, slice_get, Option, Some, None, arith}
-use Rattle.kat_syntax.specs.declared.reading.Around.{Around}
-use Rattle.kat_syntax.specs.Phrases.{Symbol, Phrase, one_prod, more_prods, one_star, more_stars, bare, starred, zero_unit, one_unit, name_unit, not_unit, square_unit, round_unit, one_conj, more_conjs, one_lit, more_lits, true_lit, false_lit, name_lit, not_lit, round_lit, relation_lit, one_mul, more_muls, one_fac, more_facs, zero_fac, one_fac_number, number_fac, wide_fac, name_fac, round_fac, Fits}
+use Rattle.kat_syntax.specs.declared.reading.Context.{Context}
+use Rattle.kat_syntax.specs.Phrases.{Symbol, Phrase, one_prod, more_prods, one_star, more_stars, bare, starred, zero_unit, one_unit, name_unit, not_unit, square_unit, round_unit, one_conj, more_conjs, one_lit, more_lits, true_lit, false_lit, name_lit, not_lit, round_lit, relation_lit, one_mul, more_muls, one_fac, more_facs, zero_fac, one_fac_number, number_fac, wide_fac, name_fac, round_fac, IsWithinLimits}
 use Rattle.kat_text.specs.declared.meaning.Meaning.{Meaning}
 use Rattle.kat_text.specs.declared.meaning.Meaning.TheVariants.{Test, Action, Var, Term as TermName, Prog}
-use Rattle.kat_text.specs.Worlds.{Definition, World, meaning}
+use Rattle.kat_text.specs.ScopeParts.{Definition, ScopeParts, meaning}
 use Rattle.kat_text.specs.Sound.{inside, inside_not, IsUsable, IsTermName, IsSound, defined_nesting, name_nesting, nesting}
 
-used_fits : (c : Around) (o : Option Definition) → IsUsable c o → c.depth ≤ 200 → c.depth + defined_nesting o ≤ 200
+used_fits : (c : Context) (o : Option Definition) → IsUsable c o → c.depth ≤ 200 → c.depth + defined_nesting o ≤ 200
 used_fits c None sound le = omega (arith, le)
 used_fits c (Some d) sound le = sound.1
 
-name_fits : (w : World) (c : Around) (o : Option Meaning) → IsTermName w c o → c.depth ≤ 200 → c.depth + name_nesting w o ≤ 200
+name_fits : (w : ScopeParts) (c : Context) (o : Option Meaning) → IsTermName w c o → c.depth ≤ 200 → c.depth + name_nesting w o ≤ 200
 name_fits w c None sound le = absurd sound
 name_fits w c (Some (Test k)) sound le = omega (arith, le)
 name_fits w c (Some (Action a)) sound le = omega (arith, le)
@@ -31,7 +31,7 @@ flat d le = omega (arith, le)
 next : (d : ℕ) → d < 200 → d + 1 ≤ 200
 next d lt = omega (arith, lt)
 
-pub nesting_fits : (w : World) (c : Around) {x : Symbol} (p : Phrase x) → IsSound w c p → Fits c.depth p → c.depth ≤ 200 → c.depth + nesting w p ≤ 200
+pub nesting_fits : (w : ScopeParts) (c : Context) {x : Symbol} (p : Phrase x) → IsSound w c p → IsWithinLimits c.depth p → c.depth ≤ 200 → c.depth + nesting w p ≤ 200
 nesting_fits w c (one_prod p) s f le = nesting_fits w c p s f le
 nesting_fits w c (more_prods p l t) s f le = most c.depth (nesting w p) (nesting w t) (nesting_fits w c p s.0 f.0 le) (nesting_fits w c t s.1 f.1 le)
 nesting_fits w c (one_star p) s f le = nesting_fits w c p s f le

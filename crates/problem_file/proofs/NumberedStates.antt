@@ -5,11 +5,12 @@ use Rattle.kat_model.specs.Trees.{TestTree, bottom, top, prim, complement, meet,
 use Rattle.kat_model.specs.Expressions.{CondTree, always, never, named, compared, negation, both, either}
 use Rattle.kat_model.specs.Problems.{IsTestInRange, IsInRange, AreInRange}
 use Rattle.kat_model.proofs.Places.{slice_get_last}
-use Rattle.kat_syntax.specs.Actions.{around}
+use Rattle.kat_model.proofs.Ranges.{AreInRange-append}
+use Rattle.kat_syntax.specs.Actions.{context}
 use Rattle.kat_syntax.specs.Phrases.{term, Leaf, Phrase}
 use Rattle.kat_text.specs.Sizes.{cond_size}
 use Rattle.kat_text.specs.Sound.{nesting}
-use Rattle.kat_text.specs.Worlds.{Definition, World, defined}
+use Rattle.kat_text.specs.ScopeParts.{Definition, ScopeParts, defined}
 use Rattle.problem_file.specs.Numbers.{AreNumbered}
 use Rattle.problem_file.specs.Files.{GoalTree, equal, below, triple, State, start, state_hyp, state_goal, triple_term}
 use Rattle.problem_file.specs.Phrases.{Names, one_name, more_names, Body, tests, actions, definition, hypothesis, hyp_triple, goal_equal, goal_below, goal_triple, Item}
@@ -17,7 +18,7 @@ use Rattle.problem_file.specs.Sound.{with_test, with_action, grown, EachName, De
 use Rattle.problem_file.specs.Ranges.{IsCondInRange, IsGoalInRange, IsNumbered}
 use Rattle.problem_file.specs.Laws.{AreInRanges}
 use Rattle.problem_file.proofs.Numbering.{empty_numbered, test_numbered, action_numbered, term_numbered}
-use Rattle.problem_file.proofs.InRanges.{DefinedInRange, terms_more, test_of_in, term_in, cond_in}
+use Rattle.problem_file.proofs.InRanges.{DefinedInRange, test_of_in, term_in, cond_in}
 
 -- ---- more tests and actions
 
@@ -62,7 +63,7 @@ module _ (t u : ℕ) (more : t ≤ u) where
     asked_more None h = tt
     asked_more (Some g) h = goal_more g h
 
-    defined_more : (w : World) → DefinedInRange w t a → DefinedInRange w u b
+    defined_more : (w : ScopeParts) → DefinedInRange w t a → DefinedInRange w u b
     defined_more w h i d e = term_more d.tree (h i d e)
 
 -- ---- states
@@ -111,7 +112,7 @@ names_ranged each step (one_name l) s t h r = step s l t h r
 names_ranged each step (more_names l c ns) s t h r = names_ranged each step ns h.0 t h.2 (step s l h.0 h.1 r)
 
 -- a term more that is defined
-term_defined : (w : World) (name : List ℕ) (d : Definition) (t a : ℕ) → DefinedInRange w t a → IsInRange t a d.tree → DefinedInRange (defined w name d) t a
+term_defined : (w : ScopeParts) (name : List ℕ) (d : Definition) (t a : ℕ) → DefinedInRange w t a → IsInRange t a d.tree → DefinedInRange (defined w name d) t a
 term_defined w name d t a old new i x e = ⊎_elim (λ p. old i x p) (λ q. subst (λ (y : Definition). IsInRange t a y.tree) q.1 new) (slice_get_last w.terms d i x e)
 
 -- so many nodes more, and a hypothesis or a goal more
@@ -119,7 +120,7 @@ hyp_ranged : (s : State) (n : ℕ) (e : Term) → IsInRange s.tests s.actions e 
 hyp_ranged s n e h r = record {
   names = r.names;
   terms = r.terms;
-  said = record { tests = r.said.tests; actions = r.said.actions; hyps = terms_more s.tests s.actions s.hyps e r.said.hyps h; goal = r.said.goal };
+  said = record { tests = r.said.tests; actions = r.said.actions; hyps = AreInRange-append s.tests s.actions s.hyps (e ∷ []) r.said.hyps (h, tt); goal = r.said.goal };
 }
 
 goal_ranged : (s : State) (n : ℕ) (g : GoalTree) → IsGoalInRange s.tests s.actions g → Ranged s → Ranged (state_goal (grown s n) g)
@@ -131,36 +132,36 @@ goal_ranged s n g h r = record {
 
 sides_ranged : (f : Term → Term → GoalTree) → ((t a : ℕ) (l r : Term) → IsInRange t a l → IsInRange t a r → IsGoalInRange t a (f l r)) → (s t : State) (p q : Phrase term) → AsksSides f s p q t → Ranged s → Ranged t
 sides_ranged f joins s t p q h r =
-    let c = around 0 false false in
+    let c = context 0 false false in
     let left = term_in s.tests s.actions s.world r.names r.terms c p h.left h.is_left.built in
     let right = term_in s.tests s.actions s.world r.names r.terms c q h.right h.is_right.built in
     subst Ranged (sym h.made) (goal_ranged s (term_size h.left + term_size h.right) (f h.left h.right) (joins s.tests s.actions h.left h.right left right) r)
 
 body_ranged : (b : Body) (s t : State) → Makes s b t → Ranged s → Ranged t
-body_ranged (tests ns) s t h r = names_ranged DeclaresTest test_ranged ns s t h r
-body_ranged (actions ns) s t h r = names_ranged DeclaresAction action_ranged ns s t h r
-body_ranged (definition name e p) s t h r =
-    let tree = term_in s.tests s.actions s.world r.names r.terms (around 0 false false) p h.tree h.is_term.built in
+body_ranged (tests ns e) s t h r = names_ranged DeclaresTest test_ranged ns s t h r
+body_ranged (actions ns e) s t h r = names_ranged DeclaresAction action_ranged ns s t h r
+body_ranged (definition name q p e) s t h r =
+    let tree = term_in s.tests s.actions s.world r.names r.terms (context 0 false false) p h.tree h.is_term.built in
     let d : Definition = record { tree = h.tree; nesting = nesting s.world p } in
     subst Ranged (sym h.made) (record {
       names = term_numbered s.world (defined s.world name.text d) name.text d s.tests s.actions r.names refl;
       terms = term_defined s.world name.text d s.tests s.actions r.terms tree;
       said = record { tests = r.said.tests; actions = r.said.actions; hyps = r.said.hyps; goal = r.said.goal };
     })
-body_ranged (hypothesis p e z) s t h r =
-    let tree = term_in s.tests s.actions s.world r.names r.terms (around 0 false false) p h.tree h.is_term.built in
+body_ranged (hypothesis p q z e) s t h r =
+    let tree = term_in s.tests s.actions s.world r.names r.terms (context 0 false false) p h.tree h.is_term.built in
     subst Ranged (sym h.made) (hyp_ranged s (term_size h.tree) h.tree tree r)
-body_ranged (hyp_triple l x) s t h r =
-    let pre = test_of_in s.tests s.actions h.pre (cond_in s.tests s.actions s.world r.names r.terms (around 1 false false) (x.pre).inner h.pre h.is_pre.built) in
-    let body = term_in s.tests s.actions s.world r.names r.terms (around 0 false false) x.body h.body h.is_body.built in
-    let post = test_of_in s.tests s.actions h.post (cond_in s.tests s.actions s.world r.names r.terms (around 1 false false) (x.post).inner h.post h.is_post.built) in
+body_ranged (hyp_triple l x e) s t h r =
+    let pre = test_of_in s.tests s.actions h.pre (cond_in s.tests s.actions s.world r.names r.terms (context 1 false false) (x.pre).inner h.pre h.is_pre.built) in
+    let body = term_in s.tests s.actions s.world r.names r.terms (context 0 false false) x.body h.body h.is_body.built in
+    let post = test_of_in s.tests s.actions h.post (cond_in s.tests s.actions s.world r.names r.terms (context 1 false false) (x.post).inner h.post h.is_post.built) in
     subst Ranged (sym h.made) (hyp_ranged s (term_size (triple_term h.pre h.body h.post)) (triple_term h.pre h.body h.post) (pre, (body, post)) r)
-body_ranged (goal_equal l p c q) s t h r = sides_ranged equal (λ t a x y m n. (m, n)) s t p q h r
-body_ranged (goal_below l p c q) s t h r = sides_ranged below (λ t a x y m n. (m, n)) s t p q h r
-body_ranged (goal_triple l x) s t h r =
-    let pre = cond_in s.tests s.actions s.world r.names r.terms (around 1 false true) (x.pre).inner h.pre h.is_pre.built in
-    let body = term_in s.tests s.actions s.world r.names r.terms (around 0 false false) x.body h.body h.is_body.built in
-    let post = cond_in s.tests s.actions s.world r.names r.terms (around 1 false true) (x.post).inner h.post h.is_post.built in
+body_ranged (goal_equal l p c q e) s t h r = sides_ranged equal (λ t a x y m n. (m, n)) s t p q h r
+body_ranged (goal_below l p c q e) s t h r = sides_ranged below (λ t a x y m n. (m, n)) s t p q h r
+body_ranged (goal_triple l x e) s t h r =
+    let pre = cond_in s.tests s.actions s.world r.names r.terms (context 1 false true) (x.pre).inner h.pre h.is_pre.built in
+    let body = term_in s.tests s.actions s.world r.names r.terms (context 0 false false) x.body h.body h.is_body.built in
+    let post = cond_in s.tests s.actions s.world r.names r.terms (context 1 false true) (x.post).inner h.post h.is_post.built in
     subst Ranged (sym h.made) (goal_ranged s (cond_size h.pre + term_size h.body + cond_size h.post) (triple h.pre h.body h.post) (pre, body, post) r)
 
 all_ranged : (is : List Item) (s t : State) → MakeAll s is t → Ranged s → Ranged t

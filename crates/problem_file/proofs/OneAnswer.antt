@@ -6,16 +6,17 @@ use Rattle.std.proofs.lemmas.Bool.{false≢true, eqb-true, eqb-false, ltb-true, 
 use Rattle.kat_tokens.specs.declared.lexer.TheConstants.{MAX_LEN}
 use Rattle.kat_tokens.specs.declared.fault.TextFault.{TextFault}
 use Rattle.kat_tokens.specs.declared.fault.TextFault.TheVariants.{TooLong, NotUtf8, BadToken, NoGoal, NotYet}
-use Rattle.kat_tokens.specs.Marks.{Mark}
+use Rattle.kat_tokens.specs.TokenParts.{TokenParts}
 use Rattle.kat_tokens.specs.Lex.{IsText, Lexes, FirstBad}
 use Rattle.kat_syntax.specs.Lexemes.{Lexeme, lexeme_of}
 use Rattle.problem_file.specs.Files.{GoalTree, State, start}
-use Rattle.problem_file.specs.Items.{scan_file, walk}
-use Rattle.problem_file.specs.Reads.{Says, Refuses, FirstFault, too_long, not_utf8, bad_token, refused, has_later, check_built, check_goal, tested, placing, placed}
+use Rattle.problem_file.specs.Syntax.{scan_file}
+use Rattle.problem_file.specs.Making.{walk}
+use Rattle.problem_file.specs.Reads.{TextSays, Refuses, FirstFault, too_long, not_utf8, bad_token, refused, has_later, check_built, check_goal, tested, placing, placed}
 use Rattle.problem_file.specs.Laws.{HaveOneAnswer}
 use Rattle.kat_tokens.proofs.Readings.{one_lexing, one_bad, not_both, some_reading}
-use Rattle.kat_syntax.proofs.Found.{bind_ok}
-use Rattle.problem_file.proofs.NameLists.{ok_of, err_of}
+use Rattle.kat_syntax.proofs.ParserSoundness.{bind_ok}
+use Rattle.problem_file.proofs.Results.{ok_of, err_of}
 use Rattle.problem_file.proofs.ScannedFiles.{files_are_scanned}
 use Rattle.problem_file.proofs.WalkedItems.{items_are_walked}
 
@@ -62,9 +63,9 @@ pub goal_there : (s : State) (goal : Option GoalTree) → goal ≡ s.goal → Is
 goal_there s None e h = absurd (false≢true h)
 goal_there s (Some g) e h = subst (λ o. if_true (is_some o) (Ok s) (Err NoGoal) ≡ Ok s) e refl
 
-said_tested : (bytes : List ℕ) (s : State) (x : Says bytes s) → tested (map lexeme_of x.marks) ≡ Ok s
+said_tested : (bytes : List ℕ) (s : State) (x : TextSays bytes s) → tested (map lexeme_of x.parts_of_tokens) ≡ Ok s
 said_tested bytes s x =
-    let ts = map lexeme_of x.marks in
+    let ts = map lexeme_of x.parts_of_tokens in
     let scanned : scan_file ts ≡ Ok tt = (files_are_scanned ts).1 (x.items, x.spells) in
     let walked : walk start ts ≡ Ok s = (items_are_walked start s x.items ts x.spells).1 x.make in
     rw (x.all_built, scanned, walked) (goal_there s s.goal refl x.has_goal)
@@ -80,7 +81,7 @@ goal_told s t (Some g) e h =
     let is : t ≡ s = cc in
     (is, subst (λ (x : State). IsSome x.goal) (sym is) (subst IsSome e refl))
 
-pub tested_says : (bytes : List ℕ) (ms : List Mark) → Lexes bytes ms → (s : State) → tested (map lexeme_of ms) ≡ Ok s → Says bytes s
+pub tested_says : (bytes : List ℕ) (ms : List TokenParts) → Lexes bytes ms → (s : State) → tested (map lexeme_of ms) ≡ Ok s → TextSays bytes s
 tested_says bytes ms lexes s t =
     let ts = map lexeme_of ms in
     let built = bind_ok (check_built ts) _ s t in
@@ -89,7 +90,7 @@ tested_says bytes ms lexes s t =
     let goal = goal_told walked.0 s walked.0.goal refl walked.2 in
     let file = (files_are_scanned ts).0 scanned.1 in
     record {
-      marks = ms;
+      parts_of_tokens = ms;
       lexes = lexes;
       all_built = all_built ts (has_later ts) refl built.0 built.1;
       items = file.0;
@@ -99,24 +100,24 @@ tested_says bytes ms lexes s t =
     }
 
 -- what the tests give is what the bytes say, or their first fault
-tested_tells : (bytes : List ℕ) (ms : List Mark) → Lexes bytes ms → (m : Result State TextFault) → tested (map lexeme_of ms) ≡ m → ((s : State) × Says bytes s) ⊎ ((e : TextFault) × FirstFault bytes e)
+tested_tells : (bytes : List ℕ) (ms : List TokenParts) → Lexes bytes ms → (m : Result State TextFault) → tested (map lexeme_of ms) ≡ m → ((s : State) × TextSays bytes s) ⊎ ((e : TextFault) × FirstFault bytes e)
 tested_tells bytes ms lexes (Ok s) t = inl (s, tested_says bytes ms lexes s t)
-tested_tells bytes ms lexes (Err e) t = inr (placed (length bytes) e, refused (record { marks = ms; lexes = lexes; tests = ap (placing (length bytes)) t }))
+tested_tells bytes ms lexes (Err e) t = inr (placed (length bytes) e, refused (record { parts_of_tokens = ms; lexes = lexes; tests = ap (placing (length bytes)) t }))
 
 -- ---- the law
 
-text_tells : (bytes : List ℕ) → IsText bytes → ((s : State) × Says bytes s) ⊎ ((e : TextFault) × FirstFault bytes e)
+text_tells : (bytes : List ℕ) → IsText bytes → ((s : State) × TextSays bytes s) ⊎ ((e : TextFault) × FirstFault bytes e)
 text_tells bytes text =
     ⊎_elim
     (λ x. tested_tells bytes x.0 x.1 (tested (map lexeme_of x.0)) refl)
     (λ x. inr (BadToken x.0, bad_token x.0 refl x.1))
     (some_reading bytes text)
 
-short_tells : (bytes : List ℕ) → length bytes ≤ MAX_LEN → (u : Bool) → is_utf8 bytes ≡ u → ((s : State) × Says bytes s) ⊎ ((e : TextFault) × FirstFault bytes e)
+short_tells : (bytes : List ℕ) → length bytes ≤ MAX_LEN → (u : Bool) → is_utf8 bytes ≡ u → ((s : State) × TextSays bytes s) ⊎ ((e : TextFault) × FirstFault bytes e)
 short_tells bytes within true u = text_tells bytes (record { within = within; utf8 = IsUtf8-from_is_utf8 bytes u })
 short_tells bytes within false u = let front = some_front bytes u in inr (NotUtf8 front.0, not_utf8 front.0 refl within front.1)
 
-bytes_tell : (bytes : List ℕ) (past : Bool) → nat_lt MAX_LEN (length bytes) ≡ past → ((s : State) × Says bytes s) ⊎ ((e : TextFault) × FirstFault bytes e)
+bytes_tell : (bytes : List ℕ) (past : Bool) → nat_lt MAX_LEN (length bytes) ≡ past → ((s : State) × TextSays bytes s) ⊎ ((e : TextFault) × FirstFault bytes e)
 bytes_tell bytes true p = inr (TooLong, too_long refl (ltb-true MAX_LEN (length bytes) p))
 bytes_tell bytes false p = short_tells bytes (ltb-false MAX_LEN (length bytes) p) (is_utf8 bytes) refl
 
@@ -125,19 +126,19 @@ bytes_tell bytes false p = short_tells bytes (ltb-false MAX_LEN (length bytes) p
 no_front : (bytes : List ℕ) (at : ℕ) → IsText bytes → IsValidUpTo bytes at → ⊥
 no_front bytes at text front = front.longest (length bytes) front.short (subst IsUtf8 (sym (take_all (length bytes) bytes (omega arith))) text.utf8)
 
-pub not_both_ways : (bytes : List ℕ) (s : State) (e : TextFault) → Says bytes s → FirstFault bytes e → ⊥
+pub not_both_ways : (bytes : List ℕ) (s : State) (e : TextFault) → TextSays bytes s → FirstFault bytes e → ⊥
 not_both_ways bytes s e x (too_long told past) = let within = x.lexes.is_text.within in omega (arith, past, within)
 not_both_ways bytes s e x (not_utf8 at told within front) = no_front bytes at x.lexes.is_text front
-not_both_ways bytes s e x (bad_token at told bad) = not_both bytes x.marks at x.lexes bad
+not_both_ways bytes s e x (bad_token at told bad) = not_both bytes x.parts_of_tokens at x.lexes bad
 not_both_ways bytes s e x (refused r) =
-    let same : r.marks ≡ x.marks = one_lexing bytes r.marks x.marks r.lexes x.lexes in
-    let told : placing (length bytes) (tested (map lexeme_of x.marks)) ≡ Err e = subst (λ ms. placing (length bytes) (tested (map lexeme_of ms)) ≡ Err e) same r.tests in
+    let same : r.parts_of_tokens ≡ x.parts_of_tokens = one_lexing bytes r.parts_of_tokens x.parts_of_tokens r.lexes x.lexes in
+    let told : placing (length bytes) (tested (map lexeme_of x.parts_of_tokens)) ≡ Err e = subst (λ ms. placing (length bytes) (tested (map lexeme_of ms)) ≡ Err e) same r.tests in
     let said : ok_of s ≡ Err e = subst (λ m. placing (length bytes) m ≡ Err e) (said_tested bytes s x) told in
     absurd cc
 
-one_state : (bytes : List ℕ) (s t : State) → Says bytes s → Says bytes t → s ≡ t
+one_state : (bytes : List ℕ) (s t : State) → TextSays bytes s → TextSays bytes t → s ≡ t
 one_state bytes s t x y =
-    let same : x.marks ≡ y.marks = one_lexing bytes x.marks y.marks x.lexes y.lexes in
+    let same : x.parts_of_tokens ≡ y.parts_of_tokens = one_lexing bytes x.parts_of_tokens y.parts_of_tokens x.lexes y.lexes in
     let one : ok_of s ≡ Ok t = sym (said_tested bytes s x) ∙ (ap (λ ms. tested (map lexeme_of ms)) same ∙ said_tested bytes t y) in
     cc
 
@@ -161,14 +162,14 @@ bad_fault : (bytes : List ℕ) (n : ℕ) (e : TextFault) → FirstBad bytes n �
 bad_fault bytes n e f (too_long told past) = let within = f.is_text.within in absurd (omega (arith, past, within))
 bad_fault bytes n e f (not_utf8 at told within front) = absurd (no_front bytes at f.is_text front)
 bad_fault bytes n e f (bad_token at told bad) = told ∙ ap BadToken (one_bad bytes at n bad f)
-bad_fault bytes n e f (refused r) = absurd (not_both bytes r.marks n r.lexes f)
+bad_fault bytes n e f (refused r) = absurd (not_both bytes r.parts_of_tokens n r.lexes f)
 
 token_fault : (bytes : List ℕ) (d e : TextFault) → Refuses bytes d → FirstFault bytes e → e ≡ d
 token_fault bytes d e q (too_long told past) = let within = q.lexes.is_text.within in absurd (omega (arith, past, within))
 token_fault bytes d e q (not_utf8 at told within front) = absurd (no_front bytes at q.lexes.is_text front)
-token_fault bytes d e q (bad_token at told bad) = absurd (not_both bytes q.marks at q.lexes bad)
+token_fault bytes d e q (bad_token at told bad) = absurd (not_both bytes q.parts_of_tokens at q.lexes bad)
 token_fault bytes d e q (refused r) =
-    let same : r.marks ≡ q.marks = one_lexing bytes r.marks q.marks r.lexes q.lexes in
+    let same : r.parts_of_tokens ≡ q.parts_of_tokens = one_lexing bytes r.parts_of_tokens q.parts_of_tokens r.lexes q.lexes in
     let one : err_of (State) e ≡ Err d = sym r.tests ∙ (ap (λ ms. placing (length bytes) (tested (map lexeme_of ms))) same ∙ q.tests) in
     cc
 

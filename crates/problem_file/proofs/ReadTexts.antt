@@ -1,44 +1,41 @@
 -- What the tests of tokens tell is the answer to a text.
-use Rattle.std.proofs.Common.{◌≡◌, ◌<◌, ◌⊎◌, inl, inr, ℕ, List, length, drop, slice_get, get_or, Some, Result, Ok, Err, IfErr, refl, ap, subst, ◌∙◌, ⊎_elim}
+use Rattle.std.proofs.Common.{◌≡◌, ◌⊎◌, inl, inr, ℕ, List, length, slice_get, get_or, Some, Result, Ok, Err, IfErr, refl, ap, subst, ◌∙◌, ⊎_elim}
 use Rattle.std.specs.Option.{option_map}
 use Rattle.std.proofs.lemmas.Option.{slice_get-map, slice_get_within, get_or_from_slice_get}
 use Rattle.kat_tokens.specs.declared.token.Token.{Token}
 use Rattle.kat_tokens.specs.declared.fault.TextFault.{TextFault}
 use Rattle.kat_tokens.specs.declared.fault.TextFault.TheVariants.{NoMemory, BadToken}
-use Rattle.kat_tokens.specs.Marks.{marks, mark_of}
+use Rattle.kat_tokens.specs.TokenParts.{parts_of_tokens, parts_of_token}
 use Rattle.kat_tokens.specs.Lex.{Lexes, IsFault, IsSlice}
 use Rattle.kat_tokens.proofs.Slices.{slices_from}
-use Rattle.kat_syntax.specs.Lexemes.{Lexeme, lexemes}
+use Rattle.kat_syntax.specs.Lexemes.{lexemes}
 use Rattle.problem_file.specs.declared.file.File.{File}
 use Rattle.problem_file.specs.Tokens.{AreTokens}
 use Rattle.problem_file.specs.Files.{State}
-use Rattle.problem_file.specs.Reads.{Says, Reads, FirstFault, bad_token, refused, placed, placing, tested, HoldsTested, Answers}
-use Rattle.problem_file.specs.Items.{walk_item}
-use Rattle.problem_file.specs.Walks.{Steps, Does}
-use Rattle.problem_file.proofs.Lists.{ItemsLeft, items_fail}
+use Rattle.problem_file.specs.Reads.{TextSays, Reads, FirstFault, bad_token, refused, placed, placing, tested, HoldsTested, Answers}
 use Rattle.problem_file.proofs.OneAnswer.{tested_says, not_both_ways}
 
 -- each token of a text is a token of its kind
-pub lexed_tokens : (text : List ℕ) (ts : List Token) → Lexes text (marks ts) → AreTokens ts
+pub lexed_tokens : (text : List ℕ) (ts : List Token) → Lexes text (parts_of_tokens ts) → AreTokens ts
 lexed_tokens text ts lexes i t e =
-    let ms = marks ts in
-    let there : slice_get ms i ≡ Some (mark_of t) = slice_get-map mark_of ts i ∙ ap (option_map mark_of) e in
-    let slice = slices_from text 0 ms (length text) lexes.tokens i (mark_of t) (slice_get_within ms i (mark_of t) there) in
-    let same : get_or ms i (mark_of t) ≡ mark_of t = get_or_from_slice_get ms i (mark_of t) (mark_of t) there in
+    let ms = parts_of_tokens ts in
+    let there : slice_get ms i ≡ Some (parts_of_token t) = slice_get-map parts_of_token ts i ∙ ap (option_map parts_of_token) e in
+    let slice = slices_from text 0 ms (length text) lexes.tokens i (parts_of_token t) (slice_get_within ms i (parts_of_token t) there) in
+    let same : get_or ms i (parts_of_token t) ≡ parts_of_token t = get_or_from_slice_get ms i (parts_of_token t) (parts_of_token t) there in
     (subst (IsSlice text) same slice).is_token
 
-pub file_told : (text : List ℕ) (ts : List Token) (f : File) → Lexes text (marks ts) → HoldsTested (Ok f) (tested (lexemes ts)) → Reads text f
-file_told text ts f lexes h = record { state = h.0; says = tested_says text (marks ts) lexes h.0 h.1; holds = h.2 }
+pub file_told : (text : List ℕ) (ts : List Token) (f : File) → Lexes text (parts_of_tokens ts) → HoldsTested (Ok f) (tested (lexemes ts)) → Reads text f
+file_told text ts f lexes h = record { state = h.0; says = tested_says text (parts_of_tokens ts) lexes h.0 h.1; holds = h.2 }
 
 fault_is : (e : TextFault) (m : Result State TextFault) → HoldsTested (Err e) m → (e ≡ NoMemory) ⊎ (m ≡ Err e)
 fault_is NoMemory m h = inl refl
 fault_is e m h = inr h
 
-pub fault_told : (text : List ℕ) (ts : List Token) (e : TextFault) → Lexes text (marks ts) → HoldsTested (Err e) (tested (lexemes ts)) → (placed (length text) e ≡ NoMemory) ⊎ FirstFault text (placed (length text) e)
+pub fault_told : (text : List ℕ) (ts : List Token) (e : TextFault) → Lexes text (parts_of_tokens ts) → HoldsTested (Err e) (tested (lexemes ts)) → (placed (length text) e ≡ NoMemory) ⊎ FirstFault text (placed (length text) e)
 fault_told text ts e lexes h =
     ⊎_elim
     (λ none. inl (ap (placed (length text)) none))
-    (λ told. inr (refused (record { marks = marks ts; lexes = lexes; tests = ap (placing (length text)) told })))
+    (λ told. inr (refused (record { parts_of_tokens = parts_of_tokens ts; lexes = lexes; tests = ap (placing (length text)) told })))
     (fault_is e (tested (lexemes ts)) h)
 
 pub bad_told : (text : List ℕ) (e : TextFault) → IsFault text e → (e ≡ NoMemory) ⊎ FirstFault text e
@@ -47,11 +44,6 @@ bad_told text (BadToken at) h = inr (bad_token at refl h)
 bad_told text e h = absurd h
 
 -- bytes that say something have no first fault
-pub only_memory : (bytes : List ℕ) (s : State) (r : Result File TextFault) → Says bytes s → Answers bytes r → IfErr r (λ e. e ≡ NoMemory)
+pub only_memory : (bytes : List ℕ) (s : State) (r : Result File TextFault) → TextSays bytes s → Answers bytes r → IfErr r (λ e. e ≡ NoMemory)
 only_memory bytes s (Ok f) says h = tt
 only_memory bytes s (Err e) says h = ⊎_elim (λ none. none) (λ first. absurd (not_both_ways bytes s e says first)) h
-
--- an item that is at fault ends the walk
-pub item_fails : (s t : State) (ms : List Lexeme) (at : ℕ) (m : Result State TextFault) (e : TextFault) → ItemsLeft walk_item s (drop at ms) m → 0 < length (drop at ms) → Steps ms (Err e) t (walk_item s (drop at ms)) → Does {X = Unit {0}} (Err e) t m
-item_fails s t ms at m NoMemory left some h = tt
-item_fails s t ms at m e left some h = items_fail walk_item s (drop at ms) e m left some h

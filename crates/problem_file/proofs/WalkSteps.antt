@@ -1,50 +1,35 @@
--- The steps of an item: where each goes on, and with what.
-use Rattle.std.proofs.Common.{◌≡◌, ℕ, ◌+◌, ◌≤◌, List, Bool, true, false, nat_lt, cond as if_true, Option, Some, None, is_some, Result, Ok, Err, refl, arith}
+-- The tests of an item: what each gives where it is passed, and what is known where it is.
+use Rattle.std.proofs.Common.{◌≡◌, ℕ, ◌+◌, ◌≤◌, ◌<◌, List, length, Bool, true, false, nat_lt, cond as if_true, Option, Some, None, is_some, Ok, Err, refl, arith}
 use Rattle.std.proofs.lemmas.Bool.{ltb-false, le-ltb}
 use Rattle.kat_tokens.specs.declared.fault.TextFault.{TextFault}
-use Rattle.kat_tokens.specs.declared.fault.TextFault.TheVariants.{DoubleName, TooMany, TooLarge}
-use Rattle.kat_syntax.specs.Parsed.{◌>>=◌}
+use Rattle.kat_tokens.specs.declared.fault.TextFault.TheVariants.{DoubleName, TooMany, TooLarge, TwoGoals}
 use Rattle.kat_syntax.specs.Phrases.{Leaf}
-use Rattle.kat_text.specs.Worlds.{meaning, IsUndeclared}
+use Rattle.kat_syntax.proofs.ParserSoundness.{bind_ok}
+use Rattle.kat_text.specs.declared.extent.Extent.{Extent}
+use Rattle.kat_text.specs.ScopeParts.{meaning, IsUndeclared}
 use Rattle.problem_file.specs.Files.{State, declare_test, declare_action, check_new, grow, check_size}
+use Rattle.problem_file.specs.ItemActions.{SidesMeasurement, TripleMeasurement}
+use Rattle.problem_file.specs.Making.{begin_hyp, begin_goal, count, count_sides, count_parts, triple_nodes}
 use Rattle.problem_file.specs.Sound.{with_test, with_action, grown, DeclaresTest, DeclaresAction, HasRoom}
+use Rattle.problem_file.proofs.Results.{passed}
 
--- ---- each step gives this where its test is passed
+none_of : {A : Type 0} (o : Option A) → is_some o ≡ false → o ≡ None
+none_of None e = refl
+none_of (Some x) e = absurd cc
 
-pub new_there : (s : State) (at : ℕ) (name : List ℕ) → IsUndeclared s.world name → check_new s at name ≡ Ok s
+-- ---- names
+
+pub new_there : (s : State) (at : ℕ) (name : List ℕ) → IsUndeclared s.world name → check_new s at name ≡ Ok tt
 new_there s at name new = rw new refl
 
-pub size_there : (s : State) (at nodes : ℕ) → nodes ≤ 100000 → check_size s at nodes ≡ Ok s
-size_there s at nodes few = rw (le-ltb 100000 nodes few) refl
-
-pub room_there : (s : State) (at nodes : ℕ) → HasRoom s nodes → grow s at nodes ≡ Ok (grown s nodes)
-room_there s at nodes room = rw (le-ltb 1000000 (s.size + nodes) room) refl
+pub new_passed : (s : State) (at : ℕ) (name : List ℕ) (u : Unit {0}) → check_new s at name ≡ Ok u → IsUndeclared s.world name
+new_passed s at name u e = none_of (meaning s.world name) (passed (is_some (meaning s.world name)) (DoubleName at) tt u e).0
 
 pub test_there : (s : State) (l : Leaf) (t : State) → DeclaresTest s l t → declare_test s l.at l.text ≡ Ok t
 test_there s l t (new, few, made) = rw (new, le-ltb 47 s.tests (omega (arith, few)), made) refl
 
 pub action_there : (s : State) (l : Leaf) (t : State) → DeclaresAction s l t → declare_action s l.at l.text ≡ Ok t
 action_there s l t (new, few, made) = rw (new, le-ltb 47 s.actions (omega (arith, few)), made) refl
-
--- ---- and goes on just there
-
-unknown : {A : Type 0} (o : Option A) → is_some o ≡ false → o ≡ None
-unknown None e = refl
-unknown (Some x) e = absurd cc
-
--- a test that was passed
-passed : {A B : Type 0} (b : Bool) (x : TextFault) (v : A) (k : A → Result B TextFault) (y : B) → (if_true b (Err x) (Ok v) >>= k) ≡ Ok y → (b ≡ false) × (k v ≡ Ok y)
-passed true x v k y e = absurd cc
-passed false x v k y e = (refl, e)
-
-pub after_new : {V : Type 0} (s : State) (at : ℕ) (name : List ℕ) (k : State → Result V TextFault) (y : V) → (check_new s at name >>= k) ≡ Ok y → IsUndeclared s.world name × (k s ≡ Ok y)
-after_new s at name k y e = let h = passed (is_some (meaning s.world name)) (DoubleName at) s k y e in (unknown (meaning s.world name) h.0, h.1)
-
-pub after_size : {V : Type 0} (s : State) (at nodes : ℕ) (k : State → Result V TextFault) (y : V) → (check_size s at nodes >>= k) ≡ Ok y → (nodes ≤ 100000) × (k s ≡ Ok y)
-after_size s at nodes k y e = let h = passed (nat_lt 100000 nodes) (TooLarge at) s k y e in (ltb-false 100000 nodes h.0, h.1)
-
-pub after_room : {V : Type 0} (s : State) (at nodes : ℕ) (k : State → Result V TextFault) (y : V) → (grow s at nodes >>= k) ≡ Ok y → HasRoom s nodes × (k (grown s nodes) ≡ Ok y)
-after_room s at nodes k y e = let h = passed (nat_lt 1000000 (s.size + nodes)) (TooLarge at) (grown s nodes) k y e in (ltb-false 1000000 (s.size + nodes) h.0, h.1)
 
 -- two tests that were passed
 both_passed : {A : Type 0} (a b : Bool) (x y : TextFault) (v w : A) → if_true a (Err x) (if_true b (Err y) (Ok v)) ≡ Ok w → (a ≡ false) × (b ≡ false) × (w ≡ v)
@@ -55,9 +40,71 @@ both_passed false false x y v w e = (refl, refl, cc)
 pub test_declared : (s : State) (l : Leaf) (t : State) → declare_test s l.at l.text ≡ Ok t → DeclaresTest s l t
 test_declared s l t e =
     let h = both_passed (is_some (meaning s.world l.text)) (nat_lt 47 s.tests) (DoubleName l.at) (TooMany l.at) (with_test s l.text) t e in
-    (unknown (meaning s.world l.text) h.0, omega (arith, ltb-false 47 s.tests h.1), h.2)
+    (none_of (meaning s.world l.text) h.0, omega (arith, ltb-false 47 s.tests h.1), h.2)
 
 pub action_declared : (s : State) (l : Leaf) (t : State) → declare_action s l.at l.text ≡ Ok t → DeclaresAction s l t
 action_declared s l t e =
     let h = both_passed (is_some (meaning s.world l.text)) (nat_lt 47 s.actions) (DoubleName l.at) (TooMany l.at) (with_action s l.text) t e in
-    (unknown (meaning s.world l.text) h.0, omega (arith, ltb-false 47 s.actions h.1), h.2)
+    (none_of (meaning s.world l.text) h.0, omega (arith, ltb-false 47 s.actions h.1), h.2)
+
+-- ---- the beginning of an item
+
+pub hyp_there : (s : State) (at : ℕ) → length s.hyps < 8192 → begin_hyp s at ≡ Ok tt
+hyp_there s at few = rw (le-ltb 8191 (length s.hyps) (omega (arith, few))) refl
+
+pub hyp_passed : (s : State) (at : ℕ) (u : Unit {0}) → begin_hyp s at ≡ Ok u → length s.hyps < 8192
+hyp_passed s at u e = omega (arith, ltb-false 8191 (length s.hyps) (passed (nat_lt 8191 (length s.hyps)) (TooMany at) tt u e).0)
+
+pub goal_there : (s : State) (at : ℕ) → s.goal ≡ None → begin_goal s at ≡ Ok tt
+goal_there s at first = rw first refl
+
+pub goal_passed : (s : State) (at : ℕ) (u : Unit {0}) → begin_goal s at ≡ Ok u → s.goal ≡ None
+goal_passed s at u e = none_of s.goal (passed (is_some s.goal) (TwoGoals at) tt u e).0
+
+-- ---- nodes
+
+size_there : (at nodes : ℕ) → nodes ≤ 100000 → check_size at nodes ≡ Ok tt
+size_there at nodes few = rw (le-ltb 100000 nodes few) refl
+
+size_passed : (at nodes : ℕ) (u : Unit {0}) → check_size at nodes ≡ Ok u → nodes ≤ 100000
+size_passed at nodes u e = ltb-false 100000 nodes (passed (nat_lt 100000 nodes) (TooLarge at) tt u e).0
+
+room_there : (s : State) (at nodes : ℕ) → HasRoom s nodes → grow s at nodes ≡ Ok (grown s nodes)
+room_there s at nodes room = rw (le-ltb 1000000 (s.size + nodes) room) refl
+
+room_passed : (s t : State) (at nodes : ℕ) → grow s at nodes ≡ Ok t → HasRoom s nodes × (grown s nodes ≡ t)
+room_passed s t at nodes e = let h = passed (nat_lt 1000000 (s.size + nodes)) (TooLarge at) (grown s nodes) t e in (ltb-false 1000000 (s.size + nodes) h.0, h.1)
+
+pub count_there : (s : State) (at nodes : ℕ) → nodes ≤ 100000 → HasRoom s nodes → count s at nodes ≡ Ok (grown s nodes)
+count_there s at nodes few room = rw (size_there at nodes few) (room_there s at nodes room)
+
+pub count_passed : (s t : State) (at nodes : ℕ) → count s at nodes ≡ Ok t → (nodes ≤ 100000) × HasRoom s nodes × (grown s nodes ≡ t)
+count_passed s t at nodes e =
+    let a = bind_ok (check_size at nodes) (λ u. grow s at nodes) t e in
+    let b = room_passed s t at nodes a.2 in
+    (size_passed at nodes a.0 a.1, b.0, b.1)
+
+pub sides_there : (s : State) (at : ℕ) (m : SidesMeasurement Extent) → ((m.left).measure).nodes ≤ 100000 → ((m.right).measure).nodes ≤ 100000 → HasRoom s (((m.left).measure).nodes + ((m.right).measure).nodes)
+    → count_sides s at m ≡ Ok (grown s (((m.left).measure).nodes + ((m.right).measure).nodes))
+sides_there s at m left right room = rw (size_there at ((m.left).measure).nodes left, size_there at ((m.right).measure).nodes right) (room_there s at (((m.left).measure).nodes + ((m.right).measure).nodes) room)
+
+pub sides_passed : (s t : State) (at : ℕ) (m : SidesMeasurement Extent) → count_sides s at m ≡ Ok t
+    → (((m.left).measure).nodes ≤ 100000) × (((m.right).measure).nodes ≤ 100000) × HasRoom s (((m.left).measure).nodes + ((m.right).measure).nodes) × (grown s (((m.left).measure).nodes + ((m.right).measure).nodes) ≡ t)
+sides_passed s t at m e =
+    let a = bind_ok (check_size at ((m.left).measure).nodes) _ t e in
+    let b = bind_ok (check_size at ((m.right).measure).nodes) _ t a.2 in
+    let c = room_passed s t at (((m.left).measure).nodes + ((m.right).measure).nodes) b.2 in
+    (size_passed at ((m.left).measure).nodes a.0 a.1, size_passed at ((m.right).measure).nodes b.0 b.1, c.0, c.1)
+
+pub parts_there : (s : State) (at : ℕ) (m : TripleMeasurement Extent) → ((m.pre).measure).nodes ≤ 100000 → ((m.body).measure).nodes ≤ 100000 → ((m.post).measure).nodes ≤ 100000 → HasRoom s (triple_nodes m)
+    → count_parts s at m ≡ Ok (grown s (triple_nodes m))
+parts_there s at m pre body post room = rw (size_there at ((m.pre).measure).nodes pre, size_there at ((m.body).measure).nodes body, size_there at ((m.post).measure).nodes post) (room_there s at (triple_nodes m) room)
+
+pub parts_passed : (s t : State) (at : ℕ) (m : TripleMeasurement Extent) → count_parts s at m ≡ Ok t
+    → (((m.pre).measure).nodes ≤ 100000) × (((m.body).measure).nodes ≤ 100000) × (((m.post).measure).nodes ≤ 100000) × HasRoom s (triple_nodes m) × (grown s (triple_nodes m) ≡ t)
+parts_passed s t at m e =
+    let a = bind_ok (check_size at ((m.pre).measure).nodes) _ t e in
+    let b = bind_ok (check_size at ((m.body).measure).nodes) _ t a.2 in
+    let c = bind_ok (check_size at ((m.post).measure).nodes) _ t b.2 in
+    let d = room_passed s t at (triple_nodes m) c.2 in
+    (size_passed at ((m.pre).measure).nodes a.0 a.1, size_passed at ((m.body).measure).nodes b.0 b.1, size_passed at ((m.post).measure).nodes c.0 c.1, d.0, d.1)

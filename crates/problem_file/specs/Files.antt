@@ -1,13 +1,13 @@
 -- What the items of a problem file have declared, defined and stated so far.
 use Rattle.std.specs.Prelude.{ℕ, ◌+◌, List, [], ◌∷◌, ◌++◌, Bool, if◌then◌else◌, nat_lt, Result, Ok, Err, Option, Some, None}
 use Rattle.std.specs.Option.{is_some}
-use Rattle.kat_model.specs.Trees.{complement, Term, test, product}
-use Rattle.kat_model.specs.Expressions.{CondTree}
+use Rattle.kat_model.specs.Trees.{Term}
+use Rattle.kat_model.specs.Expressions.{CondTree, test_without_comparisons}
+use Rattle.goal_forms.specs.Sides.{failing_run}
 use Rattle.kat_tokens.specs.declared.fault.TextFault.{TextFault}
 use Rattle.kat_tokens.specs.declared.fault.TextFault.TheVariants.{DoubleName, TooMany, TooLarge}
 use Rattle.kat_text.specs.declared.meaning.Meaning.TheVariants.{Test, Action}
-use Rattle.kat_text.specs.Worlds.{World, meaning, empty_world, declared, defined}
-use Rattle.kat_text.specs.Sizes.{test_of}
+use Rattle.kat_text.specs.ScopeParts.{ScopeParts, meaning, empty_scope, declared, defined}
 
 -- what is asked of two terms, or of a term between two conditions
 pub data GoalTree : Type 0 where
@@ -16,7 +16,7 @@ pub data GoalTree : Type 0 where
   triple : (pre : CondTree) → (body : Term) → (post : CondTree) → GoalTree
 
 pub record State : Type 0 where
-  pub world : World
+  pub world : ScopeParts
   pub tests : ℕ
   pub actions : ℕ
   pub hyps : List Term
@@ -24,7 +24,7 @@ pub record State : Type 0 where
   pub size : ℕ
 
 abbrev pub start : State
-start = record { world = empty_world; tests = 0; actions = 0; hyps = []; goal = None; size = 0 }
+start = record { world = empty_scope; tests = 0; actions = 0; hyps = []; goal = None; size = 0 }
 
 -- whether the name is declared
 abbrev pub is_known : State → List ℕ → Bool
@@ -44,16 +44,16 @@ declare_action s at name =
     else Ok (record s { world = declared s.world name (Action s.actions); actions = s.actions + 1 })
 
 -- a name that is to be defined must be new
-abbrev pub check_new : State → ℕ → List ℕ → Result State TextFault
-check_new s at name = if is_known s name then Err (DoubleName at) else Ok s
+abbrev pub check_new : State → ℕ → List ℕ → Result (Unit {0}) TextFault
+check_new s at name = if is_known s name then Err (DoubleName at) else Ok tt
 
--- so many nodes more, in an item that begins at this place
+-- adds nodes to the total of the file, in an item that begins at this place
 abbrev pub grow : State → ℕ → ℕ → Result State TextFault
 grow s at nodes = if nat_lt 1000000 (s.size + nodes) then Err (TooLarge at) else Ok (record s { size = s.size + nodes })
 
 -- an item of its own, or one part of a goal, may have 100,000 nodes
-abbrev pub check_size : State → ℕ → ℕ → Result State TextFault
-check_size s at nodes = if nat_lt 100000 nodes then Err (TooLarge at) else Ok s
+abbrev pub check_size : ℕ → ℕ → Result (Unit {0}) TextFault
+check_size at nodes = if nat_lt 100000 nodes then Err (TooLarge at) else Ok tt
 
 abbrev pub define : State → List ℕ → Term → ℕ → State
 define s name tree nesting = record s { world = defined s.world name (record { tree = tree; nesting = nesting }) }
@@ -66,4 +66,4 @@ state_goal s goal = record s { goal = Some goal }
 
 -- the hypothesis that no run of the body from pre ends outside post
 abbrev pub triple_term : CondTree → Term → CondTree → Term
-triple_term pre body post = product (test (test_of pre)) (product body (test (complement (test_of post))))
+triple_term pre body post = failing_run (test_without_comparisons pre) body (test_without_comparisons post)

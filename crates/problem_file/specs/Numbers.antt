@@ -1,9 +1,9 @@
 -- The numbers that names stand for.
 use Rattle.std.specs.Prelude.{◌<◌, ℕ, List}
 use Rattle.kat_text.specs.declared.meaning.Meaning.TheVariants.{Test, Action}
-use Rattle.kat_text.specs.Worlds.{World, Means}
+use Rattle.kat_text.specs.ScopeParts.{ScopeParts, Means}
 
 -- tests and actions that are named are below these numbers
-pub record AreNumbered (w : World) (tests actions : ℕ) : Type 0 where
+pub record AreNumbered (w : ScopeParts) (tests actions : ℕ) : Type 0 where
   pub named_tests : (name : List ℕ) (k : ℕ) → Means w name (Test k) → k < tests
   pub named_actions : (name : List ℕ) (a : ℕ) → Means w name (Action a) → a < actions

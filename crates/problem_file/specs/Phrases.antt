@@ -1,11 +1,11 @@
 -- The phrases of a problem file, item by item, and the tokens that spell them.
 use Rattle.std.specs.Prelude.{◌≡◌, List, [], ◌∷◌}
-use Rattle.kat_syntax.specs.declared.sign.Sign.TheVariants.{Name, Keyword, Separator, Zero}
-use Rattle.kat_syntax.specs.declared.sign.Keyword.{Keyword as Word}
-use Rattle.kat_syntax.specs.declared.sign.Keyword.TheVariants as word
-use Rattle.kat_syntax.specs.declared.sign.Separator.TheVariants.{Comma, Semicolon, CurlyOpen, CurlyClose, Equals}
+use Rattle.kat_syntax.specs.declared.terminal.Terminal.TheVariants.{Name, Keyword, Separator, Zero}
+use Rattle.kat_syntax.specs.declared.terminal.Keyword.{Keyword as Word}
+use Rattle.kat_syntax.specs.declared.terminal.Keyword.TheVariants as word
+use Rattle.kat_syntax.specs.declared.terminal.Separator.TheVariants.{Comma, Semicolon, CurlyOpen, CurlyClose, Equals}
 use Rattle.kat_syntax.specs.Lexemes.{Lexeme}
-use Rattle.kat_syntax.specs.Phrases.{term, cond, Leaf, Phrase, put, onto, Obeys, Fits}
+use Rattle.kat_syntax.specs.Phrases.{term, cond, Leaf, Phrase, cons_token, yield_before, MeetsLookahead, IsWithinLimits}
 
 -- NAME { "," NAME }
 pub data Names : Type 0 where
@@ -24,64 +24,66 @@ pub record TriplePhrase : Type 0 where
   pub body : Phrase term
   pub post : Braced
 
--- An item between its keyword and its semicolon.
+-- An item after its keyword.
 -- item = "test" names ";" | "action" names ";" | "term" NAME "=" term ";" | "hyp" term "=" "0" ";"
 --      | "hyp" "triple" triple ";" | "goal" "equal" term "," term ";" | "goal" "below" term "," term ";"
 --      | "goal" "triple" triple ";"
 pub data Body : Type 0 where
-  tests : (ns : Names) → Body
-  actions : (ns : Names) → Body
-  definition : (name equals : Leaf) → (p : Phrase term) → Body
-  hypothesis : (p : Phrase term) → (equals zero : Leaf) → Body
-  hyp_triple : (l : Leaf) → (x : TriplePhrase) → Body
-  goal_equal : (l : Leaf) → (p : Phrase term) → (comma : Leaf) → (q : Phrase term) → Body
-  goal_below : (l : Leaf) → (p : Phrase term) → (comma : Leaf) → (q : Phrase term) → Body
-  goal_triple : (l : Leaf) → (x : TriplePhrase) → Body
+  tests : (ns : Names) → (end : Leaf) → Body
+  actions : (ns : Names) → (end : Leaf) → Body
+  definition : (name equals : Leaf) → (p : Phrase term) → (end : Leaf) → Body
+  hypothesis : (p : Phrase term) → (equals zero end : Leaf) → Body
+  hyp_triple : (l : Leaf) → (x : TriplePhrase) → (end : Leaf) → Body
+  goal_equal : (l : Leaf) → (p : Phrase term) → (comma : Leaf) → (q : Phrase term) → (end : Leaf) → Body
+  goal_below : (l : Leaf) → (p : Phrase term) → (comma : Leaf) → (q : Phrase term) → (end : Leaf) → Body
+  goal_triple : (l : Leaf) → (x : TriplePhrase) → (end : Leaf) → Body
 
 pub record Item : Type 0 where
   pub keyword : Leaf
   pub body : Body
-  pub semicolon : Leaf
 
 -- the keyword of an item
 abbrev pub word_of : Body → Word
-word_of (tests ns) = word.Test
-word_of (actions ns) = word.Action
-word_of (definition name e p) = word.Term
-word_of (hypothesis p e z) = word.Hyp
-word_of (hyp_triple l x) = word.Hyp
-word_of (goal_equal l p c q) = word.Goal
-word_of (goal_below l p c q) = word.Goal
-word_of (goal_triple l x) = word.Goal
+word_of (tests ns e) = word.Test
+word_of (actions ns e) = word.Action
+word_of (definition name q p e) = word.Term
+word_of (hypothesis p q z e) = word.Hyp
+word_of (hyp_triple l x e) = word.Hyp
+word_of (goal_equal l p c q e) = word.Goal
+word_of (goal_below l p c q e) = word.Goal
+word_of (goal_triple l x e) = word.Goal
 
 -- ---- the tokens, and then those that follow
 
 abbrev pub names_onto : Names → List Lexeme → List Lexeme
-names_onto (one_name l) ts = put Name l ts
-names_onto (more_names l c ns) ts = put Name l (put (Separator Comma) c (names_onto ns ts))
+names_onto (one_name l) ts = cons_token Name l ts
+names_onto (more_names l c ns) ts = cons_token Name l (cons_token (Separator Comma) c (names_onto ns ts))
 
 abbrev pub braced_onto : Braced → List Lexeme → List Lexeme
-braced_onto b ts = put (Separator CurlyOpen) b.left (onto b.inner (put (Separator CurlyClose) b.right ts))
+braced_onto b ts = cons_token (Separator CurlyOpen) b.left (yield_before b.inner (cons_token (Separator CurlyClose) b.right ts))
 
 abbrev pub triple_onto : TriplePhrase → List Lexeme → List Lexeme
-triple_onto x ts = braced_onto x.pre (onto x.body (braced_onto x.post ts))
+triple_onto x ts = braced_onto x.pre (yield_before x.body (braced_onto x.post ts))
+
+-- the semicolon at the end of an item
+abbrev pub ended : Leaf → List Lexeme → List Lexeme
+ended e ts = cons_token (Separator Semicolon) e ts
+
+abbrev pub sides_onto : Phrase term → Leaf → Phrase term → List Lexeme → List Lexeme
+sides_onto p c q ts = yield_before p (cons_token (Separator Comma) c (yield_before q ts))
 
 abbrev pub body_onto : Body → List Lexeme → List Lexeme
-body_onto (tests ns) ts = names_onto ns ts
-body_onto (actions ns) ts = names_onto ns ts
-body_onto (definition name e p) ts = put Name name (put (Separator Equals) e (onto p ts))
-body_onto (hypothesis p e z) ts = onto p (put (Separator Equals) e (put Zero z ts))
-body_onto (hyp_triple l x) ts = put (Keyword word.Triple) l (triple_onto x ts)
-body_onto (goal_equal l p c q) ts = put (Keyword word.Equal) l (onto p (put (Separator Comma) c (onto q ts)))
-body_onto (goal_below l p c q) ts = put (Keyword word.Below) l (onto p (put (Separator Comma) c (onto q ts)))
-body_onto (goal_triple l x) ts = put (Keyword word.Triple) l (triple_onto x ts)
-
--- the semicolon of an item, and then the tokens that follow
-abbrev pub ended : Item → List Lexeme → List Lexeme
-ended i ts = put (Separator Semicolon) i.semicolon ts
+body_onto (tests ns e) ts = names_onto ns (ended e ts)
+body_onto (actions ns e) ts = names_onto ns (ended e ts)
+body_onto (definition name q p e) ts = cons_token Name name (cons_token (Separator Equals) q (yield_before p (ended e ts)))
+body_onto (hypothesis p q z e) ts = yield_before p (cons_token (Separator Equals) q (cons_token Zero z (ended e ts)))
+body_onto (hyp_triple l x e) ts = cons_token (Keyword word.Triple) l (triple_onto x (ended e ts))
+body_onto (goal_equal l p c q e) ts = cons_token (Keyword word.Equal) l (sides_onto p c q (ended e ts))
+body_onto (goal_below l p c q e) ts = cons_token (Keyword word.Below) l (sides_onto p c q (ended e ts))
+body_onto (goal_triple l x e) ts = cons_token (Keyword word.Triple) l (triple_onto x (ended e ts))
 
 abbrev pub item_onto : Item → List Lexeme → List Lexeme
-item_onto i ts = put (Keyword (word_of i.body)) i.keyword (body_onto i.body (ended i ts))
+item_onto i ts = cons_token (Keyword (word_of i.body)) i.keyword (body_onto i.body ts)
 
 abbrev pub spelled : List Item → List Lexeme
 spelled [] = []
@@ -90,42 +92,42 @@ spelled (i ∷ is) = item_onto i (spelled is)
 -- ---- the rules on the token that follows a name or a parenthesis in a condition
 
 abbrev pub BracedObeys : Braced → List Lexeme → Type 0
-BracedObeys b ts = Obeys b.inner (put (Separator CurlyClose) b.right ts)
+BracedObeys b ts = MeetsLookahead b.inner (cons_token (Separator CurlyClose) b.right ts)
 
 abbrev pub TripleObeys : TriplePhrase → List Lexeme → Type 0
-TripleObeys x ts = BracedObeys x.pre (onto x.body (braced_onto x.post ts)) × Obeys x.body (braced_onto x.post ts) × BracedObeys x.post ts
+TripleObeys x ts = BracedObeys x.pre (yield_before x.body (braced_onto x.post ts)) × MeetsLookahead x.body (braced_onto x.post ts) × BracedObeys x.post ts
 
 abbrev pub SidesObey : Phrase term → Leaf → Phrase term → List Lexeme → Type 0
-SidesObey p c q ts = Obeys p (put (Separator Comma) c (onto q ts)) × Obeys q ts
+SidesObey p c q ts = MeetsLookahead p (cons_token (Separator Comma) c (yield_before q ts)) × MeetsLookahead q ts
 
 abbrev pub BodyObeys : Body → List Lexeme → Type 0
-BodyObeys (tests ns) ts = Unit {0}
-BodyObeys (actions ns) ts = Unit {0}
-BodyObeys (definition name e p) ts = Obeys p ts
-BodyObeys (hypothesis p e z) ts = Obeys p (put (Separator Equals) e (put Zero z ts))
-BodyObeys (hyp_triple l x) ts = TripleObeys x ts
-BodyObeys (goal_equal l p c q) ts = SidesObey p c q ts
-BodyObeys (goal_below l p c q) ts = SidesObey p c q ts
-BodyObeys (goal_triple l x) ts = TripleObeys x ts
+BodyObeys (tests ns e) ts = Unit {0}
+BodyObeys (actions ns e) ts = Unit {0}
+BodyObeys (definition name q p e) ts = MeetsLookahead p (ended e ts)
+BodyObeys (hypothesis p q z e) ts = MeetsLookahead p (cons_token (Separator Equals) q (cons_token Zero z (ended e ts)))
+BodyObeys (hyp_triple l x e) ts = TripleObeys x (ended e ts)
+BodyObeys (goal_equal l p c q e) ts = SidesObey p c q (ended e ts)
+BodyObeys (goal_below l p c q e) ts = SidesObey p c q (ended e ts)
+BodyObeys (goal_triple l x e) ts = TripleObeys x (ended e ts)
 
 abbrev pub ItemsObey : List Item → Type 0
 ItemsObey [] = Unit {0}
-ItemsObey (i ∷ is) = BodyObeys i.body (ended i (spelled is)) × ItemsObey is
+ItemsObey (i ∷ is) = BodyObeys i.body (spelled is) × ItemsObey is
 
 -- ---- nothing is too deep, and no number is too wide; braces are one level
 
 abbrev pub TripleFits : TriplePhrase → Type 0
-TripleFits x = Fits 1 x.pre.inner × Fits 0 x.body × Fits 1 x.post.inner
+TripleFits x = IsWithinLimits 1 x.pre.inner × IsWithinLimits 0 x.body × IsWithinLimits 1 x.post.inner
 
 abbrev pub BodyFits : Body → Type 0
-BodyFits (tests ns) = Unit {0}
-BodyFits (actions ns) = Unit {0}
-BodyFits (definition name e p) = Fits 0 p
-BodyFits (hypothesis p e z) = Fits 0 p
-BodyFits (hyp_triple l x) = TripleFits x
-BodyFits (goal_equal l p c q) = Fits 0 p × Fits 0 q
-BodyFits (goal_below l p c q) = Fits 0 p × Fits 0 q
-BodyFits (goal_triple l x) = TripleFits x
+BodyFits (tests ns e) = Unit {0}
+BodyFits (actions ns e) = Unit {0}
+BodyFits (definition name q p e) = IsWithinLimits 0 p
+BodyFits (hypothesis p q z e) = IsWithinLimits 0 p
+BodyFits (hyp_triple l x e) = TripleFits x
+BodyFits (goal_equal l p c q e) = IsWithinLimits 0 p × IsWithinLimits 0 q
+BodyFits (goal_below l p c q e) = IsWithinLimits 0 p × IsWithinLimits 0 q
+BodyFits (goal_triple l x e) = TripleFits x
 
 abbrev pub ItemsFit : List Item → Type 0
 ItemsFit [] = Unit {0}
@@ -137,6 +139,6 @@ pub record IsFile (items : List Item) (ts : List Lexeme) : Type 0 where
   pub obey : ItemsObey items
 
 -- and nothing in them is too deep or too wide
-pub record Spells (items : List Item) (ts : List Lexeme) : Type 0 where
+pub record AreSpelledBy (items : List Item) (ts : List Lexeme) : Type 0 where
   pub file : IsFile items ts
   pub fit : ItemsFit items

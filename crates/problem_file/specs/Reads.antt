@@ -6,23 +6,24 @@ use Rattle.kat_model.specs.Trees.{kat_tree}
 use Rattle.kat_tokens.specs.declared.lexer.TheConstants.{MAX_LEN}
 use Rattle.kat_tokens.specs.declared.fault.TextFault.{TextFault}
 use Rattle.kat_tokens.specs.declared.fault.TextFault.TheVariants.{NoMemory, TooLong, NotUtf8, BadToken, Syntax, NoGoal, NotYet}
-use Rattle.kat_tokens.specs.Marks.{Mark}
+use Rattle.kat_tokens.specs.TokenParts.{TokenParts}
 use Rattle.kat_tokens.specs.Lex.{Lexes, FirstBad}
-use Rattle.kat_syntax.specs.declared.sign.Sign.{Sign}
-use Rattle.kat_syntax.specs.declared.sign.Sign.TheVariants.{Keyword, Separator}
-use Rattle.kat_syntax.specs.declared.sign.Keyword.TheVariants as word
-use Rattle.kat_syntax.specs.declared.sign.Separator.TheVariants.{Becomes}
+use Rattle.kat_syntax.specs.declared.terminal.Terminal.{Terminal}
+use Rattle.kat_syntax.specs.declared.terminal.Terminal.TheVariants.{Keyword, Separator}
+use Rattle.kat_syntax.specs.declared.terminal.Keyword.TheVariants as word
+use Rattle.kat_syntax.specs.declared.terminal.Separator.TheVariants.{Becomes}
 use Rattle.kat_syntax.specs.Lexemes.{Lexeme, lexeme, lexeme_of}
 use Rattle.kat_syntax.specs.Parsed.{◌>>=◌}
 use Rattle.problem_file.specs.Files.{State, start}
-use Rattle.problem_file.specs.Items.{scan_file, walk}
-use Rattle.problem_file.specs.Phrases.{Item, Spells}
+use Rattle.problem_file.specs.Syntax.{scan_file}
+use Rattle.problem_file.specs.Making.{walk}
+use Rattle.problem_file.specs.Phrases.{Item, AreSpelledBy}
 use Rattle.problem_file.specs.Sound.{MakeAll}
 use Rattle.problem_file.specs.Trees.{goal_tree}
 use Rattle.problem_file.specs.declared.file.File.{File}
 
 -- a token that only programs and their items have
-abbrev pub is_later : Sign → Bool
+abbrev pub is_later : Terminal → Bool
 is_later (Keyword word.Var) = true
 is_later (Keyword word.Prog) = true
 is_later (Keyword word.Rounds) = true
@@ -36,12 +37,12 @@ has_later (lexeme s at text ∷ ts) = is_later s || has_later ts
 
 -- The bytes say this: they are the tokens of a file without programs, nothing in them is too deep or too wide, each item
 -- makes what it is to make, and one is a goal.
-pub record Says (bytes : List ℕ) (s : State) : Type 0 where
-  pub marks : List Mark
-  pub lexes : Lexes bytes marks
-  pub all_built : has_later (map lexeme_of marks) ≡ false
+pub record TextSays (bytes : List ℕ) (s : State) : Type 0 where
+  pub parts_of_tokens : List TokenParts
+  pub lexes : Lexes bytes parts_of_tokens
+  pub all_built : has_later (map lexeme_of parts_of_tokens) ≡ false
   pub items : List Item
-  pub spells : Spells items (map lexeme_of marks)
+  pub spells : AreSpelledBy items (map lexeme_of parts_of_tokens)
   pub make : MakeAll start items s
   pub has_goal : IsSome s.goal
 
@@ -69,9 +70,9 @@ tested ts = check_built ts >>= λ u. scan_file ts >>= λ v. walk start ts >>= ch
 
 -- the bytes have tokens, and this is the first fault in them
 pub record Refuses (bytes : List ℕ) (e : TextFault) : Type 0 where
-  pub marks : List Mark
-  pub lexes : Lexes bytes marks
-  pub tests : placing (length bytes) (tested (map lexeme_of marks)) ≡ Err e
+  pub parts_of_tokens : List TokenParts
+  pub lexes : Lexes bytes parts_of_tokens
+  pub tests : placing (length bytes) (tested (map lexeme_of parts_of_tokens)) ≡ Err e
 
 -- the first fault of the bytes, in the order of refusals
 pub data FirstFault (bytes : List ℕ) (e : TextFault) : Type 0 where
@@ -83,7 +84,7 @@ pub data FirstFault (bytes : List ℕ) (e : TextFault) : Type 0 where
 -- ---- what is read
 
 -- the program's file holds what was said
-pub record Holds (f : File) (s : State) : Type 0 where
+pub record FileHolds (f : File) (s : State) : Type 0 where
   pub scope : f.scope ≡ s.world
   pub tests : f.tests ≡ s.tests
   pub actions : f.actions ≡ s.actions
@@ -94,16 +95,16 @@ pub record Holds (f : File) (s : State) : Type 0 where
 -- the bytes say what the file holds
 pub record Reads (bytes : List ℕ) (f : File) : Type 0 where
   pub state : State
-  pub says : Says bytes state
-  pub holds : Holds f state
+  pub says : TextSays bytes state
+  pub holds : FileHolds f state
 
 -- what the tests of tokens give
 abbrev pub HoldsTested : Result File TextFault → Result State TextFault → Type 0
-HoldsTested (Ok f) m = (s : State) × (m ≡ Ok s) × Holds f s
+HoldsTested (Ok f) m = (s : State) × (m ≡ Ok s) × FileHolds f s
 HoldsTested (Err NoMemory) m = Unit {0}
 HoldsTested (Err e) m = m ≡ Err e
 
--- what is answered to bytes: a file that holds what they say, or want of memory, or their first fault
+-- what is answered to bytes: a file that holds what they say, or out of memory, or their first fault
 abbrev pub Answers : List ℕ → Result File TextFault → Type 0
 Answers bytes (Ok f) = Reads bytes f
 Answers bytes (Err e) = (e ≡ NoMemory) ⊎ FirstFault bytes e

@@ -2,12 +2,12 @@
 use Rattle.std.specs.Prelude.{◌≡◌, ◌≤◌, ◌<◌, ℕ, ◌+◌, List, [], ◌∷◌, length, Bool, true, false, Ok, None}
 use Rattle.kat_model.specs.Trees.{Term, term_size}
 use Rattle.kat_model.specs.Expressions.{CondTree}
-use Rattle.kat_syntax.specs.Actions.{around}
+use Rattle.kat_syntax.specs.Actions.{context}
 use Rattle.kat_syntax.specs.Phrases.{term, cond, Leaf, Phrase}
 use Rattle.kat_syntax.specs.Folds.{fold}
 use Rattle.kat_text.specs.declared.meaning.Meaning.TheVariants.{Test, Action}
 use Rattle.kat_text.specs.Sizes.{cond_size, largest_expr}
-use Rattle.kat_text.specs.Worlds.{World, IsUndeclared, declared}
+use Rattle.kat_text.specs.ScopeParts.{ScopeParts, IsUndeclared, declared}
 use Rattle.kat_text.specs.Building.{trees}
 use Rattle.kat_text.specs.Sound.{IsSound, nesting}
 use Rattle.problem_file.specs.Files.{GoalTree, equal, below, triple, State, define, state_hyp, state_goal, triple_term}
@@ -38,15 +38,15 @@ EachName each s (one_name l) t = each s l t
 EachName {S} each s (more_names l c ns) t = (u : S) × each s l u × EachName each u ns t
 
 -- the phrase is of this term, which is not too large
-pub record IsTerm (w : World) (p : Phrase term) (tree : Term) : Type 0 where
-  pub sound : IsSound w (around 0 false false) p
-  pub built : fold (trees w) (around 0 false false) p (λ e. e ∷ []) ≡ Ok tree
+pub record IsTerm (w : ScopeParts) (p : Phrase term) (tree : Term) : Type 0 where
+  pub sound : IsSound w (context 0 false false) p
+  pub built : fold (trees w) (context 0 false false) p (λ e. e ∷ []) ≡ Ok tree
   pub small : term_size tree ≤ 100000
 
 -- the phrase, which stands in braces, is of this condition, which is not too large
-pub record IsCond (w : World) (compares : Bool) (p : Phrase cond) (tree : CondTree) : Type 0 where
-  pub sound : IsSound w (around 1 false compares) p
-  pub built : fold (trees w) (around 1 false compares) p (λ b. b ∷ []) ≡ Ok tree
+pub record IsCond (w : ScopeParts) (compares : Bool) (p : Phrase cond) (tree : CondTree) : Type 0 where
+  pub sound : IsSound w (context 1 false compares) p
+  pub built : fold (trees w) (context 1 false compares) p (λ b. b ∷ []) ≡ Ok tree
   pub narrow : largest_expr tree ≤ 1000
   pub small : cond_size tree ≤ 100000
 
@@ -106,14 +106,14 @@ pub record AsksTriple (s : State) (x : TriplePhrase) (t : State) : Type 0 where
 
 -- what an item makes of a state
 abbrev pub Makes : State → Body → State → Type 0
-Makes s (tests ns) t = EachName DeclaresTest s ns t
-Makes s (actions ns) t = EachName DeclaresAction s ns t
-Makes s (definition name e p) t = Defines s name p t
-Makes s (hypothesis p e z) t = States s p t
-Makes s (hyp_triple l x) t = StatesTriple s x t
-Makes s (goal_equal l p c q) t = AsksSides equal s p q t
-Makes s (goal_below l p c q) t = AsksSides below s p q t
-Makes s (goal_triple l x) t = AsksTriple s x t
+Makes s (tests ns e) t = EachName DeclaresTest s ns t
+Makes s (actions ns e) t = EachName DeclaresAction s ns t
+Makes s (definition name q p e) t = Defines s name p t
+Makes s (hypothesis p q z e) t = States s p t
+Makes s (hyp_triple l x e) t = StatesTriple s x t
+Makes s (goal_equal l p c q e) t = AsksSides equal s p q t
+Makes s (goal_below l p c q e) t = AsksSides below s p q t
+Makes s (goal_triple l x e) t = AsksTriple s x t
 
 -- and what they all make
 abbrev pub MakeAll : State → List Item → State → Type 0

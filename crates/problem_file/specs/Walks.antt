@@ -1,53 +1,51 @@
--- What the items that were walked have made, as a state.
-use Rattle.std.specs.Prelude.{◌≡◌, ℕ, List, drop, map, Result, Ok, Err}
-use Rattle.std.specs.Option.{option_map}
+-- What the program's functions answer, as steps of the items.
+use Rattle.std.specs.Prelude.{◌≡◌, ℕ, List, drop, Result, Ok, Err}
 use Rattle.kat_model.specs.declared.tree.Kat.{Kat}
 use Rattle.kat_model.specs.declared.expression.Cond.{Cond}
 use Rattle.kat_model.specs.Trees.{Term, kat_tree}
 use Rattle.kat_model.specs.Expressions.{CondTree, cond_tree}
 use Rattle.kat_tokens.specs.declared.fault.TextFault.{TextFault}
 use Rattle.kat_tokens.specs.declared.fault.TextFault.TheVariants.{NoMemory}
-use Rattle.kat_syntax.specs.Lexemes.{Lexeme}
-use Rattle.problem_file.specs.Files.{GoalTree, State, state_goal}
-use Rattle.problem_file.specs.Items.{Stepped, TripleExtent}
-use Rattle.problem_file.specs.Trees.{side_tree, goal_tree}
-use Rattle.problem_file.specs.declared.file.Side.{Side}
+use Rattle.kat_tokens.specs.declared.token.Token.{Token}
+use Rattle.kat_syntax.specs.Lexemes.{Lexeme, lexemes}
+use Rattle.kat_syntax.specs.Parsed.{Parsed, Reads}
+use Rattle.problem_file.specs.declared.phrase.Measured.{Measured}
+use Rattle.problem_file.specs.declared.phrase.Sides.{Sides}
 use Rattle.problem_file.specs.declared.phrase.Triple.{Triple}
-use Rattle.problem_file.specs.declared.walk.Walk.{Walk}
+use Rattle.problem_file.specs.ItemActions.{Measurement, SidesMeasurement, TripleMeasurement}
 
--- the phrases of a triple among the tokens
-abbrev pub triple_of : List Lexeme → Triple → TripleExtent
-triple_of ts t = record { pre = t.pre; body = t.body; post = t.post; pre_at = drop t.pre_at ts; body_at = drop t.body_at ts; post_at = drop t.post_at ts }
+-- a phrase among the tokens
+abbrev pub measured_of : {X : Type 0} → List Lexeme → Measured X → Measurement X
+measured_of ts m = record { measure = m.measure; tokens = drop m.from ts }
 
-abbrev pub state_of : Walk → State
-state_of w = record { world = w.scope; tests = w.tests; actions = w.actions; hyps = map kat_tree w.hyps.items; goal = option_map goal_tree w.goal; size = w.size }
+abbrev pub sides_of : {X : Type 0} → List Lexeme → Sides X → SidesMeasurement X
+sides_of ts m = record { left = measured_of ts m.left; right = measured_of ts m.right }
 
--- what a step answers and leaves is what the step is
-abbrev pub Steps : List Lexeme → Result ℕ TextFault → State → Stepped State → Type 0
-Steps ts (Ok end) s m = m ≡ Ok (s, drop end ts)
-Steps ts (Err NoMemory) s m = Unit {0}
-Steps ts (Err e) s m = m ≡ Err e
+abbrev pub triple_of : {X : Type 0} → List Lexeme → Triple X → TripleMeasurement X
+triple_of ts m = record { pre = measured_of ts m.pre; body = measured_of ts m.body; post = measured_of ts m.post }
+
+-- what is told of a part that begins at an index is what the part is, or its fault
+abbrev pub Tells : {X Y : Type 0} → (List Lexeme → X → Y) → List Token → ℕ → Result (X × ℕ) TextFault → (List Lexeme → Parsed Y) → Type 0
+Tells means toks from result f = Reads ⊥ (means (lexemes toks)) (lexemes toks) result (f (drop from (lexemes toks)))
+
+-- a step answers an index and leaves a state, or answers a fault; `memory` is what may be said where memory runs out
+abbrev pub StepEnds : {S : Type 0} → Type 0 → List Lexeme → Result ℕ TextFault → S → Parsed S → Type 0
+StepEnds memory ts (Ok end) s m = m ≡ Ok (s, drop end ts)
+StepEnds memory ts (Err NoMemory) s m = memory
+StepEnds memory ts (Err e) s m = m ≡ Err e
+
+-- so with the step that begins at an index
+abbrev pub Steps : {S : Type 0} → Type 0 → List Token → ℕ → Result ℕ TextFault → S → (List Lexeme → Parsed S) → Type 0
+Steps memory toks from result s f = StepEnds memory (lexemes toks) result s (f (drop from (lexemes toks)))
 
 -- the same of a step that takes no tokens
-abbrev pub Does : {X : Type 0} → Result X TextFault → State → Result State TextFault → Type 0
-Does (Ok x) s m = m ≡ Ok s
-Does (Err NoMemory) s m = Unit {0}
-Does (Err e) s m = m ≡ Err e
-
--- a measured phrase
-abbrev pub Measures : List Lexeme → Result (Triple × ℕ) TextFault → Stepped TripleExtent → Type 0
-Measures ts (Ok x) m = m ≡ Ok (triple_of ts x.0, drop x.1 ts)
-Measures ts (Err NoMemory) m = ⊥
-Measures ts (Err e) m = m ≡ Err e
+abbrev pub Does : {S X : Type 0} → Type 0 → Result X TextFault → S → Result S TextFault → Type 0
+Does memory (Ok x) s m = m ≡ Ok s
+Does memory (Err NoMemory) s m = memory
+Does memory (Err e) s m = m ≡ Err e
 
 -- the trees of a triple's phrases
 abbrev pub Builds : Result (Cond × Kat × Cond) TextFault → Result (CondTree × Term × CondTree) TextFault → Type 0
 Builds (Ok x) m = m ≡ Ok (cond_tree x.0, kat_tree x.1, cond_tree x.2)
 Builds (Err NoMemory) m = Unit {0}
 Builds (Err e) m = m ≡ Err e
-
--- the sides of a goal, which is not stated yet
-abbrev pub Sides : List Lexeme → (Term → Term → GoalTree) → Result (Side × Side × ℕ) TextFault → State → Stepped State → Type 0
-Sides ts f (Ok x) s m = m ≡ Ok (state_goal s (f (side_tree x.0) (side_tree x.1)), drop x.2 ts)
-Sides ts f (Err NoMemory) s m = Unit {0}
-Sides ts f (Err e) s m = m ≡ Err e

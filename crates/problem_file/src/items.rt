@@ -1,314 +1,317 @@
-//! What each item of a text does, once the syntax of the whole text was tested.
-use crate::file::{Goal, Side};
+//! The items of a problem file, gone through once for any reading.
+ghost use Rattle.std.specs.Prelude.{◌≡◌, ◌+◌, ◌<◌, ◌≤◌, length, IfOk};
+ghost use Rattle.kat_syntax.specs.Lexemes.{lexemes};
+ghost use Rattle.problem_file.specs.Tokens.{AreTokens};
+ghost use Rattle.problem_file.specs.Items.{at_name, over_names, term_by, braced_by, triple_by};
+ghost use Rattle.problem_file.specs.Items.{sides_by, declaration_by, meaning_by, definition_by};
+ghost use Rattle.problem_file.specs.Items.{zero_by, hyp_by, comparison_by, triple_goal_by, goal_by};
+ghost use Rattle.problem_file.specs.Items.{item_by, items_by};
+ghost use Rattle.problem_file.specs.Walks.{measured_of, sides_of, triple_of, Tells, Steps, Does};
+
+use crate::item_reading::{Comparison, Declared, ItemReading};
 use crate::names::name_at;
-use crate::phrase::Triple;
-use crate::punctuation::{
-    close_curly, comma, equals, is_comma_at, is_triple_at, open_curly, semicolon, zero,
-};
-use crate::triple::triple_term;
-use crate::walk::{Declared, Walk};
-use kat_model::{Cond, Kat};
-use kat_syntax::{Keyword, Sign, sign_at};
-use kat_text::{Extent, build_cond, build_term, measure_cond, measure_term};
+use crate::phrase::{Measured, Sides, Triple};
+use kat_syntax::{Keyword, Separator, Terminal, expect, is_at, syntax_fault_at, terminal_at};
 use kat_tokens::{TextFault, Token};
-use std::alloc::Global;
 
-const MOST_HYPS: usize = 8_192;
+// Declares the name at an index, and gives the index after it.
+#[tactic(auto, using(kat_syntax::proofs::Tokens::next_drop))]
+fn read_name<R: ItemReading>(
+    reading: &mut R,
+    toks: &[Token],
+    from: usize,
+    what: Declared,
+) -> Result<usize, TextFault>
+    requires tokens { AreTokens toks.now }
+    ensures value { Steps R.memory toks.now from result (R.state reading.new) (
+        at_name ((R.actions).declare what (R.state reading.old))
+        ) }
+    ensures goes { IfOk result (λ end. (end ≡ from + 1) × (from < length toks.now)) }
+{
+    let name = name_at(toks, from)?;
+    reading.declare(what, name)?;
+    Ok(from + 1)
+}
 
-impl Walk {
-    ghost use Rattle.std.specs.Prelude.{◌≡◌, ◌+◌, ◌<◌, ◌≤◌, length, drop, IfOk};
-    ghost use Rattle.kat_syntax.specs.Lexemes.{lexemes};
-    ghost use Rattle.problem_file.specs.Tokens.{AreTokens};
-    ghost use Rattle.problem_file.specs.Items.{is_semicolon, and_then, at_name, over_names, declare, braced_extent, triple_extent, triple_trees, define_term, add_triple_hyp, add_term_hyp, add_hyp, sides_in, goal_triple_in, goal_in, add_goal, walk_item};
-    ghost use Rattle.problem_file.specs.Walks.{state_of, triple_of, Steps, Measures, Builds, Sides};
-    ghost use Rattle.problem_file.specs.Files.{GoalTree};
-    ghost use Rattle.kat_model.specs.Trees.{Term};
-    ghost use Rattle.kat_syntax.specs.Parsed.{Reads};
-
-    // The name at a place, declared; with the index after it.
-    #[tactic(auto, using(crate::proofs::Lists::next_drop))]
-    fn name(&mut self, toks: &[Token], at: usize, what: Declared) -> Result<usize, TextFault>
-        requires tokens { AreTokens toks.now }
-        ensures value { Steps (lexemes toks.now) result (state_of self.new) (at_name (declare what (state_of self.old)) (drop at (lexemes toks.now))) }
-        ensures goes { IfOk result (λ end. (end ≡ at + 1) × (at < length toks.now)) }
-    {
-        let name = name_at(toks, at)?;
-        self.declare(what, name)?;
-        Ok(at + 1)
-    }
-
-    // Names with commas between, each of which is declared.
-    #[tactic(auto, using(crate::proofs::Lists::next_drop))]
-    fn names(&mut self, toks: &[Token], from: usize, what: Declared) -> Result<usize, TextFault>
-        requires tokens { AreTokens toks.now }
-        ensures value { Steps (lexemes toks.now) result (state_of self.new) (over_names (declare what) (state_of self.old) (drop from (lexemes toks.now))) }
-        ensures goes { IfOk result (λ end. (from < end) × (end ≤ length toks.now)) }
-    {
-        let mut at = from;
-        'names: loop {
-            at = self.name(toks, at, what)?;
-            if !is_comma_at(toks, at) {
-                return Ok(at);
-            }
-            at += 1;
+// Declares names with commas between.
+#[tactic(auto, using(kat_syntax::proofs::Tokens::next_drop))]
+fn read_names<R: ItemReading>(
+    reading: &mut R,
+    toks: &[Token],
+    from: usize,
+    what: Declared,
+) -> Result<usize, TextFault>
+    requires tokens { AreTokens toks.now }
+    ensures value { Steps R.memory toks.now from result (R.state reading.new) (
+        over_names ((R.actions).declare what) (R.state reading.old)
+        ) }
+    ensures goes { IfOk result (λ end. (from < end) × (end ≤ length toks.now)) }
+{
+    let mut at = from;
+    'names: loop {
+        at = read_name(reading, toks, at, what)?;
+        if !is_at(toks, at, Terminal::Separator(Separator::Comma)) {
+            return Ok(at);
         }
+        at += 1;
     }
+}
 
-    fn declarations(
-        &mut self,
-        toks: &[Token],
-        from: usize,
-        what: Declared,
-    ) -> Result<usize, TextFault>
-        requires tokens { AreTokens toks.now }
-        ensures value { Steps (lexemes toks.now) result (state_of self.new) (and_then is_semicolon (over_names (declare what) (state_of self.old) (drop from (lexemes toks.now)))) }
-        ensures goes { IfOk result (λ end. (from < end) × (end ≤ length toks.now)) }
-    {
-        let end = self.names(toks, from, what)?;
-        semicolon(toks, end)
+fn read_declaration<R: ItemReading>(
+    reading: &mut R,
+    toks: &[Token],
+    from: usize,
+    what: Declared,
+) -> Result<usize, TextFault>
+    requires tokens { AreTokens toks.now }
+    ensures value { Steps R.memory toks.now from result (R.state reading.new) (
+        declaration_by R.actions what (R.state reading.old)
+        ) }
+    ensures goes { IfOk result (λ end. (from < end) × (end ≤ length toks.now)) }
+{
+    let end = read_names(reading, toks, from, what)?;
+    expect(toks, end, Terminal::Separator(Separator::Semicolon))
+}
+
+fn term_at<R: ItemReading>(
+    reading: &R,
+    toks: &[Token],
+    from: usize,
+) -> Result<(Measured<R::Measure>, usize), TextFault>
+    ensures value { Tells measured_of toks.now from result (term_by R.actions (R.state reading.now)) }
+    ensures goes { IfOk result (λ x. (from < x.1) × (x.1 ≤ length toks.now)) }
+{
+    let (measure, end) = reading.measure_term(toks, from)?;
+    Ok((Measured { measure, from }, end))
+}
+
+// A condition in braces, and the index after the closing one.
+fn braced_at<R: ItemReading>(
+    reading: &R,
+    toks: &[Token],
+    from: usize,
+    compares: bool,
+) -> Result<(Measured<R::Measure>, usize), TextFault>
+    ensures value { Tells measured_of toks.now from result (braced_by R.actions (R.state reading.now) compares) }
+    ensures goes { IfOk result (λ x. (from < x.1) × (x.1 ≤ length toks.now)) }
+{
+    let from = expect(toks, from, Terminal::Separator(Separator::CurlyOpen))?;
+    let (measure, end) = reading.measure_cond(toks, from, compares)?;
+    let end = expect(toks, end, Terminal::Separator(Separator::CurlyClose))?;
+    Ok((Measured { measure, from }, end))
+}
+
+fn triple_at<R: ItemReading>(
+    reading: &R,
+    toks: &[Token],
+    from: usize,
+    compares: bool,
+) -> Result<(Triple<R::Measure>, usize), TextFault>
+    ensures value { Tells triple_of toks.now from result (triple_by R.actions (R.state reading.now) compares) }
+    ensures goes { IfOk result (λ x. (from < x.1) × (x.1 ≤ length toks.now)) }
+{
+    let (pre, end) = braced_at(reading, toks, from, compares)?;
+    let (body, end) = term_at(reading, toks, end)?;
+    let (post, end) = braced_at(reading, toks, end, compares)?;
+    Ok((Triple { pre, body, post }, end))
+}
+
+fn sides_at<R: ItemReading>(
+    reading: &R,
+    toks: &[Token],
+    from: usize,
+) -> Result<(Sides<R::Measure>, usize), TextFault>
+    ensures value { Tells sides_of toks.now from result (sides_by R.actions (R.state reading.now)) }
+    ensures goes { IfOk result (λ x. (from < x.1) × (x.1 ≤ length toks.now)) }
+{
+    let (left, end) = term_at(reading, toks, from)?;
+    let end = expect(toks, end, Terminal::Separator(Separator::Comma))?;
+    let (right, end) = term_at(reading, toks, end)?;
+    Ok((Sides { left, right }, end))
+}
+
+// A term between `=` and a semicolon.
+fn meaning_at<R: ItemReading>(
+    reading: &R,
+    toks: &[Token],
+    from: usize,
+) -> Result<(Measured<R::Measure>, usize), TextFault>
+    ensures value { Tells measured_of toks.now from result (meaning_by R.actions (R.state reading.now)) }
+    ensures goes { IfOk result (λ x. (from < x.1) × (x.1 ≤ length toks.now)) }
+{
+    let from = expect(toks, from, Terminal::Separator(Separator::Equals))?;
+    let (term, end) = term_at(reading, toks, from)?;
+    let end = expect(toks, end, Terminal::Separator(Separator::Semicolon))?;
+    Ok((term, end))
+}
+
+#[tactic(auto, using(kat_syntax::proofs::Tokens::next_drop))]
+fn read_definition<R: ItemReading>(
+    reading: &mut R,
+    toks: &[Token],
+    from: usize,
+    at: usize,
+) -> Result<usize, TextFault>
+    requires tokens { AreTokens toks.now }
+    ensures value { Steps R.memory toks.now from result (R.state reading.new) (
+        definition_by R.actions (R.state reading.old) at
+        ) }
+    ensures goes { IfOk result (λ end. (from < end) × (end ≤ length toks.now)) }
+{
+    let name = name_at(toks, from)?;
+    reading.check_new(name)?;
+    let (term, end) = meaning_at(reading, toks, from + 1)?;
+    reading.define(toks, at, name, term)?;
+    Ok(end)
+}
+
+fn read_zero<R: ItemReading>(
+    reading: &mut R,
+    toks: &[Token],
+    from: usize,
+    at: usize,
+) -> Result<usize, TextFault>
+    ensures value { Steps R.memory toks.now from result (R.state reading.new) (
+        zero_by R.actions (R.state reading.old) at
+        ) }
+    ensures goes { IfOk result (λ end. (from < end) × (end ≤ length toks.now)) }
+{
+    let (term, end) = term_at(reading, toks, from)?;
+    let end = expect(toks, end, Terminal::Separator(Separator::Equals))?;
+    let end = expect(toks, end, Terminal::Zero)?;
+    let end = expect(toks, end, Terminal::Separator(Separator::Semicolon))?;
+    reading.state_zero(toks, at, term)?;
+    Ok(end)
+}
+
+#[tactic(auto, using(kat_syntax::proofs::Tokens::next_drop))]
+fn read_hyp<R: ItemReading>(
+    reading: &mut R,
+    toks: &[Token],
+    from: usize,
+    at: usize,
+) -> Result<usize, TextFault>
+    ensures value { Steps R.memory toks.now from result (R.state reading.new) (
+        hyp_by R.actions (R.state reading.old) at
+        ) }
+    ensures goes { IfOk result (λ end. (from < end) × (end ≤ length toks.now)) }
+{
+    reading.begin_hyp(at)?;
+    if !is_at(toks, from, Terminal::Keyword(Keyword::Triple)) {
+        return read_zero(reading, toks, from, at);
     }
+    let (triple, end) = triple_at(reading, toks, from + 1, false)?;
+    let end = expect(toks, end, Terminal::Separator(Separator::Semicolon))?;
+    reading.state_triple(toks, at, triple)?;
+    Ok(end)
+}
 
-    // How large a condition in braces is, with the index after the closing one.
-    fn braced(
-        &self,
-        toks: &[Token],
-        from: usize,
-        compares: bool,
-    ) -> Result<(Extent, usize), TextFault>
-        ensures value { Reads ⊥ (λ m. m) (lexemes toks.now) result (braced_extent (state_of self.now) compares (drop from (lexemes toks.now))) }
-        ensures goes { IfOk result (λ x. (from + 1 < x.1) × (x.1 ≤ length toks.now)) }
-    {
-        let at = open_curly(toks, from)?;
-        let (extent, at) = measure_cond(toks, at, 1, &self.scope, compares)?;
-        let end = close_curly(toks, at)?;
-        Ok((extent, end))
-    }
+fn read_comparison<R: ItemReading>(
+    reading: &mut R,
+    toks: &[Token],
+    from: usize,
+    at: usize,
+    comparison: Comparison,
+) -> Result<usize, TextFault>
+    ensures value { Steps R.memory toks.now from result (R.state reading.new) (
+        comparison_by R.actions comparison (R.state reading.old) at
+        ) }
+    ensures goes { IfOk result (λ end. (from < end) × (end ≤ length toks.now)) }
+{
+    let (sides, end) = sides_at(reading, toks, from)?;
+    let end = expect(toks, end, Terminal::Separator(Separator::Semicolon))?;
+    reading.ask_sides(toks, at, comparison, sides)?;
+    Ok(end)
+}
 
-    #[tactic(auto, using(crate::proofs::Lists::next_drop))]
-    fn triple(
-        &self,
-        toks: &[Token],
-        from: usize,
-        compares: bool,
-    ) -> Result<(Triple, usize), TextFault>
-        ensures value { Measures (lexemes toks.now) result (triple_extent (state_of self.now) compares (drop from (lexemes toks.now))) }
-        ensures goes { IfOk result (λ x. (from < x.1) × (x.1 ≤ length toks.now)) }
-    {
-        let (pre, body_at) = self.braced(toks, from, compares)?;
-        let (body, post_at) = measure_term(toks, body_at, 0, &self.scope)?;
-        let (post, end) = self.braced(toks, post_at, compares)?;
-        let triple = Triple {
-            pre,
-            body,
-            post,
-            pre_at: from + 1,
-            body_at,
-            post_at: post_at + 1,
-        };
-        Ok((triple, end))
-    }
+fn read_triple_goal<R: ItemReading>(
+    reading: &mut R,
+    toks: &[Token],
+    from: usize,
+    at: usize,
+) -> Result<usize, TextFault>
+    ensures value { Steps R.memory toks.now from result (R.state reading.new) (
+        triple_goal_by R.actions (R.state reading.old) at
+        ) }
+    ensures goes { IfOk result (λ end. (from < end) × (end ≤ length toks.now)) }
+{
+    let (triple, end) = triple_at(reading, toks, from, true)?;
+    let end = expect(toks, end, Terminal::Separator(Separator::Semicolon))?;
+    reading.ask_triple(toks, at, triple)?;
+    Ok(end)
+}
 
-    // The trees of a triple's phrases.
-    fn trees(
-        &self,
-        alloc: Global,
-        toks: &[Token],
-        triple: Triple,
-        compares: bool,
-    ) -> Result<(Cond, Kat, Cond), TextFault>
-        ensures { Builds result (triple_trees (state_of self.now) compares (triple_of (lexemes toks.now) triple)) }
-    {
-        let (pre, _) = build_cond(alloc, toks, triple.pre_at, 1, &self.scope, compares)?;
-        let (body, _) = build_term(alloc, toks, triple.body_at, 0, &self.scope)?;
-        let (post, _) = build_cond(alloc, toks, triple.post_at, 1, &self.scope, compares)?;
-        Ok((pre, body, post))
-    }
-
-    // A definition, in an item that begins at this place.
-    #[tactic(auto, using(crate::proofs::Lists::next_drop))]
-    fn define(
-        &mut self,
-        alloc: Global,
-        toks: &[Token],
-        from: usize,
-        at: usize,
-    ) -> Result<usize, TextFault>
-        requires tokens { AreTokens toks.now }
-        ensures value { Steps (lexemes toks.now) result (state_of self.new) (define_term (state_of self.old) at (drop from (lexemes toks.now))) }
-        ensures goes { IfOk result (λ end. (from < end) × (end ≤ length toks.now)) }
-    {
-        let name = name_at(toks, from)?;
-        self.check_new(name)?;
-        let start = equals(toks, from + 1)?;
-        let (extent, end) = measure_term(toks, start, 0, &self.scope)?;
-        let end = semicolon(toks, end)?;
-        self.check_size(at, extent.nodes)?;
-        self.grow(at, extent.nodes)?;
-        let (tree, _) = build_term(alloc, toks, start, 0, &self.scope)?;
-        self.scope.define_term(name, tree, extent.nesting)?;
-        Ok(end)
-    }
-
-    fn add_triple_hyp(
-        &mut self,
-        alloc: Global,
-        toks: &[Token],
-        from: usize,
-        at: usize,
-    ) -> Result<usize, TextFault>
-        ensures value { Steps (lexemes toks.now) result (state_of self.new) (add_triple_hyp (state_of self.old) at (drop from (lexemes toks.now))) }
-        ensures goes { IfOk result (λ end. (from < end) × (end ≤ length toks.now)) }
-    {
-        let (triple, end) = self.triple(toks, from, false)?;
-        let end = semicolon(toks, end)?;
-        let nodes = triple.nodes().saturating_add(5);
-        self.check_size(at, nodes)?;
-        self.grow(at, nodes)?;
-        let (pre, body, post) = self.trees(alloc, toks, triple, false)?;
-        self.hyps.push(triple_term(alloc, pre, body, post)?)?;
-        Ok(end)
-    }
-
-    fn add_term_hyp(
-        &mut self,
-        alloc: Global,
-        toks: &[Token],
-        from: usize,
-        at: usize,
-    ) -> Result<usize, TextFault>
-        ensures value { Steps (lexemes toks.now) result (state_of self.new) (add_term_hyp (state_of self.old) at (drop from (lexemes toks.now))) }
-        ensures goes { IfOk result (λ end. (from < end) × (end ≤ length toks.now)) }
-    {
-        let (extent, end) = measure_term(toks, from, 0, &self.scope)?;
-        let end = equals(toks, end)?;
-        let end = zero(toks, end)?;
-        let end = semicolon(toks, end)?;
-        self.check_size(at, extent.nodes)?;
-        self.grow(at, extent.nodes)?;
-        let (tree, _) = build_term(alloc, toks, from, 0, &self.scope)?;
-        self.hyps.push(tree)?;
-        Ok(end)
-    }
-
-    fn add_hyp(
-        &mut self,
-        alloc: Global,
-        toks: &[Token],
-        from: usize,
-        at: usize,
-    ) -> Result<usize, TextFault>
-        ensures value { Steps (lexemes toks.now) result (state_of self.new) (add_hyp (state_of self.old) at (drop from (lexemes toks.now))) }
-        ensures goes { IfOk result (λ end. (from < end) × (end ≤ length toks.now)) }
-    {
-        if self.hyps.len() >= MOST_HYPS {
-            return Err(TextFault::TooMany(at));
+fn read_goal<R: ItemReading>(
+    reading: &mut R,
+    toks: &[Token],
+    from: usize,
+    at: usize,
+) -> Result<usize, TextFault>
+    ensures value { Steps R.memory toks.now from result (R.state reading.new) (
+        goal_by R.actions (R.state reading.old) at
+        ) }
+    ensures goes { IfOk result (λ end. (from < end) × (end ≤ length toks.now)) }
+{
+    reading.begin_goal(at)?;
+    match terminal_at(toks, from) {
+        Some((Terminal::Keyword(Keyword::Equal), _)) => {
+            read_comparison(reading, toks, from + 1, at, Comparison::Equal)
         }
-        if is_triple_at(toks, from) {
-            return self.add_triple_hyp(alloc, toks, from + 1, at);
+        Some((Terminal::Keyword(Keyword::Below), _)) => {
+            read_comparison(reading, toks, from + 1, at, Comparison::Below)
         }
-        self.add_term_hyp(alloc, toks, from, at)
+        Some((Terminal::Keyword(Keyword::Triple), _)) => read_triple_goal(
+            reading,
+            toks,
+            from + 1,
+            at,
+        ),
+        _ => Err(syntax_fault_at(toks, from)),
     }
+}
 
-    // The sides of a goal, as they stand.
-    fn sides(
-        &mut self,
-        alloc: Global,
-        toks: &[Token],
-        from: usize,
-        at: usize,
-    ) -> Result<(Side, Side, usize), TextFault>
-        ensures value { (f : Term → Term → GoalTree) → Sides (lexemes toks.now) f result (state_of self.new) (sides_in (state_of self.old) at f (drop from (lexemes toks.now))) }
-        ensures goes { IfOk result (λ x. (from < x.2) × (x.2 ≤ length toks.now)) }
-    {
-        let (left, end) = measure_term(toks, from, 0, &self.scope)?;
-        let second = comma(toks, end)?;
-        let (right, end) = measure_term(toks, second, 0, &self.scope)?;
-        let end = semicolon(toks, end)?;
-        self.check_size(at, left.nodes)?;
-        self.check_size(at, right.nodes)?;
-        self.grow(at, left.nodes.saturating_add(right.nodes))?;
-        let (left, _) = build_term(alloc, toks, from, 0, &self.scope)?;
-        let (right, _) = build_term(alloc, toks, second, 0, &self.scope)?;
-        Ok((Side::Term(left), Side::Term(right), end))
-    }
-
-    fn triple_goal(
-        &mut self,
-        alloc: Global,
-        toks: &[Token],
-        from: usize,
-        at: usize,
-    ) -> Result<usize, TextFault>
-        ensures value { Steps (lexemes toks.now) result (state_of self.new) (goal_triple_in (state_of self.old) at (drop from (lexemes toks.now))) }
-        ensures goes { IfOk result (λ end. (from < end) × (end ≤ length toks.now)) }
-    {
-        let (triple, end) = self.triple(toks, from, true)?;
-        let end = semicolon(toks, end)?;
-        self.check_size(at, triple.pre.nodes)?;
-        self.check_size(at, triple.body.nodes)?;
-        self.check_size(at, triple.post.nodes)?;
-        self.grow(at, triple.nodes())?;
-        let (pre, body, post) = self.trees(alloc, toks, triple, true)?;
-        self.goal = Some(Goal::Triple(pre, Side::Term(body), post));
-        Ok(end)
-    }
-
-    fn add_goal(
-        &mut self,
-        alloc: Global,
-        toks: &[Token],
-        from: usize,
-        at: usize,
-    ) -> Result<usize, TextFault>
-        ensures value { Steps (lexemes toks.now) result (state_of self.new) (add_goal (state_of self.old) at (drop from (lexemes toks.now))) }
-        ensures goes { IfOk result (λ end. (from < end) × (end ≤ length toks.now)) }
-    {
-        if self.goal.is_some() {
-            return Err(TextFault::TwoGoals(at));
+fn read_item<R: ItemReading>(
+    reading: &mut R,
+    toks: &[Token],
+    from: usize,
+) -> Result<usize, TextFault>
+    requires tokens { AreTokens toks.now }
+    ensures value { Steps R.memory toks.now from result (R.state reading.new) (
+        item_by R.actions (R.state reading.old)
+        ) }
+    ensures goes { IfOk result (λ end. (from < end) × (end ≤ length toks.now)) }
+{
+    let Some((terminal, at)) = terminal_at(toks, from) else {
+        return Err(syntax_fault_at(toks, from));
+    };
+    match terminal {
+        Terminal::Keyword(Keyword::Test) => read_declaration(
+            reading,
+            toks,
+            from + 1,
+            Declared::Test,
+        ),
+        Terminal::Keyword(Keyword::Action) => {
+            read_declaration(reading, toks, from + 1, Declared::Action)
         }
-        match sign_at(toks, from) {
-            Some((Sign::Keyword(Keyword::Equal), _)) => {
-                let (left, right, end) = self.sides(alloc, toks, from + 1, at)?;
-                self.goal = Some(Goal::Equal(left, right));
-                Ok(end)
-            }
-            Some((Sign::Keyword(Keyword::Below), _)) => {
-                let (left, right, end) = self.sides(alloc, toks, from + 1, at)?;
-                self.goal = Some(Goal::Below(left, right));
-                Ok(end)
-            }
-            Some((Sign::Keyword(Keyword::Triple), _)) => self.triple_goal(
-                alloc,
-                toks,
-                from + 1,
-                at,
-            ),
-            Some((_, place)) => Err(TextFault::Syntax(place)),
-            None => Err(TextFault::Syntax(usize::MAX)),
-        }
+        Terminal::Keyword(Keyword::Term) => read_definition(reading, toks, from + 1, at),
+        Terminal::Keyword(Keyword::Hyp) => read_hyp(reading, toks, from + 1, at),
+        Terminal::Keyword(Keyword::Goal) => read_goal(reading, toks, from + 1, at),
+        _ => Err(syntax_fault_at(toks, from)),
     }
+}
 
-    // One item.
-    pub(crate) fn item(
-        &mut self,
-        alloc: Global,
-        toks: &[Token],
-        from: usize,
-    ) -> Result<usize, TextFault>
-        requires tokens { AreTokens toks.now }
-        ensures value { Steps (lexemes toks.now) result (state_of self.new) (walk_item (state_of self.old) (drop from (lexemes toks.now))) }
-        ensures goes { IfOk result (λ end. (from < end) × (end ≤ length toks.now)) }
-    {
-        let Some((sign, at)) = sign_at(toks, from) else {
-            return Err(TextFault::Syntax(usize::MAX));
-        };
-        match sign {
-            Sign::Keyword(Keyword::Test) => self.declarations(toks, from + 1, Declared::Test),
-            Sign::Keyword(Keyword::Action) => self.declarations(toks, from + 1, Declared::Action),
-            Sign::Keyword(Keyword::Term) => self.define(alloc, toks, from + 1, at),
-            Sign::Keyword(Keyword::Hyp) => self.add_hyp(alloc, toks, from + 1, at),
-            Sign::Keyword(Keyword::Goal) => self.add_goal(alloc, toks, from + 1, at),
-            _ => Err(TextFault::Syntax(at)),
-        }
+// Reads all items, or up to the first that has a fault. A `Syntax` after the last token has the
+// place `usize::MAX`.
+pub(crate) fn read_items<R: ItemReading>(reading: &mut R, toks: &[Token]) -> Result<(), TextFault>
+    requires tokens { AreTokens toks.now }
+    ensures { Does R.memory result (R.state reading.new) (
+        items_by R.actions (R.state reading.old) (lexemes toks.now)
+        ) }
+{
+    let mut at = 0;
+    'items: while at < toks.len() {
+        at = read_item(reading, toks, at)?;
     }
+    Ok(())
 }

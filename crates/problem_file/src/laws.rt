@@ -1,10 +1,17 @@
 //! Laws of the definitions. Each function does nothing: its contract is the law.
-ghost use Rattle.problem_file.specs.Laws.{FilesAreScanned, ItemsAreWalked, HaveOneAnswer, AreInRanges};
+ghost use Rattle.problem_file.specs.Laws.{FilesAreScanned, ItemsAreFolded, ItemsAreWalked};
+ghost use Rattle.problem_file.specs.Laws.{HaveOneAnswer, AreInRanges};
 
 /// The test of the syntax takes all tokens exactly where they are one phrase `file` of the grammar and nothing in them is
 /// too deep or too wide.
 pub fn files_are_scanned()
     ensures { FilesAreScanned }
+{}
+
+/// What the test of the syntax and the walk answer of the tokens of a file is what their actions make of its items, from
+/// the first on: so the first fault is that of the first item that has one.
+pub fn items_are_folded()
+    ensures { ItemsAreFolded }
 {}
 
 /// Where the syntax is right, the walk over the items gives no fault exactly where each item makes what it is to make,

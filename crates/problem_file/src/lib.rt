@@ -2,18 +2,19 @@
 #![tactic(auto)]
 
 mod file;
+mod item_reader;
+mod item_reading;
 mod items;
 mod laws;
+mod making;
 mod names;
 mod phrase;
-mod punctuation;
 mod reading;
-mod scan;
-#[cfg(test)]
-mod tests;
+mod syntax;
 mod triple;
-mod walk;
 
 pub use file::{File, Goal, Side};
-pub use laws::{are_in_ranges, files_are_scanned, have_one_answer, items_are_walked};
+pub use laws::{
+    are_in_ranges, files_are_scanned, have_one_answer, items_are_folded, items_are_walked,
+};
 pub use reading::read;

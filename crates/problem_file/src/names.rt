@@ -1,11 +1,11 @@
 //! Names among the tokens.
 ghost use Rattle.std.specs.Prelude.{◌≡◌, ◌+◌, ◌<◌, length, drop, IfOk, IfErr, Ok, Err};
 ghost use Rattle.kat_syntax.specs.Lexemes.{lexemes};
-ghost use Rattle.kat_text.specs.Worlds.{IsIdentifier};
+ghost use Rattle.kat_text.specs.ScopeParts.{IsIdentifier};
 ghost use Rattle.problem_file.specs.Items.{name_at};
 ghost use Rattle.problem_file.specs.Tokens.{AreTokens};
 
-use kat_syntax::{Sign, sign_of};
+use kat_syntax::{Terminal, syntax_fault_at, terminal_of};
 use kat_tokens::{TextFault, Token};
 
 // The name at an index.
@@ -17,9 +17,9 @@ pub(crate) fn name_at<'a, 'b>(toks: &'b [Token<'a>], i: usize) -> Result<&'b Tok
     ensures within { IfOk result (λ name. i < length toks.now) }
 {
     match toks.get(i) {
-        None => Err(TextFault::Syntax(usize::MAX)),
-        Some(token) => match sign_of(token) {
-            Sign::Name => Ok(token),
+        None => Err(syntax_fault_at(toks, i)),
+        Some(token) => match terminal_of(token) {
+            Terminal::Name => Ok(token),
             _ => Err(TextFault::Syntax(token.at)),
         },
     }

@@ -1,27 +1,23 @@
-//! The phrases of a triple.
-ghost use Rattle.std.specs.Prelude.{◌≡◌, ◌+◌, ◌≤◌, min, ◌^◌, ◌-◌};
+//! Phrases of an item that were measured.
 
-use kat_text::Extent;
-
-// The phrases of a triple, and the index at which each begins.
+// What is told of a phrase, and the index at which it begins.
 #[derive(Clone, Copy, Debug)]
-pub(crate) struct Triple {
-    pub(crate) pre: Extent,
-    pub(crate) body: Extent,
-    pub(crate) post: Extent,
-    pub(crate) pre_at: usize,
-    pub(crate) body_at: usize,
-    pub(crate) post_at: usize,
+pub(crate) struct Measured<M> {
+    pub(crate) measure: M,
+    pub(crate) from: usize,
 }
 
-impl Triple {
-    // The nodes of the three phrases.
-    pub(crate) fn nodes(self) -> u64
-        ensures { result ≡ min (self.pre.nodes + self.body.nodes + self.post.nodes) (2 ^ 64 - 1) }
-    {
-        self.pre
-            .nodes
-            .saturating_add(self.body.nodes)
-            .saturating_add(self.post.nodes)
-    }
+// The sides of a goal.
+#[derive(Clone, Copy, Debug)]
+pub(crate) struct Sides<M> {
+    pub(crate) left: Measured<M>,
+    pub(crate) right: Measured<M>,
+}
+
+// The phrases of a triple.
+#[derive(Clone, Copy, Debug)]
+pub(crate) struct Triple<M> {
+    pub(crate) pre: Measured<M>,
+    pub(crate) body: Measured<M>,
+    pub(crate) post: Measured<M>,
 }

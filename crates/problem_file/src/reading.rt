@@ -5,26 +5,28 @@ ghost use Rattle.kat_syntax.specs.Lexemes.{lexemes};
 ghost use Rattle.kat_syntax.specs.Parsed.{Makes};
 ghost use Rattle.kat_tokens.specs.declared.lexer.TheConstants.{MAX_LEN as MOST};
 ghost use Rattle.problem_file.specs.Files.{State, start};
-ghost use Rattle.problem_file.specs.Items.{walk};
+ghost use Rattle.problem_file.specs.Making.{walk};
 ghost use Rattle.problem_file.specs.Tokens.{AreTokens};
-ghost use Rattle.problem_file.specs.Walks.{state_of, Does};
-ghost use Rattle.problem_file.specs.Reads.{is_later, has_later, placed, tested, Says, HoldsTested, Answers};
+ghost use Rattle.problem_file.specs.States.{state_of};
+ghost use Rattle.problem_file.specs.Reads.{is_later, has_later, placed, tested};
+ghost use Rattle.problem_file.specs.Reads.{TextSays, HoldsTested, Answers};
 
 use crate::file::File;
-use crate::scan::test_syntax;
-use crate::walk::Walk;
-use kat_syntax::{Keyword, Separator, Sign, sign_of};
+use crate::item_reader::ItemReader;
+use crate::items::read_items;
+use crate::syntax::test_syntax;
+use kat_syntax::{Keyword, Separator, Terminal, terminal_of};
 use kat_tokens::{MAX_LEN, TextFault, Token, tokens};
 use std::alloc::Global;
 
 // Whether only programs and their items have such a token.
-fn is_later(sign: Sign) -> bool
-    ensures { result ≡ is_later sign }
+fn is_later(terminal: Terminal) -> bool
+    ensures { result ≡ is_later terminal }
 {
     matches!(
-        sign,
-        Sign::Keyword(Keyword::Var | Keyword::Prog | Keyword::Rounds | Keyword::Width)
-            | Sign::Separator(Separator::Becomes)
+        terminal,
+        Terminal::Keyword(Keyword::Var | Keyword::Prog | Keyword::Rounds | Keyword::Width)
+            | Terminal::Separator(Separator::Becomes)
     )
 }
 
@@ -32,7 +34,7 @@ fn has_later(toks: &[Token]) -> bool
     ensures { result ≡ has_later (lexemes toks.now) }
 {
     for token in toks {
-        if is_later(sign_of(token)) {
+        if is_later(terminal_of(token)) {
             return true;
         }
     }
@@ -49,25 +51,13 @@ fn placed(fault: TextFault, len: usize) -> TextFault
     }
 }
 
-// All items, up to the first that has a fault.
-fn items(alloc: Global, toks: &[Token], walker: &mut Walk) -> Result<(), TextFault>
-    requires tokens { AreTokens toks.now }
-    ensures { Does result (state_of walker.new) (walk (state_of walker.old) (lexemes toks.now)) }
-{
-    let mut at = 0;
-    'items: while at < toks.len() {
-        at = walker.item(alloc, toks, at)?;
-    }
-    Ok(())
-}
-
-fn walk(alloc: Global, toks: &[Token]) -> Result<Walk, TextFault>
+fn walk(alloc: Global, toks: &[Token]) -> Result<ItemReader, TextFault>
     requires tokens { AreTokens toks.now }
     ensures { Makes (Unit {0}) state_of result (walk start (lexemes toks.now)) }
 {
-    let mut walker = Walk::new(alloc);
-    items(alloc, toks, &mut walker)?;
-    Ok(walker)
+    let mut reader = ItemReader::new(alloc);
+    read_items(&mut reader, toks)?;
+    Ok(reader)
 }
 
 // The file, or the first fault of the tokens.
@@ -99,11 +89,11 @@ fn read_text(alloc: Global, text: &str) -> Result<File, TextFault>
 /// open, and of `NumberTooWide` from 2^64 on; the first fault of the first item that has one (`DoubleName`,
 /// `UnknownName`, `Sort`, `TooDeep` through a defined name, `TooMany`, `TwoGoals`, and last `TooLarge`); `NoGoal`.
 pub fn read(alloc: Global, bytes: &[u8]) -> Result<File, TextFault>
-    // The file holds what the bytes say; a refusal is want of memory or the first fault of the bytes.
+    // The file holds what the bytes say; a refusal is `NoMemory` or the first fault of the bytes.
     ensures answers { Answers bytes.now result }
 
-    // Bytes that say something are refused for want of memory only.
-    ensures only { (s : State) → Says bytes.now s → IfErr result (λ e. e ≡ NoRoom) }
+    // Bytes that say something fail only when out of memory.
+    ensures only { (s : State) → TextSays bytes.now s → IfErr result (λ e. e ≡ NoRoom) }
 {
     if bytes.len() > MAX_LEN {
         return Err(TextFault::TooLong);

@@ -1,9 +1,10 @@
 -- The hypotheses and sides of a problem may be asked of the table of a string that fits it.
-use Rattle.std.proofs.Common.{◌≡◌, ℕ, zero as nought, suc, ◌<◌, ◌≤◌, List, [], ◌∷◌, All, length, get_or, sym, subst, arith, None}
-use Rattle.kat_model.specs.Trees.{Term, zero, one, test, act, sum, product, star, term_height}
-use Rattle.kat_model.specs.Problems.{Question, IsProblem, HasTestsBelow, IsInRange, AreInRange}
+use Rattle.std.proofs.Common.{◌≡◌, ℕ, zero, suc, ◌<◌, ◌≤◌, List, [], ◌∷◌, All, length, get_or, sym, subst, arith, None}
+use Rattle.kat_model.specs.Trees.{Term, term_height}
+use Rattle.kat_model.specs.Problems.{ProblemParts, IsProblem, HasTestsBelow, IsInRange, AreInRange}
 use Rattle.kat_model.specs.Relations.{Table, atom_at}
 use Rattle.kat_model.specs.Strings.{GuardedString}
+use Rattle.kat_model.proofs.Ranges.{IsInRange-HasTestsBelow}
 use Rattle.string_tables.specs.Tables.{table_of, Room, MayBeAsked}
 use Rattle.string_tables.specs.Findings.{misfit}
 use Rattle.string_tables.specs.Heights.{question_height}
@@ -11,24 +12,12 @@ use Rattle.string_tables.proofs.Fitting.{no_misfit_is_string}
 use Rattle.string_tables.proofs.TermHeights.{height_at}
 use Rattle.string_tables.proofs.Counterexamples.{whole_table, fits_table}
 
--- tests in range are below the number of tests
+in_range_at : (tests actions : ℕ) (es : List Term) → AreInRange tests actions es → All (IsInRange tests actions) es
+in_range_at tests actions [] r k d lt = absurd (omega arith)
+in_range_at tests actions (e ∷ es) r zero d lt = r.0
+in_range_at tests actions (e ∷ es) r (suc k) d lt = in_range_at tests actions es r.1 k d (omega arith)
 
-module _ (tests actions : ℕ) where
-  in_range_below : (e : Term) → IsInRange tests actions e → HasTestsBelow tests e
-  in_range_below zero r = tt
-  in_range_below one r = tt
-  in_range_below (test b) r = r
-  in_range_below (act a) r = tt
-  in_range_below (sum e f) r = (in_range_below e r.0, in_range_below f r.1)
-  in_range_below (product e f) r = (in_range_below e r.0, in_range_below f r.1)
-  in_range_below (star e) r = in_range_below e r
-
-  in_range_at : (es : List Term) → AreInRange tests actions es → All (IsInRange tests actions) es
-  in_range_at [] r k d lt = absurd (omega arith)
-  in_range_at (e ∷ es) r nought d lt = r.0
-  in_range_at (e ∷ es) r (suc k) d lt = in_range_at es r.1 k d (omega arith)
-
-module _ (q : Question) (x : GuardedString) (room : Room) (t : Table) (within : IsProblem q) (fits : misfit q x ≡ None) (depth : question_height q ≤ room.depth) (states : t.states ≤ room.states) (same : t ≡ table_of x) where
+module _ (q : ProblemParts) (x : GuardedString) (room : Room) (t : Table) (within : IsProblem q) (fits : misfit q x ≡ None) (depth : question_height q ≤ room.depth) (states : t.states ≤ room.states) (same : t ≡ table_of x) where
   asked : (e : Term) → IsInRange q.tests q.actions e → term_height e ≤ question_height q → MayBeAsked room t e
   asked e range low =
       subst (λ s. MayBeAsked room s e) (sym same) (record {
@@ -41,7 +30,7 @@ module _ (q : Question) (x : GuardedString) (room : Room) (t : Table) (within : 
       tests : (i : ℕ) → i < suc (length x.rest) → HasTestsBelow (length (atom_at (table_of x) i)) e
       tests i lt =
           let wide = (fits_table q.tests q.actions x (no_misfit_is_string q x fits)).wide i lt in
-          subst (λ n. HasTestsBelow n e) (sym wide) (in_range_below q.tests q.actions e range)
+          subst (λ n. HasTestsBelow n e) (sym wide) (IsInRange-HasTestsBelow q.tests q.actions e range)
 
   pub hyps_asked : All (MayBeAsked room t) q.hyps
   hyps_asked k d lt = asked (get_or q.hyps k d) (in_range_at q.tests q.actions q.hyps within.hyps k d lt) (omega (arith, height_at q.hyps k d lt))

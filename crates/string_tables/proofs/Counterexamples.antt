@@ -3,7 +3,7 @@
 use Rattle.std.proofs.Common.{◌≡◌, ℕ, zero, suc, ◌<◌, ◌≤◌, inl, inr, ⊎_elim, List, [], ◌∷◌, length, map, refl, ap, subst, arith, slice_index_or}
 use Rattle.std.proofs.lemmas.List.{length-map}
 use Rattle.kat_model.specs.Members.{Has}
-use Rattle.kat_model.specs.Problems.{Question}
+use Rattle.kat_model.specs.Problems.{ProblemParts}
 use Rattle.kat_model.specs.Steps.{Atom}
 use Rattle.kat_model.specs.Relations.{Step, IsTable, atom_at, Same}
 use Rattle.kat_model.specs.Strings.{Move, GuardedString, IsString, AreMoves}
@@ -41,7 +41,7 @@ module _ (tests actions : ℕ) where
           let w = whole.moves s h in
           (w.0, subst (λ (r : Step). r.act < actions) a.is act, w.1)
 
-pub refuted_not_same : (q : Question) (x : GuardedString) → Refutes q x → Same q → ⊥
+pub refuted_not_same : (q : ProblemParts) (x : GuardedString) → Refutes q x → Same q → ⊥
 refuted_not_same q x r same =
     let s = same (table_of x) (fits_table q.tests q.actions x r.fits) r.keeps 0 (length x.rest) (omega arith) (omega arith) in
     ⊎_elim (λ a. a.1 (s.0 a.0)) (λ b. b.0 (s.1 b.1)) r.differs

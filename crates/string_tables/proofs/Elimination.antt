@@ -6,7 +6,7 @@ use Rattle.std.proofs.Math.Bool.{or-true, or-false}
 use Rattle.std.proofs.lemmas.Bool.{false≢true}
 use Rattle.kat_model.specs.Trees.{Term}
 use Rattle.kat_model.specs.Balanced.{sum_of}
-use Rattle.kat_model.specs.Problems.{Question}
+use Rattle.kat_model.specs.Problems.{ProblemParts}
 use Rattle.kat_model.specs.Relations.{Keeps, frame_of}
 use Rattle.kat_model.specs.Strings.{GuardedString, IsString, AreMoves, accepts}
 use Rattle.kat_model.specs.Closed.{universal_of, inside, closed_under}
@@ -81,12 +81,12 @@ differ_closed tests actions (h ∷ hs) left right x keeps ne =
     let d = differ_or _ _ _ ne (keeps_not_around tests actions (h ∷ hs) x keeps) in
     λ e. d (sym (accepts-sum left around x.first x.rest) ∙ e ∙ accepts-sum right around x.first x.rest)
 
-pub refuted_differ : (q : Question) (x : GuardedString) → Refutes q x → IsString q.tests q.actions x × ClosedDiffer q x
+pub refuted_differ : (q : ProblemParts) (x : GuardedString) → Refutes q x → IsString q.tests q.actions x × ClosedDiffer q x
 refuted_differ q x r =
     let ends = exactly_one_same (ends_by_acceptance x q.left) (ends_by_acceptance x q.right) r.differs in
     (r.fits, differ_closed q.tests q.actions q.hyps q.left q.right x r.keeps (exactly_differ _ _ ends))
 
-pub differ_refuted : (q : Question) (x : GuardedString) → IsString q.tests q.actions x → ClosedDiffer q x → Refutes q x
+pub differ_refuted : (q : ProblemParts) (x : GuardedString) → IsString q.tests q.actions x → ClosedDiffer q x → Refutes q x
 differ_refuted q x fits ne =
     let d = closed_differ q.tests q.actions q.hyps q.left q.right x fits.rest ne in
     let l = ends_by_acceptance x q.left in

@@ -2,7 +2,7 @@
 use Rattle.std.proofs.Common.{◌≡◌, ℕ, suc, ◌-◌, ◌↔◌, inl, inr, ⊎_elim, length, Bool, true, false, refl, subst, arith}
 use Rattle.std.specs.Bool.{IsTrue}
 use Rattle.kat_model.specs.Trees.{Term}
-use Rattle.kat_model.specs.Problems.{Question}
+use Rattle.kat_model.specs.Problems.{ProblemParts}
 use Rattle.kat_model.specs.Relations.{Table, Relates, Keeps}
 use Rattle.kat_model.specs.Strings.{GuardedString}
 use Rattle.string_tables.specs.Tables.{table_of, RelatesEnds, Refutes}
@@ -11,7 +11,7 @@ use Rattle.string_tables.specs.declared.finding.Finding.TheVariants.{Refutes as 
 use Rattle.string_tables.specs.Findings.{IsBroken, IsFirstBroken, IsFinding}
 use Rattle.string_tables.specs.Breaks.{BreaksFirst}
 use Rattle.string_tables.proofs.Fitting.{no_misfit_is_string, string_has_no_misfit}
-use Rattle.string_tables.proofs.Places.{place_has}
+use Rattle.kat_model.proofs.Places.{has_at}
 
 -- the first state of a string's table and the last are its ends
 pub last_state : (x : GuardedString) (t : Table) (e : Term) (b : Bool) → t ≡ table_of x → IsTrue b ↔ Relates t e 0 (t.states - 1) → IsTrue b ↔ RelatesEnds x e
@@ -19,7 +19,7 @@ last_state x t e b same h =
     let last : suc (length x.rest) - 1 ≡ length x.rest = omega arith in
     subst (λ j. IsTrue b ↔ Relates (table_of x) e 0 j) last (subst (λ s. IsTrue b ↔ Relates s e 0 (s.states - 1)) same h)
 
-module _ (q : Question) (x : GuardedString) where
+module _ (q : ProblemParts) (x : GuardedString) where
   pub broken_first : (t : Table) (h i j : ℕ) → t ≡ table_of x → BreaksFirst t q.hyps h i j → IsFirstBroken q x h i j
   broken_first t h i j same b = at (subst (λ s. BreaksFirst s q.hyps h i j) same b)
     where
@@ -39,7 +39,7 @@ module _ (q : Question) (x : GuardedString) where
 
   -- a table that keeps the hypotheses has none broken
   pub keeps_unbroken : (h i j : ℕ) → Keeps (table_of x) q.hyps → IsBroken q x h i j → ⊥
-  keeps_unbroken h i j keeps b = keeps b.hyp (place_has q.hyps h b.hyp b.is) i j b.from b.to b.relates
+  keeps_unbroken h i j keeps b = keeps b.hyp (has_at q.hyps h b.hyp b.is) i j b.from b.to b.relates
 
   pub not_refuted : (f : Finding) → ((b : Bool) → f ≡ RefutesBy b → ⊥) → IsFinding q x f → Refutes q x → ⊥
   not_refuted (RefutesBy b) other f r = other b refl

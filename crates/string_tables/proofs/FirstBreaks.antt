@@ -4,15 +4,15 @@ use Rattle.std.proofs.lemmas.Bool.{both_ways}
 use Rattle.std.proofs.lemmas.Option.{get_or_from_slice_get, slice_get_within}
 use Rattle.kat_model.specs.Trees.{Term}
 use Rattle.kat_model.specs.Relations.{Table, Relates, Keeps}
-use Rattle.kat_model.specs.Decided.{relates_now}
+use Rattle.kat_model.specs.Decided.{computes_relation}
 use Rattle.kat_model.proofs.Decided.{relates_now_decides}
+use Rattle.kat_model.proofs.Places.{place_of_member}
 use Rattle.string_tables.specs.Matrices.{Square, entry, Tells}
 use Rattle.string_tables.specs.Breaks.{IsFirstEntry, Breaks, BreaksFirst}
 use Rattle.string_tables.specs.Findings.{IsBefore}
-use Rattle.string_tables.proofs.Places.{has_place}
 
 -- at a false entry a term's matrix shows that the term does not relate the states
-false_unrelated : (t : Table) (e : Term) (m : Square) → Tells t.states m (relates_now t e) → (i j : ℕ) → i < t.states → j < t.states → entry m i j ≡ false → Relates t e i j → ⊥
+false_unrelated : (t : Table) (e : Term) (m : Square) → Tells t.states m (computes_relation t e) → (i j : ℕ) → i < t.states → j < t.states → entry m i j ≡ false → Relates t e i j → ⊥
 false_unrelated t e m told i j li lj no_entry r =
     both_ways (entry m i j) no_entry (told i j li lj ∙ (relates_now_decides t e i j li lj).1 r)
 
@@ -27,7 +27,7 @@ module _ (t : Table) (terms : List Term) where
       let e_is : b.term ≡ e = sym (get_or_from_slice_get terms g b.term e b.is) ∙ ap (λ n. get_or terms n e) same ∙ get_or_from_slice_get terms h e e is in
       subst (λ f. Relates t f k l) e_is b.relates
 
-  pub none_more : (h : ℕ) (e : Term) (m : Square) → slice_get terms h ≡ Some e → Tells t.states m (relates_now t e) → Tells t.states m (λ i j. false) → NoneBreaks h → NoneBreaks (h + 1)
+  pub none_more : (h : ℕ) (e : Term) (m : Square) → slice_get terms h ≡ Some e → Tells t.states m (computes_relation t e) → Tells t.states m (λ i j. false) → NoneBreaks h → NoneBreaks (h + 1)
   none_more h e m is told none before g k l lt b =
       ⊎_elim
       (λ less. before g k l less b)
@@ -39,11 +39,11 @@ module _ (t : Table) (terms : List Term) where
 
   pub none_keeps : (h : ℕ) → length terms ≤ h → NoneBreaks h → Keeps t terms
   none_keeps h le none e has i j li lj r =
-      let place = has_place terms e has in
+      let place = place_of_member terms e has in
       let within = slice_get_within terms place.0 e place.1 in
       none place.0 i j (omega arith) (record { term = e; is = place.1; from = li; to = lj; relates = r })
 
-  pub first_breaks : (h : ℕ) (e : Term) (m : Square) (i j : ℕ) → slice_get terms h ≡ Some e → Tells t.states m (relates_now t e) → IsFirstEntry t.states m i j → NoneBreaks h → BreaksFirst t terms h i j
+  pub first_breaks : (h : ℕ) (e : Term) (m : Square) (i j : ℕ) → slice_get terms h ≡ Some e → Tells t.states m (computes_relation t e) → IsFirstEntry t.states m i j → NoneBreaks h → BreaksFirst t terms h i j
   first_breaks h e m i j is told first none = record { breaks = breaks; first = earlier }
     where
       breaks : Breaks t terms h i j

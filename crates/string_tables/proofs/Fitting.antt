@@ -1,7 +1,7 @@
 -- A string has no misfit exactly where it is a string of the problem.
 use Rattle.std.proofs.Common.{◌≡◌, ◌<◌, ℕ, suc, ◌↔◌, inl, inr, ⊎_elim, List, [], ◌∷◌, length, Option, Some, None, Bool, true, false, cond, refl, subst}
 use Rattle.std.proofs.lemmas.Bool.{and_parts, and_from, ltb-true, lt-ltb, eqb-true, eq-eqb}
-use Rattle.kat_model.specs.Problems.{Question}
+use Rattle.kat_model.specs.Problems.{ProblemParts}
 use Rattle.kat_model.specs.Strings.{Move, GuardedString, IsString, AreMoves}
 use Rattle.string_tables.specs.Findings.{misfit_from, misfit}
 
@@ -28,14 +28,14 @@ module _ (tests actions : ℕ) where
       let p = are m (inl refl) in
       passes _ _ _ (and_from _ _ (lt-ltb m.act actions p.0) (eq-eqb (length m.atom) tests p.1)) (are_moves_none (suc k) ms (λ n h. are n (inr h)))
 
-pub no_misfit_is_string : (q : Question) (x : GuardedString) → misfit q x ≡ None → IsString q.tests q.actions x
+pub no_misfit_is_string : (q : ProblemParts) (x : GuardedString) → misfit q x ≡ None → IsString q.tests q.actions x
 no_misfit_is_string q x e =
     let p = passed _ _ _ e in
     record { first = eqb-true (length x.first) q.tests p.0; rest = none_are_moves q.tests q.actions 1 x.rest p.1 }
 
-pub string_has_no_misfit : (q : Question) (x : GuardedString) → IsString q.tests q.actions x → misfit q x ≡ None
+pub string_has_no_misfit : (q : ProblemParts) (x : GuardedString) → IsString q.tests q.actions x → misfit q x ≡ None
 string_has_no_misfit q x s =
     passes _ _ _ (eq-eqb (length x.first) q.tests s.first) (are_moves_none q.tests q.actions 1 x.rest s.rest)
 
-pub fits_by_misfit : (q : Question) (x : GuardedString) → misfit q x ≡ None ↔ IsString q.tests q.actions x
+pub fits_by_misfit : (q : ProblemParts) (x : GuardedString) → misfit q x ≡ None ↔ IsString q.tests q.actions x
 fits_by_misfit q x = (no_misfit_is_string q x, string_has_no_misfit q x)

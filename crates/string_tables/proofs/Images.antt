@@ -4,20 +4,16 @@ use Rattle.std.proofs.Common.{◌≡◌, ℕ, zero, suc, ◌<◌, ◌≤◌, ◌
 use mathlib.Core.Path.{ap₂}
 use Rattle.std.specs.Bool.{IsTrue}
 use Rattle.std.specs.List.{list_any}
-use Rattle.std.proofs.lemmas.Bool.{eq-eqb, ne_eqb, cases_lt, cases_eq}
+use Rattle.std.proofs.lemmas.Bool.{and_right, eq-eqb, ne_eqb, cases_lt, cases_eq}
 use Rattle.kat_model.specs.Members.{Has}
 use Rattle.kat_model.specs.Trees.{Term}
 use Rattle.kat_model.specs.Relations.{Step, Table, Relates}
-use Rattle.kat_model.specs.Decided.{some_below, same_step, relates_now}
+use Rattle.kat_model.specs.Decided.{some_below, same_step, computes_relation}
 use Rattle.kat_model.proofs.Decided.{relates_now_decides}
 use Rattle.string_tables.specs.Matrices.{Square, entry, Tells, in_image, IsImage}
 use Rattle.string_tables.proofs.Told.{some_below_same}
 
 -- laws of `and` and `or`
-
-and_false : (a : Bool) → (a && false) ≡ false
-and_false true = refl
-and_false false = refl
 
 and_over_or : (a b c : Bool) → (a && (b || c)) ≡ ((a && b) || (a && c))
 and_over_or true b c = refl
@@ -103,7 +99,7 @@ module _ (n : ℕ) (row : List Bool) where
 
   -- under the empty relation
   in_empty : some_below (λ i. in_set i && false) n ≡ false
-  in_empty = some_below_same _ (λ i. false) n (λ i li. and_false (in_set i)) ∙ none_below n
+  in_empty = some_below_same _ (λ i. false) n (λ i li. and_right (in_set i) false refl) ∙ none_below n
 
   pub image_empty : (to : List Bool) → ((j : ℕ) → j < n → slice_index_or to j false ≡ false) → IsImage n row (λ i j. false) to
   image_empty to cleared j lj = cleared j lj ∙ sym in_empty
@@ -164,7 +160,7 @@ marked_alone n i cleared row room empty is k lk =
     (cases_eq k i)
 
 -- an entry of the image of one state decides whether the term relates that state to the entry's
-pub image_decides : (t : Table) (e : Term) (row to : List Bool) (i j : ℕ) → i < t.states → j < t.states → ((k : ℕ) → k < t.states → slice_index_or row k false ≡ eqb k i) → IsImage t.states row (relates_now t e) to → (b : Bool) → b ≡ slice_index_or to j false → IsTrue b ↔ Relates t e i j
+pub image_decides : (t : Table) (e : Term) (row to : List Bool) (i j : ℕ) → i < t.states → j < t.states → ((k : ℕ) → k < t.states → slice_index_or row k false ≡ eqb k i) → IsImage t.states row (computes_relation t e) to → (b : Bool) → b ≡ slice_index_or to j false → IsTrue b ↔ Relates t e i j
 image_decides t e row to i j li lj one image b is =
-    let told = image_of_one t.states row (relates_now t e) to i li one image j lj in
+    let told = image_of_one t.states row (computes_relation t e) to i li one image j lj in
     rw (is, told) (relates_now_decides t e i j li lj)

@@ -3,7 +3,7 @@ use Rattle.std.proofs.Common.{◌≡◌, ℕ, zero as nought, suc, ◌+◌, ◌<
 use Rattle.std.proofs.lemmas.List.{at_drop_more}
 use Rattle.kat_model.specs.declared.tree.Kat.{Kat}
 use Rattle.kat_model.specs.Trees.{TestTree, bottom, top, prim, complement, meet, join, test_size, Term, zero, one, test, act, sum, product, star, term_size, term_height, kat_tree}
-use Rattle.kat_model.specs.Problems.{Question, IsProblem, terms_size, question_size, counted}
+use Rattle.kat_model.specs.Problems.{ProblemParts, IsProblem, terms_size, problem_size, counted}
 use Rattle.string_tables.specs.Heights.{terms_height, question_height}
 
 test_size_positive : (b : TestTree) → 1 ≤ test_size b
@@ -27,7 +27,7 @@ terms_height_size : (es : List Term) → terms_height es ≤ terms_size es
 terms_height_size [] = omega arith
 terms_height_size (e ∷ es) = omega (arith, height_size e, terms_height_size es)
 
-question_height_size : (q : Question) → question_height q ≤ question_size q
+question_height_size : (q : ProblemParts) → question_height q ≤ problem_size q
 question_height_size q = omega (arith, terms_height_size q.hyps, height_size q.left, height_size q.right)
 
 pub height_at : (es : List Term) (k : ℕ) (d : Term) → k < length es → term_height (get_or es k d) ≤ terms_height es
@@ -35,7 +35,7 @@ height_at [] k d lt = absurd (omega arith)
 height_at (e ∷ es) nought d lt = omega arith
 height_at (e ∷ es) (suc k) d lt = omega (arith, height_at es k d (omega arith))
 
-module _ (q : Question) (within : IsProblem q) where
+module _ (q : ProblemParts) (within : IsProblem q) where
   low : question_height q ≤ 100000
   low = omega (arith, question_height_size q, within.size)
 

@@ -1,7 +1,7 @@
 -- What a string shows of a question: the first case that holds, with its least numbers.
 use Rattle.std.specs.Prelude.{◌≡◌, ◌⊎◌, ◌<◌, ℕ, suc, List, [], ◌∷◌, length, Option, Some, None, slice_get, true, false, ◌&&◌, ◌==◌, nat_lt, if◌then◌else◌}
 use Rattle.kat_model.specs.Trees.{Term}
-use Rattle.kat_model.specs.Problems.{Question}
+use Rattle.kat_model.specs.Problems.{ProblemParts}
 use Rattle.kat_model.specs.Relations.{Relates, Keeps}
 use Rattle.kat_model.specs.Strings.{Move, GuardedString}
 use Rattle.string_tables.specs.Tables.{table_of, RelatesEnds}
@@ -13,11 +13,11 @@ abbrev pub misfit_from : ℕ → ℕ → ℕ → List Move → Option ℕ
 misfit_from tests actions k [] = None
 misfit_from tests actions k (m ∷ ms) = if nat_lt m.act actions && (length m.atom == tests) then misfit_from tests actions (suc k) ms else Some k
 
-abbrev pub misfit : Question → GuardedString → Option ℕ
+abbrev pub misfit : ProblemParts → GuardedString → Option ℕ
 misfit q x = if length x.first == q.tests then misfit_from q.tests q.actions 1 x.rest else Some 0
 
 -- hypothesis h relates position i to position j
-pub record IsBroken (q : Question) (x : GuardedString) (h i j : ℕ) : Type 0 where
+pub record IsBroken (q : ProblemParts) (x : GuardedString) (h i j : ℕ) : Type 0 where
   pub hyp : Term
   pub is : slice_get q.hyps h ≡ Some hyp
   pub from : i < suc (length x.rest)
@@ -28,15 +28,15 @@ pub record IsBroken (q : Question) (x : GuardedString) (h i j : ℕ) : Type 0 wh
 abbrev pub IsBefore : ℕ → ℕ → ℕ → ℕ → ℕ → ℕ → Type 0
 IsBefore g h i k j l = (g < h) ⊎ ((g ≡ h) × ((i < k) ⊎ ((i ≡ k) × (j < l))))
 
-pub record IsFirstBroken (q : Question) (x : GuardedString) (h i j : ℕ) : Type 0 where
+pub record IsFirstBroken (q : ProblemParts) (x : GuardedString) (h i j : ℕ) : Type 0 where
   pub broken : IsBroken q x h i j
   pub first : (g k l : ℕ) → IsBefore g h k i l j → IsBroken q x g k l → ⊥
 
 -- the string fits and its table keeps the hypotheses
-abbrev pub Counts : Question → GuardedString → Type 0
+abbrev pub Counts : ProblemParts → GuardedString → Type 0
 Counts q x = (misfit q x ≡ None) × Keeps (table_of x) q.hyps
 
-abbrev pub IsFinding : Question → GuardedString → Finding → Type 0
+abbrev pub IsFinding : ProblemParts → GuardedString → Finding → Type 0
 IsFinding q x (Shape k) = misfit q x ≡ Some k
 IsFinding q x (HypBroken h i j) = (misfit q x ≡ None) × IsFirstBroken q x h i j
 IsFinding q x (EndsAgree true) = Counts q x × RelatesEnds x q.left × RelatesEnds x q.right

@@ -1,7 +1,7 @@
 -- The laws of strings and their tables. Each stands on a function of the crate that does nothing.
 use Rattle.std.specs.Prelude.{◌≡◌, ◌≢◌, ◌↔◌, ◌-◌, ◌≤◌, ℕ, length, take, drop, IsTrue}
 use Rattle.kat_model.specs.Trees.{Term}
-use Rattle.kat_model.specs.Problems.{Question}
+use Rattle.kat_model.specs.Problems.{ProblemParts}
 use Rattle.kat_model.specs.Relations.{Relates, Same}
 use Rattle.kat_model.specs.Strings.{GuardedString, IsString, last_atom, accepts}
 use Rattle.kat_model.specs.Closed.{closed}
@@ -19,17 +19,17 @@ abbrev pub RelatesByParts : Type 0
 RelatesByParts = (x : GuardedString) (e : Term) (i j : ℕ) → i ≤ length x.rest → j ≤ length x.rest → Relates (table_of x) e i j ↔ AcceptsPart x e i j
 
 -- whether the closed sides accept the string alike
-abbrev pub ClosedDiffer : Question → GuardedString → Type 0
+abbrev pub ClosedDiffer : ProblemParts → GuardedString → Type 0
 ClosedDiffer q x = accepts (closed q).left x.first x.rest ≢ accepts (closed q).right x.first x.rest
 
 -- a string refutes a question exactly where it fits and exactly one closed side accepts it
 abbrev pub RefutesByClosed : Type 0
-RefutesByClosed = (q : Question) (x : GuardedString) → Refutes q x ↔ (IsString q.tests q.actions x × ClosedDiffer q x)
+RefutesByClosed = (q : ProblemParts) (x : GuardedString) → Refutes q x ↔ (IsString q.tests q.actions x × ClosedDiffer q x)
 
 -- a question that a string refutes is not same
 abbrev pub RefutedAreNotSame : Type 0
-RefutedAreNotSame = (q : Question) (x : GuardedString) → Refutes q x → Same q → ⊥
+RefutedAreNotSame = (q : ProblemParts) (x : GuardedString) → Refutes q x → Same q → ⊥
 
 -- a string has one finding
 abbrev pub HasOneFinding : Type 0
-HasOneFinding = (q : Question) (x : GuardedString) (f g : Finding) → IsFinding q x f → IsFinding q x g → f ≡ g
+HasOneFinding = (q : ProblemParts) (x : GuardedString) (f g : Finding) → IsFinding q x f → IsFinding q x g → f ≡ g

@@ -2,7 +2,7 @@
 use Rattle.std.specs.Prelude.{◌≡◌, ◌⊎◌, ◌<◌, ◌≤◌, ℕ, suc, List, [], ◌∷◌, length, map}
 use Rattle.kat_model.specs.Trees.{Term, term_height}
 use Rattle.kat_model.specs.Members.{Has}
-use Rattle.kat_model.specs.Problems.{Question, HasTestsBelow}
+use Rattle.kat_model.specs.Problems.{ProblemParts, HasTestsBelow}
 use Rattle.kat_model.specs.Relations.{Step, Table, atom_at, Relates, Keeps}
 use Rattle.kat_model.specs.Strings.{Move, GuardedString, IsString}
 
@@ -24,7 +24,7 @@ abbrev pub ExactlyOne : Type 0 → Type 0 → Type 0
 ExactlyOne A B = (A × (B → ⊥)) ⊎ ((A → ⊥) × B)
 
 -- the string shows that the sides of the question are not the same
-pub record Refutes (q : Question) (x : GuardedString) : Type 0 where
+pub record Refutes (q : ProblemParts) (x : GuardedString) : Type 0 where
   pub fits : IsString q.tests q.actions x
   pub keeps : Keeps (table_of x) q.hyps
   pub differs : ExactlyOne (RelatesEnds x q.left) (RelatesEnds x q.right)

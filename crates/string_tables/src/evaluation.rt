@@ -2,7 +2,7 @@
 ghost use Rattle.std.specs.Prelude.{◌≡◌, ◌+◌, ◌<◌, ◌≤◌, ℕ, All, length};
 ghost use Rattle.kat_model.specs.Trees.{kat_tree, term_height};
 ghost use Rattle.kat_model.specs.Relations.{atom_at};
-ghost use Rattle.kat_model.specs.Decided.{relates_now};
+ghost use Rattle.kat_model.specs.Decided.{computes_relation};
 ghost use Rattle.kat_model.specs.Problems.{HasTestsBelow};
 ghost use Rattle.string_tables.specs.Tables.{IsWhole};
 ghost use Rattle.string_tables.specs.Matrices.{Tells, sizes};
@@ -28,7 +28,7 @@ pub(crate) fn evaluate(
     requires top { table.now.states ≤ top.old.size }
     requires below { All (λ size. table.now.states ≤ size) (sizes below.old) }
     requires spare { table.now.states ≤ length spare.old }
-    ensures told { Tells table.now.states top.new (relates_now table.now (kat_tree term.now)) }
+    ensures told { Tells table.now.states top.new (computes_relation table.now (kat_tree term.now)) }
     ensures size { top.new.size ≡ top.old.size }
     ensures sizes { sizes below.new ≡ sizes below.old }
     ensures width { length spare.new ≡ length spare.old }

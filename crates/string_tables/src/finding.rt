@@ -89,7 +89,7 @@ pub fn verdict(alloc: Global, problem: &Problem, string: &GString) -> Result<Fin
 }
 
 /// Whether the string refutes the problem: it fits, its table keeps the hypotheses, and exactly one side
-/// relates its ends. The only refusal is want of memory.
+/// relates its ends. Fails only when out of memory.
 pub fn refutes(alloc: Global, problem: &Problem, string: &GString) -> Result<bool, NoMemory>
     ensures { IfOk result (λ shown. IsTrue shown ↔ Refutes problem.now string.now) }
 {

@@ -2,7 +2,7 @@
 ghost use Rattle.std.specs.Prelude.{◌≡◌, ◌+◌, ◌<◌, ◌≤◌, ℕ, All, length};
 ghost use Rattle.kat_model.specs.Trees.{kat_tree, term_height};
 ghost use Rattle.kat_model.specs.Relations.{atom_at};
-ghost use Rattle.kat_model.specs.Decided.{relates_now};
+ghost use Rattle.kat_model.specs.Decided.{computes_relation};
 ghost use Rattle.kat_model.specs.Problems.{HasTestsBelow};
 ghost use Rattle.string_tables.specs.Tables.{IsWhole};
 ghost use Rattle.string_tables.specs.Matrices.{IsImage, sizes, widths};
@@ -34,7 +34,7 @@ pub(crate) fn follow(
     requires top { table.now.states ≤ top.old.size }
     requires below { All (λ size. table.now.states ≤ size) (sizes below.old) }
     requires spare { table.now.states ≤ length spare.old }
-    ensures image { IsImage table.now.states row.old (relates_now table.now (kat_tree term.now)) row.new }
+    ensures image { IsImage table.now.states row.old (computes_relation table.now (kat_tree term.now)) row.new }
     ensures row { length row.new ≡ length row.old }
     ensures rows { widths rows.new ≡ widths rows.old }
     ensures size { top.new.size ≡ top.old.size }

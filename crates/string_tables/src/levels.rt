@@ -2,7 +2,7 @@
 ghost use Rattle.std.specs.Prelude.{◌≡◌, ◌↔◌, ◌<◌, ◌≤◌, IfOk, IsTrue};
 ghost use Rattle.kat_model.specs.Trees.{kat_tree};
 ghost use Rattle.kat_model.specs.Relations.{Relates};
-ghost use Rattle.kat_model.specs.Decided.{relates_now};
+ghost use Rattle.kat_model.specs.Decided.{computes_relation};
 ghost use Rattle.string_tables.specs.Tables.{MayBeAsked};
 ghost use Rattle.string_tables.specs.Matrices.{entry, Tells};
 
@@ -62,7 +62,7 @@ impl Levels {
     /// Evaluates a term at all states, into the top matrix.
     pub(crate) fn fill(&mut self, table: &Table, term: &Kat)
         requires { MayBeAsked self.old.room table.now (kat_tree term.now) }
-        ensures told { Tells table.now.states self.new.top (relates_now table.now (kat_tree term.now)) }
+        ensures told { Tells table.now.states self.new.top (computes_relation table.now (kat_tree term.now)) }
         ensures room { self.new.room ≡ self.old.room }
     {
         evaluate(table, term, &mut self.top, &mut self.below, &mut self.spare);

@@ -6,7 +6,6 @@ mod broken;
 mod evaluation;
 mod finding;
 mod following;
-mod items;
 mod laws;
 mod leaves;
 mod levels;
@@ -15,12 +14,9 @@ mod operations;
 mod shape;
 mod string;
 mod table;
-#[cfg(test)]
-mod tests;
 
 pub use bench::Bench;
 pub use finding::{Finding, refutes, verdict};
-pub use items::Items;
 pub use laws::{has_one_finding, refuted_are_not_same, refutes_by_closed, relates_by_parts};
 pub use string::{GString, Move};
 pub use table::{Step, Table, table_of};

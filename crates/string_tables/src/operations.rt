@@ -1,6 +1,6 @@
 //! Matrices of relations: those of the constants, and sums, products and closures.
 ghost use Rattle.std.specs.Prelude.{◌≡◌, ◌<◌, ◌≤◌, ◌&&◌, ◌||◌, eqb, ℕ, false, length, slice_index_or};
-ghost use Rattle.kat_model.specs.Decided.{some_below, through_now};
+ghost use Rattle.kat_model.specs.Decided.{some_below, warshall};
 ghost use Rattle.string_tables.specs.Matrices.{row_at, entry, Tells};
 
 use crate::matrix::{Matrix, Row};
@@ -90,7 +90,7 @@ fn join_through(m: &mut Matrix, k: usize, spare: &mut Row, n: usize)
 pub(crate) fn close(m: &mut Matrix, spare: &mut Row, n: usize)
     requires own { n ≤ m.old.size }
     requires spare { n ≤ length spare.old }
-    ensures told { Tells n m.new (through_now (entry m.old) n) }
+    ensures told { Tells n m.new (warshall (entry m.old) n) }
     ensures size { m.new.size ≡ m.old.size }
     ensures width { length spare.new ≡ length spare.old }
 {

@@ -1,5 +1,5 @@
 //! Guarded strings.
-use crate::items::Items;
+use kat_model::Items;
 use std::marker::Model;
 
 /// An action, and the truth values after it. The action is a number from 0, and the values are those of the

@@ -2,9 +2,8 @@
 ghost use Rattle.std.specs.Prelude.{◌≡◌, IfOk};
 ghost use Rattle.string_tables.specs.Tables.{table_of as string_table};
 
-use crate::items::Items;
 use crate::string::GString;
-use kat_model::NoMemory;
+use kat_model::{Items, NoMemory};
 use std::alloc::Global;
 use std::marker::Model;
 
@@ -51,7 +50,7 @@ fn copy_of(alloc: Global, atom: &Items<bool>) -> Result<Items<bool>, NoMemory>
 }
 
 /// The table of a string: its positions are the states, the truth values at each are its atom, and the only
-/// moves are from each position to the next. The only refusal is want of memory.
+/// moves are from each position to the next. Fails only when out of memory.
 pub fn table_of(alloc: Global, string: &GString) -> Result<Table, NoMemory>
     ensures { IfOk result (λ t. t ≡ string_table string.now) }
 {

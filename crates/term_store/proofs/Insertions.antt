@@ -6,7 +6,7 @@ use Rattle.kat_model.proofs.Places.{no_doubles, slice_get_last}
 use Rattle.term_store.specs.declared.nodes.TestShape.{TestShape}
 use Rattle.term_store.specs.declared.nodes.Shape.{Shape}
 use Rattle.term_store.specs.declared.nodes.Shape.TheVariants.{Zero, One, Test, Act, Sum, Seq, Star}
-use Rattle.term_store.specs.Nodes.{Nodes, IsTestOver, IsOver, IsStore}
+use Rattle.term_store.specs.Nodes.{StoreParts, IsTestOver, IsOver, IsStore}
 
 -- the list stayed, or x is new and stands last
 abbrev pub AddsLast : {X : Type 0} → List X → List X → X → Type 0
@@ -50,7 +50,7 @@ adds_longer old new x adds =
     ]
 
 -- a store after an insert of a test node that names only tests of it, refused or not
-pub test_inserted : {T E : Type 0} (eq : TestShape → TestShape → Bool) → ((x : TestShape) → eq x x ≡ true) → (r : Result T E) (store : Nodes) (tests : List TestShape) (shape : TestShape) → IsStore store → IsTestOver (length store.tests) shape → IsDistinct eq tests → IfOk r (λ _. tests ≡ insert_key eq store.tests shape) → OnErr r (tests ≡ store.tests) → IsStore (record { tests = tests; terms = store.terms })
+pub test_inserted : {T E : Type 0} (eq : TestShape → TestShape → Bool) → ((x : TestShape) → eq x x ≡ true) → (r : Result T E) (store : StoreParts) (tests : List TestShape) (shape : TestShape) → IsStore store → IsTestOver (length store.tests) shape → IsDistinct eq tests → IfOk r (λ _. tests ≡ insert_key eq store.tests shape) → OnErr r (tests ≡ store.tests) → IsStore (record { tests = tests; terms = store.terms })
 test_inserted eq own r store tests shape is over unique e same =
     let adds = insert_adds eq r store.tests tests shape e same in
     record {
@@ -61,7 +61,7 @@ test_inserted eq own r store tests shape is over unique e same =
     }
 
 -- and after an insert of a term node
-pub term_inserted : {T E : Type 0} (eq : Shape → Shape → Bool) → ((x : Shape) → eq x x ≡ true) → (r : Result T E) (store : Nodes) (terms : List Shape) (shape : Shape) → IsStore store → IsOver (length store.tests) (length store.terms) shape → IsDistinct eq terms → IfOk r (λ _. terms ≡ insert_key eq store.terms shape) → OnErr r (terms ≡ store.terms) → IsStore (record { tests = store.tests; terms = terms })
+pub term_inserted : {T E : Type 0} (eq : Shape → Shape → Bool) → ((x : Shape) → eq x x ≡ true) → (r : Result T E) (store : StoreParts) (terms : List Shape) (shape : Shape) → IsStore store → IsOver (length store.tests) (length store.terms) shape → IsDistinct eq terms → IfOk r (λ _. terms ≡ insert_key eq store.terms shape) → OnErr r (terms ≡ store.terms) → IsStore (record { tests = store.tests; terms = terms })
 term_inserted eq own r store terms shape is over unique e same =
     let adds = insert_adds eq r store.terms terms shape e same in
     record {

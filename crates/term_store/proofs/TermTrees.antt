@@ -7,7 +7,7 @@ use Rattle.kat_model.proofs.Places.{one_place, contains_at}
 use Rattle.kat_model.proofs.ValuesInOrder.{course_of_values-at, course_of_values-append, course_of_values-same}
 use Rattle.term_store.specs.declared.nodes.Shape.{Shape}
 use Rattle.term_store.specs.declared.nodes.Shape.TheVariants.{Zero, One, Test, Act, Sum, Seq, Star}
-use Rattle.term_store.specs.Nodes.{Nodes, IsTestId, IsTermId, IsOver, IsStore}
+use Rattle.term_store.specs.Nodes.{StoreParts, IsTestId, IsTermId, IsOver, IsStore}
 use Rattle.term_store.specs.Trees.{test_tree_of, test_trees, tree_over, trees, tree_of, node_tree, HasTree}
 use Rattle.term_store.specs.Growth.{IsFront}
 use Rattle.term_store.proofs.TestTrees.{one_id_a_test, test_tree_of-kept}
@@ -25,7 +25,7 @@ tree_over-same tests more_tests terms more_terms m n (Seq i j) first second over
 tree_over-same tests more_tests terms more_terms m n (Star i) first second over = ap star (second i over)
 
 -- the tree of an id is that of its node
-pub tree_of-node : (store : Nodes) → IsStore store → (i : ℕ) (shape : Shape) → slice_get store.terms i ≡ Some shape → tree_of store i ≡ node_tree store shape
+pub tree_of-node : (store : StoreParts) → IsStore store → (i : ℕ) (shape : Shape) → slice_get store.terms i ≡ Some shape → tree_of store i ≡ node_tree store shape
 unfolding trees
 tree_of-node store is i shape e =
     let at = course_of_values-at (tree_over (test_trees store)) no_term store.terms i shape e in
@@ -38,7 +38,7 @@ tests_suffice : (tests more_tests : List TestTree) (terms : List Term) (m n : �
     → tree_over tests terms shape ≡ tree_over more_tests terms shape
 tests_suffice tests more_tests terms m n shape same over = tree_over-same tests more_tests terms terms m n shape same (λ i h. refl) over
 
-pub tree_of-kept : (old new : Nodes) → IsStore old → IsFront old.tests new.tests → IsFront old.terms new.terms → (i : ℕ) → IsTermId old i → tree_of new i ≡ tree_of old i
+pub tree_of-kept : (old new : StoreParts) → IsStore old → IsFront old.tests new.tests → IsFront old.terms new.terms → (i : ℕ) → IsTermId old i → tree_of new i ≡ tree_of old i
 unfolding trees
 tree_of-kept old new is tests (more, e) i h =
     ap (λ nodes. get_or (course_of_values (tree_over (test_trees new)) nodes) i no_term) e
@@ -47,13 +47,13 @@ tree_of-kept old new is tests (more, e) i h =
     (course_of_values-same (tree_over (test_trees new)) (tree_over (test_trees old)) old.terms
     (λ place shape p before. tests_suffice (test_trees new) (test_trees old) before (length old.tests) place shape (test_tree_of-kept old new tests) (is.terms_ordered place shape p)))
 
-pub node_tree-kept : (old new : Nodes) → ((i : ℕ) → IsTestId old i → test_tree_of new i ≡ test_tree_of old i) → ((i : ℕ) → IsTermId old i → tree_of new i ≡ tree_of old i)
+pub node_tree-kept : (old new : StoreParts) → ((i : ℕ) → IsTestId old i → test_tree_of new i ≡ test_tree_of old i) → ((i : ℕ) → IsTermId old i → tree_of new i ≡ tree_of old i)
     → (shape : Shape) → IsOver (length old.tests) (length old.terms) shape → node_tree new shape ≡ node_tree old shape
 node_tree-kept old new tests terms shape over = tree_over-same (test_trees new) (test_trees old) (trees new) (trees old) (length old.tests) (length old.terms) shape tests terms over
 
 -- ---- one id for each tree
 
-module _ (store : Nodes) where
+module _ (store : StoreParts) where
   -- nodes with one tree are one node, where the ids that they name are told apart by their trees
   same_node : (m n tests : ℕ) (a b : Shape) → ((i j : ℕ) → i < tests → j < tests → test_tree_of store i ≡ test_tree_of store j → i ≡ j)
       → ((i j : ℕ) → i < m → j < n → tree_of store i ≡ tree_of store j → i ≡ j) → IsOver tests m a → IsOver tests n b → node_tree store a ≡ node_tree store b → a ≡ b

@@ -7,7 +7,7 @@ use Rattle.kat_model.proofs.Places.{one_place, contains_at}
 use Rattle.kat_model.proofs.ValuesInOrder.{course_of_values-at, course_of_values-append}
 use Rattle.term_store.specs.declared.nodes.TestShape.{TestShape}
 use Rattle.term_store.specs.declared.nodes.TestShape.TheVariants.{False, True, Prim, Not, And, Or}
-use Rattle.term_store.specs.Nodes.{Nodes, IsTestId, IsTestOver, IsStore}
+use Rattle.term_store.specs.Nodes.{StoreParts, IsTestId, IsTestOver, IsStore}
 use Rattle.term_store.specs.Trees.{test_tree_over, test_trees, test_tree_of, test_node_tree, HasTestTree}
 use Rattle.term_store.specs.Growth.{IsFront}
 
@@ -21,7 +21,7 @@ test_tree_over-same first second n (And i j) same over = λ k. meet (same i over
 test_tree_over-same first second n (Or i j) same over = λ k. join (same i over.0 k) (same j over.1 k)
 
 -- the tree of an id is that of its node
-pub test_tree_of-node : (store : Nodes) → IsStore store → (i : ℕ) (shape : TestShape) → slice_get store.tests i ≡ Some shape → test_tree_of store i ≡ test_node_tree store shape
+pub test_tree_of-node : (store : StoreParts) → IsStore store → (i : ℕ) (shape : TestShape) → slice_get store.tests i ≡ Some shape → test_tree_of store i ≡ test_node_tree store shape
 unfolding test_trees
 test_tree_of-node store is i shape e =
     let at = course_of_values-at test_tree_over bottom store.tests i shape e in
@@ -29,17 +29,17 @@ test_tree_of-node store is i shape e =
 
 -- ---- kept
 
-pub test_tree_of-kept : (old new : Nodes) → IsFront old.tests new.tests → (i : ℕ) → IsTestId old i → test_tree_of new i ≡ test_tree_of old i
+pub test_tree_of-kept : (old new : StoreParts) → IsFront old.tests new.tests → (i : ℕ) → IsTestId old i → test_tree_of new i ≡ test_tree_of old i
 unfolding test_trees
 test_tree_of-kept old new (more, e) i h =
     ap (λ nodes. get_or (course_of_values test_tree_over nodes) i bottom) e ∙ course_of_values-append test_tree_over old.tests more bottom i h
 
-pub test_node_tree-kept : (old new : Nodes) → ((i : ℕ) → IsTestId old i → test_tree_of new i ≡ test_tree_of old i) → (shape : TestShape) → IsTestOver (length old.tests) shape → test_node_tree new shape ≡ test_node_tree old shape
+pub test_node_tree-kept : (old new : StoreParts) → ((i : ℕ) → IsTestId old i → test_tree_of new i ≡ test_tree_of old i) → (shape : TestShape) → IsTestOver (length old.tests) shape → test_node_tree new shape ≡ test_node_tree old shape
 test_node_tree-kept old new kept shape over = test_tree_over-same (test_trees new) (test_trees old) (length old.tests) shape kept over
 
 -- ---- one id for each tree
 
-module _ (store : Nodes) where
+module _ (store : StoreParts) where
   -- nodes with one tree are one node, where the ids that they name are told apart by their trees
   same_test_node : (m n : ℕ) (a b : TestShape) → ((i j : ℕ) → i < m → j < n → test_tree_of store i ≡ test_tree_of store j → i ≡ j) → IsTestOver m a → IsTestOver n b → test_node_tree store a ≡ test_node_tree store b → a ≡ b
   same_test_node m n False False one p q e = refl

@@ -7,15 +7,15 @@ use Rattle.term_store.specs.declared.nodes.TestShape.TheVariants.{False, True, P
 use Rattle.term_store.specs.declared.nodes.Shape.{Shape}
 use Rattle.term_store.specs.declared.nodes.Shape.TheVariants.{Zero, One, Test, Act, Sum, Seq, Star}
 
-pub record Nodes : Type 0 where
+pub record StoreParts : Type 0 where
   pub tests : List TestShape
   pub terms : List Shape
 
 -- the number is an id of a test, or of a term
-abbrev pub IsTestId : Nodes → ℕ → Type 0
+abbrev pub IsTestId : StoreParts → ℕ → Type 0
 IsTestId store i = i < length store.tests
 
-abbrev pub IsTermId : Nodes → ℕ → Type 0
+abbrev pub IsTermId : StoreParts → ℕ → Type 0
 IsTermId store i = i < length store.terms
 
 -- the node names only tests below n
@@ -38,7 +38,7 @@ IsOver m n (Seq i j) = (i < n) × (j < n)
 IsOver m n (Star i) = i < n
 
 -- what each store keeps: each node names only earlier ones, and no node stands twice
-pub record IsStore (store : Nodes) : Type 0 where
+pub record IsStore (store : StoreParts) : Type 0 where
   pub tests_ordered : (i : ℕ) (shape : TestShape) → slice_get store.tests i ≡ Some shape → IsTestOver i shape
   pub terms_ordered : (i : ℕ) (shape : Shape) → slice_get store.terms i ≡ Some shape → IsOver (length store.tests) i shape
   pub tests_once : HasNoDoubles store.tests

@@ -6,7 +6,7 @@ use Rattle.term_store.specs.declared.nodes.TestShape.{TestShape}
 use Rattle.term_store.specs.declared.nodes.TestShape.TheVariants.{False, True, Prim, Not, And, Or}
 use Rattle.term_store.specs.declared.nodes.Shape.{Shape}
 use Rattle.term_store.specs.declared.nodes.Shape.TheVariants.{Zero, One, Test, Act, Sum, Seq, Star}
-use Rattle.term_store.specs.Nodes.{Nodes, IsTestId, IsTermId}
+use Rattle.term_store.specs.Nodes.{StoreParts, IsTestId, IsTermId}
 
 -- the tree of a test node, over the trees of the test nodes that it may name
 abbrev pub test_tree_over : List TestTree → TestShape → TestTree
@@ -28,35 +28,35 @@ tree_over tests terms (Seq i j) = product (slice_index_or terms i zero) (slice_i
 tree_over tests terms (Star i) = star (slice_index_or terms i zero)
 
 -- the trees of all test nodes, and of all term nodes
-unfoldable pub test_trees : Nodes → List TestTree
+unfoldable pub test_trees : StoreParts → List TestTree
 test_trees store = course_of_values test_tree_over store.tests
 
-unfoldable pub trees : Nodes → List Term
+unfoldable pub trees : StoreParts → List Term
 trees store = course_of_values (tree_over (test_trees store)) store.terms
 
 -- the tree of an id
-abbrev pub test_tree_of : Nodes → ℕ → TestTree
+abbrev pub test_tree_of : StoreParts → ℕ → TestTree
 test_tree_of store i = slice_index_or (test_trees store) i bottom
 
-abbrev pub tree_of : Nodes → ℕ → Term
+abbrev pub tree_of : StoreParts → ℕ → Term
 tree_of store i = slice_index_or (trees store) i zero
 
 -- the tree of a node over the ids of the store
-abbrev pub test_node_tree : Nodes → TestShape → TestTree
+abbrev pub test_node_tree : StoreParts → TestShape → TestTree
 test_node_tree store shape = test_tree_over (test_trees store) shape
 
-abbrev pub node_tree : Nodes → Shape → Term
+abbrev pub node_tree : StoreParts → Shape → Term
 node_tree store shape = tree_over (test_trees store) (trees store) shape
 
 -- some id has the tree
-abbrev pub HasTestTree : Nodes → TestTree → Type 0
+abbrev pub HasTestTree : StoreParts → TestTree → Type 0
 HasTestTree store b = (i : ℕ) × IsTestId store i × (test_tree_of store i ≡ b)
 
-abbrev pub HasTree : Nodes → Term → Type 0
+abbrev pub HasTree : StoreParts → Term → Type 0
 HasTree store e = (i : ℕ) × IsTermId store i × (tree_of store i ≡ e)
 
 -- some ids have the parts of the tree
-abbrev pub HasTestParts : Nodes → TestTree → Type 0
+abbrev pub HasTestParts : StoreParts → TestTree → Type 0
 HasTestParts store bottom = Unit {0}
 HasTestParts store top = Unit {0}
 HasTestParts store (prim k) = Unit {0}
@@ -64,7 +64,7 @@ HasTestParts store (complement b) = HasTestTree store b
 HasTestParts store (meet b c) = HasTestTree store b × HasTestTree store c
 HasTestParts store (join b c) = HasTestTree store b × HasTestTree store c
 
-abbrev pub HasParts : Nodes → Term → Type 0
+abbrev pub HasParts : StoreParts → Term → Type 0
 HasParts store zero = Unit {0}
 HasParts store one = Unit {0}
 HasParts store (test b) = HasTestTree store b

@@ -5,8 +5,6 @@
 mod laws;
 mod nodes;
 mod store;
-#[cfg(test)]
-mod tests;
 
 pub use laws::{equal_ids_are_equal_trees, trees_by_node};
 pub use nodes::{Shape, TermId, TestId, TestShape};

@@ -19,9 +19,9 @@ pub struct Store {
 }
 
 impl Model for Store {
-    ghost use Rattle.term_store.specs.Nodes.{Nodes, IsStore};
+    ghost use Rattle.term_store.specs.Nodes.{StoreParts, IsStore};
 
-    ghost Value = { Nodes };
+    ghost Value = { StoreParts };
 
     ghost view = { λ s. record { tests = s.tests.keys; terms = s.terms.keys } };
 
@@ -182,7 +182,7 @@ impl Store {
         }
     }
 
-    /// An id whose tree is this term. The only refusal is want of memory, and it may leave further nodes.
+    /// An id whose tree is this term. Fails only when out of memory, and it may leave further nodes.
     #[cycle(of_tree)]
     pub fn of_tree(&mut self, term: &Kat) -> Result<TermId, NoMemory>
         ensures tree { IfOk result (λ id. tree_of self.new id ≡ kat_tree term.now) }

@@ -7,7 +7,7 @@ use Rattle.kat_model.specs.Steps.{Atom}
 use Rattle.kat_model.proofs.Places.{one_place}
 use Rattle.test_diagrams.specs.declared.diagrams.Node.{Node}
 use Rattle.test_diagrams.specs.declared.diagrams.Node.TheVariants.{Constant, Branch}
-use Rattle.test_diagrams.specs.Functions.{Collection, value_of, IsDiagramId, IsAtomOf, SameFunction, IsApart, DependsOn}
+use Rattle.test_diagrams.specs.Functions.{DiagramsParts, value_of, IsDiagramId, IsAtomOf, SameFunction, IsApart, DependsOn}
 use Rattle.test_diagrams.specs.Reduced.{level_of, IsReduced}
 use Rattle.test_diagrams.proofs.Values.{value_of-constant}
 use Rattle.test_diagrams.proofs.Levels.{node_of_id, level_of-constant, level_of-branch, value_of-set_above, value_of-set_own}
@@ -21,10 +21,10 @@ one_differs false true true apart = inl false≢true
 one_differs true false true apart = inr false≢true
 one_differs true false false apart = inl true≢false
 
-pub same_id_same_function : (d : Collection) (i j : ℕ) → i ≡ j → SameFunction d i j
+pub same_id_same_function : (d : DiagramsParts) (i j : ℕ) → i ≡ j → SameFunction d i j
 same_id_same_function d i j e atom fits = ap (λ k. value_of d k atom) e
 
-module _ (d : Collection) (r : IsReduced d) where
+module _ (d : DiagramsParts) (r : IsReduced d) where
   apart_sym : (i j : ℕ) → IsApart d i j → IsApart d j i
   apart_sym i j a = record { atom = a.atom; fits = a.fits; apart = λ e. a.apart (sym e) }
 

@@ -6,17 +6,17 @@ use Rattle.kat_model.proofs.Places.{slice_get-append_left, slice_get_last}
 use Rattle.kat_model.proofs.ValuesInOrder.{course_of_values-append}
 use Rattle.test_diagrams.specs.declared.diagrams.Node.{Node}
 use Rattle.test_diagrams.specs.declared.diagrams.Node.TheVariants.{Branch}
-use Rattle.test_diagrams.specs.Functions.{Collection, node_value, IsDiagramId, IsDiagramOf, KeepsFunctions}
+use Rattle.test_diagrams.specs.Functions.{DiagramsParts, node_value, IsDiagramId, IsDiagramOf, KeepsFunctions}
 use Rattle.test_diagrams.specs.Reduced.{level_at, level_of, IsBranch, IsReduced}
 use Rattle.test_diagrams.specs.Operations.{choice_of}
 use Rattle.test_diagrams.proofs.Values.{value_of-branch}
 use Rattle.test_diagrams.proofs.Kept.{KeepsFunctions-itself}
 
 -- the same collection, with these nodes
-abbrev pub with_nodes : Collection → List Node → Collection
+abbrev pub with_nodes : DiagramsParts → List Node → DiagramsParts
 with_nodes d nodes = record { tests = d.tests; nodes = nodes }
 
-module _ (d : Collection) (more : List Node) where
+module _ (d : DiagramsParts) (more : List Node) where
   pub KeepsFunctions-more : KeepsFunctions d (with_nodes d (d.nodes ++ more))
   KeepsFunctions-more = record {
     tests = refl;
@@ -41,7 +41,7 @@ module _ (d : Collection) (more : List Node) where
       }
 
 -- a branch stays one under equal names
-branch_renamed : (d : Collection) (id place test own low first high second : ℕ) → id ≡ place → Branch test low high ≡ Branch own first second → IsBranch d place test low high → IsBranch d id own first second
+branch_renamed : (d : DiagramsParts) (id place test own low first high second : ℕ) → id ≡ place → Branch test low high ≡ Branch own first second → IsBranch d place test low high → IsBranch d id own first second
 branch_renamed d id place test own low first high second same nodes b =
     let tests : test ≡ own = cc in
     let lows : low ≡ first = cc in
@@ -49,7 +49,7 @@ branch_renamed d id place test own low first high second same nodes b =
     subst (λ i. IsBranch d i own first second) (sym same) (subst (λ t. IsBranch d place t first second) tests (subst (λ l. IsBranch d place test l second) lows (subst (λ h. IsBranch d place test low h) highs b)))
 
 -- the collection stays reduced where a branch is added that is such
-pub reduced_push : (d : Collection) (test low high : ℕ) → IsReduced d → IsBranch d (length d.nodes) test low high
+pub reduced_push : (d : DiagramsParts) (test low high : ℕ) → IsReduced d → IsBranch d (length d.nodes) test low high
     → HasNoDoubles (d.nodes ++ Branch test low high ∷ []) → IsReduced (with_nodes d (d.nodes ++ Branch test low high ∷ []))
 reduced_push d test low high r b once = record {
   never = slice_get-append_left d.nodes _ 0 (slice_get_within d.nodes 0 _ r.never) ∙ r.never;
@@ -63,13 +63,13 @@ reduced_push d test low high r b once = record {
 }
 
 -- what a collection is after a branch was added, or was there
-pub record HasBranch (old new : Collection) (test low high id : ℕ) : Type 0 where
+pub record HasBranch (old new : DiagramsParts) (test low high id : ℕ) : Type 0 where
   pub kept : KeepsFunctions old new
   pub reduced : IsReduced new
   pub function : IsDiagramOf new id (choice_of old test low high)
 
 -- the value of the branch in the new collection
-branch_has_choice : (old new : Collection) (test low high id : ℕ) → KeepsFunctions old new → IsReduced new → IsDiagramId old low → IsDiagramId old high → slice_get new.nodes id ≡ Some (Branch test low high)
+branch_has_choice : (old new : DiagramsParts) (test low high id : ℕ) → KeepsFunctions old new → IsReduced new → IsDiagramId old low → IsDiagramId old high → slice_get new.nodes id ≡ Some (Branch test low high)
     → HasBranch old new test low high id
 branch_has_choice old new test low high id kept reduced low_there high_there e =
     let b = reduced.branches id test low high e in
@@ -84,7 +84,7 @@ branch_has_choice old new test low high id kept reduced low_there high_there e =
       };
     }
 
-pub has_branch : (old new : Collection) (test low high id : ℕ) → IsReduced old → IsBranch old (length old.nodes) test low high → new.tests ≡ old.tests
+pub has_branch : (old new : DiagramsParts) (test low high id : ℕ) → IsReduced old → IsBranch old (length old.nodes) test low high → new.tests ≡ old.tests
     → (there : Bool) → new.nodes ≡ (if there then old.nodes else old.nodes ++ Branch test low high ∷ [])
     → HasNoDoubles new.nodes → slice_get new.nodes id ≡ Some (Branch test low high) → HasBranch old new test low high id
 has_branch old new test low high id r b tests true nodes once e =

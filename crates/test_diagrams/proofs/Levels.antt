@@ -4,11 +4,11 @@ use Rattle.std.proofs.lemmas.Option.{slice_get-get_or, slice_get_within}
 use Rattle.kat_model.specs.Steps.{Atom}
 use Rattle.test_diagrams.specs.declared.diagrams.Node.{Node}
 use Rattle.test_diagrams.specs.declared.diagrams.Node.TheVariants.{Constant, Branch}
-use Rattle.test_diagrams.specs.Functions.{Collection, value_of, IsDiagramId, IsAtomOf}
+use Rattle.test_diagrams.specs.Functions.{DiagramsParts, value_of, IsDiagramId, IsAtomOf}
 use Rattle.test_diagrams.specs.Reduced.{level_at, level_of, IsReduced}
 use Rattle.test_diagrams.proofs.Values.{value_of-constant, value_of-branch}
 
-module _ (d : Collection) where
+module _ (d : DiagramsParts) where
   pub node_of_id : (id : ℕ) → IsDiagramId d id → (node : Node) × (slice_get d.nodes id ≡ Some node)
   node_of_id id h = (get_or d.nodes id (Constant false), slice_get-get_or d.nodes id (Constant false) h)
 

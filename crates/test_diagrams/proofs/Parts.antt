@@ -6,12 +6,12 @@ use Rattle.std.proofs.lemmas.Option.{slice_get_within}
 use Rattle.kat_model.specs.Steps.{Atom}
 use Rattle.test_diagrams.specs.declared.diagrams.Node.TheVariants.{Constant, Branch}
 use Rattle.test_diagrams.specs.declared.diagrams.Operation.TheVariants.{And, Or, Not, Fix}
-use Rattle.test_diagrams.specs.Functions.{Collection, value_of, IsDiagramId}
+use Rattle.test_diagrams.specs.Functions.{DiagramsParts, value_of, IsDiagramId}
 use Rattle.test_diagrams.specs.Reduced.{level_of, IsReduced}
 use Rattle.test_diagrams.specs.Operations.{IsPart, IsCofactor}
 use Rattle.test_diagrams.proofs.Levels.{level_of-constant, level_of-branch, value_of-set_above, value_of-set_own}
 
-module _ (d : Collection) (r : IsReduced d) where
+module _ (d : DiagramsParts) (r : IsReduced d) where
   -- a diagram whose top is below the test stays
   pub part_same : (id test : ℕ) (value : Bool) → IsDiagramId d id → test < level_of d id → IsPart d id test value id
   part_same id test value there above = record {

@@ -5,11 +5,11 @@ use Rattle.indexmap.specs.IndexMap.{insert_entry}
 use Rattle.kat_model.specs.Steps.{Atom}
 use Rattle.test_diagrams.specs.declared.diagrams.Operation.{Operation}
 use Rattle.test_diagrams.specs.declared.diagrams.Operation.TheVariants.{And, Or, Not, Fix}
-use Rattle.test_diagrams.specs.Functions.{Collection, IsDiagramOf, KeepsFunctions}
+use Rattle.test_diagrams.specs.Functions.{DiagramsParts, IsDiagramOf, KeepsFunctions}
 use Rattle.test_diagrams.specs.Operations.{HasOperands, function_of, IsResult, AreResults}
 use Rattle.test_diagrams.proofs.Kept.{IsDiagramOf-kept}
 
-module _ (old new : Collection) (kept : KeepsFunctions old new) where
+module _ (old new : DiagramsParts) (kept : KeepsFunctions old new) where
   pub operands_kept : (operation : Operation) → HasOperands old operation → HasOperands new operation
   operands_kept (And a b) h = (kept.ids a h.0, kept.ids b h.1)
   operands_kept (Or a b) h = (kept.ids a h.0, kept.ids b h.1)
@@ -34,7 +34,7 @@ module _ (old new : Collection) (kept : KeepsFunctions old new) where
   results_kept (entry ∷ entries) h =
       (result_from_old entry.0 entry.1 h.0.0 (IsDiagramOf-kept old new kept entry.1 (function_of old entry.0) h.0.1), results_kept entries h.1)
 
-module _ (d : Collection) (eq : Operation → Operation → Bool) where
+module _ (d : DiagramsParts) (eq : Operation → Operation → Bool) where
   result_looked_up : (entries : List (Operation × ℕ)) (operation : Operation) (id : ℕ) → AreResults d entries → lookup (eq operation) entries ≡ Some id → ((x y : Operation) → eq x y ≡ true → x ≡ y) → IsResult d operation id
   result_looked_up [] operation id h e same = absurd cc
   result_looked_up (entry ∷ entries) operation id h e same = by (eq operation entry.0) refl e (λ f. result_looked_up entries operation id h.1 f same)

@@ -7,7 +7,7 @@ use Rattle.test_diagrams.specs.declared.diagrams.Node.{Node}
 use Rattle.test_diagrams.specs.declared.diagrams.Node.TheVariants.{Constant, Branch}
 use Rattle.test_diagrams.specs.declared.diagrams.Operation.{Operation}
 use Rattle.test_diagrams.specs.declared.diagrams.Operation.TheVariants.{And, Or, Not}
-use Rattle.test_diagrams.specs.Functions.{Collection, value_of, IsDiagramId, IsDiagramOf}
+use Rattle.test_diagrams.specs.Functions.{DiagramsParts, value_of, IsDiagramId, IsDiagramOf}
 use Rattle.test_diagrams.specs.Reduced.{level_of, IsReduced}
 use Rattle.test_diagrams.specs.Absorption.{IsAbsorbed}
 use Rattle.test_diagrams.specs.Operations.{HasOperands, IsOpen, IsResult}
@@ -34,7 +34,7 @@ right_of_or false y why = refl
 right_of_or true true why = refl
 right_of_or true false why = ⊎_elim sym (λ e. e) why
 
-module _ (d : Collection) (r : IsReduced d) where
+module _ (d : DiagramsParts) (r : IsReduced d) where
   pub value_of-never : (atom : Atom) → value_of d 0 atom ≡ false
   value_of-never atom = value_of-constant d 0 false atom r.never
 

@@ -4,13 +4,13 @@ use Rattle.std.proofs.lemmas.Bool.{cases_lt}
 use Rattle.std.proofs.lemmas.Option.{slice_get_within}
 use Rattle.test_diagrams.specs.declared.diagrams.Node.{Node}
 use Rattle.test_diagrams.specs.declared.diagrams.Node.TheVariants.{Constant, Branch}
-use Rattle.test_diagrams.specs.Functions.{Collection, IsDiagramId, IsConstant, DependsOn, IsIndependent, IsLeastTest}
+use Rattle.test_diagrams.specs.Functions.{DiagramsParts, IsDiagramId, IsConstant, DependsOn, IsIndependent, IsLeastTest}
 use Rattle.test_diagrams.specs.Reduced.{level_of, IsReduced}
 use Rattle.test_diagrams.proofs.Values.{value_of-constant}
 use Rattle.test_diagrams.proofs.Levels.{node_of_id, level_of-constant, level_of-branch, value_of-set_above}
 use Rattle.test_diagrams.proofs.Apart.{branch_depends}
 
-module _ (d : Collection) where
+module _ (d : DiagramsParts) where
   depends_or_not : (id test : ℕ) → DependsOn d id test → IsIndependent d id test → ⊥
   depends_or_not id test depends independent =
       depends.changes (independent depends.atom depends.fits _ ∙ sym (independent depends.atom depends.fits _))

@@ -3,9 +3,9 @@ use Rattle.std.proofs.Common.{◌≡◌, ℕ, ◌<◌, List, Bool, true, false, 
 use Rattle.kat_model.specs.Steps.{Atom}
 use Rattle.kat_model.proofs.ValuesInOrder.{course_of_values-at}
 use Rattle.test_diagrams.specs.declared.diagrams.Node.TheVariants.{Constant, Branch}
-use Rattle.test_diagrams.specs.Functions.{Collection, node_value, value_of}
+use Rattle.test_diagrams.specs.Functions.{DiagramsParts, node_value, value_of}
 
-module _ (d : Collection) where
+module _ (d : DiagramsParts) where
   pub value_of-constant : (id : ℕ) (value : Bool) (atom : Atom) → slice_get d.nodes id ≡ Some (Constant value) → value_of d id atom ≡ value
   value_of-constant id value atom e = (course_of_values-at (node_value atom) false d.nodes id (Constant value) e).here
 

@@ -6,7 +6,7 @@ use Rattle.test_diagrams.specs.declared.diagrams.Node.{Node}
 use Rattle.test_diagrams.specs.declared.diagrams.Node.TheVariants.{Constant, Branch}
 
 -- binary decision diagrams over this many tests (Bryant 1986). An id is the place of a node
-pub record Collection : Type 0 where
+pub record DiagramsParts : Type 0 where
   pub tests : ℕ
   pub nodes : List Node
 
@@ -16,55 +16,55 @@ node_value atom earlier (Constant value) = value
 node_value atom earlier (Branch test low high) = slice_index_or earlier (if slice_index_or atom test false then high else low) false
 
 -- the value of an id at an atom
-abbrev pub value_of : Collection → ℕ → Atom → Bool
+abbrev pub value_of : DiagramsParts → ℕ → Atom → Bool
 value_of d id atom = slice_index_or (course_of_values (node_value atom) d.nodes) id false
 
 -- the number is an id of the collection
-abbrev pub IsDiagramId : Collection → ℕ → Type 0
+abbrev pub IsDiagramId : DiagramsParts → ℕ → Type 0
 IsDiagramId d id = id < length d.nodes
 
 -- the atom has a truth value for each test
-abbrev pub IsAtomOf : Collection → Atom → Type 0
+abbrev pub IsAtomOf : DiagramsParts → Atom → Type 0
 IsAtomOf d atom = length atom ≡ d.tests
 
 -- the id is that of a diagram for the function
-pub record IsDiagramOf (d : Collection) (id : ℕ) (function : Atom → Bool) : Type 0 where
+pub record IsDiagramOf (d : DiagramsParts) (id : ℕ) (function : Atom → Bool) : Type 0 where
   pub in_range : IsDiagramId d id
   pub value : (atom : Atom) → IsAtomOf d atom → value_of d id atom ≡ function atom
 
 -- two ids have one function
-abbrev pub SameFunction : Collection → ℕ → ℕ → Type 0
+abbrev pub SameFunction : DiagramsParts → ℕ → ℕ → Type 0
 SameFunction d i j = (atom : Atom) → IsAtomOf d atom → value_of d i atom ≡ value_of d j atom
 
 -- two ids differ at some atom
-pub record IsApart (d : Collection) (i j : ℕ) : Type 0 where
+pub record IsApart (d : DiagramsParts) (i j : ℕ) : Type 0 where
   pub atom : Atom
   pub fits : IsAtomOf d atom
   pub apart : value_of d i atom ≢ value_of d j atom
 
 -- the function has one value at all atoms
-pub record IsConstant (d : Collection) (id : ℕ) : Type 0 where
+pub record IsConstant (d : DiagramsParts) (id : ℕ) : Type 0 where
   pub constant : Bool
   pub value : (atom : Atom) → IsAtomOf d atom → value_of d id atom ≡ constant
 
 -- at some atom the function changes with the value of the test
-pub record DependsOn (d : Collection) (id test : ℕ) : Type 0 where
+pub record DependsOn (d : DiagramsParts) (id test : ℕ) : Type 0 where
   pub atom : Atom
   pub fits : IsAtomOf d atom
   pub changes : value_of d id (slice_set atom test false) ≢ value_of d id (slice_set atom test true)
 
 -- at no atom does the function change with the value of the test
-abbrev pub IsIndependent : Collection → ℕ → ℕ → Type 0
+abbrev pub IsIndependent : DiagramsParts → ℕ → ℕ → Type 0
 IsIndependent d id test = (atom : Atom) → IsAtomOf d atom → (value : Bool) → value_of d id (slice_set atom test value) ≡ value_of d id atom
 
 -- the least test on which the function depends
-pub record IsLeastTest (d : Collection) (id test : ℕ) : Type 0 where
+pub record IsLeastTest (d : DiagramsParts) (id test : ℕ) : Type 0 where
   pub in_range : test < d.tests
   pub depends : DependsOn d id test
   pub least : (other : ℕ) → other < test → IsIndependent d id other
 
 -- older ids are still ids and keep their functions, and the number of tests stays
-pub record KeepsFunctions (old new : Collection) : Type 0 where
+pub record KeepsFunctions (old new : DiagramsParts) : Type 0 where
   pub tests : new.tests ≡ old.tests
   pub ids : (id : ℕ) → IsDiagramId old id → IsDiagramId new id
   pub values : (id : ℕ) → IsDiagramId old id → (atom : Atom) → value_of new id atom ≡ value_of old id atom

@@ -3,50 +3,50 @@ use Rattle.std.specs.Prelude.{◌≡◌, ◌<◌, ◌≤◌, ◌+◌, ℕ, min, 
 use Rattle.kat_model.specs.Steps.{Atom}
 use Rattle.test_diagrams.specs.declared.diagrams.Operation.{Operation}
 use Rattle.test_diagrams.specs.declared.diagrams.Operation.TheVariants.{And, Or, Not, Fix}
-use Rattle.test_diagrams.specs.Functions.{Collection, value_of, IsDiagramId, IsAtomOf, IsDiagramOf}
+use Rattle.test_diagrams.specs.Functions.{DiagramsParts, value_of, IsDiagramId, IsAtomOf, IsDiagramOf}
 use Rattle.test_diagrams.specs.Reduced.{level_of, IsReduced}
 
 -- the operands are ids of the collection, and tests of it
-abbrev pub HasOperands : Collection → Operation → Type 0
+abbrev pub HasOperands : DiagramsParts → Operation → Type 0
 HasOperands d (And a b) = IsDiagramId d a × IsDiagramId d b
 HasOperands d (Or a b) = IsDiagramId d a × IsDiagramId d b
 HasOperands d (Not a) = IsDiagramId d a
 HasOperands d (Fix a test value) = IsDiagramId d a × (test < d.tests)
 
 -- the function of an operation on the functions of its operands
-abbrev pub function_of : Collection → Operation → Atom → Bool
+abbrev pub function_of : DiagramsParts → Operation → Atom → Bool
 function_of d (And a b) atom = value_of d a atom && value_of d b atom
 function_of d (Or a b) atom = value_of d a atom || value_of d b atom
 function_of d (Not a) atom = not (value_of d a atom)
 function_of d (Fix a test value) atom = value_of d a (slice_set atom test value)
 
 -- the choice between two diagrams by a test
-abbrev pub choice_of : Collection → ℕ → ℕ → ℕ → Atom → Bool
+abbrev pub choice_of : DiagramsParts → ℕ → ℕ → ℕ → Atom → Bool
 choice_of d test low high atom = if slice_index_or atom test false then value_of d high atom else value_of d low atom
 
 -- the id is that of the operation's result
-abbrev pub IsResult : Collection → Operation → ℕ → Type 0
+abbrev pub IsResult : DiagramsParts → Operation → ℕ → Type 0
 IsResult d operation id = HasOperands d operation × IsDiagramOf d id (function_of d operation)
 
 -- each entry of the table of results is right
-abbrev pub AreResults : Collection → List (Operation × ℕ) → Type 0
+abbrev pub AreResults : DiagramsParts → List (Operation × ℕ) → Type 0
 AreResults d [] = Unit {0}
 AreResults d (entry ∷ entries) = IsResult d entry.0 entry.1 × AreResults d entries
 
 -- what a collection keeps, with its table of results
-pub record IsSound (d : Collection) (entries : List (Operation × ℕ)) : Type 0 where
+pub record IsSound (d : DiagramsParts) (entries : List (Operation × ℕ)) : Type 0 where
   pub reduced : IsReduced d
   pub results : AreResults d entries
 
 -- the least test at the top of the operands, or the number of tests
-abbrev pub top_of : Collection → Operation → ℕ
+abbrev pub top_of : DiagramsParts → Operation → ℕ
 top_of d (And a b) = min (level_of d a) (level_of d b)
 top_of d (Or a b) = min (level_of d a) (level_of d b)
 top_of d (Not a) = level_of d a
 top_of d (Fix a test value) = level_of d a
 
 -- there is a test at the top of the operands, which is not the one that is to be fixed
-abbrev pub IsOpen : Collection → Operation → Type 0
+abbrev pub IsOpen : DiagramsParts → Operation → Type 0
 IsOpen d (And a b) = top_of d (And a b) < d.tests
 IsOpen d (Or a b) = top_of d (Or a b) < d.tests
 IsOpen d (Not a) = top_of d (Not a) < d.tests
@@ -60,7 +60,7 @@ weight_of (Not a) = a
 weight_of (Fix a test value) = a
 
 -- what is left of a diagram where a test, at its top or above it, has the value
-pub record IsPart (d : Collection) (id test : ℕ) (value : Bool) (part : ℕ) : Type 0 where
+pub record IsPart (d : DiagramsParts) (id test : ℕ) (value : Bool) (part : ℕ) : Type 0 where
   pub in_range : IsDiagramId d part
   pub function : (atom : Atom) → IsAtomOf d atom → value_of d part atom ≡ value_of d id (slice_set atom test value)
   pub below : test < level_of d part
@@ -68,7 +68,7 @@ pub record IsPart (d : Collection) (id test : ℕ) (value : Bool) (part : ℕ) :
   pub earlier : level_of d id ≡ test → part < id
 
 -- what is left of an operation where the test at its top has the value
-pub record IsCofactor (d : Collection) (operation : Operation) (test : ℕ) (value : Bool) (part : Operation) : Type 0 where
+pub record IsCofactor (d : DiagramsParts) (operation : Operation) (test : ℕ) (value : Bool) (part : Operation) : Type 0 where
   pub operands : HasOperands d part
   pub function : (atom : Atom) → IsAtomOf d atom → function_of d part atom ≡ function_of d operation (slice_set atom test value)
   pub independent : (other : ℕ) → other ≤ test → (atom : Atom) → IsAtomOf d atom → (v : Bool) → function_of d part (slice_set atom other v) ≡ function_of d part atom

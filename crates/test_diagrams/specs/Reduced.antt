@@ -3,7 +3,7 @@ use Rattle.std.specs.Prelude.{◌≡◌, ◌≢◌, ◌<◌, ℕ, false, true, O
 use Rattle.kat_model.specs.Members.{HasNoDoubles}
 use Rattle.test_diagrams.specs.declared.diagrams.Node.{Node}
 use Rattle.test_diagrams.specs.declared.diagrams.Node.TheVariants.{Constant, Branch}
-use Rattle.test_diagrams.specs.Functions.{Collection}
+use Rattle.test_diagrams.specs.Functions.{DiagramsParts}
 
 abbrev pub level_at : ℕ → Option Node → ℕ
 level_at tests None = tests
@@ -11,11 +11,11 @@ level_at tests (Some (Constant value)) = tests
 level_at tests (Some (Branch test low high)) = test
 
 -- the test of the node, or the number of tests where it is a constant
-abbrev pub level_of : Collection → ℕ → ℕ
+abbrev pub level_of : DiagramsParts → ℕ → ℕ
 level_of d id = level_at d.tests (slice_get d.nodes id)
 
 -- a branch has two different parts, which are earlier and test later tests
-pub record IsBranch (d : Collection) (id test low high : ℕ) : Type 0 where
+pub record IsBranch (d : DiagramsParts) (id test low high : ℕ) : Type 0 where
   pub in_range : test < d.tests
   pub low_earlier : low < id
   pub high_earlier : high < id
@@ -24,7 +24,7 @@ pub record IsBranch (d : Collection) (id test low high : ℕ) : Type 0 where
   pub different : low ≢ high
 
 -- the first two ids are the constants, all branches are such, and no node stands twice
-pub record IsReduced (d : Collection) : Type 0 where
+pub record IsReduced (d : DiagramsParts) : Type 0 where
   pub never : slice_get d.nodes 0 ≡ Some (Constant false)
   pub always : slice_get d.nodes 1 ≡ Some (Constant true)
   pub branches : (id test low high : ℕ) → slice_get d.nodes id ≡ Some (Branch test low high) → IsBranch d id test low high

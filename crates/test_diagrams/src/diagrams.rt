@@ -62,10 +62,10 @@ pub struct Diagrams {
 }
 
 impl Model for Diagrams {
-    ghost use Rattle.test_diagrams.specs.Functions.{Collection};
+    ghost use Rattle.test_diagrams.specs.Functions.{DiagramsParts};
     ghost use Rattle.test_diagrams.specs.Operations.{IsSound};
 
-    ghost Value = { Collection };
+    ghost Value = { DiagramsParts };
 
     ghost view = { λ d. record { tests = d.tests; nodes = d.nodes.keys } };
 
@@ -351,7 +351,7 @@ impl Diagrams {
         self.results.get(operation).copied()
     }
 
-    // KeepsFunctions the result.
+    // The result.
     fn note(&mut self, operation: Operation, id: DiagramId) -> Result<(), NoMemory>
         requires { IsResult self.old operation id }
         ensures { self.new ≡ self.old }

@@ -1,10 +1,10 @@
 //! A law of ids and functions. The function does nothing: its contract is the law.
-ghost use Rattle.test_diagrams.specs.Functions.{Collection};
+ghost use Rattle.test_diagrams.specs.Functions.{DiagramsParts};
 ghost use Rattle.test_diagrams.specs.Reduced.{IsReduced};
 ghost use Rattle.test_diagrams.specs.Laws.{EqualIdsAreEqualFunctions};
 
 /// Two ids of one collection are equal exactly where their functions are, and ids that differ have
 /// different values at some atom.
 pub fn equal_ids_are_equal_functions()
-    ensures { (d : Collection) → IsReduced d → EqualIdsAreEqualFunctions d }
+    ensures { (d : DiagramsParts) → IsReduced d → EqualIdsAreEqualFunctions d }
 {}

@@ -4,8 +4,6 @@
 
 mod diagrams;
 mod laws;
-#[cfg(test)]
-mod tests;
 
 pub use diagrams::{DiagramId, Diagrams};
 pub use laws::equal_ids_are_equal_functions;

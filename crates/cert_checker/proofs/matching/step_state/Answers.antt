@@ -1,8 +1,9 @@
-use Rattle.std.proofs.Common.{◌≡◌, ℕ, ◌&&◌, List, sym, ap, ◌∙◌}
+use Rattle.std.proofs.Common.{◌≡◌, ℕ, ◌&&◌, false, List, sym, ap, ◌∙◌}
+use Rattle.std.specs.Option.{option_map_or}
 use Rattle.certificate.specs.declared.nodes.Style.TheVariants.{Plain, UpTo}
 use Rattle.certificate.specs.Nodes.{NumberPair}
 use Rattle.cert_checker.specs.declared.known.Known.TheVariants.{Waits}
-use Rattle.cert_checker.specs.Matching.{RuleParts, option_any, is_sure, covers, lists, sure_targets}
+use Rattle.cert_checker.specs.Matching.{RuleParts, is_sure, covers, lists, sure_targets}
 use Rattle.cert_checker.proofs.StepAnswers.{universal_holds, listed_holds, unlisted_fails, covered_holds, uncovered_fails}
 use Rattle.cert_checker.proofs.matching.step_state.Goals as goal
 
@@ -14,7 +15,7 @@ returns-then-are_universal c =
     let same : c.rules.inside.universal ≡ c.args.rules.now.universal = ap (λ (r : RuleParts). r.universal) c.rules.view_is in
     λ decided ak.
     universal_holds c.args.tables.now c.term_count-count.ensures.tables decided known ak c.args.rules.now c.requires.rules left right c.requires.left c.requires.right
-    (ap (option_any (λ u. is_sure known left u && is_sure known right u)) (sym same) ∙ sym c.are_universal.ensures ∙ c.if-are_universal.true)
+    (ap (λ o. option_map_or (λ u. is_sure known left u && is_sure known right u) o false) (sym same) ∙ sym c.are_universal.ensures ∙ c.if-are_universal.true)
 
 pub returns-then-branch : goal.returns-then-branch
 returns-then-branch c =
@@ -39,7 +40,7 @@ returns-else-branch c =
     λ decided ak.
     unlisted_fails c.args.tables.now c.term_count-count.ensures.tables decided known ak c.args.rules.now c.requires.rules left right c.requires.left c.requires.right
     c.in-None.ensures.waits.0 c.in-None.ensures.waits.1 c.in-None.ensures.left_ordered c.in-None.ensures.right_ordered plainly
-    (ap (option_any (λ u. is_sure known left u && is_sure known right u)) (sym universal) ∙ sym c.are_universal.ensures ∙ c.if-are_universal.false)
+    (ap (λ o. option_map_or (λ u. is_sure known left u && is_sure known right u) o false) (sym universal) ∙ sym c.are_universal.ensures ∙ c.if-are_universal.false)
     (ap (λ (ps : List NumberPair). lists ps (sure_targets known left) (sure_targets known right)) same ∙ sym c.in_ok-are_listed-in-None.ensures ∙ c.if-branch.false)
 
 pub returns-in-Some : goal.returns-in-Some

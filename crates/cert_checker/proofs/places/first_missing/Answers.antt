@@ -13,7 +13,7 @@ use Rattle.cert_checker.specs.Targets.{AreSteps}
 use Rattle.kat_model.specs.Steps.{set_next}
 use Rattle.cert_checker.proofs.AddingTargets.{grows_trans}
 use Rattle.cert_checker.proofs.StepLists.{all_step, grows_longer}
-use Rattle.cert_checker.proofs.Insertions.{numbers_more}
+use Rattle.certificate.proofs.Growth.{below_more as numbers_more}
 use Rattle.cert_checker.proofs.PairSets.{set_pair, pair_at, rules_kept, steps_first}
 use Rattle.cert_checker.proofs.PairPlaces.{first_missing, no_missing, all_matched}
 use Rattle.cert_checker.proofs.places.first_missing.Goals as goal

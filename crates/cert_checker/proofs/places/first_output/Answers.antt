@@ -10,7 +10,7 @@ use Rattle.cert_checker.specs.Matching.{AreRules}
 use Rattle.cert_checker.specs.Places.{undecided}
 use Rattle.cert_checker.proofs.AddingTargets.{grows_trans}
 use Rattle.cert_checker.proofs.StepLists.{all_accept, grows_longer}
-use Rattle.cert_checker.proofs.Insertions.{numbers_more}
+use Rattle.certificate.proofs.Growth.{below_more as numbers_more}
 use Rattle.cert_checker.proofs.PairSets.{set_pair, pair_at, rules_kept, outputs_first}
 use Rattle.cert_checker.proofs.PairPlaces.{first_output, no_output, all_alike}
 use Rattle.cert_checker.proofs.places.first_output.Goals as goal

@@ -5,7 +5,7 @@ use Rattle.certificate.specs.Nodes.{NumberPair, are_below}
 use Rattle.cert_checker.specs.Matching.{terms_of}
 use Rattle.cert_checker.proofs.SetAcceptances.{guard_kept}
 use Rattle.cert_checker.proofs.StepLists.{all_accept}
-use Rattle.cert_checker.proofs.Insertions.{numbers_more}
+use Rattle.certificate.proofs.Growth.{below_more}
 use Rattle.cert_checker.proofs.PairSets.{terms_stay, outputs_told}
 use Rattle.cert_checker.proofs.places.pair_output.Goals as goal
 
@@ -20,7 +20,7 @@ returns-clause-first c =
     let p = c.args.pair.now in
     let left_set : c.as_slice.result.now ≡ p.left = c.as_slice.ensures ∙ ap (λ (z : NumberPair). z.left) c.pair.view_is in
     let right_set : c.as_slice-2.result.now ≡ p.right = c.as_slice-2.ensures ∙ ap (λ (z : NumberPair). z.right) c.pair.view_is in
-    let low : are_below (length t.terms) p.right ≡ true = numbers_more (length c.args.accepting.now) (length t.terms) p.right c.requires.count c.requires.right in
+    let low : are_below (length t.terms) p.right ≡ true = below_more (length c.args.accepting.now) (length t.terms) p.right c.requires.count c.requires.right in
     let right_terms : terms_of mid c.as_slice-2.result.now ≡ terms_of t p.right = ap (terms_of mid) right_set ∙ terms_stay t mid c.rules.ensures c.set_acceptance.ensures.grows p.right low in
     let left = guard_kept mid new c.set_acceptance.ensures.tables c.set_acceptance-2.ensures.grows c.in_ok-left.left c.in_ok-left.ensures.is_test (λ atom. set_out (terms_of t p.left) atom)
     (λ atom. c.in_ok-left.ensures.value atom ∙ ap (λ (ks : List ℕ). set_out (terms_of t ks) atom) left_set) in

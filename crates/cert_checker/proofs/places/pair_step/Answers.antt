@@ -11,7 +11,7 @@ use Rattle.cert_checker.specs.Targets.{StandFor}
 use Rattle.cert_checker.proofs.AddingTargets.{grows_trans}
 use Rattle.cert_checker.proofs.StepLists.{all_step}
 use Rattle.cert_checker.proofs.StepSets.{stand_kept}
-use Rattle.cert_checker.proofs.Insertions.{numbers_more}
+use Rattle.certificate.proofs.Growth.{below_more}
 use Rattle.cert_checker.proofs.PairSets.{terms_stay, matching_told}
 use Rattle.cert_checker.proofs.places.pair_step.Goals as goal
 
@@ -34,7 +34,7 @@ returns-clause-first c =
     let a = c.args.action in
     let left_set : c.as_slice.result.now ≡ p.left = c.as_slice.ensures ∙ ap (λ (z : NumberPair). z.left) c.pair.view_is in
     let right_set : c.as_slice-2.result.now ≡ p.right = c.as_slice-2.ensures ∙ ap (λ (z : NumberPair). z.right) c.pair.view_is in
-    let low : are_below (length t.terms) p.right ≡ true = numbers_more (length c.args.list.now) (length t.terms) p.right c.requires.count c.requires.right in
+    let low : are_below (length t.terms) p.right ≡ true = below_more (length c.args.list.now) (length t.terms) p.right c.requires.count c.requires.right in
     let right_terms : terms_of mid c.as_slice-2.result.now ≡ terms_of t p.right = ap (terms_of mid) right_set ∙ terms_stay t mid c.rules.ensures c.of_set.ensures.grows p.right low in
     let left = stand_kept mid new c.of_set.ensures.tables c.of_set-2.ensures.grows c.in_ok-left.left.entries (λ atom. set_next (terms_of t p.left) atom a)
     (subst (λ (ks : List ℕ). StandFor mid c.in_ok-left.left.entries (λ atom. set_next (terms_of t ks) atom a)) left_set c.in_ok-left.ensures.targets) in

@@ -1,6 +1,8 @@
-use Rattle.std.proofs.Common.{sym, ◌∙◌}
-use Rattle.certificate.proofs.Ascending.{last_ascends}
+use Rattle.std.proofs.Common.{nat_lt, rules}
+use Rattle.std.proofs.lemmas.Fn.{always_returns_same}
+use Rattle.certificate.proofs.Ascending.{ascending_answer}
 use Rattle.certificate.proofs.draft.is_ascending.Goals as goal
 
 pub returns : goal.returns
-returns c = sym (c.loop-i.invariant ∙ last_ascends c.args.numbers.now c.loop-i.i c.loop-i-test.false)
+returns c =
+    ascending_answer c.args.numbers.now c.is_sorted_by.result (c.is_sorted_by.ensures.cases (λ x y. nat_lt x y) (always_returns_same _ _ _ (λ a r f k. search rules)))

@@ -21,7 +21,7 @@ decreases-disjunction g l = 4 * (length l.toks.now - l.from) + 2
 abbrev pub invariant-conjunction-parts : goal.invariant-conjunction-parts
 invariant-conjunction-parts g l = record {
   place : (l.from < l.at) × (l.at ≤ length l.toks);
-  value : parse_cond (g.R.Reading.actions l.reading).conds (conjunction_after (g.R.Reading.conds l.list)) l.around (drop l.at (lexemes l.toks)) ≡ parse_cond (g.R.Reading.actions l.reading).conds conjunction l.around (drop l.from (lexemes l.toks));
+  value : parse_cond (g.R.Reading.actions l.reading).conds (conjunction_after (g.R.Reading.conds l.list)) l.context (drop l.at (lexemes l.toks)) ≡ parse_cond (g.R.Reading.actions l.reading).conds conjunction l.context (drop l.from (lexemes l.toks));
 }
 
 abbrev pub decreases-conjunction-parts : goal.decreases-conjunction-parts
@@ -30,7 +30,7 @@ decreases-conjunction-parts g l = length l.toks - l.at
 abbrev pub invariant-disjunction-parts : goal.invariant-disjunction-parts
 invariant-disjunction-parts g l = record {
   place : (l.from < l.at) × (l.at ≤ length l.toks);
-  value : parse_cond (g.R.Reading.actions l.reading).conds (disjunction_after (g.R.Reading.conds l.list)) l.around (drop l.at (lexemes l.toks)) ≡ parse_cond (g.R.Reading.actions l.reading).conds disjunction l.around (drop l.from (lexemes l.toks));
+  value : parse_cond (g.R.Reading.actions l.reading).conds (disjunction_after (g.R.Reading.conds l.list)) l.context (drop l.at (lexemes l.toks)) ≡ parse_cond (g.R.Reading.actions l.reading).conds disjunction l.context (drop l.from (lexemes l.toks));
 }
 
 abbrev pub decreases-disjunction-parts : goal.decreases-disjunction-parts

@@ -18,7 +18,7 @@ decreases-sum g l = 4 * (length l.toks.now - l.from) + 2
 abbrev pub invariant-product-parts : goal.invariant-product-parts
 invariant-product-parts g l = record {
   place : (l.from < l.at) × (l.at ≤ length l.toks);
-  value : parse_expr (g.R.Reading.actions l.reading).conds.exprs (products_after (g.R.Reading.expr l.all)) l.around (drop l.at (lexemes l.toks)) ≡ parse_expr (g.R.Reading.actions l.reading).conds.exprs products l.around (drop l.from (lexemes l.toks));
+  value : parse_expr (g.R.Reading.actions l.reading).conds.exprs (products_after (g.R.Reading.expr l.all)) l.context (drop l.at (lexemes l.toks)) ≡ parse_expr (g.R.Reading.actions l.reading).conds.exprs products l.context (drop l.from (lexemes l.toks));
 }
 
 abbrev pub decreases-product-parts : goal.decreases-product-parts
@@ -27,7 +27,7 @@ decreases-product-parts g l = length l.toks - l.at
 abbrev pub invariant-sum-parts : goal.invariant-sum-parts
 invariant-sum-parts g l = record {
   place : (l.from < l.at) × (l.at ≤ length l.toks);
-  value : parse_expr (g.R.Reading.actions l.reading).conds.exprs (sums_after (g.R.Reading.expr l.all)) l.around (drop l.at (lexemes l.toks)) ≡ parse_expr (g.R.Reading.actions l.reading).conds.exprs sums l.around (drop l.from (lexemes l.toks));
+  value : parse_expr (g.R.Reading.actions l.reading).conds.exprs (sums_after (g.R.Reading.expr l.all)) l.context (drop l.at (lexemes l.toks)) ≡ parse_expr (g.R.Reading.actions l.reading).conds.exprs sums l.context (drop l.from (lexemes l.toks));
 }
 
 abbrev pub decreases-sum-parts : goal.decreases-sum-parts

@@ -1,4 +1,4 @@
-use Rattle.kat_syntax.proofs.Folded.{term_parsed, cond_parsed, expr_parsed}
+use Rattle.kat_syntax.proofs.ParserCompleteness.{term_parsed, cond_parsed, expr_parsed}
 use Rattle.kat_syntax.proofs.laws.phrases_are_folded.Goals as goal
 
 pub returns-clause-terms : goal.returns-clause-terms

@@ -1,7 +1,7 @@
 use Rattle.kat_syntax.specs.Exprs.{sums}
 use Rattle.kat_syntax.specs.Conds.{disjunction}
 use Rattle.kat_syntax.specs.Terms.{choice}
-use Rattle.kat_syntax.proofs.Found.{expr_found, cond_found, term_found}
+use Rattle.kat_syntax.proofs.ParserSoundness.{expr_found, cond_found, term_found}
 use Rattle.kat_syntax.proofs.laws.readings_are_phrases.Goals as goal
 
 pub returns-clause-terms : goal.returns-clause-terms

@@ -21,7 +21,7 @@ decreases-choice g l = 4 * (length l.toks.now - l.from) + 2
 abbrev pub invariant-sequence-parts : goal.invariant-sequence-parts
 invariant-sequence-parts g l = record {
   place : (l.from < l.at) × (l.at ≤ length l.toks);
-  value : parse_term (g.R.Reading.actions l.reading) (sequence_after (g.R.Reading.terms l.list)) l.around (drop l.at (lexemes l.toks)) ≡ parse_term (g.R.Reading.actions l.reading) sequence l.around (drop l.from (lexemes l.toks));
+  value : parse_term (g.R.Reading.actions l.reading) (sequence_after (g.R.Reading.terms l.list)) l.context (drop l.at (lexemes l.toks)) ≡ parse_term (g.R.Reading.actions l.reading) sequence l.context (drop l.from (lexemes l.toks));
 }
 
 abbrev pub decreases-sequence-parts : goal.decreases-sequence-parts
@@ -30,7 +30,7 @@ decreases-sequence-parts g l = length l.toks - l.at
 abbrev pub invariant-choice-parts : goal.invariant-choice-parts
 invariant-choice-parts g l = record {
   place : (l.from < l.at) × (l.at ≤ length l.toks);
-  value : parse_term (g.R.Reading.actions l.reading) (choice_after (g.R.Reading.terms l.list)) l.around (drop l.at (lexemes l.toks)) ≡ parse_term (g.R.Reading.actions l.reading) choice l.around (drop l.from (lexemes l.toks));
+  value : parse_term (g.R.Reading.actions l.reading) (choice_after (g.R.Reading.terms l.list)) l.context (drop l.at (lexemes l.toks)) ≡ parse_term (g.R.Reading.actions l.reading) choice l.context (drop l.from (lexemes l.toks));
 }
 
 abbrev pub decreases-choice-parts : goal.decreases-choice-parts

@@ -2,7 +2,7 @@ use Rattle.std.proofs.Common.{◌≡◌, ◌+◌, ℕ, List, ◌++◌, length, d
 use denote.Text.{Utf8}
 use denote.Shadow.{shadow}
 use Rattle.kat_tokens.specs.Lex.{LexesFrom}
-use Rattle.kat_tokens.specs.Marks.{Mark, marks}
+use Rattle.kat_tokens.specs.TokenParts.{TokenParts, parts_of_tokens}
 use Rattle.kat_tokens.proofs.lexer.tokens.Given as goal
 
 -- the rest is what stands from the place on, and its tokens are those that follow the ones found
@@ -11,7 +11,7 @@ invariant-loop-rest l = record {
   utf8 : shadow (Utf8 l.rest);
   rest : l.rest ≡ drop l.at l.text;
   place : l.at + length l.rest ≡ length l.text;
-  whole : (more : List Mark) (end : ℕ) → LexesFrom l.text l.at more end → LexesFrom l.text 0 (marks l.found.items ++ more) end;
+  whole : (more : List TokenParts) (end : ℕ) → LexesFrom l.text l.at more end → LexesFrom l.text 0 (parts_of_tokens l.found.items ++ more) end;
 }
 
 abbrev pub decreases-loop-rest : goal.decreases-loop-rest

@@ -13,11 +13,11 @@ mono_value-returns-in-Product t c =
 
 pub value-loop-term-init : goal.value-loop-term-init
 value-loop-term-init t c =
-    rw (c.cut-total.ensures, c.deref-term-items.ensures.value, ← c.form.view_is)
+    rw (c.residue-total.ensures, c.deref-term-items.ensures.value, ← c.form.view_is)
     (let p = total_begun (modulus c.args.width) c.args.store.now c.form.inside.terms.items c.form.inside.constant in record { cut = p.0; whole = p.1 })
 
 pub value-loop-term-preserved : goal.value-loop-term-preserved
 value-loop-term-preserved t c =
     let p = total_more (modulus c.args.width) c.args.store.now c.loop-term.total c.loop-term.term-index c.deref-term-items.result.now (polynomial c.args.store.now c.args.form.now)
     (mono_tree c.term.inside.mono, c.term.inside.times) (search rules) (search rules) c.loop-term.invariant.whole in
-    rw (c.add-total.ensures, c.mul.ensures, c.mono_value.ensures) (record { cut = cong_cut (modulus c.args.width) _; whole = p })
+    rw (c.add-total.ensures, c.mul-part.ensures, c.mono_value.ensures) (record { cut = cong_cut (modulus c.args.width) _; whole = p })

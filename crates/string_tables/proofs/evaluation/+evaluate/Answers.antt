@@ -1,7 +1,7 @@
 use Rattle.std.proofs.Common.{◌≡◌, ◌<◌, length, get_or, set, refl, ap, arith, get_or-set_same}
 use Rattle.kat_model.specs.Trees.{kat_tree, term_height, sum, product, star, test, test_tree}
 use Rattle.kat_model.specs.Relations.{Table}
-use Rattle.kat_model.specs.Decided.{relates_now}
+use Rattle.kat_model.specs.Decided.{computes_relation}
 use Rattle.string_tables.specs.Matrices.{Square, Tells}
 use Rattle.string_tables.proofs.Rooms.{term_height_positive, room_first, room_rest}
 use Rattle.string_tables.proofs.Told.{product_told, closure_told}
@@ -67,8 +67,8 @@ pub returns-in-Seq-clause-told : goal.returns-in-Seq-clause-told
 returns-in-Seq-clause-told t c =
     let tree : kat_tree c.args.term.now ≡ product (kat_tree c.deref-in-Seq.result.now) (kat_tree c.deref-in-Seq-2.result.now) = rw (c.in-Seq.is, c.deref-in-Seq.ensures, c.deref-in-Seq-2.ensures) refl in
     let n = c.args.table.now.states in
-    let left = relates_now c.args.table.now (kat_tree c.deref-in-Seq.result.now) in
-    let right = relates_now c.args.table.now (kat_tree c.deref-in-Seq-2.result.now) in
+    let left = computes_relation c.args.table.now (kat_tree c.deref-in-Seq.result.now) in
+    let right = computes_relation c.args.table.now (kat_tree c.deref-in-Seq-2.result.now) in
     let second = get_or (set c.split_at_mut-next-in-Seq.result.0.now 0 c.evaluate-in-Seq-2.new.top) 0 c.index-next-0-in-Seq-2.result in
     let room : 0 < length c.split_at_mut-next-in-Seq.result.0.now = omega (arith, c.split_at_mut-next-in-Seq.ensures.front_len) in
     let written : second ≡ c.evaluate-in-Seq-2.new.top = get_or-set_same _ 0 _ _ room in
@@ -80,4 +80,4 @@ pub returns-in-Star-clause-told : goal.returns-in-Star-clause-told
 returns-in-Star-clause-told t c =
     let tree : kat_tree c.args.term.now ≡ star (kat_tree c.deref-in-Star.result.now) = rw (c.in-Star.is, c.deref-in-Star.ensures) refl in
     let states = ap (λ (t : Table). t.states) c.table.view_is in
-    rw tree (closure_told c.args.table.now.states (relates_now c.args.table.now (kat_tree c.deref-in-Star.result.now)) c.evaluate-in-Star.new.top c.close.new.m c.evaluate-in-Star.ensures.told (rw states at c.close.ensures.told))
+    rw tree (closure_told c.args.table.now.states (computes_relation c.args.table.now (kat_tree c.deref-in-Star.result.now)) c.evaluate-in-Star.new.top c.close.new.m c.evaluate-in-Star.ensures.told (rw states at c.close.ensures.told))

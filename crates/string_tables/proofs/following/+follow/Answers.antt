@@ -2,7 +2,7 @@ use Rattle.std.proofs.Common.{◌≡◌, ◌<◌, ◌≤◌, ℕ, List, Bool, �
 use Rattle.kat_model.specs.Trees.{kat_tree, term_height, zero, one, test, sum, product, star, test_tree}
 use Rattle.kat_model.specs.Steps.{truth}
 use Rattle.kat_model.specs.Relations.{Table, atom_at}
-use Rattle.kat_model.specs.Decided.{relates_now, through_now}
+use Rattle.kat_model.specs.Decided.{computes_relation, warshall}
 use Rattle.string_tables.specs.Matrices.{Tells, entry, IsImage}
 use Rattle.string_tables.proofs.Rooms.{term_height_positive, room_first, room_rest}
 use Rattle.string_tables.proofs.Told.{closure_told}
@@ -87,8 +87,8 @@ pub returns-in-Sum-clause-image : goal.returns-in-Sum-clause-image
 returns-in-Sum-clause-image t c =
     let tree : kat_tree c.args.term.now ≡ sum (kat_tree c.deref.result.now) (kat_tree c.deref-in-Sum.result.now) = rw (c.in-Sum.is, c.deref.ensures, c.deref-in-Sum.ensures) refl in
     let n = c.args.table.now.states in
-    let left = relates_now c.args.table.now (kat_tree c.deref.result.now) in
-    let right = relates_now c.args.table.now (kat_tree c.deref-in-Sum.result.now) in
+    let left = computes_relation c.args.table.now (kat_tree c.deref.result.now) in
+    let right = computes_relation c.args.table.now (kat_tree c.deref-in-Sum.result.now) in
     let states = ap (λ (t : Table). t.states) c.table.view_is in
     let front = c.split_at_mut-next.result.0.now in
     let room : 0 < length front = omega (arith, c.split_at_mut-next.ensures.front_len) in
@@ -104,17 +104,17 @@ returns-in-Sum-clause-image t c =
 pub returns-in-Seq-clause-image : goal.returns-in-Seq-clause-image
 returns-in-Seq-clause-image t c =
     let tree : kat_tree c.args.term.now ≡ product (kat_tree c.deref-in-Seq.result.now) (kat_tree c.deref-in-Seq-2.result.now) = rw (c.in-Seq.is, c.deref-in-Seq.ensures, c.deref-in-Seq-2.ensures) refl in
-    let left = relates_now c.args.table.now (kat_tree c.deref-in-Seq.result.now) in
-    let right = relates_now c.args.table.now (kat_tree c.deref-in-Seq-2.result.now) in
+    let left = computes_relation c.args.table.now (kat_tree c.deref-in-Seq.result.now) in
+    let right = computes_relation c.args.table.now (kat_tree c.deref-in-Seq-2.result.now) in
     rw tree (image_composition c.args.table.now.states c.args.row.now left right c.follow-in-Seq.new.row c.follow-in-Seq-2.new.row c.follow-in-Seq.ensures.image c.follow-in-Seq-2.ensures.image)
 
 pub returns-in-Star-clause-image : goal.returns-in-Star-clause-image
 returns-in-Star-clause-image t c =
     let tree : kat_tree c.args.term.now ≡ star (kat_tree c.deref-in-Star.result.now) = rw (c.in-Star.is, c.deref-in-Star.ensures) refl in
     let n = c.args.table.now.states in
-    let body = relates_now c.args.table.now (kat_tree c.deref-in-Star.result.now) in
+    let body = computes_relation c.args.table.now (kat_tree c.deref-in-Star.result.now) in
     let states = ap (λ (t : Table). t.states) c.table.view_is in
-    let closed : Tells n c.close.new.m (through_now body n) = closure_told n body c.evaluate.new.top c.close.new.m c.evaluate.ensures.told (rw states at c.close.ensures.told) in
+    let closed : Tells n c.close.new.m (warshall body n) = closure_told n body c.evaluate.new.top c.close.new.m c.evaluate.ensures.told (rw states at c.close.ensures.told) in
     let product : IsImage n c.args.row.now (entry c.close.new.m) c.row_product.new.to = rw states at c.row_product.ensures.told in
     let copied = rw states at c.copy_from-in-Star.ensures.copied in
-    rw tree (image_told n c.args.row.now (through_now body n) c.close.new.m c.copy_from-in-Star.new.self closed (λ j lj. copied j lj ∙ product j lj))
+    rw tree (image_told n c.args.row.now (warshall body n) c.close.new.m c.copy_from-in-Star.new.self closed (λ j lj. copied j lj ∙ product j lj))

@@ -1,26 +1,26 @@
 use Rattle.std.proofs.Common.{◌≡◌, slice_get, Some, ap, ◌∙◌}
 use Rattle.bisim_worklist.specs.Marks.{RuleParts}
-use Rattle.bisim_worklist.proofs.Entries.{at_place}
+use Rattle.kat_model.proofs.Places.{element_at}
 use Rattle.bisim_worklist.proofs.UnderWay.{under_way_more, step_ids_more, steps_at_more, alike, apart, taken}
 use Rattle.bisim_worklist.proofs.walk.Walk.take.Goals as goal
 
 pub difference-requires-clause-left : goal.difference-requires-clause-left
 difference-requires-clause-left c =
     let u = c.requires.under_way in
-    let e = at_place c.args.self.now.rules.pairs c.args.place c.requires.place in
+    let e = element_at c.args.self.now.rules.pairs c.args.place c.requires.place in
     let stepped = c.in_ok-steps.ensures.steps u.0 e.0 u.1 e.1 in
     stepped.1.left.accepts.in_range
 
 pub difference-requires-clause-right : goal.difference-requires-clause-right
 difference-requires-clause-right c =
     let u = c.requires.under_way in
-    let e = at_place c.args.self.now.rules.pairs c.args.place c.requires.place in
+    let e = element_at c.args.self.now.rules.pairs c.args.place c.requires.place in
     let stepped = c.in_ok-steps.ensures.steps u.0 e.0 u.1 e.1 in
     stepped.1.right.accepts.in_range
 
 pub returns-in-Some-clause-taken : goal.returns-in-Some-clause-taken
 returns-in-Some-clause-taken c = λ q acts under_way.
-    let e = at_place c.args.self.now.rules.pairs c.args.place c.requires.place in
+    let e = element_at c.args.self.now.rules.pairs c.args.place c.requires.place in
     let stepped = c.in_ok-steps.ensures.steps q e.0 under_way e.1 in
     let here : slice_get c.steps_at.new.self.rules.pairs c.args.place ≡ Some e.0 = ap (λ ps. slice_get ps c.args.place) c.in_ok-steps.ensures.pairs ∙ e.1 in
     let found = rw c.in-Some.is at c.in_ok-atom.ensures.found in (
@@ -31,13 +31,13 @@ returns-in-Some-clause-taken c = λ q acts under_way.
 pub expand-requires : goal.expand-requires
 expand-requires c =
     let u = c.requires.under_way in
-    let e = at_place c.args.self.now.rules.pairs c.args.place c.requires.place in
+    let e = element_at c.args.self.now.rules.pairs c.args.place c.requires.place in
     let stepped = c.in_ok-steps.ensures.steps u.0 e.0 u.1 e.1 in
     record { ids = step_ids_more c.steps_at.new.store c.steps_at.new.self c.difference.new.self c.in_ok-atom.ensures.kept c.in_ok-steps.steps stepped.2 }
 
 pub returns-clause-taken : goal.returns-clause-taken
 returns-clause-taken c = λ q acts under_way.
-    let e = at_place c.args.self.now.rules.pairs c.args.place c.requires.place in
+    let e = element_at c.args.self.now.rules.pairs c.args.place c.requires.place in
     let stepped = c.in_ok-steps.ensures.steps q e.0 under_way e.1 in
     let here : slice_get c.difference.new.self.rules.pairs c.args.place ≡ Some e.0 =
     ap (λ (r : RuleParts). slice_get r.pairs c.args.place) c.in_ok-atom.ensures.rules ∙ ap (λ ps. slice_get ps c.args.place) c.in_ok-steps.ensures.pairs ∙ e.1 in

@@ -1,6 +1,6 @@
 use Rattle.std.proofs.Common.{sym, ap, ◌∙◌}
 use Rattle.std.specs.FinMap.{get}
-use Rattle.kat_text.specs.Worlds.{Meanings}
+use Rattle.kat_text.specs.ScopeParts.{Meanings}
 use Rattle.kat_text.proofs.MeaningEntries.{get-meanings_of}
 use Rattle.kat_text.proofs.names.Names.meaning.Goals as goal
 

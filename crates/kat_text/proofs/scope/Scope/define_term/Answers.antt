@@ -1,5 +1,5 @@
 use Rattle.std.proofs.Common.{◌∙◌}
-use Rattle.kat_text.proofs.WorldLemmas.{world_pushed}
+use Rattle.kat_text.proofs.ScopeLemmas.{world_pushed}
 use Rattle.kat_text.proofs.scope.Scope.define_term.Goals as goal
 
 pub invariant_of-self-2 : goal.invariant_of-self-2

@@ -1,4 +1,4 @@
-use Rattle.kat_text.proofs.WorldLemmas.{world_empty}
+use Rattle.kat_text.proofs.ScopeLemmas.{world_empty}
 use Rattle.kat_text.proofs.scope.Scope.new.Goals as goal
 
 pub invariant_of-result : goal.invariant_of-result

@@ -1,7 +1,7 @@
 use Rattle.std.proofs.Common.{rules, refl, sym, ◌∙◌, subst}
 use Rattle.std.specs.Prelude.{length}
 use Rattle.std.proofs.lemmas.Bool.{eqb-false}
-use Rattle.test_diagrams.specs.Functions.{Collection}
+use Rattle.test_diagrams.specs.Functions.{DiagramsParts}
 use Rattle.test_diagrams.specs.Reduced.{IsBranch, IsReduced}
 use Rattle.kat_model.proofs.Places.{no_doubles}
 use Rattle.test_diagrams.proofs.Results.{results_kept}
@@ -19,7 +19,7 @@ grown c =
       high_below = c.requires.high_below;
       different = eqb-false _ _ (sym c.eq.ensures ∙ c.if-eq.false);
     } in
-    has_branch _ _ _ _ _ _ c.self.invariant.reduced (subst (λ (d : Collection). IsBranch d (length d.nodes) c.args.test c.args.low c.args.high) (sym c.self.view_is) fits) refl _ c.in_ok-index.ensures.keys
+    has_branch _ _ _ _ _ _ c.self.invariant.reduced (subst (λ (d : DiagramsParts). IsBranch d (length d.nodes) c.args.test c.args.low c.args.high) (sym c.self.view_is) fits) refl _ c.in_ok-index.ensures.keys
     (no_doubles _ (λ x. search rules) _ c.in_ok-index.ensures.unique) (search rules)
 
 pub returns-then-eq-clause-reduced : goal.returns-then-eq-clause-reduced

@@ -1,0 +1,45 @@
+-- Terms in range: the half on their tests, the product of two, and lists of them.
+use Rattle.std.proofs.Common.{ℕ, List, [], ◌∷◌, ◌++◌}
+use Rattle.kat_model.specs.Trees.{Term, zero, one, test, act, sum, product, star}
+use Rattle.kat_model.specs.Problems.{IsInRange, AreInRange, HasTestsBelow}
+use Rattle.kat_model.specs.Steps.{dot}
+
+-- what holds of the product of two terms of which it holds, holds of it as a step writes it
+dot_holds : (P : Term → Type 0) → ((e f : Term) → P e → P f → P (product e f)) → (e f : Term) → P e → P f → P (dot e f)
+dot_holds P two zero f p q = two zero f p q
+dot_holds P two one f p q = q
+dot_holds P two (test b) f p q = two (test b) f p q
+dot_holds P two (act a) f p q = two (act a) f p q
+dot_holds P two (sum e g) f p q = two (sum e g) f p q
+dot_holds P two (product e g) f p q = two (product e g) f p q
+dot_holds P two (star e) f p q = two (star e) f p q
+
+pub HasTestsBelow-dot : (n : ℕ) (e f : Term) → HasTestsBelow n e → HasTestsBelow n f → HasTestsBelow n (dot e f)
+HasTestsBelow-dot n = dot_holds (HasTestsBelow n) (λ e f p q. (p, q))
+
+module _ (tests actions : ℕ) where
+  pub IsInRange-dot : (e f : Term) → IsInRange tests actions e → IsInRange tests actions f → IsInRange tests actions (dot e f)
+  IsInRange-dot = dot_holds (IsInRange tests actions) (λ e f p q. (p, q))
+
+  pub IsInRange-HasTestsBelow : (e : Term) → IsInRange tests actions e → HasTestsBelow tests e
+  IsInRange-HasTestsBelow zero r = tt
+  IsInRange-HasTestsBelow one r = tt
+  IsInRange-HasTestsBelow (test b) r = r
+  IsInRange-HasTestsBelow (act a) r = tt
+  IsInRange-HasTestsBelow (sum e f) r = (IsInRange-HasTestsBelow e r.0, IsInRange-HasTestsBelow f r.1)
+  IsInRange-HasTestsBelow (product e f) r = (IsInRange-HasTestsBelow e r.0, IsInRange-HasTestsBelow f r.1)
+  IsInRange-HasTestsBelow (star e) r = IsInRange-HasTestsBelow e r
+
+  -- ---- lists
+
+  pub AreInRange-append : (es fs : List Term) → AreInRange tests actions es → AreInRange tests actions fs → AreInRange tests actions (es ++ fs)
+  AreInRange-append [] fs p q = q
+  AreInRange-append (e ∷ es) fs p q = (p.0, AreInRange-append es fs p.1 q)
+
+  pub AreInRange-append_left : (es fs : List Term) → AreInRange tests actions (es ++ fs) → AreInRange tests actions es
+  AreInRange-append_left [] fs r = tt
+  AreInRange-append_left (e ∷ es) fs r = (r.0, AreInRange-append_left es fs r.1)
+
+  pub AreInRange-append_right : (es fs : List Term) → AreInRange tests actions (es ++ fs) → AreInRange tests actions fs
+  AreInRange-append_right [] fs r = r
+  AreInRange-append_right (e ∷ es) fs r = AreInRange-append_right es fs r.1

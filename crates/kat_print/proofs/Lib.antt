@@ -1,0 +1,10 @@
+pub mod NameOf
+pub mod PieceTexts
+pub mod Separate
+pub mod Matching
+pub mod WordTerminals
+pub mod PrintedPhrases
+pub mod PrintedExprs
+pub mod PrintedConds
+pub mod PrintedTerms
+pub mod PrintedReadings

@@ -1,0 +1,8 @@
+//! The text of terms, conditions and expressions, printed.
+#![tactic(auto)]
+
+mod laws;
+mod print;
+
+pub use laws::printed_reads_back;
+pub use print::{print_cond, print_expr, print_term};

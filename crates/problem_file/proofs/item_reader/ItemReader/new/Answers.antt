@@ -1,0 +1,5 @@
+use Rattle.problem_file.proofs.Numbering.{empty_numbered}
+use Rattle.problem_file.proofs.item_reader.ItemReader.new.Goals as goal
+
+pub invariant_of-result : goal.invariant_of-result
+invariant_of-result c = record { numbered = rw c.new.ensures empty_numbered }

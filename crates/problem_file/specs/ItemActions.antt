@@ -1,0 +1,38 @@
+-- What is done with the parts of an item while it is read. Actions may refuse a part; all else that can be wrong with an
+-- item is its syntax.
+use Rattle.std.specs.Prelude.{ℕ, List, Result}
+use Rattle.kat_tokens.specs.declared.fault.TextFault.{TextFault}
+use Rattle.kat_syntax.specs.Lexemes.{Lexeme}
+use Rattle.kat_syntax.specs.Actions.{Actions}
+use Rattle.problem_file.specs.declared.item_reading.Declared.{Declared}
+use Rattle.problem_file.specs.declared.item_reading.Comparison.{Comparison}
+
+-- the measure of a phrase, and the tokens with which it begins
+pub record Measurement (X : Type 0) : Type 0 where
+  pub measure : X
+  pub tokens : List Lexeme
+
+-- those of the sides of a goal
+pub record SidesMeasurement (X : Type 0) : Type 0 where
+  pub left : Measurement X
+  pub right : Measurement X
+
+-- those of the phrases of a triple
+pub record TripleMeasurement (X : Type 0) : Type 0 where
+  pub pre : Measurement X
+  pub body : Measurement X
+  pub post : Measurement X
+
+-- S is what the items so far have made, X is what is told of a phrase. A number is the place of a name that is declared or
+-- defined, and otherwise that of the keyword of the item.
+pub record ItemActions (S X : Type 0) : Type 0 where
+  pub phrases : S → Actions X X X X X
+  pub declare : Declared → S → ℕ → List ℕ → Result S TextFault
+  pub check_new : S → ℕ → List ℕ → Result (Unit {0}) TextFault
+  pub define : S → ℕ → List ℕ → Measurement X → Result S TextFault
+  pub begin_hyp : S → ℕ → Result (Unit {0}) TextFault
+  pub state_zero : S → ℕ → Measurement X → Result S TextFault
+  pub state_triple : S → ℕ → TripleMeasurement X → Result S TextFault
+  pub begin_goal : S → ℕ → Result (Unit {0}) TextFault
+  pub ask_sides : Comparison → S → ℕ → SidesMeasurement X → Result S TextFault
+  pub ask_triple : S → ℕ → TripleMeasurement X → Result S TextFault

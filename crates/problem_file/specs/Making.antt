@@ -1,0 +1,111 @@
+-- What each item of a problem file makes of what the items before it have made.
+use Rattle.std.specs.Prelude.{ℕ, ◌+◌, List, length, Bool, true, false, if◌then◌else◌, nat_lt, Result, Ok, Err}
+use Rattle.std.specs.Option.{is_some}
+use Rattle.kat_model.specs.Trees.{Term}
+use Rattle.kat_model.specs.Expressions.{CondTree}
+use Rattle.kat_tokens.specs.declared.fault.TextFault.{TextFault}
+use Rattle.kat_tokens.specs.declared.fault.TextFault.TheVariants.{TooMany, TwoGoals}
+use Rattle.kat_syntax.specs.Lexemes.{Lexeme}
+use Rattle.kat_syntax.specs.Parsed.{Parsed, ◌>>=◌}
+use Rattle.kat_syntax.specs.Actions.{context}
+use Rattle.kat_syntax.specs.Conds.{parse_cond, disjunction}
+use Rattle.kat_syntax.specs.Terms.{parse_term, choice}
+use Rattle.kat_text.specs.declared.extent.Extent.{Extent}
+use Rattle.kat_text.specs.Building.{cond_trees, trees}
+use Rattle.kat_text.specs.Measuring.{extents}
+use Rattle.problem_file.specs.declared.item_reading.Declared.{Declared}
+use Rattle.problem_file.specs.declared.item_reading.Declared.TheVariants as what
+use Rattle.problem_file.specs.declared.item_reading.Comparison.{Comparison}
+use Rattle.problem_file.specs.declared.item_reading.Comparison.TheVariants.{Equal, Below}
+use Rattle.problem_file.specs.Files.{GoalTree, equal, below, triple, State, declare_test, declare_action, check_new, grow, check_size, define, state_hyp, state_goal, triple_term}
+use Rattle.problem_file.specs.ItemActions.{Measurement, SidesMeasurement, TripleMeasurement, ItemActions}
+use Rattle.problem_file.specs.Items.{items_by}
+
+abbrev pub declare : Declared → State → ℕ → List ℕ → Result State TextFault
+declare what.Test s at name = declare_test s at name
+declare what.Action s at name = declare_action s at name
+
+-- ---- the trees of phrases
+
+abbrev pub built_term : State → List Lexeme → Parsed Term
+built_term s ts = parse_term (trees s.world) choice (context 0 false false) ts
+
+abbrev pub built_cond : State → Bool → List Lexeme → Parsed CondTree
+built_cond s compares ts = parse_cond (cond_trees s.world) disjunction (context 1 false compares) ts
+
+abbrev pub built_triple : State → Bool → TripleMeasurement Extent → Result (CondTree × Term × CondTree) TextFault
+built_triple s compares m =
+    built_cond s compares (m.pre).tokens >>= λ x. built_term s (m.body).tokens >>= λ y. built_cond s compares (m.post).tokens >>= λ z.
+    Ok (x.0, y.0, z.0)
+
+-- ---- nodes
+
+-- so many nodes of an item of its own
+abbrev pub count : State → ℕ → ℕ → Result State TextFault
+count s at nodes = check_size at nodes >>= λ u. grow s at nodes
+
+abbrev pub triple_nodes : TripleMeasurement Extent → ℕ
+triple_nodes m = ((m.pre).measure).nodes + ((m.body).measure).nodes + ((m.post).measure).nodes
+
+-- those of a goal, each part of which has a limit
+abbrev pub count_sides : State → ℕ → SidesMeasurement Extent → Result State TextFault
+count_sides s at m =
+    check_size at ((m.left).measure).nodes >>= λ u. check_size at ((m.right).measure).nodes >>= λ v.
+    grow s at (((m.left).measure).nodes + ((m.right).measure).nodes)
+
+abbrev pub count_parts : State → ℕ → TripleMeasurement Extent → Result State TextFault
+count_parts s at m =
+    check_size at ((m.pre).measure).nodes >>= λ u. check_size at ((m.body).measure).nodes >>= λ v.
+    check_size at ((m.post).measure).nodes >>= λ w. grow s at (triple_nodes m)
+
+-- ---- items
+
+abbrev pub define_term : State → ℕ → List ℕ → Measurement Extent → Result State TextFault
+define_term s at name m =
+    count s at (m.measure).nodes >>= λ t. built_term t m.tokens >>= λ x. Ok (define t name x.0 (m.measure).nesting)
+
+-- there may be 8,192 hypotheses
+abbrev pub begin_hyp : State → ℕ → Result (Unit {0}) TextFault
+begin_hyp s at = if nat_lt 8191 (length s.hyps) then Err (TooMany at) else Ok tt
+
+abbrev pub state_zero : State → ℕ → Measurement Extent → Result State TextFault
+state_zero s at m = count s at (m.measure).nodes >>= λ t. built_term t m.tokens >>= λ x. Ok (state_hyp t x.0)
+
+abbrev pub state_triple : State → ℕ → TripleMeasurement Extent → Result State TextFault
+state_triple s at m =
+    count s at (triple_nodes m + 5) >>= λ t. built_triple t false m >>= λ x. Ok (state_hyp t (triple_term x.0 x.1 x.2))
+
+-- there may be one goal
+abbrev pub begin_goal : State → ℕ → Result (Unit {0}) TextFault
+begin_goal s at = if is_some s.goal then Err (TwoGoals at) else Ok tt
+
+abbrev pub compared : Comparison → Term → Term → GoalTree
+compared Equal l r = equal l r
+compared Below l r = below l r
+
+abbrev pub ask_sides : Comparison → State → ℕ → SidesMeasurement Extent → Result State TextFault
+ask_sides c s at m =
+    count_sides s at m >>= λ t. built_term t (m.left).tokens >>= λ x. built_term t (m.right).tokens >>= λ y.
+    Ok (state_goal t (compared c x.0 y.0))
+
+abbrev pub ask_triple : State → ℕ → TripleMeasurement Extent → Result State TextFault
+ask_triple s at m =
+    count_parts s at m >>= λ t. built_triple t true m >>= λ x. Ok (state_goal t (triple x.0 x.1 x.2))
+
+abbrev pub making : ItemActions State Extent
+making = record {
+  phrases = λ s. extents s.world;
+  declare = declare;
+  check_new = check_new;
+  define = define_term;
+  begin_hyp = begin_hyp;
+  state_zero = state_zero;
+  state_triple = state_triple;
+  begin_goal = begin_goal;
+  ask_sides = ask_sides;
+  ask_triple = ask_triple;
+}
+
+-- what all items have made, or the first fault of the first item that has one
+abbrev pub walk : State → List Lexeme → Result State TextFault
+walk s ts = items_by making s ts

@@ -1,0 +1,25 @@
+-- The test of the syntax of a whole file.
+use Rattle.std.specs.Prelude.{List, Result, Ok}
+use Rattle.kat_tokens.specs.declared.fault.TextFault.{TextFault}
+use Rattle.kat_syntax.specs.Lexemes.{Lexeme}
+use Rattle.kat_syntax.specs.Scans.{scanning}
+use Rattle.problem_file.specs.ItemActions.{ItemActions}
+use Rattle.problem_file.specs.Items.{items_by}
+
+-- nothing is made, and no part is refused
+abbrev pub checking : ItemActions (Unit {0}) (Unit {0})
+checking = record {
+  phrases = λ s. scanning;
+  declare = λ what s at name. Ok tt;
+  check_new = λ s at name. Ok tt;
+  define = λ s at name m. Ok tt;
+  begin_hyp = λ s at. Ok tt;
+  state_zero = λ s at m. Ok tt;
+  state_triple = λ s at m. Ok tt;
+  begin_goal = λ s at. Ok tt;
+  ask_sides = λ c s at m. Ok tt;
+  ask_triple = λ s at m. Ok tt;
+}
+
+abbrev pub scan_file : List Lexeme → Result (Unit {0}) TextFault
+scan_file ts = items_by checking tt ts

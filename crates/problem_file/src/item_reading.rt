@@ -1,0 +1,141 @@
+//! What is done with the parts of an item while it is read.
+ghost use Rattle.std.specs.Prelude.{◌≡◌, length, Ok};
+ghost use Rattle.kat_syntax.specs.Lexemes.{lexemes};
+ghost use Rattle.kat_syntax.specs.Parsed.{Makes, Goes};
+ghost use Rattle.kat_text.specs.ScopeParts.{IsIdentifier};
+ghost use Rattle.problem_file.specs.ItemActions.{ItemActions};
+ghost use Rattle.problem_file.specs.Items.{measure_term, measure_cond};
+ghost use Rattle.problem_file.specs.Walks.{measured_of, sides_of, triple_of, Tells, Does};
+
+use crate::phrase::{Measured, Sides, Triple};
+use kat_tokens::{TextFault, Token};
+
+// What names may be declared for.
+#[derive(Clone, Copy, Debug, PartialEq, Eq)]
+pub(crate) enum Declared {
+    Test,
+    Action,
+}
+
+// How a goal compares its sides.
+#[derive(Clone, Copy, Debug, PartialEq, Eq)]
+pub(crate) enum Comparison {
+    Equal,
+    Below,
+}
+
+// What is done with the parts of an item while it is read: the methods are called for the parts in
+// text order, and at the end of each item with what was told of its phrases. A part that is refused
+// ends the reading with that fault. `at` is the place of the item's keyword.
+//
+// Contracts see what the items so far have made as `state`, and the methods as `actions`. `memory`
+// is what may be said where a method answers `NoMemory`: `⊥` where none does.
+pub(crate) trait ItemReading {
+    // What is told of a phrase.
+    type Measure: Copy;
+
+    ghost S: { Type 0 };
+
+    ghost memory: { Type 0 };
+
+    ghost state: { Self → S };
+
+    ghost actions: { ItemActions S Self.Measure };
+
+    // What is told of the term that begins at `from`, and the index after it, or its first fault.
+    fn measure_term(&self, toks: &[Token], from: usize) -> Result<(Self::Measure, usize), TextFault>
+        ensures value { Tells (λ ts m. m) toks.now from result (measure_term actions (state self.now)) }
+        ensures goes { Goes from (length toks.now) result };
+
+    // The same of a condition in braces, which may compare expressions or may not.
+    fn measure_cond(
+        &self,
+        toks: &[Token],
+        from: usize,
+        compares: bool,
+    ) -> Result<(Self::Measure, usize), TextFault>
+        ensures value { Tells (λ ts m. m) toks.now from result (measure_cond actions (state self.now) compares) }
+        ensures goes { Goes from (length toks.now) result };
+
+    // Declares a name.
+    fn declare(&mut self, what: Declared, name: &Token) -> Result<(), TextFault>
+        requires { IsIdentifier name.now.text.now }
+        ensures { Does memory result (state self.new) (
+            (actions).declare what (state self.old) name.now.at name.now.text.now
+            ) };
+
+    // That a name that is to be defined is not declared yet.
+    fn check_new(&self, name: &Token) -> Result<(), TextFault>
+        ensures { Makes ⊥ (λ u. u) result (
+            (actions).check_new (state self.now) name.now.at name.now.text.now
+            ) };
+
+    // Defines a name, which stands for a term from here on. `check_new` passes it.
+    fn define(
+        &mut self,
+        toks: &[Token],
+        at: usize,
+        name: &Token,
+        term: Measured<Self::Measure>,
+    ) -> Result<(), TextFault>
+        requires identifier { IsIdentifier name.now.text.now }
+        requires new { (actions).check_new (state self.old) name.now.at name.now.text.now ≡ Ok tt }
+        ensures { Does memory result (state self.new) (
+            (actions).define (state self.old) at name.now.text.now
+            (measured_of (lexemes toks.now) term)
+            ) };
+
+    // That one hypothesis more may be stated.
+    fn begin_hyp(&self, at: usize) -> Result<(), TextFault>
+        ensures { Makes ⊥ (λ u. u) result ((actions).begin_hyp (state self.now) at) };
+
+    // States that a term is 0.
+    fn state_zero(
+        &mut self,
+        toks: &[Token],
+        at: usize,
+        term: Measured<Self::Measure>,
+    ) -> Result<(), TextFault>
+        ensures { Does memory result (state self.new) (
+            (actions).state_zero (state self.old) at (measured_of (lexemes toks.now) term)
+            ) };
+
+    // States that a triple holds.
+    fn state_triple(
+        &mut self,
+        toks: &[Token],
+        at: usize,
+        triple: Triple<Self::Measure>,
+    ) -> Result<(), TextFault>
+        ensures { Does memory result (state self.new) (
+            (actions).state_triple (state self.old) at (triple_of (lexemes toks.now) triple)
+            ) };
+
+    // That a goal may be asked.
+    fn begin_goal(&self, at: usize) -> Result<(), TextFault>
+        ensures { Makes ⊥ (λ u. u) result ((actions).begin_goal (state self.now) at) };
+
+    // Asks how two terms compare.
+    fn ask_sides(
+        &mut self,
+        toks: &[Token],
+        at: usize,
+        comparison: Comparison,
+        sides: Sides<Self::Measure>,
+    ) -> Result<(), TextFault>
+        ensures { Does memory result (state self.new) (
+            (actions).ask_sides comparison (state self.old) at
+            (sides_of (lexemes toks.now) sides)
+            ) };
+
+    // Asks whether a triple holds.
+    fn ask_triple(
+        &mut self,
+        toks: &[Token],
+        at: usize,
+        triple: Triple<Self::Measure>,
+    ) -> Result<(), TextFault>
+        ensures { Does memory result (state self.new) (
+            (actions).ask_triple (state self.old) at (triple_of (lexemes toks.now) triple)
+            ) };
+}

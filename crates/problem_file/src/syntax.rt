@@ -1,0 +1,101 @@
+//! The test of the syntax of a whole file, which takes no memory.
+ghost use Rattle.std.specs.Prelude.{◌≡◌, Ok};
+ghost use Rattle.kat_syntax.specs.Lexemes.{lexemes};
+ghost use Rattle.problem_file.specs.Tokens.{AreTokens};
+ghost use Rattle.problem_file.specs.Syntax.{checking, scan_file};
+
+use crate::item_reading::{Comparison, Declared, ItemReading};
+use crate::items::read_items;
+use crate::phrase::{Measured, Sides, Triple};
+use kat_syntax::{Context, Scan, read_cond, read_term};
+use kat_tokens::{TextFault, Token};
+
+// Makes nothing of items, and refuses none.
+#[derive(Drop)]
+struct Syntax;
+
+impl ItemReading for Syntax {
+    type Measure = ();
+
+    ghost S = { Unit {0} };
+
+    ghost memory = { ⊥ };
+
+    ghost state = { λ s. tt };
+
+    ghost actions = { checking };
+
+    fn measure_term(&self, toks: &[Token], from: usize) -> Result<((), usize), TextFault> {
+        read_term(&Scan, toks, from, Context::outermost(0, false))
+    }
+
+    fn measure_cond(
+        &self,
+        toks: &[Token],
+        from: usize,
+        compares: bool,
+    ) -> Result<((), usize), TextFault> {
+        read_cond(&Scan, toks, from, Context::outermost(1, compares))
+    }
+
+    fn declare(&mut self, _: Declared, _: &Token) -> Result<(), TextFault> {
+        Ok(())
+    }
+
+    fn check_new(&self, _: &Token) -> Result<(), TextFault> {
+        Ok(())
+    }
+
+    fn define(&mut self, _: &[Token], _: usize, _: &Token, _: Measured<()>) -> Result<(), TextFault>
+        ensures { result ≡ Ok tt }
+    {
+        Ok(())
+    }
+
+    fn begin_hyp(&self, _: usize) -> Result<(), TextFault> {
+        Ok(())
+    }
+
+    fn state_zero(&mut self, _: &[Token], _: usize, _: Measured<()>) -> Result<(), TextFault>
+        ensures { result ≡ Ok tt }
+    {
+        Ok(())
+    }
+
+    fn state_triple(&mut self, _: &[Token], _: usize, _: Triple<()>) -> Result<(), TextFault>
+        ensures { result ≡ Ok tt }
+    {
+        Ok(())
+    }
+
+    fn begin_goal(&self, _: usize) -> Result<(), TextFault> {
+        Ok(())
+    }
+
+    fn ask_sides(
+        &mut self,
+        _: &[Token],
+        _: usize,
+        _: Comparison,
+        _: Sides<()>,
+    ) -> Result<(), TextFault>
+        ensures { result ≡ Ok tt }
+    {
+        Ok(())
+    }
+
+    fn ask_triple(&mut self, _: &[Token], _: usize, _: Triple<()>) -> Result<(), TextFault>
+        ensures { result ≡ Ok tt }
+    {
+        Ok(())
+    }
+}
+
+// Whether the tokens are items, or the first of `Syntax`, `TooDeep` and `NumberTooWide` in text order. A `Syntax` after
+// the last token has the place `usize::MAX`.
+pub(crate) fn test_syntax(toks: &[Token]) -> Result<(), TextFault>
+    requires tokens { AreTokens toks.now }
+    ensures { result ≡ scan_file (lexemes toks.now) }
+{
+    read_items(&mut Syntax, toks)
+}

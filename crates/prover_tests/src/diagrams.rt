@@ -1,0 +1,40 @@
+//! The parity of forty tests, whose diagram is small.
+ghost use Rattle.std.specs.Prelude.{◌≡◌, ◌<◌, IfOk};
+ghost use Rattle.test_diagrams.specs.Functions.{IsDiagramId};
+
+use kat_model::{NoMemory, Test};
+use std::test::Fail;
+use test_diagrams::{DiagramId, Diagrams};
+
+// True where exactly one of the diagram and the test of this number is.
+fn either_test(
+    diagrams: &mut Diagrams,
+    parity: DiagramId,
+    test: usize,
+) -> Result<DiagramId, NoMemory>
+    requires parity { IsDiagramId diagrams.old parity }
+    requires test { test < diagrams.old.tests }
+    ensures parity { IfOk result (IsDiagramId diagrams.new) }
+    ensures tests { diagrams.new.tests ≡ diagrams.old.tests }
+{
+    let one = diagrams.of_test(&Test::Prim(test))?;
+    let not_one = diagrams.not(one)?;
+    let even = diagrams.not(parity)?;
+    let first = diagrams.and(parity, not_one)?;
+    let second = diagrams.and(even, one)?;
+    diagrams.or(first, second)
+}
+
+// Where results are not kept, this takes 2 to the power of 40 steps.
+#[test]
+fn the_parity_of_forty_tests_is_found(rt: HostRuntime) -> Result<(), Fail> {
+    let mut diagrams = Diagrams::new(rt.alloc(), 40)?;
+    let mut parity = diagrams.constant(false);
+    for test in 0..40 {
+        parity = either_test(&mut diagrams, parity, test)?;
+    }
+    assert!(rt; diagrams.top(parity) == Some(0));
+    let rest = diagrams.fix(parity, 0, true)?;
+    assert!(rt; diagrams.top(rest) == Some(1));
+    Ok(())
+}

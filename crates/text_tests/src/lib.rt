@@ -1,0 +1,17 @@
+//! Tests from text to text: tokens, phrases, problem files, goals, and comparisons of expressions.
+#![tactic(auto)]
+
+#[cfg(test)]
+mod comparisons;
+#[cfg(test)]
+mod files;
+#[cfg(test)]
+mod fixtures;
+#[cfg(test)]
+mod goals;
+#[cfg(test)]
+mod lists;
+#[cfg(test)]
+mod phrases;
+#[cfg(test)]
+mod token_texts;

@@ -1,0 +1,15 @@
+//! Tests of the top call, by its words, its files and what it prints, and of the two real ends of the program.
+#![tactic(auto)]
+
+#[cfg(test)]
+mod checking;
+#[cfg(test)]
+mod deciding;
+#[cfg(test)]
+mod ends;
+#[cfg(test)]
+mod faults;
+#[cfg(test)]
+mod fixtures;
+#[cfg(test)]
+mod refusals;

@@ -1,0 +1,135 @@
+//! Texts and words that are refused.
+use crate::fixtures::reply;
+use kat_model::NoMemory;
+use std::alloc::Global;
+use std::test::Fail;
+
+const TEXTS: &[(&str, &str)] = &[
+    ("", "2 refused: NoGoal\n"),
+    ("goal equal b, b;", "2 refused: UnknownName 11\n"),
+    ("test b, b; goal equal 1, 1;", "2 refused: DoubleName 8\n"),
+    ("action p; goal equal !p, 1;", "2 refused: Sort 22\n"),
+    ("test b; goal equal b ? b;", "2 refused: BadToken 21\n"),
+    ("test b; goal equal b, ;", "2 refused: Syntax 22\n"),
+    ("test b; goal equal b, b", "2 refused: Syntax 23\n"),
+    (
+        "test b; goal equal b, b; goal equal b, b;",
+        "2 refused: TwoGoals 25\n",
+    ),
+    (
+        "goal triple {1 == 18446744073709551616} 1 {true};",
+        "2 refused: NumberTooWide 18\n",
+    ),
+    ("var x; goal equal 1, 1;", "2 refused: NotYet\n"),
+    ("goal triple {1 == 1} 1 {true};", "2 refused: NotYet\n"),
+];
+
+// The problem is refused before its evidence.
+#[test]
+fn texts_are_refused(rt: HostRuntime) -> Result<(), Fail> {
+    for (text, want) in TEXTS {
+        for line in ["decide f", "check f e", "replay f e"] {
+            let found = reply(rt.alloc(), line, text.as_bytes(), b"")?;
+            assert_eq!(rt; found.as_slice(), want.as_bytes(), "{line} on {text}");
+        }
+    }
+    Ok(())
+}
+
+// So many tests, and a goal over the first.
+fn tests_below(alloc: Global, count: usize) -> Result<String, NoMemory> {
+    let mut text = String::from_str(alloc, "test t0")?;
+    for i in 1..count {
+        write!(text, ", t{i}")?;
+    }
+    text.push_str("; goal equal t0, t0;")?;
+    Ok(text)
+}
+
+// A test in so many parentheses.
+fn enclosed(alloc: Global, depth: usize) -> Result<String, NoMemory> {
+    let before = "(".repeat(alloc, depth)?;
+    let after = ")".repeat(alloc, depth)?;
+    Ok(format!(in alloc; "test b; goal equal {before}b{after}, b;")?)
+}
+
+// Terms up to this one, each the product of the one before it with itself, and a goal over a14. The term a14 has
+// 65,535 nodes.
+fn squares(alloc: Global, last: usize) -> Result<String, NoMemory> {
+    let mut text = String::from_str(alloc, "action p;term a0 = p.p;")?;
+    for i in 0..last {
+        write!(text, "term a{} = a{i}.a{i};", i + 1)?;
+    }
+    text.push_str("goal equal a14, a14;")?;
+    Ok(text)
+}
+
+fn large(alloc: Global, sort: &str, count: usize) -> Result<Vec<u8>, NoMemory> {
+    match sort {
+        "tests" => Ok(tests_below(alloc, count)?.into_bytes()),
+        "levels" => Ok(enclosed(alloc, count)?.into_bytes()),
+        "squares" => Ok(squares(alloc, count)?.into_bytes()),
+        "spaces" => Ok(vec![in alloc; b' '; count]?),
+        _ => Ok(vec![in alloc; 0xFF; count]?),
+    }
+}
+
+const LIMITS: &[(&str, usize, &str)] = &[
+    (
+        "tests",
+        48,
+        "0 kat 2 equal\nT prim 0\nE test 0\nP 0 | 0\nend\n",
+    ),
+    ("tests", 49, "2 refused: TooMany 235\n"),
+    (
+        "levels",
+        200,
+        "0 kat 2 equal\nT prim 0\nE test 0\nP 0 | 0\nend\n",
+    ),
+    ("levels", 201, "2 refused: TooDeep 219\n"),
+    ("squares", 14, "2 refused: ProblemTooLarge\n"),
+    ("squares", 15, "2 refused: TooLarge 260\n"),
+    ("spaces", 1_048_576, "2 refused: NoGoal\n"),
+    ("spaces", 1_048_577, "2 refused: TooLong\n"),
+    ("bytes FF", 1, "2 refused: NotUtf8 0\n"),
+];
+
+#[test]
+fn texts_have_limits(rt: HostRuntime) -> Result<(), Fail> {
+    for (sort, count, want) in LIMITS {
+        let text = large(rt.alloc(), sort, *count)?;
+        let found = reply(rt.alloc(), "decide f", &text, b"")?;
+        assert_eq!(rt; found.as_slice(), want.as_bytes(), "{count} {sort}");
+    }
+    Ok(())
+}
+
+const WORDS: &[&str] = &[
+    "",
+    "f",
+    "decide",
+    "decide ",
+    "decide f g",
+    "decide -f",
+    "Decide f",
+    "check f",
+    "check f f f",
+    "check f -e",
+    "replay f",
+    "replay  f",
+    "--help",
+    "decide f --json",
+];
+
+#[test]
+fn words_without_a_command_are_refused(rt: HostRuntime) -> Result<(), Fail> {
+    for line in WORDS {
+        let found = reply(rt.alloc(), line, b"test b; goal equal b, b;", b"")?;
+        assert_eq!(rt;
+            found.as_slice(),
+            b"7 refused: words\n".as_slice(),
+            "on {line}"
+        );
+    }
+    Ok(())
+}
