@@ -1,0 +1,148 @@
+#!/usr/bin/env python3
+"""Measures what long texts cost: problems under `kat decide`, and evidence under `kat check` and `kat replay`.
+
+    python3 bench/texts.py [--kat PROGRAM] [--runs N] [CASE ..]
+
+Without names all cases are measured, each at its size and at half of it. The program is the repository's own, which its
+script `kat` proves and builds first where that is wanted. Seconds are of the processor, the least of N runs (3); memory
+is the greatest peak in MB, with `-` where each run ended before it could be read.
+"""
+
+import argparse
+import os
+import random
+import resource
+import subprocess
+import sys
+import tempfile
+from pathlib import Path
+
+from families import TOP, peak
+
+STARS = "action p;\ngoal equal p*, p*;\n"
+
+
+# Problems
+
+def terms(n):
+    """n items that define a term each."""
+    return "action p;\n" + "".join(f"term t{i} = p;\n" for i in range(n)) + "goal equal p,p;"
+
+
+def parentheses(n):
+    """A sum of n tests, each in 199 parentheses."""
+    return f"test b;\ngoal equal {'+'.join([f'{chr(40) * 199}b{chr(41) * 199}'] * n)}, b;\n"
+
+
+def names(n):
+    """A sum of n names of 29 letters."""
+    name = "b" * 29
+    return f"test {name};\ngoal equal {'+'.join([name] * n)}, 0;\n"
+
+
+def condition(n):
+    """A disjunction of n tests, each in 198 parentheses, in one condition."""
+    return f"test b;\ngoal triple {{{'||'.join([f'{chr(40) * 198}b{chr(41) * 198}'] * n)}}} 1 {{b}};\n"
+
+
+# Evidence, with the problem that it belongs to
+
+def chain(n):
+    """n nodes, each the star of the one before."""
+    return STARS, "kat 1 equal\nE act 0\n" + "".join(f"E star {i}\n" for i in range(n - 1)) + "P 1 | 1\nend\n"
+
+
+def mixed(n):
+    """n sums and products of earlier nodes at random, and half as many pairs of them."""
+    pick, lines, seen = random.Random(1), ["E act 0", "E star 0"], set()
+    while len(lines) < n + 2:
+        line = f"E {pick.choice(('sum', 'seq'))} {pick.randrange(len(lines))} {pick.randrange(len(lines))}"
+        if line not in seen:
+            seen.add(line)
+            lines.append(line)
+    pairs = [f"P {pick.randrange(n)} | {pick.randrange(n)}" for _ in range(n // 2)]
+    return STARS, "\n".join(["kat 1 equal", *lines, *pairs, "end"]) + "\n"
+
+
+def string_of(term):
+    """The text of a problem on the term, and a string of 200 positions."""
+    return f"action p;\n{term}", "kat 1 different\nA\n" + "M 0\n" * 199 + "end\n"
+
+
+def nested(n):
+    """n stars in one another."""
+    items = "term s0 = p*;\n" + "".join(f"term s{i} = s{i - 1}*;\n" for i in range(1, n))
+    return string_of(f"{items}goal equal s{n - 1}, 0;\n")
+
+
+def product(n):
+    """A balanced product of n stars."""
+    return string_of(f"goal equal {'.'.join(['p*'] * n)}, 0;\n")
+
+
+def powers(n):
+    """The sum of the first n powers of the action."""
+    return string_of(f"goal equal {' + '.join('.'.join(['p'] * k) for k in range(1, n + 1))}, 0;\n")
+
+
+CASES = {
+    "terms": ("decide", terms, 62_333),
+    "parentheses": ("decide", parentheses, 2_621),
+    "names": ("decide", names, 33_333),
+    "condition": ("decide", condition, 2_627),
+    "chain": ("check", chain, 800_000),
+    "chain-read": ("replay", chain, 800_000),
+    "mixed-read": ("replay", mixed, 250_000),
+    "nested": ("replay", nested, 1_000),
+    "product": ("replay", product, 512),
+    "powers": ("replay", powers, 199),
+}
+
+
+# Measuring
+
+def seconds(program, words, folder):
+    """The status, and the seconds of the processor, of one run."""
+    before = resource.getrusage(resource.RUSAGE_CHILDREN)
+    status = subprocess.run([program, *words], cwd=folder, stdout=subprocess.DEVNULL).returncode
+    after = resource.getrusage(resource.RUSAGE_CHILDREN)
+    return status, after.ru_utime + after.ru_stime - before.ru_utime - before.ru_stime
+
+
+def measure(program, name, size, folder, runs):
+    command, make, _ = CASES[name]
+    made = make(size)
+    problem, evidence = made if isinstance(made, tuple) else (made, "")
+    (folder / "problem").write_text(problem)
+    (folder / "evidence").write_text(evidence)
+    words = [command, "problem"] + ["evidence"] * (command != "decide")
+    found = [seconds(program, words, folder) for _ in range(runs)]
+    most = max(peak(program, words, folder / "said") for _ in range(runs))
+    return [name, f"{size:,}", f"{len(evidence or problem):,}", command, found[0][0],
+            f"{min(it for _, it in found):.2f}", f"{most:.0f}" if most else "-"]
+
+
+def main():
+    reader = argparse.ArgumentParser(description="Measures what long texts cost.")
+    reader.add_argument("--kat", default=str(TOP / "kat"))
+    reader.add_argument("--runs", type=int, default=3)
+    reader.add_argument("case", nargs="*")
+    said = reader.parse_args()
+    lost = [name for name in said.case if name not in CASES]
+    if lost:
+        sys.exit(f"no case {lost[0]}; there are {', '.join(CASES)}")
+    program = os.path.abspath(said.kat)
+    if program == str(TOP / "kat"):
+        # The script builds it; it is then run without the script, whose time is not to be measured.
+        subprocess.run([program], stdout=subprocess.DEVNULL)
+        program = str(TOP / "crates/kat/out/kat")
+    print("| case | n | bytes | command | status | s | MB |\n|---|---|---|---|---|---|---|")
+    with tempfile.TemporaryDirectory() as room:
+        for name in said.case or CASES:
+            for size in (CASES[name][2], CASES[name][2] // 2):
+                row = measure(program, name, size, Path(room), said.runs)
+                print("| " + " | ".join(str(it) for it in row) + " |", flush=True)
+
+
+if __name__ == "__main__":
+    main()
