@@ -12,9 +12,9 @@ use Rattle.test_diagrams.specs.Functions.{DiagramsParts, value_of, IsDiagramId, 
 use Rattle.test_diagrams.specs.Reduced.{IsReduced}
 use Rattle.test_diagrams.proofs.Apart.{same_function_same_id}
 use Rattle.bisim_worklist.specs.Covered.{IsBetween}
-use Rattle.bisim_worklist.specs.Listings.{terms_of}
-use Rattle.bisim_worklist.specs.Items.{guard_of, guard_beyond, targets_under, is_open, open_targets, chosen}
-use Rattle.bisim_worklist.specs.Covers.{AreEnds}
+use Rattle.bisim_worklist.specs.Working.Listings.{terms_of}
+use Rattle.bisim_worklist.specs.Working.Items.{guard_of, guard_beyond, targets_under, is_open, open_targets, chosen}
+use Rattle.bisim_worklist.specs.Working.Covers.{AreEnds}
 use Rattle.bisim_worklist.specs.declared.items.Item.{Item}
 use Rattle.bisim_worklist.specs.declared.items.Ends.{Ends}
 use Rattle.bisim_worklist.specs.declared.items.Side.{Side}

@@ -14,9 +14,9 @@ use Rattle.term_store.specs.declared.nodes.Shape.{Shape}
 use Rattle.term_store.specs.declared.nodes.Shape.TheVariants.{Zero, One, Test, Act, Sum, Seq, Star}
 use Rattle.term_store.proofs.TestTrees.{test_tree_of-node}
 use Rattle.term_store.proofs.TermTrees.{tree_of-node}
-use Rattle.bisim_worklist.specs.Listings.{IdEntry, AreIdSets}
-use Rattle.bisim_worklist.specs.Needed.{IsPart, own, part, terms_in, tests_in, test_parts_in, members_of}
-use Rattle.bisim_worklist.specs.Numbering.{test_node_of, term_node_of, test_nodes_of, term_nodes_of, IsCertOf}
+use Rattle.bisim_worklist.specs.Working.Listings.{IdEntry, AreIdSets}
+use Rattle.bisim_worklist.specs.Working.Needed.{IsPart, own, part, terms_in, tests_in, test_parts_in, members_of}
+use Rattle.bisim_worklist.specs.Working.Numbering.{test_node_of, term_node_of, test_nodes_of, term_nodes_of, IsCertOf}
 use Rattle.bisim_worklist.proofs.StoreCerts.{numbered_cert, AreNeeded, test_at, term_at, test_there, term_there}
 use Rattle.bisim_worklist.proofs.CertTrees.{pairs_numbered, trees_have_ids}
 

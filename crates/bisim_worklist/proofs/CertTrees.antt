@@ -20,9 +20,9 @@ use Rattle.term_store.specs.declared.nodes.Shape.TheVariants.{Zero, One, Test, A
 use Rattle.term_store.proofs.TestTrees.{test_tree_of-node}
 use Rattle.term_store.proofs.TermTrees.{tree_of-node}
 use Rattle.bisim_worklist.specs.Walks.{pairs_of}
-use Rattle.bisim_worklist.specs.Listings.{IdEntry, AreIdSets, terms_of, entries_of}
-use Rattle.bisim_worklist.specs.Needed.{terms_in, tests_in, test_parts_in}
-use Rattle.bisim_worklist.specs.Numbering.{number_of, numbers_of, number_pair_of, test_node_of, term_node_of}
+use Rattle.bisim_worklist.specs.Working.Listings.{IdEntry, AreIdSets, terms_of, entries_of}
+use Rattle.bisim_worklist.specs.Working.Needed.{terms_in, tests_in, test_parts_in}
+use Rattle.bisim_worklist.specs.Working.Numbering.{number_of, numbers_of, number_pair_of, test_node_of, term_node_of}
 use Rattle.certificate.proofs.Ascending.{ascending_once}
 use Rattle.bisim_worklist.proofs.PartSets.{terms_less, tests_less}
 use Rattle.bisim_worklist.proofs.PlaceNumbers.{number_at, number_of_place, at_mapped}

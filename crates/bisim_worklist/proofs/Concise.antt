@@ -10,7 +10,7 @@ use Rattle.certificate.specs.declared.nodes.TermNode.TheVariants.{Act}
 use Rattle.certificate.specs.declared.nodes.Style.TheVariants.{UpTo}
 use Rattle.certificate.specs.Certs.{CertParts}
 use Rattle.certificate.specs.Accepted.{set_pairs, pair_style}
-use Rattle.bisim_worklist.specs.Decisions.{HasNoRedundantPair, pair_limit, IsConcise}
+use Rattle.certificate.specs.Decisions.{HasNoRedundantPair, pair_limit, IsConcise}
 use Rattle.bisim_worklist.specs.Walks.{Entry, pairs_of, IsWalk}
 use Rattle.bisim_worklist.proofs.NoRedundancy.{guarded_few}
 use Rattle.bisim_worklist.proofs.Endings.{walk_accepted, walk_bounds}

@@ -11,11 +11,11 @@ use Rattle.term_store.specs.Nodes.{StoreParts, IsTermId}
 use Rattle.term_store.specs.Trees.{tree_of}
 use Rattle.bisim_worklist.specs.Walks.{pairs_of}
 use Rattle.bisim_worklist.specs.Covered.{HasUniversal, IsReached, IsCovered}
-use Rattle.bisim_worklist.specs.Listings.{terms_of, entries_of}
-use Rattle.bisim_worklist.specs.Marks.{RuleParts, are_marked, saturated_marks, reaches_targets}
-use Rattle.bisim_worklist.specs.Items.{targets_under, open_targets, is_open, guard_of}
-use Rattle.bisim_worklist.specs.Covers.{covers_on, covers}
-use Rattle.bisim_worklist.specs.IdWalks.{AreRulesOf}
+use Rattle.bisim_worklist.specs.Working.Listings.{terms_of, entries_of}
+use Rattle.bisim_worklist.specs.Working.Marks.{RuleParts, are_marked, saturated_marks, reaches_targets}
+use Rattle.bisim_worklist.specs.Working.Items.{targets_under, open_targets, is_open, guard_of}
+use Rattle.bisim_worklist.specs.Working.Covers.{covers_on, covers}
+use Rattle.bisim_worklist.specs.Working.IdWalks.{AreRulesOf}
 use Rattle.bisim_worklist.specs.declared.items.Item.{Item}
 use Rattle.bisim_worklist.specs.declared.items.Ends.{Ends}
 use Rattle.bisim_worklist.specs.declared.items.Side.{Side}

@@ -16,12 +16,13 @@ use Rattle.certificate.specs.Certs.{CertParts}
 use Rattle.term_store.specs.Nodes.{StoreParts}
 use Rattle.term_store.specs.Trees.{tree_of, HasTree}
 use Rattle.partial_derivs.specs.Moves.{IsTermOf}
-use Rattle.bisim_worklist.specs.Decisions.{IsDecision, HasIdsOf}
+use Rattle.certificate.specs.Decisions.{IsDecision}
+use Rattle.bisim_worklist.specs.StoredTerms.{HasIdsOf}
 use Rattle.bisim_worklist.specs.Walks.{Origin, Entry, IsWalk, IsTrail, after_trail}
-use Rattle.bisim_worklist.specs.Listings.{IdEntry, terms_of, entry_of, entries_of, AreIdSets, ComesEarlier, AreTraced, origin_in, LeadsBack}
-use Rattle.bisim_worklist.specs.Needed.{members_of}
-use Rattle.bisim_worklist.specs.Numbering.{IsCertOf}
-use Rattle.bisim_worklist.specs.Walking.{IsUnderWay, IsDifference}
+use Rattle.bisim_worklist.specs.Working.Listings.{IdEntry, terms_of, entry_of, entries_of, AreIdSets, ComesEarlier, AreTraced, origin_in, LeadsBack}
+use Rattle.bisim_worklist.specs.Working.Needed.{members_of}
+use Rattle.bisim_worklist.specs.Working.Numbering.{IsCertOf}
+use Rattle.bisim_worklist.specs.Working.Walking.{IsUnderWay, IsDifference}
 use Rattle.bisim_worklist.specs.declared.walk.Walk.{Walk}
 use Rattle.bisim_worklist.proofs.WalkSteps.{first_entry}
 use Rattle.bisim_worklist.proofs.ReachedRanges.{left_in_range, right_in_range}

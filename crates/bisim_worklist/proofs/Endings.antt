@@ -8,7 +8,7 @@ use Rattle.kat_model.specs.Relations.{Same}
 use Rattle.kat_model.specs.Pairs.{SetPair, up_to, AreAccepted}
 use Rattle.kat_model.proofs.Places.{place_of_member}
 use Rattle.kat_model.proofs.Sameness.{accepted_same}
-use Rattle.bisim_worklist.specs.Decisions.{HasNoRedundantPair, pair_limit}
+use Rattle.certificate.specs.Decisions.{HasNoRedundantPair, pair_limit}
 use Rattle.bisim_worklist.specs.Laws.{AreFew}
 use Rattle.bisim_worklist.specs.Walks.{Entry, pairs_of, closed_pair, IsFoundBy, IsSettled, IsWalk}
 use Rattle.bisim_worklist.proofs.Entries.{has_pair, pair_has}

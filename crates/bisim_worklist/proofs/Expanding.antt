@@ -20,13 +20,13 @@ use Rattle.partial_derivs.specs.Tables.{AreRight}
 use Rattle.partial_derivs.proofs.Kept.{Keeps-functions, IsStepsBy-kept}
 use Rattle.partial_derivs.proofs.Tables.{AreRight-kept}
 use Rattle.bisim_worklist.specs.Walks.{Entry, pairs_of, AreCongruentAfter}
-use Rattle.bisim_worklist.specs.Visits.{Grows}
-use Rattle.bisim_worklist.specs.Listings.{IdEntry, terms_of, pair_of, entry_of, entries_of, IsIdSet}
-use Rattle.bisim_worklist.specs.Marks.{RuleParts}
-use Rattle.bisim_worklist.specs.Items.{led, led_to, AreItemsOf, AreLedTo}
-use Rattle.bisim_worklist.specs.Cases.{Extends}
-use Rattle.bisim_worklist.specs.IdWalks.{AreRulesOf, StandFor, AreVisited, Visits}
-use Rattle.bisim_worklist.specs.Walking.{IsUnderWay, AreStepsAt, IsExpanded}
+use Rattle.bisim_worklist.specs.Working.Visits.{Grows}
+use Rattle.bisim_worklist.specs.Working.Listings.{IdEntry, terms_of, pair_of, entry_of, entries_of, IsIdSet}
+use Rattle.bisim_worklist.specs.Working.Marks.{RuleParts}
+use Rattle.bisim_worklist.specs.Working.Items.{led, led_to, AreItemsOf, AreLedTo}
+use Rattle.bisim_worklist.specs.Working.Cases.{Extends}
+use Rattle.bisim_worklist.specs.Working.IdWalks.{AreRulesOf, StandFor, AreVisited, Visits}
+use Rattle.bisim_worklist.specs.Working.Walking.{IsUnderWay, AreStepsAt, IsExpanded}
 use Rattle.bisim_worklist.specs.declared.items.Item.{Item}
 use Rattle.bisim_worklist.specs.declared.branching.Stride.{Stride}
 use Rattle.bisim_worklist.specs.declared.walk.Walk.{Walk}

@@ -12,8 +12,8 @@ use Rattle.partial_derivs.proofs.Items.{has_item, take_item}
 use Rattle.bisim_worklist.specs.declared.items.Item.{Item}
 use Rattle.bisim_worklist.specs.declared.items.Side.{Side}
 use Rattle.bisim_worklist.specs.declared.items.Side.TheVariants.{Left, Right}
-use Rattle.bisim_worklist.specs.Items.{targets_of, chosen, guard_of}
-use Rattle.bisim_worklist.specs.Cases.{AreItemsWith, IsFixedItem}
+use Rattle.bisim_worklist.specs.Working.Items.{targets_of, chosen, guard_of}
+use Rattle.bisim_worklist.specs.Working.Cases.{AreItemsWith, IsFixedItem}
 use Rattle.certificate.proofs.Ascending.{ascending_tail, ascending_first, ascending_more}
 
 -- ---- atoms with tests set

@@ -13,7 +13,7 @@ use Rattle.partial_derivs.specs.Moves.{AreGuards, AreMerged}
 use Rattle.bisim_worklist.specs.declared.items.Item.{Item}
 use Rattle.bisim_worklist.specs.declared.items.Side.{Side}
 use Rattle.bisim_worklist.specs.declared.items.Side.TheVariants.{Left, Right}
-use Rattle.bisim_worklist.specs.Items.{guard_of, chosen, led, items_in, AreKeyed, found_item, item_in, last_guard, AddsMoves, AreItemsOf}
+use Rattle.bisim_worklist.specs.Working.Items.{guard_of, chosen, led, items_in, AreKeyed, found_item, item_in, last_guard, AddsMoves, AreItemsOf}
 use Rattle.bisim_worklist.proofs.PartSets.{sorted_ascending}
 use Rattle.bisim_worklist.proofs.ItemTables.{sorted_finds, targets_are_keys, chosen_item}
 use Rattle.bisim_worklist.proofs.LastGuards.{last_guard_all, led_last}

@@ -21,7 +21,7 @@ use Rattle.partial_derivs.proofs.Entries.{lookup_has}
 use Rattle.bisim_worklist.specs.declared.items.Item.{Item}
 use Rattle.bisim_worklist.specs.declared.items.Side.{Side}
 use Rattle.bisim_worklist.specs.declared.items.Side.TheVariants.{Left, Right}
-use Rattle.bisim_worklist.specs.Items.{guard_of, targets_of, chosen, items_in, AreKeyed, found_item, item_in, led_to, AddsTargets, AreLedTo}
+use Rattle.bisim_worklist.specs.Working.Items.{guard_of, targets_of, chosen, items_in, AreKeyed, found_item, item_in, led_to, AddsTargets, AreLedTo}
 
 -- what is found is an entry
 pub found_entry : (es : List (ℕ × Item)) (k : ℕ) (i : Item) → lookup (is_at (nat_cmp k)) es ≡ Some i → Has es (k, i)

@@ -7,7 +7,7 @@ use Rattle.kat_model.proofs.Lists.{map_has}
 use Rattle.certificate.specs.Nodes.{are_ascending}
 use Rattle.certificate.proofs.Ascending.{ascending_tail, ascending_first}
 use Rattle.test_diagrams.specs.Functions.{DiagramsParts, value_of}
-use Rattle.bisim_worklist.specs.Items.{guard_of, targets_of, targets_under, is_open, open_targets, chosen}
+use Rattle.bisim_worklist.specs.Working.Items.{guard_of, targets_of, targets_under, is_open, open_targets, chosen}
 use Rattle.bisim_worklist.specs.declared.items.Item.{Item}
 use Rattle.bisim_worklist.specs.declared.items.Side.{Side}
 

@@ -10,8 +10,8 @@ use Rattle.kat_model.specs.Members.{Has, IsSubset}
 use Rattle.kat_model.proofs.Lists.{has_left, has_right, has_append, any_has}
 use Rattle.kat_model.proofs.SetKeys.{inserted_has}
 use Rattle.partial_derivs.proofs.Items.{take_item}
-use Rattle.bisim_worklist.specs.Listings.{IdEntry}
-use Rattle.bisim_worklist.specs.Needed.{AddsAll}
+use Rattle.bisim_worklist.specs.Working.Listings.{IdEntry}
+use Rattle.bisim_worklist.specs.Working.Needed.{AddsAll}
 
 -- one more of some keys is added
 pub adds_next : (old ks new terms : List ℕ) (i k : ℕ) → i < length terms → k ≡ get_or terms i k → new ≡ insert_key nat_cmp ks k → AddsAll old ks (take i terms) → AddsAll old new (take (i + 1) terms)

@@ -16,7 +16,7 @@ use Rattle.partial_derivs.specs.Moves.{AreMerged}
 use Rattle.partial_derivs.proofs.Items.{take_item}
 use Rattle.bisim_worklist.specs.declared.items.Item.{Item}
 use Rattle.bisim_worklist.specs.declared.items.Side.{Side}
-use Rattle.bisim_worklist.specs.Items.{guard_of, led, last_guard, found_item, item_in, AddsMoves}
+use Rattle.bisim_worklist.specs.Working.Items.{guard_of, led, last_guard, found_item, item_in, AddsMoves}
 
 -- a move by the action to the target
 abbrev pub is_hit : ℕ → ℕ → Guarded → Bool

@@ -13,13 +13,13 @@ use Rattle.test_diagrams.specs.Functions.{DiagramsParts, IsDiagramId, IsConstant
 use Rattle.test_diagrams.specs.Reduced.{IsReduced}
 use Rattle.partial_derivs.specs.Moves.{IsTermOf}
 use Rattle.bisim_worklist.specs.Walks.{Origin, Entry, IsWalk}
-use Rattle.bisim_worklist.specs.Visits.{IsVisited}
-use Rattle.bisim_worklist.specs.Listings.{IdEntry, terms_of, pair_of, entry_of, entries_of, IsIdSet, AreIdSets}
-use Rattle.bisim_worklist.specs.Marks.{RuleParts}
-use Rattle.bisim_worklist.specs.Items.{guard_of, targets_under, open_targets}
-use Rattle.bisim_worklist.specs.Covers.{AreEnds, covers}
-use Rattle.bisim_worklist.specs.Cases.{Extends, least_of, AreConstant, IsCase}
-use Rattle.bisim_worklist.specs.IdWalks.{AreRulesOf, StandFor, AreVisited, Visits}
+use Rattle.bisim_worklist.specs.Working.Visits.{IsVisited}
+use Rattle.bisim_worklist.specs.Working.Listings.{IdEntry, terms_of, pair_of, entry_of, entries_of, IsIdSet, AreIdSets}
+use Rattle.bisim_worklist.specs.Working.Marks.{RuleParts}
+use Rattle.bisim_worklist.specs.Working.Items.{guard_of, targets_under, open_targets}
+use Rattle.bisim_worklist.specs.Working.Covers.{AreEnds, covers}
+use Rattle.bisim_worklist.specs.Working.Cases.{Extends, least_of, AreConstant, IsCase}
+use Rattle.bisim_worklist.specs.Working.IdWalks.{AreRulesOf, StandFor, AreVisited, Visits}
 use Rattle.bisim_worklist.specs.declared.items.Item.{Item}
 use Rattle.bisim_worklist.specs.declared.items.Ends.{Ends}
 use Rattle.bisim_worklist.specs.declared.items.Side.{Side}

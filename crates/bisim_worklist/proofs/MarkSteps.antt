@@ -2,8 +2,8 @@
 use Rattle.std.proofs.Common.{◌≡◌, ℕ, zero, suc, ◌+◌, ◌-◌, ◌<◌, ⊎_elim, List, [], ◌∷◌, get_or, set, refl, sym, ap, ◌∙◌, arith, Bool, true, false, cond, Option, Some, None}
 use Rattle.std.proofs.lemmas.Bool.{and_parts, and_from, or_cases, or_left, or_right}
 use Rattle.kat_model.proofs.Places.{get_or-set_kept}
-use Rattle.bisim_worklist.specs.Listings.{IdEntry}
-use Rattle.bisim_worklist.specs.Marks.{are_marked, with_marks, with_pair_marked, round_marked, rounds_marked, are_reached}
+use Rattle.bisim_worklist.specs.Working.Listings.{IdEntry}
+use Rattle.bisim_worklist.specs.Working.Marks.{are_marked, with_marks, with_pair_marked, round_marked, rounds_marked, are_reached}
 
 -- after a round that changes nothing no other does
 pub rounds_stay : (n : ℕ) (ps : List IdEntry) (marks : List Bool) → round_marked ps marks ≡ marks → rounds_marked n ps marks ≡ marks

@@ -14,8 +14,8 @@ use Rattle.term_store.specs.Nodes.{StoreParts, IsStore, IsTermId}
 use Rattle.term_store.specs.Trees.{tree_of}
 use Rattle.term_store.proofs.TermTrees.{one_id_a_tree}
 use Rattle.bisim_worklist.specs.Walks.{Entry, pairs_of}
-use Rattle.bisim_worklist.specs.Listings.{IdEntry, terms_of, pair_of, entry_of, entries_of}
-use Rattle.bisim_worklist.specs.Marks.{are_marked, with_marks, with_pair_marked, round_marked, rounds_marked, saturated_marks}
+use Rattle.bisim_worklist.specs.Working.Listings.{IdEntry, terms_of, pair_of, entry_of, entries_of}
+use Rattle.bisim_worklist.specs.Working.Marks.{are_marked, with_marks, with_pair_marked, round_marked, rounds_marked, saturated_marks}
 
 -- the numbers are ids of terms, as are those of both sides of each pair
 abbrev pub AreIds : StoreParts → List ℕ → Type 0

@@ -10,7 +10,7 @@ use Rattle.certificate.specs.Nodes.{are_ascending}
 use Rattle.term_store.specs.Nodes.{StoreParts}
 use Rattle.term_store.specs.declared.nodes.Shape.{Shape}
 use Rattle.partial_derivs.proofs.Items.{take_item}
-use Rattle.bisim_worklist.specs.Needed.{NamesTests, AddsAll, tests_in}
+use Rattle.bisim_worklist.specs.Working.Needed.{NamesTests, AddsAll, tests_in}
 use Rattle.certificate.proofs.Ascending.{ascending_seam}
 use Rattle.bisim_worklist.proofs.PartSets.{some_same}
 

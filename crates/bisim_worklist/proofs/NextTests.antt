@@ -5,7 +5,7 @@ use Rattle.std.proofs.lemmas.List.{drop_more}
 use Rattle.kat_model.specs.Members.{Has}
 use Rattle.test_diagrams.specs.Functions.{DiagramsParts}
 use Rattle.bisim_worklist.specs.declared.items.Item.{Item}
-use Rattle.bisim_worklist.specs.Cases.{IsConstantItem, HasNextTest, IsNextTest, AreConstant}
+use Rattle.bisim_worklist.specs.Working.Cases.{IsConstantItem, HasNextTest, IsNextTest, AreConstant}
 
 -- a test of one item is one of the items
 pub next_of : (d : DiagramsParts) (items : List Item) (x : Item) → Has items x → (r : Option ℕ) → MatchOption r (IsConstantItem d x) (HasNextTest d x) → IfSome r (IsNextTest d items)

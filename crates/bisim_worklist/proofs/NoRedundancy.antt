@@ -14,7 +14,7 @@ use Rattle.kat_model.proofs.Reach.{next_reach, reach_next}
 use Rattle.kat_model.proofs.Determined.{one_step_guarded, one_step_reached}
 use Rattle.kat_model.proofs.SingleSets.{single_next}
 use Rattle.kat_model.proofs.Bounds.{pairs_bound, single_pairs_bound}
-use Rattle.bisim_worklist.specs.Decisions.{AreNeeded, HasNoRedundantPair, pair_limit}
+use Rattle.certificate.specs.Decisions.{AreNeeded, HasNoRedundantPair, pair_limit}
 use Rattle.bisim_worklist.specs.Laws.{AreFew}
 use Rattle.bisim_worklist.specs.Walks.{closed_pair}
 

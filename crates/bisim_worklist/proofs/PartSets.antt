@@ -17,8 +17,8 @@ use Rattle.term_store.specs.declared.nodes.TestShape.{TestShape}
 use Rattle.term_store.specs.declared.nodes.TestShape.TheVariants as test
 use Rattle.term_store.specs.declared.nodes.Shape.{Shape}
 use Rattle.term_store.specs.declared.nodes.Shape.TheVariants.{Zero, One, Test, Act, Sum, Seq, Star}
-use Rattle.bisim_worklist.specs.Needed.{IsPart, own, part, AreParts, AddsAll, terms_in, test_parts_in, members_of}
-use Rattle.bisim_worklist.specs.Listings.{IdEntry}
+use Rattle.bisim_worklist.specs.Working.Needed.{IsPart, own, part, AreParts, AddsAll, terms_in, test_parts_in, members_of}
+use Rattle.bisim_worklist.specs.Working.Listings.{IdEntry}
 
 -- ---- lists of numbers
 

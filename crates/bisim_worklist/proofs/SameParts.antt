@@ -4,7 +4,7 @@ use Rattle.kat_model.specs.Members.{Has, SameMembers}
 use Rattle.term_store.specs.Nodes.{StoreParts, IsOver, IsStore}
 use Rattle.term_store.specs.declared.nodes.Shape.{Shape}
 use Rattle.term_store.specs.declared.nodes.Shape.TheVariants.{Zero, One, Test, Act, Sum, Seq, Star}
-use Rattle.bisim_worklist.specs.Needed.{IsPart, own, part, AreParts, NamesTests, tests_in}
+use Rattle.bisim_worklist.specs.Working.Needed.{IsPart, own, part, AreParts, NamesTests, tests_in}
 
 module _ (N : Type 0) (nodes : List N) (named : N → List ℕ) (from other : List ℕ) (same : SameMembers from other) where
   part_same : {i : ℕ} → IsPart N nodes named from i → IsPart N nodes named other i

@@ -9,7 +9,7 @@ use Rattle.kat_model.specs.Pairs.{SetPair}
 use Rattle.kat_model.proofs.Acceptance.{set_accepts-cons, set_accepts-single, set_accepts_same}
 use Rattle.string_tables.specs.Tables.{Refutes}
 use Rattle.string_tables.proofs.Elimination.{refuted_differ, differ_refuted}
-use Rattle.bisim_worklist.specs.Decisions.{IsShortest}
+use Rattle.certificate.specs.Decisions.{IsShortest}
 use Rattle.bisim_worklist.specs.Walks.{Origin, Entry, closed_pair, IsNextOf, IsWalk, IsTrail, after_step, after_trail, IsShortestFrom}
 use Rattle.bisim_worklist.proofs.WalkSteps.{first_entry}
 use Rattle.bisim_worklist.proofs.Trails.{no_origin_first, origin_at}

@@ -11,12 +11,12 @@ use Rattle.kat_model.proofs.Lists.{has_map, map_has}
 use Rattle.term_store.specs.Nodes.{StoreParts}
 use Rattle.test_diagrams.specs.Functions.{DiagramsParts, IsDiagramId, IsDiagramOf, IsIndependent, DependsOn, KeepsFunctions}
 use Rattle.partial_derivs.specs.Moves.{IsTermOf}
-use Rattle.bisim_worklist.specs.Listings.{terms_of, entries_of}
-use Rattle.bisim_worklist.specs.Marks.{RuleParts}
-use Rattle.bisim_worklist.specs.Items.{guard_of, chosen, AreItems}
-use Rattle.bisim_worklist.specs.Covers.{AreEnds}
-use Rattle.bisim_worklist.specs.Cases.{Extends, IsOpen, open_count, IsNextTest, IsCase, AreItemsWith}
-use Rattle.bisim_worklist.specs.IdWalks.{StandFor, Visits}
+use Rattle.bisim_worklist.specs.Working.Listings.{terms_of, entries_of}
+use Rattle.bisim_worklist.specs.Working.Marks.{RuleParts}
+use Rattle.bisim_worklist.specs.Working.Items.{guard_of, chosen, AreItems}
+use Rattle.bisim_worklist.specs.Working.Covers.{AreEnds}
+use Rattle.bisim_worklist.specs.Working.Cases.{Extends, IsOpen, open_count, IsNextTest, IsCase, AreItemsWith}
+use Rattle.bisim_worklist.specs.Working.IdWalks.{StandFor, Visits}
 use Rattle.bisim_worklist.specs.declared.items.Item.{Item}
 use Rattle.bisim_worklist.specs.declared.items.Ends.{Ends}
 use Rattle.bisim_worklist.specs.declared.items.Side.{Side}

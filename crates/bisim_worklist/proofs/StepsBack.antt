@@ -4,7 +4,7 @@ use Rattle.std.proofs.lemmas.Option.{slice_get_cases}
 use Rattle.std.proofs.lemmas.List.{reverse-append}
 use Rattle.kat_model.specs.Strings.{Move, GuardedString}
 use Rattle.bisim_worklist.specs.Walks.{Origin, after_trail}
-use Rattle.bisim_worklist.specs.Listings.{IdEntry, AreTraced, ComesEarlier, origin_in, origin_of, LeadsBack}
+use Rattle.bisim_worklist.specs.Working.Listings.{IdEntry, AreTraced, ComesEarlier, origin_in, origin_of, LeadsBack}
 
 -- the string of an atom and moves
 abbrev pub string_of : List Bool → List Move → GuardedString

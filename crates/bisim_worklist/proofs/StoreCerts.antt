@@ -15,9 +15,9 @@ use Rattle.term_store.specs.declared.nodes.TestShape.{TestShape}
 use Rattle.term_store.specs.declared.nodes.TestShape.TheVariants as test
 use Rattle.term_store.specs.declared.nodes.Shape.{Shape}
 use Rattle.term_store.specs.declared.nodes.Shape.TheVariants.{Zero, One, Test, Act, Sum, Seq, Star}
-use Rattle.bisim_worklist.specs.Listings.{IdEntry, AreIdSets}
-use Rattle.bisim_worklist.specs.Needed.{AreParts, NamesTests, terms_in, tests_in, test_parts_in, members_of}
-use Rattle.bisim_worklist.specs.Numbering.{number_of, numbers_of, number_pair_of, test_node_of, term_node_of, test_nodes_of, term_nodes_of}
+use Rattle.bisim_worklist.specs.Working.Listings.{IdEntry, AreIdSets}
+use Rattle.bisim_worklist.specs.Working.Needed.{AreParts, NamesTests, terms_in, tests_in, test_parts_in, members_of}
+use Rattle.bisim_worklist.specs.Working.Numbering.{number_of, numbers_of, number_pair_of, test_node_of, term_node_of, test_nodes_of, term_nodes_of}
 use Rattle.certificate.proofs.Ascending.{ascending_once}
 use Rattle.bisim_worklist.proofs.PartSets.{terms_less, tests_less, member_of}
 use Rattle.bisim_worklist.proofs.PlaceNumbers.{number_within, number_of_place, number_once, number_less, numbers_below, numbers_ascend, once_mapped, mapped_at}

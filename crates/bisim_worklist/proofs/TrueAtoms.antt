@@ -8,7 +8,7 @@ use Rattle.kat_model.specs.Steps.{Atom}
 use Rattle.test_diagrams.specs.Functions.{DiagramsParts, value_of, IsDiagramId, IsAtomOf, IsDiagramOf, KeepsFunctions}
 use Rattle.test_diagrams.specs.Reduced.{IsReduced}
 use Rattle.test_diagrams.proofs.Apart.{different_apart}
-use Rattle.bisim_worklist.specs.Outputs.{one_of, IsSomewhereTrue, IsFirstValue}
+use Rattle.bisim_worklist.specs.Working.Outputs.{one_of, IsSomewhereTrue, IsFirstValue}
 
 module _ (d e : DiagramsParts) (id low never test : ℕ) (tests : e.tests ≡ d.tests) (is_low : IsDiagramOf e low (λ atom. value_of d id (set atom test false))) (is_never : IsDiagramOf e never (λ atom. false)) where
   -- where nothing is true with the value false, something is with the other

@@ -22,11 +22,11 @@ use Rattle.partial_derivs.specs.Tables.{AreRight}
 use Rattle.partial_derivs.proofs.Kept.{IsTermOf-trees, IsStepsBy-kept, AreGuards-kept, Keeps-functions}
 use Rattle.partial_derivs.proofs.Tables.{AreRight-kept}
 use Rattle.bisim_worklist.specs.Walks.{Entry, pairs_of, AcceptAlike, AreCongruentAfter, IsWalk}
-use Rattle.bisim_worklist.specs.Decisions.{pair_limit}
-use Rattle.bisim_worklist.specs.Listings.{IdEntry, terms_of, pair_of, entry_of, entries_of, IsIdSet, AreIdSets}
-use Rattle.bisim_worklist.specs.Marks.{RuleParts}
-use Rattle.bisim_worklist.specs.IdWalks.{AreRulesOf}
-use Rattle.bisim_worklist.specs.Walking.{IsUnderWay, AreStepsAt, HasStepIds, IsDifference}
+use Rattle.certificate.specs.Decisions.{pair_limit}
+use Rattle.bisim_worklist.specs.Working.Listings.{IdEntry, terms_of, pair_of, entry_of, entries_of, IsIdSet, AreIdSets}
+use Rattle.bisim_worklist.specs.Working.Marks.{RuleParts}
+use Rattle.bisim_worklist.specs.Working.IdWalks.{AreRulesOf}
+use Rattle.bisim_worklist.specs.Working.Walking.{IsUnderWay, AreStepsAt, HasStepIds, IsDifference}
 use Rattle.bisim_worklist.specs.declared.walk.Walk.{Walk}
 use Rattle.bisim_worklist.specs.declared.walk.BothSteps.{BothSteps}
 use Rattle.bisim_worklist.proofs.Endings.{walk_few, walk_ended}

@@ -7,7 +7,7 @@ use Rattle.kat_model.specs.Closed.{closed}
 use Rattle.kat_model.specs.Pairs.{SetPair, IsCongruent}
 use Rattle.kat_model.proofs.Lists.{has_left, has_append}
 use Rattle.kat_model.proofs.Places.{has_at, slice_get-append_some, slice_get_last}
-use Rattle.bisim_worklist.specs.Decisions.{IsNeeded, AreNeeded, HasNoRedundantPair}
+use Rattle.certificate.specs.Decisions.{IsNeeded, AreNeeded, HasNoRedundantPair}
 use Rattle.bisim_worklist.specs.Walks.{Origin, Entry, pairs_of, closed_pair, IsNextOf, ComesFrom, IsFoundBy, AreInOrder, IsSettled, IsProcessed, IsWalk}
 use Rattle.bisim_worklist.proofs.Entries.{pairs_of-append, has_pair, pair_has, found_later}
 

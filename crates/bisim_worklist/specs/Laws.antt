@@ -14,7 +14,7 @@ use Rattle.certificate.specs.declared.nodes.TermNode.TheVariants.{Act}
 use Rattle.certificate.specs.declared.nodes.Style.TheVariants.{UpTo}
 use Rattle.certificate.specs.Certs.{CertParts}
 use Rattle.certificate.specs.Accepted.{set_pairs}
-use Rattle.bisim_worklist.specs.Decisions.{HasNoRedundantPair, pair_limit, IsConcise, IsShortest}
+use Rattle.certificate.specs.Decisions.{HasNoRedundantPair, pair_limit, IsConcise, IsShortest}
 use Rattle.bisim_worklist.specs.Covered.{IsBetween, IsCovered}
 use Rattle.bisim_worklist.specs.Walks.{Origin, Entry, pairs_of, closed_pair, IsNextOf, IsSettled, IsWalk, IsTrail, after_trail}
 

@@ -1,15 +1,5 @@
-pub mod Decisions
+pub mod StoredTerms
 pub mod Walks
 pub mod Covered
-pub mod Visits
 pub mod Laws
-pub mod Listings
-pub mod Marks
-pub mod Items
-pub mod Covers
-pub mod Cases
-pub mod IdWalks
-pub mod Outputs
-pub mod Needed
-pub mod Numbering
-pub mod Walking
+pub mod Working

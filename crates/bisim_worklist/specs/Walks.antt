@@ -7,7 +7,7 @@ use Rattle.kat_model.specs.Strings.{GuardedString}
 use Rattle.kat_model.specs.Problems.{ProblemParts}
 use Rattle.kat_model.specs.Closed.{closed}
 use Rattle.kat_model.specs.Pairs.{SetPair, IsCongruent}
-use Rattle.bisim_worklist.specs.Decisions.{HasNoRedundantPair, IsShortest}
+use Rattle.certificate.specs.Decisions.{HasNoRedundantPair, IsShortest}
 
 -- the place of the pair that a pair comes from, and the atom and action of the step that leads to it
 pub record Origin : Type 0 where

@@ -2,9 +2,9 @@
 //! are listed.
 ghost use Rattle.std.specs.Prelude.{◌≡◌, ◌++◌, ◌∷◌, [], Some, None, length, replicate, OnOk};
 ghost use Rattle.test_diagrams.specs.Functions.{KeepsFunctions};
-ghost use Rattle.bisim_worklist.specs.Items.{AreItems, targets_under};
-ghost use Rattle.bisim_worklist.specs.Cases.{IsCase, AreConstant, least_of};
-ghost use Rattle.bisim_worklist.specs.IdWalks.{Visits};
+ghost use Rattle.bisim_worklist.specs.Working.Items.{AreItems, targets_under};
+ghost use Rattle.bisim_worklist.specs.Working.Cases.{IsCase, AreConstant, least_of};
+ghost use Rattle.bisim_worklist.specs.Working.IdWalks.{Visits};
 ghost use Rattle.bisim_worklist.specs.declared.items.Side.TheVariants.{Left as OnLeft, Right as OnRight};
 
 use crate::cases::{Case, case_with, is_lighter, least_atom};

@@ -1,9 +1,9 @@
 //! The certificate of listed pairs.
 ghost use Rattle.std.specs.Prelude.{◌≡◌, ◌<◌, ℕ, Some, IfOk, length, map, slice_get};
 ghost use Rattle.kat_model.specs.Members.{Has, IsSubset};
-ghost use Rattle.bisim_worklist.specs.Listings.{AreIdSets};
-ghost use Rattle.bisim_worklist.specs.Needed.{terms_in, tests_in, test_parts_in, members_of};
-ghost use Rattle.bisim_worklist.specs.Numbering.{test_node_of, term_node_of, number_of, numbers_of, number_pair_of, test_nodes_of, term_nodes_of, IsCertOf};
+ghost use Rattle.bisim_worklist.specs.Working.Listings.{AreIdSets};
+ghost use Rattle.bisim_worklist.specs.Working.Needed.{terms_in, tests_in, test_parts_in, members_of};
+ghost use Rattle.bisim_worklist.specs.Working.Numbering.{test_node_of, term_node_of, number_of, numbers_of, number_pair_of, test_nodes_of, term_nodes_of, IsCertOf};
 
 use crate::needed::{Terms, Tests, needed_terms, needed_tests};
 use crate::pair::Listed;

@@ -1,7 +1,7 @@
 //! Whether the sets that a step leads to are congruent, as far as the tests that are decided tell.
 ghost use Rattle.std.specs.Prelude.{◌≡◌, ◌&&◌, IfOk};
-ghost use Rattle.bisim_worklist.specs.Items.{targets_under, is_open as is_open', open_targets as open_targets'};
-ghost use Rattle.bisim_worklist.specs.Covers.{covers_on, covers};
+ghost use Rattle.bisim_worklist.specs.Working.Items.{targets_under, is_open as is_open', open_targets as open_targets'};
+ghost use Rattle.bisim_worklist.specs.Working.Covers.{covers_on, covers};
 
 use crate::items::{Ends, Item, Side, guard_across, guard_on};
 use crate::rules::Rules;

@@ -6,8 +6,9 @@ ghost use Rattle.goal_forms.specs.ClosedTrees.{closed_trees};
 ghost use Rattle.term_store.specs.Nodes.{IsStore, IsTermId};
 ghost use Rattle.term_store.specs.Trees.{tree_of};
 ghost use Rattle.term_store.specs.Growth.{KeepsTrees};
-ghost use Rattle.bisim_worklist.specs.Decisions.{IsDecision, HasIdsOf};
-ghost use Rattle.bisim_worklist.specs.Walking.{IsUnderWay};
+ghost use Rattle.certificate.specs.Decisions.{IsDecision};
+ghost use Rattle.bisim_worklist.specs.StoredTerms.{HasIdsOf};
+ghost use Rattle.bisim_worklist.specs.Working.Walking.{IsUnderWay};
 
 use crate::cert::cert_of;
 use crate::string::string_to;

@@ -4,8 +4,8 @@ ghost use Rattle.std.specs.Ordering.{nat_cmp};
 ghost use Rattle.std.specs.BTreeMap.{IsOrdered};
 ghost use Rattle.partial_derivs.specs.Moves.{AreGuards, AreMerged};
 ghost use Rattle.test_diagrams.specs.Reduced.{IsReduced};
-ghost use Rattle.bisim_worklist.specs.Items.{guard_of, guard_beyond, item_in, AddsMoves, AddsTargets, AreKeyed, items_in, AreItemsOf, AreLedTo};
-ghost use Rattle.bisim_worklist.specs.Covers.{AreEnds};
+ghost use Rattle.bisim_worklist.specs.Working.Items.{guard_of, guard_beyond, item_in, AddsMoves, AddsTargets, AreKeyed, items_in, AreItemsOf, AreLedTo};
+ghost use Rattle.bisim_worklist.specs.Working.Covers.{AreEnds};
 ghost use Rattle.bisim_worklist.specs.declared.items.Side.TheVariants.{Left as OnLeft, Right as OnRight};
 
 use kat_model::NoMemory;

@@ -1,7 +1,7 @@
 //! The nodes of the terms of pairs, and of all their parts, in the order of their ids, which has parts before wholes.
 ghost use Rattle.std.specs.Prelude.{◌≡◌, ◌<◌, ℕ, List, length, IfOk, OnOk};
 ghost use Rattle.kat_model.specs.Members.{Has, SameMembers};
-ghost use Rattle.bisim_worklist.specs.Needed.{terms_in, tests_in, test_parts_in, AreParts, members_of, AddsAll, NamesTests};
+ghost use Rattle.bisim_worklist.specs.Working.Needed.{terms_in, tests_in, test_parts_in, AreParts, members_of, AddsAll, NamesTests};
 
 use crate::pair::Listed;
 use crate::rules::add_all;

@@ -2,7 +2,7 @@
 ghost use Rattle.std.specs.Prelude.{◌≡◌, ◌≢◌, ◌<◌, ◌&&◌, not, true, false, IsTrue, IfOk, slice_set};
 ghost use Rattle.test_diagrams.specs.Functions.{value_of, IsDiagramId, IsDiagramOf, IsAtomOf, KeepsFunctions};
 ghost use Rattle.test_diagrams.specs.Reduced.{IsReduced};
-ghost use Rattle.bisim_worklist.specs.Outputs.{one_of, IsSomewhereTrue, IsFirstValue};
+ghost use Rattle.bisim_worklist.specs.Working.Outputs.{one_of, IsSomewhereTrue, IsFirstValue};
 
 use kat_model::NoMemory;
 use std::alloc::Global;

@@ -29,7 +29,7 @@ pub(crate) struct Listed {
 }
 
 impl Model for Listed {
-    ghost use Rattle.bisim_worklist.specs.Listings.{IdEntry};
+    ghost use Rattle.bisim_worklist.specs.Working.Listings.{IdEntry};
 
     ghost Value = { IdEntry };
 

@@ -1,7 +1,7 @@
 //! The pairs that a walk has listed, which are the rules of congruence.
 ghost use Rattle.std.specs.Prelude.{◌≡◌, ◌↔◌, ◌++◌, ◌∷◌, [], IsTrue, OnOk, OnErr};
 ghost use Rattle.kat_model.specs.Members.{Has, IsSubset};
-ghost use Rattle.bisim_worklist.specs.Needed.{AddsAll};
+ghost use Rattle.bisim_worklist.specs.Working.Needed.{AddsAll};
 
 use crate::pair::Listed;
 use kat_model::NoMemory;
@@ -21,7 +21,7 @@ pub(crate) struct Rules {
 }
 
 impl Model for Rules {
-    ghost use Rattle.bisim_worklist.specs.Marks.{RuleParts, AreMembers};
+    ghost use Rattle.bisim_worklist.specs.Working.Marks.{RuleParts, AreMembers};
 
     ghost Value = { RuleParts };
 
@@ -31,7 +31,7 @@ impl Model for Rules {
 }
 
 impl Rules {
-    ghost use Rattle.bisim_worklist.specs.Marks.{AreMembers};
+    ghost use Rattle.bisim_worklist.specs.Working.Marks.{AreMembers};
 
     /// No pairs. It takes no memory.
     pub(crate) fn new(alloc: Global, universal: Option<TermId>, count: usize) -> Rules

@@ -1,8 +1,8 @@
 //! The test that is decided next.
 ghost use Rattle.std.specs.Prelude.{MatchOption, IfSome};
 ghost use Rattle.test_diagrams.specs.Functions.{IsDiagramId};
-ghost use Rattle.bisim_worklist.specs.Items.{AreItems};
-ghost use Rattle.bisim_worklist.specs.Cases.{HasNextTest, IsNextTest, AreConstant, IsConstantItem};
+ghost use Rattle.bisim_worklist.specs.Working.Items.{AreItems};
+ghost use Rattle.bisim_worklist.specs.Working.Cases.{HasNextTest, IsNextTest, AreConstant, IsConstantItem};
 
 use crate::items::Item;
 use term_store::TermId;

@@ -1,7 +1,7 @@
 //! The string that leads to a listed pair.
 ghost use Rattle.std.specs.Prelude.{◌≡◌, ◌<◌, [], ℕ, List, length, slice_get, Some, None, IfOk, MatchOption};
 ghost use Rattle.bisim_worklist.specs.Walks.{Origin as Origin', after_trail};
-ghost use Rattle.bisim_worklist.specs.Listings.{AreTraced, LeadsBack, origin_of};
+ghost use Rattle.bisim_worklist.specs.Working.Listings.{AreTraced, LeadsBack, origin_of};
 
 use crate::pair::{Listed, Origin};
 use kat_model::{Items, NoMemory};

@@ -7,8 +7,8 @@ ghost use Rattle.term_store.specs.Nodes.{StoreParts, IsTermId, IsStore};
 ghost use Rattle.term_store.specs.Trees.{tree_of};
 ghost use Rattle.term_store.specs.Growth.{KeepsTrees};
 ghost use Rattle.test_diagrams.specs.Functions.{value_of, IsDiagramId, IsAtomOf, KeepsFunctions};
-ghost use Rattle.bisim_worklist.specs.Listings.{IdEntry};
-ghost use Rattle.bisim_worklist.specs.Walking.{IsUnderWay, AreStepsAt, HasStepIds, IsExpanded, IsDifference};
+ghost use Rattle.bisim_worklist.specs.Working.Listings.{IdEntry};
+ghost use Rattle.bisim_worklist.specs.Working.Walking.{IsUnderWay, AreStepsAt, HasStepIds, IsExpanded, IsDifference};
 
 use crate::branching::{Stride, visit_all};
 use crate::items::items_of;

@@ -5,8 +5,8 @@ use Rattle.kat_model.specs.Trees.{Term, one}
 use Rattle.kat_model.specs.Members.{Has, SameMembers}
 use Rattle.kat_model.specs.Steps.{Atom, dot}
 use Rattle.kat_model.proofs.Lists.{same_members_trans}
-use Rattle.cert_checker.specs.NodeTables.{Nodes, AreTables, IsFront, Grows, IsTest, IsTerm, term_at, holds_at}
-use Rattle.cert_checker.specs.Targets.{chosen, AreEntries, StandFor}
+use Rattle.cert_checker.specs.Working.NodeTables.{Nodes, AreTables, IsFront, Grows, IsTest, IsTerm, term_at, holds_at}
+use Rattle.cert_checker.specs.Working.Targets.{chosen, AreEntries, StandFor}
 use Rattle.cert_checker.proofs.TableTrees.{term_kept}
 use Rattle.cert_checker.proofs.TargetSets.{term_within, holds_kept, chosen_kept}
 use Rattle.cert_checker.proofs.StepSets.{append_same}

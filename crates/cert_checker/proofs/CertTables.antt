@@ -9,7 +9,7 @@ use Rattle.certificate.specs.declared.nodes.TestNode.TheVariants.{False, True, P
 use Rattle.certificate.specs.declared.nodes.TermNode.{TermNode}
 use Rattle.certificate.specs.Nodes.{test_parts, term_parts, are_below}
 use Rattle.certificate.specs.Certs.{CertParts, IsCert}
-use Rattle.cert_checker.specs.NodeTables.{Nodes, AddsTest, AddsTerm, MayBeTest, MayBeTerm, IsWithin}
+use Rattle.cert_checker.specs.Working.NodeTables.{Nodes, AddsTest, AddsTerm, MayBeTest, MayBeTerm, IsWithin}
 
 -- what stands at a place of a list that is another
 pub item_at : {X : Type 0} (xs ys : List X) (i : ℕ) (d : X) → ys ≡ xs → i < length xs → get_or ys i d ≡ get_or xs i (get_or ys i d)

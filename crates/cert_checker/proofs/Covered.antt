@@ -12,11 +12,11 @@ use Rattle.kat_model.proofs.Congruence.{sat_grows}
 use Rattle.certificate.specs.Nodes.{are_below}
 use Rattle.cert_checker.specs.declared.known.Known.{Known}
 use Rattle.cert_checker.specs.declared.known.Known.TheVariants.{Value}
-use Rattle.cert_checker.specs.NodeTables.{Nodes, AreTables, IsTerm, term_at, holds_at}
-use Rattle.cert_checker.specs.Targets.{chosen, AreEntries}
-use Rattle.cert_checker.specs.Cases.{Extends, AreKnown}
-use Rattle.cert_checker.specs.Marks.{ArePairsBelow, are_marked, saturated_marks}
-use Rattle.cert_checker.specs.Matching.{RuleParts, AreRules, pairs_of, known_of, truly, falsely, sure_targets, is_sure, guarded_by, open_targets, are_both_marked, covers, terms_of, AreSettled}
+use Rattle.cert_checker.specs.Working.NodeTables.{Nodes, AreTables, IsTerm, term_at, holds_at}
+use Rattle.cert_checker.specs.Working.Targets.{chosen, AreEntries}
+use Rattle.cert_checker.specs.Working.Cases.{Extends, AreKnown}
+use Rattle.cert_checker.specs.Working.Marks.{ArePairsBelow, are_marked, saturated_marks}
+use Rattle.cert_checker.specs.Working.Matching.{RuleParts, AreRules, pairs_of, known_of, truly, falsely, sure_targets, is_sure, guarded_by, open_targets, are_both_marked, covers, terms_of, AreSettled}
 use Rattle.cert_checker.proofs.MarkedSets.{all_marked, marked_number, saturated_set, saturated_length}
 use Rattle.cert_checker.proofs.Covering.{chosen_has, has_chosen, known_value, sure_chosen, chosen_reached}
 

@@ -14,10 +14,10 @@ use Rattle.kat_model.specs.Steps.{Atom}
 use Rattle.kat_model.proofs.Lists.{has_left, has_right, has_append}
 use Rattle.cert_checker.specs.declared.known.Known.{Known}
 use Rattle.cert_checker.specs.declared.known.Known.TheVariants.{Value, Waits}
-use Rattle.cert_checker.specs.NodeTables.{Nodes, term_at, holds_at}
-use Rattle.cert_checker.specs.Targets.{chosen, AreEntries}
-use Rattle.cert_checker.specs.Cases.{Extends, IsKnown, AreKnown}
-use Rattle.cert_checker.specs.Matching.{known_of, truly, falsely, sure_targets, guard_of, is_sure, guarded_by, open_targets, terms_of}
+use Rattle.cert_checker.specs.Working.NodeTables.{Nodes, term_at, holds_at}
+use Rattle.cert_checker.specs.Working.Targets.{chosen, AreEntries}
+use Rattle.cert_checker.specs.Working.Cases.{Extends, IsKnown, AreKnown}
+use Rattle.cert_checker.specs.Working.Matching.{known_of, truly, falsely, sure_targets, guard_of, is_sure, guarded_by, open_targets, terms_of}
 
 -- ---- the terms that are chosen at an atom
 

@@ -8,9 +8,9 @@ use Rattle.certificate.specs.Certs.{CertParts}
 use Rattle.cert_checker.specs.declared.answer.Reason.{Reason}
 use Rattle.cert_checker.specs.declared.places.Place.{Place}
 use Rattle.cert_checker.specs.Answers.{Turn, turn_of, IsEarlier, IsLess, FailsBy}
-use Rattle.cert_checker.specs.Cases.{is_less}
+use Rattle.cert_checker.specs.Working.Cases.{is_less}
 use Rattle.cert_checker.specs.declared.answer.Reason.TheVariants.{FirstPair, Output, Missing, Shape, HypBroken, EndsAgree, TestNode, TermNode}
-use Rattle.cert_checker.specs.Places.{IsAmong, IsFirstOf, Passes, reason_at, place_reason, comes_before, earlier_place}
+use Rattle.cert_checker.specs.Working.Places.{IsAmong, IsFirstOf, Passes, reason_at, place_reason, comes_before, earlier_place}
 use Rattle.cert_checker.proofs.LeastFailures.{less_total, less_trans, is_less_true, less_is_true}
 use Rattle.cert_checker.proofs.OneAnswer.{three_ways, same_length}
 

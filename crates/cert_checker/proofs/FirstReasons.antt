@@ -10,8 +10,8 @@ use Rattle.kat_model.proofs.Places.{has_at, place_of_member}
 use Rattle.cert_checker.specs.declared.answer.Reason.{Reason}
 use Rattle.cert_checker.specs.declared.answer.Reason.TheVariants.{FirstPair, Output, Missing, Shape, HypBroken, EndsAgree, TestNode, TermNode}
 use Rattle.cert_checker.specs.Answers.{Turn, turn_of, IsEarlier, BeginsWithSides, FailsBy, FailsFirstBy}
-use Rattle.cert_checker.specs.Ranges.{IsFirstOut}
-use Rattle.cert_checker.specs.Places.{IsFirstOf}
+use Rattle.cert_checker.specs.Working.Ranges.{IsFirstOut}
+use Rattle.cert_checker.specs.Working.Places.{IsFirstOf}
 
 stage_grows : (s t : Turn) → IsEarlier s t → s.stage ≤ t.stage
 stage_grows s t h = ⊎_elim (λ l. omega (arith, l)) (λ k. omega (arith, k.0)) h

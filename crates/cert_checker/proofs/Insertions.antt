@@ -10,7 +10,7 @@ use Rattle.certificate.specs.declared.nodes.TestNode.TheVariants.{Prim}
 use Rattle.certificate.specs.declared.nodes.TermNode.{TermNode}
 use Rattle.certificate.specs.Nodes.{test_parts, term_parts, tests_of_term, are_below}
 use Rattle.certificate.proofs.Growth.{below_more}
-use Rattle.cert_checker.specs.NodeTables.{Nodes, AreTables, IsFront, Grows, AddsTest, AddsTerm, MayBeTest, MayBeTerm, IsWithin}
+use Rattle.cert_checker.specs.Working.NodeTables.{Nodes, AreTables, IsFront, Grows, AddsTest, AddsTerm, MayBeTest, MayBeTerm, IsWithin}
 
 -- the list stayed, or x is new and stands last
 abbrev pub AddsLast : {X : Type 0} → List X → List X → X → Type 0

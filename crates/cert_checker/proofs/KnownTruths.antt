@@ -9,8 +9,8 @@ use Rattle.certificate.specs.declared.nodes.TestNode.TheVariants.{False, True, P
 use Rattle.certificate.specs.Nodes.{test_parts, are_below}
 use Rattle.cert_checker.specs.declared.known.Known.{Known}
 use Rattle.cert_checker.specs.declared.known.Known.TheVariants.{Value, Waits}
-use Rattle.cert_checker.specs.NodeTables.{Nodes, AreTables, IsWithin, holds_at, test_tree_in}
-use Rattle.cert_checker.specs.Cases.{Extends, IsKnown, known_not, known_and, known_or, known_at, known_node}
+use Rattle.cert_checker.specs.Working.NodeTables.{Nodes, AreTables, IsWithin, holds_at, test_tree_in}
+use Rattle.cert_checker.specs.Working.Cases.{Extends, IsKnown, known_not, known_and, known_or, known_at, known_node}
 use Rattle.cert_checker.proofs.TableTrees.{test_of_node}
 use Rattle.cert_checker.proofs.OneNumber.{first_below, second_below}
 use Rattle.certificate.proofs.Growth.{below_more}

@@ -4,7 +4,7 @@ use Rattle.std.proofs.Math.ListN.{length-set}
 use Rattle.std.proofs.lemmas.List.{length-drop}
 use Rattle.kat_model.specs.Steps.{Atom}
 use Rattle.cert_checker.specs.Answers.{IsLess}
-use Rattle.cert_checker.specs.Cases.{Extends, IsOpen, open_count, least_of, is_less, lesser_of, IsFirstFailure}
+use Rattle.cert_checker.specs.Working.Cases.{Extends, IsOpen, open_count, least_of, is_less, lesser_of, IsFirstFailure}
 
 -- ---- the order of atoms
 

@@ -6,8 +6,8 @@ use Rattle.kat_model.proofs.Lists.{has_map, map_has}
 use Rattle.certificate.specs.Nodes.{are_below, are_ascending}
 use Rattle.certificate.proofs.Ascending.{ascending_tail, ascending_first}
 use Rattle.certificate.proofs.NodeTrees.{below_has}
-use Rattle.cert_checker.specs.NodeTables.{Nodes, AreTables, term_at}
-use Rattle.cert_checker.specs.Matching.{terms_of}
+use Rattle.cert_checker.specs.Working.NodeTables.{Nodes, AreTables, term_at}
+use Rattle.cert_checker.specs.Working.Matching.{terms_of}
 use Rattle.cert_checker.proofs.OneNumber.{one_number_a_term}
 
 pub ascending_same : (ks ls : List ℕ) → are_ascending ks ≡ true → are_ascending ls ≡ true → ((k : ℕ) → Has ks k ↔ Has ls k) → ks ≡ ls

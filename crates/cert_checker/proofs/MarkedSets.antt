@@ -12,9 +12,9 @@ use Rattle.kat_model.proofs.SameTrees.{holds_all-true, subset-holds_all}
 use Rattle.kat_model.proofs.Places.{slice_get-set_same, slice_get-set_kept, slice_get-set_cases}
 use Rattle.certificate.specs.Nodes.{NumberPair, are_below}
 use Rattle.certificate.proofs.NodeTrees.{below_has}
-use Rattle.cert_checker.specs.NodeTables.{Nodes, AreTables, IsTerm, term_at}
-use Rattle.cert_checker.specs.Marks.{ArePairsBelow, are_marked, with_marks, with_pair_marked, round_marked, rounds_marked, saturated_marks}
-use Rattle.cert_checker.specs.Matching.{terms_of, pairs_of, MarksAre}
+use Rattle.cert_checker.specs.Working.NodeTables.{Nodes, AreTables, IsTerm, term_at}
+use Rattle.cert_checker.specs.Working.Marks.{ArePairsBelow, are_marked, with_marks, with_pair_marked, round_marked, rounds_marked, saturated_marks}
+use Rattle.cert_checker.specs.Working.Matching.{terms_of, pairs_of, MarksAre}
 use Rattle.cert_checker.proofs.OneNumber.{one_number_a_term}
 
 -- ---- one mark more

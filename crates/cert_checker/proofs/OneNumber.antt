@@ -8,7 +8,7 @@ use Rattle.certificate.specs.declared.nodes.TermNode.{TermNode}
 use Rattle.certificate.specs.declared.nodes.TermNode.TheVariants.{Zero, One, Test, Act, Sum, Seq, Star}
 use Rattle.certificate.specs.Nodes.{test_parts, term_parts, tests_of_term, are_below}
 use Rattle.certificate.proofs.NodeTrees.{below_has}
-use Rattle.cert_checker.specs.NodeTables.{Nodes, AreTables, test_at, term_at, IsTest, IsTerm, test_tree_in, term_tree_in}
+use Rattle.cert_checker.specs.Working.NodeTables.{Nodes, AreTables, test_at, term_at, IsTest, IsTerm, test_tree_in, term_tree_in}
 use Rattle.cert_checker.proofs.TableTrees.{test_of_node, term_of_node}
 
 pub first_below : (n x : ℕ) (ks : List ℕ) → are_below n (x ∷ ks) ≡ true → x < n

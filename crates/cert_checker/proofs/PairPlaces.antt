@@ -10,8 +10,8 @@ use Rattle.certificate.specs.Accepted.{set_pairs}
 use Rattle.cert_checker.specs.declared.answer.Reason.{Reason}
 use Rattle.cert_checker.specs.declared.answer.Reason.TheVariants.{FirstPair, Output, Missing, Shape, HypBroken, EndsAgree, TestNode, TermNode}
 use Rattle.cert_checker.specs.Answers.{Turn, turn_of, IsEarlier, IsLess, FailsBy, AcceptAlike, IsMatchedBy}
-use Rattle.cert_checker.specs.Cases.{Extends, IsFirstFailure}
-use Rattle.cert_checker.specs.Places.{IsAmong, IsFirstOf, undecided}
+use Rattle.cert_checker.specs.Working.Cases.{Extends, IsFirstFailure}
+use Rattle.cert_checker.specs.Working.Places.{IsAmong, IsFirstOf, undecided}
 
 -- an atom with no test decided is one of that many values
 pub undecided_extends : (n : ℕ) (atom : Atom) → length atom ≡ n → Extends (undecided n) atom

@@ -19,11 +19,11 @@ use Rattle.certificate.specs.Certs.{CertParts, IsCert, IsNumberSet}
 use Rattle.certificate.specs.Accepted.{set_pairs, pair_style, terms_at, term_trees}
 use Rattle.certificate.proofs.NodeTrees.{below_has}
 use Rattle.cert_checker.specs.Answers.{AcceptAlike, IsMatchedBy}
-use Rattle.cert_checker.specs.Cases.{IsFirstFailure}
-use Rattle.cert_checker.specs.NodeTables.{Nodes, AreTables, Grows, IsTerm, nodes_of, term_at, holds_at}
-use Rattle.cert_checker.specs.Targets.{chosen, StandFor}
-use Rattle.cert_checker.specs.Matching.{RuleParts, AreRules, rules_of, pairs_of, terms_of, AreMatchedBy, MatchAt, AgreeAt}
-use Rattle.cert_checker.specs.Places.{IsScope, undecided}
+use Rattle.cert_checker.specs.Working.Cases.{IsFirstFailure}
+use Rattle.cert_checker.specs.Working.NodeTables.{Nodes, AreTables, Grows, IsTerm, nodes_of, term_at, holds_at}
+use Rattle.cert_checker.specs.Working.Targets.{chosen, StandFor}
+use Rattle.cert_checker.specs.Working.Matching.{RuleParts, AreRules, rules_of, pairs_of, terms_of, AreMatchedBy, MatchAt, AgreeAt}
+use Rattle.cert_checker.specs.Working.Places.{IsScope, undecided}
 use Rattle.cert_checker.proofs.TableTrees.{term_kept, front_within}
 use Rattle.cert_checker.proofs.Spelled.{nodes_rules}
 use Rattle.cert_checker.proofs.PairPlaces.{same_failure}

@@ -1,9 +1,9 @@
 -- The test that is true where some member of a set accepts, made of the tests of its members.
 use Rattle.std.proofs.Common.{◌≡◌, ℕ, ◌<◌, List, ◌∷◌, length, get_or, refl, ap, ◌∙◌, Bool, true, false, ◌||◌}
 use Rattle.kat_model.specs.Steps.{Atom, out, set_out}
-use Rattle.cert_checker.specs.NodeTables.{Nodes, AreTables, Grows, IsTest, term_at, holds_at}
-use Rattle.cert_checker.specs.Targets.{AreAcceptances}
-use Rattle.cert_checker.specs.Matching.{terms_of}
+use Rattle.cert_checker.specs.Working.NodeTables.{Nodes, AreTables, Grows, IsTest, term_at, holds_at}
+use Rattle.cert_checker.specs.Working.Targets.{AreAcceptances}
+use Rattle.cert_checker.specs.Working.Matching.{terms_of}
 use Rattle.cert_checker.proofs.TargetSets.{holds_kept}
 use Rattle.cert_checker.proofs.AddingTargets.{grows_trans}
 use Rattle.cert_checker.proofs.StepLists.{accept_at}

@@ -15,8 +15,8 @@ use Rattle.certificate.specs.declared.nodes.TermNode.TheVariants.{Zero, One, Tes
 use Rattle.certificate.specs.Nodes.{NumberPair, test_parts, term_parts, tests_of_term, are_below}
 use Rattle.certificate.specs.Certs.{CertParts, IsCert}
 use Rattle.certificate.specs.Accepted.{set_pairs, terms_at, term_trees}
-use Rattle.cert_checker.specs.NodeTables.{nodes_cert, nodes_of, test_at, term_at, test_tree_in, term_tree_in}
-use Rattle.cert_checker.specs.Spelling.{is_constant, is_prim, negated, conjuncts, disjuncts, spells_test_tree, is_zero, is_one, is_act, tested, summands, factors, repeated, spells_tree}
+use Rattle.cert_checker.specs.Working.NodeTables.{nodes_cert, nodes_of, test_at, term_at, test_tree_in, term_tree_in}
+use Rattle.cert_checker.specs.Working.Spelling.{is_constant, is_prim, negated, conjuncts, disjuncts, spells_test_tree, is_zero, is_one, is_act, tested, summands, factors, repeated, spells_tree}
 use Rattle.cert_checker.proofs.TableTrees.{test_by_rules, term_by_rules}
 use Rattle.cert_checker.proofs.OneNumber.{first_below, second_below}
 

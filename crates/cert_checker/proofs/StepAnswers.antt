@@ -24,10 +24,10 @@ use Rattle.certificate.specs.Nodes.{NumberPair, are_ascending}
 use Rattle.certificate.specs.Accepted.{pair_style}
 use Rattle.cert_checker.specs.declared.known.Known.{Known}
 use Rattle.cert_checker.specs.declared.known.Known.TheVariants.{Value, Waits}
-use Rattle.cert_checker.specs.NodeTables.{Nodes, AreTables, IsTerm, term_at, holds_at}
-use Rattle.cert_checker.specs.Targets.{chosen, AreEntries}
-use Rattle.cert_checker.specs.Cases.{Extends, AreKnown, HoldsThroughout}
-use Rattle.cert_checker.specs.Matching.{RuleParts, AreRules, MatchAt, pairs_of, known_of, truly, sure_targets, guard_of, is_sure, covers, lists, terms_of, AreSettled}
+use Rattle.cert_checker.specs.Working.NodeTables.{Nodes, AreTables, IsTerm, term_at, holds_at}
+use Rattle.cert_checker.specs.Working.Targets.{chosen, AreEntries}
+use Rattle.cert_checker.specs.Working.Cases.{Extends, AreKnown, HoldsThroughout}
+use Rattle.cert_checker.specs.Working.Matching.{RuleParts, AreRules, MatchAt, pairs_of, known_of, truly, sure_targets, guard_of, is_sure, covers, lists, terms_of, AreSettled}
 use Rattle.cert_checker.proofs.OneNumber.{one_number_a_term}
 use Rattle.cert_checker.proofs.Covering.{chosen_has, has_chosen, known_value, truly_value, sure_chosen, guard_member, any_value}
 use Rattle.cert_checker.proofs.Covered.{sure_below, settled_sure, covered_congruent, congruent_covered}

@@ -11,9 +11,9 @@ use Rattle.kat_model.proofs.Places.{has_at, slice_get_last}
 use Rattle.certificate.specs.declared.nodes.TermNode.{TermNode}
 use Rattle.certificate.specs.declared.nodes.TermNode.TheVariants.{Zero, One, Test}
 use Rattle.certificate.specs.Nodes.{tests_of_term, are_below}
-use Rattle.cert_checker.specs.NodeTables.{Nodes, AreTables, Grows, IsTest, IsTerm, term_at, term_tree_in, holds_at}
-use Rattle.cert_checker.specs.Targets.{chosen, AreEntries, StandFor, AreAcceptances, AreSteps}
-use Rattle.cert_checker.specs.Matching.{terms_of}
+use Rattle.cert_checker.specs.Working.NodeTables.{Nodes, AreTables, Grows, IsTest, IsTerm, term_at, term_tree_in, holds_at}
+use Rattle.cert_checker.specs.Working.Targets.{chosen, AreEntries, StandFor, AreAcceptances, AreSteps}
+use Rattle.cert_checker.specs.Working.Matching.{terms_of}
 use Rattle.cert_checker.proofs.TableTrees.{term_of_node, term_kept}
 use Rattle.cert_checker.proofs.TargetSets.{holds_kept, test_within, chosen_kept}
 use Rattle.cert_checker.proofs.StepSets.{append_same, acceptances_kept, steps_kept, stand_same, sum_same, star_same, product_same}

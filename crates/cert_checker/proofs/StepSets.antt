@@ -4,8 +4,8 @@ use Rattle.kat_model.specs.Trees.{Term, sum, product, star}
 use Rattle.kat_model.specs.Members.{Has, SameMembers}
 use Rattle.kat_model.specs.Steps.{Atom, out, next, dot}
 use Rattle.kat_model.proofs.Lists.{has_map, map_has, has_append, has_left, has_right}
-use Rattle.cert_checker.specs.NodeTables.{Nodes, AreTables, Grows, IsTerm, term_at}
-use Rattle.cert_checker.specs.Targets.{StandFor, AreAcceptances, AreSteps}
+use Rattle.cert_checker.specs.Working.NodeTables.{Nodes, AreTables, Grows, IsTerm, term_at}
+use Rattle.cert_checker.specs.Working.Targets.{StandFor, AreAcceptances, AreSteps}
 use Rattle.cert_checker.proofs.TableTrees.{term_kept}
 use Rattle.cert_checker.proofs.TargetSets.{test_within, holds_kept, entries_kept, chosen_kept}
 

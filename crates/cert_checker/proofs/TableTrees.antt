@@ -12,7 +12,7 @@ use Rattle.certificate.specs.Nodes.{test_parts, term_parts, tests_of_term, are_b
 use Rattle.certificate.specs.Certs.{IsCert}
 use Rattle.certificate.specs.Accepted.{test_node_tree, term_node_tree, test_trees, term_trees}
 use Rattle.certificate.proofs.NodeTrees.{nodes_have_trees_lem, below_has, test_local, term_local}
-use Rattle.cert_checker.specs.NodeTables.{Nodes, nodes_cert, AreTables, IsFront, Grows, test_at, term_at, IsTest, IsTerm, MayBeTest, MayBeTerm, test_tree_in, term_tree_in}
+use Rattle.cert_checker.specs.Working.NodeTables.{Nodes, nodes_cert, AreTables, IsFront, Grows, test_at, term_at, IsTest, IsTerm, MayBeTest, MayBeTerm, test_tree_in, term_tree_in}
 
 pub front_within : {X : Type 0} (xs ys : List X) (k : ℕ) → IsFront xs ys → k < length xs → k < length ys
 front_within xs ys k (more, e) h = rw e (omega (arith, length-append xs more))

@@ -12,9 +12,9 @@ use Rattle.kat_model.specs.Trees.{Term}
 use Rattle.kat_model.specs.Members.{Has}
 use Rattle.kat_model.specs.Steps.{Atom, truth}
 use Rattle.kat_model.proofs.Lists.{has_left, has_right, has_append}
-use Rattle.cert_checker.specs.NodeTables.{Nodes, AreTables, Grows, IsTest, IsTerm, term_at, holds_at}
-use Rattle.cert_checker.specs.Targets.{chosen, AreEntries, StandFor}
-use Rattle.cert_checker.specs.Matching.{guard_of}
+use Rattle.cert_checker.specs.Working.NodeTables.{Nodes, AreTables, Grows, IsTest, IsTerm, term_at, holds_at}
+use Rattle.cert_checker.specs.Working.Targets.{chosen, AreEntries, StandFor}
+use Rattle.cert_checker.specs.Working.Matching.{guard_of}
 use Rattle.cert_checker.proofs.TableTrees.{test_kept, term_kept, front_within}
 use Rattle.cert_checker.proofs.Covering.{chosen_has, has_chosen, guard_member, any_value}
 

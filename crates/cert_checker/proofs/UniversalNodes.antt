@@ -15,8 +15,8 @@ use Rattle.certificate.specs.Certs.{CertParts, IsCert, IsNumberSet}
 use Rattle.certificate.specs.Accepted.{set_pairs, terms_at, term_trees}
 use Rattle.certificate.proofs.NodeTrees.{below_has}
 use Rattle.cert_checker.specs.Answers.{BeginsWithSides}
-use Rattle.cert_checker.specs.NodeTables.{nodes_of, term_at, term_tree_in}
-use Rattle.cert_checker.specs.Places.{IsScope}
+use Rattle.cert_checker.specs.Working.NodeTables.{nodes_of, term_at, term_tree_in}
+use Rattle.cert_checker.specs.Working.Places.{IsScope}
 use Rattle.cert_checker.proofs.TableTrees.{term_by_rules}
 use Rattle.cert_checker.proofs.OneNumber.{first_below, second_below}
 use Rattle.cert_checker.proofs.Spelled.{nodes_rules}

@@ -1,11 +1,3 @@
 pub mod Answers
 pub mod Laws
-pub mod Ranges
-pub mod NodeTables
-pub mod Targets
-pub mod Cases
-pub mod Marks
-pub mod Matching
-pub mod Spelling
-pub mod Questions
-pub mod Places
+pub mod Working

@@ -2,9 +2,9 @@
 ghost use Rattle.std.specs.Prelude.{◌≡◌, ◌<◌, Bool, List, Option, Some, IsTrue, length, slice_set, IfOk};
 ghost use Rattle.std.specs.Option.{option_map};
 ghost use Rattle.certificate.specs.Nodes.{are_below};
-ghost use Rattle.cert_checker.specs.Cases.{AreKnown, IsOpen, least_of, is_less as is_less', lesser_of, IsFirstFailure};
-ghost use Rattle.cert_checker.specs.Matching.{AreRules, AgreeAt, IsState};
-ghost use Rattle.cert_checker.specs.Questions.{IsAsked, IsSo};
+ghost use Rattle.cert_checker.specs.Working.Cases.{AreKnown, IsOpen, least_of, is_less as is_less', lesser_of, IsFirstFailure};
+ghost use Rattle.cert_checker.specs.Working.Matching.{AreRules, AgreeAt, IsState};
+ghost use Rattle.cert_checker.specs.Working.Questions.{IsAsked, IsSo};
 
 use crate::known::{Known, guard_value, known_tests};
 use crate::matching::{Rules, State, step_state};

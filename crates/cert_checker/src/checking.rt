@@ -9,7 +9,7 @@ ghost use Rattle.certificate.specs.Accepted.{set_pairs, IsAccepted};
 ghost use Rattle.cert_checker.specs.declared.answer.Answer.TheVariants.{Accepted};
 ghost use Rattle.cert_checker.specs.Answers.{Shows, BeginsWithSides, FailsFirstBy, IsFoundBy, IsAnswer, finding_reason};
 ghost use Rattle.cert_checker.specs.Laws.{Says};
-ghost use Rattle.cert_checker.specs.Places.{IsScope, place_reason};
+ghost use Rattle.cert_checker.specs.Working.Places.{IsScope, place_reason};
 
 use crate::answer::{Answer, Reason};
 use crate::places::{Place, first_place};

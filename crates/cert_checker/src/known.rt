@@ -1,9 +1,9 @@
 //! What is known of tests where some primitive tests are decided (three-valued logic, Kleene 1938).
 ghost use Rattle.std.specs.Prelude.{◌≡◌, IsTrue, length, IfOk, IfSome};
 ghost use Rattle.certificate.specs.Nodes.{test_parts, are_below};
-ghost use Rattle.cert_checker.specs.NodeTables.{IsWithin};
-ghost use Rattle.cert_checker.specs.Cases.{known_not, known_and, known_or, known_at, known_node, AreKnown, IsOpen};
-ghost use Rattle.cert_checker.specs.Matching.{known_of};
+ghost use Rattle.cert_checker.specs.Working.NodeTables.{IsWithin};
+ghost use Rattle.cert_checker.specs.Working.Cases.{known_not, known_and, known_or, known_at, known_node, AreKnown, IsOpen};
+ghost use Rattle.cert_checker.specs.Working.Matching.{known_of};
 
 use crate::tables::Tables;
 use certificate::TestNode;

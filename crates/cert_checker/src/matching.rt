@@ -4,10 +4,10 @@ ghost use Rattle.std.specs.Option.{option_map_or};
 ghost use Rattle.std.specs.List.Sorted.{IsStrictlySortedBy};
 ghost use Rattle.std.specs.Map.{keys_of};
 ghost use Rattle.std.specs.Ordering.{nat_cmp};
-ghost use Rattle.cert_checker.specs.Targets.{AreEntries};
-ghost use Rattle.cert_checker.specs.Cases.{AreKnown, IsWaited, waiting_for};
-ghost use Rattle.cert_checker.specs.Marks.{saturated_marks};
-ghost use Rattle.cert_checker.specs.Matching.{AreRules, MatchAt, known_of, IsState, truly, falsely, sure_targets, is_sure, guarded_by, open_targets, are_both_marked, covers, lists, AreSettled};
+ghost use Rattle.cert_checker.specs.Working.Targets.{AreEntries};
+ghost use Rattle.cert_checker.specs.Working.Cases.{AreKnown, IsWaited, waiting_for};
+ghost use Rattle.cert_checker.specs.Working.Marks.{saturated_marks};
+ghost use Rattle.cert_checker.specs.Working.Matching.{AreRules, MatchAt, known_of, IsState, truly, falsely, sure_targets, is_sure, guarded_by, open_targets, are_both_marked, covers, lists, AreSettled};
 
 use crate::known::{Known, guard_value};
 use crate::saturation::reaches;
@@ -27,7 +27,7 @@ pub(crate) struct Rules<'a> {
 }
 
 impl<'a> Model for Rules<'a> {
-    ghost use Rattle.cert_checker.specs.Matching.{RuleParts};
+    ghost use Rattle.cert_checker.specs.Working.Matching.{RuleParts};
 
     ghost Value = { RuleParts };
 

@@ -5,12 +5,12 @@ ghost use Rattle.kat_model.specs.Members.{Has};
 ghost use Rattle.kat_model.specs.Steps.{Atom, set_out, set_next};
 ghost use Rattle.certificate.specs.declared.nodes.TestNode.TheVariants.{Prim};
 ghost use Rattle.certificate.specs.Nodes.{are_below};
-ghost use Rattle.cert_checker.specs.Cases.{IsFirstFailure};
-ghost use Rattle.cert_checker.specs.Matching.{AreRules, AreMatchedBy, rules_of, terms_of};
-ghost use Rattle.cert_checker.specs.NodeTables.{AreTables, Grows, IsTest, nodes_of, holds_at};
-ghost use Rattle.cert_checker.specs.Places.{IsFirstOf, IsScope, undecided, place_reason, comes_before as comes_before', earlier_place};
-ghost use Rattle.cert_checker.specs.Questions.{IsAsked, IsSo};
-ghost use Rattle.cert_checker.specs.Targets.{AreAcceptances, AreSteps};
+ghost use Rattle.cert_checker.specs.Working.Cases.{IsFirstFailure};
+ghost use Rattle.cert_checker.specs.Working.Matching.{AreRules, AreMatchedBy, rules_of, terms_of};
+ghost use Rattle.cert_checker.specs.Working.NodeTables.{AreTables, Grows, IsTest, nodes_of, holds_at};
+ghost use Rattle.cert_checker.specs.Working.Places.{IsFirstOf, IsScope, undecided, place_reason, comes_before as comes_before', earlier_place};
+ghost use Rattle.cert_checker.specs.Working.Questions.{IsAsked, IsSo};
+ghost use Rattle.cert_checker.specs.Working.Targets.{AreAcceptances, AreSteps};
 
 use crate::asked::asked_tests;
 use crate::cases::{PairTest, first_atom, is_less};

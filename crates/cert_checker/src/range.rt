@@ -3,7 +3,7 @@ ghost use Rattle.std.specs.Prelude.{ℕ, ◌<◌, MatchOption};
 ghost use Rattle.kat_model.specs.Members.{Has};
 ghost use Rattle.certificate.specs.declared.nodes.TestNode.TheVariants.{Prim};
 ghost use Rattle.certificate.specs.declared.nodes.TermNode.TheVariants.{Act};
-ghost use Rattle.cert_checker.specs.Ranges.{IsFirstOut};
+ghost use Rattle.cert_checker.specs.Working.Ranges.{IsFirstOut};
 
 use certificate::{TermNode, TestNode};
 

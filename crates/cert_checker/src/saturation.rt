@@ -1,6 +1,6 @@
 //! Saturation of a set by pairs (congruence closure: Bonchi and Pous 2013). A set is a mark for each term.
 ghost use Rattle.std.specs.Prelude.{◌≡◌, false, length, slice_index_or, IfOk};
-ghost use Rattle.cert_checker.specs.Marks.{are_marked, with_marks, with_pair_marked, round_marked, rounds_marked, saturated_marks};
+ghost use Rattle.cert_checker.specs.Working.Marks.{are_marked, with_marks, with_pair_marked, round_marked, rounds_marked, saturated_marks};
 
 use certificate::Pair;
 use kat_model::NoMemory;

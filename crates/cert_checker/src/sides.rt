@@ -5,7 +5,7 @@ ghost use Rattle.kat_model.specs.Members.{Has};
 ghost use Rattle.kat_model.specs.Pairs.{SetPair};
 ghost use Rattle.certificate.specs.Certs.{IsCert};
 ghost use Rattle.certificate.specs.Accepted.{set_pairs, terms_at, term_trees};
-ghost use Rattle.cert_checker.specs.NodeTables.{nodes_of, term_at};
+ghost use Rattle.cert_checker.specs.Working.NodeTables.{nodes_of, term_at};
 
 use crate::spelling::spells;
 use certificate::Cert;

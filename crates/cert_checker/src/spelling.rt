@@ -2,7 +2,7 @@
 ghost use Rattle.std.specs.Prelude.{◌≡◌, slice_get};
 ghost use Rattle.kat_model.specs.Trees.{test_tree, kat_tree};
 ghost use Rattle.certificate.specs.Certs.{IsCert};
-ghost use Rattle.cert_checker.specs.Spelling.{is_constant as is_constant', is_prim as is_prim', is_one as is_one', is_zero as is_zero', is_act as is_act', negated as negated', conjuncts as conjuncts', disjuncts as disjuncts', tested as tested', summands as summands', factors as factors', repeated as repeated', spells_test_tree, spells_tree};
+ghost use Rattle.cert_checker.specs.Working.Spelling.{is_constant as is_constant', is_prim as is_prim', is_one as is_one', is_zero as is_zero', is_act as is_act', negated as negated', conjuncts as conjuncts', disjuncts as disjuncts', tested as tested', summands as summands', factors as factors', repeated as repeated', spells_test_tree, spells_tree};
 
 use certificate::{Cert, TermNode, TestNode};
 use kat_model::{Kat, Test};

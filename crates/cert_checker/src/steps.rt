@@ -3,9 +3,9 @@
 ghost use Rattle.std.specs.Prelude.{◌≡◌, ◌<◌, ◌≤◌, ℕ, ◌++◌, ◌∷◌, [], if◌then◌else◌, IfOk, IsTrue, Some, slice_get, length, map};
 ghost use Rattle.kat_model.specs.Steps.{Atom, out, next, set_next, dot};
 ghost use Rattle.certificate.specs.Nodes.{are_below, term_parts, tests_of_term};
-ghost use Rattle.cert_checker.specs.NodeTables.{AreTables, Grows, IsTest, IsTerm, term_at, term_tree_in, holds_at};
-ghost use Rattle.cert_checker.specs.Targets.{AreEntries, StandFor, AreAcceptances, AreSteps, chosen};
-ghost use Rattle.cert_checker.specs.Matching.{terms_of};
+ghost use Rattle.cert_checker.specs.Working.NodeTables.{AreTables, Grows, IsTest, IsTerm, term_at, term_tree_in, holds_at};
+ghost use Rattle.cert_checker.specs.Working.Targets.{AreEntries, StandFor, AreAcceptances, AreSteps, chosen};
+ghost use Rattle.cert_checker.specs.Working.Matching.{terms_of};
 
 use crate::tables::Tables;
 use crate::targets::{Targets, add_all, alone, followed, union};

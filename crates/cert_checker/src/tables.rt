@@ -20,7 +20,7 @@ pub(crate) struct Tables {
 }
 
 impl Model for Tables {
-    ghost use Rattle.cert_checker.specs.NodeTables.{Nodes, AreTables};
+    ghost use Rattle.cert_checker.specs.Working.NodeTables.{Nodes, AreTables};
 
     ghost Value = { Nodes };
 
@@ -30,7 +30,7 @@ impl Model for Tables {
 }
 
 impl Tables {
-    ghost use Rattle.cert_checker.specs.NodeTables.{AreTables, Grows, AddsTest, AddsTerm, IsTest, IsTerm, MayBeTest, MayBeTerm, nodes_of, test_tree_in, term_tree_in, test_at, term_at, holds_at};
+    ghost use Rattle.cert_checker.specs.Working.NodeTables.{AreTables, Grows, AddsTest, AddsTerm, IsTest, IsTerm, MayBeTest, MayBeTerm, nodes_of, test_tree_in, term_tree_in, test_at, term_at, holds_at};
 
     /// The tables with the nodes of the certificate alone. Its primitive tests are below `width`.
     pub(crate) fn of(alloc: Global, cert: &Cert, width: usize) -> Result<Tables, NoMemory>

@@ -3,9 +3,9 @@ ghost use Rattle.std.specs.Prelude.{◌≡◌, ℕ, ◌||◌, ◌++◌, ◌∷�
 ghost use Rattle.std.specs.Option.{option_map_or};
 ghost use Rattle.kat_model.specs.Trees.{one as one'};
 ghost use Rattle.kat_model.specs.Steps.{Atom, dot};
-ghost use Rattle.cert_checker.specs.NodeTables.{AreTables, Grows, IsTest, IsTerm, term_at, holds_at};
-ghost use Rattle.cert_checker.specs.Targets.{AreEntries, StandFor, chosen};
-ghost use Rattle.cert_checker.specs.Matching.{guard_of};
+ghost use Rattle.cert_checker.specs.Working.NodeTables.{AreTables, Grows, IsTest, IsTerm, term_at, holds_at};
+ghost use Rattle.cert_checker.specs.Working.Targets.{AreEntries, StandFor, chosen};
+ghost use Rattle.cert_checker.specs.Working.Matching.{guard_of};
 
 use crate::tables::Tables;
 use certificate::TermNode;

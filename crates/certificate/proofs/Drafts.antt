@@ -15,7 +15,7 @@ use Rattle.certificate.specs.declared.evidence.EvidenceFault.TheVariants.{Double
 use Rattle.certificate.specs.Certs.{IsCert}
 use Rattle.certificate.specs.Faults.{entry_fault, with_entry}
 use Rattle.certificate.specs.Nodes.{NumberPair, same_test_node, same_term_node, are_ascending}
-use Rattle.certificate.specs.Readings.{draft_parts, IsDraft, MayBeAdded}
+use Rattle.certificate.specs.Working.Readings.{draft_parts, IsDraft, MayBeAdded}
 use Rattle.certificate.proofs.Growth.{Passes, passes_faultless, double_fault, cert_grown, any_same, any_lacks, same_test_equal, test_same_itself, same_term_equal, term_same_itself, has_pushed}
 
 -- the keys of a set with one more key, and the list with one more node

@@ -20,7 +20,7 @@ use Rattle.certificate.specs.declared.entry.Section.TheVariants.{Tests, Terms, P
 use Rattle.certificate.specs.Texts.{test_name, test_numbers, term_name, term_numbers, entry_numbers}
 use Rattle.certificate.specs.Forms.{is_numeral, value_of, numbers_of, test_node_of, term_node_of, is_bar, both_sets, pair_of}
 use Rattle.certificate.specs.Faults.{too_wide, is_wide, section_of}
-use Rattle.certificate.specs.Readings.{texts, HasNumbers}
+use Rattle.certificate.specs.Working.Readings.{texts, HasNumbers}
 use Rattle.certificate.specs.Nodes.{NumberPair}
 use Rattle.certificate.proofs.Splits.{position_at, position_none}
 

@@ -7,7 +7,8 @@ use Rattle.certificate.specs.declared.evidence.EvidenceFault.{EvidenceFault}
 use Rattle.certificate.specs.declared.evidence.EvidenceFault.TheVariants.{NoMemory, Header, Line, NodeOrder, DoubleNode, SetOrder, NumberTooWide, Truncated, Trailing}
 use Rattle.certificate.specs.Texts.{text_of, IsEvidence}
 use Rattle.certificate.specs.Faults.{Answer, answer_of}
-use Rattle.certificate.specs.Readings.{Gives, Answers}
+use Rattle.certificate.specs.Readings.{Gives}
+use Rattle.certificate.specs.Working.Readings.{Answers}
 use Rattle.certificate.specs.Laws.{TextsDiffer, IsText, HasFault, IsTextOrFaulty}
 use Rattle.certificate.proofs.Completeness.{evidence_read}
 use Rattle.certificate.proofs.ReadTexts.{read_told}

@@ -15,7 +15,7 @@ use Rattle.certificate.specs.Certs.{CertParts}
 use Rattle.certificate.specs.Texts.{heading, string_heading}
 use Rattle.certificate.specs.Forms.{entry_of, first_of, move_of}
 use Rattle.certificate.specs.Faults.{Answer, or_truncated, ended, too_wide, entry_fault, with_entry, line_fault_after, after_line, cert_from, with_move, after_move, moves_from, after_first, string_from, no_entries, all_from, parts_of}
-use Rattle.certificate.specs.Readings.{Answers, draft_parts, AddsEntry}
+use Rattle.certificate.specs.Working.Readings.{Answers, draft_parts, AddsEntry}
 use Rattle.certificate.proofs.Splits.{split_some}
 
 -- a text always has a last part

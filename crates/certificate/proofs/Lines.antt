@@ -10,7 +10,7 @@ use Rattle.certificate.specs.declared.evidence.Evidence.{Evidence}
 use Rattle.certificate.specs.declared.evidence.Evidence.TheVariants.{Equal, Different}
 use Rattle.certificate.specs.Nodes.{NumberPair}
 use Rattle.certificate.specs.Texts.{entry_words, atom_words, move_words, line_of, heading, string_heading, entries_of, text_of_lines, text_of}
-use Rattle.certificate.specs.Writings.{with_feed, after_blanks, entry_lines, move_lines, string_lines, body_of}
+use Rattle.certificate.specs.Working.Writings.{with_feed, after_blanks, entry_lines, move_lines, string_lines, body_of}
 
 -- a line is its first word and the others after blanks
 pub line_of-cons : (w : List ℕ) (ws : List (List ℕ)) → line_of (w ∷ ws) ≡ w ++ after_blanks ws

@@ -6,7 +6,7 @@ use Rattle.std.proofs.lemmas.List.{take_all, length-map}
 use Rattle.certificate.specs.declared.words.Numbers.{Numbers}
 use Rattle.certificate.specs.Forms.{value_of}
 use Rattle.certificate.specs.Faults.{too_wide}
-use Rattle.certificate.specs.Readings.{texts, HasNumbers}
+use Rattle.certificate.specs.Working.Readings.{texts, HasNumbers}
 
 -- when all words were gone through
 pub numbers_told : (ws : List (Bor (List ℕ))) (i : ℕ) (v : Numbers) → length ws ≤ i → i ≤ length ws → length v.values.items ≡ i → v.wide ≡ list_any too_wide (map value_of (texts (take i ws))) → (v.wide ≡ false → v.values.items ≡ map value_of (texts (take i ws))) → HasNumbers (map value_of (texts ws)) v

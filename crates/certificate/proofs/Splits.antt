@@ -5,7 +5,7 @@ use Rattle.std.proofs.lemmas.Bool.{or_parts, ltb-false}
 use Rattle.std.proofs.lemmas.List.{take_all}
 use Rattle.std.proofs.lemmas.List.Splits.{slice_split_first, slice_split-cons_yes, slice_split-cons_no}
 use Rattle.certificate.specs.Faults.{parts_of}
-use Rattle.certificate.specs.Readings.{IsCutLine}
+use Rattle.certificate.specs.Working.Readings.{IsCutLine}
 
 -- the byte does not stand in the list
 abbrev pub LacksByte : ℕ → List ℕ → Type 0

@@ -4,6 +4,7 @@ pub mod Texts
 pub mod Forms
 pub mod Faults
 pub mod Readings
-pub mod Writings
 pub mod Accepted
+pub mod Decisions
 pub mod Laws
+pub mod Working

@@ -1,22 +1,9 @@
 -- What the parts of the reader answer. Memory may run out.
-use Rattle.std.specs.Prelude.{◌≡◌, ◌+◌, ℕ, true, false, List, ◌∷◌, length, map, Option, Some, None, Result, Ok, Err}
-use Rattle.std.specs.Borrow.{Bor}
-use Rattle.std.specs.List.{list_all, list_any}
-use Rattle.kat_model.specs.Members.{SameMembers}
-use Rattle.kat_model.specs.Strings.{Move}
-use Rattle.certificate.specs.declared.words.Numbers.{Numbers}
-use Rattle.certificate.specs.declared.entry.Entry.{Entry}
-use Rattle.certificate.specs.declared.entry.LineFault.{LineFault}
-use Rattle.certificate.specs.declared.entry.LineFault.TheVariants.{NoMemory as NoRoom, Form, Wide}
-use Rattle.certificate.specs.declared.moves.MoveFault.{MoveFault}
-use Rattle.certificate.specs.declared.moves.MoveFault.TheVariants.{NoMemory as NoSpace, Form as Formless, Wide as TooWide}
-use Rattle.certificate.specs.declared.draft.Draft.{Draft}
+use Rattle.std.specs.Prelude.{◌≡◌, ℕ, List, Some, Ok, Err}
 use Rattle.certificate.specs.declared.evidence.Evidence.{Evidence}
 use Rattle.certificate.specs.declared.evidence.EvidenceFault.{EvidenceFault}
 use Rattle.certificate.specs.declared.evidence.EvidenceFault.TheVariants.{NoMemory}
-use Rattle.certificate.specs.Certs.{CertParts, cert_of, IsCert}
-use Rattle.certificate.specs.Forms.{is_numeral, value_of}
-use Rattle.certificate.specs.Faults.{Answer, too_wide, is_wide, section_of, may_stand, names_earlier, entry_fault, with_entry, line_fault_after, parts_of, line_fault}
+use Rattle.certificate.specs.Faults.{Answer, line_fault}
 
 -- memory ran out, or this is the first fault of the text
 abbrev pub IsFault : List ℕ → EvidenceFault → Type 0
@@ -28,65 +15,3 @@ abbrev pub Gives : Evidence → Answer → Type 0
 Gives e (Ok f) = f ≡ e
 Gives e (Err NoMemory) = Unit {0}
 Gives e (Err fault) = ⊥
-
--- this answer is given, unless memory ran out
-abbrev pub Answers : Answer → Answer → Type 0
-Answers told (Ok e) = told ≡ Ok e
-Answers told (Err NoMemory) = Unit {0}
-Answers told (Err fault) = told ≡ Err fault
-
--- the bytes of words
-abbrev pub texts : List (Bor (List ℕ)) → List (List ℕ)
-texts ws = map (λ w. w.now) ws
-
--- the bytes are a complete line and what follows its line feed
-pub record IsCutLine (bytes line after : List ℕ) : Type 0 where
-  pub parts : parts_of bytes ≡ line ∷ parts_of after
-  pub length : length line + 1 + length after ≡ length bytes
-
--- these are the numbers, where none is too wide
-pub record HasNumbers (ks : List ℕ) (numbers : Numbers) : Type 0 where
-  pub count : length numbers.values.items ≡ length ks
-  pub wide : numbers.wide ≡ list_any too_wide ks
-  pub values : numbers.wide ≡ false → numbers.values.items ≡ ks
-
--- the numbers of words that are numerals
-abbrev pub ReadsNumbers : List (List ℕ) → Option Numbers → Type 0
-ReadsNumbers ws None = list_all is_numeral ws ≡ false
-ReadsNumbers ws (Some numbers) = (list_all is_numeral ws ≡ true) × HasNumbers (map value_of ws) numbers
-
--- what a line is read as, where it is to say this entry or none
-abbrev pub ReadsEntry : Option Entry → Result Entry LineFault → Type 0
-ReadsEntry o (Ok e) = (o ≡ Some e) × (is_wide e ≡ false)
-ReadsEntry o (Err NoRoom) = Unit {0}
-ReadsEntry o (Err Form) = o ≡ None
-ReadsEntry o (Err (Wide section)) = (e : Entry) × (o ≡ Some e) × (is_wide e ≡ true) × (section_of e ≡ section)
-
--- the entries that a draft holds
-abbrev pub draft_parts : Draft → CertParts
-draft_parts d = cert_of d.style d.test_nodes.items d.term_nodes.items d.pairs.items
-
--- a draft keeps the rules, and knows its nodes
-pub record IsDraft (d : Draft) : Type 0 where
-  pub cert : IsCert (draft_parts d)
-  pub tests : SameMembers d.known_tests.keys d.test_nodes.items
-  pub terms : SameMembers d.known_terms.keys d.term_nodes.items
-
--- an entry of line n passes the first three tests
-pub record MayBeAdded (d : Draft) (e : Entry) : Type 0 where
-  pub stands : may_stand (draft_parts d) (section_of e) ≡ true
-  pub narrow : is_wide e ≡ false
-  pub earlier : names_earlier (draft_parts d) e ≡ true
-
--- an entry is added to a draft, or line n is at fault
-abbrev pub AddsEntry : Draft → ℕ → Option Entry → Draft → Result (Unit {0}) EvidenceFault → Type 0
-AddsEntry old n o new (Ok x) = IsDraft new × ((e : Entry) × (o ≡ Some e) × (entry_fault (draft_parts old) n e ≡ None) × (draft_parts new ≡ with_entry (draft_parts old) e))
-AddsEntry old n o new (Err NoMemory) = Unit {0}
-AddsEntry old n o new (Err fault) = line_fault_after (draft_parts old) n o ≡ Some fault
-
--- what a line of a string is read as
-abbrev pub ReadsMove : Option Move → Result Move MoveFault → Type 0
-ReadsMove o (Ok m) = (o ≡ Some m) × (too_wide m.act ≡ false)
-ReadsMove o (Err NoSpace) = Unit {0}
-ReadsMove o (Err Formless) = o ≡ None
-ReadsMove o (Err TooWide) = (m : Move) × (o ≡ Some m) × (too_wide m.act ≡ true)

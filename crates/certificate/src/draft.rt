@@ -3,7 +3,7 @@ ghost use Rattle.std.specs.Prelude.{◌≡◌, ◌&&◌, ◌++◌, false, Some};
 ghost use Rattle.certificate.specs.Nodes.{test_parts, term_parts, tests_of_term, are_below, are_ascending};
 ghost use Rattle.certificate.specs.Forms.{entry_of};
 ghost use Rattle.certificate.specs.Faults.{no_entries, may_stand, is_wide, names_earlier};
-ghost use Rattle.certificate.specs.Readings.{draft_parts, IsDraft, MayBeAdded, AddsEntry};
+ghost use Rattle.certificate.specs.Working.Readings.{draft_parts, IsDraft, MayBeAdded, AddsEntry};
 ghost use Rattle.certificate.specs.declared.entry.Entry.TheVariants.{TestLine, TermLine, PairLine};
 
 use crate::cert::Cert;

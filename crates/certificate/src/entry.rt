@@ -3,7 +3,7 @@ ghost use Rattle.std.specs.Prelude.{◌≡◌, ◌∷◌, IfOk, position};
 ghost use Rattle.std.specs.Option.{option_map, option_and_then};
 ghost use Rattle.certificate.specs.Forms.{numbers_of, test_node_of, term_node_of, is_bar, pair_of, entry_of_words, entry_of};
 ghost use Rattle.certificate.specs.Faults.{section_of};
-ghost use Rattle.certificate.specs.Readings.{texts, ReadsEntry};
+ghost use Rattle.certificate.specs.Working.Readings.{texts, ReadsEntry};
 ghost use Rattle.certificate.specs.declared.entry.Entry.TheVariants.{TestLine, TermLine, PairLine};
 ghost use Rattle.certificate.specs.declared.entry.LineFault.TheVariants.{NoMemory as NoRoom};
 

@@ -2,7 +2,7 @@
 ghost use Rattle.std.specs.Prelude.{◌≡◌, ◌==◌, map, IfOk};
 ghost use Rattle.std.specs.List.{list_all};
 ghost use Rattle.certificate.specs.Forms.{is_bit, bits_of, atom_of_words, first_of, move_after, move_of};
-ghost use Rattle.certificate.specs.Readings.{texts, ReadsMove};
+ghost use Rattle.certificate.specs.Working.Readings.{texts, ReadsMove};
 ghost use Rattle.certificate.specs.declared.moves.MoveFault.TheVariants.{NoMemory as NoRoom};
 
 use crate::words::{is_numeral, number, words_of};

@@ -2,7 +2,8 @@
 ghost use Rattle.std.specs.Prelude.{◌≡◌, ◌+◌, ◌<◌, ◌^◌, [], length, IfOk, IfErr};
 ghost use Rattle.certificate.specs.Texts.{text_of, IsEvidence};
 ghost use Rattle.certificate.specs.Faults.{ended, cert_from, moves_from, string_from, no_entries, answer_of, parts_of};
-ghost use Rattle.certificate.specs.Readings.{IsFault, Gives, Answers};
+ghost use Rattle.certificate.specs.Readings.{IsFault, Gives};
+ghost use Rattle.certificate.specs.Working.Readings.{Answers};
 ghost use Rattle.certificate.specs.declared.evidence.Evidence.{Evidence};
 
 use crate::draft::Draft;

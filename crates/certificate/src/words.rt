@@ -4,7 +4,7 @@ ghost use Rattle.std.specs.List.{list_all};
 ghost use Rattle.std.specs.Char.{is_ascii_digit};
 ghost use Rattle.certificate.specs.Forms.{words_of, is_numeral, value_of};
 ghost use Rattle.certificate.specs.Faults.{parts_of};
-ghost use Rattle.certificate.specs.Readings.{texts, IsCutLine, ReadsNumbers};
+ghost use Rattle.certificate.specs.Working.Readings.{texts, IsCutLine, ReadsNumbers};
 
 use kat_model::NoMemory;
 use std::alloc::Global;

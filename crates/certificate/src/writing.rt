@@ -2,7 +2,7 @@
 ghost use Rattle.std.specs.Prelude.{◌≡◌, ◌∷◌, ◌++◌, if◌then◌else◌, map, IfOk, OnOk};
 ghost use Rattle.std.specs.Fmt.{decimal};
 ghost use Rattle.certificate.specs.Texts.{entry_words, atom_words, move_words, bit_words, line_of, heading, entries_of, text_of};
-ghost use Rattle.certificate.specs.Writings.{after_blanks, with_feed, entry_lines, move_lines, string_lines, body_of};
+ghost use Rattle.certificate.specs.Working.Writings.{after_blanks, with_feed, entry_lines, move_lines, string_lines, body_of};
 ghost use Rattle.certificate.specs.declared.entry.Entry.TheVariants.{TestLine, TermLine, PairLine};
 
 use crate::cert::Cert;

@@ -1,17 +1,25 @@
 //! Strings, their tables, and what they show of problems.
-use certificate::{Evidence, read};
+use certificate::{Evidence, EvidenceFault, read};
 use kat_model::{Kat, NoMemory, Problem, seq_of, sum_of};
 use std::alloc::Global;
 use std::test::Fail;
-use string_tables::{Bench, GString, refutes, table_of, verdict};
+use string_tables::{Bench, GString, Table, refutes, table_of, verdict};
+
+fn evidence_text(alloc: Global, lines: &str) -> Result<String, NoMemory> {
+    Ok(format!(in alloc; "kat 1 different\n{lines}end\n")?)
+}
+
+fn string_in(evidence: Evidence) -> Result<GString, EvidenceFault> {
+    match evidence {
+        Evidence::Different(string) => Ok(string),
+        Evidence::Equal(_) => Err(EvidenceFault::Header),
+    }
+}
 
 // The string that evidence of these lines holds.
-fn string(alloc: Global, lines: &str) -> Result<GString, Fail> {
-    let text = format!(in alloc; "kat 1 different\n{lines}end\n")?;
-    match read(alloc, text.as_bytes())? {
-        Evidence::Different(string) => Ok(string),
-        Evidence::Equal(_) => Err("no string")?,
-    }
+fn string(alloc: Global, lines: &str) -> Result<GString, EvidenceFault> {
+    let text = evidence_text(alloc, lines)?;
+    string_in(read(alloc, text.as_bytes())?)
 }
 
 // The action so many times.
@@ -43,30 +51,60 @@ fn term(alloc: Global, name: &str) -> Result<Kat, NoMemory> {
     }
 }
 
-// The problem of one test and one action.
-fn problem(alloc: Global, left: &str, right: &str, hyp: &str) -> Result<Problem, Fail> {
+fn hyps(alloc: Global, name: &str) -> Result<Vec<Kat>, NoMemory> {
     let mut hyps = Vec::new(alloc);
-    if hyp != "" {
-        hyps.push(term(alloc, hyp)?)?;
+    if name != "" {
+        hyps.push(term(alloc, name)?)?;
     }
-    match Problem::new(1, 1, hyps, term(alloc, left)?, term(alloc, right)?) {
-        Ok(problem) => Ok(problem),
-        Err(_) => Err("out of limits")?,
-    }
+    Ok(hyps)
+}
+
+// The problem of one test and one action, which is within the limits.
+fn problem(alloc: Global, left: &str, right: &str, hyp: &str) -> Result<Option<Problem>, NoMemory> {
+    let hyps = hyps(alloc, hyp)?;
+    let left = term(alloc, left)?;
+    let right = term(alloc, right)?;
+    Ok(Problem::new(1, 1, hyps, left, right).ok())
 }
 
 // What the string shows, and whether it refutes.
-fn shown(alloc: Global, problem: &Problem, string: &GString) -> Result<String, NoMemory> {
+fn shown(alloc: Global, problem: &Problem, string: &GString) -> Result<String, EvidenceFault> {
     let finding = verdict(alloc, problem, string)?;
     let refuted = refutes(alloc, problem, string)?;
     Ok(format!(in alloc; "{finding:?} {refuted}")?)
 }
 
-const ROWS: &[(&str, &str, &str, &str, &str)] = &[
+fn shown_by(alloc: Global, problem: &Problem, lines: &str) -> Result<String, EvidenceFault> {
+    let string = string(alloc, lines)?;
+    shown(alloc, problem, &string)
+}
+
+fn holds(alloc: Global, problem: &Problem, lines: &str, want: &str) -> Result<bool, EvidenceFault> {
+    Ok(shown_by(alloc, problem, lines)?.as_str() == want)
+}
+
+type Row = (
+    &'static str,
+    &'static str,
+    &'static str,
+    &'static str,
+    &'static str,
+);
+
+fn row_holds(alloc: Global, row: &Row) -> Result<bool, EvidenceFault> {
+    let (left, right, hyp, lines, want) = row;
+    match problem(alloc, left, right, hyp)? {
+        Some(problem) => holds(alloc, &problem, lines, want),
+        None => Ok(false),
+    }
+}
+
+const ROWS: &[Row] = &[
     ("p", "0", "", "A 1\nM 0 0\n", "Refutes(true) true"),
     ("0", "p", "", "A 1\nM 0 0\n", "Refutes(false) true"),
     ("p*", "p", "", "A 1\nM 0 0\nM 0 1\n", "Refutes(true) true"),
     ("p", "0", "p", "A 1\nM 0 0\n", "HypBroken(0, 0, 1) false"),
+    ("p", "p", "p", "A 1\nM 0 0\n", "HypBroken(0, 0, 1) false"),
     ("p", "p", "", "A 1\nM 0 0\n", "EndsAgree(true) false"),
     ("p*", "p", "", "A 1\nM 0 0\n", "EndsAgree(true) false"),
     ("p", "0", "", "A 1\n", "EndsAgree(false) false"),
@@ -74,77 +112,97 @@ const ROWS: &[(&str, &str, &str, &str, &str)] = &[
     ("p", "0", "p", "A 1\nM 0 1\nM 1 0\n", "Shape(2) false"),
 ];
 
+// The number of the first row that is not so, or of all rows.
+fn first_wrong(alloc: Global) -> Result<usize, EvidenceFault> {
+    for (number, row) in ROWS.iter().enumerate() {
+        if !row_holds(alloc, row)? {
+            return Ok(number);
+        }
+    }
+    Ok(ROWS.len())
+}
+
 #[test]
 fn strings_show_the_first_that_holds(rt: HostRuntime) -> Result<(), Fail> {
-    let alloc = rt.alloc();
-    for (left, right, hyp, lines, want) in ROWS {
-        let problem = problem(alloc, left, right, hyp)?;
-        let found = shown(alloc, &problem, &string(alloc, lines)?)?;
-        assert_eq!(rt; found.as_str(), *want, "{left} = {right} {lines}");
-    }
+    assert_eq!(rt; first_wrong(rt.alloc())?, ROWS.len());
     Ok(())
+}
+
+fn forty_moves(alloc: Global) -> Result<String, NoMemory> {
+    let mut lines = String::from_str(alloc, "A 1\n")?;
+    for _ in 0..40 {
+        lines.push_str("M 0 0\n")?;
+    }
+    Ok(lines)
+}
+
+// Whether a string of forty moves shows this of a term and 0.
+fn forty_show(alloc: Global, left: &str, want: &str) -> Result<bool, EvidenceFault> {
+    let lines = forty_moves(alloc)?;
+    match problem(alloc, left, "0", "")? {
+        Some(problem) => holds(alloc, &problem, lines.as_str(), want),
+        None => Ok(false),
+    }
 }
 
 #[test]
 fn the_powers_take_forty_steps(rt: HostRuntime) -> Result<(), Fail> {
-    let alloc = rt.alloc();
-    let mut lines = String::from_str(alloc, "A 1\n")?;
-    lines.push_str("M 0 0\n".repeat(alloc, 40)?.as_str())?;
-    let string = string(alloc, lines.as_str())?;
-    let enough = problem(alloc, "at most 40 p", "0", "")?;
-    assert_eq!(rt;
-        shown(alloc, &enough, &string)?.as_str(),
-        "Refutes(true) true"
-    );
-    let few = problem(alloc, "at most 39 p", "0", "")?;
-    assert_eq!(rt;
-        shown(alloc, &few, &string)?.as_str(),
-        "EndsAgree(false) false"
-    );
+    assert!(rt; forty_show(rt.alloc(), "at most 40 p", "Refutes(true) true")?);
+    assert!(rt; forty_show(rt.alloc(), "at most 39 p", "EndsAgree(false) false")?);
     Ok(())
 }
 
-// The states, the truth values and the moves of the table of a string.
-fn table_text(alloc: Global, string: &GString) -> Result<String, NoMemory> {
-    let table = table_of(alloc, string)?;
-    let mut out = format!(in alloc; "{}", table.states)?;
+// The states, the truth values and the moves of a table.
+fn put_table(out: &mut String, table: &Table) -> Result<(), NoMemory> {
+    write!(out, "{}", table.states)?;
     for atom in table.truths.as_slice() {
         write!(out, " {:?}", atom.as_slice())?;
     }
     for step in table.moves.as_slice() {
         write!(out, " {}-{}-{}", step.from, step.act, step.to)?;
     }
+    Ok(())
+}
+
+fn table_text(alloc: Global, string: &GString) -> Result<String, NoMemory> {
+    let table = table_of(alloc, string)?;
+    let mut out = String::new(alloc);
+    put_table(&mut out, &table)?;
     Ok(out)
 }
 
 // Whether the action 0 leads from the first position of the string to the second.
 fn leads_on(alloc: Global, string: &GString) -> Result<bool, NoMemory> {
     let table = table_of(alloc, string)?;
-    let mut bench = Bench::new(alloc, 1, table.states)?;
     if table.states < 2 {
         return Ok(false);
     }
+    let mut bench = Bench::new(alloc, 1, table.states)?;
     Ok(bench.relates(&table, &Kat::Act(0), 0, 1))
+}
+
+fn table_holds(alloc: Global, string: &GString, want: &str, leads: bool) -> Result<bool, NoMemory> {
+    let is_told = table_text(alloc, string)?.as_str() == want;
+    Ok(is_told && leads_on(alloc, string)? == leads)
+}
+
+// Whether the string of these lines has this table, and whether its first step is by the action 0.
+fn string_has_table(
+    alloc: Global,
+    lines: &str,
+    want: &str,
+    leads: bool,
+) -> Result<bool, EvidenceFault> {
+    let string = string(alloc, lines)?;
+    Ok(table_holds(alloc, &string, want, leads)?)
 }
 
 #[test]
 fn tables_follow_strings(rt: HostRuntime) -> Result<(), Fail> {
     let alloc = rt.alloc();
-    for (lines, want, leads) in [
-        (
-            "A 1\nM 0 0\nM 1 1\n",
-            "3 [true] [false] [true] 0-0-1 1-1-2",
-            true,
-        ),
-        (
-            "A 10\nM 1 01\n",
-            "2 [true, false] [false, true] 0-1-1",
-            false,
-        ),
-    ] {
-        let string = string(alloc, lines)?;
-        assert_eq!(rt; table_text(alloc, &string)?.as_str(), want);
-        assert_eq!(rt; leads_on(alloc, &string)?, leads, "on {lines}");
-    }
+    let straight = "3 [true] [false] [true] 0-0-1 1-1-2";
+    assert!(rt; string_has_table(alloc, "A 1\nM 0 0\nM 1 1\n", straight, true)?);
+    let by_another = "2 [true, false] [false, true] 0-1-1";
+    assert!(rt; string_has_table(alloc, "A 10\nM 1 01\n", by_another, false)?);
     Ok(())
 }

@@ -1,16 +1,19 @@
--- What is known of the folder as a shelf: its faults so far, and the last name that failed.
-use Rattle.std.specs.Prelude.{ℕ, List, Option, Some, Result, Ok, Err}
+-- What an opened file gives, and what is counted of it.
+use Rattle.std.specs.Prelude.{◌≡◌, ℕ, List, Option, Some, Result, Ok, Err}
 use Rattle.kat_io.specs.declared.outside.GetFault.{GetFault}
 use Rattle.kat_io.specs.declared.outside.GetFault.TheVariants.{NoMemory, Failed, TooLong}
 use Rattle.kat_io.specs.Outside.{one_more}
+use Rattle.kat_io.specs.Told.{Told, Untold, Missing, Holds}
 
-pub record FolderState : Type 0 where
-  pub faults : ℕ
-  pub last : Option (List ℕ)
+-- what is told of the name is what a reader of its file has left
+abbrev pub Opens : Told → Option (List ℕ) → Type 0
+Opens Untold left = Unit {0}
+Opens Missing left = ⊥
+Opens (Holds bytes) left = left ≡ Some bytes
 
--- what a get of the name leaves: a fault is counted once, and no other answer changes anything
-abbrev pub after_get : {T : Type 0} → Result T GetFault → FolderState → List ℕ → FolderState
-after_get (Err Failed) s name = record { faults = one_more s.faults; last = Some name }
-after_get (Err NoMemory) s name = s
-after_get (Err TooLong) s name = s
-after_get (Ok x) s name = s
+-- the count that a get leaves: a fault is counted once, and no other answer changes it
+abbrev pub count_after : {T : Type 0} → Result T GetFault → ℕ → ℕ
+count_after (Err Failed) n = one_more n
+count_after (Err NoMemory) n = n
+count_after (Err TooLong) n = n
+count_after (Ok x) n = n

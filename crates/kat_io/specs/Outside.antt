@@ -1,5 +1,5 @@
 -- What a sink takes, and when an outside may say that it failed.
-use Rattle.std.specs.Prelude.{◌≤◌, ◌<◌, ◌^◌, ◌+◌, ◌-◌, ℕ, List, min, length, take, Option, Result, Ok, Err, OnErr}
+use Rattle.std.specs.Prelude.{◌≡◌, ◌≤◌, ◌<◌, ◌^◌, ◌+◌, ◌-◌, ℕ, List, min, length, take, Option, Result, Ok, Err, OnOk, OnErr}
 use Rattle.std.specs.Io.KnownBytes.{Appends, Keeps}
 
 -- a count of faults, which stands still at its type's end
@@ -10,9 +10,10 @@ one_more n = min (n + 1) (2 ^ 64 - 1)
 abbrev pub Rose : ℕ → ℕ → Type 0
 Rose before now = one_more before ≤ now
 
--- a call that answers a fault is one in which the count rose, and the count never falls
+-- a call that answers a fault is one in which the count rose, and every other answer leaves it as it was
 pub record HasCause {T E : Type 0} (before now : ℕ) (result : Result T E) : Type 0 where
   pub later : before ≤ now
+  pub stands : OnOk result (now ≡ before)
   pub failed : OnErr result (Rose before now)
 
 -- the count that a call leaves in which each fault is counted once

@@ -9,4 +9,4 @@ mod system;
 pub use mem_shelf::MemShelf;
 pub use mem_sink::MemSink;
 pub use outside::{Failed, GetFault, Shelf, Sink, send};
-pub use system::{FolderShelf, StdoutSink};
+pub use system::{FileShelf, Folder, FolderShelf, Opener, StdoutSink, WriterSink};

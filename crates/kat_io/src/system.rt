@@ -1,46 +1,71 @@
-//! The real outside: the current folder, and standard output. The loop that reads and the step that writes
-//! are proved over any reader and any writer. The folder and standard output tell no content themselves, so
-//! of them only the causes of their answers are proved.
-ghost use Rattle.std.specs.Prelude.{◌≡◌, ◌≢◌, ◌^◌, ◌≤◌, ◌<◌, ℕ, List, None, IfOk, length};
-ghost use Rattle.kat_io.specs.Told.{Untold, told_left};
+//! The real outside: the current folder, and standard output. The shelf is one over any opener of files, and the sink one
+//! over any writer, and both are proved whatever these tell. The opener of the folder and std's writer tell nothing, so of
+//! those two alone the bytes are not proved.
+ghost use Rattle.std.specs.Prelude.{◌≡◌, ℕ, List, None, IfOk, string_bytes};
+ghost use Rattle.std.specs.Option.{option_map};
+ghost use Rattle.kat_io.specs.Told.{Told, Untold, told_left};
 ghost use Rattle.kat_io.specs.Gets.{GetsFrom, IsCounted};
 ghost use Rattle.kat_io.specs.Outside.{Puts, HasCause, faults_after};
-ghost use Rattle.kat_io.specs.Folder.{FolderState, after_get};
+ghost use Rattle.kat_io.specs.Folder.{Opens, count_after};
 
 use crate::mem_shelf::is_past;
 use crate::mem_sink::more;
 use crate::outside::{Failed, GetFault, Shelf, Sink};
 use std::alloc::Global;
-use std::io::{Read, Write};
-use std::marker::Model;
+use std::io::{Printer, Read, Write};
 use std::rt::Files;
 use std::{fs, io};
 
-/// The files of the current folder by their names.
+/// Opens files by name.
+pub trait Opener {
+    /// An open file.
+    type File: Read + Drop;
+
+    /// What the opener has under a name, where it tells that.
+    ghost content: { Self → List ℕ → Told };
+
+    /// The file of the name, which gives what the opener tells of it.
+    fn open(&self, name: &str) -> io::Result<Self::File>
+        ensures { IfOk result (λ file. Opens (content self.now name.now) (Self.File.remaining file)) };
+}
+
+/// The files of the current folder. What they hold is not told.
 #[derive(Drop)]
-pub struct FolderShelf<'a, R: Files> {
+pub struct Folder<'a, R: Files> {
     rt: &'a R,
+}
+
+impl<'a, R: Files> Opener for Folder<'a, R> {
+    type File = R::File;
+
+    ghost content = { λ folder name. Untold };
+
+    fn open(&self, name: &str) -> io::Result<R::File>
+        ensures { IfOk result (λ file. Opens Untold (R.File.remaining file)) }
+    {
+        fs::open(self.rt, name)
+    }
+}
+
+/// The files that an opener has, by their names.
+#[derive(Drop)]
+pub struct FileShelf<O: Opener> {
+    opener: O,
     faults: u64,
     last: Option<String>,
 }
 
-impl<'a, R: Files> Model for FolderShelf<'a, R> {
-    ghost use Rattle.std.specs.Prelude.{string_bytes};
-    ghost use Rattle.std.specs.Option.{option_map};
-    ghost use Rattle.kat_io.specs.Folder.{FolderState};
+/// The files of the current folder by their names.
+pub type FolderShelf<'a, R> = FileShelf<Folder<'a, R>>;
 
-    ghost Value = { FolderState };
-
-    ghost view = { λ s. record { faults = s.faults; last = option_map string_bytes s.last } };
-}
-
-impl<'a, R: Files> FolderShelf<'a, R> {
+impl<'a, R: Files> FileShelf<Folder<'a, R>> {
     /// A shelf with no faults so far.
-    pub fn new(rt: &'a R) -> FolderShelf<'a, R>
-        ensures { result ≡ record { faults = 0; last = None } }
+    pub fn new(rt: &'a R) -> FileShelf<Folder<'a, R>>
+        ensures faults { result.faults ≡ 0 }
+        ensures last { result.last ≡ None }
     {
-        FolderShelf {
-            rt,
+        FileShelf {
+            opener: Folder { rt },
             faults: 0,
             last: None,
         }
@@ -74,35 +99,35 @@ fn read_within<R: Read>(
     Err(GetFault::NoMemory)
 }
 
-fn read_file<R: Files>(
-    rt: &R,
+fn read_file<O: Opener>(
+    opener: &O,
     alloc: Global,
     name: &str,
     limit: Option<u64>,
 ) -> Result<Vec<u8>, GetFault>
-    ensures { GetsFrom Untold result limit }
+    ensures { GetsFrom (O.content opener.now name.now) result limit }
 {
-    let mut file = fs::open(rt, name).map_err(|_| GetFault::Failed)?;
+    let mut file = opener.open(name).map_err(|_| GetFault::Failed)?;
     read_within(&mut file, alloc, limit)
 }
 
-impl<'a, R: Files> Shelf for FolderShelf<'a, R> {
-    ghost content = { λ s name. Untold };
+impl<O: Opener> Shelf for FileShelf<O> {
+    ghost content = { λ s. O.content s.opener };
 
     ghost faults = { λ s. s.faults };
 
-    ghost last_failed = { λ s. s.last };
+    ghost last_failed = { λ s. option_map string_bytes s.last };
 
     fn get(&mut self, alloc: Global, name: &str, limit: Option<u64>) -> Result<Vec<u8>, GetFault>
-        ensures cause { IsCounted result name.now self.old.faults self.new.faults self.old.last self.new.last }
-        ensures whole { GetsFrom Untold result limit }
-        ensures kept { (other : List ℕ) → Untold ≡ Untold }
+        ensures cause { IsCounted result name.now self.old.faults self.new.faults (option_map string_bytes self.old.last) (option_map string_bytes self.new.last) }
+        ensures whole { GetsFrom (O.content self.old.opener name.now) result limit }
+        ensures kept { (other : List ℕ) → O.content self.new.opener other ≡ O.content self.old.opener other }
 
-        // A fault is counted once, with its name.
-        ensures after { self.new ≡ after_get result self.old name.now }
+        // A fault is counted once.
+        ensures once { self.new.faults ≡ count_after result self.old.faults }
     {
         let copy = String::from_str(alloc, name)?;
-        let got = read_file(self.rt, alloc, name, limit);
+        let got = read_file(&self.opener, alloc, name, limit);
         if let Err(GetFault::Failed) = got {
             self.faults = more(self.faults);
             self.last = Some(copy);
@@ -121,43 +146,41 @@ fn write_some<W: Write>(writer: &mut W, piece: &[u8]) -> Result<usize, Failed>
     }
 }
 
-/// The standard output.
+/// What a writer takes.
 #[derive(Drop)]
-pub struct StdoutSink<'a, R: Print> {
-    rt: &'a R,
+pub struct WriterSink<W: Write> {
+    writer: W,
     faults: u64,
 }
 
-impl<'a, R: Print> Model for StdoutSink<'a, R> {
-    ghost use Rattle.std.specs.Prelude.{ℕ};
+/// The standard output.
+pub type StdoutSink<'a, R> = WriterSink<Printer<'a, R>>;
 
-    ghost Value = { ℕ };
-
-    ghost view = { λ s. s.faults };
-}
-
-impl<'a, R: Print> StdoutSink<'a, R> {
+impl<'a, R: Print> WriterSink<Printer<'a, R>> {
     /// A sink with no faults so far.
-    pub fn new(rt: &'a R) -> StdoutSink<'a, R>
-        ensures { result ≡ 0 }
+    pub fn new(rt: &'a R) -> WriterSink<Printer<'a, R>>
+        ensures { result.faults ≡ 0 }
     {
-        StdoutSink { rt, faults: 0 }
+        WriterSink {
+            writer: io::writer(rt),
+            faults: 0,
+        }
     }
 }
 
-impl<'a, R: Print> Sink for StdoutSink<'a, R> {
-    ghost taken = { λ s. None };
+impl<W: Write> Sink for WriterSink<W> {
+    ghost taken = { λ s. W.contents s.writer };
 
-    ghost faults = { λ s. s };
+    ghost faults = { λ s. s.faults };
 
     fn put(&mut self, piece: &[u8]) -> Result<usize, Failed>
-        ensures bytes { Puts None None result piece.now }
-        ensures cause { HasCause self.old self.new result }
+        ensures bytes { Puts (W.contents self.old.writer) (W.contents self.new.writer) result piece.now }
+        ensures cause { HasCause self.old.faults self.new.faults result }
 
         // A fault is counted once.
-        ensures after { self.new ≡ faults_after result self.old }
+        ensures once { self.new.faults ≡ faults_after result self.old.faults }
     {
-        let put = write_some(&mut io::writer(self.rt), piece);
+        let put = write_some(&mut self.writer, piece);
         if put.is_err() {
             self.faults = more(self.faults);
         }

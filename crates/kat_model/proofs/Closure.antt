@@ -4,7 +4,7 @@ use Rattle.std.proofs.Common.{◌≡◌, ℕ, zero, suc, ◌<◌, ◌≤◌, ◌
 use Rattle.std.specs.Bool.{IsTrue}
 use Rattle.std.proofs.lemmas.Bool.{eqb-true, eq-eqb, or_cases, or_left, or_right, and_parts, and_from}
 use Rattle.kat_model.specs.Relations.{Along}
-use Rattle.kat_model.specs.Decided.{warshall}
+use Rattle.kat_model.specs.Working.Decided.{warshall}
 
 module _ {S : Type 0} (IsState : S → Type 0) where
   pub along_append : (R : S → S → Type 0) (ks ls : List S) (i m j : S) → Along IsState R i ks m → Along IsState R m ls j → Along IsState R i (ks ++ ls) j

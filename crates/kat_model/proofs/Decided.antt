@@ -7,7 +7,7 @@ use Rattle.kat_model.specs.Members.{Has}
 use Rattle.kat_model.specs.Steps.{truth}
 use Rattle.kat_model.specs.Relations.{Step, Table, atom_at, Relates}
 use Rattle.kat_model.proofs.Lists.{has_any, any_has}
-use Rattle.kat_model.specs.Decided.{same_step, some_below, computes_relation}
+use Rattle.kat_model.specs.Working.Decided.{same_step, some_below, computes_relation}
 use Rattle.kat_model.proofs.Closure.{through_now_leads}
 
 same_step_true : (m n : Step) → IsTrue (same_step m n) → n ≡ m

@@ -1,4 +1,5 @@
 pub mod Lists
+pub mod Filters
 pub mod Places
 pub mod SetKeys
 pub mod ValuesInOrder
@@ -15,6 +16,12 @@ pub mod SameTrees
 pub mod Saturation
 pub mod SaturationEnds
 pub mod Congruence
+pub mod PairsUnderTests
+pub mod DegreeBounds
+pub mod AllowedStrings
+pub mod AllowedPaths
+pub mod Splits
+pub mod ClosedDifferences
 pub mod Soundness
 pub mod Sameness
 pub mod Reach
@@ -23,6 +30,7 @@ pub mod Determined
 pub mod SingleSets
 pub mod Counting
 pub mod Bounds
+pub mod ReachedPairs
 pub mod Closure
 pub mod Decided
 pub mod Rows
@@ -32,4 +40,5 @@ pub mod StringExamples
 pub mod TableExamples
 pub mod HypothesisExamples
 pub mod PairExamples
+pub mod TestedPairExamples
 pub mod StoreExamples

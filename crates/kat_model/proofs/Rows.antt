@@ -7,7 +7,7 @@ use Rattle.std.proofs.lemmas.List.FromFn.{get_or-map-range_with_len}
 use Rattle.kat_model.specs.Trees.{Term}
 use Rattle.kat_model.specs.Members.{Has}
 use Rattle.kat_model.specs.Relations.{Table, Relates}
-use Rattle.kat_model.specs.Decided.{computes_relation}
+use Rattle.kat_model.specs.Working.Decided.{computes_relation}
 use Rattle.kat_model.proofs.Decided.{relates_now_decides}
 
 abbrev pub rows_now : Table → Term → List (List ℕ)

@@ -1,6 +1,6 @@
--- Terms that accept the same strings relate the same states, and so do the sides of a problem of which the
--- closed sides do, in a table that keeps the hypotheses.
-use Rattle.std.proofs.Common.{◌≡◌, ℕ, ◌<◌, ◌↔◌, inl, ⊎_elim, List, [], ◌∷◌, length, sym, ◌∙◌, subst}
+-- Terms that accept the same allowed strings relate the same states of a table that has allowed moves, and so do
+-- the sides of a problem of which the closed sides do, in a table that keeps the hypotheses.
+use Rattle.std.proofs.Common.{◌≡◌, ℕ, ◌<◌, ◌↔◌, inl, ⊎_elim, List, [], ◌∷◌, map, length, sym, ◌∙◌, subst}
 use Rattle.kat_model.specs.Trees.{Term}
 use Rattle.kat_model.specs.Balanced.{sum_of}
 use Rattle.kat_model.specs.Problems.{ProblemParts}
@@ -9,13 +9,19 @@ use Rattle.kat_model.specs.Relations.{Table, IsTable, atom_at, frame_of, Relates
 use Rattle.kat_model.specs.Strings.{Move, AreMoves, accepts, Hop, IsPath, spelled}
 use Rattle.kat_model.specs.Closed.{universal_of, inside, closed_under, closed}
 use Rattle.kat_model.specs.Pairs.{SetPair, Style, AreAccepted}
+use Rattle.kat_model.specs.Degrees.{with_hyps, AreSplit}
+use Rattle.kat_model.specs.AllowedMoves.{AreAllowed, HasAllowedMoves}
+use Rattle.kat_model.specs.TestedPairs.{TestedPair, everywhere, AreAcceptedUnder}
 use Rattle.kat_model.proofs.BalancedSums.{relates_sum_of}
 use Rattle.kat_model.proofs.Paths.{spelled_relates, relates_spelled}
+use Rattle.kat_model.proofs.PairsUnderTests.{accepted_tested}
+use Rattle.kat_model.proofs.AllowedPaths.{kept_allowed, spelled_allowed}
+use Rattle.kat_model.proofs.Splits.{split_all_long, split_keeps}
 use Rattle.kat_model.proofs.Soundness.{accepted_agree}
 
--- the terms accept the same strings over so many tests and actions
-abbrev pub AcceptAlike : ℕ → ℕ → Term → Term → Type 0
-AcceptAlike tests actions e f = (atom : Atom) (ms : List Move) → length atom ≡ tests → AreMoves tests actions ms → accepts e atom ms ≡ accepts f atom ms
+-- the terms accept the same allowed strings over so many tests and actions
+abbrev pub AcceptAlike : List Term → ℕ → ℕ → Term → Term → Type 0
+AcceptAlike shorts tests actions e f = (atom : Atom) (ms : List Move) → length atom ≡ tests → AreMoves tests actions ms → AreAllowed shorts atom ms → accepts e atom ms ≡ accepts f atom ms
 
 module _ (tests actions : ℕ) (t : Table) (is_table : IsTable tests actions t) where
   -- a path of a table spells actions and atoms in range
@@ -27,15 +33,16 @@ module _ (tests actions : ℕ) (t : Table) (is_table : IsTable tests actions t) 
       (spelled_moves hop.to hops j path.2 m)
       h
 
-  -- terms that accept alike relate the same states
-  alike_leads : (e f : Term) (i j : ℕ) → i < t.states → j < t.states → AcceptAlike tests actions e f → Relates t e i j → Relates t f i j
-  alike_leads e f i j li lj alike r =
-      let h = relates_spelled (frame_of t) e i j li lj r in
-      let same = alike (atom_at t i) (spelled (frame_of t) h.0) (is_table.wide i li) (spelled_moves i h.0 j h.1) in
-      spelled_relates (frame_of t) f i j h.0 li h.1 (sym same ∙ h.2)
+  module _ (shorts : List Term) (allowed : HasAllowedMoves shorts t) where
+    -- terms that accept alike relate the same states
+    alike_leads : (e f : Term) (i j : ℕ) → i < t.states → j < t.states → AcceptAlike shorts tests actions e f → Relates t e i j → Relates t f i j
+    alike_leads e f i j li lj alike r =
+        let h = relates_spelled (frame_of t) e i j li lj r in
+        let same = alike (atom_at t i) (spelled (frame_of t) h.0) (is_table.wide i li) (spelled_moves i h.0 j h.1) (spelled_allowed t shorts allowed i h.0 j li h.1) in
+        spelled_relates (frame_of t) f i j h.0 li h.1 (sym same ∙ h.2)
 
-  pub alike_relates : (e f : Term) (i j : ℕ) → i < t.states → j < t.states → AcceptAlike tests actions e f → Relates t e i j ↔ Relates t f i j
-  alike_relates e f i j li lj alike = (alike_leads e f i j li lj alike, alike_leads f e i j li lj (λ atom ms wide are. sym (alike atom ms wide are)))
+    pub alike_relates : (e f : Term) (i j : ℕ) → i < t.states → j < t.states → AcceptAlike shorts tests actions e f → Relates t e i j ↔ Relates t f i j
+    alike_relates e f i j li lj alike = (alike_leads e f i j li lj alike, alike_leads f e i j li lj (λ atom ms wide are all. sym (alike atom ms wide are all)))
 
 -- a hypothesis with anything around it relates nothing in a table that keeps the hypotheses
 pub inside_relates_none : (t : Table) (hyps : List Term) (u : Term) (i j : ℕ) → Keeps t hyps → Relates t (inside u (sum_of hyps)) i j → ⊥
@@ -52,7 +59,15 @@ closed_relates actions (h ∷ hs) left right t i j keeps s =
       (λ r. ⊎_elim (λ p. p) (λ q. absurd (none q)) (s.1 (inl r))),
     )
 
+-- accepted pairs under tests show that both sides are the same, whichever hypotheses count as short
+pub accepted_under_same : (q : ProblemParts) (shorts longs : List Term) (pairs : List TestedPair) → AreSplit q.hyps shorts longs → AreAcceptedUnder shorts (with_hyps q longs) pairs → Same q
+accepted_under_same q shorts longs pairs split acc t is_table keeps i j li lj =
+    let kept = (split_keeps q.hyps shorts longs split t).0 keeps in
+    let sides = closed (with_hyps q longs) in
+    closed_relates q.actions longs q.left q.right t i j kept.1
+    (alike_relates q.tests q.actions t is_table shorts (kept_allowed t shorts kept.0) sides.left sides.right i j li lj (accepted_agree shorts (with_hyps q longs) pairs acc))
+
+-- and so do those of the other styles
 pub accepted_same : (style : Style) (q : ProblemParts) (pairs : List SetPair) → AreAccepted style q pairs → Same q
-accepted_same style q pairs acc t is_table keeps i j li lj =
-    closed_relates q.actions q.hyps q.left q.right t i j keeps
-    (alike_relates q.tests q.actions t is_table (closed q).left (closed q).right i j li lj (accepted_agree style q pairs acc))
+accepted_same style q pairs acc =
+    accepted_under_same q [] q.hyps (map everywhere pairs) (split_all_long q.hyps) (accepted_tested style q pairs acc)

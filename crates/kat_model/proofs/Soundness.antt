@@ -1,18 +1,22 @@
--- The sets of each pair of a bisimulation accept the same strings, so the closed sides of accepted pairs do.
-use Rattle.std.proofs.Common.{◌≡◌, ℕ, inl, inr, ⊎_elim, List, [], ◌∷◌, length, refl, sym, ◌∙◌, subst, true, Option, Some, None}
+-- Where the pairs of each level are settled by those of the next, the closed sides accept the same allowed strings
+-- of fewer moves than there are levels; and all, where the pairs are accepted.
+use Rattle.std.proofs.Common.{◌≡◌, ℕ, suc, ◌+◌, ◌<◌, inl, inr, ⊎_elim, List, [], ◌∷◌, length, refl, sym, ◌∙◌, subst, arith, true, Option, Some, None}
 use Rattle.std.specs.Bool.{IsTrue}
 use Rattle.std.specs.Cmp.{both_ways}
-use Rattle.kat_model.specs.Trees.{Term}
+use Rattle.kat_model.specs.Trees.{TestTree, Term}
 use Rattle.kat_model.specs.Members.{Has}
 use Rattle.kat_model.specs.Problems.{ProblemParts}
-use Rattle.kat_model.specs.Steps.{Atom, set_next}
+use Rattle.kat_model.specs.Steps.{Atom, truth, set_out, set_next}
 use Rattle.kat_model.specs.Strings.{Move, AreMoves, accepts, set_accepts}
 use Rattle.kat_model.specs.Closed.{universal_of, closed_under, closed}
-use Rattle.kat_model.specs.Pairs.{SetPair, sat, BothUniversal, IsCongruent, Style, IsBisimulation, AreAccepted}
+use Rattle.kat_model.specs.Pairs.{SetPair, sat, BothUniversal, IsCongruent}
+use Rattle.kat_model.specs.AllowedMoves.{IsAllowedAtom, IsAllowedMove, AreAllowed}
+use Rattle.kat_model.specs.TestedPairs.{TestedPair, pairs_at, AreAcceptedUnder}
 use Rattle.kat_model.proofs.Acceptance.{set_accepts-cons, set_accepts-single, has_set_accepts, set_accepts_has, set_accepts_same}
 use Rattle.kat_model.proofs.Universal.{accepts-universal}
 use Rattle.kat_model.proofs.Saturation.{Each, Respects, sat_keeps, sat_each}
-use Rattle.kat_model.proofs.Congruence.{matched_congruent}
+use Rattle.kat_model.proofs.PairsUnderTests.{has_pairs_at, pairs_at_has}
+use Rattle.kat_model.proofs.AllowedStrings.{allowed_first}
 
 -- both sets of each pair accept the string, or neither does
 abbrev pub AllAgree : List SetPair → Atom → List Move → Type 0
@@ -67,23 +71,54 @@ module _ (tests actions : ℕ) where
       ∙ ⊎_elim (set_accepts_same (sat ps es) (sat ps fs) atom ms) (both_universal_accept universal (sat ps es) (sat ps fs) atom ms is are) c
       ∙ set_accepts-sat atom ms ps fs agree
 
-  -- all pairs of a bisimulation agree on every string in range
-  pub bisimulation_agrees : (style : Style) (universal : Option Term) (ps : List SetPair) (atom : Atom) (ms : List Move) → IsBisimulation style tests actions universal ps → IsUniversalOf actions universal → length atom ≡ tests → AreMoves tests actions ms → AllAgree ps atom ms
-  bisimulation_agrees style universal ps atom [] b is wide are p h = b.outputs p h atom wide
-  bisimulation_agrees style universal ps atom (m ∷ ms) b is wide are p h =
-      let own = are m (inl refl) in
-      let rest : AreMoves tests actions ms = λ n k. are n (inr k) in
-      let agree = bisimulation_agrees style universal ps m.atom ms b is own.1 rest in
-      let congruent = matched_congruent style universal ps _ _ (b.steps p h atom wide m.act own.0) in
-      set_accepts-cons p.left atom m ms
-      ∙ congruent_accepts universal ps (set_next p.left atom m.act) (set_next p.right atom m.act) m.atom ms is rest agree congruent
-      ∙ sym (set_accepts-cons p.right atom m ms)
+-- At each allowed atom of its test each pair of a level accepts alike, and behind each allowed move its next sets
+-- are congruent under the pairs of the next level whose test is true there.
+pub record IsLevel (shorts : List Term) (q : ProblemParts) (ps qs : List TestedPair) : Type 0 where
+  pub outputs : (p : TestedPair) → Has ps p → (atom : Atom) → length atom ≡ q.tests → IsAllowedAtom shorts atom → IsTrue (truth p.test atom)
+      → set_out p.sets.left atom ≡ set_out p.sets.right atom
+  pub steps : (p : TestedPair) → Has ps p → (atom : Atom) → length atom ≡ q.tests → IsTrue (truth p.test atom)
+      → (m : Move) → m.act < q.actions → length m.atom ≡ q.tests → IsAllowedMove shorts atom m
+      → IsCongruent (closed q).universal (pairs_at qs m.atom) (set_next p.sets.left atom m.act) (set_next p.sets.right atom m.act)
 
--- the closed sides of accepted pairs accept the same strings
-pub accepted_agree : (style : Style) (q : ProblemParts) (pairs : List SetPair) → AreAccepted style q pairs → (atom : Atom) (ms : List Move) → length atom ≡ q.tests → AreMoves q.tests q.actions ms → accepts (closed q).left atom ms ≡ accepts (closed q).right atom ms
-accepted_agree style q pairs acc atom ms wide are =
-    let universal = closed_universal q.actions q.hyps q.left q.right in
-    let first : Has pairs (record { left = (closed q).left ∷ []; right = (closed q).right ∷ [] }) = rw acc.first (inl refl) in
-    sym (set_accepts-single (closed q).left atom ms)
-    ∙ bisimulation_agrees q.tests q.actions style (closed q).universal pairs atom ms acc.bisimulation universal wide are _ first
-    ∙ set_accepts-single (closed q).right atom ms
+module _ (shorts : List Term) (q : ProblemParts) (levels : ℕ → List TestedPair) (n : ℕ)
+    (each : (k : ℕ) → k < n → IsLevel shorts q (levels k) (levels (suc k))) where
+  -- the pairs of a level that hold at the first atom of an allowed string agree on it, where enough levels follow
+  pub levels_agree : (k : ℕ) (atom : Atom) (ms : List Move) → k + length ms < n
+      → length atom ≡ q.tests → AreMoves q.tests q.actions ms → AreAllowed shorts atom ms → AllAgree (pairs_at (levels k) atom) atom ms
+  levels_agree k atom [] few wide are allowed s h =
+      let p = has_pairs_at (levels k) atom s h in
+      subst (λ (z : SetPair). set_out z.left atom ≡ set_out z.right atom) p.3 ((each k (omega (arith, few))).outputs p.0 p.1 atom wide allowed p.2)
+  levels_agree k atom (m ∷ ms) few wide are allowed s h =
+      let own = are m (inl refl) in
+      let rest : AreMoves q.tests q.actions ms = λ n k. are n (inr k) in
+      let agree = levels_agree (suc k) m.atom ms (omega (arith, few)) own.1 rest allowed.1 in
+      let p = has_pairs_at (levels k) atom s h in
+      let l = p.0.sets.left in
+      let r = p.0.sets.right in
+      let congruent = (each k (omega (arith, few))).steps p.0 p.1 atom wide p.2 m own.0 own.1 allowed.0 in
+      let universal = closed_universal q.actions q.hyps q.left q.right in
+      subst (λ (z : SetPair). set_accepts z.left atom (m ∷ ms) ≡ set_accepts z.right atom (m ∷ ms)) p.3
+      (set_accepts-cons l atom m ms
+      ∙ congruent_accepts q.tests q.actions (closed q).universal _ (set_next l atom m.act) (set_next r atom m.act) m.atom ms universal rest agree congruent
+      ∙ sym (set_accepts-cons r atom m ms))
+
+  -- so the closed sides accept alike allowed strings of fewer moves than there are levels
+  pub levels_alike : (test : TestTree)
+      → Has (levels 0) (record { sets = record { left = (closed q).left ∷ []; right = (closed q).right ∷ [] }; test = test })
+      → ((atom : Atom) → length atom ≡ q.tests → IsAllowedAtom shorts atom → IsTrue (truth test atom))
+      → (atom : Atom) (ms : List Move) → length ms < n
+      → length atom ≡ q.tests → AreMoves q.tests q.actions ms → AreAllowed shorts atom ms → accepts (closed q).left atom ms ≡ accepts (closed q).right atom ms
+  levels_alike test listed holds atom ms few wide are allowed =
+      let start : SetPair = record { left = (closed q).left ∷ []; right = (closed q).right ∷ [] } in
+      let first = pairs_at_has (levels 0) atom (record { sets = start; test = test }) listed (holds atom wide (allowed_first shorts atom ms allowed)) in
+      sym (set_accepts-single (closed q).left atom ms)
+      ∙ levels_agree 0 atom ms (omega (arith, few)) wide are allowed start first
+      ∙ set_accepts-single (closed q).right atom ms
+
+-- and of any number of moves, where the pairs of accepted ones stand on each level
+pub accepted_agree : (shorts : List Term) (q : ProblemParts) (pairs : List TestedPair) → AreAcceptedUnder shorts q pairs
+    → (atom : Atom) (ms : List Move) → length atom ≡ q.tests → AreMoves q.tests q.actions ms → AreAllowed shorts atom ms
+    → accepts (closed q).left atom ms ≡ accepts (closed q).right atom ms
+accepted_agree shorts q pairs acc atom ms =
+    let level : IsLevel shorts q pairs pairs = record { outputs = acc.bisimulation.outputs; steps = acc.bisimulation.steps } in
+    levels_alike shorts q (λ k. pairs) (suc (length ms)) (λ k lk. level) acc.test (rw acc.first (inl refl)) acc.holds atom ms (omega arith)

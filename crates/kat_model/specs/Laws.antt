@@ -1,15 +1,18 @@
 -- The laws of the definitions. Each stands on a function of the crate that does nothing.
-use Rattle.std.specs.Prelude.{◌≡◌, ◌↔◌, ◌+◌, ◌*◌, ◌^◌, ◌<◌, ◌≤◌, ℕ, false, ◌||◌, IsTrue, List, [], ◌∷◌, ◌++◌, length, None}
+use Rattle.std.specs.Prelude.{◌≡◌, ◌≢◌, ◌↔◌, ◌+◌, ◌*◌, ◌^◌, ◌<◌, ◌≤◌, ℕ, false, ◌||◌, IsTrue, List, [], ◌∷◌, ◌++◌, map, length, Some, None}
 use Rattle.std.specs.List.{flat_map}
 use Rattle.kat_model.specs.Trees.{TestTree, Term, zero, one, test, act, sum, product, star, acts}
 use Rattle.kat_model.specs.Members.{Has, IsSubset}
 use Rattle.kat_model.specs.Problems.{ProblemParts, IsProblem, problem_fault}
 use Rattle.kat_model.specs.Steps.{Atom, truth, out, next, set_next, reach}
 use Rattle.kat_model.specs.Balanced.{sum_of, product_of}
-use Rattle.kat_model.specs.Relations.{SomeRelates, RelateInTurn, Table, atom_at, frame_of, Relates, Same}
-use Rattle.kat_model.specs.Strings.{Move, last_atom, accepts, Hop, IsPath, spelled}
-use Rattle.kat_model.specs.Closed.{universal_of, inside}
-use Rattle.kat_model.specs.Pairs.{SetPair, Style, AreAccepted, AllDiffer}
+use Rattle.kat_model.specs.Relations.{SomeRelates, RelateInTurn, Table, atom_at, frame_of, Relates, Keeps, Same}
+use Rattle.kat_model.specs.Strings.{Move, AreMoves, last_atom, accepts, Hop, IsPath, spelled}
+use Rattle.kat_model.specs.Closed.{universal_of, inside, closed}
+use Rattle.kat_model.specs.Pairs.{SetPair, Style, up_to, AreAccepted, AllDiffer}
+use Rattle.kat_model.specs.Degrees.{degree, IsBounded, is_short, short_hyps, long_hyps, with_hyps, AreSplit}
+use Rattle.kat_model.specs.AllowedMoves.{AreAllowed, HasAllowedMoves}
+use Rattle.kat_model.specs.TestedPairs.{TestedPair, sets_of, everywhere, AreAcceptedUnder}
 use Rattle.kat_model.specs.Guarded.{IsSingle}
 
 -- the moves are two parts, and each term accepts one, the second from the atom at the cut
@@ -66,6 +69,38 @@ RelatesBySpelling = (t : Table) (e : Term) (i j : ℕ) → i < t.states → j < 
 abbrev pub AcceptedAreSame : Type 0
 AcceptedAreSame = (style : Style) (q : ProblemParts) (pairs : List SetPair) → AreAccepted style q pairs → Same q
 
+-- and so do pairs under tests, with all short hypotheses counted as short, or with some of them
+pub record AcceptedUnderTestsAreSame (q : ProblemParts) (pairs : List TestedPair) : Type 0 where
+  pub by_degree : AreAcceptedUnder (short_hyps q) (with_hyps q (long_hyps q)) pairs → Same q
+  pub counted : (shorts longs : List Term) → AreSplit q.hyps shorts longs → AreAcceptedUnder shorts (with_hyps q longs) pairs → Same q
+
+-- pairs without tests are accepted up to congruence exactly where they are so under tests that are true
+-- everywhere, with no hypothesis counted as short
+abbrev pub UntestedAreAccepted : Type 0
+UntestedAreAccepted = (q : ProblemParts) (pairs : List SetPair) → AreAccepted up_to q pairs ↔ AreAcceptedUnder [] q (map everywhere pairs)
+
+-- how many moves a string of the term has
+pub record DegreeBoundsMoves (e : Term) (atom : Atom) (ms : List Move) : Type 0 where
+  pub bounded : IsTrue (accepts e atom ms) → IsBounded (degree e) (length ms)
+  pub few : IsTrue (is_short e) → IsTrue (accepts e atom ms) → length ms ≤ 1
+  pub none : degree e ≡ Some 0 → IsTrue (accepts e atom ms) → ms ≡ []
+
+-- a table keeps short hypotheses exactly where its atoms and moves are allowed
+abbrev pub ShortAreKept : Type 0
+ShortAreKept = (t : Table) (shorts : List Term) → ((h : Term) → Has shorts h → IsTrue (is_short h)) → Keeps t shorts ↔ HasAllowedMoves shorts t
+
+-- the closed sides do not accept the string alike
+abbrev pub ClosedDifferOn : ProblemParts → Atom → List Move → Type 0
+ClosedDifferOn q atom ms = accepts (closed q).left atom ms ≢ accepts (closed q).right atom ms
+
+-- they differ on it exactly where it is allowed and those of the long hypotheses differ
+abbrev pub DifferWhereAllowed : Type 0
+DifferWhereAllowed =
+    (q : ProblemParts) (shorts longs : List Term) (atom : Atom) (ms : List Move)
+    → AreSplit q.hyps shorts longs
+    → AreMoves q.tests q.actions ms
+    → ClosedDifferOn q atom ms ↔ (AreAllowed shorts atom ms × ClosedDifferOn (with_hyps q longs) atom ms)
+
 -- the reach of a term is as long as the term has actions, and steps do not leave it
 pub record ReachIsClosed (e : Term) : Type 0 where
   pub count : length (reach e) ≡ acts e
@@ -94,6 +129,11 @@ AreSingle l r pairs = (p : SetPair) → Has pairs p → IsSingle l p.left × IsS
 pub record PairsAreBounded (l r : Term) (pairs : List SetPair) : Type 0 where
   pub all : AllDiffer pairs → AreReached l r pairs → length pairs ≤ 2 ^ (acts l + 1) * 2 ^ (acts r + 1)
   pub single : AllDiffer pairs → AreSingle l r pairs → length pairs ≤ (acts l + 2) * (acts r + 2)
+
+-- and so with pairs under tests
+pub record TestedPairsAreBounded (l r : Term) (pairs : List TestedPair) : Type 0 where
+  pub all : AllDiffer (sets_of pairs) → AreReached l r (sets_of pairs) → length pairs ≤ 2 ^ (acts l + 1) * 2 ^ (acts r + 1)
+  pub single : AllDiffer (sets_of pairs) → AreSingle l r (sets_of pairs) → length pairs ≤ (acts l + 2) * (acts r + 2)
 
 -- what the balanced trees of a list relate in a table: the product what the members do in turn, and the sum
 -- what some member does

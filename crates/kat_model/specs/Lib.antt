@@ -8,10 +8,13 @@ pub mod ConditionCodes
 pub mod Stores
 pub mod Steps
 pub mod Relations
-pub mod Decided
 pub mod Strings
 pub mod Problems
 pub mod Closed
 pub mod Pairs
+pub mod Degrees
+pub mod AllowedMoves
+pub mod TestedPairs
 pub mod Guarded
 pub mod Laws
+pub mod Working

@@ -14,9 +14,10 @@ pub use balanced::{all_of, any_of, seq_of, sum_of};
 pub use expression::{Cond, Expr, Rel, Width, test_without_comparisons};
 pub use items::Items;
 pub use laws::{
-    accepted_are_same, accepts_by_form, faultless_are_problems, guarded_has_one_step,
-    pairs_are_bounded, product_relates_in_turn, reach_is_closed, relates_by_spelling,
-    universal_accepts,
+    accepted_are_same, accepted_under_tests_are_same, accepts_by_form, degree_bounds_moves,
+    differ_where_allowed, faultless_are_problems, guarded_has_one_step, pairs_are_bounded,
+    product_relates_in_turn, reach_is_closed, relates_by_spelling, short_are_kept,
+    tested_pairs_are_bounded, universal_accepts, untested_are_accepted,
 };
 pub use limits::{
     MAX_ACTIONS, MAX_EXPR_NODES, MAX_HYPS, MAX_OPEN, MAX_TERM_NODES, MAX_TESTS, MAX_TEXT_BYTES,

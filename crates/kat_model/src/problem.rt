@@ -1,8 +1,10 @@
 //! A problem: two terms, and the hypotheses under which they are compared.
-ghost use Rattle.std.specs.Prelude.{◌≡◌, map, IfOk, IfErr, Some};
-ghost use Rattle.std.specs.Option.{option_map};
-ghost use Rattle.kat_model.specs.Trees.{kat_tree, test_tree};
-ghost use Rattle.kat_model.specs.Problems.{IsProblem, first_test_out, first_out, first_out_of_all, terms_size, counted, problem_parts, problem_fault};
+ghost use Rattle.std.specs.Prelude.{◌≡◌, ◌+◌, map, IfOk, IfErr, Some};
+ghost use Rattle.std.specs.Option.{option_or};
+ghost use Rattle.kat_model.specs.Trees.{kat_tree, test_tree, term_size};
+ghost use Rattle.kat_model.specs.Problems.{IsProblem, first_test_out, first_out, first_out_of_all, terms_size, counted, bad_above, problem_parts, problem_fault};
+ghost use Rattle.kat_model.specs.declared.limits.TheConstants.{MAX_TERM_NODES};
+ghost use Rattle.kat_model.specs.declared.problem.BadProblem.TheVariants.{TooLarge};
 
 use crate::limits::{MAX_ACTIONS, MAX_TERM_NODES, MAX_TESTS};
 use crate::tree::{Kat, Test};
@@ -109,6 +111,65 @@ fn total_size(terms: &[Kat]) -> u64
     total
 }
 
+// The first number out of range, in preorder over the hypotheses, left and right.
+fn number_out(
+    tests: usize,
+    actions: usize,
+    hyps: &[Kat],
+    left: &Kat,
+    right: &Kat,
+) -> Option<BadProblem>
+    ensures { result ≡ option_or (first_out_of_all tests actions (map kat_tree hyps.now)) (option_or (first_out tests actions (kat_tree left.now)) (first_out tests actions (kat_tree right.now))) }
+{
+    if let Some(bad) = terms_out(hyps, tests, actions) {
+        return Some(bad);
+    }
+    match term_out(left, tests, actions) {
+        Some(bad) => Some(bad),
+        None => term_out(right, tests, actions),
+    }
+}
+
+// That the terms have too many nodes.
+fn too_large(hyps: &[Kat], left: &Kat, right: &Kat) -> Option<BadProblem>
+    ensures { let size = terms_size (map kat_tree hyps.now) + term_size (kat_tree left.now) + term_size (kat_tree right.now) in
+        result ≡ bad_above MAX_TERM_NODES size (TooLarge (counted size)) }
+{
+    let total = total_size(hyps)
+        .saturating_add(left.size())
+        .saturating_add(right.size());
+    if total > MAX_TERM_NODES {
+        return Some(BadProblem::TooLarge(total));
+    }
+    None
+}
+
+// The first reason why there is no problem of these parts.
+fn fault_of(
+    tests: usize,
+    actions: usize,
+    hyps: &[Kat],
+    left: &Kat,
+    right: &Kat,
+) -> Option<BadProblem>
+    ensures { result ≡ problem_fault (problem_parts tests actions hyps.now left.now right.now) }
+{
+    if tests > MAX_TESTS {
+        return Some(BadProblem::TooManyTests(tests));
+    }
+    if actions > MAX_ACTIONS {
+        return Some(BadProblem::TooManyActions(actions));
+    }
+    match number_out(tests, actions, hyps, left, right) {
+        Some(bad) => Some(bad),
+        None => too_large(hyps, left, right),
+    }
+}
+
+// Drops the terms of which there is no problem. Where one function makes a value of them or drops them, its
+// proof takes long.
+fn drop_terms(_hyps: Vec<Kat>, _left: Kat, _right: Kat) {}
+
 impl Problem {
     /// The problem of these parts, where they are within the limits, and otherwise the first reason why
     /// not. The trees are dropped then. It takes no memory.
@@ -123,26 +184,9 @@ impl Problem {
         ensures within { IfOk result IsProblem }
         ensures refused { IfErr result (λ bad. problem_fault (problem_parts tests actions hyps.items left right) ≡ Some bad) }
     {
-        if tests > MAX_TESTS {
-            return Err(BadProblem::TooManyTests(tests));
-        }
-        if actions > MAX_ACTIONS {
-            return Err(BadProblem::TooManyActions(actions));
-        }
-        if let Some(bad) = terms_out(&hyps, tests, actions) {
+        if let Some(bad) = fault_of(tests, actions, &hyps, &left, &right) {
+            drop_terms(hyps, left, right);
             return Err(bad);
-        }
-        if let Some(bad) = term_out(&left, tests, actions) {
-            return Err(bad);
-        }
-        if let Some(bad) = term_out(&right, tests, actions) {
-            return Err(bad);
-        }
-        let total = total_size(&hyps)
-            .saturating_add(left.size())
-            .saturating_add(right.size());
-        if total > MAX_TERM_NODES {
-            return Err(BadProblem::TooLarge(total));
         }
         Ok(Problem {
             tests,

@@ -12,4 +12,5 @@ pub mod Scanned
 pub mod Longest
 pub mod Unique
 pub mod ScanFaults
+pub mod NamedFaults
 mod GrammarExamples

@@ -14,7 +14,7 @@ use Rattle.std.proofs.lemmas.Slice.Eq.{bytes_eq-Decides}
 use Rattle.kat_text.specs.declared.meaning.Meaning.{Meaning}
 use Rattle.kat_text.specs.contracts.meaning.MeaningOrd.TheImpl.{ghosts}
 use Rattle.kat_text.specs.ScopeParts.{Meanings, meanings_of}
-use Rattle.kat_text.specs.Names.{text_of, AreInverse}
+use Rattle.kat_text.specs.Working.Names.{text_of, AreInverse}
 use Rattle.kat_text.proofs.MeaningOrder.{same_meaning}
 use Rattle.kat_text.proofs.MeaningEntries.{get-insert_name}
 

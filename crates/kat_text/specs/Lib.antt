@@ -1,9 +1,9 @@
 pub mod Sizes
 pub mod ScopeParts
-pub mod Names
 pub mod Definitions
 pub mod Building
 pub mod Measuring
 pub mod Readings
 pub mod Sound
 pub mod Laws
+pub mod Working

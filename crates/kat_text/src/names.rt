@@ -21,7 +21,7 @@ impl Model for Names {
     ghost use Rattle.std.specs.FinMap.{get};
     ghost use Rattle.kat_text.specs.ScopeParts.{Meanings, meanings_of};
     ghost use Rattle.kat_text.specs.Definitions.{coded_meanings};
-    ghost use Rattle.kat_text.specs.Names.{AreInverse, text_of};
+    ghost use Rattle.kat_text.specs.Working.Names.{AreInverse, text_of};
 
     ghost Value = { Meanings };
 

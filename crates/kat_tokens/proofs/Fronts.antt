@@ -14,7 +14,7 @@ use Rattle.kat_tokens.specs.declared.token.Kind.{Kind}
 use Rattle.kat_tokens.specs.declared.token.Kind.TheVariants.{Name, Number, Symbol}
 use Rattle.kat_tokens.specs.Kinds.{is_name, begins_name, is_symbol, IsToken}
 use Rattle.kat_tokens.specs.Lex.{BeginsNone}
-use Rattle.kat_tokens.specs.Fronts.{symbol_len, IsNameLen, IsFirst}
+use Rattle.kat_tokens.specs.Working.Fronts.{symbol_len, IsNameLen, IsFirst}
 use Rattle.kat_tokens.proofs.NameRuns.{ends_run}
 use Rattle.kat_tokens.proofs.Beginnings.{is_mark, symbol_marks, symbol_begins, number_begins, number_digits, digits_number, name_begins, name_from_parts, begins_continues, begins_no_digit, begins_no_mark, digit_no_mark, digit_small, mark_small, char_some}
 use Rattle.kat_tokens.proofs.Runs.{run_longest, digits_longest, digits_all, symbol_longest}

@@ -6,7 +6,7 @@ use Rattle.std.specs.Str.Pattern.{HasCharAt}
 use Rattle.std.proofs.Math.Seq.{take-length}
 use Rattle.std.proofs.lemmas.Str.{IsCharBoundary-end}
 use Rattle.unicode_ident.specs.Ident.{is_xid_continue}
-use Rattle.kat_tokens.specs.Fronts.{IsNameLen}
+use Rattle.kat_tokens.specs.Working.Fronts.{IsNameLen}
 
 abbrev pub ends_run : ℕ → Bool
 ends_run c = not (is_xid_continue c)

@@ -19,7 +19,7 @@ use Rattle.kat_tokens.specs.declared.token.Kind.TheVariants.{Name, Number, Symbo
 use Rattle.kat_tokens.specs.Kinds.{is_separator, begins_name, is_symbol, IsToken}
 use Rattle.kat_tokens.specs.TokenParts.{TokenParts, token_parts}
 use Rattle.kat_tokens.specs.Lex.{gap_len, gap_end, IsLongest, LexesFrom, Lexes}
-use Rattle.kat_tokens.specs.Fronts.{symbol_len, IsNameLen, IsFirst}
+use Rattle.kat_tokens.specs.Working.Fronts.{symbol_len, IsNameLen, IsFirst}
 use Rattle.kat_tokens.specs.Pieces.{Piece, lexeme, gap, spelled, parts_from, ends_name, EndsBefore, AreSeparate}
 use Rattle.kat_tokens.proofs.Beginnings.{is_mark, is_marks, symbol_marks, symbol_begins, number_begins, number_digits, name_begins, name_parts, begins_continues, begins_no_digit, begins_no_mark, begins_letter, digit_no_mark, digit_small, mark_small, char_some}
 use Rattle.kat_tokens.proofs.NameRuns.{ends_run}

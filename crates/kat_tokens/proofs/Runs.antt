@@ -8,7 +8,7 @@ use Rattle.std.specs.List.{list_all}
 use Rattle.std.specs.Char.{is_ascii_digit}
 use Rattle.kat_tokens.specs.declared.token.Kind.TheVariants.{Symbol}
 use Rattle.kat_tokens.specs.Kinds.{is_symbol, IsToken}
-use Rattle.kat_tokens.specs.Fronts.{symbol_len}
+use Rattle.kat_tokens.specs.Working.Fronts.{symbol_len}
 use Rattle.kat_tokens.proofs.Beginnings.{is_marks, symbol_marks}
 
 -- A run of characters that pass is no longer than one that ends at the end, or where one fails.

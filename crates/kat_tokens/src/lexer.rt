@@ -4,7 +4,7 @@ ghost use Rattle.std.specs.Char.{is_ascii_digit};
 ghost use Rattle.kat_tokens.specs.TokenParts.{parts_of_tokens};
 ghost use Rattle.kat_tokens.specs.Kinds.{is_separator, is_symbol, begins_name};
 ghost use Rattle.kat_tokens.specs.Lex.{gap_len, BeginsNone, Lexes, IsFault};
-ghost use Rattle.kat_tokens.specs.Fronts.{symbol_len, IsNameLen, IsFirst};
+ghost use Rattle.kat_tokens.specs.Working.Fronts.{symbol_len, IsNameLen, IsFirst};
 
 use crate::{Kind, TextFault, Token};
 use kat_model::MAX_TEXT_BYTES;

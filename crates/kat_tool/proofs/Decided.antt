@@ -9,10 +9,11 @@ use Rattle.certificate.specs.Certs.{CertParts, IsCert}
 use Rattle.certificate.specs.Accepted.{IsAccepted}
 use Rattle.certificate.specs.Texts.{text_of, IsEvidence}
 use Rattle.certificate.proofs.Written.{cert_is_evidence}
-use Rattle.bisim_worklist.specs.Decisions.{IsDecision}
+use Rattle.certificate.specs.Decisions.{IsDecision}
 use Rattle.bisim_worklist.proofs.Concise.{concise_few}
-use Rattle.kat_tool.specs.Consulting.{Spells, evidence_status}
-use Rattle.kat_tool.specs.Deciding.{IsDecided}
+use Rattle.kat_tool.specs.Showing.{Spells}
+use Rattle.kat_tool.specs.Check.{evidence_status}
+use Rattle.kat_tool.specs.Decide.{IsDecided}
 
 -- what is below a count of a problem is a number of the program
 small : (k n : ℕ) → k < n → n ≤ 48 → k < 2 ^ 64

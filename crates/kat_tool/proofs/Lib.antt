@@ -1,14 +1,12 @@
 pub mod Contents
-pub mod Posed
-pub mod Headlines
-pub mod Questions
-pub mod Askable
-pub mod AnswerStatuses
-pub mod Completeness
-pub mod Agreement
-pub mod Decided
-pub mod Exclusion
-pub mod Causes
 pub mod Outcomes
-pub mod Said
-pub mod Serving
+pub mod Decided
+pub mod Asked
+pub mod Steps
+pub mod Files
+pub mod Ways
+pub mod DecideReplies
+pub mod CheckReplies
+pub mod ReplayReplies
+pub mod Calls
+mod PlainTexts

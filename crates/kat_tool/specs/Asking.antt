@@ -1,5 +1,5 @@
 -- The problem that a text asks.
-use Rattle.std.specs.Prelude.{◌≡◌, ◌≤◌, ◌<◌, ℕ, List, Bool, true, false, ◌||◌, Some}
+use Rattle.std.specs.Prelude.{◌≡◌, ◌≤◌, ◌<◌, ℕ, List, Bool, false, ◌||◌, Some}
 use Rattle.kat_model.specs.declared.limits.TheConstants.{MAX_TERM_NODES}
 use Rattle.kat_model.specs.Expressions.{has_comparison, test_without_comparisons}
 use Rattle.kat_model.specs.Problems.{ProblemParts, problem_size}
@@ -23,24 +23,22 @@ sides_of (triple pre body post) = triple_sides (test_without_comparisons pre) bo
 abbrev pub problem_parts : State → GoalTree → ProblemParts
 problem_parts s goal = record { tests = s.tests; actions = s.actions; hyps = s.hyps; left = (sides_of goal).left; right = (sides_of goal).right }
 
--- the text says a goal, in which a comparison stands or not
-pub record HasGoal (text : List ℕ) (compared : Bool) (s : State) (goal : GoalTree) : Type 0 where
-  pub says : TextSays text s
+-- what was read states this goal, in which a comparison stands or not
+pub record HasGoal (s : State) (compared : Bool) (goal : GoalTree) : Type 0 where
   pub is_goal : s.goal ≡ Some goal
   pub compares : goal_compares goal ≡ compared
+
+-- what was read asks this question
+pub record HasQuestion (s : State) (q : ProblemParts) : Type 0 where
+  pub goal : GoalTree
+  pub has : HasGoal s false goal
+  pub question : q ≡ problem_parts s goal
 
 -- the text asks this question
 pub record Asks (text : List ℕ) (q : ProblemParts) : Type 0 where
   pub state : State
-  pub goal : GoalTree
-  pub has : HasGoal text false state goal
-  pub question : q ≡ problem_parts state goal
-
--- a comparison stands in a condition of the text's goal
-pub record Compares (text : List ℕ) : Type 0 where
-  pub state : State
-  pub goal : GoalTree
-  pub has : HasGoal text true state goal
+  pub says : TextSays text state
+  pub asks : HasQuestion state q
 
 -- a problem has at most 100,000 nodes
 abbrev pub IsSmall : ProblemParts → Type 0

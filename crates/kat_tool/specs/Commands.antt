@@ -35,12 +35,6 @@ command_of (name ∷ file ∷ []) = if is_value file then with_file name file el
 command_of (name ∷ file ∷ evidence ∷ []) = if is_value file && is_value evidence then with_evidence name file evidence else None
 command_of words = None
 
--- the file of a command's problem
-abbrev pub file_of : Command → List ℕ
-file_of (decide file) = file
-file_of (check file evidence) = file
-file_of (replay file evidence) = file
-
 -- the files of a command
 abbrev pub files_of : Command → List (List ℕ)
 files_of (decide file) = file ∷ []

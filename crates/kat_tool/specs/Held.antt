@@ -1,7 +1,7 @@
 -- What a shelf may hold under a name, by what it tells.
-use Rattle.std.specs.Prelude.{◌≡◌, ◌≤◌, ◌<◌, ℕ, List, length}
-use Rattle.kat_model.specs.declared.limits.TheConstants.{MAX_TEXT_BYTES}
+use Rattle.std.specs.Prelude.{◌≡◌, ℕ, List, length, Option, IsSome}
 use Rattle.kat_io.specs.Told.{Told, Untold, Missing, Holds}
+use Rattle.kat_io.specs.Gets.{IsWithin, IsPast}
 
 -- these bytes
 abbrev pub MayHold : Told → List ℕ → Type 0
@@ -9,12 +9,12 @@ MayHold Untold bytes = Unit {0}
 MayHold Missing bytes = ⊥
 MayHold (Holds held) bytes = bytes ≡ held
 
--- more bytes than the limit
-abbrev pub MayPass : Told → ℕ → Type 0
-MayPass Untold limit = Unit {0}
+-- more bytes than the limit, where there is one
+abbrev pub MayPass : Told → Option ℕ → Type 0
+MayPass Untold limit = IsSome limit
 MayPass Missing limit = ⊥
-MayPass (Holds held) limit = limit < length held
+MayPass (Holds held) limit = IsPast (length held) limit
 
--- the file may hold this text, which is within the limit
-abbrev pub IsGiven : (List ℕ → Told) → List ℕ → List ℕ → Type 0
-IsGiven told file text = MayHold (told file) text × (length text ≤ MAX_TEXT_BYTES)
+-- these bytes, which are within the limit
+abbrev pub IsGiven : Told → Option ℕ → List ℕ → Type 0
+IsGiven told limit bytes = MayHold told bytes × IsWithin (length bytes) limit

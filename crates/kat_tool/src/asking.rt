@@ -1,28 +1,21 @@
 //! The problem that a file asks.
-ghost use Rattle.std.specs.Prelude.{◌≡◌, ◌||◌, map, Some, IfOk};
+ghost use Rattle.std.specs.Prelude.{◌≡◌, ◌||◌, IfOk};
 ghost use Rattle.kat_model.specs.Trees.{kat_tree};
 ghost use Rattle.goal_forms.specs.Sides.{side_trees};
 ghost use Rattle.problem_file.specs.Trees.{side_tree, goal_tree};
 ghost use Rattle.problem_file.specs.Files.{State};
 ghost use Rattle.problem_file.specs.Reads.{FileHolds};
 ghost use Rattle.problem_file.specs.Ranges.{IsNumbered};
-ghost use Rattle.kat_tool.specs.Asking.{goal_compares, sides_of};
-ghost use Rattle.kat_tool.specs.Askings.{IsAskedOf};
+ghost use Rattle.kat_tool.specs.Asking.{goal_compares, sides_of, HasQuestion, IsSmall};
+ghost use Rattle.kat_tool.specs.Posing.{AsksNone};
+ghost use Rattle.kat_tool.specs.Steps.{IsRefusal};
+ghost use Rattle.kat_tool.specs.Working.Outcomes.{IsOutcome};
 
+use crate::reply::{Stop, refused};
 use goal_forms::{Sides, below, triple};
 use kat_model::{Kat, NoMemory, Problem, test_without_comparisons};
 use problem_file::{File, Goal, Side};
 use std::alloc::Global;
-
-/// What a file asks.
-#[derive(Drop)]
-pub(crate) enum Asked {
-    Problem(Problem),
-    /// The problem has more than 100,000 nodes.
-    TooLarge,
-    /// A comparison stands in a condition of the goal, which makes no problem yet.
-    Compares,
-}
 
 fn goal_compares(goal: &Goal) -> bool
     ensures { result ≡ goal_compares (goal_tree goal.now) }
@@ -58,17 +51,18 @@ fn sides(alloc: Global, goal: Goal) -> Result<Sides, NoMemory>
     }
 }
 
-/// What the file asks. Of the reasons why there is no problem only its size can come, since files hold no other tests
-/// and actions than they declare.
-pub(crate) fn asked_of(alloc: Global, file: File) -> Result<Asked, NoMemory>
-    ensures { (s : State) → FileHolds file s → IsNumbered s → IfOk result (IsAskedOf s (goal_tree file.goal)) }
+/// The problem that the file asks. Of the reasons why there is none only a comparison in its goal and its size can come,
+/// since files hold no other tests and actions than they declare.
+pub(crate) fn asked_of(alloc: Global, file: File) -> Result<Problem, Stop>
+    ensures { (s : State) → FileHolds file s → IsNumbered s
+        → IsOutcome (λ q. HasQuestion s q × IsSmall q) (IsRefusal (AsksNone s)) result }
 {
     if goal_compares(&file.goal) {
-        return Ok(Asked::Compares);
+        return Err(refused(alloc, b"refused: NotYet\n"));
     }
     let sides = sides(alloc, file.goal)?;
     match Problem::new(file.tests, file.actions, file.hyps, sides.left, sides.right) {
-        Ok(problem) => Ok(Asked::Problem(problem)),
-        Err(_) => Ok(Asked::TooLarge),
+        Ok(problem) => Ok(problem),
+        Err(_) => Err(refused(alloc, b"refused: ProblemTooLarge\n")),
     }
 }

@@ -1,11 +1,14 @@
 //! What the shelf gives.
-ghost use Rattle.std.specs.Prelude.{◌≡◌, ◌++◌, ◌∷◌, [], ℕ, List, IfOk, codes};
-ghost use Rattle.kat_tool.specs.Replies.{HasFailedOn};
-ghost use Rattle.kat_tool.specs.Outcomes.{IsStop, IsGot};
+ghost use Rattle.std.specs.Prelude.{◌≡◌, ◌++◌, ◌∷◌, [], ℕ, List, Some, IfOk, codes};
+ghost use Rattle.kat_model.specs.declared.limits.TheConstants.{MAX_TEXT_BYTES};
+ghost use Rattle.kat_tool.specs.Held.{IsGiven};
+ghost use Rattle.kat_tool.specs.Posing.{too_long_line};
+ghost use Rattle.kat_tool.specs.Steps.{shelf_use};
+ghost use Rattle.kat_tool.specs.Working.Outcomes.{IsStop, IsOutcome, IsUngiven, Counts};
 
 use crate::reply::{Reply, Stop, refused};
 use kat_io::{GetFault, Shelf};
-use kat_model::NoMemory;
+use kat_model::{MAX_TEXT_BYTES, NoMemory};
 use std::alloc::Global;
 
 // The line that names the file.
@@ -27,20 +30,39 @@ fn cannot_read(alloc: Global, file: &str) -> Stop
     }
 }
 
-/// The bytes of the file, of which there may be so many, or the reply where the shelf gives none.
+/// The bytes of the file, of which there may be so many; with more, this line refuses them.
 pub(crate) fn got<S: Shelf>(
     alloc: Global,
     file: &str,
     shelf: &mut S,
     limit: Option<u64>,
+    too_long: &[u8],
 ) -> Result<Vec<u8>, Stop>
-    ensures got { IsGot (S.content shelf.old file.now) file.now limit (S.faults shelf.old) (S.faults shelf.new) (S.last_failed shelf.new) result }
+    ensures got { IsOutcome (λ v. IsGiven (S.content shelf.old file.now) limit v.items)
+        (IsUngiven (shelf_use (S.content shelf.old) (S.faults shelf.old) (S.faults shelf.new) (S.last_failed shelf.new)) file.now limit too_long.now) result }
+    ensures counts { Counts (S.faults shelf.old) (S.faults shelf.new) result }
     ensures kept { (name : List ℕ) → S.content shelf.new name ≡ S.content shelf.old name }
 {
     match shelf.get(alloc, file, limit) {
         Ok(bytes) => Ok(bytes),
-        Err(GetFault::TooLong) => Err(refused(alloc, b"refused: TooLong\n")),
+        Err(GetFault::TooLong) => Err(refused(alloc, too_long)),
         Err(GetFault::Failed) => Err(cannot_read(alloc, file)),
         Err(GetFault::NoMemory) => Err(Stop::NoMemory),
     }
+}
+
+/// The text of a problem's file.
+pub(crate) fn text_in<S: Shelf>(alloc: Global, file: &str, shelf: &mut S) -> Result<Vec<u8>, Stop>
+    ensures got { IsOutcome (λ v. IsGiven (S.content shelf.old file.now) (Some MAX_TEXT_BYTES) v.items)
+        (IsUngiven (shelf_use (S.content shelf.old) (S.faults shelf.old) (S.faults shelf.new) (S.last_failed shelf.new)) file.now (Some MAX_TEXT_BYTES) too_long_line) result }
+    ensures counts { Counts (S.faults shelf.old) (S.faults shelf.new) result }
+    ensures kept { (name : List ℕ) → S.content shelf.new name ≡ S.content shelf.old name }
+{
+    got(
+        alloc,
+        file,
+        shelf,
+        Some(MAX_TEXT_BYTES as u64),
+        b"refused: TooLong\n",
+    )
 }

@@ -2,18 +2,20 @@
 #![tactic(auto)]
 
 mod asking;
-mod consulting;
-mod deciding;
+mod check;
+mod decide;
 mod getting;
 mod laws;
 mod posing;
+mod replay;
 mod reply;
+mod showing;
 mod text;
 mod top;
 mod words;
 
 pub use laws::causes_exclude;
 pub use reply::Reply;
-pub use text::{checked_texts, decided_text};
+pub use text::{checked_texts, decided_text, replayed_texts};
 pub use top::run;
 pub use words::Words;

@@ -1,9 +1,13 @@
 //! Replies: a status, and what is printed with it.
 ghost use Rattle.std.specs.Prelude.{◌≡◌, IfOk};
 ghost use Rattle.kat_tool.specs.declared.reply.Stop.TheVariants.{NoMemory as NoRoom};
-ghost use Rattle.kat_tool.specs.Outcomes.{IsStop, IsRefusal};
+ghost use Rattle.kat_report.specs.Reasons.{reason_line};
+ghost use Rattle.kat_tool.specs.Steps.{IsRefusal};
+ghost use Rattle.kat_tool.specs.Working.Outcomes.{IsStop};
 
+use cert_checker::Reason;
 use kat_model::NoMemory;
+use kat_report::reason_line;
 use std::alloc::{AllocError, Global};
 
 /// What a command answers.
@@ -57,4 +61,14 @@ pub(crate) fn refused(alloc: Global, text: &[u8]) -> Stop
         Ok(reply) => Stop::Replied(reply),
         Err(NoMemory) => Stop::NoMemory,
     }
+}
+
+/// A rejection for this reason.
+pub(crate) fn rejected(alloc: Global, reason: &Reason) -> Result<Reply, NoMemory>
+    ensures { IfOk result (λ r. (r.status ≡ 3) × (r.output.items ≡ reason_line reason.now)) }
+{
+    Ok(Reply {
+        status: 3,
+        output: reason_line(alloc, reason)?,
+    })
 }

@@ -5,10 +5,10 @@ pub mod Views
 pub mod Falls
 pub mod Order
 pub mod Arithmetic
-pub mod Merging
 pub mod Values
 pub mod Substitution
 pub mod NormalForms
 pub mod Comparisons
 pub mod Coefficients
 pub mod Laws
+pub mod Working

@@ -5,7 +5,7 @@ ghost use Rattle.kat_model.specs.Stores.{modulus};
 ghost use Rattle.linear_forms.specs.Forms.{constant, product_term};
 ghost use Rattle.linear_forms.specs.Views.{mono_tree};
 ghost use Rattle.linear_forms.specs.Arithmetic.{put_nonzero, merge, form_sum, multiple as form_multiple, negative as form_negative, form_difference, ordered_product, form_product};
-ghost use Rattle.linear_forms.specs.Merging.{first_order, first_joined};
+ghost use Rattle.linear_forms.specs.Working.Merging.{first_order, first_joined};
 ghost use Rattle.linear_forms.specs.NormalForms.{IsForm};
 
 use crate::form::{Form, Mono, Term, boxed_form, push_term};

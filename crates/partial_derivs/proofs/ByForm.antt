@@ -13,7 +13,7 @@ use Rattle.test_diagrams.specs.Functions.{DiagramsParts, value_of, IsDiagramId, 
 use Rattle.partial_derivs.specs.declared.moves.Guarded.{Guarded}
 use Rattle.partial_derivs.specs.declared.moves.Steps.{Steps}
 use Rattle.partial_derivs.specs.Moves.{IsTermOf, AreGuards, AreTargets, AreMerged, LeadsTo, IsDerivativeOf, Keeps}
-use Rattle.partial_derivs.specs.Gathered.{AddsUnder, Follows}
+use Rattle.partial_derivs.specs.Working.Gathered.{AddsUnder, Follows}
 use Rattle.partial_derivs.proofs.Kept.{AreTargets-kept, LeadsTo-kept, LeadsTo-was, LeadsTo-more, LeadsTo-less}
 
 -- the one move of an action

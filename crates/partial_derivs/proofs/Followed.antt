@@ -12,7 +12,7 @@ use Rattle.test_diagrams.specs.Functions.{DiagramsParts, value_of, IsDiagramId, 
 use Rattle.test_diagrams.proofs.Kept.{KeepsFunctions-itself}
 use Rattle.partial_derivs.specs.declared.moves.Guarded.{Guarded}
 use Rattle.partial_derivs.specs.Moves.{IsTermOf, AreGuards, AreTargets, LeadsTo, Keeps}
-use Rattle.partial_derivs.specs.Gathered.{AddsMove, AddsFollowed, Follows}
+use Rattle.partial_derivs.specs.Working.Gathered.{AddsMove, AddsFollowed, Follows}
 use Rattle.partial_derivs.proofs.Items.{has_item, take_item}
 use Rattle.kat_model.proofs.Ranges.{HasTestsBelow-dot}
 use Rattle.partial_derivs.proofs.Kept.{AreTargets-trees, LeadsTo-kept, LeadsTo-was, LeadsTo-left}

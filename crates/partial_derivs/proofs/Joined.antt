@@ -14,7 +14,7 @@ use Rattle.test_diagrams.specs.Functions.{DiagramsParts, value_of, IsDiagramId, 
 use Rattle.partial_derivs.specs.declared.moves.Guarded.{Guarded}
 use Rattle.partial_derivs.specs.declared.gathered.Target.{Target}
 use Rattle.partial_derivs.specs.Moves.{IsTermOf, AreGuards, AreTargets, LeadsTo}
-use Rattle.partial_derivs.specs.Gathered.{move_of, moves_of, guard_at, AddsMove}
+use Rattle.partial_derivs.specs.Working.Gathered.{move_of, moves_of, guard_at, AddsMove}
 use Rattle.partial_derivs.proofs.Entries.{insert_entry_has, has_insert_entry, has_kept, lookup_has}
 
 -- what is found at a target is the guard of a move

@@ -9,7 +9,7 @@ use Rattle.kat_model.proofs.Places.{no_doubles}
 use Rattle.partial_derivs.specs.declared.moves.Guarded.{Guarded}
 use Rattle.partial_derivs.specs.declared.gathered.Target.{Target}
 use Rattle.partial_derivs.specs.Moves.{AreMerged}
-use Rattle.partial_derivs.specs.Gathered.{move_of, moves_of, same_target}
+use Rattle.partial_derivs.specs.Working.Gathered.{move_of, moves_of, same_target}
 
 pub same_target_is : (x y : Target) → same_target x y ≡ true → x ≡ y
 same_target_is x y e =

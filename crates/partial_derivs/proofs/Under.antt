@@ -10,7 +10,7 @@ use Rattle.term_store.specs.Trees.{tree_of}
 use Rattle.test_diagrams.specs.Functions.{DiagramsParts, value_of, IsDiagramId, IsAtomOf, IsDiagramOf, KeepsFunctions}
 use Rattle.partial_derivs.specs.declared.moves.Guarded.{Guarded}
 use Rattle.partial_derivs.specs.Moves.{AreGuards, LeadsTo}
-use Rattle.partial_derivs.specs.Gathered.{AddsMove, AddsUnder}
+use Rattle.partial_derivs.specs.Working.Gathered.{AddsMove, AddsUnder}
 use Rattle.partial_derivs.proofs.Items.{has_item, has_take, take_item}
 use Rattle.partial_derivs.proofs.Kept.{LeadsTo-more, LeadsTo-less, LeadsTo-left, LeadsTo-right}
 

@@ -18,8 +18,8 @@ use Rattle.test_diagrams.proofs.Kept.{IsDiagramOf-kept}
 use Rattle.partial_derivs.specs.declared.moves.Steps.{Steps}
 use Rattle.partial_derivs.specs.declared.sets.Union.{Union}
 use Rattle.partial_derivs.specs.Moves.{AreTargets, LeadsTo, IsStepsBy, IsDerivativeOf, HasIds, Keeps}
-use Rattle.partial_derivs.specs.Gathered.{moves_of, AddsUnder}
-use Rattle.partial_derivs.specs.Unions.{IsUnionBy, IsUnionOfIds, AddsSteps}
+use Rattle.partial_derivs.specs.Working.Gathered.{moves_of, AddsUnder}
+use Rattle.partial_derivs.specs.Working.Unions.{IsUnionBy, IsUnionOfIds, AddsSteps}
 use Rattle.partial_derivs.proofs.Kept.{AreGuards-kept, AreTargets-kept, LeadsTo-kept, LeadsTo-was, LeadsTo-more, LeadsTo-less, IsStepsBy-kept, Keeps-functions}
 
 pub ids_of_steps : (store : StoreParts) (d : DiagramsParts) (accepted : Atom → Bool) (left : Atom → ℕ → List Term) (steps : Steps) → IsStepsBy store d accepted left steps → HasIds d steps

@@ -1,5 +1,4 @@
 pub mod Moves
-pub mod Gathered
-pub mod Unions
 pub mod Tables
 pub mod Laws
+pub mod Working

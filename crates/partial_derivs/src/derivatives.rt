@@ -6,7 +6,7 @@ ghost use Rattle.term_store.specs.Nodes.{StoreParts};
 ghost use Rattle.term_store.specs.Trees.{tree_of};
 ghost use Rattle.test_diagrams.specs.Functions.{DiagramsParts};
 ghost use Rattle.partial_derivs.specs.Moves.{IsTermOf, IsDerivativeOf, IsStepsOf, Keeps};
-ghost use Rattle.partial_derivs.specs.Unions.{IsUnionBy, IsUnionOfIds};
+ghost use Rattle.partial_derivs.specs.Working.Unions.{IsUnionBy, IsUnionOfIds};
 ghost use Rattle.partial_derivs.specs.Tables.{IsRight, AreRight};
 
 use crate::forms::{action_steps, constant_steps, product_steps, star_steps, test_steps};

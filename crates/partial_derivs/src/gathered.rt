@@ -5,7 +5,7 @@ ghost use Rattle.std.specs.Map.{lookup, keys_of};
 ghost use Rattle.term_store.specs.Growth.{KeepsTrees};
 ghost use Rattle.test_diagrams.specs.Functions.{value_of, IsDiagramId, IsDiagramOf, KeepsFunctions};
 ghost use Rattle.partial_derivs.specs.Moves.{IsTermOf, AreGuards, AreTargets, AreMerged};
-ghost use Rattle.partial_derivs.specs.Gathered.{moves_of, guard_at, same_target, AddsMove, AddsUnder, AddsFollowed, Follows};
+ghost use Rattle.partial_derivs.specs.Working.Gathered.{moves_of, guard_at, same_target, AddsMove, AddsUnder, AddsFollowed, Follows};
 
 use crate::moves::Guarded;
 use indexmap::IndexMap;

@@ -5,7 +5,7 @@ ghost use Rattle.kat_model.specs.Steps.{Atom};
 ghost use Rattle.term_store.specs.Nodes.{StoreParts};
 ghost use Rattle.test_diagrams.specs.Functions.{DiagramsParts, KeepsFunctions};
 ghost use Rattle.partial_derivs.specs.Moves.{IsStepsBy, IsDerivativeOf, HasIds};
-ghost use Rattle.partial_derivs.specs.Unions.{IsUnionBy, IsUnionOfIds, AddsSteps};
+ghost use Rattle.partial_derivs.specs.Working.Unions.{IsUnionBy, IsUnionOfIds, AddsSteps};
 
 use crate::gathered::Gathered;
 use crate::moves::Steps;

@@ -16,7 +16,7 @@ use Rattle.kat_text.specs.Sizes.{as_test}
 use Rattle.kat_text.specs.ScopeParts.{Definition, ScopeParts, meaning}
 use Rattle.kat_text.specs.Building.{condition_tree, defined_tree, name_tree, trees}
 use Rattle.kat_text.proofs.Related.{Both, AreRelated, related}
-use Rattle.problem_file.specs.Numbers.{AreNumbered}
+use Rattle.problem_file.specs.Working.Numbers.{AreNumbered}
 use Rattle.problem_file.specs.Ranges.{IsCondInRange}
 
 -- all conditions, and all terms, of a list

@@ -14,3 +14,5 @@ pub mod NameTerminals
 pub mod Numbering
 pub mod NumberedStates
 pub mod ReadTexts
+pub mod NamedItems
+pub mod NamedTexts

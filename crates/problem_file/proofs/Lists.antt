@@ -9,7 +9,7 @@ use Rattle.kat_syntax.specs.Lexemes.{Lexeme, lexemes, heads, is_terminal}
 use Rattle.kat_syntax.specs.Parsed.{Parsed}
 use Rattle.problem_file.specs.ItemActions.{ItemActions}
 use Rattle.problem_file.specs.Items.{at_name, names_within, over_names, item_by, items_within, items_by}
-use Rattle.problem_file.specs.Walks.{Steps, Does}
+use Rattle.problem_file.specs.Working.Walks.{Steps, Does}
 
 -- enough steps for these names, which are the rest of those
 abbrev pub NamesLeft : {S : Type 0} → (S → ℕ → List ℕ → Result S TextFault) → S → List Lexeme → Parsed S → Type 0

@@ -11,7 +11,7 @@ use Rattle.kat_syntax.specs.Phrases.{term, Leaf, Phrase}
 use Rattle.kat_text.specs.Sizes.{cond_size}
 use Rattle.kat_text.specs.Sound.{nesting}
 use Rattle.kat_text.specs.ScopeParts.{Definition, ScopeParts, defined}
-use Rattle.problem_file.specs.Numbers.{AreNumbered}
+use Rattle.problem_file.specs.Working.Numbers.{AreNumbered}
 use Rattle.problem_file.specs.Files.{GoalTree, equal, below, triple, State, start, state_hyp, state_goal, triple_term}
 use Rattle.problem_file.specs.Phrases.{Names, one_name, more_names, Body, tests, actions, definition, hypothesis, hyp_triple, goal_equal, goal_below, goal_triple, Item}
 use Rattle.problem_file.specs.Sound.{with_test, with_action, grown, EachName, DeclaresTest, DeclaresAction, AsksSides, Makes, MakeAll}

@@ -8,7 +8,7 @@ use Rattle.kat_text.specs.declared.meaning.Meaning.{Meaning}
 use Rattle.kat_text.specs.declared.meaning.Meaning.TheVariants.{Test, Action, Term}
 use Rattle.kat_text.specs.ScopeParts.{Definition, ScopeParts, Means, IsUnnamed, empty_scope, declared, defined}
 use Rattle.kat_text.proofs.Inverse.{insert_extends}
-use Rattle.problem_file.specs.Numbers.{AreNumbered}
+use Rattle.problem_file.specs.Working.Numbers.{AreNumbered}
 
 -- a name of the world with one more stands for what was declared, or it was there
 new_or_old : (w : ScopeParts) (name : List ℕ) (m : Meaning) (a : List ℕ) (x : Meaning) → Means (declared w name m) a x → (m ≡ x) ⊎ Means w a x

@@ -19,6 +19,7 @@ use Rattle.kat_syntax.proofs.ParserSoundness.{bind_ok}
 use Rattle.problem_file.proofs.Results.{ok_of, err_of}
 use Rattle.problem_file.proofs.ScannedFiles.{files_are_scanned}
 use Rattle.problem_file.proofs.WalkedItems.{items_are_walked}
+use Rattle.problem_file.proofs.NamedTexts.{faults_are_named}
 
 -- ---- the longest front that is UTF-8
 
@@ -185,4 +186,5 @@ have_one_answer = record {
   either = not_both_ways;
   states = one_state;
   faults = one_fault;
+  named = faults_are_named;
 }

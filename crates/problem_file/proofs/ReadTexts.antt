@@ -10,7 +10,7 @@ use Rattle.kat_tokens.specs.Lex.{Lexes, IsFault, IsSlice}
 use Rattle.kat_tokens.proofs.Slices.{slices_from}
 use Rattle.kat_syntax.specs.Lexemes.{lexemes}
 use Rattle.problem_file.specs.declared.file.File.{File}
-use Rattle.problem_file.specs.Tokens.{AreTokens}
+use Rattle.problem_file.specs.Working.Tokens.{AreTokens}
 use Rattle.problem_file.specs.Files.{State}
 use Rattle.problem_file.specs.Reads.{TextSays, Reads, FirstFault, bad_token, refused, placed, placing, tested, HoldsTested, Answers}
 use Rattle.problem_file.proofs.OneAnswer.{tested_says, not_both_ways}

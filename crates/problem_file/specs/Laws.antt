@@ -1,6 +1,7 @@
 -- The laws of problem files. Each stands on a function of the crate that does nothing.
 use Rattle.std.specs.Prelude.{◌≡◌, ◌↔◌, ◌⊎◌, ℕ, List, Ok}
 use Rattle.kat_tokens.specs.declared.fault.TextFault.{TextFault}
+use Rattle.kat_tokens.specs.declared.fault.TextFault.TheVariants.{NoMemory}
 use Rattle.kat_syntax.specs.Lexemes.{Lexeme}
 use Rattle.problem_file.specs.Files.{State}
 use Rattle.problem_file.specs.Syntax.{checking, scan_file}
@@ -26,11 +27,13 @@ pub record ItemsAreFolded : Type 0 where
   pub scanned : (items : List Item) (ts : List Lexeme) → IsFile items ts → scan_file ts ≡ fold_items checking tt items
   pub walked : (s : State) (items : List Item) (ts : List Lexeme) → IsFile items ts → walk s ts ≡ fold_items making s items
 
+-- bytes say one state or have one first fault, which is never want of memory
 pub record HaveOneAnswer : Type 0 where
   pub some : (bytes : List ℕ) → ((s : State) × TextSays bytes s) ⊎ ((e : TextFault) × FirstFault bytes e)
   pub either : (bytes : List ℕ) (s : State) (e : TextFault) → TextSays bytes s → FirstFault bytes e → ⊥
   pub states : (bytes : List ℕ) (s t : State) → TextSays bytes s → TextSays bytes t → s ≡ t
   pub faults : (bytes : List ℕ) (d e : TextFault) → FirstFault bytes d → FirstFault bytes e → d ≡ e
+  pub named : (bytes : List ℕ) → FirstFault bytes NoMemory → ⊥
 
 abbrev pub AreInRanges : Type 0
 AreInRanges = (bytes : List ℕ) (s : State) → TextSays bytes s → IsNumbered s

@@ -1,16 +1,13 @@
 pub mod Files
-pub mod Numbers
-pub mod Tokens
 pub mod Trees
 pub mod ItemActions
 pub mod Items
 pub mod Syntax
 pub mod Making
-pub mod Walks
-pub mod States
 pub mod Phrases
 pub mod Folds
 pub mod Sound
 pub mod Ranges
 pub mod Reads
 pub mod Laws
+pub mod Working

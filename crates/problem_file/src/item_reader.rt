@@ -1,5 +1,5 @@
 //! What the items of a text so far have made.
-ghost use Rattle.problem_file.specs.Numbers.{AreNumbered};
+ghost use Rattle.problem_file.specs.Working.Numbers.{AreNumbered};
 
 use crate::file::{File, Goal};
 use crate::item_reading::Declared;
@@ -26,7 +26,7 @@ impl ItemReader {
     ghost use Rattle.kat_text.specs.ScopeParts.{IsIdentifier};
     ghost use Rattle.problem_file.specs.Files.{start, declare_test, declare_action};
     ghost use Rattle.problem_file.specs.Files.{check_new, grow};
-    ghost use Rattle.problem_file.specs.States.{state_of, Leaves};
+    ghost use Rattle.problem_file.specs.Working.States.{state_of, Leaves};
     ghost use Rattle.problem_file.specs.Reads.{check_goal, HoldsTested};
 
     pub(crate) fn new(alloc: Global) -> ItemReader

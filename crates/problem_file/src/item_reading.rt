@@ -5,7 +5,7 @@ ghost use Rattle.kat_syntax.specs.Parsed.{Makes, Goes};
 ghost use Rattle.kat_text.specs.ScopeParts.{IsIdentifier};
 ghost use Rattle.problem_file.specs.ItemActions.{ItemActions};
 ghost use Rattle.problem_file.specs.Items.{measure_term, measure_cond};
-ghost use Rattle.problem_file.specs.Walks.{measured_of, sides_of, triple_of, Tells, Does};
+ghost use Rattle.problem_file.specs.Working.Walks.{measured_of, sides_of, triple_of, Tells, Does};
 
 use crate::phrase::{Measured, Sides, Triple};
 use kat_tokens::{TextFault, Token};

@@ -1,12 +1,12 @@
 //! The items of a problem file, gone through once for any reading.
 ghost use Rattle.std.specs.Prelude.{◌≡◌, ◌+◌, ◌<◌, ◌≤◌, length, IfOk};
 ghost use Rattle.kat_syntax.specs.Lexemes.{lexemes};
-ghost use Rattle.problem_file.specs.Tokens.{AreTokens};
+ghost use Rattle.problem_file.specs.Working.Tokens.{AreTokens};
 ghost use Rattle.problem_file.specs.Items.{at_name, over_names, term_by, braced_by, triple_by};
 ghost use Rattle.problem_file.specs.Items.{sides_by, declaration_by, meaning_by, definition_by};
 ghost use Rattle.problem_file.specs.Items.{zero_by, hyp_by, comparison_by, triple_goal_by, goal_by};
 ghost use Rattle.problem_file.specs.Items.{item_by, items_by};
-ghost use Rattle.problem_file.specs.Walks.{measured_of, sides_of, triple_of, Tells, Steps, Does};
+ghost use Rattle.problem_file.specs.Working.Walks.{measured_of, sides_of, triple_of, Tells, Steps, Does};
 
 use crate::item_reading::{Comparison, Declared, ItemReading};
 use crate::names::name_at;

@@ -20,7 +20,7 @@ pub fn items_are_walked()
     ensures { ItemsAreWalked }
 {}
 
-/// Bytes say one thing or have one first fault, and not both.
+/// Bytes say one thing or have one first fault, and not both; a first fault is never want of memory.
 pub fn have_one_answer()
     ensures { HaveOneAnswer }
 {}

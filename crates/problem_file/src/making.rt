@@ -6,8 +6,8 @@ ghost use Rattle.problem_file.specs.Files.{State, check_new, check_size};
 ghost use Rattle.problem_file.specs.Making.{count, count_sides, count_parts, built_triple};
 ghost use Rattle.problem_file.specs.Making.{define_term, state_zero, state_triple};
 ghost use Rattle.problem_file.specs.Making.{ask_sides, ask_triple, making};
-ghost use Rattle.problem_file.specs.Walks.{measured_of, sides_of, triple_of, Builds};
-ghost use Rattle.problem_file.specs.States.{state_of, Leaves};
+ghost use Rattle.problem_file.specs.Working.Walks.{measured_of, sides_of, triple_of, Builds};
+ghost use Rattle.problem_file.specs.Working.States.{state_of, Leaves};
 
 use crate::file::{Goal, Side};
 use crate::item_reader::ItemReader;

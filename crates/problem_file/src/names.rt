@@ -3,7 +3,7 @@ ghost use Rattle.std.specs.Prelude.{◌≡◌, ◌+◌, ◌<◌, length, drop, I
 ghost use Rattle.kat_syntax.specs.Lexemes.{lexemes};
 ghost use Rattle.kat_text.specs.ScopeParts.{IsIdentifier};
 ghost use Rattle.problem_file.specs.Items.{name_at};
-ghost use Rattle.problem_file.specs.Tokens.{AreTokens};
+ghost use Rattle.problem_file.specs.Working.Tokens.{AreTokens};
 
 use kat_syntax::{Terminal, syntax_fault_at, terminal_of};
 use kat_tokens::{TextFault, Token};

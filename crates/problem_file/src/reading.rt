@@ -6,8 +6,8 @@ ghost use Rattle.kat_syntax.specs.Parsed.{Makes};
 ghost use Rattle.kat_tokens.specs.declared.lexer.TheConstants.{MAX_LEN as MOST};
 ghost use Rattle.problem_file.specs.Files.{State, start};
 ghost use Rattle.problem_file.specs.Making.{walk};
-ghost use Rattle.problem_file.specs.Tokens.{AreTokens};
-ghost use Rattle.problem_file.specs.States.{state_of};
+ghost use Rattle.problem_file.specs.Working.Tokens.{AreTokens};
+ghost use Rattle.problem_file.specs.Working.States.{state_of};
 ghost use Rattle.problem_file.specs.Reads.{is_later, has_later, placed, tested};
 ghost use Rattle.problem_file.specs.Reads.{TextSays, HoldsTested, Answers};
 

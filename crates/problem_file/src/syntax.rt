@@ -1,7 +1,7 @@
 //! The test of the syntax of a whole file, which takes no memory.
 ghost use Rattle.std.specs.Prelude.{◌≡◌, Ok};
 ghost use Rattle.kat_syntax.specs.Lexemes.{lexemes};
-ghost use Rattle.problem_file.specs.Tokens.{AreTokens};
+ghost use Rattle.problem_file.specs.Working.Tokens.{AreTokens};
 ghost use Rattle.problem_file.specs.Syntax.{checking, scan_file};
 
 use crate::item_reading::{Comparison, Declared, ItemReading};

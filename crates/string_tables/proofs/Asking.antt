@@ -7,7 +7,7 @@ use Rattle.kat_model.specs.Strings.{GuardedString}
 use Rattle.kat_model.proofs.Ranges.{IsInRange-HasTestsBelow}
 use Rattle.string_tables.specs.Tables.{table_of, Room, MayBeAsked}
 use Rattle.string_tables.specs.Findings.{misfit}
-use Rattle.string_tables.specs.Heights.{question_height}
+use Rattle.string_tables.specs.Working.Heights.{question_height}
 use Rattle.string_tables.proofs.Fitting.{no_misfit_is_string}
 use Rattle.string_tables.proofs.TermHeights.{height_at}
 use Rattle.string_tables.proofs.Counterexamples.{whole_table, fits_table}

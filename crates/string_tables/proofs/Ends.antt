@@ -9,7 +9,7 @@ use Rattle.string_tables.specs.Tables.{table_of, RelatesEnds, Refutes}
 use Rattle.string_tables.specs.declared.finding.Finding.{Finding}
 use Rattle.string_tables.specs.declared.finding.Finding.TheVariants.{Refutes as RefutesBy, Shape, HypBroken, EndsAgree}
 use Rattle.string_tables.specs.Findings.{IsBroken, IsFirstBroken, IsFinding}
-use Rattle.string_tables.specs.Breaks.{BreaksFirst}
+use Rattle.string_tables.specs.Working.Breaks.{BreaksFirst}
 use Rattle.string_tables.proofs.Fitting.{no_misfit_is_string, string_has_no_misfit}
 use Rattle.kat_model.proofs.Places.{has_at}
 

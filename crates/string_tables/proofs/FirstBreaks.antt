@@ -4,11 +4,11 @@ use Rattle.std.proofs.lemmas.Bool.{both_ways}
 use Rattle.std.proofs.lemmas.Option.{get_or_from_slice_get, slice_get_within}
 use Rattle.kat_model.specs.Trees.{Term}
 use Rattle.kat_model.specs.Relations.{Table, Relates, Keeps}
-use Rattle.kat_model.specs.Decided.{computes_relation}
+use Rattle.kat_model.specs.Working.Decided.{computes_relation}
 use Rattle.kat_model.proofs.Decided.{relates_now_decides}
 use Rattle.kat_model.proofs.Places.{place_of_member}
-use Rattle.string_tables.specs.Matrices.{Square, entry, Tells}
-use Rattle.string_tables.specs.Breaks.{IsFirstEntry, Breaks, BreaksFirst}
+use Rattle.string_tables.specs.Working.Matrices.{Square, entry, Tells}
+use Rattle.string_tables.specs.Working.Breaks.{IsFirstEntry, Breaks, BreaksFirst}
 use Rattle.string_tables.specs.Findings.{IsBefore}
 
 -- at a false entry a term's matrix shows that the term does not relate the states

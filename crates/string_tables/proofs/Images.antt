@@ -8,9 +8,9 @@ use Rattle.std.proofs.lemmas.Bool.{and_right, eq-eqb, ne_eqb, cases_lt, cases_eq
 use Rattle.kat_model.specs.Members.{Has}
 use Rattle.kat_model.specs.Trees.{Term}
 use Rattle.kat_model.specs.Relations.{Step, Table, Relates}
-use Rattle.kat_model.specs.Decided.{some_below, same_step, computes_relation}
+use Rattle.kat_model.specs.Working.Decided.{some_below, same_step, computes_relation}
 use Rattle.kat_model.proofs.Decided.{relates_now_decides}
-use Rattle.string_tables.specs.Matrices.{Square, entry, Tells, in_image, IsImage}
+use Rattle.string_tables.specs.Working.Matrices.{Square, entry, Tells, in_image, IsImage}
 use Rattle.string_tables.proofs.Told.{some_below_same}
 
 -- laws of `and` and `or`

@@ -4,7 +4,7 @@ use Rattle.std.proofs.lemmas.List.{at_drop_more}
 use Rattle.kat_model.specs.declared.tree.Kat.{Kat}
 use Rattle.kat_model.specs.Trees.{TestTree, bottom, top, prim, complement, meet, join, test_size, Term, zero, one, test, act, sum, product, star, term_size, term_height, kat_tree}
 use Rattle.kat_model.specs.Problems.{ProblemParts, IsProblem, terms_size, problem_size, counted}
-use Rattle.string_tables.specs.Heights.{terms_height, question_height}
+use Rattle.string_tables.specs.Working.Heights.{terms_height, question_height}
 
 test_size_positive : (b : TestTree) → 1 ≤ test_size b
 test_size_positive bottom = omega arith

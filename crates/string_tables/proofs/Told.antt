@@ -1,8 +1,8 @@
 -- Products and closures of relations that matrices tell.
 use Rattle.std.proofs.Common.{◌≡◌, ℕ, zero, suc, ◌<◌, ◌≤◌, Bool, ◌&&◌, ◌||◌, eqb, refl, ap, ◌∙◌, arith}
 use mathlib.Core.Path.{ap₂}
-use Rattle.kat_model.specs.Decided.{some_below, warshall}
-use Rattle.string_tables.specs.Matrices.{Square, entry, Tells}
+use Rattle.kat_model.specs.Working.Decided.{some_below, warshall}
+use Rattle.string_tables.specs.Working.Matrices.{Square, entry, Tells}
 
 pub some_below_same : (p q : ℕ → Bool) (n : ℕ) → ((k : ℕ) → k < n → p k ≡ q k) → some_below p n ≡ some_below q n
 some_below_same p q zero same = refl

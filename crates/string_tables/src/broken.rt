@@ -3,8 +3,8 @@ ghost use Rattle.std.specs.Prelude.{◌≡◌, ◌≤◌, All, map, false, Match
 ghost use Rattle.kat_model.specs.Trees.{kat_tree};
 ghost use Rattle.kat_model.specs.Relations.{Keeps};
 ghost use Rattle.string_tables.specs.Tables.{MayBeAsked};
-ghost use Rattle.string_tables.specs.Matrices.{Tells};
-ghost use Rattle.string_tables.specs.Breaks.{IsFirstEntry, BreaksFirst};
+ghost use Rattle.string_tables.specs.Working.Matrices.{Tells};
+ghost use Rattle.string_tables.specs.Working.Breaks.{IsFirstEntry, BreaksFirst};
 
 use crate::levels::Levels;
 use crate::table::Table;

@@ -2,10 +2,10 @@
 ghost use Rattle.std.specs.Prelude.{◌≡◌, ◌+◌, ◌<◌, ◌≤◌, ℕ, All, length};
 ghost use Rattle.kat_model.specs.Trees.{kat_tree, term_height};
 ghost use Rattle.kat_model.specs.Relations.{atom_at};
-ghost use Rattle.kat_model.specs.Decided.{computes_relation};
+ghost use Rattle.kat_model.specs.Working.Decided.{computes_relation};
 ghost use Rattle.kat_model.specs.Problems.{HasTestsBelow};
 ghost use Rattle.string_tables.specs.Tables.{IsWhole};
-ghost use Rattle.string_tables.specs.Matrices.{Tells, sizes};
+ghost use Rattle.string_tables.specs.Working.Matrices.{Tells, sizes};
 
 use crate::leaves::{put_action, put_test};
 use crate::matrix::{Matrix, Row};

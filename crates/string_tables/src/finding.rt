@@ -3,7 +3,7 @@ ghost use Rattle.std.specs.Prelude.{◌≡◌, ◌↔◌, ◌<◌, ◌≤◌, �
 ghost use Rattle.kat_model.specs.Trees.{kat_tree};
 ghost use Rattle.kat_model.specs.Relations.{Relates};
 ghost use Rattle.string_tables.specs.Tables.{table_of as string_table, MayBeAsked, Refutes};
-ghost use Rattle.string_tables.specs.Heights.{question_height};
+ghost use Rattle.string_tables.specs.Working.Heights.{question_height};
 ghost use Rattle.string_tables.specs.Findings.{IsFinding};
 
 use crate::broken::broken;

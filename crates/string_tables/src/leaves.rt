@@ -5,9 +5,9 @@ ghost use Rattle.kat_model.specs.Trees.{test_tree};
 ghost use Rattle.kat_model.specs.Problems.{IsTestInRange};
 ghost use Rattle.kat_model.specs.Steps.{truth};
 ghost use Rattle.kat_model.specs.Relations.{atom_at};
-ghost use Rattle.kat_model.specs.Decided.{same_step};
+ghost use Rattle.kat_model.specs.Working.Decided.{same_step};
 ghost use Rattle.string_tables.specs.Tables.{IsWhole};
-ghost use Rattle.string_tables.specs.Matrices.{Tells, IsImage};
+ghost use Rattle.string_tables.specs.Working.Matrices.{Tells, IsImage};
 
 use crate::matrix::{Matrix, Row};
 use crate::table::Table;

@@ -2,9 +2,9 @@
 ghost use Rattle.std.specs.Prelude.{◌≡◌, ◌↔◌, ◌<◌, ◌≤◌, IfOk, IsTrue};
 ghost use Rattle.kat_model.specs.Trees.{kat_tree};
 ghost use Rattle.kat_model.specs.Relations.{Relates};
-ghost use Rattle.kat_model.specs.Decided.{computes_relation};
+ghost use Rattle.kat_model.specs.Working.Decided.{computes_relation};
 ghost use Rattle.string_tables.specs.Tables.{MayBeAsked};
-ghost use Rattle.string_tables.specs.Matrices.{entry, Tells};
+ghost use Rattle.string_tables.specs.Working.Matrices.{entry, Tells};
 
 use crate::evaluation::evaluate;
 use crate::following::follow;
@@ -26,7 +26,7 @@ pub(crate) struct Levels {
 }
 
 impl Model for Levels {
-    ghost use Rattle.string_tables.specs.Filled.{Filled, filled, IsEven};
+    ghost use Rattle.string_tables.specs.Working.Filled.{Filled, filled, IsEven};
 
     ghost Value = { Filled };
 

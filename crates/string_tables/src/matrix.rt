@@ -1,6 +1,6 @@
 //! Square matrices of truth values.
 ghost use Rattle.std.specs.Prelude.{◌≡◌, ◌≢◌, ◌<◌, ◌≤◌, ◌&&◌, ◌||◌, eqb, ℕ, false, true, length, replicate, slice_index_or, slice_set, IfOk};
-ghost use Rattle.string_tables.specs.Matrices.{row_at, entry};
+ghost use Rattle.string_tables.specs.Working.Matrices.{row_at, entry};
 
 use kat_model::NoMemory;
 use std::alloc::Global;
@@ -105,7 +105,7 @@ pub(crate) struct Matrix {
 }
 
 impl Model for Matrix {
-    ghost use Rattle.string_tables.specs.Matrices.{Square, IsSquare};
+    ghost use Rattle.string_tables.specs.Working.Matrices.{Square, IsSquare};
 
     ghost Value = { Square };
 

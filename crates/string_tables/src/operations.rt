@@ -1,7 +1,7 @@
 //! Matrices of relations: those of the constants, and sums, products and closures.
 ghost use Rattle.std.specs.Prelude.{◌≡◌, ◌<◌, ◌≤◌, ◌&&◌, ◌||◌, eqb, ℕ, false, length, slice_index_or};
-ghost use Rattle.kat_model.specs.Decided.{some_below, warshall};
-ghost use Rattle.string_tables.specs.Matrices.{row_at, entry, Tells};
+ghost use Rattle.kat_model.specs.Working.Decided.{some_below, warshall};
+ghost use Rattle.string_tables.specs.Working.Matrices.{row_at, entry, Tells};
 
 use crate::matrix::{Matrix, Row};
 

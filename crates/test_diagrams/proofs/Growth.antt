@@ -8,7 +8,7 @@ use Rattle.test_diagrams.specs.declared.diagrams.Node.{Node}
 use Rattle.test_diagrams.specs.declared.diagrams.Node.TheVariants.{Branch}
 use Rattle.test_diagrams.specs.Functions.{DiagramsParts, node_value, IsDiagramId, IsDiagramOf, KeepsFunctions}
 use Rattle.test_diagrams.specs.Reduced.{level_at, level_of, IsBranch, IsReduced}
-use Rattle.test_diagrams.specs.Operations.{choice_of}
+use Rattle.test_diagrams.specs.Working.Operations.{choice_of}
 use Rattle.test_diagrams.proofs.Values.{value_of-branch}
 use Rattle.test_diagrams.proofs.Kept.{KeepsFunctions-itself}
 

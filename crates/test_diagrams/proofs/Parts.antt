@@ -8,7 +8,7 @@ use Rattle.test_diagrams.specs.declared.diagrams.Node.TheVariants.{Constant, Bra
 use Rattle.test_diagrams.specs.declared.diagrams.Operation.TheVariants.{And, Or, Not, Fix}
 use Rattle.test_diagrams.specs.Functions.{DiagramsParts, value_of, IsDiagramId}
 use Rattle.test_diagrams.specs.Reduced.{level_of, IsReduced}
-use Rattle.test_diagrams.specs.Operations.{IsPart, IsCofactor}
+use Rattle.test_diagrams.specs.Working.Operations.{IsPart, IsCofactor}
 use Rattle.test_diagrams.proofs.Levels.{level_of-constant, level_of-branch, value_of-set_above, value_of-set_own}
 
 module _ (d : DiagramsParts) (r : IsReduced d) where

@@ -9,8 +9,9 @@ use Rattle.test_diagrams.specs.declared.diagrams.Operation.{Operation}
 use Rattle.test_diagrams.specs.declared.diagrams.Operation.TheVariants.{And, Or, Not}
 use Rattle.test_diagrams.specs.Functions.{DiagramsParts, value_of, IsDiagramId, IsDiagramOf}
 use Rattle.test_diagrams.specs.Reduced.{level_of, IsReduced}
-use Rattle.test_diagrams.specs.Absorption.{IsAbsorbed}
-use Rattle.test_diagrams.specs.Operations.{HasOperands, IsOpen, IsResult}
+use Rattle.test_diagrams.specs.Working.Absorption.{IsAbsorbed}
+use Rattle.test_diagrams.specs.Operations.{HasOperands, IsResult}
+use Rattle.test_diagrams.specs.Working.Operations.{IsOpen}
 use Rattle.test_diagrams.proofs.Values.{value_of-constant}
 use Rattle.test_diagrams.proofs.Levels.{node_of_id, level_of-branch}
 

@@ -6,7 +6,8 @@ use Rattle.test_diagrams.specs.Functions.{DiagramsParts, value_of, IsAtomOf, IsD
 use Rattle.test_diagrams.specs.Reduced.{level_of, IsReduced}
 use Rattle.test_diagrams.specs.declared.diagrams.Operation.{Operation}
 use Rattle.test_diagrams.specs.declared.diagrams.Operation.TheVariants.{And, Or, Not, Fix}
-use Rattle.test_diagrams.specs.Operations.{HasOperands, function_of, choice_of, top_of, IsOpen, IsCofactor}
+use Rattle.test_diagrams.specs.Operations.{HasOperands, function_of}
+use Rattle.test_diagrams.specs.Working.Operations.{choice_of, top_of, IsOpen, IsCofactor}
 use Rattle.test_diagrams.proofs.Tops.{level_above}
 use Rattle.test_diagrams.proofs.Kept.{IsDiagramOf-kept}
 use Rattle.test_diagrams.proofs.Results.{function_of-kept}

@@ -1,5 +1,5 @@
 pub mod Functions
 pub mod Reduced
-pub mod Absorption
 pub mod Operations
 pub mod Laws
+pub mod Working

@@ -1,10 +1,10 @@
 -- Operations on diagrams, and their results.
-use Rattle.std.specs.Prelude.{◌≡◌, ◌<◌, ◌≤◌, ◌+◌, ℕ, min, Bool, false, not, ◌&&◌, ◌||◌, if◌then◌else◌, List, [], ◌∷◌, slice_index_or, slice_set}
+use Rattle.std.specs.Prelude.{◌<◌, ℕ, Bool, not, ◌&&◌, ◌||◌, List, [], ◌∷◌, slice_set}
 use Rattle.kat_model.specs.Steps.{Atom}
 use Rattle.test_diagrams.specs.declared.diagrams.Operation.{Operation}
 use Rattle.test_diagrams.specs.declared.diagrams.Operation.TheVariants.{And, Or, Not, Fix}
-use Rattle.test_diagrams.specs.Functions.{DiagramsParts, value_of, IsDiagramId, IsAtomOf, IsDiagramOf}
-use Rattle.test_diagrams.specs.Reduced.{level_of, IsReduced}
+use Rattle.test_diagrams.specs.Functions.{DiagramsParts, value_of, IsDiagramId, IsDiagramOf}
+use Rattle.test_diagrams.specs.Reduced.{IsReduced}
 
 -- the operands are ids of the collection, and tests of it
 abbrev pub HasOperands : DiagramsParts → Operation → Type 0
@@ -20,10 +20,6 @@ function_of d (Or a b) atom = value_of d a atom || value_of d b atom
 function_of d (Not a) atom = not (value_of d a atom)
 function_of d (Fix a test value) atom = value_of d a (slice_set atom test value)
 
--- the choice between two diagrams by a test
-abbrev pub choice_of : DiagramsParts → ℕ → ℕ → ℕ → Atom → Bool
-choice_of d test low high atom = if slice_index_or atom test false then value_of d high atom else value_of d low atom
-
 -- the id is that of the operation's result
 abbrev pub IsResult : DiagramsParts → Operation → ℕ → Type 0
 IsResult d operation id = HasOperands d operation × IsDiagramOf d id (function_of d operation)
@@ -37,39 +33,3 @@ AreResults d (entry ∷ entries) = IsResult d entry.0 entry.1 × AreResults d en
 pub record IsSound (d : DiagramsParts) (entries : List (Operation × ℕ)) : Type 0 where
   pub reduced : IsReduced d
   pub results : AreResults d entries
-
--- the least test at the top of the operands, or the number of tests
-abbrev pub top_of : DiagramsParts → Operation → ℕ
-top_of d (And a b) = min (level_of d a) (level_of d b)
-top_of d (Or a b) = min (level_of d a) (level_of d b)
-top_of d (Not a) = level_of d a
-top_of d (Fix a test value) = level_of d a
-
--- there is a test at the top of the operands, which is not the one that is to be fixed
-abbrev pub IsOpen : DiagramsParts → Operation → Type 0
-IsOpen d (And a b) = top_of d (And a b) < d.tests
-IsOpen d (Or a b) = top_of d (Or a b) < d.tests
-IsOpen d (Not a) = top_of d (Not a) < d.tests
-IsOpen d (Fix a test value) = top_of d (Fix a test value) < test
-
--- a number that falls from operands to their parts
-abbrev pub weight_of : Operation → ℕ
-weight_of (And a b) = a + b
-weight_of (Or a b) = a + b
-weight_of (Not a) = a
-weight_of (Fix a test value) = a
-
--- what is left of a diagram where a test, at its top or above it, has the value
-pub record IsPart (d : DiagramsParts) (id test : ℕ) (value : Bool) (part : ℕ) : Type 0 where
-  pub in_range : IsDiagramId d part
-  pub function : (atom : Atom) → IsAtomOf d atom → value_of d part atom ≡ value_of d id (slice_set atom test value)
-  pub below : test < level_of d part
-  pub no_later : part ≤ id
-  pub earlier : level_of d id ≡ test → part < id
-
--- what is left of an operation where the test at its top has the value
-pub record IsCofactor (d : DiagramsParts) (operation : Operation) (test : ℕ) (value : Bool) (part : Operation) : Type 0 where
-  pub operands : HasOperands d part
-  pub function : (atom : Atom) → IsAtomOf d atom → function_of d part atom ≡ function_of d operation (slice_set atom test value)
-  pub independent : (other : ℕ) → other ≤ test → (atom : Atom) → IsAtomOf d atom → (v : Bool) → function_of d part (slice_set atom other v) ≡ function_of d part atom
-  pub lighter : weight_of part < weight_of operation

@@ -3,7 +3,7 @@ ghost use Rattle.std.specs.Prelude.{◌≡◌, ◌≢◌, ◌<◌, ◌≤◌, �
 ghost use Rattle.kat_model.specs.Trees.{test_tree};
 ghost use Rattle.kat_model.specs.Steps.{truth};
 ghost use Rattle.kat_model.specs.Problems.{IsTestInRange};
-ghost use Rattle.test_diagrams.specs.Absorption.{IsAbsorbed};
+ghost use Rattle.test_diagrams.specs.Working.Absorption.{IsAbsorbed};
 
 use indexmap::{IndexMap, IndexSet};
 use kat_model::{NoMemory, Test};
@@ -76,7 +76,8 @@ impl Model for Diagrams {
 impl Diagrams {
     ghost use Rattle.test_diagrams.specs.Functions.{value_of, IsDiagramId, IsAtomOf, IsDiagramOf, IsConstant, IsLeastTest, KeepsFunctions};
     ghost use Rattle.test_diagrams.specs.Reduced.{level_of, IsReduced};
-    ghost use Rattle.test_diagrams.specs.Operations.{HasOperands, function_of, choice_of, top_of, IsOpen, IsResult, IsPart, IsCofactor};
+    ghost use Rattle.test_diagrams.specs.Operations.{HasOperands, function_of, IsResult};
+    ghost use Rattle.test_diagrams.specs.Working.Operations.{choice_of, top_of, IsOpen, IsPart, IsCofactor};
 
     /// A collection for functions of this many tests. It holds the two constants.
     pub fn new(alloc: Global, tests: usize) -> Result<Diagrams, NoMemory>

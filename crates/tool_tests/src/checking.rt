@@ -1,7 +1,7 @@
 //! `check` and `replay` on evidence.
 use crate::fixtures::{DENESTING, DENESTING_EVIDENCE, line_of, reply};
 use kat_model::NoMemory;
-use kat_tool::checked_texts;
+use kat_tool::{checked_texts, replayed_texts};
 use std::alloc::Global;
 use std::test::Fail;
 
@@ -172,6 +172,15 @@ fn bytes_are_checked(rt: HostRuntime) -> Result<(), Fail> {
             let found = checked_texts(rt.alloc(), text.as_bytes(), evidence.as_bytes())?;
             assert_eq!(rt; line_of(rt.alloc(), &found)?.as_slice(), want.as_bytes());
         }
+    }
+    Ok(())
+}
+
+#[test]
+fn bytes_are_replayed(rt: HostRuntime) -> Result<(), Fail> {
+    for (text, evidence, want) in REPLAYED {
+        let found = replayed_texts(rt.alloc(), text.as_bytes(), evidence.as_bytes())?;
+        assert_eq!(rt; line_of(rt.alloc(), &found)?.as_slice(), want.as_bytes());
     }
     Ok(())
 }

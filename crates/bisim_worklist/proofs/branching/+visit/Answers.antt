@@ -1,9 +1,9 @@
 use Rattle.std.proofs.Common.{◌<◌, true, false, sym, ap, ◌∙◌, subst, arith}
 use Rattle.std.proofs.lemmas.Result.{on_ok_weaker}
 use Rattle.test_diagrams.proofs.Kept.{KeepsFunctions-itself, KeepsFunctions-trans}
-use Rattle.bisim_worklist.specs.Cases.{IsNextTest, IsOpen, open_count}
-use Rattle.bisim_worklist.specs.Covers.{covers}
-use Rattle.bisim_worklist.specs.IdWalks.{Visits}
+use Rattle.bisim_worklist.specs.Working.Cases.{IsNextTest, IsOpen, open_count}
+use Rattle.bisim_worklist.specs.Working.Covers.{covers}
+use Rattle.bisim_worklist.specs.Working.IdWalks.{Visits}
 use Rattle.bisim_worklist.proofs.Leaves.{visits_covered}
 use Rattle.bisim_worklist.proofs.Splits.{next_open, case_kept, first_carries, second_carries, visits_both, fewer_part}
 use Rattle.bisim_worklist.proofs.branching.+visit.Goals as goal

@@ -1,4 +1,4 @@
-use Rattle.bisim_worklist.specs.Cases.{open_count}
+use Rattle.bisim_worklist.specs.Working.Cases.{open_count}
 use Rattle.bisim_worklist.proofs.branching.+visit.Given as goal
 
 -- each split decides a test

@@ -1,6 +1,6 @@
 use Rattle.std.proofs.Common.{rules, ◌≡◌, ℕ, None, replicate, ap, ◌∙◌, subst}
 use Rattle.std.proofs.lemmas.Result.{on_ok_weaker}
-use Rattle.bisim_worklist.specs.IdWalks.{Visits}
+use Rattle.bisim_worklist.specs.Working.IdWalks.{Visits}
 use Rattle.bisim_worklist.proofs.Splits.{whole_case}
 use Rattle.bisim_worklist.proofs.branching.visit_all.Goals as goal
 

@@ -1,6 +1,6 @@
 use Rattle.std.proofs.Common.{sym, ap, ◌∙◌}
 use Rattle.std.proofs.lemmas.Result.{on_ok_weaker}
-use Rattle.bisim_worklist.specs.Covers.{covers}
+use Rattle.bisim_worklist.specs.Working.Covers.{covers}
 use Rattle.bisim_worklist.proofs.Leaves.{visits_covered, visits_listed}
 use Rattle.bisim_worklist.proofs.branching.visit_leaf.Goals as goal
 

@@ -1,5 +1,5 @@
 use Rattle.std.proofs.Common.{set, Some, ap, ◌∙◌, subst}
-use Rattle.bisim_worklist.specs.Cases.{AreItemsWith}
+use Rattle.bisim_worklist.specs.Working.Cases.{AreItemsWith}
 use Rattle.bisim_worklist.proofs.DecidedCases.{decided_case}
 use Rattle.bisim_worklist.proofs.cases.case_with.Goals as goal
 

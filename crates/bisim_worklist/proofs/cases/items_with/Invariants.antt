@@ -1,6 +1,6 @@
 use Rattle.std.proofs.Common.{take}
 use Rattle.test_diagrams.specs.Functions.{KeepsFunctions}
-use Rattle.bisim_worklist.specs.Cases.{AreItemsWith}
+use Rattle.bisim_worklist.specs.Working.Cases.{AreItemsWith}
 use Rattle.bisim_worklist.proofs.cases.items_with.Given as goal
 
 abbrev pub invariant-loop-item : goal.invariant-loop-item

@@ -1,5 +1,5 @@
 use Rattle.std.proofs.Common.{◌≡◌, ◌++◌, drop}
-use Rattle.bisim_worklist.specs.Cases.{least_of}
+use Rattle.bisim_worklist.specs.Working.Cases.{least_of}
 use Rattle.bisim_worklist.proofs.cases.least_atom.Given as goal
 
 abbrev pub invariant-loop-value : goal.invariant-loop-value

@@ -1,7 +1,7 @@
 use Rattle.std.proofs.Common.{◌≡◌, sym, ◌∙◌, subst}
 use Rattle.certificate.specs.declared.nodes.Style.TheVariants.{UpTo}
 use Rattle.certificate.specs.Certs.{IsCert, cert_of}
-use Rattle.bisim_worklist.specs.Numbering.{IsCertOf}
+use Rattle.bisim_worklist.specs.Working.Numbering.{IsCertOf}
 use Rattle.bisim_worklist.proofs.StoreCerts.{AreNeeded, numbered_cert, members_are_ids, tests_there_in, numbered_rules}
 use Rattle.bisim_worklist.proofs.CertRanges.{numbered_is}
 use Rattle.bisim_worklist.proofs.cert.cert_of.Goals as goal

@@ -2,7 +2,7 @@ use Rattle.std.proofs.Common.{◌≡◌, ap, ◌∙◌, subst}
 use Rattle.kat_model.specs.Members.{Has}
 use Rattle.kat_model.proofs.Lists.{has_left, has_right}
 use Rattle.partial_derivs.proofs.Items.{has_item}
-use Rattle.bisim_worklist.specs.Listings.{IdEntry}
+use Rattle.bisim_worklist.specs.Working.Listings.{IdEntry}
 use Rattle.bisim_worklist.proofs.PartSets.{member_of}
 use Rattle.bisim_worklist.proofs.cert.numbered.Goals as goal
 

@@ -1,5 +1,5 @@
 use Rattle.std.proofs.Common.{◌≡◌, ◌++◌, drop, map}
-use Rattle.bisim_worklist.specs.Numbering.{number_pair_of}
+use Rattle.bisim_worklist.specs.Working.Numbering.{number_pair_of}
 use Rattle.bisim_worklist.proofs.cert.numbered.Given as goal
 
 abbrev pub invariant-loop-pair : goal.invariant-loop-pair

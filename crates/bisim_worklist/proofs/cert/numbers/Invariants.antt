@@ -1,5 +1,5 @@
 use Rattle.std.proofs.Common.{◌≡◌, ◌++◌, drop}
-use Rattle.bisim_worklist.specs.Numbering.{numbers_of}
+use Rattle.bisim_worklist.specs.Working.Numbering.{numbers_of}
 use Rattle.bisim_worklist.proofs.cert.numbers.Given as goal
 
 abbrev pub invariant-loop-term : goal.invariant-loop-term

@@ -1,5 +1,5 @@
 use Rattle.std.proofs.Common.{◌≡◌, ◌++◌, drop}
-use Rattle.bisim_worklist.specs.Numbering.{term_nodes_of}
+use Rattle.bisim_worklist.specs.Working.Numbering.{term_nodes_of}
 use Rattle.bisim_worklist.proofs.cert.term_nodes.Given as goal
 
 abbrev pub invariant-loop-term : goal.invariant-loop-term

@@ -1,5 +1,5 @@
 use Rattle.std.proofs.Common.{◌≡◌, ◌++◌, drop}
-use Rattle.bisim_worklist.specs.Numbering.{test_nodes_of}
+use Rattle.bisim_worklist.specs.Working.Numbering.{test_nodes_of}
 use Rattle.bisim_worklist.proofs.cert.test_nodes.Given as goal
 
 abbrev pub invariant-loop-test : goal.invariant-loop-test

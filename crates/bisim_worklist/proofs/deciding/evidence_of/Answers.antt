@@ -1,6 +1,6 @@
 use Rattle.std.proofs.Common.{◌<◌, length, sym, subst}
-use Rattle.bisim_worklist.specs.Listings.{AreTraced, AreIdSets}
-use Rattle.bisim_worklist.specs.Numbering.{IsCertOf}
+use Rattle.bisim_worklist.specs.Working.Listings.{AreTraced, AreIdSets}
+use Rattle.bisim_worklist.specs.Working.Numbering.{IsCertOf}
 use Rattle.bisim_worklist.proofs.Decisions.{traced, certified, certified_ids, difference_within, refuted, refuted_ids}
 use Rattle.bisim_worklist.proofs.deciding.evidence_of.Goals as goal
 

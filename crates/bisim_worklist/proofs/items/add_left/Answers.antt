@@ -4,7 +4,7 @@ use Rattle.std.proofs.lemmas.Bool.{eq-eqb, ne_eqb}
 use Rattle.partial_derivs.proofs.Items.{has_item}
 use Rattle.bisim_worklist.specs.declared.items.Item.{Item}
 use Rattle.bisim_worklist.specs.declared.items.Side.TheVariants.{Left, Right}
-use Rattle.bisim_worklist.specs.Items.{AddsMoves, AddsTargets, AreKeyed}
+use Rattle.bisim_worklist.specs.Working.Items.{AddsMoves, AddsTargets, AreKeyed}
 use Rattle.bisim_worklist.proofs.ItemTables.{item_target, keyed_insert, target_put}
 use Rattle.bisim_worklist.proofs.LastGuards.{adds_skipped, adds_move}
 use Rattle.bisim_worklist.proofs.items.add_left.Goals.{then-guarded-act+in_ok-insert, else-guarded-act}

@@ -1,6 +1,6 @@
 use Rattle.std.proofs.Common.{take}
 use Rattle.bisim_worklist.specs.declared.items.Side.TheVariants.{Left, Right}
-use Rattle.bisim_worklist.specs.Items.{AddsMoves, AddsTargets, AreKeyed}
+use Rattle.bisim_worklist.specs.Working.Items.{AddsMoves, AddsTargets, AreKeyed}
 use Rattle.bisim_worklist.proofs.items.add_right.Given as goal
 
 abbrev pub invariant-loop-guarded : goal.invariant-loop-guarded

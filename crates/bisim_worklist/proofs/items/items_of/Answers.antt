@@ -2,7 +2,7 @@ use Rattle.std.proofs.Common.{List, ℕ, sym, subst}
 use Rattle.std.proofs.lemmas.Result.{IfOk-weaker}
 use Rattle.bisim_worklist.specs.declared.items.Item.{Item}
 use Rattle.bisim_worklist.specs.declared.items.Side.TheVariants.{Left, Right}
-use Rattle.bisim_worklist.specs.Items.{AddsMoves, AddsTargets, AreItemsOf, AreLedTo}
+use Rattle.bisim_worklist.specs.Working.Items.{AddsMoves, AddsTargets, AreItemsOf, AreLedTo}
 use Rattle.bisim_worklist.proofs.ItemLists.{items_of_moves}
 use Rattle.bisim_worklist.proofs.ItemTables.{are_led_to}
 use Rattle.bisim_worklist.proofs.items.items_of.Goals as goal

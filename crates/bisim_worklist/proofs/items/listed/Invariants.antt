@@ -1,5 +1,5 @@
 use Rattle.std.proofs.Common.{◌≡◌, ◌++◌}
-use Rattle.bisim_worklist.specs.Items.{items_in}
+use Rattle.bisim_worklist.specs.Working.Items.{items_in}
 use Rattle.bisim_worklist.proofs.items.listed.Given as goal
 
 abbrev pub invariant-loop-item : goal.invariant-loop-item

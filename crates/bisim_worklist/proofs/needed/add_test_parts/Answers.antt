@@ -1,5 +1,5 @@
 use Rattle.std.proofs.Common.{sym, ap, subst, ⊎_elim}
-use Rattle.bisim_worklist.specs.Needed.{test_parts_in, AddsAll}
+use Rattle.bisim_worklist.specs.Working.Needed.{test_parts_in, AddsAll}
 use Rattle.bisim_worklist.proofs.KeySets.{adds_single, adds_two}
 use Rattle.bisim_worklist.proofs.needed.add_test_parts.Goals as goal
 

@@ -1,5 +1,5 @@
 use Rattle.std.proofs.Common.{sym, ap, subst}
-use Rattle.bisim_worklist.specs.Needed.{tests_in, AddsAll}
+use Rattle.bisim_worklist.specs.Working.Needed.{tests_in, AddsAll}
 use Rattle.bisim_worklist.proofs.KeySets.{adds_single}
 use Rattle.bisim_worklist.proofs.needed.add_tests.Goals as goal
 

@@ -1,6 +1,6 @@
 use Rattle.std.proofs.Common.{◌≡◌, ap, ◌∙◌, subst}
-use Rattle.bisim_worklist.specs.Listings.{IdEntry}
-use Rattle.bisim_worklist.specs.Needed.{members_of, AddsAll}
+use Rattle.bisim_worklist.specs.Working.Listings.{IdEntry}
+use Rattle.bisim_worklist.specs.Working.Needed.{members_of, AddsAll}
 use Rattle.bisim_worklist.proofs.PartSets.{members_next}
 use Rattle.bisim_worklist.proofs.needed.members.Goals as goal
 

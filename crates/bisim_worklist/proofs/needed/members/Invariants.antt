@@ -1,6 +1,6 @@
 use Rattle.std.proofs.Common.{◌⊎◌, ◌↔◌, ℕ, drop}
 use Rattle.kat_model.specs.Members.{Has}
-use Rattle.bisim_worklist.specs.Needed.{members_of}
+use Rattle.bisim_worklist.specs.Working.Needed.{members_of}
 use Rattle.bisim_worklist.proofs.needed.members.Given as goal
 
 -- the members are those so far, and those of the pairs that are left

@@ -1,6 +1,6 @@
 use Rattle.std.proofs.lemmas.Result.{IfOk-weaker}
 use Rattle.term_store.specs.declared.nodes.Shape.{Shape}
-use Rattle.bisim_worklist.specs.Needed.{terms_in, members_of}
+use Rattle.bisim_worklist.specs.Working.Needed.{terms_in, members_of}
 use Rattle.bisim_worklist.proofs.SameParts.{same_parts}
 use Rattle.bisim_worklist.proofs.needed.needed_terms.Goals as goal
 

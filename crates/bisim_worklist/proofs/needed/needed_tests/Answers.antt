@@ -1,7 +1,7 @@
 use Rattle.std.proofs.Common.{sym, subst}
 use Rattle.std.proofs.lemmas.Result.{IfOk-weaker}
 use Rattle.term_store.specs.declared.nodes.TestShape.{TestShape}
-use Rattle.bisim_worklist.specs.Needed.{AreParts, test_parts_in}
+use Rattle.bisim_worklist.specs.Working.Needed.{AreParts, test_parts_in}
 use Rattle.bisim_worklist.proofs.SameParts.{named_there}
 use Rattle.bisim_worklist.proofs.needed.needed_tests.Goals as goal
 

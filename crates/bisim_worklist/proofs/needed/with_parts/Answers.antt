@@ -1,7 +1,7 @@
 use Rattle.std.proofs.Common.{sym, subst}
 use Rattle.std.proofs.lemmas.Bool.{false≢true}
 use Rattle.term_store.specs.declared.nodes.Shape.{Shape}
-use Rattle.bisim_worklist.specs.Needed.{terms_in}
+use Rattle.bisim_worklist.specs.Working.Needed.{terms_in}
 use Rattle.bisim_worklist.proofs.PartSets.{IsGathering, gathering_starts, gathering_goes_on, gathering_falls, gathering_ends, sorted_ascending, last_has, none_left, terms_less}
 use Rattle.bisim_worklist.proofs.needed.with_parts.Goals as goal
 

@@ -1,7 +1,7 @@
 use Rattle.std.specs.List.Sorted.{IsStrictlySortedBy}
 use Rattle.std.specs.Ordering.{nat_cmp}
 use Rattle.term_store.specs.declared.nodes.Shape.{Shape}
-use Rattle.bisim_worklist.specs.Needed.{terms_in}
+use Rattle.bisim_worklist.specs.Working.Needed.{terms_in}
 use Rattle.bisim_worklist.proofs.PartSets.{bound_of, IsGathering}
 use Rattle.bisim_worklist.proofs.needed.with_parts.Given as goal
 

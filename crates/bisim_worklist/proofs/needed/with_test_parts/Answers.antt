@@ -1,7 +1,7 @@
 use Rattle.std.proofs.Common.{sym, subst}
 use Rattle.std.proofs.lemmas.Bool.{false≢true}
 use Rattle.term_store.specs.declared.nodes.TestShape.{TestShape}
-use Rattle.bisim_worklist.specs.Needed.{test_parts_in}
+use Rattle.bisim_worklist.specs.Working.Needed.{test_parts_in}
 use Rattle.bisim_worklist.proofs.PartSets.{IsGathering, gathering_starts, gathering_goes_on, gathering_falls, gathering_ends, sorted_ascending, last_has, none_left, tests_less}
 use Rattle.bisim_worklist.proofs.needed.with_test_parts.Goals as goal
 

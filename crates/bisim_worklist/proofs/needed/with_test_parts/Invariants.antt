@@ -1,7 +1,7 @@
 use Rattle.std.specs.List.Sorted.{IsStrictlySortedBy}
 use Rattle.std.specs.Ordering.{nat_cmp}
 use Rattle.term_store.specs.declared.nodes.TestShape.{TestShape}
-use Rattle.bisim_worklist.specs.Needed.{test_parts_in}
+use Rattle.bisim_worklist.specs.Working.Needed.{test_parts_in}
 use Rattle.bisim_worklist.proofs.PartSets.{bound_of, IsGathering}
 use Rattle.bisim_worklist.proofs.needed.with_test_parts.Given as goal
 

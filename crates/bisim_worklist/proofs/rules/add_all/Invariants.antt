@@ -1,6 +1,6 @@
 use Rattle.std.proofs.Common.{take}
 use Rattle.kat_model.specs.Members.{IsSubset}
-use Rattle.bisim_worklist.specs.Needed.{AddsAll}
+use Rattle.bisim_worklist.specs.Working.Needed.{AddsAll}
 use Rattle.bisim_worklist.proofs.rules.add_all.Given as goal
 
 abbrev pub invariant-loop-term : goal.invariant-loop-term

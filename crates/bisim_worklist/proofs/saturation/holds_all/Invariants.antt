@@ -1,5 +1,5 @@
 use Rattle.std.proofs.Common.{◌≡◌, drop}
-use Rattle.bisim_worklist.specs.Marks.{are_marked}
+use Rattle.bisim_worklist.specs.Working.Marks.{are_marked}
 use Rattle.bisim_worklist.proofs.saturation.holds_all.Given as goal
 
 -- all are marked where those that are left are

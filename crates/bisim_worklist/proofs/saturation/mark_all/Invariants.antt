@@ -1,5 +1,5 @@
 use Rattle.std.proofs.Common.{◌≡◌, drop, false}
-use Rattle.bisim_worklist.specs.Marks.{with_marks}
+use Rattle.bisim_worklist.specs.Working.Marks.{with_marks}
 use Rattle.bisim_worklist.proofs.saturation.mark_all.Given as goal
 
 abbrev pub invariant-loop-term : goal.invariant-loop-term

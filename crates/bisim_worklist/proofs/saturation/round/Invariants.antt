@@ -1,5 +1,5 @@
 use Rattle.std.proofs.Common.{◌≡◌, drop, false}
-use Rattle.bisim_worklist.specs.Marks.{round_marked}
+use Rattle.bisim_worklist.specs.Working.Marks.{round_marked}
 use Rattle.bisim_worklist.proofs.saturation.round.Given as goal
 
 abbrev pub invariant-loop-pair : goal.invariant-loop-pair

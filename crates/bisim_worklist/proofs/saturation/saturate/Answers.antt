@@ -1,5 +1,5 @@
 use Rattle.std.proofs.Common.{◌≡◌, ◌+◌, ◌-◌, ◌≤◌, true, false, length, sym, ap, ◌∙◌, arith}
-use Rattle.bisim_worklist.specs.Marks.{round_marked, rounds_marked, are_reached}
+use Rattle.bisim_worklist.specs.Working.Marks.{round_marked, rounds_marked, are_reached}
 use Rattle.bisim_worklist.proofs.MarkSteps.{rounds_stay, rounds_next, reached_already}
 use Rattle.bisim_worklist.proofs.saturation.saturate.Goals as goal
 

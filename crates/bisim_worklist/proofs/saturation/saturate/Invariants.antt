@@ -1,5 +1,5 @@
 use Rattle.std.proofs.Common.{◌≡◌, ◌-◌, length}
-use Rattle.bisim_worklist.specs.Marks.{rounds_marked}
+use Rattle.bisim_worklist.specs.Working.Marks.{rounds_marked}
 use Rattle.bisim_worklist.proofs.saturation.saturate.Given as goal
 
 abbrev pub invariant-loop-turn : goal.invariant-loop-turn

@@ -1,5 +1,5 @@
 use Rattle.std.proofs.Common.{drop}
-use Rattle.bisim_worklist.specs.Cases.{AreConstant}
+use Rattle.bisim_worklist.specs.Working.Cases.{AreConstant}
 use Rattle.bisim_worklist.proofs.splitting.any_test.Given as goal
 
 -- no guard depends on a test where none of those that are left does

@@ -1,8 +1,8 @@
 use Rattle.std.proofs.Common.{◌≡◌, ◌<◌, Some, true, false, length, slice_set, sym, ap, ◌∙◌, subst, arith}
 use Rattle.std.specs.Option.{option_map}
-use Rattle.cert_checker.specs.Cases.{IsOpen, open_count, IsFirstFailure}
-use Rattle.cert_checker.specs.Matching.{IsState}
-use Rattle.cert_checker.specs.Questions.{IsSo}
+use Rattle.cert_checker.specs.Working.Cases.{IsOpen, open_count, IsFirstFailure}
+use Rattle.cert_checker.specs.Working.Matching.{IsState}
+use Rattle.cert_checker.specs.Working.Questions.{IsSo}
 use Rattle.cert_checker.proofs.LeastFailures.{decided_length, decided_fewer, all_fail, lesser_first}
 use Rattle.cert_checker.proofs.cases.+first_atom.Goals as goal
 

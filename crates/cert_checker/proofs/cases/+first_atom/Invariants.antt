@@ -1,4 +1,4 @@
-use Rattle.cert_checker.specs.Cases.{open_count}
+use Rattle.cert_checker.specs.Working.Cases.{open_count}
 use Rattle.cert_checker.proofs.cases.+first_atom.Given as goal
 
 abbrev pub decreases-first_atom : goal.decreases-first_atom

@@ -1,5 +1,5 @@
 use Rattle.std.proofs.Common.{◌≡◌, drop}
-use Rattle.cert_checker.specs.Cases.{is_less}
+use Rattle.cert_checker.specs.Working.Cases.{is_less}
 use Rattle.cert_checker.proofs.cases.is_less.Given as goal
 
 -- the first is less where it is from this test on

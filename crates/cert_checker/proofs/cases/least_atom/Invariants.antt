@@ -1,5 +1,5 @@
 use Rattle.std.proofs.Common.{◌≡◌, ◌++◌, drop}
-use Rattle.cert_checker.specs.Cases.{least_of}
+use Rattle.cert_checker.specs.Working.Cases.{least_of}
 use Rattle.cert_checker.proofs.cases.least_atom.Given as goal
 
 abbrev pub invariant-loop-value : goal.invariant-loop-value

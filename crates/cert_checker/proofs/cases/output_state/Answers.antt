@@ -1,6 +1,6 @@
 use Rattle.std.proofs.Common.{◌≡◌, sym, ◌∙◌, arith}
 use Rattle.cert_checker.specs.declared.known.Known.TheVariants.{Value, Waits}
-use Rattle.cert_checker.specs.Matching.{known_of}
+use Rattle.cert_checker.specs.Working.Matching.{known_of}
 use Rattle.cert_checker.proofs.Covering.{known_value}
 use Rattle.cert_checker.proofs.StepAnswers.{waits_there, beq_same, beq_other}
 use Rattle.cert_checker.proofs.cases.output_state.Goals as goal

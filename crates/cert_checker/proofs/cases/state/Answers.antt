@@ -1,6 +1,6 @@
 use Rattle.std.proofs.Common.{sym, subst}
 use Rattle.std.proofs.lemmas.Result.{IfOk-weaker}
-use Rattle.cert_checker.specs.Cases.{AreKnown}
+use Rattle.cert_checker.specs.Working.Cases.{AreKnown}
 use Rattle.cert_checker.proofs.cases.state.Goals as goal
 
 pub returns-in-Outputs : goal.returns-in-Outputs

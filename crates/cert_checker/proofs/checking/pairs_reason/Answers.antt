@@ -5,7 +5,7 @@ use Rattle.kat_model.specs.Closed.{Closed}
 use Rattle.kat_model.specs.Pairs.{SetPair}
 use Rattle.certificate.specs.Accepted.{set_pairs}
 use Rattle.cert_checker.specs.Answers.{BeginsWithSides, FailsFirstBy}
-use Rattle.cert_checker.specs.Places.{IsFirstOf, place_reason}
+use Rattle.cert_checker.specs.Working.Places.{IsFirstOf, place_reason}
 use Rattle.cert_checker.proofs.FirstReasons.{first_pair, first_place_fails, all_accepted}
 use Rattle.cert_checker.proofs.checking.pairs_reason.Goals as goal
 

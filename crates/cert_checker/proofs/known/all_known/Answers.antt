@@ -1,6 +1,6 @@
 use Rattle.std.proofs.Common.{◌≡◌, length, Some, slice_get, ap, ◌∙◌, subst, rules, ◌+◌}
 use Rattle.std.proofs.lemmas.List.{length_push}
-use Rattle.cert_checker.specs.Cases.{known_node}
+use Rattle.cert_checker.specs.Working.Cases.{known_node}
 use Rattle.cert_checker.proofs.KnownTruths.{known_more, node_within}
 use Rattle.cert_checker.proofs.known.all_known.Goals as goal
 

@@ -1,7 +1,7 @@
 use Rattle.std.proofs.Common.{◌≡◌, ℕ, length, slice_get, Some}
 use Rattle.cert_checker.specs.declared.known.Known.{Known}
-use Rattle.cert_checker.specs.NodeTables.{holds_at}
-use Rattle.cert_checker.specs.Cases.{IsKnown}
+use Rattle.cert_checker.specs.Working.NodeTables.{holds_at}
+use Rattle.cert_checker.specs.Working.Cases.{IsKnown}
 use Rattle.cert_checker.proofs.known.all_known.Given as goal
 
 -- what is told of the tests so far is known of them

@@ -1,6 +1,6 @@
 use Rattle.std.proofs.Common.{◌≡◌, length, get_or, ap, ◌∙◌, arith}
 use Rattle.std.proofs.lemmas.List.{length-set}
-use Rattle.cert_checker.specs.Cases.{known_node}
+use Rattle.cert_checker.specs.Working.Cases.{known_node}
 use Rattle.cert_checker.proofs.KnownTruths.{known_again, node_within, parts_within}
 use Rattle.cert_checker.proofs.StepLists.{below_at}
 use Rattle.cert_checker.proofs.known.asked_known.Goals as goal

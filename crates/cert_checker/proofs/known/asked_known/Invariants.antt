@@ -1,4 +1,4 @@
-use Rattle.cert_checker.specs.Cases.{AreKnown}
+use Rattle.cert_checker.specs.Working.Cases.{AreKnown}
 use Rattle.cert_checker.proofs.known.asked_known.Given as goal
 
 abbrev pub invariant-loop-number : goal.invariant-loop-number

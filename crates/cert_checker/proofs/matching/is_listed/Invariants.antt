@@ -1,5 +1,5 @@
 use Rattle.std.proofs.Common.{◌≡◌, drop}
-use Rattle.cert_checker.specs.Matching.{lists}
+use Rattle.cert_checker.specs.Working.Matching.{lists}
 use Rattle.cert_checker.proofs.matching.is_listed.Given as goal
 
 -- a pair is listed where it is among those that are left

@@ -1,5 +1,5 @@
 use Rattle.std.proofs.Common.{◌≡◌, ◌++◌}
-use Rattle.cert_checker.specs.Matching.{open_targets}
+use Rattle.cert_checker.specs.Working.Matching.{open_targets}
 use Rattle.cert_checker.proofs.matching.open_terms.Given as goal
 
 abbrev pub invariant-loop-term : goal.invariant-loop-term

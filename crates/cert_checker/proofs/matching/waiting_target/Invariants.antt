@@ -1,4 +1,4 @@
-use Rattle.cert_checker.specs.Matching.{AreSettled}
+use Rattle.cert_checker.specs.Working.Matching.{AreSettled}
 use Rattle.cert_checker.proofs.matching.waiting_target.Given as goal
 
 -- all guards are settled where those that are left are

@@ -5,11 +5,11 @@ use Rattle.std.proofs.lemmas.Option.{slice_get_read}
 use Rattle.kat_model.proofs.Places.{has_at}
 use Rattle.certificate.specs.Nodes.{NumberPair}
 use Rattle.cert_checker.specs.Answers.{IsMatchedBy}
-use Rattle.cert_checker.specs.Cases.{IsFirstFailure}
-use Rattle.cert_checker.specs.NodeTables.{Grows, nodes_of}
-use Rattle.cert_checker.specs.Matching.{AreRules, AreMatchedBy, terms_of}
-use Rattle.cert_checker.specs.Places.{undecided}
-use Rattle.cert_checker.specs.Targets.{AreSteps}
+use Rattle.cert_checker.specs.Working.Cases.{IsFirstFailure}
+use Rattle.cert_checker.specs.Working.NodeTables.{Grows, nodes_of}
+use Rattle.cert_checker.specs.Working.Matching.{AreRules, AreMatchedBy, terms_of}
+use Rattle.cert_checker.specs.Working.Places.{undecided}
+use Rattle.cert_checker.specs.Working.Targets.{AreSteps}
 use Rattle.kat_model.specs.Steps.{set_next}
 use Rattle.cert_checker.proofs.AddingTargets.{grows_trans}
 use Rattle.cert_checker.proofs.StepLists.{all_step, grows_longer}

@@ -1,6 +1,6 @@
 use Rattle.std.proofs.Common.{ℕ, ◌<◌, map}
-use Rattle.cert_checker.specs.NodeTables.{AreTables, Grows}
-use Rattle.cert_checker.specs.Targets.{AreSteps}
+use Rattle.cert_checker.specs.Working.NodeTables.{AreTables, Grows}
+use Rattle.cert_checker.specs.Working.Targets.{AreSteps}
 use Rattle.cert_checker.proofs.PairPlaces.{AllMatched}
 use Rattle.cert_checker.proofs.places.first_missing.Given as goal
 

@@ -4,10 +4,10 @@ use Rattle.std.proofs.lemmas.Option.{slice_get_read}
 use Rattle.kat_model.proofs.Places.{has_at}
 use Rattle.certificate.specs.Nodes.{NumberPair}
 use Rattle.cert_checker.specs.Answers.{AcceptAlike}
-use Rattle.cert_checker.specs.Cases.{IsFirstFailure}
-use Rattle.cert_checker.specs.NodeTables.{Grows, nodes_of}
-use Rattle.cert_checker.specs.Matching.{AreRules}
-use Rattle.cert_checker.specs.Places.{undecided}
+use Rattle.cert_checker.specs.Working.Cases.{IsFirstFailure}
+use Rattle.cert_checker.specs.Working.NodeTables.{Grows, nodes_of}
+use Rattle.cert_checker.specs.Working.Matching.{AreRules}
+use Rattle.cert_checker.specs.Working.Places.{undecided}
 use Rattle.cert_checker.proofs.AddingTargets.{grows_trans}
 use Rattle.cert_checker.proofs.StepLists.{all_accept, grows_longer}
 use Rattle.certificate.proofs.Growth.{below_more as numbers_more}

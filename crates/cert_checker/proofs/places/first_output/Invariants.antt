@@ -1,6 +1,6 @@
 use Rattle.std.proofs.Common.{ℕ, ◌<◌}
-use Rattle.cert_checker.specs.NodeTables.{AreTables, Grows}
-use Rattle.cert_checker.specs.Targets.{AreAcceptances}
+use Rattle.cert_checker.specs.Working.NodeTables.{AreTables, Grows}
+use Rattle.cert_checker.specs.Working.Targets.{AreAcceptances}
 use Rattle.cert_checker.proofs.PairPlaces.{AllAlike}
 use Rattle.cert_checker.proofs.places.first_output.Given as goal
 

@@ -1,7 +1,7 @@
 use Rattle.std.proofs.Common.{◌≡◌, ◌<◌, ◌≤◌, ◌+◌, suc, length, ap, ◌∙◌, sym, subst, arith}
-use Rattle.cert_checker.specs.NodeTables.{Nodes, Grows, nodes_of}
-use Rattle.cert_checker.specs.Targets.{AreAcceptances}
-use Rattle.cert_checker.specs.Places.{IsFirstOf}
+use Rattle.cert_checker.specs.Working.NodeTables.{Nodes, Grows, nodes_of}
+use Rattle.cert_checker.specs.Working.Targets.{AreAcceptances}
+use Rattle.cert_checker.specs.Working.Places.{IsFirstOf}
 use Rattle.cert_checker.proofs.AddingTargets.{grows_trans}
 use Rattle.cert_checker.proofs.EarlierPlaces.{earlier_first}
 use Rattle.cert_checker.proofs.PairPlaces.{first_of_same}

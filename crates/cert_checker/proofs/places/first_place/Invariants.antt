@@ -1,8 +1,8 @@
 use Rattle.std.proofs.Common.{◌<◌, ◌+◌}
 use Rattle.std.specs.Option.{option_map}
-use Rattle.cert_checker.specs.NodeTables.{AreTables, Grows, nodes_of}
-use Rattle.cert_checker.specs.Targets.{AreAcceptances}
-use Rattle.cert_checker.specs.Places.{IsFirstOf, place_reason}
+use Rattle.cert_checker.specs.Working.NodeTables.{AreTables, Grows, nodes_of}
+use Rattle.cert_checker.specs.Working.Targets.{AreAcceptances}
+use Rattle.cert_checker.specs.Working.Places.{IsFirstOf, place_reason}
 use Rattle.cert_checker.proofs.places.first_place.Given as goal
 
 abbrev pub invariant-loop-action : goal.invariant-loop-action

@@ -2,7 +2,7 @@ use Rattle.std.proofs.Common.{◌≡◌, ℕ, List, length, true, ap, ◌∙◌}
 use Rattle.std.proofs.lemmas.Result.{IfOk-weaker}
 use Rattle.kat_model.specs.Steps.{set_out}
 use Rattle.certificate.specs.Nodes.{NumberPair, are_below}
-use Rattle.cert_checker.specs.Matching.{terms_of}
+use Rattle.cert_checker.specs.Working.Matching.{terms_of}
 use Rattle.cert_checker.proofs.SetAcceptances.{guard_kept}
 use Rattle.cert_checker.proofs.StepLists.{all_accept}
 use Rattle.certificate.proofs.Growth.{below_more}

@@ -4,10 +4,10 @@ use Rattle.std.proofs.lemmas.List.{length-map}
 use Rattle.std.proofs.lemmas.Result.{IfOk-weaker}
 use Rattle.kat_model.specs.Steps.{set_next}
 use Rattle.certificate.specs.Nodes.{NumberPair, are_below}
-use Rattle.cert_checker.specs.Cases.{IsFirstFailure}
-use Rattle.cert_checker.specs.Matching.{terms_of, AreMatchedBy}
-use Rattle.cert_checker.specs.Places.{undecided}
-use Rattle.cert_checker.specs.Targets.{StandFor}
+use Rattle.cert_checker.specs.Working.Cases.{IsFirstFailure}
+use Rattle.cert_checker.specs.Working.Matching.{terms_of, AreMatchedBy}
+use Rattle.cert_checker.specs.Working.Places.{undecided}
+use Rattle.cert_checker.specs.Working.Targets.{StandFor}
 use Rattle.cert_checker.proofs.AddingTargets.{grows_trans}
 use Rattle.cert_checker.proofs.StepLists.{all_step}
 use Rattle.cert_checker.proofs.StepSets.{stand_kept}

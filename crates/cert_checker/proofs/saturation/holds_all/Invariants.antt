@@ -1,5 +1,5 @@
 use Rattle.std.proofs.Common.{◌≡◌, drop}
-use Rattle.cert_checker.specs.Marks.{are_marked}
+use Rattle.cert_checker.specs.Working.Marks.{are_marked}
 use Rattle.cert_checker.proofs.saturation.holds_all.Given as goal
 
 -- all are marked where those that are left are

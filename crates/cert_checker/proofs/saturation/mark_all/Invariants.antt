@@ -1,5 +1,5 @@
 use Rattle.std.proofs.Common.{◌≡◌, drop, false}
-use Rattle.cert_checker.specs.Marks.{with_marks}
+use Rattle.cert_checker.specs.Working.Marks.{with_marks}
 use Rattle.cert_checker.proofs.saturation.mark_all.Given as goal
 
 abbrev pub invariant-loop-term : goal.invariant-loop-term

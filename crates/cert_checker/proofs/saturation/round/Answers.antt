@@ -1,5 +1,5 @@
 use Rattle.std.proofs.Common.{◌≡◌, suc, drop, true, sym, ap, ◌∙◌, arith}
-use Rattle.cert_checker.specs.Marks.{are_marked, round_marked}
+use Rattle.cert_checker.specs.Working.Marks.{are_marked, round_marked}
 use Rattle.cert_checker.proofs.MarkSteps.{round_next, round_keeps}
 use Rattle.cert_checker.proofs.saturation.round.Goals as goal
 

@@ -1,5 +1,5 @@
 use Rattle.std.proofs.Common.{◌≡◌, drop, false}
-use Rattle.cert_checker.specs.Marks.{round_marked}
+use Rattle.cert_checker.specs.Working.Marks.{round_marked}
 use Rattle.cert_checker.proofs.saturation.round.Given as goal
 
 abbrev pub invariant-loop-pair : goal.invariant-loop-pair

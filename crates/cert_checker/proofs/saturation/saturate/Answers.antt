@@ -1,5 +1,5 @@
 use Rattle.std.proofs.Common.{◌≡◌, ◌-◌, length, true, sym, ◌∙◌, arith}
-use Rattle.cert_checker.specs.Marks.{are_marked}
+use Rattle.cert_checker.specs.Working.Marks.{are_marked}
 use Rattle.cert_checker.proofs.MarkSteps.{rounds_keep, rounds_from, rounds_end}
 use Rattle.cert_checker.proofs.saturation.saturate.Goals as goal
 

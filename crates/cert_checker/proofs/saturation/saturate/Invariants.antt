@@ -1,5 +1,5 @@
 use Rattle.std.proofs.Common.{◌≡◌, ◌-◌, length}
-use Rattle.cert_checker.specs.Marks.{are_marked, rounds_marked}
+use Rattle.cert_checker.specs.Working.Marks.{are_marked, rounds_marked}
 use Rattle.cert_checker.proofs.saturation.saturate.Given as goal
 
 -- the rounds that are left mark as many of the wanted terms as all of them

@@ -1,6 +1,6 @@
 use Rattle.std.proofs.Common.{◌≢◌, ◌<◌, ℕ}
 use Rattle.kat_model.specs.Trees.{kat_tree}
-use Rattle.cert_checker.specs.NodeTables.{nodes_of, term_at}
+use Rattle.cert_checker.specs.Working.NodeTables.{nodes_of, term_at}
 use Rattle.cert_checker.proofs.sides.node_of.Given as goal
 
 -- no earlier node spells the term

@@ -1,6 +1,6 @@
 use Rattle.std.proofs.Common.{◌≡◌, ◌+◌, length, Some, slice_get, sym, ap, ◌∙◌, subst}
 use Rattle.std.proofs.lemmas.List.{length_push}
-use Rattle.cert_checker.specs.Targets.{AreAcceptances}
+use Rattle.cert_checker.specs.Working.Targets.{AreAcceptances}
 use Rattle.cert_checker.proofs.AddingTargets.{grows_trans}
 use Rattle.cert_checker.proofs.StepLists.{node_tests, acceptances_more}
 use Rattle.cert_checker.proofs.steps.acceptances.Goals as goal

@@ -1,6 +1,6 @@
 use Rattle.std.proofs.Common.{◌≡◌, length}
-use Rattle.cert_checker.specs.NodeTables.{AreTables, Grows}
-use Rattle.cert_checker.specs.Targets.{AreAcceptances}
+use Rattle.cert_checker.specs.Working.NodeTables.{AreTables, Grows}
+use Rattle.cert_checker.specs.Working.Targets.{AreAcceptances}
 use Rattle.cert_checker.proofs.steps.acceptances.Given as goal
 
 abbrev pub invariant-loop-number : goal.invariant-loop-number

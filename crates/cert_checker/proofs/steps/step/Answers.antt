@@ -4,8 +4,8 @@ use Rattle.std.proofs.lemmas.Result.{IfOk-weaker}
 use Rattle.certificate.specs.declared.nodes.TermNode.{TermNode}
 use Rattle.certificate.specs.Nodes.{are_below, term_parts}
 use Rattle.kat_model.specs.Steps.{next}
-use Rattle.cert_checker.specs.NodeTables.{term_tree_in}
-use Rattle.cert_checker.specs.Targets.{StandFor}
+use Rattle.cert_checker.specs.Working.NodeTables.{term_tree_in}
+use Rattle.cert_checker.specs.Working.Targets.{StandFor}
 use Rattle.cert_checker.proofs.OneNumber.{first_below, second_below}
 use Rattle.cert_checker.proofs.TableTrees.{term_of_node}
 use Rattle.cert_checker.proofs.TargetSets.{test_within, entries_kept}

@@ -1,6 +1,6 @@
 use Rattle.std.proofs.Common.{◌≡◌, length, map}
-use Rattle.cert_checker.specs.NodeTables.{AreTables, Grows}
-use Rattle.cert_checker.specs.Targets.{AreAcceptances, AreSteps}
+use Rattle.cert_checker.specs.Working.NodeTables.{AreTables, Grows}
+use Rattle.cert_checker.specs.Working.Targets.{AreAcceptances, AreSteps}
 use Rattle.cert_checker.proofs.steps.steps.Given as goal
 
 abbrev pub invariant-loop-number : goal.invariant-loop-number

@@ -1,6 +1,6 @@
 use Rattle.std.proofs.Common.{sym, subst, cond, [], ◌∷◌, ◌++◌}
-use Rattle.cert_checker.specs.NodeTables.{term_at, holds_at}
-use Rattle.cert_checker.specs.Targets.{StandFor, chosen}
+use Rattle.cert_checker.specs.Working.NodeTables.{term_at, holds_at}
+use Rattle.cert_checker.specs.Working.Targets.{StandFor, chosen}
 use Rattle.cert_checker.proofs.TargetSets.{added_stands}
 use Rattle.cert_checker.proofs.targets.add.Goals as goal
 

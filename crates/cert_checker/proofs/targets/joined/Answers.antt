@@ -1,6 +1,6 @@
 use Rattle.std.proofs.Common.{◌≡◌, Some, sym, ap, ◌∙◌}
 use Rattle.std.specs.Option.{option_copied}
-use Rattle.cert_checker.specs.Matching.{guard_of}
+use Rattle.cert_checker.specs.Working.Matching.{guard_of}
 use Rattle.cert_checker.proofs.Covering.{guard_member}
 use Rattle.cert_checker.proofs.targets.joined.Goals as goal
 

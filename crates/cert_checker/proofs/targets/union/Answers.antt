@@ -1,6 +1,6 @@
 use Rattle.std.proofs.Common.{ℕ, List, [], cond, ◌++◌, subst}
-use Rattle.cert_checker.specs.NodeTables.{holds_at}
-use Rattle.cert_checker.specs.Targets.{StandFor, chosen}
+use Rattle.cert_checker.specs.Working.NodeTables.{holds_at}
+use Rattle.cert_checker.specs.Working.Targets.{StandFor, chosen}
 use Rattle.cert_checker.proofs.AddingTargets.{union_stands}
 use Rattle.cert_checker.proofs.targets.union.Goals as goal
 

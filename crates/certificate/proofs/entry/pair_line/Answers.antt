@@ -1,7 +1,7 @@
 use Rattle.std.proofs.Common.{◌∙◌, ap, subst}
 use Rattle.std.specs.Option.{option_map}
 use Rattle.certificate.specs.declared.entry.Entry.TheVariants.{PairLine}
-use Rattle.certificate.specs.Readings.{ReadsNumbers}
+use Rattle.certificate.specs.Working.Readings.{ReadsNumbers}
 use Rattle.certificate.proofs.EntryForms.{words_before, words_after, pair_none, pair_cut, no_left, no_right, wide_left, wide_right, narrow_pair}
 use Rattle.certificate.proofs.entry.pair_line.Goals as goal
 

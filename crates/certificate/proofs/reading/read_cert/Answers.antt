@@ -5,7 +5,7 @@ use Rattle.certificate.specs.declared.evidence.Evidence.TheVariants.{Equal}
 use Rattle.certificate.specs.Faults.{Answer, ended, cert_from, no_entries, line_fault_after, parts_of}
 use Rattle.certificate.specs.declared.evidence.EvidenceFault.{EvidenceFault}
 use Rattle.certificate.specs.Forms.{entry_of}
-use Rattle.certificate.specs.Readings.{draft_parts, Answers}
+use Rattle.certificate.specs.Working.Readings.{draft_parts, Answers}
 use Rattle.certificate.proofs.LineSteps.{cert_none, cert_end, cert_entry, cert_fault, adds_fault, answers_same}
 use Rattle.certificate.proofs.reading.read_cert.Goals as goal
 

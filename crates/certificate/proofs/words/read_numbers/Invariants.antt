@@ -2,7 +2,7 @@ use Rattle.std.proofs.Common.{◌≡◌, map, take, length, false}
 use Rattle.std.specs.List.{list_any}
 use Rattle.certificate.specs.Forms.{value_of}
 use Rattle.certificate.specs.Faults.{too_wide}
-use Rattle.certificate.specs.Readings.{texts}
+use Rattle.certificate.specs.Working.Readings.{texts}
 use Rattle.certificate.proofs.words.read_numbers.Given as goal
 
 -- the numbers of the words so far

@@ -1,5 +1,5 @@
 use Rattle.std.proofs.Common.{◌≡◌, ◌++◌, take}
-use Rattle.certificate.specs.Writings.{move_lines}
+use Rattle.certificate.specs.Working.Writings.{move_lines}
 use Rattle.certificate.proofs.writing.put_moves.Given as goal
 
 -- the lines so far

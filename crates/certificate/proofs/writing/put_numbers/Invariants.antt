@@ -1,6 +1,6 @@
 use Rattle.std.proofs.Common.{◌≡◌, ◌++◌, map, take}
 use Rattle.std.specs.Fmt.{decimal}
-use Rattle.certificate.specs.Writings.{after_blanks}
+use Rattle.certificate.specs.Working.Writings.{after_blanks}
 use Rattle.certificate.proofs.writing.put_numbers.Given as goal
 
 -- the numbers so far

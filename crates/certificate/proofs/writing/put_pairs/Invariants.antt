@@ -1,6 +1,6 @@
 use Rattle.std.proofs.Common.{◌≡◌, ◌++◌, map, take}
 use Rattle.certificate.specs.declared.entry.Entry.TheVariants.{PairLine}
-use Rattle.certificate.specs.Writings.{entry_lines}
+use Rattle.certificate.specs.Working.Writings.{entry_lines}
 use Rattle.certificate.proofs.writing.put_pairs.Given as goal
 
 -- the lines so far

@@ -1,5 +1,5 @@
 use Rattle.std.proofs.Common.{◌∙◌, ◌++◌, ap, sym, codes}
-use Rattle.certificate.specs.Writings.{with_feed, body_of}
+use Rattle.certificate.specs.Working.Writings.{with_feed, body_of}
 use Rattle.certificate.proofs.Lines.{text_of-body}
 use Rattle.certificate.proofs.writing.write.Goals as goal
 

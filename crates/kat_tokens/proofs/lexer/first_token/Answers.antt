@@ -1,5 +1,5 @@
 use Rattle.std.proofs.Common.{◌≡◌, sym, subst, ◌∙◌, arith}
-use Rattle.kat_tokens.specs.Fronts.{IsFirst, symbol_len}
+use Rattle.kat_tokens.specs.Working.Fronts.{IsFirst, symbol_len}
 use Rattle.kat_tokens.specs.declared.token.Kind.TheVariants.{Number, Symbol}
 use Rattle.kat_tokens.proofs.Fronts.{name_first, number_first, symbol_first, none_first}
 use Rattle.kat_tokens.proofs.lexer.first_token.Goals as goal

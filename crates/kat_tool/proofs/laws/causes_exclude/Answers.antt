@@ -1,4 +1,4 @@
-use Rattle.kat_tool.proofs.Exclusion.{causes_exclude}
+use Rattle.kat_tool.proofs.Calls.{causes_exclude}
 use Rattle.kat_tool.proofs.laws.causes_exclude.Goals as goal
 
 pub returns : goal.returns

@@ -1,15 +1,13 @@
 use Rattle.std.proofs.Common.{subst}
-use Rattle.kat_tool.specs.Consulting.{IsChecked, IsConsulted}
-use Rattle.kat_tool.specs.TextReplies.{IsTextReply}
-use Rattle.kat_tool.specs.Outcomes.{IsStop}
-use Rattle.kat_tool.proofs.Headlines.{texts_headline}
+use Rattle.kat_tool.specs.Check.{ChecksTexts}
+use Rattle.kat_tool.specs.Working.Outcomes.{IsStop}
+use Rattle.kat_tool.proofs.CheckReplies.{texts_headline}
 use Rattle.kat_tool.proofs.text.checked_texts.Goals as goal
 
 pub returns-in-Ok-clause-headline : goal.returns-in-Ok-clause-headline
-returns-in-Ok-clause-headline c q asks small =
-    texts_headline c.args.text.now c.args.evidence.now _ _ q asks small c.in-Ok.ensures
+returns-in-Ok-clause-headline c q asks small = texts_headline c.args.text.now c.args.evidence.now _ _ q asks small c.in-Ok.ensures
 
 pub returns-in-Err-Replied-clause-headline : goal.returns-in-Err-Replied-clause-headline
 returns-in-Err-Replied-clause-headline c q asks small =
     texts_headline c.args.text.now c.args.evidence.now _ _ q asks small
-    (subst (IsStop (IsTextReply (λ p. IsConsulted (IsChecked p) c.args.evidence.now) c.args.text.now)) c.in-Err-Replied.field-0-is c.in-Err-Replied.ensures)
+    (subst (IsStop (ChecksTexts c.args.text.now c.args.evidence.now)) c.in-Err-Replied.field-0-is c.in-Err-Replied.ensures)

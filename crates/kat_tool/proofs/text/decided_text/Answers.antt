@@ -1,9 +1,17 @@
 use Rattle.std.proofs.Common.{subst}
-use Rattle.kat_tool.specs.Deciding.{IsDecided}
-use Rattle.kat_tool.specs.TextReplies.{IsTextReply}
-use Rattle.kat_tool.specs.Outcomes.{IsStop}
-use Rattle.kat_tool.proofs.Headlines.{text_headline}
+use Rattle.kat_tool.specs.Decide.{DecidesText}
+use Rattle.kat_tool.specs.Working.Outcomes.{IsStop}
+use Rattle.kat_tool.proofs.DecideReplies.{text_headline}
+use Rattle.kat_tool.proofs.PlainTexts.{plain_headline}
 use Rattle.kat_tool.proofs.text.decided_text.Goals as goal
+
+pub returns-in-Ok-clause-plain : goal.returns-in-Ok-clause-plain
+returns-in-Ok-clause-plain c q printable same = plain_headline c.args.text.now _ _ q printable same c.in-Ok.ensures
+
+pub returns-in-Err-Replied-clause-plain : goal.returns-in-Err-Replied-clause-plain
+returns-in-Err-Replied-clause-plain c q printable same =
+    plain_headline c.args.text.now _ _ q printable same
+    (subst (IsStop (DecidesText c.args.text.now)) c.in-Err-Replied.field-0-is c.in-Err-Replied.ensures)
 
 pub returns-in-Ok-clause-headline : goal.returns-in-Ok-clause-headline
 returns-in-Ok-clause-headline c q asks small = text_headline c.args.text.now _ _ q asks small c.in-Ok.ensures
@@ -11,4 +19,4 @@ returns-in-Ok-clause-headline c q asks small = text_headline c.args.text.now _ _
 pub returns-in-Err-Replied-clause-headline : goal.returns-in-Err-Replied-clause-headline
 returns-in-Err-Replied-clause-headline c q asks small =
     text_headline c.args.text.now _ _ q asks small
-    (subst (IsStop (IsTextReply IsDecided c.args.text.now)) c.in-Err-Replied.field-0-is c.in-Err-Replied.ensures)
+    (subst (IsStop (DecidesText c.args.text.now)) c.in-Err-Replied.field-0-is c.in-Err-Replied.ensures)

@@ -3,7 +3,7 @@ use Rattle.std.proofs.lemmas.Result.{err_from_is_err_and}
 use Rattle.kat_tokens.specs.declared.fault.TextFault.{TextFault}
 use Rattle.kat_syntax.specs.Lexemes.{Lexeme, lexemes}
 use Rattle.problem_file.specs.Items.{items_by}
-use Rattle.problem_file.specs.Walks.{Does}
+use Rattle.problem_file.specs.Working.Walks.{Does}
 use Rattle.problem_file.proofs.Lists.{items_go, item_fails, drop_less, lexemes_length}
 use Rattle.problem_file.proofs.items.read_items.Goals as goal
 

@@ -2,7 +2,7 @@ use Rattle.std.proofs.Common.{Ok, Err, sym, subst, ap, ◌∙◌}
 use Rattle.std.proofs.lemmas.Result.{err_from_is_err_and}
 use Rattle.kat_tokens.specs.declared.fault.TextFault.{TextFault}
 use Rattle.kat_syntax.specs.Lexemes.{lexemes}
-use Rattle.problem_file.specs.Tokens.{AreTokens}
+use Rattle.problem_file.specs.Working.Tokens.{AreTokens}
 use Rattle.problem_file.specs.Reads.{tested, HoldsTested, Answers}
 use Rattle.problem_file.proofs.ReadTexts.{lexed_tokens, file_told, bad_told}
 use Rattle.problem_file.proofs.reading.read_text.Goals as goal

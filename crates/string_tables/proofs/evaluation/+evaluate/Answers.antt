@@ -1,8 +1,8 @@
 use Rattle.std.proofs.Common.{◌≡◌, ◌<◌, length, get_or, set, refl, ap, arith, get_or-set_same}
 use Rattle.kat_model.specs.Trees.{kat_tree, term_height, sum, product, star, test, test_tree}
 use Rattle.kat_model.specs.Relations.{Table}
-use Rattle.kat_model.specs.Decided.{computes_relation}
-use Rattle.string_tables.specs.Matrices.{Square, Tells}
+use Rattle.kat_model.specs.Working.Decided.{computes_relation}
+use Rattle.string_tables.specs.Working.Matrices.{Square, Tells}
 use Rattle.string_tables.proofs.Rooms.{term_height_positive, room_first, room_rest}
 use Rattle.string_tables.proofs.Told.{product_told, closure_told}
 use Rattle.string_tables.proofs.evaluation.+evaluate.Goals as goal

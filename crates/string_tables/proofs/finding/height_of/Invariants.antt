@@ -1,6 +1,6 @@
 use Rattle.std.proofs.Common.{◌≡◌, map, drop, max}
 use Rattle.kat_model.specs.Trees.{kat_tree}
-use Rattle.string_tables.specs.Heights.{terms_height, question_height}
+use Rattle.string_tables.specs.Working.Heights.{terms_height, question_height}
 use Rattle.string_tables.proofs.finding.height_of.Given as goal
 
 -- the greatest so far, and those that are left

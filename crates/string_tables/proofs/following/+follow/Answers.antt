@@ -2,8 +2,8 @@ use Rattle.std.proofs.Common.{◌≡◌, ◌<◌, ◌≤◌, ℕ, List, Bool, �
 use Rattle.kat_model.specs.Trees.{kat_tree, term_height, zero, one, test, sum, product, star, test_tree}
 use Rattle.kat_model.specs.Steps.{truth}
 use Rattle.kat_model.specs.Relations.{Table, atom_at}
-use Rattle.kat_model.specs.Decided.{computes_relation, warshall}
-use Rattle.string_tables.specs.Matrices.{Tells, entry, IsImage}
+use Rattle.kat_model.specs.Working.Decided.{computes_relation, warshall}
+use Rattle.string_tables.specs.Working.Matrices.{Tells, entry, IsImage}
 use Rattle.string_tables.proofs.Rooms.{term_height_positive, room_first, room_rest}
 use Rattle.string_tables.proofs.Told.{closure_told}
 use Rattle.string_tables.proofs.Images.{image_empty, image_identity, image_test, image_composition, image_union, image_told}

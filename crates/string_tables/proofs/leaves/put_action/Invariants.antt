@@ -1,7 +1,7 @@
 use Rattle.std.proofs.Common.{◌≡◌, ◌<◌, ℕ, take}
 use Rattle.std.specs.List.{list_any}
-use Rattle.kat_model.specs.Decided.{same_step}
-use Rattle.string_tables.specs.Matrices.{entry}
+use Rattle.kat_model.specs.Working.Decided.{same_step}
+use Rattle.string_tables.specs.Working.Matrices.{entry}
 use Rattle.string_tables.proofs.leaves.put_action.Given as goal
 
 abbrev pub invariant-loop-step : goal.invariant-loop-step

@@ -2,7 +2,7 @@ use Rattle.std.proofs.Common.{◌≡◌, ◌<◌, ◌≤◌, ◌&&◌, eqb, ℕ,
 use Rattle.kat_model.specs.Trees.{test_tree}
 use Rattle.kat_model.specs.Steps.{truth}
 use Rattle.kat_model.specs.Relations.{atom_at}
-use Rattle.string_tables.specs.Matrices.{entry}
+use Rattle.string_tables.specs.Working.Matrices.{entry}
 use Rattle.string_tables.proofs.leaves.put_test.Given as goal
 
 abbrev pub invariant-loop-i : goal.invariant-loop-i

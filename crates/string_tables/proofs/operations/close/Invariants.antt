@@ -1,6 +1,6 @@
 use Rattle.std.proofs.Common.{◌≡◌, ◌<◌, ℕ, length}
-use Rattle.kat_model.specs.Decided.{warshall}
-use Rattle.string_tables.specs.Matrices.{entry}
+use Rattle.kat_model.specs.Working.Decided.{warshall}
+use Rattle.string_tables.specs.Working.Matrices.{entry}
 use Rattle.string_tables.proofs.operations.close.Given as goal
 
 abbrev pub invariant-loop-k : goal.invariant-loop-k

@@ -1,5 +1,5 @@
 use Rattle.std.proofs.Common.{◌≡◌, ◌<◌, ◌≤◌, ◌&&◌, ◌||◌, ℕ, length}
-use Rattle.string_tables.specs.Matrices.{entry}
+use Rattle.string_tables.specs.Working.Matrices.{entry}
 use Rattle.string_tables.proofs.operations.join_through.Given as goal
 
 abbrev pub invariant-loop-i : goal.invariant-loop-i

@@ -1,5 +1,5 @@
 use Rattle.std.proofs.Common.{◌≡◌, ◌<◌, ◌≤◌, ◌||◌, eqb, ℕ}
-use Rattle.string_tables.specs.Matrices.{entry}
+use Rattle.string_tables.specs.Working.Matrices.{entry}
 use Rattle.string_tables.proofs.operations.mark_diagonal.Given as goal
 
 abbrev pub invariant-loop-i : goal.invariant-loop-i

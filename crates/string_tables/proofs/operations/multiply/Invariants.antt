@@ -1,6 +1,6 @@
 use Rattle.std.proofs.Common.{◌≡◌, ◌<◌, ◌≤◌, ◌&&◌, ℕ, length}
-use Rattle.kat_model.specs.Decided.{some_below}
-use Rattle.string_tables.specs.Matrices.{entry}
+use Rattle.kat_model.specs.Working.Decided.{some_below}
+use Rattle.string_tables.specs.Working.Matrices.{entry}
 use Rattle.string_tables.proofs.operations.multiply.Given as goal
 
 abbrev pub invariant-loop-i : goal.invariant-loop-i

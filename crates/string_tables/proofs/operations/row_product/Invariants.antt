@@ -1,6 +1,6 @@
 use Rattle.std.proofs.Common.{◌≡◌, ◌<◌, ◌&&◌, false, length, slice_index_or, ℕ}
-use Rattle.kat_model.specs.Decided.{some_below}
-use Rattle.string_tables.specs.Matrices.{entry}
+use Rattle.kat_model.specs.Working.Decided.{some_below}
+use Rattle.string_tables.specs.Working.Matrices.{entry}
 use Rattle.string_tables.proofs.operations.row_product.Given as goal
 
 abbrev pub invariant-loop-k : goal.invariant-loop-k

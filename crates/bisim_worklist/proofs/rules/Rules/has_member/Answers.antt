@@ -1,5 +1,5 @@
 use Rattle.std.proofs.Common.{sym, ap, ◌∙◌}
-use Rattle.bisim_worklist.specs.Marks.{RuleParts}
+use Rattle.bisim_worklist.specs.Working.Marks.{RuleParts}
 use Rattle.std.proofs.lemmas.Cmp.{nat_cmp_total}
 use Rattle.std.proofs.lemmas.Map.Lookups.{exact_unsigned}
 use Rattle.kat_model.proofs.SetKeys.{found_has}

@@ -1,6 +1,6 @@
 use Rattle.std.proofs.Common.{◌≡◌, subst, sym, ap, ◌∙◌}
-use Rattle.bisim_worklist.specs.Listings.{IdEntry}
-use Rattle.bisim_worklist.specs.Needed.{AddsAll}
+use Rattle.bisim_worklist.specs.Working.Listings.{IdEntry}
+use Rattle.bisim_worklist.specs.Working.Needed.{AddsAll}
 use Rattle.bisim_worklist.proofs.KeySets.{AreWithin, within_one}
 use Rattle.bisim_worklist.proofs.rules.Rules.list.Goals as goal
 

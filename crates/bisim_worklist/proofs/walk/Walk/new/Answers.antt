@@ -3,9 +3,9 @@ use mathlib.Core.Path.{ap₂}
 use Rattle.std.specs.Option.{option_map}
 use Rattle.kat_model.specs.Closed.{closed}
 use Rattle.term_store.specs.Trees.{tree_of}
-use Rattle.bisim_worklist.specs.Listings.{IdEntry}
-use Rattle.bisim_worklist.specs.Marks.{RuleParts}
-use Rattle.bisim_worklist.specs.IdWalks.{AreRulesOf}
+use Rattle.bisim_worklist.specs.Working.Listings.{IdEntry}
+use Rattle.bisim_worklist.specs.Working.Marks.{RuleParts}
+use Rattle.bisim_worklist.specs.Working.IdWalks.{AreRulesOf}
 use Rattle.bisim_worklist.proofs.UnderWay.{first_ids, rules_start}
 use Rattle.bisim_worklist.proofs.walk.Walk.new.Goals as goal
 

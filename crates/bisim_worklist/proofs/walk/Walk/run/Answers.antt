@@ -1,6 +1,6 @@
 use Rattle.std.proofs.Common.{◌≤◌, ◌<◌, length, subst}
 use borrow.Author.Count.{falls}
-use Rattle.bisim_worklist.specs.Decisions.{pair_limit}
+use Rattle.certificate.specs.Decisions.{pair_limit}
 use Rattle.bisim_worklist.proofs.UnderWay.{place_limit, all_taken}
 use Rattle.bisim_worklist.proofs.walk.Walk.run.Goals as goal
 

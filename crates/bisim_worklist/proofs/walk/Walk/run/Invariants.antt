@@ -1,7 +1,7 @@
 use Rattle.std.proofs.Common.{◌-◌}
 use Rattle.term_store.specs.Growth.{KeepsTrees}
-use Rattle.bisim_worklist.specs.Decisions.{pair_limit}
-use Rattle.bisim_worklist.specs.Walking.{IsUnderWay}
+use Rattle.certificate.specs.Decisions.{pair_limit}
+use Rattle.bisim_worklist.specs.Working.Walking.{IsUnderWay}
 use Rattle.bisim_worklist.proofs.walk.Walk.run.Given as goal
 
 abbrev pub invariant-loop-place : goal.invariant-loop-place

@@ -2,7 +2,7 @@ use Rattle.std.proofs.Common.{◌≡◌, ℕ, All, slice_get, Some, sym, ap, ◌
 use Rattle.std.proofs.lemmas.Option.{same_Some}
 use Rattle.term_store.proofs.Kept.{KeepsTrees-trans}
 use Rattle.partial_derivs.specs.Moves.{IsTermOf, IsStepsOf}
-use Rattle.bisim_worklist.specs.Listings.{IdEntry, terms_of}
+use Rattle.bisim_worklist.specs.Working.Listings.{IdEntry, terms_of}
 use Rattle.bisim_worklist.specs.declared.walk.Walk.{Walk}
 use Rattle.bisim_worklist.specs.declared.walk.BothSteps.{BothSteps}
 use Rattle.bisim_worklist.proofs.UnderWay.{read_at, left_terms, right_terms, stepped}

@@ -1,5 +1,5 @@
 use Rattle.std.proofs.Common.{◌≡◌, slice_get, Some, ap, ◌∙◌}
-use Rattle.bisim_worklist.specs.Marks.{RuleParts}
+use Rattle.bisim_worklist.specs.Working.Marks.{RuleParts}
 use Rattle.kat_model.proofs.Places.{element_at}
 use Rattle.bisim_worklist.proofs.UnderWay.{under_way_more, step_ids_more, steps_at_more, alike, apart, taken}
 use Rattle.bisim_worklist.proofs.walk.Walk.take.Goals as goal

@@ -1,5 +1,5 @@
 use Rattle.std.proofs.Common.{◌≡◌}
-use Rattle.cert_checker.specs.NodeTables.{AreTables}
+use Rattle.cert_checker.specs.Working.NodeTables.{AreTables}
 use Rattle.cert_checker.proofs.CertTables.{front_tests, front_terms}
 use Rattle.cert_checker.proofs.tables.Tables.of.Given as goal
 

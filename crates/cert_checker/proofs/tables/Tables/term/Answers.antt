@@ -1,6 +1,6 @@
 use Rattle.std.proofs.Common.{rules, arith, subst}
 use Rattle.std.proofs.lemmas.Grind.{common_steps}
-use Rattle.cert_checker.specs.NodeTables.{AreTables}
+use Rattle.cert_checker.specs.Working.NodeTables.{AreTables}
 use Rattle.cert_checker.proofs.Insertions.{term_inserted, term_adds_grow}
 use Rattle.cert_checker.proofs.TableTrees.{term_added}
 use Rattle.cert_checker.proofs.tables.Tables.term.Goals as goal

@@ -3,7 +3,7 @@ use Rattle.kat_model.specs.Members.{SameMembers}
 use Rattle.certificate.specs.declared.nodes.TermNode.{TermNode}
 use Rattle.certificate.specs.declared.draft.Draft.{Draft}
 use Rattle.certificate.specs.declared.entry.Entry.TheVariants.{TermLine}
-use Rattle.certificate.specs.Readings.{draft_parts}
+use Rattle.certificate.specs.Working.Readings.{draft_parts}
 use Rattle.certificate.specs.contracts.nodes.TermNodeOrd.TheImpl.Laws.{total-law}
 use Rattle.certificate.proofs.KnownNodes.{term_exact, old_known, new_unknown}
 use Rattle.certificate.proofs.Drafts.{known_pushed, term_double, term_passes, added}

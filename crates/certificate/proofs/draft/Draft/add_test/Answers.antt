@@ -3,7 +3,7 @@ use Rattle.kat_model.specs.Members.{SameMembers}
 use Rattle.certificate.specs.declared.nodes.TestNode.{TestNode}
 use Rattle.certificate.specs.declared.draft.Draft.{Draft}
 use Rattle.certificate.specs.declared.entry.Entry.TheVariants.{TestLine}
-use Rattle.certificate.specs.Readings.{draft_parts}
+use Rattle.certificate.specs.Working.Readings.{draft_parts}
 use Rattle.certificate.specs.contracts.nodes.TestNodeOrd.TheImpl.Laws.{total-law}
 use Rattle.certificate.proofs.KnownNodes.{test_exact, old_known, new_unknown}
 use Rattle.certificate.proofs.Drafts.{known_pushed, test_double, test_passes, added}

@@ -1,7 +1,7 @@
 use Rattle.std.proofs.Common.{◌≡◌, ap, ◌∙◌, subst}
 use Rattle.std.specs.FinMap.{get, insert}
 use Rattle.kat_text.specs.ScopeParts.{Meanings, meanings_of}
-use Rattle.kat_text.specs.Names.{text_of, AreInverse}
+use Rattle.kat_text.specs.Working.Names.{text_of, AreInverse}
 use Rattle.kat_text.proofs.MeaningEntries.{meanings_of-insert}
 use Rattle.kat_text.proofs.Inverse.{inverse_more, inverse_same, inverse_none, insert_extends, text_extends, text_of-unchanged, text_of-removed}
 use Rattle.kat_text.proofs.names.Names.insert.Goals as goal

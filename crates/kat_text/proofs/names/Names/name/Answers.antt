@@ -3,7 +3,7 @@ use Rattle.std.specs.Option.{option_map}
 use Rattle.std.specs.FinMap.{get}
 use Rattle.std.proofs.lemmas.Option.{none-some, same_Some}
 use Rattle.kat_text.specs.ScopeParts.{Meanings}
-use Rattle.kat_text.specs.Names.{text_of, AreInverse}
+use Rattle.kat_text.specs.Working.Names.{text_of, AreInverse}
 use Rattle.kat_text.proofs.names.Names.name.Goals as goal
 
 pub returns-in_err-name-clause-none : goal.returns-in_err-name-clause-none

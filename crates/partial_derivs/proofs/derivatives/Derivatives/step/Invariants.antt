@@ -2,7 +2,7 @@ use Rattle.std.proofs.Common.{take, map}
 use Rattle.kat_model.specs.Steps.{set_out, set_next}
 use Rattle.term_store.specs.Trees.{tree_of}
 use Rattle.partial_derivs.specs.Moves.{Keeps}
-use Rattle.partial_derivs.specs.Unions.{IsUnionBy}
+use Rattle.partial_derivs.specs.Working.Unions.{IsUnionBy}
 use Rattle.partial_derivs.specs.Tables.{AreRight}
 use Rattle.partial_derivs.proofs.derivatives.Derivatives.step.Given as goal
 

@@ -1,6 +1,6 @@
 use Rattle.std.proofs.Common.{false, eqb-true, sym, ◌∙◌, subst}
 use Rattle.test_diagrams.specs.Functions.{IsDiagramOf}
-use Rattle.partial_derivs.specs.Gathered.{same_target}
+use Rattle.partial_derivs.specs.Working.Gathered.{same_target}
 use Rattle.partial_derivs.proofs.Merged.{same_target_is}
 use Rattle.partial_derivs.proofs.Joined.{adds_move, adds_never}
 use Rattle.partial_derivs.proofs.gathered.Gathered.add.Goals as goal

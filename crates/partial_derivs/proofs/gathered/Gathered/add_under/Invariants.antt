@@ -1,6 +1,6 @@
 use Rattle.std.proofs.Common.{take}
 use Rattle.test_diagrams.specs.Functions.{KeepsFunctions}
-use Rattle.partial_derivs.specs.Gathered.{moves_of, AddsUnder}
+use Rattle.partial_derivs.specs.Working.Gathered.{moves_of, AddsUnder}
 use Rattle.partial_derivs.proofs.gathered.Gathered.add_under.Given as goal
 
 -- the moves so far are added

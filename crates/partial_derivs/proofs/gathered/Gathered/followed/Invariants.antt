@@ -1,6 +1,6 @@
 use Rattle.std.proofs.Common.{take}
 use Rattle.partial_derivs.specs.Moves.{Keeps}
-use Rattle.partial_derivs.specs.Gathered.{moves_of, Follows}
+use Rattle.partial_derivs.specs.Working.Gathered.{moves_of, Follows}
 use Rattle.partial_derivs.proofs.gathered.Gathered.followed.Given as goal
 
 -- the moves so far are followed

@@ -1,5 +1,5 @@
 use Rattle.std.proofs.Common.{sym}
-use Rattle.partial_derivs.specs.Gathered.{same_target}
+use Rattle.partial_derivs.specs.Working.Gathered.{same_target}
 use Rattle.partial_derivs.proofs.Merged.{same_target_is}
 use Rattle.partial_derivs.proofs.Joined.{found_guard}
 use Rattle.partial_derivs.proofs.gathered.Gathered.joined.Goals as goal

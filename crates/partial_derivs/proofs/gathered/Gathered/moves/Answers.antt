@@ -1,6 +1,6 @@
 use Rattle.std.proofs.Common.{sym, subst}
 use Rattle.partial_derivs.specs.Moves.{AreMerged}
-use Rattle.partial_derivs.specs.Gathered.{same_target}
+use Rattle.partial_derivs.specs.Working.Gathered.{same_target}
 use Rattle.partial_derivs.proofs.Merged.{moves_merged, same_target_own}
 use Rattle.partial_derivs.proofs.gathered.Gathered.moves.Goals as goal
 

@@ -1,7 +1,7 @@
 use Rattle.std.proofs.Common.{ap, refl, sym, Some}
 use Rattle.std.specs.Option.{option_map}
 use Rattle.problem_file.specs.Trees.{goal_tree}
-use Rattle.problem_file.specs.States.{state_of}
+use Rattle.problem_file.specs.Working.States.{state_of}
 use Rattle.problem_file.proofs.OneAnswer.{goal_there}
 use Rattle.problem_file.proofs.item_reader.ItemReader.file.Goals as goal
 

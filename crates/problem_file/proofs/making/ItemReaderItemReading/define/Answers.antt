@@ -3,7 +3,7 @@ use Rattle.std.specs.Result.{OnOk, OnErr}
 use Rattle.kat_model.specs.Trees.{kat_tree}
 use Rattle.kat_tokens.specs.declared.fault.TextFault.{TextFault}
 use Rattle.kat_text.specs.ScopeParts.{ScopeParts, Definition, defined}
-use Rattle.problem_file.specs.Numbers.{AreNumbered}
+use Rattle.problem_file.specs.Working.Numbers.{AreNumbered}
 use Rattle.problem_file.proofs.Numbering.{term_numbered}
 use Rattle.problem_file.proofs.making.ItemReaderItemReading.define.Goals as goal
 

@@ -1,5 +1,5 @@
 use Rattle.std.proofs.Common.{◌≡◌, ◌+◌, length, replicate}
-use Rattle.string_tables.specs.Matrices.{sizes, widths}
+use Rattle.string_tables.specs.Working.Matrices.{sizes, widths}
 use Rattle.string_tables.proofs.levels.Levels.new.Given as goal
 
 abbrev pub invariant-loop : goal.invariant-loop

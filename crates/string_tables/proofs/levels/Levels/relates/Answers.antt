@@ -1,7 +1,7 @@
 use Rattle.std.proofs.Common.{◌<◌, ap, length, arith}
 use Rattle.kat_model.specs.Trees.{kat_tree}
 use Rattle.kat_model.specs.Relations.{Table}
-use Rattle.string_tables.specs.Filled.{Filled}
+use Rattle.string_tables.specs.Working.Filled.{Filled}
 use Rattle.string_tables.proofs.Images.{marked_alone, image_decides}
 use Rattle.string_tables.proofs.levels.Levels.relates.Goals as goal
 

@@ -1,5 +1,5 @@
 use Rattle.std.proofs.Common.{◌≡◌, ◌<◌, ℕ, false, slice_index_or}
-use Rattle.string_tables.specs.Matrices.{row_at, IsSquare}
+use Rattle.string_tables.specs.Working.Matrices.{row_at, IsSquare}
 use Rattle.string_tables.proofs.matrix.Matrix.clear.Given as goal
 
 abbrev pub invariant-loop-i : goal.invariant-loop-i

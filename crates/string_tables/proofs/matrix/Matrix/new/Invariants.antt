@@ -1,5 +1,5 @@
 use Rattle.std.proofs.Common.{◌≡◌, ◌<◌, ℕ, length}
-use Rattle.string_tables.specs.Matrices.{row_at}
+use Rattle.string_tables.specs.Working.Matrices.{row_at}
 use Rattle.string_tables.proofs.matrix.Matrix.new.Given as goal
 
 abbrev pub invariant-loop : goal.invariant-loop

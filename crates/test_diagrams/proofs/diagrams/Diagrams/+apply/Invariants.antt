@@ -1,4 +1,4 @@
-use Rattle.test_diagrams.specs.Operations.{weight_of}
+use Rattle.test_diagrams.specs.Working.Operations.{weight_of}
 use Rattle.test_diagrams.proofs.diagrams.Diagrams.+apply.Given as goal
 
 abbrev pub decreases-apply : goal.decreases-apply

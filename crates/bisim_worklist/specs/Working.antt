@@ -1,0 +1,11 @@
+pub mod Visits
+pub mod Listings
+pub mod Marks
+pub mod Items
+pub mod Covers
+pub mod Cases
+pub mod IdWalks
+pub mod Outputs
+pub mod Needed
+pub mod Numbering
+pub mod Walking

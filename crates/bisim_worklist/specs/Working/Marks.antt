@@ -1,0 +1,51 @@
+-- Sets of terms as marks, one for each id of a store, and their saturation by pairs of sets of ids.
+use Rattle.std.specs.Prelude.{zero, suc, ℕ, Bool, true, false, ◌||◌, if◌then◌else◌, List, [], ◌∷◌, length, slice_index_or, slice_set, replicate, Option}
+use Rattle.std.specs.Option.{option_map_or}
+use Rattle.std.specs.List.{list_all}
+use Rattle.kat_model.specs.Members.{Has, IsSubset}
+use Rattle.bisim_worklist.specs.Working.Listings.{IdEntry}
+
+-- each of the ids is marked
+abbrev pub are_marked : List Bool → List ℕ → Bool
+are_marked marks ids = list_all (λ i. slice_index_or marks i false) ids
+
+-- the marks, and those of the ids
+abbrev pub with_marks : List Bool → List ℕ → List Bool
+with_marks marks [] = marks
+with_marks marks (i ∷ ids) = with_marks (slice_set marks i true) ids
+
+-- and those of both sides of a pair where one side is marked
+abbrev pub with_pair_marked : List Bool → IdEntry → List Bool
+with_pair_marked marks e = if are_marked marks e.left then with_marks marks e.right else (if are_marked marks e.right then with_marks marks e.left else marks)
+
+-- after one round over the pairs, and after n rounds
+abbrev pub round_marked : List IdEntry → List Bool → List Bool
+round_marked [] marks = marks
+round_marked (e ∷ es) marks = round_marked es (with_pair_marked marks e)
+
+abbrev pub rounds_marked : ℕ → List IdEntry → List Bool → List Bool
+rounds_marked zero es marks = marks
+rounds_marked (suc n) es marks = rounds_marked n es (round_marked es marks)
+
+-- the marks of these ids alone, of n terms, saturated
+abbrev pub saturated_marks : ℕ → List IdEntry → List ℕ → List Bool
+saturated_marks n es ids = rounds_marked (length es) es (with_marks (replicate n false) ids)
+
+-- whether the universal term is marked, or all targets are
+abbrev pub are_reached : Option ℕ → List ℕ → List Bool → Bool
+are_reached universal targets marks = option_map_or (λ u. slice_index_or marks u false) universal false || are_marked marks targets
+
+-- the listed pairs, which are rules of congruence, the universal term, and how many ids there are
+pub record RuleParts : Type 0 where
+  pub pairs : List IdEntry
+  pub members : List ℕ
+  pub universal : Option ℕ
+  pub count : ℕ
+
+-- the members are those of the sets of the pairs
+abbrev pub AreMembers : RuleParts → Type 0
+AreMembers r = (e : IdEntry) → Has r.pairs e → IsSubset e.left r.members × IsSubset e.right r.members
+
+-- whether the pairs bring the targets to the set, or the universal term
+abbrev pub reaches_targets : RuleParts → List ℕ → List ℕ → Bool
+reaches_targets r ids targets = are_reached r.universal targets (saturated_marks r.count r.pairs ids)

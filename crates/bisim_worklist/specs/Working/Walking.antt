@@ -1,0 +1,45 @@
+-- What a walk keeps between the pairs that it takes.
+use Rattle.std.specs.Prelude.{◌≡◌, ◌≢◌, ◌<◌, ℕ, length, slice_get, Some}
+use Rattle.kat_model.specs.Steps.{Atom, set_out}
+use Rattle.kat_model.specs.Problems.{ProblemParts}
+use Rattle.term_store.specs.Nodes.{StoreParts}
+use Rattle.partial_derivs.specs.Tables.{AreRight}
+use Rattle.partial_derivs.specs.Moves.{IsStepsOf, AreGuards, AreMerged}
+use Rattle.bisim_worklist.specs.Walks.{Entry, pairs_of, AreCongruentAfter}
+use Rattle.bisim_worklist.specs.Working.Listings.{IdEntry, terms_of, pair_of, entries_of}
+use Rattle.bisim_worklist.specs.Working.IdWalks.{AreRulesOf}
+use Rattle.bisim_worklist.specs.declared.walk.Walk.{Walk}
+use Rattle.bisim_worklist.specs.declared.walk.BothSteps.{BothSteps}
+
+-- the walk is over the store, and has processed the first so many of its pairs
+pub record IsUnderWay (q : ProblemParts) (store : StoreParts) (w : Walk) (done : ℕ) : Type 0 where
+  pub tests : w.diagrams.tests ≡ q.tests
+  pub rules : AreRulesOf q store w.rules done
+  pub right : AreRight store w.diagrams w.derivatives
+
+-- the steps are those of both sets of the pair
+pub record AreStepsAt (store : StoreParts) (w : Walk) (e : IdEntry) (steps : BothSteps) : Type 0 where
+  pub left : IsStepsOf store w.diagrams (terms_of store e.left) steps.left
+  pub right : IsStepsOf store w.diagrams (terms_of store e.right) steps.right
+
+-- the guards of the moves are ids of diagrams, and moves are joined
+pub record HasStepIds (w : Walk) (steps : BothSteps) : Type 0 where
+  pub left : AreGuards w.diagrams steps.left.moves.items
+  pub right : AreGuards w.diagrams steps.right.moves.items
+  pub left_merged : AreMerged steps.left.moves.items
+  pub right_merged : AreMerged steps.right.moves.items
+
+-- the walk goes on, and lists pairs under which the next sets of the pair at the place are congruent
+abbrev pub IsExpanded : ProblemParts → StoreParts → Walk → Walk → ℕ → BothSteps → Type 0
+IsExpanded q store old new place steps =
+    (e : IdEntry) → IsUnderWay q store old place → slice_get old.rules.pairs place ≡ Some e → AreStepsAt store old e steps
+    → IsUnderWay q store new place
+    × ((a : ℕ) → a < q.actions → AreCongruentAfter q (pairs_of (entries_of store new.rules.pairs)) (pair_of store e) a)
+    × (slice_get new.rules.pairs place ≡ Some e)
+
+-- just one of the sets of the pair at the place accepts the atom
+pub record IsDifference (q : ProblemParts) (store : StoreParts) (w : Walk) (place : ℕ) (atom : Atom) : Type 0 where
+  pub entry : Entry
+  pub at : slice_get (entries_of store w.rules.pairs) place ≡ Some entry
+  pub fits : length atom ≡ q.tests
+  pub differ : set_out entry.pair.left atom ≢ set_out entry.pair.right atom

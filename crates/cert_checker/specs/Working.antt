@@ -1,0 +1,9 @@
+pub mod Ranges
+pub mod NodeTables
+pub mod Targets
+pub mod Cases
+pub mod Marks
+pub mod Matching
+pub mod Spelling
+pub mod Questions
+pub mod Places

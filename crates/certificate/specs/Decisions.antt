@@ -1,0 +1,70 @@
+-- What the prover answers: a certificate in which no pair is redundant (Bonchi and Pous 2013), or a shortest string
+-- that refutes.
+use Rattle.std.specs.Prelude.{◌≡◌, ◌≤◌, ◌<◌, ◌+◌, ◌*◌, ◌^◌, ℕ, List, [], ◌∷◌, ◌++◌, length}
+use Rattle.kat_model.specs.Trees.{Term, acts}
+use Rattle.kat_model.specs.Members.{Has, SameMembers}
+use Rattle.kat_model.specs.Steps.{Atom, set_next}
+use Rattle.kat_model.specs.Strings.{GuardedString}
+use Rattle.kat_model.specs.Problems.{ProblemParts}
+use Rattle.kat_model.specs.Relations.{Same}
+use Rattle.kat_model.specs.Closed.{closed}
+use Rattle.kat_model.specs.Pairs.{SetPair, IsCongruent, AllDiffer}
+use Rattle.string_tables.specs.Tables.{Refutes}
+use Rattle.certificate.specs.declared.nodes.Style.TheVariants.{UpTo}
+use Rattle.certificate.specs.declared.evidence.Evidence.{Evidence}
+use Rattle.certificate.specs.declared.evidence.Evidence.TheVariants.{Equal, Different}
+use Rattle.certificate.specs.Certs.{CertParts}
+use Rattle.certificate.specs.Accepted.{set_pairs, term_trees, IsAccepted}
+
+-- a step under some atom by some action leads from the sets of one pair to those of the other
+pub record LeadsTo (tests actions : ℕ) (from to : SetPair) : Type 0 where
+  pub atom : Atom
+  pub act : ℕ
+  pub of_tests : length atom ≡ tests
+  pub of_actions : act < actions
+  pub lefts : SameMembers (set_next from.left atom act) to.left
+  pub rights : SameMembers (set_next from.right atom act) to.right
+
+-- a step leads to the pair from one of those before it, under which it is not congruent
+pub record IsNeeded (q : ProblemParts) (before : List SetPair) (p : SetPair) : Type 0 where
+  pub from : SetPair
+  pub earlier : Has before from
+  pub leads : LeadsTo q.tests q.actions from p
+  pub fresh : IsCongruent (closed q).universal before p.left p.right → ⊥
+
+-- each of the pairs is needed after those before it
+abbrev pub AreNeeded : ProblemParts → List SetPair → List SetPair → Type 0
+AreNeeded q before [] = Unit {0}
+AreNeeded q before (p ∷ ps) = IsNeeded q before p × AreNeeded q (before ++ p ∷ []) ps
+
+-- each pair after the first is needed
+abbrev pub HasNoRedundantPair : ProblemParts → List SetPair → Type 0
+HasNoRedundantPair q [] = Unit {0}
+HasNoRedundantPair q (p ∷ ps) = AreNeeded q (p ∷ []) ps
+
+-- how many pairs there can be
+abbrev pub pair_limit : ProblemParts → ℕ
+pair_limit q = 2 ^ (acts (closed q).left + 1) * 2 ^ (acts (closed q).right + 1)
+
+-- the certificate is accepted, in the style up to congruence, and none of its pairs is redundant
+pub record IsConcise (q : ProblemParts) (c : CertParts) : Type 0 where
+  pub accepted : IsAccepted q c
+  pub up_to : c.style ≡ UpTo
+  pub differ : AllDiffer (set_pairs c)
+  pub needed : HasNoRedundantPair q (set_pairs c)
+  pub bounded : length (set_pairs c) ≤ pair_limit q
+
+-- the string refutes the question, and none with fewer moves does
+pub record IsShortest (q : ProblemParts) (x : GuardedString) : Type 0 where
+  pub refutes : Refutes q x
+  pub fewest : (y : GuardedString) → Refutes q y → length x.rest ≤ length y.rest
+
+-- what the prover answers to a question
+abbrev pub IsDecision : ProblemParts → Evidence → Type 0
+IsDecision q (Equal c) = Same q × IsConcise q c
+IsDecision q (Different x) = (Same q → ⊥) × IsShortest q x
+
+-- the terms of the nodes of evidence
+abbrev pub node_terms : Evidence → List Term
+node_terms (Equal c) = term_trees c
+node_terms (Different x) = []

@@ -1,0 +1,144 @@
+-- Worked examples of short hypotheses and of pairs under tests: where p leaves b alone, as the Hoare triple
+-- {b} p {b} says by b.p.!b = 0, the loop `while b do p` ends only where b fails before it.
+use Rattle.std.proofs.Common.{◌≡◌, ◌<◌, true, false, inl, inr, ⊎_elim, List, [], ◌∷◌, length, Some, None, refl, sym, subst, arith}
+use Rattle.std.specs.Bool.{IsTrue}
+use Rattle.std.proofs.lemmas.Bool.{true≢false}
+use Rattle.kat_model.specs.Trees.{TestTree, top, complement, Term, test, sum, product, star}
+use Rattle.kat_model.specs.Members.{Has}
+use Rattle.kat_model.specs.Steps.{Atom, truth, set_out, set_next}
+use Rattle.kat_model.specs.Strings.{Move}
+use Rattle.kat_model.specs.Problems.{ProblemParts}
+use Rattle.kat_model.specs.Relations.{Same}
+use Rattle.kat_model.specs.Pairs.{IsCongruent}
+use Rattle.kat_model.specs.Degrees.{degree, is_short, short_hyps, long_hyps, with_hyps}
+use Rattle.kat_model.specs.AllowedMoves.{IsAllowedAtom, IsAllowedMove}
+use Rattle.kat_model.specs.TestedPairs.{TestedPair, pairs_at, IsTestedBisimulation, AreAcceptedUnder}
+use Rattle.kat_model.proofs.Congruence.{listed_same}
+use Rattle.kat_model.proofs.Splits.{split_by_degree}
+use Rattle.kat_model.proofs.Sameness.{accepted_under_same}
+use Rattle.kat_model.proofs.Examples.{b, p, q, while_b}
+
+-- b.p.!b
+abbrev leaves_alone : Term
+leaves_alone = product (test b) (product p (test (complement b)))
+
+-- degrees
+
+-- a test and its negation
+degree_tests : degree (product (test b) (test (complement b))) ≡ Some 0
+degree_tests = refl
+
+-- one action between tests
+degree_triple : degree leaves_alone ≡ Some 1
+degree_triple = refl
+
+-- the greater of 1 and 2
+degree_choice : degree (sum q (product p q)) ≡ Some 2
+degree_choice = refl
+
+-- tests, however often
+degree_star : degree (star (test b)) ≡ Some 0
+degree_star = refl
+
+degree_loop : degree while_b ≡ None
+degree_loop = refl
+
+short_triple : is_short leaves_alone ≡ true
+short_triple = refl
+
+-- moves, one test and one action
+
+abbrev moves_to : Atom → Move
+moves_to after = record { act = 0; atom = after }
+
+abbrev hyps : List Term
+hyps = leaves_alone ∷ []
+
+stays : IsAllowedMove hyps (true ∷ []) (moves_to (true ∷ []))
+stays = record { from = refl; to = refl; move = refl }
+
+leaves : IsAllowedMove hyps (true ∷ []) (moves_to (false ∷ [])) → ⊥
+leaves m = true≢false m.move
+
+-- the hypothesis b = 0 forbids an atom
+forbidden : IsAllowedAtom (test b ∷ []) (true ∷ []) → ⊥
+forbidden h = true≢false h
+
+-- the question, whose hypothesis is short
+
+abbrev asks : ProblemParts
+asks = record { tests = 1; actions = 1; hyps = hyps; left = while_b; right = test (complement b) }
+
+short_one : short_hyps asks ≡ hyps
+short_one = refl
+
+long_none : long_hyps asks ≡ []
+long_none = refl
+
+-- The sides accept alike everywhere. Inside the loop, where b holds, nothing is accepted any more.
+
+abbrev pair : List Term → List Term → TestTree → TestedPair
+pair es fs t = record { sets = record { left = es; right = fs }; test = t }
+
+abbrev start : TestedPair
+start = pair (while_b ∷ []) (test (complement b) ∷ []) top
+
+abbrev inside : TestedPair
+inside = pair (while_b ∷ []) [] b
+
+abbrev both : List TestedPair
+both = start ∷ inside ∷ []
+
+-- by an allowed move, to a set that holds the loop only where b holds
+next_congruent : (atom after : Atom) → IsAllowedMove hyps atom (moves_to after) → IsCongruent None (pairs_at both after) (set_next (while_b ∷ []) atom 0) []
+next_congruent [] after m = inl (λ x. ((λ h. h), (λ h. h)))
+next_congruent (false ∷ xs) after m = inl (λ x. ((λ h. h), (λ h. h)))
+next_congruent (true ∷ xs) [] m = absurd (true≢false m.move)
+next_congruent (true ∷ xs) (false ∷ ys) m = absurd (true≢false m.move)
+next_congruent (true ∷ xs) (true ∷ ys) m =
+    inl
+    (listed_same (pairs_at both (true ∷ ys)) (while_b ∷ []) [] (record { pair = inside.sets; listed = inr (inl refl); lefts = λ x. ((λ h. h), (λ h. h)); rights = λ x. ((λ h. h), (λ h. h)) }))
+
+both_accepted : AreAcceptedUnder (short_hyps asks) (with_hyps asks (long_hyps asks)) both
+both_accepted = record { test = top; rest = inside ∷ []; first = refl; holds = λ atom wide allowed. refl; bisimulation = record { outputs = outputs; steps = steps } }
+  where
+    outputs : (s : TestedPair) → Has both s → (atom : Atom) → length atom ≡ 1 → IsAllowedAtom hyps atom → IsTrue (truth s.test atom)
+        → set_out s.sets.left atom ≡ set_out s.sets.right atom
+    outputs s h atom wide allowed t =
+        ⊎_elim
+        (λ e. subst (λ (z : TestedPair). set_out z.sets.left atom ≡ set_out z.sets.right atom) e refl)
+        (λ k.
+        ⊎_elim
+        (λ e.
+        let holds : IsTrue (truth b atom) = subst (λ (z : TestedPair). IsTrue (truth z.test atom)) (sym e) t in
+        subst (λ (z : TestedPair). set_out z.sets.left atom ≡ set_out z.sets.right atom) e (rw holds refl))
+        absurd k)
+        h
+
+    IsMatched : TestedPair → Atom → Move → Type 0
+    IsMatched s atom m = IsCongruent None (pairs_at both m.atom) (set_next s.sets.left atom m.act) (set_next s.sets.right atom m.act)
+
+    steps : (s : TestedPair) → Has both s → (atom : Atom) → length atom ≡ 1 → IsTrue (truth s.test atom)
+        → (m : Move) → m.act < 1 → length m.atom ≡ 1 → IsAllowedMove hyps atom m → IsMatched s atom m
+    steps s h atom wide t m la long allowed =
+        let zeroth : m.act ≡ 0 = omega arith in
+        let same : m ≡ moves_to m.atom = λ i. record { act = zeroth i; atom = m.atom } in
+        let found = next_congruent atom m.atom (subst (IsAllowedMove hyps atom) same allowed) in
+        ⊎_elim
+        (λ e. subst (λ z. IsMatched z atom m) e (subst (IsMatched start atom) (sym same) found))
+        (λ k. ⊎_elim (λ e. subst (λ z. IsMatched z atom m) e (subst (IsMatched inside atom) (sym same) found)) absurd k)
+        h
+
+-- so both sides are the same
+loop_same : Same asks
+loop_same = accepted_under_same asks (short_hyps asks) (long_hyps asks) both (split_by_degree asks) both_accepted
+
+-- without its test the second pair is refused: where b fails the loop ends
+everywhere_refused : IsTestedBisimulation hyps 1 1 None (start ∷ pair (while_b ∷ []) [] top ∷ []) → ⊥
+everywhere_refused h = true≢false (h.outputs (pair (while_b ∷ []) [] top) (inr (inl refl)) (false ∷ []) refl refl refl)
+
+-- and without the hypothesis the move out of the loop is there, behind which only the first pair holds
+every_move_refused : IsTestedBisimulation [] 1 1 None both → ⊥
+every_move_refused h =
+    ⊎_elim (λ s. (s while_b).0 (inl refl)) (λ u. u)
+    (h.steps inside (inr (inl refl)) (true ∷ []) refl refl (moves_to (false ∷ [])) (omega arith) refl (record { from = refl; to = refl; move = refl }))

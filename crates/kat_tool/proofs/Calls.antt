@@ -1,0 +1,146 @@
+-- A reply to words is what its command's causes say, and a call of `run` sends it.
+use Rattle.std.proofs.Common.{◌≡◌, ◌⊎◌, ◌≤◌, ℕ, List, [], None, Some, inl, inr, ⊎_elim, refl, sym, subst, ◌∙◌, arith}
+use Rattle.std.proofs.lemmas.Option.{same_Some}
+use Rattle.std.specs.Io.KnownBytes.{Appends}
+use Rattle.kat_io.specs.Told.{Untold}
+use Rattle.kat_io.specs.Outside.{Rose, AppendsFront}
+use Rattle.kat_model.specs.Members.{Has}
+use Rattle.kat_model.specs.Problems.{ProblemParts}
+use Rattle.kat_tool.specs.Commands.{Command, decide, check, replay, command_of, files_of}
+use Rattle.kat_tool.specs.Asking.{Asks}
+use Rattle.kat_tool.specs.Posing.{Poses}
+use Rattle.kat_tool.specs.Steps.{ShelfUse, HasFailedOn, GetsFile, AsksText}
+use Rattle.kat_tool.specs.Decide.{IsDecided, DecidesText, DecideCauses}
+use Rattle.kat_tool.specs.Check.{ChecksBytes, CheckStatus}
+use Rattle.kat_tool.specs.Replay.{ReplaysBytes}
+use Rattle.kat_tool.specs.Replies.{RepliesTo, HasNoCommand, Replies}
+use Rattle.kat_tool.specs.Agreement.{IsAgreed}
+use Rattle.kat_tool.specs.Run.{HasFailed, IsReply, Call, IsRun}
+use Rattle.kat_tool.specs.Laws.{CausesExclude}
+use Rattle.kat_tool.proofs.Contents.{held_same}
+use Rattle.kat_tool.proofs.Steps.{OneStatus, gets_once, text_once}
+use Rattle.kat_tool.proofs.DecideReplies.{decided_once, decide_causes}
+use Rattle.kat_tool.proofs.CheckReplies.{bytes_once, check_causes}
+use Rattle.kat_tool.proofs.ReplayReplies.{bytes_once as replayed_once, replay_causes}
+
+-- no command's reply has another status than 0 to 4
+module _ (s : ShelfUse) (status : ℕ) (output : List ℕ) where
+  command_small : (command : Command) → RepliesTo s command status output → status ≤ 4
+  command_small (decide file) r = small (decide_causes s file status output r).answers
+    where
+      small : (status ≡ 0) ⊎ ((status ≡ 1) ⊎ ((status ≡ 2) ⊎ (status ≡ 4))) → status ≤ 4
+      small h = grind (arith, h)
+  command_small (check file other) r = small (check_causes s file other status output r).answers
+    where
+      small : (status ≡ 0) ⊎ ((status ≡ 1) ⊎ ((status ≡ 2) ⊎ ((status ≡ 3) ⊎ (status ≡ 4)))) → status ≤ 4
+      small h = grind (arith, h)
+  command_small (replay file other) r = small (replay_causes s file other status output r).answers
+    where
+      small : (status ≡ 0) ⊎ ((status ≡ 2) ⊎ ((status ≡ 3) ⊎ (status ≡ 4))) → status ≤ 4
+      small h = grind (arith, h)
+
+  -- the file that a command failed on is one of its own
+  command_failed : (command : Command) → RepliesTo s command status output → status ≡ 4 → (file : List ℕ) × Has (files_of command) file × HasFailedOn s file status output
+  command_failed (decide file) r four = (file, inl refl, (decide_causes s file status output r).failed four)
+  command_failed (check file other) r four = ⊎_elim (λ f. (file, inl refl, f)) (λ h. (other, inr (inl refl), h.2)) ((check_causes s file other status output r).failed four)
+  command_failed (replay file other) r four = ⊎_elim (λ f. (file, inl refl, f)) (λ h. (other, inr (inl refl), h.2)) ((replay_causes s file other status output r).failed four)
+
+-- a command has one reply where the shelf tells its files
+command_once : (s : ShelfUse) → (Rose s.before s.now → ⊥) → ((file : List ℕ) → s.content file ≡ Untold → ⊥) → (command : Command) → OneStatus (RepliesTo s command)
+command_once s unfailed told (decide file) =
+    gets_once s file _ _ (λ t. DecidesText t) (told file) unfailed (λ t. text_once t IsDecided decided_once)
+command_once s unfailed told (check file other) =
+    gets_once s file _ _ (λ t. AsksText t (λ q. GetsFile s other None [] (ChecksBytes q))) (told file) unfailed (λ t. text_once t (λ q. GetsFile s other None [] (ChecksBytes q)) (λ q. gets_once s other None [] (ChecksBytes q) (told other) unfailed (bytes_once q)))
+command_once s unfailed told (replay file other) =
+    gets_once s file _ _ (λ t. AsksText t (λ q. GetsFile s other None [] (ReplaysBytes q))) (told file) unfailed (λ t. text_once t (λ q. GetsFile s other None [] (ReplaysBytes q)) (λ q. gets_once s other None [] (ReplaysBytes q) (told other) unfailed (replayed_once q)))
+
+module _ (s : ShelfUse) (words : List (List ℕ)) (status : ℕ) (output : List ℕ) where
+  -- the reply is that to the command of the words
+  replied_to : (command : Command) → command_of words ≡ Some command → HasNoCommand words status output ⊎ ((c : Command) × (command_of words ≡ Some c) × RepliesTo s c status output) → RepliesTo s command status output
+  replied_to command is (inl h) = let none = h.none in absurd cc
+  replied_to command is (inr (c, was, r)) = subst (λ d. RepliesTo s d status output) (same_Some c command (sym was ∙ is)) r
+
+  no_command_is : HasNoCommand words status output ⊎ ((c : Command) × (command_of words ≡ Some c) × RepliesTo s c status output) → status ≡ 7 → HasNoCommand words status output
+  no_command_is (inl h) seven = h
+  no_command_is (inr (c, was, r)) seven = let small = command_small s status output c r in absurd (omega (arith, small, seven))
+
+  none_is : HasNoCommand words status output ⊎ ((c : Command) × (command_of words ≡ Some c) × RepliesTo s c status output) → command_of words ≡ None → status ≡ 7
+  none_is (inl h) none = h.has_status
+  none_is (inr (c, was, r)) none = absurd cc
+
+  failed_is : HasNoCommand words status output ⊎ ((c : Command) × (command_of words ≡ Some c) × RepliesTo s c status output) → status ≡ 4 → HasFailed s words status output
+  failed_is (inl h) four = let seven = h.has_status in absurd (omega (arith, four, seven))
+  failed_is (inr (c, was, r)) four = (c, was, command_failed s status output c r four)
+
+  -- no reply has the status of a sink that failed, or of want of memory
+  small_is : HasNoCommand words status output ⊎ ((c : Command) × (command_of words ≡ Some c) × RepliesTo s c status output) → (status ≤ 4) ⊎ (status ≡ 7)
+  small_is (inl h) = inr h.has_status
+  small_is (inr (c, was, r)) = inl (command_small s status output c r)
+
+-- ---- `check` agrees with `decide`
+
+agreed : (s : ShelfUse) (file : List ℕ) (status : ℕ) (output : List ℕ) → DecideCauses s file status output → (status ≡ 0) ⊎ (status ≡ 1) → IsAgreed (s.content file) output status
+agreed s file status output causes small words again other text later reply printed is_told is holds holds_other unfailed r = alike small
+  where
+    checked : (q : ProblemParts) → Poses (s.content file) q → CheckStatus output q reply
+    checked q poses =
+        ((check_causes later again other reply printed (replied_to later words reply printed (check again other) is r.cause)).headline text output q holds holds_other unfailed
+        (subst (λ t. Asks t q) (held_same (s.content file) text poses.text is_told poses.given.0) poses.asks) poses.small).answers
+
+    alike : (status ≡ 0) ⊎ (status ≡ 1) → reply ≡ status
+    alike (inl e) =
+        let h = causes.equal e in
+        (checked h.0 h.1).equal.1 (h.2.cert, h.2.printed, h.2.concise.accepted) ∙ sym e
+    alike (inr e) =
+        let h = causes.different e in
+        (checked h.0 h.1).different.1 (h.2.string, h.2.printed, h.2.shortest.refutes) ∙ sym e
+
+-- ---- what a reply says
+
+pub reply_is : (s : ShelfUse) (words : List (List ℕ)) (status : ℕ) (output : List ℕ) → Replies s words status output → IsReply s words status output
+reply_is s words status output r = record {
+  replies = r;
+  decides = λ file is. decide_causes s file status output (replied_to s words status output (decide file) is r.cause);
+  agrees = λ file is small. agreed s file status output (decide_causes s file status output (replied_to s words status output (decide file) is r.cause)) small;
+  checks = λ file other is. check_causes s file other status output (replied_to s words status output (check file other) is r.cause);
+  replays = λ file other is. replay_causes s file other status output (replied_to s words status output (replay file other) is r.cause);
+  failed = failed_is s words status output r.cause;
+  no_command = ((λ seven. (no_command_is s words status output r.cause seven).none), none_is s words status output r.cause);
+  no_command_line = λ seven. (no_command_is s words status output r.cause seven).printed;
+  counts = λ other. ⊎_elim (λ four. absurd (other four)) (λ e. e) r.counts;
+}
+
+-- ---- a call
+
+pub run_sent : (c : Call) (output : List ℕ) → Replies c.shelf c.words c.status output → Appends c.sink.had c.sink.has output → c.sink.now ≡ c.sink.before → IsRun c
+run_sent c output r sent stands =
+    let small : (c.status ≤ 4) ⊎ (c.status ≡ 7) = small_is c.shelf c.words c.status output r.cause in
+    record {
+      answered = λ _ _. (output, reply_is c.shelf c.words c.status output r, sent, stands);
+      unsent = λ five. absurd (no_five c.status small five);
+      no_memory = λ six. absurd (no_six c.status small six);
+    }
+  where
+    no_five : (status : ℕ) → (status ≤ 4) ⊎ (status ≡ 7) → status ≡ 5 → ⊥
+    no_five status (inl le) e = omega (arith, le, e)
+    no_five status (inr s) e = omega (arith, s, e)
+
+    no_six : (status : ℕ) → (status ≤ 4) ⊎ (status ≡ 7) → status ≡ 6 → ⊥
+    no_six status (inl le) e = omega (arith, le, e)
+    no_six status (inr s) e = omega (arith, s, e)
+
+pub run_unsent : (c : Call) (status : ℕ) (output : List ℕ) → c.status ≡ 5 → Rose c.sink.before c.sink.now → Replies c.shelf c.words status output → AppendsFront c.sink.had c.sink.has output → IsRun c
+run_unsent c status output five rose r front = record {
+  answered = λ other _. absurd (other five);
+  unsent = λ _. (rose, (status, output, reply_is c.shelf c.words status output r, front));
+  no_memory = λ six. absurd (omega (arith, five, six));
+}
+
+-- ---- no two statuses have a cause
+
+pub causes_exclude : CausesExclude
+causes_exclude s words status other output printed unfailed told x y = once x.cause
+  where
+    once : HasNoCommand words status output ⊎ ((c : Command) × (command_of words ≡ Some c) × RepliesTo s c status output) → status ≡ other
+    once (inl h) = h.has_status ∙ sym (none_is s words other printed y.cause h.none)
+    once (inr (c, is, r)) = command_once s unfailed told c status other output printed r (replied_to s words other printed c is y.cause)

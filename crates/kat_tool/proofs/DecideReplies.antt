@@ -1,0 +1,67 @@
+-- The reply of `decide` is the statement on the question, and has its cause.
+use Rattle.std.proofs.Common.{◌≡◌, ◌⊎◌, ℕ, List, inl, inr, sym, ◌∙◌, arith}
+use Rattle.kat_model.specs.Problems.{ProblemParts}
+use Rattle.kat_tool.specs.Asking.{Asks, IsSmall}
+use Rattle.kat_tool.specs.Posing.{IsRefused, Poses}
+use Rattle.kat_tool.specs.Steps.{ShelfUse, HasFailedOn}
+use Rattle.kat_tool.specs.Decide.{IsEqual, IsDifferent, IsDecided, DecidesText, Decides, Headline, DecideCauses}
+use Rattle.kat_tool.proofs.Steps.{OneStatus, text_asks, gets_posed, gets_asked, gets_none}
+use Rattle.kat_tool.proofs.Ways.{Ways, at_zero, at_one, at_two, at_four}
+
+pub not_both : (status : ℕ) → status ≡ 0 → status ≡ 1 → ⊥
+not_both status zero one = omega (arith, zero, one)
+
+pub decided_headline : (q : ProblemParts) (status : ℕ) (output : List ℕ) → IsDecided q status output → Headline q status output
+decided_headline q status output (inl h) = record {
+  answers = inl h.0;
+  equal = ((λ _. h.1.same), (λ _. h.0));
+  different = ((λ e. absurd (not_both status h.0 e)), (λ differ. absurd (differ h.1.same)));
+  certificate = λ e. (h.1.cert, h.1.concise.accepted, h.1.printed.text);
+  string = λ e. absurd (not_both status h.0 e);
+}
+decided_headline q status output (inr h) = record {
+  answers = inr h.0;
+  equal = ((λ e. absurd (not_both status e h.0)), (λ same. absurd (h.1.differ same)));
+  different = ((λ _. h.1.differ), (λ _. h.0));
+  certificate = λ e. absurd (not_both status e h.0);
+  string = λ e. (h.1.string, h.1.shortest, h.1.printed.text);
+}
+
+pub text_headline : (text : List ℕ) (status : ℕ) (output : List ℕ) (q : ProblemParts) → Asks text q → IsSmall q → DecidesText text status output → Headline q status output
+text_headline text status output q asks small r = decided_headline q status output (text_asks text IsDecided status output q asks small r)
+
+pub decided_once : (q : ProblemParts) → OneStatus (IsDecided q)
+decided_once q a b o p (inl h) y = h.0 ∙ sym ((decided_headline q b p y).equal.1 h.1.same)
+decided_once q a b o p (inr h) y = h.0 ∙ sym ((decided_headline q b p y).different.1 h.1.differ)
+
+-- the ways in which a reply to a file comes
+abbrev DecideWays : ShelfUse → List ℕ → ℕ → List ℕ → Type 0
+DecideWays s file status output =
+    Ways status ((q : ProblemParts) × Poses (s.content file) q × IsEqual q output) ((q : ProblemParts) × Poses (s.content file) q × IsDifferent q output) (IsRefused (s.content file) output) ⊥ (HasFailedOn s file status output)
+
+module _ (s : ShelfUse) (file : List ℕ) (status : ℕ) (output : List ℕ) where
+  posed_ways : HasFailedOn s file status output ⊎ (((status ≡ 2) × IsRefused (s.content file) output) ⊎ ((q : ProblemParts) × Poses (s.content file) q × IsDecided q status output)) → DecideWays s file status output
+  posed_ways (inl f) = inr (inr (inr (inr (f.has_status, f))))
+  posed_ways (inr (inl h)) = inr (inr (inl h))
+  posed_ways (inr (inr (q, poses, inl h))) = inl (h.0, (q, poses, h.1))
+  posed_ways (inr (inr (q, poses, inr h))) = inr (inl (h.0, (q, poses, h.1)))
+
+  answers : DecideWays s file status output → (status ≡ 0) ⊎ ((status ≡ 1) ⊎ ((status ≡ 2) ⊎ (status ≡ 4)))
+  answers (inl h) = inl h.0
+  answers (inr (inl h)) = inr (inl h.0)
+  answers (inr (inr (inl h))) = inr (inr (inl h.0))
+  answers (inr (inr (inr (inl h)))) = absurd h.1
+  answers (inr (inr (inr (inr h)))) = inr (inr (inr h.0))
+
+  pub decide_causes : Decides s file status output → DecideCauses s file status output
+  decide_causes r =
+      let ways : DecideWays s file status output = posed_ways (gets_posed s file IsDecided status output r) in
+      record {
+        headline = λ text q is unfailed asks small. decided_headline q status output (gets_asked s file IsDecided status output text is (λ f. unfailed f.0) r q asks small);
+        declined = λ text line is unfailed none. gets_none s file IsDecided status output text is unfailed r line none;
+        equal = at_zero status _ _ _ _ _ ways;
+        different = at_one status _ _ _ _ _ ways;
+        refused = at_two status _ _ _ _ _ ways;
+        failed = at_four status _ _ _ _ _ ways;
+        answers = answers ways;
+      }

@@ -1,0 +1,68 @@
+-- The parts of a reply to files, put together.
+use Rattle.std.proofs.Common.{◌≡◌, ℕ, List, [], None, Some, Result, Ok, Err, inl, inr, sym, subst}
+use Rattle.kat_model.specs.declared.limits.TheConstants.{MAX_TEXT_BYTES}
+use Rattle.kat_model.specs.Problems.{ProblemParts}
+use Rattle.kat_io.specs.Told.{Told}
+use Rattle.kat_io.specs.Outside.{Rose}
+use Rattle.problem_file.specs.Files.{State}
+use Rattle.problem_file.specs.Reads.{TextSays}
+use Rattle.kat_tool.specs.declared.reply.Reply.{Reply}
+use Rattle.kat_tool.specs.declared.reply.Stop.{Stop}
+use Rattle.kat_tool.specs.Asking.{HasQuestion, Asks, IsSmall}
+use Rattle.kat_tool.specs.Held.{IsGiven}
+use Rattle.kat_tool.specs.Posing.{AsksNone, PosesNone}
+use Rattle.kat_tool.specs.Steps.{ShelfUse, Replying, IsRefusal, GetsFile, GetsText, AsksText, shelf_use}
+use Rattle.kat_tool.specs.Working.Outcomes.{IsOutcome, IsReplied, IsUngiven, IsPosedBy}
+use Rattle.kat_tool.proofs.Contents.{never_past}
+use Rattle.kat_tool.proofs.Outcomes.{IsStop-weaker, IsReplied-weaker}
+
+-- what is asked of what a text says is the problem that it poses
+pub state_poses : (text : List ℕ) (s : State) → TextSays text s → (result : Result ProblemParts Stop) → IsOutcome (λ q. HasQuestion s q × IsSmall q) (IsRefusal (AsksNone s)) result → IsPosedBy text result
+state_poses text s says (Ok q) h = (record { state = s; says = says; asks = h.0 }, h.1)
+state_poses text s says (Err stop) h = IsStop-weaker (IsRefusal (AsksNone s)) (IsRefusal (PosesNone text)) (λ status output r. (r.0, inr (s, says, r.1))) stop h
+
+-- a text that poses no problem is refused, and to one that does the reply is that to its problem
+module _ (text : List ℕ) (GoesOn : ProblemParts → Replying) where
+  pub text_refused : (status : ℕ) (output : List ℕ) → IsRefusal (PosesNone text) status output → AsksText text GoesOn status output
+  text_refused status output (two, inl f) = inl (two, f)
+  text_refused status output (two, inr (a, says, n)) = inr (a, says, inl (two, n))
+
+  pub text_posed : (status : ℕ) (output : List ℕ) (q : ProblemParts) → Asks text q × IsSmall q → GoesOn q status output → AsksText text GoesOn status output
+  text_posed status output q asks r = inr (asks.0.state, asks.0.says, inr (q, (asks.0.asks, asks.1), r))
+
+  pub refused_replied : (result : Result Reply Stop) → IsReplied (IsRefusal (PosesNone text)) result → IsReplied (AsksText text GoesOn) result
+  refused_replied result r = IsReplied-weaker (IsRefusal (PosesNone text)) (AsksText text GoesOn) text_refused result r
+
+  pub posed_replied : (q : ProblemParts) → Asks text q × IsSmall q → (result : Result Reply Stop) → IsReplied (GoesOn q) result → IsReplied (AsksText text GoesOn) result
+  posed_replied q asks result r = IsReplied-weaker (GoesOn q) (AsksText text GoesOn) (λ status output h. text_posed status output q asks h) result r
+
+-- the same of the text of a file
+module _ (s : ShelfUse) (file text items : List ℕ) (GoesOn : ProblemParts → Replying) (same : text ≡ items) (given : IsGiven (s.content file) (Some MAX_TEXT_BYTES) items) (result : Result Reply Stop) where
+  given_text : IsGiven (s.content file) (Some MAX_TEXT_BYTES) text
+  given_text = subst (IsGiven (s.content file) (Some MAX_TEXT_BYTES)) (sym same) given
+
+  pub none_replied : IsReplied (IsRefusal (PosesNone text)) result → IsReplied (GetsText s file (λ t. AsksText t GoesOn)) result
+  none_replied r = IsReplied-weaker (IsRefusal (PosesNone text)) (GetsText s file (λ t. AsksText t GoesOn)) (λ status output h. inr (inr (text, given_text, text_refused text GoesOn status output h))) result r
+
+  pub asked_replied : (q : ProblemParts) → Asks text q × IsSmall q → IsReplied (GoesOn q) result → IsReplied (GetsText s file (λ t. AsksText t GoesOn)) result
+  asked_replied q asks r =
+      IsReplied-weaker (GoesOn q) (GetsText s file (λ t. AsksText t GoesOn))
+      (λ status output h. inr (inr (text, given_text, text_posed text GoesOn status output q asks h)))
+      result
+      r
+
+-- a second file is got of a shelf that has not failed and holds what it held
+module _ (s : ShelfUse) (content : List ℕ → Told) (before : ℕ) (other : List ℕ) (GoesOn : List ℕ → Replying) (holds : content other ≡ s.content other) (stands : before ≡ s.before) (result : Result Reply Stop) where
+  pub ungiven_replied : (line : List ℕ) → IsReplied (IsUngiven (shelf_use content before s.now s.last) other None line) result → IsReplied (GetsFile s other None [] GoesOn) result
+  ungiven_replied line r = IsReplied-weaker (IsUngiven (shelf_use content before s.now s.last) other None line) (GetsFile s other None [] GoesOn) weaker result r
+    where
+      weaker : (status : ℕ) (output : List ℕ) → IsUngiven (shelf_use content before s.now s.last) other None line status output → GetsFile s other None [] GoesOn status output
+      weaker status output (inl f) = inl (record { fails = (subst (λ n. Rose n s.now) stands f.fails.0, f.fails.1); has_status = f.has_status; printed = f.printed })
+      weaker status output (inr h) = absurd (never_past (content other) h.1.past)
+
+  pub given_replied : (bytes items : List ℕ) → bytes ≡ items → IsGiven (content other) None items → IsReplied (GoesOn bytes) result → IsReplied (GetsFile s other None [] GoesOn) result
+  given_replied bytes items same given r =
+      IsReplied-weaker (GoesOn bytes) (GetsFile s other None [] GoesOn)
+      (λ status output h. inr (inr (bytes, subst (λ t. IsGiven t None bytes) holds (subst (IsGiven (content other) None) (sym same) given), h)))
+      result
+      r

@@ -1,0 +1,174 @@
+-- Each step of a reply has one outcome: where it may go on with something, it goes on with that alone or stops with one reply.
+use Rattle.std.proofs.Common.{◌≡◌, ◌⊎◌, ◌<◌, ℕ, List, [], length, true, Option, None, Some, inl, inr, ⊎_elim, refl, sym, subst, ap, ◌∙◌, arith}
+use Rattle.std.proofs.lemmas.Bool.{false≢true}
+use Rattle.std.proofs.lemmas.Option.{same_Some}
+use Rattle.kat_model.specs.declared.limits.TheConstants.{MAX_TEXT_BYTES}
+use Rattle.kat_model.specs.Problems.{ProblemParts}
+use Rattle.kat_io.specs.Told.{Untold, Holds}
+use Rattle.kat_io.specs.Outside.{Rose}
+use Rattle.kat_io.specs.Gets.{IsWithin, IsPast}
+use Rattle.kat_tokens.specs.declared.fault.TextFault.TheVariants.{TooLong}
+use Rattle.kat_report.specs.Refusals.{text_fault_line}
+use Rattle.certificate.specs.declared.evidence.Evidence.{Evidence}
+use Rattle.certificate.specs.declared.evidence.EvidenceFault.{EvidenceFault}
+use Rattle.certificate.specs.Faults.{line_fault}
+use Rattle.certificate.proofs.Exactness.{texts_differ_lem, is_text_or_faulty_lem}
+use Rattle.problem_file.specs.Files.{GoalTree, State}
+use Rattle.problem_file.specs.Reads.{TextSays, too_long}
+use Rattle.problem_file.proofs.OneAnswer.{have_one_answer}
+use Rattle.kat_tool.specs.Asking.{goal_compares, problem_parts, HasGoal, HasQuestion, Asks, IsSmall}
+use Rattle.kat_tool.specs.Posing.{IsFaulty, AsksNone, PosesNone, IsRefused, Poses, too_long_line}
+use Rattle.kat_tool.specs.Showing.{Spells}
+use Rattle.kat_tool.specs.Steps.{ShelfUse, Replying, FailsOn, HasFailedOn, GetsFile, GetsText, ReadsText, AsksQuestion, AsksText, ReadsEvidence}
+use Rattle.kat_tool.proofs.Contents.{past_within, held_same, held_past, told_bytes, told_past}
+
+-- two such replies have one status
+abbrev pub OneStatus : Replying → Type 0
+OneStatus IsSo = (a b : ℕ) (o p : List ℕ) → IsSo a o → IsSo b p → a ≡ b
+
+-- ---- a file is got
+
+module _ (s : ShelfUse) (file : List ℕ) (limit : Option ℕ) (line : List ℕ) (GoesOn : List ℕ → Replying) where
+  pub gets_told : (bytes : List ℕ) (status : ℕ) (output : List ℕ) → s.content file ≡ Holds bytes → (FailsOn s file → ⊥) → GetsFile s file limit line GoesOn status output
+      → (IsPast (length bytes) limit × (status ≡ 2) × (output ≡ line)) ⊎ (IsWithin (length bytes) limit × GoesOn bytes status output)
+  gets_told bytes status output is unfailed (inl f) = absurd (unfailed f.fails)
+  gets_told bytes status output is unfailed (inr (inl r)) = inl (held_past (s.content file) limit bytes is r.1.past, r.0, r.1.printed)
+  gets_told bytes status output is unfailed (inr (inr g)) =
+      inr (subst (λ b. IsWithin (length b) limit × GoesOn b status output) (held_same (s.content file) bytes g.0 is g.1.0) (g.1.1, g.2))
+
+  pub gets_once : (s.content file ≡ Untold → ⊥) → (Rose s.before s.now → ⊥) → ((bytes : List ℕ) → OneStatus (GoesOn bytes)) → OneStatus (GetsFile s file limit line GoesOn)
+  gets_once is_told unfailed once a b o p (inl f) y = absurd (unfailed f.fails.0)
+  gets_once is_told unfailed once a b o p (inr (inl r)) y =
+      let past = told_past (s.content file) limit is_told r.1.past in
+      past_once past.0 past.2 (gets_told past.0 b p past.1 (λ f. unfailed f.0) y)
+    where
+      past_once : (bytes : List ℕ) → IsPast (length bytes) limit → (IsPast (length bytes) limit × (b ≡ 2) × (p ≡ line)) ⊎ (IsWithin (length bytes) limit × GoesOn bytes b p) → a ≡ b
+      past_once bytes past (inl q) = r.0 ∙ sym q.1
+      past_once bytes past (inr q) = absurd (past_within (length bytes) limit past q.0)
+  gets_once is_told unfailed once a b o p (inr (inr g)) y =
+      within_once (gets_told g.0 b p (told_bytes (s.content file) g.0 is_told g.1.0) (λ f. unfailed f.0) y)
+    where
+      within_once : (IsPast (length g.0) limit × (b ≡ 2) × (p ≡ line)) ⊎ (IsWithin (length g.0) limit × GoesOn g.0 b p) → a ≡ b
+      within_once (inl q) = absurd (past_within (length g.0) limit q.0 g.1.1)
+      within_once (inr q) = once g.0 a b o p g.2 q.1
+
+-- a file without a limit is not refused
+pub gets_bytes : (s : ShelfUse) (file : List ℕ) (GoesOn : List ℕ → Replying) (bytes : List ℕ) (status : ℕ) (output : List ℕ) → s.content file ≡ Holds bytes → (FailsOn s file → ⊥) → GetsFile s file None [] GoesOn status output → GoesOn bytes status output
+gets_bytes s file GoesOn bytes status output is unfailed r = ⊎_elim (λ h. absurd h.0) (λ h. h.1) (gets_told s file None [] GoesOn bytes status output is unfailed r)
+
+-- ---- a text is read
+
+module _ (text : List ℕ) (GoesOn : State → Replying) (status : ℕ) (output : List ℕ) where
+  pub reads_said : (a : State) → TextSays text a → ReadsText text GoesOn status output → GoesOn a status output
+  reads_said a says (inl r) = absurd (have_one_answer.either text a r.1.fault says r.1.first)
+  reads_said a says (inr g) = subst (λ x. GoesOn x status output) (have_one_answer.states text g.0 a g.1 says) g.2
+
+  pub reads_faulty : (line : List ℕ) → IsFaulty text line → ReadsText text GoesOn status output → (status ≡ 2) × (output ≡ line)
+  reads_faulty line f (inl r) = (r.0, r.1.printed ∙ ap text_fault_line (have_one_answer.faults text r.1.fault f.fault r.1.first f.first) ∙ sym f.printed)
+  reads_faulty line f (inr g) = absurd (have_one_answer.either text g.0 f.fault g.1 f.first)
+
+pub reads_once : (text : List ℕ) (GoesOn : State → Replying) → ((s : State) → OneStatus (GoesOn s)) → OneStatus (ReadsText text GoesOn)
+reads_once text GoesOn once a b o p (inl r) y = r.0 ∙ sym (reads_faulty text GoesOn b p o r.1 y).0
+reads_once text GoesOn once a b o p (inr g) y = once g.0 a b o p g.2 (reads_said text GoesOn b p g.0 g.1 y)
+
+-- ---- its question is asked
+
+module _ (s : State) where
+  one_question : (q r : ProblemParts) → HasQuestion s q → HasQuestion s r → q ≡ r
+  one_question q r x y = x.question ∙ ap (problem_parts s) (same_Some x.goal y.goal (sym x.has.is_goal ∙ y.has.is_goal)) ∙ sym y.question
+
+  asks_plain : (q : ProblemParts) (g : GoalTree) → HasQuestion s q → HasGoal s true g → ⊥
+  asks_plain q g x y = false≢true (sym x.has.compares ∙ ap goal_compares (same_Some x.goal g (sym x.has.is_goal ∙ y.is_goal)) ∙ y.compares)
+
+  asked_not_none : (q : ProblemParts) (line : List ℕ) → HasQuestion s q → IsSmall q → AsksNone s line → ⊥
+  asked_not_none q line x small (inl l) =
+      let smaller : IsSmall l.question = subst IsSmall (one_question q l.question x l.asks) small in
+      let large = l.large in
+      omega (arith, smaller, large)
+  asked_not_none q line x small (inr n) = asks_plain q n.goal x n.compares
+
+  one_line : (a b : List ℕ) → AsksNone s a → AsksNone s b → a ≡ b
+  one_line a b (inl x) (inl y) = x.printed ∙ sym y.printed
+  one_line a b (inl x) (inr y) = absurd (asks_plain x.question y.goal x.asks y.compares)
+  one_line a b (inr x) (inl y) = absurd (asks_plain y.question x.goal y.asks x.compares)
+  one_line a b (inr x) (inr y) = x.printed ∙ sym y.printed
+
+  module _ (GoesOn : ProblemParts → Replying) (status : ℕ) (output : List ℕ) where
+    pub asks_question : (q : ProblemParts) → HasQuestion s q → IsSmall q → AsksQuestion s GoesOn status output → GoesOn q status output
+    asks_question q x small (inl r) = absurd (asked_not_none q output x small r.1)
+    asks_question q x small (inr g) = subst (λ p. GoesOn p status output) (one_question g.0 q g.1.0 x) g.2
+
+    pub asks_none : (line : List ℕ) → AsksNone s line → AsksQuestion s GoesOn status output → (status ≡ 2) × (output ≡ line)
+    asks_none line n (inl r) = (r.0, one_line output line r.1 n)
+    asks_none line n (inr g) = absurd (asked_not_none g.0 line g.1.0 g.1.1 n)
+
+pub asks_once : (s : State) (GoesOn : ProblemParts → Replying) → ((q : ProblemParts) → OneStatus (GoesOn q)) → OneStatus (AsksQuestion s GoesOn)
+asks_once s GoesOn once a b o p (inl r) y = r.0 ∙ sym (asks_none s GoesOn b p o r.1 y).0
+asks_once s GoesOn once a b o p (inr g) y = once g.0 a b o p g.2 (asks_question s GoesOn b p g.0 g.1.0 g.1.1 y)
+
+-- ---- both
+
+module _ (text : List ℕ) (GoesOn : ProblemParts → Replying) (status : ℕ) (output : List ℕ) where
+  pub text_asks : (q : ProblemParts) → Asks text q → IsSmall q → AsksText text GoesOn status output → GoesOn q status output
+  text_asks q x small r = asks_question x.state GoesOn status output q x.asks small (reads_said text (λ s. AsksQuestion s GoesOn) status output x.state x.says r)
+
+  pub text_none : (line : List ℕ) → PosesNone text line → AsksText text GoesOn status output → (status ≡ 2) × (output ≡ line)
+  text_none line (inl f) r = reads_faulty text (λ s. AsksQuestion s GoesOn) status output line f r
+  text_none line (inr h) r = asks_none h.0 GoesOn status output line h.2 (reads_said text (λ s. AsksQuestion s GoesOn) status output h.0 h.1 r)
+
+pub text_once : (text : List ℕ) (GoesOn : ProblemParts → Replying) → ((q : ProblemParts) → OneStatus (GoesOn q)) → OneStatus (AsksText text GoesOn)
+text_once text GoesOn once = reads_once text (λ s. AsksQuestion s GoesOn) (λ s. asks_once s GoesOn once)
+
+-- a text that is too long is faulty
+long_faulty : (text : List ℕ) → MAX_TEXT_BYTES < length text → IsFaulty text too_long_line
+long_faulty text past = record { fault = TooLong; first = too_long refl past; printed = refl }
+
+module _ (s : ShelfUse) (file : List ℕ) (GoesOn : ProblemParts → Replying) (status : ℕ) (output : List ℕ) where
+  -- the reply to a file, by what the text that it may hold asks
+  pub gets_posed : GetsText s file (λ text. AsksText text GoesOn) status output
+      → HasFailedOn s file status output ⊎ (((status ≡ 2) × IsRefused (s.content file) output) ⊎ ((q : ProblemParts) × Poses (s.content file) q × GoesOn q status output))
+  gets_posed (inl f) = inl f
+  gets_posed (inr (inl r)) = inr (inl (r.0, inl r.1))
+  gets_posed (inr (inr (text, given, inl r))) = inr (inl (r.0, inr (text, given, inl r.1)))
+  gets_posed (inr (inr (text, given, inr (a, says, inl r)))) = inr (inl (r.0, inr (text, given, inr (a, says, r.1))))
+  gets_posed (inr (inr (text, given, inr (a, says, inr (q, asks, g))))) = inr (inr (q, record { text = text; given = given; asks = record { state = a; says = says; asks = asks.0 }; small = asks.1 }, g))
+
+  module _ (text : List ℕ) (is : s.content file ≡ Holds text) (unfailed : FailsOn s file → ⊥) (r : GetsText s file (λ t. AsksText t GoesOn) status output) where
+    told : (IsPast (length text) (Some MAX_TEXT_BYTES) × (status ≡ 2) × (output ≡ too_long_line)) ⊎ (IsWithin (length text) (Some MAX_TEXT_BYTES) × AsksText text GoesOn status output)
+    told = gets_told s file (Some MAX_TEXT_BYTES) too_long_line (λ t. AsksText t GoesOn) text status output is unfailed r
+
+    pub gets_asked : (q : ProblemParts) → Asks text q → IsSmall q → GoesOn q status output
+    gets_asked q asks small = asked told
+      where
+        asked : (IsPast (length text) (Some MAX_TEXT_BYTES) × (status ≡ 2) × (output ≡ too_long_line)) ⊎ (IsWithin (length text) (Some MAX_TEXT_BYTES) × AsksText text GoesOn status output) → GoesOn q status output
+        asked (inl h) = absurd (have_one_answer.either text asks.state TooLong asks.says (too_long refl h.0))
+        asked (inr h) = text_asks text GoesOn status output q asks small h.1
+
+    pub gets_none : (line : List ℕ) → PosesNone text line → (status ≡ 2) × (output ≡ line)
+    gets_none line none = declined told
+      where
+        declined : (IsPast (length text) (Some MAX_TEXT_BYTES) × (status ≡ 2) × (output ≡ too_long_line)) ⊎ (IsWithin (length text) (Some MAX_TEXT_BYTES) × AsksText text GoesOn status output) → (status ≡ 2) × (output ≡ line)
+        declined (inl h) = (h.1, h.2 ∙ (text_none text GoesOn 2 too_long_line line none (inl (refl, long_faulty text h.0))).1)
+        declined (inr h) = text_none text GoesOn status output line none h.1
+
+-- ---- evidence is read
+
+module _ (bytes : List ℕ) where
+  spelled_same : (e f : Evidence) → Spells bytes e → Spells bytes f → e ≡ f
+  spelled_same e f s t = texts_differ_lem e f s.evidence t.evidence (sym s.text ∙ t.text)
+
+  spelled_faultless : (e : Evidence) (fault : EvidenceFault) → Spells bytes e → line_fault bytes ≡ Some fault → ⊥
+  spelled_faultless e fault s f = ⊎_elim (λ h. h.1 (fault, f)) (λ h. h.0 (e, s.evidence, s.text)) (is_text_or_faulty_lem bytes)
+
+  module _ (GoesOn : Evidence → Replying) (status : ℕ) (output : List ℕ) where
+    pub reads_spelled : (e : Evidence) → Spells bytes e → ReadsEvidence bytes GoesOn status output → GoesOn e status output
+    reads_spelled e s (inl r) = absurd (spelled_faultless e r.1.fault s r.1.first)
+    reads_spelled e s (inr g) = subst (λ f. GoesOn f status output) (spelled_same g.0 e g.1 s) g.2
+
+    pub reads_no_evidence : (fault : EvidenceFault) → line_fault bytes ≡ Some fault → ReadsEvidence bytes GoesOn status output → status ≡ 2
+    reads_no_evidence fault f (inl r) = r.0
+    reads_no_evidence fault f (inr g) = absurd (spelled_faultless g.0 fault g.1 f)
+
+  pub reads_evidence_once : (GoesOn : Evidence → Replying) → ((e : Evidence) → OneStatus (GoesOn e)) → OneStatus (ReadsEvidence bytes GoesOn)
+  reads_evidence_once GoesOn once a b o p (inl r) y = r.0 ∙ sym (reads_no_evidence GoesOn b p r.1.fault r.1.first y)
+  reads_evidence_once GoesOn once a b o p (inr g) y = once g.0 a b o p g.2 (reads_spelled GoesOn b p g.0 g.1 y)

@@ -1,0 +1,7 @@
+use Rattle.kat_tool.proofs.top.served.Goals as goal
+
+pub returns-in-Check-clause-replied : goal.returns-in-Check-clause-replied
+returns-in-Check-clause-replied g c = rw c.in-Check.is c.check_files.ensures.replied
+
+pub returns-in-Replay-clause-replied : goal.returns-in-Replay-clause-replied
+returns-in-Replay-clause-replied g c = rw c.in-Replay.is c.replay_files.ensures.replied

@@ -1,0 +1,66 @@
+-- `decide`: its reply, what that says of the question, and the cause of each status.
+use Rattle.std.specs.Prelude.{◌≡◌, ◌≤◌, ◌+◌, ◌*◌, ◌⊎◌, ◌↔◌, ℕ, List, [], length}
+use Rattle.kat_model.specs.Trees.{acts}
+use Rattle.kat_model.specs.Guarded.{IsGuarded}
+use Rattle.kat_model.specs.Problems.{ProblemParts}
+use Rattle.kat_model.specs.Relations.{Same}
+use Rattle.kat_model.specs.Strings.{GuardedString}
+use Rattle.kat_io.specs.Told.{Holds}
+use Rattle.kat_io.specs.Outside.{Rose}
+use Rattle.certificate.specs.Certs.{CertParts}
+use Rattle.certificate.specs.Accepted.{set_pairs, IsAccepted}
+use Rattle.certificate.specs.Texts.{text_of}
+use Rattle.certificate.specs.declared.evidence.Evidence.TheVariants.{Equal, Different}
+use Rattle.certificate.specs.Decisions.{IsConcise, IsShortest}
+use Rattle.kat_tool.specs.Asking.{Asks, IsSmall}
+use Rattle.kat_tool.specs.Posing.{PosesNone, IsRefused, Poses}
+use Rattle.kat_tool.specs.Showing.{Spells}
+use Rattle.kat_tool.specs.Steps.{ShelfUse, Replying, FailsOn, HasFailedOn, GetsText, AsksText}
+
+-- both sides denote one relation in every table that keeps the hypotheses, and an accepted certificate is printed of
+-- which no pair is redundant; it has few pairs where both sides are guarded and there are no hypotheses
+pub record IsEqual (q : ProblemParts) (output : List ℕ) : Type 0 where
+  pub same : Same q
+  pub cert : CertParts
+  pub concise : IsConcise q cert
+  pub few : q.hyps ≡ [] → IsGuarded q.left → IsGuarded q.right → length (set_pairs cert) ≤ (acts q.left + 2) * (acts q.right + 2)
+  pub printed : Spells output (Equal cert)
+
+-- they do not, and a string is printed that refutes the problem, than which none has fewer moves
+pub record IsDifferent (q : ProblemParts) (output : List ℕ) : Type 0 where
+  pub differ : Same q → ⊥
+  pub string : GuardedString
+  pub shortest : IsShortest q string
+  pub printed : Spells output (Different string)
+
+-- the reply to a problem: each status has its cause
+abbrev pub IsDecided : ProblemParts → Replying
+IsDecided q status output = ((status ≡ 0) × IsEqual q output) ⊎ ((status ≡ 1) × IsDifferent q output)
+
+-- the reply to a text, and to a file
+abbrev pub DecidesText : List ℕ → Replying
+DecidesText text = AsksText text IsDecided
+
+abbrev pub Decides : ShelfUse → List ℕ → Replying
+Decides s file = GetsText s file DecidesText
+
+-- The status is 0 exactly where both sides denote one relation in every table that keeps the hypotheses, and then the
+-- output is the text of a certificate that is accepted. It is 1 exactly where they do not, and then the output is the text
+-- of a string that refutes the question, than which none that does has fewer moves.
+pub record Headline (q : ProblemParts) (status : ℕ) (output : List ℕ) : Type 0 where
+  pub answers : (status ≡ 0) ⊎ (status ≡ 1)
+  pub equal : (status ≡ 0) ↔ Same q
+  pub different : (status ≡ 1) ↔ (Same q → ⊥)
+  pub certificate : status ≡ 0 → (c : CertParts) × IsAccepted q c × (output ≡ text_of (Equal c))
+  pub string : status ≡ 1 → (x : GuardedString) × IsShortest q x × (output ≡ text_of (Different x))
+
+-- What a reply of `decide` says of its file. Where the shelf tells the text and did not fail, the headline holds of the
+-- question that the text asks. A text that poses none is refused with its line.
+pub record DecideCauses (s : ShelfUse) (file : List ℕ) (status : ℕ) (output : List ℕ) : Type 0 where
+  pub headline : (text : List ℕ) (q : ProblemParts) → s.content file ≡ Holds text → (Rose s.before s.now → ⊥) → Asks text q → IsSmall q → Headline q status output
+  pub declined : (text line : List ℕ) → s.content file ≡ Holds text → (FailsOn s file → ⊥) → PosesNone text line → (status ≡ 2) × (output ≡ line)
+  pub equal : status ≡ 0 → (q : ProblemParts) × Poses (s.content file) q × IsEqual q output
+  pub different : status ≡ 1 → (q : ProblemParts) × Poses (s.content file) q × IsDifferent q output
+  pub refused : status ≡ 2 → IsRefused (s.content file) output
+  pub failed : status ≡ 4 → HasFailedOn s file status output
+  pub answers : (status ≡ 0) ⊎ ((status ≡ 1) ⊎ ((status ≡ 2) ⊎ (status ≡ 4)))

@@ -1,0 +1,53 @@
+-- The statement on the top call.
+use Rattle.std.specs.Prelude.{◌≡◌, ◌≢◌, ◌⊎◌, ◌↔◌, ℕ, List, Option, None, Some, codes}
+use Rattle.std.specs.Io.KnownBytes.{Appends, Keeps}
+use Rattle.kat_io.specs.Outside.{Rose, AppendsFront}
+use Rattle.kat_model.specs.Members.{Has}
+use Rattle.kat_tool.specs.Commands.{Command, decide, check, replay, command_of, files_of}
+use Rattle.kat_tool.specs.Steps.{ShelfUse, HasFailedOn}
+use Rattle.kat_tool.specs.Decide.{DecideCauses}
+use Rattle.kat_tool.specs.Check.{CheckCauses}
+use Rattle.kat_tool.specs.Replay.{ReplayCauses}
+use Rattle.kat_tool.specs.Replies.{Replies}
+use Rattle.kat_tool.specs.Agreement.{IsAgreed}
+
+-- what a call saw of the sink: its count of faults before the call and after it, and what it had taken then, where it tells
+pub record SinkUse : Type 0 where
+  pub before : ℕ
+  pub now : ℕ
+  pub had : Option (List ℕ)
+  pub has : Option (List ℕ)
+
+abbrev pub sink_use : ℕ → ℕ → Option (List ℕ) → Option (List ℕ) → SinkUse
+sink_use before now had has = record { before = before; now = now; had = had; has = has }
+
+-- a call of `run`: its words, what it saw of the shelf and of the sink, and its status
+pub record Call : Type 0 where
+  pub words : List (List ℕ)
+  pub shelf : ShelfUse
+  pub sink : SinkUse
+  pub status : ℕ
+
+-- the shelf failed on a file of the words' command
+abbrev pub HasFailed : ShelfUse → List (List ℕ) → ℕ → List ℕ → Type 0
+HasFailed s words status output =
+    (command : Command) × (command_of words ≡ Some command) × ((file : List ℕ) × Has (files_of command) file × HasFailedOn s file status output)
+
+-- a reply to words, and what it says: of each command its own record, and of the statuses that all have
+pub record IsReply (s : ShelfUse) (words : List (List ℕ)) (status : ℕ) (output : List ℕ) : Type 0 where
+  pub replies : Replies s words status output
+  pub decides : (file : List ℕ) → command_of words ≡ Some (decide file) → DecideCauses s file status output
+  pub agrees : (file : List ℕ) → command_of words ≡ Some (decide file) → (status ≡ 0) ⊎ (status ≡ 1) → IsAgreed (s.content file) output status
+  pub checks : (file other : List ℕ) → command_of words ≡ Some (check file other) → CheckCauses s file other status output
+  pub replays : (file other : List ℕ) → command_of words ≡ Some (replay file other) → ReplayCauses s file other status output
+  pub failed : status ≡ 4 → HasFailed s words status output
+  pub no_command : (status ≡ 7) ↔ (command_of words ≡ None)
+  pub no_command_line : status ≡ 7 → output ≡ codes "refused: words\n"
+  pub counts : status ≢ 4 → s.now ≡ s.before
+
+-- With each status but 5 and 6 a reply was sent whole, and the sink did not fail. With 5 the sink failed in this call, and
+-- took a prefix of a reply. With 6 memory ran out, and nothing was sent.
+pub record IsRun (c : Call) : Type 0 where
+  pub answered : c.status ≢ 5 → c.status ≢ 6 → (output : List ℕ) × IsReply c.shelf c.words c.status output × Appends c.sink.had c.sink.has output × (c.sink.now ≡ c.sink.before)
+  pub unsent : c.status ≡ 5 → Rose c.sink.before c.sink.now × ((status : ℕ) × (output : List ℕ) × IsReply c.shelf c.words status output × AppendsFront c.sink.had c.sink.has output)
+  pub no_memory : c.status ≡ 6 → Keeps c.sink.had c.sink.has × (c.sink.now ≡ c.sink.before)

@@ -1,0 +1,47 @@
+//! `check`: the reply to a text and to bytes is whether they are evidence that shows what it says of the problem.
+ghost use Rattle.std.specs.Prelude.{◌≡◌, IfOk};
+ghost use Rattle.kat_tool.specs.Check.{evidence_status, accepted_line, IsChecked, ChecksBytes, ChecksTexts};
+ghost use Rattle.kat_tool.specs.Working.Outcomes.{IsReplied};
+
+use crate::posing::posed;
+use crate::reply::{Reply, Stop, line, rejected};
+use crate::showing::spelled;
+use cert_checker::{Answer, check};
+use certificate::Evidence;
+use kat_model::{NoMemory, Problem};
+use std::alloc::Global;
+
+fn accepted(alloc: Global, evidence: &Evidence) -> Result<Reply, NoMemory>
+    ensures { IfOk result (λ r. (r.status ≡ evidence_status evidence.now) × (r.output.items ≡ accepted_line evidence.now)) }
+{
+    match evidence {
+        Evidence::Equal(_) => line(alloc, 0, b"accepted equal\n"),
+        Evidence::Different(_) => line(alloc, 1, b"accepted different\n"),
+    }
+}
+
+// The reply to a problem and evidence.
+fn checked(alloc: Global, problem: &Problem, evidence: &Evidence) -> Result<Reply, NoMemory>
+    ensures { IfOk result (λ r. IsChecked problem.now evidence.now r.status r.output.items) }
+{
+    match check(alloc, problem, evidence)? {
+        Answer::Accepted => accepted(alloc, evidence),
+        Answer::Rejected(reason) => rejected(alloc, &reason),
+    }
+}
+
+/// The reply to a problem and bytes.
+pub(crate) fn bytes_reply(alloc: Global, problem: &Problem, bytes: &[u8]) -> Result<Reply, Stop>
+    ensures { IsReplied (ChecksBytes problem.now bytes.now) result }
+{
+    let evidence = spelled(alloc, bytes)?;
+    Ok(checked(alloc, problem, &evidence)?)
+}
+
+/// The reply to a text and bytes.
+pub(crate) fn texts_reply(alloc: Global, text: &[u8], bytes: &[u8]) -> Result<Reply, Stop>
+    ensures { IsReplied (ChecksTexts text.now bytes.now) result }
+{
+    let problem = posed(alloc, text)?;
+    bytes_reply(alloc, &problem, bytes)
+}

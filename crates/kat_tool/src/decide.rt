@@ -1,0 +1,66 @@
+//! `decide`: the reply to a text is the decision of the problem that it poses.
+ghost use Rattle.std.specs.Prelude.{◌≡◌, length, IfOk};
+ghost use Rattle.certificate.specs.Decisions.{IsDecision};
+ghost use Rattle.kat_tool.specs.Showing.{Spells};
+ghost use Rattle.kat_tool.specs.Check.{evidence_status};
+ghost use Rattle.kat_tool.specs.Decide.{IsDecided, DecidesText};
+ghost use Rattle.kat_tool.specs.Working.Outcomes.{IsReplied};
+
+use crate::posing::posed;
+use crate::reply::{Reply, Stop};
+use bisim_worklist::decide;
+use certificate::{Evidence, write};
+use kat_model::{NoMemory, Problem};
+use std::alloc::Global;
+
+// How many nodes there are.
+fn count<T>(nodes: &[T]) -> usize
+    ensures { result ≡ length nodes.now }
+{
+    nodes.len()
+}
+
+// The text of a decision, which is read as that decision again: its numbers are those of nodes, tests and actions.
+fn text(alloc: Global, problem: &Problem, evidence: &Evidence) -> Result<Vec<u8>, NoMemory>
+    requires { IsDecision problem.now evidence.now }
+    ensures { IfOk result (λ v. Spells v.items evidence.now) }
+{
+    // The proof needs the limits of a problem, and of a certificate its rules and how many nodes it has.
+    let _ = problem.tests();
+    match evidence {
+        Evidence::Equal(cert) => {
+            let _ = count(cert.test_nodes());
+            let _ = count(cert.term_nodes());
+            write(alloc, evidence)
+        }
+        Evidence::Different(_) => write(alloc, evidence),
+    }
+}
+
+fn evidence_status(evidence: &Evidence) -> u8
+    ensures { result ≡ evidence_status evidence.now }
+{
+    match evidence {
+        Evidence::Equal(_) => 0,
+        Evidence::Different(_) => 1,
+    }
+}
+
+// The reply to a problem.
+fn decided(alloc: Global, problem: &Problem) -> Result<Reply, NoMemory>
+    ensures { IfOk result (λ r. IsDecided problem.now r.status r.output.items) }
+{
+    let evidence = decide(alloc, problem)?;
+    Ok(Reply {
+        status: evidence_status(&evidence),
+        output: text(alloc, problem, &evidence)?,
+    })
+}
+
+/// The reply to a text.
+pub(crate) fn text_reply(alloc: Global, text: &[u8]) -> Result<Reply, Stop>
+    ensures { IsReplied (DecidesText text.now) result }
+{
+    let problem = posed(alloc, text)?;
+    Ok(decided(alloc, &problem)?)
+}

@@ -1,0 +1,202 @@
+-- The walk over items gives no fault for want of memory, where its actions give none.
+use Rattle.std.proofs.Common.{ℕ, zero, suc, ◌+◌, ◌<◌, List, [], ◌∷◌, length, Bool, true, false, cond, Result, Ok, Err, arith, drop, length-drop}
+use Rattle.kat_tokens.specs.declared.fault.TextFault.{TextFault}
+use Rattle.kat_tokens.specs.declared.fault.TextFault.TheVariants.{Syntax}
+use Rattle.kat_syntax.specs.declared.terminal.Terminal.{Terminal}
+use Rattle.kat_syntax.specs.declared.terminal.Terminal.TheVariants.{Name, Keyword, Separator, Zero}
+use Rattle.kat_syntax.specs.declared.terminal.Keyword.TheVariants as word
+use Rattle.kat_syntax.specs.declared.terminal.Separator.TheVariants.{Comma, Semicolon, CurlyOpen, CurlyClose, Equals}
+use Rattle.kat_syntax.specs.Lexemes.{Lexeme, lexeme, heads, is_terminal}
+use Rattle.kat_syntax.specs.Parsed.{Parsed, ◌>>=◌, before, wants, then_wants}
+use Rattle.kat_syntax.specs.Actions.{context}
+use Rattle.kat_syntax.specs.Conds.{parse_cond, disjunction}
+use Rattle.kat_syntax.specs.Terms.{parse_term, choice}
+use Rattle.kat_syntax.proofs.Within.{Within, bind_within, if_within, weaken, before_within, enter_within, change_within, then_wants_within}
+use Rattle.kat_syntax.proofs.CondSteps.{cond_read_short}
+use Rattle.kat_syntax.proofs.TermSteps.{term_read_short}
+use Rattle.kat_syntax.proofs.NamedFaults.{IsNamed, then_named, bind_named, if_named, before_named, change_named, wants_named, then_wants_named, NameTerms, cond_named, term_named}
+use Rattle.problem_file.specs.ItemActions.{Measurement, SidesMeasurement, TripleMeasurement, ItemActions}
+use Rattle.problem_file.specs.Items.{name_at, at_name, names_within, over_names, term_by, cond_by, braced_by, triple_by, then_do, declaration_by, meaning_by, definition_by, zero_by, hyp_by, sides_by, comparison_by, asked_by, item_by, items_within, items_by}
+use Rattle.problem_file.specs.declared.item_reading.Declared.{Declared}
+use Rattle.problem_file.specs.declared.item_reading.Declared.TheVariants as what
+use Rattle.problem_file.specs.declared.item_reading.Comparison.{Comparison}
+use Rattle.problem_file.specs.declared.item_reading.Comparison.TheVariants.{Equal, Below}
+
+-- ---- names
+
+name_at_named : (ts : List Lexeme) → IsNamed (name_at ts)
+name_at_named [] = tt
+name_at_named (lexeme Name at text ∷ ts) = tt
+name_at_named (lexeme _ at text ∷ ts) = tt
+
+at_name_named : {S : Type 0} (f : ℕ → List ℕ → Result S TextFault) (ts : List Lexeme) → ((at : ℕ) (text : List ℕ) → IsNamed (f at text)) → IsNamed (at_name f ts)
+at_name_named f ts h = then_named (name_at ts) (λ l. before (drop 1 ts) (f l.at l.text)) (name_at_named ts) (λ l. before_named (drop 1 ts) (f l.at l.text) (h l.at l.text))
+
+at_name_short : {S : Type 0} (f : ℕ → List ℕ → Result S TextFault) (ts : List Lexeme) → Within (length ts) (at_name f ts)
+at_name_short f [] = tt
+at_name_short f (lexeme Name at text ∷ ts) = before_within (suc (length ts)) ts (f at text) (omega arith)
+at_name_short f (lexeme _ at text ∷ ts) = tt
+
+names_named : {S : Type 0} (f : S → ℕ → List ℕ → Result S TextFault) → ((s : S) (at : ℕ) (text : List ℕ) → IsNamed (f s at text)) → (n : ℕ) (s : S) (ts : List Lexeme) → length ts < n → IsNamed (names_within n f s ts)
+names_named f h zero s ts lt = absurd (omega arith)
+names_named f h (suc n) s ts lt = bind_named (length ts) (at_name (f s) ts) _ (at_name_named (f s) ts (h s)) (at_name_short (f s) ts)
+    (λ x below. if_named (heads (is_terminal (Separator Comma)) x.1) (names_within n f x.0 (drop 1 x.1)) (Ok x) (λ k. names_named f h n x.0 (drop 1 x.1) (omega (arith, length-drop 1 x.1))) (λ k. tt))
+
+names_short : {S : Type 0} (f : S → ℕ → List ℕ → Result S TextFault) (n : ℕ) (s : S) (ts : List Lexeme) → Within (length ts) (names_within n f s ts)
+names_short f zero s ts = tt
+names_short f (suc n) s ts = bind_within (length ts) (length ts) (at_name (f s) ts) _ (at_name_short (f s) ts)
+    (λ x below. if_within (length ts) (heads (is_terminal (Separator Comma)) x.1) (names_within n f x.0 (drop 1 x.1)) (Ok x)
+    (λ k. weaken (length (drop 1 x.1)) (length ts) (names_within n f x.0 (drop 1 x.1)) (omega (arith, length-drop 1 x.1)) (names_short f n x.0 (drop 1 x.1)))
+    (λ k. below))
+
+-- ---- fewer tokens are left
+
+wants_short : {V : Type 0} (p : Terminal → Bool) (ts : List Lexeme) (n : ℕ) (k : List Lexeme → Parsed V) → ((us : List Lexeme) → length us < length ts → Within n (k us)) → Within n (wants p ts >>= k)
+wants_short p [] n k h = tt
+wants_short p (lexeme s at text ∷ ts) n k h = elim (p s) as (λ b. Within n (cond b (Ok ts) (Err (Syntax at)) >>= k)) [ true ↦ h ts (omega arith) | false ↦ tt ]
+
+then_do_named : {S M : Type 0} (f : M → Result S TextFault) (m : Parsed M) → IsNamed m → ((v : M) → IsNamed (f v)) → IsNamed (then_do f m)
+then_do_named f m h k = then_named (then_wants (is_terminal (Separator Semicolon)) m) (λ x. before x.1 (f x.0)) (then_wants_named (is_terminal (Separator Semicolon)) m h) (λ x. before_named x.1 (f x.0) (k x.0))
+
+then_do_short : {S M : Type 0} (f : M → Result S TextFault) (n : ℕ) (m : Parsed M) → Within n m → Within n (then_do f m)
+then_do_short f n m h = bind_within n n (then_wants (is_terminal (Separator Semicolon)) m) (λ x. before x.1 (f x.0)) (then_wants_within (is_terminal (Separator Semicolon)) n m h) (λ x lt. before_within n x.1 (f x.0) lt)
+
+module _ {S X : Type 0} (g : ItemActions S X) where
+  term_short : (s : S) (ts : List Lexeme) → Within (length ts) (term_by g s ts)
+  term_short s ts =
+      let m = parse_term (g.phrases s) choice (context 0 false false) ts in
+      change_within (length ts) (λ x. record { measure = x; tokens = ts }) m (weaken (length ts + 0) (length ts) m (omega arith) (term_read_short (g.phrases s) choice (context 0 false false) ts))
+
+  cond_short : (s : S) (compares : Bool) (ts : List Lexeme) → Within (length ts) (cond_by g s compares ts)
+  cond_short s compares ts =
+      let m = parse_cond (g.phrases s).conds disjunction (context 1 false compares) ts in
+      change_within (length ts) (λ x. record { measure = x; tokens = ts }) m (weaken (length ts + 0) (length ts) m (omega arith) (cond_read_short (g.phrases s).conds disjunction (context 1 false compares) ts))
+
+  braced_short : (s : S) (compares : Bool) (ts : List Lexeme) → Within (length ts) (braced_by g s compares ts)
+  braced_short s compares ts = wants_short (is_terminal (Separator CurlyOpen)) ts (length ts) _
+      (λ us lt. then_wants_within (is_terminal (Separator CurlyClose)) (length ts) (cond_by g s compares us) (weaken (length us) (length ts) (cond_by g s compares us) (omega arith) (cond_short s compares us)))
+
+  triple_short : (s : S) (compares : Bool) (ts : List Lexeme) → Within (length ts) (triple_by g s compares ts)
+  triple_short s compares ts = bind_within (length ts) (length ts) (braced_by g s compares ts) _ (braced_short s compares ts)
+      (λ x lt. bind_within (length x.1) (length ts) (term_by g s x.1) _ (term_short s x.1)
+      (λ y le. bind_within (length y.1) (length ts) (braced_by g s compares y.1) _ (braced_short s compares y.1) (λ z l. omega arith)))
+
+  sides_short : (s : S) (ts : List Lexeme) → Within (length ts) (sides_by g s ts)
+  sides_short s ts = bind_within (length ts) (length ts) (then_wants (is_terminal (Separator Comma)) (term_by g s ts)) _ (then_wants_within (is_terminal (Separator Comma)) (length ts) (term_by g s ts) (term_short s ts))
+      (λ x lt. bind_within (length x.1) (length ts) (term_by g s x.1) _ (term_short s x.1) (λ y le. omega arith))
+
+  meaning_short : (s : S) (ts : List Lexeme) → Within (length ts) (meaning_by g s ts)
+  meaning_short s ts = wants_short (is_terminal (Separator Equals)) ts (length ts) _
+      (λ us lt. then_wants_within (is_terminal (Separator Semicolon)) (length ts) (term_by g s us) (weaken (length us) (length ts) (term_by g s us) (omega arith) (term_short s us)))
+
+  declaration_short : (what : Declared) (s : S) (ts : List Lexeme) → Within (length ts) (declaration_by g what s ts)
+  declaration_short what s ts = then_wants_within (is_terminal (Separator Semicolon)) (length ts) (over_names (g.declare what) s ts) (names_short (g.declare what) (suc (length ts)) s ts)
+
+  definition_short : (s : S) (at : ℕ) (ts : List Lexeme) → Within (length ts) (definition_by g s at ts)
+  definition_short s at ts = enter_within (length ts) (name_at ts) _
+      (λ l. enter_within (length ts) (g.check_new s l.at l.text) _
+      (λ u. bind_within (length (drop 1 ts)) (length ts) (meaning_by g s (drop 1 ts)) (λ x. before x.1 (g.define s at l.text x.0)) (meaning_short s (drop 1 ts))
+      (λ x lt. before_within (length ts) x.1 (g.define s at l.text x.0) (omega (arith, length-drop 1 ts)))))
+
+  zero_short : (s : S) (at : ℕ) (ts : List Lexeme) → Within (length ts) (zero_by g s at ts)
+  zero_short s at ts = then_do_short (g.state_zero s at) (length ts) _ (then_wants_within (is_terminal Zero) (length ts) _ (then_wants_within (is_terminal (Separator Equals)) (length ts) (term_by g s ts) (term_short s ts)))
+
+  hyp_short : (s : S) (at : ℕ) (ts : List Lexeme) → Within (length ts) (hyp_by g s at ts)
+  hyp_short s at ts = enter_within (length ts) (g.begin_hyp s at) _
+      (λ u. if_within (length ts) (heads (is_terminal (Keyword word.Triple)) ts) (then_do (g.state_triple s at) (triple_by g s false (drop 1 ts))) (zero_by g s at ts)
+      (λ k. then_do_short (g.state_triple s at) (length ts) (triple_by g s false (drop 1 ts)) (weaken (length (drop 1 ts)) (length ts) (triple_by g s false (drop 1 ts)) (omega (arith, length-drop 1 ts)) (triple_short s false (drop 1 ts))))
+      (λ k. zero_short s at ts))
+
+  comparison_short : (c : Comparison) (s : S) (at : ℕ) (ts : List Lexeme) → Within (suc (length ts)) (comparison_by g c s at ts)
+  comparison_short c s at ts = then_do_short (g.ask_sides c s at) (suc (length ts)) (sides_by g s ts) (weaken (length ts) (suc (length ts)) (sides_by g s ts) (omega arith) (sides_short s ts))
+
+  asked_short : (s : S) (at : ℕ) (ts : List Lexeme) → Within (length ts) (asked_by g s at ts)
+  asked_short s at [] = tt
+  asked_short s at (lexeme (Keyword word.Equal) place text ∷ ts) = comparison_short Equal s at ts
+  asked_short s at (lexeme (Keyword word.Below) place text ∷ ts) = comparison_short Below s at ts
+  asked_short s at (lexeme (Keyword word.Triple) place text ∷ ts) = then_do_short (g.ask_triple s at) (suc (length ts)) (triple_by g s true ts) (weaken (length ts) (suc (length ts)) (triple_by g s true ts) (omega arith) (triple_short s true ts))
+  asked_short s at (lexeme _ place text ∷ ts) = tt
+
+  item_short : (s : S) (ts : List Lexeme) → Within (length ts) (item_by g s ts)
+  item_short s [] = tt
+  item_short s (lexeme (Keyword word.Test) at text ∷ ts) = weaken (length ts) (suc (length ts)) (declaration_by g what.Test s ts) (omega arith) (declaration_short what.Test s ts)
+  item_short s (lexeme (Keyword word.Action) at text ∷ ts) = weaken (length ts) (suc (length ts)) (declaration_by g what.Action s ts) (omega arith) (declaration_short what.Action s ts)
+  item_short s (lexeme (Keyword word.Term) at text ∷ ts) = weaken (length ts) (suc (length ts)) (definition_by g s at ts) (omega arith) (definition_short s at ts)
+  item_short s (lexeme (Keyword word.Hyp) at text ∷ ts) = weaken (length ts) (suc (length ts)) (hyp_by g s at ts) (omega arith) (hyp_short s at ts)
+  item_short s (lexeme (Keyword word.Goal) at text ∷ ts) = enter_within (suc (length ts)) (g.begin_goal s at) _ (λ u. weaken (length ts) (suc (length ts)) (asked_by g s at ts) (omega arith) (asked_short s at ts))
+  item_short s (lexeme _ at text ∷ ts) = tt
+
+-- no action refuses a part for want of memory
+pub record NameItems {S X : Type 0} (g : ItemActions S X) : Type 0 where
+  pub phrases : (s : S) → NameTerms (g.phrases s)
+  pub declare : (what : Declared) (s : S) (at : ℕ) (text : List ℕ) → IsNamed (g.declare what s at text)
+  pub check_new : (s : S) (at : ℕ) (text : List ℕ) → IsNamed (g.check_new s at text)
+  pub define : (s : S) (at : ℕ) (text : List ℕ) (m : Measurement X) → IsNamed (g.define s at text m)
+  pub begin_hyp : (s : S) (at : ℕ) → IsNamed (g.begin_hyp s at)
+  pub state_zero : (s : S) (at : ℕ) (m : Measurement X) → IsNamed (g.state_zero s at m)
+  pub state_triple : (s : S) (at : ℕ) (m : TripleMeasurement X) → IsNamed (g.state_triple s at m)
+  pub begin_goal : (s : S) (at : ℕ) → IsNamed (g.begin_goal s at)
+  pub ask_sides : (c : Comparison) (s : S) (at : ℕ) (m : SidesMeasurement X) → IsNamed (g.ask_sides c s at m)
+  pub ask_triple : (s : S) (at : ℕ) (m : TripleMeasurement X) → IsNamed (g.ask_triple s at m)
+
+module _ {S X : Type 0} (g : ItemActions S X) (names : NameItems g) where
+  term_by_named : (s : S) (ts : List Lexeme) → IsNamed (term_by g s ts)
+  term_by_named s ts = change_named (λ x. record { measure = x; tokens = ts }) (parse_term (g.phrases s) choice (context 0 false false) ts) (term_named (g.phrases s) (names.phrases s) choice (context 0 false false) ts)
+
+  cond_by_named : (s : S) (compares : Bool) (ts : List Lexeme) → IsNamed (cond_by g s compares ts)
+  cond_by_named s compares ts = change_named (λ x. record { measure = x; tokens = ts }) (parse_cond (g.phrases s).conds disjunction (context 1 false compares) ts) (cond_named (g.phrases s).conds (names.phrases s).conds disjunction (context 1 false compares) ts)
+
+  braced_named : (s : S) (compares : Bool) (ts : List Lexeme) → IsNamed (braced_by g s compares ts)
+  braced_named s compares ts = then_named (wants (is_terminal (Separator CurlyOpen)) ts) _ (wants_named (is_terminal (Separator CurlyOpen)) ts) (λ us. then_wants_named (is_terminal (Separator CurlyClose)) (cond_by g s compares us) (cond_by_named s compares us))
+
+  triple_named : (s : S) (compares : Bool) (ts : List Lexeme) → IsNamed (triple_by g s compares ts)
+  triple_named s compares ts = then_named (braced_by g s compares ts) _ (braced_named s compares ts)
+      (λ x. then_named (term_by g s x.1) _ (term_by_named s x.1) (λ y. then_named (braced_by g s compares y.1) _ (braced_named s compares y.1) (λ z. tt)))
+
+  sides_named : (s : S) (ts : List Lexeme) → IsNamed (sides_by g s ts)
+  sides_named s ts = then_named (then_wants (is_terminal (Separator Comma)) (term_by g s ts)) _ (then_wants_named (is_terminal (Separator Comma)) (term_by g s ts) (term_by_named s ts))
+      (λ x. then_named (term_by g s x.1) _ (term_by_named s x.1) (λ y. tt))
+
+  meaning_named : (s : S) (ts : List Lexeme) → IsNamed (meaning_by g s ts)
+  meaning_named s ts = then_named (wants (is_terminal (Separator Equals)) ts) _ (wants_named (is_terminal (Separator Equals)) ts) (λ us. then_wants_named (is_terminal (Separator Semicolon)) (term_by g s us) (term_by_named s us))
+
+  declaration_named : (what : Declared) (s : S) (ts : List Lexeme) → IsNamed (declaration_by g what s ts)
+  declaration_named what s ts = then_wants_named (is_terminal (Separator Semicolon)) (over_names (g.declare what) s ts) (names_named (g.declare what) (names.declare what) (suc (length ts)) s ts (omega arith))
+
+  definition_named : (s : S) (at : ℕ) (ts : List Lexeme) → IsNamed (definition_by g s at ts)
+  definition_named s at ts = then_named (name_at ts) _ (name_at_named ts)
+      (λ l. then_named (g.check_new s l.at l.text) _ (names.check_new s l.at l.text)
+      (λ u. then_named (meaning_by g s (drop 1 ts)) (λ x. before x.1 (g.define s at l.text x.0)) (meaning_named s (drop 1 ts)) (λ x. before_named x.1 (g.define s at l.text x.0) (names.define s at l.text x.0))))
+
+  zero_named : (s : S) (at : ℕ) (ts : List Lexeme) → IsNamed (zero_by g s at ts)
+  zero_named s at ts = then_do_named (g.state_zero s at) _ (then_wants_named (is_terminal Zero) _ (then_wants_named (is_terminal (Separator Equals)) (term_by g s ts) (term_by_named s ts))) (names.state_zero s at)
+
+  hyp_named : (s : S) (at : ℕ) (ts : List Lexeme) → IsNamed (hyp_by g s at ts)
+  hyp_named s at ts = then_named (g.begin_hyp s at) _ (names.begin_hyp s at)
+      (λ u. if_named (heads (is_terminal (Keyword word.Triple)) ts) (then_do (g.state_triple s at) (triple_by g s false (drop 1 ts))) (zero_by g s at ts)
+      (λ k. then_do_named (g.state_triple s at) (triple_by g s false (drop 1 ts)) (triple_named s false (drop 1 ts)) (names.state_triple s at))
+      (λ k. zero_named s at ts))
+
+  asked_named : (s : S) (at : ℕ) (ts : List Lexeme) → IsNamed (asked_by g s at ts)
+  asked_named s at [] = tt
+  asked_named s at (lexeme (Keyword word.Equal) place text ∷ ts) = then_do_named (g.ask_sides Equal s at) (sides_by g s ts) (sides_named s ts) (names.ask_sides Equal s at)
+  asked_named s at (lexeme (Keyword word.Below) place text ∷ ts) = then_do_named (g.ask_sides Below s at) (sides_by g s ts) (sides_named s ts) (names.ask_sides Below s at)
+  asked_named s at (lexeme (Keyword word.Triple) place text ∷ ts) = then_do_named (g.ask_triple s at) (triple_by g s true ts) (triple_named s true ts) (names.ask_triple s at)
+  asked_named s at (lexeme _ place text ∷ ts) = tt
+
+  item_named : (s : S) (ts : List Lexeme) → IsNamed (item_by g s ts)
+  item_named s [] = tt
+  item_named s (lexeme (Keyword word.Test) at text ∷ ts) = declaration_named what.Test s ts
+  item_named s (lexeme (Keyword word.Action) at text ∷ ts) = declaration_named what.Action s ts
+  item_named s (lexeme (Keyword word.Term) at text ∷ ts) = definition_named s at ts
+  item_named s (lexeme (Keyword word.Hyp) at text ∷ ts) = hyp_named s at ts
+  item_named s (lexeme (Keyword word.Goal) at text ∷ ts) = then_named (g.begin_goal s at) _ (names.begin_goal s at) (λ u. asked_named s at ts)
+  item_named s (lexeme _ at text ∷ ts) = tt
+
+  within_named : (n : ℕ) (s : S) (ts : List Lexeme) → length ts < n → IsNamed (items_within g n s ts)
+  within_named zero s ts lt = absurd (omega arith)
+  within_named (suc n) s [] lt = tt
+  within_named (suc n) s (l ∷ ts) lt = bind_named (length (l ∷ ts)) (item_by g s (l ∷ ts)) (λ x. items_within g n x.0 x.1) (item_named s (l ∷ ts)) (item_short g s (l ∷ ts)) (λ x below. within_named n x.0 x.1 (omega arith))
+
+  pub items_named : (s : S) (ts : List Lexeme) → IsNamed (items_by g s ts)
+  items_named s ts = within_named (suc (length ts)) s ts (omega arith)

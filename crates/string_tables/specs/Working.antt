@@ -1,0 +1,4 @@
+pub mod Matrices
+pub mod Filled
+pub mod Breaks
+pub mod Heights

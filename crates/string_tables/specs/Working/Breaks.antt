@@ -1,0 +1,27 @@
+-- Which terms of a list relate states of a table, and which is the first.
+use Rattle.std.specs.Prelude.{◌≡◌, ◌<◌, ℕ, List, slice_get, Some, true, false}
+use Rattle.kat_model.specs.Trees.{Term}
+use Rattle.kat_model.specs.Relations.{Table, Relates}
+use Rattle.string_tables.specs.Working.Matrices.{Square, entry}
+use Rattle.string_tables.specs.Findings.{IsBefore}
+
+-- the first true entry of the first n rows and columns, row by row
+pub record IsFirstEntry (n : ℕ) (m : Square) (i j : ℕ) : Type 0 where
+  pub row : i < n
+  pub column : j < n
+  pub is : entry m i j ≡ true
+  pub above : (k l : ℕ) → k < i → l < n → entry m k l ≡ false
+  pub before : (l : ℕ) → l < j → entry m i l ≡ false
+
+-- the term at place h relates state i to state j
+pub record Breaks (t : Table) (terms : List Term) (h i j : ℕ) : Type 0 where
+  pub term : Term
+  pub is : slice_get terms h ≡ Some term
+  pub from : i < t.states
+  pub to : j < t.states
+  pub relates : Relates t term i j
+
+-- and no earlier three numbers do
+pub record BreaksFirst (t : Table) (terms : List Term) (h i j : ℕ) : Type 0 where
+  pub breaks : Breaks t terms h i j
+  pub first : (g k l : ℕ) → IsBefore g h k i l j → Breaks t terms g k l → ⊥
