@@ -1,0 +1,263 @@
+#!/usr/bin/env python3
+"""Writes docs/statement.md: the clauses that carry the claim, with every definition that they stand on.
+
+    docs/statement.py [--check]
+
+It follows definitions by name through the `use` lines of the crates' specs/, from the clauses named in PARTS. Each
+definition stands once, after those that it needs, with its file and line; the counts stand at the end of each part.
+With --check nothing is written; the status is 1 where the page is not what the sources give, where README.md does not
+have the count of the first part, or where that part is longer than a few pages.
+"""
+
+import re
+import sys
+from dataclasses import dataclass, field
+from pathlib import Path
+
+TOP = Path(__file__).resolve().parent.parent
+PAGE = TOP / "docs/statement.md"
+MOST_LINES = 350
+
+
+@dataclass
+class Part:
+    """A part of the page: clauses of public functions, and definitions that wait for a later part."""
+
+    title: str
+    about: str
+    # file below crates/, function, and the names of its clauses; no names stand for all
+    clauses: list = field(default_factory=list)
+    # files below crates/ whose public traits' clauses belong to the part
+    traits: list = field(default_factory=list)
+    # (crate, module, name) of definitions with which the part begins
+    names: list = field(default_factory=list)
+    # names that a later part defines
+    later: tuple = ()
+
+
+PARTS = [
+    Part("What `decide` answers", "The bytes are those of the plainest text of a question, so no grammar is needed to "
+         "read this part. What evidence is accepted, and how its text looks, is the next part: the meaning of the "
+         "statuses does not need it.",
+         clauses=[("kat_tool/src/text.rt", "decided_text", ["plain"])], later=("IsAccepted", "text_of")),
+    Part("Evidence", "The text of evidence, and the certificates that are accepted.",
+         names=[("certificate", "Accepted", "IsAccepted"), ("certificate", "Texts", "text_of")]),
+    Part("Every text", "What any text asks, by the grammar of problem files, and what `check` answers.",
+         clauses=[("kat_tool/src/text.rt", "decided_text", ["headline"]), ("kat_tool/src/text.rt", "checked_texts", ["headline"])]),
+    Part("The whole program", "The clause of `run` and those of the traits over which it runs: refusals with their "
+         "places, first reasons, printed lines and faults of the outside.",
+         clauses=[("kat_tool/src/top.rt", "run", [])], traits=["kat_io/src/outside.rt"]),
+]
+
+HEAD = re.compile(r"(?:(?:abbrev|opaque|unfoldable|pub|record|data|mutual)\s+)+(\S+)")
+USE = re.compile(r"(?m)^[ \t]*(?:ghost )?use ([\w.]+?)\.\{([^}]*)\}")
+WORD = re.compile(r"[\s\[\](){},;.λ×]+")
+
+
+def imports(text):
+    """What each name of a file stands for: a module and the name there."""
+    found = {}
+    for module, items in USE.findall(text):
+        for item in filter(None, (it.strip() for it in items.split(","))):
+            name, _, alias = item.partition(" as ")
+            found[(alias or name).strip()] = module, name.strip()
+    return found
+
+
+def words(text):
+    """The words of a definition or a clause in their order, without its comments and texts."""
+    text = re.sub(r"(?m)^\s*--.*$", " ", text)
+    parts = dict.fromkeys(filter(None, WORD.split(re.sub(r'"[^"]*"', " ", text))))
+    return [name for part in parts for name in (part, f"◌{part}◌")]
+
+
+@dataclass(eq=False)
+class Definition:
+    """A definition of a file of specs/, with the comment over it."""
+
+    module: str
+    name: str
+    path: Path
+    line: int
+    head: str
+    lines: list
+
+    def text(self):
+        return "\n".join(self.lines).strip("\n")
+
+
+class Specs:
+    """All definitions of the crates' specs/, by module and name, and what the names of each module stand for."""
+
+    def __init__(self):
+        self.found, self.imported, self.kit = {}, {}, set()
+        for path in sorted(TOP.glob("crates/*/specs/**/*.antt")):
+            below = path.relative_to(TOP / "crates").with_suffix("").parts
+            self.read(path, ".".join(["Rattle", *below]))
+
+    def read(self, path, module):
+        text = path.read_text()
+        self.imported[module] = imports(text)
+        now, comment = None, []
+        for number, line in enumerate(text.split("\n"), 1):
+            if line.startswith("--"):
+                comment, now = [*comment, line], None
+            elif line.startswith(("use ", "pub mod ", "mod ")):
+                comment, now = [], None
+            elif line[:1].strip():
+                named = HEAD.match(line)
+                if named and not (now and now.name == named[1]):
+                    now = Definition(module, named[1], path, number, line, [*comment, line])
+                    self.found[module, named[1]] = now
+                elif now:
+                    now.lines.append(line)
+                comment = []
+            elif now:
+                now.lines.append(line)
+                constructor = re.match(r"\s+(\S+) :", line)
+                if constructor and " data " in f" {now.head} ":
+                    self.found.setdefault((module, constructor[1]), now)
+
+    def named(self, parts, module, imported):
+        """The definitions that these words name in a file of that module."""
+        for part in parts:
+            known = imported.get(part)
+            if known and known[0].startswith("Rattle.std"):
+                self.kit.add(known)
+            found = self.found.get(known) or self.found.get((module, part))
+            if found:
+                yield found
+
+    def gather(self, roots, later, placed):
+        """The definitions behind the roots that no earlier part has, each after those that it needs."""
+        order = []
+
+        def place(it):
+            if it in placed or it.name in later:
+                return
+            placed.add(it)
+            for needed in self.named(words(it.text()), it.module, self.imported[it.module]):
+                place(needed)
+            order.append(it)
+
+        for root in roots:
+            place(root)
+        return order
+
+
+def braces(text, start):
+    """The end of the braces that open at start."""
+    depth = 0
+    for at in range(start, len(text)):
+        depth += {"{": 1, "}": -1}.get(text[at], 0)
+        if depth == 0:
+            return at + 1
+    raise ValueError("braces that do not end")
+
+
+def clauses_of(text, start, wanted):
+    """The signature of a function and those of its clauses that are wanted, as they stand in the source."""
+    at, head, taken = start, None, []
+    clause = re.compile(r"[ \t]*\b(?:requires|ensures)\b\s*(\w*)\s*\{|;|\{")
+    while found := clause.search(text, at):
+        head = head or text[start : found.start()].rstrip()
+        if found[1] is None:
+            break
+        at = braces(text, found.end() - 1)
+        if not wanted or found[1] in wanted:
+            taken.append(text[found.start() : at])
+    return [head, *taken]
+
+
+def without_comments(text):
+    return re.sub(r"(?m)^\s*//.*\n", "", text)
+
+
+def function(path, name, wanted):
+    """A function's signature with its clauses, and what the names of its file stand for."""
+    text = (TOP / "crates" / path).read_text()
+    plain = without_comments(text)
+    start = re.search(rf"(?m)^pub fn {name}\b", plain)
+    return clauses_of(plain, start.start(), wanted), imports(text)
+
+
+def traits(path):
+    """The methods of the public traits of a file, with their clauses."""
+    text = (TOP / "crates" / path).read_text()
+    plain = without_comments(text)
+    found = []
+    for trait in re.finditer(r"(?m)^pub trait \w+[^{]*", plain):
+        body = plain[trait.start() : braces(plain, trait.end())]
+        found.append(body)
+    return found, imports(text)
+
+
+def counted(definitions):
+    lines = [line for it in definitions for line in it.lines if line.strip()]
+    return len(lines), sum(not line.strip().startswith("--") for line in lines)
+
+
+def shown(definitions):
+    """The definitions as text of the page, those of one file that follow one another in one block."""
+    lines, path = [], None
+    for it in definitions:
+        if it.path != path:
+            lines += ["```", ""] if path else []
+            lines += [f"`{it.path.relative_to(TOP)}:{it.line}`", "", "```"]
+        else:
+            lines.append("")
+        lines.append(it.text())
+        path = it.path
+    return [*lines, "```", ""] if path else lines
+
+
+def roots_of(part, specs, lines):
+    """The definitions that the part's clauses name; the clauses themselves are added to the lines."""
+    roots = [specs.found[f"Rattle.{crate}.specs.{module}", name] for crate, module, name in part.names]
+    asked = [function(*clause) for clause in part.clauses] + [traits(path) for path in part.traits]
+    for texts, imported in asked:
+        lines += ["```rust", *texts, "```", ""]
+        roots += specs.named(words("\n".join(texts)), "", imported)
+    return roots
+
+
+def page():
+    """The page, and the lines of definitions of its first part."""
+    specs, placed, first = Specs(), set(), None
+    lines = ["# The statement", "",
+             "The clauses that carry the claim of `kat`, and behind each all definitions that it stands on, each once and "
+             "after those that it needs. `docs/statement.py` writes this page from the sources, and the gate compares it "
+             "with them. README.md says in words what the first part says.", ""]
+    for number, part in enumerate(PARTS, 1):
+        lines += [f"## {number}. {part.title}", "", part.about, ""]
+        gathered = specs.gather(roots_of(part, specs, lines), part.later, placed)
+        lines += shown(gathered)
+        total, bare = counted(gathered)
+        first = total if first is None else first
+        lines += [f"{total} lines of definitions, {bare} without comments, in {len({it.path for it in gathered})} files.", ""]
+    modules = sorted({module.removeprefix("Rattle.") for module, _ in specs.kit if ".declared." not in module})
+    lines += ["## Not counted", "",
+              "Types of the program, which clauses see as records and variants, stand in the sources. Of the standard "
+              "library these modules are behind the definitions: " + ", ".join(f"`{it}`" for it in modules) + ". Names in "
+              "texts are those of Unicode's tables of `XID_Start` and `XID_Continue`, by the kit's `unicode_ident`; the first "
+              "part needs none of them.", ""]
+    return "\n".join(lines), first
+
+
+def main():
+    text, first = page()
+    if sys.argv[1:] == ["--check"]:
+        if first > MOST_LINES:
+            sys.exit(f"docs/statement.md: the first part has {first} lines of definitions, more than {MOST_LINES}")
+        if f"{first} lines of definitions" not in (TOP / "README.md").read_text():
+            sys.exit(f"README.md does not say that the first part of docs/statement.md has {first} lines of definitions")
+        if PAGE.read_text() != text:
+            sys.exit("docs/statement.md is not what the sources give; docs/statement.py writes it")
+    elif sys.argv[1:]:
+        sys.exit(__doc__)
+    else:
+        PAGE.write_text(text)
+
+
+if __name__ == "__main__":
+    main()
