@@ -6,13 +6,13 @@ use Rattle.kat_model.specs.Trees.{Term}
 use Rattle.kat_model.specs.Members.{Has, IsSubset, SameMembers}
 use Rattle.kat_model.specs.Steps.{Atom}
 use Rattle.kat_model.proofs.Lists.{has_map, map_has}
-use Rattle.term_store.specs.Nodes.{StoreParts}
-use Rattle.term_store.specs.Trees.{tree_of}
+use Rattle.term_nodes.specs.NodeLists.{NodeParts}
+use Rattle.term_nodes.specs.NodeTrees.{tree_at}
 use Rattle.test_diagrams.specs.Functions.{DiagramsParts, value_of, IsDiagramId, IsAtomOf, IsConstant}
 use Rattle.test_diagrams.specs.Reduced.{IsReduced}
 use Rattle.test_diagrams.proofs.Apart.{same_function_same_id}
 use Rattle.bisim_worklist.specs.Covered.{IsBetween}
-use Rattle.bisim_worklist.specs.Working.Listings.{terms_of}
+use Rattle.term_nodes.specs.NumberSets.{terms_of}
 use Rattle.bisim_worklist.specs.Working.Items.{guard_of, guard_beyond, targets_under, is_open, open_targets, chosen}
 use Rattle.bisim_worklist.specs.Working.Covers.{AreEnds}
 use Rattle.bisim_worklist.specs.declared.items.Item.{Item}
@@ -20,8 +20,8 @@ use Rattle.bisim_worklist.specs.declared.items.Ends.{Ends}
 use Rattle.bisim_worklist.specs.declared.items.Side.{Side}
 use Rattle.bisim_worklist.proofs.ItemTargets.{under_where, open_where, chosen_where, where_has, has_where}
 
-pub terms_within : (store : StoreParts) (ks ls : List ℕ) → IsSubset ks ls → IsSubset (terms_of store ks) (terms_of store ls)
-terms_within store ks ls s x h = let f = has_map (tree_of store) ks x h in subst (Has (terms_of store ls)) f.2 (map_has (tree_of store) ls f.0 (s f.0 f.1))
+pub terms_within : (store : NodeParts) (ks ls : List ℕ) → IsSubset ks ls → IsSubset (terms_of store ks) (terms_of store ls)
+terms_within store ks ls s x h = let f = has_map (tree_at store) ks x h in subst (Has (terms_of store ls)) f.2 (map_has (tree_at store) ls f.0 (s f.0 f.1))
 
 module _ (d : DiagramsParts) (ends : Ends) (are_ends : AreEnds d ends) (items : List Item) (atom : Atom) (fits : IsAtomOf d atom) where
   chosen_has : (side : Side) (i : Item) → Has items i → value_of d (guard_of side i) atom ≡ true → Has (chosen d side items atom) i.target
@@ -59,14 +59,14 @@ module _ (d : DiagramsParts) (ends : Ends) (are_ends : AreEnds d ends) (items : 
         go i m v same false e = inl (subst (Has (chosen d other items atom)) same (chosen_has other i m (shut_chosen i v e)))
 
     -- sets with the chosen terms are between what surely is there and what may be
-    pub are_between : (store : StoreParts) (es fs : List Term) → SameMembers es (terms_of store (chosen d side items atom)) → SameMembers fs (terms_of store (chosen d other items atom)) → IsBetween (terms_of store (targets_under ends.always side items)) (terms_of store (open_targets ends.never ends.always side items)) es fs
+    pub are_between : (store : NodeParts) (es fs : List Term) → SameMembers es (terms_of store (chosen d side items atom)) → SameMembers fs (terms_of store (chosen d other items atom)) → IsBetween (terms_of store (targets_under ends.always side items)) (terms_of store (open_targets ends.never ends.always side items)) es fs
     are_between store es fs s t = record {
       has = λ x h. (s x).1 (terms_within store (targets_under ends.always side items) (chosen d side items atom) (sure_chosen side) x h);
       only = λ x h.
-          let f = has_map (tree_of store) (chosen d side items atom) x ((s x).0 h) in
+          let f = has_map (tree_at store) (chosen d side items atom) x ((s x).0 h) in
           ⊎_elim
-          (λ k. inl ((t x).1 (subst (Has (terms_of store (chosen d other items atom))) f.2 (map_has (tree_of store) (chosen d other items atom) f.0 k))))
-          (λ o. inr (subst (Has (terms_of store (open_targets ends.never ends.always side items))) f.2 (map_has (tree_of store) (open_targets ends.never ends.always side items) f.0 o)))
+          (λ k. inl ((t x).1 (subst (Has (terms_of store (chosen d other items atom))) f.2 (map_has (tree_at store) (chosen d other items atom) f.0 k))))
+          (λ o. inr (subst (Has (terms_of store (open_targets ends.never ends.always side items))) f.2 (map_has (tree_at store) (open_targets ends.never ends.always side items) f.0 o)))
           (chosen_reached f.0 f.1);
     }
 
@@ -101,7 +101,7 @@ module _ (d : DiagramsParts) (ends : Ends) (are_ends : AreEnds d ends) (items : 
             absurd (true≢false (sym (eq-eqb (guard_of side i) ends.never (is_never i m v)) ∙ not-true (nat_eq (guard_of side i) ends.never) may.0))
 
     -- the sets with the chosen terms have what surely is there
-    pub same_sure : (store : StoreParts) (es : List Term) → SameMembers es (terms_of store (chosen d side items atom)) → SameMembers es (terms_of store (targets_under ends.always side items))
+    pub same_sure : (store : NodeParts) (es : List Term) → SameMembers es (terms_of store (chosen d side items atom)) → SameMembers es (terms_of store (targets_under ends.always side items))
     same_sure store es s x = (
       (λ h. terms_within store (chosen d side items atom) (targets_under ends.always side items) chosen_sure x ((s x).0 h)),
       (λ h. (s x).1 (terms_within store (targets_under ends.always side items) (chosen d side items atom) (sure_chosen side) x h)),

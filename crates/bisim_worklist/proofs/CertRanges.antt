@@ -4,18 +4,17 @@ use Rattle.kat_model.specs.Trees.{TestTree, bottom, Term, zero as nothing}
 use Rattle.kat_model.specs.Members.{Has}
 use Rattle.kat_model.specs.Problems.{IsTestInRange, IsInRange}
 use Rattle.kat_model.proofs.Lists.{has_map}
-use Rattle.certificate.specs.declared.nodes.TestNode.TheVariants as test_node
-use Rattle.certificate.specs.declared.nodes.TermNode.TheVariants as term_node
-use Rattle.term_store.specs.Nodes.{StoreParts}
-use Rattle.term_store.specs.Trees.{test_tree_over, tree_over, test_tree_of, tree_of, test_trees, trees}
-use Rattle.term_store.specs.declared.nodes.TestShape.{TestShape}
-use Rattle.term_store.specs.declared.nodes.TestShape.TheVariants as test
-use Rattle.term_store.specs.declared.nodes.Shape.{Shape}
-use Rattle.term_store.specs.declared.nodes.Shape.TheVariants.{Zero, One, Test, Act, Sum, Seq, Star}
-use Rattle.term_store.proofs.TestTrees.{test_tree_of-node}
-use Rattle.term_store.proofs.TermTrees.{tree_of-node}
+use Rattle.term_nodes.specs.NodeLists.{NodeParts}
+use Rattle.term_nodes.specs.NodeTrees.{test_tree_over, tree_over, test_tree_at, tree_at, test_trees, trees}
+use Rattle.term_nodes.specs.declared.TestNode.{TestNode}
+use Rattle.term_nodes.specs.declared.TestNode.TheVariants as test
+use Rattle.term_nodes.specs.declared.TermNode.{TermNode}
+use Rattle.term_nodes.specs.declared.TermNode.TheVariants.{Zero, One, Test, Act, Sum, Seq, Star}
+use Rattle.term_nodes.proofs.TestTrees.{test_tree_at-node}
+use Rattle.term_nodes.proofs.TermTrees.{tree_at-node}
 use Rattle.bisim_worklist.specs.Working.Listings.{IdEntry, AreIdSets}
-use Rattle.bisim_worklist.specs.Working.Needed.{IsPart, own, part, terms_in, tests_in, test_parts_in, members_of}
+use Rattle.term_nodes.specs.Nodes.{term_parts, tests_of_term, test_parts}
+use Rattle.bisim_worklist.specs.Working.Needed.{IsPart, own, part, members_of}
 use Rattle.bisim_worklist.specs.Working.Numbering.{test_node_of, term_node_of, test_nodes_of, term_nodes_of, IsCertOf}
 use Rattle.bisim_worklist.proofs.StoreCerts.{numbered_cert, AreNeeded, test_at, term_at, test_there, term_there}
 use Rattle.bisim_worklist.proofs.CertTrees.{pairs_numbered, trees_have_ids}
@@ -28,7 +27,7 @@ module _ (N : Type 0) (nodes : List N) (named : N → List ℕ) (from : List ℕ
 
 module _ (tests actions : ℕ) where
   -- what a node names is in range where the node is
-  named_in_range : (guards : List TestTree) (below : List Term) (s : Shape) → IsInRange tests actions (tree_over guards below s) → (i : ℕ) → Has (terms_in s) i → IsInRange tests actions (get_or below i nothing)
+  named_in_range : (guards : List TestTree) (below : List Term) (s : TermNode ℕ ℕ) → IsInRange tests actions (tree_over guards below s) → (i : ℕ) → Has (term_parts s) i → IsInRange tests actions (get_or below i nothing)
   named_in_range guards below Zero r i h = absurd h
   named_in_range guards below One r i h = absurd h
   named_in_range guards below (Test j) r i h = absurd h
@@ -39,7 +38,7 @@ module _ (tests actions : ℕ) where
       ⊎_elim (λ s. subst (λ z. IsInRange tests actions (get_or below z nothing)) s r.0) (λ m. ⊎_elim (λ s. subst (λ z. IsInRange tests actions (get_or below z nothing)) s r.1) absurd m) h
   named_in_range guards below (Star j) r i h = ⊎_elim (λ s. subst (λ z. IsInRange tests actions (get_or below z nothing)) s r) absurd h
 
-  guard_in_range : (guards : List TestTree) (below : List Term) (s : Shape) → IsInRange tests actions (tree_over guards below s) → (i : ℕ) → Has (tests_in s) i → IsTestInRange tests (get_or guards i bottom)
+  guard_in_range : (guards : List TestTree) (below : List Term) (s : TermNode ℕ ℕ) → IsInRange tests actions (tree_over guards below s) → (i : ℕ) → Has (tests_of_term s) i → IsTestInRange tests (get_or guards i bottom)
   guard_in_range guards below Zero r i h = absurd h
   guard_in_range guards below One r i h = absurd h
   guard_in_range guards below (Test j) r i h = ⊎_elim (λ s. subst (λ z. IsTestInRange tests (get_or guards z bottom)) s r) absurd h
@@ -48,7 +47,7 @@ module _ (tests actions : ℕ) where
   guard_in_range guards below (Seq j k) r i h = absurd h
   guard_in_range guards below (Star j) r i h = absurd h
 
-  test_named_in_range : (below : List TestTree) (s : TestShape) → IsTestInRange tests (test_tree_over below s) → (i : ℕ) → Has (test_parts_in s) i → IsTestInRange tests (get_or below i bottom)
+  test_named_in_range : (below : List TestTree) (s : TestNode ℕ) → IsTestInRange tests (test_tree_over below s) → (i : ℕ) → Has (test_parts s) i → IsTestInRange tests (get_or below i bottom)
   test_named_in_range below test.False r i h = absurd h
   test_named_in_range below test.True r i h = absurd h
   test_named_in_range below (test.Prim k) r i h = absurd h
@@ -58,7 +57,7 @@ module _ (tests actions : ℕ) where
   test_named_in_range below (test.Or j k) r i h =
       ⊎_elim (λ s. subst (λ z. IsTestInRange tests (get_or below z bottom)) s r.0) (λ m. ⊎_elim (λ s. subst (λ z. IsTestInRange tests (get_or below z bottom)) s r.1) absurd m) h
 
-  prim_in_range : (ids : List ℕ) (below : List TestTree) (s : TestShape) (k : ℕ) → test_node_of ids s ≡ test_node.Prim k → IsTestInRange tests (test_tree_over below s) → k < tests
+  prim_in_range : (ids : List ℕ) (below : List TestTree) (s : TestNode ℕ) (k : ℕ) → test_node_of ids s ≡ test.Prim k → IsTestInRange tests (test_tree_over below s) → k < tests
   prim_in_range ids below test.False k e r = absurd cc
   prim_in_range ids below test.True k e r = absurd cc
   prim_in_range ids below (test.Prim j) k e r = let same : j ≡ k = cc in subst (λ z. z < tests) same r
@@ -66,7 +65,7 @@ module _ (tests actions : ℕ) where
   prim_in_range ids below (test.And i j) k e r = absurd cc
   prim_in_range ids below (test.Or i j) k e r = absurd cc
 
-  act_in_range : (ids more : List ℕ) (guards : List TestTree) (below : List Term) (s : Shape) (a : ℕ) → term_node_of ids more s ≡ term_node.Act a → IsInRange tests actions (tree_over guards below s) → a < actions
+  act_in_range : (ids more : List ℕ) (guards : List TestTree) (below : List Term) (s : TermNode ℕ ℕ) (a : ℕ) → term_node_of ids more s ≡ Act a → IsInRange tests actions (tree_over guards below s) → a < actions
   act_in_range ids more guards below Zero a e r = absurd cc
   act_in_range ids more guards below One a e r = absurd cc
   act_in_range ids more guards below (Test j) a e r = absurd cc
@@ -75,37 +74,37 @@ module _ (tests actions : ℕ) where
   act_in_range ids more guards below (Seq i j) a e r = absurd cc
   act_in_range ids more guards below (Star j) a e r = absurd cc
 
-module _ (store : StoreParts) (es : List IdEntry) (terms named ids : List ℕ) (needed : AreNeeded store es terms named ids) where
-  module _ (tests actions : ℕ) (in_range : (i : ℕ) → Has (members_of es) i → IsInRange tests actions (tree_of store i)) where
-    node_range : (i : ℕ) (s : Shape) → slice_get store.terms i ≡ Some s → IsInRange tests actions (tree_of store i) → IsInRange tests actions (tree_over (test_trees store) (trees store) s)
-    node_range i s at r = subst (IsInRange tests actions) (tree_of-node store needed.rules i s at) r
+module _ (store : NodeParts) (es : List IdEntry) (terms named ids : List ℕ) (needed : AreNeeded store es terms named ids) where
+  module _ (tests actions : ℕ) (in_range : (i : ℕ) → Has (members_of es) i → IsInRange tests actions (tree_at store i)) where
+    node_range : (i : ℕ) (s : TermNode ℕ ℕ) → slice_get store.terms i ≡ Some s → IsInRange tests actions (tree_at store i) → IsInRange tests actions (tree_over (test_trees store) (trees store) s)
+    node_range i s at r = subst (IsInRange tests actions) (tree_at-node store needed.rules i s at) r
 
-    test_node_range : (i : ℕ) (s : TestShape) → slice_get store.tests i ≡ Some s → IsTestInRange tests (test_tree_of store i) → IsTestInRange tests (test_tree_over (test_trees store) s)
-    test_node_range i s at r = subst (IsTestInRange tests) (test_tree_of-node store needed.rules i s at) r
+    test_node_range : (i : ℕ) (s : TestNode ℕ) → slice_get store.tests i ≡ Some s → IsTestInRange tests (test_tree_at store i) → IsTestInRange tests (test_tree_over (test_trees store) s)
+    test_node_range i s at r = subst (IsTestInRange tests) (test_tree_at-node store needed.rules i s at) r
 
-    term_range : (i : ℕ) → Has terms i → IsInRange tests actions (tree_of store i)
+    term_range : (i : ℕ) → Has terms i → IsInRange tests actions (tree_at store i)
     term_range i h =
-        part_holds Shape store.terms terms_in (members_of es) (λ k. IsInRange tests actions (tree_of store k)) in_range
+        part_holds (TermNode ℕ ℕ) store.terms term_parts (members_of es) (λ k. IsInRange tests actions (tree_at store k)) in_range
         (λ k j s at r m. named_in_range tests actions (test_trees store) (trees store) s (node_range j s at r) k m) (needed.of_terms.only i h)
 
-    named_range : (i : ℕ) → Has named i → IsTestInRange tests (test_tree_of store i)
+    named_range : (i : ℕ) → Has named i → IsTestInRange tests (test_tree_at store i)
     named_range i h =
         let r = (needed.names i).0 h in
         guard_in_range tests actions (test_trees store) (trees store) r.1 (node_range r.0 r.1 r.3 (term_range r.0 r.2)) i r.4
 
-    test_range : (i : ℕ) → Has ids i → IsTestInRange tests (test_tree_of store i)
+    test_range : (i : ℕ) → Has ids i → IsTestInRange tests (test_tree_at store i)
     test_range i h =
-        part_holds TestShape store.tests test_parts_in named (λ k. IsTestInRange tests (test_tree_of store k)) named_range
+        part_holds (TestNode ℕ) store.tests test_parts named (λ k. IsTestInRange tests (test_tree_at store k)) named_range
         (λ k j s at r m. test_named_in_range tests actions (test_trees store) s (test_node_range j s at r) k m) (needed.of_tests.only i h)
 
-    prims_range : (k : ℕ) → Has (test_nodes_of store ids ids) (test_node.Prim k) → k < tests
+    prims_range : (k : ℕ) → Has (test_nodes_of store ids ids) (test.Prim k) → k < tests
     prims_range k h =
-        let r = has_map (λ i. test_node_of ids (test_at store i)) ids (test_node.Prim k) h in
+        let r = has_map (λ i. test_node_of ids (test_at store i)) ids (test.Prim k) h in
         prim_in_range tests actions ids (test_trees store) (test_at store r.0) k r.2 (test_node_range r.0 (test_at store r.0) (test_there store es terms named ids needed r.0 r.1) (test_range r.0 r.1))
 
-    acts_range : (a : ℕ) → Has (term_nodes_of store ids terms terms) (term_node.Act a) → a < actions
+    acts_range : (a : ℕ) → Has (term_nodes_of store ids terms terms) (Act a) → a < actions
     acts_range a h =
-        let r = has_map (λ i. term_node_of ids terms (term_at store i)) terms (term_node.Act a) h in
+        let r = has_map (λ i. term_node_of ids terms (term_at store i)) terms (Act a) h in
         act_in_range tests actions ids terms (test_trees store) (trees store) (term_at store r.0) a r.2 (node_range r.0 (term_at store r.0) (term_there store es terms named ids needed r.0 r.1) (term_range r.0 r.1))
 
   -- the certificate is that of the pairs

@@ -2,52 +2,43 @@
 use Rattle.std.proofs.Common.{◌≡◌, ◌<◌, inl, inr, ℕ, zero, suc, List, [], ◌∷◌, length, get_or, map, slice_get, Some, refl, sym, ap, ◌∙◌, subst, arith}
 use Rattle.std.proofs.lemmas.Option.{get_or_from_slice_get, slice_get_within, slice_get-get_or}
 use Rattle.std.proofs.lemmas.List.{length-map}
-use Rattle.kat_model.specs.Trees.{TestTree, bottom, complement, meet, join, Term, zero as nothing, test as test_term, sum, product, star}
+use Rattle.kat_model.specs.Trees.{complement, meet, join, Term, zero as nothing, test as test_term, sum, product, star}
 use Rattle.kat_model.specs.Members.{Has, IsSubset}
-use Rattle.kat_model.specs.Pairs.{SetPair}
-use Rattle.kat_model.proofs.ValuesInOrder.{length-course_of_values}
 use Rattle.kat_model.proofs.Places.{has_at, place_of_member}
-use Rattle.certificate.specs.Nodes.{NumberPair}
-use Rattle.certificate.specs.Laws.{HasNodeTrees}
-use Rattle.certificate.specs.Accepted.{test_node_tree, term_node_tree, test_trees, term_trees, terms_at, set_pairs}
-use Rattle.certificate.proofs.NodeTrees.{nodes_have_trees_lem}
-use Rattle.term_store.specs.Nodes.{StoreParts}
-use Rattle.term_store.specs.Trees.{test_tree_over, tree_over, test_tree_of, tree_of, HasTree, test_trees as store_test_trees, trees as store_trees}
-use Rattle.term_store.specs.declared.nodes.TestShape.{TestShape}
-use Rattle.term_store.specs.declared.nodes.TestShape.TheVariants as test
-use Rattle.term_store.specs.declared.nodes.Shape.{Shape}
-use Rattle.term_store.specs.declared.nodes.Shape.TheVariants.{Zero, One, Test, Act, Sum, Seq, Star}
-use Rattle.term_store.proofs.TestTrees.{test_tree_of-node}
-use Rattle.term_store.proofs.TermTrees.{tree_of-node}
+use Rattle.term_nodes.specs.NumberSets.{set_pairs_of, terms_of}
+use Rattle.certificate.specs.Certs.{nodes_of}
+use Rattle.term_nodes.specs.NodeTrees.{test_tree_at, tree_at, test_tree_in, tree_in, trees, HasTree}
+use Rattle.certificate.specs.Accepted.{set_pairs}
+use Rattle.term_nodes.specs.NodeLists.{NodeParts, AreNodes}
+use Rattle.term_nodes.specs.declared.TestNode.{TestNode}
+use Rattle.term_nodes.specs.declared.TestNode.TheVariants as test
+use Rattle.term_nodes.specs.declared.TermNode.{TermNode}
+use Rattle.term_nodes.specs.declared.TermNode.TheVariants.{Zero, One, Test, Act, Sum, Seq, Star}
+use Rattle.term_nodes.proofs.TestTrees.{test_tree_at-node}
+use Rattle.term_nodes.proofs.TermTrees.{tree_at-node, length-trees}
 use Rattle.bisim_worklist.specs.Walks.{pairs_of}
-use Rattle.bisim_worklist.specs.Working.Listings.{IdEntry, AreIdSets, terms_of, entries_of}
-use Rattle.bisim_worklist.specs.Working.Needed.{terms_in, tests_in, test_parts_in}
+use Rattle.bisim_worklist.specs.Working.Listings.{IdEntry, AreIdSets, entries_of}
+use Rattle.term_nodes.specs.Nodes.{term_parts, tests_of_term, test_parts}
 use Rattle.bisim_worklist.specs.Working.Numbering.{number_of, numbers_of, number_pair_of, test_node_of, term_node_of}
 use Rattle.certificate.proofs.Ascending.{ascending_once}
-use Rattle.bisim_worklist.proofs.PartSets.{terms_less, tests_less}
+use Rattle.term_nodes.proofs.Parts.{IsOver-part, IsTestOver-part}
 use Rattle.bisim_worklist.proofs.PlaceNumbers.{number_at, number_of_place, at_mapped}
 use Rattle.bisim_worklist.proofs.StoreCerts.{numbered_cert, AreNeeded, test_at, term_at, test_there, term_there, test_parts_there, terms_there, tests_there, members_there, numbered_rules}
 
-abbrev pair_at : List Term → NumberPair → SetPair
-pair_at trees p = record { left = terms_at trees p.left; right = terms_at trees p.right }
+module _ (store : NodeParts) (es : List IdEntry) (terms named tests : List ℕ) (needed : AreNeeded store es terms named tests) (n : ℕ) (sets : AreIdSets store n es) where
+  abbrev cert_nodes : NodeParts
+  cert_nodes = nodes_of (numbered_cert store tests terms es)
 
-module _ (store : StoreParts) (es : List IdEntry) (terms named tests : List ℕ) (needed : AreNeeded store es terms named tests) (n : ℕ) (sets : AreIdSets store n es) where
-  by_node : HasNodeTrees (numbered_cert store tests terms es)
-  by_node = nodes_have_trees_lem (numbered_cert store tests terms es) (numbered_rules store es terms named tests needed n sets)
-
-  abbrev cert_tests : List TestTree
-  cert_tests = test_trees (numbered_cert store tests terms es)
-
-  abbrev cert_terms : List Term
-  cert_terms = term_trees (numbered_cert store tests terms es)
+  rules : AreNodes cert_nodes
+  rules = (numbered_rules store es terms named tests needed n sets).nodes
 
   abbrev HasTestAt : ℕ → Type 0
-  HasTestAt i = get_or cert_tests (number_of tests i) bottom ≡ test_tree_of store i
+  HasTestAt i = test_tree_at cert_nodes (number_of tests i) ≡ test_tree_at store i
 
   abbrev HasTermAt : ℕ → Type 0
-  HasTermAt i = get_or cert_terms (number_of terms i) nothing ≡ tree_of store i
+  HasTermAt i = tree_at cert_nodes (number_of terms i) ≡ tree_at store i
 
-  test_by_parts : (s : TestShape) → ((j : ℕ) → Has (test_parts_in s) j → HasTestAt j) → test_node_tree cert_tests (test_node_of tests s) ≡ test_tree_over (store_test_trees store) s
+  test_by_parts : (s : TestNode ℕ) → ((j : ℕ) → Has (test_parts s) j → HasTestAt j) → test_tree_in cert_nodes (test_node_of tests s) ≡ test_tree_in store s
   test_by_parts test.False parts = refl
   test_by_parts test.True parts = refl
   test_by_parts (test.Prim k) parts = refl
@@ -60,16 +51,16 @@ module _ (store : StoreParts) (es : List IdEntry) (terms named tests : List ℕ)
   test_below (suc bound) i low h =
       let there = test_there store es terms named tests needed i h in
       let node = test_node_of tests (test_at store i) in
-      let at = by_node.tests (number_of tests i) node (at_mapped (λ k. test_node_of tests (test_at store k)) tests (number_of tests i) i (number_at tests i h)) in
-      let less = tests_less i (test_at store i) (needed.rules.tests_ordered i (test_at store i) there) in
-      get_or_from_slice_get cert_tests (number_of tests i) (test_node_tree cert_tests node) bottom at
+      let at = at_mapped (λ k. test_node_of tests (test_at store k)) tests (number_of tests i) i (number_at tests i h) in
+      let less = IsTestOver-part i (test_at store i) (needed.rules.tests_ordered i (test_at store i) there) in
+      test_tree_at-node cert_nodes rules (number_of tests i) node at
       ∙ test_by_parts (test_at store i) (λ j m. test_below bound j (let under = less j m in omega (arith, low, under)) (test_parts_there store es terms named tests needed i h j m))
-      ∙ sym (test_tree_of-node store needed.rules i (test_at store i) there)
+      ∙ sym (test_tree_at-node store needed.rules i (test_at store i) there)
 
-  test_tree_at : (i : ℕ) → Has tests i → HasTestAt i
-  test_tree_at i h = test_below (suc i) i (omega arith) h
+  test_tree_kept : (i : ℕ) → Has tests i → HasTestAt i
+  test_tree_kept i h = test_below (suc i) i (omega arith) h
 
-  term_by_parts : (s : Shape) → ((j : ℕ) → Has (tests_in s) j → HasTestAt j) → ((j : ℕ) → Has (terms_in s) j → HasTermAt j) → term_node_tree cert_tests cert_terms (term_node_of tests terms s) ≡ tree_over (store_test_trees store) (store_trees store) s
+  term_by_parts : (s : TermNode ℕ ℕ) → ((j : ℕ) → Has (tests_of_term s) j → HasTestAt j) → ((j : ℕ) → Has (term_parts s) j → HasTermAt j) → tree_in cert_nodes (term_node_of tests terms s) ≡ tree_in store s
   term_by_parts Zero guards parts = refl
   term_by_parts One guards parts = refl
   term_by_parts (Test i) guards parts = ap test_term (guards i (inl refl))
@@ -83,22 +74,22 @@ module _ (store : StoreParts) (es : List IdEntry) (terms named tests : List ℕ)
   term_below (suc bound) i low h =
       let there = term_there store es terms named tests needed i h in
       let node = term_node_of tests terms (term_at store i) in
-      let at = by_node.terms (number_of terms i) node (at_mapped (λ k. term_node_of tests terms (term_at store k)) terms (number_of terms i) i (number_at terms i h)) in
-      let less = terms_less (length store.tests) i (term_at store i) (needed.rules.terms_ordered i (term_at store i) there) in
-      get_or_from_slice_get cert_terms (number_of terms i) (term_node_tree cert_tests cert_terms node) nothing at
-      ∙ term_by_parts (term_at store i) (λ j m. test_tree_at j (tests_there store es terms named tests needed i h j m))
+      let at = at_mapped (λ k. term_node_of tests terms (term_at store k)) terms (number_of terms i) i (number_at terms i h) in
+      let less = IsOver-part (length store.tests) i (term_at store i) (needed.rules.terms_ordered i (term_at store i) there) in
+      tree_at-node cert_nodes rules (number_of terms i) node at
+      ∙ term_by_parts (term_at store i) (λ j m. test_tree_kept j (tests_there store es terms named tests needed i h j m))
       (λ j m. term_below bound j (let under = less j m in omega (arith, low, under)) (terms_there store es terms named tests needed i h j m))
-      ∙ sym (tree_of-node store needed.rules i (term_at store i) there)
+      ∙ sym (tree_at-node store needed.rules i (term_at store i) there)
 
-  term_tree_at : (i : ℕ) → Has terms i → HasTermAt i
-  term_tree_at i h = term_below (suc i) i (omega arith) h
+  term_tree_kept : (i : ℕ) → Has terms i → HasTermAt i
+  term_tree_kept i h = term_below (suc i) i (omega arith) h
 
   -- the sets of pairs
-  set_numbered : (set : List ℕ) → IsSubset set terms → terms_at cert_terms (numbers_of terms set) ≡ terms_of store set
+  set_numbered : (set : List ℕ) → IsSubset set terms → terms_of cert_nodes (numbers_of terms set) ≡ terms_of store set
   set_numbered [] within = refl
-  set_numbered (i ∷ set) within = λ v. term_tree_at i (within i (inl refl)) v ∷ set_numbered set (λ j h. within j (inr h)) v
+  set_numbered (i ∷ set) within = λ v. term_tree_kept i (within i (inl refl)) v ∷ set_numbered set (λ j h. within j (inr h)) v
 
-  sets_numbered : (fs : List IdEntry) → ((e : IdEntry) → Has fs e → IsSubset e.left terms × IsSubset e.right terms) → map (pair_at cert_terms) (map (number_pair_of terms) fs) ≡ pairs_of (entries_of store fs)
+  sets_numbered : (fs : List IdEntry) → ((e : IdEntry) → Has fs e → IsSubset e.left terms × IsSubset e.right terms) → set_pairs_of cert_nodes (map (number_pair_of terms) fs) ≡ pairs_of (entries_of store fs)
   sets_numbered [] within = refl
   sets_numbered (f ∷ fs) within =
       let own = within f (inl refl) in
@@ -108,15 +99,14 @@ module _ (store : StoreParts) (es : List IdEntry) (terms named tests : List ℕ)
   pairs_numbered = sets_numbered es (members_there store es terms named tests needed)
 
   -- each tree is that of an id
-  pub trees_have_ids : (t : Term) → Has cert_terms t → HasTree store t
+  pub trees_have_ids : (t : Term) → Has (trees cert_nodes) t → HasTree store t
   trees_have_ids t h =
-      let place = place_of_member cert_terms t h in
+      let place = place_of_member (trees cert_nodes) t h in
       let k : ℕ = place.0 in
-      let within : k < length cert_terms = slice_get_within cert_terms k t place.1 in
-      let many : length cert_terms ≡ length terms =
-      length-course_of_values (term_node_tree cert_tests) (numbered_cert store tests terms es).term_nodes ∙ length-map terms (λ i. term_node_of tests terms (term_at store i)) in
+      let within : k < length (trees cert_nodes) = slice_get_within (trees cert_nodes) k t place.1 in
+      let many : length (trees cert_nodes) ≡ length terms = length-trees cert_nodes ∙ length-map terms (λ i. term_node_of tests terms (term_at store i)) in
       let here : slice_get terms k ≡ Some (get_or terms k 0) = slice_get-get_or terms k 0 (subst (λ z. k < z) many within) in
       let i : ℕ = get_or terms k 0 in
       let there = has_at terms k i here in
       let own = number_of_place terms (ascending_once terms needed.of_terms.ascending) k i here in
-      (i, needed.of_terms.there i there, sym (term_tree_at i there) ∙ ap (λ z. get_or cert_terms z nothing) own ∙ get_or_from_slice_get cert_terms k t nothing place.1)
+      (i, needed.of_terms.there i there, sym (term_tree_kept i there) ∙ ap (tree_at cert_nodes) own ∙ get_or_from_slice_get (trees cert_nodes) k t nothing place.1)

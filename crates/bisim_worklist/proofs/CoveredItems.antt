@@ -7,11 +7,12 @@ use Rattle.kat_model.specs.Members.{Has, IsSubset}
 use Rattle.kat_model.specs.Pairs.{SetPair, sat}
 use Rattle.kat_model.specs.Problems.{ProblemParts}
 use Rattle.kat_model.specs.Closed.{closed}
-use Rattle.term_store.specs.Nodes.{StoreParts, IsTermId}
-use Rattle.term_store.specs.Trees.{tree_of}
+use Rattle.term_nodes.specs.NodeLists.{NodeParts, IsTerm}
+use Rattle.term_nodes.specs.NodeTrees.{tree_at}
 use Rattle.bisim_worklist.specs.Walks.{pairs_of}
 use Rattle.bisim_worklist.specs.Covered.{HasUniversal, IsReached, IsCovered}
-use Rattle.bisim_worklist.specs.Working.Listings.{terms_of, entries_of}
+use Rattle.term_nodes.specs.NumberSets.{terms_of}
+use Rattle.bisim_worklist.specs.Working.Listings.{entries_of}
 use Rattle.bisim_worklist.specs.Working.Marks.{RuleParts, are_marked, saturated_marks, reaches_targets}
 use Rattle.bisim_worklist.specs.Working.Items.{targets_under, open_targets, is_open, guard_of}
 use Rattle.bisim_worklist.specs.Working.Covers.{covers_on, covers}
@@ -24,19 +25,19 @@ use Rattle.bisim_worklist.proofs.MarkedTerms.{AreIds, ArePairIds, MarksAre, mark
 use Rattle.bisim_worklist.proofs.ItemTargets.{targets_where, under_where, open_where, has_where}
 
 -- the targets of items are ids, and so are those of some of them
-abbrev pub AreTargetIds : StoreParts → List Item → Type 0
-AreTargetIds store is = (i : Item) → Has is i → IsTermId store i.target
+abbrev pub AreTargetIds : NodeParts → List Item → Type 0
+AreTargetIds store is = (i : Item) → Has is i → IsTerm store i.target
 
-pub where_ids : (store : StoreParts) (p : Item → Bool) (is : List Item) → AreTargetIds store is → AreIds store (targets_where p is)
-where_ids store p is own k h = let f = has_where p is k h in subst (IsTermId store) f.3 (own f.0 f.1)
+pub where_ids : (store : NodeParts) (p : Item → Bool) (is : List Item) → AreTargetIds store is → AreIds store (targets_where p is)
+where_ids store p is own k h = let f = has_where p is k h in subst (IsTerm store) f.3 (own f.0 f.1)
 
-pub under_ids : (store : StoreParts) (guard : ℕ) (side : Side) (is : List Item) → AreTargetIds store is → AreIds store (targets_under guard side is)
+pub under_ids : (store : NodeParts) (guard : ℕ) (side : Side) (is : List Item) → AreTargetIds store is → AreIds store (targets_under guard side is)
 under_ids store guard side is own = subst (AreIds store) (sym (under_where guard side is)) (where_ids store (λ i. nat_eq (guard_of side i) guard) is own)
 
-pub open_ids : (store : StoreParts) (never always : ℕ) (side : Side) (is : List Item) → AreTargetIds store is → AreIds store (open_targets never always side is)
+pub open_ids : (store : NodeParts) (never always : ℕ) (side : Side) (is : List Item) → AreTargetIds store is → AreIds store (open_targets never always side is)
 open_ids store never always side is own = subst (AreIds store) (sym (open_where never always side is)) (where_ids store (is_open never always side) is own)
 
-module _ (q : ProblemParts) (store : StoreParts) (r : RuleParts) (done : ℕ) (rules : AreRulesOf q store r done) where
+module _ (q : ProblemParts) (store : NodeParts) (r : RuleParts) (done : ℕ) (rules : AreRulesOf q store r done) where
   pub pair_ids : ArePairIds store r.pairs
   pair_ids p h = let s = rules.sets p h in ((λ k m. (s.0.there k m).is_id), (λ k m. (s.1.there k m).is_id))
 
@@ -56,7 +57,7 @@ module _ (q : ProblemParts) (store : StoreParts) (r : RuleParts) (done : ℕ) (r
     marked : MarksAre store marks made
     marked = subst (λ n. MarksAre store (saturated_marks n r.pairs ids) made) (sym rules.count) (saturated_set store rules.sound r.pairs ids pair_ids own)
 
-    universal_told : (u : Option ℕ) → ((k : ℕ) → u ≡ Some k → IsTermId store k) → (option_map_or (λ k. get_or marks k false) u false ≡ true) ↔ HasUniversal (option_map (tree_of store) u) made
+    universal_told : (u : Option ℕ) → ((k : ℕ) → u ≡ Some k → IsTerm store k) → (option_map_or (λ k. get_or marks k false) u false ≡ true) ↔ HasUniversal (option_map (tree_at store) u) made
     universal_told None there = ((λ e. absurd cc), (λ h. absurd h))
     universal_told (Some k) there = marked_id store rules.sound marks made wide marked k (there k refl)
 
@@ -70,7 +71,7 @@ module _ (q : ProblemParts) (store : StoreParts) (r : RuleParts) (done : ℕ) (r
         any : Bool
         any = option_map_or (λ k. get_or marks k false) r.universal false
 
-        told : (any ≡ true) ↔ HasUniversal (option_map (tree_of store) r.universal) made
+        told : (any ≡ true) ↔ HasUniversal (option_map (tree_at store) r.universal) made
         told = universal_told r.universal (λ k e. (rules.universal_id k e).is_id)
 
         all : (are_marked marks targets ≡ true) ↔ IsSubset (terms_of store targets) made

@@ -13,13 +13,14 @@ use Rattle.kat_model.proofs.Lists.{has_append, has_flat_map, map_has}
 use Rattle.string_tables.proofs.Counterexamples.{refuted_not_same}
 use Rattle.certificate.specs.declared.evidence.Evidence.TheVariants.{Equal, Different}
 use Rattle.certificate.specs.Certs.{CertParts}
-use Rattle.term_store.specs.Nodes.{StoreParts}
-use Rattle.term_store.specs.Trees.{tree_of, HasTree}
+use Rattle.term_nodes.specs.NodeLists.{NodeParts}
+use Rattle.term_nodes.specs.NodeTrees.{tree_at, HasTree}
 use Rattle.partial_derivs.specs.Moves.{IsTermOf}
 use Rattle.certificate.specs.Decisions.{IsDecision}
 use Rattle.bisim_worklist.specs.StoredTerms.{HasIdsOf}
 use Rattle.bisim_worklist.specs.Walks.{Origin, Entry, IsWalk, IsTrail, after_trail}
-use Rattle.bisim_worklist.specs.Working.Listings.{IdEntry, terms_of, entry_of, entries_of, AreIdSets, ComesEarlier, AreTraced, origin_in, LeadsBack}
+use Rattle.term_nodes.specs.NumberSets.{terms_of}
+use Rattle.bisim_worklist.specs.Working.Listings.{IdEntry, entry_of, entries_of, AreIdSets, ComesEarlier, AreTraced, origin_in, LeadsBack}
 use Rattle.bisim_worklist.specs.Working.Needed.{members_of}
 use Rattle.bisim_worklist.specs.Working.Numbering.{IsCertOf}
 use Rattle.bisim_worklist.specs.Working.Walking.{IsUnderWay, IsDifference}
@@ -31,11 +32,11 @@ use Rattle.bisim_worklist.proofs.Concise.{walk_concise}
 use Rattle.bisim_worklist.proofs.Shortest.{found_shortest}
 
 -- the entry of a listed pair
-entry_at : (store : StoreParts) (es : List IdEntry) (k : ℕ) (e : IdEntry) → slice_get es k ≡ Some e → slice_get (entries_of store es) k ≡ Some (entry_of store e)
+entry_at : (store : NodeParts) (es : List IdEntry) (k : ℕ) (e : IdEntry) → slice_get es k ≡ Some e → slice_get (entries_of store es) k ≡ Some (entry_of store e)
 entry_at store es k e at = slice_get-map (entry_of store) es k ∙ ap (option_map (entry_of store)) at
 
 -- the steps that lead back to the first pair are a trail
-trail_back : (store : StoreParts) (es : List IdEntry) (k : ℕ) (os : List Origin) → LeadsBack es k os → IsTrail (entries_of store es) k os
+trail_back : (store : NodeParts) (es : List IdEntry) (k : ℕ) (os : List Origin) → LeadsBack es k os → IsTrail (entries_of store es) k os
 trail_back store es k [] h = h
 trail_back store es k (o ∷ os) h = (here (slice_get es k) refl h.0, trail_back store es o.place os h.1)
   where
@@ -44,13 +45,13 @@ trail_back store es k (o ∷ os) h = (here (slice_get es k) refl h.0, trail_back
     here (Some e) at f = (entry_of store e, entry_at store es k e at, f)
 
 -- a set of one term is one id
-one_id : (store : StoreParts) (n : ℕ) (ids : List ℕ) (t : Term) → ((i : ℕ) → Has ids i → IsTermOf store n i) → terms_of store ids ≡ t ∷ [] → HasTree store t
+one_id : (store : NodeParts) (n : ℕ) (ids : List ℕ) (t : Term) → ((i : ℕ) → Has ids i → IsTermOf store n i) → terms_of store ids ≡ t ∷ [] → HasTree store t
 one_id store n [] t there e = absurd cc
 one_id store n (i ∷ ids) t there e =
-    let tree : tree_of store i ≡ t = cc in
+    let tree : tree_at store i ≡ t = cc in
     (i, (there i (inl refl)).is_id, tree)
 
-module _ (q : ProblemParts) (store : StoreParts) where
+module _ (q : ProblemParts) (store : NodeParts) where
   -- of the first pair
   sides_of_first : (es : List IdEntry) → AreIdSets store q.tests es → slice_get (entries_of store es) 0 ≡ Some (first_entry q) → HasTree store (closed q).left × HasTree store (closed q).right
   sides_of_first [] sets first = absurd cc
@@ -70,13 +71,13 @@ module _ (q : ProblemParts) (store : StoreParts) where
         let c = walk.origins k (entry_of store e) (entry_at store es (suc k) e at) in
         subst (ComesEarlier (suc k)) (sym c.is) (let l = c.earlier in omega (arith, l))
 
-    members_in_range : IsProblem q → (i : ℕ) → Has (members_of es) i → IsInRange q.tests q.actions (tree_of store i)
+    members_in_range : IsProblem q → (i : ℕ) → Has (members_of es) i → IsInRange q.tests q.actions (tree_at store i)
     members_in_range problem i h =
         let r = has_flat_map (λ (e : IdEntry). e.left ++ e.right) es i h in
         let listed = map_has (entry_of store) es r.0 r.1 in
         ⊎_elim
-        (λ l. left_in_range q problem (entries_of store es) done walk (entry_of store r.0) listed (tree_of store i) (map_has (tree_of store) r.0.left i l))
-        (λ m. right_in_range q problem (entries_of store es) done walk (entry_of store r.0) listed (tree_of store i) (map_has (tree_of store) r.0.right i m))
+        (λ l. left_in_range q problem (entries_of store es) done walk (entry_of store r.0) listed (tree_at store i) (map_has (tree_at store) r.0.left i l))
+        (λ m. right_in_range q problem (entries_of store es) done walk (entry_of store r.0) listed (tree_at store i) (map_has (tree_at store) r.0.right i m))
         (has_append r.0.left r.0.right i r.2)
 
   module _ (w : Walk) where

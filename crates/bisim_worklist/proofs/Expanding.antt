@@ -9,9 +9,9 @@ use Rattle.kat_model.specs.Problems.{ProblemParts}
 use Rattle.kat_model.specs.Pairs.{SetPair}
 use Rattle.kat_model.proofs.Lists.{has_map, map_has, has_append}
 use Rattle.kat_model.proofs.Places.{has_at}
-use Rattle.term_store.specs.Nodes.{StoreParts, IsTermId, IsStore}
-use Rattle.term_store.specs.Trees.{tree_of}
-use Rattle.term_store.proofs.TermTrees.{one_id_a_tree}
+use Rattle.term_nodes.specs.NodeLists.{NodeParts, IsTerm, AreNodes}
+use Rattle.term_nodes.specs.NodeTrees.{tree_at}
+use Rattle.term_nodes.proofs.TermTrees.{one_id_a_tree}
 use Rattle.test_diagrams.specs.Functions.{DiagramsParts, value_of, IsAtomOf, KeepsFunctions}
 use Rattle.partial_derivs.specs.declared.moves.Guarded.{Guarded}
 use Rattle.partial_derivs.specs.declared.moves.Steps.{Steps}
@@ -20,8 +20,9 @@ use Rattle.partial_derivs.specs.Tables.{AreRight}
 use Rattle.partial_derivs.proofs.Kept.{Keeps-functions, IsStepsBy-kept}
 use Rattle.partial_derivs.proofs.Tables.{AreRight-kept}
 use Rattle.bisim_worklist.specs.Walks.{Entry, pairs_of, AreCongruentAfter}
-use Rattle.bisim_worklist.specs.Working.Visits.{Grows}
-use Rattle.bisim_worklist.specs.Working.Listings.{IdEntry, terms_of, pair_of, entry_of, entries_of, IsIdSet}
+use Rattle.bisim_worklist.specs.Working.Visits.{AddsEntries}
+use Rattle.term_nodes.specs.NumberSets.{terms_of}
+use Rattle.bisim_worklist.specs.Working.Listings.{IdEntry, pair_of, entry_of, entries_of, IsIdSet}
 use Rattle.bisim_worklist.specs.Working.Marks.{RuleParts}
 use Rattle.bisim_worklist.specs.Working.Items.{led, led_to, AreItemsOf, AreLedTo}
 use Rattle.bisim_worklist.specs.Working.Cases.{Extends}
@@ -37,17 +38,17 @@ use Rattle.bisim_worklist.proofs.Visiting.{grows_then, grown_at, grown_after}
 -- ---- the items of an action
 
 -- moves lead to just the terms of their targets
-module _ (store : StoreParts) (d : DiagramsParts) (act : ℕ) (atom : Atom) where
-  led_leads : (moves : List Guarded) (t : ℕ) → Has (led d moves act atom) t → LeadsTo store d moves atom act (tree_of store t)
+module _ (store : NodeParts) (d : DiagramsParts) (act : ℕ) (atom : Atom) where
+  led_leads : (moves : List Guarded) (t : ℕ) → Has (led d moves act atom) t → LeadsTo store d moves atom act (tree_at store t)
   led_leads [] t h = absurd h
   led_leads (m ∷ ms) t h = go (λ r. later (led_leads ms t r)) (nat_eq m.act act) refl (value_of d m.guard atom) refl h
     where
-      later : LeadsTo store d ms atom act (tree_of store t) → LeadsTo store d (m ∷ ms) atom act (tree_of store t)
+      later : LeadsTo store d ms atom act (tree_at store t) → LeadsTo store d (m ∷ ms) atom act (tree_at store t)
       later r = record { through = r.through; member = inr r.member; action = r.action; guard = r.guard; tree = r.tree }
 
-      go : (Has (led d ms act atom) t → LeadsTo store d (m ∷ ms) atom act (tree_of store t)) → (a : Bool) → nat_eq m.act act ≡ a → (b : Bool) → value_of d m.guard atom ≡ b
-          → Has (cond (a && b) (m.to ∷ led d ms act atom) (led d ms act atom)) t → LeadsTo store d (m ∷ ms) atom act (tree_of store t)
-      go rest true e true v k = ⊎_elim (λ s. record { through = m; member = inl refl; action = eqb-true m.act act e; guard = v; tree = ap (tree_of store) s }) rest k
+      go : (Has (led d ms act atom) t → LeadsTo store d (m ∷ ms) atom act (tree_at store t)) → (a : Bool) → nat_eq m.act act ≡ a → (b : Bool) → value_of d m.guard atom ≡ b
+          → Has (cond (a && b) (m.to ∷ led d ms act atom) (led d ms act atom)) t → LeadsTo store d (m ∷ ms) atom act (tree_at store t)
+      go rest true e true v k = ⊎_elim (λ s. record { through = m; member = inl refl; action = eqb-true m.act act e; guard = v; tree = ap (tree_at store) s }) rest k
       go rest true e false v k = rest k
       go rest false e b v k = rest k
 
@@ -66,16 +67,16 @@ module _ (store : StoreParts) (d : DiagramsParts) (act : ℕ) (atom : Atom) wher
   next_of_ids es steps ids is fits same x = (
     (λ h.
         let r = (is.leads atom fits act x).0 h in
-        subst (Has (terms_of store ids)) r.tree (map_has (tree_of store) ids r.through.to ((same r.through.to).1 (led_has steps.moves.items r.through r.member r.action r.guard)))),
+        subst (Has (terms_of store ids)) r.tree (map_has (tree_at store) ids r.through.to ((same r.through.to).1 (led_has steps.moves.items r.through r.member r.action r.guard)))),
     (λ h.
-        let f = has_map (tree_of store) ids x h in
+        let f = has_map (tree_at store) ids x h in
         (is.leads atom fits act x).1 (subst (LeadsTo store d steps.moves.items atom act) f.2 (led_leads steps.moves.items f.0 ((same f.0).0 f.1)))),
   )
 
-target_term : (store : StoreParts) (n : ℕ) (moves : List Guarded) → AreTargets store n moves → (t : ℕ) → Has (led_to moves) t → IsTermOf store n t
+target_term : (store : NodeParts) (n : ℕ) (moves : List Guarded) → AreTargets store n moves → (t : ℕ) → Has (led_to moves) t → IsTermOf store n t
 target_term store n moves are t h = let f = has_map (λ (m : Guarded). m.to) moves t h in subst (IsTermOf store n) f.2 (are f.0 f.1)
 
-items_stand : (q : ProblemParts) (store : StoreParts) (d : DiagramsParts) (p : SetPair) (left right : Steps) (act : ℕ) (items : List Item) (decided : List (Option Bool)) → d.tests ≡ q.tests
+items_stand : (q : ProblemParts) (store : NodeParts) (d : DiagramsParts) (p : SetPair) (left right : Steps) (act : ℕ) (items : List Item) (decided : List (Option Bool)) → d.tests ≡ q.tests
     → IsStepsOf store d p.left left → IsStepsOf store d p.right right → AreItemsOf d left.moves.items right.moves.items act items → AreLedTo left.moves.items right.moves.items items
     → StandFor q store d items p act decided
 items_stand q store d p left right act items decided tests on_left on_right are led_items = record {
@@ -96,13 +97,13 @@ extends_none (suc n) (b ∷ bs) e = extends_none n bs (omega (arith, e))
 -- ---- entries of ids
 
 -- ids of a store have their trees alone
-module _ (store : StoreParts) (is : IsStore store) where
-  one_list : (ks ls : List ℕ) → ((i : ℕ) → Has ks i → IsTermId store i) → ((i : ℕ) → Has ls i → IsTermId store i) → terms_of store ks ≡ terms_of store ls → ks ≡ ls
+module _ (store : NodeParts) (is : AreNodes store) where
+  one_list : (ks ls : List ℕ) → ((i : ℕ) → Has ks i → IsTerm store i) → ((i : ℕ) → Has ls i → IsTerm store i) → terms_of store ks ≡ terms_of store ls → ks ≡ ls
   one_list [] [] p r e = refl
   one_list [] (l ∷ ls) p r e = absurd cc
   one_list (k ∷ ks) [] p r e = absurd cc
   one_list (k ∷ ks) (l ∷ ls) p r e =
-      let first : tree_of store k ≡ tree_of store l = cc in
+      let first : tree_at store k ≡ tree_at store l = cc in
       let others : terms_of store ks ≡ terms_of store ls = cc in
       let same : k ≡ l = one_id_a_tree store is k l (p k (inl refl)) (r l (inl refl)) first in
       let rest : ks ≡ ls = one_list ks ls (λ i h. p i (inr h)) (λ i h. r i (inr h)) others in
@@ -118,7 +119,7 @@ module _ (store : StoreParts) (is : IsStore store) where
       λ v. record { left = left v; right = right v; origin = (ap (λ (x : Entry). x.origin) e) v }
 
 -- so an entry of ids keeps its place when entries are listed
-kept_entry : (q : ProblemParts) (store : StoreParts) (old new : RuleParts) (done place : ℕ) (e : IdEntry) → AreRulesOf q store old done → AreRulesOf q store new done → Grows (entries_of store old.pairs) (entries_of store new.pairs)
+kept_entry : (q : ProblemParts) (store : NodeParts) (old new : RuleParts) (done place : ℕ) (e : IdEntry) → AreRulesOf q store old done → AreRulesOf q store new done → AddsEntries (entries_of store old.pairs) (entries_of store new.pairs)
     → slice_get old.pairs place ≡ Some e → slice_get new.pairs place ≡ Some e
 kept_entry q store old new done place e was is grows at =
     let there = grown_at (entries_of store old.pairs) (entries_of store new.pairs) place (entry_of store e) grows (at_mapped (entry_of store) old.pairs place e at) in
@@ -128,15 +129,15 @@ kept_entry q store old new done place e was is grows at =
 -- ---- one action after another
 
 -- the new rules are the old ones and further pairs, under which the next sets of the pair by each of the actions are congruent
-pub record HasStepped (q : ProblemParts) (store : StoreParts) (old new : RuleParts) (place : ℕ) (p : SetPair) (acts : List ℕ) : Type 0 where
+pub record HasStepped (q : ProblemParts) (store : NodeParts) (old new : RuleParts) (place : ℕ) (p : SetPair) (acts : List ℕ) : Type 0 where
   pub rules : AreRulesOf q store new place
-  pub grows : Grows (entries_of store old.pairs) (entries_of store new.pairs)
+  pub grows : AddsEntries (entries_of store old.pairs) (entries_of store new.pairs)
   pub congruent : (a : ℕ) → Has acts a → AreCongruentAfter q (pairs_of (entries_of store new.pairs)) p a
 
 -- whatever the question, the store and the pair are
 abbrev pub StepsBy : ℕ → Walk → RuleParts → ℕ → BothSteps → List ℕ → Type 0
 StepsBy actions old new place steps acts =
-    (q : ProblemParts) (store : StoreParts) → actions ≡ q.actions → (e : IdEntry) → IsUnderWay q store old place → slice_get old.rules.pairs place ≡ Some e → AreStepsAt store old e steps
+    (q : ProblemParts) (store : NodeParts) → actions ≡ q.actions → (e : IdEntry) → IsUnderWay q store old place → slice_get old.rules.pairs place ≡ Some e → AreStepsAt store old e steps
     → HasStepped q store old.rules new place (pair_of store e) acts
 
 module _ (actions : ℕ) (old : Walk) (place : ℕ) (steps : BothSteps) (acts : List ℕ) where
@@ -181,7 +182,7 @@ module _ (actions : ℕ) (old : Walk) (place : ℕ) (steps : BothSteps) (acts : 
 
   -- all actions
   pub steps_all : (new : Walk) → KeepsFunctions old.diagrams new.diagrams → new.derivatives ≡ old.derivatives → ((a : ℕ) → a < actions → Has acts a) → StepsBy actions old new.rules place steps acts
-      → (q : ProblemParts) (store : StoreParts) → actions ≡ q.actions → IsExpanded q store old new place steps
+      → (q : ProblemParts) (store : NodeParts) → actions ≡ q.actions → IsExpanded q store old new place steps
   steps_all new kept same all before q store count e under at steps_at =
       let m = before q store count e under at steps_at in (
         record {

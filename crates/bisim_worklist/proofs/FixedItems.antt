@@ -5,7 +5,7 @@ use Rattle.std.proofs.lemmas.List.{map-append}
 use Rattle.kat_model.specs.Members.{Has}
 use Rattle.kat_model.specs.Steps.{Atom}
 use Rattle.kat_model.proofs.Lists.{has_left, has_right, has_append, has_map, map_has}
-use Rattle.certificate.specs.Nodes.{are_ascending}
+use Rattle.term_nodes.specs.NumberSets.{are_ascending}
 use Rattle.test_diagrams.specs.Functions.{DiagramsParts, value_of, IsAtomOf, IsDiagramId, IsDiagramOf, IsIndependent, KeepsFunctions}
 use Rattle.test_diagrams.proofs.Kept.{IsDiagramOf-kept}
 use Rattle.partial_derivs.proofs.Items.{has_item, take_item}

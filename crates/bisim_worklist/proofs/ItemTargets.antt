@@ -4,7 +4,7 @@ use Rattle.std.proofs.lemmas.Bool.{and_from, lt-ltb}
 use Rattle.kat_model.specs.Members.{Has}
 use Rattle.kat_model.specs.Steps.{Atom}
 use Rattle.kat_model.proofs.Lists.{map_has}
-use Rattle.certificate.specs.Nodes.{are_ascending}
+use Rattle.term_nodes.specs.NumberSets.{are_ascending}
 use Rattle.certificate.proofs.Ascending.{ascending_tail, ascending_first}
 use Rattle.test_diagrams.specs.Functions.{DiagramsParts, value_of}
 use Rattle.bisim_worklist.specs.Working.Items.{guard_of, targets_of, targets_under, is_open, open_targets, chosen}

@@ -4,17 +4,17 @@ use Rattle.std.proofs.lemmas.Bool.{true≢false}
 use Rattle.kat_model.specs.Members.{Has, IsSubset}
 use Rattle.kat_model.specs.Steps.{set_next}
 use Rattle.kat_model.specs.Problems.{ProblemParts}
-use Rattle.certificate.specs.Nodes.{are_ascending}
+use Rattle.term_nodes.specs.NumberSets.{are_ascending, terms_of}
 use Rattle.std.specs.Option.{option_map}
-use Rattle.term_store.specs.Trees.{tree_of}
+use Rattle.term_nodes.specs.NodeTrees.{tree_at}
 use Rattle.kat_model.proofs.Lists.{has_append}
-use Rattle.term_store.specs.Nodes.{StoreParts}
+use Rattle.term_nodes.specs.NodeLists.{NodeParts}
 use Rattle.test_diagrams.specs.Functions.{DiagramsParts, IsDiagramId, IsConstant}
 use Rattle.test_diagrams.specs.Reduced.{IsReduced}
 use Rattle.partial_derivs.specs.Moves.{IsTermOf}
 use Rattle.bisim_worklist.specs.Walks.{Origin, Entry, IsWalk}
 use Rattle.bisim_worklist.specs.Working.Visits.{IsVisited}
-use Rattle.bisim_worklist.specs.Working.Listings.{IdEntry, terms_of, pair_of, entry_of, entries_of, IsIdSet, AreIdSets}
+use Rattle.bisim_worklist.specs.Working.Listings.{IdEntry, pair_of, entry_of, entries_of, IsIdSet, AreIdSets}
 use Rattle.bisim_worklist.specs.Working.Marks.{RuleParts}
 use Rattle.bisim_worklist.specs.Working.Items.{guard_of, targets_under, open_targets}
 use Rattle.bisim_worklist.specs.Working.Covers.{AreEnds, covers}
@@ -30,7 +30,7 @@ use Rattle.bisim_worklist.proofs.CoveredItems.{AreTargetIds, covers_told}
 use Rattle.bisim_worklist.proofs.CaseItems.{terms_within, are_between, open_sure, same_sure}
 use Rattle.bisim_worklist.proofs.Visiting.{visited_covered, visited_listed}
 
-pub entries_append : (store : StoreParts) (es fs : List IdEntry) → entries_of store (es ++ fs) ≡ entries_of store es ++ entries_of store fs
+pub entries_append : (store : NodeParts) (es fs : List IdEntry) → entries_of store (es ++ fs) ≡ entries_of store es ++ entries_of store fs
 entries_append store [] fs = refl
 entries_append store (e ∷ es) fs = ap (λ xs. entry_of store e ∷ xs) (entries_append store es fs)
 
@@ -45,7 +45,7 @@ least_extends (None ∷ ds) = least_extends ds
 least_extends (Some b ∷ ds) = (refl, least_extends ds)
 
 module _ (d : DiagramsParts) (stride : Stride) (decided : List (Option Bool)) (items : List Item) (ends : Ends) (are_ends : AreEnds d ends) where
-  target_ids : (q : ProblemParts) (store : StoreParts) (from : Entry) → StandFor q store d items from.pair stride.act decided → AreTargetIds store items
+  target_ids : (q : ProblemParts) (store : NodeParts) (from : Entry) → StandFor q store d items from.pair stride.act decided → AreTargetIds store items
   target_ids q store from stands i h = (stands.targets i h).is_id
 
   -- a case that is covered lists nothing
@@ -69,7 +69,7 @@ module _ (d : DiagramsParts) (stride : Stride) (decided : List (Option Bool)) (i
 
   -- one that is not covered lists its pair
   module _ (r new : RuleParts) (is_case : IsCase d decided items) (constant : AreConstant d items) (reduced : IsReduced d) (uncovered : covers r ends items ≡ false) (pairs : new.pairs ≡ r.pairs ++ leaf_entry ∷ []) (universal : new.universal ≡ r.universal) (count : new.count ≡ r.count) where
-    module _ (q : ProblemParts) (store : StoreParts) (from : Entry) (tests : d.tests ≡ q.tests) (acts : stride.act < q.actions) (rules : AreRulesOf q store r stride.place) (at : slice_get (entries_of store r.pairs) stride.place ≡ Some from) (stands : StandFor q store d items from.pair stride.act decided) where
+    module _ (q : ProblemParts) (store : NodeParts) (from : Entry) (tests : d.tests ≡ q.tests) (acts : stride.act < q.actions) (rules : AreRulesOf q store r stride.place) (at : slice_get (entries_of store r.pairs) stride.place ≡ Some from) (stands : StandFor q store d items from.pair stride.act decided) where
       side_set : (side : Side) → IsIdSet store q.tests (targets_under ends.always side items)
       side_set side = record {
         there = λ k h.
@@ -119,7 +119,7 @@ module _ (d : DiagramsParts) (stride : Stride) (decided : List (Option Bool)) (i
           sound = rules.sound;
           count = count ∙ rules.count;
           sets = subst (AreIdSets store q.tests) (sym pairs) sets;
-          universal = ap (option_map (tree_of store)) universal ∙ rules.universal;
+          universal = ap (option_map (tree_at store)) universal ∙ rules.universal;
           universal_id = λ u e. rules.universal_id u (sym universal ∙ e);
           walk = subst (λ es. IsWalk q es stride.place) more listed.walk;
         };

@@ -10,23 +10,24 @@ use Rattle.kat_model.specs.Pairs.{holds_all, with_pair, round, rounds, sat}
 use Rattle.kat_model.proofs.Lists.{has_left, has_right, has_append}
 use Rattle.kat_model.proofs.SameTrees.{holds_all-true, subset-holds_all}
 use Rattle.kat_model.proofs.Places.{slice_get-set_same, slice_get-set_kept, slice_get-set_cases}
-use Rattle.term_store.specs.Nodes.{StoreParts, IsStore, IsTermId}
-use Rattle.term_store.specs.Trees.{tree_of}
-use Rattle.term_store.proofs.TermTrees.{one_id_a_tree}
+use Rattle.term_nodes.specs.NodeLists.{NodeParts, AreNodes, IsTerm}
+use Rattle.term_nodes.specs.NodeTrees.{tree_at}
+use Rattle.term_nodes.proofs.TermTrees.{one_id_a_tree}
 use Rattle.bisim_worklist.specs.Walks.{Entry, pairs_of}
-use Rattle.bisim_worklist.specs.Working.Listings.{IdEntry, terms_of, pair_of, entry_of, entries_of}
+use Rattle.term_nodes.specs.NumberSets.{terms_of}
+use Rattle.bisim_worklist.specs.Working.Listings.{IdEntry, pair_of, entry_of, entries_of}
 use Rattle.bisim_worklist.specs.Working.Marks.{are_marked, with_marks, with_pair_marked, round_marked, rounds_marked, saturated_marks}
 
 -- the numbers are ids of terms, as are those of both sides of each pair
-abbrev pub AreIds : StoreParts → List ℕ → Type 0
-AreIds store ks = (k : ℕ) → Has ks k → IsTermId store k
+abbrev pub AreIds : NodeParts → List ℕ → Type 0
+AreIds store ks = (k : ℕ) → Has ks k → IsTerm store k
 
-abbrev pub ArePairIds : StoreParts → List IdEntry → Type 0
+abbrev pub ArePairIds : NodeParts → List IdEntry → Type 0
 ArePairIds store ps = (p : IdEntry) → Has ps p → AreIds store p.left × AreIds store p.right
 
 -- the marked ids are those of the terms of the list
-abbrev pub MarksAre : StoreParts → List Bool → List Term → Type 0
-MarksAre store marks es = (e : Term) → ((k : ℕ) × (slice_get marks k ≡ Some true) × (tree_of store k ≡ e)) ↔ Has es e
+abbrev pub MarksAre : NodeParts → List Bool → List Term → Type 0
+MarksAre store marks es = (e : Term) → ((k : ℕ) × (slice_get marks k ≡ Some true) × (tree_at store k ≡ e)) ↔ Has es e
 
 -- ---- one mark more
 
@@ -55,13 +56,13 @@ saturated_length n ps ks = length_rounds (length ps) ps (with_marks (replicate n
 
 -- ---- marks and terms
 
-module _ (store : StoreParts) (is : IsStore store) where
+module _ (store : NodeParts) (is : AreNodes store) where
   -- an id is marked exactly where its term is in the set
-  pub marked_id : (marks : List Bool) (es : List Term) → length marks ≡ length store.terms → MarksAre store marks es → (k : ℕ) → IsTermId store k → (get_or marks k false ≡ true) ↔ Has es (tree_of store k)
+  pub marked_id : (marks : List Bool) (es : List Term) → length marks ≡ length store.terms → MarksAre store marks es → (k : ℕ) → IsTerm store k → (get_or marks k false ≡ true) ↔ Has es (tree_at store k)
   marked_id marks es l m k h = (
-    (λ e. (m (tree_of store k)).0 (k, slice_get-get_or marks k false (omega (arith, l, h)) ∙ ap (λ (b : Bool). Some b) e, refl)),
+    (λ e. (m (tree_at store k)).0 (k, slice_get-get_or marks k false (omega (arith, l, h)) ∙ ap (λ (b : Bool). Some b) e, refl)),
     (λ s.
-        let found = (m (tree_of store k)).1 s in
+        let found = (m (tree_at store k)).1 s in
         let there : found.0 < length store.terms = subst (λ n. found.0 < n) l (slice_get_within marks found.0 true found.1) in
         let same : found.0 ≡ k = one_id_a_tree store is found.0 k there h found.2 in
         subst (λ j. get_or marks j false ≡ true) same (get_or_from_slice_get marks found.0 true false found.1)),
@@ -84,12 +85,12 @@ module _ (store : StoreParts) (is : IsStore store) where
       from [] below s = refl
       from (k ∷ ks) below s =
           and_from (get_or marks k false) (are_marked marks ks)
-          ((marked_id marks es l m k (below k (inl refl))).1 (s (tree_of store k) (inl refl)))
+          ((marked_id marks es l m k (below k (inl refl))).1 (s (tree_at store k) (inl refl)))
           (from ks (λ j m. below j (inr m)) (λ x h. s x (inr h)))
 
-  one_more : (marks : List Bool) (es : List Term) (k : ℕ) → length marks ≡ length store.terms → MarksAre store marks es → IsTermId store k → MarksAre store (set marks k true) (tree_of store k ∷ es)
+  one_more : (marks : List Bool) (es : List Term) (k : ℕ) → length marks ≡ length store.terms → MarksAre store marks es → IsTerm store k → MarksAre store (set marks k true) (tree_at store k ∷ es)
   one_more marks es k l m h e = (
-    (λ f. ⊎_elim (λ s. inl (ap (tree_of store) (sym s) ∙ f.2)) (λ r. inr ((m e).0 (f.0, r, f.2))) (slice_get-set_cases marks k f.0 true true f.1)),
+    (λ f. ⊎_elim (λ s. inl (ap (tree_at store) (sym s) ∙ f.2)) (λ r. inr ((m e).0 (f.0, r, f.2))) (slice_get-set_cases marks k f.0 true true f.1)),
     (λ r. ⊎_elim (λ s. (k, slice_get-set_same marks k true (omega (arith, l, h)), s)) (λ q. let f = (m e).1 q in (f.0, slice_get-set_kept marks k f.0 true f.1, f.2)) r),
   )
 
@@ -101,7 +102,7 @@ module _ (store : StoreParts) (is : IsStore store) where
     (λ h. ⊎_elim (λ x. (m e).1 x) absurd ((same e).0 h)),
   )
   more_marks (k ∷ ks) marks es fs l below m same e =
-      more_marks ks (set marks k true) (tree_of store k ∷ es) fs (length-set marks k true ∙ l) (λ j h. below j (inr h)) (one_more marks es k l m (below k (inl refl)))
+      more_marks ks (set marks k true) (tree_at store k ∷ es) fs (length-set marks k true ∙ l) (λ j h. below j (inr h)) (one_more marks es k l m (below k (inl refl)))
       (λ x. (
         (λ h. ⊎_elim (λ a. inl (inr a)) (λ b. ⊎_elim (λ s. inl (inl s)) inr b) ((same x).0 h)),
         (λ h. (same x).1 (⊎_elim (λ a. ⊎_elim (λ s. inr (inl s)) inl a) (λ b. inr (inr b)) h)),

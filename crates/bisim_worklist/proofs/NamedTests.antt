@@ -6,18 +6,19 @@ use Rattle.std.specs.List.{list_any}
 use Rattle.indexmap.specs.IndexSet.{insert_key}
 use Rattle.kat_model.specs.Members.{Has}
 use Rattle.kat_model.proofs.Lists.{has_left, has_right, has_append}
-use Rattle.certificate.specs.Nodes.{are_ascending}
-use Rattle.term_store.specs.Nodes.{StoreParts}
-use Rattle.term_store.specs.declared.nodes.Shape.{Shape}
+use Rattle.term_nodes.specs.NumberSets.{are_ascending}
+use Rattle.term_nodes.specs.NodeLists.{NodeParts}
+use Rattle.term_nodes.specs.declared.TermNode.{TermNode}
 use Rattle.partial_derivs.proofs.Items.{take_item}
-use Rattle.bisim_worklist.specs.Working.Needed.{NamesTests, AddsAll, tests_in}
+use Rattle.term_nodes.specs.Nodes.{tests_of_term}
+use Rattle.bisim_worklist.specs.Working.Needed.{NamesTests, AddsAll}
 use Rattle.certificate.proofs.Ascending.{ascending_seam}
 use Rattle.bisim_worklist.proofs.PartSets.{some_same}
 
-pub names_first : (store : StoreParts) (terms ks : List ℕ) → ks ≡ [] → NamesTests store (take 0 terms) ks
+pub names_first : (store : NodeParts) (terms ks : List ℕ) → ks ≡ [] → NamesTests store (take 0 terms) ks
 names_first store terms ks e x = ((λ h. absurd (subst (λ l. Has l x) e h)), (λ r. absurd r.2))
 
-pub names_next : (store : StoreParts) (terms ks new : List ℕ) (i term : ℕ) (shape : Shape) → i < length terms → term ≡ get_or terms i term → slice_get store.terms term ≡ Some shape → AddsAll ks new (tests_in shape)
+pub names_next : (store : NodeParts) (terms ks new : List ℕ) (i term : ℕ) (shape : TermNode ℕ ℕ) → i < length terms → term ≡ get_or terms i term → slice_get store.terms term ≡ Some shape → AddsAll ks new (tests_of_term shape)
     → NamesTests store (take i terms) ks → NamesTests store (take (i + 1) terms) new
 names_next store terms ks new i term shape lt is at adds before =
     subst (λ l. NamesTests store l new) (sym (take_item terms i term lt is)) next
@@ -31,12 +32,12 @@ names_next store terms ks new i term shape lt is at adds before =
       (λ r. ⊎_elim
           (λ o. (adds x).1 (inl ((before x).1 (r.0, r.1, o, r.3, r.4))))
           (λ m. ⊎_elim
-          (λ s. let same : r.1 ≡ shape = some_same (sym r.3 ∙ ap (slice_get store.terms) (sym s) ∙ at) in (adds x).1 (inr (subst (λ (z : Shape). Has (tests_in z) x) same r.4)))
+          (λ s. let same : r.1 ≡ shape = some_same (sym r.3 ∙ ap (slice_get store.terms) (sym s) ∙ at) in (adds x).1 (inr (subst (λ (z : TermNode ℕ ℕ). Has (tests_of_term z) x) same r.4)))
           absurd m)
           (has_append (take i terms) (term ∷ []) r.0 r.2)),
     )
 
-pub names_last : (store : StoreParts) (terms all ks : List ℕ) (i : ℕ) → terms ≡ all → length terms ≤ i → NamesTests store (take i terms) ks → NamesTests store all ks
+pub names_last : (store : NodeParts) (terms all ks : List ℕ) (i : ℕ) → terms ≡ all → length terms ≤ i → NamesTests store (take i terms) ks → NamesTests store all ks
 names_last store terms all ks i same le names = subst (λ l. NamesTests store l ks) (take_all i terms le ∙ same) names
 
 -- ---- keys in order of insertion

@@ -11,13 +11,8 @@ use Rattle.std.proofs.lemmas.Map.Lookups.{exact_unsigned}
 use Rattle.kat_model.specs.Members.{Has, SameMembers}
 use Rattle.kat_model.proofs.Lists.{has_left, has_right, has_append}
 use Rattle.kat_model.proofs.SetKeys.{inserted_has}
-use Rattle.certificate.specs.Nodes.{are_ascending}
-use Rattle.term_store.specs.Nodes.{IsTestOver, IsOver}
-use Rattle.term_store.specs.declared.nodes.TestShape.{TestShape}
-use Rattle.term_store.specs.declared.nodes.TestShape.TheVariants as test
-use Rattle.term_store.specs.declared.nodes.Shape.{Shape}
-use Rattle.term_store.specs.declared.nodes.Shape.TheVariants.{Zero, One, Test, Act, Sum, Seq, Star}
-use Rattle.bisim_worklist.specs.Working.Needed.{IsPart, own, part, AreParts, AddsAll, terms_in, test_parts_in, members_of}
+use Rattle.term_nodes.specs.NumberSets.{are_ascending}
+use Rattle.bisim_worklist.specs.Working.Needed.{IsPart, own, part, AreParts, AddsAll, members_of}
 use Rattle.bisim_worklist.specs.Working.Listings.{IdEntry}
 
 -- ---- lists of numbers
@@ -145,24 +140,6 @@ last_has ks rest k e = subst (λ l. Has l k) (sym e) (has_right rest (k ∷ []) 
 pub none_left : (ks : List ℕ) → (0 < length ks → ⊥) → ks ≡ []
 none_left [] f = refl
 none_left (k ∷ ks) f = absurd (f (omega arith))
-
--- the parts of a node are less than it
-pub terms_less : (m k : ℕ) (s : Shape) → IsOver m k s → (j : ℕ) → Has (terms_in s) j → j < k
-terms_less m k Zero o j h = absurd h
-terms_less m k One o j h = absurd h
-terms_less m k (Test i) o j h = absurd h
-terms_less m k (Act a) o j h = absurd h
-terms_less m k (Sum x y) o j h = ⊎_elim (λ s. subst (λ n. n < k) s o.0) (λ r. ⊎_elim (λ s. subst (λ n. n < k) s o.1) absurd r) h
-terms_less m k (Seq x y) o j h = ⊎_elim (λ s. subst (λ n. n < k) s o.0) (λ r. ⊎_elim (λ s. subst (λ n. n < k) s o.1) absurd r) h
-terms_less m k (Star x) o j h = ⊎_elim (λ s. subst (λ n. n < k) s o) absurd h
-
-pub tests_less : (k : ℕ) (s : TestShape) → IsTestOver k s → (j : ℕ) → Has (test_parts_in s) j → j < k
-tests_less k test.False o j h = absurd h
-tests_less k test.True o j h = absurd h
-tests_less k (test.Prim i) o j h = absurd h
-tests_less k (test.Not x) o j h = ⊎_elim (λ s. subst (λ n. n < k) s o) absurd h
-tests_less k (test.And x y) o j h = ⊎_elim (λ s. subst (λ n. n < k) s o.0) (λ r. ⊎_elim (λ s. subst (λ n. n < k) s o.1) absurd r) h
-tests_less k (test.Or x y) o j h = ⊎_elim (λ s. subst (λ n. n < k) s o.0) (λ r. ⊎_elim (λ s. subst (λ n. n < k) s o.1) absurd r) h
 
 -- ---- the members of pairs
 

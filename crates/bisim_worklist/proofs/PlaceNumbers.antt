@@ -6,7 +6,7 @@ use Rattle.std.specs.List.{position_or_len}
 use Rattle.kat_model.specs.Members.{Has, HasNoDoubles}
 use Rattle.kat_model.proofs.Lists.{has_map}
 use Rattle.kat_model.proofs.Places.{has_at, one_place}
-use Rattle.certificate.specs.Nodes.{are_below, are_ascending}
+use Rattle.term_nodes.specs.NumberSets.{are_below, are_ascending}
 use Rattle.bisim_worklist.specs.Working.Numbering.{number_of, numbers_of}
 use Rattle.certificate.proofs.Ascending.{ascending_first, ascending_tail}
 use Rattle.bisim_worklist.proofs.PartSets.{some_same}

@@ -1,10 +1,9 @@
 -- Parts of sets with the same members, and the tests that terms name.
-use Rattle.std.proofs.Common.{◌≡◌, ◌<◌, ⊎_elim, ℕ, List, length, sym, subst}
+use Rattle.std.proofs.Common.{◌≡◌, ◌<◌, ℕ, List, length, sym, subst}
 use Rattle.kat_model.specs.Members.{Has, SameMembers}
-use Rattle.term_store.specs.Nodes.{StoreParts, IsOver, IsStore}
-use Rattle.term_store.specs.declared.nodes.Shape.{Shape}
-use Rattle.term_store.specs.declared.nodes.Shape.TheVariants.{Zero, One, Test, Act, Sum, Seq, Star}
-use Rattle.bisim_worklist.specs.Working.Needed.{IsPart, own, part, AreParts, NamesTests, tests_in}
+use Rattle.term_nodes.proofs.Parts.{IsOver-test}
+use Rattle.term_nodes.specs.NodeLists.{NodeParts, AreNodes}
+use Rattle.bisim_worklist.specs.Working.Needed.{IsPart, own, part, AreParts, NamesTests}
 
 module _ (N : Type 0) (nodes : List N) (named : N → List ℕ) (from other : List ℕ) (same : SameMembers from other) where
   part_same : {i : ℕ} → IsPart N nodes named from i → IsPart N nodes named other i
@@ -20,17 +19,8 @@ module _ (N : Type 0) (nodes : List N) (named : N → List ℕ) (from other : Li
     only = λ i h. part_same (p.only i h);
   })
 
--- the tests that a node names are there
-tests_below : (m k : ℕ) (s : Shape) → IsOver m k s → (i : ℕ) → Has (tests_in s) i → i < m
-tests_below m k Zero o i h = absurd h
-tests_below m k One o i h = absurd h
-tests_below m k (Test j) o i h = ⊎_elim (λ s. subst (λ n. n < m) s o) absurd h
-tests_below m k (Act a) o i h = absurd h
-tests_below m k (Sum x y) o i h = absurd h
-tests_below m k (Seq x y) o i h = absurd h
-tests_below m k (Star x) o i h = absurd h
-
-pub named_there : (store : StoreParts) → IsStore store → (terms named : List ℕ) → NamesTests store terms named → (i : ℕ) → Has named i → i < length store.tests
+-- the tests that nodes name are there
+pub named_there : (store : NodeParts) → AreNodes store → (terms named : List ℕ) → NamesTests store terms named → (i : ℕ) → Has named i → i < length store.tests
 named_there store rules terms named names i h =
     let r = (names i).0 h in
-    tests_below (length store.tests) r.0 r.1 (rules.terms_ordered r.0 r.1 r.3) i r.4
+    IsOver-test (length store.tests) r.0 r.1 (rules.terms_ordered r.0 r.1 r.3) i r.4

@@ -8,10 +8,11 @@ use Rattle.kat_model.specs.Steps.{Atom, set_next}
 use Rattle.kat_model.specs.Problems.{ProblemParts}
 use Rattle.kat_model.specs.Pairs.{SetPair}
 use Rattle.kat_model.proofs.Lists.{has_map, map_has}
-use Rattle.term_store.specs.Nodes.{StoreParts}
+use Rattle.term_nodes.specs.NodeLists.{NodeParts}
 use Rattle.test_diagrams.specs.Functions.{DiagramsParts, IsDiagramId, IsDiagramOf, IsIndependent, DependsOn, KeepsFunctions}
 use Rattle.partial_derivs.specs.Moves.{IsTermOf}
-use Rattle.bisim_worklist.specs.Working.Listings.{terms_of, entries_of}
+use Rattle.term_nodes.specs.NumberSets.{terms_of}
+use Rattle.bisim_worklist.specs.Working.Listings.{entries_of}
 use Rattle.bisim_worklist.specs.Working.Marks.{RuleParts}
 use Rattle.bisim_worklist.specs.Working.Items.{guard_of, chosen, AreItems}
 use Rattle.bisim_worklist.specs.Working.Covers.{AreEnds}
@@ -96,7 +97,7 @@ module _ (d e : DiagramsParts) (kept : KeepsFunctions d e) where
   chosen_kept side [] atom own = refl
   chosen_kept side (i ∷ is) atom own = ap₂ (λ (b : Bool) (ts : List ℕ). cond b (i.target ∷ ts) ts) (kept.values (guard_of side i) (own i (inl refl)) atom) (chosen_kept side is atom (λ j h. own j (inr h)))
 
-  stands_kept : (q : ProblemParts) (store : StoreParts) (items : List Item) (p : SetPair) (a : ℕ) (decided : List (Option Bool)) → AreItems d items → StandFor q store d items p a decided → StandFor q store e items p a decided
+  stands_kept : (q : ProblemParts) (store : NodeParts) (items : List Item) (p : SetPair) (a : ℕ) (decided : List (Option Bool)) → AreItems d items → StandFor q store d items p a decided → StandFor q store e items p a decided
   stands_kept q store items p a decided are stands = record {
     targets = stands.targets;
     lefts = λ atom wide c. subst (λ ts. SameMembers (set_next p.left atom a) (terms_of store ts)) (sym (chosen_kept Left items atom are.lefts)) (stands.lefts atom wide c);
@@ -107,7 +108,7 @@ module _ (d e : DiagramsParts) (kept : KeepsFunctions d e) where
 
 -- what stands for the next sets at the atoms of one case has others that do at those of another
 abbrev pub Carries : (c : DiagramsParts) (items : List Item) (decided : List (Option Bool)) (d : DiagramsParts) (others : List Item) (more : List (Option Bool)) → Type 0
-Carries c items decided d others more = (q : ProblemParts) (store : StoreParts) (p : SetPair) (a : ℕ) → c.tests ≡ q.tests → StandFor q store c items p a decided → StandFor q store d others p a more
+Carries c items decided d others more = (q : ProblemParts) (store : NodeParts) (p : SetPair) (a : ℕ) → c.tests ≡ q.tests → StandFor q store c items p a decided → StandFor q store d others p a more
 
 module _ (c d : DiagramsParts) (items others : List Item) (decided : List (Option Bool)) (test : ℕ) (value : Bool) (parts : AreItemsWith c d items test value others) (undecided : IsOpen decided test) (same : d.tests ≡ c.tests) where
   side_same : (side : Side) (atom : Atom) → length atom ≡ d.tests → get_or atom test false ≡ value → chosen c side items atom ≡ chosen d side others atom

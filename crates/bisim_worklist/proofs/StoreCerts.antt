@@ -5,60 +5,51 @@ use Rattle.std.proofs.lemmas.Option.{slice_get-get_or}
 use Rattle.kat_model.specs.Members.{Has, IsSubset, HasNoDoubles}
 use Rattle.kat_model.proofs.Lists.{has_left, has_right, has_append, has_map, has_flat_map}
 use Rattle.kat_model.proofs.Places.{has_at, one_place}
-use Rattle.certificate.specs.declared.nodes.TestNode.{TestNode}
-use Rattle.certificate.specs.declared.nodes.TermNode.{TermNode}
+use Rattle.term_nodes.specs.declared.TestNode.{TestNode}
+use Rattle.term_nodes.specs.declared.TermNode.{TermNode}
 use Rattle.certificate.specs.declared.nodes.Style.TheVariants.{UpTo}
-use Rattle.certificate.specs.Nodes.{test_parts, term_parts, tests_of_term, are_below, are_ascending, NumberPair}
-use Rattle.certificate.specs.Certs.{CertParts, cert_of, IsNumberSet, IsCert}
-use Rattle.term_store.specs.Nodes.{StoreParts, IsStore}
-use Rattle.term_store.specs.declared.nodes.TestShape.{TestShape}
-use Rattle.term_store.specs.declared.nodes.TestShape.TheVariants as test
-use Rattle.term_store.specs.declared.nodes.Shape.{Shape}
-use Rattle.term_store.specs.declared.nodes.Shape.TheVariants.{Zero, One, Test, Act, Sum, Seq, Star}
+use Rattle.term_nodes.specs.Nodes.{IsTestOver, IsOver, test_parts, term_parts, tests_of_term}
+use Rattle.term_nodes.specs.NumberSets.{are_below, are_ascending, NumberPair, IsNumberSet}
+use Rattle.certificate.specs.Certs.{CertParts, cert_of, IsCert}
+use Rattle.term_nodes.specs.NodeLists.{NodeParts, AreNodes}
+use Rattle.term_nodes.specs.declared.TestNode.TheVariants as test
+use Rattle.term_nodes.specs.declared.TermNode.TheVariants.{Zero, One, Test, Act, Sum, Seq, Star}
 use Rattle.bisim_worklist.specs.Working.Listings.{IdEntry, AreIdSets}
-use Rattle.bisim_worklist.specs.Working.Needed.{AreParts, NamesTests, terms_in, tests_in, test_parts_in, members_of}
+use Rattle.bisim_worklist.specs.Working.Needed.{AreParts, NamesTests, members_of}
 use Rattle.bisim_worklist.specs.Working.Numbering.{number_of, numbers_of, number_pair_of, test_node_of, term_node_of, test_nodes_of, term_nodes_of}
 use Rattle.certificate.proofs.Ascending.{ascending_once}
-use Rattle.bisim_worklist.proofs.PartSets.{terms_less, tests_less, member_of}
+use Rattle.term_nodes.proofs.Parts.{IsOver-part, IsTestOver-part}
+use Rattle.bisim_worklist.proofs.PartSets.{member_of}
 use Rattle.bisim_worklist.proofs.PlaceNumbers.{number_within, number_of_place, number_once, number_less, numbers_below, numbers_ascend, once_mapped, mapped_at}
 
 -- the certificate
-abbrev pub numbered_cert : StoreParts → List ℕ → List ℕ → List IdEntry → CertParts
+abbrev pub numbered_cert : NodeParts → List ℕ → List ℕ → List IdEntry → CertParts
 numbered_cert store tests terms es = cert_of UpTo (test_nodes_of store tests tests) (term_nodes_of store tests terms terms) (map (number_pair_of terms) es)
 
 -- a node names the numbers of what the node of the store names
-test_parts_numbered : (tests : List ℕ) (s : TestShape) → test_parts (test_node_of tests s) ≡ numbers_of tests (test_parts_in s)
-test_parts_numbered tests test.False = refl
-test_parts_numbered tests test.True = refl
-test_parts_numbered tests (test.Prim k) = refl
-test_parts_numbered tests (test.Not i) = refl
-test_parts_numbered tests (test.And i j) = refl
-test_parts_numbered tests (test.Or i j) = refl
+test_over_numbered : (tests : List ℕ) (n : ℕ) (s : TestNode ℕ) → ((j : ℕ) → Has (test_parts s) j → number_of tests j < n) → IsTestOver n (test_node_of tests s)
+test_over_numbered tests n test.False each = tt
+test_over_numbered tests n test.True each = tt
+test_over_numbered tests n (test.Prim k) each = tt
+test_over_numbered tests n (test.Not i) each = each i (inl refl)
+test_over_numbered tests n (test.And i j) each = (each i (inl refl), each j (inr (inl refl)))
+test_over_numbered tests n (test.Or i j) each = (each i (inl refl), each j (inr (inl refl)))
 
-term_parts_numbered : (tests terms : List ℕ) (s : Shape) → term_parts (term_node_of tests terms s) ≡ numbers_of terms (terms_in s)
-term_parts_numbered tests terms Zero = refl
-term_parts_numbered tests terms One = refl
-term_parts_numbered tests terms (Test i) = refl
-term_parts_numbered tests terms (Act a) = refl
-term_parts_numbered tests terms (Sum i j) = refl
-term_parts_numbered tests terms (Seq i j) = refl
-term_parts_numbered tests terms (Star i) = refl
-
-named_tests_numbered : (tests terms : List ℕ) (s : Shape) → tests_of_term (term_node_of tests terms s) ≡ numbers_of tests (tests_in s)
-named_tests_numbered tests terms Zero = refl
-named_tests_numbered tests terms One = refl
-named_tests_numbered tests terms (Test i) = refl
-named_tests_numbered tests terms (Act a) = refl
-named_tests_numbered tests terms (Sum i j) = refl
-named_tests_numbered tests terms (Seq i j) = refl
-named_tests_numbered tests terms (Star i) = refl
+over_numbered : (tests terms : List ℕ) (m n : ℕ) (s : TermNode ℕ ℕ) → ((j : ℕ) → Has (tests_of_term s) j → number_of tests j < m) → ((j : ℕ) → Has (term_parts s) j → number_of terms j < n) → IsOver m n (term_node_of tests terms s)
+over_numbered tests terms m n Zero guards each = tt
+over_numbered tests terms m n One guards each = tt
+over_numbered tests terms m n (Test i) guards each = guards i (inl refl)
+over_numbered tests terms m n (Act a) guards each = tt
+over_numbered tests terms m n (Sum i j) guards each = (each i (inl refl), each j (inr (inl refl)))
+over_numbered tests terms m n (Seq i j) guards each = (each i (inl refl), each j (inr (inl refl)))
+over_numbered tests terms m n (Star i) guards each = each i (inl refl)
 
 -- nodes with one numbered node are one, where what they name is numbered
 module _ (tests : List ℕ) where
   one_test : (i j : ℕ) → Has tests i → Has tests j → number_of tests i ≡ number_of tests j → i ≡ j
   one_test i j h k e = number_once tests i j h k e
 
-  same_test_shape : (a b : TestShape) → IsSubset (test_parts_in a) tests → IsSubset (test_parts_in b) tests → test_node_of tests a ≡ test_node_of tests b → a ≡ b
+  same_test_shape : (a b : TestNode ℕ) → IsSubset (test_parts a) tests → IsSubset (test_parts b) tests → test_node_of tests a ≡ test_node_of tests b → a ≡ b
   same_test_shape test.False test.False p q e = refl
   same_test_shape test.True test.True p q e = refl
   same_test_shape (test.Prim k) (test.Prim l) p q e = cc
@@ -79,7 +70,7 @@ module _ (tests : List ℕ) where
     one_term : (i j : ℕ) → Has terms i → Has terms j → number_of terms i ≡ number_of terms j → i ≡ j
     one_term i j h k e = number_once terms i j h k e
 
-    same_shape : (a b : Shape) → IsSubset (tests_in a) tests → IsSubset (tests_in b) tests → IsSubset (terms_in a) terms → IsSubset (terms_in b) terms → term_node_of tests terms a ≡ term_node_of tests terms b → a ≡ b
+    same_shape : (a b : TermNode ℕ ℕ) → IsSubset (tests_of_term a) tests → IsSubset (tests_of_term b) tests → IsSubset (term_parts a) terms → IsSubset (term_parts b) terms → term_node_of tests terms a ≡ term_node_of tests terms b → a ≡ b
     same_shape Zero Zero m n p q e = refl
     same_shape One One m n p q e = refl
     same_shape (Test i) (Test j) m n p q e =
@@ -100,44 +91,44 @@ module _ (tests : List ℕ) where
     same_shape _ _ m n p q e = cc
 
 -- the ids of pairs with all their parts, and the tests that they name with all theirs
-pub record AreNeeded (store : StoreParts) (es : List IdEntry) (terms named tests : List ℕ) : Type 0 where
-  pub rules : IsStore store
-  pub of_terms : AreParts Shape store.terms terms_in (members_of es) terms
+pub record AreNeeded (store : NodeParts) (es : List IdEntry) (terms named tests : List ℕ) : Type 0 where
+  pub rules : AreNodes store
+  pub of_terms : AreParts (TermNode ℕ ℕ) store.terms term_parts (members_of es) terms
   pub names : NamesTests store terms named
-  pub of_tests : AreParts TestShape store.tests test_parts_in named tests
+  pub of_tests : AreParts (TestNode ℕ) store.tests test_parts named tests
 
 -- the members of pairs are ids
-pub members_are_ids : (store : StoreParts) (n : ℕ) (es : List IdEntry) → AreIdSets store n es → (i : ℕ) → Has (members_of es) i → i < length store.terms
+pub members_are_ids : (store : NodeParts) (n : ℕ) (es : List IdEntry) → AreIdSets store n es → (i : ℕ) → Has (members_of es) i → i < length store.terms
 members_are_ids store n es sets i h =
     let r = has_flat_map (λ (e : IdEntry). e.left ++ e.right) es i h in
     let set = sets r.0 r.1 in
     ⊎_elim (λ l. (set.0.there i l).is_id) (λ m. (set.1.there i m).is_id) (has_append r.0.left r.0.right i r.2)
 
 -- the nodes of ids
-abbrev pub test_at : StoreParts → ℕ → TestShape
+abbrev pub test_at : NodeParts → ℕ → TestNode ℕ
 test_at store i = get_or store.tests i test.False
 
-abbrev pub term_at : StoreParts → ℕ → Shape
+abbrev pub term_at : NodeParts → ℕ → TermNode ℕ ℕ
 term_at store i = get_or store.terms i Zero
 
-module _ (store : StoreParts) (es : List IdEntry) (terms named tests : List ℕ) (needed : AreNeeded store es terms named tests) where
+module _ (store : NodeParts) (es : List IdEntry) (terms named tests : List ℕ) (needed : AreNeeded store es terms named tests) where
   pub test_there : (i : ℕ) → Has tests i → slice_get store.tests i ≡ Some (test_at store i)
   test_there i h = slice_get-get_or store.tests i test.False (needed.of_tests.there i h)
 
   pub term_there : (i : ℕ) → Has terms i → slice_get store.terms i ≡ Some (term_at store i)
   term_there i h = slice_get-get_or store.terms i Zero (needed.of_terms.there i h)
 
-  pub test_parts_there : (i : ℕ) → Has tests i → IsSubset (test_parts_in (test_at store i)) tests
+  pub test_parts_there : (i : ℕ) → Has tests i → IsSubset (test_parts (test_at store i)) tests
   test_parts_there i h = needed.of_tests.parts i (test_at store i) h (test_there i h)
 
-  pub terms_there : (i : ℕ) → Has terms i → IsSubset (terms_in (term_at store i)) terms
+  pub terms_there : (i : ℕ) → Has terms i → IsSubset (term_parts (term_at store i)) terms
   terms_there i h = needed.of_terms.parts i (term_at store i) h (term_there i h)
 
   -- the tests that a node of these terms names are there
-  pub tests_there_in : (i : ℕ) (shape : Shape) → Has terms i → slice_get store.terms i ≡ Some shape → IsSubset (tests_in shape) tests
+  pub tests_there_in : (i : ℕ) (shape : TermNode ℕ ℕ) → Has terms i → slice_get store.terms i ≡ Some shape → IsSubset (tests_of_term shape) tests
   tests_there_in i shape h e j k = needed.of_tests.holds j ((needed.names j).1 (i, shape, h, e, k))
 
-  pub tests_there : (i : ℕ) → Has terms i → IsSubset (tests_in (term_at store i)) tests
+  pub tests_there : (i : ℕ) → Has terms i → IsSubset (tests_of_term (term_at store i)) tests
   tests_there i h = tests_there_in i (term_at store i) h (term_there i h)
 
   pub members_there : (e : IdEntry) → Has es e → IsSubset e.left terms × IsSubset e.right terms
@@ -146,36 +137,27 @@ module _ (store : StoreParts) (es : List IdEntry) (terms named tests : List ℕ)
     (λ x m. needed.of_terms.holds x (member_of es e h x (has_right e.left e.right x m))),
   )
 
-  -- each test node names earlier ones
-  test_rule : (k : ℕ) (n : TestNode) → slice_get (test_nodes_of store tests tests) k ≡ Some n → are_below k (test_parts n) ≡ true
+  -- each node of a test names earlier ones
+  test_rule : (k : ℕ) (n : TestNode ℕ) → slice_get (test_nodes_of store tests tests) k ≡ Some n → IsTestOver k n
   test_rule k n e =
       let r = mapped_at (λ i. test_node_of tests (test_at store i)) tests k n e in
       let h = has_at tests k r.0 r.1 in
       let own : number_of tests r.0 ≡ k = number_of_place tests (ascending_once tests needed.of_tests.ascending) k r.0 r.1 in
-      let less = tests_less r.0 (test_at store r.0) (needed.rules.tests_ordered r.0 (test_at store r.0) (test_there r.0 h)) in
-      let low : are_below k (numbers_of tests (test_parts_in (test_at store r.0))) ≡ true =
-      numbers_below tests (test_parts_in (test_at store r.0)) k (λ j p. subst (λ z. number_of tests j < z) own (number_less tests needed.of_tests.ascending j r.0 (test_parts_there r.0 h j p) h (less j p))) in
-      subst (λ m. are_below k (test_parts m) ≡ true) r.2 (subst (λ ks. are_below k ks ≡ true) (sym (test_parts_numbered tests (test_at store r.0))) low)
+      let less = IsTestOver-part r.0 (test_at store r.0) (needed.rules.tests_ordered r.0 (test_at store r.0) (test_there r.0 h)) in
+      subst (IsTestOver k) r.2
+      (test_over_numbered tests k (test_at store r.0) (λ j p. subst (λ z. number_of tests j < z) own (number_less tests needed.of_tests.ascending j r.0 (test_parts_there r.0 h j p) h (less j p))))
 
-  -- and so does each term node
-  term_rule : (k : ℕ) (n : TermNode) → slice_get (term_nodes_of store tests terms terms) k ≡ Some n → are_below k (term_parts n) ≡ true
+  -- and so does each node of a term, which names tests that are there
+  term_rule : (k : ℕ) (n : TermNode ℕ ℕ) → slice_get (term_nodes_of store tests terms terms) k ≡ Some n → IsOver (length (test_nodes_of store tests tests)) k n
   term_rule k n e =
       let r = mapped_at (λ i. term_node_of tests terms (term_at store i)) terms k n e in
       let h = has_at terms k r.0 r.1 in
       let own : number_of terms r.0 ≡ k = number_of_place terms (ascending_once terms needed.of_terms.ascending) k r.0 r.1 in
-      let less = terms_less (length store.tests) r.0 (term_at store r.0) (needed.rules.terms_ordered r.0 (term_at store r.0) (term_there r.0 h)) in
-      let low : are_below k (numbers_of terms (terms_in (term_at store r.0))) ≡ true =
-      numbers_below terms (terms_in (term_at store r.0)) k (λ j p. subst (λ z. number_of terms j < z) own (number_less terms needed.of_terms.ascending j r.0 (terms_there r.0 h j p) h (less j p))) in
-      subst (λ m. are_below k (term_parts m) ≡ true) r.2 (subst (λ ks. are_below k ks ≡ true) (sym (term_parts_numbered tests terms (term_at store r.0))) low)
-
-  -- the tests of a term node are there
-  named_rule : (n : TermNode) → Has (term_nodes_of store tests terms terms) n → are_below (length (test_nodes_of store tests tests)) (tests_of_term n) ≡ true
-  named_rule n h =
-      let r = has_map (λ i. term_node_of tests terms (term_at store i)) terms n h in
-      let low : are_below (length tests) (numbers_of tests (tests_in (term_at store r.0))) ≡ true = numbers_below tests (tests_in (term_at store r.0)) (length tests) (λ j p. number_within tests j (tests_there r.0 r.1 j p)) in
-      subst (λ m. are_below (length (test_nodes_of store tests tests)) (tests_of_term m) ≡ true) r.2
-      (subst (λ ks. are_below (length (test_nodes_of store tests tests)) ks ≡ true) (sym (named_tests_numbered tests terms (term_at store r.0)))
-      (subst (λ z. are_below z (numbers_of tests (tests_in (term_at store r.0))) ≡ true) (sym (length-map tests (λ i. test_node_of tests (test_at store i)))) low))
+      let less = IsOver-part (length store.tests) r.0 (term_at store r.0) (needed.rules.terms_ordered r.0 (term_at store r.0) (term_there r.0 h)) in
+      subst (IsOver (length (test_nodes_of store tests tests)) k) r.2
+      (over_numbered tests terms (length (test_nodes_of store tests tests)) k (term_at store r.0)
+      (λ j p. subst (λ z. number_of tests j < z) (sym (length-map tests (λ i. test_node_of tests (test_at store i)))) (number_within tests j (tests_there r.0 h j p)))
+      (λ j p. subst (λ z. number_of terms j < z) own (number_less terms needed.of_terms.ascending j r.0 (terms_there r.0 h j p) h (less j p))))
 
   tests_once : HasNoDoubles (test_nodes_of store tests tests)
   tests_once =
@@ -197,11 +179,7 @@ module _ (store : StoreParts) (es : List IdEntry) (terms named tests : List ℕ)
 
   pub numbered_rules : (n : ℕ) → AreIdSets store n es → IsCert (numbered_cert store tests terms es)
   numbered_rules n sets = record {
-    tests = test_rule;
-    terms = term_rule;
-    tests_of_terms = named_rule;
-    each_test_once = tests_once;
-    each_term_once = terms_once;
+    nodes = record { tests_ordered = test_rule; terms_ordered = term_rule; tests_once = tests_once; terms_once = terms_once };
     pairs = λ p h.
         let r = has_map (number_pair_of terms) es p h in
         let set = sets r.0 r.1 in

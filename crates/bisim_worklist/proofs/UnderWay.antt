@@ -11,10 +11,10 @@ use Rattle.kat_model.specs.Steps.{Atom, set_out, set_next}
 use Rattle.kat_model.specs.Closed.{universal_of, closed_under, closed}
 use Rattle.kat_model.proofs.Places.{has_at}
 use Rattle.kat_model.proofs.Ranges.{IsInRange-HasTestsBelow}
-use Rattle.term_store.specs.Nodes.{StoreParts, IsTermId, IsStore}
-use Rattle.term_store.specs.Trees.{tree_of}
-use Rattle.term_store.specs.Growth.{KeepsTrees}
-use Rattle.term_store.proofs.Kept.{KeepsTrees-trans}
+use Rattle.term_nodes.specs.NodeLists.{NodeParts, IsTerm, AreNodes}
+use Rattle.term_nodes.specs.NodeTrees.{tree_at}
+use Rattle.term_nodes.specs.Growth.{Grows}
+use Rattle.term_nodes.proofs.Growing.{Grows-trans}
 use Rattle.test_diagrams.specs.Functions.{DiagramsParts, value_of, IsAtomOf, KeepsFunctions}
 use Rattle.partial_derivs.specs.declared.moves.Steps.{Steps}
 use Rattle.partial_derivs.specs.Moves.{IsTermOf, IsStepsOf, Keeps}
@@ -23,7 +23,8 @@ use Rattle.partial_derivs.proofs.Kept.{IsTermOf-trees, IsStepsBy-kept, AreGuards
 use Rattle.partial_derivs.proofs.Tables.{AreRight-kept}
 use Rattle.bisim_worklist.specs.Walks.{Entry, pairs_of, AcceptAlike, AreCongruentAfter, IsWalk}
 use Rattle.certificate.specs.Decisions.{pair_limit}
-use Rattle.bisim_worklist.specs.Working.Listings.{IdEntry, terms_of, pair_of, entry_of, entries_of, IsIdSet, AreIdSets}
+use Rattle.term_nodes.specs.NumberSets.{terms_of}
+use Rattle.bisim_worklist.specs.Working.Listings.{IdEntry, pair_of, entry_of, entries_of, IsIdSet, AreIdSets}
 use Rattle.bisim_worklist.specs.Working.Marks.{RuleParts}
 use Rattle.bisim_worklist.specs.Working.IdWalks.{AreRulesOf}
 use Rattle.bisim_worklist.specs.Working.Walking.{IsUnderWay, AreStepsAt, HasStepIds, IsDifference}
@@ -37,21 +38,21 @@ use Rattle.bisim_worklist.proofs.WalkSteps.{first_entry, walk_starts, walk_goes_
 -- ---- the start
 
 -- the universal term has its tests in range
-universal_below : (q : ProblemParts) (store : StoreParts) (u : ℕ) → option_map (tree_of store) (Some u) ≡ (closed q).universal → HasTestsBelow q.tests (tree_of store u)
+universal_below : (q : ProblemParts) (store : NodeParts) (u : ℕ) → option_map (tree_at store) (Some u) ≡ (closed q).universal → HasTestsBelow q.tests (tree_at store u)
 universal_below q store u e = go q.hyps e
   where
-    go : (hs : List Term) → Some (tree_of store u) ≡ (closed_under q.actions hs q.left q.right).universal → HasTestsBelow q.tests (tree_of store u)
+    go : (hs : List Term) → Some (tree_at store u) ≡ (closed_under q.actions hs q.left q.right).universal → HasTestsBelow q.tests (tree_at store u)
     go [] f = absurd cc
     go (h ∷ hs) f =
-        let same : tree_of store u ≡ universal_of q.actions = cc in
+        let same : tree_at store u ≡ universal_of q.actions = cc in
         subst (HasTestsBelow q.tests) (sym same) (IsInRange-HasTestsBelow q.tests q.actions (universal_of q.actions) (universal_in_range q.tests q.actions))
 
 abbrev pub first_ids : ℕ → ℕ → IdEntry
 first_ids left right = record { left = left ∷ []; right = right ∷ []; origin = None }
 
-module _ (q : ProblemParts) (store : StoreParts) (problem : IsProblem q) (sound : IsStore store) (left right : ℕ) where
-  module _ (left_id : IsTermId store left) (left_tree : tree_of store left ≡ (closed q).left) (right_id : IsTermId store right) (right_tree : tree_of store right ≡ (closed q).right) where
-    single_set : (i : ℕ) (side : Term) → IsTermId store i → tree_of store i ≡ side → IsInRange q.tests q.actions side → IsIdSet store q.tests (i ∷ [])
+module _ (q : ProblemParts) (store : NodeParts) (problem : IsProblem q) (sound : AreNodes store) (left right : ℕ) where
+  module _ (left_id : IsTerm store left) (left_tree : tree_at store left ≡ (closed q).left) (right_id : IsTerm store right) (right_tree : tree_at store right ≡ (closed q).right) where
+    single_set : (i : ℕ) (side : Term) → IsTerm store i → tree_at store i ≡ side → IsInRange q.tests q.actions side → IsIdSet store q.tests (i ∷ [])
     single_set i side is_id tree range = record {
       there = λ j h. ⊎_elim (λ e. subst (IsTermOf store q.tests) e own) absurd h;
       ascending = refl;
@@ -74,19 +75,19 @@ module _ (q : ProblemParts) (store : StoreParts) (problem : IsProblem q) (sound 
         both l r = record { pair = record { left = l ∷ []; right = r ∷ [] }; origin = None } ∷ []
 
     -- the rules with the first pair alone
-    pub rules_start : (r : RuleParts) → r.pairs ≡ first_ids left right ∷ [] → r.count ≡ length store.terms → ((u : ℕ) → r.universal ≡ Some u → IsTermId store u) → option_map (tree_of store) r.universal ≡ (closed q).universal → AreRulesOf q store r 0
+    pub rules_start : (r : RuleParts) → r.pairs ≡ first_ids left right ∷ [] → r.count ≡ length store.terms → ((u : ℕ) → r.universal ≡ Some u → IsTerm store u) → option_map (tree_at store) r.universal ≡ (closed q).universal → AreRulesOf q store r 0
     rules_start r pairs count ids universal = record {
       sound = sound;
       count = count;
       sets = subst (AreIdSets store q.tests) (sym pairs) first_sets;
       universal = universal;
-      universal_id = λ u e. record { is_id = ids u e; in_range = universal_below q store u (ap (option_map (tree_of store)) (sym e) ∙ universal) };
+      universal_id = λ u e. record { is_id = ids u e; in_range = universal_below q store u (ap (option_map (tree_at store)) (sym e) ∙ universal) };
       walk = subst (λ es. IsWalk q (entries_of store es) 0) (sym pairs) (subst (λ es. IsWalk q es 0) first_entries (walk_starts q));
     }
 
 -- ---- a store that grows
 
-module _ (old new : StoreParts) (kept : KeepsTrees old new) (n : ℕ) where
+module _ (old new : NodeParts) (kept : Grows old new) (n : ℕ) where
   pub terms_kept : (ids : List ℕ) → ((i : ℕ) → Has ids i → IsTermOf old n i) → terms_of new ids ≡ terms_of old ids
   terms_kept [] there = refl
   terms_kept (i ∷ ids) there = ap₂ (λ (x : Term) (xs : List Term). x ∷ xs) (kept.trees i (there i (inl refl)).is_id) (terms_kept ids (λ j h. there j (inr h)))
@@ -105,12 +106,12 @@ module _ (old new : StoreParts) (kept : KeepsTrees old new) (n : ℕ) where
   entries_kept (e ∷ es) sets =
       ap₂ (λ (x : Entry) (xs : List Entry). x ∷ xs) (entry_kept e (sets e (inl refl)).0 (sets e (inl refl)).1) (entries_kept es (λ f h. sets f (inr h)))
 
-module _ (q : ProblemParts) (old new : StoreParts) (kept : KeepsTrees old new) (sound : IsStore new) (done : ℕ) where
+module _ (q : ProblemParts) (old new : NodeParts) (kept : Grows old new) (sound : AreNodes new) (done : ℕ) where
   -- the rules stay those of the walk, once they have the new count
   pub rules_kept : (r s : RuleParts) → s ≡ record r { count = length new.terms } → AreRulesOf q old r done → AreRulesOf q new s done
   rules_kept r s is rules = subst (λ t. AreRulesOf q new t done) (sym is) counted
     where
-      universal_kept : (u : Option ℕ) → r.universal ≡ u → option_map (tree_of new) u ≡ option_map (tree_of old) u
+      universal_kept : (u : Option ℕ) → r.universal ≡ u → option_map (tree_at new) u ≡ option_map (tree_at old) u
       universal_kept None e = refl
       universal_kept (Some u) e = ap Some (kept.trees u (rules.universal_id u e).is_id)
 
@@ -128,7 +129,7 @@ module _ (q : ProblemParts) (old new : StoreParts) (kept : KeepsTrees old new) (
   under_way_kept w x tests is right under_way = record { tests = tests ∙ under_way.tests; rules = rules_kept w.rules x.rules is under_way.rules; right = right }
 
 -- where diagrams alone are added
-pub under_way_more : (q : ProblemParts) (store : StoreParts) (done : ℕ) (w x : Walk) → KeepsFunctions w.diagrams x.diagrams → x.rules ≡ w.rules → x.derivatives ≡ w.derivatives → IsUnderWay q store w done → IsUnderWay q store x done
+pub under_way_more : (q : ProblemParts) (store : NodeParts) (done : ℕ) (w x : Walk) → KeepsFunctions w.diagrams x.diagrams → x.rules ≡ w.rules → x.derivatives ≡ w.derivatives → IsUnderWay q store w done → IsUnderWay q store x done
 under_way_more q store done w x kept rules derivatives under_way = record {
   tests = kept.tests ∙ under_way.tests;
   rules = subst (λ r. AreRulesOf q store r done) (sym rules) under_way.rules;
@@ -137,19 +138,19 @@ under_way_more q store done w x kept rules derivatives under_way = record {
 
 -- ---- the steps of sets
 
-pub all_terms : (store : StoreParts) (n : ℕ) (ids : List ℕ) → IsIdSet store n ids → All (IsTermOf store n) ids
+pub all_terms : (store : NodeParts) (n : ℕ) (ids : List ℕ) → IsIdSet store n ids → All (IsTermOf store n) ids
 all_terms store n ids set k i within = set.there (get_or ids k i) (has_at ids k (get_or ids k i) (slice_get-get_or ids k i within))
 
-module _ (old new : StoreParts) (n : ℕ) (ids : List ℕ) (set : IsIdSet old n ids) (steps : Steps) where
+module _ (old new : NodeParts) (n : ℕ) (ids : List ℕ) (set : IsIdSet old n ids) (steps : Steps) where
   -- the trees that a set had
-  pub steps_there : (d : DiagramsParts) → KeepsTrees old new → IsStepsOf new d (terms_of old ids) steps → IsStepsOf new d (terms_of new ids) steps
+  pub steps_there : (d : DiagramsParts) → Grows old new → IsStepsOf new d (terms_of old ids) steps → IsStepsOf new d (terms_of new ids) steps
   steps_there d kept is = subst (λ es. IsStepsOf new d es steps) (sym (terms_kept old new kept n ids set.there)) is
 
   pub steps_kept : (c d : DiagramsParts) → Keeps old new c d → IsStepsOf old c (terms_of old ids) steps → IsStepsOf new d (terms_of new ids) steps
   steps_kept c d kept is = steps_there d kept.trees (IsStepsBy-kept old new c d kept (set_out (terms_of old ids)) (set_next (terms_of old ids)) steps is)
 
 -- steps of one set, and then of another, while store and diagrams grow
-pub both_steps : (r s t : StoreParts) (b c d : DiagramsParts) (n : ℕ) (left right : List ℕ) (steps : BothSteps) → Keeps r s b c → Keeps s t c d → IsIdSet r n left → IsIdSet r n right
+pub both_steps : (r s t : NodeParts) (b c d : DiagramsParts) (n : ℕ) (left right : List ℕ) (steps : BothSteps) → Keeps r s b c → Keeps s t c d → IsIdSet r n left → IsIdSet r n right
     → IsStepsOf s c (terms_of r left) steps.left → IsStepsOf t d (terms_of s right) steps.right
     → IsStepsOf t d (terms_of t left) steps.left × IsStepsOf t d (terms_of t right) steps.right
 both_steps r s t b c d n left right steps first second left_set right_set left_steps right_steps = (
@@ -157,10 +158,10 @@ both_steps r s t b c d n left right steps first second left_set right_set left_s
   steps_there s t n right (set_kept r s first.trees n right right_set) steps.right d second.trees right_steps,
 )
 
-pub step_ids : (store : StoreParts) (w : Walk) (e : IdEntry) (steps : BothSteps) → AreStepsAt store w e steps → HasStepIds w steps
+pub step_ids : (store : NodeParts) (w : Walk) (e : IdEntry) (steps : BothSteps) → AreStepsAt store w e steps → HasStepIds w steps
 step_ids store w e steps at = record { left = at.left.guards; right = at.right.guards; left_merged = at.left.merged; right_merged = at.right.merged }
 
-module _ (store : StoreParts) (w x : Walk) (kept : KeepsFunctions w.diagrams x.diagrams) (steps : BothSteps) where
+module _ (store : NodeParts) (w x : Walk) (kept : KeepsFunctions w.diagrams x.diagrams) (steps : BothSteps) where
   more : Keeps store store w.diagrams x.diagrams
   more = Keeps-functions store w.diagrams x.diagrams kept
 
@@ -180,7 +181,7 @@ module _ (store : StoreParts) (w x : Walk) (kept : KeepsFunctions w.diagrams x.d
 
 -- ---- a pair is taken
 
-module _ (q : ProblemParts) (store : StoreParts) (w : Walk) (e : IdEntry) (steps : BothSteps) (tests : w.diagrams.tests ≡ q.tests) (at : AreStepsAt store w e steps) where
+module _ (q : ProblemParts) (store : NodeParts) (w : Walk) (e : IdEntry) (steps : BothSteps) (tests : w.diagrams.tests ≡ q.tests) (at : AreStepsAt store w e steps) where
   -- where the steps accept alike, so do the sets
   pub alike : steps.left.accepts ≡ steps.right.accepts → AcceptAlike q (pair_of store e)
   alike same atom wide =
@@ -196,7 +197,7 @@ module _ (q : ProblemParts) (store : StoreParts) (w : Walk) (e : IdEntry) (steps
     differ = λ same. differ (at.left.accepts.value atom fits ∙ same ∙ sym (at.right.accepts.value atom fits));
   }
 
-pub taken : (q : ProblemParts) (store : StoreParts) (w : Walk) (place : ℕ) (e : IdEntry) → IsUnderWay q store w place → slice_get w.rules.pairs place ≡ Some e → AcceptAlike q (pair_of store e)
+pub taken : (q : ProblemParts) (store : NodeParts) (w : Walk) (place : ℕ) (e : IdEntry) → IsUnderWay q store w place → slice_get w.rules.pairs place ≡ Some e → AcceptAlike q (pair_of store e)
     → ((a : ℕ) → a < q.actions → AreCongruentAfter q (pairs_of (entries_of store w.rules.pairs)) (pair_of store e) a)
     → IsUnderWay q store w (place + 1)
 taken q store w place e under_way here outputs steps = record {
@@ -218,13 +219,13 @@ taken q store w place e under_way here outputs steps = record {
 -- ---- places
 
 -- a listed pair stands below the bound on pairs
-pub place_limit : (q : ProblemParts) (store : StoreParts) (w : Walk) (place : ℕ) → IsUnderWay q store w place → place < length w.rules.pairs → place < pair_limit q
+pub place_limit : (q : ProblemParts) (store : NodeParts) (w : Walk) (place : ℕ) → IsUnderWay q store w place → place < length w.rules.pairs → place < pair_limit q
 place_limit q store w place under_way within =
     let few : length (entries_of store w.rules.pairs) ≤ pair_limit q = walk_few q (entries_of store w.rules.pairs) place under_way.rules.walk in
     omega (arith, within, few, length-map w.rules.pairs (entry_of store))
 
 -- where no pair is left, all listed ones are processed
-pub all_taken : (q : ProblemParts) (store : StoreParts) (w : Walk) (place : ℕ) → IsUnderWay q store w place → length w.rules.pairs ≤ place → IsUnderWay q store w (length w.rules.pairs)
+pub all_taken : (q : ProblemParts) (store : NodeParts) (w : Walk) (place : ℕ) → IsUnderWay q store w place → length w.rules.pairs ≤ place → IsUnderWay q store w (length w.rules.pairs)
 all_taken q store w place under_way past = record {
   tests = under_way.tests;
   rules = record {
@@ -244,25 +245,25 @@ all_taken q store w place under_way past = record {
 pub read_at : (ps read : List IdEntry) (place : ℕ) (p : IdEntry) → read ≡ ps → place < length ps → p ≡ get_or read place p → slice_get ps place ≡ Some p
 read_at ps read place p same within is = slice_get-get_or ps place p within ∙ ap (λ l. Some (get_or l place p)) (sym same) ∙ ap Some (sym is)
 
-module _ (q : ProblemParts) (s : StoreParts) (w : Walk) (place : ℕ) (e : IdEntry) (under_way : IsUnderWay q s w place) (here : slice_get w.rules.pairs place ≡ Some e) where
+module _ (q : ProblemParts) (s : NodeParts) (w : Walk) (place : ℕ) (e : IdEntry) (under_way : IsUnderWay q s w place) (here : slice_get w.rules.pairs place ≡ Some e) where
   sets_here : IsIdSet s q.tests e.left × IsIdSet s q.tests e.right
   sets_here = under_way.rules.sets e (has_at w.rules.pairs place e here)
 
   pub left_terms : All (IsTermOf s w.diagrams.tests) e.left
   left_terms = subst (λ n. All (IsTermOf s n) e.left) (sym under_way.tests) (all_terms s q.tests e.left sets_here.0)
 
-  pub right_terms : (t : StoreParts) (d : DiagramsParts) → Keeps s t w.diagrams d → All (IsTermOf t d.tests) e.right
+  pub right_terms : (t : NodeParts) (d : DiagramsParts) → Keeps s t w.diagrams d → All (IsTermOf t d.tests) e.right
   right_terms t d kept = subst (λ n. All (IsTermOf t n) e.right) (sym (kept.functions.tests ∙ under_way.tests)) (all_terms t q.tests e.right (set_kept s t kept.trees q.tests e.right sets_here.1))
 
   -- the steps of both sets, one after the other
-  pub stepped : (t u : StoreParts) (c : DiagramsParts) (x : Walk) (steps : BothSteps) → Keeps s t w.diagrams c → Keeps t u c x.diagrams → IsStore u → x.rules ≡ record w.rules { count = length u.terms } → AreRight u x.diagrams x.derivatives
+  pub stepped : (t u : NodeParts) (c : DiagramsParts) (x : Walk) (steps : BothSteps) → Keeps s t w.diagrams c → Keeps t u c x.diagrams → AreNodes u → x.rules ≡ record w.rules { count = length u.terms } → AreRight u x.diagrams x.derivatives
       → IsStepsOf t c (terms_of s e.left) steps.left → IsStepsOf u x.diagrams (terms_of t e.right) steps.right
       → IsUnderWay q u x place × AreStepsAt u x e steps × HasStepIds x steps
   stepped t u c x steps first second sound rules right left_steps right_steps =
       let sets = sets_here in
       let both = both_steps s t u w.diagrams c x.diagrams q.tests e.left e.right steps first second sets.0 sets.1 left_steps right_steps in
       let at : AreStepsAt u x e steps = record { left = both.0; right = both.1 } in (
-        under_way_kept q s u (KeepsTrees-trans s t u first.trees second.trees) sound place w x (second.functions.tests ∙ first.functions.tests) rules right under_way,
+        under_way_kept q s u (Grows-trans s t u first.trees second.trees) sound place w x (second.functions.tests ∙ first.functions.tests) rules right under_way,
         at,
         step_ids u x e steps at,
       )

@@ -11,7 +11,7 @@ use Rattle.kat_model.proofs.Lists.{has_right}
 use Rattle.kat_model.proofs.Places.{slice_get-append_some}
 use Rattle.bisim_worklist.specs.Covered.{IsBetween, IsCovered}
 use Rattle.bisim_worklist.specs.Walks.{Origin, Entry, pairs_of, IsNextOf, AreCongruentAfter, IsWalk}
-use Rattle.bisim_worklist.specs.Working.Visits.{Grows, IsVisited}
+use Rattle.bisim_worklist.specs.Working.Visits.{AddsEntries, IsVisited}
 use Rattle.bisim_worklist.proofs.Covered.{covered_congruent, congruent_covered, listed_congruent}
 use Rattle.bisim_worklist.proofs.Entries.{pairs_of-append, has_pair}
 use Rattle.bisim_worklist.proofs.MorePairs.{congruent_front}
@@ -19,16 +19,16 @@ use Rattle.bisim_worklist.proofs.WalkSteps.{walk_lists}
 
 -- ---- growing lists
 
-pub grows_none : (es : List Entry) → Grows es es
+pub grows_none : (es : List Entry) → AddsEntries es es
 grows_none es = record { more = []; is = sym (append-nil es) }
 
-pub grows_then : (es fs gs : List Entry) → Grows es fs → Grows fs gs → Grows es gs
+pub grows_then : (es fs gs : List Entry) → AddsEntries es fs → AddsEntries fs gs → AddsEntries es gs
 grows_then es fs gs g h = record { more = g.more ++ h.more; is = h.is ∙ ap (λ xs. xs ++ h.more) g.is ∙ append_assoc es g.more h.more }
 
-pub grown_at : (es fs : List Entry) (k : ℕ) (e : Entry) → Grows es fs → slice_get es k ≡ Some e → slice_get fs k ≡ Some e
+pub grown_at : (es fs : List Entry) (k : ℕ) (e : Entry) → AddsEntries es fs → slice_get es k ≡ Some e → slice_get fs k ≡ Some e
 grown_at es fs k e g h = subst (λ xs. slice_get xs k ≡ Some e) (sym g.is) (slice_get-append_some es g.more k e h)
 
-module _ (q : ProblemParts) (es fs : List Entry) (g : Grows es fs) where
+module _ (q : ProblemParts) (es fs : List Entry) (g : AddsEntries es fs) where
   grown_pairs : pairs_of fs ≡ pairs_of es ++ pairs_of g.more
   grown_pairs = ap pairs_of g.is ∙ pairs_of-append es g.more
 

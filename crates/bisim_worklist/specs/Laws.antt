@@ -9,8 +9,8 @@ use Rattle.kat_model.specs.Closed.{closed}
 use Rattle.kat_model.specs.Guarded.{IsGuarded}
 use Rattle.kat_model.specs.Pairs.{SetPair, IsCongruent, up_to, AreAccepted, AllDiffer}
 use Rattle.kat_model.specs.Laws.{AreReached}
-use Rattle.certificate.specs.declared.nodes.TestNode.TheVariants.{Prim}
-use Rattle.certificate.specs.declared.nodes.TermNode.TheVariants.{Act}
+use Rattle.term_nodes.specs.declared.TestNode.TheVariants.{Prim}
+use Rattle.term_nodes.specs.declared.TermNode.TheVariants.{Act}
 use Rattle.certificate.specs.declared.nodes.Style.TheVariants.{UpTo}
 use Rattle.certificate.specs.Certs.{CertParts}
 use Rattle.certificate.specs.Accepted.{set_pairs}

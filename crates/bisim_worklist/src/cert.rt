@@ -2,8 +2,11 @@
 ghost use Rattle.std.specs.Prelude.{◌≡◌, ◌<◌, ℕ, Some, IfOk, length, map, slice_get};
 ghost use Rattle.kat_model.specs.Members.{Has, IsSubset};
 ghost use Rattle.bisim_worklist.specs.Working.Listings.{AreIdSets};
-ghost use Rattle.bisim_worklist.specs.Working.Needed.{terms_in, tests_in, test_parts_in, members_of};
+ghost use Rattle.term_nodes.specs.Nodes.{term_parts, tests_of_term, test_parts};
+ghost use Rattle.bisim_worklist.specs.Working.Needed.{members_of};
 ghost use Rattle.bisim_worklist.specs.Working.Numbering.{test_node_of, term_node_of, number_of, numbers_of, number_pair_of, test_nodes_of, term_nodes_of, IsCertOf};
+ghost use Rattle.term_nodes.specs.declared.TestNode.{TestNode};
+ghost use Rattle.term_nodes.specs.declared.TermNode.{TermNode};
 
 use crate::needed::{Terms, Tests, needed_terms, needed_tests};
 use crate::pair::Listed;
@@ -30,7 +33,7 @@ fn term_number(terms: &Terms, term: TermId) -> usize
 
 // The node of a certificate for a node of a test.
 fn test_node(tests: &Tests, shape: TestShape) -> TestNode
-    requires { IsSubset (test_parts_in shape) tests.now.keys }
+    requires { IsSubset (test_parts shape) tests.now.keys }
     ensures { result ≡ test_node_of tests.now.keys shape }
 {
     match shape {
@@ -45,8 +48,8 @@ fn test_node(tests: &Tests, shape: TestShape) -> TestNode
 
 // The node of a certificate for a node of a term.
 fn term_node(tests: &Tests, terms: &Terms, shape: Shape) -> TermNode
-    requires tests { IsSubset (tests_in shape) tests.now.keys }
-    requires terms { IsSubset (terms_in shape) terms.now.keys }
+    requires tests { IsSubset (tests_of_term shape) tests.now.keys }
+    requires terms { IsSubset (term_parts shape) terms.now.keys }
     ensures { result ≡ term_node_of tests.now.keys terms.now.keys shape }
 {
     match shape {
@@ -62,7 +65,7 @@ fn term_node(tests: &Tests, terms: &Terms, shape: Shape) -> TermNode
 
 fn test_nodes(alloc: Global, store: &Store, tests: &Tests) -> Result<Vec<TestNode>, NoMemory>
     requires there { (i : ℕ) → Has tests.now.keys i → i < length store.now.tests }
-    requires parts { (i : ℕ) (shape : TestShape) → Has tests.now.keys i → slice_get store.now.tests i ≡ Some shape → IsSubset (test_parts_in shape) tests.now.keys }
+    requires parts { (i : ℕ) (shape : TestNode ℕ) → Has tests.now.keys i → slice_get store.now.tests i ≡ Some shape → IsSubset (test_parts shape) tests.now.keys }
     ensures { IfOk result (λ v. v.items ≡ test_nodes_of store.now tests.now.keys tests.now.keys) }
 {
     let mut nodes = Vec::new(alloc);
@@ -80,8 +83,8 @@ fn term_nodes(
     terms: &Terms,
 ) -> Result<Vec<TermNode>, NoMemory>
     requires there { (i : ℕ) → Has terms.now.keys i → i < length store.now.terms }
-    requires tests { (i : ℕ) (shape : Shape) → Has terms.now.keys i → slice_get store.now.terms i ≡ Some shape → IsSubset (tests_in shape) tests.now.keys }
-    requires parts { (i : ℕ) (shape : Shape) → Has terms.now.keys i → slice_get store.now.terms i ≡ Some shape → IsSubset (terms_in shape) terms.now.keys }
+    requires tests { (i : ℕ) (shape : TermNode ℕ ℕ) → Has terms.now.keys i → slice_get store.now.terms i ≡ Some shape → IsSubset (tests_of_term shape) tests.now.keys }
+    requires parts { (i : ℕ) (shape : TermNode ℕ ℕ) → Has terms.now.keys i → slice_get store.now.terms i ≡ Some shape → IsSubset (term_parts shape) terms.now.keys }
     ensures { IfOk result (λ v. v.items ≡ term_nodes_of store.now tests.now.keys terms.now.keys terms.now.keys) }
 {
     let mut nodes = Vec::new(alloc);

@@ -3,9 +3,9 @@ ghost use Rattle.std.specs.Prelude.{◌≡◌, IfOk, IfSome, OnErr};
 ghost use Rattle.std.specs.Option.{option_map};
 ghost use Rattle.kat_model.specs.Problems.{IsProblem};
 ghost use Rattle.goal_forms.specs.ClosedTrees.{closed_trees};
-ghost use Rattle.term_store.specs.Nodes.{IsStore, IsTermId};
-ghost use Rattle.term_store.specs.Trees.{tree_of};
-ghost use Rattle.term_store.specs.Growth.{KeepsTrees};
+ghost use Rattle.term_nodes.specs.NodeLists.{AreNodes, IsTerm};
+ghost use Rattle.term_nodes.specs.NodeTrees.{tree_at};
+ghost use Rattle.term_nodes.specs.Growth.{Grows};
 ghost use Rattle.certificate.specs.Decisions.{IsDecision};
 ghost use Rattle.bisim_worklist.specs.StoredTerms.{HasIdsOf};
 ghost use Rattle.bisim_worklist.specs.Working.Walking.{IsUnderWay};
@@ -21,10 +21,10 @@ use term_store::{Store, TermId};
 
 // The id of the universal term, where there is one.
 fn universal_id(store: &mut Store, closed: &Closed) -> Result<Option<TermId>, NoMemory>
-    ensures tree { IfOk result (λ u. option_map (tree_of store.new) u ≡ (closed_trees closed.now).universal) }
-    ensures is_id { IfOk result (λ u. IfSome u (IsTermId store.new)) }
-    ensures kept { KeepsTrees store.old store.new }
-    ensures refused { OnErr result (IsStore store.new) }
+    ensures tree { IfOk result (λ u. option_map (tree_at store.new) u ≡ (closed_trees closed.now).universal) }
+    ensures is_id { IfOk result (λ u. IfSome u (IsTerm store.new)) }
+    ensures kept { Grows store.old store.new }
+    ensures refused { OnErr result (AreNodes store.new) }
 {
     match &closed.universal {
         Some(term) => Ok(Some(store.of_tree(term)?)),
@@ -35,8 +35,8 @@ fn universal_id(store: &mut Store, closed: &Closed) -> Result<Option<TermId>, No
 // The walk of a problem over the store, which has listed the pair of the closed sides.
 fn walk_of(alloc: Global, store: &mut Store, problem: &Problem) -> Result<Walk, NoMemory>
     ensures under_way { IfOk result (λ w. IsProblem problem.now × IsUnderWay problem.now store.new w 0) }
-    ensures kept { KeepsTrees store.old store.new }
-    ensures store { IsStore store.new }
+    ensures kept { Grows store.old store.new }
+    ensures store { AreNodes store.new }
 {
     // The proof needs the rules of the store.
     let _ = store.count();
@@ -60,8 +60,8 @@ fn evidence_of(
     requires under_way { IsUnderWay problem.now store.old walk 0 }
     ensures decision { IfOk result (IsDecision problem.now) }
     ensures ids { IfOk result (HasIdsOf store.new problem.now) }
-    ensures kept { KeepsTrees store.old store.new }
-    ensures store { IsStore store.new }
+    ensures kept { Grows store.old store.new }
+    ensures store { AreNodes store.new }
 {
     let found = walk.run(alloc, store, problem);
     // The proof needs the rules of the store, also where memory is short.
@@ -84,8 +84,8 @@ fn evidence_of(
 pub fn decide_in(alloc: Global, store: &mut Store, problem: &Problem) -> Result<Evidence, NoMemory>
     ensures decision { IfOk result (IsDecision problem.now) }
     ensures ids { IfOk result (HasIdsOf store.new problem.now) }
-    ensures kept { KeepsTrees store.old store.new }
-    ensures store { IsStore store.new }
+    ensures kept { Grows store.old store.new }
+    ensures store { AreNodes store.new }
 {
     let walk = walk_of(alloc, store, problem)?;
     evidence_of(alloc, store, problem, walk)

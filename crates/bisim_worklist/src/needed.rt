@@ -1,7 +1,10 @@
 //! The nodes of the terms of pairs, and of all their parts, in the order of their ids, which has parts before wholes.
 ghost use Rattle.std.specs.Prelude.{◌≡◌, ◌<◌, ℕ, List, length, IfOk, OnOk};
 ghost use Rattle.kat_model.specs.Members.{Has, SameMembers};
-ghost use Rattle.bisim_worklist.specs.Working.Needed.{terms_in, tests_in, test_parts_in, AreParts, members_of, AddsAll, NamesTests};
+ghost use Rattle.term_nodes.specs.Nodes.{term_parts, tests_of_term, test_parts};
+ghost use Rattle.bisim_worklist.specs.Working.Needed.{AreParts, members_of, AddsAll, NamesTests};
+ghost use Rattle.term_nodes.specs.declared.TestNode.{TestNode};
+ghost use Rattle.term_nodes.specs.declared.TermNode.{TermNode};
 
 use crate::pair::Listed;
 use crate::rules::add_all;
@@ -31,7 +34,7 @@ fn members(alloc: Global, pairs: &[Listed]) -> Result<BTreeSet<TermId>, NoMemory
 
 // Adds the terms that the node names.
 fn add_parts(set: &mut BTreeSet<TermId>, shape: Shape) -> Result<(), NoMemory>
-    ensures { OnOk result (AddsAll set.old.keys set.new.keys (terms_in shape)) }
+    ensures { OnOk result (AddsAll set.old.keys set.new.keys (term_parts shape)) }
 {
     match shape {
         Shape::Zero | Shape::One | Shape::Test(_) | Shape::Act(_) => Ok(()),
@@ -54,7 +57,7 @@ fn with_parts(
     mut pending: BTreeSet<TermId>,
 ) -> Result<BTreeSet<TermId>, NoMemory>
     requires { (i : ℕ) → Has pending.keys i → i < length store.now.terms }
-    ensures { IfOk result (λ s. AreParts Shape store.now.terms terms_in pending.keys s.keys) }
+    ensures { IfOk result (λ s. AreParts (TermNode ℕ ℕ) store.now.terms term_parts pending.keys s.keys) }
 {
     let mut all = BTreeSet::new(alloc);
     while let Some(term) = pending.pop_last() {
@@ -82,7 +85,7 @@ pub(crate) fn needed_terms(
     pairs: &[Listed],
 ) -> Result<Terms, NoMemory>
     requires { (i : ℕ) → Has (members_of pairs.now) i → i < length store.now.terms }
-    ensures { IfOk result (λ s. AreParts Shape store.now.terms terms_in (members_of pairs.now) s.keys) }
+    ensures { IfOk result (λ s. AreParts (TermNode ℕ ℕ) store.now.terms term_parts (members_of pairs.now) s.keys) }
 {
     let members = members(alloc, pairs)?;
     let all = with_parts(alloc, store, members)?;
@@ -91,7 +94,7 @@ pub(crate) fn needed_terms(
 
 // Adds the tests that the node names.
 fn add_tests(set: &mut BTreeSet<TestId>, shape: Shape) -> Result<(), NoMemory>
-    ensures { OnOk result (AddsAll set.old.keys set.new.keys (tests_in shape)) }
+    ensures { OnOk result (AddsAll set.old.keys set.new.keys (tests_of_term shape)) }
 {
     match shape {
         Shape::Zero | Shape::One | Shape::Act(_) | Shape::Sum(_, _) | Shape::Seq(_, _) => Ok(()),
@@ -118,7 +121,7 @@ fn tests_of(alloc: Global, store: &Store, terms: &Terms) -> Result<BTreeSet<Test
 
 // Adds the tests that the node names.
 fn add_test_parts(set: &mut BTreeSet<TestId>, shape: TestShape) -> Result<(), NoMemory>
-    ensures { OnOk result (AddsAll set.old.keys set.new.keys (test_parts_in shape)) }
+    ensures { OnOk result (AddsAll set.old.keys set.new.keys (test_parts shape)) }
 {
     match shape {
         TestShape::False | TestShape::True | TestShape::Prim(_) => Ok(()),
@@ -141,7 +144,7 @@ fn with_test_parts(
     mut pending: BTreeSet<TestId>,
 ) -> Result<BTreeSet<TestId>, NoMemory>
     requires { (i : ℕ) → Has pending.keys i → i < length store.now.tests }
-    ensures { IfOk result (λ s. AreParts TestShape store.now.tests test_parts_in pending.keys s.keys) }
+    ensures { IfOk result (λ s. AreParts (TestNode ℕ) store.now.tests test_parts pending.keys s.keys) }
 {
     let mut all = BTreeSet::new(alloc);
     while let Some(test) = pending.pop_last() {
@@ -165,7 +168,7 @@ fn tests_in_order(alloc: Global, all: &BTreeSet<TestId>) -> Result<Tests, NoMemo
 /// The tests that the terms name, with all their parts.
 pub(crate) fn needed_tests(alloc: Global, store: &Store, terms: &Terms) -> Result<Tests, NoMemory>
     requires { (i : ℕ) → Has terms.now.keys i → i < length store.now.terms }
-    ensures { IfOk result (λ s. (named : List ℕ) × NamesTests store.now terms.now.keys named × AreParts TestShape store.now.tests test_parts_in named s.keys) }
+    ensures { IfOk result (λ s. (named : List ℕ) × NamesTests store.now terms.now.keys named × AreParts (TestNode ℕ) store.now.tests test_parts named s.keys) }
 {
     // The proof needs the rules of the store.
     let _ = store.count();

@@ -3,9 +3,9 @@ ghost use Rattle.std.specs.Prelude.{◌≡◌, ◌≢◌, ◌<◌, ◌+◌, ◌�
 ghost use Rattle.kat_model.specs.Problems.{ProblemParts, IsProblem};
 ghost use Rattle.kat_model.specs.Closed.{closed};
 ghost use Rattle.std.specs.Option.{option_map};
-ghost use Rattle.term_store.specs.Nodes.{StoreParts, IsTermId, IsStore};
-ghost use Rattle.term_store.specs.Trees.{tree_of};
-ghost use Rattle.term_store.specs.Growth.{KeepsTrees};
+ghost use Rattle.term_nodes.specs.NodeLists.{NodeParts, IsTerm, AreNodes};
+ghost use Rattle.term_nodes.specs.NodeTrees.{tree_at};
+ghost use Rattle.term_nodes.specs.Growth.{Grows};
 ghost use Rattle.test_diagrams.specs.Functions.{value_of, IsDiagramId, IsAtomOf, KeepsFunctions};
 ghost use Rattle.bisim_worklist.specs.Working.Listings.{IdEntry};
 ghost use Rattle.bisim_worklist.specs.Working.Walking.{IsUnderWay, AreStepsAt, HasStepIds, IsExpanded, IsDifference};
@@ -61,11 +61,11 @@ impl Walk {
         universal: Option<TermId>,
         count: usize,
     ) -> Result<Walk, NoMemory>
-        ensures { IfOk result (λ w. (q : ProblemParts) (store : StoreParts) → IsProblem q → IsStore store → tests ≡ q.tests → count ≡ length store.terms
-            → IsTermId store left → tree_of store left ≡ (closed q).left
-            → IsTermId store right → tree_of store right ≡ (closed q).right
-            → ((u : ℕ) → universal ≡ Some u → IsTermId store u)
-            → option_map (tree_of store) universal ≡ (closed q).universal
+        ensures { IfOk result (λ w. (q : ProblemParts) (store : NodeParts) → IsProblem q → AreNodes store → tests ≡ q.tests → count ≡ length store.terms
+            → IsTerm store left → tree_at store left ≡ (closed q).left
+            → IsTerm store right → tree_at store right ≡ (closed q).right
+            → ((u : ℕ) → universal ≡ Some u → IsTerm store u)
+            → option_map (tree_at store) universal ≡ (closed q).universal
             → IsUnderWay q store w 0) }
     {
         let mut rules = Rules::new(alloc, universal, count);
@@ -100,7 +100,7 @@ impl Walk {
         ensures steps { IfOk result (λ steps. (q : ProblemParts) (e : IdEntry) → IsUnderWay q store.old self.old place
             → slice_get self.old.rules.pairs place ≡ Some e → IsUnderWay q store.new self.new place × AreStepsAt store.new self.new e steps × HasStepIds self.new steps) }
         ensures pairs { self.new.rules.pairs ≡ self.old.rules.pairs }
-        ensures kept { KeepsTrees store.old store.new }
+        ensures kept { Grows store.old store.new }
     {
         let pair = &self.rules.pairs()[place];
         let left = self
@@ -123,7 +123,7 @@ impl Walk {
         steps: &BothSteps,
     ) -> Result<(), NoMemory>
         requires ids { HasStepIds self.old steps.now }
-        ensures expanded { OnOk result ((q : ProblemParts) (store : StoreParts) → actions ≡ q.actions → IsExpanded q store self.old self.new place steps.now) }
+        ensures expanded { OnOk result ((q : ProblemParts) (store : NodeParts) → actions ≡ q.actions → IsExpanded q store self.old self.new place steps.now) }
         ensures tests { self.new.diagrams.tests ≡ self.old.diagrams.tests }
     {
         let left = &steps.left.moves;
@@ -172,7 +172,7 @@ impl Walk {
         ensures taken { IfOk result (λ found. (q : ProblemParts) → actions ≡ q.actions → IsUnderWay q store.old self.old place →
             MatchOption found (IsUnderWay q store.new self.new (place + 1))
             (λ atom. IsUnderWay q store.new self.new place × IsDifference q store.new self.new place atom.items)) }
-        ensures kept { KeepsTrees store.old store.new }
+        ensures kept { Grows store.old store.new }
     {
         let steps = self.steps_at(alloc, store, place)?;
         if let Some(atom) = self.difference(alloc, &steps)? {
@@ -194,7 +194,7 @@ impl Walk {
         ensures answer { IfOk result (λ found.
             MatchOption found (IsUnderWay problem.now store.new self.new (length self.new.rules.pairs))
             (λ d. IsUnderWay problem.now store.new self.new d.place × IsDifference problem.now store.new self.new d.place d.atom.items)) }
-        ensures kept { KeepsTrees store.old store.new }
+        ensures kept { Grows store.old store.new }
     {
         let mut place = 0;
         while place < self.rules.pairs().len() {

@@ -5,23 +5,11 @@ use Rattle.kat_model.specs.Trees.{Term, one}
 use Rattle.kat_model.specs.Members.{Has, SameMembers}
 use Rattle.kat_model.specs.Steps.{Atom, dot}
 use Rattle.kat_model.proofs.Lists.{same_members_trans}
-use Rattle.cert_checker.specs.Working.NodeTables.{Nodes, AreTables, IsFront, Grows, IsTest, IsTerm, term_at, holds_at}
+use Rattle.cert_checker.specs.Working.NodeTables.{TableParts, AreTables, TablesGrow, IsTest, IsTerm, term_at, holds_at}
 use Rattle.cert_checker.specs.Working.Targets.{chosen, AreEntries, StandFor}
-use Rattle.cert_checker.proofs.TableTrees.{term_kept}
+use Rattle.cert_checker.proofs.GrowingTables.{grows_trans}
 use Rattle.cert_checker.proofs.TargetSets.{term_within, holds_kept, chosen_kept}
 use Rattle.cert_checker.proofs.StepSets.{append_same}
-
--- ---- growth after growth
-
-front_trans : {X : Type 0} (xs ys zs : List X) → IsFront xs ys → IsFront ys zs → IsFront xs zs
-front_trans xs ys zs (a, e) (b, f) = (a ++ b, f ∙ ap (λ l. l ++ b) e ∙ append_assoc xs a b)
-
-pub grows_trans : (a b c : Nodes) → Grows a b → Grows b c → Grows a c
-grows_trans a b c g h = record {
-  width = h.width ∙ g.width;
-  tests = front_trans a.tests b.tests c.tests g.tests h.tests;
-  terms = front_trans a.terms b.terms c.terms g.terms h.terms;
-}
 
 same_itself : {X : Type 0} (xs : List X) → SameMembers xs xs
 same_itself xs x = ((λ h. h), (λ h. h))
@@ -38,9 +26,9 @@ adding_step true h x was now rest s =
     subst (SameMembers (now ++ rest)) (append_assoc was (cond h (x ∷ []) []) rest) (append_same now (was ++ cond h (x ∷ []) []) rest rest s (same_itself rest))
 
 -- targets were added to those before, and the rest of them is left
-pub record IsAdding (first now : Nodes) (before after rest all : List (ℕ × ℕ)) (guard : ℕ) : Type 0 where
+pub record IsAdding (first now : TableParts) (before after rest all : List (ℕ × ℕ)) (guard : ℕ) : Type 0 where
   pub tables : AreTables now
-  pub grows : Grows first now
+  pub grows : TablesGrow first now
   pub terms : now.terms ≡ first.terms
   pub was : AreTables first
   pub test : IsTest first guard
@@ -48,10 +36,10 @@ pub record IsAdding (first now : Nodes) (before after rest all : List (ℕ × �
   pub others : AreEntries first rest
   pub same : (atom : Atom) → SameMembers (chosen now after atom ++ cond (holds_at first guard atom) (chosen first rest atom) []) (chosen first before atom ++ cond (holds_at first guard atom) (chosen first all atom) [])
 
-module _ (first now mid last : Nodes) (before after new rest all : List (ℕ × ℕ)) (guard both : ℕ) (e : ℕ × ℕ) where
+module _ (first now mid last : TableParts) (before after new rest all : List (ℕ × ℕ)) (guard both : ℕ) (e : ℕ × ℕ) where
   -- the test that is made of both guards
-  pub adding_more : IsAdding first now before after (e ∷ rest) all guard → AreTables mid → Grows now mid → mid.terms ≡ now.terms → ((atom : Atom) → holds_at mid both atom ≡ (holds_at now guard atom && holds_at now e.1 atom))
-      → AreTables last → Grows mid last → last.terms ≡ mid.terms → StandFor last new (λ atom. chosen mid after atom ++ cond (holds_at mid both atom) (term_at mid e.0 ∷ []) []) → IsAdding first last before new rest all guard
+  pub adding_more : IsAdding first now before after (e ∷ rest) all guard → AreTables mid → TablesGrow now mid → mid.terms ≡ now.terms → ((atom : Atom) → holds_at mid both atom ≡ (holds_at now guard atom && holds_at now e.1 atom))
+      → AreTables last → TablesGrow mid last → last.terms ≡ mid.terms → StandFor last new (λ atom. chosen mid after atom ++ cond (holds_at mid both atom) (term_at mid e.0 ∷ []) []) → IsAdding first last before new rest all guard
   adding_more a are_mid to_mid mid_terms value are_last to_last last_terms stands = record {
     tables = are_last;
     grows = grows_trans first mid last (grows_trans first now mid a.grows to_mid) to_last;
@@ -71,7 +59,7 @@ module _ (first now mid last : Nodes) (before after new rest all : List (ℕ × 
       guards atom = value atom ∙ ap₂ (λ (x y : Bool). x && y) (holds_kept first now a.was a.grows guard atom a.test) (holds_kept first now a.was a.grows e.1 atom own.1)
 
       name : term_at mid e.0 ≡ term_at first e.0
-      name = term_kept first mid a.was (grows_trans first now mid a.grows to_mid) e.0 own.0
+      name = (grows_trans first now mid a.grows to_mid).nodes.trees e.0 own.0
 
       step : (atom : Atom) → SameMembers (chosen last new atom) (chosen now after atom ++ cond (holds_at first guard atom && holds_at first e.1 atom) (term_at first e.0 ∷ []) [])
       step atom =
@@ -86,18 +74,18 @@ follow_step f true x was now rest s =
 follow_step f false x was now rest s =
     subst (SameMembers (now ++ map f rest)) (append_assoc was [] (map f rest)) (append_same now (was ++ []) (map f rest) (map f rest) s (same_itself (map f rest)))
 
-pub record IsFollowing (first now : Nodes) (after : ℕ) (targets rest all : List (ℕ × ℕ)) : Type 0 where
+pub record IsFollowing (first now : TableParts) (after : ℕ) (targets rest all : List (ℕ × ℕ)) : Type 0 where
   pub tables : AreTables now
-  pub grows : Grows first now
+  pub grows : TablesGrow first now
   pub was : AreTables first
   pub term : IsTerm first after
   pub entries : AreEntries now targets
   pub others : AreEntries first rest
   pub same : (atom : Atom) → SameMembers (chosen now targets atom ++ map (λ x. dot x (term_at first after)) (chosen first rest atom)) (map (λ x. dot x (term_at first after)) (chosen first all atom))
 
-module _ (first now mid last : Nodes) (after product : ℕ) (targets new rest all : List (ℕ × ℕ)) (e : ℕ × ℕ) where
-  pub following_more : IsFollowing first now after targets (e ∷ rest) all → AreTables mid → Grows now mid → term_at mid product ≡ dot (term_at now e.0) (term_at now after)
-      → AreTables last → Grows mid last → StandFor last new (λ atom. chosen mid targets atom ++ cond (holds_at mid e.1 atom) (term_at mid product ∷ []) []) → IsFollowing first last after new rest all
+module _ (first now mid last : TableParts) (after product : ℕ) (targets new rest all : List (ℕ × ℕ)) (e : ℕ × ℕ) where
+  pub following_more : IsFollowing first now after targets (e ∷ rest) all → AreTables mid → TablesGrow now mid → term_at mid product ≡ dot (term_at now e.0) (term_at now after)
+      → AreTables last → TablesGrow mid last → StandFor last new (λ atom. chosen mid targets atom ++ cond (holds_at mid e.1 atom) (term_at mid product ∷ []) []) → IsFollowing first last after new rest all
   following_more a are_mid to_mid made are_last to_last stands = record {
     tables = are_last;
     grows = grows_trans first mid last (grows_trans first now mid a.grows to_mid) to_last;
@@ -116,14 +104,14 @@ module _ (first now mid last : Nodes) (after product : ℕ) (targets new rest al
       guards atom = holds_kept first mid a.was (grows_trans first now mid a.grows to_mid) e.1 atom own.1
 
       name : term_at mid product ≡ dot (term_at first e.0) (term_at first after)
-      name = made ∙ ap₂ dot (term_kept first now a.was a.grows e.0 own.0) (term_kept first now a.was a.grows after a.term)
+      name = made ∙ ap₂ dot (a.grows.nodes.trees e.0 own.0) (a.grows.nodes.trees after a.term)
 
       step : (atom : Atom) → SameMembers (chosen last new atom) (chosen now targets atom ++ cond (holds_at first e.1 atom) (dot (term_at first e.0) (term_at first after) ∷ []) [])
       step atom =
           same_members_trans (chosen last new atom) _ (chosen now targets atom ++ cond (holds_at first e.1 atom) (dot (term_at first e.0) (term_at first after) ∷ []) []) (stands.same atom)
           (same_from _ _ (ap₂ (λ (xs ys : List Term). xs ++ ys) (chosen_kept now mid a.tables to_mid targets atom a.entries) (ap₂ (λ (b : Bool) (x : Term). cond b (x ∷ []) []) (guards atom) name)))
 
-pub following_ends : (first now : Nodes) (after : ℕ) (targets all : List (ℕ × ℕ)) → IsFollowing first now after targets [] all → StandFor now targets (λ atom. map (λ x. dot x (term_at first after)) (chosen first all atom))
+pub following_ends : (first now : TableParts) (after : ℕ) (targets all : List (ℕ × ℕ)) → IsFollowing first now after targets [] all → StandFor now targets (λ atom. map (λ x. dot x (term_at first after)) (chosen first all atom))
 following_ends first now after targets all a = record {
   entries = a.entries;
   same = λ atom. subst (λ l. SameMembers l (map (λ x. dot x (term_at first after)) (chosen first all atom))) (append-nil (chosen now targets atom)) (a.same atom);
@@ -131,10 +119,10 @@ following_ends first now after targets all a = record {
 
 -- ---- the target of an action
 
-pub alone_stands : (mid last : Nodes) → AreTables mid → Grows mid last → (k g : ℕ) (es : List (ℕ × ℕ)) → es ≡ (k, g) ∷ [] → IsTerm mid k → IsTest last g → ((atom : Atom) → holds_at last g atom ≡ true) → term_at mid k ≡ one → StandFor last es (λ atom. one ∷ [])
+pub alone_stands : (mid last : TableParts) → AreTables mid → TablesGrow mid last → (k g : ℕ) (es : List (ℕ × ℕ)) → es ≡ (k, g) ∷ [] → IsTerm mid k → IsTest last g → ((atom : Atom) → holds_at last g atom ≡ true) → term_at mid k ≡ one → StandFor last es (λ atom. one ∷ [])
 alone_stands mid last are grows k g es is term test always name = record {
   entries = λ e h. subst (λ (p : ℕ × ℕ). IsTerm last p.0 × IsTest last p.1) (alone e (subst (λ l. Has l e) is h)) (term_within mid last are grows k term, test);
-  same = λ atom. same_from (chosen last es atom) (one ∷ []) (ap (λ l. chosen last l atom) is ∙ ap₂ (λ (b : Bool) (x : Term). cond b (x ∷ []) [] ++ []) (always atom) (term_kept mid last are grows k term ∙ name));
+  same = λ atom. same_from (chosen last es atom) (one ∷ []) (ap (λ l. chosen last l atom) is ∙ ap₂ (λ (b : Bool) (x : Term). cond b (x ∷ []) [] ++ []) (always atom) (grows.nodes.trees k term ∙ name));
 }
   where
     alone : (e : ℕ × ℕ) → Has ((k, g) ∷ []) e → ◌≡◌ {A = ℕ × ℕ} (k, g) e
@@ -143,7 +131,7 @@ alone_stands mid last are grows k g es is term test always name = record {
 -- ---- targets added under no condition
 
 -- the added targets are those of older tables
-pub gathered : (first now last : Nodes) (es new more : List (ℕ × ℕ)) (always : ℕ) → AreTables first → Grows first now → AreEntries first more → ((atom : Atom) → holds_at now always atom ≡ true) → StandFor last new (λ atom. chosen now es atom ++ cond (holds_at now always atom) (chosen now more atom) []) → StandFor last new (λ atom. chosen now es atom ++ chosen first more atom)
+pub gathered : (first now last : TableParts) (es new more : List (ℕ × ℕ)) (always : ℕ) → AreTables first → TablesGrow first now → AreEntries first more → ((atom : Atom) → holds_at now always atom ≡ true) → StandFor last new (λ atom. chosen now es atom ++ cond (holds_at now always atom) (chosen now more atom) []) → StandFor last new (λ atom. chosen now es atom ++ chosen first more atom)
 gathered first now last es new more always are grows own holds_all stands = record {
   entries = stands.entries;
   same = λ atom. same_members_trans (chosen last new atom) (chosen now es atom ++ cond (holds_at now always atom) (chosen now more atom) []) (chosen now es atom ++ chosen first more atom) (stands.same atom)
@@ -152,7 +140,7 @@ gathered first now last es new more always are grows own holds_all stands = reco
 }
 
 -- two lists, one after the other
-pub union_stands : (first one_more two_more last : Nodes) (left right es new : List (ℕ × ℕ)) (always : ℕ) → AreTables first → AreTables one_more → Grows first one_more → Grows one_more two_more → IsTest one_more always → AreEntries first left → AreEntries first right → ((atom : Atom) → holds_at one_more always atom ≡ true)
+pub union_stands : (first one_more two_more last : TableParts) (left right es new : List (ℕ × ℕ)) (always : ℕ) → AreTables first → AreTables one_more → TablesGrow first one_more → TablesGrow one_more two_more → IsTest one_more always → AreEntries first left → AreEntries first right → ((atom : Atom) → holds_at one_more always atom ≡ true)
     → StandFor two_more es (λ atom. cond (holds_at one_more always atom) (chosen one_more left atom) []) → StandFor last new (λ atom. chosen two_more es atom ++ cond (holds_at two_more always atom) (chosen two_more right atom) [])
     → StandFor last new (λ atom. chosen first left atom ++ chosen first right atom)
 union_stands first one_more two_more last left right es new always are are_one to_one to_two test own other holds_all stands then = record {

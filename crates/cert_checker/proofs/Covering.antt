@@ -14,14 +14,15 @@ use Rattle.kat_model.specs.Steps.{Atom}
 use Rattle.kat_model.proofs.Lists.{has_left, has_right, has_append}
 use Rattle.cert_checker.specs.declared.known.Known.{Known}
 use Rattle.cert_checker.specs.declared.known.Known.TheVariants.{Value, Waits}
-use Rattle.cert_checker.specs.Working.NodeTables.{Nodes, term_at, holds_at}
+use Rattle.cert_checker.specs.Working.NodeTables.{TableParts, term_at, holds_at, nodes_in}
 use Rattle.cert_checker.specs.Working.Targets.{chosen, AreEntries}
 use Rattle.cert_checker.specs.Working.Cases.{Extends, IsKnown, AreKnown}
-use Rattle.cert_checker.specs.Working.Matching.{known_of, truly, falsely, sure_targets, guard_of, is_sure, guarded_by, open_targets, terms_of}
+use Rattle.term_nodes.specs.NumberSets.{terms_of}
+use Rattle.cert_checker.specs.Working.Matching.{known_of, truly, falsely, sure_targets, guard_of, is_sure, guarded_by, open_targets}
 
 -- ---- the terms that are chosen at an atom
 
-pub chosen_has : (t : Nodes) (es : List (ℕ × ℕ)) (atom : Atom) (e : ℕ × ℕ) → Has es e → holds_at t e.1 atom ≡ true → Has (chosen t es atom) (term_at t e.0)
+pub chosen_has : (t : TableParts) (es : List (ℕ × ℕ)) (atom : Atom) (e : ℕ × ℕ) → Has es e → holds_at t e.1 atom ≡ true → Has (chosen t es atom) (term_at t e.0)
 chosen_has t [] atom e h k = absurd h
 chosen_has t (d ∷ es) atom e h k =
     ⊎_elim
@@ -32,7 +33,7 @@ chosen_has t (d ∷ es) atom e h k =
     first : d ≡ e → Has (cond (holds_at t d.1 atom) (term_at t d.0 ∷ []) []) (term_at t e.0)
     first same = subst (λ z. Has (cond (holds_at t z.1 atom) (term_at t z.0 ∷ []) []) (term_at t e.0)) (sym same) (rw k (inl refl))
 
-pub has_chosen : (t : Nodes) (es : List (ℕ × ℕ)) (atom : Atom) (x : Term) → Has (chosen t es atom) x → (e : ℕ × ℕ) × Has es e × (holds_at t e.1 atom ≡ true) × (term_at t e.0 ≡ x)
+pub has_chosen : (t : TableParts) (es : List (ℕ × ℕ)) (atom : Atom) (x : Term) → Has (chosen t es atom) x → (e : ℕ × ℕ) × Has es e × (holds_at t e.1 atom ≡ true) × (term_at t e.0 ≡ x)
 has_chosen t [] atom x h = absurd h
 has_chosen t (d ∷ es) atom x h =
     ⊎_elim
@@ -56,7 +57,7 @@ falsely_value (Value true) e = absurd cc
 falsely_value (Value false) e = refl
 falsely_value (Waits k) e = absurd cc
 
-module _ (t : Nodes) (decided : List (Option Bool)) (known : List Known) (are : AreKnown t decided known) (atom : Atom) (extends : Extends decided atom) where
+module _ (t : TableParts) (decided : List (Option Bool)) (known : List Known) (are : AreKnown t decided known) (atom : Atom) (extends : Extends decided atom) where
   pub known_value : (g : ℕ) (b : Bool) → g < length t.tests → known_of known g ≡ Value b → holds_at t g atom ≡ b
   known_value g b h e =
       let low : g < length known = omega (arith, are.count, h) in
@@ -64,11 +65,11 @@ module _ (t : Nodes) (decided : List (Option Bool)) (known : List Known) (are : 
       k atom extends
 
   -- what surely is among the targets is chosen
-  pub sure_chosen : (es : List (ℕ × ℕ)) → AreEntries t es → IsSubset (terms_of t (sure_targets known es)) (chosen t es atom)
+  pub sure_chosen : (es : List (ℕ × ℕ)) → AreEntries t es → IsSubset (terms_of (nodes_in t) (sure_targets known es)) (chosen t es atom)
   sure_chosen [] entries x h = h
   sure_chosen (e ∷ es) entries x h = go (truly (known_of known e.1)) refl (sure_chosen es (λ d m. entries d (inr m)) x) h
     where
-      go : (b : Bool) → truly (known_of known e.1) ≡ b → (Has (terms_of t (sure_targets known es)) x → Has (chosen t es atom) x) → Has (terms_of t (cond b (e.0 ∷ sure_targets known es) (sure_targets known es))) x → Has (chosen t (e ∷ es) atom) x
+      go : (b : Bool) → truly (known_of known e.1) ≡ b → (Has (terms_of (nodes_in t) (sure_targets known es)) x → Has (chosen t es atom) x) → Has (terms_of (nodes_in t) (cond b (e.0 ∷ sure_targets known es) (sure_targets known es))) x → Has (chosen t (e ∷ es) atom) x
       go true s rest k =
           ⊎_elim
           (λ same. subst (Has (chosen t (e ∷ es) atom)) same (chosen_has t (e ∷ es) atom e (inl refl) (known_value e.1 true (entries e (inl refl)).1 (truly_value (known_of known e.1) s))))
@@ -93,18 +94,18 @@ pub any_value : {X : Type 0} (p : X → Bool) (o : Option X) → option_map_or p
 any_value p None e = absurd cc
 any_value p (Some x) e = (x, refl, e)
 
-module _ (t : Nodes) (decided : List (Option Bool)) (known : List Known) (are : AreKnown t decided known) (atom : Atom) (extends : Extends decided atom)
+module _ (t : TableParts) (decided : List (Option Bool)) (known : List Known) (are : AreKnown t decided known) (atom : Atom) (extends : Extends decided atom)
     (others : List (ℕ × ℕ)) (entries : AreEntries t others) where
   -- a term that is chosen on one side is chosen on the other, or is open
-  pub chosen_reached : (es : List (ℕ × ℕ)) → AreEntries t es → (x : Term) → Has (chosen t es atom) x → Has (chosen t others atom) x ⊎ Has (terms_of t (open_targets known others es)) x
+  pub chosen_reached : (es : List (ℕ × ℕ)) → AreEntries t es → (x : Term) → Has (chosen t es atom) x → Has (chosen t others atom) x ⊎ Has (terms_of (nodes_in t) (open_targets known others es)) x
   chosen_reached [] own x h = absurd h
   chosen_reached (d ∷ es) own x h =
       ⊎_elim (λ l. here (holds_at t d.1 atom) refl l) (λ k. later (chosen_reached es (λ e m. own e (inr m)) x k)) (has_append (cond (holds_at t d.1 atom) (term_at t d.0 ∷ []) []) (chosen t es atom) x h)
     where
-      later : Has (chosen t others atom) x ⊎ Has (terms_of t (open_targets known others es)) x → Has (chosen t others atom) x ⊎ Has (terms_of t (open_targets known others (d ∷ es))) x
+      later : Has (chosen t others atom) x ⊎ Has (terms_of (nodes_in t) (open_targets known others es)) x → Has (chosen t others atom) x ⊎ Has (terms_of (nodes_in t) (open_targets known others (d ∷ es))) x
       later k = ⊎_elim inl (λ o. inr (go (falsely (known_of known d.1) || (guarded_by others d.0 d.1 || is_sure known others d.0)) o)) k
         where
-          go : (b : Bool) → Has (terms_of t (open_targets known others es)) x → Has (terms_of t (cond b (open_targets known others es) (d.0 ∷ open_targets known others es))) x
+          go : (b : Bool) → Has (terms_of (nodes_in t) (open_targets known others es)) x → Has (terms_of (nodes_in t) (cond b (open_targets known others es) (d.0 ∷ open_targets known others es))) x
           go true o = o
           go false o = inr o
 
@@ -122,10 +123,10 @@ module _ (t : Nodes) (decided : List (Option Bool)) (known : List Known) (are : 
           (or_cases (guarded_by others d.0 d.1) (is_sure known others d.0) r))
           (or_cases (falsely (known_of known d.1)) (guarded_by others d.0 d.1 || is_sure known others d.0) p)
 
-      here : (b : Bool) → holds_at t d.1 atom ≡ b → Has (cond b (term_at t d.0 ∷ []) []) x → Has (chosen t others atom) x ⊎ Has (terms_of t (open_targets known others (d ∷ es))) x
+      here : (b : Bool) → holds_at t d.1 atom ≡ b → Has (cond b (term_at t d.0 ∷ []) []) x → Has (chosen t others atom) x ⊎ Has (terms_of (nodes_in t) (open_targets known others (d ∷ es))) x
       here false e k = absurd k
       here true e k = ⊎_elim (λ same. go (falsely (known_of known d.1) || (guarded_by others d.0 d.1 || is_sure known others d.0)) refl same) absurd k
         where
-          go : (b : Bool) → (falsely (known_of known d.1) || (guarded_by others d.0 d.1 || is_sure known others d.0)) ≡ b → term_at t d.0 ≡ x → Has (chosen t others atom) x ⊎ Has (terms_of t (cond b (open_targets known others es) (d.0 ∷ open_targets known others es))) x
+          go : (b : Bool) → (falsely (known_of known d.1) || (guarded_by others d.0 d.1 || is_sure known others d.0)) ≡ b → term_at t d.0 ≡ x → Has (chosen t others atom) x ⊎ Has (terms_of (nodes_in t) (cond b (open_targets known others es) (d.0 ∷ open_targets known others es))) x
           go true p same = inl (subst (Has (chosen t others atom)) same (in_others e p))
           go false p same = inr (inl same)

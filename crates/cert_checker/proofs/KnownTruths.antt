@@ -4,16 +4,16 @@ use Rattle.std.proofs.lemmas.Bool.{and_right}
 use Rattle.std.proofs.lemmas.Option.{slice_get-get_or}
 use Rattle.kat_model.specs.Steps.{Atom, truth}
 use Rattle.kat_model.proofs.Places.{has_at, slice_get_last}
-use Rattle.certificate.specs.declared.nodes.TestNode.{TestNode}
-use Rattle.certificate.specs.declared.nodes.TestNode.TheVariants.{False, True, Prim, Not, And, Or}
-use Rattle.certificate.specs.Nodes.{test_parts, are_below}
+use Rattle.term_nodes.specs.declared.TestNode.{TestNode}
+use Rattle.term_nodes.specs.declared.TestNode.TheVariants.{False, True, Prim, Not, And, Or}
+use Rattle.term_nodes.specs.Nodes.{IsTestOver}
 use Rattle.cert_checker.specs.declared.known.Known.{Known}
 use Rattle.cert_checker.specs.declared.known.Known.TheVariants.{Value, Waits}
-use Rattle.cert_checker.specs.Working.NodeTables.{Nodes, AreTables, IsWithin, holds_at, test_tree_in}
+use Rattle.term_nodes.specs.NodeTrees.{test_tree_in}
+use Rattle.cert_checker.specs.Working.NodeTables.{TableParts, AreTables, IsWithin, holds_at, nodes_in}
 use Rattle.cert_checker.specs.Working.Cases.{Extends, IsKnown, known_not, known_and, known_or, known_at, known_node}
-use Rattle.cert_checker.proofs.TableTrees.{test_of_node}
-use Rattle.cert_checker.proofs.OneNumber.{first_below, second_below}
-use Rattle.certificate.proofs.Growth.{below_more}
+use Rattle.term_nodes.proofs.TestTrees.{test_tree_at-node}
+use Rattle.term_nodes.proofs.Parts.{IsTestOver-more}
 
 -- ---- values that are put together
 
@@ -70,40 +70,40 @@ set_get (z ∷ xs) (suc j) zero x y e = inr e
 set_get (z ∷ xs) (suc j) (suc k) x y e = ⊎_elim (λ h. inl (ap suc h.0, h.1)) inr (set_get xs j k x y e)
 
 -- the numbers that a node names, below more
-pub parts_within : (t : Nodes) → AreTables t → (k m : ℕ) (n : TestNode) → k ≤ m → slice_get t.tests k ≡ Some n → are_below m (test_parts n) ≡ true
-parts_within t are k m n le e = below_more k m (test_parts n) le (are.rules.tests k n e)
+pub parts_within : (t : TableParts) → AreTables t → (k m : ℕ) (n : TestNode ℕ) → k ≤ m → slice_get t.tests k ≡ Some n → IsTestOver m n
+parts_within t are k m n le e = IsTestOver-more k m n le (are.rules.tests_ordered k n e)
 
-module _ (t : Nodes) (are : AreTables t) (decided : List (Option Bool)) (earlier : List Known)
+module _ (t : TableParts) (are : AreTables t) (decided : List (Option Bool)) (earlier : List Known)
     (each : (k : ℕ) (x : Known) → slice_get earlier k ≡ Some x → IsKnown decided (holds_at t k) x) where
   part_known : (x : ℕ) → x < length earlier → IsKnown decided (holds_at t x) (get_or earlier x (Value false))
   part_known x h = each x (get_or earlier x (Value false)) (slice_get-get_or earlier x (Value false) h)
 
   -- what is known of a node, over what is known of those that it names
-  pub node_known : (j : ℕ) (n : TestNode) → j ≤ length earlier → length decided ≡ t.width → slice_get t.tests j ≡ Some n → IsKnown decided (holds_at t j) (known_node decided earlier n)
-  node_known j n there width e = same_known decided (λ atom. truth (test_tree_in t n) atom) (holds_at t j) (known_node decided earlier n) (λ atom. ap (λ b. truth b atom) (test_of_node t are j n e)) (by_node n e (are.rules.tests j n e))
+  pub node_known : (j : ℕ) (n : TestNode ℕ) → j ≤ length earlier → length decided ≡ t.width → slice_get t.tests j ≡ Some n → IsKnown decided (holds_at t j) (known_node decided earlier n)
+  node_known j n there width e = same_known decided (λ atom. truth (test_tree_in (nodes_in t) n) atom) (holds_at t j) (known_node decided earlier n) (λ atom. ap (λ b. truth b atom) (test_tree_at-node (nodes_in t) are.rules j n e)) (by_node n e (are.rules.tests_ordered j n e))
     where
       part : (x : ℕ) → x < j → IsKnown decided (holds_at t x) (get_or earlier x (Value false))
       part x h = part_known x (omega (arith, h, there))
 
-      by_node : (n : TestNode) → slice_get t.tests j ≡ Some n → are_below j (test_parts n) ≡ true → IsKnown decided (λ atom. truth (test_tree_in t n) atom) (known_node decided earlier n)
+      by_node : (n : TestNode ℕ) → slice_get t.tests j ≡ Some n → IsTestOver j n → IsKnown decided (λ atom. truth (test_tree_in (nodes_in t) n) atom) (known_node decided earlier n)
       by_node False e below = λ atom h. refl
       by_node True e below = λ atom h. refl
       by_node (Prim k) e below =
           let low : k < length decided = subst (λ w. k < w) (sym width) (are.within k (has_at t.tests j (Prim k) e)) in
           prim_known decided k (get_or decided k None) (slice_get-get_or decided k None low)
-      by_node (Not x) e below = not_known decided (holds_at t x) (get_or earlier x (Value false)) (part x (first_below j x [] below))
+      by_node (Not x) e below = not_known decided (holds_at t x) (get_or earlier x (Value false)) (part x below)
       by_node (And x y) e below =
           and_known decided (holds_at t x) (holds_at t y) (get_or earlier x (Value false)) (get_or earlier y (Value false))
-          (part x (first_below j x (y ∷ []) below)) (part y (second_below j x y [] below))
+          (part x below.0) (part y below.1)
       by_node (Or x y) e below =
           or_known decided (holds_at t x) (holds_at t y) (get_or earlier x (Value false)) (get_or earlier y (Value false))
-          (part x (first_below j x (y ∷ []) below)) (part y (second_below j x y [] below))
+          (part x below.0) (part y below.1)
 
-  told : (j : ℕ) (n : TestNode) (x : Known) → j ≤ length earlier → length decided ≡ t.width → slice_get t.tests j ≡ Some n → x ≡ known_node decided earlier n → IsKnown decided (holds_at t j) x
+  told : (j : ℕ) (n : TestNode ℕ) (x : Known) → j ≤ length earlier → length decided ≡ t.width → slice_get t.tests j ≡ Some n → x ≡ known_node decided earlier n → IsKnown decided (holds_at t j) x
   told j n x there width e is = subst (IsKnown decided (holds_at t j)) (sym is) (node_known j n there width e)
 
   -- one test more
-  pub known_more : (n : TestNode) (x : Known) → length decided ≡ t.width → slice_get t.tests (length earlier) ≡ Some n → x ≡ known_node decided earlier n → (k : ℕ) (y : Known) → slice_get (earlier ++ x ∷ []) k ≡ Some y → IsKnown decided (holds_at t k) y
+  pub known_more : (n : TestNode ℕ) (x : Known) → length decided ≡ t.width → slice_get t.tests (length earlier) ≡ Some n → x ≡ known_node decided earlier n → (k : ℕ) (y : Known) → slice_get (earlier ++ x ∷ []) k ≡ Some y → IsKnown decided (holds_at t k) y
   known_more n x width e is k y h =
       ⊎_elim
       (λ was. each k y was)
@@ -111,7 +111,7 @@ module _ (t : Nodes) (are : AreTables t) (decided : List (Option Bool)) (earlier
       (slice_get_last earlier x k y h)
 
   -- a test told anew
-  pub known_again : (j : ℕ) (n : TestNode) (x : Known) → j ≤ length earlier → length decided ≡ t.width → slice_get t.tests j ≡ Some n → x ≡ known_node decided earlier n → (k : ℕ) (y : Known) → slice_get (set earlier j x) k ≡ Some y → IsKnown decided (holds_at t k) y
+  pub known_again : (j : ℕ) (n : TestNode ℕ) (x : Known) → j ≤ length earlier → length decided ≡ t.width → slice_get t.tests j ≡ Some n → x ≡ known_node decided earlier n → (k : ℕ) (y : Known) → slice_get (set earlier j x) k ≡ Some y → IsKnown decided (holds_at t k) y
   known_again j n x there width e is k y h =
       ⊎_elim
       (λ here. subst (λ z. IsKnown decided (holds_at t k) z) here.1 (subst (λ i. IsKnown decided (holds_at t i) x) (sym here.0) (told j n x there width e is)))
@@ -119,7 +119,7 @@ module _ (t : Nodes) (are : AreTables t) (decided : List (Option Bool)) (earlier
       (set_get earlier j k x y h)
 
 -- a node's primitive test is in range
-pub node_within : (t : Nodes) → AreTables t → (w k : ℕ) (n : TestNode) → w ≡ t.width → slice_get t.tests k ≡ Some n → IsWithin w n
+pub node_within : (t : TableParts) → AreTables t → (w k : ℕ) (n : TestNode ℕ) → w ≡ t.width → slice_get t.tests k ≡ Some n → IsWithin w n
 node_within t are w k False e h = tt
 node_within t are w k True e h = tt
 node_within t are w k (Prim i) e h = subst (λ v. i < v) (sym e) (are.within i (has_at t.tests k (Prim i) h))

@@ -1,9 +1,7 @@
-pub mod TableTrees
-pub mod OneNumber
+pub mod GrowingTables
 pub mod LeastFailures
 pub mod KnownTruths
 pub mod MarkedSets
-pub mod Insertions
 pub mod Covering
 pub mod Covered
 pub mod OneAnswer
@@ -15,11 +13,11 @@ pub mod FirstReasons
 pub mod StepSets
 pub mod MarkSteps
 pub mod PairPlaces
-pub mod Spelled
+pub mod TreeNumbers
+pub mod ClosedSides
 pub mod StepAnswers
 pub mod PairSets
 pub mod CertTables
 pub mod AddingTargets
 pub mod StepLists
 pub mod SetAcceptances
-pub mod UniversalNodes

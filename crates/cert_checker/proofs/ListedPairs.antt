@@ -3,12 +3,11 @@ use Rattle.std.proofs.Common.{◌≡◌, ◌↔◌, ℕ, ◌<◌, inl, inr, ⊎_
 use mathlib.Core.Path.{ap₂}
 use Rattle.kat_model.specs.Members.{Has, SameMembers}
 use Rattle.kat_model.proofs.Lists.{has_map, map_has}
-use Rattle.certificate.specs.Nodes.{are_below, are_ascending}
+use Rattle.term_nodes.specs.NumberSets.{are_below, are_ascending, terms_of}
 use Rattle.certificate.proofs.Ascending.{ascending_tail, ascending_first}
-use Rattle.certificate.proofs.NodeTrees.{below_has}
-use Rattle.cert_checker.specs.Working.NodeTables.{Nodes, AreTables, term_at}
-use Rattle.cert_checker.specs.Working.Matching.{terms_of}
-use Rattle.cert_checker.proofs.OneNumber.{one_number_a_term}
+use Rattle.term_nodes.proofs.Parts.{below_has}
+use Rattle.cert_checker.specs.Working.NodeTables.{TableParts, AreTables, term_at, nodes_in}
+use Rattle.term_nodes.proofs.TermTrees.{one_id_a_tree}
 
 pub ascending_same : (ks ls : List ℕ) → are_ascending ks ≡ true → are_ascending ls ≡ true → ((k : ℕ) → Has ks k ↔ Has ls k) → ks ≡ ls
 ascending_same [] [] a b same = refl
@@ -30,12 +29,12 @@ ascending_same (x ∷ ks) (y ∷ ls) a b same =
         ((same x).0 (inl refl))
 
 -- sets of numbers of terms are told apart by their terms
-module _ (t : Nodes) (are : AreTables t) where
-  number_has : (ks ls : List ℕ) → are_below (length t.terms) ks ≡ true → are_below (length t.terms) ls ≡ true → SameMembers (terms_of t ks) (terms_of t ls) → (k : ℕ) → Has ks k → Has ls k
+module _ (t : TableParts) (are : AreTables t) where
+  number_has : (ks ls : List ℕ) → are_below (length t.terms) ks ≡ true → are_below (length t.terms) ls ≡ true → SameMembers (terms_of (nodes_in t) ks) (terms_of (nodes_in t) ls) → (k : ℕ) → Has ks k → Has ls k
   number_has ks ls low lower same k h =
       let f = has_map (term_at t) ls (term_at t k) ((same (term_at t k)).0 (map_has (term_at t) ks k h)) in
-      subst (Has ls) (one_number_a_term t are f.0 k (below_has (length t.terms) ls lower f.0 f.1) (below_has (length t.terms) ks low k h) f.2) f.1
+      subst (Has ls) (one_id_a_tree (nodes_in t) are.rules f.0 k (below_has (length t.terms) ls lower f.0 f.1) (below_has (length t.terms) ks low k h) f.2) f.1
 
-  pub same_numbers : (ks ls : List ℕ) → are_below (length t.terms) ks ≡ true → are_below (length t.terms) ls ≡ true → are_ascending ks ≡ true → are_ascending ls ≡ true → SameMembers (terms_of t ks) (terms_of t ls) → ks ≡ ls
+  pub same_numbers : (ks ls : List ℕ) → are_below (length t.terms) ks ≡ true → are_below (length t.terms) ls ≡ true → are_ascending ks ≡ true → are_ascending ls ≡ true → SameMembers (terms_of (nodes_in t) ks) (terms_of (nodes_in t) ls) → ks ≡ ls
   same_numbers ks ls low lower a b same =
       ascending_same ks ls a b (λ k. (number_has ks ls low lower same k, number_has ls ks lower low (λ x. ((same x).1, (same x).0)) k))

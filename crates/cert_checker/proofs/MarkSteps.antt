@@ -2,7 +2,7 @@
 use Rattle.std.proofs.Common.{◌≡◌, ℕ, zero, suc, ◌+◌, ◌-◌, ◌<◌, List, [], ◌∷◌, length, drop, drop-cons, get_or, set, refl, sym, ap, ◌∙◌, arith, Bool, true, false, cond}
 use Rattle.std.proofs.lemmas.Bool.{and_parts, and_from}
 use Rattle.kat_model.proofs.Places.{get_or-set_kept}
-use Rattle.certificate.specs.Nodes.{NumberPair}
+use Rattle.term_nodes.specs.NumberSets.{NumberPair}
 use Rattle.cert_checker.specs.Working.Marks.{are_marked, with_marks, with_pair_marked, round_marked, rounds_marked}
 
 -- ---- what is marked stays so

@@ -10,12 +10,12 @@ use Rattle.kat_model.specs.Pairs.{holds_all, with_pair, round, rounds, sat}
 use Rattle.kat_model.proofs.Lists.{has_left, has_right, has_append}
 use Rattle.kat_model.proofs.SameTrees.{holds_all-true, subset-holds_all}
 use Rattle.kat_model.proofs.Places.{slice_get-set_same, slice_get-set_kept, slice_get-set_cases}
-use Rattle.certificate.specs.Nodes.{NumberPair, are_below}
-use Rattle.certificate.proofs.NodeTrees.{below_has}
-use Rattle.cert_checker.specs.Working.NodeTables.{Nodes, AreTables, IsTerm, term_at}
+use Rattle.term_nodes.specs.NumberSets.{NumberPair, are_below, terms_of, set_pairs_of}
+use Rattle.term_nodes.proofs.Parts.{below_has}
+use Rattle.cert_checker.specs.Working.NodeTables.{TableParts, AreTables, IsTerm, term_at, nodes_in}
 use Rattle.cert_checker.specs.Working.Marks.{ArePairsBelow, are_marked, with_marks, with_pair_marked, round_marked, rounds_marked, saturated_marks}
-use Rattle.cert_checker.specs.Working.Matching.{terms_of, pairs_of, MarksAre}
-use Rattle.cert_checker.proofs.OneNumber.{one_number_a_term}
+use Rattle.cert_checker.specs.Working.Matching.{MarksAre}
+use Rattle.term_nodes.proofs.TermTrees.{one_id_a_tree}
 
 -- ---- one mark more
 
@@ -44,7 +44,7 @@ saturated_length n ps ks = length_rounds (length ps) ps (with_marks (replicate n
 
 -- ---- marks and terms
 
-module _ (t : Nodes) (are : AreTables t) where
+module _ (t : TableParts) (are : AreTables t) where
   -- a number is marked exactly where its term is in the set
   pub marked_number : (marks : List Bool) (es : List Term) → length marks ≡ length t.terms → MarksAre t marks es → (k : ℕ) → IsTerm t k → (get_or marks k false ≡ true) ↔ Has es (term_at t k)
   marked_number marks es l m k h = (
@@ -52,15 +52,15 @@ module _ (t : Nodes) (are : AreTables t) where
     (λ s.
         let found = (m (term_at t k)).1 s in
         let there : found.0 < length t.terms = subst (λ n. found.0 < n) l (slice_get_within marks found.0 true found.1) in
-        let same : found.0 ≡ k = one_number_a_term t are found.0 k there h found.2 in
+        let same : found.0 ≡ k = one_id_a_tree (nodes_in t) are.rules found.0 k there h found.2 in
         subst (λ j. get_or marks j false ≡ true) same (get_or_from_slice_get marks found.0 true false found.1)),
   )
 
   -- so all numbers are exactly where the set holds all their terms
-  pub all_marked : (marks : List Bool) (es : List Term) → length marks ≡ length t.terms → MarksAre t marks es → (ks : List ℕ) → are_below (length t.terms) ks ≡ true → (are_marked marks ks ≡ true) ↔ IsSubset (terms_of t ks) es
+  pub all_marked : (marks : List Bool) (es : List Term) → length marks ≡ length t.terms → MarksAre t marks es → (ks : List ℕ) → are_below (length t.terms) ks ≡ true → (are_marked marks ks ≡ true) ↔ IsSubset (terms_of (nodes_in t) ks) es
   all_marked marks es l m ks below = (to ks below, from ks below)
     where
-      to : (ks : List ℕ) → are_below (length t.terms) ks ≡ true → are_marked marks ks ≡ true → IsSubset (terms_of t ks) es
+      to : (ks : List ℕ) → are_below (length t.terms) ks ≡ true → are_marked marks ks ≡ true → IsSubset (terms_of (nodes_in t) ks) es
       to [] below e x h = absurd h
       to (k ∷ ks) below e x h =
           let parts = and_parts (get_or marks k false) (are_marked marks ks) e in
@@ -69,7 +69,7 @@ module _ (t : Nodes) (are : AreTables t) where
           (λ r. to ks (and_parts _ (are_below (length t.terms) ks) below).1 parts.1 x r)
           h
 
-      from : (ks : List ℕ) → are_below (length t.terms) ks ≡ true → IsSubset (terms_of t ks) es → are_marked marks ks ≡ true
+      from : (ks : List ℕ) → are_below (length t.terms) ks ≡ true → IsSubset (terms_of (nodes_in t) ks) es → are_marked marks ks ≡ true
       from [] below s = refl
       from (k ∷ ks) below s =
           and_from (get_or marks k false) (are_marked marks ks)
@@ -84,7 +84,7 @@ module _ (t : Nodes) (are : AreTables t) where
 
   -- the marks of more numbers stand for a set with their terms
   pub more_marks : (ks : List ℕ) (marks : List Bool) (es fs : List Term) → length marks ≡ length t.terms → are_below (length t.terms) ks ≡ true → MarksAre t marks es
-      → ((e : Term) → Has fs e ↔ (Has es e ⊎ Has (terms_of t ks) e)) → MarksAre t (with_marks marks ks) fs
+      → ((e : Term) → Has fs e ↔ (Has es e ⊎ Has (terms_of (nodes_in t) ks) e)) → MarksAre t (with_marks marks ks) fs
   more_marks [] marks es fs l below m same e = (
     (λ f. (same e).1 (inl ((m e).0 f))),
     (λ h. ⊎_elim (λ x. (m e).1 x) absurd ((same e).0 h)),
@@ -106,42 +106,42 @@ module _ (t : Nodes) (are : AreTables t) where
   same_bool false true f g = g refl
   same_bool false false f g = refl
 
-  same_hold : (marks : List Bool) (es : List Term) → length marks ≡ length t.terms → MarksAre t marks es → (ks : List ℕ) → are_below (length t.terms) ks ≡ true → are_marked marks ks ≡ holds_all es (terms_of t ks)
+  same_hold : (marks : List Bool) (es : List Term) → length marks ≡ length t.terms → MarksAre t marks es → (ks : List ℕ) → are_below (length t.terms) ks ≡ true → are_marked marks ks ≡ holds_all es (terms_of (nodes_in t) ks)
   same_hold marks es l m ks below =
       let both = all_marked marks es l m ks below in
-      same_bool (are_marked marks ks) (holds_all es (terms_of t ks)) (λ e. subset-holds_all es (terms_of t ks) (both.0 e)) (λ e. both.1 (holds_all-true es (terms_of t ks) e))
+      same_bool (are_marked marks ks) (holds_all es (terms_of (nodes_in t) ks)) (λ e. subset-holds_all es (terms_of (nodes_in t) ks) (both.0 e)) (λ e. both.1 (holds_all-true es (terms_of (nodes_in t) ks) e))
 
-  pair_marked : (p : NumberPair) (marks : List Bool) (es : List Term) → length marks ≡ length t.terms → are_below (length t.terms) p.left ≡ true → are_below (length t.terms) p.right ≡ true → MarksAre t marks es → MarksAre t (with_pair_marked marks p) (with_pair es (record { left = terms_of t p.left; right = terms_of t p.right }))
+  pair_marked : (p : NumberPair) (marks : List Bool) (es : List Term) → length marks ≡ length t.terms → are_below (length t.terms) p.left ≡ true → are_below (length t.terms) p.right ≡ true → MarksAre t marks es → MarksAre t (with_pair_marked marks p) (with_pair es (record { left = terms_of (nodes_in t) p.left; right = terms_of (nodes_in t) p.right }))
   pair_marked p marks es l left right m =
       rw (← same_hold marks es l m p.left left, ← same_hold marks es l m p.right right) (go (are_marked marks p.left) (are_marked marks p.right) refl refl)
     where
       ls : List Term
-      ls = terms_of t p.left
+      ls = terms_of (nodes_in t) p.left
 
       rs : List Term
-      rs = terms_of t p.right
+      rs = terms_of (nodes_in t) p.right
 
-      go : (a b : Bool) → are_marked marks p.left ≡ a → are_marked marks p.right ≡ b → MarksAre t (cond a (with_marks marks p.right) (cond b (with_marks marks p.left) marks)) (cond (a || b) (es ++ terms_of t p.left ++ terms_of t p.right) es)
+      go : (a b : Bool) → are_marked marks p.left ≡ a → are_marked marks p.right ≡ b → MarksAre t (cond a (with_marks marks p.right) (cond b (with_marks marks p.left) marks)) (cond (a || b) (es ++ terms_of (nodes_in t) p.left ++ terms_of (nodes_in t) p.right) es)
       go true b e f =
           more_marks p.right marks es _ l right m
           (λ x. (
-            (λ h. ⊎_elim (λ k. inl (⊎_elim (λ z. z) (λ z. (all_marked marks es l m p.left left).0 e x z) (has_append es (terms_of t p.left) x k))) inr (has_append (es ++ terms_of t p.left) (terms_of t p.right) x h)),
-            (λ h. ⊎_elim (λ k. has_left (es ++ terms_of t p.left) (terms_of t p.right) x (has_left es (terms_of t p.left) x k)) (λ k. has_right (es ++ terms_of t p.left) (terms_of t p.right) x k) h),
+            (λ h. ⊎_elim (λ k. inl (⊎_elim (λ z. z) (λ z. (all_marked marks es l m p.left left).0 e x z) (has_append es (terms_of (nodes_in t) p.left) x k))) inr (has_append (es ++ terms_of (nodes_in t) p.left) (terms_of (nodes_in t) p.right) x h)),
+            (λ h. ⊎_elim (λ k. has_left (es ++ terms_of (nodes_in t) p.left) (terms_of (nodes_in t) p.right) x (has_left es (terms_of (nodes_in t) p.left) x k)) (λ k. has_right (es ++ terms_of (nodes_in t) p.left) (terms_of (nodes_in t) p.right) x k) h),
           ))
       go false true e f =
           more_marks p.left marks es _ l left m
           (λ x. (
-            (λ h. ⊎_elim (λ k. has_append es (terms_of t p.left) x k) (λ k. inl ((all_marked marks es l m p.right right).0 f x k)) (has_append (es ++ terms_of t p.left) (terms_of t p.right) x h)),
-            (λ h. has_left (es ++ terms_of t p.left) (terms_of t p.right) x (⊎_elim (λ k. has_left es (terms_of t p.left) x k) (λ k. has_right es (terms_of t p.left) x k) h)),
+            (λ h. ⊎_elim (λ k. has_append es (terms_of (nodes_in t) p.left) x k) (λ k. inl ((all_marked marks es l m p.right right).0 f x k)) (has_append (es ++ terms_of (nodes_in t) p.left) (terms_of (nodes_in t) p.right) x h)),
+            (λ h. has_left (es ++ terms_of (nodes_in t) p.left) (terms_of (nodes_in t) p.right) x (⊎_elim (λ k. has_left es (terms_of (nodes_in t) p.left) x k) (λ k. has_right es (terms_of (nodes_in t) p.left) x k) h)),
           ))
       go false false e f = m
 
-  round_marks : (ps : List NumberPair) (marks : List Bool) (es : List Term) → length marks ≡ length t.terms → ArePairsBelow (length t.terms) ps → MarksAre t marks es → MarksAre t (round_marked ps marks) (round (pairs_of t ps) es)
+  round_marks : (ps : List NumberPair) (marks : List Bool) (es : List Term) → length marks ≡ length t.terms → ArePairsBelow (length t.terms) ps → MarksAre t marks es → MarksAre t (round_marked ps marks) (round (set_pairs_of (nodes_in t) ps) es)
   round_marks [] marks es l below m = m
   round_marks (p ∷ ps) marks es l below m =
       round_marks ps (with_pair_marked marks p) _ (length_with_pair marks p ∙ l) (λ q h. below q (inr h)) (pair_marked p marks es l (below p (inl refl)).0 (below p (inl refl)).1 m)
 
-  rounds_marks : (n : ℕ) (ps : List NumberPair) (marks : List Bool) (es : List Term) → length marks ≡ length t.terms → ArePairsBelow (length t.terms) ps → MarksAre t marks es → MarksAre t (rounds_marked n ps marks) (rounds n (pairs_of t ps) es)
+  rounds_marks : (n : ℕ) (ps : List NumberPair) (marks : List Bool) (es : List Term) → length marks ≡ length t.terms → ArePairsBelow (length t.terms) ps → MarksAre t marks es → MarksAre t (rounds_marked n ps marks) (rounds n (set_pairs_of (nodes_in t) ps) es)
   rounds_marks zero ps marks es l below m = m
   rounds_marks (suc n) ps marks es l below m = rounds_marks n ps (round_marked ps marks) _ (length_round ps marks ∙ l) below (round_marks ps marks es l below m)
 
@@ -151,10 +151,10 @@ module _ (t : Nodes) (are : AreTables t) where
   none_marked (suc n) (suc k) e = none_marked n k e
 
   -- the marks that are computed are those of the saturated set
-  pub saturated_set : (ps : List NumberPair) (ks : List ℕ) → ArePairsBelow (length t.terms) ps → are_below (length t.terms) ks ≡ true → MarksAre t (saturated_marks (length t.terms) ps ks) (sat (pairs_of t ps) (terms_of t ks))
+  pub saturated_set : (ps : List NumberPair) (ks : List ℕ) → ArePairsBelow (length t.terms) ps → are_below (length t.terms) ks ≡ true → MarksAre t (saturated_marks (length t.terms) ps ks) (sat (set_pairs_of (nodes_in t) ps) (terms_of (nodes_in t) ks))
   saturated_set ps ks below low =
-      subst (λ n. MarksAre t (saturated_marks (length t.terms) ps ks) (rounds n (pairs_of t ps) (terms_of t ks))) (sym (length-map ps _))
-      (rounds_marks (length ps) ps (with_marks (replicate (length t.terms) false) ks) (terms_of t ks) (length_with_marks (replicate (length t.terms) false) ks ∙ length-replicate (length t.terms) false) below
-      (more_marks ks (replicate (length t.terms) false) [] (terms_of t ks) (length-replicate (length t.terms) false) low
+      subst (λ n. MarksAre t (saturated_marks (length t.terms) ps ks) (rounds n (set_pairs_of (nodes_in t) ps) (terms_of (nodes_in t) ks))) (sym (length-map ps _))
+      (rounds_marks (length ps) ps (with_marks (replicate (length t.terms) false) ks) (terms_of (nodes_in t) ks) (length_with_marks (replicate (length t.terms) false) ks ∙ length-replicate (length t.terms) false) below
+      (more_marks ks (replicate (length t.terms) false) [] (terms_of (nodes_in t) ks) (length-replicate (length t.terms) false) low
       (λ e. ((λ f. absurd (none_marked (length t.terms) f.0 f.1)), absurd))
       (λ e. (inr, (λ h. ⊎_elim absurd (λ k. k) h)))))

@@ -13,8 +13,8 @@ use Rattle.string_tables.specs.declared.finding.Finding.{Finding}
 use Rattle.string_tables.specs.declared.finding.Finding.TheVariants.{Refutes as FoundRefutes, Shape as FoundShape, HypBroken as FoundHypBroken, EndsAgree as FoundEndsAgree}
 use Rattle.string_tables.proofs.Ends.{not_refuted, refuted_by}
 use Rattle.string_tables.proofs.OneFinding.{one_finding}
-use Rattle.certificate.specs.declared.nodes.TestNode.TheVariants.{Prim}
-use Rattle.certificate.specs.declared.nodes.TermNode.TheVariants.{Act}
+use Rattle.term_nodes.specs.declared.TestNode.TheVariants.{Prim}
+use Rattle.term_nodes.specs.declared.TermNode.TheVariants.{Act}
 use Rattle.certificate.specs.declared.evidence.Evidence.{Evidence}
 use Rattle.certificate.specs.declared.evidence.Evidence.TheVariants.{Equal, Different}
 use Rattle.certificate.specs.Accepted.{IsAccepted, set_pairs, pair_style}

@@ -20,15 +20,15 @@ use Rattle.kat_model.proofs.Lists.{has_any, any_has, has_map, map_has, same_memb
 use Rattle.kat_model.proofs.Saturation.{sat_keeps}
 use Rattle.certificate.specs.declared.nodes.Style.{Style}
 use Rattle.certificate.specs.declared.nodes.Style.TheVariants.{Plain, UpTo}
-use Rattle.certificate.specs.Nodes.{NumberPair, are_ascending}
+use Rattle.term_nodes.specs.NumberSets.{NumberPair, are_ascending, set_pairs_of, terms_of}
 use Rattle.certificate.specs.Accepted.{pair_style}
 use Rattle.cert_checker.specs.declared.known.Known.{Known}
 use Rattle.cert_checker.specs.declared.known.Known.TheVariants.{Value, Waits}
-use Rattle.cert_checker.specs.Working.NodeTables.{Nodes, AreTables, IsTerm, term_at, holds_at}
+use Rattle.cert_checker.specs.Working.NodeTables.{TableParts, AreTables, IsTerm, term_at, holds_at, nodes_in}
 use Rattle.cert_checker.specs.Working.Targets.{chosen, AreEntries}
 use Rattle.cert_checker.specs.Working.Cases.{Extends, AreKnown, HoldsThroughout}
-use Rattle.cert_checker.specs.Working.Matching.{RuleParts, AreRules, MatchAt, pairs_of, known_of, truly, sure_targets, guard_of, is_sure, covers, lists, terms_of, AreSettled}
-use Rattle.cert_checker.proofs.OneNumber.{one_number_a_term}
+use Rattle.cert_checker.specs.Working.Matching.{RuleParts, AreRules, MatchAt, known_of, truly, sure_targets, guard_of, is_sure, covers, lists, AreSettled}
+use Rattle.term_nodes.proofs.TermTrees.{one_id_a_tree}
 use Rattle.cert_checker.proofs.Covering.{chosen_has, has_chosen, known_value, truly_value, sure_chosen, guard_member, any_value}
 use Rattle.cert_checker.proofs.Covered.{sure_below, settled_sure, covered_congruent, congruent_covered}
 use Rattle.cert_checker.proofs.ListedPairs.{same_numbers}
@@ -133,19 +133,19 @@ pointwise_itself (k ∷ ks) = and_from (nat_eq k k) (pointwise nat_eq ks ks) (eq
 
 -- ---- what the tests say
 
-module _ (t : Nodes) (are : AreTables t) (decided : List (Option Bool)) (known : List Known) (ak : AreKnown t decided known) (r : RuleParts) (rules : AreRules t r)
+module _ (t : TableParts) (are : AreTables t) (decided : List (Option Bool)) (known : List Known) (ak : AreKnown t decided known) (r : RuleParts) (rules : AreRules t r)
     (left right : List (ℕ × ℕ)) (own : AreEntries t left) (other : AreEntries t right) where
-  by_plain : r.style ≡ Plain → (atom : Atom) → AreMatched plain (option_map (term_at t) r.universal) (pairs_of t r.pairs) (chosen t left atom) (chosen t right atom) → MatchAt t r left right atom
-  by_plain e atom m = subst (λ (s : Style). AreMatched (pair_style s) (option_map (term_at t) r.universal) (pairs_of t r.pairs) (chosen t left atom) (chosen t right atom)) (sym e) m
+  by_plain : r.style ≡ Plain → (atom : Atom) → AreMatched plain (option_map (term_at t) r.universal) (set_pairs_of (nodes_in t) r.pairs) (chosen t left atom) (chosen t right atom) → MatchAt t r left right atom
+  by_plain e atom m = subst (λ (s : Style). AreMatched (pair_style s) (option_map (term_at t) r.universal) (set_pairs_of (nodes_in t) r.pairs) (chosen t left atom) (chosen t right atom)) (sym e) m
 
-  to_plain : r.style ≡ Plain → (atom : Atom) → MatchAt t r left right atom → AreMatched plain (option_map (term_at t) r.universal) (pairs_of t r.pairs) (chosen t left atom) (chosen t right atom)
-  to_plain e atom m = subst (λ (s : Style). AreMatched (pair_style s) (option_map (term_at t) r.universal) (pairs_of t r.pairs) (chosen t left atom) (chosen t right atom)) e m
+  to_plain : r.style ≡ Plain → (atom : Atom) → MatchAt t r left right atom → AreMatched plain (option_map (term_at t) r.universal) (set_pairs_of (nodes_in t) r.pairs) (chosen t left atom) (chosen t right atom)
+  to_plain e atom m = subst (λ (s : Style). AreMatched (pair_style s) (option_map (term_at t) r.universal) (set_pairs_of (nodes_in t) r.pairs) (chosen t left atom) (chosen t right atom)) e m
 
-  by_up_to : r.style ≡ UpTo → (atom : Atom) → IsCongruent (option_map (term_at t) r.universal) (pairs_of t r.pairs) (chosen t left atom) (chosen t right atom) → MatchAt t r left right atom
-  by_up_to e atom m = subst (λ (s : Style). AreMatched (pair_style s) (option_map (term_at t) r.universal) (pairs_of t r.pairs) (chosen t left atom) (chosen t right atom)) (sym e) m
+  by_up_to : r.style ≡ UpTo → (atom : Atom) → IsCongruent (option_map (term_at t) r.universal) (set_pairs_of (nodes_in t) r.pairs) (chosen t left atom) (chosen t right atom) → MatchAt t r left right atom
+  by_up_to e atom m = subst (λ (s : Style). AreMatched (pair_style s) (option_map (term_at t) r.universal) (set_pairs_of (nodes_in t) r.pairs) (chosen t left atom) (chosen t right atom)) (sym e) m
 
-  to_up_to : r.style ≡ UpTo → (atom : Atom) → MatchAt t r left right atom → IsCongruent (option_map (term_at t) r.universal) (pairs_of t r.pairs) (chosen t left atom) (chosen t right atom)
-  to_up_to e atom m = subst (λ (s : Style). AreMatched (pair_style s) (option_map (term_at t) r.universal) (pairs_of t r.pairs) (chosen t left atom) (chosen t right atom)) e m
+  to_up_to : r.style ≡ UpTo → (atom : Atom) → MatchAt t r left right atom → IsCongruent (option_map (term_at t) r.universal) (set_pairs_of (nodes_in t) r.pairs) (chosen t left atom) (chosen t right atom)
+  to_up_to e atom m = subst (λ (s : Style). AreMatched (pair_style s) (option_map (term_at t) r.universal) (set_pairs_of (nodes_in t) r.pairs) (chosen t left atom) (chosen t right atom)) e m
 
   -- a term that surely is among the targets is chosen
   sure_has : (atom : Atom) → Extends decided atom → (u : ℕ) (es : List (ℕ × ℕ)) → AreEntries t es → is_sure known es u ≡ true → Has (chosen t es atom) (term_at t u)
@@ -172,12 +172,12 @@ module _ (t : Nodes) (are : AreTables t) (decided : List (Option Bool)) (known :
       both : BothUniversal (option_map (term_at t) r.universal) (chosen t left atom) (chosen t right atom)
       both = both_universal atom extends r.universal e
 
-      by_style : (s : Style) → AreMatched (pair_style s) (option_map (term_at t) r.universal) (pairs_of t r.pairs) (chosen t left atom) (chosen t right atom)
+      by_style : (s : Style) → AreMatched (pair_style s) (option_map (term_at t) r.universal) (set_pairs_of (nodes_in t) r.pairs) (chosen t left atom) (chosen t right atom)
       by_style Plain = inr both
-      by_style UpTo = inr (more_universal (option_map (term_at t) r.universal) (pairs_of t r.pairs) (chosen t left atom) (chosen t right atom) both)
+      by_style UpTo = inr (more_universal (option_map (term_at t) r.universal) (set_pairs_of (nodes_in t) r.pairs) (chosen t left atom) (chosen t right atom) both)
 
   -- where all guards are settled, the chosen terms are those that surely are there
-  settled_same : (atom : Atom) → Extends decided atom → (es : List (ℕ × ℕ)) → AreEntries t es → AreSettled known es → SameMembers (chosen t es atom) (terms_of t (sure_targets known es))
+  settled_same : (atom : Atom) → Extends decided atom → (es : List (ℕ × ℕ)) → AreEntries t es → AreSettled known es → SameMembers (chosen t es atom) (terms_of (nodes_in t) (sure_targets known es))
   settled_same atom extends es entries settled x = (settled_sure t are decided known ak r rules atom extends es entries settled x, sure_chosen t decided known ak atom extends es entries x)
 
   module _ (settled : AreSettled known left) (settled_other : AreSettled known right) where
@@ -187,10 +187,10 @@ module _ (t : Nodes) (are : AreTables t) (decided : List (Option Bool)) (known :
         let found = has_any (λ (p : NumberPair). pointwise nat_eq p.left (sure_targets known left) && pointwise nat_eq p.right (sure_targets known right)) r.pairs e in
         let parts = and_parts (pointwise nat_eq found.0.left (sure_targets known left)) (pointwise nat_eq found.0.right (sure_targets known right)) found.2 in
         by_plain plainly atom (inl (record {
-          pair = record { left = terms_of t found.0.left; right = terms_of t found.0.right };
-          listed = map_has (λ (p : NumberPair). record { left = terms_of t p.left; right = terms_of t p.right }) r.pairs found.0 found.1;
-          lefts = subst (λ ks. SameMembers (chosen t left atom) (terms_of t ks)) (sym (same_pointwise found.0.left (sure_targets known left) parts.0)) (settled_same atom extends left own settled);
-          rights = subst (λ ks. SameMembers (chosen t right atom) (terms_of t ks)) (sym (same_pointwise found.0.right (sure_targets known right) parts.1)) (settled_same atom extends right other settled_other);
+          pair = record { left = terms_of (nodes_in t) found.0.left; right = terms_of (nodes_in t) found.0.right };
+          listed = map_has (λ (p : NumberPair). record { left = terms_of (nodes_in t) p.left; right = terms_of (nodes_in t) p.right }) r.pairs found.0 found.1;
+          lefts = subst (λ ks. SameMembers (chosen t left atom) (terms_of (nodes_in t) ks)) (sym (same_pointwise found.0.left (sure_targets known left) parts.0)) (settled_same atom extends left own settled);
+          rights = subst (λ ks. SameMembers (chosen t right atom) (terms_of (nodes_in t) ks)) (sym (same_pointwise found.0.right (sure_targets known right) parts.1)) (settled_same atom extends right other settled_other);
         }))
 
     module _ (sorted : IsStrictlySortedBy nat_cmp (keys_of left)) (sorted_other : IsStrictlySortedBy nat_cmp (keys_of right)) where
@@ -198,7 +198,7 @@ module _ (t : Nodes) (are : AreTables t) (decided : List (Option Bool)) (known :
       chosen_sure : (atom : Atom) → Extends decided atom → (u : ℕ) → IsTerm t u → (es : List (ℕ × ℕ)) → AreEntries t es → AreSettled known es → IsStrictlySortedBy nat_cmp (keys_of es) → Has (chosen t es atom) (term_at t u) → is_sure known es u ≡ true
       chosen_sure atom extends u is_term es entries all_settled keys h =
           let f = has_chosen t es atom (term_at t u) h in
-          let one : f.0.0 ≡ u = one_number_a_term t are f.0.0 u (entries f.0 f.1).0 is_term f.3 in
+          let one : f.0.0 ≡ u = one_id_a_tree (nodes_in t) are.rules f.0.0 u (entries f.0 f.1).0 is_term f.3 in
           let s = all_settled f.0 f.1 in
           let value : holds_at t f.0.1 atom ≡ s.0 = known_value t decided known ak atom extends f.0.1 s.0 (entries f.0 f.1).1 s.1 in
           let sure : known_of known f.0.1 ≡ Value true = s.1 ∙ ap Value (sym value ∙ f.2) in
@@ -212,19 +212,19 @@ module _ (t : Nodes) (are : AreTables t) (decided : List (Option Bool)) (known :
           (chosen_sure atom extends u (within u refl) left own settled sorted h.0)
           (chosen_sure atom extends u (within u refl) right other settled_other sorted_other h.1)
 
-      listed_found : (atom : Atom) → Extends decided atom → IsListed (pairs_of t r.pairs) (chosen t left atom) (chosen t right atom) → lists r.pairs (sure_targets known left) (sure_targets known right) ≡ true
+      listed_found : (atom : Atom) → Extends decided atom → IsListed (set_pairs_of (nodes_in t) r.pairs) (chosen t left atom) (chosen t right atom) → lists r.pairs (sure_targets known left) (sure_targets known right) ≡ true
       listed_found atom extends h =
-          let f = has_map (λ (p : NumberPair). record { left = terms_of t p.left; right = terms_of t p.right }) r.pairs h.pair h.listed in
+          let f = has_map (λ (p : NumberPair). record { left = terms_of (nodes_in t) p.left; right = terms_of (nodes_in t) p.right }) r.pairs h.pair h.listed in
           let numbers = rules.pairs f.0 f.1 in
           let lefts : f.0.left ≡ sure_targets known left =
           same_numbers t are f.0.left (sure_targets known left) numbers.0.there (sure_below t known left own) numbers.0.ascending (sure_ascending known left sorted)
-          (same_members_trans (terms_of t f.0.left) (chosen t left atom) (terms_of t (sure_targets known left))
-          (same_members_sym (chosen t left atom) (terms_of t f.0.left) (subst (λ (p : SetPair). SameMembers (chosen t left atom) p.left) (sym f.2) h.lefts))
+          (same_members_trans (terms_of (nodes_in t) f.0.left) (chosen t left atom) (terms_of (nodes_in t) (sure_targets known left))
+          (same_members_sym (chosen t left atom) (terms_of (nodes_in t) f.0.left) (subst (λ (p : SetPair). SameMembers (chosen t left atom) p.left) (sym f.2) h.lefts))
           (settled_same atom extends left own settled)) in
           let rights : f.0.right ≡ sure_targets known right =
           same_numbers t are f.0.right (sure_targets known right) numbers.1.there (sure_below t known right other) numbers.1.ascending (sure_ascending known right sorted_other)
-          (same_members_trans (terms_of t f.0.right) (chosen t right atom) (terms_of t (sure_targets known right))
-          (same_members_sym (chosen t right atom) (terms_of t f.0.right) (subst (λ (p : SetPair). SameMembers (chosen t right atom) p.right) (sym f.2) h.rights))
+          (same_members_trans (terms_of (nodes_in t) f.0.right) (chosen t right atom) (terms_of (nodes_in t) (sure_targets known right))
+          (same_members_sym (chosen t right atom) (terms_of (nodes_in t) f.0.right) (subst (λ (p : SetPair). SameMembers (chosen t right atom) p.right) (sym f.2) h.rights))
           (settled_same atom extends right other settled_other)) in
           any_has (λ (p : NumberPair). pointwise nat_eq p.left (sure_targets known left) && pointwise nat_eq p.right (sure_targets known right)) r.pairs f.0 f.1
           (and_from (pointwise nat_eq f.0.left (sure_targets known left)) _

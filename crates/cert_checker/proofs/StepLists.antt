@@ -7,22 +7,20 @@ use Rattle.kat_model.specs.Trees.{Term, one, act, sum, product, star}
 use Rattle.kat_model.specs.Members.{Has, SameMembers}
 use Rattle.kat_model.specs.Steps.{Atom, dot, out, next, set_next}
 use Rattle.kat_model.proofs.Lists.{same_members_trans}
-use Rattle.kat_model.proofs.Places.{has_at, slice_get_last}
-use Rattle.certificate.specs.declared.nodes.TermNode.{TermNode}
-use Rattle.certificate.specs.declared.nodes.TermNode.TheVariants.{Zero, One, Test}
-use Rattle.certificate.specs.Nodes.{tests_of_term, are_below}
-use Rattle.cert_checker.specs.Working.NodeTables.{Nodes, AreTables, Grows, IsTest, IsTerm, term_at, term_tree_in, holds_at}
+use Rattle.kat_model.proofs.Places.{slice_get_last}
+use Rattle.term_nodes.specs.declared.TermNode.{TermNode}
+use Rattle.term_nodes.specs.declared.TermNode.TheVariants.{Zero, One, Test}
+use Rattle.term_nodes.specs.NumberSets.{are_below, terms_of}
+use Rattle.term_nodes.specs.NodeTrees.{tree_in}
+use Rattle.cert_checker.specs.Working.NodeTables.{TableParts, AreTables, TablesGrow, IsTest, IsTerm, term_at, nodes_in, holds_at}
 use Rattle.cert_checker.specs.Working.Targets.{chosen, AreEntries, StandFor, AreAcceptances, AreSteps}
-use Rattle.cert_checker.specs.Working.Matching.{terms_of}
-use Rattle.cert_checker.proofs.TableTrees.{term_of_node, term_kept}
+use Rattle.term_nodes.proofs.TermTrees.{tree_at-node}
 use Rattle.cert_checker.proofs.TargetSets.{holds_kept, test_within, chosen_kept}
 use Rattle.cert_checker.proofs.StepSets.{append_same, acceptances_kept, steps_kept, stand_same, sum_same, star_same, product_same}
-use Rattle.cert_checker.proofs.AddingTargets.{grows_trans, gathered}
+use Rattle.cert_checker.proofs.GrowingTables.{grows_trans}
+use Rattle.cert_checker.proofs.AddingTargets.{gathered}
 
--- ---- the numbers of a node
-
-pub node_tests : (t : Nodes) → AreTables t → (k : ℕ) (n : TermNode) → slice_get t.terms k ≡ Some n → are_below (length t.tests) (tests_of_term n) ≡ true
-node_tests t are k n h = are.rules.tests_of_terms n (has_at t.terms k n h)
+-- ---- the numbers of a list
 
 pub below_at : (n : ℕ) (ks : List ℕ) (i d : ℕ) → are_below n ks ≡ true → i < length ks → get_or ks i d < n
 below_at n [] i d e h = absurd (omega (arith, h))
@@ -31,8 +29,8 @@ below_at n (k ∷ ks) (suc i) d e h = below_at n ks i d (and_parts (nat_lt k n) 
 
 -- ---- one more of each list
 
-module _ (t new : Nodes) (are : AreTables t) (grows : Grows t new) where
-  pub acceptances_more : (guards : List ℕ) (g : ℕ) (n : TermNode) → AreAcceptances t guards → slice_get t.terms (length guards) ≡ Some n → IsTest new g → ((atom : Atom) → holds_at new g atom ≡ out (term_tree_in t n) atom) → AreAcceptances new (guards ++ g ∷ [])
+module _ (t new : TableParts) (are : AreTables t) (grows : TablesGrow t new) where
+  pub acceptances_more : (guards : List ℕ) (g : ℕ) (n : TermNode ℕ ℕ) → AreAcceptances t guards → slice_get t.terms (length guards) ≡ Some n → IsTest new g → ((atom : Atom) → holds_at new g atom ≡ out (tree_in (nodes_in t) n) atom) → AreAcceptances new (guards ++ g ∷ [])
   acceptances_more guards g n was is test value k h e =
       ⊎_elim
       (λ old. acceptances_kept t new are grows guards within was k h old)
@@ -42,9 +40,9 @@ module _ (t new : Nodes) (are : AreTables t) (grows : Grows t new) where
       within : (k h : ℕ) → slice_get guards k ≡ Some h → IsTerm t k
       within k h e = let low : k < length guards = slice_get_within guards k h e in let all : length guards < length t.terms = slice_get_within t.terms (length guards) n is in omega (arith, low, all)
 
-      name : (k : ℕ) → k ≡ length guards → term_tree_in t n ≡ term_at new k
+      name : (k : ℕ) → k ≡ length guards → tree_in (nodes_in t) n ≡ term_at new k
       name k e =
-          sym (term_of_node t are (length guards) n is) ∙ sym (term_kept t new are grows (length guards) (slice_get_within t.terms (length guards) n is)) ∙ ap (term_at new) (sym e)
+          sym (tree_at-node (nodes_in t) are.rules (length guards) n is) ∙ sym (grows.nodes.trees (length guards) (slice_get_within t.terms (length guards) n is)) ∙ ap (term_at new) (sym e)
 
   pub steps_more : (a : ℕ) (steps : List (List (ℕ × ℕ))) (es : List (ℕ × ℕ)) → AreSteps t a steps → length steps < length t.terms → StandFor new es (λ atom. next (term_at t (length steps)) atom a) → AreSteps new a (steps ++ es ∷ [])
   steps_more a steps es was low stands k fs e =
@@ -52,7 +50,7 @@ module _ (t new : Nodes) (are : AreTables t) (grows : Grows t new) where
       (λ old. steps_kept t new are grows a steps within was k fs old)
       (λ last.
       subst (λ l. StandFor new l (λ atom. next (term_at new k) atom a)) last.1
-      (subst (λ j. StandFor new es (λ atom. next j atom a)) (sym (term_kept t new are grows (length steps) low) ∙ ap (term_at new) (sym last.0)) stands))
+      (subst (λ j. StandFor new es (λ atom. next j atom a)) (sym (grows.nodes.trees (length steps) low) ∙ ap (term_at new) (sym last.0)) stands))
       (slice_get_last steps es k fs e)
     where
       within : (k : ℕ) (fs : List (ℕ × ℕ)) → slice_get steps k ≡ Some fs → IsTerm t k
@@ -67,18 +65,18 @@ module _ (t new : Nodes) (are : AreTables t) (grows : Grows t new) where
 -- ---- the targets of a set
 
 -- the targets of some members were gathered, and the rest of them is left
-pub record IsGathering (first now : Nodes) (a always : ℕ) (targets : List (ℕ × ℕ)) (rest all : List ℕ) : Type 0 where
+pub record IsGathering (first now : TableParts) (a always : ℕ) (targets : List (ℕ × ℕ)) (rest all : List ℕ) : Type 0 where
   pub tables : AreTables now
-  pub grows : Grows first now
+  pub grows : TablesGrow first now
   pub terms : now.terms ≡ first.terms
   pub was : AreTables first
   pub test : IsTest now always
   pub sure : (atom : Atom) → holds_at now always atom ≡ true
   pub entries : AreEntries now targets
-  pub same : (atom : Atom) → SameMembers (chosen now targets atom ++ set_next (terms_of first rest) atom a) (set_next (terms_of first all) atom a)
+  pub same : (atom : Atom) → SameMembers (chosen now targets atom ++ set_next (terms_of (nodes_in first) rest) atom a) (set_next (terms_of (nodes_in first) all) atom a)
 
-module _ (first now last : Nodes) (a always : ℕ) (targets new : List (ℕ × ℕ)) (rest all : List ℕ) (k : ℕ) (es : List (ℕ × ℕ)) where
-  pub gathering_more : IsGathering first now a always targets (k ∷ rest) all → StandFor first es (λ atom. next (term_at first k) atom a) → AreTables last → Grows now last → last.terms ≡ now.terms
+module _ (first now last : TableParts) (a always : ℕ) (targets new : List (ℕ × ℕ)) (rest all : List ℕ) (k : ℕ) (es : List (ℕ × ℕ)) where
+  pub gathering_more : IsGathering first now a always targets (k ∷ rest) all → StandFor first es (λ atom. next (term_at first k) atom a) → AreTables last → TablesGrow now last → last.terms ≡ now.terms
       → StandFor last new (λ atom. chosen now targets atom ++ cond (holds_at now always atom) (chosen now es atom) []) → IsGathering first last a always new rest all
   gathering_more g step are to_last last_terms stands = record {
     tables = are;
@@ -88,7 +86,7 @@ module _ (first now last : Nodes) (a always : ℕ) (targets new : List (ℕ × �
     test = test_within now last g.tables to_last always g.test;
     sure = λ atom. holds_kept now last g.tables to_last always atom g.test ∙ g.sure atom;
     entries = stands.entries;
-    same = λ atom. same_members_trans (chosen last new atom ++ set_next (terms_of first rest) atom a) (chosen now targets atom ++ set_next (terms_of first (k ∷ rest)) atom a) (set_next (terms_of first all) atom a) (gain atom) (g.same atom);
+    same = λ atom. same_members_trans (chosen last new atom ++ set_next (terms_of (nodes_in first) rest) atom a) (chosen now targets atom ++ set_next (terms_of (nodes_in first) (k ∷ rest)) atom a) (set_next (terms_of (nodes_in first) all) atom a) (gain atom) (g.same atom);
   }
     where
       more : StandFor last new (λ atom. chosen now targets atom ++ chosen first es atom)
@@ -101,15 +99,15 @@ module _ (first now last : Nodes) (a always : ℕ) (targets new : List (ℕ × �
       told atom = same_members_trans (chosen last new atom) (chosen now targets atom ++ chosen first es atom) (chosen now targets atom ++ next (term_at first k) atom a) (more.same atom)
           (append_same (chosen now targets atom) (chosen now targets atom) (chosen first es atom) (next (term_at first k) atom a) (itself (chosen now targets atom)) (step.same atom))
 
-      gain : (atom : Atom) → SameMembers (chosen last new atom ++ set_next (terms_of first rest) atom a) (chosen now targets atom ++ (next (term_at first k) atom a ++ set_next (terms_of first rest) atom a))
+      gain : (atom : Atom) → SameMembers (chosen last new atom ++ set_next (terms_of (nodes_in first) rest) atom a) (chosen now targets atom ++ (next (term_at first k) atom a ++ set_next (terms_of (nodes_in first) rest) atom a))
       gain atom =
-          subst (SameMembers (chosen last new atom ++ set_next (terms_of first rest) atom a)) (append_assoc (chosen now targets atom) (next (term_at first k) atom a) (set_next (terms_of first rest) atom a))
-          (append_same (chosen last new atom) (chosen now targets atom ++ next (term_at first k) atom a) (set_next (terms_of first rest) atom a) (set_next (terms_of first rest) atom a) (told atom) (itself (set_next (terms_of first rest) atom a)))
+          subst (SameMembers (chosen last new atom ++ set_next (terms_of (nodes_in first) rest) atom a)) (append_assoc (chosen now targets atom) (next (term_at first k) atom a) (set_next (terms_of (nodes_in first) rest) atom a))
+          (append_same (chosen last new atom) (chosen now targets atom ++ next (term_at first k) atom a) (set_next (terms_of (nodes_in first) rest) atom a) (set_next (terms_of (nodes_in first) rest) atom a) (told atom) (itself (set_next (terms_of (nodes_in first) rest) atom a)))
 
-pub gathering_ends : (first now : Nodes) (a always : ℕ) (targets : List (ℕ × ℕ)) (rest all : List ℕ) → rest ≡ [] → IsGathering first now a always targets rest all → StandFor now targets (λ atom. set_next (terms_of first all) atom a)
+pub gathering_ends : (first now : TableParts) (a always : ℕ) (targets : List (ℕ × ℕ)) (rest all : List ℕ) → rest ≡ [] → IsGathering first now a always targets rest all → StandFor now targets (λ atom. set_next (terms_of (nodes_in first) all) atom a)
 gathering_ends first now a always targets [] all e g = record {
   entries = g.entries;
-  same = λ atom. subst (λ l. SameMembers l (set_next (terms_of first all) atom a)) (append-nil (chosen now targets atom)) (g.same atom);
+  same = λ atom. subst (λ l. SameMembers l (set_next (terms_of (nodes_in first) all) atom a)) (append-nil (chosen now targets atom)) (g.same atom);
 }
 gathering_ends first now a always targets (k ∷ rest) all e g = absurd cc
 
@@ -118,18 +116,18 @@ gathering_ends first now a always targets (k ∷ rest) all e g = absurd cc
 pub read_map : {X Y : Type 0} (v : X → Y) (xs : List X) (i : ℕ) (x : X) → i < length xs → x ≡ get_or xs i x → slice_get (map v xs) i ≡ Some (v x)
 read_map v xs i x low is = slice_get-map v xs i ∙ ap (option_map v) (slice_get_read xs (length xs) i x refl low is)
 
-pub accept_at : (t : Nodes) (guards : List ℕ) (k : ℕ) → AreAcceptances t guards → k < length guards → IsTest t (get_or guards k 0) × ((atom : Atom) → holds_at t (get_or guards k 0) atom ≡ out (term_at t k) atom)
+pub accept_at : (t : TableParts) (guards : List ℕ) (k : ℕ) → AreAcceptances t guards → k < length guards → IsTest t (get_or guards k 0) × ((atom : Atom) → holds_at t (get_or guards k 0) atom ≡ out (term_at t k) atom)
 accept_at t guards k are low = are k (get_or guards k 0) (slice_get-get_or guards k 0 low)
 
 -- ---- the targets of a node
 
-pub nothing_stands : (t : Nodes) (es : List (ℕ × ℕ)) (f : Atom → List Term) → es ≡ [] → ((atom : Atom) → f atom ≡ []) → StandFor t es f
+pub nothing_stands : (t : TableParts) (es : List (ℕ × ℕ)) (f : Atom → List Term) → es ≡ [] → ((atom : Atom) → f atom ≡ []) → StandFor t es f
 nothing_stands t es f none nothing = record {
   entries = λ e h. absurd (subst (λ l. Has l e) none h);
   same = λ atom. subst (λ (l : List (ℕ × ℕ)). SameMembers (chosen t l atom) (f atom)) (sym none) (subst (SameMembers []) (sym (nothing atom)) (λ x. ((λ h. h), (λ h. h))));
 }
 
-pub act_stands : (t : Nodes) (es : List (ℕ × ℕ)) (b a : ℕ) → b ≡ a → StandFor t es (λ atom. one ∷ []) → StandFor t es (λ atom. next (act b) atom a)
+pub act_stands : (t : TableParts) (es : List (ℕ × ℕ)) (b a : ℕ) → b ≡ a → StandFor t es (λ atom. one ∷ []) → StandFor t es (λ atom. next (act b) atom a)
 act_stands t es b a e s = stand_same t es (λ atom. one ∷ []) (λ atom. next (act b) atom a) s (λ atom. subst (SameMembers (one ∷ [])) (sym (taken atom)) (λ x. ((λ h. h), (λ h. h))))
   where
     taken : (atom : Atom) → next (act b) atom a ≡ one ∷ []
@@ -138,19 +136,19 @@ act_stands t es b a e s = stand_same t es (λ atom. one ∷ []) (λ atom. next (
 pub not_taken : (b a : ℕ) → (b ≡ a → ⊥) → (atom : Atom) → next (act b) atom a ≡ []
 not_taken b a e atom = rw (ne_eqb a b (λ s. e (sym s))) refl
 
-pub sum_stands : (t new : Nodes) (x y a : ℕ) (left right es : List (ℕ × ℕ)) → StandFor t left (λ atom. next (term_at t x) atom a) → StandFor t right (λ atom. next (term_at t y) atom a) → StandFor new es (λ atom. chosen t left atom ++ chosen t right atom) → StandFor new es (λ atom. next (sum (term_at t x) (term_at t y)) atom a)
+pub sum_stands : (t new : TableParts) (x y a : ℕ) (left right es : List (ℕ × ℕ)) → StandFor t left (λ atom. next (term_at t x) atom a) → StandFor t right (λ atom. next (term_at t y) atom a) → StandFor new es (λ atom. chosen t left atom ++ chosen t right atom) → StandFor new es (λ atom. next (sum (term_at t x) (term_at t y)) atom a)
 sum_stands t new x y a left right es first second s =
     stand_same new es (λ atom. chosen t left atom ++ chosen t right atom) (λ atom. next (sum (term_at t x) (term_at t y)) atom a) s
     (λ atom. sum_same (term_at t x) (term_at t y) atom a (chosen t left atom) (chosen t right atom) (first.same atom) (second.same atom))
 
-pub star_stands : (t new : Nodes) (x k a : ℕ) (first es : List (ℕ × ℕ)) → term_at t k ≡ star (term_at t x) → StandFor t first (λ atom. next (term_at t x) atom a) → StandFor new es (λ atom. map (λ x. dot x (term_at t k)) (chosen t first atom)) → StandFor new es (λ atom. next (term_at t k) atom a)
+pub star_stands : (t new : TableParts) (x k a : ℕ) (first es : List (ℕ × ℕ)) → term_at t k ≡ star (term_at t x) → StandFor t first (λ atom. next (term_at t x) atom a) → StandFor new es (λ atom. map (λ x. dot x (term_at t k)) (chosen t first atom)) → StandFor new es (λ atom. next (term_at t k) atom a)
 star_stands t new x k a first es tree step s =
     subst (λ e. StandFor new es (λ atom. next e atom a)) (sym tree)
     (stand_same new es (λ atom. map (λ y. dot y (star (term_at t x))) (chosen t first atom)) (λ atom. next (star (term_at t x)) atom a)
     (subst (λ e. StandFor new es (λ atom. map (λ y. dot y e) (chosen t first atom))) tree s)
     (λ atom. star_same (term_at t x) atom a (chosen t first atom) (step.same atom)))
 
-pub product_stands : (t mid new : Nodes) (x y a guard : ℕ) (left right begun es : List (ℕ × ℕ)) → AreTables t → Grows t mid → StandFor t left (λ atom. next (term_at t x) atom a) → StandFor t right (λ atom. next (term_at t y) atom a)
+pub product_stands : (t mid new : TableParts) (x y a guard : ℕ) (left right begun es : List (ℕ × ℕ)) → AreTables t → TablesGrow t mid → StandFor t left (λ atom. next (term_at t x) atom a) → StandFor t right (λ atom. next (term_at t y) atom a)
     → IsTest t guard → ((atom : Atom) → holds_at t guard atom ≡ out (term_at t x) atom)
     → StandFor mid begun (λ atom. map (λ z. dot z (term_at t y)) (chosen t left atom)) → StandFor new es (λ atom. chosen mid begun atom ++ cond (holds_at mid guard atom) (chosen mid right atom) [])
     → StandFor new es (λ atom. next (product (term_at t x) (term_at t y)) atom a)
@@ -163,12 +161,12 @@ product_stands t mid new x y a guard left right begun es are grows first second 
     (holds_kept t mid are grows guard atom test ∙ accepts atom)))
 
 -- no step leads from these nodes
-pub still : (t : Nodes) (n : TermNode) (atom : Atom) (a : ℕ) → (n ≡ Zero) ⊎ ((n ≡ One) ⊎ ((x : ℕ) × (n ≡ Test x))) → next (term_tree_in t n) atom a ≡ []
+pub still : (t : TableParts) (n : TermNode ℕ ℕ) (atom : Atom) (a : ℕ) → (n ≡ Zero) ⊎ ((n ≡ One) ⊎ ((x : ℕ) × (n ≡ Test x))) → next (tree_in (nodes_in t) n) atom a ≡ []
 still t n atom a h =
     ⊎_elim
-    (λ e. ap (λ m. next (term_tree_in t m) atom a) e)
-    (λ r. ⊎_elim (λ e. ap (λ m. next (term_tree_in t m) atom a) e) (λ x. ap (λ m. next (term_tree_in t m) atom a) x.1) r)
+    (λ e. ap (λ m. next (tree_in (nodes_in t) m) atom a) e)
+    (λ r. ⊎_elim (λ e. ap (λ m. next (tree_in (nodes_in t) m) atom a) e) (λ x. ap (λ m. next (tree_in (nodes_in t) m) atom a) x.1) r)
     h
 
-pub grows_longer : (old new : Nodes) → Grows old new → length old.terms ≤ length new.terms
-grows_longer old new grows = rw grows.terms.1 (omega (arith, length-append old.terms grows.terms.0))
+pub grows_longer : (old new : TableParts) → TablesGrow old new → length old.terms ≤ length new.terms
+grows_longer old new grows = rw grows.nodes.terms.1 (omega (arith, length-append old.terms grows.nodes.terms.0))

@@ -4,19 +4,18 @@ use Rattle.kat_model.specs.Trees.{Term, sum, product, star}
 use Rattle.kat_model.specs.Members.{Has, SameMembers}
 use Rattle.kat_model.specs.Steps.{Atom, out, next, dot}
 use Rattle.kat_model.proofs.Lists.{has_map, map_has, has_append, has_left, has_right}
-use Rattle.cert_checker.specs.Working.NodeTables.{Nodes, AreTables, Grows, IsTerm, term_at}
+use Rattle.cert_checker.specs.Working.NodeTables.{TableParts, AreTables, TablesGrow, IsTerm, term_at}
 use Rattle.cert_checker.specs.Working.Targets.{StandFor, AreAcceptances, AreSteps}
-use Rattle.cert_checker.proofs.TableTrees.{term_kept}
 use Rattle.cert_checker.proofs.TargetSets.{test_within, holds_kept, entries_kept, chosen_kept}
 
 -- lists with the same members stand for one another
-pub stand_same : (t : Nodes) (es : List (ℕ × ℕ)) (f g : Atom → List Term) → StandFor t es f → ((atom : Atom) → SameMembers (f atom) (g atom)) → StandFor t es g
+pub stand_same : (t : TableParts) (es : List (ℕ × ℕ)) (f g : Atom → List Term) → StandFor t es f → ((atom : Atom) → SameMembers (f atom) (g atom)) → StandFor t es g
 stand_same t es f g s same = record {
   entries = s.entries;
   same = λ atom x. ((λ h. (same atom x).0 ((s.same atom x).0 h)), (λ h. (s.same atom x).1 ((same atom x).1 h)));
 }
 
-module _ (old new : Nodes) (are : AreTables old) (grows : Grows old new) where
+module _ (old new : TableParts) (are : AreTables old) (grows : TablesGrow old new) where
   pub stand_kept : (es : List (ℕ × ℕ)) (f : Atom → List Term) → StandFor old es f → StandFor new es f
   stand_kept es f s = record {
     entries = entries_kept old new are grows es s.entries;
@@ -27,13 +26,13 @@ module _ (old new : Nodes) (are : AreTables old) (grows : Grows old new) where
   acceptances_kept guards within h k g e =
       let was = h k g e in (
         test_within old new are grows g was.0,
-        (λ atom. holds_kept old new are grows g atom was.0 ∙ was.1 atom ∙ ap (λ x. out x atom) (sym (term_kept old new are grows k (within k g e)))),
+        (λ atom. holds_kept old new are grows g atom was.0 ∙ was.1 atom ∙ ap (λ x. out x atom) (sym (grows.nodes.trees k (within k g e)))),
       )
 
   pub steps_kept : (a : ℕ) (steps : List (List (ℕ × ℕ))) → ((k : ℕ) (es : List (ℕ × ℕ)) → slice_get steps k ≡ Some es → IsTerm old k) → AreSteps old a steps → AreSteps new a steps
   steps_kept a steps within h k es e =
       stand_same new es (λ atom. next (term_at old k) atom a) (λ atom. next (term_at new k) atom a) (stand_kept es (λ atom. next (term_at old k) atom a) (h k es e))
-      (λ atom. subst (λ x. SameMembers (next (term_at old k) atom a) (next x atom a)) (sym (term_kept old new are grows k (within k es e))) (λ x. ((λ m. m), (λ m. m))))
+      (λ atom. subst (λ x. SameMembers (next (term_at old k) atom a) (next x atom a)) (sym (grows.nodes.trees k (within k es e))) (λ x. ((λ m. m), (λ m. m))))
 
 -- ---- what is left of a product
 

@@ -12,23 +12,23 @@ use Rattle.kat_model.specs.Trees.{Term}
 use Rattle.kat_model.specs.Members.{Has}
 use Rattle.kat_model.specs.Steps.{Atom, truth}
 use Rattle.kat_model.proofs.Lists.{has_left, has_right, has_append}
-use Rattle.cert_checker.specs.Working.NodeTables.{Nodes, AreTables, Grows, IsTest, IsTerm, term_at, holds_at}
+use Rattle.cert_checker.specs.Working.NodeTables.{TableParts, AreTables, TablesGrow, IsTest, IsTerm, term_at, holds_at}
 use Rattle.cert_checker.specs.Working.Targets.{chosen, AreEntries, StandFor}
 use Rattle.cert_checker.specs.Working.Matching.{guard_of}
-use Rattle.cert_checker.proofs.TableTrees.{test_kept, term_kept, front_within}
+use Rattle.term_nodes.proofs.Prefixes.{IsPrefix-within}
 use Rattle.cert_checker.proofs.Covering.{chosen_has, has_chosen, guard_member, any_value}
 
 -- ---- growing tables
 
-module _ (old new : Nodes) (are : AreTables old) (grows : Grows old new) where
+module _ (old new : TableParts) (are : AreTables old) (grows : TablesGrow old new) where
   pub test_within : (k : ℕ) → IsTest old k → IsTest new k
-  test_within k h = front_within old.tests new.tests k grows.tests h
+  test_within k h = IsPrefix-within old.tests new.tests k grows.nodes.tests h
 
   pub term_within : (k : ℕ) → IsTerm old k → IsTerm new k
-  term_within k h = front_within old.terms new.terms k grows.terms h
+  term_within k h = IsPrefix-within old.terms new.terms k grows.nodes.terms h
 
   pub holds_kept : (k : ℕ) (atom : Atom) → IsTest old k → holds_at new k atom ≡ holds_at old k atom
-  holds_kept k atom h = ap (λ b. truth b atom) (test_kept old new grows k h)
+  holds_kept k atom h = ap (λ b. truth b atom) (grows.nodes.test_trees k h)
 
   pub entries_kept : (es : List (ℕ × ℕ)) → AreEntries old es → AreEntries new es
   entries_kept es own e h = (term_within e.0 (own e h).0, test_within e.1 (own e h).1)
@@ -37,7 +37,7 @@ module _ (old new : Nodes) (are : AreTables old) (grows : Grows old new) where
   chosen_kept [] atom own = refl
   chosen_kept (e ∷ es) atom own =
       ap₂ (λ l m. l ++ m)
-      (ap₂ (λ (b : Bool) (x : Term). cond b (x ∷ []) []) (holds_kept e.1 atom (own e (inl refl)).1) (term_kept old new are grows e.0 (own e (inl refl)).0))
+      (ap₂ (λ (b : Bool) (x : Term). cond b (x ∷ []) []) (holds_kept e.1 atom (own e (inl refl)).1) (grows.nodes.trees e.0 (own e (inl refl)).0))
       (chosen_kept es atom (λ d m. own d (inr m)))
 
 -- ---- one target more
@@ -79,7 +79,7 @@ module _ (k g : ℕ) where
           (λ r. ⊎_elim (λ q. inl (inr q)) (λ q. inr (q.0, rw s q.1)) (rest r))
           m
 
-module _ (old new : Nodes) (are : AreTables old) (grows : Grows old new) (es : List (ℕ × ℕ)) (own : AreEntries old es)
+module _ (old new : TableParts) (are : AreTables old) (grows : TablesGrow old new) (es : List (ℕ × ℕ)) (own : AreEntries old es)
     (k guard joined : ℕ) (is_term : IsTerm old k) (is_test : IsTest new joined)
     (value : (atom : Atom) → holds_at new joined atom ≡ (option_map_or (λ o. holds_at old o atom) (guard_of es k) false || holds_at old guard atom)) where
   -- the list with the target added stands for the terms before and this one
@@ -94,7 +94,7 @@ module _ (old new : Nodes) (are : AreTables old) (grows : Grows old new) (es : L
           (insert_only k joined es e h)
 
       name : term_at new k ≡ term_at old k
-      name = term_kept old new are grows k is_term
+      name = grows.nodes.trees k is_term
 
       right : (atom : Atom) (x : Term) → holds_at old guard atom ≡ true → term_at old k ≡ x → Has (cond (holds_at old guard atom) (term_at old k ∷ []) []) x
       right atom x h s = rw h (inl s)
@@ -114,7 +114,7 @@ module _ (old new : Nodes) (are : AreTables old) (grows : Grows old new) (es : L
           (or_cases (option_map_or (λ o. holds_at old o atom) (guard_of es k) false) (holds_at old guard atom) both))
           (λ m.
           let true_here : holds_at old f.0.1 atom ≡ true = sym (holds_kept old new are grows f.0.1 atom (own f.0 m).1) ∙ f.2 in
-          let there : term_at old f.0.0 ≡ x = sym (term_kept old new are grows f.0.0 (own f.0 m).0) ∙ f.3 in
+          let there : term_at old f.0.0 ≡ x = sym (grows.nodes.trees f.0.0 (own f.0 m).0) ∙ f.3 in
           has_left (chosen old es atom) _ x (subst (Has (chosen old es atom)) there (chosen_has old es atom f.0 m true_here)))
           (insert_only k joined es f.0 f.1)
 
@@ -131,7 +131,7 @@ module _ (old new : Nodes) (are : AreTables old) (grows : Grows old new) (es : L
           let f = has_chosen old es atom x l in
           ⊎_elim
           (λ m.
-          subst (Has (chosen new (insert_entry nat_cmp es k joined) atom)) (term_kept old new are grows f.0.0 (own f.0 f.1).0 ∙ f.3)
+          subst (Has (chosen new (insert_entry nat_cmp es k joined) atom)) (grows.nodes.trees f.0.0 (own f.0 f.1).0 ∙ f.3)
           (chosen_has new (insert_entry nat_cmp es k joined) atom f.0 m (holds_kept old new are grows f.0.1 atom (own f.0 f.1).1 ∙ f.2)))
           (λ s.
           let was : option_map_or (λ o. holds_at old o atom) (guard_of es k) false ≡ true = ap (λ g. option_map_or (λ o. holds_at old o atom) g false) s.1 ∙ f.2 in

@@ -8,8 +8,8 @@ use Rattle.string_tables.specs.Tables.{Refutes}
 use Rattle.string_tables.specs.Findings.{IsFinding}
 use Rattle.string_tables.specs.declared.finding.Finding.{Finding}
 use Rattle.string_tables.specs.declared.finding.Finding.TheVariants.{Refutes as FoundRefutes, Shape as FoundShape, HypBroken as FoundHypBroken, EndsAgree as FoundEndsAgree}
-use Rattle.certificate.specs.declared.nodes.TestNode.TheVariants.{Prim}
-use Rattle.certificate.specs.declared.nodes.TermNode.TheVariants.{Act}
+use Rattle.term_nodes.specs.declared.TestNode.TheVariants.{Prim}
+use Rattle.term_nodes.specs.declared.TermNode.TheVariants.{Act}
 use Rattle.certificate.specs.declared.evidence.Evidence.{Evidence}
 use Rattle.certificate.specs.declared.evidence.Evidence.TheVariants.{Equal, Different}
 use Rattle.certificate.specs.Certs.{CertParts}

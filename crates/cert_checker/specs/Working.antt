@@ -4,6 +4,5 @@ pub mod Targets
 pub mod Cases
 pub mod Marks
 pub mod Matching
-pub mod Spelling
 pub mod Questions
 pub mod Places

@@ -1,7 +1,7 @@
 //! The tests on which the answer to a question rests. No answer depends on which are asked: of the others less is
 //! known, so that more cases are gone through.
 ghost use Rattle.std.specs.Prelude.{◌≡◌, IsTrue, length, IfOk};
-ghost use Rattle.certificate.specs.Nodes.{are_below};
+ghost use Rattle.term_nodes.specs.NumberSets.{are_below};
 
 use crate::cases::PairTest;
 use crate::tables::Tables;
@@ -43,7 +43,7 @@ fn mark_parts(marks: &mut [bool], tables: &Tables)
 }
 
 // The marked numbers, in ascending order.
-fn marked(alloc: Global, marks: &[bool]) -> Result<Vec<usize>, NoMemory>
+fn marked_numbers(alloc: Global, marks: &[bool]) -> Result<Vec<usize>, NoMemory>
     ensures { IfOk result (λ v. IsTrue (are_below (length marks.now) v.items)) }
 {
     let mut list = Vec::new(alloc);
@@ -75,5 +75,5 @@ pub(crate) fn asked_tests(
         }
     }
     mark_parts(&mut marks, tables);
-    marked(alloc, &marks)
+    marked_numbers(alloc, &marks)
 }

@@ -1,7 +1,7 @@
 //! The least atom at which a question fails, by cases on tests, false first.
 ghost use Rattle.std.specs.Prelude.{◌≡◌, ◌<◌, Bool, List, Option, Some, IsTrue, length, slice_set, IfOk};
 ghost use Rattle.std.specs.Option.{option_map};
-ghost use Rattle.certificate.specs.Nodes.{are_below};
+ghost use Rattle.term_nodes.specs.NumberSets.{are_below};
 ghost use Rattle.cert_checker.specs.Working.Cases.{AreKnown, IsOpen, least_of, is_less as is_less', lesser_of, IsFirstFailure};
 ghost use Rattle.cert_checker.specs.Working.Matching.{AreRules, AgreeAt, IsState};
 ghost use Rattle.cert_checker.specs.Working.Questions.{IsAsked, IsSo};
@@ -101,7 +101,7 @@ pub(crate) fn is_less(first: &[bool], second: &[bool]) -> bool
 }
 
 // The lesser of the atoms that are there.
-fn lesser(first: Option<Vec<bool>>, second: Option<Vec<bool>>) -> Option<Vec<bool>>
+fn lesser_atom(first: Option<Vec<bool>>, second: Option<Vec<bool>>) -> Option<Vec<bool>>
     ensures { option_map (λ v. v.items) result ≡ lesser_of (option_map (λ v. v.items) first) (option_map (λ v. v.items) second) }
 {
     match (first, second) {
@@ -134,7 +134,7 @@ pub(crate) fn first_atom(
             let first = first_atom(alloc, tables, rules, question, asked, &low)?;
             let high = decide(alloc, decided, test, true)?;
             let second = first_atom(alloc, tables, rules, question, asked, &high)?;
-            Ok(lesser(first, second))
+            Ok(lesser_atom(first, second))
         }
     }
 }

@@ -3,18 +3,19 @@ ghost use Rattle.std.specs.Prelude.{◌≡◌, ◌↔◌, ◌<◌, ℕ, MatchOpt
 ghost use Rattle.kat_model.specs.Members.{Has};
 ghost use Rattle.kat_model.specs.Closed.{closed as closed'};
 ghost use Rattle.goal_forms.specs.ClosedTrees.{closed_trees};
-ghost use Rattle.certificate.specs.declared.nodes.TestNode.TheVariants.{Prim};
-ghost use Rattle.certificate.specs.declared.nodes.TermNode.TheVariants.{Act};
-ghost use Rattle.certificate.specs.Accepted.{set_pairs, IsAccepted};
+ghost use Rattle.term_nodes.specs.declared.TestNode.TheVariants.{Prim};
+ghost use Rattle.term_nodes.specs.declared.TermNode.TheVariants.{Act};
+ghost use Rattle.certificate.specs.Accepted.{IsAccepted};
 ghost use Rattle.cert_checker.specs.declared.answer.Answer.TheVariants.{Accepted};
-ghost use Rattle.cert_checker.specs.Answers.{Shows, BeginsWithSides, FailsFirstBy, IsFoundBy, IsAnswer, finding_reason};
+ghost use Rattle.cert_checker.specs.Answers.{Shows, FailsFirstBy, IsFoundBy, IsAnswer, finding_reason};
 ghost use Rattle.cert_checker.specs.Laws.{Says};
-ghost use Rattle.cert_checker.specs.Working.Places.{IsScope, place_reason};
+ghost use Rattle.cert_checker.specs.Working.Places.{place_reason};
 
 use crate::answer::{Answer, Reason};
 use crate::places::{Place, first_place};
 use crate::range::{action_out, test_out};
-use crate::sides::{begins_with, node_of};
+use crate::sides::{begins_with, universal_number};
+use crate::tables::Tables;
 use certificate::{Cert, Evidence};
 use goal_forms::{Closed, eliminate};
 use kat_model::{Items, NoMemory, Problem};
@@ -31,18 +32,6 @@ fn reason_of_place(place: Place) -> Reason
     }
 }
 
-// The node of the universal term, where there is one. The first pair spells it.
-fn universal_node(problem: &Problem, cert: &Cert, closed: &Closed) -> Option<usize>
-    requires closed { closed_trees closed.now ≡ closed' problem.now }
-    requires first { BeginsWithSides problem.now (set_pairs cert.now) }
-    ensures { IsScope problem.now cert.now result }
-{
-    match &closed.universal {
-        Some(term) => node_of(cert, term),
-        None => None,
-    }
-}
-
 // The first reason of the pairs, where all nodes are in range.
 fn pairs_reason(
     alloc: Global,
@@ -55,11 +44,12 @@ fn pairs_reason(
     requires closed { closed_trees closed.now ≡ closed' problem.now }
     ensures { IfOk result (λ o. MatchOption o (IsAccepted problem.now cert.now) (λ r. FailsFirstBy problem.now cert.now r)) }
 {
-    if !begins_with(cert, closed) {
+    let mut tables = Tables::of(alloc, cert, problem.tests())?;
+    if !begins_with(&tables, cert, closed) {
         return Ok(Some(Reason::FirstPair));
     }
-    let universal = universal_node(problem, cert, closed);
-    match first_place(alloc, problem, cert, universal)? {
+    let universal = universal_number(&tables, problem, cert, closed);
+    match first_place(alloc, &mut tables, problem, cert, universal)? {
         Some(place) => Ok(Some(reason_of_place(place))),
         None => Ok(None),
     }

@@ -1,6 +1,7 @@
 //! What is known of tests where some primitive tests are decided (three-valued logic, Kleene 1938).
 ghost use Rattle.std.specs.Prelude.{◌≡◌, IsTrue, length, IfOk, IfSome};
-ghost use Rattle.certificate.specs.Nodes.{test_parts, are_below};
+ghost use Rattle.term_nodes.specs.Nodes.{IsTestOver};
+ghost use Rattle.term_nodes.specs.NumberSets.{are_below};
 ghost use Rattle.cert_checker.specs.Working.NodeTables.{IsWithin};
 ghost use Rattle.cert_checker.specs.Working.Cases.{known_not, known_and, known_or, known_at, known_node, AreKnown, IsOpen};
 ghost use Rattle.cert_checker.specs.Working.Matching.{known_of};
@@ -60,7 +61,7 @@ fn known_prim(decided: Option<bool>, test: usize) -> Known
 
 // What is known of a node, over what is known of earlier ones.
 fn known_in(node: TestNode, earlier: &[Known], decided: &[Option<bool>]) -> Known
-    requires parts { IsTrue (are_below (length earlier.now) (test_parts node)) }
+    requires parts { IsTestOver (length earlier.now) node }
     requires within { IsWithin (length decided.now) node }
     ensures { result ≡ known_node decided.now earlier.now node }
 {
@@ -92,7 +93,7 @@ fn all_known(
 }
 
 // What is known of the tests that are asked; of others only that they may depend on this test.
-fn asked_known(
+fn known_of_asked(
     alloc: Global,
     tables: &Tables,
     asked: &[usize],
@@ -136,7 +137,7 @@ pub(crate) fn known_tests(
     ensures { IfOk result (λ v. AreKnown tables.now decided.now v.items) }
 {
     match open_test(decided) {
-        Some(test) => asked_known(alloc, tables, asked, decided, test),
+        Some(test) => known_of_asked(alloc, tables, asked, decided, test),
         None => all_known(alloc, tables, decided),
     }
 }

@@ -18,7 +18,6 @@ mod places;
 mod range;
 mod saturation;
 mod sides;
-mod spelling;
 mod steps;
 mod tables;
 mod targets;

@@ -1,13 +1,11 @@
 //! The first place at which the pairs of a certificate fail.
 ghost use Rattle.std.specs.Prelude.{◌≡◌, ◌<◌, ◌≤◌, ◌+◌, ℕ, IfOk, IsTrue, length, map};
 ghost use Rattle.std.specs.Option.{option_map};
-ghost use Rattle.kat_model.specs.Members.{Has};
 ghost use Rattle.kat_model.specs.Steps.{Atom, set_out, set_next};
-ghost use Rattle.certificate.specs.declared.nodes.TestNode.TheVariants.{Prim};
-ghost use Rattle.certificate.specs.Nodes.{are_below};
+ghost use Rattle.term_nodes.specs.NumberSets.{are_below, terms_of};
 ghost use Rattle.cert_checker.specs.Working.Cases.{IsFirstFailure};
-ghost use Rattle.cert_checker.specs.Working.Matching.{AreRules, AreMatchedBy, rules_of, terms_of};
-ghost use Rattle.cert_checker.specs.Working.NodeTables.{AreTables, Grows, IsTest, nodes_of, holds_at};
+ghost use Rattle.cert_checker.specs.Working.Matching.{AreRules, AreMatchedBy, rules_of};
+ghost use Rattle.cert_checker.specs.Working.NodeTables.{AreTables, TablesGrow, IsTest, tables_of, holds_at, nodes_in};
 ghost use Rattle.cert_checker.specs.Working.Places.{IsFirstOf, IsScope, undecided, place_reason, comes_before as comes_before', earlier_place};
 ghost use Rattle.cert_checker.specs.Working.Questions.{IsAsked, IsSo};
 ghost use Rattle.cert_checker.specs.Working.Targets.{AreAcceptances, AreSteps};
@@ -66,10 +64,10 @@ fn set_acceptance(
     requires accepting { AreAcceptances tables.old accepting.now }
     requires count { length accepting.now ≤ length tables.old.terms }
     requires set { IsTrue (are_below (length accepting.now) set.now) }
-    ensures value { IfOk result (λ g. (atom : Atom) → holds_at tables.new g atom ≡ set_out (terms_of tables.old set.now) atom) }
+    ensures value { IfOk result (λ g. (atom : Atom) → holds_at tables.new g atom ≡ set_out (terms_of (nodes_in tables.old) set.now) atom) }
     ensures is_test { IfOk result (IsTest tables.new) }
     ensures terms { tables.new.terms ≡ tables.old.terms }
-    ensures grows { Grows tables.old tables.new }
+    ensures grows { TablesGrow tables.old tables.new }
     ensures tables { AreTables tables.new }
 {
     tables.rules();
@@ -93,8 +91,8 @@ fn pair_output(
     requires count { length accepting.now ≤ length tables.old.terms }
     requires left { IsTrue (are_below (length accepting.now) pair.now.left) }
     requires right { IsTrue (are_below (length accepting.now) pair.now.right) }
-    ensures first { IfOk result (λ o. IsFirstFailure (λ atom. set_out (terms_of tables.old pair.now.left) atom ≡ set_out (terms_of tables.old pair.now.right) atom) (undecided tables.old.width) (option_map (λ v. v.items) o)) }
-    ensures grows { Grows tables.old tables.new }
+    ensures first { IfOk result (λ o. IsFirstFailure (λ atom. set_out (terms_of (nodes_in tables.old) pair.now.left) atom ≡ set_out (terms_of (nodes_in tables.old) pair.now.right) atom) (undecided tables.old.width) (option_map (λ v. v.items) o)) }
+    ensures grows { TablesGrow tables.old tables.new }
     ensures tables { AreTables tables.new }
 {
     tables.rules();
@@ -112,12 +110,12 @@ fn first_output(
     cert: &Cert,
     universal: Option<usize>,
 ) -> Result<Option<Place>, NoMemory>
-    requires nodes { Grows (nodes_of problem.now.tests cert.now) tables.old }
+    requires nodes { TablesGrow (tables_of problem.now.tests cert.now) tables.old }
     requires accepting { AreAcceptances tables.old accepting.now }
     requires count { length accepting.now ≡ length cert.now.term_nodes }
     requires scope { IsScope problem.now cert.now universal }
     ensures first { IfOk result (λ o. IsFirstOf problem.now cert.now (λ n. n ≡ 0) (option_map place_reason o)) }
-    ensures grows { Grows tables.old tables.new }
+    ensures grows { TablesGrow tables.old tables.new }
     ensures tables { AreTables tables.new }
 {
     tables.rules();
@@ -148,8 +146,8 @@ fn pair_step(
     requires count { length list.now ≤ length tables.old.terms }
     requires left { IsTrue (are_below (length list.now) pair.now.left) }
     requires right { IsTrue (are_below (length list.now) pair.now.right) }
-    ensures first { IfOk result (λ o. IsFirstFailure (λ atom. AreMatchedBy tables.old rules.now (set_next (terms_of tables.old pair.now.left) atom action) (set_next (terms_of tables.old pair.now.right) atom action)) (undecided tables.old.width) (option_map (λ v. v.items) o)) }
-    ensures grows { Grows tables.old tables.new }
+    ensures first { IfOk result (λ o. IsFirstFailure (λ atom. AreMatchedBy tables.old rules.now (set_next (terms_of (nodes_in tables.old) pair.now.left) atom action) (set_next (terms_of (nodes_in tables.old) pair.now.right) atom action)) (undecided tables.old.width) (option_map (λ v. v.items) o)) }
+    ensures grows { TablesGrow tables.old tables.new }
     ensures tables { AreTables tables.new }
 {
     tables.rules();
@@ -169,12 +167,12 @@ fn first_missing(
     action: usize,
 ) -> Result<Option<Place>, NoMemory>
     requires action { action < problem.now.actions }
-    requires nodes { Grows (nodes_of problem.now.tests cert.now) tables.old }
+    requires nodes { TablesGrow (tables_of problem.now.tests cert.now) tables.old }
     requires accepting { AreAcceptances tables.old accepting.now }
     requires count { length accepting.now ≡ length cert.now.term_nodes }
     requires scope { IsScope problem.now cert.now universal }
     ensures first { IfOk result (λ o. IsFirstOf problem.now cert.now (λ n. n ≡ action + 1) (option_map place_reason o)) }
-    ensures grows { Grows tables.old tables.new }
+    ensures grows { TablesGrow tables.old tables.new }
     ensures tables { AreTables tables.new }
 {
     let list = steps(alloc, tables, accepting, action)?;
@@ -199,7 +197,7 @@ fn comes_before(first: &Place, second: &Place) -> bool
 }
 
 // The earlier of the places that are there, the first where both are at one pair and atom.
-fn earlier(first: Option<Place>, second: Option<Place>) -> Option<Place>
+fn least_place(first: Option<Place>, second: Option<Place>) -> Option<Place>
     ensures { option_map place_reason result ≡ earlier_place first second }
 {
     match (first, second) {
@@ -218,28 +216,20 @@ fn earlier(first: Option<Place>, second: Option<Place>) -> Option<Place>
 /// The first place at which the pairs fail. Outputs and each action are gone through apart.
 pub(crate) fn first_place(
     alloc: Global,
+    tables: &mut Tables,
     problem: &Problem,
     cert: &Cert,
     universal: Option<usize>,
 ) -> Result<Option<Place>, NoMemory>
-    requires tests { (k : ℕ) → Has cert.now.test_nodes (Prim k) → k < problem.now.tests }
+    requires tables { tables.old ≡ tables_of problem.now.tests cert.now }
     requires scope { IsScope problem.now cert.now universal }
     ensures { IfOk result (λ o. IsFirstOf problem.now cert.now (λ n. n < problem.now.actions + 1) (option_map place_reason o)) }
 {
-    let mut tables = Tables::of(alloc, cert, problem.tests())?;
-    let accepting = acceptances(alloc, &mut tables)?;
-    let mut place = first_output(alloc, &mut tables, &accepting, problem, cert, universal)?;
+    let accepting = acceptances(alloc, tables)?;
+    let mut place = first_output(alloc, tables, &accepting, problem, cert, universal)?;
     for action in 0..problem.actions() {
-        let other = first_missing(
-            alloc,
-            &mut tables,
-            &accepting,
-            problem,
-            cert,
-            universal,
-            action,
-        )?;
-        place = earlier(place, other);
+        let other = first_missing(alloc, tables, &accepting, problem, cert, universal, action)?;
+        place = least_place(place, other);
     }
     Ok(place)
 }

@@ -1,8 +1,8 @@
 //! Nodes whose numbers are out of range.
 ghost use Rattle.std.specs.Prelude.{ℕ, ◌<◌, MatchOption};
 ghost use Rattle.kat_model.specs.Members.{Has};
-ghost use Rattle.certificate.specs.declared.nodes.TestNode.TheVariants.{Prim};
-ghost use Rattle.certificate.specs.declared.nodes.TermNode.TheVariants.{Act};
+ghost use Rattle.term_nodes.specs.declared.TestNode.TheVariants.{Prim};
+ghost use Rattle.term_nodes.specs.declared.TermNode.TheVariants.{Act};
 ghost use Rattle.cert_checker.specs.Working.Ranges.{IsFirstOut};
 
 use certificate::{TermNode, TestNode};

@@ -1,14 +1,15 @@
 //! Symbolic partial derivatives (Antimirov 1996; with tests Pous 2015): under which atoms a node accepts, and
 //! under which a step of it leads to a term. Nodes are gone over in their order, each after those that it names.
 ghost use Rattle.std.specs.Prelude.{◌≡◌, ◌<◌, ◌≤◌, ℕ, ◌++◌, ◌∷◌, [], if◌then◌else◌, IfOk, IsTrue, Some, slice_get, length, map};
-ghost use Rattle.kat_model.specs.Steps.{Atom, out, next, set_next, dot};
-ghost use Rattle.certificate.specs.Nodes.{are_below, term_parts, tests_of_term};
-ghost use Rattle.cert_checker.specs.Working.NodeTables.{AreTables, Grows, IsTest, IsTerm, term_at, term_tree_in, holds_at};
+ghost use Rattle.kat_model.specs.Steps.{Atom, out, next, set_next};
+ghost use Rattle.term_nodes.specs.Nodes.{IsOver};
+ghost use Rattle.term_nodes.specs.NumberSets.{are_below, terms_of};
+ghost use Rattle.term_nodes.specs.NodeTrees.{tree_in};
+ghost use Rattle.cert_checker.specs.Working.NodeTables.{AreTables, TablesGrow, IsTest, term_at, nodes_in, holds_at};
 ghost use Rattle.cert_checker.specs.Working.Targets.{AreEntries, StandFor, AreAcceptances, AreSteps, chosen};
-ghost use Rattle.cert_checker.specs.Working.Matching.{terms_of};
 
 use crate::tables::Tables;
-use crate::targets::{Targets, add_all, alone, followed, union};
+use crate::targets::{Targets, action_targets, add_all, continued_targets, union};
 use certificate::TermNode;
 use kat_model::NoMemory;
 use std::alloc::Global;
@@ -17,12 +18,11 @@ use std::collections::BTreeMap;
 // The test that is true where the node accepts, over those of earlier nodes.
 fn acceptance(tables: &mut Tables, earlier: &[usize], node: TermNode) -> Result<usize, NoMemory>
     requires earlier { AreAcceptances tables.old earlier.now }
-    requires parts { IsTrue (are_below (length earlier.now) (term_parts node)) }
-    requires tests { IsTrue (are_below (length tables.old.tests) (tests_of_term node)) }
-    ensures value { IfOk result (λ g. (atom : Atom) → holds_at tables.new g atom ≡ out (term_tree_in tables.old node) atom) }
+    requires parts { IsOver (length tables.old.tests) (length earlier.now) node }
+    ensures value { IfOk result (λ g. (atom : Atom) → holds_at tables.new g atom ≡ out (tree_in (nodes_in tables.old) node) atom) }
     ensures is_test { IfOk result (IsTest tables.new) }
     ensures terms { tables.new.terms ≡ tables.old.terms }
-    ensures grows { Grows tables.old tables.new }
+    ensures grows { TablesGrow tables.old tables.new }
     ensures tables { AreTables tables.new }
 {
     tables.rules();
@@ -40,7 +40,7 @@ pub(crate) fn acceptances(alloc: Global, tables: &mut Tables) -> Result<Vec<usiz
     ensures values { IfOk result (λ v. AreAcceptances tables.new v.items) }
     ensures count { IfOk result (λ v. length v.items ≡ length tables.old.terms) }
     ensures terms { tables.new.terms ≡ tables.old.terms }
-    ensures grows { Grows tables.old tables.new }
+    ensures grows { TablesGrow tables.old tables.new }
     ensures tables { AreTables tables.new }
 {
     let count = tables.term_count();
@@ -63,9 +63,9 @@ pub(crate) fn of_set(
 ) -> Result<Targets, NoMemory>
     requires steps { AreSteps tables.old action (map (λ t. t.entries) steps.now) }
     requires numbers { IsTrue (are_below (length steps.now) set.now) }
-    ensures targets { IfOk result (λ t. StandFor tables.new t.entries (λ atom. set_next (terms_of tables.old set.now) atom action)) }
+    ensures targets { IfOk result (λ t. StandFor tables.new t.entries (λ atom. set_next (terms_of (nodes_in tables.old) set.now) atom action)) }
     ensures terms { tables.new.terms ≡ tables.old.terms }
-    ensures grows { Grows tables.old tables.new }
+    ensures grows { TablesGrow tables.old tables.new }
     ensures tables { AreTables tables.new }
 {
     tables.rules();
@@ -89,10 +89,10 @@ fn step(
     requires accepting { AreAcceptances tables.old accepting.now }
     requires steps { AreSteps tables.old action (map (λ t. t.entries) earlier.now) }
     requires node { slice_get tables.old.terms (length earlier.now) ≡ Some node }
-    requires parts { IsTrue (are_below (length earlier.now) (term_parts node)) }
+    requires parts { IsOver (length tables.old.tests) (length earlier.now) node }
     requires count { length earlier.now < length accepting.now }
     ensures targets { IfOk result (λ t. StandFor tables.new t.entries (λ atom. next (term_at tables.old (length earlier.now)) atom action)) }
-    ensures grows { Grows tables.old tables.new }
+    ensures grows { TablesGrow tables.old tables.new }
     ensures tables { AreTables tables.new }
 {
     tables.rules();
@@ -100,17 +100,17 @@ fn step(
         TermNode::Zero | TermNode::One | TermNode::Test(_) => Ok(BTreeMap::new(alloc)),
         TermNode::Act(a) => {
             if a == action {
-                return alone(alloc, tables);
+                return action_targets(alloc, tables);
             }
             Ok(BTreeMap::new(alloc))
         }
         TermNode::Sum(x, y) => union(alloc, tables, &earlier[x], &earlier[y]),
         TermNode::Seq(x, y) => {
-            let mut targets = followed(alloc, tables, &earlier[x], y)?;
+            let mut targets = continued_targets(alloc, tables, &earlier[x], y)?;
             add_all(tables, &mut targets, &earlier[y], accepting[x])?;
             Ok(targets)
         }
-        TermNode::Star(x) => followed(alloc, tables, &earlier[x], earlier.len()),
+        TermNode::Star(x) => continued_targets(alloc, tables, &earlier[x], earlier.len()),
     }
 }
 
@@ -125,7 +125,7 @@ pub(crate) fn steps(
     requires count { length accepting.now ≤ length tables.old.terms }
     ensures steps { IfOk result (λ v. AreSteps tables.new action (map (λ t. t.entries) v.items)) }
     ensures all { IfOk result (λ v. length v.items ≡ length accepting.now) }
-    ensures grows { Grows tables.old tables.new }
+    ensures grows { TablesGrow tables.old tables.new }
     ensures tables { AreTables tables.new }
 {
     tables.rules();

@@ -1,12 +1,12 @@
 //! The tables of the checker.
-ghost use Rattle.std.specs.Prelude.{◌≡◌, ◌<◌, ℕ, ◌&&◌, ◌||◌, true, false, IfOk, IsTrue, slice_get, length};
+ghost use Rattle.std.specs.Prelude.{◌≡◌, ◌<◌, ℕ, ◌&&◌, ◌||◌, true, false, IfOk, IsTrue, MatchOption, slice_get, length};
 ghost use Rattle.kat_model.specs.Members.{Has};
 ghost use Rattle.kat_model.specs.Steps.{Atom, dot};
-ghost use Rattle.certificate.specs.declared.nodes.TestNode.TheVariants.{Prim};
+ghost use Rattle.term_nodes.specs.declared.TestNode.TheVariants.{Prim};
 
 use certificate::{Cert, TermNode, TestNode};
 use indexmap::IndexSet;
-use kat_model::NoMemory;
+use kat_model::{Kat, NoMemory, Test};
 use std::alloc::Global;
 use std::marker::Model;
 
@@ -20,9 +20,9 @@ pub(crate) struct Tables {
 }
 
 impl Model for Tables {
-    ghost use Rattle.cert_checker.specs.Working.NodeTables.{Nodes, AreTables};
+    ghost use Rattle.cert_checker.specs.Working.NodeTables.{TableParts, AreTables};
 
-    ghost Value = { Nodes };
+    ghost Value = { TableParts };
 
     ghost view = { λ t. record { width = t.width; tests = t.tests.keys; terms = t.terms.keys } };
 
@@ -30,12 +30,16 @@ impl Model for Tables {
 }
 
 impl Tables {
-    ghost use Rattle.cert_checker.specs.Working.NodeTables.{AreTables, Grows, AddsTest, AddsTerm, IsTest, IsTerm, MayBeTest, MayBeTerm, nodes_of, test_tree_in, term_tree_in, test_at, term_at, holds_at};
+    ghost use Rattle.cert_checker.specs.Working.NodeTables.{AreTables, TablesGrow, AddsTest, AddsTerm, IsTest, IsTerm, MayBeTest, MayBeTerm, nodes_in, tables_of, test_at, term_at, holds_at};
+    ghost use Rattle.kat_model.specs.Trees.{test_tree, kat_tree};
+    ghost use Rattle.term_nodes.specs.Nodes.{IsTestOver, IsOver};
+    ghost use Rattle.term_nodes.specs.TreeParts.{HasTestParts, HasParts};
+    ghost use Rattle.term_nodes.specs.NodeTrees.{test_tree_in, tree_in, HasTestTree, HasTree};
 
     /// The tables with the nodes of the certificate alone. Its primitive tests are below `width`.
     pub(crate) fn of(alloc: Global, cert: &Cert, width: usize) -> Result<Tables, NoMemory>
         requires { (k : ℕ) → Has cert.now.test_nodes (Prim k) → k < width }
-        ensures nodes { IfOk result (λ t. t ≡ nodes_of width cert.now) }
+        ensures nodes { IfOk result (λ t. t ≡ tables_of width cert.now) }
         ensures tables { IfOk result AreTables }
     {
         let mut tables = Tables {
@@ -56,10 +60,10 @@ impl Tables {
     pub(crate) fn test(&mut self, node: TestNode) -> Result<usize, NoMemory>
         requires { MayBeTest self.old node }
         ensures node { IfOk result (λ k. slice_get self.new.tests k ≡ Some node) }
-        ensures tree { IfOk result (λ k. test_at self.new k ≡ test_tree_in self.old node) }
+        ensures tree { IfOk result (λ k. test_at self.new k ≡ test_tree_in (nodes_in self.old) node) }
         ensures is_test { IfOk result (IsTest self.new) }
         ensures added { AddsTest self.old self.new node }
-        ensures grows { Grows self.old self.new }
+        ensures grows { TablesGrow self.old self.new }
         ensures tables { AreTables self.new }
     {
         match self.tests.insert_full(node) {
@@ -72,10 +76,10 @@ impl Tables {
     pub(crate) fn term(&mut self, node: TermNode) -> Result<usize, NoMemory>
         requires { MayBeTerm self.old node }
         ensures node { IfOk result (λ k. slice_get self.new.terms k ≡ Some node) }
-        ensures tree { IfOk result (λ k. term_at self.new k ≡ term_tree_in self.old node) }
+        ensures tree { IfOk result (λ k. term_at self.new k ≡ tree_in (nodes_in self.old) node) }
         ensures is_term { IfOk result (IsTerm self.new) }
         ensures added { AddsTerm self.old self.new node }
-        ensures grows { Grows self.old self.new }
+        ensures grows { TablesGrow self.old self.new }
         ensures tables { AreTables self.new }
     {
         match self.terms.insert_full(node) {
@@ -118,7 +122,7 @@ impl Tables {
     pub(crate) fn test_node(&self, number: usize) -> TestNode
         requires { IsTest self.now number }
         ensures node { slice_get self.now.tests number ≡ Some result }
-        ensures tree { test_at self.now number ≡ test_tree_in self.now result }
+        ensures tree { test_at self.now number ≡ test_tree_in (nodes_in self.now) result }
         ensures tables { AreTables self.now }
     {
         *self.tests.get_index(number).unwrap()
@@ -128,10 +132,57 @@ impl Tables {
     pub(crate) fn term_node(&self, number: usize) -> TermNode
         requires { IsTerm self.now number }
         ensures node { slice_get self.now.terms number ≡ Some result }
-        ensures tree { term_at self.now number ≡ term_tree_in self.now result }
+        ensures tree { term_at self.now number ≡ tree_in (nodes_in self.now) result }
         ensures tables { AreTables self.now }
     {
         *self.terms.get_index(number).unwrap()
+    }
+
+    // The node of the test, where its parts have numbers.
+    #[cycle(number_of_test)]
+    fn node_of_test(&self, test: &Test) -> Option<TestNode>
+        ensures { MatchOption result (HasTestParts (nodes_in self.now) (test_tree test.now) → ⊥) (λ n. IsTestOver (length self.now.tests) n × (test_tree_in (nodes_in self.now) n ≡ test_tree test.now)) }
+    {
+        Some(match test {
+            Test::False => TestNode::False,
+            Test::True => TestNode::True,
+            Test::Prim(k) => TestNode::Prim(*k),
+            Test::Not(b) => TestNode::Not(self.number_of_test(b)?),
+            Test::And(b, c) => TestNode::And(self.number_of_test(b)?, self.number_of_test(c)?),
+            Test::Or(b, c) => TestNode::Or(self.number_of_test(b)?, self.number_of_test(c)?),
+        })
+    }
+
+    // The number of the test, where it has one.
+    #[cycle(number_of_test)]
+    fn number_of_test(&self, test: &Test) -> Option<usize>
+        ensures { MatchOption result (HasTestTree (nodes_in self.now) (test_tree test.now) → ⊥) (λ k. IsTest self.now k × (test_at self.now k ≡ test_tree test.now)) }
+    {
+        self.tests.get_index_of(&self.node_of_test(test)?)
+    }
+
+    // The node of the term, where its parts have numbers.
+    #[cycle(number_of)]
+    fn node_of(&self, term: &Kat) -> Option<TermNode>
+        ensures { MatchOption result (HasParts (nodes_in self.now) (kat_tree term.now) → ⊥) (λ n. IsOver (length self.now.tests) (length self.now.terms) n × (tree_in (nodes_in self.now) n ≡ kat_tree term.now)) }
+    {
+        Some(match term {
+            Kat::Zero => TermNode::Zero,
+            Kat::One => TermNode::One,
+            Kat::Test(b) => TermNode::Test(self.number_of_test(b)?),
+            Kat::Act(a) => TermNode::Act(*a),
+            Kat::Sum(e, f) => TermNode::Sum(self.number_of(e)?, self.number_of(f)?),
+            Kat::Seq(e, f) => TermNode::Seq(self.number_of(e)?, self.number_of(f)?),
+            Kat::Star(e) => TermNode::Star(self.number_of(e)?),
+        })
+    }
+
+    /// The number of the term, where it has one.
+    #[cycle(number_of)]
+    pub(crate) fn number_of(&self, term: &Kat) -> Option<usize>
+        ensures { MatchOption result (HasTree (nodes_in self.now) (kat_tree term.now) → ⊥) (λ k. IsTerm self.now k × (term_at self.now k ≡ kat_tree term.now)) }
+    {
+        self.terms.get_index_of(&self.node_of(term)?)
     }
 
     /// The test that is true everywhere, or the one that is false.
@@ -139,7 +190,7 @@ impl Tables {
         ensures value { IfOk result (λ k. (atom : Atom) → holds_at self.new k atom ≡ value) }
         ensures is_test { IfOk result (IsTest self.new) }
         ensures terms { self.new.terms ≡ self.old.terms }
-        ensures grows { Grows self.old self.new }
+        ensures grows { TablesGrow self.old self.new }
         ensures tables { AreTables self.new }
     {
         self.test(if value {
@@ -165,7 +216,7 @@ impl Tables {
         ensures value { IfOk result (λ k. (atom : Atom) → holds_at self.new k atom ≡ (holds_at self.old x atom && holds_at self.old y atom)) }
         ensures is_test { IfOk result (IsTest self.new) }
         ensures terms { self.new.terms ≡ self.old.terms }
-        ensures grows { Grows self.old self.new }
+        ensures grows { TablesGrow self.old self.new }
         ensures tables { AreTables self.new }
     {
         match (self.test_node(x), self.test_node(y)) {
@@ -183,7 +234,7 @@ impl Tables {
         ensures value { IfOk result (λ k. (atom : Atom) → holds_at self.new k atom ≡ (holds_at self.old x atom || holds_at self.old y atom)) }
         ensures is_test { IfOk result (IsTest self.new) }
         ensures terms { self.new.terms ≡ self.old.terms }
-        ensures grows { Grows self.old self.new }
+        ensures grows { TablesGrow self.old self.new }
         ensures tables { AreTables self.new }
     {
         match (self.test_node(x), self.test_node(y)) {
@@ -200,7 +251,7 @@ impl Tables {
         requires second { IsTerm self.old second }
         ensures tree { IfOk result (λ k. term_at self.new k ≡ dot (term_at self.old first) (term_at self.old second)) }
         ensures is_term { IfOk result (IsTerm self.new) }
-        ensures grows { Grows self.old self.new }
+        ensures grows { TablesGrow self.old self.new }
         ensures tables { AreTables self.new }
     {
         match self.term_node(first) {

@@ -3,7 +3,7 @@ ghost use Rattle.std.specs.Prelude.{◌≡◌, ℕ, ◌||◌, ◌++◌, ◌∷�
 ghost use Rattle.std.specs.Option.{option_map_or};
 ghost use Rattle.kat_model.specs.Trees.{one as one'};
 ghost use Rattle.kat_model.specs.Steps.{Atom, dot};
-ghost use Rattle.cert_checker.specs.Working.NodeTables.{AreTables, Grows, IsTest, IsTerm, term_at, holds_at};
+ghost use Rattle.cert_checker.specs.Working.NodeTables.{AreTables, TablesGrow, IsTest, IsTerm, term_at, holds_at};
 ghost use Rattle.cert_checker.specs.Working.Targets.{AreEntries, StandFor, chosen};
 ghost use Rattle.cert_checker.specs.Working.Matching.{guard_of};
 
@@ -17,7 +17,7 @@ use std::collections::BTreeMap;
 pub(crate) type Targets = BTreeMap<usize, usize>;
 
 // The guard that a term has once it is a target under this guard too.
-fn joined(
+fn joined_guard(
     tables: &mut Tables,
     targets: &Targets,
     term: usize,
@@ -28,7 +28,7 @@ fn joined(
     ensures value { IfOk result (λ g. (atom : Atom) → holds_at tables.new g atom ≡ (option_map_or (λ o. holds_at tables.old o atom) (guard_of targets.now.entries term) false || holds_at tables.old guard atom)) }
     ensures is_test { IfOk result (IsTest tables.new) }
     ensures terms { tables.new.terms ≡ tables.old.terms }
-    ensures grows { Grows tables.old tables.new }
+    ensures grows { TablesGrow tables.old tables.new }
     ensures tables { AreTables tables.new }
 {
     tables.rules();
@@ -50,13 +50,13 @@ fn add(
     requires is_test { IsTest tables.old guard }
     ensures added { OnOk result (StandFor tables.new targets.new.entries (λ atom. chosen tables.old targets.old.entries atom ++ (if holds_at tables.old guard atom then term_at tables.old term ∷ [] else []))) }
     ensures terms { tables.new.terms ≡ tables.old.terms }
-    ensures grows { Grows tables.old tables.new }
+    ensures grows { TablesGrow tables.old tables.new }
     ensures tables { AreTables tables.new }
 {
     if tables.is_never(guard) {
         return Ok(());
     }
-    let guard = joined(tables, targets, term, guard)?;
+    let guard = joined_guard(tables, targets, term, guard)?;
     targets.insert(term, guard)?;
     Ok(())
 }
@@ -73,7 +73,7 @@ pub(crate) fn add_all(
     requires is_test { IsTest tables.old guard }
     ensures added { OnOk result (StandFor tables.new targets.new.entries (λ atom. chosen tables.old targets.old.entries atom ++ (if holds_at tables.old guard atom then chosen tables.old more.now.entries atom else []))) }
     ensures terms { tables.new.terms ≡ tables.old.terms }
-    ensures grows { Grows tables.old tables.new }
+    ensures grows { TablesGrow tables.old tables.new }
     ensures tables { AreTables tables.new }
 {
     if tables.is_never(guard) {
@@ -97,7 +97,7 @@ pub(crate) fn union(
     requires second { AreEntries tables.old second.now.entries }
     ensures targets { IfOk result (λ t. StandFor tables.new t.entries (λ atom. chosen tables.old first.now.entries atom ++ chosen tables.old second.now.entries atom)) }
     ensures terms { tables.new.terms ≡ tables.old.terms }
-    ensures grows { Grows tables.old tables.new }
+    ensures grows { TablesGrow tables.old tables.new }
     ensures tables { AreTables tables.new }
 {
     tables.rules();
@@ -109,7 +109,7 @@ pub(crate) fn union(
 }
 
 /// The targets, each with another term after it.
-pub(crate) fn followed(
+pub(crate) fn continued_targets(
     alloc: Global,
     tables: &mut Tables,
     first: &Targets,
@@ -118,7 +118,7 @@ pub(crate) fn followed(
     requires entries { AreEntries tables.old first.now.entries }
     requires is_term { IsTerm tables.old after }
     ensures targets { IfOk result (λ t. StandFor tables.new t.entries (λ atom. map (λ x. dot x (term_at tables.old after)) (chosen tables.old first.now.entries atom))) }
-    ensures grows { Grows tables.old tables.new }
+    ensures grows { TablesGrow tables.old tables.new }
     ensures tables { AreTables tables.new }
 {
     tables.rules();
@@ -131,9 +131,9 @@ pub(crate) fn followed(
 }
 
 /// The targets of an action: nothing is left to do of it, at each atom.
-pub(crate) fn alone(alloc: Global, tables: &mut Tables) -> Result<Targets, NoMemory>
+pub(crate) fn action_targets(alloc: Global, tables: &mut Tables) -> Result<Targets, NoMemory>
     ensures targets { IfOk result (λ t. StandFor tables.new t.entries (λ _. one' ∷ [])) }
-    ensures grows { Grows tables.old tables.new }
+    ensures grows { TablesGrow tables.old tables.new }
     ensures tables { AreTables tables.new }
 {
     let one = tables.term(TermNode::One)?;

@@ -3,7 +3,7 @@ use Rattle.std.proofs.Common.{◌≡◌, inl, inr, ⊎_elim, ℕ, zero, suc, ◌
 use Rattle.std.specs.List.{AllAdjacentBelow, IsAllAdjacentAnswer}
 use Rattle.std.proofs.lemmas.Bool.{and_parts, and_from, and_left, and_right, lt-ltb}
 use Rattle.kat_model.specs.Members.{Has, HasNoDoubles}
-use Rattle.certificate.specs.Nodes.{are_ascending}
+use Rattle.term_nodes.specs.NumberSets.{are_ascending}
 
 -- ---- as a loop over neighbours finds it
 

@@ -9,15 +9,17 @@ use Rattle.kat_model.specs.Members.{Has, HasNoDoubles}
 use Rattle.kat_model.proofs.Lists.{has_left, has_right, map_has}
 use Rattle.kat_model.proofs.Places.{slice_get-append_seam}
 use Rattle.kat_model.specs.Strings.{Move, GuardedString}
-use Rattle.certificate.specs.declared.nodes.TestNode.{TestNode}
-use Rattle.certificate.specs.declared.nodes.TermNode.{TermNode}
+use Rattle.term_nodes.specs.declared.TestNode.{TestNode}
+use Rattle.term_nodes.specs.declared.TermNode.{TermNode}
 use Rattle.certificate.specs.declared.nodes.Style.{Style}
 use Rattle.certificate.specs.declared.nodes.Style.TheVariants.{Plain, UpTo}
 use Rattle.certificate.specs.declared.entry.Entry.{Entry}
 use Rattle.certificate.specs.declared.entry.Entry.TheVariants.{TestLine, TermLine, PairLine}
 use Rattle.certificate.specs.declared.evidence.Evidence.{Evidence}
 use Rattle.certificate.specs.declared.evidence.Evidence.TheVariants.{Equal, Different}
-use Rattle.certificate.specs.Nodes.{NumberPair, same_test_node, same_term_node}
+use Rattle.term_nodes.proofs.Parts.{IsTestOver-part, IsOver-part, IsOver-test, has_below}
+use Rattle.term_nodes.specs.Nodes.{test_parts, term_parts, tests_of_term, same_test_node, same_term_node}
+use Rattle.term_nodes.specs.NumberSets.{NumberPair}
 use Rattle.certificate.specs.Certs.{CertParts, IsCert}
 use Rattle.certificate.specs.Texts.{entry_words, entry_numbers, move_words, line_of, heading, entries_of, lines_before_end, text_of_lines, text_of, IsNarrow, IsEvidence}
 use Rattle.certificate.specs.Faults.{Answer, with_entry, cert_from, with_move, moves_from, no_entries, all_from, parts_of, answer_of, too_wide}
@@ -65,13 +67,13 @@ has_at : {X : Type 0} (xs : List X) (y : X) (ys : List X) → Has (xs ++ y ∷ y
 has_at xs y ys = has_right xs (y ∷ ys) y (inl refl)
 
 module _ (c : CertParts) (cert : IsCert c) (narrow : (e : Entry) → Has (entries_of c) e → IsNarrow e) where
-  abbrev parts : List TestNode → List TermNode → List NumberPair → CertParts
+  abbrev parts : List (TestNode ℕ) → List (TermNode ℕ ℕ) → List NumberPair → CertParts
   parts tests terms pairs = record { style = c.style; test_nodes = tests; term_nodes = terms; pairs = pairs }
 
-  narrow_test : (n : TestNode) → Has c.test_nodes n → IsNarrow (TestLine n)
+  narrow_test : (n : TestNode ℕ) → Has c.test_nodes n → IsNarrow (TestLine n)
   narrow_test n h = narrow (TestLine n) (has_left (map TestLine c.test_nodes) (map TermLine c.term_nodes ++ map PairLine c.pairs) (TestLine n) (map_has TestLine c.test_nodes n h))
 
-  narrow_term : (n : TermNode) → Has c.term_nodes n → IsNarrow (TermLine n)
+  narrow_term : (n : TermNode ℕ ℕ) → Has c.term_nodes n → IsNarrow (TermLine n)
   narrow_term n h =
       narrow (TermLine n)
       (has_right (map TestLine c.test_nodes) (map TermLine c.term_nodes ++ map PairLine c.pairs) (TermLine n)
@@ -83,26 +85,27 @@ module _ (c : CertParts) (cert : IsCert c) (narrow : (e : Entry) → Has (entrie
       (has_right (map TestLine c.test_nodes) (map TermLine c.term_nodes ++ map PairLine c.pairs) (PairLine p)
       (has_right (map TermLine c.term_nodes) (map PairLine c.pairs) (PairLine p) (map_has PairLine c.pairs p h)))
 
-  test_passes : (done : List TestNode) (n : TestNode) (left : List TestNode) → c.test_nodes ≡ done ++ n ∷ left → Passes (parts done [] []) (TestLine n)
+  test_passes : (done : List (TestNode ℕ)) (n : TestNode ℕ) (left : List (TestNode ℕ)) → c.test_nodes ≡ done ++ n ∷ left → Passes (parts done [] []) (TestLine n)
   test_passes done n left e =
       let there : slice_get c.test_nodes (length done) ≡ Some n = ap (λ l. slice_get l (length done)) e ∙ slice_get-append_seam done n left in
       record {
         stands = refl;
         narrow = none_wide (entry_numbers (TestLine n)) (narrow_test n (subst (λ l. Has l n) (sym e) (has_at done n left)));
-        earlier = rw (cert.tests (length done) n there) refl;
-        new = any_lacks same_test_node same_test_equal test_same_itself done n (no_earlier done n left (subst HasNoDoubles e cert.each_test_once));
+        earlier = rw (has_below (length done) (test_parts n) (IsTestOver-part (length done) n (cert.nodes.tests_ordered (length done) n there))) refl;
+        new = any_lacks same_test_node same_test_equal test_same_itself done n (no_earlier done n left (subst HasNoDoubles e cert.nodes.tests_once));
         ordered = refl;
       }
 
-  term_passes : (done : List TermNode) (n : TermNode) (left : List TermNode) → c.term_nodes ≡ done ++ n ∷ left → Passes (parts c.test_nodes done []) (TermLine n)
+  term_passes : (done : List (TermNode ℕ ℕ)) (n : TermNode ℕ ℕ) (left : List (TermNode ℕ ℕ)) → c.term_nodes ≡ done ++ n ∷ left → Passes (parts c.test_nodes done []) (TermLine n)
   term_passes done n left e =
       let there : slice_get c.term_nodes (length done) ≡ Some n = ap (λ l. slice_get l (length done)) e ∙ slice_get-append_seam done n left in
+      let over = cert.nodes.terms_ordered (length done) n there in
       let has : Has c.term_nodes n = subst (λ l. Has l n) (sym e) (has_at done n left) in
       record {
         stands = refl;
         narrow = none_wide (entry_numbers (TermLine n)) (narrow_term n has);
-        earlier = rw (cert.tests_of_terms n has, cert.terms (length done) n there) refl;
-        new = any_lacks same_term_node same_term_equal term_same_itself done n (no_earlier done n left (subst HasNoDoubles e cert.each_term_once));
+        earlier = rw (has_below (length c.test_nodes) (tests_of_term n) (IsOver-test (length c.test_nodes) (length done) n over), has_below (length done) (term_parts n) (IsOver-part (length c.test_nodes) (length done) n over)) refl;
+        new = any_lacks same_term_node same_term_equal term_same_itself done n (no_earlier done n left (subst HasNoDoubles e cert.nodes.terms_once));
         ordered = refl;
       }
 
@@ -123,7 +126,7 @@ module _ (c : CertParts) (cert : IsCert c) (narrow : (e : Entry) → Has (entrie
       let has : Has c.pairs p = subst (λ l. Has l p) (sym e) (has_at done p left) in
       (narrow_pair p has, pair_passes done p has, pairs_pass (done ++ p ∷ []) left (e ∙ sym (append_assoc done (p ∷ []) left)))
 
-  terms_pass : (done left : List TermNode) → c.term_nodes ≡ done ++ left → PassAll (parts c.test_nodes done []) (map TermLine left ++ map PairLine c.pairs)
+  terms_pass : (done left : List (TermNode ℕ ℕ)) → c.term_nodes ≡ done ++ left → PassAll (parts c.test_nodes done []) (map TermLine left ++ map PairLine c.pairs)
   terms_pass done [] e =
       subst (λ l. PassAll (parts c.test_nodes l []) (map PairLine c.pairs)) (e ∙ append-nil done) (pairs_pass [] c.pairs refl)
   terms_pass done (n ∷ left) e = (
@@ -132,7 +135,7 @@ module _ (c : CertParts) (cert : IsCert c) (narrow : (e : Entry) → Has (entrie
     terms_pass (done ++ n ∷ []) left (e ∙ sym (append_assoc done (n ∷ []) left)),
   )
 
-  tests_pass : (done left : List TestNode) → c.test_nodes ≡ done ++ left → PassAll (parts done [] []) (map TestLine left ++ (map TermLine c.term_nodes ++ map PairLine c.pairs))
+  tests_pass : (done left : List (TestNode ℕ)) → c.test_nodes ≡ done ++ left → PassAll (parts done [] []) (map TestLine left ++ (map TermLine c.term_nodes ++ map PairLine c.pairs))
   tests_pass done [] e =
       subst (λ l. PassAll (parts l [] []) (map TermLine c.term_nodes ++ map PairLine c.pairs)) (e ∙ append-nil done) (terms_pass [] c.term_nodes refl)
   tests_pass done (n ∷ left) e = (
@@ -145,11 +148,11 @@ module _ (c : CertParts) (cert : IsCert c) (narrow : (e : Entry) → Has (entrie
   with_pairs done [] = ap (λ l. parts c.test_nodes c.term_nodes l) (sym (append-nil done))
   with_pairs done (p ∷ left) = with_pairs (done ++ p ∷ []) left ∙ ap (λ l. parts c.test_nodes c.term_nodes l) (append_assoc done (p ∷ []) left)
 
-  with_terms : (done left : List TermNode) (rest : List Entry) → with_entries (parts c.test_nodes done []) (map TermLine left ++ rest) ≡ with_entries (parts c.test_nodes (done ++ left) []) rest
+  with_terms : (done left : List (TermNode ℕ ℕ)) (rest : List Entry) → with_entries (parts c.test_nodes done []) (map TermLine left ++ rest) ≡ with_entries (parts c.test_nodes (done ++ left) []) rest
   with_terms done [] rest = ap (λ l. with_entries (parts c.test_nodes l []) rest) (sym (append-nil done))
   with_terms done (n ∷ left) rest = with_terms (done ++ n ∷ []) left rest ∙ ap (λ l. with_entries (parts c.test_nodes l []) rest) (append_assoc done (n ∷ []) left)
 
-  with_tests : (done left : List TestNode) (rest : List Entry) → with_entries (parts done [] []) (map TestLine left ++ rest) ≡ with_entries (parts (done ++ left) [] []) rest
+  with_tests : (done left : List (TestNode ℕ)) (rest : List Entry) → with_entries (parts done [] []) (map TestLine left ++ rest) ≡ with_entries (parts (done ++ left) [] []) rest
   with_tests done [] rest = ap (λ l. with_entries (parts l [] []) rest) (sym (append-nil done))
   with_tests done (n ∷ left) rest = with_tests (done ++ n ∷ []) left rest ∙ ap (λ l. with_entries (parts l [] []) rest) (append_assoc done (n ∷ []) left)
 

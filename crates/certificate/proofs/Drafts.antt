@@ -6,17 +6,19 @@ use Rattle.std.proofs.lemmas.Map.Lookups.{CmpEqualImpliesEq}
 use Rattle.kat_model.specs.Members.{Has, SameMembers}
 use Rattle.kat_model.proofs.Lists.{has_left, has_right}
 use Rattle.kat_model.proofs.SetKeys.{inserted_has}
-use Rattle.certificate.specs.declared.nodes.TestNode.{TestNode}
-use Rattle.certificate.specs.declared.nodes.TermNode.{TermNode}
+use Rattle.term_nodes.specs.declared.TestNode.{TestNode}
+use Rattle.term_nodes.specs.declared.TermNode.{TermNode}
 use Rattle.certificate.specs.declared.entry.Entry.{Entry}
 use Rattle.certificate.specs.declared.entry.Entry.TheVariants.{TestLine, TermLine, PairLine}
 use Rattle.certificate.specs.declared.draft.Draft.{Draft}
 use Rattle.certificate.specs.declared.evidence.EvidenceFault.TheVariants.{DoubleNode}
 use Rattle.certificate.specs.Certs.{IsCert}
 use Rattle.certificate.specs.Faults.{entry_fault, with_entry}
-use Rattle.certificate.specs.Nodes.{NumberPair, same_test_node, same_term_node, are_ascending}
+use Rattle.term_nodes.specs.Nodes.{same_test_node, same_term_node}
+use Rattle.term_nodes.specs.NumberSets.{NumberPair, are_ascending}
 use Rattle.certificate.specs.Working.Readings.{draft_parts, IsDraft, MayBeAdded}
-use Rattle.certificate.proofs.Growth.{Passes, passes_faultless, double_fault, cert_grown, any_same, any_lacks, same_test_equal, test_same_itself, same_term_equal, term_same_itself, has_pushed}
+use Rattle.certificate.proofs.Growth.{Passes, passes_faultless, double_fault, cert_grown, any_same, any_lacks, same_test_equal, test_same_itself, same_term_equal, term_same_itself}
+use Rattle.term_nodes.proofs.Insertions.{has_pushed}
 
 -- the keys of a set with one more key, and the list with one more node
 pub known_pushed : {X : Type 0} {R : X → X → Ordering} → CmpEqualImpliesEq R → (olds xs : List X) (x : X) → SameMembers olds xs → SameMembers (insert_key R olds x) (xs ++ x ∷ [])
@@ -28,16 +30,16 @@ known_pushed exact olds xs x was y =
 
 module _ (d : Draft) (n : ℕ) where
   -- a known node is a double
-  pub test_double : (node : TestNode) → IsDraft d → MayBeAdded d (TestLine node) → Has d.known_tests.keys node → entry_fault (draft_parts d) n (TestLine node) ≡ Some (DoubleNode n)
+  pub test_double : (node : TestNode ℕ) → IsDraft d → MayBeAdded d (TestLine node) → Has d.known_tests.keys node → entry_fault (draft_parts d) n (TestLine node) ≡ Some (DoubleNode n)
   test_double node draft may known =
       double_fault (draft_parts d) n (TestLine node) may.stands may.narrow may.earlier (any_same same_test_node same_test_equal test_same_itself d.test_nodes.items node ((draft.tests node).0 known))
 
-  pub term_double : (node : TermNode) → IsDraft d → MayBeAdded d (TermLine node) → Has d.known_terms.keys node → entry_fault (draft_parts d) n (TermLine node) ≡ Some (DoubleNode n)
+  pub term_double : (node : TermNode ℕ ℕ) → IsDraft d → MayBeAdded d (TermLine node) → Has d.known_terms.keys node → entry_fault (draft_parts d) n (TermLine node) ≡ Some (DoubleNode n)
   term_double node draft may known =
       double_fault (draft_parts d) n (TermLine node) may.stands may.narrow may.earlier (any_same same_term_node same_term_equal term_same_itself d.term_nodes.items node ((draft.terms node).0 known))
 
   -- a node that is not known passes
-  pub test_passes : (node : TestNode) → IsDraft d → MayBeAdded d (TestLine node) → (Has d.known_tests.keys node → ⊥) → Passes (draft_parts d) (TestLine node)
+  pub test_passes : (node : TestNode ℕ) → IsDraft d → MayBeAdded d (TestLine node) → (Has d.known_tests.keys node → ⊥) → Passes (draft_parts d) (TestLine node)
   test_passes node draft may new =
       record {
         stands = may.stands;
@@ -47,7 +49,7 @@ module _ (d : Draft) (n : ℕ) where
         ordered = refl;
       }
 
-  pub term_passes : (node : TermNode) → IsDraft d → MayBeAdded d (TermLine node) → (Has d.known_terms.keys node → ⊥) → Passes (draft_parts d) (TermLine node)
+  pub term_passes : (node : TermNode ℕ ℕ) → IsDraft d → MayBeAdded d (TermLine node) → (Has d.known_terms.keys node → ⊥) → Passes (draft_parts d) (TermLine node)
   term_passes node draft may new =
       record {
         stands = may.stands;

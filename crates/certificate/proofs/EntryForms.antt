@@ -8,10 +8,10 @@ use Rattle.std.proofs.lemmas.Slice.Eq.{bytes_eq-Decides}
 use mathlib.Core.Path.{ap₂}
 use Rattle.std.proofs.lemmas.List.{take-map, drop-map, take_all}
 use Rattle.std.proofs.lemmas.List.Folds.{list_any-append}
-use Rattle.certificate.specs.declared.nodes.TestNode.{TestNode}
-use Rattle.certificate.specs.declared.nodes.TestNode.TheVariants.{False, True, Prim, Not, And, Or}
-use Rattle.certificate.specs.declared.nodes.TermNode.{TermNode}
-use Rattle.certificate.specs.declared.nodes.TermNode.TheVariants.{Zero, One, Test, Act, Sum, Seq, Star}
+use Rattle.term_nodes.specs.declared.TestNode.{TestNode}
+use Rattle.term_nodes.specs.declared.TestNode.TheVariants.{False, True, Prim, Not, And, Or}
+use Rattle.term_nodes.specs.declared.TermNode.{TermNode}
+use Rattle.term_nodes.specs.declared.TermNode.TheVariants.{Zero, One, Test, Act, Sum, Seq, Star}
 use Rattle.certificate.specs.declared.words.Numbers.{Numbers}
 use Rattle.certificate.specs.declared.entry.Entry.{Entry}
 use Rattle.certificate.specs.declared.entry.Entry.TheVariants.{TestLine, TermLine, PairLine}
@@ -21,7 +21,7 @@ use Rattle.certificate.specs.Texts.{test_name, test_numbers, term_name, term_num
 use Rattle.certificate.specs.Forms.{is_numeral, value_of, numbers_of, test_node_of, term_node_of, is_bar, both_sets, pair_of}
 use Rattle.certificate.specs.Faults.{too_wide, is_wide, section_of}
 use Rattle.certificate.specs.Working.Readings.{texts, HasNumbers}
-use Rattle.certificate.specs.Nodes.{NumberPair}
+use Rattle.term_nodes.specs.NumberSets.{NumberPair}
 use Rattle.certificate.proofs.Splits.{position_at, position_none}
 
 two_forms : {N : Type 0} (b c : Bool) (x y n : N) → cond b (Some x) (cond c (Some y) None) ≡ Some n → ((b ≡ true) × (x ≡ n)) ⊎ ((c ≡ true) × (y ≡ n))
@@ -51,20 +51,20 @@ pub named : (name word : List ℕ) → bytes_eq name word ≡ true → name ≡ 
 named name word e = (bytes_eq-Decides name word).0 e
 
 -- a node's name and numbers are those that are read
-test_two : (name v w : List ℕ) (ks : List ℕ) (x y n : TestNode) → test_name x ≡ v → test_name y ≡ w → ks ≡ test_numbers x → ks ≡ test_numbers y → cond (bytes_eq name v) (Some x) (cond (bytes_eq name w) (Some y) None) ≡ Some n → (name ≡ test_name n) × (ks ≡ test_numbers n)
+test_two : (name v w : List ℕ) (ks : List ℕ) (x y n : TestNode ℕ) → test_name x ≡ v → test_name y ≡ w → ks ≡ test_numbers x → ks ≡ test_numbers y → cond (bytes_eq name v) (Some x) (cond (bytes_eq name w) (Some y) None) ≡ Some n → (name ≡ test_name n) × (ks ≡ test_numbers n)
 test_two name v w ks x y n nx ny kx ky e =
     ⊎_elim
     (λ p. (named name v p.0 ∙ sym nx ∙ ap test_name p.1, kx ∙ ap test_numbers p.1))
     (λ p. (named name w p.0 ∙ sym ny ∙ ap test_name p.1, ky ∙ ap test_numbers p.1))
     (two_forms (bytes_eq name v) (bytes_eq name w) x y n e)
 
-pub test_node_told : (name ks : List ℕ) (n : TestNode) → test_node_of name ks ≡ Some n → (name ≡ test_name n) × (ks ≡ test_numbers n)
+pub test_node_told : (name ks : List ℕ) (n : TestNode ℕ) → test_node_of name ks ≡ Some n → (name ≡ test_name n) × (ks ≡ test_numbers n)
 test_node_told name [] n e = test_two name _ _ [] False True n refl refl refl refl e
 test_node_told name (x ∷ []) n e = test_two name _ _ (x ∷ []) (Prim x) (Not x) n refl refl refl refl e
 test_node_told name (x ∷ y ∷ []) n e = test_two name _ _ (x ∷ y ∷ []) (And x y) (Or x y) n refl refl refl refl e
 test_node_told name (x ∷ y ∷ z ∷ ks) n e = cc
 
-pub test_node_made : (n : TestNode) → test_node_of (test_name n) (test_numbers n) ≡ Some n
+pub test_node_made : (n : TestNode ℕ) → test_node_of (test_name n) (test_numbers n) ≡ Some n
 test_node_made False = refl
 test_node_made True = refl
 test_node_made (Prim k) = refl
@@ -72,14 +72,14 @@ test_node_made (Not x) = refl
 test_node_made (And x y) = refl
 test_node_made (Or x y) = refl
 
-term_two : (name v w : List ℕ) (ks : List ℕ) (x y n : TermNode) → term_name x ≡ v → term_name y ≡ w → ks ≡ term_numbers x → ks ≡ term_numbers y → cond (bytes_eq name v) (Some x) (cond (bytes_eq name w) (Some y) None) ≡ Some n → (name ≡ term_name n) × (ks ≡ term_numbers n)
+term_two : (name v w : List ℕ) (ks : List ℕ) (x y n : TermNode ℕ ℕ) → term_name x ≡ v → term_name y ≡ w → ks ≡ term_numbers x → ks ≡ term_numbers y → cond (bytes_eq name v) (Some x) (cond (bytes_eq name w) (Some y) None) ≡ Some n → (name ≡ term_name n) × (ks ≡ term_numbers n)
 term_two name v w ks x y n nx ny kx ky e =
     ⊎_elim
     (λ p. (named name v p.0 ∙ sym nx ∙ ap term_name p.1, kx ∙ ap term_numbers p.1))
     (λ p. (named name w p.0 ∙ sym ny ∙ ap term_name p.1, ky ∙ ap term_numbers p.1))
     (two_forms (bytes_eq name v) (bytes_eq name w) x y n e)
 
-term_three : (name u v w : List ℕ) (ks : List ℕ) (x y z n : TermNode) → term_name x ≡ u → term_name y ≡ v → term_name z ≡ w → ks ≡ term_numbers x → ks ≡ term_numbers y → ks ≡ term_numbers z → cond (bytes_eq name u) (Some x) (cond (bytes_eq name v) (Some y) (cond (bytes_eq name w) (Some z) None)) ≡ Some n → (name ≡ term_name n) × (ks ≡ term_numbers n)
+term_three : (name u v w : List ℕ) (ks : List ℕ) (x y z n : TermNode ℕ ℕ) → term_name x ≡ u → term_name y ≡ v → term_name z ≡ w → ks ≡ term_numbers x → ks ≡ term_numbers y → ks ≡ term_numbers z → cond (bytes_eq name u) (Some x) (cond (bytes_eq name v) (Some y) (cond (bytes_eq name w) (Some z) None)) ≡ Some n → (name ≡ term_name n) × (ks ≡ term_numbers n)
 term_three name u v w ks x y z n nx ny nz kx ky kz e =
     ⊎_elim
     (λ p. (named name u p.0 ∙ sym nx ∙ ap term_name p.1, kx ∙ ap term_numbers p.1))
@@ -89,13 +89,13 @@ term_three name u v w ks x y z n nx ny nz kx ky kz e =
     q)
     (three_forms (bytes_eq name u) (bytes_eq name v) (bytes_eq name w) x y z n e)
 
-pub term_node_told : (name ks : List ℕ) (n : TermNode) → term_node_of name ks ≡ Some n → (name ≡ term_name n) × (ks ≡ term_numbers n)
+pub term_node_told : (name ks : List ℕ) (n : TermNode ℕ ℕ) → term_node_of name ks ≡ Some n → (name ≡ term_name n) × (ks ≡ term_numbers n)
 term_node_told name [] n e = term_two name _ _ [] Zero One n refl refl refl refl e
 term_node_told name (x ∷ []) n e = term_three name _ _ _ (x ∷ []) (Test x) (Act x) (Star x) n refl refl refl refl refl refl e
 term_node_told name (x ∷ y ∷ []) n e = term_two name _ _ (x ∷ y ∷ []) (Sum x y) (Seq x y) n refl refl refl refl e
 term_node_told name (x ∷ y ∷ z ∷ ks) n e = cc
 
-pub term_node_made : (n : TermNode) → term_node_of (term_name n) (term_numbers n) ≡ Some n
+pub term_node_made : (n : TermNode ℕ ℕ) → term_node_of (term_name n) (term_numbers n) ≡ Some n
 term_node_made Zero = refl
 term_node_made One = refl
 term_node_made (Test x) = refl
@@ -112,7 +112,7 @@ of_three : {N : Type 0} (b c d : Bool) (u v w x y z n : N) → cond b (Some u) (
 of_three b c d u v w x y z n e =
     some_of_three b c d x y z (⊎_elim (λ p. inl p.0) (λ q. inr (⊎_elim (λ p. inl p.0) (λ p. inr p.0) q)) (three_forms b c d u v w n e))
 
-pub test_node_same : (name xs ys : List ℕ) (n : TestNode) → length xs ≡ length ys → test_node_of name xs ≡ Some n → (m : TestNode) × (test_node_of name ys ≡ Some m)
+pub test_node_same : (name xs ys : List ℕ) (n : TestNode ℕ) → length xs ≡ length ys → test_node_of name xs ≡ Some n → (m : TestNode ℕ) × (test_node_of name ys ≡ Some m)
 test_node_same name [] [] n h e = (n, e)
 test_node_same name [] (y ∷ ys) n h e = absurd (omega arith)
 test_node_same name (x ∷ xs) [] n h e = absurd (omega arith)
@@ -123,7 +123,7 @@ test_node_same name (w ∷ x ∷ []) (y ∷ z ∷ []) n h e = of_two (bytes_eq n
 test_node_same name (w ∷ x ∷ []) (y ∷ z ∷ k ∷ ys) n h e = absurd (omega arith)
 test_node_same name (w ∷ x ∷ k ∷ xs) ys n h e = cc
 
-pub term_node_same : (name xs ys : List ℕ) (n : TermNode) → length xs ≡ length ys → term_node_of name xs ≡ Some n → (m : TermNode) × (term_node_of name ys ≡ Some m)
+pub term_node_same : (name xs ys : List ℕ) (n : TermNode ℕ ℕ) → length xs ≡ length ys → term_node_of name xs ≡ Some n → (m : TermNode ℕ ℕ) × (term_node_of name ys ≡ Some m)
 term_node_same name [] [] n h e = (n, e)
 term_node_same name [] (y ∷ ys) n h e = absurd (omega arith)
 term_node_same name (x ∷ xs) [] n h e = absurd (omega arith)
@@ -175,10 +175,10 @@ module _ {N : Type 0} (node_of : List ℕ → Option N) (made : N → Entry) (nu
       let ks : map value_of ws ≡ entry_numbers (made n) = told (map value_of ws) n there ∙ sym (of_numbers n) in
       (node_at ws (Some n) e there, ap (λ l. list_any too_wide l) (sym ks) ∙ sym has.wide ∙ narrow)
 
-pub wide_test : (name : List ℕ) (ws : List (List ℕ)) (v : Numbers) (n : TestNode) → list_all is_numeral ws ≡ true → HasNumbers (map value_of ws) v → test_node_of name v.values.items ≡ Some n → v.wide ≡ true → (e : Entry) × (option_map TestLine (option_and_then (test_node_of name) (numbers_of ws)) ≡ Some e) × (is_wide e ≡ true) × (section_of e ≡ Tests)
+pub wide_test : (name : List ℕ) (ws : List (List ℕ)) (v : Numbers) (n : TestNode ℕ) → list_all is_numeral ws ≡ true → HasNumbers (map value_of ws) v → test_node_of name v.values.items ≡ Some n → v.wide ≡ true → (e : Entry) × (option_map TestLine (option_and_then (test_node_of name) (numbers_of ws)) ≡ Some e) × (is_wide e ≡ true) × (section_of e ≡ Tests)
 wide_test name = wide_node (test_node_of name) TestLine test_numbers Tests (test_node_same name) (λ ks n e. (test_node_told name ks n e).1) (λ n. refl) (λ n. refl)
 
-pub wide_term : (name : List ℕ) (ws : List (List ℕ)) (v : Numbers) (n : TermNode) → list_all is_numeral ws ≡ true → HasNumbers (map value_of ws) v → term_node_of name v.values.items ≡ Some n → v.wide ≡ true → (e : Entry) × (option_map TermLine (option_and_then (term_node_of name) (numbers_of ws)) ≡ Some e) × (is_wide e ≡ true) × (section_of e ≡ Terms)
+pub wide_term : (name : List ℕ) (ws : List (List ℕ)) (v : Numbers) (n : TermNode ℕ ℕ) → list_all is_numeral ws ≡ true → HasNumbers (map value_of ws) v → term_node_of name v.values.items ≡ Some n → v.wide ≡ true → (e : Entry) × (option_map TermLine (option_and_then (term_node_of name) (numbers_of ws)) ≡ Some e) × (is_wide e ≡ true) × (section_of e ≡ Terms)
 wide_term name = wide_node (term_node_of name) TermLine term_numbers Terms (term_node_same name) (λ ks n e. (term_node_told name ks n e).1) (λ n. refl) (λ n. refl)
 
 -- a place among words, by their bytes

@@ -1,11 +1,12 @@
 -- Worked examples of evidence: texts that are read, the first faults of others, and the trees of nodes.
 use Rattle.std.proofs.Common.{◌≡◌, [], ◌∷◌, true, false, Some, Ok, codes, refl}
 use Rattle.kat_model.specs.Trees.{Term, prim, test, act, sum, product, star}
-use Rattle.certificate.specs.declared.nodes.TestNode.TheVariants.{Prim}
-use Rattle.certificate.specs.declared.nodes.TermNode.TheVariants.{Test, Act, Sum, Seq, Star}
+use Rattle.term_nodes.specs.declared.TestNode.TheVariants.{Prim}
+use Rattle.term_nodes.specs.declared.TermNode.TheVariants.{Test, Act, Sum, Seq, Star}
 use Rattle.certificate.specs.declared.nodes.Style.TheVariants.{Plain}
 use Rattle.certificate.specs.declared.evidence.Evidence.TheVariants.{Equal, Different}
 use Rattle.certificate.specs.declared.evidence.EvidenceFault.TheVariants.{Header, Line, NodeOrder, DoubleNode, SetOrder, NumberTooWide, Truncated, Trailing}
+use Rattle.term_nodes.specs.NodeTrees.{test_trees, trees}
 use Rattle.certificate.specs.Certs.{CertParts}
 use Rattle.certificate.specs.Texts.{text_of}
 use Rattle.certificate.specs.Faults.{answer_of, line_fault}
@@ -24,6 +25,7 @@ one_test_text : codes "kat 1 equal\nT prim 0\nE test 0\nP 0 | 0\nend\n" ≡ text
 one_test_text = (read_told _ (Equal one_test) one_test_read).1
 
 one_test_pairs : set_pairs one_test ≡ record { left = test (prim 0) ∷ []; right = test (prim 0) ∷ [] } ∷ []
+unfolding test_trees trees
 one_test_pairs = refl
 
 -- (p + q)* = (p*.q)*.p*
@@ -47,6 +49,7 @@ abbrev nested : Term
 nested = star (product (star p) q)
 
 denesting_pairs : set_pairs denesting ≡ record { left = star (sum p q) ∷ []; right = product nested (star p) ∷ [] } ∷ record { left = star (sum p q) ∷ []; right = star p ∷ product (product (product (star p) q) nested) (star p) ∷ [] } ∷ []
+unfolding test_trees trees
 denesting_pairs = refl
 
 -- two tests, and a step of action 0

@@ -1,24 +1,25 @@
 -- A certificate with one more entry that has no fault keeps the rules.
-use Rattle.std.proofs.Common.{◌≡◌, ℕ, ◌≤◌, ◌⊎◌, inl, inr, ⊎_elim, List, [], ◌∷◌, ◌++◌, length, Bool, true, false, not, ◌&&◌, eqb, nat_lt, Option, Some, None, refl, sym, ap, ◌∙◌, subst, arith, length-append, eqb-true, eq-eqb, ltb-true}
+use Rattle.std.proofs.Common.{◌≡◌, ℕ, ◌≤◌, ◌⊎◌, ⊎_elim, List, [], ◌∷◌, ◌++◌, length, Bool, true, false, not, ◌&&◌, eqb, nat_lt, Option, Some, None, refl, sym, ap, ◌∙◌, subst, arith, length-append, eqb-true, eq-eqb}
 use mathlib.Core.Path.{ap₂}
-use Rattle.std.specs.Bool.{IsTrue}
 use Rattle.std.specs.List.{list_any}
 use Rattle.std.specs.Option.{option_or}
-use Rattle.std.proofs.lemmas.Bool.{and_parts, not-false, lt-ltb}
+use Rattle.std.proofs.lemmas.Bool.{and_parts, not-false}
 use Rattle.std.proofs.lemmas.List.Folds.{list_all-append}
-use Rattle.kat_model.specs.Members.{Has, HasNoDoubles}
-use Rattle.kat_model.proofs.Lists.{has_append, has_any, any_has}
-use Rattle.kat_model.proofs.Places.{slice_get_last}
-use Rattle.certificate.specs.declared.nodes.TestNode.{TestNode}
-use Rattle.certificate.specs.declared.nodes.TestNode.TheVariants.{False, True, Prim, Not, And, Or}
-use Rattle.certificate.specs.declared.nodes.TermNode.{TermNode}
-use Rattle.certificate.specs.declared.nodes.TermNode.TheVariants.{Zero, One, Test, Act, Sum, Seq, Star}
+use Rattle.kat_model.specs.Members.{Has}
+use Rattle.kat_model.proofs.Lists.{has_any, any_has}
+use Rattle.term_nodes.specs.declared.TestNode.{TestNode}
+use Rattle.term_nodes.specs.declared.TestNode.TheVariants.{False, True, Prim, Not, And, Or}
+use Rattle.term_nodes.specs.declared.TermNode.{TermNode}
+use Rattle.term_nodes.specs.declared.TermNode.TheVariants.{Zero, One, Test, Act, Sum, Seq, Star}
 use Rattle.certificate.specs.declared.entry.Entry.{Entry}
 use Rattle.certificate.specs.declared.entry.Entry.TheVariants.{TestLine, TermLine, PairLine}
 use Rattle.certificate.specs.declared.evidence.EvidenceFault.{EvidenceFault}
 use Rattle.certificate.specs.declared.evidence.EvidenceFault.TheVariants.{Line, NodeOrder, DoubleNode, SetOrder, NumberTooWide}
-use Rattle.certificate.specs.Nodes.{test_parts, term_parts, tests_of_term, same_test_node, same_term_node, are_below, are_ascending}
-use Rattle.certificate.specs.Certs.{CertParts, IsNumberSet, IsCert}
+use Rattle.term_nodes.specs.Nodes.{test_parts, term_parts, tests_of_term, same_test_node, same_term_node}
+use Rattle.term_nodes.specs.NumberSets.{are_below, are_ascending, IsNumberSet}
+use Rattle.term_nodes.proofs.Parts.{parts-IsTestOver, parts-IsOver, below_has, below_more}
+use Rattle.term_nodes.proofs.Insertions.{has_pushed, test_pushed, term_pushed}
+use Rattle.certificate.specs.Certs.{CertParts, IsCert, nodes_of}
 use Rattle.certificate.specs.Faults.{is_wide, section_of, may_stand, names_earlier, stands_already, has_order, fault_where, entry_fault, with_entry}
 
 -- an entry passes every test
@@ -69,7 +70,7 @@ module _ (c : CertParts) (n : ℕ) (e : Entry) where
 same_numbers : {N : Type 0} (made : ℕ → ℕ → N) (w x y z : ℕ) → (eqb w y && eqb x z) ≡ true → made w x ≡ made y z
 same_numbers made w x y z e = let p = and_parts (eqb w y) (eqb x z) e in ap₂ made (eqb-true w y p.0) (eqb-true x z p.1)
 
-pub same_test_equal : (m n : TestNode) → same_test_node m n ≡ true → m ≡ n
+pub same_test_equal : (m n : TestNode ℕ) → same_test_node m n ≡ true → m ≡ n
 same_test_equal False False e = refl
 same_test_equal True True e = refl
 same_test_equal (Prim k) (Prim l) e = ap Prim (eqb-true k l e)
@@ -81,7 +82,7 @@ same_test_equal m n e = cc
 two_equal : (x y : ℕ) → (eqb x x && eqb y y) ≡ true
 two_equal x y = rw (eq-eqb x x refl, eq-eqb y y refl) refl
 
-pub test_same_itself : (n : TestNode) → same_test_node n n ≡ true
+pub test_same_itself : (n : TestNode ℕ) → same_test_node n n ≡ true
 test_same_itself False = refl
 test_same_itself True = refl
 test_same_itself (Prim k) = eq-eqb k k refl
@@ -89,7 +90,7 @@ test_same_itself (Not x) = eq-eqb x x refl
 test_same_itself (And x y) = two_equal x y
 test_same_itself (Or x y) = two_equal x y
 
-pub same_term_equal : (m n : TermNode) → same_term_node m n ≡ true → m ≡ n
+pub same_term_equal : (m n : TermNode ℕ ℕ) → same_term_node m n ≡ true → m ≡ n
 same_term_equal Zero Zero e = refl
 same_term_equal One One e = refl
 same_term_equal (Test x) (Test y) e = ap Test (eqb-true x y e)
@@ -99,7 +100,7 @@ same_term_equal (Seq w x) (Seq y z) e = same_numbers Seq w x y z e
 same_term_equal (Star x) (Star y) e = ap Star (eqb-true x y e)
 same_term_equal m n e = cc
 
-pub term_same_itself : (n : TermNode) → same_term_node n n ≡ true
+pub term_same_itself : (n : TermNode ℕ ℕ) → same_term_node n n ≡ true
 term_same_itself Zero = refl
 term_same_itself One = refl
 term_same_itself (Test x) = eq-eqb x x refl
@@ -126,26 +127,7 @@ module _ {X : Type 0} (same : X → X → Bool) (equal : (x y : X) → same x y 
       by_cases true e = absurd (lacks (same_any xs x e))
       by_cases false e = e
 
--- ---- one more member of a list
-
-pub has_pushed : {X : Type 0} (xs : List X) (x y : X) → Has (xs ++ x ∷ []) y → Has xs y ⊎ (x ≡ y)
-has_pushed xs x y h = ⊎_elim inl (λ k. ⊎_elim inr absurd k) (has_append xs (x ∷ []) y h)
-
-pub no_doubles_pushed : {X : Type 0} (xs : List X) (x : X) → HasNoDoubles xs → (Has xs x → ⊥) → HasNoDoubles (xs ++ x ∷ [])
-no_doubles_pushed [] x none lacks = ((λ h. h), tt)
-no_doubles_pushed (y ∷ xs) x none lacks = (
-  (λ h. ⊎_elim none.0 (λ e. lacks (inl (sym e))) (has_pushed xs x y h)),
-  no_doubles_pushed xs x none.1 (λ h. lacks (inr h)),
-)
-
-below_step : (m n k : ℕ) → m ≤ n → nat_lt k m ≡ true → nat_lt k n ≡ true
-below_step m n k le e = lt-ltb k n (omega (arith, ltb-true k m e))
-
-pub below_more : (m n : ℕ) (ks : List ℕ) → m ≤ n → are_below m ks ≡ true → are_below n ks ≡ true
-below_more m n [] le e = refl
-below_more m n (k ∷ ks) le e =
-    let p = and_parts (nat_lt k m) (are_below m ks) e in
-    rw (below_step m n k le p.0, below_more m n ks le p.1) refl
+-- ---- one more entry
 
 pub set_more : (m n : ℕ) (ks : List ℕ) → m ≤ n → IsNumberSet m ks → IsNumberSet n ks
 set_more m n ks le s = record { there = below_more m n ks le s.there; ascending = s.ascending }
@@ -153,27 +135,18 @@ set_more m n ks le s = record { there = below_more m n ks le s.there; ascending 
 longer : {X : Type 0} (xs : List X) (x : X) → length xs ≤ length (xs ++ x ∷ [])
 longer xs x = omega (arith, length-append xs (x ∷ []))
 
--- ---- one more entry
-
 pub cert_grown : (c : CertParts) (e : Entry) → IsCert c → Passes c e → IsCert (with_entry c e)
 cert_grown c (TestLine n) cert p =
     let earlier = (and_parts (are_below (length c.test_nodes) (test_parts n)) _ p.earlier).0 in
     record {
-      tests = λ k m e. ⊎_elim (cert.tests k m) (λ q. subst (λ l. IsTrue (are_below l (test_parts m))) (sym q.0) (subst (λ l. IsTrue (are_below (length c.test_nodes) (test_parts l))) q.1 earlier)) (slice_get_last c.test_nodes n k m e);
-      terms = cert.terms;
-      tests_of_terms = λ m h. below_more (length c.test_nodes) (length (c.test_nodes ++ n ∷ [])) (tests_of_term m) (longer c.test_nodes n) (cert.tests_of_terms m h);
-      each_test_once = no_doubles_pushed c.test_nodes n cert.each_test_once (lacks_any same_test_node same_test_equal test_same_itself c.test_nodes n p.new);
-      each_term_once = cert.each_term_once;
+      nodes = test_pushed (nodes_of c) n cert.nodes (parts-IsTestOver (length c.test_nodes) n (below_has (length c.test_nodes) (test_parts n) earlier)) (lacks_any same_test_node same_test_equal test_same_itself c.test_nodes n p.new);
       pairs = cert.pairs;
     }
 cert_grown c (TermLine n) cert p =
     let earlier = and_parts (are_below (length c.test_nodes) (tests_of_term n)) (are_below (length c.term_nodes) (term_parts n)) p.earlier in
+    let over = parts-IsOver (length c.test_nodes) (length c.term_nodes) n (below_has (length c.test_nodes) (tests_of_term n) earlier.0) (below_has (length c.term_nodes) (term_parts n) earlier.1) in
     record {
-      tests = cert.tests;
-      terms = λ k m e. ⊎_elim (cert.terms k m) (λ q. subst (λ l. IsTrue (are_below l (term_parts m))) (sym q.0) (subst (λ l. IsTrue (are_below (length c.term_nodes) (term_parts l))) q.1 earlier.1)) (slice_get_last c.term_nodes n k m e);
-      tests_of_terms = λ m h. ⊎_elim (cert.tests_of_terms m) (λ q. subst (λ l. IsTrue (are_below (length c.test_nodes) (tests_of_term l))) q earlier.0) (has_pushed c.term_nodes n m h);
-      each_test_once = cert.each_test_once;
-      each_term_once = no_doubles_pushed c.term_nodes n cert.each_term_once (lacks_any same_term_node same_term_equal term_same_itself c.term_nodes n p.new);
+      nodes = term_pushed (nodes_of c) n cert.nodes over (lacks_any same_term_node same_term_equal term_same_itself c.term_nodes n p.new);
       pairs = λ q h. let old = cert.pairs q h in (set_more _ _ q.left (longer c.term_nodes n) old.0, set_more _ _ q.right (longer c.term_nodes n) old.1);
     }
 cert_grown c (PairLine q) cert p =
@@ -183,10 +156,6 @@ cert_grown c (PairLine q) cert p =
     let sets : IsNumberSet (length c.term_nodes) q.left × IsNumberSet (length c.term_nodes) q.right =
     (record { there = there.0; ascending = ascend.0 }, record { there = there.1; ascending = ascend.1 }) in
     record {
-      tests = cert.tests;
-      terms = cert.terms;
-      tests_of_terms = cert.tests_of_terms;
-      each_test_once = cert.each_test_once;
-      each_term_once = cert.each_term_once;
+      nodes = cert.nodes;
       pairs = λ r h. ⊎_elim (cert.pairs r) (λ e. subst (λ s. IsNumberSet (length c.term_nodes) s.left × IsNumberSet (length c.term_nodes) s.right) e sets) (has_pushed c.pairs q r h);
     }

@@ -17,6 +17,5 @@ pub mod ReadTexts
 pub mod Exactness
 pub mod FirstFaults
 pub mod OneSpelling
-pub mod NodeTrees
 pub mod EvidenceExamples
 pub mod Written

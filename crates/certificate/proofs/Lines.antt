@@ -8,7 +8,7 @@ use Rattle.kat_model.specs.Strings.{Move, GuardedString}
 use Rattle.certificate.specs.declared.entry.Entry.TheVariants.{PairLine}
 use Rattle.certificate.specs.declared.evidence.Evidence.{Evidence}
 use Rattle.certificate.specs.declared.evidence.Evidence.TheVariants.{Equal, Different}
-use Rattle.certificate.specs.Nodes.{NumberPair}
+use Rattle.term_nodes.specs.NumberSets.{NumberPair}
 use Rattle.certificate.specs.Texts.{entry_words, atom_words, move_words, line_of, heading, string_heading, entries_of, text_of_lines, text_of}
 use Rattle.certificate.specs.Working.Writings.{with_feed, after_blanks, entry_lines, move_lines, string_lines, body_of}
 

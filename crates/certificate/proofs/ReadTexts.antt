@@ -9,8 +9,8 @@ use Rattle.kat_model.specs.Steps.{Atom}
 use Rattle.kat_model.specs.Members.{Has}
 use Rattle.kat_model.proofs.Lists.{has_append}
 use Rattle.kat_model.specs.Strings.{Move, GuardedString}
-use Rattle.certificate.specs.declared.nodes.TestNode.{TestNode}
-use Rattle.certificate.specs.declared.nodes.TermNode.{TermNode}
+use Rattle.term_nodes.specs.declared.TestNode.{TestNode}
+use Rattle.term_nodes.specs.declared.TermNode.{TermNode}
 use Rattle.certificate.specs.declared.nodes.Style.{Style}
 use Rattle.certificate.specs.declared.nodes.Style.TheVariants.{Plain, UpTo}
 use Rattle.certificate.specs.declared.entry.Entry.{Entry}
@@ -51,12 +51,12 @@ entries_grown c (TestLine n) stands =
     let none = and_parts (length c.term_nodes == 0) (length c.pairs == 0) stands in
     let terms : c.term_nodes ≡ [] = empty_list c.term_nodes none.0 in
     let pairs : c.pairs ≡ [] = empty_list c.pairs none.1 in
-    let alone : (ts : List TestNode) → map TestLine ts ++ (map TermLine c.term_nodes ++ map PairLine c.pairs) ≡ map TestLine ts = λ ts. ap₂ (λ l r. map TestLine ts ++ (map TermLine l ++ map PairLine r)) terms pairs ∙ append-nil (map TestLine ts) in
+    let alone : (ts : List (TestNode ℕ)) → map TestLine ts ++ (map TermLine c.term_nodes ++ map PairLine c.pairs) ≡ map TestLine ts = λ ts. ap₂ (λ l r. map TestLine ts ++ (map TermLine l ++ map PairLine r)) terms pairs ∙ append-nil (map TestLine ts) in
     alone (c.test_nodes ++ n ∷ []) ∙ map-append TestLine c.test_nodes (n ∷ []) ∙ ap (λ l. l ++ TestLine n ∷ []) (sym (alone c.test_nodes))
 entries_grown c (TermLine n) stands =
     let pairs : c.pairs ≡ [] = empty_list c.pairs stands in
     let tests : List Entry = map TestLine c.test_nodes in
-    let alone : (ts : List TermNode) → tests ++ (map TermLine ts ++ map PairLine c.pairs) ≡ tests ++ map TermLine ts = λ ts. ap (λ r. tests ++ (map TermLine ts ++ map PairLine r)) pairs ∙ ap (λ l. tests ++ l) (append-nil (map TermLine ts)) in
+    let alone : (ts : List (TermNode ℕ ℕ)) → tests ++ (map TermLine ts ++ map PairLine c.pairs) ≡ tests ++ map TermLine ts = λ ts. ap (λ r. tests ++ (map TermLine ts ++ map PairLine r)) pairs ∙ ap (λ l. tests ++ l) (append-nil (map TermLine ts)) in
     alone (c.term_nodes ++ n ∷ []) ∙ ap (λ l. tests ++ l) (map-append TermLine c.term_nodes (n ∷ [])) ∙ sym (append_assoc tests (map TermLine c.term_nodes) (TermLine n ∷ []))
     ∙ ap (λ l. l ++ TermLine n ∷ []) (sym (alone c.term_nodes))
 entries_grown c (PairLine p) stands =
@@ -191,11 +191,7 @@ regroup xs = sym (append_assoc xs (codes "end" ∷ []) ([] ∷ []))
 pub no_cert : (style : Style) → IsCert (no_entries style)
 no_cert style =
     record {
-      tests = λ k n e. cc;
-      terms = λ k n e. cc;
-      tests_of_terms = λ n h. absurd h;
-      each_test_once = tt;
-      each_term_once = tt;
+      nodes = record { tests_ordered = λ k n e. cc; terms_ordered = λ k n e. cc; tests_once = tt; terms_once = tt };
       pairs = λ p h. absurd h;
     }
 

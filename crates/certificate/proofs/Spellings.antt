@@ -13,13 +13,13 @@ use Rattle.std.proofs.lemmas.List.Splits.{join_with_byte-slice_split}
 use Rattle.std.proofs.lemmas.List.Sums.{split_at_first, passes_at_first}
 use Rattle.kat_model.specs.Members.{Has}
 use Rattle.kat_model.proofs.Lists.{has_left, has_right}
-use Rattle.certificate.specs.declared.nodes.TestNode.{TestNode}
-use Rattle.certificate.specs.declared.nodes.TestNode.TheVariants.{False, True, Prim, Not, And, Or}
-use Rattle.certificate.specs.declared.nodes.TermNode.{TermNode}
-use Rattle.certificate.specs.declared.nodes.TermNode.TheVariants.{Zero, One, Test, Act, Sum, Seq, Star}
+use Rattle.term_nodes.specs.declared.TestNode.{TestNode}
+use Rattle.term_nodes.specs.declared.TestNode.TheVariants.{False, True, Prim, Not, And, Or}
+use Rattle.term_nodes.specs.declared.TermNode.{TermNode}
+use Rattle.term_nodes.specs.declared.TermNode.TheVariants.{Zero, One, Test, Act, Sum, Seq, Star}
 use Rattle.certificate.specs.declared.entry.Entry.{Entry}
 use Rattle.certificate.specs.declared.entry.Entry.TheVariants.{TestLine, TermLine, PairLine}
-use Rattle.certificate.specs.Nodes.{NumberPair}
+use Rattle.term_nodes.specs.NumberSets.{NumberPair}
 use Rattle.certificate.specs.Texts.{test_name, test_numbers, term_name, term_numbers, entry_words, entry_numbers, line_of, IsNarrow}
 use Rattle.certificate.specs.Forms.{words_of, is_numeral, value_of, numbers_of, test_node_of, term_node_of, is_bar, both_sets, pair_of, entry_of_words, entry_of}
 use Rattle.certificate.specs.Faults.{too_wide}
@@ -135,7 +135,7 @@ line_lacks w (v ∷ ws) words = lacks_append 10 w (32 ∷ line_of (v ∷ ws)) (w
 
 -- ---- the words of an entry
 
-test_name_word : (n : TestNode) → IsWord (test_name n)
+test_name_word : (n : TestNode ℕ) → IsWord (test_name n)
 test_name_word False = refl
 test_name_word True = refl
 test_name_word (Prim k) = refl
@@ -143,7 +143,7 @@ test_name_word (Not x) = refl
 test_name_word (And x y) = refl
 test_name_word (Or x y) = refl
 
-term_name_word : (n : TermNode) → IsWord (term_name n)
+term_name_word : (n : TermNode ℕ ℕ) → IsWord (term_name n)
 term_name_word Zero = refl
 term_name_word One = refl
 term_name_word (Test x) = refl

@@ -4,29 +4,30 @@ use Rattle.std.proofs.lemmas.Option.{slice_get_within}
 use Rattle.kat_model.specs.Members.{Has}
 use Rattle.kat_model.proofs.Lists.{has_append, has_map}
 use Rattle.kat_model.proofs.Places.{place_of_member}
-use Rattle.certificate.specs.declared.nodes.TestNode.{TestNode}
-use Rattle.certificate.specs.declared.nodes.TestNode.TheVariants.{False, True, Prim, Not, And, Or}
-use Rattle.certificate.specs.declared.nodes.TermNode.{TermNode}
-use Rattle.certificate.specs.declared.nodes.TermNode.TheVariants.{Zero, One, Test, Act, Sum, Seq, Star}
+use Rattle.term_nodes.specs.declared.TestNode.{TestNode}
+use Rattle.term_nodes.specs.declared.TestNode.TheVariants.{False, True, Prim, Not, And, Or}
+use Rattle.term_nodes.specs.declared.TermNode.{TermNode}
+use Rattle.term_nodes.specs.declared.TermNode.TheVariants.{Zero, One, Test, Act, Sum, Seq, Star}
 use Rattle.certificate.specs.declared.entry.Entry.{Entry}
 use Rattle.certificate.specs.declared.entry.Entry.TheVariants.{TestLine, TermLine, PairLine}
 use Rattle.certificate.specs.declared.evidence.Evidence.TheVariants.{Equal}
-use Rattle.certificate.specs.Nodes.{NumberPair, test_parts, term_parts, tests_of_term}
+use Rattle.term_nodes.specs.Nodes.{test_parts, term_parts}
+use Rattle.term_nodes.specs.NumberSets.{NumberPair}
 use Rattle.certificate.specs.Certs.{CertParts, IsCert}
 use Rattle.certificate.specs.Texts.{test_numbers, term_numbers, entries_of, IsNarrow, IsEvidence}
-use Rattle.certificate.proofs.NodeTrees.{below_has}
+use Rattle.term_nodes.proofs.Parts.{IsTestOver-part, IsOver-part, IsOver-test, below_has}
 
 module _ (c : CertParts) (cert : IsCert c)
     (prims : (k : ℕ) → Has c.test_nodes (Prim k) → k < 2 ^ 64) (acts : (a : ℕ) → Has c.term_nodes (Act a) → a < 2 ^ 64)
     (tests : length c.test_nodes < 2 ^ 64) (terms : length c.term_nodes < 2 ^ 64) where
-  test_part : (n : TestNode) → Has c.test_nodes n → (k : ℕ) → Has (test_parts n) k → k < 2 ^ 64
+  test_part : (n : TestNode ℕ) → Has c.test_nodes n → (k : ℕ) → Has (test_parts n) k → k < 2 ^ 64
   test_part n h k m =
       let at = place_of_member c.test_nodes n h in
-      let low = below_has at.0 (test_parts n) (cert.tests at.0 n at.1) k m in
+      let low = IsTestOver-part at.0 n (cert.nodes.tests_ordered at.0 n at.1) k m in
       let within = slice_get_within c.test_nodes at.0 n at.1 in
       omega (arith, low, within, tests)
 
-  test_line : (n : TestNode) → Has c.test_nodes n → (k : ℕ) → Has (test_numbers n) k → k < 2 ^ 64
+  test_line : (n : TestNode ℕ) → Has c.test_nodes n → (k : ℕ) → Has (test_numbers n) k → k < 2 ^ 64
   test_line False h k m = absurd m
   test_line True h k m = absurd m
   test_line (Prim j) h k m = ⊎_elim (λ e. subst (λ i. i < 2 ^ 64) e (prims j h)) absurd m
@@ -34,17 +35,18 @@ module _ (c : CertParts) (cert : IsCert c)
   test_line (And x y) h k m = test_part (And x y) h k m
   test_line (Or x y) h k m = test_part (Or x y) h k m
 
-  term_part : (n : TermNode) → Has c.term_nodes n → (k : ℕ) → Has (term_parts n) k → k < 2 ^ 64
+  term_part : (n : TermNode ℕ ℕ) → Has c.term_nodes n → (k : ℕ) → Has (term_parts n) k → k < 2 ^ 64
   term_part n h k m =
       let at = place_of_member c.term_nodes n h in
-      let low = below_has at.0 (term_parts n) (cert.terms at.0 n at.1) k m in
+      let low = IsOver-part (length c.test_nodes) at.0 n (cert.nodes.terms_ordered at.0 n at.1) k m in
       let within = slice_get_within c.term_nodes at.0 n at.1 in
       omega (arith, low, within, terms)
 
-  term_line : (n : TermNode) → Has c.term_nodes n → (k : ℕ) → Has (term_numbers n) k → k < 2 ^ 64
+  term_line : (n : TermNode ℕ ℕ) → Has c.term_nodes n → (k : ℕ) → Has (term_numbers n) k → k < 2 ^ 64
   term_line Zero h k m = absurd m
   term_line One h k m = absurd m
-  term_line (Test x) h k m = let low = below_has (length c.test_nodes) (tests_of_term (Test x)) (cert.tests_of_terms (Test x) h) k m in omega (arith, low, tests)
+  term_line (Test x) h k m = let at = place_of_member c.term_nodes (Test x) h in
+      let low = IsOver-test (length c.test_nodes) at.0 (Test x) (cert.nodes.terms_ordered at.0 (Test x) at.1) k m in omega (arith, low, tests)
   term_line (Act a) h k m = ⊎_elim (λ e. subst (λ i. i < 2 ^ 64) e (acts a h)) absurd m
   term_line (Sum x y) h k m = term_part (Sum x y) h k m
   term_line (Seq x y) h k m = term_part (Seq x y) h k m

@@ -13,8 +13,9 @@ use Rattle.string_tables.specs.Tables.{Refutes}
 use Rattle.certificate.specs.declared.nodes.Style.TheVariants.{UpTo}
 use Rattle.certificate.specs.declared.evidence.Evidence.{Evidence}
 use Rattle.certificate.specs.declared.evidence.Evidence.TheVariants.{Equal, Different}
-use Rattle.certificate.specs.Certs.{CertParts}
-use Rattle.certificate.specs.Accepted.{set_pairs, term_trees, IsAccepted}
+use Rattle.certificate.specs.Certs.{CertParts, nodes_of}
+use Rattle.term_nodes.specs.NodeTrees.{trees}
+use Rattle.certificate.specs.Accepted.{set_pairs, IsAccepted}
 
 -- a step under some atom by some action leads from the sets of one pair to those of the other
 pub record LeadsTo (tests actions : ℕ) (from to : SetPair) : Type 0 where
@@ -66,5 +67,5 @@ IsDecision q (Different x) = (Same q → ⊥) × IsShortest q x
 
 -- the terms of the nodes of evidence
 abbrev pub node_terms : Evidence → List Term
-node_terms (Equal c) = term_trees c
+node_terms (Equal c) = trees (nodes_of c)
 node_terms (Different x) = []

@@ -16,7 +16,8 @@ use Rattle.certificate.specs.declared.evidence.Evidence.{Evidence}
 use Rattle.certificate.specs.declared.evidence.Evidence.TheVariants.{Equal, Different}
 use Rattle.certificate.specs.declared.evidence.EvidenceFault.{EvidenceFault}
 use Rattle.certificate.specs.declared.evidence.EvidenceFault.TheVariants.{Header, Line, NodeOrder, DoubleNode, SetOrder, NumberTooWide, Truncated, Trailing}
-use Rattle.certificate.specs.Nodes.{test_parts, term_parts, tests_of_term, same_test_node, same_term_node, are_below, are_ascending}
+use Rattle.term_nodes.specs.Nodes.{test_parts, term_parts, tests_of_term, same_test_node, same_term_node}
+use Rattle.term_nodes.specs.NumberSets.{are_below, are_ascending}
 use Rattle.certificate.specs.Certs.{CertParts}
 use Rattle.certificate.specs.Texts.{entry_numbers, heading, string_heading}
 use Rattle.certificate.specs.Forms.{entry_of, first_of, move_of}

@@ -6,13 +6,13 @@ use Rattle.std.specs.Str.{bytes_eq}
 use Rattle.std.specs.Char.{is_ascii_digit}
 use Rattle.kat_model.specs.Steps.{Atom}
 use Rattle.kat_model.specs.Strings.{Move}
-use Rattle.certificate.specs.declared.nodes.TestNode.{TestNode}
-use Rattle.certificate.specs.declared.nodes.TestNode.TheVariants.{False, True, Prim, Not, And, Or}
-use Rattle.certificate.specs.declared.nodes.TermNode.{TermNode}
-use Rattle.certificate.specs.declared.nodes.TermNode.TheVariants.{Zero, One, Test, Act, Sum, Seq, Star}
+use Rattle.term_nodes.specs.declared.TestNode.{TestNode}
+use Rattle.term_nodes.specs.declared.TestNode.TheVariants.{False, True, Prim, Not, And, Or}
+use Rattle.term_nodes.specs.declared.TermNode.{TermNode}
+use Rattle.term_nodes.specs.declared.TermNode.TheVariants.{Zero, One, Test, Act, Sum, Seq, Star}
 use Rattle.certificate.specs.declared.entry.Entry.{Entry}
 use Rattle.certificate.specs.declared.entry.Entry.TheVariants.{TestLine, TermLine, PairLine}
-use Rattle.certificate.specs.Nodes.{NumberPair}
+use Rattle.term_nodes.specs.NumberSets.{NumberPair}
 
 -- the words of a line, which single blanks separate
 abbrev pub words_of : List ℕ → List (List ℕ)
@@ -34,13 +34,13 @@ abbrev pub numbers_of : List (List ℕ) → Option (List ℕ)
 numbers_of ws = if list_all is_numeral ws then Some (map value_of ws) else None
 
 -- the node of a name and of the numbers after it
-abbrev pub test_node_of : List ℕ → List ℕ → Option TestNode
+abbrev pub test_node_of : List ℕ → List ℕ → Option (TestNode ℕ)
 test_node_of name [] = if bytes_eq name (codes "false") then Some False else (if bytes_eq name (codes "true") then Some True else None)
 test_node_of name (x ∷ []) = if bytes_eq name (codes "prim") then Some (Prim x) else (if bytes_eq name (codes "not") then Some (Not x) else None)
 test_node_of name (x ∷ y ∷ []) = if bytes_eq name (codes "and") then Some (And x y) else (if bytes_eq name (codes "or") then Some (Or x y) else None)
 test_node_of name (x ∷ y ∷ z ∷ ks) = None
 
-abbrev pub term_node_of : List ℕ → List ℕ → Option TermNode
+abbrev pub term_node_of : List ℕ → List ℕ → Option (TermNode ℕ ℕ)
 term_node_of name [] = if bytes_eq name (codes "zero") then Some Zero else (if bytes_eq name (codes "one") then Some One else None)
 term_node_of name (x ∷ []) =
     if bytes_eq name (codes "test") then Some (Test x)

@@ -6,13 +6,14 @@ use Rattle.kat_model.specs.Strings.{Move, GuardedString}
 use Rattle.kat_model.specs.Problems.{ProblemParts}
 use Rattle.kat_model.specs.Relations.{Same}
 use Rattle.string_tables.specs.Tables.{ExactlyOne}
-use Rattle.certificate.specs.declared.nodes.TestNode.{TestNode}
-use Rattle.certificate.specs.declared.nodes.TermNode.{TermNode}
+use Rattle.term_nodes.specs.declared.TestNode.{TestNode}
+use Rattle.term_nodes.specs.declared.TermNode.{TermNode}
 use Rattle.certificate.specs.declared.entry.Entry.{Entry}
 use Rattle.certificate.specs.declared.evidence.Evidence.{Evidence}
 use Rattle.certificate.specs.declared.evidence.EvidenceFault.{EvidenceFault}
-use Rattle.certificate.specs.Certs.{CertParts, IsCert}
-use Rattle.certificate.specs.Accepted.{test_node_tree, term_node_tree, test_trees, term_trees, IsAccepted}
+use Rattle.certificate.specs.Certs.{CertParts, IsCert, nodes_of}
+use Rattle.term_nodes.specs.NodeTrees.{test_trees, trees, test_tree_in, tree_in}
+use Rattle.certificate.specs.Accepted.{IsAccepted}
 use Rattle.certificate.specs.Forms.{entry_of, first_of, move_of}
 use Rattle.certificate.specs.Texts.{entry_words, atom_words, move_words, line_of, heading, string_heading, lines_before_end, text_of_lines, text_of, IsNarrow, IsEvidence}
 use Rattle.certificate.specs.declared.nodes.Style.TheVariants.{Plain, UpTo}
@@ -70,8 +71,8 @@ pub record FaultsAreFirst : Type 0 where
 
 -- each node has the tree that it says, over the trees of the nodes that it names
 pub record HasNodeTrees (c : CertParts) : Type 0 where
-  pub tests : (k : ℕ) (n : TestNode) → slice_get c.test_nodes k ≡ Some n → slice_get (test_trees c) k ≡ Some (test_node_tree (test_trees c) n)
-  pub terms : (k : ℕ) (n : TermNode) → slice_get c.term_nodes k ≡ Some n → slice_get (term_trees c) k ≡ Some (term_node_tree (test_trees c) (term_trees c) n)
+  pub tests : (k : ℕ) (n : TestNode ℕ) → slice_get c.test_nodes k ≡ Some n → slice_get (test_trees (nodes_of c)) k ≡ Some (test_tree_in (nodes_of c) n)
+  pub terms : (k : ℕ) (n : TermNode ℕ ℕ) → slice_get c.term_nodes k ≡ Some n → slice_get (trees (nodes_of c)) k ≡ Some (tree_in (nodes_of c) n)
 
 abbrev pub NodesHaveTrees : Type 0
 NodesHaveTrees = (c : CertParts) → IsCert c → HasNodeTrees c

@@ -1,4 +1,3 @@
-pub mod Nodes
 pub mod Certs
 pub mod Texts
 pub mod Forms

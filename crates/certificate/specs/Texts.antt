@@ -5,10 +5,10 @@ use Rattle.std.specs.Fmt.{decimal}
 use Rattle.kat_model.specs.Members.{Has}
 use Rattle.kat_model.specs.Steps.{Atom}
 use Rattle.kat_model.specs.Strings.{Move}
-use Rattle.certificate.specs.declared.nodes.TestNode.{TestNode}
-use Rattle.certificate.specs.declared.nodes.TestNode.TheVariants.{False, True, Prim, Not, And, Or}
-use Rattle.certificate.specs.declared.nodes.TermNode.{TermNode}
-use Rattle.certificate.specs.declared.nodes.TermNode.TheVariants.{Zero, One, Test, Act, Sum, Seq, Star}
+use Rattle.term_nodes.specs.declared.TestNode.{TestNode}
+use Rattle.term_nodes.specs.declared.TestNode.TheVariants.{False, True, Prim, Not, And, Or}
+use Rattle.term_nodes.specs.declared.TermNode.{TermNode}
+use Rattle.term_nodes.specs.declared.TermNode.TheVariants.{Zero, One, Test, Act, Sum, Seq, Star}
 use Rattle.certificate.specs.declared.nodes.Style.{Style}
 use Rattle.certificate.specs.declared.nodes.Style.TheVariants.{Plain, UpTo}
 use Rattle.certificate.specs.declared.entry.Entry.{Entry}
@@ -18,7 +18,7 @@ use Rattle.certificate.specs.declared.evidence.Evidence.TheVariants.{Equal, Diff
 use Rattle.certificate.specs.Certs.{CertParts, IsCert}
 
 -- the name of a node's form, and the numbers that follow it
-abbrev pub test_name : TestNode → List ℕ
+abbrev pub test_name : TestNode ℕ → List ℕ
 test_name False = codes "false"
 test_name True = codes "true"
 test_name (Prim k) = codes "prim"
@@ -26,7 +26,7 @@ test_name (Not x) = codes "not"
 test_name (And x y) = codes "and"
 test_name (Or x y) = codes "or"
 
-abbrev pub test_numbers : TestNode → List ℕ
+abbrev pub test_numbers : TestNode ℕ → List ℕ
 test_numbers False = []
 test_numbers True = []
 test_numbers (Prim k) = k ∷ []
@@ -34,7 +34,7 @@ test_numbers (Not x) = x ∷ []
 test_numbers (And x y) = x ∷ y ∷ []
 test_numbers (Or x y) = x ∷ y ∷ []
 
-abbrev pub term_name : TermNode → List ℕ
+abbrev pub term_name : TermNode ℕ ℕ → List ℕ
 term_name Zero = codes "zero"
 term_name One = codes "one"
 term_name (Test x) = codes "test"
@@ -43,7 +43,7 @@ term_name (Sum x y) = codes "sum"
 term_name (Seq x y) = codes "seq"
 term_name (Star x) = codes "star"
 
-abbrev pub term_numbers : TermNode → List ℕ
+abbrev pub term_numbers : TermNode ℕ ℕ → List ℕ
 term_numbers Zero = []
 term_numbers One = []
 term_numbers (Test x) = x ∷ []

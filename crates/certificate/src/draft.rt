@@ -1,9 +1,10 @@
 //! A certificate that is being read.
 ghost use Rattle.std.specs.Prelude.{◌≡◌, ◌&&◌, ◌++◌, false, Some};
-ghost use Rattle.certificate.specs.Nodes.{test_parts, term_parts, tests_of_term, are_below, are_ascending};
+ghost use Rattle.term_nodes.specs.Nodes.{test_parts, term_parts, tests_of_term};
+ghost use Rattle.term_nodes.specs.NumberSets.{are_below, are_ascending};
 ghost use Rattle.certificate.specs.Forms.{entry_of};
 ghost use Rattle.certificate.specs.Faults.{no_entries, may_stand, is_wide, names_earlier};
-ghost use Rattle.certificate.specs.Working.Readings.{draft_parts, IsDraft, MayBeAdded, AddsEntry};
+ghost use Rattle.certificate.specs.Working.Readings.{TellsApart, IsReflexive, draft_parts, IsDraft, MayBeAdded, AddsEntry};
 ghost use Rattle.certificate.specs.declared.entry.Entry.TheVariants.{TestLine, TermLine, PairLine};
 
 use crate::cert::Cert;
@@ -23,6 +24,14 @@ pub(crate) struct Draft {
     known_tests: BTreeSet<TestNode>,
     known_terms: BTreeSet<TermNode>,
 }
+
+// Does nothing: what is known of the orders in which the sets keep nodes.
+fn node_orders()
+    ensures tests { TellsApart ⟦<TestNode as Ord>⟧.cmp }
+    ensures tests_own { IsReflexive ⟦<TestNode as Ord>⟧.cmp }
+    ensures terms { TellsApart ⟦<TermNode as Ord>⟧.cmp }
+    ensures terms_own { IsReflexive ⟦<TermNode as Ord>⟧.cmp }
+{}
 
 fn all_below(numbers: &[usize], count: usize) -> bool
     ensures { result ≡ are_below count numbers.now }
@@ -117,6 +126,7 @@ impl Draft {
         requires tested { MayBeAdded self.old (TestLine node) }
         ensures { AddsEntry self.old number (Some (TestLine node)) self.new result }
     {
+        node_orders();
         let is_new = self.known_tests.insert(node)?;
         if !is_new {
             return Err(EvidenceFault::DoubleNode(number));
@@ -130,6 +140,7 @@ impl Draft {
         requires tested { MayBeAdded self.old (TermLine node) }
         ensures { AddsEntry self.old number (Some (TermLine node)) self.new result }
     {
+        node_orders();
         let is_new = self.known_terms.insert(node)?;
         if !is_new {
             return Err(EvidenceFault::DoubleNode(number));

@@ -12,28 +12,11 @@ pub enum Style {
 }
 
 /// A node of a test. The numbers of `Not`, `And` and `Or` are those of earlier test nodes, from 0.
-#[derive(Clone, Copy, Debug, PartialEq, Eq, PartialOrd, Ord, Hash)]
-pub enum TestNode {
-    False,
-    True,
-    Prim(usize),
-    Not(usize),
-    And(usize, usize),
-    Or(usize, usize),
-}
+pub type TestNode = term_nodes::TestNode<usize>;
 
 /// A node of a term. The number of `Test` is that of a test node, those of `Sum`, `Seq` and `Star` are of
 /// earlier term nodes, from 0.
-#[derive(Clone, Copy, Debug, PartialEq, Eq, PartialOrd, Ord, Hash)]
-pub enum TermNode {
-    Zero,
-    One,
-    Test(usize),
-    Act(usize),
-    Sum(usize, usize),
-    Seq(usize, usize),
-    Star(usize),
-}
+pub type TermNode = term_nodes::TermNode<usize, usize>;
 
 /// Two sets of terms, by the numbers of their nodes.
 #[derive(Drop)]
@@ -43,7 +26,7 @@ pub struct Pair {
 }
 
 impl Model for Pair {
-    ghost use Rattle.certificate.specs.Nodes.{NumberPair};
+    ghost use Rattle.term_nodes.specs.NumberSets.{NumberPair};
 
     ghost Value = { NumberPair };
 

@@ -7,8 +7,8 @@ use Rattle.kat_model.specs.Members.{Has}
 use Rattle.kat_model.specs.Problems.{HasTestsBelow}
 use Rattle.kat_model.specs.Steps.{Atom, dot, out, next}
 use Rattle.kat_model.proofs.Lists.{has_map, map_has, has_next_act, next_act_has, has_next_product, next_product_first, next_product_second}
-use Rattle.term_store.specs.Nodes.{StoreParts, IsTermId}
-use Rattle.term_store.specs.Trees.{tree_of}
+use Rattle.term_nodes.specs.NodeLists.{NodeParts, IsTerm}
+use Rattle.term_nodes.specs.NodeTrees.{tree_at}
 use Rattle.test_diagrams.specs.Functions.{DiagramsParts, value_of, IsDiagramId, IsAtomOf, IsDiagramOf, KeepsFunctions}
 use Rattle.partial_derivs.specs.declared.moves.Guarded.{Guarded}
 use Rattle.partial_derivs.specs.declared.moves.Steps.{Steps}
@@ -17,7 +17,7 @@ use Rattle.partial_derivs.specs.Working.Gathered.{AddsUnder, Follows}
 use Rattle.partial_derivs.proofs.Kept.{AreTargets-kept, LeadsTo-kept, LeadsTo-was, LeadsTo-more, LeadsTo-less}
 
 -- the one move of an action
-pub action_moves : (store : StoreParts) (d : DiagramsParts) (a : ℕ) (always to : ℕ) (steps : Steps) → IsDiagramOf d steps.accepts (λ atom. false) → IsDiagramOf d always (λ atom. true) → IsTermId store to → tree_of store to ≡ one
+pub action_moves : (store : NodeParts) (d : DiagramsParts) (a : ℕ) (always to : ℕ) (steps : Steps) → IsDiagramOf d steps.accepts (λ atom. false) → IsDiagramOf d always (λ atom. true) → IsTerm store to → tree_at store to ≡ one
     → steps.moves.items ≡ record { guard = always; act = a; to = to } ∷ [] → IsDerivativeOf store d (act a) steps
 action_moves store d a always to steps accepts constant is_id tree moves = record {
   accepts = accepts;
@@ -39,12 +39,12 @@ action_moves store d a always to steps accepts constant is_id tree moves = recor
     back atom b x r =
         let own_move : record { guard = always; act = a; to = to } ≡ r.through = ⊎_elim (λ e. e) absurd r.member in
         let action : a ≡ b = subst (λ (k : Guarded). k.act ≡ b) (sym own_move) r.action in
-        let left : tree_of store to ≡ x = subst (λ (k : Guarded). tree_of store k.to ≡ x) (sym own_move) r.tree in
+        let left : tree_at store to ≡ x = subst (λ (k : Guarded). tree_at store k.to ≡ x) (sym own_move) r.tree in
         subst (Has (next (act a) atom b)) (sym tree ∙ left) (next_act_has atom b a (sym action))
 
 -- a product: the moves of the first, each followed by the second, and those of the second where the first accepts
-module _ (s t : StoreParts) (b c d g : DiagramsParts) (e : Term) (tail : ℕ) (first second steps : Steps) (mid : List Guarded) (trees : Keeps s t b c) (under_kept : KeepsFunctions c d) (both_kept : KeepsFunctions d g) (is_first : IsDerivativeOf s b e first) (is_second : IsDerivativeOf s b (tree_of s tail) second) (follows : Follows s t b c mid first.moves.items tail) (under : AddsUnder c d mid steps.moves.items second.moves.items first.accepts) (both : IsDiagramOf g steps.accepts (λ atom. value_of d first.accepts atom && value_of d second.accepts atom)) (merged : AreMerged steps.moves.items) where
-  pub product_steps : IsDerivativeOf t g (product e (tree_of s tail)) steps
+module _ (s t : NodeParts) (b c d g : DiagramsParts) (e : Term) (tail : ℕ) (first second steps : Steps) (mid : List Guarded) (trees : Keeps s t b c) (under_kept : KeepsFunctions c d) (both_kept : KeepsFunctions d g) (is_first : IsDerivativeOf s b e first) (is_second : IsDerivativeOf s b (tree_at s tail) second) (follows : Follows s t b c mid first.moves.items tail) (under : AddsUnder c d mid steps.moves.items second.moves.items first.accepts) (both : IsDiagramOf g steps.accepts (λ atom. value_of d first.accepts atom && value_of d second.accepts atom)) (merged : AreMerged steps.moves.items) where
+  pub product_steps : IsDerivativeOf t g (product e (tree_at s tail)) steps
   product_steps = record {
     accepts = record { in_range = both.in_range; value = λ atom fits. both.value atom fits ∙ (λ k. (first_out atom fits k && second_out atom fits k)) };
     guards = λ m h. both_kept.ids m.guard (under.guards m h);
@@ -65,7 +65,7 @@ module _ (s t : StoreParts) (b c d g : DiagramsParts) (e : Term) (tail : ℕ) (f
       first_out : (atom : Atom) → IsAtomOf g atom → value_of d first.accepts atom ≡ out e atom
       first_out atom fits = under_kept.values first.accepts (trees.functions.ids first.accepts is_first.accepts.in_range) atom ∙ accepts_c atom fits
 
-      second_out : (atom : Atom) → IsAtomOf g atom → value_of d second.accepts atom ≡ out (tree_of s tail) atom
+      second_out : (atom : Atom) → IsAtomOf g atom → value_of d second.accepts atom ≡ out (tree_at s tail) atom
       second_out atom fits =
           under_kept.values second.accepts (trees.functions.ids second.accepts is_second.accepts.in_range) atom
           ∙ trees.functions.values second.accepts is_second.accepts.in_range atom ∙ is_second.accepts.value atom (fits_b atom fits)
@@ -73,7 +73,7 @@ module _ (s t : StoreParts) (b c d g : DiagramsParts) (e : Term) (tail : ℕ) (f
       from_under : (atom : Atom) → IsAtomOf g atom → (a : ℕ) (x : Term) → LeadsTo t c mid atom a x ⊎ (IsTrue (value_of c first.accepts atom) × LeadsTo t c second.moves.items atom a x) → LeadsTo t g steps.moves.items atom a x
       from_under atom fits a x p = LeadsTo-more d g both_kept t steps.moves.items atom a x under.guards ((under.leads t atom (fits ∙ both_kept.tests) a x).1 p)
 
-      there : (atom : Atom) → IsAtomOf g atom → (a : ℕ) (x : Term) → Has (next (product e (tree_of s tail)) atom a) x → LeadsTo t g steps.moves.items atom a x
+      there : (atom : Atom) → IsAtomOf g atom → (a : ℕ) (x : Term) → Has (next (product e (tree_at s tail)) atom a) x → LeadsTo t g steps.moves.items atom a x
       there atom fits a x h =
           ⊎_elim
           (λ p. from_under atom fits a x (inl ((follows.leads atom (fits_c atom fits) a x).1 (p.0, (is_first.leads atom (fits_b atom fits) a p.0).0 p.1, p.2))))
@@ -81,21 +81,21 @@ module _ (s t : StoreParts) (b c d g : DiagramsParts) (e : Term) (tail : ℕ) (f
             accepts_c atom fits ∙ q.0,
             LeadsTo-kept s t b c trees b.tests second.moves.items atom a x is_second.guards is_second.targets ((is_second.leads atom (fits_b atom fits) a x).0 q.1),
           )))
-          (has_next_product atom a e (tree_of s tail) x h)
+          (has_next_product atom a e (tree_at s tail) x h)
 
-      back : (atom : Atom) → IsAtomOf g atom → (a : ℕ) (x : Term) → LeadsTo t g steps.moves.items atom a x → Has (next (product e (tree_of s tail)) atom a) x
+      back : (atom : Atom) → IsAtomOf g atom → (a : ℕ) (x : Term) → LeadsTo t g steps.moves.items atom a x → Has (next (product e (tree_at s tail)) atom a) x
       back atom fits a x r =
           ⊎_elim
           (λ p.
           let q = (follows.leads atom (fits_c atom fits) a x).0 p in
-          subst (Has (next (product e (tree_of s tail)) atom a)) q.2 (next_product_first atom a e (tree_of s tail) q.0 ((is_first.leads atom (fits_b atom fits) a q.0).1 q.1)))
+          subst (Has (next (product e (tree_at s tail)) atom a)) q.2 (next_product_first atom a e (tree_at s tail) q.0 ((is_first.leads atom (fits_b atom fits) a q.0).1 q.1)))
           (λ p.
-          next_product_second atom a e (tree_of s tail) x (sym (accepts_c atom fits) ∙ p.0)
+          next_product_second atom a e (tree_at s tail) x (sym (accepts_c atom fits) ∙ p.0)
           ((is_second.leads atom (fits_b atom fits) a x).1 (LeadsTo-was s t b c trees b.tests second.moves.items atom a x is_second.guards is_second.targets p.1)))
           ((under.leads t atom (fits ∙ both_kept.tests) a x).0 (LeadsTo-less d g both_kept t steps.moves.items atom a x under.guards r))
 
 -- a star: the moves of the inner term, each followed by the star
-module _ (s t : StoreParts) (b c : DiagramsParts) (e : Term) (own : ℕ) (inner steps : Steps) (kept : Keeps s t b c) (is_inner : IsDerivativeOf s b e inner) (tree : tree_of s own ≡ star e) (follows : Follows s t b c steps.moves.items inner.moves.items own) (accepts : IsDiagramOf c steps.accepts (λ atom. true)) (merged : AreMerged steps.moves.items) where
+module _ (s t : NodeParts) (b c : DiagramsParts) (e : Term) (own : ℕ) (inner steps : Steps) (kept : Keeps s t b c) (is_inner : IsDerivativeOf s b e inner) (tree : tree_at s own ≡ star e) (follows : Follows s t b c steps.moves.items inner.moves.items own) (accepts : IsDiagramOf c steps.accepts (λ atom. true)) (merged : AreMerged steps.moves.items) where
   pub star_steps : IsDerivativeOf t c (star e) steps
   star_steps = record {
     accepts = accepts;

@@ -2,27 +2,27 @@
 use Rattle.std.proofs.Common.{◌≡◌, ℕ, Result, IfOk, sym, ◌∙◌, subst}
 use Rattle.std.proofs.lemmas.Result.{IfOk-weaker}
 use Rattle.kat_model.specs.Trees.{Term, sum, product}
-use Rattle.term_store.specs.Nodes.{StoreParts, IsTermId}
-use Rattle.term_store.specs.Trees.{tree_of}
+use Rattle.term_nodes.specs.NodeLists.{NodeParts, IsTerm}
+use Rattle.term_nodes.specs.NodeTrees.{tree_at}
 use Rattle.test_diagrams.specs.Functions.{DiagramsParts}
 use Rattle.partial_derivs.specs.declared.moves.Steps.{Steps}
 use Rattle.partial_derivs.specs.Moves.{IsDerivativeOf, Keeps}
 use Rattle.partial_derivs.proofs.Tables.{IsDerivativeOf-kept}
 
-module _ {E : Type 0} (r : Result Steps E) (s t u v : StoreParts) (b c d g : DiagramsParts) (i j : ℕ) (first second : Steps) (one_kept : Keeps s t b c) (two_kept : Keeps t u c d) (there : IsTermId s j) (is_first : IsDerivativeOf t c (tree_of s i) first) (is_second : IsDerivativeOf u d (tree_of t j) second) where
-  first_now : IsDerivativeOf u d (tree_of s i) first
-  first_now = IsDerivativeOf-kept t u c d (tree_of s i) first two_kept is_first
+module _ {E : Type 0} (r : Result Steps E) (s t u v : NodeParts) (b c d g : DiagramsParts) (i j : ℕ) (first second : Steps) (one_kept : Keeps s t b c) (two_kept : Keeps t u c d) (there : IsTerm s j) (is_first : IsDerivativeOf t c (tree_at s i) first) (is_second : IsDerivativeOf u d (tree_at t j) second) where
+  first_now : IsDerivativeOf u d (tree_at s i) first
+  first_now = IsDerivativeOf-kept t u c d (tree_at s i) first two_kept is_first
 
-  second_now : IsDerivativeOf u d (tree_of s j) second
+  second_now : IsDerivativeOf u d (tree_at s j) second
   second_now = subst (λ e. IsDerivativeOf u d e second) (one_kept.trees.trees j there) is_second
 
-  tail_now : tree_of u j ≡ tree_of s j
-  tail_now = two_kept.trees.trees j (one_kept.trees.term_ids j there) ∙ one_kept.trees.trees j there
+  tail_now : tree_at u j ≡ tree_at s j
+  tail_now = two_kept.trees.trees j (one_kept.trees.term_numbers j there) ∙ one_kept.trees.trees j there
 
-  pub sum_derived : IfOk r (λ steps. (store : StoreParts) (e f : Term) → IsDerivativeOf store d e first → IsDerivativeOf store d f second → IsDerivativeOf store g (sum e f) steps) → IfOk r (IsDerivativeOf u g (sum (tree_of s i) (tree_of s j)))
-  sum_derived h = IfOk-weaker r _ _ (λ steps k. k u (tree_of s i) (tree_of s j) first_now second_now) h
+  pub sum_derived : IfOk r (λ steps. (store : NodeParts) (e f : Term) → IsDerivativeOf store d e first → IsDerivativeOf store d f second → IsDerivativeOf store g (sum e f) steps) → IfOk r (IsDerivativeOf u g (sum (tree_at s i) (tree_at s j)))
+  sum_derived h = IfOk-weaker r _ _ (λ steps k. k u (tree_at s i) (tree_at s j) first_now second_now) h
 
-  pub product_derived : IfOk r (λ steps. (e : Term) → IsDerivativeOf u d e first → IsDerivativeOf u d (tree_of u j) second → IsDerivativeOf v g (product e (tree_of u j)) steps) → IfOk r (IsDerivativeOf v g (product (tree_of s i) (tree_of s j)))
+  pub product_derived : IfOk r (λ steps. (e : Term) → IsDerivativeOf u d e first → IsDerivativeOf u d (tree_at u j) second → IsDerivativeOf v g (product e (tree_at u j)) steps) → IfOk r (IsDerivativeOf v g (product (tree_at s i) (tree_at s j)))
   product_derived h =
-      let tail_is : IsDerivativeOf u d (tree_of u j) second = subst (λ e. IsDerivativeOf u d e second) (sym tail_now) second_now in
-      IfOk-weaker r _ _ (λ steps k. subst (λ f. IsDerivativeOf v g (product (tree_of s i) f) steps) tail_now (k (tree_of s i) first_now tail_is)) h
+      let tail_is : IsDerivativeOf u d (tree_at u j) second = subst (λ e. IsDerivativeOf u d e second) (sym tail_now) second_now in
+      IfOk-weaker r _ _ (λ steps k. subst (λ f. IsDerivativeOf v g (product (tree_at s i) f) steps) tail_now (k (tree_at s i) first_now tail_is)) h

@@ -5,9 +5,9 @@ use Rattle.kat_model.specs.Trees.{Term}
 use Rattle.kat_model.specs.Problems.{HasTestsBelow}
 use Rattle.kat_model.specs.Steps.{Atom, dot}
 use Rattle.kat_model.proofs.Lists.{has_right, has_append}
-use Rattle.term_store.specs.Nodes.{StoreParts, IsTermId}
-use Rattle.term_store.specs.Trees.{tree_of}
-use Rattle.term_store.specs.Growth.{KeepsTrees}
+use Rattle.term_nodes.specs.NodeLists.{NodeParts, IsTerm}
+use Rattle.term_nodes.specs.NodeTrees.{tree_at}
+use Rattle.term_nodes.specs.Growth.{Grows}
 use Rattle.test_diagrams.specs.Functions.{DiagramsParts, value_of, IsDiagramId, IsAtomOf, KeepsFunctions}
 use Rattle.test_diagrams.proofs.Kept.{KeepsFunctions-itself}
 use Rattle.partial_derivs.specs.declared.moves.Guarded.{Guarded}
@@ -18,11 +18,11 @@ use Rattle.kat_model.proofs.Ranges.{HasTestsBelow-dot}
 use Rattle.partial_derivs.proofs.Kept.{AreTargets-trees, LeadsTo-kept, LeadsTo-was, LeadsTo-left}
 
 -- the id of a product is that of a term in range
-pub dot_in_range : (s t : StoreParts) (n i j id : ℕ) → IsTermOf s n i → IsTermOf s n j → IsTermId t id → tree_of t id ≡ dot (tree_of s i) (tree_of s j) → IsTermOf t n id
-dot_in_range s t n i j id p q is same = record { is_id = is; in_range = subst (HasTestsBelow n) (sym same) (HasTestsBelow-dot n (tree_of s i) (tree_of s j) p.in_range q.in_range) }
+pub dot_in_range : (s t : NodeParts) (n i j id : ℕ) → IsTermOf s n i → IsTermOf s n j → IsTerm t id → tree_at t id ≡ dot (tree_at s i) (tree_at s j) → IsTermOf t n id
+dot_in_range s t n i j id p q is same = record { is_id = is; in_range = subst (HasTestsBelow n) (sym same) (HasTestsBelow-dot n (tree_at s i) (tree_at s j) p.in_range q.in_range) }
 
 -- one move, followed
-module _ (s t : StoreParts) (c d : DiagramsParts) (old new : List Guarded) (m : Guarded) (tail id : ℕ) (trees : KeepsTrees s t) (functions : KeepsFunctions c d) (guards : AreGuards c old) (targets : AreTargets s c.tests old) (to : IsTermOf s c.tests m.to) (tail_there : IsTermOf s c.tests tail) (is : IsTermId t id) (same : tree_of t id ≡ dot (tree_of s m.to) (tree_of s tail)) (adds : AddsMove c d old new (record { guard = m.guard; act = m.act; to = id })) where
+module _ (s t : NodeParts) (c d : DiagramsParts) (old new : List Guarded) (m : Guarded) (tail id : ℕ) (trees : Grows s t) (functions : KeepsFunctions c d) (guards : AreGuards c old) (targets : AreTargets s c.tests old) (to : IsTermOf s c.tests m.to) (tail_there : IsTermOf s c.tests tail) (is : IsTerm t id) (same : tree_at t id ≡ dot (tree_at s m.to) (tree_at s tail)) (adds : AddsMove c d old new (record { guard = m.guard; act = m.act; to = id })) where
   trees_only : Keeps s t c c
   trees_only = record { trees = trees; functions = KeepsFunctions-itself c }
 
@@ -41,8 +41,8 @@ module _ (s t : StoreParts) (c d : DiagramsParts) (old new : List Guarded) (m : 
   }
 
 -- moves that are followed, and then one more
-module _ (s t u : StoreParts) (b c d : DiagramsParts) (mid new done : List Guarded) (m : Guarded) (tail : ℕ) (first : Keeps s t b c) (second : KeepsFunctions c d) (own_guard : IsDiagramId b m.guard) (to : IsTermId s m.to) (tail_there : IsTermId s tail) (before : Follows s t b c mid done tail) (last : AddsFollowed t u c d mid new m tail) where
-  same_dot : dot (tree_of t m.to) (tree_of t tail) ≡ dot (tree_of s m.to) (tree_of s tail)
+module _ (s t u : NodeParts) (b c d : DiagramsParts) (mid new done : List Guarded) (m : Guarded) (tail : ℕ) (first : Keeps s t b c) (second : KeepsFunctions c d) (own_guard : IsDiagramId b m.guard) (to : IsTerm s m.to) (tail_there : IsTerm s tail) (before : Follows s t b c mid done tail) (last : AddsFollowed t u c d mid new m tail) where
+  same_dot : dot (tree_at t m.to) (tree_at t tail) ≡ dot (tree_at s m.to) (tree_at s tail)
   same_dot = λ k. dot (first.trees.trees m.to to k) (first.trees.trees tail tail_there k)
 
   pub more_followed : Follows s u b d new (done ++ m ∷ []) tail
@@ -52,18 +52,18 @@ module _ (s t u : StoreParts) (b c d : DiagramsParts) (mid new done : List Guard
     leads = λ atom fits a e. (there atom fits a e, back atom fits a e);
   }
     where
-      there : (atom : Atom) → IsAtomOf d atom → (a : ℕ) (e : Term) → LeadsTo u d new atom a e → (x : Term) × LeadsTo s b (done ++ m ∷ []) atom a x × (dot x (tree_of s tail) ≡ e)
+      there : (atom : Atom) → IsAtomOf d atom → (a : ℕ) (e : Term) → LeadsTo u d new atom a e → (x : Term) × LeadsTo s b (done ++ m ∷ []) atom a x × (dot x (tree_at s tail) ≡ e)
       there atom fits a e r =
           ⊎_elim
           (λ p. let q = (before.leads atom (fits ∙ second.tests) a e).0 p in (q.0, LeadsTo-left s b atom a q.0 done (m ∷ []) q.1, q.2))
           (λ q. (
-            tree_of s m.to,
+            tree_at s m.to,
             record { through = m; member = has_right done (m ∷ []) m (inl refl); action = q.0; guard = sym (first.functions.values m.guard own_guard atom) ∙ q.1; tree = refl },
             sym same_dot ∙ q.2,
           ))
           ((last.leads atom fits a e).0 r)
 
-      back : (atom : Atom) → IsAtomOf d atom → (a : ℕ) (e : Term) → (x : Term) × LeadsTo s b (done ++ m ∷ []) atom a x × (dot x (tree_of s tail) ≡ e) → LeadsTo u d new atom a e
+      back : (atom : Atom) → IsAtomOf d atom → (a : ℕ) (e : Term) → (x : Term) × LeadsTo s b (done ++ m ∷ []) atom a x × (dot x (tree_at s tail) ≡ e) → LeadsTo u d new atom a e
       back atom fits a e (x, r, q) =
           ⊎_elim
           (λ w. (last.leads atom fits a e).1 (inl ((before.leads atom (fits ∙ second.tests) a e).1 (x, record { through = r.through; member = w; action = r.action; guard = r.guard; tree = r.tree }, q))))
@@ -71,12 +71,12 @@ module _ (s t u : StoreParts) (b c d : DiagramsParts) (mid new done : List Guard
           let own : m ≡ r.through = ⊎_elim (λ z. z) absurd w in
           let own_act : m.act ≡ a = subst (λ (k : Guarded). k.act ≡ a) (sym own) r.action in
           let own_open : IsTrue (value_of b m.guard atom) = subst (λ (k : Guarded). IsTrue (value_of b k.guard atom)) (sym own) r.guard in
-          let own_tree : tree_of s m.to ≡ x = subst (λ (k : Guarded). tree_of s k.to ≡ x) (sym own) r.tree in
-          (last.leads atom fits a e).1 (inr (own_act, first.functions.values m.guard own_guard atom ∙ own_open, same_dot ∙ ap (λ z. dot z (tree_of s tail)) own_tree ∙ q)))
+          let own_tree : tree_at s m.to ≡ x = subst (λ (k : Guarded). tree_at s k.to ≡ x) (sym own) r.tree in
+          (last.leads atom fits a e).1 (inr (own_act, first.functions.values m.guard own_guard atom ∙ own_open, same_dot ∙ ap (λ z. dot z (tree_at s tail)) own_tree ∙ q)))
           (has_append done (m ∷ []) r.through r.member)
 
 -- a step of a loop over moves
-pub step_followed : (s t u : StoreParts) (b c d : DiagramsParts) (mid new moves : List Guarded) (i : ℕ) (m : Guarded) (tail : ℕ) → i < length moves → m ≡ get_or moves i m → AreGuards b moves → AreTargets s b.tests moves → IsTermOf s b.tests tail
+pub step_followed : (s t u : NodeParts) (b c d : DiagramsParts) (mid new moves : List Guarded) (i : ℕ) (m : Guarded) (tail : ℕ) → i < length moves → m ≡ get_or moves i m → AreGuards b moves → AreTargets s b.tests moves → IsTermOf s b.tests tail
     → Keeps s t b c → Follows s t b c mid (take i moves) tail → AddsFollowed t u c d mid new m tail → KeepsFunctions c d → Follows s u b d new (take (i + 1) moves) tail
 step_followed s t u b c d mid new moves i m tail lt is guards targets tail_there first before last second =
     let member = has_item moves i m lt is in

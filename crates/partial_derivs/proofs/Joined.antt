@@ -8,8 +8,8 @@ use Rattle.kat_model.specs.Trees.{Term}
 use Rattle.kat_model.specs.Members.{Has}
 use Rattle.kat_model.specs.Steps.{Atom}
 use Rattle.kat_model.proofs.Lists.{has_map, map_has}
-use Rattle.term_store.specs.Nodes.{StoreParts}
-use Rattle.term_store.specs.Trees.{tree_of}
+use Rattle.term_nodes.specs.NodeLists.{NodeParts}
+use Rattle.term_nodes.specs.NodeTrees.{tree_at}
 use Rattle.test_diagrams.specs.Functions.{DiagramsParts, value_of, IsDiagramId, IsAtomOf, IsDiagramOf, KeepsFunctions}
 use Rattle.partial_derivs.specs.declared.moves.Guarded.{Guarded}
 use Rattle.partial_derivs.specs.declared.gathered.Target.{Target}
@@ -61,16 +61,16 @@ module _ (c d : DiagramsParts) (eq : Target → Target → Bool) (same : (x y : 
       (λ new. subst (λ (n : Guarded). IsDiagramId d n.guard) (sym new) value.in_range)
       (added_has eq same entries target joined m h)
 
-  added_targets : (store : StoreParts) (n : ℕ) → AreTargets store n (moves_of entries) → IsTermOf store n target.to → AreTargets store n (moves_of (insert_entry eq entries target joined))
+  added_targets : (store : NodeParts) (n : ℕ) → AreTargets store n (moves_of entries) → IsTermOf store n target.to → AreTargets store n (moves_of (insert_entry eq entries target joined))
   added_targets store n old own m h =
       ⊎_elim
       (λ there. old m there)
       (λ new. subst (λ (k : Guarded). IsTermOf store n k.to) (sym new) own)
       (added_has eq same entries target joined m h)
 
-  module _ (store : StoreParts) (atom : Atom) (fits : IsAtomOf d atom) (a : ℕ) (e : Term) where
+  module _ (store : NodeParts) (atom : Atom) (fits : IsAtomOf d atom) (a : ℕ) (e : Term) where
     -- the move of the target was there, and its guard true
-    was_open : IsTrue (guard_at c (lookup (eq target) entries) atom) → target.act ≡ a → tree_of store target.to ≡ e → LeadsTo store c (moves_of entries) atom a e
+    was_open : IsTrue (guard_at c (lookup (eq target) entries) atom) → target.act ≡ a → tree_at store target.to ≡ e → LeadsTo store c (moves_of entries) atom a e
     was_open t act tree =
         let r = guard_there c atom (lookup (eq target) entries) t in
         record {
@@ -81,11 +81,11 @@ module _ (c d : DiagramsParts) (eq : Target → Target → Bool) (same : (x y : 
           tree = tree;
         }
 
-    leads_by_new : (m : Guarded) → m ≡ move_of (target, joined) → m.act ≡ a → IsTrue (value_of d m.guard atom) → tree_of store m.to ≡ e
-        → LeadsTo store c (moves_of entries) atom a e ⊎ ((target.act ≡ a) × IsTrue (value_of c guard atom) × (tree_of store target.to ≡ e))
+    leads_by_new : (m : Guarded) → m ≡ move_of (target, joined) → m.act ≡ a → IsTrue (value_of d m.guard atom) → tree_at store m.to ≡ e
+        → LeadsTo store c (moves_of entries) atom a e ⊎ ((target.act ≡ a) × IsTrue (value_of c guard atom) × (tree_at store target.to ≡ e))
     leads_by_new m new act t tree =
         let own_act : target.act ≡ a = subst (λ (k : Guarded). k.act ≡ a) new act in
-        let own_tree : tree_of store target.to ≡ e = subst (λ (k : Guarded). tree_of store k.to ≡ e) new tree in
+        let own_tree : tree_at store target.to ≡ e = subst (λ (k : Guarded). tree_at store k.to ≡ e) new tree in
         let own_guard : IsTrue (value_of d joined atom) = subst (λ (k : Guarded). IsTrue (value_of d k.guard atom)) new t in
         ⊎_elim
         (λ old. inl (was_open old own_act own_tree))
@@ -93,14 +93,14 @@ module _ (c d : DiagramsParts) (eq : Target → Target → Bool) (same : (x y : 
         (or_cases (guard_at c (lookup (eq target) entries) atom) (value_of c guard atom) (sym (value.value atom fits) ∙ own_guard))
 
     added_leads : LeadsTo store d (moves_of (insert_entry eq entries target joined)) atom a e
-        → LeadsTo store c (moves_of entries) atom a e ⊎ ((target.act ≡ a) × IsTrue (value_of c guard atom) × (tree_of store target.to ≡ e))
+        → LeadsTo store c (moves_of entries) atom a e ⊎ ((target.act ≡ a) × IsTrue (value_of c guard atom) × (tree_at store target.to ≡ e))
     added_leads r =
         ⊎_elim
         (λ old. inl (record { through = r.through; member = old; action = r.action; guard = sym (kept.values r.through.guard (guards r.through old) atom) ∙ r.guard; tree = r.tree }))
         (λ new. leads_by_new r.through new r.action r.guard r.tree)
         (added_has eq same entries target joined r.through r.member)
 
-    open_now : IsTrue (guard_at c (lookup (eq target) entries) atom) ⊎ IsTrue (value_of c guard atom) → target.act ≡ a → tree_of store target.to ≡ e
+    open_now : IsTrue (guard_at c (lookup (eq target) entries) atom) ⊎ IsTrue (value_of c guard atom) → target.act ≡ a → tree_at store target.to ≡ e
         → LeadsTo store d (moves_of (insert_entry eq entries target joined)) atom a e
     open_now t act tree = record {
       through = move_of (target, joined);
@@ -114,7 +114,7 @@ module _ (c d : DiagramsParts) (eq : Target → Target → Bool) (same : (x y : 
     leads_still r =
         ⊎_elim
         (λ new. record { through = r.through; member = new; action = r.action; guard = kept.values r.through.guard (guards r.through r.member) atom ∙ r.guard; tree = r.tree })
-        (λ own. open_now (inl (ap (λ (o : Option ℕ). guard_at c o atom) own.2 ∙ r.guard)) (sym own.0 ∙ r.action) (ap (tree_of store) (sym own.1) ∙ r.tree))
+        (λ own. open_now (inl (ap (λ (o : Option ℕ). guard_at c o atom) own.2 ∙ r.guard)) (sym own.0 ∙ r.action) (ap (tree_at store) (sym own.1) ∙ r.tree))
         (stays eq same entries target joined r.through r.member)
 
   -- the table after an insert has the old moves and the new one

@@ -5,9 +5,9 @@ use Rattle.kat_model.specs.Trees.{Term}
 use Rattle.kat_model.specs.Members.{Has}
 use Rattle.kat_model.specs.Problems.{HasTestsBelow}
 use Rattle.kat_model.specs.Steps.{Atom}
-use Rattle.term_store.specs.Nodes.{StoreParts}
-use Rattle.term_store.specs.Growth.{KeepsTrees}
-use Rattle.term_store.proofs.Kept.{KeepsTrees-itself, KeepsTrees-trans}
+use Rattle.term_nodes.specs.NodeLists.{NodeParts}
+use Rattle.term_nodes.specs.Growth.{Grows}
+use Rattle.term_nodes.proofs.Growing.{Grows-itself, Grows-trans}
 use Rattle.test_diagrams.specs.Functions.{DiagramsParts, IsAtomOf, KeepsFunctions}
 use Rattle.test_diagrams.proofs.Kept.{KeepsFunctions-itself, KeepsFunctions-trans, IsDiagramOf-kept}
 use Rattle.partial_derivs.specs.declared.moves.Guarded.{Guarded}
@@ -15,29 +15,29 @@ use Rattle.partial_derivs.specs.declared.moves.Steps.{Steps}
 use Rattle.partial_derivs.specs.Moves.{IsTermOf, AreGuards, AreTargets, LeadsTo, IsStepsBy, HasIds, Keeps}
 use Rattle.kat_model.proofs.Lists.{has_left, has_right}
 
-pub Keeps-itself : (s : StoreParts) (c : DiagramsParts) → Keeps s s c c
-Keeps-itself s c = record { trees = KeepsTrees-itself s; functions = KeepsFunctions-itself c }
+pub Keeps-itself : (s : NodeParts) (c : DiagramsParts) → Keeps s s c c
+Keeps-itself s c = record { trees = Grows-itself s; functions = KeepsFunctions-itself c }
 
-pub Keeps-trans : (s t u : StoreParts) (b c d : DiagramsParts) → Keeps s t b c → Keeps t u c d → Keeps s u b d
+pub Keeps-trans : (s t u : NodeParts) (b c d : DiagramsParts) → Keeps s t b c → Keeps t u c d → Keeps s u b d
 Keeps-trans s t u b c d first second = record {
-  trees = KeepsTrees-trans s t u first.trees second.trees;
+  trees = Grows-trans s t u first.trees second.trees;
   functions = KeepsFunctions-trans b c d first.functions second.functions;
 }
 
-pub Keeps-functions : (s : StoreParts) (c d : DiagramsParts) → KeepsFunctions c d → Keeps s s c d
-Keeps-functions s c d kept = record { trees = KeepsTrees-itself s; functions = kept }
+pub Keeps-functions : (s : NodeParts) (c d : DiagramsParts) → KeepsFunctions c d → Keeps s s c d
+Keeps-functions s c d kept = record { trees = Grows-itself s; functions = kept }
 
-module _ (s t : StoreParts) (kept : KeepsTrees s t) (n : ℕ) where
+module _ (s t : NodeParts) (kept : Grows s t) (n : ℕ) where
   pub IsTermOf-trees : (i : ℕ) → IsTermOf s n i → IsTermOf t n i
   IsTermOf-trees i h = record {
-    is_id = kept.term_ids i h.is_id;
+    is_id = kept.term_numbers i h.is_id;
     in_range = subst (HasTestsBelow n) (sym (kept.trees i h.is_id)) h.in_range;
   }
 
   pub AreTargets-trees : (moves : List Guarded) → AreTargets s n moves → AreTargets t n moves
   AreTargets-trees moves h m k = IsTermOf-trees m.to (h m k)
 
-module _ (s t : StoreParts) (c d : DiagramsParts) (kept : Keeps s t c d) where
+module _ (s t : NodeParts) (c d : DiagramsParts) (kept : Keeps s t c d) where
   pub IsTermOf-kept : (i : ℕ) → IsTermOf s c.tests i → IsTermOf t d.tests i
   IsTermOf-kept i h = subst (λ n. IsTermOf t n i) (sym kept.functions.tests) (IsTermOf-trees s t kept.trees c.tests i h)
 
@@ -86,7 +86,7 @@ module _ (s t : StoreParts) (c d : DiagramsParts) (kept : Keeps s t c d) where
   }
 
 -- the same where only diagrams are added, whatever the terms
-module _ (c d : DiagramsParts) (kept : KeepsFunctions c d) (store : StoreParts) where
+module _ (c d : DiagramsParts) (kept : KeepsFunctions c d) (store : NodeParts) where
   pub LeadsTo-more : (moves : List Guarded) (atom : Atom) (a : ℕ) (e : Term) → AreGuards c moves → LeadsTo store c moves atom a e → LeadsTo store d moves atom a e
   LeadsTo-more moves atom a e guards r = record {
     through = r.through;
@@ -106,7 +106,7 @@ module _ (c d : DiagramsParts) (kept : KeepsFunctions c d) (store : StoreParts) 
   }
 
 -- a move of a part of a list
-module _ (store : StoreParts) (d : DiagramsParts) (atom : Atom) (a : ℕ) (e : Term) where
+module _ (store : NodeParts) (d : DiagramsParts) (atom : Atom) (a : ℕ) (e : Term) where
   pub LeadsTo-by : (moves more : List Guarded) → ((m : Guarded) → Has moves m → Has more m) → LeadsTo store d moves atom a e → LeadsTo store d more atom a e
   LeadsTo-by moves more within r = record { through = r.through; member = within r.through r.member; action = r.action; guard = r.guard; tree = r.tree }
 

@@ -5,8 +5,8 @@ use Rattle.std.proofs.lemmas.Bool.{and_parts, and_from}
 use Rattle.kat_model.specs.Trees.{Term}
 use Rattle.kat_model.specs.Steps.{Atom}
 use Rattle.kat_model.proofs.Lists.{has_left, has_right, has_append}
-use Rattle.term_store.specs.Nodes.{StoreParts}
-use Rattle.term_store.specs.Trees.{tree_of}
+use Rattle.term_nodes.specs.NodeLists.{NodeParts}
+use Rattle.term_nodes.specs.NodeTrees.{tree_at}
 use Rattle.test_diagrams.specs.Functions.{DiagramsParts, value_of, IsDiagramId, IsAtomOf, IsDiagramOf, KeepsFunctions}
 use Rattle.partial_derivs.specs.declared.moves.Guarded.{Guarded}
 use Rattle.partial_derivs.specs.Moves.{AreGuards, LeadsTo}
@@ -23,7 +23,7 @@ module _ (b c d : DiagramsParts) (old new : List Guarded) (m : Guarded) (guard b
     leads = λ store atom fits a e. (there store atom fits a e, back store atom fits a e);
   }
     where
-      there : (store : StoreParts) (atom : Atom) → IsAtomOf d atom → (a : ℕ) (e : Term) → LeadsTo store d new atom a e → LeadsTo store b old atom a e ⊎ (IsTrue (value_of b guard atom) × LeadsTo store b (m ∷ []) atom a e)
+      there : (store : NodeParts) (atom : Atom) → IsAtomOf d atom → (a : ℕ) (e : Term) → LeadsTo store d new atom a e → LeadsTo store b old atom a e ⊎ (IsTrue (value_of b guard atom) × LeadsTo store b (m ∷ []) atom a e)
       there store atom fits a e r =
           ⊎_elim
           (λ p. inl (LeadsTo-less b c first store old atom a e guards p))
@@ -32,7 +32,7 @@ module _ (b c d : DiagramsParts) (old new : List Guarded) (m : Guarded) (guard b
           inr (parts.1, record { through = m; member = inl refl; action = q.0; guard = parts.0; tree = q.2 }))
           ((adds.leads store atom fits a e).0 r)
 
-      back : (store : StoreParts) (atom : Atom) → IsAtomOf d atom → (a : ℕ) (e : Term) → LeadsTo store b old atom a e ⊎ (IsTrue (value_of b guard atom) × LeadsTo store b (m ∷ []) atom a e) → LeadsTo store d new atom a e
+      back : (store : NodeParts) (atom : Atom) → IsAtomOf d atom → (a : ℕ) (e : Term) → LeadsTo store b old atom a e ⊎ (IsTrue (value_of b guard atom) × LeadsTo store b (m ∷ []) atom a e) → LeadsTo store d new atom a e
       back store atom fits a e h =
           ⊎_elim
           (λ p. (adds.leads store atom fits a e).1 (inl (LeadsTo-more b c first store old atom a e guards p)))
@@ -42,7 +42,7 @@ module _ (b c d : DiagramsParts) (old new : List Guarded) (m : Guarded) (guard b
           (adds.leads store atom fits a e).1 (inr (
             subst (λ (k : Guarded). k.act ≡ a) (sym own) q.1.action,
             value.value atom (fits ∙ second.tests) ∙ and_from (value_of b m.guard atom) (value_of b guard atom) open_too q.0,
-            subst (λ (k : Guarded). tree_of store k.to ≡ e) (sym own) q.1.tree,
+            subst (λ (k : Guarded). tree_at store k.to ≡ e) (sym own) q.1.tree,
           )))
           h
 
@@ -58,7 +58,7 @@ module _ (b c d : DiagramsParts) (old mid new done : List Guarded) (m : Guarded)
     leads = λ store atom fits a e. (there store atom fits a e, back store atom fits a e);
   }
     where
-      there : (store : StoreParts) (atom : Atom) → IsAtomOf d atom → (a : ℕ) (e : Term) → LeadsTo store d new atom a e → LeadsTo store b old atom a e ⊎ (IsTrue (value_of b guard atom) × LeadsTo store b (done ++ m ∷ []) atom a e)
+      there : (store : NodeParts) (atom : Atom) → IsAtomOf d atom → (a : ℕ) (e : Term) → LeadsTo store d new atom a e → LeadsTo store b old atom a e ⊎ (IsTrue (value_of b guard atom) × LeadsTo store b (done ++ m ∷ []) atom a e)
       there store atom fits a e r =
           ⊎_elim
           (λ p.
@@ -69,7 +69,7 @@ module _ (b c d : DiagramsParts) (old mid new done : List Guarded) (m : Guarded)
           (λ q. inr (sym (first.values guard guard_id atom) ∙ q.0, LeadsTo-right store b atom a e done (m ∷ []) (LeadsTo-less b c first store (m ∷ []) atom a e single_guards q.1)))
           ((last.leads store atom fits a e).0 r)
 
-      back : (store : StoreParts) (atom : Atom) → IsAtomOf d atom → (a : ℕ) (e : Term) → LeadsTo store b old atom a e ⊎ (IsTrue (value_of b guard atom) × LeadsTo store b (done ++ m ∷ []) atom a e) → LeadsTo store d new atom a e
+      back : (store : NodeParts) (atom : Atom) → IsAtomOf d atom → (a : ℕ) (e : Term) → LeadsTo store b old atom a e ⊎ (IsTrue (value_of b guard atom) × LeadsTo store b (done ++ m ∷ []) atom a e) → LeadsTo store d new atom a e
       back store atom fits a e h =
           let by_before = λ (p : LeadsTo store b old atom a e ⊎ (IsTrue (value_of b guard atom) × LeadsTo store b done atom a e)). (last.leads store atom fits a e).1 (inl ((before.leads store atom (fits ∙ second.tests) a e).1 p)) in
           ⊎_elim

@@ -1,7 +1,7 @@
 -- Unions of steps.
 use Rattle.std.specs.Prelude.{◌↔◌}
 use Rattle.std.proofs.lemmas.List.{take_all, map_more}
-use Rattle.term_store.specs.Trees.{tree_of}
+use Rattle.term_nodes.specs.NodeTrees.{tree_at}
 use Rattle.std.proofs.Common.{◌≡◌, ◌⊎◌, inl, inr, ⊎_elim, ℕ, ◌<◌, ◌≤◌, ◌+◌, length, get_or, take, Bool, true, false, ◌||◌, List, [], ◌∷◌, ◌++◌, map, sym, ap, ◌∙◌, subst}
 use Rattle.std.specs.Bool.{IsTrue}
 use Rattle.std.proofs.Math.Bool.{or-false}
@@ -12,7 +12,7 @@ use Rattle.kat_model.specs.Trees.{Term, sum}
 use Rattle.kat_model.specs.Members.{Has}
 use Rattle.kat_model.specs.Steps.{Atom, out, next, set_out, set_next}
 use Rattle.kat_model.proofs.Lists.{has_left, has_right, has_append}
-use Rattle.term_store.specs.Nodes.{StoreParts}
+use Rattle.term_nodes.specs.NodeLists.{NodeParts}
 use Rattle.test_diagrams.specs.Functions.{DiagramsParts, value_of, IsAtomOf, IsDiagramOf, KeepsFunctions}
 use Rattle.test_diagrams.proofs.Kept.{IsDiagramOf-kept}
 use Rattle.partial_derivs.specs.declared.moves.Steps.{Steps}
@@ -22,7 +22,7 @@ use Rattle.partial_derivs.specs.Working.Gathered.{moves_of, AddsUnder}
 use Rattle.partial_derivs.specs.Working.Unions.{IsUnionBy, IsUnionOfIds, AddsSteps}
 use Rattle.partial_derivs.proofs.Kept.{AreGuards-kept, AreTargets-kept, LeadsTo-kept, LeadsTo-was, LeadsTo-more, LeadsTo-less, IsStepsBy-kept, Keeps-functions}
 
-pub ids_of_steps : (store : StoreParts) (d : DiagramsParts) (accepted : Atom → Bool) (left : Atom → ℕ → List Term) (steps : Steps) → IsStepsBy store d accepted left steps → HasIds d steps
+pub ids_of_steps : (store : NodeParts) (d : DiagramsParts) (accepted : Atom → Bool) (left : Atom → ℕ → List Term) (steps : Steps) → IsStepsBy store d accepted left steps → HasIds d steps
 ids_of_steps store d accepted left steps is = record { accepts = is.accepts.in_range; guards = is.guards }
 
 -- steps that are added: their moves under the constant `true`, and what they accept
@@ -63,7 +63,7 @@ module _ (b c d : DiagramsParts) (old new : Union) (steps : Steps) (always : ℕ
           ((under.leads store atom (fits ∙ second.tests) a e).0 (LeadsTo-less c d second store (moves_of new.gathered.guards.entries) atom a e under.guards r))
 
 -- a union stays right where both collections grow
-pub IsUnionBy-kept : (s t : StoreParts) (c d : DiagramsParts) → Keeps s t c d → (accepted : Atom → Bool) (left : Atom → ℕ → List Term) (union : Union) → IsUnionBy s c accepted left union → IsUnionBy t d accepted left union
+pub IsUnionBy-kept : (s t : NodeParts) (c d : DiagramsParts) → Keeps s t c d → (accepted : Atom → Bool) (left : Atom → ℕ → List Term) (union : Union) → IsUnionBy s c accepted left union → IsUnionBy t d accepted left union
 IsUnionBy-kept s t c d kept accepted left union is =
     let moves = moves_of union.gathered.guards.entries in
     record {
@@ -83,7 +83,7 @@ set_out-more es e atom = list_any-append (λ x. out x atom) es (e ∷ []) ∙ ap
 pub set_next-more : (es : List Term) (e : Term) (atom : Atom) (a : ℕ) → set_next (es ++ e ∷ []) atom a ≡ set_next es atom a ++ next e atom a
 set_next-more es e atom a = flat_map-append (λ x. next x atom a) es (e ∷ []) ∙ ap (λ l. set_next es atom a ++ l) (append-nil (next e atom a))
 
-pub set_more : (store : StoreParts) (d : DiagramsParts) (es : List Term) (e : Term) (union : Union) → IsUnionBy store d (λ atom. set_out es atom || out e atom) (λ atom a. set_next es atom a ++ next e atom a) union
+pub set_more : (store : NodeParts) (d : DiagramsParts) (es : List Term) (e : Term) (union : Union) → IsUnionBy store d (λ atom. set_out es atom || out e atom) (λ atom a. set_next es atom a ++ next e atom a) union
     → IsUnionBy store d (set_out (es ++ e ∷ [])) (set_next (es ++ e ∷ [])) union
 set_more store d es e union is = record {
   accepts = record { in_range = is.accepts.in_range; value = λ atom fits. is.accepts.value atom fits ∙ sym (set_out-more es e atom) };
@@ -93,29 +93,29 @@ set_more store d es e union is = record {
 }
 
 -- the steps of two terms, added to those of none
-pub sum_union : (store : StoreParts) (b c d : DiagramsParts) (none mid whole : Union) (first second : Steps) (e f : Term) → IsUnionBy store b (λ atom. false) (λ atom a. []) none → AddsSteps b c none mid first → KeepsFunctions b c → AddsSteps c d mid whole second
+pub sum_union : (store : NodeParts) (b c d : DiagramsParts) (none mid whole : Union) (first second : Steps) (e f : Term) → IsUnionBy store b (λ atom. false) (λ atom a. []) none → AddsSteps b c none mid first → KeepsFunctions b c → AddsSteps c d mid whole second
     → IsDerivativeOf store b e first → IsDerivativeOf store b f second → IsUnionBy store d (out (sum e f)) (next (sum e f)) whole
 sum_union store b c d none mid whole first second e f empty one kept two is_first is_second =
     let now : IsDerivativeOf store c f second = IsStepsBy-kept store store b c (Keeps-functions store b c kept) (out f) (next f) second is_second in
     two store (out e) (out f) (next e) (next f) (one store (λ atom. false) (out e) (λ atom a. []) (next e) empty is_first) now
 
 -- the steps of one more term of a set
-pub term_added : (s t : StoreParts) (b c d : DiagramsParts) (e : Term) (old new : Union) (steps : Steps) → Keeps s t b c → IsDerivativeOf t c e steps → AddsSteps c d old new steps
+pub term_added : (s t : NodeParts) (b c d : DiagramsParts) (e : Term) (old new : Union) (steps : Steps) → Keeps s t b c → IsDerivativeOf t c e steps → AddsSteps c d old new steps
     → (es : List Term) → IsUnionBy s b (set_out es) (set_next es) old → IsUnionBy t d (set_out (es ++ e ∷ [])) (set_next (es ++ e ∷ [])) new
 term_added s t b c d e old new steps kept is adds es before =
     set_more t d es e new (adds t (set_out es) (out e) (set_next es) (next e) (IsUnionBy-kept s t b c kept (set_out es) (set_next es) old before) is)
 
 -- a step of a loop over terms
-pub union_step : (first s t : StoreParts) (c d : DiagramsParts) (terms : List ℕ) (i x : ℕ) (old new : Union) → i < length terms → x ≡ get_or terms i x → tree_of s x ≡ tree_of first x
-    → ((es : List Term) → IsUnionBy s c (set_out es) (set_next es) old → IsUnionBy t d (set_out (es ++ tree_of s x ∷ [])) (set_next (es ++ tree_of s x ∷ [])) new)
-    → IsUnionBy s c (set_out (map (tree_of first) (take i terms))) (set_next (map (tree_of first) (take i terms))) old
-    → IsUnionBy t d (set_out (map (tree_of first) (take (i + 1) terms))) (set_next (map (tree_of first) (take (i + 1) terms))) new
+pub union_step : (first s t : NodeParts) (c d : DiagramsParts) (terms : List ℕ) (i x : ℕ) (old new : Union) → i < length terms → x ≡ get_or terms i x → tree_at s x ≡ tree_at first x
+    → ((es : List Term) → IsUnionBy s c (set_out es) (set_next es) old → IsUnionBy t d (set_out (es ++ tree_at s x ∷ [])) (set_next (es ++ tree_at s x ∷ [])) new)
+    → IsUnionBy s c (set_out (map (tree_at first) (take i terms))) (set_next (map (tree_at first) (take i terms))) old
+    → IsUnionBy t d (set_out (map (tree_at first) (take (i + 1) terms))) (set_next (map (tree_at first) (take (i + 1) terms))) new
 union_step first s t c d terms i x old new lt is tree adds before =
-    let own : tree_of first (get_or terms i x) ≡ tree_of s x = ap (tree_of first) (sym is) ∙ sym tree in
-    let all : map (tree_of first) (take (i + 1) terms) ≡ map (tree_of first) (take i terms) ++ tree_of s x ∷ [] = map_more (tree_of first) terms i x lt ∙ ap (λ e. map (tree_of first) (take i terms) ++ e ∷ []) own in
-    subst (λ l. IsUnionBy t d (set_out l) (set_next l) new) (sym all) (adds (map (tree_of first) (take i terms)) before)
+    let own : tree_at first (get_or terms i x) ≡ tree_at s x = ap (tree_at first) (sym is) ∙ sym tree in
+    let all : map (tree_at first) (take (i + 1) terms) ≡ map (tree_at first) (take i terms) ++ tree_at s x ∷ [] = map_more (tree_at first) terms i x lt ∙ ap (λ e. map (tree_at first) (take i terms) ++ e ∷ []) own in
+    subst (λ l. IsUnionBy t d (set_out l) (set_next l) new) (sym all) (adds (map (tree_at first) (take i terms)) before)
 
-pub union_end : (first t : StoreParts) (d : DiagramsParts) (terms : List ℕ) (i : ℕ) (union : Union) → length terms ≤ i
-    → IsUnionBy t d (set_out (map (tree_of first) (take i terms))) (set_next (map (tree_of first) (take i terms))) union
-    → IsUnionBy t d (set_out (map (tree_of first) terms)) (set_next (map (tree_of first) terms)) union
-union_end first t d terms i union le is = subst (λ l. IsUnionBy t d (set_out (map (tree_of first) l)) (set_next (map (tree_of first) l)) union) (take_all i terms le) is
+pub union_end : (first t : NodeParts) (d : DiagramsParts) (terms : List ℕ) (i : ℕ) (union : Union) → length terms ≤ i
+    → IsUnionBy t d (set_out (map (tree_at first) (take i terms))) (set_next (map (tree_at first) (take i terms))) union
+    → IsUnionBy t d (set_out (map (tree_at first) terms)) (set_next (map (tree_at first) terms)) union
+union_end first t d terms i union le is = subst (λ l. IsUnionBy t d (set_out (map (tree_at first) l)) (set_next (map (tree_at first) l)) union) (take_all i terms le) is

@@ -1,10 +1,10 @@
 -- The law of tables of derivatives.
-use Rattle.term_store.specs.Nodes.{StoreParts}
-use Rattle.term_store.specs.Growth.{KeepsTrees}
+use Rattle.term_nodes.specs.NodeLists.{NodeParts}
+use Rattle.term_nodes.specs.Growth.{Grows}
 use Rattle.test_diagrams.specs.Functions.{DiagramsParts, KeepsFunctions}
 use Rattle.partial_derivs.specs.declared.derivatives.Derivatives.{Derivatives}
 use Rattle.partial_derivs.specs.Tables.{AreRight}
 
 -- a table stays right while older ids keep their trees and functions
 abbrev pub StaysRight : Derivatives → Type 0
-StaysRight table = (s t : StoreParts) (c d : DiagramsParts) → KeepsTrees s t → KeepsFunctions c d → AreRight s c table → AreRight t d table
+StaysRight table = (s t : NodeParts) (c d : DiagramsParts) → Grows s t → KeepsFunctions c d → AreRight s c table → AreRight t d table

@@ -4,33 +4,33 @@ use Rattle.kat_model.specs.Trees.{Term}
 use Rattle.kat_model.specs.Members.{Has}
 use Rattle.kat_model.specs.Problems.{HasTestsBelow}
 use Rattle.kat_model.specs.Steps.{Atom, out, next, set_out, set_next}
-use Rattle.term_store.specs.Nodes.{StoreParts, IsTermId}
-use Rattle.term_store.specs.Trees.{tree_of}
-use Rattle.term_store.specs.Growth.{KeepsTrees}
+use Rattle.term_nodes.specs.NodeLists.{NodeParts, IsTerm}
+use Rattle.term_nodes.specs.NodeTrees.{tree_at}
+use Rattle.term_nodes.specs.Growth.{Grows}
 use Rattle.test_diagrams.specs.Functions.{DiagramsParts, value_of, IsDiagramId, IsAtomOf, IsDiagramOf, KeepsFunctions}
 use Rattle.partial_derivs.specs.declared.moves.Guarded.{Guarded}
 use Rattle.partial_derivs.specs.declared.moves.Steps.{Steps}
 
 -- the number is the id of a term, whose tests are below n
-pub record IsTermOf (store : StoreParts) (n i : ℕ) : Type 0 where
-  pub is_id : IsTermId store i
-  pub in_range : HasTestsBelow n (tree_of store i)
+pub record IsTermOf (store : NodeParts) (n i : ℕ) : Type 0 where
+  pub is_id : IsTerm store i
+  pub in_range : HasTestsBelow n (tree_at store i)
 
 -- the guards are ids of diagrams
 abbrev pub AreGuards : DiagramsParts → List Guarded → Type 0
 AreGuards d moves = (m : Guarded) → Has moves m → IsDiagramId d m.guard
 
 -- the moves lead to ids of terms, whose tests are below n
-abbrev pub AreTargets : StoreParts → ℕ → List Guarded → Type 0
+abbrev pub AreTargets : NodeParts → ℕ → List Guarded → Type 0
 AreTargets store n moves = (m : Guarded) → Has moves m → IsTermOf store n m.to
 
 -- some move has the action, a guard that is true at the atom, and the term
-pub record LeadsTo (store : StoreParts) (d : DiagramsParts) (moves : List Guarded) (atom : Atom) (a : ℕ) (e : Term) : Type 0 where
+pub record LeadsTo (store : NodeParts) (d : DiagramsParts) (moves : List Guarded) (atom : Atom) (a : ℕ) (e : Term) : Type 0 where
   pub through : Guarded
   pub member : Has moves through
   pub action : through.act ≡ a
   pub guard : IsTrue (value_of d through.guard atom)
-  pub tree : tree_of store through.to ≡ e
+  pub tree : tree_at store through.to ≡ e
 
 -- no two moves have one action and one term
 abbrev pub AreMerged : List Guarded → Type 0
@@ -38,7 +38,7 @@ AreMerged [] = Unit {0}
 AreMerged (m ∷ ms) = ((n : Guarded) → Has ms n → n.act ≡ m.act → n.to ≡ m.to → ⊥) × AreMerged ms
 
 -- the steps accept what is accepted, and lead to just the terms that are left
-pub record IsStepsBy (store : StoreParts) (d : DiagramsParts) (accepted : Atom → Bool) (left : Atom → ℕ → List Term) (steps : Steps) : Type 0 where
+pub record IsStepsBy (store : NodeParts) (d : DiagramsParts) (accepted : Atom → Bool) (left : Atom → ℕ → List Term) (steps : Steps) : Type 0 where
   pub accepts : IsDiagramOf d steps.accepts accepted
   pub guards : AreGuards d steps.moves.items
   pub targets : AreTargets store d.tests steps.moves.items
@@ -46,10 +46,10 @@ pub record IsStepsBy (store : StoreParts) (d : DiagramsParts) (accepted : Atom �
   pub merged : AreMerged steps.moves.items
 
 -- the symbolic derivative of a set of terms, and of a term
-abbrev pub IsStepsOf : StoreParts → DiagramsParts → List Term → Steps → Type 0
+abbrev pub IsStepsOf : NodeParts → DiagramsParts → List Term → Steps → Type 0
 IsStepsOf store d es steps = IsStepsBy store d (set_out es) (set_next es) steps
 
-abbrev pub IsDerivativeOf : StoreParts → DiagramsParts → Term → Steps → Type 0
+abbrev pub IsDerivativeOf : NodeParts → DiagramsParts → Term → Steps → Type 0
 IsDerivativeOf store d e steps = IsStepsBy store d (out e) (next e) steps
 
 -- the guards and what is accepted are ids of diagrams
@@ -58,6 +58,6 @@ pub record HasIds (d : DiagramsParts) (steps : Steps) : Type 0 where
   pub guards : AreGuards d steps.moves.items
 
 -- older ids of both keep their trees and functions
-pub record Keeps (old new : StoreParts) (older newer : DiagramsParts) : Type 0 where
-  pub trees : KeepsTrees old new
+pub record Keeps (old new : NodeParts) (older newer : DiagramsParts) : Type 0 where
+  pub trees : Grows old new
   pub functions : KeepsFunctions older newer

@@ -2,8 +2,8 @@
 ghost use Rattle.std.specs.Prelude.{◌≡◌, ◌++◌, ◌∷◌, [], List, All, map, IfOk, IfSome, OnOk};
 ghost use Rattle.kat_model.specs.Trees.{Term, sum, product, star};
 ghost use Rattle.kat_model.specs.Steps.{set_out, set_next};
-ghost use Rattle.term_store.specs.Nodes.{StoreParts};
-ghost use Rattle.term_store.specs.Trees.{tree_of};
+ghost use Rattle.term_nodes.specs.NodeLists.{NodeParts};
+ghost use Rattle.term_nodes.specs.NodeTrees.{tree_at};
 ghost use Rattle.test_diagrams.specs.Functions.{DiagramsParts};
 ghost use Rattle.partial_derivs.specs.Moves.{IsTermOf, IsDerivativeOf, IsStepsOf, Keeps};
 ghost use Rattle.partial_derivs.specs.Working.Unions.{IsUnionBy, IsUnionOfIds};
@@ -28,7 +28,7 @@ pub struct Derivatives {
 impl Derivatives {
     /// No derivatives, which is right for each store and collection. It takes no memory.
     pub fn new(alloc: Global) -> Derivatives
-        ensures { (store : StoreParts) (d : DiagramsParts) → AreRight store d result }
+        ensures { (store : NodeParts) (d : DiagramsParts) → AreRight store d result }
     {
         Derivatives {
             table: IndexMap::new(alloc),
@@ -47,7 +47,7 @@ impl Derivatives {
     ) -> Result<Steps, NoMemory>
         requires terms { All (IsTermOf store.old diagrams.old.tests) terms.now }
         requires right { AreRight store.old diagrams.old self.old }
-        ensures steps { IfOk result (IsStepsOf store.new diagrams.new (map (tree_of store.old) terms.now)) }
+        ensures steps { IfOk result (IsStepsOf store.new diagrams.new (map (tree_at store.old) terms.now)) }
         ensures right { AreRight store.new diagrams.new self.new }
         ensures kept { Keeps store.old store.new diagrams.old diagrams.new }
     {
@@ -73,7 +73,7 @@ impl Derivatives {
         ensures ids { OnOk result (IsUnionOfIds diagrams.new whole.new) }
         ensures added { OnOk result ((es : List Term)
             → IsUnionBy store.old diagrams.old (set_out es) (set_next es) whole.old
-            → IsUnionBy store.new diagrams.new (set_out (es ++ tree_of store.old term ∷ [])) (set_next (es ++ tree_of store.old term ∷ [])) whole.new) }
+            → IsUnionBy store.new diagrams.new (set_out (es ++ tree_at store.old term ∷ [])) (set_next (es ++ tree_at store.old term ∷ [])) whole.new) }
         ensures right { AreRight store.new diagrams.new self.new }
         ensures kept { Keeps store.old store.new diagrams.old diagrams.new }
     {
@@ -83,8 +83,8 @@ impl Derivatives {
 
     // The derivative of the term, where the table has it.
     fn known(&self, alloc: Global, term: TermId) -> Result<Option<Steps>, NoMemory>
-        ensures { IfOk result (λ found. IfSome found (λ steps. (store : StoreParts) (d : DiagramsParts)
-            → AreRight store d self.now → IsDerivativeOf store d (tree_of store term) steps)) }
+        ensures { IfOk result (λ found. IfSome found (λ steps. (store : NodeParts) (d : DiagramsParts)
+            → AreRight store d self.now → IsDerivativeOf store d (tree_at store term) steps)) }
     {
         match self.table.get(&term) {
             Some(steps) => Ok(Some(steps.copy(alloc)?)),
@@ -94,7 +94,7 @@ impl Derivatives {
 
     // Adds a derivative to the table.
     fn note(&mut self, alloc: Global, term: TermId, steps: &Steps) -> Result<(), NoMemory>
-        ensures { (store : StoreParts) (d : DiagramsParts)
+        ensures { (store : NodeParts) (d : DiagramsParts)
             → IsRight store d term steps.now → AreRight store d self.old → AreRight store d self.new }
     {
         let copy = steps.copy(alloc)?;
@@ -113,7 +113,7 @@ impl Derivatives {
     ) -> Result<Steps, NoMemory>
         requires term { IsTermOf store.old diagrams.old.tests term }
         requires right { AreRight store.old diagrams.old self.old }
-        ensures steps { IfOk result (IsDerivativeOf store.new diagrams.new (tree_of store.old term)) }
+        ensures steps { IfOk result (IsDerivativeOf store.new diagrams.new (tree_at store.old term)) }
         ensures right { AreRight store.new diagrams.new self.new }
         ensures kept { Keeps store.old store.new diagrams.old diagrams.new }
     {
@@ -136,7 +136,7 @@ impl Derivatives {
     ) -> Result<Steps, NoMemory>
         requires term { IsTermOf store.old diagrams.old.tests term }
         requires right { AreRight store.old diagrams.old self.old }
-        ensures steps { IfOk result (IsDerivativeOf store.new diagrams.new (tree_of store.old term)) }
+        ensures steps { IfOk result (IsDerivativeOf store.new diagrams.new (tree_at store.old term)) }
         ensures right { AreRight store.new diagrams.new self.new }
         ensures kept { Keeps store.old store.new diagrams.old diagrams.new }
     {
@@ -164,7 +164,7 @@ impl Derivatives {
         requires first { IsTermOf store.old diagrams.old.tests e }
         requires second { IsTermOf store.old diagrams.old.tests f }
         requires right { AreRight store.old diagrams.old self.old }
-        ensures steps { IfOk result (IsDerivativeOf store.new diagrams.new (sum (tree_of store.old e) (tree_of store.old f))) }
+        ensures steps { IfOk result (IsDerivativeOf store.new diagrams.new (sum (tree_at store.old e) (tree_at store.old f))) }
         ensures right { AreRight store.new diagrams.new self.new }
         ensures kept { Keeps store.old store.new diagrams.old diagrams.new }
     {
@@ -186,7 +186,7 @@ impl Derivatives {
         requires first { IsTermOf store.old diagrams.old.tests e }
         requires second { IsTermOf store.old diagrams.old.tests f }
         requires right { AreRight store.old diagrams.old self.old }
-        ensures steps { IfOk result (IsDerivativeOf store.new diagrams.new (product (tree_of store.old e) (tree_of store.old f))) }
+        ensures steps { IfOk result (IsDerivativeOf store.new diagrams.new (product (tree_at store.old e) (tree_at store.old f))) }
         ensures right { AreRight store.new diagrams.new self.new }
         ensures kept { Keeps store.old store.new diagrams.old diagrams.new }
     {
@@ -207,9 +207,9 @@ impl Derivatives {
     ) -> Result<Steps, NoMemory>
         requires inner { IsTermOf store.old diagrams.old.tests e }
         requires own { IsTermOf store.old diagrams.old.tests own }
-        requires tree { tree_of store.old own ≡ star (tree_of store.old e) }
+        requires tree { tree_at store.old own ≡ star (tree_at store.old e) }
         requires right { AreRight store.old diagrams.old self.old }
-        ensures steps { IfOk result (IsDerivativeOf store.new diagrams.new (star (tree_of store.old e))) }
+        ensures steps { IfOk result (IsDerivativeOf store.new diagrams.new (star (tree_at store.old e))) }
         ensures right { AreRight store.new diagrams.new self.new }
         ensures kept { Keeps store.old store.new diagrams.old diagrams.new }
     {
@@ -228,7 +228,7 @@ pub fn step(
     terms: &[TermId],
 ) -> Result<Steps, NoMemory>
     requires terms { All (IsTermOf store.old diagrams.old.tests) terms.now }
-    ensures steps { IfOk result (IsStepsOf store.new diagrams.new (map (tree_of store.old) terms.now)) }
+    ensures steps { IfOk result (IsStepsOf store.new diagrams.new (map (tree_at store.old) terms.now)) }
     ensures kept { Keeps store.old store.new diagrams.old diagrams.new }
 {
     let mut derivatives = Derivatives::new(alloc);

@@ -3,9 +3,9 @@ ghost use Rattle.std.specs.Prelude.{◌≡◌, [], IfOk, Bool, ℕ};
 ghost use Rattle.kat_model.specs.Trees.{Term, test as test_term, act, product, star};
 ghost use Rattle.kat_model.specs.Steps.{truth};
 ghost use Rattle.kat_model.specs.Problems.{IsTestInRange};
-ghost use Rattle.term_store.specs.Nodes.{StoreParts, IsTestId};
-ghost use Rattle.term_store.specs.Trees.{test_tree_of, tree_of};
-ghost use Rattle.term_store.specs.Growth.{KeepsTrees};
+ghost use Rattle.term_nodes.specs.NodeLists.{NodeParts, IsTest};
+ghost use Rattle.term_nodes.specs.NodeTrees.{test_tree_at, tree_at};
+ghost use Rattle.term_nodes.specs.Growth.{Grows};
 ghost use Rattle.test_diagrams.specs.Functions.{IsDiagramOf, KeepsFunctions};
 ghost use Rattle.partial_derivs.specs.Moves.{IsTermOf, AreTargets, HasIds, IsStepsBy, IsDerivativeOf, Keeps};
 
@@ -18,9 +18,9 @@ use test_diagrams::{DiagramId, Diagrams};
 
 // The diagram of a test of the store.
 fn diagram_of(store: &Store, diagrams: &mut Diagrams, test: TestId) -> Result<DiagramId, NoMemory>
-    requires id { IsTestId store.now test }
-    requires in_range { IsTestInRange diagrams.old.tests (test_tree_of store.now test) }
-    ensures function { IfOk result (λ id. IsDiagramOf diagrams.new id (truth (test_tree_of store.now test))) }
+    requires id { IsTest store.now test }
+    requires in_range { IsTestInRange diagrams.old.tests (test_tree_at store.now test) }
+    ensures function { IfOk result (λ id. IsDiagramOf diagrams.new id (truth (test_tree_at store.now test))) }
     ensures kept { KeepsFunctions diagrams.old diagrams.new }
 {
     match store.test_shape(test) {
@@ -46,7 +46,7 @@ fn diagram_of(store: &Store, diagrams: &mut Diagrams, test: TestId) -> Result<Di
 
 /// Steps that accept the constant and have no moves: those of zero and one. It takes no memory.
 pub(crate) fn constant_steps(alloc: Global, diagrams: &Diagrams, value: bool) -> Steps
-    ensures { (store : StoreParts) → IsStepsBy store diagrams.now (λ atom. value) (λ atom a. []) result }
+    ensures { (store : NodeParts) → IsStepsBy store diagrams.now (λ atom. value) (λ atom a. []) result }
 {
     Steps {
         accepts: diagrams.constant(value),
@@ -61,9 +61,9 @@ pub(crate) fn test_steps(
     diagrams: &mut Diagrams,
     test: TestId,
 ) -> Result<Steps, NoMemory>
-    requires id { IsTestId store.now test }
-    requires in_range { IsTestInRange diagrams.old.tests (test_tree_of store.now test) }
-    ensures steps { IfOk result (IsDerivativeOf store.now diagrams.new (test_term (test_tree_of store.now test))) }
+    requires id { IsTest store.now test }
+    requires in_range { IsTestInRange diagrams.old.tests (test_tree_at store.now test) }
+    ensures steps { IfOk result (IsDerivativeOf store.now diagrams.new (test_term (test_tree_at store.now test))) }
     ensures kept { KeepsFunctions diagrams.old diagrams.new }
 {
     let accepts = diagram_of(store, diagrams, test)?;
@@ -81,7 +81,7 @@ pub(crate) fn action_steps(
     action: usize,
 ) -> Result<Steps, NoMemory>
     ensures steps { IfOk result (IsDerivativeOf store.new diagrams.now (act action)) }
-    ensures kept { KeepsTrees store.old store.new }
+    ensures kept { Grows store.old store.new }
 {
     let to = store.intern(Shape::One)?;
     let guard = diagrams.constant(true);
@@ -110,8 +110,8 @@ pub(crate) fn product_steps(
     requires second { HasIds diagrams.old second.now }
     requires tail { IsTermOf store.old diagrams.old.tests tail }
     ensures steps { IfOk result (λ s. (e : Term) → IsDerivativeOf store.old diagrams.old e first.now
-        → IsDerivativeOf store.old diagrams.old (tree_of store.old tail) second.now
-        → IsDerivativeOf store.new diagrams.new (product e (tree_of store.old tail)) s) }
+        → IsDerivativeOf store.old diagrams.old (tree_at store.old tail) second.now
+        → IsDerivativeOf store.new diagrams.new (product e (tree_at store.old tail)) s) }
     ensures kept { Keeps store.old store.new diagrams.old diagrams.new }
 {
     let mut gathered = Gathered::followed(alloc, store, diagrams, &first.moves, tail)?;
@@ -133,7 +133,7 @@ pub(crate) fn star_steps(
     requires targets { AreTargets store.old diagrams.old.tests inner.now.moves.items }
     requires own { IsTermOf store.old diagrams.old.tests own }
     ensures steps { IfOk result (λ s. (e : Term) → IsDerivativeOf store.old diagrams.old e inner.now
-        → tree_of store.old own ≡ star e → IsDerivativeOf store.new diagrams.new (star e) s) }
+        → tree_at store.old own ≡ star e → IsDerivativeOf store.new diagrams.new (star e) s) }
     ensures kept { Keeps store.old store.new diagrams.old diagrams.new }
 {
     let gathered = Gathered::followed(alloc, store, diagrams, &inner.moves, own)?;

@@ -2,7 +2,7 @@
 ghost use Rattle.std.specs.Prelude.{◌≡◌, [], ◌∷◌, ◌||◌, IfOk, OnOk};
 ghost use Rattle.std.specs.List.{IsDistinct};
 ghost use Rattle.std.specs.Map.{lookup, keys_of};
-ghost use Rattle.term_store.specs.Growth.{KeepsTrees};
+ghost use Rattle.term_nodes.specs.Growth.{Grows};
 ghost use Rattle.test_diagrams.specs.Functions.{value_of, IsDiagramId, IsDiagramOf, KeepsFunctions};
 ghost use Rattle.partial_derivs.specs.Moves.{IsTermOf, AreGuards, AreTargets, AreMerged};
 ghost use Rattle.partial_derivs.specs.Working.Gathered.{moves_of, guard_at, same_target, AddsMove, AddsUnder, AddsFollowed, Follows};
@@ -132,7 +132,7 @@ impl Gathered {
         requires tail { IsTermOf store.old diagrams.old.tests tail }
         ensures added { OnOk result (AddsFollowed store.old store.new diagrams.old diagrams.new
             (moves_of self.old.guards.entries) (moves_of self.new.guards.entries) guarded.now tail) }
-        ensures trees { KeepsTrees store.old store.new }
+        ensures trees { Grows store.old store.new }
         ensures kept { KeepsFunctions diagrams.old diagrams.new }
     {
         let to = store.dot(guarded.to, tail)?;
@@ -152,7 +152,7 @@ impl Gathered {
         requires tail { IsTermOf store.old diagrams.old.tests tail }
         ensures follows { IfOk result (λ g. Follows store.old store.new diagrams.old diagrams.new
             (moves_of g.guards.entries) moves.now tail) }
-        ensures trees { KeepsTrees store.old store.new }
+        ensures trees { Grows store.old store.new }
         ensures kept { KeepsFunctions diagrams.old diagrams.new }
     {
         let mut gathered = Gathered::new(alloc);

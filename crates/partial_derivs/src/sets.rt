@@ -2,7 +2,7 @@
 ghost use Rattle.std.specs.Prelude.{[], ℕ, Bool, false, List, IfOk, OnOk};
 ghost use Rattle.kat_model.specs.Trees.{Term, sum};
 ghost use Rattle.kat_model.specs.Steps.{Atom};
-ghost use Rattle.term_store.specs.Nodes.{StoreParts};
+ghost use Rattle.term_nodes.specs.NodeLists.{NodeParts};
 ghost use Rattle.test_diagrams.specs.Functions.{DiagramsParts, KeepsFunctions};
 ghost use Rattle.partial_derivs.specs.Moves.{IsStepsBy, IsDerivativeOf, HasIds};
 ghost use Rattle.partial_derivs.specs.Working.Unions.{IsUnionBy, IsUnionOfIds, AddsSteps};
@@ -24,7 +24,7 @@ impl Union {
     /// The steps of no term. It takes no memory.
     pub(crate) fn new(alloc: Global, diagrams: &Diagrams) -> Union
         ensures ids { IsUnionOfIds diagrams.now result }
-        ensures none { (store : StoreParts) → IsUnionBy store diagrams.now (λ atom. false) (λ atom a. []) result }
+        ensures none { (store : NodeParts) → IsUnionBy store diagrams.now (λ atom. false) (λ atom a. []) result }
     {
         Union {
             accepts: diagrams.constant(false),
@@ -48,7 +48,7 @@ impl Union {
 
     /// The steps of the terms so far.
     pub(crate) fn steps(&self, alloc: Global) -> Result<Steps, NoMemory>
-        ensures { IfOk result (λ s. (store : StoreParts) (d : DiagramsParts) (accepted : Atom → Bool) (left : Atom → ℕ → List Term)
+        ensures { IfOk result (λ s. (store : NodeParts) (d : DiagramsParts) (accepted : Atom → Bool) (left : Atom → ℕ → List Term)
             → IsUnionBy store d accepted left self.now → IsStepsBy store d accepted left s) }
     {
         let moves = self.gathered.moves(alloc)?;
@@ -68,7 +68,7 @@ pub(crate) fn sum_steps(
 ) -> Result<Steps, NoMemory>
     requires first { HasIds diagrams.old first.now }
     requires second { HasIds diagrams.old second.now }
-    ensures sum { IfOk result (λ s. (store : StoreParts) (e f : Term)
+    ensures sum { IfOk result (λ s. (store : NodeParts) (e f : Term)
         → IsDerivativeOf store diagrams.old e first.now → IsDerivativeOf store diagrams.old f second.now
         → IsDerivativeOf store diagrams.new (sum e f) s) }
     ensures kept { KeepsFunctions diagrams.old diagrams.new }

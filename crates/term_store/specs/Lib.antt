@@ -1,4 +1,1 @@
-pub mod Nodes
-pub mod Trees
-pub mod Growth
 pub mod Laws

@@ -1,13 +1,13 @@
 //! Laws of ids and trees. Each function does nothing: its contract is the law.
-ghost use Rattle.term_store.specs.Nodes.{StoreParts, IsStore};
+ghost use Rattle.term_nodes.specs.NodeLists.{NodeParts, AreNodes};
 ghost use Rattle.term_store.specs.Laws.{TreesByNode, EqualIdsAreEqualTrees};
 
 /// The tree of an id is that of its node, over the trees of the ids that the node names.
 pub fn trees_by_node()
-    ensures { (store : StoreParts) → IsStore store → TreesByNode store }
+    ensures { (store : NodeParts) → AreNodes store → TreesByNode store }
 {}
 
 /// Two ids of one store are equal exactly where their trees are.
 pub fn equal_ids_are_equal_trees()
-    ensures { (store : StoreParts) → IsStore store → EqualIdsAreEqualTrees store }
+    ensures { (store : NodeParts) → AreNodes store → EqualIdsAreEqualTrees store }
 {}

@@ -2,6 +2,7 @@
 ghost use Rattle.std.specs.Prelude.{◌≡◌};
 
 use std::marker::Model;
+use term_nodes::{TermNode, TestNode};
 
 /// The number of a test in its store.
 #[derive(Clone, Copy, Debug, PartialEq, Eq, PartialOrd, Ord, Hash)]
@@ -45,24 +46,7 @@ impl TermId {
 }
 
 /// A node of a test, over the ids of its parts.
-#[derive(Clone, Copy, Debug, PartialEq, Eq, Hash)]
-pub enum TestShape {
-    False,
-    True,
-    Prim(usize),
-    Not(TestId),
-    And(TestId, TestId),
-    Or(TestId, TestId),
-}
+pub type TestShape = TestNode<TestId>;
 
 /// A node of a term, over the ids of its parts.
-#[derive(Clone, Copy, Debug, PartialEq, Eq, Hash)]
-pub enum Shape {
-    Zero,
-    One,
-    Test(TestId),
-    Act(usize),
-    Sum(TermId, TermId),
-    Seq(TermId, TermId),
-    Star(TermId),
-}
+pub type Shape = TermNode<TestId, TermId>;

@@ -2,8 +2,10 @@
 ghost use Rattle.std.specs.Prelude.{◌≡◌, ◌≢◌, [], length, Contains, IfOk, IsOk, OnErr, slice_get};
 ghost use Rattle.kat_model.specs.Trees.{one, test_tree, kat_tree};
 ghost use Rattle.kat_model.specs.Steps.{dot};
-ghost use Rattle.term_store.specs.Trees.{test_tree_of, tree_of, test_node_tree, node_tree, HasTestTree, HasTree, HasTestParts, HasParts};
-ghost use Rattle.term_store.specs.Growth.{KeepsTrees, AddsTest, AddsTerm};
+ghost use Rattle.term_nodes.specs.declared.TermNode.TheVariants.{Seq};
+ghost use Rattle.term_nodes.specs.NodeTrees.{test_tree_at, tree_at, test_tree_in, tree_in, HasTestTree, HasTree};
+ghost use Rattle.term_nodes.specs.TreeParts.{HasTestParts, HasParts};
+ghost use Rattle.term_nodes.specs.Growth.{Grows, AddsTest, AddsTerm};
 
 use crate::nodes::{Shape, TermId, TestId, TestShape};
 use indexmap::IndexSet;
@@ -19,23 +21,24 @@ pub struct Store {
 }
 
 impl Model for Store {
-    ghost use Rattle.term_store.specs.Nodes.{StoreParts, IsStore};
+    ghost use Rattle.term_nodes.specs.NodeLists.{NodeParts, AreNodes};
 
-    ghost Value = { StoreParts };
+    ghost Value = { NodeParts };
 
     ghost view = { λ s. record { tests = s.tests.keys; terms = s.terms.keys } };
 
-    ghost invariant = { λ s. IsStore (record { tests = s.tests.keys; terms = s.terms.keys }) };
+    ghost invariant = { λ s. AreNodes (record { tests = s.tests.keys; terms = s.terms.keys }) };
 }
 
 impl Store {
-    ghost use Rattle.term_store.specs.Nodes.{IsTestId, IsTermId, IsTestOver, IsOver, IsStore};
+    ghost use Rattle.term_nodes.specs.Nodes.{IsTestOver, IsOver};
+    ghost use Rattle.term_nodes.specs.NodeLists.{IsTest, IsTerm, AreNodes};
 
     /// A store with no nodes. It takes no memory.
     pub fn new(alloc: Global) -> Store
         ensures tests { result.tests ≡ [] }
         ensures terms { result.terms ≡ [] }
-        ensures store { IsStore result }
+        ensures store { AreNodes result }
     {
         Store {
             tests: IndexSet::new(alloc),
@@ -48,16 +51,16 @@ impl Store {
     pub fn intern_test(&mut self, shape: TestShape) -> Result<TestId, NoMemory>
         requires { IsTestOver (length self.old.tests) shape }
         ensures id { IfOk result (λ id. slice_get self.new.tests id ≡ Some shape) }
-        ensures tree { IfOk result (λ id. test_tree_of self.new id ≡ test_node_tree self.old shape) }
-        ensures is_id { IfOk result (IsTestId self.new) }
+        ensures tree { IfOk result (λ id. test_tree_at self.new id ≡ test_tree_in self.old shape) }
+        ensures is_id { IfOk result (IsTest self.new) }
 
         // Where the node stands already, it is not refused, and nothing changes.
         ensures found { Contains self.old.tests shape → IsOk result × (self.new ≡ self.old) }
         ensures refused { OnErr result (self.new ≡ self.old) }
 
         ensures added { AddsTest self.old self.new shape }
-        ensures kept { KeepsTrees self.old self.new }
-        ensures store { IsStore self.new }
+        ensures grows { Grows self.old self.new }
+        ensures store { AreNodes self.new }
     {
         match self.tests.insert_full(shape) {
             Ok((index, _)) => Ok(TestId { index }),
@@ -69,16 +72,16 @@ impl Store {
     pub fn intern(&mut self, shape: Shape) -> Result<TermId, NoMemory>
         requires { IsOver (length self.old.tests) (length self.old.terms) shape }
         ensures id { IfOk result (λ id. slice_get self.new.terms id ≡ Some shape) }
-        ensures tree { IfOk result (λ id. tree_of self.new id ≡ node_tree self.old shape) }
-        ensures is_id { IfOk result (IsTermId self.new) }
+        ensures tree { IfOk result (λ id. tree_at self.new id ≡ tree_in self.old shape) }
+        ensures is_id { IfOk result (IsTerm self.new) }
 
         // Where the node stands already, it is not refused, and nothing changes.
         ensures found { Contains self.old.terms shape → IsOk result × (self.new ≡ self.old) }
         ensures refused { OnErr result (self.new ≡ self.old) }
 
         ensures added { AddsTerm self.old self.new shape }
-        ensures kept { KeepsTrees self.old self.new }
-        ensures store { IsStore self.new }
+        ensures grows { Grows self.old self.new }
+        ensures store { AreNodes self.new }
     {
         match self.terms.insert_full(shape) {
             Ok((index, _)) => Ok(TermId { index }),
@@ -88,22 +91,22 @@ impl Store {
 
     /// The node of a test.
     pub fn test_shape(&self, id: TestId) -> TestShape
-        requires { IsTestId self.now id }
+        requires { IsTest self.now id }
         ensures value { slice_get self.now.tests id ≡ Some result }
-        ensures tree { test_tree_of self.now id ≡ test_node_tree self.now result }
+        ensures tree { test_tree_at self.now id ≡ test_tree_in self.now result }
         ensures parts { IsTestOver id result }
-        ensures store { IsStore self.now }
+        ensures store { AreNodes self.now }
     {
         *self.tests.get_index(id.index).unwrap()
     }
 
     /// The node of a term.
     pub fn shape(&self, id: TermId) -> Shape
-        requires { IsTermId self.now id }
+        requires { IsTerm self.now id }
         ensures value { slice_get self.now.terms id ≡ Some result }
-        ensures tree { tree_of self.now id ≡ node_tree self.now result }
+        ensures tree { tree_at self.now id ≡ tree_in self.now result }
         ensures parts { IsOver (length self.now.tests) id result }
-        ensures store { IsStore self.now }
+        ensures store { AreNodes self.now }
     {
         *self.terms.get_index(id.index).unwrap()
     }
@@ -111,7 +114,7 @@ impl Store {
     /// The number of nodes of terms. Those of tests are not counted.
     pub fn count(&self) -> usize
         ensures value { result ≡ length self.now.terms }
-        ensures store { IsStore self.now }
+        ensures store { AreNodes self.now }
     {
         self.terms.len()
     }
@@ -119,25 +122,25 @@ impl Store {
     /// An id of one term and then another, whose tree is `dot` of their trees. The only refusal is want of
     /// memory.
     pub fn dot(&mut self, first: TermId, second: TermId) -> Result<TermId, NoMemory>
-        requires first_id { IsTermId self.old first }
-        requires second_id { IsTermId self.old second }
+        requires first_id { IsTerm self.old first }
+        requires second_id { IsTerm self.old second }
         // `second` where the first tree is `one`, and then nothing changes; else the node of the product.
-        ensures of_one { tree_of self.old first ≡ one → (result ≡ Ok second) × (self.new ≡ self.old) }
-        ensures of_other { tree_of self.old first ≢ one →
-            IfOk result (λ id. slice_get self.new.terms id ≡ Some (Shape.Seq first second)) }
+        ensures of_one { tree_at self.old first ≡ one → (result ≡ Ok second) × (self.new ≡ self.old) }
+        ensures of_other { tree_at self.old first ≢ one →
+            IfOk result (λ id. slice_get self.new.terms id ≡ Some (Seq first second)) }
 
         ensures tree { IfOk result (λ id.
-            tree_of self.new id ≡ dot (tree_of self.old first) (tree_of self.old second)) }
-        ensures is_id { IfOk result (IsTermId self.new) }
+            tree_at self.new id ≡ dot (tree_at self.old first) (tree_at self.old second)) }
+        ensures is_id { IfOk result (IsTerm self.new) }
 
         // Where the node of the product stands already, it is not refused, and nothing changes.
-        ensures found { Contains self.old.terms (Shape.Seq first second) →
+        ensures found { Contains self.old.terms (Seq first second) →
             IsOk result × (self.new ≡ self.old) }
         ensures refused { OnErr result (self.new ≡ self.old) }
 
-        ensures added { AddsTerm self.old self.new (Shape.Seq first second) }
-        ensures kept { KeepsTrees self.old self.new }
-        ensures store { IsStore self.new }
+        ensures added { AddsTerm self.old self.new (Seq first second) }
+        ensures grows { Grows self.old self.new }
+        ensures store { AreNodes self.new }
     {
         match self.shape(first) {
             Shape::One => Ok(second),
@@ -148,12 +151,12 @@ impl Store {
     // An id whose tree is this test. A refusal may leave further nodes.
     #[cycle(of_test)]
     fn of_test(&mut self, test: &Test) -> Result<TestId, NoMemory>
-        ensures tree { IfOk result (λ id. test_tree_of self.new id ≡ test_tree test.now) }
-        ensures is_id { IfOk result (IsTestId self.new) }
+        ensures tree { IfOk result (λ id. test_tree_at self.new id ≡ test_tree test.now) }
+        ensures is_id { IfOk result (IsTest self.new) }
         ensures found { HasTestTree self.old (test_tree test.now) →
             IsOk result × (self.new ≡ self.old) }
-        ensures kept { KeepsTrees self.old self.new }
-        ensures store { IsStore self.new }
+        ensures grows { Grows self.old self.new }
+        ensures store { AreNodes self.new }
     {
         let shape = self.shape_of_test(test)?;
         self.intern_test(shape)
@@ -162,13 +165,13 @@ impl Store {
     // The node of this test, over ids of its parts.
     #[cycle(of_test)]
     fn shape_of_test(&mut self, test: &Test) -> Result<TestShape, NoMemory>
-        ensures tree { IfOk result (λ shape. test_node_tree self.new shape ≡ test_tree test.now) }
+        ensures tree { IfOk result (λ shape. test_tree_in self.new shape ≡ test_tree test.now) }
         ensures parts { IfOk result (IsTestOver (length self.new.tests)) }
         ensures found { HasTestParts self.old (test_tree test.now) →
             IsOk result × (self.new ≡ self.old) }
-        ensures kept { KeepsTrees self.old self.new }
-        ensures was_store { IsStore self.old }
-        ensures store { IsStore self.new }
+        ensures grows { Grows self.old self.new }
+        ensures was_store { AreNodes self.old }
+        ensures store { AreNodes self.new }
     {
         // The proof needs the type's invariant.
         let _ = &self.tests;
@@ -185,15 +188,15 @@ impl Store {
     /// An id whose tree is this term. Fails only when out of memory, and it may leave further nodes.
     #[cycle(of_tree)]
     pub fn of_tree(&mut self, term: &Kat) -> Result<TermId, NoMemory>
-        ensures tree { IfOk result (λ id. tree_of self.new id ≡ kat_tree term.now) }
-        ensures is_id { IfOk result (IsTermId self.new) }
+        ensures tree { IfOk result (λ id. tree_at self.new id ≡ kat_tree term.now) }
+        ensures is_id { IfOk result (IsTerm self.new) }
 
         // Where some id has the tree already, it is not refused, and nothing changes.
         ensures found { HasTree self.old (kat_tree term.now) →
             IsOk result × (self.new ≡ self.old) }
 
-        ensures kept { KeepsTrees self.old self.new }
-        ensures store { IsStore self.new }
+        ensures grows { Grows self.old self.new }
+        ensures store { AreNodes self.new }
     {
         let shape = self.shape_of_tree(term)?;
         self.intern(shape)
@@ -202,13 +205,13 @@ impl Store {
     // The node of this term, over ids of its parts.
     #[cycle(of_tree)]
     fn shape_of_tree(&mut self, term: &Kat) -> Result<Shape, NoMemory>
-        ensures tree { IfOk result (λ shape. node_tree self.new shape ≡ kat_tree term.now) }
+        ensures tree { IfOk result (λ shape. tree_in self.new shape ≡ kat_tree term.now) }
         ensures parts { IfOk result (IsOver (length self.new.tests) (length self.new.terms)) }
         ensures found { HasParts self.old (kat_tree term.now) →
             IsOk result × (self.new ≡ self.old) }
-        ensures kept { KeepsTrees self.old self.new }
-        ensures was_store { IsStore self.old }
-        ensures store { IsStore self.new }
+        ensures grows { Grows self.old self.new }
+        ensures was_store { AreNodes self.old }
+        ensures store { AreNodes self.new }
     {
         // The proof needs the type's invariant.
         let _ = &self.terms;

@@ -6,13 +6,14 @@ use Rattle.kat_model.specs.Steps.{Atom, set_next}
 use Rattle.kat_model.specs.Problems.{ProblemParts}
 use Rattle.kat_model.specs.Closed.{closed}
 use Rattle.kat_model.specs.Pairs.{SetPair}
-use Rattle.term_store.specs.Nodes.{StoreParts, IsStore}
-use Rattle.term_store.specs.Trees.{tree_of}
+use Rattle.term_nodes.specs.NodeLists.{NodeParts, AreNodes}
+use Rattle.term_nodes.specs.NodeTrees.{tree_at}
 use Rattle.test_diagrams.specs.Functions.{DiagramsParts}
 use Rattle.partial_derivs.specs.Moves.{IsTermOf}
 use Rattle.bisim_worklist.specs.Walks.{Entry, IsWalk}
 use Rattle.bisim_worklist.specs.Working.Visits.{IsVisited}
-use Rattle.bisim_worklist.specs.Working.Listings.{terms_of, entries_of, AreIdSets}
+use Rattle.term_nodes.specs.NumberSets.{terms_of}
+use Rattle.bisim_worklist.specs.Working.Listings.{entries_of, AreIdSets}
 use Rattle.bisim_worklist.specs.Working.Marks.{RuleParts}
 use Rattle.bisim_worklist.specs.Working.Items.{chosen}
 use Rattle.bisim_worklist.specs.Working.Cases.{Extends}
@@ -21,29 +22,29 @@ use Rattle.bisim_worklist.specs.declared.items.Side.TheVariants.{Left, Right}
 use Rattle.bisim_worklist.specs.declared.branching.Stride.{Stride}
 
 -- the rules are the pairs of a walk, by ids of the store, that has processed the first so many
-pub record AreRulesOf (q : ProblemParts) (store : StoreParts) (r : RuleParts) (done : ℕ) : Type 0 where
-  pub sound : IsStore store
+pub record AreRulesOf (q : ProblemParts) (store : NodeParts) (r : RuleParts) (done : ℕ) : Type 0 where
+  pub sound : AreNodes store
   pub count : r.count ≡ length store.terms
   pub sets : AreIdSets store q.tests r.pairs
-  pub universal : option_map (tree_of store) r.universal ≡ (closed q).universal
+  pub universal : option_map (tree_at store) r.universal ≡ (closed q).universal
   pub universal_id : (u : ℕ) → r.universal ≡ Some u → IsTermOf store q.tests u
   pub walk : IsWalk q (entries_of store r.pairs) done
 
 -- at the atoms of a case the items have the next sets of the pair by the action
-pub record StandFor (q : ProblemParts) (store : StoreParts) (d : DiagramsParts) (items : List Item) (p : SetPair) (a : ℕ) (decided : List (Option Bool)) : Type 0 where
+pub record StandFor (q : ProblemParts) (store : NodeParts) (d : DiagramsParts) (items : List Item) (p : SetPair) (a : ℕ) (decided : List (Option Bool)) : Type 0 where
   pub targets : (i : Item) → Has items i → IsTermOf store q.tests i.target
   pub lefts : (atom : Atom) → length atom ≡ q.tests → Extends decided atom → SameMembers (set_next p.left atom a) (terms_of store (chosen d Left items atom))
   pub rights : (atom : Atom) → length atom ≡ q.tests → Extends decided atom → SameMembers (set_next p.right atom a) (terms_of store (chosen d Right items atom))
 
 -- the new rules are the old ones and pairs that the case lists, under which its sets are congruent
-pub record AreVisited (q : ProblemParts) (store : StoreParts) (stride : Stride) (p : SetPair) (decided : List (Option Bool)) (old new : RuleParts) : Type 0 where
+pub record AreVisited (q : ProblemParts) (store : NodeParts) (stride : Stride) (p : SetPair) (decided : List (Option Bool)) (old new : RuleParts) : Type 0 where
   pub rules : AreRulesOf q store new stride.place
   pub visited : IsVisited q (entries_of store old.pairs) (entries_of store new.pairs) stride.place p stride.act (Extends decided)
 
 -- whatever the question and the store are
 abbrev pub Visits : DiagramsParts → Stride → List (Option Bool) → List Item → RuleParts → RuleParts → Type 0
 Visits d stride decided items old new =
-    (q : ProblemParts) (store : StoreParts) (from : Entry)
+    (q : ProblemParts) (store : NodeParts) (from : Entry)
     → d.tests ≡ q.tests
     → stride.act < q.actions
     → AreRulesOf q store old stride.place

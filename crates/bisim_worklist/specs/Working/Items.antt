@@ -5,7 +5,7 @@ use Rattle.std.specs.BTreeMap.{is_at}
 use Rattle.std.specs.Ordering.{nat_cmp}
 use Rattle.kat_model.specs.Members.{Has, SameMembers}
 use Rattle.kat_model.specs.Steps.{Atom}
-use Rattle.certificate.specs.Nodes.{are_ascending}
+use Rattle.term_nodes.specs.NumberSets.{are_ascending}
 use Rattle.test_diagrams.specs.Functions.{DiagramsParts, value_of, IsDiagramId, IsAtomOf}
 use Rattle.partial_derivs.specs.declared.moves.Guarded.{Guarded}
 use Rattle.bisim_worklist.specs.declared.items.Item.{Item}

@@ -1,11 +1,9 @@
 -- The pairs of a walk as the program keeps them, by the ids of their terms.
 use Rattle.std.specs.Prelude.{◌≡◌, ◌<◌, ℕ, List, [], ◌∷◌, map, slice_get, Option, Some, None, IsTrue}
-use Rattle.kat_model.specs.Trees.{Term}
 use Rattle.kat_model.specs.Members.{Has}
 use Rattle.kat_model.specs.Pairs.{SetPair}
-use Rattle.certificate.specs.Nodes.{are_ascending}
-use Rattle.term_store.specs.Nodes.{StoreParts}
-use Rattle.term_store.specs.Trees.{tree_of}
+use Rattle.term_nodes.specs.NumberSets.{are_ascending, terms_of}
+use Rattle.term_nodes.specs.NodeLists.{NodeParts}
 use Rattle.partial_derivs.specs.Moves.{IsTermOf}
 use Rattle.bisim_worklist.specs.Walks.{Origin, Entry}
 
@@ -14,26 +12,22 @@ pub record IdEntry : Type 0 where
   pub right : List ℕ
   pub origin : Option Origin
 
--- the terms of ids
-abbrev pub terms_of : StoreParts → List ℕ → List Term
-terms_of store ids = map (tree_of store) ids
-
-abbrev pub pair_of : StoreParts → IdEntry → SetPair
+abbrev pub pair_of : NodeParts → IdEntry → SetPair
 pair_of store e = record { left = terms_of store e.left; right = terms_of store e.right }
 
-abbrev pub entry_of : StoreParts → IdEntry → Entry
+abbrev pub entry_of : NodeParts → IdEntry → Entry
 entry_of store e = record { pair = pair_of store e; origin = e.origin }
 
-abbrev pub entries_of : StoreParts → List IdEntry → List Entry
+abbrev pub entries_of : NodeParts → List IdEntry → List Entry
 entries_of store es = map (entry_of store) es
 
 -- the list is a set of ids of terms whose tests are below n, in ascending order
-pub record IsIdSet (store : StoreParts) (n : ℕ) (ids : List ℕ) : Type 0 where
+pub record IsIdSet (store : NodeParts) (n : ℕ) (ids : List ℕ) : Type 0 where
   pub there : (i : ℕ) → Has ids i → IsTermOf store n i
   pub ascending : IsTrue (are_ascending ids)
 
 -- both sets of each pair are such sets
-abbrev pub AreIdSets : StoreParts → ℕ → List IdEntry → Type 0
+abbrev pub AreIdSets : NodeParts → ℕ → List IdEntry → Type 0
 AreIdSets store n es = (e : IdEntry) → Has es e → IsIdSet store n e.left × IsIdSet store n e.right
 
 -- each pair but the first comes from an earlier one

@@ -1,42 +1,12 @@
 -- The nodes of a store that terms need: their own and those of all their parts.
-use Rattle.std.specs.Prelude.{◌≡◌, ◌⊎◌, ◌↔◌, ◌<◌, ℕ, List, [], ◌∷◌, ◌++◌, length, slice_get, Some, IsTrue}
+use Rattle.std.specs.Prelude.{◌≡◌, ◌⊎◌, ◌↔◌, ◌<◌, ℕ, List, ◌++◌, length, slice_get, Some, IsTrue}
 use Rattle.std.specs.List.{flat_map}
 use Rattle.kat_model.specs.Members.{Has, IsSubset}
-use Rattle.certificate.specs.Nodes.{are_ascending}
-use Rattle.term_store.specs.Nodes.{StoreParts}
-use Rattle.term_store.specs.declared.nodes.TestShape.{TestShape}
-use Rattle.term_store.specs.declared.nodes.TestShape.TheVariants as test
-use Rattle.term_store.specs.declared.nodes.Shape.{Shape}
-use Rattle.term_store.specs.declared.nodes.Shape.TheVariants.{Zero, One, Test, Act, Sum, Seq, Star}
+use Rattle.term_nodes.specs.NumberSets.{are_ascending}
+use Rattle.term_nodes.specs.Nodes.{tests_of_term}
+use Rattle.term_nodes.specs.NodeLists.{NodeParts}
+use Rattle.term_nodes.specs.declared.TermNode.{TermNode}
 use Rattle.bisim_worklist.specs.Working.Listings.{IdEntry}
-
--- the terms that a node names, and the tests
-abbrev pub terms_in : Shape → List ℕ
-terms_in Zero = []
-terms_in One = []
-terms_in (Test i) = []
-terms_in (Act a) = []
-terms_in (Sum i j) = i ∷ j ∷ []
-terms_in (Seq i j) = i ∷ j ∷ []
-terms_in (Star i) = i ∷ []
-
-abbrev pub tests_in : Shape → List ℕ
-tests_in Zero = []
-tests_in One = []
-tests_in (Test i) = i ∷ []
-tests_in (Act a) = []
-tests_in (Sum i j) = []
-tests_in (Seq i j) = []
-tests_in (Star i) = []
-
--- the tests that a node of a test names
-abbrev pub test_parts_in : TestShape → List ℕ
-test_parts_in test.False = []
-test_parts_in test.True = []
-test_parts_in (test.Prim k) = []
-test_parts_in (test.Not i) = i ∷ []
-test_parts_in (test.And i j) = i ∷ j ∷ []
-test_parts_in (test.Or i j) = i ∷ j ∷ []
 
 -- the id is one of these, or a part of one that is, over nodes and what they name
 pub data IsPart (N : Type 0) (nodes : List N) (named : N → List ℕ) (from : List ℕ) : ℕ → Type 0 where
@@ -60,5 +30,5 @@ abbrev pub AddsAll : List ℕ → List ℕ → List ℕ → Type 0
 AddsAll old new ids = (i : ℕ) → Has new i ↔ (Has old i ⊎ Has ids i)
 
 -- the tests are those that nodes of these terms name
-abbrev pub NamesTests : StoreParts → List ℕ → List ℕ → Type 0
-NamesTests store terms tests = (i : ℕ) → Has tests i ↔ ((j : ℕ) × (shape : Shape) × Has terms j × (slice_get store.terms j ≡ Some shape) × Has (tests_in shape) i)
+abbrev pub NamesTests : NodeParts → List ℕ → List ℕ → Type 0
+NamesTests store terms tests = (i : ℕ) → Has tests i ↔ ((j : ℕ) × (shape : TermNode ℕ ℕ) × Has terms j × (slice_get store.terms j ≡ Some shape) × Has (tests_of_term shape) i)

@@ -7,12 +7,12 @@ use Rattle.kat_model.specs.Pairs.{SetPair, IsCongruent}
 use Rattle.bisim_worklist.specs.Walks.{Entry, pairs_of, IsWalk}
 
 -- further entries are listed after the old ones
-pub record Grows (old new : List Entry) : Type 0 where
+pub record AddsEntries (old new : List Entry) : Type 0 where
   pub more : List Entry
   pub is : new ≡ old ++ more
 
 -- the walk has listed pairs, so that the next sets of the pair by the action are congruent at all atoms of a case
 pub record IsVisited (q : ProblemParts) (old new : List Entry) (done : ℕ) (p : SetPair) (a : ℕ) (IsCase : Atom → Type 0) : Type 0 where
-  pub grows : Grows old new
+  pub grows : AddsEntries old new
   pub walk : IsWalk q new done
   pub congruent : (atom : Atom) → length atom ≡ q.tests → IsCase atom → IsCongruent (closed q).universal (pairs_of new) (set_next p.left atom a) (set_next p.right atom a)

@@ -2,23 +2,24 @@
 use Rattle.std.specs.Prelude.{◌≡◌, ◌≢◌, ◌<◌, ℕ, length, slice_get, Some}
 use Rattle.kat_model.specs.Steps.{Atom, set_out}
 use Rattle.kat_model.specs.Problems.{ProblemParts}
-use Rattle.term_store.specs.Nodes.{StoreParts}
+use Rattle.term_nodes.specs.NodeLists.{NodeParts}
 use Rattle.partial_derivs.specs.Tables.{AreRight}
 use Rattle.partial_derivs.specs.Moves.{IsStepsOf, AreGuards, AreMerged}
 use Rattle.bisim_worklist.specs.Walks.{Entry, pairs_of, AreCongruentAfter}
-use Rattle.bisim_worklist.specs.Working.Listings.{IdEntry, terms_of, pair_of, entries_of}
+use Rattle.term_nodes.specs.NumberSets.{terms_of}
+use Rattle.bisim_worklist.specs.Working.Listings.{IdEntry, pair_of, entries_of}
 use Rattle.bisim_worklist.specs.Working.IdWalks.{AreRulesOf}
 use Rattle.bisim_worklist.specs.declared.walk.Walk.{Walk}
 use Rattle.bisim_worklist.specs.declared.walk.BothSteps.{BothSteps}
 
 -- the walk is over the store, and has processed the first so many of its pairs
-pub record IsUnderWay (q : ProblemParts) (store : StoreParts) (w : Walk) (done : ℕ) : Type 0 where
+pub record IsUnderWay (q : ProblemParts) (store : NodeParts) (w : Walk) (done : ℕ) : Type 0 where
   pub tests : w.diagrams.tests ≡ q.tests
   pub rules : AreRulesOf q store w.rules done
   pub right : AreRight store w.diagrams w.derivatives
 
 -- the steps are those of both sets of the pair
-pub record AreStepsAt (store : StoreParts) (w : Walk) (e : IdEntry) (steps : BothSteps) : Type 0 where
+pub record AreStepsAt (store : NodeParts) (w : Walk) (e : IdEntry) (steps : BothSteps) : Type 0 where
   pub left : IsStepsOf store w.diagrams (terms_of store e.left) steps.left
   pub right : IsStepsOf store w.diagrams (terms_of store e.right) steps.right
 
@@ -30,7 +31,7 @@ pub record HasStepIds (w : Walk) (steps : BothSteps) : Type 0 where
   pub right_merged : AreMerged steps.right.moves.items
 
 -- the walk goes on, and lists pairs under which the next sets of the pair at the place are congruent
-abbrev pub IsExpanded : ProblemParts → StoreParts → Walk → Walk → ℕ → BothSteps → Type 0
+abbrev pub IsExpanded : ProblemParts → NodeParts → Walk → Walk → ℕ → BothSteps → Type 0
 IsExpanded q store old new place steps =
     (e : IdEntry) → IsUnderWay q store old place → slice_get old.rules.pairs place ≡ Some e → AreStepsAt store old e steps
     → IsUnderWay q store new place
@@ -38,7 +39,7 @@ IsExpanded q store old new place steps =
     × (slice_get new.rules.pairs place ≡ Some e)
 
 -- just one of the sets of the pair at the place accepts the atom
-pub record IsDifference (q : ProblemParts) (store : StoreParts) (w : Walk) (place : ℕ) (atom : Atom) : Type 0 where
+pub record IsDifference (q : ProblemParts) (store : NodeParts) (w : Walk) (place : ℕ) (atom : Atom) : Type 0 where
   pub entry : Entry
   pub at : slice_get (entries_of store w.rules.pairs) place ≡ Some entry
   pub fits : length atom ≡ q.tests

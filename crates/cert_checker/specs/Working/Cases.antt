@@ -1,10 +1,10 @@
 -- Cases on tests: some tests are decided, and what is known of a test where they are.
 use Rattle.std.specs.Prelude.{◌≡◌, ◌+◌, ℕ, Bool, true, false, not, if◌then◌else◌, List, [], ◌∷◌, length, slice_get, slice_index_or, Option, Some, None}
 use Rattle.kat_model.specs.Steps.{Atom}
-use Rattle.certificate.specs.declared.nodes.TestNode.{TestNode}
-use Rattle.certificate.specs.declared.nodes.TestNode.TheVariants.{False, True, Prim, Not, And, Or}
+use Rattle.term_nodes.specs.declared.TestNode.{TestNode}
+use Rattle.term_nodes.specs.declared.TestNode.TheVariants.{False, True, Prim, Not, And, Or}
 use Rattle.cert_checker.specs.Answers.{IsLess}
-use Rattle.cert_checker.specs.Working.NodeTables.{Nodes, holds_at}
+use Rattle.cert_checker.specs.Working.NodeTables.{TableParts, holds_at}
 use Rattle.cert_checker.specs.declared.known.Known.{Known}
 use Rattle.cert_checker.specs.declared.known.Known.TheVariants.{Value, Waits}
 
@@ -49,7 +49,7 @@ known_at (Some b) k = Value b
 known_at None k = Waits k
 
 -- what is known of a node, over what is known of the nodes that it names
-abbrev pub known_node : List (Option Bool) → List Known → TestNode → Known
+abbrev pub known_node : List (Option Bool) → List Known → TestNode ℕ → Known
 known_node decided earlier False = Value false
 known_node decided earlier True = Value true
 known_node decided earlier (Prim k) = known_at (slice_index_or decided k None) k
@@ -58,7 +58,7 @@ known_node decided earlier (And x y) = known_and (slice_index_or earlier x (Valu
 known_node decided earlier (Or x y) = known_or (slice_index_or earlier x (Value false)) (slice_index_or earlier y (Value false))
 
 -- the list tells what is known of each test of the tables
-pub record AreKnown (t : Nodes) (decided : List (Option Bool)) (known : List Known) : Type 0 where
+pub record AreKnown (t : TableParts) (decided : List (Option Bool)) (known : List Known) : Type 0 where
   pub count : length known ≡ length t.tests
   pub each : (k : ℕ) (x : Known) → slice_get known k ≡ Some x → IsKnown decided (holds_at t k) x
 

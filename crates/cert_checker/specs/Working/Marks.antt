@@ -2,7 +2,7 @@
 use Rattle.std.specs.Prelude.{zero, suc, ℕ, IsTrue, Bool, true, false, if◌then◌else◌, List, [], ◌∷◌, length, slice_index_or, slice_set, replicate}
 use Rattle.std.specs.List.{list_all}
 use Rattle.kat_model.specs.Members.{Has}
-use Rattle.certificate.specs.Nodes.{NumberPair, are_below}
+use Rattle.term_nodes.specs.NumberSets.{NumberPair, are_below}
 
 -- the numbers of the pairs are below n
 abbrev pub ArePairsBelow : ℕ → List NumberPair → Type 0

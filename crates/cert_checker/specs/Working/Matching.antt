@@ -1,5 +1,5 @@
 -- Whether pairs by the numbers of terms match two sets of terms, and what is known of it.
-use Rattle.std.specs.Prelude.{◌≡◌, ◌↔◌, ℕ, Bool, true, false, not, ◌&&◌, ◌||◌, nat_eq, if◌then◌else◌, List, [], ◌∷◌, length, map, slice_get, slice_index_or, Option, Some}
+use Rattle.std.specs.Prelude.{◌≡◌, ◌↔◌, ℕ, Bool, true, false, not, ◌&&◌, ◌||◌, nat_eq, if◌then◌else◌, List, [], ◌∷◌, length, slice_get, slice_index_or, Option, Some}
 use Rattle.std.specs.Option.{option_map, option_map_or}
 use Rattle.std.specs.List.{list_any}
 use Rattle.std.specs.Cmp.Lexicographic.{pointwise}
@@ -9,12 +9,12 @@ use Rattle.std.specs.BTreeMap.{is_at}
 use Rattle.kat_model.specs.Trees.{Term}
 use Rattle.kat_model.specs.Members.{Has}
 use Rattle.kat_model.specs.Steps.{Atom}
-use Rattle.kat_model.specs.Pairs.{SetPair, AreMatched}
+use Rattle.kat_model.specs.Pairs.{AreMatched}
 use Rattle.certificate.specs.declared.nodes.Style.{Style}
-use Rattle.certificate.specs.Nodes.{NumberPair}
-use Rattle.certificate.specs.Certs.{CertParts, IsNumberSet}
+use Rattle.term_nodes.specs.NumberSets.{set_pairs_of, NumberPair, IsNumberSet}
+use Rattle.certificate.specs.Certs.{CertParts}
 use Rattle.certificate.specs.Accepted.{pair_style}
-use Rattle.cert_checker.specs.Working.NodeTables.{Nodes, IsTerm, term_at, holds_at}
+use Rattle.cert_checker.specs.Working.NodeTables.{TableParts, IsTerm, term_at, holds_at, nodes_in}
 use Rattle.cert_checker.specs.Working.Targets.{chosen}
 use Rattle.cert_checker.specs.Working.Cases.{Extends, IsOpen, HoldsThroughout}
 use Rattle.cert_checker.specs.Working.Marks.{are_marked, saturated_marks}
@@ -22,14 +22,6 @@ use Rattle.cert_checker.specs.declared.known.Known.{Known}
 use Rattle.cert_checker.specs.declared.known.Known.TheVariants.{Value, Waits as WaitsFor}
 use Rattle.cert_checker.specs.declared.matching.State.{State}
 use Rattle.cert_checker.specs.declared.matching.State.TheVariants.{Holds, Fails, Waits}
-
--- the terms of numbers
-abbrev pub terms_of : Nodes → List ℕ → List Term
-terms_of t ks = map (term_at t) ks
-
--- the pairs of sets of terms of pairs of sets of numbers
-abbrev pub pairs_of : Nodes → List NumberPair → List SetPair
-pairs_of t pairs = map (λ p. record { left = terms_of t p.left; right = terms_of t p.right }) pairs
 
 -- how steps have to be matched: the style, the listed pairs and the universal term
 pub record RuleParts : Type 0 where
@@ -42,20 +34,20 @@ abbrev pub rules_of : CertParts → Option ℕ → RuleParts
 rules_of c universal = record { style = c.style; pairs = c.pairs; universal = universal }
 
 -- the numbers are those of terms of the tables
-pub record AreRules (t : Nodes) (r : RuleParts) : Type 0 where
+pub record AreRules (t : TableParts) (r : RuleParts) : Type 0 where
   pub pairs : (p : NumberPair) → Has r.pairs p → IsNumberSet (length t.terms) p.left × IsNumberSet (length t.terms) p.right
   pub universal : (u : ℕ) → r.universal ≡ Some u → IsTerm t u
 
 -- the rules match two sets of terms
-abbrev pub AreMatchedBy : Nodes → RuleParts → List Term → List Term → Type 0
-AreMatchedBy t r es fs = AreMatched (pair_style r.style) (option_map (term_at t) r.universal) (pairs_of t r.pairs) es fs
+abbrev pub AreMatchedBy : TableParts → RuleParts → List Term → List Term → Type 0
+AreMatchedBy t r es fs = AreMatched (pair_style r.style) (option_map (term_at t) r.universal) (set_pairs_of (nodes_in t) r.pairs) es fs
 
 -- the rules match what two lists of targets stand for at the atom
-abbrev pub MatchAt : Nodes → RuleParts → List (ℕ × ℕ) → List (ℕ × ℕ) → Atom → Type 0
+abbrev pub MatchAt : TableParts → RuleParts → List (ℕ × ℕ) → List (ℕ × ℕ) → Atom → Type 0
 MatchAt t r left right atom = AreMatchedBy t r (chosen t left atom) (chosen t right atom)
 
 -- two tests have one value at the atom
-abbrev pub AgreeAt : Nodes → ℕ → ℕ → Atom → Type 0
+abbrev pub AgreeAt : TableParts → ℕ → ℕ → Atom → Type 0
 AgreeAt t x y atom = holds_at t x atom ≡ holds_at t y atom
 
 -- what is known of a property at the atoms with the decided tests
@@ -65,11 +57,11 @@ IsState P decided Fails = (atom : Atom) → Extends decided atom → P atom → 
 IsState P decided (Waits k) = IsOpen decided k
 
 -- the marks are those of a set of terms of the tables
-abbrev pub marked : Nodes → List Bool → Term → Type 0
+abbrev pub marked : TableParts → List Bool → Term → Type 0
 marked t marks e = (k : ℕ) × (slice_get marks k ≡ Some true) × (term_at t k ≡ e)
 
 -- the marked terms are those of the list
-abbrev pub MarksAre : Nodes → List Bool → List Term → Type 0
+abbrev pub MarksAre : TableParts → List Bool → List Term → Type 0
 MarksAre t marks es = (e : Term) → marked t marks e ↔ Has es e
 
 -- what is known of a guard

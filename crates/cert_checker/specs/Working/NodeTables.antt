@@ -1,72 +1,68 @@
 -- The tables of the checker: nodes of tests and terms by their numbers, those of the certificate first.
-use Rattle.std.specs.Prelude.{◌≡◌, ◌⊎◌, ◌<◌, ℕ, Bool, IsTrue, List, [], ◌∷◌, ◌++◌, length, slice_index_or}
-use Rattle.kat_model.specs.Trees.{TestTree, bottom, Term, zero}
+use Rattle.std.specs.Prelude.{◌≡◌, ◌⊎◌, ◌<◌, ℕ, Bool, List, [], ◌∷◌, ◌++◌, length}
+use Rattle.kat_model.specs.Trees.{TestTree, Term}
 use Rattle.kat_model.specs.Members.{Has}
 use Rattle.kat_model.specs.Steps.{Atom, truth}
-use Rattle.certificate.specs.declared.nodes.TestNode.{TestNode}
-use Rattle.certificate.specs.declared.nodes.TestNode.TheVariants.{False, True, Prim, Not, And, Or}
-use Rattle.certificate.specs.declared.nodes.TermNode.{TermNode}
-use Rattle.certificate.specs.declared.nodes.Style.TheVariants.{Plain}
-use Rattle.certificate.specs.Nodes.{test_parts, term_parts, tests_of_term, are_below}
-use Rattle.certificate.specs.Certs.{CertParts, IsCert, cert_of}
-use Rattle.certificate.specs.Accepted.{test_node_tree, term_node_tree, test_trees, term_trees}
+use Rattle.term_nodes.specs.declared.TestNode.{TestNode}
+use Rattle.term_nodes.specs.declared.TestNode.TheVariants.{False, True, Prim, Not, And, Or}
+use Rattle.term_nodes.specs.declared.TermNode.{TermNode}
+use Rattle.term_nodes.specs.Nodes.{IsTestOver, IsOver}
+use Rattle.term_nodes.specs.NodeLists.{NodeParts, AreNodes}
+use Rattle.term_nodes.specs.NodeTrees.{test_tree_at, tree_at}
+use Rattle.term_nodes.specs.Growth.{Grows}
+use Rattle.certificate.specs.Certs.{CertParts}
 
 -- nodes of tests and terms, and how many primitive tests there are
-pub record Nodes : Type 0 where
+pub record TableParts : Type 0 where
   pub width : ℕ
-  pub tests : List TestNode
-  pub terms : List TermNode
+  pub tests : List (TestNode ℕ)
+  pub terms : List (TermNode ℕ ℕ)
 
--- the nodes as those of a certificate without pairs
-abbrev pub nodes_cert : Nodes → CertParts
-nodes_cert t = cert_of Plain t.tests t.terms []
+-- the nodes
+abbrev pub nodes_in : TableParts → NodeParts
+nodes_in t = record { tests = t.tests; terms = t.terms }
 
--- the nodes keep the rules of a certificate's, and their primitive tests are in range
-pub record AreTables (t : Nodes) : Type 0 where
-  pub rules : IsCert (nodes_cert t)
+-- the nodes keep the rules of lists of nodes, and their primitive tests are in range
+pub record AreTables (t : TableParts) : Type 0 where
+  pub rules : AreNodes (nodes_in t)
   pub within : (k : ℕ) → Has t.tests (Prim k) → k < t.width
 
 -- the nodes of a certificate
-abbrev pub nodes_of : ℕ → CertParts → Nodes
-nodes_of width c = record { width = width; tests = c.test_nodes; terms = c.term_nodes }
+abbrev pub tables_of : ℕ → CertParts → TableParts
+tables_of width c = record { width = width; tests = c.test_nodes; terms = c.term_nodes }
 
--- the first list is a front of the second
-abbrev pub IsFront : {X : Type 0} → List X → List X → Type 0
-IsFront {X} xs ys = (more : List X) × (ys ≡ xs ++ more)
-
--- nodes were added behind the older ones
-pub record Grows (old new : Nodes) : Type 0 where
+-- nodes were added behind the older ones, which keep their numbers and trees
+pub record TablesGrow (old new : TableParts) : Type 0 where
   pub width : new.width ≡ old.width
-  pub tests : IsFront old.tests new.tests
-  pub terms : IsFront old.terms new.terms
+  pub nodes : Grows (nodes_in old) (nodes_in new)
 
 -- at most this node is new
-abbrev pub AddsTest : Nodes → Nodes → TestNode → Type 0
+abbrev pub AddsTest : TableParts → TableParts → TestNode ℕ → Type 0
 AddsTest old new n = (new ≡ old) ⊎ (new ≡ record old { tests = old.tests ++ n ∷ [] })
 
-abbrev pub AddsTerm : Nodes → Nodes → TermNode → Type 0
+abbrev pub AddsTerm : TableParts → TableParts → TermNode ℕ ℕ → Type 0
 AddsTerm old new n = (new ≡ old) ⊎ (new ≡ record old { terms = old.terms ++ n ∷ [] })
 
 -- the tree of a test, and of a term, by its number
-abbrev pub test_at : Nodes → ℕ → TestTree
-test_at t k = slice_index_or (test_trees (nodes_cert t)) k bottom
+abbrev pub test_at : TableParts → ℕ → TestTree
+test_at t k = test_tree_at (nodes_in t) k
 
-abbrev pub term_at : Nodes → ℕ → Term
-term_at t k = slice_index_or (term_trees (nodes_cert t)) k zero
+abbrev pub term_at : TableParts → ℕ → Term
+term_at t k = tree_at (nodes_in t) k
 
 -- the truth of a test at an atom
-abbrev pub holds_at : Nodes → ℕ → Atom → Bool
+abbrev pub holds_at : TableParts → ℕ → Atom → Bool
 holds_at t k atom = truth (test_at t k) atom
 
 -- the number is one of a test, or of a term
-abbrev pub IsTest : Nodes → ℕ → Type 0
+abbrev pub IsTest : TableParts → ℕ → Type 0
 IsTest t k = k < length t.tests
 
-abbrev pub IsTerm : Nodes → ℕ → Type 0
+abbrev pub IsTerm : TableParts → ℕ → Type 0
 IsTerm t k = k < length t.terms
 
 -- a primitive test is in range
-abbrev pub IsWithin : ℕ → TestNode → Type 0
+abbrev pub IsWithin : ℕ → TestNode ℕ → Type 0
 IsWithin width False = Unit {0}
 IsWithin width True = Unit {0}
 IsWithin width (Prim k) = k < width
@@ -75,16 +71,9 @@ IsWithin width (And x y) = Unit {0}
 IsWithin width (Or x y) = Unit {0}
 
 -- the node names only tests of the tables, and is in range
-abbrev pub MayBeTest : Nodes → TestNode → Type 0
-MayBeTest t n = IsTrue (are_below (length t.tests) (test_parts n)) × IsWithin t.width n
+abbrev pub MayBeTest : TableParts → TestNode ℕ → Type 0
+MayBeTest t n = IsTestOver (length t.tests) n × IsWithin t.width n
 
 -- the node names only tests and terms of the tables
-abbrev pub MayBeTerm : Nodes → TermNode → Type 0
-MayBeTerm t n = IsTrue (are_below (length t.tests) (tests_of_term n)) × IsTrue (are_below (length t.terms) (term_parts n))
-
--- the tree of a node over those of the tables
-abbrev pub test_tree_in : Nodes → TestNode → TestTree
-test_tree_in t n = test_node_tree (test_trees (nodes_cert t)) n
-
-abbrev pub term_tree_in : Nodes → TermNode → Term
-term_tree_in t n = term_node_tree (test_trees (nodes_cert t)) (term_trees (nodes_cert t)) n
+abbrev pub MayBeTerm : TableParts → TermNode ℕ ℕ → Type 0
+MayBeTerm t n = IsOver (length t.tests) (length t.terms) n

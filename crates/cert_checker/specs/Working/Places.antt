@@ -4,7 +4,7 @@ use Rattle.std.specs.Prelude.{◌≡◌, ◌<◌, ℕ, Bool, ◌&&◌, ◌||◌,
 use Rattle.std.specs.Option.{option_map}
 use Rattle.kat_model.specs.Problems.{ProblemParts}
 use Rattle.kat_model.specs.Closed.{closed}
-use Rattle.certificate.specs.Certs.{CertParts}
+use Rattle.certificate.specs.Certs.{CertParts, nodes_of}
 use Rattle.cert_checker.specs.declared.places.Place.{Place}
 use Rattle.cert_checker.specs.declared.answer.Reason.{Reason}
 use Rattle.cert_checker.specs.declared.answer.Reason.TheVariants.{FirstPair, Output, Missing, Shape, HypBroken, EndsAgree, TestNode, TermNode}
@@ -12,7 +12,7 @@ use Rattle.certificate.specs.Accepted.{set_pairs}
 use Rattle.kat_model.specs.Pairs.{SetPair}
 use Rattle.cert_checker.specs.Answers.{turn_of, IsEarlier, FailsBy, AcceptAlike, IsMatchedBy}
 use Rattle.cert_checker.specs.Working.Cases.{is_less}
-use Rattle.cert_checker.specs.Working.NodeTables.{nodes_of, term_at}
+use Rattle.term_nodes.specs.NodeTrees.{tree_at}
 
 -- the reason that stands at a pair and an atom, of outputs or of an action
 abbrev pub reason_at : ℕ → List Bool → Option ℕ → Reason
@@ -37,7 +37,7 @@ undecided n = replicate n None
 
 -- the universal term of the question is that of the node of this number, where there is one
 pub record IsScope (q : ProblemParts) (c : CertParts) (universal : Option ℕ) : Type 0 where
-  pub term : option_map (term_at (nodes_of q.tests c)) universal ≡ (closed q).universal
+  pub term : option_map (tree_at (nodes_of c)) universal ≡ (closed q).universal
   pub within : (u : ℕ) → universal ≡ Some u → u < length c.term_nodes
 
 -- the reason stands at a pair, and at one of these turns

@@ -3,26 +3,26 @@ use Rattle.std.specs.Prelude.{◌≡◌, ℕ, if◌then◌else◌, List, [], ◌
 use Rattle.kat_model.specs.Trees.{Term}
 use Rattle.kat_model.specs.Members.{Has, SameMembers}
 use Rattle.kat_model.specs.Steps.{Atom, out, next}
-use Rattle.cert_checker.specs.Working.NodeTables.{Nodes, IsTest, IsTerm, holds_at, term_at}
+use Rattle.cert_checker.specs.Working.NodeTables.{TableParts, IsTest, IsTerm, holds_at, term_at}
 
 -- the terms whose guards are true at the atom
-abbrev pub chosen : Nodes → List (ℕ × ℕ) → Atom → List Term
+abbrev pub chosen : TableParts → List (ℕ × ℕ) → Atom → List Term
 chosen t [] atom = []
 chosen t (e ∷ es) atom = (if holds_at t e.1 atom then term_at t e.0 ∷ [] else []) ++ chosen t es atom
 
 -- terms and guards are those of the tables
-abbrev pub AreEntries : Nodes → List (ℕ × ℕ) → Type 0
+abbrev pub AreEntries : TableParts → List (ℕ × ℕ) → Type 0
 AreEntries t es = (e : ℕ × ℕ) → Has es e → IsTerm t e.0 × IsTest t e.1
 
 -- at each atom the entries stand for these terms
-pub record StandFor (t : Nodes) (es : List (ℕ × ℕ)) (terms : Atom → List Term) : Type 0 where
+pub record StandFor (t : TableParts) (es : List (ℕ × ℕ)) (terms : Atom → List Term) : Type 0 where
   pub entries : AreEntries t es
   pub same : (atom : Atom) → SameMembers (chosen t es atom) (terms atom)
 
 -- the tests tell where the first terms of the tables accept
-abbrev pub AreAcceptances : Nodes → List ℕ → Type 0
+abbrev pub AreAcceptances : TableParts → List ℕ → Type 0
 AreAcceptances t guards = (k g : ℕ) → slice_get guards k ≡ Some g → IsTest t g × ((atom : Atom) → holds_at t g atom ≡ out (term_at t k) atom)
 
 -- the targets stand for the terms that steps of the first terms of the tables lead to
-abbrev pub AreSteps : Nodes → ℕ → List (List (ℕ × ℕ)) → Type 0
+abbrev pub AreSteps : TableParts → ℕ → List (List (ℕ × ℕ)) → Type 0
 AreSteps t a steps = (k : ℕ) (es : List (ℕ × ℕ)) → slice_get steps k ≡ Some es → StandFor t es (λ atom. next (term_at t k) atom a)

@@ -2,6 +2,8 @@
 use Rattle.std.specs.Prelude.{◌≡◌, ◌+◌, ℕ, true, false, List, ◌∷◌, length, map, Option, Some, None, Result, Ok, Err}
 use Rattle.std.specs.Borrow.{Bor}
 use Rattle.std.specs.List.{list_all, list_any}
+use Rattle.std.specs.declared.cmp.Ordering.{Ordering}
+use Rattle.std.specs.declared.cmp.Ordering.TheVariants.{Equal}
 use Rattle.kat_model.specs.Members.{SameMembers}
 use Rattle.kat_model.specs.Strings.{Move}
 use Rattle.certificate.specs.declared.words.Numbers.{Numbers}
@@ -49,6 +51,13 @@ ReadsEntry o (Ok e) = (o ≡ Some e) × (is_wide e ≡ false)
 ReadsEntry o (Err NoRoom) = Unit {0}
 ReadsEntry o (Err Form) = o ≡ None
 ReadsEntry o (Err (Wide section)) = (e : Entry) × (o ≡ Some e) × (is_wide e ≡ true) × (section_of e ≡ section)
+
+-- only equal members are equal in the order, and each is equal to itself
+abbrev pub TellsApart : {K : Type 0} → (K → K → Ordering) → Type 0
+TellsApart {K} R = (x y : K) → R x y ≡ Equal → x ≡ y
+
+abbrev pub IsReflexive : {K : Type 0} → (K → K → Ordering) → Type 0
+IsReflexive {K} R = (x : K) → R x x ≡ Equal
 
 -- the entries that a draft holds
 abbrev pub draft_parts : Draft → CertParts

@@ -2,8 +2,8 @@
 use Rattle.std.specs.Prelude.{◌≡◌, ◌⊎◌, ◌↔◌, ℕ, Bool, false, ◌&&◌, eqb, IsTrue, Option, None, Some, List, map}
 use Rattle.kat_model.specs.Trees.{Term}
 use Rattle.kat_model.specs.Steps.{Atom, dot}
-use Rattle.term_store.specs.Nodes.{StoreParts}
-use Rattle.term_store.specs.Trees.{tree_of}
+use Rattle.term_nodes.specs.NodeLists.{NodeParts}
+use Rattle.term_nodes.specs.NodeTrees.{tree_at}
 use Rattle.test_diagrams.specs.Functions.{DiagramsParts, value_of, IsAtomOf}
 use Rattle.partial_derivs.specs.declared.moves.Guarded.{Guarded}
 use Rattle.partial_derivs.specs.declared.gathered.Target.{Target}
@@ -27,27 +27,27 @@ guard_at d (Some id) atom = value_of d id atom
 -- the new moves are the old ones and this one
 pub record AddsMove (c d : DiagramsParts) (old new : List Guarded) (m : Guarded) : Type 0 where
   pub guards : AreGuards d new
-  pub targets : (store : StoreParts) (n : ℕ) → AreTargets store n old → IsTermOf store n m.to → AreTargets store n new
-  pub leads : (store : StoreParts) (atom : Atom) → IsAtomOf d atom → (a : ℕ) (e : Term)
-      → LeadsTo store d new atom a e ↔ (LeadsTo store c old atom a e ⊎ ((m.act ≡ a) × IsTrue (value_of c m.guard atom) × (tree_of store m.to ≡ e)))
+  pub targets : (store : NodeParts) (n : ℕ) → AreTargets store n old → IsTermOf store n m.to → AreTargets store n new
+  pub leads : (store : NodeParts) (atom : Atom) → IsAtomOf d atom → (a : ℕ) (e : Term)
+      → LeadsTo store d new atom a e ↔ (LeadsTo store c old atom a e ⊎ ((m.act ≡ a) × IsTrue (value_of c m.guard atom) × (tree_at store m.to ≡ e)))
 
 -- the new moves are the old ones, and these where the guard is true
 pub record AddsUnder (c d : DiagramsParts) (old new moves : List Guarded) (guard : ℕ) : Type 0 where
   pub guards : AreGuards d new
-  pub targets : (store : StoreParts) (n : ℕ) → AreTargets store n old → AreTargets store n moves → AreTargets store n new
-  pub leads : (store : StoreParts) (atom : Atom) → IsAtomOf d atom → (a : ℕ) (e : Term)
+  pub targets : (store : NodeParts) (n : ℕ) → AreTargets store n old → AreTargets store n moves → AreTargets store n new
+  pub leads : (store : NodeParts) (atom : Atom) → IsAtomOf d atom → (a : ℕ) (e : Term)
       → LeadsTo store d new atom a e ↔ (LeadsTo store c old atom a e ⊎ (IsTrue (value_of c guard atom) × LeadsTo store c moves atom a e))
 
 -- the new moves are the old ones, and this one followed by the term
-pub record AddsFollowed (s t : StoreParts) (c d : DiagramsParts) (old new : List Guarded) (m : Guarded) (tail : ℕ) : Type 0 where
+pub record AddsFollowed (s t : NodeParts) (c d : DiagramsParts) (old new : List Guarded) (m : Guarded) (tail : ℕ) : Type 0 where
   pub guards : AreGuards d new
   pub targets : AreTargets t d.tests new
   pub leads : (atom : Atom) → IsAtomOf d atom → (a : ℕ) (e : Term)
-      → LeadsTo t d new atom a e ↔ (LeadsTo s c old atom a e ⊎ ((m.act ≡ a) × IsTrue (value_of c m.guard atom) × (dot (tree_of s m.to) (tree_of s tail) ≡ e)))
+      → LeadsTo t d new atom a e ↔ (LeadsTo s c old atom a e ⊎ ((m.act ≡ a) × IsTrue (value_of c m.guard atom) × (dot (tree_at s m.to) (tree_at s tail) ≡ e)))
 
 -- the new moves are these, each followed by the term
-pub record Follows (s t : StoreParts) (c d : DiagramsParts) (new moves : List Guarded) (tail : ℕ) : Type 0 where
+pub record Follows (s t : NodeParts) (c d : DiagramsParts) (new moves : List Guarded) (tail : ℕ) : Type 0 where
   pub guards : AreGuards d new
   pub targets : AreTargets t d.tests new
   pub leads : (atom : Atom) → IsAtomOf d atom → (a : ℕ) (e : Term)
-      → LeadsTo t d new atom a e ↔ ((x : Term) × LeadsTo s c moves atom a x × (dot x (tree_of s tail) ≡ e))
+      → LeadsTo t d new atom a e ↔ ((x : Term) × LeadsTo s c moves atom a x × (dot x (tree_at s tail) ≡ e))

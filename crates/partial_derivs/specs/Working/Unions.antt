@@ -3,7 +3,7 @@ use Rattle.std.specs.Prelude.{◌↔◌, ℕ, Bool, ◌||◌, List, ◌++◌}
 use Rattle.kat_model.specs.Trees.{Term}
 use Rattle.kat_model.specs.Members.{Has}
 use Rattle.kat_model.specs.Steps.{Atom}
-use Rattle.term_store.specs.Nodes.{StoreParts}
+use Rattle.term_nodes.specs.NodeLists.{NodeParts}
 use Rattle.test_diagrams.specs.Functions.{DiagramsParts, IsDiagramId, IsAtomOf, IsDiagramOf}
 use Rattle.partial_derivs.specs.declared.moves.Steps.{Steps}
 use Rattle.partial_derivs.specs.declared.sets.Union.{Union}
@@ -16,7 +16,7 @@ pub record IsUnionOfIds (d : DiagramsParts) (union : Union) : Type 0 where
   pub guards : AreGuards d (moves_of union.gathered.guards.entries)
 
 -- the union accepts what is accepted, and leads to just the terms that are left
-pub record IsUnionBy (store : StoreParts) (d : DiagramsParts) (accepted : Atom → Bool) (left : Atom → ℕ → List Term) (union : Union) : Type 0 where
+pub record IsUnionBy (store : NodeParts) (d : DiagramsParts) (accepted : Atom → Bool) (left : Atom → ℕ → List Term) (union : Union) : Type 0 where
   pub accepts : IsDiagramOf d union.accepts accepted
   pub guards : AreGuards d (moves_of union.gathered.guards.entries)
   pub targets : AreTargets store d.tests (moves_of union.gathered.guards.entries)
@@ -25,6 +25,6 @@ pub record IsUnionBy (store : StoreParts) (d : DiagramsParts) (accepted : Atom �
 -- the new union is that of the old one and the steps
 abbrev pub AddsSteps : DiagramsParts → DiagramsParts → Union → Union → Steps → Type 0
 AddsSteps c d old new steps =
-    (store : StoreParts) (accepted also_accepted : Atom → Bool) (left also_left : Atom → ℕ → List Term)
+    (store : NodeParts) (accepted also_accepted : Atom → Bool) (left also_left : Atom → ℕ → List Term)
     → IsUnionBy store c accepted left old → IsStepsBy store c also_accepted also_left steps
     → IsUnionBy store d (λ atom. accepted atom || also_accepted atom) (λ atom a. left atom a ++ also_left atom a) new

@@ -1,7 +1,7 @@
 use Rattle.std.proofs.Common.{◌++◌, get_or, sym, ap, ◌∙◌, subst, arith}
 use Rattle.std.proofs.lemmas.Option.{get_or_from_slice_get}
 use Rattle.kat_model.specs.Members.{Has}
-use Rattle.term_store.specs.declared.nodes.Shape.TheVariants.{Zero}
+use Rattle.term_nodes.specs.declared.TermNode.TheVariants.{Zero}
 use Rattle.partial_derivs.proofs.Items.{has_item}
 use Rattle.bisim_worklist.specs.Working.Numbering.{term_node_of, term_nodes_of}
 use Rattle.bisim_worklist.proofs.NamedTests.{mapped_next, mapped_last}

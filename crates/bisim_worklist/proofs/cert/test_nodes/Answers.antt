@@ -1,7 +1,7 @@
 use Rattle.std.proofs.Common.{◌++◌, get_or, sym, ap, ◌∙◌, subst, arith}
 use Rattle.std.proofs.lemmas.Option.{get_or_from_slice_get}
 use Rattle.kat_model.specs.Members.{Has}
-use Rattle.term_store.specs.declared.nodes.TestShape.TheVariants as test
+use Rattle.term_nodes.specs.declared.TestNode.TheVariants as test
 use Rattle.partial_derivs.proofs.Items.{has_item}
 use Rattle.bisim_worklist.specs.Working.Numbering.{test_node_of, test_nodes_of}
 use Rattle.bisim_worklist.proofs.NamedTests.{mapped_next, mapped_last}

@@ -1,9 +1,10 @@
 use Rattle.std.proofs.Common.{sym, ap, subst}
-use Rattle.bisim_worklist.specs.Working.Needed.{tests_in, AddsAll}
+use Rattle.term_nodes.specs.Nodes.{tests_of_term}
+use Rattle.bisim_worklist.specs.Working.Needed.{AddsAll}
 use Rattle.bisim_worklist.proofs.KeySets.{adds_single}
 use Rattle.bisim_worklist.proofs.needed.add_tests.Goals as goal
 
 pub returns-in_ok-insert-in-Test : goal.returns-in_ok-insert-in-Test
 returns-in_ok-insert-in-Test c =
-    subst (AddsAll c.args.set.now.keys c.insert.new.self.keys) (sym (ap tests_in c.in-Test.is))
+    subst (AddsAll c.args.set.now.keys c.insert.new.self.keys) (sym (ap tests_of_term c.in-Test.is))
     (adds_single c.args.set.now.keys c.insert.new.self.keys c.in-Test.b c.in_ok-insert-in-Test.ensures.keys)

@@ -1,6 +1,8 @@
+use Rattle.std.proofs.Common.{ℕ}
 use Rattle.std.proofs.lemmas.Result.{IfOk-weaker}
-use Rattle.term_store.specs.declared.nodes.Shape.{Shape}
-use Rattle.bisim_worklist.specs.Working.Needed.{terms_in, members_of}
+use Rattle.term_nodes.specs.declared.TermNode.{TermNode}
+use Rattle.term_nodes.specs.Nodes.{term_parts}
+use Rattle.bisim_worklist.specs.Working.Needed.{members_of}
 use Rattle.bisim_worklist.proofs.SameParts.{same_parts}
 use Rattle.bisim_worklist.proofs.needed.needed_terms.Goals as goal
 
@@ -10,4 +12,4 @@ with_parts-requires c i h = c.requires i ((c.in_ok-members.ensures i).0 h)
 pub returns : goal.returns
 returns c =
     IfOk-weaker c.terms_in_order.result _ _
-    (λ s e. same_parts Shape c.args.store.now.terms terms_in c.in_ok-members.members.keys (members_of c.args.pairs.now) c.in_ok-members.ensures c.in_ok-all.all.keys s.keys e c.in_ok-all.ensures) c.terms_in_order.ensures
+    (λ s e. same_parts (TermNode ℕ ℕ) c.args.store.now.terms term_parts c.in_ok-members.members.keys (members_of c.args.pairs.now) c.in_ok-members.ensures c.in_ok-all.all.keys s.keys e c.in_ok-all.ensures) c.terms_in_order.ensures

@@ -1,13 +1,14 @@
+use Rattle.std.proofs.Common.{ℕ}
 use Rattle.std.specs.List.Sorted.{IsStrictlySortedBy}
 use Rattle.std.specs.Ordering.{nat_cmp}
-use Rattle.term_store.specs.declared.nodes.Shape.{Shape}
-use Rattle.bisim_worklist.specs.Working.Needed.{terms_in}
+use Rattle.term_nodes.specs.declared.TermNode.{TermNode}
+use Rattle.term_nodes.specs.Nodes.{term_parts}
 use Rattle.bisim_worklist.proofs.PartSets.{bound_of, IsGathering}
 use Rattle.bisim_worklist.proofs.needed.with_parts.Given as goal
 
 abbrev pub invariant-loop-term : goal.invariant-loop-term
 invariant-loop-term l = record {
-  gathers : IsGathering Shape l.store.terms terms_in l.fn.pending.keys l.pending.keys l.all.keys;
+  gathers : IsGathering (TermNode ℕ ℕ) l.store.terms term_parts l.fn.pending.keys l.pending.keys l.all.keys;
   ordered : IsStrictlySortedBy nat_cmp l.all.keys;
 }
 

@@ -1,13 +1,14 @@
+use Rattle.std.proofs.Common.{ℕ}
 use Rattle.std.specs.List.Sorted.{IsStrictlySortedBy}
 use Rattle.std.specs.Ordering.{nat_cmp}
-use Rattle.term_store.specs.declared.nodes.TestShape.{TestShape}
-use Rattle.bisim_worklist.specs.Working.Needed.{test_parts_in}
+use Rattle.term_nodes.specs.declared.TestNode.{TestNode}
+use Rattle.term_nodes.specs.Nodes.{test_parts}
 use Rattle.bisim_worklist.proofs.PartSets.{bound_of, IsGathering}
 use Rattle.bisim_worklist.proofs.needed.with_test_parts.Given as goal
 
 abbrev pub invariant-loop-test : goal.invariant-loop-test
 invariant-loop-test l = record {
-  gathers : IsGathering TestShape l.store.tests test_parts_in l.fn.pending.keys l.pending.keys l.all.keys;
+  gathers : IsGathering (TestNode ℕ) l.store.tests test_parts l.fn.pending.keys l.pending.keys l.all.keys;
   ordered : IsStrictlySortedBy nat_cmp l.all.keys;
 }
 

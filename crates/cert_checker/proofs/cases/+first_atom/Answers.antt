@@ -36,7 +36,7 @@ returns-in_ok-second-in-Waits t c =
     let is_open : IsOpen ds c.in-Waits.test = subst (IsState P ds) c.in-Waits.is c.in_ok-state.ensures in
     let low : c.deref.result.now ≡ slice_set ds c.in-Waits.test (Some false) = c.deref.ensures.value ∙ c.in_ok-low-in-Waits.ensures in
     let high : c.deref-in-Waits.result.now ≡ slice_set ds c.in-Waits.test (Some true) = c.deref-in-Waits.ensures.value ∙ c.in_ok-high-in-Waits.ensures in
-    subst (IsFirstFailure P ds) (sym c.lesser.ensures)
+    subst (IsFirstFailure P ds) (sym c.lesser_atom.ensures)
     (lesser_first P ds c.in-Waits.test _ _ is_open
     (subst (λ es. IsFirstFailure P es (option_map (λ v. v.items) c.in_ok-first-in-Waits.first)) low c.in_ok-first-in-Waits.ensures)
     (subst (λ es. IsFirstFailure P es (option_map (λ v. v.items) c.in_ok-second-in-Waits.second)) high c.in_ok-second-in-Waits.ensures))

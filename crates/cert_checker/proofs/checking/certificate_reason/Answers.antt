@@ -1,7 +1,7 @@
 use Rattle.std.proofs.Common.{◌<◌, sym, subst}
 use Rattle.kat_model.specs.Members.{Has}
-use Rattle.certificate.specs.declared.nodes.TestNode.TheVariants.{Prim}
-use Rattle.certificate.specs.declared.nodes.TermNode.TheVariants.{Act}
+use Rattle.term_nodes.specs.declared.TestNode.TheVariants.{Prim}
+use Rattle.term_nodes.specs.declared.TermNode.TheVariants.{Act}
 use Rattle.cert_checker.specs.Working.Ranges.{IsFirstOut}
 use Rattle.cert_checker.proofs.FirstReasons.{first_term}
 use Rattle.cert_checker.proofs.checking.certificate_reason.Goals as goal

@@ -27,8 +27,8 @@ returns-in-Some c =
     (first_place_fails q cert c.requires.tests c.requires.actions begins (place_reason c.in-Some.place)
     (subst (λ o. IsFirstOf q cert (λ n. n < q.actions + 1) (option_map place_reason o)) c.in-Some.is c.in_ok-place.ensures))
 
-pub returns-in-None : goal.returns-in-None
-returns-in-None c =
+pub returns : goal.returns
+returns c =
     let q = c.args.problem.now in
     let cert = c.args.cert.now in
     let pairs = set_pairs cert in

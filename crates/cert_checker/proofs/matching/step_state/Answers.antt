@@ -1,7 +1,7 @@
 use Rattle.std.proofs.Common.{◌≡◌, ℕ, ◌&&◌, false, List, sym, ap, ◌∙◌}
 use Rattle.std.specs.Option.{option_map_or}
 use Rattle.certificate.specs.declared.nodes.Style.TheVariants.{Plain, UpTo}
-use Rattle.certificate.specs.Nodes.{NumberPair}
+use Rattle.term_nodes.specs.NumberSets.{NumberPair}
 use Rattle.cert_checker.specs.declared.known.Known.TheVariants.{Waits}
 use Rattle.cert_checker.specs.Working.Matching.{RuleParts, is_sure, covers, lists, sure_targets}
 use Rattle.cert_checker.proofs.StepAnswers.{universal_holds, listed_holds, unlisted_fails, covered_holds, uncovered_fails}

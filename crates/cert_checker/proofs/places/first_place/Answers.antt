@@ -1,8 +1,8 @@
 use Rattle.std.proofs.Common.{◌≡◌, ◌<◌, ◌≤◌, ◌+◌, suc, length, ap, ◌∙◌, sym, subst, arith}
-use Rattle.cert_checker.specs.Working.NodeTables.{Nodes, Grows, nodes_of}
+use Rattle.cert_checker.specs.Working.NodeTables.{TableParts, TablesGrow, tables_of}
 use Rattle.cert_checker.specs.Working.Targets.{AreAcceptances}
 use Rattle.cert_checker.specs.Working.Places.{IsFirstOf}
-use Rattle.cert_checker.proofs.AddingTargets.{grows_trans}
+use Rattle.cert_checker.proofs.GrowingTables.{grows_trans}
 use Rattle.cert_checker.proofs.EarlierPlaces.{earlier_first}
 use Rattle.cert_checker.proofs.PairPlaces.{first_of_same}
 use Rattle.cert_checker.proofs.StepLists.{all_accept, grows_longer}
@@ -12,11 +12,10 @@ pub loop-action-init : goal.loop-action-init
 loop-action-init c =
     let q = c.args.problem.now in
     let cert = c.args.cert.now in
-    let n = nodes_of q.tests cert in
+    let n = tables_of q.tests cert in
     let t = c.acceptances.new.tables in
     let new = c.first_output.new.tables in
-    let made = c.in_ok-tables.ensures.nodes ∙ ap (λ w. nodes_of w cert) c.tests.ensures.value in
-    let grows : Grows n t = subst (λ u. Grows u t) made c.acceptances.ensures.grows in
+    let grows : TablesGrow n t = subst (λ u. TablesGrow u t) c.requires.tables c.acceptances.ensures.grows in
     let low : length c.in_ok-accepting.accepting.items ≤ length t.terms = omega (arith, c.in_ok-accepting.ensures.count, ap length c.acceptances.ensures.terms) in
     record {
       tables = c.first_output.ensures.tables;
@@ -32,19 +31,18 @@ pub loop-action-preserved : goal.loop-action-preserved
 loop-action-preserved c =
     let q = c.args.problem.now in
     let cert = c.args.cert.now in
-    let n = nodes_of q.tests cert in
+    let n = tables_of q.tests cert in
     let t = c.loop-action.tables in
     let new = c.first_missing.new.tables in
     let now = c.loop-action.invariant in
     let a = c.loop-action.action in
-    let made = c.in_ok-tables.ensures.nodes ∙ ap (λ w. nodes_of w cert) c.tests.ensures.value in
-    let count : length c.in_ok-accepting.accepting.items ≡ length n.terms = c.in_ok-accepting.ensures.count ∙ ap (λ (u : Nodes). length u.terms) made in
+    let count : length c.in_ok-accepting.accepting.items ≡ length n.terms = c.in_ok-accepting.ensures.count ∙ ap (λ (u : TableParts). length u.terms) c.requires.tables in
     let longer = grows_longer n t now.grows in
     record {
       tables = c.first_missing.ensures.tables;
       grows = grows_trans n t new now.grows c.first_missing.ensures.grows;
       accepting = all_accept t new now.tables c.first_missing.ensures.grows c.in_ok-accepting.accepting.items (omega (arith, count, longer)) now.accepting;
-      place = subst (IsFirstOf q cert (λ n. n < a + 1 + 1)) (sym c.earlier-place.ensures)
+      place = subst (IsFirstOf q cert (λ n. n < a + 1 + 1)) (sym c.least_place-place.ensures)
           (first_of_same q cert (λ n. n < suc (a + 1)) (λ n. n < a + 1 + 1) _ (λ n. ((λ l. omega (arith, l)), (λ l. omega (arith, l))))
           (earlier_first q cert (a + 1) c.loop-action.place c.in_ok-other.other now.place c.in_ok-other.ensures.first));
     }

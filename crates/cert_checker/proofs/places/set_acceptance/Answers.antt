@@ -1,8 +1,9 @@
 use Rattle.std.proofs.Common.{◌≡◌, ◌<◌, ◌+◌, ℕ, List, ◌∷◌, length, get_or, drop, subst, arith}
-use Rattle.std.proofs.lemmas.List.{drop_more}
+use Rattle.std.proofs.lemmas.List.{drop_more, drop_all}
 use Rattle.cert_checker.proofs.TargetSets.{test_within}
 use Rattle.cert_checker.proofs.StepLists.{below_at, accept_at}
-use Rattle.cert_checker.proofs.SetAcceptances.{IsAccepting, accepting_more}
+use Rattle.cert_checker.proofs.SetAcceptances.{IsAccepting, accepting_more, accepting_ends}
+use Rattle.cert_checker.proofs.GrowingTables.{grows_trans}
 use Rattle.cert_checker.proofs.places.set_acceptance.Goals as goal
 
 pub either-requires-clause-second : goal.either-requires-clause-second
@@ -24,3 +25,11 @@ loop-number-preserved c =
     accepting_more c.args.tables.now c.loop-number.tables c.either.new.self c.loop-number.guard c.in_ok-guard-2.guard k (drop (i + 1) set) set c.args.accepting.now
     (subst (λ (l : List ℕ). IsAccepting c.args.tables.now c.loop-number.tables c.loop-number.guard l set) cut now)
     c.requires.accepting low c.either.ensures.tables c.either.ensures.grows c.either.ensures.terms c.in_ok-guard-2.ensures.is_test c.in_ok-guard-2.ensures.value
+
+pub returns-in_err-guard-2-clause-grows : goal.returns-in_err-guard-2-clause-grows
+returns-in_err-guard-2-clause-grows c = grows_trans c.args.tables.now c.loop-number.tables c.either.new.self c.loop-number.invariant.grows c.either.ensures.grows
+
+pub returns-clause-value : goal.returns-clause-value
+returns-clause-value c =
+    let set = c.args.set.now in
+    accepting_ends c.args.tables.now c.loop-number.tables c.loop-number.guard (drop c.loop-number.number-index set) set (drop_all c.loop-number.number-index set (omega arith)) c.loop-number.invariant

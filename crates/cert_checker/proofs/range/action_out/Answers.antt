@@ -1,5 +1,5 @@
 use Rattle.std.proofs.Common.{arith}
-use Rattle.certificate.specs.declared.nodes.TermNode.TheVariants.{Act}
+use Rattle.term_nodes.specs.declared.TermNode.TheVariants.{Act}
 use Rattle.cert_checker.proofs.NodeRanges.{all_within}
 use Rattle.cert_checker.proofs.range.action_out.Goals as goal
 

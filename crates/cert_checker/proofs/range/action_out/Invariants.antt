@@ -1,5 +1,5 @@
 use Rattle.std.proofs.Common.{◌≡◌, ◌<◌, ℕ, slice_get, Some}
-use Rattle.certificate.specs.declared.nodes.TermNode.TheVariants.{Act}
+use Rattle.term_nodes.specs.declared.TermNode.TheVariants.{Act}
 use Rattle.cert_checker.proofs.range.action_out.Given as goal
 
 abbrev pub invariant-loop-k : goal.invariant-loop-k

@@ -1,5 +1,5 @@
 use Rattle.std.proofs.Common.{arith}
-use Rattle.certificate.specs.declared.nodes.TestNode.TheVariants.{Prim}
+use Rattle.term_nodes.specs.declared.TestNode.TheVariants.{Prim}
 use Rattle.cert_checker.proofs.NodeRanges.{all_within}
 use Rattle.cert_checker.proofs.range.test_out.Goals as goal
 

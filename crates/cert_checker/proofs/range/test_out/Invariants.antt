@@ -1,5 +1,5 @@
 use Rattle.std.proofs.Common.{◌≡◌, ◌<◌, ℕ, slice_get, Some}
-use Rattle.certificate.specs.declared.nodes.TestNode.TheVariants.{Prim}
+use Rattle.term_nodes.specs.declared.TestNode.TheVariants.{Prim}
 use Rattle.cert_checker.proofs.range.test_out.Given as goal
 
 abbrev pub invariant-loop-k : goal.invariant-loop-k

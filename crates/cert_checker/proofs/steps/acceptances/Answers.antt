@@ -1,12 +1,9 @@
 use Rattle.std.proofs.Common.{◌≡◌, ◌+◌, length, Some, slice_get, sym, ap, ◌∙◌, subst}
 use Rattle.std.proofs.lemmas.List.{length_push}
 use Rattle.cert_checker.specs.Working.Targets.{AreAcceptances}
-use Rattle.cert_checker.proofs.AddingTargets.{grows_trans}
-use Rattle.cert_checker.proofs.StepLists.{node_tests, acceptances_more}
+use Rattle.cert_checker.proofs.GrowingTables.{grows_trans}
+use Rattle.cert_checker.proofs.StepLists.{acceptances_more}
 use Rattle.cert_checker.proofs.steps.acceptances.Goals as goal
-
-pub acceptance-requires-clause-tests : goal.acceptance-requires-clause-tests
-acceptance-requires-clause-tests c = node_tests c.loop-number.tables c.loop-number.invariant.tables c.loop-number.number c.term_node-node.result c.term_node-node.ensures.node
 
 pub loop-number-preserved : goal.loop-number-preserved
 loop-number-preserved c =
@@ -23,3 +20,9 @@ loop-number-preserved c =
       terms = c.acceptance.ensures.terms ∙ now.terms;
       values = subst (AreAcceptances new) (sym items) (acceptances_more t new now.tables c.acceptance.ensures.grows guards c.in_ok-guard.guard c.term_node-node.result now.values here c.in_ok-guard.ensures.is_test c.in_ok-guard.ensures.value);
     }
+
+pub returns-in_err-guard-clause-grows : goal.returns-in_err-guard-clause-grows
+returns-in_err-guard-clause-grows c = grows_trans c.args.tables.now c.loop-number.tables c.acceptance.new.tables c.loop-number.invariant.grows c.acceptance.ensures.grows
+
+pub returns-in_err-push-clause-grows : goal.returns-in_err-push-clause-grows
+returns-in_err-push-clause-grows c = grows_trans c.args.tables.now c.loop-number.tables c.acceptance.new.tables c.loop-number.invariant.grows c.acceptance.ensures.grows

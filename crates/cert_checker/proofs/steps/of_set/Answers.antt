@@ -2,6 +2,7 @@ use Rattle.std.proofs.Common.{◌≡◌, ◌<◌, ◌+◌, ℕ, List, ◌∷◌,
 use Rattle.std.proofs.lemmas.List.{drop_more, drop_all}
 use Rattle.cert_checker.proofs.StepLists.{IsGathering, gathering_more, gathering_ends, below_at, read_map}
 use Rattle.cert_checker.proofs.TargetSets.{entries_kept}
+use Rattle.cert_checker.proofs.GrowingTables.{grows_trans}
 use Rattle.cert_checker.proofs.steps.of_set.Goals as goal
 
 pub add_all-requires-clause-others : goal.add_all-requires-clause-others
@@ -30,3 +31,6 @@ pub returns-clause-targets : goal.returns-clause-targets
 returns-clause-targets c =
     let set = c.args.set.now in
     gathering_ends c.args.tables.now c.loop-number.tables c.args.action c.in_ok-always.always c.loop-number.targets.entries (drop c.loop-number.number-index set) set (drop_all c.loop-number.number-index set (omega arith)) c.loop-number.invariant
+
+pub returns-in_err-add_all-clause-grows : goal.returns-in_err-add_all-clause-grows
+returns-in_err-add_all-clause-grows c = grows_trans c.args.tables.now c.loop-number.tables c.add_all.new.tables c.loop-number.invariant.grows c.add_all.ensures.grows

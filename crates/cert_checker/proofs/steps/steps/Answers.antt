@@ -3,7 +3,7 @@ use Rattle.std.proofs.lemmas.List.{length_push, length-map, map_push}
 use Rattle.kat_model.specs.Steps.{next}
 use Rattle.cert_checker.specs.Working.NodeTables.{term_at}
 use Rattle.cert_checker.specs.Working.Targets.{AreSteps, StandFor}
-use Rattle.cert_checker.proofs.AddingTargets.{grows_trans}
+use Rattle.cert_checker.proofs.GrowingTables.{grows_trans}
 use Rattle.cert_checker.proofs.StepLists.{all_accept, steps_more, grows_longer}
 use Rattle.cert_checker.proofs.steps.steps.Goals as goal
 

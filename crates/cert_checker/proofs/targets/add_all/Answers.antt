@@ -3,6 +3,7 @@ use Rattle.std.specs.Map.Iter.{deref_pair}
 use Rattle.std.proofs.lemmas.Map.Iter.{rest_more}
 use Rattle.cert_checker.proofs.AddingTargets.{IsAdding, adding_more}
 use Rattle.cert_checker.proofs.TargetSets.{test_within, term_within, entries_kept}
+use Rattle.cert_checker.proofs.GrowingTables.{grows_trans}
 use Rattle.cert_checker.proofs.targets.add_all.Goals as goal
 
 pub both-requires-clause-second : goal.both-requires-clause-second
@@ -31,3 +32,11 @@ loop-term-preserved c =
     let here = subst (λ (l : List (ℕ × ℕ)). IsAdding c.args.tables.now c.loop-term.tables c.args.targets.now.entries c.loop-term.targets.entries l c.args.more.now.entries c.args.guard) cut c.loop-term.invariant in
     adding_more c.args.tables.now c.loop-term.tables c.both.new.self c.add.new.tables c.args.targets.now.entries c.loop-term.targets.entries c.add.new.targets.entries c.next.new.self c.args.more.now.entries c.args.guard c.in_ok-both.both (c.in-Some.term.now, c.in-Some.when.now)
     here c.both.ensures.tables c.both.ensures.grows c.both.ensures.terms c.in_ok-both.ensures.value c.add.ensures.tables c.add.ensures.grows c.add.ensures.terms c.in_ok-add.ensures.added
+
+pub returns-in_err-both-clause-grows : goal.returns-in_err-both-clause-grows
+returns-in_err-both-clause-grows c = grows_trans c.args.tables.now c.loop-term.tables c.both.new.self c.loop-term.invariant.grows c.both.ensures.grows
+
+pub returns-in_err-add-clause-grows : goal.returns-in_err-add-clause-grows
+returns-in_err-add-clause-grows c =
+    grows_trans c.args.tables.now c.loop-term.tables c.add.new.tables c.loop-term.invariant.grows
+    (grows_trans c.loop-term.tables c.both.new.self c.add.new.tables c.both.ensures.grows c.add.ensures.grows)

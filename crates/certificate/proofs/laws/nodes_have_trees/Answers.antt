@@ -1,5 +1,7 @@
-use Rattle.certificate.proofs.NodeTrees.{nodes_have_trees_lem}
+use Rattle.term_nodes.proofs.TestTrees.{test_tree_stands}
+use Rattle.term_nodes.proofs.TermTrees.{tree_stands}
+use Rattle.certificate.specs.Certs.{nodes_of}
 use Rattle.certificate.proofs.laws.nodes_have_trees.Goals as goal
 
 pub returns : goal.returns
-returns c = nodes_have_trees_lem
+returns call c cert = record { tests = test_tree_stands (nodes_of c) cert.nodes; terms = tree_stands (nodes_of c) cert.nodes }

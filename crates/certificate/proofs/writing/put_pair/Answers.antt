@@ -1,6 +1,6 @@
 use Rattle.std.proofs.Common.{◌∙◌, ap}
 use Rattle.std.proofs.lemmas.Result.{on_ok_weaker}
-use Rattle.certificate.specs.Nodes.{NumberPair}
+use Rattle.term_nodes.specs.NumberSets.{NumberPair}
 use Rattle.certificate.proofs.Lines.{pair_written}
 use Rattle.certificate.proofs.writing.put_pair.Goals as goal
 

@@ -2,7 +2,7 @@ use Rattle.std.proofs.Common.{◌≡◌, ℕ, List, [], ◌∷◌, ◌++◌, Non
 use mathlib.Core.Path.{ap₂}
 use Rattle.std.specs.Option.{option_map}
 use Rattle.kat_model.specs.Closed.{closed}
-use Rattle.term_store.specs.Trees.{tree_of}
+use Rattle.term_nodes.specs.NodeTrees.{tree_at}
 use Rattle.bisim_worklist.specs.Working.Listings.{IdEntry}
 use Rattle.bisim_worklist.specs.Working.Marks.{RuleParts}
 use Rattle.bisim_worklist.specs.Working.IdWalks.{AreRulesOf}
@@ -26,6 +26,6 @@ returns c = λ q store problem sound tests count left_id left_tree right_id righ
       rules = subst (λ r. AreRulesOf q store r 0) (sym c.rules-2.view_is)
           (rules_start q store problem sound c.args.left c.args.right left_id left_tree right_id right_tree rules pairs (counted ∙ count)
           (λ u e. ids u (sym kept ∙ e))
-          (subst (λ u. option_map (tree_of store) u ≡ (closed q).universal) (sym kept) universal));
+          (subst (λ u. option_map (tree_at store) u ≡ (closed q).universal) (sym kept) universal));
       right = c.new-2.ensures store c.in_ok-new.field-0;
     }

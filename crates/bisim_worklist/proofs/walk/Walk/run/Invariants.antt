@@ -1,5 +1,5 @@
 use Rattle.std.proofs.Common.{◌-◌}
-use Rattle.term_store.specs.Growth.{KeepsTrees}
+use Rattle.term_nodes.specs.Growth.{Grows}
 use Rattle.certificate.specs.Decisions.{pair_limit}
 use Rattle.bisim_worklist.specs.Working.Walking.{IsUnderWay}
 use Rattle.bisim_worklist.proofs.walk.Walk.run.Given as goal
@@ -7,7 +7,7 @@ use Rattle.bisim_worklist.proofs.walk.Walk.run.Given as goal
 abbrev pub invariant-loop-place : goal.invariant-loop-place
 invariant-loop-place l = record {
   under_way : IsUnderWay l.problem l.store l.self l.place;
-  kept : KeepsTrees l.initial.store l.store;
+  kept : Grows l.initial.store l.store;
 }
 
 -- there are not many pairs

@@ -1,8 +1,9 @@
 use Rattle.std.proofs.Common.{◌≡◌, ℕ, All, slice_get, Some, sym, ap, ◌∙◌, subst}
 use Rattle.std.proofs.lemmas.Option.{same_Some}
-use Rattle.term_store.proofs.Kept.{KeepsTrees-trans}
+use Rattle.term_nodes.proofs.Growing.{Grows-trans}
 use Rattle.partial_derivs.specs.Moves.{IsTermOf, IsStepsOf}
-use Rattle.bisim_worklist.specs.Working.Listings.{IdEntry, terms_of}
+use Rattle.term_nodes.specs.NumberSets.{terms_of}
+use Rattle.bisim_worklist.specs.Working.Listings.{IdEntry}
 use Rattle.bisim_worklist.specs.declared.walk.Walk.{Walk}
 use Rattle.bisim_worklist.specs.declared.walk.BothSteps.{BothSteps}
 use Rattle.bisim_worklist.proofs.UnderWay.{read_at, left_terms, right_terms, stepped}
@@ -41,4 +42,4 @@ returns-clause-steps c = λ q e under_way at.
 
 pub returns-clause-kept : goal.returns-clause-kept
 returns-clause-kept c =
-    KeepsTrees-trans c.args.store.now c.step.new.store c.step-2.new.store c.in_ok-left.ensures.kept.trees c.in_ok-right.ensures.kept.trees
+    Grows-trans c.args.store.now c.step.new.store c.step-2.new.store c.in_ok-left.ensures.kept.trees c.in_ok-right.ensures.kept.trees

@@ -1,7 +1,7 @@
 use Rattle.std.proofs.Common.{◌≡◌, ap, sym, ◌∙◌, ◌++◌, ◌∷◌, [], List, true}
 use Rattle.certificate.specs.declared.draft.Draft.{Draft}
 use Rattle.certificate.specs.declared.entry.Entry.TheVariants.{PairLine}
-use Rattle.certificate.specs.Nodes.{NumberPair, are_ascending}
+use Rattle.term_nodes.specs.NumberSets.{NumberPair, are_ascending}
 use Rattle.certificate.specs.Working.Readings.{draft_parts}
 use Rattle.certificate.proofs.Drafts.{added, pair_passes}
 use Rattle.certificate.proofs.draft.Draft.add_pair.Goals as goal

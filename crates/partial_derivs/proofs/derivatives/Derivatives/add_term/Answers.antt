@@ -1,5 +1,5 @@
 use Rattle.std.proofs.lemmas.Result.{on_ok_weaker}
-use Rattle.term_store.specs.Trees.{tree_of}
+use Rattle.term_nodes.specs.NodeTrees.{tree_at}
 use Rattle.partial_derivs.proofs.Kept.{Keeps-functions}
 use Rattle.partial_derivs.proofs.Unions.{term_added}
 use Rattle.partial_derivs.proofs.Tables.{AreRight-kept}
@@ -9,7 +9,7 @@ pub returns-clause-added : goal.returns-clause-added
 returns-clause-added c =
     let derived = c.in_ok-steps in
     on_ok_weaker c.add.result
-    (term_added _ _ _ _ _ (tree_of c.args.store.now c.args.term) c.args.whole.now c.add.new.self derived.steps derived.ensures.kept derived.ensures.steps)
+    (term_added _ _ _ _ _ (tree_at c.args.store.now c.args.term) c.args.whole.now c.add.new.self derived.steps derived.ensures.kept derived.ensures.steps)
     c.add.ensures.added
 
 pub returns-clause-right : goal.returns-clause-right

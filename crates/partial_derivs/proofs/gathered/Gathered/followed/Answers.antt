@@ -1,4 +1,4 @@
-use Rattle.term_store.proofs.Kept.{KeepsTrees-trans}
+use Rattle.term_nodes.proofs.Growing.{Grows-trans}
 use Rattle.partial_derivs.proofs.Items.{has_item}
 use Rattle.partial_derivs.proofs.Kept.{Keeps-trans, IsTermOf-kept}
 use Rattle.partial_derivs.proofs.Followed.{step_followed}
@@ -15,7 +15,7 @@ add_followed-requires-clause-to c =
     (c.requires.targets c.guarded-item.result (has_item c.args.moves.now c.loop-guarded.guarded-index c.guarded-item.result c.loop-guarded-test.true c.guarded-item.is))
 
 pub returns-in_err-add_followed-clause-trees : goal.returns-in_err-add_followed-clause-trees
-returns-in_err-add_followed-clause-trees c = KeepsTrees-trans _ _ _ c.loop-guarded.invariant.kept.trees c.in_err-add_followed.ensures.trees
+returns-in_err-add_followed-clause-trees c = Grows-trans _ _ _ c.loop-guarded.invariant.kept.trees c.in_err-add_followed.ensures.trees
 
 pub loop-guarded-preserved : goal.loop-guarded-preserved
 loop-guarded-preserved c =

@@ -1,5 +1,6 @@
 use Rattle.std.proofs.lemmas.Bool.{false≢true}
-use Rattle.term_store.proofs.Found.{test_has_parts, test_found}
+use Rattle.term_nodes.proofs.TreeParts.{test_has_parts}
+use Rattle.term_store.proofs.Found.{test_found}
 use Rattle.term_store.proofs.store.Store.+of_test.Goals as goal
 
 pub of_test-returns-in_err-shape-clause-found : goal.of_test-returns-in_err-shape-clause-found

@@ -1,5 +1,6 @@
 use Rattle.std.proofs.lemmas.Bool.{false≢true}
-use Rattle.term_store.proofs.Found.{has_parts, found}
+use Rattle.term_nodes.proofs.TreeParts.{has_parts}
+use Rattle.term_store.proofs.Found.{found}
 use Rattle.term_store.proofs.store.Store.+of_tree.Goals as goal
 
 pub of_tree-returns-in_err-shape-clause-found : goal.of_tree-returns-in_err-shape-clause-found

@@ -1,8 +1,8 @@
 use Rattle.std.proofs.Common.{rules, arith, subst}
 use Rattle.std.proofs.lemmas.Grind.{common_steps}
-use Rattle.term_store.specs.Nodes.{IsStore}
-use Rattle.term_store.proofs.Insertions.{term_inserted}
-use Rattle.term_store.proofs.Kept.{AddsTerm-keeps, interned}
+use Rattle.term_nodes.specs.NodeLists.{AreNodes}
+use Rattle.term_nodes.proofs.Insertions.{term_inserted}
+use Rattle.term_nodes.proofs.Growing.{AddsTerm-grows, interned}
 use Rattle.term_store.proofs.store.Store.intern.Goals as goal
 
 pub invariant_of-self : goal.invariant_of-self
@@ -14,9 +14,9 @@ invariant_of-self c =
 pub returns-clause-store : goal.returns-clause-store
 returns-clause-store c = invariant_of-self c
 
-pub returns-clause-kept : goal.returns-clause-kept
-returns-clause-kept c = AddsTerm-keeps _ _ c.args.shape (subst IsStore c.self.view_is c.self.invariant) (grind (arith, common_steps))
+pub returns-clause-grows : goal.returns-clause-grows
+returns-clause-grows c = AddsTerm-grows _ _ c.args.shape (subst AreNodes c.self.view_is c.self.invariant) (invariant_of-self c) (grind (arith, common_steps))
 
 pub returns-clause-tree : goal.returns-clause-tree
 returns-clause-tree c =
-    interned c.match-insert_full.result _ _ c.args.shape (returns-clause-kept c) (invariant_of-self c) c.requires (grind (arith, common_steps))
+    interned c.match-insert_full.result _ _ c.args.shape (returns-clause-grows c) (invariant_of-self c) c.requires (grind (arith, common_steps))

@@ -1,6 +1,6 @@
 use Rattle.std.proofs.Common.{sym, ap, ◌∙◌}
 use Rattle.std.specs.Option.{option_copied}
-use Rattle.term_store.proofs.TestTrees.{test_tree_of-node}
+use Rattle.term_nodes.proofs.TestTrees.{test_tree_at-node}
 use Rattle.term_store.proofs.store.Store.test_shape.Goals as goal
 
 pub returns-clause-parts : goal.returns-clause-parts
@@ -11,4 +11,4 @@ returns-clause-parts c =
 pub returns-clause-tree : goal.returns-clause-tree
 returns-clause-tree c =
     let node = sym c.get_index.ensures.key ∙ ap option_copied c.unwrap.ensures in
-    rw (← c.self.view_is, ← c.id.view_is) (test_tree_of-node _ c.self.invariant _ _ node)
+    rw (← c.self.view_is, ← c.id.view_is) (test_tree_at-node _ c.self.invariant _ _ node)
