@@ -1,19 +1,21 @@
 //! Problem files, and where they stop.
-use crate::fixtures::text_around;
-use kat_model::{Kat, NoMemory};
-use kat_print::{print_cond, print_term};
+use crate::fixtures::{is_so, put, put_around, put_term, text_around};
+use kat_model::{Cond, Kat, NoMemory};
+use kat_print::print_cond;
 use kat_text::Scope;
-use problem_file::{Goal, Side, read};
+use kat_tokens::TextFault;
+use problem_file::{File, Goal, Side, read};
 use std::alloc::Global;
 use std::test::Fail;
 
-fn put(out: &mut Vec<u8>, piece: &[u8]) -> Result<(), NoMemory> {
-    Ok(out.extend_from_slice(piece)?)
+fn put_cond(alloc: Global, out: &mut Vec<u8>, cond: &Cond, scope: &Scope) -> Result<(), NoMemory> {
+    let text = print_cond(alloc, cond, scope)?;
+    put(out, &text)
 }
 
 fn put_side(alloc: Global, out: &mut Vec<u8>, side: &Side, scope: &Scope) -> Result<(), NoMemory> {
     match side {
-        Side::Term(term) => put(out, &print_term(alloc, term, scope)?),
+        Side::Term(term) => put_term(alloc, out, term, scope),
     }
 }
 
@@ -30,79 +32,113 @@ fn put_goal(alloc: Global, out: &mut Vec<u8>, goal: &Goal, scope: &Scope) -> Res
             put_side(alloc, out, large, scope)
         }
         Goal::Triple(pre, body, post) => {
-            put(out, &print_cond(alloc, pre, scope)?)?;
+            put_cond(alloc, out, pre, scope)?;
             put(out, b" ")?;
             put_side(alloc, out, body, scope)?;
             put(out, b" ")?;
-            put(out, &print_cond(alloc, post, scope)?)
+            put_cond(alloc, out, post, scope)
         }
     }
 }
 
 fn put_hyps(alloc: Global, out: &mut Vec<u8>, hyps: &[Kat], scope: &Scope) -> Result<(), NoMemory> {
     for hyp in hyps {
-        put(out, &print_term(alloc, hyp, scope)?)?;
+        put_term(alloc, out, hyp, scope)?;
         put(out, b" = 0; ")?;
     }
     Ok(())
 }
 
-// The hypotheses and the goal of the text, and how many tests, actions and terms it declares; or why it is refused.
-fn shown(alloc: Global, text: &[u8]) -> Result<Vec<u8>, Fail> {
-    let file = match read(alloc, text) {
-        Ok(file) => file,
-        Err(fault) => return Ok(format!(in alloc; "{fault:?}")?.into_bytes()),
-    };
+// How many tests, actions and terms a text declares, its hypotheses, and its goal.
+fn put_file(alloc: Global, out: &mut Vec<u8>, file: &File) -> Result<(), NoMemory> {
     let counts = format!(in alloc; "{} {} {}: ", file.tests, file.actions, file.terms)?;
-    let mut out = counts.into_bytes();
-    put_hyps(alloc, &mut out, &file.hyps, &file.scope)?;
-    put_goal(alloc, &mut out, &file.goal, &file.scope)?;
+    put(out, counts.as_bytes())?;
+    put_hyps(alloc, out, &file.hyps, &file.scope)?;
+    put_goal(alloc, out, &file.goal, &file.scope)
+}
+
+fn file_text(alloc: Global, file: &File) -> Result<Vec<u8>, NoMemory> {
+    let mut out = Vec::new(alloc);
+    put_file(alloc, &mut out, file)?;
     Ok(out)
 }
 
-const ROWS: &[(&str, &str)] = &[
+fn said(alloc: Global, file: &File) -> Result<Vec<u8>, TextFault> {
+    Ok(file_text(alloc, file)?)
+}
+
+// What the text says. The file is dropped at one exit.
+fn shown(alloc: Global, text: &str) -> Result<Vec<u8>, TextFault> {
+    match read(alloc, text.as_bytes()) {
+        Ok(file) => said(alloc, &file),
+        Err(fault) => Err(fault),
+    }
+}
+
+const ROWS: &[(&str, Result<&str, TextFault>)] = &[
     (
         "test b, c; action p; term t = b.p + !b; hyp t.c = 0; hyp triple {b} p {c}; goal below t*, (p);",
-        "2 1 1: (((b.p) + [!b]).c) = 0; (b.(p.[!c])) = 0; ((b.p) + [!b])* <= p",
+        Ok("2 1 1: (((b.p) + [!b]).c) = 0; (b.(p.[!c])) = 0; ((b.p) + [!b])* <= p"),
     ),
     (
         "test b; goal triple {b || true} 1 {1 == 2};",
-        "1 0 0: (b || true) 1 (1 == 2)",
+        Ok("1 0 0: (b || true) 1 (1 == 2)"),
     ),
-    ("", "NoGoal"),
-    ("test b;", "NoGoal"),
-    ("goal equal b, b;", "UnknownName(11)"),
-    ("test b, b; goal equal 1, 1;", "DoubleName(8)"),
-    ("action p; goal equal !p, 1;", "Sort(22)"),
-    ("test b; goal equal b ? b;", "BadToken(21)"),
-    ("test b; goal equal b, ;", "Syntax(22)"),
-    ("test b; goal equal b, b", "Syntax(23)"),
-    ("test b; goal equal b, b; goal equal b, b;", "TwoGoals(25)"),
-    ("width 8; ?", "BadToken(9)"),
-    ("goal equal 0, := 1", "NotYet"),
-    ("test b; goal triple {b == 1} 1 {b};", "Sort(21)"),
+    ("", Err(TextFault::NoGoal)),
+    ("test b;", Err(TextFault::NoGoal)),
+    ("goal equal b, b;", Err(TextFault::UnknownName(11))),
+    ("test b, b; goal equal 1, 1;", Err(TextFault::DoubleName(8))),
+    (
+        "test b; term b = u; goal equal 1, 1;",
+        Err(TextFault::DoubleName(13)),
+    ),
+    ("action p; goal equal !p, 1;", Err(TextFault::Sort(22))),
+    (
+        "test b; term t = b*; goal equal !t, 1;",
+        Err(TextFault::Sort(33)),
+    ),
+    ("test b; goal equal b ? b;", Err(TextFault::BadToken(21))),
+    ("test b; goal equal b, ;", Err(TextFault::Syntax(22))),
+    ("test b; goal equal b, b", Err(TextFault::Syntax(23))),
+    (
+        "test b; goal equal b, b; goal equal b, b;",
+        Err(TextFault::TwoGoals(25)),
+    ),
+    ("width 8; ?", Err(TextFault::BadToken(9))),
+    ("goal equal 0, := 1", Err(TextFault::NotYet)),
+    (
+        "test b; goal triple {b == 1} 1 {b};",
+        Err(TextFault::Sort(21)),
+    ),
     (
         "test b; hyp triple {b} 1 {1 == 1}; goal equal b, b;",
-        "Sort(26)",
+        Err(TextFault::Sort(26)),
     ),
-    ("term t = t; goal equal t, t;", "UnknownName(9)"),
-    ("goal equal 1, 1; term t = goal;", "Syntax(26)"),
+    (
+        "term t = t; goal equal t, t;",
+        Err(TextFault::UnknownName(9)),
+    ),
+    (
+        "goal equal 1, 1; term t = goal;",
+        Err(TextFault::Syntax(26)),
+    ),
 ];
 
 #[test]
-fn files_are_read(rt: HostRuntime) -> Result<(), Fail> {
+fn files_are_read(rt: HostRuntime) {
     for (text, want) in ROWS {
-        let found = shown(rt.alloc(), text.as_bytes())?;
-        assert_eq!(rt; found.as_slice(), want.as_bytes(), "on {text}");
+        assert!(rt; is_so(shown(rt.alloc(), text), *want), "on {text}");
     }
-    Ok(())
 }
 
 // A term of 150 levels, and the goal that it is 1 in so many parentheses.
-fn nested(alloc: Global, times: usize) -> Result<String, NoMemory> {
-    let term = text_around(alloc, "(p + ", "p", ")", 150)?;
-    let side = text_around(alloc, "(", "d", ")", times)?;
-    Ok(format!(in alloc; "action p; term d = {term}; goal equal 1, {side};")?)
+fn put_nested(out: &mut String, times: usize) -> Result<(), NoMemory> {
+    out.push_str("action p; term d = ")?;
+    put_around(out, "(p + ", "p", ")", 150)?;
+    out.push_str("; goal equal 1, ")?;
+    put_around(out, "(", "d", ")", times)?;
+    out.push_str(";")?;
+    Ok(())
 }
 
 // The terms `a0` to `a14`, each the square of the one before it, so that the last has 65,535 nodes; and a goal.
@@ -115,31 +151,57 @@ fn squares(alloc: Global, side: &str) -> Result<String, NoMemory> {
     Ok(text)
 }
 
-// Why a text is refused, where it is.
-fn fault(alloc: Global, text: &str) -> Result<String, Fail> {
+// Why the text is refused, where it is.
+fn fault_of(alloc: Global, text: &str) -> Option<TextFault> {
     match read(alloc, text.as_bytes()) {
-        Ok(_) => Ok(String::new(alloc)),
-        Err(fault) => Ok(format!(in alloc; "{fault:?}")?),
+        Ok(_) => None,
+        Err(fault) => Some(fault),
     }
 }
 
+fn nested_fault(alloc: Global, times: usize) -> Result<Option<TextFault>, NoMemory> {
+    let mut text = String::new(alloc);
+    put_nested(&mut text, times)?;
+    Ok(fault_of(alloc, text.as_str()))
+}
+
+fn squares_fault(alloc: Global, side: &str) -> Result<Option<TextFault>, NoMemory> {
+    let text = squares(alloc, side)?;
+    Ok(fault_of(alloc, text.as_str()))
+}
+
+const SQUARES: &[(&str, Option<TextFault>)] = &[
+    ("a14.a13.a8.a7.a5.a2.a1.a0.p.b", None),
+    (
+        "a14.a13.a8.a7.a5.a2.a1.a0.b.b",
+        Some(TextFault::TooLarge(284)),
+    ),
+    ("a14.a14.u", Some(TextFault::UnknownName(306))),
+];
+
 #[test]
 fn definitions_count_in_full(rt: HostRuntime) -> Result<(), Fail> {
-    let alloc = rt.alloc();
-    for (times, want) in [(50, ""), (51, "TooDeep(987)")] {
-        assert_eq!(rt;
-            fault(alloc, nested(alloc, times)?.as_str())?.as_str(),
-            want
-        );
+    for (times, want) in [(50, None), (51, Some(TextFault::TooDeep(987)))] {
+        assert!(rt; nested_fault(rt.alloc(), times)? == want, "{times} levels");
     }
-    for (side, want) in [
-        ("a14.a13.a8.a7.a5.a2.a1.a0.p.b", ""),
-        ("a14.a13.a8.a7.a5.a2.a1.a0.b.b", "TooLarge(284)"),
-        ("a14.a14.u", "UnknownName(306)"),
-    ] {
-        assert_eq!(rt;
-            fault(alloc, squares(alloc, side)?.as_str())?.as_str(),
-            want
+    for (side, want) in SQUARES {
+        assert!(rt; squares_fault(rt.alloc(), side)? == *want, "on {side}");
+    }
+    Ok(())
+}
+
+// A goal and so many hypotheses of 65,535 nodes, beside definitions of 131,053.
+fn hyps_fault(alloc: Global, times: usize) -> Result<Option<TextFault>, NoMemory> {
+    let side = text_around(alloc, "", "1", "; hyp a14 = 0", times)?;
+    squares_fault(alloc, side.as_str())
+}
+
+#[test]
+fn all_items_count(rt: HostRuntime) -> Result<(), Fail> {
+    for (times, want) in [(13, None), (14, Some(TextFault::TooLarge(470)))] {
+        assert!(rt;
+            hyps_fault(rt.alloc(), times)? == want,
+            "{times} hypotheses"
         );
     }
     Ok(())

@@ -1,4 +1,4 @@
-//! Tests from text to text: tokens, phrases, problem files, goals, and comparisons of expressions.
+//! Tests from text to text: tokens, phrases, programs, problem files, goals, and comparisons of expressions.
 #![tactic(auto)]
 
 #[cfg(test)]
@@ -13,5 +13,7 @@ mod goals;
 mod lists;
 #[cfg(test)]
 mod phrases;
+#[cfg(test)]
+mod programs;
 #[cfg(test)]
 mod token_texts;

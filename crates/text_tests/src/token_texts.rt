@@ -1,46 +1,55 @@
 //! Texts and their tokens.
-use crate::fixtures::cut;
+use crate::fixtures::{cut, is_so};
+use kat_model::NoMemory;
+use kat_tokens::{TextFault, Token};
 use std::alloc::Global;
-use std::test::Fail;
 
-// The kind, the text and the place of each token, or why the text is refused.
-fn shown(alloc: Global, text: &str) -> Result<String, Fail> {
-    let found = match cut(alloc, text) {
-        Ok(found) => found,
-        Err(fault) => return Ok(format!(in alloc; "{fault:?}")?),
-    };
-    let mut shown = String::new(alloc);
-    for token in &found {
-        write!(shown, "{:?} {} {};", token.kind, token.text, token.at)?;
+// The kind, the text and the place of each token.
+fn put_tokens(out: &mut String, found: &[Token]) -> Result<(), NoMemory> {
+    for token in found {
+        write!(out, "{:?} {} {};", token.kind, token.text, token.at)?;
     }
-    Ok(shown)
+    Ok(())
 }
 
-const ROWS: &[(&str, &str)] = &[
-    ("", ""),
-    ("0abc", "Number 0 0;Name abc 1;"),
-    ("a\u{663}", "Name a\u{663} 0;"),
-    ("\u{e9} e\u{301}", "Name \u{e9} 0;Name e\u{301} 3;"),
-    ("_x_1:=007", "Name _x_1 0;Symbol := 4;Number 007 6;"),
-    ("!==<=!", "Symbol != 0;Symbol = 2;Symbol <= 3;Symbol ! 5;"),
-    ("# \u{a0}\rx\n\twhile#", "Name while 8;"),
-    ("test b; goal equal b ? b;", "BadToken(21)"),
-    ("b & b", "BadToken(2)"),
-    ("b | b", "BadToken(2)"),
-    ("x : 1", "BadToken(2)"),
-    ("\u{663}", "BadToken(0)"),
-    ("a\u{c}b", "BadToken(1)"),
-    ("a\u{b}b", "BadToken(1)"),
-    ("a\u{a0}b", "BadToken(1)"),
-    ("a\u{85}b", "BadToken(1)"),
-    ("a\u{2028}b", "BadToken(1)"),
-    ("\u{feff}a", "BadToken(0)"),
+fn tokens_text(alloc: Global, found: &[Token]) -> Result<Vec<u8>, NoMemory> {
+    let mut out = String::new(alloc);
+    put_tokens(&mut out, found)?;
+    Ok(out.into_bytes())
+}
+
+fn shown(alloc: Global, text: &str) -> Result<Vec<u8>, TextFault> {
+    let found = cut(alloc, text)?;
+    Ok(tokens_text(alloc, &found)?)
+}
+
+const ROWS: &[(&str, Result<&str, TextFault>)] = &[
+    ("", Ok("")),
+    ("0abc", Ok("Number 0 0;Name abc 1;")),
+    ("a\u{663}", Ok("Name a\u{663} 0;")),
+    ("\u{e9} e\u{301}", Ok("Name \u{e9} 0;Name e\u{301} 3;")),
+    ("_x_1:=007", Ok("Name _x_1 0;Symbol := 4;Number 007 6;")),
+    (
+        "!==<=!",
+        Ok("Symbol != 0;Symbol = 2;Symbol <= 3;Symbol ! 5;"),
+    ),
+    ("# \u{a0}\rx\n\twhile#", Ok("Name while 8;")),
+    ("test b; goal equal b ? b;", Err(TextFault::BadToken(21))),
+    ("b & b", Err(TextFault::BadToken(2))),
+    ("b | b", Err(TextFault::BadToken(2))),
+    ("x : 1", Err(TextFault::BadToken(2))),
+    ("\u{663}", Err(TextFault::BadToken(0))),
+    ("a\u{c}b", Err(TextFault::BadToken(1))),
+    ("a\u{b}b", Err(TextFault::BadToken(1))),
+    ("a\u{a0}b", Err(TextFault::BadToken(1))),
+    ("a\u{85}b", Err(TextFault::BadToken(1))),
+    ("a\u{2028}b", Err(TextFault::BadToken(1))),
+    ("\u{feff}a", Err(TextFault::BadToken(0))),
 ];
 
 #[test]
-fn texts_have_tokens(rt: HostRuntime) -> Result<(), Fail> {
+fn texts_have_tokens(rt: HostRuntime) {
     for (text, want) in ROWS {
-        assert_eq!(rt; shown(rt.alloc(), text)?.as_str(), *want, "in {text:?}");
+        assert!(rt; is_so(shown(rt.alloc(), text), *want), "in {text:?}");
     }
-    Ok(())
 }

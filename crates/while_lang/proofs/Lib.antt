@@ -1,0 +1,17 @@
+pub mod ProgramLists
+pub mod StoreValues
+pub mod Turns
+pub mod Reached
+pub mod Outcomes
+pub mod LoopsAgain
+pub mod GuardedFlows
+pub mod BlockSteps
+pub mod BlockCompleteness
+pub mod BlockSoundness
+pub mod ScannedBlocks
+pub mod BlockScanFaults
+pub mod BlockNestings
+pub mod BlockMeasures
+pub mod ProgramPieces
+pub mod SeparatePrograms
+pub mod PrintedBlocks

@@ -1,0 +1,52 @@
+-- Programs as lists of statements, gone through one by one.
+use Rattle.std.proofs.Common.{arith, append-nil, ◌≡◌, ℕ, ◌+◌, ◌<◌, ◌≤◌, List, [], ◌∷◌, ◌++◌, map, length, take, get_or, refl, sym, ap, ◌∙◌}
+use Rattle.std.proofs.lemmas.List.{take_all, map_more, length-map, get_or-map}
+use Rattle.while_lang.specs.Programs.{ProgTree, StmtTree, skip, abort, assert, act, assign, branch, loop, with_stmt, prog_of, stmts_of}
+use Rattle.while_lang.specs.ProgramViews.{stmt_tree, list_tree}
+use Rattle.while_lang.specs.declared.prog.Stmt.{Stmt}
+
+stmts_of-with_stmt : (s : StmtTree) (rest : ProgTree) → stmts_of (with_stmt s rest) ≡ s ∷ stmts_of rest
+stmts_of-with_stmt skip rest = refl
+stmts_of-with_stmt abort rest = refl
+stmts_of-with_stmt (assert b) rest = refl
+stmts_of-with_stmt (act a) rest = refl
+stmts_of-with_stmt (assign x e) rest = refl
+stmts_of-with_stmt (branch b p q) rest = refl
+stmts_of-with_stmt (loop b p) rest = refl
+
+-- a program is known by its statements
+pub stmts_of-prog_of : (ss : List StmtTree) → stmts_of (prog_of ss) ≡ ss
+stmts_of-prog_of [] = refl
+stmts_of-prog_of (s ∷ ss) = stmts_of-with_stmt s (prog_of ss) ∙ ap (λ (xs : List StmtTree). s ∷ xs) (stmts_of-prog_of ss)
+
+-- so is a list of statements of the program
+pub listed_stmts : (ss : List Stmt) → stmts_of (list_tree ss) ≡ map stmt_tree ss
+listed_stmts ss = stmts_of-prog_of (map stmt_tree ss)
+
+-- where no statement is left to be moved, all are at the end
+pub moved_all : (list rest : List Stmt) (all : List StmtTree) → map stmt_tree list ++ map stmt_tree rest ≡ all → length rest ≡ 0 → map stmt_tree list ≡ all
+moved_all list [] all h e = sym (append-nil (map stmt_tree list)) ∙ h
+moved_all list (s ∷ rest) all h e = absurd (omega (arith, e))
+
+-- ---- copies
+
+pub copied_more : (list new items : List Stmt) (i : ℕ) (s t : Stmt) → map stmt_tree new ≡ map stmt_tree list ++ stmt_tree t ∷ [] → stmt_tree t ≡ stmt_tree s → i < length items → s ≡ get_or items i s →
+    map stmt_tree list ≡ map stmt_tree (take i items) → map stmt_tree new ≡ map stmt_tree (take (i + 1) items)
+copied_more list new items i s t pushed same lt is before =
+    pushed ∙ rw (before, same, is) (sym (map_more stmt_tree items i s lt))
+
+pub copied_all : (list items : List Stmt) (i : ℕ) → length items ≤ i → map stmt_tree list ≡ map stmt_tree (take i items) → list_tree list ≡ list_tree items
+copied_all list items i le before = ap prog_of (before ∙ ap (map stmt_tree) (take_all i items le))
+
+-- ---- equal programs
+
+-- two equal programs have as many statements, and the same at each place
+same_stmts : (xs ys : List Stmt) → list_tree xs ≡ list_tree ys → map stmt_tree xs ≡ map stmt_tree ys
+same_stmts xs ys e = sym (stmts_of-prog_of (map stmt_tree xs)) ∙ ap stmts_of e ∙ stmts_of-prog_of (map stmt_tree ys)
+
+pub same_length : (xs ys : List Stmt) → list_tree xs ≡ list_tree ys → length xs ≡ length ys
+same_length xs ys e = sym (length-map xs stmt_tree) ∙ ap length (same_stmts xs ys e) ∙ length-map ys stmt_tree
+
+pub same_at : (xs ys : List Stmt) (i : ℕ) (x y : Stmt) → i < length xs → i < length ys → x ≡ get_or xs i x → y ≡ get_or ys i y → list_tree xs ≡ list_tree ys → stmt_tree x ≡ stmt_tree y
+same_at xs ys i x y lt le is at e =
+    ap stmt_tree is ∙ sym (get_or-map stmt_tree xs i x skip lt) ∙ ap (λ (ss : List StmtTree). get_or ss i skip) (same_stmts xs ys e) ∙ get_or-map stmt_tree ys i y skip le ∙ ap stmt_tree (sym at)

@@ -1,0 +1,12 @@
+use Rattle.std.proofs.Common.{rules, drop}
+use Rattle.kat_syntax.specs.Lexemes.{lexemes}
+use Rattle.kat_syntax.specs.Parsed.{Wants}
+use Rattle.while_lang.specs.BlockScans.{scan_block}
+use Rattle.while_lang.proofs.BlockScanFaults.{answers_block_fault}
+use Rattle.while_lang.proofs.block_scan.block_end.Goals as goal
+
+pub returns-in_err-end-clause-fault : goal.returns-in_err-end-clause-fault
+returns-in_err-end-clause-fault c =
+    let ts = lexemes c.args.toks.now in
+    let answers : Wants ts c.from_residual.result (scan_block c.args.depth (drop c.args.from ts)) = search rules in
+    answers_block_fault c.args.depth ts (drop c.args.from ts) c.from_residual.result answers

@@ -1,0 +1,10 @@
+use Rattle.std.proofs.Common.{◌≡◌, ◌++◌, drop}
+use Rattle.kat_print.specs.Printing.{name_of}
+use Rattle.while_lang.specs.ProgramViews.{list_tree}
+use Rattle.while_lang.specs.Working.ProgramTexts.{stmts_text}
+use Rattle.while_lang.proofs.print.+prints.Given as goal
+
+-- what is written, and the text of the statements that are left
+abbrev pub invariant-put_stmts-loop-stmt : goal.invariant-put_stmts-loop-stmt
+invariant-put_stmts-loop-stmt l =
+    l.out.items ++ stmts_text (name_of l.scope) (list_tree (drop l.stmt-index l.stmt-items)) ≡ l.initial.out.items ++ stmts_text (name_of l.scope) (list_tree l.stmt-items)

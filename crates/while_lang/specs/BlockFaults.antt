@@ -1,0 +1,27 @@
+-- Which faults the test of the syntax of blocks answers.
+use Rattle.std.specs.Prelude.{◌≡◌, ◌⊎◌, ℕ, List, Bool, true, ◌||◌, Err}
+use Rattle.kat_tokens.specs.declared.fault.TextFault.{TextFault}
+use Rattle.kat_tokens.specs.declared.fault.TextFault.TheVariants.{Syntax, TooDeep, NumberTooWide}
+use Rattle.kat_syntax.specs.declared.terminal.Terminal.{Terminal}
+use Rattle.kat_syntax.specs.declared.terminal.Terminal.TheVariants.{Keyword, Separator}
+use Rattle.kat_syntax.specs.declared.terminal.Keyword.TheVariants as word
+use Rattle.kat_syntax.specs.declared.terminal.Separator.TheVariants.{CurlyOpen}
+use Rattle.kat_syntax.specs.Lexemes.{Lexeme, is_terminal}
+use Rattle.kat_syntax.specs.Parsed.{at_end}
+use Rattle.kat_syntax.specs.Faults.{opens, is_wide, StandsAt}
+use Rattle.while_lang.specs.BlockScans.{scan_block}
+
+-- what opens a construct of a block: a brace, the `if` of an `else if`, and what opens one of a condition or an expression
+abbrev pub opens_block : Terminal → Bool
+opens_block s = is_terminal (Separator CurlyOpen) s || (is_terminal (Keyword word.If) s || opens s)
+
+-- a fault of the syntax: at a token, or after the last
+abbrev pub IsBlockFault : List Lexeme → TextFault → Type 0
+IsBlockFault ts (Syntax at) = (at ≡ at_end) ⊎ StandsAt (λ s. true) at ts
+IsBlockFault ts (TooDeep at) = StandsAt opens_block at ts
+IsBlockFault ts (NumberTooWide at) = StandsAt is_wide at ts
+IsBlockFault ts other = ⊥
+
+-- the test answers no other fault
+abbrev pub AnswersBlockFaults : Type 0
+AnswersBlockFaults = (d : ℕ) (ts : List Lexeme) (e : TextFault) → scan_block d ts ≡ Err e → IsBlockFault ts e

@@ -1,0 +1,59 @@
+-- What is made of a block, and what its measures tell of its tree.
+use Rattle.std.specs.Prelude.{◌≡◌, ◌↔◌, ◌≤◌, ◌+◌, ℕ, min, List, [], length, slice_get, Some, IsOk, Ok}
+use Rattle.kat_tokens.specs.declared.lexer.TheConstants.{MAX_LEN}
+use Rattle.kat_tokens.specs.Pieces.{spelled}
+use Rattle.kat_syntax.specs.Lexemes.{Lexeme}
+use Rattle.kat_syntax.specs.Parsed.{◌>>=◌, before}
+use Rattle.kat_text.specs.declared.extent.Extent.{Extent}
+use Rattle.kat_text.specs.declared.meaning.Meaning.{Meaning}
+use Rattle.kat_text.specs.ScopeParts.{ScopeParts}
+use Rattle.kat_text.specs.Laws.{told_nodes}
+use Rattle.kat_print.specs.Laws.{ReadsBack}
+use Rattle.while_lang.specs.Programs.{ProgTree, prog_of}
+use Rattle.while_lang.specs.ProgramSizes.{prog_size, largest_in}
+use Rattle.while_lang.specs.NamedProgs.{ProgParts}
+use Rattle.while_lang.specs.Blocks.{block, parse_block}
+use Rattle.while_lang.specs.BlockPhrases.{block as block_symbol, BlockPhrase, block_before, BlockObeys, BlockFits}
+use Rattle.while_lang.specs.BlockFolds.{fold_block}
+use Rattle.while_lang.specs.BlockBuilding.{block_trees}
+use Rattle.while_lang.specs.BlockMeasuring.{extent, block_extents}
+use Rattle.while_lang.specs.BlockSound.{BlockIsSound, block_nesting}
+use Rattle.while_lang.specs.BlockReadings.{block_at}
+use Rattle.while_lang.specs.ProgramPrinting.{block_pieces, ProgIsNamed, block_levels}
+
+-- what a pass makes of the tokens of a block is what its actions make of the parts, in text order
+abbrev pub BlocksAreFolded : Type 0
+BlocksAreFolded =
+    (w : ScopeParts) (ps : List ProgParts) (d : ℕ) (p : BlockPhrase block_symbol) (ts : List Lexeme) → BlockObeys p ts →
+    (parse_block (block_extents w ps) block d (block_before p ts) ≡ before ts (fold_block (block_extents w ps) d p (extent 0 0)))
+    × (parse_block (block_trees w ps) block d (block_before p ts) ≡ before ts (fold_block (block_trees w ps) d p []))
+
+-- a block is measured exactly where it is sound, nests at most 200 constructs and has no number of 2^64 or more
+abbrev pub SoundAreMeasured : Type 0
+SoundAreMeasured =
+    (w : ScopeParts) (ps : List ProgParts) (d : ℕ) (p : BlockPhrase block_symbol) →
+    IsOk (fold_block (block_extents w ps) d p (extent 0 0)) ↔ (BlockIsSound w ps d p × BlockFits d p)
+
+-- no expression in the programs has more than 1,000 nodes
+abbrev pub AreLimited : List ProgParts → Type 0
+AreLimited ps = (i : ℕ) (p : ProgParts) → slice_get ps i ≡ Some p → largest_in p.tree ≤ 1000
+
+-- the block has a tree, and the measures are those of the tree and of the block
+pub record MeasuresBlock (w : ScopeParts) (ps : List ProgParts) (d : ℕ) (p : BlockPhrase block_symbol) (m : Extent) : Type 0 where
+  pub tree : ProgTree
+  pub built : (fold_block (block_trees w ps) d p [] >>= λ ss. Ok (prog_of ss)) ≡ Ok tree
+  pub nodes : m.nodes ≡ told_nodes (largest_in tree) (prog_size tree)
+  pub levels : m.nesting ≡ min (block_nesting w ps p) 201
+
+abbrev pub MeasuresAreOfTrees : Type 0
+MeasuresAreOfTrees =
+    (w : ScopeParts) (ps : List ProgParts) (d : ℕ) (p : BlockPhrase block_symbol) (m : Extent) → AreLimited ps →
+    fold_block (block_extents w ps) d p (extent 0 0) ≡ Ok m → MeasuresBlock w ps d p m
+
+-- what is printed with the one name of each number reads back to the same program with nothing left, where the text, the
+-- sizes of the program and the nesting of the text are within the limits
+abbrev pub PrintedReadsBack : Type 0
+PrintedReadsBack =
+    (w : ScopeParts) (ps : List ProgParts) (names : Meaning → List ℕ) (p : ProgTree) (d : ℕ) → AreLimited ps → ProgIsNamed w names p →
+    length (spelled (block_pieces names p [])) ≤ MAX_LEN → largest_in p ≤ 1000 → prog_size p ≤ 100000 → d + block_levels p ≤ 200 →
+    ReadsBack (block_pieces names p []) (block_at w ps d) p (block_levels p)

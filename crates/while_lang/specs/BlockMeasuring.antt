@@ -1,0 +1,62 @@
+-- The faults of the names of a block, and how large and how deep it is.
+use Rattle.std.specs.Prelude.{ℕ, ◌+◌, max, if◌then◌else◌, nat_lt, List, slice_get, Result, Ok, Err, Option, Some, None}
+use Rattle.kat_tokens.specs.declared.fault.TextFault.{TextFault}
+use Rattle.kat_tokens.specs.declared.fault.TextFault.TheVariants.{UnknownName, Sort, TooDeep}
+use Rattle.kat_text.specs.declared.meaning.Meaning.{Meaning}
+use Rattle.kat_text.specs.declared.meaning.Meaning.TheVariants.{Action, Var, Prog}
+use Rattle.kat_text.specs.declared.extent.Extent.{Extent}
+use Rattle.kat_text.specs.ScopeParts.{ScopeParts, meaning}
+use Rattle.kat_text.specs.Measuring.{limited, compared_nodes, extents}
+use Rattle.while_lang.specs.ProgramSizes.{prog_size}
+use Rattle.while_lang.specs.NamedProgs.{ProgParts}
+use Rattle.while_lang.specs.BlockActions.{BlockActions}
+
+-- nodes and levels of nesting of statements, which are no test; both stop past their limits
+abbrev pub extent : ℕ → ℕ → Extent
+extent nodes nesting = limited nodes 0 nesting
+
+-- statements so far, and then one node with something below it
+abbrev pub with_node : Extent → Extent → Extent
+with_node m n = extent (m.nodes + n.nodes + 1) (max m.nesting n.nesting)
+
+-- two parts side by side
+abbrev pub beside : Extent → Extent → Extent
+beside m n = extent (m.nodes + n.nodes) (max m.nesting n.nesting)
+
+-- one level deeper
+abbrev pub deeper : Extent → Extent
+deeper m = extent m.nodes (m.nesting + 1)
+
+-- a program of the file as a statement, where it may stand
+abbrev pub spliced_extent : ℕ → ℕ → Option ProgParts → Extent → Result Extent TextFault
+spliced_extent d at None m = Ok m
+spliced_extent d at (Some p) m = if nat_lt 200 (d + p.nesting) then Err (TooDeep at) else Ok (beside m (extent (prog_size p.tree) p.nesting))
+
+-- a name as a statement
+abbrev pub named_extent : List ProgParts → ℕ → ℕ → Option Meaning → Extent → Result Extent TextFault
+named_extent ps d at None m = Err (UnknownName at)
+named_extent ps d at (Some (Action a)) m = Ok (with_node m (extent 0 0))
+named_extent ps d at (Some (Prog i)) m = spliced_extent d at (slice_get ps i) m
+named_extent ps d at (Some n) m = Err (Sort at)
+
+-- a name before `:=`
+abbrev pub check_target : ℕ → Option Meaning → Result (Unit {0}) TextFault
+check_target at None = Err (UnknownName at)
+check_target at (Some (Var k)) = Ok tt
+check_target at (Some m) = Err (Sort at)
+
+abbrev pub block_extents : ScopeParts → List ProgParts → BlockActions Extent Extent Extent Extent Extent Extent
+block_extents w ps = record {
+  phrases = extents w;
+  none = extent 0 0;
+  skip = λ m. with_node m (extent 0 0);
+  abort = λ m. with_node m (extent 0 0);
+  assert = with_node;
+  named = λ d at name m. named_extent ps d at (meaning w name) m;
+  target = λ at name. check_target at (meaning w name);
+  assign = λ m name e. with_node m (extent (compared_nodes e.nodes) e.nesting);
+  branch = λ m b p q. with_node m (beside b (beside p q));
+  turn = λ m b p. with_node m (beside b p);
+  braced = deeper;
+  chained = deeper;
+}

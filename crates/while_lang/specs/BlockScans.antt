@@ -1,0 +1,34 @@
+-- The test of the syntax of a block: where it ends, or its first fault.
+use Rattle.std.specs.Prelude.{◌≡◌, ◌↔◌, ℕ, List, Result, Ok}
+use Rattle.kat_tokens.specs.declared.fault.TextFault.{TextFault}
+use Rattle.kat_syntax.specs.Lexemes.{Lexeme}
+use Rattle.kat_syntax.specs.Parsed.{◌>>=◌}
+use Rattle.kat_syntax.specs.Scans.{scanning}
+use Rattle.while_lang.specs.BlockActions.{BlockActions}
+use Rattle.while_lang.specs.Blocks.{block, parse_block}
+use Rattle.while_lang.specs.BlockPhrases.{block as block_symbol, IsBlockPhrase}
+
+-- nothing is made, and no part is refused
+abbrev pub scanning_blocks : BlockActions (Unit {0}) (Unit {0}) (Unit {0}) (Unit {0}) (Unit {0}) (Unit {0})
+scanning_blocks = record {
+  phrases = scanning;
+  none = tt;
+  skip = λ s. tt;
+  abort = λ s. tt;
+  assert = λ s b. tt;
+  named = λ d at name s. Ok tt;
+  target = λ at name. Ok tt;
+  assign = λ s name e. tt;
+  branch = λ s b p q. tt;
+  turn = λ s b p. tt;
+  braced = λ s. tt;
+  chained = λ s. tt;
+}
+
+-- where the block at the front ends, with so many constructs open around it
+abbrev pub scan_block : ℕ → List Lexeme → Result (List Lexeme) TextFault
+scan_block d ts = parse_block scanning_blocks block d ts >>= λ x. Ok x.1
+
+-- the test takes blocks, and no other tokens
+abbrev pub TakesBlocks : Type 0
+TakesBlocks = (d : ℕ) (ts rest : List Lexeme) → (scan_block d ts ≡ Ok rest) ↔ IsBlockPhrase block_symbol d ts rest

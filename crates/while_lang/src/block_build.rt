@@ -1,0 +1,226 @@
+//! The tree of a block.
+ghost use Rattle.std.specs.Prelude.{◌≡◌, ◌++◌, map, length, drop, slice_get, OnOk, IfOk};
+ghost use Rattle.kat_syntax.specs.Lexemes.{lexemes};
+ghost use Rattle.kat_syntax.specs.Parsed.{Reads, Goes};
+ghost use Rattle.while_lang.specs.Programs.{stmts_of};
+ghost use Rattle.while_lang.specs.ProgramViews.{stmt_tree};
+ghost use Rattle.while_lang.specs.NamedProgs.{parts_of_progs};
+ghost use Rattle.while_lang.specs.BlockBuilding.{spliced, named_stmts, target_var, block_trees};
+ghost use Rattle.while_lang.specs.BlockReadings.{built_block};
+
+use crate::block_reading::BlockReading;
+use crate::blocks;
+use crate::named::NamedProg;
+use crate::prog::{Prog, Stmt, push_stmt};
+use kat_model::{Cond, Expr, NoMemory};
+use kat_text::{Meaning, Scope};
+use kat_tokens::{TextFault, Token};
+use std::alloc::Global;
+
+// Builds the tree of a block that was measured before.
+#[derive(Clone, Copy)]
+struct BlockBuild<'a> {
+    alloc: Global,
+    scope: &'a Scope,
+    progs: &'a [NamedProg],
+}
+
+// Statements moved to the end of a list.
+fn append(list: &mut Vec<Stmt>, more: Vec<Stmt>) -> Result<(), NoMemory>
+    ensures { OnOk result (map stmt_tree list.new.items ≡ map stmt_tree list.old.items ++ map stmt_tree more.items) }
+{
+    for stmt in more {
+        push_stmt(list, stmt)?;
+    }
+    Ok(())
+}
+
+// Copies of the statements of a program.
+#[tactic(auto, using(crate::proofs::ProgramLists::listed_stmts))]
+fn copy_stmts(alloc: Global, prog: &Prog) -> Result<Vec<Stmt>, NoMemory>
+    ensures { IfOk result (λ list. map stmt_tree list.items ≡ stmts_of prog.now) }
+{
+    let Prog { list } = prog.copy(alloc)?;
+    Ok(list)
+}
+
+// So with a program by its number; none where there is no such program.
+fn copy_numbered(alloc: Global, progs: &[NamedProg], i: usize) -> Result<Vec<Stmt>, NoMemory>
+    ensures { IfOk result (λ list. map stmt_tree list.items ≡ spliced (slice_get (parts_of_progs progs.now) i)) }
+{
+    let Some(named) = progs.get(i) else {
+        return Ok(Vec::new(alloc));
+    };
+    copy_stmts(alloc, &named.prog)
+}
+
+fn push_named(
+    alloc: Global,
+    progs: &[NamedProg],
+    meaning: Option<Meaning>,
+    list: &mut Vec<Stmt>,
+) -> Result<(), NoMemory>
+    ensures { OnOk result (map stmt_tree list.new.items ≡ map stmt_tree list.old.items ++ named_stmts (parts_of_progs progs.now) meaning) }
+{
+    match meaning {
+        Some(Meaning::Action(a)) => push_stmt(list, Stmt::Act(a)),
+        Some(Meaning::Prog(i)) => append(list, copy_numbered(alloc, progs, i)?),
+        _ => Ok(()),
+    }
+}
+
+fn target_var(meaning: Option<Meaning>) -> usize
+    ensures { result ≡ target_var meaning }
+{
+    match meaning {
+        Some(Meaning::Var(k)) => k,
+        _ => 0,
+    }
+}
+
+impl BlockReading for BlockBuild<'_> {
+    type Expr = Expr;
+
+    type Cond = Cond;
+
+    type Stmts = Vec<Stmt>;
+
+    ghost use Rattle.std.specs.Prelude.{List};
+    ghost use Rattle.kat_model.specs.Trees.{Term};
+    ghost use Rattle.kat_model.specs.Expressions.{ExprTree, CondTree, expr_tree, cond_tree};
+    ghost use Rattle.while_lang.specs.Programs.{StmtTree};
+
+    ghost E = { ExprTree };
+
+    ghost B = { CondTree };
+
+    ghost L = { List CondTree };
+
+    ghost T = { Term };
+
+    ghost M = { List Term };
+
+    ghost S = { List StmtTree };
+
+    ghost memory = { Unit {0} };
+
+    ghost expr = { expr_tree };
+
+    ghost cond = { cond_tree };
+
+    ghost stmts = { λ list. map stmt_tree list.items };
+
+    ghost actions = { λ s. block_trees s.scope.now (parts_of_progs s.progs.now) };
+
+    fn read_expr(
+        &self,
+        toks: &[Token],
+        from: usize,
+        depth: usize,
+    ) -> Result<(Expr, usize), TextFault> {
+        kat_text::build_expr(self.alloc, toks, from, depth, self.scope)
+    }
+
+    fn read_cond(
+        &self,
+        toks: &[Token],
+        from: usize,
+        depth: usize,
+    ) -> Result<(Cond, usize), TextFault> {
+        kat_text::build_cond(self.alloc, toks, from, depth, self.scope, true)
+    }
+
+    fn none(&self) -> Vec<Stmt> {
+        Vec::new(self.alloc)
+    }
+
+    fn skip(&self, mut list: Vec<Stmt>) -> Result<Vec<Stmt>, TextFault> {
+        push_stmt(&mut list, Stmt::Skip)?;
+        Ok(list)
+    }
+
+    fn abort(&self, mut list: Vec<Stmt>) -> Result<Vec<Stmt>, TextFault> {
+        push_stmt(&mut list, Stmt::Abort)?;
+        Ok(list)
+    }
+
+    fn assert(&self, mut list: Vec<Stmt>, cond: Cond) -> Result<Vec<Stmt>, TextFault> {
+        push_stmt(&mut list, Stmt::Assert(cond))?;
+        Ok(list)
+    }
+
+    fn named(
+        &self,
+        _: usize,
+        _: usize,
+        name: &str,
+        mut list: Vec<Stmt>,
+    ) -> Result<Vec<Stmt>, TextFault> {
+        push_named(self.alloc, self.progs, self.scope.find(name), &mut list)?;
+        Ok(list)
+    }
+
+    fn check_target(&self, _: usize, _: &str) -> Result<(), TextFault> {
+        Ok(())
+    }
+
+    fn assign(&self, mut list: Vec<Stmt>, name: &str, expr: Expr) -> Result<Vec<Stmt>, TextFault> {
+        let var = target_var(self.scope.find(name));
+        push_stmt(&mut list, Stmt::Assign(var, expr))?;
+        Ok(list)
+    }
+
+    fn branch(
+        &self,
+        mut list: Vec<Stmt>,
+        cond: Cond,
+        first: Vec<Stmt>,
+        second: Vec<Stmt>,
+    ) -> Result<Vec<Stmt>, TextFault> {
+        let first = Prog { list: first };
+        let second = Prog { list: second };
+        push_stmt(&mut list, Stmt::If(cond, first, second))?;
+        Ok(list)
+    }
+
+    fn turn(
+        &self,
+        mut list: Vec<Stmt>,
+        cond: Cond,
+        body: Vec<Stmt>,
+    ) -> Result<Vec<Stmt>, TextFault> {
+        push_stmt(&mut list, Stmt::While(cond, Prog { list: body }))?;
+        Ok(list)
+    }
+
+    fn braced(&self, list: Vec<Stmt>) -> Vec<Stmt> {
+        list
+    }
+
+    fn chained(&self, list: Vec<Stmt>) -> Vec<Stmt> {
+        list
+    }
+}
+
+/// The program of the block that begins at `from`, with `depth` constructs open around it and the programs that it names
+/// spliced in, and the index after it. What [`crate::measure_block`] refuses need not be refused; the size of the tree is
+/// what it told.
+pub fn build_block(
+    alloc: Global,
+    toks: &[Token],
+    from: usize,
+    depth: usize,
+    scope: &Scope,
+    progs: &[NamedProg],
+) -> Result<(Prog, usize), TextFault>
+    ensures value { Reads (Unit {0}) (λ p. p) (lexemes toks.now) result (built_block scope.now (parts_of_progs progs.now) depth (drop from (lexemes toks.now))) }
+    ensures goes { Goes from (length toks.now) result }
+{
+    let build = BlockBuild {
+        alloc,
+        scope,
+        progs,
+    };
+    let (list, end) = blocks::read_block(&build, toks, from, depth)?;
+    Ok((Prog { list }, end))
+}

@@ -1,0 +1,38 @@
+//! Blocks read in a scope.
+ghost use Rattle.std.specs.Prelude.{◌≡◌, ◌<◌, ◌≤◌, length, drop, IfOk};
+ghost use Rattle.kat_syntax.specs.Lexemes.{lexemes};
+ghost use Rattle.kat_text.specs.Readings.{Answers};
+ghost use Rattle.while_lang.specs.NamedProgs.{parts_of_progs};
+ghost use Rattle.while_lang.specs.BlockReadings.{block_at};
+
+use crate::block_build::build_block;
+use crate::block_measure::measure_block;
+use crate::named::NamedProg;
+use crate::prog::Prog;
+use kat_model::MAX_TERM_NODES;
+use kat_syntax::place_at;
+use kat_text::Scope;
+use kat_tokens::{TextFault, Token};
+use std::alloc::Global;
+
+/// The block that begins at `from`, with nothing open around it: its program, with the programs that it names spliced in,
+/// the index after it, and its nesting. Or the first fault of its syntax or its names in text order (`UnknownName`, `Sort`,
+/// or `TooDeep` through the name of a program, each at its token), or, where no token has one, `TooLarge` past 100,000
+/// nodes or for an expression of more than 1,000, at the first token. Program i of the scope is `progs[i]`.
+pub fn read_block(
+    alloc: Global,
+    toks: &[Token],
+    from: usize,
+    scope: &Scope,
+    progs: &[NamedProg],
+) -> Result<(Prog, usize, usize), TextFault>
+    ensures value { Answers (λ p. p) (lexemes toks.now) result (block_at scope.now (parts_of_progs progs.now) 0 (drop from (lexemes toks.now))) }
+    ensures goes { IfOk result (λ x. (from < x.1) × (x.1 ≤ length toks.now)) }
+{
+    let (extent, _) = measure_block(toks, from, 0, scope, progs)?;
+    if extent.nodes > MAX_TERM_NODES {
+        return Err(TextFault::TooLarge(place_at(toks, from)));
+    }
+    let (prog, end) = build_block(alloc, toks, from, 0, scope, progs)?;
+    Ok((prog, end, extent.nesting))
+}

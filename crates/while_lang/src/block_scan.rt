@@ -1,0 +1,113 @@
+//! The test of the syntax of blocks, which takes no memory.
+ghost use Rattle.std.specs.Prelude.{◌≡◌, ◌<◌, ◌≤◌, length, drop, IfOk, IfErr};
+ghost use Rattle.kat_syntax.specs.Lexemes.{lexemes};
+ghost use Rattle.kat_syntax.specs.Parsed.{Wants};
+ghost use Rattle.while_lang.specs.BlockScans.{scanning_blocks, scan_block};
+ghost use Rattle.while_lang.specs.BlockFaults.{IsBlockFault};
+
+use crate::block_reading::BlockReading;
+use crate::blocks::read_block;
+use kat_syntax::{Context, Scan};
+use kat_tokens::{TextFault, Token};
+
+// Makes nothing of a block, and refuses no part.
+struct BlockScan;
+
+impl BlockReading for BlockScan {
+    type Expr = ();
+
+    type Cond = ();
+
+    type Stmts = ();
+
+    ghost E = { Unit {0} };
+
+    ghost B = { Unit {0} };
+
+    ghost L = { Unit {0} };
+
+    ghost T = { Unit {0} };
+
+    ghost M = { Unit {0} };
+
+    ghost S = { Unit {0} };
+
+    ghost memory = { ⊥ };
+
+    ghost expr = { λ e. tt };
+
+    ghost cond = { λ b. tt };
+
+    ghost stmts = { λ s. tt };
+
+    ghost actions = { λ s. scanning_blocks };
+
+    fn read_expr(
+        &self,
+        toks: &[Token],
+        from: usize,
+        depth: usize,
+    ) -> Result<((), usize), TextFault> {
+        kat_syntax::read_expr(&Scan, toks, from, Context::outermost(depth, true))
+    }
+
+    fn read_cond(
+        &self,
+        toks: &[Token],
+        from: usize,
+        depth: usize,
+    ) -> Result<((), usize), TextFault> {
+        kat_syntax::read_cond(&Scan, toks, from, Context::outermost(depth, true))
+    }
+
+    fn none(&self) {}
+
+    fn skip(&self, _: ()) -> Result<(), TextFault> {
+        Ok(())
+    }
+
+    fn abort(&self, _: ()) -> Result<(), TextFault> {
+        Ok(())
+    }
+
+    fn assert(&self, _: (), _: ()) -> Result<(), TextFault> {
+        Ok(())
+    }
+
+    fn named(&self, _: usize, _: usize, _: &str, _: ()) -> Result<(), TextFault> {
+        Ok(())
+    }
+
+    fn check_target(&self, _: usize, _: &str) -> Result<(), TextFault> {
+        Ok(())
+    }
+
+    fn assign(&self, _: (), _: &str, _: ()) -> Result<(), TextFault> {
+        Ok(())
+    }
+
+    fn branch(&self, _: (), _: (), _: (), _: ()) -> Result<(), TextFault> {
+        Ok(())
+    }
+
+    fn turn(&self, _: (), _: (), _: ()) -> Result<(), TextFault> {
+        Ok(())
+    }
+
+    fn braced(&self, _: ()) {}
+
+    fn chained(&self, _: ()) {}
+}
+
+/// The index after the block that begins at `from`, with `depth` constructs open around it; or `Syntax`, `TooDeep` or
+/// `NumberTooWide`, whichever is met first, with the place in bytes of its token. A `Syntax` after the last token has the
+/// place `usize::MAX`. Each `else if` is one construct until its chain ends, and its `if` is the token of a `TooDeep`. It
+/// takes no memory.
+pub fn block_end(toks: &[Token], from: usize, depth: usize) -> Result<usize, TextFault>
+    ensures value { Wants (lexemes toks.now) result (scan_block depth (drop from (lexemes toks.now))) }
+    ensures goes { IfOk result (λ end. (from < end) × (end ≤ length toks.now)) }
+    ensures fault { IfErr result (λ fault. IsBlockFault (drop from (lexemes toks.now)) fault) }
+{
+    let (_, end) = read_block(&BlockScan, toks, from, depth)?;
+    Ok(end)
+}

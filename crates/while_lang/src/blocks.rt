@@ -1,0 +1,205 @@
+//! Blocks of statements, gone through once for any reading.
+ghost use Rattle.std.specs.Prelude.{◌≡◌, ℕ, ◌+◌, ◌<◌, ◌≤◌, length, drop, IfOk};
+ghost use Rattle.kat_syntax.specs.Lexemes.{lexemes, text_at, is_terminal};
+ghost use Rattle.kat_syntax.specs.Parsed.{Reads, Goes, Wants, wants};
+ghost use Rattle.while_lang.specs.Blocks.{enter, block, stmts_after, stmt_after, branch_after, parse_block};
+ghost use Rattle.while_lang.specs.Blocks.{assign_by, named_by, else_by};
+
+use crate::block_reading::BlockReading;
+use kat_model::MAX_OPEN;
+use kat_syntax::{
+    Keyword, Separator, Terminal, expect, is_at, place_at, syntax_fault_at, terminal_at, text_at,
+};
+use kat_tokens::{TextFault, Token};
+
+// One construct more is open, from the token at the place on; `TooDeep` with that place where 200 or more are open.
+fn enter(depth: usize, at: usize) -> Result<usize, TextFault>
+    ensures { result ≡ enter depth at }
+{
+    if depth >= MAX_OPEN {
+        return Err(TextFault::TooDeep(at));
+    }
+    Ok(depth + 1)
+}
+
+// Reads the block that begins at `from`, with `depth` constructs open around it: what the reading makes of it, and the
+// index after it. Otherwise the fault that comes first in the text: `Syntax` at the token that cannot stand there (the
+// place `usize::MAX` after the last token), `TooDeep` at the token with which more than 200 constructs are open,
+// `NumberTooWide` at a number of 2^64 or more, or that with which the reading refuses a part.
+#[cycle(blocks)]
+#[tactic(auto, using(crate::proofs::BlockSteps::block_step, kat_syntax::proofs::Tokens::next_drop))]
+pub(crate) fn read_block<R: BlockReading>(
+    reading: &R,
+    toks: &[Token],
+    from: usize,
+    depth: usize,
+) -> Result<(R::Stmts, usize), TextFault>
+    ensures value { Reads R.memory R.stmts (lexemes toks.now) result (parse_block (R.actions reading.now) block depth (drop from (lexemes toks.now))) }
+    ensures goes { Goes from (length toks.now) result }
+{
+    let next = expect(toks, from, Terminal::Separator(Separator::CurlyOpen))?;
+    let inside = enter(depth, place_at(toks, from))?;
+    let (list, end) = stmts(reading, toks, next, inside)?;
+    Ok((reading.braced(list), end))
+}
+
+// Statements up to a closing brace, and the index after it.
+#[cycle(blocks)]
+#[tactic(auto, using(crate::proofs::BlockSteps::block_step, kat_syntax::proofs::Tokens::next_drop))]
+fn stmts<R: BlockReading>(
+    reading: &R,
+    toks: &[Token],
+    from: usize,
+    depth: usize,
+) -> Result<(R::Stmts, usize), TextFault>
+    ensures value { Reads R.memory R.stmts (lexemes toks.now) result (parse_block (R.actions reading.now) (stmts_after (R.actions reading.now).none) depth (drop from (lexemes toks.now))) }
+    ensures goes { Goes from (length toks.now) result }
+{
+    let mut list = reading.none();
+    let mut at = from;
+    'stmts: while !is_at(toks, at, Terminal::Separator(Separator::CurlyClose)) {
+        let (more, next) = stmt(reading, toks, at, depth, list)?;
+        list = more;
+        at = next;
+    }
+    Ok((list, at + 1))
+}
+
+// A statement after those of a list.
+#[cycle(blocks)]
+#[tactic(auto, using(crate::proofs::BlockSteps::block_step, kat_syntax::proofs::Tokens::next_drop))]
+fn stmt<R: BlockReading>(
+    reading: &R,
+    toks: &[Token],
+    from: usize,
+    depth: usize,
+    list: R::Stmts,
+) -> Result<(R::Stmts, usize), TextFault>
+    ensures value { Reads R.memory R.stmts (lexemes toks.now) result (parse_block (R.actions reading.now) (stmt_after (R.stmts list)) depth (drop from (lexemes toks.now))) }
+    ensures goes { Goes from (length toks.now) result }
+{
+    let Some((terminal, at)) = terminal_at(toks, from) else {
+        return Err(syntax_fault_at(toks, from));
+    };
+    match terminal {
+        Terminal::Keyword(Keyword::Skip) => {
+            let list = reading.skip(list)?;
+            Ok((list, semicolon(toks, from + 1)?))
+        }
+        Terminal::Keyword(Keyword::Abort) => {
+            let list = reading.abort(list)?;
+            Ok((list, semicolon(toks, from + 1)?))
+        }
+        Terminal::Keyword(Keyword::Assert) => {
+            let (cond, end) = reading.read_cond(toks, from + 1, depth)?;
+            let end = semicolon(toks, end)?;
+            Ok((reading.assert(list, cond)?, end))
+        }
+        Terminal::Keyword(Keyword::If) => branch(reading, toks, from + 1, depth, list),
+        Terminal::Keyword(Keyword::While) => {
+            let (cond, end) = reading.read_cond(toks, from + 1, depth)?;
+            let (body, end) = read_block(reading, toks, end, depth)?;
+            Ok((reading.turn(list, cond, body)?, end))
+        }
+        Terminal::Name => named(
+            reading,
+            toks,
+            from + 1,
+            depth,
+            list,
+            at,
+            text_at(toks, from),
+        ),
+        _ => Err(TextFault::Syntax(at)),
+    }
+}
+
+fn semicolon(toks: &[Token], i: usize) -> Result<usize, TextFault>
+    ensures value { Wants (lexemes toks.now) result (wants (is_terminal (Terminal.Separator Separator.Semicolon)) (drop i (lexemes toks.now))) }
+    ensures goes { IfOk result (λ end. (end ≡ i + 1) × (i < length toks.now)) }
+{
+    expect(toks, i, Terminal::Separator(Separator::Semicolon))
+}
+
+// A statement that begins with a name, from the token after it on.
+#[tactic(auto, using(kat_syntax::proofs::Tokens::next_drop))]
+fn named<R: BlockReading>(
+    reading: &R,
+    toks: &[Token],
+    from: usize,
+    depth: usize,
+    list: R::Stmts,
+    at: usize,
+    name: &str,
+) -> Result<(R::Stmts, usize), TextFault>
+    ensures value { Reads R.memory R.stmts (lexemes toks.now) result (named_by (R.actions reading.now) (R.stmts list) depth at name.now (drop from (lexemes toks.now))) }
+    ensures goes { Goes from (length toks.now) result }
+{
+    if is_at(toks, from, Terminal::Separator(Separator::Becomes)) {
+        return assignment(reading, toks, from + 1, depth, list, at, name);
+    }
+    let list = reading.named(depth, at, name, list)?;
+    Ok((list, semicolon(toks, from)?))
+}
+
+// An assignment to the name, from the token after `:=` on.
+fn assignment<R: BlockReading>(
+    reading: &R,
+    toks: &[Token],
+    from: usize,
+    depth: usize,
+    list: R::Stmts,
+    at: usize,
+    name: &str,
+) -> Result<(R::Stmts, usize), TextFault>
+    ensures value { Reads R.memory R.stmts (lexemes toks.now) result (assign_by (R.actions reading.now) (R.stmts list) depth at name.now (drop from (lexemes toks.now))) }
+    ensures goes { Goes from (length toks.now) result }
+{
+    reading.check_target(at, name)?;
+    let (expr, end) = reading.read_expr(toks, from, depth)?;
+    let end = semicolon(toks, end)?;
+    Ok((reading.assign(list, name, expr)?, end))
+}
+
+// A statement from its `if` on, after those of a list.
+#[cycle(blocks)]
+#[tactic(auto, using(crate::proofs::BlockSteps::block_step, kat_syntax::proofs::Tokens::next_drop))]
+fn branch<R: BlockReading>(
+    reading: &R,
+    toks: &[Token],
+    from: usize,
+    depth: usize,
+    list: R::Stmts,
+) -> Result<(R::Stmts, usize), TextFault>
+    ensures value { Reads R.memory R.stmts (lexemes toks.now) result (parse_block (R.actions reading.now) (branch_after (R.stmts list)) depth (drop from (lexemes toks.now))) }
+    ensures goes { Goes from (length toks.now) result }
+{
+    let (cond, end) = reading.read_cond(toks, from, depth)?;
+    let (first, end) = read_block(reading, toks, end, depth)?;
+    let (second, end) = otherwise(reading, toks, end, depth)?;
+    Ok((reading.branch(list, cond, first, second)?, end))
+}
+
+// The second block of an `if`, and the index after it.
+#[cycle(blocks)]
+#[tactic(auto, using(kat_syntax::proofs::Tokens::next_drop))]
+fn otherwise<R: BlockReading>(
+    reading: &R,
+    toks: &[Token],
+    from: usize,
+    depth: usize,
+) -> Result<(R::Stmts, usize), TextFault>
+    ensures value { Reads R.memory R.stmts (lexemes toks.now) result (else_by (R.actions reading.now) (parse_block (R.actions reading.now)) depth (drop from (lexemes toks.now))) }
+    ensures goes { IfOk result (λ x. from ≤ x.1) }
+    ensures within { from ≤ length toks.now → IfOk result (λ x. x.1 ≤ length toks.now) }
+{
+    if !is_at(toks, from, Terminal::Keyword(Keyword::Else)) {
+        return Ok((reading.none(), from));
+    }
+    if !is_at(toks, from + 1, Terminal::Keyword(Keyword::If)) {
+        return read_block(reading, toks, from + 1, depth);
+    }
+    let inside = enter(depth, place_at(toks, from + 1))?;
+    let (list, end) = branch(reading, toks, from + 2, inside, reading.none())?;
+    Ok((reading.chained(list), end))
+}

@@ -1,0 +1,37 @@
+//! While programs: their texts, their runs on stores, and their terms.
+#![tactic(auto)]
+
+mod block_build;
+mod block_laws;
+mod block_measure;
+mod block_read;
+mod block_reading;
+mod block_scan;
+mod blocks;
+mod equality;
+mod flow;
+mod laws;
+mod named;
+mod outcome;
+mod print;
+mod prog;
+mod runs;
+mod size;
+mod store;
+
+pub use block_build::build_block;
+pub use block_laws::{
+    block_measures_are_of_trees, blocks_are_folded, blocks_are_scanned, printed_programs_read_back,
+    sound_blocks_are_measured,
+};
+pub use block_measure::measure_block;
+pub use block_read::read_block;
+pub use block_scan::block_end;
+pub use flow::{Flow, Flows, encode};
+pub use laws::{flows_are_guarded, loops_unfold, runs_have_one_end};
+pub use named::NamedProg;
+pub use outcome::Outcome;
+pub use print::print_prog;
+pub use prog::{Prog, Stmt};
+pub use runs::run;
+pub use store::Store;

@@ -1,0 +1,43 @@
+//! Programs that have a name, which later programs may use.
+ghost use Rattle.std.specs.Prelude.{◌≡◌};
+ghost use Rattle.kat_text.specs.Sizes.{capped};
+ghost use Rattle.while_lang.specs.ProgramSizes.{prog_size};
+
+use crate::prog::Prog;
+use crate::size::prog_size;
+use kat_model::{Items, MAX_TERM_NODES};
+
+/// A program of a file, its name, and the nesting of the block that defines it, its own braces included. Its size is
+/// counted once, when it is made.
+#[derive(Drop)]
+pub struct NamedProg {
+    pub name: Items<u8>,
+    pub prog: Prog,
+    pub nesting: usize,
+    size: u64,
+    ghost measured: { size ≡ capped (prog_size prog) },
+}
+
+impl NamedProg {
+    /// The program of that name.
+    pub fn new(name: Items<u8>, prog: Prog, nesting: usize) -> NamedProg
+        ensures name { result.name ≡ name }
+        ensures prog { result.prog ≡ prog }
+        ensures nesting { result.nesting ≡ nesting }
+    {
+        let size = prog_size(&prog).min(MAX_TERM_NODES + 1);
+        NamedProg {
+            name,
+            prog,
+            nesting,
+            size,
+        }
+    }
+
+    /// The number of nodes of the program, which stops one past 100,000.
+    pub fn size(&self) -> u64
+        ensures { result ≡ capped (prog_size self.now.prog) }
+    {
+        self.size
+    }
+}

@@ -1,0 +1,123 @@
+//! The text of programs.
+ghost use Rattle.std.specs.Prelude.{◌≡◌, [], ◌++◌, OnOk, IfOk};
+ghost use Rattle.kat_model.specs.Expressions.{expr_tree, cond_tree};
+ghost use Rattle.kat_tokens.specs.Pieces.{spelled};
+ghost use Rattle.kat_print.specs.Printing.{name_of, expr_text, cond_text};
+ghost use Rattle.while_lang.specs.ProgramViews.{stmt_tree};
+ghost use Rattle.while_lang.specs.ProgramPrinting.{block_pieces};
+ghost use Rattle.while_lang.specs.Working.ProgramTexts.{stmt_text, stmts_text};
+
+use crate::prog::{Prog, Stmt};
+use kat_model::{Cond, Expr, NoMemory};
+use kat_print::{print_cond, print_expr};
+use kat_text::{Meaning, Scope};
+use std::alloc::Global;
+
+fn put(out: &mut Vec<u8>, text: &[u8]) -> Result<(), NoMemory>
+    ensures { OnOk result (out.new.items ≡ out.old.items ++ text.now) }
+{
+    out.extend_from_slice(text)?;
+    Ok(())
+}
+
+// The name that stands for it, or no text where none does.
+#[tactic(auto, using(kat_print::proofs::NameOf::name_is, kat_print::proofs::NameOf::no_name))]
+fn name_of(scope: &Scope, meaning: Meaning) -> &str
+    ensures { result.now ≡ name_of scope.now meaning }
+{
+    match scope.name(meaning) {
+        Some(name) => name,
+        None => "",
+    }
+}
+
+fn put_name(out: &mut Vec<u8>, scope: &Scope, meaning: Meaning) -> Result<(), NoMemory>
+    ensures { OnOk result (out.new.items ≡ out.old.items ++ name_of scope.now meaning) }
+{
+    put(out, name_of(scope, meaning).as_bytes())
+}
+
+#[tactic(auto, using(crate::proofs::ProgramPieces::cond_whole))]
+fn put_cond(alloc: Global, out: &mut Vec<u8>, cond: &Cond, scope: &Scope) -> Result<(), NoMemory>
+    ensures { OnOk result (out.new.items ≡ out.old.items ++ cond_text (name_of scope.now) (cond_tree cond.now)) }
+{
+    let text = print_cond(alloc, cond, scope)?;
+    put(out, &text)
+}
+
+#[tactic(auto, using(crate::proofs::ProgramPieces::expr_whole))]
+fn put_expr(alloc: Global, out: &mut Vec<u8>, expr: &Expr, scope: &Scope) -> Result<(), NoMemory>
+    ensures { OnOk result (out.new.items ≡ out.old.items ++ expr_text (name_of scope.now) (expr_tree expr.now)) }
+{
+    let text = print_expr(alloc, expr, scope)?;
+    put(out, &text)
+}
+
+// A statement after a blank.
+#[cycle(prints)]
+fn put_stmt(alloc: Global, out: &mut Vec<u8>, stmt: &Stmt, scope: &Scope) -> Result<(), NoMemory>
+    ensures { OnOk result (out.new.items ≡ out.old.items ++ stmt_text (name_of scope.now) (stmt_tree stmt.now)) }
+{
+    match stmt {
+        Stmt::Skip => put(out, b" skip;"),
+        Stmt::Abort => put(out, b" abort;"),
+        Stmt::Assert(b) => {
+            put(out, b" assert ")?;
+            put_cond(alloc, out, b, scope)?;
+            put(out, b";")
+        }
+        Stmt::Act(a) => {
+            put(out, b" ")?;
+            put_name(out, scope, Meaning::Action(*a))?;
+            put(out, b";")
+        }
+        Stmt::Assign(x, e) => {
+            put(out, b" ")?;
+            put_name(out, scope, Meaning::Var(*x))?;
+            put(out, b" := ")?;
+            put_expr(alloc, out, e, scope)?;
+            put(out, b";")
+        }
+        Stmt::If(b, p, q) => {
+            put(out, b" if ")?;
+            put_cond(alloc, out, b, scope)?;
+            put(out, b" {")?;
+            put_stmts(alloc, out, p, scope)?;
+            put(out, b" } else {")?;
+            put_stmts(alloc, out, q, scope)?;
+            put(out, b" }")
+        }
+        Stmt::While(b, p) => {
+            put(out, b" while ")?;
+            put_cond(alloc, out, b, scope)?;
+            put(out, b" {")?;
+            put_stmts(alloc, out, p, scope)?;
+            put(out, b" }")
+        }
+    }
+}
+
+// The statements of a program, each after a blank.
+#[cycle(prints)]
+fn put_stmts(alloc: Global, out: &mut Vec<u8>, prog: &Prog, scope: &Scope) -> Result<(), NoMemory>
+    ensures { OnOk result (out.new.items ≡ out.old.items ++ stmts_text (name_of scope.now) prog.now) }
+{
+    for stmt in &prog.list {
+        put_stmt(alloc, out, stmt, scope)?;
+    }
+    Ok(())
+}
+
+/// The text of a program as a block: `{`, each statement after a blank, and ` }`. Statements are `skip;`, `abort;`,
+/// `assert c;`, the name of an action, `x := e;`, `if c BLOCK else BLOCK` and `while c BLOCK`; the second block is always
+/// written. A number that no name of the scope stands for is left out.
+#[tactic(auto, using(crate::proofs::ProgramPieces::block_printed))]
+pub fn print_prog(alloc: Global, prog: &Prog, scope: &Scope) -> Result<Vec<u8>, NoMemory>
+    ensures { IfOk result (λ v. v.items ≡ spelled (block_pieces (name_of scope.now) prog.now [])) }
+{
+    let mut out = Vec::new(alloc);
+    put(&mut out, b"{")?;
+    put_stmts(alloc, &mut out, prog, scope)?;
+    put(&mut out, b" }")?;
+    Ok(out)
+}
