@@ -1,9 +1,9 @@
 //! Expressions over the variables of a store, and conditions on them.
 ghost use Rattle.std.specs.Prelude.{◌≡◌, IfOk};
 ghost use Rattle.kat_model.specs.Trees.{test_tree};
-ghost use Rattle.kat_model.specs.Expressions.{plus, minus, times, negation, both, either, expr_tree, cond_tree, has_comparison, test_without_comparisons};
+ghost use Rattle.kat_model.specs.Expressions.{plus, minus, times, compared, negation, both, either, expr_tree, cond_tree, has_comparison, test_without_comparisons};
 
-use crate::tree::{NoMemory, Test};
+use crate::tree::{NoMemory, Test, boxed_pair};
 use std::alloc::Global;
 
 /// How many bits the numbers of a store have.
@@ -54,34 +54,59 @@ impl Expr {
     pub fn new_add(alloc: Global, left: Expr, right: Expr) -> Result<Self, NoMemory>
         ensures { IfOk result (λ e. expr_tree e ≡ plus (expr_tree left) (expr_tree right)) }
     {
-        Ok(Expr::Add(Box::new(alloc, left)?, Box::new(alloc, right)?))
+        let (left, right) = boxed_pair(alloc, left, right)?;
+        Ok(Expr::Add(left, right))
     }
 
     /// `Sub` over two expressions. It fails only when out of memory, and the parts are dropped then.
     pub fn new_sub(alloc: Global, left: Expr, right: Expr) -> Result<Self, NoMemory>
         ensures { IfOk result (λ e. expr_tree e ≡ minus (expr_tree left) (expr_tree right)) }
     {
-        Ok(Expr::Sub(Box::new(alloc, left)?, Box::new(alloc, right)?))
+        let (left, right) = boxed_pair(alloc, left, right)?;
+        Ok(Expr::Sub(left, right))
     }
 
     /// `Mul` over two expressions. It fails only when out of memory, and the parts are dropped then.
     pub fn new_mul(alloc: Global, left: Expr, right: Expr) -> Result<Self, NoMemory>
         ensures { IfOk result (λ e. expr_tree e ≡ times (expr_tree left) (expr_tree right)) }
     {
-        Ok(Expr::Mul(Box::new(alloc, left)?, Box::new(alloc, right)?))
+        let (left, right) = boxed_pair(alloc, left, right)?;
+        Ok(Expr::Mul(left, right))
     }
 
     /// The same tree again. It fails only when out of memory.
+    #[cycle(copies)]
     pub fn copy(&self, alloc: Global) -> Result<Expr, NoMemory>
         ensures { IfOk result (λ e. expr_tree e ≡ expr_tree self.now) }
     {
         match self {
             Expr::Num(n) => Ok(Expr::Num(*n)),
             Expr::Var(k) => Ok(Expr::Var(*k)),
-            Expr::Add(e, f) => Expr::new_add(alloc, e.copy(alloc)?, f.copy(alloc)?),
-            Expr::Sub(e, f) => Expr::new_sub(alloc, e.copy(alloc)?, f.copy(alloc)?),
-            Expr::Mul(e, f) => Expr::new_mul(alloc, e.copy(alloc)?, f.copy(alloc)?),
+            Expr::Add(e, f) => {
+                let (left, right) = Expr::boxed_copies(alloc, e, f)?;
+                Ok(Expr::Add(left, right))
+            }
+            Expr::Sub(e, f) => {
+                let (left, right) = Expr::boxed_copies(alloc, e, f)?;
+                Ok(Expr::Sub(left, right))
+            }
+            Expr::Mul(e, f) => {
+                let (left, right) = Expr::boxed_copies(alloc, e, f)?;
+                Ok(Expr::Mul(left, right))
+            }
         }
+    }
+
+    // Copies of both, each in a box of its own.
+    #[cycle(copies)]
+    fn boxed_copies(
+        alloc: Global,
+        left: &Expr,
+        right: &Expr,
+    ) -> Result<(Box<Expr>, Box<Expr>), NoMemory>
+        ensures { IfOk result (λ both. (expr_tree both.0.value ≡ expr_tree left.now) × (expr_tree both.1.value ≡ expr_tree right.now)) }
+    {
+        boxed_pair(alloc, left.copy(alloc)?, right.copy(alloc)?)
     }
 }
 
@@ -97,14 +122,16 @@ impl Cond {
     pub fn new_and(alloc: Global, left: Cond, right: Cond) -> Result<Self, NoMemory>
         ensures { IfOk result (λ b. cond_tree b ≡ both (cond_tree left) (cond_tree right)) }
     {
-        Ok(Cond::And(Box::new(alloc, left)?, Box::new(alloc, right)?))
+        let (left, right) = boxed_pair(alloc, left, right)?;
+        Ok(Cond::And(left, right))
     }
 
     /// `Or` over two conditions. It fails only when out of memory, and the parts are dropped then.
     pub fn new_or(alloc: Global, left: Cond, right: Cond) -> Result<Self, NoMemory>
         ensures { IfOk result (λ b. cond_tree b ≡ either (cond_tree left) (cond_tree right)) }
     {
-        Ok(Cond::Or(Box::new(alloc, left)?, Box::new(alloc, right)?))
+        let (left, right) = boxed_pair(alloc, left, right)?;
+        Ok(Cond::Or(left, right))
     }
 
     /// Whether a comparison occurs in the condition.
@@ -120,6 +147,7 @@ impl Cond {
     }
 
     /// The same tree again. It fails only when out of memory.
+    #[cycle(copies)]
     pub fn copy(&self, alloc: Global) -> Result<Cond, NoMemory>
         ensures { IfOk result (λ b. cond_tree b ≡ cond_tree self.now) }
     {
@@ -127,15 +155,34 @@ impl Cond {
             Cond::True => Ok(Cond::True),
             Cond::False => Ok(Cond::False),
             Cond::Test(k) => Ok(Cond::Test(*k)),
-            Cond::Compare(rel, e, f) => {
-                let left = e.copy(alloc)?;
-                let right = f.copy(alloc)?;
-                Ok(Cond::Compare(*rel, left, right))
-            }
-            Cond::Not(b) => Cond::new_not(alloc, b.copy(alloc)?),
-            Cond::And(b, c) => Cond::new_and(alloc, b.copy(alloc)?, c.copy(alloc)?),
-            Cond::Or(b, c) => Cond::new_or(alloc, b.copy(alloc)?, c.copy(alloc)?),
+            Cond::Compare(rel, e, f) => Cond::compare_copies(alloc, *rel, e, f),
+            Cond::Not(b) => Ok(Cond::Not(Cond::boxed_copy(alloc, b)?)),
+            Cond::And(b, c) => Ok(Cond::And(
+                Cond::boxed_copy(alloc, b)?,
+                Cond::boxed_copy(alloc, c)?,
+            )),
+            Cond::Or(b, c) => Ok(Cond::Or(
+                Cond::boxed_copy(alloc, b)?,
+                Cond::boxed_copy(alloc, c)?,
+            )),
         }
+    }
+
+    // A copy in a box.
+    #[cycle(copies)]
+    fn boxed_copy(alloc: Global, cond: &Cond) -> Result<Box<Cond>, NoMemory>
+        ensures { IfOk result (λ b. cond_tree b.value ≡ cond_tree cond.now) }
+    {
+        Ok(Box::new(alloc, cond.copy(alloc)?)?)
+    }
+
+    // The comparison of copies of both.
+    fn compare_copies(alloc: Global, rel: Rel, left: &Expr, right: &Expr) -> Result<Cond, NoMemory>
+        ensures { IfOk result (λ b. cond_tree b ≡ compared rel (expr_tree left.now) (expr_tree right.now)) }
+    {
+        let left = left.copy(alloc)?;
+        let right = right.copy(alloc)?;
+        Ok(Cond::Compare(rel, left, right))
     }
 }
 
@@ -144,23 +191,19 @@ impl Cond {
 pub fn test_without_comparisons(alloc: Global, cond: Cond) -> Result<Test, NoMemory>
     ensures { IfOk result (λ t. test_tree t ≡ test_without_comparisons (cond_tree cond)) }
 {
+    test_of(alloc, &cond)
+}
+
+// That test, of a condition that stays.
+fn test_of(alloc: Global, cond: &Cond) -> Result<Test, NoMemory>
+    ensures { IfOk result (λ t. test_tree t ≡ test_without_comparisons (cond_tree cond.now)) }
+{
     match cond {
         Cond::True => Ok(Test::True),
         Cond::False | Cond::Compare(_, _, _) => Ok(Test::False),
-        Cond::Test(k) => Ok(Test::Prim(k)),
-        Cond::Not(b) => {
-            let operand = test_without_comparisons(alloc, Box::into_inner(b))?;
-            Test::new_not(alloc, operand)
-        }
-        Cond::And(b, c) => {
-            let left = test_without_comparisons(alloc, Box::into_inner(b))?;
-            let right = test_without_comparisons(alloc, Box::into_inner(c))?;
-            Test::new_and(alloc, left, right)
-        }
-        Cond::Or(b, c) => {
-            let left = test_without_comparisons(alloc, Box::into_inner(b))?;
-            let right = test_without_comparisons(alloc, Box::into_inner(c))?;
-            Test::new_or(alloc, left, right)
-        }
+        Cond::Test(k) => Ok(Test::Prim(*k)),
+        Cond::Not(b) => Test::new_not(alloc, test_of(alloc, b)?),
+        Cond::And(b, c) => Test::new_and(alloc, test_of(alloc, b)?, test_of(alloc, c)?),
+        Cond::Or(b, c) => Test::new_or(alloc, test_of(alloc, b)?, test_of(alloc, c)?),
     }
 }

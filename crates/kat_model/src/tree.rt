@@ -22,6 +22,19 @@ impl<T: Drop> From<AllocFailed<T>> for NoMemory {
     }
 }
 
+// Both values in boxes of their own. Where the second gets none, the first is dropped again.
+pub(crate) fn boxed_pair<T: Drop>(
+    alloc: Global,
+    left: T,
+    right: T,
+) -> Result<(Box<T>, Box<T>), NoMemory>
+    ensures { IfOk result (λ both. (both.0.value ≡ left) × (both.1.value ≡ right)) }
+{
+    let left = Box::new(alloc, left)?;
+    let right = Box::new(alloc, right)?;
+    Ok((left, right))
+}
+
 /// A test: an element of a Boolean algebra over primitive tests, which are numbered from 0 (Kozen, *Kleene
 /// algebra with tests*, 1997).
 #[derive(Drop)]
@@ -58,14 +71,16 @@ impl Test {
     pub fn new_and(alloc: Global, left: Test, right: Test) -> Result<Self, NoMemory>
         ensures { IfOk result (λ b. test_tree b ≡ meet (test_tree left) (test_tree right)) }
     {
-        Ok(Test::And(Box::new(alloc, left)?, Box::new(alloc, right)?))
+        let (left, right) = boxed_pair(alloc, left, right)?;
+        Ok(Test::And(left, right))
     }
 
     /// `Or` over two tests. It fails only when out of memory, and the parts are dropped then.
     pub fn new_or(alloc: Global, left: Test, right: Test) -> Result<Self, NoMemory>
         ensures { IfOk result (λ b. test_tree b ≡ join (test_tree left) (test_tree right)) }
     {
-        Ok(Test::Or(Box::new(alloc, left)?, Box::new(alloc, right)?))
+        let (left, right) = boxed_pair(alloc, left, right)?;
+        Ok(Test::Or(left, right))
     }
 
     /// The same tree again. It fails only when out of memory.
@@ -114,14 +129,16 @@ impl Kat {
     pub fn new_sum(alloc: Global, left: Kat, right: Kat) -> Result<Self, NoMemory>
         ensures { IfOk result (λ e. kat_tree e ≡ sum (kat_tree left) (kat_tree right)) }
     {
-        Ok(Kat::Sum(Box::new(alloc, left)?, Box::new(alloc, right)?))
+        let (left, right) = boxed_pair(alloc, left, right)?;
+        Ok(Kat::Sum(left, right))
     }
 
     /// `Seq` over two terms. It fails only when out of memory, and the parts are dropped then.
     pub fn new_seq(alloc: Global, first: Kat, second: Kat) -> Result<Self, NoMemory>
         ensures { IfOk result (λ e. kat_tree e ≡ product (kat_tree first) (kat_tree second)) }
     {
-        Ok(Kat::Seq(Box::new(alloc, first)?, Box::new(alloc, second)?))
+        let (first, second) = boxed_pair(alloc, first, second)?;
+        Ok(Kat::Seq(first, second))
     }
 
     /// `Star` over a term. It fails only when out of memory, and the part is dropped then.
@@ -132,6 +149,7 @@ impl Kat {
     }
 
     /// The same tree again. It fails only when out of memory.
+    #[cycle(copies)]
     pub fn copy(&self, alloc: Global) -> Result<Kat, NoMemory>
         ensures { IfOk result (λ e. kat_tree e ≡ kat_tree self.now) }
     {
@@ -140,10 +158,28 @@ impl Kat {
             Kat::One => Ok(Kat::One),
             Kat::Test(b) => Ok(Kat::Test(b.copy(alloc)?)),
             Kat::Act(a) => Ok(Kat::Act(*a)),
-            Kat::Sum(e, f) => Kat::new_sum(alloc, e.copy(alloc)?, f.copy(alloc)?),
-            Kat::Seq(e, f) => Kat::new_seq(alloc, e.copy(alloc)?, f.copy(alloc)?),
+            Kat::Sum(e, f) => {
+                let (left, right) = Kat::boxed_copies(alloc, e, f)?;
+                Ok(Kat::Sum(left, right))
+            }
+            Kat::Seq(e, f) => {
+                let (first, second) = Kat::boxed_copies(alloc, e, f)?;
+                Ok(Kat::Seq(first, second))
+            }
             Kat::Star(e) => Kat::new_star(alloc, e.copy(alloc)?),
         }
+    }
+
+    // Copies of both, each in a box of its own.
+    #[cycle(copies)]
+    fn boxed_copies(
+        alloc: Global,
+        left: &Kat,
+        right: &Kat,
+    ) -> Result<(Box<Kat>, Box<Kat>), NoMemory>
+        ensures { IfOk result (λ both. (kat_tree both.0.value ≡ kat_tree left.now) × (kat_tree both.1.value ≡ kat_tree right.now)) }
+    {
+        boxed_pair(alloc, left.copy(alloc)?, right.copy(alloc)?)
     }
 
     /// The number of nodes, those of tests among them, which stops at `u64::MAX`.

@@ -73,6 +73,10 @@ not_both : {X : Type 0} (b : Bool) → b ≡ false → b ≡ true → X
 not_both true f t = absurd cc
 not_both false f t = absurd cc
 
+abbrev is_number : Terminal → Bool
+is_number (Number n) = true
+is_number _ = false
+
 number_is : (n m : ℕ) → Number n ≡ Number m → n ≡ m
 number_is n m e = cc
 
@@ -112,23 +116,23 @@ one_phrase (starred u l) (starred v m) r s e o n h k =
     let i = one_phrase u v (cons_token Star l r) (cons_token Star m s) e o n h k in
     (rw (i.0, same_leaf Star Star l m r s i.1) refl, same_rest Star Star l m r s i.1)
 one_phrase (zero_unit l) (zero_unit m) r s e o u h k = (ap zero_unit (same_leaf Zero Zero l m r s e), same_rest Zero Zero l m r s e)
-one_phrase (zero_unit l) _ r s e o u h k = absurd cc
+one_phrase (zero_unit l) q r s e o u h k = clash (is_terminal Zero) (yield_before q s) (yield_before (zero_unit l) r) (sym e) refl refl
 one_phrase (one_unit l) (one_unit m) r s e o u h k = (ap one_unit (same_leaf One One l m r s e), same_rest One One l m r s e)
-one_phrase (one_unit l) _ r s e o u h k = absurd cc
+one_phrase (one_unit l) q r s e o u h k = clash (is_terminal One) (yield_before q s) (yield_before (one_unit l) r) (sym e) refl refl
 one_phrase (name_unit l) (name_unit m) r s e o u h k = (ap name_unit (same_leaf Name Name l m r s e), same_rest Name Name l m r s e)
-one_phrase (name_unit l) _ r s e o u h k = absurd cc
+one_phrase (name_unit l) q r s e o u h k = clash (is_terminal Name) (yield_before q s) (yield_before (name_unit l) r) (sym e) refl refl
 one_phrase (not_unit l p) (not_unit m q) r s e o u h k =
     let i = one_phrase p q r s (same_rest Bang Bang l m (yield_before p r) (yield_before q s) e) o u h k in
     (rw (same_leaf Bang Bang l m (yield_before p r) (yield_before q s) e, i.0) refl, i.1)
-one_phrase (not_unit l p) _ r s e o u h k = absurd cc
+one_phrase (not_unit l p) q r s e o u h k = clash (is_terminal Bang) (yield_before q s) (yield_before (not_unit l p) r) (sym e) refl refl
 one_phrase (square_unit l p a) (square_unit m q b) r s e o u h k =
     let i = one_phrase p q (cons_token SquareClose a r) (cons_token SquareClose b s) (same_rest SquareOpen SquareOpen l m (yield_before p (cons_token SquareClose a r)) (yield_before q (cons_token SquareClose b s)) e) o u h k in
     (rw (same_leaf SquareOpen SquareOpen l m (yield_before p (cons_token SquareClose a r)) (yield_before q (cons_token SquareClose b s)) e, i.0, same_leaf SquareClose SquareClose a b r s i.1) refl, same_rest SquareClose SquareClose a b r s i.1)
-one_phrase (square_unit l p a) _ r s e o u h k = absurd cc
+one_phrase (square_unit l p a) q r s e o u h k = clash (is_terminal SquareOpen) (yield_before q s) (yield_before (square_unit l p a) r) (sym e) refl refl
 one_phrase (round_unit l p a) (round_unit m q b) r s e o u h k =
     let i = one_phrase p q (cons_token RoundClose a r) (cons_token RoundClose b s) (same_rest RoundOpen RoundOpen l m (yield_before p (cons_token RoundClose a r)) (yield_before q (cons_token RoundClose b s)) e) o u h k in
     (rw (same_leaf RoundOpen RoundOpen l m (yield_before p (cons_token RoundClose a r)) (yield_before q (cons_token RoundClose b s)) e, i.0, same_leaf RoundClose RoundClose a b r s i.1) refl, same_rest RoundClose RoundClose a b r s i.1)
-one_phrase (round_unit l p a) _ r s e o u h k = absurd cc
+one_phrase (round_unit l p a) q r s e o u h k = clash (is_terminal RoundOpen) (yield_before q s) (yield_before (round_unit l p a) r) (sym e) refl refl
 one_phrase (one_conj p) (one_conj q) r s e o u h k = let i = one_phrase p q r s e o u h.1 k.1 in (ap one_conj i.0, i.1)
 one_phrase (one_conj p) (more_conjs q m w) r s e o u h k = let us = cons_token Or m (yield_before w s) in clash (is_terminal Or) r us (one_phrase p q r us e o u.0 h.1 k.0).1 h.0 refl
 one_phrase (more_conjs p l t) (one_conj q) r s e o u h k = let us = cons_token Or l (yield_before t r) in clash (is_terminal Or) s us (sym (one_phrase p q us s e o.0 u h.0 k.1).1) k.0 refl
@@ -145,23 +149,23 @@ one_phrase (more_lits p l t) (more_lits q m w) r s e o u h k =
     (rw (i.0, same_leaf And And l m (yield_before t r) (yield_before w s) i.1, j.0) refl, j.1)
 one_phrase (true_lit l) (true_lit m) r s e o u h k = (ap true_lit (same_leaf True True l m r s e), same_rest True True l m r s e)
 one_phrase (true_lit l) (relation_lit a m t b) r s e o u h k = no_comparison True l r (cons_token (Compares t) m (yield_before b s)) a e refl
-one_phrase (true_lit l) _ r s e o u h k = absurd cc
+one_phrase (true_lit l) q r s e o u h k = clash (is_terminal True) (yield_before q s) (yield_before (true_lit l) r) (sym e) refl refl
 one_phrase (false_lit l) (false_lit m) r s e o u h k = (ap false_lit (same_leaf False False l m r s e), same_rest False False l m r s e)
 one_phrase (false_lit l) (relation_lit a m t b) r s e o u h k = no_comparison False l r (cons_token (Compares t) m (yield_before b s)) a e refl
-one_phrase (false_lit l) _ r s e o u h k = absurd cc
+one_phrase (false_lit l) q r s e o u h k = clash (is_terminal False) (yield_before q s) (yield_before (false_lit l) r) (sym e) refl refl
 one_phrase (name_lit l) (name_lit m) r s e o u h k = (ap name_lit (same_leaf Name Name l m r s e), same_rest Name Name l m r s e)
 one_phrase (name_lit l) (relation_lit a m t b) r s e o u h k = not_both (begins_expr r) o (subst BeginsExpr (sym e) u.0)
-one_phrase (name_lit l) _ r s e o u h k = absurd cc
+one_phrase (name_lit l) q r s e o u h k = clash (is_terminal Name) (yield_before q s) (yield_before (name_lit l) r) (sym e) refl refl
 one_phrase (not_lit l p) (not_lit m q) r s e o u h k =
     let i = one_phrase p q r s (same_rest Bang Bang l m (yield_before p r) (yield_before q s) e) o u h k in
     (rw (same_leaf Bang Bang l m (yield_before p r) (yield_before q s) e, i.0) refl, i.1)
 one_phrase (not_lit l p) (relation_lit a m t b) r s e o u h k = no_comparison Bang l (yield_before p r) (cons_token (Compares t) m (yield_before b s)) a e refl
-one_phrase (not_lit l p) _ r s e o u h k = absurd cc
+one_phrase (not_lit l p) q r s e o u h k = clash (is_terminal Bang) (yield_before q s) (yield_before (not_lit l p) r) (sym e) refl refl
 one_phrase (round_lit l p a) (round_lit m q b) r s e o u h k =
     let i = one_phrase p q (cons_token RoundClose a r) (cons_token RoundClose b s) (same_rest RoundOpen RoundOpen l m (yield_before p (cons_token RoundClose a r)) (yield_before q (cons_token RoundClose b s)) e) o.1 u.1 h k in
     (rw (same_leaf RoundOpen RoundOpen l m (yield_before p (cons_token RoundClose a r)) (yield_before q (cons_token RoundClose b s)) e, i.0, same_leaf RoundClose RoundClose a b r s i.1) refl, same_rest RoundClose RoundClose a b r s i.1)
 one_phrase (round_lit l p c) (relation_lit a m t b) r s e o u h k = not_both (begins_expr (after_close 0 (yield_before p (cons_token RoundClose c r)))) o.0 (subst BeginsExpr (sym e) u.0)
-one_phrase (round_lit l p c) _ r s e o u h k = absurd cc
+one_phrase (round_lit l p c) q r s e o u h k = clash (is_terminal RoundOpen) (yield_before q s) (yield_before (round_lit l p c) r) (sym e) refl refl
 one_phrase (relation_lit a m t b) (true_lit l) r s e o u h k = no_comparison True l s (cons_token (Compares t) m (yield_before b r)) a (sym e) refl
 one_phrase (relation_lit a m t b) (false_lit l) r s e o u h k = no_comparison False l s (cons_token (Compares t) m (yield_before b r)) a (sym e) refl
 one_phrase (relation_lit a m t b) (name_lit l) r s e o u h k = not_both (begins_expr s) u (subst BeginsExpr e o.0)
@@ -186,16 +190,16 @@ one_phrase (more_facs p l t) (more_facs q m w) r s e o u h k =
     let j = one_phrase t w r s (same_rest Star Star l m (yield_before t r) (yield_before w s) i.1) o.1 u.1 h.1 k.1 in
     (rw (i.0, same_leaf Star Star l m (yield_before t r) (yield_before w s) i.1, j.0) refl, j.1)
 one_phrase (zero_fac l) (zero_fac m) r s e o u h k = (ap zero_fac (same_leaf Zero Zero l m r s e), same_rest Zero Zero l m r s e)
-one_phrase (zero_fac l) _ r s e o u h k = absurd cc
+one_phrase (zero_fac l) q r s e o u h k = clash (is_terminal Zero) (yield_before q s) (yield_before (zero_fac l) r) (sym e) refl refl
 one_phrase (one_fac_number l) (one_fac_number m) r s e o u h k = (ap one_fac_number (same_leaf One One l m r s e), same_rest One One l m r s e)
-one_phrase (one_fac_number l) _ r s e o u h k = absurd cc
+one_phrase (one_fac_number l) q r s e o u h k = clash (is_terminal One) (yield_before q s) (yield_before (one_fac_number l) r) (sym e) refl refl
 one_phrase (number_fac l a) (number_fac m b) r s e o u h k = (rw (same_leaf (Number a) (Number b) l m r s e, number_is a b (same_terminal (Number a) (Number b) l m r s e)) refl, same_rest (Number a) (Number b) l m r s e)
-one_phrase (number_fac l a) _ r s e o u h k = absurd cc
+one_phrase (number_fac l a) q r s e o u h k = clash is_number (yield_before q s) (yield_before (number_fac l a) r) (sym e) refl refl
 one_phrase (wide_fac l) (wide_fac m) r s e o u h k = (ap wide_fac (same_leaf WideNumber WideNumber l m r s e), same_rest WideNumber WideNumber l m r s e)
-one_phrase (wide_fac l) _ r s e o u h k = absurd cc
+one_phrase (wide_fac l) q r s e o u h k = clash (is_terminal WideNumber) (yield_before q s) (yield_before (wide_fac l) r) (sym e) refl refl
 one_phrase (name_fac l) (name_fac m) r s e o u h k = (ap name_fac (same_leaf Name Name l m r s e), same_rest Name Name l m r s e)
-one_phrase (name_fac l) _ r s e o u h k = absurd cc
+one_phrase (name_fac l) q r s e o u h k = clash (is_terminal Name) (yield_before q s) (yield_before (name_fac l) r) (sym e) refl refl
 one_phrase (round_fac l p a) (round_fac m q b) r s e o u h k =
     let i = one_phrase p q (cons_token RoundClose a r) (cons_token RoundClose b s) (same_rest RoundOpen RoundOpen l m (yield_before p (cons_token RoundClose a r)) (yield_before q (cons_token RoundClose b s)) e) o u h k in
     (rw (same_leaf RoundOpen RoundOpen l m (yield_before p (cons_token RoundClose a r)) (yield_before q (cons_token RoundClose b s)) e, i.0, same_leaf RoundClose RoundClose a b r s i.1) refl, same_rest RoundClose RoundClose a b r s i.1)
-one_phrase (round_fac l p a) _ r s e o u h k = absurd cc
+one_phrase (round_fac l p a) q r s e o u h k = clash (is_terminal RoundOpen) (yield_before q s) (yield_before (round_fac l p a) r) (sym e) refl refl

@@ -12,9 +12,7 @@ mod terminal;
 
 pub use cond::read_cond;
 pub use expr::read_expr;
-pub use laws::{
-    grammar_is_scanned, phrases_are_folded, phrases_are_unique, phrases_end, readings_are_phrases,
-};
+pub use laws::{grammar_is_scanned, phrases_are_unique, phrases_end};
 pub use reading::{Context, Operator, Reading};
 pub use scan::{Scan, cond_end, expr_end, term_end};
 pub use term::read_term;

@@ -6,3 +6,4 @@ pub mod MeasureSoundness
 pub mod Related
 pub mod BalancedMeasures
 pub mod Measured
+mod Passes

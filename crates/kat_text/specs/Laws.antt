@@ -1,15 +1,31 @@
--- What the measures of a phrase tell of its tree.
-use Rattle.std.specs.Prelude.{◌≡◌, ℕ, [], ◌∷◌, min, nat_lt, if◌then◌else◌, false, Ok}
+-- What the passes over tokens make of phrases, and what the measures of a phrase tell of its tree.
+use Rattle.std.specs.Prelude.{◌≡◌, ℕ, List, [], ◌∷◌, min, nat_lt, if◌then◌else◌, false, Ok}
 use Rattle.kat_model.specs.Trees.{Term, test_size, term_size}
 use Rattle.kat_model.specs.Expressions.{ExprTree, CondTree, test_without_comparisons}
 use Rattle.kat_syntax.specs.declared.reading.Context.{Context}
-use Rattle.kat_syntax.specs.Phrases.{term, cond, expr, Phrase}
+use Rattle.kat_syntax.specs.Lexemes.{Lexeme}
+use Rattle.kat_syntax.specs.Parsed.{before}
+use Rattle.kat_syntax.specs.Actions.{Actions}
+use Rattle.kat_syntax.specs.Exprs.{parse_expr, sums}
+use Rattle.kat_syntax.specs.Conds.{parse_cond, disjunction}
+use Rattle.kat_syntax.specs.Terms.{parse_term, choice}
+use Rattle.kat_syntax.specs.Phrases.{term, cond, expr, Phrase, yield_before, MeetsLookahead, IsLongest, IsPhrase}
 use Rattle.kat_syntax.specs.Folds.{fold}
 use Rattle.kat_text.specs.declared.extent.Extent.{Extent}
 use Rattle.kat_text.specs.Sizes.{expr_size, cond_size, largest_expr, capped}
 use Rattle.kat_text.specs.ScopeParts.{ScopeParts}
 use Rattle.kat_text.specs.Building.{trees}
 use Rattle.kat_text.specs.Sound.{nesting}
+
+-- What a pass with these actions makes of a phrase is what they make of its parts, in text order; and what it reads is a
+-- phrase that is as long as it can be.
+pub record PassesPhrases {E B L T M : Type 0} (g : Actions E B L T M) : Type 0 where
+  pub terms : (c : Context) (p : Phrase term) (ts : List Lexeme) → MeetsLookahead p ts → IsLongest p ts → parse_term g choice c (yield_before p ts) ≡ before ts (fold g c p g.one_of)
+  pub conds : (c : Context) (p : Phrase cond) (ts : List Lexeme) → MeetsLookahead p ts → IsLongest p ts → parse_cond g.conds disjunction c (yield_before p ts) ≡ before ts (fold g c p g.conds.one_of)
+  pub exprs : (c : Context) (p : Phrase expr) (ts : List Lexeme) → MeetsLookahead p ts → IsLongest p ts → parse_expr g.conds.exprs sums c (yield_before p ts) ≡ before ts (fold g c p (λ e. e))
+  pub read_terms : (c : Context) (ts rest : List Lexeme) (t : T) → parse_term g choice c ts ≡ Ok (t, rest) → IsPhrase term c.depth ts rest
+  pub read_conds : (c : Context) (ts rest : List Lexeme) (b : B) → parse_cond g.conds disjunction c ts ≡ Ok (b, rest) → IsPhrase cond c.depth ts rest
+  pub read_exprs : (c : Context) (ts rest : List Lexeme) (e : E) → parse_expr g.conds.exprs sums c ts ≡ Ok (e, rest) → IsPhrase expr c.depth ts rest
 
 -- the nodes that are told, given the largest expression: one past the most where it has more than 1,000
 abbrev pub told_nodes : ℕ → ℕ → ℕ

@@ -5,9 +5,17 @@ ghost use Rattle.kat_syntax.specs.Phrases.{term, cond, expr, Phrase, IsWithinLim
 ghost use Rattle.kat_syntax.specs.Folds.{fold};
 ghost use Rattle.kat_text.specs.declared.extent.Extent.{Extent};
 ghost use Rattle.kat_text.specs.ScopeParts.{ScopeParts};
+ghost use Rattle.kat_text.specs.Building.{trees};
 ghost use Rattle.kat_text.specs.Measuring.{extents};
 ghost use Rattle.kat_text.specs.Sound.{IsSound};
-ghost use Rattle.kat_text.specs.Laws.{MeasuresTerm, MeasuresCond, MeasuresExpr};
+ghost use Rattle.kat_text.specs.Laws.{PassesPhrases, MeasuresTerm, MeasuresCond, MeasuresExpr};
+
+/// What measuring tells of a phrase, and what building makes of it, is what their actions make of its parts, in text
+/// order; and both read phrases of the grammar alone.
+pub fn phrases_are_passed()
+    ensures measures { (w : ScopeParts) → PassesPhrases (extents w) }
+    ensures trees { (w : ScopeParts) → PassesPhrases (trees w) }
+{}
 
 /// A phrase is measured exactly where it is sound, nests at most 200 constructs and has no number of 2^64 or more.
 pub fn sound_phrases_are_measured()

@@ -13,7 +13,7 @@ mod read;
 mod scope;
 
 pub use extent::Extent;
-pub use laws::{measures_are_of_trees, sound_phrases_are_measured};
+pub use laws::{measures_are_of_trees, phrases_are_passed, sound_phrases_are_measured};
 pub use meaning::Meaning;
 pub use read::{
     build_cond, build_expr, build_term, measure_cond, measure_expr, measure_term, read_cond,

@@ -11,7 +11,7 @@ ghost use Rattle.kat_tool.specs.Posing.{AsksNone};
 ghost use Rattle.kat_tool.specs.Steps.{IsRefusal};
 ghost use Rattle.kat_tool.specs.Working.Outcomes.{IsOutcome};
 
-use crate::reply::{Stop, refused};
+use crate::reply::{Stop, refusal};
 use goal_forms::{Sides, below, triple};
 use kat_model::{Kat, NoMemory, Problem, test_without_comparisons};
 use problem_file::{File, Goal, Side};
@@ -53,16 +53,16 @@ fn sides(alloc: Global, goal: Goal) -> Result<Sides, NoMemory>
 
 /// The problem that the file asks. Of the reasons why there is none only a comparison in its goal and its size can come,
 /// since files hold no other tests and actions than they declare.
-pub(crate) fn asked_of(alloc: Global, file: File) -> Result<Problem, Stop>
+pub(crate) fn problem_of(alloc: Global, file: File) -> Result<Problem, Stop>
     ensures { (s : State) → FileHolds file s → IsNumbered s
         → IsOutcome (λ q. HasQuestion s q × IsSmall q) (IsRefusal (AsksNone s)) result }
 {
     if goal_compares(&file.goal) {
-        return Err(refused(alloc, b"refused: NotYet\n"));
+        return Err(refusal(alloc, b"refused: NotYet\n"));
     }
     let sides = sides(alloc, file.goal)?;
     match Problem::new(file.tests, file.actions, file.hyps, sides.left, sides.right) {
         Ok(problem) => Ok(problem),
-        Err(_) => Err(refused(alloc, b"refused: ProblemTooLarge\n")),
+        Err(_) => Err(refusal(alloc, b"refused: ProblemTooLarge\n")),
     }
 }

@@ -3,15 +3,15 @@ ghost use Rattle.std.specs.Prelude.{◌≡◌, IfOk};
 ghost use Rattle.kat_tool.specs.Check.{evidence_status, accepted_line, IsChecked, ChecksBytes, ChecksTexts};
 ghost use Rattle.kat_tool.specs.Working.Outcomes.{IsReplied};
 
-use crate::posing::posed;
-use crate::reply::{Reply, Stop, line, rejected};
-use crate::showing::spelled;
+use crate::posing::problem_in;
+use crate::reply::{Reply, Stop, line, rejection};
+use crate::showing::evidence_in;
 use cert_checker::{Answer, check};
 use certificate::Evidence;
 use kat_model::{NoMemory, Problem};
 use std::alloc::Global;
 
-fn accepted(alloc: Global, evidence: &Evidence) -> Result<Reply, NoMemory>
+fn acceptance(alloc: Global, evidence: &Evidence) -> Result<Reply, NoMemory>
     ensures { IfOk result (λ r. (r.status ≡ evidence_status evidence.now) × (r.output.items ≡ accepted_line evidence.now)) }
 {
     match evidence {
@@ -21,12 +21,12 @@ fn accepted(alloc: Global, evidence: &Evidence) -> Result<Reply, NoMemory>
 }
 
 // The reply to a problem and evidence.
-fn checked(alloc: Global, problem: &Problem, evidence: &Evidence) -> Result<Reply, NoMemory>
+fn check_reply(alloc: Global, problem: &Problem, evidence: &Evidence) -> Result<Reply, NoMemory>
     ensures { IfOk result (λ r. IsChecked problem.now evidence.now r.status r.output.items) }
 {
     match check(alloc, problem, evidence)? {
-        Answer::Accepted => accepted(alloc, evidence),
-        Answer::Rejected(reason) => rejected(alloc, &reason),
+        Answer::Accepted => acceptance(alloc, evidence),
+        Answer::Rejected(reason) => rejection(alloc, &reason),
     }
 }
 
@@ -34,14 +34,14 @@ fn checked(alloc: Global, problem: &Problem, evidence: &Evidence) -> Result<Repl
 pub(crate) fn bytes_reply(alloc: Global, problem: &Problem, bytes: &[u8]) -> Result<Reply, Stop>
     ensures { IsReplied (ChecksBytes problem.now bytes.now) result }
 {
-    let evidence = spelled(alloc, bytes)?;
-    Ok(checked(alloc, problem, &evidence)?)
+    let evidence = evidence_in(alloc, bytes)?;
+    Ok(check_reply(alloc, problem, &evidence)?)
 }
 
 /// The reply to a text and bytes.
 pub(crate) fn texts_reply(alloc: Global, text: &[u8], bytes: &[u8]) -> Result<Reply, Stop>
     ensures { IsReplied (ChecksTexts text.now bytes.now) result }
 {
-    let problem = posed(alloc, text)?;
+    let problem = problem_in(alloc, text)?;
     bytes_reply(alloc, &problem, bytes)
 }

@@ -6,7 +6,7 @@ ghost use Rattle.kat_tool.specs.Check.{evidence_status};
 ghost use Rattle.kat_tool.specs.Decide.{IsDecided, DecidesText};
 ghost use Rattle.kat_tool.specs.Working.Outcomes.{IsReplied};
 
-use crate::posing::posed;
+use crate::posing::problem_in;
 use crate::reply::{Reply, Stop};
 use bisim_worklist::decide;
 use certificate::{Evidence, write};
@@ -47,7 +47,7 @@ fn evidence_status(evidence: &Evidence) -> u8
 }
 
 // The reply to a problem.
-fn decided(alloc: Global, problem: &Problem) -> Result<Reply, NoMemory>
+fn decide_reply(alloc: Global, problem: &Problem) -> Result<Reply, NoMemory>
     ensures { IfOk result (λ r. IsDecided problem.now r.status r.output.items) }
 {
     let evidence = decide(alloc, problem)?;
@@ -61,6 +61,6 @@ fn decided(alloc: Global, problem: &Problem) -> Result<Reply, NoMemory>
 pub(crate) fn text_reply(alloc: Global, text: &[u8]) -> Result<Reply, Stop>
     ensures { IsReplied (DecidesText text.now) result }
 {
-    let problem = posed(alloc, text)?;
-    Ok(decided(alloc, &problem)?)
+    let problem = problem_in(alloc, text)?;
+    Ok(decide_reply(alloc, &problem)?)
 }

@@ -6,7 +6,7 @@ ghost use Rattle.kat_tool.specs.Posing.{too_long_line};
 ghost use Rattle.kat_tool.specs.Steps.{shelf_use};
 ghost use Rattle.kat_tool.specs.Working.Outcomes.{IsStop, IsOutcome, IsUngiven, Counts};
 
-use crate::reply::{Reply, Stop, refused};
+use crate::reply::{Reply, Stop, refusal};
 use kat_io::{GetFault, Shelf};
 use kat_model::{MAX_TEXT_BYTES, NoMemory};
 use std::alloc::Global;
@@ -21,7 +21,7 @@ fn unread_line(alloc: Global, file: &str) -> Result<Vec<u8>, NoMemory>
     Ok(output)
 }
 
-fn cannot_read(alloc: Global, file: &str) -> Stop
+fn unread_stop(alloc: Global, file: &str) -> Stop
     ensures { IsStop (λ status output. (status ≡ 4) × (output ≡ codes "cannot read " ++ file.now ++ 10 ∷ [])) result }
 {
     match unread_line(alloc, file) {
@@ -31,7 +31,7 @@ fn cannot_read(alloc: Global, file: &str) -> Stop
 }
 
 /// The bytes of the file, of which there may be so many; with more, this line refuses them.
-pub(crate) fn got<S: Shelf>(
+pub(crate) fn file_bytes<S: Shelf>(
     alloc: Global,
     file: &str,
     shelf: &mut S,
@@ -45,20 +45,20 @@ pub(crate) fn got<S: Shelf>(
 {
     match shelf.get(alloc, file, limit) {
         Ok(bytes) => Ok(bytes),
-        Err(GetFault::TooLong) => Err(refused(alloc, too_long)),
-        Err(GetFault::Failed) => Err(cannot_read(alloc, file)),
+        Err(GetFault::TooLong) => Err(refusal(alloc, too_long)),
+        Err(GetFault::Failed) => Err(unread_stop(alloc, file)),
         Err(GetFault::NoMemory) => Err(Stop::NoMemory),
     }
 }
 
 /// The text of a problem's file.
-pub(crate) fn text_in<S: Shelf>(alloc: Global, file: &str, shelf: &mut S) -> Result<Vec<u8>, Stop>
+pub(crate) fn file_text<S: Shelf>(alloc: Global, file: &str, shelf: &mut S) -> Result<Vec<u8>, Stop>
     ensures got { IsOutcome (λ v. IsGiven (S.content shelf.old file.now) (Some MAX_TEXT_BYTES) v.items)
         (IsUngiven (shelf_use (S.content shelf.old) (S.faults shelf.old) (S.faults shelf.new) (S.last_failed shelf.new)) file.now (Some MAX_TEXT_BYTES) too_long_line) result }
     ensures counts { Counts (S.faults shelf.old) (S.faults shelf.new) result }
     ensures kept { (name : List ℕ) → S.content shelf.new name ≡ S.content shelf.old name }
 {
-    got(
+    file_bytes(
         alloc,
         file,
         shelf,

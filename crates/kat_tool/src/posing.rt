@@ -7,7 +7,7 @@ ghost use Rattle.kat_tool.specs.Posing.{IsFaulty};
 ghost use Rattle.kat_tool.specs.Steps.{IsRefusal};
 ghost use Rattle.kat_tool.specs.Working.Outcomes.{IsOutcome, IsPosedBy, IsStop};
 
-use crate::asking::asked_of;
+use crate::asking::problem_of;
 use crate::reply::{Reply, Stop};
 use kat_model::{NoMemory, Problem};
 use kat_report::text_fault_line;
@@ -29,7 +29,7 @@ fn fault_stop(alloc: Global, fault: TextFault) -> Stop
 }
 
 /// What a text says.
-pub(crate) fn said(alloc: Global, text: &[u8]) -> Result<File, Stop>
+pub(crate) fn file_of(alloc: Global, text: &[u8]) -> Result<File, Stop>
     ensures { IsOutcome (Reads text.now) (IsRefusal (IsFaulty text.now)) result }
 {
     match read(alloc, text) {
@@ -39,9 +39,9 @@ pub(crate) fn said(alloc: Global, text: &[u8]) -> Result<File, Stop>
 }
 
 /// The problem of a text.
-pub(crate) fn posed(alloc: Global, text: &[u8]) -> Result<Problem, Stop>
+pub(crate) fn problem_in(alloc: Global, text: &[u8]) -> Result<Problem, Stop>
     ensures { IsPosedBy text.now result }
 {
-    let file = said(alloc, text)?;
-    asked_of(alloc, file)
+    let file = file_of(alloc, text)?;
+    problem_of(alloc, file)
 }

@@ -3,9 +3,9 @@ ghost use Rattle.std.specs.Prelude.{IfOk};
 ghost use Rattle.kat_tool.specs.Replay.{IsTold, IsReplayed, ReplaysBytes, ReplaysTexts};
 ghost use Rattle.kat_tool.specs.Working.Outcomes.{IsReplied};
 
-use crate::posing::posed;
-use crate::reply::{Reply, Stop, line, rejected};
-use crate::showing::spelled;
+use crate::posing::problem_in;
+use crate::reply::{Reply, Stop, line, rejection};
+use crate::showing::evidence_in;
 use cert_checker::Reason;
 use certificate::Evidence;
 use kat_model::{NoMemory, Problem};
@@ -14,11 +14,11 @@ use std::alloc::Global;
 use string_tables::{Finding, GString, verdict};
 
 // The string, told with what it shows.
-fn told(alloc: Global, string: &GString, finding: &Finding) -> Result<Reply, NoMemory>
+fn finding_reply(alloc: Global, string: &GString, finding: &Finding) -> Result<Reply, NoMemory>
     ensures { IfOk result (λ r. IsTold string.now finding.now r.status r.output.items) }
 {
     if let Finding::Shape(k) = finding {
-        return rejected(alloc, &Reason::Shape(*k));
+        return rejection(alloc, &Reason::Shape(*k));
     }
     Ok(Reply {
         status: 0,
@@ -27,14 +27,14 @@ fn told(alloc: Global, string: &GString, finding: &Finding) -> Result<Reply, NoM
 }
 
 // The reply to a problem and evidence.
-fn replayed(alloc: Global, problem: &Problem, evidence: &Evidence) -> Result<Reply, NoMemory>
+fn replay_reply(alloc: Global, problem: &Problem, evidence: &Evidence) -> Result<Reply, NoMemory>
     ensures { IfOk result (λ r. IsReplayed problem.now evidence.now r.status r.output.items) }
 {
     match evidence {
         Evidence::Equal(_) => line(alloc, 3, b"rejected: NotAString\n"),
         Evidence::Different(string) => {
             let finding = verdict(alloc, problem, string)?;
-            told(alloc, string, &finding)
+            finding_reply(alloc, string, &finding)
         }
     }
 }
@@ -43,14 +43,14 @@ fn replayed(alloc: Global, problem: &Problem, evidence: &Evidence) -> Result<Rep
 pub(crate) fn bytes_reply(alloc: Global, problem: &Problem, bytes: &[u8]) -> Result<Reply, Stop>
     ensures { IsReplied (ReplaysBytes problem.now bytes.now) result }
 {
-    let evidence = spelled(alloc, bytes)?;
-    Ok(replayed(alloc, problem, &evidence)?)
+    let evidence = evidence_in(alloc, bytes)?;
+    Ok(replay_reply(alloc, problem, &evidence)?)
 }
 
 /// The reply to a text and bytes.
 pub(crate) fn texts_reply(alloc: Global, text: &[u8], bytes: &[u8]) -> Result<Reply, Stop>
     ensures { IsReplied (ReplaysTexts text.now bytes.now) result }
 {
-    let problem = posed(alloc, text)?;
+    let problem = problem_in(alloc, text)?;
     bytes_reply(alloc, &problem, bytes)
 }

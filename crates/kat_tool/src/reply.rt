@@ -54,7 +54,7 @@ pub(crate) fn line(alloc: Global, status: u8, text: &[u8]) -> Result<Reply, NoMe
 }
 
 /// A refusal with this text.
-pub(crate) fn refused(alloc: Global, text: &[u8]) -> Stop
+pub(crate) fn refusal(alloc: Global, text: &[u8]) -> Stop
     ensures { IsStop (IsRefusal (λ l. l ≡ text.now)) result }
 {
     match line(alloc, 2, text) {
@@ -64,7 +64,7 @@ pub(crate) fn refused(alloc: Global, text: &[u8]) -> Stop
 }
 
 /// A rejection for this reason.
-pub(crate) fn rejected(alloc: Global, reason: &Reason) -> Result<Reply, NoMemory>
+pub(crate) fn rejection(alloc: Global, reason: &Reason) -> Result<Reply, NoMemory>
     ensures { IfOk result (λ r. (r.status ≡ 3) × (r.output.items ≡ reason_line reason.now)) }
 {
     Ok(Reply {

@@ -9,7 +9,7 @@ use kat_report::evidence_fault_line;
 use std::alloc::Global;
 
 /// The evidence of which these bytes are the text.
-pub(crate) fn spelled(alloc: Global, bytes: &[u8]) -> Result<Evidence, Stop>
+pub(crate) fn evidence_in(alloc: Global, bytes: &[u8]) -> Result<Evidence, Stop>
     ensures { IsOutcome (Spells bytes.now) (IsRefusal (IsNoEvidence bytes.now)) result }
 {
     match read(alloc, bytes) {

@@ -9,8 +9,8 @@ ghost use Rattle.kat_tool.specs.Replies.{RepliesTo, Replies};
 ghost use Rattle.kat_tool.specs.Run.{IsRun, sink_use};
 ghost use Rattle.kat_tool.specs.Working.Outcomes.{IsReplied, Counts};
 
-use crate::getting::{got, text_in};
-use crate::posing::posed;
+use crate::getting::{file_bytes, file_text};
+use crate::posing::problem_in;
 use crate::reply::{Reply, Stop, line};
 use crate::text::decided_text;
 use crate::words::{Command, Words};
@@ -24,7 +24,7 @@ fn decide_file<S: Shelf>(alloc: Global, file: &str, shelf: &mut S) -> Result<Rep
     ensures counts { Counts (S.faults shelf.old) (S.faults shelf.new) result }
     ensures kept { (name : List ℕ) → S.content shelf.new name ≡ S.content shelf.old name }
 {
-    let text = text_in(alloc, file, shelf)?;
+    let text = file_text(alloc, file, shelf)?;
     Ok(decided_text(alloc, &text)?)
 }
 
@@ -39,9 +39,9 @@ fn check_files<S: Shelf>(
     ensures counts { Counts (S.faults shelf.old) (S.faults shelf.new) result }
     ensures kept { (name : List ℕ) → S.content shelf.new name ≡ S.content shelf.old name }
 {
-    let text = text_in(alloc, file, shelf)?;
-    let problem = posed(alloc, &text)?;
-    let bytes = got(alloc, evidence, shelf, None, b"")?;
+    let text = file_text(alloc, file, shelf)?;
+    let problem = problem_in(alloc, &text)?;
+    let bytes = file_bytes(alloc, evidence, shelf, None, b"")?;
     check::bytes_reply(alloc, &problem, &bytes)
 }
 
@@ -55,13 +55,17 @@ fn replay_files<S: Shelf>(
     ensures counts { Counts (S.faults shelf.old) (S.faults shelf.new) result }
     ensures kept { (name : List ℕ) → S.content shelf.new name ≡ S.content shelf.old name }
 {
-    let text = text_in(alloc, file, shelf)?;
-    let problem = posed(alloc, &text)?;
-    let bytes = got(alloc, evidence, shelf, None, b"")?;
+    let text = file_text(alloc, file, shelf)?;
+    let problem = problem_in(alloc, &text)?;
+    let bytes = file_bytes(alloc, evidence, shelf, None, b"")?;
     replay::bytes_reply(alloc, &problem, &bytes)
 }
 
-fn served<S: Shelf>(alloc: Global, command: Command<'_>, shelf: &mut S) -> Result<Reply, Stop>
+fn command_reply<S: Shelf>(
+    alloc: Global,
+    command: Command<'_>,
+    shelf: &mut S,
+) -> Result<Reply, Stop>
     ensures replied { IsReplied (RepliesTo (shelf_use (S.content shelf.old) (S.faults shelf.old) (S.faults shelf.new) (S.last_failed shelf.new)) (command_seen command.entry)) result }
     ensures counts { Counts (S.faults shelf.old) (S.faults shelf.new) result }
     ensures kept { (name : List ℕ) → S.content shelf.new name ≡ S.content shelf.old name }
@@ -80,7 +84,7 @@ fn answer<S: Shelf>(alloc: Global, words: &Words, shelf: &mut S) -> Result<Reply
     let Some(command) = words.command() else {
         return line(alloc, 7, b"refused: words\n");
     };
-    match served(alloc, command, shelf) {
+    match command_reply(alloc, command, shelf) {
         Ok(reply) => Ok(reply),
         Err(Stop::Replied(reply)) => Ok(reply),
         Err(Stop::NoMemory) => Err(NoMemory),

@@ -1,8 +1,9 @@
 //! Problems with known answers: how many pairs a certificate has, or how many moves a string.
 use bisim_worklist::{decide, decide_in};
 use certificate::{Evidence, Style};
-use kat_model::{Kat, Problem};
-use problem_file::{Goal, Side, read};
+use kat_model::{Kat, NoMemory, Problem};
+use kat_tokens::TextFault;
+use problem_file::{File, Goal, Side, read};
 use std::alloc::Global;
 use std::test::Fail;
 use term_store::Store;
@@ -21,59 +22,99 @@ fn sides(goal: Goal) -> Option<(Kat, Kat)> {
     }
 }
 
+// The problem of the sides, where there are any and it is within the limits.
+fn problem_of(
+    tests: usize,
+    actions: usize,
+    hyps: Vec<Kat>,
+    sides: Option<(Kat, Kat)>,
+) -> Option<Problem> {
+    let (left, right) = sides?;
+    Problem::new(tests, actions, hyps, left, right).ok()
+}
+
 // The problem of a file whose goal is `equal`.
-fn problem(alloc: Global, text: &str) -> Result<Problem, Fail> {
-    let file = read(alloc, text.as_bytes())?;
-    let Some((left, right)) = sides(file.goal) else {
-        return Err("another goal")?;
-    };
-    match Problem::new(file.tests, file.actions, file.hyps, left, right) {
-        Ok(problem) => Ok(problem),
-        Err(_) => Err("out of limits")?,
-    }
+fn file_problem(file: File) -> Option<Problem> {
+    problem_of(file.tests, file.actions, file.hyps, sides(file.goal))
 }
 
-fn shape(alloc: Global, evidence: &Evidence) -> Result<String, Fail> {
+fn problem(alloc: Global, text: &str) -> Result<Option<Problem>, TextFault> {
+    Ok(file_problem(read(alloc, text.as_bytes())?))
+}
+
+// A certificate of so many pairs, or a string of so many moves.
+#[derive(Clone, Copy, Debug, PartialEq, Eq)]
+enum Answer {
+    Pairs(usize, Style),
+    Moves(usize),
+}
+
+fn answer_of(evidence: &Evidence) -> Answer {
     match evidence {
-        Evidence::Equal(cert) => {
-            let up_to = cert.style() == Style::UpTo;
-            Ok(format!(in alloc; "pairs {} {up_to}", cert.pairs().len())?)
-        }
-        Evidence::Different(string) => {
-            Ok(format!(in alloc; "moves {}", string.rest.as_slice().len())?)
-        }
+        Evidence::Equal(cert) => Answer::Pairs(cert.pairs().len(), cert.style()),
+        Evidence::Different(string) => Answer::Moves(string.rest.as_slice().len()),
     }
 }
 
-const ROWS: &[(&str, &str)] = &[
-    ("test b; goal equal b, b;", "pairs 1 true"),
+fn own_answer(alloc: Global, problem: &Problem) -> Result<Answer, NoMemory> {
+    let evidence = decide(alloc, problem)?;
+    Ok(answer_of(&evidence))
+}
+
+fn answer_in(alloc: Global, store: &mut Store, problem: &Problem) -> Result<Answer, NoMemory> {
+    let evidence = decide_in(alloc, store, problem)?;
+    Ok(answer_of(&evidence))
+}
+
+// Whether this is the answer, in a store of its own and in this one.
+fn is_answer(
+    alloc: Global,
+    store: &mut Store,
+    problem: &Problem,
+    want: Answer,
+) -> Result<bool, NoMemory> {
+    let alone = own_answer(alloc, problem)?;
+    let beside = answer_in(alloc, store, problem)?;
+    Ok(alone == want && beside == want)
+}
+
+fn holds(alloc: Global, store: &mut Store, text: &str, want: Answer) -> Result<bool, TextFault> {
+    match problem(alloc, text)? {
+        Some(problem) => Ok(is_answer(alloc, store, &problem, want)?),
+        None => Ok(false),
+    }
+}
+
+const ROWS: &[(&str, Answer)] = &[
+    ("test b; goal equal b, b;", Answer::Pairs(1, Style::UpTo)),
     (
         "action p, q; goal equal (p+q)*, (p*.q)*.p*;",
-        "pairs 2 true",
+        Answer::Pairs(2, Style::UpTo),
     ),
-    ("action p, q; goal equal p.q, q.p;", "moves 2"),
-    ("action p; goal equal p*, p*.p*;", "pairs 1 true"),
-    ("goal equal 0*, 1;", "pairs 1 true"),
-    ("goal equal 0, 1;", "moves 0"),
+    ("action p, q; goal equal p.q, q.p;", Answer::Moves(2)),
+    (
+        "action p; goal equal p*, p*.p*;",
+        Answer::Pairs(1, Style::UpTo),
+    ),
+    ("goal equal 0*, 1;", Answer::Pairs(1, Style::UpTo)),
+    ("goal equal 0, 1;", Answer::Moves(0)),
     (
         "test b, c; action p; hyp b.p.!c = 0; goal equal b.p.!c, 0;",
-        "pairs 2 true",
+        Answer::Pairs(2, Style::UpTo),
     ),
-    ("test b; action p; goal equal b.p.!b, 0;", "moves 1"),
-    ("action p, q; hyp 1 = 0; goal equal p, q;", "pairs 1 true"),
+    ("test b; action p; goal equal b.p.!b, 0;", Answer::Moves(1)),
+    (
+        "action p, q; hyp 1 = 0; goal equal p, q;",
+        Answer::Pairs(1, Style::UpTo),
+    ),
 ];
 
 // A store serves many problems.
 #[test]
 fn answers_are_short(rt: HostRuntime) -> Result<(), Fail> {
-    let alloc = rt.alloc();
-    let mut store = Store::new(alloc);
+    let mut store = Store::new(rt.alloc());
     for (text, want) in ROWS {
-        let problem = problem(alloc, text)?;
-        let first = decide(alloc, &problem)?;
-        assert_eq!(rt; shape(alloc, &first)?.as_str(), *want, "on {text}");
-        let second = decide_in(alloc, &mut store, &problem)?;
-        assert_eq!(rt; shape(alloc, &second)?.as_str(), *want, "on {text}");
+        assert!(rt; holds(rt.alloc(), &mut store, text, *want)?, "on {text}");
     }
     Ok(())
 }

@@ -1,9 +1,10 @@
 //! Steps of a set of terms, found by hand.
-ghost use Rattle.std.specs.Prelude.{All, IfOk};
+ghost use Rattle.std.specs.Prelude.{◌≡◌, All, IfOk};
 ghost use Rattle.partial_derivs.specs.Moves.{IsTermOf};
 
 use kat_model::NoMemory;
-use partial_derivs::{Guarded, step};
+use partial_derivs::{Guarded, Steps, step};
+use std::alloc::Global;
 use std::test::Fail;
 use term_store::{Shape, Store, TermId, TestShape};
 use test_diagrams::Diagrams;
@@ -19,19 +20,37 @@ fn guarded_and_free(store: &mut Store) -> Result<[TermId; 2], NoMemory>
     Ok([guarded, action])
 }
 
+// Whether the one move is by the action 0 to this term under each atom, and no atom is accepted.
+fn has_one_move(diagrams: &Diagrams, steps: &Steps, to: TermId) -> bool {
+    let guard = diagrams.constant(true);
+    let only = [Guarded { guard, act: 0, to }];
+    steps.accepts == diagrams.constant(false) && steps.moves.as_slice() == only.as_slice()
+}
+
+fn moves_are_joined(
+    alloc: Global,
+    store: &mut Store,
+    diagrams: &mut Diagrams,
+) -> Result<bool, NoMemory>
+    requires { diagrams.old.tests ≡ 1 }
+{
+    let to = store.intern(Shape::One)?;
+    let terms = guarded_and_free(store)?;
+    let steps = step(alloc, store, diagrams, &terms)?;
+    Ok(has_one_move(diagrams, &steps, to))
+}
+
+// In a store of its own.
+fn moves_are_joined_in(alloc: Global, diagrams: &mut Diagrams) -> Result<bool, NoMemory>
+    requires { diagrams.old.tests ≡ 1 }
+{
+    let mut store = Store::new(alloc);
+    moves_are_joined(alloc, &mut store, diagrams)
+}
+
 #[test]
 fn moves_to_one_term_are_joined(rt: HostRuntime) -> Result<(), Fail> {
-    let alloc = rt.alloc();
-    let mut store = Store::new(alloc);
-    let mut diagrams = Diagrams::new(alloc, 1)?;
-    let terms = guarded_and_free(&mut store)?;
-    let steps = step(alloc, &mut store, &mut diagrams, &terms)?;
-    let guard = diagrams.constant(true);
-    let to = store.intern(Shape::One)?;
-    assert!(rt; steps.accepts == diagrams.constant(false));
-    assert_eq!(rt;
-        steps.moves.as_slice(),
-        [Guarded { guard, act: 0, to }].as_slice()
-    );
+    let mut diagrams = Diagrams::new(rt.alloc(), 1)?;
+    assert!(rt; moves_are_joined_in(rt.alloc(), &mut diagrams)?);
     Ok(())
 }

@@ -25,16 +25,34 @@ fn either_test(
     diagrams.or(first, second)
 }
 
+// True where an odd number of forty tests is.
+fn parity_of_all(diagrams: &mut Diagrams) -> Result<DiagramId, NoMemory>
+    requires { diagrams.old.tests ≡ 40 }
+    ensures parity { IfOk result (IsDiagramId diagrams.new) }
+    ensures tests { diagrams.new.tests ≡ 40 }
+{
+    let mut parity = diagrams.constant(false);
+    for test in 0..40 {
+        parity = either_test(diagrams, parity, test)?;
+    }
+    Ok(parity)
+}
+
+// The first test of the parity, and the first once that test is fixed.
+fn first_tests(diagrams: &mut Diagrams) -> Result<(Option<usize>, Option<usize>), NoMemory>
+    requires { diagrams.old.tests ≡ 40 }
+{
+    let parity = parity_of_all(diagrams)?;
+    let first = diagrams.top(parity);
+    let rest = diagrams.fix(parity, 0, true)?;
+    Ok((first, diagrams.top(rest)))
+}
+
 // Where results are not kept, this takes 2 to the power of 40 steps.
 #[test]
 fn the_parity_of_forty_tests_is_found(rt: HostRuntime) -> Result<(), Fail> {
     let mut diagrams = Diagrams::new(rt.alloc(), 40)?;
-    let mut parity = diagrams.constant(false);
-    for test in 0..40 {
-        parity = either_test(&mut diagrams, parity, test)?;
-    }
-    assert!(rt; diagrams.top(parity) == Some(0));
-    let rest = diagrams.fix(parity, 0, true)?;
-    assert!(rt; diagrams.top(rest) == Some(1));
+    let tests = first_tests(&mut diagrams)?;
+    assert!(rt; tests == (Some(0), Some(1)));
     Ok(())
 }

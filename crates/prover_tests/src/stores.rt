@@ -1,31 +1,93 @@
 //! Ids and nodes, counted by hand.
-use kat_model::Kat;
+ghost use Rattle.term_nodes.specs.NodeLists.{IsTerm};
+
+use kat_model::{Kat, NoMemory};
+use std::alloc::Global;
 use std::test::Fail;
-use term_store::{Shape, Store, TestShape};
+use term_store::{Shape, Store, TermId, TestShape};
+
+// Whether an action that is interned twice has one id and is one node, in an empty store.
+fn actions_are_one(store: &mut Store) -> Result<bool, NoMemory> {
+    let first = store.intern(Shape::Act(0))?;
+    let second = store.intern(Shape::Act(0))?;
+    Ok(first == second && store.count() == 1)
+}
+
+fn sequence_of(store: &mut Store, e: TermId, f: TermId) -> Result<TermId, NoMemory>
+    requires first { IsTerm store.old e }
+    requires second { IsTerm store.old f }
+{
+    store.intern(Shape::Seq(e, f))
+}
+
+fn sequence(store: &mut Store, first: usize, second: usize) -> Result<TermId, NoMemory> {
+    let e = store.intern(Shape::Act(first))?;
+    let f = store.intern(Shape::Act(second))?;
+    sequence_of(store, e, f)
+}
+
+// Whether the sequences of two actions in both orders have two ids, by age, and are four nodes with the actions.
+fn orders_are_two(store: &mut Store) -> Result<bool, NoMemory> {
+    let forth = sequence(store, 0, 1)?;
+    let back = sequence(store, 1, 0)?;
+    Ok(forth < back && store.count() == 4)
+}
+
+// Whether 1 and then an action is the action.
+fn one_is_left_out(store: &mut Store) -> Result<bool, NoMemory> {
+    let one = store.intern(Shape::One)?;
+    let f = store.intern(Shape::Act(1))?;
+    Ok(store.dot(one, f)? == f)
+}
+
+fn product(store: &mut Store, first: usize, second: usize) -> Result<TermId, NoMemory> {
+    let e = store.intern(Shape::Act(first))?;
+    let f = store.intern(Shape::Act(second))?;
+    store.dot(e, f)
+}
+
+// Whether one action and then another is their sequence.
+fn products_are_sequences(store: &mut Store) -> Result<bool, NoMemory> {
+    Ok(product(store, 0, 1)? == sequence(store, 0, 1)?)
+}
+
+// Whether a test has its node back, of which a store with five terms has six.
+fn test_is_sixth(store: &mut Store) -> Result<bool, NoMemory> {
+    let prim = store.intern_test(TestShape::Prim(0))?;
+    let test = store.intern(Shape::Test(prim))?;
+    Ok(store.shape(test) == Shape::Test(prim) && store.count() == 6)
+}
 
 #[test]
 fn equal_nodes_have_one_id(rt: HostRuntime) -> Result<(), Fail> {
     let mut store = Store::new(rt.alloc());
-    let e = store.intern(Shape::Act(0))?;
-    assert!(rt; store.intern(Shape::Act(0))? == e && store.count() == 1);
-    let f = store.intern(Shape::Act(1))?;
-    let forth = store.intern(Shape::Seq(e, f))?;
-    let back = store.intern(Shape::Seq(f, e))?;
-    assert!(rt; forth < back && store.count() == 4);
-    let one = store.intern(Shape::One)?;
-    assert!(rt; store.dot(one, f)? == f && store.dot(e, f)? == forth);
-    let prim = store.intern_test(TestShape::Prim(0))?;
-    let test = store.intern(Shape::Test(prim))?;
-    assert!(rt; store.shape(test) == Shape::Test(prim) && store.count() == 6);
+    assert!(rt; actions_are_one(&mut store)?);
+    assert!(rt; orders_are_two(&mut store)?);
+    assert!(rt; one_is_left_out(&mut store)?);
+    assert!(rt; products_are_sequences(&mut store)?);
+    assert!(rt; test_is_sixth(&mut store)?);
     Ok(())
+}
+
+fn id_of(store: &mut Store, tree: &Kat) -> Result<TermId, NoMemory> {
+    store.of_tree(tree)
+}
+
+// Whether a tree of three nodes has one id, in an empty store.
+fn tree_is_one(store: &mut Store, tree: &Kat) -> Result<bool, NoMemory> {
+    let first = id_of(store, tree)?;
+    let second = id_of(store, tree)?;
+    Ok(first == second && store.count() == 3)
+}
+
+fn sum_is_one(alloc: Global, store: &mut Store) -> Result<bool, NoMemory> {
+    let sum = Kat::new_sum(alloc, Kat::Act(0), Kat::Act(1))?;
+    tree_is_one(store, &sum)
 }
 
 #[test]
 fn equal_trees_have_one_id(rt: HostRuntime) -> Result<(), Fail> {
-    let alloc = rt.alloc();
-    let mut store = Store::new(alloc);
-    let sum = Kat::new_sum(alloc, Kat::Act(0), Kat::Act(1))?;
-    let first = store.of_tree(&sum)?;
-    assert!(rt; store.of_tree(&sum)? == first && store.count() == 3);
+    let mut store = Store::new(rt.alloc());
+    assert!(rt; sum_is_one(rt.alloc(), &mut store)?);
     Ok(())
 }

@@ -1,5 +1,5 @@
 //! `check` and `replay` on evidence.
-use crate::fixtures::{DENESTING, DENESTING_EVIDENCE, line_of, reply};
+use crate::fixtures::{DENESTING, DENESTING_EVIDENCE, is_line, replies};
 use kat_model::NoMemory;
 use kat_tool::{checked_texts, replayed_texts};
 use std::alloc::Global;
@@ -17,7 +17,10 @@ const TRIPLE: &str = "test b, c; action p; hyp b.p.!c = 0; goal triple {b} p {c}
 
 const TRIPLE_FAILS: &str = "test b; action p; goal triple {b} p {b};";
 
-const ACCEPTED: &[(&str, &str, &str)] = &[
+// A text, evidence, and what is told.
+type Row = (&'static str, &'static str, &'static str);
+
+const ACCEPTED: &[Row] = &[
     (ONE_TEST, ONE_TEST_EVIDENCE, "0 accepted equal\n"),
     (DENESTING, DENESTING_EVIDENCE, "0 accepted equal\n"),
     (
@@ -57,7 +60,7 @@ const ACCEPTED: &[(&str, &str, &str)] = &[
     ),
 ];
 
-const REJECTED: &[(&str, &str, &str)] = &[
+const REJECTED: &[Row] = &[
     (
         DENESTING,
         "kat 1 equal\nE act 0\nE act 1\nE sum 0 1\nE star 2\nE star 0\nE seq 4 1\nE star 5\nE seq 6 4\nE seq 5 6\nE seq 8 4\nP 3 | 7\nend\n",
@@ -111,7 +114,7 @@ const REJECTED: &[(&str, &str, &str)] = &[
     ),
 ];
 
-const REPLAYED: &[(&str, &str, &str)] = &[
+const REPLAYED: &[Row] = &[
     (
         TRIPLE_FAILS,
         "kat 1 different\nA 1\nM 0 0\nend\n",
@@ -150,37 +153,41 @@ const REPLAYED: &[(&str, &str, &str)] = &[
     ),
 ];
 
+fn command_holds(alloc: Global, line: &str, row: &Row) -> Result<bool, NoMemory> {
+    let (text, evidence, want) = row;
+    replies(alloc, line, text.as_bytes(), evidence.as_bytes(), want)
+}
+
+fn check_holds(alloc: Global, row: &Row) -> Result<bool, NoMemory> {
+    let (text, evidence, want) = row;
+    let found = checked_texts(alloc, text.as_bytes(), evidence.as_bytes())?;
+    is_line(alloc, &found, want)
+}
+
+fn replay_holds(alloc: Global, row: &Row) -> Result<bool, NoMemory> {
+    let (text, evidence, want) = row;
+    let found = replayed_texts(alloc, text.as_bytes(), evidence.as_bytes())?;
+    is_line(alloc, &found, want)
+}
+
 #[test]
 fn evidence_is_checked(rt: HostRuntime) -> Result<(), Fail> {
-    for (line, rows) in [
-        ("check f e", ACCEPTED),
-        ("check f e", REJECTED),
-        ("replay f e", REPLAYED),
-    ] {
-        for (text, evidence, want) in rows {
-            let found = reply(rt.alloc(), line, text.as_bytes(), evidence.as_bytes())?;
-            assert_eq!(rt; found.as_slice(), want.as_bytes(), "on {text}");
-        }
+    for row in ACCEPTED {
+        assert!(rt; command_holds(rt.alloc(), "check f e", row)?, "{row:?}");
+        assert!(rt; check_holds(rt.alloc(), row)?, "{row:?}");
+    }
+    for row in REJECTED {
+        assert!(rt; command_holds(rt.alloc(), "check f e", row)?, "{row:?}");
+        assert!(rt; check_holds(rt.alloc(), row)?, "{row:?}");
     }
     Ok(())
 }
 
 #[test]
-fn bytes_are_checked(rt: HostRuntime) -> Result<(), Fail> {
-    for rows in [ACCEPTED, REJECTED] {
-        for (text, evidence, want) in rows {
-            let found = checked_texts(rt.alloc(), text.as_bytes(), evidence.as_bytes())?;
-            assert_eq!(rt; line_of(rt.alloc(), &found)?.as_slice(), want.as_bytes());
-        }
-    }
-    Ok(())
-}
-
-#[test]
-fn bytes_are_replayed(rt: HostRuntime) -> Result<(), Fail> {
-    for (text, evidence, want) in REPLAYED {
-        let found = replayed_texts(rt.alloc(), text.as_bytes(), evidence.as_bytes())?;
-        assert_eq!(rt; line_of(rt.alloc(), &found)?.as_slice(), want.as_bytes());
+fn evidence_is_replayed(rt: HostRuntime) -> Result<(), Fail> {
+    for row in REPLAYED {
+        assert!(rt; command_holds(rt.alloc(), "replay f e", row)?, "{row:?}");
+        assert!(rt; replay_holds(rt.alloc(), row)?, "{row:?}");
     }
     Ok(())
 }
@@ -211,33 +218,41 @@ const REFUSED: &[(&str, &str)] = &[
     ("kat 1 equal\nend\n\n", "2 refused: evidence Trailing 3\n"),
 ];
 
+fn refuses(alloc: Global, line: &str, evidence: &[u8], want: &str) -> Result<bool, NoMemory> {
+    replies(alloc, line, ONE_TEST.as_bytes(), evidence, want)
+}
+
 #[test]
 fn other_texts_are_refused(rt: HostRuntime) -> Result<(), Fail> {
     for (evidence, want) in REFUSED {
-        for line in ["check f e", "replay f e"] {
-            let found = reply(rt.alloc(), line, ONE_TEST.as_bytes(), evidence.as_bytes())?;
-            assert_eq!(rt; found.as_slice(), want.as_bytes(), "on {evidence}");
-        }
+        let evidence = evidence.as_bytes();
+        assert!(rt; refuses(rt.alloc(), "check f e", evidence, want)?, "{want}");
+        assert!(rt;
+            refuses(rt.alloc(), "replay f e", evidence, want)?,
+            "{want}"
+        );
     }
     Ok(())
 }
 
+// Whether this is told of evidence for the identity of denesting.
+fn denesting_is(alloc: Global, evidence: &[u8], want: &str) -> Result<bool, NoMemory> {
+    replies(alloc, "check f e", DENESTING.as_bytes(), evidence, want)
+}
+
+fn longer_is_refused(alloc: Global) -> Result<bool, NoMemory> {
+    let mut longer = DENESTING_EVIDENCE.as_bytes().to_vec(alloc)?;
+    longer.push(b'x')?;
+    denesting_is(alloc, &longer, "2 refused: evidence Trailing 15\n")
+}
+
 #[test]
 fn prefixes_are_truncated(rt: HostRuntime) -> Result<(), Fail> {
-    let mut longer = DENESTING_EVIDENCE.as_bytes().to_vec(rt.alloc())?;
-    longer.push(b'x')?;
-    let found = reply(rt.alloc(), "check f e", DENESTING.as_bytes(), &longer)?;
-    assert_eq!(rt;
-        found.as_slice(),
-        b"2 refused: evidence Trailing 15\n".as_slice()
-    );
+    assert!(rt; longer_is_refused(rt.alloc())?);
     for length in 0..DENESTING_EVIDENCE.len() {
         let prefix = &DENESTING_EVIDENCE.as_bytes()[..length];
-        let found = reply(rt.alloc(), "check f e", DENESTING.as_bytes(), prefix)?;
-        assert_eq!(rt;
-            found.as_slice(),
-            b"2 refused: evidence Truncated\n".as_slice()
-        );
+        let is_truncated = denesting_is(rt.alloc(), prefix, "2 refused: evidence Truncated\n")?;
+        assert!(rt; is_truncated, "at {length}");
     }
     Ok(())
 }
@@ -262,23 +277,31 @@ fn shared_nodes(alloc: Global, last: usize) -> Result<String, NoMemory> {
     Ok(text)
 }
 
+// Whether this is told of evidence for `p*` and its square.
+fn star_twice_is(alloc: Global, evidence: &str, want: &str) -> Result<bool, NoMemory> {
+    replies(
+        alloc,
+        "check f e",
+        STAR_TWICE.as_bytes(),
+        evidence.as_bytes(),
+        want,
+    )
+}
+
+fn long_chain_is(alloc: Global, want: &str) -> Result<bool, NoMemory> {
+    let evidence = long_chain(alloc, 50_000)?;
+    star_twice_is(alloc, evidence.as_str(), want)
+}
+
+fn shared_nodes_are(alloc: Global, want: &str) -> Result<bool, NoMemory> {
+    let evidence = shared_nodes(alloc, 100)?;
+    star_twice_is(alloc, evidence.as_str(), want)
+}
+
 #[test]
 fn long_and_shared_nodes_cost_no_tree(rt: HostRuntime) -> Result<(), Fail> {
-    let alloc = rt.alloc();
-    for (evidence, want) in [
-        (
-            long_chain(alloc, 50_000)?,
-            "3 rejected: Missing pair 2 atom - action 0\n",
-        ),
-        (shared_nodes(alloc, 100)?, "3 rejected: FirstPair\n"),
-    ] {
-        let found = reply(
-            alloc,
-            "check f e",
-            STAR_TWICE.as_bytes(),
-            evidence.as_bytes(),
-        )?;
-        assert_eq!(rt; found.as_slice(), want.as_bytes());
-    }
+    let missing = "3 rejected: Missing pair 2 atom - action 0\n";
+    assert!(rt; long_chain_is(rt.alloc(), missing)?);
+    assert!(rt; shared_nodes_are(rt.alloc(), "3 rejected: FirstPair\n")?);
     Ok(())
 }

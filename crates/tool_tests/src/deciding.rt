@@ -1,20 +1,16 @@
 //! `decide`, and `check` on what it prints.
-use crate::fixtures::{line_of, reply};
+use crate::fixtures::{is_line, replies, reply};
 use kat_model::NoMemory;
 use kat_tool::decided_text;
 use std::alloc::Global;
 use std::test::Fail;
 
-// What `decide` tells of a text, and then what `check` tells of the evidence.
-fn decided(alloc: Global, text: &str) -> Result<Vec<u8>, NoMemory> {
-    let mut found = reply(alloc, "decide f", text.as_bytes(), b"")?;
-    let evidence = match found.as_slice() {
+// The evidence in what `decide` tells, after the status and the space.
+fn evidence_in(told: &[u8]) -> &[u8] {
+    match told {
         [_, _, evidence @ ..] => evidence,
         other => other,
-    };
-    let checked = reply(alloc, "check f e", text.as_bytes(), evidence)?;
-    found.extend_from_slice(&checked)?;
-    Ok(found)
+    }
 }
 
 const EQUAL: &[&str] = &[
@@ -33,22 +29,52 @@ const EQUAL: &[&str] = &[
     "test b; action p; goal equal (b.p)*.!b, b.p.(b.p)*.!b + !b;",
 ];
 
+fn is_equal(told: &[u8]) -> bool {
+    told.starts_with(b"0 kat 2 equal\n") && told.ends_with(b"end\n")
+}
+
+// Whether `decide` tells of a certificate, and `check` accepts it.
 fn holds(alloc: Global, text: &str) -> Result<bool, NoMemory> {
-    let found = decided(alloc, text)?;
-    Ok(found.starts_with(b"0 kat 2 equal\n") && found.ends_with(b"end\n0 accepted equal\n"))
+    let told = reply(alloc, "decide f", text.as_bytes(), b"")?;
+    if !is_equal(&told) {
+        return Ok(false);
+    }
+    let evidence = evidence_in(&told);
+    replies(
+        alloc,
+        "check f e",
+        text.as_bytes(),
+        evidence,
+        "0 accepted equal\n",
+    )
+}
+
+fn put_forty(text: &mut String) -> Result<(), NoMemory> {
+    for i in 1..40 {
+        write!(text, ", t{i}")?;
+    }
+    text.push_str("; goal equal t0")?;
+    for i in 1..40 {
+        write!(text, " + t{i}")?;
+    }
+    text.push_str(", t39")?;
+    for i in (0..39).rev() {
+        write!(text, " + t{i}")?;
+    }
+    text.push_str(";")?;
+    Ok(())
 }
 
 // The sum of forty tests in order, and in reverse order. A walk over all atoms would not end.
 fn forty_tests(alloc: Global) -> Result<String, NoMemory> {
-    let mut names = String::from_str(alloc, "t0")?;
-    let mut left = String::from_str(alloc, "t0")?;
-    let mut right = String::from_str(alloc, "t39")?;
-    for i in 1..40 {
-        write!(names, ", t{i}")?;
-        write!(left, " + t{i}")?;
-        write!(right, " + t{}", 39_usize.saturating_sub(i))?;
-    }
-    Ok(format!(in alloc; "test {names}; goal equal {left}, {right};")?)
+    let mut text = String::from_str(alloc, "test t0")?;
+    put_forty(&mut text)?;
+    Ok(text)
+}
+
+fn forty_tests_are_equal(alloc: Global) -> Result<bool, NoMemory> {
+    let text = forty_tests(alloc)?;
+    holds(alloc, text.as_str())
 }
 
 #[test]
@@ -56,7 +82,7 @@ fn what_holds_is_decided(rt: HostRuntime) -> Result<(), Fail> {
     for text in EQUAL {
         assert!(rt; holds(rt.alloc(), text)?, "on {text}");
     }
-    assert!(rt; holds(rt.alloc(), forty_tests(rt.alloc())?.as_str())?);
+    assert!(rt; forty_tests_are_equal(rt.alloc())?);
     Ok(())
 }
 
@@ -69,11 +95,15 @@ const BYTES: &[(&str, &str)] = &[
     ("goal equal b, b;", "2 refused: UnknownName 11\n"),
 ];
 
+fn is_decided(alloc: Global, text: &str, want: &str) -> Result<bool, NoMemory> {
+    let found = decided_text(alloc, text.as_bytes())?;
+    is_line(alloc, &found, want)
+}
+
 #[test]
 fn bytes_are_decided(rt: HostRuntime) -> Result<(), Fail> {
     for (text, want) in BYTES {
-        let found = decided_text(rt.alloc(), text.as_bytes())?;
-        assert_eq!(rt; line_of(rt.alloc(), &found)?.as_slice(), want.as_bytes());
+        assert!(rt; is_decided(rt.alloc(), text, want)?, "on {text}");
     }
     Ok(())
 }
@@ -95,9 +125,26 @@ const DIFFERENT: &[(&str, &str)] = &[
     ),
 ];
 
+// Whether `decide` tells this, and `check` accepts it.
+fn string_is(alloc: Global, text: &str, want: &str) -> Result<bool, NoMemory> {
+    let told = reply(alloc, "decide f", text.as_bytes(), b"")?;
+    if told.as_slice() != want.as_bytes() {
+        return Ok(false);
+    }
+    let evidence = evidence_in(&told);
+    replies(
+        alloc,
+        "check f e",
+        text.as_bytes(),
+        evidence,
+        "1 accepted different\n",
+    )
+}
+
+// Whether the evidence is a string of these lines.
 fn differs(alloc: Global, text: &str, lines: &str) -> Result<bool, NoMemory> {
-    let want = format!(in alloc; "1 kat 1 different\n{lines}end\n1 accepted different\n")?;
-    Ok(decided(alloc, text)?.as_slice() == want.as_bytes())
+    let want = format!(in alloc; "1 kat 1 different\n{lines}end\n")?;
+    string_is(alloc, text, want.as_str())
 }
 
 #[test]

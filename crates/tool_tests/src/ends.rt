@@ -1,18 +1,38 @@
 //! The current folder and the standard output.
 use kat_io::{FolderShelf, GetFault, Shelf, Sink, StdoutSink};
+use std::alloc::Global;
 use std::fs;
 use std::test::Fail;
+
+// Whether the shelf has these bytes under the name, where it gives no more than so many.
+fn gives<S: Shelf>(alloc: Global, shelf: &mut S, name: &str, most: u64, want: &[u8]) -> bool {
+    match shelf.get(alloc, name, Some(most)) {
+        Ok(bytes) => bytes.as_slice() == want,
+        Err(_) => false,
+    }
+}
+
+fn fault_of<S: Shelf>(
+    alloc: Global,
+    shelf: &mut S,
+    name: &str,
+    most: Option<u64>,
+) -> Option<GetFault> {
+    match shelf.get(alloc, name, most) {
+        Ok(_) => None,
+        Err(fault) => Some(fault),
+    }
+}
 
 #[test]
 fn a_folder_gives_its_files(rt: HostRuntime) -> Result<(), Fail> {
     fs::write(&rt, "held", "abc")?;
     let mut shelf = FolderShelf::new(&rt);
-    let whole = shelf.get(rt.alloc(), "held", Some(3))?;
-    assert_eq!(rt; whole.as_slice(), b"abc".as_slice());
-    let past = shelf.get(rt.alloc(), "held", Some(2));
-    assert!(rt; matches!(past, Err(GetFault::TooLong)));
-    let missing = shelf.get(rt.alloc(), "none", None);
-    assert!(rt; matches!(missing, Err(GetFault::Failed)));
+    assert!(rt; gives(rt.alloc(), &mut shelf, "held", 3, b"abc"));
+    let past = fault_of(rt.alloc(), &mut shelf, "held", Some(2));
+    assert!(rt; past == Some(GetFault::TooLong));
+    let missing = fault_of(rt.alloc(), &mut shelf, "none", None);
+    assert!(rt; missing == Some(GetFault::Failed));
     Ok(())
 }
 

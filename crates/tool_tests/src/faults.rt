@@ -1,10 +1,14 @@
 //! Shelves and sinks that fail.
-use crate::fixtures::{DENESTING, DENESTING_EVIDENCE, shelf_of, told};
-use kat_io::MemSink;
+use crate::fixtures::{DENESTING, DENESTING_EVIDENCE, shelf_of, tells};
+use kat_io::{MemShelf, MemSink};
+use kat_model::NoMemory;
+use std::alloc::Global;
 use std::test::Fail;
 
-// The words, the names of the two files, and the call that fails.
-const SHELVES: &[(&str, &str, &str, u64, &str)] = &[
+// The words, the names of the two files, the call that fails, and what is told.
+type ShelfRow = (&'static str, &'static str, &'static str, u64, &'static str);
+
+const SHELVES: &[ShelfRow] = &[
     ("decide f", "g", "e", 9, "4 cannot read f\n"),
     ("decide f", "f", "e", 0, "4 cannot read f\n"),
     ("check f e", "f", "e", 0, "4 cannot read f\n"),
@@ -13,17 +17,29 @@ const SHELVES: &[(&str, &str, &str, u64, &str)] = &[
     ("check f e", "f", "e", 2, "0 accepted equal\n"),
 ];
 
+fn shelf_tells(
+    alloc: Global,
+    line: &str,
+    shelf: &mut MemShelf,
+    want: &str,
+) -> Result<bool, NoMemory> {
+    let mut sink = MemSink::new(alloc, 100, 10)?;
+    tells(alloc, line, shelf, &mut sink, want)
+}
+
+fn shelf_fails(alloc: Global, row: &ShelfRow) -> Result<bool, NoMemory> {
+    let (line, file, evidence, call, want) = row;
+    let first = (*file, DENESTING.as_bytes());
+    let second = (*evidence, DENESTING_EVIDENCE.as_bytes());
+    let mut shelf = shelf_of(alloc, first, second)?;
+    shelf.fail_at(*call)?;
+    shelf_tells(alloc, line, &mut shelf, want)
+}
+
 #[test]
 fn a_shelf_fails(rt: HostRuntime) -> Result<(), Fail> {
-    let alloc = rt.alloc();
-    for (line, file, evidence, call, want) in SHELVES {
-        let first = (*file, DENESTING.as_bytes());
-        let second = (*evidence, DENESTING_EVIDENCE.as_bytes());
-        let mut shelf = shelf_of(alloc, first, second)?;
-        shelf.fail_at(*call)?;
-        let mut sink = MemSink::new(alloc, 100, 10)?;
-        let found = told(alloc, line, &mut shelf, &mut sink)?;
-        assert_eq!(rt; found.as_slice(), want.as_bytes(), "{line} at {call}");
+    for row in SHELVES {
+        assert!(rt; shelf_fails(rt.alloc(), row)?, "{row:?}");
     }
     Ok(())
 }
@@ -36,16 +52,27 @@ const SINKS: &[(u64, &str)] = &[
     (3, "1 kat 1 different\nA 10\nend\n"),
 ];
 
+fn sink_tells(
+    alloc: Global,
+    shelf: &mut MemShelf,
+    call: u64,
+    want: &str,
+) -> Result<bool, NoMemory> {
+    let mut sink = MemSink::new(alloc, 100, 10)?;
+    sink.fail_at(call)?;
+    tells(alloc, "decide f", shelf, &mut sink, want)
+}
+
+fn sink_fails(alloc: Global, call: u64, want: &str) -> Result<bool, NoMemory> {
+    let text = b"test b, c; goal equal [b && c], b;";
+    let mut shelf = shelf_of(alloc, ("f", text), ("e", b""))?;
+    sink_tells(alloc, &mut shelf, call, want)
+}
+
 #[test]
 fn a_sink_fails(rt: HostRuntime) -> Result<(), Fail> {
-    let alloc = rt.alloc();
     for (call, want) in SINKS {
-        let text = b"test b, c; goal equal [b && c], b;";
-        let mut shelf = shelf_of(alloc, ("f", text), ("e", b""))?;
-        let mut sink = MemSink::new(alloc, 100, 10)?;
-        sink.fail_at(*call)?;
-        let found = told(alloc, "decide f", &mut shelf, &mut sink)?;
-        assert_eq!(rt; found.as_slice(), want.as_bytes(), "at {call}");
+        assert!(rt; sink_fails(rt.alloc(), *call, want)?, "at {call}");
     }
     Ok(())
 }

@@ -3,17 +3,21 @@ use kat_io::{MemShelf, MemSink};
 use kat_model::NoMemory;
 use kat_tool::{Reply, Words, run};
 use std::alloc::Global;
-use std::test::Fail;
 
-// The words between single spaces, and none of an empty line.
-pub(crate) fn words_of(alloc: Global, line: &str) -> Result<Words, NoMemory> {
-    let mut words = Words::new(alloc);
+// Adds the words between single spaces, and none of an empty line.
+fn push_words(words: &mut Words, line: &str) -> Result<(), NoMemory> {
     if line.is_empty() {
-        return Ok(words);
+        return Ok(());
     }
     for word in line.split(' ') {
         words.push(word)?;
     }
+    Ok(())
+}
+
+fn words_of(alloc: Global, line: &str) -> Result<Words, NoMemory> {
+    let mut words = Words::new(alloc);
+    push_words(&mut words, line)?;
     Ok(words)
 }
 
@@ -30,14 +34,26 @@ pub(crate) fn shelf_of(
 }
 
 // The status, a space, and what is printed.
-pub(crate) fn line_of(alloc: Global, reply: &Reply) -> Result<Vec<u8>, NoMemory> {
+fn line_of(alloc: Global, reply: &Reply) -> Result<Vec<u8>, NoMemory> {
     let mut out = format!(in alloc; "{} ", reply.status)?.into_bytes();
     out.extend_from_slice(&reply.output)?;
     Ok(out)
 }
 
+// Whether this is what the reply has, in a line of the status, a space, and what is printed.
+pub(crate) fn is_line(alloc: Global, reply: &Reply, want: &str) -> Result<bool, NoMemory> {
+    Ok(line_of(alloc, reply)?.as_slice() == want.as_bytes())
+}
+
 // The status, a space, and what the sink has taken.
-pub(crate) fn told(
+fn taken_line(alloc: Global, status: u8, sink: &MemSink) -> Result<Vec<u8>, NoMemory> {
+    let mut out = format!(in alloc; "{status} ")?.into_bytes();
+    out.extend_from_slice(sink.taken())?;
+    Ok(out)
+}
+
+// What is told of the words of a line: the status, a space, and what the sink has taken.
+fn told(
     alloc: Global,
     line: &str,
     shelf: &mut MemShelf,
@@ -45,9 +61,24 @@ pub(crate) fn told(
 ) -> Result<Vec<u8>, NoMemory> {
     let words = words_of(alloc, line)?;
     let status = run(alloc, &words, shelf, sink);
-    let mut out = format!(in alloc; "{status} ")?.into_bytes();
-    out.extend_from_slice(sink.taken())?;
-    Ok(out)
+    taken_line(alloc, status, sink)
+}
+
+// Whether this is told.
+pub(crate) fn tells(
+    alloc: Global,
+    line: &str,
+    shelf: &mut MemShelf,
+    sink: &mut MemSink,
+    want: &str,
+) -> Result<bool, NoMemory> {
+    Ok(told(alloc, line, shelf, sink)?.as_slice() == want.as_bytes())
+}
+
+// What is told where the sink never fails.
+fn told_in_full(alloc: Global, line: &str, shelf: &mut MemShelf) -> Result<Vec<u8>, NoMemory> {
+    let mut sink = MemSink::new(alloc, 20_000, 10_000)?;
+    told(alloc, line, shelf, &mut sink)
 }
 
 // What is told where `f` and `e` are these files, and nothing fails.
@@ -58,8 +89,18 @@ pub(crate) fn reply(
     evidence: &[u8],
 ) -> Result<Vec<u8>, NoMemory> {
     let mut shelf = shelf_of(alloc, ("f", text), ("e", evidence))?;
-    let mut sink = MemSink::new(alloc, 20_000, 10_000)?;
-    told(alloc, line, &mut shelf, &mut sink)
+    told_in_full(alloc, line, &mut shelf)
+}
+
+// Whether this is told of these files.
+pub(crate) fn replies(
+    alloc: Global,
+    line: &str,
+    text: &[u8],
+    evidence: &[u8],
+    want: &str,
+) -> Result<bool, NoMemory> {
+    Ok(reply(alloc, line, text, evidence)?.as_slice() == want.as_bytes())
 }
 
 pub(crate) const DENESTING: &str = "action p, q; goal equal (p+q)*, (p*.q)*.p*;";

@@ -1,5 +1,5 @@
 //! Texts and words that are refused.
-use crate::fixtures::reply;
+use crate::fixtures::replies;
 use kat_model::NoMemory;
 use std::alloc::Global;
 use std::test::Fail;
@@ -27,10 +27,10 @@ const TEXTS: &[(&str, &str)] = &[
 // The problem is refused before its evidence.
 #[test]
 fn texts_are_refused(rt: HostRuntime) -> Result<(), Fail> {
-    for (text, want) in TEXTS {
-        for line in ["decide f", "check f e", "replay f e"] {
-            let found = reply(rt.alloc(), line, text.as_bytes(), b"")?;
-            assert_eq!(rt; found.as_slice(), want.as_bytes(), "{line} on {text}");
+    for line in ["decide f", "check f e", "replay f e"] {
+        for (text, want) in TEXTS {
+            let is_refused = replies(rt.alloc(), line, text.as_bytes(), b"", want)?;
+            assert!(rt; is_refused, "{line} on {text}");
         }
     }
     Ok(())
@@ -48,9 +48,16 @@ fn tests_below(alloc: Global, count: usize) -> Result<String, NoMemory> {
 
 // A test in so many parentheses.
 fn enclosed(alloc: Global, depth: usize) -> Result<String, NoMemory> {
-    let before = "(".repeat(alloc, depth)?;
-    let after = ")".repeat(alloc, depth)?;
-    Ok(format!(in alloc; "test b; goal equal {before}b{after}, b;")?)
+    let mut text = String::from_str(alloc, "test b; goal equal ")?;
+    for _ in 0..depth {
+        text.push_str("(")?;
+    }
+    text.push_str("b")?;
+    for _ in 0..depth {
+        text.push_str(")")?;
+    }
+    text.push_str(", b;")?;
+    Ok(text)
 }
 
 // Terms up to this one, each the product of the one before it with itself, and a goal over a14. The term a14 has
@@ -94,12 +101,18 @@ const LIMITS: &[(&str, usize, &str)] = &[
     ("bytes FF", 1, "2 refused: NotUtf8 0\n"),
 ];
 
+fn limit_holds(alloc: Global, sort: &str, count: usize, want: &str) -> Result<bool, NoMemory> {
+    let text = large(alloc, sort, count)?;
+    replies(alloc, "decide f", &text, b"", want)
+}
+
 #[test]
 fn texts_have_limits(rt: HostRuntime) -> Result<(), Fail> {
     for (sort, count, want) in LIMITS {
-        let text = large(rt.alloc(), sort, *count)?;
-        let found = reply(rt.alloc(), "decide f", &text, b"")?;
-        assert_eq!(rt; found.as_slice(), want.as_bytes(), "{count} {sort}");
+        assert!(rt;
+            limit_holds(rt.alloc(), sort, *count, want)?,
+            "{count} {sort}"
+        );
     }
     Ok(())
 }
@@ -124,12 +137,9 @@ const WORDS: &[&str] = &[
 #[test]
 fn words_without_a_command_are_refused(rt: HostRuntime) -> Result<(), Fail> {
     for line in WORDS {
-        let found = reply(rt.alloc(), line, b"test b; goal equal b, b;", b"")?;
-        assert_eq!(rt;
-            found.as_slice(),
-            b"7 refused: words\n".as_slice(),
-            "on {line}"
-        );
+        let text = b"test b; goal equal b, b;";
+        let is_refused = replies(rt.alloc(), line, text, b"", "7 refused: words\n")?;
+        assert!(rt; is_refused, "on {line}");
     }
     Ok(())
 }

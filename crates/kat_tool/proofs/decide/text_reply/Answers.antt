@@ -12,4 +12,4 @@ returns-in_err-problem c =
     refused_replied c.args.text.now IsDecided c.from_residual.result r
 
 pub returns : goal.returns
-returns c = text_posed c.args.text.now IsDecided _ _ c.in_ok-problem.problem c.in_ok-problem.ensures c.in_ok-decided.ensures
+returns c = text_posed c.args.text.now IsDecided _ _ c.in_ok-problem.problem c.in_ok-problem.ensures c.in_ok-decide_reply.ensures

@@ -1,4 +1,4 @@
-use Rattle.kat_tool.proofs.top.served.Goals as goal
+use Rattle.kat_tool.proofs.top.command_reply.Goals as goal
 
 pub returns-in-Check-clause-replied : goal.returns-in-Check-clause-replied
 returns-in-Check-clause-replied g c = rw c.in-Check.is c.check_files.ensures.replied

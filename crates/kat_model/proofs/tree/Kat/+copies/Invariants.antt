@@ -1,0 +1,10 @@
+use Rattle.std.proofs.Common.{◌+◌, ◌*◌, max}
+use Rattle.kat_model.proofs.tree.Kat.TheLaws.{the_size}
+use Rattle.kat_model.proofs.tree.Kat.+copies.Given as goal
+
+-- The call for both parts lies between the call for the whole and those for each part.
+abbrev pub decreases-copy : goal.decreases-copy
+decreases-copy l = 2 * the_size l.self.now
+
+abbrev pub decreases-boxed_copies : goal.decreases-boxed_copies
+decreases-boxed_copies l = 2 * max (the_size l.left.now) (the_size l.right.now) + 1

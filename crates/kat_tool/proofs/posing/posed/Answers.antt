@@ -1,8 +1,0 @@
-use Rattle.problem_file.proofs.NumberedStates.{are_in_ranges}
-use Rattle.kat_tool.proofs.Files.{state_poses}
-use Rattle.kat_tool.proofs.posing.posed.Goals as goal
-
-pub returns : goal.returns
-returns c =
-    let r = c.in_ok-file.ensures in
-    state_poses c.args.text.now r.state r.says c.asked_of.result (c.asked_of.ensures r.state r.holds (are_in_ranges c.args.text.now r.state r.says))
