@@ -1,5 +1,6 @@
 #!/usr/bin/env python3
-"""Measures what long texts cost: problems under `kat decide`, and evidence under `kat check` and `kat replay`.
+"""Measures what long texts cost: problems under `kat decide`, programs under `kat run`, and evidence under `kat check` and
+`kat replay`.
 
     python3 bench/texts.py [--kat PROGRAM] [--runs N] [CASE ..]
 
@@ -43,6 +44,34 @@ def names(n):
 def condition(n):
     """A disjunction of n tests, each in 198 parentheses, in one condition."""
     return f"test b;\ngoal triple {{{'||'.join([f'{chr(40) * 198}b{chr(41) * 198}'] * n)}}} 1 {{b}};\n"
+
+
+# Programs, two of half the length each, since one may have 100,000 nodes; the last is run
+
+def programs(before, statements):
+    """A text of two programs with these statements each, after what they need."""
+    return f"{before}prog Q {{ {statements}}}\nprog P {{ {statements}}}\ngoal equal 0, 0;\n"
+
+
+def statements(n):
+    """n statements that do nothing."""
+    return programs("", "skip; " * (n // 2))
+
+
+def chains(n):
+    """n times `else if`, 198 in a chain."""
+    chain = "if true { } " + "else if true { } " * 198
+    return programs("", chain * (n // 2 // 198))
+
+
+def blocks(n):
+    """n blocks, 199 in one another."""
+    return programs("", ("if true { " * 198 + "} " * 198) * (n // 2 // 198))
+
+
+def uses(n):
+    """n uses of an empty program."""
+    return programs("prog E { }\n", "E;" * (n // 2))
 
 
 # Evidence, with the problem that it belongs to
@@ -90,6 +119,10 @@ CASES = {
     "parentheses": ("decide", parentheses, 2_621),
     "names": ("decide", names, 33_333),
     "condition": ("decide", condition, 2_627),
+    "statements": ("run", statements, 174_000),
+    "else-if": ("run", chains, 61_000),
+    "blocks": ("run", blocks, 87_000),
+    "uses": ("run", uses, 520_000),
     "chain": ("check", chain, 800_000),
     "chain-read": ("replay", chain, 800_000),
     "mixed-read": ("replay", mixed, 250_000),
@@ -97,6 +130,9 @@ CASES = {
     "product": ("replay", product, 512),
     "powers": ("replay", powers, 199),
 }
+
+# The words behind the problem's
+MORE = {"decide": [], "run": ["P", "zero", "0"], "check": ["evidence"], "replay": ["evidence"]}
 
 
 # Measuring
@@ -115,7 +151,7 @@ def measure(program, name, size, folder, runs):
     problem, evidence = made if isinstance(made, tuple) else (made, "")
     (folder / "problem").write_text(problem)
     (folder / "evidence").write_text(evidence)
-    words = [command, "problem"] + ["evidence"] * (command != "decide")
+    words = [command, "problem", *MORE[command]]
     found = [seconds(program, words, folder) for _ in range(runs)]
     most = max(peak(program, words, folder / "said") for _ in range(runs))
     return [name, f"{size:,}", f"{len(evidence or problem):,}", command, found[0][0],

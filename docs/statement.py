@@ -44,6 +44,8 @@ PARTS = [
          names=[("certificate", "Accepted", "IsAccepted"), ("certificate", "Texts", "text_of")]),
     Part("Every text", "What any text asks, by the grammar of problem files, and what `check` answers.",
          clauses=[("kat_tool/src/text.rt", "decided_text", ["headline"]), ("kat_tool/src/text.rt", "checked_texts", ["headline"])]),
+    Part("Runs of programs", "What `run` answers of a text that says a file.",
+         clauses=[("kat_tool/src/text.rt", "run_reply", ["headline"])]),
     Part("The whole program", "The clause of `run` and those of the traits over which it runs: refusals with their "
          "places, first reasons, printed lines and faults of the outside.",
          clauses=[("kat_tool/src/top.rt", "run", [])], traits=["kat_io/src/outside.rt"]),

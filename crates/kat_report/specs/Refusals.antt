@@ -2,7 +2,7 @@
 use Rattle.std.specs.Prelude.{ℕ, List, [], ◌∷◌, ◌++◌, codes, Option, Some, None}
 use Rattle.std.specs.Fmt.{decimal}
 use Rattle.kat_tokens.specs.declared.fault.TextFault.{TextFault}
-use Rattle.kat_tokens.specs.declared.fault.TextFault.TheVariants.{NoMemory, TooLong, NotUtf8, BadToken, Syntax, TooDeep, NumberTooWide, UnknownName, DoubleName, Sort, TooLarge, TooMany, NoGoal, TwoGoals, NotYet}
+use Rattle.kat_tokens.specs.declared.fault.TextFault.TheVariants.{NoMemory, TooLong, NotUtf8, BadToken, Syntax, TooDeep, NumberTooWide, UnknownName, DoubleName, Sort, TooLarge, TooMany, NoGoal, TwoGoals}
 use Rattle.certificate.specs.declared.evidence.EvidenceFault.{EvidenceFault}
 use Rattle.certificate.specs.declared.evidence.EvidenceFault.TheVariants.{NoMemory as NoRoom, Header, Line, NodeOrder, DoubleNode, SetOrder, NumberTooWide as NumeralTooWide, Truncated, Trailing}
 
@@ -21,7 +21,6 @@ fault_word (TooLarge at) = codes "TooLarge"
 fault_word (TooMany at) = codes "TooMany"
 fault_word NoGoal = codes "NoGoal"
 fault_word (TwoGoals at) = codes "TwoGoals"
-fault_word NotYet = codes "NotYet"
 
 abbrev pub fault_place : TextFault → Option ℕ
 fault_place NoMemory = None
@@ -38,7 +37,6 @@ fault_place (TooLarge at) = Some at
 fault_place (TooMany at) = Some at
 fault_place NoGoal = None
 fault_place (TwoGoals at) = Some at
-fault_place NotYet = None
 
 -- a place after a space, where there is one
 abbrev pub place_text : Option ℕ → List ℕ

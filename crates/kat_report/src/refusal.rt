@@ -25,7 +25,6 @@ fn word(fault: &TextFault) -> &'static str
         TextFault::TooMany(_) => "TooMany",
         TextFault::NoGoal => "NoGoal",
         TextFault::TwoGoals(_) => "TwoGoals",
-        TextFault::NotYet => "NotYet",
     }
 }
 
@@ -33,7 +32,7 @@ fn place(fault: &TextFault) -> Option<usize>
     ensures { result ≡ fault_place fault.now }
 {
     match fault {
-        TextFault::NoMemory | TextFault::TooLong | TextFault::NoGoal | TextFault::NotYet => None,
+        TextFault::NoMemory | TextFault::TooLong | TextFault::NoGoal => None,
         TextFault::NotUtf8(at)
         | TextFault::BadToken(at)
         | TextFault::Syntax(at)

@@ -50,7 +50,7 @@ fn condition(meaning: Option<Meaning>) -> Cond
     }
 }
 
-fn defined(alloc: Global, scope: &Scope, i: usize) -> Result<Kat, NoMemory>
+fn copy_of_definition(alloc: Global, scope: &Scope, i: usize) -> Result<Kat, NoMemory>
     ensures { IfOk result (λ e. kat_tree e ≡ defined_tree (slice_get scope.now.terms i)) }
 {
     match scope.definition(i) {
@@ -65,7 +65,7 @@ fn name(alloc: Global, scope: &Scope, meaning: Option<Meaning>) -> Result<Kat, N
     match meaning {
         Some(Meaning::Test(k)) => Ok(Kat::Test(Test::Prim(k))),
         Some(Meaning::Action(a)) => Ok(Kat::Act(a)),
-        Some(Meaning::Term(i)) => defined(alloc, scope, i),
+        Some(Meaning::Term(i)) => copy_of_definition(alloc, scope, i),
         _ => Ok(Kat::Zero),
     }
 }

@@ -5,7 +5,7 @@ ghost use Rattle.kat_model.specs.Problems.{counted};
 ghost use Rattle.kat_text.specs.Sizes.{is_test, as_test};
 ghost use Rattle.kat_text.specs.Measuring.{limited};
 
-use crate::extent::{Extent, limited};
+use crate::extent::{Extent, cut_extent};
 use kat_model::Kat;
 
 // A defined term, how large and how deep the phrase is, and whether it is a test.
@@ -50,7 +50,7 @@ impl Definition {
     pub(crate) fn new(tree: Kat, nesting: usize) -> Definition
         ensures { definition_of result ≡ record { tree = kat_tree tree; nesting = nesting } }
     {
-        let extent = limited(tree.size(), test_size(&tree), nesting);
+        let extent = cut_extent(tree.size(), test_size(&tree), nesting);
         let testable = is_test(&tree);
         Definition {
             tree,

@@ -15,7 +15,7 @@ pub struct Extent {
     pub nesting: usize,
 }
 
-pub(crate) fn limited(nodes: u64, test_nodes: u64, nesting: usize) -> Extent
+pub(crate) fn cut_extent(nodes: u64, test_nodes: u64, nesting: usize) -> Extent
     ensures { result ≡ limited nodes test_nodes nesting }
 {
     Extent {
@@ -26,16 +26,16 @@ pub(crate) fn limited(nodes: u64, test_nodes: u64, nesting: usize) -> Extent
 }
 
 impl Extent {
-    pub(crate) fn deeper(self) -> Extent
+    pub(crate) fn deepen(self) -> Extent
         ensures { result ≡ deeper self }
     {
-        limited(self.nodes, self.test_nodes, self.nesting.saturating_add(1))
+        cut_extent(self.nodes, self.test_nodes, self.nesting.saturating_add(1))
     }
 
-    pub(crate) fn linked(self, other: Extent) -> Extent
+    pub(crate) fn link(self, other: Extent) -> Extent
         ensures { result ≡ linked self other }
     {
-        limited(
+        cut_extent(
             self.nodes.saturating_add(other.nodes).saturating_add(1),
             self.test_nodes
                 .saturating_add(other.test_nodes)
@@ -44,10 +44,10 @@ impl Extent {
         )
     }
 
-    pub(crate) fn topped(self) -> Extent
+    pub(crate) fn add_node(self) -> Extent
         ensures { result ≡ topped self }
     {
-        limited(
+        cut_extent(
             self.nodes.saturating_add(1),
             self.test_nodes.saturating_add(1),
             self.nesting,
@@ -57,7 +57,7 @@ impl Extent {
     pub(crate) fn negated(self) -> Extent
         ensures { result ≡ negated self }
     {
-        limited(
+        cut_extent(
             self.test_nodes.saturating_add(2),
             self.test_nodes.saturating_add(1),
             self.nesting.saturating_add(1),
@@ -67,7 +67,7 @@ impl Extent {
     pub(crate) fn tested(self) -> Extent
         ensures { result ≡ tested self }
     {
-        limited(
+        cut_extent(
             self.nodes.saturating_add(1),
             self.nodes,
             self.nesting.saturating_add(1),
@@ -77,7 +77,7 @@ impl Extent {
     pub(crate) fn compare(self, other: Extent) -> Extent
         ensures { result ≡ compare self other }
     {
-        limited(
+        cut_extent(
             compared_nodes(self.nodes)
                 .saturating_add(compared_nodes(other.nodes))
                 .saturating_add(1),

@@ -4,7 +4,7 @@ ghost use Rattle.kat_syntax.specs.Parsed.{Makes};
 ghost use Rattle.kat_text.specs.ScopeParts.{meaning};
 ghost use Rattle.kat_text.specs.Measuring.{number_extent, variable_extent, condition_extent, defined_extent, name_extent, extents};
 
-use crate::extent::{Extent, limited};
+use crate::extent::{Extent, cut_extent};
 use crate::meaning::Meaning;
 use crate::scope::Scope;
 use kat_model::{MAX_OPEN, Rel};
@@ -23,7 +23,7 @@ fn of_number(context: Context, at: usize) -> Result<Extent, TextFault>
     if !context.compares {
         return Err(TextFault::Sort(at));
     }
-    Ok(limited(1, 0, 0))
+    Ok(cut_extent(1, 0, 0))
 }
 
 fn of_variable(context: Context, at: usize, meaning: Option<Meaning>) -> Result<Extent, TextFault>
@@ -41,7 +41,7 @@ fn of_condition(at: usize, meaning: Option<Meaning>) -> Result<Extent, TextFault
 {
     match meaning {
         None => Err(TextFault::UnknownName(at)),
-        Some(Meaning::Test(_)) => Ok(limited(1, 1, 0)),
+        Some(Meaning::Test(_)) => Ok(cut_extent(1, 1, 0)),
         Some(_) => Err(TextFault::Sort(at)),
     }
 }
@@ -50,7 +50,7 @@ fn of_definition(scope: &Scope, context: Context, at: usize, i: usize) -> Result
     ensures { result ≡ defined_extent context at (slice_get scope.now.terms i) }
 {
     let Some(definition) = scope.definition(i) else {
-        return Ok(limited(1, 1, 0));
+        return Ok(cut_extent(1, 1, 0));
     };
     if context.negated && !definition.testable {
         return Err(TextFault::Sort(at));
@@ -71,12 +71,12 @@ fn of_name(
 {
     match meaning {
         None => Err(TextFault::UnknownName(at)),
-        Some(Meaning::Test(_)) => Ok(limited(2, 1, 0)),
+        Some(Meaning::Test(_)) => Ok(cut_extent(2, 1, 0)),
         Some(Meaning::Action(_)) => {
             if context.negated {
                 return Err(TextFault::Sort(at));
             }
-            Ok(limited(1, 1, 0))
+            Ok(cut_extent(1, 1, 0))
         }
         Some(Meaning::Term(i)) => of_definition(scope, context, at, i),
         Some(_) => Err(TextFault::Sort(at)),
@@ -129,19 +129,19 @@ impl Reading for Measure<'_> {
     }
 
     fn join(&self, _: Operator, left: Extent, right: Extent) -> Result<Extent, TextFault> {
-        Ok(left.linked(right))
+        Ok(left.link(right))
     }
 
     fn enclosed_expr(&self, inside: Extent) -> Extent {
-        inside.deeper()
+        inside.deepen()
     }
 
     fn always(&self) -> Extent {
-        limited(1, 1, 0)
+        cut_extent(1, 1, 0)
     }
 
     fn never(&self) -> Extent {
-        limited(1, 1, 0)
+        cut_extent(1, 1, 0)
     }
 
     fn named_cond(&self, _: Context, at: usize, name: &str) -> Result<Extent, TextFault> {
@@ -153,11 +153,11 @@ impl Reading for Measure<'_> {
     }
 
     fn negated_cond(&self, operand: Extent) -> Result<Extent, TextFault> {
-        Ok(operand.topped().deeper())
+        Ok(operand.add_node().deepen())
     }
 
     fn enclosed_cond(&self, inside: Extent) -> Extent {
-        inside.deeper()
+        inside.deepen()
     }
 
     fn one_cond(&self, first: Extent) -> Result<Extent, TextFault> {
@@ -165,7 +165,7 @@ impl Reading for Measure<'_> {
     }
 
     fn more_conds(&self, list: Extent, next: Extent) -> Result<Extent, TextFault> {
-        Ok(list.linked(next))
+        Ok(list.link(next))
     }
 
     fn all(&self, list: Extent) -> Result<Extent, TextFault> {
@@ -177,11 +177,11 @@ impl Reading for Measure<'_> {
     }
 
     fn zero(&self) -> Extent {
-        limited(1, 1, 0)
+        cut_extent(1, 1, 0)
     }
 
     fn one(&self) -> Extent {
-        limited(1, 1, 0)
+        cut_extent(1, 1, 0)
     }
 
     fn named_term(&self, context: Context, at: usize, name: &str) -> Result<Extent, TextFault> {
@@ -197,14 +197,14 @@ impl Reading for Measure<'_> {
     }
 
     fn enclosed_term(&self, inside: Extent) -> Extent {
-        inside.deeper()
+        inside.deepen()
     }
 
     fn starred(&self, context: Context, at: usize, operand: Extent) -> Result<Extent, TextFault> {
         if context.negated {
             return Err(TextFault::Sort(at));
         }
-        Ok(operand.topped())
+        Ok(operand.add_node())
     }
 
     fn one_term(&self, first: Extent) -> Result<Extent, TextFault> {
@@ -212,7 +212,7 @@ impl Reading for Measure<'_> {
     }
 
     fn more_terms(&self, list: Extent, next: Extent) -> Result<Extent, TextFault> {
-        Ok(list.linked(next))
+        Ok(list.link(next))
     }
 
     fn sum(&self, list: Extent) -> Result<Extent, TextFault> {

@@ -36,8 +36,6 @@ pub enum TextFault {
     NoGoal,
     /// The goal at the place is the second.
     TwoGoals(usize),
-    /// The text is of the format, but has parts that are not read yet.
-    NotYet,
 }
 
 impl From<NoMemory> for TextFault {

@@ -1,49 +1,82 @@
 -- A reply to words is what its command's causes say, and a call of `run` sends it.
-use Rattle.std.proofs.Common.{◌≡◌, ◌⊎◌, ◌≤◌, ℕ, List, [], None, Some, inl, inr, ⊎_elim, refl, sym, subst, ◌∙◌, arith}
+use Rattle.std.proofs.Common.{◌≡◌, ◌⊎◌, ◌≤◌, ℕ, List, [], None, Some, inl, inr, ⊎_elim, refl, sym, subst, ◌∙◌, codes, arith}
 use Rattle.std.proofs.lemmas.Option.{same_Some}
 use Rattle.std.specs.Io.KnownBytes.{Appends}
 use Rattle.kat_io.specs.Told.{Untold}
 use Rattle.kat_io.specs.Outside.{Rose, AppendsFront}
 use Rattle.kat_model.specs.Members.{Has}
 use Rattle.kat_model.specs.Problems.{ProblemParts}
-use Rattle.kat_tool.specs.Commands.{Command, decide, check, replay, command_of, files_of}
+use Rattle.kat_tool.specs.Commands.{Command, decide, check, replay, run, command_of, files_of}
 use Rattle.kat_tool.specs.Asking.{Asks}
 use Rattle.kat_tool.specs.Posing.{Poses}
 use Rattle.kat_tool.specs.Steps.{ShelfUse, HasFailedOn, GetsFile, AsksText}
-use Rattle.kat_tool.specs.Decide.{IsDecided, DecidesText, DecideCauses}
-use Rattle.kat_tool.specs.Check.{ChecksBytes, CheckStatus}
-use Rattle.kat_tool.specs.Replay.{ReplaysBytes}
+use Rattle.kat_tool.specs.Decide.{IsDecided, DecidesText, Decides, DecideCauses}
+use Rattle.kat_tool.specs.Check.{ChecksBytes, Checks, CheckStatus}
+use Rattle.kat_tool.specs.Replay.{ReplaysBytes, Replays}
+use Rattle.kat_tool.specs.Running.{RunsText}
 use Rattle.kat_tool.specs.Replies.{RepliesTo, HasNoCommand, Replies}
 use Rattle.kat_tool.specs.Agreement.{IsAgreed}
-use Rattle.kat_tool.specs.Run.{HasFailed, IsReply, Call, IsRun}
+use Rattle.kat_tool.specs.Run.{HasFailed, HasUnfitRun, IsReply, Call, IsRun}
 use Rattle.kat_tool.specs.Laws.{CausesExclude}
 use Rattle.kat_tool.proofs.Contents.{held_same}
 use Rattle.kat_tool.proofs.Steps.{OneStatus, gets_once, text_once}
 use Rattle.kat_tool.proofs.DecideReplies.{decided_once, decide_causes}
 use Rattle.kat_tool.proofs.CheckReplies.{bytes_once, check_causes}
 use Rattle.kat_tool.proofs.ReplayReplies.{bytes_once as replayed_once, replay_causes}
+use Rattle.kat_tool.proofs.RunReplies.{runs_once, run_causes}
 
--- no command's reply has another status than 0 to 4
+-- replies to commands, by their statuses
 module _ (s : ShelfUse) (status : ℕ) (output : List ℕ) where
-  command_small : (command : Command) → RepliesTo s command status output → status ≤ 4
-  command_small (decide file) r = small (decide_causes s file status output r).answers
+  decide_small : (file : List ℕ) → Decides s file status output → status ≤ 4
+  decide_small file r = small (decide_causes s file status output r).answers
     where
       small : (status ≡ 0) ⊎ ((status ≡ 1) ⊎ ((status ≡ 2) ⊎ (status ≡ 4))) → status ≤ 4
       small h = grind (arith, h)
-  command_small (check file other) r = small (check_causes s file other status output r).answers
+
+  check_small : (file other : List ℕ) → Checks s file other status output → status ≤ 4
+  check_small file other r = small (check_causes s file other status output r).answers
     where
       small : (status ≡ 0) ⊎ ((status ≡ 1) ⊎ ((status ≡ 2) ⊎ ((status ≡ 3) ⊎ (status ≡ 4)))) → status ≤ 4
       small h = grind (arith, h)
-  command_small (replay file other) r = small (replay_causes s file other status output r).answers
+
+  replay_small : (file other : List ℕ) → Replays s file other status output → status ≤ 4
+  replay_small file other r = small (replay_causes s file other status output r).answers
     where
       small : (status ≡ 0) ⊎ ((status ≡ 2) ⊎ ((status ≡ 3) ⊎ (status ≡ 4))) → status ≤ 4
       small h = grind (arith, h)
+
+  -- no command's reply has another status than 0 to 4, or 7
+  command_small : (command : Command) → RepliesTo s command status output → (status ≤ 4) ⊎ (status ≡ 7)
+  command_small (decide file) r = inl (decide_small file r)
+  command_small (check file other) r = inl (check_small file other r)
+  command_small (replay file other) r = inl (replay_small file other r)
+  command_small (run file prog store turns) r = small (run_causes s file prog store turns status output r).answers
+    where
+      small : (status ≡ 0) ⊎ ((status ≡ 1) ⊎ ((status ≡ 2) ⊎ ((status ≡ 4) ⊎ (status ≡ 7)))) → (status ≤ 4) ⊎ (status ≡ 7)
+      small (inl e) = inl (omega (arith, e))
+      small (inr (inl e)) = inl (omega (arith, e))
+      small (inr (inr (inl e))) = inl (omega (arith, e))
+      small (inr (inr (inr (inl e)))) = inl (omega (arith, e))
+      small (inr (inr (inr (inr e)))) = inr e
+
+  no_seven : status ≤ 4 → status ≡ 7 → ⊥
+  no_seven le seven = omega (arith, le, seven)
+
+  -- a command whose words are refused runs a program
+  command_refused : (words : List (List ℕ)) (command : Command) → command_of words ≡ Some command → RepliesTo s command status output → status ≡ 7 → HasUnfitRun s words × (output ≡ codes "refused: words\n")
+  command_refused words (decide file) is r seven = absurd (no_seven (decide_small file r) seven)
+  command_refused words (check file other) is r seven = absurd (no_seven (check_small file other r) seven)
+  command_refused words (replay file other) is r seven = absurd (no_seven (replay_small file other r) seven)
+  command_refused words (run file prog store turns) is r seven =
+      let h = (run_causes s file prog store turns status output r).unfit seven in
+      ((file, prog, store, turns, is, h.0), h.1)
 
   -- the file that a command failed on is one of its own
   command_failed : (command : Command) → RepliesTo s command status output → status ≡ 4 → (file : List ℕ) × Has (files_of command) file × HasFailedOn s file status output
   command_failed (decide file) r four = (file, inl refl, (decide_causes s file status output r).failed four)
   command_failed (check file other) r four = ⊎_elim (λ f. (file, inl refl, f)) (λ h. (other, inr (inl refl), h.2)) ((check_causes s file other status output r).failed four)
   command_failed (replay file other) r four = ⊎_elim (λ f. (file, inl refl, f)) (λ h. (other, inr (inl refl), h.2)) ((replay_causes s file other status output r).failed four)
+  command_failed (run file prog store turns) r four = (file, inl refl, (run_causes s file prog store turns status output r).failed four)
 
 -- a command has one reply where the shelf tells its files
 command_once : (s : ShelfUse) → (Rose s.before s.now → ⊥) → ((file : List ℕ) → s.content file ≡ Untold → ⊥) → (command : Command) → OneStatus (RepliesTo s command)
@@ -53,6 +86,8 @@ command_once s unfailed told (check file other) =
     gets_once s file _ _ (λ t. AsksText t (λ q. GetsFile s other None [] (ChecksBytes q))) (told file) unfailed (λ t. text_once t (λ q. GetsFile s other None [] (ChecksBytes q)) (λ q. gets_once s other None [] (ChecksBytes q) (told other) unfailed (bytes_once q)))
 command_once s unfailed told (replay file other) =
     gets_once s file _ _ (λ t. AsksText t (λ q. GetsFile s other None [] (ReplaysBytes q))) (told file) unfailed (λ t. text_once t (λ q. GetsFile s other None [] (ReplaysBytes q)) (λ q. gets_once s other None [] (ReplaysBytes q) (told other) unfailed (replayed_once q)))
+command_once s unfailed told (run file prog store turns) =
+    gets_once s file _ _ (λ t. RunsText t prog store turns) (told file) unfailed (λ t. runs_once t prog store turns)
 
 module _ (s : ShelfUse) (words : List (List ℕ)) (status : ℕ) (output : List ℕ) where
   -- the reply is that to the command of the words
@@ -60,9 +95,9 @@ module _ (s : ShelfUse) (words : List (List ℕ)) (status : ℕ) (output : List 
   replied_to command is (inl h) = let none = h.none in absurd cc
   replied_to command is (inr (c, was, r)) = subst (λ d. RepliesTo s d status output) (same_Some c command (sym was ∙ is)) r
 
-  no_command_is : HasNoCommand words status output ⊎ ((c : Command) × (command_of words ≡ Some c) × RepliesTo s c status output) → status ≡ 7 → HasNoCommand words status output
-  no_command_is (inl h) seven = h
-  no_command_is (inr (c, was, r)) seven = let small = command_small s status output c r in absurd (omega (arith, small, seven))
+  refused_is : HasNoCommand words status output ⊎ ((c : Command) × (command_of words ≡ Some c) × RepliesTo s c status output) → status ≡ 7 → ((command_of words ≡ None) ⊎ HasUnfitRun s words) × (output ≡ codes "refused: words\n")
+  refused_is (inl h) seven = (inl h.none, h.printed)
+  refused_is (inr (c, was, r)) seven = let h = command_refused s status output words c was r seven in (inr h.0, h.1)
 
   none_is : HasNoCommand words status output ⊎ ((c : Command) × (command_of words ≡ Some c) × RepliesTo s c status output) → command_of words ≡ None → status ≡ 7
   none_is (inl h) none = h.has_status
@@ -75,7 +110,7 @@ module _ (s : ShelfUse) (words : List (List ℕ)) (status : ℕ) (output : List 
   -- no reply has the status of a sink that failed, or of want of memory
   small_is : HasNoCommand words status output ⊎ ((c : Command) × (command_of words ≡ Some c) × RepliesTo s c status output) → (status ≤ 4) ⊎ (status ≡ 7)
   small_is (inl h) = inr h.has_status
-  small_is (inr (c, was, r)) = inl (command_small s status output c r)
+  small_is (inr (c, was, r)) = command_small s status output c r
 
 -- ---- `check` agrees with `decide`
 
@@ -104,9 +139,11 @@ reply_is s words status output r = record {
   agrees = λ file is small. agreed s file status output (decide_causes s file status output (replied_to s words status output (decide file) is r.cause)) small;
   checks = λ file other is. check_causes s file other status output (replied_to s words status output (check file other) is r.cause);
   replays = λ file other is. replay_causes s file other status output (replied_to s words status output (replay file other) is r.cause);
+  runs = λ file prog store turns is. run_causes s file prog store turns status output (replied_to s words status output (run file prog store turns) is r.cause);
   failed = failed_is s words status output r.cause;
-  no_command = ((λ seven. (no_command_is s words status output r.cause seven).none), none_is s words status output r.cause);
-  no_command_line = λ seven. (no_command_is s words status output r.cause seven).printed;
+  no_command = none_is s words status output r.cause;
+  refused_words = λ seven. (refused_is s words status output r.cause seven).0;
+  refused_words_line = λ seven. (refused_is s words status output r.cause seven).1;
   counts = λ other. ⊎_elim (λ four. absurd (other four)) (λ e. e) r.counts;
 }
 

@@ -4,8 +4,8 @@ use Rattle.kat_model.specs.declared.limits.TheConstants.{MAX_TEXT_BYTES}
 use Rattle.kat_model.specs.Problems.{ProblemParts}
 use Rattle.kat_io.specs.Told.{Told}
 use Rattle.kat_io.specs.Outside.{Rose}
-use Rattle.problem_file.specs.Files.{State}
-use Rattle.problem_file.specs.Reads.{TextSays}
+use Rattle.problem_file.specs.Files.{FileParts}
+use Rattle.problem_file.specs.Reads.{Reads}
 use Rattle.kat_tool.specs.declared.reply.Reply.{Reply}
 use Rattle.kat_tool.specs.declared.reply.Stop.{Stop}
 use Rattle.kat_tool.specs.Asking.{HasQuestion, Asks, IsSmall}
@@ -17,8 +17,8 @@ use Rattle.kat_tool.proofs.Contents.{never_past}
 use Rattle.kat_tool.proofs.Outcomes.{IsStop-weaker, IsReplied-weaker}
 
 -- what is asked of what a text says is the problem that it poses
-pub state_poses : (text : List ℕ) (s : State) → TextSays text s → (result : Result ProblemParts Stop) → IsOutcome (λ q. HasQuestion s q × IsSmall q) (IsRefusal (AsksNone s)) result → IsPosedBy text result
-state_poses text s says (Ok q) h = (record { state = s; says = says; asks = h.0 }, h.1)
+pub state_poses : (text : List ℕ) (s : FileParts) → Reads text s → (result : Result ProblemParts Stop) → IsOutcome (λ q. HasQuestion s q × IsSmall q) (IsRefusal (AsksNone s)) result → IsPosedBy text result
+state_poses text s says (Ok q) h = (record { file = s; reads = says; asks = h.0 }, h.1)
 state_poses text s says (Err stop) h = IsStop-weaker (IsRefusal (AsksNone s)) (IsRefusal (PosesNone text)) (λ status output r. (r.0, inr (s, says, r.1))) stop h
 
 -- a text that poses no problem is refused, and to one that does the reply is that to its problem
@@ -28,7 +28,7 @@ module _ (text : List ℕ) (GoesOn : ProblemParts → Replying) where
   text_refused status output (two, inr (a, says, n)) = inr (a, says, inl (two, n))
 
   pub text_posed : (status : ℕ) (output : List ℕ) (q : ProblemParts) → Asks text q × IsSmall q → GoesOn q status output → AsksText text GoesOn status output
-  text_posed status output q asks r = inr (asks.0.state, asks.0.says, inr (q, (asks.0.asks, asks.1), r))
+  text_posed status output q asks r = inr (asks.0.file, asks.0.reads, inr (q, (asks.0.asks, asks.1), r))
 
   pub refused_replied : (result : Result Reply Stop) → IsReplied (IsRefusal (PosesNone text)) result → IsReplied (AsksText text GoesOn) result
   refused_replied result r = IsReplied-weaker (IsRefusal (PosesNone text)) (AsksText text GoesOn) text_refused result r

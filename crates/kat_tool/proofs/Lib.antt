@@ -8,5 +8,8 @@ pub mod Ways
 pub mod DecideReplies
 pub mod CheckReplies
 pub mod ReplayReplies
+pub mod StoreValues
+pub mod RunOutcomes
+pub mod RunReplies
 pub mod Calls
 mod PlainTexts

@@ -1,7 +1,6 @@
 -- The plainest text of a question asks it.
 use Rattle.std.proofs.Common.{◌≡◌, ℕ, List, refl, sym, subst}
 use Rattle.kat_model.specs.Problems.{ProblemParts}
-use Rattle.problem_file.specs.Files.{equal}
 use Rattle.plain_texts.specs.Questions.{question_text, IsPrintable}
 use Rattle.plain_texts.proofs.PlainReadings.{reads_back}
 use Rattle.kat_tool.specs.Asking.{Asks}
@@ -11,7 +10,7 @@ use Rattle.kat_tool.proofs.DecideReplies.{text_headline}
 plain_asks : (q : ProblemParts) → IsPrintable q → Asks (question_text q) q
 plain_asks q printable =
     let read = reads_back q printable in
-    record { state = read.state; says = read.says; asks = record { goal = equal q.left q.right; has = record { is_goal = read.goal; compares = refl }; question = read.question } }
+    record { file = read.file; reads = read.reads; asks = record { plain = rw (read.goal) refl; question = rw (read.goal) read.question } }
 
 pub plain_headline : (text : List ℕ) (status : ℕ) (output : List ℕ) (q : ProblemParts) → IsPrintable q → text ≡ question_text q → DecidesText text status output → Headline q status output
 plain_headline text status output q printable same r =

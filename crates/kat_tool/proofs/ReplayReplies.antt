@@ -2,7 +2,7 @@
 use Rattle.std.proofs.Common.{◌≡◌, ◌⊎◌, ℕ, true, false, List, [], None, Some, inl, inr, ⊎_elim, refl, sym, subst, ◌∙◌}
 use Rattle.kat_model.specs.Problems.{ProblemParts}
 use Rattle.kat_model.specs.Strings.{GuardedString, IsString}
-use Rattle.string_tables.specs.Findings.{misfit, IsFinding}
+use Rattle.string_tables.specs.Findings.{IsFinding}
 use Rattle.string_tables.specs.declared.finding.Finding.{Finding}
 use Rattle.string_tables.specs.declared.finding.Finding.TheVariants.{Refutes, Shape, HypBroken, EndsAgree}
 use Rattle.string_tables.proofs.Fitting.{no_misfit_is_string, string_has_no_misfit}

@@ -1,7 +1,6 @@
 -- Each step of a reply has one outcome: where it may go on with something, it goes on with that alone or stops with one reply.
-use Rattle.std.proofs.Common.{◌≡◌, ◌⊎◌, ◌<◌, ℕ, List, [], length, true, Option, None, Some, inl, inr, ⊎_elim, refl, sym, subst, ap, ◌∙◌, arith}
+use Rattle.std.proofs.Common.{◌≡◌, ◌⊎◌, ◌<◌, ℕ, List, [], length, Option, None, Some, inl, inr, ⊎_elim, refl, sym, subst, ap, ◌∙◌, arith}
 use Rattle.std.proofs.lemmas.Bool.{false≢true}
-use Rattle.std.proofs.lemmas.Option.{same_Some}
 use Rattle.kat_model.specs.declared.limits.TheConstants.{MAX_TEXT_BYTES}
 use Rattle.kat_model.specs.Problems.{ProblemParts}
 use Rattle.kat_io.specs.Told.{Untold, Holds}
@@ -13,11 +12,11 @@ use Rattle.certificate.specs.declared.evidence.Evidence.{Evidence}
 use Rattle.certificate.specs.declared.evidence.EvidenceFault.{EvidenceFault}
 use Rattle.certificate.specs.Faults.{line_fault}
 use Rattle.certificate.proofs.Exactness.{texts_differ_lem, is_text_or_faulty_lem}
-use Rattle.problem_file.specs.Files.{GoalTree, State}
-use Rattle.problem_file.specs.Reads.{TextSays, too_long}
+use Rattle.problem_file.specs.Files.{FileParts}
+use Rattle.problem_file.specs.Reads.{Reads, too_long}
 use Rattle.problem_file.proofs.OneAnswer.{have_one_answer}
-use Rattle.kat_tool.specs.Asking.{goal_compares, problem_parts, HasGoal, HasQuestion, Asks, IsSmall}
-use Rattle.kat_tool.specs.Posing.{IsFaulty, AsksNone, PosesNone, IsRefused, Poses, too_long_line}
+use Rattle.kat_tool.specs.Asking.{HasQuestion, Asks, IsSmall}
+use Rattle.kat_tool.specs.Posing.{IsFaulty, IsNotYet, AsksNone, PosesNone, MaySay, MaySayNone, IsRefused, Poses, too_long_line}
 use Rattle.kat_tool.specs.Showing.{Spells}
 use Rattle.kat_tool.specs.Steps.{ShelfUse, Replying, FailsOn, HasFailedOn, GetsFile, GetsText, ReadsText, AsksQuestion, AsksText, ReadsEvidence}
 use Rattle.kat_tool.proofs.Contents.{past_within, held_same, held_past, told_bytes, told_past}
@@ -58,39 +57,39 @@ gets_bytes s file GoesOn bytes status output is unfailed r = ⊎_elim (λ h. abs
 
 -- ---- a text is read
 
-module _ (text : List ℕ) (GoesOn : State → Replying) (status : ℕ) (output : List ℕ) where
-  pub reads_said : (a : State) → TextSays text a → ReadsText text GoesOn status output → GoesOn a status output
+module _ (text : List ℕ) (GoesOn : FileParts → Replying) (status : ℕ) (output : List ℕ) where
+  pub reads_said : (a : FileParts) → Reads text a → ReadsText text GoesOn status output → GoesOn a status output
   reads_said a says (inl r) = absurd (have_one_answer.either text a r.1.fault says r.1.first)
-  reads_said a says (inr g) = subst (λ x. GoesOn x status output) (have_one_answer.states text g.0 a g.1 says) g.2
+  reads_said a says (inr g) = subst (λ x. GoesOn x status output) (have_one_answer.files text g.0 a g.1 says) g.2
 
   pub reads_faulty : (line : List ℕ) → IsFaulty text line → ReadsText text GoesOn status output → (status ≡ 2) × (output ≡ line)
   reads_faulty line f (inl r) = (r.0, r.1.printed ∙ ap text_fault_line (have_one_answer.faults text r.1.fault f.fault r.1.first f.first) ∙ sym f.printed)
   reads_faulty line f (inr g) = absurd (have_one_answer.either text g.0 f.fault g.1 f.first)
 
-pub reads_once : (text : List ℕ) (GoesOn : State → Replying) → ((s : State) → OneStatus (GoesOn s)) → OneStatus (ReadsText text GoesOn)
+pub reads_once : (text : List ℕ) (GoesOn : FileParts → Replying) → ((s : FileParts) → OneStatus (GoesOn s)) → OneStatus (ReadsText text GoesOn)
 reads_once text GoesOn once a b o p (inl r) y = r.0 ∙ sym (reads_faulty text GoesOn b p o r.1 y).0
 reads_once text GoesOn once a b o p (inr g) y = once g.0 a b o p g.2 (reads_said text GoesOn b p g.0 g.1 y)
 
 -- ---- its question is asked
 
-module _ (s : State) where
+module _ (s : FileParts) where
   one_question : (q r : ProblemParts) → HasQuestion s q → HasQuestion s r → q ≡ r
-  one_question q r x y = x.question ∙ ap (problem_parts s) (same_Some x.goal y.goal (sym x.has.is_goal ∙ y.has.is_goal)) ∙ sym y.question
+  one_question q r x y = x.question ∙ sym y.question
 
-  asks_plain : (q : ProblemParts) (g : GoalTree) → HasQuestion s q → HasGoal s true g → ⊥
-  asks_plain q g x y = false≢true (sym x.has.compares ∙ ap goal_compares (same_Some x.goal g (sym x.has.is_goal ∙ y.is_goal)) ∙ y.compares)
+  asks_plain : (q : ProblemParts) (line : List ℕ) → HasQuestion s q → IsNotYet s line → ⊥
+  asks_plain q line x y = false≢true (sym x.plain ∙ y.later)
 
   asked_not_none : (q : ProblemParts) (line : List ℕ) → HasQuestion s q → IsSmall q → AsksNone s line → ⊥
   asked_not_none q line x small (inl l) =
       let smaller : IsSmall l.question = subst IsSmall (one_question q l.question x l.asks) small in
       let large = l.large in
       omega (arith, smaller, large)
-  asked_not_none q line x small (inr n) = asks_plain q n.goal x n.compares
+  asked_not_none q line x small (inr n) = asks_plain q line x n
 
   one_line : (a b : List ℕ) → AsksNone s a → AsksNone s b → a ≡ b
   one_line a b (inl x) (inl y) = x.printed ∙ sym y.printed
-  one_line a b (inl x) (inr y) = absurd (asks_plain x.question y.goal x.asks y.compares)
-  one_line a b (inr x) (inl y) = absurd (asks_plain y.question x.goal y.asks x.compares)
+  one_line a b (inl x) (inr y) = absurd (asks_plain x.question b x.asks y)
+  one_line a b (inr x) (inl y) = absurd (asks_plain y.question a y.asks x)
   one_line a b (inr x) (inr y) = x.printed ∙ sym y.printed
 
   module _ (GoesOn : ProblemParts → Replying) (status : ℕ) (output : List ℕ) where
@@ -102,7 +101,7 @@ module _ (s : State) where
     asks_none line n (inl r) = (r.0, one_line output line r.1 n)
     asks_none line n (inr g) = absurd (asked_not_none g.0 line g.1.0 g.1.1 n)
 
-pub asks_once : (s : State) (GoesOn : ProblemParts → Replying) → ((q : ProblemParts) → OneStatus (GoesOn q)) → OneStatus (AsksQuestion s GoesOn)
+pub asks_once : (s : FileParts) (GoesOn : ProblemParts → Replying) → ((q : ProblemParts) → OneStatus (GoesOn q)) → OneStatus (AsksQuestion s GoesOn)
 asks_once s GoesOn once a b o p (inl r) y = r.0 ∙ sym (asks_none s GoesOn b p o r.1 y).0
 asks_once s GoesOn once a b o p (inr g) y = once g.0 a b o p g.2 (asks_question s GoesOn b p g.0 g.1.0 g.1.1 y)
 
@@ -110,11 +109,7 @@ asks_once s GoesOn once a b o p (inr g) y = once g.0 a b o p g.2 (asks_question 
 
 module _ (text : List ℕ) (GoesOn : ProblemParts → Replying) (status : ℕ) (output : List ℕ) where
   pub text_asks : (q : ProblemParts) → Asks text q → IsSmall q → AsksText text GoesOn status output → GoesOn q status output
-  text_asks q x small r = asks_question x.state GoesOn status output q x.asks small (reads_said text (λ s. AsksQuestion s GoesOn) status output x.state x.says r)
-
-  pub text_none : (line : List ℕ) → PosesNone text line → AsksText text GoesOn status output → (status ≡ 2) × (output ≡ line)
-  text_none line (inl f) r = reads_faulty text (λ s. AsksQuestion s GoesOn) status output line f r
-  text_none line (inr h) r = asks_none h.0 GoesOn status output line h.2 (reads_said text (λ s. AsksQuestion s GoesOn) status output h.0 h.1 r)
+  text_asks q x small r = asks_question x.file GoesOn status output q x.asks small (reads_said text (λ s. AsksQuestion s GoesOn) status output x.file x.reads r)
 
 pub text_once : (text : List ℕ) (GoesOn : ProblemParts → Replying) → ((q : ProblemParts) → OneStatus (GoesOn q)) → OneStatus (AsksText text GoesOn)
 text_once text GoesOn once = reads_once text (λ s. AsksQuestion s GoesOn) (λ s. asks_once s GoesOn once)
@@ -122,6 +117,36 @@ text_once text GoesOn once = reads_once text (λ s. AsksQuestion s GoesOn) (λ s
 -- a text that is too long is faulty
 long_faulty : (text : List ℕ) → MAX_TEXT_BYTES < length text → IsFaulty text too_long_line
 long_faulty text past = record { fault = TooLong; first = too_long refl past; printed = refl }
+
+module _ (s : ShelfUse) (file : List ℕ) (GoesOn : FileParts → Replying) (status : ℕ) (output : List ℕ) where
+  -- the reply to a file, by what the text that it may hold says
+  pub gets_read : GetsText s file (λ text. ReadsText text GoesOn) status output
+      → HasFailedOn s file status output ⊎ (((status ≡ 2) × MaySayNone (s.content file) output) ⊎ ((f : FileParts) × MaySay (s.content file) f × GoesOn f status output))
+  gets_read (inl f) = inl f
+  gets_read (inr (inl r)) = inr (inl (r.0, inl r.1))
+  gets_read (inr (inr (text, given, inl r))) = inr (inl (r.0, inr (text, given, r.1)))
+  gets_read (inr (inr (text, given, inr (f, reads, g)))) = inr (inr (f, record { text = text; given = given; reads = reads }, g))
+
+  module _ (text : List ℕ) (is : s.content file ≡ Holds text) (unfailed : FailsOn s file → ⊥) (r : GetsText s file (λ t. ReadsText t GoesOn) status output) where
+    abbrev Within : Type 0
+    Within = (IsPast (length text) (Some MAX_TEXT_BYTES) × (status ≡ 2) × (output ≡ too_long_line)) ⊎ (IsWithin (length text) (Some MAX_TEXT_BYTES) × ReadsText text GoesOn status output)
+
+    told : Within
+    told = gets_told s file (Some MAX_TEXT_BYTES) too_long_line (λ t. ReadsText t GoesOn) text status output is unfailed r
+
+    pub gets_said : (f : FileParts) → Reads text f → GoesOn f status output
+    gets_said f reads = said told
+      where
+        said : Within → GoesOn f status output
+        said (inl h) = absurd (have_one_answer.either text f TooLong reads (too_long refl h.0))
+        said (inr h) = reads_said text GoesOn status output f reads h.1
+
+    pub gets_faulty : (line : List ℕ) → IsFaulty text line → (status ≡ 2) × (output ≡ line)
+    gets_faulty line fault = faulty told
+      where
+        faulty : Within → (status ≡ 2) × (output ≡ line)
+        faulty (inl h) = (h.1, h.2 ∙ (reads_faulty text GoesOn 2 too_long_line line fault (inl (refl, long_faulty text h.0))).1)
+        faulty (inr h) = reads_faulty text GoesOn status output line fault h.1
 
 module _ (s : ShelfUse) (file : List ℕ) (GoesOn : ProblemParts → Replying) (status : ℕ) (output : List ℕ) where
   -- the reply to a file, by what the text that it may hold asks
@@ -131,25 +156,15 @@ module _ (s : ShelfUse) (file : List ℕ) (GoesOn : ProblemParts → Replying) (
   gets_posed (inr (inl r)) = inr (inl (r.0, inl r.1))
   gets_posed (inr (inr (text, given, inl r))) = inr (inl (r.0, inr (text, given, inl r.1)))
   gets_posed (inr (inr (text, given, inr (a, says, inl r)))) = inr (inl (r.0, inr (text, given, inr (a, says, r.1))))
-  gets_posed (inr (inr (text, given, inr (a, says, inr (q, asks, g))))) = inr (inr (q, record { text = text; given = given; asks = record { state = a; says = says; asks = asks.0 }; small = asks.1 }, g))
+  gets_posed (inr (inr (text, given, inr (a, says, inr (q, asks, g))))) = inr (inr (q, record { text = text; given = given; asks = record { file = a; reads = says; asks = asks.0 }; small = asks.1 }, g))
 
   module _ (text : List ℕ) (is : s.content file ≡ Holds text) (unfailed : FailsOn s file → ⊥) (r : GetsText s file (λ t. AsksText t GoesOn) status output) where
-    told : (IsPast (length text) (Some MAX_TEXT_BYTES) × (status ≡ 2) × (output ≡ too_long_line)) ⊎ (IsWithin (length text) (Some MAX_TEXT_BYTES) × AsksText text GoesOn status output)
-    told = gets_told s file (Some MAX_TEXT_BYTES) too_long_line (λ t. AsksText t GoesOn) text status output is unfailed r
-
     pub gets_asked : (q : ProblemParts) → Asks text q → IsSmall q → GoesOn q status output
-    gets_asked q asks small = asked told
-      where
-        asked : (IsPast (length text) (Some MAX_TEXT_BYTES) × (status ≡ 2) × (output ≡ too_long_line)) ⊎ (IsWithin (length text) (Some MAX_TEXT_BYTES) × AsksText text GoesOn status output) → GoesOn q status output
-        asked (inl h) = absurd (have_one_answer.either text asks.state TooLong asks.says (too_long refl h.0))
-        asked (inr h) = text_asks text GoesOn status output q asks small h.1
+    gets_asked q asks small = asks_question asks.file GoesOn status output q asks.asks small (gets_said s file (λ f. AsksQuestion f GoesOn) status output text is unfailed r asks.file asks.reads)
 
     pub gets_none : (line : List ℕ) → PosesNone text line → (status ≡ 2) × (output ≡ line)
-    gets_none line none = declined told
-      where
-        declined : (IsPast (length text) (Some MAX_TEXT_BYTES) × (status ≡ 2) × (output ≡ too_long_line)) ⊎ (IsWithin (length text) (Some MAX_TEXT_BYTES) × AsksText text GoesOn status output) → (status ≡ 2) × (output ≡ line)
-        declined (inl h) = (h.1, h.2 ∙ (text_none text GoesOn 2 too_long_line line none (inl (refl, long_faulty text h.0))).1)
-        declined (inr h) = text_none text GoesOn status output line none h.1
+    gets_none line (inl fault) = gets_faulty s file (λ f. AsksQuestion f GoesOn) status output text is unfailed r line fault
+    gets_none line (inr h) = asks_none h.0 GoesOn status output line h.2 (gets_said s file (λ f. AsksQuestion f GoesOn) status output text is unfailed r h.0 h.1)
 
 -- ---- evidence is read
 

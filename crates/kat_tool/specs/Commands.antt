@@ -1,27 +1,32 @@
 -- The table of words: the lists of words that have a command.
-use Rattle.std.specs.Prelude.{ℕ, List, [], ◌∷◌, Option, None, Some, Bool, false, ◌&&◌, ◌==◌, not, if◌then◌else◌, codes}
+use Rattle.std.specs.Prelude.{ℕ, ◌^◌, List, [], ◌∷◌, Option, None, Some, Bool, false, ◌&&◌, ◌==◌, not, if◌then◌else◌, codes}
+use Rattle.std.specs.Option.{option_map}
 use Rattle.std.specs.Str.{bytes_eq}
 use Rattle.kat_tool.specs.declared.words.Command.{Command as Chosen}
-use Rattle.kat_tool.specs.declared.words.Command.TheVariants.{Decide, Check, Replay}
+use Rattle.kat_tool.specs.declared.words.Command.TheVariants.{Decide, Check, Replay, Run}
+use Rattle.kat_tool.specs.Numbers.{number_below}
 
--- a command and its words: the file of the problem, and that of the evidence
+-- a command and its words: the file of the problem, and that of the evidence; or a program of the file, the word of a store
+-- and a number of turns
 pub data Command : Type 0 where
   decide : (file : List ℕ) → Command
   check : (file evidence : List ℕ) → Command
   replay : (file evidence : List ℕ) → Command
+  run : (file prog store : List ℕ) → (turns : ℕ) → Command
 
 -- a command of the program without the addresses that its words have
 abbrev pub command_seen : Chosen → Command
 command_seen (Decide file) = decide file.now
 command_seen (Check file evidence) = check file.now evidence.now
 command_seen (Replay file evidence) = replay file.now evidence.now
+command_seen (Run file prog store turns) = run file.now prog.now store.now turns
 
 -- a word that is not empty and does not begin with a dash
 abbrev pub is_value : List ℕ → Bool
 is_value [] = false
 is_value (b ∷ bs) = not (b == 45)
 
--- the commands of one file, and of a file and its evidence
+-- the commands of one file, of a file and its evidence, and of a file, a program, a store and turns
 abbrev pub with_file : List ℕ → List ℕ → Option Command
 with_file name file = if bytes_eq name (codes "decide") then Some (decide file) else None
 
@@ -29,10 +34,14 @@ abbrev pub with_evidence : List ℕ → List ℕ → List ℕ → Option Command
 with_evidence name file evidence =
     if bytes_eq name (codes "check") then Some (check file evidence) else if bytes_eq name (codes "replay") then Some (replay file evidence) else None
 
+abbrev pub with_turns : List ℕ → List ℕ → List ℕ → List ℕ → List ℕ → Option Command
+with_turns name file prog store turns = if bytes_eq name (codes "run") then option_map (λ n. run file prog store n) (number_below (2 ^ 64) turns) else None
+
 -- the command of a list of words, by its place in the table
 abbrev pub command_of : List (List ℕ) → Option Command
 command_of (name ∷ file ∷ []) = if is_value file then with_file name file else None
 command_of (name ∷ file ∷ evidence ∷ []) = if is_value file && is_value evidence then with_evidence name file evidence else None
+command_of (name ∷ file ∷ prog ∷ store ∷ turns ∷ []) = if is_value file && is_value prog && is_value store then with_turns name file prog store turns else None
 command_of words = None
 
 -- the files of a command
@@ -40,3 +49,4 @@ abbrev pub files_of : Command → List (List ℕ)
 files_of (decide file) = file ∷ []
 files_of (check file evidence) = file ∷ evidence ∷ []
 files_of (replay file evidence) = file ∷ evidence ∷ []
+files_of (run file prog store turns) = file ∷ []

@@ -1,3 +1,4 @@
+pub mod Numbers
 pub mod Commands
 pub mod Held
 pub mod Asking
@@ -7,6 +8,9 @@ pub mod Steps
 pub mod Decide
 pub mod Check
 pub mod Replay
+pub mod StoreWords
+pub mod RunTexts
+pub mod Running
 pub mod Replies
 pub mod Agreement
 pub mod Run

@@ -5,10 +5,10 @@ use Rattle.kat_io.specs.Told.{Told}
 use Rattle.kat_model.specs.Problems.{ProblemParts}
 use Rattle.kat_tokens.specs.declared.fault.TextFault.{TextFault}
 use Rattle.kat_report.specs.Refusals.{text_fault_line}
-use Rattle.problem_file.specs.Files.{GoalTree, State}
-use Rattle.problem_file.specs.Reads.{TextSays, FirstFault}
+use Rattle.problem_file.specs.Files.{FileParts}
+use Rattle.problem_file.specs.Reads.{Reads, FirstFault}
 use Rattle.kat_tool.specs.Held.{MayPass, IsGiven}
-use Rattle.kat_tool.specs.Asking.{HasGoal, HasQuestion, Asks, IsSmall, IsLarge}
+use Rattle.kat_tool.specs.Asking.{is_later, HasQuestion, Asks, IsSmall, IsLarge}
 
 -- the text says nothing, and its first fault is printed
 pub record IsFaulty (text output : List ℕ) : Type 0 where
@@ -17,25 +17,24 @@ pub record IsFaulty (text output : List ℕ) : Type 0 where
   pub printed : output ≡ text_fault_line fault
 
 -- what was read asks a question that has too many nodes
-pub record IsTooLarge (s : State) (output : List ℕ) : Type 0 where
+pub record IsTooLarge (f : FileParts) (output : List ℕ) : Type 0 where
   pub question : ProblemParts
-  pub asks : HasQuestion s question
+  pub asks : HasQuestion f question
   pub large : IsLarge question
   pub printed : output ≡ codes "refused: ProblemTooLarge\n"
 
--- a comparison stands in a condition of its goal, which is no problem yet
-pub record IsNotYet (s : State) (output : List ℕ) : Type 0 where
-  pub goal : GoalTree
-  pub compares : HasGoal s true goal
+-- a program or a comparison stands in its goal, which is no problem yet
+pub record IsNotYet (f : FileParts) (output : List ℕ) : Type 0 where
+  pub later : is_later f.goal ≡ true
   pub printed : output ≡ codes "refused: NotYet\n"
 
 -- what was read asks no question, and the line that is printed says why
-abbrev pub AsksNone : State → List ℕ → Type 0
-AsksNone s output = IsTooLarge s output ⊎ IsNotYet s output
+abbrev pub AsksNone : FileParts → List ℕ → Type 0
+AsksNone f output = IsTooLarge f output ⊎ IsNotYet f output
 
 -- the text poses no problem, and the line that is printed says why
 abbrev pub PosesNone : List ℕ → List ℕ → Type 0
-PosesNone text output = IsFaulty text output ⊎ ((s : State) × TextSays text s × AsksNone s output)
+PosesNone text output = IsFaulty text output ⊎ ((f : FileParts) × Reads text f × AsksNone f output)
 
 -- there may be more bytes than the limit, and this line is printed
 pub record IsTooLong (told : Told) (limit : Option ℕ) (line output : List ℕ) : Type 0 where
@@ -45,6 +44,16 @@ pub record IsTooLong (told : Told) (limit : Option ℕ) (line output : List ℕ)
 -- the line of a problem's file that has more bytes than the limit
 abbrev pub too_long_line : List ℕ
 too_long_line = codes "refused: TooLong\n"
+
+-- the shelf may hold a text that says this file
+pub record MaySay (told : Told) (f : FileParts) : Type 0 where
+  pub text : List ℕ
+  pub given : IsGiven told (Some MAX_TEXT_BYTES) text
+  pub reads : Reads text f
+
+-- or one that says nothing: it is too long, or has a first fault
+abbrev pub MaySayNone : Told → List ℕ → Type 0
+MaySayNone told output = IsTooLong told (Some MAX_TEXT_BYTES) too_long_line output ⊎ ((text : List ℕ) × IsGiven told (Some MAX_TEXT_BYTES) text × IsFaulty text output)
 
 -- the file is refused: it is too long, or its text poses no problem
 abbrev pub IsRefused : Told → List ℕ → Type 0

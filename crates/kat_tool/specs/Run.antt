@@ -1,13 +1,14 @@
 -- The statement on the top call.
-use Rattle.std.specs.Prelude.{◌≡◌, ◌≢◌, ◌⊎◌, ◌↔◌, ℕ, List, Option, None, Some, codes}
+use Rattle.std.specs.Prelude.{◌≡◌, ◌≢◌, ◌⊎◌, ℕ, List, Option, None, Some, codes}
 use Rattle.std.specs.Io.KnownBytes.{Appends, Keeps}
 use Rattle.kat_io.specs.Outside.{Rose, AppendsFront}
 use Rattle.kat_model.specs.Members.{Has}
-use Rattle.kat_tool.specs.Commands.{Command, decide, check, replay, command_of, files_of}
+use Rattle.kat_tool.specs.Commands.{Command, decide, check, replay, run, command_of, files_of}
 use Rattle.kat_tool.specs.Steps.{ShelfUse, HasFailedOn}
 use Rattle.kat_tool.specs.Decide.{DecideCauses}
 use Rattle.kat_tool.specs.Check.{CheckCauses}
 use Rattle.kat_tool.specs.Replay.{ReplayCauses}
+use Rattle.kat_tool.specs.Running.{MayMisfit, RunCauses}
 use Rattle.kat_tool.specs.Replies.{Replies}
 use Rattle.kat_tool.specs.Agreement.{IsAgreed}
 
@@ -33,6 +34,12 @@ abbrev pub HasFailed : ShelfUse → List (List ℕ) → ℕ → List ℕ → Typ
 HasFailed s words status output =
     (command : Command) × (command_of words ≡ Some command) × ((file : List ℕ) × Has (files_of command) file × HasFailedOn s file status output)
 
+-- the words run a program of a file, and are refused after it was read: a text that the shelf may hold says a file that
+-- they do not fit
+abbrev pub HasUnfitRun : ShelfUse → List (List ℕ) → Type 0
+HasUnfitRun s words =
+    (file : List ℕ) × (prog : List ℕ) × (store : List ℕ) × (turns : ℕ) × (command_of words ≡ Some (run file prog store turns)) × MayMisfit (s.content file) prog store
+
 -- a reply to words, and what it says: of each command its own record, and of the statuses that all have
 pub record IsReply (s : ShelfUse) (words : List (List ℕ)) (status : ℕ) (output : List ℕ) : Type 0 where
   pub replies : Replies s words status output
@@ -40,9 +47,11 @@ pub record IsReply (s : ShelfUse) (words : List (List ℕ)) (status : ℕ) (outp
   pub agrees : (file : List ℕ) → command_of words ≡ Some (decide file) → (status ≡ 0) ⊎ (status ≡ 1) → IsAgreed (s.content file) output status
   pub checks : (file other : List ℕ) → command_of words ≡ Some (check file other) → CheckCauses s file other status output
   pub replays : (file other : List ℕ) → command_of words ≡ Some (replay file other) → ReplayCauses s file other status output
+  pub runs : (file prog store : List ℕ) (turns : ℕ) → command_of words ≡ Some (run file prog store turns) → RunCauses s file prog store turns status output
   pub failed : status ≡ 4 → HasFailed s words status output
-  pub no_command : (status ≡ 7) ↔ (command_of words ≡ None)
-  pub no_command_line : status ≡ 7 → output ≡ codes "refused: words\n"
+  pub no_command : command_of words ≡ None → status ≡ 7
+  pub refused_words : status ≡ 7 → (command_of words ≡ None) ⊎ HasUnfitRun s words
+  pub refused_words_line : status ≡ 7 → output ≡ codes "refused: words\n"
   pub counts : status ≢ 4 → s.now ≡ s.before
 
 -- With each status but 5 and 6 a reply was sent whole, and the sink did not fail. With 5 the sink failed in this call, and

@@ -5,8 +5,8 @@ use Rattle.kat_model.specs.Problems.{ProblemParts}
 use Rattle.kat_io.specs.Told.{Told}
 use Rattle.kat_io.specs.Outside.{Rose}
 use Rattle.certificate.specs.declared.evidence.Evidence.{Evidence}
-use Rattle.problem_file.specs.Files.{State}
-use Rattle.problem_file.specs.Reads.{TextSays}
+use Rattle.problem_file.specs.Files.{FileParts}
+use Rattle.problem_file.specs.Reads.{Reads}
 use Rattle.kat_tool.specs.Held.{IsGiven}
 use Rattle.kat_tool.specs.Asking.{HasQuestion, IsSmall}
 use Rattle.kat_tool.specs.Posing.{IsFaulty, AsksNone, IsTooLong, too_long_line}
@@ -54,17 +54,17 @@ abbrev pub GetsText : ShelfUse → List ℕ → (List ℕ → Replying) → Repl
 GetsText s file GoesOn = GetsFile s file (Some MAX_TEXT_BYTES) too_long_line GoesOn
 
 -- a text is read: it has a first fault, or what it says is gone on with
-abbrev pub ReadsText : List ℕ → (State → Replying) → Replying
-ReadsText text GoesOn status output = IsRefusal (IsFaulty text) status output ⊎ ((s : State) × TextSays text s × GoesOn s status output)
+abbrev pub ReadsText : List ℕ → (FileParts → Replying) → Replying
+ReadsText text GoesOn status output = IsRefusal (IsFaulty text) status output ⊎ ((f : FileParts) × Reads text f × GoesOn f status output)
 
 -- a question is asked of what was read: there is none, or it is gone on with
-abbrev pub AsksQuestion : State → (ProblemParts → Replying) → Replying
-AsksQuestion s GoesOn status output =
-    IsRefusal (AsksNone s) status output ⊎ ((q : ProblemParts) × (HasQuestion s q × IsSmall q) × GoesOn q status output)
+abbrev pub AsksQuestion : FileParts → (ProblemParts → Replying) → Replying
+AsksQuestion f GoesOn status output =
+    IsRefusal (AsksNone f) status output ⊎ ((q : ProblemParts) × (HasQuestion f q × IsSmall q) × GoesOn q status output)
 
 -- both
 abbrev pub AsksText : List ℕ → (ProblemParts → Replying) → Replying
-AsksText text GoesOn = ReadsText text (λ s. AsksQuestion s GoesOn)
+AsksText text GoesOn = ReadsText text (λ f. AsksQuestion f GoesOn)
 
 -- evidence is read: the bytes are the text of none, or that of which they are the text is gone on with
 abbrev pub ReadsEvidence : List ℕ → (Evidence → Replying) → Replying

@@ -1,14 +1,17 @@
-//! `decide`, `check` and `replay` on the bytes of texts, with no outside.
+//! `decide`, `check`, `replay` and `run` on the bytes of texts, with no outside.
 ghost use Rattle.std.specs.Prelude.{◌≡◌, IfOk};
 ghost use Rattle.kat_model.specs.Problems.{ProblemParts};
 ghost use Rattle.plain_texts.specs.Questions.{question_text, IsPrintable};
+ghost use Rattle.problem_file.specs.Files.{FileParts};
+ghost use Rattle.problem_file.specs.Reads.{Reads};
 ghost use Rattle.kat_tool.specs.Asking.{Asks, IsSmall};
 ghost use Rattle.kat_tool.specs.Decide.{DecidesText, Headline};
 ghost use Rattle.kat_tool.specs.Check.{ChecksTexts, CheckHeadline};
 ghost use Rattle.kat_tool.specs.Replay.{ReplaysTexts, ReplayHeadline};
+ghost use Rattle.kat_tool.specs.Running.{RunsText, RunHeadline};
 
 use crate::reply::{Reply, Stop};
-use crate::{check, decide, replay};
+use crate::{check, decide, replay, running};
 use kat_model::NoMemory;
 use std::alloc::Global;
 
@@ -60,6 +63,29 @@ pub fn replayed_texts(alloc: Global, text: &[u8], evidence: &[u8]) -> Result<Rep
     ensures replies { IfOk result (λ r. ReplaysTexts text.now evidence.now r.status r.output.items) }
 {
     match replay::texts_reply(alloc, text, evidence) {
+        Ok(reply) => Ok(reply),
+        Err(Stop::Replied(reply)) => Ok(reply),
+        Err(Stop::NoMemory) => Err(NoMemory),
+    }
+}
+
+/// What `run` answers to the bytes of a text and the words of a program, a store and a number of turns. Where the text
+/// is read, the status is 0 exactly where the program ends after entering at most so many loop bodies, with the store in
+/// which it ends; 1 exactly where it comes to an `abort` or to an `assert` that fails, or stands before a loop body with
+/// no turn left; and 7 exactly where no concrete program of the text has the name, or the word of the store gives none.
+/// Otherwise it is 2, with the line that says why. It fails only when out of memory.
+pub fn run_reply(
+    alloc: Global,
+    text: &[u8],
+    prog: &str,
+    store: &str,
+    turns: u64,
+) -> Result<Reply, NoMemory>
+    ensures headline { (f : FileParts) → Reads text.now f
+        → IfOk result (λ r. RunHeadline f prog.now store.now turns r.status r.output.items) }
+    ensures replies { IfOk result (λ r. RunsText text.now prog.now store.now turns r.status r.output.items) }
+{
+    match running::text_reply(alloc, text, prog, store, turns) {
         Ok(reply) => Ok(reply),
         Err(Stop::Replied(reply)) => Ok(reply),
         Err(Stop::NoMemory) => Err(NoMemory),

@@ -5,6 +5,7 @@ ghost use Rattle.kat_tool.specs.Steps.{shelf_use};
 ghost use Rattle.kat_tool.specs.Decide.{Decides};
 ghost use Rattle.kat_tool.specs.Check.{Checks};
 ghost use Rattle.kat_tool.specs.Replay.{Replays};
+ghost use Rattle.kat_tool.specs.Running.{Runs};
 ghost use Rattle.kat_tool.specs.Replies.{RepliesTo, Replies};
 ghost use Rattle.kat_tool.specs.Run.{IsRun, sink_use};
 ghost use Rattle.kat_tool.specs.Working.Outcomes.{IsReplied, Counts};
@@ -12,7 +13,7 @@ ghost use Rattle.kat_tool.specs.Working.Outcomes.{IsReplied, Counts};
 use crate::getting::{file_bytes, file_text};
 use crate::posing::problem_in;
 use crate::reply::{Reply, Stop, line};
-use crate::text::decided_text;
+use crate::text::{decided_text, run_reply};
 use crate::words::{Command, Words};
 use crate::{check, replay};
 use kat_io::{Shelf, Sink, send};
@@ -61,6 +62,22 @@ fn replay_files<S: Shelf>(
     replay::bytes_reply(alloc, &problem, &bytes)
 }
 
+fn run_file<S: Shelf>(
+    alloc: Global,
+    file: &str,
+    prog: &str,
+    store: &str,
+    turns: u64,
+    shelf: &mut S,
+) -> Result<Reply, Stop>
+    ensures replied { IsReplied (Runs (shelf_use (S.content shelf.old) (S.faults shelf.old) (S.faults shelf.new) (S.last_failed shelf.new)) file.now prog.now store.now turns) result }
+    ensures counts { Counts (S.faults shelf.old) (S.faults shelf.new) result }
+    ensures kept { (name : List ℕ) → S.content shelf.new name ≡ S.content shelf.old name }
+{
+    let text = file_text(alloc, file, shelf)?;
+    Ok(run_reply(alloc, &text, prog, store, turns)?)
+}
+
 fn command_reply<S: Shelf>(
     alloc: Global,
     command: Command<'_>,
@@ -74,6 +91,12 @@ fn command_reply<S: Shelf>(
         Command::Decide(file) => decide_file(alloc, file, shelf),
         Command::Check(file, evidence) => check_files(alloc, file, evidence, shelf),
         Command::Replay(file, evidence) => replay_files(alloc, file, evidence, shelf),
+        Command::Run {
+            file,
+            prog,
+            store,
+            turns,
+        } => run_file(alloc, file, prog, store, turns, shelf),
     }
 }
 
@@ -103,18 +126,22 @@ fn answer<S: Shelf>(alloc: Global, words: &Words, shelf: &mut S) -> Result<Reply
 ///
 /// With 2 and 3 the line that is printed says why.
 ///
+/// `run` FILE PROG STORE TURNS runs a program of FILE: 0 where it ends, and the store is printed; 1 where it comes to an
+/// `abort` or to an `assert` that fails, or wants more turns; 2 where FILE is refused.
+///
 /// | status | meaning for each command |
 /// |---|---|
 /// | 4 | the shelf failed in this call on a file that the words name |
 /// | 5 | the sink failed in this call, and a prefix of the output was taken |
 /// | 6 | memory was wanted and could not be had; nothing was sent |
-/// | 7 | the words have no command |
+/// | 7 | the words have no command, or PROG or STORE does not fit FILE |
 ///
 /// All this is one statement, `IsRun`, on the words, on what was seen of the shelf and of the sink, and on the status. Its
 /// field `answered` gives for each status but 5 and 6 the bytes that were sent, and what they say: `decides.headline` is
 /// the statement on `decide`, over the text that the shelf tells, in the words of `decided_text`; `checks.headline` and
-/// `replays.headline` are those of `checked_texts` and `replayed_texts`. The further fields of `decides`, `checks` and
-/// `replays` give the cause of each status where the shelf tells nothing. `unsent` is status 5, `no_memory` 6.
+/// `replays.headline` are those of `checked_texts` and `replayed_texts`, and `runs.headline` is that of `run_reply`. The
+/// further fields of `decides`, `checks`, `replays` and `runs` give the cause of each status where the shelf tells
+/// nothing. `unsent` is status 5, `no_memory` 6.
 pub fn run<S: Shelf, K: Sink>(alloc: Global, words: &Words, shelf: &mut S, sink: &mut K) -> u8
     ensures is_run { IsRun (record {
       words = words.now;

@@ -1,8 +1,9 @@
 //! The words of a command line, and the table of those that have a command.
 ghost use Rattle.std.specs.Prelude.{◌≡◌, ◌++◌, ◌∷◌, [], List, ℕ, OnOk, OnErr, Option};
 ghost use Rattle.std.specs.Option.{option_map};
-ghost use Rattle.kat_tool.specs.Commands.{command_of, command_seen, is_value, with_file, with_evidence};
+ghost use Rattle.kat_tool.specs.Commands.{command_of, command_seen, is_value, with_file, with_evidence, with_turns};
 
+use crate::numbers::number_of;
 use kat_model::NoMemory;
 use std::alloc::Global;
 use std::marker::Model;
@@ -31,6 +32,13 @@ pub(crate) enum Command<'a> {
     Check(&'a str, &'a str),
     /// `replay` FILE EVIDENCE
     Replay(&'a str, &'a str),
+    /// `run` FILE PROG STORE TURNS
+    Run {
+        file: &'a str,
+        prog: &'a str,
+        store: &'a str,
+        turns: u64,
+    },
 }
 
 impl Words {
@@ -63,6 +71,17 @@ impl Words {
             [name, file, evidence] if is_value(file.as_str()) && is_value(evidence.as_str()) => {
                 with_evidence(name.as_str(), file.as_str(), evidence.as_str())
             }
+            [name, file, prog, store, turns]
+                if is_value(file.as_str()) && is_value(prog.as_str()) && is_value(store.as_str()) =>
+                {
+                    with_turns(
+                        name.as_str(),
+                        file.as_str(),
+                        prog.as_str(),
+                        store.as_str(),
+                        turns.as_str(),
+                    )
+                }
             _ => None,
         }
     }
@@ -85,6 +104,27 @@ fn with_evidence<'a>(name: &str, file: &'a str, evidence: &'a str) -> Option<Com
     match name {
         "check" => Some(Command::Check(file, evidence)),
         "replay" => Some(Command::Replay(file, evidence)),
+        _ => None,
+    }
+}
+
+// The commands of a file, a program, a store and turns.
+fn with_turns<'a>(
+    name: &str,
+    file: &'a str,
+    prog: &'a str,
+    store: &'a str,
+    turns: &str,
+) -> Option<Command<'a>>
+    ensures { option_map command_seen result ≡ with_turns name.now file.now prog.now store.now turns.now }
+{
+    match (name, number_of(turns)) {
+        ("run", Some(turns)) => Some(Command::Run {
+            file,
+            prog,
+            store,
+            turns,
+        }),
         _ => None,
     }
 }

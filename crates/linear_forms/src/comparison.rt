@@ -115,7 +115,7 @@ pub fn canon(alloc: Global, width: Width, form: &Form) -> Result<Form, NoMemory>
     canonical(alloc, width, form)
 }
 
-fn constantly(holds: bool) -> CondForm
+fn constant_form(holds: bool) -> CondForm
     ensures { result ≡ constant_cond holds }
 {
     if holds {
@@ -125,7 +125,7 @@ fn constantly(holds: bool) -> CondForm
     }
 }
 
-fn opposite(cond: CondForm) -> CondForm
+fn opposite_of(cond: CondForm) -> CondForm
     ensures { result ≡ opposite_cond cond }
 {
     match cond {
@@ -141,7 +141,7 @@ pub(crate) fn zero_cond(alloc: Global, width: Width, form: Form) -> Result<CondF
     ensures { IfOk result (λ b. b ≡ zero_form (modulus width) form) }
 {
     if form.terms.is_empty() {
-        return Ok(constantly(form.constant == 0));
+        return Ok(constant_form(form.constant == 0));
     }
     Ok(CondForm::Pos(Atomic::Zero(canonical(alloc, width, form)?)))
 }
@@ -186,7 +186,7 @@ pub(crate) fn less_cond(
     ensures { IfOk result (λ b. b ≡ less_form (modulus width) left right) }
 {
     if left.terms.is_empty() && right.terms.is_empty() {
-        return Ok(constantly(left.constant < right.constant));
+        return Ok(constant_form(left.constant < right.constant));
     }
     varying_less_cond(alloc, width, left, right)
 }
@@ -199,7 +199,7 @@ fn equal_cond(alloc: Global, width: Width, left: Form, right: Form) -> Result<Co
 }
 
 // The form of a comparison of two forms.
-fn compared(
+fn comparison_form(
     alloc: Global,
     width: Width,
     rel: Rel,
@@ -210,11 +210,11 @@ fn compared(
 {
     match rel {
         Rel::Eq => equal_cond(alloc, width, left, right),
-        Rel::Ne => Ok(opposite(equal_cond(alloc, width, left, right)?)),
+        Rel::Ne => Ok(opposite_of(equal_cond(alloc, width, left, right)?)),
         Rel::Lt => less_cond(alloc, width, left, right),
         Rel::Gt => less_cond(alloc, width, right, left),
-        Rel::Ge => Ok(opposite(less_cond(alloc, width, left, right)?)),
-        Rel::Le => Ok(opposite(less_cond(alloc, width, right, left)?)),
+        Rel::Ge => Ok(opposite_of(less_cond(alloc, width, left, right)?)),
+        Rel::Le => Ok(opposite_of(less_cond(alloc, width, right, left)?)),
     }
 }
 
@@ -229,7 +229,7 @@ fn comparison_of(
 {
     let left = normal_of(alloc, width, left)?;
     let right = normal_of(alloc, width, right)?;
-    compared(alloc, width, rel, left, right)
+    comparison_form(alloc, width, rel, left, right)
 }
 
 /// The normal form of a comparison of two expressions. It holds in the same stores of the width as the

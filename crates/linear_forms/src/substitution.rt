@@ -63,7 +63,7 @@ fn replace(
     Ok(total)
 }
 
-fn substituted_in(
+fn substitute_in(
     alloc: Global,
     width: Width,
     atomic: &Atomic,
@@ -98,5 +98,5 @@ pub fn subst(
     ensures form { IsForm (modulus width) by.now → IfOk result (IsCondForm (modulus width)) }
     ensures kept { IfOk result (HoldsWhenSet (modulus width) var by.now atomic.now) }
 {
-    substituted_in(alloc, width, atomic, var, by)
+    substitute_in(alloc, width, atomic, var, by)
 }

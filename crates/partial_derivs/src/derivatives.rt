@@ -82,7 +82,7 @@ impl Derivatives {
     }
 
     // The derivative of the term, where the table has it.
-    fn known(&self, alloc: Global, term: TermId) -> Result<Option<Steps>, NoMemory>
+    fn find_steps(&self, alloc: Global, term: TermId) -> Result<Option<Steps>, NoMemory>
         ensures { IfOk result (λ found. IfSome found (λ steps. (store : NodeParts) (d : DiagramsParts)
             → AreRight store d self.now → IsDerivativeOf store d (tree_at store term) steps)) }
     {
@@ -117,7 +117,7 @@ impl Derivatives {
         ensures right { AreRight store.new diagrams.new self.new }
         ensures kept { Keeps store.old store.new diagrams.old diagrams.new }
     {
-        if let Some(steps) = self.known(alloc, term)? {
+        if let Some(steps) = self.find_steps(alloc, term)? {
             return Ok(steps);
         }
         let steps = self.derive(alloc, store, diagrams, term)?;

@@ -38,7 +38,7 @@ impl Gathered {
     }
 
     // The guard, or the guard that the target has.
-    fn joined(
+    fn guard_with(
         &self,
         diagrams: &mut Diagrams,
         target: &Target,
@@ -74,7 +74,7 @@ impl Gathered {
             return Ok(());
         }
         let target = Target { act, to };
-        let joined = self.joined(diagrams, &target, guard)?;
+        let joined = self.guard_with(diagrams, &target, guard)?;
         self.guards.insert(target, joined)?;
         Ok(())
     }
@@ -163,7 +163,7 @@ impl Gathered {
     }
 
     // The moves as a list, from targets that are distinct.
-    fn listed(&self, alloc: Global) -> Result<Vec<Guarded>, NoMemory>
+    fn move_list(&self, alloc: Global) -> Result<Vec<Guarded>, NoMemory>
         ensures items { IfOk result (λ v. v.items ≡ moves_of self.now.guards.entries) }
         ensures distinct { IsDistinct same_target (keys_of self.now.guards.entries) }
     {
@@ -184,7 +184,7 @@ impl Gathered {
         ensures items { IfOk result (λ v. v.items ≡ moves_of self.now.guards.entries) }
         ensures merged { IfOk result (λ v. AreMerged v.items) }
     {
-        let moves = self.listed(alloc)?;
+        let moves = self.move_list(alloc)?;
         Ok(moves)
     }
 }

@@ -1,7 +1,7 @@
 pub mod PlainNames
 pub mod PlainScopes
 pub mod PlainPieces
-pub mod BuiltFiles
+pub mod PlainNumbers
 pub mod PlainItems
 pub mod PlainReadings
 pub mod PlainWritten

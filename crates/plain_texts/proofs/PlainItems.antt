@@ -1,5 +1,5 @@
 -- The pieces of a plain text are items, which make what they are to make.
-use Rattle.std.proofs.Common.{◌≡◌, ◌≤◌, ◌+◌, ℕ, zero, suc, List, [], ◌∷◌, ◌++◌, length, false, Some, None, refl, sym, ap, ◌∙◌, subst, arith, append_assoc, length-append}
+use Rattle.std.proofs.Common.{◌≡◌, ◌≤◌, ◌<◌, ◌+◌, ℕ, zero, suc, List, [], ◌∷◌, ◌++◌, length, false, refl, sym, ap, ◌∙◌, subst, arith, append_assoc, length-append}
 use Rattle.std.proofs.lemmas.List.{append-nil}
 use Rattle.std.specs.Prelude.{codes}
 use Rattle.kat_model.specs.Trees.{Term, term_size}
@@ -18,10 +18,11 @@ use Rattle.kat_print.specs.Printing.{TermIsNamed, term_nesting}
 use Rattle.kat_print.proofs.WordTerminals.{name_terminal}
 use Rattle.kat_print.proofs.PrintedPhrases.{lexemes_from, leaf}
 use Rattle.kat_print.proofs.PrintedTerms.{IsTermOf, term_back}
-use Rattle.problem_file.specs.Files.{State, equal, state_hyp, state_goal}
+use Rattle.problem_file.specs.Files.{term_side, State, most_goals, width_of, equal, state_hyp, state_goal}
 use Rattle.problem_file.specs.Phrases.{Names, one_name, more_names, tests, actions, hypothesis, goal_equal, Item, names_onto, ended, spelled, ItemsObey, ItemsFit}
 use Rattle.problem_file.specs.Sound.{with_test, with_action, DeclaresTest, DeclaresAction, EachName, IsTerm, grown, MakeAll}
 use Rattle.plain_texts.specs.Questions.{plain_name}
+use Rattle.plain_texts.proofs.PlainNumbers.{narrow}
 use Rattle.plain_texts.proofs.PlainNames.{test_identifier, action_identifier}
 use Rattle.plain_texts.specs.Working.Scopes.{IsPlain}
 use Rattle.plain_texts.proofs.PlainScopes.{test_is_new, test_plain, action_is_new, action_plain}
@@ -54,7 +55,7 @@ pub record Asks (s : State) (more : List Term) (left right : Term) (t : State) :
   pub tests : t.tests ≡ s.tests
   pub actions : t.actions ≡ s.actions
   pub hyps : t.hyps ≡ s.hyps ++ more
-  pub goal : t.goal ≡ Some (equal left right)
+  pub goals : t.goals ≡ s.goals ++ equal (term_side left) (term_side right) ∷ []
 
 is_term : (w : ScopeParts) (e : Term) (p : Phrase star) → IsTermOf w e (term_nesting e) p → IsWritable w e → IsTerm w (one_prod (one_star p)) e
 is_term w e p h writable = record {
@@ -63,11 +64,17 @@ is_term w e p h writable = record {
   small = writable.small;
 }
 
-goal_items : (s : State) (at : ℕ) (left right : Term) → IsWritable s.world left → IsWritable s.world right → s.size + (term_size left + term_size right) ≤ 1000000 → s.goal ≡ None → AreItems s at (goal_pieces left right) (Asks s [] left right)
+goal_items : (s : State) (at : ℕ) (left right : Term) → IsWritable s.world left → IsWritable s.world right → s.size + (term_size left + term_size right) ≤ 1000000 → length s.goals < most_goals s.limit → AreItems s at (goal_pieces left right) (Asks s [] left right)
 goal_items s at left right l r room first =
     let a = (term_back s.world plain_name left l.named).0 (at + 4 + 1 + 5 + 1) (right_pieces right) in
     let b = (term_back s.world plain_name right r.named).0 (a.end + 1 + 1) end_pieces in
     let last : List Lexeme = lexeme (Separator Semicolon) b.end (codes ";") ∷ [] in
+    let p = one_prod (one_star a.phrase) in
+    let q = one_prod (one_star b.phrase) in
+    let c = context 0 false false in
+    let after : List Lexeme = lexeme (Separator Comma) a.end (codes ",") ∷ yield_before b.phrase last in
+    let right_narrow = narrow (width_of s) s.world c q (b.holds.sound c refl) (b.holds.fits 0 (omega (arith, r.shallow))) refl last (tt, tt) in
+    let numbers = narrow (width_of s) s.world c p (a.holds.sound c refl) (a.holds.fits 0 (omega (arith, l.shallow))) refl after (tt, right_narrow) in
     record {
       items = record { keyword = leaf at (codes "goal"); body = goal_equal (leaf (at + 4 + 1) (codes "equal")) (one_prod (one_star a.phrase)) (leaf a.end (codes ",")) (one_prod (one_star b.phrase)) (leaf b.end (codes ";")) } ∷ [];
       spells =
@@ -75,16 +82,16 @@ goal_items s at left right l r room first =
           (a.spelled ∙ ap (λ (ts : List Lexeme). yield_before a.phrase (lexeme (Separator Comma) a.end (codes ",") ∷ ts)) b.spelled);
       obey = ((subst (λ (ts : List Lexeme). MeetsLookahead a.phrase (lexeme (Separator Comma) a.end (codes ",") ∷ ts)) b.spelled a.obeys, b.obeys), tt);
       fit = ((a.holds.fits 0 (omega (arith, l.shallow)), b.holds.fits 0 (omega (arith, r.shallow))), tt);
-      final = state_goal (grown s (term_size left + term_size right)) (equal left right);
+      final = state_goal (grown s (term_size left + term_size right)) (equal (term_side left) (term_side right));
       make = (
-        state_goal (grown s (term_size left + term_size right)) (equal left right),
-        record { first = first; left = left; right = right; is_left = is_term s.world left a.phrase a.holds l; is_right = is_term s.world right b.phrase b.holds r; room = room; made = refl },
+        state_goal (grown s (term_size left + term_size right)) (equal (term_side left) (term_side right)),
+        record { few = first; left = term_side left; right = term_side right; is_left = is_term s.world left a.phrase a.holds l; is_right = is_term s.world right b.phrase b.holds r; numbers = numbers; room = room; made = refl },
         refl,
       );
-      holds = record { tests = refl; actions = refl; hyps = sym (append-nil s.hyps); goal = refl };
+      holds = record { tests = refl; actions = refl; hyps = sym (append-nil s.hyps); goals = refl };
     }
 
-pub hyps_items : (hyps : List Term) (s : State) (at : ℕ) (left right : Term) → AreWritable s.world hyps → IsWritable s.world left → IsWritable s.world right → length s.hyps + length hyps ≤ 8192 → s.size + (terms_size hyps + (term_size left + term_size right)) ≤ 1000000 → s.goal ≡ None → AreItems s at (hyps_pieces hyps (goal_pieces left right)) (Asks s hyps left right)
+pub hyps_items : (hyps : List Term) (s : State) (at : ℕ) (left right : Term) → AreWritable s.world hyps → IsWritable s.world left → IsWritable s.world right → length s.hyps + length hyps ≤ 8192 → s.size + (terms_size hyps + (term_size left + term_size right)) ≤ 1000000 → length s.goals < most_goals s.limit → AreItems s at (hyps_pieces hyps (goal_pieces left right)) (Asks s hyps left right)
 hyps_items [] s at left right h l r few room first = goal_items s at left right l r (omega arith) first
 hyps_items (e ∷ es) s at left right h l r few room first =
     let a = (term_back s.world plain_name e h.0.named).0 (at + 3 + 1) (zero_pieces (hyps_pieces es (goal_pieces left right))) in
@@ -110,7 +117,7 @@ hyps_items (e ∷ es) s at left right h l r few room first =
         tests = rest.holds.tests;
         actions = rest.holds.actions;
         hyps = rest.holds.hyps ∙ append_assoc s.hyps (e ∷ []) es;
-        goal = rest.holds.goal;
+        goals = rest.holds.goals;
       };
     }
 
@@ -147,7 +154,8 @@ pub record Declares (s : State) (n m : ℕ) (t : State) : Type 0 where
   pub tests : t.tests ≡ n
   pub actions : t.actions ≡ m
   pub hyps : t.hyps ≡ s.hyps
-  pub goal : t.goal ≡ s.goal
+  pub limit : t.limit ≡ s.limit
+  pub goals : t.goals ≡ s.goals
   pub size : t.size ≡ s.size
   pub plain : IsPlain t.world n m
 
@@ -163,7 +171,8 @@ each_test zero s at few small plain =
         tests = omega arith;
         actions = refl;
         hyps = refl;
-        goal = refl;
+        limit = refl;
+        goals = refl;
         size = refl;
         plain = subst (λ (k : ℕ). IsPlain (with_test s name).world k s.actions) (omega arith) more;
       },
@@ -178,7 +187,8 @@ each_test (suc n) s at few small plain =
         tests = rest.2.tests ∙ omega arith;
         actions = rest.2.actions;
         hyps = rest.2.hyps;
-        goal = rest.2.goal;
+        limit = rest.2.limit;
+        goals = rest.2.goals;
         size = rest.2.size;
         plain = subst (λ (k : ℕ). IsPlain (rest.0).world k s.actions) (omega arith) rest.2.plain;
       },
@@ -195,7 +205,8 @@ each_action zero s at few small plain =
         tests = refl;
         actions = omega arith;
         hyps = refl;
-        goal = refl;
+        limit = refl;
+        goals = refl;
         size = refl;
         plain = subst (λ (k : ℕ). IsPlain (with_action s name).world s.tests k) (omega arith) more;
       },
@@ -210,7 +221,8 @@ each_action (suc n) s at few small plain =
         tests = rest.2.tests;
         actions = rest.2.actions ∙ omega arith;
         hyps = rest.2.hyps;
-        goal = rest.2.goal;
+        limit = rest.2.limit;
+        goals = rest.2.goals;
         size = rest.2.size;
         plain = subst (λ (k : ℕ). IsPlain (rest.0).world s.tests k) (omega arith) rest.2.plain;
       },
@@ -222,7 +234,7 @@ Follow s n m ps P = (t : State) (at : ℕ) → Declares s n m t → AreItems t a
 
 pub tests_items : (n : ℕ) (s : State) (at : ℕ) (ps : List Piece) (P : State → Type 0) → s.tests + n ≤ 48 → s.actions ≤ 48 → IsPlain s.world s.tests s.actions → Follow s (s.tests + n) s.actions ps P → AreItems s at (declaration_pieces (codes "test") (test_names s.tests n) ps) P
 tests_items zero s at ps P few small plain follow =
-    follow s at (record { tests = omega arith; actions = refl; hyps = refl; goal = refl; size = refl; plain = subst (λ (k : ℕ). IsPlain s.world k s.actions) (omega arith) plain })
+    follow s at (record { tests = omega arith; actions = refl; hyps = refl; limit = refl; goals = refl; size = refl; plain = subst (λ (k : ℕ). IsPlain s.world k s.actions) (omega arith) plain })
 tests_items (suc n) s at ps P few small plain follow =
     let name = plain_name (Test s.tests) in
     let names = test_names (s.tests + 1) n in
@@ -244,7 +256,7 @@ tests_items (suc n) s at ps P few small plain follow =
 
 pub actions_items : (n : ℕ) (s : State) (at : ℕ) (ps : List Piece) (P : State → Type 0) → s.actions + n ≤ 48 → s.tests ≤ 48 → IsPlain s.world s.tests s.actions → Follow s s.tests (s.actions + n) ps P → AreItems s at (declaration_pieces (codes "action") (action_names s.actions n) ps) P
 actions_items zero s at ps P few small plain follow =
-    follow s at (record { tests = refl; actions = omega arith; hyps = refl; goal = refl; size = refl; plain = subst (λ (k : ℕ). IsPlain s.world s.tests k) (omega arith) plain })
+    follow s at (record { tests = refl; actions = omega arith; hyps = refl; limit = refl; goals = refl; size = refl; plain = subst (λ (k : ℕ). IsPlain s.world s.tests k) (omega arith) plain })
 actions_items (suc n) s at ps P few small plain follow =
     let name = plain_name (Action s.actions) in
     let names = action_names (s.actions + 1) n in

@@ -1,5 +1,5 @@
 -- A plain text is read as the question that it is printed from.
-use Rattle.std.proofs.Common.{◌≡◌, ◌≤◌, ◌+◌, ℕ, List, [], ◌∷◌, ◌++◌, length, Some, IsSome, refl, sym, ap, ◌∙◌, subst, arith}
+use Rattle.std.proofs.Common.{◌≡◌, ◌≤◌, ◌+◌, ℕ, List, [], ◌∷◌, ◌++◌, length, refl, sym, ap, ◌∙◌, subst, arith}
 use Rattle.std.proofs.lemmas.List.Elements.{All-head, All-tail}
 use Rattle.std.specs.Prelude.{codes, All}
 use Rattle.kat_model.specs.Trees.{Term, term_size}
@@ -11,14 +11,13 @@ use Rattle.kat_tokens.proofs.Printed.{printed}
 use Rattle.kat_tokens.proofs.Words.{keyword_is_name}
 use Rattle.kat_text.specs.ScopeParts.{ScopeParts}
 use Rattle.kat_print.specs.Printing.{term_nesting}
-use Rattle.problem_file.specs.Files.{State, start, equal}
-use Rattle.problem_file.specs.Reads.{has_later}
+use Rattle.problem_file.specs.Files.{term_side, GoalTree, State, file_of, equal}
+use Rattle.problem_file.specs.Reads.{start_one}
 use Rattle.plain_texts.specs.Questions.{question_text, IsPrintable}
 use Rattle.plain_texts.specs.Laws.{AsksEqual}
 use Rattle.plain_texts.specs.Working.Scopes.{IsPlain}
 use Rattle.plain_texts.proofs.PlainScopes.{empty_plain, plain_as, term_named}
 use Rattle.plain_texts.proofs.PlainPieces.{declaration_pieces, test_names, action_names, asked_pieces, goal_pieces, question_pieces, question_spells, AreNamed, declaration_separate, hyps_separate, goal_separate}
-use Rattle.plain_texts.proofs.BuiltFiles.{file_built}
 use Rattle.plain_texts.proofs.PlainItems.{AreItems, IsWritable, AreWritable, hyps_items, Declares, tests_items, actions_items, tests_are_identifiers, actions_are_identifiers}
 
 -- the text of the term is not too deep
@@ -43,12 +42,12 @@ same_parts q tests actions hyps e f g = rw (e, f, g) refl
 
 -- the state asks the question, and the pieces after the declarations are separate
 record IsAsked (q : ProblemParts) (t : State) : Type 0 where
-  goal : t.goal ≡ Some (equal q.left q.right)
+  goals : t.goals ≡ equal (term_side q.left) (term_side q.right) ∷ []
   question : q ≡ record { tests = t.tests; actions = t.actions; hyps = t.hyps; left = q.left; right = q.right }
   separate : AreSeparate (asked_pieces q)
 
 -- what follows the declarations
-asked_items : (q : ProblemParts) → IsPrintable q → (u : State) (at : ℕ) → Declares start q.tests q.actions u → AreItems u at (asked_pieces q) (IsAsked q)
+asked_items : (q : ProblemParts) → IsPrintable q → (u : State) (at : ℕ) → Declares start_one q.tests q.actions u → AreItems u at (asked_pieces q) (IsAsked q)
 asked_items q printable u at d =
     let problem = printable.problem in
     let goal = goal_pieces q.left q.right in
@@ -57,7 +56,7 @@ asked_items q printable u at d =
     let hyps = all_writable u.world q.tests q.actions problem.tests problem.actions d.plain q.hyps problem.hyps (All-tail IsShallow q.right q.hyps shallow) (omega arith) in
     let left = writable u.world q.tests q.actions problem.tests problem.actions d.plain q.left problem.left (All-head IsShallow q.left (q.right ∷ q.hyps) printable.shallow) (omega arith) in
     let right = writable u.world q.tests q.actions problem.tests problem.actions d.plain q.right problem.right (All-head IsShallow q.right q.hyps shallow) (omega arith) in
-    let made = hyps_items q.hyps u at q.left q.right hyps left right (omega (arith, ap length d.hyps, printable.hyps)) (omega (arith, d.size, size)) d.goal in
+    let made = hyps_items q.hyps u at q.left q.right hyps left right (omega (arith, ap length d.hyps, printable.hyps)) (omega (arith, d.size, size)) (rw (d.goals, d.limit) (omega arith)) in
     record {
       items = made.items;
       spells = made.spells;
@@ -66,25 +65,26 @@ asked_items q printable u at d =
       final = made.final;
       make = made.make;
       holds = record {
-        goal = made.holds.goal;
+        goals = made.holds.goals ∙ ap (λ (l : List GoalTree). l ++ equal (term_side q.left) (term_side q.right) ∷ []) d.goals;
         question = same_parts q (made.final).tests (made.final).actions (made.final).hyps (made.holds.tests ∙ d.tests) (made.holds.actions ∙ d.actions) (made.holds.hyps ∙ ap (λ (l : List Term). l ++ q.hyps) d.hyps);
         separate = hyps_separate u.world q.hyps goal (all_named u.world q.hyps hyps) (goal_separate u.world q.left q.right left.named right.named);
       };
     }
 
-question_items : (q : ProblemParts) → IsPrintable q → AreItems start 0 (question_pieces q) (IsAsked q)
+question_items : (q : ProblemParts) → IsPrintable q → AreItems start_one 0 (question_pieces q) (IsAsked q)
 question_items q printable =
     let problem = printable.problem in
     let few = problem.tests in
     let small = problem.actions in
-    tests_items q.tests start 0 (declaration_pieces (codes "action") (action_names 0 q.actions) (asked_pieces q)) (IsAsked q) (omega (arith, few)) (omega arith) empty_plain
+    tests_items q.tests start_one 0 (declaration_pieces (codes "action") (action_names 0 q.actions) (asked_pieces q)) (IsAsked q) (omega (arith, few)) (omega arith) empty_plain
     (λ t at d. subst (λ (k : ℕ). AreItems t at (declaration_pieces (codes "action") (action_names k q.actions) (asked_pieces q)) (IsAsked q)) d.actions
     (actions_items q.actions t at (asked_pieces q) (IsAsked q) (omega (arith, d.actions, small)) (omega (arith, d.tests, few)) (rw (d.tests, d.actions) d.plain)
     (λ u next e. asked_items q printable u next (record {
       tests = e.tests ∙ d.tests ∙ omega arith;
       actions = omega (arith, e.actions, d.actions);
       hyps = e.hyps ∙ d.hyps;
-      goal = e.goal ∙ d.goal;
+      limit = e.limit ∙ d.limit;
+      goals = e.goals ∙ d.goals;
       size = e.size ∙ d.size;
       plain = plain_as u.world t.tests q.tests (t.actions + q.actions) q.actions (d.tests ∙ omega arith) (omega (arith, d.actions)) e.plain;
     }))))
@@ -103,17 +103,20 @@ reads_back q printable =
     let pieces = question_pieces q in
     let separate = question_separate q printable made.holds.separate in
     let text = question_spells q in
+    let goal = equal (term_side q.left) (term_side q.right) in
     record {
-      state = made.final;
-      says = record {
+      file = file_of made.final goal;
+      reads = record {
         parts_of_tokens = parts_from 0 pieces;
         lexes = subst (λ (l : List ℕ). Lexes l (parts_from 0 pieces)) text (printed pieces separate (subst (λ (l : List ℕ). length l ≤ MAX_LEN) (sym text) printable.short));
-        all_built = ap has_later made.spells ∙ file_built made.items;
         items = made.items;
         spells = record { file = record { spells = made.spells; obey = made.obey }; fit = made.fit };
+        state = made.final;
         make = made.make;
-        has_goal = subst IsSome (sym made.holds.goal) refl;
+        goal = goal;
+        has_goal = rw (made.holds.goals) refl;
+        file = refl;
       };
-      goal = made.holds.goal;
+      goal = refl;
       question = made.holds.question;
     }

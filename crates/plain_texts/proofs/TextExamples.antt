@@ -1,5 +1,5 @@
 -- Worked examples of what a text says: its items with the places of their tokens, and the state that they make, written by hand.
-use Rattle.std.proofs.Common.{ℕ, List, [], ◌∷◌, Some, None, true, false, refl, sym, ◌∙◌, subst, arith}
+use Rattle.std.proofs.Common.{ℕ, List, [], ◌∷◌, None, true, false, refl, sym, ◌∙◌, subst, arith}
 use Rattle.std.specs.Prelude.{codes}
 use Rattle.std.specs.Ordering.{nat_cmp}
 use Rattle.std.specs.Cmp.Lexicographic.{slice_cmp}
@@ -15,10 +15,10 @@ use Rattle.kat_text.specs.declared.meaning.Meaning.TheVariants.{Test, Action}
 use Rattle.kat_text.specs.ScopeParts.{ScopeParts, Means, IsUndeclared, empty_scope, declared}
 use Rattle.kat_text.specs.Sound.{IsTermName, IsCondName}
 use Rattle.kat_text.proofs.MeaningEntries.{get-insert_name}
-use Rattle.problem_file.specs.Files.{State, start, equal, triple}
+use Rattle.problem_file.specs.Files.{term_side, State, file_of, equal, triple}
 use Rattle.problem_file.specs.Phrases.{one_name, more_names, tests, actions, hypothesis, goal_equal, goal_triple}
 use Rattle.problem_file.specs.Sound.{with_test, with_action, IsTerm, IsCond}
-use Rattle.problem_file.specs.Reads.{TextSays}
+use Rattle.problem_file.specs.Reads.{Reads, start_one}
 
 abbrev leaf : ℕ → List ℕ → Leaf
 leaf at text = record { at = at; text = text }
@@ -37,7 +37,7 @@ bc_scope = declared b_scope (codes "c") (Test 1)
 
 -- the goal has 4 nodes on its left and 2 on its right
 abbrev bc_state : State
-bc_state = record { world = bc_scope; tests = 2; actions = 0; hyps = []; goal = Some (equal (test (meet (prim 0) (prim 1))) (test (prim 0))); size = 6 }
+bc_state = record { limit = (start_one).limit; world = bc_scope; tests = 2; actions = 0; vars = 0; progs = []; prog_names = []; hyps = []; rounds = None; width = None; goals = equal (term_side (test (meet (prim 0) (prim 1)))) (term_side (test (prim 0))) ∷ []; size = 6 }
 
 abbrev bc_pieces : List Piece
 bc_pieces =
@@ -155,11 +155,10 @@ bc_left_is = record {
 bc_right_is : IsTerm bc_scope bc_right (test (prim 0))
 bc_right_is = record { sound = subst (IsTermName bc_scope (context 0 false false)) (sym b_means) tt; built = rw b_means refl; small = omega arith }
 
-bc_says : TextSays bc_text bc_state
+bc_says : Reads bc_text (file_of bc_state (equal (term_side (test (meet (prim 0) (prim 1)))) (term_side (test (prim 0)))))
 bc_says = record {
   parts_of_tokens = parts_from 0 bc_pieces;
   lexes = printed bc_pieces bc_separate (omega arith);
-  all_built = refl;
   items =
       record { keyword = leaf 0 (codes "test"); body = tests (more_names (leaf 5 (codes "b")) (leaf 6 (codes ",")) (one_name (leaf 8 (codes "c")))) (leaf 9 (codes ";")) }
       ∷ record { keyword = leaf 11 (codes "goal"); body = goal_equal (leaf 16 (codes "equal")) bc_left (leaf 30 (codes ",")) bc_right (leaf 33 (codes ";")) }
@@ -168,12 +167,15 @@ bc_says = record {
     file = record { spells = refl; obey = (tt, (((refl, refl), tt), tt)) };
     fit = (tt, (((omega arith, (tt, tt)), tt), tt));
   };
+  state = bc_state;
   make = (
-    with_test (with_test start (codes "b")) (codes "c"),
-    (with_test start (codes "b"), (b_is_new, omega arith, refl), (c_is_new, omega arith, refl)),
-    (bc_state, record { first = refl; left = test (meet (prim 0) (prim 1)); right = test (prim 0); is_left = bc_left_is; is_right = bc_right_is; room = omega arith; made = refl }, refl),
+    with_test (with_test start_one (codes "b")) (codes "c"),
+    (with_test start_one (codes "b"), (b_is_new, omega arith, refl), (c_is_new, omega arith, refl)),
+    (bc_state, record { few = omega arith; left = term_side (test (meet (prim 0) (prim 1))); right = term_side (test (prim 0)); is_left = bc_left_is; is_right = bc_right_is; numbers = (tt, (tt, (tt, (tt, (tt, (tt, (tt, (tt, tt)))))))); room = omega arith; made = refl }, refl),
   );
+  goal = equal (term_side (test (meet (prim 0) (prim 1)))) (term_side (test (prim 0)));
   has_goal = refl;
+  file = refl;
 }
 
 -- ---- action p; test b; hyp p.b = 0; goal triple {b} p* {!b};
@@ -190,7 +192,7 @@ pb_scope = declared p_scope (codes "b") (Test 0)
 
 -- the hypothesis has 4 nodes, and the parts of the goal have 1, 2 and 2
 abbrev pb_state : State
-pb_state = record { world = pb_scope; tests = 1; actions = 1; hyps = product (act 0) (test (prim 0)) ∷ []; goal = Some (triple (named 0) (star_term (act 0)) (negation (named 0))); size = 9 }
+pb_state = record { limit = (start_one).limit; world = pb_scope; tests = 1; actions = 1; vars = 0; progs = []; prog_names = []; hyps = product (act 0) (test (prim 0)) ∷ []; rounds = None; width = None; goals = triple (named 0) (term_side (star_term (act 0))) (negation (named 0)) ∷ []; size = 9 }
 
 abbrev pb_pieces : List Piece
 pb_pieces =
@@ -376,16 +378,15 @@ pb_post_is : IsCond pb_scope true pb_post (negation (named 0))
 pb_post_is = record { sound = subst IsCondName (sym b_tests) tt; built = rw b_tests refl; narrow = omega arith; small = omega arith }
 
 abbrev pb_declared : State
-pb_declared = with_test (with_action start (codes "p")) (codes "b")
+pb_declared = with_test (with_action start_one (codes "p")) (codes "b")
 
 abbrev pb_stated : State
-pb_stated = record { world = pb_scope; tests = 1; actions = 1; hyps = product (act 0) (test (prim 0)) ∷ []; goal = None; size = 4 }
+pb_stated = record { limit = (start_one).limit; world = pb_scope; tests = 1; actions = 1; vars = 0; progs = []; prog_names = []; hyps = product (act 0) (test (prim 0)) ∷ []; rounds = None; width = None; goals = []; size = 4 }
 
-pb_says : TextSays pb_text pb_state
+pb_says : Reads pb_text (file_of pb_state (triple (named 0) (term_side (star_term (act 0))) (negation (named 0))))
 pb_says = record {
   parts_of_tokens = parts_from 0 pb_pieces;
   lexes = printed pb_pieces pb_separate (omega arith);
-  all_built = refl;
   items =
       record { keyword = leaf 0 (codes "action"); body = actions (one_name (leaf 7 (codes "p"))) (leaf 8 (codes ";")) }
       ∷ record { keyword = leaf 10 (codes "test"); body = tests (one_name (leaf 15 (codes "b"))) (leaf 16 (codes ";")) }
@@ -403,8 +404,9 @@ pb_says = record {
     file = record { spells = refl; obey = (tt, (tt, ((tt, tt), ((refl, tt, refl), tt)))) };
     fit = (tt, (tt, ((tt, tt), ((tt, tt, (omega arith, tt)), tt))));
   };
+  state = pb_state;
   make = (
-    with_action start (codes "p"),
+    with_action start_one (codes "p"),
     (p_is_new, omega arith, refl),
     (
       pb_declared,
@@ -414,11 +416,13 @@ pb_says = record {
         record { few = omega arith; tree = product (act 0) (test (prim 0)); is_term = pb_hyp_is; room = omega arith; made = refl },
         (
           pb_state,
-          record { first = refl; pre = named 0; body = star_term (act 0); post = negation (named 0); is_pre = pb_pre_is; is_body = pb_body_is; is_post = pb_post_is; room = omega arith; made = refl },
+          record { few = omega arith; pre = named 0; body = term_side (star_term (act 0)); post = negation (named 0); is_pre = pb_pre_is; is_body = pb_body_is; is_post = pb_post_is; numbers = (tt, (tt, (tt, (tt, (tt, (tt, (tt, (tt, (tt, (tt, tt)))))))))); room = omega arith; made = refl },
           refl,
         ),
       ),
     ),
   );
+  goal = triple (named 0) (term_side (star_term (act 0))) (negation (named 0));
   has_goal = refl;
+  file = refl;
 }

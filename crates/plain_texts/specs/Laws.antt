@@ -1,12 +1,12 @@
 -- What a plain text is read as.
-use Rattle.std.specs.Prelude.{◌≡◌, ℕ, List, Some}
+use Rattle.std.specs.Prelude.{◌≡◌, ℕ, List}
 use Rattle.kat_model.specs.Problems.{ProblemParts}
-use Rattle.problem_file.specs.Files.{State, equal}
-use Rattle.problem_file.specs.Reads.{TextSays}
+use Rattle.problem_file.specs.Files.{term_side, equal, FileParts}
+use Rattle.problem_file.specs.Reads.{Reads}
 
 -- the text says a goal `equal`, and the question is of its two sides, over what the text declares and states
 pub record AsksEqual (text : List ℕ) (q : ProblemParts) : Type 0 where
-  pub state : State
-  pub says : TextSays text state
-  pub goal : state.goal ≡ Some (equal q.left q.right)
-  pub question : q ≡ record { tests = state.tests; actions = state.actions; hyps = state.hyps; left = q.left; right = q.right }
+  pub file : FileParts
+  pub reads : Reads text file
+  pub goal : file.goal ≡ equal (term_side q.left) (term_side q.right)
+  pub question : q ≡ record { tests = file.tests; actions = file.actions; hyps = file.hyps; left = q.left; right = q.right }

@@ -1,5 +1,6 @@
 -- Reading the tokens of items by any actions is what the actions make of them.
-use Rattle.std.proofs.Common.{◌≡◌, ℕ, zero, suc, ◌≤◌, List, [], ◌∷◌, length, drop, Bool, true, false, cond as if_true, Result, Ok, Err, refl, ap, ◌∙◌, arith}
+use Rattle.std.proofs.Common.{◌≡◌, ℕ, zero, suc, ◌≤◌, List, [], ◌∷◌, length, drop, Bool, true, false, cond as if_true, Result, Ok, Err, Option, Some, None, refl, ap, ◌∙◌, arith}
+use Rattle.std.specs.Option.{option_and_then}
 use Rattle.kat_tokens.specs.declared.fault.TextFault.{TextFault}
 use Rattle.kat_syntax.specs.declared.terminal.Terminal.TheVariants.{Keyword, Separator, Zero}
 use Rattle.kat_syntax.specs.declared.terminal.Separator.TheVariants.{Comma, Semicolon, CurlyClose, Equals}
@@ -11,13 +12,23 @@ use Rattle.kat_syntax.specs.Ends.{Ends}
 use Rattle.kat_syntax.specs.Folds.{fold}
 use Rattle.kat_syntax.proofs.ParserCompleteness.{then_rest, checked, changed, closed, term_parsed, cond_parsed}
 use Rattle.kat_syntax.proofs.Longest.{longest}
+use Rattle.while_lang.specs.BlockPhrases.{block, BlockPhrase, block_before, BlockObeys}
+use Rattle.while_lang.specs.BlockFolds.{fold_block}
+use Rattle.while_lang.proofs.BlockCompleteness.{parsed as block_parsed}
 use Rattle.problem_file.specs.declared.item_reading.Declared.TheVariants as what
+use Rattle.problem_file.specs.declared.item_reading.Setting.{Setting}
+use Rattle.problem_file.specs.declared.item_reading.Setting.TheVariants as setting
+use Rattle.problem_file.specs.declared.item_reading.Comparison.{Comparison}
 use Rattle.problem_file.specs.declared.item_reading.Comparison.TheVariants.{Equal, Below}
+use Rattle.problem_file.specs.Numbers.{until}
 use Rattle.problem_file.specs.ItemActions.{Measurement, ItemActions}
-use Rattle.problem_file.specs.Items.{names_within, over_names, term_by, cond_by, braced_by, triple_by, then_do, zero_by, sides_by, item_by, items_within, items_by}
-use Rattle.problem_file.specs.Phrases.{Names, one_name, more_names, Braced, TriplePhrase, Body, tests, actions, definition, hypothesis, hyp_triple, goal_equal, goal_below, goal_triple, Item, word_of, names_onto, braced_onto, triple_onto, ended, sides_onto, body_onto, spelled, BracedObeys, TripleObeys, SidesObey, BodyObeys, ItemsObey, IsFile}
-use Rattle.problem_file.specs.Folds.{fold_names, fold_term, fold_cond, fold_braced, fold_triple, fold_sides, fold_body, fold_item, fold_items}
-use Rattle.problem_file.proofs.PhraseFronts.{no_triple, items_long}
+use Rattle.problem_file.specs.Items.{names_within, over_names, at_number, lone_name, term_by, cond_by, block_by, named_or, side_by, braced_by, middle_by, triple_by, then_do, then_ask, prog_by, zero_by, setting_by, sides_by, comparison_by, triple_goal_by, item_by, items_within, items_by}
+use Rattle.problem_file.specs.Phrases.{Names, one_name, more_names, Numeral, zero_number, one_number, other_number, wide_number, Braced, TriplePhrase}
+use Rattle.problem_file.specs.Phrases.{Body, tests, actions, variables, definition, program, hypothesis, hyp_triple, rounds, width, goal_equal, goal_below, goal_triple, Item}
+use Rattle.problem_file.specs.Phrases.{word_of, lone_leaf, names_onto, numeral_onto, braced_onto, triple_onto, ended, sides_onto, prog_onto, body_onto, spelled, BracedObeys, TripleObeys, SidesObey, BodyObeys, ItemsObey, IsFile}
+use Rattle.problem_file.specs.Folds.{fold_names, numeral_leaf, numeral_value, fold_setting, fold_term, fold_cond, fold_prog, named_else, fold_side, fold_braced, fold_middle, fold_triple, fold_sides, fold_comparison, fold_triple_goal, fold_program, fold_body, fold_item, fold_items}
+use Rattle.problem_file.proofs.PhraseFronts.{no_triple, items_long, lone_term, lone_rest, text_of}
+use Rattle.problem_file.proofs.Appends.{until_prog, until_sides, until_triple}
 
 -- ---- steps
 
@@ -31,7 +42,26 @@ done {S} f m end ts v e = ap (then_do f) e ∙ by_value v where
   by_value (Ok x) = refl
   by_value (Err x) = refl
 
--- ---- names
+-- so where the numbers of the item are looked at before
+asked : {S X M : Type 0} (g : ItemActions S X) (s : S) (us own : List Lexeme) (f : M → Result S TextFault) (m : Parsed M) (end : Leaf) (ts : List Lexeme) (v : Result M TextFault) → until us ts ≡ own → m ≡ before (ended end ts) v →
+    then_ask g s us f m ≡ before ts (v >>= λ x. g.check_numbers s own >>= λ u. f x)
+asked {S} {X} {M} g s us own f m end ts v h e = ap (then_ask g s us f) e ∙ by_value v where
+  look : (r : Result (Unit {0}) TextFault) (x : M) → (r >>= λ u. before ts (f x)) ≡ before ts (r >>= λ u. f x)
+  look (Ok u) x = refl
+  look (Err d) x = refl
+
+  by_value : (r : Result M TextFault) → then_ask g s us f (before (ended end ts) r) ≡ before ts (r >>= λ x. g.check_numbers s own >>= λ u. f x)
+  by_value (Ok x) = rw (h) (look (g.check_numbers s own) x)
+  by_value (Err d) = refl
+
+-- ---- names and numbers
+
+-- what is done at a number, and what follows
+number_folded : {S : Type 0} (f : ℕ → ℕ → Result S TextFault) (n : Numeral) (ts : List Lexeme) → at_number f (numeral_onto n ts) ≡ before ts (numeral_value n >>= λ v. f (numeral_leaf n).at v)
+number_folded f (zero_number l) ts = refl
+number_folded f (one_number l) ts = refl
+number_folded f (other_number l n) ts = refl
+number_folded f (wide_number l) ts = refl
 
 module _ {S : Type 0} (f : S → ℕ → List ℕ → Result S TextFault) where
   last_name : (n : ℕ) (ts : List Lexeme) (r : Result S TextFault) → heads (is_terminal (Separator Comma)) ts ≡ false → (before ts r >>= λ x. if_true (heads (is_terminal (Separator Comma)) x.1) (names_within n f x.0 (drop 1 x.1)) (Ok x)) ≡ before ts r
@@ -61,6 +91,38 @@ module _ {S X : Type 0} (g : ItemActions S X) where
       let measured : X → Measurement X = λ m. record { measure = m; tokens = yield_before p ts } in
       ap (change measured) (cond_parsed (g.phrases s) p c ts obeys (longest p ts ends)) ∙ changed ts measured (fold (g.phrases s) c p (g.phrases s).conds.one_of)
 
+  block_folded : (s : S) (b : BlockPhrase block) (ts : List Lexeme) → BlockObeys b ts → block_by g s (block_before b ts) ≡ before ts (fold_prog g s b ts)
+  block_folded s b ts obeys =
+      let measured : X → Measurement X = λ m. record { measure = m; tokens = block_before b ts } in
+      ap (change measured) (block_parsed (g.blocks s) b 0 (g.blocks s).none ts obeys) ∙ changed ts measured (fold_block (g.blocks s) 0 b (g.blocks s).none)
+
+  -- the program that a side names, or its term
+  named_folded : (us ts : List Lexeme) (o : Option X) (m : Parsed (Measurement X)) (r : Result (Measurement X) TextFault) → ((x : X) → o ≡ Some x → drop 1 us ≡ ts) → m ≡ before ts r → named_or us o m ≡ before ts (named_else us o r)
+  named_folded us ts (Some x) m r rest e = ap (λ vs. Ok (record { measure = x; tokens = us }, vs)) (rest x refl)
+  named_folded us ts None m r rest e = e
+
+  -- a name that is alone is followed by what follows the term
+  alone_rest : (s : S) (p : Phrase term) (ts : List Lexeme) (o : Option Leaf) → lone_leaf p ≡ o → (x : X) → option_and_then (g.program s) (text_of o) ≡ Some x → drop 1 (yield_before p ts) ≡ ts
+  alone_rest s p ts (Some l) e x h = lone_rest p ts l e
+  alone_rest s p ts None e x h = absurd cc
+
+  -- looked up by its text
+  by_text : (s : S) (o : Option Leaf) → option_and_then (g.program s) (text_of o) ≡ option_and_then (λ l. g.program s l.text) o
+  by_text s (Some l) = refl
+  by_text s None = refl
+
+  side_folded : (s : S) (p : Phrase term) (ts : List Lexeme) → Ends term ts → MeetsLookahead p ts → side_by g s (yield_before p ts) ≡ before ts (fold_side g s p ts)
+  side_folded s p ts ends obeys =
+      let us = yield_before p ts in
+      let found : option_and_then (g.program s) (lone_name us) ≡ option_and_then (g.program s) (text_of (lone_leaf p)) = ap (option_and_then (g.program s)) (lone_term p ts ends) in
+      ap (λ o. named_or us o (term_by g s us)) found
+      ∙ named_folded us ts (option_and_then (g.program s) (text_of (lone_leaf p))) (term_by g s us) (fold_term g s p ts) (alone_rest s p ts (lone_leaf p) refl) (term_folded s p ts ends obeys)
+      ∙ ap (λ o. before ts (named_else us o (fold_term g s p ts))) (by_text s (lone_leaf p))
+
+  middle_folded : (s : S) (in_goal : Bool) (p : Phrase term) (ts : List Lexeme) → Ends term ts → MeetsLookahead p ts → middle_by g s in_goal (yield_before p ts) ≡ before ts (fold_middle g s in_goal p ts)
+  middle_folded s true p ts ends obeys = side_folded s p ts ends obeys
+  middle_folded s false p ts ends obeys = term_folded s p ts ends obeys
+
   braced_folded : (s : S) (compares : Bool) (b : Braced) (ts : List Lexeme) → BracedObeys b ts → braced_by g s compares (braced_onto b ts) ≡ before ts (fold_braced g s compares b ts)
   braced_folded s compares b ts obeys = ap (then_wants (is_terminal (Separator CurlyClose))) (cond_folded s compares b.inner (cons_token (Separator CurlyClose) b.right ts) refl obeys) ∙ closed (Separator CurlyClose) b.right ts (fold_braced g s compares b ts) refl
 
@@ -68,14 +130,14 @@ module _ {S X : Type 0} (g : ItemActions S X) where
   triple_folded s compares x ts obeys =
       let after = braced_onto x.post ts in
       step (braced_by g s compares (triple_onto x ts)) (yield_before x.body after) ts (fold_braced g s compares x.pre (yield_before x.body after)) _ _ (braced_folded s compares x.pre (yield_before x.body after) obeys.0)
-      (λ m. step (term_by g s (yield_before x.body after)) after ts (fold_term g s x.body after) _ _ (term_folded s x.body after refl obeys.1)
+      (λ m. step (middle_by g s compares (yield_before x.body after)) after ts (fold_middle g s compares x.body after) _ _ (middle_folded s compares x.body after refl obeys.1)
       (λ n. step (braced_by g s compares after) ts ts (fold_braced g s compares x.post ts) _ _ (braced_folded s compares x.post ts obeys.2) (λ o. refl)))
 
   sides_folded : (s : S) (p : Phrase term) (c : Leaf) (q : Phrase term) (ts : List Lexeme) → Ends term ts → SidesObey p c q ts → sides_by g s (sides_onto p c q ts) ≡ before ts (fold_sides g s p c q ts)
   sides_folded s p c q ts ends obey =
       let after = cons_token (Separator Comma) c (yield_before q ts) in
-      step (then_wants (is_terminal (Separator Comma)) (term_by g s (yield_before p after))) (yield_before q ts) ts (fold_term g s p after) _ _ (ap (then_wants (is_terminal (Separator Comma))) (term_folded s p after refl obey.0) ∙ closed (Separator Comma) c (yield_before q ts) (fold_term g s p after) refl)
-      (λ m. step (term_by g s (yield_before q ts)) ts ts (fold_term g s q ts) _ _ (term_folded s q ts ends obey.1) (λ n. refl))
+      step (then_wants (is_terminal (Separator Comma)) (side_by g s (yield_before p after))) (yield_before q ts) ts (fold_side g s p after) _ _ (ap (then_wants (is_terminal (Separator Comma))) (side_folded s p after refl obey.0) ∙ closed (Separator Comma) c (yield_before q ts) (fold_side g s p after) refl)
+      (λ m. step (side_by g s (yield_before q ts)) ts ts (fold_side g s q ts) _ _ (side_folded s q ts ends obey.1) (λ n. refl))
 
   -- ---- items
 
@@ -96,19 +158,46 @@ module _ {S X : Type 0} (g : ItemActions S X) where
       ∙ closed (Separator Semicolon) end ts v refl)
       (λ m. refl)
 
+  setting_folded : (what : Setting) (s : S) (at : ℕ) (n : Numeral) (e : Leaf) (ts : List Lexeme) → setting_by g what s at (numeral_onto n (ended e ts)) ≡ before ts (fold_setting g what s at n)
+  setting_folded what s at n e ts = checked ts (g.begin_setting what s at) _ _
+      (λ u. ap (then_wants (is_terminal (Separator Semicolon))) (number_folded (g.set what s) n (ended e ts)) ∙ closed (Separator Semicolon) e ts (numeral_value n >>= λ v. g.set what s (numeral_leaf n).at v) refl)
+
+  prog_folded : (s : S) (at : ℕ) (name : Leaf) (b : BlockPhrase block) (ts : List Lexeme) → BlockObeys b ts → prog_by g s at (prog_onto name b ts) ≡ before ts (fold_program g s at name b ts)
+  prog_folded s at name b ts obeys =
+      let own = prog_onto name b [] in
+      checked ts (g.check_new s name.at name.text) _ _ (λ u.
+      step (block_by g s (block_before b ts)) ts ts (fold_prog g s b ts) _ _ (block_folded s b ts obeys)
+      (λ m. rw (until_prog name b ts) (checked ts (g.check_numbers s own) _ _ (λ v. refl))))
+
+  comparison_folded : (c : Comparison) (s : S) (at : ℕ) (p : Phrase term) (l : Leaf) (q : Phrase term) (e : Leaf) (ts : List Lexeme) → SidesObey p l q (ended e ts) →
+      (g.begin_goal s at >>= λ u. comparison_by g c s at (sides_onto p l q (ended e ts))) ≡ before ts (fold_comparison g c s at p l q e ts)
+  comparison_folded c s at p l q e ts obey =
+      checked ts (g.begin_goal s at) _ _ (λ u.
+      asked g s (sides_onto p l q (ended e ts)) (sides_onto p l q (ended e [])) (g.ask_sides c s at) (sides_by g s (sides_onto p l q (ended e ts))) e ts (fold_sides g s p l q (ended e ts)) (until_sides p l q e ts) (sides_folded s p l q (ended e ts) refl obey))
+
+  triple_goal_folded : (s : S) (at : ℕ) (x : TriplePhrase) (e : Leaf) (ts : List Lexeme) → TripleObeys x (ended e ts) →
+      (g.begin_goal s at >>= λ u. triple_goal_by g s at (triple_onto x (ended e ts))) ≡ before ts (fold_triple_goal g s at x e ts)
+  triple_goal_folded s at x e ts obeys =
+      checked ts (g.begin_goal s at) _ _ (λ u.
+      asked g s (triple_onto x (ended e ts)) (triple_onto x (ended e [])) (g.ask_triple s at) (triple_by g s true (triple_onto x (ended e ts))) e ts (fold_triple g s true x (ended e ts)) (until_triple x e ts) (triple_folded s true x (ended e ts) obeys))
+
   body_folded : (b : Body) (s : S) (at : ℕ) (text : List ℕ) (ts : List Lexeme) → BodyObeys b ts → item_by g s (cons_token (Keyword (word_of b)) (record { at = at; text = text }) (body_onto b ts)) ≡ before ts (fold_body g s at b ts)
   body_folded (tests ns e) s at text ts obeys = declaration_folded (g.declare what.Test) ns s e ts
   body_folded (actions ns e) s at text ts obeys = declaration_folded (g.declare what.Action) ns s e ts
+  body_folded (variables ns e) s at text ts obeys = declaration_folded (g.declare what.Var) ns s e ts
   body_folded (definition name q p e) s at text ts obeys = checked ts (g.check_new s name.at name.text) _ _ (λ u. definition_folded s at name p e ts obeys)
+  body_folded (program name b) s at text ts obeys = prog_folded s at name b ts obeys
   body_folded (hypothesis p q z e) s at text ts obeys =
       let after = cons_token (Separator Equals) q (cons_token Zero z (ended e ts)) in
       checked ts (g.begin_hyp s at) _ _ (λ u.
       ap (λ b. if_true b (then_do (g.state_triple s at) (triple_by g s false (drop 1 (yield_before p after)))) (zero_by g s at (yield_before p after))) (no_triple p after)
       ∙ zero_folded s at p q z e ts obeys)
   body_folded (hyp_triple l x e) s at text ts obeys = checked ts (g.begin_hyp s at) _ _ (λ u. done (g.state_triple s at) (triple_by g s false (triple_onto x (ended e ts))) e ts (fold_triple g s false x (ended e ts)) (triple_folded s false x (ended e ts) obeys))
-  body_folded (goal_equal l p c q e) s at text ts obeys = checked ts (g.begin_goal s at) _ _ (λ u. done (g.ask_sides Equal s at) (sides_by g s (sides_onto p c q (ended e ts))) e ts (fold_sides g s p c q (ended e ts)) (sides_folded s p c q (ended e ts) refl obeys))
-  body_folded (goal_below l p c q e) s at text ts obeys = checked ts (g.begin_goal s at) _ _ (λ u. done (g.ask_sides Below s at) (sides_by g s (sides_onto p c q (ended e ts))) e ts (fold_sides g s p c q (ended e ts)) (sides_folded s p c q (ended e ts) refl obeys))
-  body_folded (goal_triple l x e) s at text ts obeys = checked ts (g.begin_goal s at) _ _ (λ u. done (g.ask_triple s at) (triple_by g s true (triple_onto x (ended e ts))) e ts (fold_triple g s true x (ended e ts)) (triple_folded s true x (ended e ts) obeys))
+  body_folded (rounds n e) s at text ts obeys = setting_folded setting.Rounds s at n e ts
+  body_folded (width n e) s at text ts obeys = setting_folded setting.Width s at n e ts
+  body_folded (goal_equal l p c q e) s at text ts obeys = comparison_folded Equal s at p c q e ts obeys
+  body_folded (goal_below l p c q e) s at text ts obeys = comparison_folded Below s at p c q e ts obeys
+  body_folded (goal_triple l x e) s at text ts obeys = triple_goal_folded s at x e ts obeys
 
   then_items : (is : List Item) (n : ℕ) (r : Result S TextFault) → ((t : S) → items_within g n t (spelled is) ≡ fold_items g t is) → (before (spelled is) r >>= λ x. items_within g n x.0 x.1) ≡ (r >>= λ t. fold_items g t is)
   then_items is n (Ok t) h = h t

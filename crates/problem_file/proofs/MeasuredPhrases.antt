@@ -28,14 +28,14 @@ use Rattle.problem_file.specs.Sound.{IsTerm, IsCond}
 use Rattle.problem_file.proofs.Results.{ok_of}
 use Rattle.problem_file.proofs.Nestings.{nesting_fits}
 
-ok_value : {A : Type 0} (r : Result A TextFault) → IsOk r → (v : A) × (r ≡ Ok v)
+pub ok_value : {A : Type 0} (r : Result A TextFault) → IsOk r → (v : A) × (r ≡ Ok v)
 ok_value (Ok v) h = (v, refl)
 ok_value (Err e) h = absurd cc
 
-is_ok_of : {A : Type 0} (r : Result A TextFault) (v : A) → r ≡ Ok v → IsOk r
+pub is_ok_of : {A : Type 0} (r : Result A TextFault) (v : A) → r ≡ Ok v → IsOk r
 is_ok_of r v e = subst IsOk (sym e) refl
 
-one_ok : {A : Type 0} (r : Result A TextFault) (v w : A) → r ≡ Ok v → r ≡ Ok w → v ≡ w
+pub one_ok : {A : Type 0} (r : Result A TextFault) (v w : A) → r ≡ Ok v → r ≡ Ok w → v ≡ w
 one_ok r v w e f = let same : ok_of v ≡ Ok w = sym e ∙ f in cc
 
 -- ---- terms
@@ -100,13 +100,13 @@ pub cond_is : (w : ScopeParts) (compares : Bool) (p : Phrase cond) (m : Extent) 
 cond_is w compares p m tree x = record { sound = x.sound; built = x.built; narrow = x.narrow; small = x.small }
 
 -- few nodes are told of a condition just where it is small and its expressions are
-told_few : (largest size n : ℕ) → n ≡ told_nodes largest size → n ≤ 100000 → (largest ≤ 1000) × (size ≤ 100000) × (n ≡ size)
+pub told_few : (largest size n : ℕ) → n ≡ told_nodes largest size → n ≤ 100000 → (largest ≤ 1000) × (size ≤ 100000) × (n ≡ size)
 told_few largest size n e few = by_width (nat_lt 1000 largest) refl e where
   by_width : (b : Bool) → nat_lt 1000 largest ≡ b → n ≡ if_true b 100001 (capped size) → (largest ≤ 1000) × (size ≤ 100000) × (n ≡ size)
   by_width true h k = absurd (omega (arith, k, few))
   by_width false h k = (ltb-false 1000 largest h, omega (arith, k, few), omega (arith, k, few))
 
-few_told : (largest size n : ℕ) → n ≡ told_nodes largest size → largest ≤ 1000 → size ≤ 100000 → n ≡ size
+pub few_told : (largest size n : ℕ) → n ≡ told_nodes largest size → largest ≤ 1000 → size ≤ 100000 → n ≡ size
 few_told largest size n e narrow small = by_width (nat_lt 1000 largest) refl e where
   by_width : (b : Bool) → nat_lt 1000 largest ≡ b → n ≡ if_true b 100001 (capped size) → n ≡ size
   by_width true h k = absurd (omega (arith, ltb-true 1000 largest h, narrow))

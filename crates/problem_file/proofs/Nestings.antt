@@ -19,16 +19,16 @@ name_fits w c (Some (Var k)) sound le = absurd sound
 name_fits w c (Some (TermName i)) sound le = used_fits c (slice_get w.terms i) sound le
 name_fits w c (Some (Prog i)) sound le = absurd sound
 
-most : (d m n : ℕ) → d + m ≤ 200 → d + n ≤ 200 → d + max m n ≤ 200
+pub most : (d m n : ℕ) → d + m ≤ 200 → d + n ≤ 200 → d + max m n ≤ 200
 most d m n h k = omega (arith, h, k)
 
-deeper : (d n : ℕ) → d + 1 + n ≤ 200 → d + (n + 1) ≤ 200
+pub deeper : (d n : ℕ) → d + 1 + n ≤ 200 → d + (n + 1) ≤ 200
 deeper d n h = omega (arith, h)
 
-flat : (d : ℕ) → d ≤ 200 → d + 0 ≤ 200
+pub flat : (d : ℕ) → d ≤ 200 → d + 0 ≤ 200
 flat d le = omega (arith, le)
 
-next : (d : ℕ) → d < 200 → d + 1 ≤ 200
+pub next : (d : ℕ) → d < 200 → d + 1 ≤ 200
 next d lt = omega (arith, lt)
 
 pub nesting_fits : (w : ScopeParts) (c : Context) {x : Symbol} (p : Phrase x) → IsSound w c p → IsWithinLimits c.depth p → c.depth ≤ 200 → c.depth + nesting w p ≤ 200

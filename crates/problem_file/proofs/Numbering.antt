@@ -1,17 +1,17 @@
 -- The numbers that names stand for, as names are declared.
-use Rattle.std.proofs.Common.{◌≡◌, ◌<◌, ◌+◌, ℕ, List, ⊎_elim, ◌⊎◌, inl, inr, sym, ap, ◌∙◌, length, arith}
+use Rattle.std.proofs.Common.{◌≡◌, ◌<◌, ◌≤◌, ◌+◌, ℕ, List, [], ◌∷◌, ◌++◌, ⊎_elim, ◌⊎◌, inl, inr, sym, ap, subst, ◌∙◌, length, length-append, arith}
 use Rattle.std.specs.Ordering.{nat_cmp}
 use Rattle.std.specs.Cmp.Lexicographic.{slice_cmp}
 use Rattle.std.specs.FinMap.{get, insert, get-empty}
 use Rattle.std.proofs.lemmas.Option.{none-some, same_Some}
 use Rattle.kat_text.specs.declared.meaning.Meaning.{Meaning}
-use Rattle.kat_text.specs.declared.meaning.Meaning.TheVariants.{Test, Action, Term}
-use Rattle.kat_text.specs.ScopeParts.{Definition, ScopeParts, Means, IsUnnamed, empty_scope, declared, defined}
+use Rattle.kat_text.specs.declared.meaning.Meaning.TheVariants.{Test, Action, Var, Term, Prog}
+use Rattle.kat_text.specs.ScopeParts.{Definition, ScopeParts, Means, empty_scope, declared, defined}
 use Rattle.kat_text.proofs.Inverse.{insert_extends}
 use Rattle.problem_file.specs.Working.Numbers.{AreNumbered}
 
 -- a name of the world with one more stands for what was declared, or it was there
-new_or_old : (w : ScopeParts) (name : List ℕ) (m : Meaning) (a : List ℕ) (x : Meaning) → Means (declared w name m) a x → (m ≡ x) ⊎ Means w a x
+pub new_or_old : (w : ScopeParts) (name : List ℕ) (m : Meaning) (a : List ℕ) (x : Meaning) → Means (declared w name m) a x → (m ≡ x) ⊎ Means w a x
 new_or_old w name m a x e =
     let more = insert_extends w.meanings name m in
     ⊎_elim
@@ -25,42 +25,61 @@ same_test i k e = cc
 same_action : (i k : ℕ) → Action i ≡ Action k → i ≡ k
 same_action i k e = cc
 
-pub empty_numbered : AreNumbered empty_scope 0 0
+same_var : (i k : ℕ) → Var i ≡ Var k → i ≡ k
+same_var i k e = cc
+
+same_prog : (i k : ℕ) → Prog i ≡ Prog k → i ≡ k
+same_prog i k e = cc
+
+no_name : (name : List ℕ) (m : Meaning) → Means empty_scope name m → ⊥
+no_name name m e = none-some m (sym (get-empty (slice_cmp nat_cmp) name) ∙ e)
+
+pub empty_numbered : AreNumbered empty_scope 0 0 0 0
 empty_numbered = record {
-  named_tests = λ name k e. absurd (none-some (Test k) (sym (get-empty (slice_cmp nat_cmp) name) ∙ e));
-  named_actions = λ name k e. absurd (none-some (Action k) (sym (get-empty (slice_cmp nat_cmp) name) ∙ e));
+  named_tests = λ name k e. absurd (no_name name (Test k) e);
+  named_actions = λ name k e. absurd (no_name name (Action k) e);
+  named_vars = λ name k e. absurd (no_name name (Var k) e);
+  named_progs = λ name k e. absurd (no_name name (Prog k) e);
 }
 
--- no name stands for the next test, nor for the next action
-pub test_unnamed : (w : ScopeParts) (tests actions : ℕ) → AreNumbered w tests actions → IsUnnamed w (Test tests)
-test_unnamed w tests actions numbered name e = let below : tests < tests = numbered.named_tests name tests e in omega arith
+module _ (w : ScopeParts) (t a v p : ℕ) (numbered : AreNumbered w t a v p) where
+  -- the world with the name of a meaning more, where the numbers of each kind are below these
+  still_numbered : (u : ScopeParts) (name : List ℕ) (m : Meaning) (s b x q : ℕ) → u ≡ declared w name m → t ≤ s → a ≤ b → v ≤ x → p ≤ q →
+      ((k : ℕ) → m ≡ Test k → k < s) → ((k : ℕ) → m ≡ Action k → k < b) → ((k : ℕ) → m ≡ Var k → k < x) → ((k : ℕ) → m ≡ Prog k → k < q) → AreNumbered u s b x q
+  still_numbered u name m s b x q same mt ma mv mp test action var prog = rw same (record {
+    named_tests = λ n k e. ⊎_elim (λ h. test k h) (λ old. let below : k < t = numbered.named_tests n k old in omega (arith, mt)) (new_or_old w name m n (Test k) e);
+    named_actions = λ n k e. ⊎_elim (λ h. action k h) (λ old. let below : k < a = numbered.named_actions n k old in omega (arith, ma)) (new_or_old w name m n (Action k) e);
+    named_vars = λ n k e. ⊎_elim (λ h. var k h) (λ old. let below : k < v = numbered.named_vars n k old in omega (arith, mv)) (new_or_old w name m n (Var k) e);
+    named_progs = λ n k e. ⊎_elim (λ h. prog k h) (λ old. let below : k < p = numbered.named_progs n k old in omega (arith, mp)) (new_or_old w name m n (Prog k) e);
+  })
 
-pub action_unnamed : (w : ScopeParts) (tests actions : ℕ) → AreNumbered w tests actions → IsUnnamed w (Action actions)
-action_unnamed w tests actions numbered name e = let below : actions < actions = numbered.named_actions name actions e in omega arith
+  pub test_numbered : (u : ScopeParts) (name : List ℕ) → u ≡ declared w name (Test t) → AreNumbered u (t + 1) a v p
+  test_numbered u name same = still_numbered u name (Test t) (t + 1) a v p same (omega arith) (omega arith) (omega arith) (omega arith)
+      (λ k h. let number : t ≡ k = same_test t k h in omega (arith, number)) (λ k h. absurd cc) (λ k h. absurd cc) (λ k h. absurd cc)
 
--- with the next test declared
-pub test_numbered : (w v : ScopeParts) (name : List ℕ) (tests actions : ℕ) → AreNumbered w tests actions → v ≡ declared w name (Test tests) → AreNumbered v (tests + 1) actions
-test_numbered w v name tests actions numbered same = rw same (record {
-  named_tests = λ a k e. ⊎_elim
-      (λ p. let number : tests ≡ k = same_test tests k p in omega arith)
-      (λ old. let below : k < tests = numbered.named_tests a k old in omega arith)
-      (new_or_old w name (Test tests) a (Test k) e);
-  named_actions = λ a k e. ⊎_elim (λ p. absurd cc) (λ old. numbered.named_actions a k old) (new_or_old w name (Test tests) a (Action k) e);
-})
+  pub action_numbered : (u : ScopeParts) (name : List ℕ) → u ≡ declared w name (Action a) → AreNumbered u t (a + 1) v p
+  action_numbered u name same = still_numbered u name (Action a) t (a + 1) v p same (omega arith) (omega arith) (omega arith) (omega arith)
+      (λ k h. absurd cc) (λ k h. let number : a ≡ k = same_action a k h in omega (arith, number)) (λ k h. absurd cc) (λ k h. absurd cc)
 
--- with the next action declared
-pub action_numbered : (w v : ScopeParts) (name : List ℕ) (tests actions : ℕ) → AreNumbered w tests actions → v ≡ declared w name (Action actions) → AreNumbered v tests (actions + 1)
-action_numbered w v name tests actions numbered same = rw same (record {
-  named_tests = λ a k e. ⊎_elim (λ p. absurd cc) (λ old. numbered.named_tests a k old) (new_or_old w name (Action actions) a (Test k) e);
-  named_actions = λ a k e. ⊎_elim
-      (λ p. let number : actions ≡ k = same_action actions k p in omega arith)
-      (λ old. let below : k < actions = numbered.named_actions a k old in omega arith)
-      (new_or_old w name (Action actions) a (Action k) e);
-})
+  pub var_numbered : (u : ScopeParts) (name : List ℕ) → u ≡ declared w name (Var v) → AreNumbered u t a (v + 1) p
+  var_numbered u name same = still_numbered u name (Var v) t a (v + 1) p same (omega arith) (omega arith) (omega arith) (omega arith)
+      (λ k h. absurd cc) (λ k h. absurd cc) (λ k h. let number : v ≡ k = same_var v k h in omega (arith, number)) (λ k h. absurd cc)
 
--- with a term defined
-pub term_numbered : (w v : ScopeParts) (name : List ℕ) (d : Definition) (tests actions : ℕ) → AreNumbered w tests actions → v ≡ defined w name d → AreNumbered v tests actions
-term_numbered w v name d tests actions numbered same = rw same (record {
-  named_tests = λ a k e. ⊎_elim (λ p. absurd cc) (λ old. numbered.named_tests a k old) (new_or_old w name (Term (length w.terms)) a (Test k) e);
-  named_actions = λ a k e. ⊎_elim (λ p. absurd cc) (λ old. numbered.named_actions a k old) (new_or_old w name (Term (length w.terms)) a (Action k) e);
-})
+  pub prog_numbered : (u : ScopeParts) (name : List ℕ) → u ≡ declared w name (Prog p) → AreNumbered u t a v (p + 1)
+  prog_numbered u name same = still_numbered u name (Prog p) t a v (p + 1) same (omega arith) (omega arith) (omega arith) (omega arith)
+      (λ k h. absurd cc) (λ k h. absurd cc) (λ k h. absurd cc) (λ k h. let number : p ≡ k = same_prog p k h in omega (arith, number))
+
+  pub term_numbered : (u : ScopeParts) (name : List ℕ) (d : Definition) → u ≡ defined w name d → AreNumbered u t a v p
+  term_numbered u name d same = rw same (record {
+    named_tests = λ n k e. ⊎_elim (λ h. absurd cc) (λ old. numbered.named_tests n k old) (new_or_old w name (Term (length w.terms)) n (Test k) e);
+    named_actions = λ n k e. ⊎_elim (λ h. absurd cc) (λ old. numbered.named_actions n k old) (new_or_old w name (Term (length w.terms)) n (Action k) e);
+    named_vars = λ n k e. ⊎_elim (λ h. absurd cc) (λ old. numbered.named_vars n k old) (new_or_old w name (Term (length w.terms)) n (Var k) e);
+    named_progs = λ n k e. ⊎_elim (λ h. absurd cc) (λ old. numbered.named_progs n k old) (new_or_old w name (Term (length w.terms)) n (Prog k) e);
+  })
+
+-- with one program more in the list, under the next number
+pub added_numbered : {X : Type 0} (w u : ScopeParts) (t a v n : ℕ) (name : List ℕ) (old new : List X) (x : X) → AreNumbered w t a v (length old) → u ≡ declared w name (Prog n) → n ≡ length old → new ≡ old ++ x ∷ [] → AreNumbered u t a v (length new)
+added_numbered w u t a v n name old new x numbered same count more =
+    let e : u ≡ declared w name (Prog (length old)) = rw (← count) same in
+    let long : length new ≡ length old + 1 = omega (arith, ap length more, length-append old (x ∷ [])) in
+    subst (AreNumbered u t a v) (sym long) (prog_numbered w t a v (length old) numbered u name e)

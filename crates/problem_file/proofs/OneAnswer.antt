@@ -1,22 +1,27 @@
 -- Bytes say one thing or have one first fault, and not both.
-use Rattle.std.proofs.Common.{◌≡◌, ◌≤◌, ◌<◌, ◌⊎◌, inl, inr, ⊎_elim, ℕ, zero, suc, List, length, take, map, Bool, true, false, eqb, cond as if_true, Result, Ok, Err, Option, Some, None, IsSome, is_some, nat_lt, arith, refl, sym, ap, subst, ◌∙◌, take_all}
+use Rattle.std.proofs.Common.{◌≡◌, ◌≤◌, ◌<◌, ◌⊎◌, inl, inr, ⊎_elim, ℕ, zero, suc, List, [], length, take, map, Bool, true, false, eqb, Result, Ok, Err, Option, Some, None, slice_get, nat_lt, arith, refl, sym, ap, subst, ◌∙◌, take_all}
+use Rattle.std.proofs.lemmas.Option.{slice_get_past, none-some}
 use Rattle.std.specs.Str.{IsUtf8, IsValidUpTo, is_utf8}
 use Rattle.std.proofs.lemmas.Str.{IsUtf8-nil, IsUtf8-from_is_utf8, is_utf8-from_IsUtf8, utf8_valid_len-IsValidUpTo}
 use Rattle.std.proofs.lemmas.Bool.{false≢true, eqb-true, eqb-false, ltb-true, ltb-false}
 use Rattle.kat_tokens.specs.declared.lexer.TheConstants.{MAX_LEN}
 use Rattle.kat_tokens.specs.declared.fault.TextFault.{TextFault}
-use Rattle.kat_tokens.specs.declared.fault.TextFault.TheVariants.{TooLong, NotUtf8, BadToken, NoGoal, NotYet}
+use Rattle.kat_tokens.specs.declared.fault.TextFault.TheVariants.{TooLong, NotUtf8, BadToken}
 use Rattle.kat_tokens.specs.TokenParts.{TokenParts}
 use Rattle.kat_tokens.specs.Lex.{IsText, Lexes, FirstBad}
-use Rattle.kat_syntax.specs.Lexemes.{Lexeme, lexeme_of}
-use Rattle.problem_file.specs.Files.{GoalTree, State, start}
+use Rattle.kat_syntax.specs.Lexemes.{lexeme_of}
+use Rattle.while_lang.specs.NamedProgs.{ProgParts}
+use Rattle.problem_file.specs.declared.goal_limit.GoalLimit.TheVariants.{One}
+use Rattle.problem_file.specs.Files.{GoalTree, FileParts, State, start, file_of}
 use Rattle.problem_file.specs.Syntax.{scan_file}
 use Rattle.problem_file.specs.Making.{walk}
-use Rattle.problem_file.specs.Reads.{TextSays, Refuses, FirstFault, too_long, not_utf8, bad_token, refused, has_later, check_built, check_goal, tested, placing, placed}
+use Rattle.problem_file.specs.Reads.{Reads, Refuses, FirstFault, too_long, not_utf8, bad_token, refused, file_with, check_goal, tested, placing, placed}
 use Rattle.problem_file.specs.Laws.{HaveOneAnswer}
 use Rattle.kat_tokens.proofs.Readings.{one_lexing, one_bad, not_both, some_reading}
+use Rattle.kat_syntax.specs.Parsed.{◌>>=◌}
 use Rattle.kat_syntax.proofs.ParserSoundness.{bind_ok}
-use Rattle.problem_file.proofs.Results.{ok_of, err_of}
+use Rattle.while_lang.specs.BlockLaws.{AreLimited}
+use Rattle.problem_file.proofs.Results.{ok_of, err_of, same_ok}
 use Rattle.problem_file.proofs.ScannedFiles.{files_are_scanned}
 use Rattle.problem_file.proofs.WalkedItems.{items_are_walked}
 use Rattle.problem_file.proofs.NamedTexts.{faults_are_named}
@@ -60,65 +65,62 @@ some_front bs e =
 
 -- ---- what the tests of tokens tell
 
-pub goal_there : (s : State) (goal : Option GoalTree) → goal ≡ s.goal → IsSome goal → check_goal s ≡ Ok s
-goal_there s None e h = absurd (false≢true h)
-goal_there s (Some g) e h = subst (λ o. if_true (is_some o) (Ok s) (Err NoGoal) ≡ Ok s) e refl
+-- the first state has no program
+no_prog : (i : ℕ) (p : ProgParts) → slice_get [] i ≡ Some p → ⊥
+no_prog i p e = let none : slice_get [] i ≡ None = slice_get_past [] i (omega arith) in none-some p (sym none ∙ e)
 
-said_tested : (bytes : List ℕ) (s : State) (x : TextSays bytes s) → tested (map lexeme_of x.parts_of_tokens) ≡ Ok s
-said_tested bytes s x =
+start_limited : AreLimited (start One).progs
+start_limited i p e = absurd (no_prog i p e)
+
+said_tested : (bytes : List ℕ) (f : FileParts) (x : Reads bytes f) → tested (map lexeme_of x.parts_of_tokens) ≡ Ok f
+said_tested bytes f x =
     let ts = map lexeme_of x.parts_of_tokens in
     let scanned : scan_file ts ≡ Ok tt = (files_are_scanned ts).1 (x.items, x.spells) in
-    let walked : walk start ts ≡ Ok s = (items_are_walked start s x.items ts x.spells).1 x.make in
-    rw (x.all_built, scanned, walked) (goal_there s s.goal refl x.has_goal)
+    let walked : walk (start One) ts ≡ Ok x.state = (items_are_walked (start One) x.state x.items ts start_limited x.spells).1 x.make in
+    rw (scanned, walked, x.has_goal) (ap Ok (sym x.file))
 
-all_built : (ts : List Lexeme) (later : Bool) → has_later ts ≡ later → (r : Unit {0}) → check_built ts ≡ Ok r → has_later ts ≡ false
-all_built ts true e r h = let told : err_of (Unit {0}) NotYet ≡ Ok r = subst (λ b. if_true b (Err NotYet) (Ok tt) ≡ Ok r) e h in absurd cc
-all_built ts false e r h = e
+goal_told : (s : State) (f : FileParts) (o : Option GoalTree) → file_with s o ≡ Ok f → (goal : GoalTree) × (o ≡ Some goal) × (f ≡ file_of s goal)
+goal_told s f None e = absurd cc
+goal_told s f (Some goal) e = (goal, refl, sym (same_ok (file_of s goal) f e))
 
-goal_told : (s t : State) (goal : Option GoalTree) → goal ≡ s.goal → check_goal s ≡ Ok t → (t ≡ s) × IsSome t.goal
-goal_told s t None e h = let told : err_of State NoGoal ≡ Ok t = subst (λ o. if_true (is_some o) (Ok s) (Err NoGoal) ≡ Ok t) (sym e) h in absurd cc
-goal_told s t (Some g) e h =
-    let same : ok_of s ≡ Ok t = subst (λ o. if_true (is_some o) (Ok s) (Err NoGoal) ≡ Ok t) (sym e) h in
-    let is : t ≡ s = cc in
-    (is, subst (λ (x : State). IsSome x.goal) (sym is) (subst IsSome e refl))
-
-pub tested_says : (bytes : List ℕ) (ms : List TokenParts) → Lexes bytes ms → (s : State) → tested (map lexeme_of ms) ≡ Ok s → TextSays bytes s
-tested_says bytes ms lexes s t =
+pub tested_says : (bytes : List ℕ) (ms : List TokenParts) → Lexes bytes ms → (f : FileParts) → tested (map lexeme_of ms) ≡ Ok f → Reads bytes f
+tested_says bytes ms lexes f t =
     let ts = map lexeme_of ms in
-    let built = bind_ok (check_built ts) _ s t in
-    let scanned = bind_ok (scan_file ts) _ s built.2 in
-    let walked = bind_ok (walk start ts) check_goal s scanned.2 in
-    let goal = goal_told walked.0 s walked.0.goal refl walked.2 in
+    let scanned = bind_ok (scan_file ts) (λ u. walk (start One) ts >>= check_goal) f t in
+    let walked = bind_ok (walk (start One) ts) check_goal f scanned.2 in
+    let goal = goal_told walked.0 f (slice_get (walked.0).goals 0) walked.2 in
     let file = (files_are_scanned ts).0 scanned.1 in
     record {
       parts_of_tokens = ms;
       lexes = lexes;
-      all_built = all_built ts (has_later ts) refl built.0 built.1;
       items = file.0;
       spells = file.1;
-      make = (items_are_walked start s file.0 ts file.1).0 (subst (λ x. walk start ts ≡ Ok x) (sym goal.0) walked.1);
+      state = walked.0;
+      make = (items_are_walked (start One) walked.0 file.0 ts start_limited file.1).0 walked.1;
+      goal = goal.0;
       has_goal = goal.1;
+      file = goal.2;
     }
 
 -- what the tests give is what the bytes say, or their first fault
-tested_tells : (bytes : List ℕ) (ms : List TokenParts) → Lexes bytes ms → (m : Result State TextFault) → tested (map lexeme_of ms) ≡ m → ((s : State) × TextSays bytes s) ⊎ ((e : TextFault) × FirstFault bytes e)
-tested_tells bytes ms lexes (Ok s) t = inl (s, tested_says bytes ms lexes s t)
+tested_tells : (bytes : List ℕ) (ms : List TokenParts) → Lexes bytes ms → (m : Result FileParts TextFault) → tested (map lexeme_of ms) ≡ m → ((f : FileParts) × Reads bytes f) ⊎ ((e : TextFault) × FirstFault bytes e)
+tested_tells bytes ms lexes (Ok f) t = inl (f, tested_says bytes ms lexes f t)
 tested_tells bytes ms lexes (Err e) t = inr (placed (length bytes) e, refused (record { parts_of_tokens = ms; lexes = lexes; tests = ap (placing (length bytes)) t }))
 
 -- ---- the law
 
-text_tells : (bytes : List ℕ) → IsText bytes → ((s : State) × TextSays bytes s) ⊎ ((e : TextFault) × FirstFault bytes e)
+text_tells : (bytes : List ℕ) → IsText bytes → ((f : FileParts) × Reads bytes f) ⊎ ((e : TextFault) × FirstFault bytes e)
 text_tells bytes text =
     ⊎_elim
     (λ x. tested_tells bytes x.0 x.1 (tested (map lexeme_of x.0)) refl)
     (λ x. inr (BadToken x.0, bad_token x.0 refl x.1))
     (some_reading bytes text)
 
-short_tells : (bytes : List ℕ) → length bytes ≤ MAX_LEN → (u : Bool) → is_utf8 bytes ≡ u → ((s : State) × TextSays bytes s) ⊎ ((e : TextFault) × FirstFault bytes e)
+short_tells : (bytes : List ℕ) → length bytes ≤ MAX_LEN → (u : Bool) → is_utf8 bytes ≡ u → ((f : FileParts) × Reads bytes f) ⊎ ((e : TextFault) × FirstFault bytes e)
 short_tells bytes within true u = text_tells bytes (record { within = within; utf8 = IsUtf8-from_is_utf8 bytes u })
 short_tells bytes within false u = let front = some_front bytes u in inr (NotUtf8 front.0, not_utf8 front.0 refl within front.1)
 
-bytes_tell : (bytes : List ℕ) (past : Bool) → nat_lt MAX_LEN (length bytes) ≡ past → ((s : State) × TextSays bytes s) ⊎ ((e : TextFault) × FirstFault bytes e)
+bytes_tell : (bytes : List ℕ) (past : Bool) → nat_lt MAX_LEN (length bytes) ≡ past → ((f : FileParts) × Reads bytes f) ⊎ ((e : TextFault) × FirstFault bytes e)
 bytes_tell bytes true p = inr (TooLong, too_long refl (ltb-true MAX_LEN (length bytes) p))
 bytes_tell bytes false p = short_tells bytes (ltb-false MAX_LEN (length bytes) p) (is_utf8 bytes) refl
 
@@ -127,21 +129,20 @@ bytes_tell bytes false p = short_tells bytes (ltb-false MAX_LEN (length bytes) p
 no_front : (bytes : List ℕ) (at : ℕ) → IsText bytes → IsValidUpTo bytes at → ⊥
 no_front bytes at text front = front.longest (length bytes) front.short (subst IsUtf8 (sym (take_all (length bytes) bytes (omega arith))) text.utf8)
 
-pub not_both_ways : (bytes : List ℕ) (s : State) (e : TextFault) → TextSays bytes s → FirstFault bytes e → ⊥
-not_both_ways bytes s e x (too_long told past) = let within = x.lexes.is_text.within in omega (arith, past, within)
-not_both_ways bytes s e x (not_utf8 at told within front) = no_front bytes at x.lexes.is_text front
-not_both_ways bytes s e x (bad_token at told bad) = not_both bytes x.parts_of_tokens at x.lexes bad
-not_both_ways bytes s e x (refused r) =
+pub not_both_ways : (bytes : List ℕ) (f : FileParts) (e : TextFault) → Reads bytes f → FirstFault bytes e → ⊥
+not_both_ways bytes f e x (too_long told past) = let within = x.lexes.is_text.within in omega (arith, past, within)
+not_both_ways bytes f e x (not_utf8 at told within front) = no_front bytes at x.lexes.is_text front
+not_both_ways bytes f e x (bad_token at told bad) = not_both bytes x.parts_of_tokens at x.lexes bad
+not_both_ways bytes f e x (refused r) =
     let same : r.parts_of_tokens ≡ x.parts_of_tokens = one_lexing bytes r.parts_of_tokens x.parts_of_tokens r.lexes x.lexes in
     let told : placing (length bytes) (tested (map lexeme_of x.parts_of_tokens)) ≡ Err e = subst (λ ms. placing (length bytes) (tested (map lexeme_of ms)) ≡ Err e) same r.tests in
-    let said : ok_of s ≡ Err e = subst (λ m. placing (length bytes) m ≡ Err e) (said_tested bytes s x) told in
+    let said : ok_of f ≡ Err e = subst (λ m. placing (length bytes) m ≡ Err e) (said_tested bytes f x) told in
     absurd cc
 
-one_state : (bytes : List ℕ) (s t : State) → TextSays bytes s → TextSays bytes t → s ≡ t
-one_state bytes s t x y =
+one_file : (bytes : List ℕ) (f g : FileParts) → Reads bytes f → Reads bytes g → f ≡ g
+one_file bytes f g x y =
     let same : x.parts_of_tokens ≡ y.parts_of_tokens = one_lexing bytes x.parts_of_tokens y.parts_of_tokens x.lexes y.lexes in
-    let one : ok_of s ≡ Ok t = sym (said_tested bytes s x) ∙ (ap (λ ms. tested (map lexeme_of ms)) same ∙ said_tested bytes t y) in
-    cc
+    same_ok f g (sym (said_tested bytes f x) ∙ (ap (λ ms. tested (map lexeme_of ms)) same ∙ said_tested bytes g y))
 
 -- of a text of which this is known there is one first fault
 past_fault : (bytes : List ℕ) (e : TextFault) → MAX_LEN < length bytes → FirstFault bytes e → e ≡ TooLong
@@ -171,7 +172,7 @@ token_fault bytes d e q (not_utf8 at told within front) = absurd (no_front bytes
 token_fault bytes d e q (bad_token at told bad) = absurd (not_both bytes q.parts_of_tokens at q.lexes bad)
 token_fault bytes d e q (refused r) =
     let same : r.parts_of_tokens ≡ q.parts_of_tokens = one_lexing bytes r.parts_of_tokens q.parts_of_tokens r.lexes q.lexes in
-    let one : err_of (State) e ≡ Err d = sym r.tests ∙ (ap (λ ms. placing (length bytes) (tested (map lexeme_of ms))) same ∙ q.tests) in
+    let one : err_of FileParts e ≡ Err d = sym r.tests ∙ (ap (λ ms. placing (length bytes) (tested (map lexeme_of ms))) same ∙ q.tests) in
     cc
 
 one_fault : (bytes : List ℕ) (d e : TextFault) → FirstFault bytes d → FirstFault bytes e → d ≡ e
@@ -184,7 +185,7 @@ pub have_one_answer : HaveOneAnswer
 have_one_answer = record {
   some = λ bytes. bytes_tell bytes (nat_lt MAX_LEN (length bytes)) refl;
   either = not_both_ways;
-  states = one_state;
+  files = one_file;
   faults = one_fault;
   named = faults_are_named;
 }

@@ -9,10 +9,10 @@ use Rattle.kat_tokens.specs.TokenParts.{parts_of_tokens, parts_of_token}
 use Rattle.kat_tokens.specs.Lex.{Lexes, IsFault, IsSlice}
 use Rattle.kat_tokens.proofs.Slices.{slices_from}
 use Rattle.kat_syntax.specs.Lexemes.{lexemes}
-use Rattle.problem_file.specs.declared.file.File.{File}
+use Rattle.kat_syntax.specs.Parsed.{Makes}
 use Rattle.problem_file.specs.Working.Tokens.{AreTokens}
-use Rattle.problem_file.specs.Files.{State}
-use Rattle.problem_file.specs.Reads.{TextSays, Reads, FirstFault, bad_token, refused, placed, placing, tested, HoldsTested, Answers}
+use Rattle.problem_file.specs.Files.{FileParts}
+use Rattle.problem_file.specs.Reads.{Reads, FirstFault, bad_token, refused, placed, placing, tested, Answers}
 use Rattle.problem_file.proofs.OneAnswer.{tested_says, not_both_ways}
 
 -- each token of a text is a token of its kind
@@ -24,14 +24,14 @@ lexed_tokens text ts lexes i t e =
     let same : get_or ms i (parts_of_token t) ≡ parts_of_token t = get_or_from_slice_get ms i (parts_of_token t) (parts_of_token t) there in
     (subst (IsSlice text) same slice).is_token
 
-pub file_told : (text : List ℕ) (ts : List Token) (f : File) → Lexes text (parts_of_tokens ts) → HoldsTested (Ok f) (tested (lexemes ts)) → Reads text f
-file_told text ts f lexes h = record { state = h.0; says = tested_says text (parts_of_tokens ts) lexes h.0 h.1; holds = h.2 }
+pub file_told : (text : List ℕ) (ts : List Token) (f : FileParts) → Lexes text (parts_of_tokens ts) → Makes (Unit {0}) (λ f. f) (Ok f) (tested (lexemes ts)) → Reads text f
+file_told text ts f lexes h = tested_says text (parts_of_tokens ts) lexes f h
 
-fault_is : (e : TextFault) (m : Result State TextFault) → HoldsTested (Err e) m → (e ≡ NoMemory) ⊎ (m ≡ Err e)
+fault_is : (e : TextFault) (m : Result FileParts TextFault) → Makes (Unit {0}) (λ f. f) (Err e) m → (e ≡ NoMemory) ⊎ (m ≡ Err e)
 fault_is NoMemory m h = inl refl
 fault_is e m h = inr h
 
-pub fault_told : (text : List ℕ) (ts : List Token) (e : TextFault) → Lexes text (parts_of_tokens ts) → HoldsTested (Err e) (tested (lexemes ts)) → (placed (length text) e ≡ NoMemory) ⊎ FirstFault text (placed (length text) e)
+pub fault_told : (text : List ℕ) (ts : List Token) (e : TextFault) → Lexes text (parts_of_tokens ts) → Makes (Unit {0}) (λ f. f) (Err e) (tested (lexemes ts)) → (placed (length text) e ≡ NoMemory) ⊎ FirstFault text (placed (length text) e)
 fault_told text ts e lexes h =
     ⊎_elim
     (λ none. inl (ap (placed (length text)) none))
@@ -44,6 +44,6 @@ bad_told text (BadToken at) h = inr (bad_token at refl h)
 bad_told text e h = absurd h
 
 -- bytes that say something have no first fault
-pub only_memory : (bytes : List ℕ) (s : State) (r : Result File TextFault) → TextSays bytes s → Answers bytes r → IfErr r (λ e. e ≡ NoMemory)
-only_memory bytes s (Ok f) says h = tt
-only_memory bytes s (Err e) says h = ⊎_elim (λ none. none) (λ first. absurd (not_both_ways bytes s e says first)) h
+pub only_memory : (bytes : List ℕ) (f : FileParts) (r : Result FileParts TextFault) → Reads bytes f → Answers bytes r → IfErr r (λ e. e ≡ NoMemory)
+only_memory bytes f (Ok g) says h = tt
+only_memory bytes f (Err e) says h = ⊎_elim (λ none. none) (λ first. absurd (not_both_ways bytes f e says first)) h

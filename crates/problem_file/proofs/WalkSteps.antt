@@ -1,17 +1,26 @@
 -- The tests of an item: what each gives where it is passed, and what is known where it is.
-use Rattle.std.proofs.Common.{◌≡◌, ℕ, ◌+◌, ◌≤◌, ◌<◌, List, length, Bool, true, false, nat_lt, cond as if_true, Option, Some, None, is_some, Ok, Err, refl, arith}
-use Rattle.std.proofs.lemmas.Bool.{ltb-false, le-ltb}
+use Rattle.std.proofs.Common.{◌≡◌, ℕ, ◌+◌, ◌≤◌, ◌<◌, List, [], ◌∷◌, length, Bool, true, false, nat_lt, cond as if_true, Option, Some, None, is_some, Ok, Err, refl, sym, arith}
+use Rattle.std.proofs.lemmas.Bool.{ltb-true, ltb-false, lt-ltb, le-ltb}
 use Rattle.kat_tokens.specs.declared.fault.TextFault.{TextFault}
-use Rattle.kat_tokens.specs.declared.fault.TextFault.TheVariants.{DoubleName, TooMany, TooLarge, TwoGoals}
+use Rattle.kat_tokens.specs.declared.fault.TextFault.TheVariants.{DoubleName, TooMany, TooLarge, Sort, NumberTooWide}
+use Rattle.kat_model.specs.Stores.{modulus}
+use Rattle.kat_model.specs.declared.expression.Width.{Width}
+use Rattle.kat_syntax.specs.declared.terminal.Terminal.TheVariants.{Number, WideNumber}
+use Rattle.kat_syntax.specs.Lexemes.{Lexeme, lexeme}
+use Rattle.kat_syntax.specs.Parsed.{◌>>=◌}
 use Rattle.kat_syntax.specs.Phrases.{Leaf}
 use Rattle.kat_syntax.proofs.ParserSoundness.{bind_ok}
 use Rattle.kat_text.specs.declared.extent.Extent.{Extent}
 use Rattle.kat_text.specs.ScopeParts.{meaning, IsUndeclared}
-use Rattle.problem_file.specs.Files.{State, declare_test, declare_action, check_new, grow, check_size}
+use Rattle.problem_file.specs.declared.item_reading.Setting.TheVariants as setting
+use Rattle.problem_file.specs.Files.{State, most_goals, goal_fault, declare_test, declare_action, declare_var, check_new, has_begun, begin_rounds, begin_width, set_rounds, with_rounds, with_width, width_with, take_width, set_width, grow, check_size}
+use Rattle.problem_file.specs.Numbers.{IsNarrow, AreNarrow, check_number, check_numbers}
+use Rattle.problem_file.specs.Phrases.{Numeral}
+use Rattle.problem_file.specs.Folds.{numeral_leaf, numeral_value, fold_setting}
 use Rattle.problem_file.specs.ItemActions.{SidesMeasurement, TripleMeasurement}
-use Rattle.problem_file.specs.Making.{begin_hyp, begin_goal, count, count_sides, count_parts, triple_nodes}
-use Rattle.problem_file.specs.Sound.{with_test, with_action, grown, DeclaresTest, DeclaresAction, HasRoom}
-use Rattle.problem_file.proofs.Results.{passed}
+use Rattle.problem_file.specs.Making.{making, begin_hyp, begin_goal, count, count_sides, count_parts, triple_nodes}
+use Rattle.problem_file.specs.Sound.{with_test, with_action, with_var, grown, DeclaresTest, DeclaresAction, DeclaresVar, HasRoom, SetsRounds, SetsWidth}
+use Rattle.problem_file.proofs.Results.{same_ok, passed}
 
 none_of : {A : Type 0} (o : Option A) → is_some o ≡ false → o ≡ None
 none_of None e = refl
@@ -31,6 +40,9 @@ test_there s l t (new, few, made) = rw (new, le-ltb 47 s.tests (omega (arith, fe
 pub action_there : (s : State) (l : Leaf) (t : State) → DeclaresAction s l t → declare_action s l.at l.text ≡ Ok t
 action_there s l t (new, few, made) = rw (new, le-ltb 47 s.actions (omega (arith, few)), made) refl
 
+pub var_there : (s : State) (l : Leaf) (t : State) → DeclaresVar s l t → declare_var s l.at l.text ≡ Ok t
+var_there s l t (new, few, made) = rw (new, le-ltb 63 s.vars (omega (arith, few)), made) refl
+
 -- two tests that were passed
 both_passed : {A : Type 0} (a b : Bool) (x y : TextFault) (v w : A) → if_true a (Err x) (if_true b (Err y) (Ok v)) ≡ Ok w → (a ≡ false) × (b ≡ false) × (w ≡ v)
 both_passed true b x y v w e = absurd cc
@@ -47,6 +59,11 @@ action_declared s l t e =
     let h = both_passed (is_some (meaning s.world l.text)) (nat_lt 47 s.actions) (DoubleName l.at) (TooMany l.at) (with_action s l.text) t e in
     (none_of (meaning s.world l.text) h.0, omega (arith, ltb-false 47 s.actions h.1), h.2)
 
+pub var_declared : (s : State) (l : Leaf) (t : State) → declare_var s l.at l.text ≡ Ok t → DeclaresVar s l t
+var_declared s l t e =
+    let h = both_passed (is_some (meaning s.world l.text)) (nat_lt 63 s.vars) (DoubleName l.at) (TooMany l.at) (with_var s l.text) t e in
+    (none_of (meaning s.world l.text) h.0, omega (arith, ltb-false 63 s.vars h.1), h.2)
+
 -- ---- the beginning of an item
 
 pub hyp_there : (s : State) (at : ℕ) → length s.hyps < 8192 → begin_hyp s at ≡ Ok tt
@@ -55,11 +72,78 @@ hyp_there s at few = rw (le-ltb 8191 (length s.hyps) (omega (arith, few))) refl
 pub hyp_passed : (s : State) (at : ℕ) (u : Unit {0}) → begin_hyp s at ≡ Ok u → length s.hyps < 8192
 hyp_passed s at u e = omega (arith, ltb-false 8191 (length s.hyps) (passed (nat_lt 8191 (length s.hyps)) (TooMany at) tt u e).0)
 
-pub goal_there : (s : State) (at : ℕ) → s.goal ≡ None → begin_goal s at ≡ Ok tt
-goal_there s at first = rw first refl
+pub goal_there : (s : State) (at : ℕ) → length s.goals < most_goals s.limit → begin_goal s at ≡ Ok tt
+goal_there s at few = rw (lt-ltb (length s.goals) (most_goals s.limit) few) refl
 
-pub goal_passed : (s : State) (at : ℕ) (u : Unit {0}) → begin_goal s at ≡ Ok u → s.goal ≡ None
-goal_passed s at u e = none_of s.goal (passed (is_some s.goal) (TwoGoals at) tt u e).0
+pub goal_passed : (s : State) (at : ℕ) (u : Unit {0}) → begin_goal s at ≡ Ok u → length s.goals < most_goals s.limit
+goal_passed s at u e = by_count (nat_lt (length s.goals) (most_goals s.limit)) refl e where
+  by_count : (b : Bool) → nat_lt (length s.goals) (most_goals s.limit) ≡ b → if_true b (Ok tt) (Err (goal_fault s.limit at)) ≡ Ok u → length s.goals < most_goals s.limit
+  by_count true h k = ltb-true (length s.goals) (most_goals s.limit) h
+  by_count false h k = absurd cc
+
+-- ---- rounds and width
+
+pub rounds_there : (s : State) (at : ℕ) (x : Numeral) (t : State) → SetsRounds s x t → fold_setting making setting.Rounds s at x ≡ Ok t
+rounds_there s at x t h = rw (h.first, h.is_number, le-ltb 16 h.number h.few, h.made) refl
+
+pub rounds_set : (s : State) (at : ℕ) (x : Numeral) (t : State) → fold_setting making setting.Rounds s at x ≡ Ok t → SetsRounds s x t
+rounds_set s at x t e =
+    let a = bind_ok (begin_rounds s at) (λ u. numeral_value x >>= λ n. set_rounds s (numeral_leaf x).at n) t e in
+    let b = bind_ok (numeral_value x) (λ n. set_rounds s (numeral_leaf x).at n) t a.2 in
+    let c = passed (nat_lt 16 b.0) (TooMany (numeral_leaf x).at) (with_rounds s b.0) t b.2 in
+    record {
+      first = none_of s.rounds (passed (is_some s.rounds) (DoubleName at) tt a.0 a.1).0;
+      number = b.0;
+      is_number = b.1;
+      few = ltb-false 16 b.0 c.0;
+      made = sym c.1;
+    }
+
+pub width_there : (s : State) (at : ℕ) (x : Numeral) (t : State) → SetsWidth s x t → fold_setting making setting.Width s at x ≡ Ok t
+width_there s at x t h = rw (h.first, h.early, h.is_number, h.is_width, h.made) refl
+
+width_taken : (s : State) (at : ℕ) (w : Option Width) (t : State) → take_width s at w ≡ Ok t → (v : Width) × (w ≡ Some v) × (t ≡ with_width s v)
+width_taken s at None t e = absurd cc
+width_taken s at (Some v) t e = (v, refl, sym (same_ok (with_width s v) t e))
+
+-- both tests of a `width` were passed
+width_begun : (s : State) (at : ℕ) (u : Unit {0}) → begin_width s at ≡ Ok u → (s.width ≡ None) × (has_begun s ≡ false)
+width_begun s at u e =
+    let h = both_passed (is_some s.width) (has_begun s) (DoubleName at) (Sort at) tt u e in
+    (none_of s.width h.0, h.1)
+
+pub width_set : (s : State) (at : ℕ) (x : Numeral) (t : State) → fold_setting making setting.Width s at x ≡ Ok t → SetsWidth s x t
+width_set s at x t e =
+    let a = bind_ok (begin_width s at) (λ u. numeral_value x >>= λ n. set_width s (numeral_leaf x).at n) t e in
+    let b = bind_ok (numeral_value x) (λ n. set_width s (numeral_leaf x).at n) t a.2 in
+    let begun = width_begun s at a.0 a.1 in
+    let c = width_taken s (numeral_leaf x).at (width_with b.0) t b.2 in
+    record { first = begun.0; early = begun.1; number = b.0; is_number = b.1; chosen = c.0; is_width = c.1; made = c.2 }
+
+-- ---- numbers
+
+number_there : (w : Width) (t : Lexeme) → IsNarrow w t → check_number w t ≡ Ok tt
+number_there w (lexeme (Number n) at text) h = rw (lt-ltb n (modulus w) h) refl
+number_there w (lexeme WideNumber at text) h = absurd h
+number_there w (lexeme _ at text) h = refl
+
+number_passed : (w : Width) (t : Lexeme) (u : Unit {0}) → check_number w t ≡ Ok u → IsNarrow w t
+number_passed w (lexeme (Number n) at text) u e = by_size (nat_lt n (modulus w)) refl e where
+  by_size : (b : Bool) → nat_lt n (modulus w) ≡ b → if_true b (Ok tt) (Err (NumberTooWide at)) ≡ Ok u → n < modulus w
+  by_size true h k = ltb-true n (modulus w) h
+  by_size false h k = absurd cc
+number_passed w (lexeme WideNumber at text) u e = absurd cc
+number_passed w (lexeme _ at text) u e = tt
+
+pub numbers_there : (w : Width) (ts : List Lexeme) → AreNarrow w ts → check_numbers w ts ≡ Ok tt
+numbers_there w [] h = refl
+numbers_there w (t ∷ ts) h = rw (number_there w t h.0) (numbers_there w ts h.1)
+
+pub numbers_passed : (w : Width) (ts : List Lexeme) (u : Unit {0}) → check_numbers w ts ≡ Ok u → AreNarrow w ts
+numbers_passed w [] u e = tt
+numbers_passed w (t ∷ ts) u e =
+    let a = bind_ok (check_number w t) (λ v. check_numbers w ts) u e in
+    (number_passed w t a.0 a.1, numbers_passed w ts u a.2)
 
 -- ---- nodes
 

@@ -1,36 +1,133 @@
--- What the items of a problem file have declared, defined and stated so far.
-use Rattle.std.specs.Prelude.{ℕ, ◌+◌, List, [], ◌∷◌, ◌++◌, Bool, if◌then◌else◌, nat_lt, Result, Ok, Err, Option, Some, None}
+-- What a problem file says, and what its items have declared, defined and stated so far.
+use Rattle.std.specs.Prelude.{ℕ, ◌+◌, List, [], ◌∷◌, ◌++◌, length, slice_get, Bool, ◌||◌, if◌then◌else◌, nat_lt, nat_eq, Result, Ok, Err, Option, Some, None, unwrap_or}
 use Rattle.std.specs.Option.{is_some}
 use Rattle.kat_model.specs.Trees.{Term}
 use Rattle.kat_model.specs.Expressions.{CondTree, test_without_comparisons}
+use Rattle.kat_model.specs.declared.expression.Width.{Width}
+use Rattle.kat_model.specs.declared.expression.Width.TheVariants.{W8, W16, W32, W64}
 use Rattle.goal_forms.specs.Sides.{failing_run}
 use Rattle.kat_tokens.specs.declared.fault.TextFault.{TextFault}
-use Rattle.kat_tokens.specs.declared.fault.TextFault.TheVariants.{DoubleName, TooMany, TooLarge}
-use Rattle.kat_text.specs.declared.meaning.Meaning.TheVariants.{Test, Action}
+use Rattle.kat_tokens.specs.declared.fault.TextFault.TheVariants.{DoubleName, TooMany, TooLarge, TwoGoals, Sort}
+use Rattle.kat_text.specs.declared.meaning.Meaning.{Meaning}
+use Rattle.kat_text.specs.declared.meaning.Meaning.TheVariants.{Test, Action, Var, Prog}
 use Rattle.kat_text.specs.ScopeParts.{ScopeParts, meaning, empty_scope, declared, defined}
+use Rattle.while_lang.specs.Programs.{ProgTree}
+use Rattle.while_lang.specs.NamedProgs.{ProgParts}
+use Rattle.problem_file.specs.declared.goal_limit.GoalLimit.{GoalLimit}
+use Rattle.problem_file.specs.declared.goal_limit.GoalLimit.TheVariants.{One, Batch}
 
--- what is asked of two terms, or of a term between two conditions
+-- ---- what is asked
+
+-- a side of a goal
+pub data SideTree : Type 0 where
+  term_side : (e : Term) → SideTree
+  prog_side : (p : ProgTree) → SideTree
+
+-- what is asked of two sides, or of a side between two conditions
 pub data GoalTree : Type 0 where
-  equal : (l r : Term) → GoalTree
-  below : (l r : Term) → GoalTree
-  triple : (pre : CondTree) → (body : Term) → (post : CondTree) → GoalTree
+  equal : (l r : SideTree) → GoalTree
+  below : (l r : SideTree) → GoalTree
+  triple : (pre : CondTree) → (body : SideTree) → (post : CondTree) → GoalTree
 
+-- ---- files
+
+-- what a file says: its names, how many tests, actions, variables and terms it declares, its programs and their names,
+-- the terms that it states to be 0, its rounds, its goal and its width
+pub record FileParts : Type 0 where
+  pub scope : ScopeParts
+  pub tests : ℕ
+  pub actions : ℕ
+  pub vars : ℕ
+  pub terms : ℕ
+  pub progs : List ProgParts
+  pub prog_names : List (List ℕ)
+  pub hyps : List Term
+  pub rounds : ℕ
+  pub goal : GoalTree
+  pub width : Width
+
+-- the program that is meant, of those by their numbers
+abbrev pub prog_meant : List ProgParts → Option Meaning → Option ProgParts
+prog_meant ps (Some (Prog i)) = slice_get ps i
+prog_meant ps m = None
+
+-- the program that a name stands for
+abbrev pub prog_named : ScopeParts → List ProgParts → List ℕ → Option ProgParts
+prog_named w ps name = prog_meant ps (meaning w name)
+
+-- ---- states
+
+-- how many goals there may be
+abbrev pub most_goals : GoalLimit → ℕ
+most_goals One = 1
+most_goals Batch = 64
+
+-- what one goal more is refused with, at its keyword
+abbrev pub goal_fault : GoalLimit → ℕ → TextFault
+goal_fault One at = TwoGoals at
+goal_fault Batch at = TooMany at
+
+-- how many goals there may be, what the items so far have made, and how many nodes they have together
 pub record State : Type 0 where
+  pub limit : GoalLimit
   pub world : ScopeParts
   pub tests : ℕ
   pub actions : ℕ
+  pub vars : ℕ
+  pub progs : List ProgParts
+  pub prog_names : List (List ℕ)
   pub hyps : List Term
-  pub goal : Option GoalTree
+  pub rounds : Option ℕ
+  pub width : Option Width
+  pub goals : List GoalTree
   pub size : ℕ
 
-abbrev pub start : State
-start = record { world = empty_scope; tests = 0; actions = 0; hyps = []; goal = None; size = 0 }
+abbrev pub start : GoalLimit → State
+start limit = record {
+  limit = limit;
+  world = empty_scope;
+  tests = 0;
+  actions = 0;
+  vars = 0;
+  progs = [];
+  prog_names = [];
+  hyps = [];
+  rounds = None;
+  width = None;
+  goals = [];
+  size = 0;
+}
+
+-- a text without a `rounds` has 1, and one without a `width` has 64
+abbrev pub rounds_of : State → ℕ
+rounds_of s = unwrap_or s.rounds 1
+
+abbrev pub width_of : State → Width
+width_of s = unwrap_or s.width W64
+
+-- the file that they make with a goal
+abbrev pub file_of : State → GoalTree → FileParts
+file_of s goal = record {
+  scope = s.world;
+  tests = s.tests;
+  actions = s.actions;
+  vars = s.vars;
+  terms = length s.world.terms;
+  progs = s.progs;
+  prog_names = s.prog_names;
+  hyps = s.hyps;
+  rounds = rounds_of s;
+  goal = goal;
+  width = width_of s;
+}
+
+-- ---- names
 
 -- whether the name is declared
 abbrev pub is_known : State → List ℕ → Bool
 is_known s name = is_some (meaning s.world name)
 
--- a test or an action more, of which there may be 48
+-- a test or an action more, of which there may be 48, or a variable more, of which there may be 64
 abbrev pub declare_test : State → ℕ → List ℕ → Result State TextFault
 declare_test s at name =
     if is_known s name then Err (DoubleName at)
@@ -43,9 +140,56 @@ declare_action s at name =
     else if nat_lt 47 s.actions then Err (TooMany at)
     else Ok (record s { world = declared s.world name (Action s.actions); actions = s.actions + 1 })
 
+abbrev pub declare_var : State → ℕ → List ℕ → Result State TextFault
+declare_var s at name =
+    if is_known s name then Err (DoubleName at)
+    else if nat_lt 63 s.vars then Err (TooMany at)
+    else Ok (record s { world = declared s.world name (Var s.vars); vars = s.vars + 1 })
+
 -- a name that is to be defined must be new
 abbrev pub check_new : State → ℕ → List ℕ → Result (Unit {0}) TextFault
 check_new s at name = if is_known s name then Err (DoubleName at) else Ok tt
+
+-- ---- rounds and width
+
+-- whether a `var`, a `prog` or a `goal` stood, before which the width stands
+abbrev pub has_begun : State → Bool
+has_begun s = nat_lt 0 s.vars || (nat_lt 0 (length s.progs) || nat_lt 0 (length s.goals))
+
+-- each may stand once
+abbrev pub begin_rounds : State → ℕ → Result (Unit {0}) TextFault
+begin_rounds s at = if is_some s.rounds then Err (DoubleName at) else Ok tt
+
+abbrev pub begin_width : State → ℕ → Result (Unit {0}) TextFault
+begin_width s at = if is_some s.width then Err (DoubleName at) else if has_begun s then Err (Sort at) else Ok tt
+
+abbrev pub with_rounds : State → ℕ → State
+with_rounds s n = record s { rounds = Some n }
+
+abbrev pub with_width : State → Width → State
+with_width s w = record s { width = Some w }
+
+-- there may be 16 rounds; the number stands at this place
+abbrev pub set_rounds : State → ℕ → ℕ → Result State TextFault
+set_rounds s at n = if nat_lt 16 n then Err (TooMany at) else Ok (with_rounds s n)
+
+-- the width of so many bits
+abbrev pub width_with : ℕ → Option Width
+width_with n =
+    if nat_eq n 8 then Some W8
+    else if nat_eq n 16 then Some W16
+    else if nat_eq n 32 then Some W32
+    else if nat_eq n 64 then Some W64
+    else None
+
+abbrev pub take_width : State → ℕ → Option Width → Result State TextFault
+take_width s at None = Err (Sort at)
+take_width s at (Some w) = Ok (with_width s w)
+
+abbrev pub set_width : State → ℕ → ℕ → Result State TextFault
+set_width s at n = take_width s at (width_with n)
+
+-- ---- nodes
 
 -- adds nodes to the total of the file, in an item that begins at this place
 abbrev pub grow : State → ℕ → ℕ → Result State TextFault
@@ -55,14 +199,24 @@ grow s at nodes = if nat_lt 1000000 (s.size + nodes) then Err (TooLarge at) else
 abbrev pub check_size : ℕ → ℕ → Result (Unit {0}) TextFault
 check_size at nodes = if nat_lt 100000 nodes then Err (TooLarge at) else Ok tt
 
+-- ---- what is made
+
 abbrev pub define : State → List ℕ → Term → ℕ → State
 define s name tree nesting = record s { world = defined s.world name (record { tree = tree; nesting = nesting }) }
+
+-- a program more, with the next number
+abbrev pub add_prog : State → List ℕ → ProgTree → ℕ → State
+add_prog s name tree nesting = record s {
+  world = declared s.world name (Prog (length s.progs));
+  progs = s.progs ++ record { tree = tree; nesting = nesting } ∷ [];
+  prog_names = s.prog_names ++ name ∷ [];
+}
 
 abbrev pub state_hyp : State → Term → State
 state_hyp s tree = record s { hyps = s.hyps ++ tree ∷ [] }
 
 abbrev pub state_goal : State → GoalTree → State
-state_goal s goal = record s { goal = Some goal }
+state_goal s goal = record s { goals = s.goals ++ goal ∷ [] }
 
 -- the hypothesis that no run of the body from pre ends outside post
 abbrev pub triple_term : CondTree → Term → CondTree → Term

@@ -1,10 +1,12 @@
 -- What is done with the parts of an item while it is read. Actions may refuse a part; all else that can be wrong with an
 -- item is its syntax.
-use Rattle.std.specs.Prelude.{ℕ, List, Result}
+use Rattle.std.specs.Prelude.{ℕ, List, Result, Option}
 use Rattle.kat_tokens.specs.declared.fault.TextFault.{TextFault}
 use Rattle.kat_syntax.specs.Lexemes.{Lexeme}
 use Rattle.kat_syntax.specs.Actions.{Actions}
+use Rattle.while_lang.specs.BlockActions.{BlockActions}
 use Rattle.problem_file.specs.declared.item_reading.Declared.{Declared}
+use Rattle.problem_file.specs.declared.item_reading.Setting.{Setting}
 use Rattle.problem_file.specs.declared.item_reading.Comparison.{Comparison}
 
 -- the measure of a phrase, and the tokens with which it begins
@@ -24,15 +26,21 @@ pub record TripleMeasurement (X : Type 0) : Type 0 where
   pub post : Measurement X
 
 -- S is what the items so far have made, X is what is told of a phrase. A number is the place of a name that is declared or
--- defined, and otherwise that of the keyword of the item.
+-- defined, or of the number that is set, and otherwise that of the keyword of the item; the number that is set comes last.
 pub record ItemActions (S X : Type 0) : Type 0 where
   pub phrases : S → Actions X X X X X
+  pub blocks : S → BlockActions X X X X X X
+  pub program : S → List ℕ → Option X
   pub declare : Declared → S → ℕ → List ℕ → Result S TextFault
   pub check_new : S → ℕ → List ℕ → Result (Unit {0}) TextFault
   pub define : S → ℕ → List ℕ → Measurement X → Result S TextFault
+  pub define_prog : S → ℕ → List ℕ → Measurement X → Result S TextFault
   pub begin_hyp : S → ℕ → Result (Unit {0}) TextFault
   pub state_zero : S → ℕ → Measurement X → Result S TextFault
   pub state_triple : S → ℕ → TripleMeasurement X → Result S TextFault
+  pub begin_setting : Setting → S → ℕ → Result (Unit {0}) TextFault
+  pub set : Setting → S → ℕ → ℕ → Result S TextFault
   pub begin_goal : S → ℕ → Result (Unit {0}) TextFault
+  pub check_numbers : S → List Lexeme → Result (Unit {0}) TextFault
   pub ask_sides : Comparison → S → ℕ → SidesMeasurement X → Result S TextFault
   pub ask_triple : S → ℕ → TripleMeasurement X → Result S TextFault

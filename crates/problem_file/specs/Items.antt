@@ -1,23 +1,28 @@
 -- The items of a problem file, read one after the other by any actions.
-use Rattle.std.specs.Prelude.{ℕ, zero, suc, List, [], ◌∷◌, length, drop, Bool, true, false, if◌then◌else◌, Result, Ok, Err}
+use Rattle.std.specs.Prelude.{ℕ, zero, suc, List, [], ◌∷◌, length, drop, Bool, true, false, if◌then◌else◌, Result, Ok, Err, Option, Some, None, option_and_then}
 use Rattle.kat_tokens.specs.declared.fault.TextFault.{TextFault}
-use Rattle.kat_tokens.specs.declared.fault.TextFault.TheVariants.{NoMemory, Syntax}
-use Rattle.kat_syntax.specs.declared.terminal.Terminal.TheVariants.{Name, Keyword, Separator, Zero}
+use Rattle.kat_tokens.specs.declared.fault.TextFault.TheVariants.{NoMemory, Syntax, NumberTooWide}
+use Rattle.kat_syntax.specs.declared.terminal.Terminal.TheVariants.{Name, Keyword, Separator, Zero, One, Number, WideNumber}
 use Rattle.kat_syntax.specs.declared.terminal.Keyword.TheVariants as word
 use Rattle.kat_syntax.specs.declared.terminal.Separator.TheVariants.{Comma, Semicolon, CurlyOpen, CurlyClose, Equals}
 use Rattle.kat_syntax.specs.Lexemes.{Lexeme, lexeme, heads, is_terminal}
-use Rattle.kat_syntax.specs.Parsed.{Parsed, ◌>>=◌, at_end, before, change, wants, then_wants}
+use Rattle.kat_syntax.specs.Parsed.{Parsed, ◌>>=◌, at_end, before, change, wants, then_wants, place_of}
 use Rattle.kat_syntax.specs.Actions.{context}
 use Rattle.kat_syntax.specs.Conds.{parse_cond, disjunction}
 use Rattle.kat_syntax.specs.Terms.{parse_term, choice}
-use Rattle.kat_syntax.specs.Phrases.{Leaf}
+use Rattle.kat_syntax.specs.Phrases.{term, Leaf}
+use Rattle.kat_syntax.specs.Ends.{goes_on}
+use Rattle.while_lang.specs.Blocks.{block, parse_block}
 use Rattle.problem_file.specs.declared.item_reading.Declared.{Declared}
 use Rattle.problem_file.specs.declared.item_reading.Declared.TheVariants as what
+use Rattle.problem_file.specs.declared.item_reading.Setting.{Setting}
+use Rattle.problem_file.specs.declared.item_reading.Setting.TheVariants as setting
 use Rattle.problem_file.specs.declared.item_reading.Comparison.{Comparison}
 use Rattle.problem_file.specs.declared.item_reading.Comparison.TheVariants.{Equal, Below}
+use Rattle.problem_file.specs.Numbers.{until}
 use Rattle.problem_file.specs.ItemActions.{Measurement, SidesMeasurement, TripleMeasurement, ItemActions}
 
--- ---- names
+-- ---- names and numbers
 
 -- the name that comes first
 abbrev pub name_at : List Lexeme → Result Leaf TextFault
@@ -37,7 +42,26 @@ names_within (suc n) f s ts = at_name (f s) ts >>= λ x. if heads (is_terminal (
 abbrev pub over_names : {S : Type 0} → (S → ℕ → List ℕ → Result S TextFault) → S → List Lexeme → Parsed S
 over_names f s ts = names_within (suc (length ts)) f s ts
 
--- ---- items by actions
+-- the number that comes first, which is below 2^64
+abbrev pub number_at : List Lexeme → Result ℕ TextFault
+number_at [] = Err (Syntax at_end)
+number_at (lexeme Zero at text ∷ ts) = Ok 0
+number_at (lexeme One at text ∷ ts) = Ok 1
+number_at (lexeme (Number n) at text ∷ ts) = Ok n
+number_at (lexeme WideNumber at text ∷ ts) = Err (NumberTooWide at)
+number_at (lexeme _ at text ∷ ts) = Err (Syntax at)
+
+-- what is done at the number that comes first
+abbrev pub at_number : {S : Type 0} → (ℕ → ℕ → Result S TextFault) → List Lexeme → Parsed S
+at_number f ts = number_at ts >>= λ n. before (drop 1 ts) (f (place_of ts) n)
+
+-- the name that comes first, where it is a whole term
+abbrev pub lone_name : List Lexeme → Option (List ℕ)
+lone_name [] = None
+lone_name (lexeme Name at text ∷ ts) = if heads (goes_on term) ts then None else Some text
+lone_name (lexeme _ at text ∷ ts) = None
+
+-- ---- phrases by actions
 
 -- what is told of the term that the tokens begin with
 abbrev pub measure_term : {S X : Type 0} → ItemActions S X → S → List Lexeme → Parsed X
@@ -47,27 +71,57 @@ measure_term g s ts = parse_term (g.phrases s) choice (context 0 false false) ts
 abbrev pub measure_cond : {S X : Type 0} → ItemActions S X → S → Bool → List Lexeme → Parsed X
 measure_cond g s compares ts = parse_cond (g.phrases s).conds disjunction (context 1 false compares) ts
 
+-- and of a block
+abbrev pub measure_block : {S X : Type 0} → ItemActions S X → S → List Lexeme → Parsed X
+measure_block g s ts = parse_block (g.blocks s) block 0 ts
+
 abbrev pub term_by : {S X : Type 0} → ItemActions S X → S → List Lexeme → Parsed (Measurement X)
 term_by g s ts = change (λ m. record { measure = m; tokens = ts }) (measure_term g s ts)
 
 abbrev pub cond_by : {S X : Type 0} → ItemActions S X → S → Bool → List Lexeme → Parsed (Measurement X)
 cond_by g s compares ts = change (λ m. record { measure = m; tokens = ts }) (measure_cond g s compares ts)
 
+abbrev pub block_by : {S X : Type 0} → ItemActions S X → S → List Lexeme → Parsed (Measurement X)
+block_by g s ts = change (λ m. record { measure = m; tokens = ts }) (measure_block g s ts)
+
+-- what is told of the program that a side names, where it is the name of one and nothing else
+abbrev pub program_by : {S X : Type 0} → ItemActions S X → S → List Lexeme → Option X
+program_by g s ts = option_and_then (g.program s) (lone_name ts)
+
+abbrev pub named_or : {X : Type 0} → List Lexeme → Option X → Parsed (Measurement X) → Parsed (Measurement X)
+named_or ts (Some m) p = Ok (record { measure = m; tokens = ts }, drop 1 ts)
+named_or ts None p = p
+
+-- a side of a goal: the name of a program, or a term
+abbrev pub side_by : {S X : Type 0} → ItemActions S X → S → List Lexeme → Parsed (Measurement X)
+side_by g s ts = named_or ts (program_by g s ts) (term_by g s ts)
+
 -- "{" cond "}"
 abbrev pub braced_by : {S X : Type 0} → ItemActions S X → S → Bool → List Lexeme → Parsed (Measurement X)
 braced_by g s compares ts = wants (is_terminal (Separator CurlyOpen)) ts >>= λ a. then_wants (is_terminal (Separator CurlyClose)) (cond_by g s compares a)
 
--- "{" cond "}" term "{" cond "}"
+-- what stands between the conditions: a side of a goal, or the term of a hypothesis
+abbrev pub middle_by : {S X : Type 0} → ItemActions S X → S → Bool → List Lexeme → Parsed (Measurement X)
+middle_by g s in_goal ts = if in_goal then side_by g s ts else term_by g s ts
+
+-- "{" cond "}" term "{" cond "}"; in a goal the conditions may compare, and a program may stand between them
 abbrev pub triple_by : {S X : Type 0} → ItemActions S X → S → Bool → List Lexeme → Parsed (TripleMeasurement X)
-triple_by g s compares ts =
-    braced_by g s compares ts >>= λ x. term_by g s x.1 >>= λ y. braced_by g s compares y.1 >>= λ z.
+triple_by g s in_goal ts =
+    braced_by g s in_goal ts >>= λ x. middle_by g s in_goal x.1 >>= λ y. braced_by g s in_goal y.1 >>= λ z.
     Ok (record { pre = x.0; body = y.0; post = z.0 }, z.1)
+
+-- ---- items by actions
 
 -- what is done with a phrase, or phrases, once the semicolon after them is read
 abbrev pub then_do : {S M : Type 0} → (M → Result S TextFault) → Parsed M → Parsed S
 then_do f m = then_wants (is_terminal (Separator Semicolon)) m >>= λ x. before x.1 (f x.0)
 
--- "test" names ";" and "action" names ";"
+-- so where the numbers among all tokens of the item, which are these up to what is left, are looked at before
+abbrev pub then_ask : {S X M : Type 0} → ItemActions S X → S → List Lexeme → (M → Result S TextFault) → Parsed M → Parsed S
+then_ask g s ts f m =
+    then_wants (is_terminal (Separator Semicolon)) m >>= λ x. g.check_numbers s (until ts x.1) >>= λ u. before x.1 (f x.0)
+
+-- "test" names ";", "action" names ";" and "var" names ";"
 abbrev pub declaration_by : {S X : Type 0} → ItemActions S X → Declared → S → List Lexeme → Parsed S
 declaration_by g what s ts = then_wants (is_terminal (Separator Semicolon)) (over_names (g.declare what) s ts)
 
@@ -81,6 +135,12 @@ definition_by g s at ts =
     name_at ts >>= λ l. g.check_new s l.at l.text >>= λ u. meaning_by g s (drop 1 ts) >>= λ x.
     before x.1 (g.define s at l.text x.0)
 
+-- "prog" NAME block, likewise
+abbrev pub prog_by : {S X : Type 0} → ItemActions S X → S → ℕ → List Lexeme → Parsed S
+prog_by g s at ts =
+    name_at ts >>= λ l. g.check_new s l.at l.text >>= λ u. block_by g s (drop 1 ts) >>= λ x.
+    g.check_numbers s (until ts x.1) >>= λ v. before x.1 (g.define_prog s at l.text x.0)
+
 -- "hyp" term "=" "0" ";"
 abbrev pub zero_by : {S X : Type 0} → ItemActions S X → S → ℕ → List Lexeme → Parsed S
 zero_by g s at ts = then_do (g.state_zero s at) (then_wants (is_terminal Zero) (then_wants (is_terminal (Separator Equals)) (term_by g s ts)))
@@ -91,18 +151,22 @@ hyp_by g s at ts =
     g.begin_hyp s at >>= λ u.
     if heads (is_terminal (Keyword word.Triple)) ts then then_do (g.state_triple s at) (triple_by g s false (drop 1 ts)) else zero_by g s at ts
 
--- term "," term
+-- "rounds" NUMBER ";" and "width" NUMBER ";"
+abbrev pub setting_by : {S X : Type 0} → ItemActions S X → Setting → S → ℕ → List Lexeme → Parsed S
+setting_by g what s at ts = g.begin_setting what s at >>= λ u. then_wants (is_terminal (Separator Semicolon)) (at_number (g.set what s) ts)
+
+-- side "," side
 abbrev pub sides_by : {S X : Type 0} → ItemActions S X → S → List Lexeme → Parsed (SidesMeasurement X)
 sides_by g s ts =
-    then_wants (is_terminal (Separator Comma)) (term_by g s ts) >>= λ x. term_by g s x.1 >>= λ y. Ok (record { left = x.0; right = y.0 }, y.1)
+    then_wants (is_terminal (Separator Comma)) (side_by g s ts) >>= λ x. side_by g s x.1 >>= λ y. Ok (record { left = x.0; right = y.0 }, y.1)
 
 -- "equal" term "," term ";" and "below" term "," term ";", after the keyword
 abbrev pub comparison_by : {S X : Type 0} → ItemActions S X → Comparison → S → ℕ → List Lexeme → Parsed S
-comparison_by g c s at ts = then_do (g.ask_sides c s at) (sides_by g s ts)
+comparison_by g c s at ts = then_ask g s ts (g.ask_sides c s at) (sides_by g s ts)
 
 -- "triple" triple ";", after the keyword
 abbrev pub triple_goal_by : {S X : Type 0} → ItemActions S X → S → ℕ → List Lexeme → Parsed S
-triple_goal_by g s at ts = then_do (g.ask_triple s at) (triple_by g s true ts)
+triple_goal_by g s at ts = then_ask g s ts (g.ask_triple s at) (triple_by g s true ts)
 
 -- what is asked, by the keyword after "goal"
 abbrev pub asked_by : {S X : Type 0} → ItemActions S X → S → ℕ → List Lexeme → Parsed S
@@ -120,8 +184,12 @@ abbrev pub item_by : {S X : Type 0} → ItemActions S X → S → List Lexeme �
 item_by g s [] = Err (Syntax at_end)
 item_by g s (lexeme (Keyword word.Test) at text ∷ ts) = declaration_by g what.Test s ts
 item_by g s (lexeme (Keyword word.Action) at text ∷ ts) = declaration_by g what.Action s ts
+item_by g s (lexeme (Keyword word.Var) at text ∷ ts) = declaration_by g what.Var s ts
 item_by g s (lexeme (Keyword word.Term) at text ∷ ts) = definition_by g s at ts
+item_by g s (lexeme (Keyword word.Prog) at text ∷ ts) = prog_by g s at ts
 item_by g s (lexeme (Keyword word.Hyp) at text ∷ ts) = hyp_by g s at ts
+item_by g s (lexeme (Keyword word.Rounds) at text ∷ ts) = setting_by g setting.Rounds s at ts
+item_by g s (lexeme (Keyword word.Width) at text ∷ ts) = setting_by g setting.Width s at ts
 item_by g s (lexeme (Keyword word.Goal) at text ∷ ts) = goal_by g s at ts
 item_by g s (lexeme _ at text ∷ ts) = Err (Syntax at)
 

@@ -1,4 +1,5 @@
 pub mod Files
+pub mod Numbers
 pub mod Trees
 pub mod ItemActions
 pub mod Items
@@ -8,6 +9,7 @@ pub mod Phrases
 pub mod Folds
 pub mod Sound
 pub mod Ranges
+pub mod Concrete
 pub mod Reads
 pub mod Laws
 pub mod Working

@@ -1,10 +1,9 @@
 -- What each item of a problem file makes of what the items before it have made.
-use Rattle.std.specs.Prelude.{ℕ, ◌+◌, List, length, Bool, true, false, if◌then◌else◌, nat_lt, Result, Ok, Err}
-use Rattle.std.specs.Option.{is_some}
+use Rattle.std.specs.Prelude.{ℕ, ◌+◌, List, length, Bool, true, false, if◌then◌else◌, nat_lt, Result, Ok, Err, Option, Some, None, option_map, option_and_then}
 use Rattle.kat_model.specs.Trees.{Term}
 use Rattle.kat_model.specs.Expressions.{CondTree}
 use Rattle.kat_tokens.specs.declared.fault.TextFault.{TextFault}
-use Rattle.kat_tokens.specs.declared.fault.TextFault.TheVariants.{TooMany, TwoGoals}
+use Rattle.kat_tokens.specs.declared.fault.TextFault.TheVariants.{TooMany}
 use Rattle.kat_syntax.specs.Lexemes.{Lexeme}
 use Rattle.kat_syntax.specs.Parsed.{Parsed, ◌>>=◌}
 use Rattle.kat_syntax.specs.Actions.{context}
@@ -13,17 +12,38 @@ use Rattle.kat_syntax.specs.Terms.{parse_term, choice}
 use Rattle.kat_text.specs.declared.extent.Extent.{Extent}
 use Rattle.kat_text.specs.Building.{cond_trees, trees}
 use Rattle.kat_text.specs.Measuring.{extents}
+use Rattle.while_lang.specs.Programs.{ProgTree}
+use Rattle.while_lang.specs.ProgramSizes.{prog_size}
+use Rattle.while_lang.specs.NamedProgs.{ProgParts}
+use Rattle.while_lang.specs.BlockMeasuring.{extent, block_extents}
+use Rattle.while_lang.specs.BlockReadings.{built_block as block_tree}
 use Rattle.problem_file.specs.declared.item_reading.Declared.{Declared}
 use Rattle.problem_file.specs.declared.item_reading.Declared.TheVariants as what
+use Rattle.problem_file.specs.declared.item_reading.Setting.{Setting}
+use Rattle.problem_file.specs.declared.item_reading.Setting.TheVariants as setting
 use Rattle.problem_file.specs.declared.item_reading.Comparison.{Comparison}
 use Rattle.problem_file.specs.declared.item_reading.Comparison.TheVariants.{Equal, Below}
-use Rattle.problem_file.specs.Files.{GoalTree, equal, below, triple, State, declare_test, declare_action, check_new, grow, check_size, define, state_hyp, state_goal, triple_term}
+use Rattle.problem_file.specs.Files.{SideTree, term_side, prog_side, GoalTree, equal, below, triple, prog_named, State, most_goals, goal_fault, width_of}
+use Rattle.problem_file.specs.Files.{declare_test, declare_action, declare_var, check_new, begin_rounds, begin_width, set_rounds, set_width}
+use Rattle.problem_file.specs.Files.{grow, check_size, define, add_prog, state_hyp, state_goal, triple_term}
+use Rattle.problem_file.specs.Numbers.{check_numbers}
 use Rattle.problem_file.specs.ItemActions.{Measurement, SidesMeasurement, TripleMeasurement, ItemActions}
-use Rattle.problem_file.specs.Items.{items_by}
+use Rattle.problem_file.specs.Items.{lone_name, items_by}
+
+-- ---- by cases
 
 abbrev pub declare : Declared → State → ℕ → List ℕ → Result State TextFault
 declare what.Test s at name = declare_test s at name
 declare what.Action s at name = declare_action s at name
+declare what.Var s at name = declare_var s at name
+
+abbrev pub begin_setting : Setting → State → ℕ → Result (Unit {0}) TextFault
+begin_setting setting.Rounds s at = begin_rounds s at
+begin_setting setting.Width s at = begin_width s at
+
+abbrev pub set : Setting → State → ℕ → ℕ → Result State TextFault
+set setting.Rounds s at n = set_rounds s at n
+set setting.Width s at n = set_width s at n
 
 -- ---- the trees of phrases
 
@@ -33,12 +53,33 @@ built_term s ts = parse_term (trees s.world) choice (context 0 false false) ts
 abbrev pub built_cond : State → Bool → List Lexeme → Parsed CondTree
 built_cond s compares ts = parse_cond (cond_trees s.world) disjunction (context 1 false compares) ts
 
-abbrev pub built_triple : State → Bool → TripleMeasurement Extent → Result (CondTree × Term × CondTree) TextFault
-built_triple s compares m =
-    built_cond s compares (m.pre).tokens >>= λ x. built_term s (m.body).tokens >>= λ y. built_cond s compares (m.post).tokens >>= λ z.
+abbrev pub built_block : State → List Lexeme → Parsed ProgTree
+built_block s ts = block_tree s.world s.progs 0 ts
+
+-- the program that a side names, or its term
+abbrev pub program_or : Option ProgParts → Parsed Term → Result SideTree TextFault
+program_or (Some p) m = Ok (prog_side p.tree)
+program_or None m = m >>= λ x. Ok (term_side x.0)
+
+abbrev pub built_side : State → List Lexeme → Result SideTree TextFault
+built_side s ts = program_or (option_and_then (prog_named s.world s.progs) (lone_name ts)) (built_term s ts)
+
+-- the phrases of a stated triple, and of one that is asked
+abbrev pub built_triple : State → TripleMeasurement Extent → Result (CondTree × Term × CondTree) TextFault
+built_triple s m =
+    built_cond s false (m.pre).tokens >>= λ x. built_term s (m.body).tokens >>= λ y. built_cond s false (m.post).tokens >>= λ z.
     Ok (x.0, y.0, z.0)
 
+abbrev pub built_goal : State → TripleMeasurement Extent → Result GoalTree TextFault
+built_goal s m =
+    built_cond s true (m.pre).tokens >>= λ x. built_side s (m.body).tokens >>= λ y. built_cond s true (m.post).tokens >>= λ z.
+    Ok (triple x.0 y z.0)
+
 -- ---- nodes
+
+-- a program counts its nodes where it is a side
+abbrev pub program_extent : ProgParts → Extent
+program_extent p = extent (prog_size p.tree) p.nesting
 
 -- so many nodes of an item of its own
 abbrev pub count : State → ℕ → ℕ → Result State TextFault
@@ -64,6 +105,10 @@ abbrev pub define_term : State → ℕ → List ℕ → Measurement Extent → R
 define_term s at name m =
     count s at (m.measure).nodes >>= λ t. built_term t m.tokens >>= λ x. Ok (define t name x.0 (m.measure).nesting)
 
+abbrev pub define_prog : State → ℕ → List ℕ → Measurement Extent → Result State TextFault
+define_prog s at name m =
+    count s at (m.measure).nodes >>= λ t. built_block t m.tokens >>= λ x. Ok (add_prog t name x.0 (m.measure).nesting)
+
 -- there may be 8,192 hypotheses
 abbrev pub begin_hyp : State → ℕ → Result (Unit {0}) TextFault
 begin_hyp s at = if nat_lt 8191 (length s.hyps) then Err (TooMany at) else Ok tt
@@ -73,35 +118,39 @@ state_zero s at m = count s at (m.measure).nodes >>= λ t. built_term t m.tokens
 
 abbrev pub state_triple : State → ℕ → TripleMeasurement Extent → Result State TextFault
 state_triple s at m =
-    count s at (triple_nodes m + 5) >>= λ t. built_triple t false m >>= λ x. Ok (state_hyp t (triple_term x.0 x.1 x.2))
+    count s at (triple_nodes m + 5) >>= λ t. built_triple t m >>= λ x. Ok (state_hyp t (triple_term x.0 x.1 x.2))
 
--- there may be one goal
 abbrev pub begin_goal : State → ℕ → Result (Unit {0}) TextFault
-begin_goal s at = if is_some s.goal then Err (TwoGoals at) else Ok tt
+begin_goal s at = if nat_lt (length s.goals) (most_goals s.limit) then Ok tt else Err (goal_fault s.limit at)
 
-abbrev pub compared : Comparison → Term → Term → GoalTree
+abbrev pub compared : Comparison → SideTree → SideTree → GoalTree
 compared Equal l r = equal l r
 compared Below l r = below l r
 
 abbrev pub ask_sides : Comparison → State → ℕ → SidesMeasurement Extent → Result State TextFault
 ask_sides c s at m =
-    count_sides s at m >>= λ t. built_term t (m.left).tokens >>= λ x. built_term t (m.right).tokens >>= λ y.
-    Ok (state_goal t (compared c x.0 y.0))
+    count_sides s at m >>= λ t. built_side t (m.left).tokens >>= λ x. built_side t (m.right).tokens >>= λ y.
+    Ok (state_goal t (compared c x y))
 
 abbrev pub ask_triple : State → ℕ → TripleMeasurement Extent → Result State TextFault
-ask_triple s at m =
-    count_parts s at m >>= λ t. built_triple t true m >>= λ x. Ok (state_goal t (triple x.0 x.1 x.2))
+ask_triple s at m = count_parts s at m >>= λ t. built_goal t m >>= λ x. Ok (state_goal t x)
 
 abbrev pub making : ItemActions State Extent
 making = record {
   phrases = λ s. extents s.world;
+  blocks = λ s. block_extents s.world s.progs;
+  program = λ s name. option_map program_extent (prog_named s.world s.progs name);
   declare = declare;
   check_new = check_new;
   define = define_term;
+  define_prog = define_prog;
   begin_hyp = begin_hyp;
   state_zero = state_zero;
   state_triple = state_triple;
+  begin_setting = begin_setting;
+  set = set;
   begin_goal = begin_goal;
+  check_numbers = λ s ts. check_numbers (width_of s) ts;
   ask_sides = ask_sides;
   ask_triple = ask_triple;
 }

@@ -1,11 +1,20 @@
 //! What a problem file says.
-use kat_model::{Cond, Kat};
-use kat_text::Scope;
+ghost use Rattle.std.specs.Prelude.{◌≡◌, ◌↔◌, IsTrue, option_map};
+ghost use Rattle.while_lang.specs.NamedProgs.{prog_parts, parts_of_progs};
+ghost use Rattle.problem_file.specs.Files.{prog_meant, prog_named};
+ghost use Rattle.problem_file.specs.Trees.{goal_tree};
+ghost use Rattle.problem_file.specs.Concrete.{AsksOfProgs, IsConcrete};
 
-/// A side of a goal.
+use kat_model::{Cond, Kat, Width};
+use kat_text::{Meaning, Scope};
+use std::marker::Model;
+use while_lang::{NamedProg, Prog};
+
+/// A side of a goal. It is a program exactly where the text has the one name of a program in its place.
 #[derive(Drop)]
 pub enum Side {
     Term(Kat),
+    Prog(Prog),
 }
 
 /// What is asked: whether two sides denote one relation, whether the first is below the second, or whether the
@@ -17,14 +26,101 @@ pub enum Goal {
     Triple(Cond, Side, Cond),
 }
 
-/// What a text says: its names, how many tests, actions and terms it declares, the hypotheses that it states, each of
-/// which says that a term is 0, and its goal. Tests and actions are numbered from 0 in the order of their declaration.
+/// What a text says. Tests, actions, variables, terms and programs are numbered from 0 in the order of their declaration.
 #[derive(Drop)]
 pub struct File {
+    /// What each name stands for.
     pub scope: Scope,
+    /// How many tests are declared, at most 48.
     pub tests: usize,
+    /// How many actions are declared, at most 48.
     pub actions: usize,
+    /// How many variables are declared, at most 64.
+    pub vars: usize,
+    /// How many terms are defined.
     pub terms: usize,
+    /// The programs, those that they name spliced in.
+    pub progs: Vec<NamedProg>,
+    /// The terms that are stated to be 0, at most 8,192.
     pub hyps: Vec<Kat>,
+    /// The number of `rounds`, at most 16; 1 where the text has none.
+    pub rounds: u64,
     pub goal: Goal,
+    /// The width of the numbers in programs; 64 bits where the text has none.
+    pub width: Width,
+}
+
+impl Model for File {
+    ghost use Rattle.std.specs.Prelude.{map};
+    ghost use Rattle.std.specs.Coded.{codes};
+    ghost use Rattle.kat_model.specs.Codes.{coded_term};
+    ghost use Rattle.kat_model.specs.ConditionCodes.{coded_cond};
+    ghost use Rattle.kat_model.specs.Trees.{kat_tree};
+    ghost use Rattle.kat_text.specs.Definitions.{coded_meanings};
+    ghost use Rattle.while_lang.specs.ProgramCodes.{coded_prog};
+    ghost use Rattle.while_lang.specs.NamedProgs.{parts_of_progs};
+    ghost use Rattle.problem_file.specs.Files.{FileParts};
+
+    ghost Value = { FileParts };
+
+    ghost coded = { Prim.hlevel (codes, coded_term, coded_cond, coded_meanings, coded_prog) };
+
+    ghost use Rattle.problem_file.specs.Trees.{goal_tree, names_of_progs};
+
+    ghost view = { λ f. record {
+      scope = f.scope;
+      tests = f.tests;
+      actions = f.actions;
+      vars = f.vars;
+      terms = f.terms;
+      progs = parts_of_progs f.progs.items;
+      prog_names = names_of_progs f.progs.items;
+      hyps = map kat_tree f.hyps.items;
+      rounds = f.rounds;
+      goal = goal_tree f.goal;
+      width = f.width;
+    } };
+}
+
+// The program that is meant, of those by their numbers.
+pub(crate) fn prog_meant(progs: &[NamedProg], meaning: Option<Meaning>) -> Option<&NamedProg>
+    ensures { option_map (λ n. prog_parts n.now) result ≡ prog_meant (parts_of_progs progs.now) meaning }
+{
+    match meaning {
+        Some(Meaning::Prog(i)) => progs.get(i),
+        _ => None,
+    }
+}
+
+fn asks_of_progs(goal: &Goal) -> bool
+    ensures { IsTrue result ↔ AsksOfProgs (goal_tree goal.now) }
+{
+    matches!(
+        goal,
+        Goal::Equal(Side::Prog(_), Side::Prog(_)) | Goal::Triple(_, Side::Prog(_), _)
+    )
+}
+
+impl File {
+    /// Whether the file declares only variables and programs, states no hypothesis, and equates two programs or asks for a
+    /// triple of one, so that its goal speaks of runs on stores. It takes no memory.
+    pub fn concrete(&self) -> bool
+        ensures { IsTrue result ↔ IsConcrete self.now }
+    {
+        self.tests == 0
+            && self.actions == 0
+            && self.terms == 0
+            && self.hyps.is_empty()
+            && asks_of_progs(&self.goal)
+    }
+
+    /// The program of that name; `None` exactly where no program has it. It takes no memory.
+    pub fn prog(&self, name: &str) -> Option<&Prog>
+        ensures { option_map (λ p. p.now) result ≡ option_map (λ p. p.tree) (prog_named self.now.scope self.now.progs name.now) }
+    {
+        match prog_meant(&self.progs, self.scope.find(name)) {
+            Some(named) => Some(&named.prog),
+            None => None,
+        }
+    }
 }

@@ -1,44 +1,60 @@
 //! What the items of a text so far have made.
+ghost use Rattle.std.specs.Prelude.{length};
 ghost use Rattle.problem_file.specs.Working.Numbers.{AreNumbered};
 
 use crate::file::{File, Goal};
-use crate::item_reading::Declared;
-use kat_model::{Kat, MAX_ACTIONS, MAX_TESTS, MAX_TEXT_NODES};
+use crate::goal_limit::GoalLimit;
+use kat_model::{Kat, MAX_ACTIONS, MAX_TESTS, MAX_TEXT_NODES, Width};
 use kat_text::{Meaning, Scope};
 use kat_tokens::{TextFault, Token};
 use std::alloc::Global;
+use while_lang::NamedProg;
+
+// The most variables of a text.
+const MAX_VARS: usize = 64;
 
 // Reads items whose syntax was tested.
 #[derive(Drop)]
 pub(crate) struct ItemReader {
     pub(crate) alloc: Global,
+    pub(crate) limit: GoalLimit,
     pub(crate) scope: Scope,
     pub(crate) tests: usize,
     pub(crate) actions: usize,
+    pub(crate) vars: usize,
+    pub(crate) progs: Vec<NamedProg>,
     pub(crate) hyps: Vec<Kat>,
-    pub(crate) goal: Option<Goal>,
+    pub(crate) rounds: Option<u64>,
+    pub(crate) width: Option<Width>,
+    pub(crate) goals: Vec<Goal>,
     pub(crate) size: u64,
-    pub(crate) ghost numbered: { AreNumbered scope tests actions },
+    pub(crate) ghost numbered: { AreNumbered scope tests actions vars (length progs.items) },
 }
 
 impl ItemReader {
-    ghost use Rattle.std.specs.Prelude.{◌≡◌};
+    ghost use Rattle.std.specs.Prelude.{◌≡◌, Ok};
+    ghost use Rattle.kat_syntax.specs.Parsed.{Makes};
     ghost use Rattle.kat_text.specs.ScopeParts.{IsIdentifier};
-    ghost use Rattle.problem_file.specs.Files.{start, declare_test, declare_action};
-    ghost use Rattle.problem_file.specs.Files.{check_new, grow};
+    ghost use Rattle.problem_file.specs.Files.{start, declare_test, declare_action, declare_var};
+    ghost use Rattle.problem_file.specs.Files.{check_new, add_prog, grow, width_of};
     ghost use Rattle.problem_file.specs.Working.States.{state_of, Leaves};
-    ghost use Rattle.problem_file.specs.Reads.{check_goal, HoldsTested};
+    ghost use Rattle.problem_file.specs.Reads.{check_goal};
 
-    pub(crate) fn new(alloc: Global) -> ItemReader
-        ensures { state_of result ≡ start }
+    pub(crate) fn new(alloc: Global, limit: GoalLimit) -> ItemReader
+        ensures { state_of result ≡ start limit }
     {
         ItemReader {
             alloc,
+            limit,
             scope: Scope::new(alloc),
             tests: 0,
             actions: 0,
+            vars: 0,
+            progs: Vec::new(alloc),
             hyps: Vec::new(alloc),
-            goal: None,
+            rounds: None,
+            width: None,
+            goals: Vec::new(alloc),
             size: 0,
         }
     }
@@ -83,6 +99,35 @@ impl ItemReader {
         Ok(())
     }
 
+    // Declares the name of a variable.
+    pub(crate) fn declare_var(&mut self, name: &Token) -> Result<(), TextFault>
+        requires { IsIdentifier name.now.text.now }
+        ensures { Leaves result self.new (declare_var (state_of self.old) name.now.at name.now.text.now) }
+    {
+        self.check_undeclared(name)?;
+        if self.vars >= MAX_VARS {
+            return Err(TextFault::TooMany(name.at));
+        }
+        self.scope.declare(name, Meaning::Var(self.vars))?;
+        self.vars += 1;
+        Ok(())
+    }
+
+    // Adds a program, whose name is new.
+    pub(crate) fn add_prog(&mut self, name: &Token, named: NamedProg) -> Result<(), TextFault>
+        requires identifier { IsIdentifier name.now.text.now }
+        requires new { check_new (state_of self.old) name.now.at name.now.text.now ≡ Ok tt }
+        requires same { named.name ≡ name.now.text.now }
+        ensures { Leaves result self.new (Ok (add_prog (state_of self.old) name.now.text.now named.prog named.nesting)) }
+    {
+        if self.progs.reserve(1).is_err() {
+            return Err(TextFault::NoMemory);
+        }
+        self.scope.declare(name, Meaning::Prog(self.progs.len()))?;
+        self.progs.push_reserved(named);
+        Ok(())
+    }
+
     // Adds `nodes` to the file's total; `TooLarge` at `at` past the limit.
     pub(crate) fn grow(&mut self, at: usize, nodes: u64) -> Result<(), TextFault>
         ensures scope { self.new.scope ≡ self.old.scope }
@@ -96,29 +141,45 @@ impl ItemReader {
         Ok(())
     }
 
+    // The width of the text: 64 where no item sets it.
+    pub(crate) fn width(&self) -> Width
+        ensures { result ≡ width_of (state_of self.now) }
+    {
+        self.width.unwrap_or(Width::W64)
+    }
+
     // What the items have made, where one was a goal.
     pub(crate) fn file(self) -> Result<File, TextFault>
-        ensures { HoldsTested result (check_goal (state_of self)) }
+        ensures { Makes ⊥ (λ f. f) result (check_goal (state_of self)) }
     {
+        let width = self.width();
         let ItemReader {
             scope,
             tests,
             actions,
+            vars,
+            progs,
             hyps,
-            goal,
+            rounds,
+            goals,
             ..
         } = self;
-        let Some(goal) = goal else {
+        let Some(goal) = goals.into_iter().next() else {
             return Err(TextFault::NoGoal);
         };
         let terms = scope.terms();
+        let rounds = rounds.unwrap_or(1);
         Ok(File {
             scope,
             tests,
             actions,
+            vars,
             terms,
+            progs,
             hyps,
+            rounds,
             goal,
+            width,
         })
     }
 }

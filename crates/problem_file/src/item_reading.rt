@@ -1,10 +1,11 @@
 //! What is done with the parts of an item while it is read.
-ghost use Rattle.std.specs.Prelude.{◌≡◌, length, Ok};
+ghost use Rattle.std.specs.Prelude.{◌≡◌, ◌≤◌, length, drop, Ok};
 ghost use Rattle.kat_syntax.specs.Lexemes.{lexemes};
 ghost use Rattle.kat_syntax.specs.Parsed.{Makes, Goes};
 ghost use Rattle.kat_text.specs.ScopeParts.{IsIdentifier};
 ghost use Rattle.problem_file.specs.ItemActions.{ItemActions};
-ghost use Rattle.problem_file.specs.Items.{measure_term, measure_cond};
+ghost use Rattle.problem_file.specs.Numbers.{until};
+ghost use Rattle.problem_file.specs.Items.{measure_term, measure_cond, measure_block};
 ghost use Rattle.problem_file.specs.Working.Walks.{measured_of, sides_of, triple_of, Tells, Does};
 
 use crate::phrase::{Measured, Sides, Triple};
@@ -15,6 +16,14 @@ use kat_tokens::{TextFault, Token};
 pub(crate) enum Declared {
     Test,
     Action,
+    Var,
+}
+
+// What may be set once in a text, to a number.
+#[derive(Clone, Copy, Debug, PartialEq, Eq)]
+pub(crate) enum Setting {
+    Rounds,
+    Width,
 }
 
 // How a goal compares its sides.
@@ -24,12 +33,12 @@ pub(crate) enum Comparison {
     Below,
 }
 
-// What is done with the parts of an item while it is read: the methods are called for the parts in
-// text order, and at the end of each item with what was told of its phrases. A part that is refused
-// ends the reading with that fault. `at` is the place of the item's keyword.
+// What is done with the parts of an item while it is read: the methods are called for the parts in text order, and at the
+// end of each item with what was told of its phrases. A part that is refused ends the reading with that fault. `at` is the
+// place of the item's keyword.
 //
-// Contracts see what the items so far have made as `state`, and the methods as `actions`. `memory`
-// is what may be said where a method answers `NoMemory`: `⊥` where none does.
+// Contracts see what the items so far have made as `state`, and the methods as `actions`. `memory` is what may be said
+// where a method answers `NoMemory`: `⊥` where none does.
 pub(crate) trait ItemReading {
     // What is told of a phrase.
     type Measure: Copy;
@@ -56,6 +65,19 @@ pub(crate) trait ItemReading {
     ) -> Result<(Self::Measure, usize), TextFault>
         ensures value { Tells (λ ts m. m) toks.now from result (measure_cond actions (state self.now) compares) }
         ensures goes { Goes from (length toks.now) result };
+
+    // The same of a block of statements.
+    fn measure_block(
+        &self,
+        toks: &[Token],
+        from: usize,
+    ) -> Result<(Self::Measure, usize), TextFault>
+        ensures value { Tells (λ ts m. m) toks.now from result (measure_block actions (state self.now)) }
+        ensures goes { Goes from (length toks.now) result };
+
+    // What is told of the program of that name, where a side of a goal may be one.
+    fn measure_program(&self, name: &str) -> Option<Self::Measure>
+        ensures { result ≡ (actions).program (state self.now) name.now };
 
     // Declares a name.
     fn declare(&mut self, what: Declared, name: &Token) -> Result<(), TextFault>
@@ -85,6 +107,21 @@ pub(crate) trait ItemReading {
             (measured_of (lexemes toks.now) term)
             ) };
 
+    // Defines a name, which stands for a program from here on. `check_new` passes it.
+    fn define_prog(
+        &mut self,
+        toks: &[Token],
+        at: usize,
+        name: &Token,
+        block: Measured<Self::Measure>,
+    ) -> Result<(), TextFault>
+        requires identifier { IsIdentifier name.now.text.now }
+        requires new { (actions).check_new (state self.old) name.now.at name.now.text.now ≡ Ok tt }
+        ensures { Does memory result (state self.new) (
+            (actions).define_prog (state self.old) at name.now.text.now
+            (measured_of (lexemes toks.now) block)
+            ) };
+
     // That one hypothesis more may be stated.
     fn begin_hyp(&self, at: usize) -> Result<(), TextFault>
         ensures { Makes ⊥ (λ u. u) result ((actions).begin_hyp (state self.now) at) };
@@ -111,11 +148,28 @@ pub(crate) trait ItemReading {
             (actions).state_triple (state self.old) at (triple_of (lexemes toks.now) triple)
             ) };
 
+    // That it may be set.
+    fn begin_setting(&self, what: Setting, at: usize) -> Result<(), TextFault>
+        ensures { Makes ⊥ (λ u. u) result ((actions).begin_setting what (state self.now) at) };
+
+    // Sets it to a number, which stands at the place.
+    fn set(&mut self, what: Setting, place: usize, number: u64) -> Result<(), TextFault>
+        ensures { Does memory result (state self.new) ((actions).set what (state self.old) place number) };
+
+    // That no number is too wide among the tokens of an item from one index up to another.
+    fn check_numbers(&self, toks: &[Token], from: usize, end: usize) -> Result<(), TextFault>
+        requires ordered { from ≤ end }
+        requires within { end ≤ length toks.now }
+        ensures { Makes ⊥ (λ u. u) result (
+            (actions).check_numbers (state self.now)
+            (until (drop from (lexemes toks.now)) (drop end (lexemes toks.now)))
+            ) };
+
     // That a goal may be asked.
     fn begin_goal(&self, at: usize) -> Result<(), TextFault>
         ensures { Makes ⊥ (λ u. u) result ((actions).begin_goal (state self.now) at) };
 
-    // Asks how two terms compare.
+    // Asks how two sides compare.
     fn ask_sides(
         &mut self,
         toks: &[Token],

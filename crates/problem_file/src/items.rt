@@ -1,15 +1,16 @@
 //! The items of a problem file, gone through once for any reading.
-ghost use Rattle.std.specs.Prelude.{◌≡◌, ◌+◌, ◌<◌, ◌≤◌, length, IfOk};
+ghost use Rattle.std.specs.Prelude.{◌≡◌, ◌+◌, ◌<◌, ◌≤◌, length, drop, IfOk, IfSome};
 ghost use Rattle.kat_syntax.specs.Lexemes.{lexemes};
 ghost use Rattle.problem_file.specs.Working.Tokens.{AreTokens};
-ghost use Rattle.problem_file.specs.Items.{at_name, over_names, term_by, braced_by, triple_by};
-ghost use Rattle.problem_file.specs.Items.{sides_by, declaration_by, meaning_by, definition_by};
-ghost use Rattle.problem_file.specs.Items.{zero_by, hyp_by, comparison_by, triple_goal_by, goal_by};
+ghost use Rattle.problem_file.specs.Items.{at_name, over_names, at_number, term_by, block_by, program_by, side_by};
+ghost use Rattle.problem_file.specs.Items.{braced_by, middle_by, triple_by, sides_by, declaration_by, meaning_by};
+ghost use Rattle.problem_file.specs.Items.{definition_by, prog_by, zero_by, hyp_by, setting_by, comparison_by};
+ghost use Rattle.problem_file.specs.Items.{triple_goal_by, goal_by};
 ghost use Rattle.problem_file.specs.Items.{item_by, items_by};
 ghost use Rattle.problem_file.specs.Working.Walks.{measured_of, sides_of, triple_of, Tells, Steps, Does};
 
-use crate::item_reading::{Comparison, Declared, ItemReading};
-use crate::names::name_at;
+use crate::item_reading::{Comparison, Declared, ItemReading, Setting};
+use crate::names::{lone_name, name_at, number_at};
 use crate::phrase::{Measured, Sides, Triple};
 use kat_syntax::{Keyword, Separator, Terminal, expect, is_at, syntax_fault_at, terminal_at};
 use kat_tokens::{TextFault, Token};
@@ -101,18 +102,62 @@ fn braced_at<R: ItemReading>(
     Ok((Measured { measure, from }, end))
 }
 
+// What is told of the program that a side names, where it is the name of one and nothing else.
+fn program_at<R: ItemReading>(reading: &R, toks: &[Token], from: usize) -> Option<R::Measure>
+    ensures value { result ≡ program_by R.actions (R.state reading.now) (drop from (lexemes toks.now)) }
+    ensures within { IfSome result (λ m. from < length toks.now) }
+{
+    match lone_name(toks, from) {
+        Some(name) => reading.measure_program(name),
+        None => None,
+    }
+}
+
+// A side of a goal: the name of a program, or a term.
+#[tactic(auto, using(kat_syntax::proofs::Tokens::next_drop))]
+fn side_at<R: ItemReading>(
+    reading: &R,
+    toks: &[Token],
+    from: usize,
+) -> Result<(Measured<R::Measure>, usize), TextFault>
+    ensures value { Tells measured_of toks.now from result (side_by R.actions (R.state reading.now)) }
+    ensures goes { IfOk result (λ x. (from < x.1) × (x.1 ≤ length toks.now)) }
+{
+    match program_at(reading, toks, from) {
+        Some(measure) => Ok((Measured { measure, from }, from + 1)),
+        None => term_at(reading, toks, from),
+    }
+}
+
+// What stands between the conditions of a triple: a side of a goal, or the term of a hypothesis.
+fn middle_at<R: ItemReading>(
+    reading: &R,
+    toks: &[Token],
+    from: usize,
+    in_goal: bool,
+) -> Result<(Measured<R::Measure>, usize), TextFault>
+    ensures value { Tells measured_of toks.now from result (middle_by R.actions (R.state reading.now) in_goal) }
+    ensures goes { IfOk result (λ x. (from < x.1) × (x.1 ≤ length toks.now)) }
+{
+    if in_goal {
+        side_at(reading, toks, from)
+    } else {
+        term_at(reading, toks, from)
+    }
+}
+
 fn triple_at<R: ItemReading>(
     reading: &R,
     toks: &[Token],
     from: usize,
-    compares: bool,
+    in_goal: bool,
 ) -> Result<(Triple<R::Measure>, usize), TextFault>
-    ensures value { Tells triple_of toks.now from result (triple_by R.actions (R.state reading.now) compares) }
+    ensures value { Tells triple_of toks.now from result (triple_by R.actions (R.state reading.now) in_goal) }
     ensures goes { IfOk result (λ x. (from < x.1) × (x.1 ≤ length toks.now)) }
 {
-    let (pre, end) = braced_at(reading, toks, from, compares)?;
-    let (body, end) = term_at(reading, toks, end)?;
-    let (post, end) = braced_at(reading, toks, end, compares)?;
+    let (pre, end) = braced_at(reading, toks, from, in_goal)?;
+    let (body, end) = middle_at(reading, toks, end, in_goal)?;
+    let (post, end) = braced_at(reading, toks, end, in_goal)?;
     Ok((Triple { pre, body, post }, end))
 }
 
@@ -124,10 +169,22 @@ fn sides_at<R: ItemReading>(
     ensures value { Tells sides_of toks.now from result (sides_by R.actions (R.state reading.now)) }
     ensures goes { IfOk result (λ x. (from < x.1) × (x.1 ≤ length toks.now)) }
 {
-    let (left, end) = term_at(reading, toks, from)?;
+    let (left, end) = side_at(reading, toks, from)?;
     let end = expect(toks, end, Terminal::Separator(Separator::Comma))?;
-    let (right, end) = term_at(reading, toks, end)?;
+    let (right, end) = side_at(reading, toks, end)?;
     Ok((Sides { left, right }, end))
+}
+
+fn block_at<R: ItemReading>(
+    reading: &R,
+    toks: &[Token],
+    from: usize,
+) -> Result<(Measured<R::Measure>, usize), TextFault>
+    ensures value { Tells measured_of toks.now from result (block_by R.actions (R.state reading.now)) }
+    ensures goes { IfOk result (λ x. (from < x.1) × (x.1 ≤ length toks.now)) }
+{
+    let (measure, end) = reading.measure_block(toks, from)?;
+    Ok((Measured { measure, from }, end))
 }
 
 // A term between `=` and a semicolon.
@@ -162,6 +219,27 @@ fn read_definition<R: ItemReading>(
     reading.check_new(name)?;
     let (term, end) = meaning_at(reading, toks, from + 1)?;
     reading.define(toks, at, name, term)?;
+    Ok(end)
+}
+
+#[tactic(auto, using(kat_syntax::proofs::Tokens::next_drop))]
+fn read_prog<R: ItemReading>(
+    reading: &mut R,
+    toks: &[Token],
+    from: usize,
+    at: usize,
+) -> Result<usize, TextFault>
+    requires tokens { AreTokens toks.now }
+    ensures value { Steps R.memory toks.now from result (R.state reading.new) (
+        prog_by R.actions (R.state reading.old) at
+        ) }
+    ensures goes { IfOk result (λ end. (from < end) × (end ≤ length toks.now)) }
+{
+    let name = name_at(toks, from)?;
+    reading.check_new(name)?;
+    let (block, end) = block_at(reading, toks, from + 1)?;
+    reading.check_numbers(toks, from, end)?;
+    reading.define_prog(toks, at, name, block)?;
     Ok(end)
 }
 
@@ -206,6 +284,41 @@ fn read_hyp<R: ItemReading>(
     Ok(end)
 }
 
+// Sets what is set to the number at an index, and gives the index after it.
+#[tactic(auto, using(kat_syntax::proofs::Tokens::next_drop))]
+fn read_number<R: ItemReading>(
+    reading: &mut R,
+    toks: &[Token],
+    from: usize,
+    what: Setting,
+) -> Result<usize, TextFault>
+    ensures value { Steps R.memory toks.now from result (R.state reading.new) (
+        at_number ((R.actions).set what (R.state reading.old))
+        ) }
+    ensures goes { IfOk result (λ end. (end ≡ from + 1) × (from < length toks.now)) }
+{
+    let (number, place) = number_at(toks, from)?;
+    reading.set(what, place, number)?;
+    Ok(from + 1)
+}
+
+fn read_setting<R: ItemReading>(
+    reading: &mut R,
+    toks: &[Token],
+    from: usize,
+    at: usize,
+    what: Setting,
+) -> Result<usize, TextFault>
+    ensures value { Steps R.memory toks.now from result (R.state reading.new) (
+        setting_by R.actions what (R.state reading.old) at
+        ) }
+    ensures goes { IfOk result (λ end. (from < end) × (end ≤ length toks.now)) }
+{
+    reading.begin_setting(what, at)?;
+    let end = read_number(reading, toks, from, what)?;
+    expect(toks, end, Terminal::Separator(Separator::Semicolon))
+}
+
 fn read_comparison<R: ItemReading>(
     reading: &mut R,
     toks: &[Token],
@@ -220,6 +333,7 @@ fn read_comparison<R: ItemReading>(
 {
     let (sides, end) = sides_at(reading, toks, from)?;
     let end = expect(toks, end, Terminal::Separator(Separator::Semicolon))?;
+    reading.check_numbers(toks, from, end)?;
     reading.ask_sides(toks, at, comparison, sides)?;
     Ok(end)
 }
@@ -237,6 +351,7 @@ fn read_triple_goal<R: ItemReading>(
 {
     let (triple, end) = triple_at(reading, toks, from, true)?;
     let end = expect(toks, end, Terminal::Separator(Separator::Semicolon))?;
+    reading.check_numbers(toks, from, end)?;
     reading.ask_triple(toks, at, triple)?;
     Ok(end)
 }
@@ -284,25 +399,26 @@ fn read_item<R: ItemReading>(
     let Some((terminal, at)) = terminal_at(toks, from) else {
         return Err(syntax_fault_at(toks, from));
     };
+    let next = from + 1;
     match terminal {
-        Terminal::Keyword(Keyword::Test) => read_declaration(
-            reading,
-            toks,
-            from + 1,
-            Declared::Test,
-        ),
+        Terminal::Keyword(Keyword::Test) => read_declaration(reading, toks, next, Declared::Test),
         Terminal::Keyword(Keyword::Action) => {
-            read_declaration(reading, toks, from + 1, Declared::Action)
+            read_declaration(reading, toks, next, Declared::Action)
         }
-        Terminal::Keyword(Keyword::Term) => read_definition(reading, toks, from + 1, at),
-        Terminal::Keyword(Keyword::Hyp) => read_hyp(reading, toks, from + 1, at),
-        Terminal::Keyword(Keyword::Goal) => read_goal(reading, toks, from + 1, at),
+        Terminal::Keyword(Keyword::Var) => read_declaration(reading, toks, next, Declared::Var),
+        Terminal::Keyword(Keyword::Term) => read_definition(reading, toks, next, at),
+        Terminal::Keyword(Keyword::Prog) => read_prog(reading, toks, next, at),
+        Terminal::Keyword(Keyword::Hyp) => read_hyp(reading, toks, next, at),
+        Terminal::Keyword(Keyword::Rounds) => {
+            read_setting(reading, toks, next, at, Setting::Rounds)
+        }
+        Terminal::Keyword(Keyword::Width) => read_setting(reading, toks, next, at, Setting::Width),
+        Terminal::Keyword(Keyword::Goal) => read_goal(reading, toks, next, at),
         _ => Err(syntax_fault_at(toks, from)),
     }
 }
 
-// Reads all items, or up to the first that has a fault. A `Syntax` after the last token has the
-// place `usize::MAX`.
+// Reads all items, or up to the first that has a fault. A `Syntax` after the last token has the place `usize::MAX`.
 pub(crate) fn read_items<R: ItemReading>(reading: &mut R, toks: &[Token]) -> Result<(), TextFault>
     requires tokens { AreTokens toks.now }
     ensures { Does R.memory result (R.state reading.new) (

@@ -15,7 +15,8 @@ pub fn items_are_folded()
 {}
 
 /// Where the syntax is right, the walk over the items gives no fault exactly where each item makes what it is to make,
-/// and then it gives what they make.
+/// and then it gives what they make. The expressions of programs that stood before have at most 1,000 nodes, as those of
+/// programs that were read have.
 pub fn items_are_walked()
     ensures { ItemsAreWalked }
 {}
@@ -25,7 +26,8 @@ pub fn have_one_answer()
     ensures { HaveOneAnswer }
 {}
 
-/// At most 48 tests and 48 actions are declared, and only those stand in hypotheses and in the goal.
+/// At most 48 tests, 48 actions and 64 variables are declared, each has a name, and only those stand in hypotheses,
+/// programs and the goal.
 pub fn are_in_ranges()
     ensures { AreInRanges }
 {}

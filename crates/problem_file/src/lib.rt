@@ -1,7 +1,8 @@
-//! Problem files: tests, actions, terms, hypotheses and a goal, read from their text.
+//! Problem files: tests, actions, variables, terms, programs, hypotheses and a goal, read from their text.
 #![tactic(auto)]
 
 mod file;
+mod goal_limit;
 mod item_reader;
 mod item_reading;
 mod items;

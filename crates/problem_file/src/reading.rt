@@ -4,42 +4,19 @@ ghost use Rattle.kat_tokens.specs.declared.fault.TextFault.TheVariants.{NoMemory
 ghost use Rattle.kat_syntax.specs.Lexemes.{lexemes};
 ghost use Rattle.kat_syntax.specs.Parsed.{Makes};
 ghost use Rattle.kat_tokens.specs.declared.lexer.TheConstants.{MAX_LEN as MOST};
-ghost use Rattle.problem_file.specs.Files.{State, start};
+ghost use Rattle.problem_file.specs.Files.{FileParts, start};
 ghost use Rattle.problem_file.specs.Making.{walk};
 ghost use Rattle.problem_file.specs.Working.Tokens.{AreTokens};
 ghost use Rattle.problem_file.specs.Working.States.{state_of};
-ghost use Rattle.problem_file.specs.Reads.{is_later, has_later, placed, tested};
-ghost use Rattle.problem_file.specs.Reads.{TextSays, HoldsTested, Answers};
+ghost use Rattle.problem_file.specs.Reads.{Reads, placed, tested, Answers};
 
 use crate::file::File;
+use crate::goal_limit::GoalLimit;
 use crate::item_reader::ItemReader;
 use crate::items::read_items;
 use crate::syntax::test_syntax;
-use kat_syntax::{Keyword, Separator, Terminal, terminal_of};
 use kat_tokens::{MAX_LEN, TextFault, Token, tokens};
 use std::alloc::Global;
-
-// Whether only programs and their items have such a token.
-fn is_later(terminal: Terminal) -> bool
-    ensures { result ≡ is_later terminal }
-{
-    matches!(
-        terminal,
-        Terminal::Keyword(Keyword::Var | Keyword::Prog | Keyword::Rounds | Keyword::Width)
-            | Terminal::Separator(Separator::Becomes)
-    )
-}
-
-fn has_later(toks: &[Token]) -> bool
-    ensures { result ≡ has_later (lexemes toks.now) }
-{
-    for token in toks {
-        if is_later(terminal_of(token)) {
-            return true;
-        }
-    }
-    false
-}
 
 // A fault past the last token is at the text's length.
 fn placed(fault: TextFault, len: usize) -> TextFault
@@ -51,11 +28,11 @@ fn placed(fault: TextFault, len: usize) -> TextFault
     }
 }
 
-fn walk(alloc: Global, toks: &[Token]) -> Result<ItemReader, TextFault>
+fn walk(alloc: Global, toks: &[Token], limit: GoalLimit) -> Result<ItemReader, TextFault>
     requires tokens { AreTokens toks.now }
-    ensures { Makes (Unit {0}) state_of result (walk start (lexemes toks.now)) }
+    ensures { Makes (Unit {0}) state_of result (walk (start limit) (lexemes toks.now)) }
 {
-    let mut reader = ItemReader::new(alloc);
+    let mut reader = ItemReader::new(alloc, limit);
     read_items(&mut reader, toks)?;
     Ok(reader)
 }
@@ -63,13 +40,10 @@ fn walk(alloc: Global, toks: &[Token]) -> Result<ItemReader, TextFault>
 // The file, or the first fault of the tokens.
 fn test(alloc: Global, toks: &[Token]) -> Result<File, TextFault>
     requires tokens { AreTokens toks.now }
-    ensures { HoldsTested result (tested (lexemes toks.now)) }
+    ensures { Makes (Unit {0}) (λ f. f) result (tested (lexemes toks.now)) }
 {
-    if has_later(toks) {
-        return Err(TextFault::NotYet);
-    }
     test_syntax(toks)?;
-    walk(alloc, toks)?.file()
+    walk(alloc, toks, GoalLimit::One)?.file()
 }
 
 fn read_text(alloc: Global, text: &str) -> Result<File, TextFault>
@@ -84,16 +58,17 @@ fn read_text(alloc: Global, text: &str) -> Result<File, TextFault>
 }
 
 /// What the text of a problem file says. A text that says nothing is refused for its first fault, in this order:
-/// `TooLong` past 1,048,576 bytes; `NotUtf8`; `BadToken`; `NotYet` where a token stands in it that only programs have
-/// (`var`, `prog`, `rounds`, `width`, `:=`); the first in text order of `Syntax`, of `TooDeep` where more than 200 are
-/// open, and of `NumberTooWide` from 2^64 on; the first fault of the first item that has one (`DoubleName`,
-/// `UnknownName`, `Sort`, `TooDeep` through a defined name, `TooMany`, `TwoGoals`, and last `TooLarge`); `NoGoal`.
+/// `TooLong` past 1,048,576 bytes; `NotUtf8`; `BadToken`; the first in text order of `Syntax`, of `TooDeep` where more than
+/// 200 are open, and of `NumberTooWide` from 2^64 on; the first fault of the first item that has one (at its keyword
+/// `TwoGoals`, `DoubleName`, `Sort` of a late `width`, `TooMany`; at its tokens `DoubleName`, `UnknownName`, `Sort`,
+/// `TooDeep` through a defined name, `TooMany`; in a program or a goal `NumberTooWide` from 2 to the width on; and last
+/// `TooLarge`); `NoGoal`.
 pub fn read(alloc: Global, bytes: &[u8]) -> Result<File, TextFault>
-    // The file holds what the bytes say; a refusal is `NoMemory` or the first fault of the bytes.
+    // The file is what the bytes say; a refusal is `NoMemory` or the first fault of the bytes.
     ensures answers { Answers bytes.now result }
 
     // Bytes that say something fail only when out of memory.
-    ensures only { (s : State) → TextSays bytes.now s → IfErr result (λ e. e ≡ NoRoom) }
+    ensures only { (f : FileParts) → Reads bytes.now f → IfErr result (λ e. e ≡ NoRoom) }
 {
     if bytes.len() > MAX_LEN {
         return Err(TextFault::TooLong);

@@ -1,14 +1,29 @@
 //! The test of the syntax of a whole file, which takes no memory.
-ghost use Rattle.std.specs.Prelude.{◌≡◌, Ok};
+ghost use Rattle.std.specs.Prelude.{◌≡◌, length, Ok};
 ghost use Rattle.kat_syntax.specs.Lexemes.{lexemes};
+ghost use Rattle.kat_syntax.specs.Parsed.{Goes};
 ghost use Rattle.problem_file.specs.Working.Tokens.{AreTokens};
+ghost use Rattle.problem_file.specs.Working.Walks.{Tells};
+ghost use Rattle.problem_file.specs.Items.{measure_block};
 ghost use Rattle.problem_file.specs.Syntax.{checking, scan_file};
 
-use crate::item_reading::{Comparison, Declared, ItemReading};
+use crate::item_reading::{Comparison, Declared, ItemReading, Setting};
 use crate::items::read_items;
 use crate::phrase::{Measured, Sides, Triple};
 use kat_syntax::{Context, Scan, read_cond, read_term};
 use kat_tokens::{TextFault, Token};
+use while_lang::block_end;
+
+// That a block stands there, and the index after it.
+fn measure_block(toks: &[Token], from: usize) -> Result<((), usize), TextFault>
+    ensures value { Tells (λ ts m. m) toks.now from result (measure_block checking tt) }
+    ensures goes { Goes from (length toks.now) result }
+{
+    match block_end(toks, from, 0) {
+        Ok(end) => Ok(((), end)),
+        Err(fault) => Err(fault),
+    }
+}
 
 // Makes nothing of items, and refuses none.
 #[derive(Drop)]
@@ -38,6 +53,14 @@ impl ItemReading for Syntax {
         read_cond(&Scan, toks, from, Context::outermost(1, compares))
     }
 
+    fn measure_block(&self, toks: &[Token], from: usize) -> Result<((), usize), TextFault> {
+        measure_block(toks, from)
+    }
+
+    fn measure_program(&self, _: &str) -> Option<()> {
+        None
+    }
+
     fn declare(&mut self, _: Declared, _: &Token) -> Result<(), TextFault> {
         Ok(())
     }
@@ -47,6 +70,18 @@ impl ItemReading for Syntax {
     }
 
     fn define(&mut self, _: &[Token], _: usize, _: &Token, _: Measured<()>) -> Result<(), TextFault>
+        ensures { result ≡ Ok tt }
+    {
+        Ok(())
+    }
+
+    fn define_prog(
+        &mut self,
+        _: &[Token],
+        _: usize,
+        _: &Token,
+        _: Measured<()>,
+    ) -> Result<(), TextFault>
         ensures { result ≡ Ok tt }
     {
         Ok(())
@@ -65,6 +100,18 @@ impl ItemReading for Syntax {
     fn state_triple(&mut self, _: &[Token], _: usize, _: Triple<()>) -> Result<(), TextFault>
         ensures { result ≡ Ok tt }
     {
+        Ok(())
+    }
+
+    fn begin_setting(&self, _: Setting, _: usize) -> Result<(), TextFault> {
+        Ok(())
+    }
+
+    fn set(&mut self, _: Setting, _: usize, _: u64) -> Result<(), TextFault> {
+        Ok(())
+    }
+
+    fn check_numbers(&self, _: &[Token], _: usize, _: usize) -> Result<(), TextFault> {
         Ok(())
     }
 

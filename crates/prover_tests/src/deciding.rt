@@ -8,9 +8,11 @@ use std::alloc::Global;
 use std::test::Fail;
 use term_store::Store;
 
+// The term of a side; none of these texts has a program there.
 fn term(side: Side) -> Kat {
     match side {
         Side::Term(term) => term,
+        Side::Prog(_) => Kat::Zero,
     }
 }
 

@@ -298,10 +298,10 @@ impl Diagrams {
         ensures kept { KeepsFunctions self.old self.new }
         ensures reduced { IsReduced self.new }
     {
-        if let Some(id) = self.settled(&operation) {
+        if let Some(id) = self.trivial_result(&operation) {
             return Ok(id);
         }
-        if let Some(id) = self.known(&operation) {
+        if let Some(id) = self.find_result(&operation) {
             return Ok(id);
         }
         let test = self.top_test(&operation);
@@ -315,7 +315,7 @@ impl Diagrams {
     }
 
     // The result, where it needs no further step.
-    fn settled(&self, operation: &Operation) -> Option<DiagramId>
+    fn trivial_result(&self, operation: &Operation) -> Option<DiagramId>
         requires operands { HasOperands self.now operation.now }
         ensures result { IfSome result (IsResult self.now operation.now) }
         ensures open { IfNone result (IsOpen self.now operation.now) }
@@ -324,8 +324,8 @@ impl Diagrams {
         // The proof needs the type's invariant in each case.
         let _ = &self.nodes;
         match *operation {
-            Operation::And(a, b) => absorbed(a, b, NEVER, ALWAYS),
-            Operation::Or(a, b) => absorbed(a, b, ALWAYS, NEVER),
+            Operation::And(a, b) => absorbing_operand(a, b, NEVER, ALWAYS),
+            Operation::Or(a, b) => absorbing_operand(a, b, ALWAYS, NEVER),
             Operation::Not(a) => {
                 if a == NEVER {
                     return Some(ALWAYS);
@@ -345,7 +345,7 @@ impl Diagrams {
     }
 
     // The result, where it was computed before.
-    fn known(&self, operation: &Operation) -> Option<DiagramId>
+    fn find_result(&self, operation: &Operation) -> Option<DiagramId>
         ensures result { IfSome result (IsResult self.now operation.now) }
         ensures reduced { IsReduced self.now }
     {
@@ -396,7 +396,7 @@ impl Diagrams {
 }
 
 // The one of two operands that is the result by itself, where the operation has these two values.
-fn absorbed(
+fn absorbing_operand(
     a: DiagramId,
     b: DiagramId,
     absorbing: DiagramId,

@@ -7,15 +7,22 @@ use kat_tokens::TextFault;
 use problem_file::{File, Goal, Side, read};
 use std::alloc::Global;
 use std::test::Fail;
+use while_lang::{Prog, print_prog};
 
 fn put_cond(alloc: Global, out: &mut Vec<u8>, cond: &Cond, scope: &Scope) -> Result<(), NoMemory> {
     let text = print_cond(alloc, cond, scope)?;
     put(out, &text)
 }
 
+fn put_prog(alloc: Global, out: &mut Vec<u8>, prog: &Prog, scope: &Scope) -> Result<(), NoMemory> {
+    let text = print_prog(alloc, prog, scope)?;
+    put(out, &text)
+}
+
 fn put_side(alloc: Global, out: &mut Vec<u8>, side: &Side, scope: &Scope) -> Result<(), NoMemory> {
     match side {
         Side::Term(term) => put_term(alloc, out, term, scope),
+        Side::Prog(prog) => put_prog(alloc, out, prog, scope),
     }
 }
 
@@ -105,7 +112,15 @@ const ROWS: &[(&str, Result<&str, TextFault>)] = &[
         Err(TextFault::TwoGoals(25)),
     ),
     ("width 8; ?", Err(TextFault::BadToken(9))),
-    ("goal equal 0, := 1", Err(TextFault::NotYet)),
+    ("goal equal 0, := 1", Err(TextFault::Syntax(14))),
+    (
+        "var x; prog P { x := x + 1; } prog Q { P; if x == 0 { P; } } goal equal P, Q;",
+        Ok("0 0 0: { x := (x + 1); } = { x := (x + 1); if (x == 0) { x := (x + 1); } else { } }"),
+    ),
+    (
+        "action p; var x; prog P { p; } goal triple {x < 1} P {true};",
+        Ok("0 1 0: (x < 1) { p; } true"),
+    ),
     (
         "test b; goal triple {b == 1} 1 {b};",
         Err(TextFault::Sort(21)),

@@ -11,6 +11,7 @@ type ShelfRow = (&'static str, &'static str, &'static str, u64, &'static str);
 const SHELVES: &[ShelfRow] = &[
     ("decide f", "g", "e", 9, "4 cannot read f\n"),
     ("decide f", "f", "e", 0, "4 cannot read f\n"),
+    ("run f P zero 1", "g", "e", 9, "4 cannot read f\n"),
     ("check f e", "f", "e", 0, "4 cannot read f\n"),
     ("check f e", "f", "e", 1, "4 cannot read e\n"),
     ("check f e", "f", "g", 9, "4 cannot read e\n"),

@@ -13,3 +13,5 @@ mod faults;
 mod fixtures;
 #[cfg(test)]
 mod refusals;
+#[cfg(test)]
+mod running;

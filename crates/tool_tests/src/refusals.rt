@@ -20,7 +20,7 @@ const TEXTS: &[(&str, &str)] = &[
         "goal triple {1 == 18446744073709551616} 1 {true};",
         "2 refused: NumberTooWide 18\n",
     ),
-    ("var x; goal equal 1, 1;", "2 refused: NotYet\n"),
+    ("prog P { } goal equal P, P;", "2 refused: NotYet\n"),
     ("goal triple {1 == 1} 1 {true};", "2 refused: NotYet\n"),
 ];
 
@@ -132,6 +132,19 @@ const WORDS: &[&str] = &[
     "replay  f",
     "--help",
     "decide f --json",
+    "run f P zero",
+    "run f P zero ",
+    "run f P zero x",
+    "run f P zero -1",
+    "run f P zero +1",
+    "run f P zero 18446744073709551616",
+    "run f P zero 000000000000000000001",
+    "run f P -x=1 1",
+    "run f -P zero 1",
+    "run -f P zero 1",
+    "run f P  1",
+    "run f P zero 1 1",
+    "Run f P zero 1",
 ];
 
 #[test]

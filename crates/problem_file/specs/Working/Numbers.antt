@@ -1,9 +1,11 @@
 -- The numbers that names stand for.
 use Rattle.std.specs.Prelude.{◌<◌, ℕ, List}
-use Rattle.kat_text.specs.declared.meaning.Meaning.TheVariants.{Test, Action}
+use Rattle.kat_text.specs.declared.meaning.Meaning.TheVariants.{Test, Action, Var, Prog}
 use Rattle.kat_text.specs.ScopeParts.{ScopeParts, Means}
 
--- tests and actions that are named are below these numbers
-pub record AreNumbered (w : ScopeParts) (tests actions : ℕ) : Type 0 where
+-- tests, actions, variables and programs that are named are below these numbers
+pub record AreNumbered (w : ScopeParts) (tests actions vars progs : ℕ) : Type 0 where
   pub named_tests : (name : List ℕ) (k : ℕ) → Means w name (Test k) → k < tests
   pub named_actions : (name : List ℕ) (a : ℕ) → Means w name (Action a) → a < actions
+  pub named_vars : (name : List ℕ) (x : ℕ) → Means w name (Var x) → x < vars
+  pub named_progs : (name : List ℕ) (i : ℕ) → Means w name (Prog i) → i < progs

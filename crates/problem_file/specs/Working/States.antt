@@ -1,20 +1,26 @@
 -- What the items so far have made, as a state.
 use Rattle.std.specs.Prelude.{map, Result}
-use Rattle.std.specs.Option.{option_map}
 use Rattle.kat_model.specs.Trees.{kat_tree}
 use Rattle.kat_tokens.specs.declared.fault.TextFault.{TextFault}
+use Rattle.while_lang.specs.NamedProgs.{parts_of_progs}
 use Rattle.problem_file.specs.Files.{State}
-use Rattle.problem_file.specs.Trees.{goal_tree}
+use Rattle.problem_file.specs.Trees.{goal_tree, names_of_progs}
 use Rattle.problem_file.specs.Working.Walks.{Does}
 use Rattle.problem_file.specs.declared.item_reader.ItemReader.{ItemReader}
 
 abbrev pub state_of : ItemReader → State
 state_of r = record {
+  limit = r.limit;
   world = r.scope;
   tests = r.tests;
   actions = r.actions;
+  vars = r.vars;
+  progs = parts_of_progs r.progs.items;
+  prog_names = names_of_progs r.progs.items;
   hyps = map kat_tree r.hyps.items;
-  goal = option_map goal_tree r.goal;
+  rounds = r.rounds;
+  width = r.width;
+  goals = map goal_tree r.goals.items;
   size = r.size;
 }
 

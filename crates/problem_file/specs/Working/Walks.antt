@@ -8,7 +8,7 @@ use Rattle.kat_tokens.specs.declared.fault.TextFault.{TextFault}
 use Rattle.kat_tokens.specs.declared.fault.TextFault.TheVariants.{NoMemory}
 use Rattle.kat_tokens.specs.declared.token.Token.{Token}
 use Rattle.kat_syntax.specs.Lexemes.{Lexeme, lexemes}
-use Rattle.kat_syntax.specs.Parsed.{Parsed, Reads}
+use Rattle.kat_syntax.specs.Parsed.{Parsed, Makes, Reads}
 use Rattle.problem_file.specs.declared.phrase.Measured.{Measured}
 use Rattle.problem_file.specs.declared.phrase.Sides.{Sides}
 use Rattle.problem_file.specs.declared.phrase.Triple.{Triple}
@@ -46,6 +46,4 @@ Does memory (Err e) s m = m ≡ Err e
 
 -- the trees of a triple's phrases
 abbrev pub Builds : Result (Cond × Kat × Cond) TextFault → Result (CondTree × Term × CondTree) TextFault → Type 0
-Builds (Ok x) m = m ≡ Ok (cond_tree x.0, kat_tree x.1, cond_tree x.2)
-Builds (Err NoMemory) m = Unit {0}
-Builds (Err e) m = m ≡ Err e
+Builds result m = Makes (Unit {0}) (λ x. (cond_tree x.0, kat_tree x.1, cond_tree x.2)) result m

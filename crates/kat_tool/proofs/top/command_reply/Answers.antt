@@ -5,3 +5,6 @@ returns-in-Check-clause-replied g c = rw c.in-Check.is c.check_files.ensures.rep
 
 pub returns-in-Replay-clause-replied : goal.returns-in-Replay-clause-replied
 returns-in-Replay-clause-replied g c = rw c.in-Replay.is c.replay_files.ensures.replied
+
+pub returns-in-Run-clause-replied : goal.returns-in-Run-clause-replied
+returns-in-Run-clause-replied g c = rw c.in-Run.is c.run_file.ensures.replied

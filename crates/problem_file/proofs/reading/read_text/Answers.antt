@@ -2,8 +2,9 @@ use Rattle.std.proofs.Common.{Ok, Err, sym, subst, ap, ◌∙◌}
 use Rattle.std.proofs.lemmas.Result.{err_from_is_err_and}
 use Rattle.kat_tokens.specs.declared.fault.TextFault.{TextFault}
 use Rattle.kat_syntax.specs.Lexemes.{lexemes}
+use Rattle.kat_syntax.specs.Parsed.{Makes}
 use Rattle.problem_file.specs.Working.Tokens.{AreTokens}
-use Rattle.problem_file.specs.Reads.{tested, HoldsTested, Answers}
+use Rattle.problem_file.specs.Reads.{tested, Answers}
 use Rattle.problem_file.proofs.ReadTexts.{lexed_tokens, file_told, bad_told}
 use Rattle.problem_file.proofs.reading.read_text.Goals as goal
 
@@ -18,4 +19,4 @@ test-requires c = record { tokens = subst AreTokens (sym c.deref.ensures.value) 
 pub returns-in-Ok : goal.returns-in-Ok
 returns-in-Ok c =
     file_told c.args.text.now c.in_ok-toks.toks.items c.in-Ok.file c.in_ok-toks.ensures.read
-    (subst (λ ts. HoldsTested (Ok c.in-Ok.file) (tested (lexemes ts))) c.deref.ensures.value c.in-Ok.ensures)
+    (subst (λ ts. Makes (Unit {0}) (λ f. f) (Ok c.in-Ok.file) (tested (lexemes ts))) c.deref.ensures.value c.in-Ok.ensures)

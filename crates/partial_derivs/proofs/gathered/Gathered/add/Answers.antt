@@ -12,5 +12,5 @@ returns-then-eq-clause-added c =
 pub returns-clause-added : goal.returns-clause-added
 returns-clause-added c =
     let joined = c.in_ok-joined in
-    adds_move c.args.diagrams.now c.joined.new.diagrams same_target same_target_is c.args.self.now.guards.entries (record { act = c.args.act; to = c.args.to }) c.args.guard joined.joined
+    adds_move c.args.diagrams.now c.guard_with.new.diagrams same_target same_target_is c.args.self.now.guards.entries (record { act = c.args.act; to = c.args.to }) c.args.guard joined.joined
     joined.ensures.kept c.requires.guards joined.ensures.function c.insert.new.self.entries c.in_ok-insert.ensures.entries

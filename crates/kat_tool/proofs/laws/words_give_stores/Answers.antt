@@ -1,0 +1,5 @@
+use Rattle.kat_tool.proofs.StoreValues.{store_is}
+use Rattle.kat_tool.proofs.laws.words_give_stores.Goals as goal
+
+pub returns : goal.returns
+returns c = store_is

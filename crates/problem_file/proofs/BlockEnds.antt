@@ -1,0 +1,32 @@
+-- Where a block ends is what the test of its syntax reads.
+use Rattle.std.proofs.Common.{◌≡◌, ℕ, List, [], drop, Result, Ok, Err, ap}
+use Rattle.kat_tokens.specs.declared.fault.TextFault.{TextFault}
+use Rattle.kat_tokens.specs.declared.fault.TextFault.TheVariants.{NoMemory}
+use Rattle.kat_syntax.specs.Lexemes.{Lexeme}
+use Rattle.kat_syntax.specs.Parsed.{Parsed, ◌>>=◌, Reads, Wants}
+use Rattle.while_lang.specs.Blocks.{block, parse_block}
+use Rattle.while_lang.specs.BlockScans.{scanning_blocks, scan_block}
+use Rattle.while_lang.specs.BlockFaults.{IsBlockFault}
+
+abbrev end_of : Result (List Lexeme) TextFault → List Lexeme
+end_of (Ok ts) = ts
+end_of (Err e) = []
+
+abbrev fault_of : Result (List Lexeme) TextFault → TextFault
+fault_of (Ok ts) = NoMemory
+fault_of (Err e) = e
+
+ended : (m : Parsed (Unit {0})) (rest : List Lexeme) → (m >>= λ x. Ok x.1) ≡ Ok rest → m ≡ Ok (tt, rest)
+ended (Ok x) rest e = let same : x.1 ≡ rest = ap end_of e in ap (λ t. Ok (tt, t)) same
+ended (Err f) rest e = absurd cc
+
+failed : (m : Parsed (Unit {0})) (e : TextFault) → (m >>= λ x. Ok x.1) ≡ Err e → m ≡ Err e
+failed (Ok x) e h = absurd cc
+failed (Err f) e h = let same : f ≡ e = ap fault_of h in ap (λ d. Err d) same
+
+pub block_ends : (ts us : List Lexeme) (end : ℕ) → Wants ts (Ok end) (scan_block 0 us) → Reads ⊥ (λ (m : Unit {0}). m) ts (Ok (tt, end)) (parse_block scanning_blocks block 0 us)
+block_ends ts us end h = ended (parse_block scanning_blocks block 0 us) (drop end ts) h
+
+pub block_fails : (ts us : List Lexeme) (e : TextFault) → Wants ts (Err e) (scan_block 0 us) → IsBlockFault us e → Reads ⊥ (λ (m : Unit {0}). m) ts (Err e) (parse_block scanning_blocks block 0 us)
+block_fails ts us NoMemory h fault = fault
+block_fails ts us e h fault = failed (parse_block scanning_blocks block 0 us) e h
