@@ -6,11 +6,12 @@ use Rattle.kat_io.specs.Told.{Untold}
 use Rattle.kat_io.specs.Outside.{Rose, AppendsFront}
 use Rattle.kat_model.specs.Members.{Has}
 use Rattle.kat_model.specs.Problems.{ProblemParts}
-use Rattle.kat_tool.specs.Commands.{Command, decide, check, replay, run, command_of, files_of}
+use Rattle.kat_tool.specs.Commands.{Command, decide, show, check, replay, run, command_of, files_of}
 use Rattle.kat_tool.specs.Asking.{Asks}
 use Rattle.kat_tool.specs.Posing.{Poses}
 use Rattle.kat_tool.specs.Steps.{ShelfUse, HasFailedOn, GetsFile, AsksText}
 use Rattle.kat_tool.specs.Decide.{IsDecided, DecidesText, Decides, DecideCauses}
+use Rattle.kat_tool.specs.Show.{ShowsText, Shows}
 use Rattle.kat_tool.specs.Check.{ChecksBytes, Checks, CheckStatus}
 use Rattle.kat_tool.specs.Replay.{ReplaysBytes, Replays}
 use Rattle.kat_tool.specs.Running.{RunsText}
@@ -23,6 +24,7 @@ use Rattle.kat_tool.proofs.Steps.{OneStatus, gets_once, text_once}
 use Rattle.kat_tool.proofs.DecideReplies.{decided_once, decide_causes}
 use Rattle.kat_tool.proofs.CheckReplies.{bytes_once, check_causes}
 use Rattle.kat_tool.proofs.ReplayReplies.{bytes_once as replayed_once, replay_causes}
+use Rattle.kat_tool.proofs.ShowReplies.{shows_once, show_causes}
 use Rattle.kat_tool.proofs.RunReplies.{runs_once, run_causes}
 
 -- replies to commands, by their statuses
@@ -31,6 +33,12 @@ module _ (s : ShelfUse) (status : ℕ) (output : List ℕ) where
   decide_small file r = small (decide_causes s file status output r).answers
     where
       small : (status ≡ 0) ⊎ ((status ≡ 1) ⊎ ((status ≡ 2) ⊎ (status ≡ 4))) → status ≤ 4
+      small h = grind (arith, h)
+
+  show_small : (file : List ℕ) → Shows s file status output → status ≤ 4
+  show_small file r = small (show_causes s file status output r).answers
+    where
+      small : (status ≡ 0) ⊎ ((status ≡ 2) ⊎ (status ≡ 4)) → status ≤ 4
       small h = grind (arith, h)
 
   check_small : (file other : List ℕ) → Checks s file other status output → status ≤ 4
@@ -48,6 +56,7 @@ module _ (s : ShelfUse) (status : ℕ) (output : List ℕ) where
   -- no command's reply has another status than 0 to 4, or 7
   command_small : (command : Command) → RepliesTo s command status output → (status ≤ 4) ⊎ (status ≡ 7)
   command_small (decide file) r = inl (decide_small file r)
+  command_small (show file) r = inl (show_small file r)
   command_small (check file other) r = inl (check_small file other r)
   command_small (replay file other) r = inl (replay_small file other r)
   command_small (run file prog store turns) r = small (run_causes s file prog store turns status output r).answers
@@ -67,6 +76,7 @@ module _ (s : ShelfUse) (status : ℕ) (output : List ℕ) where
   command_refused words (decide file) is r seven = absurd (no_seven (decide_small file r) seven)
   command_refused words (check file other) is r seven = absurd (no_seven (check_small file other r) seven)
   command_refused words (replay file other) is r seven = absurd (no_seven (replay_small file other r) seven)
+  command_refused words (show file) is r seven = absurd (no_seven (show_small file r) seven)
   command_refused words (run file prog store turns) is r seven =
       let h = (run_causes s file prog store turns status output r).unfit seven in
       ((file, prog, store, turns, is, h.0), h.1)
@@ -74,6 +84,7 @@ module _ (s : ShelfUse) (status : ℕ) (output : List ℕ) where
   -- the file that a command failed on is one of its own
   command_failed : (command : Command) → RepliesTo s command status output → status ≡ 4 → (file : List ℕ) × Has (files_of command) file × HasFailedOn s file status output
   command_failed (decide file) r four = (file, inl refl, (decide_causes s file status output r).failed four)
+  command_failed (show file) r four = (file, inl refl, (show_causes s file status output r).failed four)
   command_failed (check file other) r four = ⊎_elim (λ f. (file, inl refl, f)) (λ h. (other, inr (inl refl), h.2)) ((check_causes s file other status output r).failed four)
   command_failed (replay file other) r four = ⊎_elim (λ f. (file, inl refl, f)) (λ h. (other, inr (inl refl), h.2)) ((replay_causes s file other status output r).failed four)
   command_failed (run file prog store turns) r four = (file, inl refl, (run_causes s file prog store turns status output r).failed four)
@@ -82,6 +93,7 @@ module _ (s : ShelfUse) (status : ℕ) (output : List ℕ) where
 command_once : (s : ShelfUse) → (Rose s.before s.now → ⊥) → ((file : List ℕ) → s.content file ≡ Untold → ⊥) → (command : Command) → OneStatus (RepliesTo s command)
 command_once s unfailed told (decide file) =
     gets_once s file _ _ (λ t. DecidesText t) (told file) unfailed (λ t. text_once t IsDecided decided_once)
+command_once s unfailed told (show file) = gets_once s file _ _ (λ t. ShowsText t) (told file) unfailed (λ t. shows_once t)
 command_once s unfailed told (check file other) =
     gets_once s file _ _ (λ t. AsksText t (λ q. GetsFile s other None [] (ChecksBytes q))) (told file) unfailed (λ t. text_once t (λ q. GetsFile s other None [] (ChecksBytes q)) (λ q. gets_once s other None [] (ChecksBytes q) (told other) unfailed (bytes_once q)))
 command_once s unfailed told (replay file other) =
@@ -120,12 +132,12 @@ agreed s file status output causes small words again other text later reply prin
     checked : (q : ProblemParts) → Poses (s.content file) q → CheckStatus output q reply
     checked q poses =
         ((check_causes later again other reply printed (replied_to later words reply printed (check again other) is r.cause)).headline text output q holds holds_other unfailed
-        (subst (λ t. Asks t q) (held_same (s.content file) text poses.text is_told poses.given.0) poses.asks) poses.small).answers
+        (subst (λ t. Asks t q) (held_same (s.content file) text poses.text is_told poses.given.0) poses.asks)).answers
 
     alike : (status ≡ 0) ⊎ (status ≡ 1) → reply ≡ status
     alike (inl e) =
         let h = causes.equal e in
-        (checked h.0 h.1).equal.1 (h.2.cert, h.2.printed, h.2.concise.accepted) ∙ sym e
+        (checked h.question h.poses).equal.1 (h.is_equal.cert, h.is_equal.printed, h.is_equal.concise.accepted) ∙ sym e
     alike (inr e) =
         let h = causes.different e in
         (checked h.0 h.1).different.1 (h.2.string, h.2.printed, h.2.shortest.refutes) ∙ sym e
@@ -140,6 +152,7 @@ reply_is s words status output r = record {
   checks = λ file other is. check_causes s file other status output (replied_to s words status output (check file other) is r.cause);
   replays = λ file other is. replay_causes s file other status output (replied_to s words status output (replay file other) is r.cause);
   runs = λ file prog store turns is. run_causes s file prog store turns status output (replied_to s words status output (run file prog store turns) is r.cause);
+  shows = λ file is. show_causes s file status output (replied_to s words status output (show file) is r.cause);
   failed = failed_is s words status output r.cause;
   no_command = none_is s words status output r.cause;
   refused_words = λ seven. (refused_is s words status output r.cause seven).0;

@@ -1,5 +1,5 @@
 -- The reply of `check` is the statement on the evidence, and has its cause.
-use Rattle.std.proofs.Common.{◌≡◌, ◌⊎◌, ℕ, List, [], None, inl, inr, refl, sym, ◌∙◌}
+use Rattle.std.proofs.Common.{◌≡◌, ◌⊎◌, ℕ, List, [], None, inl, inr, refl, sym, ◌∙◌, arith}
 use Rattle.kat_model.specs.Problems.{ProblemParts}
 use Rattle.kat_model.specs.Relations.{Same}
 use Rattle.kat_model.specs.Strings.{GuardedString}
@@ -9,13 +9,17 @@ use Rattle.certificate.specs.Accepted.{IsAccepted}
 use Rattle.certificate.specs.declared.evidence.Evidence.{Evidence}
 use Rattle.certificate.specs.declared.evidence.Evidence.TheVariants.{Equal, Different}
 use Rattle.cert_checker.specs.Answers.{Shows}
-use Rattle.kat_tool.specs.Asking.{Asks, IsSmall}
+use Rattle.problem_file.specs.Files.{FileParts}
+use Rattle.problem_file.specs.Reads.{Reads}
+use Rattle.problem_file.specs.Concrete.{IsConcrete, Agrees}
+use Rattle.kat_tool.specs.Asking.{Asks}
 use Rattle.kat_tool.specs.Posing.{IsRefused, Poses}
 use Rattle.kat_tool.specs.Showing.{Spells, IsNoEvidence, Holds, HoldsNone}
-use Rattle.kat_tool.specs.Steps.{ShelfUse, HasFailedOn, GetsFile}
+use Rattle.kat_tool.specs.Steps.{ShelfUse, HasFailedOn, GetsFile, AsksQuestion}
 use Rattle.kat_tool.specs.Check.{IsChecked, IsRejecting, ChecksBytes, ChecksTexts, Checks, CheckHeadline, AcceptsEqual, AcceptsDifferent, CheckCauses}
 use Rattle.kat_tool.proofs.Contents.{never_past}
-use Rattle.kat_tool.proofs.Steps.{OneStatus, text_asks, gets_posed, gets_asked, gets_none, gets_bytes, reads_spelled, reads_no_evidence, reads_evidence_once}
+use Rattle.kat_tool.proofs.Steps.{OneStatus, reads_said, text_asks, gets_posed, gets_asked, gets_none, gets_bytes, reads_spelled, reads_no_evidence, reads_evidence_once}
+use Rattle.kat_tool.proofs.StoreSentences.{asked_agrees, told_agrees}
 use Rattle.kat_tool.proofs.Ways.{Ways, at_zero, at_one, at_two, at_three, at_four}
 
 -- ---- the reply to bytes
@@ -75,8 +79,18 @@ module _ (q : ProblemParts) (bytes : List ℕ) (status : ℕ) (output : List ℕ
         different = different;
       }
 
-pub texts_headline : (text bytes : List ℕ) (status : ℕ) (output : List ℕ) (q : ProblemParts) → Asks text q → IsSmall q → ChecksTexts text bytes status output → CheckHeadline bytes q status
-texts_headline text bytes status output q asks small r = checked_headline q bytes status output (text_asks text (λ p. ChecksBytes p bytes) status output q asks small r)
+pub texts_headline : (text bytes : List ℕ) (status : ℕ) (output : List ℕ) (q : ProblemParts) → Asks text q → ChecksTexts text bytes status output → CheckHeadline bytes q status
+texts_headline text bytes status output q asks r = checked_headline q bytes status output (text_asks text (λ p. ChecksBytes p bytes) status output q asks r)
+
+-- the goal of a concrete file holds of all its stores where the status is 0
+pub texts_stores : (text bytes : List ℕ) (status : ℕ) (output : List ℕ) (f : FileParts) → Reads text f → IsConcrete f → ChecksTexts text bytes status output → status ≡ 0 → Agrees f
+texts_stores text bytes status output f reads concrete r zero = stores (reads_said text (λ g. AsksQuestion g (λ p. ChecksBytes p bytes)) status output f reads r)
+  where
+    stores : AsksQuestion f (λ p. ChecksBytes p bytes) status output → Agrees f
+    stores (inl refused) = absurd (omega (arith, zero, refused.0))
+    stores (inr (a, is, d)) =
+        let asks : Asks text a.problem = record { file = f; reads = reads; abstract = a; is_abstract = is; question = refl } in
+        asked_agrees text a.problem asks ((checked_headline a.problem bytes status output d).equal zero).3 concrete
 
 checked_once : (q : ProblemParts) (e : Evidence) → OneStatus (IsChecked q e)
 checked_once q e a b o p (inl x) (inl y) = x.has_status ∙ sym y.has_status
@@ -107,7 +121,7 @@ module _ (s : ShelfUse) (file other : List ℕ) (status : ℕ) (output : List �
   shown_ways q poses (inr (inl r)) = absurd (never_past (s.content other) r.1.past)
   shown_ways q poses (inr (inr (bytes, given, inl n))) = inr (inr (inl (n.0, inr (q, poses, (bytes, given.0, n.1)))))
   shown_ways q poses (inr (inr (bytes, given, inr (Equal c, sp, inl a)))) =
-      inl (a.has_status, record { question = q; cert = c; holds = record { poses = poses; bytes = bytes; held = given.0; spells = sp }; accepted = a.shows; same = a.says; printed = a.printed })
+      inl (a.has_status, record { question = q; cert = c; holds = record { poses = poses; bytes = bytes; held = given.0; spells = sp }; accepted = a.shows; same = a.says; stores = asked_agrees poses.text q poses.asks a.says; printed = a.printed })
   shown_ways q poses (inr (inr (bytes, given, inr (Different x, sp, inl a)))) =
       inr (inl (a.has_status, record { question = q; string = x; holds = record { poses = poses; bytes = bytes; held = given.0; spells = sp }; refutes = a.shows; differ = a.says; printed = a.printed }))
   shown_ways q poses (inr (inr (bytes, given, inr (e, sp, inr r)))) =
@@ -129,9 +143,10 @@ module _ (s : ShelfUse) (file other : List ℕ) (status : ℕ) (output : List �
   check_causes r =
       let ways : CheckWays s file other status output = posed_ways (gets_posed s file (GoesOn s other) status output r) in
       record {
-        headline = λ text bytes q is holds unfailed asks small.
+        headline = λ text bytes q is holds unfailed asks.
             checked_headline q bytes status output
-            (gets_bytes s other (ChecksBytes q) bytes status output holds (λ f. unfailed f.0) (gets_asked s file (GoesOn s other) status output text is (λ f. unfailed f.0) r q asks small));
+            (gets_bytes s other (ChecksBytes q) bytes status output holds (λ f. unfailed f.0) (gets_asked s file (GoesOn s other) status output text is (λ f. unfailed f.0) r q asks));
+        same_stores = λ text f is unfailed reads concrete zero. let t = at_zero status _ _ _ _ _ ways zero in told_agrees (s.content file) t.question t.holds.poses t.same text f is reads concrete;
         declined = λ text line is unfailed none. gets_none s file (GoesOn s other) status output text is unfailed r line none;
         accepted_equal = at_zero status _ _ _ _ _ ways;
         accepted_different = at_one status _ _ _ _ _ ways;

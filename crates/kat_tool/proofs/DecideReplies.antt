@@ -1,11 +1,15 @@
 -- The reply of `decide` is the statement on the question, and has its cause.
-use Rattle.std.proofs.Common.{◌≡◌, ◌⊎◌, ℕ, List, inl, inr, sym, ◌∙◌, arith}
+use Rattle.std.proofs.Common.{◌≡◌, ◌⊎◌, ℕ, List, inl, inr, refl, sym, ◌∙◌, arith}
 use Rattle.kat_model.specs.Problems.{ProblemParts}
-use Rattle.kat_tool.specs.Asking.{Asks, IsSmall}
+use Rattle.problem_file.specs.Files.{FileParts}
+use Rattle.problem_file.specs.Reads.{Reads}
+use Rattle.problem_file.specs.Concrete.{IsConcrete, Agrees}
+use Rattle.kat_tool.specs.Asking.{Asks}
 use Rattle.kat_tool.specs.Posing.{IsRefused, Poses}
-use Rattle.kat_tool.specs.Steps.{ShelfUse, HasFailedOn}
-use Rattle.kat_tool.specs.Decide.{IsEqual, IsDifferent, IsDecided, DecidesText, Decides, Headline, DecideCauses}
-use Rattle.kat_tool.proofs.Steps.{OneStatus, text_asks, gets_posed, gets_asked, gets_none}
+use Rattle.kat_tool.specs.Steps.{ShelfUse, HasFailedOn, AsksQuestion}
+use Rattle.kat_tool.specs.Decide.{TellsEqual, IsDifferent, IsDecided, DecidesText, Decides, Headline, DecideCauses}
+use Rattle.kat_tool.proofs.Steps.{OneStatus, reads_said, text_asks, gets_posed, gets_asked, gets_none}
+use Rattle.kat_tool.proofs.StoreSentences.{asked_agrees, told_agrees}
 use Rattle.kat_tool.proofs.Ways.{Ways, at_zero, at_one, at_two, at_four}
 
 pub not_both : (status : ℕ) → status ≡ 0 → status ≡ 1 → ⊥
@@ -27,8 +31,18 @@ decided_headline q status output (inr h) = record {
   string = λ e. (h.1.string, h.1.shortest, h.1.printed.text);
 }
 
-pub text_headline : (text : List ℕ) (status : ℕ) (output : List ℕ) (q : ProblemParts) → Asks text q → IsSmall q → DecidesText text status output → Headline q status output
-text_headline text status output q asks small r = decided_headline q status output (text_asks text IsDecided status output q asks small r)
+pub text_headline : (text : List ℕ) (status : ℕ) (output : List ℕ) (q : ProblemParts) → Asks text q → DecidesText text status output → Headline q status output
+text_headline text status output q asks r = decided_headline q status output (text_asks text IsDecided status output q asks r)
+
+-- the goal of a concrete file holds of all its stores where the status is 0
+pub text_stores : (text : List ℕ) (status : ℕ) (output : List ℕ) (f : FileParts) → Reads text f → IsConcrete f → DecidesText text status output → status ≡ 0 → Agrees f
+text_stores text status output f reads concrete r zero = stores (reads_said text (λ g. AsksQuestion g IsDecided) status output f reads r)
+  where
+    stores : AsksQuestion f IsDecided status output → Agrees f
+    stores (inl refused) = absurd (omega (arith, zero, refused.0))
+    stores (inr (a, is, d)) =
+        let asks : Asks text a.problem = record { file = f; reads = reads; abstract = a; is_abstract = is; question = refl } in
+        asked_agrees text a.problem asks ((decided_headline a.problem status output d).equal.0 zero) concrete
 
 pub decided_once : (q : ProblemParts) → OneStatus (IsDecided q)
 decided_once q a b o p (inl h) y = h.0 ∙ sym ((decided_headline q b p y).equal.1 h.1.same)
@@ -37,13 +51,13 @@ decided_once q a b o p (inr h) y = h.0 ∙ sym ((decided_headline q b p y).diffe
 -- the ways in which a reply to a file comes
 abbrev DecideWays : ShelfUse → List ℕ → ℕ → List ℕ → Type 0
 DecideWays s file status output =
-    Ways status ((q : ProblemParts) × Poses (s.content file) q × IsEqual q output) ((q : ProblemParts) × Poses (s.content file) q × IsDifferent q output) (IsRefused (s.content file) output) ⊥ (HasFailedOn s file status output)
+    Ways status (TellsEqual (s.content file) output) ((q : ProblemParts) × Poses (s.content file) q × IsDifferent q output) (IsRefused (s.content file) output) ⊥ (HasFailedOn s file status output)
 
 module _ (s : ShelfUse) (file : List ℕ) (status : ℕ) (output : List ℕ) where
   posed_ways : HasFailedOn s file status output ⊎ (((status ≡ 2) × IsRefused (s.content file) output) ⊎ ((q : ProblemParts) × Poses (s.content file) q × IsDecided q status output)) → DecideWays s file status output
   posed_ways (inl f) = inr (inr (inr (inr (f.has_status, f))))
   posed_ways (inr (inl h)) = inr (inr (inl h))
-  posed_ways (inr (inr (q, poses, inl h))) = inl (h.0, (q, poses, h.1))
+  posed_ways (inr (inr (q, poses, inl h))) = inl (h.0, record { question = q; poses = poses; is_equal = h.1; stores = asked_agrees poses.text q poses.asks h.1.same })
   posed_ways (inr (inr (q, poses, inr h))) = inr (inl (h.0, (q, poses, h.1)))
 
   answers : DecideWays s file status output → (status ≡ 0) ⊎ ((status ≡ 1) ⊎ ((status ≡ 2) ⊎ (status ≡ 4)))
@@ -57,7 +71,8 @@ module _ (s : ShelfUse) (file : List ℕ) (status : ℕ) (output : List ℕ) whe
   decide_causes r =
       let ways : DecideWays s file status output = posed_ways (gets_posed s file IsDecided status output r) in
       record {
-        headline = λ text q is unfailed asks small. decided_headline q status output (gets_asked s file IsDecided status output text is (λ f. unfailed f.0) r q asks small);
+        headline = λ text q is unfailed asks. decided_headline q status output (gets_asked s file IsDecided status output text is (λ f. unfailed f.0) r q asks);
+        same_stores = λ text f is unfailed reads concrete zero. let t = at_zero status _ _ _ _ _ ways zero in told_agrees (s.content file) t.question t.poses t.is_equal.same text f is reads concrete;
         declined = λ text line is unfailed none. gets_none s file IsDecided status output text is unfailed r line none;
         equal = at_zero status _ _ _ _ _ ways;
         different = at_one status _ _ _ _ _ ways;

@@ -8,18 +8,18 @@ use Rattle.problem_file.specs.Files.{FileParts}
 use Rattle.problem_file.specs.Reads.{Reads}
 use Rattle.kat_tool.specs.declared.reply.Reply.{Reply}
 use Rattle.kat_tool.specs.declared.reply.Stop.{Stop}
-use Rattle.kat_tool.specs.Asking.{HasQuestion, Asks, IsSmall}
+use Rattle.kat_tool.specs.Asking.{Asks}
 use Rattle.kat_tool.specs.Held.{IsGiven}
 use Rattle.kat_tool.specs.Posing.{AsksNone, PosesNone}
 use Rattle.kat_tool.specs.Steps.{ShelfUse, Replying, IsRefusal, GetsFile, GetsText, AsksText, shelf_use}
-use Rattle.kat_tool.specs.Working.Outcomes.{IsOutcome, IsReplied, IsUngiven, IsPosedBy}
+use Rattle.kat_tool.specs.Working.Outcomes.{IsOutcome, IsReplied, IsUngiven, IsQuestionOf, IsPosedBy}
 use Rattle.kat_tool.proofs.Contents.{never_past}
 use Rattle.kat_tool.proofs.Outcomes.{IsStop-weaker, IsReplied-weaker}
 
--- what is asked of what a text says is the problem that it poses
-pub state_poses : (text : List ℕ) (s : FileParts) → Reads text s → (result : Result ProblemParts Stop) → IsOutcome (λ q. HasQuestion s q × IsSmall q) (IsRefusal (AsksNone s)) result → IsPosedBy text result
-state_poses text s says (Ok q) h = (record { file = s; reads = says; asks = h.0 }, h.1)
-state_poses text s says (Err stop) h = IsStop-weaker (IsRefusal (AsksNone s)) (IsRefusal (PosesNone text)) (λ status output r. (r.0, inr (s, says, r.1))) stop h
+-- the question of what a text says is the problem that it poses
+pub file_poses : (text : List ℕ) (f : FileParts) → Reads text f → (result : Result ProblemParts Stop) → IsOutcome (IsQuestionOf f) (IsRefusal (AsksNone f)) result → IsPosedBy text result
+file_poses text f reads (Ok q) h = record { file = f; reads = reads; abstract = h.0; is_abstract = h.1; question = h.2 }
+file_poses text f reads (Err stop) h = IsStop-weaker (IsRefusal (AsksNone f)) (IsRefusal (PosesNone text)) (λ status output r. (r.0, inr (f, reads, r.1))) stop h
 
 -- a text that poses no problem is refused, and to one that does the reply is that to its problem
 module _ (text : List ℕ) (GoesOn : ProblemParts → Replying) where
@@ -27,13 +27,13 @@ module _ (text : List ℕ) (GoesOn : ProblemParts → Replying) where
   text_refused status output (two, inl f) = inl (two, f)
   text_refused status output (two, inr (a, says, n)) = inr (a, says, inl (two, n))
 
-  pub text_posed : (status : ℕ) (output : List ℕ) (q : ProblemParts) → Asks text q × IsSmall q → GoesOn q status output → AsksText text GoesOn status output
-  text_posed status output q asks r = inr (asks.0.file, asks.0.reads, inr (q, (asks.0.asks, asks.1), r))
+  pub text_posed : (status : ℕ) (output : List ℕ) (q : ProblemParts) → Asks text q → GoesOn q status output → AsksText text GoesOn status output
+  text_posed status output q asks r = inr (asks.file, asks.reads, inr (asks.abstract, asks.is_abstract, subst (λ p. GoesOn p status output) asks.question r))
 
   pub refused_replied : (result : Result Reply Stop) → IsReplied (IsRefusal (PosesNone text)) result → IsReplied (AsksText text GoesOn) result
   refused_replied result r = IsReplied-weaker (IsRefusal (PosesNone text)) (AsksText text GoesOn) text_refused result r
 
-  pub posed_replied : (q : ProblemParts) → Asks text q × IsSmall q → (result : Result Reply Stop) → IsReplied (GoesOn q) result → IsReplied (AsksText text GoesOn) result
+  pub posed_replied : (q : ProblemParts) → Asks text q → (result : Result Reply Stop) → IsReplied (GoesOn q) result → IsReplied (AsksText text GoesOn) result
   posed_replied q asks result r = IsReplied-weaker (GoesOn q) (AsksText text GoesOn) (λ status output h. text_posed status output q asks h) result r
 
 -- the same of the text of a file
@@ -44,7 +44,7 @@ module _ (s : ShelfUse) (file text items : List ℕ) (GoesOn : ProblemParts → 
   pub none_replied : IsReplied (IsRefusal (PosesNone text)) result → IsReplied (GetsText s file (λ t. AsksText t GoesOn)) result
   none_replied r = IsReplied-weaker (IsRefusal (PosesNone text)) (GetsText s file (λ t. AsksText t GoesOn)) (λ status output h. inr (inr (text, given_text, text_refused text GoesOn status output h))) result r
 
-  pub asked_replied : (q : ProblemParts) → Asks text q × IsSmall q → IsReplied (GoesOn q) result → IsReplied (GetsText s file (λ t. AsksText t GoesOn)) result
+  pub asked_replied : (q : ProblemParts) → Asks text q → IsReplied (GoesOn q) result → IsReplied (GetsText s file (λ t. AsksText t GoesOn)) result
   asked_replied q asks r =
       IsReplied-weaker (GoesOn q) (GetsText s file (λ t. AsksText t GoesOn))
       (λ status output h. inr (inr (text, given_text, text_posed text GoesOn status output q asks h)))

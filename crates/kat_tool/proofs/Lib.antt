@@ -1,14 +1,16 @@
 pub mod Contents
 pub mod Outcomes
 pub mod Decided
-pub mod Asked
+pub mod Ranges
 pub mod Steps
 pub mod Files
+pub mod StoreSentences
 pub mod Ways
 pub mod DecideReplies
 pub mod CheckReplies
 pub mod ReplayReplies
 pub mod StoreValues
+pub mod ShowReplies
 pub mod RunOutcomes
 pub mod RunReplies
 pub mod Calls

@@ -9,7 +9,7 @@ use Rattle.string_tables.proofs.Fitting.{no_misfit_is_string, string_has_no_misf
 use Rattle.certificate.specs.declared.evidence.Evidence.{Evidence}
 use Rattle.certificate.specs.declared.evidence.Evidence.TheVariants.{Equal, Different}
 use Rattle.kat_report.specs.Replays.{replay_text, Fits}
-use Rattle.kat_tool.specs.Asking.{Asks, IsSmall}
+use Rattle.kat_tool.specs.Asking.{Asks}
 use Rattle.kat_tool.specs.Posing.{IsRefused, Poses}
 use Rattle.kat_tool.specs.Showing.{Spells, IsNoEvidence, Holds, HoldsNone}
 use Rattle.kat_tool.specs.Steps.{ShelfUse, HasFailedOn, GetsFile}
@@ -81,8 +81,8 @@ module _ (q : ProblemParts) (bytes : List ℕ) (status : ℕ) (output : List ℕ
         told = λ e. let h = told e in (h.0, h.2.1.0, h.1, h.2.1.1, h.2.1.2, h.2.1.3);
       }
 
-pub texts_headline : (text bytes : List ℕ) (status : ℕ) (output : List ℕ) (q : ProblemParts) → Asks text q → IsSmall q → ReplaysTexts text bytes status output → ReplayHeadline bytes q status output
-texts_headline text bytes status output q asks small r = replayed_headline q bytes status output (text_asks text (λ p. ReplaysBytes p bytes) status output q asks small r)
+pub texts_headline : (text bytes : List ℕ) (status : ℕ) (output : List ℕ) (q : ProblemParts) → Asks text q → ReplaysTexts text bytes status output → ReplayHeadline bytes q status output
+texts_headline text bytes status output q asks r = replayed_headline q bytes status output (text_asks text (λ p. ReplaysBytes p bytes) status output q asks r)
 
 replayed_once : (q : ProblemParts) (e : Evidence) → OneStatus (IsReplayed q e)
 replayed_once q (Equal c) a b o p x y = x.0 ∙ sym y.0
@@ -136,9 +136,9 @@ module _ (s : ShelfUse) (file other : List ℕ) (status : ℕ) (output : List �
   replay_causes r =
       let ways : ReplayWays s file other status output = posed_ways (gets_posed s file (GoesOn s other) status output r) in
       record {
-        headline = λ text bytes q is holds unfailed asks small.
+        headline = λ text bytes q is holds unfailed asks.
             replayed_headline q bytes status output
-            (gets_bytes s other (ReplaysBytes q) bytes status output holds (λ f. unfailed f.0) (gets_asked s file (GoesOn s other) status output text is (λ f. unfailed f.0) r q asks small));
+            (gets_bytes s other (ReplaysBytes q) bytes status output holds (λ f. unfailed f.0) (gets_asked s file (GoesOn s other) status output text is (λ f. unfailed f.0) r q asks));
         declined = λ text line is unfailed none. gets_none s file (GoesOn s other) status output text is unfailed r line none;
         replayed = at_zero status _ _ _ _ _ ways;
         refused = at_two status _ _ _ _ _ ways;

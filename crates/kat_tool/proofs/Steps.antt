@@ -1,6 +1,5 @@
 -- Each step of a reply has one outcome: where it may go on with something, it goes on with that alone or stops with one reply.
-use Rattle.std.proofs.Common.{◌≡◌, ◌⊎◌, ◌<◌, ℕ, List, [], length, Option, None, Some, inl, inr, ⊎_elim, refl, sym, subst, ap, ◌∙◌, arith}
-use Rattle.std.proofs.lemmas.Bool.{false≢true}
+use Rattle.std.proofs.Common.{◌≡◌, ◌⊎◌, ◌<◌, ℕ, List, [], length, Option, None, Some, Result, Ok, Err, inl, inr, ⊎_elim, refl, sym, subst, ap, ◌∙◌}
 use Rattle.kat_model.specs.declared.limits.TheConstants.{MAX_TEXT_BYTES}
 use Rattle.kat_model.specs.Problems.{ProblemParts}
 use Rattle.kat_io.specs.Told.{Untold, Holds}
@@ -15,10 +14,12 @@ use Rattle.certificate.proofs.Exactness.{texts_differ_lem, is_text_or_faulty_lem
 use Rattle.problem_file.specs.Files.{FileParts}
 use Rattle.problem_file.specs.Reads.{Reads, too_long}
 use Rattle.problem_file.proofs.OneAnswer.{have_one_answer}
-use Rattle.kat_tool.specs.Asking.{HasQuestion, Asks, IsSmall}
-use Rattle.kat_tool.specs.Posing.{IsFaulty, IsNotYet, AsksNone, PosesNone, MaySay, MaySayNone, IsRefused, Poses, too_long_line}
+use Rattle.abstraction.specs.Abstracts.{AbstractParts, abstract_of}
+use Rattle.abstract_texts.specs.Refusals.{abstract_fault_line}
+use Rattle.kat_tool.specs.Asking.{Asks}
+use Rattle.kat_tool.specs.Posing.{IsFaulty, AsksNone, PosesNone, MaySay, MaySayNone, IsRefused, Poses, too_long_line}
 use Rattle.kat_tool.specs.Showing.{Spells}
-use Rattle.kat_tool.specs.Steps.{ShelfUse, Replying, FailsOn, HasFailedOn, GetsFile, GetsText, ReadsText, AsksQuestion, AsksText, ReadsEvidence}
+use Rattle.kat_tool.specs.Steps.{ShelfUse, Replying, FailsOn, HasFailedOn, GetsFile, GetsText, ReadsText, AbstractsFile, AsksQuestion, AsksText, ReadsEvidence}
 use Rattle.kat_tool.proofs.Contents.{past_within, held_same, held_past, told_bytes, told_past}
 
 -- two such replies have one status
@@ -70,49 +71,52 @@ pub reads_once : (text : List ℕ) (GoesOn : FileParts → Replying) → ((s : F
 reads_once text GoesOn once a b o p (inl r) y = r.0 ∙ sym (reads_faulty text GoesOn b p o r.1 y).0
 reads_once text GoesOn once a b o p (inr g) y = once g.0 a b o p g.2 (reads_said text GoesOn b p g.0 g.1 y)
 
--- ---- its question is asked
+-- ---- what was read is abstracted
 
-module _ (s : FileParts) where
-  one_question : (q r : ProblemParts) → HasQuestion s q → HasQuestion s r → q ≡ r
-  one_question q r x y = x.question ∙ sym y.question
+-- a result is one value or one error
+module _ {X Y : Type 0} (r : Result X Y) where
+  one_value : (x y : X) → r ≡ Ok x → r ≡ Ok y → x ≡ y
+  one_value x y e h = let both : Ok x ≡ Ok y = sym e ∙ h in cc
 
-  asks_plain : (q : ProblemParts) (line : List ℕ) → HasQuestion s q → IsNotYet s line → ⊥
-  asks_plain q line x y = false≢true (sym x.plain ∙ y.later)
+  one_error : (x y : Y) → r ≡ Err x → r ≡ Err y → x ≡ y
+  one_error x y e h = let both : Err x ≡ Err y = sym e ∙ h in cc
 
-  asked_not_none : (q : ProblemParts) (line : List ℕ) → HasQuestion s q → IsSmall q → AsksNone s line → ⊥
-  asked_not_none q line x small (inl l) =
-      let smaller : IsSmall l.question = subst IsSmall (one_question q l.question x l.asks) small in
-      let large = l.large in
-      omega (arith, smaller, large)
-  asked_not_none q line x small (inr n) = asks_plain q line x n
+  not_both : (x : X) (y : Y) → r ≡ Ok x → r ≡ Err y → ⊥
+  not_both x y e h = let both : Ok x ≡ Err y = sym e ∙ h in absurd cc
 
-  one_line : (a b : List ℕ) → AsksNone s a → AsksNone s b → a ≡ b
-  one_line a b (inl x) (inl y) = x.printed ∙ sym y.printed
-  one_line a b (inl x) (inr y) = absurd (asks_plain x.question b x.asks y)
-  one_line a b (inr x) (inl y) = absurd (asks_plain y.question a y.asks x)
-  one_line a b (inr x) (inr y) = x.printed ∙ sym y.printed
+module _ (f : FileParts) where
+  one_line : (a b : List ℕ) → AsksNone f a → AsksNone f b → a ≡ b
+  one_line a b x y = x.printed ∙ ap abstract_fault_line (one_error (abstract_of f) x.fault y.fault x.has_none y.has_none) ∙ sym y.printed
 
-  module _ (GoesOn : ProblemParts → Replying) (status : ℕ) (output : List ℕ) where
-    pub asks_question : (q : ProblemParts) → HasQuestion s q → IsSmall q → AsksQuestion s GoesOn status output → GoesOn q status output
-    asks_question q x small (inl r) = absurd (asked_not_none q output x small r.1)
-    asks_question q x small (inr g) = subst (λ p. GoesOn p status output) (one_question g.0 q g.1.0 x) g.2
+  module _ (GoesOn : AbstractParts → Replying) (status : ℕ) (output : List ℕ) where
+    pub abstracts_as : (a : AbstractParts) → abstract_of f ≡ Ok a → AbstractsFile f GoesOn status output → GoesOn a status output
+    abstracts_as a is (inl r) = absurd (not_both (abstract_of f) a r.1.fault is r.1.has_none)
+    abstracts_as a is (inr g) = subst (λ x. GoesOn x status output) (one_value (abstract_of f) g.0 a g.1 is) g.2
 
-    pub asks_none : (line : List ℕ) → AsksNone s line → AsksQuestion s GoesOn status output → (status ≡ 2) × (output ≡ line)
-    asks_none line n (inl r) = (r.0, one_line output line r.1 n)
-    asks_none line n (inr g) = absurd (asked_not_none g.0 line g.1.0 g.1.1 n)
+    pub abstracts_none : (line : List ℕ) → AsksNone f line → AbstractsFile f GoesOn status output → (status ≡ 2) × (output ≡ line)
+    abstracts_none line n (inl r) = (r.0, one_line output line r.1 n)
+    abstracts_none line n (inr g) = absurd (not_both (abstract_of f) g.0 n.fault g.1 n.has_none)
 
-pub asks_once : (s : FileParts) (GoesOn : ProblemParts → Replying) → ((q : ProblemParts) → OneStatus (GoesOn q)) → OneStatus (AsksQuestion s GoesOn)
-asks_once s GoesOn once a b o p (inl r) y = r.0 ∙ sym (asks_none s GoesOn b p o r.1 y).0
-asks_once s GoesOn once a b o p (inr g) y = once g.0 a b o p g.2 (asks_question s GoesOn b p g.0 g.1.0 g.1.1 y)
+pub abstracts_once : (f : FileParts) (GoesOn : AbstractParts → Replying) → ((a : AbstractParts) → OneStatus (GoesOn a)) → OneStatus (AbstractsFile f GoesOn)
+abstracts_once f GoesOn once a b o p (inl r) y = r.0 ∙ sym (abstracts_none f GoesOn b p o r.1 y).0
+abstracts_once f GoesOn once a b o p (inr g) y = once g.0 a b o p g.2 (abstracts_as f GoesOn b p g.0 g.1 y)
 
 -- ---- both
 
-module _ (text : List ℕ) (GoesOn : ProblemParts → Replying) (status : ℕ) (output : List ℕ) where
-  pub text_asks : (q : ProblemParts) → Asks text q → IsSmall q → AsksText text GoesOn status output → GoesOn q status output
-  text_asks q x small r = asks_question x.file GoesOn status output q x.asks small (reads_said text (λ s. AsksQuestion s GoesOn) status output x.file x.reads r)
+-- the question of a text is that of its one file
+pub text_asks : (text : List ℕ) (GoesOn : ProblemParts → Replying) (status : ℕ) (output : List ℕ) (q : ProblemParts) → Asks text q → AsksText text GoesOn status output → GoesOn q status output
+text_asks text GoesOn status output q x r =
+    subst (λ p. GoesOn p status output) (sym x.question)
+    (abstracts_as x.file (λ a. GoesOn a.problem) status output x.abstract x.is_abstract (reads_said text (λ f. AsksQuestion f GoesOn) status output x.file x.reads r))
+
+-- a text that poses no problem, in any step that abstracts it
+pub abstracted_none : (text : List ℕ) (GoesOn : FileParts → AbstractParts → Replying) (status : ℕ) (output line : List ℕ) → PosesNone text line → ReadsText text (λ f. AbstractsFile f (GoesOn f)) status output → (status ≡ 2) × (output ≡ line)
+abstracted_none text GoesOn status output line (inl fault) r = reads_faulty text (λ f. AbstractsFile f (GoesOn f)) status output line fault r
+abstracted_none text GoesOn status output line (inr h) r =
+    abstracts_none h.0 (GoesOn h.0) status output line h.2 (reads_said text (λ f. AbstractsFile f (GoesOn f)) status output h.0 h.1 r)
 
 pub text_once : (text : List ℕ) (GoesOn : ProblemParts → Replying) → ((q : ProblemParts) → OneStatus (GoesOn q)) → OneStatus (AsksText text GoesOn)
-text_once text GoesOn once = reads_once text (λ s. AsksQuestion s GoesOn) (λ s. asks_once s GoesOn once)
+text_once text GoesOn once = reads_once text (λ f. AsksQuestion f GoesOn) (λ f. abstracts_once f (λ a. GoesOn a.problem) (λ a. once a.problem))
 
 -- a text that is too long is faulty
 long_faulty : (text : List ℕ) → MAX_TEXT_BYTES < length text → IsFaulty text too_long_line
@@ -128,25 +132,19 @@ module _ (s : ShelfUse) (file : List ℕ) (GoesOn : FileParts → Replying) (sta
   gets_read (inr (inr (text, given, inr (f, reads, g)))) = inr (inr (f, record { text = text; given = given; reads = reads }, g))
 
   module _ (text : List ℕ) (is : s.content file ≡ Holds text) (unfailed : FailsOn s file → ⊥) (r : GetsText s file (λ t. ReadsText t GoesOn) status output) where
-    abbrev Within : Type 0
-    Within = (IsPast (length text) (Some MAX_TEXT_BYTES) × (status ≡ 2) × (output ≡ too_long_line)) ⊎ (IsWithin (length text) (Some MAX_TEXT_BYTES) × ReadsText text GoesOn status output)
-
-    told : Within
-    told = gets_told s file (Some MAX_TEXT_BYTES) too_long_line (λ t. ReadsText t GoesOn) text status output is unfailed r
+    -- what is told of a text that is too long is what is told of any that is faulty
+    pub gets_text : ReadsText text GoesOn status output
+    gets_text = read (gets_told s file (Some MAX_TEXT_BYTES) too_long_line (λ t. ReadsText t GoesOn) text status output is unfailed r)
+      where
+        read : (IsPast (length text) (Some MAX_TEXT_BYTES) × (status ≡ 2) × (output ≡ too_long_line)) ⊎ (IsWithin (length text) (Some MAX_TEXT_BYTES) × ReadsText text GoesOn status output) → ReadsText text GoesOn status output
+        read (inl h) = inl (h.1, subst (IsFaulty text) (sym h.2) (long_faulty text h.0))
+        read (inr h) = h.1
 
     pub gets_said : (f : FileParts) → Reads text f → GoesOn f status output
-    gets_said f reads = said told
-      where
-        said : Within → GoesOn f status output
-        said (inl h) = absurd (have_one_answer.either text f TooLong reads (too_long refl h.0))
-        said (inr h) = reads_said text GoesOn status output f reads h.1
+    gets_said f reads = reads_said text GoesOn status output f reads gets_text
 
     pub gets_faulty : (line : List ℕ) → IsFaulty text line → (status ≡ 2) × (output ≡ line)
-    gets_faulty line fault = faulty told
-      where
-        faulty : Within → (status ≡ 2) × (output ≡ line)
-        faulty (inl h) = (h.1, h.2 ∙ (reads_faulty text GoesOn 2 too_long_line line fault (inl (refl, long_faulty text h.0))).1)
-        faulty (inr h) = reads_faulty text GoesOn status output line fault h.1
+    gets_faulty line fault = reads_faulty text GoesOn status output line fault gets_text
 
 module _ (s : ShelfUse) (file : List ℕ) (GoesOn : ProblemParts → Replying) (status : ℕ) (output : List ℕ) where
   -- the reply to a file, by what the text that it may hold asks
@@ -156,15 +154,14 @@ module _ (s : ShelfUse) (file : List ℕ) (GoesOn : ProblemParts → Replying) (
   gets_posed (inr (inl r)) = inr (inl (r.0, inl r.1))
   gets_posed (inr (inr (text, given, inl r))) = inr (inl (r.0, inr (text, given, inl r.1)))
   gets_posed (inr (inr (text, given, inr (a, says, inl r)))) = inr (inl (r.0, inr (text, given, inr (a, says, r.1))))
-  gets_posed (inr (inr (text, given, inr (a, says, inr (q, asks, g))))) = inr (inr (q, record { text = text; given = given; asks = record { file = a; reads = says; asks = asks.0 }; small = asks.1 }, g))
+  gets_posed (inr (inr (text, given, inr (a, says, inr (b, is, g))))) = inr (inr (b.problem, record { text = text; given = given; asks = record { file = a; reads = says; abstract = b; is_abstract = is; question = refl } }, g))
 
   module _ (text : List ℕ) (is : s.content file ≡ Holds text) (unfailed : FailsOn s file → ⊥) (r : GetsText s file (λ t. AsksText t GoesOn) status output) where
-    pub gets_asked : (q : ProblemParts) → Asks text q → IsSmall q → GoesOn q status output
-    gets_asked q asks small = asks_question asks.file GoesOn status output q asks.asks small (gets_said s file (λ f. AsksQuestion f GoesOn) status output text is unfailed r asks.file asks.reads)
+    pub gets_asked : (q : ProblemParts) → Asks text q → GoesOn q status output
+    gets_asked q asks = text_asks text GoesOn status output q asks (gets_text s file (λ f. AsksQuestion f GoesOn) status output text is unfailed r)
 
     pub gets_none : (line : List ℕ) → PosesNone text line → (status ≡ 2) × (output ≡ line)
-    gets_none line (inl fault) = gets_faulty s file (λ f. AsksQuestion f GoesOn) status output text is unfailed r line fault
-    gets_none line (inr h) = asks_none h.0 GoesOn status output line h.2 (gets_said s file (λ f. AsksQuestion f GoesOn) status output text is unfailed r h.0 h.1)
+    gets_none line none = abstracted_none text (λ f a. GoesOn a.problem) status output line none (gets_text s file (λ f. AsksQuestion f GoesOn) status output text is unfailed r)
 
 -- ---- evidence is read
 

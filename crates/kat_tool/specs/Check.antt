@@ -6,6 +6,9 @@ use Rattle.kat_model.specs.Strings.{GuardedString}
 use Rattle.string_tables.specs.Tables.{Refutes}
 use Rattle.kat_io.specs.Told.{Holds as Tells}
 use Rattle.kat_io.specs.Outside.{Rose}
+use Rattle.problem_file.specs.Files.{FileParts}
+use Rattle.problem_file.specs.Reads.{Reads}
+use Rattle.problem_file.specs.Concrete.{IsConcrete, Agrees}
 use Rattle.certificate.specs.Certs.{CertParts}
 use Rattle.certificate.specs.Accepted.{IsAccepted}
 use Rattle.certificate.specs.Faults.{line_fault}
@@ -16,7 +19,7 @@ use Rattle.cert_checker.specs.declared.answer.Reason.{Reason}
 use Rattle.cert_checker.specs.Answers.{Shows, IsFoundBy}
 use Rattle.cert_checker.specs.Laws.{Says}
 use Rattle.kat_report.specs.Reasons.{reason_line}
-use Rattle.kat_tool.specs.Asking.{Asks, IsSmall}
+use Rattle.kat_tool.specs.Asking.{Asks}
 use Rattle.kat_tool.specs.Posing.{PosesNone, IsRefused, Poses}
 use Rattle.kat_tool.specs.Showing.{Spells, Holds, HoldsNone}
 use Rattle.kat_tool.specs.Steps.{ShelfUse, Replying, FailsOn, HasFailedOn, GetsFile, GetsText, AsksText, ReadsEvidence}
@@ -76,13 +79,15 @@ pub record CheckHeadline (evidence : List ℕ) (q : ProblemParts) (status : ℕ)
   pub equal : status ≡ 0 → (c : CertParts) × Spells evidence (Equal c) × IsAccepted q c × Same q
   pub different : status ≡ 1 → (x : GuardedString) × Spells evidence (Different x) × Refutes q x × (Same q → ⊥)
 
--- the evidence is a certificate that is accepted, so both sides are the same
+-- the evidence is a certificate that is accepted, so both sides are the same, and the goal of a concrete file holds of all
+-- its stores
 pub record AcceptsEqual (s : ShelfUse) (file other output : List ℕ) : Type 0 where
   pub question : ProblemParts
   pub cert : CertParts
   pub holds : Holds (s.content file) (s.content other) question (Equal cert)
   pub accepted : IsAccepted question cert
   pub same : Same question
+  pub stores : IsConcrete holds.poses.asks.file → Agrees holds.poses.asks.file
   pub printed : output ≡ codes "accepted equal\n"
 
 -- the evidence is a string that refutes, so they are not
@@ -95,10 +100,12 @@ pub record AcceptsDifferent (s : ShelfUse) (file other output : List ℕ) : Type
   pub printed : output ≡ codes "accepted different\n"
 
 -- What a reply of `check` says of its two files. Where the shelf tells both and did not fail, the statement on `check` holds
--- of the question that the text asks. A text that poses none is refused with its line, whatever there is of the evidence,
--- which is got only after it.
+-- of the question that the text asks. Where what a text says is concrete and the status is 0, its goal holds of all its
+-- stores, whoever wrote the evidence. A text that poses no problem is refused with its line, whatever there is of the
+-- evidence, which is got only after it.
 pub record CheckCauses (s : ShelfUse) (file other : List ℕ) (status : ℕ) (output : List ℕ) : Type 0 where
-  pub headline : (text bytes : List ℕ) (q : ProblemParts) → s.content file ≡ Tells text → s.content other ≡ Tells bytes → (Rose s.before s.now → ⊥) → Asks text q → IsSmall q → CheckHeadline bytes q status
+  pub headline : (text bytes : List ℕ) (q : ProblemParts) → s.content file ≡ Tells text → s.content other ≡ Tells bytes → (Rose s.before s.now → ⊥) → Asks text q → CheckHeadline bytes q status
+  pub same_stores : (text : List ℕ) (f : FileParts) → s.content file ≡ Tells text → (Rose s.before s.now → ⊥) → Reads text f → IsConcrete f → status ≡ 0 → Agrees f
   pub declined : (text line : List ℕ) → s.content file ≡ Tells text → (FailsOn s file → ⊥) → PosesNone text line → (status ≡ 2) × (output ≡ line)
   pub accepted_equal : status ≡ 0 → AcceptsEqual s file other output
   pub accepted_different : status ≡ 1 → AcceptsDifferent s file other output

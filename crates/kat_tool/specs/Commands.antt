@@ -3,13 +3,14 @@ use Rattle.std.specs.Prelude.{ℕ, ◌^◌, List, [], ◌∷◌, Option, None, S
 use Rattle.std.specs.Option.{option_map}
 use Rattle.std.specs.Str.{bytes_eq}
 use Rattle.kat_tool.specs.declared.words.Command.{Command as Chosen}
-use Rattle.kat_tool.specs.declared.words.Command.TheVariants.{Decide, Check, Replay, Run}
+use Rattle.kat_tool.specs.declared.words.Command.TheVariants.{Decide, Show, Check, Replay, Run}
 use Rattle.kat_tool.specs.Numbers.{number_below}
 
 -- a command and its words: the file of the problem, and that of the evidence; or a program of the file, the word of a store
 -- and a number of turns
 pub data Command : Type 0 where
   decide : (file : List ℕ) → Command
+  show : (file : List ℕ) → Command
   check : (file evidence : List ℕ) → Command
   replay : (file evidence : List ℕ) → Command
   run : (file prog store : List ℕ) → (turns : ℕ) → Command
@@ -17,6 +18,7 @@ pub data Command : Type 0 where
 -- a command of the program without the addresses that its words have
 abbrev pub command_seen : Chosen → Command
 command_seen (Decide file) = decide file.now
+command_seen (Show file) = show file.now
 command_seen (Check file evidence) = check file.now evidence.now
 command_seen (Replay file evidence) = replay file.now evidence.now
 command_seen (Run file prog store turns) = run file.now prog.now store.now turns
@@ -28,7 +30,8 @@ is_value (b ∷ bs) = not (b == 45)
 
 -- the commands of one file, of a file and its evidence, and of a file, a program, a store and turns
 abbrev pub with_file : List ℕ → List ℕ → Option Command
-with_file name file = if bytes_eq name (codes "decide") then Some (decide file) else None
+with_file name file =
+    if bytes_eq name (codes "decide") then Some (decide file) else if bytes_eq name (codes "show") then Some (show file) else None
 
 abbrev pub with_evidence : List ℕ → List ℕ → List ℕ → Option Command
 with_evidence name file evidence =
@@ -47,6 +50,7 @@ command_of words = None
 -- the files of a command
 abbrev pub files_of : Command → List (List ℕ)
 files_of (decide file) = file ∷ []
+files_of (show file) = file ∷ []
 files_of (check file evidence) = file ∷ evidence ∷ []
 files_of (replay file evidence) = file ∷ evidence ∷ []
 files_of (run file prog store turns) = file ∷ []

@@ -5,14 +5,17 @@ use Rattle.kat_model.specs.Guarded.{IsGuarded}
 use Rattle.kat_model.specs.Problems.{ProblemParts}
 use Rattle.kat_model.specs.Relations.{Same}
 use Rattle.kat_model.specs.Strings.{GuardedString}
-use Rattle.kat_io.specs.Told.{Holds}
+use Rattle.kat_io.specs.Told.{Told, Holds}
 use Rattle.kat_io.specs.Outside.{Rose}
+use Rattle.problem_file.specs.Files.{FileParts}
+use Rattle.problem_file.specs.Reads.{Reads}
+use Rattle.problem_file.specs.Concrete.{IsConcrete, Agrees}
 use Rattle.certificate.specs.Certs.{CertParts}
 use Rattle.certificate.specs.Accepted.{set_pairs, IsAccepted}
 use Rattle.certificate.specs.Texts.{text_of}
 use Rattle.certificate.specs.declared.evidence.Evidence.TheVariants.{Equal, Different}
 use Rattle.certificate.specs.Decisions.{IsConcise, IsShortest}
-use Rattle.kat_tool.specs.Asking.{Asks, IsSmall}
+use Rattle.kat_tool.specs.Asking.{Asks}
 use Rattle.kat_tool.specs.Posing.{PosesNone, IsRefused, Poses}
 use Rattle.kat_tool.specs.Showing.{Spells}
 use Rattle.kat_tool.specs.Steps.{ShelfUse, Replying, FailsOn, HasFailedOn, GetsText, AsksText}
@@ -54,12 +57,21 @@ pub record Headline (q : ProblemParts) (status : ℕ) (output : List ℕ) : Type
   pub certificate : status ≡ 0 → (c : CertParts) × IsAccepted q c × (output ≡ text_of (Equal c))
   pub string : status ≡ 1 → (x : GuardedString) × IsShortest q x × (output ≡ text_of (Different x))
 
+-- the file poses a problem of which both sides are the same, and where it is concrete its goal holds of all its stores
+pub record TellsEqual (told : Told) (output : List ℕ) : Type 0 where
+  pub question : ProblemParts
+  pub poses : Poses told question
+  pub is_equal : IsEqual question output
+  pub stores : IsConcrete poses.asks.file → Agrees poses.asks.file
+
 -- What a reply of `decide` says of its file. Where the shelf tells the text and did not fail, the headline holds of the
--- question that the text asks. A text that poses none is refused with its line.
+-- question that the text asks; and where what it says is concrete and the status is 0, its goal holds of all its stores. A
+-- text that poses none is refused with its line.
 pub record DecideCauses (s : ShelfUse) (file : List ℕ) (status : ℕ) (output : List ℕ) : Type 0 where
-  pub headline : (text : List ℕ) (q : ProblemParts) → s.content file ≡ Holds text → (Rose s.before s.now → ⊥) → Asks text q → IsSmall q → Headline q status output
+  pub headline : (text : List ℕ) (q : ProblemParts) → s.content file ≡ Holds text → (Rose s.before s.now → ⊥) → Asks text q → Headline q status output
+  pub same_stores : (text : List ℕ) (f : FileParts) → s.content file ≡ Holds text → (Rose s.before s.now → ⊥) → Reads text f → IsConcrete f → status ≡ 0 → Agrees f
   pub declined : (text line : List ℕ) → s.content file ≡ Holds text → (FailsOn s file → ⊥) → PosesNone text line → (status ≡ 2) × (output ≡ line)
-  pub equal : status ≡ 0 → (q : ProblemParts) × Poses (s.content file) q × IsEqual q output
+  pub equal : status ≡ 0 → TellsEqual (s.content file) output
   pub different : status ≡ 1 → (q : ProblemParts) × Poses (s.content file) q × IsDifferent q output
   pub refused : status ≡ 2 → IsRefused (s.content file) output
   pub failed : status ≡ 4 → HasFailedOn s file status output

@@ -8,6 +8,7 @@ pub mod Steps
 pub mod Decide
 pub mod Check
 pub mod Replay
+pub mod Show
 pub mod StoreWords
 pub mod RunTexts
 pub mod Running

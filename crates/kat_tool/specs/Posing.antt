@@ -1,5 +1,5 @@
 -- The problem that a file poses, or why it poses none.
-use Rattle.std.specs.Prelude.{◌≡◌, ◌⊎◌, ℕ, List, true, Option, Some, codes}
+use Rattle.std.specs.Prelude.{◌≡◌, ◌⊎◌, ℕ, List, Option, Some, Err, codes}
 use Rattle.kat_model.specs.declared.limits.TheConstants.{MAX_TEXT_BYTES}
 use Rattle.kat_io.specs.Told.{Told}
 use Rattle.kat_model.specs.Problems.{ProblemParts}
@@ -7,8 +7,11 @@ use Rattle.kat_tokens.specs.declared.fault.TextFault.{TextFault}
 use Rattle.kat_report.specs.Refusals.{text_fault_line}
 use Rattle.problem_file.specs.Files.{FileParts}
 use Rattle.problem_file.specs.Reads.{Reads, FirstFault}
+use Rattle.abstraction.specs.declared.fault.AbstractFault.{AbstractFault}
+use Rattle.abstraction.specs.Abstracts.{abstract_of}
+use Rattle.abstract_texts.specs.Refusals.{abstract_fault_line}
 use Rattle.kat_tool.specs.Held.{MayPass, IsGiven}
-use Rattle.kat_tool.specs.Asking.{is_later, HasQuestion, Asks, IsSmall, IsLarge}
+use Rattle.kat_tool.specs.Asking.{Asks}
 
 -- the text says nothing, and its first fault is printed
 pub record IsFaulty (text output : List ℕ) : Type 0 where
@@ -16,21 +19,11 @@ pub record IsFaulty (text output : List ℕ) : Type 0 where
   pub first : FirstFault text fault
   pub printed : output ≡ text_fault_line fault
 
--- what was read asks a question that has too many nodes
-pub record IsTooLarge (f : FileParts) (output : List ℕ) : Type 0 where
-  pub question : ProblemParts
-  pub asks : HasQuestion f question
-  pub large : IsLarge question
-  pub printed : output ≡ codes "refused: ProblemTooLarge\n"
-
--- a program or a comparison stands in its goal, which is no problem yet
-pub record IsNotYet (f : FileParts) (output : List ℕ) : Type 0 where
-  pub later : is_later f.goal ≡ true
-  pub printed : output ≡ codes "refused: NotYet\n"
-
--- what was read asks no question, and the line that is printed says why
-abbrev pub AsksNone : FileParts → List ℕ → Type 0
-AsksNone f output = IsTooLarge f output ⊎ IsNotYet f output
+-- what was read has no abstraction, and so asks no question, and the line that is printed says why
+pub record AsksNone (f : FileParts) (output : List ℕ) : Type 0 where
+  pub fault : AbstractFault
+  pub has_none : abstract_of f ≡ Err fault
+  pub printed : output ≡ abstract_fault_line fault
 
 -- the text poses no problem, and the line that is printed says why
 abbrev pub PosesNone : List ℕ → List ℕ → Type 0
@@ -64,4 +57,3 @@ pub record Poses (told : Told) (q : ProblemParts) : Type 0 where
   pub text : List ℕ
   pub given : IsGiven told (Some MAX_TEXT_BYTES) text
   pub asks : Asks text q
-  pub small : IsSmall q

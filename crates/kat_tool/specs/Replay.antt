@@ -15,7 +15,7 @@ use Rattle.certificate.specs.declared.evidence.EvidenceFault.{EvidenceFault}
 use Rattle.cert_checker.specs.declared.answer.Reason.TheVariants.{Shape}
 use Rattle.kat_report.specs.Reasons.{reason_line}
 use Rattle.kat_report.specs.Replays.{replay_text, Fits}
-use Rattle.kat_tool.specs.Asking.{Asks, IsSmall}
+use Rattle.kat_tool.specs.Asking.{Asks}
 use Rattle.kat_tool.specs.Posing.{PosesNone, IsRefused, Poses}
 use Rattle.kat_tool.specs.Showing.{Spells, Holds, HoldsNone}
 use Rattle.kat_tool.specs.Steps.{ShelfUse, Replying, FailsOn, HasFailedOn, GetsFile, GetsText, AsksText, ReadsEvidence}
@@ -72,7 +72,7 @@ pub record TellsString (s : ShelfUse) (file other output : List ℕ) : Type 0 wh
 
 -- What a reply of `replay` says of its two files, as for `check`.
 pub record ReplayCauses (s : ShelfUse) (file other : List ℕ) (status : ℕ) (output : List ℕ) : Type 0 where
-  pub headline : (text bytes : List ℕ) (q : ProblemParts) → s.content file ≡ Tells text → s.content other ≡ Tells bytes → (Rose s.before s.now → ⊥) → Asks text q → IsSmall q → ReplayHeadline bytes q status output
+  pub headline : (text bytes : List ℕ) (q : ProblemParts) → s.content file ≡ Tells text → s.content other ≡ Tells bytes → (Rose s.before s.now → ⊥) → Asks text q → ReplayHeadline bytes q status output
   pub declined : (text line : List ℕ) → s.content file ≡ Tells text → (FailsOn s file → ⊥) → PosesNone text line → (status ≡ 2) × (output ≡ line)
   pub replayed : status ≡ 0 → TellsString s file other output
   pub refused : status ≡ 2 → IsRefused (s.content file) output ⊎ HoldsNone (s.content file) (s.content other) output

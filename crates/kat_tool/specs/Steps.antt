@@ -1,5 +1,5 @@
 -- The steps of which the reply of a command is made. At each the command stops with a reply, or goes on.
-use Rattle.std.specs.Prelude.{◌≡◌, ◌⊎◌, ℕ, List, [], ◌∷◌, ◌++◌, Option, Some, codes}
+use Rattle.std.specs.Prelude.{◌≡◌, ◌⊎◌, ℕ, List, [], ◌∷◌, ◌++◌, Option, Some, Ok, codes}
 use Rattle.kat_model.specs.declared.limits.TheConstants.{MAX_TEXT_BYTES}
 use Rattle.kat_model.specs.Problems.{ProblemParts}
 use Rattle.kat_io.specs.Told.{Told}
@@ -7,8 +7,8 @@ use Rattle.kat_io.specs.Outside.{Rose}
 use Rattle.certificate.specs.declared.evidence.Evidence.{Evidence}
 use Rattle.problem_file.specs.Files.{FileParts}
 use Rattle.problem_file.specs.Reads.{Reads}
+use Rattle.abstraction.specs.Abstracts.{AbstractParts, abstract_of}
 use Rattle.kat_tool.specs.Held.{IsGiven}
-use Rattle.kat_tool.specs.Asking.{HasQuestion, IsSmall}
 use Rattle.kat_tool.specs.Posing.{IsFaulty, AsksNone, IsTooLong, too_long_line}
 use Rattle.kat_tool.specs.Showing.{Spells, IsNoEvidence}
 
@@ -57,10 +57,14 @@ GetsText s file GoesOn = GetsFile s file (Some MAX_TEXT_BYTES) too_long_line Goe
 abbrev pub ReadsText : List ℕ → (FileParts → Replying) → Replying
 ReadsText text GoesOn status output = IsRefusal (IsFaulty text) status output ⊎ ((f : FileParts) × Reads text f × GoesOn f status output)
 
--- a question is asked of what was read: there is none, or it is gone on with
+-- what was read is abstracted: it has no abstraction, or that is gone on with
+abbrev pub AbstractsFile : FileParts → (AbstractParts → Replying) → Replying
+AbstractsFile f GoesOn status output =
+    IsRefusal (AsksNone f) status output ⊎ ((a : AbstractParts) × (abstract_of f ≡ Ok a) × GoesOn a status output)
+
+-- its question is asked, which is the problem of its abstraction
 abbrev pub AsksQuestion : FileParts → (ProblemParts → Replying) → Replying
-AsksQuestion f GoesOn status output =
-    IsRefusal (AsksNone f) status output ⊎ ((q : ProblemParts) × (HasQuestion f q × IsSmall q) × GoesOn q status output)
+AsksQuestion f GoesOn = AbstractsFile f (λ a. GoesOn a.problem)
 
 -- both
 abbrev pub AsksText : List ℕ → (ProblemParts → Replying) → Replying

@@ -12,6 +12,7 @@ mod replay;
 mod reply;
 mod run_text;
 mod running;
+mod show;
 mod showing;
 mod store_words;
 mod text;
@@ -20,6 +21,6 @@ mod words;
 
 pub use laws::{causes_exclude, words_give_stores};
 pub use reply::Reply;
-pub use text::{checked_texts, decided_text, replayed_texts, run_reply};
+pub use text::{checked_texts, decided_text, replayed_texts, run_reply, show_reply};
 pub use top::run;
 pub use words::Words;

@@ -43,5 +43,5 @@ pub(crate) fn problem_in(alloc: Global, text: &[u8]) -> Result<Problem, Stop>
     ensures { IsPosedBy text.now result }
 {
     let file = file_of(alloc, text)?;
-    problem_of(alloc, file)
+    problem_of(alloc, &file)
 }

@@ -1,31 +1,36 @@
-//! `decide`, `check`, `replay` and `run` on the bytes of texts, with no outside.
+//! `decide`, `check`, `replay`, `run` and `show` on the bytes of texts, with no outside.
 ghost use Rattle.std.specs.Prelude.{◌≡◌, IfOk};
 ghost use Rattle.kat_model.specs.Problems.{ProblemParts};
 ghost use Rattle.plain_texts.specs.Questions.{question_text, IsPrintable};
 ghost use Rattle.problem_file.specs.Files.{FileParts};
 ghost use Rattle.problem_file.specs.Reads.{Reads};
-ghost use Rattle.kat_tool.specs.Asking.{Asks, IsSmall};
+ghost use Rattle.problem_file.specs.Concrete.{IsConcrete, Agrees};
+ghost use Rattle.kat_tool.specs.Asking.{Asks};
 ghost use Rattle.kat_tool.specs.Decide.{DecidesText, Headline};
 ghost use Rattle.kat_tool.specs.Check.{ChecksTexts, CheckHeadline};
 ghost use Rattle.kat_tool.specs.Replay.{ReplaysTexts, ReplayHeadline};
 ghost use Rattle.kat_tool.specs.Running.{RunsText, RunHeadline};
+ghost use Rattle.kat_tool.specs.Show.{ShowsText, ShowHeadline};
 
 use crate::reply::{Reply, Stop};
-use crate::{check, decide, replay, running};
+use crate::{check, decide, replay, running, show};
 use kat_model::NoMemory;
 use std::alloc::Global;
 
-/// What `decide` answers to the bytes of a text, without a file or an output. Where the text asks a question
-/// within the limits of a problem, the status is 0 or 1: 0 exactly where both sides denote one relation in every
-/// finite table that keeps the hypotheses, with the text of a certificate that is accepted, and 1 exactly where
-/// they do not, with the text of a string that refutes the question, than which none that does has fewer moves.
-/// Otherwise it is 2, with the line that says why. It fails only when out of memory.
+/// What `decide` answers to the bytes of a text, without a file or an output. Where the text asks a question, the
+/// status is 0 or 1: 0 exactly where both sides denote one relation in every finite table that keeps the
+/// hypotheses, with the text of a certificate that is accepted, and 1 exactly where they do not, with the text of a
+/// string that refutes the question, than which none that does has fewer moves. Otherwise it is 2, with the line
+/// that says why. Where the text says a concrete file and the status is 0, the file's goal holds of all its stores:
+/// both programs end in the same stores from each, or the triple holds of every run that ends. It fails only when
+/// out of memory.
 pub fn decided_text(alloc: Global, text: &[u8]) -> Result<Reply, NoMemory>
     // Of the plainest text of a question, whose meaning needs no grammar, and of every text.
     ensures plain { (q : ProblemParts) → IsPrintable q → text.now ≡ question_text q
         → IfOk result (λ r. Headline q r.status r.output.items) }
-    ensures headline { (q : ProblemParts) → Asks text.now q → IsSmall q
+    ensures headline { (q : ProblemParts) → Asks text.now q
         → IfOk result (λ r. Headline q r.status r.output.items) }
+    ensures stores { (f : FileParts) → Reads text.now f → IsConcrete f → IfOk result (λ r. r.status ≡ 0 → Agrees f) }
     ensures replies { IfOk result (λ r. DecidesText text.now r.status r.output.items) }
 {
     match decide::text_reply(alloc, text) {
@@ -35,15 +40,16 @@ pub fn decided_text(alloc: Global, text: &[u8]) -> Result<Reply, NoMemory>
     }
 }
 
-/// What `check` answers to the bytes of a text and of evidence, whoever wrote it. Where the text asks a question
-/// within the limits of a problem, the status is that of the evidence: 0 exactly where it is the text of a
-/// certificate that is accepted, and then both sides denote one relation in every finite table that keeps the
-/// hypotheses; 1 exactly where it is the text of a string that refutes the question, and then they do not; 2
-/// exactly where it is the text of no evidence, and 3 exactly where it does not show what it says. It fails only
-/// when out of memory.
+/// What `check` answers to the bytes of a text and of evidence, whoever wrote it. Where the text asks a question,
+/// the status is that of the evidence: 0 exactly where it is the text of a certificate that is accepted, and then
+/// both sides denote one relation in every finite table that keeps the hypotheses, and the goal of a concrete file
+/// holds of all its stores; 1 exactly where it is the text of a string that refutes the question, and then they do
+/// not; 2 exactly where it is the text of no evidence, and 3 exactly where it does not show what it says. It fails
+/// only when out of memory.
 pub fn checked_texts(alloc: Global, text: &[u8], evidence: &[u8]) -> Result<Reply, NoMemory>
-    ensures headline { (q : ProblemParts) → Asks text.now q → IsSmall q
+    ensures headline { (q : ProblemParts) → Asks text.now q
         → IfOk result (λ r. CheckHeadline evidence.now q r.status) }
+    ensures stores { (f : FileParts) → Reads text.now f → IsConcrete f → IfOk result (λ r. r.status ≡ 0 → Agrees f) }
     ensures replies { IfOk result (λ r. ChecksTexts text.now evidence.now r.status r.output.items) }
 {
     match check::texts_reply(alloc, text, evidence) {
@@ -53,12 +59,12 @@ pub fn checked_texts(alloc: Global, text: &[u8], evidence: &[u8]) -> Result<Repl
     }
 }
 
-/// What `replay` answers to the bytes of a text and of evidence. Where the text asks a question within the limits
-/// of a problem, the status is 0 exactly where the evidence is the text of a string that fits the question, which
-/// is told with what it shows; 2 exactly where it is the text of no evidence, and 3 exactly where it is that of a
-/// string that does not fit, or of a certificate. It fails only when out of memory.
+/// What `replay` answers to the bytes of a text and of evidence. Where the text asks a question, the status is 0
+/// exactly where the evidence is the text of a string that fits the question, which is told with what it shows; 2
+/// exactly where it is the text of no evidence, and 3 exactly where it is that of a string that does not fit, or of
+/// a certificate. It fails only when out of memory.
 pub fn replayed_texts(alloc: Global, text: &[u8], evidence: &[u8]) -> Result<Reply, NoMemory>
-    ensures headline { (q : ProblemParts) → Asks text.now q → IsSmall q
+    ensures headline { (q : ProblemParts) → Asks text.now q
         → IfOk result (λ r. ReplayHeadline evidence.now q r.status r.output.items) }
     ensures replies { IfOk result (λ r. ReplaysTexts text.now evidence.now r.status r.output.items) }
 {
@@ -86,6 +92,19 @@ pub fn run_reply(
     ensures replies { IfOk result (λ r. RunsText text.now prog.now store.now turns r.status r.output.items) }
 {
     match running::text_reply(alloc, text, prog, store, turns) {
+        Ok(reply) => Ok(reply),
+        Err(Stop::Replied(reply)) => Ok(reply),
+        Err(Stop::NoMemory) => Err(NoMemory),
+    }
+}
+
+/// What `show` answers to the bytes of a text. The status is 0 exactly where the text is read and its file has an
+/// abstraction, with the text of that. Otherwise it is 2, with the line that says why. It fails only when out of memory.
+pub fn show_reply(alloc: Global, text: &[u8]) -> Result<Reply, NoMemory>
+    ensures headline { IfOk result (λ r. ShowHeadline text.now r.status r.output.items) }
+    ensures replies { IfOk result (λ r. ShowsText text.now r.status r.output.items) }
+{
+    match show::text_reply(alloc, text) {
         Ok(reply) => Ok(reply),
         Err(Stop::Replied(reply)) => Ok(reply),
         Err(Stop::NoMemory) => Err(NoMemory),

@@ -28,6 +28,8 @@ impl Model for Words {
 pub(crate) enum Command<'a> {
     /// `decide` FILE
     Decide(&'a str),
+    /// `show` FILE
+    Show(&'a str),
     /// `check` FILE EVIDENCE
     Check(&'a str, &'a str),
     /// `replay` FILE EVIDENCE
@@ -93,6 +95,7 @@ fn with_file<'a>(name: &str, file: &'a str) -> Option<Command<'a>>
 {
     match name {
         "decide" => Some(Command::Decide(file)),
+        "show" => Some(Command::Show(file)),
         _ => None,
     }
 }

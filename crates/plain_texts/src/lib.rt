@@ -2,5 +2,9 @@
 #![tactic(auto)]
 
 mod laws;
+mod scope;
+mod writing;
 
 pub use laws::plain_texts_read_back;
+pub use scope::plain_scope;
+pub use writing::{put_action_name, put_actions, put_goal, put_hyp, put_test_name, put_tests};

@@ -18,7 +18,10 @@ const ROWS: &[(&str, Option<TextFault>)] = &[
     ("prog P { } goal equal (P), P;", Some(TextFault::Sort(23))),
     ("prog P { } goal equal P*, P;", Some(TextFault::Sort(22))),
     ("prog P { }; goal equal P, P;", Some(TextFault::Syntax(10))),
-    ("prog P { P; } goal equal P, P;", Some(TextFault::UnknownName(9))),
+    (
+        "prog P { P; } goal equal P, P;",
+        Some(TextFault::UnknownName(9)),
+    ),
     (
         "prog P { } hyp triple {true} P {true}; goal equal P, P;",
         Some(TextFault::Sort(29)),
@@ -37,13 +40,31 @@ const ROWS: &[(&str, Option<TextFault>)] = &[
     ),
     ("rounds 16; goal equal 0, 0;", None),
     ("rounds 17; goal equal 0, 0;", Some(TextFault::TooMany(7))),
-    ("rounds 1; rounds 1; goal equal 0, 0;", Some(TextFault::DoubleName(10))),
-    ("rounds 18446744073709551616; goal equal 0, 0;", Some(TextFault::NumberTooWide(7))),
-    ("var x; width 8; width 8; goal equal 0, 0;", Some(TextFault::Sort(7))),
-    ("prog P { } width 8; goal equal 0, 0;", Some(TextFault::Sort(11))),
+    (
+        "rounds 1; rounds 1; goal equal 0, 0;",
+        Some(TextFault::DoubleName(10)),
+    ),
+    (
+        "rounds 18446744073709551616; goal equal 0, 0;",
+        Some(TextFault::NumberTooWide(7)),
+    ),
+    (
+        "var x; width 8; width 8; goal equal 0, 0;",
+        Some(TextFault::Sort(7)),
+    ),
+    (
+        "prog P { } width 8; goal equal 0, 0;",
+        Some(TextFault::Sort(11)),
+    ),
     ("goal equal 0, 0; width 8;", Some(TextFault::Sort(17))),
-    ("width 8; width 8; goal equal 0, 0;", Some(TextFault::DoubleName(9))),
-    ("width 8; var x; width 8; goal equal 0, 0;", Some(TextFault::DoubleName(16))),
+    (
+        "width 8; width 8; goal equal 0, 0;",
+        Some(TextFault::DoubleName(9)),
+    ),
+    (
+        "width 8; var x; width 8; goal equal 0, 0;",
+        Some(TextFault::DoubleName(16)),
+    ),
     ("width 24; goal equal 0, 0;", Some(TextFault::Sort(6))),
     (
         "test b, c; prog P { assert (b && c) + 1 == 2; } goal equal P, P;",

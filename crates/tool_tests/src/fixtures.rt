@@ -77,7 +77,7 @@ pub(crate) fn tells(
 
 // What is told where the sink never fails.
 fn told_in_full(alloc: Global, line: &str, shelf: &mut MemShelf) -> Result<Vec<u8>, NoMemory> {
-    let mut sink = MemSink::new(alloc, 20_000, 10_000)?;
+    let mut sink = MemSink::new(alloc, 100_000, 10_000)?;
     told(alloc, line, shelf, &mut sink)
 }
 

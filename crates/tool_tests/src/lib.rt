@@ -12,6 +12,10 @@ mod faults;
 #[cfg(test)]
 mod fixtures;
 #[cfg(test)]
+mod programs;
+#[cfg(test)]
 mod refusals;
 #[cfg(test)]
 mod running;
+#[cfg(test)]
+mod showing;

@@ -20,14 +20,12 @@ const TEXTS: &[(&str, &str)] = &[
         "goal triple {1 == 18446744073709551616} 1 {true};",
         "2 refused: NumberTooWide 18\n",
     ),
-    ("prog P { } goal equal P, P;", "2 refused: NotYet\n"),
-    ("goal triple {1 == 1} 1 {true};", "2 refused: NotYet\n"),
 ];
 
 // The problem is refused before its evidence.
 #[test]
 fn texts_are_refused(rt: HostRuntime) -> Result<(), Fail> {
-    for line in ["decide f", "check f e", "replay f e"] {
+    for line in ["decide f", "check f e", "replay f e", "show f"] {
         for (text, want) in TEXTS {
             let is_refused = replies(rt.alloc(), line, text.as_bytes(), b"", want)?;
             assert!(rt; is_refused, "{line} on {text}");
@@ -71,11 +69,23 @@ fn squares(alloc: Global, last: usize) -> Result<String, NoMemory> {
     Ok(text)
 }
 
+// A program of so many statements, each with a number of its own at its end.
+fn numbered(alloc: Global, statement: &str, count: usize) -> Result<String, NoMemory> {
+    let mut text = String::from_str(alloc, "var x; prog P {")?;
+    for k in 0..count {
+        write!(text, " {statement} {k};")?;
+    }
+    text.push_str(" } goal equal P, P;")?;
+    Ok(text)
+}
+
 fn large(alloc: Global, sort: &str, count: usize) -> Result<Vec<u8>, NoMemory> {
     match sort {
         "tests" => Ok(tests_below(alloc, count)?.into_bytes()),
         "levels" => Ok(enclosed(alloc, count)?.into_bytes()),
         "squares" => Ok(squares(alloc, count)?.into_bytes()),
+        "checks" => Ok(numbered(alloc, "assert x ==", count)?.into_bytes()),
+        "assignments" => Ok(numbered(alloc, "x :=", count)?.into_bytes()),
         "spaces" => Ok(vec![in alloc; b' '; count]?),
         _ => Ok(vec![in alloc; 0xFF; count]?),
     }
@@ -96,6 +106,8 @@ const LIMITS: &[(&str, usize, &str)] = &[
     ("levels", 201, "2 refused: TooDeep 219\n"),
     ("squares", 14, "2 refused: ProblemTooLarge\n"),
     ("squares", 15, "2 refused: TooLarge 260\n"),
+    ("checks", 49, "2 refused: TooManyTests\n"),
+    ("assignments", 49, "2 refused: TooManyActions\n"),
     ("spaces", 1_048_576, "2 refused: NoGoal\n"),
     ("spaces", 1_048_577, "2 refused: TooLong\n"),
     ("bytes FF", 1, "2 refused: NotUtf8 0\n"),
@@ -132,6 +144,10 @@ const WORDS: &[&str] = &[
     "replay  f",
     "--help",
     "decide f --json",
+    "show",
+    "show -f",
+    "show f g",
+    "Show f",
     "run f P zero",
     "run f P zero ",
     "run f P zero x",

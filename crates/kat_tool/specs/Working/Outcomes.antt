@@ -1,10 +1,12 @@
 -- What the parts of the top call give, or the reply with which they stop.
 use Rattle.std.specs.Prelude.{◌≡◌, ◌⊎◌, ℕ, List, Option, Result, Ok, Err}
 use Rattle.kat_model.specs.Problems.{ProblemParts}
+use Rattle.problem_file.specs.Files.{FileParts}
+use Rattle.abstraction.specs.Abstracts.{AbstractParts, abstract_of}
 use Rattle.kat_tool.specs.declared.reply.Reply.{Reply}
 use Rattle.kat_tool.specs.declared.reply.Stop.{Stop}
 use Rattle.kat_tool.specs.declared.reply.Stop.TheVariants.{NoMemory, Replied}
-use Rattle.kat_tool.specs.Asking.{Asks, IsSmall}
+use Rattle.kat_tool.specs.Asking.{Asks}
 use Rattle.kat_tool.specs.Posing.{PosesNone, IsTooLong}
 use Rattle.kat_tool.specs.Steps.{ShelfUse, Replying, IsRefusal, HasFailedOn}
 
@@ -30,6 +32,9 @@ IsUngiven s file limit line status output = HasFailedOn s file status output ⊎
 abbrev pub Counts : {T : Type 0} → ℕ → ℕ → Result T Stop → Type 0
 Counts before now result = IsOutcome (λ x. now ≡ before) (λ status output. (status ≡ 4) ⊎ (now ≡ before)) result
 
--- the problem that a text poses
+-- the question of a file, and the problem that a text poses
+abbrev pub IsQuestionOf : FileParts → ProblemParts → Type 0
+IsQuestionOf f q = (a : AbstractParts) × (abstract_of f ≡ Ok a) × (q ≡ a.problem)
+
 abbrev pub IsPosedBy : List ℕ → Result ProblemParts Stop → Type 0
-IsPosedBy text result = IsOutcome (λ q. Asks text q × IsSmall q) (IsRefusal (PosesNone text)) result
+IsPosedBy text result = IsOutcome (Asks text) (IsRefusal (PosesNone text)) result

@@ -1,9 +1,9 @@
-use Rattle.problem_file.proofs.NumberedStates.{are_in_ranges}
-use Rattle.kat_tool.proofs.Files.{state_poses}
+use Rattle.kat_tool.proofs.Ranges.{numbers_in_range}
+use Rattle.kat_tool.proofs.Files.{file_poses}
 use Rattle.kat_tool.proofs.posing.problem_in.Goals as goal
 
+pub problem_of-requires : goal.problem_of-requires
+problem_of-requires c = numbers_in_range c.args.text.now c.in_ok-file.file c.in_ok-file.ensures
+
 pub returns : goal.returns
-returns c =
-    let file = c.in_ok-file.file in
-    let reads = c.in_ok-file.ensures in
-    state_poses c.args.text.now file reads c.problem_of.result (c.problem_of.ensures (are_in_ranges c.args.text.now file reads))
+returns c = file_poses c.args.text.now c.in_ok-file.file c.in_ok-file.ensures c.problem_of.result c.problem_of.ensures

@@ -1,7 +1,7 @@
 use Rattle.std.proofs.Common.{subst}
 use Rattle.kat_tool.specs.Decide.{DecidesText}
 use Rattle.kat_tool.specs.Working.Outcomes.{IsStop}
-use Rattle.kat_tool.proofs.DecideReplies.{text_headline}
+use Rattle.kat_tool.proofs.DecideReplies.{text_headline, text_stores}
 use Rattle.kat_tool.proofs.PlainTexts.{plain_headline}
 use Rattle.kat_tool.proofs.text.decided_text.Goals as goal
 
@@ -14,9 +14,17 @@ returns-in-Err-Replied-clause-plain c q printable same =
     (subst (IsStop (DecidesText c.args.text.now)) c.in-Err-Replied.field-0-is c.in-Err-Replied.ensures)
 
 pub returns-in-Ok-clause-headline : goal.returns-in-Ok-clause-headline
-returns-in-Ok-clause-headline c q asks small = text_headline c.args.text.now _ _ q asks small c.in-Ok.ensures
+returns-in-Ok-clause-headline c q asks = text_headline c.args.text.now _ _ q asks c.in-Ok.ensures
 
 pub returns-in-Err-Replied-clause-headline : goal.returns-in-Err-Replied-clause-headline
-returns-in-Err-Replied-clause-headline c q asks small =
-    text_headline c.args.text.now _ _ q asks small
+returns-in-Err-Replied-clause-headline c q asks =
+    text_headline c.args.text.now _ _ q asks
+    (subst (IsStop (DecidesText c.args.text.now)) c.in-Err-Replied.field-0-is c.in-Err-Replied.ensures)
+
+pub returns-in-Ok-clause-stores : goal.returns-in-Ok-clause-stores
+returns-in-Ok-clause-stores c f reads concrete = text_stores c.args.text.now _ _ f reads concrete c.in-Ok.ensures
+
+pub returns-in-Err-Replied-clause-stores : goal.returns-in-Err-Replied-clause-stores
+returns-in-Err-Replied-clause-stores c f reads concrete =
+    text_stores c.args.text.now _ _ f reads concrete
     (subst (IsStop (DecidesText c.args.text.now)) c.in-Err-Replied.field-0-is c.in-Err-Replied.ensures)

@@ -1,0 +1,2 @@
+pub mod WrittenParts
+mod ShowExamples

@@ -1,0 +1,11 @@
+use Rattle.std.proofs.Common.{◌≡◌, ◌++◌, drop, true}
+use Rattle.linear_forms.specs.Forms.{form_of}
+use Rattle.kat_print.specs.Printing.{name_of}
+use Rattle.abstract_texts.specs.Shows.{sum_text}
+use Rattle.abstract_texts.proofs.forms.+forms.Given as goal
+
+-- what is written, and the text of the terms that are left
+abbrev pub invariant-put_form-loop-term : goal.invariant-put_form-loop-term
+invariant-put_form-loop-term l =
+    l.out.items ++ sum_text (name_of l.scope) l.first (form_of (drop l.term-index l.term-items) l.form-inside.constant)
+    ≡ l.initial.out.items ++ sum_text (name_of l.scope) true (form_of l.term-items l.form-inside.constant)

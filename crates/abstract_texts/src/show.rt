@@ -1,0 +1,29 @@
+//! An abstraction as the text of a problem.
+ghost use Rattle.std.specs.Prelude.{◌≡◌, IfOk};
+ghost use Rattle.abstract_texts.specs.Shows.{show_text};
+
+use crate::hyps::put_hyps;
+use crate::rows::{put_action_comments, put_test_comments};
+use abstraction::Abstract;
+use kat_model::NoMemory;
+use plain_texts::{plain_scope, put_actions, put_goal, put_tests};
+use problem_file::File;
+use std::alloc::Global;
+
+/// The problem of an abstraction as the text of a problem file, an item a line: comments say what each test and each
+/// action stands for, by the names of the file, and before each hypothesis, or the first of a few, why it is one. Tests are
+/// named `t0`, `t1`, .. and actions `a0`, `a1`, .. in the text. It fails only when out of memory.
+pub fn show_text(alloc: Global, file: &File, shown: &Abstract) -> Result<Vec<u8>, NoMemory>
+    ensures { IfOk result (λ v. v.items ≡ show_text file.now.scope shown.now) }
+{
+    let problem = &shown.problem;
+    let plain = plain_scope(alloc, problem.tests(), problem.actions())?;
+    let mut out = Vec::new(alloc);
+    put_test_comments(alloc, &mut out, &shown.tests, &file.scope)?;
+    put_tests(alloc, &mut out, problem.tests())?;
+    put_action_comments(alloc, &mut out, &shown.actions, &file.scope)?;
+    put_actions(alloc, &mut out, problem.actions())?;
+    put_hyps(alloc, &mut out, &shown.rules, problem, &plain)?;
+    put_goal(alloc, &mut out, problem.left(), problem.right(), &plain)?;
+    Ok(out)
+}

@@ -1,0 +1,51 @@
+-- The tests that compare rows tell which are equal.
+use Rattle.std.proofs.Common.{arith, ◌≡◌, true, nat_eq, Decides, Ordering, Less, Equal, Greater, refl, ap}
+use Rattle.std.specs.Ordering.{is_eq}
+use Rattle.std.proofs.lemmas.Bool.{false≢true, and_parts, and_from}
+use Rattle.std.proofs.lemmas.Bool.Decides.{nat_tests}
+use Rattle.linear_forms.specs.Forms.{FormTree}
+use Rattle.linear_forms.specs.Order.{form_cmp}
+use Rattle.linear_forms.specs.declared.comparison.Atomic.{Atomic}
+use Rattle.linear_forms.specs.declared.comparison.Atomic.TheVariants.{Zero, Less as LessThan}
+use Rattle.linear_forms.proofs.SameOrder.{same_tree}
+use Rattle.linear_forms.proofs.TotalOrder.{form_itself}
+use Rattle.abstraction.specs.Comparisons.{Assignment}
+use Rattle.abstraction.specs.Tables.{is_same_form, is_same_comparison, is_same_assignment}
+
+equal_order : (o : Ordering) → is_eq o ≡ true → o ≡ Equal
+equal_order Less h = absurd (false≢true h)
+equal_order Equal h = refl
+equal_order Greater h = absurd (false≢true h)
+
+pub is_same_form-true : (f g : FormTree) → is_same_form f g ≡ true → f ≡ g
+is_same_form-true f g h = same_tree f g (equal_order (form_cmp f g) h)
+
+pub is_same_form-same : (f : FormTree) → is_same_form f f ≡ true
+is_same_form-same f = ap is_eq (form_itself f)
+
+pub is_same_form-decides : (f g : FormTree) → Decides (is_same_form f g) (f ≡ g)
+is_same_form-decides f g = (is_same_form-true f g, λ e. rw (e) (is_same_form-same g))
+
+pub is_same_comparison-true : (a b : Atomic) → is_same_comparison a b ≡ true → a ≡ b
+is_same_comparison-true (Zero f) (Zero g) h = ap Zero (is_same_form-true f g h)
+is_same_comparison-true (Zero f) (LessThan g d) h = absurd (false≢true h)
+is_same_comparison-true (LessThan f g) (Zero d) h = absurd (false≢true h)
+is_same_comparison-true (LessThan f g) (LessThan d e) h =
+    let p = and_parts (is_same_form f d) (is_same_form g e) h in
+    rw (is_same_form-true f d p.0, is_same_form-true g e p.1) refl
+
+pub is_same_comparison-same : (a : Atomic) → is_same_comparison a a ≡ true
+is_same_comparison-same (Zero f) = is_same_form-same f
+is_same_comparison-same (LessThan f g) = and_from (is_same_form f f) (is_same_form g g) (is_same_form-same f) (is_same_form-same g)
+
+pub is_same_comparison-decides : (a b : Atomic) → Decides (is_same_comparison a b) (a ≡ b)
+is_same_comparison-decides a b = (is_same_comparison-true a b, λ e. rw (e) (is_same_comparison-same b))
+
+pub is_same_assignment-true : (a b : Assignment) → is_same_assignment a b ≡ true → a ≡ b
+is_same_assignment-true a b h =
+    let p = and_parts (nat_eq a.var b.var) (is_same_form a.form b.form) h in
+    let var : a.var ≡ b.var = grind (arith, nat_tests, p.0) in
+    λ i. record { var = var i; form = is_same_form-true a.form b.form p.1 i }
+
+pub is_same_assignment-same : (a : Assignment) → is_same_assignment a a ≡ true
+is_same_assignment-same a = let own : nat_eq a.var a.var ≡ true = grind (arith, nat_tests) in rw (own, is_same_form-same a.form) refl

@@ -1,0 +1,20 @@
+-- What an abstraction says of stores.
+use Rattle.std.specs.Prelude.{◌≡◌, ◌≤◌, ℕ, length, slice_get, Some}
+use Rattle.kat_model.specs.Trees.{Term}
+use Rattle.kat_model.specs.Stores.{Store}
+use Rattle.kat_model.specs.Relations.{Same}
+use Rattle.problem_file.specs.Files.{FileParts}
+use Rattle.problem_file.specs.Concrete.{IsStoreOf, IsConcrete, Agrees}
+use Rattle.abstraction.specs.Abstracts.{AbstractParts}
+use Rattle.abstraction.specs.StoreFrames.{Moves}
+
+-- no hypothesis after the stated ones relates two stores of the file
+abbrev pub DerivedHold : FileParts → AbstractParts → Type 0
+DerivedHold f a =
+    (k : ℕ) (h : Term) → length f.hyps ≤ k → slice_get a.problem.hyps k ≡ Some h
+    → (s t : Store) → IsStoreOf f s → IsStoreOf f t → Moves f a h s t → ⊥
+
+-- where both sides denote one relation in each table that keeps the hypotheses, the goal of a concrete file holds of all
+-- its stores
+abbrev pub AgreesWhereSame : FileParts → AbstractParts → Type 0
+AgreesWhereSame f a = IsConcrete f → Same a.problem → Agrees f

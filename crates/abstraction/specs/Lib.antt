@@ -1,0 +1,12 @@
+pub mod Comparisons
+pub mod Tables
+pub mod Rounds
+pub mod Tests
+pub mod Goals
+pub mod Facts
+pub mod Derived
+pub mod Abstracts
+pub mod StoreFrames
+pub mod ShownTables
+pub mod Laws
+pub mod Working

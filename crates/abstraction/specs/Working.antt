@@ -1,0 +1,5 @@
+pub mod CappedRows
+pub mod StatementFlows
+pub mod ConstantForms
+pub mod PairFacts
+pub mod FileTables

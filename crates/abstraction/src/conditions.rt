@@ -1,0 +1,58 @@
+//! Conditions as tests over the rows of tables.
+ghost use Rattle.std.specs.Prelude.{◌≡◌, option_map, IfOk};
+ghost use Rattle.kat_model.specs.Expressions.{cond_tree};
+ghost use Rattle.kat_model.specs.Trees.{test_tree};
+ghost use Rattle.abstraction.specs.Tests.{form_test, cond_test};
+
+use crate::tables::RowTables;
+use kat_model::{Cond, NoMemory, Test};
+use linear_forms::{CondForm, normal_cond};
+use std::alloc::Global;
+
+/// The test of a form of conditions, where it is constant or its comparison is a row.
+pub(crate) fn form_test(
+    alloc: Global,
+    tables: &RowTables,
+    cond: &CondForm,
+) -> Result<Option<Test>, NoMemory>
+    ensures { IfOk result (λ o. option_map test_tree o ≡ form_test tables.now cond.now) }
+{
+    match cond {
+        CondForm::True => Ok(Some(Test::True)),
+        CondForm::False => Ok(Some(Test::False)),
+        CondForm::Pos(atomic) => Ok(tables.test_number(atomic).map(Test::Prim)),
+        CondForm::Neg(atomic) => match tables.test_number(atomic) {
+            Some(k) => Ok(Some(Test::new_not(alloc, Test::Prim(k))?)),
+            None => Ok(None),
+        },
+    }
+}
+
+/// The test of a condition; a comparison that is no row counts as false.
+pub(crate) fn cond_test(alloc: Global, tables: &RowTables, cond: &Cond) -> Result<Test, NoMemory>
+    ensures { IfOk result (λ t. test_tree t ≡ cond_test tables.now (cond_tree cond.now)) }
+{
+    match cond {
+        Cond::True => Ok(Test::True),
+        Cond::False => Ok(Test::False),
+        Cond::Test(k) => Ok(Test::Prim(*k)),
+        Cond::Compare(rel, e, f) => {
+            let form = normal_cond(alloc, tables.width, *rel, e, f)?;
+            match form_test(alloc, tables, &form)? {
+                Some(test) => Ok(test),
+                None => Ok(Test::False),
+            }
+        }
+        Cond::Not(b) => Test::new_not(alloc, cond_test(alloc, tables, b)?),
+        Cond::And(b, c) => {
+            let left = cond_test(alloc, tables, b)?;
+            let right = cond_test(alloc, tables, c)?;
+            Test::new_and(alloc, left, right)
+        }
+        Cond::Or(b, c) => {
+            let left = cond_test(alloc, tables, b)?;
+            let right = cond_test(alloc, tables, c)?;
+            Test::new_or(alloc, left, right)
+        }
+    }
+}

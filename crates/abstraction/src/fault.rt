@@ -1,0 +1,35 @@
+//! Why a file has no abstraction.
+ghost use Rattle.std.specs.Prelude.{◌≡◌};
+ghost use Rattle.abstraction.specs.declared.fault.AbstractFault.TheVariants.{NoMemory as NoRoom};
+
+use kat_model::NoMemory;
+use std::alloc::AllocError;
+
+/// Why there is no abstraction of a file.
+#[derive(Clone, Copy, PartialEq, Eq, Debug)]
+pub enum AbstractFault {
+    /// Out of memory.
+    NoMemory,
+    /// There are more than 48 tests: the declared ones and the comparisons of the goal.
+    TooManyTests,
+    /// There are more than 48 actions: the declared ones and the assignments of the goal.
+    TooManyActions,
+    /// The problem has more than 100,000 nodes, derived hypotheses among them.
+    ProblemTooLarge,
+}
+
+impl From<NoMemory> for AbstractFault {
+    ghost from_gives = { λ _ fault. fault ≡ NoRoom };
+
+    fn from(_: NoMemory) -> Self {
+        AbstractFault::NoMemory
+    }
+}
+
+impl From<AllocError> for AbstractFault {
+    ghost from_gives = { λ _ fault. fault ≡ NoRoom };
+
+    fn from(_: AllocError) -> Self {
+        AbstractFault::NoMemory
+    }
+}

@@ -1,0 +1,305 @@
+//! The hypotheses of an abstraction: the stated ones, what assignments make of comparisons, and facts of arithmetic.
+ghost use Rattle.std.specs.Prelude.{◌≡◌, [], ◌∷◌, ◌++◌, flat_map, map, Option, option_map, IfOk, OnOk};
+ghost use Rattle.kat_model.specs.Stores.{modulus};
+ghost use Rattle.kat_model.specs.Trees.{kat_tree, test_tree, prim, complement, test, act, product};
+ghost use Rattle.linear_forms.specs.Comparisons.{substituted};
+ghost use Rattle.abstraction.specs.Tests.{form_test};
+ghost use Rattle.abstraction.specs.Facts.{fact_six};
+ghost use Rattle.abstraction.specs.Derived.{stated_from, keeps_before, assignment_facts, test_rows, action_rows, of_pairs, derived, hypotheses};
+ghost use Rattle.abstraction.specs.Working.PairFacts.{pair_fact, facts_of};
+
+use crate::conditions::form_test;
+use crate::facts::{
+    NumberedTest, RuledTerm, add_fact_five, add_fact_four, add_fact_one, add_fact_six,
+    add_fact_three, add_fact_two, push_hyp,
+};
+use crate::rows::Rule;
+use crate::tables::{AssignedForm, RowTables};
+use kat_model::{Kat, NoMemory, Test, Width};
+use linear_forms::subst;
+use std::alloc::Global;
+use std::marker::Model;
+
+// An assignment with its number among the actions.
+#[derive(Drop)]
+struct NumberedAssignment<'a> {
+    number: usize,
+    assigned: &'a AssignedForm,
+}
+
+impl<'a> Model for NumberedAssignment<'a> {
+    ghost use Rattle.std.specs.Coded.{codes};
+    ghost use Rattle.linear_forms.specs.Codes.{coded_form};
+    ghost use Rattle.abstraction.specs.Derived.{ActionRowOf};
+
+    ghost Value = { ActionRowOf };
+
+    ghost coded = { Prim.hlevel (codes, coded_form) };
+
+    ghost view = { λ a. (a.number, a.assigned.now) };
+}
+
+// The facts of two comparisons.
+#[derive(Clone, Copy)]
+enum PairFact {
+    One,
+    Two,
+    Three,
+    Four,
+    Five,
+}
+
+// The stated terms.
+fn stated(alloc: Global, terms: &[Kat]) -> Result<Vec<RuledTerm>, NoMemory>
+    ensures { IfOk result (λ v. v.items ≡ stated_from 0 (map kat_tree terms.now)) }
+{
+    let mut hyps = Vec::new(alloc);
+    for (k, term) in terms.iter().enumerate() {
+        push_hyp(&mut hyps, Rule::Stated(k), term.copy(alloc)?)?;
+    }
+    Ok(hyps)
+}
+
+// That the action changes nothing outside the test, and leads into it, where psi holds before it.
+fn add_kept(
+    alloc: Global,
+    i: usize,
+    j: usize,
+    psi: Test,
+    hyps: &mut Vec<RuledTerm>,
+) -> Result<(), NoMemory>
+    ensures { OnOk result (hyps.new.items ≡ hyps.old.items ++ keeps_before i j (Some (test_tree psi))) }
+{
+    let holds = Kat::Test(psi.copy(alloc)?);
+    let left = Kat::Test(Test::new_not(alloc, Test::Prim(j))?);
+    let leaving = Kat::new_seq(alloc, Kat::Act(i), left)?;
+    push_hyp(
+        hyps,
+        Rule::Assign(i, j),
+        Kat::new_seq(alloc, holds, leaving)?,
+    )?;
+    let fails = Kat::Test(Test::new_not(alloc, psi)?);
+    let entering = Kat::new_seq(alloc, Kat::Act(i), Kat::Test(Test::Prim(j)))?;
+    push_hyp(
+        hyps,
+        Rule::Assign(i, j),
+        Kat::new_seq(alloc, fails, entering)?,
+    )
+}
+
+// What an assignment makes of a comparison.
+fn add_assignment_facts(
+    alloc: Global,
+    tables: &RowTables,
+    action: &NumberedAssignment<'_>,
+    row: &NumberedTest<'_>,
+    hyps: &mut Vec<RuledTerm>,
+) -> Result<(), NoMemory>
+    ensures { OnOk result (hyps.new.items ≡ hyps.old.items ++ assignment_facts tables.now action.now row.now) }
+{
+    let assigned = action.assigned;
+    let before = subst(
+        alloc,
+        tables.width,
+        row.atomic,
+        assigned.var,
+        &assigned.form,
+    )?;
+    match form_test(alloc, tables, &before)? {
+        Some(psi) => add_kept(alloc, action.number, row.number, psi, hyps),
+        None => Ok(()),
+    }
+}
+
+fn add_facts_of_assignment(
+    alloc: Global,
+    tables: &RowTables,
+    action: &NumberedAssignment<'_>,
+    rows: &[NumberedTest<'_>],
+    hyps: &mut Vec<RuledTerm>,
+) -> Result<(), NoMemory>
+    ensures { OnOk result (hyps.new.items ≡ hyps.old.items ++ flat_map (assignment_facts tables.now action.now) rows.now) }
+{
+    for row in rows {
+        add_assignment_facts(alloc, tables, action, row, hyps)?;
+    }
+    Ok(())
+}
+
+fn add_facts_of_assignments(
+    alloc: Global,
+    tables: &RowTables,
+    actions: &[NumberedAssignment<'_>],
+    rows: &[NumberedTest<'_>],
+    hyps: &mut Vec<RuledTerm>,
+) -> Result<(), NoMemory>
+    ensures { OnOk result (hyps.new.items ≡ hyps.old.items ++ of_pairs (assignment_facts tables.now) actions.now rows.now) }
+{
+    for action in actions {
+        add_facts_of_assignment(alloc, tables, action, rows, hyps)?;
+    }
+    Ok(())
+}
+
+fn add_pair_fact(
+    alloc: Global,
+    width: Width,
+    fact: PairFact,
+    first: &NumberedTest<'_>,
+    second: &NumberedTest<'_>,
+    hyps: &mut Vec<RuledTerm>,
+) -> Result<(), NoMemory>
+    ensures { OnOk result (hyps.new.items ≡ hyps.old.items ++ pair_fact fact (modulus width) first.now second.now) }
+{
+    match fact {
+        PairFact::One => add_fact_one(alloc, width, first, second, hyps),
+        PairFact::Two => add_fact_two(alloc, first, second, hyps),
+        PairFact::Three => add_fact_three(alloc, width, first, second, hyps),
+        PairFact::Four => add_fact_four(alloc, first, second, hyps),
+        PairFact::Five => add_fact_five(alloc, width, first, second, hyps),
+    }
+}
+
+fn add_pair_facts_of(
+    alloc: Global,
+    width: Width,
+    fact: PairFact,
+    first: &NumberedTest<'_>,
+    rows: &[NumberedTest<'_>],
+    hyps: &mut Vec<RuledTerm>,
+) -> Result<(), NoMemory>
+    ensures { OnOk result (hyps.new.items ≡ hyps.old.items ++ flat_map (pair_fact fact (modulus width) first.now) rows.now) }
+{
+    for second in rows {
+        add_pair_fact(alloc, width, fact, first, second, hyps)?;
+    }
+    Ok(())
+}
+
+// A fact of each two comparisons.
+fn add_pair_facts(
+    alloc: Global,
+    width: Width,
+    fact: PairFact,
+    rows: &[NumberedTest<'_>],
+    hyps: &mut Vec<RuledTerm>,
+) -> Result<(), NoMemory>
+    ensures { OnOk result (hyps.new.items ≡ hyps.old.items ++ of_pairs (pair_fact fact (modulus width)) rows.now rows.now) }
+{
+    for first in rows {
+        add_pair_facts_of(alloc, width, fact, first, rows, hyps)?;
+    }
+    Ok(())
+}
+
+fn add_facts_six_of_pair(
+    alloc: Global,
+    width: Width,
+    first: &NumberedTest<'_>,
+    second: &NumberedTest<'_>,
+    rows: &[NumberedTest<'_>],
+    hyps: &mut Vec<RuledTerm>,
+) -> Result<(), NoMemory>
+    ensures { OnOk result (hyps.new.items ≡ hyps.old.items ++ flat_map (fact_six (modulus width) first.now second.now) rows.now) }
+{
+    for third in rows {
+        add_fact_six(alloc, width, first, second, third, hyps)?;
+    }
+    Ok(())
+}
+
+fn add_facts_six_of(
+    alloc: Global,
+    width: Width,
+    first: &NumberedTest<'_>,
+    rows: &[NumberedTest<'_>],
+    hyps: &mut Vec<RuledTerm>,
+) -> Result<(), NoMemory>
+    ensures { OnOk result (hyps.new.items ≡ hyps.old.items ++ of_pairs (fact_six (modulus width) first.now) rows.now rows.now) }
+{
+    for second in rows {
+        add_facts_six_of_pair(alloc, width, first, second, rows, hyps)?;
+    }
+    Ok(())
+}
+
+fn add_facts_six(
+    alloc: Global,
+    width: Width,
+    rows: &[NumberedTest<'_>],
+    hyps: &mut Vec<RuledTerm>,
+) -> Result<(), NoMemory>
+    ensures { OnOk result (hyps.new.items ≡ hyps.old.items ++ flat_map (λ a. of_pairs (fact_six (modulus width) a) rows.now rows.now) rows.now) }
+{
+    for first in rows {
+        add_facts_six_of(alloc, width, first, rows, hyps)?;
+    }
+    Ok(())
+}
+
+fn numbered_tests(alloc: Global, tables: &RowTables) -> Result<Vec<NumberedTest<'_>>, NoMemory>
+    ensures { IfOk result (λ v. v.items ≡ test_rows tables.now) }
+{
+    let mut rows = Vec::new(alloc);
+    for (k, atomic) in tables.comparisons.iter().enumerate() {
+        let number = tables.tests + k;
+        rows.push(NumberedTest { number, atomic })?;
+    }
+    Ok(rows)
+}
+
+fn numbered_assignments(
+    alloc: Global,
+    tables: &RowTables,
+) -> Result<Vec<NumberedAssignment<'_>>, NoMemory>
+    ensures { IfOk result (λ v. v.items ≡ action_rows tables.now) }
+{
+    let mut rows = Vec::new(alloc);
+    for (k, assigned) in tables.assignments.iter().enumerate() {
+        let number = tables.actions + k;
+        rows.push(NumberedAssignment { number, assigned })?;
+    }
+    Ok(rows)
+}
+
+// What is derived of these assignments and comparisons.
+fn add_facts(
+    alloc: Global,
+    tables: &RowTables,
+    actions: &[NumberedAssignment<'_>],
+    rows: &[NumberedTest<'_>],
+    hyps: &mut Vec<RuledTerm>,
+) -> Result<(), NoMemory>
+    ensures { OnOk result (hyps.new.items ≡ hyps.old.items ++ facts_of tables.now actions.now rows.now) }
+{
+    let width = tables.width;
+    add_facts_of_assignments(alloc, tables, actions, rows, hyps)?;
+    add_pair_facts(alloc, width, PairFact::One, rows, hyps)?;
+    add_pair_facts(alloc, width, PairFact::Two, rows, hyps)?;
+    add_pair_facts(alloc, width, PairFact::Three, rows, hyps)?;
+    add_pair_facts(alloc, width, PairFact::Four, rows, hyps)?;
+    add_pair_facts(alloc, width, PairFact::Five, rows, hyps)?;
+    add_facts_six(alloc, width, rows, hyps)
+}
+
+// Those that hold in every store of the width.
+fn add_derived(alloc: Global, tables: &RowTables, hyps: &mut Vec<RuledTerm>) -> Result<(), NoMemory>
+    ensures { OnOk result (hyps.new.items ≡ hyps.old.items ++ derived tables.now) }
+{
+    let actions = numbered_assignments(alloc, tables)?;
+    let rows = numbered_tests(alloc, tables)?;
+    add_facts(alloc, tables, &actions, &rows, hyps)
+}
+
+/// All hypotheses, for the stated terms.
+pub(crate) fn hypotheses(
+    alloc: Global,
+    tables: &RowTables,
+    terms: &[Kat],
+) -> Result<Vec<RuledTerm>, NoMemory>
+    ensures { IfOk result (λ v. v.items ≡ hypotheses tables.now (map kat_tree terms.now)) }
+{
+    let mut hyps = stated(alloc, terms)?;
+    add_derived(alloc, tables, &mut hyps)?;
+    Ok(hyps)
+}

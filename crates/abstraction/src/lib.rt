@@ -1,0 +1,28 @@
+//! The abstraction of a problem file: programs over variables become terms over tests and actions, with the hypotheses
+//! that are known of assignments and comparisons.
+#![tactic(auto)]
+
+mod assignments;
+mod comparisons;
+mod conditions;
+mod facts;
+mod fault;
+mod file_abstract;
+mod file_tables;
+mod flows;
+mod goals;
+mod hypotheses;
+mod laws;
+mod problem;
+mod rounds;
+mod rows;
+mod shown;
+mod tables;
+mod unique_rows;
+
+pub use fault::AbstractFault;
+pub use file_abstract::{abstracted, abstracted_for};
+pub use laws::{derived_hypotheses_hold, same_sides_agree, tables_are_shown};
+pub use problem::Abstract;
+pub use rows::{ActionRow, Rule, TestRow};
+pub use shown::{flow_of, test_of};

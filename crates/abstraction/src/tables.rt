@@ -1,0 +1,102 @@
+//! The tables of an abstraction: which comparisons are its tests, and which assignments its actions.
+ghost use Rattle.std.specs.Prelude.{◌≡◌, option_map};
+
+use crate::unique_rows::{Row, place_of};
+use kat_model::Width;
+use linear_forms::{Atomic, Form, same_atomic, same_form};
+use std::marker::Model;
+
+/// An assignment of a form to a variable, by its number.
+#[derive(Drop)]
+pub(crate) struct AssignedForm {
+    pub(crate) var: usize,
+    pub(crate) form: Form,
+}
+
+impl Model for AssignedForm {
+    ghost use Rattle.std.specs.Coded.{codes};
+    ghost use Rattle.linear_forms.specs.Codes.{coded_form};
+    ghost use Rattle.abstraction.specs.Comparisons.{Assignment};
+
+    ghost Value = { Assignment };
+
+    ghost coded = { Prim.hlevel (codes, coded_form) };
+
+    ghost view = { λ a. record { var = a.var; form = a.form } };
+}
+
+impl Row for Atomic {
+    ghost use Rattle.abstraction.specs.Tables.{is_same_comparison};
+
+    ghost same = { is_same_comparison };
+
+    fn is_same(&self, other: &Atomic) -> bool {
+        same_atomic(self, other)
+    }
+}
+
+impl Row for AssignedForm {
+    ghost use Rattle.abstraction.specs.Tables.{is_same_assignment};
+
+    ghost same = { is_same_assignment };
+
+    fn is_same(&self, other: &AssignedForm) -> bool {
+        self.var == other.var && same_form(&self.form, &other.form)
+    }
+}
+
+/// What conditions and programs are read by: how many tests and actions are declared, and the comparisons and the
+/// assignments that are tests and actions after these.
+#[derive(Drop)]
+pub(crate) struct RowTables {
+    pub(crate) tests: usize,
+    pub(crate) actions: usize,
+    pub(crate) comparisons: Vec<Atomic>,
+    pub(crate) assignments: Vec<AssignedForm>,
+    pub(crate) width: Width,
+}
+
+impl Model for RowTables {
+    ghost use Rattle.std.specs.Prelude.{ℕ, ◌+◌, ◌^◌, ◌<◌, length};
+    ghost use Rattle.std.specs.Coded.{codes};
+    ghost use Rattle.linear_forms.specs.Codes.{coded_form};
+    ghost use Rattle.abstraction.specs.Tables.{Tables};
+
+    ghost Value = { Tables };
+
+    ghost coded = { Prim.hlevel (codes, coded_form) };
+
+    ghost view = { λ t. record {
+      tests = t.tests;
+      actions = t.actions;
+      comparisons = t.comparisons.items;
+      assignments = t.assignments.items;
+      width = t.width;
+    } };
+
+    ghost invariant = { λ t. (t.tests + length t.comparisons.items < 2 ^ 64) × (t.actions + length t.assignments.items < 2 ^ 64) };
+}
+
+impl RowTables {
+    ghost use Rattle.abstraction.specs.Tests.{test_number, action_number};
+
+    /// The number of a comparison among the tests.
+    pub(crate) fn test_number(&self, atomic: &Atomic) -> Option<usize>
+        ensures { result ≡ test_number self.now atomic.now }
+    {
+        match place_of(&self.comparisons, atomic) {
+            Some(k) => Some(self.tests + k),
+            None => None,
+        }
+    }
+
+    /// The number of an assignment among the actions.
+    pub(crate) fn action_number(&self, assignment: &AssignedForm) -> Option<usize>
+        ensures { result ≡ action_number self.now assignment.now }
+    {
+        match place_of(&self.assignments, assignment) {
+            Some(k) => Some(self.actions + k),
+            None => None,
+        }
+    }
+}
