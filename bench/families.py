@@ -12,6 +12,7 @@ problems and their evidence stay in that folder.
 
 import argparse
 import os
+import random
 import re
 import subprocess
 import sys
@@ -89,6 +90,60 @@ def differ(n):
     return f"action p;\ngoal equal {' + '.join(powers)}, p*;\n"
 
 
+# Programs
+
+def unrolled_goal(before, guard, body):
+    """A loop, and the loop with its first turn in front of it."""
+    loop = f"while {guard} {{ {body} }}"
+    return f"{before}prog P {{ {loop} }}\nprog Q {{ if {guard} {{ {body} {loop} }} }}\ngoal equal P, Q;\n"
+
+
+def untouched(n):
+    """A loop that tests n comparisons which no assignment touches, unrolled once."""
+    before = f"var z, {', '.join(names('y', n))};\n"
+    body = " ".join(f"if y{i} == 0 {{ z := z + 1; }} else {{ z := z + 2; }}" for i in range(n))
+    return unrolled_goal(before, "z < 1000", body)
+
+
+def line(n):
+    """A loop whose body is n assignments in a line, unrolled once."""
+    before = f"var i, {', '.join(names('x', n + 1))};\n"
+    body = " ".join(f"x{k} := x{k + 1} + {k};" for k in range(n - 1)) + " i := i + 1;"
+    return unrolled_goal(before, "i < 10", body)
+
+
+def block(pick, n, depth, unrolls):
+    """A block of some n statements over eight tests and eight actions, its loops unrolled once or not."""
+    text = []
+    while n > 0:
+        kind = pick.randrange(4) if depth else 0
+        test, inner = f"t{pick.randrange(8)}", min(n, pick.randrange(2, 6))
+        if kind < 2:
+            text.append(f"a{pick.randrange(8)};")
+            n -= 1
+            continue
+        first = block(pick, inner, depth - 1, unrolls)
+        n -= inner + 1
+        if kind == 2:
+            text.append(f"if {test} {{ {first} }} else {{ {block(pick, 2, 0, unrolls)} }}")
+        else:
+            loop = f"while {test} {{ {first} }}"
+            text.append(f"if {test} {{ {first} {loop} }}" if unrolls else loop)
+    return " ".join(text)
+
+
+def structured(n):
+    """A random program of some n statements over eight tests, and the same with each loop unrolled once."""
+    before = declared("test", names("t", 8)) + declared("action", names("a", 8))
+    left, right = (block(random.Random(1), n, 3, unrolls) for unrolls in (False, True))
+    return f"{before}prog P {{ {left} }}\nprog Q {{ {right} }}\ngoal equal P, Q;\n"
+
+
+def unswitched(_):
+    """A test taken out of a loop, and dead branches removed: an ordinary use."""
+    return (TOP / "examples/holds/program-unswitched.kat").read_text()
+
+
 FAMILIES = {
     "tests": (tests, 48),
     "denest": (denest, 48),
@@ -98,6 +153,10 @@ FAMILIES = {
     "broken": (broken, 47),
     "ring": (ring, 47),
     "differ": (differ, 256),
+    "unswitched": (unswitched, 1),
+    "untouched": (untouched, 5),
+    "line": (line, 40),
+    "structured": (structured, 500),
 }
 
 

@@ -1,6 +1,6 @@
 #!/usr/bin/env python3
-"""Measures what long texts cost: problems under `kat decide`, programs under `kat run`, and evidence under `kat check` and
-`kat replay`.
+"""Measures what long texts cost: problems under `kat decide`, programs under `kat run` and `kat show`, and evidence under
+`kat check` and `kat replay`.
 
     python3 bench/texts.py [--kat PROGRAM] [--runs N] [CASE ..]
 
@@ -74,6 +74,13 @@ def uses(n):
     return programs("prog E { }\n", "E;" * (n // 2))
 
 
+def full(n):
+    """n comparisons and n assignments, of which none touches another's variable."""
+    x = [f"x{i}" for i in range(n)]
+    checks = " ".join(f"{it} := {it} + 1; assert {it} < {i + 100};" for i, it in enumerate(x))
+    return f"var {', '.join(x)};\nprog P {{ {checks} }}\ngoal equal P, P;\n"
+
+
 # Evidence, with the problem that it belongs to
 
 def chain(n):
@@ -123,6 +130,7 @@ CASES = {
     "else-if": ("run", chains, 61_000),
     "blocks": ("run", blocks, 87_000),
     "uses": ("run", uses, 520_000),
+    "full": ("show", full, 48),
     "chain": ("check", chain, 800_000),
     "chain-read": ("replay", chain, 800_000),
     "mixed-read": ("replay", mixed, 250_000),
@@ -132,7 +140,7 @@ CASES = {
 }
 
 # The words behind the problem's
-MORE = {"decide": [], "run": ["P", "zero", "0"], "check": ["evidence"], "replay": ["evidence"]}
+MORE = {"decide": [], "show": [], "run": ["P", "zero", "0"], "check": ["evidence"], "replay": ["evidence"]}
 
 
 # Measuring
