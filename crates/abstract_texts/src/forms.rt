@@ -5,8 +5,9 @@ ghost use Rattle.kat_print.specs.Printing.{name_of};
 ghost use Rattle.abstract_texts.specs.Shows.{plus_text, times_text, form_text, comparison_text};
 ghost use Rattle.abstract_texts.specs.Working.SumParts.{mono_text, term_text, constant_text};
 
-use crate::writing::{put, put_name, put_number};
+use crate::writing::{put, put_number};
 use kat_model::NoMemory;
+use kat_print::put_name;
 use kat_text::{Meaning, Scope};
 use linear_forms::{Atomic, Form, Mono, Term};
 use std::alloc::Global;

@@ -5,9 +5,10 @@ ghost use Rattle.kat_print.specs.Printing.{name_of};
 ghost use Rattle.abstract_texts.specs.Shows.{test_comment, action_comment};
 
 use crate::forms::{put_comparison, put_form};
-use crate::writing::{put, put_name};
+use crate::writing::put;
 use abstraction::{ActionRow, TestRow};
 use kat_model::NoMemory;
+use kat_print::put_name;
 use kat_text::{Meaning, Scope};
 use plain_texts::{put_action_name, put_test_name};
 use std::alloc::Global;

@@ -50,7 +50,7 @@ enum PairFact {
 }
 
 // The stated terms.
-fn stated(alloc: Global, terms: &[Kat]) -> Result<Vec<RuledTerm>, NoMemory>
+fn stated_hyps(alloc: Global, terms: &[Kat]) -> Result<Vec<RuledTerm>, NoMemory>
     ensures { IfOk result (λ v. v.items ≡ stated_from 0 (map kat_tree terms.now)) }
 {
     let mut hyps = Vec::new(alloc);
@@ -299,7 +299,7 @@ pub(crate) fn hypotheses(
 ) -> Result<Vec<RuledTerm>, NoMemory>
     ensures { IfOk result (λ v. v.items ≡ hypotheses tables.now (map kat_tree terms.now)) }
 {
-    let mut hyps = stated(alloc, terms)?;
+    let mut hyps = stated_hyps(alloc, terms)?;
     add_derived(alloc, tables, &mut hyps)?;
     Ok(hyps)
 }

@@ -6,6 +6,7 @@ use Rattle.kat_model.specs.Trees.{complement, meet, join, Term, zero as nothing,
 use Rattle.kat_model.specs.Members.{Has, IsSubset}
 use Rattle.kat_model.proofs.Places.{has_at, place_of_member}
 use Rattle.term_nodes.specs.NumberSets.{set_pairs_of, terms_of}
+use Rattle.certificate.specs.PairParts.{sets_of}
 use Rattle.certificate.specs.Certs.{nodes_of}
 use Rattle.term_nodes.specs.NodeTrees.{test_tree_at, tree_at, test_tree_in, tree_in, trees, HasTree}
 use Rattle.certificate.specs.Accepted.{set_pairs}
@@ -89,7 +90,7 @@ module _ (store : NodeParts) (es : List IdEntry) (terms named tests : List ℕ) 
   set_numbered [] within = refl
   set_numbered (i ∷ set) within = λ v. term_tree_kept i (within i (inl refl)) v ∷ set_numbered set (λ j h. within j (inr h)) v
 
-  sets_numbered : (fs : List IdEntry) → ((e : IdEntry) → Has fs e → IsSubset e.left terms × IsSubset e.right terms) → set_pairs_of cert_nodes (map (number_pair_of terms) fs) ≡ pairs_of (entries_of store fs)
+  sets_numbered : (fs : List IdEntry) → ((e : IdEntry) → Has fs e → IsSubset e.left terms × IsSubset e.right terms) → set_pairs_of cert_nodes (map sets_of (map (number_pair_of terms) fs)) ≡ pairs_of (entries_of store fs)
   sets_numbered [] within = refl
   sets_numbered (f ∷ fs) within =
       let own = within f (inl refl) in

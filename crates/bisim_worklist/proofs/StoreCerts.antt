@@ -9,8 +9,8 @@ use Rattle.term_nodes.specs.declared.TestNode.{TestNode}
 use Rattle.term_nodes.specs.declared.TermNode.{TermNode}
 use Rattle.certificate.specs.declared.nodes.Style.TheVariants.{UpTo}
 use Rattle.term_nodes.specs.Nodes.{IsTestOver, IsOver, test_parts, term_parts, tests_of_term}
-use Rattle.term_nodes.specs.NumberSets.{are_below, are_ascending, NumberPair, IsNumberSet}
-use Rattle.certificate.specs.Certs.{CertParts, cert_of, IsCert}
+use Rattle.term_nodes.specs.NumberSets.{are_below, are_ascending, IsNumberSet}
+use Rattle.certificate.specs.Certs.{CertParts, cert_of, IsPairOf, IsCert}
 use Rattle.term_nodes.specs.NodeLists.{NodeParts, AreNodes}
 use Rattle.term_nodes.specs.declared.TestNode.TheVariants as test
 use Rattle.term_nodes.specs.declared.TermNode.TheVariants.{Zero, One, Test, Act, Sum, Seq, Star}
@@ -184,6 +184,6 @@ module _ (store : NodeParts) (es : List IdEntry) (terms named tests : List ℕ) 
         let r = has_map (number_pair_of terms) es p h in
         let set = sets r.0 r.1 in
         let within = members_there r.0 r.1 in
-        subst (λ (q : NumberPair). IsNumberSet (length (term_nodes_of store tests terms terms)) q.left × IsNumberSet (length (term_nodes_of store tests terms terms)) q.right) r.2
-        (number_set r.0.left within.0 set.0.ascending, number_set r.0.right within.1 set.1.ascending);
+        subst (IsPairOf (numbered_cert store tests terms es)) r.2
+        (record { left = number_set r.0.left within.0 set.0.ascending; right = number_set r.0.right within.1 set.1.ascending; test = refl });
   }

@@ -18,7 +18,7 @@ pub(crate) struct Case {
 }
 
 // The tests decided so far, and one more.
-fn decided_with(
+fn with_decision(
     alloc: Global,
     decided: &[Option<bool>],
     test: usize,
@@ -100,7 +100,7 @@ pub(crate) fn case_with(
     ensures items { IfOk result (λ c. AreItemsWith diagrams.old diagrams.new case.now.items.items test value c.items.items) }
     ensures kept { KeepsFunctions diagrams.old diagrams.new }
 {
-    let decided = decided_with(alloc, &case.decided, test, value)?;
+    let decided = with_decision(alloc, &case.decided, test, value)?;
     let items = items_with(alloc, diagrams, ends, &case.items, test, value)?;
     Ok(Case { decided, items })
 }

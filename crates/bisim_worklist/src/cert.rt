@@ -107,7 +107,7 @@ fn numbers(alloc: Global, terms: &Terms, set: &[TermId]) -> Result<Items<usize>,
     Ok(Items::of(list))
 }
 
-fn numbered(alloc: Global, terms: &Terms, pairs: &[Listed]) -> Result<Vec<Pair>, NoMemory>
+fn number_pairs(alloc: Global, terms: &Terms, pairs: &[Listed]) -> Result<Vec<Pair>, NoMemory>
     requires { IsSubset (members_of pairs.now) terms.now.keys }
     ensures { IfOk result (λ v. v.items ≡ map (number_pair_of terms.now.keys) pairs.now) }
 {
@@ -115,7 +115,11 @@ fn numbered(alloc: Global, terms: &Terms, pairs: &[Listed]) -> Result<Vec<Pair>,
     for pair in pairs {
         let left = numbers(alloc, terms, pair.left.as_slice())?;
         let right = numbers(alloc, terms, pair.right.as_slice())?;
-        list.push(Pair { left, right })?;
+        list.push(Pair {
+            left,
+            right,
+            test: None,
+        })?;
     }
     Ok(list)
 }
@@ -131,6 +135,6 @@ pub(crate) fn cert_of(alloc: Global, store: &Store, pairs: &[Listed]) -> Result<
     let tests = needed_tests(alloc, store, &terms)?;
     let test_nodes = test_nodes(alloc, store, &tests)?;
     let term_nodes = term_nodes(alloc, store, &tests, &terms)?;
-    let pairs = numbered(alloc, &terms, pairs)?;
+    let pairs = number_pairs(alloc, &terms, pairs)?;
     Ok(Cert::of_parts(Style::UpTo, test_nodes, term_nodes, pairs))
 }

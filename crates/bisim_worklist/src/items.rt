@@ -130,7 +130,7 @@ fn add_right(
 }
 
 // The items in ascending order of their targets.
-fn listed(alloc: Global, items: &ByTarget) -> Result<Vec<Item>, NoMemory>
+fn item_list(alloc: Global, items: &ByTarget) -> Result<Vec<Item>, NoMemory>
     ensures items { IfOk result (λ v. v.items ≡ items_in items.now.entries) }
     ensures ordered { IsOrdered nat_cmp items.now }
 {
@@ -160,5 +160,5 @@ pub(crate) fn items_of(
     let mut items = BTreeMap::new(alloc);
     add_left(&mut items, left, act, never)?;
     add_right(&mut items, right, act, never)?;
-    listed(alloc, &items)
+    item_list(alloc, &items)
 }

@@ -13,7 +13,7 @@ fn count_of(moves: &[Guarded], act: usize) -> usize {
 }
 
 // Each action below the count, after the number of its moves.
-fn counted(
+fn action_counts(
     alloc: Global,
     left: &[Guarded],
     right: &[Guarded],
@@ -38,7 +38,7 @@ pub(crate) fn actions_in_order(
 ) -> Result<Vec<usize>, NoMemory>
     ensures { IfOk result (λ v. (a : ℕ) → Has v.items a ↔ (a < actions)) }
 {
-    let mut order = counted(alloc, left, right, actions)?;
+    let mut order = action_counts(alloc, left, right, actions)?;
     order.sort()?;
     let mut acts = Vec::new(alloc);
     for (_, act) in &order {

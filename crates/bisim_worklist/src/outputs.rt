@@ -9,7 +9,7 @@ use std::alloc::Global;
 use test_diagrams::{DiagramId, Diagrams};
 
 // The diagram that is true where the first is and the second is not.
-fn without(diagrams: &mut Diagrams, a: DiagramId, b: DiagramId) -> Result<DiagramId, NoMemory>
+fn and_not(diagrams: &mut Diagrams, a: DiagramId, b: DiagramId) -> Result<DiagramId, NoMemory>
     requires first { IsDiagramId diagrams.old a }
     requires second { IsDiagramId diagrams.old b }
     ensures function { IfOk result (λ id. IsDiagramOf diagrams.new id (λ atom. value_of diagrams.old a atom && not (value_of diagrams.old b atom))) }
@@ -28,8 +28,8 @@ fn difference(diagrams: &mut Diagrams, a: DiagramId, b: DiagramId) -> Result<Dia
     ensures kept { KeepsFunctions diagrams.old diagrams.new }
     ensures reduced { IsReduced diagrams.new }
 {
-    let only_a = without(diagrams, a, b)?;
-    let only_b = without(diagrams, b, a)?;
+    let only_a = and_not(diagrams, a, b)?;
+    let only_b = and_not(diagrams, b, a)?;
     diagrams.or(only_a, only_b)
 }
 

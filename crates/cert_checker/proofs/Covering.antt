@@ -52,7 +52,7 @@ truly_value (Value true) e = refl
 truly_value (Value false) e = absurd cc
 truly_value (Waits k) e = absurd cc
 
-falsely_value : (x : Known) → falsely x ≡ true → x ≡ Value false
+pub falsely_value : (x : Known) → falsely x ≡ true → x ≡ Value false
 falsely_value (Value true) e = absurd cc
 falsely_value (Value false) e = refl
 falsely_value (Waits k) e = absurd cc

@@ -9,7 +9,7 @@ use Rattle.cert_checker.specs.declared.answer.Reason.{Reason}
 use Rattle.cert_checker.specs.declared.places.Place.{Place}
 use Rattle.cert_checker.specs.Answers.{Turn, turn_of, IsEarlier, IsLess, FailsBy}
 use Rattle.cert_checker.specs.Working.Cases.{is_less}
-use Rattle.cert_checker.specs.declared.answer.Reason.TheVariants.{FirstPair, Output, Missing, Shape, HypBroken, EndsAgree, TestNode, TermNode}
+use Rattle.cert_checker.specs.declared.answer.Reason.TheVariants.{FirstPair, Output, Missing, MissingTo, Shape, HypBroken, EndsAgree, TestNode, TermNode}
 use Rattle.cert_checker.specs.Working.Places.{IsAmong, IsFirstOf, Passes, reason_at, place_reason, comes_before, earlier_place}
 use Rattle.cert_checker.proofs.LeastFailures.{less_total, less_trans, is_less_true, less_is_true}
 use Rattle.cert_checker.proofs.OneAnswer.{three_ways, same_length}
@@ -28,11 +28,11 @@ before_trans s t u h k =
 before_earlier : (s t : Turn) → s.stage ≡ t.stage → IsBefore s t → IsEarlier s t
 before_earlier s t e h = inr (e, ⊎_elim inl (λ k. inr (k.0, inl k.1)) h)
 
--- an earlier turn with no lesser action stands before
-earlier_before : (s t : Turn) → s.stage ≡ t.stage → (s.action < t.action → ⊥) → IsEarlier s t → IsBefore s t
+-- an earlier turn with a greater action stands before
+earlier_before : (s t : Turn) → s.stage ≡ t.stage → t.action < s.action → IsEarlier s t → IsBefore s t
 earlier_before s t e never h =
     ⊎_elim (λ l. absurd (omega (arith, l, e)))
-    (λ k. ⊎_elim inl (λ l. ⊎_elim (λ m. inr (l.0, m)) (λ m. absurd (never m.1)) l.1) k.1)
+    (λ k. ⊎_elim inl (λ l. ⊎_elim (λ m. inr (l.0, m)) (λ m. absurd (⊎_elim (λ n. omega (arith, n, never)) (λ n. omega (arith, n.0, never)) m.1)) l.1) k.1)
     h
 
 earlier_trans_before : (s t u : Turn) → s.stage ≡ t.stage → t.stage ≡ u.stage → IsEarlier s t → IsBefore t u → IsEarlier s u
@@ -48,14 +48,15 @@ earlier_trans_before s t u e f h k =
     h
 
 -- what the turn of a place is
-parts_of : (k : ℕ) (atom : Atom) (o : Option ℕ) → ((turn_of (reason_at k atom o)).number ≡ k) × ((turn_of (reason_at k atom o)).atom ≡ atom) × ((turn_of (reason_at k atom o)).stage ≡ 3)
-parts_of k atom None = (refl, refl, refl)
-parts_of k atom (Some a) = (refl, refl, refl)
+parts_of : (k : ℕ) (atom : Atom) (o : Option ℕ) (to : Option Atom) → ((turn_of (reason_at k atom o to)).number ≡ k) × ((turn_of (reason_at k atom o to)).atom ≡ atom) × ((turn_of (reason_at k atom o to)).stage ≡ 3)
+parts_of k atom None to = (refl, refl, refl)
+parts_of k atom (Some a) None = (refl, refl, refl)
+parts_of k atom (Some a) (Some to) = (refl, refl, refl)
 
 place_before : (x y : Place) → comes_before x y ≡ true → IsBefore (turn_of (place_reason x)) (turn_of (place_reason y))
 place_before x y e =
-    let px = parts_of x.pair x.atom.items x.action in
-    let py = parts_of y.pair y.atom.items y.action in
+    let px = parts_of x.pair x.atom.items x.action (option_map (λ v. v.items) x.to) in
+    let py = parts_of y.pair y.atom.items y.action (option_map (λ v. v.items) y.to) in
     ⊎_elim
     (λ l. let h : x.pair < y.pair = ltb-true x.pair y.pair l in inl (omega (arith, h, px.0, py.0)))
     (λ r.
@@ -65,8 +66,8 @@ place_before x y e =
 
 before_place : (x y : Place) → IsBefore (turn_of (place_reason x)) (turn_of (place_reason y)) → comes_before x y ≡ true
 before_place x y h =
-    let px = parts_of x.pair x.atom.items x.action in
-    let py = parts_of y.pair y.atom.items y.action in
+    let px = parts_of x.pair x.atom.items x.action (option_map (λ v. v.items) x.to) in
+    let py = parts_of y.pair y.atom.items y.action (option_map (λ v. v.items) y.to) in
     ⊎_elim
     (λ l. or_left (nat_lt x.pair y.pair) _ (lt-ltb x.pair y.pair (omega (arith, l, px.0, py.0))))
     (λ r.
@@ -101,6 +102,7 @@ module _ (q : ProblemParts) (c : CertParts) (m : ℕ) where
   passes_not : (s : Reason) → (turn_of s).stage ≡ 3 → Passes q c s → FailsBy q c s → ⊥
   passes_not (Output k atom) e h f = f.3 (h f.0 f.1 f.2)
   passes_not (Missing k atom a) e h f = f.4 (h f.0 f.1 f.2 f.3)
+  passes_not (MissingTo k atom a to) e h f = f.5 (h f.0 f.1 f.2 f.3 f.4)
   passes_not (TestNode k) e h f = absurd (omega (arith, e))
   passes_not (TermNode k) e h f = absurd (omega (arith, e))
   passes_not FirstPair e h f = absurd (omega (arith, e))
@@ -133,7 +135,7 @@ module _ (q : ProblemParts) (c : CertParts) (m : ℕ) where
             (λ k. high.2 s k
             (before_earlier (turn_of s) (turn_of (place_reason y)) (a.0 ∙ sym high.0.0)
             (before_other (place_reason x) (place_reason y) s a.0 low.0.0 high.0.0 low.1 high.1 (λ b. true≢false (sym (before_place y x b) ∙ e))
-            (earlier_before (turn_of s) (turn_of (place_reason x)) (a.0 ∙ sym low.0.0) (λ l. absurd (omega (arith, l, k.1, low.0.1))) f)))
+            (earlier_before (turn_of s) (turn_of (place_reason x)) (a.0 ∙ sym low.0.0) (omega (arith, k.1, low.0.1)) f)))
             g)
             (low_or_last s a)),
       )

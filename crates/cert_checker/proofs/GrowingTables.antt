@@ -6,12 +6,15 @@ use Rattle.kat_model.specs.Members.{Has}
 use Rattle.term_nodes.specs.declared.TestNode.{TestNode}
 use Rattle.term_nodes.specs.declared.TestNode.TheVariants.{Prim}
 use Rattle.term_nodes.specs.declared.TermNode.{TermNode}
-use Rattle.term_nodes.proofs.Growing.{Grows-trans, AddsTest-grows, AddsTerm-grows}
+use Rattle.term_nodes.proofs.Growing.{Grows-itself, Grows-trans, AddsTest-grows, AddsTerm-grows}
 use Rattle.term_nodes.proofs.Insertions.{insert_adds, added_members, test_inserted, term_inserted}
 use Rattle.cert_checker.specs.Working.NodeTables.{TableParts, nodes_in, AreTables, TablesGrow, AddsTest, AddsTerm, MayBeTest, MayBeTerm, IsWithin}
 
+pub grows_itself : (a : TableParts) → AreTables a → TablesGrow a a
+grows_itself a are = record { sound = are; width = refl; nodes = Grows-itself (nodes_in a) }
+
 pub grows_trans : (a b c : TableParts) → TablesGrow a b → TablesGrow b c → TablesGrow a c
-grows_trans a b c g h = record { width = h.width ∙ g.width; nodes = Grows-trans (nodes_in a) (nodes_in b) (nodes_in c) g.nodes h.nodes }
+grows_trans a b c g h = record { sound = h.sound; width = h.width ∙ g.width; nodes = Grows-trans (nodes_in a) (nodes_in b) (nodes_in c) g.nodes h.nodes }
 
 within_prim : (width k : ℕ) (n : TestNode ℕ) → n ≡ Prim k → IsWithin width n → k < width
 within_prim width k n e h = subst (IsWithin width) e h
@@ -36,12 +39,14 @@ term_added eq own r t terms n are may unique e same = record {
 
 pub AddsTest-tables : (old new : TableParts) (n : TestNode ℕ) → AreTables old → AreTables new → AddsTest old new n → TablesGrow old new
 AddsTest-tables old new n was are adds = record {
+  sound = are;
   width = ⊎_elim (ap (λ (t : TableParts). t.width)) (ap (λ (t : TableParts). t.width)) adds;
   nodes = AddsTest-grows (nodes_in old) (nodes_in new) n was.rules are.rules (⊎_elim (λ e. inl (ap nodes_in e)) (λ e. inr (ap nodes_in e)) adds);
 }
 
 pub AddsTerm-tables : (old new : TableParts) (n : TermNode ℕ ℕ) → AreTables old → AreTables new → AddsTerm old new n → TablesGrow old new
 AddsTerm-tables old new n was are adds = record {
+  sound = are;
   width = ⊎_elim (ap (λ (t : TableParts). t.width)) (ap (λ (t : TableParts). t.width)) adds;
   nodes = AddsTerm-grows (nodes_in old) (nodes_in new) n was.rules are.rules (⊎_elim (λ e. inl (ap nodes_in e)) (λ e. inr (ap nodes_in e)) adds);
 }

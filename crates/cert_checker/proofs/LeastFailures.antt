@@ -1,10 +1,11 @@
 -- The least failure among the atoms with some tests decided, by cases on one more test.
-use Rattle.std.proofs.Common.{◌≡◌, ℕ, zero, suc, ◌<◌, ◌≤◌, min, drop, ◌⊎◌, inl, inr, ⊎_elim, List, [], ◌∷◌, length, set as slice_set, refl, sym, ap, ◌∙◌, subst, arith, Bool, true, false, cond, Option, Some, None}
+use Rattle.std.proofs.Common.{◌≡◌, ℕ, zero, suc, ◌<◌, ◌≤◌, min, drop, ◌⊎◌, inl, inr, ⊎_elim, List, [], ◌∷◌, length, set as slice_set, refl, sym, ap, ◌∙◌, subst, arith, Bool, true, false, Option, Some, None}
 use Rattle.std.proofs.Math.ListN.{length-set}
 use Rattle.std.proofs.lemmas.List.{length-drop}
+use Rattle.std.specs.Option.{option_or}
 use Rattle.kat_model.specs.Steps.{Atom}
 use Rattle.cert_checker.specs.Answers.{IsLess}
-use Rattle.cert_checker.specs.Working.Cases.{Extends, IsOpen, open_count, least_of, is_less, lesser_of, IsFirstFailure}
+use Rattle.cert_checker.specs.Working.Cases.{Extends, IsOpen, open_count, least_of, is_less, IsBelow, IsFirstFailure}
 
 -- ---- the order of atoms
 
@@ -97,6 +98,10 @@ extends_cases (Some a ∷ ds) zero (c ∷ atom) undecided h = absurd cc
 extends_cases (None ∷ ds) (suc k) (c ∷ atom) undecided h = extends_cases ds k atom undecided h
 extends_cases (Some a ∷ ds) (suc k) (c ∷ atom) undecided h = ⊎_elim (λ l. inl (h.0, l)) (λ r. inr (h.0, r)) (extends_cases ds k atom undecided h.1)
 
+pub or_none : (o : Option Atom) → option_or o None ≡ o
+or_none None = refl
+or_none (Some x) = refl
+
 -- ---- where all fail
 
 pub least_extends : (ds : List (Option Bool)) → Extends ds (least_of ds)
@@ -116,57 +121,61 @@ least_is_least (Some true ∷ ds) (false ∷ bs) h l = let e : true ≡ false = 
 least_is_least (Some true ∷ ds) (true ∷ bs) h l = least_is_least ds bs h.1 l
 
 module _ (P : Atom → Type 0) where
-  pub all_fail : (ds : List (Option Bool)) → ((atom : Atom) → Extends ds atom → P atom → ⊥) → IsFirstFailure P ds (Some (least_of ds))
-  all_fail ds fail = record {
+  -- below a bound the property fails
+  abbrev pub Below : Option Atom → Atom → Type 0
+  Below bound x = IsBelow bound x → P x
+
+  pub all_fail : (ds : List (Option Bool)) (bound : Option Atom) → IsBelow bound (least_of ds) → ((atom : Atom) → Extends ds atom → P atom → ⊥) → IsFirstFailure (Below bound) ds (Some (least_of ds))
+  all_fail ds bound below fail = record {
     within = least_extends ds;
-    fails = fail (least_of ds) (least_extends ds);
+    fails = λ h. fail (least_of ds) (least_extends ds) (h below);
     least = λ other h l. absurd (least_is_least ds other h l);
   }
 
-  -- ---- by cases on one test more
+  -- no atom with the decided tests is below a bound that the least of them is not
+  pub none_below : (ds : List (Option Bool)) (bound : Option Atom) → (IsBelow bound (least_of ds) → ⊥) → IsFirstFailure (Below bound) ds None
+  none_below ds None never atom h low = absurd (never tt)
+  none_below ds (Some bound) never atom h low =
+      absurd (⊎_elim
+      (λ l. least_is_least ds atom h l)
+      (λ r. ⊎_elim (λ same. never (subst (λ z. IsLess z bound) same low)) (λ l. never (less_trans (least_of ds) atom bound l low)) r)
+      (less_total atom (least_of ds) (extends_length ds atom h ∙ sym (extends_length ds (least_of ds) (least_extends ds)))))
 
-  pub lesser_first : (ds : List (Option Bool)) (k : ℕ) (o p : Option Atom) → IsOpen ds k → IsFirstFailure P (slice_set ds k (Some false)) o → IsFirstFailure P (slice_set ds k (Some true)) p → IsFirstFailure P ds (lesser_of o p)
-  lesser_first ds k None None undecided low high = λ atom h. ⊎_elim (low atom) (high atom) (extends_cases ds k atom undecided h)
-  lesser_first ds k None (Some y) undecided low high = record {
+  -- a failure is below the bound
+  failure_below : (ds : List (Option Bool)) (bound : Option Atom) (x : Atom) → IsFirstFailure (Below bound) ds (Some x) → IsBelow bound x
+  failure_below ds None x f = tt
+  failure_below ds (Some v) x f = go (is_less x v) refl
+    where
+      go : (b : Bool) → is_less x v ≡ b → IsLess x v
+      go true e = is_less_true x v e
+      go false e = absurd (f.fails (λ l. let g : true ≡ false = sym (less_is_true x v l) ∙ e in absurd cc))
+
+  below_trans : (bound : Option Atom) (y x : Atom) → IsLess y x → IsBelow bound x → IsBelow bound y
+  below_trans None y x l h = tt
+  below_trans (Some v) y x l h = less_trans y x v l h
+
+  -- ---- by cases on one test more, of which the second looks below what the first has found
+
+  pub lesser_first : (ds : List (Option Bool)) (k : ℕ) (bound o p : Option Atom) → IsOpen ds k → IsFirstFailure (Below bound) (slice_set ds k (Some false)) o → IsFirstFailure (Below (option_or o bound)) (slice_set ds k (Some true)) p → IsFirstFailure (Below bound) ds (option_or p o)
+  lesser_first ds k bound None None undecided low high = λ atom h. ⊎_elim (low atom) (high atom) (extends_cases ds k atom undecided h)
+  lesser_first ds k bound None (Some y) undecided low high = record {
     within = extends_before ds k true y undecided high.within;
     fails = high.fails;
     least = λ other h l. ⊎_elim (low other) (λ r. high.least other r l) (extends_cases ds k other undecided h);
   }
-  lesser_first ds k (Some x) None undecided low high = record {
+  lesser_first ds k bound (Some x) None undecided low high = record {
     within = extends_before ds k false x undecided low.within;
     fails = low.fails;
-    least = λ other h l. ⊎_elim (λ r. low.least other r l) (high other) (extends_cases ds k other undecided h);
+    least = λ other h l. ⊎_elim (λ r. low.least other r l) (λ r below. high other r l) (extends_cases ds k other undecided h);
   }
-  lesser_first ds k (Some x) (Some y) undecided low high = go (is_less y x) refl
+  lesser_first ds k bound (Some x) (Some y) undecided low high = record {
+    within = extends_before ds k true y undecided high.within;
+    fails = λ h. high.fails (λ l. h (below_trans bound y x l (failure_below (slice_set ds k (Some false)) bound x low)));
+    least = λ other h l. ⊎_elim (λ r. low.least other r (less_trans other y x l lower)) (λ r below. high.least other r l (less_trans other y x l lower)) (extends_cases ds k other undecided h);
+  }
     where
-      x_in : Extends ds x
-      x_in = extends_before ds k false x undecided low.within
-
-      y_in : Extends ds y
-      y_in = extends_before ds k true y undecided high.within
-
-      -- an atom less than x is not the least failure of the other half, nor above it
-      below_x : (other : Atom) → is_less y x ≡ false → Extends (slice_set ds k (Some true)) other → IsLess other x → P other
-      below_x other e r l =
-          ⊎_elim
-          (λ b. high.least other r b)
-          (λ s. absurd (⊎_elim (λ same. both (subst (λ z. IsLess z x) same l)) (λ above. both (less_trans y other x above l)) s))
-          (less_total other y (extends_length (slice_set ds k (Some true)) other r ∙ sym (extends_length (slice_set ds k (Some true)) y high.within)))
-        where
-          both : IsLess y x → ⊥
-          both b = let f : true ≡ false = sym (less_is_true y x b) ∙ e in cc
-
-      go : (b : Bool) → is_less y x ≡ b → IsFirstFailure P ds (cond b (Some y) (Some x))
-      go true e = record {
-        within = y_in;
-        fails = high.fails;
-        least = λ other h l. ⊎_elim (λ r. low.least other r (less_trans other y x l (is_less_true y x e))) (λ r. high.least other r l) (extends_cases ds k other undecided h);
-      }
-      go false e = record {
-        within = x_in;
-        fails = low.fails;
-        least = λ other h l. ⊎_elim (λ r. low.least other r l) (λ r. below_x other e r l) (extends_cases ds k other undecided h);
-      }
+      lower : IsLess y x
+      lower = failure_below (slice_set ds k (Some true)) (Some x) y high
 
 -- ---- one test more is decided
 

@@ -1,3 +1,12 @@
+pub mod PairTurns
+pub mod ForbiddenMoves
+pub mod SetQuestions
+pub mod RootRanges
+pub mod LongProblems
+pub mod StepStates
+pub mod NextTests
+pub mod Halves
+pub mod MoveAnswers
 pub mod GrowingTables
 pub mod LeastFailures
 pub mod KnownTruths
@@ -5,6 +14,9 @@ pub mod MarkedSets
 pub mod Covering
 pub mod Covered
 pub mod OneAnswer
+pub mod PairPlaces
+pub mod Passes
+pub mod FirstPairs
 pub mod EarlierPlaces
 pub mod TargetSets
 pub mod ListedPairs
@@ -12,11 +24,7 @@ pub mod NodeRanges
 pub mod FirstReasons
 pub mod StepSets
 pub mod MarkSteps
-pub mod PairPlaces
-pub mod TreeNumbers
-pub mod ClosedSides
 pub mod StepAnswers
-pub mod PairSets
 pub mod CertTables
 pub mod AddingTargets
 pub mod StepLists

@@ -3,6 +3,9 @@ use Rattle.std.proofs.Common.{◌≡◌, ℕ, zero, suc, ◌+◌, ◌-◌, ◌<�
 use Rattle.std.proofs.lemmas.Bool.{and_parts, and_from}
 use Rattle.kat_model.proofs.Places.{get_or-set_kept}
 use Rattle.term_nodes.specs.NumberSets.{NumberPair}
+use Rattle.certificate.specs.PairParts.{PairParts, sets_of}
+use Rattle.cert_checker.specs.declared.known.Known.{Known}
+use Rattle.cert_checker.specs.Working.Matching.{known_test, may_be, counting}
 use Rattle.cert_checker.specs.Working.Marks.{are_marked, with_marks, with_pair_marked, round_marked, rounds_marked}
 
 -- ---- what is marked stays so
@@ -35,8 +38,15 @@ rounds_keep (suc n) ps marks ks e = rounds_keep n ps (round_marked ps marks) ks 
 
 -- ---- what is left of a round, and of the rounds
 
-pub round_next : (ps : List NumberPair) (i : ℕ) (p : NumberPair) (marks : List Bool) → i < length ps → p ≡ get_or ps i p → round_marked (drop i ps) marks ≡ round_marked (drop (suc i) ps) (with_pair_marked marks p)
-round_next ps i p marks h e = ap (λ l. round_marked l marks) (drop-cons ps i p h) ∙ ap (λ q. round_marked (drop (suc i) ps) (with_pair_marked marks q)) (sym e)
+module _ (also : Bool) (known : List Known) (ps : List PairParts) (i : ℕ) (p : PairParts) (low : i < length ps) (at : p ≡ get_or ps i p) where
+  counting_next : counting also known (drop i ps) ≡ cond (may_be also (known_test known p.test)) (sets_of p ∷ counting also known (drop (suc i) ps)) (counting also known (drop (suc i) ps))
+  counting_next = ap (counting also known) (drop-cons ps i p low) ∙ ap (λ q. counting also known (q ∷ drop (suc i) ps)) (sym at)
+
+  pub counted_next : (marks : List Bool) → may_be also (known_test known p.test) ≡ true → round_marked (counting also known (drop i ps)) marks ≡ round_marked (counting also known (drop (suc i) ps)) (with_pair_marked marks (sets_of p))
+  counted_next marks e = ap (λ l. round_marked l marks) (counting_next ∙ ap (λ b. cond b (sets_of p ∷ counting also known (drop (suc i) ps)) (counting also known (drop (suc i) ps))) e)
+
+  pub uncounted_next : (marks : List Bool) → may_be also (known_test known p.test) ≡ false → round_marked (counting also known (drop i ps)) marks ≡ round_marked (counting also known (drop (suc i) ps)) marks
+  uncounted_next marks e = ap (λ l. round_marked l marks) (counting_next ∙ ap (λ b. cond b (sets_of p ∷ counting also known (drop (suc i) ps)) (counting also known (drop (suc i) ps))) e)
 
 -- after a round that changes nothing no other does
 rounds_stay : (n : ℕ) (ps : List NumberPair) (marks : List Bool) → round_marked ps marks ≡ marks → rounds_marked n ps marks ≡ marks

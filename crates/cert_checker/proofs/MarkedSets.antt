@@ -1,12 +1,14 @@
 -- Marks that stand for a set of terms, and their saturation.
-use Rattle.std.proofs.Common.{◌≡◌, ◌↔◌, ℕ, zero, suc, ◌<◌, ◌⊎◌, inl, inr, ⊎_elim, List, [], ◌∷◌, ◌++◌, length, get_or, set, slice_get, replicate, refl, sym, ap, ◌∙◌, subst, arith, Bool, true, false, ◌||◌, cond, Some}
+use Rattle.std.proofs.Common.{◌≡◌, ◌↔◌, ℕ, zero, suc, ◌+◌, ◌-◌, ◌<◌, ◌≤◌, zero-add, arith, ◌⊎◌, inl, inr, ⊎_elim, List, [], ◌∷◌, ◌++◌, length, get_or, set, slice_get, replicate, refl, sym, ap, ◌∙◌, subst, arith, Bool, true, false, ◌||◌, cond, Some}
 use Rattle.std.proofs.lemmas.Bool.{and_parts, and_from}
 use Rattle.std.proofs.lemmas.Option.{slice_get-get_or, slice_get_within, get_or_from_slice_get}
 use Rattle.std.proofs.Math.ListN.{length-set}
 use Rattle.std.proofs.lemmas.List.{length-map, length-replicate}
 use Rattle.kat_model.specs.Trees.{Term}
-use Rattle.kat_model.specs.Members.{Has, IsSubset}
-use Rattle.kat_model.specs.Pairs.{holds_all, with_pair, round, rounds, sat}
+use Rattle.kat_model.specs.Members.{Has, IsSubset, SameMembers}
+use Rattle.kat_model.specs.Pairs.{SetPair, holds_all, with_pair, round, rounds, sat}
+use Rattle.kat_model.proofs.Saturation.{sat_keeps, rounds_keep, rounds_each}
+use Rattle.kat_model.proofs.SaturationEnds.{sat_closed}
 use Rattle.kat_model.proofs.Lists.{has_left, has_right, has_append}
 use Rattle.kat_model.proofs.SameTrees.{holds_all-true, subset-holds_all}
 use Rattle.kat_model.proofs.Places.{slice_get-set_same, slice_get-set_kept, slice_get-set_cases}
@@ -39,8 +41,26 @@ length_rounds : (n : ℕ) (ps : List NumberPair) (marks : List Bool) → length 
 length_rounds zero ps marks = refl
 length_rounds (suc n) ps marks = length_rounds n ps (round_marked ps marks) ∙ length_round ps marks
 
-pub saturated_length : (n : ℕ) (ps : List NumberPair) (ks : List ℕ) → length (saturated_marks n ps ks) ≡ n
-saturated_length n ps ks = length_rounds (length ps) ps (with_marks (replicate n false) ks) ∙ length_with_marks (replicate n false) ks ∙ length-replicate n false
+pub saturated_length : (n turns : ℕ) (ps : List NumberPair) (ks : List ℕ) → length (saturated_marks n turns ps ks) ≡ n
+saturated_length n turns ps ks = length_rounds turns ps (with_marks (replicate n false) ks) ∙ length_with_marks (replicate n false) ks ∙ length-replicate n false
+
+-- ---- more rounds than there are pairs add nothing
+
+rounds_add : (m n : ℕ) (ps : List SetPair) (es : List Term) → rounds (m + n) ps es ≡ rounds n ps (rounds m ps es)
+rounds_add zero n ps es = ap (λ k. rounds k ps es) (zero-add n)
+rounds_add (suc m) n ps es = ap (λ k. rounds k ps es) more ∙ rounds_add m n ps (round ps es)
+  where
+    more : suc m + n ≡ suc (m + n)
+    more = omega arith
+
+pub rounds_enough : (n : ℕ) (ps : List SetPair) (es : List Term) → length ps ≤ n → SameMembers (rounds n ps es) (sat ps es)
+rounds_enough n ps es enough x = (
+  (λ h. rounds_each (Has (sat ps es)) n ps es (sat_closed ps es) (sat_keeps ps es) x h),
+  (λ h. subst (λ fs. Has fs x) (sym split) (rounds_keep (n - length ps) ps (sat ps es) x h)),
+)
+  where
+    split : rounds n ps es ≡ rounds (n - length ps) ps (sat ps es)
+    split = let whole : n ≡ length ps + (n - length ps) = omega (arith, enough) in ap (λ k. rounds k ps es) whole ∙ rounds_add (length ps) (n - length ps) ps es
 
 -- ---- marks and terms
 
@@ -151,10 +171,13 @@ module _ (t : TableParts) (are : AreTables t) where
   none_marked (suc n) (suc k) e = none_marked n k e
 
   -- the marks that are computed are those of the saturated set
-  pub saturated_set : (ps : List NumberPair) (ks : List ℕ) → ArePairsBelow (length t.terms) ps → are_below (length t.terms) ks ≡ true → MarksAre t (saturated_marks (length t.terms) ps ks) (sat (set_pairs_of (nodes_in t) ps) (terms_of (nodes_in t) ks))
-  saturated_set ps ks below low =
-      subst (λ n. MarksAre t (saturated_marks (length t.terms) ps ks) (rounds n (set_pairs_of (nodes_in t) ps) (terms_of (nodes_in t) ks))) (sym (length-map ps _))
-      (rounds_marks (length ps) ps (with_marks (replicate (length t.terms) false) ks) (terms_of (nodes_in t) ks) (length_with_marks (replicate (length t.terms) false) ks ∙ length-replicate (length t.terms) false) below
+  pub saturated_set : (turns : ℕ) (ps : List NumberPair) → length ps ≤ turns → (ks : List ℕ) → ArePairsBelow (length t.terms) ps → are_below (length t.terms) ks ≡ true → MarksAre t (saturated_marks (length t.terms) turns ps ks) (sat (set_pairs_of (nodes_in t) ps) (terms_of (nodes_in t) ks))
+  saturated_set turns ps enough ks below low e =
+      let long : length (set_pairs_of (nodes_in t) ps) ≤ turns = subst (λ n. n ≤ turns) (sym (length-map ps _)) enough in
+      let same = rounds_enough turns (set_pairs_of (nodes_in t) ps) (terms_of (nodes_in t) ks) long e in
+      let marks =
+      rounds_marks turns ps (with_marks (replicate (length t.terms) false) ks) (terms_of (nodes_in t) ks) (length_with_marks (replicate (length t.terms) false) ks ∙ length-replicate (length t.terms) false) below
       (more_marks ks (replicate (length t.terms) false) [] (terms_of (nodes_in t) ks) (length-replicate (length t.terms) false) low
       (λ e. ((λ f. absurd (none_marked (length t.terms) f.0 f.1)), absurd))
-      (λ e. (inr, (λ h. ⊎_elim absurd (λ k. k) h)))))
+      (λ e. (inr, (λ h. ⊎_elim absurd (λ k. k) h)))) e in
+      ((λ m. same.0 (marks.0 m)), (λ h. marks.1 (same.1 h)))

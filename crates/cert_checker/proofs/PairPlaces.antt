@@ -1,130 +1,203 @@
--- The first place of one turn, from what is known of the pairs gone through.
-use Rattle.std.proofs.Common.{◌≡◌, ◌↔◌, ℕ, zero, suc, ◌+◌, ◌<◌, ◌⊎◌, ⊎_elim, List, [], ◌∷◌, length, slice_get, refl, sym, ap, ◌∙◌, subst, arith, Bool, Option, Some, None}
+-- The first reason of one turn, from what is known of the pairs gone through: outputs or one action.
+use Rattle.std.proofs.Common.{◌≡◌, ◌↔◌, ℕ, zero, suc, ◌+◌, ◌<◌, ◌⊎◌, inl, inr, ⊎_elim, [], ◌∷◌, ◌++◌, take, drop, length, slice_get, refl, sym, ap, ◌∙◌, subst, arith, add-one, Option, Some, None}
 use Rattle.std.proofs.lemmas.Option.{slice_get_within}
-use Rattle.std.proofs.lemmas.List.{length-map}
+use Rattle.std.proofs.Math.Seq.{take-append_seam, drop-append_seam}
+use Rattle.std.proofs.lemmas.List.{length-map, length-take-le, length-drop, length-append, take-append-drop}
 use Rattle.kat_model.specs.Problems.{ProblemParts}
 use Rattle.kat_model.specs.Steps.{Atom}
-use Rattle.kat_model.specs.Pairs.{SetPair}
+use Rattle.kat_model.specs.TestedPairs.{TestedPair}
+use Rattle.certificate.specs.declared.nodes.Style.{Style}
+use Rattle.certificate.specs.declared.nodes.Style.TheVariants.{Plain, UpTo, Under}
 use Rattle.certificate.specs.Certs.{CertParts}
-use Rattle.certificate.specs.Accepted.{set_pairs}
+use Rattle.certificate.specs.Accepted.{tested_pairs}
 use Rattle.cert_checker.specs.declared.answer.Reason.{Reason}
-use Rattle.cert_checker.specs.declared.answer.Reason.TheVariants.{FirstPair, Output, Missing, Shape, HypBroken, EndsAgree, TestNode, TermNode}
-use Rattle.cert_checker.specs.Answers.{Turn, turn_of, IsEarlier, IsLess, FailsBy, AcceptAlike, IsMatchedBy}
+use Rattle.cert_checker.specs.declared.answer.Reason.TheVariants.{FirstPair, Output, Missing, MissingTo, Shape, HypBroken, EndsAgree, TestNode, TermNode}
+use Rattle.cert_checker.specs.Answers.{Turn, turn_of, IsEarlier, IsLess, OutputsHold, StepHolds, MoveHolds, FailsBy}
 use Rattle.cert_checker.specs.Working.Cases.{Extends, IsFirstFailure}
-use Rattle.cert_checker.specs.Working.Places.{IsAmong, IsFirstOf, undecided}
+use Rattle.cert_checker.specs.Working.Places.{IsAmong, IsFirstOf, turn_number, place_of, undecided}
+use Rattle.cert_checker.proofs.Halves.{less_append, less_behind}
+use Rattle.cert_checker.proofs.PairTurns.{TurnHolds}
 
--- an atom with no test decided is one of that many values
-pub undecided_extends : (n : ℕ) (atom : Atom) → length atom ≡ n → Extends (undecided n) atom
+-- values with no test decided are any of that many
+pub undecided_extends : (n : ℕ) (x : Atom) → length x ≡ n → Extends (undecided n) x
 undecided_extends zero [] e = tt
 undecided_extends zero (b ∷ bs) e = absurd (omega (arith, e))
 undecided_extends (suc n) [] e = absurd (omega (arith, e))
 undecided_extends (suc n) (b ∷ bs) e = undecided_extends n bs (omega (arith, e))
 
-pub undecided_length : (n : ℕ) (atom : Atom) → Extends (undecided n) atom → length atom ≡ n
+pub undecided_length : (n : ℕ) (x : Atom) → Extends (undecided n) x → length x ≡ n
 undecided_length zero [] h = refl
 undecided_length zero (b ∷ bs) h = absurd h
 undecided_length (suc n) [] h = absurd h
 undecided_length (suc n) (b ∷ bs) h = ap suc (undecided_length n bs h)
 
--- the turns of a certificate's reasons, one after the other
-earlier_number : (s t : Turn) → s.stage ≡ t.stage → IsEarlier s t → (s.number < t.number) ⊎ ((s.number ≡ t.number) × (IsLess s.atom t.atom ⊎ ((s.atom ≡ t.atom) × (s.action < t.action))))
-earlier_number s t e h = ⊎_elim (λ l. absurd (omega (arith, l, e))) (λ k. k.1) h
+-- an earlier turn of one stage and action has a lesser number, or at one number lesser atoms
+earlier_parts : (s t : Turn) → s.stage ≡ t.stage → s.action ≡ t.action → IsEarlier s t → (s.number < t.number) ⊎ ((s.number ≡ t.number) × (IsLess s.atom t.atom ⊎ ((s.atom ≡ t.atom) × IsLess s.to t.to)))
+earlier_parts s t e a h =
+    ⊎_elim (λ l. absurd (omega (arith, l, e)))
+    (λ k. ⊎_elim inl (λ l. inr (l.0, ⊎_elim inl (λ m. ⊎_elim (λ n. absurd (omega (arith, n, a))) (λ n. inr (m.0, n.1)) m.1) l.1)) k.1)
+    h
 
-module _ (q : ProblemParts) (c : CertParts) where
-  -- the pair at the place passes under each atom, for the outputs or for an action
-  abbrev pub AllAlike : ℕ → Type 0
-  AllAlike k = (p : SetPair) → slice_get (set_pairs c) k ≡ Some p → (atom : Atom) → length atom ≡ q.tests → AcceptAlike p atom
+-- the turn of a reason of a place
+place_turn : (s : Style) (k : ℕ) (atom : Atom) (o : Option ℕ) (to : Atom)
+    → ((turn_of (place_of s k atom o to)).stage ≡ 3) × ((turn_of (place_of s k atom o to)).number ≡ k) × ((turn_of (place_of s k atom o to)).atom ≡ atom) × ((turn_of (place_of s k atom o to)).action ≡ turn_number o)
+place_turn Plain k atom None to = (refl, refl, refl, refl)
+place_turn UpTo k atom None to = (refl, refl, refl, refl)
+place_turn Under k atom None to = (refl, refl, refl, refl)
+place_turn Plain k atom (Some a) to = (refl, refl, refl, sym (add-one a))
+place_turn UpTo k atom (Some a) to = (refl, refl, refl, sym (add-one a))
+place_turn Under k atom (Some a) to = (refl, refl, refl, sym (add-one a))
 
-  abbrev pub AllMatched : ℕ → ℕ → Type 0
-  AllMatched a k = (p : SetPair) → slice_get (set_pairs c) k ≡ Some p → (atom : Atom) → length atom ≡ q.tests → IsMatchedBy q c p atom a
+module _ (q : ProblemParts) (c : CertParts) (action : Option ℕ) where
+  -- the pair at the place holds at each two atoms, of its outputs or of the action
+  abbrev pub PairHolds : ℕ → Type 0
+  PairHolds k = (p : TestedPair) → slice_get (tested_pairs c) k ≡ Some p → (atom to : Atom) → length atom ≡ q.tests → length to ≡ q.tests → TurnHolds c.style q c p action atom to
 
-  one_pair : (k : ℕ) (p r : SetPair) → slice_get (set_pairs c) k ≡ Some p → slice_get (set_pairs c) k ≡ Some r → p ≡ r
-  one_pair k p r e h = cc
+  -- it holds at the first and the second half of the values
+  abbrev pub HoldsAtHalves : TestedPair → Atom → Type 0
+  HoldsAtHalves p x = TurnHolds c.style q c p action (take q.tests x) (drop q.tests x)
 
-  pub all_alike : (k : ℕ) (p : SetPair) → slice_get (set_pairs c) k ≡ Some p → IsFirstFailure (AcceptAlike p) (undecided q.tests) None → AllAlike k
-  all_alike k p is f r h atom l = let same : p ≡ r = one_pair k p r is h in subst (λ z. AcceptAlike z atom) same (f atom (undecided_extends q.tests atom l))
+  one_pair : (j k : ℕ) (p r : TestedPair) → j ≡ k → slice_get (tested_pairs c) j ≡ Some p → slice_get (tested_pairs c) k ≡ Some r → r ≡ p
+  one_pair j k p r s e h = let f : Some r ≡ Some p = sym h ∙ ap (slice_get (tested_pairs c)) (sym s) ∙ e in cc
 
-  pub all_matched : (a k : ℕ) (p : SetPair) → slice_get (set_pairs c) k ≡ Some p → IsFirstFailure (λ atom. IsMatchedBy q c p atom a) (undecided q.tests) None → AllMatched a k
-  all_matched a k p is f r h atom l = let same : p ≡ r = one_pair k p r is h in subst (λ z. IsMatchedBy q c z atom a) same (f atom (undecided_extends q.tests atom l))
+  halves_hold : (p : TestedPair) (atom to : Atom) → length atom ≡ q.tests → HoldsAtHalves p (atom ++ to) → TurnHolds c.style q c p action atom to
+  halves_hold p atom to l h =
+      let front : take q.tests (atom ++ to) ≡ atom = ap (λ n. take n (atom ++ to)) (sym l) ∙ take-append_seam atom to in
+      let back : drop q.tests (atom ++ to) ≡ to = ap (λ n. drop n (atom ++ to)) (sym l) ∙ drop-append_seam atom to in
+      subst (λ z. TurnHolds c.style q c p action atom z) back (subst (λ z. TurnHolds c.style q c p action z (drop q.tests (atom ++ to))) front h)
 
-  pub no_output : ((k : ℕ) → k < length c.pairs → AllAlike k) → IsFirstOf q c (λ n. n ≡ 0) None
-  no_output all (Output k atom) a = λ p e l. all k (subst (λ n. k < n) (length-map c.pairs _) (slice_get_within (set_pairs c) k p e)) p e atom l
-  no_output all (Missing k atom m) a = absurd (omega (arith, a.1))
-  no_output all FirstPair a = tt
-  no_output all (Shape k) a = tt
-  no_output all (HypBroken h i j) a = tt
-  no_output all EndsAgree a = tt
-  no_output all (TestNode k) a = tt
-  no_output all (TermNode k) a = tt
+  both_extend : (atom to : Atom) → length atom ≡ q.tests → length to ≡ q.tests → Extends (undecided (q.tests + q.tests)) (atom ++ to)
+  both_extend atom to l m = undecided_extends (q.tests + q.tests) (atom ++ to) (omega (arith, l, m, length-append atom to))
 
-  pub no_missing : (m : ℕ) → m < q.actions → ((k : ℕ) → k < length c.pairs → AllMatched m k) → IsFirstOf q c (λ n. n ≡ m + 1) None
-  no_missing m low all (Output k atom) a = absurd (omega (arith, a.1))
-  no_missing m low all (Missing k atom n) a = λ p e l b.
-      let same : m ≡ n = omega (arith, a.1) in
-      subst (IsMatchedBy q c p atom) same (all k (subst (λ n. k < n) (length-map c.pairs _) (slice_get_within (set_pairs c) k p e)) p e atom l)
-  no_missing m low all FirstPair a = tt
-  no_missing m low all (Shape k) a = tt
-  no_missing m low all (HypBroken h i j) a = tt
-  no_missing m low all EndsAgree a = tt
-  no_missing m low all (TestNode k) a = tt
-  no_missing m low all (TermNode k) a = tt
+  pub pair_holds : (k : ℕ) (p : TestedPair) → slice_get (tested_pairs c) k ≡ Some p → IsFirstFailure (HoldsAtHalves p) (undecided (q.tests + q.tests)) None → PairHolds k
+  pair_holds k p is f r h atom to l m =
+      subst (λ z. TurnHolds c.style q c z action atom to) (one_pair k k r p refl h is)
+      (halves_hold p atom to l (f (atom ++ to) (both_extend atom to l m)))
 
-  module _ (k : ℕ) (p : SetPair) (is : slice_get (set_pairs c) k ≡ Some p) where
-    same_pair : (r : SetPair) (j : ℕ) → j ≡ k → slice_get (set_pairs c) j ≡ Some r → p ≡ r
-    same_pair r j e h = let f : Some p ≡ Some r = sym is ∙ ap (slice_get (set_pairs c)) (sym e) ∙ h in cc
+  -- what holds of a turn is what is asked of its outputs, its step or its move
+  outputs_of : (s : Style) (o : Option ℕ) (p : TestedPair) (atom to : Atom) → turn_number o ≡ 0 → TurnHolds s q c p o atom to → OutputsHold s q p atom
+  outputs_of s None p atom to e h = h
+  outputs_of s (Some a) p atom to e h = absurd (omega (arith, e))
 
-    pub first_output : ((j : ℕ) → j < k → AllAlike j) → (atom : Atom) → IsFirstFailure (AcceptAlike p) (undecided q.tests) (Some atom) → IsFirstOf q c (λ n. n ≡ 0) (Some (Output k atom))
-    first_output before atom f = ((refl, refl), (p, is, undecided_length q.tests atom f.within, f.fails), none)
-      where
-        none : (s : Reason) → IsAmong (λ n. n ≡ 0) s → IsEarlier (turn_of s) (turn_of (Output k atom)) → FailsBy q c s → ⊥
-        none (Output j other) a e g =
-            ⊎_elim
-            (λ l. g.3 (before j l g.0 g.1 other g.2))
-            (λ r. ⊎_elim
-            (λ less. g.3 (subst (λ z. AcceptAlike z other) (same_pair g.0 j r.0 g.1) (f.least other (undecided_extends q.tests other g.2) less)))
-            (λ m. absurd (omega (arith, m.1)))
-            r.1)
-            (earlier_number (turn_of (Output j other)) (turn_of (Output k atom)) refl e)
-        none (Missing j other m) a e g = absurd (omega (arith, a.1))
-        none FirstPair a e g = absurd (omega (arith, a.0))
-        none (Shape j) a e g = g
-        none (HypBroken h i j) a e g = g
-        none EndsAgree a e g = g
-        none (TestNode j) a e g = absurd (omega (arith, a.0))
-        none (TermNode j) a e g = absurd (omega (arith, a.0))
+  step_of : (s : Style) (o : Option ℕ) (m : ℕ) (p : TestedPair) (atom to : Atom) → turn_number o ≡ suc m → TurnHolds s q c p o atom to → StepHolds s q c p atom m
+  step_of s None m p atom to e h = absurd (omega (arith, e))
+  step_of Plain (Some a) m p atom to e h = let same : a ≡ m = omega (arith, e) in subst (λ z. StepHolds Plain q c p atom z) same h
+  step_of UpTo (Some a) m p atom to e h = let same : a ≡ m = omega (arith, e) in subst (λ z. StepHolds UpTo q c p atom z) same h
+  step_of Under (Some a) m p atom to e h = tt
 
-    pub first_missing : (m : ℕ) → m < q.actions → ((j : ℕ) → j < k → AllMatched m j) → (atom : Atom) → IsFirstFailure (λ other. IsMatchedBy q c p other m) (undecided q.tests) (Some atom) → IsFirstOf q c (λ n. n ≡ m + 1) (Some (Missing k atom m))
-    first_missing m low before atom f = ((refl, omega arith), (p, is, undecided_length q.tests atom f.within, low, f.fails), none)
-      where
-        none : (s : Reason) → IsAmong (λ n. n ≡ m + 1) s → IsEarlier (turn_of s) (turn_of (Missing k atom m)) → FailsBy q c s → ⊥
-        none (Output j other) a e g = absurd (omega (arith, a.1))
-        none (Missing j other n) a e g =
-            let same : m ≡ n = omega (arith, a.1) in
-            let matched : IsMatchedBy q c g.0 other m → ⊥ = λ h. g.4 (subst (IsMatchedBy q c g.0 other) same h) in
-            ⊎_elim
-            (λ l. matched (before j l g.0 g.1 other g.2))
-            (λ r. ⊎_elim
-            (λ less. matched (subst (λ z. IsMatchedBy q c z other m) (same_pair g.0 j r.0 g.1) (f.least other (undecided_extends q.tests other g.2) less)))
-            (λ b. absurd (omega (arith, b.1, same)))
-            r.1)
-            (earlier_number (turn_of (Missing j other n)) (turn_of (Missing k atom m)) refl e)
-        none FirstPair a e g = absurd (omega (arith, a.0))
-        none (Shape j) a e g = g
-        none (HypBroken h i j) a e g = g
-        none EndsAgree a e g = g
-        none (TestNode j) a e g = absurd (omega (arith, a.0))
-        none (TermNode j) a e g = absurd (omega (arith, a.0))
+  move_of : (s : Style) (o : Option ℕ) (m : ℕ) (p : TestedPair) (atom to : Atom) → turn_number o ≡ suc m → TurnHolds s q c p o atom to → MoveHolds s q c p atom (record { act = m; atom = to })
+  move_of s None m p atom to e h = absurd (omega (arith, e))
+  move_of Plain (Some a) m p atom to e h = tt
+  move_of UpTo (Some a) m p atom to e h = tt
+  move_of Under (Some a) m p atom to e h = let same : a ≡ m = omega (arith, e) in subst (λ z. MoveHolds Under q c p atom (record { act = z; atom = to })) same h
 
-  -- turns named in another way
-  pub first_of_same : (T U : ℕ → Type 0) (o : Option Reason) → ((n : ℕ) → T n ↔ U n) → IsFirstOf q c T o → IsFirstOf q c U o
-  first_of_same T U None same f = λ s a. f s (a.0, (same (turn_of s).action).1 a.1)
-  first_of_same T U (Some r) same f = ((f.0.0, (same (turn_of r).action).0 f.0.1), f.1, λ s a. f.2 s (a.0, (same (turn_of s).action).1 a.1))
+  within_pairs : (k : ℕ) (p : TestedPair) → slice_get (tested_pairs c) k ≡ Some p → k < length c.pairs
+  within_pairs k p e = subst (λ n. k < n) (length-map c.pairs _) (slice_get_within (tested_pairs c) k p e)
 
--- a property that holds where another does has the same first failure
-pub same_failure : (P Q : Atom → Type 0) (ds : List (Option Bool)) (o : Option Atom) → ((atom : Atom) → P atom ↔ Q atom) → IsFirstFailure P ds o → IsFirstFailure Q ds o
-same_failure P Q ds None same f = λ atom h. (same atom).0 (f atom h)
-same_failure P Q ds (Some atom) same f = record {
-  within = f.within;
-  fails = λ h. f.fails ((same atom).1 h);
-  least = λ other h l. (same other).0 (f.least other h l);
-}
+  pub none_fails : ((k : ℕ) → k < length c.pairs → PairHolds k) → IsFirstOf q c (λ n. n ≡ turn_number action) None
+  none_fails all (Output k atom) a = λ p e l. outputs_of c.style action p atom atom (sym a.1) (all k (within_pairs k p e) p e atom atom l l)
+  none_fails all (Missing k atom m) a = λ p e l low. step_of c.style action m p atom atom (sym a.1) (all k (within_pairs k p e) p e atom atom l l)
+  none_fails all (MissingTo k atom m to) a = λ p e l low wide. move_of c.style action m p atom to (sym a.1) (all k (within_pairs k p e) p e atom to l wide)
+  none_fails all FirstPair a = tt
+  none_fails all (Shape k) a = tt
+  none_fails all (HypBroken h i j) a = tt
+  none_fails all EndsAgree a = tt
+  none_fails all (TestNode k) a = tt
+  none_fails all (TermNode k) a = tt
+
+  module _ (low : turn_number action < q.actions + 1) (k : ℕ) (p : TestedPair) (is : slice_get (tested_pairs c) k ≡ Some p) (before : (j : ℕ) → j < k → PairHolds j)
+      (x : Atom) (f : IsFirstFailure (HoldsAtHalves p) (undecided (q.tests + q.tests)) (Some x)) where
+    abbrev front : Atom
+    front = take q.tests x
+
+    abbrev back : Atom
+    back = drop q.tests x
+
+    wide : length x ≡ q.tests + q.tests
+    wide = undecided_length (q.tests + q.tests) x f.within
+
+    front_wide : length front ≡ q.tests
+    front_wide = length-take-le q.tests x (omega (arith, wide))
+
+    back_wide : length back ≡ q.tests
+    back_wide = omega (arith, wide, length-drop q.tests x)
+
+    abbrev reason : Reason
+    reason = place_of c.style k front action back
+
+    turn : ((turn_of reason).stage ≡ 3) × ((turn_of reason).number ≡ k) × ((turn_of reason).atom ≡ front) × ((turn_of reason).action ≡ turn_number action)
+    turn = place_turn c.style k front action back
+
+    -- the certificate fails by the reason
+    turn_from_step : (s : Style) (a : ℕ) → (s ≡ Under → ⊥) → StepHolds s q c p front a → TurnHolds s q c p (Some a) front back
+    turn_from_step Plain a other h = h
+    turn_from_step UpTo a other h = h
+    turn_from_step Under a other h = absurd (other refl)
+
+    turn_from_move : (s : Style) (a : ℕ) → s ≡ Under → MoveHolds s q c p front (record { act = a; atom = back }) → TurnHolds s q c p (Some a) front back
+    turn_from_move Plain a e h = absurd cc
+    turn_from_move UpTo a e h = absurd cc
+    turn_from_move Under a e h = h
+
+    outputs_fail : (TurnHolds c.style q c p None front back → ⊥) → FailsBy q c (Output k front)
+    outputs_fail never = (p, is, front_wide, never)
+
+    place_fails : (s : Style) → c.style ≡ s → (o : Option ℕ) → turn_number o < q.actions + 1 → (TurnHolds c.style q c p o front back → ⊥) → FailsBy q c (place_of s k front o back)
+    place_fails Plain e None below never = outputs_fail never
+    place_fails UpTo e None below never = outputs_fail never
+    place_fails Under e None below never = outputs_fail never
+    place_fails Plain e (Some a) below never = (p, is, front_wide, omega arith, λ h. never (turn_from_step c.style a (λ u. absurd cc) h))
+    place_fails UpTo e (Some a) below never = (p, is, front_wide, omega arith, λ h. never (turn_from_step c.style a (λ u. absurd cc) h))
+    place_fails Under e (Some a) below never = (p, is, front_wide, omega arith, back_wide, λ h. never (turn_from_move c.style a e h))
+
+    -- and by none that stands before
+    whole : front ++ back ≡ x
+    whole = take-append-drop q.tests x
+
+    less_first : (atom to : Atom) → IsLess atom front → IsLess (atom ++ to) x
+    less_first atom to h = subst (IsLess (atom ++ to)) whole (less_append atom front to back h)
+
+    less_second : (atom to : Atom) → atom ≡ front → IsLess to back → IsLess (atom ++ to) x
+    less_second atom to e h = subst (λ z. IsLess (z ++ to) x) (sym e) (subst (IsLess (front ++ to)) whole (less_behind front to back h))
+
+    ordered : (s : Reason) → IsAmong (λ n. n ≡ turn_number action) s → IsEarlier (turn_of s) (turn_of reason) → (to : Atom) → (IsLess (turn_of s).to (turn_of reason).to → IsLess to back)
+        → ((turn_of s).number < k) ⊎ (((turn_of s).number ≡ k) × IsLess ((turn_of s).atom ++ to) x)
+    ordered s a e to behind =
+        ⊎_elim
+        (λ l. inl (omega (arith, l, turn.1)))
+        (λ r. inr (r.0 ∙ turn.1, ⊎_elim (λ l. less_first (turn_of s).atom to (subst (IsLess (turn_of s).atom) turn.2 l)) (λ m. less_second (turn_of s).atom to (m.0 ∙ turn.2) (behind m.1)) r.1))
+        (earlier_parts (turn_of s) (turn_of reason) (a.0 ∙ sym turn.0) (a.1 ∙ sym turn.3) e)
+
+    never_before : (j : ℕ) (g : TestedPair) → slice_get (tested_pairs c) j ≡ Some g → (atom to : Atom) → length atom ≡ q.tests → length to ≡ q.tests → (TurnHolds c.style q c g action atom to → ⊥) → (j < k) ⊎ ((j ≡ k) × IsLess (atom ++ to) x) → ⊥
+    never_before j g e atom to l m never h =
+        ⊎_elim
+        (λ b. never (before j b g e atom to l m))
+        (λ b. never (subst (λ z. TurnHolds c.style q c z action atom to) (one_pair j k g p b.0 e is) (halves_hold p atom to l (f.least (atom ++ to) (both_extend atom to l m) b.1))))
+        h
+
+    to_of : (s : Style) (o : Option ℕ) (m : ℕ) (g : TestedPair) (atom to : Atom) → turn_number o ≡ suc m → (MoveHolds s q c g atom (record { act = m; atom = to }) → ⊥) → (turn_of (place_of s k front o back)).to ≡ back
+    to_of s None m g atom to e never = absurd (omega (arith, e))
+    to_of Plain (Some a) m g atom to e never = absurd (never tt)
+    to_of UpTo (Some a) m g atom to e never = absurd (never tt)
+    to_of Under (Some a) m g atom to e never = refl
+
+    none : (s : Reason) → IsAmong (λ n. n ≡ turn_number action) s → IsEarlier (turn_of s) (turn_of reason) → FailsBy q c s → ⊥
+    none (Output j atom) a e g = never_before j g.0 g.1 atom back g.2 back_wide (λ h. g.3 (outputs_of c.style action g.0 atom back (sym a.1) h)) (ordered (Output j atom) a e back absurd)
+    none (Missing j atom m) a e g = never_before j g.0 g.1 atom back g.2 back_wide (λ h. g.4 (step_of c.style action m g.0 atom back (sym a.1) h)) (ordered (Missing j atom m) a e back absurd)
+    none (MissingTo j atom m to) a e g =
+        never_before j g.0 g.1 atom to g.2 g.4 (λ h. g.5 (move_of c.style action m g.0 atom to (sym a.1) h))
+        (ordered (MissingTo j atom m to) a e to (λ l. subst (IsLess to) (to_of c.style action m g.0 atom to (sym a.1) g.5) l))
+    none FirstPair a e g = absurd (omega (arith, a.0))
+    none (Shape j) a e g = g
+    none (HypBroken h i j) a e g = g
+    none EndsAgree a e g = g
+    none (TestNode j) a e g = absurd (omega (arith, a.0))
+    none (TermNode j) a e g = absurd (omega (arith, a.0))
+
+    pub first_fails : IsFirstOf q c (λ n. n ≡ turn_number action) (Some (place_of c.style k (take q.tests x) action (drop q.tests x)))
+    first_fails = ((turn.0, turn.3), place_fails c.style refl action low f.fails, none)
+
+-- turns named in another way
+pub first_of_same : (q : ProblemParts) (c : CertParts) (T U : ℕ → Type 0) (o : Option Reason) → ((n : ℕ) → T n ↔ U n) → IsFirstOf q c T o → IsFirstOf q c U o
+first_of_same q c T U None same f = λ s a. f s (a.0, (same (turn_of s).action).1 a.1)
+first_of_same q c T U (Some r) same f = ((f.0.0, (same (turn_of r).action).0 f.0.1), f.1, λ s a. f.2 s (a.0, (same (turn_of s).action).1 a.1))

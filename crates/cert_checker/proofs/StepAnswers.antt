@@ -1,5 +1,5 @@
 -- What the tests of two lists of targets say of the question whether the rules match them.
-use Rattle.std.proofs.Common.{◌≡◌, ℕ, zero, suc, ◌<◌, inl, inr, ⊎_elim, List, [], ◌∷◌, length, slice_get, refl, sym, ap, ◌∙◌, subst, arith, Bool, true, false, nat_lt, nat_eq, ◌&&◌, cond, Option, Some, None}
+use Rattle.std.proofs.Common.{◌≡◌, ℕ, zero, suc, ◌<◌, inl, inr, ⊎_elim, List, [], ◌∷◌, map, length, slice_get, refl, sym, ap, ◌∙◌, subst, arith, Bool, true, false, nat_lt, nat_eq, ◌&&◌, cond, Option, Some, None}
 use mathlib.Core.Bool.{beq}
 use mathlib.Core.Path.{ap₂}
 use Rattle.std.specs.Option.{option_map, option_map_or}
@@ -15,22 +15,24 @@ use Rattle.std.proofs.lemmas.Map.Keys.{sorted_head, sorted_tail}
 use Rattle.kat_model.specs.Trees.{Term}
 use Rattle.kat_model.specs.Members.{Has, SameMembers}
 use Rattle.kat_model.specs.Steps.{Atom}
-use Rattle.kat_model.specs.Pairs.{SetPair, plain, sat, BothUniversal, IsListed, IsCongruent, AreMatched}
+use Rattle.kat_model.specs.Pairs.{SetPair, sat, BothUniversal, IsListed}
 use Rattle.kat_model.proofs.Lists.{has_any, any_has, has_map, map_has, same_members_sym, same_members_trans}
 use Rattle.kat_model.proofs.Saturation.{sat_keeps}
 use Rattle.certificate.specs.declared.nodes.Style.{Style}
-use Rattle.certificate.specs.declared.nodes.Style.TheVariants.{Plain, UpTo}
-use Rattle.term_nodes.specs.NumberSets.{NumberPair, are_ascending, set_pairs_of, terms_of}
-use Rattle.certificate.specs.Accepted.{pair_style}
+use Rattle.certificate.specs.declared.nodes.Style.TheVariants.{Plain, UpTo, Under}
+use Rattle.term_nodes.specs.NumberSets.{NumberPair, IsNumberSet, are_ascending, set_pairs_of, terms_of}
+use Rattle.certificate.specs.PairParts.{PairParts, sets_of}
+use Rattle.certificate.specs.Accepted.{tested_pair_of}
+use Rattle.kat_model.specs.TestedPairs.{pairs_at}
 use Rattle.cert_checker.specs.declared.known.Known.{Known}
 use Rattle.cert_checker.specs.declared.known.Known.TheVariants.{Value, Waits}
 use Rattle.cert_checker.specs.Working.NodeTables.{TableParts, AreTables, IsTerm, term_at, holds_at, nodes_in}
 use Rattle.cert_checker.specs.Working.Targets.{chosen, AreEntries}
-use Rattle.cert_checker.specs.Working.Cases.{Extends, AreKnown, HoldsThroughout}
-use Rattle.cert_checker.specs.Working.Matching.{RuleParts, AreRules, MatchAt, known_of, truly, sure_targets, guard_of, is_sure, covers, lists, AreSettled}
+use Rattle.cert_checker.specs.Working.Cases.{Extends, AreKnown, IsWaited}
+use Rattle.cert_checker.specs.Working.Matching.{AreMatchedIn, known_of, truly, sure_targets, guard_of, is_sure, lists, AreSettled}
 use Rattle.term_nodes.proofs.TermTrees.{one_id_a_tree}
 use Rattle.cert_checker.proofs.Covering.{chosen_has, has_chosen, known_value, truly_value, sure_chosen, guard_member, any_value}
-use Rattle.cert_checker.proofs.Covered.{sure_below, settled_sure, covered_congruent, congruent_covered}
+use Rattle.cert_checker.proofs.Covered.{sure_below, settled_sure}
 use Rattle.cert_checker.proofs.ListedPairs.{same_numbers}
 
 -- a guard that waits is there
@@ -38,6 +40,9 @@ pub waits_there : (known : List Known) (g k : ℕ) → known_of known g ≡ Wait
 waits_there [] g k e = absurd cc
 waits_there (x ∷ known) zero k e = ap (λ (z : Known). Some z) e
 waits_there (x ∷ known) (suc g) k e = waits_there known g k e
+
+pub waited : (known : List Known) (g k : ℕ) → known_of known g ≡ Waits k → IsWaited known k
+waited known g k e = (g, waits_there known g k e)
 
 pub beq_same : (x y : Bool) → beq x y ≡ true → x ≡ y
 beq_same false false e = refl
@@ -133,70 +138,54 @@ pointwise_itself (k ∷ ks) = and_from (nat_eq k k) (pointwise nat_eq ks ks) (eq
 
 -- ---- what the tests say
 
-module _ (t : TableParts) (are : AreTables t) (decided : List (Option Bool)) (known : List Known) (ak : AreKnown t decided known) (r : RuleParts) (rules : AreRules t r)
-    (left right : List (ℕ × ℕ)) (own : AreEntries t left) (other : AreEntries t right) where
-  by_plain : r.style ≡ Plain → (atom : Atom) → AreMatched plain (option_map (term_at t) r.universal) (set_pairs_of (nodes_in t) r.pairs) (chosen t left atom) (chosen t right atom) → MatchAt t r left right atom
-  by_plain e atom m = subst (λ (s : Style). AreMatched (pair_style s) (option_map (term_at t) r.universal) (set_pairs_of (nodes_in t) r.pairs) (chosen t left atom) (chosen t right atom)) (sym e) m
-
-  to_plain : r.style ≡ Plain → (atom : Atom) → MatchAt t r left right atom → AreMatched plain (option_map (term_at t) r.universal) (set_pairs_of (nodes_in t) r.pairs) (chosen t left atom) (chosen t right atom)
-  to_plain e atom m = subst (λ (s : Style). AreMatched (pair_style s) (option_map (term_at t) r.universal) (set_pairs_of (nodes_in t) r.pairs) (chosen t left atom) (chosen t right atom)) e m
-
-  by_up_to : r.style ≡ UpTo → (atom : Atom) → IsCongruent (option_map (term_at t) r.universal) (set_pairs_of (nodes_in t) r.pairs) (chosen t left atom) (chosen t right atom) → MatchAt t r left right atom
-  by_up_to e atom m = subst (λ (s : Style). AreMatched (pair_style s) (option_map (term_at t) r.universal) (set_pairs_of (nodes_in t) r.pairs) (chosen t left atom) (chosen t right atom)) (sym e) m
-
-  to_up_to : r.style ≡ UpTo → (atom : Atom) → MatchAt t r left right atom → IsCongruent (option_map (term_at t) r.universal) (set_pairs_of (nodes_in t) r.pairs) (chosen t left atom) (chosen t right atom)
-  to_up_to e atom m = subst (λ (s : Style). AreMatched (pair_style s) (option_map (term_at t) r.universal) (set_pairs_of (nodes_in t) r.pairs) (chosen t left atom) (chosen t right atom)) e m
-
+module _ (t : TableParts) (are : AreTables t) (decided : List (Option Bool)) (known : List Known) (ak : AreKnown t decided known)
+    (ps : List PairParts) (numbers : (p : PairParts) → Has ps p → IsNumberSet (length t.terms) p.left × IsNumberSet (length t.terms) p.right)
+    (universal : Option ℕ) (within : (u : ℕ) → universal ≡ Some u → IsTerm t u)
+    (left right : List (ℕ × ℕ)) (own : AreEntries t left) (other : AreEntries t right) (atom : Atom) (extends : Extends decided atom) where
   -- a term that surely is among the targets is chosen
-  sure_has : (atom : Atom) → Extends decided atom → (u : ℕ) (es : List (ℕ × ℕ)) → AreEntries t es → is_sure known es u ≡ true → Has (chosen t es atom) (term_at t u)
-  sure_has atom extends u es entries s =
+  sure_has : (u : ℕ) (es : List (ℕ × ℕ)) → AreEntries t es → is_sure known es u ≡ true → Has (chosen t es atom) (term_at t u)
+  sure_has u es entries s =
       let v = any_value (λ g. truly (known_of known g)) (guard_of es u) s in
       let member = guard_member u es v.0 v.1 in
       chosen_has t es atom (u, v.0) member (known_value t decided known ak atom extends v.0 true (entries (u, v.0) member).1 (truly_value (known_of known v.0) v.2))
 
-  both_universal : (atom : Atom) → Extends decided atom → (universal : Option ℕ) → option_map_or (λ u. is_sure known left u && is_sure known right u) universal false ≡ true → BothUniversal (option_map (term_at t) universal) (chosen t left atom) (chosen t right atom)
-  both_universal atom extends None e = absurd cc
-  both_universal atom extends (Some u) e =
+  both_universal : (universal : Option ℕ) → option_map_or (λ u. is_sure known left u && is_sure known right u) universal false ≡ true → BothUniversal (option_map (term_at t) universal) (chosen t left atom) (chosen t right atom)
+  both_universal None e = absurd cc
+  both_universal (Some u) e =
       let parts = and_parts (is_sure known left u) (is_sure known right u) e in
-      (sure_has atom extends u left own parts.0, sure_has atom extends u right other parts.1)
+      (sure_has u left own parts.0, sure_has u right other parts.1)
 
   more_universal : (universal : Option Term) (ps : List SetPair) (es fs : List Term) → BothUniversal universal es fs → BothUniversal universal (sat ps es) (sat ps fs)
   more_universal None ps es fs h = h
   more_universal (Some u) ps es fs h = (sat_keeps ps es u h.0, sat_keeps ps fs u h.1)
 
   -- both sets surely hold the universal term
-  pub universal_holds : option_map_or (λ u. is_sure known left u && is_sure known right u) r.universal false ≡ true → HoldsThroughout (MatchAt t r left right) decided
-  universal_holds e atom extends =
-      by_style r.style
-    where
-      both : BothUniversal (option_map (term_at t) r.universal) (chosen t left atom) (chosen t right atom)
-      both = both_universal atom extends r.universal e
-
-      by_style : (s : Style) → AreMatched (pair_style s) (option_map (term_at t) r.universal) (set_pairs_of (nodes_in t) r.pairs) (chosen t left atom) (chosen t right atom)
-      by_style Plain = inr both
-      by_style UpTo = inr (more_universal (option_map (term_at t) r.universal) (set_pairs_of (nodes_in t) r.pairs) (chosen t left atom) (chosen t right atom) both)
+  pub universal_holds : option_map_or (λ u. is_sure known left u && is_sure known right u) universal false ≡ true → (style : Style) (to : Atom) → AreMatchedIn (nodes_in t) style (option_map (term_at t) universal) ps (chosen t left atom) (chosen t right atom) to
+  universal_holds e Plain to = inr (both_universal universal e)
+  universal_holds e UpTo to = inr (more_universal (option_map (term_at t) universal) (pairs_at (map (tested_pair_of (nodes_in t)) ps) to) (chosen t left atom) (chosen t right atom) (both_universal universal e))
+  universal_holds e Under to = inr (more_universal (option_map (term_at t) universal) (pairs_at (map (tested_pair_of (nodes_in t)) ps) to) (chosen t left atom) (chosen t right atom) (both_universal universal e))
 
   -- where all guards are settled, the chosen terms are those that surely are there
-  settled_same : (atom : Atom) → Extends decided atom → (es : List (ℕ × ℕ)) → AreEntries t es → AreSettled known es → SameMembers (chosen t es atom) (terms_of (nodes_in t) (sure_targets known es))
-  settled_same atom extends es entries settled x = (settled_sure t are decided known ak r rules atom extends es entries settled x, sure_chosen t decided known ak atom extends es entries x)
+  settled_same : (es : List (ℕ × ℕ)) → AreEntries t es → AreSettled known es → SameMembers (chosen t es atom) (terms_of (nodes_in t) (sure_targets known es))
+  settled_same es entries settled x = (settled_sure t are decided known ak [] 0 (omega arith) (λ p h. absurd h) atom extends es entries settled x, sure_chosen t decided known ak atom extends es entries x)
 
   module _ (settled : AreSettled known left) (settled_other : AreSettled known right) where
     -- the sets that surely are there are listed
-    pub listed_holds : r.style ≡ Plain → lists r.pairs (sure_targets known left) (sure_targets known right) ≡ true → HoldsThroughout (MatchAt t r left right) decided
-    listed_holds plainly e atom extends =
-        let found = has_any (λ (p : NumberPair). pointwise nat_eq p.left (sure_targets known left) && pointwise nat_eq p.right (sure_targets known right)) r.pairs e in
+    pub listed_holds : lists ps (sure_targets known left) (sure_targets known right) ≡ true → (to : Atom) → AreMatchedIn (nodes_in t) Plain (option_map (term_at t) universal) ps (chosen t left atom) (chosen t right atom) to
+    listed_holds e to =
+        let found = has_any (λ (p : PairParts). pointwise nat_eq p.left (sure_targets known left) && pointwise nat_eq p.right (sure_targets known right)) ps e in
         let parts = and_parts (pointwise nat_eq found.0.left (sure_targets known left)) (pointwise nat_eq found.0.right (sure_targets known right)) found.2 in
-        by_plain plainly atom (inl (record {
+        inl (record {
           pair = record { left = terms_of (nodes_in t) found.0.left; right = terms_of (nodes_in t) found.0.right };
-          listed = map_has (λ (p : NumberPair). record { left = terms_of (nodes_in t) p.left; right = terms_of (nodes_in t) p.right }) r.pairs found.0 found.1;
-          lefts = subst (λ ks. SameMembers (chosen t left atom) (terms_of (nodes_in t) ks)) (sym (same_pointwise found.0.left (sure_targets known left) parts.0)) (settled_same atom extends left own settled);
-          rights = subst (λ ks. SameMembers (chosen t right atom) (terms_of (nodes_in t) ks)) (sym (same_pointwise found.0.right (sure_targets known right) parts.1)) (settled_same atom extends right other settled_other);
-        }))
+          listed = map_has (λ (p : NumberPair). record { left = terms_of (nodes_in t) p.left; right = terms_of (nodes_in t) p.right }) (map sets_of ps) (sets_of found.0) (map_has sets_of ps found.0 found.1);
+          lefts = subst (λ ks. SameMembers (chosen t left atom) (terms_of (nodes_in t) ks)) (sym (same_pointwise found.0.left (sure_targets known left) parts.0)) (settled_same left own settled);
+          rights = subst (λ ks. SameMembers (chosen t right atom) (terms_of (nodes_in t) ks)) (sym (same_pointwise found.0.right (sure_targets known right) parts.1)) (settled_same right other settled_other);
+        })
 
     module _ (sorted : IsStrictlySortedBy nat_cmp (keys_of left)) (sorted_other : IsStrictlySortedBy nat_cmp (keys_of right)) where
       -- a universal term that is chosen surely is there
-      chosen_sure : (atom : Atom) → Extends decided atom → (u : ℕ) → IsTerm t u → (es : List (ℕ × ℕ)) → AreEntries t es → AreSettled known es → IsStrictlySortedBy nat_cmp (keys_of es) → Has (chosen t es atom) (term_at t u) → is_sure known es u ≡ true
-      chosen_sure atom extends u is_term es entries all_settled keys h =
+      chosen_sure : (u : ℕ) → IsTerm t u → (es : List (ℕ × ℕ)) → AreEntries t es → AreSettled known es → IsStrictlySortedBy nat_cmp (keys_of es) → Has (chosen t es atom) (term_at t u) → is_sure known es u ≡ true
+      chosen_sure u is_term es entries all_settled keys h =
           let f = has_chosen t es atom (term_at t u) h in
           let one : f.0.0 ≡ u = one_id_a_tree (nodes_in t) are.rules f.0.0 u (entries f.0 f.1).0 is_term f.3 in
           let s = all_settled f.0 f.1 in
@@ -205,42 +194,38 @@ module _ (t : TableParts) (are : AreTables t) (decided : List (Option Bool)) (kn
           let found : guard_of es u ≡ Some f.0.1 = ap (guard_of es) (sym one) ∙ guard_found es f.0 keys f.1 in
           ap (λ o. option_map_or (λ g. truly (known_of known g)) o false) found ∙ ap truly sure
 
-      universal_sure : (atom : Atom) → Extends decided atom → (universal : Option ℕ) → ((u : ℕ) → universal ≡ Some u → IsTerm t u) → BothUniversal (option_map (term_at t) universal) (chosen t left atom) (chosen t right atom) → option_map_or (λ u. is_sure known left u && is_sure known right u) universal false ≡ true
-      universal_sure atom extends None within h = absurd h
-      universal_sure atom extends (Some u) within h =
+      universal_sure : (universal : Option ℕ) → ((u : ℕ) → universal ≡ Some u → IsTerm t u) → BothUniversal (option_map (term_at t) universal) (chosen t left atom) (chosen t right atom) → option_map_or (λ u. is_sure known left u && is_sure known right u) universal false ≡ true
+      universal_sure None within h = absurd h
+      universal_sure (Some u) within h =
           and_from (is_sure known left u) (is_sure known right u)
-          (chosen_sure atom extends u (within u refl) left own settled sorted h.0)
-          (chosen_sure atom extends u (within u refl) right other settled_other sorted_other h.1)
+          (chosen_sure u (within u refl) left own settled sorted h.0)
+          (chosen_sure u (within u refl) right other settled_other sorted_other h.1)
 
-      listed_found : (atom : Atom) → Extends decided atom → IsListed (set_pairs_of (nodes_in t) r.pairs) (chosen t left atom) (chosen t right atom) → lists r.pairs (sure_targets known left) (sure_targets known right) ≡ true
-      listed_found atom extends h =
-          let f = has_map (λ (p : NumberPair). record { left = terms_of (nodes_in t) p.left; right = terms_of (nodes_in t) p.right }) r.pairs h.pair h.listed in
-          let numbers = rules.pairs f.0 f.1 in
+      listed_found : IsListed (set_pairs_of (nodes_in t) (map sets_of ps)) (chosen t left atom) (chosen t right atom) → lists ps (sure_targets known left) (sure_targets known right) ≡ true
+      listed_found h =
+          let g = has_map (λ (p : NumberPair). record { left = terms_of (nodes_in t) p.left; right = terms_of (nodes_in t) p.right }) (map sets_of ps) h.pair h.listed in
+          let f = has_map sets_of ps g.0 g.1 in
+          let same : ◌≡◌ {A = SetPair} (record { left = terms_of (nodes_in t) f.0.left; right = terms_of (nodes_in t) f.0.right }) h.pair = ap (λ (p : NumberPair). record { left = terms_of (nodes_in t) p.left; right = terms_of (nodes_in t) p.right }) f.2 ∙ g.2 in
+          let sets = numbers f.0 f.1 in
           let lefts : f.0.left ≡ sure_targets known left =
-          same_numbers t are f.0.left (sure_targets known left) numbers.0.there (sure_below t known left own) numbers.0.ascending (sure_ascending known left sorted)
+          same_numbers t are f.0.left (sure_targets known left) sets.0.there (sure_below t known left own) sets.0.ascending (sure_ascending known left sorted)
           (same_members_trans (terms_of (nodes_in t) f.0.left) (chosen t left atom) (terms_of (nodes_in t) (sure_targets known left))
-          (same_members_sym (chosen t left atom) (terms_of (nodes_in t) f.0.left) (subst (λ (p : SetPair). SameMembers (chosen t left atom) p.left) (sym f.2) h.lefts))
-          (settled_same atom extends left own settled)) in
+          (same_members_sym (chosen t left atom) (terms_of (nodes_in t) f.0.left) (subst (λ (p : SetPair). SameMembers (chosen t left atom) p.left) (sym same) h.lefts))
+          (settled_same left own settled)) in
           let rights : f.0.right ≡ sure_targets known right =
-          same_numbers t are f.0.right (sure_targets known right) numbers.1.there (sure_below t known right other) numbers.1.ascending (sure_ascending known right sorted_other)
+          same_numbers t are f.0.right (sure_targets known right) sets.1.there (sure_below t known right other) sets.1.ascending (sure_ascending known right sorted_other)
           (same_members_trans (terms_of (nodes_in t) f.0.right) (chosen t right atom) (terms_of (nodes_in t) (sure_targets known right))
-          (same_members_sym (chosen t right atom) (terms_of (nodes_in t) f.0.right) (subst (λ (p : SetPair). SameMembers (chosen t right atom) p.right) (sym f.2) h.rights))
-          (settled_same atom extends right other settled_other)) in
-          any_has (λ (p : NumberPair). pointwise nat_eq p.left (sure_targets known left) && pointwise nat_eq p.right (sure_targets known right)) r.pairs f.0 f.1
+          (same_members_sym (chosen t right atom) (terms_of (nodes_in t) f.0.right) (subst (λ (p : SetPair). SameMembers (chosen t right atom) p.right) (sym same) h.rights))
+          (settled_same right other settled_other)) in
+          any_has (λ (p : PairParts). pointwise nat_eq p.left (sure_targets known left) && pointwise nat_eq p.right (sure_targets known right)) ps f.0 f.1
           (and_from (pointwise nat_eq f.0.left (sure_targets known left)) _
           (ap (λ ks. pointwise nat_eq ks (sure_targets known left)) lefts ∙ pointwise_itself (sure_targets known left))
           (ap (λ ks. pointwise nat_eq ks (sure_targets known right)) rights ∙ pointwise_itself (sure_targets known right)))
 
-      pub unlisted_fails : r.style ≡ Plain → option_map_or (λ u. is_sure known left u && is_sure known right u) r.universal false ≡ false → lists r.pairs (sure_targets known left) (sure_targets known right) ≡ false → (atom : Atom) → Extends decided atom → MatchAt t r left right atom → ⊥
-      unlisted_fails plainly unsure none atom extends m =
+      pub unlisted_fails : option_map_or (λ u. is_sure known left u && is_sure known right u) universal false ≡ false → lists ps (sure_targets known left) (sure_targets known right) ≡ false → (to : Atom)
+          → AreMatchedIn (nodes_in t) Plain (option_map (term_at t) universal) ps (chosen t left atom) (chosen t right atom) to → ⊥
+      unlisted_fails unsure none to m =
           ⊎_elim
-          (λ l. true≢false (sym (listed_found atom extends l) ∙ none))
-          (λ u. true≢false (sym (universal_sure atom extends r.universal rules.universal u) ∙ unsure))
-          (to_plain plainly atom m)
-
-    pub uncovered_fails : r.style ≡ UpTo → covers (length t.terms) r known left right ≡ false → (atom : Atom) → Extends decided atom → MatchAt t r left right atom → ⊥
-    uncovered_fails congruent none atom extends m =
-        true≢false (sym (congruent_covered t are decided known ak r rules atom extends left right own other settled settled_other (to_up_to congruent atom m)) ∙ none)
-
-  pub covered_holds : r.style ≡ UpTo → covers (length t.terms) r known left right ≡ true → HoldsThroughout (MatchAt t r left right) decided
-  covered_holds congruent e atom extends = by_up_to congruent atom (covered_congruent t are decided known ak r rules atom extends left right own other e)
+          (λ l. true≢false (sym (listed_found l) ∙ none))
+          (λ u. true≢false (sym (universal_sure universal within u) ∙ unsure))
+          m

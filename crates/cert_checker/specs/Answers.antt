@@ -1,9 +1,14 @@
 -- What evidence has to show, and the first reason why it does not.
-use Rattle.std.specs.Prelude.{◌≡◌, ◌⊎◌, ◌<◌, ◌≤◌, ℕ, suc, true, false, List, [], ◌∷◌, length, slice_get, Option, Some, None}
+use Rattle.std.specs.Prelude.{◌≡◌, ◌⊎◌, ◌<◌, ◌≤◌, ℕ, suc, IsTrue, true, false, List, [], ◌∷◌, length, slice_get, Option, Some, None}
+use Rattle.kat_model.specs.Trees.{TestTree}
 use Rattle.kat_model.specs.Problems.{ProblemParts}
-use Rattle.kat_model.specs.Steps.{Atom, set_out, set_next}
+use Rattle.kat_model.specs.Steps.{Atom, truth, set_out, set_next}
+use Rattle.kat_model.specs.Strings.{Move}
 use Rattle.kat_model.specs.Closed.{closed}
-use Rattle.kat_model.specs.Pairs.{SetPair, AreMatched}
+use Rattle.kat_model.specs.Degrees.{short_hyps, closed_long}
+use Rattle.kat_model.specs.AllowedMoves.{IsAllowedAtom, IsAllowedMove}
+use Rattle.kat_model.specs.Pairs.{SetPair, plain, up_to, AreMatched, IsCongruent}
+use Rattle.kat_model.specs.TestedPairs.{TestedPair, pairs_at}
 use Rattle.string_tables.specs.Tables.{Refutes}
 use Rattle.string_tables.specs.Findings.{IsFinding}
 use Rattle.string_tables.specs.declared.finding.Finding.{Finding}
@@ -12,10 +17,12 @@ use Rattle.term_nodes.specs.declared.TestNode.TheVariants.{Prim}
 use Rattle.term_nodes.specs.declared.TermNode.TheVariants.{Act}
 use Rattle.certificate.specs.declared.evidence.Evidence.{Evidence}
 use Rattle.certificate.specs.declared.evidence.Evidence.TheVariants.{Equal, Different}
+use Rattle.certificate.specs.declared.nodes.Style.{Style}
+use Rattle.certificate.specs.declared.nodes.Style.TheVariants.{Plain, UpTo, Under}
 use Rattle.certificate.specs.Certs.{CertParts}
-use Rattle.certificate.specs.Accepted.{set_pairs, pair_style, IsAccepted}
+use Rattle.certificate.specs.Accepted.{set_pairs, tested_pairs, IsAccepted}
 use Rattle.cert_checker.specs.declared.answer.Reason.{Reason}
-use Rattle.cert_checker.specs.declared.answer.Reason.TheVariants.{FirstPair, Output, Missing, Shape, HypBroken, EndsAgree, TestNode, TermNode}
+use Rattle.cert_checker.specs.declared.answer.Reason.TheVariants.{FirstPair, Output, Missing, MissingTo, Shape, HypBroken, EndsAgree, TestNode, TermNode}
 use Rattle.cert_checker.specs.declared.answer.Answer.{Answer}
 use Rattle.cert_checker.specs.declared.answer.Answer.TheVariants.{Accepted, Rejected}
 
@@ -28,23 +35,56 @@ Shows q (Different x) = Refutes q x
 abbrev pub BeginsWithSides : ProblemParts → List SetPair → Type 0
 BeginsWithSides q pairs = (rest : List SetPair) × (pairs ≡ record { left = (closed q).left ∷ []; right = (closed q).right ∷ [] } ∷ rest)
 
+-- in the style of tests it is those of the long hypotheses, under a test that is true at each allowed atom
+abbrev pub BeginsUnderTest : ProblemParts → List TestedPair → Type 0
+BeginsUnderTest q pairs =
+    (test : TestTree) × (rest : List TestedPair)
+    × (pairs ≡ record { sets = record { left = (closed_long q).left ∷ []; right = (closed_long q).right ∷ [] }; test = test } ∷ rest)
+    × ((atom : Atom) → length atom ≡ q.tests → IsAllowedAtom (short_hyps q) atom → IsTrue (truth test atom))
+
+abbrev pub Begins : Style → ProblemParts → CertParts → Type 0
+Begins Plain q c = BeginsWithSides q (set_pairs c)
+Begins UpTo q c = BeginsWithSides q (set_pairs c)
+Begins Under q c = BeginsUnderTest q (tested_pairs c)
+
 -- under the atom both sets of the pair accept, or neither does
 abbrev pub AcceptAlike : SetPair → Atom → Type 0
 AcceptAlike p atom = set_out p.left atom ≡ set_out p.right atom
 
--- the sets that the pair leads to by the action are matched by the listed pairs
-abbrev pub IsMatchedBy : ProblemParts → CertParts → SetPair → Atom → ℕ → Type 0
-IsMatchedBy q c p atom a = AreMatched (pair_style c.style) (closed q).universal (set_pairs c) (set_next p.left atom a) (set_next p.right atom a)
+-- the sets of a pair have to accept alike under each atom; in the style of tests, under each allowed one at which
+-- the pair's test is true
+abbrev pub OutputsHold : Style → ProblemParts → TestedPair → Atom → Type 0
+OutputsHold Plain q p atom = AcceptAlike p.sets atom
+OutputsHold UpTo q p atom = AcceptAlike p.sets atom
+OutputsHold Under q p atom = IsAllowedAtom (short_hyps q) atom → IsTrue (truth p.test atom) → AcceptAlike p.sets atom
+
+-- the sets that the pair leads to by the action have to be matched by the listed pairs
+abbrev pub StepHolds : Style → ProblemParts → CertParts → TestedPair → Atom → ℕ → Type 0
+StepHolds Plain q c p atom a = AreMatched plain (closed q).universal (set_pairs c) (set_next p.sets.left atom a) (set_next p.sets.right atom a)
+StepHolds UpTo q c p atom a = AreMatched up_to (closed q).universal (set_pairs c) (set_next p.sets.left atom a) (set_next p.sets.right atom a)
+StepHolds Under q c p atom a = Unit {0}
+
+-- in the style of tests, from each atom of the pair's test along each allowed move, by those whose test is true at
+-- its end
+abbrev pub MoveHolds : Style → ProblemParts → CertParts → TestedPair → Atom → Move → Type 0
+MoveHolds Plain q c p atom m = Unit {0}
+MoveHolds UpTo q c p atom m = Unit {0}
+MoveHolds Under q c p atom m =
+    IsTrue (truth p.test atom) → IsAllowedMove (short_hyps q) atom m
+    → IsCongruent (closed_long q).universal (pairs_at (tested_pairs c) m.atom) (set_next p.sets.left atom m.act) (set_next p.sets.right atom m.act)
 
 -- the certificate fails so
 abbrev pub FailsBy : ProblemParts → CertParts → Reason → Type 0
 FailsBy q c (TestNode k) = (i : ℕ) × (slice_get c.test_nodes k ≡ Some (Prim i)) × (q.tests ≤ i)
 FailsBy q c (TermNode k) = (a : ℕ) × (slice_get c.term_nodes k ≡ Some (Act a)) × (q.actions ≤ a)
-FailsBy q c FirstPair = BeginsWithSides q (set_pairs c) → ⊥
+FailsBy q c FirstPair = Begins c.style q c → ⊥
 FailsBy q c (Output k atom) =
-    (p : SetPair) × (slice_get (set_pairs c) k ≡ Some p) × (length atom ≡ q.tests) × (AcceptAlike p atom → ⊥)
+    (p : TestedPair) × (slice_get (tested_pairs c) k ≡ Some p) × (length atom ≡ q.tests) × (OutputsHold c.style q p atom → ⊥)
 FailsBy q c (Missing k atom a) =
-    (p : SetPair) × (slice_get (set_pairs c) k ≡ Some p) × (length atom ≡ q.tests) × (a < q.actions) × (IsMatchedBy q c p atom a → ⊥)
+    (p : TestedPair) × (slice_get (tested_pairs c) k ≡ Some p) × (length atom ≡ q.tests) × (a < q.actions) × (StepHolds c.style q c p atom a → ⊥)
+FailsBy q c (MissingTo k atom a to) =
+    (p : TestedPair) × (slice_get (tested_pairs c) k ≡ Some p) × (length atom ≡ q.tests) × (a < q.actions) × (length to ≡ q.tests)
+    × (MoveHolds c.style q c p atom (record { act = a; atom = to }) → ⊥)
 FailsBy q c (Shape k) = ⊥
 FailsBy q c (HypBroken h i j) = ⊥
 FailsBy q c EndsAgree = ⊥
@@ -58,30 +98,34 @@ IsLess (true ∷ xs) (false ∷ ys) = ⊥
 IsLess (false ∷ xs) (false ∷ ys) = IsLess xs ys
 IsLess (true ∷ xs) (true ∷ ys) = IsLess xs ys
 
--- where a reason stands in the order: its stage, its node or pair, its atom, and there outputs before actions
+-- where a reason stands in the order: its stage, its node or pair, its atom, there outputs before actions, and for
+-- an action the atom that it leads to
 pub record Turn : Type 0 where
   pub stage : ℕ
   pub number : ℕ
   pub atom : Atom
   pub action : ℕ
+  pub to : Atom
 
 abbrev pub turn_of : Reason → Turn
-turn_of (TestNode k) = record { stage = 0; number = k; atom = []; action = 0 }
-turn_of (TermNode k) = record { stage = 1; number = k; atom = []; action = 0 }
-turn_of FirstPair = record { stage = 2; number = 0; atom = []; action = 0 }
-turn_of (Output k atom) = record { stage = 3; number = k; atom = atom; action = 0 }
-turn_of (Missing k atom a) = record { stage = 3; number = k; atom = atom; action = suc a }
-turn_of (Shape k) = record { stage = 4; number = k; atom = []; action = 0 }
-turn_of (HypBroken h i j) = record { stage = 5; number = h; atom = []; action = 0 }
-turn_of EndsAgree = record { stage = 6; number = 0; atom = []; action = 0 }
+turn_of (TestNode k) = record { stage = 0; number = k; atom = []; action = 0; to = [] }
+turn_of (TermNode k) = record { stage = 1; number = k; atom = []; action = 0; to = [] }
+turn_of FirstPair = record { stage = 2; number = 0; atom = []; action = 0; to = [] }
+turn_of (Output k atom) = record { stage = 3; number = k; atom = atom; action = 0; to = [] }
+turn_of (Missing k atom a) = record { stage = 3; number = k; atom = atom; action = suc a; to = [] }
+turn_of (MissingTo k atom a to) = record { stage = 3; number = k; atom = atom; action = suc a; to = to }
+turn_of (Shape k) = record { stage = 4; number = k; atom = []; action = 0; to = [] }
+turn_of (HypBroken h i j) = record { stage = 5; number = h; atom = []; action = 0; to = [] }
+turn_of EndsAgree = record { stage = 6; number = 0; atom = []; action = 0; to = [] }
 
--- the first of stage, number, atom and action in which they differ decides
+-- the first of stage, number, atom, action and the atom after it in which they differ decides
 abbrev pub IsEarlier : Turn → Turn → Type 0
 IsEarlier s t =
     (s.stage < t.stage)
     ⊎ ((s.stage ≡ t.stage) × ((s.number < t.number)
     ⊎ ((s.number ≡ t.number) × (IsLess s.atom t.atom
-    ⊎ ((s.atom ≡ t.atom) × (s.action < t.action))))))
+    ⊎ ((s.atom ≡ t.atom) × ((s.action < t.action)
+    ⊎ ((s.action ≡ t.action) × IsLess s.to t.to)))))))
 
 -- the certificate fails so, and in no way that stands before
 pub record FailsFirstBy (q : ProblemParts) (c : CertParts) (r : Reason) : Type 0 where

@@ -1,6 +1,7 @@
 pub mod Ranges
 pub mod NodeTables
 pub mod Targets
+pub mod Roots
 pub mod Cases
 pub mod Marks
 pub mod Matching

@@ -1,14 +1,23 @@
-//! The tests on which the answer to a question rests. No answer depends on which are asked: of the others less is
-//! known, so that more cases are gone through.
+//! The tests on which the answer to a question rests. Only a matter of speed: a test left out counts as undecided,
+//! which costs more cases.
 ghost use Rattle.std.specs.Prelude.{◌≡◌, IsTrue, length, IfOk};
 ghost use Rattle.term_nodes.specs.NumberSets.{are_below};
+ghost use Rattle.cert_checker.specs.Working.Questions.{AreAsked};
 
 use crate::cases::PairTest;
+use crate::moves::Rules;
 use crate::tables::Tables;
 use crate::targets::Targets;
 use certificate::TestNode;
 use kat_model::NoMemory;
 use std::alloc::Global;
+
+/// Tests of the tables whose truth is asked at the first atom, and at the second, in ascending order.
+#[derive(Drop)]
+pub(crate) struct Asked {
+    pub first: Vec<usize>,
+    pub second: Vec<usize>,
+}
 
 fn mark(marks: &mut [bool], test: usize) {
     if test < marks.len() {
@@ -55,25 +64,53 @@ fn marked_numbers(alloc: Global, marks: &[bool]) -> Result<Vec<usize>, NoMemory>
     Ok(list)
 }
 
-/// The guards of the question, and the tests of which they are made, in ascending order.
+// Marks the tests that tell whether the rules count.
+fn mark_moves(first: &mut [bool], second: &mut [bool], rules: &Rules) {
+    if let Some(test) = rules.own {
+        mark(first, test);
+    }
+    for (from, to) in rules.forbidden {
+        mark(first, *from);
+        mark(second, *to);
+    }
+}
+
+// Marks the tests of the listed pairs.
+fn mark_pairs(marks: &mut [bool], rules: &Rules) {
+    for pair in rules.pairs {
+        if let Some(test) = pair.test {
+            mark(marks, test);
+        }
+    }
+}
+
+/// The tests that the question and the rules name, and those of which they are made.
 pub(crate) fn asked_tests(
     alloc: Global,
     tables: &Tables,
+    rules: &Rules,
     question: &PairTest,
-) -> Result<Vec<usize>, NoMemory>
-    ensures { IfOk result (λ v. IsTrue (are_below (length tables.now.tests) v.items)) }
+) -> Result<Asked, NoMemory>
+    ensures { IfOk result (AreAsked tables.now) }
 {
-    let mut marks = vec![in alloc; false; tables.test_count()]?;
+    let mut first = vec![in alloc; false; tables.test_count()]?;
+    let mut second = vec![in alloc; false; tables.test_count()]?;
+    mark_moves(&mut first, &mut second, rules);
     match question {
         PairTest::Outputs(left, right) => {
-            mark(&mut marks, *left);
-            mark(&mut marks, *right);
+            mark(&mut first, *left);
+            mark(&mut first, *right);
         }
         PairTest::Steps(left, right) => {
-            mark_guards(&mut marks, left);
-            mark_guards(&mut marks, right);
+            mark_guards(&mut first, left);
+            mark_guards(&mut first, right);
+            mark_pairs(&mut second, rules);
         }
     }
-    mark_parts(&mut marks, tables);
-    marked_numbers(alloc, &marks)
+    mark_parts(&mut first, tables);
+    mark_parts(&mut second, tables);
+    Ok(Asked {
+        first: marked_numbers(alloc, &first)?,
+        second: marked_numbers(alloc, &second)?,
+    })
 }

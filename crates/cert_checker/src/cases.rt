@@ -1,19 +1,20 @@
-//! The least atom at which a question fails, by cases on tests, false first.
-ghost use Rattle.std.specs.Prelude.{◌≡◌, ◌<◌, Bool, List, Option, Some, IsTrue, length, slice_set, IfOk};
+//! The least values of two atoms at which a question fails, by cases on tests, false first.
+ghost use Rattle.std.specs.Prelude.{◌≡◌, ◌↔◌, ◌+◌, IsTrue, Bool, List, Option, Some, length, slice_set, IfOk};
 ghost use Rattle.std.specs.Option.{option_map};
-ghost use Rattle.term_nodes.specs.NumberSets.{are_below};
-ghost use Rattle.cert_checker.specs.Working.Cases.{AreKnown, IsOpen, least_of, is_less as is_less', lesser_of, IsFirstFailure};
-ghost use Rattle.cert_checker.specs.Working.Matching.{AreRules, AgreeAt, IsState};
-ghost use Rattle.cert_checker.specs.Working.Questions.{IsAsked, IsSo};
+ghost use Rattle.cert_checker.specs.Working.Cases.{IsOpen, least_of, is_less as is_less', IsBelow, IsFirstFailure};
+ghost use Rattle.cert_checker.specs.Working.Matching.{AreRules, IsState};
+ghost use Rattle.cert_checker.specs.Working.Questions.{AreAsked, IsAsked, IsSo};
 
-use crate::known::{Known, guard_value, known_tests};
-use crate::matching::{Rules, State, step_state};
+use crate::asked::Asked;
+use crate::known::known_tests;
+use crate::matching::{output_state, step_state};
+use crate::moves::{Rules, State};
 use crate::tables::Tables;
 use crate::targets::Targets;
 use kat_model::NoMemory;
 use std::alloc::Global;
 
-/// What is asked of a pair at each atom.
+/// What is asked of a pair at two atoms.
 #[derive(Drop)]
 pub(crate) enum PairTest {
     /// Have these two tests, which say where its sets accept, one value?
@@ -22,43 +23,31 @@ pub(crate) enum PairTest {
     Steps(Targets, Targets),
 }
 
-// What is known of two tests having one value.
-fn output_state(tables: &Tables, left: usize, right: usize, known: &[Known]) -> State
-    requires left { left < length known.now }
-    requires right { right < length known.now }
-    ensures { (decided : List (Option Bool)) → AreKnown tables.now decided known.now → IsState (AgreeAt tables.now left right) decided result }
-{
-    if left == right {
-        return State::Holds;
-    }
-    match guard_value(known, left) {
-        Known::Waits(test) => State::Waits(test),
-        Known::Value(x) => match guard_value(known, right) {
-            Known::Waits(test) => State::Waits(test),
-            Known::Value(y) => { if x == y { State::Holds } else { State::Fails } }
-        },
-    }
-}
-
 // What is known of the question where some tests are decided.
 fn state(
     alloc: Global,
     tables: &Tables,
     rules: &Rules,
     question: &PairTest,
-    asked: &[usize],
+    asked: &Asked,
     decided: &[Option<bool>],
 ) -> Result<State, NoMemory>
     requires rules { AreRules tables.now rules.now }
     requires question { IsAsked tables.now question.now }
-    requires asked { IsTrue (are_below (length tables.now.tests) asked.now) }
-    requires decided { length decided.now ≡ tables.now.width }
-    ensures { IfOk result (λ s. IsState (IsSo tables.now rules.now question.now) decided.now s) }
+    requires asked { AreAsked tables.now asked.now }
+    requires decided { length decided.now ≡ tables.now.width + tables.now.width }
+    ensures { IfOk result (λ s. IsState tables.now.width (IsSo tables.now rules.now question.now) decided.now s) }
 {
-    let known = known_tests(alloc, tables, asked, decided)?;
+    let width = tables.width();
+    let first = known_tests(alloc, tables, &asked.first, &decided[..width])?;
+    let second = known_tests(alloc, tables, &asked.second, &decided[width..])?;
     match question {
-        PairTest::Outputs(left, right) => Ok(output_state(tables, *left, *right, &known)),
-        PairTest::Steps(left, right) => step_state(alloc, tables, rules, left, right, &known),
+        PairTest::Outputs(left, right) => {
+            Ok(output_state(tables, rules, *left, *right, &first, &second))
+        }
+        PairTest::Steps(left, right) => {
+            step_state(alloc, tables, rules, left, right, &first, &second)
+        }
     }
 }
 
@@ -77,18 +66,18 @@ fn decide(
     Ok(list)
 }
 
-// The least atom with the decided tests.
-fn least_atom(alloc: Global, decided: &[Option<bool>]) -> Result<Vec<bool>, NoMemory>
+// The least values with the decided tests.
+fn least_values(alloc: Global, decided: &[Option<bool>]) -> Result<Vec<bool>, NoMemory>
     ensures { IfOk result (λ v. v.items ≡ least_of decided.now) }
 {
-    let mut atom = Vec::new(alloc);
+    let mut values = Vec::new(alloc);
     for value in decided {
-        atom.push(value.unwrap_or(false))?;
+        values.push(value.unwrap_or(false))?;
     }
-    Ok(atom)
+    Ok(values)
 }
 
-/// Whether the first atom is less: at the first test where they differ it is false.
+/// Whether the first list of values is less: at the first test where they differ it is false.
 pub(crate) fn is_less(first: &[bool], second: &[bool]) -> bool
     ensures { result ≡ is_less' first.now second.now }
 {
@@ -100,41 +89,52 @@ pub(crate) fn is_less(first: &[bool], second: &[bool]) -> bool
     false
 }
 
-// The lesser of the atoms that are there.
-fn lesser_atom(first: Option<Vec<bool>>, second: Option<Vec<bool>>) -> Option<Vec<bool>>
-    ensures { option_map (λ v. v.items) result ≡ lesser_of (option_map (λ v. v.items) first) (option_map (λ v. v.items) second) }
+// Whether the values are less than the bound, where there is one.
+fn is_below(values: &[bool], bound: Option<&[bool]>) -> bool
+    ensures { IsTrue result ↔ IsBelow (option_map (λ b. b.now) bound.entry) values.now }
 {
-    match (first, second) {
-        (Some(x), Some(y)) => { if is_less(&y, &x) { Some(y) } else { Some(x) } }
-        (Some(x), None) => Some(x),
-        (None, second) => second,
+    match bound {
+        Some(bound) => is_less(values, bound),
+        None => true,
     }
 }
 
-/// The least atom with the decided tests at which the question fails.
-pub(crate) fn first_atom(
+/// The least values with the decided tests, and below the bound, at which the question fails.
+pub(crate) fn first_values(
     alloc: Global,
     tables: &Tables,
     rules: &Rules,
     question: &PairTest,
-    asked: &[usize],
+    asked: &Asked,
     decided: &[Option<bool>],
+    bound: Option<&[bool]>,
 ) -> Result<Option<Vec<bool>>, NoMemory>
     requires rules { AreRules tables.now rules.now }
     requires question { IsAsked tables.now question.now }
-    requires asked { IsTrue (are_below (length tables.now.tests) asked.now) }
-    requires decided { length decided.now ≡ tables.now.width }
-    ensures { IfOk result (λ o. IsFirstFailure (IsSo tables.now rules.now question.now) decided.now (option_map (λ v. v.items) o)) }
+    requires asked { AreAsked tables.now asked.now }
+    requires decided { length decided.now ≡ tables.now.width + tables.now.width }
+    ensures { IfOk result (λ o. IsFirstFailure (λ x. IsBelow (option_map (λ b. b.now) bound.entry) x → IsSo tables.now rules.now question.now x) decided.now (option_map (λ v. v.items) o)) }
 {
-    match state(alloc, tables, rules, question, asked, decided)? {
-        State::Holds => Ok(None),
-        State::Fails => Ok(Some(least_atom(alloc, decided)?)),
-        State::Waits(test) => {
-            let low = decide(alloc, decided, test, false)?;
-            let first = first_atom(alloc, tables, rules, question, asked, &low)?;
-            let high = decide(alloc, decided, test, true)?;
-            let second = first_atom(alloc, tables, rules, question, asked, &high)?;
-            Ok(lesser_atom(first, second))
+    let least = least_values(alloc, decided)?;
+    if !is_below(&least, bound) {
+        return Ok(None);
+    }
+    let test = match state(alloc, tables, rules, question, asked, decided)? {
+        State::Holds => return Ok(None),
+        State::Fails => return Ok(Some(least)),
+        State::Waits(test) => test,
+        State::WaitsAfter(test) => tables.width() + test,
+    };
+    let low = decide(alloc, decided, test, false)?;
+    let high = decide(alloc, decided, test, true)?;
+    match first_values(alloc, tables, rules, question, asked, &low, bound)? {
+        None => first_values(alloc, tables, rules, question, asked, &high, bound),
+        Some(found) => {
+            let lower = first_values(alloc, tables, rules, question, asked, &high, Some(&found))?;
+            match lower {
+                Some(values) => Ok(Some(values)),
+                None => Ok(Some(found)),
+            }
         }
     }
 }

@@ -1,8 +1,6 @@
 //! The checker.
 ghost use Rattle.std.specs.Prelude.{◌≡◌, ◌↔◌, ◌<◌, ℕ, MatchOption, IfOk};
 ghost use Rattle.kat_model.specs.Members.{Has};
-ghost use Rattle.kat_model.specs.Closed.{closed as closed'};
-ghost use Rattle.goal_forms.specs.ClosedTrees.{closed_trees};
 ghost use Rattle.term_nodes.specs.declared.TestNode.TheVariants.{Prim};
 ghost use Rattle.term_nodes.specs.declared.TermNode.TheVariants.{Act};
 ghost use Rattle.certificate.specs.Accepted.{IsAccepted};
@@ -12,12 +10,12 @@ ghost use Rattle.cert_checker.specs.Laws.{Says};
 ghost use Rattle.cert_checker.specs.Working.Places.{place_reason};
 
 use crate::answer::{Answer, Reason};
-use crate::places::{Place, first_place};
+use crate::places::{Place, begins_with, first_place};
 use crate::range::{action_out, test_out};
-use crate::sides::{begins_with, universal_number};
+use crate::roots::roots_of;
+use crate::steps::acceptances;
 use crate::tables::Tables;
 use certificate::{Cert, Evidence};
-use goal_forms::{Closed, eliminate};
 use kat_model::{Items, NoMemory, Problem};
 use std::alloc::Global;
 use string_tables::{Finding, verdict};
@@ -25,31 +23,35 @@ use string_tables::{Finding, verdict};
 fn reason_of_place(place: Place) -> Reason
     ensures { result ≡ place_reason place }
 {
-    let Place { pair, atom, action } = place;
-    match action {
-        None => Reason::Output(pair, Items::of(atom)),
-        Some(action) => Reason::Missing(pair, Items::of(atom), action),
+    let Place {
+        pair,
+        atom,
+        action,
+        to,
+    } = place;
+    match (action, to) {
+        (None, _) => Reason::Output(pair, Items::of(atom)),
+        (Some(action), None) => Reason::Missing(pair, Items::of(atom), action),
+        (Some(action), Some(to)) => {
+            Reason::MissingTo(pair, Items::of(atom), action, Items::of(to))
+        }
     }
 }
 
 // The first reason of the pairs, where all nodes are in range.
-fn pairs_reason(
-    alloc: Global,
-    problem: &Problem,
-    cert: &Cert,
-    closed: &Closed,
-) -> Result<Option<Reason>, NoMemory>
+fn pairs_reason(alloc: Global, problem: &Problem, cert: &Cert) -> Result<Option<Reason>, NoMemory>
     requires tests { (k : ℕ) → Has cert.now.test_nodes (Prim k) → k < problem.now.tests }
     requires actions { (a : ℕ) → Has cert.now.term_nodes (Act a) → a < problem.now.actions }
-    requires closed { closed_trees closed.now ≡ closed' problem.now }
     ensures { IfOk result (λ o. MatchOption o (IsAccepted problem.now cert.now) (λ r. FailsFirstBy problem.now cert.now r)) }
 {
     let mut tables = Tables::of(alloc, cert, problem.tests())?;
-    if !begins_with(&tables, cert, closed) {
+    let roots = roots_of(alloc, &mut tables, problem, cert.style())?;
+    let accepting = acceptances(alloc, &mut tables)?;
+    let begins = begins_with(alloc, &mut tables, &accepting, problem, cert, &roots)?;
+    if !begins {
         return Ok(Some(Reason::FirstPair));
     }
-    let universal = universal_number(&tables, problem, cert, closed);
-    match first_place(alloc, &mut tables, problem, cert, universal)? {
+    match first_place(alloc, &mut tables, &accepting, problem, cert, &roots)? {
         Some(place) => Ok(Some(reason_of_place(place))),
         None => Ok(None),
     }
@@ -69,8 +71,7 @@ fn certificate_reason(
     if let Some(k) = action_out(cert.term_nodes(), problem.actions()) {
         return Ok(Some(Reason::TermNode(k)));
     }
-    let closed = eliminate(alloc, problem)?;
-    pairs_reason(alloc, problem, cert, &closed)
+    pairs_reason(alloc, problem, cert)
 }
 
 // Why a string with this finding does not refute the problem.

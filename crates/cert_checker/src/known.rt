@@ -1,10 +1,10 @@
 //! What is known of tests where some primitive tests are decided (three-valued logic, Kleene 1938).
-ghost use Rattle.std.specs.Prelude.{◌≡◌, IsTrue, length, IfOk, IfSome};
+ghost use Rattle.std.specs.Prelude.{◌≡◌, IsTrue, length, MatchOption, IfOk, IfSome};
 ghost use Rattle.term_nodes.specs.Nodes.{IsTestOver};
 ghost use Rattle.term_nodes.specs.NumberSets.{are_below};
 ghost use Rattle.cert_checker.specs.Working.NodeTables.{IsWithin};
-ghost use Rattle.cert_checker.specs.Working.Cases.{known_not, known_and, known_or, known_at, known_node, AreKnown, IsOpen};
-ghost use Rattle.cert_checker.specs.Working.Matching.{known_of};
+ghost use Rattle.cert_checker.specs.Working.Cases.{known_not, known_and, known_or, known_at, known_node, AreKnown, IsOpen, IsWaited, waiting_for};
+ghost use Rattle.cert_checker.specs.Working.Matching.{known_of, known_test, truly, falsely, IsSettled};
 
 use crate::tables::Tables;
 use certificate::TestNode;
@@ -147,4 +147,44 @@ pub(crate) fn guard_value(known: &[Known], guard: usize) -> Known
     ensures { result ≡ known_of known.now guard }
 {
     known.get(guard).copied().unwrap_or(Known::Value(false))
+}
+
+/// What is known of the test of a pair. Without one it is true.
+pub(crate) fn test_value(known: &[Known], test: Option<usize>) -> Known
+    ensures { result ≡ known_test known.now test }
+{
+    match test {
+        Some(test) => guard_value(known, test),
+        None => Known::Value(true),
+    }
+}
+
+pub(crate) fn is_true(known: Known) -> bool
+    ensures { result ≡ truly known }
+{
+    matches!(known, Known::Value(true))
+}
+
+pub(crate) fn is_false(known: Known) -> bool
+    ensures { result ≡ falsely known }
+{
+    matches!(known, Known::Value(false))
+}
+
+/// The test that a guard waits for.
+pub(crate) fn waited_test(known: &[Known], guard: usize) -> Option<usize>
+    ensures value { result ≡ waiting_for (known_of known.now guard) }
+    ensures waited { IfSome result (IsWaited known.now) }
+{
+    match guard_value(known, guard) {
+        Known::Value(_) => None,
+        Known::Waits(test) => Some(test),
+    }
+}
+
+/// The test that the test of a pair waits for.
+pub(crate) fn waiting_test(known: &[Known], test: Option<usize>) -> Option<usize>
+    ensures { MatchOption result (IsSettled known.now test) (IsWaited known.now) }
+{
+    waited_test(known, test?)
 }

@@ -1,10 +1,12 @@
-//! The checker of evidence. It shares with the prover the definitions and nothing else: terms and their steps
-//! (`kat_model`), the closed sides of a problem (`goal_forms`), guarded strings and their tables
-//! (`string_tables`), and what a certificate is and when one is accepted (`certificate`).
+//! The checker of evidence. It stands on no part of a prover. What it shares with one lies below both: terms and
+//! their steps (`kat_model`), the closed sides of a problem (`goal_forms`), guarded strings and their tables
+//! (`string_tables`), nodes of terms (`term_nodes`), and what a certificate is and when one is accepted
+//! (`certificate`).
 //!
 //! A certificate is gone through as it stands: the ranges of its nodes, its first pair, and then, for the outputs
-//! and for each action, each pair by cases on tests. The terms that steps lead to are numbers of one table, so
-//! that long chains and shared nodes cost neither stack nor the size of the trees.
+//! and for each action, each pair by cases on the tests of an atom and, in the style of tests, of the atom that a
+//! move leads to. The terms that steps lead to are numbers of one table, so that long chains and shared nodes cost
+//! neither stack nor the size of the trees.
 #![tactic(auto)]
 
 mod answer;
@@ -14,10 +16,12 @@ mod checking;
 mod known;
 mod laws;
 mod matching;
+mod moves;
 mod places;
 mod range;
+mod roots;
 mod saturation;
-mod sides;
+mod shorts;
 mod steps;
 mod tables;
 mod targets;

@@ -1,61 +1,23 @@
 //! Whether the listed pairs match the sets that an action leads to, as far as the decided tests tell.
-ghost use Rattle.std.specs.Prelude.{◌≡◌, ◌<◌, ℕ, ◌&&◌, Bool, false, List, Option, Some, length, MatchOption, IfSome, IfOk};
+ghost use Rattle.std.specs.Prelude.{◌≡◌, ℕ, ◌&&◌, Bool, false, List, Option, length, take, drop, MatchOption, IfSome, IfOk};
 ghost use Rattle.std.specs.Option.{option_map_or};
 ghost use Rattle.std.specs.List.Sorted.{IsStrictlySortedBy};
 ghost use Rattle.std.specs.Map.{keys_of};
 ghost use Rattle.std.specs.Ordering.{nat_cmp};
+ghost use Rattle.cert_checker.specs.Working.NodeTables.{IsTest};
 ghost use Rattle.cert_checker.specs.Working.Targets.{AreEntries};
-ghost use Rattle.cert_checker.specs.Working.Cases.{AreKnown, IsWaited, waiting_for};
+ghost use Rattle.cert_checker.specs.Working.Cases.{AreKnown, IsWaited};
 ghost use Rattle.cert_checker.specs.Working.Marks.{saturated_marks};
-ghost use Rattle.cert_checker.specs.Working.Matching.{AreRules, MatchAt, known_of, IsState, truly, falsely, sure_targets, is_sure, guarded_by, open_targets, are_both_marked, covers, lists, AreSettled};
+ghost use Rattle.cert_checker.specs.Working.Matching.{AreRules, MatchAt, AgreeAt, IsState, IsNext, IsOver, sure_targets, is_sure, guarded_by, open_targets, are_both_marked, surely_matched, counting, covers, lists, AreSettled, AreTestsSettled};
 
-use crate::known::{Known, guard_value};
+use crate::known::{Known, guard_value, is_false, is_true, waited_test, waiting_test};
+use crate::moves::{Rules, State, is_excluded, tied_test, waiting_move};
 use crate::saturation::reaches;
 use crate::tables::Tables;
 use crate::targets::Targets;
 use certificate::{Pair, Style};
 use kat_model::NoMemory;
 use std::alloc::Global;
-use std::marker::Model;
-
-/// What a step has to be matched by: the style and the listed pairs of a certificate, and the universal term.
-#[derive(Drop)]
-pub(crate) struct Rules<'a> {
-    pub style: Style,
-    pub pairs: &'a [Pair],
-    pub universal: Option<usize>,
-}
-
-impl<'a> Model for Rules<'a> {
-    ghost use Rattle.cert_checker.specs.Working.Matching.{RuleParts};
-
-    ghost Value = { RuleParts };
-
-    ghost view = { λ r. record { style = r.style; pairs = r.pairs.now; universal = r.universal } };
-}
-
-/// What is known of a question at the atoms with the decided tests.
-#[derive(Clone, Copy, Debug, PartialEq, Eq)]
-pub(crate) enum State {
-    /// It holds at each of them.
-    Holds,
-    /// It fails at each of them.
-    Fails,
-    /// It may depend on this test, which is not decided.
-    Waits(usize),
-}
-
-fn is_true(known: Known) -> bool
-    ensures { result ≡ truly known }
-{
-    matches!(known, Known::Value(true))
-}
-
-fn is_false(known: Known) -> bool
-    ensures { result ≡ falsely known }
-{
-    matches!(known, Known::Value(false))
-}
 
 // Whether the term surely is among the targets.
 fn surely_has(targets: &Targets, term: usize, known: &[Known]) -> bool
@@ -71,6 +33,10 @@ fn has_guard(targets: &Targets, term: usize, guard: usize) -> bool
     ensures { result ≡ guarded_by targets.now.entries term guard }
 {
     targets.get(&term).is_some_and(|other| *other == guard)
+}
+
+fn surely_has_all(targets: &Targets, terms: &[usize], known: &[Known]) -> bool {
+    terms.iter().all(|term| surely_has(targets, *term, known))
 }
 
 // The targets that surely are in the set, in ascending order.
@@ -112,45 +78,50 @@ fn both_reach(
     alloc: Global,
     count: usize,
     rules: &Rules,
+    second: &[Known],
+    also_open: bool,
     left: &[usize],
     right: &[usize],
 ) -> Result<bool, NoMemory>
-    ensures { IfOk result (λ b. b ≡ are_both_marked rules.now.universal (saturated_marks count rules.now.pairs left.now) (saturated_marks count rules.now.pairs right.now)) }
+    ensures { IfOk result (λ b. b ≡ are_both_marked rules.now.universal (saturated_marks count (length rules.now.pairs) (counting also_open second.now rules.now.pairs) left.now) (saturated_marks count (length rules.now.pairs) (counting also_open second.now rules.now.pairs) right.now)) }
 {
     match rules.universal {
         Some(term) => Ok(
-            reaches(alloc, count, rules.pairs, left, &[term])?
-                && reaches(alloc, count, rules.pairs, right, &[term])?,
+            reaches(alloc, count, rules.pairs, second, also_open, left, &[term])?
+                && reaches(alloc, count, rules.pairs, second, also_open, right, &[term])?,
         ),
         None => Ok(false),
     }
 }
 
-// Whether the sets are congruent at all the atoms: what may be in one set is in the other, or is brought there
-// by what surely is; or both are brought to the universal term.
+// Whether the sets are congruent at all the atoms by the pairs whose test is true, or may be: what may be in one set
+// is in the other, or is brought there by what surely is; or both are brought to the universal term.
 fn is_covered(
     alloc: Global,
     count: usize,
     rules: &Rules,
     left: &Targets,
     right: &Targets,
-    known: &[Known],
+    first: &[Known],
+    second: &[Known],
+    also_open: bool,
 ) -> Result<bool, NoMemory>
-    ensures { IfOk result (λ b. b ≡ covers count rules.now known.now left.now.entries right.now.entries) }
+    ensures { IfOk result (λ b. b ≡ covers count (length rules.now.pairs) (counting also_open second.now rules.now.pairs) rules.now.universal first.now left.now.entries right.now.entries) }
 {
-    let left_open = open_terms(alloc, left, right, known)?;
-    let right_open = open_terms(alloc, right, left, known)?;
+    let left_open = open_terms(alloc, left, right, first)?;
+    let right_open = open_terms(alloc, right, left, first)?;
     if left_open.is_empty() && right_open.is_empty() {
         return Ok(true);
     }
-    let left_sure = sure_terms(alloc, left, known)?;
-    let right_sure = sure_terms(alloc, right, known)?;
-    if reaches(alloc, count, rules.pairs, &right_sure, &left_open)?
-        && reaches(alloc, count, rules.pairs, &left_sure, &right_open)?
+    let pairs = rules.pairs;
+    let lefts = sure_terms(alloc, left, first)?;
+    let rights = sure_terms(alloc, right, first)?;
+    if reaches(alloc, count, pairs, second, also_open, &rights, &left_open)?
+        && reaches(alloc, count, pairs, second, also_open, &lefts, &right_open)?
     {
         return Ok(true);
     }
-    both_reach(alloc, count, rules, &left_sure, &right_sure)
+    both_reach(alloc, count, rules, second, also_open, &lefts, &rights)
 }
 
 // Whether some pair has just these terms.
@@ -180,24 +151,13 @@ fn are_listed(
     Ok(is_listed(pairs, &left_terms, &right_terms))
 }
 
-// The test that a guard waits for.
-fn waiting(known: &[Known], guard: usize) -> Option<usize>
-    ensures value { result ≡ waiting_for (known_of known.now guard) }
-    ensures waited { IfSome result (IsWaited known.now) }
-{
-    match guard_value(known, guard) {
-        Known::Value(_) => None,
-        Known::Waits(test) => Some(test),
-    }
-}
-
 // A test that the guard of some target waits for.
 fn waiting_target(targets: &Targets, known: &[Known]) -> Option<usize>
     ensures waits { MatchOption result (AreSettled known.now targets.now.entries) (IsWaited known.now) }
     ensures ordered { IsStrictlySortedBy nat_cmp (keys_of targets.now.entries) }
 {
     for (_, guard) in targets.iter() {
-        if let Some(test) = waiting(known, *guard) {
+        if let Some(test) = waited_test(known, *guard) {
             return Some(test);
         }
     }
@@ -210,7 +170,7 @@ fn waiting_difference(targets: &Targets, others: &Targets, known: &[Known]) -> O
 {
     for (term, guard) in targets.iter() {
         if !has_guard(others, *term, *guard) {
-            if let Some(test) = waiting(known, *guard) {
+            if let Some(test) = waited_test(known, *guard) {
                 return Some(test);
             }
         }
@@ -223,14 +183,14 @@ fn waiting_universal(universal: Option<usize>, targets: &Targets, known: &[Known
     ensures { IfSome result (IsWaited known.now) }
 {
     match targets.get(&universal?) {
-        Some(guard) => waiting(known, *guard),
+        Some(guard) => waited_test(known, *guard),
         None => None,
     }
 }
 
-// The test to decide next, while some guard waits: first one of the guards of the universal term, then one of a
-// guard in which the sides differ, then any. Each choice gives the same answer; this one keeps the cases few.
-fn next_test(
+// A test that the guards wait for: first one of the guards of the universal term, then one of a guard in which the
+// sides differ, then any. Each choice gives the same answer; this one keeps the cases few.
+fn waiting_guard(
     universal: Option<usize>,
     left: &Targets,
     right: &Targets,
@@ -255,6 +215,83 @@ fn are_universal(universal: Option<usize>, left: &Targets, right: &Targets, know
     universal.is_some_and(|term| surely_has(left, term, known) && surely_has(right, term, known))
 }
 
+// Whether the pairs surely match the sets: where all guards are settled the sets are listed, or they are covered.
+fn are_matched(
+    alloc: Global,
+    count: usize,
+    rules: &Rules,
+    left: &Targets,
+    right: &Targets,
+    first: &[Known],
+    second: &[Known],
+    settled: bool,
+) -> Result<bool, NoMemory>
+    ensures { IfOk result (λ b. b ≡ surely_matched rules.now.style settled count rules.now first.now second.now left.now.entries right.now.entries) }
+{
+    match rules.style {
+        Style::Plain => Ok(settled && are_listed(alloc, rules.pairs, left, right, first)?),
+        Style::UpTo | Style::Under => {
+            is_covered(alloc, count, rules, left, right, first, second, false)
+        }
+    }
+}
+
+// A test that a listed pair waits for of which both sets surely are within the two.
+fn waiting_within(
+    pairs: &[Pair],
+    left: &Targets,
+    right: &Targets,
+    first: &[Known],
+    second: &[Known],
+) -> Option<usize>
+    ensures { IfSome result (IsWaited second.now) }
+{
+    for pair in pairs {
+        if surely_has_all(left, pair.left.as_slice(), first)
+            && surely_has_all(right, pair.right.as_slice(), first)
+        {
+            if let Some(test) = waiting_test(second, pair.test) {
+                return Some(test);
+            }
+        }
+    }
+    None
+}
+
+// A test that a listed pair waits for.
+fn waiting_pair(pairs: &[Pair], second: &[Known]) -> Option<usize>
+    ensures { MatchOption result (AreTestsSettled second.now pairs.now) (IsWaited second.now) }
+{
+    for pair in pairs {
+        if let Some(test) = waiting_test(second, pair.test) {
+            return Some(test);
+        }
+    }
+    None
+}
+
+// Once the guards are settled, a test that the answer may depend on: one of a listed pair where those whose test may be
+// true cover the sets, and otherwise one that tells whether the move counts.
+fn waiting_behind(
+    alloc: Global,
+    count: usize,
+    rules: &Rules,
+    left: &Targets,
+    right: &Targets,
+    first: &[Known],
+    second: &[Known],
+) -> Result<Option<State>, NoMemory>
+    ensures { IfOk result (λ o. MatchOption o (IsOver count rules.now first.now second.now left.now.entries right.now.entries) (IsNext first.now second.now)) }
+{
+    if is_covered(alloc, count, rules, left, right, first, second, true)? {
+        let within = waiting_within(rules.pairs, left, right, first, second);
+        if let Some(test) = within.or(waiting_pair(rules.pairs, second)) {
+            return Ok(Some(State::WaitsAfter(test)));
+        }
+    }
+    Ok(waiting_move(rules, first, second))
+}
+
 /// Whether two sets of targets are matched by the rules, as far as the decided tests tell.
 pub(crate) fn step_state(
     alloc: Global,
@@ -262,36 +299,62 @@ pub(crate) fn step_state(
     rules: &Rules,
     left: &Targets,
     right: &Targets,
-    known: &[Known],
+    first: &[Known],
+    second: &[Known],
 ) -> Result<State, NoMemory>
     requires rules { AreRules tables.now rules.now }
     requires left { AreEntries tables.now left.now.entries }
     requires right { AreEntries tables.now right.now.entries }
-    ensures { IfOk result (λ s. (decided : List (Option Bool)) → AreKnown tables.now decided known.now → IsState (MatchAt tables.now rules.now left.now.entries right.now.entries) decided s) }
+    ensures { IfOk result (λ s. (decided : List (Option Bool)) → AreKnown tables.now (take tables.now.width decided) first.now → AreKnown tables.now (drop tables.now.width decided) second.now → IsState tables.now.width (MatchAt tables.now rules.now left.now.entries right.now.entries) decided s) }
 {
     let count = tables.term_count();
-    if are_universal(rules.universal, left, right, known) {
+    if is_excluded(rules, first, second) || are_universal(rules.universal, left, right, first) {
         return Ok(State::Holds);
     }
-    let next = next_test(rules.universal, left, right, known);
-    match rules.style {
-        Style::Plain => match next {
-            Some(test) => Ok(State::Waits(test)),
-            None => {
-                if are_listed(alloc, rules.pairs, left, right, known)? {
-                    return Ok(State::Holds);
-                }
-                Ok(State::Fails)
-            }
+    let guard = waiting_guard(rules.universal, left, right, first);
+    let settled = guard.is_none();
+    if are_matched(alloc, count, rules, left, right, first, second, settled)? {
+        return Ok(State::Holds);
+    }
+    if let Some(tied) = tied_test(rules.forbidden, first, second) {
+        return Ok(tied);
+    }
+    if let Some(test) = guard {
+        return Ok(State::Waits(test));
+    }
+    match waiting_behind(alloc, count, rules, left, right, first, second)? {
+        Some(next) => Ok(next),
+        None => Ok(State::Fails),
+    }
+}
+
+/// Whether two tests have one value, as far as the decided tests tell.
+pub(crate) fn output_state(
+    tables: &Tables,
+    rules: &Rules,
+    left: usize,
+    right: usize,
+    first: &[Known],
+    second: &[Known],
+) -> State
+    requires rules { AreRules tables.now rules.now }
+    requires left { IsTest tables.now left }
+    requires right { IsTest tables.now right }
+    ensures { (decided : List (Option Bool)) → AreKnown tables.now (take tables.now.width decided) first.now → AreKnown tables.now (drop tables.now.width decided) second.now → IsState tables.now.width (AgreeAt tables.now rules.now left right) decided result }
+{
+    tables.rules();
+    if left == right || is_excluded(rules, first, second) {
+        return State::Holds;
+    }
+    match guard_value(first, left) {
+        Known::Waits(test) => State::Waits(test),
+        Known::Value(x) => match guard_value(first, right) {
+            Known::Waits(test) => State::Waits(test),
+            Known::Value(y) if x == y => State::Holds,
+            Known::Value(_) => match waiting_move(rules, first, second) {
+                Some(next) => next,
+                None => State::Fails,
+            },
         },
-        Style::UpTo => {
-            if is_covered(alloc, count, rules, left, right, known)? {
-                return Ok(State::Holds);
-            }
-            match next {
-                Some(test) => Ok(State::Waits(test)),
-                None => Ok(State::Fails),
-            }
-        }
     }
 }

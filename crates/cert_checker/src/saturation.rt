@@ -1,7 +1,10 @@
 //! Saturation of a set by pairs (congruence closure: Bonchi and Pous 2013). A set is a mark for each term.
 ghost use Rattle.std.specs.Prelude.{◌≡◌, false, length, slice_index_or, IfOk};
 ghost use Rattle.cert_checker.specs.Working.Marks.{are_marked, with_marks, with_pair_marked, round_marked, rounds_marked, saturated_marks};
+ghost use Rattle.cert_checker.specs.Working.Matching.{known_test, may_be, counting};
+ghost use Rattle.certificate.specs.PairParts.{sets_of};
 
+use crate::known::{Known, test_value};
 use certificate::Pair;
 use kat_model::NoMemory;
 use std::alloc::Global;
@@ -42,7 +45,7 @@ fn mark_all(marks: &mut [bool], terms: &[usize]) -> bool
 
 // Where the set holds all of one side of the pair, adds both. Answers whether a term is new.
 fn add_pair(marks: &mut [bool], pair: &Pair) -> bool
-    ensures marks { marks.new ≡ with_pair_marked marks.old pair.now }
+    ensures marks { marks.new ≡ with_pair_marked marks.old (sets_of pair.now) }
     ensures same { result ≡ false → marks.new ≡ marks.old }
 {
     let left = pair.left.as_slice();
@@ -56,15 +59,31 @@ fn add_pair(marks: &mut [bool], pair: &Pair) -> bool
     false
 }
 
-// One round over the pairs, left as soon as all the wanted terms are marked. Answers whether a term is new.
-fn round(marks: &mut [bool], pairs: &[Pair], wanted: &[usize]) -> bool
-    ensures wanted { are_marked marks.new wanted.now ≡ are_marked (round_marked pairs.now marks.old) wanted.now }
-    ensures marks { are_marked marks.new wanted.now ≡ false → marks.new ≡ round_marked pairs.now marks.old }
+// Whether the test of the pair is true, or may be where those that may be count.
+fn counts(pair: &Pair, known: &[Known], also_open: bool) -> bool
+    ensures { result ≡ may_be also_open (known_test known.now pair.now.test) }
+{
+    match test_value(known, pair.test) {
+        Known::Value(value) => value,
+        Known::Waits(_) => also_open,
+    }
+}
+
+// One round over the pairs that count, left as soon as all the wanted terms are marked. Answers whether a term is new.
+fn round(
+    marks: &mut [bool],
+    pairs: &[Pair],
+    known: &[Known],
+    also_open: bool,
+    wanted: &[usize],
+) -> bool
+    ensures wanted { are_marked marks.new wanted.now ≡ are_marked (round_marked (counting also_open known.now pairs.now) marks.old) wanted.now }
+    ensures marks { are_marked marks.new wanted.now ≡ false → marks.new ≡ round_marked (counting also_open known.now pairs.now) marks.old }
     ensures same { result ≡ false → marks.new ≡ marks.old }
 {
     let mut grew = false;
     for pair in pairs {
-        if add_pair(marks, pair) {
+        if counts(pair, known, also_open) && add_pair(marks, pair) {
             grew = true;
             if holds_all(marks, wanted) {
                 return true;
@@ -76,31 +95,34 @@ fn round(marks: &mut [bool], pairs: &[Pair], wanted: &[usize]) -> bool
 
 // As many rounds as there are pairs, or until the others would tell no more: all the wanted terms are marked, and
 // stay so, or a round has added nothing.
-fn saturate(marks: &mut [bool], pairs: &[Pair], wanted: &[usize])
-    ensures { are_marked marks.new wanted.now ≡ are_marked (rounds_marked (length pairs.now) pairs.now marks.old) wanted.now }
+fn saturate(marks: &mut [bool], pairs: &[Pair], known: &[Known], also_open: bool, wanted: &[usize])
+    ensures { are_marked marks.new wanted.now ≡ are_marked (rounds_marked (length pairs.now) (counting also_open known.now pairs.now) marks.old) wanted.now }
 {
     for _turn in 0..pairs.len() {
         if holds_all(marks, wanted) {
             return;
         }
-        if !round(marks, pairs, wanted) {
+        if !round(marks, pairs, known, also_open, wanted) {
             return;
         }
     }
 }
 
-/// Whether all the wanted terms are among these terms, of `count` terms, saturated by the pairs.
+/// Whether all the wanted terms are among these terms, of `count` terms, saturated by the pairs whose test is true, or
+/// where `also_open` says so may be.
 pub(crate) fn reaches(
     alloc: Global,
     count: usize,
     pairs: &[Pair],
+    known: &[Known],
+    also_open: bool,
     terms: &[usize],
     wanted: &[usize],
 ) -> Result<bool, NoMemory>
-    ensures { IfOk result (λ b. b ≡ are_marked (saturated_marks count pairs.now terms.now) wanted.now) }
+    ensures { IfOk result (λ b. b ≡ are_marked (saturated_marks count (length pairs.now) (counting also_open known.now pairs.now) terms.now) wanted.now) }
 {
     let mut marks = vec![in alloc; false; count]?;
     mark_all(&mut marks, terms);
-    saturate(&mut marks, pairs, wanted);
+    saturate(&mut marks, pairs, known, also_open, wanted);
     Ok(holds_all(&marks, wanted))
 }

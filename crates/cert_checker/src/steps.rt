@@ -23,7 +23,6 @@ fn acceptance(tables: &mut Tables, earlier: &[usize], node: TermNode) -> Result<
     ensures is_test { IfOk result (IsTest tables.new) }
     ensures terms { tables.new.terms ≡ tables.old.terms }
     ensures grows { TablesGrow tables.old tables.new }
-    ensures tables { AreTables tables.new }
 {
     tables.rules();
     match node {
@@ -41,7 +40,6 @@ pub(crate) fn acceptances(alloc: Global, tables: &mut Tables) -> Result<Vec<usiz
     ensures count { IfOk result (λ v. length v.items ≡ length tables.old.terms) }
     ensures terms { tables.new.terms ≡ tables.old.terms }
     ensures grows { TablesGrow tables.old tables.new }
-    ensures tables { AreTables tables.new }
 {
     let count = tables.term_count();
     let mut guards = Vec::new(alloc);
@@ -66,7 +64,6 @@ pub(crate) fn of_set(
     ensures targets { IfOk result (λ t. StandFor tables.new t.entries (λ atom. set_next (terms_of (nodes_in tables.old) set.now) atom action)) }
     ensures terms { tables.new.terms ≡ tables.old.terms }
     ensures grows { TablesGrow tables.old tables.new }
-    ensures tables { AreTables tables.new }
 {
     tables.rules();
     let always = tables.constant(true)?;
@@ -93,7 +90,6 @@ fn step(
     requires count { length earlier.now < length accepting.now }
     ensures targets { IfOk result (λ t. StandFor tables.new t.entries (λ atom. next (term_at tables.old (length earlier.now)) atom action)) }
     ensures grows { TablesGrow tables.old tables.new }
-    ensures tables { AreTables tables.new }
 {
     tables.rules();
     match node {
@@ -126,7 +122,6 @@ pub(crate) fn steps(
     ensures steps { IfOk result (λ v. AreSteps tables.new action (map (λ t. t.entries) v.items)) }
     ensures all { IfOk result (λ v. length v.items ≡ length accepting.now) }
     ensures grows { TablesGrow tables.old tables.new }
-    ensures tables { AreTables tables.new }
 {
     tables.rules();
     let mut list = Vec::new(alloc);

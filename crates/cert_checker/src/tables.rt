@@ -1,5 +1,5 @@
 //! The tables of the checker.
-ghost use Rattle.std.specs.Prelude.{◌≡◌, ◌<◌, ℕ, ◌&&◌, ◌||◌, true, false, IfOk, IsTrue, MatchOption, slice_get, length};
+ghost use Rattle.std.specs.Prelude.{◌≡◌, ◌<◌, ℕ, ◌&&◌, ◌||◌, true, false, IfOk, slice_get, length};
 ghost use Rattle.kat_model.specs.Members.{Has};
 ghost use Rattle.kat_model.specs.Steps.{Atom, dot};
 ghost use Rattle.term_nodes.specs.declared.TestNode.TheVariants.{Prim};
@@ -32,9 +32,8 @@ impl Model for Tables {
 impl Tables {
     ghost use Rattle.cert_checker.specs.Working.NodeTables.{AreTables, TablesGrow, AddsTest, AddsTerm, IsTest, IsTerm, MayBeTest, MayBeTerm, nodes_in, tables_of, test_at, term_at, holds_at};
     ghost use Rattle.kat_model.specs.Trees.{test_tree, kat_tree};
-    ghost use Rattle.term_nodes.specs.Nodes.{IsTestOver, IsOver};
-    ghost use Rattle.term_nodes.specs.TreeParts.{HasTestParts, HasParts};
-    ghost use Rattle.term_nodes.specs.NodeTrees.{test_tree_in, tree_in, HasTestTree, HasTree};
+    ghost use Rattle.kat_model.specs.Problems.{IsTestInRange, HasTestsBelow};
+    ghost use Rattle.term_nodes.specs.NodeTrees.{test_tree_in, tree_in};
 
     /// The tables with the nodes of the certificate alone. Its primitive tests are below `width`.
     pub(crate) fn of(alloc: Global, cert: &Cert, width: usize) -> Result<Tables, NoMemory>
@@ -64,7 +63,6 @@ impl Tables {
         ensures is_test { IfOk result (IsTest self.new) }
         ensures added { AddsTest self.old self.new node }
         ensures grows { TablesGrow self.old self.new }
-        ensures tables { AreTables self.new }
     {
         match self.tests.insert_full(node) {
             Ok((number, _)) => Ok(number),
@@ -80,7 +78,6 @@ impl Tables {
         ensures is_term { IfOk result (IsTerm self.new) }
         ensures added { AddsTerm self.old self.new node }
         ensures grows { TablesGrow self.old self.new }
-        ensures tables { AreTables self.new }
     {
         match self.terms.insert_full(node) {
             Ok((number, _)) => Ok(number),
@@ -138,12 +135,16 @@ impl Tables {
         *self.terms.get_index(number).unwrap()
     }
 
-    // The node of the test, where its parts have numbers.
+    // The node of the test, whose parts are added where they do not stand yet.
     #[cycle(number_of_test)]
-    fn node_of_test(&self, test: &Test) -> Option<TestNode>
-        ensures { MatchOption result (HasTestParts (nodes_in self.now) (test_tree test.now) → ⊥) (λ n. IsTestOver (length self.now.tests) n × (test_tree_in (nodes_in self.now) n ≡ test_tree test.now)) }
+    fn node_of_test(&mut self, test: &Test) -> Result<TestNode, NoMemory>
+        requires { IsTestInRange self.old.width (test_tree test.now) }
+        ensures node { IfOk result (MayBeTest self.new) }
+        ensures tree { IfOk result (λ n. test_tree_in (nodes_in self.new) n ≡ test_tree test.now) }
+        ensures grows { TablesGrow self.old self.new }
     {
-        Some(match test {
+        self.rules();
+        Ok(match test {
             Test::False => TestNode::False,
             Test::True => TestNode::True,
             Test::Prim(k) => TestNode::Prim(*k),
@@ -153,20 +154,28 @@ impl Tables {
         })
     }
 
-    // The number of the test, where it has one.
+    // The number of the test, likewise.
     #[cycle(number_of_test)]
-    fn number_of_test(&self, test: &Test) -> Option<usize>
-        ensures { MatchOption result (HasTestTree (nodes_in self.now) (test_tree test.now) → ⊥) (λ k. IsTest self.now k × (test_at self.now k ≡ test_tree test.now)) }
+    fn number_of_test(&mut self, test: &Test) -> Result<usize, NoMemory>
+        requires { IsTestInRange self.old.width (test_tree test.now) }
+        ensures is_test { IfOk result (IsTest self.new) }
+        ensures tree { IfOk result (λ k. test_at self.new k ≡ test_tree test.now) }
+        ensures grows { TablesGrow self.old self.new }
     {
-        self.tests.get_index_of(&self.node_of_test(test)?)
+        let node = self.node_of_test(test)?;
+        self.test(node)
     }
 
-    // The node of the term, where its parts have numbers.
+    // The node of the term, whose parts are added where they do not stand yet.
     #[cycle(number_of)]
-    fn node_of(&self, term: &Kat) -> Option<TermNode>
-        ensures { MatchOption result (HasParts (nodes_in self.now) (kat_tree term.now) → ⊥) (λ n. IsOver (length self.now.tests) (length self.now.terms) n × (tree_in (nodes_in self.now) n ≡ kat_tree term.now)) }
+    fn node_of(&mut self, term: &Kat) -> Result<TermNode, NoMemory>
+        requires { HasTestsBelow self.old.width (kat_tree term.now) }
+        ensures node { IfOk result (MayBeTerm self.new) }
+        ensures tree { IfOk result (λ n. tree_in (nodes_in self.new) n ≡ kat_tree term.now) }
+        ensures grows { TablesGrow self.old self.new }
     {
-        Some(match term {
+        self.rules();
+        Ok(match term {
             Kat::Zero => TermNode::Zero,
             Kat::One => TermNode::One,
             Kat::Test(b) => TermNode::Test(self.number_of_test(b)?),
@@ -177,12 +186,16 @@ impl Tables {
         })
     }
 
-    /// The number of the term, where it has one.
+    /// The number of the term, whose nodes are added where they do not stand yet.
     #[cycle(number_of)]
-    pub(crate) fn number_of(&self, term: &Kat) -> Option<usize>
-        ensures { MatchOption result (HasTree (nodes_in self.now) (kat_tree term.now) → ⊥) (λ k. IsTerm self.now k × (term_at self.now k ≡ kat_tree term.now)) }
+    pub(crate) fn number_of(&mut self, term: &Kat) -> Result<usize, NoMemory>
+        requires { HasTestsBelow self.old.width (kat_tree term.now) }
+        ensures is_term { IfOk result (IsTerm self.new) }
+        ensures tree { IfOk result (λ k. term_at self.new k ≡ kat_tree term.now) }
+        ensures grows { TablesGrow self.old self.new }
     {
-        self.terms.get_index_of(&self.node_of(term)?)
+        let node = self.node_of(term)?;
+        self.term(node)
     }
 
     /// The test that is true everywhere, or the one that is false.
@@ -191,7 +204,6 @@ impl Tables {
         ensures is_test { IfOk result (IsTest self.new) }
         ensures terms { self.new.terms ≡ self.old.terms }
         ensures grows { TablesGrow self.old self.new }
-        ensures tables { AreTables self.new }
     {
         self.test(if value {
             TestNode::True
@@ -209,7 +221,7 @@ impl Tables {
         matches!(self.test_node(test), TestNode::False)
     }
 
-    /// A test that is true where both are.
+    /// A test that is true where both are. A test and its negation give the one that is false: fewer cases.
     pub(crate) fn both(&mut self, x: usize, y: usize) -> Result<usize, NoMemory>
         requires first { IsTest self.old x }
         requires second { IsTest self.old y }
@@ -217,17 +229,18 @@ impl Tables {
         ensures is_test { IfOk result (IsTest self.new) }
         ensures terms { self.new.terms ≡ self.old.terms }
         ensures grows { TablesGrow self.old self.new }
-        ensures tables { AreTables self.new }
     {
         match (self.test_node(x), self.test_node(y)) {
             (TestNode::False, _) | (_, TestNode::True) => Ok(x),
             (TestNode::True, _) | (_, TestNode::False) => Ok(y),
+            (TestNode::Not(z), _) if z == y => self.constant(false),
+            (_, TestNode::Not(z)) if z == x => self.constant(false),
             _ if x == y => Ok(x),
             _ => self.test(TestNode::And(x, y)),
         }
     }
 
-    /// A test that is true where one of them is.
+    /// A test that is true where one of them is. A test and its negation give the one that is true: fewer cases.
     pub(crate) fn either(&mut self, x: usize, y: usize) -> Result<usize, NoMemory>
         requires first { IsTest self.old x }
         requires second { IsTest self.old y }
@@ -235,11 +248,12 @@ impl Tables {
         ensures is_test { IfOk result (IsTest self.new) }
         ensures terms { self.new.terms ≡ self.old.terms }
         ensures grows { TablesGrow self.old self.new }
-        ensures tables { AreTables self.new }
     {
         match (self.test_node(x), self.test_node(y)) {
             (TestNode::True, _) | (_, TestNode::False) => Ok(x),
             (TestNode::False, _) | (_, TestNode::True) => Ok(y),
+            (TestNode::Not(z), _) if z == y => self.constant(true),
+            (_, TestNode::Not(z)) if z == x => self.constant(true),
             _ if x == y => Ok(x),
             _ => self.test(TestNode::Or(x, y)),
         }
@@ -252,7 +266,6 @@ impl Tables {
         ensures tree { IfOk result (λ k. term_at self.new k ≡ dot (term_at self.old first) (term_at self.old second)) }
         ensures is_term { IfOk result (IsTerm self.new) }
         ensures grows { TablesGrow self.old self.new }
-        ensures tables { AreTables self.new }
     {
         match self.term_node(first) {
             TermNode::One => Ok(second),

@@ -29,7 +29,6 @@ fn joined_guard(
     ensures is_test { IfOk result (IsTest tables.new) }
     ensures terms { tables.new.terms ≡ tables.old.terms }
     ensures grows { TablesGrow tables.old tables.new }
-    ensures tables { AreTables tables.new }
 {
     tables.rules();
     match targets.get(&term) {
@@ -51,7 +50,6 @@ fn add(
     ensures added { OnOk result (StandFor tables.new targets.new.entries (λ atom. chosen tables.old targets.old.entries atom ++ (if holds_at tables.old guard atom then term_at tables.old term ∷ [] else []))) }
     ensures terms { tables.new.terms ≡ tables.old.terms }
     ensures grows { TablesGrow tables.old tables.new }
-    ensures tables { AreTables tables.new }
 {
     if tables.is_never(guard) {
         return Ok(());
@@ -74,7 +72,6 @@ pub(crate) fn add_all(
     ensures added { OnOk result (StandFor tables.new targets.new.entries (λ atom. chosen tables.old targets.old.entries atom ++ (if holds_at tables.old guard atom then chosen tables.old more.now.entries atom else []))) }
     ensures terms { tables.new.terms ≡ tables.old.terms }
     ensures grows { TablesGrow tables.old tables.new }
-    ensures tables { AreTables tables.new }
 {
     if tables.is_never(guard) {
         return Ok(());
@@ -98,7 +95,6 @@ pub(crate) fn union(
     ensures targets { IfOk result (λ t. StandFor tables.new t.entries (λ atom. chosen tables.old first.now.entries atom ++ chosen tables.old second.now.entries atom)) }
     ensures terms { tables.new.terms ≡ tables.old.terms }
     ensures grows { TablesGrow tables.old tables.new }
-    ensures tables { AreTables tables.new }
 {
     tables.rules();
     let always = tables.constant(true)?;
@@ -119,7 +115,6 @@ pub(crate) fn continued_targets(
     requires is_term { IsTerm tables.old after }
     ensures targets { IfOk result (λ t. StandFor tables.new t.entries (λ atom. map (λ x. dot x (term_at tables.old after)) (chosen tables.old first.now.entries atom))) }
     ensures grows { TablesGrow tables.old tables.new }
-    ensures tables { AreTables tables.new }
 {
     tables.rules();
     let mut targets = BTreeMap::new(alloc);
@@ -134,7 +129,6 @@ pub(crate) fn continued_targets(
 pub(crate) fn action_targets(alloc: Global, tables: &mut Tables) -> Result<Targets, NoMemory>
     ensures targets { IfOk result (λ t. StandFor tables.new t.entries (λ _. one' ∷ [])) }
     ensures grows { TablesGrow tables.old tables.new }
-    ensures tables { AreTables tables.new }
 {
     let one = tables.term(TermNode::One)?;
     let always = tables.constant(true)?;

@@ -12,18 +12,18 @@ use Rattle.kat_model.specs.Strings.{Move, GuardedString}
 use Rattle.term_nodes.specs.declared.TestNode.{TestNode}
 use Rattle.term_nodes.specs.declared.TermNode.{TermNode}
 use Rattle.certificate.specs.declared.nodes.Style.{Style}
-use Rattle.certificate.specs.declared.nodes.Style.TheVariants.{Plain, UpTo}
+use Rattle.certificate.specs.declared.nodes.Style.TheVariants.{Plain, UpTo, Under}
 use Rattle.certificate.specs.declared.entry.Entry.{Entry}
 use Rattle.certificate.specs.declared.entry.Entry.TheVariants.{TestLine, TermLine, PairLine}
 use Rattle.certificate.specs.declared.evidence.Evidence.{Evidence}
 use Rattle.certificate.specs.declared.evidence.Evidence.TheVariants.{Equal, Different}
 use Rattle.term_nodes.proofs.Parts.{IsTestOver-part, IsOver-part, IsOver-test, has_below}
 use Rattle.term_nodes.specs.Nodes.{test_parts, term_parts, tests_of_term, same_test_node, same_term_node}
-use Rattle.term_nodes.specs.NumberSets.{NumberPair}
+use Rattle.certificate.specs.PairParts.{PairParts}
 use Rattle.certificate.specs.Certs.{CertParts, IsCert}
 use Rattle.certificate.specs.Texts.{entry_words, entry_numbers, move_words, line_of, heading, entries_of, lines_before_end, text_of_lines, text_of, IsNarrow, IsEvidence}
 use Rattle.certificate.specs.Faults.{Answer, with_entry, cert_from, with_move, moves_from, no_entries, all_from, parts_of, answer_of, too_wide}
-use Rattle.certificate.proofs.Growth.{Passes, passes_faultless, any_lacks, same_test_equal, test_same_itself, same_term_equal, term_same_itself}
+use Rattle.certificate.proofs.Growth.{Passes, passes_faultless, test_stands, test_below, any_lacks, same_test_equal, test_same_itself, same_term_equal, term_same_itself}
 use Rattle.certificate.proofs.Splits.{LacksByte}
 use Rattle.certificate.proofs.Spellings.{none_wide, entry_back, entry_lacks, entry_not_end}
 use Rattle.certificate.proofs.StringSpellings.{first_back, first_lacks, move_back, move_lacks}
@@ -67,7 +67,7 @@ has_at : {X : Type 0} (xs : List X) (y : X) (ys : List X) → Has (xs ++ y ∷ y
 has_at xs y ys = has_right xs (y ∷ ys) y (inl refl)
 
 module _ (c : CertParts) (cert : IsCert c) (narrow : (e : Entry) → Has (entries_of c) e → IsNarrow e) where
-  abbrev parts : List (TestNode ℕ) → List (TermNode ℕ ℕ) → List NumberPair → CertParts
+  abbrev parts : List (TestNode ℕ) → List (TermNode ℕ ℕ) → List PairParts → CertParts
   parts tests terms pairs = record { style = c.style; test_nodes = tests; term_nodes = terms; pairs = pairs }
 
   narrow_test : (n : TestNode ℕ) → Has c.test_nodes n → IsNarrow (TestLine n)
@@ -79,7 +79,7 @@ module _ (c : CertParts) (cert : IsCert c) (narrow : (e : Entry) → Has (entrie
       (has_right (map TestLine c.test_nodes) (map TermLine c.term_nodes ++ map PairLine c.pairs) (TermLine n)
       (has_left (map TermLine c.term_nodes) (map PairLine c.pairs) (TermLine n) (map_has TermLine c.term_nodes n h)))
 
-  narrow_pair : (p : NumberPair) → Has c.pairs p → IsNarrow (PairLine p)
+  narrow_pair : (p : PairParts) → Has c.pairs p → IsNarrow (PairLine p)
   narrow_pair p h =
       narrow (PairLine p)
       (has_right (map TestLine c.test_nodes) (map TermLine c.term_nodes ++ map PairLine c.pairs) (PairLine p)
@@ -109,18 +109,19 @@ module _ (c : CertParts) (cert : IsCert c) (narrow : (e : Entry) → Has (entrie
         ordered = refl;
       }
 
-  pair_passes : (done : List NumberPair) (p : NumberPair) → Has c.pairs p → Passes (parts c.test_nodes c.term_nodes done) (PairLine p)
+  pair_passes : (done : List PairParts) (p : PairParts) → Has c.pairs p → Passes (parts c.test_nodes c.term_nodes done) (PairLine p)
   pair_passes done p has =
-      let sets = cert.pairs p has in
+      let pair = cert.pairs p has in
+      let terms = list_all-append (λ k. nat_lt k (length c.term_nodes)) p.left p.right ∙ ap₂ (λ a b. a && b) pair.left.there pair.right.there in
       record {
-        stands = refl;
+        stands = test_stands (parts c.test_nodes c.term_nodes done) (length c.test_nodes) p.test pair.test;
         narrow = none_wide (entry_numbers (PairLine p)) (narrow_pair p has);
-        earlier = list_all-append (λ k. nat_lt k (length c.term_nodes)) p.left p.right ∙ ap₂ (λ a b. a && b) sets.0.there sets.1.there;
+        earlier = ap₂ (λ a b. a && b) (test_below c.style (length c.test_nodes) p.test pair.test) terms;
         new = refl;
-        ordered = ap₂ (λ a b. a && b) sets.0.ascending sets.1.ascending;
+        ordered = ap₂ (λ a b. a && b) pair.left.ascending pair.right.ascending;
       }
 
-  pairs_pass : (done left : List NumberPair) → c.pairs ≡ done ++ left → PassAll (parts c.test_nodes c.term_nodes done) (map PairLine left)
+  pairs_pass : (done left : List PairParts) → c.pairs ≡ done ++ left → PassAll (parts c.test_nodes c.term_nodes done) (map PairLine left)
   pairs_pass done [] e = tt
   pairs_pass done (p ∷ left) e =
       let has : Has c.pairs p = subst (λ l. Has l p) (sym e) (has_at done p left) in
@@ -144,7 +145,7 @@ module _ (c : CertParts) (cert : IsCert c) (narrow : (e : Entry) → Has (entrie
     tests_pass (done ++ n ∷ []) left (e ∙ sym (append_assoc done (n ∷ []) left)),
   )
 
-  with_pairs : (done left : List NumberPair) → with_entries (parts c.test_nodes c.term_nodes done) (map PairLine left) ≡ parts c.test_nodes c.term_nodes (done ++ left)
+  with_pairs : (done left : List PairParts) → with_entries (parts c.test_nodes c.term_nodes done) (map PairLine left) ≡ parts c.test_nodes c.term_nodes (done ++ left)
   with_pairs done [] = ap (λ l. parts c.test_nodes c.term_nodes l) (sym (append-nil done))
   with_pairs done (p ∷ left) = with_pairs (done ++ p ∷ []) left ∙ ap (λ l. parts c.test_nodes c.term_nodes l) (append_assoc done (p ∷ []) left)
 
@@ -198,10 +199,12 @@ moves_lack (m ∷ ms) small = (move_lacks m (small m (inl refl)), moves_lack ms 
 heading_lacks : (style : Style) → LacksByte 10 (heading style)
 heading_lacks Plain = refl
 heading_lacks UpTo = refl
+heading_lacks Under = refl
 
 headed : (style : Style) (xs : List (List ℕ)) (part : List ℕ) (parts : List (List ℕ)) → all_from (heading style ∷ (xs ++ part ∷ parts)) ≡ cert_from (no_entries style) 2 (xs ++ part ∷ parts)
 headed Plain xs part parts = complete xs part parts _
 headed UpTo xs part parts = complete xs part parts _
+headed Under xs part parts = complete xs part parts _
 
 pub lines_lack : (e : Evidence) → IsEvidence e → LackFeeds (lines_before_end e)
 lines_lack (Equal c) is = (heading_lacks c.style, entries_lack c is.0 is.1 (entries_of c) is.1)

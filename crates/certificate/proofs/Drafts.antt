@@ -15,7 +15,8 @@ use Rattle.certificate.specs.declared.evidence.EvidenceFault.TheVariants.{Double
 use Rattle.certificate.specs.Certs.{IsCert}
 use Rattle.certificate.specs.Faults.{entry_fault, with_entry}
 use Rattle.term_nodes.specs.Nodes.{same_test_node, same_term_node}
-use Rattle.term_nodes.specs.NumberSets.{NumberPair, are_ascending}
+use Rattle.term_nodes.specs.NumberSets.{are_ascending}
+use Rattle.certificate.specs.PairParts.{PairParts}
 use Rattle.certificate.specs.Working.Readings.{draft_parts, IsDraft, MayBeAdded}
 use Rattle.certificate.proofs.Growth.{Passes, passes_faultless, double_fault, cert_grown, any_same, any_lacks, same_test_equal, test_same_itself, same_term_equal, term_same_itself}
 use Rattle.term_nodes.proofs.Insertions.{has_pushed}
@@ -68,6 +69,6 @@ module _ (d : Draft) (n : ℕ) where
   )
 
   -- a pair of ascending sets passes
-  pub pair_passes : (p : NumberPair) → MayBeAdded d (PairLine p) → are_ascending p.left ≡ true → are_ascending p.right ≡ true → Passes (draft_parts d) (PairLine p)
+  pub pair_passes : (p : PairParts) → MayBeAdded d (PairLine p) → are_ascending p.left ≡ true → are_ascending p.right ≡ true → Passes (draft_parts d) (PairLine p)
   pair_passes p may left right =
       record { stands = may.stands; narrow = may.narrow; earlier = may.earlier; new = refl; ordered = rw (left, right) refl }

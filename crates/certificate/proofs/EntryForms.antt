@@ -1,28 +1,22 @@
--- The forms of the lines of a certificate, and what the numbers in them have to do with them.
-use Rattle.std.proofs.Common.{◌≡◌, ℕ, suc, ◌+◌, ◌-◌, ◌<◌, ◌⊎◌, inl, inr, ⊎_elim, List, [], ◌∷◌, map, length, take, drop, Bool, true, false, ◌||◌, not, cond, Option, Some, None, position, refl, sym, ap, ◌∙◌, subst, arith, codes, length-drop}
-use Rattle.std.specs.Borrow.{Bor}
-use Rattle.std.specs.List.{list_all, list_any, prefix_len, position_or_len, before_first, after_first}
+-- The forms of the nodes of a certificate, and what the numbers in them have to do with them.
+use Rattle.std.proofs.Common.{◌≡◌, ℕ, ◌⊎◌, inl, inr, ⊎_elim, List, [], ◌∷◌, map, length, Bool, true, false, cond, Option, Some, None, refl, sym, ap, ◌∙◌, arith, codes}
+use Rattle.std.specs.List.{list_all, list_any}
 use Rattle.std.specs.Option.{option_map, option_and_then}
 use Rattle.std.specs.Str.{bytes_eq}
 use Rattle.std.proofs.lemmas.Slice.Eq.{bytes_eq-Decides}
-use mathlib.Core.Path.{ap₂}
-use Rattle.std.proofs.lemmas.List.{take-map, drop-map, take_all}
-use Rattle.std.proofs.lemmas.List.Folds.{list_any-append}
 use Rattle.term_nodes.specs.declared.TestNode.{TestNode}
 use Rattle.term_nodes.specs.declared.TestNode.TheVariants.{False, True, Prim, Not, And, Or}
 use Rattle.term_nodes.specs.declared.TermNode.{TermNode}
 use Rattle.term_nodes.specs.declared.TermNode.TheVariants.{Zero, One, Test, Act, Sum, Seq, Star}
 use Rattle.certificate.specs.declared.words.Numbers.{Numbers}
 use Rattle.certificate.specs.declared.entry.Entry.{Entry}
-use Rattle.certificate.specs.declared.entry.Entry.TheVariants.{TestLine, TermLine, PairLine}
+use Rattle.certificate.specs.declared.entry.Entry.TheVariants.{TestLine, TermLine}
 use Rattle.certificate.specs.declared.entry.Section.{Section}
-use Rattle.certificate.specs.declared.entry.Section.TheVariants.{Tests, Terms, Pairs}
+use Rattle.certificate.specs.declared.entry.Section.TheVariants.{Tests, Terms}
 use Rattle.certificate.specs.Texts.{test_name, test_numbers, term_name, term_numbers, entry_numbers}
-use Rattle.certificate.specs.Forms.{is_numeral, value_of, numbers_of, test_node_of, term_node_of, is_bar, both_sets, pair_of}
+use Rattle.certificate.specs.Forms.{is_numeral, value_of, numbers_of, test_node_of, term_node_of}
 use Rattle.certificate.specs.Faults.{too_wide, is_wide, section_of}
-use Rattle.certificate.specs.Working.Readings.{texts, HasNumbers}
-use Rattle.term_nodes.specs.NumberSets.{NumberPair}
-use Rattle.certificate.proofs.Splits.{position_at, position_none}
+use Rattle.certificate.specs.Working.Readings.{HasNumbers}
 
 two_forms : {N : Type 0} (b c : Bool) (x y n : N) → cond b (Some x) (cond c (Some y) None) ≡ Some n → ((b ≡ true) × (x ≡ n)) ⊎ ((c ≡ true) × (y ≡ n))
 two_forms true c x y n e = inl (refl, cc)
@@ -180,79 +174,3 @@ wide_test name = wide_node (test_node_of name) TestLine test_numbers Tests (test
 
 pub wide_term : (name : List ℕ) (ws : List (List ℕ)) (v : Numbers) (n : TermNode ℕ ℕ) → list_all is_numeral ws ≡ true → HasNumbers (map value_of ws) v → term_node_of name v.values.items ≡ Some n → v.wide ≡ true → (e : Entry) × (option_map TermLine (option_and_then (term_node_of name) (numbers_of ws)) ≡ Some e) × (is_wide e ≡ true) × (section_of e ≡ Terms)
 wide_term name = wide_node (term_node_of name) TermLine term_numbers Terms (term_node_same name) (λ ks n e. (term_node_told name ks n e).1) (λ n. refl) (λ n. refl)
-
--- a place among words, by their bytes
-module _ {A B : Type 0} (f : A → B) (p : B → Bool) where
-  prefix_len-map : (xs : List A) → prefix_len (λ y. not (p y)) (map f xs) ≡ prefix_len (λ x. not (p (f x))) xs
-  prefix_len-map [] = refl
-  prefix_len-map (x ∷ xs) = ap (λ n. cond (not (p (f x))) (1 + n) 0) (prefix_len-map xs)
-
-  pub list_any-map : (xs : List A) → list_any p (map f xs) ≡ list_any (λ x. p (f x)) xs
-  list_any-map [] = refl
-  list_any-map (x ∷ xs) = ap (λ b. p (f x) || b) (list_any-map xs)
-
--- where one passes, some does
-found_head : {X : Type 0} (p : X → Bool) (x : X) (xs : List X) (b : Bool) → p x ≡ b → cond (not b) (1 + position_or_len p xs) 0 < suc (length xs) → (position_or_len p xs < length xs → list_any p xs ≡ true) → list_any p (x ∷ xs) ≡ true
-found_head p x xs true e below more = rw e refl
-found_head p x xs false e below more = rw (e, more (omega (arith, below))) refl
-
-found_any : {X : Type 0} (p : X → Bool) (xs : List X) → position_or_len p xs < length xs → list_any p xs ≡ true
-found_any p [] below = absurd (omega arith)
-found_any p (x ∷ xs) below = found_head p x xs (p x) refl below (found_any p xs)
-
-pub pair_none : (words : List (Bor (List ℕ))) → None ≡ position (λ w. is_bar w.now) words → pair_of (texts words) ≡ None
-pair_none words e = rw (list_any-map (λ (w : Bor (List ℕ)). w.now) is_bar words ∙ position_none (λ w. is_bar w.now) words e) refl
-
--- the words before the bar at place i, and those after it, as slices give them
-abbrev pub words_before : List (Bor (List ℕ)) → ℕ → List (List ℕ)
-words_before words i = texts (take i words)
-
-abbrev pub words_after : List (Bor (List ℕ)) → ℕ → List (List ℕ)
-words_after words i = texts (take (length words - (i + 1)) (drop (i + 1) words))
-
-pub pair_cut : (words : List (Bor (List ℕ))) (i : ℕ) → Some i ≡ position (λ w. is_bar w.now) words → pair_of (texts words) ≡ both_sets (numbers_of (words_before words i)) (numbers_of (words_after words i))
-pair_cut words i e =
-    let found = position_at (λ (w : Bor (List ℕ)). is_bar w.now) words i e in
-    let there : list_any is_bar (texts words) ≡ true = list_any-map (λ (w : Bor (List ℕ)). w.now) is_bar words ∙ found_any (λ (w : Bor (List ℕ)). is_bar w.now) words (subst (λ n. n < length words) found.0 found.1) in
-    let place : position_or_len is_bar (texts words) ≡ i = prefix_len-map (λ (w : Bor (List ℕ)). w.now) is_bar words ∙ sym found.0 in
-    let before : before_first is_bar (texts words) ≡ words_before words i = ap (λ n. take n (texts words)) place ∙ take-map (λ (w : Bor (List ℕ)). w.now) i words in
-    let rest : take (length words - (i + 1)) (drop (i + 1) words) ≡ drop (i + 1) words = take_all (length words - (i + 1)) (drop (i + 1) words) (omega (arith, length-drop (i + 1) words)) in
-    let after : after_first is_bar (texts words) ≡ words_after words i =
-    ap (λ n. drop (n + 1) (texts words)) place ∙ drop-map (λ (w : Bor (List ℕ)). w.now) (i + 1) words ∙ ap texts (sym rest) in
-    rw there (ap₂ (λ l r. both_sets (numbers_of l) (numbers_of r)) before after)
-
-pub no_left : (ws vs : List (List ℕ)) → list_all is_numeral ws ≡ false → both_sets (numbers_of ws) (numbers_of vs) ≡ None
-no_left ws vs e = rw (numbers_of_none ws e) refl
-
-pub no_right : (ws vs : List (List ℕ)) → list_all is_numeral ws ≡ true → list_all is_numeral vs ≡ false → both_sets (numbers_of ws) (numbers_of vs) ≡ None
-no_right ws vs d e = rw (numbers_of_all ws d, numbers_of_none vs e) refl
-
-pub both_read : (ws vs : List (List ℕ)) → list_all is_numeral ws ≡ true → list_all is_numeral vs ≡ true → both_sets (numbers_of ws) (numbers_of vs) ≡ Some (record { left = map value_of ws; right = map value_of vs })
-both_read ws vs d e = rw (numbers_of_all ws d, numbers_of_all vs e) refl
-
--- a pair is wide where a number of either set is
-pub wide_pair : (ks ls : List ℕ) (v w : Numbers) → HasNumbers ks v → HasNumbers ls w → is_wide (PairLine (record { left = ks; right = ls })) ≡ (v.wide || w.wide)
-wide_pair ks ls v w hv hw = list_any-append too_wide ks ls ∙ ap₂ (λ b c. b || c) (sym hv.wide) (sym hw.wide)
-
-or_true_right : (b c : Bool) → c ≡ true → (b || c) ≡ true
-or_true_right true c e = refl
-or_true_right false c e = e
-
--- the pair of words that are read
-module _ (o : Option NumberPair) (ws vs : List (List ℕ)) (v w : Numbers) (told : o ≡ both_sets (numbers_of ws) (numbers_of vs))
-    (nv : list_all is_numeral ws ≡ true) (nw : list_all is_numeral vs ≡ true) (hv : HasNumbers (map value_of ws) v) (hw : HasNumbers (map value_of vs) w) where
-  both_told : option_map PairLine o ≡ Some (PairLine (record { left = map value_of ws; right = map value_of vs }))
-  both_told = ap (option_map PairLine) (told ∙ both_read ws vs nv nw)
-
-  pub wide_left : v.wide ≡ true → (e : Entry) × (option_map PairLine o ≡ Some e) × (is_wide e ≡ true) × (section_of e ≡ Pairs)
-  wide_left e = (PairLine (record { left = map value_of ws; right = map value_of vs }), both_told, wide_pair (map value_of ws) (map value_of vs) v w hv hw ∙ ap (λ b. b || w.wide) e, refl)
-
-  pub wide_right : w.wide ≡ true → (e : Entry) × (option_map PairLine o ≡ Some e) × (is_wide e ≡ true) × (section_of e ≡ Pairs)
-  wide_right e = (PairLine (record { left = map value_of ws; right = map value_of vs }), both_told, wide_pair (map value_of ws) (map value_of vs) v w hv hw ∙ or_true_right v.wide w.wide e, refl)
-
-  pub narrow_pair : (p : NumberPair) → v.wide ≡ false → w.wide ≡ false → p.left ≡ v.values.items → p.right ≡ w.values.items → (option_map PairLine o ≡ Some (PairLine p)) × (is_wide (PairLine p) ≡ false)
-  narrow_pair p nl nr left right =
-      let same : record { left = map value_of ws; right = map value_of vs } ≡ p = λ j. record { left = sym (left ∙ hv.values nl) j; right = sym (right ∙ hw.values nr) j } in (
-        both_told ∙ ap (λ q. Some (PairLine q)) same,
-        ap (λ q. is_wide (PairLine q)) (sym same) ∙ wide_pair (map value_of ws) (map value_of vs) v w hv hw ∙ ap₂ (λ b c. b || c) nl nr,
-      )

@@ -1,22 +1,33 @@
 -- Worked examples of evidence: texts that are read, the first faults of others, and the trees of nodes.
-use Rattle.std.proofs.Common.{◌≡◌, [], ◌∷◌, true, false, Some, Ok, codes, refl}
-use Rattle.kat_model.specs.Trees.{Term, prim, test, act, sum, product, star}
-use Rattle.term_nodes.specs.declared.TestNode.TheVariants.{Prim}
-use Rattle.term_nodes.specs.declared.TermNode.TheVariants.{Test, Act, Sum, Seq, Star}
-use Rattle.certificate.specs.declared.nodes.Style.TheVariants.{Plain}
+use Rattle.std.proofs.Common.{◌≡◌, ◌<◌, inl, inr, ⊎_elim, List, [], ◌∷◌, length, true, false, Some, None, Ok, codes, refl, sym, subst, arith}
+use Rattle.std.specs.Bool.{IsTrue}
+use Rattle.std.proofs.lemmas.Bool.{true≢false}
+use Rattle.kat_model.specs.Trees.{TestTree, top, prim, complement, Term, one, test, act, sum, product, star}
+use Rattle.kat_model.specs.Members.{Has}
+use Rattle.kat_model.specs.Steps.{Atom, truth, set_out, set_next}
+use Rattle.kat_model.specs.Strings.{Move}
+use Rattle.kat_model.specs.Problems.{ProblemParts}
+use Rattle.kat_model.specs.Pairs.{IsCongruent}
+use Rattle.kat_model.specs.Degrees.{short_hyps, long_hyps, with_hyps}
+use Rattle.kat_model.specs.AllowedMoves.{IsAllowedAtom, IsAllowedMove}
+use Rattle.kat_model.specs.TestedPairs.{TestedPair, pairs_at, AreAcceptedUnder}
+use Rattle.kat_model.proofs.Congruence.{listed_same}
+use Rattle.term_nodes.specs.declared.TestNode.TheVariants.{True, Prim}
+use Rattle.term_nodes.specs.declared.TermNode.TheVariants.{One, Test, Act, Sum, Seq, Star}
+use Rattle.certificate.specs.declared.nodes.Style.TheVariants.{Plain, Under}
 use Rattle.certificate.specs.declared.evidence.Evidence.TheVariants.{Equal, Different}
 use Rattle.certificate.specs.declared.evidence.EvidenceFault.TheVariants.{Header, Line, NodeOrder, DoubleNode, SetOrder, NumberTooWide, Truncated, Trailing}
 use Rattle.term_nodes.specs.NodeTrees.{test_trees, trees}
 use Rattle.certificate.specs.Certs.{CertParts}
 use Rattle.certificate.specs.Texts.{text_of}
 use Rattle.certificate.specs.Faults.{answer_of, line_fault}
-use Rattle.certificate.specs.Accepted.{set_pairs}
+use Rattle.certificate.specs.Accepted.{set_pairs, tested_pairs, IsAccepted}
 use Rattle.certificate.proofs.ReadTexts.{read_told}
 
 -- b = b
 
 abbrev one_test : CertParts
-one_test = record { style = Plain; test_nodes = Prim 0 ∷ []; term_nodes = Test 0 ∷ []; pairs = record { left = 0 ∷ []; right = 0 ∷ [] } ∷ [] }
+one_test = record { style = Plain; test_nodes = Prim 0 ∷ []; term_nodes = Test 0 ∷ []; pairs = record { left = 0 ∷ []; right = 0 ∷ []; test = None } ∷ [] }
 
 one_test_read : answer_of (codes "kat 1 equal\nT prim 0\nE test 0\nP 0 | 0\nend\n") ≡ Ok (Equal one_test)
 one_test_read = refl
@@ -42,7 +53,7 @@ denesting =
       style = Plain;
       test_nodes = [];
       term_nodes = Act 0 ∷ Act 1 ∷ Sum 0 1 ∷ Star 2 ∷ Star 0 ∷ Seq 4 1 ∷ Star 5 ∷ Seq 6 4 ∷ Seq 5 6 ∷ Seq 8 4 ∷ [];
-      pairs = record { left = 3 ∷ []; right = 7 ∷ [] } ∷ record { left = 3 ∷ []; right = 4 ∷ 9 ∷ [] } ∷ [];
+      pairs = record { left = 3 ∷ []; right = 7 ∷ []; test = None } ∷ record { left = 3 ∷ []; right = 4 ∷ 9 ∷ []; test = None } ∷ [];
     }
 
 abbrev nested : Term
@@ -51,6 +62,83 @@ nested = star (product (star p) q)
 denesting_pairs : set_pairs denesting ≡ record { left = star (sum p q) ∷ []; right = product nested (star p) ∷ [] } ∷ record { left = star (sum p q) ∷ []; right = star p ∷ product (product (product (star p) q) nested) (star p) ∷ [] } ∷ []
 unfolding test_trees trees
 denesting_pairs = refl
+
+-- p = p.b where the hypothesis p.!b = 0 says that b holds after each p: the second pair is to hold there alone
+
+abbrev b : TestTree
+b = prim 0
+
+abbrev lasting : CertParts
+lasting =
+    record {
+      style = Under;
+      test_nodes = True ∷ Prim 0 ∷ [];
+      term_nodes = Act 0 ∷ Test 1 ∷ Seq 0 1 ∷ One ∷ [];
+      pairs = record { left = 0 ∷ []; right = 2 ∷ []; test = Some 0 } ∷ record { left = 3 ∷ []; right = 1 ∷ []; test = Some 1 } ∷ [];
+    }
+
+lasting_read : answer_of (codes "kat 1 equal under\nT true\nT prim 0\nE act 0\nE test 1\nE seq 0 1\nE one\nP 0 | 2 | 0\nP 3 | 1 | 1\nend\n") ≡ Ok (Equal lasting)
+lasting_read = refl
+
+lasting_text : codes "kat 1 equal under\nT true\nT prim 0\nE act 0\nE test 1\nE seq 0 1\nE one\nP 0 | 2 | 0\nP 3 | 1 | 1\nend\n" ≡ text_of (Equal lasting)
+lasting_text = (read_told _ (Equal lasting) lasting_read).1
+
+abbrev first : TestedPair
+first = record { sets = record { left = p ∷ []; right = product p (test b) ∷ [] }; test = top }
+
+abbrev second : TestedPair
+second = record { sets = record { left = one ∷ []; right = test b ∷ [] }; test = b }
+
+abbrev both : List TestedPair
+both = first ∷ second ∷ []
+
+lasting_pairs : tested_pairs lasting ≡ both
+unfolding test_trees trees
+lasting_pairs = refl
+
+abbrev hyps : List Term
+hyps = product p (test (complement b)) ∷ []
+
+abbrev asks : ProblemParts
+asks = record { tests = 1; actions = 1; hyps = hyps; left = p; right = product p (test b) }
+
+-- after p, where b holds, the second pair is there
+after_p : (atom after : Atom) → IsAllowedMove hyps atom (record { act = 0; atom = after }) → IsCongruent None (pairs_at both after) (one ∷ []) (test b ∷ [])
+after_p atom [] m = absurd (true≢false m.move)
+after_p atom (false ∷ after) m = absurd (true≢false m.move)
+after_p atom (true ∷ after) m =
+    inl (listed_same (pairs_at both (true ∷ after)) (one ∷ []) (test b ∷ []) (record { pair = second.sets; listed = inr (inl refl); lefts = λ x. ((λ h. h), (λ h. h)); rights = λ x. ((λ h. h), (λ h. h)) }))
+
+both_accepted : AreAcceptedUnder (short_hyps asks) (with_hyps asks (long_hyps asks)) both
+both_accepted = record { test = top; rest = second ∷ []; first = refl; holds = λ atom wide allowed. refl; bisimulation = record { outputs = outputs; steps = steps } }
+  where
+    IsAlike : TestedPair → Atom → Type 0
+    IsAlike s atom = IsTrue (truth s.test atom) → set_out s.sets.left atom ≡ set_out s.sets.right atom
+
+    outputs : (s : TestedPair) → Has both s → (atom : Atom) → length atom ≡ 1 → IsAllowedAtom hyps atom → IsAlike s atom
+    outputs s h atom wide allowed =
+        ⊎_elim (λ e. subst (λ z. IsAlike z atom) e (λ t. refl)) (λ k. ⊎_elim (λ e. subst (λ z. IsAlike z atom) e (λ t. rw t refl)) absurd k) h
+
+    IsMatched : TestedPair → Atom → Move → Type 0
+    IsMatched s atom m = IsCongruent None (pairs_at both m.atom) (set_next s.sets.left atom m.act) (set_next s.sets.right atom m.act)
+
+    steps : (s : TestedPair) → Has both s → (atom : Atom) → length atom ≡ 1 → IsTrue (truth s.test atom)
+        → (m : Move) → m.act < 1 → length m.atom ≡ 1 → IsAllowedMove hyps atom m → IsMatched s atom m
+    steps s h atom wide t m la long allowed =
+        let zeroth : m.act ≡ 0 = omega arith in
+        let same : m ≡ record { act = 0; atom = m.atom } = λ i. record { act = zeroth i; atom = m.atom } in
+        ⊎_elim
+        (λ e. subst (λ z. IsMatched z atom m) e (subst (IsMatched first atom) (sym same) (after_p atom m.atom (subst (IsAllowedMove hyps atom) same allowed))))
+        (λ k. ⊎_elim (λ e. subst (λ z. IsMatched z atom m) e (inl (λ x. ((λ h. h), (λ h. h))))) absurd k)
+        h
+
+lasting_accepted : IsAccepted asks lasting
+lasting_accepted =
+    record {
+      tests = λ k h. ⊎_elim (λ e. cc) (λ r. ⊎_elim (λ e. let same : 0 ≡ k = cc in omega (arith, same)) absurd r) h;
+      actions = λ a h. ⊎_elim (λ e. let same : 0 ≡ a = cc in omega (arith, same)) (λ r. ⊎_elim (λ e. cc) (λ s. ⊎_elim (λ e. cc) (λ t. ⊎_elim (λ e. cc) absurd t) s) r) h;
+      pairs = subst (AreAcceptedUnder (short_hyps asks) (with_hyps asks (long_hyps asks))) (sym lasting_pairs) both_accepted;
+    }
 
 -- two tests, and a step of action 0
 
@@ -87,6 +175,22 @@ nothing_there = refl
 
 one_more : line_fault (codes "kat 1 equal\nend\n\n") ≡ Some (Trailing 3)
 one_more = refl
+
+-- a pair under tests has a test, and no other pair has one, whatever their numbers
+lacks_test : line_fault (codes "kat 1 equal under\nT true\nE one\nP 18446744073709551616 | 0\nend\n") ≡ Some (Line 4)
+lacks_test = refl
+
+has_test : line_fault (codes "kat 2 equal\nT true\nE one\nP 18446744073709551616 | 0 | 0\nend\n") ≡ Some (Line 4)
+has_test = refl
+
+wide_test : line_fault (codes "kat 1 equal under\nT true\nE one\nP 0 | 0 | 18446744073709551616\nend\n") ≡ Some (NumberTooWide 4)
+wide_test = refl
+
+no_test : line_fault (codes "kat 1 equal under\nT true\nE one\nP 0 | 0 | 1\nend\n") ≡ Some (NodeOrder 4)
+no_test = refl
+
+one_test_alone : line_fault (codes "kat 1 equal under\nT true\nE one\nP 0 | 0 |\nend\n") ≡ Some (Line 4)
+one_test_alone = refl
 
 -- a test node after a term node has no form there, whatever its numbers
 out_of_place : line_fault (codes "kat 1 equal\nE zero\nT prim 18446744073709551616\n") ≡ Some (Line 3)

@@ -33,10 +33,10 @@ module _ (e : Evidence) (line more : List ℕ) (is : IsEvidence e) (whole : IsLi
 pub faults_are_first_lem : FaultsAreFirst
 faults_are_first_lem =
     record {
-      header = λ line more whole plain up_to string.
-          ap result_err (all_header (line ++ 10 ∷ more) line more (split_at 10 line more whole) (differs line _ plain) (differs line _ up_to) (differs line _ string));
+      header = λ line more whole plain up_to under string.
+          ap result_err (all_header (line ++ 10 ∷ more) line more (split_at 10 line more whole) (differs line _ plain) (differs line _ up_to) (differs line _ under) (differs line _ string));
       first = λ line more whole none.
-          ap result_err (all_string (string_heading ++ 10 ∷ (line ++ 10 ∷ more)) string_heading (line ++ 10 ∷ more) (split_at 10 string_heading (line ++ 10 ∷ more) refl) refl refl refl ∙ no_first line more whole none);
+          ap result_err (all_string (string_heading ++ 10 ∷ (line ++ 10 ∷ more)) string_heading (line ++ 10 ∷ more) (split_at 10 string_heading (line ++ 10 ∷ more) refl) refl refl refl refl ∙ no_first line more whole none);
       entry = λ c line more fault is whole apart wrong.
           ap result_err (scanned (Equal c) line more is whole ∙ cert_fault c (next_line (Equal c)) (line ++ 10 ∷ more) line more (split_at 10 line more whole) (differs line _ apart) fault wrong);
       move = λ x line more is whole apart none.
@@ -45,7 +45,7 @@ faults_are_first_lem =
           ap result_err (scanned (Different x) line more is whole ∙ moves_wide x (next_line (Different x)) (line ++ 10 ∷ more) line more (split_at 10 line more whole) (differs line _ apart) m move wide);
       no_line = λ rest whole. ap result_err (all_none rest (split_lacking 10 rest whole));
       one_line = λ rest whole.
-          ap result_err (all_string (string_heading ++ 10 ∷ rest) string_heading rest (split_at 10 string_heading rest refl) refl refl refl ∙ string_none rest (split_lacking 10 rest whole));
+          ap result_err (all_string (string_heading ++ 10 ∷ rest) string_heading rest (split_at 10 string_heading rest refl) refl refl refl refl ∙ string_none rest (split_lacking 10 rest whole));
       truncated = λ e rest is whole. ap result_err (text_scanned e (next_line e) rest rest [] is refl (split_lacking 10 rest whole) ∙ short e rest);
       trailing = λ e b more is. ap result_err (ap answer_of (text_ends e (b ∷ more)) ∙ after_end e b more is);
     }

@@ -1,5 +1,5 @@
 -- A certificate with one more entry that has no fault keeps the rules.
-use Rattle.std.proofs.Common.{◌≡◌, ℕ, ◌≤◌, ◌⊎◌, ⊎_elim, List, [], ◌∷◌, ◌++◌, length, Bool, true, false, not, ◌&&◌, eqb, nat_lt, Option, Some, None, refl, sym, ap, ◌∙◌, subst, arith, length-append, eqb-true, eq-eqb}
+use Rattle.std.proofs.Common.{◌≡◌, ℕ, ◌≤◌, ◌<◌, inl, ⊎_elim, List, [], ◌∷◌, ◌++◌, length, Bool, true, false, not, ◌&&◌, eqb, nat_lt, Option, Some, None, refl, sym, ap, ◌∙◌, subst, arith, length-append, eqb-true, eq-eqb}
 use mathlib.Core.Path.{ap₂}
 use Rattle.std.specs.List.{list_any}
 use Rattle.std.specs.Option.{option_or}
@@ -17,10 +17,14 @@ use Rattle.certificate.specs.declared.evidence.EvidenceFault.{EvidenceFault}
 use Rattle.certificate.specs.declared.evidence.EvidenceFault.TheVariants.{Line, NodeOrder, DoubleNode, SetOrder, NumberTooWide}
 use Rattle.term_nodes.specs.Nodes.{test_parts, term_parts, tests_of_term, same_test_node, same_term_node}
 use Rattle.term_nodes.specs.NumberSets.{are_below, are_ascending, IsNumberSet}
-use Rattle.term_nodes.proofs.Parts.{parts-IsTestOver, parts-IsOver, below_has, below_more}
+use Rattle.term_nodes.proofs.Parts.{parts-IsTestOver, parts-IsOver, below_has, has_below, below_more}
 use Rattle.term_nodes.proofs.Insertions.{has_pushed, test_pushed, term_pushed}
-use Rattle.certificate.specs.Certs.{CertParts, IsCert, nodes_of}
-use Rattle.certificate.specs.Faults.{is_wide, section_of, may_stand, names_earlier, stands_already, has_order, fault_where, entry_fault, with_entry}
+use Rattle.certificate.specs.declared.nodes.Style.{Style}
+use Rattle.certificate.specs.declared.nodes.Style.TheVariants.{Plain, UpTo, Under}
+use Rattle.certificate.specs.PairParts.{PairParts}
+use Rattle.certificate.specs.Certs.{CertParts, HasItsTest, IsPairOf, IsCert, nodes_of}
+use Rattle.certificate.specs.Texts.{maybe_one}
+use Rattle.certificate.specs.Faults.{is_wide, pair_section, section_of, has_tests, may_stand, names_earlier, stands_already, has_order, fault_where, entry_fault, with_entry}
 
 -- an entry passes every test
 pub record Passes (c : CertParts) (e : Entry) : Type 0 where
@@ -135,27 +139,79 @@ set_more m n ks le s = record { there = below_more m n ks le s.there; ascending 
 longer : {X : Type 0} (xs : List X) (x : X) → length xs ≤ length (xs ++ x ∷ [])
 longer xs x = omega (arith, length-append xs (x ∷ []))
 
+-- ---- the test of a pair
+
+its_none : (style : Style) (n : ℕ) → not (has_tests style) ≡ true → HasItsTest style n None
+its_none Plain n e = refl
+its_none UpTo n e = refl
+its_none Under n e = cc
+
+its_some : (style : Style) (n k : ℕ) → has_tests style ≡ true → k < n → HasItsTest style n (Some k)
+its_some Plain n k e below = cc
+its_some UpTo n k e below = cc
+its_some Under n k e below = (k, refl, below)
+
+-- a pair has its test where it may stand and names a test that is there
+pub its_test : (c : CertParts) (n : ℕ) (t : Option ℕ) → may_stand c (pair_section t) ≡ true → are_below n (maybe_one t) ≡ true → HasItsTest c.style n t
+its_test c n None stands below = its_none c.style n stands
+its_test c n (Some k) stands below = its_some c.style n k stands (below_has n (k ∷ []) below k (inl refl))
+
+style_stands : (c : CertParts) (style : Style) (n : ℕ) (t : Option ℕ) → c.style ≡ style → HasItsTest style n t → may_stand c (pair_section t) ≡ true
+style_stands c Plain n None e its = rw e refl
+style_stands c Plain n (Some k) e its = cc
+style_stands c UpTo n None e its = rw e refl
+style_stands c UpTo n (Some k) e its = cc
+style_stands c Under n None e its = let clash = its.1 in cc
+style_stands c Under n (Some k) e its = rw e refl
+
+pub test_stands : (c : CertParts) (n : ℕ) (t : Option ℕ) → HasItsTest c.style n t → may_stand c (pair_section t) ≡ true
+test_stands c n t its = style_stands c c.style n t refl its
+
+pub test_below : (style : Style) (n : ℕ) (t : Option ℕ) → HasItsTest style n t → are_below n (maybe_one t) ≡ true
+test_below style n None its = refl
+test_below Plain n (Some k) its = cc
+test_below UpTo n (Some k) its = cc
+test_below Under n (Some k) its =
+    let is = its.1 in
+    let same : its.0 ≡ k = cc in
+    has_below n (k ∷ []) (λ j h. ⊎_elim (λ e. subst (λ i. i < n) (same ∙ e) its.2) absurd h)
+
+-- with more tests
+its_test_more : (style : Style) (m n : ℕ) (t : Option ℕ) → m ≤ n → HasItsTest style m t → HasItsTest style n t
+its_test_more Plain m n t le its = its
+its_test_more UpTo m n t le its = its
+its_test_more Under m n t le its = (its.0, its.1, (let low = its.2 in omega (arith, le, low)))
+
 pub cert_grown : (c : CertParts) (e : Entry) → IsCert c → Passes c e → IsCert (with_entry c e)
 cert_grown c (TestLine n) cert p =
     let earlier = (and_parts (are_below (length c.test_nodes) (test_parts n)) _ p.earlier).0 in
     record {
       nodes = test_pushed (nodes_of c) n cert.nodes (parts-IsTestOver (length c.test_nodes) n (below_has (length c.test_nodes) (test_parts n) earlier)) (lacks_any same_test_node same_test_equal test_same_itself c.test_nodes n p.new);
-      pairs = cert.pairs;
+      pairs = λ q h.
+          let old = cert.pairs q h in
+          record { left = old.left; right = old.right; test = its_test_more c.style _ _ q.test (longer c.test_nodes n) old.test };
     }
 cert_grown c (TermLine n) cert p =
     let earlier = and_parts (are_below (length c.test_nodes) (tests_of_term n)) (are_below (length c.term_nodes) (term_parts n)) p.earlier in
     let over = parts-IsOver (length c.test_nodes) (length c.term_nodes) n (below_has (length c.test_nodes) (tests_of_term n) earlier.0) (below_has (length c.term_nodes) (term_parts n) earlier.1) in
     record {
       nodes = term_pushed (nodes_of c) n cert.nodes over (lacks_any same_term_node same_term_equal term_same_itself c.term_nodes n p.new);
-      pairs = λ q h. let old = cert.pairs q h in (set_more _ _ q.left (longer c.term_nodes n) old.0, set_more _ _ q.right (longer c.term_nodes n) old.1);
+      pairs = λ q h.
+          let old = cert.pairs q h in
+          record { left = set_more _ _ q.left (longer c.term_nodes n) old.left; right = set_more _ _ q.right (longer c.term_nodes n) old.right; test = old.test };
     }
 cert_grown c (PairLine q) cert p =
-    let earlier = (and_parts (are_below (length c.test_nodes) []) (are_below (length c.term_nodes) (q.left ++ q.right)) p.earlier).1 in
-    let there = and_parts (are_below (length c.term_nodes) q.left) (are_below (length c.term_nodes) q.right) (sym (list_all-append (λ k. nat_lt k (length c.term_nodes)) q.left q.right) ∙ earlier) in
+    let earlier = and_parts (are_below (length c.test_nodes) (maybe_one q.test)) (are_below (length c.term_nodes) (q.left ++ q.right)) p.earlier in
+    let there = and_parts (are_below (length c.term_nodes) q.left) (are_below (length c.term_nodes) q.right) (sym (list_all-append (λ k. nat_lt k (length c.term_nodes)) q.left q.right) ∙ earlier.1) in
     let ascend = and_parts (are_ascending q.left) (are_ascending q.right) p.ordered in
-    let sets : IsNumberSet (length c.term_nodes) q.left × IsNumberSet (length c.term_nodes) q.right =
-    (record { there = there.0; ascending = ascend.0 }, record { there = there.1; ascending = ascend.1 }) in
+    let pair : IsPairOf (with_entry c (PairLine q)) q =
+    record {
+      left = record { there = there.0; ascending = ascend.0 };
+      right = record { there = there.1; ascending = ascend.1 };
+      test = its_test c (length c.test_nodes) q.test p.stands earlier.0;
+    } in
+    let olds : (r : PairParts) → Has c.pairs r → IsPairOf (with_entry c (PairLine q)) r = λ r h. let old = cert.pairs r h in record { left = old.left; right = old.right; test = old.test } in
     record {
       nodes = cert.nodes;
-      pairs = λ r h. ⊎_elim (cert.pairs r) (λ e. subst (λ s. IsNumberSet (length c.term_nodes) s.left × IsNumberSet (length c.term_nodes) s.right) e sets) (has_pushed c.pairs q r h);
+      pairs = λ r h. ⊎_elim (olds r) (λ e. subst (IsPairOf (with_entry c (PairLine q))) e pair) (has_pushed c.pairs q r h);
     }

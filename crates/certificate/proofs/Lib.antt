@@ -2,6 +2,7 @@ pub mod Splits
 pub mod Numerals
 pub mod ReadNumbers
 pub mod EntryForms
+pub mod PairForms
 pub mod KnownNodes
 pub mod Growth
 pub mod Drafts

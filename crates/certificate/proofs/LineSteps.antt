@@ -9,7 +9,7 @@ use Rattle.certificate.specs.declared.evidence.Evidence.{Evidence}
 use Rattle.certificate.specs.declared.evidence.Evidence.TheVariants.{Equal, Different}
 use Rattle.certificate.specs.declared.evidence.EvidenceFault.{EvidenceFault}
 use Rattle.certificate.specs.declared.evidence.EvidenceFault.TheVariants.{NoMemory, Header, Line, NodeOrder, DoubleNode, SetOrder, NumberTooWide, Truncated, Trailing}
-use Rattle.certificate.specs.declared.nodes.Style.TheVariants.{Plain, UpTo}
+use Rattle.certificate.specs.declared.nodes.Style.TheVariants.{Plain, UpTo, Under}
 use Rattle.certificate.specs.declared.draft.Draft.{Draft}
 use Rattle.certificate.specs.Certs.{CertParts}
 use Rattle.certificate.specs.Texts.{heading, string_heading}
@@ -93,21 +93,24 @@ module _ (bytes : List ℕ) where
     pub string_first : string_from (parts_of bytes) ≡ after_first (first_of line) (parts_of after)
     string_first = ap string_from cut ∙ not_truncated after _
 
-    all_line : (b c d : Bool) → bytes_eq line (heading Plain) ≡ b → bytes_eq line (heading UpTo) ≡ c → bytes_eq line string_heading ≡ d
-        → all_from (parts_of bytes) ≡ cond b (cert_from (no_entries Plain) 2 (parts_of after)) (cond c (cert_from (no_entries UpTo) 2 (parts_of after)) (cond d (string_from (parts_of after)) (Err Header)))
-    all_line b c d eb ec ed = ap all_from cut ∙ not_truncated after _ ∙ rw (eb, ec, ed) refl
+    all_line : (a b c d : Bool) → bytes_eq line (heading Plain) ≡ a → bytes_eq line (heading UpTo) ≡ b → bytes_eq line (heading Under) ≡ c → bytes_eq line string_heading ≡ d
+        → all_from (parts_of bytes) ≡ cond a (cert_from (no_entries Plain) 2 (parts_of after)) (cond b (cert_from (no_entries UpTo) 2 (parts_of after)) (cond c (cert_from (no_entries Under) 2 (parts_of after)) (cond d (string_from (parts_of after)) (Err Header))))
+    all_line a b c d ea eb ec ed = ap all_from cut ∙ not_truncated after _ ∙ rw (ea, eb, ec, ed) refl
 
     pub all_plain : bytes_eq line (heading Plain) ≡ true → all_from (parts_of bytes) ≡ cert_from (no_entries Plain) 2 (parts_of after)
-    all_plain is = all_line true _ _ is refl refl
+    all_plain is = all_line true _ _ _ is refl refl refl
 
     pub all_up_to : bytes_eq line (heading Plain) ≡ false → bytes_eq line (heading UpTo) ≡ true → all_from (parts_of bytes) ≡ cert_from (no_entries UpTo) 2 (parts_of after)
-    all_up_to first is = all_line false true _ first is refl
+    all_up_to first is = all_line false true _ _ first is refl refl
 
-    pub all_string : bytes_eq line (heading Plain) ≡ false → bytes_eq line (heading UpTo) ≡ false → bytes_eq line string_heading ≡ true → all_from (parts_of bytes) ≡ string_from (parts_of after)
-    all_string first second is = all_line false false true first second is
+    pub all_under : bytes_eq line (heading Plain) ≡ false → bytes_eq line (heading UpTo) ≡ false → bytes_eq line (heading Under) ≡ true → all_from (parts_of bytes) ≡ cert_from (no_entries Under) 2 (parts_of after)
+    all_under first second is = all_line false false true _ first second is refl
 
-    pub all_header : bytes_eq line (heading Plain) ≡ false → bytes_eq line (heading UpTo) ≡ false → bytes_eq line string_heading ≡ false → all_from (parts_of bytes) ≡ Err Header
-    all_header first second third = all_line false false false first second third
+    pub all_string : bytes_eq line (heading Plain) ≡ false → bytes_eq line (heading UpTo) ≡ false → bytes_eq line (heading Under) ≡ false → bytes_eq line string_heading ≡ true → all_from (parts_of bytes) ≡ string_from (parts_of after)
+    all_string first second third is = all_line false false false true first second third is
+
+    pub all_header : bytes_eq line (heading Plain) ≡ false → bytes_eq line (heading UpTo) ≡ false → bytes_eq line (heading Under) ≡ false → bytes_eq line string_heading ≡ false → all_from (parts_of bytes) ≡ Err Header
+    all_header first second third fourth = all_line false false false false first second third fourth
 
 -- ---- what an answer says
 

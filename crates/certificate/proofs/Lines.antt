@@ -1,5 +1,5 @@
 -- Lines as their first word and the others after blanks, and texts as their lines.
-use Rattle.std.proofs.Common.{◌≡◌, ℕ, List, [], ◌∷◌, ◌++◌, map, refl, sym, ap, ◌∙◌, append_assoc, append-nil, codes}
+use Rattle.std.proofs.Common.{◌≡◌, ℕ, List, [], ◌∷◌, ◌++◌, map, Option, refl, sym, ap, ◌∙◌, append_assoc, append-nil, codes}
 use Rattle.std.specs.List.{flat_map}
 use Rattle.std.specs.Fmt.{decimal}
 use Rattle.std.proofs.lemmas.Grind.{flat_map-append}
@@ -8,8 +8,8 @@ use Rattle.kat_model.specs.Strings.{Move, GuardedString}
 use Rattle.certificate.specs.declared.entry.Entry.TheVariants.{PairLine}
 use Rattle.certificate.specs.declared.evidence.Evidence.{Evidence}
 use Rattle.certificate.specs.declared.evidence.Evidence.TheVariants.{Equal, Different}
-use Rattle.term_nodes.specs.NumberSets.{NumberPair}
-use Rattle.certificate.specs.Texts.{entry_words, atom_words, move_words, line_of, heading, string_heading, entries_of, text_of_lines, text_of}
+use Rattle.certificate.specs.PairParts.{PairParts}
+use Rattle.certificate.specs.Texts.{last_words, entry_words, atom_words, move_words, line_of, heading, string_heading, entries_of, text_of_lines, text_of}
 use Rattle.certificate.specs.Working.Writings.{with_feed, after_blanks, entry_lines, move_lines, string_lines, body_of}
 
 -- a line is its first word and the others after blanks
@@ -18,10 +18,12 @@ line_of-cons w [] = sym (append-nil w)
 line_of-cons w (v ∷ ws) = ap (λ l. w ++ 32 ∷ l) (line_of-cons v ws)
 
 -- the line of a pair
-pub pair_line : (p : NumberPair) → line_of (entry_words (PairLine p)) ≡ codes "P" ++ (after_blanks (map decimal p.left) ++ (codes " |" ++ after_blanks (map decimal p.right)))
+pub pair_line : (p : PairParts) → line_of (entry_words (PairLine p)) ≡ codes "P" ++ (after_blanks (map decimal p.left) ++ (codes " |" ++ (after_blanks (map decimal p.right) ++ after_blanks (last_words p.test))))
 pair_line p =
-    line_of-cons (codes "P") (map decimal p.left ++ codes "|" ∷ map decimal p.right)
-    ∙ ap (λ l. codes "P" ++ l) (flat_map-append (λ w. 32 ∷ w) (map decimal p.left) (codes "|" ∷ map decimal p.right))
+    let rights : List (List ℕ) = map decimal p.right ++ last_words p.test in
+    line_of-cons (codes "P") (map decimal p.left ++ codes "|" ∷ rights)
+    ∙ ap (λ l. codes "P" ++ l) (flat_map-append (λ w. 32 ∷ w) (map decimal p.left) (codes "|" ∷ rights))
+    ∙ ap (λ l. codes "P" ++ (after_blanks (map decimal p.left) ++ (codes " |" ++ l))) (flat_map-append (λ w. 32 ∷ w) (map decimal p.right) (last_words p.test))
 
 flat_map-map : {X Y Z : Type 0} (f : X → Y) (g : Y → List Z) (xs : List X) → flat_map g (map f xs) ≡ flat_map (λ x. g (f x)) xs
 flat_map-map f g [] = refl
@@ -46,15 +48,22 @@ pub three_written : (out first second third a b c : List ℕ) → first ≡ out 
 three_written out first second third a b c ea eb ec =
     ec ∙ ap (λ l. l ++ c) (eb ∙ ap (λ l. l ++ b) ea) ∙ append_assoc (out ++ a) b c ∙ append_assoc out a (b ++ c)
 
-pub pair_written : (out first second third left right : List ℕ) (p : NumberPair) → left ≡ p.left → right ≡ p.right → first ≡ out ++ codes "P" → second ≡ first ++ after_blanks (map decimal left) → third ≡ second ++ with_feed (codes " |" ++ after_blanks (map decimal right)) → third ≡ out ++ with_feed (line_of (entry_words (PairLine p)))
-pair_written out first second third left right p el er ea eb ec =
-    let lefts : List ℕ = after_blanks (map decimal p.left) in
-    let rights : List ℕ = after_blanks (map decimal p.right) in
-    let eb' = eb ∙ ap (λ ks. first ++ after_blanks (map decimal ks)) el in
-    let ec' = ec ∙ ap (λ ks. second ++ with_feed (codes " |" ++ after_blanks (map decimal ks))) er in
-    three_written out first second third (codes "P") lefts (with_feed (codes " |" ++ rights)) ea eb' ec'
-    ∙ ap (λ l. out ++ (codes "P" ++ l)) (sym (append_assoc lefts (codes " |" ++ rights) (10 ∷ [])))
-    ∙ ap (λ l. out ++ with_feed l) (sym (pair_line p))
+-- what was written after one more step
+then_written : (out before after a b : List ℕ) → before ≡ out ++ a → after ≡ before ++ b → after ≡ out ++ (a ++ b)
+then_written out before after a b ea eb = eb ∙ ap (λ l. l ++ b) ea ∙ append_assoc out a b
+
+pub pair_written : (out kind lefts bar rights all left right : List ℕ) (last : Option ℕ) (p : PairParts) → left ≡ p.left → right ≡ p.right → last ≡ p.test → kind ≡ out ++ codes "P" → lefts ≡ kind ++ after_blanks (map decimal left) → bar ≡ lefts ++ codes " |" → rights ≡ bar ++ after_blanks (map decimal right) → all ≡ rights ++ with_feed (after_blanks (last_words last)) → all ≡ out ++ with_feed (line_of (entry_words (PairLine p)))
+pair_written out kind lefts bar rights all left right last p el er et ek els eb ers ea =
+    let l : List ℕ = after_blanks (map decimal p.left) in
+    let r : List ℕ = after_blanks (map decimal p.right) in
+    let t : List ℕ = after_blanks (last_words p.test) in
+    let first = three_written out kind lefts bar (codes "P") l (codes " |") ek (els ∙ ap (λ ks. kind ++ after_blanks (map decimal ks)) el) eb in
+    let second = then_written out bar rights (codes "P" ++ (l ++ codes " |")) r first (ers ∙ ap (λ ks. bar ++ after_blanks (map decimal ks)) er) in
+    let third = then_written out rights all ((codes "P" ++ (l ++ codes " |")) ++ r) (with_feed t) second (ea ∙ ap (λ o. rights ++ with_feed (after_blanks (last_words o))) et) in
+    third
+    ∙ ap (λ m. out ++ (codes "P" ++ m)) (sym (append_assoc ((l ++ codes " |") ++ r) t (10 ∷ [])))
+    ∙ ap (λ m. out ++ (codes "P" ++ (m ++ 10 ∷ []))) (append_assoc (l ++ codes " |") r t ∙ append_assoc l (codes " |") (r ++ t))
+    ∙ ap (λ m. out ++ with_feed m) (sym (pair_line p))
 
 pub string_written : (out first second third : List ℕ) (atom : Atom) (moves : List Move) (x : GuardedString) → atom ≡ x.first → moves ≡ x.rest → first ≡ out ++ with_feed string_heading → second ≡ first ++ with_feed (line_of (atom_words atom)) → third ≡ second ++ move_lines moves → third ≡ out ++ string_lines x
 string_written out first second third atom moves x ea em e f g =

@@ -12,7 +12,7 @@ use Rattle.kat_model.specs.Strings.{Move, GuardedString}
 use Rattle.term_nodes.specs.declared.TestNode.{TestNode}
 use Rattle.term_nodes.specs.declared.TermNode.{TermNode}
 use Rattle.certificate.specs.declared.nodes.Style.{Style}
-use Rattle.certificate.specs.declared.nodes.Style.TheVariants.{Plain, UpTo}
+use Rattle.certificate.specs.declared.nodes.Style.TheVariants.{Plain, UpTo, Under}
 use Rattle.certificate.specs.declared.entry.Entry.{Entry}
 use Rattle.certificate.specs.declared.entry.Entry.TheVariants.{TestLine, TermLine, PairLine}
 use Rattle.certificate.specs.declared.evidence.Evidence.{Evidence}
@@ -227,14 +227,15 @@ string_told line (second ∷ part ∷ parts) f is h = by_first (first_of second)
 all_told : (parts : List (List ℕ)) (f : Evidence) → all_from parts ≡ Ok f → Told parts f
 all_told [] f h = cc
 all_told (line ∷ []) f h = cc
-all_told (line ∷ part ∷ parts) f h = by_heading (bytes_eq line (heading Plain)) (bytes_eq line (heading UpTo)) (bytes_eq line string_heading) refl refl refl h
+all_told (line ∷ part ∷ parts) f h = by_heading (bytes_eq line (heading Plain)) (bytes_eq line (heading UpTo)) (bytes_eq line (heading Under)) (bytes_eq line string_heading) refl refl refl refl h
   where
-    by_heading : (a b c : Bool) → bytes_eq line (heading Plain) ≡ a → bytes_eq line (heading UpTo) ≡ b → bytes_eq line string_heading ≡ c
-        → cond a (cert_from (no_entries Plain) 2 (part ∷ parts)) (cond b (cert_from (no_entries UpTo) 2 (part ∷ parts)) (cond c (string_from (part ∷ parts)) (Err Header))) ≡ Ok f → Told (line ∷ part ∷ parts) f
-    by_heading true b c is e g k = headed_told Plain line (part ∷ parts) f (named line (heading Plain) is) k
-    by_heading false true c e is g k = headed_told UpTo line (part ∷ parts) f (named line (heading UpTo) is) k
-    by_heading false false true e g is k = string_told line (part ∷ parts) f (named line string_heading is) k
-    by_heading false false false e g i k = cc
+    by_heading : (a b c d : Bool) → bytes_eq line (heading Plain) ≡ a → bytes_eq line (heading UpTo) ≡ b → bytes_eq line (heading Under) ≡ c → bytes_eq line string_heading ≡ d
+        → cond a (cert_from (no_entries Plain) 2 (part ∷ parts)) (cond b (cert_from (no_entries UpTo) 2 (part ∷ parts)) (cond c (cert_from (no_entries Under) 2 (part ∷ parts)) (cond d (string_from (part ∷ parts)) (Err Header)))) ≡ Ok f → Told (line ∷ part ∷ parts) f
+    by_heading true b c d is e g i k = headed_told Plain line (part ∷ parts) f (named line (heading Plain) is) k
+    by_heading false true c d e is g i k = headed_told UpTo line (part ∷ parts) f (named line (heading UpTo) is) k
+    by_heading false false true d e g is i k = headed_told Under line (part ∷ parts) f (named line (heading Under) is) k
+    by_heading false false false true e g i is k = string_told line (part ∷ parts) f (named line string_heading is) k
+    by_heading false false false false e g i j k = cc
 
 -- evidence that is read has the text that was read
 pub read_told : (bytes : List ℕ) (f : Evidence) → answer_of bytes ≡ Ok f → IsEvidence f × (bytes ≡ text_of f)

@@ -1,16 +1,15 @@
 -- What is spelled is read, and what is read is spelled so: numerals, words and the lines of entries.
-use Rattle.std.proofs.Common.{◌≡◌, ℕ, suc, ◌+◌, ◌^◌, ◌<◌, ◌≤◌, ◌⊎◌, inl, inr, ⊎_elim, List, [], ◌∷◌, ◌++◌, map, length, take, drop, get_or, Bool, true, false, ◌||◌, not, cond, ◌==◌, nat_lt, Option, Some, None, refl, sym, ap, ◌∙◌, subst, arith, codes, add-one}
+use Rattle.std.proofs.Common.{◌≡◌, ℕ, ◌^◌, ◌<◌, ◌≤◌, ◌⊎◌, inl, inr, ⊎_elim, List, [], ◌∷◌, ◌++◌, map, Bool, true, false, cond, ◌==◌, nat_lt, Option, Some, None, refl, sym, ap, ◌∙◌, subst, arith, codes, append-nil}
 use mathlib.Core.Path.{ap₂}
-use Rattle.std.specs.List.{list_all, list_any, position_or_len, before_first, after_first}
+use Rattle.std.specs.List.{slice_split, list_all, list_any}
 use Rattle.std.specs.Option.{option_map, option_and_then}
 use Rattle.std.specs.Char.{is_ascii_digit}
 use Rattle.std.specs.Fmt.{decimal}
 use Rattle.std.specs.Str.{bytes_eq}
-use Rattle.std.proofs.lemmas.Bool.{or_parts, and_parts, or_right}
+use Rattle.std.proofs.lemmas.Bool.{or_parts, and_parts}
 use Rattle.std.proofs.lemmas.Bool.Decides.{nat_tests}
 use Rattle.std.proofs.lemmas.Fmt.{digits_decimal}
 use Rattle.std.proofs.lemmas.List.Splits.{join_with_byte-slice_split}
-use Rattle.std.proofs.lemmas.List.Sums.{split_at_first, passes_at_first}
 use Rattle.kat_model.specs.Members.{Has}
 use Rattle.kat_model.proofs.Lists.{has_left, has_right}
 use Rattle.term_nodes.specs.declared.TestNode.{TestNode}
@@ -19,13 +18,14 @@ use Rattle.term_nodes.specs.declared.TermNode.{TermNode}
 use Rattle.term_nodes.specs.declared.TermNode.TheVariants.{Zero, One, Test, Act, Sum, Seq, Star}
 use Rattle.certificate.specs.declared.entry.Entry.{Entry}
 use Rattle.certificate.specs.declared.entry.Entry.TheVariants.{TestLine, TermLine, PairLine}
-use Rattle.term_nodes.specs.NumberSets.{NumberPair}
-use Rattle.certificate.specs.Texts.{test_name, test_numbers, term_name, term_numbers, entry_words, entry_numbers, line_of, IsNarrow}
-use Rattle.certificate.specs.Forms.{words_of, is_numeral, value_of, numbers_of, test_node_of, term_node_of, is_bar, both_sets, pair_of, entry_of_words, entry_of}
+use Rattle.certificate.specs.PairParts.{PairParts}
+use Rattle.certificate.specs.Texts.{test_name, test_numbers, term_name, term_numbers, maybe_one, last_words, entry_words, entry_numbers, line_of, IsNarrow}
+use Rattle.certificate.specs.Forms.{words_of, is_numeral, value_of, numbers_of, test_node_of, term_node_of, is_bar, pair_with, pair_of, entry_of_words, entry_of}
 use Rattle.certificate.specs.Faults.{too_wide}
-use Rattle.certificate.proofs.Splits.{LacksByte, split_lacking, split_at}
+use Rattle.certificate.proofs.Splits.{LacksByte, split_none, split_first, split_lacking, split_at}
 use Rattle.certificate.proofs.Numerals.{own, numeral_decimal, decimal_numeral}
 use Rattle.certificate.proofs.EntryForms.{named, test_node_told, test_node_made, term_node_told, term_node_made}
+use Rattle.certificate.proofs.PairForms.{with_bars, bars_back, part_numbers, pair_made, pair_with_told}
 use Rattle.certificate.proofs.Lines.{line_of-cons}
 
 -- ---- numbers of the program
@@ -152,14 +152,28 @@ term_name_word (Sum x y) = refl
 term_name_word (Seq x y) = refl
 term_name_word (Star x) = refl
 
+-- the numbers of each part of a pair are narrow
+module _ (p : PairParts) (narrow : IsNarrow (PairLine p)) where
+  pub narrow_left : AreNarrow p.left
+  narrow_left k h = narrow k (has_left p.left (p.right ++ maybe_one p.test) k h)
+
+  pub narrow_right : AreNarrow p.right
+  narrow_right k h = narrow k (has_right p.left (p.right ++ maybe_one p.test) k (has_left p.right (maybe_one p.test) k h))
+
+  pub narrow_last : AreNarrow (maybe_one p.test)
+  narrow_last k h = narrow k (has_right p.left (p.right ++ maybe_one p.test) k (has_right p.right (maybe_one p.test) k h))
+
+last_are_words : (t : Option ℕ) → AreNarrow (maybe_one t) → AreWords (last_words t)
+last_are_words None narrow = tt
+last_are_words (Some k) narrow = (refl, decimals_words (k ∷ []) narrow)
+
 pub entry_are_words : (e : Entry) → IsNarrow e → AreWords (entry_words e)
 entry_are_words (TestLine n) narrow = (refl, (test_name_word n, decimals_words (test_numbers n) narrow))
 entry_are_words (TermLine n) narrow = (refl, (term_name_word n, decimals_words (term_numbers n) narrow))
 entry_are_words (PairLine p) narrow = (
   refl,
-  words_append (map decimal p.left) (codes "|" ∷ map decimal p.right)
-      (decimals_words p.left (λ k h. narrow k (has_left p.left p.right k h)))
-      (refl, decimals_words p.right (λ k h. narrow k (has_right p.left p.right k h))),
+  words_append (map decimal p.left) (codes "|" ∷ (map decimal p.right ++ last_words p.test)) (decimals_words p.left (narrow_left p narrow))
+      (refl, words_append (map decimal p.right) (last_words p.test) (decimals_words p.right (narrow_right p narrow)) (last_are_words p.test (narrow_last p narrow))),
 )
 
 -- ---- the bar of a pair
@@ -174,54 +188,40 @@ not_bar k small = by_test (is_bar (decimal k)) refl
         cc
     by_test false e = e
 
--- the first place that passes after those that do not
-first_at : {X : Type 0} (p : X → Bool) (xs : List X) (y : X) (ys : List X) → list_all (λ x. not (p x)) xs ≡ true → p y ≡ true → position_or_len p (xs ++ y ∷ ys) ≡ length xs
-first_at p [] y ys lacks passes = rw passes refl
-first_at p (x ∷ xs) y ys lacks passes =
-    let parts = and_parts (not (p x)) (list_all (λ z. not (p z)) xs) lacks in
-    rw (parts.0, first_at p xs y ys parts.1 passes) (omega arith)
-
-any_after : {X : Type 0} (p : X → Bool) (xs : List X) (y : X) (ys : List X) → p y ≡ true → list_any p (xs ++ y ∷ ys) ≡ true
-any_after p [] y ys passes = rw passes refl
-any_after p (x ∷ xs) y ys passes = or_right (p x) (list_any p (xs ++ y ∷ ys)) (any_after p xs y ys passes)
-
-no_bars : (ks : List ℕ) → AreNarrow ks → list_all (λ w. not (is_bar w)) (map decimal ks) ≡ true
+no_bars : (ks : List ℕ) → AreNarrow ks → list_any is_bar (map decimal ks) ≡ false
 no_bars [] narrow = refl
 no_bars (k ∷ ks) narrow = rw (not_bar k (narrow k (inl refl)), no_bars ks (λ l h. narrow l (inr h))) refl
 
-take_front : {X : Type 0} (xs ys : List X) → take (length xs) (xs ++ ys) ≡ xs
-take_front [] ys = refl
-take_front (x ∷ xs) ys = ap (λ l. x ∷ l) (take_front xs ys)
+-- the parts of a pair's words are those of its numbers
+pair_split : (ks ls : List ℕ) (t : Option ℕ) → AreNarrow ks → AreNarrow ls → AreNarrow (maybe_one t) → map numbers_of (slice_split is_bar (map decimal ks ++ codes "|" ∷ (map decimal ls ++ last_words t))) ≡ part_numbers ks ls t
+pair_split ks ls None nk nl nt =
+    ap (map numbers_of)
+    (split_first is_bar (map decimal ks) (codes "|") (map decimal ls ++ []) (no_bars ks nk) refl
+    ∙ ap (λ l. map decimal ks ∷ slice_split is_bar l) (append-nil (map decimal ls))
+    ∙ ap (λ l. map decimal ks ∷ l) (split_none is_bar (map decimal ls) (no_bars ls nl)))
+    ∙ ap₂ (λ k l. k ∷ l ∷ []) (numbers_back ks nk) (numbers_back ls nl)
+pair_split ks ls (Some t) nk nl nt =
+    ap (map numbers_of)
+    (split_first is_bar (map decimal ks) (codes "|") (map decimal ls ++ codes "|" ∷ decimal t ∷ []) (no_bars ks nk) refl
+    ∙ ap (λ l. map decimal ks ∷ l)
+    (split_first is_bar (map decimal ls) (codes "|") (decimal t ∷ []) (no_bars ls nl) refl
+    ∙ ap (λ l. map decimal ls ∷ l) (split_none is_bar (decimal t ∷ []) (no_bars (t ∷ []) nt))))
+    ∙ ap₂ (λ k l. k ∷ l) (numbers_back ks nk) (ap₂ (λ l m. l ∷ m ∷ []) (numbers_back ls nl) (numbers_back (t ∷ []) nt))
 
-drop_after : {X : Type 0} (xs : List X) (y : X) (ys : List X) → drop (suc (length xs)) (xs ++ y ∷ ys) ≡ ys
-drop_after [] y ys = refl
-drop_after (x ∷ xs) y ys = drop_after xs y ys
-
-drop_front : {X : Type 0} (xs : List X) (y : X) (ys : List X) → drop (length xs + 1) (xs ++ y ∷ ys) ≡ ys
-drop_front xs y ys = ap (λ n. drop n (xs ++ y ∷ ys)) (add-one (length xs)) ∙ drop_after xs y ys
-
-pub pair_back : (p : NumberPair) → AreNarrow p.left → AreNarrow p.right → pair_of (map decimal p.left ++ codes "|" ∷ map decimal p.right) ≡ Some p
-pair_back p left right =
-    let ls : List (List ℕ) = map decimal p.left in
-    let rs : List (List ℕ) = map decimal p.right in
-    let place : position_or_len is_bar (ls ++ codes "|" ∷ rs) ≡ length ls = first_at is_bar ls (codes "|") rs (no_bars p.left left) refl in
-    let before : before_first is_bar (ls ++ codes "|" ∷ rs) ≡ ls = ap (λ n. take n (ls ++ codes "|" ∷ rs)) place ∙ take_front ls (codes "|" ∷ rs) in
-    let after : after_first is_bar (ls ++ codes "|" ∷ rs) ≡ rs = ap (λ n. drop (n + 1) (ls ++ codes "|" ∷ rs)) place ∙ drop_front ls (codes "|") rs in
-    rw (any_after is_bar ls (codes "|") rs refl)
-    (ap₂ (λ l r. both_sets (numbers_of l) (numbers_of r)) before after ∙ ap₂ both_sets (numbers_back p.left left) (numbers_back p.right right))
+pub pair_back : (p : PairParts) → IsNarrow (PairLine p) → pair_of (map decimal p.left ++ codes "|" ∷ (map decimal p.right ++ last_words p.test)) ≡ Some p
+pair_back p narrow = ap pair_with (pair_split p.left p.right p.test (narrow_left p narrow) (narrow_right p narrow) (narrow_last p narrow)) ∙ pair_made p.left p.right p.test
 
 -- the words of a pair's line after the first are one or more
-pair_words : (p : NumberPair) → (ls : List (List ℕ)) → entry_of_words (codes "P" ∷ (ls ++ codes "|" ∷ map decimal p.right)) ≡ option_map PairLine (pair_of (ls ++ codes "|" ∷ map decimal p.right))
-pair_words p [] = refl
-pair_words p (l ∷ ls) = refl
+pair_words : (ls rest : List (List ℕ)) → entry_of_words (codes "P" ∷ (ls ++ codes "|" ∷ rest)) ≡ option_map PairLine (pair_of (ls ++ codes "|" ∷ rest))
+pair_words [] rest = refl
+pair_words (l ∷ ls) rest = refl
 
 -- an entry is read of its words, and of its line
 entry_of_its_words : (e : Entry) → IsNarrow e → entry_of_words (entry_words e) ≡ Some e
 entry_of_its_words (TestLine n) narrow = ap (λ o. option_map TestLine (option_and_then (test_node_of (test_name n)) o)) (numbers_back (test_numbers n) narrow) ∙ ap (option_map TestLine) (test_node_made n)
 entry_of_its_words (TermLine n) narrow = ap (λ o. option_map TermLine (option_and_then (term_node_of (term_name n)) o)) (numbers_back (term_numbers n) narrow) ∙ ap (option_map TermLine) (term_node_made n)
 entry_of_its_words (PairLine p) narrow =
-    pair_words p (map decimal p.left)
-    ∙ ap (option_map PairLine) (pair_back p (λ k h. narrow k (has_left p.left p.right k h)) (λ k h. narrow k (has_right p.left p.right k h)))
+    pair_words (map decimal p.left) (map decimal p.right ++ last_words p.test) ∙ ap (option_map PairLine) (pair_back p narrow)
 
 first_of_entry : (e : Entry) → (w : List ℕ) × (ws : List (List ℕ)) × (entry_words e ≡ w ∷ ws)
 first_of_entry (TestLine n) = (_, _, refl)
@@ -244,7 +244,7 @@ entry_lacks e narrow =
 pub entry_not_end : (e : Entry) → bytes_eq (line_of (entry_words e)) (codes "end") ≡ false
 entry_not_end (TestLine n) = refl
 entry_not_end (TermLine n) = refl
-entry_not_end (PairLine p) = ap (λ l. bytes_eq l (codes "end")) (line_of-cons (codes "P") (map decimal p.left ++ codes "|" ∷ map decimal p.right))
+entry_not_end (PairLine p) = ap (λ l. bytes_eq l (codes "end")) (line_of-cons (codes "P") (map decimal p.left ++ codes "|" ∷ (map decimal p.right ++ last_words p.test)))
 
 -- ---- what is read of a line is spelled so
 
@@ -256,35 +256,33 @@ some_of_then : {X Y : Type 0} (f : X → Option Y) (o : Option X) (y : Y) → op
 some_of_then f None y e = cc
 some_of_then f (Some x) y e = (x, refl, e)
 
-some_of_both : (o q : Option (List ℕ)) (p : NumberPair) → both_sets o q ≡ Some p → (o ≡ Some p.left) × (q ≡ Some p.right)
-some_of_both None q p e = cc
-some_of_both (Some ks) None p e = cc
-some_of_both (Some ks) (Some ls) p e =
-    let same : record { left = ks; right = ls } ≡ p = cc in
-    (ap (λ (r : NumberPair). Some r.left) same, ap (λ (r : NumberPair). Some r.right) same)
+cons_parts : {X : Type 0} (x y : X) (xs ys : List X) → x ∷ xs ≡ y ∷ ys → (x ≡ y) × (xs ≡ ys)
+cons_parts x y xs ys e = (cc, cc)
 
--- where some passes, there is a first place
-place_head : {X : Type 0} (p : X → Bool) (x : X) (xs : List X) (b : Bool) → p x ≡ b → (b || list_any p xs) ≡ true → (list_any p xs ≡ true → position_or_len p xs < length xs) → position_or_len p (x ∷ xs) < length (x ∷ xs)
-place_head p x xs true e any more = rw e (omega arith)
-place_head p x xs false e any more = let rest = more any in rw e (omega arith)
+-- the words of parts with these numbers
+parts_told : (parts : List (List (List ℕ))) (ks ls : List ℕ) (t : Option ℕ) → map numbers_of parts ≡ part_numbers ks ls t → AreNarrow ks → AreNarrow ls → AreNarrow (maybe_one t) → with_bars parts ≡ map decimal ks ++ codes "|" ∷ (map decimal ls ++ last_words t)
+parts_told [] ks ls None e nk nl nt = cc
+parts_told [] ks ls (Some t) e nk nl nt = cc
+parts_told (a ∷ []) ks ls None e nk nl nt = cc
+parts_told (a ∷ []) ks ls (Some t) e nk nl nt = cc
+parts_told (a ∷ b ∷ []) ks ls None e nk nl nt =
+    let one = cons_parts (numbers_of a) (Some ks) (numbers_of b ∷ []) (Some ls ∷ []) e in
+    let two = cons_parts (numbers_of b) (Some ls) [] [] one.1 in
+    ap₂ (λ v w. v ++ codes "|" ∷ w) (numbers_told a ks one.0 nk) (numbers_told b ls two.0 nl ∙ sym (append-nil (map decimal ls)))
+parts_told (a ∷ b ∷ []) ks ls (Some t) e nk nl nt = cc
+parts_told (a ∷ b ∷ c ∷ parts) ks ls None e nk nl nt = cc
+parts_told (a ∷ b ∷ c ∷ []) ks ls (Some t) e nk nl nt =
+    let one = cons_parts (numbers_of a) (Some ks) (numbers_of b ∷ numbers_of c ∷ []) (Some ls ∷ Some (t ∷ []) ∷ []) e in
+    let two = cons_parts (numbers_of b) (Some ls) (numbers_of c ∷ []) (Some (t ∷ []) ∷ []) one.1 in
+    let three = cons_parts (numbers_of c) (Some (t ∷ [])) [] [] two.1 in
+    ap₂ (λ v w. v ++ codes "|" ∷ w) (numbers_told a ks one.0 nk) (ap₂ (λ v w. v ++ codes "|" ∷ w) (numbers_told b ls two.0 nl) (numbers_told c (t ∷ []) three.0 nt))
+parts_told (a ∷ b ∷ c ∷ d ∷ parts) ks ls (Some t) e nk nl nt = cc
 
-any_place : {X : Type 0} (p : X → Bool) (xs : List X) → list_any p xs ≡ true → position_or_len p xs < length xs
-any_place p [] any = cc
-any_place p (x ∷ xs) any = place_head p x xs (p x) refl any (any_place p xs)
-
-pair_told : (ws : List (List ℕ)) (p : NumberPair) → pair_of ws ≡ Some p → AreNarrow p.left → AreNarrow p.right → ws ≡ map decimal p.left ++ codes "|" ∷ map decimal p.right
-pair_told ws p e left right = by_bar (list_any is_bar ws) refl e
-  where
-    by_bar : (b : Bool) → list_any is_bar ws ≡ b → cond b (both_sets (numbers_of (before_first is_bar ws)) (numbers_of (after_first is_bar ws))) None ≡ Some p → ws ≡ map decimal p.left ++ codes "|" ∷ map decimal p.right
-    by_bar false none f = cc
-    by_bar true some f =
-        let below : position_or_len is_bar ws < length ws = any_place is_bar ws some in
-        let cut = split_at_first is_bar ws [] below in
-        let bar : get_or ws (position_or_len is_bar ws) [] ≡ codes "|" = named (get_or ws (position_or_len is_bar ws) []) (codes "|") (passes_at_first is_bar ws [] below) in
-        let sets = some_of_both (numbers_of (before_first is_bar ws)) (numbers_of (after_first is_bar ws)) p f in
-        let before = numbers_told (before_first is_bar ws) p.left sets.0 left in
-        let after = numbers_told (after_first is_bar ws) p.right sets.1 right in
-        cut ∙ ap₂ (λ l r. l ++ r) before (ap₂ (λ w l. w ∷ l) bar after)
+pair_told : (ws : List (List ℕ)) (p : PairParts) → IsNarrow (PairLine p) → pair_of ws ≡ Some p → ws ≡ map decimal p.left ++ codes "|" ∷ (map decimal p.right ++ last_words p.test)
+pair_told ws p narrow e =
+    let parts : List (List (List ℕ)) = slice_split is_bar ws in
+    sym (bars_back ws)
+    ∙ parts_told parts p.left p.right p.test (pair_with_told (map numbers_of parts) p e) (narrow_left p narrow) (narrow_right p narrow) (narrow_last p narrow)
 
 -- the cases of an entry by its first word
 three_kinds : (a b c : Bool) (x y z : Option Entry) (e : Entry) → cond a x (cond b y (cond c z None)) ≡ Some e → ((a ≡ true) × (x ≡ Some e)) ⊎ (((b ≡ true) × (y ≡ Some e)) ⊎ ((c ≡ true) × (z ≡ Some e)))
@@ -312,9 +310,7 @@ term_told kind name ws e narrow is h =
 set_told : (kind : List ℕ) (ws : List (List ℕ)) (e : Entry) → IsNarrow e → kind ≡ codes "P" → option_map PairLine (pair_of ws) ≡ Some e → kind ∷ ws ≡ entry_words e
 set_told kind ws e narrow is h =
     let made = some_of_map PairLine (pair_of ws) e h in
-    let p : NumberPair = made.0 in
-    let small = subst (λ f. AreNarrow (entry_numbers f)) (sym made.2) narrow in
-    ap₂ (λ k l. k ∷ l) is (pair_told ws p made.1 (λ k m. small k (has_left p.left p.right k m)) (λ k m. small k (has_right p.left p.right k m))) ∙ ap entry_words made.2
+    ap₂ (λ k l. k ∷ l) is (pair_told ws made.0 (subst IsNarrow (sym made.2) narrow) made.1) ∙ ap entry_words made.2
 
 words_told : (ws : List (List ℕ)) (e : Entry) → IsNarrow e → entry_of_words ws ≡ Some e → ws ≡ entry_words e
 words_told [] e narrow h = cc

@@ -14,19 +14,27 @@ LacksByte mark bytes = list_any (λ b. b == mark) bytes ≡ false
 pub same_byte : (mark : ℕ) → (mark == mark) ≡ true
 same_byte mark = eq-eqb mark mark refl
 
--- cut at a byte, a list that lacks it is one part
-pub split_lacking : (mark : ℕ) (xs : List ℕ) → LacksByte mark xs → slice_split (λ b. b == mark) xs ≡ xs ∷ []
-split_lacking mark [] lacks = refl
-split_lacking mark (x ∷ xs) lacks =
-    let both = or_parts (x == mark) (list_any (λ b. b == mark) xs) lacks in
-    slice_split-cons_no (λ b. b == mark) x xs both.0 ∙ ap (onto_first x) (split_lacking mark xs both.1)
+module _ {X : Type 0} (p : X → Bool) where
+  -- a list in which nothing passes is one part
+  pub split_none : (xs : List X) → list_any p xs ≡ false → slice_split p xs ≡ xs ∷ []
+  split_none [] lacks = refl
+  split_none (x ∷ xs) lacks =
+      let both = or_parts (p x) (list_any p xs) lacks in
+      slice_split-cons_no p x xs both.0 ∙ ap (onto_first x) (split_none xs both.1)
 
--- the first part of a list ends before the first such byte
+  -- the first part ends before the first that passes
+  pub split_first : (xs : List X) (y : X) (ys : List X) → list_any p xs ≡ false → p y ≡ true → slice_split p (xs ++ y ∷ ys) ≡ xs ∷ slice_split p ys
+  split_first [] y ys lacks passes = slice_split-cons_yes p y ys passes
+  split_first (x ∷ xs) y ys lacks passes =
+      let both = or_parts (p x) (list_any p xs) lacks in
+      slice_split-cons_no p x (xs ++ y ∷ ys) both.0 ∙ ap (onto_first x) (split_first xs y ys both.1 passes)
+
+-- the same at a byte
+pub split_lacking : (mark : ℕ) (xs : List ℕ) → LacksByte mark xs → slice_split (λ b. b == mark) xs ≡ xs ∷ []
+split_lacking mark = split_none (λ b. b == mark)
+
 pub split_at : (mark : ℕ) (xs ys : List ℕ) → LacksByte mark xs → slice_split (λ b. b == mark) (xs ++ mark ∷ ys) ≡ xs ∷ slice_split (λ b. b == mark) ys
-split_at mark [] ys lacks = slice_split-cons_yes (λ b. b == mark) mark ys (same_byte mark)
-split_at mark (x ∷ xs) ys lacks =
-    let both = or_parts (x == mark) (list_any (λ b. b == mark) xs) lacks in
-    slice_split-cons_no (λ b. b == mark) x (xs ++ mark ∷ ys) both.0 ∙ ap (onto_first x) (split_at mark xs ys both.1)
+split_at mark xs ys lacks = split_first (λ b. b == mark) xs mark ys lacks (same_byte mark)
 
 -- there is a part
 pub split_some : {X : Type 0} (p : X → Bool) (xs : List X) → (part : List X) × (parts : List (List X)) × (slice_split p xs ≡ part ∷ parts)

@@ -12,10 +12,11 @@ use Rattle.certificate.specs.declared.entry.Entry.{Entry}
 use Rattle.certificate.specs.declared.entry.Entry.TheVariants.{TestLine, TermLine, PairLine}
 use Rattle.certificate.specs.declared.evidence.Evidence.TheVariants.{Equal}
 use Rattle.term_nodes.specs.Nodes.{test_parts, term_parts}
-use Rattle.term_nodes.specs.NumberSets.{NumberPair}
+use Rattle.certificate.specs.PairParts.{PairParts}
 use Rattle.certificate.specs.Certs.{CertParts, IsCert}
-use Rattle.certificate.specs.Texts.{test_numbers, term_numbers, entries_of, IsNarrow, IsEvidence}
+use Rattle.certificate.specs.Texts.{test_numbers, term_numbers, maybe_one, entries_of, IsNarrow, IsEvidence}
 use Rattle.term_nodes.proofs.Parts.{IsTestOver-part, IsOver-part, IsOver-test, below_has}
+use Rattle.certificate.proofs.Growth.{test_below}
 
 module _ (c : CertParts) (cert : IsCert c)
     (prims : (k : ℕ) → Has c.test_nodes (Prim k) → k < 2 ^ 64) (acts : (a : ℕ) → Has c.term_nodes (Act a) → a < 2 ^ 64)
@@ -52,13 +53,17 @@ module _ (c : CertParts) (cert : IsCert c)
   term_line (Seq x y) h k m = term_part (Seq x y) h k m
   term_line (Star x) h k m = term_part (Star x) h k m
 
-  pair_line : (p : NumberPair) → Has c.pairs p → (k : ℕ) → Has (p.left ++ p.right) k → k < 2 ^ 64
+  pair_line : (p : PairParts) → Has c.pairs p → (k : ℕ) → Has (p.left ++ (p.right ++ maybe_one p.test)) k → k < 2 ^ 64
   pair_line p h k m =
-      let sets = cert.pairs p h in
+      let pair = cert.pairs p h in
       ⊎_elim
-      (λ l. let low = below_has (length c.term_nodes) p.left sets.0.there k l in omega (arith, low, terms))
-      (λ r. let low = below_has (length c.term_nodes) p.right sets.1.there k r in omega (arith, low, terms))
-      (has_append p.left p.right k m)
+      (λ l. let low = below_has (length c.term_nodes) p.left pair.left.there k l in omega (arith, low, terms))
+      (λ s.
+      ⊎_elim
+      (λ r. let low = below_has (length c.term_nodes) p.right pair.right.there k r in omega (arith, low, terms))
+      (λ t. let low = below_has (length c.test_nodes) (maybe_one p.test) (test_below c.style (length c.test_nodes) p.test pair.test) k t in omega (arith, low, tests))
+      (has_append p.right (maybe_one p.test) k s))
+      (has_append p.left (p.right ++ maybe_one p.test) k m)
 
   are_narrow : (e : Entry) → Has (entries_of c) e → IsNarrow e
   are_narrow e h =

@@ -7,11 +7,11 @@ use Rattle.std.specs.Str.{bytes_eq}
 use Rattle.kat_model.specs.Steps.{Atom}
 use Rattle.kat_model.specs.Strings.{Move, GuardedString}
 use Rattle.certificate.specs.declared.nodes.Style.{Style}
-use Rattle.certificate.specs.declared.nodes.Style.TheVariants.{Plain, UpTo}
+use Rattle.certificate.specs.declared.nodes.Style.TheVariants.{Plain, UpTo, Under}
 use Rattle.certificate.specs.declared.entry.Entry.{Entry}
 use Rattle.certificate.specs.declared.entry.Entry.TheVariants.{TestLine, TermLine, PairLine}
 use Rattle.certificate.specs.declared.entry.Section.{Section}
-use Rattle.certificate.specs.declared.entry.Section.TheVariants.{Tests, Terms, Pairs}
+use Rattle.certificate.specs.declared.entry.Section.TheVariants.{Tests, Terms, Pairs, TestedPairs}
 use Rattle.certificate.specs.declared.evidence.Evidence.{Evidence}
 use Rattle.certificate.specs.declared.evidence.Evidence.TheVariants.{Equal, Different}
 use Rattle.certificate.specs.declared.evidence.EvidenceFault.{EvidenceFault}
@@ -19,7 +19,7 @@ use Rattle.certificate.specs.declared.evidence.EvidenceFault.TheVariants.{Header
 use Rattle.term_nodes.specs.Nodes.{test_parts, term_parts, tests_of_term, same_test_node, same_term_node}
 use Rattle.term_nodes.specs.NumberSets.{are_below, are_ascending}
 use Rattle.certificate.specs.Certs.{CertParts}
-use Rattle.certificate.specs.Texts.{entry_numbers, heading, string_heading}
+use Rattle.certificate.specs.Texts.{maybe_one, entry_numbers, heading, string_heading}
 use Rattle.certificate.specs.Forms.{entry_of, first_of, move_of}
 
 -- a number of 2^64 or more
@@ -29,25 +29,37 @@ too_wide k = nat_le (2 ^ 64) k
 abbrev pub is_wide : Entry → Bool
 is_wide e = list_any too_wide (entry_numbers e)
 
+-- pairs without a test, and pairs with one
+abbrev pub pair_section : Option ℕ → Section
+pair_section None = Pairs
+pair_section (Some k) = TestedPairs
+
 abbrev pub section_of : Entry → Section
 section_of (TestLine n) = Tests
 section_of (TermLine n) = Terms
-section_of (PairLine p) = Pairs
+section_of (PairLine p) = pair_section p.test
+
+-- whether the pairs of the style have tests
+abbrev pub has_tests : Style → Bool
+has_tests Plain = false
+has_tests UpTo = false
+has_tests Under = true
 
 abbrev pub is_empty : {X : Type 0} → List X → Bool
 is_empty xs = length xs == 0
 
--- test nodes stand before term nodes, these before pairs
+-- test nodes stand before term nodes, these before pairs, which have tests just in the style that has them
 abbrev pub may_stand : CertParts → Section → Bool
 may_stand c Tests = is_empty c.term_nodes && is_empty c.pairs
 may_stand c Terms = is_empty c.pairs
-may_stand c Pairs = true
+may_stand c Pairs = not (has_tests c.style)
+may_stand c TestedPairs = has_tests c.style
 
 -- the test nodes that an entry names, and the term nodes
 abbrev pub tests_named : Entry → List ℕ
 tests_named (TestLine n) = test_parts n
 tests_named (TermLine n) = tests_of_term n
-tests_named (PairLine p) = []
+tests_named (PairLine p) = maybe_one p.test
 
 abbrev pub terms_named : Entry → List ℕ
 terms_named (TestLine n) = []
@@ -154,7 +166,8 @@ all_from (line ∷ parts) =
     or_truncated parts
     (if bytes_eq line (heading Plain) then cert_from (no_entries Plain) 2 parts
     else (if bytes_eq line (heading UpTo) then cert_from (no_entries UpTo) 2 parts
-    else (if bytes_eq line string_heading then string_from parts else Err Header)))
+    else (if bytes_eq line (heading Under) then cert_from (no_entries Under) 2 parts
+    else (if bytes_eq line string_heading then string_from parts else Err Header))))
 
 -- the parts of a text between its line feeds
 abbrev pub parts_of : List ℕ → List (List ℕ)

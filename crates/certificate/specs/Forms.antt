@@ -1,6 +1,6 @@
 -- What a line says, where it has a form: its words, and the numbers that they spell.
 use Rattle.std.specs.Prelude.{ℕ, ◌+◌, ◌-◌, ◌*◌, Bool, not, ◌&&◌, ◌||◌, ◌==◌, nat_lt, if◌then◌else◌, List, [], ◌∷◌, length, map, slice_index, codes, Option, Some, None}
-use Rattle.std.specs.List.{slice_split, list_all, list_any, before_first, after_first}
+use Rattle.std.specs.List.{slice_split, list_all}
 use Rattle.std.specs.Option.{option_map, option_and_then}
 use Rattle.std.specs.Str.{bytes_eq}
 use Rattle.std.specs.Char.{is_ascii_digit}
@@ -12,7 +12,7 @@ use Rattle.term_nodes.specs.declared.TermNode.{TermNode}
 use Rattle.term_nodes.specs.declared.TermNode.TheVariants.{Zero, One, Test, Act, Sum, Seq, Star}
 use Rattle.certificate.specs.declared.entry.Entry.{Entry}
 use Rattle.certificate.specs.declared.entry.Entry.TheVariants.{TestLine, TermLine, PairLine}
-use Rattle.term_nodes.specs.NumberSets.{NumberPair}
+use Rattle.certificate.specs.PairParts.{PairParts}
 
 -- the words of a line, which single blanks separate
 abbrev pub words_of : List ℕ → List (List ℕ)
@@ -51,14 +51,15 @@ term_node_of name (x ∷ y ∷ z ∷ ks) = None
 abbrev pub is_bar : List ℕ → Bool
 is_bar w = bytes_eq w (codes "|")
 
--- two sets of numbers, before the first bar and after it
-abbrev pub both_sets : Option (List ℕ) → Option (List ℕ) → Option NumberPair
-both_sets None right = None
-both_sets (Some ks) None = None
-both_sets (Some ks) (Some ls) = Some (record { left = ks; right = ls })
+-- the pair of two sets of numbers, or of two sets and the one number of a test, where all are spelled
+abbrev pub pair_with : List (Option (List ℕ)) → Option PairParts
+pair_with (Some ks ∷ Some ls ∷ []) = Some (record { left = ks; right = ls; test = None })
+pair_with (Some ks ∷ Some ls ∷ Some (t ∷ []) ∷ []) = Some (record { left = ks; right = ls; test = Some t })
+pair_with parts = None
 
-abbrev pub pair_of : List (List ℕ) → Option NumberPair
-pair_of ws = if list_any is_bar ws then both_sets (numbers_of (before_first is_bar ws)) (numbers_of (after_first is_bar ws)) else None
+-- bars separate the parts of a pair
+abbrev pub pair_of : List (List ℕ) → Option PairParts
+pair_of ws = pair_with (map numbers_of (slice_split is_bar ws))
 
 -- a test node, a term node or a pair, by the first word
 abbrev pub entry_of_words : List (List ℕ) → Option Entry

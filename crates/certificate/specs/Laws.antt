@@ -16,7 +16,7 @@ use Rattle.term_nodes.specs.NodeTrees.{test_trees, trees, test_tree_in, tree_in}
 use Rattle.certificate.specs.Accepted.{IsAccepted}
 use Rattle.certificate.specs.Forms.{entry_of, first_of, move_of}
 use Rattle.certificate.specs.Texts.{entry_words, atom_words, move_words, line_of, heading, string_heading, lines_before_end, text_of_lines, text_of, IsNarrow, IsEvidence}
-use Rattle.certificate.specs.declared.nodes.Style.TheVariants.{Plain, UpTo}
+use Rattle.certificate.specs.declared.nodes.Style.TheVariants.{Plain, UpTo, Under}
 use Rattle.certificate.specs.declared.evidence.Evidence.TheVariants.{Equal, Different}
 use Rattle.certificate.specs.declared.evidence.EvidenceFault.TheVariants.{Header, Line, NumberTooWide, Truncated, Trailing}
 use Rattle.certificate.specs.Faults.{too_wide, line_fault_after, line_fault}
@@ -59,7 +59,7 @@ EachHasOneSpelling = (line : List ℕ) → LinesHaveOneSpelling line
 
 -- What follows lines that are right and is wrong is the first fault of a text.
 pub record FaultsAreFirst : Type 0 where
-  pub header : (line more : List ℕ) → IsLine line → line ≢ heading Plain → line ≢ heading UpTo → line ≢ string_heading → line_fault (line ++ 10 ∷ more) ≡ Some Header
+  pub header : (line more : List ℕ) → IsLine line → line ≢ heading Plain → line ≢ heading UpTo → line ≢ heading Under → line ≢ string_heading → line_fault (line ++ 10 ∷ more) ≡ Some Header
   pub first : (line more : List ℕ) → IsLine line → first_of line ≡ None → line_fault (string_heading ++ 10 ∷ (line ++ 10 ∷ more)) ≡ Some (Line 2)
   pub entry : (c : CertParts) (line more : List ℕ) (fault : EvidenceFault) → IsEvidence (Equal c) → IsLine line → line ≢ codes "end" → line_fault_after c (next_line (Equal c)) (entry_of line) ≡ Some fault → line_fault (text_with (Equal c) line more) ≡ Some fault
   pub move : (x : GuardedString) (line more : List ℕ) → IsEvidence (Different x) → IsLine line → line ≢ codes "end" → move_of line ≡ None → line_fault (text_with (Different x) line more) ≡ Some (Line (next_line (Different x)))

@@ -1,3 +1,4 @@
+pub mod PairParts
 pub mod Certs
 pub mod Texts
 pub mod Forms

@@ -1,5 +1,5 @@
 -- The text of evidence: its lines, each of which has one spelling.
-use Rattle.std.specs.Prelude.{ℕ, ◌^◌, ◌<◌, if◌then◌else◌, List, [], ◌∷◌, ◌++◌, map, codes}
+use Rattle.std.specs.Prelude.{ℕ, ◌^◌, ◌<◌, if◌then◌else◌, List, [], ◌∷◌, ◌++◌, map, codes, Option, Some, None}
 use Rattle.std.specs.List.{join_with_byte, flat_map}
 use Rattle.std.specs.Fmt.{decimal}
 use Rattle.kat_model.specs.Members.{Has}
@@ -10,7 +10,7 @@ use Rattle.term_nodes.specs.declared.TestNode.TheVariants.{False, True, Prim, No
 use Rattle.term_nodes.specs.declared.TermNode.{TermNode}
 use Rattle.term_nodes.specs.declared.TermNode.TheVariants.{Zero, One, Test, Act, Sum, Seq, Star}
 use Rattle.certificate.specs.declared.nodes.Style.{Style}
-use Rattle.certificate.specs.declared.nodes.Style.TheVariants.{Plain, UpTo}
+use Rattle.certificate.specs.declared.nodes.Style.TheVariants.{Plain, UpTo, Under}
 use Rattle.certificate.specs.declared.entry.Entry.{Entry}
 use Rattle.certificate.specs.declared.entry.Entry.TheVariants.{TestLine, TermLine, PairLine}
 use Rattle.certificate.specs.declared.evidence.Evidence.{Evidence}
@@ -52,17 +52,26 @@ term_numbers (Sum x y) = x ∷ y ∷ []
 term_numbers (Seq x y) = x ∷ y ∷ []
 term_numbers (Star x) = x ∷ []
 
--- the words of the line of a test node, a term node or a pair
+-- no number, or one
+abbrev pub maybe_one : Option ℕ → List ℕ
+maybe_one None = []
+maybe_one (Some k) = k ∷ []
+
+-- the words of the line of a test node, a term node or a pair, which ends with its test where it has one
+abbrev pub last_words : Option ℕ → List (List ℕ)
+last_words None = []
+last_words (Some k) = codes "|" ∷ decimal k ∷ []
+
 abbrev pub entry_words : Entry → List (List ℕ)
 entry_words (TestLine n) = codes "T" ∷ test_name n ∷ map decimal (test_numbers n)
 entry_words (TermLine n) = codes "E" ∷ term_name n ∷ map decimal (term_numbers n)
-entry_words (PairLine p) = codes "P" ∷ (map decimal p.left ++ codes "|" ∷ map decimal p.right)
+entry_words (PairLine p) = codes "P" ∷ (map decimal p.left ++ codes "|" ∷ (map decimal p.right ++ last_words p.test))
 
 -- the numbers in it
 abbrev pub entry_numbers : Entry → List ℕ
 entry_numbers (TestLine n) = test_numbers n
 entry_numbers (TermLine n) = term_numbers n
-entry_numbers (PairLine p) = p.left ++ p.right
+entry_numbers (PairLine p) = p.left ++ (p.right ++ maybe_one p.test)
 
 -- one `0` or `1` for each test, and no word where there are no tests
 abbrev pub bits : Atom → List ℕ
@@ -87,6 +96,7 @@ line_of ws = join_with_byte 32 ws
 abbrev pub heading : Style → List ℕ
 heading Plain = codes "kat 1 equal"
 heading UpTo = codes "kat 2 equal"
+heading Under = codes "kat 1 equal under"
 
 abbrev pub string_heading : List ℕ
 string_heading = codes "kat 1 different"

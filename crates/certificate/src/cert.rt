@@ -7,7 +7,8 @@ use std::marker::Model;
 
 /// A certificate that two terms are the same: nodes of tests and terms, and pairs of sets of terms. A node
 /// names only earlier nodes of its list, and test nodes where it is `Test`; no node stands twice in a list;
-/// the sets of a pair name term nodes, in strictly ascending order.
+/// the sets of a pair name term nodes, in strictly ascending order; its test names a test node in the style `Under`,
+/// and there is none in another style.
 #[derive(Drop)]
 pub struct Cert {
     style: Style,

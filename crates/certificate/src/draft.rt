@@ -3,7 +3,8 @@ ghost use Rattle.std.specs.Prelude.{◌≡◌, ◌&&◌, ◌++◌, false, Some};
 ghost use Rattle.term_nodes.specs.Nodes.{test_parts, term_parts, tests_of_term};
 ghost use Rattle.term_nodes.specs.NumberSets.{are_below, are_ascending};
 ghost use Rattle.certificate.specs.Forms.{entry_of};
-ghost use Rattle.certificate.specs.Faults.{no_entries, may_stand, is_wide, names_earlier};
+ghost use Rattle.certificate.specs.Texts.{maybe_one};
+ghost use Rattle.certificate.specs.Faults.{no_entries, has_tests, may_stand, is_wide, names_earlier};
 ghost use Rattle.certificate.specs.Working.Readings.{TellsApart, IsReflexive, draft_parts, IsDraft, MayBeAdded, AddsEntry};
 ghost use Rattle.certificate.specs.declared.entry.Entry.TheVariants.{TestLine, TermLine, PairLine};
 
@@ -37,6 +38,26 @@ fn all_below(numbers: &[usize], count: usize) -> bool
     ensures { result ≡ are_below count numbers.now }
 {
     numbers.iter().all(|k| *k < count)
+}
+
+// Whether the number is below the count, where there is one.
+fn is_below(number: Option<usize>, count: usize) -> bool
+    ensures { result ≡ are_below count (maybe_one number) }
+{
+    match number {
+        None => true,
+        Some(k) => k < count,
+    }
+}
+
+// Whether pairs of the style have tests.
+fn has_tests(style: Style) -> bool
+    ensures { result ≡ has_tests style }
+{
+    match style {
+        Style::Plain | Style::UpTo => false,
+        Style::Under => true,
+    }
 }
 
 fn is_ascending(numbers: &[usize]) -> bool
@@ -103,7 +124,8 @@ impl Draft {
         match section {
             Section::Tests => self.term_nodes.is_empty() && self.pairs.is_empty(),
             Section::Terms => self.pairs.is_empty(),
-            Section::Pairs => true,
+            Section::Pairs => !has_tests(self.style),
+            Section::TestedPairs => has_tests(self.style),
         }
     }
 
@@ -116,7 +138,9 @@ impl Draft {
             Entry::TestLine(node) => test_names_earlier(*node, tests),
             Entry::TermLine(node) => term_names_earlier(*node, tests, terms),
             Entry::PairLine(pair) => {
-                all_below(pair.left.as_slice(), terms) && all_below(pair.right.as_slice(), terms)
+                is_below(pair.test, tests)
+                    && all_below(pair.left.as_slice(), terms)
+                    && all_below(pair.right.as_slice(), terms)
             }
         }
     }

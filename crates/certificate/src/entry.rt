@@ -1,14 +1,15 @@
 //! The entries of a certificate, each on a line: test nodes, term nodes and pairs.
-ghost use Rattle.std.specs.Prelude.{◌≡◌, ◌∷◌, IfOk, position};
+ghost use Rattle.std.specs.Prelude.{◌≡◌, ◌||◌, ◌∷◌, [], ℕ, List, map, Some, IfOk};
+ghost use Rattle.std.specs.List.{slice_split};
 ghost use Rattle.std.specs.Option.{option_map, option_and_then};
-ghost use Rattle.certificate.specs.Forms.{numbers_of, test_node_of, term_node_of, is_bar, pair_of, entry_of_words, entry_of};
+ghost use Rattle.certificate.specs.Forms.{numbers_of, test_node_of, term_node_of, is_bar, pair_with, pair_of, entry_of_words, entry_of};
 ghost use Rattle.certificate.specs.Faults.{section_of};
-ghost use Rattle.certificate.specs.Working.Readings.{texts, ReadsEntry};
+ghost use Rattle.certificate.specs.Working.Readings.{texts, single_of, HasNumbers, ReadsEntry};
 ghost use Rattle.certificate.specs.declared.entry.Entry.TheVariants.{TestLine, TermLine, PairLine};
 ghost use Rattle.certificate.specs.declared.entry.LineFault.TheVariants.{NoMemory as NoRoom};
 
 use crate::nodes::{Pair, TermNode, TestNode};
-use crate::words::{read_numbers, words_of};
+use crate::words::{Numbers, read_numbers, words_of};
 use kat_model::{Items, NoMemory};
 use std::alloc::Global;
 
@@ -26,6 +27,7 @@ pub(crate) enum Section {
     Tests,
     Terms,
     Pairs,
+    TestedPairs,
 }
 
 // Why a line is not read.
@@ -51,7 +53,10 @@ impl Entry {
         match self {
             Entry::TestLine(_) => Section::Tests,
             Entry::TermLine(_) => Section::Terms,
-            Entry::PairLine(_) => Section::Pairs,
+            Entry::PairLine(pair) => match pair.test {
+                None => Section::Pairs,
+                Some(_) => Section::TestedPairs,
+            },
         }
     }
 }
@@ -171,34 +176,119 @@ fn is_bar(word: &[u8]) -> bool
     word == b"|".as_slice()
 }
 
-fn bar_place(words: &[&[u8]]) -> Option<usize>
-    ensures { result ≡ position (λ w. is_bar w.now) words.now }
+// The parts of words that bars separate.
+fn between_bars<'a, 'b>(
+    alloc: Global,
+    words: &'a [&'b [u8]],
+) -> Result<Vec<&'a [&'b [u8]]>, NoMemory>
+    ensures { IfOk result (λ parts. map (λ part. texts part.now) parts.items ≡ slice_split is_bar (texts words.now)) }
 {
-    words.iter().position(|word| is_bar(word))
+    Ok(words.split(|word| is_bar(word)).collect(alloc)?)
 }
 
-fn pair_line(alloc: Global, words: &[&[u8]]) -> Result<Entry, LineFault>
-    ensures { ReadsEntry (option_map PairLine (pair_of (texts words.now))) result }
+// Whether a number of one of these sets is too wide.
+fn are_wide(left: &Numbers, right: &Numbers) -> bool
+    ensures { result ≡ (left.now.wide || right.now.wide) }
 {
-    let Some(bar) = bar_place(words) else {
-        return Err(LineFault::Form);
-    };
-    let Some(left) = read_numbers(alloc, &words[..bar])? else {
-        return Err(LineFault::Form);
-    };
-    let Some(right) = read_numbers(alloc, &words[bar + 1..])? else {
-        return Err(LineFault::Form);
-    };
-    if left.wide {
-        return Err(LineFault::Wide(Section::Pairs));
+    left.wide || right.wide
+}
+
+// The one number of a list.
+fn single(numbers: &[usize]) -> Option<usize>
+    ensures { result ≡ single_of numbers.now }
+{
+    match numbers {
+        [k] => Some(*k),
+        _ => None,
     }
-    if right.wide {
+}
+
+// The pair of these sets, without a test.
+fn pair(left: Numbers, right: Numbers) -> Result<Entry, LineFault>
+    ensures { (ks ls : List ℕ) → HasNumbers ks left → HasNumbers ls right
+        → ReadsEntry (option_map PairLine (pair_with (Some ks ∷ Some ls ∷ []))) result }
+{
+    if are_wide(&left, &right) {
         return Err(LineFault::Wide(Section::Pairs));
     }
     Ok(Entry::PairLine(Pair {
         left: Items::of(left.values),
         right: Items::of(right.values),
+        test: None,
     }))
+}
+
+// The pair of these sets under the test of a number.
+fn tested_pair(left: Numbers, right: Numbers, test: &Numbers) -> Result<Entry, LineFault>
+    ensures { (ks ls ts : List ℕ) → HasNumbers ks left → HasNumbers ls right → HasNumbers ts test.now
+        → ReadsEntry (option_map PairLine (pair_with (Some ks ∷ Some ls ∷ Some ts ∷ []))) result }
+{
+    let Some(number) = single(test.values.as_slice()) else {
+        return Err(LineFault::Form);
+    };
+    if test.wide {
+        return Err(LineFault::Wide(Section::TestedPairs));
+    }
+    if are_wide(&left, &right) {
+        return Err(LineFault::Wide(Section::TestedPairs));
+    }
+    Ok(Entry::PairLine(Pair {
+        left: Items::of(left.values),
+        right: Items::of(right.values),
+        test: Some(number),
+    }))
+}
+
+// The pair of words of two sets.
+fn pair_of_two(alloc: Global, left: &[&[u8]], right: &[&[u8]]) -> Result<Entry, LineFault>
+    ensures { ReadsEntry (option_map PairLine (pair_with (numbers_of (texts left.now) ∷ numbers_of (texts right.now) ∷ []))) result }
+{
+    let Some(left) = read_numbers(alloc, left)? else {
+        return Err(LineFault::Form);
+    };
+    let Some(right) = read_numbers(alloc, right)? else {
+        return Err(LineFault::Form);
+    };
+    pair(left, right)
+}
+
+// The pair of words of two sets and of the number of a test.
+fn pair_of_three(
+    alloc: Global,
+    left: &[&[u8]],
+    right: &[&[u8]],
+    test: &[&[u8]],
+) -> Result<Entry, LineFault>
+    ensures { ReadsEntry (option_map PairLine (pair_with (numbers_of (texts left.now) ∷ numbers_of (texts right.now) ∷ numbers_of (texts test.now) ∷ []))) result }
+{
+    let Some(test) = read_numbers(alloc, test)? else {
+        return Err(LineFault::Form);
+    };
+    let Some(left) = read_numbers(alloc, left)? else {
+        return Err(LineFault::Form);
+    };
+    let Some(right) = read_numbers(alloc, right)? else {
+        return Err(LineFault::Form);
+    };
+    tested_pair(left, right, &test)
+}
+
+// The pair of words of these parts.
+fn pair_of_parts(alloc: Global, parts: &[&[&[u8]]]) -> Result<Entry, LineFault>
+    ensures { ReadsEntry (option_map PairLine (pair_with (map (λ part. numbers_of (texts part.now)) parts.now))) result }
+{
+    match parts {
+        [left, right] => pair_of_two(alloc, left, right),
+        [left, right, test] => pair_of_three(alloc, left, right, test),
+        _ => Err(LineFault::Form),
+    }
+}
+
+fn pair_line(alloc: Global, words: &[&[u8]]) -> Result<Entry, LineFault>
+    ensures { ReadsEntry (option_map PairLine (pair_of (texts words.now))) result }
+{
+    let parts = between_bars(alloc, words)?;
+    pair_of_parts(alloc, parts.as_slice())
 }
 
 // The entry of words.

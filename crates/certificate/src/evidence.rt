@@ -21,7 +21,7 @@ pub enum Evidence {
 pub enum EvidenceFault {
     /// Memory ran out.
     NoMemory,
-    /// Line 1 is none of `kat 1 equal`, `kat 2 equal` and `kat 1 different`.
+    /// Line 1 is none of `kat 1 equal`, `kat 2 equal`, `kat 1 equal under` and `kat 1 different`.
     Header,
     /// The line has none of the forms that may stand there.
     Line(u64),

@@ -9,6 +9,9 @@ pub enum Style {
     Plain,
     /// Each is made one set by the listed pairs (up to congruence; Bonchi and Pous 2013).
     UpTo,
+    /// The same from the atoms of each pair's test on, along the moves that hypotheses on single atoms and moves allow;
+    /// at the end of a move the pairs count whose tests are true there.
+    Under,
 }
 
 /// A node of a test. The numbers of `Not`, `And` and `Or` are those of earlier test nodes, from 0.
@@ -23,12 +26,14 @@ pub type TermNode = term_nodes::TermNode<usize, usize>;
 pub struct Pair {
     pub left: Items<usize>,
     pub right: Items<usize>,
+    /// The test node at whose atoms both sets are to accept alike, in the style `Under`; no other style has one.
+    pub test: Option<usize>,
 }
 
 impl Model for Pair {
-    ghost use Rattle.term_nodes.specs.NumberSets.{NumberPair};
+    ghost use Rattle.certificate.specs.PairParts.{PairParts};
 
-    ghost Value = { NumberPair };
+    ghost Value = { PairParts };
 
-    ghost view = { λ p. record { left = p.left; right = p.right } };
+    ghost view = { λ p. record { left = p.left; right = p.right; test = p.test } };
 }

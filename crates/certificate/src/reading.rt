@@ -101,6 +101,9 @@ fn read_all(alloc: Global, bytes: &[u8]) -> Result<Evidence, EvidenceFault>
     if line == b"kat 2 equal".as_slice() {
         return read_cert(alloc, Style::UpTo, rest);
     }
+    if line == b"kat 1 equal under".as_slice() {
+        return read_cert(alloc, Style::Under, rest);
+    }
     if line == b"kat 1 different".as_slice() {
         return read_string(alloc, rest);
     }

@@ -1,7 +1,7 @@
 //! Writing evidence.
 ghost use Rattle.std.specs.Prelude.{◌≡◌, ◌∷◌, ◌++◌, if◌then◌else◌, map, IfOk, OnOk};
 ghost use Rattle.std.specs.Fmt.{decimal};
-ghost use Rattle.certificate.specs.Texts.{entry_words, atom_words, move_words, bit_words, line_of, heading, entries_of, text_of};
+ghost use Rattle.certificate.specs.Texts.{last_words, entry_words, atom_words, move_words, bit_words, line_of, heading, entries_of, text_of};
 ghost use Rattle.certificate.specs.Working.Writings.{after_blanks, with_feed, entry_lines, move_lines, string_lines, body_of};
 ghost use Rattle.certificate.specs.declared.entry.Entry.TheVariants.{TestLine, TermLine, PairLine};
 
@@ -80,12 +80,24 @@ fn put_term(alloc: Global, out: &mut Vec<u8>, node: TermNode) -> Result<(), NoMe
     }
 }
 
+// The end of the line of a pair: its test, where it has one.
+fn put_last(alloc: Global, out: &mut Vec<u8>, test: Option<usize>) -> Result<(), NoMemory>
+    ensures { OnOk result (out.new.items ≡ out.old.items ++ with_feed (after_blanks (last_words test))) }
+{
+    match test {
+        None => put_line(out, b""),
+        Some(k) => put_form(alloc, out, b" |", &[k]),
+    }
+}
+
 fn put_pair(alloc: Global, out: &mut Vec<u8>, pair: &Pair) -> Result<(), NoMemory>
     ensures { OnOk result (out.new.items ≡ out.old.items ++ with_feed (line_of (entry_words (PairLine pair.now)))) }
 {
     out.push(b'P')?;
     put_numbers(alloc, out, pair.left.as_slice())?;
-    put_form(alloc, out, b" |", pair.right.as_slice())
+    out.extend_from_slice(b" |")?;
+    put_numbers(alloc, out, pair.right.as_slice())?;
+    put_last(alloc, out, pair.test)
 }
 
 fn put_tests(alloc: Global, out: &mut Vec<u8>, nodes: &[TestNode]) -> Result<(), NoMemory>
@@ -121,6 +133,7 @@ fn put_heading(out: &mut Vec<u8>, style: Style) -> Result<(), NoMemory>
     match style {
         Style::Plain => put_line(out, b"kat 1 equal"),
         Style::UpTo => put_line(out, b"kat 2 equal"),
+        Style::Under => put_line(out, b"kat 1 equal under"),
     }
 }
 

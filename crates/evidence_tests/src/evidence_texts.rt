@@ -25,6 +25,7 @@ const TEXTS: &[&str] = &[
     "kat 1 equal\nT prim 0\nE test 0\nP 0 | 0\nend\n",
     "kat 2 equal\nT false\nT true\nT not 0\nT and 0 2\nT or 1 3\nE zero\nE one\nP |\nP 0 1 |\nend\n",
     "kat 2 equal\nend\n",
+    "kat 1 equal under\nT prim 0\nT not 0\nE one\nE act 0\nP | | 1\nP 0 1 | 0 | 0\nend\n",
     "kat 1 different\nA 10\nM 0 00\nM 18446744073709551615 01\nend\n",
     "kat 1 different\nA\nM 3\nend\n",
 ];
@@ -56,6 +57,10 @@ const FAULTS: &[(&str, &str)] = &[
         "Line(3)",
     ),
     ("kat 1 different\nend\n", "Line(2)"),
+    ("kat 1 equal under\nT true\nP |\nend\n", "Line(3)"),
+    ("kat 1 equal\nT true\nP | | 0\nend\n", "Line(3)"),
+    ("kat 1 equal under\nT true\nP | | 0 0\n", "Line(3)"),
+    ("kat 1 equal under\nT true\nP | | 1\n", "NodeOrder(3)"),
     ("kat 1 different\nA \n", "Line(2)"),
     ("kat 1 different\nA 0\nA 0\n", "Line(3)"),
     ("kat 1 equal\nE star 0\nend\n", "NodeOrder(2)"),

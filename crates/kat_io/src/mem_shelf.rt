@@ -47,7 +47,7 @@ pub(crate) fn is_past(count: usize, limit: Option<u64>) -> bool
 }
 
 // The content of a name.
-fn held<'a>(files: &'a BTreeMap<String, Vec<u8>>, name: &str) -> Option<&'a [u8]>
+fn content_of<'a>(files: &'a BTreeMap<String, Vec<u8>>, name: &str) -> Option<&'a [u8]>
     ensures { option_copied result ≡ map.get (contents_of files.now.entries) name.now }
 {
     match files.get(name) {
@@ -119,7 +119,7 @@ impl Shelf for MemShelf {
     {
         let copy = String::from_str(self.alloc, name)?;
         let due = self.schedule.contains(&self.calls);
-        match held(&self.files, name) {
+        match content_of(&self.files, name) {
             Some(bytes) if !due => {
                 if is_past(bytes.len(), limit) {
                     self.calls = more(self.calls);

@@ -43,12 +43,12 @@ module _ (P : SetPair → Type 0) (kept : (from to : SetPair) → HasNextSets fr
   all_have p ps all own r h =
       ⊎_elim (λ e. subst P e own) (λ k. next_have (p ∷ []) ps all (λ s m. ⊎_elim (λ e. subst P e own) (λ n. absurd n) m) r k) h
 
-next_within : (e : Term) (es fs : List Term) (atom : Atom) (a : ℕ) → SameMembers (set_next es atom a) fs → IsSubset es (e ∷ reach e) → IsSubset fs (e ∷ reach e)
+pub next_within : (e : Term) (es fs : List Term) (atom : Atom) (a : ℕ) → SameMembers (set_next es atom a) fs → IsSubset es (e ∷ reach e) → IsSubset fs (e ∷ reach e)
 next_within e es fs atom a same within y h =
     let r = has_flat_map (λ x. next x atom a) es y ((same y).1 h) in
     inr (⊎_elim (λ s. next_reach atom a e y (subst (λ x. Has (next x atom a) y) (sym s) r.2)) (λ k. reach_next atom a e r.0 y k r.2) (within r.0 r.1))
 
-single_kept : (e : Term) → IsGuarded e → (es fs : List Term) (atom : Atom) (a : ℕ) → SameMembers (set_next es atom a) fs → IsSingle e es → IsSingle e fs
+pub single_kept : (e : Term) → IsGuarded e → (es fs : List Term) (atom : Atom) (a : ℕ) → SameMembers (set_next es atom a) fs → IsSingle e es → IsSingle e fs
 single_kept e g es fs atom a same s =
     let back = same_members_sym (set_next es atom a) fs same in
     ⊎_elim

@@ -10,8 +10,8 @@ use kat_model::{Cond, Expr, Kat, NoMemory, Rel, Test};
 use kat_text::{Meaning, Scope};
 use std::alloc::Global;
 
-// The name that stands for it, or no text where none does.
-fn name_of(scope: &Scope, meaning: Meaning) -> &str
+/// The name that stands for it in the scope, or the empty text where none does.
+pub fn name_of(scope: &Scope, meaning: Meaning) -> &str
     ensures { result.now ≡ name_of scope.now meaning }
 {
     match scope.name(meaning) {
@@ -20,7 +20,8 @@ fn name_of(scope: &Scope, meaning: Meaning) -> &str
     }
 }
 
-fn put_name(out: &mut Vec<u8>, scope: &Scope, meaning: Meaning) -> Result<(), NoMemory>
+/// Adds to the end of `out` the name that stands for it in the scope, or nothing where none does.
+pub fn put_name(out: &mut Vec<u8>, scope: &Scope, meaning: Meaning) -> Result<(), NoMemory>
     ensures { OnOk result (out.new.items ≡ out.old.items ++ name_of scope.now meaning) }
 {
     out.extend_from_slice(name_of(scope, meaning).as_bytes())?;

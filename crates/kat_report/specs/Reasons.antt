@@ -4,7 +4,7 @@ use Rattle.std.specs.Fmt.{decimal}
 use Rattle.kat_model.specs.Steps.{Atom}
 use Rattle.certificate.specs.Texts.{bits}
 use Rattle.cert_checker.specs.declared.answer.Reason.{Reason}
-use Rattle.cert_checker.specs.declared.answer.Reason.TheVariants.{FirstPair, Output, Missing, Shape, HypBroken, EndsAgree, TestNode, TermNode}
+use Rattle.cert_checker.specs.declared.answer.Reason.TheVariants.{FirstPair, Output, Missing, MissingTo, Shape, HypBroken, EndsAgree, TestNode, TermNode}
 
 -- one `0` or `1` for each test, and a dash where there are none
 abbrev pub atom_text : Atom → List ℕ
@@ -16,6 +16,8 @@ abbrev pub reason_text : Reason → List ℕ
 reason_text FirstPair = codes "FirstPair"
 reason_text (Output k atom) = codes "Output pair " ++ decimal k ++ codes " atom " ++ atom_text atom
 reason_text (Missing k atom a) = codes "Missing pair " ++ decimal k ++ codes " atom " ++ atom_text atom ++ codes " action " ++ decimal a
+reason_text (MissingTo k atom a to) =
+    codes "Missing pair " ++ decimal k ++ codes " atom " ++ atom_text atom ++ codes " action " ++ decimal a ++ codes " to " ++ atom_text to
 reason_text (Shape k) = codes "Shape " ++ decimal k
 reason_text (HypBroken h i j) = codes "HypBroken hyp " ++ decimal h ++ codes " from " ++ decimal i ++ codes " to " ++ decimal j
 reason_text EndsAgree = codes "EndsAgree"

@@ -62,6 +62,21 @@ fn put_missing(
     put_numbered(alloc, out, " action ", action)
 }
 
+fn put_missing_to(
+    alloc: Global,
+    out: &mut Vec<u8>,
+    pair: usize,
+    atom: &Items<bool>,
+    action: usize,
+    to: &Items<bool>,
+) -> Result<(), NoMemory>
+    ensures { OnOk result (out.new.items ≡ out.old.items ++ reason_text (Reason.MissingTo pair atom.now action to.now)) }
+{
+    put_missing(alloc, out, pair, atom, action)?;
+    put_word(out, " to ")?;
+    put_atom(out, to.as_slice())
+}
+
 fn put_broken(
     alloc: Global,
     out: &mut Vec<u8>,
@@ -83,6 +98,9 @@ fn put_reason(alloc: Global, out: &mut Vec<u8>, reason: &Reason) -> Result<(), N
         Reason::FirstPair => put_word(out, "FirstPair"),
         Reason::Output(pair, atom) => put_place(alloc, out, "Output pair ", *pair, atom.as_slice()),
         Reason::Missing(pair, atom, action) => put_missing(alloc, out, *pair, atom, *action),
+        Reason::MissingTo(pair, atom, action, to) => {
+            put_missing_to(alloc, out, *pair, atom, *action, to)
+        }
         Reason::Shape(position) => put_numbered(alloc, out, "Shape ", *position),
         Reason::HypBroken(hyp, from, to) => put_broken(alloc, out, *hyp, *from, *to),
         Reason::EndsAgree => put_word(out, "EndsAgree"),
@@ -92,8 +110,9 @@ fn put_reason(alloc: Global, out: &mut Vec<u8>, reason: &Reason) -> Result<(), N
 }
 
 /// The line that tells why evidence is rejected: `rejected: `, the reason's name, and its numbers with the words
-/// that name them, as in `rejected: Missing pair 1 atom 010 action 2`. An atom has a bit for each test, test 0
-/// first, and is `-` where there are no tests. Fails only when out of memory.
+/// that name them, as in `rejected: Missing pair 1 atom 010 action 2`, after which ` to 110` stands in the style of
+/// tests. An atom has a bit for each test, test 0 first, and is `-` where there are no tests. Fails only when out of
+/// memory.
 pub fn reason_line(alloc: Global, reason: &Reason) -> Result<Vec<u8>, NoMemory>
     ensures { IfOk result (λ line. line.items ≡ reason_line reason.now) }
 {

@@ -5,21 +5,11 @@ ghost use Rattle.kat_print.specs.Printing.{name_of};
 ghost use Rattle.kat_tool.specs.RunTexts.{values_text, outcome_line};
 
 use kat_model::NoMemory;
+use kat_print::name_of;
 use kat_text::{Meaning, Scope};
 use std::alloc::Global;
 use std::fmt::Write;
 use while_lang::{Outcome, Store};
-
-// The name that stands for it, or no text where none does.
-#[tactic(auto, using(kat_print::proofs::NameOf::name_is, kat_print::proofs::NameOf::no_name))]
-fn name_of(scope: &Scope, meaning: Meaning) -> &str
-    ensures { result.now ≡ name_of scope.now meaning }
-{
-    match scope.name(meaning) {
-        Some(name) => name,
-        None => "",
-    }
-}
 
 fn put_value(alloc: Global, out: &mut Vec<u8>, name: &str, value: u64) -> Result<(), NoMemory>
     ensures { OnOk result (out.new.items ≡ out.old.items ++ (codes " " ++ name.now ++ codes "=" ++ decimal value)) }

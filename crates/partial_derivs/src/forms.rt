@@ -114,7 +114,7 @@ pub(crate) fn product_steps(
         → IsDerivativeOf store.new diagrams.new (product e (tree_at store.old tail)) s) }
     ensures kept { Keeps store.old store.new diagrams.old diagrams.new }
 {
-    let mut gathered = Gathered::followed(alloc, store, diagrams, &first.moves, tail)?;
+    let mut gathered = Gathered::with_tail(alloc, store, diagrams, &first.moves, tail)?;
     gathered.add_under(diagrams, &second.moves, first.accepts)?;
     let accepts = diagrams.and(first.accepts, second.accepts)?;
     let moves = gathered.moves(alloc)?;
@@ -136,7 +136,7 @@ pub(crate) fn star_steps(
         → tree_at store.old own ≡ star e → IsDerivativeOf store.new diagrams.new (star e) s) }
     ensures kept { Keeps store.old store.new diagrams.old diagrams.new }
 {
-    let gathered = Gathered::followed(alloc, store, diagrams, &inner.moves, own)?;
+    let gathered = Gathered::with_tail(alloc, store, diagrams, &inner.moves, own)?;
     let moves = gathered.moves(alloc)?;
     Ok(Steps {
         accepts: diagrams.constant(true),

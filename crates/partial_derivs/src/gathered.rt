@@ -140,7 +140,7 @@ impl Gathered {
     }
 
     /// The moves, each followed by the term.
-    pub(crate) fn followed(
+    pub(crate) fn with_tail(
         alloc: Global,
         store: &mut Store,
         diagrams: &mut Diagrams,

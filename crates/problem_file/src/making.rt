@@ -133,7 +133,7 @@ fn check_numbers(width: Width, toks: &[Token], from: usize, end: usize) -> Resul
     Ok(())
 }
 
-fn compared(comparison: Comparison, left: Side, right: Side) -> Goal
+fn comparison_goal(comparison: Comparison, left: Side, right: Side) -> Goal
     ensures { goal_tree result ≡ compared comparison (side_tree left) (side_tree right) }
 {
     match comparison {
@@ -466,7 +466,7 @@ impl ItemReading for ItemReader {
         self.count_sides(toks, at, sides)?;
         let left = self.build_side(toks, sides.left.from)?;
         let right = self.build_side(toks, sides.right.from)?;
-        self.goals.push(compared(comparison, left, right))?;
+        self.goals.push(comparison_goal(comparison, left, right))?;
         Ok(())
     }
 

@@ -19,7 +19,7 @@ use kat_tokens::{MAX_LEN, TextFault, Token, tokens};
 use std::alloc::Global;
 
 // A fault past the last token is at the text's length.
-fn placed(fault: TextFault, len: usize) -> TextFault
+fn fault_in_text(fault: TextFault, len: usize) -> TextFault
     ensures { result ≡ placed len fault }
 {
     match fault {
@@ -53,7 +53,7 @@ fn read_text(alloc: Global, text: &str) -> Result<File, TextFault>
     let toks = tokens(alloc, text)?;
     match test(alloc, &toks) {
         Ok(file) => Ok(file),
-        Err(fault) => Err(placed(fault, text.len())),
+        Err(fault) => Err(fault_in_text(fault, text.len())),
     }
 }
 

@@ -26,7 +26,7 @@ fn related_pair(levels: &Levels, n: usize) -> Option<(usize, usize)>
 }
 
 /// The first hypothesis that relates some states, and the first two states that it relates.
-pub(crate) fn broken(
+pub(crate) fn first_broken(
     levels: &mut Levels,
     table: &Table,
     hyps: &[Kat],

@@ -6,7 +6,7 @@ ghost use Rattle.string_tables.specs.Tables.{table_of as string_table, MayBeAske
 ghost use Rattle.string_tables.specs.Working.Heights.{question_height};
 ghost use Rattle.string_tables.specs.Findings.{IsFinding};
 
-use crate::broken::broken;
+use crate::broken::first_broken;
 use crate::levels::Levels;
 use crate::shape::misfit;
 use crate::string::GString;
@@ -58,7 +58,7 @@ fn finding_of(levels: &mut Levels, table: &Table, problem: &Problem, string: &GS
     if let Some(k) = misfit(problem, string) {
         return Finding::Shape(k);
     }
-    if let Some((h, i, j)) = broken(levels, table, problem.hyps()) {
+    if let Some((h, i, j)) = first_broken(levels, table, problem.hyps()) {
         return Finding::HypBroken(h, i, j);
     }
     let left = relates_ends(levels, table, problem.left());

@@ -66,7 +66,7 @@ fn compared_nodes(nodes: u64) -> u64
     nodes
 }
 
-fn spliced(
+fn with_program(
     progs: &[NamedProg],
     depth: usize,
     at: usize,
@@ -96,7 +96,7 @@ fn of_name(
     match meaning {
         None => Err(TextFault::UnknownName(at)),
         Some(Meaning::Action(_)) => Ok(with_node(list, extent(0, 0))),
-        Some(Meaning::Prog(i)) => spliced(progs, depth, at, i, list),
+        Some(Meaning::Prog(i)) => with_program(progs, depth, at, i, list),
         Some(_) => Err(TextFault::Sort(at)),
     }
 }

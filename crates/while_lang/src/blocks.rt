@@ -101,7 +101,7 @@ fn stmt<R: BlockReading>(
             let (body, end) = read_block(reading, toks, end, depth)?;
             Ok((reading.turn(list, cond, body)?, end))
         }
-        Terminal::Name => named(
+        Terminal::Name => name_statement(
             reading,
             toks,
             from + 1,
@@ -123,7 +123,7 @@ fn semicolon(toks: &[Token], i: usize) -> Result<usize, TextFault>
 
 // A statement that begins with a name, from the token after it on.
 #[tactic(auto, using(kat_syntax::proofs::Tokens::next_drop))]
-fn named<R: BlockReading>(
+fn name_statement<R: BlockReading>(
     reading: &R,
     toks: &[Token],
     from: usize,

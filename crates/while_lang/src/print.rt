@@ -9,7 +9,7 @@ ghost use Rattle.while_lang.specs.Working.ProgramTexts.{stmt_text, stmts_text};
 
 use crate::prog::{Prog, Stmt};
 use kat_model::{Cond, Expr, NoMemory};
-use kat_print::{print_cond, print_expr};
+use kat_print::{print_cond, print_expr, put_name};
 use kat_text::{Meaning, Scope};
 use std::alloc::Global;
 
@@ -18,23 +18,6 @@ fn put(out: &mut Vec<u8>, text: &[u8]) -> Result<(), NoMemory>
 {
     out.extend_from_slice(text)?;
     Ok(())
-}
-
-// The name that stands for it, or no text where none does.
-#[tactic(auto, using(kat_print::proofs::NameOf::name_is, kat_print::proofs::NameOf::no_name))]
-fn name_of(scope: &Scope, meaning: Meaning) -> &str
-    ensures { result.now ≡ name_of scope.now meaning }
-{
-    match scope.name(meaning) {
-        Some(name) => name,
-        None => "",
-    }
-}
-
-fn put_name(out: &mut Vec<u8>, scope: &Scope, meaning: Meaning) -> Result<(), NoMemory>
-    ensures { OnOk result (out.new.items ≡ out.old.items ++ name_of scope.now meaning) }
-{
-    put(out, name_of(scope, meaning).as_bytes())
 }
 
 #[tactic(auto, using(crate::proofs::ProgramPieces::cond_whole))]

@@ -1,5 +1,5 @@
 -- The nodes of a certificate, numbered in the order of a list of ids.
-use Rattle.std.specs.Prelude.{◌≡◌, ◌<◌, ℕ, nat_eq, List, map, slice_index_or}
+use Rattle.std.specs.Prelude.{◌≡◌, ◌<◌, ℕ, nat_eq, List, map, slice_index_or, None}
 use Rattle.std.specs.Option.{unwrap_or}
 use Rattle.std.specs.List.{position}
 use Rattle.kat_model.specs.Trees.{Term}
@@ -10,7 +10,7 @@ use Rattle.term_nodes.specs.declared.TestNode.TheVariants.{False, True, Prim, No
 use Rattle.term_nodes.specs.declared.TermNode.{TermNode}
 use Rattle.term_nodes.specs.declared.TermNode.TheVariants as term
 use Rattle.certificate.specs.declared.nodes.Style.TheVariants.{UpTo}
-use Rattle.term_nodes.specs.NumberSets.{NumberPair}
+use Rattle.certificate.specs.PairParts.{PairParts}
 use Rattle.certificate.specs.Certs.{CertParts, nodes_of}
 use Rattle.term_nodes.specs.NodeTrees.{trees, tree_at, HasTree}
 use Rattle.certificate.specs.Accepted.{set_pairs}
@@ -26,8 +26,9 @@ number_of ids i = unwrap_or (position (nat_eq i) ids) 0
 abbrev pub numbers_of : List ℕ → List ℕ → List ℕ
 numbers_of ids set = map (number_of ids) set
 
-abbrev pub number_pair_of : List ℕ → IdEntry → NumberPair
-number_pair_of ids e = record { left = numbers_of ids e.left; right = numbers_of ids e.right }
+-- without a test
+abbrev pub number_pair_of : List ℕ → IdEntry → PairParts
+number_pair_of ids e = record { left = numbers_of ids e.left; right = numbers_of ids e.right; test = None }
 
 -- the node of a certificate for a node of a store
 abbrev pub test_node_of : List ℕ → TestNode ℕ → TestNode ℕ

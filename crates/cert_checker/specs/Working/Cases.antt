@@ -1,5 +1,5 @@
 -- Cases on tests: some tests are decided, and what is known of a test where they are.
-use Rattle.std.specs.Prelude.{◌≡◌, ◌+◌, ℕ, Bool, true, false, not, if◌then◌else◌, List, [], ◌∷◌, length, slice_get, slice_index_or, Option, Some, None}
+use Rattle.std.specs.Prelude.{◌≡◌, ◌+◌, ℕ, Bool, true, false, not, List, [], ◌∷◌, length, slice_get, slice_index_or, Option, Some, None}
 use Rattle.kat_model.specs.Steps.{Atom}
 use Rattle.term_nodes.specs.declared.TestNode.{TestNode}
 use Rattle.term_nodes.specs.declared.TestNode.TheVariants.{False, True, Prim, Not, And, Or}
@@ -92,11 +92,10 @@ is_less (true ∷ xs) (false ∷ ys) = false
 is_less (false ∷ xs) (false ∷ ys) = is_less xs ys
 is_less (true ∷ xs) (true ∷ ys) = is_less xs ys
 
--- the lesser of the atoms that are there
-abbrev pub lesser_of : Option Atom → Option Atom → Option Atom
-lesser_of None o = o
-lesser_of (Some x) None = Some x
-lesser_of (Some x) (Some y) = if is_less y x then Some y else Some x
+-- the atom is less than the bound, where there is one
+abbrev pub IsBelow : Option Atom → Atom → Type 0
+IsBelow None atom = Unit {0}
+IsBelow (Some bound) atom = IsLess atom bound
 
 -- at each atom with the decided tests the property holds
 abbrev pub HoldsThroughout : (Atom → Type 0) → List (Option Bool) → Type 0

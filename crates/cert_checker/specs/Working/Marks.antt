@@ -1,5 +1,5 @@
 -- Sets of terms as marks, one for each term of the tables, and their saturation by pairs of sets of numbers.
-use Rattle.std.specs.Prelude.{zero, suc, ℕ, IsTrue, Bool, true, false, if◌then◌else◌, List, [], ◌∷◌, length, slice_index_or, slice_set, replicate}
+use Rattle.std.specs.Prelude.{zero, suc, ℕ, IsTrue, Bool, true, false, if◌then◌else◌, List, [], ◌∷◌, slice_index_or, slice_set, replicate}
 use Rattle.std.specs.List.{list_all}
 use Rattle.kat_model.specs.Members.{Has}
 use Rattle.term_nodes.specs.NumberSets.{NumberPair, are_below}
@@ -30,6 +30,6 @@ abbrev pub rounds_marked : ℕ → List NumberPair → List Bool → List Bool
 rounds_marked zero ps marks = marks
 rounds_marked (suc n) ps marks = rounds_marked n ps (round_marked ps marks)
 
--- the marks of these numbers alone, of n terms, saturated
-abbrev pub saturated_marks : ℕ → List NumberPair → List ℕ → List Bool
-saturated_marks n ps ks = rounds_marked (length ps) ps (with_marks (replicate n false) ks)
+-- the marks of these numbers alone, of n terms, after so many rounds
+abbrev pub saturated_marks : ℕ → ℕ → List NumberPair → List ℕ → List Bool
+saturated_marks n rounds ps ks = rounds_marked rounds ps (with_marks (replicate n false) ks)

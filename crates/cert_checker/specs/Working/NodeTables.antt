@@ -31,8 +31,9 @@ pub record AreTables (t : TableParts) : Type 0 where
 abbrev pub tables_of : ℕ → CertParts → TableParts
 tables_of width c = record { width = width; tests = c.test_nodes; terms = c.term_nodes }
 
--- nodes were added behind the older ones, which keep their numbers and trees
+-- nodes were added behind the older ones, which keep their numbers and trees, and the tables are sound
 pub record TablesGrow (old new : TableParts) : Type 0 where
+  pub sound : AreTables new
   pub width : new.width ≡ old.width
   pub nodes : Grows (nodes_in old) (nodes_in new)
 

@@ -1,5 +1,5 @@
 -- What only the code and the proofs need: what the parts of the reader answer. Memory may run out.
-use Rattle.std.specs.Prelude.{◌≡◌, ◌+◌, ℕ, true, false, List, ◌∷◌, length, map, Option, Some, None, Result, Ok, Err}
+use Rattle.std.specs.Prelude.{◌≡◌, ◌+◌, ℕ, true, false, List, [], ◌∷◌, length, map, Option, Some, None, Result, Ok, Err}
 use Rattle.std.specs.Borrow.{Bor}
 use Rattle.std.specs.List.{list_all, list_any}
 use Rattle.std.specs.declared.cmp.Ordering.{Ordering}
@@ -28,6 +28,11 @@ Answers told (Err fault) = told ≡ Err fault
 -- the bytes of words
 abbrev pub texts : List (Bor (List ℕ)) → List (List ℕ)
 texts ws = map (λ w. w.now) ws
+
+-- the one number of a list
+abbrev pub single_of : List ℕ → Option ℕ
+single_of (k ∷ []) = Some k
+single_of ks = None
 
 -- the bytes are a complete line and what follows its line feed
 pub record IsCutLine (bytes line after : List ℕ) : Type 0 where

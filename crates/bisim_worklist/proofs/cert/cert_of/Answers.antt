@@ -30,8 +30,8 @@ term_nodes-requires-clause-tests c i shape h e =
 pub term_nodes-requires-clause-parts : goal.term_nodes-requires-clause-parts
 term_nodes-requires-clause-parts c = c.in_ok-terms.ensures.parts
 
-pub numbered-requires : goal.numbered-requires
-numbered-requires c = c.in_ok-terms.ensures.holds
+pub number_pairs-requires : goal.number_pairs-requires
+number_pairs-requires c = c.in_ok-terms.ensures.holds
 
 pub of_parts-requires : goal.of_parts-requires
 of_parts-requires c =

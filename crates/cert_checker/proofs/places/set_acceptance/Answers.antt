@@ -24,7 +24,7 @@ loop-number-preserved c =
     let cut : drop i set ≡ k ∷ drop (i + 1) set = drop_more set i 0 (omega arith) in
     accepting_more c.args.tables.now c.loop-number.tables c.either.new.self c.loop-number.guard c.in_ok-guard-2.guard k (drop (i + 1) set) set c.args.accepting.now
     (subst (λ (l : List ℕ). IsAccepting c.args.tables.now c.loop-number.tables c.loop-number.guard l set) cut now)
-    c.requires.accepting low c.either.ensures.tables c.either.ensures.grows c.either.ensures.terms c.in_ok-guard-2.ensures.is_test c.in_ok-guard-2.ensures.value
+    c.requires.accepting low c.either.ensures.grows.sound c.either.ensures.grows c.either.ensures.terms c.in_ok-guard-2.ensures.is_test c.in_ok-guard-2.ensures.value
 
 pub returns-in_err-guard-2-clause-grows : goal.returns-in_err-guard-2-clause-grows
 returns-in_err-guard-2-clause-grows c = grows_trans c.args.tables.now c.loop-number.tables c.either.new.self c.loop-number.invariant.grows c.either.ensures.grows

@@ -15,7 +15,7 @@ loop-number-preserved c =
     let here : slice_get t.terms (length guards) ≡ Some c.term_node-node.result = ap (slice_get t.terms) now.count ∙ c.term_node-node.ensures.node in
     record {
       count = ap length items ∙ length_push guards c.in_ok-guard.guard ∙ ap (λ n. n + 1) now.count;
-      tables = c.acceptance.ensures.tables;
+      tables = c.acceptance.ensures.grows.sound;
       grows = grows_trans c.args.tables.now t new now.grows c.acceptance.ensures.grows;
       terms = c.acceptance.ensures.terms ∙ now.terms;
       values = subst (AreAcceptances new) (sym items) (acceptances_more t new now.tables c.acceptance.ensures.grows guards c.in_ok-guard.guard c.term_node-node.result now.values here c.in_ok-guard.ensures.is_test c.in_ok-guard.ensures.value);

@@ -25,7 +25,7 @@ loop-number-preserved c =
     let cut : drop i set ≡ k ∷ drop (i + 1) set = drop_more set i 0 (omega arith) in
     gathering_more c.args.tables.now c.loop-number.tables c.add_all.new.tables c.args.action c.in_ok-always.always c.loop-number.targets.entries c.add_all.new.targets.entries (drop (i + 1) set) set k c.index-steps-number.result.entries
     (subst (λ (l : List ℕ). IsGathering c.args.tables.now c.loop-number.tables c.args.action c.in_ok-always.always c.loop-number.targets.entries l set) cut now)
-    step c.add_all.ensures.tables c.add_all.ensures.grows c.add_all.ensures.terms c.in_ok-add_all.ensures.added
+    step c.add_all.ensures.grows.sound c.add_all.ensures.grows c.add_all.ensures.terms c.in_ok-add_all.ensures.added
 
 pub returns-clause-targets : goal.returns-clause-targets
 returns-clause-targets c =

@@ -25,7 +25,7 @@ loop-number-preserved c =
     let stands = subst (λ n. StandFor new c.in_ok-targets.targets.entries (λ atom. next (term_at t n) atom c.args.action)) same c.in_ok-targets.ensures.targets in
     record {
       count = ap length items ∙ length_push list c.in_ok-targets.targets ∙ ap (λ n. n + 1) now.count;
-      tables = c.step.ensures.tables;
+      tables = c.step.ensures.grows.sound;
       grows = grows_trans c.args.tables.now t new now.grows c.step.ensures.grows;
       accepting = all_accept t new now.tables c.step.ensures.grows c.args.accepting.now low now.accepting;
       steps = subst (λ l. AreSteps new c.args.action (map (λ t. t.entries) l)) (sym items)

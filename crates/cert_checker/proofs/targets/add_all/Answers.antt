@@ -31,7 +31,7 @@ loop-term-preserved c =
     let cut : c.loop-term.term-iterator ≡ (c.in-Some.term.now, c.in-Some.when.now) ∷ c.next.new.self = rest_more deref_pair _ _ _ (c.in-Some.term, c.in-Some.when) c.in-Some.is c.next.ensures.steps in
     let here = subst (λ (l : List (ℕ × ℕ)). IsAdding c.args.tables.now c.loop-term.tables c.args.targets.now.entries c.loop-term.targets.entries l c.args.more.now.entries c.args.guard) cut c.loop-term.invariant in
     adding_more c.args.tables.now c.loop-term.tables c.both.new.self c.add.new.tables c.args.targets.now.entries c.loop-term.targets.entries c.add.new.targets.entries c.next.new.self c.args.more.now.entries c.args.guard c.in_ok-both.both (c.in-Some.term.now, c.in-Some.when.now)
-    here c.both.ensures.tables c.both.ensures.grows c.both.ensures.terms c.in_ok-both.ensures.value c.add.ensures.tables c.add.ensures.grows c.add.ensures.terms c.in_ok-add.ensures.added
+    here c.both.ensures.grows.sound c.both.ensures.grows c.both.ensures.terms c.in_ok-both.ensures.value c.add.ensures.grows.sound c.add.ensures.grows c.add.ensures.terms c.in_ok-add.ensures.added
 
 pub returns-in_err-both-clause-grows : goal.returns-in_err-both-clause-grows
 returns-in_err-both-clause-grows c = grows_trans c.args.tables.now c.loop-term.tables c.both.new.self c.loop-term.invariant.grows c.both.ensures.grows

@@ -26,7 +26,7 @@ loop-term-preserved c =
     let cut : c.loop-term.term-iterator ≡ (c.in-Some.term.now, c.in-Some.when.now) ∷ c.next.new.self = rest_more deref_pair _ _ _ (c.in-Some.term, c.in-Some.when) c.in-Some.is c.next.ensures.steps in
     let here = subst (λ (l : List (ℕ × ℕ)). IsFollowing c.args.tables.now c.loop-term.tables c.args.after c.loop-term.targets.entries l c.args.first.now.entries) cut c.loop-term.invariant in
     following_more c.args.tables.now c.loop-term.tables c.dot.new.self c.add.new.tables c.args.after c.in_ok-product.product c.loop-term.targets.entries c.add.new.targets.entries c.next.new.self c.args.first.now.entries (c.in-Some.term.now, c.in-Some.when.now)
-    here c.dot.ensures.tables c.dot.ensures.grows c.in_ok-product.ensures.tree c.add.ensures.tables c.add.ensures.grows c.in_ok-add.ensures.added
+    here c.dot.ensures.grows.sound c.dot.ensures.grows c.in_ok-product.ensures.tree c.add.ensures.grows.sound c.add.ensures.grows c.in_ok-add.ensures.added
 
 pub returns-clause-targets : goal.returns-clause-targets
 returns-clause-targets c =

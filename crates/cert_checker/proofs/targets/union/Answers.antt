@@ -10,7 +10,7 @@ returns-clause-targets c =
     let t = c.constant.new.self in
     let begun = subst (λ (es : List (ℕ × ℕ)). StandFor c.add_all.new.tables c.add_all.new.targets.entries (λ atom. chosen t es atom ++ cond (holds_at t c.in_ok-always.always atom) (chosen t c.args.first.now.entries atom) [])) c.new-targets.ensures.empty c.in_ok-add_all.ensures.added in
     union_stands c.args.tables.now t c.add_all.new.tables c.add_all-2.new.tables c.args.first.now.entries c.args.second.now.entries c.add_all.new.targets.entries c.add_all-2.new.targets.entries c.in_ok-always.always
-    c.rules.ensures c.constant.ensures.tables c.constant.ensures.grows c.add_all.ensures.grows c.in_ok-always.ensures.is_test c.requires.first c.requires.second c.in_ok-always.ensures.value begun c.in_ok-add_all-2.ensures.added
+    c.rules.ensures c.constant.ensures.grows.sound c.constant.ensures.grows c.add_all.ensures.grows c.in_ok-always.ensures.is_test c.requires.first c.requires.second c.in_ok-always.ensures.value begun c.in_ok-add_all-2.ensures.added
 
 pub returns-in_err-add_all-clause-grows : goal.returns-in_err-add_all-clause-grows
 returns-in_err-add_all-clause-grows c = grows_trans c.args.tables.now c.constant.new.self c.add_all.new.tables c.constant.ensures.grows c.add_all.ensures.grows

@@ -15,7 +15,7 @@ loop-node-preserved c =
     let cert = c.args.cert.now in
     let low : c.loop-node.node-index < length cert.test_nodes = omega (arith, ap length items.ensures.value) in
     record {
-      tables = c.test.ensures.tables;
+      tables = c.test.ensures.grows.sound;
       nodes = test_next c.args.width cert items.ensures.rules _ _ _ _ _ c.loop-node.invariant.nodes low (item_at cert.test_nodes items.result.now c.loop-node.node-index _ items.ensures.value low) c.test.ensures.added c.in_ok-test.ensures.node;
     }
 
@@ -32,6 +32,6 @@ loop-node-2-preserved c =
     let cert = c.args.cert.now in
     let low : c.loop-node-2.node-index < length cert.term_nodes = omega (arith, ap length items.ensures.value) in
     record {
-      tables = c.term.ensures.tables;
+      tables = c.term.ensures.grows.sound;
       nodes = term_next c.args.width cert items.ensures.rules _ _ _ _ _ c.loop-node-2.invariant.nodes low (item_at cert.term_nodes items.result.now c.loop-node-2.node-index _ items.ensures.value low) c.term.ensures.added c.in_ok-term.ensures.node;
     }

@@ -11,9 +11,6 @@ invariant_of-self c =
     let insert = c.insert_full in
     term_added _ (λ x. search rules) insert.result _ _ c.args.node c.self.invariant may insert.ensures.unique insert.ensures.keys insert.ensures.err
 
-pub returns-clause-tables : goal.returns-clause-tables
-returns-clause-tables c = invariant_of-self c
-
 pub returns-clause-grows : goal.returns-clause-grows
 returns-clause-grows c = AddsTerm-tables _ _ c.args.node (subst AreTables c.self.view_is c.self.invariant) (invariant_of-self c) (grind (arith, common_steps))
 

@@ -1,0 +1,154 @@
+-- The hypotheses and the closed sides of a problem are in its range, and keep their numbers where tables grow.
+use Rattle.std.proofs.Common.{◌≡◌, ⊎_elim, append_assoc, ℕ, ◌<◌, ◌≤◌, zero as nought, suc, inl, List, [], ◌∷◌, ◌++◌, map, length, drop, drop-cons, get_or, refl, sym, ap, ◌∙◌, subst, arith, true, false, cond, nat_lt, Option, Some, None}
+use mathlib.Core.Path.{ap₂}
+use Rattle.std.specs.List.{filter}
+use Rattle.std.specs.Option.{option_map}
+use Rattle.std.proofs.lemmas.Bool.{and_parts}
+use Rattle.kat_model.specs.declared.tree.Kat.{Kat}
+use Rattle.kat_model.specs.Trees.{Term, zero, act, sum, kat_tree}
+use Rattle.kat_model.specs.Members.{Has}
+use Rattle.kat_model.specs.Problems.{ProblemParts, IsInRange, AreInRange, HasTestsBelow, IsProblem}
+use Rattle.kat_model.specs.Balanced.{sum_of}
+use Rattle.kat_model.specs.Degrees.{is_short, long_hyps, with_hyps}
+use Rattle.kat_model.specs.Closed.{actions_below, universal_of, inside, closed_under, closed}
+use Rattle.kat_model.proofs.BalancedTrees.{balanced_holds}
+use Rattle.kat_model.proofs.Ranges.{IsInRange-HasTestsBelow, AreInRange-append, AreInRange-append_left, AreInRange-append_right}
+use Rattle.term_nodes.specs.NumberSets.{are_below, terms_of}
+use Rattle.term_nodes.proofs.Prefixes.{IsPrefix-within}
+use Rattle.term_nodes.proofs.Parts.{below_has, has_below, below_more}
+use Rattle.certificate.specs.declared.nodes.Style.{Style}
+use Rattle.certificate.specs.declared.nodes.Style.TheVariants.{Plain, UpTo, Under}
+use Rattle.cert_checker.specs.Working.NodeTables.{TableParts, AreTables, TablesGrow, IsTerm, term_at, nodes_in}
+use Rattle.cert_checker.specs.declared.roots.Roots.{Roots}
+use Rattle.cert_checker.specs.Working.Roots.{AreClosedBelow, AreRoots, compared}
+use Rattle.cert_checker.proofs.LongProblems.{long_is_problem}
+use Rattle.cert_checker.proofs.StepLists.{grows_longer}
+
+-- ---- ranges
+
+module _ (t a : ℕ) where
+  sum_of_in_range : (es : List Term) → AreInRange t a es → IsInRange t a (sum_of es)
+  sum_of_in_range es =
+      balanced_holds zero sum (λ xs x. AreInRange t a xs → IsInRange t a x) (λ h. tt) (λ x h. h.0)
+      (λ xs ys x y f g h. (f (AreInRange-append_left t a xs ys h), g (AreInRange-append_right t a xs ys h)))
+      es
+
+  actions_in_range : (n : ℕ) → n ≤ a → AreInRange t a (actions_below n)
+  actions_in_range nought l = tt
+  actions_in_range (suc n) l = AreInRange-append t a (actions_below n) (act n ∷ []) (actions_in_range n (omega arith)) (omega arith, tt)
+
+  universal_in_range : IsInRange t a (universal_of a)
+  universal_in_range = sum_of_in_range (actions_below a) (actions_in_range a (omega arith))
+
+  closed_below : (hyps : List Term) (left right : Term) → AreInRange t a hyps → IsInRange t a left → IsInRange t a right → AreClosedBelow t (closed_under a hyps left right)
+  closed_below [] left right h l r = record {
+    left = IsInRange-HasTestsBelow t a left l;
+    right = IsInRange-HasTestsBelow t a right r;
+    universal = λ u e. absurd cc;
+  }
+  closed_below (e ∷ es) left right h l r = record {
+    left = IsInRange-HasTestsBelow t a (sum left (inside (universal_of a) (sum_of (e ∷ es)))) (l, around);
+    right = IsInRange-HasTestsBelow t a (sum right (inside (universal_of a) (sum_of (e ∷ es)))) (r, around);
+    universal = λ u s. let same : universal_of a ≡ u = cc in subst (HasTestsBelow t) same (IsInRange-HasTestsBelow t a (universal_of a) universal_in_range);
+  }
+    where
+      around : IsInRange t a (inside (universal_of a) (sum_of (e ∷ es)))
+      around = (universal_in_range, (sum_of_in_range (e ∷ es) h, universal_in_range))
+
+problem_below : (q : ProblemParts) → IsProblem q → AreClosedBelow q.tests (closed q)
+problem_below q p = closed_below q.tests q.actions q.hyps q.left q.right p.hyps p.left p.right
+
+pub compared_below : (s : Style) (q : ProblemParts) → IsProblem q → AreClosedBelow q.tests (compared s q)
+compared_below Plain q p = problem_below q p
+compared_below UpTo q p = problem_below q p
+compared_below Under q p = problem_below (with_hyps q (long_hyps q)) (long_is_problem q p)
+
+pub hyp_below : (q : ProblemParts) → IsProblem q → (hyps : List Kat) → map kat_tree hyps ≡ q.hyps → (i : ℕ) (x : Kat) → i < length hyps → x ≡ get_or hyps i x → HasTestsBelow q.tests (kat_tree x)
+hyp_below q p hyps same i x low at = IsInRange-HasTestsBelow q.tests q.actions (kat_tree x) (go hyps i (subst (AreInRange q.tests q.actions) (sym same) p.hyps) low at)
+  where
+    go : (hs : List Kat) (i : ℕ) → AreInRange q.tests q.actions (map kat_tree hs) → i < length hs → x ≡ get_or hs i x → IsInRange q.tests q.actions (kat_tree x)
+    go [] i h low at = absurd (omega (arith, low))
+    go (k ∷ hs) nought h low at = subst (λ z. IsInRange q.tests q.actions (kat_tree z)) (sym at) h.0
+    go (k ∷ hs) (suc i) h low at = go hs i h.1 (omega (arith, low)) at
+
+-- ---- numbers where tables grow
+
+module _ (t new : TableParts) (grows : TablesGrow t new) where
+  pub terms_stay : (ks : List ℕ) → are_below (length t.terms) ks ≡ true → terms_of (nodes_in new) ks ≡ terms_of (nodes_in t) ks
+  terms_stay [] low = refl
+  terms_stay (k ∷ ks) low =
+      ap₂ (λ (x : Term) (xs : List Term). x ∷ xs) (grows.nodes.trees k (below_has (length t.terms) (k ∷ ks) low k (inl refl)))
+      (terms_stay ks (and_parts (nat_lt k (length t.terms)) (are_below (length t.terms) ks) low).1)
+
+  pub numbers_stay : (ks : List ℕ) → are_below (length t.terms) ks ≡ true → are_below (length new.terms) ks ≡ true
+  numbers_stay ks low = below_more (length t.terms) (length new.terms) ks (grows_longer t new grows) low
+
+terms_push : (t : TableParts) (ks : List ℕ) (k : ℕ) → terms_of (nodes_in t) (ks ++ k ∷ []) ≡ terms_of (nodes_in t) ks ++ term_at t k ∷ []
+terms_push t [] k = refl
+terms_push t (j ∷ ks) k = ap (λ l. term_at t j ∷ l) (terms_push t ks k)
+
+below_push : (n : ℕ) (ks : List ℕ) (k : ℕ) → are_below n ks ≡ true → k < n → are_below n (ks ++ k ∷ []) ≡ true
+below_push n ks k low h = has_below n (ks ++ k ∷ []) (λ j m. go ks low j m)
+  where
+    go : (ks : List ℕ) → are_below n ks ≡ true → (j : ℕ) → Has (ks ++ k ∷ []) j → j < n
+    go [] low j m = ⊎_elim (λ s. subst (λ z. z < n) s h) absurd m
+    go (l ∷ ks) low j m = ⊎_elim (λ s. below_has n (l ∷ ks) low j (inl s)) (λ r. go ks (and_parts (nat_lt l n) (are_below n ks) low).1 j r) m
+
+-- the short ones so far, and those among the rest
+pub record AreShorts (first now : TableParts) (numbers : List ℕ) (rest all : List Term) : Type 0 where
+  pub tables : AreTables now
+  pub grows : TablesGrow first now
+  pub there : are_below (length now.terms) numbers ≡ true
+  pub terms : terms_of (nodes_in now) numbers ++ filter is_short rest ≡ filter is_short all
+
+pub shorts_more : (first now new : TableParts) (numbers : List ℕ) (hyps : List Kat) (i k : ℕ) (x : Kat) (all : List Term) → AreShorts first now numbers (map kat_tree (drop i hyps)) all → i < length hyps → x ≡ get_or hyps i x → is_short (kat_tree x) ≡ true
+    → TablesGrow first new → TablesGrow now new → AreTables new → IsTerm new k → term_at new k ≡ kat_tree x → AreShorts first new (numbers ++ k ∷ []) (map kat_tree (drop (suc i) hyps)) all
+shorts_more first now new numbers hyps i k x all s low at short grows more are there tree = record {
+  tables = are;
+  grows = grows;
+  there = below_push (length new.terms) numbers k (numbers_stay now new more numbers s.there) there;
+  terms =
+      ap (λ l. l ++ filter is_short (map kat_tree (drop (suc i) hyps))) (terms_push new numbers k ∙ ap₂ (λ (l : List Term) (e : Term). l ++ e ∷ []) (terms_stay now new more numbers s.there) tree)
+      ∙ append_assoc (terms_of (nodes_in now) numbers) (kat_tree x ∷ []) (filter is_short (map kat_tree (drop (suc i) hyps)))
+      ∙ ap (λ l. terms_of (nodes_in now) numbers ++ l) (sym next)
+      ∙ s.terms;
+}
+  where
+    next : filter is_short (map kat_tree (drop i hyps)) ≡ kat_tree x ∷ filter is_short (map kat_tree (drop (suc i) hyps))
+    next = ap (λ l. filter is_short (map kat_tree l)) (drop-cons hyps i x low) ∙ ap (λ y. filter is_short (kat_tree y ∷ map kat_tree (drop (suc i) hyps))) (sym at) ∙ ap (λ b. cond b (kat_tree x ∷ filter is_short (map kat_tree (drop (suc i) hyps))) (filter is_short (map kat_tree (drop (suc i) hyps)))) short
+
+pub shorts_same : (first now : TableParts) (numbers : List ℕ) (hyps : List Kat) (i : ℕ) (x : Kat) (all : List Term) → AreShorts first now numbers (map kat_tree (drop i hyps)) all → i < length hyps → x ≡ get_or hyps i x → is_short (kat_tree x) ≡ false → AreShorts first now numbers (map kat_tree (drop (suc i) hyps)) all
+shorts_same first now numbers hyps i x all s low at short = record {
+  tables = s.tables;
+  grows = s.grows;
+  there = s.there;
+  terms = ap (λ l. terms_of (nodes_in now) numbers ++ l) (sym next) ∙ s.terms;
+}
+  where
+    next : filter is_short (map kat_tree (drop i hyps)) ≡ filter is_short (map kat_tree (drop (suc i) hyps))
+    next = ap (λ l. filter is_short (map kat_tree l)) (drop-cons hyps i x low) ∙ ap (λ y. filter is_short (kat_tree y ∷ map kat_tree (drop (suc i) hyps))) (sym at) ∙ ap (λ b. cond b (kat_tree x ∷ filter is_short (map kat_tree (drop (suc i) hyps))) (filter is_short (map kat_tree (drop (suc i) hyps)))) short
+
+-- the number of a term stays that
+pub term_stays : (t new : TableParts) → TablesGrow t new → (k : ℕ) (e : Term) → IsTerm t k → term_at t k ≡ e → IsTerm new k × (term_at new k ≡ e)
+term_stays t new grows k e low same = (IsPrefix-within t.terms new.terms k grows.nodes.terms low, grows.nodes.trees k low ∙ same)
+
+pub universal_stays : (t new : TableParts) → TablesGrow t new → (o : Option ℕ) (e : Option Term) → ((u : ℕ) → o ≡ Some u → IsTerm t u) → option_map (term_at t) o ≡ e → ((u : ℕ) → o ≡ Some u → IsTerm new u) × (option_map (term_at new) o ≡ e)
+universal_stays t new grows None e low same = ((λ u s. absurd cc), same)
+universal_stays t new grows (Some k) e low same = ((λ u s. IsPrefix-within t.terms new.terms u grows.nodes.terms (low u s)), ap (λ (x : Term). Some x) (grows.nodes.trees k (low k refl)) ∙ same)
+
+-- the numbers of a problem's terms stay those
+pub roots_stay : (s : Style) (q : ProblemParts) (t new : TableParts) (r : Roots) → TablesGrow t new → AreRoots s q t r → AreRoots s q new r
+roots_stay s q t new r grows a =
+    let left = term_stays t new grows r.left _ a.left_there a.left in
+    let right = term_stays t new grows r.right _ a.right_there a.right in
+    let universal = universal_stays t new grows r.universal _ a.universal_there a.universal in
+    record {
+      left = left.1;
+      left_there = left.0;
+      right = right.1;
+      right_there = right.0;
+      universal = universal.1;
+      universal_there = universal.0;
+      shorts = terms_stay t new grows r.shorts.items a.shorts_there ∙ a.shorts;
+      shorts_there = numbers_stay t new grows r.shorts.items a.shorts_there;
+    }

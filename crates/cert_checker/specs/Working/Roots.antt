@@ -1,0 +1,46 @@
+-- The terms of a problem on which the pairs rest, by their numbers.
+use Rattle.std.specs.Prelude.{◌≡◌, ℕ, min, IsTrue, List, [], length, Option, Some, None}
+use Rattle.std.specs.Option.{option_map}
+use Rattle.kat_model.specs.Trees.{Term}
+use Rattle.kat_model.specs.Problems.{ProblemParts, HasTestsBelow}
+use Rattle.kat_model.specs.Closed.{Closed, closed}
+use Rattle.kat_model.specs.Degrees.{short_hyps, closed_long}
+use Rattle.term_nodes.specs.NumberSets.{are_below, terms_of}
+use Rattle.certificate.specs.declared.nodes.Style.{Style}
+use Rattle.certificate.specs.declared.nodes.Style.TheVariants.{Plain, UpTo, Under}
+use Rattle.cert_checker.specs.declared.roots.Roots.{Roots}
+use Rattle.cert_checker.specs.Working.NodeTables.{TableParts, IsTerm, term_at, nodes_in}
+
+-- a degree, where 2 stands for any that is higher and for none
+abbrev pub capped : Option ℕ → ℕ
+capped None = 2
+capped (Some n) = min n 2
+
+-- the closed sides that a style compares: in the style of tests those of the long hypotheses
+abbrev pub compared : Style → ProblemParts → Closed
+compared Plain q = closed q
+compared UpTo q = closed q
+compared Under q = closed_long q
+
+-- the hypotheses that count as short in a style: in that of tests all that are so
+abbrev pub counted_short : Style → ProblemParts → List Term
+counted_short Plain q = []
+counted_short UpTo q = []
+counted_short Under q = short_hyps q
+
+-- the primitive tests of closed sides, and of their universal term, are below n
+pub record AreClosedBelow (n : ℕ) (c : Closed) : Type 0 where
+  pub left : HasTestsBelow n c.left
+  pub right : HasTestsBelow n c.right
+  pub universal : (u : Term) → c.universal ≡ Some u → HasTestsBelow n u
+
+-- the numbers are those of the closed sides, of the universal term where there is one, and of the short hypotheses
+pub record AreRoots (s : Style) (q : ProblemParts) (t : TableParts) (r : Roots) : Type 0 where
+  pub left : term_at t r.left ≡ (compared s q).left
+  pub left_there : IsTerm t r.left
+  pub right : term_at t r.right ≡ (compared s q).right
+  pub right_there : IsTerm t r.right
+  pub universal : option_map (term_at t) r.universal ≡ (compared s q).universal
+  pub universal_there : (u : ℕ) → r.universal ≡ Some u → IsTerm t u
+  pub shorts : terms_of (nodes_in t) r.shorts.items ≡ counted_short s q
+  pub shorts_there : IsTrue (are_below (length t.terms) r.shorts.items)

@@ -1,0 +1,32 @@
+use Rattle.std.proofs.Common.{[], ◌∷◌, map, ap, subst}
+use Rattle.std.specs.Option.{option_map}
+use Rattle.certificate.specs.declared.entry.Entry.TheVariants.{PairLine}
+use Rattle.certificate.specs.Forms.{value_of, numbers_of}
+use Rattle.certificate.specs.Working.Readings.{texts, ReadsNumbers}
+use Rattle.certificate.proofs.PairForms.{no_first, no_second, no_third, of_three}
+use Rattle.certificate.proofs.entry.pair_of_three.Goals as goal
+
+pub returns-in_default : goal.returns-in_default
+returns-in_default c =
+    let test = subst (ReadsNumbers (texts c.args.test.now)) c.in_default.is c.in_ok-test.ensures in
+    ap (option_map PairLine) (no_third (numbers_of (texts c.args.left.now)) (numbers_of (texts c.args.right.now)) (texts c.args.test.now) [] test)
+
+pub returns-in_default-2 : goal.returns-in_default-2
+returns-in_default-2 c =
+    let left = subst (ReadsNumbers (texts c.args.left.now)) c.in_default-2.is c.in_ok-left.ensures in
+    ap (option_map PairLine) (no_first (texts c.args.left.now) (numbers_of (texts c.args.right.now) ∷ numbers_of (texts c.args.test.now) ∷ []) left)
+
+pub returns-in_default-3 : goal.returns-in_default-3
+returns-in_default-3 c =
+    let right = subst (ReadsNumbers (texts c.args.right.now)) c.in_default-3.is c.in_ok-right.ensures in
+    ap (option_map PairLine) (no_second (numbers_of (texts c.args.left.now)) (texts c.args.right.now) (numbers_of (texts c.args.test.now) ∷ []) right)
+
+pub returns : goal.returns
+returns c =
+    let ws = texts c.args.left.now in
+    let vs = texts c.args.right.now in
+    let us = texts c.args.test.now in
+    let test = subst (ReadsNumbers us) c.in-Some.is c.in_ok-test.ensures in
+    let left = subst (ReadsNumbers ws) c.in-Some-2.is c.in_ok-left.ensures in
+    let right = subst (ReadsNumbers vs) c.in-Some-3.is c.in_ok-right.ensures in
+    of_three ws vs us c.tested_pair.result left.0 right.0 test.0 (c.tested_pair.ensures (map value_of ws) (map value_of vs) (map value_of us) left.1 right.1 test.1)
