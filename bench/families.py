@@ -90,6 +90,53 @@ def differ(n):
     return f"action p;\ngoal equal {' + '.join(powers)}, p*;\n"
 
 
+def frames_before(n):
+    """n tests that two actions leave alone, as hypotheses on single moves, and a test of a loop."""
+    text = declared("test", [*names("b", n), "c"]) + "action p, q;\n"
+    return text + "".join(f"hyp b{i}.{a}.!b{i} = 0;\nhyp !b{i}.{a}.b{i} = 0;\n" for a in "pq" for i in range(n))
+
+
+def unswitched_frames(n, first):
+    """A loop over n tests that its actions leave alone, and the same with the first test taken out of the loop."""
+    later = [f"(b{i}.p + !b{i}.q)" for i in range(1, n)]
+    left = ".".join(["c", "(b0.p + !b0.q)", *later])
+    loops = [".".join(["c", action, *later]) for action in (first, "q")]
+    return frames_before(n) + f"goal equal ({left})*.!c, b0.({loops[0]})*.!c + !b0.({loops[1]})*.!c;\n"
+
+
+def frames(n):
+    """A loop over n tests that its two actions leave alone, with the first test taken out of the loop."""
+    return unswitched_frames(n, "p")
+
+
+def frameless(n):
+    """The same with the second action in the place of the first, which is wrong."""
+    return unswitched_frames(n, "q")
+
+
+def asked(n):
+    """n tests that an action leaves alone, asked in front of a loop of it and again behind it, the first one more."""
+    t = names("b", n)
+    text = declared("test", [*t, "c"]) + "action p, q;\n"
+    text += "".join(f"hyp {one}.q.{other} = 0;\n" for it in t for one, other in ((it, f"!{it}"), (f"!{it}", it)))
+    branches = ".".join(f"({it}.p + !{it})" for it in t)
+    return text + f"goal equal {branches}.(c.q)*.!c.{branches}, {branches}.(c.q)*.!c.({t[0]} + !{t[0]}).{branches};\n"
+
+
+def literal(pick, tests_of):
+    return f"{pick.choice(['', '!'])}{pick.choice(tests_of)}"
+
+
+def moves(n):
+    """n random hypotheses on single moves over 48 tests and 48 actions, and a loop of twelve actions unrolled once."""
+    pick, t, p = random.Random(1), names("t", 48), names("p", 48)
+    text = declared("test", t) + declared("action", p)
+    for _ in range(n):
+        text += f"hyp {literal(pick, t)}.{literal(pick, t)}.{pick.choice(p)}.{literal(pick, t)} = 0;\n"
+    body = ".".join(f"({literal(pick, t)}.{pick.choice(p)} + {literal(pick, t)}.{pick.choice(p)})" for _ in range(6))
+    return text + f"goal equal ({body})*, 1 + {body}.({body})*;\n"
+
+
 # Programs
 
 def unrolled_goal(before, guard, body):
@@ -153,6 +200,10 @@ FAMILIES = {
     "broken": (broken, 47),
     "ring": (ring, 47),
     "differ": (differ, 256),
+    "frames": (frames, 5),
+    "frameless": (frameless, 5),
+    "asked": (asked, 4),
+    "moves": (moves, 10),
     "unswitched": (unswitched, 1),
     "untouched": (untouched, 5),
     "line": (line, 40),

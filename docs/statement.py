@@ -37,9 +37,12 @@ class Part:
 
 PARTS = [
     Part("What `decide` answers", "The bytes are those of the plainest text of a question, so no grammar is needed to "
-         "read this part. What evidence is accepted, and how its text looks, is the next part: the meaning of the "
-         "statuses does not need it.",
+         "read this part. What evidence is accepted, and how its text looks, is part 3: the meaning of the statuses does "
+         "not need it.",
          clauses=[("kat_tool/src/text.rt", "decided_text", ["plain"])], later=("IsAccepted", "text_of")),
+    Part("What `decide` answers of programs", "The bytes are those of the plainest text of two programs, or of a triple of "
+         "one, so no grammar is needed here either.",
+         clauses=[("kat_tool/src/text.rt", "decided_text", ["programs", "triples"])]),
     Part("Evidence", "The text of evidence, and the certificates that are accepted.",
          names=[("certificate", "Accepted", "IsAccepted"), ("certificate", "Texts", "text_of")]),
     Part("Every text", "What any text asks, by the grammar of problem files, and what `check` answers.",
@@ -102,7 +105,9 @@ class Specs:
         self.imported[module] = imports(text)
         now, comment = None, []
         for number, line in enumerate(text.split("\n"), 1):
-            if line.startswith("--"):
+            if line.startswith("-- ----"):
+                comment, now = [], None
+            elif line.startswith("--"):
                 comment, now = [*comment, line], None
             elif line.startswith(("use ", "pub mod ", "mod ")):
                 comment, now = [], None

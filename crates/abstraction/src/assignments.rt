@@ -69,6 +69,10 @@ fn add_prog(
     ensures { OnOk result (rows.new.items ≡ with_all_new_within most is_same_assignment rows.old.items (prog_assignments (modulus width) prog.now)) }
 {
     for stmt in &prog.list {
+        // A table past its limit takes no more rows.
+        if rows.len() > most {
+            return Ok(());
+        }
         add_stmt(alloc, width, most, stmt, rows)?;
     }
     Ok(())

@@ -8,15 +8,16 @@ use Rattle.term_nodes.specs.declared.TestNode.{TestNode}
 use Rattle.term_nodes.specs.declared.TestNode.TheVariants.{False, True, Prim, Not, And, Or}
 use Rattle.term_nodes.specs.declared.TermNode.{TermNode}
 use Rattle.term_nodes.specs.declared.TermNode.TheVariants.{Zero, One, Test, Act, Sum, Seq, Star}
-use Rattle.certificate.specs.declared.words.Numbers.{Numbers}
+use Rattle.line_texts.specs.Numerals.{is_numeral, value_of, numbers_of, too_wide}
+use Rattle.line_texts.specs.Readings.{HasNumbers}
+use Rattle.line_texts.specs.declared.numerals.Numbers.{Numbers}
 use Rattle.certificate.specs.declared.entry.Entry.{Entry}
 use Rattle.certificate.specs.declared.entry.Entry.TheVariants.{TestLine, TermLine}
 use Rattle.certificate.specs.declared.entry.Section.{Section}
 use Rattle.certificate.specs.declared.entry.Section.TheVariants.{Tests, Terms}
 use Rattle.certificate.specs.Texts.{test_name, test_numbers, term_name, term_numbers, entry_numbers}
-use Rattle.certificate.specs.Forms.{is_numeral, value_of, numbers_of, test_node_of, term_node_of}
-use Rattle.certificate.specs.Faults.{too_wide, is_wide, section_of}
-use Rattle.certificate.specs.Working.Readings.{HasNumbers}
+use Rattle.certificate.specs.Forms.{test_node_of, term_node_of}
+use Rattle.certificate.specs.Faults.{is_wide, section_of}
 
 two_forms : {N : Type 0} (b c : Bool) (x y n : N) → cond b (Some x) (cond c (Some y) None) ≡ Some n → ((b ≡ true) × (x ≡ n)) ⊎ ((c ≡ true) × (y ≡ n))
 two_forms true c x y n e = inl (refl, cc)

@@ -1,6 +1,3 @@
-pub mod Splits
-pub mod Numerals
-pub mod ReadNumbers
 pub mod EntryForms
 pub mod PairForms
 pub mod KnownNodes
@@ -20,3 +17,4 @@ pub mod FirstFaults
 pub mod OneSpelling
 pub mod EvidenceExamples
 pub mod Written
+pub mod PlainBytes

@@ -5,17 +5,14 @@ use Rattle.std.specs.Fmt.{decimal}
 use Rattle.std.proofs.lemmas.Grind.{flat_map-append}
 use Rattle.kat_model.specs.Steps.{Atom}
 use Rattle.kat_model.specs.Strings.{Move, GuardedString}
+use Rattle.line_texts.specs.Lines.{line_of, text_of_lines, with_feed, after_blanks}
+use Rattle.line_texts.proofs.LineForms.{line_of-cons, flat_map-map}
 use Rattle.certificate.specs.declared.entry.Entry.TheVariants.{PairLine}
 use Rattle.certificate.specs.declared.evidence.Evidence.{Evidence}
 use Rattle.certificate.specs.declared.evidence.Evidence.TheVariants.{Equal, Different}
 use Rattle.certificate.specs.PairParts.{PairParts}
-use Rattle.certificate.specs.Texts.{last_words, entry_words, atom_words, move_words, line_of, heading, string_heading, entries_of, text_of_lines, text_of}
-use Rattle.certificate.specs.Working.Writings.{with_feed, after_blanks, entry_lines, move_lines, string_lines, body_of}
-
--- a line is its first word and the others after blanks
-pub line_of-cons : (w : List ℕ) (ws : List (List ℕ)) → line_of (w ∷ ws) ≡ w ++ after_blanks ws
-line_of-cons w [] = sym (append-nil w)
-line_of-cons w (v ∷ ws) = ap (λ l. w ++ 32 ∷ l) (line_of-cons v ws)
+use Rattle.certificate.specs.Texts.{last_words, entry_words, atom_words, move_words, heading, string_heading, entries_of, text_of}
+use Rattle.certificate.specs.Working.Writings.{entry_lines, move_lines, string_lines, body_of}
 
 -- the line of a pair
 pub pair_line : (p : PairParts) → line_of (entry_words (PairLine p)) ≡ codes "P" ++ (after_blanks (map decimal p.left) ++ (codes " |" ++ (after_blanks (map decimal p.right) ++ after_blanks (last_words p.test))))
@@ -24,10 +21,6 @@ pair_line p =
     line_of-cons (codes "P") (map decimal p.left ++ codes "|" ∷ rights)
     ∙ ap (λ l. codes "P" ++ l) (flat_map-append (λ w. 32 ∷ w) (map decimal p.left) (codes "|" ∷ rights))
     ∙ ap (λ l. codes "P" ++ (after_blanks (map decimal p.left) ++ (codes " |" ++ l))) (flat_map-append (λ w. 32 ∷ w) (map decimal p.right) (last_words p.test))
-
-flat_map-map : {X Y Z : Type 0} (f : X → Y) (g : Y → List Z) (xs : List X) → flat_map g (map f xs) ≡ flat_map (λ x. g (f x)) xs
-flat_map-map f g [] = refl
-flat_map-map f g (x ∷ xs) = ap (λ l. g (f x) ++ l) (flat_map-map f g xs)
 
 -- all lines and the last
 pub text_of-body : (e : Evidence) → text_of e ≡ body_of e ++ with_feed (codes "end")

@@ -11,6 +11,10 @@ use Rattle.kat_model.proofs.Lists.{has_append}
 use Rattle.kat_model.specs.Strings.{Move, GuardedString}
 use Rattle.term_nodes.specs.declared.TestNode.{TestNode}
 use Rattle.term_nodes.specs.declared.TermNode.{TermNode}
+use Rattle.line_texts.proofs.TextParts.{with_last, text_back}
+use Rattle.line_texts.proofs.Words.{are_narrow}
+use Rattle.line_texts.specs.Lines.{line_of, parts_of}
+use Rattle.line_texts.specs.Numerals.{too_wide}
 use Rattle.certificate.specs.declared.nodes.Style.{Style}
 use Rattle.certificate.specs.declared.nodes.Style.TheVariants.{Plain, UpTo, Under}
 use Rattle.certificate.specs.declared.entry.Entry.{Entry}
@@ -20,14 +24,13 @@ use Rattle.certificate.specs.declared.evidence.Evidence.TheVariants.{Equal, Diff
 use Rattle.certificate.specs.declared.evidence.EvidenceFault.{EvidenceFault}
 use Rattle.certificate.specs.declared.evidence.EvidenceFault.TheVariants.{Header, NumberTooWide}
 use Rattle.certificate.specs.Certs.{CertParts, IsCert}
-use Rattle.certificate.specs.Texts.{atom_words, line_of, heading, string_heading, entries_of, lines_of, text_of, IsNarrow, IsEvidence}
+use Rattle.certificate.specs.Texts.{atom_words, heading, string_heading, entries_of, lines_of, text_of, IsNarrow, IsEvidence}
 use Rattle.certificate.specs.Forms.{entry_of, move_of, first_of}
-use Rattle.certificate.specs.Faults.{section_of, may_stand, entry_fault, with_entry, ended, after_line, cert_from, with_move, after_move, moves_from, after_first, string_from, no_entries, all_from, parts_of, answer_of, too_wide}
+use Rattle.certificate.specs.Faults.{section_of, may_stand, entry_fault, with_entry, ended, after_line, cert_from, with_move, after_move, moves_from, after_first, string_from, no_entries, all_from, answer_of}
 use Rattle.certificate.proofs.EntryForms.{named}
 use Rattle.certificate.proofs.Growth.{Passes, faultless_passes, cert_grown}
-use Rattle.certificate.proofs.Spellings.{are_narrow, entry_told}
+use Rattle.certificate.proofs.Spellings.{entry_told}
 use Rattle.certificate.proofs.StringSpellings.{first_told, move_told}
-use Rattle.certificate.proofs.TextParts.{with_last, text_back}
 use Rattle.certificate.proofs.Completeness.{entry_line, move_line, ending}
 
 -- the text ends after the line `end`

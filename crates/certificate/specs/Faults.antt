@@ -6,6 +6,8 @@ use Rattle.std.specs.Result.{result_err}
 use Rattle.std.specs.Str.{bytes_eq}
 use Rattle.kat_model.specs.Steps.{Atom}
 use Rattle.kat_model.specs.Strings.{Move, GuardedString}
+use Rattle.line_texts.specs.Lines.{parts_of}
+use Rattle.line_texts.specs.Numerals.{too_wide}
 use Rattle.certificate.specs.declared.nodes.Style.{Style}
 use Rattle.certificate.specs.declared.nodes.Style.TheVariants.{Plain, UpTo, Under}
 use Rattle.certificate.specs.declared.entry.Entry.{Entry}
@@ -21,10 +23,6 @@ use Rattle.term_nodes.specs.NumberSets.{are_below, are_ascending}
 use Rattle.certificate.specs.Certs.{CertParts}
 use Rattle.certificate.specs.Texts.{maybe_one, entry_numbers, heading, string_heading}
 use Rattle.certificate.specs.Forms.{entry_of, first_of, move_of}
-
--- a number of 2^64 or more
-abbrev pub too_wide : ℕ → Bool
-too_wide k = nat_le (2 ^ 64) k
 
 abbrev pub is_wide : Entry → Bool
 is_wide e = list_any too_wide (entry_numbers e)
@@ -168,10 +166,6 @@ all_from (line ∷ parts) =
     else (if bytes_eq line (heading UpTo) then cert_from (no_entries UpTo) 2 parts
     else (if bytes_eq line (heading Under) then cert_from (no_entries Under) 2 parts
     else (if bytes_eq line string_heading then string_from parts else Err Header))))
-
--- the parts of a text between its line feeds
-abbrev pub parts_of : List ℕ → List (List ℕ)
-parts_of bytes = slice_split (λ b. b == 10) bytes
 
 -- what a text says
 abbrev pub answer_of : List ℕ → Answer

@@ -10,28 +10,11 @@ use Rattle.term_nodes.specs.declared.TestNode.{TestNode}
 use Rattle.term_nodes.specs.declared.TestNode.TheVariants.{False, True, Prim, Not, And, Or}
 use Rattle.term_nodes.specs.declared.TermNode.{TermNode}
 use Rattle.term_nodes.specs.declared.TermNode.TheVariants.{Zero, One, Test, Act, Sum, Seq, Star}
+use Rattle.line_texts.specs.Lines.{words_of}
+use Rattle.line_texts.specs.Numerals.{is_numeral, value_of, numbers_of}
 use Rattle.certificate.specs.declared.entry.Entry.{Entry}
 use Rattle.certificate.specs.declared.entry.Entry.TheVariants.{TestLine, TermLine, PairLine}
 use Rattle.certificate.specs.PairParts.{PairParts}
-
--- the words of a line, which single blanks separate
-abbrev pub words_of : List ℕ → List (List ℕ)
-words_of line = slice_split (λ b. b == 32) line
-
--- `0`, or a digit other than 0 followed by digits
-abbrev pub is_numeral : List ℕ → Bool
-is_numeral w = nat_lt 0 (length w) && ((not (slice_index w 0 == 48) || (length w == 1)) && list_all is_ascii_digit w)
-
-abbrev pub value_from : ℕ → List ℕ → ℕ
-value_from n [] = n
-value_from n (c ∷ cs) = value_from (10 * n + (c - 48)) cs
-
-abbrev pub value_of : List ℕ → ℕ
-value_of w = value_from 0 w
-
--- the numbers that words spell, where each is a numeral
-abbrev pub numbers_of : List (List ℕ) → Option (List ℕ)
-numbers_of ws = if list_all is_numeral ws then Some (map value_of ws) else None
 
 -- the node of a name and of the numbers after it
 abbrev pub test_node_of : List ℕ → List ℕ → Option (TestNode ℕ)

@@ -1,6 +1,7 @@
 -- The laws of certificates and of the text of evidence. Each stands on a function of the crate that does nothing.
-use Rattle.std.specs.Prelude.{◌≡◌, ◌≢◌, ◌↔◌, ◌+◌, ◌^◌, ◌<◌, ℕ, true, false, ◌==◌, List, ◌∷◌, ◌++◌, length, slice_get, codes, Some, None}
-use Rattle.std.specs.List.{list_any}
+use Rattle.std.specs.Prelude.{◌≡◌, ◌≢◌, ◌↔◌, ◌+◌, ◌^◌, ◌<◌, ℕ, true, false, ◌==◌, List, ◌∷◌, ◌++◌, length, slice_get, codes, Some, None, ◌||◌, Bool}
+use Rattle.std.specs.List.{list_any, list_all}
+use Rattle.std.specs.Char.{is_ascii_alphanumeric}
 use Rattle.kat_model.specs.Steps.{Atom}
 use Rattle.kat_model.specs.Strings.{Move, GuardedString}
 use Rattle.kat_model.specs.Problems.{ProblemParts}
@@ -8,6 +9,8 @@ use Rattle.kat_model.specs.Relations.{Same}
 use Rattle.string_tables.specs.Tables.{ExactlyOne}
 use Rattle.term_nodes.specs.declared.TestNode.{TestNode}
 use Rattle.term_nodes.specs.declared.TermNode.{TermNode}
+use Rattle.line_texts.specs.Lines.{line_of, text_of_lines}
+use Rattle.line_texts.specs.Numerals.{too_wide}
 use Rattle.certificate.specs.declared.entry.Entry.{Entry}
 use Rattle.certificate.specs.declared.evidence.Evidence.{Evidence}
 use Rattle.certificate.specs.declared.evidence.EvidenceFault.{EvidenceFault}
@@ -15,11 +18,11 @@ use Rattle.certificate.specs.Certs.{CertParts, IsCert, nodes_of}
 use Rattle.term_nodes.specs.NodeTrees.{test_trees, trees, test_tree_in, tree_in}
 use Rattle.certificate.specs.Accepted.{IsAccepted}
 use Rattle.certificate.specs.Forms.{entry_of, first_of, move_of}
-use Rattle.certificate.specs.Texts.{entry_words, atom_words, move_words, line_of, heading, string_heading, lines_before_end, text_of_lines, text_of, IsNarrow, IsEvidence}
+use Rattle.certificate.specs.Texts.{entry_words, atom_words, move_words, heading, string_heading, lines_before_end, text_of, IsNarrow, IsEvidence}
 use Rattle.certificate.specs.declared.nodes.Style.TheVariants.{Plain, UpTo, Under}
 use Rattle.certificate.specs.declared.evidence.Evidence.TheVariants.{Equal, Different}
 use Rattle.certificate.specs.declared.evidence.EvidenceFault.TheVariants.{Header, Line, NumberTooWide, Truncated, Trailing}
-use Rattle.certificate.specs.Faults.{too_wide, line_fault_after, line_fault}
+use Rattle.certificate.specs.Faults.{line_fault_after, line_fault}
 
 -- different evidence has different texts
 abbrev pub TextsDiffer : Type 0
@@ -68,6 +71,17 @@ pub record FaultsAreFirst : Type 0 where
   pub one_line : (rest : List ℕ) → IsLine rest → line_fault (string_heading ++ 10 ∷ rest) ≡ Some Truncated
   pub truncated : (e : Evidence) (rest : List ℕ) → IsEvidence e → IsLine rest → line_fault (text_of_lines (lines_before_end e) ++ rest) ≡ Some Truncated
   pub trailing : (e : Evidence) (b : ℕ) (more : List ℕ) → IsEvidence e → line_fault (text_of e ++ b ∷ more) ≡ Some (Trailing (next_line e + 1))
+
+-- a letter, a digit, a blank, a bar or a line feed
+abbrev pub is_plain : ℕ → Bool
+is_plain b = is_ascii_alphanumeric b || (b == 32 || (b == 124 || b == 10))
+
+abbrev pub IsPlain : List ℕ → Type 0
+IsPlain bytes = list_all is_plain bytes ≡ true
+
+-- the text of evidence has no other bytes, so it is ASCII, and may stand in a text of another format
+abbrev pub TextsArePlain : Type 0
+TextsArePlain = (e : Evidence) → IsPlain (text_of e)
 
 -- each node has the tree that it says, over the trees of the nodes that it names
 pub record HasNodeTrees (c : CertParts) : Type 0 where

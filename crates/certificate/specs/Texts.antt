@@ -9,6 +9,7 @@ use Rattle.term_nodes.specs.declared.TestNode.{TestNode}
 use Rattle.term_nodes.specs.declared.TestNode.TheVariants.{False, True, Prim, Not, And, Or}
 use Rattle.term_nodes.specs.declared.TermNode.{TermNode}
 use Rattle.term_nodes.specs.declared.TermNode.TheVariants.{Zero, One, Test, Act, Sum, Seq, Star}
+use Rattle.line_texts.specs.Lines.{line_of, text_of_lines}
 use Rattle.certificate.specs.declared.nodes.Style.{Style}
 use Rattle.certificate.specs.declared.nodes.Style.TheVariants.{Plain, UpTo, Under}
 use Rattle.certificate.specs.declared.entry.Entry.{Entry}
@@ -88,10 +89,6 @@ atom_words atom = codes "A" ∷ bit_words atom
 abbrev pub move_words : Move → List (List ℕ)
 move_words m = codes "M" ∷ decimal m.act ∷ bit_words m.atom
 
--- words with one blank between them
-abbrev pub line_of : List (List ℕ) → List ℕ
-line_of ws = join_with_byte 32 ws
-
 -- the first line of each kind of evidence
 abbrev pub heading : Style → List ℕ
 heading Plain = codes "kat 1 equal"
@@ -113,10 +110,6 @@ lines_before_end (Different x) = string_heading ∷ line_of (atom_words x.first)
 -- the lines of evidence
 abbrev pub lines_of : Evidence → List (List ℕ)
 lines_of e = lines_before_end e ++ codes "end" ∷ []
-
--- each line ends with a line feed
-abbrev pub text_of_lines : List (List ℕ) → List ℕ
-text_of_lines ls = flat_map (λ l. l ++ 10 ∷ []) ls
 
 -- the one spelling of evidence
 abbrev pub text_of : Evidence → List ℕ

@@ -2,15 +2,17 @@
 ghost use Rattle.std.specs.Prelude.{◌≡◌, ◌||◌, ◌∷◌, [], ℕ, List, map, Some, IfOk};
 ghost use Rattle.std.specs.List.{slice_split};
 ghost use Rattle.std.specs.Option.{option_map, option_and_then};
-ghost use Rattle.certificate.specs.Forms.{numbers_of, test_node_of, term_node_of, is_bar, pair_with, pair_of, entry_of_words, entry_of};
+ghost use Rattle.line_texts.specs.Numerals.{numbers_of};
+ghost use Rattle.line_texts.specs.Readings.{texts, HasNumbers};
+ghost use Rattle.certificate.specs.Forms.{test_node_of, term_node_of, is_bar, pair_with, pair_of, entry_of_words, entry_of};
 ghost use Rattle.certificate.specs.Faults.{section_of};
-ghost use Rattle.certificate.specs.Working.Readings.{texts, single_of, HasNumbers, ReadsEntry};
+ghost use Rattle.certificate.specs.Working.Readings.{single_of, ReadsEntry};
 ghost use Rattle.certificate.specs.declared.entry.Entry.TheVariants.{TestLine, TermLine, PairLine};
 ghost use Rattle.certificate.specs.declared.entry.LineFault.TheVariants.{NoMemory as NoRoom};
 
 use crate::nodes::{Pair, TermNode, TestNode};
-use crate::words::{Numbers, read_numbers, words_of};
 use kat_model::{Items, NoMemory};
+use line_texts::{Numbers, read_numbers, words_of};
 use std::alloc::Global;
 
 // What a line of a certificate says.

@@ -1,5 +1,5 @@
 //! Laws of certificates and of the text of evidence. Each function does nothing: its contract is the law.
-ghost use Rattle.certificate.specs.Laws.{TextsDiffer, IsTextOrFaulty, EachHasOneSpelling, FaultsAreFirst, NodesHaveTrees, AcceptedAreSame};
+ghost use Rattle.certificate.specs.Laws.{TextsDiffer, IsTextOrFaulty, EachHasOneSpelling, FaultsAreFirst, TextsArePlain, NodesHaveTrees, AcceptedAreSame};
 
 /// Different evidence has different texts.
 pub fn texts_differ()
@@ -20,6 +20,11 @@ pub fn lines_have_one_spelling()
 /// too early, and bytes after its last line.
 pub fn faults_are_first()
     ensures { FaultsAreFirst }
+{}
+
+/// The text of evidence is made of ASCII letters and digits, blanks, bars and line feeds.
+pub fn texts_are_plain()
+    ensures { TextsArePlain }
 {}
 
 /// The tree of each node of a certificate is what the node says, over the trees of the nodes that it names.

@@ -9,14 +9,13 @@ mod laws;
 mod moves;
 mod nodes;
 mod reading;
-mod words;
 mod writing;
 
 pub use cert::Cert;
 pub use evidence::{Evidence, EvidenceFault};
 pub use laws::{
     accepted_are_same, faults_are_first, is_text_or_faulty, lines_have_one_spelling,
-    nodes_have_trees, texts_differ,
+    nodes_have_trees, texts_are_plain, texts_differ,
 };
 pub use nodes::{Pair, Style, TermNode, TestNode};
 pub use reading::read;

@@ -1,7 +1,8 @@
 //! Reading evidence.
 ghost use Rattle.std.specs.Prelude.{◌≡◌, ◌+◌, ◌<◌, ◌^◌, [], length, IfOk, IfErr};
+ghost use Rattle.line_texts.specs.Lines.{parts_of};
 ghost use Rattle.certificate.specs.Texts.{text_of, IsEvidence};
-ghost use Rattle.certificate.specs.Faults.{ended, cert_from, moves_from, string_from, no_entries, answer_of, parts_of};
+ghost use Rattle.certificate.specs.Faults.{ended, cert_from, moves_from, string_from, no_entries, answer_of};
 ghost use Rattle.certificate.specs.Readings.{IsFault, Gives};
 ghost use Rattle.certificate.specs.Working.Readings.{Answers};
 ghost use Rattle.certificate.specs.declared.evidence.Evidence.{Evidence};
@@ -10,8 +11,8 @@ use crate::draft::Draft;
 use crate::evidence::{Evidence, EvidenceFault};
 use crate::moves::{MoveFault, read_first, read_move};
 use crate::nodes::Style;
-use crate::words::first_line;
 use kat_model::Items;
+use line_texts::first_line;
 use std::alloc::Global;
 use string_tables::GString;
 

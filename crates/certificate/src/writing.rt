@@ -1,57 +1,18 @@
 //! Writing evidence.
 ghost use Rattle.std.specs.Prelude.{◌≡◌, ◌∷◌, ◌++◌, if◌then◌else◌, map, IfOk, OnOk};
 ghost use Rattle.std.specs.Fmt.{decimal};
-ghost use Rattle.certificate.specs.Texts.{last_words, entry_words, atom_words, move_words, bit_words, line_of, heading, entries_of, text_of};
-ghost use Rattle.certificate.specs.Working.Writings.{after_blanks, with_feed, entry_lines, move_lines, string_lines, body_of};
+ghost use Rattle.line_texts.specs.Lines.{line_of, after_blanks, with_feed};
+ghost use Rattle.certificate.specs.Texts.{last_words, entry_words, atom_words, move_words, bit_words, heading, entries_of, text_of};
+ghost use Rattle.certificate.specs.Working.Writings.{entry_lines, move_lines, string_lines, body_of};
 ghost use Rattle.certificate.specs.declared.entry.Entry.TheVariants.{TestLine, TermLine, PairLine};
 
 use crate::cert::Cert;
 use crate::evidence::Evidence;
 use crate::nodes::{Pair, Style, TermNode, TestNode};
 use kat_model::NoMemory;
+use line_texts::{put_form, put_line, put_numbers};
 use std::alloc::Global;
 use string_tables::{GString, Move};
-
-fn put_line(out: &mut Vec<u8>, line: &[u8]) -> Result<(), NoMemory>
-    ensures { OnOk result (out.new.items ≡ out.old.items ++ with_feed line.now) }
-{
-    out.extend_from_slice(line)?;
-    out.push(b'\n')?;
-    Ok(())
-}
-
-fn put_number(alloc: Global, out: &mut Vec<u8>, number: usize) -> Result<(), NoMemory>
-    ensures { OnOk result (out.new.items ≡ out.old.items ++ 32 ∷ decimal number) }
-{
-    let word = format!(in alloc; " {number}")?;
-    out.extend_from_slice(word.as_bytes())?;
-    Ok(())
-}
-
-// Each number after a blank.
-fn put_numbers(alloc: Global, out: &mut Vec<u8>, numbers: &[usize]) -> Result<(), NoMemory>
-    ensures { OnOk result (out.new.items ≡ out.old.items ++ after_blanks (map decimal numbers.now)) }
-{
-    for number in numbers {
-        put_number(alloc, out, *number)?;
-    }
-    Ok(())
-}
-
-// A line of these bytes and numbers.
-fn put_form(
-    alloc: Global,
-    out: &mut Vec<u8>,
-    form: &[u8],
-    numbers: &[usize],
-) -> Result<(), NoMemory>
-    ensures { OnOk result (out.new.items ≡ out.old.items ++ with_feed (form.now ++ after_blanks (map decimal numbers.now))) }
-{
-    out.extend_from_slice(form)?;
-    put_numbers(alloc, out, numbers)?;
-    out.push(b'\n')?;
-    Ok(())
-}
 
 fn put_test(alloc: Global, out: &mut Vec<u8>, node: TestNode) -> Result<(), NoMemory>
     ensures { OnOk result (out.new.items ≡ out.old.items ++ with_feed (line_of (entry_words (TestLine node)))) }

@@ -1,3 +1,5 @@
 pub mod Refusals
 pub mod Reasons
 pub mod Replays
+pub mod Reports
+pub mod Working

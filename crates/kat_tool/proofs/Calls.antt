@@ -6,11 +6,12 @@ use Rattle.kat_io.specs.Told.{Untold}
 use Rattle.kat_io.specs.Outside.{Rose, AppendsFront}
 use Rattle.kat_model.specs.Members.{Has}
 use Rattle.kat_model.specs.Problems.{ProblemParts}
-use Rattle.kat_tool.specs.Commands.{Command, decide, show, check, replay, run, command_of, files_of}
+use Rattle.kat_tool.specs.Commands.{Command, decide, report, show, check, replay, run, command_of, files_of}
 use Rattle.kat_tool.specs.Asking.{Asks}
 use Rattle.kat_tool.specs.Posing.{Poses}
 use Rattle.kat_tool.specs.Steps.{ShelfUse, HasFailedOn, GetsFile, AsksText}
 use Rattle.kat_tool.specs.Decide.{IsDecided, DecidesText, Decides, DecideCauses}
+use Rattle.kat_tool.specs.Report.{IsReported, ReportsText, Reports}
 use Rattle.kat_tool.specs.Show.{ShowsText, Shows}
 use Rattle.kat_tool.specs.Check.{ChecksBytes, Checks, CheckStatus}
 use Rattle.kat_tool.specs.Replay.{ReplaysBytes, Replays}
@@ -22,6 +23,7 @@ use Rattle.kat_tool.specs.Laws.{CausesExclude}
 use Rattle.kat_tool.proofs.Contents.{held_same}
 use Rattle.kat_tool.proofs.Steps.{OneStatus, gets_once, text_once}
 use Rattle.kat_tool.proofs.DecideReplies.{decided_once, decide_causes}
+use Rattle.kat_tool.proofs.ReportReplies.{reported_once, report_causes}
 use Rattle.kat_tool.proofs.CheckReplies.{bytes_once, check_causes}
 use Rattle.kat_tool.proofs.ReplayReplies.{bytes_once as replayed_once, replay_causes}
 use Rattle.kat_tool.proofs.ShowReplies.{shows_once, show_causes}
@@ -31,6 +33,12 @@ use Rattle.kat_tool.proofs.RunReplies.{runs_once, run_causes}
 module _ (s : ShelfUse) (status : ℕ) (output : List ℕ) where
   decide_small : (file : List ℕ) → Decides s file status output → status ≤ 4
   decide_small file r = small (decide_causes s file status output r).answers
+    where
+      small : (status ≡ 0) ⊎ ((status ≡ 1) ⊎ ((status ≡ 2) ⊎ (status ≡ 4))) → status ≤ 4
+      small h = grind (arith, h)
+
+  report_small : (file : List ℕ) → Reports s file status output → status ≤ 4
+  report_small file r = small (report_causes s file status output r).answers
     where
       small : (status ≡ 0) ⊎ ((status ≡ 1) ⊎ ((status ≡ 2) ⊎ (status ≡ 4))) → status ≤ 4
       small h = grind (arith, h)
@@ -56,6 +64,7 @@ module _ (s : ShelfUse) (status : ℕ) (output : List ℕ) where
   -- no command's reply has another status than 0 to 4, or 7
   command_small : (command : Command) → RepliesTo s command status output → (status ≤ 4) ⊎ (status ≡ 7)
   command_small (decide file) r = inl (decide_small file r)
+  command_small (report file) r = inl (report_small file r)
   command_small (show file) r = inl (show_small file r)
   command_small (check file other) r = inl (check_small file other r)
   command_small (replay file other) r = inl (replay_small file other r)
@@ -74,6 +83,7 @@ module _ (s : ShelfUse) (status : ℕ) (output : List ℕ) where
   -- a command whose words are refused runs a program
   command_refused : (words : List (List ℕ)) (command : Command) → command_of words ≡ Some command → RepliesTo s command status output → status ≡ 7 → HasUnfitRun s words × (output ≡ codes "refused: words\n")
   command_refused words (decide file) is r seven = absurd (no_seven (decide_small file r) seven)
+  command_refused words (report file) is r seven = absurd (no_seven (report_small file r) seven)
   command_refused words (check file other) is r seven = absurd (no_seven (check_small file other r) seven)
   command_refused words (replay file other) is r seven = absurd (no_seven (replay_small file other r) seven)
   command_refused words (show file) is r seven = absurd (no_seven (show_small file r) seven)
@@ -84,6 +94,7 @@ module _ (s : ShelfUse) (status : ℕ) (output : List ℕ) where
   -- the file that a command failed on is one of its own
   command_failed : (command : Command) → RepliesTo s command status output → status ≡ 4 → (file : List ℕ) × Has (files_of command) file × HasFailedOn s file status output
   command_failed (decide file) r four = (file, inl refl, (decide_causes s file status output r).failed four)
+  command_failed (report file) r four = (file, inl refl, (report_causes s file status output r).failed four)
   command_failed (show file) r four = (file, inl refl, (show_causes s file status output r).failed four)
   command_failed (check file other) r four = ⊎_elim (λ f. (file, inl refl, f)) (λ h. (other, inr (inl refl), h.2)) ((check_causes s file other status output r).failed four)
   command_failed (replay file other) r four = ⊎_elim (λ f. (file, inl refl, f)) (λ h. (other, inr (inl refl), h.2)) ((replay_causes s file other status output r).failed four)
@@ -93,6 +104,8 @@ module _ (s : ShelfUse) (status : ℕ) (output : List ℕ) where
 command_once : (s : ShelfUse) → (Rose s.before s.now → ⊥) → ((file : List ℕ) → s.content file ≡ Untold → ⊥) → (command : Command) → OneStatus (RepliesTo s command)
 command_once s unfailed told (decide file) =
     gets_once s file _ _ (λ t. DecidesText t) (told file) unfailed (λ t. text_once t IsDecided decided_once)
+command_once s unfailed told (report file) =
+    gets_once s file _ _ (λ t. ReportsText t) (told file) unfailed (λ t. text_once t IsReported reported_once)
 command_once s unfailed told (show file) = gets_once s file _ _ (λ t. ShowsText t) (told file) unfailed (λ t. shows_once t)
 command_once s unfailed told (check file other) =
     gets_once s file _ _ (λ t. AsksText t (λ q. GetsFile s other None [] (ChecksBytes q))) (told file) unfailed (λ t. text_once t (λ q. GetsFile s other None [] (ChecksBytes q)) (λ q. gets_once s other None [] (ChecksBytes q) (told other) unfailed (bytes_once q)))
@@ -149,6 +162,7 @@ reply_is s words status output r = record {
   replies = r;
   decides = λ file is. decide_causes s file status output (replied_to s words status output (decide file) is r.cause);
   agrees = λ file is small. agreed s file status output (decide_causes s file status output (replied_to s words status output (decide file) is r.cause)) small;
+  reports = λ file is. report_causes s file status output (replied_to s words status output (report file) is r.cause);
   checks = λ file other is. check_causes s file other status output (replied_to s words status output (check file other) is r.cause);
   replays = λ file other is. replay_causes s file other status output (replied_to s words status output (replay file other) is r.cause);
   runs = λ file prog store turns is. run_causes s file prog store turns status output (replied_to s words status output (run file prog store turns) is r.cause);

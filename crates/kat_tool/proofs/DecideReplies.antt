@@ -1,9 +1,10 @@
 -- The reply of `decide` is the statement on the question, and has its cause.
-use Rattle.std.proofs.Common.{◌≡◌, ◌⊎◌, ℕ, List, inl, inr, refl, sym, ◌∙◌, arith}
+use Rattle.std.proofs.Common.{◌≡◌, ◌⊎◌, ℕ, List, Ok, inl, inr, ⊎_elim, refl, sym, ◌∙◌, arith}
 use Rattle.kat_model.specs.Problems.{ProblemParts}
 use Rattle.problem_file.specs.Files.{FileParts}
 use Rattle.problem_file.specs.Reads.{Reads}
 use Rattle.problem_file.specs.Concrete.{IsConcrete, Agrees}
+use Rattle.abstraction.specs.Abstracts.{AbstractParts, abstract_of}
 use Rattle.kat_tool.specs.Asking.{Asks}
 use Rattle.kat_tool.specs.Posing.{IsRefused, Poses}
 use Rattle.kat_tool.specs.Steps.{ShelfUse, HasFailedOn, AsksQuestion}
@@ -35,14 +36,17 @@ pub text_headline : (text : List ℕ) (status : ℕ) (output : List ℕ) (q : Pr
 text_headline text status output q asks r = decided_headline q status output (text_asks text IsDecided status output q asks r)
 
 -- the goal of a concrete file holds of all its stores where the status is 0
+pub question_stores : (text : List ℕ) (f : FileParts) → Reads text f → IsConcrete f → (a : AbstractParts) → abstract_of f ≡ Ok a → (status : ℕ) (output : List ℕ) → IsDecided a.problem status output → status ≡ 0 → Agrees f
+question_stores text f reads concrete a is status output d zero =
+    let asks : Asks text a.problem = record { file = f; reads = reads; abstract = a; is_abstract = is; question = refl } in
+    asked_agrees text a.problem asks ((decided_headline a.problem status output d).equal.0 zero) concrete
+
 pub text_stores : (text : List ℕ) (status : ℕ) (output : List ℕ) (f : FileParts) → Reads text f → IsConcrete f → DecidesText text status output → status ≡ 0 → Agrees f
-text_stores text status output f reads concrete r zero = stores (reads_said text (λ g. AsksQuestion g IsDecided) status output f reads r)
-  where
-    stores : AsksQuestion f IsDecided status output → Agrees f
-    stores (inl refused) = absurd (omega (arith, zero, refused.0))
-    stores (inr (a, is, d)) =
-        let asks : Asks text a.problem = record { file = f; reads = reads; abstract = a; is_abstract = is; question = refl } in
-        asked_agrees text a.problem asks ((decided_headline a.problem status output d).equal.0 zero) concrete
+text_stores text status output f reads concrete r zero =
+    ⊎_elim
+    (λ refused. absurd (omega (arith, zero, refused.0)))
+    (λ h. question_stores text f reads concrete h.0 h.1 status output h.2 zero)
+    (reads_said text (λ g. AsksQuestion g IsDecided) status output f reads r)
 
 pub decided_once : (q : ProblemParts) → OneStatus (IsDecided q)
 decided_once q a b o p (inl h) y = h.0 ∙ sym ((decided_headline q b p y).equal.1 h.1.same)

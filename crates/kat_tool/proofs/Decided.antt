@@ -8,12 +8,14 @@ use Rattle.certificate.specs.declared.evidence.Evidence.TheVariants.{Equal, Diff
 use Rattle.certificate.specs.Certs.{CertParts, IsCert}
 use Rattle.certificate.specs.Accepted.{IsAccepted}
 use Rattle.certificate.specs.Texts.{text_of, IsEvidence}
+use Rattle.kat_report.specs.Reports.{json_report}
 use Rattle.certificate.proofs.Written.{cert_is_evidence}
 use Rattle.certificate.specs.Decisions.{IsDecision}
 use Rattle.bisim_worklist.proofs.Concise.{concise_few}
 use Rattle.kat_tool.specs.Showing.{Spells}
 use Rattle.kat_tool.specs.Check.{evidence_status}
 use Rattle.kat_tool.specs.Decide.{IsDecided}
+use Rattle.kat_tool.specs.Report.{IsReported}
 
 -- what is below a count of a problem is a number of the program
 small : (k n : ℕ) → k < n → n ≤ 48 → k < 2 ^ 64
@@ -27,13 +29,19 @@ module _ (q : ProblemParts) (problem : IsProblem q) where
   string_evidence : (x : GuardedString) → Refutes q x → IsEvidence (Different x)
   string_evidence x r m h = small m.act q.actions (r.fits.rest m h).0 problem.actions
 
-  module _ (e : Evidence) (output : List ℕ) (d : IsDecision q e) (text : output ≡ text_of e) where
-    pub equal_spelled : (c : CertParts) → e ≡ Equal c → IsCert c → length c.test_nodes < 2 ^ 64 → length c.term_nodes < 2 ^ 64 → Spells output e
-    equal_spelled c is cert tests terms = record { evidence = subst IsEvidence (sym is) (accepted_evidence c cert (subst (IsDecision q) is d).1.accepted tests terms); text = text }
+  module _ (e : Evidence) (d : IsDecision q e) where
+    pub equal_evidence : (c : CertParts) → e ≡ Equal c → IsCert c → length c.test_nodes < 2 ^ 64 → length c.term_nodes < 2 ^ 64 → IsEvidence e
+    equal_evidence c is cert tests terms = subst IsEvidence (sym is) (accepted_evidence c cert (subst (IsDecision q) is d).1.accepted tests terms)
 
-    pub different_spelled : (x : GuardedString) → e ≡ Different x → Spells output e
-    different_spelled x is = record { evidence = subst IsEvidence (sym is) (string_evidence x (subst (IsDecision q) is d).1.refutes); text = text }
+    pub different_evidence : (x : GuardedString) → e ≡ Different x → IsEvidence e
+    different_evidence x is = subst IsEvidence (sym is) (string_evidence x (subst (IsDecision q) is d).1.refutes)
 
 pub decided : (q : ProblemParts) (e : Evidence) (output : List ℕ) → IsDecision q e → Spells output e → IsDecided q (evidence_status e) output
 decided q (Equal c) output d s = inl (refl, record { same = d.0; cert = c; concise = d.1; few = concise_few q c d.1; printed = s })
 decided q (Different x) output d s = inr (refl, record { differ = d.0; string = x; shortest = d.1; printed = s })
+
+-- the report of a decision is that of the text that `decide` may print
+pub reported : (q : ProblemParts) (e : Evidence) (output : List ℕ) → IsDecision q e → IsEvidence e → output ≡ json_report q e → IsReported q (evidence_status e) output
+reported q e output d evidence printed =
+    let spells : Spells (text_of e) e = record { evidence = evidence; text = refl } in
+    record { text = text_of e; decided = decided q e (text_of e) d spells; report = record { evidence = e; spells = spells; printed = printed } }

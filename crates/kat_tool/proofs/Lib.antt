@@ -7,6 +7,7 @@ pub mod Files
 pub mod StoreSentences
 pub mod Ways
 pub mod DecideReplies
+pub mod ReportReplies
 pub mod CheckReplies
 pub mod ReplayReplies
 pub mod StoreValues
@@ -15,3 +16,4 @@ pub mod RunOutcomes
 pub mod RunReplies
 pub mod Calls
 mod PlainTexts
+mod PlainPrograms

@@ -3,13 +3,14 @@ use Rattle.std.specs.Prelude.{ℕ, ◌^◌, List, [], ◌∷◌, Option, None, S
 use Rattle.std.specs.Option.{option_map}
 use Rattle.std.specs.Str.{bytes_eq}
 use Rattle.kat_tool.specs.declared.words.Command.{Command as Chosen}
-use Rattle.kat_tool.specs.declared.words.Command.TheVariants.{Decide, Show, Check, Replay, Run}
+use Rattle.kat_tool.specs.declared.words.Command.TheVariants.{Decide, Report, Show, Check, Replay, Run}
 use Rattle.kat_tool.specs.Numbers.{number_below}
 
 -- a command and its words: the file of the problem, and that of the evidence; or a program of the file, the word of a store
 -- and a number of turns
 pub data Command : Type 0 where
   decide : (file : List ℕ) → Command
+  report : (file : List ℕ) → Command
   show : (file : List ℕ) → Command
   check : (file evidence : List ℕ) → Command
   replay : (file evidence : List ℕ) → Command
@@ -18,6 +19,7 @@ pub data Command : Type 0 where
 -- a command of the program without the addresses that its words have
 abbrev pub command_seen : Chosen → Command
 command_seen (Decide file) = decide file.now
+command_seen (Report file) = report file.now
 command_seen (Show file) = show file.now
 command_seen (Check file evidence) = check file.now evidence.now
 command_seen (Replay file evidence) = replay file.now evidence.now
@@ -28,10 +30,13 @@ abbrev pub is_value : List ℕ → Bool
 is_value [] = false
 is_value (b ∷ bs) = not (b == 45)
 
--- the commands of one file, of a file and its evidence, and of a file, a program, a store and turns
+-- the commands of one file, of a file and an option, of a file and its evidence, and of a file, a program, a store and turns
 abbrev pub with_file : List ℕ → List ℕ → Option Command
 with_file name file =
     if bytes_eq name (codes "decide") then Some (decide file) else if bytes_eq name (codes "show") then Some (show file) else None
+
+abbrev pub with_option : List ℕ → List ℕ → List ℕ → Option Command
+with_option name file option = if bytes_eq name (codes "decide") && bytes_eq option (codes "--json") then Some (report file) else None
 
 abbrev pub with_evidence : List ℕ → List ℕ → List ℕ → Option Command
 with_evidence name file evidence =
@@ -43,13 +48,14 @@ with_turns name file prog store turns = if bytes_eq name (codes "run") then opti
 -- the command of a list of words, by its place in the table
 abbrev pub command_of : List (List ℕ) → Option Command
 command_of (name ∷ file ∷ []) = if is_value file then with_file name file else None
-command_of (name ∷ file ∷ evidence ∷ []) = if is_value file && is_value evidence then with_evidence name file evidence else None
+command_of (name ∷ file ∷ last ∷ []) = if is_value file then (if is_value last then with_evidence name file last else with_option name file last) else None
 command_of (name ∷ file ∷ prog ∷ store ∷ turns ∷ []) = if is_value file && is_value prog && is_value store then with_turns name file prog store turns else None
 command_of words = None
 
 -- the files of a command
 abbrev pub files_of : Command → List (List ℕ)
 files_of (decide file) = file ∷ []
+files_of (report file) = file ∷ []
 files_of (show file) = file ∷ []
 files_of (check file evidence) = file ∷ evidence ∷ []
 files_of (replay file evidence) = file ∷ evidence ∷ []

@@ -6,6 +6,8 @@ pub mod Posing
 pub mod Showing
 pub mod Steps
 pub mod Decide
+pub mod StoreAnswers
+pub mod Report
 pub mod Check
 pub mod Replay
 pub mod Show

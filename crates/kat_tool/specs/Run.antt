@@ -3,9 +3,10 @@ use Rattle.std.specs.Prelude.{◌≡◌, ◌≢◌, ◌⊎◌, ℕ, List, Option
 use Rattle.std.specs.Io.KnownBytes.{Appends, Keeps}
 use Rattle.kat_io.specs.Outside.{Rose, AppendsFront}
 use Rattle.kat_model.specs.Members.{Has}
-use Rattle.kat_tool.specs.Commands.{Command, decide, show, check, replay, run, command_of, files_of}
+use Rattle.kat_tool.specs.Commands.{Command, decide, report, show, check, replay, run, command_of, files_of}
 use Rattle.kat_tool.specs.Steps.{ShelfUse, HasFailedOn}
 use Rattle.kat_tool.specs.Decide.{DecideCauses}
+use Rattle.kat_tool.specs.Report.{ReportCauses}
 use Rattle.kat_tool.specs.Show.{ShowCauses}
 use Rattle.kat_tool.specs.Check.{CheckCauses}
 use Rattle.kat_tool.specs.Replay.{ReplayCauses}
@@ -46,6 +47,7 @@ pub record IsReply (s : ShelfUse) (words : List (List ℕ)) (status : ℕ) (outp
   pub replies : Replies s words status output
   pub decides : (file : List ℕ) → command_of words ≡ Some (decide file) → DecideCauses s file status output
   pub agrees : (file : List ℕ) → command_of words ≡ Some (decide file) → (status ≡ 0) ⊎ (status ≡ 1) → IsAgreed (s.content file) output status
+  pub reports : (file : List ℕ) → command_of words ≡ Some (report file) → ReportCauses s file status output
   pub checks : (file other : List ℕ) → command_of words ≡ Some (check file other) → CheckCauses s file other status output
   pub replays : (file other : List ℕ) → command_of words ≡ Some (replay file other) → ReplayCauses s file other status output
   pub runs : (file prog store : List ℕ) (turns : ℕ) → command_of words ≡ Some (run file prog store turns) → RunCauses s file prog store turns status output

@@ -1,6 +1,7 @@
 //! `decide`: the reply to a text is the decision of the problem that it poses.
 ghost use Rattle.std.specs.Prelude.{◌≡◌, length, IfOk};
 ghost use Rattle.certificate.specs.Decisions.{IsDecision};
+ghost use Rattle.certificate.specs.Texts.{IsEvidence};
 ghost use Rattle.kat_tool.specs.Showing.{Spells};
 ghost use Rattle.kat_tool.specs.Check.{evidence_status};
 ghost use Rattle.kat_tool.specs.Decide.{IsDecided, DecidesText};
@@ -20,10 +21,10 @@ fn count<T>(nodes: &[T]) -> usize
     nodes.len()
 }
 
-// The text of a decision, which is read as that decision again: its numbers are those of nodes, tests and actions.
-fn text(alloc: Global, problem: &Problem, evidence: &Evidence) -> Result<Vec<u8>, NoMemory>
+// A decision is evidence of the program: its numbers are those of nodes, tests and actions.
+pub(crate) fn know_numbers(problem: &Problem, evidence: &Evidence)
     requires { IsDecision problem.now evidence.now }
-    ensures { IfOk result (λ v. Spells v.items evidence.now) }
+    ensures { IsEvidence evidence.now }
 {
     // The proof needs the limits of a problem, and of a certificate its rules and how many nodes it has.
     let _ = problem.tests();
@@ -31,13 +32,21 @@ fn text(alloc: Global, problem: &Problem, evidence: &Evidence) -> Result<Vec<u8>
         Evidence::Equal(cert) => {
             let _ = count(cert.test_nodes());
             let _ = count(cert.term_nodes());
-            write(alloc, evidence)
         }
-        Evidence::Different(_) => write(alloc, evidence),
+        Evidence::Different(_) => {}
     }
 }
 
-fn evidence_status(evidence: &Evidence) -> u8
+// The text of a decision, which is read as that decision again.
+fn text(alloc: Global, problem: &Problem, evidence: &Evidence) -> Result<Vec<u8>, NoMemory>
+    requires { IsDecision problem.now evidence.now }
+    ensures { IfOk result (λ v. Spells v.items evidence.now) }
+{
+    know_numbers(problem, evidence);
+    write(alloc, evidence)
+}
+
+pub(crate) fn evidence_status(evidence: &Evidence) -> u8
     ensures { result ≡ evidence_status evidence.now }
 {
     match evidence {

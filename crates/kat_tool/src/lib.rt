@@ -10,6 +10,7 @@ mod numbers;
 mod posing;
 mod replay;
 mod reply;
+mod report;
 mod run_text;
 mod running;
 mod show;
@@ -21,6 +22,6 @@ mod words;
 
 pub use laws::{causes_exclude, words_give_stores};
 pub use reply::Reply;
-pub use text::{checked_texts, decided_text, replayed_texts, run_reply, show_reply};
+pub use text::{checked_texts, decided_text, replayed_texts, reported_text, run_reply, show_reply};
 pub use top::run;
 pub use words::Words;

@@ -1,19 +1,25 @@
 //! `decide`, `check`, `replay`, `run` and `show` on the bytes of texts, with no outside.
-ghost use Rattle.std.specs.Prelude.{◌≡◌, IfOk};
+ghost use Rattle.std.specs.Prelude.{◌≡◌, ℕ, IfOk};
 ghost use Rattle.kat_model.specs.Problems.{ProblemParts};
+ghost use Rattle.kat_model.specs.Expressions.{CondTree};
+ghost use Rattle.kat_model.specs.declared.expression.Width.{Width};
+ghost use Rattle.while_lang.specs.Programs.{ProgTree};
 ghost use Rattle.plain_texts.specs.Questions.{question_text, IsPrintable};
+ghost use Rattle.plain_texts.specs.ProgramTexts.{programs_text, triple_text, ArePrintable, IsTriplePrintable};
 ghost use Rattle.problem_file.specs.Files.{FileParts};
 ghost use Rattle.problem_file.specs.Reads.{Reads};
 ghost use Rattle.problem_file.specs.Concrete.{IsConcrete, Agrees};
 ghost use Rattle.kat_tool.specs.Asking.{Asks};
 ghost use Rattle.kat_tool.specs.Decide.{DecidesText, Headline};
+ghost use Rattle.kat_tool.specs.StoreAnswers.{AlwaysEndAlike, AlwaysMeets, StoreHeadline};
+ghost use Rattle.kat_tool.specs.Report.{ReportsText, ReportHeadline};
 ghost use Rattle.kat_tool.specs.Check.{ChecksTexts, CheckHeadline};
 ghost use Rattle.kat_tool.specs.Replay.{ReplaysTexts, ReplayHeadline};
 ghost use Rattle.kat_tool.specs.Running.{RunsText, RunHeadline};
 ghost use Rattle.kat_tool.specs.Show.{ShowsText, ShowHeadline};
 
 use crate::reply::{Reply, Stop};
-use crate::{check, decide, replay, running, show};
+use crate::{check, decide, replay, report, running, show};
 use kat_model::NoMemory;
 use std::alloc::Global;
 
@@ -25,15 +31,36 @@ use std::alloc::Global;
 /// both programs end in the same stores from each, or the triple holds of every run that ends. It fails only when
 /// out of memory.
 pub fn decided_text(alloc: Global, text: &[u8]) -> Result<Reply, NoMemory>
-    // Of the plainest text of a question, whose meaning needs no grammar, and of every text.
+    // Of the plainest text of a question, whose meaning needs no grammar.
     ensures plain { (q : ProblemParts) → IsPrintable q → text.now ≡ question_text q
         → IfOk result (λ r. Headline q r.status r.output.items) }
+    // Of the plainest texts of two programs, and of a triple of one, over so many variables of a width.
+    ensures programs { (w : Width) (v : ℕ) (p q : ProgTree) → ArePrintable w v p q → text.now ≡ programs_text w v p q
+        → IfOk result (λ r. StoreHeadline (AlwaysEndAlike w v p q) r.status r.output.items) }
+    ensures triples { (w : Width) (v : ℕ) (b : CondTree) (p : ProgTree) (c : CondTree) → IsTriplePrintable w v b p c → text.now ≡ triple_text w v b p c
+        → IfOk result (λ r. StoreHeadline (AlwaysMeets w v b p c) r.status r.output.items) }
+    // Of every text.
     ensures headline { (q : ProblemParts) → Asks text.now q
         → IfOk result (λ r. Headline q r.status r.output.items) }
     ensures stores { (f : FileParts) → Reads text.now f → IsConcrete f → IfOk result (λ r. r.status ≡ 0 → Agrees f) }
     ensures replies { IfOk result (λ r. DecidesText text.now r.status r.output.items) }
 {
     match decide::text_reply(alloc, text) {
+        Ok(reply) => Ok(reply),
+        Err(Stop::Replied(reply)) => Ok(reply),
+        Err(Stop::NoMemory) => Err(NoMemory),
+    }
+}
+
+/// What `decide` with `--json` answers to the bytes of a text: the same as `decided_text`, with one line of JSON that
+/// holds the text of the evidence in its place. It fails only when out of memory.
+pub fn reported_text(alloc: Global, text: &[u8]) -> Result<Reply, NoMemory>
+    ensures headline { (q : ProblemParts) → Asks text.now q
+        → IfOk result (λ r. ReportHeadline q r.status r.output.items) }
+    ensures stores { (f : FileParts) → Reads text.now f → IsConcrete f → IfOk result (λ r. r.status ≡ 0 → Agrees f) }
+    ensures replies { IfOk result (λ r. ReportsText text.now r.status r.output.items) }
+{
+    match report::text_reply(alloc, text) {
         Ok(reply) => Ok(reply),
         Err(Stop::Replied(reply)) => Ok(reply),
         Err(Stop::NoMemory) => Err(NoMemory),
@@ -49,6 +76,10 @@ pub fn decided_text(alloc: Global, text: &[u8]) -> Result<Reply, NoMemory>
 pub fn checked_texts(alloc: Global, text: &[u8], evidence: &[u8]) -> Result<Reply, NoMemory>
     ensures headline { (q : ProblemParts) → Asks text.now q
         → IfOk result (λ r. CheckHeadline evidence.now q r.status) }
+    ensures programs { (w : Width) (v : ℕ) (p q : ProgTree) → ArePrintable w v p q → text.now ≡ programs_text w v p q
+        → IfOk result (λ r. r.status ≡ 0 → AlwaysEndAlike w v p q) }
+    ensures triples { (w : Width) (v : ℕ) (b : CondTree) (p : ProgTree) (c : CondTree) → IsTriplePrintable w v b p c → text.now ≡ triple_text w v b p c
+        → IfOk result (λ r. r.status ≡ 0 → AlwaysMeets w v b p c) }
     ensures stores { (f : FileParts) → Reads text.now f → IsConcrete f → IfOk result (λ r. r.status ≡ 0 → Agrees f) }
     ensures replies { IfOk result (λ r. ChecksTexts text.now evidence.now r.status r.output.items) }
 {

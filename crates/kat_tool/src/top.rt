@@ -3,6 +3,7 @@ ghost use Rattle.std.specs.Prelude.{◌≡◌, ℕ, List, IfOk};
 ghost use Rattle.kat_tool.specs.Commands.{command_seen};
 ghost use Rattle.kat_tool.specs.Steps.{shelf_use};
 ghost use Rattle.kat_tool.specs.Decide.{Decides};
+ghost use Rattle.kat_tool.specs.Report.{Reports};
 ghost use Rattle.kat_tool.specs.Show.{Shows};
 ghost use Rattle.kat_tool.specs.Check.{Checks};
 ghost use Rattle.kat_tool.specs.Replay.{Replays};
@@ -14,7 +15,7 @@ ghost use Rattle.kat_tool.specs.Working.Outcomes.{IsReplied, Counts};
 use crate::getting::{file_bytes, file_text};
 use crate::posing::problem_in;
 use crate::reply::{Reply, Stop, line};
-use crate::text::{decided_text, run_reply, show_reply};
+use crate::text::{decided_text, reported_text, run_reply, show_reply};
 use crate::words::{Command, Words};
 use crate::{check, replay};
 use kat_io::{Shelf, Sink, send};
@@ -28,6 +29,15 @@ fn decide_file<S: Shelf>(alloc: Global, file: &str, shelf: &mut S) -> Result<Rep
 {
     let text = file_text(alloc, file, shelf)?;
     Ok(decided_text(alloc, &text)?)
+}
+
+fn report_file<S: Shelf>(alloc: Global, file: &str, shelf: &mut S) -> Result<Reply, Stop>
+    ensures replied { IsReplied (Reports (shelf_use (S.content shelf.old) (S.faults shelf.old) (S.faults shelf.new) (S.last_failed shelf.new)) file.now) result }
+    ensures counts { Counts (S.faults shelf.old) (S.faults shelf.new) result }
+    ensures kept { (name : List ℕ) → S.content shelf.new name ≡ S.content shelf.old name }
+{
+    let text = file_text(alloc, file, shelf)?;
+    Ok(reported_text(alloc, &text)?)
 }
 
 fn show_file<S: Shelf>(alloc: Global, file: &str, shelf: &mut S) -> Result<Reply, Stop>
@@ -99,6 +109,7 @@ fn command_reply<S: Shelf>(
 {
     match command {
         Command::Decide(file) => decide_file(alloc, file, shelf),
+        Command::Report(file) => report_file(alloc, file, shelf),
         Command::Show(file) => show_file(alloc, file, shelf),
         Command::Check(file, evidence) => check_files(alloc, file, evidence, shelf),
         Command::Replay(file, evidence) => replay_files(alloc, file, evidence, shelf),
@@ -140,6 +151,9 @@ fn answer<S: Shelf>(alloc: Global, words: &Words, shelf: &mut S) -> Result<Reply
 /// Where FILE is concrete, of variables and programs alone, `decide` and `check` end with 0 only where its goal holds of
 /// all its stores: both programs end in the same stores from each, or the triple holds of every run that ends.
 ///
+/// `decide` FILE `--json` answers the same as `decide` FILE, with a line of JSON that holds the text of the evidence in its
+/// place.
+///
 /// `show` FILE tells the problem of FILE as a text, with what its tests and actions stand for: 0 with the text, and 2 where
 /// FILE is refused.
 ///
@@ -156,10 +170,10 @@ fn answer<S: Shelf>(alloc: Global, words: &Words, shelf: &mut S) -> Result<Reply
 /// All this is one statement, `IsRun`, on the words, on what was seen of the shelf and of the sink, and on the status. Its
 /// field `answered` gives for each status but 5 and 6 the bytes that were sent, and what they say: `decides.headline` is
 /// the statement on `decide`, over the text that the shelf tells, in the words of `decided_text`; `checks.headline` and
-/// `replays.headline` are those of `checked_texts` and `replayed_texts`, `runs.headline` is that of `run_reply`, and
-/// `shows.headline` that of `show_reply`; `decides.same_stores` and `checks.same_stores` are the statements on stores. The
-/// further fields of `decides`, `checks`, `replays`, `runs` and `shows` give the cause of each status where the shelf tells
-/// nothing. `unsent` is status 5, `no_memory` 6.
+/// `replays.headline` are those of `checked_texts` and `replayed_texts`, `runs.headline` is that of `run_reply`,
+/// `shows.headline` that of `show_reply`, and `reports.headline` that of `reported_text`; `decides.same_stores`,
+/// `reports.same_stores` and `checks.same_stores` are the statements on stores. The further fields of `decides`, `reports`,
+/// `checks`, `replays`, `runs` and `shows` give the cause of each status where the shelf tells nothing. `unsent` is status 5, `no_memory` 6.
 pub fn run<S: Shelf, K: Sink>(alloc: Global, words: &Words, shelf: &mut S, sink: &mut K) -> u8
     ensures is_run { IsRun (record {
       words = words.now;

@@ -1,7 +1,7 @@
 //! The words of a command line, and the table of those that have a command.
-ghost use Rattle.std.specs.Prelude.{◌≡◌, ◌++◌, ◌∷◌, [], List, ℕ, OnOk, OnErr, Option};
+ghost use Rattle.std.specs.Prelude.{◌≡◌, ◌++◌, ◌∷◌, [], List, ℕ, OnOk, OnErr, Option, if◌then◌else◌};
 ghost use Rattle.std.specs.Option.{option_map};
-ghost use Rattle.kat_tool.specs.Commands.{command_of, command_seen, is_value, with_file, with_evidence, with_turns};
+ghost use Rattle.kat_tool.specs.Commands.{command_of, command_seen, is_value, with_file, with_option, with_evidence, with_turns};
 
 use crate::numbers::number_of;
 use kat_model::NoMemory;
@@ -28,6 +28,8 @@ impl Model for Words {
 pub(crate) enum Command<'a> {
     /// `decide` FILE
     Decide(&'a str),
+    /// `decide` FILE `--json`
+    Report(&'a str),
     /// `show` FILE
     Show(&'a str),
     /// `check` FILE EVIDENCE
@@ -70,8 +72,8 @@ impl Words {
     {
         match self.texts.as_slice() {
             [name, file] if is_value(file.as_str()) => with_file(name.as_str(), file.as_str()),
-            [name, file, evidence] if is_value(file.as_str()) && is_value(evidence.as_str()) => {
-                with_evidence(name.as_str(), file.as_str(), evidence.as_str())
+            [name, file, last] if is_value(file.as_str()) => {
+                with_last(name.as_str(), file.as_str(), last.as_str())
             }
             [name, file, prog, store, turns]
                 if is_value(file.as_str()) && is_value(prog.as_str()) && is_value(store.as_str()) =>
@@ -96,6 +98,27 @@ fn with_file<'a>(name: &str, file: &'a str) -> Option<Command<'a>>
     match name {
         "decide" => Some(Command::Decide(file)),
         "show" => Some(Command::Show(file)),
+        _ => None,
+    }
+}
+
+// The commands of a file and a last word, which is a value or an option.
+fn with_last<'a>(name: &str, file: &'a str, last: &'a str) -> Option<Command<'a>>
+    ensures { option_map command_seen result ≡ (if is_value last.now then with_evidence name.now file.now last.now else with_option name.now file.now last.now) }
+{
+    if is_value(last) {
+        with_evidence(name, file, last)
+    } else {
+        with_option(name, file, last)
+    }
+}
+
+// The commands of a file and an option.
+fn with_option<'a>(name: &str, file: &'a str, option: &str) -> Option<Command<'a>>
+    ensures { option_map command_seen result ≡ with_option name.now file.now option.now }
+{
+    match (name, option) {
+        ("decide", "--json") => Some(Command::Report(file)),
         _ => None,
     }
 }

@@ -124,16 +124,16 @@ hyps_items (e ∷ es) s at left right h l r few room first =
 -- ---- declarations
 
 -- the names from this place on
-abbrev names_at : List ℕ → List (List ℕ) → ℕ → Names
+abbrev pub names_at : List ℕ → List (List ℕ) → ℕ → Names
 names_at x [] at = one_name (leaf at x)
 names_at x (y ∷ ys) at = more_names (leaf at x) (leaf (at + length x) (codes ",")) (names_at y ys (at + length x + 1 + 1))
 
 -- the place of the semicolon after them
-abbrev names_stop : List ℕ → List (List ℕ) → ℕ → ℕ
+abbrev pub names_stop : List ℕ → List (List ℕ) → ℕ → ℕ
 names_stop x [] at = at + length x
 names_stop x (y ∷ ys) at = names_stop y ys (at + length x + 1 + 1)
 
-names_spelled : (x : List ℕ) (xs : List (List ℕ)) (at : ℕ) (ps : List Piece) → AreIdentifiers (x ∷ xs)
+pub names_spelled : (x : List ℕ) (xs : List (List ℕ)) (at : ℕ) (ps : List Piece) → AreIdentifiers (x ∷ xs)
     → lexemes_from at (word x ∷ names_pieces xs ps) ≡ names_onto (names_at x xs at) (ended (leaf (names_stop x xs at) (codes ";")) (lexemes_from (names_stop x xs at + 1 + 1) ps))
 names_spelled x [] at ps is = ap (λ (s : Terminal). lexeme s at x ∷ lexeme (Separator Semicolon) (at + length x) (codes ";") ∷ lexemes_from (at + length x + 1 + 1) ps) (name_terminal x is.0.no_keyword)
 names_spelled x (y ∷ ys) at ps is =

@@ -1,4 +1,4 @@
--- The names of tests and actions are identifiers, and tell their numbers.
+-- The names of tests, actions and variables are identifiers, and tell their numbers.
 use Rattle.std.proofs.Common.{◌≡◌, ◌<◌, ◌^◌, ◌==◌, ℕ, List, [], ◌∷◌, true, false, get_or, drop, sym, ap, ◌∙◌, refl, arith}
 use Rattle.std.proofs.lemmas.Bool.{and_parts, ne_eqb, true≢false}
 use Rattle.std.proofs.lemmas.Bool.Decides.{nat_tests}
@@ -10,9 +10,10 @@ use Rattle.std.specs.Char.{is_ascii_digit}
 use Rattle.kat_tokens.specs.Keywords.{is_keyword}
 use Rattle.kat_tokens.proofs.Beginnings.{number_digits}
 use Rattle.kat_tokens.proofs.Words.{begins_word, continues_word, word_is_name, decimal_is_number}
-use Rattle.kat_text.specs.declared.meaning.Meaning.TheVariants.{Test, Action}
+use Rattle.kat_text.specs.declared.meaning.Meaning.TheVariants.{Test, Action, Var}
 use Rattle.kat_text.specs.ScopeParts.{IsIdentifier}
 use Rattle.plain_texts.specs.Questions.{plain_name}
+use Rattle.plain_texts.specs.ProgramTexts.{var_name}
 
 digit_continues : (b : ℕ) → is_ascii_digit b ≡ true → continues_word b ≡ true
 digit_continues b e = grind (arith, nat_tests)
@@ -44,6 +45,10 @@ no_keyword_of_a (b ∷ bs) all =
     let s = ne_eqb b 115 (no_letter b 115 digit refl) in
     rw (c, d, s) refl
 
+-- no keyword begins with this letter
+no_keyword_of_x : (bs : List ℕ) → list_all is_ascii_digit bs ≡ true → is_keyword (120 ∷ bs) ≡ false
+no_keyword_of_x bs all = refl
+
 -- a letter before a number
 numbered_identifier : (letter n : ℕ) → begins_word letter ≡ true → ((bs : List ℕ) → list_all is_ascii_digit bs ≡ true → is_keyword (letter ∷ bs) ≡ false) → n < 2 ^ 64 → IsIdentifier (letter ∷ decimal n)
 numbered_identifier letter n begins none small =
@@ -59,6 +64,9 @@ test_identifier k small = numbered_identifier 116 k refl no_keyword_of_t small
 pub action_identifier : (a : ℕ) → a < 2 ^ 64 → IsIdentifier (plain_name (Action a))
 action_identifier a small = numbered_identifier 97 a refl no_keyword_of_a small
 
+pub var_identifier : (k : ℕ) → k < 2 ^ 64 → IsIdentifier (var_name (Var k))
+var_identifier k small = numbered_identifier 120 k refl no_keyword_of_x small
+
 pub same_test_number : (j k : ℕ) → j < 2 ^ 64 → k < 2 ^ 64 → plain_name (Test j) ≡ plain_name (Test k) → j ≡ k
 same_test_number j k small few e = decimal_injective j k small few (ap (drop 1) e)
 
@@ -67,3 +75,10 @@ same_action_number j k small few e = decimal_injective j k small few (ap (drop 1
 
 pub test_no_action : (k a : ℕ) → plain_name (Test k) ≡ plain_name (Action a) → ⊥
 test_no_action k a e = true≢false (ap (λ (l : List ℕ). get_or l 0 0 == 116) e)
+
+pub same_var_number : (j k : ℕ) → j < 2 ^ 64 → k < 2 ^ 64 → var_name (Var j) ≡ var_name (Var k) → j ≡ k
+same_var_number j k small few e = decimal_injective j k small few (ap (drop 1) e)
+
+-- no variable is named by another letter alone
+pub var_no_letter : (k letter : ℕ) → (letter == 120) ≡ false → var_name (Var k) ≡ letter ∷ [] → ⊥
+var_no_letter k letter other e = true≢false (ap (λ (l : List ℕ). get_or l 0 0 == 120) e ∙ other)

@@ -69,7 +69,7 @@ names_spell (x ∷ xs) ps =
 declaration_regrouped : (keyword x f r : List ℕ) → keyword ++ codes " " ++ (x ++ f) ++ codes ";\n" ++ r ≡ keyword ++ (32 ∷ (x ++ (f ++ (59 ∷ 10 ∷ r))))
 declaration_regrouped keyword x f r = simp append_assoc
 
-declaration_spells : (keyword : List ℕ) (names : List (List ℕ)) (ps : List Piece) → spelled (declaration_pieces keyword names ps) ≡ declaration_text keyword names ++ spelled ps
+pub declaration_spells : (keyword : List ℕ) (names : List (List ℕ)) (ps : List Piece) → spelled (declaration_pieces keyword names ps) ≡ declaration_text keyword names ++ spelled ps
 declaration_spells keyword [] ps = refl
 declaration_spells keyword (x ∷ xs) ps =
     ap (λ (l : List ℕ). keyword ++ (32 ∷ (x ++ l))) (names_spell xs ps)

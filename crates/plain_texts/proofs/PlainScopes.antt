@@ -28,7 +28,7 @@ empty_plain = record {
 pub plain_as : (w : ScopeParts) (t u a b : ℕ) → t ≡ u → a ≡ b → IsPlain w t a → IsPlain w u b
 plain_as w t u a b e f h = subst (λ (k : ℕ). IsPlain w k b) e (subst (λ (k : ℕ). IsPlain w t k) f h)
 
-none_from : (o : Option Meaning) → ((m : Meaning) → o ≡ Some m → ⊥) → o ≡ None
+pub none_from : (o : Option Meaning) → ((m : Meaning) → o ≡ Some m → ⊥) → o ≡ None
 none_from None h = refl
 none_from (Some m) h = absurd (h m refl)
 

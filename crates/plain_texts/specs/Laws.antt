@@ -1,7 +1,9 @@
 -- What a plain text is read as.
 use Rattle.std.specs.Prelude.{◌≡◌, ℕ, List}
 use Rattle.kat_model.specs.Problems.{ProblemParts}
-use Rattle.problem_file.specs.Files.{term_side, equal, FileParts}
+use Rattle.kat_model.specs.declared.expression.Width.{Width}
+use Rattle.problem_file.specs.Concrete.{IsConcrete}
+use Rattle.problem_file.specs.Files.{term_side, GoalTree, equal, FileParts}
 use Rattle.problem_file.specs.Reads.{Reads}
 
 -- the text says a goal `equal`, and the question is of its two sides, over what the text declares and states
@@ -10,3 +12,13 @@ pub record AsksEqual (text : List ℕ) (q : ProblemParts) : Type 0 where
   pub reads : Reads text file
   pub goal : file.goal ≡ equal (term_side q.left) (term_side q.right)
   pub question : q ≡ record { tests = file.tests; actions = file.actions; hyps = file.hyps; left = q.left; right = q.right }
+
+-- the text says this goal about programs, over so many variables of a width and nothing else
+pub record AsksOfPrograms (text : List ℕ) (w : Width) (v : ℕ) (asked : GoalTree) : Type 0 where
+  pub file : FileParts
+  pub reads : Reads text file
+  pub width : file.width ≡ w
+  pub vars : file.vars ≡ v
+  pub rounds : file.rounds ≡ 1
+  pub concrete : IsConcrete file
+  pub goal : file.goal ≡ asked

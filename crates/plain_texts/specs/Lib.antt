@@ -1,3 +1,5 @@
 pub mod Questions
+pub mod ProgramNumbers
+pub mod ProgramTexts
 pub mod Laws
 pub mod Working

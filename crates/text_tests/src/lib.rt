@@ -1,6 +1,8 @@
-//! Tests from text to text: tokens, phrases, programs, problem files, goals, and comparisons of expressions.
+//! Tests from text to text: tokens, phrases, programs, problem files, goals, abstractions, and comparisons of expressions.
 #![tactic(auto)]
 
+#[cfg(test)]
+mod abstractions;
 #[cfg(test)]
 mod comparisons;
 #[cfg(test)]

@@ -1,17 +1,9 @@
 //! `decide`, and `check` on what it prints.
-use crate::fixtures::{is_line, replies, reply};
+use crate::fixtures::{ORDINARY_USE, evidence_in, is_line, replies, reply};
 use kat_model::NoMemory;
 use kat_tool::decided_text;
 use std::alloc::Global;
 use std::test::Fail;
-
-// The evidence in what `decide` tells, after the status and the space.
-fn evidence_in(told: &[u8]) -> &[u8] {
-    match told {
-        [_, _, evidence @ ..] => evidence,
-        other => other,
-    }
-}
 
 const EQUAL: &[&str] = &[
     "test b; goal equal b, b;",
@@ -29,16 +21,6 @@ const EQUAL: &[&str] = &[
     "test b; action p; goal equal (b.p)*.!b, b.p.(b.p)*.!b + !b;",
     ORDINARY_USE,
 ];
-
-// Unswitching, and removal of dead branches.
-const ORDINARY_USE: &str = "var i, n, mode, acc, step, debug;
-prog before { acc := 0; i := 0; step := 3; if n > 1000 { n := 1000; }
-  while i < n { if mode == 0 { acc := acc + i; } else { acc := acc + 2 * i; } i := i + 1; }
-  if i < n { acc := 99; } if step == 3 { skip; } else { acc := 7; } if debug != 0 { skip; } }
-prog after { acc := 0; i := 0; step := 3; if n > 1000 { n := 1000; }
-  if mode == 0 { while i < n { acc := acc + i; i := i + 1; } }
-  else { while i < n { acc := acc + 2 * i; i := i + 1; } } }
-goal equal before, after;";
 
 fn is_equal(told: &[u8]) -> bool {
     told.starts_with(b"0 kat 2 equal\n") && told.ends_with(b"end\n")

@@ -103,7 +103,25 @@ pub(crate) fn replies(
     Ok(reply(alloc, line, text, evidence)?.as_slice() == want.as_bytes())
 }
 
+// The evidence in what `decide` tells, after the status and the space.
+pub(crate) fn evidence_in(told: &[u8]) -> &[u8] {
+    match told {
+        [_, _, evidence @ ..] => evidence,
+        other => other,
+    }
+}
+
 pub(crate) const DENESTING: &str = "action p, q; goal equal (p+q)*, (p*.q)*.p*;";
 
 pub(crate) const DENESTING_EVIDENCE: &str =
     "kat 1 equal\nE act 0\nE act 1\nE sum 0 1\nE star 2\nE star 0\nE seq 4 1\nE star 5\nE seq 6 4\nE seq 5 6\nE seq 8 4\nP 3 | 7\nP 3 | 4 9\nend\n";
+
+// Unswitching, and removal of dead branches.
+pub(crate) const ORDINARY_USE: &str = "var i, n, mode, acc, step, debug;
+prog before { acc := 0; i := 0; step := 3; if n > 1000 { n := 1000; }
+  while i < n { if mode == 0 { acc := acc + i; } else { acc := acc + 2 * i; } i := i + 1; }
+  if i < n { acc := 99; } if step == 3 { skip; } else { acc := 7; } if debug != 0 { skip; } }
+prog after { acc := 0; i := 0; step := 3; if n > 1000 { n := 1000; }
+  if mode == 0 { while i < n { acc := acc + i; i := i + 1; } }
+  else { while i < n { acc := acc + 2 * i; i := i + 1; } } }
+goal equal before, after;";

@@ -1,5 +1,5 @@
 //! `decide` and `show` on programs.
-use crate::fixtures::{is_line, reply};
+use crate::fixtures::{ORDINARY_USE, evidence_in, is_line, reply};
 use kat_model::NoMemory;
 use kat_tool::show_reply;
 use std::alloc::Global;
@@ -7,6 +7,9 @@ use std::test::Fail;
 
 const WRAP_AROUND: &str =
     "var x; prog P { x := 18446744073709551615; x := x + 1; } rounds 1; goal triple {true} P {x == 0};";
+
+const WITHOUT_ROUNDS: &str =
+    "var x; prog P { x := 18446744073709551615; x := x + 1; } rounds 0; goal triple {true} P {x == 0};";
 
 // A text, and how what `decide` tells of it begins.
 const DECISIONS: &[(&str, &str)] = &[
@@ -25,10 +28,7 @@ const DECISIONS: &[(&str, &str)] = &[
         "0 kat 2 equal\n",
     ),
     (WRAP_AROUND, "0 kat 2 equal\n"),
-    (
-        "var x; prog P { x := 18446744073709551615; x := x + 1; } rounds 0; goal triple {true} P {x == 0};",
-        "1 kat 1 different\n",
-    ),
+    (WITHOUT_ROUNDS, "1 kat 1 different\n"),
     // The order of assignments is not abstracted from.
     (
         "var x, y; prog L { x := 1; y := 2; } prog R { y := 2; x := 1; } goal equal L, R;",
@@ -62,6 +62,20 @@ fn programs_are_decided(rt: HostRuntime) -> Result<(), Fail> {
     Ok(())
 }
 
+// Whether `check` rejects what `decide` prints of the first text against the second one.
+fn is_rejected(alloc: Global, text: &str, other: &str) -> Result<bool, NoMemory> {
+    let told = reply(alloc, "decide f", text.as_bytes(), b"")?;
+    let found = reply(alloc, "check f e", other.as_bytes(), evidence_in(&told))?;
+    Ok(found.starts_with(b"3 rejected: "))
+}
+
+// The hypotheses of a file are derived from that file alone.
+#[test]
+fn evidence_of_other_rounds_is_rejected(rt: HostRuntime) -> Result<(), Fail> {
+    assert!(rt; is_rejected(rt.alloc(), WRAP_AROUND, WITHOUT_ROUNDS)?);
+    Ok(())
+}
+
 const SHOWN: &str =
     "0 # t0 is x == 0\n# t1 is x + 1 == 0\ntest t0, t1;\n# a0 is x := 18446744073709551615\n# a1 is x := x + 1\naction a0, a1;\n# assign a0 t0\nhyp ([false].(a0.[!t0])) = 0;\nhyp ([!false].(a0.t0)) = 0;\n# assign a0 t1\nhyp ([true].(a0.[!t1])) = 0;\nhyp ([!true].(a0.t1)) = 0;\n# assign a1 t0\nhyp (t1.(a1.[!t0])) = 0;\nhyp ([!t1].(a1.t0)) = 0;\n# F1 t0 t1\nhyp (t0.t1) = 0;\ngoal equal ([true].((a0.a1).[!t0])), 0;\n";
 
@@ -87,5 +101,32 @@ fn abstractions_are_shown(rt: HostRuntime) -> Result<(), Fail> {
         assert!(rt; is_shown(rt.alloc(), text, want)?, "{text}");
         assert!(rt; command_shows(rt.alloc(), text, want)?, "{text}");
     }
+    Ok(())
+}
+
+const ORDINARY_ROWS: &str = "0 # t0 is 1000 < n
+# t1 is i < n
+# t2 is mode == 0
+# t3 is step + 18446744073709551613 == 0
+# t4 is debug == 0
+# t5 is n == 0
+# t6 is i < 1000
+# t7 is i + 1 < n
+test t0, t1, t2, t3, t4, t5, t6, t7;
+# a0 is acc := 0
+# a1 is i := 0
+# a2 is step := 3
+# a3 is n := 1000
+# a4 is acc := i + acc
+# a5 is acc := 2*i + acc
+# a6 is i := i + 1
+# a7 is acc := 99
+# a8 is acc := 7
+action a0, a1, a2, a3, a4, a5, a6, a7, a8;
+";
+
+#[test]
+fn ordinary_use_has_these_rows(rt: HostRuntime) -> Result<(), Fail> {
+    assert!(rt; begins_with(rt.alloc(), "show f", ORDINARY_USE, ORDINARY_ROWS)?);
     Ok(())
 }

@@ -20,6 +20,10 @@ const TEXTS: &[(&str, &str)] = &[
         "goal triple {1 == 18446744073709551616} 1 {true};",
         "2 refused: NumberTooWide 18\n",
     ),
+    (
+        "var x; prog P { x := 18446744073709551616; } goal equal P, P;",
+        "2 refused: NumberTooWide 21\n",
+    ),
 ];
 
 // The problem is refused before its evidence.
@@ -143,7 +147,11 @@ const WORDS: &[&str] = &[
     "replay f",
     "replay  f",
     "--help",
-    "decide f --json",
+    "decide f --JSON",
+    "decide --json f",
+    "check f --json",
+    "show f --json",
+    "decide f e --json",
     "show",
     "show -f",
     "show f g",

@@ -6,7 +6,8 @@ use Rattle.std.specs.declared.cmp.Ordering.{Ordering}
 use Rattle.std.specs.declared.cmp.Ordering.TheVariants.{Equal}
 use Rattle.kat_model.specs.Members.{SameMembers}
 use Rattle.kat_model.specs.Strings.{Move}
-use Rattle.certificate.specs.declared.words.Numbers.{Numbers}
+use Rattle.line_texts.specs.Lines.{parts_of}
+use Rattle.line_texts.specs.Numerals.{is_numeral, value_of, too_wide}
 use Rattle.certificate.specs.declared.entry.Entry.{Entry}
 use Rattle.certificate.specs.declared.entry.LineFault.{LineFault}
 use Rattle.certificate.specs.declared.entry.LineFault.TheVariants.{NoMemory as NoRoom, Form, Wide}
@@ -16,8 +17,7 @@ use Rattle.certificate.specs.declared.draft.Draft.{Draft}
 use Rattle.certificate.specs.declared.evidence.EvidenceFault.{EvidenceFault}
 use Rattle.certificate.specs.declared.evidence.EvidenceFault.TheVariants.{NoMemory}
 use Rattle.certificate.specs.Certs.{CertParts, cert_of, IsCert}
-use Rattle.certificate.specs.Forms.{is_numeral, value_of}
-use Rattle.certificate.specs.Faults.{Answer, too_wide, is_wide, section_of, may_stand, names_earlier, entry_fault, with_entry, line_fault_after, parts_of}
+use Rattle.certificate.specs.Faults.{Answer, is_wide, section_of, may_stand, names_earlier, entry_fault, with_entry, line_fault_after}
 
 -- this answer is given, unless memory ran out
 abbrev pub Answers : Answer → Answer → Type 0
@@ -25,30 +25,10 @@ Answers told (Ok e) = told ≡ Ok e
 Answers told (Err NoMemory) = Unit {0}
 Answers told (Err fault) = told ≡ Err fault
 
--- the bytes of words
-abbrev pub texts : List (Bor (List ℕ)) → List (List ℕ)
-texts ws = map (λ w. w.now) ws
-
 -- the one number of a list
 abbrev pub single_of : List ℕ → Option ℕ
 single_of (k ∷ []) = Some k
 single_of ks = None
-
--- the bytes are a complete line and what follows its line feed
-pub record IsCutLine (bytes line after : List ℕ) : Type 0 where
-  pub parts : parts_of bytes ≡ line ∷ parts_of after
-  pub length : length line + 1 + length after ≡ length bytes
-
--- these are the numbers, where none is too wide
-pub record HasNumbers (ks : List ℕ) (numbers : Numbers) : Type 0 where
-  pub count : length numbers.values.items ≡ length ks
-  pub wide : numbers.wide ≡ list_any too_wide ks
-  pub values : numbers.wide ≡ false → numbers.values.items ≡ ks
-
--- the numbers of words that are numerals
-abbrev pub ReadsNumbers : List (List ℕ) → Option Numbers → Type 0
-ReadsNumbers ws None = list_all is_numeral ws ≡ false
-ReadsNumbers ws (Some numbers) = (list_all is_numeral ws ≡ true) × HasNumbers (map value_of ws) numbers
 
 -- what a line is read as, where it is to say this entry or none
 abbrev pub ReadsEntry : Option Entry → Result Entry LineFault → Type 0

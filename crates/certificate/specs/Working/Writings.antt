@@ -2,17 +2,11 @@
 use Rattle.std.specs.Prelude.{ℕ, List, [], ◌∷◌, ◌++◌}
 use Rattle.std.specs.List.{flat_map}
 use Rattle.kat_model.specs.Strings.{Move, GuardedString}
+use Rattle.line_texts.specs.Lines.{line_of, with_feed}
 use Rattle.certificate.specs.declared.entry.Entry.{Entry}
 use Rattle.certificate.specs.declared.evidence.Evidence.{Evidence}
 use Rattle.certificate.specs.declared.evidence.Evidence.TheVariants.{Equal, Different}
-use Rattle.certificate.specs.Texts.{entry_words, atom_words, move_words, line_of, heading, string_heading, entries_of}
-
-abbrev pub with_feed : List ℕ → List ℕ
-with_feed line = line ++ 10 ∷ []
-
--- each word after a blank
-abbrev pub after_blanks : List (List ℕ) → List ℕ
-after_blanks ws = flat_map (λ w. 32 ∷ w) ws
+use Rattle.certificate.specs.Texts.{entry_words, atom_words, move_words, heading, string_heading, entries_of}
 
 abbrev pub entry_lines : List Entry → List ℕ
 entry_lines es = flat_map (λ e. with_feed (line_of (entry_words e))) es

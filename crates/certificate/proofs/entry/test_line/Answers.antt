@@ -1,6 +1,6 @@
 use Rattle.std.proofs.Common.{◌∙◌, sym, ap, subst}
+use Rattle.line_texts.specs.Readings.{texts, ReadsNumbers}
 use Rattle.certificate.specs.Forms.{test_node_of}
-use Rattle.certificate.specs.Working.Readings.{texts, ReadsNumbers}
 use Rattle.certificate.proofs.EntryForms.{wide_test}
 use Rattle.certificate.proofs.entry.test_line.Goals as goal
 

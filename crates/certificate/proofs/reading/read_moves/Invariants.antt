@@ -1,5 +1,6 @@
 use Rattle.std.proofs.Common.{◌≡◌, ◌+◌, ◌≤◌, length, []}
-use Rattle.certificate.specs.Faults.{moves_from, parts_of}
+use Rattle.line_texts.specs.Lines.{parts_of}
+use Rattle.certificate.specs.Faults.{moves_from}
 use Rattle.certificate.proofs.reading.read_moves.Given as goal
 
 -- the lines that are left say after the moves so far what all lines say

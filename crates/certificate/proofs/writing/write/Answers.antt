@@ -1,5 +1,6 @@
 use Rattle.std.proofs.Common.{◌∙◌, ◌++◌, ap, sym, codes}
-use Rattle.certificate.specs.Working.Writings.{with_feed, body_of}
+use Rattle.line_texts.specs.Lines.{with_feed}
+use Rattle.certificate.specs.Working.Writings.{body_of}
 use Rattle.certificate.proofs.Lines.{text_of-body}
 use Rattle.certificate.proofs.writing.write.Goals as goal
 

@@ -2,6 +2,7 @@ use Rattle.std.proofs.Common.{subst}
 use Rattle.kat_tool.specs.Check.{ChecksTexts}
 use Rattle.kat_tool.specs.Working.Outcomes.{IsStop}
 use Rattle.kat_tool.proofs.CheckReplies.{texts_headline, texts_stores}
+use Rattle.kat_tool.proofs.PlainPrograms.{programs_checked, triple_checked}
 use Rattle.kat_tool.proofs.text.checked_texts.Goals as goal
 
 pub returns-in-Ok-clause-headline : goal.returns-in-Ok-clause-headline
@@ -10,6 +11,22 @@ returns-in-Ok-clause-headline c q asks = texts_headline c.args.text.now c.args.e
 pub returns-in-Err-Replied-clause-headline : goal.returns-in-Err-Replied-clause-headline
 returns-in-Err-Replied-clause-headline c q asks =
     texts_headline c.args.text.now c.args.evidence.now _ _ q asks
+    (subst (IsStop (ChecksTexts c.args.text.now c.args.evidence.now)) c.in-Err-Replied.field-0-is c.in-Err-Replied.ensures)
+
+pub returns-in-Ok-clause-programs : goal.returns-in-Ok-clause-programs
+returns-in-Ok-clause-programs c w v p q printable same = programs_checked c.args.text.now w v _ _ p q printable same c.args.evidence.now c.in-Ok.ensures
+
+pub returns-in-Err-Replied-clause-programs : goal.returns-in-Err-Replied-clause-programs
+returns-in-Err-Replied-clause-programs c w v p q printable same =
+    programs_checked c.args.text.now w v _ _ p q printable same c.args.evidence.now
+    (subst (IsStop (ChecksTexts c.args.text.now c.args.evidence.now)) c.in-Err-Replied.field-0-is c.in-Err-Replied.ensures)
+
+pub returns-in-Ok-clause-triples : goal.returns-in-Ok-clause-triples
+returns-in-Ok-clause-triples c w v b p d printable same = triple_checked c.args.text.now w v _ _ b p d printable same c.args.evidence.now c.in-Ok.ensures
+
+pub returns-in-Err-Replied-clause-triples : goal.returns-in-Err-Replied-clause-triples
+returns-in-Err-Replied-clause-triples c w v b p d printable same =
+    triple_checked c.args.text.now w v _ _ b p d printable same c.args.evidence.now
     (subst (IsStop (ChecksTexts c.args.text.now c.args.evidence.now)) c.in-Err-Replied.field-0-is c.in-Err-Replied.ensures)
 
 pub returns-in-Ok-clause-stores : goal.returns-in-Ok-clause-stores

@@ -3,6 +3,7 @@ use Rattle.kat_tool.specs.Decide.{DecidesText}
 use Rattle.kat_tool.specs.Working.Outcomes.{IsStop}
 use Rattle.kat_tool.proofs.DecideReplies.{text_headline, text_stores}
 use Rattle.kat_tool.proofs.PlainTexts.{plain_headline}
+use Rattle.kat_tool.proofs.PlainPrograms.{programs_headline, triple_headline}
 use Rattle.kat_tool.proofs.text.decided_text.Goals as goal
 
 pub returns-in-Ok-clause-plain : goal.returns-in-Ok-clause-plain
@@ -11,6 +12,22 @@ returns-in-Ok-clause-plain c q printable same = plain_headline c.args.text.now _
 pub returns-in-Err-Replied-clause-plain : goal.returns-in-Err-Replied-clause-plain
 returns-in-Err-Replied-clause-plain c q printable same =
     plain_headline c.args.text.now _ _ q printable same
+    (subst (IsStop (DecidesText c.args.text.now)) c.in-Err-Replied.field-0-is c.in-Err-Replied.ensures)
+
+pub returns-in-Ok-clause-programs : goal.returns-in-Ok-clause-programs
+returns-in-Ok-clause-programs c w v p q printable same = programs_headline c.args.text.now w v _ _ p q printable same c.in-Ok.ensures
+
+pub returns-in-Err-Replied-clause-programs : goal.returns-in-Err-Replied-clause-programs
+returns-in-Err-Replied-clause-programs c w v p q printable same =
+    programs_headline c.args.text.now w v _ _ p q printable same
+    (subst (IsStop (DecidesText c.args.text.now)) c.in-Err-Replied.field-0-is c.in-Err-Replied.ensures)
+
+pub returns-in-Ok-clause-triples : goal.returns-in-Ok-clause-triples
+returns-in-Ok-clause-triples c w v b p d printable same = triple_headline c.args.text.now w v _ _ b p d printable same c.in-Ok.ensures
+
+pub returns-in-Err-Replied-clause-triples : goal.returns-in-Err-Replied-clause-triples
+returns-in-Err-Replied-clause-triples c w v b p d printable same =
+    triple_headline c.args.text.now w v _ _ b p d printable same
     (subst (IsStop (DecidesText c.args.text.now)) c.in-Err-Replied.field-0-is c.in-Err-Replied.ensures)
 
 pub returns-in-Ok-clause-headline : goal.returns-in-Ok-clause-headline

@@ -1,0 +1,6 @@
+pub mod Splits
+pub mod NumeralValues
+pub mod ReadNumbers
+pub mod LineForms
+pub mod Words
+pub mod TextParts

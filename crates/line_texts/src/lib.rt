@@ -1,0 +1,10 @@
+//! Texts of lines: their lines, words and numerals, read and written.
+#![tactic(auto)]
+
+mod lines;
+mod numerals;
+mod writing;
+
+pub use lines::{first_line, words_of};
+pub use numerals::{Numbers, is_numeral, number_of, read_numbers};
+pub use writing::{put_form, put_line, put_number, put_numbers};
