@@ -1,0 +1,9 @@
+pub mod PointLists
+pub mod Choices
+pub mod Counters
+pub mod MachineRuns
+pub mod TurnShapes
+pub mod LoopTurns
+pub mod WholeForms
+pub mod KeptStores
+pub mod FormMeanings

@@ -1,0 +1,62 @@
+//! The form of a program with one loop.
+ghost use Rattle.std.specs.Prelude.{◌≡◌, ◌≤◌, ◌<◌, ◌↔◌, ℕ, true, IfOk, Err};
+ghost use Rattle.while_lang.specs.Programs.{is_concrete};
+ghost use Rattle.one_loop.specs.Variables.{HasVarsBelow};
+ghost use Rattle.one_loop.specs.Statements.{HasTooManyStatements};
+ghost use Rattle.one_loop.specs.Forms.{IsOneForm};
+ghost use Rattle.one_loop.specs.Working.Blocks.{loop_from, IsPointLoop};
+
+use crate::blocks::{jump, two_stmts};
+use crate::choice::choice_of_last;
+use crate::fault::OneLoopFault;
+use crate::points::add_points;
+use crate::statements::statement_count;
+use kat_model::{Cond, Expr, NoMemory, Rel, Width};
+use std::alloc::Global;
+use while_lang::{Prog, Stmt};
+
+/// The most variables of a program.
+const MAX_VARS: usize = 64;
+
+// The loop that begins at a point and is left at the end.
+fn loop_over(alloc: Global, counter: usize, start: u64, body: Prog) -> Result<Prog, NoMemory>
+    ensures { IfOk result (λ p. p ≡ loop_from counter start body) }
+{
+    let going = Cond::Compare(Rel::Ne, Expr::Var(counter), Expr::Num(0));
+    two_stmts(alloc, jump(counter, start), Stmt::While(going, body))
+}
+
+// The loop over the points of a program.
+fn point_loop(alloc: Global, prog: &Prog, counter: usize) -> Result<Prog, NoMemory>
+    ensures { IfOk result (λ p. IsPointLoop counter prog.now p) }
+{
+    let mut blocks = Vec::new(alloc);
+    let start = add_points(alloc, counter, prog, 0, &mut blocks)?;
+    let count = blocks.len();
+    let body = choice_of_last(alloc, counter, &mut blocks, count)?;
+    loop_over(alloc, counter, start, body)
+}
+
+/// The form of a concrete program over so many variables, at most 64: a program with just one loop and one variable more,
+/// which ends in the same stores with that variable, its counter, behind them (Harel 1980; Kozen 1997). The counter has the
+/// next number, its value before does not matter, and it ends as 0. There is no form where there are 64 variables; else none
+/// where there are more statements than the greatest number of the width, blocks' statements counted. It fails otherwise
+/// only when out of memory.
+pub fn one_loop(alloc: Global, prog: &Prog, vars: usize, width: Width) -> Result<Prog, OneLoopFault>
+    requires concrete { is_concrete prog.now ≡ true }
+    requires variables { HasVarsBelow vars prog.now }
+    requires within { vars ≤ 64 }
+    ensures form { IfOk result (λ q. IsOneForm width prog.now q vars) }
+    ensures too_many_vars { (result ≡ Err OneLoopFault.TooManyVars) ↔ (vars ≡ 64) }
+    ensures too_many_statements { (n : ℕ) → (result ≡ Err (OneLoopFault.TooManyStatements n))
+        ↔ ((vars < 64) × HasTooManyStatements width prog.now n) }
+{
+    if vars == MAX_VARS {
+        return Err(OneLoopFault::TooManyVars);
+    }
+    match statement_count(prog) {
+        Some(count) if count <= width.greatest() => Ok(point_loop(alloc, prog, vars)?),
+        Some(count) => Err(OneLoopFault::TooManyStatements(count)),
+        None => Err(OneLoopFault::TooManyStatements(u64::MAX)),
+    }
+}
