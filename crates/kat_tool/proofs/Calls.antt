@@ -6,7 +6,7 @@ use Rattle.kat_io.specs.Told.{Untold}
 use Rattle.kat_io.specs.Outside.{Rose, AppendsFront}
 use Rattle.kat_model.specs.Members.{Has}
 use Rattle.kat_model.specs.Problems.{ProblemParts}
-use Rattle.kat_tool.specs.Commands.{Command, decide, report, show, check, replay, run, command_of, files_of}
+use Rattle.kat_tool.specs.Commands.{Command, decide, report, show, check, replay, run, oneloop, command_of, files_of}
 use Rattle.kat_tool.specs.Asking.{Asks}
 use Rattle.kat_tool.specs.Posing.{Poses}
 use Rattle.kat_tool.specs.Steps.{ShelfUse, HasFailedOn, GetsFile, AsksText}
@@ -16,9 +16,10 @@ use Rattle.kat_tool.specs.Show.{ShowsText, Shows}
 use Rattle.kat_tool.specs.Check.{ChecksBytes, Checks, CheckStatus}
 use Rattle.kat_tool.specs.Replay.{ReplaysBytes, Replays}
 use Rattle.kat_tool.specs.Running.{RunsText}
+use Rattle.kat_tool.specs.OneLoop.{FormsText}
 use Rattle.kat_tool.specs.Replies.{RepliesTo, HasNoCommand, Replies}
 use Rattle.kat_tool.specs.Agreement.{IsAgreed}
-use Rattle.kat_tool.specs.Run.{HasFailed, HasUnfitRun, IsReply, Call, IsRun}
+use Rattle.kat_tool.specs.Run.{HasFailed, HasUnfitRun, HasUnfitForm, IsReply, Call, IsRun}
 use Rattle.kat_tool.specs.Laws.{CausesExclude}
 use Rattle.kat_tool.proofs.Contents.{held_same}
 use Rattle.kat_tool.proofs.Steps.{OneStatus, gets_once, text_once}
@@ -28,6 +29,7 @@ use Rattle.kat_tool.proofs.CheckReplies.{bytes_once, check_causes}
 use Rattle.kat_tool.proofs.ReplayReplies.{bytes_once as replayed_once, replay_causes}
 use Rattle.kat_tool.proofs.ShowReplies.{shows_once, show_causes}
 use Rattle.kat_tool.proofs.RunReplies.{runs_once, run_causes}
+use Rattle.kat_tool.proofs.OneLoopReplies.{forms_once, one_loop_causes}
 
 -- replies to commands, by their statuses
 module _ (s : ShelfUse) (status : ℕ) (output : List ℕ) where
@@ -76,12 +78,19 @@ module _ (s : ShelfUse) (status : ℕ) (output : List ℕ) where
       small (inr (inr (inl e))) = inl (omega (arith, e))
       small (inr (inr (inr (inl e)))) = inl (omega (arith, e))
       small (inr (inr (inr (inr e)))) = inr e
+  command_small (oneloop file prog) r = small (one_loop_causes s file prog status output r).answers
+    where
+      small : (status ≡ 0) ⊎ ((status ≡ 2) ⊎ ((status ≡ 4) ⊎ (status ≡ 7))) → (status ≤ 4) ⊎ (status ≡ 7)
+      small (inl e) = inl (omega (arith, e))
+      small (inr (inl e)) = inl (omega (arith, e))
+      small (inr (inr (inl e))) = inl (omega (arith, e))
+      small (inr (inr (inr e))) = inr e
 
   no_seven : status ≤ 4 → status ≡ 7 → ⊥
   no_seven le seven = omega (arith, le, seven)
 
-  -- a command whose words are refused runs a program
-  command_refused : (words : List (List ℕ)) (command : Command) → command_of words ≡ Some command → RepliesTo s command status output → status ≡ 7 → HasUnfitRun s words × (output ≡ codes "refused: words\n")
+  -- a command whose words are refused runs a program, or asks for the form of one
+  command_refused : (words : List (List ℕ)) (command : Command) → command_of words ≡ Some command → RepliesTo s command status output → status ≡ 7 → (HasUnfitRun s words ⊎ HasUnfitForm s words) × (output ≡ codes "refused: words\n")
   command_refused words (decide file) is r seven = absurd (no_seven (decide_small file r) seven)
   command_refused words (report file) is r seven = absurd (no_seven (report_small file r) seven)
   command_refused words (check file other) is r seven = absurd (no_seven (check_small file other r) seven)
@@ -89,7 +98,10 @@ module _ (s : ShelfUse) (status : ℕ) (output : List ℕ) where
   command_refused words (show file) is r seven = absurd (no_seven (show_small file r) seven)
   command_refused words (run file prog store turns) is r seven =
       let h = (run_causes s file prog store turns status output r).unfit seven in
-      ((file, prog, store, turns, is, h.0), h.1)
+      (inl (file, prog, store, turns, is, h.0), h.1)
+  command_refused words (oneloop file prog) is r seven =
+      let h = (one_loop_causes s file prog status output r).unfit seven in
+      (inr (file, prog, is, h.0), h.1)
 
   -- the file that a command failed on is one of its own
   command_failed : (command : Command) → RepliesTo s command status output → status ≡ 4 → (file : List ℕ) × Has (files_of command) file × HasFailedOn s file status output
@@ -99,6 +111,7 @@ module _ (s : ShelfUse) (status : ℕ) (output : List ℕ) where
   command_failed (check file other) r four = ⊎_elim (λ f. (file, inl refl, f)) (λ h. (other, inr (inl refl), h.2)) ((check_causes s file other status output r).failed four)
   command_failed (replay file other) r four = ⊎_elim (λ f. (file, inl refl, f)) (λ h. (other, inr (inl refl), h.2)) ((replay_causes s file other status output r).failed four)
   command_failed (run file prog store turns) r four = (file, inl refl, (run_causes s file prog store turns status output r).failed four)
+  command_failed (oneloop file prog) r four = (file, inl refl, (one_loop_causes s file prog status output r).failed four)
 
 -- a command has one reply where the shelf tells its files
 command_once : (s : ShelfUse) → (Rose s.before s.now → ⊥) → ((file : List ℕ) → s.content file ≡ Untold → ⊥) → (command : Command) → OneStatus (RepliesTo s command)
@@ -113,6 +126,7 @@ command_once s unfailed told (replay file other) =
     gets_once s file _ _ (λ t. AsksText t (λ q. GetsFile s other None [] (ReplaysBytes q))) (told file) unfailed (λ t. text_once t (λ q. GetsFile s other None [] (ReplaysBytes q)) (λ q. gets_once s other None [] (ReplaysBytes q) (told other) unfailed (replayed_once q)))
 command_once s unfailed told (run file prog store turns) =
     gets_once s file _ _ (λ t. RunsText t prog store turns) (told file) unfailed (λ t. runs_once t prog store turns)
+command_once s unfailed told (oneloop file prog) = gets_once s file _ _ (λ t. FormsText t prog) (told file) unfailed (λ t. forms_once t prog)
 
 module _ (s : ShelfUse) (words : List (List ℕ)) (status : ℕ) (output : List ℕ) where
   -- the reply is that to the command of the words
@@ -120,7 +134,7 @@ module _ (s : ShelfUse) (words : List (List ℕ)) (status : ℕ) (output : List 
   replied_to command is (inl h) = let none = h.none in absurd cc
   replied_to command is (inr (c, was, r)) = subst (λ d. RepliesTo s d status output) (same_Some c command (sym was ∙ is)) r
 
-  refused_is : HasNoCommand words status output ⊎ ((c : Command) × (command_of words ≡ Some c) × RepliesTo s c status output) → status ≡ 7 → ((command_of words ≡ None) ⊎ HasUnfitRun s words) × (output ≡ codes "refused: words\n")
+  refused_is : HasNoCommand words status output ⊎ ((c : Command) × (command_of words ≡ Some c) × RepliesTo s c status output) → status ≡ 7 → ((command_of words ≡ None) ⊎ (HasUnfitRun s words ⊎ HasUnfitForm s words)) × (output ≡ codes "refused: words\n")
   refused_is (inl h) seven = (inl h.none, h.printed)
   refused_is (inr (c, was, r)) seven = let h = command_refused s status output words c was r seven in (inr h.0, h.1)
 
@@ -166,6 +180,7 @@ reply_is s words status output r = record {
   checks = λ file other is. check_causes s file other status output (replied_to s words status output (check file other) is r.cause);
   replays = λ file other is. replay_causes s file other status output (replied_to s words status output (replay file other) is r.cause);
   runs = λ file prog store turns is. run_causes s file prog store turns status output (replied_to s words status output (run file prog store turns) is r.cause);
+  forms = λ file prog is. one_loop_causes s file prog status output (replied_to s words status output (oneloop file prog) is r.cause);
   shows = λ file is. show_causes s file status output (replied_to s words status output (show file) is r.cause);
   failed = failed_is s words status output r.cause;
   no_command = none_is s words status output r.cause;

@@ -12,8 +12,13 @@ pub mod CheckReplies
 pub mod ReplayReplies
 pub mod StoreValues
 pub mod ShowReplies
+pub mod NamedPrograms
 pub mod RunOutcomes
 pub mod RunReplies
+pub mod FileVariables
+pub mod Counters
+pub mod FormNames
+pub mod OneLoopReplies
 pub mod Calls
 mod PlainTexts
 mod PlainPrograms

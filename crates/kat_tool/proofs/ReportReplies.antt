@@ -7,12 +7,10 @@ use Rattle.problem_file.specs.Concrete.{IsConcrete, Agrees}
 use Rattle.kat_tool.specs.Asking.{Asks}
 use Rattle.kat_tool.specs.Posing.{IsRefused, Poses}
 use Rattle.kat_tool.specs.Steps.{ShelfUse, HasFailedOn, AsksQuestion}
-use Rattle.kat_tool.specs.Decide.{IsDecided}
 use Rattle.kat_tool.specs.Report.{IsReported, ReportsText, Reports, ReportHeadline, TellsReport, ReportCauses}
 use Rattle.kat_tool.proofs.Steps.{OneStatus, reads_said, text_asks, gets_posed, gets_asked, gets_none}
 use Rattle.kat_tool.proofs.StoreSentences.{asked_agrees, told_agrees}
 use Rattle.kat_tool.proofs.DecideReplies.{decided_headline, decided_once, question_stores}
-use Rattle.kat_tool.proofs.Ways.{Ways, at_two, at_four}
 
 reported_headline : (q : ProblemParts) (status : ℕ) (output : List ℕ) → IsReported q status output → ReportHeadline q status output
 reported_headline q status output r = record { text = r.text; headline = decided_headline q status r.text r.decided; report = r.report }

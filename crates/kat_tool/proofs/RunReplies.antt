@@ -1,35 +1,24 @@
 -- The reply of `run` is the statement on the program, and has its cause.
-use Rattle.std.proofs.Common.{◌≡◌, ◌⊎◌, ℕ, List, Bool, true, false, cond, Option, None, Some, inl, inr, ⊎_elim, refl, sym, ap, subst, ◌∙◌, codes, arith}
+use Rattle.std.proofs.Common.{◌≡◌, ◌⊎◌, ℕ, List, inl, inr, ⊎_elim, sym, ap, subst, ◌∙◌, codes, arith}
 use Rattle.std.proofs.lemmas.Option.{same_Some, none-some}
-use Rattle.std.specs.Option.{option_map}
 use Rattle.kat_model.specs.Stores.{Store}
-use Rattle.while_lang.specs.Programs.{ProgTree, is_concrete}
+use Rattle.while_lang.specs.Programs.{ProgTree}
 use Rattle.while_lang.specs.Runs.{HasOutcome, HasOneOutcome}
 use Rattle.while_lang.specs.declared.outcome.Outcome.{Outcome}
 use Rattle.while_lang.specs.declared.outcome.Outcome.TheVariants.{Done, Stuck, More}
 use Rattle.while_lang.proofs.Outcomes.{one_outcome}
-use Rattle.problem_file.specs.Files.{FileParts, prog_named}
+use Rattle.problem_file.specs.Files.{FileParts}
 use Rattle.problem_file.specs.Reads.{Reads}
 use Rattle.kat_tool.specs.Posing.{MaySay, MaySayNone}
+use Rattle.kat_tool.specs.ProgramWords.{HasUnfitWords}
 use Rattle.kat_tool.specs.RunTexts.{outcome_line, outcome_status}
 use Rattle.kat_tool.specs.Steps.{ShelfUse, Replying, HasFailedOn}
-use Rattle.kat_tool.specs.Running.{where_concrete, program_of, Fits, IsUnfit, HasUnfitWords, TakesWords, HasRun, RunsFile, RunsText, Runs, RunsTo, RunHeadline, TellsRun, MayMisfit, RunCauses}
+use Rattle.kat_tool.specs.Running.{Fits, IsUnfit, TakesWords, HasRun, RunsFile, RunsText, Runs, RunsTo, RunHeadline, TellsRun, MayMisfit, RunCauses}
 use Rattle.kat_tool.proofs.Steps.{OneStatus, reads_said, reads_once, gets_read, gets_said, gets_faulty}
+use Rattle.kat_tool.proofs.NamedPrograms.{fit_concrete}
 use Rattle.kat_tool.proofs.Ways.{Ways, at_zero, at_one, at_two, at_four, at_seven, below_seven}
 
 -- ---- the words and the file
-
-concrete_where : (o : Option ProgTree) (p : ProgTree) → where_concrete o ≡ Some p → is_concrete p ≡ true
-concrete_where None p e = absurd (none-some p e)
-concrete_where (Some q) p e = chosen (is_concrete q) refl e
-  where
-    chosen : (b : Bool) → is_concrete q ≡ b → cond b (Some q) None ≡ Some p → is_concrete p ≡ true
-    chosen true is e = subst (λ r. is_concrete r ≡ true) (same_Some q p e) is
-    chosen false is e = absurd (none-some p e)
-
--- the program that fits is concrete
-pub fit_concrete : (f : FileParts) (prog : List ℕ) (p : ProgTree) → program_of f prog ≡ Some p → is_concrete p ≡ true
-fit_concrete f prog p e = concrete_where (option_map (λ p. p.tree) (prog_named f.scope f.progs prog)) p e
 
 module _ (f : FileParts) (prog store : List ℕ) where
   fit_or_not : (p : ProgTree) (s : Store) → Fits f prog store p s → IsUnfit f prog store → ⊥
@@ -48,7 +37,7 @@ module _ (f : FileParts) (prog store : List ℕ) where
     takes_fit p s fits (inr (q, t, other, g)) =
         subst (λ x. GoesOn x s status output) (same_program q p t s other fits) (subst (λ x. GoesOn q x status output) (same_start q p t s other fits) g)
 
-    takes_unfit : IsUnfit f prog store → TakesWords f prog store GoesOn status output → HasUnfitWords f prog store status output
+    takes_unfit : IsUnfit f prog store → TakesWords f prog store GoesOn status output → HasUnfitWords (IsUnfit f prog store) status output
     takes_unfit unfit (inl r) = r
     takes_unfit unfit (inr (q, t, other, g)) = absurd (fit_or_not q t other unfit)
 

@@ -11,9 +11,11 @@ pub mod Report
 pub mod Check
 pub mod Replay
 pub mod Show
+pub mod ProgramWords
 pub mod StoreWords
 pub mod RunTexts
 pub mod Running
+pub mod OneLoop
 pub mod Replies
 pub mod Agreement
 pub mod Run

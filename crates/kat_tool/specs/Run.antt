@@ -3,7 +3,7 @@ use Rattle.std.specs.Prelude.{◌≡◌, ◌≢◌, ◌⊎◌, ℕ, List, Option
 use Rattle.std.specs.Io.KnownBytes.{Appends, Keeps}
 use Rattle.kat_io.specs.Outside.{Rose, AppendsFront}
 use Rattle.kat_model.specs.Members.{Has}
-use Rattle.kat_tool.specs.Commands.{Command, decide, report, show, check, replay, run, command_of, files_of}
+use Rattle.kat_tool.specs.Commands.{Command, decide, report, show, check, replay, run, oneloop, command_of, files_of}
 use Rattle.kat_tool.specs.Steps.{ShelfUse, HasFailedOn}
 use Rattle.kat_tool.specs.Decide.{DecideCauses}
 use Rattle.kat_tool.specs.Report.{ReportCauses}
@@ -11,6 +11,7 @@ use Rattle.kat_tool.specs.Show.{ShowCauses}
 use Rattle.kat_tool.specs.Check.{CheckCauses}
 use Rattle.kat_tool.specs.Replay.{ReplayCauses}
 use Rattle.kat_tool.specs.Running.{MayMisfit, RunCauses}
+use Rattle.kat_tool.specs.OneLoop.{MayLackProgram, OneLoopCauses}
 use Rattle.kat_tool.specs.Replies.{Replies}
 use Rattle.kat_tool.specs.Agreement.{IsAgreed}
 
@@ -42,6 +43,10 @@ abbrev pub HasUnfitRun : ShelfUse → List (List ℕ) → Type 0
 HasUnfitRun s words =
     (file : List ℕ) × (prog : List ℕ) × (store : List ℕ) × (turns : ℕ) × (command_of words ≡ Some (run file prog store turns)) × MayMisfit (s.content file) prog store
 
+-- they ask for the form of one, and are refused after the file was read: it has no such concrete program
+abbrev pub HasUnfitForm : ShelfUse → List (List ℕ) → Type 0
+HasUnfitForm s words = (file : List ℕ) × (prog : List ℕ) × (command_of words ≡ Some (oneloop file prog)) × MayLackProgram (s.content file) prog
+
 -- a reply to words, and what it says: of each command its own record, and of the statuses that all have
 pub record IsReply (s : ShelfUse) (words : List (List ℕ)) (status : ℕ) (output : List ℕ) : Type 0 where
   pub replies : Replies s words status output
@@ -51,10 +56,11 @@ pub record IsReply (s : ShelfUse) (words : List (List ℕ)) (status : ℕ) (outp
   pub checks : (file other : List ℕ) → command_of words ≡ Some (check file other) → CheckCauses s file other status output
   pub replays : (file other : List ℕ) → command_of words ≡ Some (replay file other) → ReplayCauses s file other status output
   pub runs : (file prog store : List ℕ) (turns : ℕ) → command_of words ≡ Some (run file prog store turns) → RunCauses s file prog store turns status output
+  pub forms : (file prog : List ℕ) → command_of words ≡ Some (oneloop file prog) → OneLoopCauses s file prog status output
   pub shows : (file : List ℕ) → command_of words ≡ Some (show file) → ShowCauses s file status output
   pub failed : status ≡ 4 → HasFailed s words status output
   pub no_command : command_of words ≡ None → status ≡ 7
-  pub refused_words : status ≡ 7 → (command_of words ≡ None) ⊎ HasUnfitRun s words
+  pub refused_words : status ≡ 7 → (command_of words ≡ None) ⊎ (HasUnfitRun s words ⊎ HasUnfitForm s words)
   pub refused_words_line : status ≡ 7 → output ≡ codes "refused: words\n"
   pub counts : status ≢ 4 → s.now ≡ s.before
 

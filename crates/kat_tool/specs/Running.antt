@@ -1,28 +1,19 @@
 -- `run`: its reply, what that says of the program, and the cause of each status.
-use Rattle.std.specs.Prelude.{◌≡◌, ◌⊎◌, ◌↔◌, ℕ, List, Option, None, Some, codes, if◌then◌else◌}
-use Rattle.std.specs.Option.{option_map}
+use Rattle.std.specs.Prelude.{◌≡◌, ◌⊎◌, ◌↔◌, ℕ, List, None, Some, codes}
 use Rattle.kat_model.specs.Stores.{Store}
 use Rattle.kat_io.specs.Told.{Told, Holds}
 use Rattle.kat_io.specs.Outside.{Rose}
-use Rattle.while_lang.specs.Programs.{ProgTree, is_concrete}
+use Rattle.while_lang.specs.Programs.{ProgTree}
 use Rattle.while_lang.specs.Runs.{HasOutcome}
 use Rattle.while_lang.specs.declared.outcome.Outcome.{Outcome}
 use Rattle.while_lang.specs.declared.outcome.Outcome.TheVariants.{Done, Stuck, More}
-use Rattle.problem_file.specs.Files.{FileParts, prog_named}
+use Rattle.problem_file.specs.Files.{FileParts}
 use Rattle.problem_file.specs.Reads.{Reads}
 use Rattle.kat_tool.specs.Posing.{IsFaulty, MaySay, MaySayNone}
+use Rattle.kat_tool.specs.ProgramWords.{program_of, HasUnfitWords}
 use Rattle.kat_tool.specs.StoreWords.{store_of}
 use Rattle.kat_tool.specs.RunTexts.{outcome_line, outcome_status}
 use Rattle.kat_tool.specs.Steps.{ShelfUse, Replying, FailsOn, HasFailedOn, GetsText, ReadsText}
-
--- the program, where it is concrete
-abbrev pub where_concrete : Option ProgTree → Option ProgTree
-where_concrete None = None
-where_concrete (Some p) = if is_concrete p then Some p else None
-
--- the concrete program of the file that has the name
-abbrev pub program_of : FileParts → List ℕ → Option ProgTree
-program_of f name = where_concrete (option_map (λ p. p.tree) (prog_named f.scope f.progs name))
 
 -- PROG is a concrete program of the file, and STORE gives a store of it
 pub record Fits (f : FileParts) (prog store : List ℕ) (p : ProgTree) (s : Store) : Type 0 where
@@ -35,16 +26,10 @@ IsUnfit f prog store = (program_of f prog ≡ None) ⊎ (store_of f store ≡ No
 
 -- ---- the reply
 
--- words that do not fit are refused
-pub record HasUnfitWords (f : FileParts) (prog store : List ℕ) (status : ℕ) (output : List ℕ) : Type 0 where
-  pub unfit : IsUnfit f prog store
-  pub has_status : status ≡ 7
-  pub printed : output ≡ codes "refused: words\n"
-
 -- the words are held against the file: they do not fit, or the program and the store are gone on with
 abbrev pub TakesWords : FileParts → List ℕ → List ℕ → (ProgTree → Store → Replying) → Replying
 TakesWords f prog store GoesOn status output =
-    HasUnfitWords f prog store status output ⊎ ((p : ProgTree) × (s : Store) × Fits f prog store p s × GoesOn p s status output)
+    HasUnfitWords (IsUnfit f prog store) status output ⊎ ((p : ProgTree) × (s : Store) × Fits f prog store p s × GoesOn p s status output)
 
 -- the program is run on the store, and its outcome is told
 pub record HasRun (f : FileParts) (turns : ℕ) (p : ProgTree) (s : Store) (status : ℕ) (output : List ℕ) : Type 0 where

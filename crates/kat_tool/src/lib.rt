@@ -3,11 +3,14 @@
 
 mod asking;
 mod check;
+mod counter;
 mod decide;
 mod getting;
 mod laws;
 mod numbers;
+mod oneloop;
 mod posing;
+mod program_words;
 mod replay;
 mod reply;
 mod report;
@@ -22,6 +25,9 @@ mod words;
 
 pub use laws::{causes_exclude, words_give_stores};
 pub use reply::Reply;
-pub use text::{checked_texts, decided_text, replayed_texts, reported_text, run_reply, show_reply};
+pub use text::{
+    checked_texts, decided_text, one_loop_reply, replayed_texts, reported_text, run_reply,
+    show_reply,
+};
 pub use top::run;
 pub use words::Words;

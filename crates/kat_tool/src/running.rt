@@ -1,30 +1,20 @@
 //! `run`: the reply to a text and words is how the program ends that they name.
-ghost use Rattle.std.specs.Prelude.{◌≡◌, Some, true, codes, IfOk};
-ghost use Rattle.std.specs.Option.{option_map};
+ghost use Rattle.std.specs.Prelude.{◌≡◌, true, IfOk};
 ghost use Rattle.kat_model.specs.Stores.{IsStore};
 ghost use Rattle.while_lang.specs.Programs.{is_concrete};
 ghost use Rattle.kat_tool.specs.RunTexts.{outcome_status};
-ghost use Rattle.kat_tool.specs.Running.{program_of, HasRun, RunsFile, RunsText};
-ghost use Rattle.kat_tool.specs.Working.Outcomes.{IsReplied, IsStop};
+ghost use Rattle.kat_tool.specs.Running.{HasRun, RunsFile, RunsText};
+ghost use Rattle.kat_tool.specs.Working.Outcomes.{IsReplied};
 
 use crate::posing::file_of;
-use crate::reply::{Reply, Stop, line};
+use crate::program_words::{program_of, unfit_stop};
+use crate::reply::{Reply, Stop};
 use crate::run_text::outcome_line;
 use crate::store_words::store_of;
 use kat_model::NoMemory;
 use problem_file::File;
 use std::alloc::Global;
 use while_lang::{Outcome, Prog, Store, run};
-
-// The concrete program of that name.
-fn program_of<'a>(file: &'a File, name: &str) -> Option<&'a Prog>
-    ensures { option_map (λ p. p.now) result ≡ program_of file.now name.now }
-{
-    match file.prog(name) {
-        Some(prog) if prog.concrete() => Some(prog),
-        _ => None,
-    }
-}
 
 fn outcome_status(outcome: Outcome) -> u8
     ensures { result ≡ outcome_status outcome }
@@ -52,16 +42,6 @@ fn outcome_reply(
         status: outcome_status(outcome),
         output: outcome_line(alloc, &file.scope, outcome, &store)?,
     })
-}
-
-// The refusal of words that do not fit.
-fn unfit_stop(alloc: Global) -> Stop
-    ensures { IsStop (λ status output. (status ≡ 7) × (output ≡ codes "refused: words\n")) result }
-{
-    match line(alloc, 7, b"refused: words\n") {
-        Ok(reply) => Stop::Replied(reply),
-        Err(NoMemory) => Stop::NoMemory,
-    }
 }
 
 // The reply to a file and words.

@@ -1,4 +1,4 @@
-//! `decide`, `check`, `replay`, `run` and `show` on the bytes of texts, with no outside.
+//! `decide`, `check`, `replay`, `run`, `oneloop` and `show` on the bytes of texts, with no outside.
 ghost use Rattle.std.specs.Prelude.{◌≡◌, ℕ, IfOk};
 ghost use Rattle.kat_model.specs.Problems.{ProblemParts};
 ghost use Rattle.kat_model.specs.Expressions.{CondTree};
@@ -16,10 +16,11 @@ ghost use Rattle.kat_tool.specs.Report.{ReportsText, ReportHeadline};
 ghost use Rattle.kat_tool.specs.Check.{ChecksTexts, CheckHeadline};
 ghost use Rattle.kat_tool.specs.Replay.{ReplaysTexts, ReplayHeadline};
 ghost use Rattle.kat_tool.specs.Running.{RunsText, RunHeadline};
+ghost use Rattle.kat_tool.specs.OneLoop.{FormsText, OneLoopHeadline};
 ghost use Rattle.kat_tool.specs.Show.{ShowsText, ShowHeadline};
 
 use crate::reply::{Reply, Stop};
-use crate::{check, decide, replay, report, running, show};
+use crate::{check, decide, oneloop, replay, report, running, show};
 use kat_model::NoMemory;
 use std::alloc::Global;
 
@@ -123,6 +124,24 @@ pub fn run_reply(
     ensures replies { IfOk result (λ r. RunsText text.now prog.now store.now turns r.status r.output.items) }
 {
     match running::text_reply(alloc, text, prog, store, turns) {
+        Ok(reply) => Ok(reply),
+        Err(Stop::Replied(reply)) => Ok(reply),
+        Err(Stop::NoMemory) => Err(NoMemory),
+    }
+}
+
+/// What `oneloop` answers to the bytes of a text and the name of a program. Where the text is read, the status is 0 exactly
+/// where a concrete program of the text has the name, there are fewer than 64 variables, and no more statements than the
+/// greatest number of the width; then the text of a form of the program is printed, which has one loop and one variable more,
+/// and which ends in the same stores. It is 2 exactly where there are too many variables or statements, with the line that
+/// says so, and 7 exactly where no concrete program of the text has the name. Where the text is not read, it is 2, with the
+/// line that says why. It fails only when out of memory.
+pub fn one_loop_reply(alloc: Global, text: &[u8], prog: &str) -> Result<Reply, NoMemory>
+    ensures headline { (f : FileParts) → Reads text.now f
+        → IfOk result (λ r. OneLoopHeadline f prog.now r.status r.output.items) }
+    ensures replies { IfOk result (λ r. FormsText text.now prog.now r.status r.output.items) }
+{
+    match oneloop::text_reply(alloc, text, prog) {
         Ok(reply) => Ok(reply),
         Err(Stop::Replied(reply)) => Ok(reply),
         Err(Stop::NoMemory) => Err(NoMemory),

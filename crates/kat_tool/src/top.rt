@@ -8,6 +8,7 @@ ghost use Rattle.kat_tool.specs.Show.{Shows};
 ghost use Rattle.kat_tool.specs.Check.{Checks};
 ghost use Rattle.kat_tool.specs.Replay.{Replays};
 ghost use Rattle.kat_tool.specs.Running.{Runs};
+ghost use Rattle.kat_tool.specs.OneLoop.{Forms};
 ghost use Rattle.kat_tool.specs.Replies.{RepliesTo, Replies};
 ghost use Rattle.kat_tool.specs.Run.{IsRun, sink_use};
 ghost use Rattle.kat_tool.specs.Working.Outcomes.{IsReplied, Counts};
@@ -15,7 +16,7 @@ ghost use Rattle.kat_tool.specs.Working.Outcomes.{IsReplied, Counts};
 use crate::getting::{file_bytes, file_text};
 use crate::posing::problem_in;
 use crate::reply::{Reply, Stop, line};
-use crate::text::{decided_text, reported_text, run_reply, show_reply};
+use crate::text::{decided_text, one_loop_reply, reported_text, run_reply, show_reply};
 use crate::words::{Command, Words};
 use crate::{check, replay};
 use kat_io::{Shelf, Sink, send};
@@ -98,6 +99,20 @@ fn run_file<S: Shelf>(
     Ok(run_reply(alloc, &text, prog, store, turns)?)
 }
 
+fn one_loop_file<S: Shelf>(
+    alloc: Global,
+    file: &str,
+    prog: &str,
+    shelf: &mut S,
+) -> Result<Reply, Stop>
+    ensures replied { IsReplied (Forms (shelf_use (S.content shelf.old) (S.faults shelf.old) (S.faults shelf.new) (S.last_failed shelf.new)) file.now prog.now) result }
+    ensures counts { Counts (S.faults shelf.old) (S.faults shelf.new) result }
+    ensures kept { (name : List ℕ) → S.content shelf.new name ≡ S.content shelf.old name }
+{
+    let text = file_text(alloc, file, shelf)?;
+    Ok(one_loop_reply(alloc, &text, prog)?)
+}
+
 fn command_reply<S: Shelf>(
     alloc: Global,
     command: Command<'_>,
@@ -119,6 +134,7 @@ fn command_reply<S: Shelf>(
             store,
             turns,
         } => run_file(alloc, file, prog, store, turns, shelf),
+        Command::OneLoop(file, prog) => one_loop_file(alloc, file, prog, shelf),
     }
 }
 
@@ -160,6 +176,9 @@ fn answer<S: Shelf>(alloc: Global, words: &Words, shelf: &mut S) -> Result<Reply
 /// `run` FILE PROG STORE TURNS runs a program of FILE: 0 where it ends, and the store is printed; 1 where it comes to an
 /// `abort` or to an `assert` that fails, or wants more turns; 2 where FILE is refused.
 ///
+/// `oneloop` FILE PROG prints a form of a program of FILE with one loop and one variable more, as a problem of its own: 0
+/// where there is one, and 2 where FILE is refused, has 64 variables or a program with too many statements.
+///
 /// | status | meaning for each command |
 /// |---|---|
 /// | 4 | the shelf failed in this call on a file that the words name |
@@ -171,9 +190,10 @@ fn answer<S: Shelf>(alloc: Global, words: &Words, shelf: &mut S) -> Result<Reply
 /// field `answered` gives for each status but 5 and 6 the bytes that were sent, and what they say: `decides.headline` is
 /// the statement on `decide`, over the text that the shelf tells, in the words of `decided_text`; `checks.headline` and
 /// `replays.headline` are those of `checked_texts` and `replayed_texts`, `runs.headline` is that of `run_reply`,
-/// `shows.headline` that of `show_reply`, and `reports.headline` that of `reported_text`; `decides.same_stores`,
-/// `reports.same_stores` and `checks.same_stores` are the statements on stores. The further fields of `decides`, `reports`,
-/// `checks`, `replays`, `runs` and `shows` give the cause of each status where the shelf tells nothing. `unsent` is status 5, `no_memory` 6.
+/// `forms.headline` that of `one_loop_reply`, `shows.headline` that of `show_reply`, and `reports.headline` that of
+/// `reported_text`; `decides.same_stores`, `reports.same_stores` and `checks.same_stores` are the statements on stores. The
+/// further fields of `decides`, `reports`, `checks`, `replays`, `runs`, `forms` and `shows` give the cause of each status
+/// where the shelf tells nothing. `unsent` is status 5, `no_memory` 6.
 pub fn run<S: Shelf, K: Sink>(alloc: Global, words: &Words, shelf: &mut S, sink: &mut K) -> u8
     ensures is_run { IsRun (record {
       words = words.now;

@@ -1,7 +1,7 @@
 //! The words of a command line, and the table of those that have a command.
 ghost use Rattle.std.specs.Prelude.{◌≡◌, ◌++◌, ◌∷◌, [], List, ℕ, OnOk, OnErr, Option, if◌then◌else◌};
 ghost use Rattle.std.specs.Option.{option_map};
-ghost use Rattle.kat_tool.specs.Commands.{command_of, command_seen, is_value, with_file, with_option, with_evidence, with_turns};
+ghost use Rattle.kat_tool.specs.Commands.{command_of, command_seen, is_value, with_file, with_option, with_value, with_turns};
 
 use crate::numbers::number_of;
 use kat_model::NoMemory;
@@ -43,6 +43,8 @@ pub(crate) enum Command<'a> {
         store: &'a str,
         turns: u64,
     },
+    /// `oneloop` FILE PROG
+    OneLoop(&'a str, &'a str),
 }
 
 impl Words {
@@ -104,10 +106,10 @@ fn with_file<'a>(name: &str, file: &'a str) -> Option<Command<'a>>
 
 // The commands of a file and a last word, which is a value or an option.
 fn with_last<'a>(name: &str, file: &'a str, last: &'a str) -> Option<Command<'a>>
-    ensures { option_map command_seen result ≡ (if is_value last.now then with_evidence name.now file.now last.now else with_option name.now file.now last.now) }
+    ensures { option_map command_seen result ≡ (if is_value last.now then with_value name.now file.now last.now else with_option name.now file.now last.now) }
 {
     if is_value(last) {
-        with_evidence(name, file, last)
+        with_value(name, file, last)
     } else {
         with_option(name, file, last)
     }
@@ -123,13 +125,14 @@ fn with_option<'a>(name: &str, file: &'a str, option: &str) -> Option<Command<'a
     }
 }
 
-// The commands of a file and its evidence.
-fn with_evidence<'a>(name: &str, file: &'a str, evidence: &'a str) -> Option<Command<'a>>
-    ensures { option_map command_seen result ≡ with_evidence name.now file.now evidence.now }
+// The commands of a file and its evidence, or a program.
+fn with_value<'a>(name: &str, file: &'a str, value: &'a str) -> Option<Command<'a>>
+    ensures { option_map command_seen result ≡ with_value name.now file.now value.now }
 {
     match name {
-        "check" => Some(Command::Check(file, evidence)),
-        "replay" => Some(Command::Replay(file, evidence)),
+        "check" => Some(Command::Check(file, value)),
+        "replay" => Some(Command::Replay(file, value)),
+        "oneloop" => Some(Command::OneLoop(file, value)),
         _ => None,
     }
 }

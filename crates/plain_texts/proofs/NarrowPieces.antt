@@ -50,7 +50,7 @@ module _ (v : Width) where
         ]
       ]
 
-  word_narrow : (name : List ℕ) → IsIdentifier name → (at : ℕ) → IsNarrow v (lexeme (keyword_terminal name) at name)
+  pub word_narrow : (name : List ℕ) → IsIdentifier name → (at : ℕ) → IsNarrow v (lexeme (keyword_terminal name) at name)
   word_narrow name is at = subst (λ (x : Terminal). IsNarrow v (lexeme x at name)) (sym (name_terminal name is.no_keyword)) tt
 
   relation_narrow : (r : Rel) (at : ℕ) → IsNarrow v (lexeme (symbol_terminal (relation_text r)) at (relation_text r))

@@ -9,6 +9,7 @@ use Rattle.kat_syntax.specs.declared.terminal.Separator.TheVariants.{CurlyOpen}
 use Rattle.kat_syntax.specs.Lexemes.{Lexeme, lexeme}
 use Rattle.kat_syntax.specs.Actions.{context}
 use Rattle.kat_syntax.specs.Phrases.{cond, Phrase, one_conj, one_lit, yield_before, MeetsLookahead, IsWithinLimits}
+use Rattle.kat_text.specs.declared.meaning.Meaning.{Meaning}
 use Rattle.kat_text.specs.ScopeParts.{ScopeParts}
 use Rattle.kat_print.specs.Printing.{cond_pieces, CondIsNamed}
 use Rattle.kat_print.proofs.PrintedPhrases.{lexemes_from, leaf}
@@ -23,28 +24,28 @@ use Rattle.while_lang.proofs.PrintedBlocks.{stmts_begin}
 use Rattle.problem_file.specs.Numbers.{AreNarrow}
 use Rattle.problem_file.specs.Sound.{IsCond, IsBlock}
 use Rattle.problem_file.proofs.Appends.{block_append}
-use Rattle.plain_texts.specs.ProgramTexts.{var_name, IsProgPrintable, IsCondPrintable}
+use Rattle.plain_texts.specs.ProgramTexts.{IsProgPrintable, IsCondPrintable}
 use Rattle.plain_texts.proofs.NarrowPieces.{PiecesAreNarrow, narrow_front, block_narrow}
 
 -- the pieces begin with a block of the program, and go on with others
-pub record BeginsBlock (w : ScopeParts) (progs : List ProgParts) (v : Width) (p : ProgTree) (at : ℕ) (ps : List Piece) : Type 0 where
+pub record BeginsBlock (names : Meaning → List ℕ) (w : ScopeParts) (progs : List ProgParts) (v : Width) (p : ProgTree) (at : ℕ) (ps : List Piece) : Type 0 where
   pub phrase : BlockPhrase block
   pub end : ℕ
-  pub spelled : lexemes_from at (block_pieces var_name p ps) ≡ block_before phrase (lexemes_from end ps)
+  pub spelled : lexemes_from at (block_pieces names p ps) ≡ block_before phrase (lexemes_from end ps)
   pub obeys : BlockObeys phrase (lexemes_from end ps)
   pub fits : BlockFits 0 phrase
   pub is_block : IsBlock w progs phrase p
   pub narrow : AreNarrow v (block_before phrase [])
   pub deep : block_nesting w progs phrase ≡ block_levels p
 
-pub block_begins : (w : ScopeParts) (progs : List ProgParts) (v : Width) (vars : ℕ) (p : ProgTree) → ProgIsNamed w var_name p → IsProgPrintable v vars p → (at : ℕ) (ps : List Piece) → PiecesAreNarrow v ps → BeginsBlock w progs v p at ps
-block_begins w progs v vars p named h at ps after =
+pub block_begins : (names : Meaning → List ℕ) (w : ScopeParts) (progs : List ProgParts) (v : Width) (vars : ℕ) (p : ProgTree) → ProgIsNamed w names p → IsProgPrintable v vars p → (at : ℕ) (ps : List Piece) → PiecesAreNarrow v ps → BeginsBlock names w progs v p at ps
+block_begins names w progs v vars p named h at ps after =
     let levels : block_levels p ≤ 200 = h.shallow in
-    let a = stmts_begin w progs var_name p named (at + 1) (gap 32 ∷ symbol (codes "}") ∷ ps) in
+    let a = stmts_begin w progs names p named (at + 1) (gap 32 ∷ symbol (codes "}") ∷ ps) in
     let phrase = braced (leaf at (codes "{")) a.phrase (leaf (a.end + 1) (codes "}")) in
     let rest = lexemes_from (a.end + 1 + 1) ps in
-    let spelled : lexemes_from at (block_pieces var_name p ps) ≡ block_before phrase rest = ap (λ (l : List Lexeme). lexeme (Separator CurlyOpen) at (codes "{") ∷ l) a.spelled in
-    let all : AreNarrow v (block_before phrase rest) = subst (AreNarrow v) spelled (block_narrow v w var_name p named h.narrow ps after at) in
+    let spelled : lexemes_from at (block_pieces names p ps) ≡ block_before phrase rest = ap (λ (l : List Lexeme). lexeme (Separator CurlyOpen) at (codes "{") ∷ l) a.spelled in
+    let all : AreNarrow v (block_before phrase rest) = subst (AreNarrow v) spelled (block_narrow v w names p named h.narrow ps after at) in
     let built = a.holds.tree 1 (omega arith) [] in
     record {
       phrase = phrase;
@@ -63,17 +64,17 @@ block_begins w progs v vars p named h at ps after =
     }
 
 -- likewise with a phrase of the condition, in braces
-pub record BeginsCond (w : ScopeParts) (b : CondTree) (at : ℕ) (ps : List Piece) : Type 0 where
+pub record BeginsCond (names : Meaning → List ℕ) (w : ScopeParts) (b : CondTree) (at : ℕ) (ps : List Piece) : Type 0 where
   pub phrase : Phrase cond
   pub end : ℕ
-  pub spelled : lexemes_from at (cond_pieces var_name b ps) ≡ yield_before phrase (lexemes_from end ps)
+  pub spelled : lexemes_from at (cond_pieces names b ps) ≡ yield_before phrase (lexemes_from end ps)
   pub obeys : MeetsLookahead phrase (lexemes_from end ps)
   pub fits : IsWithinLimits 1 phrase
   pub is_cond : IsCond w true phrase b
 
-pub cond_begins : (w : ScopeParts) (v : Width) (vars : ℕ) (b : CondTree) → CondIsNamed w var_name b → IsCondPrintable v vars b → (at : ℕ) (ps : List Piece) → EndsCond w ps → BeginsCond w b at ps
-cond_begins w v vars b named h at ps ends =
-    let a = cond_back w var_name b named at ps ends in
+pub cond_begins : (names : Meaning → List ℕ) (w : ScopeParts) (v : Width) (vars : ℕ) (b : CondTree) → CondIsNamed w names b → IsCondPrintable v vars b → (at : ℕ) (ps : List Piece) → EndsCond w ps → BeginsCond names w b at ps
+cond_begins names w v vars b named h at ps ends =
+    let a = cond_back w names b named at ps ends in
     let built = a.holds.tree (context 1 false true) h.shallow in
     record {
       phrase = one_conj (one_lit a.phrase);

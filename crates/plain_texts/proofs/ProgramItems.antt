@@ -1,4 +1,4 @@
--- The pieces of a plain text of programs are items, which make what they are to make.
+-- The pieces of a text of programs are items, which make what they are to make.
 use Rattle.std.proofs.Common.{◌≡◌, ◌≤◌, ◌<◌, ◌+◌, ℕ, zero, suc, List, [], ◌∷◌, length, slice_get, Some, refl, sym, ap, ◌∙◌, subst, arith}
 use Rattle.std.specs.Prelude.{codes}
 use Rattle.kat_model.specs.Expressions.{CondTree}
@@ -8,10 +8,11 @@ use Rattle.kat_tokens.specs.Pieces.{Piece, word, number, symbol, gap}
 use Rattle.kat_syntax.specs.declared.terminal.Terminal.{Terminal}
 use Rattle.kat_syntax.specs.declared.terminal.Terminal.TheVariants.{Name, Number, Keyword, Separator}
 use Rattle.kat_syntax.specs.declared.terminal.Keyword.TheVariants as keyword
-use Rattle.kat_syntax.specs.declared.terminal.Separator.TheVariants.{Semicolon, CurlyOpen, CurlyClose}
+use Rattle.kat_syntax.specs.declared.terminal.Separator.TheVariants.{Comma, Semicolon, CurlyOpen, CurlyClose}
 use Rattle.kat_syntax.specs.Terminals.{number_terminal}
 use Rattle.kat_syntax.specs.Lexemes.{Lexeme, lexeme}
 use Rattle.kat_syntax.specs.Phrases.{term, Phrase, one_prod, one_star, bare, name_unit, yield_before, MeetsLookahead}
+use Rattle.kat_text.specs.declared.meaning.Meaning.{Meaning}
 use Rattle.kat_text.specs.declared.meaning.Meaning.TheVariants.{Var, Prog}
 use Rattle.kat_text.specs.Sizes.{cond_size}
 use Rattle.kat_text.specs.ScopeParts.{ScopeParts, IsIdentifier, IsUndeclared, Means}
@@ -27,12 +28,11 @@ use Rattle.problem_file.specs.Numbers.{AreNarrow}
 use Rattle.problem_file.specs.Phrases.{TriplePhrase, variables, program, width, other_number, goal_equal, goal_triple, names_onto, triple_onto, ended}
 use Rattle.problem_file.specs.Sound.{with_var, DeclaresVar, EachName, NamesProg, grown}
 use Rattle.problem_file.specs.Reads.{start_one}
-use Rattle.plain_texts.specs.ProgramTexts.{var_name, IsProgPrintable, IsCondPrintable}
-use Rattle.plain_texts.proofs.PlainNames.{var_identifier}
+use Rattle.plain_texts.specs.ProgramTexts.{var_name, AreVarNames, IsProgPrintable, IsCondPrintable}
 use Rattle.plain_texts.proofs.PlainPieces.{AreIdentifiers}
 use Rattle.plain_texts.proofs.PlainItems.{AreItems, names_at, names_stop, names_spelled}
-use Rattle.plain_texts.proofs.ProgramScopes.{vars_scope, next_is_new}
-use Rattle.plain_texts.proofs.NarrowPieces.{PiecesAreNarrow, cond_narrow}
+use Rattle.plain_texts.proofs.ProgramScopes.{fewer_names, vars_scope, next_is_new}
+use Rattle.plain_texts.proofs.NarrowPieces.{PiecesAreNarrow, word_narrow, cond_narrow}
 use Rattle.plain_texts.proofs.ProgramPieces.{var_names, vars_pieces, width_pieces, prog_pieces, equal_pieces, post_end, pre_end, braces_pieces, triple_goal_pieces}
 use Rattle.plain_texts.proofs.ProgramBlocks.{block_begins, cond_begins}
 
@@ -67,43 +67,44 @@ width_items W64 at ps P follow = width_number_items W64 64 (codes "64") refl ref
 
 -- ---- variables
 
--- after the width and so many variables
-abbrev pub vars_state : Width → ℕ → State
-vars_state w k = record (with_width start_one w) { world = vars_scope k; vars = k }
+module _ (names : Meaning → List ℕ) where
+  -- after the width and so many variables
+  abbrev pub vars_state : Width → ℕ → State
+  vars_state w k = record (with_width start_one w) { world = vars_scope names k; vars = k }
 
-next_vars : (w : Width) (k j : ℕ) → j ≡ suc k → vars_state w j ≡ with_var (vars_state w k) (var_name (Var k))
-next_vars w k j e = let count : suc k ≡ k + 1 = omega arith in ap (vars_state w) e ∙ ap (λ (n : ℕ). record (with_width start_one w) { world = vars_scope (suc k); vars = n }) count
+  next_vars : (w : Width) (k j : ℕ) → j ≡ suc k → vars_state w j ≡ with_var (vars_state w k) (names (Var k))
+  next_vars w k j e = let count : suc k ≡ k + 1 = omega arith in ap (vars_state w) e ∙ ap (λ (n : ℕ). record (with_width start_one w) { world = vars_scope names (suc k); vars = n }) count
 
-pub vars_are_identifiers : (n k : ℕ) → k + n ≤ 64 → AreIdentifiers (var_names k n)
-vars_are_identifiers zero k few = tt
-vars_are_identifiers (suc n) k few = (var_identifier k (omega arith), vars_are_identifiers n (k + 1) (omega arith))
+  pub vars_are_identifiers : (n k v : ℕ) → k + n ≡ v → AreVarNames names v → AreIdentifiers (var_names names k n)
+  vars_are_identifiers zero k v e are = tt
+  vars_are_identifiers (suc n) k v e are = (are.identifiers k (omega arith), vars_are_identifiers n (k + 1) v (omega arith) are)
 
--- n variables after the next one, m in all
-each_var : (n : ℕ) (w : Width) (k m at : ℕ) → k + suc n ≡ m → m ≤ 64 → EachName DeclaresVar (vars_state w k) (names_at (var_name (Var k)) (var_names (k + 1) n) at) (vars_state w m)
-each_var zero w k m at e few = (next_is_new k (omega arith), omega arith, next_vars w k m (omega arith))
-each_var (suc n) w k m at e few =
-    let next = at + length (var_name (Var k)) + 1 + 1 in
-    (vars_state w (k + 1), (next_is_new k (omega arith), omega arith, next_vars w k (k + 1) (omega arith)), each_var n w (k + 1) m next (omega arith) few)
+  -- n variables after the next one, m in all
+  each_var : (n : ℕ) (w : Width) (k m at : ℕ) → k + suc n ≡ m → m ≤ 64 → AreVarNames names m → EachName DeclaresVar (vars_state w k) (names_at (names (Var k)) (var_names names (k + 1) n) at) (vars_state w m)
+  each_var zero w k m at e few are = (next_is_new names k (fewer_names names m (suc k) (omega arith) are), omega arith, next_vars w k m (omega arith))
+  each_var (suc n) w k m at e few are =
+      let next = at + length (names (Var k)) + 1 + 1 in
+      (vars_state w (k + 1), (next_is_new names k (fewer_names names m (suc k) (omega arith) are), omega arith, next_vars w k (k + 1) (omega arith)), each_var n w (k + 1) m next (omega arith) few are)
 
-pub vars_items : (v : ℕ) → v ≤ 64 → (w : Width) (at : ℕ) (ps : List Piece) (P : State → Type 0) → Follow (vars_state w v) ps P → AreItems (with_width start_one w) at (vars_pieces v ps) P
-vars_items zero few w at ps P follow = follow at
-vars_items (suc n) few w at ps P follow =
-    let name = var_name (Var 0) in
-    let names = var_names 1 n in
-    let stop = names_stop name names (at + 3 + 1) in
-    let rest = follow (stop + 1 + 1) in
-    record {
-      items = record { keyword = leaf at (codes "var"); body = variables (names_at name names (at + 3 + 1)) (leaf stop (codes ";")) } ∷ rest.items;
-      spells =
-          ap (λ (ts : List Lexeme). lexeme (Keyword keyword.Var) at (codes "var") ∷ ts)
-          (names_spelled name names (at + 3 + 1) ps (vars_are_identifiers (suc n) 0 (omega arith))
-          ∙ ap (λ (ts : List Lexeme). names_onto (names_at name names (at + 3 + 1)) (ended (leaf stop (codes ";")) ts)) rest.spells);
-      obey = (tt, rest.obey);
-      fit = (tt, rest.fit);
-      final = rest.final;
-      make = (vars_state w (suc n), each_var n w 0 (suc n) (at + 3 + 1) (omega arith) few, rest.make);
-      holds = rest.holds;
-    }
+  pub vars_items : (v : ℕ) → v ≤ 64 → AreVarNames names v → (w : Width) (at : ℕ) (ps : List Piece) (P : State → Type 0) → Follow (vars_state w v) ps P → AreItems (with_width start_one w) at (vars_pieces names v ps) P
+  vars_items zero few are w at ps P follow = follow at
+  vars_items (suc n) few are w at ps P follow =
+      let first = names (Var 0) in
+      let others = var_names names 1 n in
+      let stop = names_stop first others (at + 3 + 1) in
+      let rest = follow (stop + 1 + 1) in
+      record {
+        items = record { keyword = leaf at (codes "var"); body = variables (names_at first others (at + 3 + 1)) (leaf stop (codes ";")) } ∷ rest.items;
+        spells =
+            ap (λ (ts : List Lexeme). lexeme (Keyword keyword.Var) at (codes "var") ∷ ts)
+            (names_spelled first others (at + 3 + 1) ps (vars_are_identifiers (suc n) 0 (suc n) (omega arith) are)
+            ∙ ap (λ (ts : List Lexeme). names_onto (names_at first others (at + 3 + 1)) (ended (leaf stop (codes ";")) ts)) rest.spells);
+        obey = (tt, rest.obey);
+        fit = (tt, rest.fit);
+        final = rest.final;
+        make = (vars_state w (suc n), each_var n w 0 (suc n) (at + 3 + 1) (omega arith) few are, rest.make);
+        holds = rest.holds;
+      }
 
 -- ---- programs
 
@@ -111,16 +112,16 @@ vars_items (suc n) few w at ps P follow =
 abbrev pub prog_state : State → List ℕ → ProgTree → State
 prog_state s name p = add_prog (grown s (prog_size p)) name p (block_levels p)
 
-pub prog_items : (s : State) (v : Width) (vars : ℕ) (name : List ℕ) (p : ProgTree) → width_of s ≡ v → IsIdentifier name → IsUndeclared s.world name → ProgIsNamed s.world var_name p → IsProgPrintable v vars p → s.size + prog_size p ≤ 1000000
-    → (at : ℕ) (ps : List Piece) (P : State → Type 0) → PiecesAreNarrow v ps → Follow (prog_state s name p) ps P → AreItems s at (prog_pieces name p ps) P
-prog_items s v vars name p same identifier new named h room at ps P narrow follow =
+pub prog_items : (names : Meaning → List ℕ) (s : State) (v : Width) (vars : ℕ) (name : List ℕ) (p : ProgTree) → width_of s ≡ v → IsIdentifier name → IsUndeclared s.world name → ProgIsNamed s.world names p → IsProgPrintable v vars p → s.size + prog_size p ≤ 1000000
+    → (at : ℕ) (ps : List Piece) (P : State → Type 0) → PiecesAreNarrow v ps → Follow (prog_state s name p) ps P → AreItems s at (prog_pieces names name p ps) P
+prog_items names s v vars name p same identifier new named h room at ps P narrow follow =
     let place = at + 4 + 1 + length name + 1 in
-    let b = block_begins s.world s.progs v vars p named h place (gap 10 ∷ ps) (λ n. narrow (n + 1)) in
+    let b = block_begins names s.world s.progs v vars p named h place (gap 10 ∷ ps) (λ n. narrow (n + 1)) in
     let rest = follow (b.end + 1) in
     record {
       items = record { keyword = leaf at (codes "prog"); body = program (leaf (at + 4 + 1) name) b.phrase } ∷ rest.items;
       spells =
-          ap (λ (t : Terminal). lexeme (Keyword keyword.Prog) at (codes "prog") ∷ lexeme t (at + 4 + 1) name ∷ lexemes_from place (block_pieces var_name p (gap 10 ∷ ps))) (name_terminal name identifier.no_keyword)
+          ap (λ (t : Terminal). lexeme (Keyword keyword.Prog) at (codes "prog") ∷ lexeme t (at + 4 + 1) name ∷ lexemes_from place (block_pieces names p (gap 10 ∷ ps))) (name_terminal name identifier.no_keyword)
           ∙ ap (λ (ts : List Lexeme). lexeme (Keyword keyword.Prog) at (codes "prog") ∷ lexeme Name (at + 4 + 1) name ∷ ts) (b.spelled ∙ ap (block_before b.phrase) rest.spells);
       obey = (subst (BlockObeys b.phrase) rest.spells b.obeys, rest.obey);
       fit = (b.fits, rest.fit);
@@ -159,26 +160,32 @@ named_side s at name p h = record { parts = record { tree = p; nesting = block_l
 abbrev pub equal_state : State → ProgTree → ProgTree → State
 equal_state s p q = state_goal (grown s (prog_size p + prog_size q)) (equal (prog_side p) (prog_side q))
 
-pub equal_items : (s : State) (p q : ProgTree) → HasProg s (codes "P") p → HasProg s (codes "Q") q → s.size + (prog_size p + prog_size q) ≤ 1000000 → length s.goals < most_goals s.limit → (at : ℕ) → AreItems s at equal_pieces (λ t. t ≡ equal_state s p q)
-equal_items s p q has_p has_q room first at =
+pub equal_items : (s : State) (x y : List ℕ) (p q : ProgTree) → IsIdentifier x → IsIdentifier y → HasProg s x p → HasProg s y q → s.size + (prog_size p + prog_size q) ≤ 1000000 → length s.goals < most_goals s.limit → (at : ℕ) → AreItems s at (equal_pieces x y) (λ t. t ≡ equal_state s p q)
+equal_items s x y p q is_x is_y has_p has_q room first at =
     let left = at + 4 + 1 + 5 + 1 in
-    let right = left + 1 + 1 + 1 in
+    let comma = left + length x in
+    let right = comma + 1 + 1 in
+    let last = right + length y in
     record {
-      items = record { keyword = leaf at (codes "goal"); body = goal_equal (leaf (at + 4 + 1) (codes "equal")) (name_phrase left (codes "P")) (leaf (left + 1) (codes ",")) (name_phrase right (codes "Q")) (leaf (right + 1) (codes ";")) } ∷ [];
-      spells = refl;
+      items = record { keyword = leaf at (codes "goal"); body = goal_equal (leaf (at + 4 + 1) (codes "equal")) (name_phrase left x) (leaf comma (codes ",")) (name_phrase right y) (leaf last (codes ";")) } ∷ [];
+      spells =
+          ap (λ (t : Terminal). lexeme (Keyword keyword.Goal) at (codes "goal") ∷ lexeme (Keyword keyword.Equal) (at + 4 + 1) (codes "equal") ∷ lexeme t left x ∷ lexeme (Separator Comma) comma (codes ",") ∷ lexemes_from right (word y ∷ symbol (codes ";") ∷ gap 10 ∷ [])) (name_terminal x is_x.no_keyword)
+          ∙ ap (λ (t : Terminal). lexeme (Keyword keyword.Goal) at (codes "goal") ∷ lexeme (Keyword keyword.Equal) (at + 4 + 1) (codes "equal") ∷ lexeme Name left x ∷ lexeme (Separator Comma) comma (codes ",") ∷ lexeme t right y ∷ lexeme (Separator Semicolon) last (codes ";") ∷ []) (name_terminal y is_y.no_keyword);
       obey = ((tt, tt), tt);
       fit = ((tt, tt), tt);
       final = equal_state s p q;
       make = (
         equal_state s p q,
-        record { few = first; left = prog_side p; right = prog_side q; is_left = named_side s left (codes "P") p has_p; is_right = named_side s right (codes "Q") q has_q; numbers = (tt, (tt, (tt, (tt, tt)))); room = room; made = refl },
+        record { few = first; left = prog_side p; right = prog_side q; is_left = named_side s left x p has_p; is_right = named_side s right y q has_q; numbers = (tt, (tt, (tt, (tt, tt)))); room = room; made = refl },
         refl,
       );
       holds = refl;
     }
 
-pub equal_narrow : (v : Width) → PiecesAreNarrow v equal_pieces
-equal_narrow v at = (tt, (tt, (tt, (tt, (tt, (tt, tt))))))
+pub equal_narrow : (v : Width) (x y : List ℕ) → IsIdentifier x → IsIdentifier y → PiecesAreNarrow v (equal_pieces x y)
+equal_narrow v x y is_x is_y at =
+    let left = at + 4 + 1 + 5 + 1 in
+    (tt, (tt, (word_narrow v x is_x left, (tt, (word_narrow v y is_y (left + length x + 1 + 1), (tt, tt))))))
 
 module _ (w : ScopeParts) (v : Width) (vars : ℕ) (b c : CondTree) (pre : CondIsNamed w var_name b) (post : CondIsNamed w var_name c) (h : IsCondPrintable v vars b) (k : IsCondPrintable v vars c) where
   braces_narrow : PiecesAreNarrow v (braces_pieces b c)
@@ -197,9 +204,9 @@ pub triple_items : (s : State) (v : Width) (vars : ℕ) (b : CondTree) (p : Prog
     → s.size + (cond_size b + prog_size p + cond_size c) ≤ 1000000 → length s.goals < most_goals s.limit → (at : ℕ) → AreItems s at (triple_goal_pieces b c) (λ t. t ≡ triple_state s b p c)
 triple_items s v vars b p c same pre post h k has_p room first at =
     let opening = at + 4 + 1 + 6 + 1 in
-    let x = cond_begins s.world v vars b pre h (opening + 1) (pre_end c) (λ n. refl) in
+    let x = cond_begins var_name s.world v vars b pre h (opening + 1) (pre_end c) (λ n. refl) in
     let name = x.end + 1 + 1 in
-    let y = cond_begins s.world v vars c post k (name + 1 + 1 + 1) post_end (λ n. refl) in
+    let y = cond_begins var_name s.world v vars c post k (name + 1 + 1 + 1) post_end (λ n. refl) in
     let end = leaf (y.end + 1) (codes ";") in
     let phrase : TriplePhrase = record {
       pre = record { left = leaf opening (codes "{"); inner = x.phrase; right = leaf x.end (codes "}") };

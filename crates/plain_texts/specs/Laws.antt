@@ -1,9 +1,14 @@
 -- What a plain text is read as.
-use Rattle.std.specs.Prelude.{◌≡◌, ℕ, List}
+use Rattle.std.specs.Prelude.{◌≡◌, ◌<◌, ℕ, List, Some}
+use Rattle.std.specs.Option.{option_map}
 use Rattle.kat_model.specs.Problems.{ProblemParts}
 use Rattle.kat_model.specs.declared.expression.Width.{Width}
+use Rattle.kat_text.specs.declared.meaning.Meaning.{Meaning}
+use Rattle.kat_text.specs.declared.meaning.Meaning.TheVariants.{Var}
+use Rattle.kat_text.specs.ScopeParts.{Means}
+use Rattle.while_lang.specs.Programs.{ProgTree}
 use Rattle.problem_file.specs.Concrete.{IsConcrete}
-use Rattle.problem_file.specs.Files.{term_side, GoalTree, equal, FileParts}
+use Rattle.problem_file.specs.Files.{term_side, prog_side, GoalTree, equal, FileParts, prog_named}
 use Rattle.problem_file.specs.Reads.{Reads}
 
 -- the text says a goal `equal`, and the question is of its two sides, over what the text declares and states
@@ -22,3 +27,9 @@ pub record AsksOfPrograms (text : List ℕ) (w : Width) (v : ℕ) (asked : GoalT
   pub rounds : file.rounds ≡ 1
   pub concrete : IsConcrete file
   pub goal : file.goal ≡ asked
+
+-- the text says this program, of a width and over variables with these names, and equates it with itself
+pub record SaysProgram (text : List ℕ) (names : Meaning → List ℕ) (w : Width) (v : ℕ) (name : List ℕ) (p : ProgTree) : Type 0 where
+  pub asks : AsksOfPrograms text w v (equal (prog_side p) (prog_side p))
+  pub variables : (k : ℕ) → k < v → Means asks.file.scope (names (Var k)) (Var k)
+  pub program : option_map (λ d. d.tree) (prog_named asks.file.scope asks.file.progs name) ≡ Some p

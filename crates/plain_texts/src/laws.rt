@@ -1,13 +1,14 @@
 //! Laws of the definitions. Each function does nothing: its contract is the law.
-ghost use Rattle.std.specs.Prelude.{ℕ};
+ghost use Rattle.std.specs.Prelude.{ℕ, List};
 ghost use Rattle.kat_model.specs.Problems.{ProblemParts};
 ghost use Rattle.kat_model.specs.Expressions.{CondTree};
 ghost use Rattle.kat_model.specs.declared.expression.Width.{Width};
+ghost use Rattle.kat_text.specs.declared.meaning.Meaning.{Meaning};
 ghost use Rattle.while_lang.specs.Programs.{ProgTree};
 ghost use Rattle.problem_file.specs.Files.{prog_side, equal, triple};
 ghost use Rattle.plain_texts.specs.Questions.{question_text, IsPrintable};
-ghost use Rattle.plain_texts.specs.ProgramTexts.{programs_text, triple_text, ArePrintable, IsTriplePrintable};
-ghost use Rattle.plain_texts.specs.Laws.{AsksEqual, AsksOfPrograms};
+ghost use Rattle.plain_texts.specs.ProgramTexts.{one_program_text, programs_text, triple_text, IsOnePrintable, ArePrintable, IsTriplePrintable};
+ghost use Rattle.plain_texts.specs.Laws.{AsksEqual, AsksOfPrograms, SaysProgram};
 
 /// The plain text of a question that is within the limits of a text is read as exactly that question.
 pub fn plain_texts_read_back()
@@ -23,4 +24,11 @@ pub fn plain_programs_read_back()
 /// The plain text of a triple of a program is likewise read as the goal of that triple.
 pub fn plain_triples_read_back()
     ensures { (w : Width) (v : ℕ) (b : CondTree) (p : ProgTree) (c : CondTree) → IsTriplePrintable w v b p c → AsksOfPrograms (triple_text w v b p c) w v (triple b (prog_side p) c) }
+{}
+
+/// The text of one program over variables of any names, which is within the limits of a text, is read as a file of that
+/// width and of those variables that has that program under its name, and nothing else.
+pub fn named_programs_read_back()
+    ensures { (names : Meaning → List ℕ) (w : Width) (v : ℕ) (name : List ℕ) (p : ProgTree) → IsOnePrintable names w v name p
+        → SaysProgram (one_program_text names w v name p) names w v name p }
 {}

@@ -8,8 +8,8 @@ use kat_text::{Meaning, Scope};
 use kat_tokens::{Kind, TextFault, Token};
 use std::alloc::Global;
 
-// One name more, which is not there yet, so that only want of memory can refuse it.
-fn declare(scope: &mut Scope, name: &str, meaning: Meaning) -> Result<(), NoMemory>
+/// Declares one name more, which is an identifier and not there yet. It fails only when out of memory.
+pub fn declare(scope: &mut Scope, name: &str, meaning: Meaning) -> Result<(), NoMemory>
     requires identifier { IsIdentifier name.now }
     requires undeclared { IsUndeclared scope.old name.now }
     requires no_term { is_term meaning ≡ false }

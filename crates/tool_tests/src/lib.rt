@@ -12,6 +12,8 @@ mod faults;
 #[cfg(test)]
 mod fixtures;
 #[cfg(test)]
+mod one_loop_forms;
+#[cfg(test)]
 mod programs;
 #[cfg(test)]
 mod refusals;

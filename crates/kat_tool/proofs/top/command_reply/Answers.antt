@@ -8,3 +8,6 @@ returns-in-Replay-clause-replied g c = rw c.in-Replay.is c.replay_files.ensures.
 
 pub returns-in-Run-clause-replied : goal.returns-in-Run-clause-replied
 returns-in-Run-clause-replied g c = rw c.in-Run.is c.run_file.ensures.replied
+
+pub returns-in-OneLoop-clause-replied : goal.returns-in-OneLoop-clause-replied
+returns-in-OneLoop-clause-replied g c = rw c.in-OneLoop.is c.one_loop_file.ensures.replied
