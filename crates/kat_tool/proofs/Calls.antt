@@ -6,13 +6,14 @@ use Rattle.kat_io.specs.Told.{Untold}
 use Rattle.kat_io.specs.Outside.{Rose, AppendsFront}
 use Rattle.kat_model.specs.Members.{Has}
 use Rattle.kat_model.specs.Problems.{ProblemParts}
-use Rattle.kat_tool.specs.Commands.{Command, decide, report, show, check, replay, run, oneloop, command_of, files_of}
+use Rattle.kat_tool.specs.Commands.{Command, decide, report, show, batch, check, replay, run, oneloop, command_of, files_of}
 use Rattle.kat_tool.specs.Asking.{Asks}
 use Rattle.kat_tool.specs.Posing.{Poses}
 use Rattle.kat_tool.specs.Steps.{ShelfUse, HasFailedOn, GetsFile, AsksText}
 use Rattle.kat_tool.specs.Decide.{IsDecided, DecidesText, Decides, DecideCauses}
 use Rattle.kat_tool.specs.Report.{IsReported, ReportsText, Reports}
 use Rattle.kat_tool.specs.Show.{ShowsText, Shows}
+use Rattle.kat_tool.specs.Batch.{AnswersText, Batches}
 use Rattle.kat_tool.specs.Check.{ChecksBytes, Checks, CheckStatus}
 use Rattle.kat_tool.specs.Replay.{ReplaysBytes, Replays}
 use Rattle.kat_tool.specs.Running.{RunsText}
@@ -25,6 +26,7 @@ use Rattle.kat_tool.proofs.Contents.{held_same}
 use Rattle.kat_tool.proofs.Steps.{OneStatus, gets_once, text_once}
 use Rattle.kat_tool.proofs.DecideReplies.{decided_once, decide_causes}
 use Rattle.kat_tool.proofs.ReportReplies.{reported_once, report_causes}
+use Rattle.kat_tool.proofs.BatchReplies.{batches_once, batch_causes}
 use Rattle.kat_tool.proofs.CheckReplies.{bytes_once, check_causes}
 use Rattle.kat_tool.proofs.ReplayReplies.{bytes_once as replayed_once, replay_causes}
 use Rattle.kat_tool.proofs.ShowReplies.{shows_once, show_causes}
@@ -51,6 +53,12 @@ module _ (s : ShelfUse) (status : ℕ) (output : List ℕ) where
       small : (status ≡ 0) ⊎ ((status ≡ 2) ⊎ (status ≡ 4)) → status ≤ 4
       small h = grind (arith, h)
 
+  batch_small : (file : List ℕ) → Batches s file status output → status ≤ 4
+  batch_small file r = small (batch_causes s file status output r).answers
+    where
+      small : (status ≡ 0) ⊎ ((status ≡ 1) ⊎ ((status ≡ 2) ⊎ (status ≡ 4))) → status ≤ 4
+      small h = grind (arith, h)
+
   check_small : (file other : List ℕ) → Checks s file other status output → status ≤ 4
   check_small file other r = small (check_causes s file other status output r).answers
     where
@@ -68,6 +76,7 @@ module _ (s : ShelfUse) (status : ℕ) (output : List ℕ) where
   command_small (decide file) r = inl (decide_small file r)
   command_small (report file) r = inl (report_small file r)
   command_small (show file) r = inl (show_small file r)
+  command_small (batch file) r = inl (batch_small file r)
   command_small (check file other) r = inl (check_small file other r)
   command_small (replay file other) r = inl (replay_small file other r)
   command_small (run file prog store turns) r = small (run_causes s file prog store turns status output r).answers
@@ -96,6 +105,7 @@ module _ (s : ShelfUse) (status : ℕ) (output : List ℕ) where
   command_refused words (check file other) is r seven = absurd (no_seven (check_small file other r) seven)
   command_refused words (replay file other) is r seven = absurd (no_seven (replay_small file other r) seven)
   command_refused words (show file) is r seven = absurd (no_seven (show_small file r) seven)
+  command_refused words (batch file) is r seven = absurd (no_seven (batch_small file r) seven)
   command_refused words (run file prog store turns) is r seven =
       let h = (run_causes s file prog store turns status output r).unfit seven in
       (inl (file, prog, store, turns, is, h.0), h.1)
@@ -108,6 +118,7 @@ module _ (s : ShelfUse) (status : ℕ) (output : List ℕ) where
   command_failed (decide file) r four = (file, inl refl, (decide_causes s file status output r).failed four)
   command_failed (report file) r four = (file, inl refl, (report_causes s file status output r).failed four)
   command_failed (show file) r four = (file, inl refl, (show_causes s file status output r).failed four)
+  command_failed (batch file) r four = (file, inl refl, (batch_causes s file status output r).failed four)
   command_failed (check file other) r four = ⊎_elim (λ f. (file, inl refl, f)) (λ h. (other, inr (inl refl), h.2)) ((check_causes s file other status output r).failed four)
   command_failed (replay file other) r four = ⊎_elim (λ f. (file, inl refl, f)) (λ h. (other, inr (inl refl), h.2)) ((replay_causes s file other status output r).failed four)
   command_failed (run file prog store turns) r four = (file, inl refl, (run_causes s file prog store turns status output r).failed four)
@@ -120,6 +131,7 @@ command_once s unfailed told (decide file) =
 command_once s unfailed told (report file) =
     gets_once s file _ _ (λ t. ReportsText t) (told file) unfailed (λ t. text_once t IsReported reported_once)
 command_once s unfailed told (show file) = gets_once s file _ _ (λ t. ShowsText t) (told file) unfailed (λ t. shows_once t)
+command_once s unfailed told (batch file) = gets_once s file _ _ (λ t. AnswersText t) (told file) unfailed (λ t. batches_once t)
 command_once s unfailed told (check file other) =
     gets_once s file _ _ (λ t. AsksText t (λ q. GetsFile s other None [] (ChecksBytes q))) (told file) unfailed (λ t. text_once t (λ q. GetsFile s other None [] (ChecksBytes q)) (λ q. gets_once s other None [] (ChecksBytes q) (told other) unfailed (bytes_once q)))
 command_once s unfailed told (replay file other) =
@@ -181,6 +193,7 @@ reply_is s words status output r = record {
   replays = λ file other is. replay_causes s file other status output (replied_to s words status output (replay file other) is r.cause);
   runs = λ file prog store turns is. run_causes s file prog store turns status output (replied_to s words status output (run file prog store turns) is r.cause);
   forms = λ file prog is. one_loop_causes s file prog status output (replied_to s words status output (oneloop file prog) is r.cause);
+  batches = λ file is. batch_causes s file status output (replied_to s words status output (batch file) is r.cause);
   shows = λ file is. show_causes s file status output (replied_to s words status output (show file) is r.cause);
   failed = failed_is s words status output r.cause;
   no_command = none_is s words status output r.cause;

@@ -8,6 +8,8 @@ pub mod StoreSentences
 pub mod Ways
 pub mod DecideReplies
 pub mod ReportReplies
+pub mod GoalLists
+pub mod BatchReplies
 pub mod CheckReplies
 pub mod ReplayReplies
 pub mod StoreValues

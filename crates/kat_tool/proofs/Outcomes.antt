@@ -8,11 +8,16 @@ use Rattle.kat_tool.specs.declared.reply.Reply.{Reply}
 use Rattle.kat_tool.specs.declared.reply.Stop.{Stop}
 use Rattle.kat_tool.specs.declared.reply.Stop.TheVariants.{NoMemory, Replied}
 use Rattle.kat_tool.specs.Steps.{Replying}
-use Rattle.kat_tool.specs.Working.Outcomes.{IsStop, IsReplied}
+use Rattle.kat_tool.specs.Working.Outcomes.{IsStop, IsOutcome, IsReplied}
 
 pub IsStop-weaker : (IsSo IsToo : Replying) → ((status : ℕ) (output : List ℕ) → IsSo status output → IsToo status output) → (stop : Stop) → IsStop IsSo stop → IsStop IsToo stop
 IsStop-weaker IsSo IsToo so NoMemory s = tt
 IsStop-weaker IsSo IsToo so (Replied r) s = so r.status r.output.items s
+
+-- where there is no value to go on with
+pub IsOutcome-refused : {T : Type 0} (IsValue : T → Type 0) (IsSo IsToo : Replying) → ((status : ℕ) (output : List ℕ) → IsSo status output → IsToo status output) → (result : Result T Stop) → IsOutcome (λ x. ⊥) IsSo result → IsOutcome IsValue IsToo result
+IsOutcome-refused IsValue IsSo IsToo so (Ok x) s = absurd s
+IsOutcome-refused IsValue IsSo IsToo so (Err stop) s = IsStop-weaker IsSo IsToo so stop s
 
 pub IsReplied-weaker : (IsSo IsToo : Replying) → ((status : ℕ) (output : List ℕ) → IsSo status output → IsToo status output) → (result : Result Reply Stop) → IsReplied IsSo result → IsReplied IsToo result
 IsReplied-weaker IsSo IsToo so (Ok r) s = so r.status r.output.items s

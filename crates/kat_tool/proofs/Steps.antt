@@ -5,6 +5,7 @@ use Rattle.kat_model.specs.Problems.{ProblemParts}
 use Rattle.kat_io.specs.Told.{Untold, Holds}
 use Rattle.kat_io.specs.Outside.{Rose}
 use Rattle.kat_io.specs.Gets.{IsWithin, IsPast}
+use Rattle.kat_tokens.specs.declared.fault.TextFault.{TextFault}
 use Rattle.kat_tokens.specs.declared.fault.TextFault.TheVariants.{TooLong}
 use Rattle.kat_report.specs.Refusals.{text_fault_line}
 use Rattle.certificate.specs.declared.evidence.Evidence.{Evidence}
@@ -12,14 +13,15 @@ use Rattle.certificate.specs.declared.evidence.EvidenceFault.{EvidenceFault}
 use Rattle.certificate.specs.Faults.{line_fault}
 use Rattle.certificate.proofs.Exactness.{texts_differ_lem, is_text_or_faulty_lem}
 use Rattle.problem_file.specs.Files.{FileParts}
-use Rattle.problem_file.specs.Reads.{Reads, too_long}
+use Rattle.problem_file.specs.Reads.{Reads, FirstFault, too_long}
+use Rattle.problem_file.specs.Laws.{HaveOneAnswer}
 use Rattle.problem_file.proofs.OneAnswer.{have_one_answer}
 use Rattle.abstraction.specs.Abstracts.{AbstractParts, abstract_of}
 use Rattle.abstract_texts.specs.Refusals.{abstract_fault_line}
 use Rattle.kat_tool.specs.Asking.{Asks}
-use Rattle.kat_tool.specs.Posing.{IsFaulty, AsksNone, PosesNone, MaySay, MaySayNone, IsRefused, Poses, too_long_line}
+use Rattle.kat_tool.specs.Posing.{IsFaultOf, IsFaulty, AsksNone, PosesNone, MaySay, MaySayNone, IsRefused, Poses, too_long_line}
 use Rattle.kat_tool.specs.Showing.{Spells}
-use Rattle.kat_tool.specs.Steps.{ShelfUse, Replying, FailsOn, HasFailedOn, GetsFile, GetsText, ReadsText, AbstractsFile, AsksQuestion, AsksText, ReadsEvidence}
+use Rattle.kat_tool.specs.Steps.{ShelfUse, Replying, FailsOn, HasFailedOn, GetsFile, GetsText, ReadsAs, ReadsText, AbstractsFile, AsksQuestion, AsksText, ReadsEvidence}
 use Rattle.kat_tool.proofs.Contents.{past_within, held_same, held_past, told_bytes, told_past}
 
 -- two such replies have one status
@@ -58,34 +60,50 @@ gets_bytes s file GoesOn bytes status output is unfailed r = ⊎_elim (λ h. abs
 
 -- ---- a text is read
 
+-- in any way in which a text says one thing or has one first fault
+module _ {X : Type 0} (Says : List ℕ → X → Type 0) (Fails : List ℕ → TextFault → Type 0) (one : HaveOneAnswer Says Fails) (text : List ℕ) (GoesOn : X → Replying) where
+  abbrev ReadsOne : Replying
+  ReadsOne = ReadsAs (Fails text) (Says text) GoesOn
+
+  module _ (status : ℕ) (output : List ℕ) where
+    pub said_one : (x : X) → Says text x → ReadsOne status output → GoesOn x status output
+    said_one x says (inl r) = absurd (one.either text x r.1.fault says r.1.first)
+    said_one x says (inr g) = subst (λ y. GoesOn y status output) (one.files text g.0 x g.1 says) g.2
+
+    pub faulty_one : (line : List ℕ) → IsFaultOf (Fails text) line → ReadsOne status output → (status ≡ 2) × (output ≡ line)
+    faulty_one line f (inl r) = (r.0, r.1.printed ∙ ap text_fault_line (one.faults text r.1.fault f.fault r.1.first f.first) ∙ sym f.printed)
+    faulty_one line f (inr g) = absurd (one.either text g.0 f.fault g.1 f.first)
+
+  pub read_once : ((x : X) → OneStatus (GoesOn x)) → OneStatus ReadsOne
+  read_once once a b o p (inl r) y = r.0 ∙ sym (faulty_one b p o r.1 y).0
+  read_once once a b o p (inr g) y = once g.0 a b o p g.2 (said_one b p g.0 g.1 y)
+
+-- a file with one goal
 module _ (text : List ℕ) (GoesOn : FileParts → Replying) (status : ℕ) (output : List ℕ) where
-  pub reads_said : (a : FileParts) → Reads text a → ReadsText text GoesOn status output → GoesOn a status output
-  reads_said a says (inl r) = absurd (have_one_answer.either text a r.1.fault says r.1.first)
-  reads_said a says (inr g) = subst (λ x. GoesOn x status output) (have_one_answer.files text g.0 a g.1 says) g.2
+  pub reads_said : (f : FileParts) → Reads text f → ReadsText text GoesOn status output → GoesOn f status output
+  reads_said = said_one Reads FirstFault have_one_answer text GoesOn status output
 
   pub reads_faulty : (line : List ℕ) → IsFaulty text line → ReadsText text GoesOn status output → (status ≡ 2) × (output ≡ line)
-  reads_faulty line f (inl r) = (r.0, r.1.printed ∙ ap text_fault_line (have_one_answer.faults text r.1.fault f.fault r.1.first f.first) ∙ sym f.printed)
-  reads_faulty line f (inr g) = absurd (have_one_answer.either text g.0 f.fault g.1 f.first)
+  reads_faulty = faulty_one Reads FirstFault have_one_answer text GoesOn status output
 
 pub reads_once : (text : List ℕ) (GoesOn : FileParts → Replying) → ((s : FileParts) → OneStatus (GoesOn s)) → OneStatus (ReadsText text GoesOn)
-reads_once text GoesOn once a b o p (inl r) y = r.0 ∙ sym (reads_faulty text GoesOn b p o r.1 y).0
-reads_once text GoesOn once a b o p (inr g) y = once g.0 a b o p g.2 (reads_said text GoesOn b p g.0 g.1 y)
+reads_once = read_once Reads FirstFault have_one_answer
 
 -- ---- what was read is abstracted
 
 -- a result is one value or one error
 module _ {X Y : Type 0} (r : Result X Y) where
-  one_value : (x y : X) → r ≡ Ok x → r ≡ Ok y → x ≡ y
+  pub one_value : (x y : X) → r ≡ Ok x → r ≡ Ok y → x ≡ y
   one_value x y e h = let both : Ok x ≡ Ok y = sym e ∙ h in cc
 
   one_error : (x y : Y) → r ≡ Err x → r ≡ Err y → x ≡ y
   one_error x y e h = let both : Err x ≡ Err y = sym e ∙ h in cc
 
-  not_both : (x : X) (y : Y) → r ≡ Ok x → r ≡ Err y → ⊥
+  pub not_both : (x : X) (y : Y) → r ≡ Ok x → r ≡ Err y → ⊥
   not_both x y e h = let both : Ok x ≡ Err y = sym e ∙ h in absurd cc
 
 module _ (f : FileParts) where
-  one_line : (a b : List ℕ) → AsksNone f a → AsksNone f b → a ≡ b
+  pub one_line : (a b : List ℕ) → AsksNone f a → AsksNone f b → a ≡ b
   one_line a b x y = x.printed ∙ ap abstract_fault_line (one_error (abstract_of f) x.fault y.fault x.has_none y.has_none) ∙ sym y.printed
 
   module _ (GoesOn : AbstractParts → Replying) (status : ℕ) (output : List ℕ) where
@@ -119,8 +137,17 @@ pub text_once : (text : List ℕ) (GoesOn : ProblemParts → Replying) → ((q :
 text_once text GoesOn once = reads_once text (λ f. AsksQuestion f GoesOn) (λ f. abstracts_once f (λ a. GoesOn a.problem) (λ a. once a.problem))
 
 -- a text that is too long is faulty
-long_faulty : (text : List ℕ) → MAX_TEXT_BYTES < length text → IsFaulty text too_long_line
-long_faulty text past = record { fault = TooLong; first = too_long refl past; printed = refl }
+abbrev IsLongFault : (List ℕ → TextFault → Type 0) → Type 0
+IsLongFault Fails = (text : List ℕ) → MAX_TEXT_BYTES < length text → Fails text TooLong
+
+-- and what is told of it is what is told of any that is faulty
+module _ {X : Type 0} (Says : List ℕ → X → Type 0) (Fails : List ℕ → TextFault → Type 0) (long : IsLongFault Fails) (s : ShelfUse) (file : List ℕ) (GoesOn : X → Replying) (status : ℕ) (output : List ℕ) (text : List ℕ) where
+  read_as : (IsPast (length text) (Some MAX_TEXT_BYTES) × (status ≡ 2) × (output ≡ too_long_line)) ⊎ (IsWithin (length text) (Some MAX_TEXT_BYTES) × ReadsAs (Fails text) (Says text) GoesOn status output) → ReadsAs (Fails text) (Says text) GoesOn status output
+  read_as (inl h) = inl (h.1, subst (IsFaultOf (Fails text)) (sym h.2) (record { fault = TooLong; first = long text h.0; printed = refl }))
+  read_as (inr h) = h.1
+
+  pub gets_as : s.content file ≡ Holds text → (FailsOn s file → ⊥) → GetsText s file (λ t. ReadsAs (Fails t) (Says t) GoesOn) status output → ReadsAs (Fails text) (Says text) GoesOn status output
+  gets_as is unfailed r = read_as (gets_told s file (Some MAX_TEXT_BYTES) too_long_line (λ t. ReadsAs (Fails t) (Says t) GoesOn) text status output is unfailed r)
 
 module _ (s : ShelfUse) (file : List ℕ) (GoesOn : FileParts → Replying) (status : ℕ) (output : List ℕ) where
   -- the reply to a file, by what the text that it may hold says
@@ -132,13 +159,8 @@ module _ (s : ShelfUse) (file : List ℕ) (GoesOn : FileParts → Replying) (sta
   gets_read (inr (inr (text, given, inr (f, reads, g)))) = inr (inr (f, record { text = text; given = given; reads = reads }, g))
 
   module _ (text : List ℕ) (is : s.content file ≡ Holds text) (unfailed : FailsOn s file → ⊥) (r : GetsText s file (λ t. ReadsText t GoesOn) status output) where
-    -- what is told of a text that is too long is what is told of any that is faulty
     pub gets_text : ReadsText text GoesOn status output
-    gets_text = read (gets_told s file (Some MAX_TEXT_BYTES) too_long_line (λ t. ReadsText t GoesOn) text status output is unfailed r)
-      where
-        read : (IsPast (length text) (Some MAX_TEXT_BYTES) × (status ≡ 2) × (output ≡ too_long_line)) ⊎ (IsWithin (length text) (Some MAX_TEXT_BYTES) × ReadsText text GoesOn status output) → ReadsText text GoesOn status output
-        read (inl h) = inl (h.1, subst (IsFaulty text) (sym h.2) (long_faulty text h.0))
-        read (inr h) = h.1
+    gets_text = gets_as Reads FirstFault (λ t past. too_long refl past) s file GoesOn status output text is unfailed r
 
     pub gets_said : (f : FileParts) → Reads text f → GoesOn f status output
     gets_said f reads = reads_said text GoesOn status output f reads gets_text

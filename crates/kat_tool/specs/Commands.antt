@@ -3,15 +3,16 @@ use Rattle.std.specs.Prelude.{ℕ, ◌^◌, List, [], ◌∷◌, Option, None, S
 use Rattle.std.specs.Option.{option_map}
 use Rattle.std.specs.Str.{bytes_eq}
 use Rattle.kat_tool.specs.declared.words.Command.{Command as Chosen}
-use Rattle.kat_tool.specs.declared.words.Command.TheVariants.{Decide, Report, Show, Check, Replay, Run, OneLoop}
+use Rattle.kat_tool.specs.declared.words.Command.TheVariants.{Decide, Report, Show, Batch, Check, Replay, Run, OneLoop}
 use Rattle.kat_tool.specs.Numbers.{number_below}
 
--- a command and its words: the file of the problem, and that of the evidence; or a program of the file, and with it the word
+-- a command and its words: the file of the problem or of several goals, and that of the evidence; or a program of the file, and with it the word
 -- of a store and a number of turns
 pub data Command : Type 0 where
   decide : (file : List ℕ) → Command
   report : (file : List ℕ) → Command
   show : (file : List ℕ) → Command
+  batch : (file : List ℕ) → Command
   check : (file evidence : List ℕ) → Command
   replay : (file evidence : List ℕ) → Command
   run : (file prog store : List ℕ) → (turns : ℕ) → Command
@@ -22,6 +23,7 @@ abbrev pub command_seen : Chosen → Command
 command_seen (Decide file) = decide file.now
 command_seen (Report file) = report file.now
 command_seen (Show file) = show file.now
+command_seen (Batch file) = batch file.now
 command_seen (Check file evidence) = check file.now evidence.now
 command_seen (Replay file evidence) = replay file.now evidence.now
 command_seen (Run file prog store turns) = run file.now prog.now store.now turns
@@ -36,7 +38,10 @@ is_value (b ∷ bs) = not (b == 45)
 -- store and turns
 abbrev pub with_file : List ℕ → List ℕ → Option Command
 with_file name file =
-    if bytes_eq name (codes "decide") then Some (decide file) else if bytes_eq name (codes "show") then Some (show file) else None
+    if bytes_eq name (codes "decide") then Some (decide file)
+    else if bytes_eq name (codes "show") then Some (show file)
+    else if bytes_eq name (codes "batch") then Some (batch file)
+    else None
 
 abbrev pub with_option : List ℕ → List ℕ → List ℕ → Option Command
 with_option name file option = if bytes_eq name (codes "decide") && bytes_eq option (codes "--json") then Some (report file) else None
@@ -63,6 +68,7 @@ abbrev pub files_of : Command → List (List ℕ)
 files_of (decide file) = file ∷ []
 files_of (report file) = file ∷ []
 files_of (show file) = file ∷ []
+files_of (batch file) = file ∷ []
 files_of (check file evidence) = file ∷ evidence ∷ []
 files_of (replay file evidence) = file ∷ evidence ∷ []
 files_of (run file prog store turns) = file ∷ []

@@ -8,6 +8,7 @@ pub mod Steps
 pub mod Decide
 pub mod StoreAnswers
 pub mod Report
+pub mod Batch
 pub mod Check
 pub mod Replay
 pub mod Show

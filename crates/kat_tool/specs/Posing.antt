@@ -13,11 +13,15 @@ use Rattle.abstract_texts.specs.Refusals.{abstract_fault_line}
 use Rattle.kat_tool.specs.Held.{MayPass, IsGiven}
 use Rattle.kat_tool.specs.Asking.{Asks}
 
--- the text says nothing, and its first fault is printed
-pub record IsFaulty (text output : List ℕ) : Type 0 where
+-- this is a first fault, and it is printed
+pub record IsFaultOf (Fails : TextFault → Type 0) (output : List ℕ) : Type 0 where
   pub fault : TextFault
-  pub first : FirstFault text fault
+  pub first : Fails fault
   pub printed : output ≡ text_fault_line fault
+
+-- the text says nothing, and its first fault is printed
+abbrev pub IsFaulty : List ℕ → List ℕ → Type 0
+IsFaulty text output = IsFaultOf (FirstFault text) output
 
 -- what was read has no abstraction, and so asks no question, and the line that is printed says why
 pub record AsksNone (f : FileParts) (output : List ℕ) : Type 0 where

@@ -1,10 +1,11 @@
 -- What the top call replies to words.
 use Rattle.std.specs.Prelude.{◌≡◌, ◌⊎◌, ℕ, List, None, Some, codes}
-use Rattle.kat_tool.specs.Commands.{Command, decide, report, show, check, replay, run, oneloop, command_of}
+use Rattle.kat_tool.specs.Commands.{Command, decide, report, show, batch, check, replay, run, oneloop, command_of}
 use Rattle.kat_tool.specs.Steps.{ShelfUse, Replying}
 use Rattle.kat_tool.specs.Decide.{Decides}
 use Rattle.kat_tool.specs.Report.{Reports}
 use Rattle.kat_tool.specs.Show.{Shows}
+use Rattle.kat_tool.specs.Batch.{Batches}
 use Rattle.kat_tool.specs.Check.{Checks}
 use Rattle.kat_tool.specs.Replay.{Replays}
 use Rattle.kat_tool.specs.Running.{Runs}
@@ -15,6 +16,7 @@ abbrev pub RepliesTo : ShelfUse → Command → Replying
 RepliesTo s (decide file) = Decides s file
 RepliesTo s (report file) = Reports s file
 RepliesTo s (show file) = Shows s file
+RepliesTo s (batch file) = Batches s file
 RepliesTo s (check file evidence) = Checks s file evidence
 RepliesTo s (replay file evidence) = Replays s file evidence
 RepliesTo s (run file prog store turns) = Runs s file prog store turns

@@ -3,11 +3,12 @@ use Rattle.std.specs.Prelude.{◌≡◌, ◌≢◌, ◌⊎◌, ℕ, List, Option
 use Rattle.std.specs.Io.KnownBytes.{Appends, Keeps}
 use Rattle.kat_io.specs.Outside.{Rose, AppendsFront}
 use Rattle.kat_model.specs.Members.{Has}
-use Rattle.kat_tool.specs.Commands.{Command, decide, report, show, check, replay, run, oneloop, command_of, files_of}
+use Rattle.kat_tool.specs.Commands.{Command, decide, report, show, batch, check, replay, run, oneloop, command_of, files_of}
 use Rattle.kat_tool.specs.Steps.{ShelfUse, HasFailedOn}
 use Rattle.kat_tool.specs.Decide.{DecideCauses}
 use Rattle.kat_tool.specs.Report.{ReportCauses}
 use Rattle.kat_tool.specs.Show.{ShowCauses}
+use Rattle.kat_tool.specs.Batch.{BatchCauses}
 use Rattle.kat_tool.specs.Check.{CheckCauses}
 use Rattle.kat_tool.specs.Replay.{ReplayCauses}
 use Rattle.kat_tool.specs.Running.{MayMisfit, RunCauses}
@@ -57,6 +58,7 @@ pub record IsReply (s : ShelfUse) (words : List (List ℕ)) (status : ℕ) (outp
   pub replays : (file other : List ℕ) → command_of words ≡ Some (replay file other) → ReplayCauses s file other status output
   pub runs : (file prog store : List ℕ) (turns : ℕ) → command_of words ≡ Some (run file prog store turns) → RunCauses s file prog store turns status output
   pub forms : (file prog : List ℕ) → command_of words ≡ Some (oneloop file prog) → OneLoopCauses s file prog status output
+  pub batches : (file : List ℕ) → command_of words ≡ Some (batch file) → BatchCauses s file status output
   pub shows : (file : List ℕ) → command_of words ≡ Some (show file) → ShowCauses s file status output
   pub failed : status ≡ 4 → HasFailed s words status output
   pub no_command : command_of words ≡ None → status ≡ 7

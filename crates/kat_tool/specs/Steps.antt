@@ -6,10 +6,11 @@ use Rattle.kat_io.specs.Told.{Told}
 use Rattle.kat_io.specs.Outside.{Rose}
 use Rattle.certificate.specs.declared.evidence.Evidence.{Evidence}
 use Rattle.problem_file.specs.Files.{FileParts}
-use Rattle.problem_file.specs.Reads.{Reads}
+use Rattle.kat_tokens.specs.declared.fault.TextFault.{TextFault}
+use Rattle.problem_file.specs.Reads.{Reads, FirstFault}
 use Rattle.abstraction.specs.Abstracts.{AbstractParts, abstract_of}
 use Rattle.kat_tool.specs.Held.{IsGiven}
-use Rattle.kat_tool.specs.Posing.{IsFaulty, AsksNone, IsTooLong, too_long_line}
+use Rattle.kat_tool.specs.Posing.{IsFaultOf, AsksNone, IsTooLong, too_long_line}
 use Rattle.kat_tool.specs.Showing.{Spells, IsNoEvidence}
 
 -- what a call saw of the shelf: what it holds under each name, its count of faults before the call and after it, and the
@@ -54,8 +55,11 @@ abbrev pub GetsText : ShelfUse → List ℕ → (List ℕ → Replying) → Repl
 GetsText s file GoesOn = GetsFile s file (Some MAX_TEXT_BYTES) too_long_line GoesOn
 
 -- a text is read: it has a first fault, or what it says is gone on with
+abbrev pub ReadsAs : {X : Type 0} → (TextFault → Type 0) → (X → Type 0) → (X → Replying) → Replying
+ReadsAs {X} Fails Says GoesOn status output = IsRefusal (IsFaultOf Fails) status output ⊎ ((x : X) × Says x × GoesOn x status output)
+
 abbrev pub ReadsText : List ℕ → (FileParts → Replying) → Replying
-ReadsText text GoesOn status output = IsRefusal (IsFaulty text) status output ⊎ ((f : FileParts) × Reads text f × GoesOn f status output)
+ReadsText text GoesOn = ReadsAs (FirstFault text) (Reads text) GoesOn
 
 -- what was read is abstracted: it has no abstraction, or that is gone on with
 abbrev pub AbstractsFile : FileParts → (AbstractParts → Replying) → Replying

@@ -1,7 +1,8 @@
 //! The problem that a file asks: that of its abstraction.
 ghost use Rattle.std.specs.Prelude.{◌≡◌, ◌≢◌, Ok};
 ghost use Rattle.abstraction.specs.declared.fault.AbstractFault.TheVariants.{NoMemory as NoRoom};
-ghost use Rattle.abstraction.specs.Abstracts.{HasNumbersInRange, abstract_of};
+ghost use Rattle.problem_file.specs.Trees.{goal_tree};
+ghost use Rattle.abstraction.specs.Abstracts.{HasNumbersInRange, abstract_of, with_goal};
 ghost use Rattle.abstract_texts.specs.Refusals.{abstract_fault_line};
 ghost use Rattle.kat_tool.specs.Posing.{AsksNone};
 ghost use Rattle.kat_tool.specs.Steps.{IsRefusal};
@@ -9,9 +10,9 @@ ghost use Rattle.kat_tool.specs.Working.Outcomes.{IsOutcome, IsStop, IsQuestionO
 
 use crate::reply::{Reply, Stop};
 use abstract_texts::abstract_fault_line;
-use abstraction::{Abstract, AbstractFault, abstracted};
+use abstraction::{Abstract, AbstractFault, abstracted, abstracted_for};
 use kat_model::{NoMemory, Problem};
-use problem_file::File;
+use problem_file::{File, Goal};
 use std::alloc::Global;
 
 // The reply to a file that has no abstraction for this reason, which is a refusal unless memory ran out.
@@ -33,6 +34,17 @@ pub(crate) fn abstract_in(alloc: Global, file: &File) -> Result<Abstract, Stop>
     ensures { IsOutcome (λ a. abstract_of file.now ≡ Ok a) (IsRefusal (AsksNone file.now)) result }
 {
     match abstracted(alloc, file) {
+        Ok(shown) => Ok(shown),
+        Err(fault) => Err(fault_stop(alloc, fault)),
+    }
+}
+
+/// The abstraction of a file with this goal alone.
+pub(crate) fn abstract_for(alloc: Global, file: &File, goal: &Goal) -> Result<Abstract, Stop>
+    requires { HasNumbersInRange (with_goal file.now (goal_tree goal.now)) }
+    ensures { IsOutcome (λ a. abstract_of (with_goal file.now (goal_tree goal.now)) ≡ Ok a) (IsRefusal (AsksNone (with_goal file.now (goal_tree goal.now)))) result }
+{
+    match abstracted_for(alloc, file, goal) {
         Ok(shown) => Ok(shown),
         Err(fault) => Err(fault_stop(alloc, fault)),
     }

@@ -37,8 +37,8 @@ pub(crate) fn know_numbers(problem: &Problem, evidence: &Evidence)
     }
 }
 
-// The text of a decision, which is read as that decision again.
-fn text(alloc: Global, problem: &Problem, evidence: &Evidence) -> Result<Vec<u8>, NoMemory>
+/// The text of a decision, which is read as that decision again.
+pub(crate) fn text(alloc: Global, problem: &Problem, evidence: &Evidence) -> Result<Vec<u8>, NoMemory>
     requires { IsDecision problem.now evidence.now }
     ensures { IfOk result (λ v. Spells v.items evidence.now) }
 {

@@ -2,6 +2,7 @@
 #![tactic(auto)]
 
 mod asking;
+mod batch;
 mod check;
 mod counter;
 mod decide;
@@ -26,7 +27,7 @@ mod words;
 pub use laws::{causes_exclude, words_give_stores};
 pub use reply::Reply;
 pub use text::{
-    checked_texts, decided_text, one_loop_reply, replayed_texts, reported_text, run_reply,
+    batch_reply, checked_texts, decided_text, one_loop_reply, replayed_texts, reported_text, run_reply,
     show_reply,
 };
 pub use top::run;

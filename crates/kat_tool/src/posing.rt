@@ -15,8 +15,8 @@ use kat_tokens::TextFault;
 use problem_file::{File, read};
 use std::alloc::Global;
 
-// The reply to a text with this fault, which is a refusal unless memory ran out.
-fn fault_stop(alloc: Global, fault: TextFault) -> Stop
+/// The reply to a text with this fault, which is a refusal unless memory ran out.
+pub(crate) fn fault_stop(alloc: Global, fault: TextFault) -> Stop
     ensures { IsStop (λ status output. (status ≡ 2) × ((fault ≢ NoRoom) × (output ≡ text_fault_line fault))) result }
 {
     match fault {

@@ -1,18 +1,19 @@
-//! `decide`, `check`, `replay`, `run`, `oneloop` and `show` on the bytes of texts, with no outside.
-ghost use Rattle.std.specs.Prelude.{◌≡◌, ℕ, IfOk};
+//! `decide`, `batch`, `check`, `replay`, `run`, `oneloop` and `show` on the bytes of texts, with no outside.
+ghost use Rattle.std.specs.Prelude.{◌≡◌, ℕ, List, IfOk};
 ghost use Rattle.kat_model.specs.Problems.{ProblemParts};
 ghost use Rattle.kat_model.specs.Expressions.{CondTree};
 ghost use Rattle.kat_model.specs.declared.expression.Width.{Width};
 ghost use Rattle.while_lang.specs.Programs.{ProgTree};
 ghost use Rattle.plain_texts.specs.Questions.{question_text, IsPrintable};
 ghost use Rattle.plain_texts.specs.ProgramTexts.{programs_text, triple_text, ArePrintable, IsTriplePrintable};
-ghost use Rattle.problem_file.specs.Files.{FileParts};
-ghost use Rattle.problem_file.specs.Reads.{Reads};
+ghost use Rattle.problem_file.specs.Files.{GoalTree, FileParts};
+ghost use Rattle.problem_file.specs.Reads.{Reads, ReadsAll};
 ghost use Rattle.problem_file.specs.Concrete.{IsConcrete, Agrees};
 ghost use Rattle.kat_tool.specs.Asking.{Asks};
 ghost use Rattle.kat_tool.specs.Decide.{DecidesText, Headline};
 ghost use Rattle.kat_tool.specs.StoreAnswers.{AlwaysEndAlike, AlwaysMeets, StoreHeadline};
 ghost use Rattle.kat_tool.specs.Report.{ReportsText, ReportHeadline};
+ghost use Rattle.kat_tool.specs.Batch.{AnswersText, BatchHeadline};
 ghost use Rattle.kat_tool.specs.Check.{ChecksTexts, CheckHeadline};
 ghost use Rattle.kat_tool.specs.Replay.{ReplaysTexts, ReplayHeadline};
 ghost use Rattle.kat_tool.specs.Running.{RunsText, RunHeadline};
@@ -20,7 +21,7 @@ ghost use Rattle.kat_tool.specs.OneLoop.{FormsText, OneLoopHeadline};
 ghost use Rattle.kat_tool.specs.Show.{ShowsText, ShowHeadline};
 
 use crate::reply::{Reply, Stop};
-use crate::{check, decide, oneloop, replay, report, running, show};
+use crate::{batch, check, decide, oneloop, replay, report, running, show};
 use kat_model::NoMemory;
 use std::alloc::Global;
 
@@ -62,6 +63,23 @@ pub fn reported_text(alloc: Global, text: &[u8]) -> Result<Reply, NoMemory>
     ensures replies { IfOk result (λ r. ReportsText text.now r.status r.output.items) }
 {
     match report::text_reply(alloc, text) {
+        Ok(reply) => Ok(reply),
+        Err(Stop::Replied(reply)) => Ok(reply),
+        Err(Stop::NoMemory) => Err(NoMemory),
+    }
+}
+
+/// What `batch` answers to the bytes of a text with one to 64 goals. Each goal is answered as `decide` answers the file with
+/// that goal alone, behind a line with its number. The status is 0 exactly where both sides of each goal denote one relation
+/// in every finite table that keeps its hypotheses, and 1 exactly where each goal asks a question and both sides of one do
+/// not. It is 2 where the text is not read or a goal is refused, with the line of the first that is, alone. The goals of a
+/// concrete file hold of all its stores where the status is 0. It fails only when out of memory.
+pub fn batch_reply(alloc: Global, text: &[u8]) -> Result<Reply, NoMemory>
+    ensures headline { (f : FileParts) (more : List GoalTree) → ReadsAll text.now f more
+        → IfOk result (λ r. BatchHeadline f more r.status r.output.items) }
+    ensures replies { IfOk result (λ r. AnswersText text.now r.status r.output.items) }
+{
+    match batch::text_reply(alloc, text) {
         Ok(reply) => Ok(reply),
         Err(Stop::Replied(reply)) => Ok(reply),
         Err(Stop::NoMemory) => Err(NoMemory),

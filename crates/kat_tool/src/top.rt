@@ -5,6 +5,7 @@ ghost use Rattle.kat_tool.specs.Steps.{shelf_use};
 ghost use Rattle.kat_tool.specs.Decide.{Decides};
 ghost use Rattle.kat_tool.specs.Report.{Reports};
 ghost use Rattle.kat_tool.specs.Show.{Shows};
+ghost use Rattle.kat_tool.specs.Batch.{Batches};
 ghost use Rattle.kat_tool.specs.Check.{Checks};
 ghost use Rattle.kat_tool.specs.Replay.{Replays};
 ghost use Rattle.kat_tool.specs.Running.{Runs};
@@ -16,7 +17,7 @@ ghost use Rattle.kat_tool.specs.Working.Outcomes.{IsReplied, Counts};
 use crate::getting::{file_bytes, file_text};
 use crate::posing::problem_in;
 use crate::reply::{Reply, Stop, line};
-use crate::text::{decided_text, one_loop_reply, reported_text, run_reply, show_reply};
+use crate::text::{batch_reply, decided_text, one_loop_reply, reported_text, run_reply, show_reply};
 use crate::words::{Command, Words};
 use crate::{check, replay};
 use kat_io::{Shelf, Sink, send};
@@ -48,6 +49,15 @@ fn show_file<S: Shelf>(alloc: Global, file: &str, shelf: &mut S) -> Result<Reply
 {
     let text = file_text(alloc, file, shelf)?;
     Ok(show_reply(alloc, &text)?)
+}
+
+fn batch_file<S: Shelf>(alloc: Global, file: &str, shelf: &mut S) -> Result<Reply, Stop>
+    ensures replied { IsReplied (Batches (shelf_use (S.content shelf.old) (S.faults shelf.old) (S.faults shelf.new) (S.last_failed shelf.new)) file.now) result }
+    ensures counts { Counts (S.faults shelf.old) (S.faults shelf.new) result }
+    ensures kept { (name : List ℕ) → S.content shelf.new name ≡ S.content shelf.old name }
+{
+    let text = file_text(alloc, file, shelf)?;
+    Ok(batch_reply(alloc, &text)?)
 }
 
 // The evidence is got only after the text was read, so that a text that is refused needs none.
@@ -126,6 +136,7 @@ fn command_reply<S: Shelf>(
         Command::Decide(file) => decide_file(alloc, file, shelf),
         Command::Report(file) => report_file(alloc, file, shelf),
         Command::Show(file) => show_file(alloc, file, shelf),
+        Command::Batch(file) => batch_file(alloc, file, shelf),
         Command::Check(file, evidence) => check_files(alloc, file, evidence, shelf),
         Command::Replay(file, evidence) => replay_files(alloc, file, evidence, shelf),
         Command::Run {
@@ -173,6 +184,9 @@ fn answer<S: Shelf>(alloc: Global, words: &Words, shelf: &mut S) -> Result<Reply
 /// `show` FILE tells the problem of FILE as a text, with what its tests and actions stand for: 0 with the text, and 2 where
 /// FILE is refused.
 ///
+/// `batch` FILE answers each of up to 64 goals of FILE as `decide` answers FILE with that goal alone: 0 where the answer to
+/// each is 0, 1 where one is 1, and 2 where FILE or one of its goals is refused, with the line of the first alone.
+///
 /// `run` FILE PROG STORE TURNS runs a program of FILE: 0 where it ends, and the store is printed; 1 where it comes to an
 /// `abort` or to an `assert` that fails, or wants more turns; 2 where FILE is refused.
 ///
@@ -190,9 +204,9 @@ fn answer<S: Shelf>(alloc: Global, words: &Words, shelf: &mut S) -> Result<Reply
 /// field `answered` gives for each status but 5 and 6 the bytes that were sent, and what they say: `decides.headline` is
 /// the statement on `decide`, over the text that the shelf tells, in the words of `decided_text`; `checks.headline` and
 /// `replays.headline` are those of `checked_texts` and `replayed_texts`, `runs.headline` is that of `run_reply`,
-/// `forms.headline` that of `one_loop_reply`, `shows.headline` that of `show_reply`, and `reports.headline` that of
+/// `forms.headline` that of `one_loop_reply`, `batches.headline` that of `batch_reply`, `shows.headline` that of `show_reply`, and `reports.headline` that of
 /// `reported_text`; `decides.same_stores`, `reports.same_stores` and `checks.same_stores` are the statements on stores. The
-/// further fields of `decides`, `reports`, `checks`, `replays`, `runs`, `forms` and `shows` give the cause of each status
+/// further fields of `decides`, `reports`, `batches`, `checks`, `replays`, `runs`, `forms` and `shows` give the cause of each status
 /// where the shelf tells nothing. `unsent` is status 5, `no_memory` 6.
 pub fn run<S: Shelf, K: Sink>(alloc: Global, words: &Words, shelf: &mut S, sink: &mut K) -> u8
     ensures is_run { IsRun (record {

@@ -32,6 +32,8 @@ pub(crate) enum Command<'a> {
     Report(&'a str),
     /// `show` FILE
     Show(&'a str),
+    /// `batch` FILE
+    Batch(&'a str),
     /// `check` FILE EVIDENCE
     Check(&'a str, &'a str),
     /// `replay` FILE EVIDENCE
@@ -100,6 +102,7 @@ fn with_file<'a>(name: &str, file: &'a str) -> Option<Command<'a>>
     match name {
         "decide" => Some(Command::Decide(file)),
         "show" => Some(Command::Show(file)),
+        "batch" => Some(Command::Batch(file)),
         _ => None,
     }
 }

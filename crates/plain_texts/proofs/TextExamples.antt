@@ -157,6 +157,7 @@ bc_right_is = record { sound = subst (IsTermName bc_scope (context 0 false false
 
 bc_says : Reads bc_text (file_of bc_state (equal (term_side (test (meet (prim 0) (prim 1)))) (term_side (test (prim 0)))))
 bc_says = record {
+  says = record {
   parts_of_tokens = parts_from 0 bc_pieces;
   lexes = printed bc_pieces bc_separate (omega arith);
   items =
@@ -175,6 +176,7 @@ bc_says = record {
   );
   goal = equal (term_side (test (meet (prim 0) (prim 1)))) (term_side (test (prim 0)));
   has_goal = refl;
+  };
   file = refl;
 }
 
@@ -385,6 +387,7 @@ pb_stated = record { limit = (start_one).limit; world = pb_scope; tests = 1; act
 
 pb_says : Reads pb_text (file_of pb_state (triple (named 0) (term_side (star_term (act 0))) (negation (named 0))))
 pb_says = record {
+  says = record {
   parts_of_tokens = parts_from 0 pb_pieces;
   lexes = printed pb_pieces pb_separate (omega arith);
   items =
@@ -424,5 +427,6 @@ pb_says = record {
   );
   goal = triple (named 0) (term_side (star_term (act 0))) (negation (named 0));
   has_goal = refl;
+  };
   file = refl;
 }

@@ -41,7 +41,7 @@ use Rattle.problem_file.specs.Numbers.{check_number, check_numbers}
 use Rattle.problem_file.specs.Items.{lone_name}
 use Rattle.problem_file.specs.Syntax.{checking, scan_file}
 use Rattle.problem_file.specs.Making.{declare, begin_setting, set, built_term, built_cond, built_block, program_or, built_side, built_triple, built_goal, count, triple_nodes, count_sides, count_parts, ask_sides, ask_triple, making, walk}
-use Rattle.problem_file.specs.Reads.{file_with, check_goal, tested, placed, placing, FirstFault, too_long, not_utf8, bad_token, refused}
+use Rattle.problem_file.specs.Reads.{files_with, check_goal, tested, placed, placing, HasFirstFault, too_long, not_utf8, bad_token, refused}
 use Rattle.problem_file.proofs.NamedBlocks.{NameBlocks, block_named}
 use Rattle.problem_file.proofs.NamedItems.{NameItems, items_named}
 
@@ -244,14 +244,14 @@ making_named = record {
 
 -- ---- texts
 
-file_with_named : (s : State) (o : Option GoalTree) → IsNamed (file_with s o)
-file_with_named s None = tt
-file_with_named s (Some goal) = tt
+files_with_named : (s : State) (o : Option GoalTree) → IsNamed (files_with s o)
+files_with_named s None = tt
+files_with_named s (Some goal) = tt
 
-tested_named : (ts : List Lexeme) → IsNamed (tested ts)
-tested_named ts =
+tested_named : (limit : GoalLimit) (ts : List Lexeme) → IsNamed (tested limit ts)
+tested_named limit ts =
     then_named (scan_file ts) _ (items_named checking checking_named tt ts)
-    (λ v. then_named (walk (start One) ts) check_goal (items_named making making_named (start One) ts) (λ s. file_with_named s (slice_get s.goals 0)))
+    (λ v. then_named (walk (start limit) ts) check_goal (items_named making making_named (start limit) ts) (λ s. files_with_named s (slice_get s.goals 0)))
 
 placed_named : (len : ℕ) (e : TextFault) → IsNamedFault e → IsNamedFault (placed len e)
 placed_named len (Syntax at) h = tt
@@ -261,8 +261,8 @@ placing_named : {X : Type 0} (len : ℕ) (m : Result X TextFault) → IsNamed m 
 placing_named len (Ok x) h = tt
 placing_named len (Err e) h = placed_named len e h
 
-pub faults_are_named : (bytes : List ℕ) → FirstFault bytes NoMemory → ⊥
-faults_are_named bytes (too_long told past) = cc
-faults_are_named bytes (not_utf8 at told within front) = cc
-faults_are_named bytes (bad_token at told bad) = cc
-faults_are_named bytes (refused r) = subst IsNamed r.tests (placing_named (length bytes) (tested (map lexeme_of r.parts_of_tokens)) (tested_named (map lexeme_of r.parts_of_tokens)))
+pub faults_are_named : (limit : GoalLimit) (bytes : List ℕ) → HasFirstFault limit bytes NoMemory → ⊥
+faults_are_named limit bytes (too_long told past) = cc
+faults_are_named limit bytes (not_utf8 at told within front) = cc
+faults_are_named limit bytes (bad_token at told bad) = cc
+faults_are_named limit bytes (refused r) = subst IsNamed r.tests (placing_named (length bytes) (tested limit (map lexeme_of r.parts_of_tokens)) (tested_named limit (map lexeme_of r.parts_of_tokens)))

@@ -1,12 +1,13 @@
 -- The items of a text keep the numbers of tests, actions, variables and programs below those that are declared, and each
 -- that is declared has a name.
-use Rattle.std.proofs.Common.{◌≡◌, ◌≤◌, ◌<◌, ◌+◌, ⊎_elim, ℕ, zero, suc, List, [], ◌∷◌, ◌++◌, length, nat_lt, Bool, slice_get, Option, Some, None, refl, sym, ap, subst, ◌∙◌, false, true, arith, length-append}
+use Rattle.std.proofs.Common.{◌≡◌, ◌≤◌, ◌<◌, ◌+◌, ⊎_elim, ℕ, zero, suc, List, [], ◌∷◌, ◌++◌, length, drop, nat_lt, Bool, slice_get, Option, Some, None, refl, sym, ap, subst, ◌∙◌, false, true, arith, length-append}
 use Rattle.std.proofs.lemmas.Bool.{ltb-true, ltb-false}
 use Rattle.std.proofs.lemmas.Option.{slice_get_past, none-some}
 use Rattle.std.specs.FinMap.{get, insert}
 use Rattle.kat_model.specs.Trees.{TestTree, bottom, top, prim, complement, meet, join, Term, zero as nothing, one, test, act, sum, product, star, term_size}
 use Rattle.kat_model.specs.Expressions.{ExprTree, number, variable, plus, minus, times, CondTree, always, never, named, compared, negation, both, either}
 use Rattle.kat_model.specs.Problems.{IsTestInRange, IsInRange, AreInRange}
+use Rattle.kat_model.specs.Members.{Has}
 use Rattle.kat_model.proofs.Places.{slice_get_last}
 use Rattle.kat_model.proofs.Ranges.{AreInRange-append}
 use Rattle.kat_syntax.specs.Actions.{context}
@@ -22,13 +23,14 @@ use Rattle.while_lang.specs.ProgramSizes.{prog_size}
 use Rattle.while_lang.specs.NamedProgs.{ProgParts}
 use Rattle.while_lang.specs.BlockSound.{block_nesting}
 use Rattle.problem_file.specs.declared.goal_limit.GoalLimit.{GoalLimit}
-use Rattle.problem_file.specs.declared.goal_limit.GoalLimit.TheVariants.{One}
+use Rattle.problem_file.specs.declared.goal_limit.GoalLimit.TheVariants.{One, Batch}
 use Rattle.problem_file.specs.Working.Numbers.{AreNumbered}
-use Rattle.problem_file.specs.Files.{SideTree, term_side, prog_side, GoalTree, equal, below, triple, prog_meant, State, start, file_of, add_prog, state_hyp, state_goal, triple_term}
+use Rattle.problem_file.specs.Files.{FileParts, SideTree, term_side, prog_side, GoalTree, equal, below, triple, prog_meant, State, start, file_of, add_prog, state_hyp, state_goal, triple_term}
 use Rattle.problem_file.specs.Phrases.{Names, one_name, more_names, Body, tests, actions, variables, definition, program, hypothesis, hyp_triple, rounds, width, goal_equal, goal_below, goal_triple, Item, lone_leaf}
 use Rattle.problem_file.specs.Sound.{with_test, with_action, with_var, grown, EachName, DeclaresTest, DeclaresAction, DeclaresVar, named_by, IsSide, side_size, AsksSides, Makes, MakeAll}
 use Rattle.problem_file.specs.Ranges.{IsExprInRange, IsCondInRange, IsProgInRange, AreProgsInRange, IsSideInRange, IsGoalInRange, AreNamed, AreNamesOfProgs, IsNumbered}
-use Rattle.problem_file.specs.Laws.{AreInRanges}
+use Rattle.problem_file.specs.Reads.{Says}
+use Rattle.problem_file.specs.Laws.{AreInRanges, AreAllInRanges}
 use Rattle.problem_file.proofs.Numbering.{empty_numbered, test_numbered, action_numbered, var_numbered, prog_numbered, term_numbered}
 use Rattle.problem_file.proofs.InRanges.{DefinedInRange, test_of_in, term_in, cond_in}
 use Rattle.problem_file.proofs.BlockRanges.{ProgsInRange, block_in}
@@ -113,6 +115,14 @@ module _ (t a v : ℕ) where
   first_goal : (gs : List GoalTree) (g : GoalTree) → slice_get gs 0 ≡ Some g → GoalsInRange t a v gs → IsGoalInRange t a v g
   first_goal [] g e h = let none : slice_get [] 0 ≡ None = slice_get_past [] 0 (omega arith) in absurd (none-some g (sym none ∙ e))
   first_goal (x ∷ gs) g e h = let same : x ≡ g = cc in subst (IsGoalInRange t a v) same h.0
+
+  goal_of : (gs : List GoalTree) (g : GoalTree) → Has gs g → GoalsInRange t a v gs → IsGoalInRange t a v g
+  goal_of [] g has h = elim has [ ]
+  goal_of (x ∷ gs) g has h = ⊎_elim (λ same. subst (IsGoalInRange t a v) same h.0) (λ later. goal_of gs g later h.1) has
+
+  later_goal : (gs : List GoalTree) (g : GoalTree) → Has (drop 1 gs) g → GoalsInRange t a v gs → IsGoalInRange t a v g
+  later_goal [] g has h = elim has [ ]
+  later_goal (x ∷ gs) g has h = goal_of gs g has h.1
 
   progs_last : (ps : List ProgParts) (p : ProgParts) → AreProgsInRange t a v ps → IsProgInRange t a v p.tree → AreProgsInRange t a v (ps ++ p ∷ [])
   progs_last [] p h k = (k, tt)
@@ -439,9 +449,9 @@ all_ranged : (is : List Item) (s t : State) → MakeAll s is t → Ranged s → 
 all_ranged [] s t h r = subst Ranged (sym h) r
 all_ranged (i ∷ is) s t h r = all_ranged is h.0 t h.2 (body_ranged i.body s h.0 h.1 r)
 
--- and so in the file
-file_numbered : (s : State) (g : GoalTree) → slice_get s.goals 0 ≡ Some g → Ranged s → IsNumbered (file_of s g)
-file_numbered s g e r = record {
+-- and so in the file, with any of the goals
+file_numbered : (s : State) (g : GoalTree) → IsGoalInRange s.tests s.actions s.vars g → Ranged s → IsNumbered (file_of s g)
+file_numbered s g goal r = record {
   tests = r.tests;
   actions = r.actions;
   vars = r.vars;
@@ -452,10 +462,24 @@ file_numbered s g e r = record {
   named_progs = r.named_progs;
   hyps = r.hyps;
   progs = r.progs;
-  goal = first_goal s.tests s.actions s.vars s.goals g e r.goals;
+  goal = goal;
 }
 
+module _ (limit : GoalLimit) (bytes : List ℕ) (x : Says limit bytes) where
+  said_ranged : Ranged x.state
+  said_ranged = all_ranged x.items (start limit) x.state x.make (start_ranged limit)
+
+  said_numbered : IsNumbered (file_of x.state x.goal)
+  said_numbered = file_numbered x.state x.goal (first_goal (x.state).tests (x.state).actions (x.state).vars (x.state).goals x.goal x.has_goal said_ranged.goals) said_ranged
+
 pub are_in_ranges : AreInRanges
-are_in_ranges bytes f says =
-    let ranged = all_ranged says.items (start One) says.state says.make (start_ranged One) in
-    subst IsNumbered (sym says.file) (file_numbered says.state says.goal says.has_goal ranged)
+are_in_ranges bytes f reads = subst IsNumbered (sym reads.file) (said_numbered One bytes reads.says)
+
+pub all_are_in_ranges : AreAllInRanges
+all_are_in_ranges = record {
+  file = λ bytes f more reads. subst IsNumbered (sym reads.file) (said_numbered Batch bytes reads.says);
+  goals = λ bytes f more reads g has.
+      let s = (reads.says).state in
+      let goal : IsGoalInRange s.tests s.actions s.vars g = later_goal s.tests s.actions s.vars s.goals g (subst (λ gs. Has gs g) reads.goals has) (said_ranged Batch bytes reads.says).goals in
+      subst (λ (x : FileParts). IsGoalInRange x.tests x.actions x.vars g) (sym reads.file) goal;
+}

@@ -1,8 +1,9 @@
 -- What the tests of tokens tell is the answer to a text.
-use Rattle.std.proofs.Common.{◌≡◌, ◌⊎◌, inl, inr, ℕ, List, length, slice_get, get_or, Some, Result, Ok, Err, IfErr, refl, ap, subst, ◌∙◌, ⊎_elim}
+use Rattle.std.proofs.Common.{◌≡◌, ◌⊎◌, inl, inr, ℕ, List, map, length, slice_get, get_or, Some, Result, Ok, Err, IfErr, MatchResult, Vec, refl, ap, subst, ◌∙◌, ⊎_elim}
 use Rattle.std.specs.Option.{option_map}
 use Rattle.std.proofs.lemmas.Option.{slice_get-map, slice_get_within, get_or_from_slice_get}
 use Rattle.kat_tokens.specs.declared.token.Token.{Token}
+use Rattle.std.specs.declared.alloc.Global.{Global}
 use Rattle.kat_tokens.specs.declared.fault.TextFault.{TextFault}
 use Rattle.kat_tokens.specs.declared.fault.TextFault.TheVariants.{NoMemory, BadToken}
 use Rattle.kat_tokens.specs.TokenParts.{parts_of_tokens, parts_of_token}
@@ -11,8 +12,13 @@ use Rattle.kat_tokens.proofs.Slices.{slices_from}
 use Rattle.kat_syntax.specs.Lexemes.{lexemes}
 use Rattle.kat_syntax.specs.Parsed.{Makes}
 use Rattle.problem_file.specs.Working.Tokens.{AreTokens}
-use Rattle.problem_file.specs.Files.{FileParts}
-use Rattle.problem_file.specs.Reads.{Reads, FirstFault, bad_token, refused, placed, placing, tested, Answers}
+use Rattle.problem_file.specs.declared.file.Goal.{Goal}
+use Rattle.problem_file.specs.declared.goal_limit.GoalLimit.{GoalLimit}
+use Rattle.problem_file.specs.declared.goal_limit.GoalLimit.TheVariants.{One, Batch}
+use Rattle.problem_file.specs.Files.{GoalTree, FileParts}
+use Rattle.problem_file.specs.Trees.{goal_tree}
+use Rattle.problem_file.specs.Reads.{Says, Reads, ReadsAll, HasFirstFault, FirstFaultOfAll, bad_token, refused, placed, placing, tested}
+use Rattle.problem_file.specs.Working.Files.{AreSaid, AnswersFor}
 use Rattle.problem_file.proofs.OneAnswer.{tested_says, not_both_ways}
 
 -- each token of a text is a token of its kind
@@ -24,26 +30,44 @@ lexed_tokens text ts lexes i t e =
     let same : get_or ms i (parts_of_token t) ≡ parts_of_token t = get_or_from_slice_get ms i (parts_of_token t) (parts_of_token t) there in
     (subst (IsSlice text) same slice).is_token
 
-pub file_told : (text : List ℕ) (ts : List Token) (f : FileParts) → Lexes text (parts_of_tokens ts) → Makes (Unit {0}) (λ f. f) (Ok f) (tested (lexemes ts)) → Reads text f
-file_told text ts f lexes h = tested_says text (parts_of_tokens ts) lexes f h
+-- a file and the goals behind it, as trees
+abbrev pub with_trees : FileParts × Vec Goal Global → FileParts × List GoalTree
+with_trees x = (x.0, map goal_tree x.1.items)
 
-fault_is : (e : TextFault) (m : Result FileParts TextFault) → Makes (Unit {0}) (λ f. f) (Err e) m → (e ≡ NoMemory) ⊎ (m ≡ Err e)
-fault_is NoMemory m h = inl refl
-fault_is e m h = inr h
+module _ (limit : GoalLimit) (text : List ℕ) where
+  pub file_told : (ts : List Token) (x : FileParts × Vec Goal Global) → Lexes text (parts_of_tokens ts) → Makes (Unit {0}) with_trees (Ok x) (tested limit (lexemes ts)) → AreSaid limit text x
+  file_told ts x lexes h =
+      let s = tested_says limit text (parts_of_tokens ts) lexes (with_trees x) h in
+      record { says = s.0; file = ap (λ y. y.0) s.1; goals = ap (λ y. y.1) s.1 }
 
-pub fault_told : (text : List ℕ) (ts : List Token) (e : TextFault) → Lexes text (parts_of_tokens ts) → Makes (Unit {0}) (λ f. f) (Err e) (tested (lexemes ts)) → (placed (length text) e ≡ NoMemory) ⊎ FirstFault text (placed (length text) e)
-fault_told text ts e lexes h =
-    ⊎_elim
-    (λ none. inl (ap (placed (length text)) none))
-    (λ told. inr (refused (record { parts_of_tokens = parts_of_tokens ts; lexes = lexes; tests = ap (placing (length text)) told })))
-    (fault_is e (tested (lexemes ts)) h)
+  fault_is : (e : TextFault) (m : Result (FileParts × List GoalTree) TextFault) → Makes (Unit {0}) with_trees (Err e) m → (e ≡ NoMemory) ⊎ (m ≡ Err e)
+  fault_is NoMemory m h = inl refl
+  fault_is e m h = inr h
 
-pub bad_told : (text : List ℕ) (e : TextFault) → IsFault text e → (e ≡ NoMemory) ⊎ FirstFault text e
-bad_told text NoMemory h = inl refl
-bad_told text (BadToken at) h = inr (bad_token at refl h)
-bad_told text e h = absurd h
+  pub fault_told : (ts : List Token) (e : TextFault) → Lexes text (parts_of_tokens ts) → Makes (Unit {0}) with_trees (Err e) (tested limit (lexemes ts)) → (placed (length text) e ≡ NoMemory) ⊎ HasFirstFault limit text (placed (length text) e)
+  fault_told ts e lexes h =
+      ⊎_elim
+      (λ none. inl (ap (placed (length text)) none))
+      (λ told. inr (refused (record { parts_of_tokens = parts_of_tokens ts; lexes = lexes; tests = ap (placing (length text)) told })))
+      (fault_is e (tested limit (lexemes ts)) h)
 
--- bytes that say something have no first fault
-pub only_memory : (bytes : List ℕ) (f : FileParts) (r : Result FileParts TextFault) → Reads bytes f → Answers bytes r → IfErr r (λ e. e ≡ NoMemory)
-only_memory bytes f (Ok g) says h = tt
-only_memory bytes f (Err e) says h = ⊎_elim (λ none. none) (λ first. absurd (not_both_ways bytes f e says first)) h
+  pub bad_told : (e : TextFault) → IsFault text e → (e ≡ NoMemory) ⊎ HasFirstFault limit text e
+  bad_told NoMemory h = inl refl
+  bad_told (BadToken at) h = inr (bad_token at refl h)
+  bad_told e h = absurd h
+
+  -- bytes that say something have no first fault
+  pub no_fault : Says limit text → (e : TextFault) → (e ≡ NoMemory) ⊎ HasFirstFault limit text e → e ≡ NoMemory
+  no_fault says e h = ⊎_elim (λ none. none) (λ first. absurd (not_both_ways limit text says e first)) h
+
+  pub only_memory : Says limit text → (r : Result (FileParts × Vec Goal Global) TextFault) → AnswersFor limit text r → IfErr r (λ e. e ≡ NoMemory)
+  only_memory says (Ok x) h = tt
+  only_memory says (Err e) h = no_fault says e h
+
+-- where one goal may stand, and where up to 64
+pub said_one : (bytes : List ℕ) (x : FileParts × Vec Goal Global) → AreSaid One bytes x → Reads bytes x.0
+said_one bytes x h = record { says = h.says; file = h.file }
+
+pub all_answered : (bytes : List ℕ) (r : Result (FileParts × Vec Goal Global) TextFault) → AnswersFor Batch bytes r → MatchResult r (λ x. ReadsAll bytes x.0 (map goal_tree x.1.items)) (λ e. (e ≡ NoMemory) ⊎ FirstFaultOfAll bytes e)
+all_answered bytes (Ok x) h = record { says = h.says; file = h.file; goals = h.goals }
+all_answered bytes (Err e) h = h

@@ -1,17 +1,18 @@
 -- The laws of problem files. Each stands on a function of the crate that does nothing.
 use Rattle.std.specs.Prelude.{◌≡◌, ◌↔◌, ◌⊎◌, ℕ, List, Ok}
+use Rattle.kat_model.specs.Members.{Has}
 use Rattle.kat_tokens.specs.declared.fault.TextFault.{TextFault}
 use Rattle.kat_tokens.specs.declared.fault.TextFault.TheVariants.{NoMemory}
 use Rattle.kat_syntax.specs.Lexemes.{Lexeme}
 use Rattle.while_lang.specs.BlockLaws.{AreLimited}
-use Rattle.problem_file.specs.Files.{FileParts, State}
+use Rattle.problem_file.specs.Files.{GoalTree, FileParts, State}
 use Rattle.problem_file.specs.Syntax.{checking, scan_file}
 use Rattle.problem_file.specs.Making.{making, walk}
 use Rattle.problem_file.specs.Phrases.{Item, IsFile, AreSpelledBy}
 use Rattle.problem_file.specs.Folds.{fold_items}
 use Rattle.problem_file.specs.Sound.{MakeAll}
-use Rattle.problem_file.specs.Reads.{Reads, FirstFault}
-use Rattle.problem_file.specs.Ranges.{IsNumbered}
+use Rattle.problem_file.specs.Reads.{Reads, ReadsAll}
+use Rattle.problem_file.specs.Ranges.{IsNumbered, IsGoalInRange}
 
 -- the tokens are a file
 abbrev pub IsSomeFile : List Lexeme → Type 0
@@ -31,13 +32,22 @@ pub record ItemsAreFolded : Type 0 where
   pub scanned : (items : List Item) (ts : List Lexeme) → IsFile items ts → scan_file ts ≡ fold_items checking tt items
   pub walked : (s : State) (items : List Item) (ts : List Lexeme) → IsFile items ts → walk s ts ≡ fold_items making s items
 
--- bytes say one file or have one first fault, which is never want of memory
-pub record HaveOneAnswer : Type 0 where
-  pub some : (bytes : List ℕ) → ((f : FileParts) × Reads bytes f) ⊎ ((e : TextFault) × FirstFault bytes e)
-  pub either : (bytes : List ℕ) (f : FileParts) (e : TextFault) → Reads bytes f → FirstFault bytes e → ⊥
-  pub files : (bytes : List ℕ) (f g : FileParts) → Reads bytes f → Reads bytes g → f ≡ g
-  pub faults : (bytes : List ℕ) (d e : TextFault) → FirstFault bytes d → FirstFault bytes e → d ≡ e
-  pub named : (bytes : List ℕ) → FirstFault bytes NoMemory → ⊥
+-- bytes say one thing or have one first fault, which is never want of memory
+pub record HaveOneAnswer {X : Type 0} (Says : List ℕ → X → Type 0) (Fails : List ℕ → TextFault → Type 0) : Type 0 where
+  pub some : (bytes : List ℕ) → ((x : X) × Says bytes x) ⊎ ((e : TextFault) × Fails bytes e)
+  pub either : (bytes : List ℕ) (x : X) (e : TextFault) → Says bytes x → Fails bytes e → ⊥
+  pub files : (bytes : List ℕ) (x y : X) → Says bytes x → Says bytes y → x ≡ y
+  pub faults : (bytes : List ℕ) (d e : TextFault) → Fails bytes d → Fails bytes e → d ≡ e
+  pub named : (bytes : List ℕ) → Fails bytes NoMemory → ⊥
+
+-- a file and the goals after its first
+abbrev pub ReadsBoth : List ℕ → FileParts × List GoalTree → Type 0
+ReadsBoth bytes x = ReadsAll bytes x.0 x.1
 
 abbrev pub AreInRanges : Type 0
 AreInRanges = (bytes : List ℕ) (f : FileParts) → Reads bytes f → IsNumbered f
+
+-- so it is with each goal of a text
+pub record AreAllInRanges : Type 0 where
+  pub file : (bytes : List ℕ) (f : FileParts) (more : List GoalTree) → ReadsAll bytes f more → IsNumbered f
+  pub goals : (bytes : List ℕ) (f : FileParts) (more : List GoalTree) → ReadsAll bytes f more → (g : GoalTree) → Has more g → IsGoalInRange f.tests f.actions f.vars g

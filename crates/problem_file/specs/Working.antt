@@ -3,3 +3,4 @@ pub mod Tokens
 pub mod Walks
 pub mod States
 pub mod NumberSteps
+pub mod Files

@@ -1,5 +1,6 @@
 //! What the items of a text so far have made.
-ghost use Rattle.std.specs.Prelude.{length};
+ghost use Rattle.std.specs.Prelude.{length, map};
+ghost use Rattle.problem_file.specs.Trees.{goal_tree};
 ghost use Rattle.problem_file.specs.Working.Numbers.{AreNumbered};
 
 use crate::file::{File, Goal};
@@ -148,9 +149,9 @@ impl ItemReader {
         self.width.unwrap_or(Width::W64)
     }
 
-    // What the items have made, where one was a goal.
-    pub(crate) fn file(self) -> Result<File, TextFault>
-        ensures { Makes ⊥ (λ f. f) result (check_goal (state_of self)) }
+    // What the items have made, with the first goal, and the goals after it.
+    pub(crate) fn files(self) -> Result<(File, Vec<Goal>), TextFault>
+        ensures { Makes ⊥ (λ x. (x.0, map goal_tree x.1.items)) result (check_goal (state_of self)) }
     {
         let width = self.width();
         let ItemReader {
@@ -161,15 +162,16 @@ impl ItemReader {
             progs,
             hyps,
             rounds,
-            goals,
+            mut goals,
             ..
         } = self;
-        let Some(goal) = goals.into_iter().next() else {
+        if goals.is_empty() {
             return Err(TextFault::NoGoal);
-        };
+        }
+        let goal = goals.remove(0);
         let terms = scope.terms();
         let rounds = rounds.unwrap_or(1);
-        Ok(File {
+        let file = File {
             scope,
             tests,
             actions,
@@ -180,6 +182,7 @@ impl ItemReader {
             rounds,
             goal,
             width,
-        })
+        };
+        Ok((file, goals))
     }
 }

@@ -1,6 +1,7 @@
 //! Laws of the definitions. Each function does nothing: its contract is the law.
 ghost use Rattle.problem_file.specs.Laws.{FilesAreScanned, ItemsAreFolded, ItemsAreWalked};
-ghost use Rattle.problem_file.specs.Laws.{HaveOneAnswer, AreInRanges};
+ghost use Rattle.problem_file.specs.Reads.{Reads, FirstFault, FirstFaultOfAll};
+ghost use Rattle.problem_file.specs.Laws.{HaveOneAnswer, ReadsBoth, AreInRanges, AreAllInRanges};
 
 /// The test of the syntax takes all tokens exactly where they are one phrase `file` of the grammar and nothing in them is
 /// too deep or too wide.
@@ -23,11 +24,13 @@ pub fn items_are_walked()
 
 /// Bytes say one thing or have one first fault, and not both; a first fault is never want of memory.
 pub fn have_one_answer()
-    ensures { HaveOneAnswer }
+    ensures one { HaveOneAnswer Reads FirstFault }
+    ensures all { HaveOneAnswer ReadsBoth FirstFaultOfAll }
 {}
 
 /// At most 48 tests, 48 actions and 64 variables are declared, each has a name, and only those stand in hypotheses,
-/// programs and the goal.
+/// programs and the goals.
 pub fn are_in_ranges()
-    ensures { AreInRanges }
+    ensures one { AreInRanges }
+    ensures all { AreAllInRanges }
 {}

@@ -18,4 +18,4 @@ pub use file::{File, Goal, Side};
 pub use laws::{
     are_in_ranges, files_are_scanned, have_one_answer, items_are_folded, items_are_walked,
 };
-pub use reading::read;
+pub use reading::{read, read_all};

@@ -1,16 +1,18 @@
 //! The text of a problem file, read.
-ghost use Rattle.std.specs.Prelude.{◌≡◌, ◌≤◌, length, IfErr};
+ghost use Rattle.std.specs.Prelude.{◌≡◌, ◌≤◌, ◌⊎◌, List, map, length, IfErr, MatchResult};
 ghost use Rattle.kat_tokens.specs.declared.fault.TextFault.TheVariants.{NoMemory as NoRoom};
 ghost use Rattle.kat_syntax.specs.Lexemes.{lexemes};
 ghost use Rattle.kat_syntax.specs.Parsed.{Makes};
 ghost use Rattle.kat_tokens.specs.declared.lexer.TheConstants.{MAX_LEN as MOST};
-ghost use Rattle.problem_file.specs.Files.{FileParts, start};
+ghost use Rattle.problem_file.specs.Files.{GoalTree, FileParts, start};
+ghost use Rattle.problem_file.specs.Trees.{goal_tree};
 ghost use Rattle.problem_file.specs.Making.{walk};
 ghost use Rattle.problem_file.specs.Working.Tokens.{AreTokens};
 ghost use Rattle.problem_file.specs.Working.States.{state_of};
-ghost use Rattle.problem_file.specs.Reads.{Reads, placed, tested, Answers};
+ghost use Rattle.problem_file.specs.Reads.{Says, HasFirstFault, Reads, ReadsAll, FirstFaultOfAll, placed, tested, Answers};
+ghost use Rattle.problem_file.specs.Working.Files.{AnswersFor};
 
-use crate::file::File;
+use crate::file::{File, Goal};
 use crate::goal_limit::GoalLimit;
 use crate::item_reader::ItemReader;
 use crate::items::read_items;
@@ -37,24 +39,49 @@ fn walk(alloc: Global, toks: &[Token], limit: GoalLimit) -> Result<ItemReader, T
     Ok(reader)
 }
 
-// The file, or the first fault of the tokens.
-fn test(alloc: Global, toks: &[Token]) -> Result<File, TextFault>
+// The file and the goals after its first, or the first fault of the tokens.
+fn test(
+    alloc: Global,
+    toks: &[Token],
+    limit: GoalLimit,
+) -> Result<(File, Vec<Goal>), TextFault>
     requires tokens { AreTokens toks.now }
-    ensures { Makes (Unit {0}) (λ f. f) result (tested (lexemes toks.now)) }
+    ensures { Makes (Unit {0}) (λ x. (x.0, map goal_tree x.1.items)) result (tested limit (lexemes toks.now)) }
 {
     test_syntax(toks)?;
-    walk(alloc, toks, GoalLimit::One)?.file()
+    walk(alloc, toks, limit)?.files()
 }
 
-fn read_text(alloc: Global, text: &str) -> Result<File, TextFault>
+fn read_text(
+    alloc: Global,
+    text: &str,
+    limit: GoalLimit,
+) -> Result<(File, Vec<Goal>), TextFault>
     requires within { length text.now ≤ MOST }
-    ensures { Answers text.now result }
+    ensures { AnswersFor limit text.now result }
 {
     let toks = tokens(alloc, text)?;
-    match test(alloc, &toks) {
-        Ok(file) => Ok(file),
+    match test(alloc, &toks, limit) {
+        Ok(files) => Ok(files),
         Err(fault) => Err(fault_in_text(fault, text.len())),
     }
+}
+
+fn read_files(
+    alloc: Global,
+    bytes: &[u8],
+    limit: GoalLimit,
+) -> Result<(File, Vec<Goal>), TextFault>
+    ensures { AnswersFor limit bytes.now result }
+{
+    if bytes.len() > MAX_LEN {
+        return Err(TextFault::TooLong);
+    }
+    let text = match std::str::from_utf8(bytes) {
+        Ok(text) => text,
+        Err(fault) => return Err(TextFault::NotUtf8(fault.valid_up_to())),
+    };
+    read_text(alloc, text, limit)
 }
 
 /// What the text of a problem file says. A text that says nothing is refused for its first fault, in this order:
@@ -70,12 +97,21 @@ pub fn read(alloc: Global, bytes: &[u8]) -> Result<File, TextFault>
     // Bytes that say something fail only when out of memory.
     ensures only { (f : FileParts) → Reads bytes.now f → IfErr result (λ e. e ≡ NoRoom) }
 {
-    if bytes.len() > MAX_LEN {
-        return Err(TextFault::TooLong);
+    match read_files(alloc, bytes, GoalLimit::One) {
+        Ok((file, _)) => Ok(file),
+        Err(fault) => Err(fault),
     }
-    let text = match std::str::from_utf8(bytes) {
-        Ok(text) => text,
-        Err(fault) => return Err(TextFault::NotUtf8(fault.valid_up_to())),
-    };
-    read_text(alloc, text)
+}
+
+/// What a text says in which `goal` stands one to 64 times: the file with its first goal, and the goals after it in text
+/// order. The other fields of the file are those of the whole text, and all goals count in its total size. It is refused
+/// as `read` refuses, but for `TwoGoals`: a 65th goal is `TooMany` at its keyword.
+pub fn read_all(alloc: Global, bytes: &[u8]) -> Result<(File, Vec<Goal>), TextFault>
+    // What is read is what the bytes say; a refusal is `NoMemory` or the first fault of the bytes.
+    ensures answers { MatchResult result (λ x. ReadsAll bytes.now x.0 (map goal_tree x.1.items)) (λ e. (e ≡ NoRoom) ⊎ FirstFaultOfAll bytes.now e) }
+
+    // Bytes that say something fail only when out of memory.
+    ensures only { (f : FileParts) (more : List GoalTree) → ReadsAll bytes.now f more → IfErr result (λ e. e ≡ NoRoom) }
+{
+    read_files(alloc, bytes, GoalLimit::Batch)
 }

@@ -1,12 +1,6 @@
-use Rattle.std.proofs.Common.{refl, sym, subst, inr, arith}
-use Rattle.std.specs.Str.{IsValidUpTo}
-use Rattle.problem_file.specs.Reads.{Reads, not_utf8}
-use Rattle.problem_file.proofs.ReadTexts.{only_memory}
+use Rattle.problem_file.proofs.ReadTexts.{no_fault}
+use Rattle.problem_file.specs.declared.goal_limit.GoalLimit.TheVariants.{One}
 use Rattle.problem_file.proofs.reading.read.Goals as goal
 
-pub returns-in-Err-clause-answers : goal.returns-in-Err-clause-answers
-returns-in-Err-clause-answers c =
-    inr (not_utf8 c.valid_up_to.result refl (omega (arith, c.if-bytes-gt-MAX_LEN.false)) (subst (IsValidUpTo c.args.bytes.now) (sym c.valid_up_to.ensures) c.in-Err.ensures.cases.1))
-
 pub returns-clause-only : goal.returns-clause-only
-returns-clause-only c f says = only_memory c.in-Ok.text.now f c.read_text.result (subst (λ bytes. Reads bytes f) (sym c.in-Ok.ensures.cases.0) says) c.read_text.ensures
+returns-clause-only c f reads = no_fault One c.args.bytes.now reads.says c.in-Err.fault c.in-Err.ensures

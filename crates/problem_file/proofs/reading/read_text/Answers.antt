@@ -4,19 +4,20 @@ use Rattle.kat_tokens.specs.declared.fault.TextFault.{TextFault}
 use Rattle.kat_syntax.specs.Lexemes.{lexemes}
 use Rattle.kat_syntax.specs.Parsed.{Makes}
 use Rattle.problem_file.specs.Working.Tokens.{AreTokens}
-use Rattle.problem_file.specs.Reads.{tested, Answers}
-use Rattle.problem_file.proofs.ReadTexts.{lexed_tokens, file_told, bad_told}
+use Rattle.problem_file.specs.Working.Files.{AnswersFor}
+use Rattle.problem_file.specs.Reads.{tested}
+use Rattle.problem_file.proofs.ReadTexts.{with_trees, lexed_tokens, file_told, bad_told}
 use Rattle.problem_file.proofs.reading.read_text.Goals as goal
 
 pub returns-in_err-toks : goal.returns-in_err-toks
 returns-in_err-toks c =
     let answer = err_from_is_err_and c.from_residual.result c.from_residual.ensures.1 in
-    subst (Answers c.args.text.now) (sym (answer.1 ∙ ap (λ (f : TextFault). Err f) answer.2)) (bad_told c.args.text.now c.in_err-toks.field-0.0 c.in_err-toks.ensures.bad)
+    subst (AnswersFor c.args.limit c.args.text.now) (sym (answer.1 ∙ ap (λ (f : TextFault). Err f) answer.2)) (bad_told c.args.limit c.args.text.now c.in_err-toks.field-0.0 c.in_err-toks.ensures.bad)
 
 pub test-requires : goal.test-requires
 test-requires c = record { tokens = subst AreTokens (sym c.deref.ensures.value) (lexed_tokens c.args.text.now c.in_ok-toks.toks.items c.in_ok-toks.ensures.read) }
 
 pub returns-in-Ok : goal.returns-in-Ok
 returns-in-Ok c =
-    file_told c.args.text.now c.in_ok-toks.toks.items c.in-Ok.file c.in_ok-toks.ensures.read
-    (subst (λ ts. Makes (Unit {0}) (λ f. f) (Ok c.in-Ok.file) (tested (lexemes ts))) c.deref.ensures.value c.in-Ok.ensures)
+    file_told c.args.limit c.args.text.now c.in_ok-toks.toks.items c.in-Ok.files c.in_ok-toks.ensures.read
+    (subst (λ ts. Makes (Unit {0}) with_trees (Ok c.in-Ok.files) (tested c.args.limit (lexemes ts))) c.deref.ensures.value c.in-Ok.ensures)

@@ -1,0 +1,20 @@
+-- What is answered to bytes, for each number of goals.
+use Rattle.std.specs.Prelude.{◌≡◌, ◌⊎◌, ℕ, List, map, drop, Vec, Result, MatchResult}
+use Rattle.std.specs.declared.alloc.Global.{Global}
+use Rattle.kat_tokens.specs.declared.fault.TextFault.{TextFault}
+use Rattle.kat_tokens.specs.declared.fault.TextFault.TheVariants.{NoMemory}
+use Rattle.problem_file.specs.declared.file.Goal.{Goal}
+use Rattle.problem_file.specs.declared.goal_limit.GoalLimit.{GoalLimit}
+use Rattle.problem_file.specs.Files.{FileParts, file_of}
+use Rattle.problem_file.specs.Trees.{goal_tree}
+use Rattle.problem_file.specs.Reads.{Says, HasFirstFault}
+
+-- the file and the goals are what the bytes say
+pub record AreSaid (limit : GoalLimit) (bytes : List ℕ) (x : FileParts × Vec Goal Global) : Type 0 where
+  pub says : Says limit bytes
+  pub file : x.0 ≡ file_of says.state says.goal
+  pub goals : map goal_tree x.1.items ≡ drop 1 (says.state).goals
+
+-- the file that they say, or out of memory, or their first fault
+abbrev pub AnswersFor : GoalLimit → List ℕ → Result (FileParts × Vec Goal Global) TextFault → Type 0
+AnswersFor limit bytes result = MatchResult result (AreSaid limit bytes) (λ e. (e ≡ NoMemory) ⊎ HasFirstFault limit bytes e)
