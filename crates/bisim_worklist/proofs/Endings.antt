@@ -16,7 +16,7 @@ use Rattle.bisim_worklist.proofs.MorePairs.{settled_more}
 use Rattle.bisim_worklist.proofs.WalkSteps.{first_entry}
 use Rattle.bisim_worklist.proofs.NoRedundancy.{no_redundant_bounds}
 
-begins : (q : ProblemParts) (es : List Entry) → slice_get es 0 ≡ Some (first_entry q) → (rest : List SetPair) × (pairs_of es ≡ closed_pair q ∷ rest)
+pub begins : (q : ProblemParts) (es : List Entry) → slice_get es 0 ≡ Some (first_entry q) → (rest : List SetPair) × (pairs_of es ≡ closed_pair q ∷ rest)
 begins q [] h = absurd cc
 begins q (e ∷ es) h = (pairs_of es, ap (λ (x : Entry). x.pair ∷ pairs_of es) (same_Some e (first_entry q) h))
 

@@ -1,80 +1,40 @@
 -- The pair that is processed, by one action after another: the items of an action stand for its next sets, and the
 -- pairs that its cases list make them congruent.
-use Rattle.std.proofs.Common.{◌≡◌, ◌<◌, ℕ, zero, suc, inl, inr, ⊎_elim, List, [], ◌∷◌, ◌++◌, length, replicate, slice_get, Bool, true, false, ◌&&◌, cond, nat_eq, Option, Some, None, refl, sym, ap, ◌∙◌, subst, arith}
-use Rattle.std.proofs.lemmas.Bool.{false≢true, eqb-true, eq-eqb}
-use Rattle.kat_model.specs.Trees.{Term}
-use Rattle.kat_model.specs.Members.{Has, SameMembers}
-use Rattle.kat_model.specs.Steps.{Atom, set_next}
+use Rattle.std.proofs.Common.{◌≡◌, ◌<◌, ℕ, zero, suc, inl, inr, ⊎_elim, List, [], ◌∷◌, ◌++◌, length, replicate, slice_get, Bool, Option, Some, None, refl, sym, ap, ◌∙◌, subst, arith}
+use Rattle.kat_model.specs.Members.{Has}
+use Rattle.kat_model.specs.Steps.{Atom}
 use Rattle.kat_model.specs.Problems.{ProblemParts}
 use Rattle.kat_model.specs.Pairs.{SetPair}
-use Rattle.kat_model.proofs.Lists.{has_map, map_has, has_append}
+use Rattle.kat_model.proofs.Lists.{has_append}
 use Rattle.kat_model.proofs.Places.{has_at}
 use Rattle.term_nodes.specs.NodeLists.{NodeParts, IsTerm, AreNodes}
 use Rattle.term_nodes.specs.NodeTrees.{tree_at}
 use Rattle.term_nodes.proofs.TermTrees.{one_id_a_tree}
-use Rattle.test_diagrams.specs.Functions.{DiagramsParts, value_of, IsAtomOf, KeepsFunctions}
-use Rattle.partial_derivs.specs.declared.moves.Guarded.{Guarded}
+use Rattle.test_diagrams.specs.Functions.{DiagramsParts, KeepsFunctions}
 use Rattle.partial_derivs.specs.declared.moves.Steps.{Steps}
-use Rattle.partial_derivs.specs.Moves.{IsTermOf, AreTargets, LeadsTo, IsStepsOf}
+use Rattle.partial_derivs.specs.Moves.{IsTermOf, IsStepsOf}
 use Rattle.partial_derivs.specs.Tables.{AreRight}
 use Rattle.partial_derivs.proofs.Kept.{Keeps-functions, IsStepsBy-kept}
 use Rattle.partial_derivs.proofs.Tables.{AreRight-kept}
 use Rattle.bisim_worklist.specs.Walks.{Entry, pairs_of, AreCongruentAfter}
 use Rattle.bisim_worklist.specs.Working.Visits.{AddsEntries}
 use Rattle.term_nodes.specs.NumberSets.{terms_of}
-use Rattle.bisim_worklist.specs.Working.Listings.{IdEntry, pair_of, entry_of, entries_of, IsIdSet}
+use Rattle.bisim_worklist.specs.Working.Listings.{IdEntry, pair_of, entry_of, entries_of}
+use Rattle.stored_pairs.specs.IdSets.{IsIdSet}
 use Rattle.bisim_worklist.specs.Working.Marks.{RuleParts}
-use Rattle.bisim_worklist.specs.Working.Items.{led, led_to, AreItemsOf, AreLedTo}
+use Rattle.stored_pairs.specs.Items.{AreItemsOf, AreLedTo}
 use Rattle.bisim_worklist.specs.Working.Cases.{Extends}
-use Rattle.bisim_worklist.specs.Working.IdWalks.{AreRulesOf, StandFor, AreVisited, Visits}
+use Rattle.bisim_worklist.specs.Working.IdWalks.{AreRulesOf, StandFor, AreVisited, Visits, IsPastLimit, PassesLimit}
 use Rattle.bisim_worklist.specs.Working.Walking.{IsUnderWay, AreStepsAt, IsExpanded}
-use Rattle.bisim_worklist.specs.declared.items.Item.{Item}
+use Rattle.stored_pairs.specs.declared.items.Item.{Item}
 use Rattle.bisim_worklist.specs.declared.branching.Stride.{Stride}
 use Rattle.bisim_worklist.specs.declared.walk.Walk.{Walk}
 use Rattle.bisim_worklist.specs.declared.walk.BothSteps.{BothSteps}
-use Rattle.bisim_worklist.proofs.PlaceNumbers.{mapped_at, at_mapped}
+use Rattle.stored_pairs.proofs.PlaceNumbers.{mapped_at, at_mapped}
+use Rattle.stored_pairs.proofs.NextSets.{next_of_ids, target_term}
 use Rattle.bisim_worklist.proofs.Visiting.{grows_then, grown_at, grown_after}
 
 -- ---- the items of an action
-
--- moves lead to just the terms of their targets
-module _ (store : NodeParts) (d : DiagramsParts) (act : ℕ) (atom : Atom) where
-  led_leads : (moves : List Guarded) (t : ℕ) → Has (led d moves act atom) t → LeadsTo store d moves atom act (tree_at store t)
-  led_leads [] t h = absurd h
-  led_leads (m ∷ ms) t h = go (λ r. later (led_leads ms t r)) (nat_eq m.act act) refl (value_of d m.guard atom) refl h
-    where
-      later : LeadsTo store d ms atom act (tree_at store t) → LeadsTo store d (m ∷ ms) atom act (tree_at store t)
-      later r = record { through = r.through; member = inr r.member; action = r.action; guard = r.guard; tree = r.tree }
-
-      go : (Has (led d ms act atom) t → LeadsTo store d (m ∷ ms) atom act (tree_at store t)) → (a : Bool) → nat_eq m.act act ≡ a → (b : Bool) → value_of d m.guard atom ≡ b
-          → Has (cond (a && b) (m.to ∷ led d ms act atom) (led d ms act atom)) t → LeadsTo store d (m ∷ ms) atom act (tree_at store t)
-      go rest true e true v k = ⊎_elim (λ s. record { through = m; member = inl refl; action = eqb-true m.act act e; guard = v; tree = ap (tree_at store) s }) rest k
-      go rest true e false v k = rest k
-      go rest false e b v k = rest k
-
-  led_has : (moves : List Guarded) (m : Guarded) → Has moves m → m.act ≡ act → value_of d m.guard atom ≡ true → Has (led d moves act atom) m.to
-  led_has [] m h a v = absurd h
-  led_has (n ∷ ms) m h a v = go (λ r. led_has ms m r a v) (nat_eq n.act act) refl (value_of d n.guard atom) refl h
-    where
-      go : (Has ms m → Has (led d ms act atom) m.to) → (x : Bool) → nat_eq n.act act ≡ x → (y : Bool) → value_of d n.guard atom ≡ y
-          → Has (n ∷ ms) m → Has (cond (x && y) (n.to ∷ led d ms act atom) (led d ms act atom)) m.to
-      go rest true e true f k = ⊎_elim (λ s. inl (ap (λ (z : Guarded). z.to) s)) (λ r. inr (rest r)) k
-      go rest true e false f k = ⊎_elim (λ s. absurd (false≢true (sym f ∙ subst (λ (z : Guarded). value_of d z.guard atom ≡ true) (sym s) v))) rest k
-      go rest false e y f k = ⊎_elim (λ s. absurd (false≢true (sym e ∙ eq-eqb n.act act (ap (λ (z : Guarded). z.act) s ∙ a)))) rest k
-
-  -- so ids with just the targets of the moves have the next set
-  next_of_ids : (es : List Term) (steps : Steps) (ids : List ℕ) → IsStepsOf store d es steps → IsAtomOf d atom → SameMembers ids (led d steps.moves.items act atom) → SameMembers (set_next es atom act) (terms_of store ids)
-  next_of_ids es steps ids is fits same x = (
-    (λ h.
-        let r = (is.leads atom fits act x).0 h in
-        subst (Has (terms_of store ids)) r.tree (map_has (tree_at store) ids r.through.to ((same r.through.to).1 (led_has steps.moves.items r.through r.member r.action r.guard)))),
-    (λ h.
-        let f = has_map (tree_at store) ids x h in
-        (is.leads atom fits act x).1 (subst (LeadsTo store d steps.moves.items atom act) f.2 (led_leads steps.moves.items f.0 ((same f.0).0 f.1)))),
-  )
-
-target_term : (store : NodeParts) (n : ℕ) (moves : List Guarded) → AreTargets store n moves → (t : ℕ) → Has (led_to moves) t → IsTermOf store n t
-target_term store n moves are t h = let f = has_map (λ (m : Guarded). m.to) moves t h in subst (IsTermOf store n) f.2 (are f.0 f.1)
 
 items_stand : (q : ProblemParts) (store : NodeParts) (d : DiagramsParts) (p : SetPair) (left right : Steps) (act : ℕ) (items : List Item) (decided : List (Option Bool)) → d.tests ≡ q.tests
     → IsStepsOf store d p.left left → IsStepsOf store d p.right right → AreItemsOf d left.moves.items right.moves.items act items → AreLedTo left.moves.items right.moves.items items
@@ -141,14 +101,11 @@ StepsBy actions old new place steps acts =
     → HasStepped q store old.rules new place (pair_of store e) acts
 
 module _ (actions : ℕ) (old : Walk) (place : ℕ) (steps : BothSteps) (acts : List ℕ) where
-  -- one action more
-  pub steps_more : (d : DiagramsParts) (mid new : RuleParts) (stride : Stride) (items : List Item) → KeepsFunctions old.diagrams d → stride.place ≡ place → stride.act < actions
-      → AreItemsOf d steps.left.moves.items steps.right.moves.items stride.act items → AreLedTo steps.left.moves.items steps.right.moves.items items
-      → Visits d stride (replicate d.tests None) items mid new
-      → StepsBy actions old mid place steps acts → StepsBy actions old new place steps (acts ++ stride.act ∷ [])
-  steps_more d mid new stride items kept same_place below are led_items visits before q store count e under at steps_at =
-      record { rules = subst (AreRulesOf q store new) same_place u.rules; grows = grows_then (entries_of store old.rules.pairs) (entries_of store mid.pairs) (entries_of store new.pairs) m.grows u.visited.grows; congruent = all }
-    where
+  module _ (d : DiagramsParts) (mid : RuleParts) (stride : Stride) (items : List Item) (kept : KeepsFunctions old.diagrams d) (same_place : stride.place ≡ place) (below : stride.act < actions)
+      (are : AreItemsOf d steps.left.moves.items steps.right.moves.items stride.act items) (led_items : AreLedTo steps.left.moves.items steps.right.moves.items items)
+      (before : StepsBy actions old mid place steps acts) where
+    -- what the cases of the action are asked of
+    module _ (q : ProblemParts) (store : NodeParts) (count : actions ≡ q.actions) (e : IdEntry) (under : IsUnderWay q store old place) (at : slice_get old.rules.pairs place ≡ Some e) (steps_at : AreStepsAt store old e steps) where
       m : HasStepped q store old.rules mid place (pair_of store e) acts
       m = before q store count e under at steps_at
 
@@ -162,23 +119,48 @@ module _ (actions : ℕ) (old : Walk) (place : ℕ) (steps : BothSteps) (acts : 
           (IsStepsBy-kept store store old.diagrams d (Keeps-functions store old.diagrams d kept) _ _ steps.right steps_at.right)
           are led_items
 
-      there : slice_get (entries_of store mid.pairs) place ≡ Some (entry_of store e)
-      there = grown_at (entries_of store old.rules.pairs) (entries_of store mid.pairs) place (entry_of store e) m.grows (at_mapped (entry_of store) old.rules.pairs place e at)
+      acts_below : stride.act < q.actions
+      acts_below = subst (λ n. stride.act < n) count below
 
-      u : AreVisited q store stride (pair_of store e) (replicate d.tests None) mid new
-      u =
-          visits q store (entry_of store e) tests (subst (λ n. stride.act < n) count below) (subst (AreRulesOf q store mid) (sym same_place) m.rules)
-          (subst (λ n. slice_get (entries_of store mid.pairs) n ≡ Some (entry_of store e)) (sym same_place) there) stands
+      rules_there : AreRulesOf q store mid stride.place
+      rules_there = subst (AreRulesOf q store mid) (sym same_place) m.rules
 
-      all : (a : ℕ) → Has (acts ++ stride.act ∷ []) a → AreCongruentAfter q (pairs_of (entries_of store new.pairs)) (pair_of store e) a
-      all a h =
-          ⊎_elim
-          (λ o. grown_after q (entries_of store mid.pairs) (entries_of store new.pairs) u.visited.grows (pair_of store e) a (m.congruent a o))
-          (λ l.
-          ⊎_elim
-          (λ s. subst (AreCongruentAfter q (pairs_of (entries_of store new.pairs)) (pair_of store e)) s (λ atom wide. u.visited.congruent atom wide (extends_none d.tests atom (wide ∙ sym tests))))
-          absurd l)
-          (has_append acts (stride.act ∷ []) a h)
+      there : slice_get (entries_of store mid.pairs) stride.place ≡ Some (entry_of store e)
+      there =
+          subst (λ n. slice_get (entries_of store mid.pairs) n ≡ Some (entry_of store e)) (sym same_place)
+          (grown_at (entries_of store old.rules.pairs) (entries_of store mid.pairs) place (entry_of store e) m.grows (at_mapped (entry_of store) old.rules.pairs place e at))
+
+    -- one action more
+    pub steps_more : (new : RuleParts) → Visits d stride (replicate d.tests None) items mid new → StepsBy actions old new place steps (acts ++ stride.act ∷ [])
+    steps_more new visits q store count e under at steps_at =
+        record { rules = subst (AreRulesOf q store new) same_place u.rules; grows = grows_then (entries_of store old.rules.pairs) (entries_of store mid.pairs) (entries_of store new.pairs) before_it.grows u.visited.grows; congruent = all }
+      where
+        before_it : HasStepped q store old.rules mid place (pair_of store e) acts
+        before_it = m q store count e under at steps_at
+
+        u : AreVisited q store stride (pair_of store e) (replicate d.tests None) mid new
+        u =
+            visits q store (entry_of store e) (tests q store count e under at steps_at) (acts_below q store count e under at steps_at) (rules_there q store count e under at steps_at)
+            (there q store count e under at steps_at) (stands q store count e under at steps_at)
+
+        all : (a : ℕ) → Has (acts ++ stride.act ∷ []) a → AreCongruentAfter q (pairs_of (entries_of store new.pairs)) (pair_of store e) a
+        all a h =
+            ⊎_elim
+            (λ o. grown_after q (entries_of store mid.pairs) (entries_of store new.pairs) u.visited.grows (pair_of store e) a (before_it.congruent a o))
+            (λ l.
+            ⊎_elim
+            (λ s. subst (AreCongruentAfter q (pairs_of (entries_of store new.pairs)) (pair_of store e)) s
+            (λ atom wide. u.visited.congruent atom wide (extends_none d.tests atom (wide ∙ sym (tests q store count e under at steps_at)))))
+            absurd l)
+            (has_append acts (stride.act ∷ []) a h)
+
+    -- one that needs more pairs than may be listed
+    pub steps_pass : mid.limit ≡ old.rules.limit → PassesLimit d stride (replicate d.tests None) items mid
+        → (q : ProblemParts) (store : NodeParts) (e : IdEntry) → actions ≡ q.actions → IsUnderWay q store old place → slice_get old.rules.pairs place ≡ Some e → AreStepsAt store old e steps → IsPastLimit q old.rules.limit
+    steps_pass limit passes q store e count under at steps_at =
+        subst (IsPastLimit q) limit
+        (passes q store (entry_of store e) (tests q store count e under at steps_at) (acts_below q store count e under at steps_at) (rules_there q store count e under at steps_at)
+        (there q store count e under at steps_at) (stands q store count e under at steps_at))
 
   -- all actions
   pub steps_all : (new : Walk) → KeepsFunctions old.diagrams new.diagrams → new.derivatives ≡ old.derivatives → ((a : ℕ) → a < actions → Has acts a) → StepsBy actions old new.rules place steps acts

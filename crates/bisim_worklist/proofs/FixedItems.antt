@@ -1,6 +1,5 @@
 -- Items with a test set to a value.
-use Rattle.std.proofs.Common.{◌≡◌, ◌<◌, ◌+◌, ◌⊎◌, inl, inr, ⊎_elim, ℕ, zero, suc, Bool, true, false, cond, nat_eq, List, [], ◌∷◌, ◌++◌, length, get_or, take, set, refl, sym, ap, ◌∙◌, subst, arith, length-set, append-nil}
-use Rattle.std.proofs.lemmas.Bool.{eqb-true, eqb-false}
+use Rattle.std.proofs.Common.{◌≡◌, ◌<◌, ◌+◌, ◌⊎◌, inl, inr, ⊎_elim, ℕ, zero, suc, Bool, true, false, cond, List, [], ◌∷◌, ◌++◌, length, get_or, take, set, refl, sym, ap, ◌∙◌, subst, arith, append-nil}
 use Rattle.std.proofs.lemmas.List.{map-append}
 use Rattle.kat_model.specs.Members.{Has}
 use Rattle.kat_model.specs.Steps.{Atom}
@@ -9,41 +8,13 @@ use Rattle.term_nodes.specs.NumberSets.{are_ascending}
 use Rattle.test_diagrams.specs.Functions.{DiagramsParts, value_of, IsAtomOf, IsDiagramId, IsDiagramOf, IsIndependent, KeepsFunctions}
 use Rattle.test_diagrams.proofs.Kept.{IsDiagramOf-kept}
 use Rattle.partial_derivs.proofs.Items.{has_item, take_item}
-use Rattle.bisim_worklist.specs.declared.items.Item.{Item}
-use Rattle.bisim_worklist.specs.declared.items.Side.{Side}
-use Rattle.bisim_worklist.specs.declared.items.Side.TheVariants.{Left, Right}
-use Rattle.bisim_worklist.specs.Working.Items.{targets_of, chosen, guard_of}
+use Rattle.stored_pairs.specs.declared.items.Item.{Item}
+use Rattle.stored_pairs.specs.declared.items.Side.{Side}
+use Rattle.stored_pairs.specs.declared.items.Side.TheVariants.{Left, Right}
+use Rattle.stored_pairs.specs.Items.{targets_of, chosen, guard_of}
+use Rattle.stored_pairs.proofs.FixedDiagrams.{IsFixedTo, fixed_independent}
 use Rattle.bisim_worklist.specs.Working.Cases.{AreItemsWith, IsFixedItem}
 use Rattle.certificate.proofs.Ascending.{ascending_tail, ascending_first, ascending_more}
-
--- ---- atoms with tests set
-
-set_twice : (atom : Atom) (k : ℕ) (a b : Bool) → set (set atom k a) k b ≡ set atom k b
-set_twice [] k a b = refl
-set_twice (x ∷ xs) zero a b = refl
-set_twice (x ∷ xs) (suc k) a b = ap (λ l. x ∷ l) (set_twice xs k a b)
-
-set_apart : (atom : Atom) (j k : ℕ) (a b : Bool) → (j ≡ k → ⊥) → set (set atom j a) k b ≡ set (set atom k b) j a
-set_apart [] j k a b apart = refl
-set_apart (x ∷ xs) zero zero a b apart = absurd (apart refl)
-set_apart (x ∷ xs) zero (suc k) a b apart = refl
-set_apart (x ∷ xs) (suc j) zero a b apart = refl
-set_apart (x ∷ xs) (suc j) (suc k) a b apart = ap (λ l. x ∷ l) (set_apart xs j k a b (λ e. apart (ap suc e)))
-
--- the id is that of the older one's function with the test set
-abbrev pub IsFixedTo : DiagramsParts → DiagramsParts → ℕ → Bool → ℕ → ℕ → Type 0
-IsFixedTo c d test value old id = IsDiagramOf d id (λ atom. value_of c old (set atom test value))
-
--- it does not depend on that test, nor on what the older one does not depend on
-fixed_independent : (c d : DiagramsParts) (test : ℕ) (value : Bool) (old id k : ℕ) → d.tests ≡ c.tests → IsFixedTo c d test value old id → IsIndependent c old k ⊎ (k ≡ test) → IsIndependent d id k
-fixed_independent c d test value old id k tests is free atom fits b =
-    is.value (set atom k b) (length-set atom k b ∙ fits) ∙ middle (nat_eq k test) refl ∙ sym (is.value atom fits)
-  where
-    middle : (same : Bool) → nat_eq k test ≡ same → value_of c old (set (set atom k b) test value) ≡ value_of c old (set atom test value)
-    middle true e = ap (value_of c old) (subst (λ j. set (set atom j b) test value ≡ set atom test value) (sym (eqb-true k test e)) (set_twice atom test b value))
-    middle false e =
-        ap (value_of c old) (set_apart atom k test b value (eqb-false k test e))
-        ∙ ⊎_elim (λ f. f (set atom test value) (length-set atom test value ∙ fits ∙ tests) b) (λ s. absurd (eqb-false k test e s)) free
 
 -- ---- what is chosen
 

@@ -1,6 +1,7 @@
 -- A case in which no guard depends on a test: it is covered, or its pair is listed.
-use Rattle.std.proofs.Common.{◌≡◌, ◌<◌, ◌∷◌, ◌++◌, ⊎_elim, List, [], length, slice_get, refl, sym, ap, ◌∙◌, subst, Bool, true, false, suc, Option, Some, None, nat_eq}
+use Rattle.std.proofs.Common.{◌≡◌, ◌<◌, ◌+◌, arith, ◌∷◌, ◌++◌, ⊎_elim, List, [], length, slice_get, refl, sym, ap, ◌∙◌, subst, Bool, true, false, suc, Option, Some, None, nat_eq}
 use Rattle.std.proofs.lemmas.Bool.{true≢false}
+use Rattle.std.proofs.lemmas.List.{length-map, length-append}
 use Rattle.kat_model.specs.Members.{Has, IsSubset}
 use Rattle.kat_model.specs.Steps.{set_next}
 use Rattle.kat_model.specs.Problems.{ProblemParts}
@@ -14,21 +15,24 @@ use Rattle.test_diagrams.specs.Reduced.{IsReduced}
 use Rattle.partial_derivs.specs.Moves.{IsTermOf}
 use Rattle.bisim_worklist.specs.Walks.{Origin, Entry, IsWalk}
 use Rattle.bisim_worklist.specs.Working.Visits.{IsVisited}
-use Rattle.bisim_worklist.specs.Working.Listings.{IdEntry, pair_of, entry_of, entries_of, IsIdSet, AreIdSets}
-use Rattle.bisim_worklist.specs.Working.Marks.{RuleParts}
-use Rattle.bisim_worklist.specs.Working.Items.{guard_of, targets_under, open_targets}
-use Rattle.bisim_worklist.specs.Working.Covers.{AreEnds, covers}
+use Rattle.bisim_worklist.specs.Working.Listings.{IdEntry, pair_of, entry_of, entries_of, AreIdSets}
+use Rattle.stored_pairs.specs.IdSets.{IsIdSet}
+use Rattle.bisim_worklist.specs.Working.Marks.{RuleParts, IsWithinLimit, is_full}
+use Rattle.stored_pairs.specs.Items.{guard_of, targets_under, open_targets}
+use Rattle.bisim_worklist.specs.Working.Covers.{covers}
+use Rattle.stored_pairs.specs.Items.{AreEnds}
 use Rattle.bisim_worklist.specs.Working.Cases.{Extends, least_of, AreConstant, IsCase}
-use Rattle.bisim_worklist.specs.Working.IdWalks.{AreRulesOf, StandFor, AreVisited, Visits}
-use Rattle.bisim_worklist.specs.declared.items.Item.{Item}
-use Rattle.bisim_worklist.specs.declared.items.Ends.{Ends}
-use Rattle.bisim_worklist.specs.declared.items.Side.{Side}
-use Rattle.bisim_worklist.specs.declared.items.Side.TheVariants.{Left, Right}
+use Rattle.bisim_worklist.specs.Working.IdWalks.{AreRulesOf, StandFor, AreVisited, Visits, PassesLimit}
+use Rattle.stored_pairs.specs.declared.items.Item.{Item}
+use Rattle.stored_pairs.specs.declared.items.Ends.{Ends}
+use Rattle.stored_pairs.specs.declared.items.Side.{Side}
+use Rattle.stored_pairs.specs.declared.items.Side.TheVariants.{Left, Right}
 use Rattle.bisim_worklist.specs.declared.branching.Stride.{Stride}
-use Rattle.bisim_worklist.proofs.ItemTargets.{under_where, has_where, where_ascending}
+use Rattle.stored_pairs.proofs.ItemTargets.{under_where, has_where, where_ascending}
 use Rattle.bisim_worklist.proofs.CoveredItems.{AreTargetIds, covers_told}
 use Rattle.bisim_worklist.proofs.CaseItems.{terms_within, are_between, open_sure, same_sure}
 use Rattle.bisim_worklist.proofs.Visiting.{visited_covered, visited_listed}
+use Rattle.bisim_worklist.proofs.PairLimits.{room_for_one, full_limit}
 
 pub entries_append : (store : NodeParts) (es fs : List IdEntry) → entries_of store (es ++ fs) ≡ entries_of store es ++ entries_of store fs
 entries_append store [] fs = refl
@@ -68,7 +72,7 @@ module _ (d : DiagramsParts) (stride : Stride) (decided : List (Option Bool)) (i
   leaf_entry = record { left = targets_under ends.always Left items; right = targets_under ends.always Right items; origin = Some leaf_origin }
 
   -- one that is not covered lists its pair
-  module _ (r new : RuleParts) (is_case : IsCase d decided items) (constant : AreConstant d items) (reduced : IsReduced d) (uncovered : covers r ends items ≡ false) (pairs : new.pairs ≡ r.pairs ++ leaf_entry ∷ []) (universal : new.universal ≡ r.universal) (count : new.count ≡ r.count) where
+  module _ (r : RuleParts) (is_case : IsCase d decided items) (constant : AreConstant d items) (reduced : IsReduced d) (uncovered : covers r ends items ≡ false) where
     module _ (q : ProblemParts) (store : NodeParts) (from : Entry) (tests : d.tests ≡ q.tests) (acts : stride.act < q.actions) (rules : AreRulesOf q store r stride.place) (at : slice_get (entries_of store r.pairs) stride.place ≡ Some from) (stands : StandFor q store d items from.pair stride.act decided) where
       side_set : (side : Side) → IsIdSet store q.tests (targets_under ends.always side items)
       side_set side = record {
@@ -110,21 +114,42 @@ module _ (d : DiagramsParts) (stride : Stride) (decided : List (Option Bool)) (i
           (opens Right)
           (λ c. true≢false (sym ((covers_told q store r stride.place rules ends items (target_ids q store from stands)).1 c) ∙ uncovered))
 
+  module _ (r new : RuleParts) (is_case : IsCase d decided items) (constant : AreConstant d items) (reduced : IsReduced d) (uncovered : covers r ends items ≡ false) (pairs : new.pairs ≡ r.pairs ++ leaf_entry ∷ []) (universal : new.universal ≡ r.universal) (count : new.count ≡ r.count) (limit : new.limit ≡ r.limit) (room : is_full r ≡ false) where
+    module _ (q : ProblemParts) (store : NodeParts) (from : Entry) (tests : d.tests ≡ q.tests) (acts : stride.act < q.actions) (rules : AreRulesOf q store r stride.place) (at : slice_get (entries_of store r.pairs) stride.place ≡ Some from) (stands : StandFor q store d items from.pair stride.act decided) where
       more : entries_of store r.pairs ++ entry_of store leaf_entry ∷ [] ≡ entries_of store new.pairs
       more = sym (entries_append store r.pairs (leaf_entry ∷ [])) ∙ sym (ap (entries_of store) pairs)
+
+      longer : length new.pairs ≡ length r.pairs + 1
+      longer = ap length pairs ∙ length-append r.pairs (leaf_entry ∷ [])
 
       leaf_visited : AreVisited q store stride from.pair decided r new
       leaf_visited = record {
         rules = record {
           sound = rules.sound;
           count = count ∙ rules.count;
-          sets = subst (AreIdSets store q.tests) (sym pairs) sets;
+          sets = subst (AreIdSets store q.tests) (sym pairs) (sets r is_case constant reduced uncovered q store from tests acts rules at stands);
           universal = ap (option_map (tree_at store)) universal ∙ rules.universal;
           universal_id = λ u e. rules.universal_id u (sym universal ∙ e);
-          walk = subst (λ es. IsWalk q es stride.place) more listed.walk;
+          few = subst (λ o. IsWithinLimit o (length new.pairs)) (sym limit) (subst (IsWithinLimit r.limit) (sym longer) (room_for_one r.limit (length r.pairs) room));
+          walk = subst (λ es. IsWalk q es stride.place) more (listed r is_case constant reduced uncovered q store from tests acts rules at stands).walk;
         };
-        visited = subst (λ es. IsVisited q (entries_of store r.pairs) es stride.place from.pair stride.act (Extends decided)) more listed;
+        visited = subst (λ es. IsVisited q (entries_of store r.pairs) es stride.place from.pair stride.act (Extends decided)) more (listed r is_case constant reduced uncovered q store from tests acts rules at stands);
       }
 
     pub visits_listed : Visits d stride decided items r new
     visits_listed = leaf_visited
+
+  -- one more than may be listed, where the rules are full
+  pub leaf_passes : (r : RuleParts) → IsCase d decided items → AreConstant d items → IsReduced d → covers r ends items ≡ false → is_full r ≡ true → PassesLimit d stride decided items r
+  leaf_passes r is_case constant reduced uncovered full q store from tests acts rules at stands =
+      let f = full_limit r.limit (length r.pairs) full in
+      let es = entries_of store r.pairs ++ entry_of store leaf_entry ∷ [] in
+      let more : length es ≡ length r.pairs + 1 = length-append (entries_of store r.pairs) (entry_of store leaf_entry ∷ []) ∙ ap (λ n. n + 1) (length-map r.pairs (entry_of store)) in
+      record {
+        most = f.0;
+        limited = f.1;
+        entries = es;
+        done = stride.place;
+        walk = (listed r is_case constant reduced uncovered q store from tests acts rules at stands).walk;
+        many = omega (arith, more, f.2);
+      }

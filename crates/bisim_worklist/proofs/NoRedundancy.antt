@@ -3,16 +3,14 @@ use Rattle.std.proofs.Common.{◌≡◌, ◌+◌, ◌*◌, ◌≤◌, inl, inr, 
 use Rattle.kat_model.specs.Trees.{Term, acts}
 use Rattle.kat_model.specs.Members.{Has, IsSubset, SameMembers}
 use Rattle.kat_model.specs.Problems.{ProblemParts}
-use Rattle.kat_model.specs.Steps.{Atom, next, set_next, reach}
+use Rattle.kat_model.specs.Steps.{Atom, set_next, reach}
 use Rattle.kat_model.specs.Closed.{closed_under, closed}
 use Rattle.kat_model.specs.Guarded.{IsGuarded, IsSingle}
 use Rattle.kat_model.specs.Pairs.{SetPair, IsListed, AllDiffer}
 use Rattle.kat_model.specs.Laws.{AreReached, AreSingle}
-use Rattle.kat_model.proofs.Lists.{has_left, has_right, has_append, has_flat_map, same_members_sym, same_members_trans}
+use Rattle.kat_model.proofs.Lists.{has_left, has_right, has_append, same_members_sym}
 use Rattle.kat_model.proofs.Congruence.{listed_same}
-use Rattle.kat_model.proofs.Reach.{next_reach, reach_next}
-use Rattle.kat_model.proofs.Determined.{one_step_guarded, one_step_reached}
-use Rattle.kat_model.proofs.SingleSets.{single_next}
+use Rattle.kat_model.proofs.ReachedPairs.{next_within, single_kept}
 use Rattle.kat_model.proofs.Bounds.{pairs_bound, single_pairs_bound}
 use Rattle.certificate.specs.Decisions.{AreNeeded, HasNoRedundantPair, pair_limit}
 use Rattle.bisim_worklist.specs.Laws.{AreFew}
@@ -57,11 +55,6 @@ module _ (q : ProblemParts) where
 
 -- ---- they are among what steps lead to
 
-next_within : (e : Term) (es fs : List Term) (atom : Atom) (a : ℕ) → SameMembers (set_next es atom a) fs → IsSubset es (e ∷ reach e) → IsSubset fs (e ∷ reach e)
-next_within e es fs atom a same within y h =
-    let r = has_flat_map (λ x. next x atom a) es y ((same y).1 h) in
-    inr (⊎_elim (λ s. next_reach atom a e y (subst (λ x. Has (next x atom a) y) (sym s) r.2)) (λ k. reach_next atom a e r.0 y k r.2) (within r.0 r.1))
-
 module _ (q : ProblemParts) (ps : List SetPair) (all : HasNoRedundantPair q (closed_pair q ∷ ps)) where
   pub no_redundant_reached : AreReached (closed q).left (closed q).right (closed_pair q ∷ ps)
   no_redundant_reached =
@@ -74,16 +67,6 @@ module _ (q : ProblemParts) (ps : List SetPair) (all : HasNoRedundantPair q (clo
   no_redundant_few = pairs_bound (closed q).left (closed q).right (closed_pair q ∷ ps) (no_redundant_differ q (closed_pair q ∷ ps) all) no_redundant_reached
 
 -- ---- where both sides are guarded
-
-single_same : (e : Term) (es fs : List Term) → SameMembers es fs → IsSingle e es → IsSingle e fs
-single_same e es fs same s =
-    ⊎_elim
-    (λ none. inl (same_members_trans fs es [] (same_members_sym es fs same) none))
-    (λ r. inr (r.0, r.1, same_members_trans fs es (r.0 ∷ []) (same_members_sym es fs same) r.2))
-    s
-
-single_kept : (e : Term) → IsGuarded e → (es fs : List Term) (atom : Atom) (a : ℕ) → SameMembers (set_next es atom a) fs → IsSingle e es → IsSingle e fs
-single_kept e g es fs atom a same s = single_same e (set_next es atom a) fs same (single_next e (one_step_guarded g) (one_step_reached g) es atom a s)
 
 -- each side guarded, and the first pair that of the sides
 module _ (q : ProblemParts) (l r : Term) (left : IsGuarded l) (right : IsGuarded r) (ps : List SetPair) (all : HasNoRedundantPair q (record { left = l ∷ []; right = r ∷ [] } ∷ ps)) where

@@ -6,7 +6,7 @@ use Rattle.kat_model.proofs.Places.{get_or-set_cases}
 use Rattle.bisim_worklist.specs.Working.Listings.{IdEntry}
 use Rattle.bisim_worklist.specs.Working.Marks.{are_marked, with_marks, with_pair_marked, round_marked, rounds_marked, are_reached, RuleParts, AreMembers}
 use Rattle.bisim_worklist.proofs.MarkSteps.{Stays, rounds_keep}
-use Rattle.bisim_worklist.proofs.KeySets.{AreWithin}
+use Rattle.bisim_worklist.proofs.Memberships.{AreWithin}
 
 -- what is marked was so, or is one of these
 abbrev pub IsFrom : List ℕ → List Bool → List Bool → Type 0

@@ -14,14 +14,14 @@ use Rattle.partial_derivs.specs.Moves.{IsTermOf}
 use Rattle.term_nodes.specs.NumberSets.{terms_of}
 use Rattle.bisim_worklist.specs.Working.Listings.{entries_of}
 use Rattle.bisim_worklist.specs.Working.Marks.{RuleParts}
-use Rattle.bisim_worklist.specs.Working.Items.{guard_of, chosen, AreItems}
-use Rattle.bisim_worklist.specs.Working.Covers.{AreEnds}
+use Rattle.stored_pairs.specs.Items.{guard_of, chosen, AreItems}
+use Rattle.stored_pairs.specs.Items.{AreEnds}
 use Rattle.bisim_worklist.specs.Working.Cases.{Extends, IsOpen, open_count, IsNextTest, IsCase, AreItemsWith}
-use Rattle.bisim_worklist.specs.Working.IdWalks.{StandFor, Visits}
-use Rattle.bisim_worklist.specs.declared.items.Item.{Item}
-use Rattle.bisim_worklist.specs.declared.items.Ends.{Ends}
-use Rattle.bisim_worklist.specs.declared.items.Side.{Side}
-use Rattle.bisim_worklist.specs.declared.items.Side.TheVariants.{Left, Right}
+use Rattle.bisim_worklist.specs.Working.IdWalks.{StandFor, Visits, IsPastLimit, PassesLimit}
+use Rattle.stored_pairs.specs.declared.items.Item.{Item}
+use Rattle.stored_pairs.specs.declared.items.Ends.{Ends}
+use Rattle.stored_pairs.specs.declared.items.Side.{Side}
+use Rattle.stored_pairs.specs.declared.items.Side.TheVariants.{Left, Right}
 use Rattle.bisim_worklist.specs.declared.branching.Stride.{Stride}
 use Rattle.bisim_worklist.proofs.Visiting.{grown_at, visited_both}
 
@@ -159,6 +159,23 @@ module _ (c : DiagramsParts) (stride : Stride) (decided : List (Option Bool)) (i
             (λ atom wide h. either value (get_or atom test false) atom h refl)
             u.visited v.visited;
       }
+
+-- a case needs one pair more than may be listed where a part does, the one that is visited first or the other
+pub passes_first : (c d : DiagramsParts) (stride : Stride) (decided more : List (Option Bool)) (items one : List Item) (old : RuleParts) → d.tests ≡ c.tests → Carries c items decided d one more → PassesLimit d stride more one old → PassesLimit c stride decided items old
+passes_first c d stride decided more items one old same carries passes q store from tests acts rules at stands =
+    passes q store from (same ∙ tests) acts rules at (carries q store from.pair stride.act tests stands)
+
+pub passes_second : (c d e : DiagramsParts) (stride : Stride) (decided more others : List (Option Bool)) (items one other : List Item) (old middle : RuleParts) → d.tests ≡ c.tests → e.tests ≡ c.tests
+    → Carries c items decided d one more
+    → Carries c items decided e other others
+    → Visits d stride more one old middle
+    → middle.limit ≡ old.limit
+    → PassesLimit e stride others other middle
+    → PassesLimit c stride decided items old
+passes_second c d e stride decided more others items one other old middle m n first_carries second_carries first limit passes q store from tests acts rules at stands =
+    let u = first q store from (m ∙ tests) acts rules at (first_carries q store from.pair stride.act tests stands) in
+    let there = grown_at (entries_of store old.pairs) (entries_of store middle.pairs) stride.place from u.visited.grows at in
+    subst (IsPastLimit q) limit (passes q store from (n ∙ tests) acts u.rules there (second_carries q store from.pair stride.act tests stands))
 
 -- a part of a case leaves fewer tests undecided
 pub fewer_part : (ds es : List (Option Bool)) (k : ℕ) (b : Bool) → IsOpen ds k → es ≡ set ds k (Some b) → open_count es < open_count ds

@@ -24,15 +24,16 @@ use Rattle.partial_derivs.proofs.Tables.{AreRight-kept}
 use Rattle.bisim_worklist.specs.Walks.{Entry, pairs_of, AcceptAlike, AreCongruentAfter, IsWalk}
 use Rattle.certificate.specs.Decisions.{pair_limit}
 use Rattle.term_nodes.specs.NumberSets.{terms_of}
-use Rattle.bisim_worklist.specs.Working.Listings.{IdEntry, pair_of, entry_of, entries_of, IsIdSet, AreIdSets}
-use Rattle.bisim_worklist.specs.Working.Marks.{RuleParts}
+use Rattle.bisim_worklist.specs.Working.Listings.{IdEntry, pair_of, entry_of, entries_of, AreIdSets}
+use Rattle.stored_pairs.specs.IdSets.{IsIdSet}
+use Rattle.bisim_worklist.specs.Working.Marks.{RuleParts, IsWithinLimit}
 use Rattle.bisim_worklist.specs.Working.IdWalks.{AreRulesOf}
 use Rattle.bisim_worklist.specs.Working.Walking.{IsUnderWay, AreStepsAt, HasStepIds, IsDifference}
 use Rattle.bisim_worklist.specs.declared.walk.Walk.{Walk}
 use Rattle.bisim_worklist.specs.declared.walk.BothSteps.{BothSteps}
 use Rattle.bisim_worklist.proofs.Endings.{walk_few, walk_ended}
-use Rattle.bisim_worklist.proofs.PlaceNumbers.{at_mapped}
-use Rattle.bisim_worklist.proofs.ReachedRanges.{universal_in_range, sides_in_range}
+use Rattle.stored_pairs.proofs.PlaceNumbers.{at_mapped}
+use Rattle.stored_pairs.proofs.SideRanges.{universal_in_range, sides_in_range}
 use Rattle.bisim_worklist.proofs.WalkSteps.{first_entry, walk_starts, walk_goes_on}
 
 -- ---- the start
@@ -75,13 +76,14 @@ module _ (q : ProblemParts) (store : NodeParts) (problem : IsProblem q) (sound :
         both l r = record { pair = record { left = l ∷ []; right = r ∷ [] }; origin = None } ∷ []
 
     -- the rules with the first pair alone
-    pub rules_start : (r : RuleParts) → r.pairs ≡ first_ids left right ∷ [] → r.count ≡ length store.terms → ((u : ℕ) → r.universal ≡ Some u → IsTerm store u) → option_map (tree_at store) r.universal ≡ (closed q).universal → AreRulesOf q store r 0
-    rules_start r pairs count ids universal = record {
+    pub rules_start : (r : RuleParts) → r.pairs ≡ first_ids left right ∷ [] → IsWithinLimit r.limit 1 → r.count ≡ length store.terms → ((u : ℕ) → r.universal ≡ Some u → IsTerm store u) → option_map (tree_at store) r.universal ≡ (closed q).universal → AreRulesOf q store r 0
+    rules_start r pairs room count ids universal = record {
       sound = sound;
       count = count;
       sets = subst (AreIdSets store q.tests) (sym pairs) first_sets;
       universal = universal;
       universal_id = λ u e. record { is_id = ids u e; in_range = universal_below q store u (ap (option_map (tree_at store)) (sym e) ∙ universal) };
+      few = subst (λ (ps : List IdEntry). IsWithinLimit r.limit (length ps)) (sym pairs) room;
       walk = subst (λ es. IsWalk q (entries_of store es) 0) (sym pairs) (subst (λ es. IsWalk q es 0) first_entries (walk_starts q));
     }
 
@@ -122,6 +124,7 @@ module _ (q : ProblemParts) (old new : NodeParts) (kept : Grows old new) (sound 
         sets = λ e h. let s = rules.sets e h in (set_kept old new kept q.tests e.left s.0, set_kept old new kept q.tests e.right s.1);
         universal = universal_kept r.universal refl ∙ rules.universal;
         universal_id = λ u e. IsTermOf-trees old new kept q.tests u (rules.universal_id u e);
+        few = rules.few;
         walk = subst (λ es. IsWalk q es done) (sym (entries_kept old new kept q.tests r.pairs rules.sets)) rules.walk;
       }
 
@@ -208,6 +211,7 @@ taken q store w place e under_way here outputs steps = record {
     sets = under_way.rules.sets;
     universal = under_way.rules.universal;
     universal_id = under_way.rules.universal_id;
+    few = under_way.rules.few;
     walk = subst (IsWalk q (entries_of store w.rules.pairs)) one_more (walk_goes_on q (entries_of store w.rules.pairs) place under_way.rules.walk (entry_of store e) (at_mapped (entry_of store) w.rules.pairs place e here) (record { outputs = outputs; steps = steps }));
   };
   right = under_way.right;
@@ -234,6 +238,7 @@ all_taken q store w place under_way past = record {
     sets = under_way.rules.sets;
     universal = under_way.rules.universal;
     universal_id = under_way.rules.universal_id;
+    few = under_way.rules.few;
     walk = subst (IsWalk q (entries_of store w.rules.pairs)) (length-map w.rules.pairs (entry_of store)) (walk_ended q (entries_of store w.rules.pairs) place under_way.rules.walk (let l = length-map w.rules.pairs (entry_of store) in omega (arith, l, past)));
   };
   right = under_way.right;

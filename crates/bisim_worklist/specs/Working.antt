@@ -1,11 +1,8 @@
 pub mod Visits
 pub mod Listings
 pub mod Marks
-pub mod Items
 pub mod Covers
 pub mod Cases
 pub mod IdWalks
-pub mod Outputs
-pub mod Needed
-pub mod Numbering
 pub mod Walking
+pub mod Limits

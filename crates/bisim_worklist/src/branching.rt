@@ -1,20 +1,22 @@
 //! The pairs of sets that a step of a listed pair by one action leads to, of which those that are not congruent yet
 //! are listed.
-ghost use Rattle.std.specs.Prelude.{◌≡◌, ◌++◌, ◌∷◌, [], Some, None, length, replicate, OnOk};
+ghost use Rattle.std.specs.Prelude.{◌≡◌, ◌++◌, ◌∷◌, [], Some, None, Err, length, replicate, OnOk};
 ghost use Rattle.test_diagrams.specs.Functions.{KeepsFunctions};
-ghost use Rattle.bisim_worklist.specs.Working.Items.{AreItems, targets_under};
+ghost use Rattle.stored_pairs.specs.Items.{AreItems, targets_under};
 ghost use Rattle.bisim_worklist.specs.Working.Cases.{IsCase, AreConstant, least_of};
-ghost use Rattle.bisim_worklist.specs.Working.IdWalks.{Visits};
-ghost use Rattle.bisim_worklist.specs.declared.items.Side.TheVariants.{Left as OnLeft, Right as OnRight};
+ghost use Rattle.bisim_worklist.specs.Working.IdWalks.{Visits, PassesLimit};
+ghost use Rattle.bisim_worklist.specs.declared.halt.Halt.TheVariants.{PairLimit};
+ghost use Rattle.stored_pairs.specs.declared.items.Side.TheVariants.{Left as OnLeft, Right as OnRight};
 
 use crate::cases::{Case, case_with, is_lighter, least_atom};
 use crate::cover::{is_covered, sure_targets};
-use crate::items::{Ends, Item, Side, ends_of};
+use crate::halt::Halt;
 use crate::pair::{Listed, Origin};
 use crate::rules::Rules;
 use crate::splitting::next_test;
 use kat_model::{Items, NoMemory};
 use std::alloc::Global;
+use stored_pairs::{Ends, Item, Side, ends_of};
 use test_diagrams::Diagrams;
 
 /// Steps from the listed pair at this place, by this action.
@@ -57,6 +59,7 @@ fn list_case(
     } ∷ []) }
     ensures universal { rules.new.universal ≡ rules.old.universal }
     ensures count { rules.new.count ≡ rules.old.count }
+    ensures limit { rules.new.limit ≡ rules.old.limit }
 {
     let left = sure_targets(alloc, ends, &case.items, Side::Left)?;
     let right = sure_targets(alloc, ends, &case.items, Side::Right)?;
@@ -80,16 +83,22 @@ fn visit_leaf(
     diagrams: &Diagrams,
     stride: &Stride,
     case: &Case,
-) -> Result<(), NoMemory>
+) -> Result<(), Halt>
     requires case { IsCase diagrams.now case.now.decided.items case.now.items.items }
     requires constant { AreConstant diagrams.now case.now.items.items }
-    ensures { OnOk result (Visits diagrams.now stride.now case.now.decided.items case.now.items.items rules.old rules.new) }
+    ensures visited { OnOk result (Visits diagrams.now stride.now case.now.decided.items case.now.items.items rules.old rules.new) }
+    ensures full { result ≡ Err PairLimit → PassesLimit diagrams.now stride.now case.now.decided.items case.now.items.items rules.old }
+    ensures limit { rules.new.limit ≡ rules.old.limit }
 {
     let ends = ends_of(diagrams);
     if is_covered(alloc, rules, &ends, &case.items)? {
         return Ok(());
     }
-    list_case(alloc, rules, &ends, stride, case)
+    if rules.is_full() {
+        return Err(Halt::PairLimit);
+    }
+    list_case(alloc, rules, &ends, stride, case)?;
+    Ok(())
 }
 
 // Lists pairs until at each atom of the case the sets of the step are congruent. A pair that is listed covers what
@@ -101,9 +110,11 @@ fn visit(
     stride: &Stride,
     case: &Case,
     before: Option<Census>,
-) -> Result<(), NoMemory>
+) -> Result<(), Halt>
     requires case { IsCase diagrams.old case.now.decided.items case.now.items.items }
     ensures visited { OnOk result (Visits diagrams.old stride.now case.now.decided.items case.now.items.items rules.old rules.new) }
+    ensures full { result ≡ Err PairLimit → PassesLimit diagrams.old stride.now case.now.decided.items case.now.items.items rules.old }
+    ensures limit { rules.new.limit ≡ rules.old.limit }
     ensures kept { KeepsFunctions diagrams.old diagrams.new }
 {
     let Some(test) = next_test(rules.universal(), diagrams, &case.items) else {
@@ -127,16 +138,19 @@ fn visit(
 }
 
 /// Lists pairs until at each atom the sets that the stride leads to are congruent under the listed pairs. Each pair
-/// that is listed is one of such sets, and is not congruent under the pairs before it.
+/// that is listed is one of such sets, and is not congruent under the pairs before it. Stops where one more is needed
+/// than may be listed.
 pub(crate) fn visit_all(
     alloc: Global,
     rules: &mut Rules,
     diagrams: &mut Diagrams,
     stride: &Stride,
     items: Vec<Item>,
-) -> Result<(), NoMemory>
+) -> Result<(), Halt>
     requires items { AreItems diagrams.old items.items }
     ensures visited { OnOk result (Visits diagrams.old stride.now (replicate diagrams.old.tests None) items.items rules.old rules.new) }
+    ensures full { result ≡ Err PairLimit → PassesLimit diagrams.old stride.now (replicate diagrams.old.tests None) items.items rules.old }
+    ensures limit { rules.new.limit ≡ rules.old.limit }
     ensures kept { KeepsFunctions diagrams.old diagrams.new }
 {
     let decided = vec![in alloc; None; diagrams.tests()]?;

@@ -1,13 +1,13 @@
 //! Cases on tests: some tests are decided, and the guards do not depend on them.
 ghost use Rattle.std.specs.Prelude.{◌≡◌, ◌<◌, Some, IfOk, slice_set};
 ghost use Rattle.test_diagrams.specs.Functions.{IsDiagramId, KeepsFunctions, IsDiagramOf, value_of};
-ghost use Rattle.bisim_worklist.specs.Working.Items.{AreItems};
-ghost use Rattle.bisim_worklist.specs.Working.Covers.{AreEnds};
+ghost use Rattle.stored_pairs.specs.Items.{AreItems};
+ghost use Rattle.stored_pairs.specs.Items.{AreEnds};
 ghost use Rattle.bisim_worklist.specs.Working.Cases.{IsOpen, least_of, AreItemsWith, IsCase};
 
-use crate::items::{Ends, Item};
 use kat_model::NoMemory;
 use std::alloc::Global;
+use stored_pairs::{Ends, Item};
 use test_diagrams::{DiagramId, Diagrams};
 
 /// A case: the tests that are decided in it, and the items that are left there.

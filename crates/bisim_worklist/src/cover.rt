@@ -1,13 +1,13 @@
 //! Whether the sets that a step leads to are congruent, as far as the tests that are decided tell.
 ghost use Rattle.std.specs.Prelude.{◌≡◌, ◌&&◌, IfOk};
-ghost use Rattle.bisim_worklist.specs.Working.Items.{targets_under, is_open as is_open', open_targets as open_targets'};
+ghost use Rattle.stored_pairs.specs.Items.{targets_under, is_open as is_open', open_targets as open_targets'};
 ghost use Rattle.bisim_worklist.specs.Working.Covers.{covers_on, covers};
 
-use crate::items::{Ends, Item, Side, guard_across, guard_on};
 use crate::rules::Rules;
 use crate::saturation::reaches;
 use kat_model::NoMemory;
 use std::alloc::Global;
+use stored_pairs::{Ends, Item, Side, guard_across, guard_on};
 use term_store::TermId;
 
 /// The targets that surely are in the side's set, in ascending order.

@@ -1,65 +1,85 @@
 //! The answer to a problem.
-ghost use Rattle.std.specs.Prelude.{◌≡◌, IfOk, IfSome, OnErr};
-ghost use Rattle.std.specs.Option.{option_map};
+ghost use Rattle.std.specs.Prelude.{◌≡◌, Err, IfOk, OnErr, IsTrue};
 ghost use Rattle.kat_model.specs.Problems.{IsProblem};
-ghost use Rattle.goal_forms.specs.ClosedTrees.{closed_trees};
-ghost use Rattle.term_nodes.specs.NodeLists.{AreNodes, IsTerm};
-ghost use Rattle.term_nodes.specs.NodeTrees.{tree_at};
+ghost use Rattle.kat_model.specs.Closed.{closed};
+ghost use Rattle.term_nodes.specs.NodeLists.{AreNodes};
+ghost use Rattle.term_nodes.specs.NodeTrees.{HasTree};
 ghost use Rattle.term_nodes.specs.Growth.{Grows};
-ghost use Rattle.certificate.specs.Decisions.{IsDecision};
+ghost use Rattle.certificate.specs.Decisions.{has_short as has_short', HasManyPairs, IsDecision};
 ghost use Rattle.bisim_worklist.specs.StoredTerms.{HasIdsOf};
+ghost use Rattle.bisim_worklist.specs.Working.Limits.{limit_of as limit_of'};
+ghost use Rattle.bisim_worklist.specs.Working.Marks.{IsWithinLimit};
 ghost use Rattle.bisim_worklist.specs.Working.Walking.{IsUnderWay};
+ghost use Rattle.bisim_worklist.specs.declared.halt.Halt.TheVariants.{PairLimit};
 
-use crate::cert::cert_of;
+use crate::halt::Halt;
+use crate::pair::stored_pairs_of;
 use crate::string::string_to;
 use crate::walk::Walk;
-use certificate::Evidence;
-use goal_forms::{Closed, eliminate};
+use certificate::{Evidence, Style};
+use goal_forms::eliminate;
 use kat_model::{NoMemory, Problem};
+use short_hyps::has_short;
 use std::alloc::Global;
-use term_store::{Store, TermId};
+use stored_pairs::{cert_of, closed_ids};
+use term_store::Store;
+use tested_walk::decide_under;
 
-// The id of the universal term, where there is one.
-fn universal_id(store: &mut Store, closed: &Closed) -> Result<Option<TermId>, NoMemory>
-    ensures tree { IfOk result (λ u. option_map (tree_at store.new) u ≡ (closed_trees closed.now).universal) }
-    ensures is_id { IfOk result (λ u. IfSome u (IsTerm store.new)) }
-    ensures kept { Grows store.old store.new }
-    ensures refused { OnErr result (AreNodes store.new) }
+// How many pairs a certificate without tests may have, where tests can stand for hypotheses.
+const UNTESTED_LIMIT: usize = 2_000;
+
+// How many pairs a walk without tests may list, where there is a limit.
+fn limit_of(problem: &Problem) -> Option<usize>
+    ensures value { result ≡ limit_of' problem.now }
+    ensures room { IsWithinLimit result 1 }
 {
-    match &closed.universal {
-        Some(term) => Ok(Some(store.of_tree(term)?)),
-        None => Ok(None),
+    if has_short(problem) {
+        return Some(UNTESTED_LIMIT);
     }
+    None
 }
 
 // The walk of a problem over the store, which has listed the pair of the closed sides.
 fn walk_of(alloc: Global, store: &mut Store, problem: &Problem) -> Result<Walk, NoMemory>
     ensures under_way { IfOk result (λ w. IsProblem problem.now × IsUnderWay problem.now store.new w 0) }
+    ensures limit { IfOk result (λ w. w.rules.limit ≡ limit_of' problem.now) }
+    ensures left { IfOk result (λ w. HasTree store.new (closed problem.now).left) }
+    ensures right { IfOk result (λ w. HasTree store.new (closed problem.now).right) }
     ensures kept { Grows store.old store.new }
     ensures store { AreNodes store.new }
 {
     // The proof needs the rules of the store.
     let _ = store.count();
     let closed = eliminate(alloc, problem)?;
-    let left = store.of_tree(&closed.left)?;
-    let right = store.of_tree(&closed.right)?;
-    let universal = universal_id(store, &closed)?;
+    let sides = closed_ids(store, &closed)?;
     let tests = problem.tests();
     let count = store.count();
-    Walk::new(alloc, tests, left, right, universal, count)
+    let limit = limit_of(problem);
+    Walk::new(
+        alloc,
+        tests,
+        sides.left,
+        sides.right,
+        sides.universal,
+        count,
+        limit,
+    )
 }
 
-// The evidence that the walk ends with.
+// The evidence that the walk ends with, unless it needs more pairs than it may list.
 fn evidence_of(
     alloc: Global,
     store: &mut Store,
     problem: &Problem,
     mut walk: Walk,
-) -> Result<Evidence, NoMemory>
+) -> Result<Evidence, Halt>
     requires within { IsProblem problem.now }
     requires under_way { IsUnderWay problem.now store.old walk 0 }
+    requires limit { walk.rules.limit ≡ limit_of' problem.now }
     ensures decision { IfOk result (IsDecision problem.now) }
     ensures ids { IfOk result (HasIdsOf store.new problem.now) }
+    ensures short { result ≡ Err PairLimit → IsTrue (has_short' problem.now) }
+    ensures many { result ≡ Err PairLimit → HasManyPairs problem.now }
     ensures kept { Grows store.old store.new }
     ensures store { AreNodes store.new }
 {
@@ -72,7 +92,8 @@ fn evidence_of(
             Ok(Evidence::Different(string))
         }
         None => {
-            let cert = cert_of(alloc, store, walk.pairs())?;
+            let pairs = stored_pairs_of(alloc, walk.pairs())?;
+            let cert = cert_of(alloc, store, Style::UpTo, &pairs)?;
             Ok(Evidence::Equal(cert))
         }
     }
@@ -88,12 +109,17 @@ pub fn decide_in(alloc: Global, store: &mut Store, problem: &Problem) -> Result<
     ensures store { AreNodes store.new }
 {
     let walk = walk_of(alloc, store, problem)?;
-    evidence_of(alloc, store, problem, walk)
+    match evidence_of(alloc, store, problem, walk) {
+        Ok(evidence) => Ok(evidence),
+        Err(Halt::NoMemory) => Err(NoMemory),
+        Err(Halt::PairLimit) => decide_under(alloc, store, problem),
+    }
 }
 
 /// Whether both sides of a problem denote one relation in each table that keeps the hypotheses, with evidence: a
 /// certificate whose pairs are a bisimulation up to congruence, none of them redundant (Bonchi and Pous 2013), or a
-/// string that refutes the problem, than which none has fewer moves. Fails only when out of memory.
+/// string that refutes the problem, than which none has fewer moves. Where some hypothesis is short and more than 2,000
+/// such pairs are found, the certificate is one of pairs under tests. Fails only when out of memory.
 pub fn decide(alloc: Global, problem: &Problem) -> Result<Evidence, NoMemory>
     ensures { IfOk result (IsDecision problem.now) }
 {

@@ -9,14 +9,10 @@
 
 mod branching;
 mod cases;
-mod cert;
 mod cover;
 mod deciding;
-mod items;
+mod halt;
 mod laws;
-mod needed;
-mod order;
-mod outputs;
 mod pair;
 mod rules;
 mod saturation;

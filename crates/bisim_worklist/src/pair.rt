@@ -1,6 +1,11 @@
 //! Pairs of sets of terms, and how the walk came to them.
-use kat_model::Items;
+ghost use Rattle.std.specs.Prelude.{◌≡◌, map, IfOk};
+ghost use Rattle.bisim_worklist.specs.Working.Listings.{untested_of};
+
+use kat_model::{Items, NoMemory};
+use std::alloc::Global;
 use std::marker::Model;
+use stored_pairs::StoredPair;
 use term_store::TermId;
 
 /// A step from a listed pair: the place of the pair, and the atom and the action of the step.
@@ -34,4 +39,26 @@ impl Model for Listed {
     ghost Value = { IdEntry };
 
     ghost view = { λ p. record { left = p.left; right = p.right; origin = p.origin } };
+}
+
+// The ids in a list of their own.
+fn copy_ids(alloc: Global, ids: &[TermId]) -> Result<Items<TermId>, NoMemory>
+    ensures { IfOk result (λ set. set ≡ ids.now) }
+{
+    Ok(Items::of(Vec::from_slice(alloc, ids)?))
+}
+
+/// The listed pairs as those of a certificate, without tests.
+pub(crate) fn stored_pairs_of(alloc: Global, pairs: &[Listed]) -> Result<Vec<StoredPair>, NoMemory>
+    ensures { IfOk result (λ v. v.items ≡ map untested_of pairs.now) }
+{
+    let mut list = Vec::new(alloc);
+    for pair in pairs {
+        list.push(StoredPair {
+            left: copy_ids(alloc, pair.left.as_slice())?,
+            right: copy_ids(alloc, pair.right.as_slice())?,
+            test: None,
+        })?;
+    }
+    Ok(list)
 }

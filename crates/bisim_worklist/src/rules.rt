@@ -1,23 +1,24 @@
 //! The pairs that a walk has listed, which are the rules of congruence.
 ghost use Rattle.std.specs.Prelude.{◌≡◌, ◌↔◌, ◌++◌, ◌∷◌, [], IsTrue, OnOk, OnErr};
-ghost use Rattle.kat_model.specs.Members.{Has, IsSubset};
-ghost use Rattle.bisim_worklist.specs.Working.Needed.{AddsAll};
+ghost use Rattle.kat_model.specs.Members.{Has};
 
 use crate::pair::Listed;
 use kat_model::NoMemory;
 use std::alloc::Global;
 use std::collections::BTreeSet;
 use std::marker::Model;
+use stored_pairs::add_all;
 use term_store::TermId;
 
-/// The listed pairs in order, the terms that stand in them, and the universal term, where there is one. All ids are
-/// below the count.
+/// The listed pairs in order, the terms that stand in them, the universal term, where there is one, and how many pairs
+/// may be listed, where there is a limit. All ids are below the count.
 #[derive(Drop)]
 pub(crate) struct Rules {
     pairs: Vec<Listed>,
     members: BTreeSet<TermId>,
     universal: Option<TermId>,
     count: usize,
+    limit: Option<usize>,
 }
 
 impl Model for Rules {
@@ -25,23 +26,29 @@ impl Model for Rules {
 
     ghost Value = { RuleParts };
 
-    ghost view = { λ r. record { pairs = r.pairs.items; members = r.members.keys; universal = r.universal; count = r.count } };
+    ghost view = { λ r. record { pairs = r.pairs.items; members = r.members.keys; universal = r.universal; count = r.count; limit = r.limit } };
 
-    ghost invariant = { λ r. AreMembers (record { pairs = r.pairs.items; members = r.members.keys; universal = r.universal; count = r.count }) };
+    ghost invariant = { λ r. AreMembers (record { pairs = r.pairs.items; members = r.members.keys; universal = r.universal; count = r.count; limit = r.limit }) };
 }
 
 impl Rules {
-    ghost use Rattle.bisim_worklist.specs.Working.Marks.{AreMembers};
+    ghost use Rattle.bisim_worklist.specs.Working.Marks.{AreMembers, is_full as is_full'};
 
     /// No pairs. It takes no memory.
-    pub(crate) fn new(alloc: Global, universal: Option<TermId>, count: usize) -> Rules
-        ensures { result ≡ record { pairs = []; members = []; universal = universal; count = count } }
+    pub(crate) fn new(
+        alloc: Global,
+        universal: Option<TermId>,
+        count: usize,
+        limit: Option<usize>,
+    ) -> Rules
+        ensures { result ≡ record { pairs = []; members = []; universal = universal; count = count; limit = limit } }
     {
         Rules {
             pairs: Vec::new(alloc),
             members: BTreeSet::new(alloc),
             universal,
             count,
+            limit,
         }
     }
 
@@ -68,6 +75,16 @@ impl Rules {
         self.count
     }
 
+    /// Whether no more pairs may be listed.
+    pub(crate) fn is_full(&self) -> bool
+        ensures { result ≡ is_full' self.now }
+    {
+        match self.limit {
+            Some(limit) => limit <= self.pairs.len(),
+            None => false,
+        }
+    }
+
     /// Takes the ids below another count.
     pub(crate) fn widen(&mut self, count: usize)
         ensures { self.new ≡ record self.old { count = count } }
@@ -89,6 +106,7 @@ impl Rules {
         ensures same { OnErr result (self.new.pairs ≡ self.old.pairs) }
         ensures universal { self.new.universal ≡ self.old.universal }
         ensures count { self.new.count ≡ self.old.count }
+        ensures limit { self.new.limit ≡ self.old.limit }
         ensures members { AreMembers self.new }
     {
         add_all(&mut self.members, pair.left.as_slice())?;
@@ -96,15 +114,4 @@ impl Rules {
         self.pairs.push(pair)?;
         Ok(())
     }
-}
-
-/// Adds the terms.
-pub(crate) fn add_all(set: &mut BTreeSet<TermId>, terms: &[TermId]) -> Result<(), NoMemory>
-    ensures added { OnOk result (AddsAll set.old.keys set.new.keys terms.now) }
-    ensures kept { IsSubset set.old.keys set.new.keys }
-{
-    for term in terms {
-        set.insert(*term)?;
-    }
-    Ok(())
 }

@@ -1,10 +1,10 @@
 //! The test that is decided next.
 ghost use Rattle.std.specs.Prelude.{MatchOption, IfSome};
 ghost use Rattle.test_diagrams.specs.Functions.{IsDiagramId};
-ghost use Rattle.bisim_worklist.specs.Working.Items.{AreItems};
+ghost use Rattle.stored_pairs.specs.Items.{AreItems};
 ghost use Rattle.bisim_worklist.specs.Working.Cases.{HasNextTest, IsNextTest, AreConstant, IsConstantItem};
 
-use crate::items::Item;
+use stored_pairs::Item;
 use term_store::TermId;
 use test_diagrams::Diagrams;
 

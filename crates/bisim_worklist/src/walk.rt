@@ -1,5 +1,5 @@
 //! The walk over the listed pairs, in their order.
-ghost use Rattle.std.specs.Prelude.{◌≡◌, ◌≢◌, ◌<◌, ◌+◌, ◌∷◌, [], ℕ, length, IfOk, OnOk, MatchOption, Some, slice_get};
+ghost use Rattle.std.specs.Prelude.{◌≡◌, ◌≢◌, ◌<◌, ◌+◌, ◌∷◌, [], ℕ, length, IfOk, OnOk, MatchOption, Some, Err, slice_get};
 ghost use Rattle.kat_model.specs.Problems.{ProblemParts, IsProblem};
 ghost use Rattle.kat_model.specs.Closed.{closed};
 ghost use Rattle.std.specs.Option.{option_map};
@@ -8,17 +8,19 @@ ghost use Rattle.term_nodes.specs.NodeTrees.{tree_at};
 ghost use Rattle.term_nodes.specs.Growth.{Grows};
 ghost use Rattle.test_diagrams.specs.Functions.{value_of, IsDiagramId, IsAtomOf, KeepsFunctions};
 ghost use Rattle.bisim_worklist.specs.Working.Listings.{IdEntry};
+ghost use Rattle.bisim_worklist.specs.Working.Marks.{IsWithinLimit};
+ghost use Rattle.bisim_worklist.specs.Working.IdWalks.{IsPastLimit};
+ghost use Rattle.bisim_worklist.specs.declared.halt.Halt.TheVariants.{PairLimit};
 ghost use Rattle.bisim_worklist.specs.Working.Walking.{IsUnderWay, AreStepsAt, HasStepIds, IsExpanded, IsDifference};
 
 use crate::branching::{Stride, visit_all};
-use crate::items::items_of;
-use crate::order::actions_in_order;
-use crate::outputs::differing_atom;
+use crate::halt::Halt;
 use crate::pair::Listed;
 use crate::rules::Rules;
 use kat_model::{Items, NoMemory, Problem};
 use partial_derivs::{Derivatives, Steps};
 use std::alloc::Global;
+use stored_pairs::{actions_in_order, differing_atom, items_of};
 use term_store::{Store, TermId};
 use test_diagrams::Diagrams;
 
@@ -52,7 +54,7 @@ fn single(alloc: Global, term: TermId) -> Result<Items<TermId>, NoMemory>
 }
 
 impl Walk {
-    /// A walk that has listed the pair of two terms.
+    /// A walk that has listed the pair of two terms, and may list so many pairs, where there is a limit.
     pub(crate) fn new(
         alloc: Global,
         tests: usize,
@@ -60,15 +62,18 @@ impl Walk {
         right: TermId,
         universal: Option<TermId>,
         count: usize,
+        limit: Option<usize>,
     ) -> Result<Walk, NoMemory>
-        ensures { IfOk result (λ w. (q : ProblemParts) (store : NodeParts) → IsProblem q → AreNodes store → tests ≡ q.tests → count ≡ length store.terms
+        requires { IsWithinLimit limit 1 }
+        ensures limit { IfOk result (λ w. w.rules.limit ≡ limit) }
+        ensures under_way { IfOk result (λ w. (q : ProblemParts) (store : NodeParts) → IsProblem q → AreNodes store → tests ≡ q.tests → count ≡ length store.terms
             → IsTerm store left → tree_at store left ≡ (closed q).left
             → IsTerm store right → tree_at store right ≡ (closed q).right
             → ((u : ℕ) → universal ≡ Some u → IsTerm store u)
             → option_map (tree_at store) universal ≡ (closed q).universal
             → IsUnderWay q store w 0) }
     {
-        let mut rules = Rules::new(alloc, universal, count);
+        let mut rules = Rules::new(alloc, universal, count, limit);
         rules.list(Listed {
             left: single(alloc, left)?,
             right: single(alloc, right)?,
@@ -100,6 +105,7 @@ impl Walk {
         ensures steps { IfOk result (λ steps. (q : ProblemParts) (e : IdEntry) → IsUnderWay q store.old self.old place
             → slice_get self.old.rules.pairs place ≡ Some e → IsUnderWay q store.new self.new place × AreStepsAt store.new self.new e steps × HasStepIds self.new steps) }
         ensures pairs { self.new.rules.pairs ≡ self.old.rules.pairs }
+        ensures limit { self.new.rules.limit ≡ self.old.rules.limit }
         ensures kept { Grows store.old store.new }
     {
         let pair = &self.rules.pairs()[place];
@@ -121,10 +127,13 @@ impl Walk {
         place: usize,
         actions: usize,
         steps: &BothSteps,
-    ) -> Result<(), NoMemory>
+    ) -> Result<(), Halt>
         requires ids { HasStepIds self.old steps.now }
         ensures expanded { OnOk result ((q : ProblemParts) (store : NodeParts) → actions ≡ q.actions → IsExpanded q store self.old self.new place steps.now) }
         ensures tests { self.new.diagrams.tests ≡ self.old.diagrams.tests }
+        ensures full { result ≡ Err PairLimit → (q : ProblemParts) (store : NodeParts) (e : IdEntry) → actions ≡ q.actions → IsUnderWay q store self.old place
+            → slice_get self.old.rules.pairs place ≡ Some e → AreStepsAt store self.old e steps.now → IsPastLimit q self.old.rules.limit }
+        ensures limit { self.new.rules.limit ≡ self.old.rules.limit }
     {
         let left = &steps.left.moves;
         let right = &steps.right.moves;
@@ -166,12 +175,14 @@ impl Walk {
         store: &mut Store,
         actions: usize,
         place: usize,
-    ) -> Result<Option<Vec<bool>>, NoMemory>
+    ) -> Result<Option<Vec<bool>>, Halt>
         requires under_way { (q : ProblemParts) × IsUnderWay q store.old self.old place }
         requires place { place < length self.old.rules.pairs }
         ensures taken { IfOk result (λ found. (q : ProblemParts) → actions ≡ q.actions → IsUnderWay q store.old self.old place →
             MatchOption found (IsUnderWay q store.new self.new (place + 1))
             (λ atom. IsUnderWay q store.new self.new place × IsDifference q store.new self.new place atom.items)) }
+        ensures full { result ≡ Err PairLimit → (q : ProblemParts) → actions ≡ q.actions → IsUnderWay q store.old self.old place → IsPastLimit q self.old.rules.limit }
+        ensures limit { self.new.rules.limit ≡ self.old.rules.limit }
         ensures kept { Grows store.old store.new }
     {
         let steps = self.steps_at(alloc, store, place)?;
@@ -183,17 +194,19 @@ impl Walk {
     }
 
     /// Takes the listed pairs in order, those that are listed meanwhile among them. Answers the first difference, or
-    /// none where the pairs are a bisimulation up to congruence.
+    /// none where the pairs are a bisimulation up to congruence. Stops where one more pair is needed than may be listed.
     pub(crate) fn run(
         &mut self,
         alloc: Global,
         store: &mut Store,
         problem: &Problem,
-    ) -> Result<Option<Difference>, NoMemory>
+    ) -> Result<Option<Difference>, Halt>
         requires { IsUnderWay problem.now store.old self.old 0 }
         ensures answer { IfOk result (λ found.
             MatchOption found (IsUnderWay problem.now store.new self.new (length self.new.rules.pairs))
             (λ d. IsUnderWay problem.now store.new self.new d.place × IsDifference problem.now store.new self.new d.place d.atom.items)) }
+        ensures full { result ≡ Err PairLimit → IsPastLimit problem.now self.old.rules.limit }
+        ensures limit { self.new.rules.limit ≡ self.old.rules.limit }
         ensures kept { Grows store.old store.new }
     {
         let mut place = 0;

@@ -2,7 +2,6 @@ pub mod PairTurns
 pub mod ForbiddenMoves
 pub mod SetQuestions
 pub mod RootRanges
-pub mod LongProblems
 pub mod StepStates
 pub mod NextTests
 pub mod Halves

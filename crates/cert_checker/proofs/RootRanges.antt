@@ -21,7 +21,7 @@ use Rattle.certificate.specs.declared.nodes.Style.TheVariants.{Plain, UpTo, Unde
 use Rattle.cert_checker.specs.Working.NodeTables.{TableParts, AreTables, TablesGrow, IsTerm, term_at, nodes_in}
 use Rattle.cert_checker.specs.declared.roots.Roots.{Roots}
 use Rattle.cert_checker.specs.Working.Roots.{AreClosedBelow, AreRoots, compared}
-use Rattle.cert_checker.proofs.LongProblems.{long_is_problem}
+use Rattle.short_hyps.proofs.LongProblems.{long_is_problem}
 use Rattle.cert_checker.proofs.StepLists.{grows_longer}
 
 -- ---- ranges

@@ -1,7 +1,7 @@
 //! The checker of evidence. It stands on no part of a prover. What it shares with one lies below both: terms and
-//! their steps (`kat_model`), the closed sides of a problem (`goal_forms`), guarded strings and their tables
-//! (`string_tables`), nodes of terms (`term_nodes`), and what a certificate is and when one is accepted
-//! (`certificate`).
+//! their steps (`kat_model`), the closed sides of a problem (`goal_forms`), which hypotheses are short (`short_hyps`),
+//! guarded strings and their tables (`string_tables`), nodes of terms (`term_nodes`), and what a certificate is and when
+//! one is accepted (`certificate`).
 //!
 //! A certificate is gone through as it stands: the ranges of its nodes, its first pair, and then, for the outputs
 //! and for each action, each pair by cases on the tests of an atom and, in the style of tests, of the atom that a
@@ -21,7 +21,6 @@ mod places;
 mod range;
 mod roots;
 mod saturation;
-mod shorts;
 mod steps;
 mod tables;
 mod targets;

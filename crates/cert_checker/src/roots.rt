@@ -6,11 +6,11 @@ ghost use Rattle.goal_forms.specs.ClosedTrees.{closed_trees};
 ghost use Rattle.cert_checker.specs.Working.NodeTables.{TablesGrow, AreTables, IsTerm, term_at, nodes_in};
 ghost use Rattle.cert_checker.specs.Working.Roots.{AreClosedBelow, compared, counted_short, AreRoots};
 
-use crate::shorts::{is_short, long_problem};
 use crate::tables::Tables;
 use certificate::{Cert, Style};
 use goal_forms::{Closed, eliminate};
 use kat_model::{NoMemory, Problem};
+use short_hyps::{is_short, long_problem};
 use std::alloc::Global;
 
 /// The numbers of the closed sides that are compared, of their universal term where there is one, and of the

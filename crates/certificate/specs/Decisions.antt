@@ -1,6 +1,7 @@
--- What the prover answers: a certificate in which no pair is redundant (Bonchi and Pous 2013), or a shortest string
--- that refutes.
-use Rattle.std.specs.Prelude.{◌≡◌, ◌≤◌, ◌<◌, ◌+◌, ◌*◌, ◌^◌, ℕ, List, [], ◌∷◌, ◌++◌, length}
+-- What the prover answers: a certificate in which no pair is redundant (Bonchi and Pous 2013), one of pairs under tests
+-- where such pairs are many, or a shortest string that refutes.
+use Rattle.std.specs.Prelude.{◌≡◌, ◌⊎◌, ◌≤◌, ◌<◌, ◌+◌, ◌*◌, ◌^◌, ℕ, Bool, List, [], ◌∷◌, ◌++◌, length, IsTrue}
+use Rattle.std.specs.List.{list_any}
 use Rattle.kat_model.specs.Trees.{Term, acts}
 use Rattle.kat_model.specs.Members.{Has, SameMembers}
 use Rattle.kat_model.specs.Steps.{Atom, set_next}
@@ -9,6 +10,7 @@ use Rattle.kat_model.specs.Problems.{ProblemParts}
 use Rattle.kat_model.specs.Relations.{Same}
 use Rattle.kat_model.specs.Closed.{closed}
 use Rattle.kat_model.specs.Pairs.{SetPair, IsCongruent, AllDiffer}
+use Rattle.kat_model.specs.Degrees.{is_short}
 use Rattle.string_tables.specs.Tables.{Refutes}
 use Rattle.certificate.specs.declared.nodes.Style.TheVariants.{UpTo}
 use Rattle.certificate.specs.declared.evidence.Evidence.{Evidence}
@@ -16,6 +18,7 @@ use Rattle.certificate.specs.declared.evidence.Evidence.TheVariants.{Equal, Diff
 use Rattle.certificate.specs.Certs.{CertParts, nodes_of}
 use Rattle.term_nodes.specs.NodeTrees.{trees}
 use Rattle.certificate.specs.Accepted.{set_pairs, IsAccepted}
+use Rattle.certificate.specs.UnderTests.{IsConciseUnder}
 
 -- a step under some atom by some action leads from the sets of one pair to those of the other
 pub record LeadsTo (tests actions : ℕ) (from to : SetPair) : Type 0 where
@@ -55,6 +58,35 @@ pub record IsConcise (q : ProblemParts) (c : CertParts) : Type 0 where
   pub needed : HasNoRedundantPair q (set_pairs c)
   pub bounded : length (set_pairs c) ≤ pair_limit q
 
+-- whether some hypothesis is short, so that tests can stand for it
+abbrev pub has_short : ProblemParts → Bool
+has_short q = list_any is_short q.hyps
+
+-- how many pairs a certificate without tests may have then
+abbrev pub untested_limit : ℕ
+untested_limit = 2000
+
+-- more pairs than that lead on from the closed sides, none of them redundant
+pub record HasManyPairs (q : ProblemParts) : Type 0 where
+  pub rest : List SetPair
+  pub needed : HasNoRedundantPair q (record { left = (closed q).left ∷ []; right = (closed q).right ∷ [] } ∷ rest)
+  pub many : untested_limit < length rest + 1
+
+-- a certificate without tests, whose pairs are few where some hypothesis is short
+pub record IsUntestedAnswer (q : ProblemParts) (c : CertParts) : Type 0 where
+  pub concise : IsConcise q c
+  pub few : IsTrue (has_short q) → length (set_pairs c) ≤ untested_limit
+
+-- a certificate of pairs under tests, where some hypothesis is short and pairs without tests are many
+pub record IsTestedAnswer (q : ProblemParts) (c : CertParts) : Type 0 where
+  pub concise : IsConciseUnder q c
+  pub short : IsTrue (has_short q)
+  pub many : HasManyPairs q
+
+-- the certificate that the prover answers
+abbrev pub IsAnswerCert : ProblemParts → CertParts → Type 0
+IsAnswerCert q c = IsUntestedAnswer q c ⊎ IsTestedAnswer q c
+
 -- the string refutes the question, and none with fewer moves does
 pub record IsShortest (q : ProblemParts) (x : GuardedString) : Type 0 where
   pub refutes : Refutes q x
@@ -62,7 +94,7 @@ pub record IsShortest (q : ProblemParts) (x : GuardedString) : Type 0 where
 
 -- what the prover answers to a question
 abbrev pub IsDecision : ProblemParts → Evidence → Type 0
-IsDecision q (Equal c) = Same q × IsConcise q c
+IsDecision q (Equal c) = Same q × IsAnswerCert q c
 IsDecision q (Different x) = (Same q → ⊥) × IsShortest q x
 
 -- the terms of the nodes of evidence

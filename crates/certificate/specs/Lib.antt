@@ -5,6 +5,7 @@ pub mod Forms
 pub mod Faults
 pub mod Readings
 pub mod Accepted
+pub mod UnderTests
 pub mod Decisions
 pub mod Laws
 pub mod Working

@@ -6,6 +6,7 @@ use Rattle.kat_io.specs.Told.{Untold}
 use Rattle.kat_io.specs.Outside.{Rose, AppendsFront}
 use Rattle.kat_model.specs.Members.{Has}
 use Rattle.kat_model.specs.Problems.{ProblemParts}
+use Rattle.bisim_worklist.proofs.AnswerCerts.{answer_accepted}
 use Rattle.kat_tool.specs.Commands.{Command, decide, report, show, batch, check, replay, run, oneloop, command_of, files_of}
 use Rattle.kat_tool.specs.Asking.{Asks}
 use Rattle.kat_tool.specs.Posing.{Poses}
@@ -176,7 +177,7 @@ agreed s file status output causes small words again other text later reply prin
     alike : (status ≡ 0) ⊎ (status ≡ 1) → reply ≡ status
     alike (inl e) =
         let h = causes.equal e in
-        (checked h.question h.poses).equal.1 (h.is_equal.cert, h.is_equal.printed, h.is_equal.concise.accepted) ∙ sym e
+        (checked h.question h.poses).equal.1 (h.is_equal.cert, h.is_equal.printed, answer_accepted h.question h.is_equal.cert h.is_equal.answer) ∙ sym e
     alike (inr e) =
         let h = causes.different e in
         (checked h.0 h.1).different.1 (h.2.string, h.2.printed, h.2.shortest.refutes) ∙ sym e

@@ -1,6 +1,7 @@
 -- The reply of `decide` is the statement on the question, and has its cause.
 use Rattle.std.proofs.Common.{◌≡◌, ◌⊎◌, ℕ, List, Ok, inl, inr, ⊎_elim, refl, sym, ◌∙◌, arith}
 use Rattle.kat_model.specs.Problems.{ProblemParts}
+use Rattle.bisim_worklist.proofs.AnswerCerts.{answer_accepted}
 use Rattle.problem_file.specs.Files.{FileParts}
 use Rattle.problem_file.specs.Reads.{Reads}
 use Rattle.problem_file.specs.Concrete.{IsConcrete, Agrees}
@@ -21,7 +22,7 @@ decided_headline q status output (inl h) = record {
   answers = inl h.0;
   equal = ((λ _. h.1.same), (λ _. h.0));
   different = ((λ e. absurd (not_both status h.0 e)), (λ differ. absurd (differ h.1.same)));
-  certificate = λ e. (h.1.cert, h.1.concise.accepted, h.1.printed.text);
+  certificate = λ e. (h.1.cert, answer_accepted q h.1.cert h.1.answer, h.1.printed.text);
   string = λ e. absurd (not_both status h.0 e);
 }
 decided_headline q status output (inr h) = record {

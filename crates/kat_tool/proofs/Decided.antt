@@ -11,7 +11,7 @@ use Rattle.certificate.specs.Texts.{text_of, IsEvidence}
 use Rattle.kat_report.specs.Reports.{json_report}
 use Rattle.certificate.proofs.Written.{cert_is_evidence}
 use Rattle.certificate.specs.Decisions.{IsDecision}
-use Rattle.bisim_worklist.proofs.Concise.{concise_few}
+use Rattle.bisim_worklist.proofs.AnswerCerts.{answer_accepted, answer_few}
 use Rattle.kat_tool.specs.Showing.{Spells}
 use Rattle.kat_tool.specs.Check.{evidence_status}
 use Rattle.kat_tool.specs.Decide.{IsDecided}
@@ -31,13 +31,13 @@ module _ (q : ProblemParts) (problem : IsProblem q) where
 
   module _ (e : Evidence) (d : IsDecision q e) where
     pub equal_evidence : (c : CertParts) → e ≡ Equal c → IsCert c → length c.test_nodes < 2 ^ 64 → length c.term_nodes < 2 ^ 64 → IsEvidence e
-    equal_evidence c is cert tests terms = subst IsEvidence (sym is) (accepted_evidence c cert (subst (IsDecision q) is d).1.accepted tests terms)
+    equal_evidence c is cert tests terms = subst IsEvidence (sym is) (accepted_evidence c cert (answer_accepted q c (subst (IsDecision q) is d).1) tests terms)
 
     pub different_evidence : (x : GuardedString) → e ≡ Different x → IsEvidence e
     different_evidence x is = subst IsEvidence (sym is) (string_evidence x (subst (IsDecision q) is d).1.refutes)
 
 pub decided : (q : ProblemParts) (e : Evidence) (output : List ℕ) → IsDecision q e → Spells output e → IsDecided q (evidence_status e) output
-decided q (Equal c) output d s = inl (refl, record { same = d.0; cert = c; concise = d.1; few = concise_few q c d.1; printed = s })
+decided q (Equal c) output d s = inl (refl, record { same = d.0; cert = c; answer = d.1; few = answer_few q c d.1; printed = s })
 decided q (Different x) output d s = inr (refl, record { differ = d.0; string = x; shortest = d.1; printed = s })
 
 -- the report of a decision is that of the text that `decide` may print

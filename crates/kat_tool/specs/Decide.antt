@@ -14,18 +14,19 @@ use Rattle.certificate.specs.Certs.{CertParts}
 use Rattle.certificate.specs.Accepted.{set_pairs, IsAccepted}
 use Rattle.certificate.specs.Texts.{text_of}
 use Rattle.certificate.specs.declared.evidence.Evidence.TheVariants.{Equal, Different}
-use Rattle.certificate.specs.Decisions.{IsConcise, IsShortest}
+use Rattle.certificate.specs.Decisions.{IsAnswerCert, IsShortest}
 use Rattle.kat_tool.specs.Asking.{Asks}
 use Rattle.kat_tool.specs.Posing.{PosesNone, IsRefused, Poses}
 use Rattle.kat_tool.specs.Showing.{Spells}
 use Rattle.kat_tool.specs.Steps.{ShelfUse, Replying, FailsOn, HasFailedOn, GetsText, AsksText}
 
--- both sides denote one relation in every table that keeps the hypotheses, and an accepted certificate is printed of
--- which no pair is redundant; it has few pairs where both sides are guarded and there are no hypotheses
+-- Both sides denote one relation in every table that keeps the hypotheses, and an accepted certificate is printed. No pair
+-- of it is redundant; or, where some hypothesis is short and such pairs are many, it is one of pairs under tests. It has
+-- few pairs where both sides are guarded and there are no hypotheses.
 pub record IsEqual (q : ProblemParts) (output : List ℕ) : Type 0 where
   pub same : Same q
   pub cert : CertParts
-  pub concise : IsConcise q cert
+  pub answer : IsAnswerCert q cert
   pub few : q.hyps ≡ [] → IsGuarded q.left → IsGuarded q.right → length (set_pairs cert) ≤ (acts q.left + 2) * (acts q.right + 2)
   pub printed : Spells output (Equal cert)
 

@@ -72,12 +72,7 @@ fn question_of(alloc: Global, file: &File, goal: &Goal) -> Result<Problem, NoMem
 }
 
 // The answer to a goal.
-fn goal_reply(
-    alloc: Global,
-    store: &mut Store,
-    file: &File,
-    goal: &Goal,
-) -> Result<Reply, NoMemory>
+fn goal_reply(alloc: Global, store: &mut Store, file: &File, goal: &Goal) -> Result<Reply, NoMemory>
     requires numbers { HasNumbersInRange (with_goal file.now (goal_tree goal.now)) }
     requires asks { AsksSome (with_goal file.now (goal_tree goal.now)) }
     ensures { IfOk result (λ r. IsGoalAnswer (with_goal file.now (goal_tree goal.now)) r.status r.output.items) }
@@ -96,7 +91,8 @@ fn put_answer(alloc: Global, all: &mut Reply, k: usize, answer: &Reply) -> Resul
         (all.new.status ≡ max all.old.status answer.now.status) × (all.new.output.items ≡ all.old.output.items ++ (goal_line k ++ answer.now.output.items))
         ) }
 {
-    all.output.extend_from_slice(format!(in alloc; "goal {k}\n")?.as_bytes())?;
+    all.output
+        .extend_from_slice(format!(in alloc; "goal {k}\n")?.as_bytes())?;
     all.output.extend_from_slice(&answer.output)?;
     all.status = all.status.max(answer.status);
     Ok(())

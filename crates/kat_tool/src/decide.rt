@@ -38,7 +38,11 @@ pub(crate) fn know_numbers(problem: &Problem, evidence: &Evidence)
 }
 
 /// The text of a decision, which is read as that decision again.
-pub(crate) fn text(alloc: Global, problem: &Problem, evidence: &Evidence) -> Result<Vec<u8>, NoMemory>
+pub(crate) fn text(
+    alloc: Global,
+    problem: &Problem,
+    evidence: &Evidence,
+) -> Result<Vec<u8>, NoMemory>
     requires { IsDecision problem.now evidence.now }
     ensures { IfOk result (λ v. Spells v.items evidence.now) }
 {

@@ -17,7 +17,9 @@ ghost use Rattle.kat_tool.specs.Working.Outcomes.{IsReplied, Counts};
 use crate::getting::{file_bytes, file_text};
 use crate::posing::problem_in;
 use crate::reply::{Reply, Stop, line};
-use crate::text::{batch_reply, decided_text, one_loop_reply, reported_text, run_reply, show_reply};
+use crate::text::{
+    batch_reply, decided_text, one_loop_reply, reported_text, run_reply, show_reply,
+};
 use crate::words::{Command, Words};
 use crate::{check, replay};
 use kat_io::{Shelf, Sink, send};

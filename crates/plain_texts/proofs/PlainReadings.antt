@@ -108,14 +108,14 @@ reads_back q printable =
       file = file_of made.final goal;
       reads = record {
         says = record {
-        parts_of_tokens = parts_from 0 pieces;
-        lexes = subst (λ (l : List ℕ). Lexes l (parts_from 0 pieces)) text (printed pieces separate (subst (λ (l : List ℕ). length l ≤ MAX_LEN) (sym text) printable.short));
-        items = made.items;
-        spells = record { file = record { spells = made.spells; obey = made.obey }; fit = made.fit };
-        state = made.final;
-        make = made.make;
-        goal = goal;
-        has_goal = rw (made.holds.goals) refl;
+          parts_of_tokens = parts_from 0 pieces;
+          lexes = subst (λ (l : List ℕ). Lexes l (parts_from 0 pieces)) text (printed pieces separate (subst (λ (l : List ℕ). length l ≤ MAX_LEN) (sym text) printable.short));
+          items = made.items;
+          spells = record { file = record { spells = made.spells; obey = made.obey }; fit = made.fit };
+          state = made.final;
+          make = made.make;
+          goal = goal;
+          has_goal = rw (made.holds.goals) refl;
         };
         file = refl;
       };

@@ -35,14 +35,14 @@ read_as pieces text w v final goal is separate short made asked width vars round
   file = file_of final goal;
   reads = record {
     says = record {
-    parts_of_tokens = parts_from 0 pieces;
-    lexes = subst (λ (l : List ℕ). Lexes l (parts_from 0 pieces)) is (printed pieces separate (subst (λ (l : List ℕ). length l ≤ MAX_LEN) (sym is) short));
-    items = made.items;
-    spells = record { file = record { spells = made.spells; obey = made.obey }; fit = made.fit };
-    state = final;
-    make = subst (MakeAll start_one made.items) made.holds made.make;
-    goal = goal;
-    has_goal = asked;
+      parts_of_tokens = parts_from 0 pieces;
+      lexes = subst (λ (l : List ℕ). Lexes l (parts_from 0 pieces)) is (printed pieces separate (subst (λ (l : List ℕ). length l ≤ MAX_LEN) (sym is) short));
+      items = made.items;
+      spells = record { file = record { spells = made.spells; obey = made.obey }; fit = made.fit };
+      state = final;
+      make = subst (MakeAll start_one made.items) made.holds made.make;
+      goal = goal;
+      has_goal = asked;
     };
     file = refl;
   };

@@ -158,24 +158,24 @@ bc_right_is = record { sound = subst (IsTermName bc_scope (context 0 false false
 bc_says : Reads bc_text (file_of bc_state (equal (term_side (test (meet (prim 0) (prim 1)))) (term_side (test (prim 0)))))
 bc_says = record {
   says = record {
-  parts_of_tokens = parts_from 0 bc_pieces;
-  lexes = printed bc_pieces bc_separate (omega arith);
-  items =
-      record { keyword = leaf 0 (codes "test"); body = tests (more_names (leaf 5 (codes "b")) (leaf 6 (codes ",")) (one_name (leaf 8 (codes "c")))) (leaf 9 (codes ";")) }
-      ∷ record { keyword = leaf 11 (codes "goal"); body = goal_equal (leaf 16 (codes "equal")) bc_left (leaf 30 (codes ",")) bc_right (leaf 33 (codes ";")) }
-      ∷ [];
-  spells = record {
-    file = record { spells = refl; obey = (tt, (((refl, refl), tt), tt)) };
-    fit = (tt, (((omega arith, (tt, tt)), tt), tt));
-  };
-  state = bc_state;
-  make = (
-    with_test (with_test start_one (codes "b")) (codes "c"),
-    (with_test start_one (codes "b"), (b_is_new, omega arith, refl), (c_is_new, omega arith, refl)),
-    (bc_state, record { few = omega arith; left = term_side (test (meet (prim 0) (prim 1))); right = term_side (test (prim 0)); is_left = bc_left_is; is_right = bc_right_is; numbers = (tt, (tt, (tt, (tt, (tt, (tt, (tt, (tt, tt)))))))); room = omega arith; made = refl }, refl),
-  );
-  goal = equal (term_side (test (meet (prim 0) (prim 1)))) (term_side (test (prim 0)));
-  has_goal = refl;
+    parts_of_tokens = parts_from 0 bc_pieces;
+    lexes = printed bc_pieces bc_separate (omega arith);
+    items =
+        record { keyword = leaf 0 (codes "test"); body = tests (more_names (leaf 5 (codes "b")) (leaf 6 (codes ",")) (one_name (leaf 8 (codes "c")))) (leaf 9 (codes ";")) }
+        ∷ record { keyword = leaf 11 (codes "goal"); body = goal_equal (leaf 16 (codes "equal")) bc_left (leaf 30 (codes ",")) bc_right (leaf 33 (codes ";")) }
+        ∷ [];
+    spells = record {
+      file = record { spells = refl; obey = (tt, (((refl, refl), tt), tt)) };
+      fit = (tt, (((omega arith, (tt, tt)), tt), tt));
+    };
+    state = bc_state;
+    make = (
+      with_test (with_test start_one (codes "b")) (codes "c"),
+      (with_test start_one (codes "b"), (b_is_new, omega arith, refl), (c_is_new, omega arith, refl)),
+      (bc_state, record { few = omega arith; left = term_side (test (meet (prim 0) (prim 1))); right = term_side (test (prim 0)); is_left = bc_left_is; is_right = bc_right_is; numbers = (tt, (tt, (tt, (tt, (tt, (tt, (tt, (tt, tt)))))))); room = omega arith; made = refl }, refl),
+    );
+    goal = equal (term_side (test (meet (prim 0) (prim 1)))) (term_side (test (prim 0)));
+    has_goal = refl;
   };
   file = refl;
 }
@@ -388,45 +388,45 @@ pb_stated = record { limit = (start_one).limit; world = pb_scope; tests = 1; act
 pb_says : Reads pb_text (file_of pb_state (triple (named 0) (term_side (star_term (act 0))) (negation (named 0))))
 pb_says = record {
   says = record {
-  parts_of_tokens = parts_from 0 pb_pieces;
-  lexes = printed pb_pieces pb_separate (omega arith);
-  items =
-      record { keyword = leaf 0 (codes "action"); body = actions (one_name (leaf 7 (codes "p"))) (leaf 8 (codes ";")) }
-      ∷ record { keyword = leaf 10 (codes "test"); body = tests (one_name (leaf 15 (codes "b"))) (leaf 16 (codes ";")) }
-      ∷ record { keyword = leaf 18 (codes "hyp"); body = hypothesis pb_hyp (leaf 26 (codes "=")) (leaf 28 (codes "0")) (leaf 29 (codes ";")) }
-      ∷ record {
-        keyword = leaf 31 (codes "goal");
-        body = goal_triple (leaf 36 (codes "triple")) (record {
-          pre = record { left = leaf 43 (codes "{"); inner = pb_pre; right = leaf 45 (codes "}") };
-          body = pb_body;
-          post = record { left = leaf 50 (codes "{"); inner = pb_post; right = leaf 53 (codes "}") };
-        }) (leaf 54 (codes ";"));
-      }
-      ∷ [];
-  spells = record {
-    file = record { spells = refl; obey = (tt, (tt, ((tt, tt), ((refl, tt, refl), tt)))) };
-    fit = (tt, (tt, ((tt, tt), ((tt, tt, (omega arith, tt)), tt))));
-  };
-  state = pb_state;
-  make = (
-    with_action start_one (codes "p"),
-    (p_is_new, omega arith, refl),
-    (
-      pb_declared,
-      (b_is_new_beside, omega arith, refl),
+    parts_of_tokens = parts_from 0 pb_pieces;
+    lexes = printed pb_pieces pb_separate (omega arith);
+    items =
+        record { keyword = leaf 0 (codes "action"); body = actions (one_name (leaf 7 (codes "p"))) (leaf 8 (codes ";")) }
+        ∷ record { keyword = leaf 10 (codes "test"); body = tests (one_name (leaf 15 (codes "b"))) (leaf 16 (codes ";")) }
+        ∷ record { keyword = leaf 18 (codes "hyp"); body = hypothesis pb_hyp (leaf 26 (codes "=")) (leaf 28 (codes "0")) (leaf 29 (codes ";")) }
+        ∷ record {
+          keyword = leaf 31 (codes "goal");
+          body = goal_triple (leaf 36 (codes "triple")) (record {
+            pre = record { left = leaf 43 (codes "{"); inner = pb_pre; right = leaf 45 (codes "}") };
+            body = pb_body;
+            post = record { left = leaf 50 (codes "{"); inner = pb_post; right = leaf 53 (codes "}") };
+          }) (leaf 54 (codes ";"));
+        }
+        ∷ [];
+    spells = record {
+      file = record { spells = refl; obey = (tt, (tt, ((tt, tt), ((refl, tt, refl), tt)))) };
+      fit = (tt, (tt, ((tt, tt), ((tt, tt, (omega arith, tt)), tt))));
+    };
+    state = pb_state;
+    make = (
+      with_action start_one (codes "p"),
+      (p_is_new, omega arith, refl),
       (
-        pb_stated,
-        record { few = omega arith; tree = product (act 0) (test (prim 0)); is_term = pb_hyp_is; room = omega arith; made = refl },
+        pb_declared,
+        (b_is_new_beside, omega arith, refl),
         (
-          pb_state,
-          record { few = omega arith; pre = named 0; body = term_side (star_term (act 0)); post = negation (named 0); is_pre = pb_pre_is; is_body = pb_body_is; is_post = pb_post_is; numbers = (tt, (tt, (tt, (tt, (tt, (tt, (tt, (tt, (tt, (tt, tt)))))))))); room = omega arith; made = refl },
-          refl,
+          pb_stated,
+          record { few = omega arith; tree = product (act 0) (test (prim 0)); is_term = pb_hyp_is; room = omega arith; made = refl },
+          (
+            pb_state,
+            record { few = omega arith; pre = named 0; body = term_side (star_term (act 0)); post = negation (named 0); is_pre = pb_pre_is; is_body = pb_body_is; is_post = pb_post_is; numbers = (tt, (tt, (tt, (tt, (tt, (tt, (tt, (tt, (tt, (tt, tt)))))))))); room = omega arith; made = refl },
+            refl,
+          ),
         ),
       ),
-    ),
-  );
-  goal = triple (named 0) (term_side (star_term (act 0))) (negation (named 0));
-  has_goal = refl;
+    );
+    goal = triple (named 0) (term_side (star_term (act 0))) (negation (named 0));
+    has_goal = refl;
   };
   file = refl;
 }

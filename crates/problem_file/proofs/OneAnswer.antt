@@ -95,8 +95,7 @@ module _ (limit : GoalLimit) (bytes : List ℕ) where
       let scanned = bind_ok (scan_file ts) (λ u. walk (start limit) ts >>= check_goal) y t in
       let walked = bind_ok (walk (start limit) ts) check_goal y scanned.2 in
       let goal = goal_told walked.0 y (slice_get (walked.0).goals 0) walked.2 in
-      let file = (files_are_scanned ts).0 scanned.1 in
-      (
+      let file = (files_are_scanned ts).0 scanned.1 in (
         record {
           parts_of_tokens = ms;
           lexes = lexes;

@@ -40,11 +40,7 @@ fn walk(alloc: Global, toks: &[Token], limit: GoalLimit) -> Result<ItemReader, T
 }
 
 // The file and the goals after its first, or the first fault of the tokens.
-fn test(
-    alloc: Global,
-    toks: &[Token],
-    limit: GoalLimit,
-) -> Result<(File, Vec<Goal>), TextFault>
+fn test(alloc: Global, toks: &[Token], limit: GoalLimit) -> Result<(File, Vec<Goal>), TextFault>
     requires tokens { AreTokens toks.now }
     ensures { Makes (Unit {0}) (λ x. (x.0, map goal_tree x.1.items)) result (tested limit (lexemes toks.now)) }
 {
@@ -52,11 +48,7 @@ fn test(
     walk(alloc, toks, limit)?.files()
 }
 
-fn read_text(
-    alloc: Global,
-    text: &str,
-    limit: GoalLimit,
-) -> Result<(File, Vec<Goal>), TextFault>
+fn read_text(alloc: Global, text: &str, limit: GoalLimit) -> Result<(File, Vec<Goal>), TextFault>
     requires within { length text.now ≤ MOST }
     ensures { AnswersFor limit text.now result }
 {
@@ -67,11 +59,7 @@ fn read_text(
     }
 }
 
-fn read_files(
-    alloc: Global,
-    bytes: &[u8],
-    limit: GoalLimit,
-) -> Result<(File, Vec<Goal>), TextFault>
+fn read_files(alloc: Global, bytes: &[u8], limit: GoalLimit) -> Result<(File, Vec<Goal>), TextFault>
     ensures { AnswersFor limit bytes.now result }
 {
     if bytes.len() > MAX_LEN {

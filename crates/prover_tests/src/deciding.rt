@@ -111,12 +111,61 @@ const ROWS: &[(&str, Answer)] = &[
     ),
 ];
 
+fn put_kept(text: &mut String, tests: usize) -> Result<(), NoMemory> {
+    for i in 1..tests {
+        write!(text, ", b{i}")?;
+    }
+    text.push_str("; action p, q; ")?;
+    for i in 0..tests {
+        write!(text, "hyp b{i}.p.!b{i} = 0; hyp !b{i}.p.b{i} = 0; ")?;
+    }
+    Ok(())
+}
+
+// A text in which the action leaves so many tests as they are.
+fn kept_tests(alloc: Global, tests: usize, goal: &str) -> Result<String, NoMemory> {
+    let mut text = String::from_str(alloc, "test b0")?;
+    put_kept(&mut text, tests)?;
+    text.push_str(goal)?;
+    Ok(text)
+}
+
+fn holds_of_kept(
+    alloc: Global,
+    store: &mut Store,
+    row: &(usize, &str, Answer),
+) -> Result<bool, TextFault> {
+    let (tests, goal, want) = *row;
+    let text = kept_tests(alloc, tests, goal)?;
+    holds(alloc, store, text.as_str(), want)
+}
+
+// Without tests there is a pair for each atom, and one more: of ten tests 1,025, of eleven more than 2,000.
+const KEPT: &[(usize, &str, Answer)] = &[
+    (
+        10,
+        "goal equal p*, p*.p*;",
+        Answer::Pairs(1_025, Style::UpTo),
+    ),
+    (11, "goal equal p*, p*.p*;", Answer::Pairs(1, Style::Under)),
+    (11, "goal equal p*, 1 + p;", Answer::Moves(2)),
+];
+
 // A store serves many problems.
 #[test]
 fn answers_are_short(rt: HostRuntime) -> Result<(), Fail> {
     let mut store = Store::new(rt.alloc());
     for (text, want) in ROWS {
         assert!(rt; holds(rt.alloc(), &mut store, text, *want)?, "on {text}");
+    }
+    Ok(())
+}
+
+#[test]
+fn many_pairs_have_tests(rt: HostRuntime) -> Result<(), Fail> {
+    let mut store = Store::new(rt.alloc());
+    for row in KEPT {
+        assert!(rt; holds_of_kept(rt.alloc(), &mut store, row)?);
     }
     Ok(())
 }

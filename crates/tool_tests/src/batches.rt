@@ -10,16 +10,12 @@ const BATCHES: &[(&str, &str)] = &[
         "1 goal 0\nkat 2 equal\nT prim 0\nE test 0\nP 0 | 0\nend\ngoal 1\nkat 1 different\nA 0\nend\n",
     ),
     (
-        "test b; goal equal b, b; goal below b, b; goal triple {b} 1 {b};",
-        "0 goal 0\nkat 2 equal\nT prim 0\nE test 0\nP 0 | 0\nend\ngoal 1\nkat 2 equal\nT prim 0\nE test 0\nE sum 0 0\nP 1 | 0\nend\ngoal 2\nkat 2 equal\n",
+        "test b; goal equal b, b; goal below b, b;",
+        "0 goal 0\nkat 2 equal\nT prim 0\nE test 0\nP 0 | 0\nend\ngoal 1\nkat 2 equal\nT prim 0\nE test 0\nE sum 0 0\nP 1 | 0\nend\n",
     ),
     (
         "test b; goal equal b, b; test c; goal equal c, b;",
         "1 goal 0\nkat 2 equal\nT prim 0\nE test 0\nP 0 | 0\nend\ngoal 1\nkat 1 different\nA 01\nend\n",
-    ),
-    (
-        "action p; goal equal p, 0; hyp p = 0;",
-        "0 goal 0\nkat 2 equal\nE act 0\nE zero\nP 0 | 1\nend\n",
     ),
     (
         "test b; goal equal b, b; rounds 2; width 8;",
@@ -54,9 +50,21 @@ fn goals_text(alloc: Global, count: usize) -> Result<Vec<u8>, NoMemory> {
 #[test]
 fn the_goal_behind_64_is_refused(rt: HostRuntime) -> Result<(), Fail> {
     let text = goals_text(rt.alloc(), 65)?;
-    let is_refused = replies(rt.alloc(), "batch f", &text, b"", "2 refused: TooMany 1096\n")?;
+    let is_refused = replies(
+        rt.alloc(),
+        "batch f",
+        &text,
+        b"",
+        "2 refused: TooMany 1096\n",
+    )?;
     assert!(rt; is_refused);
-    let is_second = replies(rt.alloc(), "decide f", &text, b"", "2 refused: TwoGoals 25\n")?;
+    let is_second = replies(
+        rt.alloc(),
+        "decide f",
+        &text,
+        b"",
+        "2 refused: TwoGoals 25\n",
+    )?;
     assert!(rt; is_second);
     Ok(())
 }
@@ -74,7 +82,13 @@ fn wide_text(alloc: Global) -> Result<Vec<u8>, NoMemory> {
 #[test]
 fn a_refused_goal_is_told_alone(rt: HostRuntime) -> Result<(), Fail> {
     let text = wide_text(rt.alloc())?;
-    let is_refused = replies(rt.alloc(), "batch f", &text, b"", "2 refused: TooManyTests\n")?;
+    let is_refused = replies(
+        rt.alloc(),
+        "batch f",
+        &text,
+        b"",
+        "2 refused: TooManyTests\n",
+    )?;
     assert!(rt; is_refused);
     Ok(())
 }

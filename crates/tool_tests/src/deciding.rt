@@ -22,14 +22,19 @@ const EQUAL: &[&str] = &[
     ORDINARY_USE,
 ];
 
-fn is_equal(told: &[u8]) -> bool {
-    told.starts_with(b"0 kat 2 equal\n") && told.ends_with(b"end\n")
+// How a reply with a certificate begins, without tests and under tests.
+const UP_TO: &str = "0 kat 2 equal\n";
+
+const UNDER: &str = "0 kat 1 equal under\n";
+
+fn is_equal(told: &[u8], head: &str) -> bool {
+    told.starts_with(head.as_bytes()) && told.ends_with(b"end\n")
 }
 
-// Whether `decide` tells of a certificate, and `check` accepts it.
-fn holds(alloc: Global, text: &str) -> Result<bool, NoMemory> {
+// Whether `decide` tells of a certificate that begins so, and `check` accepts it.
+fn holds(alloc: Global, text: &str, head: &str) -> Result<bool, NoMemory> {
     let told = reply(alloc, "decide f", text.as_bytes(), b"")?;
-    if !is_equal(&told) {
+    if !is_equal(&told, head) {
         return Ok(false);
     }
     let evidence = evidence_in(&told);
@@ -67,15 +72,40 @@ fn forty_tests(alloc: Global) -> Result<String, NoMemory> {
 
 fn forty_tests_are_equal(alloc: Global) -> Result<bool, NoMemory> {
     let text = forty_tests(alloc)?;
-    holds(alloc, text.as_str())
+    holds(alloc, text.as_str(), UP_TO)
+}
+
+fn put_kept(text: &mut String) -> Result<(), NoMemory> {
+    for i in 1..11 {
+        write!(text, ", t{i}")?;
+    }
+    text.push_str("; action p, q; ")?;
+    for i in 0..11 {
+        write!(text, "hyp t{i}.p.!t{i} = 0; hyp !t{i}.p.t{i} = 0; ")?;
+    }
+    text.push_str("goal equal p*, p*.p*;")?;
+    Ok(())
+}
+
+// Eleven tests that the action leaves as they are. Without tests there would be a pair for each atom.
+fn kept_tests(alloc: Global) -> Result<String, NoMemory> {
+    let mut text = String::from_str(alloc, "test t0")?;
+    put_kept(&mut text)?;
+    Ok(text)
+}
+
+fn kept_tests_are_equal(alloc: Global) -> Result<bool, NoMemory> {
+    let text = kept_tests(alloc)?;
+    holds(alloc, text.as_str(), UNDER)
 }
 
 #[test]
 fn what_holds_is_decided(rt: HostRuntime) -> Result<(), Fail> {
     for text in EQUAL {
-        assert!(rt; holds(rt.alloc(), text)?, "on {text}");
+        assert!(rt; holds(rt.alloc(), text, UP_TO)?, "on {text}");
     }
     assert!(rt; forty_tests_are_equal(rt.alloc())?);
+    assert!(rt; kept_tests_are_equal(rt.alloc())?);
     Ok(())
 }
 

@@ -14,11 +14,11 @@ use Rattle.bisim_worklist.specs.Walks.{Entry, IsWalk}
 use Rattle.bisim_worklist.specs.Working.Visits.{IsVisited}
 use Rattle.term_nodes.specs.NumberSets.{terms_of}
 use Rattle.bisim_worklist.specs.Working.Listings.{entries_of, AreIdSets}
-use Rattle.bisim_worklist.specs.Working.Marks.{RuleParts}
-use Rattle.bisim_worklist.specs.Working.Items.{chosen}
+use Rattle.bisim_worklist.specs.Working.Marks.{RuleParts, IsWithinLimit}
+use Rattle.stored_pairs.specs.Items.{chosen}
 use Rattle.bisim_worklist.specs.Working.Cases.{Extends}
-use Rattle.bisim_worklist.specs.declared.items.Item.{Item}
-use Rattle.bisim_worklist.specs.declared.items.Side.TheVariants.{Left, Right}
+use Rattle.stored_pairs.specs.declared.items.Item.{Item}
+use Rattle.stored_pairs.specs.declared.items.Side.TheVariants.{Left, Right}
 use Rattle.bisim_worklist.specs.declared.branching.Stride.{Stride}
 
 -- the rules are the pairs of a walk, by ids of the store, that has processed the first so many
@@ -28,6 +28,7 @@ pub record AreRulesOf (q : ProblemParts) (store : NodeParts) (r : RuleParts) (do
   pub sets : AreIdSets store q.tests r.pairs
   pub universal : option_map (tree_at store) r.universal ≡ (closed q).universal
   pub universal_id : (u : ℕ) → r.universal ≡ Some u → IsTermOf store q.tests u
+  pub few : IsWithinLimit r.limit (length r.pairs)
   pub walk : IsWalk q (entries_of store r.pairs) done
 
 -- at the atoms of a case the items have the next sets of the pair by the action
@@ -51,3 +52,23 @@ Visits d stride decided items old new =
     → slice_get (entries_of store old.pairs) stride.place ≡ Some from
     → StandFor q store d items from.pair stride.act decided
     → AreVisited q store stride from.pair decided old new
+
+-- a walk has more pairs than may be listed
+pub record IsPastLimit (q : ProblemParts) (limit : Option ℕ) : Type 0 where
+  pub most : ℕ
+  pub limited : limit ≡ Some most
+  pub entries : List Entry
+  pub done : ℕ
+  pub walk : IsWalk q entries done
+  pub many : most < length entries
+
+-- so it is, whatever the question and the store are
+abbrev pub PassesLimit : DiagramsParts → Stride → List (Option Bool) → List Item → RuleParts → Type 0
+PassesLimit d stride decided items old =
+    (q : ProblemParts) (store : NodeParts) (from : Entry)
+    → d.tests ≡ q.tests
+    → stride.act < q.actions
+    → AreRulesOf q store old stride.place
+    → slice_get (entries_of store old.pairs) stride.place ≡ Some from
+    → StandFor q store d items from.pair stride.act decided
+    → IsPastLimit q old.limit

@@ -1,11 +1,12 @@
 -- The pairs of a walk as the program keeps them, by the ids of their terms.
-use Rattle.std.specs.Prelude.{◌≡◌, ◌<◌, ℕ, List, [], ◌∷◌, map, slice_get, Option, Some, None, IsTrue}
+use Rattle.std.specs.Prelude.{◌≡◌, ◌<◌, ℕ, List, [], ◌∷◌, map, slice_get, Option, Some, None}
 use Rattle.kat_model.specs.Members.{Has}
 use Rattle.kat_model.specs.Pairs.{SetPair}
-use Rattle.term_nodes.specs.NumberSets.{are_ascending, terms_of}
+use Rattle.term_nodes.specs.NumberSets.{terms_of}
 use Rattle.term_nodes.specs.NodeLists.{NodeParts}
-use Rattle.partial_derivs.specs.Moves.{IsTermOf}
+use Rattle.certificate.specs.PairParts.{PairParts}
 use Rattle.bisim_worklist.specs.Walks.{Origin, Entry}
+use Rattle.stored_pairs.specs.IdSets.{IsIdSet}
 
 pub record IdEntry : Type 0 where
   pub left : List ℕ
@@ -20,11 +21,6 @@ entry_of store e = record { pair = pair_of store e; origin = e.origin }
 
 abbrev pub entries_of : NodeParts → List IdEntry → List Entry
 entries_of store es = map (entry_of store) es
-
--- the list is a set of ids of terms whose tests are below n, in ascending order
-pub record IsIdSet (store : NodeParts) (n : ℕ) (ids : List ℕ) : Type 0 where
-  pub there : (i : ℕ) → Has ids i → IsTermOf store n i
-  pub ascending : IsTrue (are_ascending ids)
 
 -- both sets of each pair are such sets
 abbrev pub AreIdSets : NodeParts → ℕ → List IdEntry → Type 0
@@ -50,3 +46,7 @@ origin_of es k = origin_in (slice_get es k)
 abbrev pub LeadsBack : List IdEntry → ℕ → List Origin → Type 0
 LeadsBack es k [] = k ≡ 0
 LeadsBack es k (o ∷ os) = (origin_of es k ≡ Some o) × LeadsBack es o.place os
+
+-- the pair of a certificate without tests
+abbrev pub untested_of : IdEntry → PairParts
+untested_of e = record { left = e.left; right = e.right; test = None }

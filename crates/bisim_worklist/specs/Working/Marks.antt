@@ -1,5 +1,5 @@
 -- Sets of terms as marks, one for each id of a store, and their saturation by pairs of sets of ids.
-use Rattle.std.specs.Prelude.{zero, suc, ℕ, Bool, true, false, ◌||◌, if◌then◌else◌, List, [], ◌∷◌, length, slice_index_or, slice_set, replicate, Option}
+use Rattle.std.specs.Prelude.{◌≤◌, zero, suc, ℕ, Bool, true, false, nat_le, ◌||◌, if◌then◌else◌, List, [], ◌∷◌, length, slice_index_or, slice_set, replicate, Option, Some, None}
 use Rattle.std.specs.Option.{option_map_or}
 use Rattle.std.specs.List.{list_all}
 use Rattle.kat_model.specs.Members.{Has, IsSubset}
@@ -35,12 +35,23 @@ saturated_marks n es ids = rounds_marked (length es) es (with_marks (replicate n
 abbrev pub are_reached : Option ℕ → List ℕ → List Bool → Bool
 are_reached universal targets marks = option_map_or (λ u. slice_index_or marks u false) universal false || are_marked marks targets
 
--- the listed pairs, which are rules of congruence, the universal term, and how many ids there are
+-- the listed pairs, which are rules of congruence, the universal term, how many ids there are, and how many pairs may be
+-- listed, where there is a limit
 pub record RuleParts : Type 0 where
   pub pairs : List IdEntry
   pub members : List ℕ
   pub universal : Option ℕ
   pub count : ℕ
+  pub limit : Option ℕ
+
+-- whether no more pairs may be listed
+abbrev pub is_full : RuleParts → Bool
+is_full r = option_map_or (λ m. nat_le m (length r.pairs)) r.limit false
+
+-- so many pairs may be listed
+abbrev pub IsWithinLimit : Option ℕ → ℕ → Type 0
+IsWithinLimit None n = Unit {0}
+IsWithinLimit (Some m) n = n ≤ m
 
 -- the members are those of the sets of the pairs
 abbrev pub AreMembers : RuleParts → Type 0

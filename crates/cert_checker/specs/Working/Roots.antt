@@ -1,5 +1,5 @@
 -- The terms of a problem on which the pairs rest, by their numbers.
-use Rattle.std.specs.Prelude.{◌≡◌, ℕ, min, IsTrue, List, [], length, Option, Some, None}
+use Rattle.std.specs.Prelude.{◌≡◌, ℕ, IsTrue, List, [], length, Option, Some, None}
 use Rattle.std.specs.Option.{option_map}
 use Rattle.kat_model.specs.Trees.{Term}
 use Rattle.kat_model.specs.Problems.{ProblemParts, HasTestsBelow}
@@ -10,11 +10,6 @@ use Rattle.certificate.specs.declared.nodes.Style.{Style}
 use Rattle.certificate.specs.declared.nodes.Style.TheVariants.{Plain, UpTo, Under}
 use Rattle.cert_checker.specs.declared.roots.Roots.{Roots}
 use Rattle.cert_checker.specs.Working.NodeTables.{TableParts, IsTerm, term_at, nodes_in}
-
--- a degree, where 2 stands for any that is higher and for none
-abbrev pub capped : Option ℕ → ℕ
-capped None = 2
-capped (Some n) = min n 2
 
 -- the closed sides that a style compares: in the style of tests those of the long hypotheses
 abbrev pub compared : Style → ProblemParts → Closed

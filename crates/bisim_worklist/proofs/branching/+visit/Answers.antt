@@ -1,11 +1,12 @@
-use Rattle.std.proofs.Common.{◌<◌, true, false, sym, ap, ◌∙◌, subst, arith}
+use Rattle.std.proofs.Common.{◌<◌, true, false, sym, ap, ◌∙◌, subst, arith, Err}
 use Rattle.std.proofs.lemmas.Result.{on_ok_weaker}
 use Rattle.test_diagrams.proofs.Kept.{KeepsFunctions-itself, KeepsFunctions-trans}
 use Rattle.bisim_worklist.specs.Working.Cases.{IsNextTest, IsOpen, open_count}
 use Rattle.bisim_worklist.specs.Working.Covers.{covers}
 use Rattle.bisim_worklist.specs.Working.IdWalks.{Visits}
+use Rattle.bisim_worklist.proofs.PassedOn.{passed_on}
 use Rattle.bisim_worklist.proofs.Leaves.{visits_covered}
-use Rattle.bisim_worklist.proofs.Splits.{next_open, case_kept, first_carries, second_carries, visits_both, fewer_part}
+use Rattle.bisim_worklist.proofs.Splits.{Carries, next_open, case_kept, first_carries, second_carries, visits_both, passes_first, passes_second, fewer_part}
 use Rattle.bisim_worklist.proofs.branching.+visit.Goals as goal
 
 pub returns-then-branch-clause-visited : goal.returns-then-branch-clause-visited
@@ -88,3 +89,35 @@ returns-clause-visited t c =
 pub returns-clause-kept : goal.returns-clause-kept
 returns-clause-kept t c =
     KeepsFunctions-trans c.args.diagrams.now c.visit-2.new.diagrams c.visit-3.new.diagrams (KeepsFunctions-trans c.args.diagrams.now c.case_with-2.new.diagrams c.visit-2.new.diagrams (KeepsFunctions-trans c.args.diagrams.now c.case_with.new.diagrams c.case_with-2.new.diagrams c.in_ok-low.ensures.kept c.in_ok-high.ensures.kept) c.in_ok-visit-2.ensures.kept) c.visit-3.ensures.kept
+
+pub returns-in_err-visit-clause-full : goal.returns-in_err-visit-clause-full
+returns-in_err-visit-clause-full t c = λ is.
+    let undecided : IsOpen c.args.case.now.decided.items c.in-Some.test = next_open c.args.diagrams.now c.args.case.now.decided.items c.args.case.now.items.items c.in-Some.test c.requires.case (subst (λ is. IsNextTest c.args.diagrams.now is c.in-Some.test) c.deref.ensures.value c.in-Some.ensures) in
+    passes_first c.args.diagrams.now c.case_with-2.new.diagrams c.args.stride.now c.args.case.now.decided.items c.in_ok-high.high.decided.items c.args.case.now.items.items c.in_ok-high.high.items.items c.args.rules.now (KeepsFunctions-trans c.args.diagrams.now c.case_with.new.diagrams c.case_with-2.new.diagrams c.in_ok-low.ensures.kept c.in_ok-high.ensures.kept).tests
+    (subst (Carries c.args.diagrams.now c.args.case.now.items.items c.args.case.now.decided.items c.case_with-2.new.diagrams c.in_ok-high.high.items.items) (sym c.in_ok-high.ensures.decided) (second_carries c.args.diagrams.now c.case_with.new.diagrams c.case_with-2.new.diagrams c.case_with-2.new.diagrams c.args.case.now.items.items c.in_ok-high.high.items.items c.args.case.now.decided.items c.in-Some.test true c.requires.case.are c.in_ok-low.ensures.kept c.in_ok-high.ensures.items undecided c.in_ok-high.ensures.kept (KeepsFunctions-itself c.case_with-2.new.diagrams)))
+    (c.in_err-visit.ensures.full (ap Err (passed_on c.from_residual-in_err-visit.result c.in_err-visit.field-0.0 c.from_residual-in_err-visit.ensures.1 is)))
+
+pub returns-then-is_lighter-clause-full : goal.returns-then-is_lighter-clause-full
+returns-then-is_lighter-clause-full t c = λ is.
+    let undecided : IsOpen c.args.case.now.decided.items c.in-Some.test = next_open c.args.diagrams.now c.args.case.now.decided.items c.args.case.now.items.items c.in-Some.test c.requires.case (subst (λ is. IsNextTest c.args.diagrams.now is c.in-Some.test) c.deref.ensures.value c.in-Some.ensures) in
+    passes_second c.args.diagrams.now c.case_with-2.new.diagrams c.visit.new.diagrams c.args.stride.now c.args.case.now.decided.items c.in_ok-high.high.decided.items c.in_ok-low.low.decided.items c.args.case.now.items.items c.in_ok-high.high.items.items c.in_ok-low.low.items.items c.args.rules.now c.visit.new.rules (KeepsFunctions-trans c.args.diagrams.now c.case_with.new.diagrams c.case_with-2.new.diagrams c.in_ok-low.ensures.kept c.in_ok-high.ensures.kept).tests (KeepsFunctions-trans c.args.diagrams.now c.case_with-2.new.diagrams c.visit.new.diagrams (KeepsFunctions-trans c.args.diagrams.now c.case_with.new.diagrams c.case_with-2.new.diagrams c.in_ok-low.ensures.kept c.in_ok-high.ensures.kept) c.in_ok-visit.ensures.kept).tests
+    (subst (Carries c.args.diagrams.now c.args.case.now.items.items c.args.case.now.decided.items c.case_with-2.new.diagrams c.in_ok-high.high.items.items) (sym c.in_ok-high.ensures.decided) (second_carries c.args.diagrams.now c.case_with.new.diagrams c.case_with-2.new.diagrams c.case_with-2.new.diagrams c.args.case.now.items.items c.in_ok-high.high.items.items c.args.case.now.decided.items c.in-Some.test true c.requires.case.are c.in_ok-low.ensures.kept c.in_ok-high.ensures.items undecided c.in_ok-high.ensures.kept (KeepsFunctions-itself c.case_with-2.new.diagrams)))
+    (subst (Carries c.args.diagrams.now c.args.case.now.items.items c.args.case.now.decided.items c.visit.new.diagrams c.in_ok-low.low.items.items) (sym c.in_ok-low.ensures.decided) (first_carries c.args.diagrams.now c.case_with.new.diagrams c.visit.new.diagrams c.args.case.now.items.items c.in_ok-low.low.items.items c.args.case.now.decided.items c.in-Some.test false c.in_ok-low.ensures.items undecided c.in_ok-low.ensures.kept (KeepsFunctions-trans c.case_with.new.diagrams c.case_with-2.new.diagrams c.visit.new.diagrams c.in_ok-high.ensures.kept c.in_ok-visit.ensures.kept)))
+    c.in_ok-visit.ensures.visited c.visit.ensures.limit
+    (c.visit-then-is_lighter.ensures.full is)
+
+pub returns-in_err-visit-2-clause-full : goal.returns-in_err-visit-2-clause-full
+returns-in_err-visit-2-clause-full t c = λ is.
+    let undecided : IsOpen c.args.case.now.decided.items c.in-Some.test = next_open c.args.diagrams.now c.args.case.now.decided.items c.args.case.now.items.items c.in-Some.test c.requires.case (subst (λ is. IsNextTest c.args.diagrams.now is c.in-Some.test) c.deref.ensures.value c.in-Some.ensures) in
+    passes_first c.args.diagrams.now c.case_with-2.new.diagrams c.args.stride.now c.args.case.now.decided.items c.in_ok-low.low.decided.items c.args.case.now.items.items c.in_ok-low.low.items.items c.args.rules.now (KeepsFunctions-trans c.args.diagrams.now c.case_with.new.diagrams c.case_with-2.new.diagrams c.in_ok-low.ensures.kept c.in_ok-high.ensures.kept).tests
+    (subst (Carries c.args.diagrams.now c.args.case.now.items.items c.args.case.now.decided.items c.case_with-2.new.diagrams c.in_ok-low.low.items.items) (sym c.in_ok-low.ensures.decided) (first_carries c.args.diagrams.now c.case_with.new.diagrams c.case_with-2.new.diagrams c.args.case.now.items.items c.in_ok-low.low.items.items c.args.case.now.decided.items c.in-Some.test false c.in_ok-low.ensures.items undecided c.in_ok-low.ensures.kept c.in_ok-high.ensures.kept))
+    (c.in_err-visit-2.ensures.full (ap Err (passed_on c.from_residual-in_err-visit-2.result c.in_err-visit-2.field-0.0 c.from_residual-in_err-visit-2.ensures.1 is)))
+
+pub returns-clause-full : goal.returns-clause-full
+returns-clause-full t c = λ is.
+    let undecided : IsOpen c.args.case.now.decided.items c.in-Some.test = next_open c.args.diagrams.now c.args.case.now.decided.items c.args.case.now.items.items c.in-Some.test c.requires.case (subst (λ is. IsNextTest c.args.diagrams.now is c.in-Some.test) c.deref.ensures.value c.in-Some.ensures) in
+    passes_second c.args.diagrams.now c.case_with-2.new.diagrams c.visit-2.new.diagrams c.args.stride.now c.args.case.now.decided.items c.in_ok-low.low.decided.items c.in_ok-high.high.decided.items c.args.case.now.items.items c.in_ok-low.low.items.items c.in_ok-high.high.items.items c.args.rules.now c.visit-2.new.rules (KeepsFunctions-trans c.args.diagrams.now c.case_with.new.diagrams c.case_with-2.new.diagrams c.in_ok-low.ensures.kept c.in_ok-high.ensures.kept).tests (KeepsFunctions-trans c.args.diagrams.now c.case_with-2.new.diagrams c.visit-2.new.diagrams (KeepsFunctions-trans c.args.diagrams.now c.case_with.new.diagrams c.case_with-2.new.diagrams c.in_ok-low.ensures.kept c.in_ok-high.ensures.kept) c.in_ok-visit-2.ensures.kept).tests
+    (subst (Carries c.args.diagrams.now c.args.case.now.items.items c.args.case.now.decided.items c.case_with-2.new.diagrams c.in_ok-low.low.items.items) (sym c.in_ok-low.ensures.decided) (first_carries c.args.diagrams.now c.case_with.new.diagrams c.case_with-2.new.diagrams c.args.case.now.items.items c.in_ok-low.low.items.items c.args.case.now.decided.items c.in-Some.test false c.in_ok-low.ensures.items undecided c.in_ok-low.ensures.kept c.in_ok-high.ensures.kept))
+    (subst (Carries c.args.diagrams.now c.args.case.now.items.items c.args.case.now.decided.items c.visit-2.new.diagrams c.in_ok-high.high.items.items) (sym c.in_ok-high.ensures.decided) (second_carries c.args.diagrams.now c.case_with.new.diagrams c.case_with-2.new.diagrams c.visit-2.new.diagrams c.args.case.now.items.items c.in_ok-high.high.items.items c.args.case.now.decided.items c.in-Some.test true c.requires.case.are c.in_ok-low.ensures.kept c.in_ok-high.ensures.items undecided c.in_ok-high.ensures.kept c.in_ok-visit-2.ensures.kept))
+    c.in_ok-visit-2.ensures.visited c.visit-2.ensures.limit
+    (c.visit-3.ensures.full is)

@@ -1,6 +1,6 @@
 use Rattle.std.proofs.Common.{rules, ◌≡◌, ℕ, None, replicate, ap, ◌∙◌, subst}
 use Rattle.std.proofs.lemmas.Result.{on_ok_weaker}
-use Rattle.bisim_worklist.specs.Working.IdWalks.{Visits}
+use Rattle.bisim_worklist.specs.Working.IdWalks.{Visits, PassesLimit}
 use Rattle.bisim_worklist.proofs.Splits.{whole_case}
 use Rattle.bisim_worklist.proofs.branching.visit_all.Goals as goal
 
@@ -15,3 +15,8 @@ returns-clause-visited c =
     on_ok_weaker c.visit.result
     (λ visited. subst (λ ds. Visits c.args.diagrams.now c.args.stride.now ds c.args.items.items c.args.rules.now c.visit.new.rules) all visited)
     c.visit.ensures.visited
+
+pub returns-clause-full : goal.returns-clause-full
+returns-clause-full c = λ is.
+    let all : c.in_ok-decided.decided.items ≡ replicate c.args.diagrams.now.tests None = c.in_ok-decided.ensures.items_if_clones_equal (λ y e. search rules) ∙ ap (λ (n : ℕ). replicate n None) c.tests.ensures.tests in
+    subst (λ ds. PassesLimit c.args.diagrams.now c.args.stride.now ds c.args.items.items c.args.rules.now) all (c.visit.ensures.full is)

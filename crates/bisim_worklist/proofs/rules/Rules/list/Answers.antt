@@ -1,7 +1,7 @@
 use Rattle.std.proofs.Common.{◌≡◌, subst, sym, ap, ◌∙◌}
 use Rattle.bisim_worklist.specs.Working.Listings.{IdEntry}
-use Rattle.bisim_worklist.specs.Working.Needed.{AddsAll}
-use Rattle.bisim_worklist.proofs.KeySets.{AreWithin, within_one}
+use Rattle.stored_pairs.specs.Needed.{AddsAll}
+use Rattle.bisim_worklist.proofs.Memberships.{AreWithin, within_one}
 use Rattle.bisim_worklist.proofs.rules.Rules.list.Goals as goal
 
 pub invariant_of-self-2 : goal.invariant_of-self-2

@@ -8,5 +8,6 @@ abbrev pub invariant-loop-act : goal.invariant-loop-act
 invariant-loop-act l = record {
   kept : KeepsFunctions l.initial.self.diagrams l.self.diagrams;
   same : l.self.derivatives ≡ l.initial.self.derivatives;
+  limit : l.self.rules.limit ≡ l.initial.self.rules.limit;
   stepped : StepsBy l.actions l.initial.self l.self.rules l.place l.steps (take l.act-index l.act-items);
 }

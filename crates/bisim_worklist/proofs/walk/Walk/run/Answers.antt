@@ -1,6 +1,8 @@
-use Rattle.std.proofs.Common.{◌≤◌, ◌<◌, length, subst}
+use Rattle.std.proofs.Common.{◌≤◌, ◌<◌, length, Err, ap, subst}
 use borrow.Author.Count.{falls}
+use Rattle.bisim_worklist.specs.Working.IdWalks.{IsPastLimit}
 use Rattle.certificate.specs.Decisions.{pair_limit}
+use Rattle.bisim_worklist.proofs.PassedOn.{passed_on}
 use Rattle.bisim_worklist.proofs.UnderWay.{place_limit, all_taken}
 use Rattle.bisim_worklist.proofs.walk.Walk.run.Goals as goal
 
@@ -14,3 +16,7 @@ pub returns-clause-answer : goal.returns-clause-answer
 returns-clause-answer c =
     all_taken c.args.problem.now c.loop-place.store c.loop-place.self c.loop-place.place c.loop-place.invariant.under_way
     (subst (λ ps. length ps ≤ c.loop-place.place) c.pairs.ensures.value c.loop-place-test.false)
+
+pub returns-in_err-atom-clause-full : goal.returns-in_err-atom-clause-full
+returns-in_err-atom-clause-full c = λ is.
+    subst (IsPastLimit c.args.problem.now) c.loop-place.invariant.limit (c.in_err-atom.ensures.full (ap Err (passed_on c.from_residual.result c.in_err-atom.field-0.0 c.from_residual.ensures.1 is)) c.args.problem.now c.actions.ensures.value c.loop-place.invariant.under_way)

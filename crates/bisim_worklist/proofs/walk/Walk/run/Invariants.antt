@@ -1,4 +1,4 @@
-use Rattle.std.proofs.Common.{◌-◌}
+use Rattle.std.proofs.Common.{◌≡◌, ◌-◌}
 use Rattle.term_nodes.specs.Growth.{Grows}
 use Rattle.certificate.specs.Decisions.{pair_limit}
 use Rattle.bisim_worklist.specs.Working.Walking.{IsUnderWay}
@@ -8,6 +8,7 @@ abbrev pub invariant-loop-place : goal.invariant-loop-place
 invariant-loop-place l = record {
   under_way : IsUnderWay l.problem l.store l.self l.place;
   kept : Grows l.initial.store l.store;
+  limit : l.self.rules.limit ≡ l.initial.self.rules.limit;
 }
 
 -- there are not many pairs

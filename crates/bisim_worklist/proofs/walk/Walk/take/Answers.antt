@@ -1,6 +1,8 @@
-use Rattle.std.proofs.Common.{◌≡◌, slice_get, Some, ap, ◌∙◌}
+use Rattle.std.proofs.Common.{◌≡◌, slice_get, Some, ap, ◌∙◌, subst, Err}
 use Rattle.bisim_worklist.specs.Working.Marks.{RuleParts}
+use Rattle.bisim_worklist.specs.Working.IdWalks.{IsPastLimit}
 use Rattle.kat_model.proofs.Places.{element_at}
+use Rattle.bisim_worklist.proofs.PassedOn.{passed_on}
 use Rattle.bisim_worklist.proofs.UnderWay.{under_way_more, step_ids_more, steps_at_more, alike, apart, taken}
 use Rattle.bisim_worklist.proofs.walk.Walk.take.Goals as goal
 
@@ -50,3 +52,16 @@ returns-clause-taken c = λ q acts under_way.
     taken q c.steps_at.new.store c.expand.new.self c.args.place e.0 expanded.0 expanded.2
     (alike q c.steps_at.new.store c.steps_at.new.self e.0 c.in_ok-steps.steps stepped.0.tests stepped.1 same)
     expanded.1
+
+pub returns-in_err-expand-clause-full : goal.returns-in_err-expand-clause-full
+returns-in_err-expand-clause-full c = λ is q acts under_way.
+    let e = element_at c.args.self.now.rules.pairs c.args.place c.requires.place in
+    let stepped = c.in_ok-steps.ensures.steps q e.0 under_way e.1 in
+    let here : slice_get c.difference.new.self.rules.pairs c.args.place ≡ Some e.0 =
+    ap (λ (r : RuleParts). slice_get r.pairs c.args.place) c.in_ok-atom.ensures.rules ∙ ap (λ ps. slice_get ps c.args.place) c.in_ok-steps.ensures.pairs ∙ e.1 in
+    let limit : c.difference.new.self.rules.limit ≡ c.args.self.now.rules.limit = ap (λ (r : RuleParts). r.limit) c.in_ok-atom.ensures.rules ∙ c.in_ok-steps.ensures.limit in
+    subst (IsPastLimit q) limit
+    (c.in_err-expand.ensures.full (ap Err (passed_on c.from_residual-in_err-expand.result c.in_err-expand.field-0.0 c.from_residual-in_err-expand.ensures.1 is)) q c.steps_at.new.store e.0 acts
+    (under_way_more q c.steps_at.new.store c.args.place c.steps_at.new.self c.difference.new.self c.in_ok-atom.ensures.kept c.in_ok-atom.ensures.rules c.in_ok-atom.ensures.derivatives stepped.0)
+    here
+    (steps_at_more c.steps_at.new.store c.steps_at.new.self c.difference.new.self c.in_ok-atom.ensures.kept c.in_ok-steps.steps e.0 stepped.1))

@@ -1,0 +1,31 @@
+//! Why a walk stops before its end.
+ghost use Rattle.std.specs.Prelude.{◌≡◌};
+ghost use Rattle.bisim_worklist.specs.declared.halt.Halt.TheVariants.{NoMemory as NoRoom};
+
+use kat_model::NoMemory;
+use std::alloc::AllocError;
+
+/// Why a walk stops before its end.
+#[derive(Clone, Copy, Debug, PartialEq, Eq)]
+pub(crate) enum Halt {
+    /// Memory is short.
+    NoMemory,
+    /// One pair more is needed than may be listed.
+    PairLimit,
+}
+
+impl From<NoMemory> for Halt {
+    ghost from_gives = { λ _ halt. halt ≡ NoRoom };
+
+    fn from(_: NoMemory) -> Self {
+        Halt::NoMemory
+    }
+}
+
+impl From<AllocError> for Halt {
+    ghost from_gives = { λ _ halt. halt ≡ NoRoom };
+
+    fn from(_: AllocError) -> Self {
+        Halt::NoMemory
+    }
+}

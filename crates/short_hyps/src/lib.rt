@@ -1,0 +1,6 @@
+//! The short hypotheses of a problem, those that speak of single atoms and single moves, and the long ones.
+#![tactic(auto)]
+
+mod hyps;
+
+pub use hyps::{has_short, is_short, long_problem};

@@ -1,0 +1,19 @@
+//! What walks over pairs of sets of terms of a store have in common: the moves of both sets side by side, atoms at which
+//! diagrams are true, and the certificate of listed pairs.
+#![tactic(auto)]
+
+mod cert;
+mod closed;
+mod items;
+mod needed;
+mod order;
+mod outputs;
+mod pair;
+
+pub use cert::cert_of;
+pub use closed::{ClosedIds, closed_ids};
+pub use items::{Ends, Item, Side, ends_of, guard_across, guard_on, items_of};
+pub use needed::add_all;
+pub use order::actions_in_order;
+pub use outputs::{and_not, differing_atom, true_atom};
+pub use pair::StoredPair;

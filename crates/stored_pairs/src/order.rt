@@ -1,0 +1,48 @@
+//! The order in which the actions of a pair are taken: those with fewer moves first, since pairs of small sets
+//! make pairs of larger sets congruent, and not the other way round.
+ghost use Rattle.std.specs.Prelude.{◌≡◌, ◌<◌, ◌↔◌, ℕ, IfOk, map};
+ghost use Rattle.kat_model.specs.Members.{Has};
+
+use kat_model::NoMemory;
+use partial_derivs::Guarded;
+use std::alloc::Global;
+
+// How many of the moves have the action.
+fn count_of(moves: &[Guarded], act: usize) -> usize {
+    moves.iter().filter(|guarded| guarded.act == act).count()
+}
+
+// Each action below the count, after the number of its moves.
+fn action_counts(
+    alloc: Global,
+    left: &[Guarded],
+    right: &[Guarded],
+    actions: usize,
+) -> Result<Vec<(usize, usize)>, NoMemory>
+    ensures { IfOk result (λ v. (a : ℕ) → Has (map (λ p. p.1) v.items) a ↔ (a < actions)) }
+{
+    let mut list = Vec::new(alloc);
+    for act in 0..actions {
+        let count = count_of(left, act).saturating_add(count_of(right, act));
+        list.push((count, act))?;
+    }
+    Ok(list)
+}
+
+/// The actions below the count, those with fewer moves first.
+pub fn actions_in_order(
+    alloc: Global,
+    left: &[Guarded],
+    right: &[Guarded],
+    actions: usize,
+) -> Result<Vec<usize>, NoMemory>
+    ensures { IfOk result (λ v. (a : ℕ) → Has v.items a ↔ (a < actions)) }
+{
+    let mut order = action_counts(alloc, left, right, actions)?;
+    order.sort()?;
+    let mut acts = Vec::new(alloc);
+    for (_, act) in &order {
+        acts.push(*act)?;
+    }
+    Ok(acts)
+}

@@ -1,0 +1,12 @@
+-- What a walk under tests answers to a question.
+use Rattle.kat_model.specs.Problems.{ProblemParts}
+use Rattle.kat_model.specs.Relations.{Same}
+use Rattle.certificate.specs.declared.evidence.Evidence.{Evidence}
+use Rattle.certificate.specs.declared.evidence.Evidence.TheVariants.{Equal, Different}
+use Rattle.certificate.specs.UnderTests.{IsConciseUnder}
+use Rattle.certificate.specs.Decisions.{IsShortest}
+
+-- a concise certificate of pairs under tests, or a shortest string that refutes
+abbrev pub IsDecisionUnder : ProblemParts → Evidence → Type 0
+IsDecisionUnder q (Equal c) = Same q × IsConciseUnder q c
+IsDecisionUnder q (Different x) = (Same q → ⊥) × IsShortest q x

@@ -1,0 +1,5 @@
+pub mod TestedWalks
+pub mod MergedPairs
+pub mod Decisions
+pub mod Laws
+pub mod Working

@@ -1,0 +1,10 @@
+pub mod Bars
+pub mod Asking
+pub mod Allowance
+pub mod Entries
+pub mod Reaching
+pub mod Parts
+pub mod Listings
+pub mod Walking
+pub mod StoredTests
+pub mod Merging
