@@ -40,7 +40,7 @@ fn file_problem(file: File) -> Option<Problem> {
     problem_of(file.tests, file.actions, file.hyps, sides(file.goal))
 }
 
-fn problem(alloc: Global, text: &str) -> Result<Option<Problem>, TextFault> {
+pub(crate) fn problem(alloc: Global, text: &str) -> Result<Option<Problem>, TextFault> {
     Ok(file_problem(read(alloc, text.as_bytes())?))
 }
 

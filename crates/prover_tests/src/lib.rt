@@ -1,11 +1,16 @@
-//! Tests of the prover and of what it stands on: stores of terms, diagrams of tests, and derivatives.
+//! Tests of the prover and of what it stands on: stores of terms, diagrams of tests, and derivatives; and of equational
+//! proofs.
 #![tactic(auto)]
 
+#[cfg(test)]
+mod chains;
 #[cfg(test)]
 mod deciding;
 #[cfg(test)]
 mod derivatives;
 #[cfg(test)]
 mod diagrams;
+#[cfg(test)]
+mod proof_texts;
 #[cfg(test)]
 mod stores;

@@ -1,0 +1,18 @@
+//! Laws of the definitions. Each function does nothing: its contract is the law.
+ghost use Rattle.std.specs.Prelude.{ℕ};
+ghost use Rattle.chain_texts.specs.Laws.{HaveOneAnswer, ChainsAreScanned, ChainsAreMade};
+
+/// The test of the syntax takes just the phrases of the grammar in which nothing is too deep or too wide.
+pub fn chains_are_scanned()
+    ensures { ChainsAreScanned }
+{}
+
+/// What is made of the tokens of a chain is the chain of its phrase, or the first fault of its names and sizes.
+pub fn chains_are_made()
+    ensures { ChainsAreMade }
+{}
+
+/// Bytes spell one chain or have one first fault, and not both; a first fault is never want of memory.
+pub fn have_one_answer()
+    ensures { (tests actions : ℕ) → HaveOneAnswer tests actions }
+{}
