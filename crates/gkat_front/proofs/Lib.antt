@@ -1,0 +1,2 @@
+pub mod GuardedForms
+pub mod PairBounds

@@ -1,0 +1,11 @@
+pub mod NumberedSteps
+pub mod RangesKept
+pub mod Machines
+pub mod StepsKept
+pub mod OneFirstStep
+pub mod FirstSteps
+pub mod TermRelations
+pub mod ClosedPrograms
+pub mod TableMeanings
+pub mod StoreMeanings
+pub mod LogMeanings

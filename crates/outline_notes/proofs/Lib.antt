@@ -1,0 +1,11 @@
+pub mod KnownNodes
+pub mod NoteForms
+pub mod Spellings
+pub mod Growth
+pub mod Drafts
+pub mod LineSteps
+pub mod Completeness
+pub mod ReadTexts
+pub mod Exactness
+pub mod FirstFaults
+pub mod Written

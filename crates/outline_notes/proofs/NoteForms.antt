@@ -1,0 +1,143 @@
+-- The forms of the lines of notes, and what the numbers in them have to do with them.
+use Rattle.std.proofs.Common.{◌≡◌, ℕ, ◌⊎◌, inl, inr, ⊎_elim, List, [], ◌∷◌, map, length, Bool, true, false, cond, Option, Some, None, refl, sym, ap, ◌∙◌, arith, codes}
+use Rattle.std.specs.List.{list_all, list_any}
+use Rattle.std.specs.Option.{option_map, option_and_then}
+use Rattle.std.specs.Str.{bytes_eq}
+use Rattle.std.proofs.lemmas.Slice.Eq.{bytes_eq-Decides}
+use Rattle.line_texts.specs.Numerals.{is_numeral, value_of, numbers_of, too_wide}
+use Rattle.line_texts.specs.Readings.{HasNumbers}
+use Rattle.line_texts.specs.declared.numerals.Numbers.{Numbers}
+use Rattle.outline_notes.specs.declared.notes.NoteNode.{NoteNode}
+use Rattle.outline_notes.specs.declared.notes.NoteNode.TheVariants.{False, True, Branch}
+use Rattle.outline_notes.specs.declared.line.NoteLine.{NoteLine}
+use Rattle.outline_notes.specs.declared.line.NoteLine.TheVariants.{Node, Note}
+use Rattle.outline_notes.specs.declared.line.Section.{Section}
+use Rattle.outline_notes.specs.declared.line.Section.TheVariants.{Nodes, Notes}
+use Rattle.outline_notes.specs.Texts.{node_name, node_numbers, line_numbers}
+use Rattle.outline_notes.specs.Forms.{node_of, note_of}
+use Rattle.outline_notes.specs.Faults.{is_wide, section_of}
+
+-- a name that is compared with a word is that word
+pub named : (name word : List ℕ) → bytes_eq name word ≡ true → name ≡ word
+named name word e = (bytes_eq-Decides name word).0 e
+
+two_forms : {N : Type 0} (b c : Bool) (x y n : N) → cond b (Some x) (cond c (Some y) None) ≡ Some n → ((b ≡ true) × (x ≡ n)) ⊎ ((c ≡ true) × (y ≡ n))
+two_forms true c x y n e = inl (refl, cc)
+two_forms false true x y n e = inr (refl, cc)
+two_forms false false x y n e = cc
+
+one_form : {N : Type 0} (b : Bool) (x n : N) → cond b (Some x) None ≡ Some n → (b ≡ true) × (x ≡ n)
+one_form true x n e = (refl, cc)
+one_form false x n e = cc
+
+-- a node's name and numbers are those that are read
+pub node_told : (name ks : List ℕ) (n : NoteNode) → node_of name ks ≡ Some n → (name ≡ node_name n) × (ks ≡ node_numbers n)
+node_told name [] n e =
+    ⊎_elim
+    (λ p. (named name (codes "false") p.0 ∙ ap node_name p.1, ap node_numbers p.1))
+    (λ p. (named name (codes "true") p.0 ∙ ap node_name p.1, ap node_numbers p.1))
+    (two_forms (bytes_eq name (codes "false")) (bytes_eq name (codes "true")) False True n e)
+node_told name (x ∷ []) n e = cc
+node_told name (x ∷ y ∷ []) n e = cc
+node_told name (x ∷ y ∷ z ∷ []) n e =
+    let p = one_form (bytes_eq name (codes "test")) (Branch x y z) n e in
+    (named name (codes "test") p.0 ∙ ap node_name p.1, ap node_numbers p.1)
+node_told name (x ∷ y ∷ z ∷ w ∷ ks) n e = cc
+
+pub node_made : (n : NoteNode) → node_of (node_name n) (node_numbers n) ≡ Some n
+node_made False = refl
+node_made True = refl
+node_made (Branch k x y) = refl
+
+pub note_told : (ks : List ℕ) (l : NoteLine) → note_of ks ≡ Some l → (ks ≡ line_numbers l) × (section_of l ≡ Notes)
+note_told [] l e = cc
+note_told (k ∷ []) l e = let same : Note k ≡ l = cc in (ap line_numbers same, ap section_of (sym same))
+note_told (k ∷ j ∷ ks) l e = cc
+
+-- whether there is a node depends on how many numbers there are, and not on which
+some_of_one : {N : Type 0} (b : Bool) (y : N) → b ≡ true → (m : N) × (cond b (Some y) None ≡ Some m)
+some_of_one true y h = (y, refl)
+some_of_one false y h = cc
+
+pub node_same : (name xs ys : List ℕ) (n : NoteNode) → length xs ≡ length ys → node_of name xs ≡ Some n → (m : NoteNode) × (node_of name ys ≡ Some m)
+node_same name [] [] n h e = (n, e)
+node_same name [] (y ∷ ys) n h e = absurd (omega arith)
+node_same name (x ∷ []) ys n h e = cc
+node_same name (x ∷ w ∷ []) ys n h e = cc
+node_same name (x ∷ w ∷ v ∷ []) [] n h e = absurd (omega arith)
+node_same name (x ∷ w ∷ v ∷ []) (y ∷ []) n h e = absurd (omega arith)
+node_same name (x ∷ w ∷ v ∷ []) (y ∷ z ∷ []) n h e = absurd (omega arith)
+node_same name (x ∷ w ∷ v ∷ []) (y ∷ z ∷ t ∷ []) n h e =
+    some_of_one (bytes_eq name (codes "test")) (Branch y z t) (one_form (bytes_eq name (codes "test")) (Branch x w v) n e).0
+node_same name (x ∷ w ∷ v ∷ []) (y ∷ z ∷ t ∷ s ∷ ys) n h e = absurd (omega arith)
+node_same name (x ∷ w ∷ v ∷ u ∷ xs) ys n h e = cc
+
+pub note_same : (xs ys : List ℕ) (l : NoteLine) → length xs ≡ length ys → note_of xs ≡ Some l → (m : NoteLine) × (note_of ys ≡ Some m)
+note_same [] ys l h e = cc
+note_same (x ∷ []) [] l h e = absurd (omega arith)
+note_same (x ∷ []) (y ∷ []) l h e = (Note y, refl)
+note_same (x ∷ []) (y ∷ z ∷ ys) l h e = absurd (omega arith)
+note_same (x ∷ w ∷ xs) ys l h e = cc
+
+-- words that are numerals spell their values
+numbers_of_all : (ws : List (List ℕ)) → list_all is_numeral ws ≡ true → numbers_of ws ≡ Some (map value_of ws)
+numbers_of_all ws e = rw e refl
+
+-- what a line of numbers says
+module _ {N : Type 0} (form_of : List ℕ → Option N) (made : N → NoteLine) (section : Section)
+    (same : (xs ys : List ℕ) (n : N) → length xs ≡ length ys → form_of xs ≡ Some n → (m : N) × (form_of ys ≡ Some m))
+    (told : (ks : List ℕ) (n : N) → form_of ks ≡ Some n → (ks ≡ line_numbers (made n)) × (section_of (made n) ≡ section)) where
+  abbrev pub read_form : List (List ℕ) → Option NoteLine
+  read_form ws = option_map made (option_and_then form_of (numbers_of ws))
+
+  form_at : (ws : List (List ℕ)) (o : Option N) → list_all is_numeral ws ≡ true → form_of (map value_of ws) ≡ o → read_form ws ≡ option_map made o
+  form_at ws o e f = rw (numbers_of_all ws e, f) refl
+
+  pub no_form : (ws : List (List ℕ)) (v : Numbers) → list_all is_numeral ws ≡ true → HasNumbers (map value_of ws) v → form_of v.values.items ≡ None → read_form ws ≡ None
+  no_form ws v e has none = form_at ws None e (by_cases (form_of (map value_of ws)) refl)
+    where
+      by_cases : (o : Option N) → form_of (map value_of ws) ≡ o → form_of (map value_of ws) ≡ None
+      by_cases None is = is
+      by_cases (Some n) is = let other = same (map value_of ws) v.values.items n (sym has.count) is in let clash : None ≡ Some other.0 = sym none ∙ other.1 in cc
+
+  pub wide_form : (ws : List (List ℕ)) (v : Numbers) (n : N) → list_all is_numeral ws ≡ true → HasNumbers (map value_of ws) v → form_of v.values.items ≡ Some n → v.wide ≡ true → (l : NoteLine) × (read_form ws ≡ Some l) × (is_wide l ≡ true) × (section_of l ≡ section)
+  wide_form ws v n e has is wide =
+      let other = same v.values.items (map value_of ws) n has.count is in
+      let both = told (map value_of ws) other.0 other.1 in
+      (made other.0, form_at ws (Some other.0) e other.1, ap (λ l. list_any too_wide l) (sym both.0) ∙ sym has.wide ∙ wide, both.1)
+
+  pub narrow_form : (ws : List (List ℕ)) (v : Numbers) (n : N) → list_all is_numeral ws ≡ true → HasNumbers (map value_of ws) v → form_of v.values.items ≡ Some n → v.wide ≡ false → (read_form ws ≡ Some (made n)) × (is_wide (made n) ≡ false)
+  narrow_form ws v n e has is narrow =
+      let there : form_of (map value_of ws) ≡ Some n = ap form_of (sym (has.values narrow)) ∙ is in
+      let ks = (told (map value_of ws) n there).0 in
+      (form_at ws (Some n) e there, ap (λ l. list_any too_wide l) (sym ks) ∙ sym has.wide ∙ narrow)
+
+node_told_line : (name : List ℕ) (ks : List ℕ) (n : NoteNode) → node_of name ks ≡ Some n → (ks ≡ line_numbers (Node n)) × (section_of (Node n) ≡ Nodes)
+node_told_line name ks n e = ((node_told name ks n e).1, refl)
+
+pub wide_node : (name : List ℕ) (ws : List (List ℕ)) (v : Numbers) (n : NoteNode) → list_all is_numeral ws ≡ true → HasNumbers (map value_of ws) v → node_of name v.values.items ≡ Some n → v.wide ≡ true → (l : NoteLine) × (option_map Node (option_and_then (node_of name) (numbers_of ws)) ≡ Some l) × (is_wide l ≡ true) × (section_of l ≡ Nodes)
+wide_node name = wide_form (node_of name) Node Nodes (node_same name) (node_told_line name)
+
+pub narrow_node : (name : List ℕ) (ws : List (List ℕ)) (v : Numbers) (n : NoteNode) → list_all is_numeral ws ≡ true → HasNumbers (map value_of ws) v → node_of name v.values.items ≡ Some n → v.wide ≡ false → (option_map Node (option_and_then (node_of name) (numbers_of ws)) ≡ Some (Node n)) × (is_wide (Node n) ≡ false)
+narrow_node name = narrow_form (node_of name) Node Nodes (node_same name) (node_told_line name)
+
+pub no_node : (name : List ℕ) (ws : List (List ℕ)) (v : Numbers) → list_all is_numeral ws ≡ true → HasNumbers (map value_of ws) v → node_of name v.values.items ≡ None → option_map Node (option_and_then (node_of name) (numbers_of ws)) ≡ None
+no_node name = no_form (node_of name) Node Nodes (node_same name) (node_told_line name)
+
+-- the same of notes
+own_line : (o : Option NoteLine) → option_map (λ (l : NoteLine). l) o ≡ o
+own_line None = refl
+own_line (Some l) = refl
+
+pub wide_note : (ws : List (List ℕ)) (v : Numbers) (l : NoteLine) → list_all is_numeral ws ≡ true → HasNumbers (map value_of ws) v → note_of v.values.items ≡ Some l → v.wide ≡ true → (m : NoteLine) × (option_and_then note_of (numbers_of ws) ≡ Some m) × (is_wide m ≡ true) × (section_of m ≡ Notes)
+wide_note ws v l e has is wide =
+    let t = wide_form note_of (λ (m : NoteLine). m) Notes note_same note_told ws v l e has is wide in
+    (t.0, sym (own_line (option_and_then note_of (numbers_of ws))) ∙ t.1, t.2, t.3)
+
+pub narrow_note : (ws : List (List ℕ)) (v : Numbers) (l : NoteLine) → list_all is_numeral ws ≡ true → HasNumbers (map value_of ws) v → note_of v.values.items ≡ Some l → v.wide ≡ false → (option_and_then note_of (numbers_of ws) ≡ Some l) × (is_wide l ≡ false)
+narrow_note ws v l e has is narrow =
+    let t = narrow_form note_of (λ (m : NoteLine). m) Notes note_same note_told ws v l e has is narrow in
+    (sym (own_line (option_and_then note_of (numbers_of ws))) ∙ t.0, t.1)
+
+pub no_note : (ws : List (List ℕ)) (v : Numbers) → list_all is_numeral ws ≡ true → HasNumbers (map value_of ws) v → note_of v.values.items ≡ None → option_and_then note_of (numbers_of ws) ≡ None
+no_note ws v e has none = sym (own_line (option_and_then note_of (numbers_of ws))) ∙ no_form note_of (λ (m : NoteLine). m) Notes note_same note_told ws v e has none

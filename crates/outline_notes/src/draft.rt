@@ -1,0 +1,139 @@
+//! Notes that are being read.
+ghost use Rattle.std.specs.Prelude.{◌≡◌, ◌&&◌, Some, false};
+ghost use Rattle.outline_notes.specs.NoteLists.{node_parts};
+ghost use Rattle.outline_notes.specs.Forms.{read_line};
+ghost use Rattle.outline_notes.specs.Faults.{are_below, no_lines, may_stand, is_wide, names_earlier};
+ghost use Rattle.outline_notes.specs.Working.Readings.{TellsApart, IsReflexive, draft_parts, IsDraft, MayBeAdded, AddsLine};
+ghost use Rattle.outline_notes.specs.declared.line.NoteLine.TheVariants.{Node, Note};
+
+use crate::fault::NotesFault;
+use crate::line::{LineFault, NoteLine, Section, read_line};
+use crate::notes::{NoteNode, Notes};
+use std::alloc::Global;
+use std::collections::BTreeSet;
+
+// The lines so far. The set has the nodes too, so that an equal node is found fast.
+#[derive(Drop)]
+pub(crate) struct Draft {
+    nodes: Vec<NoteNode>,
+    notes: Vec<usize>,
+    known: BTreeSet<NoteNode>,
+}
+
+// Does nothing: what is known of the order in which the set keeps nodes.
+fn node_order()
+    ensures apart { TellsApart ⟦<NoteNode as Ord>⟧.cmp }
+    ensures own { IsReflexive ⟦<NoteNode as Ord>⟧.cmp }
+{}
+
+fn node_names_earlier(node: NoteNode, count: usize) -> bool
+    ensures { result ≡ are_below count (node_parts node) }
+{
+    match node {
+        NoteNode::False | NoteNode::True => true,
+        NoteNode::Branch(_, low, high) => low < count && high < count,
+    }
+}
+
+impl Draft {
+    pub(crate) fn new(alloc: Global) -> Draft
+        ensures lines { draft_parts result ≡ no_lines }
+        ensures draft { IsDraft result }
+    {
+        Draft {
+            nodes: Vec::new(alloc),
+            notes: Vec::new(alloc),
+            known: BTreeSet::new(alloc),
+        }
+    }
+
+    // The notes of the lines.
+    pub(crate) fn into_notes(self) -> Notes
+        requires { IsDraft self }
+        ensures { result ≡ draft_parts self }
+    {
+        let Draft {
+            nodes,
+            notes,
+            known: _,
+        } = self;
+        Notes::of_parts(nodes, notes)
+    }
+
+    fn may_stand(&self, section: Section) -> bool
+        ensures { result ≡ may_stand (draft_parts self.now) section }
+    {
+        match section {
+            Section::Nodes => self.notes.is_empty(),
+            Section::Notes => true,
+        }
+    }
+
+    fn names_earlier(&self, line: NoteLine) -> bool
+        ensures { result ≡ names_earlier (draft_parts self.now) line }
+    {
+        let count = self.nodes.len();
+        match line {
+            NoteLine::Node(node) => node_names_earlier(node, count),
+            NoteLine::Note(node) => node < count,
+        }
+    }
+
+    fn add_node(&mut self, node: NoteNode, number: u64) -> Result<(), NotesFault>
+        requires draft { IsDraft self.old }
+        requires tested { MayBeAdded self.old (Node node) }
+        ensures { AddsLine self.old number (Some (Node node)) self.new result }
+    {
+        node_order();
+        let is_new = self.known.insert(node)?;
+        if !is_new {
+            return Err(NotesFault::DoubleNode(number));
+        }
+        self.nodes.push(node)?;
+        Ok(())
+    }
+
+    fn add_note(&mut self, node: usize, number: u64) -> Result<(), NotesFault>
+        requires draft { IsDraft self.old }
+        requires tested { MayBeAdded self.old (Note node) }
+        ensures { AddsLine self.old number (Some (Note node)) self.new result }
+    {
+        self.notes.push(node)?;
+        Ok(())
+    }
+
+    fn add_line(&mut self, line: NoteLine, number: u64) -> Result<(), NotesFault>
+        requires draft { IsDraft self.old }
+        requires narrow { is_wide line ≡ false }
+        ensures { AddsLine self.old number (Some line) self.new result }
+    {
+        if !self.may_stand(line.section()) {
+            return Err(NotesFault::Line(number));
+        }
+        if !self.names_earlier(line) {
+            return Err(NotesFault::NodeOrder(number));
+        }
+        match line {
+            NoteLine::Node(node) => self.add_node(node, number),
+            NoteLine::Note(node) => self.add_note(node, number),
+        }
+    }
+
+    // Adds what the line of this number says. After a fault the draft is of no use.
+    pub(crate) fn add(&mut self, alloc: Global, line: &[u8], number: u64) -> Result<(), NotesFault>
+        requires { IsDraft self.old }
+        ensures { AddsLine self.old number (read_line line.now) self.new result }
+    {
+        match read_line(alloc, line) {
+            Ok(line) => self.add_line(line, number),
+            Err(LineFault::NoMemory) => Err(NotesFault::NoMemory),
+            Err(LineFault::Form) => Err(NotesFault::Line(number)),
+            Err(LineFault::Wide(section)) => {
+                if self.may_stand(section) {
+                    return Err(NotesFault::NumberTooWide(number));
+                }
+                Err(NotesFault::Line(number))
+            }
+        }
+    }
+}

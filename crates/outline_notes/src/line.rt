@@ -1,0 +1,143 @@
+//! The lines of notes: nodes, and then notes.
+ghost use Rattle.std.specs.Prelude.{◌≡◌};
+ghost use Rattle.line_texts.specs.Readings.{texts};
+ghost use Rattle.line_texts.specs.Numerals.{numbers_of};
+ghost use Rattle.std.specs.Option.{option_map, option_and_then};
+ghost use Rattle.outline_notes.specs.Forms.{node_of, note_of, line_of_words, read_line};
+ghost use Rattle.outline_notes.specs.Faults.{section_of};
+ghost use Rattle.outline_notes.specs.Working.Readings.{ReadsLine};
+ghost use Rattle.outline_notes.specs.declared.line.NoteLine.TheVariants.{Node, Note};
+ghost use Rattle.outline_notes.specs.declared.line.LineFault.TheVariants.{NoMemory as NoRoom};
+
+use crate::notes::NoteNode;
+use kat_model::NoMemory;
+use line_texts::{read_numbers, words_of};
+use std::alloc::Global;
+
+// What a line of notes says.
+#[derive(Clone, Copy)]
+pub(crate) enum NoteLine {
+    Node(NoteNode),
+    Note(usize),
+}
+
+// The parts of notes, in the order in which they stand.
+#[derive(Clone, Copy)]
+pub(crate) enum Section {
+    Nodes,
+    Notes,
+}
+
+// Why a line is not read.
+#[derive(Clone, Copy)]
+pub(crate) enum LineFault {
+    NoMemory,
+    Form,
+    Wide(Section),
+}
+
+impl From<NoMemory> for LineFault {
+    ghost from_gives = { λ _ fault. fault ≡ NoRoom };
+
+    fn from(_: NoMemory) -> Self {
+        LineFault::NoMemory
+    }
+}
+
+impl NoteLine {
+    pub(crate) fn section(self) -> Section
+        ensures { result ≡ section_of self }
+    {
+        match self {
+            NoteLine::Node(_) => Section::Nodes,
+            NoteLine::Note(_) => Section::Notes,
+        }
+    }
+}
+
+// The node of this name and these numbers.
+fn node(name: &[u8], numbers: &[usize]) -> Option<NoteNode>
+    ensures { result ≡ node_of name.now numbers.now }
+{
+    match numbers {
+        [] => {
+            if name == b"false".as_slice() {
+                return Some(NoteNode::False);
+            }
+            if name == b"true".as_slice() {
+                return Some(NoteNode::True);
+            }
+            None
+        }
+        [test, low, high] => {
+            if name == b"test".as_slice() {
+                return Some(NoteNode::Branch(*test, *low, *high));
+            }
+            None
+        }
+        _ => None,
+    }
+}
+
+// The note of these numbers.
+fn note(numbers: &[usize]) -> Option<NoteLine>
+    ensures { result ≡ note_of numbers.now }
+{
+    match numbers {
+        [node] => Some(NoteLine::Note(*node)),
+        _ => None,
+    }
+}
+
+fn node_line(alloc: Global, name: &[u8], words: &[&[u8]]) -> Result<NoteLine, LineFault>
+    ensures { ReadsLine (option_map Node (option_and_then (node_of name.now) (numbers_of (texts words.now)))) result }
+{
+    let Some(numbers) = read_numbers(alloc, words)? else {
+        return Err(LineFault::Form);
+    };
+    match node(name, &numbers.values) {
+        None => Err(LineFault::Form),
+        Some(node) => {
+            if numbers.wide {
+                return Err(LineFault::Wide(Section::Nodes));
+            }
+            Ok(NoteLine::Node(node))
+        }
+    }
+}
+
+fn note_line(alloc: Global, words: &[&[u8]]) -> Result<NoteLine, LineFault>
+    ensures { ReadsLine (option_and_then note_of (numbers_of (texts words.now))) result }
+{
+    let Some(numbers) = read_numbers(alloc, words)? else {
+        return Err(LineFault::Form);
+    };
+    match note(&numbers.values) {
+        None => Err(LineFault::Form),
+        Some(line) => {
+            if numbers.wide {
+                return Err(LineFault::Wide(Section::Notes));
+            }
+            Ok(line)
+        }
+    }
+}
+
+// What the words of a line say, by the first.
+fn line_of(alloc: Global, words: &[&[u8]]) -> Result<NoteLine, LineFault>
+    ensures { ReadsLine (line_of_words (texts words.now)) result }
+{
+    match words {
+        [kind, name, rest @ ..] if *kind == b"D".as_slice() => node_line(alloc, name, rest),
+        [kind, rest @ ..] if *kind == b"C".as_slice() => note_line(alloc, rest),
+        _ => Err(LineFault::Form),
+    }
+}
+
+// What a line says.
+pub(crate) fn read_line(alloc: Global, line: &[u8]) -> Result<NoteLine, LineFault>
+    ensures { ReadsLine (read_line line.now) result }
+{
+    let words = words_of(alloc, line)?;
+    line_of(alloc, words.as_slice())
+}

@@ -1,0 +1,59 @@
+//! Notes of an outline.
+ghost use Rattle.std.specs.Prelude.{◌≡◌};
+ghost use Rattle.outline_notes.specs.NoteLists.{notes_of, AreNotes};
+
+use std::marker::Model;
+
+/// A set of atoms (truth values of all tests), as a node of a decision diagram (Bryant 1986) whose branches may test in
+/// any order.
+#[derive(Clone, Copy, Debug, PartialEq, Eq, PartialOrd, Ord, Hash)]
+pub enum NoteNode {
+    False,
+    True,
+    /// A test, the node for the atoms where it is false, and the node for those where it is true.
+    Branch(usize, usize, usize),
+}
+
+/// The notes of an outline: nodes, and for each place of a program the number of the node that is noted there. A branch
+/// names earlier nodes alone, from 0; no node stands twice; each note names a node.
+#[derive(Drop)]
+pub struct Notes {
+    nodes: Vec<NoteNode>,
+    notes: Vec<usize>,
+}
+
+impl Model for Notes {
+    ghost use Rattle.outline_notes.specs.NoteLists.{NotesParts, notes_of, AreNotes};
+
+    ghost Value = { NotesParts };
+
+    ghost view = { λ n. notes_of n.nodes.items n.notes.items };
+
+    ghost invariant = { λ n. AreNotes (notes_of n.nodes.items n.notes.items) };
+}
+
+impl Notes {
+    /// The notes of these parts, which keep the rules. It takes no memory.
+    pub fn of_parts(nodes: Vec<NoteNode>, notes: Vec<usize>) -> Notes
+        requires { AreNotes (notes_of nodes.items notes.items) }
+        ensures { result ≡ notes_of nodes.items notes.items }
+    {
+        Notes { nodes, notes }
+    }
+
+    /// The nodes.
+    pub fn nodes(&self) -> &[NoteNode]
+        ensures value { result.now ≡ self.now.nodes }
+        ensures rules { AreNotes self.now }
+    {
+        &self.nodes
+    }
+
+    /// The number of the node that is noted at each place.
+    pub fn notes(&self) -> &[usize]
+        ensures value { result.now ≡ self.now.notes }
+        ensures rules { AreNotes self.now }
+    {
+        &self.notes
+    }
+}

@@ -1,0 +1,4 @@
+pub mod SimpleForms
+pub mod LeastHypotheses
+pub mod HypothesisSets
+pub mod StepForms

@@ -1,0 +1,2 @@
+pub mod TestTerms
+pub mod HypothesisForms

@@ -1,0 +1,175 @@
+//! What hypotheses say of single atoms and of single steps: the diagrams that the finder and the rule checker share.
+ghost use Rattle.std.specs.Prelude.{◌≡◌, ◌&&◌, not, All, map, position, IfOk, IfSome, IfNone};
+ghost use Rattle.kat_model.specs.Trees.{kat_tree};
+ghost use Rattle.kat_model.specs.Problems.{HasTestsBelow};
+ghost use Rattle.kat_model.specs.Steps.{out};
+ghost use Rattle.step_diagrams.specs.Interleaved.{atom_at_moment};
+ghost use Rattle.step_diagrams.specs.StepFunctions.{step_value, IsStepId, IsStepDiagram, KeepsSteps, AreStepDiagrams};
+ghost use Rattle.simple_hyps.specs.TestTerms.{is_test_term, AreSimple, IsNotSimple};
+ghost use Rattle.simple_hyps.specs.HypothesisForms.{is_step, is_simple, allows, rules_out, some_rules_out};
+
+use kat_model::{Kat, NoMemory, Problem};
+use step_diagrams::{DiagramId, Moment, StepDiagrams};
+
+// Whether a term has neither actions nor stars.
+fn is_test_term(term: &Kat) -> bool
+    ensures { result ≡ is_test_term (kat_tree term.now) }
+{
+    match term {
+        Kat::Zero | Kat::One | Kat::Test(_) => true,
+        Kat::Act(_) | Kat::Star(_) => false,
+        Kat::Sum(e, f) | Kat::Seq(e, f) => is_test_term(e) && is_test_term(f),
+    }
+}
+
+// Whether the factors of a term are test terms and one action.
+fn is_step(term: &Kat) -> bool
+    ensures { result ≡ is_step (kat_tree term.now) }
+{
+    match term {
+        Kat::Act(_) => true,
+        Kat::Seq(e, f) => (is_test_term(e) && is_step(f)) || (is_step(e) && is_test_term(f)),
+        Kat::Zero | Kat::One | Kat::Test(_) | Kat::Sum(_, _) | Kat::Star(_) => false,
+    }
+}
+
+fn is_simple(term: &Kat) -> bool
+    ensures { result ≡ is_simple (kat_tree term.now) }
+{
+    is_test_term(term) || is_step(term)
+}
+
+/// The least hypothesis of the problem that is not simple: it is neither a test term, which has no actions and no stars,
+/// nor a product of test terms and exactly one action. `None` where all are simple. It takes no memory.
+pub fn not_simple(problem: &Problem) -> Option<usize>
+    ensures least { IfSome result (IsNotSimple problem.now.hyps) }
+    ensures none { IfNone result (AreSimple problem.now.hyps) }
+{
+    first_not_simple(problem.hyps())
+}
+
+fn first_not_simple(hyps: &[Kat]) -> Option<usize>
+    ensures { result ≡ position (λ h. not (is_simple (kat_tree h))) hyps.now }
+{
+    hyps.iter().position(|hyp| !is_simple(hyp))
+}
+
+// The atoms at a moment that a term accepts.
+fn accepted_atoms(
+    diagrams: &mut StepDiagrams,
+    term: &Kat,
+    moment: Moment,
+) -> Result<DiagramId, NoMemory>
+    requires in_range { HasTestsBelow diagrams.old.tests (kat_tree term.now) }
+    ensures function { IfOk result (λ id. IsStepDiagram diagrams.new id
+        (λ before after. out (kat_tree term.now) (atom_at_moment moment before after))) }
+    ensures kept { KeepsSteps diagrams.old diagrams.new }
+    ensures sound { AreStepDiagrams diagrams.new }
+{
+    match term {
+        Kat::Zero | Kat::Act(_) => Ok(diagrams.constant(false)),
+        Kat::One | Kat::Star(_) => Ok(diagrams.constant(true)),
+        Kat::Test(b) => diagrams.of_test(b, moment),
+        Kat::Sum(e, f) => {
+            let first = accepted_atoms(diagrams, e, moment)?;
+            let second = accepted_atoms(diagrams, f, moment)?;
+            diagrams.or(first, second)
+        }
+        Kat::Seq(e, f) => {
+            let first = accepted_atoms(diagrams, e, moment)?;
+            let second = accepted_atoms(diagrams, f, moment)?;
+            diagrams.and(first, second)
+        }
+    }
+}
+
+// The atoms at a moment at which no hypothesis that is a test term is true.
+pub fn allowed_atoms(
+    diagrams: &mut StepDiagrams,
+    hyps: &[Kat],
+    moment: Moment,
+) -> Result<DiagramId, NoMemory>
+    requires in_range { All (λ h. HasTestsBelow diagrams.old.tests (kat_tree h)) hyps.now }
+    ensures function { IfOk result (λ id. IsStepDiagram diagrams.new id
+        (λ before after. allows (map kat_tree hyps.now) (atom_at_moment moment before after))) }
+    ensures kept { KeepsSteps diagrams.old diagrams.new }
+    ensures sound { AreStepDiagrams diagrams.new }
+{
+    let mut set = diagrams.constant(true);
+    for hyp in hyps {
+        set = atoms_left_by(diagrams, set, hyp, moment)?;
+    }
+    Ok(set)
+}
+
+// The atoms of a set at which a hypothesis, if it is a test term, is not true.
+fn atoms_left_by(
+    diagrams: &mut StepDiagrams,
+    set: DiagramId,
+    hyp: &Kat,
+    moment: Moment,
+) -> Result<DiagramId, NoMemory>
+    requires id { IsStepId diagrams.old set }
+    requires in_range { HasTestsBelow diagrams.old.tests (kat_tree hyp.now) }
+    requires sound { AreStepDiagrams diagrams.old }
+    ensures function { IfOk result (λ id. IsStepDiagram diagrams.new id (λ before after. step_value diagrams.old set before after
+        && not (is_test_term (kat_tree hyp.now) && out (kat_tree hyp.now) (atom_at_moment moment before after)))) }
+    ensures kept { KeepsSteps diagrams.old diagrams.new }
+    ensures sound { AreStepDiagrams diagrams.new }
+{
+    if !is_test_term(hyp) {
+        return Ok(set);
+    }
+    let taken = accepted_atoms(diagrams, hyp, moment)?;
+    let left = diagrams.not(taken)?;
+    diagrams.and(set, left)
+}
+
+// The steps by an action that a hypothesis rules out.
+fn steps_ruled_out_by(
+    diagrams: &mut StepDiagrams,
+    hyp: &Kat,
+    action: usize,
+) -> Result<DiagramId, NoMemory>
+    requires in_range { HasTestsBelow diagrams.old.tests (kat_tree hyp.now) }
+    ensures function { IfOk result (λ id. IsStepDiagram diagrams.new id (rules_out (kat_tree hyp.now) action)) }
+    ensures kept { KeepsSteps diagrams.old diagrams.new }
+    ensures sound { AreStepDiagrams diagrams.new }
+{
+    match hyp {
+        Kat::Act(own) => Ok(diagrams.constant(*own == action)),
+        Kat::Seq(e, f) => {
+            if is_test_term(e) {
+                let before = accepted_atoms(diagrams, e, Moment::Before)?;
+                let rest = steps_ruled_out_by(diagrams, f, action)?;
+                return diagrams.and(before, rest);
+            }
+            let first = steps_ruled_out_by(diagrams, e, action)?;
+            let after = accepted_atoms(diagrams, f, Moment::After)?;
+            diagrams.and(first, after)
+        }
+        Kat::Zero | Kat::One | Kat::Test(_) | Kat::Sum(_, _) | Kat::Star(_) => {
+            Ok(diagrams.constant(false))
+        }
+    }
+}
+
+// The steps by an action that some hypothesis rules out.
+pub fn ruled_out_steps(
+    diagrams: &mut StepDiagrams,
+    hyps: &[Kat],
+    action: usize,
+) -> Result<DiagramId, NoMemory>
+    requires in_range { All (λ h. HasTestsBelow diagrams.old.tests (kat_tree h)) hyps.now }
+    ensures function { IfOk result (λ id. IsStepDiagram diagrams.new id
+        (some_rules_out (map kat_tree hyps.now) action)) }
+    ensures kept { KeepsSteps diagrams.old diagrams.new }
+    ensures sound { AreStepDiagrams diagrams.new }
+{
+    let mut steps = diagrams.constant(false);
+    for hyp in hyps {
+        let more = steps_ruled_out_by(diagrams, hyp, action)?;
+        steps = diagrams.or(steps, more)?;
+    }
+    Ok(steps)
+}

@@ -1,0 +1,7 @@
+//! Simple hypotheses, each a test or one action between tests: which there are, the atoms that they allow, and the steps
+//! that they rule out.
+#![tactic(auto)]
+
+mod hypotheses;
+
+pub use hypotheses::{allowed_atoms, not_simple, ruled_out_steps};

@@ -1,0 +1,4 @@
+pub mod Interleaving
+pub mod StepSets
+pub mod Images
+pub mod Compositions

@@ -1,0 +1,3 @@
+pub mod Interleaved
+pub mod StepFunctions
+pub mod Working

@@ -1,0 +1,8 @@
+//! The two moments of a step.
+
+/// Before a step or after it.
+#[derive(Clone, Copy, Debug, PartialEq, Eq)]
+pub enum Moment {
+    Before,
+    After,
+}
