@@ -1,6 +1,6 @@
 #!/usr/bin/env python3
-"""Measures what long texts cost: problems under `kat decide`, programs under `kat run` and `kat show`, and evidence under
-`kat check` and `kat replay`.
+"""Measures what long texts cost: problems under `kat decide`, programs under `kat run` and `kat show`, evidence under
+`kat check` and `kat replay`, and proofs under `kat chain`.
 
     python3 bench/texts.py [--kat PROGRAM] [--runs N] [CASE ..]
 
@@ -121,6 +121,31 @@ def powers(n):
     return string_of(f"goal equal {' + '.join('.'.join(['p'] * k) for k in range(1, n + 1))}, 0;\n")
 
 
+# Proofs, with the problem that they are of
+
+INNERMOST = "(1 + 1.1) + 1 = (1 + 1) + 1 by oneleft at 0.1; = 1 + 1 by idem at 0; = 1 by idem;"
+
+def proof(n):
+    """n lines, each of which exchanges both halves of a sum of 66 actions."""
+    term = "+".join(["a0"] * 66)
+    return f"action p;\ngoal equal {term.replace('a0', 'p')}, {term.replace('a0', 'p')};\n", term + f"\n= {term} by comm;" * n
+
+
+def induction(n):
+    """n inner proofs in one another, each of the premise of `1*.1 + 1 = 1` by way of that equation itself."""
+    inner = INNERMOST
+    for _ in range(n - 1):
+        inner = f"{INNERMOST} = 1*.1 + 1 by lfp {{ {inner} }}; = 1 by lfp {{ {INNERMOST} }};"
+    return "goal equal 1*.1 + 1, 1;\n", f"1*.1 + 1 = 1 by lfp {{ {inner} }};"
+
+
+def atoms(n):
+    """A sum of n tests in order and in reverse, by one line."""
+    tests = [f"t{k}" for k in range(n)]
+    order, reverse = "+".join(tests), "+".join(reversed(tests))
+    return f"test {', '.join(tests)};\ngoal equal {order}, {reverse};\n", f"{order} = {reverse} by bool;"
+
+
 CASES = {
     "terms": ("decide", terms, 62_333),
     "parentheses": ("decide", parentheses, 2_621),
@@ -137,10 +162,13 @@ CASES = {
     "nested": ("replay", nested, 1_000),
     "product": ("replay", product, 512),
     "powers": ("replay", powers, 199),
+    "proof": ("chain", proof, 5_000),
+    "induction": ("chain", induction, 199),
+    "atoms": ("chain", atoms, 48),
 }
 
 # The words behind the problem's
-MORE = {"decide": [], "show": [], "run": ["P", "zero", "0"], "check": ["evidence"], "replay": ["evidence"]}
+MORE = {"decide": [], "show": [], "run": ["P", "zero", "0"], "check": ["evidence"], "replay": ["evidence"], "chain": ["evidence"]}
 
 
 # Measuring

@@ -47,6 +47,8 @@ PARTS = [
          names=[("certificate", "Accepted", "IsAccepted"), ("certificate", "Texts", "text_of")]),
     Part("Every text", "What any text asks, by the grammar of problem files, and what `check` answers.",
          clauses=[("kat_tool/src/text.rt", "decided_text", ["headline"]), ("kat_tool/src/text.rt", "checked_texts", ["headline"])]),
+    Part("Equational proofs", "What `chain` answers of any proof, whoever wrote it.",
+         clauses=[("kat_tool/src/text.rt", "proved_texts", ["headline"])]),
     Part("Runs of programs", "What `run` answers of a text that says a file.",
          clauses=[("kat_tool/src/text.rt", "run_reply", ["headline"])]),
     Part("Programs with one loop", "What `oneloop` answers of a text that says a file.",

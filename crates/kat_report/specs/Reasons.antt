@@ -1,8 +1,10 @@
--- The line that tells why evidence is rejected.
+-- The lines that tell why evidence and proofs are rejected.
 use Rattle.std.specs.Prelude.{ℕ, List, [], ◌∷◌, ◌++◌, codes}
 use Rattle.std.specs.Fmt.{decimal}
 use Rattle.kat_model.specs.Steps.{Atom}
 use Rattle.certificate.specs.Texts.{bits}
+use Rattle.chain_proofs.specs.declared.answer.ChainReason.{ChainReason}
+use Rattle.chain_proofs.specs.declared.answer.ChainReason.TheVariants.{Start, End, Step}
 use Rattle.cert_checker.specs.declared.answer.Reason.{Reason}
 use Rattle.cert_checker.specs.declared.answer.Reason.TheVariants.{FirstPair, Output, Missing, MissingTo, Shape, HypBroken, EndsAgree, TestNode, TermNode}
 
@@ -27,3 +29,13 @@ reason_text (TermNode k) = codes "TermNode " ++ decimal k
 -- `rejected: `, the reason, and a line feed
 abbrev pub reason_line : Reason → List ℕ
 reason_line r = codes "rejected: " ++ reason_text r ++ 10 ∷ []
+
+-- of an equational proof: the reason's word, and the number of the line that does not hold
+abbrev pub chain_reason_text : ChainReason → List ℕ
+chain_reason_text Start = codes "Start"
+chain_reason_text End = codes "End"
+chain_reason_text (Step n) = codes "Step " ++ decimal n
+
+-- `rejected: chain `, the reason, and a line feed
+abbrev pub chain_reason_line : ChainReason → List ℕ
+chain_reason_line r = codes "rejected: chain " ++ chain_reason_text r ++ 10 ∷ []

@@ -1,11 +1,11 @@
 //! Why a text is refused, as a line.
-ghost use Rattle.std.specs.Prelude.{◌≡◌, ◌≢◌, codes, IfOk};
-ghost use Rattle.kat_report.specs.Refusals.{fault_word, fault_place, text_fault_line, place_text};
+ghost use Rattle.std.specs.Prelude.{◌≡◌, ◌≢◌, ◌++◌, ◌∷◌, [], codes, IfOk, OnOk};
+ghost use Rattle.kat_report.specs.Refusals.{fault_word, fault_place, text_fault_line, chain_fault_line, place_text};
 
+use crate::writing::{put_numbered, put_word};
 use kat_model::NoMemory;
 use kat_tokens::TextFault;
 use std::alloc::Global;
-use std::fmt::Write;
 
 fn word(fault: &TextFault) -> &'static str
     ensures { result.now ≡ fault_word fault.now }
@@ -47,6 +47,18 @@ fn place(fault: &TextFault) -> Option<usize>
     }
 }
 
+// The fault's word and place, and the end of the line, behind what the line begins with.
+fn put_fault(alloc: Global, line: &mut Vec<u8>, fault: &TextFault) -> Result<(), NoMemory>
+    ensures { OnOk result (line.new.items ≡ line.old.items ++ (fault_word fault.now ++ place_text (fault_place fault.now) ++ 10 ∷ [])) }
+{
+    put_word(line, word(fault))?;
+    if let Some(at) = place(fault) {
+        put_numbered(alloc, line, " ", at)?;
+    }
+    line.push(b'\n')?;
+    Ok(())
+}
+
 /// The line that tells why a text is refused: `refused: WORD`, and a space and the place in bytes where there is one.
 /// Fails only when out of memory.
 pub fn text_fault_line(alloc: Global, fault: &TextFault) -> Result<Vec<u8>, NoMemory>
@@ -54,10 +66,17 @@ pub fn text_fault_line(alloc: Global, fault: &TextFault) -> Result<Vec<u8>, NoMe
     ensures { IfOk result (λ line. line.items ≡ text_fault_line fault.now) }
 {
     let mut line = b"refused: ".to_vec(alloc)?;
-    line.extend_from_slice(word(fault).as_bytes())?;
-    if let Some(at) = place(fault) {
-        line.extend_from_slice(format!(in alloc; " {at}")?.as_bytes())?;
-    }
-    line.push(b'\n')?;
+    put_fault(alloc, &mut line, fault)?;
+    Ok(line)
+}
+
+/// The line that tells why the text of an equational proof is refused: `refused: chain WORD`, and a space and the place
+/// in bytes where there is one. Fails only when out of memory.
+pub fn chain_fault_line(alloc: Global, fault: &TextFault) -> Result<Vec<u8>, NoMemory>
+    requires { fault.now ≢ TextFault.NoMemory }
+    ensures { IfOk result (λ line. line.items ≡ chain_fault_line fault.now) }
+{
+    let mut line = b"refused: chain ".to_vec(alloc)?;
+    put_fault(alloc, &mut line, fault)?;
     Ok(line)
 }

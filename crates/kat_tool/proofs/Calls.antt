@@ -7,7 +7,7 @@ use Rattle.kat_io.specs.Outside.{Rose, AppendsFront}
 use Rattle.kat_model.specs.Members.{Has}
 use Rattle.kat_model.specs.Problems.{ProblemParts}
 use Rattle.bisim_worklist.proofs.AnswerCerts.{answer_accepted}
-use Rattle.kat_tool.specs.Commands.{Command, decide, report, show, batch, check, replay, run, oneloop, command_of, files_of}
+use Rattle.kat_tool.specs.Commands.{Command, decide, report, show, batch, check, replay, chain, run, oneloop, bench, command_of, files_of}
 use Rattle.kat_tool.specs.Asking.{Asks}
 use Rattle.kat_tool.specs.Posing.{Poses}
 use Rattle.kat_tool.specs.Steps.{ShelfUse, HasFailedOn, GetsFile, AsksText}
@@ -17,8 +17,10 @@ use Rattle.kat_tool.specs.Show.{ShowsText, Shows}
 use Rattle.kat_tool.specs.Batch.{AnswersText, Batches}
 use Rattle.kat_tool.specs.Check.{ChecksBytes, Checks, CheckStatus}
 use Rattle.kat_tool.specs.Replay.{ReplaysBytes, Replays}
+use Rattle.kat_tool.specs.Chain.{GetsProof, Proves}
 use Rattle.kat_tool.specs.Running.{RunsText}
 use Rattle.kat_tool.specs.OneLoop.{FormsText}
+use Rattle.kat_tool.specs.Bench.{Tallies}
 use Rattle.kat_tool.specs.Replies.{RepliesTo, HasNoCommand, Replies}
 use Rattle.kat_tool.specs.Agreement.{IsAgreed}
 use Rattle.kat_tool.specs.Run.{HasFailed, HasUnfitRun, HasUnfitForm, IsReply, Call, IsRun}
@@ -30,9 +32,11 @@ use Rattle.kat_tool.proofs.ReportReplies.{reported_once, report_causes}
 use Rattle.kat_tool.proofs.BatchReplies.{batches_once, batch_causes}
 use Rattle.kat_tool.proofs.CheckReplies.{bytes_once, check_causes}
 use Rattle.kat_tool.proofs.ReplayReplies.{bytes_once as replayed_once, replay_causes}
+use Rattle.kat_tool.proofs.ChainReplies.{bytes_once as proved_once, chain_causes}
 use Rattle.kat_tool.proofs.ShowReplies.{shows_once, show_causes}
 use Rattle.kat_tool.proofs.RunReplies.{runs_once, run_causes}
 use Rattle.kat_tool.proofs.OneLoopReplies.{forms_once, one_loop_causes}
+use Rattle.kat_tool.proofs.BenchReplies.{tallies_once, bench_causes}
 
 -- replies to commands, by their statuses
 module _ (s : ShelfUse) (status : ℕ) (output : List ℕ) where
@@ -72,6 +76,12 @@ module _ (s : ShelfUse) (status : ℕ) (output : List ℕ) where
       small : (status ≡ 0) ⊎ ((status ≡ 2) ⊎ ((status ≡ 3) ⊎ (status ≡ 4))) → status ≤ 4
       small h = grind (arith, h)
 
+  chain_small : (file other : List ℕ) → Proves s file other status output → status ≤ 4
+  chain_small file other r = small (chain_causes s file other status output r).answers
+    where
+      small : (status ≡ 0) ⊎ ((status ≡ 2) ⊎ ((status ≡ 3) ⊎ (status ≡ 4))) → status ≤ 4
+      small h = grind (arith, h)
+
   -- no command's reply has another status than 0 to 4, or 7
   command_small : (command : Command) → RepliesTo s command status output → (status ≤ 4) ⊎ (status ≡ 7)
   command_small (decide file) r = inl (decide_small file r)
@@ -80,6 +90,8 @@ module _ (s : ShelfUse) (status : ℕ) (output : List ℕ) where
   command_small (batch file) r = inl (batch_small file r)
   command_small (check file other) r = inl (check_small file other r)
   command_small (replay file other) r = inl (replay_small file other r)
+  command_small (chain file other) r = inl (chain_small file other r)
+  command_small (bench count) r = let zero = r.0 in inl (omega (arith, zero))
   command_small (run file prog store turns) r = small (run_causes s file prog store turns status output r).answers
     where
       small : (status ≡ 0) ⊎ ((status ≡ 1) ⊎ ((status ≡ 2) ⊎ ((status ≡ 4) ⊎ (status ≡ 7)))) → (status ≤ 4) ⊎ (status ≡ 7)
@@ -107,6 +119,8 @@ module _ (s : ShelfUse) (status : ℕ) (output : List ℕ) where
   command_refused words (replay file other) is r seven = absurd (no_seven (replay_small file other r) seven)
   command_refused words (show file) is r seven = absurd (no_seven (show_small file r) seven)
   command_refused words (batch file) is r seven = absurd (no_seven (batch_small file r) seven)
+  command_refused words (chain file other) is r seven = absurd (no_seven (chain_small file other r) seven)
+  command_refused words (bench count) is r seven = let zero = r.0 in absurd (omega (arith, zero, seven))
   command_refused words (run file prog store turns) is r seven =
       let h = (run_causes s file prog store turns status output r).unfit seven in
       (inl (file, prog, store, turns, is, h.0), h.1)
@@ -122,6 +136,8 @@ module _ (s : ShelfUse) (status : ℕ) (output : List ℕ) where
   command_failed (batch file) r four = (file, inl refl, (batch_causes s file status output r).failed four)
   command_failed (check file other) r four = ⊎_elim (λ f. (file, inl refl, f)) (λ h. (other, inr (inl refl), h.2)) ((check_causes s file other status output r).failed four)
   command_failed (replay file other) r four = ⊎_elim (λ f. (file, inl refl, f)) (λ h. (other, inr (inl refl), h.2)) ((replay_causes s file other status output r).failed four)
+  command_failed (chain file other) r four = ⊎_elim (λ f. (file, inl refl, f)) (λ h. (other, inr (inl refl), h.2)) ((chain_causes s file other status output r).failed four)
+  command_failed (bench count) r four = let zero = r.0 in absurd (omega (arith, zero, four))
   command_failed (run file prog store turns) r four = (file, inl refl, (run_causes s file prog store turns status output r).failed four)
   command_failed (oneloop file prog) r four = (file, inl refl, (one_loop_causes s file prog status output r).failed four)
 
@@ -137,6 +153,9 @@ command_once s unfailed told (check file other) =
     gets_once s file _ _ (λ t. AsksText t (λ q. GetsFile s other None [] (ChecksBytes q))) (told file) unfailed (λ t. text_once t (λ q. GetsFile s other None [] (ChecksBytes q)) (λ q. gets_once s other None [] (ChecksBytes q) (told other) unfailed (bytes_once q)))
 command_once s unfailed told (replay file other) =
     gets_once s file _ _ (λ t. AsksText t (λ q. GetsFile s other None [] (ReplaysBytes q))) (told file) unfailed (λ t. text_once t (λ q. GetsFile s other None [] (ReplaysBytes q)) (λ q. gets_once s other None [] (ReplaysBytes q) (told other) unfailed (replayed_once q)))
+command_once s unfailed told (chain file other) =
+    gets_once s file _ _ (λ t. AsksText t (GetsProof s other)) (told file) unfailed (λ t. text_once t (GetsProof s other) (λ q. gets_once s other _ _ _ (told other) unfailed (proved_once q)))
+command_once s unfailed told (bench count) = tallies_once count
 command_once s unfailed told (run file prog store turns) =
     gets_once s file _ _ (λ t. RunsText t prog store turns) (told file) unfailed (λ t. runs_once t prog store turns)
 command_once s unfailed told (oneloop file prog) = gets_once s file _ _ (λ t. FormsText t prog) (told file) unfailed (λ t. forms_once t prog)
@@ -192,9 +211,11 @@ reply_is s words status output r = record {
   reports = λ file is. report_causes s file status output (replied_to s words status output (report file) is r.cause);
   checks = λ file other is. check_causes s file other status output (replied_to s words status output (check file other) is r.cause);
   replays = λ file other is. replay_causes s file other status output (replied_to s words status output (replay file other) is r.cause);
+  proves = λ file other is. chain_causes s file other status output (replied_to s words status output (chain file other) is r.cause);
   runs = λ file prog store turns is. run_causes s file prog store turns status output (replied_to s words status output (run file prog store turns) is r.cause);
   forms = λ file prog is. one_loop_causes s file prog status output (replied_to s words status output (oneloop file prog) is r.cause);
   batches = λ file is. batch_causes s file status output (replied_to s words status output (batch file) is r.cause);
+  benches = λ count is. bench_causes count status output (replied_to s words status output (bench count) is r.cause);
   shows = λ file is. show_causes s file status output (replied_to s words status output (show file) is r.cause);
   failed = failed_is s words status output r.cause;
   no_command = none_is s words status output r.cause;

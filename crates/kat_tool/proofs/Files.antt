@@ -1,5 +1,5 @@
 -- The parts of a reply to files, put together.
-use Rattle.std.proofs.Common.{◌≡◌, ℕ, List, [], None, Some, Result, Ok, Err, inl, inr, sym, subst}
+use Rattle.std.proofs.Common.{◌≡◌, ℕ, List, Option, Some, Result, Ok, Err, inl, inr, sym, subst}
 use Rattle.kat_model.specs.declared.limits.TheConstants.{MAX_TEXT_BYTES}
 use Rattle.kat_model.specs.Problems.{ProblemParts}
 use Rattle.kat_io.specs.Told.{Told}
@@ -9,11 +9,10 @@ use Rattle.problem_file.specs.Reads.{Reads}
 use Rattle.kat_tool.specs.declared.reply.Reply.{Reply}
 use Rattle.kat_tool.specs.declared.reply.Stop.{Stop}
 use Rattle.kat_tool.specs.Asking.{Asks}
-use Rattle.kat_tool.specs.Held.{IsGiven}
+use Rattle.kat_tool.specs.Held.{MayPass, IsGiven}
 use Rattle.kat_tool.specs.Posing.{AsksNone, PosesNone}
 use Rattle.kat_tool.specs.Steps.{ShelfUse, Replying, IsRefusal, GetsFile, GetsText, AsksText, shelf_use}
 use Rattle.kat_tool.specs.Working.Outcomes.{IsOutcome, IsReplied, IsUngiven, IsQuestionOf, IsPosedBy}
-use Rattle.kat_tool.proofs.Contents.{never_past}
 use Rattle.kat_tool.proofs.Outcomes.{IsStop-weaker, IsReplied-weaker}
 
 -- the question of what a text says is the problem that it poses
@@ -52,17 +51,17 @@ module _ (s : ShelfUse) (file text items : List ℕ) (GoesOn : ProblemParts → 
       r
 
 -- a second file is got of a shelf that has not failed and holds what it held
-module _ (s : ShelfUse) (content : List ℕ → Told) (before : ℕ) (other : List ℕ) (GoesOn : List ℕ → Replying) (holds : content other ≡ s.content other) (stands : before ≡ s.before) (result : Result Reply Stop) where
-  pub ungiven_replied : (line : List ℕ) → IsReplied (IsUngiven (shelf_use content before s.now s.last) other None line) result → IsReplied (GetsFile s other None [] GoesOn) result
-  ungiven_replied line r = IsReplied-weaker (IsUngiven (shelf_use content before s.now s.last) other None line) (GetsFile s other None [] GoesOn) weaker result r
+module _ (s : ShelfUse) (content : List ℕ → Told) (before : ℕ) (other : List ℕ) (limit : Option ℕ) (line : List ℕ) (GoesOn : List ℕ → Replying) (holds : content other ≡ s.content other) (stands : before ≡ s.before) (result : Result Reply Stop) where
+  pub ungiven_replied : IsReplied (IsUngiven (shelf_use content before s.now s.last) other limit line) result → IsReplied (GetsFile s other limit line GoesOn) result
+  ungiven_replied r = IsReplied-weaker (IsUngiven (shelf_use content before s.now s.last) other limit line) (GetsFile s other limit line GoesOn) weaker result r
     where
-      weaker : (status : ℕ) (output : List ℕ) → IsUngiven (shelf_use content before s.now s.last) other None line status output → GetsFile s other None [] GoesOn status output
+      weaker : (status : ℕ) (output : List ℕ) → IsUngiven (shelf_use content before s.now s.last) other limit line status output → GetsFile s other limit line GoesOn status output
       weaker status output (inl f) = inl (record { fails = (subst (λ n. Rose n s.now) stands f.fails.0, f.fails.1); has_status = f.has_status; printed = f.printed })
-      weaker status output (inr h) = absurd (never_past (content other) h.1.past)
+      weaker status output (inr h) = inr (inl (h.0, record { past = subst (λ t. MayPass t limit) holds h.1.past; printed = h.1.printed }))
 
-  pub given_replied : (bytes items : List ℕ) → bytes ≡ items → IsGiven (content other) None items → IsReplied (GoesOn bytes) result → IsReplied (GetsFile s other None [] GoesOn) result
+  pub given_replied : (bytes items : List ℕ) → bytes ≡ items → IsGiven (content other) limit items → IsReplied (GoesOn bytes) result → IsReplied (GetsFile s other limit line GoesOn) result
   given_replied bytes items same given r =
-      IsReplied-weaker (GoesOn bytes) (GetsFile s other None [] GoesOn)
-      (λ status output h. inr (inr (bytes, subst (λ t. IsGiven t None bytes) holds (subst (IsGiven (content other) None) (sym same) given), h)))
+      IsReplied-weaker (GoesOn bytes) (GetsFile s other limit line GoesOn)
+      (λ status output h. inr (inr (bytes, subst (λ t. IsGiven t limit bytes) holds (subst (IsGiven (content other) limit) (sym same) given), h)))
       result
       r

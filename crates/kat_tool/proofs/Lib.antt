@@ -12,6 +12,7 @@ pub mod GoalLists
 pub mod BatchReplies
 pub mod CheckReplies
 pub mod ReplayReplies
+pub mod ChainReplies
 pub mod StoreValues
 pub mod ShowReplies
 pub mod NamedPrograms
@@ -21,6 +22,7 @@ pub mod FileVariables
 pub mod Counters
 pub mod FormNames
 pub mod OneLoopReplies
+pub mod BenchReplies
 pub mod Calls
 mod PlainTexts
 mod PlainPrograms

@@ -3,11 +3,11 @@ use Rattle.std.specs.Prelude.{ℕ, ◌^◌, List, [], ◌∷◌, Option, None, S
 use Rattle.std.specs.Option.{option_map}
 use Rattle.std.specs.Str.{bytes_eq}
 use Rattle.kat_tool.specs.declared.words.Command.{Command as Chosen}
-use Rattle.kat_tool.specs.declared.words.Command.TheVariants.{Decide, Report, Show, Batch, Check, Replay, Run, OneLoop}
-use Rattle.kat_tool.specs.Numbers.{number_below}
+use Rattle.kat_tool.specs.declared.words.Command.TheVariants.{Decide, Report, Show, Batch, Check, Replay, Chain, Run, OneLoop, Bench}
+use Rattle.kat_tool.specs.Numbers.{number_below, count_of}
 
--- a command and its words: the file of the problem or of several goals, and that of the evidence; or a program of the file, and with it the word
--- of a store and a number of turns
+-- a command and its words: the file of the problem or of several goals, and that of the evidence or the proof; or a program
+-- of the file, and with it the word of a store and a number of turns; or a number of problems
 pub data Command : Type 0 where
   decide : (file : List ℕ) → Command
   report : (file : List ℕ) → Command
@@ -15,8 +15,10 @@ pub data Command : Type 0 where
   batch : (file : List ℕ) → Command
   check : (file evidence : List ℕ) → Command
   replay : (file evidence : List ℕ) → Command
+  chain : (file proof : List ℕ) → Command
   run : (file prog store : List ℕ) → (turns : ℕ) → Command
   oneloop : (file prog : List ℕ) → Command
+  bench : (count : ℕ) → Command
 
 -- a command of the program without the addresses that its words have
 abbrev pub command_seen : Chosen → Command
@@ -26,34 +28,38 @@ command_seen (Show file) = show file.now
 command_seen (Batch file) = batch file.now
 command_seen (Check file evidence) = check file.now evidence.now
 command_seen (Replay file evidence) = replay file.now evidence.now
+command_seen (Chain file proof) = chain file.now proof.now
 command_seen (Run file prog store turns) = run file.now prog.now store.now turns
 command_seen (OneLoop file prog) = oneloop file.now prog.now
+command_seen (Bench count) = bench count.number
 
 -- a word that is not empty and does not begin with a dash
 abbrev pub is_value : List ℕ → Bool
 is_value [] = false
 is_value (b ∷ bs) = not (b == 45)
 
--- the commands of one file, of a file and an option, of a file and its evidence or a program, and of a file, a program, a
--- store and turns
-abbrev pub with_file : List ℕ → List ℕ → Option Command
+-- the commands of one file or of a number, of a file and an option, of a file and its evidence, a proof or a program, and of a file, a
+-- program, a store and turns
+unfoldable pub with_file : List ℕ → List ℕ → Option Command
 with_file name file =
     if bytes_eq name (codes "decide") then Some (decide file)
     else if bytes_eq name (codes "show") then Some (show file)
     else if bytes_eq name (codes "batch") then Some (batch file)
+    else if bytes_eq name (codes "bench") then option_map (λ n. bench n) (count_of file)
     else None
 
-abbrev pub with_option : List ℕ → List ℕ → List ℕ → Option Command
+unfoldable pub with_option : List ℕ → List ℕ → List ℕ → Option Command
 with_option name file option = if bytes_eq name (codes "decide") && bytes_eq option (codes "--json") then Some (report file) else None
 
-abbrev pub with_value : List ℕ → List ℕ → List ℕ → Option Command
+unfoldable pub with_value : List ℕ → List ℕ → List ℕ → Option Command
 with_value name file value =
     if bytes_eq name (codes "check") then Some (check file value)
     else if bytes_eq name (codes "replay") then Some (replay file value)
+    else if bytes_eq name (codes "chain") then Some (chain file value)
     else if bytes_eq name (codes "oneloop") then Some (oneloop file value)
     else None
 
-abbrev pub with_turns : List ℕ → List ℕ → List ℕ → List ℕ → List ℕ → Option Command
+unfoldable pub with_turns : List ℕ → List ℕ → List ℕ → List ℕ → List ℕ → Option Command
 with_turns name file prog store turns = if bytes_eq name (codes "run") then option_map (λ n. run file prog store n) (number_below (2 ^ 64) turns) else None
 
 -- the command of a list of words, by its place in the table
@@ -71,5 +77,7 @@ files_of (show file) = file ∷ []
 files_of (batch file) = file ∷ []
 files_of (check file evidence) = file ∷ evidence ∷ []
 files_of (replay file evidence) = file ∷ evidence ∷ []
+files_of (chain file proof) = file ∷ proof ∷ []
 files_of (run file prog store turns) = file ∷ []
 files_of (oneloop file prog) = file ∷ []
+files_of (bench count) = []

@@ -11,12 +11,14 @@ pub mod Report
 pub mod Batch
 pub mod Check
 pub mod Replay
+pub mod Chain
 pub mod Show
 pub mod ProgramWords
 pub mod StoreWords
 pub mod RunTexts
 pub mod Running
 pub mod OneLoop
+pub mod Bench
 pub mod Replies
 pub mod Agreement
 pub mod Run

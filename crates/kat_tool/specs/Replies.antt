@@ -1,6 +1,6 @@
 -- What the top call replies to words.
 use Rattle.std.specs.Prelude.{◌≡◌, ◌⊎◌, ℕ, List, None, Some, codes}
-use Rattle.kat_tool.specs.Commands.{Command, decide, report, show, batch, check, replay, run, oneloop, command_of}
+use Rattle.kat_tool.specs.Commands.{Command, decide, report, show, batch, check, replay, chain, run, oneloop, bench, command_of}
 use Rattle.kat_tool.specs.Steps.{ShelfUse, Replying}
 use Rattle.kat_tool.specs.Decide.{Decides}
 use Rattle.kat_tool.specs.Report.{Reports}
@@ -8,8 +8,10 @@ use Rattle.kat_tool.specs.Show.{Shows}
 use Rattle.kat_tool.specs.Batch.{Batches}
 use Rattle.kat_tool.specs.Check.{Checks}
 use Rattle.kat_tool.specs.Replay.{Replays}
+use Rattle.kat_tool.specs.Chain.{Proves}
 use Rattle.kat_tool.specs.Running.{Runs}
 use Rattle.kat_tool.specs.OneLoop.{Forms}
+use Rattle.kat_tool.specs.Bench.{Tallies}
 
 -- the reply to a command
 abbrev pub RepliesTo : ShelfUse → Command → Replying
@@ -19,8 +21,10 @@ RepliesTo s (show file) = Shows s file
 RepliesTo s (batch file) = Batches s file
 RepliesTo s (check file evidence) = Checks s file evidence
 RepliesTo s (replay file evidence) = Replays s file evidence
+RepliesTo s (chain file proof) = Proves s file proof
 RepliesTo s (run file prog store turns) = Runs s file prog store turns
 RepliesTo s (oneloop file prog) = Forms s file prog
+RepliesTo s (bench count) = Tallies count
 
 -- the words have no command
 pub record HasNoCommand (words : List (List ℕ)) (status : ℕ) (output : List ℕ) : Type 0 where

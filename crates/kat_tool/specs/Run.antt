@@ -3,7 +3,7 @@ use Rattle.std.specs.Prelude.{◌≡◌, ◌≢◌, ◌⊎◌, ℕ, List, Option
 use Rattle.std.specs.Io.KnownBytes.{Appends, Keeps}
 use Rattle.kat_io.specs.Outside.{Rose, AppendsFront}
 use Rattle.kat_model.specs.Members.{Has}
-use Rattle.kat_tool.specs.Commands.{Command, decide, report, show, batch, check, replay, run, oneloop, command_of, files_of}
+use Rattle.kat_tool.specs.Commands.{Command, decide, report, show, batch, check, replay, chain, run, oneloop, bench, command_of, files_of}
 use Rattle.kat_tool.specs.Steps.{ShelfUse, HasFailedOn}
 use Rattle.kat_tool.specs.Decide.{DecideCauses}
 use Rattle.kat_tool.specs.Report.{ReportCauses}
@@ -11,8 +11,10 @@ use Rattle.kat_tool.specs.Show.{ShowCauses}
 use Rattle.kat_tool.specs.Batch.{BatchCauses}
 use Rattle.kat_tool.specs.Check.{CheckCauses}
 use Rattle.kat_tool.specs.Replay.{ReplayCauses}
+use Rattle.kat_tool.specs.Chain.{ChainCauses}
 use Rattle.kat_tool.specs.Running.{MayMisfit, RunCauses}
 use Rattle.kat_tool.specs.OneLoop.{MayLackProgram, OneLoopCauses}
+use Rattle.kat_tool.specs.Bench.{BenchCauses}
 use Rattle.kat_tool.specs.Replies.{Replies}
 use Rattle.kat_tool.specs.Agreement.{IsAgreed}
 
@@ -56,9 +58,11 @@ pub record IsReply (s : ShelfUse) (words : List (List ℕ)) (status : ℕ) (outp
   pub reports : (file : List ℕ) → command_of words ≡ Some (report file) → ReportCauses s file status output
   pub checks : (file other : List ℕ) → command_of words ≡ Some (check file other) → CheckCauses s file other status output
   pub replays : (file other : List ℕ) → command_of words ≡ Some (replay file other) → ReplayCauses s file other status output
+  pub proves : (file other : List ℕ) → command_of words ≡ Some (chain file other) → ChainCauses s file other status output
   pub runs : (file prog store : List ℕ) (turns : ℕ) → command_of words ≡ Some (run file prog store turns) → RunCauses s file prog store turns status output
   pub forms : (file prog : List ℕ) → command_of words ≡ Some (oneloop file prog) → OneLoopCauses s file prog status output
   pub batches : (file : List ℕ) → command_of words ≡ Some (batch file) → BatchCauses s file status output
+  pub benches : (count : ℕ) → command_of words ≡ Some (bench count) → BenchCauses count status output
   pub shows : (file : List ℕ) → command_of words ≡ Some (show file) → ShowCauses s file status output
   pub failed : status ≡ 4 → HasFailed s words status output
   pub no_command : command_of words ≡ None → status ≡ 7

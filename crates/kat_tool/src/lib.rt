@@ -3,6 +3,8 @@
 
 mod asking;
 mod batch;
+mod bench;
+mod chain;
 mod check;
 mod counter;
 mod decide;
@@ -27,8 +29,8 @@ mod words;
 pub use laws::{causes_exclude, words_give_stores};
 pub use reply::Reply;
 pub use text::{
-    batch_reply, checked_texts, decided_text, one_loop_reply, replayed_texts, reported_text,
-    run_reply, show_reply,
+    batch_reply, checked_texts, decided_text, one_loop_reply, proved_texts, replayed_texts,
+    reported_text, run_reply, show_reply,
 };
 pub use top::run;
 pub use words::Words;

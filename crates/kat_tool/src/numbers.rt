@@ -1,9 +1,10 @@
 //! Numbers in words of the command line.
-ghost use Rattle.std.specs.Prelude.{◌≡◌, ◌^◌, true};
+ghost use Rattle.std.specs.Prelude.{◌≡◌, ◌≤◌, ◌^◌, true};
+ghost use Rattle.std.specs.Option.{option_map};
 ghost use Rattle.std.specs.Char.{is_ascii_digit};
 ghost use Rattle.std.specs.List.{list_all};
 ghost use Rattle.kat_model.specs.Stores.{modulus};
-ghost use Rattle.kat_tool.specs.Numbers.{is_number, number_below};
+ghost use Rattle.kat_tool.specs.Numbers.{is_number, number_below, count_of};
 
 use kat_model::Width;
 
@@ -38,6 +39,23 @@ pub(crate) fn number_within(width: Width, word: &str) -> Option<u64>
 {
     match number_of(word) {
         Some(n) if n <= width.greatest() => Some(n),
+        _ => None,
+    }
+}
+
+/// A number of generated problems, of which there are 10,000.
+#[derive(Clone, Copy)]
+pub(crate) struct ProblemCount {
+    pub number: u64,
+    ghost within: { number ≤ 10000 },
+}
+
+/// The number of problems that the word is: from 1 to 10,000.
+pub(crate) fn count_of(word: &str) -> Option<ProblemCount>
+    ensures { option_map (λ c. c.number) result ≡ count_of word.now }
+{
+    match number_of(word) {
+        Some(number) if 0 < number && number <= 10_000 => Some(ProblemCount { number }),
         _ => None,
     }
 }

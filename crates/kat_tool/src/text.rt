@@ -1,4 +1,4 @@
-//! `decide`, `batch`, `check`, `replay`, `run`, `oneloop` and `show` on the bytes of texts, with no outside.
+//! `decide`, `batch`, `check`, `replay`, `chain`, `run`, `oneloop` and `show` on the bytes of texts, with no outside.
 ghost use Rattle.std.specs.Prelude.{◌≡◌, ℕ, List, IfOk};
 ghost use Rattle.kat_model.specs.Problems.{ProblemParts};
 ghost use Rattle.kat_model.specs.Expressions.{CondTree};
@@ -16,12 +16,13 @@ ghost use Rattle.kat_tool.specs.Report.{ReportsText, ReportHeadline};
 ghost use Rattle.kat_tool.specs.Batch.{AnswersText, BatchHeadline};
 ghost use Rattle.kat_tool.specs.Check.{ChecksTexts, CheckHeadline};
 ghost use Rattle.kat_tool.specs.Replay.{ReplaysTexts, ReplayHeadline};
+ghost use Rattle.kat_tool.specs.Chain.{ProvesTexts, ChainHeadline};
 ghost use Rattle.kat_tool.specs.Running.{RunsText, RunHeadline};
 ghost use Rattle.kat_tool.specs.OneLoop.{FormsText, OneLoopHeadline};
 ghost use Rattle.kat_tool.specs.Show.{ShowsText, ShowHeadline};
 
 use crate::reply::{Reply, Stop};
-use crate::{batch, check, decide, oneloop, replay, report, running, show};
+use crate::{batch, chain, check, decide, oneloop, replay, report, running, show};
 use kat_model::NoMemory;
 use std::alloc::Global;
 
@@ -119,6 +120,24 @@ pub fn replayed_texts(alloc: Global, text: &[u8], evidence: &[u8]) -> Result<Rep
     ensures replies { IfOk result (λ r. ReplaysTexts text.now evidence.now r.status r.output.items) }
 {
     match replay::texts_reply(alloc, text, evidence) {
+        Ok(reply) => Ok(reply),
+        Err(Stop::Replied(reply)) => Ok(reply),
+        Err(Stop::NoMemory) => Err(NoMemory),
+    }
+}
+
+/// What `chain` answers to the bytes of a text and of a proof, whoever wrote it. Where the text asks a question, the status
+/// is 0 exactly where the bytes spell a chain of equations from its left side to its right side by lines that hold, and then
+/// both sides denote one relation in every finite table that keeps the hypotheses, and the goal of a concrete file holds of
+/// all its stores; 2 exactly where they spell none, with the line of their first fault; and 3 exactly where they spell one
+/// that is no such chain, with the line of the first reason. It fails only when out of memory.
+pub fn proved_texts(alloc: Global, text: &[u8], proof: &[u8]) -> Result<Reply, NoMemory>
+    ensures headline { (q : ProblemParts) → Asks text.now q
+        → IfOk result (λ r. ChainHeadline proof.now q r.status r.output.items) }
+    ensures stores { (f : FileParts) → Reads text.now f → IsConcrete f → IfOk result (λ r. r.status ≡ 0 → Agrees f) }
+    ensures replies { IfOk result (λ r. ProvesTexts text.now proof.now r.status r.output.items) }
+{
+    match chain::texts_reply(alloc, text, proof) {
         Ok(reply) => Ok(reply),
         Err(Stop::Replied(reply)) => Ok(reply),
         Err(Stop::NoMemory) => Err(NoMemory),

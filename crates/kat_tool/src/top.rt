@@ -8,12 +8,15 @@ ghost use Rattle.kat_tool.specs.Show.{Shows};
 ghost use Rattle.kat_tool.specs.Batch.{Batches};
 ghost use Rattle.kat_tool.specs.Check.{Checks};
 ghost use Rattle.kat_tool.specs.Replay.{Replays};
+ghost use Rattle.kat_tool.specs.Chain.{Proves};
 ghost use Rattle.kat_tool.specs.Running.{Runs};
 ghost use Rattle.kat_tool.specs.OneLoop.{Forms};
+ghost use Rattle.kat_tool.specs.Bench.{Tallies};
 ghost use Rattle.kat_tool.specs.Replies.{RepliesTo, Replies};
 ghost use Rattle.kat_tool.specs.Run.{IsRun, sink_use};
 ghost use Rattle.kat_tool.specs.Working.Outcomes.{IsReplied, Counts};
 
+use crate::bench::tally_reply;
 use crate::getting::{file_bytes, file_text};
 use crate::posing::problem_in;
 use crate::reply::{Reply, Stop, line};
@@ -21,9 +24,9 @@ use crate::text::{
     batch_reply, decided_text, one_loop_reply, reported_text, run_reply, show_reply,
 };
 use crate::words::{Command, Words};
-use crate::{check, replay};
+use crate::{chain, check, replay};
 use kat_io::{Shelf, Sink, send};
-use kat_model::NoMemory;
+use kat_model::{MAX_TEXT_BYTES, NoMemory};
 use std::alloc::Global;
 
 fn decide_file<S: Shelf>(alloc: Global, file: &str, shelf: &mut S) -> Result<Reply, Stop>
@@ -95,6 +98,24 @@ fn replay_files<S: Shelf>(
     replay::bytes_reply(alloc, &problem, &bytes)
 }
 
+// The proof is got as evidence is, within a limit.
+fn chain_files<S: Shelf>(
+    alloc: Global,
+    file: &str,
+    proof: &str,
+    shelf: &mut S,
+) -> Result<Reply, Stop>
+    ensures replied { IsReplied (Proves (shelf_use (S.content shelf.old) (S.faults shelf.old) (S.faults shelf.new) (S.last_failed shelf.new)) file.now proof.now) result }
+    ensures counts { Counts (S.faults shelf.old) (S.faults shelf.new) result }
+    ensures kept { (name : List ℕ) → S.content shelf.new name ≡ S.content shelf.old name }
+{
+    let text = file_text(alloc, file, shelf)?;
+    let problem = problem_in(alloc, &text)?;
+    let limit = Some(MAX_TEXT_BYTES as u64);
+    let bytes = file_bytes(alloc, proof, shelf, limit, b"refused: chain TooLong\n")?;
+    chain::bytes_reply(alloc, &problem, &bytes)
+}
+
 fn run_file<S: Shelf>(
     alloc: Global,
     file: &str,
@@ -141,6 +162,7 @@ fn command_reply<S: Shelf>(
         Command::Batch(file) => batch_file(alloc, file, shelf),
         Command::Check(file, evidence) => check_files(alloc, file, evidence, shelf),
         Command::Replay(file, evidence) => replay_files(alloc, file, evidence, shelf),
+        Command::Chain(file, proof) => chain_files(alloc, file, proof, shelf),
         Command::Run {
             file,
             prog,
@@ -148,6 +170,7 @@ fn command_reply<S: Shelf>(
             turns,
         } => run_file(alloc, file, prog, store, turns, shelf),
         Command::OneLoop(file, prog) => one_loop_file(alloc, file, prog, shelf),
+        Command::Bench(count) => Ok(tally_reply(alloc, count)?),
     }
 }
 
@@ -177,8 +200,12 @@ fn answer<S: Shelf>(alloc: Global, words: &Words, shelf: &mut S) -> Result<Reply
 ///
 /// With 2 and 3 the line that is printed says why.
 ///
-/// Where FILE is concrete, of variables and programs alone, `decide` and `check` end with 0 only where its goal holds of
-/// all its stores: both programs end in the same stores from each, or the triple holds of every run that ends.
+/// `chain` FILE PROOF checks an equational proof of FILE's goal: 0 where it is one, and then both sides denote one relation
+/// in every table that keeps the hypotheses; 2 where FILE or PROOF is refused; and 3 where the proof starts or ends at
+/// another term than the goal's sides or has a line that does not hold, with the first reason.
+///
+/// Where FILE is concrete, of variables and programs alone, `decide`, `check` and `chain` end with 0 only where its goal
+/// holds of all its stores: both programs end in the same stores from each, or the triple holds of every run that ends.
 ///
 /// `decide` FILE `--json` answers the same as `decide` FILE, with a line of JSON that holds the text of the evidence in its
 /// place.
@@ -195,6 +222,9 @@ fn answer<S: Shelf>(alloc: Global, words: &Words, shelf: &mut S) -> Result<Reply
 /// `oneloop` FILE PROG prints a form of a program of FILE with one loop and one variable more, as a problem of its own: 0
 /// where there is one, and 2 where FILE is refused, has 64 variables or a program with too many statements.
 ///
+/// `bench` N decides N generated problems, from 1 to 10,000, and prints how many are the same, how many are not, and the
+/// fewest moves of the strings that show it, together. It gets no file, and its status is 0.
+///
 /// | status | meaning for each command |
 /// |---|---|
 /// | 4 | the shelf failed in this call on a file that the words name |
@@ -205,11 +235,12 @@ fn answer<S: Shelf>(alloc: Global, words: &Words, shelf: &mut S) -> Result<Reply
 /// All this is one statement, `IsRun`, on the words, on what was seen of the shelf and of the sink, and on the status. Its
 /// field `answered` gives for each status but 5 and 6 the bytes that were sent, and what they say: `decides.headline` is
 /// the statement on `decide`, over the text that the shelf tells, in the words of `decided_text`; `checks.headline` and
-/// `replays.headline` are those of `checked_texts` and `replayed_texts`, `runs.headline` is that of `run_reply`,
-/// `forms.headline` that of `one_loop_reply`, `batches.headline` that of `batch_reply`, `shows.headline` that of `show_reply`, and `reports.headline` that of
-/// `reported_text`; `decides.same_stores`, `reports.same_stores` and `checks.same_stores` are the statements on stores. The
-/// further fields of `decides`, `reports`, `batches`, `checks`, `replays`, `runs`, `forms` and `shows` give the cause of each status
-/// where the shelf tells nothing. `unsent` is status 5, `no_memory` 6.
+/// `replays.headline` are those of `checked_texts` and `replayed_texts`, `proves.headline` is that of `proved_texts`,
+/// `runs.headline` that of `run_reply`, `forms.headline` that of `one_loop_reply`, `batches.headline` that of `batch_reply`,
+/// `shows.headline` that of `show_reply`, and `reports.headline` that of `reported_text`; `decides.same_stores`,
+/// `reports.same_stores`, `checks.same_stores` and `proves.same_stores` are the statements on stores. The further fields of
+/// `decides`, `reports`, `batches`, `checks`, `replays`, `proves`, `runs`, `forms` and `shows` give the cause of each status
+/// where the shelf tells nothing; `benches` is the statement on `bench`. `unsent` is status 5, `no_memory` 6.
 pub fn run<S: Shelf, K: Sink>(alloc: Global, words: &Words, shelf: &mut S, sink: &mut K) -> u8
     ensures is_run { IsRun (record {
       words = words.now;

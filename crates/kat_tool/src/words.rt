@@ -3,7 +3,7 @@ ghost use Rattle.std.specs.Prelude.{◌≡◌, ◌++◌, ◌∷◌, [], List, �
 ghost use Rattle.std.specs.Option.{option_map};
 ghost use Rattle.kat_tool.specs.Commands.{command_of, command_seen, is_value, with_file, with_option, with_value, with_turns};
 
-use crate::numbers::number_of;
+use crate::numbers::{ProblemCount, count_of, number_of};
 use kat_model::NoMemory;
 use std::alloc::Global;
 use std::marker::Model;
@@ -38,6 +38,8 @@ pub(crate) enum Command<'a> {
     Check(&'a str, &'a str),
     /// `replay` FILE EVIDENCE
     Replay(&'a str, &'a str),
+    /// `chain` FILE PROOF
+    Chain(&'a str, &'a str),
     /// `run` FILE PROG STORE TURNS
     Run {
         file: &'a str,
@@ -47,6 +49,8 @@ pub(crate) enum Command<'a> {
     },
     /// `oneloop` FILE PROG
     OneLoop(&'a str, &'a str),
+    /// `bench` N
+    Bench(ProblemCount),
 }
 
 impl Words {
@@ -75,27 +79,59 @@ impl Words {
         ensures { option_map command_seen result ≡ command_of self.now }
     {
         match self.texts.as_slice() {
-            [name, file] if is_value(file.as_str()) => with_file(name.as_str(), file.as_str()),
-            [name, file, last] if is_value(file.as_str()) => {
-                with_last(name.as_str(), file.as_str(), last.as_str())
-            }
-            [name, file, prog, store, turns]
-                if is_value(file.as_str()) && is_value(prog.as_str()) && is_value(store.as_str()) =>
-                {
-                    with_turns(
-                        name.as_str(),
-                        file.as_str(),
-                        prog.as_str(),
-                        store.as_str(),
-                        turns.as_str(),
-                    )
-                }
+            [name, file] => of_two(name.as_str(), file.as_str()),
+            [name, file, last] => of_three(name.as_str(), file.as_str(), last.as_str()),
+            [name, file, prog, store, turns] => of_five(
+                name.as_str(),
+                file.as_str(),
+                prog.as_str(),
+                store.as_str(),
+                turns.as_str(),
+            ),
             _ => None,
         }
     }
 }
 
-// The commands of one file.
+// The command of two words, of three and of five.
+fn of_two<'a>(name: &str, file: &'a str) -> Option<Command<'a>>
+    ensures { option_map command_seen result ≡ command_of (name.now ∷ file.now ∷ []) }
+{
+    if is_value(file) {
+        with_file(name, file)
+    } else {
+        None
+    }
+}
+
+fn of_three<'a>(name: &str, file: &'a str, last: &'a str) -> Option<Command<'a>>
+    ensures { option_map command_seen result ≡ command_of (name.now ∷ file.now ∷ last.now ∷ []) }
+{
+    if is_value(file) {
+        with_last(name, file, last)
+    } else {
+        None
+    }
+}
+
+fn of_five<'a>(
+    name: &str,
+    file: &'a str,
+    prog: &'a str,
+    store: &'a str,
+    turns: &str,
+) -> Option<Command<'a>>
+    ensures { option_map command_seen result ≡ command_of (name.now ∷ file.now ∷ prog.now ∷ store.now ∷ turns.now ∷ []) }
+{
+    if is_value(file) && is_value(prog) && is_value(store) {
+        with_turns(name, file, prog, store, turns)
+    } else {
+        None
+    }
+}
+
+// The commands of one file, or of a number.
+#[tactic(auto, unfolding(crate::specs::Commands::with_file))]
 fn with_file<'a>(name: &str, file: &'a str) -> Option<Command<'a>>
     ensures { option_map command_seen result ≡ with_file name.now file.now }
 {
@@ -103,6 +139,10 @@ fn with_file<'a>(name: &str, file: &'a str) -> Option<Command<'a>>
         "decide" => Some(Command::Decide(file)),
         "show" => Some(Command::Show(file)),
         "batch" => Some(Command::Batch(file)),
+        "bench" => match count_of(file) {
+            Some(count) => Some(Command::Bench(count)),
+            None => None,
+        },
         _ => None,
     }
 }
@@ -119,6 +159,7 @@ fn with_last<'a>(name: &str, file: &'a str, last: &'a str) -> Option<Command<'a>
 }
 
 // The commands of a file and an option.
+#[tactic(auto, unfolding(crate::specs::Commands::with_option))]
 fn with_option<'a>(name: &str, file: &'a str, option: &str) -> Option<Command<'a>>
     ensures { option_map command_seen result ≡ with_option name.now file.now option.now }
 {
@@ -128,19 +169,22 @@ fn with_option<'a>(name: &str, file: &'a str, option: &str) -> Option<Command<'a
     }
 }
 
-// The commands of a file and its evidence, or a program.
+// The commands of a file and its evidence, a proof or a program.
+#[tactic(auto, unfolding(crate::specs::Commands::with_value))]
 fn with_value<'a>(name: &str, file: &'a str, value: &'a str) -> Option<Command<'a>>
     ensures { option_map command_seen result ≡ with_value name.now file.now value.now }
 {
     match name {
         "check" => Some(Command::Check(file, value)),
         "replay" => Some(Command::Replay(file, value)),
+        "chain" => Some(Command::Chain(file, value)),
         "oneloop" => Some(Command::OneLoop(file, value)),
         _ => None,
     }
 }
 
 // The commands of a file, a program, a store and turns.
+#[tactic(auto, unfolding(crate::specs::Commands::with_turns))]
 fn with_turns<'a>(
     name: &str,
     file: &'a str,

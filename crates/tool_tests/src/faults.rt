@@ -15,6 +15,7 @@ const SHELVES: &[ShelfRow] = &[
     ("check f e", "f", "e", 0, "4 cannot read f\n"),
     ("check f e", "f", "e", 1, "4 cannot read e\n"),
     ("check f e", "f", "g", 9, "4 cannot read e\n"),
+    ("chain f e", "f", "e", 1, "4 cannot read e\n"),
     ("check f e", "f", "e", 2, "0 accepted equal\n"),
 ];
 

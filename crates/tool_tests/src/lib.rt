@@ -4,6 +4,10 @@
 #[cfg(test)]
 mod batches;
 #[cfg(test)]
+mod benches;
+#[cfg(test)]
+mod chains;
+#[cfg(test)]
 mod checking;
 #[cfg(test)]
 mod deciding;

@@ -29,7 +29,7 @@ const TEXTS: &[(&str, &str)] = &[
 // The problem is refused before its evidence.
 #[test]
 fn texts_are_refused(rt: HostRuntime) -> Result<(), Fail> {
-    for line in ["decide f", "check f e", "replay f e", "show f"] {
+    for line in ["decide f", "check f e", "replay f e", "chain f e", "show f"] {
         for (text, want) in TEXTS {
             let is_refused = replies(rt.alloc(), line, text.as_bytes(), b"", want)?;
             assert!(rt; is_refused, "{line} on {text}");

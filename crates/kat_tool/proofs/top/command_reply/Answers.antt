@@ -11,3 +11,6 @@ returns-in-Run-clause-replied g c = rw c.in-Run.is c.run_file.ensures.replied
 
 pub returns-in-OneLoop-clause-replied : goal.returns-in-OneLoop-clause-replied
 returns-in-OneLoop-clause-replied g c = rw c.in-OneLoop.is c.one_loop_file.ensures.replied
+
+pub returns-in-Chain-clause-replied : goal.returns-in-Chain-clause-replied
+returns-in-Chain-clause-replied g c = rw c.in-Chain.is c.chain_files.ensures.replied
