@@ -1,0 +1,139 @@
+-- What is found of a loop: the sets that its invariant grows through, until its body keeps it.
+use Rattle.std.proofs.Common.{◌≡◌, ℕ, zero, suc, ◌+◌, ◌<◌, ◌≤◌, ◌⊎◌, ⊎_elim, List, [], ◌∷◌, length, Bool, true, false, not, cond, if◌then◌else◌, ◌&&◌, ◌||◌, refl, sym, ap, ◌∙◌, arith}
+use Rattle.std.proofs.lemmas.Bool.{and_from, or_left, or_right}
+use Rattle.kat_model.specs.Trees.{TestTree, product, test, star}
+use Rattle.kat_model.specs.Problems.{ProblemParts}
+use Rattle.kat_model.specs.Steps.{Atom, truth}
+use Rattle.while_lang.specs.Flows.{FlowTree, loop}
+use Rattle.while_lang.specs.Encoding.{encoded}
+use Rattle.step_diagrams.specs.StepFunctions.{StepDiagramsParts, step_value, IsStepId, KeepsSteps, Entails}
+use Rattle.step_diagrams.proofs.StepSets.{step_value-kept}
+use Rattle.hoare_outlines.specs.Working.AtomSets.{AtomSet, IsSetId, IsAllowedSet}
+use Rattle.hoare_outlines.specs.Working.Reached.{Reached}
+use Rattle.hoare_outlines.specs.Working.Found.{StmtFound, FlowFound}
+use Rattle.hoare_outlines.proofs.SetIds.{set_kept}
+use Rattle.hoare_outlines.proofs.Findings.{part_allowed, union_allowed}
+use Rattle.hoare_outlines.proofs.Reaching.{reached_before, reached_under, reached_again, reached_loop}
+
+-- ---- how many atoms are outside a set
+
+abbrev pub outside : ℕ → AtomSet → ℕ
+outside zero X = if X [] then 0 else 1
+outside (suc n) X = outside n (λ atom. X (false ∷ atom)) + outside n (λ atom. X (true ∷ atom))
+
+pub fewer_outside : (n : ℕ) (X Y : AtomSet) → ((atom : Atom) → length atom ≡ n → X atom ≡ true → Y atom ≡ true) → outside n Y ≤ outside n X
+fewer_outside zero X Y inside = by_value (X []) (Y []) (inside [] refl)
+  where
+    by_value : (a b : Bool) → (a ≡ true → b ≡ true) → cond b 0 1 ≤ cond a 0 1
+    by_value a true f = omega arith
+    by_value true false f = let clash = f refl in cc
+    by_value false false f = omega arith
+fewer_outside (suc n) X Y inside =
+    let first = fewer_outside n (λ atom. X (false ∷ atom)) (λ atom. Y (false ∷ atom)) (λ atom wide h. inside (false ∷ atom) (ap suc wide) h) in
+    let second = fewer_outside n (λ atom. X (true ∷ atom)) (λ atom. Y (true ∷ atom)) (λ atom wide h. inside (true ∷ atom) (ap suc wide) h) in
+    omega (arith, first, second)
+
+-- where there are as many outside a larger set, it is not larger
+pub as_many_outside : (n : ℕ) (X Y : AtomSet) → ((atom : Atom) → length atom ≡ n → X atom ≡ true → Y atom ≡ true) → outside n X ≤ outside n Y → (atom : Atom) → length atom ≡ n → Y atom ≡ true → X atom ≡ true
+as_many_outside zero X Y inside le [] wide h = by_value (X []) (Y []) h le
+  where
+    by_value : (a b : Bool) → b ≡ true → cond a 0 1 ≤ cond b 0 1 → a ≡ true
+    by_value true b e l = refl
+    by_value false true e l = absurd (omega (arith, l))
+    by_value false false e l = cc
+as_many_outside zero X Y inside le (b ∷ atom) wide h = absurd (omega (arith, wide))
+as_many_outside (suc n) X Y inside le [] wide h = absurd (omega (arith, wide))
+as_many_outside (suc n) X Y inside le (false ∷ atom) wide h =
+    let second = fewer_outside n (λ z. X (true ∷ z)) (λ z. Y (true ∷ z)) (λ z w k. inside (true ∷ z) (ap suc w) k) in
+    as_many_outside n (λ z. X (false ∷ z)) (λ z. Y (false ∷ z)) (λ z w k. inside (false ∷ z) (ap suc w) k) (omega (arith, le, second)) atom (omega (arith, wide)) h
+as_many_outside (suc n) X Y inside le (true ∷ atom) wide h =
+    let first = fewer_outside n (λ z. X (false ∷ z)) (λ z. Y (false ∷ z)) (λ z w k. inside (false ∷ z) (ap suc w) k) in
+    as_many_outside n (λ z. X (true ∷ z)) (λ z. Y (true ∷ z)) (λ z w k. inside (true ∷ z) (ap suc w) k) (omega (arith, le, first)) atom (omega (arith, wide)) h
+
+-- the atoms outside the set of an id
+abbrev pub outside_id : StepDiagramsParts → ℕ → ℕ
+outside_id d id = outside d.tests (λ atom. step_value d id atom atom)
+
+-- as diagrams are added there are no more
+pub outside_kept : (old new : StepDiagramsParts) (id : ℕ) → KeepsSteps old new → IsStepId old id → outside_id new id ≤ outside_id old id
+outside_kept old new id kept is =
+    let same : outside new.tests (λ atom. step_value new id atom atom) ≡ outside old.tests (λ atom. step_value new id atom atom) = ap (λ n. outside n (λ atom. step_value new id atom atom)) kept.tests in
+    let fewer = fewer_outside old.tests (λ atom. step_value old id atom atom) (λ atom. step_value new id atom atom) (λ atom wide h. step_value-kept old new kept id is atom atom ∙ h) in
+    omega (arith, same, fewer)
+
+-- a set to which some atom is added has fewer outside
+pub fewer_left : (old new : StepDiagramsParts) (invariant again grown : ℕ) (I A : AtomSet) → KeepsSteps old new → IsSetId old invariant I → IsSetId old again A → (Entails old again invariant → ⊥)
+    → IsSetId new grown (λ atom. I atom || A atom) → outside_id new grown < outside_id old invariant
+fewer_left old new invariant again grown I A kept is_invariant is_again more is_grown = by_order (outside_id new grown) (outside_id old invariant) as_many
+  where
+    by_order : (m n : ℕ) → (n ≤ m → ⊥) → m < n
+    by_order m n f = ⊎_elim (λ lt. lt) (λ le. absurd (f le)) (orders m n)
+      where
+        orders : (m n : ℕ) → (m < n) ⊎ (n ≤ m)
+        orders m n = grind arith
+
+    value_in : (atom : Atom) → length atom ≡ old.tests → step_value old invariant atom atom ≡ I atom
+    value_in atom wide = is_invariant.value atom atom wide wide
+
+    grown_in : (atom : Atom) → length atom ≡ old.tests → step_value new grown atom atom ≡ (I atom || A atom)
+    grown_in atom wide = is_grown.value atom atom (wide ∙ sym kept.tests) (wide ∙ sym kept.tests)
+
+    inside : (atom : Atom) → length atom ≡ old.tests → step_value old invariant atom atom ≡ true → step_value new grown atom atom ≡ true
+    inside atom wide h = grown_in atom wide ∙ or_left (I atom) (A atom) (sym (value_in atom wide) ∙ h)
+
+    as_many : outside_id old invariant ≤ outside_id new grown → ⊥
+    as_many le =
+        more (λ x y lx ly h.
+        let own : A x ≡ true = sym (is_again.value x y lx ly) ∙ h in
+        let same : outside new.tests (λ atom. step_value new grown atom atom) ≡ outside old.tests (λ atom. step_value new grown atom atom) = ap (λ n. outside n (λ atom. step_value new grown atom atom)) kept.tests in
+        let there = as_many_outside old.tests (λ atom. step_value old invariant atom atom) (λ atom. step_value new grown atom atom) inside (omega (arith, le, same)) x lx (grown_in x lx ∙ or_right (I x) (A x) own) in
+        is_invariant.value x y lx ly ∙ sym (value_in x lx) ∙ there)
+
+-- ---- the invariant
+
+module _ (q : ProblemParts) (b : TestTree) (f : FlowTree) where
+  -- the set so far holds the entry, and is reached from it along turns of the loop
+  pub record IsGrown (X I : AtomSet) : Type 0 where
+    pub holds : (atom : Atom) → X atom ≡ true → I atom ≡ true
+    pub allowed : IsAllowedSet q I
+    pub reached : Reached q (star (product (test b) (encoded f))) X I
+
+  pub grown_first : (X : AtomSet) → IsAllowedSet q X → IsGrown X X
+  grown_first X allowed = record { holds = λ atom h. h; allowed = allowed; reached = reached_before q (product (test b) (encoded f)) X allowed }
+
+  pub grown_more : (d : StepDiagramsParts) (X I : AtomSet) (ids : List ℕ) (again : ℕ) → IsGrown X I → (found : FlowFound q f d (λ atom. I atom && truth b atom) ids again) → IsGrown X (λ atom. I atom || found.end atom)
+  grown_more d X I ids again grown found =
+      record {
+        holds = λ atom h. or_left (I atom) (found.end atom) (grown.holds atom h);
+        allowed = union_allowed q I found.end grown.allowed found.allowed;
+        reached = reached_again q (product (test b) (encoded f)) X I found.end found.allowed grown.reached (reached_under q b f I found.end found.allowed found.reached);
+      }
+
+  -- where the body leads back into it, the loop is found
+  pub loop_found : (mid d : StepDiagramsParts) (X I : AtomSet) (ids : List ℕ) (invariant enters again leaves : ℕ) → KeepsSteps mid d → d.tests ≡ q.tests → IsGrown X I → IsSetId mid invariant I → IsSetId mid enters (λ atom. I atom && truth b atom)
+      → IsSetId mid leaves (λ atom. I atom && not (truth b atom)) → FlowFound q f d (λ atom. I atom && truth b atom) ids again → Entails d again invariant → StmtFound q (loop b f) d X (invariant ∷ enters ∷ ids) leaves
+  loop_found mid d X I ids invariant enters again leaves kept tests grown is_invariant is_enters is_leaves found entails =
+      record {
+        sets = I ∷ (λ atom. I atom && truth b atom) ∷ found.sets;
+        are_sets = (set_kept mid d kept invariant I is_invariant, (set_kept mid d kept enters _ is_enters, found.are_sets));
+        end = λ atom. I atom && not (truth b atom);
+        is_end = set_kept mid d kept leaves _ is_leaves;
+        allowed = part_allowed q I (λ atom. not (truth b atom)) grown.allowed;
+        annotated =
+            record {
+              invariant = I;
+              body = λ atom. I atom && truth b atom;
+              bodies = found.sets;
+              body_end = found.end;
+              within = refl;
+              enters = λ atom wide al h t. grown.holds atom h;
+              turns = λ atom wide al h t. and_from (I atom) (truth b atom) h t;
+              runs = found.annotated;
+              returns = λ atom wide al h t.
+                  let own = wide ∙ sym tests in
+                  let inside = entails atom atom own own (found.is_end.value atom atom own own ∙ h) in
+                  sym ((set_kept mid d kept invariant I is_invariant).value atom atom own own) ∙ inside;
+              leaves = λ atom wide al h t. and_from (I atom) (not (truth b atom)) h t;
+            };
+        reached = reached_loop q b (encoded f) X I grown.allowed grown.reached;
+      }

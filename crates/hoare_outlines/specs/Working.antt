@@ -1,0 +1,5 @@
+pub mod AtomSets
+pub mod Annotated
+pub mod Reached
+pub mod Found
+pub mod Noted

@@ -1,0 +1,14 @@
+//! Outlines: proofs of Hoare triples in the form in which people write and read them, with a note at every place of the
+//! program. This crate finds the notes of a triple that holds; the rules and their checker are in `outline_rules`, the
+//! text of notes in `outline_notes`, and what hypotheses say in `simple_hyps`.
+#![tactic(auto)]
+
+mod finding;
+mod noting;
+
+pub use finding::outline;
+pub use outline_notes::{NoteNode, Notes, NotesFault, read_notes, write_notes};
+pub use outline_rules::{
+    NoteAnswer, NoteReason, Task, check_notes, follows_is_same, reasons_are_against,
+};
+pub use simple_hyps::not_simple;

@@ -1,0 +1,9 @@
+pub mod Entailments
+pub mod LeastTargets
+pub mod ConditionRanges
+pub mod TaskRanges
+pub mod HypothesisRanges
+pub mod NodeTests
+pub mod NodeSets
+pub mod Against
+pub mod Soundness

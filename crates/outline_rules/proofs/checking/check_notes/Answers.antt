@@ -1,0 +1,14 @@
+use Rattle.std.proofs.Common.{◌∙◌, ◌++◌, List, map, ap}
+use Rattle.outline_rules.specs.declared.checks.Check.{Check}
+use Rattle.outline_rules.specs.Tasks.{task_parts}
+use Rattle.outline_rules.specs.Follows.{conditions_from}
+use Rattle.outline_rules.specs.Working.Checks.{condition_of}
+use Rattle.outline_rules.proofs.TaskRanges.{task_in_range, checks_in_range}
+use Rattle.outline_rules.proofs.checking.check_notes.Goals as goal
+
+pub least_unmet-requires-clause-in_range : goal.least_unmet-requires-clause-in_range
+least_unmet-requires-clause-in_range c =
+    let q = c.args.problem.now in
+    let t = task_parts c.args.task.now in
+    checks_in_range q t c.deref.result.now (task_in_range q t c.tests.ensures.within c.requires.triple)
+    (ap (map condition_of) c.deref.ensures.value ∙ c.in_ok-last.ensures.checks ∙ ap (λ (l : List Check). map condition_of l ++ conditions_from t.flow 0) c.new-checks.ensures.items)

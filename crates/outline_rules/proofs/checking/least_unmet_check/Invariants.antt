@@ -1,0 +1,16 @@
+use Rattle.std.proofs.Common.{map, take}
+use Rattle.step_diagrams.specs.declared.moments.Moment.TheVariants.{Before, After}
+use Rattle.step_diagrams.specs.StepFunctions.{KeepsSteps}
+use Rattle.outline_notes.specs.NoteLists.{note_holds}
+use Rattle.outline_rules.specs.Working.Checks.{condition_of}
+use Rattle.outline_rules.specs.Working.Sets.{AreMomentSets, TellsLeastUnmet}
+use Rattle.outline_rules.proofs.checking.least_unmet_check.Given as goal
+
+-- the least target so far
+abbrev pub invariant-loop-check : goal.invariant-loop-check
+invariant-loop-check l = record {
+  least : TellsLeastUnmet l.problem (note_holds l.notes) (map condition_of (take l.check-index l.checks)) l.least;
+  before : AreMomentSets l.diagrams Before l.problem.hyps l.notes l.before;
+  after : AreMomentSets l.diagrams After l.problem.hyps l.notes l.after;
+  kept : KeepsSteps l.initial.diagrams l.diagrams;
+}

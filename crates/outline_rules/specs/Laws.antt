@@ -1,0 +1,16 @@
+-- The laws of outlines. Each stands on a function of the crate that does nothing.
+use Rattle.kat_model.specs.Problems.{ProblemParts}
+use Rattle.kat_model.specs.Relations.{Same}
+use Rattle.outline_notes.specs.NoteLists.{NotesParts}
+use Rattle.outline_rules.specs.declared.answer.NoteReason.{NoteReason}
+use Rattle.outline_rules.specs.Tasks.{TaskParts, IsTripleOf}
+use Rattle.outline_rules.specs.Follows.{Follows}
+use Rattle.outline_rules.specs.Reasons.{IsFirstReason}
+
+-- notes that follow show the triple, whoever wrote them
+abbrev pub FollowsIsSame : Type 0
+FollowsIsSame = (q : ProblemParts) (t : TaskParts) (ns : NotesParts) → IsTripleOf q t → Follows q t ns → Same q
+
+-- notes that follow have no reason against them
+abbrev pub ReasonsAreAgainst : Type 0
+ReasonsAreAgainst = (q : ProblemParts) (t : TaskParts) (ns : NotesParts) (reason : NoteReason) → IsFirstReason q t ns reason → Follows q t ns → ⊥

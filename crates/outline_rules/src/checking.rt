@@ -1,0 +1,359 @@
+//! The rule checker of outlines. It shares with the finder the definitions and the diagrams of tests and hypotheses, and
+//! no rule.
+ghost use Rattle.std.specs.Prelude.{◌≡◌, ◌↔◌, map, position, IfOk, IfSome, IfNone, IsTrue, All, length, Some, None, if◌then◌else◌, [], ◌∷◌, ◌++◌};
+ghost use Rattle.kat_model.specs.Trees.{kat_tree, test_tree};
+ghost use Rattle.kat_model.specs.Steps.{truth};
+ghost use Rattle.kat_model.specs.Problems.{IsTestInRange};
+ghost use Rattle.step_diagrams.specs.Interleaved.{atom_at_moment};
+ghost use Rattle.step_diagrams.specs.declared.moments.Moment.{Moment};
+ghost use Rattle.step_diagrams.specs.declared.moments.Moment.TheVariants.{Before, After};
+ghost use Rattle.step_diagrams.specs.StepFunctions.{step_value, IsStepId, IsStepDiagram, KeepsSteps, AreStepDiagrams};
+ghost use Rattle.outline_notes.specs.NoteLists.{AreNotes, node_holds, note_holds};
+ghost use Rattle.simple_hyps.specs.TestTerms.{AreSimple};
+ghost use Rattle.outline_rules.specs.Tasks.{task_parts, IsTripleOf};
+ghost use Rattle.outline_rules.specs.Places.{last_place};
+ghost use Rattle.outline_rules.specs.Follows.{starts, ends, conditions, target, IsMet, HasTests};
+ghost use Rattle.outline_rules.specs.Reasons.{IsOutOfRange, IsNoteAnswer};
+ghost use Rattle.outline_rules.specs.Working.Checks.{guard_tree, condition_of};
+ghost use Rattle.outline_rules.specs.Working.Sets.{tests_out, HasPartsInRange, AreNodeSets, AreMomentSets, HasGuardInRange, HasCheckInRange, TellsLeastUnmet, EntailsUnder, lesser_of};
+
+use crate::answer::{NoteAnswer, NoteReason};
+use crate::checks::{Check, Guard, next_place, push_checks};
+use crate::task::Task;
+use kat_model::{NoMemory, Problem, Test};
+use outline_notes::{NoteNode, Notes};
+use simple_hyps::{allowed_atoms, ruled_out_steps};
+use std::alloc::Global;
+use step_diagrams::{DiagramId, Moment, StepDiagrams};
+
+// The allowed atoms at a moment, and the atoms there of each node of the notes.
+#[derive(Drop)]
+pub(crate) struct MomentSets {
+    pub allowed: DiagramId,
+    pub nodes: Vec<DiagramId>,
+}
+
+// Whether a node tests none of so many tests.
+fn tests_out(node: &NoteNode, tests: usize) -> bool
+    ensures { result ≡ tests_out tests node.now }
+{
+    match node {
+        NoteNode::Branch(test, _, _) => *test >= tests,
+        NoteNode::False | NoteNode::True => false,
+    }
+}
+
+fn first_out(nodes: &[NoteNode], tests: usize) -> Option<usize>
+    ensures { result ≡ position (tests_out tests) nodes.now }
+{
+    nodes.iter().position(|node| tests_out(node, tests))
+}
+
+// The least node of which the test is out of range.
+fn node_out_of_range(nodes: &[NoteNode], tests: usize) -> Option<usize>
+    ensures least { IfSome result (IsOutOfRange tests nodes.now) }
+    ensures none { IfNone result (HasTests tests nodes.now) }
+{
+    first_out(nodes, tests)
+}
+
+// The set of a node at a moment, where those of the earlier nodes are given.
+fn node_set(
+    diagrams: &mut StepDiagrams,
+    earlier: &[DiagramId],
+    node: NoteNode,
+    moment: Moment,
+) -> Result<DiagramId, NoMemory>
+    requires earlier { All (IsStepId diagrams.old) earlier.now }
+    requires node { HasPartsInRange diagrams.old.tests (length earlier.now) node }
+    ensures function { IfOk result (λ id. IsStepDiagram diagrams.new id (λ before after.
+        node_holds (atom_at_moment moment before after) (map (λ e. step_value diagrams.old e before after) earlier.now) node)) }
+    ensures kept { KeepsSteps diagrams.old diagrams.new }
+    ensures sound { AreStepDiagrams diagrams.new }
+{
+    match node {
+        NoteNode::False => Ok(diagrams.constant(false)),
+        NoteNode::True => Ok(diagrams.constant(true)),
+        NoteNode::Branch(test, low, high) => {
+            diagrams.choice(test, moment, earlier[low], earlier[high])
+        }
+    }
+}
+
+// The sets of the nodes at a moment.
+fn node_sets(
+    alloc: Global,
+    diagrams: &mut StepDiagrams,
+    notes: &Notes,
+    moment: Moment,
+) -> Result<Vec<DiagramId>, NoMemory>
+    requires tests { HasTests diagrams.old.tests notes.now.nodes }
+    requires sound { AreStepDiagrams diagrams.old }
+    ensures sets { IfOk result (λ v. AreNodeSets diagrams.new moment notes.now.nodes v.items) }
+    ensures kept { KeepsSteps diagrams.old diagrams.new }
+    ensures sound { AreStepDiagrams diagrams.new }
+{
+    let mut sets = Vec::new(alloc);
+    for node in notes.nodes() {
+        let set = node_set(diagrams, &sets, *node, moment)?;
+        sets.push(set)?;
+    }
+    Ok(sets)
+}
+
+// The sets of the allowed atoms and of the nodes at a moment.
+fn moment_sets(
+    alloc: Global,
+    diagrams: &mut StepDiagrams,
+    problem: &Problem,
+    notes: &Notes,
+    moment: Moment,
+) -> Result<MomentSets, NoMemory>
+    requires same { diagrams.old.tests ≡ problem.now.tests }
+    requires tests { HasTests problem.now.tests notes.now.nodes }
+    ensures sets { IfOk result (AreMomentSets diagrams.new moment problem.now.hyps notes.now) }
+    ensures kept { KeepsSteps diagrams.old diagrams.new }
+    ensures sound { AreStepDiagrams diagrams.new }
+{
+    let allowed = allowed_atoms(diagrams, problem.hyps(), moment)?;
+    let nodes = node_sets(alloc, diagrams, notes, moment)?;
+    Ok(MomentSets { allowed, nodes })
+}
+
+// The set of the note at a place. It is empty where there is no such place.
+fn note_set(diagrams: &StepDiagrams, sets: &MomentSets, notes: &Notes, place: usize) -> DiagramId
+    requires count { length sets.now.nodes.items ≡ length notes.now.nodes }
+    requires sound { AreStepDiagrams diagrams.now }
+    ensures { (moment : Moment) → AreNodeSets diagrams.now moment notes.now.nodes sets.now.nodes.items
+        → IsStepDiagram diagrams.now result (λ before after. note_holds notes.now place (atom_at_moment moment before after)) }
+{
+    match notes.notes().get(place) {
+        Some(node) => sets.nodes[*node],
+        None => diagrams.constant(false),
+    }
+}
+
+// The atoms at which a guard holds.
+fn guard_set(diagrams: &mut StepDiagrams, guard: &Guard<'_>) -> Result<DiagramId, NoMemory>
+    requires { HasGuardInRange diagrams.old.tests guard.now }
+    ensures function { IfOk result (λ id. IsStepDiagram diagrams.new id (λ before after. truth (guard_tree guard.now) before)) }
+    ensures kept { KeepsSteps diagrams.old diagrams.new }
+    ensures sound { AreStepDiagrams diagrams.new }
+{
+    match guard {
+        Guard::Always => Ok(diagrams.constant(true)),
+        Guard::Holds(b) => diagrams.of_test(b, Moment::Before),
+        Guard::Fails(b) => {
+            let holds = diagrams.of_test(b, Moment::Before)?;
+            diagrams.not(holds)
+        }
+    }
+}
+
+// Whether at every allowed atom of the first set at which the guard holds, the second set is true.
+fn implies(
+    diagrams: &mut StepDiagrams,
+    allowed: DiagramId,
+    from: DiagramId,
+    guard: DiagramId,
+    to: DiagramId,
+) -> Result<bool, NoMemory>
+    requires allowed { IsStepId diagrams.old allowed }
+    requires from { IsStepId diagrams.old from }
+    requires guard { IsStepId diagrams.old guard }
+    requires to { IsStepId diagrams.old to }
+    ensures implies { IfOk result (λ r. IsTrue r ↔ EntailsUnder diagrams.old allowed from guard to) }
+    ensures kept { KeepsSteps diagrams.old diagrams.new }
+    ensures sound { AreStepDiagrams diagrams.new }
+{
+    let both = diagrams.and(from, guard)?;
+    let there = diagrams.and(allowed, both)?;
+    diagrams.entails(there, to)
+}
+
+// Whether a condition of the program is met.
+fn is_met(
+    diagrams: &mut StepDiagrams,
+    problem: &Problem,
+    notes: &Notes,
+    before: &MomentSets,
+    after: &MomentSets,
+    check: &Check<'_>,
+) -> Result<bool, NoMemory>
+    requires simple { AreSimple problem.now.hyps }
+    requires tests { diagrams.old.tests ≡ problem.now.tests }
+    requires before { AreMomentSets diagrams.old Before problem.now.hyps notes.now before.now }
+    requires after { AreMomentSets diagrams.old After problem.now.hyps notes.now after.now }
+    requires in_range { HasCheckInRange problem.now.tests check.now }
+    ensures met { IfOk result (λ r. IsTrue r ↔ IsMet problem.now (note_holds notes.now) (condition_of check.now)) }
+    ensures kept { KeepsSteps diagrams.old diagrams.new }
+    ensures sound { AreStepDiagrams diagrams.new }
+{
+    match check {
+        Check::Implies(from, guard, to) => {
+            let guard = guard_set(diagrams, guard)?;
+            let from = note_set(diagrams, before, notes, *from);
+            let to = note_set(diagrams, before, notes, *to);
+            implies(diagrams, before.allowed, from, guard, to)
+        }
+        Check::Leads(from, action, to) => {
+            let ruled_out = ruled_out_steps(diagrams, problem.hyps(), *action)?;
+            let from = note_set(diagrams, before, notes, *from);
+            let to = note_set(diagrams, after, notes, *to);
+            let good = diagrams.or(to, ruled_out)?;
+            implies(diagrams, before.allowed, from, after.allowed, good)
+        }
+    }
+}
+
+// Whether the pre-condition implies the first note.
+fn is_start_met(
+    diagrams: &mut StepDiagrams,
+    problem: &Problem,
+    notes: &Notes,
+    before: &MomentSets,
+    pre: &Test,
+) -> Result<bool, NoMemory>
+    requires tests { diagrams.old.tests ≡ problem.now.tests }
+    requires before { AreMomentSets diagrams.old Before problem.now.hyps notes.now before.now }
+    requires in_range { IsTestInRange problem.now.tests (test_tree pre.now) }
+    ensures met { IfOk result (λ r. IsTrue r ↔ IsMet problem.now (note_holds notes.now) (starts (test_tree pre.now))) }
+    ensures kept { KeepsSteps diagrams.old diagrams.new }
+    ensures sound { AreStepDiagrams diagrams.new }
+{
+    let pre = diagrams.of_test(pre, Moment::Before)?;
+    let always = diagrams.constant(true);
+    let first = note_set(diagrams, before, notes, 0);
+    implies(diagrams, before.allowed, pre, always, first)
+}
+
+// Whether the last note implies the post-condition.
+fn is_end_met(
+    diagrams: &mut StepDiagrams,
+    problem: &Problem,
+    notes: &Notes,
+    before: &MomentSets,
+    last: usize,
+    post: &Test,
+) -> Result<bool, NoMemory>
+    requires tests { diagrams.old.tests ≡ problem.now.tests }
+    requires before { AreMomentSets diagrams.old Before problem.now.hyps notes.now before.now }
+    requires in_range { IsTestInRange problem.now.tests (test_tree post.now) }
+    ensures met { IfOk result (λ r. IsTrue r ↔ IsMet problem.now (note_holds notes.now) (ends last (test_tree post.now))) }
+    ensures kept { KeepsSteps diagrams.old diagrams.new }
+    ensures sound { AreStepDiagrams diagrams.new }
+{
+    let post = diagrams.of_test(post, Moment::Before)?;
+    let always = diagrams.constant(true);
+    let last = note_set(diagrams, before, notes, last);
+    implies(diagrams, before.allowed, last, always, post)
+}
+
+impl Check<'_> {
+    // The place of the note that the condition is to give.
+    fn target(&self) -> usize
+        ensures { result ≡ target (condition_of self.now) }
+    {
+        match self {
+            Check::Implies(_, _, to) | Check::Leads(_, _, to) => *to,
+        }
+    }
+}
+
+// The target of a condition, unless it is met.
+fn target_unless(met: bool, target: usize) -> Option<usize>
+    ensures { result ≡ (if met then None else Some target) }
+{
+    if met { None } else { Some(target) }
+}
+
+// The lesser of two numbers, where there are any.
+fn lesser(first: Option<usize>, second: Option<usize>) -> Option<usize>
+    ensures { result ≡ lesser_of first second }
+{
+    match (first, second) {
+        (Some(k), Some(l)) => Some(k.min(l)),
+        (Some(k), None) => Some(k),
+        (None, found) => found,
+    }
+}
+
+// The least target of a condition of the program that is not met.
+fn least_unmet_check(
+    diagrams: &mut StepDiagrams,
+    problem: &Problem,
+    notes: &Notes,
+    before: &MomentSets,
+    after: &MomentSets,
+    checks: &[Check<'_>],
+) -> Result<Option<usize>, NoMemory>
+    requires simple { AreSimple problem.now.hyps }
+    requires tests { diagrams.old.tests ≡ problem.now.tests }
+    requires before { AreMomentSets diagrams.old Before problem.now.hyps notes.now before.now }
+    requires after { AreMomentSets diagrams.old After problem.now.hyps notes.now after.now }
+    requires in_range { All (HasCheckInRange problem.now.tests) checks.now }
+    ensures least { IfOk result (TellsLeastUnmet problem.now (note_holds notes.now) (map condition_of checks.now)) }
+    ensures kept { KeepsSteps diagrams.old diagrams.new }
+{
+    let mut least = None;
+    for check in checks {
+        let met = is_met(diagrams, problem, notes, before, after, check)?;
+        least = lesser(least, target_unless(met, check.target()));
+    }
+    Ok(least)
+}
+
+// The least target of a condition that is not met.
+fn least_unmet(
+    alloc: Global,
+    problem: &Problem,
+    task: &Task,
+    notes: &Notes,
+    checks: &[Check<'_>],
+    last: usize,
+) -> Result<Option<usize>, NoMemory>
+    requires simple { AreSimple problem.now.hyps }
+    requires tests { HasTests problem.now.tests notes.now.nodes }
+    requires pre { IsTestInRange problem.now.tests (test_tree task.now.pre) }
+    requires post { IsTestInRange problem.now.tests (test_tree task.now.post) }
+    requires in_range { All (HasCheckInRange problem.now.tests) checks.now }
+    ensures { IfOk result (TellsLeastUnmet problem.now (note_holds notes.now)
+        (starts (test_tree task.now.pre) ∷ (map condition_of checks.now ++ ends last (test_tree task.now.post) ∷ []))) }
+{
+    let mut diagrams = StepDiagrams::new(alloc, problem.tests())?;
+    let before = moment_sets(alloc, &mut diagrams, problem, notes, Moment::Before)?;
+    let after = moment_sets(alloc, &mut diagrams, problem, notes, Moment::After)?;
+    let starts = is_start_met(&mut diagrams, problem, notes, &before, &task.pre)?;
+    let within = least_unmet_check(&mut diagrams, problem, notes, &before, &after, checks)?;
+    let ends = is_end_met(&mut diagrams, problem, notes, &before, last, &task.post)?;
+    let end = next_place(last)?;
+    let later = lesser(within, target_unless(ends, end));
+    Ok(lesser(target_unless(starts, 0), later))
+}
+
+/// Whether the notes follow one from the other by the rules of Hoare logic at every place of the program (Hoare 1969),
+/// whoever wrote them; otherwise the first reason why not. Fails only when out of memory.
+pub fn check_notes(
+    alloc: Global,
+    problem: &Problem,
+    task: &Task,
+    notes: &Notes,
+) -> Result<NoteAnswer, NoMemory>
+    requires simple { AreSimple problem.now.hyps }
+    requires triple { IsTripleOf problem.now (task_parts task.now) }
+    ensures { IfOk result (IsNoteAnswer problem.now (task_parts task.now) notes.now) }
+{
+    if let Some(node) = node_out_of_range(notes.nodes(), problem.tests()) {
+        return Ok(NoteAnswer::Rejected(NoteReason::Range(node)));
+    }
+    let mut checks = Vec::new(alloc);
+    let last = push_checks(&mut checks, &task.flow, 0)?;
+    let count = next_place(last)?;
+    if notes.notes().len() != count {
+        return Ok(NoteAnswer::Rejected(NoteReason::Count(count)));
+    }
+    match least_unmet(alloc, problem, task, notes, &checks, last)? {
+        None => Ok(NoteAnswer::Accepted),
+        Some(target) => Ok(NoteAnswer::Rejected(NoteReason::Step(target))),
+    }
+}
