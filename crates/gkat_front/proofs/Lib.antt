@@ -1,2 +1,15 @@
-pub mod GuardedForms
-pub mod PairBounds
+pub mod GkatSteps
+pub mod ItemLists
+pub mod GkatSoundness
+pub mod GkatCompleteness
+pub mod FileSoundness
+pub mod FileCompleteness
+pub mod ScannedTexts
+pub mod MadeTexts
+pub mod TextFronts
+pub mod NamedTexts
+pub mod ReadTexts
+pub mod OneAnswer
+pub mod GkatPieces
+pub mod SeparateGkat
+pub mod PrintedGkat

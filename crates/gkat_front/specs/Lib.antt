@@ -1,1 +1,17 @@
+pub mod GkatActions
+pub mod GkatWalks
+pub mod GkatScans
+pub mod GkatMaking
+pub mod FileActions
+pub mod Items
+pub mod Files
+pub mod FileViews
+pub mod Making
+pub mod GkatPhrases
+pub mod GkatFolds
+pub mod FilePhrases
+pub mod FileFolds
+pub mod Reads
+pub mod Printing
+pub mod Laws
 pub mod Working

@@ -1,9 +1,21 @@
-//! Guarded terms, which the expressions of GKAT stand for, and generated problems of such terms.
+//! Guarded Kleene algebra with tests (Smolka et al. 2020): its texts, and the terms that its expressions stand for.
 #![tactic(auto)]
 
-mod bound;
-mod guards;
+mod file;
+mod gkat_reading;
+mod item_reading;
+mod items;
+mod laws;
+mod making;
+mod print;
+mod reader;
+mod reading;
+mod scan;
+mod walk;
 
 pub use bench_problems::bench_problem;
-pub use bound::pair_bound;
-pub use guards::guarded;
+pub use file::GkatFile;
+pub use guarded_terms::{Gkat, expressions_are_guarded, guarded, kat_of, pair_bound};
+pub use laws::{have_one_answer, printed_expressions_read_back, texts_are_made, texts_are_scanned};
+pub use print::print_gkat;
+pub use reading::read_gkat;

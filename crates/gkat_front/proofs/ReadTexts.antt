@@ -1,0 +1,30 @@
+-- The file that bytes say is what both passes over their tokens give.
+use Rattle.std.proofs.Common.{◌≡◌, ℕ, List, map, Result, Ok, sym, ap, ◌∙◌}
+use Rattle.kat_tokens.specs.declared.fault.TextFault.{TextFault}
+use Rattle.kat_tokens.specs.TokenParts.{TokenParts}
+use Rattle.kat_tokens.specs.Lex.{Lexes}
+use Rattle.kat_syntax.specs.Lexemes.{lexeme_of}
+use Rattle.kat_syntax.specs.Parsed.{◌>>=◌}
+use Rattle.kat_syntax.proofs.ParserSoundness.{bind_ok}
+use Rattle.gkat_front.specs.Files.{GkatFileParts, file_of}
+use Rattle.gkat_front.specs.FileFolds.{file_made}
+use Rattle.gkat_front.specs.Making.{scan_file, walk, tested}
+use Rattle.gkat_front.specs.Reads.{Reads}
+use Rattle.gkat_front.proofs.ScannedTexts.{texts_are_scanned}
+use Rattle.gkat_front.proofs.MadeTexts.{texts_are_made}
+
+pub read_told : (bytes : List ℕ) (ms : List TokenParts) (f : GkatFileParts) → Lexes bytes ms → tested (map lexeme_of ms) ≡ Ok f → Reads bytes f
+read_told bytes ms f lexes e =
+    let ts = map lexeme_of ms in
+    let a = bind_ok (scan_file ts) (λ u. walk ts >>= file_of) f e in
+    let x = (texts_are_scanned ts).0 a.1 in
+    let made = texts_are_made x.0 (x.1).obey in
+    let file : file_made x.0 ≡ Ok f = ap (λ m. m >>= file_of) (sym made ∙ ap walk (sym (x.1).spells)) ∙ a.2 in
+    record { parts_of_tokens = ms; lexes = lexes; items = x.0; spells = x.1; file = file }
+
+pub tests_pass : (bytes : List ℕ) (f : GkatFileParts) (x : Reads bytes f) → tested (map lexeme_of x.parts_of_tokens) ≡ Ok f
+tests_pass bytes f x =
+    let ts = map lexeme_of x.parts_of_tokens in
+    let scanned : scan_file ts ≡ Ok tt = (texts_are_scanned ts).1 (x.items, x.spells) in
+    let made : walk ts >>= file_of ≡ Ok f = ap (λ m. m >>= file_of) (ap walk (x.spells).spells ∙ texts_are_made x.items (x.spells).obey) ∙ x.file in
+    ap (λ (m : Result (Unit {0}) TextFault). m >>= λ u. walk ts >>= file_of) scanned ∙ made

@@ -1,0 +1,34 @@
+-- The test of the syntax of expressions.
+use Rattle.std.specs.Prelude.{ℕ, ◌+◌, List, length, false, true, Ok}
+use Rattle.std.proofs.Common.{arith}
+use Rattle.kat_syntax.specs.Lexemes.{Lexeme}
+use Rattle.kat_syntax.specs.Parsed.{Parsed}
+use Rattle.kat_syntax.specs.Actions.{context}
+use Rattle.kat_syntax.specs.Scans.{scanning_conds}
+use Rattle.kat_syntax.specs.Conds.{parse_cond, disjunction}
+use Rattle.kat_syntax.proofs.Within.{Within, weaken}
+use Rattle.kat_syntax.proofs.CondSteps.{cond_read_short}
+use Rattle.gkat_front.specs.GkatActions.{GkatActions}
+
+-- a condition, with so many constructs open around it
+abbrev pub scanned_cond : ℕ → List Lexeme → Parsed (Unit {0})
+scanned_cond d ts = parse_cond scanning_conds disjunction (context d false true) ts
+
+pub scanned_shorter : (d : ℕ) (ts : List Lexeme) → Within (length ts) (scanned_cond d ts)
+scanned_shorter d ts = weaken (length ts + 0) (length ts) (scanned_cond d ts) (omega arith) (cond_read_short scanning_conds disjunction (context d false true) ts)
+
+-- nothing is made, and no part is refused
+abbrev pub scanning_expr : GkatActions (Unit {0}) (Unit {0}) (Unit {0})
+scanning_expr = record {
+  cond = scanned_cond;
+  shorter = scanned_shorter;
+  never = tt;
+  always = tt;
+  name = λ at text. Ok tt;
+  test = λ c. tt;
+  first = λ v. tt;
+  more = λ p v. tt;
+  product = λ p. tt;
+  choice = λ c v w. tt;
+  loop = λ c v. tt;
+}

@@ -1,0 +1,43 @@
+-- What each item of a text makes of what the items before it have made, and the test of their syntax.
+use Rattle.std.specs.Prelude.{List, Result, Ok}
+use Rattle.kat_tokens.specs.declared.fault.TextFault.{TextFault}
+use Rattle.kat_syntax.specs.Lexemes.{Lexeme}
+use Rattle.kat_syntax.specs.Parsed.{◌>>=◌}
+use Rattle.guarded_terms.specs.Expressions.{GkatTree}
+use Rattle.gkat_front.specs.GkatWalks.{whole, parse_gkat}
+use Rattle.gkat_front.specs.GkatScans.{scanning_expr}
+use Rattle.gkat_front.specs.GkatMaking.{making_expr}
+use Rattle.gkat_front.specs.FileActions.{FileActions}
+use Rattle.gkat_front.specs.Items.{items_by}
+use Rattle.gkat_front.specs.Files.{GkatFileParts, State, start, declare_test, declare_action, begin_equal, ask, file_of}
+
+-- nothing is made, and no part is refused
+abbrev pub scanning : FileActions (Unit {0}) (Unit {0})
+scanning = record {
+  expr = λ s ts. parse_gkat scanning_expr whole 0 ts;
+  declare_test = λ s at name. Ok tt;
+  declare_action = λ s at name. Ok tt;
+  begin_equal = λ s at. Ok tt;
+  ask = λ s at l r. Ok tt;
+}
+
+-- all tokens are items, or the first fault of their syntax
+abbrev pub scan_file : List Lexeme → Result (Unit {0}) TextFault
+scan_file ts = items_by scanning tt ts
+
+abbrev pub making : FileActions State GkatTree
+making = record {
+  expr = λ s ts. parse_gkat (making_expr s.world) whole 0 ts;
+  declare_test = declare_test;
+  declare_action = declare_action;
+  begin_equal = begin_equal;
+  ask = ask;
+}
+
+-- what all items have made, or the first fault of the first item that has one
+abbrev pub walk : List Lexeme → Result State TextFault
+walk ts = items_by making start ts
+
+-- the tests of tokens one after the other: of their syntax, and then of their items
+abbrev pub tested : List Lexeme → Result GkatFileParts TextFault
+tested ts = scan_file ts >>= λ u. walk ts >>= file_of

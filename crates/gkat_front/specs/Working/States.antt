@@ -1,0 +1,13 @@
+-- What the items so far have made, as a state.
+use Rattle.std.specs.Prelude.{Option, Some, None}
+use Rattle.guarded_terms.specs.declared.gkat.Gkat.{Gkat}
+use Rattle.guarded_terms.specs.Expressions.{GkatTree, gkat_tree}
+use Rattle.gkat_front.specs.Files.{State}
+use Rattle.gkat_front.specs.declared.reader.GkatReader.{GkatReader}
+
+abbrev pub sides_of : Option (Gkat × Gkat) → Option (GkatTree × GkatTree)
+sides_of None = None
+sides_of (Some x) = Some (gkat_tree x.0, gkat_tree x.1)
+
+abbrev pub state_of : GkatReader → State
+state_of r = record { world = r.scope; tests = r.tests; actions = r.actions; sides = sides_of r.sides }

@@ -1,0 +1,57 @@
+//! What is done with the items of a text while they are read.
+ghost use Rattle.std.specs.Prelude.{length, drop};
+ghost use Rattle.kat_syntax.specs.Lexemes.{lexemes};
+ghost use Rattle.kat_syntax.specs.Parsed.{Makes, Reads, Goes};
+ghost use Rattle.kat_text.specs.ScopeParts.{IsIdentifier};
+ghost use Rattle.problem_file.specs.Working.Walks.{Does};
+ghost use Rattle.gkat_front.specs.FileActions.{FileActions};
+ghost use Rattle.gkat_front.specs.Working.Declarations.{declare_by};
+
+use kat_tokens::{TextFault, Token};
+
+// What names may be declared for.
+#[derive(Clone, Copy, Debug, PartialEq, Eq)]
+pub(crate) enum Declared {
+    Test,
+    Action,
+}
+
+// What is done with the parts of an item while it is read: the methods are called for the parts in text order. A part that
+// is refused ends the reading with that fault. `at` is the place of the item's keyword.
+//
+// Contracts see what the items so far have made as `state`, and the methods as `actions`. `memory` is what may be said
+// where a method answers `NoMemory`: `⊥` where none does.
+pub(crate) trait ItemReading {
+    // What is made of an expression.
+    type Expr: Drop;
+
+    ghost S: { Type 0 };
+
+    ghost V: { Type 0 };
+
+    ghost memory: { Type 0 };
+
+    ghost state: { Self → S };
+
+    ghost expr: { Self.Expr → V };
+
+    ghost actions: { FileActions S V };
+
+    // The expression that begins at `from`, and the index after it, or its first fault.
+    fn read_expr(&self, toks: &[Token], from: usize) -> Result<(Self::Expr, usize), TextFault>
+        ensures value { Reads memory expr (lexemes toks.now) result ((actions).expr (state self.now) (drop from (lexemes toks.now))) }
+        ensures goes { Goes from (length toks.now) result };
+
+    // One name more is declared.
+    fn declare(&mut self, what: Declared, name: &Token) -> Result<(), TextFault>
+        requires { IsIdentifier name.now.text.now }
+        ensures { Does memory result (state self.new) (declare_by actions what (state self.old) name.now.at name.now.text.now) };
+
+    // An item `equal` begins.
+    fn begin_equal(&self, at: usize) -> Result<(), TextFault>
+        ensures { Makes ⊥ (λ u. u) result ((actions).begin_equal (state self.now) at) };
+
+    // It asks whether two expressions are equal.
+    fn ask(&mut self, at: usize, left: Self::Expr, right: Self::Expr) -> Result<(), TextFault>
+        ensures { Does memory result (state self.new) ((actions).ask (state self.old) at (expr left) (expr right)) };
+}

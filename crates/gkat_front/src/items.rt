@@ -1,0 +1,154 @@
+//! The items of a text, gone through once for any reading.
+ghost use Rattle.std.specs.Prelude.{◌≡◌, ◌+◌, ◌<◌, ◌≤◌, length, drop, IfOk, IfErr, Ok, Err};
+ghost use Rattle.kat_syntax.specs.Lexemes.{lexemes};
+ghost use Rattle.kat_syntax.specs.Parsed.{Reads, Goes};
+ghost use Rattle.kat_text.specs.ScopeParts.{IsIdentifier};
+ghost use Rattle.problem_file.specs.Items.{name_at, at_name, over_names};
+ghost use Rattle.problem_file.specs.Working.Tokens.{AreTokens};
+ghost use Rattle.problem_file.specs.Working.Walks.{Steps, Does};
+ghost use Rattle.gkat_front.specs.Items.{declaration_by, sides_by, equal_by, item_by, items_by};
+ghost use Rattle.gkat_front.specs.Working.Declarations.{declare_by};
+
+use crate::item_reading::{Declared, ItemReading};
+use kat_syntax::{
+    Keyword, Separator, Terminal, expect, is_at, syntax_fault_at, terminal_at, terminal_of,
+};
+use kat_tokens::{TextFault, Token};
+
+// The name at an index.
+fn name_at<'a, 'b>(toks: &'b [Token<'a>], i: usize) -> Result<&'b Token<'a>, TextFault>
+    requires tokens { AreTokens toks.now }
+    ensures found { IfOk result (λ name. name_at (drop i (lexemes toks.now)) ≡ Ok (record { at = name.now.at; text = name.now.text.now })) }
+    ensures fault { IfErr result (λ e. name_at (drop i (lexemes toks.now)) ≡ Err e) }
+    ensures identifier { IfOk result (λ name. IsIdentifier name.now.text.now) }
+    ensures within { IfOk result (λ name. i < length toks.now) }
+{
+    match toks.get(i) {
+        None => Err(syntax_fault_at(toks, i)),
+        Some(token) => match terminal_of(token) {
+            Terminal::Name => Ok(token),
+            _ => Err(TextFault::Syntax(token.at)),
+        },
+    }
+}
+
+// Declares the name at an index, and gives the index after it.
+#[tactic(auto, using(kat_syntax::proofs::Tokens::next_drop))]
+fn read_name<R: ItemReading>(
+    reading: &mut R,
+    toks: &[Token],
+    from: usize,
+    what: Declared,
+) -> Result<usize, TextFault>
+    requires tokens { AreTokens toks.now }
+    ensures value { Steps R.memory toks.now from result (R.state reading.new) (at_name (declare_by R.actions what (R.state reading.old))) }
+    ensures goes { IfOk result (λ end. (end ≡ from + 1) × (from < length toks.now)) }
+{
+    let name = name_at(toks, from)?;
+    reading.declare(what, name)?;
+    Ok(from + 1)
+}
+
+// Declares names with commas between.
+#[tactic(auto, using(kat_syntax::proofs::Tokens::next_drop))]
+fn read_names<R: ItemReading>(
+    reading: &mut R,
+    toks: &[Token],
+    from: usize,
+    what: Declared,
+) -> Result<usize, TextFault>
+    requires tokens { AreTokens toks.now }
+    ensures value { Steps R.memory toks.now from result (R.state reading.new) (over_names (declare_by R.actions what) (R.state reading.old)) }
+    ensures goes { IfOk result (λ end. (from < end) × (end ≤ length toks.now)) }
+{
+    let mut at = from;
+    'names: loop {
+        at = read_name(reading, toks, at, what)?;
+        if !is_at(toks, at, Terminal::Separator(Separator::Comma)) {
+            return Ok(at);
+        }
+        at += 1;
+    }
+}
+
+fn read_declaration<R: ItemReading>(
+    reading: &mut R,
+    toks: &[Token],
+    from: usize,
+    what: Declared,
+) -> Result<usize, TextFault>
+    requires tokens { AreTokens toks.now }
+    ensures value { Steps R.memory toks.now from result (R.state reading.new) (declaration_by (declare_by R.actions what) (R.state reading.old)) }
+    ensures goes { IfOk result (λ end. (from < end) × (end ≤ length toks.now)) }
+{
+    let end = read_names(reading, toks, from, what)?;
+    expect(toks, end, Terminal::Separator(Separator::Semicolon))
+}
+
+// Two expressions with a comma between.
+fn read_sides<R: ItemReading>(
+    reading: &R,
+    toks: &[Token],
+    from: usize,
+) -> Result<((R::Expr, R::Expr), usize), TextFault>
+    ensures value { Reads R.memory (λ x. (R.expr x.0, R.expr x.1)) (lexemes toks.now) result (sides_by R.actions (R.state reading.now) (drop from (lexemes toks.now))) }
+    ensures goes { Goes from (length toks.now) result }
+{
+    let (left, end) = reading.read_expr(toks, from)?;
+    let end = expect(toks, end, Terminal::Separator(Separator::Comma))?;
+    let (right, end) = reading.read_expr(toks, end)?;
+    Ok(((left, right), end))
+}
+
+fn read_equal<R: ItemReading>(
+    reading: &mut R,
+    toks: &[Token],
+    from: usize,
+    at: usize,
+) -> Result<usize, TextFault>
+    ensures value { Steps R.memory toks.now from result (R.state reading.new) (λ ts. equal_by R.actions (R.state reading.old) at ts) }
+    ensures goes { IfOk result (λ end. (from < end) × (end ≤ length toks.now)) }
+{
+    reading.begin_equal(at)?;
+    let ((left, right), end) = read_sides(reading, toks, from)?;
+    let end = expect(toks, end, Terminal::Separator(Separator::Semicolon))?;
+    reading.ask(at, left, right)?;
+    Ok(end)
+}
+
+#[tactic(auto, using(kat_syntax::proofs::Tokens::next_drop))]
+fn read_item<R: ItemReading>(
+    reading: &mut R,
+    toks: &[Token],
+    from: usize,
+) -> Result<usize, TextFault>
+    requires tokens { AreTokens toks.now }
+    ensures value { Steps R.memory toks.now from result (R.state reading.new) (item_by R.actions (R.state reading.old)) }
+    ensures goes { IfOk result (λ end. (from < end) × (end ≤ length toks.now)) }
+{
+    let Some((terminal, at)) = terminal_at(toks, from) else {
+        return Err(syntax_fault_at(toks, from));
+    };
+    match terminal {
+        Terminal::Keyword(Keyword::Test) => {
+            read_declaration(reading, toks, from + 1, Declared::Test)
+        }
+        Terminal::Keyword(Keyword::Action) => {
+            read_declaration(reading, toks, from + 1, Declared::Action)
+        }
+        Terminal::Keyword(Keyword::Equal) => read_equal(reading, toks, from + 1, at),
+        _ => Err(TextFault::Syntax(at)),
+    }
+}
+
+// Reads all items, or up to the first that has a fault. A `Syntax` after the last token has the place `usize::MAX`.
+pub(crate) fn read_items<R: ItemReading>(reading: &mut R, toks: &[Token]) -> Result<(), TextFault>
+    requires tokens { AreTokens toks.now }
+    ensures { Does R.memory result (R.state reading.new) (items_by R.actions (R.state reading.old) (lexemes toks.now)) }
+{
+    let mut at = 0;
+    'items: while at < toks.len() {
+        at = read_item(reading, toks, at)?;
+    }
+    Ok(())
+}

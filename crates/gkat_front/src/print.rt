@@ -1,0 +1,128 @@
+//! Expressions as text.
+ghost use Rattle.std.specs.Prelude.{◌≡◌, [], ◌++◌, codes, OnOk, IfOk};
+ghost use Rattle.kat_model.specs.Trees.{test_tree};
+ghost use Rattle.kat_tokens.specs.Pieces.{spelled};
+ghost use Rattle.kat_print.specs.Printing.{name_of, cond_of, cond_text};
+ghost use Rattle.guarded_terms.specs.Expressions.{test, gkat_tree};
+ghost use Rattle.gkat_front.specs.Printing.{is_loop, guard_text, gkat_text, gkat_pieces};
+
+use guarded_terms::Gkat;
+use kat_model::{NoMemory, Test};
+use kat_print::put_name;
+use kat_text::{Meaning, Scope};
+use std::alloc::Global;
+
+// The test as a condition.
+fn put_test(out: &mut Vec<u8>, test: &Test, scope: &Scope) -> Result<(), NoMemory>
+    ensures { OnOk result (out.new.items ≡ out.old.items ++ cond_text (name_of scope.now) (cond_of (test_tree test.now))) }
+{
+    match test {
+        Test::True => out.extend_from_slice(b"true")?,
+        Test::False => out.extend_from_slice(b"false")?,
+        Test::Prim(k) => put_name(out, scope, Meaning::Test(*k))?,
+        Test::Not(b) => {
+            out.push(b'!')?;
+            put_test(out, b, scope)?;
+        }
+        Test::And(b, c) => {
+            out.push(b'(')?;
+            put_test(out, b, scope)?;
+            out.extend_from_slice(b" && ")?;
+            put_test(out, c, scope)?;
+            out.push(b')')?;
+        }
+        Test::Or(b, c) => {
+            out.push(b'(')?;
+            put_test(out, b, scope)?;
+            out.extend_from_slice(b" || ")?;
+            put_test(out, c, scope)?;
+            out.push(b')')?;
+        }
+    }
+    Ok(())
+}
+
+// The test in brackets.
+fn put_guard(out: &mut Vec<u8>, guard: &Test, scope: &Scope) -> Result<(), NoMemory>
+    ensures { OnOk result (out.new.items ≡ out.old.items ++ guard_text (name_of scope.now) (test_tree guard.now)) }
+{
+    out.push(b'[')?;
+    put_test(out, guard, scope)?;
+    out.push(b']')?;
+    Ok(())
+}
+
+// The test as an expression: `0`, `1`, its name, or its condition in brackets.
+fn put_tested(out: &mut Vec<u8>, guard: &Test, scope: &Scope) -> Result<(), NoMemory>
+    ensures { OnOk result (out.new.items ≡ out.old.items ++ gkat_text (name_of scope.now) (test (test_tree guard.now))) }
+{
+    match guard {
+        Test::False => Ok(out.push(b'0')?),
+        Test::True => Ok(out.push(b'1')?),
+        Test::Prim(k) => put_name(out, scope, Meaning::Test(*k)),
+        _ => put_guard(out, guard, scope),
+    }
+}
+
+// What is written after the operand of a loop.
+fn put_turns(out: &mut Vec<u8>, guard: &Test, scope: &Scope) -> Result<(), NoMemory>
+    ensures { OnOk result (out.new.items ≡ out.old.items ++ (codes "^" ++ guard_text (name_of scope.now) (test_tree guard.now))) }
+{
+    out.push(b'^')?;
+    put_guard(out, guard, scope)
+}
+
+fn is_loop(expr: &Gkat) -> bool
+    ensures { result ≡ is_loop (gkat_tree expr.now) }
+{
+    matches!(expr, Gkat::Loop(_, _))
+}
+
+fn put_gkat(out: &mut Vec<u8>, expr: &Gkat, scope: &Scope) -> Result<(), NoMemory>
+    ensures { OnOk result (out.new.items ≡ out.old.items ++ gkat_text (name_of scope.now) (gkat_tree expr.now)) }
+{
+    match expr {
+        Gkat::Test(b) => put_tested(out, b, scope)?,
+        Gkat::Act(a) => put_name(out, scope, Meaning::Action(*a))?,
+        Gkat::Seq(e, f) => {
+            out.push(b'(')?;
+            put_gkat(out, e, scope)?;
+            out.push(b'.')?;
+            put_gkat(out, f, scope)?;
+            out.push(b')')?;
+        }
+        Gkat::Choice(b, e, f) => {
+            out.push(b'(')?;
+            put_gkat(out, e, scope)?;
+            out.extend_from_slice(b" +")?;
+            put_guard(out, b, scope)?;
+            out.push(b' ')?;
+            put_gkat(out, f, scope)?;
+            out.push(b')')?;
+        }
+        Gkat::Loop(b, e) => {
+            if is_loop(e) {
+                out.push(b'(')?;
+                put_gkat(out, e, scope)?;
+                out.push(b')')?;
+                put_turns(out, b, scope)?;
+            } else {
+                put_gkat(out, e, scope)?;
+                put_turns(out, b, scope)?;
+            }
+        }
+    }
+    Ok(())
+}
+
+/// The text of an expression, with the names of the scope: `0`, `1`, a name, `[c]` for another test, `(x.y)`, `(x +[c] y)`,
+/// and `x^[c]` with a loop in parentheses under a loop. A number that no name of the scope stands for is left out. It fails
+/// only when out of memory.
+#[tactic(auto, using(crate::proofs::GkatPieces::gkat_printed))]
+pub fn print_gkat(alloc: Global, expr: &Gkat, scope: &Scope) -> Result<Vec<u8>, NoMemory>
+    ensures { IfOk result (λ v. v.items ≡ spelled (gkat_pieces (name_of scope.now) (gkat_tree expr.now) [])) }
+{
+    let mut out = Vec::new(alloc);
+    put_gkat(&mut out, expr, scope)?;
+    Ok(out)
+}

@@ -1,0 +1,158 @@
+//! What the items of a text so far have made.
+ghost use Rattle.problem_file.specs.Working.Numbers.{AreNumbered};
+
+use crate::file::GkatFile;
+use crate::item_reading::{Declared, ItemReading};
+use crate::making::MakeExpr;
+use crate::walk::read_expr;
+use guarded_terms::Gkat;
+use kat_model::{MAX_ACTIONS, MAX_TERM_NODES, MAX_TESTS};
+use kat_text::{Meaning, Scope};
+use kat_tokens::{TextFault, Token};
+use std::alloc::Global;
+
+// Reads items whose syntax was tested.
+#[derive(Drop)]
+pub(crate) struct GkatReader {
+    alloc: Global,
+    pub(crate) scope: Scope,
+    pub(crate) tests: usize,
+    pub(crate) actions: usize,
+    pub(crate) sides: Option<(Gkat, Gkat)>,
+    ghost numbered: { AreNumbered scope tests actions 0 0 },
+}
+
+impl GkatReader {
+    ghost use Rattle.std.specs.Prelude.{◌≡◌};
+    ghost use Rattle.kat_syntax.specs.Parsed.{Makes};
+    ghost use Rattle.kat_text.specs.ScopeParts.{IsIdentifier};
+    ghost use Rattle.problem_file.specs.Working.Walks.{Does};
+    ghost use Rattle.gkat_front.specs.Files.{start, check_new, declare_test, declare_action, file_of};
+    ghost use Rattle.gkat_front.specs.FileViews.{file_parts};
+    ghost use Rattle.gkat_front.specs.Working.States.{state_of};
+
+    pub(crate) fn new(alloc: Global) -> GkatReader
+        ensures { state_of result ≡ start }
+    {
+        GkatReader {
+            alloc,
+            scope: Scope::new(alloc),
+            tests: 0,
+            actions: 0,
+            sides: None,
+        }
+    }
+
+    // That a name is not declared yet.
+    fn check_new(&self, name: &Token) -> Result<(), TextFault>
+        ensures { result ≡ check_new self.now.scope name.now.at name.now.text.now }
+    {
+        match self.scope.find(name.text) {
+            Some(_) => Err(TextFault::DoubleName(name.at)),
+            None => Ok(()),
+        }
+    }
+
+    // Declares the name of a test.
+    fn declare_test(&mut self, name: &Token) -> Result<(), TextFault>
+        requires { IsIdentifier name.now.text.now }
+        ensures { Does (Unit {0}) result (state_of self.new) (declare_test (state_of self.old) name.now.at name.now.text.now) }
+    {
+        self.check_new(name)?;
+        if self.tests >= MAX_TESTS {
+            return Err(TextFault::TooMany(name.at));
+        }
+        self.scope.declare(name, Meaning::Test(self.tests))?;
+        self.tests += 1;
+        Ok(())
+    }
+
+    // Declares the name of an action.
+    fn declare_action(&mut self, name: &Token) -> Result<(), TextFault>
+        requires { IsIdentifier name.now.text.now }
+        ensures { Does (Unit {0}) result (state_of self.new) (declare_action (state_of self.old) name.now.at name.now.text.now) }
+    {
+        self.check_new(name)?;
+        if self.actions >= MAX_ACTIONS {
+            return Err(TextFault::TooMany(name.at));
+        }
+        self.scope.declare(name, Meaning::Action(self.actions))?;
+        self.actions += 1;
+        Ok(())
+    }
+
+    // What the text says, once all items are read.
+    pub(crate) fn file(self) -> Result<GkatFile, TextFault>
+        ensures { Makes ⊥ file_parts result (file_of (state_of self)) }
+    {
+        let GkatReader {
+            alloc: _,
+            scope,
+            tests,
+            actions,
+            sides,
+        } = self;
+        match sides {
+            None => Err(TextFault::NoGoal),
+            Some((left, right)) => Ok(GkatFile {
+                scope,
+                tests,
+                actions,
+                left,
+                right,
+            }),
+        }
+    }
+}
+
+impl ItemReading for GkatReader {
+    type Expr = Gkat;
+
+    ghost use Rattle.guarded_terms.specs.Expressions.{GkatTree, gkat_tree};
+    ghost use Rattle.gkat_front.specs.Files.{State};
+    ghost use Rattle.gkat_front.specs.Making.{making};
+    ghost use Rattle.gkat_front.specs.Working.States.{state_of};
+
+    ghost S = { State };
+
+    ghost V = { GkatTree };
+
+    ghost memory = { Unit {0} };
+
+    ghost state = { state_of };
+
+    ghost expr = { gkat_tree };
+
+    ghost actions = { making };
+
+    fn read_expr(&self, toks: &[Token], from: usize) -> Result<(Gkat, usize), TextFault> {
+        let make = MakeExpr {
+            alloc: self.alloc,
+            scope: &self.scope,
+        };
+        read_expr(&make, toks, from, 0)
+    }
+
+    fn declare(&mut self, what: Declared, name: &Token) -> Result<(), TextFault> {
+        match what {
+            Declared::Test => self.declare_test(name),
+            Declared::Action => self.declare_action(name),
+        }
+    }
+
+    fn begin_equal(&self, at: usize) -> Result<(), TextFault> {
+        match self.sides {
+            Some(_) => Err(TextFault::TwoGoals(at)),
+            None => Ok(()),
+        }
+    }
+
+    // A tree has at most two nodes for each token of its text, since no name stands for one, so it is counted once it is made.
+    fn ask(&mut self, at: usize, left: Gkat, right: Gkat) -> Result<(), TextFault> {
+        if left.size() > MAX_TERM_NODES || right.size() > MAX_TERM_NODES {
+            return Err(TextFault::TooLarge(at));
+        }
+        self.sides = Some((left, right));
+        Ok(())
+    }
+}

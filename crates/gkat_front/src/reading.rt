@@ -1,0 +1,81 @@
+//! The text of GKAT, read.
+ghost use Rattle.std.specs.Prelude.{◌≡◌, ◌≤◌, length, IfErr};
+ghost use Rattle.kat_tokens.specs.declared.fault.TextFault.TheVariants.{NoMemory as NoRoom};
+ghost use Rattle.kat_tokens.specs.declared.lexer.TheConstants.{MAX_LEN as MOST};
+ghost use Rattle.kat_syntax.specs.Lexemes.{lexemes};
+ghost use Rattle.kat_syntax.specs.Parsed.{Makes};
+ghost use Rattle.problem_file.specs.Reads.{placed};
+ghost use Rattle.problem_file.specs.Working.Tokens.{AreTokens};
+ghost use Rattle.gkat_front.specs.Files.{GkatFileParts};
+ghost use Rattle.gkat_front.specs.FileViews.{file_parts};
+ghost use Rattle.gkat_front.specs.Making.{walk, tested};
+ghost use Rattle.gkat_front.specs.Reads.{Reads, Answers};
+ghost use Rattle.gkat_front.specs.Working.States.{state_of};
+
+use crate::file::GkatFile;
+use crate::items::read_items;
+use crate::reader::GkatReader;
+use crate::scan::test_syntax;
+use kat_tokens::{MAX_LEN, TextFault, Token, tokens};
+use std::alloc::Global;
+
+// A fault past the last token is at the text's length.
+fn fault_in_text(fault: TextFault, len: usize) -> TextFault
+    ensures { result ≡ placed len fault }
+{
+    match fault {
+        TextFault::Syntax(at) => TextFault::Syntax(at.min(len)),
+        other => other,
+    }
+}
+
+fn walk(alloc: Global, toks: &[Token]) -> Result<GkatReader, TextFault>
+    requires tokens { AreTokens toks.now }
+    ensures { Makes (Unit {0}) state_of result (walk (lexemes toks.now)) }
+{
+    let mut reader = GkatReader::new(alloc);
+    read_items(&mut reader, toks)?;
+    Ok(reader)
+}
+
+// The file, or the first fault of the tokens.
+fn test(alloc: Global, toks: &[Token]) -> Result<GkatFile, TextFault>
+    requires tokens { AreTokens toks.now }
+    ensures { Makes (Unit {0}) file_parts result (tested (lexemes toks.now)) }
+{
+    test_syntax(toks)?;
+    walk(alloc, toks)?.file()
+}
+
+fn read_text(alloc: Global, text: &str) -> Result<GkatFile, TextFault>
+    requires within { length text.now ≤ MOST }
+    ensures { Answers text.now result }
+{
+    let toks = tokens(alloc, text)?;
+    match test(alloc, &toks) {
+        Ok(file) => Ok(file),
+        Err(fault) => Err(fault_in_text(fault, text.len())),
+    }
+}
+
+/// What the text of GKAT says. A text that says nothing is refused for its first fault, in this order: `TooLong` past
+/// 1,048,576 bytes; `NotUtf8`; `BadToken`; the first in text order of `Syntax`, of `TooDeep` where more than 200 constructs
+/// are open, and of `NumberTooWide` from 2^64 on; the first fault of the first item that has one (at its keyword `TwoGoals`
+/// for a second `equal`; at its tokens `DoubleName`, `TooMany`, `UnknownName`, `Sort`; and last, at its keyword, `TooLarge`
+/// where a side has more than 100,000 nodes); `NoGoal` where no item is an `equal`.
+pub fn read_gkat(alloc: Global, bytes: &[u8]) -> Result<GkatFile, TextFault>
+    // The file is what the bytes say; a refusal is `NoMemory` or the first fault of the bytes.
+    ensures answers { Answers bytes.now result }
+
+    // Bytes that say something fail only when out of memory.
+    ensures only { (f : GkatFileParts) → Reads bytes.now f → IfErr result (λ e. e ≡ NoRoom) }
+{
+    if bytes.len() > MAX_LEN {
+        return Err(TextFault::TooLong);
+    }
+    let text = match std::str::from_utf8(bytes) {
+        Ok(text) => text,
+        Err(fault) => return Err(TextFault::NotUtf8(fault.valid_up_to())),
+    };
+    read_text(alloc, text)
+}

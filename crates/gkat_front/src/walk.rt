@@ -1,0 +1,164 @@
+//! Expressions, gone through once for any reading.
+ghost use Rattle.std.specs.Prelude.{◌≡◌, length, drop};
+ghost use Rattle.kat_syntax.specs.Lexemes.{lexemes};
+ghost use Rattle.kat_syntax.specs.Parsed.{Reads, Goes};
+ghost use Rattle.while_lang.specs.Blocks.{enter};
+ghost use Rattle.gkat_front.specs.GkatWalks.{guard_by, tested_by, round_by, unit_by, factor_by, product_by, whole, parse_gkat};
+
+use crate::gkat_reading::GkatReading;
+use kat_model::MAX_OPEN;
+use kat_syntax::{
+    Separator, Terminal, expect, is_at, place_at, syntax_fault_at, terminal_at, text_at,
+};
+use kat_tokens::{TextFault, Token};
+
+// One construct more is open, from the token at the place on; `TooDeep` with that place where 200 or more are open.
+fn enter(depth: usize, at: usize) -> Result<usize, TextFault>
+    ensures { result ≡ enter depth at }
+{
+    if depth >= MAX_OPEN {
+        return Err(TextFault::TooDeep(at));
+    }
+    Ok(depth + 1)
+}
+
+// A condition in brackets.
+fn guard<R: GkatReading>(
+    reading: &R,
+    toks: &[Token],
+    from: usize,
+    depth: usize,
+) -> Result<(R::Guard, usize), TextFault>
+    ensures value { Reads R.memory R.guard (lexemes toks.now) result (guard_by (R.actions reading.now) depth (drop from (lexemes toks.now))) }
+    ensures goes { Goes from (length toks.now) result }
+{
+    let next = expect(toks, from, Terminal::SquareOpen)?;
+    let inside = enter(depth, place_at(toks, from))?;
+    let (cond, end) = reading.read_cond(toks, next, inside)?;
+    let end = expect(toks, end, Terminal::SquareClose)?;
+    Ok((cond, end))
+}
+
+// A test in brackets.
+fn tested<R: GkatReading>(
+    reading: &R,
+    toks: &[Token],
+    from: usize,
+    depth: usize,
+) -> Result<(R::Expr, usize), TextFault>
+    ensures value { Reads R.memory R.expr (lexemes toks.now) result (tested_by (R.actions reading.now) depth (drop from (lexemes toks.now))) }
+    ensures goes { Goes from (length toks.now) result }
+{
+    let (cond, end) = guard(reading, toks, from, depth)?;
+    Ok((reading.tested(cond), end))
+}
+
+// An expression in parentheses.
+#[cycle(exprs)]
+#[tactic(auto, using(kat_syntax::proofs::Tokens::next_drop))]
+fn round<R: GkatReading>(
+    reading: &R,
+    toks: &[Token],
+    from: usize,
+    depth: usize,
+) -> Result<(R::Expr, usize), TextFault>
+    ensures value { Reads R.memory R.expr (lexemes toks.now) result (round_by (parse_gkat (R.actions reading.now)) depth (drop from (lexemes toks.now))) }
+    ensures goes { Goes from (length toks.now) result }
+{
+    let next = expect(toks, from, Terminal::RoundOpen)?;
+    let inside = enter(depth, place_at(toks, from))?;
+    let (expr, end) = read_expr(reading, toks, next, inside)?;
+    let end = expect(toks, end, Terminal::RoundClose)?;
+    Ok((expr, end))
+}
+
+#[cycle(exprs)]
+#[tactic(auto, using(kat_syntax::proofs::Tokens::next_drop))]
+fn unit<R: GkatReading>(
+    reading: &R,
+    toks: &[Token],
+    from: usize,
+    depth: usize,
+) -> Result<(R::Expr, usize), TextFault>
+    ensures value { Reads R.memory R.expr (lexemes toks.now) result (unit_by (R.actions reading.now) (parse_gkat (R.actions reading.now)) depth (drop from (lexemes toks.now))) }
+    ensures goes { Goes from (length toks.now) result }
+{
+    let Some((terminal, at)) = terminal_at(toks, from) else {
+        return Err(syntax_fault_at(toks, from));
+    };
+    match terminal {
+        Terminal::Zero => Ok((reading.never(), from + 1)),
+        Terminal::One => Ok((reading.always(), from + 1)),
+        Terminal::Name => Ok((reading.named(at, text_at(toks, from))?, from + 1)),
+        Terminal::SquareOpen => tested(reading, toks, from, depth),
+        Terminal::RoundOpen => round(reading, toks, from, depth),
+        _ => Err(TextFault::Syntax(at)),
+    }
+}
+
+// A unit, or a loop over one.
+#[cycle(exprs)]
+#[tactic(auto, using(kat_syntax::proofs::Tokens::next_drop))]
+fn factor<R: GkatReading>(
+    reading: &R,
+    toks: &[Token],
+    from: usize,
+    depth: usize,
+) -> Result<(R::Expr, usize), TextFault>
+    ensures value { Reads R.memory R.expr (lexemes toks.now) result (factor_by (R.actions reading.now) (parse_gkat (R.actions reading.now)) depth (drop from (lexemes toks.now))) }
+    ensures goes { Goes from (length toks.now) result }
+{
+    let (body, end) = unit(reading, toks, from, depth)?;
+    if !is_at(toks, end, Terminal::Separator(Separator::Caret)) {
+        return Ok((body, end));
+    }
+    let (cond, end) = guard(reading, toks, end + 1, depth)?;
+    Ok((reading.repeat(cond, body)?, end))
+}
+
+// Factors with dots between.
+#[cycle(exprs)]
+#[tactic(auto, using(crate::proofs::GkatSteps::gkat_step, kat_syntax::proofs::Tokens::next_drop))]
+fn product<R: GkatReading>(
+    reading: &R,
+    toks: &[Token],
+    from: usize,
+    depth: usize,
+) -> Result<(R::Expr, usize), TextFault>
+    ensures value { Reads R.memory R.expr (lexemes toks.now) result (product_by (R.actions reading.now) (parse_gkat (R.actions reading.now)) depth (drop from (lexemes toks.now))) }
+    ensures goes { Goes from (length toks.now) result }
+{
+    let (only, next) = factor(reading, toks, from, depth)?;
+    let mut list = reading.first(only)?;
+    let mut at = next;
+    'factors: while is_at(toks, at, Terminal::Dot) {
+        let (more, next) = factor(reading, toks, at + 1, depth)?;
+        list = reading.more(list, more)?;
+        at = next;
+    }
+    Ok((reading.product(list)?, at))
+}
+
+// Reads the expression that begins at `from`, with `depth` constructs open around it: what the reading makes of it, and the
+// index after it. Otherwise the fault that comes first in the text: `Syntax` at the token that cannot stand there (the place
+// `usize::MAX` after the last token), `TooDeep` at the token with which more than 200 constructs are open, or that with which
+// the reading refuses a part.
+#[cycle(exprs)]
+#[tactic(auto, using(crate::proofs::GkatSteps::gkat_step, kat_syntax::proofs::Tokens::next_drop))]
+pub(crate) fn read_expr<R: GkatReading>(
+    reading: &R,
+    toks: &[Token],
+    from: usize,
+    depth: usize,
+) -> Result<(R::Expr, usize), TextFault>
+    ensures value { Reads R.memory R.expr (lexemes toks.now) result (parse_gkat (R.actions reading.now) whole depth (drop from (lexemes toks.now))) }
+    ensures goes { Goes from (length toks.now) result }
+{
+    let (left, end) = product(reading, toks, from, depth)?;
+    if !is_at(toks, end, Terminal::Plus) {
+        return Ok((left, end));
+    }
+    let (cond, end) = guard(reading, toks, end + 1, depth)?;
+    let (right, end) = product(reading, toks, end, depth)?;
+    Ok((reading.choice(cond, left, right)?, end))
+}

@@ -1,0 +1,3 @@
+pub mod GuardedForms
+pub mod PairBounds
+pub mod GuardedExpressions
