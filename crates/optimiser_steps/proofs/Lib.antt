@@ -1,0 +1,9 @@
+pub mod Alternatives
+pub mod ListedPrograms
+pub mod ValidGoals
+pub mod LeastSteps
+pub mod MadeSteps
+pub mod SharedEnds
+pub mod FoundSteps
+pub mod Endings
+pub mod Depths

@@ -1,0 +1,15 @@
+use Rattle.std.proofs.Common.{◌≡◌, ◌+◌, length}
+use Rattle.optimiser_theory.specs.Logs.{IsLog}
+use Rattle.optimiser_theory.specs.Meanings.{HasProgInRange}
+use Rattle.optimiser_steps.proofs.optimising.optimise.Given as goal
+
+-- the log leads from the program to the one at hand, and its lines are the turns that were made
+abbrev pub invariant-loop-log : goal.invariant-loop-log
+invariant-loop-log l = record {
+  chain : IsLog l.file l.prog l.log.items l.current;
+  range : HasProgInRange l.file l.current;
+  turns : length l.log.items + l.left ≡ l.fn.turns;
+}
+
+abbrev pub decreases-loop-log : goal.decreases-loop-log
+decreases-loop-log l = l.left

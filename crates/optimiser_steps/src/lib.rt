@@ -1,0 +1,15 @@
+//! The optimiser: a program is rewritten by steps whose conditions the prover decides.
+#![tactic(auto)]
+
+mod after;
+mod alone;
+mod doubles;
+mod here;
+mod made;
+mod nested;
+mod optimising;
+mod search;
+mod validity;
+mod within;
+
+pub use optimising::{Ended, LogLine, Optimised, optimise};
