@@ -14,12 +14,16 @@ pub mod ReachedRanges
 pub mod Visiting
 pub mod Reached
 pub mod MarkSteps
+pub mod AllMarked
+pub mod MarkEnds
 pub mod OutOfReach
 pub mod NextTests
 pub mod StepsBack
 pub mod FixedItems
 pub mod DecidedCases
 pub mod MarkedTerms
+pub mod Closures
+pub mod IndexLists
 pub mod CoveredItems
 pub mod CaseItems
 pub mod Leaves

@@ -1,31 +1,22 @@
--- Rounds over pairs: the next one, one that changes nothing, and what stays.
-use Rattle.std.proofs.Common.{◌≡◌, ℕ, zero, suc, ◌+◌, ◌-◌, ◌<◌, ⊎_elim, List, [], ◌∷◌, get_or, set, refl, sym, ap, ◌∙◌, arith, Bool, true, false, cond, Option, Some, None}
+-- Rounds over pairs: one that changes nothing, and what stays.
+use Rattle.std.proofs.Common.{◌≡◌, ℕ, zero, suc, ⊎_elim, List, [], ◌∷◌, get_or, set, refl, ap, ◌∙◌, Bool, true, false, cond, Option, Some, None}
 use Rattle.std.proofs.lemmas.Bool.{and_parts, and_from, or_cases, or_left, or_right}
 use Rattle.kat_model.proofs.Places.{get_or-set_kept}
 use Rattle.bisim_worklist.specs.Working.Listings.{IdEntry}
-use Rattle.bisim_worklist.specs.Working.Marks.{are_marked, with_marks, with_pair_marked, round_marked, rounds_marked, are_reached}
+use Rattle.bisim_worklist.specs.Working.Marks.{are_marked, with_marks, with_pair_marked, round_marked, rounds_marked, are_reached, Stays}
 
 -- after a round that changes nothing no other does
 pub rounds_stay : (n : ℕ) (ps : List IdEntry) (marks : List Bool) → round_marked ps marks ≡ marks → rounds_marked n ps marks ≡ marks
 rounds_stay zero ps marks e = refl
 rounds_stay (suc n) ps marks e = ap (rounds_marked n ps) e ∙ rounds_stay n ps marks e
 
-pub rounds_next : (n i : ℕ) (ps : List IdEntry) (marks : List Bool) → i < n → rounds_marked (n - i) ps marks ≡ rounds_marked (n - (i + 1)) ps (round_marked ps marks)
-rounds_next n i ps marks h =
-    let e : n - i ≡ suc (n - (i + 1)) = omega (arith, h) in
-    ap (λ k. rounds_marked k ps marks) e
-
 -- ---- marks stay
-
--- what is marked stays so with more marks
-abbrev pub Stays : List Bool → List Bool → Type 0
-Stays marks more = (j : ℕ) → get_or marks j false ≡ true → get_or more j false ≡ true
 
 marks_stay : (marks : List Bool) (ids : List ℕ) → Stays marks (with_marks marks ids)
 marks_stay marks [] j e = e
 marks_stay marks (i ∷ ids) j e = marks_stay (set marks i true) ids j (get_or-set_kept marks i j true false e)
 
-pair_stays : (marks : List Bool) (p : IdEntry) → Stays marks (with_pair_marked marks p)
+pub pair_stays : (marks : List Bool) (p : IdEntry) → Stays marks (with_pair_marked marks p)
 pair_stays marks p = go (are_marked marks p.left) (are_marked marks p.right)
   where
     go : (b c : Bool) → Stays marks (cond b (with_marks marks p.right) (cond c (with_marks marks p.left) marks))
@@ -41,7 +32,7 @@ pub rounds_keep : (n : ℕ) (ps : List IdEntry) (marks : List Bool) → Stays ma
 rounds_keep zero ps marks = λ j e. e
 rounds_keep (suc n) ps marks = λ j e. rounds_keep n ps (round_marked ps marks) j (round_stays ps marks j e)
 
-all_stay : (marks more : List Bool) → Stays marks more → (ids : List ℕ) → are_marked marks ids ≡ true → are_marked more ids ≡ true
+pub all_stay : (marks more : List Bool) → Stays marks more → (ids : List ℕ) → are_marked marks ids ≡ true → are_marked more ids ≡ true
 all_stay marks more s [] e = refl
 all_stay marks more s (i ∷ ids) e =
     let parts = and_parts (get_or marks i false) (are_marked marks ids) e in
@@ -55,7 +46,3 @@ reached_stays marks more s (Some u) targets e =
     (λ h. or_left (get_or more u false) (are_marked more targets) (s u h))
     (λ h. or_right (get_or more u false) (are_marked more targets) (all_stay marks more s targets h))
     (or_cases (get_or marks u false) (are_marked marks targets) e)
-
--- so no further round is needed
-pub reached_already : (n : ℕ) (ps : List IdEntry) (marks : List Bool) (universal : Option ℕ) (targets : List ℕ) → are_reached universal targets marks ≡ true → are_reached universal targets marks ≡ are_reached universal targets (rounds_marked n ps marks)
-reached_already n ps marks universal targets e = e ∙ sym (reached_stays marks (rounds_marked n ps marks) (rounds_keep n ps marks) universal targets e)

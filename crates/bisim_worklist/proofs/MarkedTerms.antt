@@ -35,7 +35,7 @@ pub length_with_marks : (marks : List Bool) (ks : List ℕ) → length (with_mar
 length_with_marks marks [] = refl
 length_with_marks marks (k ∷ ks) = length_with_marks (set marks k true) ks ∙ length-set marks k true
 
-length_with_pair : (marks : List Bool) (p : IdEntry) → length (with_pair_marked marks p) ≡ length marks
+pub length_with_pair : (marks : List Bool) (p : IdEntry) → length (with_pair_marked marks p) ≡ length marks
 length_with_pair marks p = go (are_marked marks p.left) (are_marked marks p.right)
   where
     go : (b c : Bool) → length (cond b (with_marks marks p.right) (cond c (with_marks marks p.left) marks)) ≡ length marks

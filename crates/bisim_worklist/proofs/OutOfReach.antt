@@ -4,8 +4,8 @@ use Rattle.std.proofs.lemmas.Bool.{and_right}
 use Rattle.kat_model.specs.Members.{Has, IsSubset}
 use Rattle.kat_model.proofs.Places.{get_or-set_cases}
 use Rattle.bisim_worklist.specs.Working.Listings.{IdEntry}
-use Rattle.bisim_worklist.specs.Working.Marks.{are_marked, with_marks, with_pair_marked, round_marked, rounds_marked, are_reached, RuleParts, AreMembers}
-use Rattle.bisim_worklist.proofs.MarkSteps.{Stays, rounds_keep}
+use Rattle.bisim_worklist.specs.Working.Marks.{are_marked, with_marks, with_pair_marked, round_marked, rounds_marked, are_reached, RuleParts, AreMembers, Stays}
+use Rattle.bisim_worklist.proofs.MarkSteps.{rounds_keep}
 use Rattle.bisim_worklist.proofs.Memberships.{AreWithin}
 
 -- what is marked was so, or is one of these

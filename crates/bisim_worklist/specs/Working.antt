@@ -1,5 +1,6 @@
 pub mod Visits
 pub mod Listings
+pub mod Indices
 pub mod Marks
 pub mod Covers
 pub mod Cases

@@ -69,11 +69,14 @@ fn list_case(
         atom: Items::of(atom),
         act: stride.act,
     };
-    rules.list(Listed {
-        left: Items::of(left),
-        right: Items::of(right),
-        origin: Some(origin),
-    })
+    rules.list(
+        alloc,
+        Listed {
+            left: Items::of(left),
+            right: Items::of(right),
+            origin: Some(origin),
+        },
+    )
 }
 
 // Lists the pair of a case in which no guard depends on a test, unless it is congruent.

@@ -2,6 +2,7 @@
 ghost use Rattle.std.specs.Prelude.{◌≡◌, ◌↔◌, ◌++◌, ◌∷◌, [], IsTrue, OnOk, OnErr};
 ghost use Rattle.kat_model.specs.Members.{Has};
 
+use crate::index::PairIndex;
 use crate::pair::Listed;
 use kat_model::NoMemory;
 use std::alloc::Global;
@@ -10,28 +11,31 @@ use std::marker::Model;
 use stored_pairs::add_all;
 use term_store::TermId;
 
-/// The listed pairs in order, the terms that stand in them, the universal term, where there is one, and how many pairs
-/// may be listed, where there is a limit. All ids are below the count.
+/// The listed pairs in order, the terms that stand in them, their index, the universal term, where there is one, and how
+/// many pairs may be listed, where there is a limit. All ids are below the count.
 #[derive(Drop)]
 pub(crate) struct Rules {
     pairs: Vec<Listed>,
     members: BTreeSet<TermId>,
+    index: PairIndex,
     universal: Option<TermId>,
     count: usize,
     limit: Option<usize>,
 }
 
 impl Model for Rules {
+    ghost use Rattle.bisim_worklist.specs.Working.Indices.{AreIndexed};
     ghost use Rattle.bisim_worklist.specs.Working.Marks.{RuleParts, AreMembers};
 
     ghost Value = { RuleParts };
 
-    ghost view = { λ r. record { pairs = r.pairs.items; members = r.members.keys; universal = r.universal; count = r.count; limit = r.limit } };
+    ghost view = { λ r. record { pairs = r.pairs.items; members = r.members.keys; index = r.index; universal = r.universal; count = r.count; limit = r.limit } };
 
-    ghost invariant = { λ r. AreMembers (record { pairs = r.pairs.items; members = r.members.keys; universal = r.universal; count = r.count; limit = r.limit }) };
+    ghost invariant = { λ r. AreMembers (record { pairs = r.pairs.items; members = r.members.keys; index = r.index; universal = r.universal; count = r.count; limit = r.limit }) × AreIndexed r.index r.pairs.items };
 }
 
 impl Rules {
+    ghost use Rattle.bisim_worklist.specs.Working.Indices.{AreIndexed};
     ghost use Rattle.bisim_worklist.specs.Working.Marks.{AreMembers, is_full as is_full'};
 
     /// No pairs. It takes no memory.
@@ -41,11 +45,12 @@ impl Rules {
         count: usize,
         limit: Option<usize>,
     ) -> Rules
-        ensures { result ≡ record { pairs = []; members = []; universal = universal; count = count; limit = limit } }
+        ensures { result ≡ record { pairs = []; members = []; index = record { apart = []; under = [] }; universal = universal; count = count; limit = limit } }
     {
         Rules {
             pairs: Vec::new(alloc),
             members: BTreeSet::new(alloc),
+            index: PairIndex::new(alloc),
             universal,
             count,
             limit,
@@ -56,8 +61,16 @@ impl Rules {
     pub(crate) fn pairs(&self) -> &[Listed]
         ensures value { result.now ≡ self.now.pairs }
         ensures members { AreMembers self.now }
+        ensures index { AreIndexed self.now.index self.now.pairs }
     {
         &self.pairs
+    }
+
+    /// The index of the pairs.
+    pub(crate) fn index(&self) -> &PairIndex
+        ensures { result.now ≡ self.now.index }
+    {
+        &self.index
     }
 
     /// The universal term.
@@ -101,7 +114,7 @@ impl Rules {
     }
 
     /// Lists a pair.
-    pub(crate) fn list(&mut self, pair: Listed) -> Result<(), NoMemory>
+    pub(crate) fn list(&mut self, alloc: Global, pair: Listed) -> Result<(), NoMemory>
         ensures pairs { OnOk result (self.new.pairs ≡ self.old.pairs ++ pair ∷ []) }
         ensures same { OnErr result (self.new.pairs ≡ self.old.pairs) }
         ensures universal { self.new.universal ≡ self.old.universal }
@@ -111,6 +124,8 @@ impl Rules {
     {
         add_all(&mut self.members, pair.left.as_slice())?;
         add_all(&mut self.members, pair.right.as_slice())?;
+        let place = self.pairs.len();
+        self.index.add(alloc, &pair, place)?;
         self.pairs.push(pair)?;
         Ok(())
     }

@@ -1,93 +1,97 @@
-//! Saturation of a set of terms by pairs of sets (congruence closure: Bonchi and Pous 2013). A set is a mark for
-//! each id of a store.
-ghost use Rattle.std.specs.Prelude.{◌≡◌, ◌↔◌, ℕ, Some, false, length, slice_index_or, IsTrue, IfOk};
+//! Saturation of a set of terms by pairs of sets (congruence closure: Bonchi and Pous 2013). Of the listed pairs only
+//! those are looked at that the index has under a term of the set, or apart for an empty side: no other has a side that
+//! lies in the set.
+ghost use Rattle.std.specs.Prelude.{◌≡◌, ◌↔◌, ◌≤◌, ◌<◌, ℕ, [], Some, false, length, slice_get, slice_index_or, IsTrue, IfOk, OnOk};
 ghost use Rattle.std.specs.Option.{option_map_or};
 ghost use Rattle.kat_model.specs.Members.{Has};
-ghost use Rattle.bisim_worklist.specs.Working.Marks.{are_marked, with_marks, with_pair_marked, round_marked, rounds_marked, saturated_marks, are_reached, reaches_targets};
+ghost use Rattle.bisim_worklist.specs.Working.Marks.{are_reached, rounds_marked, reaches_targets, AreClosed, IsClosedAt, IsMade, IsMore};
 
+use crate::marked::{Marked, add_pair, either, holds_all, mark_all};
 use crate::pair::Listed;
 use crate::rules::Rules;
 use kat_model::NoMemory;
 use std::alloc::Global;
 use term_store::TermId;
 
-// Whether the term is marked.
-fn is_marked(marks: &[bool], term: TermId) -> bool
-    ensures { result ≡ slice_index_or marks.now term false }
+// Takes the pair at the place, if there is one. Answers whether a term is new.
+fn add_at(marked: &mut Marked, pairs: &[Listed], place: usize) -> Result<bool, NoMemory>
+    ensures made { OnOk result (IsMade pairs.now marked.old.marks marked.new.marks) }
+    ensures closed { IfOk result (λ b. b ≡ false → IsClosedAt pairs.now marked.new.marks place) }
+    ensures more { IfOk result (IsMore marked.old marked.new) }
 {
-    marks.get(term.number()).copied().unwrap_or(false)
+    let Some(pair) = pairs.get(place) else {
+        return Ok(false);
+    };
+    let is_new = add_pair(marked, pair)?;
+    Ok(is_new)
 }
 
-// Whether each of the terms is marked.
-fn holds_all(marks: &[bool], terms: &[TermId]) -> bool
-    ensures { result ≡ are_marked marks.now terms.now }
-{
-    for term in terms {
-        if !is_marked(marks, *term) {
-            return false;
-        }
-    }
-    true
-}
-
-// Marks the terms. Answers whether one is new.
-fn mark_all(marks: &mut [bool], terms: &[TermId]) -> bool
-    ensures marks { marks.new ≡ with_marks marks.old terms.now }
-    ensures same { result ≡ false → marks.new ≡ marks.old }
+// Takes the pairs at the places. Answers whether a term is new.
+fn add_places(marked: &mut Marked, pairs: &[Listed], places: &[usize]) -> Result<bool, NoMemory>
+    ensures made { OnOk result (IsMade pairs.now marked.old.marks marked.new.marks) }
+    ensures closed { IfOk result (λ b. b ≡ false → (k : ℕ) → Has places.now k → IsClosedAt pairs.now marked.new.marks k) }
+    ensures more { IfOk result (IsMore marked.old marked.new) }
 {
     let mut grew = false;
-    for term in terms {
-        let number = term.number();
-        if number < marks.len() && !marks[number] {
-            marks[number] = true;
-            grew = true;
-        }
+    for place in places {
+        let is_new = add_at(marked, pairs, *place)?;
+        grew = either(grew, is_new);
     }
-    grew
+    Ok(grew)
 }
 
-// Where the set holds all of one side of the pair, adds the other. Answers whether a term is new.
-fn add_pair(marks: &mut [bool], pair: &Listed) -> bool
-    ensures marks { marks.new ≡ with_pair_marked marks.old pair.now }
-    ensures same { result ≡ false → marks.new ≡ marks.old }
+// Takes the pairs that stand under the term. Answers whether a term is new.
+fn add_under(marked: &mut Marked, rules: &Rules, term: TermId) -> Result<bool, NoMemory>
+    ensures made { OnOk result (IsMade rules.now.pairs marked.old.marks marked.new.marks) }
+    ensures closed { IfOk result (λ b. b ≡ false → (k : ℕ) → Has (slice_index_or rules.now.index.under term []) k → IsClosedAt rules.now.pairs marked.new.marks k) }
+    ensures more { IfOk result (IsMore marked.old marked.new) }
 {
-    let left = pair.left.as_slice();
-    let right = pair.right.as_slice();
-    if holds_all(marks, left) {
-        return mark_all(marks, right);
+    match rules.index().under(term) {
+        Some(places) => add_places(marked, rules.pairs(), places.as_slice()),
+        None => Ok(false),
     }
-    if holds_all(marks, right) {
-        return mark_all(marks, left);
-    }
-    false
 }
 
-// One round over the pairs. Answers whether a term is new.
-fn round(marks: &mut [bool], pairs: &[Listed]) -> bool
-    ensures marks { marks.new ≡ round_marked pairs.now marks.old }
-    ensures same { result ≡ false → marks.new ≡ marks.old }
+// Takes the pairs that stand under the first so many marked terms. Answers whether a term is new.
+fn add_under_first(marked: &mut Marked, rules: &Rules, count: usize) -> Result<bool, NoMemory>
+    requires { count ≤ length marked.old.terms }
+    ensures made { OnOk result (IsMade rules.now.pairs marked.old.marks marked.new.marks) }
+    ensures closed { IfOk result (λ b. b ≡ false → (i : ℕ) → i < count → (t : ℕ) → slice_get marked.old.terms i ≡ Some t → (k : ℕ) → Has (slice_index_or rules.now.index.under t []) k → IsClosedAt rules.now.pairs marked.new.marks k) }
+    ensures more { IfOk result (IsMore marked.old marked.new) }
 {
     let mut grew = false;
-    for pair in pairs {
-        if add_pair(marks, pair) {
-            grew = true;
-        }
+    for index in 0..count {
+        let term = marked.terms()[index];
+        let is_new = add_under(marked, rules, term)?;
+        grew = either(grew, is_new);
     }
-    grew
+    Ok(grew)
+}
+
+// Takes the pairs of which a side may lie in the set. Answers whether a term is new: where none is, the set is closed.
+fn round(marked: &mut Marked, rules: &Rules) -> Result<bool, NoMemory>
+    ensures made { OnOk result (IsMade rules.now.pairs marked.old.marks marked.new.marks) }
+    ensures closed { IfOk result (λ b. b ≡ false → AreClosed rules.now.pairs marked.new.marks) }
+    ensures more { IfOk result (IsMore marked.old marked.new) }
+{
+    let from_apart = add_places(marked, rules.pairs(), rules.index().apart().as_slice())?;
+    let count = marked.terms().len();
+    let from_terms = add_under_first(marked, rules, count)?;
+    Ok(either(from_apart, from_terms))
 }
 
 // Whether the universal term is marked, where there is one.
-fn is_universal(marks: &[bool], universal: Option<TermId>) -> bool
-    ensures { result ≡ option_map_or (λ u. slice_index_or marks.now u false) universal false }
+fn is_universal(marked: &Marked, universal: Option<TermId>) -> bool
+    ensures { result ≡ option_map_or (λ u. slice_index_or marked.now.marks u false) universal false }
 {
-    universal.is_some_and(|term| is_marked(marks, term))
+    universal.is_some_and(|term| marked.has(term))
 }
 
 // Whether the universal term is marked, or all targets are.
-fn is_reached(marks: &[bool], universal: Option<TermId>, targets: &[TermId]) -> bool
-    ensures { result ≡ are_reached universal targets.now marks.now }
+fn is_reached(marked: &Marked, universal: Option<TermId>, targets: &[TermId]) -> bool
+    ensures { result ≡ are_reached universal targets.now marked.now.marks }
 {
-    is_universal(marks, universal) || holds_all(marks, targets)
+    is_universal(marked, universal) || holds_all(marked, targets)
 }
 
 // Whether the universal term stands in a pair, where there is one.
@@ -98,11 +102,11 @@ fn has_universal(rules: &Rules, universal: Option<TermId>) -> bool
 }
 
 // Whether each target is marked or stands in a pair.
-fn may_hold_all(rules: &Rules, marks: &[bool], targets: &[TermId]) -> bool
-    ensures { result ≡ false → (t : ℕ) × Has targets.now t × (slice_index_or marks.now t false ≡ false) × (Has rules.now.members t → ⊥) }
+fn may_hold_all(rules: &Rules, marked: &Marked, targets: &[TermId]) -> bool
+    ensures { result ≡ false → (t : ℕ) × Has targets.now t × (slice_index_or marked.now.marks t false ≡ false) × (Has rules.now.members t → ⊥) }
 {
     for target in targets {
-        if !is_marked(marks, *target) {
+        if !marked.has(*target) {
             if !rules.has_member(*target) {
                 return false;
             }
@@ -112,25 +116,23 @@ fn may_hold_all(rules: &Rules, marks: &[bool], targets: &[TermId]) -> bool
 }
 
 // Whether rounds may reach more: the universal term or all targets.
-fn may_reach(rules: &Rules, marks: &[bool], targets: &[TermId]) -> bool
-    ensures { result ≡ false → are_reached rules.now.universal targets.now (rounds_marked (length rules.now.pairs) rules.now.pairs marks.now) ≡ are_reached rules.now.universal targets.now marks.now }
+fn may_reach(rules: &Rules, marked: &Marked, targets: &[TermId]) -> bool
+    ensures { result ≡ false → are_reached rules.now.universal targets.now (rounds_marked (length rules.now.pairs) rules.now.pairs marked.now.marks) ≡ are_reached rules.now.universal targets.now marked.now.marks }
 {
-    has_universal(rules, rules.universal()) || may_hold_all(rules, marks, targets)
+    has_universal(rules, rules.universal()) || may_hold_all(rules, marked, targets)
 }
 
-// Rounds over the pairs until all is reached, or no term is new. As many rounds as there are pairs are enough, and
-// what is reached stays so.
-fn saturate(marks: &mut [bool], rules: &Rules, targets: &[TermId])
-    ensures { are_reached rules.now.universal targets.now marks.new ≡ are_reached rules.now.universal targets.now (rounds_marked (length rules.now.pairs) rules.now.pairs marks.old) }
+// Rounds until all is reached, or no term is new.
+fn saturate(marked: &mut Marked, rules: &Rules, targets: &[TermId]) -> Result<(), NoMemory>
+    ensures { OnOk result (are_reached rules.now.universal targets.now marked.new.marks ≡ are_reached rules.now.universal targets.now (rounds_marked (length rules.now.pairs) rules.now.pairs marked.old.marks)) }
 {
-    for _turn in 0..rules.pairs().len() {
-        if is_reached(marks, rules.universal(), targets) {
-            return;
-        }
-        if !round(marks, rules.pairs()) {
-            return;
+    while !is_reached(marked, rules.universal(), targets) {
+        let grew = round(marked, rules)?;
+        if !grew {
+            return Ok(());
         }
     }
+    Ok(())
 }
 
 /// Whether the listed pairs bring each of the targets to the set of these terms, or the universal term.
@@ -142,10 +144,10 @@ pub(crate) fn reaches(
 ) -> Result<bool, NoMemory>
     ensures { IfOk result (λ b. b ≡ reaches_targets rules.now terms.now targets.now) }
 {
-    let mut marks = vec![in alloc; false; rules.count()]?;
-    mark_all(&mut marks, terms);
-    if may_reach(rules, &marks, targets) {
-        saturate(&mut marks, rules, targets);
+    let mut marked = Marked::new(alloc, rules.count())?;
+    mark_all(&mut marked, terms)?;
+    if may_reach(rules, &marked, targets) {
+        saturate(&mut marked, rules, targets)?;
     }
-    Ok(is_reached(&marks, rules.universal(), targets))
+    Ok(is_reached(&marked, rules.universal(), targets))
 }

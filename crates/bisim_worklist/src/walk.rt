@@ -74,11 +74,14 @@ impl Walk {
             → IsUnderWay q store w 0) }
     {
         let mut rules = Rules::new(alloc, universal, count, limit);
-        rules.list(Listed {
-            left: single(alloc, left)?,
-            right: single(alloc, right)?,
-            origin: None,
-        })?;
+        rules.list(
+            alloc,
+            Listed {
+                left: single(alloc, left)?,
+                right: single(alloc, right)?,
+                origin: None,
+            },
+        )?;
         Ok(Walk {
             rules,
             diagrams: Diagrams::new(alloc, tests)?,

@@ -1,9 +1,10 @@
 -- Sets of terms as marks, one for each id of a store, and their saturation by pairs of sets of ids.
-use Rattle.std.specs.Prelude.{◌≤◌, zero, suc, ℕ, Bool, true, false, nat_le, ◌||◌, if◌then◌else◌, List, [], ◌∷◌, length, slice_index_or, slice_set, replicate, Option, Some, None}
+use Rattle.std.specs.Prelude.{◌≡◌, ◌≤◌, ◌<◌, ◌+◌, zero, suc, ℕ, Bool, true, false, nat_le, ◌||◌, if◌then◌else◌, List, [], ◌∷◌, length, slice_get, slice_index_or, slice_set, replicate, Option, Some, None}
 use Rattle.std.specs.Option.{option_map_or}
 use Rattle.std.specs.List.{list_all}
 use Rattle.kat_model.specs.Members.{Has, IsSubset}
 use Rattle.bisim_worklist.specs.Working.Listings.{IdEntry}
+use Rattle.bisim_worklist.specs.Working.Indices.{IndexParts}
 
 -- each of the ids is marked
 abbrev pub are_marked : List Bool → List ℕ → Bool
@@ -35,11 +36,54 @@ saturated_marks n es ids = rounds_marked (length es) es (with_marks (replicate n
 abbrev pub are_reached : Option ℕ → List ℕ → List Bool → Bool
 are_reached universal targets marks = option_map_or (λ u. slice_index_or marks u false) universal false || are_marked marks targets
 
--- the listed pairs, which are rules of congruence, the universal term, how many ids there are, and how many pairs may be
--- listed, where there is a limit
+-- ---- sets that grow pair by pair
+
+-- what is marked stays so with more marks
+abbrev pub Stays : List Bool → List Bool → Type 0
+Stays marks more = (j : ℕ) → slice_index_or marks j false ≡ true → slice_index_or more j false ≡ true
+
+-- no pair adds a mark
+abbrev pub AreClosed : List IdEntry → List Bool → Type 0
+AreClosed es marks = (e : IdEntry) → Has es e → with_pair_marked marks e ≡ marks
+
+-- nor does the pair at this place
+abbrev pub IsClosedAt : List IdEntry → List Bool → ℕ → Type 0
+IsClosedAt es marks k = (e : IdEntry) → slice_get es k ≡ Some e → with_pair_marked marks e ≡ marks
+
+-- the pairs bring the new marks to the old ones
+pub record IsMade (es : List IdEntry) (old new : List Bool) : Type 0 where
+  pub long : length new ≡ length old
+  pub keeps : Stays old new
+  pub least : (marks : List Bool) → length marks ≡ length old → AreClosed es marks → Stays old marks → Stays new marks
+
+-- how many ids are not marked
+abbrev pub unmarked : List Bool → ℕ
+unmarked [] = 0
+unmarked (b ∷ marks) = (if b then 0 else 1) + unmarked marks
+
+-- the marks, and the marked ids
+pub record MarkedParts : Type 0 where
+  pub marks : List Bool
+  pub terms : List ℕ
+
+-- each marked id is among these
+abbrev pub AreAmong : List Bool → List ℕ → Type 0
+AreAmong marks ids = (k : ℕ) → slice_index_or marks k false ≡ true → Has ids k
+
+-- the same set, or where it grew one with more marks
+pub record IsMore (old new : MarkedParts) (grew : Bool) : Type 0 where
+  pub longer : length old.terms ≤ length new.terms
+  pub same : grew ≡ false → new ≡ old
+  pub fewer : grew ≡ true → unmarked new.marks < unmarked old.marks
+
+-- ---- rules
+
+-- the listed pairs, which are rules of congruence, the terms that stand in them and their index, the universal term, how
+-- many ids there are, and how many pairs may be listed, where there is a limit
 pub record RuleParts : Type 0 where
   pub pairs : List IdEntry
   pub members : List ℕ
+  pub index : IndexParts
   pub universal : Option ℕ
   pub count : ℕ
   pub limit : Option ℕ

@@ -1,6 +1,9 @@
-use Rattle.std.proofs.Common.{◌≡◌, ◌-◌, length}
-use Rattle.bisim_worklist.specs.Working.Marks.{rounds_marked}
+use Rattle.bisim_worklist.specs.Working.Marks.{IsMade, unmarked}
 use Rattle.bisim_worklist.proofs.saturation.saturate.Given as goal
 
-abbrev pub invariant-loop-turn : goal.invariant-loop-turn
-invariant-loop-turn l = rounds_marked (length l.rules.pairs - l._turn) l.rules.pairs l.marks ≡ rounds_marked (length l.rules.pairs) l.rules.pairs l.initial.marks
+abbrev pub invariant-loop-marked : goal.invariant-loop-marked
+invariant-loop-marked l = IsMade l.rules.pairs l.initial.marked.marks l.marked.marks
+
+-- each round but the last marks a term
+abbrev pub decreases-loop-marked : goal.decreases-loop-marked
+decreases-loop-marked l = unmarked l.marked.marks

@@ -1,0 +1,233 @@
+-- What pairs make of marks, in whatever order they are taken: once no pair adds a mark, it is what rounds make.
+use Rattle.std.proofs.Common.{◌≡◌, ℕ, zero, suc, ◌+◌, ◌<◌, ◌≤◌, ◌⊎◌, inl, inr, ⊎_elim, List, [], ◌∷◌, ◌++◌, length, get_or, set, slice_get, length-append, refl, sym, ap, ◌∙◌, subst, arith, Bool, true, false, ◌||◌, cond, Option, Some}
+use mathlib.Core.Path.{ap₂}
+use Rattle.std.proofs.lemmas.Bool.{true≢false, and_parts}
+use Rattle.std.proofs.lemmas.Option.{same_Some, slice_get_within, slice_get-get_or, get_or_from_slice_get}
+use Rattle.std.proofs.Math.ListN.{length-set}
+use Rattle.kat_model.specs.Members.{Has}
+use Rattle.kat_model.proofs.Lists.{has_left, has_right}
+use Rattle.kat_model.proofs.Places.{has_at, place_of_member, get_or-set_cases}
+use Rattle.bisim_worklist.specs.Working.Listings.{IdEntry}
+use Rattle.bisim_worklist.specs.Working.Indices.{IndexParts, StandsUnder, AreIndexed}
+use Rattle.bisim_worklist.specs.Working.Marks.{are_marked, with_marks, with_pair_marked, round_marked, rounds_marked, are_reached, Stays, AreClosed, IsClosedAt, IsMade, MarkedParts, AreAmong, IsMore, unmarked, RuleParts}
+use Rattle.bisim_worklist.proofs.MarkSteps.{pair_stays, all_stay, reached_stays}
+use Rattle.bisim_worklist.proofs.MarkEnds.{marked_held, held_same, all_rounds_closed}
+use Rattle.bisim_worklist.proofs.MarkedTerms.{length_with_pair}
+
+-- ---- more marks, where there were more
+
+set_within : (m c : List Bool) (k : ℕ) → length m ≡ length c → Stays m c → (j : ℕ) → get_or (set m k true) j false ≡ true → get_or (set c k true) j false ≡ true
+set_within [] c k l s j e = absurd (true≢false (sym e))
+set_within (a ∷ m) [] k l s j e = absurd (omega (arith, l))
+set_within (a ∷ m) (b ∷ c) zero l s zero e = refl
+set_within (a ∷ m) (b ∷ c) zero l s (suc j) e = s (suc j) e
+set_within (a ∷ m) (b ∷ c) (suc k) l s zero e = s zero e
+set_within (a ∷ m) (b ∷ c) (suc k) l s (suc j) e = set_within m c k (omega (arith, l)) (λ i f. s (suc i) f) j e
+
+marks_within : (ks : List ℕ) (m c : List Bool) → length m ≡ length c → Stays m c → Stays (with_marks m ks) (with_marks c ks)
+marks_within [] m c l s = s
+marks_within (k ∷ ks) m c l s = marks_within ks (set m k true) (set c k true) (length-set m k true ∙ l ∙ sym (length-set c k true)) (set_within m c k l s)
+
+-- a pair brings nothing to a part of marks that is not in them, where it adds nothing to them
+pair_within : (m c : List Bool) (p : IdEntry) → length m ≡ length c → with_pair_marked c p ≡ c → Stays m c → Stays (with_pair_marked m p) c
+pair_within m c p l q s = go (are_marked m p.left) (are_marked m p.right) refl refl
+  where
+    with_right : are_marked c p.left ≡ true → with_marks c p.right ≡ c
+    with_right e = sym (ap (λ (x : Bool). cond x (with_marks c p.right) (cond (are_marked c p.right) (with_marks c p.left) c)) e) ∙ q
+
+    with_left : are_marked c p.right ≡ true → (x : Bool) → are_marked c p.left ≡ x → with_marks c p.left ≡ c
+    with_left f true e = held_same p.left c (marked_held c p.left e)
+    with_left f false e = sym (ap₂ (λ (x y : Bool). cond x (with_marks c p.right) (cond y (with_marks c p.left) c)) e f) ∙ q
+
+    go : (a b : Bool) → are_marked m p.left ≡ a → are_marked m p.right ≡ b → Stays (cond a (with_marks m p.right) (cond b (with_marks m p.left) m)) c
+    go true b e f = subst (Stays (with_marks m p.right)) (with_right (all_stay m c s p.left e)) (marks_within p.right m c l s)
+    go false true e f = subst (Stays (with_marks m p.left)) (with_left (all_stay m c s p.right f) (are_marked c p.left) refl) (marks_within p.left m c l s)
+    go false false e f = s
+
+-- ---- what pairs make
+
+pub made_itself : (ps : List IdEntry) (m : List Bool) → IsMade ps m m
+made_itself ps m = record { long = refl; keeps = λ j e. e; least = λ c l q s. s }
+
+pub made_then : (ps : List IdEntry) (a b c : List Bool) → IsMade ps a b → IsMade ps b c → IsMade ps a c
+made_then ps a b c x y = record {
+  long = y.long ∙ x.long;
+  keeps = λ j e. y.keeps j (x.keeps j e);
+  least = λ d l q s. y.least d (l ∙ sym x.long) q (x.least d l q s);
+}
+
+made_pair : (ps : List IdEntry) (m : List Bool) (p : IdEntry) → Has ps p → IsMade ps m (with_pair_marked m p)
+made_pair ps m p h = record {
+  long = length_with_pair m p;
+  keeps = pair_stays m p;
+  least = λ c l q s. pair_within m c p (sym l) (q p h) s;
+}
+
+made_round : (all ps : List IdEntry) (m : List Bool) → ((p : IdEntry) → Has ps p → Has all p) → IsMade all m (round_marked ps m)
+made_round all [] m among = made_itself all m
+made_round all (p ∷ ps) m among =
+    made_then all m (with_pair_marked m p) (round_marked ps (with_pair_marked m p)) (made_pair all m p (among p (inl refl)))
+    (made_round all ps (with_pair_marked m p) (λ q h. among q (inr h)))
+
+made_rounds : (n : ℕ) (ps : List IdEntry) (m : List Bool) → IsMade ps m (rounds_marked n ps m)
+made_rounds zero ps m = made_itself ps m
+made_rounds (suc n) ps m = made_then ps m (round_marked ps m) (rounds_marked n ps (round_marked ps m)) (made_round ps ps m (λ p h. h)) (made_rounds n ps (round_marked ps m))
+
+-- what pairs make is among what rounds make
+made_among : (ps : List IdEntry) (m n : List Bool) → IsMade ps m n → Stays n (rounds_marked (length ps) ps m)
+made_among ps m n made =
+    let rounds = made_rounds (length ps) ps m in
+    made.least (rounds_marked (length ps) ps m) rounds.long (all_rounds_closed ps m) rounds.keeps
+
+-- so what is reached is reached by rounds
+pub reached_so : (ps : List IdEntry) (m n : List Bool) (universal : Option ℕ) (targets : List ℕ) → IsMade ps m n → are_reached universal targets n ≡ true
+    → are_reached universal targets n ≡ are_reached universal targets (rounds_marked (length ps) ps m)
+reached_so ps m n universal targets made e = e ∙ sym (reached_stays n (rounds_marked (length ps) ps m) (made_among ps m n made) universal targets e)
+
+same_bool : (a b : Bool) → (a ≡ true → b ≡ true) → (b ≡ true → a ≡ true) → a ≡ b
+same_bool true true f g = refl
+same_bool true false f g = sym (f refl)
+same_bool false true f g = g refl
+same_bool false false f g = refl
+
+-- and once no pair adds a mark, just that
+pub closed_so : (ps : List IdEntry) (m n : List Bool) (universal : Option ℕ) (targets : List ℕ) → IsMade ps m n → AreClosed ps n
+    → are_reached universal targets n ≡ are_reached universal targets (rounds_marked (length ps) ps m)
+closed_so ps m n universal targets made closed =
+    same_bool (are_reached universal targets n) (are_reached universal targets (rounds_marked (length ps) ps m))
+    (reached_stays n (rounds_marked (length ps) ps m) (made_among ps m n made) universal targets)
+    (reached_stays (rounds_marked (length ps) ps m) n ((made_rounds (length ps) ps m).least n made.long closed made.keeps) universal targets)
+
+-- ---- a set that grew or did not
+
+pub more_itself : (a : MarkedParts) → IsMore a a false
+more_itself a = record { longer = omega arith; same = λ e. refl; fewer = λ e. absurd (true≢false (sym e)) }
+
+pub more_then : (a b c : MarkedParts) (x y : Bool) → IsMore a b x → IsMore b c y → IsMore a c (x || y)
+more_then a b c true true first second = record {
+  longer = omega (arith, first.longer, second.longer);
+  same = λ e. absurd (true≢false e);
+  fewer = λ e. omega (arith, first.fewer refl, second.fewer refl);
+}
+more_then a b c true false first second = record {
+  longer = omega (arith, first.longer, second.longer);
+  same = λ e. absurd (true≢false e);
+  fewer = λ e. subst (λ (s : MarkedParts). unmarked s.marks < unmarked a.marks) (sym (second.same refl)) (first.fewer refl);
+}
+more_then a b c false true first second = record {
+  longer = omega (arith, first.longer, second.longer);
+  same = λ e. absurd (true≢false e);
+  fewer = λ e. subst (λ (s : MarkedParts). unmarked c.marks < unmarked s.marks) (first.same refl) (second.fewer refl);
+}
+more_then a b c false false first second = record {
+  longer = omega (arith, first.longer, second.longer);
+  same = λ e. second.same refl ∙ first.same refl;
+  fewer = λ e. absurd (true≢false (sym e));
+}
+
+-- one mark more
+fewer_set : (m : List Bool) (k : ℕ) → k < length m → get_or m k false ≡ false → unmarked (set m k true) < unmarked m
+fewer_set [] k h e = absurd (omega arith)
+fewer_set (b ∷ m) zero h e = let is : b ≡ false = e in subst (λ (x : Bool). 0 + unmarked m < cond x 0 1 + unmarked m) (sym is) (omega arith)
+fewer_set (b ∷ m) (suc k) h e = let rest = fewer_set m k (omega (arith, h)) e in omega (arith, rest)
+
+-- the set with one term more
+pub grown : (a : MarkedParts) (marks : List Bool) (terms more : List ℕ) (k t : ℕ) → record { marks = marks; terms = terms } ≡ a → more ≡ terms ++ t ∷ [] → k < length marks → get_or marks k false ≡ false
+    → IsMore a (record { marks = set marks k true; terms = more }) true
+grown a marks terms more k t is added low off = record {
+  longer = subst (λ (s : MarkedParts). length s.terms ≤ length more) is (subst (λ ts. length terms ≤ length ts) (sym added) (omega (arith, length-append terms (t ∷ []))));
+  same = λ e. absurd (true≢false e);
+  fewer = λ e. subst (λ (s : MarkedParts). unmarked (set marks k true) < unmarked s.marks) is (fewer_set marks k low off);
+}
+
+pub grown_among : (marks : List Bool) (terms more : List ℕ) (k t : ℕ) → AreAmong marks terms → more ≡ terms ++ t ∷ [] → k ≡ t → AreAmong (set marks k true) more
+grown_among marks terms more k t among added same j e =
+    subst (λ ts. Has ts j) (sym added)
+    (⊎_elim
+    (λ own. has_right terms (t ∷ []) j (inl (sym (own ∙ same))))
+    (λ was. has_left terms (t ∷ []) j (among j was))
+    (get_or-set_cases marks k j true true false e))
+
+-- ---- one pair
+
+pub at_read : {X : Type 0} (xs : List X) (i : ℕ) (x : X) → i < length xs → x ≡ get_or xs i x → slice_get xs i ≡ Some x
+at_read xs i x low is = slice_get-get_or xs i x low ∙ ap Some (sym is)
+
+pub made_at : (ps : List IdEntry) (k : ℕ) (p : IdEntry) (m n : List Bool) → slice_get ps k ≡ Some p → n ≡ with_pair_marked m p → IsMade ps m n
+made_at ps k p m n at is = subst (IsMade ps m) (sym is) (made_pair ps m p (has_at ps k p at))
+
+pub closed_at : (ps : List IdEntry) (k : ℕ) (p : IdEntry) (a b : MarkedParts) (y : Bool) → slice_get ps k ≡ Some p → b.marks ≡ with_pair_marked a.marks p → IsMore a b y → y ≡ false → IsClosedAt ps b.marks k
+closed_at ps k p a b y at is more f e there =
+    let same : b ≡ a = more.same f in
+    let one : p ≡ e = same_Some p e (sym at ∙ there) in
+    let was : with_pair_marked a.marks p ≡ a.marks = sym is ∙ ap (λ (s : MarkedParts). s.marks) same in
+    subst (λ (s : MarkedParts). with_pair_marked s.marks e ≡ s.marks) (sym same) (subst (λ q. with_pair_marked a.marks q ≡ a.marks) one was)
+
+-- ---- the pairs of an index
+
+-- a pair that stands under no marked term has no marked side, and adds nothing; the other pairs were taken
+index_closed : (x : IndexParts) (ps : List IdEntry) (m : List Bool) (ids : List ℕ) → AreIndexed x ps → AreAmong m ids
+    → ((k : ℕ) → Has x.apart k → IsClosedAt ps m k)
+    → ((t k : ℕ) → Has ids t → Has (get_or x.under t []) k → IsClosedAt ps m k)
+    → AreClosed ps m
+index_closed x ps m ids indexed among apart under p h = go (are_marked m p.left) (are_marked m p.right) refl refl
+  where
+    place : (k : ℕ) × (slice_get ps k ≡ Some p)
+    place = place_of_member ps p h
+
+    one_marked : (ks : List ℕ) (t : ℕ) → Has ks t → are_marked m ks ≡ true → get_or m t false ≡ true
+    one_marked [] t h e = absurd h
+    one_marked (k ∷ ks) t h e =
+        let parts = and_parts (get_or m k false) (are_marked m ks) e in
+        ⊎_elim (λ s. subst (λ j. get_or m j false ≡ true) s parts.0) (λ r. one_marked ks t r parts.1) h
+
+    taken : (ks : List ℕ) → StandsUnder x ks place.0 → are_marked m ks ≡ true → with_pair_marked m p ≡ m
+    taken ks stands e =
+        ⊎_elim
+        (λ none. apart place.0 none.1 p place.1)
+        (λ some. under some.0 place.0 (among some.0 (one_marked ks some.0 some.1 e)) some.2 p place.1)
+        stands
+
+    go : (b c : Bool) → are_marked m p.left ≡ b → are_marked m p.right ≡ c → with_pair_marked m p ≡ m
+    go true c e f = taken p.left (indexed place.0 p place.1).0 e
+    go false true e f = taken p.right (indexed place.0 p place.1).1 f
+    go false false e f = ap₂ (λ (b c : Bool). cond b (with_marks m p.right) (cond c (with_marks m p.left) m)) e f
+
+-- ---- pairs taken one after the other
+
+below_next : (j i : ℕ) → j < i + 1 → (j < i) ⊎ (j ≡ i)
+below_next zero zero h = inr refl
+below_next zero (suc i) h = inl (omega arith)
+below_next (suc j) zero h = absurd (omega (arith, h))
+below_next (suc j) (suc i) h = ⊎_elim (λ l. inl (omega (arith, l))) (λ e. inr (ap suc e)) (below_next j i (omega (arith, h)))
+
+-- where neither these nor the next one brought a term, all hold of the set after it
+pub all_next : (P : MarkedParts → ℕ → Type 0) (a b : MarkedParts) (i : ℕ) (x y z : Bool) → z ≡ (x || y) → IsMore a b y
+    → (x ≡ false → (j : ℕ) → j < i → P a j) → (x ≡ false → y ≡ false → P b i) → z ≡ false → (j : ℕ) → j < i + 1 → P b j
+all_next P a b i true y z e more before now f j h = absurd (true≢false (sym e ∙ f))
+all_next P a b i false true z e more before now f j h = absurd (true≢false (sym e ∙ f))
+all_next P a b i false false z e more before now f j h =
+    ⊎_elim
+    (λ l. subst (λ s. P s j) (sym (more.same refl)) (before refl j l))
+    (λ s. subst (P b) (sym s) (now refl refl))
+    (below_next j i h)
+
+-- what holds at each place holds of each member
+pub all_members : (P : ℕ → Type 0) (ks : List ℕ) (n : ℕ) → length ks ≤ n → ((j : ℕ) → j < n → P (get_or ks j 0)) → (k : ℕ) → Has ks k → P k
+all_members P ks n long each k h =
+    let at = place_of_member ks k h in
+    let within : at.0 < length ks = slice_get_within ks at.0 k at.1 in
+    subst P (get_or_from_slice_get ks at.0 k 0 at.1) (each at.0 (omega (arith, within, long)))
+
+-- where neither the pairs with an empty set nor those under the marked terms bring a term, no pair does
+pub round_closed : (r : RuleParts) (b c : MarkedParts) (x y z : Bool) → z ≡ (x || y) → IsMore b c y → AreIndexed r.index r.pairs → AreAmong b.marks b.terms
+    → (x ≡ false → (k : ℕ) → Has r.index.apart k → IsClosedAt r.pairs b.marks k)
+    → (y ≡ false → (i : ℕ) → i < length b.terms → (t : ℕ) → slice_get b.terms i ≡ Some t → (k : ℕ) → Has (get_or r.index.under t []) k → IsClosedAt r.pairs c.marks k)
+    → z ≡ false → AreClosed r.pairs c.marks
+round_closed r b c true y z e more indexed among first second f = absurd (true≢false (sym e ∙ f))
+round_closed r b c false true z e more indexed among first second f = absurd (true≢false (sym e ∙ f))
+round_closed r b c false false z e more indexed among first second f =
+    subst (λ (s : MarkedParts). AreClosed r.pairs s.marks) (sym (more.same refl))
+    (index_closed r.index r.pairs b.marks b.terms indexed among (first refl) (λ t k h u.
+    let at = place_of_member b.terms t h in
+    subst (λ (s : MarkedParts). IsClosedAt r.pairs s.marks k) (more.same refl) (second refl at.0 (slice_get_within b.terms at.0 t at.1) t at.1 k u)))

@@ -1,9 +1,0 @@
-use Rattle.std.proofs.Common.{◌≡◌, drop, false}
-use Rattle.bisim_worklist.specs.Working.Marks.{round_marked}
-use Rattle.bisim_worklist.proofs.saturation.round.Given as goal
-
-abbrev pub invariant-loop-pair : goal.invariant-loop-pair
-invariant-loop-pair l = record {
-  marks : round_marked (drop l.pair-index l.pairs) l.marks ≡ round_marked l.pairs l.initial.marks;
-  same : l.grew ≡ false → l.marks ≡ l.initial.marks;
-}
