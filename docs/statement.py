@@ -53,6 +53,8 @@ PARTS = [
          clauses=[("kat_tool/src/text.rt", "run_reply", ["headline"])]),
     Part("Programs with one loop", "What `oneloop` answers of a text that says a file.",
          clauses=[("kat_tool/src/text.rt", "one_loop_reply", ["headline"])]),
+    Part("The optimiser", "What `optimise` answers of a text that says a file.",
+         clauses=[("kat_tool/src/text.rt", "optimised_reply", ["headline"])]),
     Part("The whole program", "The clause of `run` and those of the traits over which it runs: refusals with their "
          "places, first reasons, printed lines and faults of the outside.",
          clauses=[("kat_tool/src/top.rt", "run", [])], traits=["kat_io/src/outside.rt"]),

@@ -7,13 +7,14 @@ use Rattle.kat_io.specs.Outside.{Rose, AppendsFront}
 use Rattle.kat_model.specs.Members.{Has}
 use Rattle.kat_model.specs.Problems.{ProblemParts}
 use Rattle.bisim_worklist.proofs.AnswerCerts.{answer_accepted}
-use Rattle.kat_tool.specs.Commands.{Command, decide, report, show, batch, check, replay, chain, run, oneloop, bench, command_of, files_of}
+use Rattle.kat_tool.specs.Commands.{Command, decide, report, show, gkat, batch, check, replay, chain, run, oneloop, bench, optimise, command_of, files_of}
 use Rattle.kat_tool.specs.Asking.{Asks}
 use Rattle.kat_tool.specs.Posing.{Poses}
 use Rattle.kat_tool.specs.Steps.{ShelfUse, HasFailedOn, GetsFile, AsksText}
 use Rattle.kat_tool.specs.Decide.{IsDecided, DecidesText, Decides, DecideCauses}
 use Rattle.kat_tool.specs.Report.{IsReported, ReportsText, Reports}
 use Rattle.kat_tool.specs.Show.{ShowsText, Shows}
+use Rattle.kat_tool.specs.Gkat.{TranslatesText, Translates}
 use Rattle.kat_tool.specs.Batch.{AnswersText, Batches}
 use Rattle.kat_tool.specs.Check.{ChecksBytes, Checks, CheckStatus}
 use Rattle.kat_tool.specs.Replay.{ReplaysBytes, Replays}
@@ -21,9 +22,10 @@ use Rattle.kat_tool.specs.Chain.{GetsProof, Proves}
 use Rattle.kat_tool.specs.Running.{RunsText}
 use Rattle.kat_tool.specs.OneLoop.{FormsText}
 use Rattle.kat_tool.specs.Bench.{Tallies}
+use Rattle.kat_tool.specs.Optimise.{OptimisesText}
 use Rattle.kat_tool.specs.Replies.{RepliesTo, HasNoCommand, Replies}
 use Rattle.kat_tool.specs.Agreement.{IsAgreed}
-use Rattle.kat_tool.specs.Run.{HasFailed, HasUnfitRun, HasUnfitForm, IsReply, Call, IsRun}
+use Rattle.kat_tool.specs.Run.{HasFailed, IsUnfit, IsReply, Call, IsRun}
 use Rattle.kat_tool.specs.Laws.{CausesExclude}
 use Rattle.kat_tool.proofs.Contents.{held_same}
 use Rattle.kat_tool.proofs.Steps.{OneStatus, gets_once, text_once}
@@ -34,9 +36,11 @@ use Rattle.kat_tool.proofs.CheckReplies.{bytes_once, check_causes}
 use Rattle.kat_tool.proofs.ReplayReplies.{bytes_once as replayed_once, replay_causes}
 use Rattle.kat_tool.proofs.ChainReplies.{bytes_once as proved_once, chain_causes}
 use Rattle.kat_tool.proofs.ShowReplies.{shows_once, show_causes}
+use Rattle.kat_tool.proofs.GkatReplies.{translates_once, gkat_causes}
 use Rattle.kat_tool.proofs.RunReplies.{runs_once, run_causes}
 use Rattle.kat_tool.proofs.OneLoopReplies.{forms_once, one_loop_causes}
 use Rattle.kat_tool.proofs.BenchReplies.{tallies_once, bench_causes}
+use Rattle.kat_tool.proofs.OptimiseReplies.{optimises_once, optimise_causes}
 
 -- replies to commands, by their statuses
 module _ (s : ShelfUse) (status : ℕ) (output : List ℕ) where
@@ -54,6 +58,12 @@ module _ (s : ShelfUse) (status : ℕ) (output : List ℕ) where
 
   show_small : (file : List ℕ) → Shows s file status output → status ≤ 4
   show_small file r = small (show_causes s file status output r).answers
+    where
+      small : (status ≡ 0) ⊎ ((status ≡ 2) ⊎ (status ≡ 4)) → status ≤ 4
+      small h = grind (arith, h)
+
+  gkat_small : (file : List ℕ) → Translates s file status output → status ≤ 4
+  gkat_small file r = small (gkat_causes s file status output r).answers
     where
       small : (status ≡ 0) ⊎ ((status ≡ 2) ⊎ (status ≡ 4)) → status ≤ 4
       small h = grind (arith, h)
@@ -87,6 +97,7 @@ module _ (s : ShelfUse) (status : ℕ) (output : List ℕ) where
   command_small (decide file) r = inl (decide_small file r)
   command_small (report file) r = inl (report_small file r)
   command_small (show file) r = inl (show_small file r)
+  command_small (gkat file) r = inl (gkat_small file r)
   command_small (batch file) r = inl (batch_small file r)
   command_small (check file other) r = inl (check_small file other r)
   command_small (replay file other) r = inl (replay_small file other r)
@@ -107,17 +118,25 @@ module _ (s : ShelfUse) (status : ℕ) (output : List ℕ) where
       small (inr (inl e)) = inl (omega (arith, e))
       small (inr (inr (inl e))) = inl (omega (arith, e))
       small (inr (inr (inr e))) = inr e
+  command_small (optimise file prog turns) r = small (optimise_causes s file prog turns status output r).answers
+    where
+      small : (status ≡ 0) ⊎ ((status ≡ 2) ⊎ ((status ≡ 4) ⊎ (status ≡ 7))) → (status ≤ 4) ⊎ (status ≡ 7)
+      small (inl e) = inl (omega (arith, e))
+      small (inr (inl e)) = inl (omega (arith, e))
+      small (inr (inr (inl e))) = inl (omega (arith, e))
+      small (inr (inr (inr e))) = inr e
 
   no_seven : status ≤ 4 → status ≡ 7 → ⊥
   no_seven le seven = omega (arith, le, seven)
 
-  -- a command whose words are refused runs a program, or asks for the form of one
-  command_refused : (words : List (List ℕ)) (command : Command) → command_of words ≡ Some command → RepliesTo s command status output → status ≡ 7 → (HasUnfitRun s words ⊎ HasUnfitForm s words) × (output ≡ codes "refused: words\n")
+  -- a command whose words are refused runs a program, asks for the form of one, or optimises one
+  command_refused : (words : List (List ℕ)) (command : Command) → command_of words ≡ Some command → RepliesTo s command status output → status ≡ 7 → IsUnfit s words × (output ≡ codes "refused: words\n")
   command_refused words (decide file) is r seven = absurd (no_seven (decide_small file r) seven)
   command_refused words (report file) is r seven = absurd (no_seven (report_small file r) seven)
   command_refused words (check file other) is r seven = absurd (no_seven (check_small file other r) seven)
   command_refused words (replay file other) is r seven = absurd (no_seven (replay_small file other r) seven)
   command_refused words (show file) is r seven = absurd (no_seven (show_small file r) seven)
+  command_refused words (gkat file) is r seven = absurd (no_seven (gkat_small file r) seven)
   command_refused words (batch file) is r seven = absurd (no_seven (batch_small file r) seven)
   command_refused words (chain file other) is r seven = absurd (no_seven (chain_small file other r) seven)
   command_refused words (bench count) is r seven = let zero = r.0 in absurd (omega (arith, zero, seven))
@@ -126,13 +145,17 @@ module _ (s : ShelfUse) (status : ℕ) (output : List ℕ) where
       (inl (file, prog, store, turns, is, h.0), h.1)
   command_refused words (oneloop file prog) is r seven =
       let h = (one_loop_causes s file prog status output r).unfit seven in
-      (inr (file, prog, is, h.0), h.1)
+      (inr (inl (file, prog, is, h.0)), h.1)
+  command_refused words (optimise file prog turns) is r seven =
+      let h = (optimise_causes s file prog turns status output r).unfit seven in
+      (inr (inr (file, prog, turns, is, h.0)), h.1)
 
   -- the file that a command failed on is one of its own
   command_failed : (command : Command) → RepliesTo s command status output → status ≡ 4 → (file : List ℕ) × Has (files_of command) file × HasFailedOn s file status output
   command_failed (decide file) r four = (file, inl refl, (decide_causes s file status output r).failed four)
   command_failed (report file) r four = (file, inl refl, (report_causes s file status output r).failed four)
   command_failed (show file) r four = (file, inl refl, (show_causes s file status output r).failed four)
+  command_failed (gkat file) r four = (file, inl refl, (gkat_causes s file status output r).failed four)
   command_failed (batch file) r four = (file, inl refl, (batch_causes s file status output r).failed four)
   command_failed (check file other) r four = ⊎_elim (λ f. (file, inl refl, f)) (λ h. (other, inr (inl refl), h.2)) ((check_causes s file other status output r).failed four)
   command_failed (replay file other) r four = ⊎_elim (λ f. (file, inl refl, f)) (λ h. (other, inr (inl refl), h.2)) ((replay_causes s file other status output r).failed four)
@@ -140,6 +163,7 @@ module _ (s : ShelfUse) (status : ℕ) (output : List ℕ) where
   command_failed (bench count) r four = let zero = r.0 in absurd (omega (arith, zero, four))
   command_failed (run file prog store turns) r four = (file, inl refl, (run_causes s file prog store turns status output r).failed four)
   command_failed (oneloop file prog) r four = (file, inl refl, (one_loop_causes s file prog status output r).failed four)
+  command_failed (optimise file prog turns) r four = (file, inl refl, (optimise_causes s file prog turns status output r).failed four)
 
 -- a command has one reply where the shelf tells its files
 command_once : (s : ShelfUse) → (Rose s.before s.now → ⊥) → ((file : List ℕ) → s.content file ≡ Untold → ⊥) → (command : Command) → OneStatus (RepliesTo s command)
@@ -148,6 +172,7 @@ command_once s unfailed told (decide file) =
 command_once s unfailed told (report file) =
     gets_once s file _ _ (λ t. ReportsText t) (told file) unfailed (λ t. text_once t IsReported reported_once)
 command_once s unfailed told (show file) = gets_once s file _ _ (λ t. ShowsText t) (told file) unfailed (λ t. shows_once t)
+command_once s unfailed told (gkat file) = gets_once s file _ _ (λ t. TranslatesText t) (told file) unfailed (λ t. translates_once t)
 command_once s unfailed told (batch file) = gets_once s file _ _ (λ t. AnswersText t) (told file) unfailed (λ t. batches_once t)
 command_once s unfailed told (check file other) =
     gets_once s file _ _ (λ t. AsksText t (λ q. GetsFile s other None [] (ChecksBytes q))) (told file) unfailed (λ t. text_once t (λ q. GetsFile s other None [] (ChecksBytes q)) (λ q. gets_once s other None [] (ChecksBytes q) (told other) unfailed (bytes_once q)))
@@ -159,6 +184,7 @@ command_once s unfailed told (bench count) = tallies_once count
 command_once s unfailed told (run file prog store turns) =
     gets_once s file _ _ (λ t. RunsText t prog store turns) (told file) unfailed (λ t. runs_once t prog store turns)
 command_once s unfailed told (oneloop file prog) = gets_once s file _ _ (λ t. FormsText t prog) (told file) unfailed (λ t. forms_once t prog)
+command_once s unfailed told (optimise file prog turns) = gets_once s file _ _ (λ t. OptimisesText t prog turns) (told file) unfailed (λ t. optimises_once t prog turns)
 
 module _ (s : ShelfUse) (words : List (List ℕ)) (status : ℕ) (output : List ℕ) where
   -- the reply is that to the command of the words
@@ -166,7 +192,7 @@ module _ (s : ShelfUse) (words : List (List ℕ)) (status : ℕ) (output : List 
   replied_to command is (inl h) = let none = h.none in absurd cc
   replied_to command is (inr (c, was, r)) = subst (λ d. RepliesTo s d status output) (same_Some c command (sym was ∙ is)) r
 
-  refused_is : HasNoCommand words status output ⊎ ((c : Command) × (command_of words ≡ Some c) × RepliesTo s c status output) → status ≡ 7 → ((command_of words ≡ None) ⊎ (HasUnfitRun s words ⊎ HasUnfitForm s words)) × (output ≡ codes "refused: words\n")
+  refused_is : HasNoCommand words status output ⊎ ((c : Command) × (command_of words ≡ Some c) × RepliesTo s c status output) → status ≡ 7 → ((command_of words ≡ None) ⊎ IsUnfit s words) × (output ≡ codes "refused: words\n")
   refused_is (inl h) seven = (inl h.none, h.printed)
   refused_is (inr (c, was, r)) seven = let h = command_refused s status output words c was r seven in (inr h.0, h.1)
 
@@ -214,9 +240,11 @@ reply_is s words status output r = record {
   proves = λ file other is. chain_causes s file other status output (replied_to s words status output (chain file other) is r.cause);
   runs = λ file prog store turns is. run_causes s file prog store turns status output (replied_to s words status output (run file prog store turns) is r.cause);
   forms = λ file prog is. one_loop_causes s file prog status output (replied_to s words status output (oneloop file prog) is r.cause);
+  optimises = λ file prog turns is. optimise_causes s file prog turns status output (replied_to s words status output (optimise file prog turns) is r.cause);
   batches = λ file is. batch_causes s file status output (replied_to s words status output (batch file) is r.cause);
   benches = λ count is. bench_causes count status output (replied_to s words status output (bench count) is r.cause);
   shows = λ file is. show_causes s file status output (replied_to s words status output (show file) is r.cause);
+  translates = λ file is. gkat_causes s file status output (replied_to s words status output (gkat file) is r.cause);
   failed = failed_is s words status output r.cause;
   no_command = none_is s words status output r.cause;
   refused_words = λ seven. (refused_is s words status output r.cause seven).0;

@@ -15,6 +15,7 @@ pub mod ReplayReplies
 pub mod ChainReplies
 pub mod StoreValues
 pub mod ShowReplies
+pub mod GkatReplies
 pub mod NamedPrograms
 pub mod RunOutcomes
 pub mod RunReplies
@@ -23,6 +24,7 @@ pub mod Counters
 pub mod FormNames
 pub mod OneLoopReplies
 pub mod BenchReplies
+pub mod OptimiseReplies
 pub mod Calls
 mod PlainTexts
 mod PlainPrograms

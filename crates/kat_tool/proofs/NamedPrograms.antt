@@ -26,6 +26,17 @@ concrete_where (Some q) p e = chosen (is_concrete q) refl e
 pub fit_concrete : (f : FileParts) (prog : List ℕ) (p : ProgTree) → program_of f prog ≡ Some p → is_concrete p ≡ true
 fit_concrete f prog p e = concrete_where (option_map (λ p. p.tree) (prog_named f.scope f.progs prog)) p e
 
+-- ---- what holds of each program holds of the one that is meant
+
+module _ (P : ProgTree → Type 0) (ps : List ProgParts) where
+  pub at_progs : (o : Option Meaning) (d : ProgParts) → ((i : ℕ) (x : ProgParts) → slice_get ps i ≡ Some x → P x.tree) → prog_meant ps o ≡ Some d → P d.tree
+  at_progs None d h e = absurd (none-some d e)
+  at_progs (Some (Test k)) d h e = absurd (none-some d e)
+  at_progs (Some (Action k)) d h e = absurd (none-some d e)
+  at_progs (Some (Var k)) d h e = absurd (none-some d e)
+  at_progs (Some (Term k)) d h e = absurd (none-some d e)
+  at_progs (Some (Prog i)) d h e = h i d e
+
 -- ---- its variables
 
 module _ (v : ℕ) where
@@ -63,12 +74,7 @@ module _ (v : ℕ) where
     at_below (q ∷ ps) (suc i) d h e = at_below ps i d h.1 e
 
     meant_below : (ps : List ProgParts) (o : Option Meaning) (d : ProgParts) → AreProgsInRange t a v ps → prog_meant ps o ≡ Some d → HasVarsBelow v d.tree
-    meant_below ps None d h e = absurd (none-some d e)
-    meant_below ps (Some (Test k)) d h e = absurd (none-some d e)
-    meant_below ps (Some (Action k)) d h e = absurd (none-some d e)
-    meant_below ps (Some (Var k)) d h e = absurd (none-some d e)
-    meant_below ps (Some (Term k)) d h e = absurd (none-some d e)
-    meant_below ps (Some (Prog i)) d h e = at_below ps i d h e
+    meant_below ps o d h e = at_progs (HasVarsBelow v) ps o d (λ i x is. at_below ps i x h is) e
 
     where_below : (o : Option ProgParts) (p : ProgTree) → ((d : ProgParts) → o ≡ Some d → HasVarsBelow v d.tree) → where_concrete (option_map (λ d. d.tree) o) ≡ Some p → HasVarsBelow v p
     where_below None p h e = absurd (none-some p e)

@@ -13,12 +13,15 @@ pub mod Check
 pub mod Replay
 pub mod Chain
 pub mod Show
+pub mod Gkat
 pub mod ProgramWords
 pub mod StoreWords
 pub mod RunTexts
 pub mod Running
 pub mod OneLoop
 pub mod Bench
+pub mod LogTexts
+pub mod Optimise
 pub mod Replies
 pub mod Agreement
 pub mod Run

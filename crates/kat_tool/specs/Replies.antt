@@ -1,10 +1,11 @@
 -- What the top call replies to words.
 use Rattle.std.specs.Prelude.{◌≡◌, ◌⊎◌, ℕ, List, None, Some, codes}
-use Rattle.kat_tool.specs.Commands.{Command, decide, report, show, batch, check, replay, chain, run, oneloop, bench, command_of}
+use Rattle.kat_tool.specs.Commands.{Command, decide, report, show, gkat, batch, check, replay, chain, run, oneloop, bench, optimise, command_of}
 use Rattle.kat_tool.specs.Steps.{ShelfUse, Replying}
 use Rattle.kat_tool.specs.Decide.{Decides}
 use Rattle.kat_tool.specs.Report.{Reports}
 use Rattle.kat_tool.specs.Show.{Shows}
+use Rattle.kat_tool.specs.Gkat.{Translates}
 use Rattle.kat_tool.specs.Batch.{Batches}
 use Rattle.kat_tool.specs.Check.{Checks}
 use Rattle.kat_tool.specs.Replay.{Replays}
@@ -12,12 +13,14 @@ use Rattle.kat_tool.specs.Chain.{Proves}
 use Rattle.kat_tool.specs.Running.{Runs}
 use Rattle.kat_tool.specs.OneLoop.{Forms}
 use Rattle.kat_tool.specs.Bench.{Tallies}
+use Rattle.kat_tool.specs.Optimise.{Optimises}
 
 -- the reply to a command
 abbrev pub RepliesTo : ShelfUse → Command → Replying
 RepliesTo s (decide file) = Decides s file
 RepliesTo s (report file) = Reports s file
 RepliesTo s (show file) = Shows s file
+RepliesTo s (gkat file) = Translates s file
 RepliesTo s (batch file) = Batches s file
 RepliesTo s (check file evidence) = Checks s file evidence
 RepliesTo s (replay file evidence) = Replays s file evidence
@@ -25,6 +28,7 @@ RepliesTo s (chain file proof) = Proves s file proof
 RepliesTo s (run file prog store turns) = Runs s file prog store turns
 RepliesTo s (oneloop file prog) = Forms s file prog
 RepliesTo s (bench count) = Tallies count
+RepliesTo s (optimise file prog turns) = Optimises s file prog turns
 
 -- the words have no command
 pub record HasNoCommand (words : List (List ℕ)) (status : ℕ) (output : List ℕ) : Type 0 where

@@ -3,11 +3,12 @@ use Rattle.std.specs.Prelude.{◌≡◌, ◌≢◌, ◌⊎◌, ℕ, List, Option
 use Rattle.std.specs.Io.KnownBytes.{Appends, Keeps}
 use Rattle.kat_io.specs.Outside.{Rose, AppendsFront}
 use Rattle.kat_model.specs.Members.{Has}
-use Rattle.kat_tool.specs.Commands.{Command, decide, report, show, batch, check, replay, chain, run, oneloop, bench, command_of, files_of}
+use Rattle.kat_tool.specs.Commands.{Command, decide, report, show, gkat, batch, check, replay, chain, run, oneloop, bench, optimise, command_of, files_of}
 use Rattle.kat_tool.specs.Steps.{ShelfUse, HasFailedOn}
 use Rattle.kat_tool.specs.Decide.{DecideCauses}
 use Rattle.kat_tool.specs.Report.{ReportCauses}
 use Rattle.kat_tool.specs.Show.{ShowCauses}
+use Rattle.kat_tool.specs.Gkat.{GkatCauses}
 use Rattle.kat_tool.specs.Batch.{BatchCauses}
 use Rattle.kat_tool.specs.Check.{CheckCauses}
 use Rattle.kat_tool.specs.Replay.{ReplayCauses}
@@ -15,6 +16,7 @@ use Rattle.kat_tool.specs.Chain.{ChainCauses}
 use Rattle.kat_tool.specs.Running.{MayMisfit, RunCauses}
 use Rattle.kat_tool.specs.OneLoop.{MayLackProgram, OneLoopCauses}
 use Rattle.kat_tool.specs.Bench.{BenchCauses}
+use Rattle.kat_tool.specs.Optimise.{MayLackAnyProgram, OptimiseCauses}
 use Rattle.kat_tool.specs.Replies.{Replies}
 use Rattle.kat_tool.specs.Agreement.{IsAgreed}
 
@@ -50,6 +52,15 @@ HasUnfitRun s words =
 abbrev pub HasUnfitForm : ShelfUse → List (List ℕ) → Type 0
 HasUnfitForm s words = (file : List ℕ) × (prog : List ℕ) × (command_of words ≡ Some (oneloop file prog)) × MayLackProgram (s.content file) prog
 
+-- they ask for a program to be optimised, and are refused after the file was read: it has no such program
+abbrev pub HasUnfitOptimise : ShelfUse → List (List ℕ) → Type 0
+HasUnfitOptimise s words =
+    (file : List ℕ) × (prog : List ℕ) × (turns : ℕ) × (command_of words ≡ Some (optimise file prog turns)) × MayLackAnyProgram (s.content file) prog
+
+-- the words do not fit a file that the shelf may hold
+abbrev pub IsUnfit : ShelfUse → List (List ℕ) → Type 0
+IsUnfit s words = HasUnfitRun s words ⊎ (HasUnfitForm s words ⊎ HasUnfitOptimise s words)
+
 -- a reply to words, and what it says: of each command its own record, and of the statuses that all have
 pub record IsReply (s : ShelfUse) (words : List (List ℕ)) (status : ℕ) (output : List ℕ) : Type 0 where
   pub replies : Replies s words status output
@@ -61,12 +72,14 @@ pub record IsReply (s : ShelfUse) (words : List (List ℕ)) (status : ℕ) (outp
   pub proves : (file other : List ℕ) → command_of words ≡ Some (chain file other) → ChainCauses s file other status output
   pub runs : (file prog store : List ℕ) (turns : ℕ) → command_of words ≡ Some (run file prog store turns) → RunCauses s file prog store turns status output
   pub forms : (file prog : List ℕ) → command_of words ≡ Some (oneloop file prog) → OneLoopCauses s file prog status output
+  pub optimises : (file prog : List ℕ) (turns : ℕ) → command_of words ≡ Some (optimise file prog turns) → OptimiseCauses s file prog turns status output
   pub batches : (file : List ℕ) → command_of words ≡ Some (batch file) → BatchCauses s file status output
   pub benches : (count : ℕ) → command_of words ≡ Some (bench count) → BenchCauses count status output
   pub shows : (file : List ℕ) → command_of words ≡ Some (show file) → ShowCauses s file status output
+  pub translates : (file : List ℕ) → command_of words ≡ Some (gkat file) → GkatCauses s file status output
   pub failed : status ≡ 4 → HasFailed s words status output
   pub no_command : command_of words ≡ None → status ≡ 7
-  pub refused_words : status ≡ 7 → (command_of words ≡ None) ⊎ (HasUnfitRun s words ⊎ HasUnfitForm s words)
+  pub refused_words : status ≡ 7 → (command_of words ≡ None) ⊎ IsUnfit s words
   pub refused_words_line : status ≡ 7 → output ≡ codes "refused: words\n"
   pub counts : status ≢ 4 → s.now ≡ s.before
 

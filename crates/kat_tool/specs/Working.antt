@@ -1,3 +1,4 @@
 pub mod Outcomes
 pub mod Goals
 pub mod Tallies
+pub mod Kinds

@@ -9,9 +9,12 @@ mod check;
 mod counter;
 mod decide;
 mod getting;
+mod gkat;
 mod laws;
+mod log_text;
 mod numbers;
 mod oneloop;
+mod optimise;
 mod posing;
 mod program_words;
 mod replay;
@@ -29,8 +32,8 @@ mod words;
 pub use laws::{causes_exclude, words_give_stores};
 pub use reply::Reply;
 pub use text::{
-    batch_reply, checked_texts, decided_text, one_loop_reply, proved_texts, replayed_texts,
-    reported_text, run_reply, show_reply,
+    batch_reply, checked_texts, decided_text, one_loop_reply, optimised_reply, proved_texts,
+    replayed_texts, reported_text, run_reply, show_reply, translated_text,
 };
 pub use top::run;
 pub use words::Words;

@@ -1,4 +1,4 @@
-//! `decide`, `batch`, `check`, `replay`, `chain`, `run`, `oneloop` and `show` on the bytes of texts, with no outside.
+//! `decide`, `batch`, `check`, `replay`, `chain`, `run`, `oneloop`, `optimise` and `show` on the bytes of texts, with no outside.
 ghost use Rattle.std.specs.Prelude.{◌≡◌, ℕ, List, IfOk};
 ghost use Rattle.kat_model.specs.Problems.{ProblemParts};
 ghost use Rattle.kat_model.specs.Expressions.{CondTree};
@@ -19,10 +19,12 @@ ghost use Rattle.kat_tool.specs.Replay.{ReplaysTexts, ReplayHeadline};
 ghost use Rattle.kat_tool.specs.Chain.{ProvesTexts, ChainHeadline};
 ghost use Rattle.kat_tool.specs.Running.{RunsText, RunHeadline};
 ghost use Rattle.kat_tool.specs.OneLoop.{FormsText, OneLoopHeadline};
+ghost use Rattle.kat_tool.specs.Optimise.{OptimisesText, OptimiseHeadline};
+ghost use Rattle.kat_tool.specs.Gkat.{TranslatesText, GkatHeadline};
 ghost use Rattle.kat_tool.specs.Show.{ShowsText, ShowHeadline};
 
 use crate::reply::{Reply, Stop};
-use crate::{batch, chain, check, decide, oneloop, replay, report, running, show};
+use crate::{batch, chain, check, decide, gkat, oneloop, optimise, replay, report, running, show};
 use kat_model::NoMemory;
 use std::alloc::Global;
 
@@ -185,6 +187,29 @@ pub fn one_loop_reply(alloc: Global, text: &[u8], prog: &str) -> Result<Reply, N
     }
 }
 
+/// What `optimise` answers to the bytes of a text, the name of a program and a number of steps. Where the text is read, the
+/// status is 0 exactly where a program of the text has the name. Then the chain of its first steps is printed, of at most so
+/// many, with how it ended and the program that it comes to; in a file without variables that relates the same states as
+/// before in every table that keeps the stated hypotheses, and in one without tests, actions, terms and stated hypotheses it
+/// ends in the same stores as before, from each. The status is 7 exactly where no program has the name. Where the text is
+/// not read, it is 2, with the line that says why. It fails only when out of memory.
+pub fn optimised_reply(
+    alloc: Global,
+    text: &[u8],
+    prog: &str,
+    turns: u64,
+) -> Result<Reply, NoMemory>
+    ensures headline { (f : FileParts) → Reads text.now f
+        → IfOk result (λ r. OptimiseHeadline f prog.now turns r.status r.output.items) }
+    ensures replies { IfOk result (λ r. OptimisesText text.now prog.now turns r.status r.output.items) }
+{
+    match optimise::text_reply(alloc, text, prog, turns) {
+        Ok(reply) => Ok(reply),
+        Err(Stop::Replied(reply)) => Ok(reply),
+        Err(Stop::NoMemory) => Err(NoMemory),
+    }
+}
+
 /// What `show` answers to the bytes of a text. The status is 0 exactly where the text is read and its file has an
 /// abstraction, with the text of that. Otherwise it is 2, with the line that says why. It fails only when out of memory.
 pub fn show_reply(alloc: Global, text: &[u8]) -> Result<Reply, NoMemory>
@@ -192,6 +217,20 @@ pub fn show_reply(alloc: Global, text: &[u8]) -> Result<Reply, NoMemory>
     ensures replies { IfOk result (λ r. ShowsText text.now r.status r.output.items) }
 {
     match show::text_reply(alloc, text) {
+        Ok(reply) => Ok(reply),
+        Err(Stop::Replied(reply)) => Ok(reply),
+        Err(Stop::NoMemory) => Err(NoMemory),
+    }
+}
+
+/// What `gkat` answers to the bytes of a text of GKAT. The status is 0 exactly where the text is read, with the text of a
+/// problem file that asks its question of the terms that its expressions stand for. Otherwise it is 2, with the line of the
+/// first fault. It fails only when out of memory.
+pub fn translated_text(alloc: Global, text: &[u8]) -> Result<Reply, NoMemory>
+    ensures headline { IfOk result (λ r. GkatHeadline text.now r.status r.output.items) }
+    ensures replies { IfOk result (λ r. TranslatesText text.now r.status r.output.items) }
+{
+    match gkat::text_reply(alloc, text) {
         Ok(reply) => Ok(reply),
         Err(Stop::Replied(reply)) => Ok(reply),
         Err(Stop::NoMemory) => Err(NoMemory),

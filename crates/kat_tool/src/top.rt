@@ -5,6 +5,7 @@ ghost use Rattle.kat_tool.specs.Steps.{shelf_use};
 ghost use Rattle.kat_tool.specs.Decide.{Decides};
 ghost use Rattle.kat_tool.specs.Report.{Reports};
 ghost use Rattle.kat_tool.specs.Show.{Shows};
+ghost use Rattle.kat_tool.specs.Gkat.{Translates};
 ghost use Rattle.kat_tool.specs.Batch.{Batches};
 ghost use Rattle.kat_tool.specs.Check.{Checks};
 ghost use Rattle.kat_tool.specs.Replay.{Replays};
@@ -12,6 +13,7 @@ ghost use Rattle.kat_tool.specs.Chain.{Proves};
 ghost use Rattle.kat_tool.specs.Running.{Runs};
 ghost use Rattle.kat_tool.specs.OneLoop.{Forms};
 ghost use Rattle.kat_tool.specs.Bench.{Tallies};
+ghost use Rattle.kat_tool.specs.Optimise.{Optimises};
 ghost use Rattle.kat_tool.specs.Replies.{RepliesTo, Replies};
 ghost use Rattle.kat_tool.specs.Run.{IsRun, sink_use};
 ghost use Rattle.kat_tool.specs.Working.Outcomes.{IsReplied, Counts};
@@ -21,7 +23,8 @@ use crate::getting::{file_bytes, file_text};
 use crate::posing::problem_in;
 use crate::reply::{Reply, Stop, line};
 use crate::text::{
-    batch_reply, decided_text, one_loop_reply, reported_text, run_reply, show_reply,
+    batch_reply, decided_text, one_loop_reply, optimised_reply, reported_text, run_reply,
+    show_reply, translated_text,
 };
 use crate::words::{Command, Words};
 use crate::{chain, check, replay};
@@ -54,6 +57,15 @@ fn show_file<S: Shelf>(alloc: Global, file: &str, shelf: &mut S) -> Result<Reply
 {
     let text = file_text(alloc, file, shelf)?;
     Ok(show_reply(alloc, &text)?)
+}
+
+fn gkat_file<S: Shelf>(alloc: Global, file: &str, shelf: &mut S) -> Result<Reply, Stop>
+    ensures replied { IsReplied (Translates (shelf_use (S.content shelf.old) (S.faults shelf.old) (S.faults shelf.new) (S.last_failed shelf.new)) file.now) result }
+    ensures counts { Counts (S.faults shelf.old) (S.faults shelf.new) result }
+    ensures kept { (name : List ℕ) → S.content shelf.new name ≡ S.content shelf.old name }
+{
+    let text = file_text(alloc, file, shelf)?;
+    Ok(translated_text(alloc, &text)?)
 }
 
 fn batch_file<S: Shelf>(alloc: Global, file: &str, shelf: &mut S) -> Result<Reply, Stop>
@@ -146,6 +158,21 @@ fn one_loop_file<S: Shelf>(
     Ok(one_loop_reply(alloc, &text, prog)?)
 }
 
+fn optimise_file<S: Shelf>(
+    alloc: Global,
+    file: &str,
+    prog: &str,
+    turns: u64,
+    shelf: &mut S,
+) -> Result<Reply, Stop>
+    ensures replied { IsReplied (Optimises (shelf_use (S.content shelf.old) (S.faults shelf.old) (S.faults shelf.new) (S.last_failed shelf.new)) file.now prog.now turns) result }
+    ensures counts { Counts (S.faults shelf.old) (S.faults shelf.new) result }
+    ensures kept { (name : List ℕ) → S.content shelf.new name ≡ S.content shelf.old name }
+{
+    let text = file_text(alloc, file, shelf)?;
+    Ok(optimised_reply(alloc, &text, prog, turns)?)
+}
+
 fn command_reply<S: Shelf>(
     alloc: Global,
     command: Command<'_>,
@@ -159,6 +186,7 @@ fn command_reply<S: Shelf>(
         Command::Decide(file) => decide_file(alloc, file, shelf),
         Command::Report(file) => report_file(alloc, file, shelf),
         Command::Show(file) => show_file(alloc, file, shelf),
+        Command::Gkat(file) => gkat_file(alloc, file, shelf),
         Command::Batch(file) => batch_file(alloc, file, shelf),
         Command::Check(file, evidence) => check_files(alloc, file, evidence, shelf),
         Command::Replay(file, evidence) => replay_files(alloc, file, evidence, shelf),
@@ -171,6 +199,7 @@ fn command_reply<S: Shelf>(
         } => run_file(alloc, file, prog, store, turns, shelf),
         Command::OneLoop(file, prog) => one_loop_file(alloc, file, prog, shelf),
         Command::Bench(count) => Ok(tally_reply(alloc, count)?),
+        Command::Optimise { file, prog, turns } => optimise_file(alloc, file, prog, turns, shelf),
     }
 }
 
@@ -213,6 +242,9 @@ fn answer<S: Shelf>(alloc: Global, words: &Words, shelf: &mut S) -> Result<Reply
 /// `show` FILE tells the problem of FILE as a text, with what its tests and actions stand for: 0 with the text, and 2 where
 /// FILE is refused.
 ///
+/// `gkat` FILE tells the problem of a text of GKAT (Smolka et al. 2020) as a problem file: 0 with the text, and 2 where FILE is
+/// refused.
+///
 /// `batch` FILE answers each of up to 64 goals of FILE as `decide` answers FILE with that goal alone: 0 where the answer to
 /// each is 0, 1 where one is 1, and 2 where FILE or one of its goals is refused, with the line of the first alone.
 ///
@@ -221,6 +253,9 @@ fn answer<S: Shelf>(alloc: Global, words: &Words, shelf: &mut S) -> Result<Reply
 ///
 /// `oneloop` FILE PROG prints a form of a program of FILE with one loop and one variable more, as a problem of its own: 0
 /// where there is one, and 2 where FILE is refused, has 64 variables or a program with too many statements.
+///
+/// `optimise` FILE PROG rewrites a program of FILE by at most 1,000 steps, or with `--turns` N by at most N, and prints the
+/// steps, how they ended and the program: 0 where there is such a program, and 2 where FILE is refused.
 ///
 /// `bench` N decides N generated problems, from 1 to 10,000, and prints how many are the same, how many are not, and the
 /// fewest moves of the strings that show it, together. It gets no file, and its status is 0.
@@ -236,10 +271,10 @@ fn answer<S: Shelf>(alloc: Global, words: &Words, shelf: &mut S) -> Result<Reply
 /// field `answered` gives for each status but 5 and 6 the bytes that were sent, and what they say: `decides.headline` is
 /// the statement on `decide`, over the text that the shelf tells, in the words of `decided_text`; `checks.headline` and
 /// `replays.headline` are those of `checked_texts` and `replayed_texts`, `proves.headline` is that of `proved_texts`,
-/// `runs.headline` that of `run_reply`, `forms.headline` that of `one_loop_reply`, `batches.headline` that of `batch_reply`,
-/// `shows.headline` that of `show_reply`, and `reports.headline` that of `reported_text`; `decides.same_stores`,
-/// `reports.same_stores`, `checks.same_stores` and `proves.same_stores` are the statements on stores. The further fields of
-/// `decides`, `reports`, `batches`, `checks`, `replays`, `proves`, `runs`, `forms` and `shows` give the cause of each status
+/// `runs.headline` that of `run_reply`, `forms.headline` that of `one_loop_reply`, `optimises.headline` that of
+/// `optimised_reply`, `batches.headline` that of `batch_reply`, `shows.headline` that of `show_reply`, and `reports.headline`
+/// that of `reported_text`; `decides.same_stores`, `reports.same_stores`, `checks.same_stores` and `proves.same_stores` are the statements on stores. The further fields of
+/// `decides`, `reports`, `batches`, `checks`, `replays`, `proves`, `runs`, `forms`, `optimises` and `shows` give the cause of each status
 /// where the shelf tells nothing; `benches` is the statement on `bench`. `unsent` is status 5, `no_memory` 6.
 pub fn run<S: Shelf, K: Sink>(alloc: Global, words: &Words, shelf: &mut S, sink: &mut K) -> u8
     ensures is_run { IsRun (record {

@@ -1,7 +1,7 @@
 //! The words of a command line, and the table of those that have a command.
 ghost use Rattle.std.specs.Prelude.{◌≡◌, ◌++◌, ◌∷◌, [], List, ℕ, OnOk, OnErr, Option, if◌then◌else◌};
 ghost use Rattle.std.specs.Option.{option_map};
-ghost use Rattle.kat_tool.specs.Commands.{command_of, command_seen, is_value, with_file, with_option, with_value, with_turns};
+ghost use Rattle.kat_tool.specs.Commands.{command_of, command_seen, is_value, with_file, with_option, with_value, with_turns, with_limit};
 
 use crate::numbers::{ProblemCount, count_of, number_of};
 use kat_model::NoMemory;
@@ -32,6 +32,8 @@ pub(crate) enum Command<'a> {
     Report(&'a str),
     /// `show` FILE
     Show(&'a str),
+    /// `gkat` FILE
+    Gkat(&'a str),
     /// `batch` FILE
     Batch(&'a str),
     /// `check` FILE EVIDENCE
@@ -51,6 +53,12 @@ pub(crate) enum Command<'a> {
     OneLoop(&'a str, &'a str),
     /// `bench` N
     Bench(ProblemCount),
+    /// `optimise` FILE PROG, with or without `--turns` N
+    Optimise {
+        file: &'a str,
+        prog: &'a str,
+        turns: u64,
+    },
 }
 
 impl Words {
@@ -81,11 +89,11 @@ impl Words {
         match self.texts.as_slice() {
             [name, file] => of_two(name.as_str(), file.as_str()),
             [name, file, last] => of_three(name.as_str(), file.as_str(), last.as_str()),
-            [name, file, prog, store, turns] => of_five(
+            [name, file, prog, next, turns] => of_five(
                 name.as_str(),
                 file.as_str(),
                 prog.as_str(),
-                store.as_str(),
+                next.as_str(),
                 turns.as_str(),
             ),
             _ => None,
@@ -118,13 +126,13 @@ fn of_five<'a>(
     name: &str,
     file: &'a str,
     prog: &'a str,
-    store: &'a str,
+    next: &'a str,
     turns: &str,
 ) -> Option<Command<'a>>
-    ensures { option_map command_seen result ≡ command_of (name.now ∷ file.now ∷ prog.now ∷ store.now ∷ turns.now ∷ []) }
+    ensures { option_map command_seen result ≡ command_of (name.now ∷ file.now ∷ prog.now ∷ next.now ∷ turns.now ∷ []) }
 {
-    if is_value(file) && is_value(prog) && is_value(store) {
-        with_turns(name, file, prog, store, turns)
+    if is_value(file) && is_value(prog) {
+        with_number(name, file, prog, next, turns)
     } else {
         None
     }
@@ -138,6 +146,7 @@ fn with_file<'a>(name: &str, file: &'a str) -> Option<Command<'a>>
     match name {
         "decide" => Some(Command::Decide(file)),
         "show" => Some(Command::Show(file)),
+        "gkat" => Some(Command::Gkat(file)),
         "batch" => Some(Command::Batch(file)),
         "bench" => match count_of(file) {
             Some(count) => Some(Command::Bench(count)),
@@ -179,6 +188,11 @@ fn with_value<'a>(name: &str, file: &'a str, value: &'a str) -> Option<Command<'
         "replay" => Some(Command::Replay(file, value)),
         "chain" => Some(Command::Chain(file, value)),
         "oneloop" => Some(Command::OneLoop(file, value)),
+        "optimise" => Some(Command::Optimise {
+            file,
+            prog: value,
+            turns: 1000,
+        }),
         _ => None,
     }
 }
@@ -202,6 +216,40 @@ fn with_turns<'a>(
             turns,
         }),
         _ => None,
+    }
+}
+
+// The commands of a file, a program, an option and its number.
+#[tactic(auto, unfolding(crate::specs::Commands::with_limit))]
+fn with_limit<'a>(
+    name: &str,
+    file: &'a str,
+    prog: &'a str,
+    option: &str,
+    turns: &str,
+) -> Option<Command<'a>>
+    ensures { option_map command_seen result ≡ with_limit name.now file.now prog.now option.now turns.now }
+{
+    match (name, option, number_of(turns)) {
+        ("optimise", "--turns", Some(turns)) => Some(Command::Optimise { file, prog, turns }),
+        _ => None,
+    }
+}
+
+// The commands of a file, a program, a store or an option, and a number.
+fn with_number<'a>(
+    name: &str,
+    file: &'a str,
+    prog: &'a str,
+    next: &'a str,
+    turns: &str,
+) -> Option<Command<'a>>
+    ensures { option_map command_seen result ≡ (if is_value next.now then with_turns name.now file.now prog.now next.now turns.now else with_limit name.now file.now prog.now next.now turns.now) }
+{
+    if is_value(next) {
+        with_turns(name, file, prog, next, turns)
+    } else {
+        with_limit(name, file, prog, next, turns)
     }
 }
 

@@ -18,7 +18,11 @@ mod faults;
 #[cfg(test)]
 mod fixtures;
 #[cfg(test)]
+mod guarded;
+#[cfg(test)]
 mod one_loop_forms;
+#[cfg(test)]
+mod optimising;
 #[cfg(test)]
 mod programs;
 #[cfg(test)]

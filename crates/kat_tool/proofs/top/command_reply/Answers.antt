@@ -14,3 +14,6 @@ returns-in-OneLoop-clause-replied g c = rw c.in-OneLoop.is c.one_loop_file.ensur
 
 pub returns-in-Chain-clause-replied : goal.returns-in-Chain-clause-replied
 returns-in-Chain-clause-replied g c = rw c.in-Chain.is c.chain_files.ensures.replied
+
+pub returns-in-Optimise-clause-replied : goal.returns-in-Optimise-clause-replied
+returns-in-Optimise-clause-replied g c = rw c.in-Optimise.is c.optimise_file.ensures.replied
