@@ -1,9 +1,10 @@
-pub mod Chains
-pub mod ChainCodes
-pub mod ChainViews
-pub mod ChainFalls
-pub mod Places
-pub mod Axioms
-pub mod Chained
+pub mod ChainActions
+pub mod ChainWalks
+pub mod ChainScans
+pub mod ChainMaking
+pub mod ProofScopes
+pub mod Reads
+pub mod ChainPhrases
+pub mod ChainFolds
 pub mod Laws
 pub mod Working

@@ -1,3 +1,1 @@
-pub mod Fits
-pub mod LineViews
-pub mod LineChecks
+pub mod Reading

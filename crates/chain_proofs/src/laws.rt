@@ -1,8 +1,18 @@
-//! The law of chains. The function does nothing: its contract is the law.
-ghost use Rattle.chain_proofs.specs.Laws.{ChainedAreSame};
+//! Laws of the definitions. Each function does nothing: its contract is the law.
+ghost use Rattle.std.specs.Prelude.{ℕ};
+ghost use Rattle.chain_proofs.specs.Laws.{HaveOneAnswer, ChainsAreScanned, ChainsAreMade};
 
-/// Whoever wrote a chain, if it is a proof then both sides denote one relation in each table that keeps the hypotheses:
-/// each axiom is sound in every such table, and at every place.
-pub fn chained_are_same()
-    ensures { ChainedAreSame }
+/// The test of the syntax takes just the phrases of the grammar in which nothing is too deep or too wide.
+pub fn chains_are_scanned()
+    ensures { ChainsAreScanned }
+{}
+
+/// What is made of the tokens of a chain is the chain of its phrase, or the first fault of its names and sizes.
+pub fn chains_are_made()
+    ensures { ChainsAreMade }
+{}
+
+/// Bytes spell one chain or have one first fault, and not both; a first fault is never want of memory.
+pub fn have_one_answer()
+    ensures { (tests actions : ℕ) → HaveOneAnswer tests actions }
 {}

@@ -1,19 +1,17 @@
-//! Equational proofs: one side of an equation turned into the other by the axioms of Kleene algebra with tests, line
-//! by line.
+//! Equational proofs: their texts, and what the crate below checks of them.
 #![tactic(auto)]
 
-mod answer;
-mod axioms;
-mod chain;
-mod checking;
-mod equality;
-mod fixed_points;
+mod chain_reading;
 mod laws;
-mod lines;
-mod place;
-mod test_terms;
+mod making;
+mod names;
+mod reading;
+mod scan;
+mod walk;
+mod words;
 
-pub use answer::{ChainAnswer, ChainReason};
-pub use chain::{Axiom, Chain, Line};
-pub use checking::check_chain;
-pub use laws::chained_are_same;
+pub use axiom_chains::{
+    Axiom, Chain, ChainAnswer, ChainReason, Line, chained_are_same, check_chain,
+};
+pub use laws::{chains_are_made, chains_are_scanned, have_one_answer};
+pub use reading::read_chain;

@@ -11,11 +11,11 @@ use Rattle.kat_report.specs.Refusals.{chain_fault_line}
 use Rattle.problem_file.specs.Files.{FileParts}
 use Rattle.problem_file.specs.Reads.{Reads}
 use Rattle.problem_file.specs.Concrete.{IsConcrete, Agrees}
-use Rattle.chain_proofs.specs.Chains.{ChainTree}
-use Rattle.chain_proofs.specs.Chained.{IsChained}
-use Rattle.chain_texts.specs.Reads.{too_long}
-use Rattle.chain_texts.specs.Laws.{HaveOneAnswer}
-use Rattle.chain_texts.proofs.OneAnswer.{have_one_answer}
+use Rattle.axiom_chains.specs.Chains.{ChainTree}
+use Rattle.axiom_chains.specs.Chained.{IsChained}
+use Rattle.chain_proofs.specs.Reads.{too_long}
+use Rattle.chain_proofs.specs.Laws.{HaveOneAnswer}
+use Rattle.chain_proofs.proofs.OneAnswer.{have_one_answer}
 use Rattle.kat_tool.specs.Asking.{Asks}
 use Rattle.kat_tool.specs.Posing.{IsRefused, Poses}
 use Rattle.kat_tool.specs.Steps.{ShelfUse, Replying, FailsOn, HasFailedOn, AsksQuestion}

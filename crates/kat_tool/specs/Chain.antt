@@ -11,10 +11,10 @@ use Rattle.kat_report.specs.Refusals.{chain_fault_line}
 use Rattle.problem_file.specs.Files.{FileParts}
 use Rattle.problem_file.specs.Reads.{Reads}
 use Rattle.problem_file.specs.Concrete.{IsConcrete, Agrees}
-use Rattle.chain_proofs.specs.Chains.{ChainTree}
-use Rattle.chain_proofs.specs.Chained.{IsChained, IsReason}
-use Rattle.chain_proofs.specs.declared.answer.ChainReason.{ChainReason}
-use Rattle.chain_texts.specs.Reads.{Reads as ReadsProof, FirstFault}
+use Rattle.axiom_chains.specs.Chains.{ChainTree}
+use Rattle.axiom_chains.specs.Chained.{IsChained, IsReason}
+use Rattle.axiom_chains.specs.declared.answer.ChainReason.{ChainReason}
+use Rattle.chain_proofs.specs.Reads.{Reads as ReadsProof, FirstFault}
 use Rattle.kat_tool.specs.Asking.{Asks}
 use Rattle.kat_tool.specs.Held.{IsGiven}
 use Rattle.kat_tool.specs.Posing.{PosesNone, IsRefused, IsTooLong, Poses}

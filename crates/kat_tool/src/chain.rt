@@ -3,15 +3,14 @@ ghost use Rattle.std.specs.Prelude.{◌≡◌, ◌≢◌, IfOk};
 ghost use Rattle.kat_tokens.specs.declared.fault.TextFault.TheVariants.{NoMemory as NoRoom};
 ghost use Rattle.kat_report.specs.Reasons.{chain_reason_line};
 ghost use Rattle.kat_report.specs.Refusals.{chain_fault_line};
-ghost use Rattle.chain_proofs.specs.Chained.{HasTermsInRange};
+ghost use Rattle.axiom_chains.specs.Chained.{HasTermsInRange};
 ghost use Rattle.kat_tool.specs.Steps.{IsRefusal};
 ghost use Rattle.kat_tool.specs.Chain.{IsNoChain, SpellsChain, IsProved, ProvesBytes, ProvesTexts};
 ghost use Rattle.kat_tool.specs.Working.Outcomes.{IsStop, IsOutcome, IsReplied};
 
 use crate::posing::problem_in;
 use crate::reply::{Reply, Stop, line};
-use chain_proofs::{Chain, ChainAnswer, ChainReason, check_chain};
-use chain_texts::read_chain;
+use chain_proofs::{Chain, ChainAnswer, ChainReason, check_chain, read_chain};
 use kat_model::{NoMemory, Problem};
 use kat_report::{chain_fault_line, chain_reason_line};
 use kat_tokens::TextFault;

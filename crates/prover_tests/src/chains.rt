@@ -1,9 +1,9 @@
 //! Proofs of one line, from one side of a goal to the other, and what the check answers.
 ghost use Rattle.std.specs.Prelude.{IfOk};
-ghost use Rattle.chain_proofs.specs.Chained.{HasTermsInRange};
+ghost use Rattle.axiom_chains.specs.Chained.{HasTermsInRange};
 
 use crate::deciding::problem;
-use chain_proofs::{Axiom, Chain, ChainAnswer, ChainReason, Line, check_chain};
+use axiom_chains::{Axiom, Chain, ChainAnswer, ChainReason, Line, check_chain};
 use kat_model::{NoMemory, Problem};
 use kat_tokens::TextFault;
 use std::alloc::Global;

@@ -1,7 +1,7 @@
 //! Texts of proofs: what is read of them, and what the check answers.
 use crate::deciding::problem;
-use chain_proofs::{ChainAnswer, ChainReason, check_chain};
-use chain_texts::read_chain;
+use axiom_chains::{ChainAnswer, ChainReason, check_chain};
+use chain_proofs::read_chain;
 use kat_model::Problem;
 use kat_tokens::TextFault;
 use std::alloc::Global;

@@ -3,7 +3,8 @@ use crate::fixtures::{ORDINARY_USE, replies};
 use kat_tool::optimised_reply;
 use std::test::Fail;
 
-const IF_AFTER_LOOP: &str = "test b; action p, q; prog L { while b { p; } if b { q; } } prog R { while b { p; } } goal equal L, R;";
+const IF_AFTER_LOOP: &str =
+    "test b; action p, q; prog L { while b { p; } if b { q; } } prog R { while b { p; } } goal equal L, R;";
 
 // Words, a text, and what is told.
 const LOGS: &[(&str, &str, &str)] = &[
@@ -28,11 +29,7 @@ const LOGS: &[(&str, &str, &str)] = &[
         "0 S1 at 0.0.0\nS7 at 0\ndone\nprog Q { }\n",
     ),
     ("optimise f P", IF_AFTER_LOOP, "7 refused: words\n"),
-    (
-        "optimise f L --turns",
-        IF_AFTER_LOOP,
-        "7 refused: words\n",
-    ),
+    ("optimise f L --turns", IF_AFTER_LOOP, "7 refused: words\n"),
     (
         "optimise f L --turns 18446744073709551616",
         IF_AFTER_LOOP,

@@ -1,0 +1,9 @@
+pub mod Chains
+pub mod ChainCodes
+pub mod ChainViews
+pub mod ChainFalls
+pub mod Places
+pub mod Axioms
+pub mod Chained
+pub mod Laws
+pub mod Working

@@ -1,0 +1,160 @@
+-- The equation of the reading of chains, in which no number of steps stands.
+use Rattle.std.proofs.Common.{◌≡◌, ℕ, zero, suc, ◌+◌, ◌<◌, List, [], ◌∷◌, length, Bool, true, false, cond, None, Some, Ok, Err, refl, ap, arith, drop, length-drop}
+use Rattle.kat_tokens.specs.declared.fault.TextFault.TheVariants.{Syntax}
+use Rattle.kat_syntax.specs.declared.terminal.Terminal.{Terminal}
+use Rattle.kat_syntax.specs.declared.terminal.Terminal.TheVariants.{Dot, Separator}
+use Rattle.kat_syntax.specs.declared.terminal.Separator.TheVariants.{Semicolon, CurlyOpen, CurlyClose, Equals}
+use Rattle.kat_syntax.specs.Lexemes.{Lexeme, lexeme, heads, is_terminal}
+use Rattle.kat_syntax.specs.Parsed.{Parsed, ◌>>=◌, change, wants, then_wants, place_of}
+use Rattle.kat_syntax.proofs.Within.{Within, bind_within, if_within, weaken, enter_within, change_within, then_wants_within, headed, bind_same, if_same, enter_same}
+use Rattle.chain_proofs.specs.ChainActions.{ChainActions}
+use Rattle.while_lang.specs.Blocks.{enter}
+use Rattle.problem_file.specs.Items.{number_at}
+use Rattle.chain_proofs.specs.ChainWalks.{is_word, wants_word, rule_name, has_number, argument, parts_by, path_by, rule_by, ChainAim, whole_chain, lines_after, ChainParser, braces_by, inner_by, line_by, chain_by, chain_within, parse_chain}
+
+-- ---- what is read leaves fewer tokens, or as many where there may be nothing
+
+abbrev pub bound : {Z V : Type 0} → ChainAim Z V → ℕ → ℕ
+bound (whole_chain z) n = n
+bound (lines_after v z) n = n + 1
+
+abbrev pub IsShort : {Z V : Type 0} → ChainParser Z V → Type 0
+IsShort {Z} {V} f = (x : ChainAim Z V) (d : ℕ) (ts : List Lexeme) → Within (bound x (length ts)) (f x d ts)
+
+-- one token, and then what is read after it
+wanted_within : {V : Type 0} (p : Terminal → Bool) (n : ℕ) (ts : List Lexeme) (k : List Lexeme → Parsed V) → ((us : List Lexeme) → length us < length ts → Within n (k us)) → Within n (wants p ts >>= k)
+wanted_within p n [] k h = tt
+wanted_within p n (lexeme s at text ∷ ts) k h = elim (p s) as (λ b. Within n (cond b (Ok ts) (Err (Syntax at)) >>= k)) [ true ↦ h ts (omega arith) | false ↦ tt ]
+
+-- one word, and then what is read after it
+pub tail_shorter : (w : List ℕ) (ts : List Lexeme) → is_word w ts ≡ true → length (drop 1 ts) < length ts
+tail_shorter w [] e = absurd cc
+tail_shorter w (x ∷ ts) e = omega arith
+
+word_within : {V : Type 0} (w : List ℕ) (n : ℕ) (ts : List Lexeme) (k : List Lexeme → Parsed V) → ((us : List Lexeme) → length us < length ts → Within n (k us)) → Within n (wants_word w ts >>= k)
+word_within w n ts k h = by_test (is_word w ts) refl where
+  by_test : (b : Bool) → is_word w ts ≡ b → Within n (cond b (Ok (drop 1 ts)) (Err (Syntax (place_of ts))) >>= k)
+  by_test true e = h (drop 1 ts) (tail_shorter w ts e)
+  by_test false e = tt
+
+argument_short : (name : List ℕ) (ts : List Lexeme) → Within (length ts + 1) (argument name ts)
+argument_short name ts =
+    if_within (length ts + 1) (has_number name) (number_at ts >>= λ n. Ok (n, drop 1 ts)) (Ok (0, ts))
+    (λ h. enter_within (length ts + 1) (number_at ts) (λ n. Ok (n, drop 1 ts)) (λ n. omega (arith, length-drop 1 ts)))
+    (λ h. omega arith)
+
+parts_short : {Z T R P V : Type 0} (g : ChainActions Z T R P V) (p : P) (ts : List Lexeme) → Within (length ts + 1) (parts_by g p ts)
+unfolding parts_by
+parts_short g p [] = omega arith
+parts_short g p (x ∷ []) =
+    if_within (length (x ∷ []) + 1) (heads (is_terminal Dot) (x ∷ [])) _ (Ok (p, x ∷ [])) (λ h. tt) (λ h. omega arith)
+parts_short g p (x ∷ y ∷ ts) =
+    if_within (length (x ∷ y ∷ ts) + 1) (heads (is_terminal Dot) (x ∷ y ∷ ts)) (number_at (y ∷ ts) >>= λ n. parts_by g (g.part p n) ts) (Ok (p, x ∷ y ∷ ts))
+    (λ h. enter_within (length (x ∷ y ∷ ts) + 1) (number_at (y ∷ ts)) (λ n. parts_by g (g.part p n) ts)
+    (λ n. weaken (length ts + 1) (length (x ∷ y ∷ ts) + 1) (parts_by g (g.part p n) ts) (omega arith) (parts_short g (g.part p n) ts)))
+    (λ h. omega arith)
+
+path_short : {Z T R P V : Type 0} (g : ChainActions Z T R P V) (ts : List Lexeme) → Within (length ts + 1) (path_by g ts)
+path_short g ts =
+    if_within (length ts + 1) (is_word _ ts) (number_at (drop 1 ts) >>= λ n. parts_by g (g.part g.whole n) (drop 2 ts)) (Ok (g.whole, ts))
+    (λ h. enter_within (length ts + 1) (number_at (drop 1 ts)) (λ n. parts_by g (g.part g.whole n) (drop 2 ts))
+    (λ n. weaken (length (drop 2 ts) + 1) (length ts + 1) (parts_by g (g.part g.whole n) (drop 2 ts)) (omega (arith, length-drop 2 ts)) (parts_short g (g.part g.whole n) (drop 2 ts))))
+    (λ h. omega arith)
+
+pub rule_short : {Z T R P V : Type 0} (g : ChainActions Z T R P V) (ts : List Lexeme) → Within (length ts) (rule_by g ts)
+rule_short g [] = tt
+rule_short g (x ∷ ts) =
+    enter_within (length (x ∷ ts)) (rule_name (x ∷ ts)) _
+    (λ w. bind_within (length ts + 1) (length (x ∷ ts)) (argument w.1 ts) _ (argument_short w.1 ts)
+    (λ n lt. enter_within (length (x ∷ ts)) (g.rule w.0 w.1 n.0) _
+    (λ r. change_within (length (x ∷ ts)) _ (path_by g n.1) (weaken (length n.1 + 1) (length (x ∷ ts)) (path_by g n.1) (omega arith) (path_short g n.1)))))
+
+braces_short : {Z V : Type 0} (f : ChainParser Z V) → IsShort f → (z : Z) (d : ℕ) (ts : List Lexeme) → Within (length ts) (braces_by f z d ts)
+braces_short f s z d ts =
+    wanted_within (is_terminal (Separator CurlyOpen)) (length ts) ts (λ a. enter d (place_of ts) >>= λ e. then_wants (is_terminal (Separator CurlyClose)) (f (whole_chain z) e a))
+    (λ a lt. enter_within (length ts) (enter d (place_of ts)) (λ e. then_wants (is_terminal (Separator CurlyClose)) (f (whole_chain z) e a))
+    (λ e. then_wants_within (is_terminal (Separator CurlyClose)) (length ts) (f (whole_chain z) e a) (weaken (length a) (length ts) (f (whole_chain z) e a) (omega arith) (s (whole_chain z) e a))))
+
+pub inner_short : {Z V : Type 0} (f : ChainParser Z V) → IsShort f → (b : Bool) (z : Z) (d : ℕ) (ts : List Lexeme) → Within (length ts + 1) (inner_by f b z d ts)
+inner_short f s b z d ts =
+    if_within (length ts + 1) b (change (λ x. (Some x.0, x.1)) (braces_by f z d ts)) (Ok ((None, z), ts))
+    (λ h. change_within (length ts + 1) (λ x. (Some x.0, x.1)) (braces_by f z d ts) (weaken (length ts) (length ts + 1) (braces_by f z d ts) (omega arith) (braces_short f s z d ts)))
+    (λ h. omega arith)
+
+pub line_short : {Z T R P V : Type 0} (g : ChainActions Z T R P V) (f : ChainParser Z V) → IsShort f → (v : V) (z : Z) (d : ℕ) (ts : List Lexeme) → Within (length ts) (line_by g f v z d ts)
+line_short g f s v z d ts =
+    bind_within (length ts) (length ts) (g.term d z ts) _ (g.shorter d z ts)
+    (λ t lt. word_within _ (length ts) t.1 _
+    (λ b less. bind_within (length b) (length ts) (rule_by g b) _ (rule_short g b)
+    (λ r fewer. bind_within (length r.1 + 1) (length ts) (inner_by f (r.0).inner (t.0).1 d r.1) _ (inner_short f s (r.0).inner (t.0).1 d r.1)
+    (λ i le. then_wants_within (is_terminal (Separator Semicolon)) (length ts) (Ok ((g.line v (t.0).0 (r.0).rule (r.0).path (i.0).0, (i.0).1), i.1)) (omega arith)))))
+
+chain_short : {Z T R P V : Type 0} (g : ChainActions Z T R P V) (f : ChainParser Z V) → IsShort f → IsShort (chain_by g f)
+chain_short g f s (whole_chain z) d ts =
+    bind_within (length ts) (length ts) (g.term d z ts) (λ t. f (lines_after (g.first (t.0).0) (t.0).1) d t.1) (g.shorter d z ts)
+    (λ t lt. weaken (length t.1 + 1) (length ts) (f (lines_after (g.first (t.0).0) (t.0).1) d t.1) (omega arith) (s (lines_after (g.first (t.0).0) (t.0).1) d t.1))
+chain_short g f s (lines_after v z) d ts =
+    if_within (length ts + 1) (heads (is_terminal (Separator Equals)) ts) (line_by g f v z d (drop 1 ts) >>= λ x. f (lines_after (x.0).0 (x.0).1) d x.1) (Ok ((v, z), ts))
+    (λ h. bind_within (length (drop 1 ts)) (length ts + 1) (line_by g f v z d (drop 1 ts)) (λ x. f (lines_after (x.0).0 (x.0).1) d x.1) (line_short g f s v z d (drop 1 ts))
+    (λ x lt. weaken (length x.1 + 1) (length ts + 1) (f (lines_after (x.0).0 (x.0).1) d x.1) (omega (arith, length-drop 1 ts)) (s (lines_after (x.0).0 (x.0).1) d x.1)))
+    (λ h. omega arith)
+
+pub within_short : {Z T R P V : Type 0} (g : ChainActions Z T R P V) (n : ℕ) → IsShort (chain_within g n)
+unfolding chain_within
+within_short g zero x d ts = tt
+within_short g (suc n) x d ts = chain_short g (chain_within g n) (within_short g n) x d ts
+
+-- ---- what reads alike on fewer tokens reads alike
+
+abbrev Same : {Z V : Type 0} → ChainParser Z V → ChainParser Z V → ℕ → Type 0
+Same {Z} {V} f h n = (x : ChainAim Z V) (d : ℕ) (ts : List Lexeme) → length ts < n → f x d ts ≡ h x d ts
+
+wanted_same : {V : Type 0} (p : Terminal → Bool) (ts : List Lexeme) (k l : List Lexeme → Parsed V) → ((us : List Lexeme) → length us < length ts → k us ≡ l us) → (wants p ts >>= k) ≡ (wants p ts >>= l)
+wanted_same p [] k l h = refl
+wanted_same p (lexeme s at text ∷ ts) k l h = elim (p s) as (λ b. (cond b (Ok ts) (Err (Syntax at)) >>= k) ≡ (cond b (Ok ts) (Err (Syntax at)) >>= l)) [ true ↦ h ts (omega arith) | false ↦ refl ]
+
+word_same : {V : Type 0} (w : List ℕ) (ts : List Lexeme) (k l : List Lexeme → Parsed V) → ((us : List Lexeme) → length us < length ts → k us ≡ l us) → (wants_word w ts >>= k) ≡ (wants_word w ts >>= l)
+word_same w ts k l h = by_test (is_word w ts) refl where
+  by_test : (b : Bool) → is_word w ts ≡ b → (cond b (Ok (drop 1 ts)) (Err (Syntax (place_of ts))) >>= k) ≡ (cond b (Ok (drop 1 ts)) (Err (Syntax (place_of ts))) >>= l)
+  by_test true e = h (drop 1 ts) (tail_shorter w ts e)
+  by_test false e = refl
+
+braces_same : {Z V : Type 0} (f h : ChainParser Z V) (z : Z) (d : ℕ) (ts : List Lexeme) → Same f h (length ts) → braces_by f z d ts ≡ braces_by h z d ts
+braces_same f h z d ts a =
+    wanted_same (is_terminal (Separator CurlyOpen)) ts _ _
+    (λ us lt. enter_same (enter d (place_of ts)) _ _ (λ e. ap (then_wants (is_terminal (Separator CurlyClose))) (a (whole_chain z) e us lt)))
+
+inner_same : {Z V : Type 0} (f h : ChainParser Z V) (b : Bool) (z : Z) (d : ℕ) (ts : List Lexeme) → Same f h (length ts) → inner_by f b z d ts ≡ inner_by h b z d ts
+inner_same f h b z d ts a = if_same b _ (Ok ((None, z), ts)) _ (λ e. ap (change (λ x. (Some x.0, x.1))) (braces_same f h z d ts a))
+
+line_same : {Z T R P V : Type 0} (g : ChainActions Z T R P V) (f h : ChainParser Z V) → IsShort f → (v : V) (z : Z) (d : ℕ) (ts : List Lexeme) → Same f h (length ts) → line_by g f v z d ts ≡ line_by g h v z d ts
+line_same g f h s v z d ts a =
+    bind_same (length ts) (g.term d z ts) (g.term d z ts) _ _ refl (g.shorter d z ts)
+    (λ t lt. word_same _ t.1 _ _
+    (λ b less. bind_same (length b) (rule_by g b) (rule_by g b) _ _ refl (rule_short g b)
+    (λ r fewer. bind_same (length r.1 + 1) (inner_by f (r.0).inner (t.0).1 d r.1) (inner_by h (r.0).inner (t.0).1 d r.1) _ _
+    (inner_same f h (r.0).inner (t.0).1 d r.1 (λ x e us le. a x e us (omega arith))) (inner_short f s (r.0).inner (t.0).1 d r.1) (λ i le. refl))))
+
+chain_same : {Z T R P V : Type 0} (g : ChainActions Z T R P V) (f h : ChainParser Z V) → IsShort f → (x : ChainAim Z V) (d : ℕ) (ts : List Lexeme) → Same f h (length ts) → chain_by g f x d ts ≡ chain_by g h x d ts
+chain_same g f h s (whole_chain z) d ts a =
+    bind_same (length ts) (g.term d z ts) (g.term d z ts) _ _ refl (g.shorter d z ts) (λ t lt. a (lines_after (g.first (t.0).0) (t.0).1) d t.1 lt)
+chain_same g f h s (lines_after v z) d ts a =
+    if_same (heads (is_terminal (Separator Equals)) ts) _ (Ok ((v, z), ts)) _
+    (λ e. let lt = headed (is_terminal (Separator Equals)) ts e in
+    bind_same (length (drop 1 ts)) (line_by g f v z d (drop 1 ts)) (line_by g h v z d (drop 1 ts)) (λ x. f (lines_after (x.0).0 (x.0).1) d x.1) (λ x. h (lines_after (x.0).0 (x.0).1) d x.1)
+    (line_same g f h s v z d (drop 1 ts) (λ x e us less. a x e us (omega (arith, lt)))) (line_short g f s v z d (drop 1 ts)) (λ x less. a (lines_after (x.0).0 (x.0).1) d x.1 (omega (arith, lt))))
+
+enough : {Z T R P V : Type 0} (g : ChainActions Z T R P V) (n m : ℕ) (x : ChainAim Z V) (d : ℕ) (ts : List Lexeme) → length ts < n → length ts < m → chain_within g n x d ts ≡ chain_within g m x d ts
+unfolding chain_within
+enough g zero m x d ts p q = absurd (omega arith)
+enough g (suc n) zero x d ts p q = absurd (omega arith)
+enough g (suc n) (suc m) x d ts p q = chain_same g (chain_within g n) (chain_within g m) (within_short g n) x d ts (λ y e us lt. enough g n m y e us (omega arith) (omega arith))
+
+pub chain_step : {Z T R P V : Type 0} (g : ChainActions Z T R P V) (x : ChainAim Z V) (d : ℕ) (ts : List Lexeme) → parse_chain g x d ts ≡ chain_by g (parse_chain g) x d ts
+unfolding parse_chain chain_within
+chain_step g x d ts = chain_same g (chain_within g (length ts)) (parse_chain g) (within_short g (length ts)) x d ts (λ y e us lt. enough g (length ts) (suc (length us)) y e us lt (omega arith))
+
+-- what is read leaves fewer tokens
+pub chain_read_short : {Z T R P V : Type 0} (g : ChainActions Z T R P V) → IsShort (parse_chain g)
+unfolding parse_chain
+chain_read_short g x d ts = within_short g (suc (length ts)) x d ts

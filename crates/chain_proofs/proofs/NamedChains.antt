@@ -1,0 +1,234 @@
+-- The first fault of a proof text is never want of memory: the walk takes fewer steps than it has.
+use Rattle.std.proofs.Common.{◌≡◌, refl, slice_get, ℕ, zero, suc, ◌+◌, ◌<◌, List, [], ◌∷◌, length, map, drop, Bool, true, false, cond, nat_lt, ◌||◌, Option, Some, None, Result, Ok, Err, arith, subst}
+use Rattle.kat_tokens.specs.declared.fault.TextFault.{TextFault}
+use Rattle.kat_tokens.specs.declared.fault.TextFault.TheVariants.{NoMemory, Syntax, TooDeep, Sort, TooLarge}
+use Rattle.kat_syntax.specs.declared.terminal.Terminal.{Terminal}
+use Rattle.kat_syntax.specs.declared.terminal.Terminal.TheVariants.{Name, Keyword, Separator, Dot, Zero, One, Number, WideNumber}
+use Rattle.kat_syntax.specs.declared.terminal.Keyword.TheVariants as word
+use Rattle.kat_syntax.specs.declared.terminal.Separator.TheVariants.{Semicolon, CurlyOpen, CurlyClose, Equals}
+use Rattle.kat_syntax.specs.declared.reading.Context.{Context}
+use Rattle.kat_syntax.specs.Lexemes.{Lexeme, lexeme, lexeme_of, heads, is_terminal}
+use Rattle.kat_syntax.specs.Parsed.{Parsed, ◌>>=◌, wants, then_wants, place_of}
+use Rattle.kat_syntax.specs.Actions.{context}
+use Rattle.kat_syntax.specs.Scans.{scanning}
+use Rattle.kat_syntax.specs.Terms.{parse_term, choice}
+use Rattle.kat_syntax.proofs.Within.{headed}
+use Rattle.kat_syntax.proofs.NamedFaults.{IsNamedFault, IsNamed, then_named, bind_named, if_named, change_named, then_wants_named, NameTerms, term_named}
+use Rattle.kat_text.specs.declared.meaning.Meaning.{Meaning}
+use Rattle.kat_text.specs.declared.meaning.Meaning.TheVariants.{Test, Action, Var, Term as TermName}
+use Rattle.kat_text.specs.Sizes.{is_test}
+use Rattle.kat_text.specs.ScopeParts.{Definition, ScopeParts, meaning}
+use Rattle.kat_text.specs.Building.{trees}
+use Rattle.kat_text.specs.Measuring.{number_extent, variable_extent, condition_extent, defined_extent, name_extent, extents}
+use Rattle.while_lang.specs.Blocks.{enter}
+use Rattle.problem_file.specs.Items.{number_at}
+use Rattle.problem_file.specs.Reads.{placed, placing}
+use Rattle.axiom_chains.specs.declared.chain.Axiom.{Axiom}
+use Rattle.chain_proofs.specs.ChainActions.{ChainActions}
+use Rattle.chain_proofs.specs.ChainWalks.{is_word, wants_word, rule_name, has_number, argument, parts_by, path_by, rule_by, ChainAim, whole_chain, lines_after, ChainParser, braces_by, inner_by, line_by, chain_by, chain_within, parse_chain}
+use Rattle.chain_proofs.specs.ChainScans.{scanning_chain, ends, scan_chain}
+use Rattle.chain_proofs.specs.ChainMaking.{known_axiom, axiom_named, total_with, sized_term, making_chain, make_chain}
+use Rattle.chain_proofs.specs.ProofScopes.{proof_scope}
+use Rattle.chain_proofs.specs.Reads.{tested, FirstFault, too_long, not_utf8, bad_token, refused}
+use Rattle.chain_proofs.proofs.ChainSteps.{tail_shorter, rule_short, IsShort, line_short, within_short}
+
+-- ---- the walk
+
+number_named : (ts : List Lexeme) → IsNamed (number_at ts)
+number_named [] = tt
+number_named (lexeme Zero at text ∷ ts) = tt
+number_named (lexeme One at text ∷ ts) = tt
+number_named (lexeme (Number n) at text ∷ ts) = tt
+number_named (lexeme WideNumber at text ∷ ts) = tt
+number_named (lexeme _ at text ∷ ts) = tt
+
+rule_name_named : (ts : List Lexeme) → IsNamed (rule_name ts)
+rule_name_named [] = tt
+rule_name_named (lexeme Name at text ∷ ts) = tt
+rule_name_named (lexeme (Keyword word.Hyp) at text ∷ ts) = tt
+rule_name_named (lexeme _ at text ∷ ts) = tt
+
+argument_named : (name : List ℕ) (ts : List Lexeme) → IsNamed (argument name ts)
+argument_named name ts =
+    if_named (has_number name) (number_at ts >>= λ n. Ok (n, drop 1 ts)) (Ok (0, ts))
+    (λ e. then_named (number_at ts) (λ n. Ok (n, drop 1 ts)) (number_named ts) (λ n. tt))
+    (λ e. tt)
+
+wanted_named : {V : Type 0} (p : Terminal → Bool) (ts : List Lexeme) (k : List Lexeme → Parsed V) → ((us : List Lexeme) → length us < length ts → IsNamed (k us)) → IsNamed (wants p ts >>= k)
+wanted_named p [] k h = tt
+wanted_named p (lexeme s at text ∷ ts) k h = elim (p s) as (λ b. IsNamed (cond b (Ok ts) (Err (Syntax at)) >>= k)) [ true ↦ h ts (omega arith) | false ↦ tt ]
+
+word_named : {V : Type 0} (w : List ℕ) (ts : List Lexeme) (k : List Lexeme → Parsed V) → ((us : List Lexeme) → length us < length ts → IsNamed (k us)) → IsNamed (wants_word w ts >>= k)
+word_named w ts k h = by_test (is_word w ts) refl where
+  by_test : (b : Bool) → is_word w ts ≡ b → IsNamed (cond b (Ok (drop 1 ts)) (Err (Syntax (place_of ts))) >>= k)
+  by_test true e = h (drop 1 ts) (tail_shorter w ts e)
+  by_test false e = tt
+
+enter_named : (d at : ℕ) → IsNamed (enter d at)
+enter_named d at = if_named (nat_lt d 200) (Ok (d + 1)) (Err (TooDeep at)) (λ e. tt) (λ e. tt)
+
+module _ {Z T R P V : Type 0} (g : ChainActions Z T R P V) (terms : (d : ℕ) (z : Z) (ts : List Lexeme) → IsNamed (g.term d z ts)) (rules : (at : ℕ) (name : List ℕ) (n : ℕ) → IsNamed (g.rule at name n)) where
+  parts_named : (p : P) (ts : List Lexeme) → IsNamed (parts_by g p ts)
+  unfolding parts_by
+  parts_named p [] = tt
+  parts_named p (x ∷ []) = if_named (heads (is_terminal Dot) (x ∷ [])) _ (Ok (p, x ∷ [])) (λ e. tt) (λ e. tt)
+  parts_named p (x ∷ y ∷ ts) =
+      if_named (heads (is_terminal Dot) (x ∷ y ∷ ts)) (number_at (y ∷ ts) >>= λ n. parts_by g (g.part p n) ts) (Ok (p, x ∷ y ∷ ts))
+      (λ e. then_named (number_at (y ∷ ts)) (λ n. parts_by g (g.part p n) ts) (number_named (y ∷ ts)) (λ n. parts_named (g.part p n) ts))
+      (λ e. tt)
+
+  path_named : (ts : List Lexeme) → IsNamed (path_by g ts)
+  path_named ts =
+      if_named (is_word _ ts) (number_at (drop 1 ts) >>= λ n. parts_by g (g.part g.whole n) (drop 2 ts)) (Ok (g.whole, ts))
+      (λ e. then_named (number_at (drop 1 ts)) (λ n. parts_by g (g.part g.whole n) (drop 2 ts)) (number_named (drop 1 ts)) (λ n. parts_named (g.part g.whole n) (drop 2 ts)))
+      (λ e. tt)
+
+  rule_named : (ts : List Lexeme) → IsNamed (rule_by g ts)
+  rule_named ts =
+      then_named (rule_name ts) _ (rule_name_named ts)
+      (λ w. then_named (argument w.1 (drop 1 ts)) _ (argument_named w.1 (drop 1 ts))
+      (λ n. then_named (g.rule w.0 w.1 n.0) _ (rules w.0 w.1 n.0)
+      (λ r. change_named _ (path_by g n.1) (path_named n.1))))
+
+  abbrev NamesBelow : ChainParser Z V → ℕ → Type 0
+  NamesBelow f n = (x : ChainAim Z V) (d : ℕ) (ts : List Lexeme) → length ts < n → IsNamed (f x d ts)
+
+  braces_named : (f : ChainParser Z V) (z : Z) (d : ℕ) (ts : List Lexeme) → NamesBelow f (length ts) → IsNamed (braces_by f z d ts)
+  braces_named f z d ts a =
+      wanted_named (is_terminal (Separator CurlyOpen)) ts (λ us. enter d (place_of ts) >>= λ e. then_wants (is_terminal (Separator CurlyClose)) (f (whole_chain z) e us))
+      (λ us lt. then_named (enter d (place_of ts)) (λ e. then_wants (is_terminal (Separator CurlyClose)) (f (whole_chain z) e us)) (enter_named d (place_of ts))
+      (λ e. then_wants_named (is_terminal (Separator CurlyClose)) (f (whole_chain z) e us) (a (whole_chain z) e us lt)))
+
+  inner_named : (f : ChainParser Z V) (b : Bool) (z : Z) (d : ℕ) (ts : List Lexeme) → NamesBelow f (length ts) → IsNamed (inner_by f b z d ts)
+  inner_named f b z d ts a = if_named b _ (Ok ((None, z), ts)) (λ e. change_named _ (braces_by f z d ts) (braces_named f z d ts a)) (λ e. tt)
+
+  line_named : (f : ChainParser Z V) → (v : V) (z : Z) (d : ℕ) (ts : List Lexeme) → NamesBelow f (length ts) → IsNamed (line_by g f v z d ts)
+  line_named f v z d ts a =
+      bind_named (length ts) (g.term d z ts) _ (terms d z ts) (g.shorter d z ts)
+      (λ t lt. word_named _ t.1 _
+      (λ b less. bind_named (length b) (rule_by g b) _ (rule_named b) (rule_short g b)
+      (λ r fewer. then_named (inner_by f (r.0).inner (t.0).1 d r.1) _ (inner_named f (r.0).inner (t.0).1 d r.1 (λ x e us le. a x e us (omega arith)))
+      (λ i. then_wants_named (is_terminal (Separator Semicolon)) (Ok ((g.line v (t.0).0 (r.0).rule (r.0).path (i.0).0, (i.0).1), i.1)) tt))))
+
+  chain_step_named : (f : ChainParser Z V) → IsShort f → (x : ChainAim Z V) (d : ℕ) (ts : List Lexeme) → NamesBelow f (length ts) → IsNamed (chain_by g f x d ts)
+  chain_step_named f s (whole_chain z) d ts a =
+      bind_named (length ts) (g.term d z ts) _ (terms d z ts) (g.shorter d z ts) (λ t lt. a (lines_after (g.first (t.0).0) (t.0).1) d t.1 lt)
+  chain_step_named f s (lines_after v z) d ts a =
+      if_named (heads (is_terminal (Separator Equals)) ts) _ (Ok ((v, z), ts))
+      (λ e. let lt = headed (is_terminal (Separator Equals)) ts e in
+      bind_named (length (drop 1 ts)) (line_by g f v z d (drop 1 ts)) (λ x. f (lines_after (x.0).0 (x.0).1) d x.1)
+      (line_named f v z d (drop 1 ts) (λ x e us less. a x e us (omega (arith, lt)))) (line_short g f s v z d (drop 1 ts)) (λ x less. a (lines_after (x.0).0 (x.0).1) d x.1 (omega (arith, lt))))
+      (λ e. tt)
+
+  within_named : (n : ℕ) (x : ChainAim Z V) (d : ℕ) (ts : List Lexeme) → length ts < n → IsNamed (chain_within g n x d ts)
+  unfolding chain_within
+  within_named zero x d ts lt = absurd (omega arith)
+  within_named (suc n) x d ts lt = chain_step_named (chain_within g n) (within_short g n) x d ts (λ y e us below. within_named n y e us (omega arith))
+
+  pub chain_named : (x : ChainAim Z V) (d : ℕ) (ts : List Lexeme) → IsNamed (parse_chain g x d ts)
+  unfolding parse_chain
+  chain_named x d ts = within_named (suc (length ts)) x d ts (omega arith)
+
+-- ---- its parts
+
+condition_named : (at : ℕ) (o : Option Meaning) → IsNamed (condition_extent at o)
+condition_named at None = tt
+condition_named at (Some (Test k)) = tt
+condition_named at (Some m) = tt
+
+number_extent_named : (c : Context) (at : ℕ) → IsNamed (number_extent c at)
+number_extent_named c at = if_named c.compares _ (Err (Sort at)) (λ e. tt) (λ e. tt)
+
+variable_named : (c : Context) (at : ℕ) (o : Option Meaning) → IsNamed (variable_extent c at o)
+variable_named c at None = tt
+variable_named c at (Some (Var k)) = if_named c.compares _ (Err (Sort at)) (λ e. tt) (λ e. tt)
+variable_named c at (Some m) = tt
+
+defined_named : (c : Context) (at : ℕ) (o : Option Definition) → IsNamed (defined_extent c at o)
+defined_named c at None = tt
+defined_named c at (Some d) =
+    if_named c.negated _ _
+    (λ e. if_named (is_test d.tree) _ (Err (Sort at)) (λ f. if_named (nat_lt 200 (c.depth + d.nesting)) (Err (TooDeep at)) _ (λ h. tt) (λ h. tt)) (λ f. tt))
+    (λ e. if_named (nat_lt 200 (c.depth + d.nesting)) (Err (TooDeep at)) _ (λ h. tt) (λ h. tt))
+
+name_named : (w : ScopeParts) (c : Context) (at : ℕ) (o : Option Meaning) → IsNamed (name_extent w c at o)
+name_named w c at None = tt
+name_named w c at (Some (Test k)) = tt
+name_named w c at (Some (Action a)) = if_named c.negated (Err (Sort at)) _ (λ e. tt) (λ e. tt)
+name_named w c at (Some (TermName i)) = defined_named c at (slice_get w.terms i)
+name_named w c at (Some m) = tt
+
+extents_named : (w : ScopeParts) → NameTerms (extents w)
+extents_named w = record {
+  conds = record {
+    exprs = record { number = λ c at n. number_extent_named c at; variable = λ c at text. variable_named c at (meaning w text) };
+    named = λ c at text. condition_named at (meaning w text);
+  };
+  named = λ c at text. name_named w c at (meaning w text);
+  starred = λ c at m. if_named c.negated (Err (Sort at)) _ (λ e. tt) (λ e. tt);
+}
+
+trees_named : (w : ScopeParts) → NameTerms (trees w)
+trees_named w = record {
+  conds = record { exprs = record { number = λ c at n. tt; variable = λ c at text. tt }; named = λ c at text. tt };
+  named = λ c at text. tt;
+  starred = λ c at e. tt;
+}
+
+scanning_named : NameTerms scanning
+scanning_named = record {
+  conds = record { exprs = record { number = λ c at n. tt; variable = λ c at text. tt }; named = λ c at text. tt };
+  named = λ c at text. tt;
+  starred = λ c at t. tt;
+}
+
+axiom_known : (at : ℕ) (o : Option Axiom) → IsNamed (known_axiom at o)
+axiom_known at None = tt
+axiom_known at (Some rule) = tt
+
+total_named : (at total nodes : ℕ) → IsNamed (total_with at total nodes)
+total_named at total nodes = if_named (nat_lt 100000 nodes || nat_lt 1000000 (total + nodes)) (Err (TooLarge at)) (Ok (total + nodes)) (λ e. tt) (λ e. tt)
+
+-- ---- texts
+
+ends_named : (ts : List Lexeme) → IsNamed (ends ts)
+ends_named [] = tt
+ends_named (lexeme s at text ∷ ts) = tt
+
+scan_named : (ts : List Lexeme) → IsNamed (scan_chain ts)
+scan_named ts =
+    then_named (parse_chain scanning_chain (whole_chain tt) 0 ts) _
+    (chain_named scanning_chain (λ d z us. change_named _ (parse_term scanning choice (context d false false) us) (term_named scanning scanning_named choice (context d false false) us)) (λ at name n. tt) (whole_chain tt) 0 ts)
+    (λ x. ends_named x.1)
+
+sized_named : (w : ScopeParts) (d total : ℕ) (ts : List Lexeme) → IsNamed (sized_term w d total ts)
+sized_named w d total ts =
+    let c = context d false false in
+    then_named (parse_term (extents w) choice c ts) _ (term_named (extents w) (extents_named w) choice c ts)
+    (λ m. then_named (total_with (place_of ts) total (m.0).nodes) _ (total_named (place_of ts) total (m.0).nodes)
+    (λ all. change_named _ (parse_term (trees w) choice c ts) (term_named (trees w) (trees_named w) choice c ts)))
+
+make_named : (w : ScopeParts) (ts : List Lexeme) → IsNamed (make_chain w ts)
+make_named w ts =
+    then_named (parse_chain (making_chain w) (whole_chain 0) 0 ts) _
+    (chain_named (making_chain w) (sized_named w) (λ at name n. axiom_known at (axiom_named name n)) (whole_chain 0) 0 ts)
+    (λ x. tt)
+
+tested_named : (w : ScopeParts) (ts : List Lexeme) → IsNamed (tested w ts)
+tested_named w ts = then_named (scan_chain ts) _ (scan_named ts) (λ u. make_named w ts)
+
+placed_named : (len : ℕ) (e : TextFault) → IsNamedFault e → IsNamedFault (placed len e)
+placed_named len (Syntax at) h = tt
+placed_named len e h = h
+
+placing_named : {X : Type 0} (len : ℕ) (m : Result X TextFault) → IsNamed m → IsNamed (placing len m)
+placing_named len (Ok x) h = tt
+placing_named len (Err e) h = placed_named len e h
+
+pub faults_are_named : (tests actions : ℕ) (bytes : List ℕ) → FirstFault tests actions bytes NoMemory → ⊥
+faults_are_named tests actions bytes (too_long told past) = cc
+faults_are_named tests actions bytes (not_utf8 at told within front) = cc
+faults_are_named tests actions bytes (bad_token at told bad) = cc
+faults_are_named tests actions bytes (refused r) =
+    let ts = map lexeme_of r.parts_of_tokens in
+    subst IsNamed r.tests_fail (placing_named (length bytes) (tested (proof_scope tests actions) ts) (tested_named (proof_scope tests actions) ts))

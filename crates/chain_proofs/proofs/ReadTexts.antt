@@ -1,0 +1,42 @@
+-- The chain that bytes spell is what both passes over their tokens give.
+use Rattle.std.proofs.Common.{◌≡◌, ℕ, List, [], map, Result, Ok, sym, ap, ◌∙◌}
+use Rattle.kat_tokens.specs.declared.fault.TextFault.{TextFault}
+use Rattle.kat_tokens.specs.declared.token.Token.{Token}
+use Rattle.kat_tokens.specs.TokenParts.{TokenParts, parts_of_tokens}
+use Rattle.kat_tokens.specs.Lex.{Lexes}
+use Rattle.kat_syntax.specs.Lexemes.{lexeme_of, lexemes}
+use Rattle.kat_syntax.specs.Parsed.{◌>>=◌}
+use Rattle.kat_syntax.proofs.ParserSoundness.{bind_ok}
+use Rattle.kat_text.specs.ScopeParts.{ScopeParts}
+use Rattle.axiom_chains.specs.Chains.{ChainTree}
+use Rattle.chain_proofs.specs.ChainPhrases.{chain_onto}
+use Rattle.chain_proofs.specs.ChainScans.{scan_chain}
+use Rattle.chain_proofs.specs.ChainMaking.{make_chain}
+use Rattle.chain_proofs.specs.ProofScopes.{proof_scope}
+use Rattle.chain_proofs.specs.Reads.{Reads, tested}
+use Rattle.chain_proofs.proofs.ScannedChains.{chains_are_scanned}
+use Rattle.chain_proofs.proofs.MadeChains.{chains_are_made}
+
+module _ (tests actions : ℕ) where
+  abbrev w : ScopeParts
+  w = proof_scope tests actions
+
+  pub read_told : (bytes : List ℕ) (ms : List TokenParts) (c : ChainTree) → Lexes bytes ms → tested w (map lexeme_of ms) ≡ Ok c → Reads tests actions bytes c
+  read_told bytes ms c lexes e =
+      let ts = map lexeme_of ms in
+      let a = bind_ok (scan_chain ts) (λ u. make_chain w ts) c e in
+      let i = (chains_are_scanned ts).0 a.1 in
+      let made : make_chain w (chain_onto i.phrase []) ≡ Ok c = ap (make_chain w) (sym i.spelled) ∙ a.2 in
+      record { parts_of_tokens = ms; lexes = lexes; spells = i; chain = sym (chains_are_made w i.phrase i.first_obeys i.obey) ∙ made }
+
+  pub tests_pass : (bytes : List ℕ) (c : ChainTree) (x : Reads tests actions bytes c) → tested w (map lexeme_of x.parts_of_tokens) ≡ Ok c
+  tests_pass bytes c x =
+      let ts = map lexeme_of x.parts_of_tokens in
+      let i = x.spells in
+      let scanned : scan_chain ts ≡ Ok tt = (chains_are_scanned ts).1 i in
+      let made : make_chain w ts ≡ Ok c = ap (make_chain w) i.spelled ∙ chains_are_made w i.phrase i.first_obeys i.obey ∙ x.chain in
+      ap (λ (m : Result (Unit {0}) TextFault). m >>= λ u. make_chain w ts) scanned ∙ made
+
+  -- so it is with what the program tells of its tokens
+  pub chain_told : (scope : ScopeParts) (text : List ℕ) (ts : List Token) (c : ChainTree) → scope ≡ w → Lexes text (parts_of_tokens ts) → tested scope (lexemes ts) ≡ Ok c → Reads tests actions text c
+  chain_told scope text ts c same lexes e = read_told text (parts_of_tokens ts) c lexes (ap (λ (v : ScopeParts). tested v (lexemes ts)) (sym same) ∙ e)

@@ -1,5 +1,0 @@
-use Rattle.chain_proofs.proofs.Soundness.{chained_same}
-use Rattle.chain_proofs.proofs.laws.chained_are_same.Goals as goal
-
-pub returns : goal.returns
-returns c = chained_same

@@ -1,0 +1,45 @@
+-- The test of the syntax of a whole chain.
+use Rattle.std.specs.Prelude.{ℕ, ◌+◌, List, [], ◌∷◌, length, false, Result, Ok, Err}
+use Rattle.std.proofs.Common.{arith}
+use Rattle.kat_tokens.specs.declared.fault.TextFault.{TextFault}
+use Rattle.kat_tokens.specs.declared.fault.TextFault.TheVariants.{Syntax}
+use Rattle.kat_syntax.specs.Lexemes.{Lexeme, lexeme}
+use Rattle.kat_syntax.specs.Parsed.{Parsed, ◌>>=◌, change}
+use Rattle.kat_syntax.specs.Actions.{context}
+use Rattle.kat_syntax.specs.Scans.{scanning}
+use Rattle.kat_syntax.specs.Terms.{parse_term, choice}
+use Rattle.kat_syntax.proofs.Within.{Within}
+use Rattle.kat_syntax.proofs.TermSteps.{term_read_short}
+use Rattle.chain_proofs.specs.ChainActions.{LeavesFewer, ChainActions}
+use Rattle.chain_proofs.specs.ChainWalks.{whole_chain, parse_chain}
+
+-- the term at the front, of which nothing is made
+abbrev pub scanned_term : ℕ → List Lexeme → Parsed (Unit {0} × Unit {0})
+scanned_term d ts = change (λ u. (tt, tt)) (parse_term scanning choice (context d false false) ts)
+
+pub scanned_shorter : (d : ℕ) (ts : List Lexeme) → LeavesFewer ts (scanned_term d ts)
+scanned_shorter d ts = by_result (parse_term scanning choice (context d false false) ts) (term_read_short scanning choice (context d false false) ts) where
+  by_result : (m : Parsed (Unit {0})) → Within (length ts + 0) m → LeavesFewer {V = Unit {0} × Unit {0}} ts (change (λ u. (tt, tt)) m)
+  by_result (Ok x) h = omega arith
+  by_result (Err e) h = tt
+
+-- nothing is made, and no part is refused
+abbrev pub scanning_chain : ChainActions (Unit {0}) (Unit {0}) (Unit {0}) (Unit {0}) (Unit {0})
+scanning_chain = record {
+  term = λ d z ts. scanned_term d ts;
+  shorter = λ d z ts. scanned_shorter d ts;
+  rule = λ at name n. Ok tt;
+  whole = tt;
+  part = λ p n. tt;
+  first = λ t. tt;
+  line = λ v t r p i. tt;
+}
+
+-- no token is left
+abbrev pub ends : List Lexeme → Result (Unit {0}) TextFault
+ends [] = Ok tt
+ends (lexeme s at text ∷ ts) = Err (Syntax at)
+
+-- all tokens are one chain, or the first fault of their syntax
+abbrev pub scan_chain : List Lexeme → Result (Unit {0}) TextFault
+scan_chain ts = parse_chain scanning_chain (whole_chain tt) 0 ts >>= λ x. ends x.1

@@ -1,0 +1,80 @@
+//! The text of a proof, read.
+ghost use Rattle.std.specs.Prelude.{◌≡◌, ◌≤◌, length, IfOk, IfErr};
+ghost use Rattle.kat_tokens.specs.declared.fault.TextFault.TheVariants.{NoMemory as NoRoom};
+ghost use Rattle.kat_tokens.specs.declared.lexer.TheConstants.{MAX_LEN as MOST};
+ghost use Rattle.kat_syntax.specs.Lexemes.{lexemes};
+ghost use Rattle.kat_syntax.specs.Parsed.{Makes};
+ghost use Rattle.axiom_chains.specs.Chains.{ChainTree};
+ghost use Rattle.axiom_chains.specs.Chained.{HasTermsInRange};
+ghost use Rattle.chain_proofs.specs.ProofScopes.{proof_scope};
+ghost use Rattle.problem_file.specs.Reads.{placed};
+ghost use Rattle.chain_proofs.specs.Reads.{Reads, tested, Answers};
+
+use crate::making::make_chain;
+use crate::names::proof_scope;
+use crate::scan::test_syntax;
+use axiom_chains::Chain;
+use kat_text::Scope;
+use kat_tokens::{MAX_LEN, TextFault, Token, tokens};
+use std::alloc::Global;
+
+// A fault past the last token is at the text's length.
+fn placed(fault: TextFault, len: usize) -> TextFault
+    ensures { result ≡ placed len fault }
+{
+    match fault {
+        TextFault::Syntax(at) => TextFault::Syntax(at.min(len)),
+        other => other,
+    }
+}
+
+// The chain, or the first fault of the tokens.
+fn test(alloc: Global, scope: &Scope, toks: &[Token]) -> Result<Chain, TextFault>
+    ensures { Makes (Unit {0}) (λ c. c) result (tested scope.now (lexemes toks.now)) }
+{
+    test_syntax(toks)?;
+    make_chain(alloc, scope, toks)
+}
+
+fn read_text(alloc: Global, text: &str, tests: usize, actions: usize) -> Result<Chain, TextFault>
+    requires within { length text.now ≤ MOST }
+    ensures { Answers tests actions text.now result }
+{
+    let toks = tokens(alloc, text)?;
+    let scope = proof_scope(alloc, tests, actions)?;
+    match test(alloc, &scope, &toks) {
+        Ok(chain) => Ok(chain),
+        Err(fault) => Err(placed(fault, text.len())),
+    }
+}
+
+/// The chain that the text of a proof spells. Its terms name `tests` tests `t0`, `t1`, .. and `actions` actions `a0`, `a1`,
+/// .., as the abstract problem is shown. A text that spells none is refused for its first fault, in this order: `TooLong`
+/// past 1,048,576 bytes; `NotUtf8`; `BadToken`; the first in text order of `Syntax`, of `TooDeep` where more than 200
+/// constructs are open, the braces of inner chains among them, and of `NumberTooWide` from 2^64 on; the first in text order
+/// of `UnknownName` at a name or a rule that is not there, of `Sort`, and, at the first byte of a term, of `TooLarge` where
+/// the term has more than 100,000 nodes or all terms so far have more than 1,000,000.
+pub fn read_chain(
+    alloc: Global,
+    bytes: &[u8],
+    tests: usize,
+    actions: usize,
+) -> Result<Chain, TextFault>
+    // The chain is what the bytes spell; a refusal is `NoMemory` or the first fault of the bytes.
+    ensures answers { Answers tests actions bytes.now result }
+
+    // Its terms are in range.
+    ensures in_range { IfOk result (HasTermsInRange tests actions) }
+
+    // Bytes that spell a chain fail only when out of memory.
+    ensures only { (c : ChainTree) → Reads tests actions bytes.now c → IfErr result (λ e. e ≡ NoRoom) }
+{
+    if bytes.len() > MAX_LEN {
+        return Err(TextFault::TooLong);
+    }
+    let text = match std::str::from_utf8(bytes) {
+        Ok(text) => text,
+        Err(fault) => return Err(TextFault::NotUtf8(fault.valid_up_to())),
+    };
+    read_text(alloc, text, tests, actions)
+}

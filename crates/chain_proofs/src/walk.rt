@@ -1,0 +1,190 @@
+//! Chains, gone through once for any reading.
+ghost use Rattle.std.specs.Prelude.{◌≡◌, ◌≤◌, ◌<◌, length, drop, IfOk};
+ghost use Rattle.std.specs.Option.{option_map};
+ghost use Rattle.kat_syntax.specs.Lexemes.{lexemes};
+ghost use Rattle.kat_syntax.specs.Parsed.{Reads, Goes};
+ghost use Rattle.chain_proofs.specs.ChainWalks.{argument, parts_by, path_by, rule_by, whole_chain, lines_after, braces_by, inner_by, line_by, parse_chain};
+ghost use Rattle.chain_proofs.specs.Working.Reading.{reason_of};
+
+use crate::chain_reading::ChainReading;
+use crate::words::{
+    enter, expect_word, has_inner, has_number, is_word_at, number_at, rule_name_at,
+};
+use kat_syntax::{Separator, Terminal, expect, is_at, place_at};
+use kat_tokens::{TextFault, Token};
+
+// A rule, its place, and whether an inner chain follows.
+#[derive(Drop)]
+struct Reason<R, P> {
+    rule: R,
+    path: P,
+    inner: bool,
+}
+
+// The number after the name of a rule, 0 where there is none, and the index after it.
+#[tactic(auto, using(kat_syntax::proofs::Tokens::next_drop))]
+fn argument(toks: &[Token], from: usize, name: &str) -> Result<(u64, usize), TextFault>
+    ensures value { Reads ⊥ (λ n. n) (lexemes toks.now) result (argument name.now (drop from (lexemes toks.now))) }
+    ensures goes { IfOk result (λ x. from ≤ x.1) }
+    ensures within { from ≤ length toks.now → IfOk result (λ x. x.1 ≤ length toks.now) }
+{
+    if !has_number(name) {
+        return Ok((0, from));
+    }
+    let number = number_at(toks, from)?;
+    Ok((number, from + 1))
+}
+
+// The parts of a path after those so far, and the index after them.
+#[tactic(auto, using(crate::proofs::PathSteps::parts_step, kat_syntax::proofs::Tokens::next_drop, crate::proofs::PathSteps::second_drop))]
+fn parts<R: ChainReading>(
+    reading: &R,
+    toks: &[Token],
+    from: usize,
+    so_far: R::Path,
+) -> Result<(R::Path, usize), TextFault>
+    ensures value { Reads R.memory R.path (lexemes toks.now) result (parts_by (R.actions reading.now) (R.path so_far) (drop from (lexemes toks.now))) }
+    ensures goes { IfOk result (λ x. from ≤ x.1) }
+    ensures within { from ≤ length toks.now → IfOk result (λ x. x.1 ≤ length toks.now) }
+{
+    let mut path = so_far;
+    let mut at = from;
+    'parts: while is_at(toks, at, Terminal::Dot) {
+        let number = number_at(toks, at + 1)?;
+        path = reading.part(path, number)?;
+        at += 2;
+    }
+    Ok((path, at))
+}
+
+// The path of a line, to the whole term where there is none, and the index after it.
+#[tactic(auto, using(kat_syntax::proofs::Tokens::next_drop, crate::proofs::PathSteps::second_drop))]
+fn path<R: ChainReading>(
+    reading: &R,
+    toks: &[Token],
+    from: usize,
+) -> Result<(R::Path, usize), TextFault>
+    ensures value { Reads R.memory R.path (lexemes toks.now) result (path_by (R.actions reading.now) (drop from (lexemes toks.now))) }
+    ensures goes { IfOk result (λ x. from ≤ x.1) }
+    ensures within { from ≤ length toks.now → IfOk result (λ x. x.1 ≤ length toks.now) }
+{
+    if !is_word_at(toks, from, "at") {
+        return Ok((reading.whole(), from));
+    }
+    let first = number_at(toks, from + 1)?;
+    let whole = reading.whole();
+    let path = reading.part(whole, first)?;
+    parts(reading, toks, from + 2, path)
+}
+
+// What is told of the rule at an index: the rule, its place, and whether an inner chain follows; and the index after it.
+#[tactic(auto, using(kat_syntax::proofs::Tokens::next_drop))]
+fn rule_and_place<R: ChainReading>(
+    reading: &R,
+    toks: &[Token],
+    from: usize,
+) -> Result<(Reason<R::Rule, R::Path>, usize), TextFault>
+    ensures value { Reads R.memory (reason_of R.rule R.path) (lexemes toks.now) result (rule_by (R.actions reading.now) (drop from (lexemes toks.now))) }
+    ensures goes { Goes from (length toks.now) result }
+{
+    let (at, name) = rule_name_at(toks, from)?;
+    let (number, end) = argument(toks, from + 1, name)?;
+    let rule = reading.read_rule(at, name, number)?;
+    let (path, end) = path(reading, toks, end)?;
+    let inner = has_inner(name);
+    Ok((Reason { rule, path, inner }, end))
+}
+
+// Reads the chain that begins at `from`, with `depth` constructs open around it and so much known of the terms before it:
+// what the reading makes of it, what is known of all terms then, and the index after it. Otherwise the fault that comes
+// first in the text: `Syntax` at the token that cannot stand there (the place `usize::MAX` after the last token),
+// `TooDeep` at the token with which more than 200 constructs are open, `NumberTooWide` at a number of 2^64 or more, or
+// that with which the reading refuses a part.
+#[cycle(chains)]
+#[tactic(auto, using(crate::proofs::ChainSteps::chain_step, kat_syntax::proofs::Tokens::next_drop))]
+pub(crate) fn read_chain<R: ChainReading>(
+    reading: &R,
+    toks: &[Token],
+    from: usize,
+    depth: usize,
+    known: R::Size,
+) -> Result<((R::Chain, R::Size), usize), TextFault>
+    ensures value { Reads R.memory (λ x. (R.chain x.0, R.size x.1)) (lexemes toks.now) result (parse_chain (R.actions reading.now) (whole_chain (R.size known)) depth (drop from (lexemes toks.now))) }
+    ensures goes { Goes from (length toks.now) result }
+{
+    let ((term, size), next) = reading.read_term(toks, from, depth, known)?;
+    let mut list = reading.first(term);
+    let mut all = size;
+    let mut at = next;
+    'lines: while is_at(toks, at, Terminal::Separator(Separator::Equals)) {
+        let ((more, size), next) = line(reading, toks, at + 1, depth, list, all)?;
+        list = more;
+        all = size;
+        at = next;
+    }
+    Ok(((list, all), at))
+}
+
+// One line after a chain so far, from the token after its `=` on.
+#[cycle(chains)]
+#[tactic(auto, using(kat_syntax::proofs::Tokens::next_drop))]
+fn line<R: ChainReading>(
+    reading: &R,
+    toks: &[Token],
+    from: usize,
+    depth: usize,
+    list: R::Chain,
+    known: R::Size,
+) -> Result<((R::Chain, R::Size), usize), TextFault>
+    ensures value { Reads R.memory (λ x. (R.chain x.0, R.size x.1)) (lexemes toks.now) result (line_by (R.actions reading.now) (parse_chain (R.actions reading.now)) (R.chain list) (R.size known) depth (drop from (lexemes toks.now))) }
+    ensures goes { Goes from (length toks.now) result }
+{
+    let ((next, size), end) = reading.read_term(toks, from, depth, known)?;
+    let end = expect_word(toks, end, "by")?;
+    let (Reason { rule, path, inner }, end) = rule_and_place(reading, toks, end)?;
+    let ((inner, size), end) = inner_chain(reading, toks, end, depth, inner, size)?;
+    let end = expect(toks, end, Terminal::Separator(Separator::Semicolon))?;
+    Ok(((reading.line(list, next, rule, path, inner)?, size), end))
+}
+
+// The inner chain of a line, where one has to follow.
+#[cycle(chains)]
+#[tactic(auto, using(kat_syntax::proofs::Tokens::next_drop))]
+fn inner_chain<R: ChainReading>(
+    reading: &R,
+    toks: &[Token],
+    from: usize,
+    depth: usize,
+    follows: bool,
+    known: R::Size,
+) -> Result<((Option<R::Chain>, R::Size), usize), TextFault>
+    ensures value { Reads R.memory (λ x. (option_map R.chain x.0, R.size x.1)) (lexemes toks.now) result (inner_by (parse_chain (R.actions reading.now)) follows (R.size known) depth (drop from (lexemes toks.now))) }
+    ensures goes { IfOk result (λ x. from ≤ x.1) }
+    ensures within { from ≤ length toks.now → IfOk result (λ x. x.1 ≤ length toks.now) }
+{
+    if !follows {
+        return Ok(((None, known), from));
+    }
+    let ((inner, size), end) = braces(reading, toks, from, depth, known)?;
+    Ok(((Some(inner), size), end))
+}
+
+// A chain in braces.
+#[cycle(chains)]
+#[tactic(auto, using(kat_syntax::proofs::Tokens::next_drop))]
+fn braces<R: ChainReading>(
+    reading: &R,
+    toks: &[Token],
+    from: usize,
+    depth: usize,
+    known: R::Size,
+) -> Result<((R::Chain, R::Size), usize), TextFault>
+    ensures value { Reads R.memory (λ x. (R.chain x.0, R.size x.1)) (lexemes toks.now) result (braces_by (parse_chain (R.actions reading.now)) (R.size known) depth (drop from (lexemes toks.now))) }
+    ensures goes { Goes from (length toks.now) result }
+{
+    let next = expect(toks, from, Terminal::Separator(Separator::CurlyOpen))?;
+    let inside = enter(depth, place_at(toks, from))?;
+    let (inner, end) = read_chain(reading, toks, next, inside, known)?;
+    let end = expect(toks, end, Terminal::Separator(Separator::CurlyClose))?;
+    Ok((inner, end))
+}

@@ -1,0 +1,85 @@
+//! Names and numbers of a chain.
+ghost use Rattle.std.specs.Prelude.{◌≡◌, ◌+◌, ◌<◌, length, drop, IsTrue, IfOk};
+ghost use Rattle.kat_syntax.specs.Lexemes.{lexemes};
+ghost use Rattle.kat_syntax.specs.Parsed.{Makes, Wants};
+ghost use Rattle.while_lang.specs.Blocks.{enter};
+ghost use Rattle.problem_file.specs.Items.{number_at};
+ghost use Rattle.chain_proofs.specs.ChainWalks.{is_word, wants_word, rule_name, has_number, has_inner};
+
+use kat_model::MAX_OPEN;
+use kat_syntax::{Keyword, Terminal, syntax_fault_at, terminal_at, text_at};
+use kat_tokens::{TextFault, Token};
+
+/// One construct more is open, from the token at the place on; `TooDeep` with that place where 200 or more are open.
+pub(crate) fn enter(depth: usize, at: usize) -> Result<usize, TextFault>
+    ensures { result ≡ enter depth at }
+{
+    if depth >= MAX_OPEN {
+        return Err(TextFault::TooDeep(at));
+    }
+    Ok(depth + 1)
+}
+
+/// Whether the token at an index is this plain name.
+pub(crate) fn is_word_at(toks: &[Token], i: usize, word: &str) -> bool
+    ensures value { result ≡ is_word word.now (drop i (lexemes toks.now)) }
+    ensures within { IsTrue result → i < length toks.now }
+{
+    match terminal_at(toks, i) {
+        Some((Terminal::Name, _)) => text_at(toks, i) == word,
+        _ => false,
+    }
+}
+
+/// The index after a token that has to be this plain name.
+#[tactic(auto, using(kat_syntax::proofs::Tokens::next_drop))]
+pub(crate) fn expect_word(toks: &[Token], i: usize, word: &str) -> Result<usize, TextFault>
+    ensures value { Wants (lexemes toks.now) result (wants_word word.now (drop i (lexemes toks.now))) }
+    ensures goes { IfOk result (λ end. (end ≡ i + 1) × (i < length toks.now)) }
+{
+    if !is_word_at(toks, i, word) {
+        return Err(syntax_fault_at(toks, i));
+    }
+    Ok(i + 1)
+}
+
+/// The number at an index: `NumberTooWide` from 2^64 on.
+pub(crate) fn number_at(toks: &[Token], i: usize) -> Result<u64, TextFault>
+    ensures value { result ≡ number_at (drop i (lexemes toks.now)) }
+    ensures within { IfOk result (λ n. i < length toks.now) }
+{
+    match terminal_at(toks, i) {
+        Some((Terminal::Zero, _)) => Ok(0),
+        Some((Terminal::One, _)) => Ok(1),
+        Some((Terminal::Number(n), _)) => Ok(n),
+        Some((Terminal::WideNumber, at)) => Err(TextFault::NumberTooWide(at)),
+        Some((_, at)) => Err(TextFault::Syntax(at)),
+        None => Err(syntax_fault_at(toks, i)),
+    }
+}
+
+/// The place and the text of the name of a rule at an index: a name, or the keyword `hyp`.
+pub(crate) fn rule_name_at<'a>(toks: &[Token<'a>], i: usize) -> Result<(usize, &'a str), TextFault>
+    ensures value { Makes ⊥ (λ x. (x.0, x.1.now)) result (rule_name (drop i (lexemes toks.now))) }
+    ensures within { IfOk result (λ x. i < length toks.now) }
+{
+    match terminal_at(toks, i) {
+        Some((Terminal::Name | Terminal::Keyword(Keyword::Hyp), at)) => Ok((at, text_at(toks, i))),
+        Some((_, at)) => Err(TextFault::Syntax(at)),
+        None => Err(syntax_fault_at(toks, i)),
+    }
+}
+
+/// Whether a number follows the rule of this name.
+pub(crate) fn has_number(name: &str) -> bool
+    ensures { result ≡ has_number name.now }
+{
+    name == "hyp"
+}
+
+/// Whether an inner chain follows the rule of this name.
+pub(crate) fn has_inner(name: &str) -> bool
+    ensures { result ≡ has_inner name.now }
+{
+    name == "lfp" || name == "rfp"
+}

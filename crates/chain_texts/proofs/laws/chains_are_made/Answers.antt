@@ -1,5 +1,0 @@
-use Rattle.chain_texts.proofs.MadeChains.{chains_are_made}
-use Rattle.chain_texts.proofs.laws.chains_are_made.Goals as goal
-
-pub returns : goal.returns
-returns c = chains_are_made
