@@ -5,8 +5,8 @@
 
 Without names all families are measured at the sizes below. The program is the repository's own, which its script
 `kat` proves and builds first where that is wanted; another that takes the same words may be named. Times are the
-least of N runs (5) of the whole process, in seconds; memory is the greatest peak of N more, in MB, with `-` where
-each ended before it could be read. `pairs` are those of a certificate, `moves` those of a string. With --keep the
+least of N runs (5) of the whole process, in seconds of the processor; memory is the greatest peak of N more, in MB, with
+`-` where each ended before it could be read. `pairs` are those of a certificate, `moves` those of a string. With --keep the
 problems and their evidence stay in that folder.
 """
 
@@ -14,10 +14,10 @@ import argparse
 import os
 import random
 import re
+import resource
 import subprocess
 import sys
 import tempfile
-import time
 from pathlib import Path
 
 TOP = Path(__file__).resolve().parent.parent
@@ -213,12 +213,13 @@ FAMILIES = {
 
 # Measuring
 
-def run(program, words, out):
-    """The status and the seconds of one run, whose output goes to the file."""
+def seconds(program, words, out):
+    """The status, and the seconds of the processor, of one run, whose output goes to the file."""
+    before = resource.getrusage(resource.RUSAGE_CHILDREN)
     with open(out, "wb") as to:
-        start = time.perf_counter()
         status = subprocess.run([program, *words], stdout=to, cwd=out.parent).returncode
-        return status, time.perf_counter() - start
+    after = resource.getrusage(resource.RUSAGE_CHILDREN)
+    return status, after.ru_utime + after.ru_stime - before.ru_utime - before.ru_stime
 
 
 def peak(program, words, out):
@@ -233,11 +234,16 @@ def peak(program, words, out):
 
 
 def least(program, words, out, runs):
-    found = [run(program, words, out) for _ in range(runs)]
+    found = [seconds(program, words, out) for _ in range(runs)]
     statuses = {status for status, _ in found}
     if len(statuses) > 1:
         sys.exit(f"{' '.join(words)}: statuses {statuses}")
     return statuses.pop(), min(it for _, it in found), max(peak(program, words, out) for _ in range(runs))
+
+
+def told(most):
+    """A peak in MB; one that was read before the program was there is none."""
+    return f"{most:.1f}" if most >= 0.1 else "-"
 
 
 def measure(program, name, size, folder, runs):
@@ -246,14 +252,24 @@ def measure(program, name, size, folder, runs):
     status, decided, much = least(program, ["decide", text.name], evidence, runs)
     if status not in (0, 1):
         return [name, size, f"status {status}: {evidence.read_text().strip()}", "", "", "", "", "", ""]
-    checked, seconds, room = least(program, ["check", text.name, evidence.name], said, runs)
+    checked, judged, room = least(program, ["check", text.name, evidence.name], said, runs)
     if checked != status:
         sys.exit(f"{name} {size}: decide ends with {status}, check with {checked}: {said.read_text()}")
     lines = evidence.read_bytes().split(b"\n")
     count = sum(it.startswith(b"P ") for it in lines) if status == 0 else sum(it.startswith(b"M ") for it in lines)
     what = f"{count:,} {('pair', 'move')[status]}{'s' if count != 1 else ''}"
-    return [name, size, ("equal", "different")[status], what, f"{decided:.3f}", f"{seconds:.3f}",
-            f"{much:.1f}" if much else "-", f"{room:.1f}" if room else "-", f"{evidence.stat().st_size:,}"]
+    return [name, size, ("equal", "different")[status], what, f"{decided:.3f}", f"{judged:.3f}",
+            told(much), told(room), f"{evidence.stat().st_size:,}"]
+
+
+def built(named):
+    """The program that was named. The repository's own is built by its script, and then run without it, since the time
+    and the memory of the script are not to be measured."""
+    program = os.path.abspath(named)
+    if program == str(TOP / "kat"):
+        subprocess.run([program], stdout=subprocess.DEVNULL)
+        program = str(TOP / "crates/kat/out/kat")
+    return program
 
 
 HEADS = ["family", "n", "answer", "size", "decide s", "check s", "decide MB", "check MB", "bytes"]
@@ -270,11 +286,7 @@ def main():
     lost = [name for name, _, _ in asked if name not in FAMILIES]
     if lost:
         sys.exit(f"no family {lost[0]}; there are {', '.join(FAMILIES)}")
-    program = os.path.abspath(said.kat)
-    if program == str(TOP / "kat"):
-        # The script builds it; it is then run without the script, whose time is not to be measured.
-        subprocess.run([program], stdout=subprocess.DEVNULL)
-        program = str(TOP / "crates/kat/out/kat")
+    program = built(said.kat)
     with tempfile.TemporaryDirectory() as room:
         folder = Path(said.keep or room).resolve()
         folder.mkdir(parents=True, exist_ok=True)

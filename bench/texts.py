@@ -1,6 +1,6 @@
 #!/usr/bin/env python3
-"""Measures what long texts cost: problems under `kat decide`, programs under `kat run` and `kat show`, evidence under
-`kat check` and `kat replay`, and proofs under `kat chain`.
+"""Measures what long texts cost: problems under `kat decide`, programs under `kat run` and `kat show`, guarded programs
+under `kat gkat`, evidence under `kat check` and `kat replay`, and proofs under `kat chain`.
 
     python3 bench/texts.py [--kat PROGRAM] [--runs N] [CASE ..]
 
@@ -10,15 +10,12 @@ is the greatest peak in MB, with `-` where each run ended before it could be rea
 """
 
 import argparse
-import os
 import random
-import resource
-import subprocess
 import sys
 import tempfile
 from pathlib import Path
 
-from families import TOP, peak
+from families import TOP, built, peak, seconds
 
 STARS = "action p;\ngoal equal p*, p*;\n"
 
@@ -81,6 +78,24 @@ def full(n):
     return f"var {', '.join(x)};\nprog P {{ {checks} }}\ngoal equal P, P;\n"
 
 
+# Guarded programs
+
+def guarded(side):
+    """A text of two sides that are the same."""
+    return f"test bbbbb;\naction pppppqqqq, ppppp;\nequal {side},\n{side};\n"
+
+
+def choices(n):
+    """n choices, 198 in one another."""
+    block = "(" + "ppppp+[bbbbb](" * 198 + "ppppp" + ")" * 199
+    return guarded(".".join([block] * (n // 2 // 198)))
+
+
+def factors(n):
+    """n actions in two products."""
+    return guarded(".".join(["pppppqqqq"] * (n // 2)))
+
+
 # Evidence, with the problem that it belongs to
 
 def chain(n):
@@ -88,16 +103,38 @@ def chain(n):
     return STARS, "kat 1 equal\nE act 0\n" + "".join(f"E star {i}\n" for i in range(n - 1)) + "P 1 | 1\nend\n"
 
 
-def mixed(n):
-    """n sums and products of earlier nodes at random, and half as many pairs of them."""
-    pick, lines, seen = random.Random(1), ["E act 0", "E star 0"], set()
+def random_nodes(pick, n):
+    """The action, its star, and n sums and products of earlier nodes."""
+    lines, seen = ["E act 0", "E star 0"], set()
     while len(lines) < n + 2:
         line = f"E {pick.choice(('sum', 'seq'))} {pick.randrange(len(lines))} {pick.randrange(len(lines))}"
         if line not in seen:
             seen.add(line)
             lines.append(line)
-    pairs = [f"P {pick.randrange(n)} | {pick.randrange(n)}" for _ in range(n // 2)]
-    return STARS, "\n".join(["kat 1 equal", *lines, *pairs, "end"]) + "\n"
+    return lines
+
+
+def certificate(style, lines):
+    return STARS, "\n".join([f"kat {style} equal", *lines, "end"]) + "\n"
+
+
+def mixed(n):
+    """n sums and products of earlier nodes at random, and half as many pairs of them."""
+    pick = random.Random(1)
+    lines = random_nodes(pick, n)
+    return certificate(1, [*lines, *(f"P {pick.randrange(n)} | {pick.randrange(n)}" for _ in range(n // 2))])
+
+
+def few(n):
+    """n sums and products of earlier nodes at random, and eight pairs of which each is of one node."""
+    lines = random_nodes(random.Random(1), n)
+    return certificate(2, [*lines, "P 1 | 1", *(f"P {k} | {k}" for k in range(2, 9))])
+
+
+def listed(n):
+    """n nodes, each the action and then the one before, and half as many pairs, each of one node and led to by the next."""
+    lines = ["E act 0", "E star 0", "E seq 0 1", *(f"E seq 0 {k}" for k in range(2, n - 1))]
+    return certificate(1, [*lines, "P 1 | 1", *(f"P {k} | {k}" for k in range(2, n // 2 + 1))])
 
 
 def string_of(term):
@@ -156,9 +193,13 @@ CASES = {
     "blocks": ("run", blocks, 87_000),
     "uses": ("run", uses, 520_000),
     "full": ("show", full, 48),
+    "choices": ("gkat", choices, 66_132),
+    "factors": ("gkat", factors, 100_000),
     "chain": ("check", chain, 800_000),
     "chain-read": ("replay", chain, 800_000),
     "mixed-read": ("replay", mixed, 250_000),
+    "few": ("check", few, 10_000),
+    "listed": ("check", listed, 100_000),
     "nested": ("replay", nested, 1_000),
     "product": ("replay", product, 512),
     "powers": ("replay", powers, 199),
@@ -168,18 +209,10 @@ CASES = {
 }
 
 # The words behind the problem's
-MORE = {"decide": [], "show": [], "run": ["P", "zero", "0"], "check": ["evidence"], "replay": ["evidence"], "chain": ["evidence"]}
+MORE = {"decide": [], "show": [], "gkat": [], "run": ["P", "zero", "0"], "check": ["evidence"], "replay": ["evidence"], "chain": ["evidence"]}
 
 
 # Measuring
-
-def seconds(program, words, folder):
-    """The status, and the seconds of the processor, of one run."""
-    before = resource.getrusage(resource.RUSAGE_CHILDREN)
-    status = subprocess.run([program, *words], cwd=folder, stdout=subprocess.DEVNULL).returncode
-    after = resource.getrusage(resource.RUSAGE_CHILDREN)
-    return status, after.ru_utime + after.ru_stime - before.ru_utime - before.ru_stime
-
 
 def measure(program, name, size, folder, runs):
     command, make, _ = CASES[name]
@@ -188,7 +221,7 @@ def measure(program, name, size, folder, runs):
     (folder / "problem").write_text(problem)
     (folder / "evidence").write_text(evidence)
     words = [command, "problem", *MORE[command]]
-    found = [seconds(program, words, folder) for _ in range(runs)]
+    found = [seconds(program, words, folder / "said") for _ in range(runs)]
     most = max(peak(program, words, folder / "said") for _ in range(runs))
     return [name, f"{size:,}", f"{len(evidence or problem):,}", command, found[0][0],
             f"{min(it for _, it in found):.2f}", f"{most:.0f}" if most else "-"]
@@ -203,11 +236,7 @@ def main():
     lost = [name for name in said.case if name not in CASES]
     if lost:
         sys.exit(f"no case {lost[0]}; there are {', '.join(CASES)}")
-    program = os.path.abspath(said.kat)
-    if program == str(TOP / "kat"):
-        # The script builds it; it is then run without the script, whose time is not to be measured.
-        subprocess.run([program], stdout=subprocess.DEVNULL)
-        program = str(TOP / "crates/kat/out/kat")
+    program = built(said.kat)
     print("| case | n | bytes | command | status | s | MB |\n|---|---|---|---|---|---|---|")
     with tempfile.TemporaryDirectory() as room:
         for name in said.case or CASES:
