@@ -1,8 +1,8 @@
 -- Lists of places as they grow, and the pairs that stand in them.
-use Rattle.std.proofs.Common.{◌≡◌, ℕ, ◌-◌, inl, inr, ⊎_elim, List, [], ◌∷◌, ◌++◌, length, get_or, slice_get, refl, sym, subst, Some}
+use Rattle.std.proofs.Common.{◌≡◌, ℕ, inl, inr, ⊎_elim, List, [], ◌∷◌, ◌++◌, length, get_or, slice_get, refl, sym, subst}
 use Rattle.kat_model.specs.Members.{Has}
 use Rattle.kat_model.proofs.Lists.{has_left, has_right}
-use Rattle.kat_model.proofs.Places.{slice_get_last, has_at}
+use Rattle.kat_model.proofs.Places.{slice_get_last}
 use Rattle.bisim_worklist.specs.Working.Listings.{IdEntry}
 use Rattle.bisim_worklist.specs.Working.Indices.{IndexParts, StandsUnder, KeepsPlaces, AreIndexed}
 
@@ -14,9 +14,9 @@ pushed_has xs ys p is = subst (λ zs. Has zs p) (sym is) (has_right xs (p ∷ []
 pub pushed_keeps : (xs ys : List ℕ) (p : ℕ) → ys ≡ xs ++ p ∷ [] → (k : ℕ) → Has xs k → Has ys k
 pushed_keeps xs ys p is k h = subst (λ zs. Has zs k) (sym is) (has_left xs (p ∷ []) k h)
 
--- under the last member of a set
-pub stands_last : (x : IndexParts) (ids : List ℕ) (t n k : ℕ) → Some t ≡ slice_get ids (length ids - 1) → n ≡ t → Has (get_or x.under n []) k → StandsUnder x ids k
-stands_last x ids t n k last same h = inr (t, has_at ids (length ids - 1) t (sym last), subst (λ i. Has (get_or x.under i []) k) same h)
+-- under a member of a set
+pub stands_member : (x : IndexParts) (ids : List ℕ) (t n k : ℕ) → Has ids t → n ≡ t → Has (get_or x.under n []) k → StandsUnder x ids k
+stands_member x ids t n k member same h = inr (t, member, subst (λ i. Has (get_or x.under i []) k) same h)
 
 -- ---- indices
 

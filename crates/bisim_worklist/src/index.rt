@@ -110,6 +110,27 @@ impl PairIndex {
         self.under.get(term.number())
     }
 
+    /// How many pairs stand under the term. Only a matter of speed.
+    pub(crate) fn load(&self, term: TermId) -> usize {
+        match self.under(term) {
+            Some(places) => places.as_slice().len(),
+            None => 0,
+        }
+    }
+
+    // The member of the set under which the fewest pairs stand, so that few are looked at.
+    fn lightest(&self, set: &[TermId]) -> Option<TermId>
+        ensures { MatchOption result (set.now ≡ []) (Has set.now) }
+    {
+        let mut lightest = *set.last()?;
+        for term in set {
+            if self.load(*term) < self.load(lightest) {
+                lightest = *term;
+            }
+        }
+        Some(lightest)
+    }
+
     // Adds the place under a member of the set.
     fn add_under_member(
         &mut self,
@@ -120,7 +141,7 @@ impl PairIndex {
         ensures added { OnOk result (StandsUnder self.new set.now place) }
         ensures kept { KeepsPlaces self.old self.new }
     {
-        match set.last() {
+        match self.lightest(set) {
             Some(term) => {
                 let number = term.number();
                 widen(alloc, &mut self.under, number)?;

@@ -68,6 +68,35 @@ fn add_under_first(marked: &mut Marked, rules: &Rules, count: usize) -> Result<b
     Ok(grew)
 }
 
+// Takes the pairs that stand under the terms.
+fn add_under_all(marked: &mut Marked, rules: &Rules, terms: &[TermId]) -> Result<(), NoMemory>
+    ensures { OnOk result (IsMade rules.now.pairs marked.old.marks marked.new.marks) }
+{
+    for term in terms {
+        add_under(marked, rules, *term)?;
+    }
+    Ok(())
+}
+
+// How many pairs stand under the terms. Only a matter of speed.
+fn load(rules: &Rules, terms: &[TermId]) -> usize {
+    let mut load: usize = 0;
+    for term in terms {
+        load = load.saturating_add(rules.index().load(*term));
+    }
+    load
+}
+
+// Where fewer pairs stand under the targets than under the set, takes those first: one of them often brings all.
+fn look_back(marked: &mut Marked, rules: &Rules, targets: &[TermId]) -> Result<(), NoMemory>
+    ensures { OnOk result (IsMade rules.now.pairs marked.old.marks marked.new.marks) }
+{
+    if load(rules, targets) < load(rules, marked.terms()) {
+        add_under_all(marked, rules, targets)?;
+    }
+    Ok(())
+}
+
 // Takes the pairs of which a side may lie in the set. Answers whether a term is new: where none is, the set is closed.
 fn round(marked: &mut Marked, rules: &Rules) -> Result<bool, NoMemory>
     ensures made { OnOk result (IsMade rules.now.pairs marked.old.marks marked.new.marks) }
@@ -126,6 +155,7 @@ fn may_reach(rules: &Rules, marked: &Marked, targets: &[TermId]) -> bool
 fn saturate(marked: &mut Marked, rules: &Rules, targets: &[TermId]) -> Result<(), NoMemory>
     ensures { OnOk result (are_reached rules.now.universal targets.now marked.new.marks ≡ are_reached rules.now.universal targets.now (rounds_marked (length rules.now.pairs) rules.now.pairs marked.old.marks)) }
 {
+    look_back(marked, rules, targets)?;
     while !is_reached(marked, rules.universal(), targets) {
         let grew = round(marked, rules)?;
         if !grew {

@@ -1,10 +1,10 @@
 use Rattle.std.proofs.Common.{◌≡◌, true, false, sym, ap, ◌∙◌, arith}
 use Rattle.bisim_worklist.specs.Working.Marks.{are_reached}
-use Rattle.bisim_worklist.proofs.Closures.{made_itself, made_then, reached_so, closed_so}
+use Rattle.bisim_worklist.proofs.Closures.{made_then, reached_so, closed_so}
 use Rattle.bisim_worklist.proofs.saturation.saturate.Goals as goal
 
 pub loop-marked-init : goal.loop-marked-init
-loop-marked-init c = made_itself c.args.rules.now.pairs c.args.marked.now.marks
+loop-marked-init c = c.in_ok-look_back.ensures
 
 pub loop-marked-preserved : goal.loop-marked-preserved
 loop-marked-preserved c = made_then c.args.rules.now.pairs c.args.marked.now.marks c.loop-marked.marked.marks c.round.new.marked.marks c.loop-marked.invariant c.in_ok-grew.ensures.made
