@@ -1,13 +1,14 @@
 #!/usr/bin/env python3
-"""Measures `kat decide`, and `kat check` on what it prints, on families of problems, and prints a table.
+"""Measures `kat decide`, and `kat check` on what it prints, on families of problems, and prints a table; and
+`kat outline`, and `kat outline` on its own notes, on families of triples of programs, and prints another.
 
     python3 bench/families.py [--kat PROGRAM] [--runs N] [--keep FOLDER] [FAMILY[=SIZE] ..]
 
 Without names all families are measured at the sizes below. The program is the repository's own, which its script
 `kat` proves and builds first where that is wanted; another that takes the same words may be named. Times are the
 least of N runs (5) of the whole process, in seconds of the processor; memory is the greatest peak of N more, in MB, with
-`-` where each ended before it could be read. `pairs` are those of a certificate, `moves` those of a string. With --keep the
-problems and their evidence stay in that folder.
+`-` where each ended before it could be read. `pairs` are those of a certificate, `moves` those of a string, `nodes` and
+`notes` those of an outline. With --keep the problems, their evidence and their notes stay in that folder.
 """
 
 import argparse
@@ -191,6 +192,46 @@ def unswitched(_):
     return (TOP / "examples/holds/program-unswitched.kat").read_text()
 
 
+# Triples of programs, for outlines
+
+def guarded(n):
+    """A loop that tests n comparisons which no assignment touches, and the triple that its condition fails behind it."""
+    body = " ".join(f"if y{k} == 0 {{ i := i + 1; }} else {{ i := i + 2; }}" for k in range(n))
+    loop = f"prog P {{ while i < n {{ {body} }} }}\n"
+    return f"var i, n, {', '.join(names('y', n))};\n{loop}goal triple {{true}} P {{!(i < n)}};\n"
+
+
+def stepwise(n):
+    """n actions one after the other, and the triple of them all by the triples of each."""
+    before = chain(n).partition("goal")[0]
+    return f"{before}prog P {{ {' '.join(f'{it};' for it in names('p', n))} }}\ngoal triple {{t0}} P {{t{n}}};\n"
+
+
+def loops(n):
+    """n loops in one another, and the triple of an invariant that the action in front of each keeps."""
+    text = declared("test", ["c", *names("b", n)]) + declared("action", names("p", n))
+    text += "".join(f"hyp triple {{c && b{k}}} p{k} {{c}};\n" for k in range(n))
+    loop = ""
+    for k in reversed(range(n)):
+        loop = f"while b{k} {{ p{k}; {loop}}} "
+    return f"{text}prog P {{ {loop}}}\ngoal triple {{c}} P {{c && !b0}};\n"
+
+
+def restored(n):
+    """n loops in one another, each of which begins with an action that restores a test, and in the innermost an action
+    that may lose it: each loop is gone through twice in each turn of the one around it."""
+    loop = "p; "
+    for _ in range(n):
+        loop = f"while b {{ r; {loop}}} "
+    before = "test b, c;\naction p, r;\nhyp triple {true} r {c};\n"
+    return f"{before}prog P {{ {loop}}}\ngoal triple {{true}} P {{!b}};\n"
+
+
+def wrapped(_):
+    """Two assignments, of which the second wraps around."""
+    return (TOP / "examples/holds/wrapped-around.kat").read_text()
+
+
 FAMILIES = {
     "tests": (tests, 48),
     "denest": (denest, 48),
@@ -208,6 +249,15 @@ FAMILIES = {
     "untouched": (untouched, 5),
     "line": (line, 40),
     "structured": (structured, 500),
+}
+
+# Those that are measured by `outline`, and by `decide` and `check` beside it.
+TRIPLES = {
+    "guarded": (guarded, 8),
+    "stepwise": (stepwise, 47),
+    "loops": (loops, 10),
+    "restored": (restored, 10),
+    "wrapped": (wrapped, 1),
 }
 
 
@@ -272,7 +322,26 @@ def built(named):
     return program
 
 
+def measure_triple(program, name, size, folder, runs):
+    text, notes, evidence, said = (folder / f"{name}-{size}.{end}" for end in ("kat", "notes", "evidence", "said"))
+    text.write_text(TRIPLES[name][0](size))
+    status, found, much = least(program, ["outline", text.name], notes, runs)
+    if status != 0:
+        return [name, size, f"status {status}: {notes.read_text().strip()}", "", "", "", "", "", "", ""]
+    judged, again, room = least(program, ["outline", text.name, notes.name], said, runs)
+    decided, first, _ = least(program, ["decide", text.name], evidence, runs)
+    checked, second, _ = least(program, ["check", text.name, evidence.name], said, runs)
+    if (judged, decided, checked) != (0, 0, 0):
+        sys.exit(f"{name} {size}: the notes have status {judged}, decide ends with {decided}, check with {checked}")
+    lines = notes.read_bytes().split(b"\n")
+    what = f"{sum(it.startswith(b'D ') for it in lines):,} nodes, {sum(it.startswith(b'C ') for it in lines):,} notes"
+    return [name, size, what, f"{found:.3f}", f"{again:.3f}", f"{much:.1f}" if much else "-", f"{room:.1f}" if room else "-",
+            f"{notes.stat().st_size:,}", f"{first:.3f}", f"{second:.3f}"]
+
+
 HEADS = ["family", "n", "answer", "size", "decide s", "check s", "decide MB", "check MB", "bytes"]
+TRIPLE_HEADS = ["family", "n", "outline", "outline s", "its notes s", "outline MB", "its notes MB", "bytes", "decide s", "check s"]
+TABLES = [(FAMILIES, HEADS, measure), (TRIPLES, TRIPLE_HEADS, measure_triple)]
 
 
 def main():
@@ -282,19 +351,23 @@ def main():
     reader.add_argument("--keep")
     reader.add_argument("family", nargs="*")
     said = reader.parse_args()
-    asked = [it.partition("=") for it in said.family] or [(it, "", "") for it in FAMILIES]
-    lost = [name for name, _, _ in asked if name not in FAMILIES]
+    known = [*FAMILIES, *TRIPLES]
+    asked = [it.partition("=") for it in said.family] or [(it, "", "") for it in known]
+    lost = [name for name, _, _ in asked if name not in known]
     if lost:
-        sys.exit(f"no family {lost[0]}; there are {', '.join(FAMILIES)}")
+        sys.exit(f"no family {lost[0]}; there are {', '.join(known)}")
     program = built(said.kat)
     with tempfile.TemporaryDirectory() as room:
         folder = Path(said.keep or room).resolve()
         folder.mkdir(parents=True, exist_ok=True)
-        print("| " + " | ".join(HEADS) + " |")
-        print("|" + "---|" * len(HEADS))
-        for name, _, size in asked:
-            row = measure(program, name, int(size or FAMILIES[name][1]), folder, said.runs)
-            print("| " + " | ".join(str(it) for it in row) + " |", flush=True)
+        for families, heads, measured in TABLES:
+            rows = [(name, size) for name, _, size in asked if name in families]
+            if rows:
+                print("| " + " | ".join(heads) + " |")
+                print("|" + "---|" * len(heads))
+            for name, size in rows:
+                row = measured(program, name, int(size or families[name][1]), folder, said.runs)
+                print("| " + " | ".join(str(it) for it in row) + " |", flush=True)
 
 
 if __name__ == "__main__":

@@ -1,6 +1,6 @@
 #!/usr/bin/env python3
 """Measures what long texts cost: problems under `kat decide`, programs under `kat run` and `kat show`, guarded programs
-under `kat gkat`, evidence under `kat check` and `kat replay`, and proofs under `kat chain`.
+under `kat gkat`, evidence under `kat check` and `kat replay`, proofs under `kat chain`, and notes under `kat outline`.
 
     python3 bench/texts.py [--kat PROGRAM] [--runs N] [CASE ..]
 
@@ -183,6 +183,36 @@ def atoms(n):
     return f"test {', '.join(tests)};\ngoal equal {order}, {reverse};\n", f"{order} = {reverse} by bool;"
 
 
+# Notes, with the problem that they are of
+
+def noted(declared, statements, nodes, notes):
+    """A triple of a program with these statements, which holds of nothing, and notes with these nodes."""
+    problem = f"{declared}prog P {{ {statements}}}\ngoal triple {{false}} P {{true}};\n"
+    lines = ["kat 1 outline", "D false", "D true", *nodes, *(f"C {it}" for it in notes), "end"]
+    return problem, "\n".join(lines) + "\n"
+
+
+def branches(n):
+    """n nodes in one chain, of which each asks the one test and goes on to the two before it."""
+    return noted("test b;\n", "", [f"D test 0 {k + 1} {k}" for k in range(n)], [n + 1])
+
+
+def lists(n):
+    """The same with 48 tests in turn, each node of which goes on to the one before it or ends."""
+    tests = f"test {', '.join(f't{k}' for k in range(48))};\n"
+    return noted(tests, "", [f"D test {k % 48} {k + 1} {k % 2}" for k in range(n)], [n + 1])
+
+
+def notes(n):
+    """n notes, where the program has one place."""
+    return noted("", "", [], [0] * n)
+
+
+def places(n):
+    """n statements that do nothing, with a note at each place."""
+    return noted("", "skip; " * n, [], [0] * n + [1])
+
+
 CASES = {
     "terms": ("decide", terms, 62_333),
     "parentheses": ("decide", parentheses, 2_621),
@@ -206,10 +236,15 @@ CASES = {
     "proof": ("chain", proof, 5_000),
     "induction": ("chain", induction, 199),
     "atoms": ("chain", atoms, 48),
+    "branches": ("outline", branches, 1_000_000),
+    "lists": ("outline", lists, 10_000),
+    "notes": ("outline", notes, 1_000_000),
+    "places": ("outline", places, 49_000),
 }
 
 # The words behind the problem's
-MORE = {"decide": [], "show": [], "gkat": [], "run": ["P", "zero", "0"], "check": ["evidence"], "replay": ["evidence"], "chain": ["evidence"]}
+MORE = {"decide": [], "show": [], "gkat": [], "run": ["P", "zero", "0"], "check": ["evidence"], "replay": ["evidence"],
+        "chain": ["evidence"], "outline": ["evidence"]}
 
 
 # Measuring

@@ -47,6 +47,8 @@ PARTS = [
          names=[("certificate", "Accepted", "IsAccepted"), ("certificate", "Texts", "text_of")]),
     Part("Every text", "What any text asks, by the grammar of problem files, and what `check` answers.",
          clauses=[("kat_tool/src/text.rt", "decided_text", ["headline"]), ("kat_tool/src/text.rt", "checked_texts", ["headline"])]),
+    Part("Outlines", "What `outline` answers of a triple of a program, and of any notes, whoever wrote them.",
+         clauses=[("kat_tool/src/text.rt", "outline_reply", ["headline"]), ("kat_tool/src/text.rt", "notes_reply", ["headline"])]),
     Part("Equational proofs", "What `chain` answers of any proof, whoever wrote it.",
          clauses=[("kat_tool/src/text.rt", "proved_texts", ["headline"])]),
     Part("Runs of programs", "What `run` answers of a text that says a file.",

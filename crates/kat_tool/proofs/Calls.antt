@@ -7,7 +7,7 @@ use Rattle.kat_io.specs.Outside.{Rose, AppendsFront}
 use Rattle.kat_model.specs.Members.{Has}
 use Rattle.kat_model.specs.Problems.{ProblemParts}
 use Rattle.bisim_worklist.proofs.AnswerCerts.{answer_accepted}
-use Rattle.kat_tool.specs.Commands.{Command, decide, report, show, gkat, batch, check, replay, chain, run, oneloop, bench, optimise, command_of, files_of}
+use Rattle.kat_tool.specs.Commands.{Command, decide, report, show, gkat, batch, check, replay, outline, check_notes, chain, run, oneloop, bench, optimise, command_of, files_of}
 use Rattle.kat_tool.specs.Asking.{Asks}
 use Rattle.kat_tool.specs.Posing.{Poses}
 use Rattle.kat_tool.specs.Steps.{ShelfUse, HasFailedOn, GetsFile, AsksText}
@@ -18,13 +18,16 @@ use Rattle.kat_tool.specs.Gkat.{TranslatesText, Translates}
 use Rattle.kat_tool.specs.Batch.{AnswersText, Batches}
 use Rattle.kat_tool.specs.Check.{ChecksBytes, Checks, CheckStatus}
 use Rattle.kat_tool.specs.Replay.{ReplaysBytes, Replays}
+use Rattle.kat_tool.specs.Triples.{AsksTask, PosesTask}
+use Rattle.kat_tool.specs.Outline.{OutlinesText, Outlines, OutlineCauses}
+use Rattle.kat_tool.specs.OutlineCheck.{ChecksNotes, GetsNotes, ChecksNoteFiles}
 use Rattle.kat_tool.specs.Chain.{GetsProof, Proves}
 use Rattle.kat_tool.specs.Running.{RunsText}
 use Rattle.kat_tool.specs.OneLoop.{FormsText}
 use Rattle.kat_tool.specs.Bench.{Tallies}
 use Rattle.kat_tool.specs.Optimise.{OptimisesText}
 use Rattle.kat_tool.specs.Replies.{RepliesTo, HasNoCommand, Replies}
-use Rattle.kat_tool.specs.Agreement.{IsAgreed}
+use Rattle.kat_tool.specs.Agreement.{IsAgreed, AreAccepting}
 use Rattle.kat_tool.specs.Run.{HasFailed, IsUnfit, IsReply, Call, IsRun}
 use Rattle.kat_tool.specs.Laws.{CausesExclude}
 use Rattle.kat_tool.proofs.Contents.{held_same}
@@ -34,6 +37,9 @@ use Rattle.kat_tool.proofs.ReportReplies.{reported_once, report_causes}
 use Rattle.kat_tool.proofs.BatchReplies.{batches_once, batch_causes}
 use Rattle.kat_tool.proofs.CheckReplies.{bytes_once, check_causes}
 use Rattle.kat_tool.proofs.ReplayReplies.{bytes_once as replayed_once, replay_causes}
+use Rattle.kat_tool.proofs.Triples.{asks_once}
+use Rattle.kat_tool.proofs.OutlineReplies.{outlines_once, outline_causes}
+use Rattle.kat_tool.proofs.NotesReplies.{notes_once, notes_causes}
 use Rattle.kat_tool.proofs.ChainReplies.{bytes_once as proved_once, chain_causes}
 use Rattle.kat_tool.proofs.ShowReplies.{shows_once, show_causes}
 use Rattle.kat_tool.proofs.GkatReplies.{translates_once, gkat_causes}
@@ -86,6 +92,18 @@ module _ (s : ShelfUse) (status : ℕ) (output : List ℕ) where
       small : (status ≡ 0) ⊎ ((status ≡ 2) ⊎ ((status ≡ 3) ⊎ (status ≡ 4))) → status ≤ 4
       small h = grind (arith, h)
 
+  outline_small : (file : List ℕ) → Outlines s file status output → status ≤ 4
+  outline_small file r = small (outline_causes s file status output r).answers
+    where
+      small : (status ≡ 0) ⊎ ((status ≡ 1) ⊎ ((status ≡ 2) ⊎ (status ≡ 4))) → status ≤ 4
+      small h = grind (arith, h)
+
+  notes_small : (file other : List ℕ) → ChecksNoteFiles s file other status output → status ≤ 4
+  notes_small file other r = small (notes_causes s file other status output r).answers
+    where
+      small : (status ≡ 0) ⊎ ((status ≡ 2) ⊎ ((status ≡ 3) ⊎ (status ≡ 4))) → status ≤ 4
+      small h = grind (arith, h)
+
   chain_small : (file other : List ℕ) → Proves s file other status output → status ≤ 4
   chain_small file other r = small (chain_causes s file other status output r).answers
     where
@@ -101,6 +119,8 @@ module _ (s : ShelfUse) (status : ℕ) (output : List ℕ) where
   command_small (batch file) r = inl (batch_small file r)
   command_small (check file other) r = inl (check_small file other r)
   command_small (replay file other) r = inl (replay_small file other r)
+  command_small (outline file) r = inl (outline_small file r)
+  command_small (check_notes file other) r = inl (notes_small file other r)
   command_small (chain file other) r = inl (chain_small file other r)
   command_small (bench count) r = let zero = r.0 in inl (omega (arith, zero))
   command_small (run file prog store turns) r = small (run_causes s file prog store turns status output r).answers
@@ -138,6 +158,8 @@ module _ (s : ShelfUse) (status : ℕ) (output : List ℕ) where
   command_refused words (show file) is r seven = absurd (no_seven (show_small file r) seven)
   command_refused words (gkat file) is r seven = absurd (no_seven (gkat_small file r) seven)
   command_refused words (batch file) is r seven = absurd (no_seven (batch_small file r) seven)
+  command_refused words (outline file) is r seven = absurd (no_seven (outline_small file r) seven)
+  command_refused words (check_notes file other) is r seven = absurd (no_seven (notes_small file other r) seven)
   command_refused words (chain file other) is r seven = absurd (no_seven (chain_small file other r) seven)
   command_refused words (bench count) is r seven = let zero = r.0 in absurd (omega (arith, zero, seven))
   command_refused words (run file prog store turns) is r seven =
@@ -159,6 +181,8 @@ module _ (s : ShelfUse) (status : ℕ) (output : List ℕ) where
   command_failed (batch file) r four = (file, inl refl, (batch_causes s file status output r).failed four)
   command_failed (check file other) r four = ⊎_elim (λ f. (file, inl refl, f)) (λ h. (other, inr (inl refl), h.2)) ((check_causes s file other status output r).failed four)
   command_failed (replay file other) r four = ⊎_elim (λ f. (file, inl refl, f)) (λ h. (other, inr (inl refl), h.2)) ((replay_causes s file other status output r).failed four)
+  command_failed (outline file) r four = (file, inl refl, (outline_causes s file status output r).failed four)
+  command_failed (check_notes file other) r four = ⊎_elim (λ f. (file, inl refl, f)) (λ h. (other, inr (inl refl), h.3)) ((notes_causes s file other status output r).failed four)
   command_failed (chain file other) r four = ⊎_elim (λ f. (file, inl refl, f)) (λ h. (other, inr (inl refl), h.2)) ((chain_causes s file other status output r).failed four)
   command_failed (bench count) r four = let zero = r.0 in absurd (omega (arith, zero, four))
   command_failed (run file prog store turns) r four = (file, inl refl, (run_causes s file prog store turns status output r).failed four)
@@ -178,6 +202,10 @@ command_once s unfailed told (check file other) =
     gets_once s file _ _ (λ t. AsksText t (λ q. GetsFile s other None [] (ChecksBytes q))) (told file) unfailed (λ t. text_once t (λ q. GetsFile s other None [] (ChecksBytes q)) (λ q. gets_once s other None [] (ChecksBytes q) (told other) unfailed (bytes_once q)))
 command_once s unfailed told (replay file other) =
     gets_once s file _ _ (λ t. AsksText t (λ q. GetsFile s other None [] (ReplaysBytes q))) (told file) unfailed (λ t. text_once t (λ q. GetsFile s other None [] (ReplaysBytes q)) (λ q. gets_once s other None [] (ReplaysBytes q) (told other) unfailed (replayed_once q)))
+command_once s unfailed told (outline file) = gets_once s file _ _ (λ t. OutlinesText t) (told file) unfailed (λ t. outlines_once t)
+command_once s unfailed told (check_notes file other) =
+    gets_once s file _ _ (λ t. AsksTask t (GetsNotes s other)) (told file) unfailed
+    (λ t. asks_once t (GetsNotes s other) (λ q u. gets_once s other None [] (λ b. ChecksNotes b q u) (told other) unfailed (λ b. notes_once b q u)))
 command_once s unfailed told (chain file other) =
     gets_once s file _ _ (λ t. AsksText t (GetsProof s other)) (told file) unfailed (λ t. text_once t (GetsProof s other) (λ q. gets_once s other _ _ _ (told other) unfailed (proved_once q)))
 command_once s unfailed told (bench count) = tallies_once count
@@ -227,6 +255,16 @@ agreed s file status output causes small words again other text later reply prin
         let h = causes.different e in
         (checked h.0 h.1).different.1 (h.2.string, h.2.printed, h.2.shortest.refutes) ∙ sym e
 
+-- ---- `outline` accepts the notes that it prints
+
+noted_accepted : (s : ShelfUse) (file : List ℕ) (status : ℕ) (output : List ℕ) → OutlineCauses s file status output → status ≡ 0 → AreAccepting (s.content file) output
+noted_accepted s file status output causes zero words again other text later reply printed is_told is holds holds_other unfailed r =
+    let h = causes.noted zero in
+    let told : PosesTask h.tells.poses.text h.question h.task = record { asks = h.tells.poses.asks; task = h.tells.task; sides = h.tells.sides } in
+    let poses = subst (λ x. PosesTask x h.question h.task) (held_same (s.content file) text h.tells.poses.text is_told h.tells.poses.given.0) told in
+    ((notes_causes later again other reply printed (replied_to later words reply printed (check_notes again other) is r.cause)).headline text output h.question holds holds_other unfailed poses.asks).accepted.1
+    (h.task, h.is_noted.notes, poses.task, h.is_noted.printed, h.is_noted.follows)
+
 -- ---- what a reply says
 
 pub reply_is : (s : ShelfUse) (words : List (List ℕ)) (status : ℕ) (output : List ℕ) → Replies s words status output → IsReply s words status output
@@ -237,6 +275,9 @@ reply_is s words status output r = record {
   reports = λ file is. report_causes s file status output (replied_to s words status output (report file) is r.cause);
   checks = λ file other is. check_causes s file other status output (replied_to s words status output (check file other) is r.cause);
   replays = λ file other is. replay_causes s file other status output (replied_to s words status output (replay file other) is r.cause);
+  outlines = λ file is. outline_causes s file status output (replied_to s words status output (outline file) is r.cause);
+  notes_follow = λ file is zero. noted_accepted s file status output (outline_causes s file status output (replied_to s words status output (outline file) is r.cause)) zero;
+  checks_notes = λ file other is. notes_causes s file other status output (replied_to s words status output (check_notes file other) is r.cause);
   proves = λ file other is. chain_causes s file other status output (replied_to s words status output (chain file other) is r.cause);
   runs = λ file prog store turns is. run_causes s file prog store turns status output (replied_to s words status output (run file prog store turns) is r.cause);
   forms = λ file prog is. one_loop_causes s file prog status output (replied_to s words status output (oneloop file prog) is r.cause);

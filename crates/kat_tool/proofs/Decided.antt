@@ -18,7 +18,7 @@ use Rattle.kat_tool.specs.Decide.{IsDecided}
 use Rattle.kat_tool.specs.Report.{IsReported}
 
 -- what is below a count of a problem is a number of the program
-small : (k n : ℕ) → k < n → n ≤ 48 → k < 2 ^ 64
+pub small : (k n : ℕ) → k < n → n ≤ 48 → k < 2 ^ 64
 small k n lt le = let wide : 48 < 2 ^ 64 = ltb-true 48 (2 ^ 64) refl in omega (arith, lt, le, wide)
 
 module _ (q : ProblemParts) (problem : IsProblem q) where

@@ -12,6 +12,9 @@ pub mod GoalLists
 pub mod BatchReplies
 pub mod CheckReplies
 pub mod ReplayReplies
+pub mod Triples
+pub mod OutlineReplies
+pub mod NotesReplies
 pub mod ChainReplies
 pub mod StoreValues
 pub mod ShowReplies

@@ -3,11 +3,11 @@ use Rattle.std.specs.Prelude.{ℕ, ◌^◌, List, [], ◌∷◌, Option, None, S
 use Rattle.std.specs.Option.{option_map}
 use Rattle.std.specs.Str.{bytes_eq}
 use Rattle.kat_tool.specs.declared.words.Command.{Command as Chosen}
-use Rattle.kat_tool.specs.declared.words.Command.TheVariants.{Decide, Report, Show, Batch, Check, Replay, Chain, Run, OneLoop, Bench, Optimise, Gkat}
+use Rattle.kat_tool.specs.declared.words.Command.TheVariants.{Decide, Report, Show, Batch, Check, Replay, Chain, Run, OneLoop, Bench, Optimise, Gkat, Outline, CheckNotes}
 use Rattle.kat_tool.specs.Numbers.{number_below, count_of}
 
--- a command and its words: the file of the problem or of several goals, and that of the evidence or the proof; or a program
--- of the file, and with it the word of a store and a number of turns; or a number of problems
+-- a command and its words: the file of the problem or of several goals, and that of the evidence, the proof or the notes;
+-- or a program of the file, and with it the word of a store and a number of turns; or a number of problems
 pub data Command : Type 0 where
   decide : (file : List ℕ) → Command
   report : (file : List ℕ) → Command
@@ -16,6 +16,8 @@ pub data Command : Type 0 where
   batch : (file : List ℕ) → Command
   check : (file evidence : List ℕ) → Command
   replay : (file evidence : List ℕ) → Command
+  outline : (file : List ℕ) → Command
+  check_notes : (file notes : List ℕ) → Command
   chain : (file proof : List ℕ) → Command
   run : (file prog store : List ℕ) → (turns : ℕ) → Command
   oneloop : (file prog : List ℕ) → Command
@@ -31,6 +33,8 @@ command_seen (Gkat file) = gkat file.now
 command_seen (Batch file) = batch file.now
 command_seen (Check file evidence) = check file.now evidence.now
 command_seen (Replay file evidence) = replay file.now evidence.now
+command_seen (Outline file) = outline file.now
+command_seen (CheckNotes file notes) = check_notes file.now notes.now
 command_seen (Chain file proof) = chain file.now proof.now
 command_seen (Run file prog store turns) = run file.now prog.now store.now turns
 command_seen (OneLoop file prog) = oneloop file.now prog.now
@@ -42,14 +46,15 @@ abbrev pub is_value : List ℕ → Bool
 is_value [] = false
 is_value (b ∷ bs) = not (b == 45)
 
--- the commands of one file or of a number, of a file and an option, of a file and its evidence, a proof or a program, of a
--- file, a program, a store and turns, and of a file, a program, an option and its number
+-- the commands of one file or of a number, of a file and an option, of a file and its evidence, a proof, notes or a
+-- program, of a file, a program, a store and turns, and of a file, a program, an option and its number
 unfoldable pub with_file : List ℕ → List ℕ → Option Command
 with_file name file =
     if bytes_eq name (codes "decide") then Some (decide file)
     else if bytes_eq name (codes "show") then Some (show file)
     else if bytes_eq name (codes "gkat") then Some (gkat file)
     else if bytes_eq name (codes "batch") then Some (batch file)
+    else if bytes_eq name (codes "outline") then Some (outline file)
     else if bytes_eq name (codes "bench") then option_map (λ n. bench n) (count_of file)
     else None
 
@@ -61,6 +66,7 @@ with_value name file value =
     if bytes_eq name (codes "check") then Some (check file value)
     else if bytes_eq name (codes "replay") then Some (replay file value)
     else if bytes_eq name (codes "chain") then Some (chain file value)
+    else if bytes_eq name (codes "outline") then Some (check_notes file value)
     else if bytes_eq name (codes "oneloop") then Some (oneloop file value)
     else if bytes_eq name (codes "optimise") then Some (optimise file value 1000)
     else None
@@ -89,6 +95,8 @@ files_of (gkat file) = file ∷ []
 files_of (batch file) = file ∷ []
 files_of (check file evidence) = file ∷ evidence ∷ []
 files_of (replay file evidence) = file ∷ evidence ∷ []
+files_of (outline file) = file ∷ []
+files_of (check_notes file notes) = file ∷ notes ∷ []
 files_of (chain file proof) = file ∷ proof ∷ []
 files_of (run file prog store turns) = file ∷ []
 files_of (oneloop file prog) = file ∷ []

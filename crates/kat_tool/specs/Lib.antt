@@ -5,12 +5,16 @@ pub mod Asking
 pub mod Posing
 pub mod Showing
 pub mod Steps
+pub mod OutlineLines
+pub mod Triples
 pub mod Decide
 pub mod StoreAnswers
 pub mod Report
 pub mod Batch
 pub mod Check
 pub mod Replay
+pub mod OutlineCheck
+pub mod Outline
 pub mod Chain
 pub mod Show
 pub mod Gkat

@@ -1,6 +1,6 @@
 -- What the top call replies to words.
 use Rattle.std.specs.Prelude.{◌≡◌, ◌⊎◌, ℕ, List, None, Some, codes}
-use Rattle.kat_tool.specs.Commands.{Command, decide, report, show, gkat, batch, check, replay, chain, run, oneloop, bench, optimise, command_of}
+use Rattle.kat_tool.specs.Commands.{Command, decide, report, show, gkat, batch, check, replay, outline, check_notes, chain, run, oneloop, bench, optimise, command_of}
 use Rattle.kat_tool.specs.Steps.{ShelfUse, Replying}
 use Rattle.kat_tool.specs.Decide.{Decides}
 use Rattle.kat_tool.specs.Report.{Reports}
@@ -9,6 +9,8 @@ use Rattle.kat_tool.specs.Gkat.{Translates}
 use Rattle.kat_tool.specs.Batch.{Batches}
 use Rattle.kat_tool.specs.Check.{Checks}
 use Rattle.kat_tool.specs.Replay.{Replays}
+use Rattle.kat_tool.specs.Outline.{Outlines}
+use Rattle.kat_tool.specs.OutlineCheck.{ChecksNoteFiles}
 use Rattle.kat_tool.specs.Chain.{Proves}
 use Rattle.kat_tool.specs.Running.{Runs}
 use Rattle.kat_tool.specs.OneLoop.{Forms}
@@ -24,6 +26,8 @@ RepliesTo s (gkat file) = Translates s file
 RepliesTo s (batch file) = Batches s file
 RepliesTo s (check file evidence) = Checks s file evidence
 RepliesTo s (replay file evidence) = Replays s file evidence
+RepliesTo s (outline file) = Outlines s file
+RepliesTo s (check_notes file notes) = ChecksNoteFiles s file notes
 RepliesTo s (chain file proof) = Proves s file proof
 RepliesTo s (run file prog store turns) = Runs s file prog store turns
 RepliesTo s (oneloop file prog) = Forms s file prog

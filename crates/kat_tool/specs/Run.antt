@@ -3,7 +3,7 @@ use Rattle.std.specs.Prelude.{◌≡◌, ◌≢◌, ◌⊎◌, ℕ, List, Option
 use Rattle.std.specs.Io.KnownBytes.{Appends, Keeps}
 use Rattle.kat_io.specs.Outside.{Rose, AppendsFront}
 use Rattle.kat_model.specs.Members.{Has}
-use Rattle.kat_tool.specs.Commands.{Command, decide, report, show, gkat, batch, check, replay, chain, run, oneloop, bench, optimise, command_of, files_of}
+use Rattle.kat_tool.specs.Commands.{Command, decide, report, show, gkat, batch, check, replay, outline, check_notes, chain, run, oneloop, bench, optimise, command_of, files_of}
 use Rattle.kat_tool.specs.Steps.{ShelfUse, HasFailedOn}
 use Rattle.kat_tool.specs.Decide.{DecideCauses}
 use Rattle.kat_tool.specs.Report.{ReportCauses}
@@ -12,13 +12,15 @@ use Rattle.kat_tool.specs.Gkat.{GkatCauses}
 use Rattle.kat_tool.specs.Batch.{BatchCauses}
 use Rattle.kat_tool.specs.Check.{CheckCauses}
 use Rattle.kat_tool.specs.Replay.{ReplayCauses}
+use Rattle.kat_tool.specs.Outline.{OutlineCauses}
+use Rattle.kat_tool.specs.OutlineCheck.{NotesCauses}
 use Rattle.kat_tool.specs.Chain.{ChainCauses}
 use Rattle.kat_tool.specs.Running.{MayMisfit, RunCauses}
 use Rattle.kat_tool.specs.OneLoop.{MayLackProgram, OneLoopCauses}
 use Rattle.kat_tool.specs.Bench.{BenchCauses}
 use Rattle.kat_tool.specs.Optimise.{MayLackAnyProgram, OptimiseCauses}
 use Rattle.kat_tool.specs.Replies.{Replies}
-use Rattle.kat_tool.specs.Agreement.{IsAgreed}
+use Rattle.kat_tool.specs.Agreement.{IsAgreed, AreAccepting}
 
 -- what a call saw of the sink: its count of faults before the call and after it, and what it had taken then, where it tells
 pub record SinkUse : Type 0 where
@@ -69,6 +71,9 @@ pub record IsReply (s : ShelfUse) (words : List (List ℕ)) (status : ℕ) (outp
   pub reports : (file : List ℕ) → command_of words ≡ Some (report file) → ReportCauses s file status output
   pub checks : (file other : List ℕ) → command_of words ≡ Some (check file other) → CheckCauses s file other status output
   pub replays : (file other : List ℕ) → command_of words ≡ Some (replay file other) → ReplayCauses s file other status output
+  pub outlines : (file : List ℕ) → command_of words ≡ Some (outline file) → OutlineCauses s file status output
+  pub notes_follow : (file : List ℕ) → command_of words ≡ Some (outline file) → status ≡ 0 → AreAccepting (s.content file) output
+  pub checks_notes : (file other : List ℕ) → command_of words ≡ Some (check_notes file other) → NotesCauses s file other status output
   pub proves : (file other : List ℕ) → command_of words ≡ Some (chain file other) → ChainCauses s file other status output
   pub runs : (file prog store : List ℕ) (turns : ℕ) → command_of words ≡ Some (run file prog store turns) → RunCauses s file prog store turns status output
   pub forms : (file prog : List ℕ) → command_of words ≡ Some (oneloop file prog) → OneLoopCauses s file prog status output

@@ -14,8 +14,8 @@ use certificate::{Evidence, write};
 use kat_model::{NoMemory, Problem};
 use std::alloc::Global;
 
-// How many nodes there are.
-fn count<T>(nodes: &[T]) -> usize
+/// How many nodes there are.
+pub(crate) fn count<T>(nodes: &[T]) -> usize
     ensures { result ≡ length nodes.now }
 {
     nodes.len()
@@ -59,8 +59,8 @@ pub(crate) fn evidence_status(evidence: &Evidence) -> u8
     }
 }
 
-// The reply to a problem.
-fn decide_reply(alloc: Global, problem: &Problem) -> Result<Reply, NoMemory>
+/// The reply to a problem.
+pub(crate) fn decide_reply(alloc: Global, problem: &Problem) -> Result<Reply, NoMemory>
     ensures { IfOk result (λ r. IsDecided problem.now r.status r.output.items) }
 {
     let evidence = decide(alloc, problem)?;

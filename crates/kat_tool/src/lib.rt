@@ -15,6 +15,9 @@ mod log_text;
 mod numbers;
 mod oneloop;
 mod optimise;
+mod outline;
+mod outline_check;
+mod outline_lines;
 mod posing;
 mod program_words;
 mod replay;
@@ -27,13 +30,15 @@ mod showing;
 mod store_words;
 mod text;
 mod top;
+mod triple;
 mod words;
 
 pub use laws::{causes_exclude, words_give_stores};
 pub use reply::Reply;
 pub use text::{
-    batch_reply, checked_texts, decided_text, one_loop_reply, optimised_reply, proved_texts,
-    replayed_texts, reported_text, run_reply, show_reply, translated_text,
+    batch_reply, checked_texts, decided_text, notes_reply, one_loop_reply, optimised_reply,
+    outline_reply, proved_texts, replayed_texts, reported_text, run_reply, show_reply,
+    translated_text,
 };
 pub use top::run;
 pub use words::Words;

@@ -1,4 +1,5 @@
-//! `decide`, `batch`, `check`, `replay`, `chain`, `run`, `oneloop`, `optimise` and `show` on the bytes of texts, with no outside.
+//! `decide`, `batch`, `check`, `replay`, `outline`, `chain`, `run`, `oneloop`, `optimise`, `show` and `gkat` on the bytes
+//! of texts, with no outside.
 ghost use Rattle.std.specs.Prelude.{◌≡◌, ℕ, List, IfOk};
 ghost use Rattle.kat_model.specs.Problems.{ProblemParts};
 ghost use Rattle.kat_model.specs.Expressions.{CondTree};
@@ -16,6 +17,8 @@ ghost use Rattle.kat_tool.specs.Report.{ReportsText, ReportHeadline};
 ghost use Rattle.kat_tool.specs.Batch.{AnswersText, BatchHeadline};
 ghost use Rattle.kat_tool.specs.Check.{ChecksTexts, CheckHeadline};
 ghost use Rattle.kat_tool.specs.Replay.{ReplaysTexts, ReplayHeadline};
+ghost use Rattle.kat_tool.specs.Outline.{OutlinesText, OutlineHeadline};
+ghost use Rattle.kat_tool.specs.OutlineCheck.{ChecksNoteTexts, NotesHeadline};
 ghost use Rattle.kat_tool.specs.Chain.{ProvesTexts, ChainHeadline};
 ghost use Rattle.kat_tool.specs.Running.{RunsText, RunHeadline};
 ghost use Rattle.kat_tool.specs.OneLoop.{FormsText, OneLoopHeadline};
@@ -24,7 +27,10 @@ ghost use Rattle.kat_tool.specs.Gkat.{TranslatesText, GkatHeadline};
 ghost use Rattle.kat_tool.specs.Show.{ShowsText, ShowHeadline};
 
 use crate::reply::{Reply, Stop};
-use crate::{batch, chain, check, decide, gkat, oneloop, optimise, replay, report, running, show};
+use crate::{
+    batch, chain, check, decide, gkat, oneloop, optimise, outline, outline_check, replay, report,
+    running, show,
+};
 use kat_model::NoMemory;
 use std::alloc::Global;
 
@@ -122,6 +128,46 @@ pub fn replayed_texts(alloc: Global, text: &[u8], evidence: &[u8]) -> Result<Rep
     ensures replies { IfOk result (λ r. ReplaysTexts text.now evidence.now r.status r.output.items) }
 {
     match replay::texts_reply(alloc, text, evidence) {
+        Ok(reply) => Ok(reply),
+        Err(Stop::Replied(reply)) => Ok(reply),
+        Err(Stop::NoMemory) => Err(NoMemory),
+    }
+}
+
+/// What `outline` answers to the bytes of a text. Where the text asks a question, the status is 0 exactly where its goal
+/// is a triple of a program, all hypotheses are simple, and the triple holds: both sides denote one relation in every
+/// finite table that keeps the hypotheses. Then the text of notes is printed that follow one from the other at the places
+/// of the program, and the goal of a concrete file holds of all its stores. It is 1 exactly where the goal is one, all
+/// hypotheses are, and the triple does not hold, with the text of a string as by `decide`; and 2 exactly where the goal
+/// is no triple of a program or a hypothesis is not simple, with the line that says so. Otherwise it is 2, with the line
+/// that says why. It fails only when out of memory.
+pub fn outline_reply(alloc: Global, text: &[u8]) -> Result<Reply, NoMemory>
+    ensures headline { (q : ProblemParts) (asks : Asks text.now q)
+        → IfOk result (λ r. OutlineHeadline asks.file q r.status r.output.items) }
+    ensures stores { (f : FileParts) → Reads text.now f → IsConcrete f → IfOk result (λ r. r.status ≡ 0 → Agrees f) }
+    ensures replies { IfOk result (λ r. OutlinesText text.now r.status r.output.items) }
+{
+    match outline::text_reply(alloc, text) {
+        Ok(reply) => Ok(reply),
+        Err(Stop::Replied(reply)) => Ok(reply),
+        Err(Stop::NoMemory) => Err(NoMemory),
+    }
+}
+
+/// What `outline` answers to the bytes of a text and of notes, whoever wrote them. Where the text asks a question, the
+/// status is 0 exactly where its goal is a triple of a program, all hypotheses are simple, and the bytes are the text of
+/// notes that follow one from the other at the places of the program; then both sides denote one relation in every finite
+/// table that keeps the hypotheses, and the goal of a concrete file holds of all its stores. It is 3 exactly where the
+/// goal is one, all hypotheses are, and the bytes are the text of notes that do not follow, with the line of the first
+/// reason; and 2 exactly where the goal is no triple of a program, a hypothesis is not simple, or the bytes are the text
+/// of no notes, with the line that says so. It fails only when out of memory.
+pub fn notes_reply(alloc: Global, text: &[u8], notes: &[u8]) -> Result<Reply, NoMemory>
+    ensures headline { (q : ProblemParts) (asks : Asks text.now q)
+        → IfOk result (λ r. NotesHeadline notes.now asks.file q r.status r.output.items) }
+    ensures stores { (f : FileParts) → Reads text.now f → IsConcrete f → IfOk result (λ r. r.status ≡ 0 → Agrees f) }
+    ensures replies { IfOk result (λ r. ChecksNoteTexts text.now notes.now r.status r.output.items) }
+{
+    match outline_check::texts_reply(alloc, text, notes) {
         Ok(reply) => Ok(reply),
         Err(Stop::Replied(reply)) => Ok(reply),
         Err(Stop::NoMemory) => Err(NoMemory),

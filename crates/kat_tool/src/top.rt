@@ -9,6 +9,8 @@ ghost use Rattle.kat_tool.specs.Gkat.{Translates};
 ghost use Rattle.kat_tool.specs.Batch.{Batches};
 ghost use Rattle.kat_tool.specs.Check.{Checks};
 ghost use Rattle.kat_tool.specs.Replay.{Replays};
+ghost use Rattle.kat_tool.specs.Outline.{Outlines};
+ghost use Rattle.kat_tool.specs.OutlineCheck.{ChecksNoteFiles};
 ghost use Rattle.kat_tool.specs.Chain.{Proves};
 ghost use Rattle.kat_tool.specs.Running.{Runs};
 ghost use Rattle.kat_tool.specs.OneLoop.{Forms};
@@ -23,11 +25,12 @@ use crate::getting::{file_bytes, file_text};
 use crate::posing::problem_in;
 use crate::reply::{Reply, Stop, line};
 use crate::text::{
-    batch_reply, decided_text, one_loop_reply, optimised_reply, reported_text, run_reply,
-    show_reply, translated_text,
+    batch_reply, decided_text, one_loop_reply, optimised_reply, outline_reply, reported_text,
+    run_reply, show_reply, translated_text,
 };
+use crate::triple::triple_in;
 use crate::words::{Command, Words};
-use crate::{chain, check, replay};
+use crate::{chain, check, outline_check, replay};
 use kat_io::{Shelf, Sink, send};
 use kat_model::{MAX_TEXT_BYTES, NoMemory};
 use std::alloc::Global;
@@ -77,6 +80,15 @@ fn batch_file<S: Shelf>(alloc: Global, file: &str, shelf: &mut S) -> Result<Repl
     Ok(batch_reply(alloc, &text)?)
 }
 
+fn outline_file<S: Shelf>(alloc: Global, file: &str, shelf: &mut S) -> Result<Reply, Stop>
+    ensures replied { IsReplied (Outlines (shelf_use (S.content shelf.old) (S.faults shelf.old) (S.faults shelf.new) (S.last_failed shelf.new)) file.now) result }
+    ensures counts { Counts (S.faults shelf.old) (S.faults shelf.new) result }
+    ensures kept { (name : List ℕ) → S.content shelf.new name ≡ S.content shelf.old name }
+{
+    let text = file_text(alloc, file, shelf)?;
+    Ok(outline_reply(alloc, &text)?)
+}
+
 // The evidence is got only after the text was read, so that a text that is refused needs none.
 fn check_files<S: Shelf>(
     alloc: Global,
@@ -108,6 +120,23 @@ fn replay_files<S: Shelf>(
     let problem = problem_in(alloc, &text)?;
     let bytes = file_bytes(alloc, evidence, shelf, None, b"")?;
     replay::bytes_reply(alloc, &problem, &bytes)
+}
+
+// The notes are got as evidence is.
+fn notes_files<S: Shelf>(
+    alloc: Global,
+    file: &str,
+    notes: &str,
+    shelf: &mut S,
+) -> Result<Reply, Stop>
+    ensures replied { IsReplied (ChecksNoteFiles (shelf_use (S.content shelf.old) (S.faults shelf.old) (S.faults shelf.new) (S.last_failed shelf.new)) file.now notes.now) result }
+    ensures counts { Counts (S.faults shelf.old) (S.faults shelf.new) result }
+    ensures kept { (name : List ℕ) → S.content shelf.new name ≡ S.content shelf.old name }
+{
+    let text = file_text(alloc, file, shelf)?;
+    let triple = triple_in(alloc, &text)?;
+    let bytes = file_bytes(alloc, notes, shelf, None, b"")?;
+    outline_check::bytes_reply(alloc, &triple.problem, &triple.task, &bytes)
 }
 
 // The proof is got as evidence is, within a limit.
@@ -190,6 +219,8 @@ fn command_reply<S: Shelf>(
         Command::Batch(file) => batch_file(alloc, file, shelf),
         Command::Check(file, evidence) => check_files(alloc, file, evidence, shelf),
         Command::Replay(file, evidence) => replay_files(alloc, file, evidence, shelf),
+        Command::Outline(file) => outline_file(alloc, file, shelf),
+        Command::CheckNotes(file, notes) => notes_files(alloc, file, notes, shelf),
         Command::Chain(file, proof) => chain_files(alloc, file, proof, shelf),
         Command::Run {
             file,
@@ -233,8 +264,15 @@ fn answer<S: Shelf>(alloc: Global, words: &Words, shelf: &mut S) -> Result<Reply
 /// in every table that keeps the hypotheses; 2 where FILE or PROOF is refused; and 3 where the proof starts or ends at
 /// another term than the goal's sides or has a line that does not hold, with the first reason.
 ///
-/// Where FILE is concrete, of variables and programs alone, `decide`, `check` and `chain` end with 0 only where its goal
-/// holds of all its stores: both programs end in the same stores from each, or the triple holds of every run that ends.
+/// `outline` FILE proves FILE's goal, a triple of a program, by notes at the places of the program (Hoare 1969), where
+/// all hypotheses are simple: 0 where the triple holds, and notes that follow one from the other are printed; 1 where it
+/// does not, with a string as by `decide`; and 2 where FILE is refused, its goal is no triple of a program, or a
+/// hypothesis is not simple. `outline` FILE NOTES checks notes, whoever wrote them: 0 where they follow, and then the
+/// triple holds; 2 as above or where NOTES is refused; and 3 where they do not follow, with the first reason.
+///
+/// Where FILE is concrete, of variables and programs alone, `decide`, `check`, `chain` and `outline` end with 0 only
+/// where its goal holds of all its stores: both programs end in the same stores from each, or the triple holds of every
+/// run that ends.
 ///
 /// `decide` FILE `--json` answers the same as `decide` FILE, with a line of JSON that holds the text of the evidence in its
 /// place.
@@ -267,15 +305,19 @@ fn answer<S: Shelf>(alloc: Global, words: &Words, shelf: &mut S) -> Result<Reply
 /// | 6 | memory was wanted and could not be had; nothing was sent |
 /// | 7 | the words have no command, or PROG or STORE does not fit FILE |
 ///
-/// All this is one statement, `IsRun`, on the words, on what was seen of the shelf and of the sink, and on the status. Its
-/// field `answered` gives for each status but 5 and 6 the bytes that were sent, and what they say: `decides.headline` is
-/// the statement on `decide`, over the text that the shelf tells, in the words of `decided_text`; `checks.headline` and
-/// `replays.headline` are those of `checked_texts` and `replayed_texts`, `proves.headline` is that of `proved_texts`,
-/// `runs.headline` that of `run_reply`, `forms.headline` that of `one_loop_reply`, `optimises.headline` that of
-/// `optimised_reply`, `batches.headline` that of `batch_reply`, `shows.headline` that of `show_reply`, and `reports.headline`
-/// that of `reported_text`; `decides.same_stores`, `reports.same_stores`, `checks.same_stores` and `proves.same_stores` are the statements on stores. The further fields of
-/// `decides`, `reports`, `batches`, `checks`, `replays`, `proves`, `runs`, `forms`, `optimises` and `shows` give the cause of each status
-/// where the shelf tells nothing; `benches` is the statement on `bench`. `unsent` is status 5, `no_memory` 6.
+/// All this is one statement, `IsRun`, on the words, on what was seen of the shelf and of the sink, and on the status.
+/// Its field `answered` gives for each status but 5 and 6 the bytes that were sent, and what they say: `decides.headline`
+/// is the statement on `decide`, over the text that the shelf tells, in the words of `decided_text`; `checks.headline`
+/// and `replays.headline` are those of `checked_texts` and `replayed_texts`, `proves.headline` is that of `proved_texts`,
+/// `outlines.headline` and `checks_notes.headline` are those of `outline_reply` and `notes_reply`, `runs.headline` that
+/// of `run_reply`, `forms.headline` that of `one_loop_reply`, `optimises.headline` that of `optimised_reply`,
+/// `batches.headline` that of `batch_reply`, `shows.headline` that of `show_reply`, and `reports.headline` that of
+/// `reported_text`; `decides.same_stores`, `reports.same_stores`, `checks.same_stores`, `outlines.same_stores`,
+/// `checks_notes.same_stores` and `proves.same_stores` are the statements on stores. `agrees` says that `check` accepts
+/// what `decide` printed, and `notes_follow` that `outline` accepts what `outline` printed. The further fields of
+/// `decides`, `reports`, `batches`, `checks`, `replays`, `outlines`, `checks_notes`, `proves`, `runs`, `forms`,
+/// `optimises` and `shows` give the cause of each status where the shelf tells nothing; `benches` is the statement on
+/// `bench`. `unsent` is status 5, `no_memory` 6.
 pub fn run<S: Shelf, K: Sink>(alloc: Global, words: &Words, shelf: &mut S, sink: &mut K) -> u8
     ensures is_run { IsRun (record {
       words = words.now;

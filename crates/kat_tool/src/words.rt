@@ -40,6 +40,10 @@ pub(crate) enum Command<'a> {
     Check(&'a str, &'a str),
     /// `replay` FILE EVIDENCE
     Replay(&'a str, &'a str),
+    /// `outline` FILE
+    Outline(&'a str),
+    /// `outline` FILE NOTES
+    CheckNotes(&'a str, &'a str),
     /// `chain` FILE PROOF
     Chain(&'a str, &'a str),
     /// `run` FILE PROG STORE TURNS
@@ -148,6 +152,7 @@ fn with_file<'a>(name: &str, file: &'a str) -> Option<Command<'a>>
         "show" => Some(Command::Show(file)),
         "gkat" => Some(Command::Gkat(file)),
         "batch" => Some(Command::Batch(file)),
+        "outline" => Some(Command::Outline(file)),
         "bench" => match count_of(file) {
             Some(count) => Some(Command::Bench(count)),
             None => None,
@@ -178,7 +183,7 @@ fn with_option<'a>(name: &str, file: &'a str, option: &str) -> Option<Command<'a
     }
 }
 
-// The commands of a file and its evidence, a proof or a program.
+// The commands of a file and its evidence, a proof, notes or a program.
 #[tactic(auto, unfolding(crate::specs::Commands::with_value))]
 fn with_value<'a>(name: &str, file: &'a str, value: &'a str) -> Option<Command<'a>>
     ensures { option_map command_seen result ≡ with_value name.now file.now value.now }
@@ -187,6 +192,7 @@ fn with_value<'a>(name: &str, file: &'a str, value: &'a str) -> Option<Command<'
         "check" => Some(Command::Check(file, value)),
         "replay" => Some(Command::Replay(file, value)),
         "chain" => Some(Command::Chain(file, value)),
+        "outline" => Some(Command::CheckNotes(file, value)),
         "oneloop" => Some(Command::OneLoop(file, value)),
         "optimise" => Some(Command::Optimise {
             file,

@@ -24,6 +24,8 @@ mod one_loop_forms;
 #[cfg(test)]
 mod optimising;
 #[cfg(test)]
+mod outlines;
+#[cfg(test)]
 mod programs;
 #[cfg(test)]
 mod refusals;

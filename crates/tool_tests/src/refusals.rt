@@ -29,7 +29,15 @@ const TEXTS: &[(&str, &str)] = &[
 // The problem is refused before its evidence.
 #[test]
 fn texts_are_refused(rt: HostRuntime) -> Result<(), Fail> {
-    for line in ["decide f", "check f e", "replay f e", "chain f e", "show f"] {
+    for line in [
+        "decide f",
+        "check f e",
+        "replay f e",
+        "chain f e",
+        "outline f",
+        "outline f e",
+        "show f",
+    ] {
         for (text, want) in TEXTS {
             let is_refused = replies(rt.alloc(), line, text.as_bytes(), b"", want)?;
             assert!(rt; is_refused, "{line} on {text}");
@@ -159,6 +167,11 @@ const WORDS: &[&str] = &[
     "batch f g",
     "batch f --json",
     "show f g",
+    "outline",
+    "outline -f",
+    "outline f -e",
+    "outline f --json",
+    "outline f e e",
     "Show f",
     "run f P zero",
     "run f P zero ",

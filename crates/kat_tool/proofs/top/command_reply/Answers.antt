@@ -17,3 +17,6 @@ returns-in-Chain-clause-replied g c = rw c.in-Chain.is c.chain_files.ensures.rep
 
 pub returns-in-Optimise-clause-replied : goal.returns-in-Optimise-clause-replied
 returns-in-Optimise-clause-replied g c = rw c.in-Optimise.is c.optimise_file.ensures.replied
+
+pub returns-in-CheckNotes-clause-replied : goal.returns-in-CheckNotes-clause-replied
+returns-in-CheckNotes-clause-replied g c = rw c.in-CheckNotes.is c.notes_files.ensures.replied
