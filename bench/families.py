@@ -335,7 +335,7 @@ def measure_triple(program, name, size, folder, runs):
         sys.exit(f"{name} {size}: the notes have status {judged}, decide ends with {decided}, check with {checked}")
     lines = notes.read_bytes().split(b"\n")
     what = f"{sum(it.startswith(b'D ') for it in lines):,} nodes, {sum(it.startswith(b'C ') for it in lines):,} notes"
-    return [name, size, what, f"{found:.3f}", f"{again:.3f}", f"{much:.1f}" if much else "-", f"{room:.1f}" if room else "-",
+    return [name, size, what, f"{found:.3f}", f"{again:.3f}", told(much), told(room),
             f"{notes.stat().st_size:,}", f"{first:.3f}", f"{second:.3f}"]
 
 
