@@ -219,7 +219,7 @@ def loops(n):
 
 def restored(n):
     """n loops in one another, each of which begins with an action that restores a test, and in the innermost an action
-    that may lose it: each loop is gone through twice in each turn of the one around it."""
+    that may lose it: each loop has a second turn, in which those within it are gone through again."""
     loop = "p; "
     for _ in range(n):
         loop = f"while b {{ r; {loop}}} "

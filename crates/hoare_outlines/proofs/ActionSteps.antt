@@ -39,63 +39,68 @@ image_set old new relation image tests is =
         let s = is.source x y (lx ∙ tests) (ly ∙ tests) h in
         is.reached s.0 x z s.1 (lx ∙ tests) (lz ∙ tests) s.2
 
--- the steps from the set to allowed atoms that no hypothesis rules out
+-- the steps from the set that no hypothesis rules out
 abbrev pub step_set : ProblemParts → ℕ → AtomSet → Atom → Atom → Bool
-step_set q a X x y = X x && (not (some_rules_out q.hyps a x y) && allows q.hyps y)
+step_set q a X x y = X x && not (some_rules_out q.hyps a x y)
 
-pub steps_value : (q : ProblemParts) (a : ℕ) (X : AtomSet) (d0 d1 d2 d3 d4 : StepDiagramsParts) (allowed set ruled free ends steps : ℕ) → KeepsSteps d0 d1 → KeepsSteps d1 d2 → KeepsSteps d2 d3 → KeepsSteps d3 d4
-    → IsStepDiagram d0 allowed (λ x y. allows q.hyps y) → IsSetId d0 set X → IsStepDiagram d1 ruled (some_rules_out q.hyps a) → IsStepDiagram d2 free (λ x y. not (step_value d1 ruled x y))
-    → IsStepDiagram d3 ends (λ x y. step_value d2 free x y && step_value d2 allowed x y) → IsStepDiagram d4 steps (λ x y. step_value d3 set x y && step_value d3 ends x y) → IsStepDiagram d4 steps (step_set q a X)
-steps_value q a X d0 d1 d2 d3 d4 allowed set ruled free ends steps k1 k2 k3 k4 is_allowed is_set is_ruled is_free is_ends is_steps =
+pub steps_value : (q : ProblemParts) (a : ℕ) (X : AtomSet) (d0 d1 d2 d3 : StepDiagramsParts) (set ruled free steps : ℕ) → KeepsSteps d0 d1 → KeepsSteps d1 d2 → KeepsSteps d2 d3
+    → IsSetId d0 set X → IsStepDiagram d1 ruled (some_rules_out q.hyps a) → IsStepDiagram d2 free (λ x y. not (step_value d1 ruled x y))
+    → IsStepDiagram d3 steps (λ x y. step_value d2 set x y && step_value d2 free x y) → IsStepDiagram d3 steps (step_set q a X)
+steps_value q a X d0 d1 d2 d3 set ruled free steps k1 k2 k3 is_set is_ruled is_free is_steps =
     record {
       in_range = is_steps.in_range;
       value = λ x y lx ly.
-          let lx3 = lx ∙ k4.tests in
-          let ly3 = ly ∙ k4.tests in
-          let lx2 = lx3 ∙ k3.tests in
-          let ly2 = ly3 ∙ k3.tests in
-          let own = IsStepDiagram-kept d0 d3 (KeepsSteps-trans d0 d1 d3 k1 (KeepsSteps-trans d1 d2 d3 k2 k3)) set (λ v w. X v) is_set in
-          let after = IsStepDiagram-kept d0 d2 (KeepsSteps-trans d0 d1 d2 k1 k2) allowed (λ v w. allows q.hyps w) is_allowed in
+          let lx2 = lx ∙ k3.tests in
+          let ly2 = ly ∙ k3.tests in
+          let own = IsStepDiagram-kept d0 d2 (KeepsSteps-trans d0 d1 d2 k1 k2) set (λ v w. X v) is_set in
           is_steps.value x y lx ly
-          ∙ ap₂ (λ p r. p && r) (own.value x y lx3 ly3)
-          (is_ends.value x y lx3 ly3 ∙ ap₂ (λ p r. p && r) (is_free.value x y lx2 ly2 ∙ ap not (is_ruled.value x y (lx2 ∙ k2.tests) (ly2 ∙ k2.tests))) (after.value x y lx2 ly2));
+          ∙ ap₂ (λ p r. p && r) (own.value x y lx2 ly2) (is_free.value x y lx2 ly2 ∙ ap not (is_ruled.value x y (lx2 ∙ k2.tests) (ly2 ∙ k2.tests)));
     }
 
-pub action_found : (q : ProblemParts) (a : ℕ) (X : AtomSet) (old new : StepDiagramsParts) (steps last : ℕ) → AreSimple q.hyps → old.tests ≡ q.tests → new.tests ≡ old.tests → a < q.actions → IsAllowedSet q X
-    → IsStepDiagram old steps (step_set q a X) → IsImage old steps new last → StmtFound q (act_stmt a) new X [] last
-action_found q a X old new steps last simple tests same lt allowed is_steps is_image =
+-- the allowed atoms of an image
+abbrev pub end_set : ProblemParts → StepDiagramsParts → ℕ → AtomSet
+end_set q d ends = λ atom. set_of d ends atom && allows q.hyps atom
+
+pub ends_value : (q : ProblemParts) (d0 mid new : StepDiagramsParts) (allowed ends last : ℕ) → KeepsSteps d0 mid → KeepsSteps mid new → IsSetId d0 allowed (allows q.hyps) → IsSetId mid ends (set_of mid ends)
+    → IsStepDiagram new last (λ x y. step_value mid ends x y && step_value mid allowed x y) → IsSetId new last (end_set q mid ends)
+ends_value q d0 mid new allowed ends last k1 k2 is_allowed is_ends is_last =
+    record {
+      in_range = is_last.in_range;
+      value = λ x y lx ly.
+          let own = IsStepDiagram-kept d0 mid k1 allowed (λ v w. allows q.hyps v) is_allowed in
+          is_last.value x y lx ly ∙ ap₂ (λ p r. p && r) (is_ends.value x y (lx ∙ k2.tests) (ly ∙ k2.tests)) (own.value x y (lx ∙ k2.tests) (ly ∙ k2.tests));
+    }
+
+pub action_found : (q : ProblemParts) (a : ℕ) (X : AtomSet) (old mid new : StepDiagramsParts) (steps ends last : ℕ) → AreSimple q.hyps → old.tests ≡ q.tests → a < q.actions → IsAllowedSet q X
+    → IsStepDiagram old steps (step_set q a X) → IsImage old steps mid ends → IsSetId new last (end_set q mid ends) → StmtFound q (act_stmt a) new X [] last
+action_found q a X old mid new steps ends last simple tests lt allowed is_steps is_image is_last =
     record {
       sets = [];
       are_sets = tt;
-      end = set_of new last;
-      is_end = image_set old new steps last same is_image;
-      allowed = λ atom wide h. allows_told q.hyps atom (and_parts (not (some_rules_out q.hyps a (from atom wide h).0 atom)) (allows q.hyps atom) (and_parts (X (from atom wide h).0) _ (from atom wide h).2).1).1;
+      end = end_set q mid ends;
+      is_end = is_last;
+      allowed = λ atom wide h. allows_told q.hyps atom (and_parts (set_of mid ends atom) (allows q.hyps atom) h).1;
       annotated = (refl, leads);
       reached = reached;
     }
   where
-    from : (to : Atom) → length to ≡ q.tests → set_of new last to ≡ true → (x : Atom) × (length x ≡ q.tests) × (step_set q a X x to ≡ true)
-    from to wide h =
-        let own = wide ∙ sym tests in
-        let s = is_image.source to to own own h in
-        (s.0, s.1 ∙ tests, sym (is_steps.value s.0 to s.1 own) ∙ s.2)
-
-    leads : LeadsInto q X a (set_of new last)
+    leads : LeadsInto q X a (end_set q mid ends)
     leads x y lx ly ax ay h miss = by_value (some_rules_out q.hyps a x y) refl
       where
         by_value : (b : Bool) → some_rules_out q.hyps a x y ≡ b → IsRuledOut q.hyps a x y
         by_value true e = ruled_out_told q.hyps a x y simple e
         by_value false e =
-            let step : step_set q a X x y ≡ true = and_from (X x) _ h (and_from (not (some_rules_out q.hyps a x y)) (allows q.hyps y) (ap not e) (allowed_allows q.hyps y ay)) in
-            let there : set_of new last y ≡ true = is_image.reached x y y (lx ∙ sym tests) (ly ∙ sym tests) (ly ∙ sym tests) (is_steps.value x y (lx ∙ sym tests) (ly ∙ sym tests) ∙ step) in
+            let step : step_set q a X x y ≡ true = and_from (X x) (not (some_rules_out q.hyps a x y)) h (ap not e) in
+            let there : set_of mid ends y ≡ true = is_image.reached x y y (lx ∙ sym tests) (ly ∙ sym tests) (ly ∙ sym tests) (is_steps.value x y (lx ∙ sym tests) (ly ∙ sym tests) ∙ step) in
+            let inside : end_set q mid ends y ≡ true = and_from (set_of mid ends y) (allows q.hyps y) there (allowed_allows q.hyps y ay) in
             cc
 
-    reached : Reached q (act a) X (set_of new last)
+    reached : Reached q (act a) X (end_set q mid ends)
     reached to wide h =
-        let s = from to wide h in
-        let both = and_parts (X s.0) (not (some_rules_out q.hyps a s.0 to) && allows q.hyps to) s.2 in
-        let free = and_parts (not (some_rules_out q.hyps a s.0 to)) (allows q.hyps to) both.1 in
-        (s.0, (s.1, allowed s.0 s.1 both.0), both.0, (lt, never s.0 to free.0))
+        let own = wide ∙ sym tests in
+        let s = is_image.source to to own own (and_parts (set_of mid ends to) (allows q.hyps to) h).0 in
+        let both = and_parts (X s.0) (not (some_rules_out q.hyps a s.0 to)) (sym (is_steps.value s.0 to s.1 own) ∙ s.2) in
+        (s.0, (s.1 ∙ tests, allowed s.0 (s.1 ∙ tests) both.0), both.0, (lt, never s.0 to both.1))
       where
         never : (x y : Atom) → not (some_rules_out q.hyps a x y) ≡ true → IsRuledOut q.hyps a x y → ⊥
         never x y e r =

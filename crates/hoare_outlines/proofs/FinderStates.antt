@@ -1,23 +1,25 @@
 -- The state of the finder as diagrams are added.
 use Rattle.std.proofs.Common.{◌≡◌, sym, ◌∙◌, subst}
 use Rattle.kat_model.specs.Problems.{ProblemParts}
-use Rattle.step_diagrams.specs.StepFunctions.{AreStepDiagrams, IsStepDiagram, KeepsSteps}
-use Rattle.step_diagrams.proofs.StepSets.{KeepsSteps-itself, IsStepDiagram-kept}
+use Rattle.step_diagrams.specs.StepFunctions.{AreStepDiagrams, KeepsSteps}
+use Rattle.step_diagrams.proofs.StepSets.{KeepsSteps-itself}
 use Rattle.simple_hyps.specs.HypothesisForms.{allows}
 use Rattle.hoare_outlines.specs.declared.finding.Finder.{Finder}
+use Rattle.hoare_outlines.specs.Working.AtomSets.{IsSetId}
 use Rattle.hoare_outlines.specs.Working.Found.{IsFinder}
+use Rattle.hoare_outlines.proofs.SetIds.{set_kept}
 
-pub finder_kept : (q : ProblemParts) (old new : Finder) → new.allowed_after ≡ old.allowed_after → KeepsSteps old.diagrams new.diagrams → AreStepDiagrams new.diagrams → IsFinder q old → IsFinder q new
+pub finder_kept : (q : ProblemParts) (old new : Finder) → new.allowed ≡ old.allowed → KeepsSteps old.diagrams new.diagrams → AreStepDiagrams new.diagrams → IsFinder q old → IsFinder q new
 finder_kept q old new same kept sound is =
     record {
       sound = sound;
       tests = kept.tests ∙ is.tests;
-      allowed = subst (λ id. IsStepDiagram new.diagrams id (λ x y. allows q.hyps y)) (sym same) (IsStepDiagram-kept old.diagrams new.diagrams kept old.allowed_after (λ x y. allows q.hyps y) is.allowed);
+      allowed = subst (λ id. IsSetId new.diagrams id (allows q.hyps)) (sym same) (set_kept old.diagrams new.diagrams kept old.allowed (allows q.hyps) is.allowed);
     }
 
 -- and as notes are added
 pub noted_kept : (old new : Finder) → new.diagrams ≡ old.diagrams → KeepsSteps old.diagrams new.diagrams
 noted_kept old new same = subst (λ d. KeepsSteps old.diagrams d) (sym same) (KeepsSteps-itself old.diagrams)
 
-pub finder_noted : (q : ProblemParts) (old new : Finder) → new.diagrams ≡ old.diagrams → new.allowed_after ≡ old.allowed_after → IsFinder q old → IsFinder q new
+pub finder_noted : (q : ProblemParts) (old new : Finder) → new.diagrams ≡ old.diagrams → new.allowed ≡ old.allowed → IsFinder q old → IsFinder q new
 finder_noted q old new same allowed is = finder_kept q old new allowed (noted_kept old new same) (subst AreStepDiagrams (sym same) is.sound) is

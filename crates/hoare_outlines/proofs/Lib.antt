@@ -16,3 +16,5 @@ pub mod FlowRanges
 pub mod FinderStates
 pub mod LoopTurns
 pub mod Writers
+pub mod LoopPlaces
+pub mod KeptLoops

@@ -1,17 +1,19 @@
 -- What is found of a loop: the sets that its invariant grows through, until its body keeps it.
 use Rattle.std.proofs.Common.{◌≡◌, ℕ, zero, suc, ◌+◌, ◌<◌, ◌≤◌, ◌⊎◌, ⊎_elim, List, [], ◌∷◌, length, Bool, true, false, not, cond, if◌then◌else◌, ◌&&◌, ◌||◌, refl, sym, ap, ◌∙◌, arith}
-use Rattle.std.proofs.lemmas.Bool.{and_from, or_left, or_right}
-use Rattle.kat_model.specs.Trees.{TestTree, product, test, star}
+use Rattle.std.proofs.lemmas.Bool.{and_from, or_cases, or_left, or_right}
+use Rattle.kat_model.specs.Trees.{TestTree, Term}
 use Rattle.kat_model.specs.Problems.{ProblemParts}
 use Rattle.kat_model.specs.Steps.{Atom, truth}
 use Rattle.while_lang.specs.Flows.{FlowTree, loop}
 use Rattle.while_lang.specs.Encoding.{encoded}
-use Rattle.step_diagrams.specs.StepFunctions.{StepDiagramsParts, step_value, IsStepId, KeepsSteps, Entails}
+use Rattle.step_diagrams.specs.StepFunctions.{StepDiagramsParts, step_value, IsStepId, IsStepDiagram, KeepsSteps, Entails}
 use Rattle.step_diagrams.proofs.StepSets.{step_value-kept}
+use Rattle.hoare_outlines.specs.declared.finding.FoundLoop.{FoundLoop}
 use Rattle.hoare_outlines.specs.Working.AtomSets.{AtomSet, IsSetId, IsAllowedSet}
-use Rattle.hoare_outlines.specs.Working.Reached.{Reached}
 use Rattle.hoare_outlines.specs.Working.Found.{StmtFound, FlowFound}
+use Rattle.hoare_outlines.specs.Working.FoundLoops.{turn_term, IsGrown, GrowsFrom, IsFoundLoop}
 use Rattle.hoare_outlines.proofs.SetIds.{set_kept}
+use Rattle.hoare_outlines.proofs.SetParts.{union_set}
 use Rattle.hoare_outlines.proofs.Findings.{part_allowed, union_allowed}
 use Rattle.hoare_outlines.proofs.Reaching.{reached_before, reached_under, reached_again, reached_loop}
 
@@ -91,26 +93,55 @@ fewer_left old new invariant again grown I A kept is_invariant is_again more is_
 
 -- ---- the invariant
 
+module _ (q : ProblemParts) (turn : Term) where
+  grown_first : (X : AtomSet) → IsAllowedSet q X → IsGrown q turn X X
+  grown_first X allowed = record { holds = λ atom h. h; allowed = allowed; reached = reached_before q turn X allowed }
+
+  -- what is grown from less, with the entry
+  grown_from_less : (Y J X : AtomSet) → ((atom : Atom) → length atom ≡ q.tests → Y atom ≡ true → X atom ≡ true) → IsAllowedSet q X → IsGrown q turn Y J → IsGrown q turn X (λ atom. J atom || X atom)
+  grown_from_less Y J X within allowed grown =
+      record {
+        holds = λ atom h. or_right (J atom) (X atom) h;
+        allowed = union_allowed q J X grown.allowed allowed;
+        reached = λ to wide h.
+            ⊎_elim
+            (λ j. let r = grown.reached to wide j in (r.0, r.1, within r.0 r.1.0 r.2, r.3))
+            (reached_before q turn X allowed to wide)
+            (or_cases (J to) (X to) h);
+      }
+
+  -- a loop may begin with its entry
+  pub starts_itself : (d : StepDiagramsParts) (set : ℕ) → GrowsFrom q turn d set d set
+  starts_itself d set X is allowed = (X, is, grown_first X allowed)
+
+  pub starts_kept : (old new : StepDiagramsParts) (set : ℕ) → KeepsSteps old new → GrowsFrom q turn old set new set
+  starts_kept old new set kept X is allowed = (X, set_kept old new kept set X is, grown_first X allowed)
+
+  -- and with what was found from less, and its entry
+  pub starts_found : (old mid new : StepDiagramsParts) (found : FoundLoop) (set start : ℕ) → KeepsSteps old mid → KeepsSteps mid new → old.tests ≡ q.tests → Entails old found.entry set
+      → IsStepDiagram new start (λ x y. step_value mid found.invariant x y || step_value mid set x y) → IsFoundLoop q old turn found → GrowsFrom q turn old set new start
+  starts_found old mid new found set start k1 k2 tests entails is_start earlier X is allowed = (
+    (λ atom. earlier.invariant atom || X atom),
+    union_set mid new found.invariant set start earlier.invariant X k2 (set_kept old mid k1 found.invariant earlier.invariant earlier.is_invariant) (set_kept old mid k1 set X is) is_start,
+    grown_from_less earlier.entry earlier.invariant X within allowed earlier.grown,
+  )
+    where
+      within : (atom : Atom) → length atom ≡ q.tests → earlier.entry atom ≡ true → X atom ≡ true
+      within atom wide h =
+          let own = wide ∙ sym tests in
+          sym (is.value atom atom own own) ∙ entails atom atom own own (earlier.is_entry.value atom atom own own ∙ h)
+
 module _ (q : ProblemParts) (b : TestTree) (f : FlowTree) where
-  -- the set so far holds the entry, and is reached from it along turns of the loop
-  pub record IsGrown (X I : AtomSet) : Type 0 where
-    pub holds : (atom : Atom) → X atom ≡ true → I atom ≡ true
-    pub allowed : IsAllowedSet q I
-    pub reached : Reached q (star (product (test b) (encoded f))) X I
-
-  pub grown_first : (X : AtomSet) → IsAllowedSet q X → IsGrown X X
-  grown_first X allowed = record { holds = λ atom h. h; allowed = allowed; reached = reached_before q (product (test b) (encoded f)) X allowed }
-
-  pub grown_more : (d : StepDiagramsParts) (X I : AtomSet) (ids : List ℕ) (again : ℕ) → IsGrown X I → (found : FlowFound q f d (λ atom. I atom && truth b atom) ids again) → IsGrown X (λ atom. I atom || found.end atom)
+  pub grown_more : (d : StepDiagramsParts) (X I : AtomSet) (ids : List ℕ) (again : ℕ) → IsGrown q (turn_term b f) X I → (found : FlowFound q f d (λ atom. I atom && truth b atom) ids again) → IsGrown q (turn_term b f) X (λ atom. I atom || found.end atom)
   grown_more d X I ids again grown found =
       record {
         holds = λ atom h. or_left (I atom) (found.end atom) (grown.holds atom h);
         allowed = union_allowed q I found.end grown.allowed found.allowed;
-        reached = reached_again q (product (test b) (encoded f)) X I found.end found.allowed grown.reached (reached_under q b f I found.end found.allowed found.reached);
+        reached = reached_again q (turn_term b f) X I found.end found.allowed grown.reached (reached_under q b f I found.end found.allowed found.reached);
       }
 
   -- where the body leads back into it, the loop is found
-  pub loop_found : (mid d : StepDiagramsParts) (X I : AtomSet) (ids : List ℕ) (invariant enters again leaves : ℕ) → KeepsSteps mid d → d.tests ≡ q.tests → IsGrown X I → IsSetId mid invariant I → IsSetId mid enters (λ atom. I atom && truth b atom)
+  pub loop_found : (mid d : StepDiagramsParts) (X I : AtomSet) (ids : List ℕ) (invariant enters again leaves : ℕ) → KeepsSteps mid d → d.tests ≡ q.tests → IsGrown q (turn_term b f) X I → IsSetId mid invariant I → IsSetId mid enters (λ atom. I atom && truth b atom)
       → IsSetId mid leaves (λ atom. I atom && not (truth b atom)) → FlowFound q f d (λ atom. I atom && truth b atom) ids again → Entails d again invariant → StmtFound q (loop b f) d X (invariant ∷ enters ∷ ids) leaves
   loop_found mid d X I ids invariant enters again leaves kept tests grown is_invariant is_enters is_leaves found entails =
       record {

@@ -7,13 +7,13 @@ use Rattle.while_lang.specs.Flows.{FlowTree, FlowStmt}
 use Rattle.step_diagrams.specs.StepFunctions.{StepDiagramsParts, step_value, IsStepDiagram, KeepsSteps, Entails}
 use Rattle.step_diagrams.proofs.StepSets.{KeepsSteps-trans}
 use Rattle.hoare_outlines.specs.declared.finding.Finder.{Finder}
-use Rattle.hoare_outlines.specs.Working.AtomSets.{AtomSet, IsSetId, IsAllowedSet}
 use Rattle.hoare_outlines.specs.Working.Found.{StmtFound, HasAllowedSet, FindsStmt, FindsFlow}
+use Rattle.hoare_outlines.specs.Working.FoundLoops.{turn_term, GrowsFrom}
 use Rattle.hoare_outlines.proofs.SetIds.{set_kept, sets_kept}
 use Rattle.hoare_outlines.proofs.SetParts.{union_set}
 use Rattle.hoare_outlines.proofs.Findings.{part_allowed}
 use Rattle.hoare_outlines.proofs.StmtFinds.{SplitsHolds}
-use Rattle.hoare_outlines.proofs.LoopSteps.{IsGrown, grown_more, outside_id, outside_kept, fewer_left}
+use Rattle.hoare_outlines.proofs.LoopSteps.{grown_more, outside_id, outside_kept, fewer_left}
 
 -- what a list was before more stood behind it
 cut_back : (xs more ys cut : List ℕ) (n : ℕ) → n ≡ length xs → ys ≡ xs ++ more → cut ≡ take n ys → cut ≡ xs
@@ -45,11 +45,11 @@ finds_later q s old new later set last kept same finds X is allowed =
       },
     )
 
-module _ (q : ProblemParts) (b : TestTree) (f : FlowTree) (entry n2 n3 : Finder) (mid d4 d5 : StepDiagramsParts) (set invariant enters again next : ℕ) (grown : (X : AtomSet) → IsSetId entry.diagrams set X → IsAllowedSet q X → (I : AtomSet) × IsSetId mid invariant I × IsGrown q b f X I)
+module _ (q : ProblemParts) (b : TestTree) (f : FlowTree) (entry n2 n3 : Finder) (mid d4 d5 : StepDiagramsParts) (set invariant enters again next : ℕ) (grown : GrowsFrom q (turn_term b f) entry.diagrams set mid invariant)
     (is_enters : SplitsHolds mid invariant b n2.diagrams enters) (k2 : KeepsSteps mid n2.diagrams) (k3 : KeepsSteps n2.diagrams n3.diagrams) (k4 : KeepsSteps n3.diagrams d4) (k5 : KeepsSteps d4 d5) (finds : FindsFlow q f n2 enters n3 again)
     (is_next : IsStepDiagram d5 next (λ x y. step_value d4 invariant x y || step_value d4 again x y)) where
   -- the invariant with the atoms that its body leads to
-  pub loop_grown : (X : AtomSet) → IsSetId entry.diagrams set X → IsAllowedSet q X → (I : AtomSet) × IsSetId d5 next I × IsGrown q b f X I
+  pub loop_grown : GrowsFrom q (turn_term b f) entry.diagrams set d5 next
   loop_grown X is allowed =
       let g = grown X is allowed in
       let found = finds (λ atom. g.0 atom && truth b atom) (is_enters g.0 g.1) (part_allowed q g.0 (truth b) g.2.allowed) in

@@ -25,6 +25,7 @@ use Rattle.hoare_outlines.specs.Working.AtomSets.{AtomSet, IsSetId, AreSetIds, I
 use Rattle.hoare_outlines.specs.Working.Reached.{atom_frame}
 use Rattle.hoare_outlines.specs.Working.Found.{FlowFound}
 use Rattle.hoare_outlines.specs.Working.Noted.{NotesSets}
+use Rattle.hoare_outlines.proofs.SetIds.{sets_count}
 use Rattle.hoare_outlines.proofs.Annotations.{AreAt, annotated_met}
 use Rattle.hoare_outlines.proofs.AtomFrames.{atoms_fit}
 
@@ -64,13 +65,6 @@ module _ (q : ProblemParts) (t : TaskParts) (triple : IsTripleOf q t) where
 pub entails_kept : (old new : StepDiagramsParts) (a b : ℕ) → KeepsSteps old new → IsStepId old a → IsStepId old b → Entails old a b → Entails new a b
 entails_kept old new a b kept is_a is_b entails x y lx ly h =
     step_value-kept old new kept b is_b x y ∙ entails x y (lx ∙ kept.tests) (ly ∙ kept.tests) (sym (step_value-kept old new kept a is_a x y) ∙ h)
-
--- ids of sets and the sets are as many
-sets_count : (d : StepDiagramsParts) (ids : List ℕ) (Xs : List AtomSet) → AreSetIds d ids Xs → length ids ≡ length Xs
-sets_count d [] [] are = refl
-sets_count d [] (X ∷ Xs) are = absurd are
-sets_count d (id ∷ ids) [] are = absurd are
-sets_count d (id ∷ ids) (X ∷ Xs) are = ap suc (sets_count d ids Xs are.1)
 
 -- what is noted at each place is the value of its id
 sets_noted : (q : ProblemParts) (note : ℕ → AtomSet) (d : StepDiagramsParts) (ids : List ℕ) (Xs : List AtomSet) (n : ℕ) → d.tests ≡ q.tests → AreSetIds d ids Xs

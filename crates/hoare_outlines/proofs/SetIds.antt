@@ -1,5 +1,5 @@
 -- Ids of sets as diagrams are added.
-use Rattle.std.proofs.Common.{ℕ, ⊎_elim, List, [], ◌∷◌, ◌++◌, subst}
+use Rattle.std.proofs.Common.{◌≡◌, ℕ, suc, ⊎_elim, List, [], ◌∷◌, ◌++◌, length, refl, ap, subst}
 use Rattle.step_diagrams.specs.StepFunctions.{StepDiagramsParts, KeepsSteps}
 use Rattle.step_diagrams.proofs.StepSets.{IsStepDiagram-kept}
 use Rattle.hoare_outlines.specs.Working.AtomSets.{AtomSet, IsSetId, AreSetIds}
@@ -20,6 +20,13 @@ sets_append d [] js [] Ys are more = more
 sets_append d [] js (X ∷ Xs) Ys are more = absurd are
 sets_append d (id ∷ ids) js [] Ys are more = absurd are
 sets_append d (id ∷ ids) js (X ∷ Xs) Ys are more = (are.0, sets_append d ids js Xs Ys are.1 more)
+
+-- they are as many as the sets
+pub sets_count : (d : StepDiagramsParts) (ids : List ℕ) (Xs : List AtomSet) → AreSetIds d ids Xs → length ids ≡ length Xs
+sets_count d [] [] are = refl
+sets_count d [] (X ∷ Xs) are = absurd are
+sets_count d (id ∷ ids) [] are = absurd are
+sets_count d (id ∷ ids) (X ∷ Xs) are = ap suc (sets_count d ids Xs are.1)
 
 -- each of the ids is that of a set
 pub each_set : (d : StepDiagramsParts) (ids : List ℕ) (Xs : List AtomSet) → AreSetIds d ids Xs → AreSets d ids

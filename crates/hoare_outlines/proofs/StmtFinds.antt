@@ -7,12 +7,13 @@ use Rattle.while_lang.specs.Flows.{FlowTree, FlowStmt, skip, abort, assert, bran
 use Rattle.step_diagrams.specs.StepFunctions.{StepDiagramsParts, step_value, IsStepDiagram, KeepsSteps, Entails}
 use Rattle.step_diagrams.proofs.StepSets.{KeepsSteps-trans}
 use Rattle.hoare_outlines.specs.declared.finding.Finder.{Finder}
-use Rattle.hoare_outlines.specs.Working.AtomSets.{AtomSet, IsSetId, IsAllowedSet}
+use Rattle.hoare_outlines.specs.Working.AtomSets.{AtomSet, IsSetId}
 use Rattle.hoare_outlines.specs.Working.Found.{HasAllowedSet, FindsStmt, FindsFlow}
+use Rattle.hoare_outlines.specs.Working.FoundLoops.{turn_term, GrowsFrom}
 use Rattle.hoare_outlines.proofs.SetIds.{set_kept}
 use Rattle.hoare_outlines.proofs.SetParts.{union_set}
 use Rattle.hoare_outlines.proofs.Findings.{skip_found, abort_found, assert_found, branch_found, part_allowed}
-use Rattle.hoare_outlines.proofs.LoopSteps.{IsGrown, loop_found}
+use Rattle.hoare_outlines.proofs.LoopSteps.{loop_found}
 
 -- the parts of a set by a test
 abbrev pub SplitsHolds : StepDiagramsParts → ℕ → TestTree → StepDiagramsParts → ℕ → Type 0
@@ -69,7 +70,7 @@ module _ (q : ProblemParts) (old : Finder) (set : ℕ) where
 -- ---- a loop
 
 pub loop_finds : (q : ProblemParts) (b : TestTree) (f : FlowTree) (entry n2 n3 : Finder) (mid : StepDiagramsParts) (set invariant enters leaves again : ℕ) → n3.diagrams.tests ≡ q.tests
-    → ((X : AtomSet) → IsSetId entry.diagrams set X → IsAllowedSet q X → (I : AtomSet) × IsSetId mid invariant I × IsGrown q b f X I) → SplitsHolds mid invariant b n2.diagrams enters → SplitsFails mid invariant b n2.diagrams leaves
+    → GrowsFrom q (turn_term b f) entry.diagrams set mid invariant → SplitsHolds mid invariant b n2.diagrams enters → SplitsFails mid invariant b n2.diagrams leaves
     → KeepsSteps mid n2.diagrams → KeepsSteps n2.diagrams n3.diagrams → n2.notes.items ≡ entry.notes.items ++ invariant ∷ [] → FindsFlow q f n2 enters n3 again → Entails n3.diagrams again invariant
     → FindsStmt q (loop b f) entry set n3 leaves
 loop_finds q b f entry n2 n3 mid set invariant enters leaves again tests grown is_enters is_leaves k2 k3 noted finds entails X is allowed =

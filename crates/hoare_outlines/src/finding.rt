@@ -1,13 +1,15 @@
 //! The finder of outlines: the note at a place is the set of allowed atoms that a run from the pre-condition reaches there
-//! (the strongest annotation), a loop's invariant the least set that holds its entry and that its body keeps.
-ghost use Rattle.std.specs.Prelude.{◌≡◌, ◌<◌, ◌&&◌, not, [], ◌∷◌, ◌++◌, IfOk, OnOk, MatchOption};
-ghost use Rattle.kat_model.specs.Trees.{test_tree};
-ghost use Rattle.kat_model.specs.Problems.{ProblemParts, IsTestInRange};
+//! (the strongest annotation), a loop's invariant the least set that holds its entry and that its body keeps. In each turn
+//! of a loop the invariants of the loops within it grow on from where they were (the recursive strategy of Bourdoncle,
+//! Efficient chaotic iteration strategies with widenings, 1993).
+ghost use Rattle.std.specs.Prelude.{◌≡◌, ◌<◌, ◌&&◌, ℕ, not, [], ◌∷◌, ◌++◌, IfOk, IfSome, OnOk, MatchOption};
+ghost use Rattle.kat_model.specs.Trees.{Term, one, test_tree};
+ghost use Rattle.kat_model.specs.Problems.{ProblemParts, IsProblem, IsTestInRange};
 ghost use Rattle.kat_model.specs.Relations.{Same};
 ghost use Rattle.kat_model.specs.Steps.{truth};
 ghost use Rattle.while_lang.specs.Flows.{act, loop};
 ghost use Rattle.while_lang.specs.FlowViews.{flow_stmt};
-ghost use Rattle.step_diagrams.specs.StepFunctions.{IsStepId, IsStepDiagram, KeepsSteps, AreStepDiagrams};
+ghost use Rattle.step_diagrams.specs.StepFunctions.{StepDiagramsParts, IsStepId, IsStepDiagram, KeepsSteps, AreStepDiagrams};
 ghost use Rattle.simple_hyps.specs.TestTerms.{AreSimple};
 ghost use Rattle.simple_hyps.specs.HypothesisForms.{allows};
 ghost use Rattle.outline_rules.specs.Tasks.{task_parts, IsTripleOf};
@@ -15,8 +17,10 @@ ghost use Rattle.outline_rules.specs.Follows.{Follows};
 ghost use Rattle.hoare_outlines.specs.Working.AtomSets.{AtomSet, IsSetId, IsAllowedSet};
 ghost use Rattle.hoare_outlines.specs.Working.Reached.{IsFlowInRange, IsStmtInRange};
 ghost use Rattle.hoare_outlines.specs.Working.Found.{IsFinder, StmtFound, HasAllowedSet, FindsStmt, FindsFlow};
+ghost use Rattle.hoare_outlines.specs.Working.FoundLoops.{stmt_turns, flow_turns, HasLoopIds, IsFoundLoop, AreFoundLoops, GrowsFrom, KnowsLoops, KeepsLoops};
 
 use crate::noting::notes_of_sets;
+use indexmap::IndexMap;
 use kat_model::{NoMemory, Problem, Test};
 use outline_notes::Notes;
 use outline_rules::Task;
@@ -25,12 +29,21 @@ use std::alloc::Global;
 use step_diagrams::{DiagramId, Moment, StepDiagrams};
 use while_lang::{Flow, Flows};
 
-// What is found: the diagrams, the allowed atoms after a step, and the sets at the places so far.
+// What is found: the diagrams, the allowed atoms, the sets at the places so far, and the loops by the places of their
+// invariants.
 #[derive(Drop)]
 struct Finder {
     diagrams: StepDiagrams,
-    allowed_after: DiagramId,
+    allowed: DiagramId,
     notes: Vec<DiagramId>,
+    loops: IndexMap<usize, FoundLoop>,
+}
+
+// A set before a loop, and the invariant of the loop that was found from it.
+#[derive(Clone, Copy)]
+struct FoundLoop {
+    entry: DiagramId,
+    invariant: DiagramId,
 }
 
 // The atoms of a set at which a test is true, and those at which it is false.
@@ -44,22 +57,53 @@ impl Finder {
     fn new(alloc: Global, problem: &Problem) -> Result<Finder, NoMemory>
         ensures finder { IfOk result (IsFinder problem.now) }
         ensures empty { IfOk result (λ f. f.notes.items ≡ []) }
+        ensures no_loops { IfOk result (λ f. f.loops.entries ≡ []) }
+        ensures within { IsProblem problem.now }
     {
         let mut diagrams = StepDiagrams::new(alloc, problem.tests())?;
-        let allowed_after = allowed_atoms(&mut diagrams, problem.hyps(), Moment::After)?;
+        let allowed = allowed_atoms(&mut diagrams, problem.hyps(), Moment::Before)?;
         Ok(Finder {
             diagrams,
-            allowed_after,
+            allowed,
             notes: Vec::new(alloc),
+            loops: IndexMap::new(alloc),
         })
     }
 
     fn push_note(&mut self, set: DiagramId) -> Result<(), NoMemory>
         ensures notes { OnOk result (self.new.notes.items ≡ self.old.notes.items ++ set ∷ []) }
         ensures diagrams { self.new.diagrams ≡ self.old.diagrams }
-        ensures allowed { self.new.allowed_after ≡ self.old.allowed_after }
+        ensures allowed { self.new.allowed ≡ self.old.allowed }
+        ensures loops { self.new.loops.entries ≡ self.old.loops.entries }
     {
         Ok(self.notes.push(set)?)
+    }
+
+    // What an earlier turn of the loops around it found of the loop at a place.
+    fn earlier_loop(&self, place: usize) -> Option<FoundLoop>
+        ensures { IfSome result (λ found. (q : ProblemParts) (d : StepDiagramsParts) (turns : ℕ → Term)
+            → AreFoundLoops q d turns self.now.loops.entries → IsFoundLoop q d (turns place) found) }
+    {
+        self.loops.get(&place).copied()
+    }
+
+    // Keeps what was found of the loop at a place for later turns.
+    fn keep_loop(
+        &mut self,
+        place: usize,
+        entry: DiagramId,
+        invariant: DiagramId,
+    ) -> Result<(), NoMemory>
+        ensures loops { OnOk result ((q : ProblemParts) (d : StepDiagramsParts) (turns : ℕ → Term)
+            → AreFoundLoops q d turns self.old.loops.entries
+            → IsFoundLoop q d (turns place) (record { entry = entry; invariant = invariant })
+            → AreFoundLoops q d turns self.new.loops.entries) }
+        ensures diagrams { self.new.diagrams ≡ self.old.diagrams }
+        ensures allowed { self.new.allowed ≡ self.old.allowed }
+        ensures notes { self.new.notes.items ≡ self.old.notes.items }
+    {
+        self.loops.insert(place, FoundLoop { entry, invariant })?;
+        Ok(())
     }
 }
 
@@ -78,17 +122,18 @@ fn parts_by(diagrams: &mut StepDiagrams, set: DiagramId, test: &Test) -> Result<
     Ok(Parts { holds, fails })
 }
 
-// The atoms that the action may lead to from the set.
+// The atoms that the action may lead to from the set. Only the image is cut down to allowed atoms: a diagram of those before
+// and after a step can be as large as the square of that of the allowed atoms.
 fn after_action(
     diagrams: &mut StepDiagrams,
     problem: &Problem,
-    allowed_after: DiagramId,
+    allowed: DiagramId,
     set: DiagramId,
     action: usize,
 ) -> Result<DiagramId, NoMemory>
     requires simple { AreSimple problem.now.hyps }
     requires tests { diagrams.old.tests ≡ problem.now.tests }
-    requires allowed { IsStepDiagram diagrams.old allowed_after (λ before after. allows problem.now.hyps after) }
+    requires allowed { IsSetId diagrams.old allowed (allows problem.now.hyps) }
     requires id { IsStepId diagrams.old set }
     requires action { action < problem.now.actions }
     ensures found { IfOk result (λ last. (X : AtomSet) → IsSetId diagrams.old set X → IsAllowedSet problem.now X → StmtFound problem.now (act action) diagrams.new X [] last) }
@@ -97,9 +142,32 @@ fn after_action(
 {
     let ruled_out = ruled_out_steps(diagrams, problem.hyps(), action)?;
     let free = diagrams.not(ruled_out)?;
-    let ends = diagrams.and(free, allowed_after)?;
-    let steps = diagrams.and(set, ends)?;
-    diagrams.image(steps)
+    let steps = diagrams.and(set, free)?;
+    let ends = diagrams.image(steps)?;
+    diagrams.and(ends, allowed)
+}
+
+// The set that the invariant of a loop grows from: its entry, and with it an earlier invariant where that grew from less.
+fn first_invariant(
+    diagrams: &mut StepDiagrams,
+    earlier: Option<FoundLoop>,
+    set: DiagramId,
+) -> Result<DiagramId, NoMemory>
+    requires earlier { IfSome earlier (HasLoopIds diagrams.old) }
+    requires set { IsStepId diagrams.old set }
+    requires sound { AreStepDiagrams diagrams.old }
+    ensures starts { IfOk result (λ id. (q : ProblemParts) (turn : Term) → diagrams.old.tests ≡ q.tests
+        → IfSome earlier (IsFoundLoop q diagrams.old turn) → GrowsFrom q turn diagrams.old set diagrams.new id) }
+    ensures kept { KeepsSteps diagrams.old diagrams.new }
+    ensures sound { AreStepDiagrams diagrams.new }
+{
+    let Some(found) = earlier else {
+        return Ok(set);
+    };
+    if !diagrams.entails(found.entry, set)? {
+        return Ok(set);
+    }
+    diagrams.or(found.invariant, set)
 }
 
 impl Finder {
@@ -115,10 +183,12 @@ impl Finder {
         requires finder { IsFinder problem.now self.old }
         requires in_range { IsStmtInRange problem.now (flow_stmt stmt.now) }
         requires set { HasAllowedSet problem.now self.old.diagrams set }
+        requires loops { KnowsLoops problem.now (stmt_turns (flow_stmt stmt.now)) self.old }
         ensures found { IfOk result (FindsStmt problem.now (flow_stmt stmt.now) self.old set self.new) }
         ensures set { IfOk result (HasAllowedSet problem.now self.new.diagrams) }
         ensures finder { OnOk result (IsFinder problem.now self.new) }
         ensures kept { OnOk result (KeepsSteps self.old.diagrams self.new.diagrams) }
+        ensures loops { OnOk result (KeepsLoops problem.now (stmt_turns (flow_stmt stmt.now)) self.old self.new) }
     {
         match stmt {
             Flow::Skip => Ok(set),
@@ -127,9 +197,7 @@ impl Finder {
                 let parts = parts_by(&mut self.diagrams, set, b)?;
                 Ok(parts.holds)
             }
-            Flow::Act(a) => {
-                after_action(&mut self.diagrams, problem, self.allowed_after, set, *a)
-            }
+            Flow::Act(a) => { after_action(&mut self.diagrams, problem, self.allowed, set, *a) }
             Flow::If(b, f, g) => {
                 let parts = parts_by(&mut self.diagrams, set, b)?;
                 let first = self.after_flow(problem, f, parts.holds)?;
@@ -152,10 +220,12 @@ impl Finder {
         requires finder { IsFinder problem.now self.old }
         requires in_range { IsFlowInRange problem.now flow.now }
         requires set { HasAllowedSet problem.now self.old.diagrams set }
+        requires loops { KnowsLoops problem.now (one ∷ flow_turns flow.now) self.old }
         ensures found { IfOk result (FindsFlow problem.now flow.now self.old set self.new) }
         ensures set { IfOk result (HasAllowedSet problem.now self.new.diagrams) }
         ensures finder { OnOk result (IsFinder problem.now self.new) }
         ensures kept { OnOk result (KeepsSteps self.old.diagrams self.new.diagrams) }
+        ensures loops { OnOk result (KeepsLoops problem.now (one ∷ flow_turns flow.now) self.old self.new) }
     {
         self.push_note(set)?;
         let mut reached = set;
@@ -167,7 +237,7 @@ impl Finder {
     }
 
     // The atoms that the loop leads to from the set. Its invariant grows until its body keeps it, and only its last notes
-    // stay.
+    // stay. The next turn of a loop around it reaches no less, so there it grows on from this invariant.
     #[cycle(finding)]
     fn after_loop(
         &mut self,
@@ -180,19 +250,23 @@ impl Finder {
         requires finder { IsFinder problem.now self.old }
         requires in_range { IsStmtInRange problem.now (loop (test_tree guard.now) body.now) }
         requires set { HasAllowedSet problem.now self.old.diagrams set }
+        requires loops { KnowsLoops problem.now (stmt_turns (loop (test_tree guard.now) body.now)) self.old }
         ensures found { IfOk result (FindsStmt problem.now (loop (test_tree guard.now) body.now) self.old set self.new) }
         ensures set { IfOk result (HasAllowedSet problem.now self.new.diagrams) }
         ensures finder { OnOk result (IsFinder problem.now self.new) }
         ensures kept { OnOk result (KeepsSteps self.old.diagrams self.new.diagrams) }
+        ensures loops { OnOk result (KeepsLoops problem.now (stmt_turns (loop (test_tree guard.now) body.now)) self.old self.new) }
     {
         let place = self.notes.len();
-        let mut invariant = set;
+        let earlier = self.earlier_loop(place);
+        let mut invariant = first_invariant(&mut self.diagrams, earlier, set)?;
         'grows: loop {
             self.notes.truncate(place);
             self.push_note(invariant)?;
             let parts = parts_by(&mut self.diagrams, invariant, guard)?;
             let again = self.after_flow(problem, body, parts.holds)?;
             if self.diagrams.entails(again, invariant)? {
+                self.keep_loop(place, set, invariant)?;
                 return Ok(parts.fails);
             }
             invariant = self.diagrams.or(invariant, again)?;
@@ -209,8 +283,7 @@ pub fn outline(alloc: Global, problem: &Problem, task: &Task) -> Result<Option<N
         (λ notes. Same problem.now × Follows problem.now (task_parts task.now) notes)) }
 {
     let mut finder = Finder::new(alloc, problem)?;
-    let allowed = allowed_atoms(&mut finder.diagrams, problem.hyps(), Moment::Before)?;
-    let start = parts_by(&mut finder.diagrams, allowed, &task.pre)?;
+    let start = parts_by(&mut finder.diagrams, finder.allowed, &task.pre)?;
     let last = finder.after_flow(problem, &task.flow, start.holds)?;
     let post = finder.diagrams.of_test(&task.post, Moment::Before)?;
     if !finder.diagrams.entails(last, post)? {

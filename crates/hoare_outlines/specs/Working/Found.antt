@@ -1,7 +1,7 @@
 -- What the finder finds of a statement, and of a list of statements.
 use Rattle.std.specs.Prelude.{◌≡◌, ◌++◌, ◌∷◌, ℕ, List, drop}
 use Rattle.kat_model.specs.Problems.{ProblemParts}
-use Rattle.step_diagrams.specs.StepFunctions.{StepDiagramsParts, IsStepDiagram, KeepsSteps, AreStepDiagrams}
+use Rattle.step_diagrams.specs.StepFunctions.{StepDiagramsParts, KeepsSteps, AreStepDiagrams}
 use Rattle.while_lang.specs.Flows.{FlowTree, FlowStmt}
 use Rattle.while_lang.specs.FlowViews.{flows_tree}
 use Rattle.while_lang.specs.declared.flow.Flow.{Flow}
@@ -12,11 +12,11 @@ use Rattle.hoare_outlines.specs.Working.Annotated.{Annotated, StmtAnnotated}
 use Rattle.hoare_outlines.specs.Working.Reached.{Reached, ReachedInTurn, stmt_term}
 use Rattle.hoare_outlines.specs.declared.finding.Finder.{Finder}
 
--- the diagrams are those of the problem, and one of them is that of the allowed atoms after a step
+-- the diagrams are those of the problem, and one of them is that of the allowed atoms
 pub record IsFinder (q : ProblemParts) (f : Finder) : Type 0 where
   pub sound : AreStepDiagrams f.diagrams
   pub tests : f.diagrams.tests ≡ q.tests
-  pub allowed : IsStepDiagram f.diagrams f.allowed_after (λ before after. allows q.hyps after)
+  pub allowed : IsSetId f.diagrams f.allowed (allows q.hyps)
 
 -- the sets within a statement, and that after it, of which each atom is reached from the set before it
 pub record StmtFound (q : ProblemParts) (s : FlowStmt) (d : StepDiagramsParts) (X : AtomSet) (ids : List ℕ) (last : ℕ) : Type 0 where

@@ -1,42 +1,47 @@
 use Rattle.std.proofs.Common.{◌≡◌, ◌∙◌, ◌++◌, ◌∷◌, ℕ, List, sym, ap, subst}
-use Rattle.kat_model.specs.Trees.{test_tree}
+use Rattle.kat_model.specs.Trees.{one, test_tree}
 use Rattle.kat_model.specs.Steps.{Atom, truth}
-use Rattle.step_diagrams.specs.declared.moments.Moment.TheVariants.{Before}
 use Rattle.step_diagrams.proofs.StepSets.{KeepsSteps-trans, IsStepDiagram-kept}
 use Rattle.simple_hyps.specs.HypothesisForms.{allows}
 use Rattle.outline_rules.specs.Tasks.{task_parts}
-use Rattle.outline_rules.proofs.HypothesisRanges.{problem_hyps, allowed_by}
 use Rattle.outline_rules.proofs.Soundness.{follows_same}
 use Rattle.outline_rules.proofs.TaskRanges.{task_in_range}
+use Rattle.hoare_outlines.specs.declared.finding.Finder.{Finder}
+use Rattle.hoare_outlines.specs.Working.FoundLoops.{flow_turns}
 use Rattle.hoare_outlines.specs.Working.Noted.{AreSets, NotesSets}
 use Rattle.hoare_outlines.proofs.Findings.{found_kept}
 use Rattle.hoare_outlines.proofs.FlowRanges.{flow_in_range}
 use Rattle.hoare_outlines.proofs.Outlines.{start_set, start_allowed, same_entails, entails_kept, outline_follows}
 use Rattle.hoare_outlines.proofs.SetIds.{set_kept, each_set}
+use Rattle.hoare_outlines.proofs.KeptLoops.{no_loops}
 use Rattle.hoare_outlines.proofs.finding.outline.Goals as goal
-
-pub allowed_atoms-requires : goal.allowed_atoms-requires
-allowed_atoms-requires c = record { in_range = problem_hyps c.args.problem.now c.hyps.result.now c.in_ok-finder.finder.diagrams.tests c.hyps.ensures.within c.hyps.ensures.value c.in_ok-finder.ensures.finder.tests }
 
 pub after_flow-requires-clause-in_range : goal.after_flow-requires-clause-in_range
 after_flow-requires-clause-in_range c =
     let q = c.args.problem.now in
     let t = task_parts c.args.task.now in
-    flow_in_range q t.flow (task_in_range q t c.hyps.ensures.within c.requires.triple).flow
+    flow_in_range q t.flow (task_in_range q t c.in_ok-finder.ensures.within c.requires.triple).flow
 
 pub after_flow-requires-clause-set : goal.after_flow-requires-clause-set
 after_flow-requires-clause-set c =
     let q = c.args.problem.now in
     let pre = test_tree c.args.task.now.pre in
-    let all = allowed_by c.allowed_atoms.new.diagrams c.in_ok-allowed.allowed Before _ q.hyps c.hyps.ensures.value c.in_ok-allowed.ensures.function in
-    (start_set q pre, c.in_ok-start.ensures.holds (λ (x : Atom). allows q.hyps x) all, start_allowed q pre)
+    let all = c.in_ok-finder.ensures.finder.allowed in
+    (start_set q pre, c.in_ok-start.ensures.holds (allows q.hyps) all, start_allowed q pre)
+
+pub after_flow-requires-clause-loops : goal.after_flow-requires-clause-loops
+after_flow-requires-clause-loops c =
+    let t = task_parts c.args.task.now in
+    let found = c.in_ok-finder.finder in
+    let f : Finder = record { diagrams = c.parts_by.new.diagrams; allowed = found.allowed; notes = found.notes; loops = found.loops } in
+    no_loops c.args.problem.now (one ∷ flow_turns t.flow) f c.in_ok-finder.ensures.empty c.in_ok-finder.ensures.no_loops
 
 pub returns-then-not-branch : goal.returns-then-not-branch
 returns-then-not-branch c same =
     let q = c.args.problem.now in
     let t = task_parts c.args.task.now in
-    let all = allowed_by c.allowed_atoms.new.diagrams c.in_ok-allowed.allowed Before _ q.hyps c.hyps.ensures.value c.in_ok-allowed.ensures.function in
-    let found = c.in_ok-last.ensures.found (start_set q t.pre) (c.in_ok-start.ensures.holds (λ (x : Atom). allows q.hyps x) all) (start_allowed q t.pre) in
+    let all = c.in_ok-finder.ensures.finder.allowed in
+    let found = c.in_ok-last.ensures.found (start_set q t.pre) (c.in_ok-start.ensures.holds (allows q.hyps) all) (start_allowed q t.pre) in
     let d = c.of_test.new.self in
     let here = found_kept q t.flow c.after_flow.new.self.diagrams d (start_set q t.pre) found.0 c.in_ok-last.last c.in_ok-post.ensures.kept found.2 in
     let entails = same_entails q t c.requires.triple c.requires.simple same d found.0 c.in_ok-last.last c.in_ok-post.post (c.in_ok-post.ensures.kept.tests ∙ c.in_ok-last.ensures.finder.tests) here c.in_ok-post.ensures.function in
@@ -48,8 +53,8 @@ pub notes_of_sets-requires : goal.notes_of_sets-requires
 notes_of_sets-requires c =
     let q = c.args.problem.now in
     let t = task_parts c.args.task.now in
-    let all = allowed_by c.allowed_atoms.new.diagrams c.in_ok-allowed.allowed Before _ q.hyps c.hyps.ensures.value c.in_ok-allowed.ensures.function in
-    let start = c.in_ok-start.ensures.holds (λ (x : Atom). allows q.hyps x) all in
+    let all = c.in_ok-finder.ensures.finder.allowed in
+    let start = c.in_ok-start.ensures.holds (allows q.hyps) all in
     let found = c.in_ok-last.ensures.found (start_set q t.pre) start (start_allowed q t.pre) in
     let first = c.parts_by.new.diagrams in
     let old = c.after_flow.new.self.diagrams in
@@ -64,8 +69,8 @@ pub returns : goal.returns
 returns c =
     let q = c.args.problem.now in
     let t = task_parts c.args.task.now in
-    let all = allowed_by c.allowed_atoms.new.diagrams c.in_ok-allowed.allowed Before _ q.hyps c.hyps.ensures.value c.in_ok-allowed.ensures.function in
-    let start = c.in_ok-start.ensures.holds (λ (x : Atom). allows q.hyps x) all in
+    let all = c.in_ok-finder.ensures.finder.allowed in
+    let start = c.in_ok-start.ensures.holds (allows q.hyps) all in
     let found = c.in_ok-last.ensures.found (start_set q t.pre) start (start_allowed q t.pre) in
     let first = c.parts_by.new.diagrams in
     let old = c.after_flow.new.self.diagrams in
