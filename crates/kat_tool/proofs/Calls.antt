@@ -7,46 +7,46 @@ use Rattle.kat_io.specs.Outside.{Rose, AppendsFront}
 use Rattle.kat_model.specs.Members.{Has}
 use Rattle.kat_model.specs.Problems.{ProblemParts}
 use Rattle.bisim_worklist.proofs.AnswerCerts.{answer_accepted}
-use Rattle.kat_tool.specs.Commands.{Command, decide, report, show, gkat, batch, check, replay, outline, check_notes, chain, run, oneloop, bench, optimise, command_of, files_of}
-use Rattle.kat_tool.specs.Asking.{Asks}
-use Rattle.kat_tool.specs.Posing.{Poses}
-use Rattle.kat_tool.specs.Steps.{ShelfUse, HasFailedOn, GetsFile, AsksText}
-use Rattle.kat_tool.specs.Decide.{IsDecided, DecidesText, Decides, DecideCauses}
-use Rattle.kat_tool.specs.Report.{IsReported, ReportsText, Reports}
-use Rattle.kat_tool.specs.Show.{ShowsText, Shows}
-use Rattle.kat_tool.specs.Gkat.{TranslatesText, Translates}
-use Rattle.kat_tool.specs.Batch.{AnswersText, Batches}
-use Rattle.kat_tool.specs.Check.{ChecksBytes, Checks, CheckStatus}
-use Rattle.kat_tool.specs.Replay.{ReplaysBytes, Replays}
-use Rattle.kat_tool.specs.Triples.{AsksTask, PosesTask}
-use Rattle.kat_tool.specs.Outline.{OutlinesText, Outlines, OutlineCauses}
-use Rattle.kat_tool.specs.OutlineCheck.{ChecksNotes, GetsNotes, ChecksNoteFiles}
-use Rattle.kat_tool.specs.Chain.{GetsProof, Proves}
-use Rattle.kat_tool.specs.Running.{RunsText}
-use Rattle.kat_tool.specs.OneLoop.{FormsText}
-use Rattle.kat_tool.specs.Bench.{Tallies}
-use Rattle.kat_tool.specs.Optimise.{OptimisesText}
+use Rattle.tool_words.specs.Commands.{Command, decide, report, show, gkat, batch, check, replay, outline, check_notes, chain, run, oneloop, bench, optimise, command_of, files_of}
+use Rattle.tool_steps.specs.Asking.{Asks}
+use Rattle.tool_steps.specs.Posing.{Poses}
+use Rattle.tool_steps.specs.Steps.{ShelfUse, HasFailedOn, GetsFile, AsksText}
+use Rattle.decide_replies.specs.Decide.{IsDecided, DecidesText, Decides, DecideCauses}
+use Rattle.decide_replies.specs.Report.{IsReported, ReportsText, Reports}
+use Rattle.check_replies.specs.Show.{ShowsText, Shows}
+use Rattle.program_replies.specs.Gkat.{TranslatesText, Translates}
+use Rattle.decide_replies.specs.Batch.{AnswersText, Batches}
+use Rattle.check_replies.specs.Check.{ChecksBytes, Checks, CheckStatus}
+use Rattle.check_replies.specs.Replay.{ReplaysBytes, Replays}
+use Rattle.outline_replies.specs.Triples.{AsksTask, PosesTask}
+use Rattle.outline_replies.specs.Outline.{OutlinesText, Outlines, OutlineCauses}
+use Rattle.outline_replies.specs.OutlineCheck.{ChecksNotes, GetsNotes, ChecksNoteFiles}
+use Rattle.check_replies.specs.Chain.{GetsProof, Proves}
+use Rattle.program_replies.specs.Running.{RunsText}
+use Rattle.program_replies.specs.OneLoop.{FormsText}
+use Rattle.decide_replies.specs.Bench.{Tallies}
+use Rattle.program_replies.specs.Optimise.{OptimisesText}
 use Rattle.kat_tool.specs.Replies.{RepliesTo, HasNoCommand, Replies}
 use Rattle.kat_tool.specs.Agreement.{IsAgreed, AreAccepting}
 use Rattle.kat_tool.specs.Run.{HasFailed, IsUnfit, IsReply, Call, IsRun}
 use Rattle.kat_tool.specs.Laws.{CausesExclude}
-use Rattle.kat_tool.proofs.Contents.{held_same}
-use Rattle.kat_tool.proofs.Steps.{OneStatus, gets_once, text_once}
-use Rattle.kat_tool.proofs.DecideReplies.{decided_once, decide_causes}
-use Rattle.kat_tool.proofs.ReportReplies.{reported_once, report_causes}
-use Rattle.kat_tool.proofs.BatchReplies.{batches_once, batch_causes}
-use Rattle.kat_tool.proofs.CheckReplies.{bytes_once, check_causes}
-use Rattle.kat_tool.proofs.ReplayReplies.{bytes_once as replayed_once, replay_causes}
-use Rattle.kat_tool.proofs.Triples.{asks_once}
-use Rattle.kat_tool.proofs.OutlineReplies.{outlines_once, outline_causes}
-use Rattle.kat_tool.proofs.NotesReplies.{notes_once, notes_causes}
-use Rattle.kat_tool.proofs.ChainReplies.{bytes_once as proved_once, chain_causes}
-use Rattle.kat_tool.proofs.ShowReplies.{shows_once, show_causes}
-use Rattle.kat_tool.proofs.GkatReplies.{translates_once, gkat_causes}
-use Rattle.kat_tool.proofs.RunReplies.{runs_once, run_causes}
-use Rattle.kat_tool.proofs.OneLoopReplies.{forms_once, one_loop_causes}
-use Rattle.kat_tool.proofs.BenchReplies.{tallies_once, bench_causes}
-use Rattle.kat_tool.proofs.OptimiseReplies.{optimises_once, optimise_causes}
+use Rattle.tool_steps.proofs.Contents.{held_same}
+use Rattle.tool_steps.proofs.Steps.{OneStatus, gets_once, text_once}
+use Rattle.decide_replies.proofs.DecideReplies.{decided_once, decide_causes}
+use Rattle.decide_replies.proofs.ReportReplies.{reported_once, report_causes}
+use Rattle.decide_replies.proofs.BatchReplies.{batches_once, batch_causes}
+use Rattle.check_replies.proofs.CheckReplies.{bytes_once, check_causes}
+use Rattle.check_replies.proofs.ReplayReplies.{bytes_once as replayed_once, replay_causes}
+use Rattle.outline_replies.proofs.Triples.{asks_once}
+use Rattle.outline_replies.proofs.OutlineReplies.{outlines_once, outline_causes}
+use Rattle.outline_replies.proofs.NotesReplies.{notes_once, notes_causes}
+use Rattle.check_replies.proofs.ChainReplies.{bytes_once as proved_once, chain_causes}
+use Rattle.check_replies.proofs.ShowReplies.{shows_once, show_causes}
+use Rattle.program_replies.proofs.GkatReplies.{translates_once, gkat_causes}
+use Rattle.program_replies.proofs.RunReplies.{runs_once, run_causes}
+use Rattle.program_replies.proofs.OneLoopReplies.{forms_once, one_loop_causes}
+use Rattle.decide_replies.proofs.BenchReplies.{tallies_once, bench_causes}
+use Rattle.program_replies.proofs.OptimiseReplies.{optimises_once, optimise_causes}
 
 -- replies to commands, by their statuses
 module _ (s : ShelfUse) (status : ℕ) (output : List ℕ) where

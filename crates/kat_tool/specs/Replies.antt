@@ -1,21 +1,21 @@
 -- What the top call replies to words.
 use Rattle.std.specs.Prelude.{◌≡◌, ◌⊎◌, ℕ, List, None, Some, codes}
-use Rattle.kat_tool.specs.Commands.{Command, decide, report, show, gkat, batch, check, replay, outline, check_notes, chain, run, oneloop, bench, optimise, command_of}
-use Rattle.kat_tool.specs.Steps.{ShelfUse, Replying}
-use Rattle.kat_tool.specs.Decide.{Decides}
-use Rattle.kat_tool.specs.Report.{Reports}
-use Rattle.kat_tool.specs.Show.{Shows}
-use Rattle.kat_tool.specs.Gkat.{Translates}
-use Rattle.kat_tool.specs.Batch.{Batches}
-use Rattle.kat_tool.specs.Check.{Checks}
-use Rattle.kat_tool.specs.Replay.{Replays}
-use Rattle.kat_tool.specs.Outline.{Outlines}
-use Rattle.kat_tool.specs.OutlineCheck.{ChecksNoteFiles}
-use Rattle.kat_tool.specs.Chain.{Proves}
-use Rattle.kat_tool.specs.Running.{Runs}
-use Rattle.kat_tool.specs.OneLoop.{Forms}
-use Rattle.kat_tool.specs.Bench.{Tallies}
-use Rattle.kat_tool.specs.Optimise.{Optimises}
+use Rattle.tool_words.specs.Commands.{Command, decide, report, show, gkat, batch, check, replay, outline, check_notes, chain, run, oneloop, bench, optimise, command_of}
+use Rattle.tool_steps.specs.Steps.{ShelfUse, Replying}
+use Rattle.decide_replies.specs.Decide.{Decides}
+use Rattle.decide_replies.specs.Report.{Reports}
+use Rattle.check_replies.specs.Show.{Shows}
+use Rattle.program_replies.specs.Gkat.{Translates}
+use Rattle.decide_replies.specs.Batch.{Batches}
+use Rattle.check_replies.specs.Check.{Checks}
+use Rattle.check_replies.specs.Replay.{Replays}
+use Rattle.outline_replies.specs.Outline.{Outlines}
+use Rattle.outline_replies.specs.OutlineCheck.{ChecksNoteFiles}
+use Rattle.check_replies.specs.Chain.{Proves}
+use Rattle.program_replies.specs.Running.{Runs}
+use Rattle.program_replies.specs.OneLoop.{Forms}
+use Rattle.decide_replies.specs.Bench.{Tallies}
+use Rattle.program_replies.specs.Optimise.{Optimises}
 
 -- the reply to a command
 abbrev pub RepliesTo : ShelfUse → Command → Replying

@@ -1,0 +1,5 @@
+pub mod CheckReplies
+pub mod ReplayReplies
+pub mod ChainReplies
+pub mod ShowReplies
+mod PlainPrograms

@@ -1,0 +1,5 @@
+pub mod OutlineLines
+pub mod Triples
+pub mod OutlineCheck
+pub mod Outline
+pub mod Working

@@ -1,0 +1,12 @@
+//! The words of a command line: the command that they ask for, and what the words of a command stand for in a file.
+#![tactic(auto)]
+
+mod numbers;
+mod program_words;
+mod store_words;
+mod words;
+
+pub use numbers::ProblemCount;
+pub use program_words::program_of;
+pub use store_words::store_of;
+pub use words::{Command, Words};
