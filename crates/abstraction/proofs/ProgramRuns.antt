@@ -17,11 +17,11 @@ use Rattle.abstraction.specs.Tables.{Tables}
 use Rattle.abstraction.specs.Tests.{cond_test, assignment_action, prog_flow}
 
 -- which of two is chosen
-chosen_parts : {A B : Type 0} (b : Bool) → Chosen b A B → ((b ≡ true) × A) ⊎ ((b ≡ false) × B)
+pub chosen_parts : {A B : Type 0} (b : Bool) → Chosen b A B → ((b ≡ true) × A) ⊎ ((b ≡ false) × B)
 chosen_parts true h = inl (refl, h)
 chosen_parts false h = inr (refl, h)
 
-parts_chosen : {A B : Type 0} (b : Bool) → ((b ≡ true) × A) ⊎ ((b ≡ false) × B) → Chosen b A B
+pub parts_chosen : {A B : Type 0} (b : Bool) → ((b ≡ true) × A) ⊎ ((b ≡ false) × B) → Chosen b A B
 parts_chosen true (inl h) = h.1
 parts_chosen true (inr h) = absurd cc
 parts_chosen false (inl h) = absurd cc

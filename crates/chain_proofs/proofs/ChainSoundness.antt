@@ -1,13 +1,12 @@
 -- What is read as a chain from the front of the tokens is a chain.
-use Rattle.std.proofs.Common.{◌≡◌, ℕ, zero, suc, ◌+◌, ◌<◌, List, [], ◌∷◌, Bool, true, false, cond as if_true, nat_lt, Option, None, Some, Result, Ok, Err, refl, ap, sym, subst, ◌∙◌, drop}
+use Rattle.std.proofs.Common.{◌≡◌, ℕ, zero, suc, ◌+◌, ◌<◌, List, [], ◌∷◌, Bool, true, false, cond as if_true, Option, None, Some, Result, Ok, Err, refl, ap, sym, subst, ◌∙◌, drop}
 use Rattle.std.specs.Option.{is_some}
 use Rattle.std.specs.Str.{bytes_eq}
 use Rattle.std.specs.Prelude.{codes}
 use Rattle.std.proofs.lemmas.List.{drop-drop}
-use Rattle.std.proofs.lemmas.Bool.{ltb-true}
 use Rattle.kat_tokens.specs.declared.fault.TextFault.{TextFault}
-use Rattle.kat_tokens.specs.declared.fault.TextFault.TheVariants.{Syntax, TooDeep}
-use Rattle.kat_syntax.specs.declared.terminal.Terminal.TheVariants.{Name, Keyword, Separator, Dot, Zero, One, Number}
+use Rattle.kat_tokens.specs.declared.fault.TextFault.TheVariants.{Syntax}
+use Rattle.kat_syntax.specs.declared.terminal.Terminal.TheVariants.{Name, Keyword, Separator, Dot}
 use Rattle.kat_syntax.specs.declared.terminal.Keyword.TheVariants as word
 use Rattle.kat_syntax.specs.declared.terminal.Separator.TheVariants.{Semicolon, CurlyOpen, CurlyClose, Equals}
 use Rattle.kat_syntax.specs.Lexemes.{Lexeme, lexeme, heads, is_terminal}
@@ -16,30 +15,18 @@ use Rattle.kat_syntax.specs.Phrases.{term, Leaf, cons_token, IsPhrase}
 use Rattle.kat_syntax.proofs.TerminalEquality.{wants_ok}
 use Rattle.kat_syntax.proofs.ParserSoundness.{leaf, bind_ok, chosen, changed_ok, wanted_ok, terminal_headed}
 use Rattle.while_lang.specs.Blocks.{enter}
+use Rattle.while_lang.proofs.BlockSoundness.{enter_ok, rest_of}
 use Rattle.problem_file.specs.Items.{number_at}
-use Rattle.problem_file.specs.Phrases.{Numeral, zero_number, one_number, other_number, numeral_onto, NumeralFits}
+use Rattle.problem_file.specs.Phrases.{Numeral, numeral_onto}
+use Rattle.problem_file.proofs.FoundItems.{numeral_found}
 use Rattle.chain_proofs.specs.ChainActions.{ChainActions}
 use Rattle.chain_proofs.specs.ChainWalks.{is_word, wants_word, rule_name, has_number, has_inner, argument, parts_by, path_by, Reason, rule_by, ChainAim, whole_chain, lines_after, ChainParser, braces_by, inner_by, line_by, chain_by, chain_within, parse_chain}
 use Rattle.chain_proofs.specs.ChainPhrases.{RuleWord, plain, keyword, rule_leaf, Parts, no_parts, more_parts, Place, no_place, at_place, RulePhrase, Lines, no_lines, plain_line, line_around}
 use Rattle.chain_proofs.specs.ChainPhrases.{word_onto, number_onto, parts_onto, place_onto, rule_onto, reason_onto, ended, lines_onto, chain_onto, PlaceObeys, LinesObey, NumberFits, PartsFit, PlaceFits, RuleFits, LinesFit, IsChainPhrase}
 
-abbrev rest_of : {V : Type 0} → Parsed V → List Lexeme
-rest_of (Ok x) = x.1
-rest_of (Err e) = []
-
 abbrev tokens_of : Result (List Lexeme) TextFault → List Lexeme
 tokens_of (Ok ts) = ts
 tokens_of (Err e) = []
-
-enter_ok : (d e at : ℕ) → enter d at ≡ Ok e → (d < 200) × (e ≡ d + 1)
-enter_ok d e at h = by_depth (nat_lt d 200) refl h where
-  number_of : Result ℕ TextFault → ℕ
-  number_of (Ok n) = n
-  number_of (Err x) = 0
-
-  by_depth : (b : Bool) → nat_lt d 200 ≡ b → if_true b (Ok (d + 1)) (Err (TooDeep at)) ≡ Ok e → (d < 200) × (e ≡ d + 1)
-  by_depth true lt k = (ltb-true d 200 lt, sym (ap number_of k))
-  by_depth false lt k = absurd cc
 
 -- ---- names and numbers
 
@@ -57,13 +44,6 @@ word_ok w ts us e = by_test (is_word w ts) refl e where
       let same : drop 1 ts ≡ us = ap tokens_of k in
       (x.0, x.1 ∙ ap (cons_token Name x.0) same, x.2)
   by_test false h k = absurd cc
-
-numeral_ok : (ts : List Lexeme) (n : ℕ) → number_at ts ≡ Ok n → (k : Numeral) × (ts ≡ numeral_onto k (drop 1 ts)) × NumeralFits k
-numeral_ok [] n e = absurd cc
-numeral_ok (lexeme Zero at text ∷ ts) n e = (zero_number (leaf at text), refl, tt)
-numeral_ok (lexeme One at text ∷ ts) n e = (one_number (leaf at text), refl, tt)
-numeral_ok (lexeme (Number m) at text ∷ ts) n e = (other_number (leaf at text) m, refl, tt)
-numeral_ok (lexeme _ at text ∷ ts) n e = absurd cc
 
 abbrev text_told : Result (ℕ × List ℕ) TextFault → List ℕ
 text_told (Ok x) = x.1
@@ -86,7 +66,7 @@ argument_ok : (name : List ℕ) (ts : List Lexeme) (y : ℕ × List Lexeme) → 
 argument_ok name ts y e =
     chosen (has_number name) (number_at ts >>= λ n. Ok (n, drop 1 ts)) (Ok (0, ts)) y
     (λ h k. let a = bind_ok (number_at ts) (λ n. Ok (n, drop 1 ts)) y k in
-    let x = numeral_ok ts a.0 a.1 in
+    let x = numeral_found ts a.0 a.1 in
     let same : drop 1 ts ≡ y.1 = ap rest_of a.2 in
     record { number = Some x.0; spelled = x.1 ∙ ap (numeral_onto x.0) same; there = sym h; fits = x.2 })
     (λ h k. record { number = None; spelled = ap rest_of k; there = sym h; fits = tt })
@@ -111,7 +91,7 @@ module _ {Z T R P V : Type 0} (g : ChainActions Z T R P V) where
       chosen (heads (is_terminal Dot) (x ∷ z ∷ ts)) (number_at (z ∷ ts) >>= λ n. parts_by g (g.part p n) ts) (Ok (p, x ∷ z ∷ ts)) y
       (λ h k. let w = terminal_headed Dot (x ∷ z ∷ ts) h in
       let a = bind_ok (number_at (z ∷ ts)) (λ n. parts_by g (g.part p n) ts) y k in
-      let n = numeral_ok (z ∷ ts) a.0 a.1 in
+      let n = numeral_found (z ∷ ts) a.0 a.1 in
       let q = parts_ok (g.part p a.0) ts y a.2 in
       record {
         phrase = more_parts w.0 n.0 q.phrase;
@@ -133,7 +113,7 @@ module _ {Z T R P V : Type 0} (g : ChainActions Z T R P V) where
       chosen (is_word (codes "at") ts) (number_at (drop 1 ts) >>= λ n. parts_by g (g.part g.whole n) (drop 2 ts)) (Ok (g.whole, ts)) y
       (λ h k. let w = word_headed (codes "at") ts h in
       let a = bind_ok (number_at (drop 1 ts)) (λ n. parts_by g (g.part g.whole n) (drop 2 ts)) y k in
-      let n = numeral_ok (drop 1 ts) a.0 a.1 in
+      let n = numeral_found (drop 1 ts) a.0 a.1 in
       let q = parts_ok (g.part g.whole a.0) (drop 2 ts) y a.2 in
       record {
         phrase = at_place w.0 n.0 q.phrase;

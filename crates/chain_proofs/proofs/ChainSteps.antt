@@ -1,14 +1,14 @@
 -- The equation of the reading of chains, in which no number of steps stands.
 use Rattle.std.proofs.Common.{◌≡◌, ℕ, zero, suc, ◌+◌, ◌<◌, List, [], ◌∷◌, length, Bool, true, false, cond, None, Some, Ok, Err, refl, ap, arith, drop, length-drop}
 use Rattle.kat_tokens.specs.declared.fault.TextFault.TheVariants.{Syntax}
-use Rattle.kat_syntax.specs.declared.terminal.Terminal.{Terminal}
 use Rattle.kat_syntax.specs.declared.terminal.Terminal.TheVariants.{Dot, Separator}
 use Rattle.kat_syntax.specs.declared.terminal.Separator.TheVariants.{Semicolon, CurlyOpen, CurlyClose, Equals}
-use Rattle.kat_syntax.specs.Lexemes.{Lexeme, lexeme, heads, is_terminal}
-use Rattle.kat_syntax.specs.Parsed.{Parsed, ◌>>=◌, change, wants, then_wants, place_of}
+use Rattle.kat_syntax.specs.Lexemes.{Lexeme, heads, is_terminal}
+use Rattle.kat_syntax.specs.Parsed.{Parsed, ◌>>=◌, change, then_wants, place_of}
 use Rattle.kat_syntax.proofs.Within.{Within, bind_within, if_within, weaken, enter_within, change_within, then_wants_within, headed, bind_same, if_same, enter_same}
 use Rattle.chain_proofs.specs.ChainActions.{ChainActions}
 use Rattle.while_lang.specs.Blocks.{enter}
+use Rattle.while_lang.proofs.BlockSteps.{wanted_within, wanted_same}
 use Rattle.problem_file.specs.Items.{number_at}
 use Rattle.chain_proofs.specs.ChainWalks.{is_word, wants_word, rule_name, has_number, argument, parts_by, path_by, rule_by, ChainAim, whole_chain, lines_after, ChainParser, braces_by, inner_by, line_by, chain_by, chain_within, parse_chain}
 
@@ -20,11 +20,6 @@ bound (lines_after v z) n = n + 1
 
 abbrev pub IsShort : {Z V : Type 0} → ChainParser Z V → Type 0
 IsShort {Z} {V} f = (x : ChainAim Z V) (d : ℕ) (ts : List Lexeme) → Within (bound x (length ts)) (f x d ts)
-
--- one token, and then what is read after it
-wanted_within : {V : Type 0} (p : Terminal → Bool) (n : ℕ) (ts : List Lexeme) (k : List Lexeme → Parsed V) → ((us : List Lexeme) → length us < length ts → Within n (k us)) → Within n (wants p ts >>= k)
-wanted_within p n [] k h = tt
-wanted_within p n (lexeme s at text ∷ ts) k h = elim (p s) as (λ b. Within n (cond b (Ok ts) (Err (Syntax at)) >>= k)) [ true ↦ h ts (omega arith) | false ↦ tt ]
 
 -- one word, and then what is read after it
 pub tail_shorter : (w : List ℕ) (ts : List Lexeme) → is_word w ts ≡ true → length (drop 1 ts) < length ts
@@ -108,10 +103,6 @@ within_short g (suc n) x d ts = chain_short g (chain_within g n) (within_short g
 
 abbrev Same : {Z V : Type 0} → ChainParser Z V → ChainParser Z V → ℕ → Type 0
 Same {Z} {V} f h n = (x : ChainAim Z V) (d : ℕ) (ts : List Lexeme) → length ts < n → f x d ts ≡ h x d ts
-
-wanted_same : {V : Type 0} (p : Terminal → Bool) (ts : List Lexeme) (k l : List Lexeme → Parsed V) → ((us : List Lexeme) → length us < length ts → k us ≡ l us) → (wants p ts >>= k) ≡ (wants p ts >>= l)
-wanted_same p [] k l h = refl
-wanted_same p (lexeme s at text ∷ ts) k l h = elim (p s) as (λ b. (cond b (Ok ts) (Err (Syntax at)) >>= k) ≡ (cond b (Ok ts) (Err (Syntax at)) >>= l)) [ true ↦ h ts (omega arith) | false ↦ refl ]
 
 word_same : {V : Type 0} (w : List ℕ) (ts : List Lexeme) (k l : List Lexeme → Parsed V) → ((us : List Lexeme) → length us < length ts → k us ≡ l us) → (wants_word w ts >>= k) ≡ (wants_word w ts >>= l)
 word_same w ts k l h = by_test (is_word w ts) refl where

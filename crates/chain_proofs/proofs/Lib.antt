@@ -1,6 +1,5 @@
 pub mod PathSteps
 pub mod ChainSteps
-pub mod ScopeNames
 pub mod ChainSoundness
 pub mod ChainCompleteness
 pub mod ScannedChains
@@ -8,6 +7,5 @@ pub mod Extended
 pub mod MadeChains
 pub mod ReadTexts
 pub mod NamedChains
-pub mod TextFronts
 pub mod OneAnswer
 pub mod TextRanges

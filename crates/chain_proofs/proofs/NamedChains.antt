@@ -1,46 +1,33 @@
--- The first fault of a proof text is never want of memory: the walk takes fewer steps than it has.
-use Rattle.std.proofs.Common.{◌≡◌, refl, slice_get, ℕ, zero, suc, ◌+◌, ◌<◌, List, [], ◌∷◌, length, map, drop, Bool, true, false, cond, nat_lt, ◌||◌, Option, Some, None, Result, Ok, Err, arith, subst}
-use Rattle.kat_tokens.specs.declared.fault.TextFault.{TextFault}
-use Rattle.kat_tokens.specs.declared.fault.TextFault.TheVariants.{NoMemory, Syntax, TooDeep, Sort, TooLarge}
-use Rattle.kat_syntax.specs.declared.terminal.Terminal.{Terminal}
-use Rattle.kat_syntax.specs.declared.terminal.Terminal.TheVariants.{Name, Keyword, Separator, Dot, Zero, One, Number, WideNumber}
+-- The tests of tokens give no fault for want of memory: the walk takes fewer steps than it has.
+use Rattle.std.proofs.Common.{◌≡◌, refl, ℕ, zero, suc, ◌+◌, ◌<◌, List, [], ◌∷◌, length, drop, Bool, true, false, cond, nat_lt, ◌||◌, Option, Some, None, Ok, Err, arith}
+use Rattle.kat_tokens.specs.declared.fault.TextFault.TheVariants.{Syntax, TooLarge}
+use Rattle.kat_syntax.specs.declared.terminal.Terminal.TheVariants.{Name, Keyword, Separator, Dot}
 use Rattle.kat_syntax.specs.declared.terminal.Keyword.TheVariants as word
 use Rattle.kat_syntax.specs.declared.terminal.Separator.TheVariants.{Semicolon, CurlyOpen, CurlyClose, Equals}
-use Rattle.kat_syntax.specs.declared.reading.Context.{Context}
-use Rattle.kat_syntax.specs.Lexemes.{Lexeme, lexeme, lexeme_of, heads, is_terminal}
-use Rattle.kat_syntax.specs.Parsed.{Parsed, ◌>>=◌, wants, then_wants, place_of}
+use Rattle.kat_syntax.specs.Lexemes.{Lexeme, lexeme, heads, is_terminal}
+use Rattle.kat_syntax.specs.Parsed.{Parsed, ◌>>=◌, then_wants, place_of}
 use Rattle.kat_syntax.specs.Actions.{context}
 use Rattle.kat_syntax.specs.Scans.{scanning}
 use Rattle.kat_syntax.specs.Terms.{parse_term, choice}
 use Rattle.kat_syntax.proofs.Within.{headed}
-use Rattle.kat_syntax.proofs.NamedFaults.{IsNamedFault, IsNamed, then_named, bind_named, if_named, change_named, then_wants_named, NameTerms, term_named}
-use Rattle.kat_text.specs.declared.meaning.Meaning.{Meaning}
-use Rattle.kat_text.specs.declared.meaning.Meaning.TheVariants.{Test, Action, Var, Term as TermName}
-use Rattle.kat_text.specs.Sizes.{is_test}
-use Rattle.kat_text.specs.ScopeParts.{Definition, ScopeParts, meaning}
+use Rattle.kat_syntax.proofs.NamedFaults.{IsNamed, then_named, bind_named, if_named, change_named, then_wants_named, term_named}
+use Rattle.kat_text.specs.ScopeParts.{ScopeParts}
 use Rattle.kat_text.specs.Building.{trees}
-use Rattle.kat_text.specs.Measuring.{number_extent, variable_extent, condition_extent, defined_extent, name_extent, extents}
+use Rattle.kat_text.specs.Measuring.{extents}
 use Rattle.while_lang.specs.Blocks.{enter}
 use Rattle.problem_file.specs.Items.{number_at}
-use Rattle.problem_file.specs.Reads.{placed, placing}
+use Rattle.problem_file.proofs.NamedBlocks.{wanted_named, enter_named}
+use Rattle.problem_file.proofs.NamedItems.{number_at_named}
+use Rattle.problem_file.proofs.NamedTexts.{extents_named, trees_named, scanning_named}
 use Rattle.axiom_chains.specs.declared.chain.Axiom.{Axiom}
 use Rattle.chain_proofs.specs.ChainActions.{ChainActions}
 use Rattle.chain_proofs.specs.ChainWalks.{is_word, wants_word, rule_name, has_number, argument, parts_by, path_by, rule_by, ChainAim, whole_chain, lines_after, ChainParser, braces_by, inner_by, line_by, chain_by, chain_within, parse_chain}
 use Rattle.chain_proofs.specs.ChainScans.{scanning_chain, ends, scan_chain}
 use Rattle.chain_proofs.specs.ChainMaking.{known_axiom, axiom_named, total_with, sized_term, making_chain, make_chain}
-use Rattle.chain_proofs.specs.ProofScopes.{proof_scope}
-use Rattle.chain_proofs.specs.Reads.{tested, FirstFault, too_long, not_utf8, bad_token, refused}
+use Rattle.chain_proofs.specs.Reads.{tested}
 use Rattle.chain_proofs.proofs.ChainSteps.{tail_shorter, rule_short, IsShort, line_short, within_short}
 
 -- ---- the walk
-
-number_named : (ts : List Lexeme) → IsNamed (number_at ts)
-number_named [] = tt
-number_named (lexeme Zero at text ∷ ts) = tt
-number_named (lexeme One at text ∷ ts) = tt
-number_named (lexeme (Number n) at text ∷ ts) = tt
-number_named (lexeme WideNumber at text ∷ ts) = tt
-number_named (lexeme _ at text ∷ ts) = tt
 
 rule_name_named : (ts : List Lexeme) → IsNamed (rule_name ts)
 rule_name_named [] = tt
@@ -51,21 +38,14 @@ rule_name_named (lexeme _ at text ∷ ts) = tt
 argument_named : (name : List ℕ) (ts : List Lexeme) → IsNamed (argument name ts)
 argument_named name ts =
     if_named (has_number name) (number_at ts >>= λ n. Ok (n, drop 1 ts)) (Ok (0, ts))
-    (λ e. then_named (number_at ts) (λ n. Ok (n, drop 1 ts)) (number_named ts) (λ n. tt))
+    (λ e. then_named (number_at ts) (λ n. Ok (n, drop 1 ts)) (number_at_named ts) (λ n. tt))
     (λ e. tt)
-
-wanted_named : {V : Type 0} (p : Terminal → Bool) (ts : List Lexeme) (k : List Lexeme → Parsed V) → ((us : List Lexeme) → length us < length ts → IsNamed (k us)) → IsNamed (wants p ts >>= k)
-wanted_named p [] k h = tt
-wanted_named p (lexeme s at text ∷ ts) k h = elim (p s) as (λ b. IsNamed (cond b (Ok ts) (Err (Syntax at)) >>= k)) [ true ↦ h ts (omega arith) | false ↦ tt ]
 
 word_named : {V : Type 0} (w : List ℕ) (ts : List Lexeme) (k : List Lexeme → Parsed V) → ((us : List Lexeme) → length us < length ts → IsNamed (k us)) → IsNamed (wants_word w ts >>= k)
 word_named w ts k h = by_test (is_word w ts) refl where
   by_test : (b : Bool) → is_word w ts ≡ b → IsNamed (cond b (Ok (drop 1 ts)) (Err (Syntax (place_of ts))) >>= k)
   by_test true e = h (drop 1 ts) (tail_shorter w ts e)
   by_test false e = tt
-
-enter_named : (d at : ℕ) → IsNamed (enter d at)
-enter_named d at = if_named (nat_lt d 200) (Ok (d + 1)) (Err (TooDeep at)) (λ e. tt) (λ e. tt)
 
 module _ {Z T R P V : Type 0} (g : ChainActions Z T R P V) (terms : (d : ℕ) (z : Z) (ts : List Lexeme) → IsNamed (g.term d z ts)) (rules : (at : ℕ) (name : List ℕ) (n : ℕ) → IsNamed (g.rule at name n)) where
   parts_named : (p : P) (ts : List Lexeme) → IsNamed (parts_by g p ts)
@@ -74,13 +54,13 @@ module _ {Z T R P V : Type 0} (g : ChainActions Z T R P V) (terms : (d : ℕ) (z
   parts_named p (x ∷ []) = if_named (heads (is_terminal Dot) (x ∷ [])) _ (Ok (p, x ∷ [])) (λ e. tt) (λ e. tt)
   parts_named p (x ∷ y ∷ ts) =
       if_named (heads (is_terminal Dot) (x ∷ y ∷ ts)) (number_at (y ∷ ts) >>= λ n. parts_by g (g.part p n) ts) (Ok (p, x ∷ y ∷ ts))
-      (λ e. then_named (number_at (y ∷ ts)) (λ n. parts_by g (g.part p n) ts) (number_named (y ∷ ts)) (λ n. parts_named (g.part p n) ts))
+      (λ e. then_named (number_at (y ∷ ts)) (λ n. parts_by g (g.part p n) ts) (number_at_named (y ∷ ts)) (λ n. parts_named (g.part p n) ts))
       (λ e. tt)
 
   path_named : (ts : List Lexeme) → IsNamed (path_by g ts)
   path_named ts =
       if_named (is_word _ ts) (number_at (drop 1 ts) >>= λ n. parts_by g (g.part g.whole n) (drop 2 ts)) (Ok (g.whole, ts))
-      (λ e. then_named (number_at (drop 1 ts)) (λ n. parts_by g (g.part g.whole n) (drop 2 ts)) (number_named (drop 1 ts)) (λ n. parts_named (g.part g.whole n) (drop 2 ts)))
+      (λ e. then_named (number_at (drop 1 ts)) (λ n. parts_by g (g.part g.whole n) (drop 2 ts)) (number_at_named (drop 1 ts)) (λ n. parts_named (g.part g.whole n) (drop 2 ts)))
       (λ e. tt)
 
   rule_named : (ts : List Lexeme) → IsNamed (rule_by g ts)
@@ -131,57 +111,6 @@ module _ {Z T R P V : Type 0} (g : ChainActions Z T R P V) (terms : (d : ℕ) (z
 
 -- ---- its parts
 
-condition_named : (at : ℕ) (o : Option Meaning) → IsNamed (condition_extent at o)
-condition_named at None = tt
-condition_named at (Some (Test k)) = tt
-condition_named at (Some m) = tt
-
-number_extent_named : (c : Context) (at : ℕ) → IsNamed (number_extent c at)
-number_extent_named c at = if_named c.compares _ (Err (Sort at)) (λ e. tt) (λ e. tt)
-
-variable_named : (c : Context) (at : ℕ) (o : Option Meaning) → IsNamed (variable_extent c at o)
-variable_named c at None = tt
-variable_named c at (Some (Var k)) = if_named c.compares _ (Err (Sort at)) (λ e. tt) (λ e. tt)
-variable_named c at (Some m) = tt
-
-defined_named : (c : Context) (at : ℕ) (o : Option Definition) → IsNamed (defined_extent c at o)
-defined_named c at None = tt
-defined_named c at (Some d) =
-    if_named c.negated _ _
-    (λ e. if_named (is_test d.tree) _ (Err (Sort at)) (λ f. if_named (nat_lt 200 (c.depth + d.nesting)) (Err (TooDeep at)) _ (λ h. tt) (λ h. tt)) (λ f. tt))
-    (λ e. if_named (nat_lt 200 (c.depth + d.nesting)) (Err (TooDeep at)) _ (λ h. tt) (λ h. tt))
-
-name_named : (w : ScopeParts) (c : Context) (at : ℕ) (o : Option Meaning) → IsNamed (name_extent w c at o)
-name_named w c at None = tt
-name_named w c at (Some (Test k)) = tt
-name_named w c at (Some (Action a)) = if_named c.negated (Err (Sort at)) _ (λ e. tt) (λ e. tt)
-name_named w c at (Some (TermName i)) = defined_named c at (slice_get w.terms i)
-name_named w c at (Some m) = tt
-
-extents_named : (w : ScopeParts) → NameTerms (extents w)
-extents_named w = record {
-  conds = record {
-    exprs = record { number = λ c at n. number_extent_named c at; variable = λ c at text. variable_named c at (meaning w text) };
-    named = λ c at text. condition_named at (meaning w text);
-  };
-  named = λ c at text. name_named w c at (meaning w text);
-  starred = λ c at m. if_named c.negated (Err (Sort at)) _ (λ e. tt) (λ e. tt);
-}
-
-trees_named : (w : ScopeParts) → NameTerms (trees w)
-trees_named w = record {
-  conds = record { exprs = record { number = λ c at n. tt; variable = λ c at text. tt }; named = λ c at text. tt };
-  named = λ c at text. tt;
-  starred = λ c at e. tt;
-}
-
-scanning_named : NameTerms scanning
-scanning_named = record {
-  conds = record { exprs = record { number = λ c at n. tt; variable = λ c at text. tt }; named = λ c at text. tt };
-  named = λ c at text. tt;
-  starred = λ c at t. tt;
-}
-
 axiom_known : (at : ℕ) (o : Option Axiom) → IsNamed (known_axiom at o)
 axiom_known at None = tt
 axiom_known at (Some rule) = tt
@@ -214,21 +143,5 @@ make_named w ts =
     (chain_named (making_chain w) (sized_named w) (λ at name n. axiom_known at (axiom_named name n)) (whole_chain 0) 0 ts)
     (λ x. tt)
 
-tested_named : (w : ScopeParts) (ts : List Lexeme) → IsNamed (tested w ts)
+pub tested_named : (w : ScopeParts) (ts : List Lexeme) → IsNamed (tested w ts)
 tested_named w ts = then_named (scan_chain ts) _ (scan_named ts) (λ u. make_named w ts)
-
-placed_named : (len : ℕ) (e : TextFault) → IsNamedFault e → IsNamedFault (placed len e)
-placed_named len (Syntax at) h = tt
-placed_named len e h = h
-
-placing_named : {X : Type 0} (len : ℕ) (m : Result X TextFault) → IsNamed m → IsNamed (placing len m)
-placing_named len (Ok x) h = tt
-placing_named len (Err e) h = placed_named len e h
-
-pub faults_are_named : (tests actions : ℕ) (bytes : List ℕ) → FirstFault tests actions bytes NoMemory → ⊥
-faults_are_named tests actions bytes (too_long told past) = cc
-faults_are_named tests actions bytes (not_utf8 at told within front) = cc
-faults_are_named tests actions bytes (bad_token at told bad) = cc
-faults_are_named tests actions bytes (refused r) =
-    let ts = map lexeme_of r.parts_of_tokens in
-    subst IsNamed r.tests_fail (placing_named (length bytes) (tested (proof_scope tests actions) ts) (tested_named (proof_scope tests actions) ts))

@@ -12,14 +12,14 @@ use Rattle.axiom_chains.specs.Chains.{ChainTree}
 use Rattle.chain_proofs.specs.ChainPhrases.{chain_onto}
 use Rattle.chain_proofs.specs.ChainScans.{scan_chain}
 use Rattle.chain_proofs.specs.ChainMaking.{make_chain}
-use Rattle.chain_proofs.specs.ProofScopes.{proof_scope}
+use Rattle.plain_texts.specs.NumberedScopes.{numbered_scope}
 use Rattle.chain_proofs.specs.Reads.{Reads, tested}
 use Rattle.chain_proofs.proofs.ScannedChains.{chains_are_scanned}
 use Rattle.chain_proofs.proofs.MadeChains.{chains_are_made}
 
 module _ (tests actions : ℕ) where
   abbrev w : ScopeParts
-  w = proof_scope tests actions
+  w = numbered_scope tests actions
 
   pub read_told : (bytes : List ℕ) (ms : List TokenParts) (c : ChainTree) → Lexes bytes ms → tested w (map lexeme_of ms) ≡ Ok c → Reads tests actions bytes c
   read_told bytes ms c lexes e =

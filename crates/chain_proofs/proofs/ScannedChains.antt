@@ -13,8 +13,8 @@ use Rattle.kat_syntax.proofs.ParserCompleteness.{changed, term_parsed}
 use Rattle.kat_syntax.proofs.Longest.{longest}
 use Rattle.kat_syntax.proofs.Scanned.{scanned}
 use Rattle.while_lang.proofs.ScannedBlocks.{enters}
-use Rattle.problem_file.specs.Phrases.{Numeral, zero_number, one_number, other_number, wide_number, NumeralFits}
-use Rattle.problem_file.specs.Folds.{numeral_value}
+use Rattle.problem_file.specs.Phrases.{Numeral}
+use Rattle.problem_file.proofs.ScannedFiles.{numeral_passes}
 use Rattle.chain_proofs.specs.ChainWalks.{has_inner, Reason, whole_chain, parse_chain}
 use Rattle.chain_proofs.specs.ChainScans.{scanned_term, scanning_chain, ends}
 use Rattle.chain_proofs.specs.ChainPhrases.{rule_leaf, Parts, no_parts, more_parts, Place, no_place, at_place, RulePhrase, Lines, no_lines, plain_line, line_around, ChainPhrase, NumberFits, PartsFit, PlaceFits, RuleFits, LinesFit, IsChainPhrase}
@@ -36,12 +36,6 @@ reads d z p ts o last =
     rw (term_parsed scanning p (context d false false) ts o (longest p ts last)) (changed ts (λ (u : Unit {0}). (tt, tt)) (fold scanning (context d false false) p (λ u. tt)))
 
 -- ---- nothing is refused where nothing is too deep or too wide
-
-numeral_passes : (n : Numeral) → NumeralFits n → (v : ℕ) × (numeral_value n ≡ Ok v)
-numeral_passes (zero_number l) fits = (0, refl)
-numeral_passes (one_number l) fits = (1, refl)
-numeral_passes (other_number l n) fits = (n, refl)
-numeral_passes (wide_number l) fits = absurd fits
 
 number_passes : (n : Option Numeral) → NumberFits n → (v : ℕ) × (fold_number n ≡ Ok v)
 number_passes None fits = (0, refl)

@@ -26,7 +26,7 @@ use Rattle.axiom_chains.specs.Chained.{HasTermsInRange}
 use Rattle.chain_proofs.specs.ChainMaking.{total_with, extended, making_chain}
 use Rattle.chain_proofs.specs.ChainPhrases.{Lines, no_lines, plain_line, line_around, ChainPhrase}
 use Rattle.chain_proofs.specs.ChainFolds.{fold_rule, sized_fold, fold_lines, fold_chain, chain_of}
-use Rattle.chain_proofs.specs.ProofScopes.{tests_scope, proof_scope}
+use Rattle.plain_texts.specs.NumberedScopes.{tests_scope, numbered_scope}
 use Rattle.chain_proofs.specs.Reads.{Reads, Answers}
 
 -- ---- the scope of a proof
@@ -40,21 +40,21 @@ tests_numbered (suc k) =
     subst (λ (n : ℕ). AreNumbered (tests_scope (suc k)) n 0 0 0) (one_more k)
     (test_numbered (tests_scope k) k 0 0 0 (tests_numbered k) (tests_scope (suc k)) (plain_name (Test k)) refl)
 
-names_numbered : (tests actions : ℕ) → AreNumbered (proof_scope tests actions) tests actions 0 0
+names_numbered : (tests actions : ℕ) → AreNumbered (numbered_scope tests actions) tests actions 0 0
 names_numbered tests zero = tests_numbered tests
 names_numbered tests (suc a) =
-    subst (λ (n : ℕ). AreNumbered (proof_scope tests (suc a)) tests n 0 0) (one_more a)
-    (action_numbered (proof_scope tests a) tests a 0 0 (names_numbered tests a) (proof_scope tests (suc a)) (plain_name (Action a)) refl)
+    subst (λ (n : ℕ). AreNumbered (numbered_scope tests (suc a)) tests n 0 0) (one_more a)
+    (action_numbered (numbered_scope tests a) tests a 0 0 (names_numbered tests a) (numbered_scope tests (suc a)) (plain_name (Action a)) refl)
 
 no_tests_terms : (tests : ℕ) → (tests_scope tests).terms ≡ []
 no_tests_terms zero = refl
 no_tests_terms (suc k) = no_tests_terms k
 
-no_terms : (tests actions : ℕ) → (proof_scope tests actions).terms ≡ []
+no_terms : (tests actions : ℕ) → (numbered_scope tests actions).terms ≡ []
 no_terms tests zero = no_tests_terms tests
 no_terms tests (suc a) = no_terms tests a
 
-none_defined : (tests actions : ℕ) → DefinedInRange (proof_scope tests actions) tests actions
+none_defined : (tests actions : ℕ) → DefinedInRange (numbered_scope tests actions) tests actions
 none_defined tests actions i d e =
     let none : slice_get [] i ≡ None = slice_get_past [] i (omega arith) in
     absurd (none-some d (sym none ∙ ap (λ (ds : List Definition). slice_get ds i) (sym (no_terms tests actions)) ∙ e))
@@ -63,7 +63,7 @@ none_defined tests actions i d e =
 
 module _ (tests actions : ℕ) where
   abbrev w : ScopeParts
-  w = proof_scope tests actions
+  w = numbered_scope tests actions
 
   abbrev Good : ChainTree → Type 0
   Good c = HasTermsInRange tests actions c

@@ -2,7 +2,6 @@ pub mod ChainActions
 pub mod ChainWalks
 pub mod ChainScans
 pub mod ChainMaking
-pub mod ProofScopes
 pub mod Reads
 pub mod ChainPhrases
 pub mod ChainFolds

@@ -1,21 +1,19 @@
 -- What is answered to bytes: the chain that they spell, or their first fault.
-use Rattle.std.specs.Prelude.{◌≡◌, ◌≤◌, ◌<◌, ◌⊎◌, ℕ, List, [], length, map, Result, Ok, Err}
-use Rattle.std.specs.Str.{IsValidUpTo}
-use Rattle.kat_tokens.specs.declared.lexer.TheConstants.{MAX_LEN}
+use Rattle.std.specs.Prelude.{◌≡◌, ◌⊎◌, ℕ, List, [], map, Result, Ok, Err}
 use Rattle.kat_tokens.specs.declared.fault.TextFault.{TextFault}
-use Rattle.kat_tokens.specs.declared.fault.TextFault.TheVariants.{NoMemory, TooLong, NotUtf8, BadToken}
+use Rattle.kat_tokens.specs.declared.fault.TextFault.TheVariants.{NoMemory}
 use Rattle.kat_tokens.specs.TokenParts.{TokenParts}
-use Rattle.kat_tokens.specs.Lex.{Lexes, FirstBad}
+use Rattle.kat_tokens.specs.Lex.{Lexes}
 use Rattle.kat_syntax.specs.Lexemes.{Lexeme, lexeme_of}
 use Rattle.kat_syntax.specs.Parsed.{◌>>=◌}
 use Rattle.kat_text.specs.ScopeParts.{ScopeParts}
-use Rattle.problem_file.specs.Reads.{placing}
+use Rattle.problem_file.specs.FirstFaults.{IsFirstFault}
 use Rattle.axiom_chains.specs.Chains.{ChainTree}
 use Rattle.chain_proofs.specs.ChainPhrases.{IsChainPhrase}
 use Rattle.chain_proofs.specs.ChainFolds.{chain_of}
 use Rattle.chain_proofs.specs.ChainScans.{scan_chain}
 use Rattle.chain_proofs.specs.ChainMaking.{make_chain}
-use Rattle.chain_proofs.specs.ProofScopes.{proof_scope}
+use Rattle.plain_texts.specs.NumberedScopes.{numbered_scope}
 
 -- The bytes spell this chain: they are the tokens of a chain, nothing in them is too deep or too wide, and with the names
 -- of a proof this is the chain of the phrase.
@@ -23,24 +21,15 @@ pub record Reads (tests actions : ℕ) (bytes : List ℕ) (c : ChainTree) : Type
   pub parts_of_tokens : List TokenParts
   pub lexes : Lexes bytes parts_of_tokens
   pub spells : IsChainPhrase 0 (map lexeme_of parts_of_tokens) []
-  pub chain : chain_of (proof_scope tests actions) spells.phrase ≡ Ok c
+  pub chain : chain_of (numbered_scope tests actions) spells.phrase ≡ Ok c
 
 -- the tests of tokens one after the other: of their syntax, and then of their names and sizes
 abbrev pub tested : ScopeParts → List Lexeme → Result ChainTree TextFault
 tested w ts = scan_chain ts >>= λ u. make_chain w ts
 
--- the bytes have tokens, and this is the first fault in them
-pub record Refuses (tests actions : ℕ) (bytes : List ℕ) (e : TextFault) : Type 0 where
-  pub parts_of_tokens : List TokenParts
-  pub lexes : Lexes bytes parts_of_tokens
-  pub tests_fail : placing (length bytes) (tested (proof_scope tests actions) (map lexeme_of parts_of_tokens)) ≡ Err e
-
 -- the first fault of the bytes, in the order of refusals
-pub data FirstFault (tests actions : ℕ) (bytes : List ℕ) (e : TextFault) : Type 0 where
-  too_long : (told : e ≡ TooLong) → (past : MAX_LEN < length bytes) → FirstFault tests actions bytes e
-  not_utf8 : (at : ℕ) → (told : e ≡ NotUtf8 at) → (within : length bytes ≤ MAX_LEN) → (front : IsValidUpTo bytes at) → FirstFault tests actions bytes e
-  bad_token : (at : ℕ) → (told : e ≡ BadToken at) → (bad : FirstBad bytes at) → FirstFault tests actions bytes e
-  refused : (in_tokens : Refuses tests actions bytes e) → FirstFault tests actions bytes e
+abbrev pub FirstFault : ℕ → ℕ → List ℕ → TextFault → Type 0
+FirstFault tests actions bytes e = IsFirstFault (tested (numbered_scope tests actions)) bytes e
 
 -- the answer to bytes: the chain that they spell, or out of memory, or their first fault
 abbrev pub Answers : ℕ → ℕ → List ℕ → Result ChainTree TextFault → Type 0

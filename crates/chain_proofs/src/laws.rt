@@ -1,6 +1,8 @@
 //! Laws of the definitions. Each function does nothing: its contract is the law.
 ghost use Rattle.std.specs.Prelude.{ℕ};
-ghost use Rattle.chain_proofs.specs.Laws.{HaveOneAnswer, ChainsAreScanned, ChainsAreMade};
+ghost use Rattle.problem_file.specs.Laws.{HaveOneAnswer};
+ghost use Rattle.chain_proofs.specs.Reads.{Reads, FirstFault};
+ghost use Rattle.chain_proofs.specs.Laws.{ChainsAreScanned, ChainsAreMade};
 
 /// The test of the syntax takes just the phrases of the grammar in which nothing is too deep or too wide.
 pub fn chains_are_scanned()
@@ -14,5 +16,5 @@ pub fn chains_are_made()
 
 /// Bytes spell one chain or have one first fault, and not both; a first fault is never want of memory.
 pub fn have_one_answer()
-    ensures { (tests actions : ℕ) → HaveOneAnswer tests actions }
+    ensures { (tests actions : ℕ) → HaveOneAnswer (Reads tests actions) (FirstFault tests actions) }
 {}

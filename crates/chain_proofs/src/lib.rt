@@ -4,7 +4,6 @@
 mod chain_reading;
 mod laws;
 mod making;
-mod names;
 mod reading;
 mod scan;
 mod walk;

@@ -6,27 +6,17 @@ ghost use Rattle.kat_syntax.specs.Lexemes.{lexemes};
 ghost use Rattle.kat_syntax.specs.Parsed.{Makes};
 ghost use Rattle.axiom_chains.specs.Chains.{ChainTree};
 ghost use Rattle.axiom_chains.specs.Chained.{HasTermsInRange};
-ghost use Rattle.chain_proofs.specs.ProofScopes.{proof_scope};
-ghost use Rattle.problem_file.specs.Reads.{placed};
+ghost use Rattle.plain_texts.specs.NumberedScopes.{numbered_scope};
 ghost use Rattle.chain_proofs.specs.Reads.{Reads, tested, Answers};
 
 use crate::making::make_chain;
-use crate::names::proof_scope;
 use crate::scan::test_syntax;
 use axiom_chains::Chain;
 use kat_text::Scope;
-use kat_tokens::{MAX_LEN, TextFault, Token, tokens};
+use kat_tokens::{TextFault, Token, tokens};
+use plain_texts::numbered_scope;
+use problem_file::{fault_in_text, text_of};
 use std::alloc::Global;
-
-// A fault past the last token is at the text's length.
-fn placed(fault: TextFault, len: usize) -> TextFault
-    ensures { result ≡ placed len fault }
-{
-    match fault {
-        TextFault::Syntax(at) => TextFault::Syntax(at.min(len)),
-        other => other,
-    }
-}
 
 // The chain, or the first fault of the tokens.
 fn test(alloc: Global, scope: &Scope, toks: &[Token]) -> Result<Chain, TextFault>
@@ -41,10 +31,10 @@ fn read_text(alloc: Global, text: &str, tests: usize, actions: usize) -> Result<
     ensures { Answers tests actions text.now result }
 {
     let toks = tokens(alloc, text)?;
-    let scope = proof_scope(alloc, tests, actions)?;
+    let scope = numbered_scope(alloc, tests, actions)?;
     match test(alloc, &scope, &toks) {
         Ok(chain) => Ok(chain),
-        Err(fault) => Err(placed(fault, text.len())),
+        Err(fault) => Err(fault_in_text(fault, text.len())),
     }
 }
 
@@ -69,12 +59,6 @@ pub fn read_chain(
     // Bytes that spell a chain fail only when out of memory.
     ensures only { (c : ChainTree) → Reads tests actions bytes.now c → IfErr result (λ e. e ≡ NoRoom) }
 {
-    if bytes.len() > MAX_LEN {
-        return Err(TextFault::TooLong);
-    }
-    let text = match std::str::from_utf8(bytes) {
-        Ok(text) => text,
-        Err(fault) => return Err(TextFault::NotUtf8(fault.valid_up_to())),
-    };
+    let text = text_of(bytes)?;
     read_text(alloc, text, tests, actions)
 }

@@ -7,11 +7,11 @@ ghost use Rattle.chain_proofs.specs.ChainWalks.{argument, parts_by, path_by, rul
 ghost use Rattle.chain_proofs.specs.Working.Reading.{reason_of};
 
 use crate::chain_reading::ChainReading;
-use crate::words::{
-    enter, expect_word, has_inner, has_number, is_word_at, number_at, rule_name_at,
-};
+use crate::words::{expect_word, has_inner, has_number, is_word_at, rule_name_at};
 use kat_syntax::{Separator, Terminal, expect, is_at, place_at};
 use kat_tokens::{TextFault, Token};
+use problem_file::number_at;
+use while_lang::enter;
 
 // A rule, its place, and whether an inner chain follows.
 #[derive(Drop)]

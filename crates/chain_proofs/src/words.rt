@@ -2,23 +2,10 @@
 ghost use Rattle.std.specs.Prelude.{◌≡◌, ◌+◌, ◌<◌, length, drop, IsTrue, IfOk};
 ghost use Rattle.kat_syntax.specs.Lexemes.{lexemes};
 ghost use Rattle.kat_syntax.specs.Parsed.{Makes, Wants};
-ghost use Rattle.while_lang.specs.Blocks.{enter};
-ghost use Rattle.problem_file.specs.Items.{number_at};
 ghost use Rattle.chain_proofs.specs.ChainWalks.{is_word, wants_word, rule_name, has_number, has_inner};
 
-use kat_model::MAX_OPEN;
 use kat_syntax::{Keyword, Terminal, syntax_fault_at, terminal_at, text_at};
 use kat_tokens::{TextFault, Token};
-
-/// One construct more is open, from the token at the place on; `TooDeep` with that place where 200 or more are open.
-pub(crate) fn enter(depth: usize, at: usize) -> Result<usize, TextFault>
-    ensures { result ≡ enter depth at }
-{
-    if depth >= MAX_OPEN {
-        return Err(TextFault::TooDeep(at));
-    }
-    Ok(depth + 1)
-}
 
 /// Whether the token at an index is this plain name.
 pub(crate) fn is_word_at(toks: &[Token], i: usize, word: &str) -> bool
@@ -41,21 +28,6 @@ pub(crate) fn expect_word(toks: &[Token], i: usize, word: &str) -> Result<usize,
         return Err(syntax_fault_at(toks, i));
     }
     Ok(i + 1)
-}
-
-/// The number at an index: `NumberTooWide` from 2^64 on.
-pub(crate) fn number_at(toks: &[Token], i: usize) -> Result<u64, TextFault>
-    ensures value { result ≡ number_at (drop i (lexemes toks.now)) }
-    ensures within { IfOk result (λ n. i < length toks.now) }
-{
-    match terminal_at(toks, i) {
-        Some((Terminal::Zero, _)) => Ok(0),
-        Some((Terminal::One, _)) => Ok(1),
-        Some((Terminal::Number(n), _)) => Ok(n),
-        Some((Terminal::WideNumber, at)) => Err(TextFault::NumberTooWide(at)),
-        Some((_, at)) => Err(TextFault::Syntax(at)),
-        None => Err(syntax_fault_at(toks, i)),
-    }
 }
 
 /// The place and the text of the name of a rule at an index: a name, or the keyword `hyp`.

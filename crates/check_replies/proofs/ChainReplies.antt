@@ -9,12 +9,13 @@ use Rattle.kat_tokens.specs.declared.fault.TextFault.{TextFault}
 use Rattle.kat_tokens.specs.declared.fault.TextFault.TheVariants.{TooLong}
 use Rattle.kat_report.specs.Refusals.{chain_fault_line}
 use Rattle.problem_file.specs.Files.{FileParts}
+use Rattle.problem_file.specs.FirstFaults.{too_long, no_text}
 use Rattle.problem_file.specs.Reads.{Reads}
+use Rattle.problem_file.specs.Laws.{HaveOneAnswer}
 use Rattle.problem_file.specs.Concrete.{IsConcrete, Agrees}
 use Rattle.axiom_chains.specs.Chains.{ChainTree}
 use Rattle.axiom_chains.specs.Chained.{IsChained}
-use Rattle.chain_proofs.specs.Reads.{too_long}
-use Rattle.chain_proofs.specs.Laws.{HaveOneAnswer}
+use Rattle.chain_proofs.specs.Reads.{Reads as ReadsProof, FirstFault}
 use Rattle.chain_proofs.proofs.OneAnswer.{have_one_answer}
 use Rattle.tool_steps.specs.Asking.{Asks}
 use Rattle.tool_steps.specs.Posing.{IsRefused, Poses}
@@ -27,13 +28,13 @@ use Rattle.tool_steps.proofs.Ways.{Ways, at_zero, at_two, at_three, at_four}
 -- ---- the text of a proof is read
 
 module _ (q : ProblemParts) (bytes : List ℕ) where
-  one : HaveOneAnswer q.tests q.actions
+  one : HaveOneAnswer (ReadsProof q.tests q.actions) (FirstFault q.tests q.actions)
   one = have_one_answer q.tests q.actions
 
   module _ (GoesOn : ChainTree → Replying) (status : ℕ) (output : List ℕ) where
     reads_chain : (c : ChainTree) → SpellsChain q bytes c → ReadsChain q bytes GoesOn status output → GoesOn c status output
     reads_chain c spells (inl r) = absurd (one.either bytes c r.1.fault spells r.1.first)
-    reads_chain c spells (inr g) = subst (λ d. GoesOn d status output) (one.chains bytes g.0 c g.1 spells) g.2
+    reads_chain c spells (inr g) = subst (λ d. GoesOn d status output) (one.values bytes g.0 c g.1 spells) g.2
 
     reads_no_chain : (fault : TextFault) → HasFault q bytes fault → ReadsChain q bytes GoesOn status output → (status ≡ 2) × (output ≡ chain_fault_line fault)
     reads_no_chain fault first (inl r) = (r.0, r.1.printed ∙ ap chain_fault_line (one.faults bytes r.1.fault fault r.1.first first))
@@ -129,7 +130,7 @@ ChainWays s file other status output =
 module _ (s : ShelfUse) (file other : List ℕ) (status : ℕ) (output : List ℕ) where
   -- what is replied to a proof that is too long is what is replied to its bytes
   read_proof : (q : ProblemParts) (bytes : List ℕ) → (IsPast (length bytes) (Some MAX_TEXT_BYTES) × (status ≡ 2) × (output ≡ long_proof_line)) ⊎ (IsWithin (length bytes) (Some MAX_TEXT_BYTES) × ProvesBytes q bytes status output) → ProvesBytes q bytes status output
-  read_proof q bytes (inl h) = inl (h.1, record { fault = TooLong; first = too_long refl h.0; printed = h.2 })
+  read_proof q bytes (inl h) = inl (h.1, record { fault = TooLong; first = no_text (too_long refl h.0); printed = h.2 })
   read_proof q bytes (inr h) = h.1
 
   proof_told : (q : ProblemParts) (bytes : List ℕ) → s.content other ≡ Holds bytes → (FailsOn s other → ⊥) → GetsProof s other q status output → ProvesBytes q bytes status output

@@ -4,7 +4,8 @@ use Rattle.kat_model.specs.Members.{Has}
 use Rattle.kat_model.specs.Problems.{ProblemParts}
 use Rattle.kat_model.specs.Relations.{Same}
 use Rattle.problem_file.specs.Files.{GoalTree, FileParts}
-use Rattle.problem_file.specs.Reads.{ReadsAll, FirstFaultOfAll, too_long}
+use Rattle.problem_file.specs.FirstFaults.{too_long, no_text}
+use Rattle.problem_file.specs.Reads.{ReadsAll, FirstFaultOfAll}
 use Rattle.problem_file.specs.Laws.{ReadsBoth}
 use Rattle.problem_file.specs.Concrete.{IsConcrete, Agrees}
 use Rattle.problem_file.proofs.OneAnswer.{all_have_one_answer}
@@ -257,8 +258,8 @@ module _ (s : ShelfUse) (file : List ℕ) (status : ℕ) (output : List ℕ) whe
   batch_causes r =
       let ways : BatchWays = batch_ways r in
       record {
-        headline = λ text f more is unfailed reads. text_headline text status output f more reads (gets_as ReadsBoth FirstFaultOfAll (λ t past. too_long refl past) s file (λ x. AnswersAll x.0 x.1) status output text is (λ h. unfailed h.0) r);
-        declined = λ text line is unfailed fault. faulty_one ReadsBoth FirstFaultOfAll all_have_one_answer text (λ x. AnswersAll x.0 x.1) status output line fault (gets_as ReadsBoth FirstFaultOfAll (λ t past. too_long refl past) s file (λ x. AnswersAll x.0 x.1) status output text is unfailed r);
+        headline = λ text f more is unfailed reads. text_headline text status output f more reads (gets_as ReadsBoth FirstFaultOfAll (λ t past. no_text (too_long refl past)) s file (λ x. AnswersAll x.0 x.1) status output text is (λ h. unfailed h.0) r);
+        declined = λ text line is unfailed fault. faulty_one ReadsBoth FirstFaultOfAll all_have_one_answer text (λ x. AnswersAll x.0 x.1) status output line fault (gets_as ReadsBoth FirstFaultOfAll (λ t past. no_text (too_long refl past)) s file (λ x. AnswersAll x.0 x.1) status output text is unfailed r);
         answered = at_answered ways;
         refused = at_refused ways;
         failed = at_failed ways;

@@ -1,28 +1,24 @@
 -- Reading the tokens of items is their fold.
-use Rattle.std.proofs.Common.{◌≡◌, ℕ, zero, suc, ◌<◌, ◌≤◌, List, [], ◌∷◌, length, false, cond as if_true, Result, Ok, Err, refl, ap, ◌∙◌, drop, arith}
+use Rattle.std.proofs.Common.{◌≡◌, ℕ, zero, suc, ◌<◌, ◌≤◌, List, [], ◌∷◌, length, Result, Ok, Err, refl, ap, ◌∙◌, arith}
 use Rattle.kat_tokens.specs.declared.fault.TextFault.{TextFault}
 use Rattle.kat_syntax.specs.declared.terminal.Terminal.TheVariants.{RoundClose, SquareClose, Plus, Dot, Separator}
 use Rattle.kat_syntax.specs.declared.terminal.Separator.TheVariants.{Comma, Semicolon, Caret}
-use Rattle.kat_syntax.specs.Lexemes.{Lexeme, heads, is_terminal}
+use Rattle.kat_syntax.specs.Lexemes.{Lexeme, is_terminal}
 use Rattle.kat_syntax.specs.Parsed.{Parsed, ◌>>=◌, before, then_wants}
 use Rattle.kat_syntax.specs.Phrases.{Leaf, cons_token}
 use Rattle.kat_syntax.proofs.ParserCompleteness.{then_rest, checked, closed}
-use Rattle.problem_file.specs.Items.{names_within}
-use Rattle.problem_file.specs.Phrases.{Names, one_name, more_names, names_onto, ended}
-use Rattle.problem_file.specs.Folds.{fold_names}
+use Rattle.problem_file.specs.Phrases.{ended}
+use Rattle.problem_file.specs.Items.{items_within}
+use Rattle.problem_file.proofs.NameWalks.{names_long, declaration_folded}
 use Rattle.problem_file.proofs.PhraseFronts.{phrase_long}
 use Rattle.gkat_front.specs.GkatPhrases.{Guard, GkatSymbol, expr, GkatPhrase, one_product, two_products, one_factor, more_factors, once, repeated, zero_unit, one_unit, name_unit, guard_unit, round_unit, guard_onto, gkat_onto, GkatObeys}
 use Rattle.gkat_front.specs.FileActions.{FileActions}
-use Rattle.gkat_front.specs.Items.{declaration_by, sides_by, item_by, items_within, items_by}
+use Rattle.gkat_front.specs.Items.{sides_by, item_by, items_by}
 use Rattle.gkat_front.specs.FilePhrases.{Item, tests, actions, equal, sides_onto, item_onto, spelled, ItemObeys, ItemsObey}
 use Rattle.gkat_front.specs.FileFolds.{ExprFold, fold_item, fold_items}
 use Rattle.gkat_front.proofs.GkatCompleteness.{Stops}
 
 -- ---- each item has a token
-
-names_long : (ns : Names) (ts : List Lexeme) → length ts < length (names_onto ns ts)
-names_long (one_name l) ts = omega arith
-names_long (more_names l c ns) ts = omega (arith, names_long ns ts)
 
 guard_long : (b : Guard) (ts : List Lexeme) → length ts < length (guard_onto b ts)
 guard_long b ts = omega (arith, phrase_long b.inner (cons_token SquareClose b.closing ts))
@@ -50,21 +46,6 @@ item_long (equal keyword p comma q end) ts =
 items_long : (items : List Item) → length items ≤ length (spelled items)
 items_long [] = omega arith
 items_long (i ∷ items) = omega (arith, items_long items, item_long i (spelled items))
-
--- ---- names
-
-module _ {S : Type 0} (f : S → ℕ → List ℕ → Result S TextFault) where
-  last_name : (n : ℕ) (ts : List Lexeme) (r : Result S TextFault) → heads (is_terminal (Separator Comma)) ts ≡ false → (before ts r >>= λ x. if_true (heads (is_terminal (Separator Comma)) x.1) (names_within n f x.0 (drop 1 x.1)) (Ok x)) ≡ before ts r
-  last_name n ts (Ok x) last = rw last refl
-  last_name n ts (Err e) last = refl
-
-  names_folded : (ns : Names) (s : S) (ts : List Lexeme) (n : ℕ) → heads (is_terminal (Separator Comma)) ts ≡ false → length (names_onto ns ts) ≤ n → names_within (suc n) f s (names_onto ns ts) ≡ before ts (fold_names f s ns)
-  names_folded (one_name l) s ts n last le = last_name n ts (f s l.at l.text) last
-  names_folded (more_names l c ns) s ts zero last le = absurd (omega (arith, le))
-  names_folded (more_names l c ns) s ts (suc n) last le = then_rest (cons_token (Separator Comma) c (names_onto ns ts)) ts (f s l.at l.text) (λ x. if_true (heads (is_terminal (Separator Comma)) x.1) (names_within (suc n) f x.0 (drop 1 x.1)) (Ok x)) (λ u. fold_names f u ns) (λ u. names_folded ns u ts n last (omega (arith, le)))
-
-  declaration_folded : (ns : Names) (s : S) (end : Leaf) (ts : List Lexeme) → declaration_by f s (names_onto ns (ended end ts)) ≡ before ts (fold_names f s ns)
-  declaration_folded ns s end ts = ap (then_wants (is_terminal (Separator Semicolon))) (names_folded ns s (ended end ts) (length (names_onto ns (ended end ts))) refl (omega arith)) ∙ closed (Separator Semicolon) end ts (fold_names f s ns) refl
 
 -- two values, and then what is done with them
 asked : {S V : Type 0} (ask : V → V → Result S TextFault) (ts : List Lexeme) (v w : Result V TextFault) →
@@ -99,19 +80,19 @@ module _ {S V : Type 0} (g : FileActions S V) (t : ExprFold S V) (reads : (s : S
       ∙ ap (λ (m : Parsed (V × V)). m >>= λ x. before x.1 (g.ask s keyword.at (x.0).0 (x.0).1)) (closed (Separator Semicolon) end ts sides refl)
       ∙ asked (g.ask s keyword.at) ts (t s p) (t s q))
 
-  then_items : (items : List Item) (n : ℕ) (r : Result S TextFault) → ((u : S) → items_within g n u (spelled items) ≡ fold_items g t u items) → (before (spelled items) r >>= λ x. items_within g n x.0 x.1) ≡ (r >>= λ u. fold_items g t u items)
+  then_items : (items : List Item) (n : ℕ) (r : Result S TextFault) → ((u : S) → items_within (item_by g) n u (spelled items) ≡ fold_items g t u items) → (before (spelled items) r >>= λ x. items_within (item_by g) n x.0 x.1) ≡ (r >>= λ u. fold_items g t u items)
   then_items items n (Ok u) h = h u
   then_items items n (Err e) h = refl
 
   -- an item, and then others
-  item_first : (i : Item) (items : List Item) (s : S) (n : ℕ) → item_by g s (item_onto i (spelled items)) ≡ before (spelled items) (fold_item g t s i) → ((u : S) → items_within g n u (spelled items) ≡ fold_items g t u items) →
-      items_within g (suc n) s (item_onto i (spelled items)) ≡ (fold_item g t s i >>= λ u. fold_items g t u items)
-  item_first (tests keyword ns end) items s n e h = ap (λ (m : Parsed S). m >>= λ x. items_within g n x.0 x.1) e ∙ then_items items n (fold_item g t s (tests keyword ns end)) h
-  item_first (actions keyword ns end) items s n e h = ap (λ (m : Parsed S). m >>= λ x. items_within g n x.0 x.1) e ∙ then_items items n (fold_item g t s (actions keyword ns end)) h
-  item_first (equal keyword p comma q end) items s n e h = ap (λ (m : Parsed S). m >>= λ x. items_within g n x.0 x.1) e ∙ then_items items n (fold_item g t s (equal keyword p comma q end)) h
+  item_first : (i : Item) (items : List Item) (s : S) (n : ℕ) → item_by g s (item_onto i (spelled items)) ≡ before (spelled items) (fold_item g t s i) → ((u : S) → items_within (item_by g) n u (spelled items) ≡ fold_items g t u items) →
+      items_within (item_by g) (suc n) s (item_onto i (spelled items)) ≡ (fold_item g t s i >>= λ u. fold_items g t u items)
+  item_first (tests keyword ns end) items s n e h = ap (λ (m : Parsed S). m >>= λ x. items_within (item_by g) n x.0 x.1) e ∙ then_items items n (fold_item g t s (tests keyword ns end)) h
+  item_first (actions keyword ns end) items s n e h = ap (λ (m : Parsed S). m >>= λ x. items_within (item_by g) n x.0 x.1) e ∙ then_items items n (fold_item g t s (actions keyword ns end)) h
+  item_first (equal keyword p comma q end) items s n e h = ap (λ (m : Parsed S). m >>= λ x. items_within (item_by g) n x.0 x.1) e ∙ then_items items n (fold_item g t s (equal keyword p comma q end)) h
 
   -- a list of items is read in as many steps as it has items, and one
-  within_folded : (items : List Item) (s : S) (n : ℕ) → ItemsObey items → length items ≤ n → items_within g (suc n) s (spelled items) ≡ fold_items g t s items
+  within_folded : (items : List Item) (s : S) (n : ℕ) → ItemsObey items → length items ≤ n → items_within (item_by g) (suc n) s (spelled items) ≡ fold_items g t s items
   within_folded [] s n o le = refl
   within_folded (i ∷ items) s zero o le = absurd (omega (arith, le))
   within_folded (i ∷ items) s (suc n) o le = item_first i items s (suc n) (item_folded i s (spelled items) o.0) (λ u. within_folded items u n o.1 (omega (arith, le)))

@@ -1,59 +1,20 @@
 -- What is read as items is items.
-use Rattle.std.proofs.Common.{◌≡◌, ℕ, zero, suc, List, [], ◌∷◌, length, cond as if_true, Result, Ok, Err, refl, ap, subst, ◌∙◌, drop}
-use Rattle.kat_tokens.specs.declared.fault.TextFault.{TextFault}
-use Rattle.kat_syntax.specs.declared.terminal.Terminal.TheVariants.{Name, Keyword, Separator}
+use Rattle.std.proofs.Common.{◌≡◌, ℕ, zero, suc, List, [], ◌∷◌, length, Ok, refl, ap, subst, ◌∙◌}
+use Rattle.kat_syntax.specs.declared.terminal.Terminal.TheVariants.{Keyword, Separator}
 use Rattle.kat_syntax.specs.declared.terminal.Keyword.TheVariants as word
 use Rattle.kat_syntax.specs.declared.terminal.Separator.TheVariants.{Comma, Semicolon}
-use Rattle.kat_syntax.specs.Lexemes.{Lexeme, lexeme, heads, is_terminal}
-use Rattle.kat_syntax.specs.Parsed.{Parsed, ◌>>=◌, before, then_wants}
-use Rattle.kat_syntax.specs.Phrases.{Leaf, cons_token}
-use Rattle.kat_syntax.proofs.ParserSoundness.{leaf, bind_ok, chosen, before_ok, wanted_ok, terminal_headed}
-use Rattle.problem_file.specs.Items.{name_at, at_name, names_within, over_names}
-use Rattle.problem_file.specs.Phrases.{Names, one_name, more_names, names_onto, ended}
+use Rattle.kat_syntax.specs.Lexemes.{Lexeme, lexeme, is_terminal}
+use Rattle.kat_syntax.specs.Parsed.{◌>>=◌, before, then_wants}
+use Rattle.kat_syntax.specs.Phrases.{cons_token}
+use Rattle.kat_syntax.proofs.ParserSoundness.{leaf, bind_ok, before_ok, wanted_ok}
+use Rattle.while_lang.proofs.BlockSoundness.{rest_of}
+use Rattle.problem_file.specs.Phrases.{ended}
+use Rattle.problem_file.specs.Items.{items_within}
+use Rattle.problem_file.proofs.NameWalks.{declaration_found}
 use Rattle.gkat_front.specs.GkatPhrases.{expr, gkat_onto, IsGkatPhrase}
 use Rattle.gkat_front.specs.FileActions.{FileActions}
-use Rattle.gkat_front.specs.Items.{declaration_by, sides_by, equal_by, item_by, items_within, items_by}
+use Rattle.gkat_front.specs.Items.{sides_by, equal_by, item_by, items_by}
 use Rattle.gkat_front.specs.FilePhrases.{Item, tests, actions, equal, item_onto, ItemObeys, ItemFits, AreSpelledBy}
-
-abbrev rest_of : {V : Type 0} → Parsed V → List Lexeme
-rest_of (Ok x) = x.1
-rest_of (Err e) = []
-
--- ---- names
-
-name_leaf : (ts : List Lexeme) (l : Leaf) → name_at ts ≡ Ok l → ts ≡ cons_token Name l (drop 1 ts)
-name_leaf [] l e = absurd cc
-name_leaf (lexeme Name at text ∷ ts) l e = let same : leaf at text ≡ l = cc in ap (λ m. cons_token Name m ts) same
-name_leaf (lexeme _ at text ∷ ts) l e = absurd cc
-
-name_found : {S : Type 0} (f : ℕ → List ℕ → Result S TextFault) (ts : List Lexeme) (y : S × List Lexeme) → at_name f ts ≡ Ok y → (l : Leaf) × (ts ≡ cons_token Name l y.1)
-name_found f ts y e =
-    let a = bind_ok (name_at ts) (λ l. before (drop 1 ts) (f l.at l.text)) y e in
-    let same = before_ok (drop 1 ts) (f (a.0).at (a.0).text) y.0 y.1 a.2 in
-    (a.0, name_leaf ts a.0 a.1 ∙ ap (cons_token Name a.0) same)
-
-abbrev NamesFound : List Lexeme → List Lexeme → Type 0
-NamesFound ts rest = (ns : Names) × (ts ≡ names_onto ns rest)
-
-names_found : {S : Type 0} (f : S → ℕ → List ℕ → Result S TextFault) (n : ℕ) (s : S) (ts : List Lexeme) (y : S × List Lexeme) → names_within n f s ts ≡ Ok y → NamesFound ts y.1
-names_found f zero s ts y e = absurd cc
-names_found {S} f (suc n) s ts y e =
-    let a = bind_ok (at_name (f s) ts) (λ x. if_true (heads (is_terminal (Separator Comma)) x.1) (names_within n f x.0 (drop 1 x.1)) (Ok x)) y e in
-    let x = a.0 in
-    let name = name_found (f s) ts x a.1 in
-    chosen {X = NamesFound ts y.1} (heads (is_terminal (Separator Comma)) x.1) (names_within n f x.0 (drop 1 x.1)) (Ok x) y
-    (λ h k.
-    let c = terminal_headed (Separator Comma) x.1 h in
-    let more = names_found f n x.0 (drop 1 x.1) y k in
-    (more_names name.0 c.0 more.0, name.1 ∙ ap (cons_token Name name.0) (c.1 ∙ ap (cons_token (Separator Comma) c.0) more.1)))
-    (λ h k. (one_name name.0, name.1 ∙ ap (λ (m : Parsed S). cons_token Name name.0 (rest_of m)) k))
-    a.2
-
-declaration_found : {S : Type 0} (f : S → ℕ → List ℕ → Result S TextFault) (s : S) (ts : List Lexeme) (y : S × List Lexeme) → declaration_by f s ts ≡ Ok y → (ns : Names) × (end : Leaf) × (ts ≡ names_onto ns (ended end y.1))
-declaration_found f s ts y e =
-    let a = wanted_ok (Separator Semicolon) (over_names f s ts) y e in
-    let b = names_found f (suc (length ts)) s ts (y.0, ended a.0 y.1) a.1 in
-    (b.0, a.0, b.1)
 
 -- ---- items
 
@@ -96,11 +57,11 @@ module _ {S V : Type 0} (g : FileActions S V) (expr_is : (s : S) (ts : List Lexe
   item_found s (lexeme (Keyword word.Equal) at text ∷ ts) y e = equal_found s at text ts y e
   item_found s (lexeme _ at text ∷ ts) y e = absurd cc
 
-  within_found : (n : ℕ) (s t : S) (ts : List Lexeme) → items_within g n s ts ≡ Ok t → (items : List Item) × AreSpelledBy items ts
+  within_found : (n : ℕ) (s t : S) (ts : List Lexeme) → items_within (item_by g) n s ts ≡ Ok t → (items : List Item) × AreSpelledBy items ts
   within_found zero s t ts e = absurd cc
   within_found (suc n) s t [] e = ([], record { spells = refl; obey = tt; fit = tt })
   within_found (suc n) s t (l ∷ ts) e =
-      let a = bind_ok (item_by g s (l ∷ ts)) (λ x. items_within g n x.0 x.1) t e in
+      let a = bind_ok (item_by g s (l ∷ ts)) (λ x. items_within (item_by g) n x.0 x.1) t e in
       let more = within_found n (a.0).0 t (a.0).1 a.2 in
       let found = subst (λ (r : List Lexeme). ItemFound (l ∷ ts) r) (more.1).spells (item_found s (l ∷ ts) a.0 a.1) in
       (found.item ∷ more.0, record { spells = found.spelled; obey = (found.obeys, (more.1).obey); fit = (found.fits, (more.1).fit) })

@@ -1,33 +1,17 @@
 -- What is read as an expression from the front of the tokens is one.
-use Rattle.std.proofs.Common.{◌≡◌, ℕ, zero, suc, ◌+◌, ◌<◌, List, [], ◌∷◌, Bool, true, false, cond as if_true, nat_lt, Result, Ok, Err, refl, ap, sym, subst, ◌∙◌, drop}
-use Rattle.std.proofs.lemmas.Bool.{ltb-true}
-use Rattle.kat_tokens.specs.declared.fault.TextFault.{TextFault}
-use Rattle.kat_tokens.specs.declared.fault.TextFault.TheVariants.{TooDeep}
+use Rattle.std.proofs.Common.{◌≡◌, ℕ, zero, suc, ◌+◌, List, [], ◌∷◌, Ok, ap, subst, ◌∙◌, drop}
 use Rattle.kat_syntax.specs.declared.terminal.Terminal.TheVariants.{RoundOpen, RoundClose, SquareOpen, SquareClose, Plus, Dot, Zero, One, Name, Separator}
 use Rattle.kat_syntax.specs.declared.terminal.Separator.TheVariants.{Caret}
 use Rattle.kat_syntax.specs.Lexemes.{Lexeme, lexeme, heads, is_terminal}
-use Rattle.kat_syntax.specs.Parsed.{Parsed, ◌>>=◌, change, wants, place_of}
+use Rattle.kat_syntax.specs.Parsed.{◌>>=◌, change, wants, place_of}
 use Rattle.kat_syntax.specs.Phrases.{cond, Leaf, cons_token, IsPhrase}
 use Rattle.kat_syntax.proofs.TerminalEquality.{wants_ok}
 use Rattle.kat_syntax.proofs.ParserSoundness.{leaf, bind_ok, chosen, changed_ok, before_ok, wanted_ok, terminal_headed}
 use Rattle.while_lang.specs.Blocks.{enter}
+use Rattle.while_lang.proofs.BlockSoundness.{enter_ok, rest_of}
 use Rattle.gkat_front.specs.GkatActions.{GkatActions}
 use Rattle.gkat_front.specs.GkatWalks.{GkatAim, whole, factors_after, GkatParser, guard_by, round_by, unit_by, loop_by, factor_by, product_by, choice_by, gkat_by, gkat_within, parse_gkat}
 use Rattle.gkat_front.specs.GkatPhrases.{Guard, expr, factors, factor, unit, one_product, two_products, one_factor, more_factors, once, repeated, zero_unit, one_unit, name_unit, guard_unit, round_unit, guard_onto, gkat_onto, GuardObeys, GuardFits, IsGkatPhrase}
-
-abbrev rest_of : {V : Type 0} → Parsed V → List Lexeme
-rest_of (Ok x) = x.1
-rest_of (Err e) = []
-
-enter_ok : (d e at : ℕ) → enter d at ≡ Ok e → (d < 200) × (e ≡ d + 1)
-enter_ok d e at h = by_depth (nat_lt d 200) refl h where
-  number_of : Result ℕ TextFault → ℕ
-  number_of (Ok n) = n
-  number_of (Err x) = 0
-
-  by_depth : (b : Bool) → nat_lt d 200 ≡ b → if_true b (Ok (d + 1)) (Err (TooDeep at)) ≡ Ok e → (d < 200) × (e ≡ d + 1)
-  by_depth true lt k = (ltb-true d 200 lt, sym (ap number_of k))
-  by_depth false lt k = absurd cc
 
 -- a condition in brackets
 record IsGuard (d : ℕ) (ts rest : List Lexeme) : Type 0 where

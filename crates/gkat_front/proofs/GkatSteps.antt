@@ -1,13 +1,12 @@
 -- The equation of the reading of expressions, in which no number of steps stands.
-use Rattle.std.proofs.Common.{◌≡◌, ℕ, zero, suc, ◌+◌, ◌<◌, List, [], ◌∷◌, length, Bool, true, false, cond, Ok, Err, refl, ap, arith, drop}
-use Rattle.kat_tokens.specs.declared.fault.TextFault.TheVariants.{Syntax}
-use Rattle.kat_syntax.specs.declared.terminal.Terminal.{Terminal}
+use Rattle.std.proofs.Common.{◌≡◌, ℕ, zero, suc, ◌+◌, ◌<◌, List, [], ◌∷◌, length, Ok, refl, ap, arith, drop}
 use Rattle.kat_syntax.specs.declared.terminal.Terminal.TheVariants.{RoundOpen, RoundClose, SquareOpen, SquareClose, Plus, Dot, Zero, One, Name, Separator}
 use Rattle.kat_syntax.specs.declared.terminal.Separator.TheVariants.{Caret}
 use Rattle.kat_syntax.specs.Lexemes.{Lexeme, lexeme, heads, is_terminal}
-use Rattle.kat_syntax.specs.Parsed.{Parsed, ◌>>=◌, change, wants, then_wants, place_of}
+use Rattle.kat_syntax.specs.Parsed.{Parsed, ◌>>=◌, change, then_wants, place_of}
 use Rattle.kat_syntax.proofs.Within.{Within, bind_within, if_within, weaken, before_within, enter_within, change_within, then_wants_within, headed, bind_same, if_same, enter_same}
 use Rattle.while_lang.specs.Blocks.{enter}
+use Rattle.while_lang.proofs.BlockSteps.{wanted_within, wanted_same}
 use Rattle.gkat_front.specs.GkatActions.{GkatActions}
 use Rattle.gkat_front.specs.GkatWalks.{GkatAim, whole, factors_after, GkatParser, guard_by, round_by, unit_by, loop_by, factor_by, product_by, choice_by, gkat_by, gkat_within, parse_gkat}
 
@@ -19,15 +18,6 @@ bound (factors_after p) n = n + 1
 
 abbrev pub IsShort : {P V : Type 0} → GkatParser P V → Type 0
 IsShort {P} {V} f = (x : GkatAim P) (d : ℕ) (ts : List Lexeme) → Within (bound x (length ts)) (f x d ts)
-
--- one token, and then what is read after it
-wanted_within : {V : Type 0} (p : Terminal → Bool) (n : ℕ) (ts : List Lexeme) (k : List Lexeme → Parsed V) → ((us : List Lexeme) → length us < length ts → Within n (k us)) → Within n (wants p ts >>= k)
-wanted_within p n [] k h = tt
-wanted_within p n (lexeme s at text ∷ ts) k h = elim (p s) as (λ b. Within n (cond b (Ok ts) (Err (Syntax at)) >>= k)) [ true ↦ h ts (omega arith) | false ↦ tt ]
-
-wanted_same : {V : Type 0} (p : Terminal → Bool) (ts : List Lexeme) (k l : List Lexeme → Parsed V) → ((us : List Lexeme) → length us < length ts → k us ≡ l us) → (wants p ts >>= k) ≡ (wants p ts >>= l)
-wanted_same p [] k l h = refl
-wanted_same p (lexeme s at text ∷ ts) k l h = elim (p s) as (λ b. (cond b (Ok ts) (Err (Syntax at)) >>= k) ≡ (cond b (Ok ts) (Err (Syntax at)) >>= l)) [ true ↦ h ts (omega arith) | false ↦ refl ]
 
 module _ {C P V : Type 0} (g : GkatActions C P V) where
   pub guard_short : (d : ℕ) (ts : List Lexeme) → Within (length ts) (guard_by g d ts)

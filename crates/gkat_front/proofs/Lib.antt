@@ -1,12 +1,10 @@
 pub mod GkatSteps
-pub mod ItemLists
 pub mod GkatSoundness
 pub mod GkatCompleteness
 pub mod FileSoundness
 pub mod FileCompleteness
 pub mod ScannedTexts
 pub mod MadeTexts
-pub mod TextFronts
 pub mod NamedTexts
 pub mod ReadTexts
 pub mod OneAnswer

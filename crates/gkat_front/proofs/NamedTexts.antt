@@ -1,48 +1,40 @@
--- The first fault of a text is never want of memory: the walk takes fewer steps than it has.
-use Rattle.std.proofs.Common.{ℕ, zero, suc, ◌+◌, ◌<◌, List, [], ◌∷◌, length, length-drop, map, drop, Bool, true, false, cond, nat_lt, Option, Some, None, Result, Ok, Err, arith, subst}
+-- The tests of tokens give no fault for want of memory: the walk takes fewer steps than it has.
+use Rattle.std.proofs.Common.{ℕ, zero, suc, ◌<◌, List, [], ◌∷◌, length, drop, true, false, nat_lt, Option, Some, None, Ok, Err, arith}
 use Rattle.std.specs.Option.{is_some}
-use Rattle.kat_tokens.specs.declared.fault.TextFault.{TextFault}
-use Rattle.kat_tokens.specs.declared.fault.TextFault.TheVariants.{NoMemory, Syntax, TooDeep, Sort, TooLarge, TooMany, TwoGoals, DoubleName}
-use Rattle.kat_syntax.specs.declared.terminal.Terminal.{Terminal}
+use Rattle.kat_tokens.specs.declared.fault.TextFault.TheVariants.{TooLarge, TooMany, TwoGoals, DoubleName}
 use Rattle.kat_syntax.specs.declared.terminal.Terminal.TheVariants.{RoundOpen, RoundClose, SquareOpen, SquareClose, Plus, Dot, Zero, One, Name, Keyword, Separator}
 use Rattle.kat_syntax.specs.declared.terminal.Keyword.TheVariants as word
 use Rattle.kat_syntax.specs.declared.terminal.Separator.TheVariants.{Comma, Semicolon, Caret}
-use Rattle.kat_syntax.specs.declared.reading.Context.{Context}
-use Rattle.kat_syntax.specs.Lexemes.{Lexeme, lexeme, lexeme_of, heads, is_terminal}
-use Rattle.kat_syntax.specs.Parsed.{Parsed, ◌>>=◌, before, wants, then_wants, place_of}
+use Rattle.kat_syntax.specs.Lexemes.{Lexeme, lexeme, heads, is_terminal}
+use Rattle.kat_syntax.specs.Parsed.{◌>>=◌, then_wants, place_of}
 use Rattle.kat_syntax.specs.Actions.{context}
 use Rattle.kat_syntax.specs.Scans.{scanning_conds}
 use Rattle.kat_syntax.specs.Conds.{parse_cond, disjunction}
-use Rattle.kat_syntax.proofs.Within.{Within, bind_within, if_within, weaken, before_within, enter_within, then_wants_within, headed}
-use Rattle.kat_syntax.proofs.NamedFaults.{IsNamedFault, IsNamed, then_named, bind_named, if_named, before_named, change_named, then_wants_named, NameConds, cond_named}
+use Rattle.kat_syntax.proofs.Within.{Within, bind_within, weaken, before_within, enter_within, then_wants_within, headed}
+use Rattle.kat_syntax.proofs.NamedFaults.{IsNamed, then_named, bind_named, if_named, before_named, change_named, then_wants_named, cond_named}
 use Rattle.kat_text.specs.declared.meaning.Meaning.{Meaning}
-use Rattle.kat_text.specs.declared.meaning.Meaning.TheVariants.{Test, Action, Var}
+use Rattle.kat_text.specs.declared.meaning.Meaning.TheVariants.{Test, Action}
 use Rattle.kat_text.specs.ScopeParts.{ScopeParts, meaning}
 use Rattle.kat_text.specs.Building.{cond_trees}
-use Rattle.kat_text.specs.Measuring.{number_extent, variable_extent, condition_extent, cond_extents}
+use Rattle.kat_text.specs.Measuring.{cond_extents}
 use Rattle.while_lang.specs.Blocks.{enter}
-use Rattle.problem_file.specs.Items.{name_at, at_name, names_within, over_names}
-use Rattle.problem_file.specs.Reads.{placed, placing}
+use Rattle.problem_file.specs.Items.{declaration_by}
 use Rattle.guarded_terms.specs.Expressions.{GkatTree, gkat_size}
 use Rattle.gkat_front.specs.GkatActions.{GkatActions}
 use Rattle.gkat_front.specs.GkatWalks.{GkatAim, whole, factors_after, GkatParser, guard_by, round_by, unit_by, loop_by, factor_by, product_by, choice_by, gkat_by, gkat_within, parse_gkat}
 use Rattle.gkat_front.specs.GkatScans.{scanning_expr}
 use Rattle.gkat_front.specs.GkatMaking.{guard_at, named_by, making_expr}
 use Rattle.gkat_front.specs.FileActions.{FileActions}
-use Rattle.gkat_front.specs.Items.{declaration_by, sides_by, equal_by, item_by, items_within, items_by}
+use Rattle.gkat_front.specs.Items.{sides_by, equal_by, item_by, items_by}
 use Rattle.gkat_front.specs.Files.{State, start, check_new, file_with, file_of}
 use Rattle.gkat_front.specs.Making.{scanning, scan_file, making, walk, tested}
-use Rattle.gkat_front.specs.Reads.{FirstFault, too_long, not_utf8, bad_token, refused}
+use Rattle.problem_file.proofs.Lists.{items_named as all_named}
+use Rattle.problem_file.proofs.NamedBlocks.{wanted_named, enter_named}
+use Rattle.problem_file.proofs.NameWalks.{declaration_named, declaration_short}
+use Rattle.problem_file.proofs.NamedTexts.{extents_named, trees_named, scanning_named as scanning_phrases_named}
 use Rattle.gkat_front.proofs.GkatSteps.{IsShort, guard_short, factor_short, product_short, within_short, gkat_read_short}
 
 -- ---- expressions
-
-wanted_named : {V : Type 0} (p : Terminal → Bool) (ts : List Lexeme) (k : List Lexeme → Parsed V) → ((us : List Lexeme) → length us < length ts → IsNamed (k us)) → IsNamed (wants p ts >>= k)
-wanted_named p [] k h = tt
-wanted_named p (lexeme s at text ∷ ts) k h = elim (p s) as (λ b. IsNamed (cond b (Ok ts) (Err (Syntax at)) >>= k)) [ true ↦ h ts (omega arith) | false ↦ tt ]
-
-enter_named : (d at : ℕ) → IsNamed (enter d at)
-enter_named d at = if_named (nat_lt d 200) (Ok (d + 1)) (Err (TooDeep at)) (λ e. tt) (λ e. tt)
 
 module _ {C P V : Type 0} (g : GkatActions C P V) (conds : (d : ℕ) (ts : List Lexeme) → IsNamed (g.cond d ts)) (names : (at : ℕ) (text : List ℕ) → IsNamed (g.name at text)) where
   abbrev NamesBelow : GkatParser P V → ℕ → Type 0
@@ -108,39 +100,6 @@ module _ {C P V : Type 0} (g : GkatActions C P V) (conds : (d : ℕ) (ts : List 
   unfolding parse_gkat
   gkat_named x d ts = gkat_within_named (suc (length ts)) x d ts (omega arith)
 
--- ---- names
-
-name_at_named : (ts : List Lexeme) → IsNamed (name_at ts)
-name_at_named [] = tt
-name_at_named (lexeme Name at text ∷ ts) = tt
-name_at_named (lexeme _ at text ∷ ts) = tt
-
-at_name_named : {S : Type 0} (f : ℕ → List ℕ → Result S TextFault) (ts : List Lexeme) → ((at : ℕ) (text : List ℕ) → IsNamed (f at text)) → IsNamed (at_name f ts)
-at_name_named f ts h = then_named (name_at ts) (λ l. before (drop 1 ts) (f l.at l.text)) (name_at_named ts) (λ l. before_named (drop 1 ts) (f l.at l.text) (h l.at l.text))
-
-at_name_short : {S : Type 0} (f : ℕ → List ℕ → Result S TextFault) (ts : List Lexeme) → Within (length ts) (at_name f ts)
-at_name_short f [] = tt
-at_name_short f (lexeme Name at text ∷ ts) = before_within (suc (length ts)) ts (f at text) (omega arith)
-at_name_short f (lexeme _ at text ∷ ts) = tt
-
-names_named : {S : Type 0} (f : S → ℕ → List ℕ → Result S TextFault) → ((s : S) (at : ℕ) (text : List ℕ) → IsNamed (f s at text)) → (n : ℕ) (s : S) (ts : List Lexeme) → length ts < n → IsNamed (names_within n f s ts)
-names_named f h zero s ts lt = absurd (omega arith)
-names_named f h (suc n) s ts lt = bind_named (length ts) (at_name (f s) ts) _ (at_name_named (f s) ts (h s)) (at_name_short (f s) ts)
-    (λ x below. if_named (heads (is_terminal (Separator Comma)) x.1) (names_within n f x.0 (drop 1 x.1)) (Ok x) (λ k. names_named f h n x.0 (drop 1 x.1) (omega (arith, length-drop 1 x.1))) (λ k. tt))
-
-names_short : {S : Type 0} (f : S → ℕ → List ℕ → Result S TextFault) (n : ℕ) (s : S) (ts : List Lexeme) → Within (length ts) (names_within n f s ts)
-names_short f zero s ts = tt
-names_short f (suc n) s ts = bind_within (length ts) (length ts) (at_name (f s) ts) _ (at_name_short (f s) ts)
-    (λ x below. if_within (length ts) (heads (is_terminal (Separator Comma)) x.1) (names_within n f x.0 (drop 1 x.1)) (Ok x)
-    (λ k. weaken (length (drop 1 x.1)) (length ts) (names_within n f x.0 (drop 1 x.1)) (omega (arith, length-drop 1 x.1)) (names_short f n x.0 (drop 1 x.1)))
-    (λ k. below))
-
-declaration_named : {S : Type 0} (f : S → ℕ → List ℕ → Result S TextFault) → ((s : S) (at : ℕ) (text : List ℕ) → IsNamed (f s at text)) → (s : S) (ts : List Lexeme) → IsNamed (declaration_by f s ts)
-declaration_named f h s ts = then_wants_named (is_terminal (Separator Semicolon)) (over_names f s ts) (names_named f h (suc (length ts)) s ts (omega arith))
-
-declaration_short : {S : Type 0} (f : S → ℕ → List ℕ → Result S TextFault) (s : S) (ts : List Lexeme) → Within (length ts) (declaration_by f s ts)
-declaration_short f s ts = then_wants_within (is_terminal (Separator Semicolon)) (length ts) (over_names f s ts) (names_short f (suc (length ts)) s ts)
-
 -- ---- items
 
 -- the actions give no fault for want of memory, and leave fewer tokens
@@ -189,47 +148,16 @@ module _ {S V : Type 0} (g : FileActions S V) (h : NameFiles g) where
   item_short s (lexeme (Keyword word.Equal) at text ∷ ts) = weaken (length ts) (suc (length ts)) (equal_by g s at ts) (omega arith) (equal_short s at ts)
   item_short s (lexeme _ at text ∷ ts) = tt
 
-  items_within_named : (n : ℕ) (s : S) (ts : List Lexeme) → length ts < n → IsNamed (items_within g n s ts)
-  items_within_named zero s ts lt = absurd (omega arith)
-  items_within_named (suc n) s [] lt = tt
-  items_within_named (suc n) s (t ∷ ts) lt =
-      bind_named (length (t ∷ ts)) (item_by g s (t ∷ ts)) _ (item_named s (t ∷ ts)) (item_short s (t ∷ ts)) (λ x less. items_within_named n x.0 x.1 (omega arith))
-
   items_named : (s : S) (ts : List Lexeme) → IsNamed (items_by g s ts)
-  items_named s ts = items_within_named (suc (length ts)) s ts (omega arith)
+  items_named s ts = all_named (item_by g) item_named item_short s ts
 
 -- ---- its parts
-
-condition_named : (at : ℕ) (o : Option Meaning) → IsNamed (condition_extent at o)
-condition_named at None = tt
-condition_named at (Some (Test k)) = tt
-condition_named at (Some m) = tt
-
-number_extent_named : (c : Context) (at : ℕ) → IsNamed (number_extent c at)
-number_extent_named c at = if_named c.compares _ (Err (Sort at)) (λ e. tt) (λ e. tt)
-
-variable_named : (c : Context) (at : ℕ) (o : Option Meaning) → IsNamed (variable_extent c at o)
-variable_named c at None = tt
-variable_named c at (Some (Var k)) = if_named c.compares _ (Err (Sort at)) (λ e. tt) (λ e. tt)
-variable_named c at (Some m) = tt
-
-extents_named : (w : ScopeParts) → NameConds (cond_extents w)
-extents_named w = record {
-  exprs = record { number = λ c at n. number_extent_named c at; variable = λ c at text. variable_named c at (meaning w text) };
-  named = λ c at text. condition_named at (meaning w text);
-}
-
-trees_named : (w : ScopeParts) → NameConds (cond_trees w)
-trees_named w = record { exprs = record { number = λ c at n. tt; variable = λ c at text. tt }; named = λ c at text. tt }
-
-conds_named : NameConds scanning_conds
-conds_named = record { exprs = record { number = λ c at n. tt; variable = λ c at text. tt }; named = λ c at text. tt }
 
 guard_at_named : (w : ScopeParts) (d : ℕ) (ts : List Lexeme) → IsNamed (guard_at w d ts)
 guard_at_named w d ts =
     let c = context d false false in
-    then_named (parse_cond (cond_extents w) disjunction c ts) _ (cond_named (cond_extents w) (extents_named w) disjunction c ts)
-    (λ m. change_named _ (parse_cond (cond_trees w) disjunction c ts) (cond_named (cond_trees w) (trees_named w) disjunction c ts))
+    then_named (parse_cond (cond_extents w) disjunction c ts) _ (cond_named (cond_extents w) (extents_named w).conds disjunction c ts)
+    (λ m. change_named _ (parse_cond (cond_trees w) disjunction c ts) (cond_named (cond_trees w) (trees_named w).conds disjunction c ts))
 
 named_by_named : (at : ℕ) (o : Option Meaning) → IsNamed (named_by at o)
 named_by_named at None = tt
@@ -244,7 +172,7 @@ check_named w at name = if_named (is_some (meaning w name)) (Err (DoubleName at)
 
 scanning_named : NameFiles scanning
 scanning_named = record {
-  exprs = λ s ts. gkat_named scanning_expr (λ d us. cond_named scanning_conds conds_named disjunction (context d false true) us) (λ at text. tt) whole 0 ts;
+  exprs = λ s ts. gkat_named scanning_expr (λ d us. cond_named scanning_conds scanning_phrases_named.conds disjunction (context d false true) us) (λ at text. tt) whole 0 ts;
   shorter = λ s ts. gkat_read_short scanning_expr whole 0 ts;
   tests = λ s at text. tt;
   actions = λ s at text. tt;
@@ -266,23 +194,7 @@ file_named : (s : State) (o : Option (GkatTree × GkatTree)) → IsNamed (file_w
 file_named s None = tt
 file_named s (Some x) = tt
 
-tested_named : (ts : List Lexeme) → IsNamed (tested ts)
+pub tested_named : (ts : List Lexeme) → IsNamed (tested ts)
 tested_named ts =
     then_named (scan_file ts) _ (items_named scanning scanning_named tt ts)
     (λ u. then_named (walk ts) file_of (items_named making making_named start ts) (λ s. file_named s s.sides))
-
-placed_named : (len : ℕ) (e : TextFault) → IsNamedFault e → IsNamedFault (placed len e)
-placed_named len (Syntax at) h = tt
-placed_named len e h = h
-
-placing_named : {X : Type 0} (len : ℕ) (m : Result X TextFault) → IsNamed m → IsNamed (placing len m)
-placing_named len (Ok x) h = tt
-placing_named len (Err e) h = placed_named len e h
-
-pub faults_are_named : (bytes : List ℕ) → FirstFault bytes NoMemory → ⊥
-faults_are_named bytes (too_long told past) = cc
-faults_are_named bytes (not_utf8 at told within front) = cc
-faults_are_named bytes (bad_token at told bad) = cc
-faults_are_named bytes (refused r) =
-    let ts = map lexeme_of r.parts_of_tokens in
-    subst IsNamed r.tests_fail (placing_named (length bytes) (tested ts) (tested_named ts))

@@ -1,6 +1,6 @@
 -- A printed expression begins with a phrase of its tree, and reads back.
 use Rattle.std.proofs.Common.{◌≡◌, ◌<◌, ◌≤◌, ◌+◌, ℕ, max, List, [], ◌∷◌, length, false, cond, Some, Result, Ok, Err, IsOk, refl, ap, ◌∙◌, subst, arith}
-use Rattle.std.proofs.lemmas.Bool.{both_ways, or_from}
+use Rattle.std.proofs.lemmas.Bool.{both_ways}
 use Rattle.std.specs.Prelude.{codes}
 use Rattle.kat_model.specs.Trees.{TestTree, bottom, top, prim, complement, meet, join}
 use Rattle.kat_model.specs.Expressions.{CondTree, has_comparison, test_without_comparisons}
@@ -28,6 +28,7 @@ use Rattle.kat_print.proofs.WordTerminals.{name_terminal}
 use Rattle.kat_print.proofs.Separate.{nothing_ends}
 use Rattle.kat_print.proofs.PrintedPhrases.{lexemes_from, leaf}
 use Rattle.kat_print.proofs.PrintedConds.{IsCondOf, cond_back}
+use Rattle.kat_print.proofs.PrintedTerms.{test_of_cond, no_comparison}
 use Rattle.while_lang.specs.Blocks.{enter}
 use Rattle.while_lang.proofs.ScannedBlocks.{enters}
 use Rattle.guarded_terms.specs.Expressions.{GkatTree, test, act, product, choice, loop}
@@ -37,24 +38,6 @@ use Rattle.gkat_front.specs.GkatFolds.{fold_guard, fold_gkat, cond_fold}
 use Rattle.gkat_front.specs.Printing.{is_loop, guard_pieces, gkat_pieces, GkatIsNamed, gkat_nesting}
 use Rattle.gkat_front.specs.Laws.{ReadsBack}
 use Rattle.gkat_front.proofs.SeparateGkat.{gkat_separate}
-
--- ---- a test as a condition
-
-test_of_cond : (b : TestTree) → test_without_comparisons (cond_of b) ≡ b
-test_of_cond bottom = refl
-test_of_cond top = refl
-test_of_cond (prim k) = refl
-test_of_cond (complement b) = ap complement (test_of_cond b)
-test_of_cond (meet b c) = rw (test_of_cond b, test_of_cond c) refl
-test_of_cond (join b c) = rw (test_of_cond b, test_of_cond c) refl
-
-no_comparison : (b : TestTree) → has_comparison (cond_of b) ≡ false
-no_comparison bottom = refl
-no_comparison top = refl
-no_comparison (prim k) = refl
-no_comparison (complement b) = no_comparison b
-no_comparison (meet b c) = or_from (has_comparison (cond_of b)) (has_comparison (cond_of c)) (no_comparison b) (no_comparison c)
-no_comparison (join b c) = or_from (has_comparison (cond_of b)) (has_comparison (cond_of c)) (no_comparison b) (no_comparison c)
 
 ok_value : (r : Result Extent TextFault) → IsOk r → (m : Extent) × (r ≡ Ok m)
 ok_value (Ok m) h = (m, refl)

@@ -1,18 +1,14 @@
 -- The items of a text, read one after the other by any actions.
-use Rattle.std.specs.Prelude.{ℕ, zero, suc, List, [], ◌∷◌, length, Result, Ok, Err}
+use Rattle.std.specs.Prelude.{ℕ, List, [], ◌∷◌, Result, Ok, Err}
 use Rattle.kat_tokens.specs.declared.fault.TextFault.{TextFault}
-use Rattle.kat_tokens.specs.declared.fault.TextFault.TheVariants.{NoMemory, Syntax}
+use Rattle.kat_tokens.specs.declared.fault.TextFault.TheVariants.{Syntax}
 use Rattle.kat_syntax.specs.declared.terminal.Terminal.TheVariants.{Keyword, Separator}
 use Rattle.kat_syntax.specs.declared.terminal.Keyword.TheVariants as word
 use Rattle.kat_syntax.specs.declared.terminal.Separator.TheVariants.{Comma, Semicolon}
 use Rattle.kat_syntax.specs.Lexemes.{Lexeme, lexeme, is_terminal}
 use Rattle.kat_syntax.specs.Parsed.{Parsed, ◌>>=◌, at_end, before, then_wants}
-use Rattle.problem_file.specs.Items.{over_names}
+use Rattle.problem_file.specs.Items.{declaration_by, over_items}
 use Rattle.gkat_front.specs.FileActions.{FileActions}
-
--- names ";"
-abbrev pub declaration_by : {S : Type 0} → (S → ℕ → List ℕ → Result S TextFault) → S → List Lexeme → Parsed S
-declaration_by f s ts = then_wants (is_terminal (Separator Semicolon)) (over_names f s ts)
 
 -- g "," g
 abbrev pub sides_by : {S V : Type 0} → FileActions S V → S → List Lexeme → Parsed (V × V)
@@ -32,10 +28,5 @@ item_by g s (lexeme (Keyword word.Equal) at text ∷ ts) = equal_by g s at ts
 item_by g s (lexeme _ at text ∷ ts) = Err (Syntax at)
 
 -- items up to the end of the tokens, or the first fault
-abbrev pub items_within : {S V : Type 0} → FileActions S V → ℕ → S → List Lexeme → Result S TextFault
-items_within g zero s ts = Err NoMemory
-items_within g (suc n) s [] = Ok s
-items_within g (suc n) s (t ∷ ts) = item_by g s (t ∷ ts) >>= λ x. items_within g n x.0 x.1
-
 abbrev pub items_by : {S V : Type 0} → FileActions S V → S → List Lexeme → Result S TextFault
-items_by g s ts = items_within g (suc (length ts)) s ts
+items_by g s ts = over_items (item_by g) s ts

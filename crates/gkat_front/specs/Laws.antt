@@ -1,7 +1,5 @@
 -- The laws of texts. Each stands on a function of the crate that does nothing.
-use Rattle.std.specs.Prelude.{◌≡◌, ◌⊎◌, ◌↔◌, ◌≤◌, ℕ, List, [], length, map, Ok}
-use Rattle.kat_tokens.specs.declared.fault.TextFault.{TextFault}
-use Rattle.kat_tokens.specs.declared.fault.TextFault.TheVariants.{NoMemory}
+use Rattle.std.specs.Prelude.{◌≡◌, ◌↔◌, ◌≤◌, ℕ, List, [], length, map, Ok}
 use Rattle.kat_tokens.specs.declared.lexer.TheConstants.{MAX_LEN}
 use Rattle.kat_tokens.specs.Lex.{Lexes}
 use Rattle.kat_tokens.specs.Pieces.{Piece, spelled as bytes_of, parts_from}
@@ -11,12 +9,11 @@ use Rattle.kat_text.specs.ScopeParts.{ScopeParts}
 use Rattle.guarded_terms.specs.Expressions.{GkatTree}
 use Rattle.gkat_front.specs.GkatPhrases.{expr, IsGkatPhrase}
 use Rattle.gkat_front.specs.GkatFolds.{gkat_of}
-use Rattle.gkat_front.specs.Files.{GkatFileParts, start}
+use Rattle.gkat_front.specs.Files.{start}
 use Rattle.gkat_front.specs.FilePhrases.{Item, spelled, ItemsObey, AreSpelledBy}
 use Rattle.gkat_front.specs.FileFolds.{made_by}
 use Rattle.gkat_front.specs.Making.{scan_file, walk}
 use Rattle.gkat_front.specs.Printing.{gkat_pieces, GkatIsNamed, gkat_nesting}
-use Rattle.gkat_front.specs.Reads.{Reads, FirstFault}
 
 -- the test of the syntax takes the tokens exactly where they are items and nothing in them is too deep or too wide
 abbrev pub TextsAreScanned : Type 0
@@ -25,14 +22,6 @@ TextsAreScanned = (ts : List Lexeme) → (scan_file ts ≡ Ok tt) ↔ ((items : 
 -- what is made of the tokens of items is what the items make
 abbrev pub TextsAreMade : Type 0
 TextsAreMade = (items : List Item) → ItemsObey items → walk (spelled items) ≡ made_by start items
-
--- bytes say one file or have one first fault, which is never want of memory
-pub record HaveOneAnswer : Type 0 where
-  pub some : (bytes : List ℕ) → ((f : GkatFileParts) × Reads bytes f) ⊎ ((e : TextFault) × FirstFault bytes e)
-  pub either : (bytes : List ℕ) (f : GkatFileParts) (e : TextFault) → Reads bytes f → FirstFault bytes e → ⊥
-  pub files : (bytes : List ℕ) (f g : GkatFileParts) → Reads bytes f → Reads bytes g → f ≡ g
-  pub faults : (bytes : List ℕ) (d e : TextFault) → FirstFault bytes d → FirstFault bytes e → d ≡ e
-  pub named : (bytes : List ℕ) → FirstFault bytes NoMemory → ⊥
 
 -- the text of the pieces has tokens, which are those of a side of `equal` with nothing after it, and its tree in the scope is
 -- this one

@@ -1,36 +1,17 @@
 //! The items of a text, gone through once for any reading.
-ghost use Rattle.std.specs.Prelude.{◌≡◌, ◌+◌, ◌<◌, ◌≤◌, length, drop, IfOk, IfErr, Ok, Err};
+ghost use Rattle.std.specs.Prelude.{◌≡◌, ◌+◌, ◌<◌, ◌≤◌, length, drop, IfOk};
 ghost use Rattle.kat_syntax.specs.Lexemes.{lexemes};
 ghost use Rattle.kat_syntax.specs.Parsed.{Reads, Goes};
-ghost use Rattle.kat_text.specs.ScopeParts.{IsIdentifier};
-ghost use Rattle.problem_file.specs.Items.{name_at, at_name, over_names};
-ghost use Rattle.problem_file.specs.Working.Tokens.{AreTokens};
+ghost use Rattle.problem_file.specs.Items.{at_name, over_names, declaration_by};
+ghost use Rattle.problem_file.specs.Tokens.{AreTokens};
 ghost use Rattle.problem_file.specs.Working.Walks.{Steps, Does};
-ghost use Rattle.gkat_front.specs.Items.{declaration_by, sides_by, equal_by, item_by, items_by};
+ghost use Rattle.gkat_front.specs.Items.{sides_by, equal_by, item_by, items_by};
 ghost use Rattle.gkat_front.specs.Working.Declarations.{declare_by};
 
 use crate::item_reading::{Declared, ItemReading};
-use kat_syntax::{
-    Keyword, Separator, Terminal, expect, is_at, syntax_fault_at, terminal_at, terminal_of,
-};
+use kat_syntax::{Keyword, Separator, Terminal, expect, is_at, syntax_fault_at, terminal_at};
 use kat_tokens::{TextFault, Token};
-
-// The name at an index.
-fn name_at<'a, 'b>(toks: &'b [Token<'a>], i: usize) -> Result<&'b Token<'a>, TextFault>
-    requires tokens { AreTokens toks.now }
-    ensures found { IfOk result (λ name. name_at (drop i (lexemes toks.now)) ≡ Ok (record { at = name.now.at; text = name.now.text.now })) }
-    ensures fault { IfErr result (λ e. name_at (drop i (lexemes toks.now)) ≡ Err e) }
-    ensures identifier { IfOk result (λ name. IsIdentifier name.now.text.now) }
-    ensures within { IfOk result (λ name. i < length toks.now) }
-{
-    match toks.get(i) {
-        None => Err(syntax_fault_at(toks, i)),
-        Some(token) => match terminal_of(token) {
-            Terminal::Name => Ok(token),
-            _ => Err(TextFault::Syntax(token.at)),
-        },
-    }
-}
+use problem_file::name_at;
 
 // Declares the name at an index, and gives the index after it.
 #[tactic(auto, using(kat_syntax::proofs::Tokens::next_drop))]

@@ -1,5 +1,7 @@
 //! Laws of the definitions. Each function does nothing: its contract is the law.
-ghost use Rattle.gkat_front.specs.Laws.{TextsAreScanned, TextsAreMade, HaveOneAnswer, PrintedReadsBack};
+ghost use Rattle.problem_file.specs.Laws.{HaveOneAnswer};
+ghost use Rattle.gkat_front.specs.Reads.{Reads, FirstFault};
+ghost use Rattle.gkat_front.specs.Laws.{TextsAreScanned, TextsAreMade, PrintedReadsBack};
 
 /// The test of the syntax takes just the items of the grammar in which nothing is too deep or too wide.
 pub fn texts_are_scanned()
@@ -13,7 +15,7 @@ pub fn texts_are_made()
 
 /// Bytes say one file or have one first fault, and not both; a first fault is never want of memory.
 pub fn have_one_answer()
-    ensures { HaveOneAnswer }
+    ensures { HaveOneAnswer Reads FirstFault }
 {}
 
 /// A printed expression reads back to the same expression, with nothing left, where the text and its nesting are within the

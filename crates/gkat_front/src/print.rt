@@ -2,45 +2,15 @@
 ghost use Rattle.std.specs.Prelude.{◌≡◌, [], ◌++◌, codes, OnOk, IfOk};
 ghost use Rattle.kat_model.specs.Trees.{test_tree};
 ghost use Rattle.kat_tokens.specs.Pieces.{spelled};
-ghost use Rattle.kat_print.specs.Printing.{name_of, cond_of, cond_text};
+ghost use Rattle.kat_print.specs.Printing.{name_of};
 ghost use Rattle.guarded_terms.specs.Expressions.{test, gkat_tree};
 ghost use Rattle.gkat_front.specs.Printing.{is_loop, guard_text, gkat_text, gkat_pieces};
 
 use guarded_terms::Gkat;
 use kat_model::{NoMemory, Test};
-use kat_print::put_name;
+use kat_print::{put_name, put_test};
 use kat_text::{Meaning, Scope};
 use std::alloc::Global;
-
-// The test as a condition.
-fn put_test(out: &mut Vec<u8>, test: &Test, scope: &Scope) -> Result<(), NoMemory>
-    ensures { OnOk result (out.new.items ≡ out.old.items ++ cond_text (name_of scope.now) (cond_of (test_tree test.now))) }
-{
-    match test {
-        Test::True => out.extend_from_slice(b"true")?,
-        Test::False => out.extend_from_slice(b"false")?,
-        Test::Prim(k) => put_name(out, scope, Meaning::Test(*k))?,
-        Test::Not(b) => {
-            out.push(b'!')?;
-            put_test(out, b, scope)?;
-        }
-        Test::And(b, c) => {
-            out.push(b'(')?;
-            put_test(out, b, scope)?;
-            out.extend_from_slice(b" && ")?;
-            put_test(out, c, scope)?;
-            out.push(b')')?;
-        }
-        Test::Or(b, c) => {
-            out.push(b'(')?;
-            put_test(out, b, scope)?;
-            out.extend_from_slice(b" || ")?;
-            put_test(out, c, scope)?;
-            out.push(b')')?;
-        }
-    }
-    Ok(())
-}
 
 // The test in brackets.
 fn put_guard(out: &mut Vec<u8>, guard: &Test, scope: &Scope) -> Result<(), NoMemory>

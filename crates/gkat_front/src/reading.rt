@@ -4,8 +4,7 @@ ghost use Rattle.kat_tokens.specs.declared.fault.TextFault.TheVariants.{NoMemory
 ghost use Rattle.kat_tokens.specs.declared.lexer.TheConstants.{MAX_LEN as MOST};
 ghost use Rattle.kat_syntax.specs.Lexemes.{lexemes};
 ghost use Rattle.kat_syntax.specs.Parsed.{Makes};
-ghost use Rattle.problem_file.specs.Reads.{placed};
-ghost use Rattle.problem_file.specs.Working.Tokens.{AreTokens};
+ghost use Rattle.problem_file.specs.Tokens.{AreTokens};
 ghost use Rattle.gkat_front.specs.Files.{GkatFileParts};
 ghost use Rattle.gkat_front.specs.FileViews.{file_parts};
 ghost use Rattle.gkat_front.specs.Making.{walk, tested};
@@ -16,18 +15,9 @@ use crate::file::GkatFile;
 use crate::items::read_items;
 use crate::reader::GkatReader;
 use crate::scan::test_syntax;
-use kat_tokens::{MAX_LEN, TextFault, Token, tokens};
+use kat_tokens::{TextFault, Token, tokens};
+use problem_file::{fault_in_text, text_of};
 use std::alloc::Global;
-
-// A fault past the last token is at the text's length.
-fn fault_in_text(fault: TextFault, len: usize) -> TextFault
-    ensures { result ≡ placed len fault }
-{
-    match fault {
-        TextFault::Syntax(at) => TextFault::Syntax(at.min(len)),
-        other => other,
-    }
-}
 
 fn walk(alloc: Global, toks: &[Token]) -> Result<GkatReader, TextFault>
     requires tokens { AreTokens toks.now }
@@ -70,12 +60,6 @@ pub fn read_gkat(alloc: Global, bytes: &[u8]) -> Result<GkatFile, TextFault>
     // Bytes that say something fail only when out of memory.
     ensures only { (f : GkatFileParts) → Reads bytes.now f → IfErr result (λ e. e ≡ NoRoom) }
 {
-    if bytes.len() > MAX_LEN {
-        return Err(TextFault::TooLong);
-    }
-    let text = match std::str::from_utf8(bytes) {
-        Ok(text) => text,
-        Err(fault) => return Err(TextFault::NotUtf8(fault.valid_up_to())),
-    };
+    let text = text_of(bytes)?;
     read_text(alloc, text)
 }

@@ -1,7 +1,7 @@
 //! The test of the syntax of texts, which takes no memory.
 ghost use Rattle.std.specs.Prelude.{◌≡◌};
 ghost use Rattle.kat_syntax.specs.Lexemes.{lexemes};
-ghost use Rattle.problem_file.specs.Working.Tokens.{AreTokens};
+ghost use Rattle.problem_file.specs.Tokens.{AreTokens};
 ghost use Rattle.gkat_front.specs.GkatScans.{scanning_expr};
 ghost use Rattle.gkat_front.specs.Making.{scanning, scan_file};
 

@@ -2,25 +2,14 @@
 ghost use Rattle.std.specs.Prelude.{◌≡◌, length, drop};
 ghost use Rattle.kat_syntax.specs.Lexemes.{lexemes};
 ghost use Rattle.kat_syntax.specs.Parsed.{Reads, Goes};
-ghost use Rattle.while_lang.specs.Blocks.{enter};
 ghost use Rattle.gkat_front.specs.GkatWalks.{guard_by, tested_by, round_by, unit_by, factor_by, product_by, whole, parse_gkat};
 
 use crate::gkat_reading::GkatReading;
-use kat_model::MAX_OPEN;
 use kat_syntax::{
     Separator, Terminal, expect, is_at, place_at, syntax_fault_at, terminal_at, text_at,
 };
 use kat_tokens::{TextFault, Token};
-
-// One construct more is open, from the token at the place on; `TooDeep` with that place where 200 or more are open.
-fn enter(depth: usize, at: usize) -> Result<usize, TextFault>
-    ensures { result ≡ enter depth at }
-{
-    if depth >= MAX_OPEN {
-        return Err(TextFault::TooDeep(at));
-    }
-    Ok(depth + 1)
-}
+use while_lang::enter;
 
 // A condition in brackets.
 fn guard<R: GkatReading>(

@@ -21,6 +21,24 @@ use Rattle.kat_print.proofs.WordTerminals.{name_terminal}
 use Rattle.kat_print.proofs.PrintedPhrases.{lexemes_from, leaf, Begins, enters, after_left, spaced_spelled, spaced_obeys}
 use Rattle.kat_print.proofs.PrintedConds.{IsCondOf, cond_back}
 
+-- ---- a test as a condition
+
+pub test_of_cond : (b : TestTree) → test_without_comparisons (cond_of b) ≡ b
+test_of_cond bottom = refl
+test_of_cond top = refl
+test_of_cond (prim k) = refl
+test_of_cond (complement b) = ap complement (test_of_cond b)
+test_of_cond (meet b c) = rw (test_of_cond b, test_of_cond c) refl
+test_of_cond (join b c) = rw (test_of_cond b, test_of_cond c) refl
+
+pub no_comparison : (b : TestTree) → has_comparison (cond_of b) ≡ false
+no_comparison bottom = refl
+no_comparison top = refl
+no_comparison (prim k) = refl
+no_comparison (complement b) = no_comparison b
+no_comparison (meet b c) = or_from (has_comparison (cond_of b)) (has_comparison (cond_of c)) (no_comparison b) (no_comparison c)
+no_comparison (join b c) = or_from (has_comparison (cond_of b)) (has_comparison (cond_of c)) (no_comparison b) (no_comparison c)
+
 module _ (w : ScopeParts) where
   -- the phrase has that tree, and is so deep
   pub record IsTermOf (e : Term) (n : ℕ) (p : Phrase star) : Type 0 where
@@ -88,22 +106,6 @@ module _ (w : ScopeParts) where
     fits = λ d le. tt;
     deep = ap (λ o. name_nesting w o) is ∙ flat;
   }
-
-  test_of_cond : (b : TestTree) → test_without_comparisons (cond_of b) ≡ b
-  test_of_cond bottom = refl
-  test_of_cond top = refl
-  test_of_cond (prim k) = refl
-  test_of_cond (complement b) = ap complement (test_of_cond b)
-  test_of_cond (meet b c) = rw (test_of_cond b, test_of_cond c) refl
-  test_of_cond (join b c) = rw (test_of_cond b, test_of_cond c) refl
-
-  no_comparison : (b : TestTree) → has_comparison (cond_of b) ≡ false
-  no_comparison bottom = refl
-  no_comparison top = refl
-  no_comparison (prim k) = refl
-  no_comparison (complement b) = no_comparison b
-  no_comparison (meet b c) = or_from (has_comparison (cond_of b)) (has_comparison (cond_of c)) (no_comparison b) (no_comparison c)
-  no_comparison (join b c) = or_from (has_comparison (cond_of b)) (has_comparison (cond_of c)) (no_comparison b) (no_comparison c)
 
   square_holds : (b : TestTree) (p : Phrase lit) (l r : Leaf) → IsCondOf w (cond_of b) p → IsUnitOf (test b) (cond_nesting (cond_of b) + 1) (square_unit l (one_conj (one_lit p)) r)
   square_holds b p l r h = record {

@@ -31,10 +31,10 @@ Separate pieces = (ps : List Piece) → EndsWords ps → AreSeparate ps → AreS
 pub nothing_ends : EndsWords []
 nothing_ends = record { name = λ b. tt; number = λ b. tt }
 
-blank_ends : (ps : List Piece) → EndsWords (gap 32 ∷ ps)
+pub blank_ends : (ps : List Piece) → EndsWords (gap 32 ∷ ps)
 blank_ends ps = record { name = λ b. refl; number = λ b. refl }
 
-round_ends : (ps : List Piece) → EndsWords (symbol (codes ")") ∷ ps)
+pub round_ends : (ps : List Piece) → EndsWords (symbol (codes ")") ∷ ps)
 round_ends ps = record { name = λ b. refl; number = λ b. refl }
 
 square_ends : (ps : List Piece) → EndsWords (symbol (codes "]") ∷ ps)
@@ -48,11 +48,11 @@ star_ends ps = record { name = λ b. refl; number = λ b. refl }
 
 -- ---- symbols that go on in nothing
 
-open_alone : (rest : List ℕ) → EndsBefore Symbol (codes "(") rest
+pub open_alone : (rest : List ℕ) → EndsBefore Symbol (codes "(") rest
 open_alone [] = tt
 open_alone (b ∷ bs) = refl
 
-close_alone : (rest : List ℕ) → EndsBefore Symbol (codes ")") rest
+pub close_alone : (rest : List ℕ) → EndsBefore Symbol (codes ")") rest
 close_alone [] = tt
 close_alone (b ∷ bs) = refl
 
@@ -92,6 +92,21 @@ spaced_separate between left right is f g ps after =
     let middle : AreSeparate (gap 32 ∷ symbol between ∷ gap 32 ∷ right (symbol (codes ")") ∷ ps)) = (refl, (is.symbol, is.ends (spelled (right (symbol (codes ")") ∷ ps))), (refl, second))) in
     (refl, open_alone _, f (gap 32 ∷ symbol between ∷ gap 32 ∷ right (symbol (codes ")") ∷ ps)) (blank_ends _) middle)
 
+-- two phrases in parentheses with a dot between them
+pub product_separate : (left right : List Piece → List Piece) → Separate left → Separate right → (ps : List Piece) → AreSeparate ps → AreSeparate (symbol (codes "(") ∷ left (symbol (codes ".") ∷ right (symbol (codes ")") ∷ ps)))
+product_separate left right f g ps after =
+    let last : AreSeparate (symbol (codes ")") ∷ ps) = (refl, close_alone (spelled ps), after) in
+    let second = g (symbol (codes ")") ∷ ps) (round_ends ps) last in
+    let middle : AreSeparate (symbol (codes ".") ∷ right (symbol (codes ")") ∷ ps)) = (refl, dot_alone _, second) in
+    (refl, open_alone _, f (symbol (codes ".") ∷ right (symbol (codes ")") ∷ ps)) (dot_ends _) middle)
+
+-- a phrase that may stand in parentheses
+pub rounded_separate : (rounded : Bool) (inside : List Piece → List Piece) → Separate inside → (ps : List Piece) → EndsWords ps → AreSeparate ps → AreSeparate (cond rounded (in_round inside ps) (inside ps))
+rounded_separate true inside f ps ends after =
+    let closed : AreSeparate (symbol (codes ")") ∷ ps) = (refl, close_alone (spelled ps), after) in
+    (refl, open_alone (spelled (inside (symbol (codes ")") ∷ ps))), f (symbol (codes ")") ∷ ps) (round_ends ps) closed)
+rounded_separate false inside f ps ends after = f ps ends after
+
 -- ---- a `!` before what does not begin with `=`
 
 abbrev AllHigh : List ℕ → Type 0
@@ -117,7 +132,7 @@ bang_name : (name rest : List ℕ) → IsToken Name name → EndsBefore Symbol (
 bang_name name rest is = let h = name_first name is in subst (λ (l : List ℕ). EndsBefore Symbol (codes "!") (l ++ rest)) (sym h.2) (bang_alone h.0 (h.1 ++ rest) h.3)
 
 module _ (w : ScopeParts) (names : Meaning → List ℕ) where
-  word_separate : (m : Meaning) → IsNameOf w (names m) m → Separate (λ ps. word (names m) ∷ ps)
+  pub word_separate : (m : Meaning) → IsNameOf w (names m) m → Separate (λ ps. word (names m) ∷ ps)
   word_separate m is ps ends after = (is.identifier.name, ends.name (names m), after)
 
   pub expr_separate : (e : ExprTree) → ExprIsNamed w names e → Separate (expr_pieces names e)
@@ -145,7 +160,7 @@ module _ (w : ScopeParts) (names : Meaning → List ℕ) where
   cond_separate (both b c) is ps ends after = spaced_separate (codes "&&") (cond_pieces names b) (cond_pieces names c) (record { symbol = refl; ends = λ rest. refl }) (cond_separate b is.0) (cond_separate c is.1) ps after
   cond_separate (either b c) is ps ends after = spaced_separate (codes "||") (cond_pieces names b) (cond_pieces names c) (record { symbol = refl; ends = λ rest. refl }) (cond_separate b is.0) (cond_separate c is.1) ps after
 
-  bracket_separate : (b : CondTree) → CondIsNamed w names b → (ps : List Piece) → AreSeparate ps → AreSeparate (symbol (codes "[") ∷ cond_pieces names b (symbol (codes "]") ∷ ps))
+  pub bracket_separate : (b : CondTree) → CondIsNamed w names b → (ps : List Piece) → AreSeparate ps → AreSeparate (symbol (codes "[") ∷ cond_pieces names b (symbol (codes "]") ∷ ps))
   bracket_separate b is ps after = (refl, square_open_alone _, cond_separate b is (symbol (codes "]") ∷ ps) (square_ends ps) (refl, square_close_alone (spelled ps), after))
 
   test_separate : (b : TestTree) → CondIsNamed w names (cond_of b) → Separate (test_pieces names b)
@@ -156,22 +171,11 @@ module _ (w : ScopeParts) (names : Meaning → List ℕ) where
   test_separate (meet b c) is ps ends after = bracket_separate (cond_of (meet b c)) is ps after
   test_separate (join b c) is ps ends after = bracket_separate (cond_of (join b c)) is ps after
 
-  starred_separate : (starred : Bool) (inside : List Piece → List Piece) → Separate inside → (ps : List Piece) → AreSeparate ps → AreSeparate (cond starred (in_round inside (symbol (codes "*") ∷ ps)) (inside (symbol (codes "*") ∷ ps)))
-  starred_separate true inside f ps after =
-      let last : AreSeparate (symbol (codes "*") ∷ ps) = (refl, star_alone (spelled ps), after) in
-      let closed : AreSeparate (symbol (codes ")") ∷ symbol (codes "*") ∷ ps) = (refl, close_alone (spelled (symbol (codes "*") ∷ ps)), last) in
-      (refl, open_alone (spelled (inside (symbol (codes ")") ∷ symbol (codes "*") ∷ ps))), f (symbol (codes ")") ∷ symbol (codes "*") ∷ ps) (round_ends (symbol (codes "*") ∷ ps)) closed)
-  starred_separate false inside f ps after = f (symbol (codes "*") ∷ ps) (star_ends ps) (refl, star_alone (spelled ps), after)
-
   pub term_separate : (e : Term) → TermIsNamed w names e → Separate (term_pieces names e)
   term_separate zero is ps ends after = (refl, ends.number (codes "0"), after)
   term_separate one is ps ends after = (refl, ends.number (codes "1"), after)
   term_separate (test b) is ps ends after = test_separate b is ps ends after
   term_separate (act a) is ps ends after = word_separate (Action a) is ps ends after
   term_separate (sum e f) is ps ends after = spaced_separate (codes "+") (term_pieces names e) (term_pieces names f) (record { symbol = refl; ends = λ rest. refl }) (term_separate e is.0) (term_separate f is.1) ps after
-  term_separate (product e f) is ps ends after =
-      let last : AreSeparate (symbol (codes ")") ∷ ps) = (refl, close_alone (spelled ps), after) in
-      let second = term_separate f is.1 (symbol (codes ")") ∷ ps) (round_ends ps) last in
-      let middle : AreSeparate (symbol (codes ".") ∷ term_pieces names f (symbol (codes ")") ∷ ps)) = (refl, dot_alone _, second) in
-      (refl, open_alone _, term_separate e is.0 (symbol (codes ".") ∷ term_pieces names f (symbol (codes ")") ∷ ps)) (dot_ends _) middle)
-  term_separate (star e) is ps ends after = starred_separate (is_star e) (term_pieces names e) (term_separate e is) ps after
+  term_separate (product e f) is ps ends after = product_separate (term_pieces names e) (term_pieces names f) (term_separate e is.0) (term_separate f is.1) ps after
+  term_separate (star e) is ps ends after = rounded_separate (is_star e) (term_pieces names e) (term_separate e is) (symbol (codes "*") ∷ ps) (star_ends ps) (refl, star_alone (spelled ps), after)

@@ -131,8 +131,9 @@ fn put_cond(alloc: Global, out: &mut Vec<u8>, cond: &Cond, scope: &Scope) -> Res
     Ok(())
 }
 
-// The test as a condition.
-fn put_test(out: &mut Vec<u8>, test: &Test, scope: &Scope) -> Result<(), NoMemory>
+/// Adds to the end of `out` the text of the test as a condition, as [`print_cond`] writes one. It fails only when out of
+/// memory, and may then have written a part.
+pub fn put_test(out: &mut Vec<u8>, test: &Test, scope: &Scope) -> Result<(), NoMemory>
     ensures { OnOk result (out.new.items ≡ out.old.items ++ cond_text (name_of scope.now) (cond_of (test_tree test.now))) }
 {
     match test {

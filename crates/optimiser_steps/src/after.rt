@@ -8,13 +8,13 @@ ghost use Rattle.while_lang.specs.ProgramViews.{stmt_tree};
 ghost use Rattle.optimiser_theory.specs.Statements.{IsStmtInRange, AreStmtsInRange};
 ghost use Rattle.optimiser_steps.specs.Working.Found.{FindsLeast};
 
-use crate::doubles::{copy_of, list_of, push, push_copies};
+use crate::doubles::{list_of, push_copies};
 use crate::made::Made;
 use crate::validity::{fails_after, holds_after};
 use kat_model::{Cond, NoMemory};
 use problem_file::File;
 use std::alloc::Global;
-use while_lang::{Prog, Stmt};
+use while_lang::{Prog, Stmt, copy_stmt, push_stmt};
 
 // Copies of the statement, of these and of those after them.
 fn list_after(
@@ -26,7 +26,7 @@ fn list_after(
     ensures { IfOk result (λ v. map stmt_tree v.items ≡ stmt_tree stmt.now ∷ map stmt_tree taken.now ++ map stmt_tree later.now) }
 {
     let mut list = Vec::new(alloc);
-    push(&mut list, copy_of(alloc, stmt)?)?;
+    push_stmt(&mut list, copy_stmt(alloc, stmt)?)?;
     push_copies(alloc, &mut list, taken)?;
     push_copies(alloc, &mut list, later)?;
     Ok(list)
@@ -75,7 +75,7 @@ fn while_after(
     if !fails_after(alloc, file, stmt, cond)? {
         return Ok(None);
     }
-    let list = list_of(alloc, copy_of(alloc, stmt)?, later)?;
+    let list = list_of(alloc, copy_stmt(alloc, stmt)?, later)?;
     Ok(Some(Made { step: 10, list }))
 }
 

@@ -9,13 +9,13 @@ ghost use Rattle.while_lang.specs.ProgramViews.{stmt_tree};
 ghost use Rattle.optimiser_theory.specs.Statements.{IsStmtInRange};
 ghost use Rattle.optimiser_steps.specs.Working.Found.{FindsLeast, FindsSharedEnd};
 
-use crate::doubles::{copies_of, copy_of, is_same_stmt, joined_list, list_of, push, push_copies};
+use crate::doubles::{copies_of, is_same_stmt, joined_list, list_of, push_copies};
 use crate::made::Made;
 use crate::validity::{holds_always, holds_never};
 use kat_model::{Cond, NoMemory};
 use problem_file::File;
 use std::alloc::Global;
-use while_lang::{Prog, Stmt};
+use while_lang::{Prog, Stmt, copy_stmt, push_stmt};
 
 // S2 at an `abort`.
 fn abort_step(alloc: Global, rest: &[Stmt]) -> Result<Option<Made>, NoMemory>
@@ -74,7 +74,7 @@ fn shared_end(alloc: Global, first: &Prog, second: &Prog) -> Result<Option<Share
     let second = Prog {
         list: copies_of(alloc, other_front)?,
     };
-    let last = copy_of(alloc, last)?;
+    let last = copy_stmt(alloc, last)?;
     Ok(Some(SharedEnd {
         first,
         second,
@@ -102,8 +102,8 @@ fn shared_end_step(
             },
         ) => {
             let mut list = Vec::new(alloc);
-            push(&mut list, Stmt::If(cond.copy(alloc)?, first, second))?;
-            push(&mut list, last)?;
+            push_stmt(&mut list, Stmt::If(cond.copy(alloc)?, first, second))?;
+            push_stmt(&mut list, last)?;
             push_copies(alloc, &mut list, rest)?;
             Ok(Some(Made { step: 8, list }))
         }

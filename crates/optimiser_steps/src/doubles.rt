@@ -1,43 +1,12 @@
 //! Copies of statements, and equality of statements and conditions.
-ghost use Rattle.std.specs.Prelude.{◌≡◌, ◌↔◌, [], ◌∷◌, ◌++◌, IsTrue, IfOk, OnOk, map};
+ghost use Rattle.std.specs.Prelude.{◌≡◌, ◌↔◌, ◌∷◌, ◌++◌, IsTrue, IfOk, OnOk, map};
 ghost use Rattle.kat_model.specs.Expressions.{cond_tree};
 ghost use Rattle.while_lang.specs.ProgramViews.{stmt_tree};
 ghost use Rattle.optimiser_theory.specs.Statements.{single};
 
 use kat_model::{Cond, NoMemory};
 use std::alloc::Global;
-use while_lang::{Prog, Stmt};
-
-/// The same statement again.
-pub(crate) fn copy_of(alloc: Global, stmt: &Stmt) -> Result<Stmt, NoMemory>
-    ensures { IfOk result (λ s. stmt_tree s ≡ stmt_tree stmt.now) }
-{
-    match stmt {
-        Stmt::Skip => Ok(Stmt::Skip),
-        Stmt::Abort => Ok(Stmt::Abort),
-        Stmt::Assert(b) => Ok(Stmt::Assert(b.copy(alloc)?)),
-        Stmt::Act(a) => Ok(Stmt::Act(*a)),
-        Stmt::Assign(x, e) => Ok(Stmt::Assign(*x, e.copy(alloc)?)),
-        Stmt::If(b, p, q) => {
-            let cond = b.copy(alloc)?;
-            let first = p.copy(alloc)?;
-            let second = q.copy(alloc)?;
-            Ok(Stmt::If(cond, first, second))
-        }
-        Stmt::While(b, p) => {
-            let cond = b.copy(alloc)?;
-            let body = p.copy(alloc)?;
-            Ok(Stmt::While(cond, body))
-        }
-    }
-}
-
-/// One more statement at the end.
-pub(crate) fn push(list: &mut Vec<Stmt>, stmt: Stmt) -> Result<(), NoMemory>
-    ensures { OnOk result (map stmt_tree list.new.items ≡ map stmt_tree list.old.items ++ stmt_tree stmt ∷ []) }
-{
-    Ok(list.push(stmt)?)
-}
+use while_lang::{Prog, Stmt, copy_stmt, push_stmt};
 
 /// Copies of these statements at the end.
 pub(crate) fn push_copies(
@@ -48,7 +17,7 @@ pub(crate) fn push_copies(
     ensures { OnOk result (map stmt_tree list.new.items ≡ map stmt_tree list.old.items ++ map stmt_tree stmts.now) }
 {
     for stmt in stmts {
-        push(list, copy_of(alloc, stmt)?)?;
+        push_stmt(list, copy_stmt(alloc, stmt)?)?;
     }
     Ok(())
 }
@@ -67,7 +36,7 @@ pub(crate) fn list_of(alloc: Global, stmt: Stmt, rest: &[Stmt]) -> Result<Vec<St
     ensures { IfOk result (λ v. map stmt_tree v.items ≡ stmt_tree stmt ∷ map stmt_tree rest.now) }
 {
     let mut list = Vec::new(alloc);
-    push(&mut list, stmt)?;
+    push_stmt(&mut list, stmt)?;
     push_copies(alloc, &mut list, rest)?;
     Ok(list)
 }
@@ -90,7 +59,7 @@ pub(crate) fn single(alloc: Global, stmt: Stmt) -> Result<Prog, NoMemory>
     ensures { IfOk result (λ p. p ≡ single (stmt_tree stmt)) }
 {
     let mut list = Vec::new(alloc);
-    push(&mut list, stmt)?;
+    push_stmt(&mut list, stmt)?;
     Ok(Prog { list })
 }
 
@@ -98,8 +67,8 @@ pub(crate) fn single(alloc: Global, stmt: Stmt) -> Result<Prog, NoMemory>
 pub(crate) fn is_same_stmt(alloc: Global, left: &Stmt, right: &Stmt) -> Result<bool, NoMemory>
     ensures { IfOk result (λ same. IsTrue same ↔ (stmt_tree left.now ≡ stmt_tree right.now)) }
 {
-    let first = single(alloc, copy_of(alloc, left)?)?;
-    let second = single(alloc, copy_of(alloc, right)?)?;
+    let first = single(alloc, copy_stmt(alloc, left)?)?;
+    let second = single(alloc, copy_stmt(alloc, right)?)?;
     Ok(first.same(&second))
 }
 

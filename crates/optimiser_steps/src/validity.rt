@@ -11,14 +11,14 @@ ghost use Rattle.optimiser_theory.specs.Statements.{single, IsStmtInRange};
 ghost use Rattle.while_lang.specs.ProgramViews.{stmt_tree};
 ghost use Rattle.optimiser_steps.specs.Working.Goals.{GoalIsSame};
 
-use crate::doubles::{copy_of, single};
+use crate::doubles::single;
 use abstraction::{AbstractFault, abstracted_for};
 use bisim_worklist::decide;
 use certificate::Evidence;
 use kat_model::{Cond, NoMemory, Problem};
 use problem_file::{File, Goal, Side};
 use std::alloc::Global;
-use while_lang::{Prog, Stmt};
+use while_lang::{Prog, Stmt, copy_stmt};
 
 fn is_same(alloc: Global, problem: &Problem) -> Result<bool, NoMemory>
     ensures { IfOk result (λ same. IsTrue same ↔ Same problem.now) }
@@ -104,7 +104,7 @@ pub(crate) fn holds_after(
     requires cond { IsCondInRange file.now.tests file.now.vars (cond_tree cond.now) }
     ensures { IfOk result (λ valid. IsTrue valid ↔ IsValid file.now always (single (stmt_tree stmt.now)) (cond_tree cond.now)) }
 {
-    let body = single(alloc, copy_of(alloc, stmt)?)?;
+    let body = single(alloc, copy_stmt(alloc, stmt)?)?;
     is_valid(alloc, file, Cond::True, body, cond.copy(alloc)?)
 }
 

@@ -2,11 +2,11 @@
 ghost use Rattle.std.specs.Prelude.{◌≡◌, ◌+◌, ◌<◌, [], ◌∷◌, ◌++◌, length, take, drop, IfOk, map};
 ghost use Rattle.while_lang.specs.ProgramViews.{stmt_tree};
 
-use crate::doubles::{copies_of, joined_list, push, push_copies};
+use crate::doubles::{copies_of, joined_list, push_copies};
 use crate::made::Made;
 use kat_model::NoMemory;
 use std::alloc::Global;
-use while_lang::Stmt;
+use while_lang::{Stmt, push_stmt};
 
 /// The number of a step, where it is made, and the list that it makes.
 #[derive(Drop)]
@@ -59,7 +59,7 @@ fn list_with(
     ensures { IfOk result (λ v. map stmt_tree v.items ≡ take position (map stmt_tree list.now) ++ stmt_tree stmt ∷ drop (position + 1) (map stmt_tree list.now)) }
 {
     let mut whole = copies_of(alloc, &list[..position])?;
-    push(&mut whole, stmt)?;
+    push_stmt(&mut whole, stmt)?;
     push_copies(alloc, &mut whole, &list[position + 1..])?;
     Ok(whole)
 }

@@ -1,24 +1,22 @@
 -- Without variables, comparisons are constant, and there are no assignments.
-use Rattle.std.proofs.Common.{◌≡◌, ◌<◌, ◌+◌, ◌-◌, ◌*◌, ◌%◌, ℕ, zero, suc, List, [], ◌∷◌, ◌++◌, map, Bool, true, false, nat_eq, nat_lt, refl, sym, ap, ◌∙◌, subst, arith}
+use Rattle.std.proofs.Common.{◌≡◌, ◌<◌, ◌+◌, ◌-◌, ◌*◌, ◌%◌, ℕ, zero, suc, List, [], ◌∷◌, map, Bool, true, false, nat_eq, nat_lt, refl, ap, ◌∙◌, subst, arith}
 use Rattle.std.proofs.lemmas.List.{append-nil}
 use Rattle.kat_model.specs.Trees.{Term}
 use Rattle.kat_model.specs.Expressions.{ExprTree, number, variable, plus, minus, times, CondTree, always, never, named, compared, negation, both, either}
 use Rattle.kat_model.specs.Stores.{modulus}
-use Rattle.kat_model.specs.Problems.{ProblemParts}
 use Rattle.kat_model.specs.declared.expression.Rel.{Rel}
 use Rattle.kat_model.specs.declared.expression.Rel.TheVariants.{Eq, Ne, Lt, Le, Gt, Ge}
-use Rattle.linear_forms.specs.Forms.{FormTree, constant}
-use Rattle.linear_forms.specs.Arithmetic.{normal_form, form_sum, form_difference, form_product}
-use Rattle.linear_forms.specs.Comparisons.{constantly, opposite, compared_form, comparison_form}
-use Rattle.linear_forms.specs.declared.comparison.Atomic.{Atomic}
+use Rattle.linear_forms.specs.Forms.{constant}
+use Rattle.linear_forms.specs.Arithmetic.{normal_form}
+use Rattle.linear_forms.specs.Comparisons.{constantly, opposite, compared_form}
 use Rattle.while_lang.specs.Programs.{ProgTree, empty, skip_then, abort_then, assert_then, act_then, assign_then, branch_then, loop_then}
-use Rattle.problem_file.specs.Files.{FileParts, GoalTree, triple, prog_side}
+use Rattle.problem_file.specs.Files.{FileParts, triple, prog_side}
 use Rattle.problem_file.specs.Ranges.{IsExprInRange, IsCondInRange, IsProgInRange}
-use Rattle.abstraction.specs.Comparisons.{Assignment, atomics, cond_comparisons, prog_comparisons, prog_assignments, goal_comparisons, goal_assignments}
-use Rattle.abstraction.specs.Tables.{Tables, is_same_comparison, is_same_assignment, with_all_new, first_comparisons, file_assignments}
-use Rattle.abstraction.specs.Rounds.{rounds, file_comparisons, tables_of}
+use Rattle.abstraction.specs.Comparisons.{atomics, cond_comparisons, prog_comparisons, prog_assignments}
+use Rattle.abstraction.specs.Tables.{Tables, first_comparisons, file_assignments}
+use Rattle.abstraction.specs.Rounds.{rounds, tables_of}
 use Rattle.abstraction.specs.Facts.{Hypothesis}
-use Rattle.abstraction.specs.Derived.{stated_from, derived, hypotheses}
+use Rattle.abstraction.specs.Derived.{stated_from, hypotheses}
 use Rattle.abstraction.specs.Abstracts.{with_goal, file_problem}
 use Rattle.optimiser_theory.specs.Meanings.{declared_tables}
 

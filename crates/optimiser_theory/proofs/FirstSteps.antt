@@ -1,15 +1,14 @@
 -- The first step of a list, sought from place to place.
-use Rattle.std.proofs.Common.{◌≡◌, ◌<◌, ◌≤◌, ◌+◌, ℕ, zero, suc, ◌⊎◌, inl, inr, ⊎_elim, List, [], ◌∷◌, ◌++◌, length, take, drop, Option, Some, None, refl, sym, ap, ◌∙◌, subst, arith}
+use Rattle.std.proofs.Common.{◌≡◌, ◌<◌, ◌≤◌, ◌+◌, ℕ, zero, suc, ◌⊎◌, inl, inr, ⊎_elim, List, [], ◌∷◌, ◌++◌, length, take, drop, Some, None, refl, sym, ap, ◌∙◌, subst, arith}
 use Rattle.std.proofs.lemmas.Bool.{cases_lt, cases_eq}
-use Rattle.std.proofs.lemmas.List.{length-drop}
+use Rattle.std.proofs.lemmas.Option.{same_Some}
 use Rattle.problem_file.specs.Files.{FileParts}
 use Rattle.while_lang.specs.Programs.{ProgTree, StmtTree, prog_of, stmts_of}
 use Rattle.while_lang.proofs.ProgramLists.{stmts_of-prog_of}
 use Rattle.optimiser_theory.specs.Statements.{block, with_block}
 use Rattle.optimiser_theory.specs.Steps.{step_relations, Step}
-use Rattle.optimiser_theory.specs.Paths.{StepsAt, IsBefore, NoStepBefore, NoStep, IsFirstStep}
+use Rattle.optimiser_theory.specs.Paths.{StepsAt, NoStepBefore, NoStep, IsFirstStep}
 use Rattle.optimiser_theory.proofs.NumberedSteps.{nth_within, SomeHolds, some_holds}
-use Rattle.optimiser_theory.proofs.RangesKept.{some_is}
 
 module _ (f : FileParts) where
   -- a step has a number from 1 to 12
@@ -41,7 +40,7 @@ module _ (f : FileParts) where
     inner_step n path ts (s', rest', p', q', at', is', made, e) =
         let whole : s' ∷ rest' ≡ s ∷ rest = sym at' ∙ at in
         let same_s : s' ≡ s = cc in
-        let same_p : p' ≡ p = some_is p' p (sym is' ∙ ap (λ (x : StmtTree). block x j) same_s ∙ is) in
+        let same_p : p' ≡ p = same_Some p' p (sym is' ∙ ap (λ (x : StmtTree). block x j) same_s ∙ is) in
         (stmts_of q', subst (λ x. StepsAt f n path (stmts_of x) (stmts_of q')) same_p made)
 
     -- the first step of a block is that of the list, where none comes before the block

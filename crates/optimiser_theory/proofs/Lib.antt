@@ -1,5 +1,6 @@
 pub mod NumberedSteps
 pub mod RangesKept
+pub mod ProgramRanges
 pub mod Machines
 pub mod StepsKept
 pub mod OneFirstStep

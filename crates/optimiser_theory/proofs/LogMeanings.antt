@@ -1,9 +1,9 @@
 -- What the steps of a log keep.
-use Rattle.std.proofs.Common.{◌≡◌, List, [], ◌∷◌, refl, subst}
+use Rattle.std.proofs.Common.{List, [], ◌∷◌, subst}
 use Rattle.problem_file.specs.Files.{FileParts}
 use Rattle.while_lang.specs.Programs.{ProgTree, stmts_of}
 use Rattle.optimiser_theory.specs.Logs.{LogLineParts, FirstStep, IsLog}
-use Rattle.optimiser_theory.specs.Meanings.{HasProgInRange, KeepsInTables, KeepsFromStores}
+use Rattle.optimiser_theory.specs.Meanings.{HasProgInRange}
 use Rattle.optimiser_theory.specs.Laws.{LogsKeep}
 use Rattle.optimiser_theory.proofs.RangesKept.{stmts_in, prog_in, steps_at_in}
 use Rattle.optimiser_theory.proofs.TableMeanings.{step_keeps_in_tables}

@@ -1,5 +1,5 @@
 -- Facts by their numbers, as steps are.
-use Rattle.std.proofs.Common.{◌≡◌, ◌≤◌, ◌+◌, ℕ, zero, suc, ◌⊎◌, inl, inr, ⊎_elim, List, [], ◌∷◌, length, arith}
+use Rattle.std.proofs.Common.{◌≤◌, ℕ, zero, suc, ◌⊎◌, inl, inr, List, [], ◌∷◌, length, arith}
 use Rattle.optimiser_theory.specs.Steps.{NthHolds}
 
 -- one of the facts holds

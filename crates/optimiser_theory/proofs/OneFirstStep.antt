@@ -1,15 +1,16 @@
 -- Of a list of statements there is at most one first step.
-use Rattle.std.proofs.Common.{◌≡◌, ◌<◌, ℕ, zero, suc, ◌⊎◌, inl, inr, ⊎_elim, List, [], ◌∷◌, ◌++◌, take, drop, Some, refl, sym, ap, ◌∙◌, subst, arith}
+use Rattle.std.proofs.Common.{◌≡◌, ℕ, ◌⊎◌, inl, inr, ⊎_elim, List, [], ◌∷◌, ◌++◌, take, drop, refl, sym, ap, ◌∙◌, subst, arith}
 use Rattle.std.proofs.lemmas.Bool.{cases_lt}
+use Rattle.std.proofs.lemmas.Option.{same_Some}
 use mathlib.Core.Path.{ap₂}
 use Rattle.problem_file.specs.Files.{FileParts}
-use Rattle.while_lang.specs.Programs.{ProgTree, empty, branch_then, loop_then, StmtTree, skip, abort, assert, act, assign, branch, loop, prog_of, stmts_of}
-use Rattle.optimiser_theory.specs.Statements.{block, with_block, single}
+use Rattle.while_lang.specs.Programs.{ProgTree, empty, branch_then, loop_then, StmtTree, skip, abort, assert, branch, loop, prog_of, stmts_of}
+use Rattle.while_lang.proofs.BlockMeasures.{prog_of-stmts_of}
+use Rattle.optimiser_theory.specs.Statements.{block}
 use Rattle.optimiser_theory.specs.Steps.{LeavesOutSkip, LeavesOutUnreached, LeavesOutAssert, TakesFirstBlock, TakesSecondBlock, LeavesOutLoop, TakesEitherBlock, SharesLastStatement, TakesFirstBlockAfter, TakesSecondBlockAfter, UnswitchesLoop, FlattensLoop, step_relations, Step}
-use Rattle.optimiser_theory.specs.Paths.{StepsAt, IsBefore, NoStepBefore, IsFirstStep}
+use Rattle.optimiser_theory.specs.Paths.{StepsAt, IsBefore, IsFirstStep}
 use Rattle.optimiser_theory.specs.Logs.{LogLineParts, FirstStep}
 use Rattle.optimiser_theory.proofs.NumberedSteps.{SomeHold, some_hold}
-use Rattle.optimiser_theory.proofs.RangesKept.{some_is, prog_of-stmts_of}
 
 no_last : {X : Type 0} (xs : List X) (x : X) → xs ++ x ∷ [] ≡ [] → ⊥
 no_last [] x e = cc
@@ -112,7 +113,7 @@ module _ (f : FileParts) where
       let whole : s ∷ rest ≡ s' ∷ rest' = sym at ∙ at' in
       let same_s : s ≡ s' = cc in
       let same_rest : rest ≡ rest' = cc in
-      let same_p : p ≡ p' = some_is p p' (sym is ∙ ap (λ (x : StmtTree). block x j) same_s ∙ is') in
+      let same_p : p ≡ p' = same_Some p p' (sym is ∙ ap (λ (x : StmtTree). block x j) same_s ∙ is') in
       let other : StepsAt f n path (stmts_of p) (stmts_of q') = subst (λ x. StepsAt f n path (stmts_of x) (stmts_of q')) (sym same_p) made' in
       let same_q : q ≡ q' = same_progs q q' (one_at n path (stmts_of p) (stmts_of q) (stmts_of q') made other) in
       e ∙ rw (same_s, same_rest, same_q) (sym e')

@@ -1,26 +1,14 @@
 -- Steps keep the numbers of statements in range.
-use Rattle.std.proofs.Common.{◌≡◌, ◌<◌, ℕ, zero, suc, inl, inr, List, [], ◌∷◌, ◌++◌, take, drop, Some, refl, sym, ap, subst}
+use Rattle.std.proofs.Common.{◌≡◌, ℕ, zero, suc, inl, inr, List, [], ◌∷◌, ◌++◌, take, drop, Some, subst}
+use Rattle.std.proofs.lemmas.Option.{same_Some}
 use Rattle.problem_file.specs.Files.{FileParts}
-use Rattle.problem_file.specs.Ranges.{IsCondInRange, IsProgInRange}
+use Rattle.problem_file.specs.Ranges.{IsProgInRange}
 use Rattle.while_lang.specs.Programs.{ProgTree, empty, skip_then, abort_then, assert_then, act_then, assign_then, branch_then, loop_then, StmtTree, skip, abort, assert, act, assign, branch, loop, with_stmt, prog_of, stmts_of}
+use Rattle.while_lang.proofs.BlockMeasures.{prog_of-stmts_of}
 use Rattle.optimiser_theory.specs.Statements.{block, with_block, single, IsStmtInRange, AreStmtsInRange}
 use Rattle.optimiser_theory.specs.Steps.{LeavesOutSkip, LeavesOutUnreached, LeavesOutAssert, TakesFirstBlock, TakesSecondBlock, LeavesOutLoop, TakesEitherBlock, SharesLastStatement, TakesFirstBlockAfter, TakesSecondBlockAfter, UnswitchesLoop, FlattensLoop, step_relations, Step}
 use Rattle.optimiser_theory.specs.Paths.{StepsAt}
 use Rattle.optimiser_theory.proofs.NumberedSteps.{SomeHolds, some_holds}
-
--- a program is that of its statements
-pub prog_of-stmts_of : (p : ProgTree) → prog_of (stmts_of p) ≡ p
-prog_of-stmts_of empty = refl
-prog_of-stmts_of (skip_then rest) = ap skip_then (prog_of-stmts_of rest)
-prog_of-stmts_of (abort_then rest) = ap abort_then (prog_of-stmts_of rest)
-prog_of-stmts_of (assert_then b rest) = ap (assert_then b) (prog_of-stmts_of rest)
-prog_of-stmts_of (act_then a rest) = ap (act_then a) (prog_of-stmts_of rest)
-prog_of-stmts_of (assign_then x e rest) = ap (assign_then x e) (prog_of-stmts_of rest)
-prog_of-stmts_of (branch_then b p q rest) = ap (branch_then b p q) (prog_of-stmts_of rest)
-prog_of-stmts_of (loop_then b p rest) = ap (loop_then b p) (prog_of-stmts_of rest)
-
-pub some_is : {X : Type 0} (x y : X) → Some x ≡ Some y → x ≡ y
-some_is x y e = cc
 
 module _ (f : FileParts) where
   abbrev InRange : ProgTree → Type 0
@@ -157,9 +145,9 @@ module _ (f : FileParts) where
   -- ---- paths
 
   pub block_in : (s : StmtTree) (j : ℕ) (p : ProgTree) → block s j ≡ Some p → IsStmtInRange f s → InRange p
-  block_in (branch b x y) zero p e h = subst InRange (some_is x p e) h.1
-  block_in (branch b x y) (suc zero) p e h = subst InRange (some_is y p e) h.2
-  block_in (loop b x) zero p e h = subst InRange (some_is x p e) h.1
+  block_in (branch b x y) zero p e h = subst InRange (same_Some x p e) h.1
+  block_in (branch b x y) (suc zero) p e h = subst InRange (same_Some y p e) h.2
+  block_in (loop b x) zero p e h = subst InRange (same_Some x p e) h.1
   block_in _ _ p e h = absurd cc
 
   with_block_in : (s : StmtTree) (j : ℕ) (q : ProgTree) → InRange q → IsStmtInRange f s → IsStmtInRange f (with_block s j q)

@@ -1,18 +1,19 @@
 -- Each step takes a list of statements to one that leads from the same states to the same states.
-use Rattle.std.proofs.Common.{◌≡◌, ℕ, zero, suc, ◌⊎◌, inl, inr, ⊎_elim, ◌↔◌, List, [], ◌∷◌, ◌++◌, take, drop, Some, refl, sym, ap, ◌∙◌, subst, true, false}
+use Rattle.std.proofs.Common.{◌≡◌, ℕ, zero, suc, ◌⊎◌, inl, inr, ⊎_elim, List, [], ◌∷◌, ◌++◌, take, drop, Some, refl, sym, ap, ◌∙◌, subst, true, false}
 use Rattle.std.proofs.lemmas.List.{take-append-drop}
 use Rattle.std.proofs.lemmas.Bool.{cases_Bool, not-true, not_from_false}
+use Rattle.std.proofs.lemmas.Option.{same_Some}
 use Rattle.kat_model.specs.Expressions.{CondTree, always, negation}
 use Rattle.kat_model.specs.Relations.{Along}
 use Rattle.problem_file.specs.Files.{FileParts}
 use Rattle.problem_file.specs.Ranges.{IsCondInRange, IsProgInRange}
-use Rattle.while_lang.specs.Programs.{ProgTree, empty, branch_then, loop_then, StmtTree, skip, abort, assert, act, assign, branch, loop, prog_of, stmts_of}
+use Rattle.while_lang.specs.Programs.{ProgTree, empty, branch_then, loop_then, StmtTree, skip, abort, assert, branch, loop, prog_of, stmts_of}
 use Rattle.optimiser_theory.specs.Validity.{IsValid, HoldsAlways, HoldsNever}
 use Rattle.optimiser_theory.specs.Statements.{block, with_block, single, IsStmtInRange, AreStmtsInRange}
 use Rattle.optimiser_theory.specs.Paths.{StepsAt}
 use Rattle.optimiser_theory.specs.Steps.{LeavesOutSkip, LeavesOutUnreached, LeavesOutAssert, TakesFirstBlock, TakesSecondBlock, LeavesOutLoop, TakesEitherBlock, SharesLastStatement, TakesFirstBlockAfter, TakesSecondBlockAfter, UnswitchesLoop, FlattensLoop, step_relations, Step}
 use Rattle.optimiser_theory.proofs.NumberedSteps.{SomeHolds, some_holds}
-use Rattle.optimiser_theory.proofs.RangesKept.{some_is, single_in, stmts_in, drop_in, block_in}
+use Rattle.optimiser_theory.proofs.RangesKept.{single_in, stmts_in, drop_in, block_in}
 use Rattle.optimiser_theory.proofs.Machines.{Machine, Then, Stays, Passes, Where, Chooses, Repeats, Leads, Does, Follow, AlikeAt, Alike, at_through, same, back, through, then_at, then_alike, then_after, then_assoc, stays_then_at, stays_then, then_stays, never_then, chooses_alike, along_kept, repeats_alike, along_none, follow_append, follow_front, leads_follow, leads-prog_of, leads-single, follow_leads}
 
 module _ {S : Type 0} (m : Machine S) where
@@ -283,10 +284,10 @@ module _ {S : Type 0} (f : FileParts) (m : Machine S) (meets : MeetsValid f m) w
 
   block_kept : (s : StmtTree) (j : ℕ) (p q : ProgTree) → block s j ≡ Some p → Alike m (Leads m p) (Leads m q) → Alike m (Does m s) (Does m (with_block s j q))
   block_kept (branch b x y) zero p q e a =
-      chooses_alike m b (Leads m x) (Leads m q) (Leads m y) (Leads m y) (subst (λ z. Alike m (Leads m z) (Leads m q)) (sym (some_is x p e)) a) (same m (Leads m y))
+      chooses_alike m b (Leads m x) (Leads m q) (Leads m y) (Leads m y) (subst (λ z. Alike m (Leads m z) (Leads m q)) (sym (same_Some x p e)) a) (same m (Leads m y))
   block_kept (branch b x y) (suc zero) p q e a =
-      chooses_alike m b (Leads m x) (Leads m x) (Leads m y) (Leads m q) (same m (Leads m x)) (subst (λ z. Alike m (Leads m z) (Leads m q)) (sym (some_is y p e)) a)
-  block_kept (loop b x) zero p q e a = repeats_alike m b (Leads m x) (Leads m q) (subst (λ z. Alike m (Leads m z) (Leads m q)) (sym (some_is x p e)) a)
+      chooses_alike m b (Leads m x) (Leads m x) (Leads m y) (Leads m q) (same m (Leads m x)) (subst (λ z. Alike m (Leads m z) (Leads m q)) (sym (same_Some y p e)) a)
+  block_kept (loop b x) zero p q e a = repeats_alike m b (Leads m x) (Leads m q) (subst (λ z. Alike m (Leads m z) (Leads m q)) (sym (same_Some x p e)) a)
   block_kept _ _ p q e a = absurd cc
 
   -- a list does what another does where both do so from a position on

@@ -1,5 +1,5 @@
 -- In a file without tests, actions, terms and stated hypotheses, steps keep the stores in which a program ends.
-use Rattle.std.proofs.Common.{◌≡◌, ℕ, zero, suc, ◌+◌, ◌⊎◌, inl, inr, ⊎_elim, ◌↔◌, List, [], ◌∷◌, length, Ok, refl, sym, ap, ◌∙◌, subst, Bool, true, false, set}
+use Rattle.std.proofs.Common.{◌≡◌, ℕ, zero, suc, ◌+◌, ◌⊎◌, inl, inr, ⊎_elim, ◌↔◌, List, [], ◌∷◌, refl, sym, ap, ◌∙◌, subst, true, false, set}
 use Rattle.std.proofs.lemmas.List.{length-set}
 use Rattle.kat_model.specs.Expressions.{ExprTree, CondTree}
 use Rattle.kat_model.specs.Stores.{Store, value, holds}
@@ -8,30 +8,19 @@ use Rattle.kat_model.specs.Relations.{Along}
 use Rattle.linear_forms.proofs.StoredValues.{value_below}
 use Rattle.problem_file.specs.Files.{FileParts, triple, prog_side}
 use Rattle.problem_file.specs.Concrete.{IsStoreOf, IsConcrete, EndAlike}
-use Rattle.problem_file.specs.Ranges.{IsCondInRange, IsProgInRange}
+use Rattle.problem_file.specs.Ranges.{IsProgInRange}
 use Rattle.while_lang.specs.Programs.{ProgTree, empty, skip_then, abort_then, assert_then, act_then, assign_then, branch_then, loop_then, stmts_of}
-use Rattle.while_lang.specs.Runs.{condition, Chosen, Leaves, Turns, Goes, Ends}
+use Rattle.while_lang.specs.Runs.{condition, Leaves, Turns, Goes, Ends}
 use Rattle.while_lang.proofs.StoreValues.{set_is_store}
 use Rattle.abstraction.specs.Abstracts.{with_goal, HasNumbersInRange}
+use Rattle.abstraction.proofs.ProgramRuns.{chosen_parts, parts_chosen}
 use Rattle.abstraction.proofs.Agreement.{same_agrees}
 use Rattle.abstraction.proofs.DerivedHypotheses.{derived_hold}
-use Rattle.optimiser_theory.specs.Validity.{IsValid}
 use Rattle.optimiser_theory.specs.Logs.{LogLineParts, FirstStep}
 use Rattle.optimiser_theory.specs.Meanings.{KeepsFromStores}
-use Rattle.optimiser_theory.proofs.Machines.{Machine, Where, Chooses, Repeats, Leads, follow_leads}
+use Rattle.optimiser_theory.proofs.Machines.{Machine, Where, Repeats, Leads, follow_leads}
 use Rattle.optimiser_theory.proofs.RangesKept.{stmts_in}
-use Rattle.optimiser_theory.proofs.StepsKept.{Meets, MeetsValid, steps_at_kept}
-
--- which of two is chosen
-chosen_parts : {A B : Type 0} (b : Bool) → Chosen b A B → ((b ≡ true) × A) ⊎ ((b ≡ false) × B)
-chosen_parts true h = inl (refl, h)
-chosen_parts false h = inr (refl, h)
-
-parts_chosen : {A B : Type 0} (b : Bool) → ((b ≡ true) × A) ⊎ ((b ≡ false) × B) → Chosen b A B
-parts_chosen true (inl h) = h.1
-parts_chosen true (inr h) = absurd cc
-parts_chosen false (inl h) = absurd cc
-parts_chosen false (inr h) = h.1
+use Rattle.optimiser_theory.proofs.StepsKept.{MeetsValid, steps_at_kept}
 
 -- the stores of a file, in which named actions lead nowhere
 abbrev pub stores_of : FileParts → Machine Store

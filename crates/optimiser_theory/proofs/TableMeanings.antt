@@ -1,27 +1,24 @@
 -- In a file without variables, steps keep what a program relates in tables.
-use Rattle.std.proofs.Common.{◌≡◌, ◌<◌, ◌+◌, ℕ, ◌↔◌, List, [], length, Ok, refl, sym, ap, ◌∙◌, subst, true, arith}
+use Rattle.std.proofs.Common.{◌≡◌, ◌<◌, ◌+◌, ℕ, ◌↔◌, length, sym, ap, ◌∙◌, subst, arith}
 use Rattle.kat_model.specs.Expressions.{CondTree}
-use Rattle.kat_model.specs.Problems.{ProblemParts}
 use Rattle.kat_model.specs.Relations.{Table, IsTable, frame_of, Relates, Keeps, Same}
 use Rattle.goal_forms.specs.Laws.{DenoteOne, HoldsTriple}
 use Rattle.goal_forms.proofs.Meanings.{goals_mean_lem}
-use Rattle.goal_forms.specs.Sides.{triple_sides}
 use Rattle.problem_file.specs.Files.{FileParts, triple, prog_side}
 use Rattle.problem_file.specs.Ranges.{IsCondInRange, IsProgInRange}
 use Rattle.while_lang.specs.Programs.{ProgTree, stmts_of}
-use Rattle.while_lang.specs.Encoding.{encoded}
 use Rattle.abstraction.specs.Tables.{Tables}
-use Rattle.abstraction.specs.Tests.{cond_test, prog_flow}
+use Rattle.abstraction.specs.Tests.{cond_test}
 use Rattle.abstraction.specs.Rounds.{tables_of}
 use Rattle.abstraction.specs.Goals.{goal_sides}
-use Rattle.abstraction.specs.Abstracts.{AbstractParts, with_goal, file_problem, abstract_parts}
+use Rattle.abstraction.specs.Abstracts.{AbstractParts, with_goal, file_problem}
 use Rattle.abstraction.proofs.DerivedHypotheses.{abstract_parts_of}
 use Rattle.optimiser_theory.specs.Validity.{IsValid}
 use Rattle.optimiser_theory.specs.Logs.{LogLineParts, FirstStep}
 use Rattle.optimiser_theory.specs.Meanings.{declared_tables, prog_term, KeepsInTables}
-use Rattle.optimiser_theory.proofs.Machines.{Machine, Leads, leads_stmts, follow_leads}
+use Rattle.optimiser_theory.proofs.Machines.{Machine, follow_leads}
 use Rattle.optimiser_theory.proofs.RangesKept.{stmts_in}
-use Rattle.optimiser_theory.proofs.StepsKept.{Meets, MeetsValid, steps_at_kept}
+use Rattle.optimiser_theory.proofs.StepsKept.{MeetsValid, steps_at_kept}
 use Rattle.optimiser_theory.proofs.TermRelations.{machine_of, encoded_leads}
 use Rattle.optimiser_theory.proofs.ClosedPrograms.{triple_tables, triple_hyps}
 

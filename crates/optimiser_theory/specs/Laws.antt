@@ -1,5 +1,5 @@
 -- The laws of steps and logs. Each stands on a function of the crate that does nothing.
-use Rattle.std.specs.Prelude.{◌≡◌, ◌⊎◌, ℕ, List}
+use Rattle.std.specs.Prelude.{◌≡◌, List}
 use Rattle.problem_file.specs.Files.{FileParts}
 use Rattle.while_lang.specs.Programs.{ProgTree}
 use Rattle.optimiser_theory.specs.Logs.{LogLineParts, FirstStep, IsLog}

@@ -1,10 +1,10 @@
 -- The sets of the nodes of notes, one more at a time, and those of the notes.
-use Rattle.std.proofs.Common.{◌≡◌, ℕ, zero, suc, ◌+◌, ◌<◌, inl, inr, All, List, [], ◌∷◌, ◌++◌, map, length, take, get_or, slice_get, Bool, false, Some, None, refl, sym, ap, ◌∙◌, subst, arith, length-append, unwrap_or}
+use Rattle.std.proofs.Common.{◌≡◌, ℕ, zero, suc, ◌+◌, ◌<◌, inl, inr, All, List, [], ◌∷◌, ◌++◌, map, length, take, get_or, slice_get, Bool, false, Some, refl, sym, ap, ◌∙◌, subst, arith, length-append}
 use mathlib.Core.Path.{ap₂}
 use Rattle.std.specs.Option.{option_map}
 use Rattle.std.proofs.lemmas.List.{map-append, get_or-map, take_more}
 use Rattle.std.proofs.lemmas.List.Elements.{All-append}
-use Rattle.std.proofs.lemmas.Option.{slice_get-get_or, slice_get-map, get_or_from_slice_get, unwrap_or-slice_get}
+use Rattle.std.proofs.lemmas.Option.{slice_get-get_or, slice_get-map, get_or_from_slice_get}
 use Rattle.kat_model.proofs.Places.{has_at}
 use Rattle.kat_model.specs.CourseOfValues.{continued, course_of_values}
 use Rattle.kat_model.specs.Steps.{Atom}
@@ -112,8 +112,3 @@ note_set_some d moment ns ids place k id are sets at lt is =
           value_at (λ e. step_value d e x y) ids k id lt is ∙ ap (λ vs. get_or vs k false) (sets.values x y lx ly)
           ∙ sym (get_or_from_slice_get (map (λ n. holds_at ns.nodes n atom) ns.notes) place (holds_at ns.nodes k atom) false (slice_get-map (λ n. holds_at ns.nodes n atom) ns.notes place ∙ ap (option_map (λ n. holds_at ns.nodes n atom)) at));
     }
-
-pub note_set_none : (ns : NotesParts) (place : ℕ) (atom : Atom) → slice_get ns.notes place ≡ None → note_holds ns place atom ≡ false
-note_set_none ns place atom e =
-    sym (unwrap_or-slice_get (map (λ n. holds_at ns.nodes n atom) ns.notes) place false)
-    ∙ ap (λ o. unwrap_or o false) (slice_get-map (λ n. holds_at ns.nodes n atom) ns.notes place ∙ ap (option_map (λ n. holds_at ns.nodes n atom)) e)

@@ -1,5 +1,6 @@
 pub mod PlainNames
 pub mod PlainScopes
+pub mod ScopeNames
 pub mod PlainPieces
 pub mod PlainNumbers
 pub mod PlainItems

@@ -164,9 +164,9 @@ each_test : (n : ℕ) (s : State) (at : ℕ) → s.tests + suc n ≤ 48 → s.ac
     → (t : State) × EachName DeclaresTest s (names_at (plain_name (Test s.tests)) (test_names (s.tests + 1) n) at) t × Declares s (s.tests + suc n) s.actions t
 each_test zero s at few small plain =
     let name = plain_name (Test s.tests) in
-    let more = test_plain s.world s.tests s.actions (omega arith) small plain in (
+    let more = test_plain s.world s.tests s.actions (omega arith) (omega arith) plain in (
       with_test s name,
-      (test_is_new s.world s.tests s.actions (omega arith) small plain, omega arith, refl),
+      (test_is_new s.world s.tests s.actions (omega arith) (omega arith) plain, omega arith, refl),
       record {
         tests = omega arith;
         actions = refl;
@@ -179,10 +179,10 @@ each_test zero s at few small plain =
     )
 each_test (suc n) s at few small plain =
     let name = plain_name (Test s.tests) in
-    let more = test_plain s.world s.tests s.actions (omega arith) small plain in
+    let more = test_plain s.world s.tests s.actions (omega arith) (omega arith) plain in
     let rest = each_test n (with_test s name) (at + length name + 1 + 1) (omega arith) small more in (
       rest.0,
-      (with_test s name, (test_is_new s.world s.tests s.actions (omega arith) small plain, omega arith, refl), rest.1),
+      (with_test s name, (test_is_new s.world s.tests s.actions (omega arith) (omega arith) plain, omega arith, refl), rest.1),
       record {
         tests = rest.2.tests ∙ omega arith;
         actions = rest.2.actions;
@@ -198,9 +198,9 @@ each_action : (n : ℕ) (s : State) (at : ℕ) → s.actions + suc n ≤ 48 → 
     → (t : State) × EachName DeclaresAction s (names_at (plain_name (Action s.actions)) (action_names (s.actions + 1) n) at) t × Declares s s.tests (s.actions + suc n) t
 each_action zero s at few small plain =
     let name = plain_name (Action s.actions) in
-    let more = action_plain s.world s.tests s.actions small (omega arith) plain in (
+    let more = action_plain s.world s.tests s.actions (omega arith) (omega arith) plain in (
       with_action s name,
-      (action_is_new s.world s.tests s.actions small (omega arith) plain, omega arith, refl),
+      (action_is_new s.world s.tests s.actions (omega arith) (omega arith) plain, omega arith, refl),
       record {
         tests = refl;
         actions = omega arith;
@@ -213,10 +213,10 @@ each_action zero s at few small plain =
     )
 each_action (suc n) s at few small plain =
     let name = plain_name (Action s.actions) in
-    let more = action_plain s.world s.tests s.actions small (omega arith) plain in
+    let more = action_plain s.world s.tests s.actions (omega arith) (omega arith) plain in
     let rest = each_action n (with_action s name) (at + length name + 1 + 1) (omega arith) small more in (
       rest.0,
-      (with_action s name, (action_is_new s.world s.tests s.actions small (omega arith) plain, omega arith, refl), rest.1),
+      (with_action s name, (action_is_new s.world s.tests s.actions (omega arith) (omega arith) plain, omega arith, refl), rest.1),
       record {
         tests = rest.2.tests;
         actions = rest.2.actions ∙ omega arith;

@@ -1,5 +1,5 @@
 -- The scope that declares the names of tests and actions, and the terms that are printed with them.
-use Rattle.std.proofs.Common.{◌≡◌, ◌<◌, ◌≤◌, ◌+◌, ℕ, List, [], ◌∷◌, ◌++◌, cond, ⊎_elim, inl, inr, Option, Some, None, refl, sym, ap, ◌∙◌, subst, arith}
+use Rattle.std.proofs.Common.{◌≡◌, ◌<◌, ◌≤◌, ◌+◌, ◌^◌, ℕ, List, [], ◌∷◌, ◌++◌, cond, ⊎_elim, inl, inr, Option, Some, None, refl, sym, ap, ◌∙◌, subst, arith}
 use Rattle.std.proofs.lemmas.Bool.{cases_lt}
 use Rattle.std.proofs.lemmas.Option.{none-some, same_Some}
 use Rattle.std.specs.Prelude.{codes, flat_map}
@@ -32,7 +32,7 @@ pub none_from : (o : Option Meaning) → ((m : Meaning) → o ≡ Some m → ⊥
 none_from None h = refl
 none_from (Some m) h = absurd (h m refl)
 
-module _ (w : ScopeParts) (tests actions : ℕ) (few : tests ≤ 48) (small : actions ≤ 48) (plain : IsPlain w tests actions) where
+module _ (w : ScopeParts) (tests actions : ℕ) (few : tests < 2 ^ 64) (small : actions < 2 ^ 64) (plain : IsPlain w tests actions) where
   -- ---- one test more
 
   test_taken : (m : Meaning) → plain_name (Test tests) ≡ plain_name m → IsOneOf tests actions m → ⊥
@@ -121,6 +121,7 @@ module _ (w : ScopeParts) (tests actions : ℕ) (few : tests ≤ 48) (small : ac
             (more.others name');
       }
 
+module _ (w : ScopeParts) (tests actions : ℕ) (few : tests ≤ 48) (small : actions ≤ 48) (plain : IsPlain w tests actions) where
   -- ---- what is printed with these names
 
   pub test_named : (k : ℕ) → k < tests → IsNameOf w (plain_name (Test k)) (Test k)

@@ -12,7 +12,7 @@ use Rattle.kat_text.specs.ScopeParts.{IsIdentifier}
 use Rattle.kat_print.proofs.WordTerminals.{zero_written, one_written}
 use Rattle.while_lang.specs.Programs.{ProgTree, empty, skip_then, assign_then, loop_then}
 use Rattle.problem_file.specs.Files.{GoalTree, prog_side, equal, triple}
-use Rattle.plain_texts.specs.ProgramTexts.{one_program_text, programs_text, triple_text, AreVarNames, IsOnePrintable, ArePrintable, IsTriplePrintable}
+use Rattle.plain_texts.specs.ProgramTexts.{one_program_text, programs_text, triple_text, IsOnePrintable, ArePrintable, IsTriplePrintable}
 use Rattle.plain_texts.specs.Laws.{AsksOfPrograms, SaysProgram}
 use Rattle.plain_texts.proofs.ProgramReadings.{program_reads_back, programs_read_back, triples_read_back}
 

@@ -5,8 +5,7 @@ use Rattle.std.specs.List.{range_with_len}
 use Rattle.kat_model.specs.declared.expression.Width.{Width}
 use Rattle.kat_model.specs.declared.expression.Width.TheVariants.{W8, W16, W32, W64}
 use Rattle.kat_model.specs.Expressions.{CondTree}
-use Rattle.kat_tokens.specs.Pieces.{Piece, word, number, symbol, gap, spelled, EndsBefore, AreSeparate}
-use Rattle.kat_tokens.specs.declared.token.Kind.TheVariants.{Symbol}
+use Rattle.kat_tokens.specs.Pieces.{Piece, word, number, symbol, gap, spelled, AreSeparate}
 use Rattle.kat_tokens.proofs.Words.{word_is_name, keyword_is_name}
 use Rattle.kat_text.specs.declared.meaning.Meaning.{Meaning}
 use Rattle.kat_text.specs.declared.meaning.Meaning.TheVariants.{Var}
@@ -15,10 +14,10 @@ use Rattle.kat_print.specs.Printing.{cond_text, cond_pieces, CondIsNamed}
 use Rattle.kat_print.proofs.PieceTexts.{cond_spells}
 use Rattle.kat_print.proofs.Separate.{EndsWords, cond_separate}
 use Rattle.while_lang.specs.Programs.{ProgTree}
-use Rattle.while_lang.specs.ProgramPrinting.{stmts_pieces, block_pieces, ProgIsNamed}
+use Rattle.while_lang.specs.ProgramPrinting.{block_pieces, ProgIsNamed}
 use Rattle.while_lang.specs.Working.ProgramTexts.{stmts_text}
 use Rattle.while_lang.proofs.ProgramPieces.{stmts_spell}
-use Rattle.while_lang.proofs.SeparatePrograms.{stmts_separate}
+use Rattle.while_lang.proofs.SeparatePrograms.{open_alone, semicolon_ends, block_separate}
 use Rattle.plain_texts.specs.ProgramTexts.{width_text, vars_text, prog_text, equal_text, one_program_text, var_name, programs_text, triple_text}
 use Rattle.plain_texts.proofs.PlainPieces.{declaration_pieces, declaration_spells, declaration_separate, AreIdentifiers}
 
@@ -152,10 +151,6 @@ triple_spells w v b p c =
 
 -- ---- they are separate
 
-open_alone : (rest : List ℕ) → EndsBefore Symbol (codes "{") rest
-open_alone [] = tt
-open_alone (b ∷ bs) = refl
-
 close_ends : (ps : List Piece) → EndsWords (symbol (codes "}") ∷ ps)
 close_ends ps = record { name = λ b. refl; number = λ b. refl }
 
@@ -177,22 +172,17 @@ q_identifier = record { name = word_is_name (codes "Q") refl; no_keyword = refl 
 comma_ends : (ps : List Piece) → EndsWords (symbol (codes ",") ∷ ps)
 comma_ends ps = record { name = λ b. refl; number = λ b. refl }
 
-end_ends : (ps : List Piece) → EndsWords (symbol (codes ";") ∷ ps)
-end_ends ps = record { name = λ b. refl; number = λ b. refl }
-
 pub equal_separate : (left right : List ℕ) → IsIdentifier left → IsIdentifier right → AreSeparate (equal_pieces left right)
 equal_separate left right l r = (
   keyword_is_name (codes "goal") refl,
   refl,
-  (refl, (keyword_is_name (codes "equal") refl, refl, (refl, (l.name, (comma_ends (gap 32 ∷ word right ∷ symbol (codes ";") ∷ gap 10 ∷ [])).name left, (refl, refl, (refl, (r.name, (end_ends (gap 10 ∷ [])).name right, (refl, refl, (refl, tt))))))))),
+  (refl, (keyword_is_name (codes "equal") refl, refl, (refl, (l.name, (comma_ends (gap 32 ∷ word right ∷ symbol (codes ";") ∷ gap 10 ∷ [])).name left, (refl, refl, (refl, (r.name, (semicolon_ends (gap 10 ∷ [])).name right, (refl, refl, (refl, tt))))))))),
 )
 
 module _ (w : ScopeParts) where
   pub prog_separate : (names : Meaning → List ℕ) (name : List ℕ) (p : ProgTree) (ps : List Piece) → IsIdentifier name → ProgIsNamed w names p → AreSeparate ps → AreSeparate (prog_pieces names name p ps)
   prog_separate names name p ps is named after =
-      let end = gap 32 ∷ symbol (codes "}") ∷ gap 10 ∷ ps in
-      let last : AreSeparate end = (refl, (refl, refl, (refl, after))) in
-      let block : AreSeparate (block_pieces names p (gap 10 ∷ ps)) = (refl, open_alone (spelled (stmts_pieces names p end)), stmts_separate w names p named end last) in
+      let block : AreSeparate (block_pieces names p (gap 10 ∷ ps)) = block_separate w names p named (gap 10 ∷ ps) (refl, after) in
       (keyword_is_name (codes "prog") refl, refl, (refl, (is.name, refl, (refl, block))))
 
   pub triple_separate : (b c : CondTree) → CondIsNamed w var_name b → CondIsNamed w var_name c → AreSeparate (triple_goal_pieces b c)

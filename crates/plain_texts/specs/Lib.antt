@@ -1,4 +1,5 @@
 pub mod Questions
+pub mod NumberedScopes
 pub mod ProgramNumbers
 pub mod ProgramTexts
 pub mod Laws

@@ -13,5 +13,5 @@ pub use laws::{
     plain_triples_read_back,
 };
 pub use program_writing::one_program_text;
-pub use scope::{declare, plain_scope};
+pub use scope::{declare, numbered_scope, plain_scope};
 pub use writing::{put_action_name, put_actions, put_goal, put_hyp, put_test_name, put_tests};

@@ -1,6 +1,7 @@
 //! The scopes of plain names.
 ghost use Rattle.std.specs.Prelude.{◌≡◌, ◌≤◌, false, OnOk, IfOk};
 ghost use Rattle.kat_text.specs.ScopeParts.{IsIdentifier, IsUnnamed, IsUndeclared, is_term, declared};
+ghost use Rattle.plain_texts.specs.NumberedScopes.{numbered_scope};
 ghost use Rattle.plain_texts.specs.Working.Scopes.{IsPlain};
 
 use kat_model::NoMemory;
@@ -28,12 +29,10 @@ pub fn declare(scope: &mut Scope, name: &str, meaning: Meaning) -> Result<(), No
     }
 }
 
-/// The scope that names so many tests `t0`, `t1`, .. and so many actions `a0`, `a1`, .., at most 48 of each. It fails only
+/// The scope that names so many tests `t0`, `t1`, .. and so many actions `a0`, `a1`, .., and nothing else. It fails only
 /// when out of memory.
-pub fn plain_scope(alloc: Global, tests: usize, actions: usize) -> Result<Scope, NoMemory>
-    requires tests { tests ≤ 48 }
-    requires actions { actions ≤ 48 }
-    ensures { IfOk result (λ scope. IsPlain scope tests actions) }
+pub fn numbered_scope(alloc: Global, tests: usize, actions: usize) -> Result<Scope, NoMemory>
+    ensures { IfOk result (λ scope. scope ≡ numbered_scope tests actions) }
 {
     let mut scope = Scope::new(alloc);
     for k in 0..tests {
@@ -45,4 +44,14 @@ pub fn plain_scope(alloc: Global, tests: usize, actions: usize) -> Result<Scope,
         declare(&mut scope, name.as_str(), Meaning::Action(a))?;
     }
     Ok(scope)
+}
+
+/// The scope that names so many tests `t0`, `t1`, .. and so many actions `a0`, `a1`, .., at most 48 of each, and nothing
+/// else. It fails only when out of memory.
+pub fn plain_scope(alloc: Global, tests: usize, actions: usize) -> Result<Scope, NoMemory>
+    requires tests { tests ≤ 48 }
+    requires actions { actions ≤ 48 }
+    ensures { IfOk result (λ scope. IsPlain scope tests actions) }
+{
+    numbered_scope(alloc, tests, actions)
 }

@@ -1,5 +1,5 @@
 -- Where a block ends is what the test of its syntax reads.
-use Rattle.std.proofs.Common.{◌≡◌, ℕ, List, [], drop, Result, Ok, Err, ap}
+use Rattle.std.proofs.Common.{◌≡◌, ℕ, List, drop, Result, Ok, Err, ap}
 use Rattle.kat_tokens.specs.declared.fault.TextFault.{TextFault}
 use Rattle.kat_tokens.specs.declared.fault.TextFault.TheVariants.{NoMemory}
 use Rattle.kat_syntax.specs.Lexemes.{Lexeme}
@@ -7,18 +7,11 @@ use Rattle.kat_syntax.specs.Parsed.{Parsed, ◌>>=◌, Reads, Wants}
 use Rattle.while_lang.specs.Blocks.{block, parse_block}
 use Rattle.while_lang.specs.BlockScans.{scanning_blocks, scan_block}
 use Rattle.while_lang.specs.BlockFaults.{IsBlockFault}
-
-abbrev end_of : Result (List Lexeme) TextFault → List Lexeme
-end_of (Ok ts) = ts
-end_of (Err e) = []
+use Rattle.while_lang.proofs.ScannedBlocks.{ended}
 
 abbrev fault_of : Result (List Lexeme) TextFault → TextFault
 fault_of (Ok ts) = NoMemory
 fault_of (Err e) = e
-
-ended : (m : Parsed (Unit {0})) (rest : List Lexeme) → (m >>= λ x. Ok x.1) ≡ Ok rest → m ≡ Ok (tt, rest)
-ended (Ok x) rest e = let same : x.1 ≡ rest = ap end_of e in ap (λ t. Ok (tt, t)) same
-ended (Err f) rest e = absurd cc
 
 failed : (m : Parsed (Unit {0})) (e : TextFault) → (m >>= λ x. Ok x.1) ≡ Err e → m ≡ Err e
 failed (Ok x) e h = absurd cc

@@ -4,7 +4,7 @@ use Rattle.std.specs.Option.{option_and_then}
 use Rattle.kat_tokens.specs.declared.fault.TextFault.{TextFault}
 use Rattle.kat_syntax.specs.declared.terminal.Terminal.TheVariants.{Keyword, Separator, Zero}
 use Rattle.kat_syntax.specs.declared.terminal.Separator.TheVariants.{Comma, Semicolon, CurlyClose, Equals}
-use Rattle.kat_syntax.specs.Lexemes.{Lexeme, heads, is_terminal}
+use Rattle.kat_syntax.specs.Lexemes.{Lexeme, is_terminal}
 use Rattle.kat_syntax.specs.Parsed.{Parsed, ◌>>=◌, before, change, then_wants}
 use Rattle.kat_syntax.specs.Actions.{context}
 use Rattle.kat_syntax.specs.Phrases.{term, cond, Leaf, Phrase, cons_token, yield_before, MeetsLookahead}
@@ -22,11 +22,12 @@ use Rattle.problem_file.specs.declared.item_reading.Comparison.{Comparison}
 use Rattle.problem_file.specs.declared.item_reading.Comparison.TheVariants.{Equal, Below}
 use Rattle.problem_file.specs.Numbers.{until}
 use Rattle.problem_file.specs.ItemActions.{Measurement, ItemActions}
-use Rattle.problem_file.specs.Items.{names_within, over_names, at_number, lone_name, term_by, cond_by, block_by, named_or, side_by, braced_by, middle_by, triple_by, then_do, then_ask, prog_by, zero_by, setting_by, sides_by, comparison_by, triple_goal_by, item_by, items_within, items_by}
-use Rattle.problem_file.specs.Phrases.{Names, one_name, more_names, Numeral, zero_number, one_number, other_number, wide_number, Braced, TriplePhrase}
+use Rattle.problem_file.specs.Items.{at_number, lone_name, term_by, cond_by, block_by, named_or, side_by, braced_by, middle_by, triple_by, then_do, then_ask, prog_by, zero_by, setting_by, sides_by, comparison_by, triple_goal_by, item_by, items_within, items_by}
+use Rattle.problem_file.specs.Phrases.{Numeral, zero_number, one_number, other_number, wide_number, Braced, TriplePhrase}
 use Rattle.problem_file.specs.Phrases.{Body, tests, actions, variables, definition, program, hypothesis, hyp_triple, rounds, width, goal_equal, goal_below, goal_triple, Item}
-use Rattle.problem_file.specs.Phrases.{word_of, lone_leaf, names_onto, numeral_onto, braced_onto, triple_onto, ended, sides_onto, prog_onto, body_onto, spelled, BracedObeys, TripleObeys, SidesObey, BodyObeys, ItemsObey, IsFile}
-use Rattle.problem_file.specs.Folds.{fold_names, numeral_leaf, numeral_value, fold_setting, fold_term, fold_cond, fold_prog, named_else, fold_side, fold_braced, fold_middle, fold_triple, fold_sides, fold_comparison, fold_triple_goal, fold_program, fold_body, fold_item, fold_items}
+use Rattle.problem_file.specs.Phrases.{word_of, lone_leaf, numeral_onto, braced_onto, triple_onto, ended, sides_onto, prog_onto, body_onto, spelled, BracedObeys, TripleObeys, SidesObey, BodyObeys, ItemsObey, IsFile}
+use Rattle.problem_file.specs.Folds.{numeral_leaf, numeral_value, fold_setting, fold_term, fold_cond, fold_prog, named_else, fold_side, fold_braced, fold_middle, fold_triple, fold_sides, fold_comparison, fold_triple_goal, fold_program, fold_body, fold_item, fold_items}
+use Rattle.problem_file.proofs.NameWalks.{declaration_folded}
 use Rattle.problem_file.proofs.PhraseFronts.{no_triple, items_long, lone_term, lone_rest, text_of}
 use Rattle.problem_file.proofs.Appends.{until_prog, until_sides, until_triple}
 
@@ -54,7 +55,7 @@ asked {S} {X} {M} g s us own f m end ts v h e = ap (then_ask g s us f) e ∙ by_
   by_value (Ok x) = rw (h) (look (g.check_numbers s own) x)
   by_value (Err d) = refl
 
--- ---- names and numbers
+-- ---- numbers
 
 -- what is done at a number, and what follows
 number_folded : {S : Type 0} (f : ℕ → ℕ → Result S TextFault) (n : Numeral) (ts : List Lexeme) → at_number f (numeral_onto n ts) ≡ before ts (numeral_value n >>= λ v. f (numeral_leaf n).at v)
@@ -62,19 +63,6 @@ number_folded f (zero_number l) ts = refl
 number_folded f (one_number l) ts = refl
 number_folded f (other_number l n) ts = refl
 number_folded f (wide_number l) ts = refl
-
-module _ {S : Type 0} (f : S → ℕ → List ℕ → Result S TextFault) where
-  last_name : (n : ℕ) (ts : List Lexeme) (r : Result S TextFault) → heads (is_terminal (Separator Comma)) ts ≡ false → (before ts r >>= λ x. if_true (heads (is_terminal (Separator Comma)) x.1) (names_within n f x.0 (drop 1 x.1)) (Ok x)) ≡ before ts r
-  last_name n ts (Ok x) last = rw last refl
-  last_name n ts (Err e) last = refl
-
-  names_folded : (ns : Names) (s : S) (ts : List Lexeme) (n : ℕ) → heads (is_terminal (Separator Comma)) ts ≡ false → length (names_onto ns ts) ≤ n → names_within (suc n) f s (names_onto ns ts) ≡ before ts (fold_names f s ns)
-  names_folded (one_name l) s ts n last le = last_name n ts (f s l.at l.text) last
-  names_folded (more_names l c ns) s ts zero last le = absurd (omega (arith, le))
-  names_folded (more_names l c ns) s ts (suc n) last le = then_rest (cons_token (Separator Comma) c (names_onto ns ts)) ts (f s l.at l.text) (λ x. if_true (heads (is_terminal (Separator Comma)) x.1) (names_within (suc n) f x.0 (drop 1 x.1)) (Ok x)) (λ u. fold_names f u ns) (λ u. names_folded ns u ts n last (omega (arith, le)))
-
-  declaration_folded : (ns : Names) (s : S) (end : Leaf) (ts : List Lexeme) → then_wants (is_terminal (Separator Semicolon)) (over_names f s (names_onto ns (ended end ts))) ≡ before ts (fold_names f s ns)
-  declaration_folded ns s end ts = ap (then_wants (is_terminal (Separator Semicolon))) (names_folded ns s (ended end ts) (length (names_onto ns (ended end ts))) refl (omega arith)) ∙ closed (Separator Semicolon) end ts (fold_names f s ns) refl
 
 module _ {S X : Type 0} (g : ItemActions S X) where
   -- ---- parts of items
@@ -199,15 +187,15 @@ module _ {S X : Type 0} (g : ItemActions S X) where
   body_folded (goal_below l p c q e) s at text ts obeys = comparison_folded Below s at p c q e ts obeys
   body_folded (goal_triple l x e) s at text ts obeys = triple_goal_folded s at x e ts obeys
 
-  then_items : (is : List Item) (n : ℕ) (r : Result S TextFault) → ((t : S) → items_within g n t (spelled is) ≡ fold_items g t is) → (before (spelled is) r >>= λ x. items_within g n x.0 x.1) ≡ (r >>= λ t. fold_items g t is)
+  then_items : (is : List Item) (n : ℕ) (r : Result S TextFault) → ((t : S) → items_within (item_by g) n t (spelled is) ≡ fold_items g t is) → (before (spelled is) r >>= λ x. items_within (item_by g) n x.0 x.1) ≡ (r >>= λ t. fold_items g t is)
   then_items is n (Ok t) h = h t
   then_items is n (Err e) h = refl
 
-  within_folded : (is : List Item) (s : S) (n : ℕ) → ItemsObey is → length is ≤ n → items_within g (suc n) s (spelled is) ≡ fold_items g s is
+  within_folded : (is : List Item) (s : S) (n : ℕ) → ItemsObey is → length is ≤ n → items_within (item_by g) (suc n) s (spelled is) ≡ fold_items g s is
   within_folded [] s n obey le = refl
   within_folded (i ∷ is) s zero obey le = absurd (omega (arith, le))
   within_folded (i ∷ is) s (suc n) obey le =
-      ap (λ m. m >>= λ x. items_within g (suc n) x.0 x.1) (body_folded i.body s (i.keyword).at (i.keyword).text (spelled is) obey.0)
+      ap (λ m. m >>= λ x. items_within (item_by g) (suc n) x.0 x.1) (body_folded i.body s (i.keyword).at (i.keyword).text (spelled is) obey.0)
       ∙ then_items is (suc n) (fold_item g s i (spelled is)) (λ t. within_folded is t n obey.1 (omega (arith, le)))
 
   pub items_folded : (s : S) (is : List Item) (ts : List Lexeme) → IsFile is ts → items_by g s ts ≡ fold_items g s is

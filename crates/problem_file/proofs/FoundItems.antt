@@ -20,13 +20,14 @@ use Rattle.while_lang.specs.BlockPhrases.{block, IsBlockPhrase}
 use Rattle.while_lang.proofs.BlockSoundness.{block_found as blocks_found}
 use Rattle.problem_file.specs.Numbers.{until}
 use Rattle.problem_file.specs.ItemActions.{Measurement, SidesMeasurement, TripleMeasurement, ItemActions}
-use Rattle.problem_file.specs.Items.{name_at, at_name, names_within, over_names, number_at, at_number, lone_name, term_by, cond_by, block_by, program_by, named_or, side_by, braced_by, middle_by, triple_by, then_do, then_ask, declaration_by, meaning_by, definition_by, prog_by, zero_by, hyp_by, setting_by, sides_by, asked_by, item_by, items_within, items_by}
-use Rattle.problem_file.specs.declared.item_reading.Declared.{Declared}
+use Rattle.problem_file.specs.Items.{name_at, number_at, at_number, lone_name, term_by, cond_by, block_by, program_by, named_or, side_by, braced_by, middle_by, triple_by, then_do, then_ask, meaning_by, definition_by, prog_by, zero_by, hyp_by, setting_by, sides_by, asked_by, item_by, items_within, items_by}
+use Rattle.problem_file.specs.declared.item_reading.Declared.TheVariants as what
 use Rattle.problem_file.specs.declared.item_reading.Setting.{Setting}
-use Rattle.problem_file.specs.Phrases.{Names, one_name, more_names, Numeral, zero_number, one_number, other_number, Braced, TriplePhrase}
+use Rattle.problem_file.specs.Phrases.{Numeral, zero_number, one_number, other_number, Braced, TriplePhrase}
 use Rattle.problem_file.specs.Phrases.{Body, tests, actions, variables, definition, program, hypothesis, hyp_triple, rounds, width, goal_equal, goal_below, goal_triple, Item}
-use Rattle.problem_file.specs.Phrases.{word_of, names_onto, numeral_onto, braced_onto, triple_onto, ended, sides_onto, body_onto, item_onto, BracedObeys, TripleObeys, SidesObey, BodyObeys, NumeralFits, TripleFits, BodyFits}
+use Rattle.problem_file.specs.Phrases.{word_of, numeral_onto, braced_onto, triple_onto, ended, sides_onto, body_onto, item_onto, BracedObeys, TripleObeys, SidesObey, BodyObeys, NumeralFits, TripleFits, BodyFits}
 use Rattle.problem_file.specs.Laws.{IsSomeFile}
+use Rattle.problem_file.proofs.NameWalks.{name_leaf, declaration_found}
 
 -- what is done with a value once a semicolon is read
 done_ok : {S M : Type 0} (f : M → Result S TextFault) (m : Parsed M) (y : S × List Lexeme) → then_do f m ≡ Ok y → (v : M) × (l : Leaf) × (m ≡ Ok (v, ended l y.1))
@@ -45,24 +46,13 @@ asked_ok g s us f m y e =
     let same = before_ok a.0.1 (f a.0.0) y.0 y.1 c.2 in
     (a.0.0, b.0, b.1 ∙ ap (λ vs. Ok (a.0.0, ended b.0 vs)) same)
 
--- ---- names and numbers
-
-name_leaf : (ts : List Lexeme) (l : Leaf) → name_at ts ≡ Ok l → ts ≡ cons_token Name l (drop 1 ts)
-name_leaf [] l e = absurd cc
-name_leaf (lexeme Name at text ∷ ts) l e = let same : leaf at text ≡ l = cc in ap (λ m. cons_token Name m ts) same
-name_leaf (lexeme _ at text ∷ ts) l e = absurd cc
-
-name_found : {S : Type 0} (f : ℕ → List ℕ → Result S TextFault) (ts : List Lexeme) (y : S × List Lexeme) → at_name f ts ≡ Ok y → (l : Leaf) × (ts ≡ cons_token Name l y.1)
-name_found f ts y e =
-    let a = bind_ok (name_at ts) (λ l. before (drop 1 ts) (f l.at l.text)) y e in
-    let same = before_ok (drop 1 ts) (f (a.0).at (a.0).text) y.0 y.1 a.2 in
-    (a.0, name_leaf ts a.0 a.1 ∙ ap (cons_token Name a.0) same)
+-- ---- numbers, and names that are terms
 
 -- a number below 2^64
-abbrev NumeralFound : List Lexeme → List Lexeme → Type 0
+abbrev pub NumeralFound : List Lexeme → List Lexeme → Type 0
 NumeralFound ts rest = (n : Numeral) × (ts ≡ numeral_onto n rest) × NumeralFits n
 
-numeral_found : (ts : List Lexeme) (n : ℕ) → number_at ts ≡ Ok n → NumeralFound ts (drop 1 ts)
+pub numeral_found : (ts : List Lexeme) (n : ℕ) → number_at ts ≡ Ok n → NumeralFound ts (drop 1 ts)
 numeral_found [] n e = absurd cc
 numeral_found (lexeme Zero at text ∷ ts) n e = (zero_number (leaf at text), refl, tt)
 numeral_found (lexeme One at text ∷ ts) n e = (one_number (leaf at text), refl, tt)
@@ -85,27 +75,6 @@ lone_found (lexeme Name at text ∷ ts) name e = by_next (heads (goes_on term) t
       let p : Phrase term = one_prod (one_star (bare (name_unit (leaf at text)))) in
       record { phrase = p; spelled = refl; obeys = tt; longest = longest p ts h; fits = tt }
 lone_found (lexeme _ at text ∷ ts) name e = absurd cc
-
-abbrev NamesFound : List Lexeme → List Lexeme → Type 0
-NamesFound ts rest = (ns : Names) × (ts ≡ names_onto ns rest)
-
-names_found : {S : Type 0} (f : S → ℕ → List ℕ → Result S TextFault) (n : ℕ) (s : S) (ts : List Lexeme) (y : S × List Lexeme) → names_within n f s ts ≡ Ok y → NamesFound ts y.1
-names_found f zero s ts y e = absurd cc
-names_found {S} f (suc n) s ts y e =
-    let a = bind_ok (at_name (f s) ts) (λ x. if_true (heads (is_terminal (Separator Comma)) x.1) (names_within n f x.0 (drop 1 x.1)) (Ok x)) y e in
-    let x = a.0 in
-    let name = name_found (f s) ts x a.1 in
-    chosen {X = NamesFound ts y.1} (heads (is_terminal (Separator Comma)) x.1) (names_within n f x.0 (drop 1 x.1)) (Ok x) y
-    (λ h k.
-    let c = terminal_headed (Separator Comma) x.1 h in
-    let more = names_found f n x.0 (drop 1 x.1) y k in
-    (more_names name.0 c.0 more.0, name.1 ∙ ap (cons_token Name name.0) (c.1 ∙ ap (cons_token (Separator Comma) c.0) more.1)))
-    (λ h k. (one_name name.0, name.1 ∙ ap (λ (m : Parsed S). cons_token Name name.0 (rest_of m)) k))
-    a.2
-  where
-    rest_of : Parsed S → List Lexeme
-    rest_of (Ok z) = z.1
-    rest_of (Err f) = []
 
 -- ---- parts of items
 
@@ -234,12 +203,6 @@ module _ {S X : Type 0} (g : ItemActions S X) where
 
   -- ---- items
 
-  declaration_found : (what : Declared) (s : S) (ts : List Lexeme) (y : S × List Lexeme) → declaration_by g what s ts ≡ Ok y → (ns : Names) × (end : Leaf) × (ts ≡ names_onto ns (ended end y.1))
-  declaration_found what s ts y e =
-      let a = wanted_ok (Separator Semicolon) (over_names (g.declare what) s ts) y e in
-      let b = names_found (g.declare what) (suc (length ts)) s ts (y.0, ended a.0 y.1) a.1 in
-      (b.0, a.0, b.1)
-
   definition_found : (s : S) (at : ℕ) (text : List ℕ) (ts : List Lexeme) (y : S × List Lexeme) → definition_by g s at ts ≡ Ok y → ItemFound (lexeme (Keyword word.Term) at text ∷ ts) y.1
   definition_found s at text ts y e =
       let a = bind_ok (name_at ts) _ y e in
@@ -307,9 +270,9 @@ module _ {S X : Type 0} (g : ItemActions S X) where
 
   item_found : (s : S) (ts : List Lexeme) (y : S × List Lexeme) → item_by g s ts ≡ Ok y → ItemFound ts y.1
   item_found s [] y e = absurd cc
-  item_found s (lexeme (Keyword word.Test) at text ∷ ts) y e = let a = declaration_found _ s ts y e in after_word (tests a.0 a.1) at text ts y.1 a.2 tt tt
-  item_found s (lexeme (Keyword word.Action) at text ∷ ts) y e = let a = declaration_found _ s ts y e in after_word (actions a.0 a.1) at text ts y.1 a.2 tt tt
-  item_found s (lexeme (Keyword word.Var) at text ∷ ts) y e = let a = declaration_found _ s ts y e in after_word (variables a.0 a.1) at text ts y.1 a.2 tt tt
+  item_found s (lexeme (Keyword word.Test) at text ∷ ts) y e = let a = declaration_found (g.declare what.Test) s ts y e in after_word (tests a.0 a.1) at text ts y.1 a.2 tt tt
+  item_found s (lexeme (Keyword word.Action) at text ∷ ts) y e = let a = declaration_found (g.declare what.Action) s ts y e in after_word (actions a.0 a.1) at text ts y.1 a.2 tt tt
+  item_found s (lexeme (Keyword word.Var) at text ∷ ts) y e = let a = declaration_found (g.declare what.Var) s ts y e in after_word (variables a.0 a.1) at text ts y.1 a.2 tt tt
   item_found s (lexeme (Keyword word.Term) at text ∷ ts) y e = definition_found s at text ts y e
   item_found s (lexeme (Keyword word.Prog) at text ∷ ts) y e = prog_found s at text ts y e
   item_found s (lexeme (Keyword word.Hyp) at text ∷ ts) y e = hyp_found s at text ts y e
@@ -318,11 +281,11 @@ module _ {S X : Type 0} (g : ItemActions S X) where
   item_found s (lexeme (Keyword word.Goal) at text ∷ ts) y e = let a = bind_ok (g.begin_goal s at) _ y e in asked_found s at text ts y a.2
   item_found s (lexeme _ at text ∷ ts) y e = absurd cc
 
-  within_found : (n : ℕ) (s t : S) (ts : List Lexeme) → items_within g n s ts ≡ Ok t → IsSomeFile ts
+  within_found : (n : ℕ) (s t : S) (ts : List Lexeme) → items_within (item_by g) n s ts ≡ Ok t → IsSomeFile ts
   within_found zero s t ts e = absurd cc
   within_found (suc n) s t [] e = ([], record { file = record { spells = refl; obey = tt }; fit = tt })
   within_found (suc n) s t (l ∷ ts) e =
-      let a = bind_ok (item_by g s (l ∷ ts)) (λ x. items_within g n x.0 x.1) t e in
+      let a = bind_ok (item_by g s (l ∷ ts)) (λ x. items_within (item_by g) n x.0 x.1) t e in
       let more = within_found n a.0.0 t a.0.1 a.2 in
       let found = subst (λ r. ItemFound (l ∷ ts) r) more.1.file.spells (item_found s (l ∷ ts) a.0 a.1) in
       (found.item ∷ more.0, record { file = record { spells = found.spelled; obey = (found.obeys, more.1.file.obey) }; fit = (found.fits, more.1.fit) })

@@ -1,5 +1,6 @@
 pub mod Lists
 pub mod Results
+pub mod NameWalks
 pub mod PhraseFronts
 pub mod Appends
 pub mod FoundItems
@@ -14,6 +15,8 @@ pub mod WalkSteps
 pub mod NumberChecks
 pub mod WalkedParts
 pub mod WalkedItems
+pub mod TextFronts
+pub mod TextAnswers
 pub mod OneAnswer
 pub mod InRanges
 pub mod BlockRanges

@@ -22,11 +22,11 @@ pub record NameBlocks {E B L T M S : Type 0} (g : BlockActions E B L T M S) : Ty
   pub named : (d at : ℕ) (text : List ℕ) (s : S) → IsNamed (g.named d at text s)
   pub target : (at : ℕ) (text : List ℕ) → IsNamed (g.target at text)
 
-wanted_named : {V : Type 0} (p : Terminal → Bool) (ts : List Lexeme) (k : List Lexeme → Parsed V) → ((us : List Lexeme) → length us < length ts → IsNamed (k us)) → IsNamed (wants p ts >>= k)
+pub wanted_named : {V : Type 0} (p : Terminal → Bool) (ts : List Lexeme) (k : List Lexeme → Parsed V) → ((us : List Lexeme) → length us < length ts → IsNamed (k us)) → IsNamed (wants p ts >>= k)
 wanted_named p [] k h = tt
 wanted_named p (lexeme s at text ∷ ts) k h = elim (p s) as (λ b. IsNamed (if_true b (Ok ts) (Err (Syntax at)) >>= k)) [ true ↦ h ts (omega arith) | false ↦ tt ]
 
-enter_named : (d at : ℕ) → IsNamed (enter d at)
+pub enter_named : (d at : ℕ) → IsNamed (enter d at)
 enter_named d at = if_named (nat_lt d 200) (Ok (d + 1)) (Err (TooDeep at)) (λ e. tt) (λ e. tt)
 
 module _ {E B L T M S : Type 0} (g : BlockActions E B L T M S) (names : NameBlocks g) where

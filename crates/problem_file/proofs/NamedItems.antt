@@ -1,9 +1,9 @@
 -- The walk over items gives no fault for want of memory, where its actions give none.
-use Rattle.std.proofs.Common.{ℕ, zero, suc, ◌+◌, ◌<◌, List, [], ◌∷◌, length, Bool, true, false, cond, Result, Ok, Err, Option, Some, None, arith, drop, length-drop}
+use Rattle.std.proofs.Common.{ℕ, suc, ◌+◌, ◌<◌, List, [], ◌∷◌, length, Bool, true, false, cond, Result, Ok, Err, Option, Some, None, arith, drop, length-drop}
 use Rattle.kat_tokens.specs.declared.fault.TextFault.{TextFault}
 use Rattle.kat_tokens.specs.declared.fault.TextFault.TheVariants.{Syntax}
 use Rattle.kat_syntax.specs.declared.terminal.Terminal.{Terminal}
-use Rattle.kat_syntax.specs.declared.terminal.Terminal.TheVariants.{Name, Keyword, Separator, Zero, One, Number, WideNumber}
+use Rattle.kat_syntax.specs.declared.terminal.Terminal.TheVariants.{Keyword, Separator, Zero, One, Number, WideNumber}
 use Rattle.kat_syntax.specs.declared.terminal.Keyword.TheVariants as word
 use Rattle.kat_syntax.specs.declared.terminal.Separator.TheVariants.{Comma, Semicolon, CurlyOpen, CurlyClose, Equals}
 use Rattle.kat_syntax.specs.Lexemes.{Lexeme, lexeme, heads, is_terminal}
@@ -14,50 +14,25 @@ use Rattle.kat_syntax.specs.Terms.{parse_term, choice}
 use Rattle.kat_syntax.proofs.Within.{Within, bind_within, if_within, weaken, before_within, enter_within, change_within, then_wants_within}
 use Rattle.kat_syntax.proofs.CondSteps.{cond_read_short}
 use Rattle.kat_syntax.proofs.TermSteps.{term_read_short}
-use Rattle.kat_syntax.proofs.NamedFaults.{IsNamed, then_named, bind_named, if_named, before_named, change_named, wants_named, then_wants_named, NameTerms, cond_named, term_named}
+use Rattle.kat_syntax.proofs.NamedFaults.{IsNamed, then_named, if_named, before_named, change_named, wants_named, then_wants_named, NameTerms, cond_named, term_named}
 use Rattle.while_lang.specs.Blocks.{block, parse_block}
 use Rattle.while_lang.proofs.BlockSteps.{block_read_short}
 use Rattle.problem_file.specs.Numbers.{until}
 use Rattle.problem_file.specs.ItemActions.{Measurement, SidesMeasurement, TripleMeasurement, ItemActions}
-use Rattle.problem_file.specs.Items.{name_at, at_name, names_within, over_names, number_at, at_number, term_by, cond_by, block_by, program_by, named_or, side_by, braced_by, middle_by, triple_by, then_do, then_ask, declaration_by, meaning_by, definition_by, prog_by, zero_by, hyp_by, setting_by, sides_by, comparison_by, asked_by, item_by, items_within, items_by}
+use Rattle.problem_file.specs.Items.{name_at, number_at, at_number, term_by, cond_by, block_by, program_by, named_or, side_by, braced_by, middle_by, triple_by, then_do, then_ask, declaration_by, meaning_by, definition_by, prog_by, zero_by, hyp_by, setting_by, sides_by, comparison_by, asked_by, item_by, items_by}
 use Rattle.problem_file.specs.declared.item_reading.Declared.{Declared}
 use Rattle.problem_file.specs.declared.item_reading.Declared.TheVariants as what
 use Rattle.problem_file.specs.declared.item_reading.Setting.{Setting}
 use Rattle.problem_file.specs.declared.item_reading.Setting.TheVariants as setting
 use Rattle.problem_file.specs.declared.item_reading.Comparison.{Comparison}
 use Rattle.problem_file.specs.declared.item_reading.Comparison.TheVariants.{Equal, Below}
+use Rattle.problem_file.proofs.Lists.{items_named as all_named}
 use Rattle.problem_file.proofs.NamedBlocks.{NameBlocks, block_named as parse_block_named}
-
--- ---- names
-
-name_at_named : (ts : List Lexeme) → IsNamed (name_at ts)
-name_at_named [] = tt
-name_at_named (lexeme Name at text ∷ ts) = tt
-name_at_named (lexeme _ at text ∷ ts) = tt
-
-at_name_named : {S : Type 0} (f : ℕ → List ℕ → Result S TextFault) (ts : List Lexeme) → ((at : ℕ) (text : List ℕ) → IsNamed (f at text)) → IsNamed (at_name f ts)
-at_name_named f ts h = then_named (name_at ts) (λ l. before (drop 1 ts) (f l.at l.text)) (name_at_named ts) (λ l. before_named (drop 1 ts) (f l.at l.text) (h l.at l.text))
-
-at_name_short : {S : Type 0} (f : ℕ → List ℕ → Result S TextFault) (ts : List Lexeme) → Within (length ts) (at_name f ts)
-at_name_short f [] = tt
-at_name_short f (lexeme Name at text ∷ ts) = before_within (suc (length ts)) ts (f at text) (omega arith)
-at_name_short f (lexeme _ at text ∷ ts) = tt
-
-names_named : {S : Type 0} (f : S → ℕ → List ℕ → Result S TextFault) → ((s : S) (at : ℕ) (text : List ℕ) → IsNamed (f s at text)) → (n : ℕ) (s : S) (ts : List Lexeme) → length ts < n → IsNamed (names_within n f s ts)
-names_named f h zero s ts lt = absurd (omega arith)
-names_named f h (suc n) s ts lt = bind_named (length ts) (at_name (f s) ts) _ (at_name_named (f s) ts (h s)) (at_name_short (f s) ts)
-    (λ x below. if_named (heads (is_terminal (Separator Comma)) x.1) (names_within n f x.0 (drop 1 x.1)) (Ok x) (λ k. names_named f h n x.0 (drop 1 x.1) (omega (arith, length-drop 1 x.1))) (λ k. tt))
-
-names_short : {S : Type 0} (f : S → ℕ → List ℕ → Result S TextFault) (n : ℕ) (s : S) (ts : List Lexeme) → Within (length ts) (names_within n f s ts)
-names_short f zero s ts = tt
-names_short f (suc n) s ts = bind_within (length ts) (length ts) (at_name (f s) ts) _ (at_name_short (f s) ts)
-    (λ x below. if_within (length ts) (heads (is_terminal (Separator Comma)) x.1) (names_within n f x.0 (drop 1 x.1)) (Ok x)
-    (λ k. weaken (length (drop 1 x.1)) (length ts) (names_within n f x.0 (drop 1 x.1)) (omega (arith, length-drop 1 x.1)) (names_short f n x.0 (drop 1 x.1)))
-    (λ k. below))
+use Rattle.problem_file.proofs.NameWalks.{name_at_named, declaration_named, declaration_short}
 
 -- ---- numbers
 
-number_at_named : (ts : List Lexeme) → IsNamed (number_at ts)
+pub number_at_named : (ts : List Lexeme) → IsNamed (number_at ts)
 number_at_named [] = tt
 number_at_named (lexeme Zero at text ∷ ts) = tt
 number_at_named (lexeme One at text ∷ ts) = tt
@@ -141,9 +116,6 @@ module _ {S X : Type 0} (g : ItemActions S X) where
   meaning_short s ts = wants_short (is_terminal (Separator Equals)) ts (length ts) _
       (λ us lt. then_wants_within (is_terminal (Separator Semicolon)) (length ts) (term_by g s us) (weaken (length us) (length ts) (term_by g s us) (omega arith) (term_short s us)))
 
-  declaration_short : (what : Declared) (s : S) (ts : List Lexeme) → Within (length ts) (declaration_by g what s ts)
-  declaration_short what s ts = then_wants_within (is_terminal (Separator Semicolon)) (length ts) (over_names (g.declare what) s ts) (names_short (g.declare what) (suc (length ts)) s ts)
-
   definition_short : (s : S) (at : ℕ) (ts : List Lexeme) → Within (length ts) (definition_by g s at ts)
   definition_short s at ts = enter_within (length ts) (name_at ts) _
       (λ l. enter_within (length ts) (g.check_new s l.at l.text) _
@@ -182,9 +154,9 @@ module _ {S X : Type 0} (g : ItemActions S X) where
 
   item_short : (s : S) (ts : List Lexeme) → Within (length ts) (item_by g s ts)
   item_short s [] = tt
-  item_short s (lexeme (Keyword word.Test) at text ∷ ts) = weaken (length ts) (suc (length ts)) (declaration_by g what.Test s ts) (omega arith) (declaration_short what.Test s ts)
-  item_short s (lexeme (Keyword word.Action) at text ∷ ts) = weaken (length ts) (suc (length ts)) (declaration_by g what.Action s ts) (omega arith) (declaration_short what.Action s ts)
-  item_short s (lexeme (Keyword word.Var) at text ∷ ts) = weaken (length ts) (suc (length ts)) (declaration_by g what.Var s ts) (omega arith) (declaration_short what.Var s ts)
+  item_short s (lexeme (Keyword word.Test) at text ∷ ts) = weaken (length ts) (suc (length ts)) (declaration_by (g.declare what.Test) s ts) (omega arith) (declaration_short (g.declare what.Test) s ts)
+  item_short s (lexeme (Keyword word.Action) at text ∷ ts) = weaken (length ts) (suc (length ts)) (declaration_by (g.declare what.Action) s ts) (omega arith) (declaration_short (g.declare what.Action) s ts)
+  item_short s (lexeme (Keyword word.Var) at text ∷ ts) = weaken (length ts) (suc (length ts)) (declaration_by (g.declare what.Var) s ts) (omega arith) (declaration_short (g.declare what.Var) s ts)
   item_short s (lexeme (Keyword word.Term) at text ∷ ts) = weaken (length ts) (suc (length ts)) (definition_by g s at ts) (omega arith) (definition_short s at ts)
   item_short s (lexeme (Keyword word.Prog) at text ∷ ts) = weaken (length ts) (suc (length ts)) (prog_by g s at ts) (omega arith) (prog_short s at ts)
   item_short s (lexeme (Keyword word.Hyp) at text ∷ ts) = weaken (length ts) (suc (length ts)) (hyp_by g s at ts) (omega arith) (hyp_short s at ts)
@@ -246,9 +218,6 @@ module _ {S X : Type 0} (g : ItemActions S X) (names : NameItems g) where
   meaning_named : (s : S) (ts : List Lexeme) → IsNamed (meaning_by g s ts)
   meaning_named s ts = then_named (wants (is_terminal (Separator Equals)) ts) _ (wants_named (is_terminal (Separator Equals)) ts) (λ us. then_wants_named (is_terminal (Separator Semicolon)) (term_by g s us) (term_by_named s us))
 
-  declaration_named : (what : Declared) (s : S) (ts : List Lexeme) → IsNamed (declaration_by g what s ts)
-  declaration_named what s ts = then_wants_named (is_terminal (Separator Semicolon)) (over_names (g.declare what) s ts) (names_named (g.declare what) (names.declare what) (suc (length ts)) s ts (omega arith))
-
   definition_named : (s : S) (at : ℕ) (ts : List Lexeme) → IsNamed (definition_by g s at ts)
   definition_named s at ts = then_named (name_at ts) _ (name_at_named ts)
       (λ l. then_named (g.check_new s l.at l.text) _ (names.check_new s l.at l.text)
@@ -282,9 +251,9 @@ module _ {S X : Type 0} (g : ItemActions S X) (names : NameItems g) where
 
   item_named : (s : S) (ts : List Lexeme) → IsNamed (item_by g s ts)
   item_named s [] = tt
-  item_named s (lexeme (Keyword word.Test) at text ∷ ts) = declaration_named what.Test s ts
-  item_named s (lexeme (Keyword word.Action) at text ∷ ts) = declaration_named what.Action s ts
-  item_named s (lexeme (Keyword word.Var) at text ∷ ts) = declaration_named what.Var s ts
+  item_named s (lexeme (Keyword word.Test) at text ∷ ts) = declaration_named (g.declare what.Test) (names.declare what.Test) s ts
+  item_named s (lexeme (Keyword word.Action) at text ∷ ts) = declaration_named (g.declare what.Action) (names.declare what.Action) s ts
+  item_named s (lexeme (Keyword word.Var) at text ∷ ts) = declaration_named (g.declare what.Var) (names.declare what.Var) s ts
   item_named s (lexeme (Keyword word.Term) at text ∷ ts) = definition_named s at ts
   item_named s (lexeme (Keyword word.Prog) at text ∷ ts) = prog_named s at ts
   item_named s (lexeme (Keyword word.Hyp) at text ∷ ts) = hyp_named s at ts
@@ -293,10 +262,5 @@ module _ {S X : Type 0} (g : ItemActions S X) (names : NameItems g) where
   item_named s (lexeme (Keyword word.Goal) at text ∷ ts) = then_named (g.begin_goal s at) _ (names.begin_goal s at) (λ u. asked_named s at ts)
   item_named s (lexeme _ at text ∷ ts) = tt
 
-  within_named : (n : ℕ) (s : S) (ts : List Lexeme) → length ts < n → IsNamed (items_within g n s ts)
-  within_named zero s ts lt = absurd (omega arith)
-  within_named (suc n) s [] lt = tt
-  within_named (suc n) s (l ∷ ts) lt = bind_named (length (l ∷ ts)) (item_by g s (l ∷ ts)) (λ x. items_within g n x.0 x.1) (item_named s (l ∷ ts)) (item_short g s (l ∷ ts)) (λ x below. within_named n x.0 x.1 (omega arith))
-
   pub items_named : (s : S) (ts : List Lexeme) → IsNamed (items_by g s ts)
-  items_named s ts = within_named (suc (length ts)) s ts (omega arith)
+  items_named s ts = all_named (item_by g) item_named (item_short g) s ts

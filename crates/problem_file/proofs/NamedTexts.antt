@@ -1,11 +1,10 @@
--- The first fault of a text is never want of memory.
-use Rattle.std.proofs.Common.{ℕ, ◌+◌, List, length, map, nat_lt, Bool, true, false, Result, Ok, Err, Option, Some, None, is_some, slice_get, ◌∷◌, [], subst}
+-- The tests of tokens give no fault for want of memory.
+use Rattle.std.proofs.Common.{ℕ, ◌+◌, List, length, nat_lt, Bool, true, false, Ok, Err, Option, Some, None, is_some, slice_get, ◌∷◌, []}
 use Rattle.std.specs.Option.{option_and_then}
-use Rattle.kat_tokens.specs.declared.fault.TextFault.{TextFault}
-use Rattle.kat_tokens.specs.declared.fault.TextFault.TheVariants.{NoMemory, Sort, TooDeep, DoubleName, TooMany, TooLarge, NumberTooWide, Syntax}
+use Rattle.kat_tokens.specs.declared.fault.TextFault.TheVariants.{Sort, TooDeep, DoubleName, TooMany, TooLarge, NumberTooWide}
 use Rattle.kat_syntax.specs.declared.reading.Context.{Context}
 use Rattle.kat_syntax.specs.declared.terminal.Terminal.TheVariants.{Number, WideNumber}
-use Rattle.kat_syntax.specs.Lexemes.{Lexeme, lexeme, lexeme_of}
+use Rattle.kat_syntax.specs.Lexemes.{Lexeme, lexeme}
 use Rattle.kat_syntax.specs.Parsed.{Parsed}
 use Rattle.kat_syntax.specs.Actions.{context}
 use Rattle.kat_syntax.specs.Conds.{disjunction}
@@ -41,7 +40,7 @@ use Rattle.problem_file.specs.Numbers.{check_number, check_numbers}
 use Rattle.problem_file.specs.Items.{lone_name}
 use Rattle.problem_file.specs.Syntax.{checking, scan_file}
 use Rattle.problem_file.specs.Making.{declare, begin_setting, set, built_term, built_cond, built_block, program_or, built_side, built_triple, built_goal, count, triple_nodes, count_sides, count_parts, ask_sides, ask_triple, making, walk}
-use Rattle.problem_file.specs.Reads.{files_with, check_goal, tested, placed, placing, HasFirstFault, too_long, not_utf8, bad_token, refused}
+use Rattle.problem_file.specs.Reads.{files_with, check_goal, tested}
 use Rattle.problem_file.proofs.NamedBlocks.{NameBlocks, block_named}
 use Rattle.problem_file.proofs.NamedItems.{NameItems, items_named}
 
@@ -74,7 +73,7 @@ name_named w c at (Some (Action a)) = if_named c.negated (Err (Sort at)) _ (λ e
 name_named w c at (Some (TermName i)) = defined_named c at (slice_get w.terms i)
 name_named w c at (Some m) = tt
 
-extents_named : (w : ScopeParts) → NameTerms (extents w)
+pub extents_named : (w : ScopeParts) → NameTerms (extents w)
 extents_named w = record {
   conds = record {
     exprs = record { number = λ c at n. number_named c at; variable = λ c at text. variable_named c at (meaning w text) };
@@ -84,14 +83,14 @@ extents_named w = record {
   starred = λ c at m. if_named c.negated (Err (Sort at)) _ (λ e. tt) (λ e. tt);
 }
 
-trees_named : (w : ScopeParts) → NameTerms (trees w)
+pub trees_named : (w : ScopeParts) → NameTerms (trees w)
 trees_named w = record {
   conds = record { exprs = record { number = λ c at n. tt; variable = λ c at text. tt }; named = λ c at text. tt };
   named = λ c at text. tt;
   starred = λ c at e. tt;
 }
 
-scanning_named : NameTerms scanning
+pub scanning_named : NameTerms scanning
 scanning_named = record {
   conds = record { exprs = record { number = λ c at n. tt; variable = λ c at text. tt }; named = λ c at text. tt };
   named = λ c at text. tt;
@@ -248,21 +247,7 @@ files_with_named : (s : State) (o : Option GoalTree) → IsNamed (files_with s o
 files_with_named s None = tt
 files_with_named s (Some goal) = tt
 
-tested_named : (limit : GoalLimit) (ts : List Lexeme) → IsNamed (tested limit ts)
+pub tested_named : (limit : GoalLimit) (ts : List Lexeme) → IsNamed (tested limit ts)
 tested_named limit ts =
     then_named (scan_file ts) _ (items_named checking checking_named tt ts)
     (λ v. then_named (walk (start limit) ts) check_goal (items_named making making_named (start limit) ts) (λ s. files_with_named s (slice_get s.goals 0)))
-
-placed_named : (len : ℕ) (e : TextFault) → IsNamedFault e → IsNamedFault (placed len e)
-placed_named len (Syntax at) h = tt
-placed_named len e h = h
-
-placing_named : {X : Type 0} (len : ℕ) (m : Result X TextFault) → IsNamed m → IsNamed (placing len m)
-placing_named len (Ok x) h = tt
-placing_named len (Err e) h = placed_named len e h
-
-pub faults_are_named : (limit : GoalLimit) (bytes : List ℕ) → HasFirstFault limit bytes NoMemory → ⊥
-faults_are_named limit bytes (too_long told past) = cc
-faults_are_named limit bytes (not_utf8 at told within front) = cc
-faults_are_named limit bytes (bad_token at told bad) = cc
-faults_are_named limit bytes (refused r) = subst IsNamed r.tests (placing_named (length bytes) (tested limit (map lexeme_of r.parts_of_tokens)) (tested_named limit (map lexeme_of r.parts_of_tokens)))

@@ -133,6 +133,15 @@ module _ (t a v : ℕ) where
   progs_at (q ∷ ps) h zero p e = let same : q ≡ p = cc in subst (λ (x : ProgParts). IsProgInRange t a v x.tree) same h.0
   progs_at (q ∷ ps) h (suc i) p e = progs_at ps h.1 i p e
 
+  -- a program that a name stands for is one of them
+  pub meant_in : (ps : List ProgParts) (o : Option Meaning) (d : ProgParts) → AreProgsInRange t a v ps → prog_meant ps o ≡ Some d → IsProgInRange t a v d.tree
+  meant_in ps None d h e = absurd cc
+  meant_in ps (Some (Test k)) d h e = absurd cc
+  meant_in ps (Some (Action k)) d h e = absurd cc
+  meant_in ps (Some (Var k)) d h e = absurd cc
+  meant_in ps (Some (TermName k)) d h e = absurd cc
+  meant_in ps (Some (Prog i)) d h e = progs_at ps h i d e
+
 goals_more : (t a v u b x : ℕ) → t ≤ u → a ≤ b → v ≤ x → (gs : List GoalTree) → GoalsInRange t a v gs → GoalsInRange u b x gs
 goals_more t a v u b x p q r [] h = tt
 goals_more t a v u b x p q r (g ∷ gs) h = (goal_more t a v u b x p q r g h.0, goals_more t a v u b x p q r gs h.1)
@@ -349,18 +358,9 @@ module _ (s : State) (r : Ranged s) where
   term_ranged : (p : Phrase term) (e : Term) (h : IsSide s p (term_side e)) → IsInRange s.tests s.actions e
   term_ranged p e h = term_in s.tests s.actions s.vars s.world (length s.progs) r.numbers r.defined (context 0 false false) p e h.built
 
-  -- a program that a name stands for is one of the state
-  meant_ranged : (o : Option Meaning) (d : ProgParts) → prog_meant s.progs o ≡ Some d → IsProgInRange s.tests s.actions s.vars d.tree
-  meant_ranged None d e = absurd cc
-  meant_ranged (Some (Test k)) d e = absurd cc
-  meant_ranged (Some (Action k)) d e = absurd cc
-  meant_ranged (Some (Var k)) d e = absurd cc
-  meant_ranged (Some (TermName k)) d e = absurd cc
-  meant_ranged (Some (Prog i)) d e = progs_at s.tests s.actions s.vars s.progs r.progs i d e
-
   leaf_ranged : (p : Phrase term) (o : Option Leaf) (d : ProgParts) → lone_leaf p ≡ o → named_by s p ≡ Some d → IsProgInRange s.tests s.actions s.vars d.tree
   leaf_ranged p None d h e = let told : named_by s p ≡ None = rw (h) refl in absurd (none-some d (sym told ∙ e))
-  leaf_ranged p (Some l) d h e = let told : named_by s p ≡ prog_meant s.progs (get s.world.meanings l.text) = rw (h) refl in meant_ranged (get s.world.meanings l.text) d (sym told ∙ e)
+  leaf_ranged p (Some l) d h e = let told : named_by s p ≡ prog_meant s.progs (get s.world.meanings l.text) = rw (h) refl in meant_in s.tests s.actions s.vars s.progs (get s.world.meanings l.text) d r.progs (sym told ∙ e)
 
   side_ranged : (p : Phrase term) (side : SideTree) → IsSide s p side → IsSideInRange s.tests s.actions s.vars side
   side_ranged p (term_side e) h = term_ranged p e h

@@ -10,8 +10,9 @@ use Rattle.kat_syntax.specs.Ends.{goes_on, Ends}
 use Rattle.while_lang.specs.BlockPhrases.{BlockSymbol, BlockPhrase, braced, no_stmts, more_stmts, skip_stmt, abort_stmt, assert_stmt, name_stmt, assign_stmt, if_stmt, while_stmt}
 use Rattle.while_lang.specs.BlockPhrases.{no_else, else_block, else_if, block_before}
 use Rattle.problem_file.specs.Items.{lone_name}
-use Rattle.problem_file.specs.Phrases.{Names, one_name, more_names, Numeral, zero_number, one_number, other_number, wide_number, Braced, TriplePhrase, Body, tests, actions, variables, definition, program, hypothesis, hyp_triple, rounds, width, goal_equal, goal_below, goal_triple, Item}
-use Rattle.problem_file.specs.Phrases.{lone_leaf, names_onto, numeral_onto, braced_onto, triple_onto, sides_onto, body_onto, ended, spelled}
+use Rattle.problem_file.specs.Phrases.{Numeral, zero_number, one_number, other_number, wide_number, Braced, TriplePhrase, Body, tests, actions, variables, definition, program, hypothesis, hyp_triple, rounds, width, goal_equal, goal_below, goal_triple, Item}
+use Rattle.problem_file.proofs.NameWalks.{names_long}
+use Rattle.problem_file.specs.Phrases.{lone_leaf, numeral_onto, braced_onto, triple_onto, sides_onto, body_onto, ended, spelled}
 
 pub no_triple : {x : Symbol} (p : Phrase x) (ts : List Lexeme) → heads (is_terminal (Keyword word.Triple)) (yield_before p ts) ≡ false
 no_triple (one_prod p) ts = no_triple p ts
@@ -172,10 +173,6 @@ numeral_long (zero_number l) ts = omega arith
 numeral_long (one_number l) ts = omega arith
 numeral_long (other_number l n) ts = omega arith
 numeral_long (wide_number l) ts = omega arith
-
-names_long : (ns : Names) (ts : List Lexeme) → length ts < length (names_onto ns ts)
-names_long (one_name l) ts = omega arith
-names_long (more_names l c ns) ts = omega (arith, names_long ns ts)
 
 braced_long : (b : Braced) (ts : List Lexeme) → length ts < length (braced_onto b ts)
 braced_long b ts = omega (arith, phrase_long b.inner (cons_token (Separator CurlyClose) b.right ts))

@@ -1,25 +1,26 @@
 -- What the tests of tokens tell is the answer to a text.
-use Rattle.std.proofs.Common.{◌≡◌, ◌⊎◌, inl, inr, ℕ, List, map, length, slice_get, get_or, Some, Result, Ok, Err, IfErr, MatchResult, Vec, refl, ap, subst, ◌∙◌, ⊎_elim}
+use Rattle.std.proofs.Common.{◌≡◌, ◌⊎◌, ℕ, List, map, length, slice_get, get_or, Some, Result, Ok, Err, IfErr, MatchResult, Vec, ap, subst, ◌∙◌}
 use Rattle.std.specs.Option.{option_map}
 use Rattle.std.proofs.lemmas.Option.{slice_get-map, slice_get_within, get_or_from_slice_get}
 use Rattle.kat_tokens.specs.declared.token.Token.{Token}
 use Rattle.std.specs.declared.alloc.Global.{Global}
 use Rattle.kat_tokens.specs.declared.fault.TextFault.{TextFault}
-use Rattle.kat_tokens.specs.declared.fault.TextFault.TheVariants.{NoMemory, BadToken}
+use Rattle.kat_tokens.specs.declared.fault.TextFault.TheVariants.{NoMemory}
 use Rattle.kat_tokens.specs.TokenParts.{parts_of_tokens, parts_of_token}
-use Rattle.kat_tokens.specs.Lex.{Lexes, IsFault, IsSlice}
+use Rattle.kat_tokens.specs.Lex.{Lexes, IsSlice}
 use Rattle.kat_tokens.proofs.Slices.{slices_from}
 use Rattle.kat_syntax.specs.Lexemes.{lexemes}
 use Rattle.kat_syntax.specs.Parsed.{Makes}
-use Rattle.problem_file.specs.Working.Tokens.{AreTokens}
+use Rattle.problem_file.specs.Tokens.{AreTokens}
 use Rattle.problem_file.specs.declared.file.Goal.{Goal}
 use Rattle.problem_file.specs.declared.goal_limit.GoalLimit.{GoalLimit}
-use Rattle.problem_file.specs.declared.goal_limit.GoalLimit.TheVariants.{One, Batch}
+use Rattle.problem_file.specs.declared.goal_limit.GoalLimit.TheVariants.{Batch}
 use Rattle.problem_file.specs.Files.{GoalTree, FileParts}
 use Rattle.problem_file.specs.Trees.{goal_tree}
-use Rattle.problem_file.specs.Reads.{Says, Reads, ReadsAll, HasFirstFault, FirstFaultOfAll, bad_token, refused, placed, placing, tested}
+use Rattle.problem_file.specs.Reads.{Says, ReadsAll, HasFirstFault, FirstFaultOfAll, tested}
 use Rattle.problem_file.specs.Working.Files.{AreSaid, AnswersFor}
-use Rattle.problem_file.proofs.OneAnswer.{tested_says, not_both_ways}
+use Rattle.problem_file.proofs.TextAnswers.{no_fault as none_told}
+use Rattle.problem_file.proofs.OneAnswer.{said, tested_says, says_told}
 
 -- each token of a text is a token of its kind
 pub lexed_tokens : (text : List ℕ) (ts : List Token) → Lexes text (parts_of_tokens ts) → AreTokens ts
@@ -40,33 +41,13 @@ module _ (limit : GoalLimit) (text : List ℕ) where
       let s = tested_says limit text (parts_of_tokens ts) lexes (with_trees x) h in
       record { says = s.0; file = ap (λ y. y.0) s.1; goals = ap (λ y. y.1) s.1 }
 
-  fault_is : (e : TextFault) (m : Result (FileParts × List GoalTree) TextFault) → Makes (Unit {0}) with_trees (Err e) m → (e ≡ NoMemory) ⊎ (m ≡ Err e)
-  fault_is NoMemory m h = inl refl
-  fault_is e m h = inr h
-
-  pub fault_told : (ts : List Token) (e : TextFault) → Lexes text (parts_of_tokens ts) → Makes (Unit {0}) with_trees (Err e) (tested limit (lexemes ts)) → (placed (length text) e ≡ NoMemory) ⊎ HasFirstFault limit text (placed (length text) e)
-  fault_told ts e lexes h =
-      ⊎_elim
-      (λ none. inl (ap (placed (length text)) none))
-      (λ told. inr (refused (record { parts_of_tokens = parts_of_tokens ts; lexes = lexes; tests = ap (placing (length text)) told })))
-      (fault_is e (tested limit (lexemes ts)) h)
-
-  pub bad_told : (e : TextFault) → IsFault text e → (e ≡ NoMemory) ⊎ HasFirstFault limit text e
-  bad_told NoMemory h = inl refl
-  bad_told (BadToken at) h = inr (bad_token at refl h)
-  bad_told e h = absurd h
-
   -- bytes that say something have no first fault
   pub no_fault : Says limit text → (e : TextFault) → (e ≡ NoMemory) ⊎ HasFirstFault limit text e → e ≡ NoMemory
-  no_fault says e h = ⊎_elim (λ none. none) (λ first. absurd (not_both_ways limit text says e first)) h
+  no_fault says e h = none_told (tested limit) text (said says) e (says_told limit text says) h
 
   pub only_memory : Says limit text → (r : Result (FileParts × Vec Goal Global) TextFault) → AnswersFor limit text r → IfErr r (λ e. e ≡ NoMemory)
   only_memory says (Ok x) h = tt
   only_memory says (Err e) h = no_fault says e h
-
--- where one goal may stand, and where up to 64
-pub said_one : (bytes : List ℕ) (x : FileParts × Vec Goal Global) → AreSaid One bytes x → Reads bytes x.0
-said_one bytes x h = record { says = h.says; file = h.file }
 
 pub all_answered : (bytes : List ℕ) (r : Result (FileParts × Vec Goal Global) TextFault) → AnswersFor Batch bytes r → MatchResult r (λ x. ReadsAll bytes x.0 (map goal_tree x.1.items)) (λ e. (e ≡ NoMemory) ⊎ FirstFaultOfAll bytes e)
 all_answered bytes (Ok x) h = record { says = h.says; file = h.file; goals = h.goals }

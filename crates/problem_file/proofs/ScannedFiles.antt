@@ -55,7 +55,7 @@ no_program : (o : Option Leaf) → option_and_then (λ l. checking.program tt l.
 no_program None = refl
 no_program (Some l) = refl
 
-numeral_passes : (n : Numeral) → NumeralFits n → (v : ℕ) × (numeral_value n ≡ Ok v)
+pub numeral_passes : (n : Numeral) → NumeralFits n → (v : ℕ) × (numeral_value n ≡ Ok v)
 numeral_passes (zero_number l) fits = (0, refl)
 numeral_passes (one_number l) fits = (1, refl)
 numeral_passes (other_number l n) fits = (n, refl)

@@ -13,7 +13,6 @@ use Rattle.kat_syntax.specs.Terms.{parse_term, choice}
 use Rattle.kat_syntax.specs.Phrases.{term, Leaf}
 use Rattle.kat_syntax.specs.Ends.{goes_on}
 use Rattle.while_lang.specs.Blocks.{block, parse_block}
-use Rattle.problem_file.specs.declared.item_reading.Declared.{Declared}
 use Rattle.problem_file.specs.declared.item_reading.Declared.TheVariants as what
 use Rattle.problem_file.specs.declared.item_reading.Setting.{Setting}
 use Rattle.problem_file.specs.declared.item_reading.Setting.TheVariants as setting
@@ -122,8 +121,8 @@ then_ask g s ts f m =
     then_wants (is_terminal (Separator Semicolon)) m >>= λ x. g.check_numbers s (until ts x.1) >>= λ u. before x.1 (f x.0)
 
 -- "test" names ";", "action" names ";" and "var" names ";"
-abbrev pub declaration_by : {S X : Type 0} → ItemActions S X → Declared → S → List Lexeme → Parsed S
-declaration_by g what s ts = then_wants (is_terminal (Separator Semicolon)) (over_names (g.declare what) s ts)
+abbrev pub declaration_by : {S : Type 0} → (S → ℕ → List ℕ → Result S TextFault) → S → List Lexeme → Parsed S
+declaration_by f s ts = then_wants (is_terminal (Separator Semicolon)) (over_names f s ts)
 
 -- "=" term ";"
 abbrev pub meaning_by : {S X : Type 0} → ItemActions S X → S → List Lexeme → Parsed (Measurement X)
@@ -182,9 +181,9 @@ goal_by g s at ts = g.begin_goal s at >>= λ u. asked_by g s at ts
 -- an item, by its keyword
 abbrev pub item_by : {S X : Type 0} → ItemActions S X → S → List Lexeme → Parsed S
 item_by g s [] = Err (Syntax at_end)
-item_by g s (lexeme (Keyword word.Test) at text ∷ ts) = declaration_by g what.Test s ts
-item_by g s (lexeme (Keyword word.Action) at text ∷ ts) = declaration_by g what.Action s ts
-item_by g s (lexeme (Keyword word.Var) at text ∷ ts) = declaration_by g what.Var s ts
+item_by g s (lexeme (Keyword word.Test) at text ∷ ts) = declaration_by (g.declare what.Test) s ts
+item_by g s (lexeme (Keyword word.Action) at text ∷ ts) = declaration_by (g.declare what.Action) s ts
+item_by g s (lexeme (Keyword word.Var) at text ∷ ts) = declaration_by (g.declare what.Var) s ts
 item_by g s (lexeme (Keyword word.Term) at text ∷ ts) = definition_by g s at ts
 item_by g s (lexeme (Keyword word.Prog) at text ∷ ts) = prog_by g s at ts
 item_by g s (lexeme (Keyword word.Hyp) at text ∷ ts) = hyp_by g s at ts
@@ -194,10 +193,13 @@ item_by g s (lexeme (Keyword word.Goal) at text ∷ ts) = goal_by g s at ts
 item_by g s (lexeme _ at text ∷ ts) = Err (Syntax at)
 
 -- items up to the end of the tokens, or the first fault
-abbrev pub items_within : {S X : Type 0} → ItemActions S X → ℕ → S → List Lexeme → Result S TextFault
-items_within g zero s ts = Err NoMemory
-items_within g (suc n) s [] = Ok s
-items_within g (suc n) s (t ∷ ts) = item_by g s (t ∷ ts) >>= λ x. items_within g n x.0 x.1
+abbrev pub items_within : {S : Type 0} → (S → List Lexeme → Parsed S) → ℕ → S → List Lexeme → Result S TextFault
+items_within item zero s ts = Err NoMemory
+items_within item (suc n) s [] = Ok s
+items_within item (suc n) s (t ∷ ts) = item s (t ∷ ts) >>= λ x. items_within item n x.0 x.1
+
+abbrev pub over_items : {S : Type 0} → (S → List Lexeme → Parsed S) → S → List Lexeme → Result S TextFault
+over_items item s ts = items_within item (suc (length ts)) s ts
 
 abbrev pub items_by : {S X : Type 0} → ItemActions S X → S → List Lexeme → Result S TextFault
-items_by g s ts = items_within g (suc (length ts)) s ts
+items_by g s ts = over_items (item_by g) s ts

@@ -36,7 +36,7 @@ pub record ItemsAreFolded : Type 0 where
 pub record HaveOneAnswer {X : Type 0} (Says : List ℕ → X → Type 0) (Fails : List ℕ → TextFault → Type 0) : Type 0 where
   pub some : (bytes : List ℕ) → ((x : X) × Says bytes x) ⊎ ((e : TextFault) × Fails bytes e)
   pub either : (bytes : List ℕ) (x : X) (e : TextFault) → Says bytes x → Fails bytes e → ⊥
-  pub files : (bytes : List ℕ) (x y : X) → Says bytes x → Says bytes y → x ≡ y
+  pub values : (bytes : List ℕ) (x y : X) → Says bytes x → Says bytes y → x ≡ y
   pub faults : (bytes : List ℕ) (d e : TextFault) → Fails bytes d → Fails bytes e → d ≡ e
   pub named : (bytes : List ℕ) → Fails bytes NoMemory → ⊥
 

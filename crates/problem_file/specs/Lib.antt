@@ -3,6 +3,7 @@ pub mod Numbers
 pub mod Trees
 pub mod ItemActions
 pub mod Items
+pub mod Tokens
 pub mod Syntax
 pub mod Making
 pub mod Phrases
@@ -10,6 +11,7 @@ pub mod Folds
 pub mod Sound
 pub mod Ranges
 pub mod Concrete
+pub mod FirstFaults
 pub mod Reads
 pub mod Laws
 pub mod Working

@@ -1,16 +1,15 @@
 -- Which bytes say which file, and the first fault of those that say none.
-use Rattle.std.specs.Prelude.{◌≡◌, ◌≤◌, ◌<◌, ◌⊎◌, ℕ, min, List, length, map, drop, slice_get, Result, Ok, Err, Option, Some, None}
-use Rattle.std.specs.Str.{IsValidUpTo}
-use Rattle.kat_tokens.specs.declared.lexer.TheConstants.{MAX_LEN}
+use Rattle.std.specs.Prelude.{◌≡◌, ◌⊎◌, ℕ, List, map, drop, slice_get, Result, Ok, Err, Option, Some, None}
 use Rattle.kat_tokens.specs.declared.fault.TextFault.{TextFault}
-use Rattle.kat_tokens.specs.declared.fault.TextFault.TheVariants.{NoMemory, TooLong, NotUtf8, BadToken, Syntax, NoGoal}
+use Rattle.kat_tokens.specs.declared.fault.TextFault.TheVariants.{NoMemory, NoGoal}
 use Rattle.kat_tokens.specs.TokenParts.{TokenParts}
-use Rattle.kat_tokens.specs.Lex.{Lexes, FirstBad}
+use Rattle.kat_tokens.specs.Lex.{Lexes}
 use Rattle.kat_syntax.specs.Lexemes.{Lexeme, lexeme_of}
 use Rattle.kat_syntax.specs.Parsed.{◌>>=◌}
 use Rattle.problem_file.specs.declared.goal_limit.GoalLimit.{GoalLimit}
 use Rattle.problem_file.specs.declared.goal_limit.GoalLimit.TheVariants.{One, Batch}
 use Rattle.problem_file.specs.Files.{GoalTree, FileParts, State, start, file_of}
+use Rattle.problem_file.specs.FirstFaults.{IsFirstFault}
 use Rattle.problem_file.specs.Syntax.{scan_file}
 use Rattle.problem_file.specs.Making.{walk}
 use Rattle.problem_file.specs.Phrases.{Item, AreSpelledBy}
@@ -45,15 +44,6 @@ pub record ReadsAll (bytes : List ℕ) (f : FileParts) (more : List GoalTree) : 
 
 -- ---- the first fault
 
--- a fault past the last token is at the text's length
-abbrev pub placed : ℕ → TextFault → TextFault
-placed len (Syntax at) = Syntax (min at len)
-placed len e = e
-
-abbrev pub placing : {X : Type 0} → ℕ → Result X TextFault → Result X TextFault
-placing len (Ok x) = Ok x
-placing len (Err e) = Err (placed len e)
-
 -- the file and the goals after its first, where a goal is asked
 abbrev pub files_with : State → Option GoalTree → Result (FileParts × List GoalTree) TextFault
 files_with s None = Err NoGoal
@@ -66,18 +56,9 @@ check_goal s = files_with s (slice_get s.goals 0)
 abbrev pub tested : GoalLimit → List Lexeme → Result (FileParts × List GoalTree) TextFault
 tested limit ts = scan_file ts >>= λ u. walk (start limit) ts >>= check_goal
 
--- the bytes have tokens, and this is the first fault in them
-pub record Refuses (limit : GoalLimit) (bytes : List ℕ) (e : TextFault) : Type 0 where
-  pub parts_of_tokens : List TokenParts
-  pub lexes : Lexes bytes parts_of_tokens
-  pub tests : placing (length bytes) (tested limit (map lexeme_of parts_of_tokens)) ≡ Err e
-
--- the first fault of the bytes, in the order of refusals, where so many goals may stand
-pub data HasFirstFault (limit : GoalLimit) (bytes : List ℕ) (e : TextFault) : Type 0 where
-  too_long : (told : e ≡ TooLong) → (past : MAX_LEN < length bytes) → HasFirstFault limit bytes e
-  not_utf8 : (at : ℕ) → (told : e ≡ NotUtf8 at) → (within : length bytes ≤ MAX_LEN) → (front : IsValidUpTo bytes at) → HasFirstFault limit bytes e
-  bad_token : (at : ℕ) → (told : e ≡ BadToken at) → (bad : FirstBad bytes at) → HasFirstFault limit bytes e
-  refused : (in_tokens : Refuses limit bytes e) → HasFirstFault limit bytes e
+-- the first fault of the bytes, where so many goals may stand
+abbrev pub HasFirstFault : GoalLimit → List ℕ → TextFault → Type 0
+HasFirstFault limit bytes e = IsFirstFault (tested limit) bytes e
 
 -- of a text with one goal, and of one with up to 64
 abbrev pub FirstFault : List ℕ → TextFault → Type 0

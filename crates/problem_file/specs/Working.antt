@@ -1,5 +1,4 @@
 pub mod Numbers
-pub mod Tokens
 pub mod Walks
 pub mod States
 pub mod NumberSteps

@@ -1,7 +1,7 @@
 //! The items of a problem file, gone through once for any reading.
 ghost use Rattle.std.specs.Prelude.{◌≡◌, ◌+◌, ◌<◌, ◌≤◌, length, drop, IfOk, IfSome};
 ghost use Rattle.kat_syntax.specs.Lexemes.{lexemes};
-ghost use Rattle.problem_file.specs.Working.Tokens.{AreTokens};
+ghost use Rattle.problem_file.specs.Tokens.{AreTokens};
 ghost use Rattle.problem_file.specs.Items.{at_name, over_names, at_number, term_by, block_by, program_by, side_by};
 ghost use Rattle.problem_file.specs.Items.{braced_by, middle_by, triple_by, sides_by, declaration_by, meaning_by};
 ghost use Rattle.problem_file.specs.Items.{definition_by, prog_by, zero_by, hyp_by, setting_by, comparison_by};
@@ -12,7 +12,9 @@ ghost use Rattle.problem_file.specs.Working.Walks.{measured_of, sides_of, triple
 use crate::item_reading::{Comparison, Declared, ItemReading, Setting};
 use crate::names::{lone_name, name_at, number_at};
 use crate::phrase::{Measured, Sides, Triple};
-use kat_syntax::{Keyword, Separator, Terminal, expect, is_at, syntax_fault_at, terminal_at};
+use kat_syntax::{
+    Keyword, Separator, Terminal, expect, is_at, place_at, syntax_fault_at, terminal_at,
+};
 use kat_tokens::{TextFault, Token};
 
 // Declares the name at an index, and gives the index after it.
@@ -66,7 +68,7 @@ fn read_declaration<R: ItemReading>(
 ) -> Result<usize, TextFault>
     requires tokens { AreTokens toks.now }
     ensures value { Steps R.memory toks.now from result (R.state reading.new) (
-        declaration_by R.actions what (R.state reading.old)
+        declaration_by ((R.actions).declare what) (R.state reading.old)
         ) }
     ensures goes { IfOk result (λ end. (from < end) × (end ≤ length toks.now)) }
 {
@@ -297,8 +299,8 @@ fn read_number<R: ItemReading>(
         ) }
     ensures goes { IfOk result (λ end. (end ≡ from + 1) × (from < length toks.now)) }
 {
-    let (number, place) = number_at(toks, from)?;
-    reading.set(what, place, number)?;
+    let number = number_at(toks, from)?;
+    reading.set(what, place_at(toks, from), number)?;
     Ok(from + 1)
 }
 

@@ -18,4 +18,5 @@ pub use file::{File, Goal, Side};
 pub use laws::{
     are_in_ranges, files_are_scanned, have_one_answer, items_are_folded, items_are_walked,
 };
-pub use reading::{read, read_all};
+pub use names::{name_at, number_at};
+pub use reading::{fault_in_text, read, read_all, text_of};

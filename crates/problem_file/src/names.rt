@@ -1,18 +1,17 @@
 //! Names and numbers among the tokens.
 ghost use Rattle.std.specs.Prelude.{◌≡◌, ◌+◌, ◌<◌, length, drop, IfOk, IfErr, IfSome, Ok, Err, option_map};
 ghost use Rattle.kat_syntax.specs.Lexemes.{lexemes, heads};
-ghost use Rattle.kat_syntax.specs.Parsed.{Makes, place_of};
 ghost use Rattle.kat_syntax.specs.Phrases.{term};
 ghost use Rattle.kat_syntax.specs.Ends.{goes_on};
 ghost use Rattle.kat_text.specs.ScopeParts.{IsIdentifier};
 ghost use Rattle.problem_file.specs.Items.{name_at, number_at, lone_name};
-ghost use Rattle.problem_file.specs.Working.Tokens.{AreTokens};
+ghost use Rattle.problem_file.specs.Tokens.{AreTokens};
 
 use kat_syntax::{Terminal, syntax_fault_at, terminal_at, terminal_of, text_at};
 use kat_tokens::{TextFault, Token};
 
-// The name at an index.
-pub(crate) fn name_at<'a, 'b>(toks: &'b [Token<'a>], i: usize) -> Result<&'b Token<'a>, TextFault>
+/// The token at an index, which has to be a name: otherwise `Syntax` at its place, or at `usize::MAX` after the last token.
+pub fn name_at<'a, 'b>(toks: &'b [Token<'a>], i: usize) -> Result<&'b Token<'a>, TextFault>
     requires tokens { AreTokens toks.now }
     ensures found { IfOk result (λ name. name_at (drop i (lexemes toks.now)) ≡ Ok (record { at = name.now.at; text = name.now.text.now })) }
     ensures fault { IfErr result (λ e. name_at (drop i (lexemes toks.now)) ≡ Err e) }
@@ -28,21 +27,19 @@ pub(crate) fn name_at<'a, 'b>(toks: &'b [Token<'a>], i: usize) -> Result<&'b Tok
     }
 }
 
-// The number at an index, and its place.
-pub(crate) fn number_at(toks: &[Token], i: usize) -> Result<(u64, usize), TextFault>
-    ensures value { Makes ⊥ (λ x. x.0) result (number_at (drop i (lexemes toks.now))) }
-    ensures place { IfOk result (λ x. x.1 ≡ place_of (drop i (lexemes toks.now))) }
-    ensures within { IfOk result (λ x. i < length toks.now) }
+/// The number at an index: otherwise `NumberTooWide` at one of 2^64 or more, `Syntax` at any other token, and `Syntax` at
+/// `usize::MAX` after the last token.
+pub fn number_at(toks: &[Token], i: usize) -> Result<u64, TextFault>
+    ensures value { result ≡ number_at (drop i (lexemes toks.now)) }
+    ensures within { IfOk result (λ n. i < length toks.now) }
 {
-    let Some((terminal, at)) = terminal_at(toks, i) else {
-        return Err(syntax_fault_at(toks, i));
-    };
-    match terminal {
-        Terminal::Zero => Ok((0, at)),
-        Terminal::One => Ok((1, at)),
-        Terminal::Number(n) => Ok((n, at)),
-        Terminal::WideNumber => Err(TextFault::NumberTooWide(at)),
-        _ => Err(TextFault::Syntax(at)),
+    match terminal_at(toks, i) {
+        Some((Terminal::Zero, _)) => Ok(0),
+        Some((Terminal::One, _)) => Ok(1),
+        Some((Terminal::Number(n), _)) => Ok(n),
+        Some((Terminal::WideNumber, at)) => Err(TextFault::NumberTooWide(at)),
+        Some((_, at)) => Err(TextFault::Syntax(at)),
+        None => Err(syntax_fault_at(toks, i)),
     }
 }
 

@@ -1,5 +1,5 @@
 //! The text of a problem file, read.
-ghost use Rattle.std.specs.Prelude.{◌≡◌, ◌≤◌, ◌⊎◌, List, map, length, IfErr, MatchResult};
+ghost use Rattle.std.specs.Prelude.{◌≡◌, ◌≤◌, ◌⊎◌, List, map, length, IfOk, IfErr, MatchResult};
 ghost use Rattle.kat_tokens.specs.declared.fault.TextFault.TheVariants.{NoMemory as NoRoom};
 ghost use Rattle.kat_syntax.specs.Lexemes.{lexemes};
 ghost use Rattle.kat_syntax.specs.Parsed.{Makes};
@@ -7,9 +7,10 @@ ghost use Rattle.kat_tokens.specs.declared.lexer.TheConstants.{MAX_LEN as MOST};
 ghost use Rattle.problem_file.specs.Files.{GoalTree, FileParts, start};
 ghost use Rattle.problem_file.specs.Trees.{goal_tree};
 ghost use Rattle.problem_file.specs.Making.{walk};
-ghost use Rattle.problem_file.specs.Working.Tokens.{AreTokens};
+ghost use Rattle.problem_file.specs.Tokens.{AreTokens};
 ghost use Rattle.problem_file.specs.Working.States.{state_of};
-ghost use Rattle.problem_file.specs.Reads.{Says, HasFirstFault, Reads, ReadsAll, FirstFaultOfAll, placed, tested, Answers};
+ghost use Rattle.problem_file.specs.FirstFaults.{IsNoText, placed};
+ghost use Rattle.problem_file.specs.Reads.{Says, HasFirstFault, Reads, ReadsAll, FirstFaultOfAll, tested, Answers};
 ghost use Rattle.problem_file.specs.Working.Files.{AnswersFor};
 
 use crate::file::{File, Goal};
@@ -20,8 +21,24 @@ use crate::syntax::test_syntax;
 use kat_tokens::{MAX_LEN, TextFault, Token, tokens};
 use std::alloc::Global;
 
-// A fault past the last token is at the text's length.
-fn fault_in_text(fault: TextFault, len: usize) -> TextFault
+/// The bytes as a text: otherwise `TooLong` past 1,048,576 bytes, or `NotUtf8` with the length of their longest front that is
+/// UTF-8.
+pub fn text_of(bytes: &[u8]) -> Result<&str, TextFault>
+    ensures text { IfOk result (λ text. text.now ≡ bytes.now) }
+    ensures within { IfOk result (λ text. length text.now ≤ MOST) }
+    ensures fault { IfErr result (IsNoText bytes.now) }
+{
+    if bytes.len() > MAX_LEN {
+        return Err(TextFault::TooLong);
+    }
+    match std::str::from_utf8(bytes) {
+        Ok(text) => Ok(text),
+        Err(fault) => Err(TextFault::NotUtf8(fault.valid_up_to())),
+    }
+}
+
+/// The fault as it is told of a text of that length: a `Syntax` past the last token is at the text's end.
+pub fn fault_in_text(fault: TextFault, len: usize) -> TextFault
     ensures { result ≡ placed len fault }
 {
     match fault {
@@ -62,13 +79,7 @@ fn read_text(alloc: Global, text: &str, limit: GoalLimit) -> Result<(File, Vec<G
 fn read_files(alloc: Global, bytes: &[u8], limit: GoalLimit) -> Result<(File, Vec<Goal>), TextFault>
     ensures { AnswersFor limit bytes.now result }
 {
-    if bytes.len() > MAX_LEN {
-        return Err(TextFault::TooLong);
-    }
-    let text = match std::str::from_utf8(bytes) {
-        Ok(text) => text,
-        Err(fault) => return Err(TextFault::NotUtf8(fault.valid_up_to())),
-    };
+    let text = text_of(bytes)?;
     read_text(alloc, text, limit)
 }
 

@@ -1,28 +1,23 @@
 -- The reply of `gkat` is the statement on the text, and has its cause.
 use Rattle.std.proofs.Common.{◌≡◌, ◌⊎◌, ℕ, List, inl, inr, refl, sym, ◌∙◌, arith}
-use Rattle.kat_tokens.specs.declared.fault.TextFault.{TextFault}
-use Rattle.problem_file.specs.Laws.{HaveOneAnswer}
+use Rattle.problem_file.specs.FirstFaults.{too_long, no_text}
 use Rattle.gkat_front.specs.Files.{GkatFileParts}
-use Rattle.gkat_front.specs.Reads.{Reads, FirstFault, too_long}
+use Rattle.gkat_front.specs.Reads.{Reads, FirstFault}
 use Rattle.gkat_front.proofs.OneAnswer.{have_one_answer}
 use Rattle.tool_steps.specs.Posing.{IsFaultOf}
 use Rattle.tool_steps.specs.Steps.{ShelfUse, HasFailedOn}
-use Rattle.program_replies.specs.Gkat.{IsTranslated, TranslatesText, Translates, gkat_text, GkatHeadline, TellsTranslation, MayBeFaulty, GkatCauses}
+use Rattle.program_replies.specs.Gkat.{IsTranslated, TranslatesText, Translates, GkatHeadline, TellsTranslation, MayBeFaulty, GkatCauses}
 use Rattle.tool_steps.proofs.Steps.{OneStatus, said_one, faulty_one, read_once, gets_as}
 use Rattle.tool_steps.proofs.Ways.{Ways, at_zero, at_two, at_four}
-
--- a text says one file or has one first fault
-one : HaveOneAnswer Reads FirstFault
-one = record { some = have_one_answer.some; either = have_one_answer.either; files = have_one_answer.files; faults = have_one_answer.faults; named = have_one_answer.named }
 
 -- ---- the reply to a text
 
 module _ (text : List ℕ) (status : ℕ) (output : List ℕ) where
   is_translated : (f : GkatFileParts) → Reads text f → TranslatesText text status output → IsTranslated f status output
-  is_translated = said_one Reads FirstFault one text IsTranslated status output
+  is_translated = said_one Reads FirstFault have_one_answer text IsTranslated status output
 
   is_refused : (line : List ℕ) → IsFaultOf (FirstFault text) line → TranslatesText text status output → (status ≡ 2) × (output ≡ line)
-  is_refused = faulty_one Reads FirstFault one text IsTranslated status output
+  is_refused = faulty_one Reads FirstFault have_one_answer text IsTranslated status output
 
   -- the ways in which it comes
   abbrev TextWays : Type 0
@@ -56,7 +51,7 @@ module _ (text : List ℕ) (status : ℕ) (output : List ℕ) where
       }
 
 pub translates_once : (text : List ℕ) → OneStatus (TranslatesText text)
-translates_once text = read_once Reads FirstFault one text IsTranslated (λ f a b o p x y. x.0 ∙ sym y.0)
+translates_once text = read_once Reads FirstFault have_one_answer text IsTranslated (λ f a b o p x y. x.0 ∙ sym y.0)
 
 -- ---- the reply to a file
 
@@ -81,8 +76,8 @@ module _ (s : ShelfUse) (file : List ℕ) (status : ℕ) (output : List ℕ) whe
   gkat_causes r =
       let ways : GkatWays s file status output = read_ways r in
       record {
-        headline = λ text is unfailed. text_headline text status output (gets_as Reads FirstFault (λ t past. too_long refl past) s file IsTranslated status output text is (λ f. unfailed f.0) r);
-        declined = λ text line is unfailed fault. is_refused text status output line fault (gets_as Reads FirstFault (λ t past. too_long refl past) s file IsTranslated status output text is unfailed r);
+        headline = λ text is unfailed. text_headline text status output (gets_as Reads FirstFault (λ t past. no_text (too_long refl past)) s file IsTranslated status output text is (λ f. unfailed f.0) r);
+        declined = λ text line is unfailed fault. is_refused text status output line fault (gets_as Reads FirstFault (λ t past. no_text (too_long refl past)) s file IsTranslated status output text is unfailed r);
         translated = at_zero status _ _ _ _ _ ways;
         refused = at_two status _ _ _ _ _ ways;
         failed = at_four status _ _ _ _ _ ways;

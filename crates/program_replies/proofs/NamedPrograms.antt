@@ -1,16 +1,16 @@
 -- The program that a word names is concrete, and has the variables of its file alone.
-use Rattle.std.proofs.Common.{◌≡◌, ℕ, zero, suc, List, [], ◌∷◌, slice_get, Bool, true, false, cond, Option, None, Some, refl, sym, ◌∙◌, subst, arith}
-use Rattle.std.proofs.lemmas.Option.{same_Some, none-some, slice_get_past}
+use Rattle.std.proofs.Common.{◌≡◌, ℕ, List, Bool, true, false, cond, Option, None, Some, refl, subst}
+use Rattle.std.proofs.lemmas.Option.{same_Some, none-some}
 use Rattle.std.specs.Option.{option_map}
 use Rattle.kat_model.specs.Expressions.{ExprTree, number, variable, plus, minus, times, CondTree, always, never, named, compared, negation, both, either}
 use Rattle.kat_text.specs.declared.meaning.Meaning.{Meaning}
-use Rattle.kat_text.specs.declared.meaning.Meaning.TheVariants.{Test, Action, Var, Term, Prog}
 use Rattle.kat_text.specs.ScopeParts.{meaning}
 use Rattle.while_lang.specs.Programs.{ProgTree, empty, skip_then, abort_then, assert_then, act_then, assign_then, branch_then, loop_then, is_concrete}
 use Rattle.while_lang.specs.NamedProgs.{ProgParts}
 use Rattle.one_loop.specs.Variables.{ExprHasVarsBelow, CondHasVarsBelow, HasVarsBelow}
 use Rattle.problem_file.specs.Files.{FileParts, prog_meant, prog_named}
 use Rattle.problem_file.specs.Ranges.{IsExprInRange, IsCondInRange, IsProgInRange, AreProgsInRange, IsNumbered}
+use Rattle.problem_file.proofs.NumberedStates.{meant_in}
 use Rattle.tool_words.specs.ProgramWords.{where_concrete, program_of}
 
 -- ---- it is concrete
@@ -25,17 +25,6 @@ concrete_where (Some q) p e = chosen (is_concrete q) refl e
 
 pub fit_concrete : (f : FileParts) (prog : List ℕ) (p : ProgTree) → program_of f prog ≡ Some p → is_concrete p ≡ true
 fit_concrete f prog p e = concrete_where (option_map (λ p. p.tree) (prog_named f.scope f.progs prog)) p e
-
--- ---- what holds of each program holds of the one that is meant
-
-module _ (P : ProgTree → Type 0) (ps : List ProgParts) where
-  pub at_progs : (o : Option Meaning) (d : ProgParts) → ((i : ℕ) (x : ProgParts) → slice_get ps i ≡ Some x → P x.tree) → prog_meant ps o ≡ Some d → P d.tree
-  at_progs None d h e = absurd (none-some d e)
-  at_progs (Some (Test k)) d h e = absurd (none-some d e)
-  at_progs (Some (Action k)) d h e = absurd (none-some d e)
-  at_progs (Some (Var k)) d h e = absurd (none-some d e)
-  at_progs (Some (Term k)) d h e = absurd (none-some d e)
-  at_progs (Some (Prog i)) d h e = h i d e
 
 -- ---- its variables
 
@@ -67,14 +56,8 @@ module _ (v : ℕ) where
     prog_below (branch_then b p q rest) h = (cond_below b h.0, prog_below p h.1, prog_below q h.2, prog_below rest h.3)
     prog_below (loop_then b p rest) h = (cond_below b h.0, prog_below p h.1, prog_below rest h.2)
 
-    -- of each of the programs
-    at_below : (ps : List ProgParts) (i : ℕ) (d : ProgParts) → AreProgsInRange t a v ps → slice_get ps i ≡ Some d → HasVarsBelow v d.tree
-    at_below [] i d h e = let none : slice_get [] i ≡ None = slice_get_past [] i (omega arith) in absurd (none-some d (sym none ∙ e))
-    at_below (q ∷ ps) zero d h e = let same : q ≡ d = cc in subst (λ (x : ProgParts). HasVarsBelow v x.tree) same (prog_below q.tree h.0)
-    at_below (q ∷ ps) (suc i) d h e = at_below ps i d h.1 e
-
     meant_below : (ps : List ProgParts) (o : Option Meaning) (d : ProgParts) → AreProgsInRange t a v ps → prog_meant ps o ≡ Some d → HasVarsBelow v d.tree
-    meant_below ps o d h e = at_progs (HasVarsBelow v) ps o d (λ i x is. at_below ps i x h is) e
+    meant_below ps o d h e = prog_below d.tree (meant_in t a v ps o d h e)
 
     where_below : (o : Option ProgParts) (p : ProgTree) → ((d : ProgParts) → o ≡ Some d → HasVarsBelow v d.tree) → where_concrete (option_map (λ d. d.tree) o) ≡ Some p → HasVarsBelow v p
     where_below None p h e = absurd (none-some p e)

@@ -1,42 +1,15 @@
 -- The reply of `optimise` is the statement on the program, and has its cause.
-use Rattle.std.proofs.Common.{◌≡◌, ◌⊎◌, ℕ, zero, suc, List, [], ◌∷◌, slice_get, Option, None, Some, inl, inr, refl, sym, subst, ◌∙◌, codes, arith}
-use Rattle.std.proofs.lemmas.Option.{same_Some, none-some, slice_get_past}
-use Rattle.std.specs.Option.{option_map}
-use Rattle.kat_text.specs.ScopeParts.{meaning}
+use Rattle.std.proofs.Common.{◌≡◌, ◌⊎◌, ℕ, List, None, Some, inl, inr, sym, subst, ◌∙◌, codes, arith}
+use Rattle.std.proofs.lemmas.Option.{same_Some, none-some}
 use Rattle.while_lang.specs.Programs.{ProgTree}
-use Rattle.while_lang.specs.NamedProgs.{ProgParts}
-use Rattle.problem_file.specs.Files.{FileParts, prog_named}
-use Rattle.problem_file.specs.Ranges.{IsProgInRange, AreProgsInRange, IsNumbered}
+use Rattle.problem_file.specs.Files.{FileParts}
 use Rattle.problem_file.specs.Reads.{Reads}
-use Rattle.optimiser_theory.specs.Meanings.{HasProgInRange}
 use Rattle.tool_steps.specs.Posing.{MaySay, MaySayNone}
 use Rattle.tool_words.specs.ProgramWords.{HasUnfitWords}
 use Rattle.tool_steps.specs.Steps.{ShelfUse, HasFailedOn}
 use Rattle.program_replies.specs.Optimise.{any_program_of, PrintsOptimised, OptimisesFile, OptimisesText, Optimises, OptimiseHeadline, TellsOptimised, MayLackAnyProgram, OptimiseCauses}
 use Rattle.tool_steps.proofs.Steps.{OneStatus, reads_said, reads_once, gets_read, gets_said, gets_faulty}
-use Rattle.program_replies.proofs.NamedPrograms.{at_progs}
 use Rattle.tool_steps.proofs.Ways.{Ways, at_zero, at_two, at_four, at_seven, below_seven}
-
--- ---- the program that has the name is in range
-
-module _ (f : FileParts) where
-  abbrev InRange : ProgTree → Type 0
-  InRange p = IsProgInRange f.tests f.actions f.vars p
-
-  named_range : (o : Option ProgParts) (p : ProgTree) → ((d : ProgParts) → o ≡ Some d → InRange d.tree) → option_map (λ d. d.tree) o ≡ Some p → InRange p
-  named_range None p h e = absurd (none-some p e)
-  named_range (Some d) p h e = subst InRange (same_Some d.tree p e) (h d refl)
-
-  pub program_in_range : IsNumbered f → (name : List ℕ) (p : ProgTree) → any_program_of f name ≡ Some p → HasProgInRange f p
-  program_in_range numbered name p e = record {
-    hyps = numbered.hyps;
-    prog = named_range (prog_named f.scope f.progs name) p (λ d is. at_progs InRange f.progs (meaning f.scope name) d (all_progs f.progs numbered.progs) is) e;
-  }
-    where
-      all_progs : (ps : List ProgParts) → AreProgsInRange f.tests f.actions f.vars ps → (i : ℕ) (d : ProgParts) → slice_get ps i ≡ Some d → InRange d.tree
-      all_progs [] h i d e = let none : slice_get [] i ≡ None = slice_get_past [] i (omega arith) in absurd (none-some d (sym none ∙ e))
-      all_progs (q ∷ ps) h zero d e = let same : q ≡ d = cc in subst (λ (x : ProgParts). InRange x.tree) same h.0
-      all_progs (q ∷ ps) h (suc i) d e = all_progs ps h.1 i d e
 
 -- ---- the reply to what was read
 

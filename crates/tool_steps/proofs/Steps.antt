@@ -13,7 +13,8 @@ use Rattle.certificate.specs.declared.evidence.EvidenceFault.{EvidenceFault}
 use Rattle.certificate.specs.Faults.{line_fault}
 use Rattle.certificate.proofs.Exactness.{texts_differ_lem, is_text_or_faulty_lem}
 use Rattle.problem_file.specs.Files.{FileParts}
-use Rattle.problem_file.specs.Reads.{Reads, FirstFault, too_long}
+use Rattle.problem_file.specs.FirstFaults.{too_long, no_text}
+use Rattle.problem_file.specs.Reads.{Reads, FirstFault}
 use Rattle.problem_file.specs.Laws.{HaveOneAnswer}
 use Rattle.problem_file.proofs.OneAnswer.{have_one_answer}
 use Rattle.abstraction.specs.Abstracts.{AbstractParts, abstract_of}
@@ -68,7 +69,7 @@ module _ {X : Type 0} (Says : List ℕ → X → Type 0) (Fails : List ℕ → T
   module _ (status : ℕ) (output : List ℕ) where
     pub said_one : (x : X) → Says text x → ReadsOne status output → GoesOn x status output
     said_one x says (inl r) = absurd (one.either text x r.1.fault says r.1.first)
-    said_one x says (inr g) = subst (λ y. GoesOn y status output) (one.files text g.0 x g.1 says) g.2
+    said_one x says (inr g) = subst (λ y. GoesOn y status output) (one.values text g.0 x g.1 says) g.2
 
     pub faulty_one : (line : List ℕ) → IsFaultOf (Fails text) line → ReadsOne status output → (status ≡ 2) × (output ≡ line)
     faulty_one line f (inl r) = (r.0, r.1.printed ∙ ap text_fault_line (one.faults text r.1.fault f.fault r.1.first f.first) ∙ sym f.printed)
@@ -160,7 +161,7 @@ module _ (s : ShelfUse) (file : List ℕ) (GoesOn : FileParts → Replying) (sta
 
   module _ (text : List ℕ) (is : s.content file ≡ Holds text) (unfailed : FailsOn s file → ⊥) (r : GetsText s file (λ t. ReadsText t GoesOn) status output) where
     pub gets_text : ReadsText text GoesOn status output
-    gets_text = gets_as Reads FirstFault (λ t past. too_long refl past) s file GoesOn status output text is unfailed r
+    gets_text = gets_as Reads FirstFault (λ t past. no_text (too_long refl past)) s file GoesOn status output text is unfailed r
 
     pub gets_said : (f : FileParts) → Reads text f → GoesOn f status output
     gets_said f reads = reads_said text GoesOn status output f reads gets_text

@@ -23,7 +23,7 @@ asked_agrees text q asks same concrete =
 -- which is the one that the text says
 pub read_agrees : (text : List ℕ) (q : ProblemParts) → Asks text q → Same q → (f : FileParts) → Reads text f → IsConcrete f → Agrees f
 read_agrees text q asks same f reads concrete =
-    subst (λ g. IsConcrete g → Agrees g) (have_one_answer.files text asks.file f asks.reads reads) (asked_agrees text q asks same) concrete
+    subst (λ g. IsConcrete g → Agrees g) (have_one_answer.values text asks.file f asks.reads reads) (asked_agrees text q asks same) concrete
 
 -- and that of a file that the shelf tells
 pub told_agrees : (told : Told) (q : ProblemParts) → Poses told q → Same q → (text : List ℕ) (f : FileParts) → told ≡ Holds text → Reads text f → IsConcrete f → Agrees f

@@ -21,7 +21,7 @@ use Rattle.while_lang.specs.BlockPhrases.{BlockSymbol, block, stmts, stmt, branc
 use Rattle.while_lang.specs.BlockPhrases.{no_else, else_block, else_if, block_before, IsBlockPhrase}
 use Rattle.while_lang.proofs.BlockCompleteness.{close}
 
-enter_ok : (d e at : ℕ) → enter d at ≡ Ok e → (d < 200) × (e ≡ d + 1)
+pub enter_ok : (d e at : ℕ) → enter d at ≡ Ok e → (d < 200) × (e ≡ d + 1)
 enter_ok d e at h = by_depth (nat_lt d 200) refl h where
   number_of : Result ℕ TextFault → ℕ
   number_of (Ok n) = n
@@ -31,7 +31,7 @@ enter_ok d e at h = by_depth (nat_lt d 200) refl h where
   by_depth true lt k = (ltb-true d 200 lt, sym (ap number_of k))
   by_depth false lt k = absurd cc
 
-abbrev rest_of : {V : Type 0} → Parsed V → List Lexeme
+abbrev pub rest_of : {V : Type 0} → Parsed V → List Lexeme
 rest_of (Ok x) = x.1
 rest_of (Err e) = []
 

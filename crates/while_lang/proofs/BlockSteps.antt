@@ -29,7 +29,7 @@ pub expr_short : {E B L T M S : Type 0} (g : BlockActions E B L T M S) (d : ℕ)
 expr_short g d ts = weaken (length ts + 0) (length ts) (expr_by g d ts) (omega arith) (expr_read_short g.phrases.conds.exprs sums (context d false true) ts)
 
 -- one token, and then what is read after it
-wanted_within : {V : Type 0} (p : Terminal → Bool) (n : ℕ) (ts : List Lexeme) (k : List Lexeme → Parsed V) → ((us : List Lexeme) → length us < length ts → Within n (k us)) → Within n (wants p ts >>= k)
+pub wanted_within : {V : Type 0} (p : Terminal → Bool) (n : ℕ) (ts : List Lexeme) (k : List Lexeme → Parsed V) → ((us : List Lexeme) → length us < length ts → Within n (k us)) → Within n (wants p ts >>= k)
 wanted_within p n [] k h = tt
 wanted_within p n (lexeme s at text ∷ ts) k h = elim (p s) as (λ b. Within n (cond b (Ok ts) (Err (Syntax at)) >>= k)) [ true ↦ h ts (omega arith) | false ↦ tt ]
 
@@ -107,7 +107,7 @@ within_short g (suc n) x d ts = blocks_short g (block_within g n) (within_short 
 abbrev Same : {S : Type 0} → BlockParser S → BlockParser S → ℕ → Type 0
 Same {S} f h n = (x : BlockAim S) (d : ℕ) (ts : List Lexeme) → steps x ts < n → f x d ts ≡ h x d ts
 
-wanted_same : {V : Type 0} (p : Terminal → Bool) (ts : List Lexeme) (k l : List Lexeme → Parsed V) → ((us : List Lexeme) → length us < length ts → k us ≡ l us) → (wants p ts >>= k) ≡ (wants p ts >>= l)
+pub wanted_same : {V : Type 0} (p : Terminal → Bool) (ts : List Lexeme) (k l : List Lexeme → Parsed V) → ((us : List Lexeme) → length us < length ts → k us ≡ l us) → (wants p ts >>= k) ≡ (wants p ts >>= l)
 wanted_same p [] k l h = refl
 wanted_same p (lexeme s at text ∷ ts) k l h = elim (p s) as (λ b. (cond b (Ok ts) (Err (Syntax at)) >>= k) ≡ (cond b (Ok ts) (Err (Syntax at)) >>= l)) [ true ↦ h ts (omega arith) | false ↦ refl ]
 

@@ -287,6 +287,6 @@ pub printed_back : PrintedReadsBack
 printed_back w progs names p d limited is len large size depth =
     let a = block_begins w progs (stmts_of p) (stmts_nesting p) 0 (stmts_pieces names p) [] (stmts_begin w progs names p is 1 (gap 32 ∷ symbol (codes "}") ∷ [])) in
     record {
-      lexes = printed (block_pieces names p []) (block_separate w names p is) len;
+      lexes = printed (block_pieces names p []) (block_separate w names p is [] tt) len;
       reads = ap (block_at w progs d) a.spelled ∙ read_back w progs limited p d (block_levels p) a.phrase a.obeys a.holds depth large size;
     }

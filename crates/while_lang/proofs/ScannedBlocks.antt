@@ -36,7 +36,7 @@ abbrev end_of : Result (List Lexeme) TextFault → List Lexeme
 end_of (Ok ts) = ts
 end_of (Err e) = []
 
-ended : (m : Parsed (Unit {0})) (rest : List Lexeme) → (m >>= λ x. Ok x.1) ≡ Ok rest → m ≡ Ok (tt, rest)
+pub ended : (m : Parsed (Unit {0})) (rest : List Lexeme) → (m >>= λ x. Ok x.1) ≡ Ok rest → m ≡ Ok (tt, rest)
 ended (Ok x) rest e = let same : x.1 ≡ rest = ap end_of e in ap (λ t. Ok (tt, t)) same
 ended (Err f) rest e = absurd cc
 

@@ -7,7 +7,7 @@ use Rattle.kat_tokens.proofs.Words.{keyword_is_name}
 use Rattle.kat_text.specs.declared.meaning.Meaning.{Meaning}
 use Rattle.kat_text.specs.ScopeParts.{ScopeParts}
 use Rattle.kat_print.specs.Printing.{expr_pieces, cond_pieces}
-use Rattle.kat_print.proofs.Separate.{EndsWords, expr_separate, cond_separate}
+use Rattle.kat_print.proofs.Separate.{EndsWords, blank_ends, expr_separate, cond_separate}
 use Rattle.while_lang.specs.Programs.{ProgTree, empty, skip_then, abort_then, assert_then, act_then, assign_then, branch_then, loop_then}
 use Rattle.while_lang.specs.ProgramPrinting.{keyword_pieces, in_curly, stmts_pieces, block_pieces, ProgIsNamed}
 
@@ -17,7 +17,7 @@ semicolon_alone : (rest : List ℕ) → EndsBefore Symbol (codes ";") rest
 semicolon_alone [] = tt
 semicolon_alone (b ∷ bs) = refl
 
-open_alone : (rest : List ℕ) → EndsBefore Symbol (codes "{") rest
+pub open_alone : (rest : List ℕ) → EndsBefore Symbol (codes "{") rest
 open_alone [] = tt
 open_alone (b ∷ bs) = refl
 
@@ -25,10 +25,7 @@ close_alone : (rest : List ℕ) → EndsBefore Symbol (codes "}") rest
 close_alone [] = tt
 close_alone (b ∷ bs) = refl
 
-blank_ends : (ps : List Piece) → EndsWords (gap 32 ∷ ps)
-blank_ends ps = record { name = λ b. refl; number = λ b. refl }
-
-semicolon_ends : (ps : List Piece) → EndsWords (symbol (codes ";") ∷ ps)
+pub semicolon_ends : (ps : List Piece) → EndsWords (symbol (codes ";") ∷ ps)
 semicolon_ends ps = record { name = λ b. refl; number = λ b. refl }
 
 -- ---- statements
@@ -43,7 +40,7 @@ module _ (w : ScopeParts) (names : Meaning → List ℕ) where
       let body : AreSeparate (inside (gap 32 ∷ symbol (codes "}") ∷ ps)) = f (gap 32 ∷ symbol (codes "}") ∷ ps) (refl, last) in
       (refl, open_alone (spelled (inside (gap 32 ∷ symbol (codes "}") ∷ ps))), body)
 
-  pub stmts_separate : (p : ProgTree) → ProgIsNamed w names p → (ps : List Piece) → AreSeparate ps → AreSeparate (stmts_pieces names p ps)
+  stmts_separate : (p : ProgTree) → ProgIsNamed w names p → (ps : List Piece) → AreSeparate ps → AreSeparate (stmts_pieces names p ps)
   stmts_separate empty is ps after = after
   stmts_separate (skip_then rest) is ps after = (refl, (keyword_is_name (codes "skip") refl, refl, semicolon_separate (stmts_pieces names rest ps) (stmts_separate rest is ps after)))
   stmts_separate (abort_then rest) is ps after = (refl, (keyword_is_name (codes "abort") refl, refl, semicolon_separate (stmts_pieces names rest ps) (stmts_separate rest is ps after)))
@@ -70,5 +67,5 @@ module _ (w : ScopeParts) (names : Meaning → List ℕ) where
       let cond : AreSeparate (cond_pieces names b (gap 32 ∷ rest_of)) = cond_separate w names b is.0 (gap 32 ∷ rest_of) (blank_ends rest_of) (refl, body) in
       (refl, (keyword_is_name (codes "while") refl, refl, (refl, cond)))
 
-  pub block_separate : (p : ProgTree) → ProgIsNamed w names p → AreSeparate (block_pieces names p [])
-  block_separate p is = curly_separate (stmts_pieces names p) (stmts_separate p is) [] tt
+  pub block_separate : (p : ProgTree) → ProgIsNamed w names p → (ps : List Piece) → AreSeparate ps → AreSeparate (block_pieces names p ps)
+  block_separate p is ps after = curly_separate (stmts_pieces names p) (stmts_separate p is) ps after

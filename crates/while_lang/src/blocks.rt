@@ -12,8 +12,9 @@ use kat_syntax::{
 };
 use kat_tokens::{TextFault, Token};
 
-// One construct more is open, from the token at the place on; `TooDeep` with that place where 200 or more are open.
-fn enter(depth: usize, at: usize) -> Result<usize, TextFault>
+/// How many constructs are open once one more is, which begins at the place; `TooDeep` at that place where 200 or more are
+/// open before it.
+pub fn enter(depth: usize, at: usize) -> Result<usize, TextFault>
     ensures { result ≡ enter depth at }
 {
     if depth >= MAX_OPEN {

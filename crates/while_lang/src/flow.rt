@@ -57,7 +57,8 @@ fn opposite(alloc: Global, guard: &Test) -> Result<Kat, NoMemory>
     Ok(Kat::Test(Test::new_not(alloc, copy)?))
 }
 
-fn branch_term(alloc: Global, guard: &Test, first: Kat, second: Kat) -> Result<Kat, NoMemory>
+/// The term of a branch `if b {e} else {f}`, of the terms of its blocks: `b.e + !b.f`. It fails only when out of memory.
+pub fn branch_term(alloc: Global, guard: &Test, first: Kat, second: Kat) -> Result<Kat, NoMemory>
     ensures { IfOk result (λ e. kat_tree e ≡ branch_term (test_tree guard.now) (kat_tree first) (kat_tree second)) }
 {
     let holds = Kat::Test(guard.copy(alloc)?);
@@ -67,7 +68,8 @@ fn branch_term(alloc: Global, guard: &Test, first: Kat, second: Kat) -> Result<K
     Kat::new_sum(alloc, left, right)
 }
 
-fn loop_term(alloc: Global, guard: &Test, body: Kat) -> Result<Kat, NoMemory>
+/// The term of a loop `while b {e}`, of the term of its body: `(b.e)*.!b`. It fails only when out of memory.
+pub fn loop_term(alloc: Global, guard: &Test, body: Kat) -> Result<Kat, NoMemory>
     ensures { IfOk result (λ e. kat_tree e ≡ loop_term (test_tree guard.now) (kat_tree body)) }
 {
     let holds = Kat::Test(guard.copy(alloc)?);

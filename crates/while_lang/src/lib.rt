@@ -27,11 +27,12 @@ pub use block_laws::{
 pub use block_measure::measure_block;
 pub use block_read::read_block;
 pub use block_scan::block_end;
-pub use flow::{Flow, Flows, encode};
+pub use blocks::enter;
+pub use flow::{Flow, Flows, branch_term, encode, loop_term};
 pub use laws::{flows_are_guarded, loops_unfold, runs_have_one_end};
 pub use named::NamedProg;
 pub use outcome::Outcome;
 pub use print::print_prog;
-pub use prog::{Prog, Stmt};
+pub use prog::{Prog, Stmt, copy_stmt, push_stmt};
 pub use runs::run;
 pub use store::Store;

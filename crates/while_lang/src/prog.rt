@@ -55,15 +55,16 @@ impl Model for Prog {
     ghost size_decreases = { λ a h. Prim.omega (arith, stmts_fall a.list.items) };
 }
 
-// One more statement at the end.
-pub(crate) fn push_stmt(list: &mut Vec<Stmt>, stmt: Stmt) -> Result<(), NoMemory>
+/// Adds a statement at the end. It fails only when out of memory.
+pub fn push_stmt(list: &mut Vec<Stmt>, stmt: Stmt) -> Result<(), NoMemory>
     ensures { OnOk result (map stmt_tree list.new.items ≡ map stmt_tree list.old.items ++ stmt_tree stmt ∷ []) }
 {
     Ok(list.push(stmt)?)
 }
 
+/// The same statement again. It fails only when out of memory.
 #[cycle(copies)]
-fn copy_stmt(alloc: Global, stmt: &Stmt) -> Result<Stmt, NoMemory>
+pub fn copy_stmt(alloc: Global, stmt: &Stmt) -> Result<Stmt, NoMemory>
     ensures { IfOk result (λ s. stmt_tree s ≡ stmt_tree stmt.now) }
 {
     match stmt {

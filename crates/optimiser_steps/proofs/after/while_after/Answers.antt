@@ -12,4 +12,4 @@ returns-then-not-branch c = none_before_while _ _ _ _ _ (refuted _ _ c.in_ok-fai
 pub returns : goal.returns
 returns c =
     loop_after_made _ _ _ _ _ _ refl (c.in_ok-fails_after.ensures.0 c.if-not-branch.false)
-    (c.in_ok-list.ensures ∙ ap (λ (s : StmtTree). s ∷ map stmt_tree c.args.later.now) c.in_ok-copy_of.ensures)
+    (c.in_ok-list.ensures ∙ ap (λ (s : StmtTree). s ∷ map stmt_tree c.args.later.now) c.in_ok-copy_stmt.ensures)

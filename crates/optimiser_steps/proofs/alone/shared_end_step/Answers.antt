@@ -12,5 +12,5 @@ returns-in_ok-push_copies-in-Some c f =
     shared_made f (map stmt_tree c.args.rest.now) _ (cond_tree c.args.cond.now) c.args.first.now c.args.second.now (stmts_of shared.first) (stmts_of shared.second) (stmt_tree shared.last)
     (rw c.in-Some.is at c.in_ok-shared_end.ensures) refl
     (shared_list (cond_tree c.args.cond.now) (cond_tree c.in_ok-copy-in-Some.field-0) shared.first shared.second (stmt_tree shared.last)
-    (map stmt_tree c.new-list.result.items) (map stmt_tree c.push.new.list.items) (map stmt_tree c.push-in-Some.new.list.items) (map stmt_tree c.push_copies.new.list.items) (map stmt_tree c.args.rest.now)
-    (ap (map stmt_tree) c.new-list.ensures.items) c.in_ok-push-in-Some.ensures c.in_ok-copy-in-Some.ensures c.in_ok-push-in-Some-2.ensures c.in_ok-push_copies-in-Some.ensures)
+    (map stmt_tree c.new-list.result.items) (map stmt_tree c.push_stmt.new.list.items) (map stmt_tree c.push_stmt-in-Some.new.list.items) (map stmt_tree c.push_copies.new.list.items) (map stmt_tree c.args.rest.now)
+    (ap (map stmt_tree) c.new-list.ensures.items) c.in_ok-push_stmt-in-Some.ensures c.in_ok-copy-in-Some.ensures c.in_ok-push_stmt-in-Some-2.ensures c.in_ok-push_copies-in-Some.ensures)

@@ -5,8 +5,8 @@ use Rattle.optimiser_steps.proofs.doubles.push_copies.Goals as goal
 
 pub loop-stmt-preserved : goal.loop-stmt-preserved
 loop-stmt-preserved c =
-    pushed_more (map stmt_tree c.args.list.now.items) c.loop-stmt.list.items c.push.new.list.items c.args.stmts.now c.loop-stmt.stmt-index c.stmt-item.result c.in_ok-copy_of.field-0
-    c.in_ok-push.ensures c.in_ok-copy_of.ensures c.loop-stmt-test.true c.stmt-item.is c.loop-stmt.invariant
+    pushed_more (map stmt_tree c.args.list.now.items) c.loop-stmt.list.items c.push_stmt.new.list.items c.args.stmts.now c.loop-stmt.stmt-index c.stmt-item.result c.in_ok-copy_stmt.field-0
+    c.in_ok-push_stmt.ensures c.in_ok-copy_stmt.ensures c.loop-stmt-test.true c.stmt-item.is c.loop-stmt.invariant
 
 pub returns : goal.returns
 returns c = pushed_all (map stmt_tree c.args.list.now.items) c.loop-stmt.list.items c.args.stmts.now c.loop-stmt.stmt-index c.loop-stmt-test.false c.loop-stmt.invariant

@@ -8,5 +8,5 @@ pub returns : goal.returns
 returns c =
     let list = c.args.list.now in
     let after = c.args.position + 1 in
-    with_stmt_at list c.args.position after (length list - after) c.args.stmt (map stmt_tree c.in_ok-whole.whole.items) (map stmt_tree c.push.new.list.items) (map stmt_tree c.push_copies.new.list.items)
-    (omega (arith, length-drop after list)) c.in_ok-whole.ensures c.in_ok-push.ensures c.in_ok-push_copies.ensures
+    with_stmt_at list c.args.position after (length list - after) c.args.stmt (map stmt_tree c.in_ok-whole.whole.items) (map stmt_tree c.push_stmt.new.list.items) (map stmt_tree c.push_copies.new.list.items)
+    (omega (arith, length-drop after list)) c.in_ok-whole.ensures c.in_ok-push_stmt.ensures c.in_ok-push_copies.ensures

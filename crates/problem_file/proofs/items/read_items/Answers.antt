@@ -2,7 +2,7 @@ use Rattle.std.proofs.Common.{◌<◌, List, length, drop, length-drop, Err, sym
 use Rattle.std.proofs.lemmas.Result.{err_from_is_err_and}
 use Rattle.kat_tokens.specs.declared.fault.TextFault.{TextFault}
 use Rattle.kat_syntax.specs.Lexemes.{Lexeme, lexemes}
-use Rattle.problem_file.specs.Items.{items_by}
+use Rattle.problem_file.specs.Items.{item_by, items_by}
 use Rattle.problem_file.specs.Working.Walks.{Does}
 use Rattle.problem_file.proofs.Lists.{items_go, item_fails, drop_less, lexemes_length}
 use Rattle.problem_file.proofs.items.read_items.Goals as goal
@@ -17,7 +17,7 @@ items-preserved g c =
     let less : length (drop c.in_ok-at.at ms) < length (drop c.items.at ms) = drop_less c.items.at c.in_ok-at.at ms goes.0 (omega (arith, count, c.items-test.true)) in
     record {
       place = goes.1;
-      left = items_go g.R.ItemReading.actions (g.R.ItemReading.state c.items.reading) (g.R.ItemReading.state c.read_item.new.reading) (drop c.items.at ms) (drop c.in_ok-at.at ms) _ c.items.invariant.left some c.in_ok-at.ensures.value less;
+      left = items_go (item_by g.R.ItemReading.actions) (g.R.ItemReading.state c.items.reading) (g.R.ItemReading.state c.read_item.new.reading) (drop c.items.at ms) (drop c.in_ok-at.at ms) _ c.items.invariant.left some c.in_ok-at.ensures.value less;
     }
 
 pub returns-in_err-at : goal.returns-in_err-at
@@ -29,4 +29,4 @@ returns-in_err-at g c =
     subst
     (λ r. Does g.R.ItemReading.memory r (g.R.ItemReading.state c.read_item.new.reading) (items_by g.R.ItemReading.actions (g.R.ItemReading.state c.args.reading.now) ms))
     (sym (answer.1 ∙ ap (λ (f : TextFault). Err f) answer.2))
-    (item_fails g.R.ItemReading.actions g.R.ItemReading.memory (g.R.ItemReading.state c.items.reading) (g.R.ItemReading.state c.read_item.new.reading) ts c.items.at (items_by g.R.ItemReading.actions (g.R.ItemReading.state c.args.reading.now) ms) c.in_err-at.field-0.0 c.items.invariant.left some c.in_err-at.ensures.value)
+    (item_fails (item_by g.R.ItemReading.actions) g.R.ItemReading.memory (g.R.ItemReading.state c.items.reading) (g.R.ItemReading.state c.read_item.new.reading) ts c.items.at (items_by g.R.ItemReading.actions (g.R.ItemReading.state c.args.reading.now) ms) c.in_err-at.field-0.0 c.items.invariant.left some c.in_err-at.ensures.value)

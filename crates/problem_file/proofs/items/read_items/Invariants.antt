@@ -1,13 +1,13 @@
 use Rattle.std.proofs.Common.{◌≤◌, length, drop, ◌-◌}
 use Rattle.kat_syntax.specs.Lexemes.{lexemes}
-use Rattle.problem_file.specs.Items.{items_by}
+use Rattle.problem_file.specs.Items.{item_by, items_by}
 use Rattle.problem_file.proofs.Lists.{ItemsLeft}
 use Rattle.problem_file.proofs.items.read_items.Given as goal
 
 abbrev pub invariant-items : goal.invariant-items
 invariant-items g l = record {
   place : l.at ≤ length l.toks;
-  left : ItemsLeft g.R.ItemReading.actions (g.R.ItemReading.state l.reading) (drop l.at (lexemes l.toks)) (items_by g.R.ItemReading.actions (g.R.ItemReading.state l.fn.reading) (lexemes l.toks));
+  left : ItemsLeft (item_by g.R.ItemReading.actions) (g.R.ItemReading.state l.reading) (drop l.at (lexemes l.toks)) (items_by g.R.ItemReading.actions (g.R.ItemReading.state l.fn.reading) (lexemes l.toks));
 }
 
 abbrev pub decreases-items : goal.decreases-items

@@ -1,4 +1,4 @@
--- Tokens that a lexer made, and the names among them.
+-- Tokens that a lexer made.
 use Rattle.std.specs.Prelude.{◌≡◌, ℕ, List, slice_get, Some}
 use Rattle.kat_tokens.specs.declared.token.Token.{Token}
 use Rattle.kat_tokens.specs.Kinds.{IsToken}

@@ -1,4 +1,4 @@
--- The names of a proof: tests are named t0, t1, .. and actions a0, a1, .. by their numbers.
+-- The scopes of plain names alone: tests are named t0, t1, .. and actions a0, a1, .. by their numbers.
 use Rattle.std.specs.Prelude.{ℕ, zero, suc}
 use Rattle.kat_text.specs.declared.meaning.Meaning.TheVariants.{Test, Action}
 use Rattle.kat_text.specs.ScopeParts.{ScopeParts, empty_scope, declared}
@@ -10,6 +10,6 @@ tests_scope zero = empty_scope
 tests_scope (suc k) = declared (tests_scope k) (plain_name (Test k)) (Test k)
 
 -- so many tests and actions have their names, and nothing else has
-abbrev pub proof_scope : ℕ → ℕ → ScopeParts
-proof_scope tests zero = tests_scope tests
-proof_scope tests (suc a) = declared (proof_scope tests a) (plain_name (Action a)) (Action a)
+abbrev pub numbered_scope : ℕ → ℕ → ScopeParts
+numbered_scope tests zero = tests_scope tests
+numbered_scope tests (suc a) = declared (numbered_scope tests a) (plain_name (Action a)) (Action a)
