@@ -1,18 +1,18 @@
 -- Conditions of an outline as entailments of diagrams.
-use Rattle.std.proofs.Common.{◌≡◌, ℕ, ◌↔◌, length, Bool, true, false, ◌&&◌, ◌||◌, Result, Ok, Err, refl, sym, ◌∙◌}
+use Rattle.std.proofs.Common.{◌≡◌, ℕ, ◌↔◌, List, length, Bool, true, false, not, ◌&&◌, Result, Ok, Err, refl, sym, ap, ◌∙◌}
 use mathlib.Core.Path.{ap₂}
 use Rattle.std.specs.Bool.{IsTrue}
 use Rattle.std.specs.Result.{IfOk}
-use Rattle.std.proofs.lemmas.Bool.{and_parts, and_from}
-use Rattle.kat_model.specs.Trees.{TestTree}
+use Rattle.std.proofs.lemmas.Bool.{false≢true, and_parts, and_from, not-true}
+use Rattle.kat_model.specs.Trees.{TestTree, Term}
 use Rattle.kat_model.specs.Problems.{ProblemParts}
 use Rattle.kat_model.specs.Steps.{Atom, truth}
-use Rattle.step_diagrams.specs.StepFunctions.{StepDiagramsParts, step_value, IsStepId, IsStepDiagram, KeepsSteps, Entails}
-use Rattle.step_diagrams.proofs.StepSets.{IsStepId-kept, step_value-kept}
-use Rattle.simple_hyps.specs.TestTerms.{AreSimple}
+use Rattle.step_diagrams.specs.StepFunctions.{StepDiagramsParts, step_value, IsStepId, IsStepDiagram, KeepsSteps, Entails, IsImage}
+use Rattle.step_diagrams.proofs.StepSets.{KeepsSteps-trans, IsStepId-kept, IsStepDiagram-kept, step_value-kept}
+use Rattle.simple_hyps.specs.TestTerms.{AreSimple, IsAllowed, IsRuledOut}
 use Rattle.outline_rules.specs.Follows.{starts, implies, leads, ends, IsMet}
 use Rattle.simple_hyps.specs.HypothesisForms.{allows, some_rules_out}
-use Rattle.outline_rules.specs.Working.Sets.{EntailsUnder}
+use Rattle.outline_rules.specs.Working.Sets.{EntailsUnder, free_step, AreEnds}
 use Rattle.simple_hyps.proofs.SimpleForms.{allows_told, allowed_allows, ruled_out_told, told_ruled_out}
 
 -- an entailment of diagrams is one of their functions
@@ -67,20 +67,31 @@ module _ (q : ProblemParts) (note : ℕ → Atom → Bool) where
     (λ met x y lx ly al n r. met x lx (allows_told q.hyps x al) n),
   )
 
-  -- an action leads from one note to another: a step ends there, or some hypothesis rules it out
-  pub leads_implied : AreSimple q.hyps → (from a to : ℕ) → Implied q.tests (λ x y. allows q.hyps x) (λ x y. note from x) (λ x y. allows q.hyps y) (λ x y. note to y || some_rules_out q.hyps a x y) ↔ IsMet q note (leads from a to)
-  leads_implied simple from a to = (
-    (λ im x y lx ly ax ay n miss. ruled_out_told q.hyps a x y simple (other (note to y) (some_rules_out q.hyps a x y) miss (im x y lx ly (allowed_allows q.hyps x ax) n (allowed_allows q.hyps y ay)))),
-    (λ met x y lx ly ax n ay. by_value (note to y) (some_rules_out q.hyps a x y) (λ miss. told_ruled_out q.hyps a x y (met x y lx ly (allows_told q.hyps x ax) (allows_told q.hyps y ay) n miss))),
+  -- an action leads from one note to another: its ends have that
+  pub leads_met : AreSimple q.hyps → (from a to : ℕ) (d : StepDiagramsParts) (allowed led always target : ℕ) → d.tests ≡ q.tests → IsStepDiagram d allowed (λ x y. allows q.hyps x) → AreEnds q.tests (free_step q.hyps a (allows q.hyps) (note from)) d led
+      → IsStepDiagram d always (λ x y. true) → IsStepDiagram d target (λ x y. note to x) → EntailsUnder d allowed led always target ↔ IsMet q note (leads from a to)
+  leads_met simple from a to d allowed led always target tests is_allowed are_ends is_always is_target = (
+    (λ en x y lx ly ax ay n miss. ruled en x y lx ly ax ay n miss (some_rules_out q.hyps a x y) refl),
+    (λ met x y lx ly al e r. is_target.value x y lx ly ∙ inside met x y lx ly al e (note to x) refl),
   )
     where
-      other : (b c : Bool) → b ≡ false → (b || c) ≡ true → c ≡ true
-      other true c miss e = cc
-      other false c miss e = e
+      ruled : EntailsUnder d allowed led always target → (x y : Atom) → length x ≡ q.tests → length y ≡ q.tests → IsAllowed q.hyps x → IsAllowed q.hyps y → note from x ≡ true → note to y ≡ false → (b : Bool) → some_rules_out q.hyps a x y ≡ b → IsRuledOut q.hyps a x y
+      ruled en x y lx ly ax ay n miss true e = ruled_out_told q.hyps a x y simple e
+      ruled en x y lx ly ax ay n miss false e =
+          let own = ly ∙ sym tests in
+          let step : free_step q.hyps a (allows q.hyps) (note from) x y ≡ true = and_from (allows q.hyps x && note from x) (not (some_rules_out q.hyps a x y)) (and_from (allows q.hyps x) (note from x) (allowed_allows q.hyps x ax) n) (ap not e) in
+          let there = en y y own own (is_allowed.value y y own own ∙ allowed_allows q.hyps y ay) (are_ends.reached x y y lx ly ly step) (is_always.value y y own own) in
+          let hit : note to y ≡ true = sym (is_target.value y y own own) ∙ there in
+          absurd (false≢true (sym miss ∙ hit))
 
-      by_value : (b c : Bool) → (b ≡ false → c ≡ true) → (b || c) ≡ true
-      by_value true c f = refl
-      by_value false c f = f refl
+      inside : IsMet q note (leads from a to) → (x y : Atom) → length x ≡ d.tests → length y ≡ d.tests → step_value d allowed x y ≡ true → step_value d led x y ≡ true → (b : Bool) → note to x ≡ b → note to x ≡ true
+      inside met x y lx ly al e true is = is
+      inside met x y lx ly al e false miss =
+          let s = are_ends.source x y (lx ∙ tests) (ly ∙ tests) e in
+          let step = and_parts (allows q.hyps s.0 && note from s.0) (not (some_rules_out q.hyps a s.0 x)) s.2 in
+          let both = and_parts (allows q.hyps s.0) (note from s.0) step.0 in
+          let out = told_ruled_out q.hyps a s.0 x (met s.0 x s.1 (lx ∙ tests) (allows_told q.hyps s.0 both.0) (allows_told q.hyps x (sym (is_allowed.value x y lx ly) ∙ al)) both.1 miss) in
+          absurd (false≢true (sym (not-true (some_rules_out q.hyps a s.0 x) step.1) ∙ out))
 
 -- an answer tells a fact where it tells one that comes to the same
 pub told_same : {E : Type 0} {A B : Type 0} (r : Result Bool E) → IfOk r (λ b. IsTrue b ↔ A) → A ↔ B → IfOk r (λ b. IsTrue b ↔ B)
@@ -96,3 +107,28 @@ implied_tests m n f g h k e = (
   (λ im x y lx ly. im x y (lx ∙ sym e) (ly ∙ sym e)),
   (λ im x y lx ly. im x y (lx ∙ e) (ly ∙ e)),
 )
+
+-- the image of the free steps from both sets
+pub ends_are : (d0 d1 d2 d3 d4 d5 : StepDiagramsParts) (hyps : List Term) (a tests allowed from ruled free there steps led : ℕ) (f g : Atom → Bool) → KeepsSteps d0 d1 → KeepsSteps d1 d2 → KeepsSteps d2 d3 → KeepsSteps d3 d4 → d4.tests ≡ tests
+    → IsStepDiagram d0 allowed (λ x y. f x) → IsStepDiagram d0 from (λ x y. g x) → IsStepDiagram d1 ruled (some_rules_out hyps a) → IsStepDiagram d2 free (λ x y. not (step_value d1 ruled x y))
+    → IsStepDiagram d3 there (λ x y. step_value d2 allowed x y && step_value d2 from x y) → IsStepDiagram d4 steps (λ x y. step_value d3 there x y && step_value d3 free x y) → IsImage d4 steps d5 led → AreEnds tests (free_step hyps a f g) d5 led
+ends_are d0 d1 d2 d3 d4 d5 hyps a tests allowed from ruled free there steps led f g k1 k2 k3 k4 same is_allowed is_from is_ruled is_free is_there is_steps image =
+    record {
+      in_range = image.in_range;
+      reached = λ x y z lx ly lz r. image.reached x y z (lx ∙ sym same) (ly ∙ sym same) (lz ∙ sym same) (value x y (lx ∙ sym same) (ly ∙ sym same) ∙ r);
+      source = λ y z ly lz h.
+          let s = image.source y z (ly ∙ sym same) (lz ∙ sym same) h in
+          (s.0, s.1 ∙ same, sym (value s.0 y s.1 (ly ∙ sym same)) ∙ s.2);
+    }
+  where
+    value : (x y : Atom) → length x ≡ d4.tests → length y ≡ d4.tests → step_value d4 steps x y ≡ free_step hyps a f g x y
+    value x y lx ly =
+        let k02 = KeepsSteps-trans d0 d1 d2 k1 k2 in
+        let lx3 = lx ∙ k4.tests in
+        let ly3 = ly ∙ k4.tests in
+        let lx2 = lx3 ∙ k3.tests in
+        let ly2 = ly3 ∙ k3.tests in
+        let both = ap₂ (λ p r. p && r) ((IsStepDiagram-kept d0 d2 k02 allowed (λ v w. f v) is_allowed).value x y lx2 ly2) ((IsStepDiagram-kept d0 d2 k02 from (λ v w. g v) is_from).value x y lx2 ly2) in
+        let left = is_there.value x y lx3 ly3 ∙ both in
+        let right = step_value-kept d2 d3 k3 free is_free.in_range x y ∙ is_free.value x y lx2 ly2 ∙ ap not (is_ruled.value x y (lx2 ∙ k2.tests) (ly2 ∙ k2.tests)) in
+        is_steps.value x y lx ly ∙ ap₂ (λ p r. p && r) left right

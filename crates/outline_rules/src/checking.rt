@@ -1,12 +1,12 @@
 //! The rule checker of outlines. It shares with the finder the definitions and the diagrams of tests and hypotheses, and
 //! no rule.
-ghost use Rattle.std.specs.Prelude.{◌≡◌, ◌↔◌, map, position, IfOk, IfSome, IfNone, IsTrue, All, length, Some, None, if◌then◌else◌, [], ◌∷◌, ◌++◌};
+ghost use Rattle.std.specs.Prelude.{◌≡◌, ◌↔◌, Bool, map, position, IfOk, IfSome, IfNone, IsTrue, All, length, Some, None, if◌then◌else◌, [], ◌∷◌, ◌++◌};
 ghost use Rattle.kat_model.specs.Trees.{kat_tree, test_tree};
-ghost use Rattle.kat_model.specs.Steps.{truth};
+ghost use Rattle.kat_model.specs.Steps.{Atom, truth};
 ghost use Rattle.kat_model.specs.Problems.{IsTestInRange};
 ghost use Rattle.step_diagrams.specs.Interleaved.{atom_at_moment};
 ghost use Rattle.step_diagrams.specs.declared.moments.Moment.{Moment};
-ghost use Rattle.step_diagrams.specs.declared.moments.Moment.TheVariants.{Before, After};
+ghost use Rattle.step_diagrams.specs.declared.moments.Moment.TheVariants.{Before};
 ghost use Rattle.step_diagrams.specs.StepFunctions.{step_value, IsStepId, IsStepDiagram, KeepsSteps, AreStepDiagrams};
 ghost use Rattle.outline_notes.specs.NoteLists.{AreNotes, node_holds, note_holds};
 ghost use Rattle.simple_hyps.specs.TestTerms.{AreSimple};
@@ -15,7 +15,7 @@ ghost use Rattle.outline_rules.specs.Places.{last_place};
 ghost use Rattle.outline_rules.specs.Follows.{starts, ends, conditions, target, IsMet, HasTests};
 ghost use Rattle.outline_rules.specs.Reasons.{IsOutOfRange, IsNoteAnswer};
 ghost use Rattle.outline_rules.specs.Working.Checks.{guard_tree, condition_of};
-ghost use Rattle.outline_rules.specs.Working.Sets.{tests_out, HasPartsInRange, AreNodeSets, AreMomentSets, HasGuardInRange, HasCheckInRange, TellsLeastUnmet, EntailsUnder, lesser_of};
+ghost use Rattle.outline_rules.specs.Working.Sets.{tests_out, HasPartsInRange, AreNodeSets, AreMomentSets, HasGuardInRange, HasCheckInRange, TellsLeastUnmet, EntailsUnder, lesser_of, free_step, AreEnds};
 
 use crate::answer::{NoteAnswer, NoteReason};
 use crate::checks::{Check, Guard, next_place, push_checks};
@@ -171,19 +171,42 @@ fn implies(
     diagrams.entails(there, to)
 }
 
+// The atoms that an action may lead to from the allowed atoms of a set. No diagram speaks of the allowed atoms before and after
+// a step: it can be as large as the square of theirs.
+fn ends_of(
+    diagrams: &mut StepDiagrams,
+    problem: &Problem,
+    allowed: DiagramId,
+    from: DiagramId,
+    action: usize,
+) -> Result<DiagramId, NoMemory>
+    requires tests { diagrams.old.tests ≡ problem.now.tests }
+    requires allowed { IsStepId diagrams.old allowed }
+    requires from { IsStepId diagrams.old from }
+    ensures ends { IfOk result (λ id. (f g : Atom → Bool) → IsStepDiagram diagrams.old allowed (λ before after. f before)
+        → IsStepDiagram diagrams.old from (λ before after. g before)
+        → AreEnds problem.now.tests (free_step problem.now.hyps action f g) diagrams.new id) }
+    ensures kept { KeepsSteps diagrams.old diagrams.new }
+    ensures sound { AreStepDiagrams diagrams.new }
+{
+    let ruled_out = ruled_out_steps(diagrams, problem.hyps(), action)?;
+    let free = diagrams.not(ruled_out)?;
+    let there = diagrams.and(allowed, from)?;
+    let steps = diagrams.and(there, free)?;
+    diagrams.image(steps)
+}
+
 // Whether a condition of the program is met.
 fn is_met(
     diagrams: &mut StepDiagrams,
     problem: &Problem,
     notes: &Notes,
     before: &MomentSets,
-    after: &MomentSets,
     check: &Check<'_>,
 ) -> Result<bool, NoMemory>
     requires simple { AreSimple problem.now.hyps }
     requires tests { diagrams.old.tests ≡ problem.now.tests }
     requires before { AreMomentSets diagrams.old Before problem.now.hyps notes.now before.now }
-    requires after { AreMomentSets diagrams.old After problem.now.hyps notes.now after.now }
     requires in_range { HasCheckInRange problem.now.tests check.now }
     ensures met { IfOk result (λ r. IsTrue r ↔ IsMet problem.now (note_holds notes.now) (condition_of check.now)) }
     ensures kept { KeepsSteps diagrams.old diagrams.new }
@@ -197,11 +220,11 @@ fn is_met(
             implies(diagrams, before.allowed, from, guard, to)
         }
         Check::Leads(from, action, to) => {
-            let ruled_out = ruled_out_steps(diagrams, problem.hyps(), *action)?;
+            let always = diagrams.constant(true);
             let from = note_set(diagrams, before, notes, *from);
-            let to = note_set(diagrams, after, notes, *to);
-            let good = diagrams.or(to, ruled_out)?;
-            implies(diagrams, before.allowed, from, after.allowed, good)
+            let ends = ends_of(diagrams, problem, before.allowed, from, *action)?;
+            let to = note_set(diagrams, before, notes, *to);
+            implies(diagrams, before.allowed, ends, always, to)
         }
     }
 }
@@ -284,20 +307,18 @@ fn least_unmet_check(
     problem: &Problem,
     notes: &Notes,
     before: &MomentSets,
-    after: &MomentSets,
     checks: &[Check<'_>],
 ) -> Result<Option<usize>, NoMemory>
     requires simple { AreSimple problem.now.hyps }
     requires tests { diagrams.old.tests ≡ problem.now.tests }
     requires before { AreMomentSets diagrams.old Before problem.now.hyps notes.now before.now }
-    requires after { AreMomentSets diagrams.old After problem.now.hyps notes.now after.now }
     requires in_range { All (HasCheckInRange problem.now.tests) checks.now }
     ensures least { IfOk result (TellsLeastUnmet problem.now (note_holds notes.now) (map condition_of checks.now)) }
     ensures kept { KeepsSteps diagrams.old diagrams.new }
 {
     let mut least = None;
     for check in checks {
-        let met = is_met(diagrams, problem, notes, before, after, check)?;
+        let met = is_met(diagrams, problem, notes, before, check)?;
         least = lesser(least, target_unless(met, check.target()));
     }
     Ok(least)
@@ -322,9 +343,8 @@ fn least_unmet(
 {
     let mut diagrams = StepDiagrams::new(alloc, problem.tests())?;
     let before = moment_sets(alloc, &mut diagrams, problem, notes, Moment::Before)?;
-    let after = moment_sets(alloc, &mut diagrams, problem, notes, Moment::After)?;
     let starts = is_start_met(&mut diagrams, problem, notes, &before, &task.pre)?;
-    let within = least_unmet_check(&mut diagrams, problem, notes, &before, &after, checks)?;
+    let within = least_unmet_check(&mut diagrams, problem, notes, &before, checks)?;
     let ends = is_end_met(&mut diagrams, problem, notes, &before, last, &task.post)?;
     let end = next_place(last)?;
     let later = lesser(within, target_unless(ends, end));

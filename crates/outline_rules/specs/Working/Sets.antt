@@ -1,5 +1,5 @@
 -- Sets of atoms as diagrams, and what checks of them tell.
-use Rattle.std.specs.Prelude.{◌≡◌, ◌<◌, ℕ, Bool, false, not, nat_lt, All, List, map, length, min, Option, Some, None, IsTrue}
+use Rattle.std.specs.Prelude.{◌≡◌, ◌<◌, ◌&&◌, ℕ, Bool, false, not, nat_lt, All, List, map, length, min, Option, Some, None, IsTrue}
 use Rattle.kat_model.specs.Trees.{Term}
 use Rattle.kat_model.specs.Members.{Has}
 use Rattle.kat_model.specs.CourseOfValues.{course_of_values}
@@ -13,7 +13,7 @@ use Rattle.outline_notes.specs.declared.notes.NoteNode.TheVariants.{False, True,
 use Rattle.outline_notes.specs.NoteLists.{NotesParts, node_holds}
 use Rattle.outline_rules.specs.Follows.{Condition, starts, implies, leads, ends, IsMet}
 use Rattle.outline_rules.specs.Reasons.{IsLeastUnmet}
-use Rattle.simple_hyps.specs.HypothesisForms.{allows}
+use Rattle.simple_hyps.specs.HypothesisForms.{allows, some_rules_out}
 use Rattle.outline_rules.specs.Working.Checks.{guard_tree, condition_of}
 use Rattle.outline_rules.specs.declared.checks.Guard.{Guard}
 use Rattle.outline_rules.specs.declared.checks.Check.{Check}
@@ -72,3 +72,13 @@ HasCheckInRange n check = IsConditionInRange n (condition_of check)
 abbrev pub TellsLeastUnmet : ProblemParts → (ℕ → Atom → Bool) → List Condition → Option ℕ → Type 0
 TellsLeastUnmet q note cs None = (c : Condition) → Has cs c → IsMet q note c
 TellsLeastUnmet q note cs (Some k) = IsLeastUnmet q note cs k
+
+-- the step leads from a member of two sets, and no hypothesis rules it out
+abbrev pub free_step : List Term → ℕ → (Atom → Bool) → (Atom → Bool) → Atom → Atom → Bool
+free_step hyps a f g before after = (f before && g before) && not (some_rules_out hyps a before after)
+
+-- the diagram is true, whatever follows, exactly at the atoms that the relation leads to
+pub record AreEnds (tests : ℕ) (relation : Atom → Atom → Bool) (d : StepDiagramsParts) (id : ℕ) : Type 0 where
+  pub in_range : IsStepId d id
+  pub reached : (from to after : Atom) → length from ≡ tests → length to ≡ tests → length after ≡ tests → IsTrue (relation from to) → IsTrue (step_value d id to after)
+  pub source : (to after : Atom) → length to ≡ tests → length after ≡ tests → IsTrue (step_value d id to after) → (from : Atom) × (length from ≡ tests) × IsTrue (relation from to)

@@ -1,5 +1,5 @@
 use Rattle.std.proofs.Common.{map}
-use Rattle.step_diagrams.specs.declared.moments.Moment.TheVariants.{Before, After}
+use Rattle.step_diagrams.specs.declared.moments.Moment.TheVariants.{Before}
 use Rattle.step_diagrams.proofs.StepSets.{KeepsSteps-trans}
 use Rattle.kat_model.specs.Trees.{test_tree}
 use Rattle.outline_notes.specs.NoteLists.{note_holds}
@@ -9,17 +9,11 @@ use Rattle.outline_rules.proofs.NodeSets.{moment_sets_kept}
 use Rattle.outline_rules.proofs.LeastTargets.{least_of_all}
 use Rattle.outline_rules.proofs.checking.least_unmet.Goals as goal
 
-pub is_start_met-requires-clause-before : goal.is_start_met-requires-clause-before
-is_start_met-requires-clause-before c = moment_sets_kept _ _ Before _ _ _ c.in_ok-after.ensures.kept c.in_ok-before.ensures.sets
-
 pub least_unmet_check-requires-clause-before : goal.least_unmet_check-requires-clause-before
-least_unmet_check-requires-clause-before c = moment_sets_kept _ _ Before _ _ _ (KeepsSteps-trans _ _ _ c.in_ok-after.ensures.kept c.in_ok-starts.ensures.kept) c.in_ok-before.ensures.sets
-
-pub least_unmet_check-requires-clause-after : goal.least_unmet_check-requires-clause-after
-least_unmet_check-requires-clause-after c = moment_sets_kept _ _ After _ _ _ c.in_ok-starts.ensures.kept c.in_ok-after.ensures.sets
+least_unmet_check-requires-clause-before c = moment_sets_kept _ _ Before _ _ _ c.in_ok-starts.ensures.kept c.in_ok-before.ensures.sets
 
 pub is_end_met-requires-clause-before : goal.is_end_met-requires-clause-before
-is_end_met-requires-clause-before c = moment_sets_kept _ _ Before _ _ _ (KeepsSteps-trans _ _ _ (KeepsSteps-trans _ _ _ c.in_ok-after.ensures.kept c.in_ok-starts.ensures.kept) c.in_ok-within.ensures.kept) c.in_ok-before.ensures.sets
+is_end_met-requires-clause-before c = moment_sets_kept _ _ Before _ _ _ (KeepsSteps-trans _ _ _ c.in_ok-starts.ensures.kept c.in_ok-within.ensures.kept) c.in_ok-before.ensures.sets
 
 pub returns : goal.returns
 returns c =

@@ -1,5 +1,5 @@
 use Rattle.std.proofs.Common.{map, take}
-use Rattle.step_diagrams.specs.declared.moments.Moment.TheVariants.{Before, After}
+use Rattle.step_diagrams.specs.declared.moments.Moment.TheVariants.{Before}
 use Rattle.step_diagrams.specs.StepFunctions.{KeepsSteps}
 use Rattle.outline_notes.specs.NoteLists.{note_holds}
 use Rattle.outline_rules.specs.Working.Checks.{condition_of}
@@ -11,6 +11,5 @@ abbrev pub invariant-loop-check : goal.invariant-loop-check
 invariant-loop-check l = record {
   least : TellsLeastUnmet l.problem (note_holds l.notes) (map condition_of (take l.check-index l.checks)) l.least;
   before : AreMomentSets l.diagrams Before l.problem.hyps l.notes l.before;
-  after : AreMomentSets l.diagrams After l.problem.hyps l.notes l.after;
   kept : KeepsSteps l.initial.diagrams l.diagrams;
 }
