@@ -1,79 +1,115 @@
 -- Whether the first pair of a certificate is the closed sides, under a test that is true at each allowed atom.
-use Rattle.std.proofs.Common.{◌≡◌, ◌↔◌, ℕ, ◌<◌, ◌+◌, inl, List, [], ◌∷◌, ◌++◌, map, length, take, drop, slice_get, refl, sym, ap, ◌∙◌, subst, arith, Bool, true, false, not, Option, Some, None}
+use Rattle.std.proofs.Common.{◌≡◌, ◌↔◌, ℕ, ◌≤◌, ◌+◌, inl, List, [], ◌∷◌, ◌++◌, map, length, take, drop, slice_get, refl, sym, ap, ◌∙◌, subst, arith, Bool, true, false, not, ◌&&◌, cond, Option, Some, None}
 use Rattle.std.specs.Bool.{IsTrue}
-use Rattle.std.specs.Option.{option_map, is_some}
+use Rattle.std.specs.Option.{option_map, option_map_or, is_some}
 use Rattle.std.proofs.lemmas.List.{length-take-le, length-append}
 use Rattle.std.proofs.Math.Seq.{take-append_seam}
-use Rattle.kat_model.specs.Trees.{Term, TestTree}
+use Rattle.kat_model.specs.declared.limits.TheConstants.{MAX_TESTS}
+use Rattle.kat_model.specs.Trees.{Term, TestTree, one}
 use Rattle.kat_model.specs.Problems.{ProblemParts}
+use Rattle.kat_model.specs.Members.{Has}
 use Rattle.kat_model.specs.Steps.{Atom, truth}
 use Rattle.kat_model.specs.AllowedMoves.{IsAllowedAtom}
 use Rattle.kat_model.specs.Pairs.{SetPair}
 use Rattle.kat_model.specs.TestedPairs.{TestedPair}
 use Rattle.term_nodes.specs.NumberSets.{NumberPair, IsNumberSet, are_below, terms_of}
 use Rattle.term_nodes.proofs.Parts.{below_has, below_more}
-use Rattle.term_nodes.proofs.Prefixes.{IsPrefix-within}
 use Rattle.kat_model.proofs.Places.{has_at}
 use Rattle.term_nodes.proofs.TermTrees.{one_id_a_tree}
 use Rattle.certificate.specs.declared.nodes.Style.{Style}
 use Rattle.certificate.specs.declared.nodes.Style.TheVariants.{Plain, UpTo, Under}
 use Rattle.certificate.specs.PairParts.{PairParts, sets_of}
-use Rattle.certificate.specs.Certs.{CertParts, IsCert, IsPairOf, HasItsTest, nodes_of}
+use Rattle.certificate.specs.Certs.{CertParts, IsPairOf, HasItsTest, nodes_of}
 use Rattle.certificate.specs.Accepted.{set_pairs, test_of, tested_pair_of, tested_pairs}
-use Rattle.cert_checker.specs.declared.roots.Roots.{Roots}
-use Rattle.cert_checker.specs.declared.cases.PairTest.TheVariants.{Outputs}
+use Rattle.checker_steps.specs.NodeTables.{TableParts, AreTables, TablesGrow, IsTest, IsTerm, HasValues, term_at, holds_at, nodes_in}
+use Rattle.checker_steps.specs.Targets.{StandFor, chosen}
+use Rattle.checker_steps.proofs.GrowingTables.{grows_trans}
+use Rattle.checker_steps.proofs.StepSets.{stand_kept}
+use Rattle.checker_steps.proofs.TargetSets.{holds_kept}
+use Rattle.cert_checker.specs.declared.places.Turn.{Turn}
 use Rattle.cert_checker.specs.Answers.{Begins}
 use Rattle.cert_checker.specs.Working.Cases.{Extends, IsFirstFailure}
-use Rattle.cert_checker.specs.Working.NodeTables.{TableParts, AreTables, TablesGrow, IsTest, IsTerm, term_at, holds_at, nodes_in}
 use Rattle.cert_checker.specs.Working.Roots.{compared, counted_short}
-use Rattle.cert_checker.specs.Working.Matching.{Counts, rules_of}
-use Rattle.cert_checker.specs.Working.Places.{IsPass, AreForbidden, undecided}
-use Rattle.cert_checker.specs.Working.Questions.{IsSo}
+use Rattle.cert_checker.specs.Working.Questions.{IsQuestion, Counts, AreMatchedIn, AreMatchedBy, MatchAt}
+use Rattle.cert_checker.specs.Working.Places.{PassParts, IsPass, IsTurn, IsAllowed, question_of, undecided}
+use Rattle.cert_checker.proofs.OutputTargets.{condition_stands}
+use Rattle.cert_checker.proofs.Passes.{pass_stays, turn_stays}
 use Rattle.cert_checker.proofs.PairPlaces.{undecided_extends, undecided_length}
-use Rattle.cert_checker.proofs.PairTurns.{set_kept, test_kept, test_there}
-use Rattle.cert_checker.proofs.TargetSets.{holds_kept}
+use Rattle.cert_checker.proofs.PairTurns.{set_kept, test_kept, test_there, outputs_told, question_asked, narrow}
 
 -- ---- a test that is true at each allowed atom
 
--- the question whether two tests have one value, of which the second is true everywhere, fails nowhere
-pub holds_told : (t : TableParts) (q : ProblemParts) (c : CertParts) (universal : Option ℕ) (forbidden : List (ℕ × ℕ)) → AreForbidden t c q None forbidden → (test always : ℕ) → ((atom : Atom) → holds_at t always atom ≡ true)
-    → (o : Option Atom) → IsFirstFailure (IsSo t (rules_of c universal None forbidden) (Outputs test always)) (undecided (t.width + t.width)) o
-    → (o ≡ None) ↔ ((atom : Atom) → length atom ≡ t.width → IsAllowedAtom (counted_short c.style q) atom → IsTrue (holds_at t test atom))
-holds_told t q c universal forbidden tell test always sure None f = (
-  (λ e atom l allowed.
-      let front : take t.width (atom ++ atom) ≡ atom = ap (λ n. take n (atom ++ atom)) (sym l) ∙ take-append_seam atom atom in
-      let counts : Counts t (rules_of c universal None forbidden) (take t.width (atom ++ atom)) (drop t.width (atom ++ atom)) =
-      record { own = refl; free = (tell.mean (take t.width (atom ++ atom)) (drop t.width (atom ++ atom))).1 (subst (IsAllowedAtom (counted_short c.style q)) (sym front) allowed) } in
-      let there : Extends (undecided (t.width + t.width)) (atom ++ atom) = undecided_extends (t.width + t.width) (atom ++ atom) (omega (arith, l, length-append atom atom)) in
-      ap (holds_at t test) (sym front) ∙ f (atom ++ atom) there counts ∙ sure (take t.width (atom ++ atom))),
-  (λ h. refl),
-)
-holds_told t q c universal forbidden tell test always sure (Some x) f = (
-  (λ e. absurd cc),
-  (λ h.
-      let wide : length x ≡ t.width + t.width = undecided_length (t.width + t.width) x f.within in
-      let long : length (take t.width x) ≡ t.width = length-take-le t.width x (omega (arith, wide)) in
-      absurd (f.fails (λ counts. h (take t.width x) long ((tell.mean (take t.width x) (drop t.width x)).0 counts.free) ∙ sym (sure (take t.width x))))),
-)
+-- where it is asked whether the sets under two conditions are the same at each allowed atom, and the second condition is
+-- always true, there is no failure where the first is true at each of them
+module _ (p : PassParts) (t : TableParts) (pass : IsPass p t) (turn : Turn) (is : IsTurn p t turn) (none : turn.action ≡ None) (left right : List (ℕ × ℕ)) (f g : Atom → Bool)
+    (own : StandFor t left (λ atom. cond (f atom) (one ∷ []) [])) (other : StandFor t right (λ atom. cond (g atom) (one ∷ []) [])) (sure : (atom : Atom) → g atom ≡ true) where
+  abbrev HoldsAllowedly : Type 0
+  HoldsAllowedly = (atom : Atom) → length atom ≡ t.width → IsAllowedAtom (counted_short p.cert.style p.problem) atom → IsTrue (f atom)
 
--- so where it fails at no values the test was true at each allowed atom before the tables grew
-pub throughout_told : (q : ProblemParts) (c : CertParts) (old t : TableParts) → AreTables old → TablesGrow old t → (universal : Option ℕ) (forbidden : List (ℕ × ℕ)) → AreForbidden t c q None forbidden → (test always : ℕ) → IsTest old test → ((atom : Atom) → holds_at t always atom ≡ true)
-    → {X : Type 0} (f : X → Atom) (o : Option X) (b : Bool) → is_some o ≡ not b → IsFirstFailure (IsSo t (rules_of c universal None forbidden) (Outputs test always)) (undecided (t.width + t.width)) (option_map f o)
-    → IsTrue b ↔ ((atom : Atom) → length atom ≡ old.width → IsAllowedAtom (counted_short c.style q) atom → IsTrue (holds_at old test atom))
-throughout_told q c old t are grows universal forbidden tell test always there sure {X} f o b same first = (
-  (λ e atom l allowed. sym (holds_kept old t are grows test atom there) ∙ (holds_told t q c universal forbidden tell test always sure (option_map f o) first).0 (none_if o b same e) atom (l ∙ sym grows.width) allowed),
-  (λ h. if_none o b same ((holds_told t q c universal forbidden tell test always sure (option_map f o) first).1 (λ atom l allowed. holds_kept old t are grows test atom there ∙ h atom (l ∙ grows.width) allowed))),
-)
-  where
-    none_if : (o : Option X) (b : Bool) → is_some o ≡ not b → b ≡ true → option_map f o ≡ None
-    none_if None b e t = refl
-    none_if (Some x) true e t = absurd cc
-    none_if (Some x) false e t = absurd cc
+  mean : (atom to : Atom) → ((h : ℕ × ℕ) → Has turn.forbidden.items h → (holds_at t h.0 atom && holds_at t h.1 to) ≡ false) ↔ IsAllowed (counted_short p.cert.style p.problem) None atom to
+  mean = subst (λ o. (atom to : Atom) → ((h : ℕ × ℕ) → Has turn.forbidden.items h → (holds_at t h.0 atom && holds_at t h.1 to) ≡ false) ↔ IsAllowed (counted_short p.cert.style p.problem) o atom to) none is.forbidden.mean
 
-    if_none : (o : Option X) (b : Bool) → is_some o ≡ not b → option_map f o ≡ None → b ≡ true
-    if_none None true e n = refl
-    if_none None false e n = absurd cc
-    if_none (Some x) b e n = absurd cc
+  told : (atom to : Atom) → AreMatchedBy t (question_of p turn None left right) (chosen t left atom) (chosen t right atom) to ↔ (f atom ≡ g atom)
+  told atom to =
+      subst (λ o. AreMatchedIn (nodes_in t) (option_map_or (λ a. p.cert.style) o UpTo) (option_map (term_at t) (option_map_or (λ a. p.roots.universal) o None)) (option_map_or (λ a. p.cert.pairs) o []) (chosen t left atom) (chosen t right atom) to ↔ (f atom ≡ g atom)) (sym none)
+      (outputs_told t left right f g own other atom to)
+
+  found : (o : Option Atom) → IsFirstFailure (MatchAt t (question_of p turn None left right)) (undecided (t.width + t.width)) o → (o ≡ None) ↔ HoldsAllowedly
+  found None h = (
+    (λ e atom l allowed.
+        let front : take t.width (atom ++ atom) ≡ atom = ap (λ n. take n (atom ++ atom)) (sym l) ∙ take-append_seam atom atom in
+        let counts : Counts t (question_of p turn None left right) (take t.width (atom ++ atom)) (drop t.width (atom ++ atom)) =
+        record { own = refl; free = (mean (take t.width (atom ++ atom)) (drop t.width (atom ++ atom))).1 (subst (IsAllowedAtom (counted_short p.cert.style p.problem)) (sym front) allowed) } in
+        let there : Extends (undecided (t.width + t.width)) (atom ++ atom) = undecided_extends (t.width + t.width) (atom ++ atom) (omega (arith, l, length-append atom atom)) in
+        ap f (sym front) ∙ (told (take t.width (atom ++ atom)) (drop t.width (atom ++ atom))).0 (h (atom ++ atom) there counts) ∙ sure (take t.width (atom ++ atom))),
+    (λ all. refl),
+  )
+  found (Some x) h = (
+    (λ e. absurd cc),
+    (λ all.
+        let wide : length x ≡ t.width + t.width = undecided_length (t.width + t.width) x h.within in
+        let long : length (take t.width x) ≡ t.width = length-take-le t.width x (omega (arith, wide)) in
+        absurd (h.fails (λ counts. (told (take t.width x) (drop t.width x)).1 (all (take t.width x) long ((mean (take t.width x) (drop t.width x)).0 counts.free) ∙ sym (sure (take t.width x)))))),
+  )
+
+  throughout : {X : Type 0} (v : X → Atom) (o : Option X) (b : Bool) → is_some o ≡ not b → IsFirstFailure (MatchAt t (question_of p turn None left right)) (undecided (t.width + t.width)) (option_map v o) → IsTrue b ↔ HoldsAllowedly
+  throughout v None true e h = ((λ s. (found None h).0 refl), (λ all. refl))
+  throughout v None false e h = absurd cc
+  throughout v (Some x) true e h = absurd cc
+  throughout v (Some x) false e h = ((λ s. absurd cc), (λ all. let none : Some (v x) ≡ None = (found (Some (v x)) h).1 all in absurd cc))
+
+-- the tables grow by what a turn and the two sets need
+module _ (p : PassParts) (t first second third last : TableParts) (pass : IsPass p t) (to_first : TablesGrow t first) (to_second : TablesGrow first second) (to_third : TablesGrow second third) (to_last : TablesGrow third last) (turn : Turn) (is : IsTurn p first turn)
+    (none : turn.action ≡ None) (test always : ℕ) (there : IsTest t test) (sure : HasValues second (λ atom. true) always) (left right : List (ℕ × ℕ))
+    (own : StandFor third left (λ atom. cond (holds_at second test atom) (one ∷ []) [])) (other : StandFor last right (λ atom. cond (holds_at third always atom) (one ∷ []) [])) where
+  begun : IsPass p first
+  begun = pass_stays t first to_first p pass
+
+  grown : TablesGrow first last
+  grown = grows_trans first second last to_second (grows_trans second third last to_third to_last)
+
+  ended : IsPass p last
+  ended = pass_stays first last grown p begun
+
+  turns : IsTurn p last turn
+  turns = turn_stays first last grown p turn begun is
+
+  lefts : StandFor last left (λ atom. cond (holds_at t test atom) (one ∷ []) [])
+  lefts =
+      condition_stands last left (holds_at second test) (holds_at t test) (λ atom. holds_kept t second to_first.was (grows_trans t first second to_first to_second) test atom there)
+      (stand_kept third last to_last.was to_last left (λ atom. cond (holds_at second test atom) (one ∷ []) []) own)
+
+  pub throughout_asked : IsQuestion last (question_of p turn None left right)
+  throughout_asked = question_asked p last ended turn turns None left right (λ k e. absurd cc) lefts.entries other.entries
+
+  pub throughout_narrow : last.width ≤ MAX_TESTS
+  throughout_narrow = narrow p last ended
+
+  pub throughout_told : {X : Type 0} (v : X → Atom) (o : Option X) (b : Bool) → is_some o ≡ not b → IsFirstFailure (MatchAt last (question_of p turn None left right)) (undecided (last.width + last.width)) (option_map v o)
+      → IsTrue b ↔ ((atom : Atom) → length atom ≡ p.problem.tests → IsAllowedAtom (counted_short p.cert.style p.problem) atom → IsTrue (holds_at t test atom))
+  throughout_told v o b same found =
+      subst (λ n. IsTrue b ↔ ((atom : Atom) → length atom ≡ n → IsAllowedAtom (counted_short p.cert.style p.problem) atom → IsTrue (holds_at t test atom))) ended.nodes.width
+      (throughout p last ended turn turns none left right (holds_at t test) (holds_at third always) lefts other (λ atom. holds_kept second third to_third.was to_third always atom sure.0 ∙ sure.1 atom) v o b same found)
 
 -- ---- sets of one term
 
@@ -155,43 +191,40 @@ module _ (q : ProblemParts) (c : CertParts) (p : PairParts) (first : slice_get c
       let same = tested_heads (compared Under q).left (compared Under q).right b.0 b.1 b.2 in
       ap (λ (z : TestedPair). truth z.test atom) same ∙ b.3 atom l allowed
 
-module _ (q : ProblemParts) (c : CertParts) (r : Roots) (t : TableParts) (tests : List ℕ) (rules : IsCert c) (pass : IsPass q c r t tests) (p : PairParts) (first : slice_get c.pairs 0 ≡ Some p) where
-  pair : IsPairOf c p
-  pair = rules.pairs p (has_at c.pairs 0 p first)
+module _ (p : PassParts) (t : TableParts) (pass : IsPass p t) (r : PairParts) (first : slice_get p.cert.pairs 0 ≡ Some r) where
+  pair : IsPairOf p.cert r
+  pair = pass.cert.pairs r (has_at p.cert.pairs 0 r first)
 
-  set_told : (ks : List ℕ) → IsNumberSet (length c.term_nodes) ks → (k : ℕ) → IsTerm t k → (e : Term) → term_at t k ≡ e → (ks ≡ k ∷ []) ↔ (terms_of (nodes_of c) ks ≡ e ∷ [])
+  set_told : (ks : List ℕ) → IsNumberSet (length p.cert.term_nodes) ks → (k : ℕ) → IsTerm t k → (e : Term) → term_at t k ≡ e → (ks ≡ k ∷ []) ↔ (terms_of (nodes_of p.cert) ks ≡ e ∷ [])
   set_told ks s k there e tree =
-      let low : are_below (length t.terms) ks ≡ true = below_more (length c.term_nodes) (length t.terms) ks (omega (arith, pass.count, pass.there)) s.there in
-      subst (λ (ts : List Term). (ks ≡ k ∷ []) ↔ (ts ≡ e ∷ [])) (set_kept q c rules t pass.nodes ks s.there) (single_told t pass.tables ks low k there e tree)
+      let low : are_below (length t.terms) ks ≡ true = below_more (length p.cert.term_nodes) (length t.terms) ks (omega (arith, pass.count, pass.there)) s.there in
+      subst (λ (ts : List Term). (ks ≡ k ∷ []) ↔ (ts ≡ e ∷ [])) (set_kept p.problem p.cert pass.cert t pass.nodes ks s.there) (single_told t pass.nodes.sound ks low k there e tree)
 
-  left_told : (p.left ≡ r.left ∷ []) ↔ (terms_of (nodes_of c) p.left ≡ (compared c.style q).left ∷ [])
-  left_told = set_told p.left pair.left r.left pass.roots.left_there (compared c.style q).left pass.roots.left
+  left_told : (r.left ≡ p.roots.left ∷ []) ↔ (terms_of (nodes_of p.cert) r.left ≡ (compared p.cert.style p.problem).left ∷ [])
+  left_told = set_told r.left pair.left p.roots.left pass.roots.left_there (compared p.cert.style p.problem).left pass.roots.left
 
-  right_told : (p.right ≡ r.right ∷ []) ↔ (terms_of (nodes_of c) p.right ≡ (compared c.style q).right ∷ [])
-  right_told = set_told p.right pair.right r.right pass.roots.right_there (compared c.style q).right pass.roots.right
+  right_told : (r.right ≡ p.roots.right ∷ []) ↔ (terms_of (nodes_of p.cert) r.right ≡ (compared p.cert.style p.problem).right ∷ [])
+  right_told = set_told r.right pair.right p.roots.right pass.roots.right_there (compared p.cert.style p.problem).right pass.roots.right
 
-  pub other_sides : ((p.left ≡ r.left ∷ []) × (p.right ≡ r.right ∷ []) → ⊥) → Begins c.style q c → ⊥
-  other_sides never b = let sides = begins_sides q c p first c.style b in never (left_told.1 sides.0, right_told.1 sides.1)
+  pub other_left : (r.left ≡ p.roots.left ∷ [] → ⊥) → Begins p.cert.style p.problem p.cert → ⊥
+  other_left never b = never (left_told.1 (begins_sides p.problem p.cert r first p.cert.style b).0)
 
-  pub begins_untested : (p.left ≡ r.left ∷ []) × (p.right ≡ r.right ∷ []) → p.test ≡ None → Begins c.style q c
-  begins_untested sides e =
-      begins_from q c p first c.style (left_told.0 sides.0) (right_told.0 sides.1)
-      (λ u. absurd (never_under c.style (length c.test_nodes) (subst (HasItsTest c.style (length c.test_nodes)) e pair.test) u))
+  pub other_right : (r.right ≡ p.roots.right ∷ [] → ⊥) → Begins p.cert.style p.problem p.cert → ⊥
+  other_right never b = never (right_told.1 (begins_sides p.problem p.cert r first p.cert.style b).1)
 
-  module _ (test : ℕ) (e : p.test ≡ Some test) where
-    node : test < length c.test_nodes
-    node = test_there q c rules t pass.nodes c.style (length c.test_nodes) p.test pair.test test e
+  module _ (left : r.left ≡ p.roots.left ∷ []) (right : r.right ≡ p.roots.right ∷ []) where
+    pub begins_untested : r.test ≡ None → Begins p.cert.style p.problem p.cert
+    begins_untested e =
+        begins_from p.problem p.cert r first p.cert.style (left_told.0 left) (right_told.0 right)
+        (λ u. absurd (never_under p.cert.style (length p.cert.test_nodes) (subst (HasItsTest p.cert.style (length p.cert.test_nodes)) e pair.test) u))
 
-    pub first_test_there : IsTest t test
-    first_test_there = IsPrefix-within c.test_nodes t.tests test pass.nodes.nodes.tests node
-
-    same : (atom : Atom) → holds_at t test atom ≡ truth (test_of (nodes_of c) p.test) atom
-    same atom =
-        ap (λ (o : Option ℕ). truth (test_of (nodes_in t) o) atom) (sym e)
-        ∙ ap (λ (b : TestTree). truth b atom) (test_kept q c rules t pass.nodes p.test (test_there q c rules t pass.nodes c.style (length c.test_nodes) p.test pair.test))
-
-    pub begins_tested : (p.left ≡ r.left ∷ []) × (p.right ≡ r.right ∷ []) → ((atom : Atom) → length atom ≡ t.width → IsAllowedAtom (counted_short c.style q) atom → IsTrue (holds_at t test atom)) ↔ Begins c.style q c
-    begins_tested sides = (
-      (λ h. begins_from q c p first c.style (left_told.0 sides.0) (right_told.0 sides.1) (λ u atom l allowed. sym (same atom) ∙ h atom (l ∙ sym pass.nodes.width) allowed)),
-      (λ b atom l allowed. same atom ∙ begins_holds q c p first c.style (under_only c.style (length c.test_nodes) test (subst (HasItsTest c.style (length c.test_nodes)) e pair.test)) b atom (l ∙ pass.nodes.width) allowed),
+    pub begins_tested : (test : ℕ) → r.test ≡ Some test → ((atom : Atom) → length atom ≡ p.problem.tests → IsAllowedAtom (counted_short p.cert.style p.problem) atom → IsTrue (holds_at t test atom)) ↔ Begins p.cert.style p.problem p.cert
+    begins_tested test e = (
+      (λ h. begins_from p.problem p.cert r first p.cert.style (left_told.0 left) (right_told.0 right) (λ u atom l allowed. sym (same atom) ∙ h atom l allowed)),
+      (λ b atom l allowed. same atom ∙ begins_holds p.problem p.cert r first p.cert.style (under_only p.cert.style (length p.cert.test_nodes) test (subst (HasItsTest p.cert.style (length p.cert.test_nodes)) e pair.test)) b atom l allowed),
     )
+      where
+        same : (atom : Atom) → holds_at t test atom ≡ truth (test_of (nodes_of p.cert) r.test) atom
+        same atom =
+            ap (λ (o : Option ℕ). truth (test_of (nodes_in t) o) atom) (sym e)
+            ∙ ap (λ (b : TestTree). truth b atom) (test_kept p.problem p.cert pass.cert t pass.nodes r.test (test_there p.problem p.cert pass.cert t pass.nodes p.cert.style (length p.cert.test_nodes) r.test pair.test))

@@ -1,6 +1,6 @@
 -- Pairs of tests that tell which moves are allowed: those of the acceptance of the short hypotheses and of what a step
 -- leads to from them.
-use Rattle.std.proofs.Common.{◌≡◌, ◌↔◌, ℕ, ◌<◌, inl, inr, ⊎_elim, List, [], ◌∷◌, map, length, get_or, refl, sym, ap, ◌∙◌, subst, Bool, true, false, ◌&&◌}
+use Rattle.std.proofs.Common.{◌≡◌, ◌↔◌, ℕ, ◌<◌, inl, inr, ⊎_elim, List, [], ◌∷◌, map, length, get_or, refl, sym, ap, ◌∙◌, subst, Bool, true, false, ◌&&◌, Some, None}
 use Rattle.std.proofs.lemmas.Bool.{true≢false, and_parts, and_from, and_right}
 use Rattle.kat_model.specs.Trees.{Term}
 use Rattle.kat_model.specs.Members.{Has}
@@ -8,10 +8,14 @@ use Rattle.kat_model.specs.Steps.{Atom, out, next, set_out, set_next}
 use Rattle.kat_model.specs.Strings.{set_accepts, accepts}
 use Rattle.kat_model.specs.AllowedMoves.{IsAllowedAtom, IsAllowedMove}
 use Rattle.kat_model.proofs.Lists.{has_any, any_has, has_map, map_has, has_flat_map, flat_map_has}
-use Rattle.cert_checker.specs.Working.NodeTables.{TableParts, IsTest, term_at, holds_at}
-use Rattle.cert_checker.specs.Working.Targets.{AreEntries, StandFor, AreAcceptances}
-use Rattle.cert_checker.proofs.Covering.{chosen_has, has_chosen}
-use Rattle.cert_checker.proofs.StepLists.{accept_at}
+use Rattle.kat_model.specs.Problems.{ProblemParts}
+use Rattle.certificate.specs.Certs.{CertParts}
+use Rattle.checker_steps.specs.NodeTables.{TableParts, IsTest, HasValues, term_at, holds_at}
+use Rattle.checker_steps.specs.Targets.{AreEntries, StandFor, AreAcceptances}
+use Rattle.cert_checker.specs.Working.Roots.{counted_short}
+use Rattle.cert_checker.specs.Working.Places.{AreForbidden}
+use Rattle.checker_steps.proofs.ChosenTargets.{chosen_has, has_chosen}
+use Rattle.checker_steps.proofs.StepLists.{accept_at}
 
 -- no pair has both tests true
 abbrev pub IsFree : TableParts → List (ℕ × ℕ) → Atom → Atom → Type 0
@@ -32,7 +36,7 @@ module _ (t : TableParts) (es : List Term) (banned always : ℕ) (bans : (atom :
   second_free : (atom to : Atom) → (holds_at t always atom && holds_at t banned to) ≡ false → IsAllowedAtom es to
   second_free atom to e = false_unless (set_out es to) (λ s. true≢false (sym (and_from (holds_at t always atom) (holds_at t banned to) (holds atom) (bans to ∙ s)) ∙ e))
 
-  pub outputs_free : (atom to : Atom) → IsFree t ((banned, always) ∷ []) atom to ↔ IsAllowedAtom es atom
+  outputs_free : (atom to : Atom) → IsFree t ((banned, always) ∷ []) atom to ↔ IsAllowedAtom es atom
   outputs_free atom to = (
     (λ free. first_free atom to (free (banned, always) (inl refl))),
     (λ allowed f h. ⊎_elim (λ s. subst (λ (z : ℕ × ℕ). (holds_at t z.0 atom && holds_at t z.1 to) ≡ false) s (ap (λ b. b && holds_at t always to) (bans atom ∙ allowed))) absurd h),
@@ -56,7 +60,7 @@ module _ (t : TableParts) (es : List Term) (banned always : ℕ) (bans : (atom :
         let target = has_chosen t entries atom left.0 ((stand.same atom left.0).1 (flat_map_has (λ x. next x atom a) es from.0 left.0 from.1 left.1)) in
         (target.0, target.1, and_from (holds_at t target.0.1 atom) (holds_at t (get_or outputs target.0.0 0) to) target.2 ((accept_at t outputs target.0.0 tell (there target.0 target.1)).1 to ∙ ap (λ x. out x to) target.3 ∙ left.2))
 
-    pub moves_free : (atom to : Atom) → IsFree t ((banned, always) ∷ (always, banned) ∷ map (forbidden_of outputs) entries) atom to ↔ IsAllowedMove es atom (record { act = a; atom = to })
+    moves_free : (atom to : Atom) → IsFree t ((banned, always) ∷ (always, banned) ∷ map (forbidden_of outputs) entries) atom to ↔ IsAllowedMove es atom (record { act = a; atom = to })
     moves_free atom to = (forth, back)
       where
         forth : IsFree t ((banned, always) ∷ (always, banned) ∷ map (forbidden_of outputs) entries) atom to → IsAllowedMove es atom (record { act = a; atom = to })
@@ -79,7 +83,7 @@ module _ (t : TableParts) (es : List Term) (banned always : ℕ) (bans : (atom :
             h
 
 -- all these are tests of the tables
-pub forbidden_tests : (t : TableParts) (banned always : ℕ) → IsTest t banned → IsTest t always → (entries : List (ℕ × ℕ)) → AreEntries t entries → (outputs : List ℕ) → AreAcceptances t outputs → ((e : ℕ × ℕ) → Has entries e → e.0 < length outputs)
+forbidden_tests : (t : TableParts) (banned always : ℕ) → IsTest t banned → IsTest t always → (entries : List (ℕ × ℕ)) → AreEntries t entries → (outputs : List ℕ) → AreAcceptances t outputs → ((e : ℕ × ℕ) → Has entries e → e.0 < length outputs)
     → (f : ℕ × ℕ) → Has ((banned, always) ∷ (always, banned) ∷ map (forbidden_of outputs) entries) f → IsTest t f.0 × IsTest t f.1
 forbidden_tests t banned always bt at entries own outputs tell there f h =
     ⊎_elim
@@ -89,3 +93,20 @@ forbidden_tests t banned always bt at entries own outputs tell there f h =
     (λ k. let e = has_map (forbidden_of outputs) entries f k in subst (λ (z : ℕ × ℕ). IsTest t z.0 × IsTest t z.1) e.2 ((own e.0 e.1).1, (accept_at t outputs e.0.0 tell (there e.0 e.1)).0))
     r)
     h
+
+-- ---- the pairs of tests of a turn
+
+module _ (t : TableParts) (c : CertParts) (q : ProblemParts) where
+  module _ (banned always : ℕ) (bans : HasValues t (set_out (counted_short c.style q)) banned) (sure : HasValues t (λ atom. true) always) where
+    pub outputs_forbidden : AreForbidden t c q None ((banned, always) ∷ [])
+    outputs_forbidden = record {
+      tests = λ f h. ⊎_elim (λ s. subst (λ (z : ℕ × ℕ). IsTest t z.0 × IsTest t z.1) s (bans.0, sure.0)) absurd h;
+      mean = outputs_free t (counted_short c.style q) banned always bans.1 sure.1;
+    }
+
+    pub moves_forbidden : (a : ℕ) (entries : List (ℕ × ℕ)) → StandFor t entries (λ atom. set_next (counted_short c.style q) atom a) → (outputs : List ℕ) → AreAcceptances t outputs → ((e : ℕ × ℕ) → Has entries e → e.0 < length outputs)
+        → AreForbidden t c q (Some a) ((banned, always) ∷ (always, banned) ∷ map (forbidden_of outputs) entries)
+    moves_forbidden a entries stand outputs tell there = record {
+      tests = forbidden_tests t banned always bans.0 sure.0 entries stand.entries outputs tell there;
+      mean = moves_free t (counted_short c.style q) banned always bans.1 sure.1 a entries stand outputs tell there;
+    }

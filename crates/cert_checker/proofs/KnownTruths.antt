@@ -1,28 +1,41 @@
 -- What is known of a test is so at each atom with the decided tests.
-use Rattle.std.proofs.Common.{◌≡◌, ℕ, zero, suc, ◌<◌, ◌≤◌, ◌⊎◌, ⊎_elim, inl, inr, ◌++◌, set, List, [], ◌∷◌, length, get_or, slice_get, refl, sym, ap, ◌∙◌, subst, arith, Bool, true, false, not, ◌&&◌, ◌||◌, Option, Some, None}
-use Rattle.std.proofs.lemmas.Bool.{and_right}
+use Rattle.std.proofs.Common.{◌≡◌, ℕ, zero, suc, ◌<◌, ◌≤◌, ◌⊎◌, ⊎_elim, inl, inr, set, List, [], ◌∷◌, length, get_or, slice_get, refl, sym, ap, ◌∙◌, subst, arith, Bool, true, false, not, ◌&&◌, ◌||◌, Option, Some, None, get_or-set_same}
+use Rattle.std.proofs.lemmas.Bool.{and_right, cases_eq}
+use Rattle.std.proofs.lemmas.Cmp.{ranked}
+use Rattle.std.proofs.lemmas.List.{length-set}
+use Rattle.std.proofs.lemmas.Map.Keys.{sorted_head, sorted_tail}
 use Rattle.std.proofs.lemmas.Option.{slice_get-get_or}
+use Rattle.std.specs.List.{AllByRecursion}
+use Rattle.std.specs.List.Sorted.{IsStrictlySortedBy}
+use Rattle.std.specs.Ordering.{nat_cmp}
+use Rattle.std.specs.declared.cmp.Ordering.TheVariants.{Less}
+use Rattle.kat_model.specs.Members.{Has}
 use Rattle.kat_model.specs.Steps.{Atom, truth}
-use Rattle.kat_model.proofs.Places.{has_at, slice_get_last}
+use Rattle.kat_model.proofs.Places.{has_at, get_or-set_cases}
 use Rattle.term_nodes.specs.declared.TestNode.{TestNode}
 use Rattle.term_nodes.specs.declared.TestNode.TheVariants.{False, True, Prim, Not, And, Or}
-use Rattle.term_nodes.specs.Nodes.{IsTestOver}
+use Rattle.term_nodes.specs.Nodes.{IsTestOver, test_parts}
+use Rattle.term_nodes.specs.NodeTrees.{test_tree_in}
+use Rattle.term_nodes.proofs.Parts.{IsTestOver-more, IsTestOver-part}
+use Rattle.term_nodes.proofs.TestTrees.{test_tree_at-node}
+use Rattle.checker_steps.specs.NodeTables.{TableParts, AreTables, IsTest, IsWithin, holds_at, nodes_in}
 use Rattle.cert_checker.specs.declared.known.Known.{Known}
 use Rattle.cert_checker.specs.declared.known.Known.TheVariants.{Value, Waits}
-use Rattle.term_nodes.specs.NodeTrees.{test_tree_in}
-use Rattle.cert_checker.specs.Working.NodeTables.{TableParts, AreTables, IsWithin, holds_at, nodes_in}
-use Rattle.cert_checker.specs.Working.Cases.{Extends, IsKnown, known_not, known_and, known_or, known_at, known_node}
-use Rattle.term_nodes.proofs.TestTrees.{test_tree_at-node}
-use Rattle.term_nodes.proofs.Parts.{IsTestOver-more}
+use Rattle.cert_checker.specs.Working.Cases.{Extends, IsKnown, AreAsked, AreKnown, known_of, known_not, known_and, known_or, known_at, known_node}
 
 -- ---- values that are put together
 
-module _ (decided : List (Option Bool)) where
-  not_known : (v : Atom → Bool) (x : Known) → IsKnown decided v x → IsKnown decided (λ atom. not (v atom)) (known_not x)
+de_morgan : (b c : Bool) → (b || c) ≡ not (not b && not c)
+de_morgan true c = refl
+de_morgan false true = refl
+de_morgan false false = refl
+
+module _ (first : ℕ) (decided : List (Option Bool)) where
+  not_known : (v : Atom → Bool) (x : Known) → IsKnown first decided v x → IsKnown first decided (λ atom. not (v atom)) (known_not x)
   not_known v (Value b) h = λ atom k. ap not (h atom k)
   not_known v (Waits k) h = h
 
-  and_known : (v w : Atom → Bool) (x y : Known) → IsKnown decided v x → IsKnown decided w y → IsKnown decided (λ atom. v atom && w atom) (known_and x y)
+  and_known : (v w : Atom → Bool) (x y : Known) → IsKnown first decided v x → IsKnown first decided w y → IsKnown first decided (λ atom. v atom && w atom) (known_and x y)
   and_known v w (Value false) y h k = λ atom e. ap (λ b. b && w atom) (h atom e)
   and_known v w (Value true) (Value c) h k = λ atom e. ap (λ b. b && w atom) (h atom e) ∙ k atom e
   and_known v w (Value true) (Waits l) h k = k
@@ -30,22 +43,16 @@ module _ (decided : List (Option Bool)) where
   and_known v w (Waits l) (Value true) h k = h
   and_known v w (Waits l) (Waits m) h k = h
 
-  or_known : (v w : Atom → Bool) (x y : Known) → IsKnown decided v x → IsKnown decided w y → IsKnown decided (λ atom. v atom || w atom) (known_or x y)
-  or_known v w (Value true) y h k = λ atom e. ap (λ b. b || w atom) (h atom e)
-  or_known v w (Value false) (Value c) h k = λ atom e. ap (λ b. b || w atom) (h atom e) ∙ k atom e
-  or_known v w (Value false) (Waits l) h k = k
-  or_known v w (Waits l) (Value true) h k = λ atom e. ap (λ b. v atom || b) (k atom e) ∙ all (v atom)
-    where
-      all : (b : Bool) → (b || true) ≡ true
-      all true = refl
-      all false = refl
-  or_known v w (Waits l) (Value false) h k = h
-  or_known v w (Waits l) (Waits m) h k = h
-
   -- the same value under another name
-  same_known : (v w : Atom → Bool) (x : Known) → ((atom : Atom) → w atom ≡ v atom) → IsKnown decided v x → IsKnown decided w x
+  same_known : (v w : Atom → Bool) (x : Known) → ((atom : Atom) → w atom ≡ v atom) → IsKnown first decided v x → IsKnown first decided w x
   same_known v w (Value b) same h = λ atom e. same atom ∙ h atom e
   same_known v w (Waits k) same h = h
+
+  or_known : (v w : Atom → Bool) (x y : Known) → IsKnown first decided v x → IsKnown first decided w y → IsKnown first decided (λ atom. v atom || w atom) (known_or x y)
+  or_known v w x y h k =
+      same_known (λ atom. not (not (v atom) && not (w atom))) (λ atom. v atom || w atom) (known_or x y) (λ atom. de_morgan (v atom) (w atom))
+      (not_known (λ atom. not (v atom) && not (w atom)) (known_and (known_not x) (known_not y))
+      (and_known (λ atom. not (v atom)) (λ atom. not (w atom)) (known_not x) (known_not y) (not_known v x h) (not_known w y k)))
 
 -- a decided test has its value
 decided_value : (ds : List (Option Bool)) (k : ℕ) (b : Bool) (atom : Atom) → slice_get ds k ≡ Some (Some b) → Extends ds atom → get_or atom k false ≡ b
@@ -56,69 +63,13 @@ decided_value (Some a ∷ ds) zero b (c ∷ atom) e h = let first : a ≡ c = h.
 decided_value (None ∷ ds) (suc k) b (c ∷ atom) e h = decided_value ds k b atom e h
 decided_value (Some a ∷ ds) (suc k) b (c ∷ atom) e h = decided_value ds k b atom e h.1
 
-prim_known : (ds : List (Option Bool)) (k : ℕ) (d : Option Bool) → slice_get ds k ≡ Some d → IsKnown ds (λ atom. get_or atom k false) (known_at d k)
-prim_known ds k None e = e
-prim_known ds k (Some b) e = λ atom h. decided_value ds k b atom e h
+prim_known : (first : ℕ) (ds : List (Option Bool)) (k : ℕ) (d : Option Bool) → slice_get ds k ≡ Some d → IsKnown first ds (λ atom. get_or atom k false) (known_at first d k)
+prim_known first ds k None e = (k, refl, e)
+prim_known first ds k (Some b) e = λ atom h. decided_value ds k b atom e h
 
--- ---- the tests of the tables
+-- ---- a node of the tables
 
-set_get : {X : Type 0} (xs : List X) (j k : ℕ) (x y : X) → slice_get (set xs j x) k ≡ Some y → ((k ≡ j) × (x ≡ y)) ⊎ (slice_get xs k ≡ Some y)
-set_get [] j k x y e = inr e
-set_get (z ∷ xs) zero zero x y e = inl (refl, cc)
-set_get (z ∷ xs) zero (suc k) x y e = inr e
-set_get (z ∷ xs) (suc j) zero x y e = inr e
-set_get (z ∷ xs) (suc j) (suc k) x y e = ⊎_elim (λ h. inl (ap suc h.0, h.1)) inr (set_get xs j k x y e)
-
--- the numbers that a node names, below more
-pub parts_within : (t : TableParts) → AreTables t → (k m : ℕ) (n : TestNode ℕ) → k ≤ m → slice_get t.tests k ≡ Some n → IsTestOver m n
-parts_within t are k m n le e = IsTestOver-more k m n le (are.rules.tests_ordered k n e)
-
-module _ (t : TableParts) (are : AreTables t) (decided : List (Option Bool)) (earlier : List Known)
-    (each : (k : ℕ) (x : Known) → slice_get earlier k ≡ Some x → IsKnown decided (holds_at t k) x) where
-  part_known : (x : ℕ) → x < length earlier → IsKnown decided (holds_at t x) (get_or earlier x (Value false))
-  part_known x h = each x (get_or earlier x (Value false)) (slice_get-get_or earlier x (Value false) h)
-
-  -- what is known of a node, over what is known of those that it names
-  pub node_known : (j : ℕ) (n : TestNode ℕ) → j ≤ length earlier → length decided ≡ t.width → slice_get t.tests j ≡ Some n → IsKnown decided (holds_at t j) (known_node decided earlier n)
-  node_known j n there width e = same_known decided (λ atom. truth (test_tree_in (nodes_in t) n) atom) (holds_at t j) (known_node decided earlier n) (λ atom. ap (λ b. truth b atom) (test_tree_at-node (nodes_in t) are.rules j n e)) (by_node n e (are.rules.tests_ordered j n e))
-    where
-      part : (x : ℕ) → x < j → IsKnown decided (holds_at t x) (get_or earlier x (Value false))
-      part x h = part_known x (omega (arith, h, there))
-
-      by_node : (n : TestNode ℕ) → slice_get t.tests j ≡ Some n → IsTestOver j n → IsKnown decided (λ atom. truth (test_tree_in (nodes_in t) n) atom) (known_node decided earlier n)
-      by_node False e below = λ atom h. refl
-      by_node True e below = λ atom h. refl
-      by_node (Prim k) e below =
-          let low : k < length decided = subst (λ w. k < w) (sym width) (are.within k (has_at t.tests j (Prim k) e)) in
-          prim_known decided k (get_or decided k None) (slice_get-get_or decided k None low)
-      by_node (Not x) e below = not_known decided (holds_at t x) (get_or earlier x (Value false)) (part x below)
-      by_node (And x y) e below =
-          and_known decided (holds_at t x) (holds_at t y) (get_or earlier x (Value false)) (get_or earlier y (Value false))
-          (part x below.0) (part y below.1)
-      by_node (Or x y) e below =
-          or_known decided (holds_at t x) (holds_at t y) (get_or earlier x (Value false)) (get_or earlier y (Value false))
-          (part x below.0) (part y below.1)
-
-  told : (j : ℕ) (n : TestNode ℕ) (x : Known) → j ≤ length earlier → length decided ≡ t.width → slice_get t.tests j ≡ Some n → x ≡ known_node decided earlier n → IsKnown decided (holds_at t j) x
-  told j n x there width e is = subst (IsKnown decided (holds_at t j)) (sym is) (node_known j n there width e)
-
-  -- one test more
-  pub known_more : (n : TestNode ℕ) (x : Known) → length decided ≡ t.width → slice_get t.tests (length earlier) ≡ Some n → x ≡ known_node decided earlier n → (k : ℕ) (y : Known) → slice_get (earlier ++ x ∷ []) k ≡ Some y → IsKnown decided (holds_at t k) y
-  known_more n x width e is k y h =
-      ⊎_elim
-      (λ was. each k y was)
-      (λ last. subst (λ z. IsKnown decided (holds_at t k) z) last.1 (subst (λ j. IsKnown decided (holds_at t j) x) (sym last.0) (told (length earlier) n x (omega arith) width e is)))
-      (slice_get_last earlier x k y h)
-
-  -- a test told anew
-  pub known_again : (j : ℕ) (n : TestNode ℕ) (x : Known) → j ≤ length earlier → length decided ≡ t.width → slice_get t.tests j ≡ Some n → x ≡ known_node decided earlier n → (k : ℕ) (y : Known) → slice_get (set earlier j x) k ≡ Some y → IsKnown decided (holds_at t k) y
-  known_again j n x there width e is k y h =
-      ⊎_elim
-      (λ here. subst (λ z. IsKnown decided (holds_at t k) z) here.1 (subst (λ i. IsKnown decided (holds_at t i) x) (sym here.0) (told j n x there width e is)))
-      (λ was. each k y was)
-      (set_get earlier j k x y h)
-
--- a node's primitive test is in range
+-- a primitive test is in range, and the numbers that a node names are below more
 pub node_within : (t : TableParts) → AreTables t → (w k : ℕ) (n : TestNode ℕ) → w ≡ t.width → slice_get t.tests k ≡ Some n → IsWithin w n
 node_within t are w k False e h = tt
 node_within t are w k True e h = tt
@@ -126,3 +77,101 @@ node_within t are w k (Prim i) e h = subst (λ v. i < v) (sym e) (are.within i (
 node_within t are w k (Not x) e h = tt
 node_within t are w k (And x y) e h = tt
 node_within t are w k (Or x y) e h = tt
+
+pub parts_within : (t : TableParts) → AreTables t → (k m : ℕ) (n : TestNode ℕ) → k ≤ m → slice_get t.tests k ≡ Some n → IsTestOver m n
+parts_within t are k m n le e = IsTestOver-more k m n le (are.rules.tests_ordered k n e)
+
+module _ (first : ℕ) (t : TableParts) (are : AreTables t) (decided : List (Option Bool)) (width : length decided ≡ t.width) where
+  -- what is known of a node, where it is known of the tests that it names
+  node_known : (known : List Known) (j : ℕ) (n : TestNode ℕ) → slice_get t.tests j ≡ Some n
+      → ((x : ℕ) → Has (test_parts n) x → IsKnown first decided (holds_at t x) (known_of known x)) → IsKnown first decided (holds_at t j) (known_node first decided known n)
+  node_known known j n e part =
+      same_known first decided (λ atom. truth (test_tree_in (nodes_in t) n) atom) (holds_at t j) (known_node first decided known n) (λ atom. ap (λ b. truth b atom) (test_tree_at-node (nodes_in t) are.rules j n e)) (by_node n e part)
+    where
+      by_node : (n : TestNode ℕ) → slice_get t.tests j ≡ Some n → ((x : ℕ) → Has (test_parts n) x → IsKnown first decided (holds_at t x) (known_of known x))
+          → IsKnown first decided (λ atom. truth (test_tree_in (nodes_in t) n) atom) (known_node first decided known n)
+      by_node False e part = λ atom h. refl
+      by_node True e part = λ atom h. refl
+      by_node (Prim k) e part =
+          let low : k < length decided = subst (λ w. k < w) (sym width) (are.within k (has_at t.tests j (Prim k) e)) in
+          prim_known first decided k (get_or decided k None) (slice_get-get_or decided k None low)
+      by_node (Not x) e part = not_known first decided (holds_at t x) (known_of known x) (part x (inl refl))
+      by_node (And x y) e part = and_known first decided (holds_at t x) (holds_at t y) (known_of known x) (known_of known y) (part x (inl refl)) (part y (inr (inl refl)))
+      by_node (Or x y) e part = or_known first decided (holds_at t x) (holds_at t y) (known_of known x) (known_of known y) (part x (inl refl)) (part y (inr (inl refl)))
+
+-- ---- the asked tests, in ascending order
+
+-- those that are left ascend, and of the others it is known
+pub record IsEvaluating (first : ℕ) (t : TableParts) (decided : List (Option Bool)) (asked rest : List ℕ) (old new : List Known) : Type 0 where
+  pub sorted : IsStrictlySortedBy nat_cmp rest
+  pub left : (k : ℕ) → Has rest k → Has asked k
+  pub done : (k : ℕ) → Has asked k → Has rest k ⊎ IsKnown first decided (holds_at t k) (known_of new k)
+  pub others : (k : ℕ) → (Has asked k → ⊥) → known_of new k ≡ known_of old k
+  pub room : length new ≡ length old
+
+pub evaluating_starts : (first : ℕ) (t : TableParts) (decided : List (Option Bool)) (asked rest : List ℕ) (known : List Known) → rest ≡ asked → IsStrictlySortedBy nat_cmp asked → IsEvaluating first t decided asked rest known known
+evaluating_starts first t decided asked rest known e sorted = record {
+  sorted = subst (IsStrictlySortedBy nat_cmp) (sym e) sorted;
+  left = λ k h. subst (λ l. Has l k) e h;
+  done = λ k h. inl (subst (λ l. Has l k) (sym e) h);
+  others = λ k h. refl;
+  room = refl;
+}
+
+-- the next one is a test of the tables
+pub next_test : (first : ℕ) (t : TableParts) (decided : List (Option Bool)) (asked rest : List ℕ) (old new : List Known) → AreAsked t asked → IsEvaluating first t decided asked rest old new → (k : ℕ) (more : List ℕ) → rest ≡ k ∷ more → IsTest t k
+next_test first t decided asked rest old new closed e k more cut = (closed k (e.left k (subst (λ l. Has l k) (sym cut) (inl refl)))).0
+
+above_first : (k : ℕ) (ks : List ℕ) (j : ℕ) → AllByRecursion (λ y. nat_cmp k y ≡ Less) ks → Has ks j → k < j
+above_first k [] j all h = absurd h
+above_first k (l ∷ ks) j all h = ⊎_elim (λ s. subst (λ n. k < n) s (ranked k l Less (sym all.0))) (λ r. above_first k ks j all.1 r) h
+
+module _ (first : ℕ) (t : TableParts) (decided : List (Option Bool)) (asked : List ℕ) (k : ℕ) (rest : List ℕ) (old now : List Known) (are : AreTables t) (closed : AreAsked t asked) (width : length decided ≡ t.width)
+    (node : TestNode ℕ) (at : slice_get t.tests k ≡ Some node) (e : IsEvaluating first t decided asked (k ∷ rest) old now) where
+  own : Has asked k
+  own = e.left k (inl refl)
+
+  -- the parts of the next test come before it
+  part : (x : ℕ) → Has (test_parts node) x → IsKnown first decided (holds_at t x) (known_of now x)
+  part x h =
+      let low : x < k = IsTestOver-part k node (are.rules.tests_ordered k node at) x h in
+      ⊎_elim
+      (λ r. ⊎_elim
+      (λ s. absurd (omega (arith, s, low)))
+      (λ m. let high : k < x = above_first k rest x (sorted_head nat_cmp k rest e.sorted) m in absurd (omega (arith, low, high)))
+      r)
+      (λ told. told)
+      (e.done x ((closed k own).1 node at x h))
+
+  module _ (x : Known) (is : x ≡ known_node first decided now node) (low : k < length now) where
+    abbrev Told : ℕ → Type 0
+    Told j = IsKnown first decided (holds_at t j) (known_of (set now k x) j)
+
+    here : Told k
+    here = subst (IsKnown first decided (holds_at t k)) (sym (get_or-set_same now k x (Value false) low ∙ is)) (node_known first t are decided width now k node at part)
+
+    kept : (j : ℕ) → IsKnown first decided (holds_at t j) (known_of now j) → Told j
+    kept j told = ⊎_elim (λ s. subst Told (sym s) here) (λ same. subst (IsKnown first decided (holds_at t j)) same told) (get_or-set_cases now k j x (known_of (set now k x) j) (Value false) refl)
+
+    pub evaluating_more : IsEvaluating first t decided asked rest old (set now k x)
+    evaluating_more = record {
+      sorted = sorted_tail nat_cmp k rest e.sorted;
+      left = λ j h. e.left j (inr h);
+      done = λ j h. ⊎_elim (λ r. ⊎_elim (λ s. inr (subst Told s here)) inl r) (λ told. inr (kept j told)) (e.done j h);
+      others = λ j h. ⊎_elim (λ s. absurd (h (subst (Has asked) (sym s) own))) (λ same. sym same ∙ e.others j h) (get_or-set_cases now k j x (known_of (set now k x) j) (Value false) refl);
+      room = length-set now k x ∙ e.room;
+    }
+
+pub evaluating_ends : (first : ℕ) (t : TableParts) (decided : List (Option Bool)) (asked rest : List ℕ) (old new : List Known) → rest ≡ [] → IsEvaluating first t decided asked rest old new → AreKnown first t decided asked new
+evaluating_ends first t decided asked rest old new e now k h = ⊎_elim (λ r. absurd (subst (λ l. Has l k) e r)) (λ told. told) (now.done k h)
+
+-- ---- two lists of asked tests
+
+has_or_not : (ks : List ℕ) (k : ℕ) → Has ks k ⊎ (Has ks k → ⊥)
+has_or_not [] k = inr (λ h. h)
+has_or_not (j ∷ ks) k = ⊎_elim (λ e. inl (inl e)) (λ n. ⊎_elim (λ r. inl (inr r)) (λ m. inr (λ h. ⊎_elim n m h)) (has_or_not ks k)) (cases_eq j k)
+
+-- what was known stays so where more is told
+pub known_both : (first : ℕ) (t : TableParts) (decided : List (Option Bool)) (asked more : List ℕ) (old new : List Known) → AreKnown first t decided asked old → AreKnown first t decided more new
+    → ((k : ℕ) → (Has more k → ⊥) → known_of new k ≡ known_of old k) → AreKnown first t decided asked new
+known_both first t decided asked more old new was told others k h = ⊎_elim (told k) (λ n. subst (IsKnown first decided (holds_at t k)) (sym (others k n)) (was k h)) (has_or_not more k)

@@ -1,41 +1,44 @@
 -- The least failure among the atoms with some tests decided, by cases on one more test.
-use Rattle.std.proofs.Common.{◌≡◌, ℕ, zero, suc, ◌<◌, ◌≤◌, min, drop, ◌⊎◌, inl, inr, ⊎_elim, List, [], ◌∷◌, length, set as slice_set, refl, sym, ap, ◌∙◌, subst, arith, Bool, true, false, Option, Some, None}
-use Rattle.std.proofs.Math.ListN.{length-set}
-use Rattle.std.proofs.lemmas.List.{length-drop}
-use Rattle.std.specs.Option.{option_or}
+use Rattle.std.proofs.Common.{◌≡◌, ℕ, zero, suc, ◌<◌, ◌⊎◌, inl, inr, ⊎_elim, List, [], ◌∷◌, length, set as slice_set, refl, sym, ap, ◌∙◌, subst, arith, Bool, true, false, Option, Some, None}
+use Rattle.std.proofs.lemmas.List.{set-set}
+use Rattle.std.specs.Option.{option_or, option_map}
+use Rattle.std.specs.Ordering.{bool_cmp, is_le, is_some_and}
+use Rattle.std.specs.Cmp.Lexicographic.{slice_partial_cmp}
 use Rattle.kat_model.specs.Steps.{Atom}
 use Rattle.cert_checker.specs.Answers.{IsLess}
-use Rattle.cert_checker.specs.Working.Cases.{Extends, IsOpen, open_count, least_of, is_less, IsBelow, IsFirstFailure}
+use Rattle.cert_checker.specs.Working.Cases.{Extends, IsOpen, open_count, least_of, IsBelow, IsFirstFailure}
 
 -- ---- the order of atoms
 
-pub is_less_true : (xs ys : Atom) → is_less xs ys ≡ true → IsLess xs ys
-is_less_true [] ys e = absurd cc
-is_less_true (x ∷ xs) [] e = absurd cc
-is_less_true (false ∷ xs) (true ∷ ys) e = tt
-is_less_true (true ∷ xs) (false ∷ ys) e = absurd cc
-is_less_true (false ∷ xs) (false ∷ ys) e = is_less_true xs ys e
-is_less_true (true ∷ xs) (true ∷ ys) e = is_less_true xs ys e
+less_or_not : (xs ys : Atom) → IsLess xs ys ⊎ (IsLess xs ys → ⊥)
+less_or_not [] ys = inr (λ h. h)
+less_or_not (x ∷ xs) [] = inr (λ h. h)
+less_or_not (false ∷ xs) (true ∷ ys) = inl tt
+less_or_not (true ∷ xs) (false ∷ ys) = inr (λ h. h)
+less_or_not (false ∷ xs) (false ∷ ys) = less_or_not xs ys
+less_or_not (true ∷ xs) (true ∷ ys) = less_or_not xs ys
 
-pub less_is_true : (xs ys : Atom) → IsLess xs ys → is_less xs ys ≡ true
-less_is_true [] ys h = absurd h
-less_is_true (x ∷ xs) [] h = absurd h
-less_is_true (false ∷ xs) (true ∷ ys) h = refl
-less_is_true (true ∷ xs) (false ∷ ys) h = absurd h
-less_is_true (false ∷ xs) (false ∷ ys) h = less_is_true xs ys h
-less_is_true (true ∷ xs) (true ∷ ys) h = less_is_true xs ys h
+-- whether the first is at most the second, in the derived order
+abbrev pub at_most : Atom → Atom → Bool
+at_most xs ys = is_some_and is_le (slice_partial_cmp (λ x y. Some (bool_cmp x y)) xs ys)
 
--- nothing is less where one of the atoms has ended
-less_ended : (xs ys : Atom) → (length xs ≡ 0) ⊎ (length ys ≡ 0) → is_less xs ys ≡ false
-less_ended [] ys h = refl
-less_ended (x ∷ xs) [] h = refl
-less_ended (x ∷ xs) (y ∷ ys) h = ⊎_elim (λ e. absurd (omega (arith, e))) (λ e. absurd (omega (arith, e))) h
+pub at_most_not_less : (xs ys : Atom) → at_most xs ys ≡ true → IsLess ys xs → ⊥
+at_most_not_less [] [] e h = h
+at_most_not_less [] (y ∷ ys) e h = h
+at_most_not_less (x ∷ xs) [] e h = h
+at_most_not_less (false ∷ xs) (false ∷ ys) e h = at_most_not_less xs ys e h
+at_most_not_less (false ∷ xs) (true ∷ ys) e h = h
+at_most_not_less (true ∷ xs) (false ∷ ys) e h = absurd cc
+at_most_not_less (true ∷ xs) (true ∷ ys) e h = at_most_not_less xs ys e h
 
-pub less_after : (xs ys : Atom) (i : ℕ) → min (length xs) (length ys) ≤ i → is_less (drop i xs) (drop i ys) ≡ false
-less_after xs ys i h = less_ended (drop i xs) (drop i ys) (⊎_elim (λ l. inl (omega (arith, l, length-drop i xs))) (λ l. inr (omega (arith, l, length-drop i ys))) either)
-  where
-    either : (length xs ≤ i) ⊎ (length ys ≤ i)
-    either = grind (arith, h)
+pub above_less : (xs ys : Atom) → length xs ≡ length ys → at_most xs ys ≡ false → IsLess ys xs
+above_less [] [] l e = absurd cc
+above_less [] (y ∷ ys) l e = absurd cc
+above_less (x ∷ xs) [] l e = absurd (omega (arith, l))
+above_less (false ∷ xs) (false ∷ ys) l e = above_less xs ys (omega (arith, l)) e
+above_less (false ∷ xs) (true ∷ ys) l e = absurd cc
+above_less (true ∷ xs) (false ∷ ys) l e = tt
+above_less (true ∷ xs) (true ∷ ys) l e = above_less xs ys (omega (arith, l)) e
 
 pub less_trans : (xs ys zs : Atom) → IsLess xs ys → IsLess ys zs → IsLess xs zs
 less_trans [] ys zs h k = absurd h
@@ -98,10 +101,6 @@ extends_cases (Some a ∷ ds) zero (c ∷ atom) undecided h = absurd cc
 extends_cases (None ∷ ds) (suc k) (c ∷ atom) undecided h = extends_cases ds k atom undecided h
 extends_cases (Some a ∷ ds) (suc k) (c ∷ atom) undecided h = ⊎_elim (λ l. inl (h.0, l)) (λ r. inr (h.0, r)) (extends_cases ds k atom undecided h.1)
 
-pub or_none : (o : Option Atom) → option_or o None ≡ o
-or_none None = refl
-or_none (Some x) = refl
-
 -- ---- where all fail
 
 pub least_extends : (ds : List (Option Bool)) → Extends ds (least_of ds)
@@ -144,11 +143,7 @@ module _ (P : Atom → Type 0) where
   -- a failure is below the bound
   failure_below : (ds : List (Option Bool)) (bound : Option Atom) (x : Atom) → IsFirstFailure (Below bound) ds (Some x) → IsBelow bound x
   failure_below ds None x f = tt
-  failure_below ds (Some v) x f = go (is_less x v) refl
-    where
-      go : (b : Bool) → is_less x v ≡ b → IsLess x v
-      go true e = is_less_true x v e
-      go false e = absurd (f.fails (λ l. let g : true ≡ false = sym (less_is_true x v l) ∙ e in absurd cc))
+  failure_below ds (Some v) x f = ⊎_elim (λ l. l) (λ n. absurd (f.fails (λ l. absurd (n l)))) (less_or_not x v)
 
   below_trans : (bound : Option Atom) (y x : Atom) → IsLess y x → IsBelow bound x → IsBelow bound y
   below_trans None y x l h = tt
@@ -156,7 +151,7 @@ module _ (P : Atom → Type 0) where
 
   -- ---- by cases on one test more, of which the second looks below what the first has found
 
-  pub lesser_first : (ds : List (Option Bool)) (k : ℕ) (bound o p : Option Atom) → IsOpen ds k → IsFirstFailure (Below bound) (slice_set ds k (Some false)) o → IsFirstFailure (Below (option_or o bound)) (slice_set ds k (Some true)) p → IsFirstFailure (Below bound) ds (option_or p o)
+  lesser_first : (ds : List (Option Bool)) (k : ℕ) (bound o p : Option Atom) → IsOpen ds k → IsFirstFailure (Below bound) (slice_set ds k (Some false)) o → IsFirstFailure (Below (option_or o bound)) (slice_set ds k (Some true)) p → IsFirstFailure (Below bound) ds (option_or p o)
   lesser_first ds k bound None None undecided low high = λ atom h. ⊎_elim (low atom) (high atom) (extends_cases ds k atom undecided h)
   lesser_first ds k bound None (Some y) undecided low high = record {
     within = extends_before ds k true y undecided high.within;
@@ -177,10 +172,12 @@ module _ (P : Atom → Type 0) where
       lower : IsLess y x
       lower = failure_below (slice_set ds k (Some true)) (Some x) y high
 
--- ---- one test more is decided
+  -- without a bound
+  pub unbounded : (ds : List (Option Bool)) (o : Option Atom) → IsFirstFailure (Below None) ds o → IsFirstFailure P ds o
+  unbounded ds None f = λ atom h. f atom h tt
+  unbounded ds (Some x) f = record { within = f.within; fails = λ p. f.fails (λ l. p); least = λ other h l. f.least other h l tt }
 
-pub decided_length : (ds : List (Option Bool)) (k : ℕ) (d : Option Bool) → length (slice_set ds k d) ≡ length ds
-decided_length ds k d = length-set ds k d
+-- ---- one test more is decided, and then open again
 
 pub decided_fewer : (ds : List (Option Bool)) (k : ℕ) (b : Bool) → IsOpen ds k → open_count (slice_set ds k (Some b)) < open_count ds
 decided_fewer [] k b undecided = absurd cc
@@ -188,3 +185,31 @@ decided_fewer (None ∷ ds) zero b undecided = omega arith
 decided_fewer (Some a ∷ ds) zero b undecided = absurd cc
 decided_fewer (None ∷ ds) (suc k) b undecided = omega (arith, decided_fewer ds k b undecided)
 decided_fewer (Some a ∷ ds) (suc k) b undecided = decided_fewer ds k b undecided
+
+open_again : (ds : List (Option Bool)) (k : ℕ) → IsOpen ds k → slice_set ds k None ≡ ds
+open_again [] k undecided = refl
+open_again (None ∷ ds) zero undecided = refl
+open_again (Some a ∷ ds) zero undecided = absurd cc
+open_again (d ∷ ds) (suc k) undecided = ap (λ l. d ∷ l) (open_again ds k undecided)
+
+pub restored : (ds low high : List (Option Bool)) (k : ℕ) → IsOpen ds k → low ≡ slice_set ds k (Some false) → high ≡ slice_set low k (Some true) → slice_set high k None ≡ ds
+restored ds low high k undecided e f =
+    ap (λ l. slice_set l k None) (f ∙ ap (λ l. slice_set l k (Some true)) e ∙ set-set ds k (Some false) (Some true)) ∙ set-set ds k (Some true) None ∙ open_again ds k undecided
+
+-- ---- what both halves of a search give
+
+options_or : {X Y : Type 0} (f : X → Y) (o p : Option X) → option_map f (option_or o p) ≡ option_or (option_map f o) (option_map f p)
+options_or f None p = refl
+options_or f (Some x) p = refl
+
+pub searched : (P : Atom → Type 0) {V : Type 0} (items : V → Atom) (ds : List (Option Bool)) (k : ℕ) (bound : Option Atom) (low high : Option V) → IsOpen ds k → IsFirstFailure (Below P bound) (slice_set ds k (Some false)) (option_map items low)
+    → IsFirstFailure (Below P (option_or (option_map items low) bound)) (slice_set ds k (Some true)) (option_map items high) → IsFirstFailure (Below P bound) ds (option_map items (option_or high low))
+searched P items ds k bound low high undecided first second =
+    subst (IsFirstFailure (Below P bound) ds) (sym (options_or items high low)) (lesser_first P ds k bound (option_map items low) (option_map items high) undecided first second)
+
+pub second_half : (P : Atom → Type 0) {V : Type 0} (items : V → Atom) (ds first : List (Option Bool)) (k : ℕ) (bound own : Option Atom) (low high found : Option V) → first ≡ slice_set ds k (Some false) → own ≡ option_or (option_map items low) bound → high ≡ found
+    → IsFirstFailure (Below P own) (slice_set first k (Some true)) (option_map items found) → IsFirstFailure (Below P (option_or (option_map items low) bound)) (slice_set ds k (Some true)) (option_map items high)
+second_half P items ds first k bound own low high found e f g told =
+    subst (λ o. IsFirstFailure (Below P (option_or (option_map items low) bound)) (slice_set ds k (Some true)) (option_map items o)) (sym g)
+    (subst (λ l. IsFirstFailure (Below P (option_or (option_map items low) bound)) l (option_map items found)) (ap (λ l. slice_set l k (Some true)) e ∙ set-set ds k (Some false) (Some true))
+    (subst (λ b. IsFirstFailure (Below P b) (slice_set first k (Some true)) (option_map items found)) f told))

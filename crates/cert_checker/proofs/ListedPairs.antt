@@ -1,15 +1,30 @@
 -- Ascending lists of numbers with the same members are one, so that a listed pair is found by its numbers.
-use Rattle.std.proofs.Common.{◌≡◌, ◌↔◌, ℕ, ◌<◌, inl, inr, ⊎_elim, List, [], ◌∷◌, length, refl, sym, subst, arith, true}
+use Rattle.std.proofs.Common.{◌≡◌, ◌↔◌, ℕ, ◌<◌, inl, inr, ⊎_elim, List, [], ◌∷◌, length, refl, sym, subst, arith, true, nat_eq}
 use mathlib.Core.Path.{ap₂}
+use Rattle.std.specs.Cmp.Lexicographic.{pointwise}
+use Rattle.std.proofs.lemmas.Bool.{and_parts, and_from, eqb-true, eq-eqb}
 use Rattle.kat_model.specs.Members.{Has, SameMembers}
 use Rattle.kat_model.proofs.Lists.{has_map, map_has}
 use Rattle.term_nodes.specs.NumberSets.{are_below, are_ascending, terms_of}
 use Rattle.certificate.proofs.Ascending.{ascending_tail, ascending_first}
 use Rattle.term_nodes.proofs.Parts.{below_has}
-use Rattle.cert_checker.specs.Working.NodeTables.{TableParts, AreTables, term_at, nodes_in}
+use Rattle.checker_steps.specs.NodeTables.{TableParts, AreTables, term_at, nodes_in}
 use Rattle.term_nodes.proofs.TermTrees.{one_id_a_tree}
 
-pub ascending_same : (ks ls : List ℕ) → are_ascending ks ≡ true → are_ascending ls ≡ true → ((k : ℕ) → Has ks k ↔ Has ls k) → ks ≡ ls
+-- lists of numbers that are compared place by place
+pub same_pointwise : (ks ls : List ℕ) → pointwise nat_eq ks ls ≡ true → ks ≡ ls
+same_pointwise [] [] e = refl
+same_pointwise [] (l ∷ ls) e = absurd cc
+same_pointwise (k ∷ ks) [] e = absurd cc
+same_pointwise (k ∷ ks) (l ∷ ls) e =
+    let parts = and_parts (nat_eq k l) (pointwise nat_eq ks ls) e in
+    ap₂ (λ (z : ℕ) (zs : List ℕ). z ∷ zs) (eqb-true k l parts.0) (same_pointwise ks ls parts.1)
+
+pub pointwise_itself : (ks : List ℕ) → pointwise nat_eq ks ks ≡ true
+pointwise_itself [] = refl
+pointwise_itself (k ∷ ks) = and_from (nat_eq k k) (pointwise nat_eq ks ks) (eq-eqb k k refl) (pointwise_itself ks)
+
+ascending_same : (ks ls : List ℕ) → are_ascending ks ≡ true → are_ascending ls ≡ true → ((k : ℕ) → Has ks k ↔ Has ls k) → ks ≡ ls
 ascending_same [] [] a b same = refl
 ascending_same [] (y ∷ ls) a b same = absurd ((same y).1 (inl refl))
 ascending_same (x ∷ ks) [] a b same = absurd ((same x).0 (inl refl))

@@ -1,42 +1,78 @@
 -- Tests to be decided next, and what is known where there is none.
-use Rattle.std.proofs.Common.{◌≡◌, ℕ, ◌<◌, suc, ⊎_elim, List, length, drop, drop-cons, get_or, refl, sym, ◌∙◌, subst, Bool, true, false, Some, None}
+use Rattle.std.proofs.Common.{◌≡◌, ℕ, ◌+◌, ◌<◌, inl, inr, ⊎_elim, List, [], ◌∷◌, length, get_or, take, refl, sym, ap, ◌∙◌, subst, Bool, Option, Some, None}
+use Rattle.std.specs.Option.{MatchOption}
+use Rattle.std.proofs.lemmas.List.{take_more}
+use Rattle.kat_model.specs.Members.{Has, IsSubset}
+use Rattle.kat_model.proofs.Lists.{has_append}
 use Rattle.certificate.specs.PairParts.{PairParts}
+use Rattle.checker_steps.specs.Targets.{guard_of}
+use Rattle.checker_steps.proofs.ChosenTargets.{guard_member}
+use Rattle.cert_checker.specs.declared.known.Case.{Case}
 use Rattle.cert_checker.specs.declared.known.Known.{Known}
 use Rattle.cert_checker.specs.declared.known.Known.TheVariants.{Value, Waits as WaitsFor}
-use Rattle.cert_checker.specs.declared.moves.State.{State}
-use Rattle.cert_checker.specs.declared.moves.State.TheVariants.{Waits, WaitsAfter}
-use Rattle.cert_checker.specs.Working.Cases.{known_and}
-use Rattle.cert_checker.specs.Working.Matching.{known_of, next_of, IsNext, IsSettled, AreTestsSettled, AreMovesSettled}
-use Rattle.cert_checker.proofs.StepAnswers.{waited}
+use Rattle.cert_checker.specs.Working.Cases.{known_of, known_test}
+use Rattle.cert_checker.specs.Working.Questions.{QuestionParts, IsWaited}
+use Rattle.cert_checker.specs.Working.Matching.{AreSettled, AreSettledAmong, IsWaitedBy, AreTestsSettled}
 
-module _ (first second : List Known) where
-  by_values : (x y : Known) (g h : ℕ) (s : State) → known_of first g ≡ x → known_of second h ≡ y → next_of x y ≡ Some s → IsNext first second s
-  by_values (WaitsFor k) (WaitsFor l) g h s e f n = let same : Waits k ≡ s = cc in subst (IsNext first second) same (waited first g k e)
-  by_values (WaitsFor k) (Value true) g h s e f n = let same : Waits k ≡ s = cc in subst (IsNext first second) same (waited first g k e)
-  by_values (WaitsFor k) (Value false) g h s e f n = absurd cc
-  by_values (Value true) (WaitsFor k) g h s e f n = let same : WaitsAfter k ≡ s = cc in subst (IsNext first second) same (waited second h k f)
-  by_values (Value true) (Value b) g h s e f n = absurd cc
-  by_values (Value false) y g h s e f n = absurd cc
+-- what waits for no test has a value
+pub has_value : (x : Known) → ((k : ℕ) → x ≡ WaitsFor k → ⊥) → (b : Bool) × (x ≡ Value b)
+has_value (Value b) never = (b, refl)
+has_value (WaitsFor k) never = absurd (never k refl)
 
-  pub next_waits : (g h : ℕ) (s : State) → next_of (known_of first g) (known_of second h) ≡ Some s → IsNext first second s
-  next_waits g h s n = by_values (known_of first g) (known_of second h) g h s refl refl n
+-- all guards are settled where those are that are left, and these are among them
+pub record AreLeft (known : List Known) (es rest : List (ℕ × ℕ)) : Type 0 where
+  pub settled : AreSettled known rest → AreSettled known es
+  pub within : IsSubset rest es
 
-settled_value : (x y : Known) → next_of x y ≡ None → (b : Bool) × (known_and x y ≡ Value b)
-settled_value (WaitsFor k) (WaitsFor l) n = absurd cc
-settled_value (WaitsFor k) (Value true) n = absurd cc
-settled_value (WaitsFor k) (Value false) n = (false, refl)
-settled_value (Value true) (WaitsFor k) n = absurd cc
-settled_value (Value true) (Value b) n = (b, refl)
-settled_value (Value false) y n = (false, refl)
+module _ (known : List Known) (es : List (ℕ × ℕ)) where
+  -- ---- the guards of some terms
 
--- one pair of tests more is settled
-pub settled_more : (first second : List Known) (fs : List (ℕ × ℕ)) (i : ℕ) (d : ℕ × ℕ) → i < length fs → next_of (known_of first (get_or fs i d).0) (known_of second (get_or fs i d).1) ≡ None → AreMovesSettled (drop (suc i) fs) first second → AreMovesSettled (drop i fs) first second
-settled_more first second fs i d low n rest =
-    subst (λ l. AreMovesSettled l first second) (sym (drop-cons fs i d low))
-    (λ g h. ⊎_elim (λ s. subst (λ (z : ℕ × ℕ). (b : Bool) × (known_and (known_of first z.0) (known_of second z.1) ≡ Value b)) s (settled_value (known_of first (get_or fs i d).0) (known_of second (get_or fs i d).1) n)) (λ k. rest g k) h)
+  among_more : (terms : List ℕ) (i : ℕ) → i < length terms → ((g : ℕ) → guard_of es (get_or terms i 0) ≡ Some g → (b : Bool) × (known_of known g ≡ Value b)) → AreSettledAmong known es (take i terms) → AreSettledAmong known es (take (i + 1) terms)
+  among_more terms i low here before k g h at =
+      ⊎_elim
+      (λ l. before k g l at)
+      (λ m. ⊎_elim (λ e. here g (ap (guard_of es) e ∙ at)) absurd m)
+      (has_append (take i terms) (get_or terms i 0 ∷ []) k (subst (λ (l : List ℕ). Has l k) (take_more terms i 0 low) h))
 
--- one test of a pair more is settled
-pub tests_settled_more : (second : List Known) (ps : List PairParts) (i : ℕ) (p : PairParts) → i < length ps → p ≡ get_or ps i p → IsSettled second p.test → AreTestsSettled second (drop (suc i) ps) → AreTestsSettled second (drop i ps)
-tests_settled_more second ps i p low at settled rest =
-    subst (AreTestsSettled second) (sym (drop-cons ps i p low))
-    (λ q h. ⊎_elim (λ s. subst (λ (z : PairParts). IsSettled second z.test) (at ∙ s) settled) (λ k. rest q k) h)
+  pub among_absent : (terms : List ℕ) (i : ℕ) → i < length terms → guard_of es (get_or terms i 0) ≡ None → AreSettledAmong known es (take i terms) → AreSettledAmong known es (take (i + 1) terms)
+  among_absent terms i low none = among_more terms i low (λ g at. let f : None ≡ Some g = sym none ∙ at in absurd cc)
+
+  pub among_value : (terms : List ℕ) (i h : ℕ) → i < length terms → guard_of es (get_or terms i 0) ≡ Some h → (b : Bool) × (known_of known h ≡ Value b) → AreSettledAmong known es (take i terms) → AreSettledAmong known es (take (i + 1) terms)
+  among_value terms i h low is value =
+      among_more terms i low (λ g at. let same : h ≡ g = (let f : Some h ≡ Some g = sym is ∙ at in cc) in subst (λ (j : ℕ). (b : Bool) × (known_of known j ≡ Value b)) same value)
+
+  pub guard_waits : (term g k : ℕ) → guard_of es term ≡ Some g → known_of known g ≡ WaitsFor k → IsWaitedBy known es k
+  guard_waits term g k at e = ((term, g), guard_member term es g at, e)
+
+  -- ---- all guards
+
+  pub left_next : (rest more : List (ℕ × ℕ)) (d : ℕ × ℕ) → rest ≡ d ∷ more → (b : Bool) × (known_of known d.1 ≡ Value b) → AreLeft known es rest → AreLeft known es more
+  left_next rest more d cut value left = record {
+    settled = λ s. left.settled (subst (AreSettled known) (sym cut) (λ e h. ⊎_elim (λ same. subst (λ (z : ℕ × ℕ). (b : Bool) × (known_of known z.1 ≡ Value b)) same value) (s e) h));
+    within = λ e h. left.within e (subst (λ (l : List (ℕ × ℕ)). Has l e) (sym cut) (inr h));
+  }
+
+  pub left_waits : (rest more : List (ℕ × ℕ)) (d : ℕ × ℕ) → rest ≡ d ∷ more → AreLeft known es rest → (k : ℕ) → known_of known d.1 ≡ WaitsFor k → IsWaitedBy known es k
+  left_waits rest more d cut left k e = (d, left.within d (subst (λ (l : List (ℕ × ℕ)). Has l d) (sym cut) (inl refl)), e)
+
+  pub left_none : (rest : List (ℕ × ℕ)) → rest ≡ [] → AreLeft known es rest → AreSettled known es
+  left_none rest none left = left.settled (λ e h. absurd (subst (λ (l : List (ℕ × ℕ)). Has l e) none h))
+
+-- ---- the tests of pairs
+
+module _ (q : QuestionParts) (c : Case) where
+  pub pair_waits : (p : PairParts) → Has q.pairs p → (k : ℕ) → known_test c.end.items p.test ≡ WaitsFor k → IsWaited q c k
+  pair_waits p h k e = go p.test refl e
+    where
+      go : (o : Option ℕ) → p.test ≡ o → known_test c.end.items o ≡ WaitsFor k → IsWaited q c k
+      go None is w = absurd cc
+      go (Some g) is w = (g, inr (inr (p, h, is), w))
+
+-- one pair more has a test with a value
+pub pairs_more : (known : List Known) (ps : List PairParts) (i : ℕ) (p : PairParts) (o : Option ℕ) (W : ℕ → Type 0) → i < length ps → p ≡ get_or ps i p → (b : Bool) × (known_test known p.test ≡ Value b) → MatchOption o (AreTestsSettled known (take i ps)) W → MatchOption o (AreTestsSettled known (take (i + 1) ps)) W
+pairs_more known ps i p (Some k) W low is value h = h
+pairs_more known ps i p None W low is value h = λ r m.
+    ⊎_elim
+    (h r)
+    (λ s. ⊎_elim (λ same. subst (λ (z : PairParts). (b : Bool) × (known_test known z.test ≡ Value b)) (is ∙ same) value) absurd s)
+    (has_append (take i ps) (get_or ps i p ∷ []) r (subst (λ (l : List PairParts). Has l r) (take_more ps i p low) m))

@@ -38,11 +38,11 @@ use Rattle.cert_checker.specs.Answers.{Shows, Turn, turn_of, IsEarlier, IsLess, 
 use Rattle.cert_checker.specs.Laws.{ShownIsSo, HasOneAnswer}
 use Rattle.cert_checker.proofs.LeastFailures.{less_total}
 
-pub three_ways : (m n : ℕ) → (m < n) ⊎ ((m ≡ n) ⊎ (n < m))
+three_ways : (m n : ℕ) → (m < n) ⊎ ((m ≡ n) ⊎ (n < m))
 three_ways m n = grind arith
 
 -- of two turns one is earlier, or they are one
-turns_total : (s t : Turn) → (s.stage ≡ t.stage → length s.atom ≡ length t.atom) → (s.stage ≡ t.stage → s.action ≡ t.action → length s.to ≡ length t.to) → IsEarlier s t ⊎ ((s ≡ t) ⊎ IsEarlier t s)
+pub turns_total : (s t : Turn) → (s.stage ≡ t.stage → length s.atom ≡ length t.atom) → (s.stage ≡ t.stage → s.action ≡ t.action → length s.to ≡ length t.to) → IsEarlier s t ⊎ ((s ≡ t) ⊎ IsEarlier t s)
 turns_total s t long far =
     ⊎_elim
     (λ l. inl (inl l))
@@ -112,7 +112,7 @@ no_step q c k l a b m n to f g = go c.style f.4 g.5
     go Under x y = x tt
 
 -- how long the atom is that an action leads to
-to_length : (q : ProblemParts) (c : CertParts) (r s : Reason) → FailsBy q c r → FailsBy q c s → (turn_of r).stage ≡ (turn_of s).stage → (turn_of r).action ≡ (turn_of s).action → length (turn_of r).to ≡ length (turn_of s).to
+pub to_length : (q : ProblemParts) (c : CertParts) (r s : Reason) → FailsBy q c r → FailsBy q c s → (turn_of r).stage ≡ (turn_of s).stage → (turn_of r).action ≡ (turn_of s).action → length (turn_of r).to ≡ length (turn_of s).to
 to_length q c (MissingTo k a m to) (MissingTo l b n also) f g e h = f.4 ∙ sym g.4
 to_length q c (MissingTo k a m to) (Missing l b n) f g e h = absurd (no_step q c l k b a n m to g f)
 to_length q c (Missing k a m) (MissingTo l b n to) f g e h = absurd (no_step q c k l a b m n to f g)

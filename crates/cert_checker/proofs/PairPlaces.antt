@@ -1,6 +1,7 @@
 -- The first reason of one turn, from what is known of the pairs gone through: outputs or one action.
-use Rattle.std.proofs.Common.{◌≡◌, ◌↔◌, ℕ, zero, suc, ◌+◌, ◌<◌, ◌⊎◌, inl, inr, ⊎_elim, [], ◌∷◌, ◌++◌, take, drop, length, slice_get, refl, sym, ap, ◌∙◌, subst, arith, add-one, Option, Some, None}
-use Rattle.std.proofs.lemmas.Option.{slice_get_within}
+use Rattle.std.proofs.Common.{◌≡◌, ◌↔◌, ℕ, zero, suc, ◌+◌, ◌<◌, ◌⊎◌, inl, inr, ⊎_elim, List, [], ◌∷◌, ◌++◌, take, drop, length, get_or, slice_get, refl, sym, ap, ◌∙◌, subst, arith, add-one, Option, Some, None}
+use Rattle.std.specs.Option.{option_map}
+use Rattle.std.proofs.lemmas.Option.{slice_get_within, slice_get_read, slice_get-map}
 use Rattle.std.proofs.Math.Seq.{take-append_seam, drop-append_seam}
 use Rattle.std.proofs.lemmas.List.{length-map, length-take-le, length-drop, length-append, take-append-drop}
 use Rattle.kat_model.specs.Problems.{ProblemParts}
@@ -8,15 +9,15 @@ use Rattle.kat_model.specs.Steps.{Atom}
 use Rattle.kat_model.specs.TestedPairs.{TestedPair}
 use Rattle.certificate.specs.declared.nodes.Style.{Style}
 use Rattle.certificate.specs.declared.nodes.Style.TheVariants.{Plain, UpTo, Under}
-use Rattle.certificate.specs.Certs.{CertParts}
-use Rattle.certificate.specs.Accepted.{tested_pairs}
+use Rattle.certificate.specs.PairParts.{PairParts}
+use Rattle.certificate.specs.Certs.{CertParts, nodes_of}
+use Rattle.certificate.specs.Accepted.{tested_pair_of, tested_pairs}
 use Rattle.cert_checker.specs.declared.answer.Reason.{Reason}
 use Rattle.cert_checker.specs.declared.answer.Reason.TheVariants.{FirstPair, Output, Missing, MissingTo, Shape, HypBroken, EndsAgree, TestNode, TermNode}
 use Rattle.cert_checker.specs.Answers.{Turn, turn_of, IsEarlier, IsLess, OutputsHold, StepHolds, MoveHolds, FailsBy}
 use Rattle.cert_checker.specs.Working.Cases.{Extends, IsFirstFailure}
-use Rattle.cert_checker.specs.Working.Places.{IsAmong, IsFirstOf, turn_number, place_of, undecided}
+use Rattle.cert_checker.specs.Working.Places.{IsAmong, IsFirstOf, TurnHolds, turn_number, place_of, undecided}
 use Rattle.cert_checker.proofs.Halves.{less_append, less_behind}
-use Rattle.cert_checker.proofs.PairTurns.{TurnHolds}
 
 -- values with no test decided are any of that many
 pub undecided_extends : (n : ℕ) (x : Atom) → length x ≡ n → Extends (undecided n) x
@@ -50,8 +51,8 @@ place_turn Under k atom (Some a) to = (refl, refl, refl, sym (add-one a))
 
 module _ (q : ProblemParts) (c : CertParts) (action : Option ℕ) where
   -- the pair at the place holds at each two atoms, of its outputs or of the action
-  abbrev pub PairHolds : ℕ → Type 0
-  PairHolds k = (p : TestedPair) → slice_get (tested_pairs c) k ≡ Some p → (atom to : Atom) → length atom ≡ q.tests → length to ≡ q.tests → TurnHolds c.style q c p action atom to
+  abbrev pub HoldsAtEach : ℕ → Type 0
+  HoldsAtEach k = (p : TestedPair) → slice_get (tested_pairs c) k ≡ Some p → (atom to : Atom) → length atom ≡ q.tests → length to ≡ q.tests → TurnHolds c.style q c p action atom to
 
   -- it holds at the first and the second half of the values
   abbrev pub HoldsAtHalves : TestedPair → Atom → Type 0
@@ -69,7 +70,7 @@ module _ (q : ProblemParts) (c : CertParts) (action : Option ℕ) where
   both_extend : (atom to : Atom) → length atom ≡ q.tests → length to ≡ q.tests → Extends (undecided (q.tests + q.tests)) (atom ++ to)
   both_extend atom to l m = undecided_extends (q.tests + q.tests) (atom ++ to) (omega (arith, l, m, length-append atom to))
 
-  pub pair_holds : (k : ℕ) (p : TestedPair) → slice_get (tested_pairs c) k ≡ Some p → IsFirstFailure (HoldsAtHalves p) (undecided (q.tests + q.tests)) None → PairHolds k
+  pub pair_holds : (k : ℕ) (p : TestedPair) → slice_get (tested_pairs c) k ≡ Some p → IsFirstFailure (HoldsAtHalves p) (undecided (q.tests + q.tests)) None → HoldsAtEach k
   pair_holds k p is f r h atom to l m =
       subst (λ z. TurnHolds c.style q c z action atom to) (one_pair k k r p refl h is)
       (halves_hold p atom to l (f (atom ++ to) (both_extend atom to l m)))
@@ -94,7 +95,7 @@ module _ (q : ProblemParts) (c : CertParts) (action : Option ℕ) where
   within_pairs : (k : ℕ) (p : TestedPair) → slice_get (tested_pairs c) k ≡ Some p → k < length c.pairs
   within_pairs k p e = subst (λ n. k < n) (length-map c.pairs _) (slice_get_within (tested_pairs c) k p e)
 
-  pub none_fails : ((k : ℕ) → k < length c.pairs → PairHolds k) → IsFirstOf q c (λ n. n ≡ turn_number action) None
+  pub none_fails : ((k : ℕ) → k < length c.pairs → HoldsAtEach k) → IsFirstOf q c (λ n. n ≡ turn_number action) None
   none_fails all (Output k atom) a = λ p e l. outputs_of c.style action p atom atom (sym a.1) (all k (within_pairs k p e) p e atom atom l l)
   none_fails all (Missing k atom m) a = λ p e l low. step_of c.style action m p atom atom (sym a.1) (all k (within_pairs k p e) p e atom atom l l)
   none_fails all (MissingTo k atom m to) a = λ p e l low wide. move_of c.style action m p atom to (sym a.1) (all k (within_pairs k p e) p e atom to l wide)
@@ -105,7 +106,7 @@ module _ (q : ProblemParts) (c : CertParts) (action : Option ℕ) where
   none_fails all (TestNode k) a = tt
   none_fails all (TermNode k) a = tt
 
-  module _ (low : turn_number action < q.actions + 1) (k : ℕ) (p : TestedPair) (is : slice_get (tested_pairs c) k ≡ Some p) (before : (j : ℕ) → j < k → PairHolds j)
+  module _ (low : turn_number action < q.actions + 1) (k : ℕ) (p : TestedPair) (is : slice_get (tested_pairs c) k ≡ Some p) (before : (j : ℕ) → j < k → HoldsAtEach j)
       (x : Atom) (f : IsFirstFailure (HoldsAtHalves p) (undecided (q.tests + q.tests)) (Some x)) where
     abbrev front : Atom
     front = take q.tests x
@@ -196,6 +197,13 @@ module _ (q : ProblemParts) (c : CertParts) (action : Option ℕ) where
 
     pub first_fails : IsFirstOf q c (λ n. n ≡ turn_number action) (Some (place_of c.style k (take q.tests x) action (drop q.tests x)))
     first_fails = ((turn.0, turn.3), place_fails c.style refl action low f.fails, none)
+
+-- the pair that is gone through
+pub pair_at : (ps items : List PairParts) (k : ℕ) (p : PairParts) → items ≡ ps → k < length items → p ≡ get_or items k p → slice_get ps k ≡ Some p
+pair_at ps items k p e low is = ap (λ (l : List PairParts). slice_get l k) (sym e) ∙ slice_get_read items (length items) k p refl low is
+
+pub tested_at : (c : CertParts) (k : ℕ) (p : PairParts) → slice_get c.pairs k ≡ Some p → slice_get (tested_pairs c) k ≡ Some (tested_pair_of (nodes_of c) p)
+tested_at c k p e = slice_get-map (tested_pair_of (nodes_of c)) c.pairs k ∙ ap (option_map (tested_pair_of (nodes_of c))) e
 
 -- turns named in another way
 pub first_of_same : (q : ProblemParts) (c : CertParts) (T U : ℕ → Type 0) (o : Option Reason) → ((n : ℕ) → T n ↔ U n) → IsFirstOf q c T o → IsFirstOf q c U o

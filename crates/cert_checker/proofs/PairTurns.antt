@@ -1,44 +1,38 @@
 -- What a question about a pair says of the certificate, in each style.
-use Rattle.std.proofs.Common.{◌≡◌, ◌↔◌, ℕ, ◌<◌, inl, inr, List, [], ◌∷◌, map, take, drop, length, refl, sym, ap, ◌∙◌, subst, true, Option, Some, None}
+use Rattle.std.proofs.Common.{◌≡◌, ◌↔◌, ℕ, ◌<◌, ◌≤◌, ◌+◌, inl, inr, ⊎_elim, List, [], ◌∷◌, map, take, drop, length, refl, sym, ap, ◌∙◌, subst, arith, Bool, true, false, cond, Option, Some, None}
 use mathlib.Core.Path.{ap₂}
 use Rattle.std.specs.Bool.{IsTrue}
-use Rattle.std.specs.Option.{option_map}
-use Rattle.kat_model.specs.Trees.{Term}
+use Rattle.std.specs.Option.{option_map, option_map_or}
+use Rattle.kat_model.specs.declared.limits.TheConstants.{MAX_TESTS}
+use Rattle.kat_model.specs.Trees.{Term, one}
 use Rattle.kat_model.specs.Problems.{ProblemParts}
-use Rattle.kat_model.specs.Members.{Has}
-use Rattle.kat_model.specs.Steps.{Atom, truth, set_next}
+use Rattle.kat_model.specs.Members.{Has, SameMembers}
+use Rattle.kat_model.specs.Steps.{Atom, truth, set_out, set_next}
 use Rattle.kat_model.specs.Closed.{closed}
 use Rattle.kat_model.specs.Pairs.{SetPair, plain, up_to, AreMatched, IsCongruent}
 use Rattle.kat_model.specs.TestedPairs.{TestedPair, pairs_at}
+use Rattle.kat_model.proofs.Lists.{same_members_sym, same_members_trans}
 use Rattle.term_nodes.specs.NodeLists.{NodeParts}
-use Rattle.term_nodes.specs.NumberSets.{are_below, terms_of, set_pairs_of}
+use Rattle.term_nodes.specs.NumberSets.{IsNumberSet, are_below, terms_of, set_pairs_of}
+use Rattle.term_nodes.proofs.Parts.{below_more}
+use Rattle.term_nodes.proofs.Prefixes.{IsPrefix-within}
 use Rattle.certificate.specs.declared.nodes.Style.{Style}
 use Rattle.certificate.specs.declared.nodes.Style.TheVariants.{Plain, UpTo, Under}
 use Rattle.certificate.specs.PairParts.{PairParts, sets_of}
 use Rattle.certificate.specs.Certs.{CertParts, IsCert, IsPairOf, HasItsTest, nodes_of, number_pairs}
 use Rattle.certificate.specs.Accepted.{set_pairs, test_of, tested_pair_of, tested_pairs}
-use Rattle.cert_checker.specs.declared.roots.Roots.{Roots}
-use Rattle.cert_checker.specs.declared.cases.PairTest.{PairTest}
-use Rattle.cert_checker.specs.declared.cases.PairTest.TheVariants.{Outputs, Steps}
-use Rattle.cert_checker.specs.Answers.{OutputsHold, StepHolds, MoveHolds}
-use Rattle.cert_checker.specs.Working.NodeTables.{TableParts, TablesGrow, tables_of, term_at, nodes_in}
-use Rattle.cert_checker.specs.Working.Roots.{AreRoots, compared, counted_short}
-use Rattle.cert_checker.specs.Working.Matching.{RuleParts, Counts, AreMatchedIn, rules_of, test_holds}
-use Rattle.cert_checker.specs.Working.Places.{AsksFor, IsAskedOf, SaysAt, IsAllowed, AreForbidden}
-use Rattle.cert_checker.specs.Working.Questions.{IsSo}
+use Rattle.checker_steps.specs.NodeTables.{TableParts, TablesGrow, IsTest, tables_of, term_at, nodes_in}
+use Rattle.checker_steps.specs.Targets.{AreEntries, StandFor, chosen}
+use Rattle.checker_steps.proofs.StepSets.{stand_kept}
+use Rattle.cert_checker.specs.declared.places.Turn.{Turn}
+use Rattle.cert_checker.specs.Working.Cases.{IsFirstFailure}
+use Rattle.cert_checker.specs.Working.Indices.{AreIndexed}
+use Rattle.cert_checker.specs.Working.Roots.{compared, counted_short}
+use Rattle.cert_checker.specs.Working.Questions.{IsQuestion, Counts, AreMatchedIn, MatchAt, test_holds}
+use Rattle.cert_checker.specs.Working.Places.{PassParts, IsPass, IsTurn, IsAllowed, TurnHolds, PairHolds, led_to, question_of, undecided}
 use Rattle.cert_checker.proofs.RootRanges.{terms_stay}
-
--- what has to hold of a pair at two atoms, of its outputs or of an action
-abbrev pub TurnHolds : Style → ProblemParts → CertParts → TestedPair → Option ℕ → Atom → Atom → Type 0
-TurnHolds s q c p None atom to = OutputsHold s q p atom
-TurnHolds Plain q c p (Some a) atom to = StepHolds Plain q c p atom a
-TurnHolds UpTo q c p (Some a) atom to = StepHolds UpTo q c p atom a
-TurnHolds Under q c p (Some a) atom to = MoveHolds Under q c p atom (record { act = a; atom = to })
-
--- a question is what it says, where the rules count
-so_says : (t : TableParts) (r : RuleParts) (question : PairTest) (x : Atom) → IsSo t r question x ↔ (Counts t r (take t.width x) (drop t.width x) → SaysAt t r question (take t.width x) (drop t.width x))
-so_says t r (Outputs y z) x = ((λ h. h), (λ h. h))
-so_says t r (Steps left right) x = ((λ h. h), (λ h. h))
+use Rattle.cert_checker.proofs.Passes.{pass_stays, turn_stays}
+use Rattle.cert_checker.proofs.SetQuestions.{matched_same}
 
 module _ (q : ProblemParts) (c : CertParts) (rules : IsCert c) (t : TableParts) (nodes : TablesGrow (tables_of q.tests c) t) where
   -- the sets and the test of a pair of the certificate
@@ -84,76 +78,210 @@ untested_all nodes (p ∷ ps) atom none = go p.test (none p (inl refl)) (unteste
     go None e rest = ap (λ l. record { left = terms_of nodes p.left; right = terms_of nodes p.right } ∷ l) rest
     go (Some k) e rest = absurd cc
 
-module _ (q : ProblemParts) (c : CertParts) (rules : IsCert c) (t : TableParts) (nodes : TablesGrow (tables_of q.tests c) t) (roots : Roots) (are : AreRoots c.style q t roots)
-    (p : PairParts) (listed : Has c.pairs p) (action : Option ℕ) (forbidden : List (ℕ × ℕ)) (tell : AreForbidden t c q action forbidden) where
-  -- the rules for the pair count where its test is true and the move is allowed
-  counts_told : (atom to : Atom) → Counts t (rules_of c roots.universal p.test forbidden) atom to ↔ (IsTrue (truth (tested_pair_of (nodes_of c) p).test atom) × IsAllowed (counted_short c.style q) action atom to)
-  counts_told atom to = (
-    (λ h. (sym (same atom) ∙ h.own, (tell.mean atom to).0 h.free)),
-    (λ h. record { own = same atom ∙ h.0; free = (tell.mean atom to).1 h.1 }),
+-- ---- what is asked of two sets
+
+-- the empty product under one condition and under another make one set where the conditions are the same
+same_condition : (b d : Bool) → SameMembers (cond b (one ∷ []) []) (cond d (one ∷ []) []) → b ≡ d
+same_condition true true s = refl
+same_condition false false s = refl
+same_condition true false s = absurd ((s one).0 (inl refl))
+same_condition false true s = absurd ((s one).1 (inl refl))
+
+-- with no pairs and no universal term only sets with the same members are congruent
+pub outputs_told : (t : TableParts) (left right : List (ℕ × ℕ)) (f g : Atom → Bool) → StandFor t left (λ atom. cond (f atom) (one ∷ []) []) → StandFor t right (λ atom. cond (g atom) (one ∷ []) []) → (atom to : Atom)
+    → AreMatchedIn (nodes_in t) UpTo None [] (chosen t left atom) (chosen t right atom) to ↔ (f atom ≡ g atom)
+outputs_told t left right f g own other atom to = (forth, back)
+  where
+    forth : AreMatchedIn (nodes_in t) UpTo None [] (chosen t left atom) (chosen t right atom) to → f atom ≡ g atom
+    forth m = ⊎_elim
+        (λ s. same_condition (f atom) (g atom)
+        (same_members_trans (cond (f atom) (one ∷ []) []) (chosen t left atom) (cond (g atom) (one ∷ []) []) (same_members_sym (chosen t left atom) (cond (f atom) (one ∷ []) []) (own.same atom))
+        (same_members_trans (chosen t left atom) (chosen t right atom) (cond (g atom) (one ∷ []) []) s (other.same atom))))
+        absurd
+        m
+
+    back : f atom ≡ g atom → AreMatchedIn (nodes_in t) UpTo None [] (chosen t left atom) (chosen t right atom) to
+    back e = inl
+        (same_members_trans (chosen t left atom) (cond (g atom) (one ∷ []) []) (chosen t right atom)
+        (subst (λ b. SameMembers (chosen t left atom) (cond b (one ∷ []) [])) e (own.same atom))
+        (same_members_sym (chosen t right atom) (cond (g atom) (one ∷ []) []) (other.same atom)))
+
+-- a property that holds where another does has the same first failure
+same_failure : (P Q : Atom → Type 0) (ds : List (Option Bool)) (o : Option Atom) → ((x : Atom) → P x ↔ Q x) → IsFirstFailure P ds o → IsFirstFailure Q ds o
+same_failure P Q ds None same f = λ x h. (same x).0 (f x h)
+same_failure P Q ds (Some x) same f = record {
+  within = f.within;
+  fails = λ h. f.fails ((same x).1 h);
+  least = λ other h l. (same other).0 (f.least other h l);
+}
+
+both_or : {A B C D : Type 0} → (A ↔ B) → (C ↔ D) → (A → C) ↔ (B → D)
+both_or x y = ((λ h b. y.0 (h (x.1 b))), (λ h a. y.1 (h (x.0 a))))
+
+both_trans : {A B C : Type 0} → (A ↔ B) → (B ↔ C) → A ↔ C
+both_trans x y = ((λ a. y.0 (x.0 a)), (λ c. x.1 (y.1 c)))
+
+by_path : {A B : Type 0} → A ≡ B → A ↔ B
+by_path e = ((λ h. subst (λ (P : Type 0). P) e h), (λ h. subst (λ (P : Type 0). P) (sym e) h))
+
+module _ (p : PassParts) (t : TableParts) (pass : IsPass p t) where
+  -- what is asked of two sets at an atom, and at the atom that an action leads to
+  abbrev IsAskedOf : Option ℕ → List Term → List Term → Atom → Atom → Type 0
+  IsAskedOf None es fs atom to = set_out es atom ≡ set_out fs atom
+  IsAskedOf (Some a) es fs atom to = AreMatchedIn (nodes_in t) p.cert.style (option_map (term_at t) p.roots.universal) p.cert.pairs (set_next es atom a) (set_next fs atom a) to
+
+  -- so a question asks about targets that stand for what the sets lead to
+  matched_told : (o : Option ℕ) (left right : List (ℕ × ℕ)) (es fs : List Term) → StandFor t left (led_to o es) → StandFor t right (led_to o fs) → (atom to : Atom)
+      → AreMatchedIn (nodes_in t) (option_map_or (λ a. p.cert.style) o UpTo) (option_map (term_at t) (option_map_or (λ a. p.roots.universal) o None)) (option_map_or (λ a. p.cert.pairs) o []) (chosen t left atom) (chosen t right atom) to ↔ IsAskedOf o es fs atom to
+  matched_told None left right es fs own other atom to = outputs_told t left right (set_out es) (set_out fs) own other atom to
+  matched_told (Some a) left right es fs own other atom to = (
+    (λ m. matched_same (nodes_in t) p.cert.style (option_map (term_at t) p.roots.universal) p.cert.pairs (chosen t left atom) (chosen t right atom) (set_next es atom a) (set_next fs atom a) to (own.same atom) (other.same atom) m),
+    (λ m. matched_same (nodes_in t) p.cert.style (option_map (term_at t) p.roots.universal) p.cert.pairs (set_next es atom a) (set_next fs atom a) (chosen t left atom) (chosen t right atom) to
+        (same_members_sym (chosen t left atom) (set_next es atom a) (own.same atom)) (same_members_sym (chosen t right atom) (set_next fs atom a) (other.same atom)) m),
   )
-    where
-      is : IsPairOf c p
-      is = rules.pairs p listed
-
-      same : (atom : Atom) → test_holds t p.test atom ≡ truth (test_of (nodes_of c) p.test) atom
-      same atom = ap (λ b. truth b atom) (test_kept q c rules t nodes p.test (test_there q c rules t nodes c.style (length c.test_nodes) p.test is.test))
-
-  both_or : {A B C D : Type 0} → (A ↔ B) → (C ↔ D) → (A → C) ↔ (B → D)
-  both_or x y = ((λ h b. y.0 (h (x.1 b))), (λ h a. y.1 (h (x.0 a))))
-
-  both_trans : {A B C : Type 0} → (A ↔ B) → (B ↔ C) → A ↔ C
-  both_trans x y = ((λ a. y.0 (x.0 a)), (λ c. x.1 (y.1 c)))
-
-  by_path : {A B : Type 0} → A ≡ B → A ↔ B
-  by_path e = ((λ h. subst (λ (P : Type 0). P) e h), (λ h. subst (λ (P : Type 0). P) (sym e) h))
 
   -- in a style without tests no pair has one
-  none_plain : c.style ≡ Plain → (r : PairParts) → Has c.pairs r → r.test ≡ None
-  none_plain e r h = subst (λ z. HasItsTest z (length c.test_nodes) r.test) e (rules.pairs r h).test
+  none_plain : p.cert.style ≡ Plain → (r : PairParts) → Has p.cert.pairs r → r.test ≡ None
+  none_plain e r h = subst (λ z. HasItsTest z (length p.cert.test_nodes) r.test) e (pass.cert.pairs r h).test
 
-  none_up_to : c.style ≡ UpTo → (r : PairParts) → Has c.pairs r → r.test ≡ None
-  none_up_to e r h = subst (λ z. HasItsTest z (length c.test_nodes) r.test) e (rules.pairs r h).test
+  none_up_to : p.cert.style ≡ UpTo → (r : PairParts) → Has p.cert.pairs r → r.test ≡ None
+  none_up_to e r h = subst (λ z. HasItsTest z (length p.cert.test_nodes) r.test) e (pass.cert.pairs r h).test
 
-  true_without : p.test ≡ None → (atom : Atom) → truth (test_of (nodes_of c) p.test) atom ≡ true
-  true_without e atom = ap (λ o. truth (test_of (nodes_of c) o) atom) e
-
-  universal_in : (s : Style) → c.style ≡ s → option_map (term_at t) roots.universal ≡ (compared s q).universal
-  universal_in s e = are.universal ∙ ap (λ z. (compared z q).universal) e
+  universal_in : (s : Style) → p.cert.style ≡ s → option_map (term_at t) p.roots.universal ≡ (compared s p.problem).universal
+  universal_in s e = pass.roots.universal ∙ ap (λ z. (compared z p.problem).universal) e
 
   module _ (es fs : List Term) (to : Atom) where
-    in_style : (s : Style) → c.style ≡ s → AreMatchedIn (nodes_in t) c.style (option_map (term_at t) roots.universal) c.pairs es fs to ≡ AreMatchedIn (nodes_in t) s (compared s q).universal c.pairs es fs to
-    in_style s e = λ i. AreMatchedIn (nodes_in t) (e i) (universal_in s e i) c.pairs es fs to
+    in_style : (s : Style) → p.cert.style ≡ s → AreMatchedIn (nodes_in t) p.cert.style (option_map (term_at t) p.roots.universal) p.cert.pairs es fs to ≡ AreMatchedIn (nodes_in t) s (compared s p.problem).universal p.cert.pairs es fs to
+    in_style s e = λ i. AreMatchedIn (nodes_in t) (e i) (universal_in s e i) p.cert.pairs es fs to
 
-    matched_plain : c.style ≡ Plain → AreMatchedIn (nodes_in t) c.style (option_map (term_at t) roots.universal) c.pairs es fs to ≡ AreMatched plain (closed q).universal (set_pairs c) es fs
-    matched_plain e = in_style Plain e ∙ ap (λ ps. AreMatched plain (closed q).universal ps es fs) (sets_kept q c rules t nodes)
+    matched_plain : p.cert.style ≡ Plain → AreMatchedIn (nodes_in t) p.cert.style (option_map (term_at t) p.roots.universal) p.cert.pairs es fs to ≡ AreMatched plain (closed p.problem).universal (set_pairs p.cert) es fs
+    matched_plain e = in_style Plain e ∙ ap (λ ps. AreMatched plain (closed p.problem).universal ps es fs) (sets_kept p.problem p.cert pass.cert t pass.nodes)
 
-    matched_up_to : c.style ≡ UpTo → AreMatchedIn (nodes_in t) c.style (option_map (term_at t) roots.universal) c.pairs es fs to ≡ AreMatched up_to (closed q).universal (set_pairs c) es fs
-    matched_up_to e = in_style UpTo e ∙ ap (λ ps. IsCongruent (closed q).universal ps es fs) (untested_all (nodes_in t) c.pairs to (none_up_to e) ∙ sets_kept q c rules t nodes)
+    matched_up_to : p.cert.style ≡ UpTo → AreMatchedIn (nodes_in t) p.cert.style (option_map (term_at t) p.roots.universal) p.cert.pairs es fs to ≡ AreMatched up_to (closed p.problem).universal (set_pairs p.cert) es fs
+    matched_up_to e = in_style UpTo e ∙ ap (λ ps. IsCongruent (closed p.problem).universal ps es fs) (untested_all (nodes_in t) p.cert.pairs to (none_up_to e) ∙ sets_kept p.problem p.cert pass.cert t pass.nodes)
 
-    matched_under : c.style ≡ Under → AreMatchedIn (nodes_in t) c.style (option_map (term_at t) roots.universal) c.pairs es fs to ≡ IsCongruent (compared Under q).universal (pairs_at (tested_pairs c) to) es fs
-    matched_under e = in_style Under e ∙ ap (λ ps. IsCongruent (compared Under q).universal (pairs_at ps to) es fs) (pairs_kept q c rules t nodes)
+    matched_under : p.cert.style ≡ Under → AreMatchedIn (nodes_in t) p.cert.style (option_map (term_at t) p.roots.universal) p.cert.pairs es fs to ≡ IsCongruent (compared Under p.problem).universal (pairs_at (tested_pairs p.cert) to) es fs
+    matched_under e = in_style Under e ∙ ap (λ ps. IsCongruent (compared Under p.problem).universal (pairs_at ps to) es fs) (pairs_kept p.problem p.cert pass.cert t pass.nodes)
 
-  -- what a style asks of the sets of the pair
-  asked_told : (s : Style) → c.style ≡ s → (o : Option ℕ) (atom to : Atom)
-      → (IsTrue (truth (test_of (nodes_of c) p.test) atom) × IsAllowed (counted_short s q) o atom to → IsAskedOf t (rules_of c roots.universal p.test forbidden) o (terms_of (nodes_of c) p.left) (terms_of (nodes_of c) p.right) atom to)
-      ↔ TurnHolds s q c (tested_pair_of (nodes_of c) p) o atom to
-  asked_told Plain e None atom to = ((λ h. h (true_without (none_plain e p listed) atom, refl)), (λ h _. h))
-  asked_told UpTo e None atom to = ((λ h. h (true_without (none_up_to e p listed) atom, refl)), (λ h _. h))
-  asked_told Under e None atom to = ((λ h allowed test. h (test, allowed)), (λ h both. h both.1 both.0))
-  asked_told Plain e (Some a) atom to =
-      let same = by_path (matched_plain (set_next (terms_of (nodes_of c) p.left) atom a) (set_next (terms_of (nodes_of c) p.right) atom a) to e) in
-      ((λ h. same.0 (h (true_without (none_plain e p listed) atom, record { from = refl; to = refl; move = refl }))), (λ h _. same.1 h))
-  asked_told UpTo e (Some a) atom to =
-      let same = by_path (matched_up_to (set_next (terms_of (nodes_of c) p.left) atom a) (set_next (terms_of (nodes_of c) p.right) atom a) to e) in
-      ((λ h. same.0 (h (true_without (none_up_to e p listed) atom, record { from = refl; to = refl; move = refl }))), (λ h _. same.1 h))
-  asked_told Under e (Some a) atom to =
-      let same = by_path (matched_under (set_next (terms_of (nodes_of c) p.left) atom a) (set_next (terms_of (nodes_of c) p.right) atom a) to e) in
-      ((λ h test allowed. same.0 (h (test, allowed))), (λ h both. same.1 (h both.0 both.1)))
+  module _ (r : PairParts) (listed : Has p.cert.pairs r) where
+    -- the test of a pair is one of the tables
+    pub test_in_tables : (k : ℕ) → r.test ≡ Some k → IsTest t k
+    test_in_tables k e = IsPrefix-within p.cert.test_nodes t.tests k pass.nodes.nodes.tests (test_there p.problem p.cert pass.cert t pass.nodes p.cert.style (length p.cert.test_nodes) r.test (pass.cert.pairs r listed).test k e)
 
-  -- a question about the pair is answered yes where the pair holds
-  pub turn_told : (question : PairTest) → AsksFor t action (terms_of (nodes_of c) p.left) (terms_of (nodes_of c) p.right) question → (x : Atom) → IsSo t (rules_of c roots.universal p.test forbidden) question x ↔ TurnHolds c.style q c (tested_pair_of (nodes_of c) p) action (take t.width x) (drop t.width x)
-  turn_told question asks x =
-      both_trans (so_says t (rules_of c roots.universal p.test forbidden) question x)
-      (both_trans (both_or (counts_told (take t.width x) (drop t.width x)) (asks (rules_of c roots.universal p.test forbidden) (take t.width x) (drop t.width x)))
-      (asked_told c.style refl action (take t.width x) (drop t.width x)))
+    true_without : r.test ≡ None → (atom : Atom) → truth (test_of (nodes_of p.cert) r.test) atom ≡ true
+    true_without e atom = ap (λ o. truth (test_of (nodes_of p.cert) o) atom) e
+
+    -- what a style asks of the sets of the pair
+    asked_told : (s : Style) → p.cert.style ≡ s → (o : Option ℕ) (atom to : Atom)
+        → (IsTrue (truth (test_of (nodes_of p.cert) r.test) atom) × IsAllowed (counted_short s p.problem) o atom to → IsAskedOf o (terms_of (nodes_of p.cert) r.left) (terms_of (nodes_of p.cert) r.right) atom to)
+        ↔ TurnHolds s p.problem p.cert (tested_pair_of (nodes_of p.cert) r) o atom to
+    asked_told Plain e None atom to = ((λ h. h (true_without (none_plain e r listed) atom, refl)), (λ h _. h))
+    asked_told UpTo e None atom to = ((λ h. h (true_without (none_up_to e r listed) atom, refl)), (λ h _. h))
+    asked_told Under e None atom to = ((λ h allowed test. h (test, allowed)), (λ h both. h both.1 both.0))
+    asked_told Plain e (Some a) atom to =
+        let same = by_path (matched_plain (set_next (terms_of (nodes_of p.cert) r.left) atom a) (set_next (terms_of (nodes_of p.cert) r.right) atom a) to e) in
+        ((λ h. same.0 (h (true_without (none_plain e r listed) atom, record { from = refl; to = refl; move = refl }))), (λ h _. same.1 h))
+    asked_told UpTo e (Some a) atom to =
+        let same = by_path (matched_up_to (set_next (terms_of (nodes_of p.cert) r.left) atom a) (set_next (terms_of (nodes_of p.cert) r.right) atom a) to e) in
+        ((λ h. same.0 (h (true_without (none_up_to e r listed) atom, record { from = refl; to = refl; move = refl }))), (λ h _. same.1 h))
+    asked_told Under e (Some a) atom to =
+        let same = by_path (matched_under (set_next (terms_of (nodes_of p.cert) r.left) atom a) (set_next (terms_of (nodes_of p.cert) r.right) atom a) to e) in
+        ((λ h test allowed. same.0 (h (test, allowed))), (λ h both. same.1 (h both.0 both.1)))
+
+    module _ (turn : Turn) (is : IsTurn p t turn) (left right : List (ℕ × ℕ)) where
+      -- the question about the pair counts where its test is true and the move is allowed
+      counts_told : (atom to : Atom) → Counts t (question_of p turn r.test left right) atom to ↔ (IsTrue (truth (test_of (nodes_of p.cert) r.test) atom) × IsAllowed (counted_short p.cert.style p.problem) turn.action atom to)
+      counts_told atom to = (
+        (λ h. (sym (same atom) ∙ h.own, (is.forbidden.mean atom to).0 h.free)),
+        (λ h. record { own = same atom ∙ h.0; free = (is.forbidden.mean atom to).1 h.1 }),
+      )
+        where
+          same : (atom : Atom) → test_holds t r.test atom ≡ truth (test_of (nodes_of p.cert) r.test) atom
+          same atom = ap (λ b. truth b atom) (test_kept p.problem p.cert pass.cert t pass.nodes r.test (test_there p.problem p.cert pass.cert t pass.nodes p.cert.style (length p.cert.test_nodes) r.test (pass.cert.pairs r listed).test))
+
+      -- it holds where the pair does
+      turn_told : StandFor t left (led_to turn.action (terms_of (nodes_of p.cert) r.left)) → StandFor t right (led_to turn.action (terms_of (nodes_of p.cert) r.right)) → (x : Atom)
+          → MatchAt t (question_of p turn r.test left right) x ↔ TurnHolds p.cert.style p.problem p.cert (tested_pair_of (nodes_of p.cert) r) turn.action (take t.width x) (drop t.width x)
+      turn_told own other x =
+          both_trans
+          (both_or (counts_told (take t.width x) (drop t.width x))
+          (matched_told turn.action left right (terms_of (nodes_of p.cert) r.left) (terms_of (nodes_of p.cert) r.right) own other (take t.width x) (drop t.width x)))
+          (asked_told p.cert.style refl turn.action (take t.width x) (drop t.width x))
+
+  -- ---- the question of a turn
+
+  set_in_tables : (ks : List ℕ) → IsNumberSet (length p.cert.term_nodes) ks → IsNumberSet (length t.terms) ks
+  set_in_tables ks s = record { there = below_more (length p.cert.term_nodes) (length t.terms) ks (omega (arith, pass.count, pass.there)) s.there; ascending = s.ascending }
+
+  listed_in : (o : Option ℕ) (r : PairParts) → Has (option_map_or (λ a. p.cert.pairs) o []) r → Has p.cert.pairs r
+  listed_in None r h = absurd h
+  listed_in (Some a) r h = h
+
+  indexed_in : (o : Option ℕ) → AreIndexed p.roots.index (option_map_or (λ a. p.cert.pairs) o [])
+  indexed_in None = λ k r e. absurd cc
+  indexed_in (Some a) = pass.indexed
+
+  universal_there : (o : Option ℕ) (u : ℕ) → option_map_or (λ a. p.roots.universal) o None ≡ Some u → u < length t.terms
+  universal_there None u e = absurd cc
+  universal_there (Some a) u e = pass.roots.universal_there u e
+
+  untested_in : (o : Option ℕ) → option_map_or (λ a. p.cert.style) o UpTo ≡ Plain → (r : PairParts) → Has (option_map_or (λ a. p.cert.pairs) o []) r → r.test ≡ None
+  untested_in None e r h = absurd h
+  untested_in (Some a) e r h = none_plain e r h
+
+  pub question_asked : (turn : Turn) → IsTurn p t turn → (own : Option ℕ) (left right : List (ℕ × ℕ)) → ((k : ℕ) → own ≡ Some k → IsTest t k) → AreEntries t left → AreEntries t right → IsQuestion t (question_of p turn own left right)
+  question_asked turn is own left right test first second = record {
+    pairs = λ r h. let of = pass.cert.pairs r (listed_in turn.action r h) in (set_in_tables r.left of.left, set_in_tables r.right of.right);
+    untested = untested_in turn.action;
+    indexed = indexed_in turn.action;
+    universal = universal_there turn.action;
+    own = test;
+    left = first;
+    right = second;
+    begin = is.begin;
+    end = is.end;
+    by_moves = λ g n. subst (Has turn.begin.keys) n.2 (is.by_moves n.0 n.1).0;
+    at_end = λ g n. ⊎_elim (λ m. subst (Has turn.end.keys) m.2 (is.by_moves m.0 m.1).1) (λ m. is.by_pairs m.0 g (listed_in turn.action m.0 m.1) m.2) n;
+  }
+
+  -- two atoms are not too wide to be gone through
+  pub narrow : t.width ≤ MAX_TESTS
+  narrow = omega (arith, pass.nodes.width, pass.problem.tests)
+
+-- ---- the pair that is gone through
+
+module _ (p : PassParts) (first mid last : TableParts) (begun : IsPass p first) (to_mid : TablesGrow first mid) (to_last : TablesGrow mid last) (turn : Turn) (is : IsTurn p first turn) (r : PairParts) (listed : Has p.cert.pairs r)
+    (left right : List (ℕ × ℕ)) (own : StandFor mid left (led_to turn.action (terms_of (nodes_in first) r.left))) (other : StandFor last right (led_to turn.action (terms_of (nodes_in mid) r.right))) where
+  half : IsPass p mid
+  half = pass_stays first mid to_mid p begun
+
+  whole : IsPass p last
+  whole = pass_stays mid last to_last p half
+
+  turns : IsTurn p last turn
+  turns = turn_stays mid last to_last p turn half (turn_stays first mid to_mid p turn begun is)
+
+  lefts : StandFor last left (led_to turn.action (terms_of (nodes_of p.cert) r.left))
+  lefts =
+      stand_kept mid last to_last.was to_last left (led_to turn.action (terms_of (nodes_of p.cert) r.left))
+      (subst (λ es. StandFor mid left (led_to turn.action es)) (set_kept p.problem p.cert begun.cert first begun.nodes r.left (begun.cert.pairs r listed).left.there) own)
+
+  rights : StandFor last right (led_to turn.action (terms_of (nodes_of p.cert) r.right))
+  rights = subst (λ es. StandFor last right (led_to turn.action es)) (set_kept p.problem p.cert begun.cert mid half.nodes r.right (begun.cert.pairs r listed).right.there) other
+
+  pub pair_asked : IsQuestion last (question_of p turn r.test left right)
+  pair_asked = question_asked p last whole turn turns r.test left right (test_in_tables p last whole r listed) lefts.entries rights.entries
+
+  pub pair_narrow : last.width ≤ MAX_TESTS
+  pair_narrow = narrow p last whole
+
+  -- the least values at which the question about it fails are those at which the pair does
+  pub pair_told : (o : Option Atom) → IsFirstFailure (MatchAt last (question_of p turn r.test left right)) (undecided (last.width + last.width)) o → IsFirstFailure (PairHolds p.problem p.cert turn.action r) (undecided (p.problem.tests + p.problem.tests)) o
+  pair_told o f =
+      subst (λ n. IsFirstFailure (PairHolds p.problem p.cert turn.action r) (undecided (n + n)) o) whole.nodes.width
+      (same_failure (MatchAt last (question_of p turn r.test left right)) (PairHolds p.problem p.cert turn.action r) (undecided (last.width + last.width)) o same f)
+    where
+      same : (x : Atom) → MatchAt last (question_of p turn r.test left right) x ↔ PairHolds p.problem p.cert turn.action r x
+      same x =
+          subst (λ n. MatchAt last (question_of p turn r.test left right) x ↔ TurnHolds p.cert.style p.problem p.cert (tested_pair_of (nodes_of p.cert) r) turn.action (take n x) (drop n x)) whole.nodes.width
+          (turn_told p last whole r listed turn turns left right lefts rights x)

@@ -18,11 +18,12 @@ use Rattle.term_nodes.proofs.Prefixes.{IsPrefix-within}
 use Rattle.term_nodes.proofs.Parts.{below_has, has_below, below_more}
 use Rattle.certificate.specs.declared.nodes.Style.{Style}
 use Rattle.certificate.specs.declared.nodes.Style.TheVariants.{Plain, UpTo, Under}
-use Rattle.cert_checker.specs.Working.NodeTables.{TableParts, AreTables, TablesGrow, IsTerm, term_at, nodes_in}
+use Rattle.checker_steps.specs.NodeTables.{TableParts, TablesGrow, IsTerm, term_at, nodes_in}
 use Rattle.cert_checker.specs.declared.roots.Roots.{Roots}
 use Rattle.cert_checker.specs.Working.Roots.{AreClosedBelow, AreRoots, compared}
 use Rattle.short_hyps.proofs.LongProblems.{long_is_problem}
-use Rattle.cert_checker.proofs.StepLists.{grows_longer}
+use Rattle.checker_steps.proofs.GrowingTables.{grows_trans}
+use Rattle.checker_steps.proofs.StepLists.{grows_longer}
 
 -- ---- ranges
 
@@ -96,16 +97,14 @@ below_push n ks k low h = has_below n (ks ++ k ∷ []) (λ j m. go ks low j m)
 
 -- the short ones so far, and those among the rest
 pub record AreShorts (first now : TableParts) (numbers : List ℕ) (rest all : List Term) : Type 0 where
-  pub tables : AreTables now
   pub grows : TablesGrow first now
   pub there : are_below (length now.terms) numbers ≡ true
   pub terms : terms_of (nodes_in now) numbers ++ filter is_short rest ≡ filter is_short all
 
 pub shorts_more : (first now new : TableParts) (numbers : List ℕ) (hyps : List Kat) (i k : ℕ) (x : Kat) (all : List Term) → AreShorts first now numbers (map kat_tree (drop i hyps)) all → i < length hyps → x ≡ get_or hyps i x → is_short (kat_tree x) ≡ true
-    → TablesGrow first new → TablesGrow now new → AreTables new → IsTerm new k → term_at new k ≡ kat_tree x → AreShorts first new (numbers ++ k ∷ []) (map kat_tree (drop (suc i) hyps)) all
-shorts_more first now new numbers hyps i k x all s low at short grows more are there tree = record {
-  tables = are;
-  grows = grows;
+    → TablesGrow now new → IsTerm new k → term_at new k ≡ kat_tree x → AreShorts first new (numbers ++ k ∷ []) (map kat_tree (drop (suc i) hyps)) all
+shorts_more first now new numbers hyps i k x all s low at short more there tree = record {
+  grows = grows_trans first now new s.grows more;
   there = below_push (length new.terms) numbers k (numbers_stay now new more numbers s.there) there;
   terms =
       ap (λ l. l ++ filter is_short (map kat_tree (drop (suc i) hyps))) (terms_push new numbers k ∙ ap₂ (λ (l : List Term) (e : Term). l ++ e ∷ []) (terms_stay now new more numbers s.there) tree)
@@ -119,7 +118,6 @@ shorts_more first now new numbers hyps i k x all s low at short grows more are t
 
 pub shorts_same : (first now : TableParts) (numbers : List ℕ) (hyps : List Kat) (i : ℕ) (x : Kat) (all : List Term) → AreShorts first now numbers (map kat_tree (drop i hyps)) all → i < length hyps → x ≡ get_or hyps i x → is_short (kat_tree x) ≡ false → AreShorts first now numbers (map kat_tree (drop (suc i) hyps)) all
 shorts_same first now numbers hyps i x all s low at short = record {
-  tables = s.tables;
   grows = s.grows;
   there = s.there;
   terms = ap (λ l. terms_of (nodes_in now) numbers ++ l) (sym next) ∙ s.terms;

@@ -1,7 +1,5 @@
--- What the tests of two lists of targets say of the question whether the rules match them.
-use Rattle.std.proofs.Common.{◌≡◌, ℕ, zero, suc, ◌<◌, inl, inr, ⊎_elim, List, [], ◌∷◌, map, length, slice_get, refl, sym, ap, ◌∙◌, subst, arith, Bool, true, false, nat_lt, nat_eq, ◌&&◌, cond, Option, Some, None}
-use mathlib.Core.Bool.{beq}
-use mathlib.Core.Path.{ap₂}
+-- What the tests of two lists of targets say of the question whether listed pairs match them.
+use Rattle.std.proofs.Common.{◌≡◌, ℕ, ◌<◌, ◌⊎◌, inl, inr, ⊎_elim, List, [], ◌∷◌, map, length, refl, sym, ap, ◌∙◌, subst, arith, Bool, true, false, nat_lt, nat_eq, ◌&&◌, ◌||◌, cond, Option, Some, None}
 use Rattle.std.specs.Option.{option_map, option_map_or}
 use Rattle.std.specs.List.{AllByRecursion}
 use Rattle.std.specs.List.Sorted.{IsStrictlySortedBy}
@@ -13,48 +11,29 @@ use Rattle.std.specs.Ordering.{nat_cmp, is_eq}
 use Rattle.std.proofs.lemmas.Bool.{true≢false, and_parts, and_from, eqb-true, eq-eqb, ltb-true}
 use Rattle.std.proofs.lemmas.Map.Keys.{sorted_head, sorted_tail}
 use Rattle.kat_model.specs.Trees.{Term}
-use Rattle.kat_model.specs.Members.{Has, SameMembers}
+use Rattle.kat_model.specs.Members.{Has, IsSubset, SameMembers}
 use Rattle.kat_model.specs.Steps.{Atom}
 use Rattle.kat_model.specs.Pairs.{SetPair, sat, BothUniversal, IsListed}
+use Rattle.kat_model.specs.TestedPairs.{pairs_at}
 use Rattle.kat_model.proofs.Lists.{has_any, any_has, has_map, map_has, same_members_sym, same_members_trans}
 use Rattle.kat_model.proofs.Saturation.{sat_keeps}
 use Rattle.certificate.specs.declared.nodes.Style.{Style}
 use Rattle.certificate.specs.declared.nodes.Style.TheVariants.{Plain, UpTo, Under}
-use Rattle.term_nodes.specs.NumberSets.{NumberPair, IsNumberSet, are_ascending, set_pairs_of, terms_of}
-use Rattle.certificate.specs.PairParts.{PairParts, sets_of}
+use Rattle.certificate.specs.PairParts.{PairParts}
 use Rattle.certificate.specs.Accepted.{tested_pair_of}
-use Rattle.kat_model.specs.TestedPairs.{pairs_at}
-use Rattle.cert_checker.specs.declared.known.Known.{Known}
-use Rattle.cert_checker.specs.declared.known.Known.TheVariants.{Value, Waits}
-use Rattle.cert_checker.specs.Working.NodeTables.{TableParts, AreTables, IsTerm, term_at, holds_at, nodes_in}
-use Rattle.cert_checker.specs.Working.Targets.{chosen, AreEntries}
-use Rattle.cert_checker.specs.Working.Cases.{Extends, AreKnown, IsWaited}
-use Rattle.cert_checker.specs.Working.Matching.{AreMatchedIn, known_of, truly, sure_targets, guard_of, is_sure, lists, AreSettled}
+use Rattle.term_nodes.specs.NumberSets.{NumberPair, IsNumberSet, are_ascending, set_pairs_of, terms_of}
 use Rattle.term_nodes.proofs.TermTrees.{one_id_a_tree}
-use Rattle.cert_checker.proofs.Covering.{chosen_has, has_chosen, known_value, truly_value, sure_chosen, guard_member, any_value}
+use Rattle.checker_steps.specs.NodeTables.{TableParts, AreTables, IsTerm, term_at, holds_at, nodes_in}
+use Rattle.checker_steps.specs.Targets.{chosen, guard_of, AreEntries}
+use Rattle.checker_steps.proofs.ChosenTargets.{chosen_has, has_chosen, guard_member, any_value}
+use Rattle.cert_checker.specs.declared.known.Known.{Known}
+use Rattle.cert_checker.specs.declared.known.Known.TheVariants.{Value}
+use Rattle.cert_checker.specs.Working.Cases.{known_of, truly, falsely}
+use Rattle.cert_checker.specs.Working.Questions.{AreMatchedIn}
+use Rattle.cert_checker.specs.Working.Matching.{sure_targets, open_targets, has_too, is_sure, lists, AreSettled, AreSettledAmong}
+use Rattle.cert_checker.proofs.Covering.{AreRight, truly_value, sure_chosen}
 use Rattle.cert_checker.proofs.Covered.{sure_below, settled_sure}
-use Rattle.cert_checker.proofs.ListedPairs.{same_numbers}
-
--- a guard that waits is there
-pub waits_there : (known : List Known) (g k : ℕ) → known_of known g ≡ Waits k → slice_get known g ≡ Some (Waits k)
-waits_there [] g k e = absurd cc
-waits_there (x ∷ known) zero k e = ap (λ (z : Known). Some z) e
-waits_there (x ∷ known) (suc g) k e = waits_there known g k e
-
-pub waited : (known : List Known) (g k : ℕ) → known_of known g ≡ Waits k → IsWaited known k
-waited known g k e = (g, waits_there known g k e)
-
-pub beq_same : (x y : Bool) → beq x y ≡ true → x ≡ y
-beq_same false false e = refl
-beq_same true true e = refl
-beq_same false true e = absurd cc
-beq_same true false e = absurd cc
-
-pub beq_other : (x y : Bool) → beq x y ≡ false → x ≡ y → ⊥
-beq_other false false e s = absurd cc
-beq_other true true e s = absurd cc
-beq_other false true e s = absurd cc
-beq_other true false e s = absurd cc
+use Rattle.cert_checker.proofs.ListedPairs.{same_numbers, same_pointwise, pointwise_itself}
 
 -- ---- keys of targets ascend
 
@@ -75,7 +54,7 @@ sure_above known x (e ∷ es) above a = go (truly (known_of known e.1)) (sure_ab
     go true rest h = and_from (nat_lt x e.0) _ (less_lt x e.0 above.0) h
     go false rest h = rest h
 
-pub sure_ascending : (known : List Known) (es : List (ℕ × ℕ)) → IsStrictlySortedBy nat_cmp (keys_of es) → are_ascending (sure_targets known es) ≡ true
+sure_ascending : (known : List Known) (es : List (ℕ × ℕ)) → IsStrictlySortedBy nat_cmp (keys_of es) → are_ascending (sure_targets known es) ≡ true
 sure_ascending known [] sorted = refl
 sure_ascending known (e ∷ es) sorted = go (truly (known_of known e.1)) (sure_ascending known es (sorted_tail nat_cmp e.0 (keys_of es) sorted))
   where
@@ -108,7 +87,7 @@ eq_is_eq x = go (nat_lt x x) (nat_eq x x) refl refl
     go false false s e = absurd (true≢false (sym (eq-eqb x x refl) ∙ e))
 
 -- the guard of a target is found
-pub guard_found : (es : List (ℕ × ℕ)) (e : ℕ × ℕ) → IsStrictlySortedBy nat_cmp (keys_of es) → Has es e → guard_of es e.0 ≡ Some e.1
+guard_found : (es : List (ℕ × ℕ)) (e : ℕ × ℕ) → IsStrictlySortedBy nat_cmp (keys_of es) → Has es e → guard_of es e.0 ≡ Some e.1
 guard_found [] e sorted h = absurd h
 guard_found (d ∷ es) e sorted h = ⊎_elim same (λ r. later (is_at (nat_cmp e.0) d.0) refl r (guard_found es e (sorted_tail nat_cmp d.0 (keys_of es) sorted) r)) h
   where
@@ -122,74 +101,97 @@ guard_found (d ∷ es) e sorted h = ⊎_elim same (λ r. later (is_at (nat_cmp e
         absurd (omega (arith, one, low))
     later false s r rest = rest
 
--- ---- lists of numbers
+-- ---- open terms
 
-same_pointwise : (ks ls : List ℕ) → pointwise nat_eq ks ls ≡ true → ks ≡ ls
-same_pointwise [] [] e = refl
-same_pointwise [] (l ∷ ls) e = absurd cc
-same_pointwise (k ∷ ks) [] e = absurd cc
-same_pointwise (k ∷ ks) (l ∷ ls) e =
-    let parts = and_parts (nat_eq k l) (pointwise nat_eq ks ls) e in
-    ap₂ (λ (z : ℕ) (zs : List ℕ). z ∷ zs) (eqb-true k l parts.0) (same_pointwise ks ls parts.1)
+sure_in : (known : List Known) (es : List (ℕ × ℕ)) (e : ℕ × ℕ) → Has es e → truly (known_of known e.1) ≡ true → Has (sure_targets known es) e.0
+sure_in known [] e h on = absurd h
+sure_in known (d ∷ es) e h on = ⊎_elim (λ same. here same) (λ r. later (truly (known_of known d.1)) (sure_in known es e r on)) h
+  where
+    later : (b : Bool) → Has (sure_targets known es) e.0 → Has (cond b (d.0 ∷ sure_targets known es) (sure_targets known es)) e.0
+    later true m = inr m
+    later false m = m
 
-pointwise_itself : (ks : List ℕ) → pointwise nat_eq ks ks ≡ true
-pointwise_itself [] = refl
-pointwise_itself (k ∷ ks) = and_from (nat_eq k k) (pointwise nat_eq ks ks) (eq-eqb k k refl) (pointwise_itself ks)
+    here : d ≡ e → Has (cond (truly (known_of known d.1)) (d.0 ∷ sure_targets known es) (sure_targets known es)) e.0
+    here same = subst (λ (z : ℕ × ℕ). Has (cond (truly (known_of known z.1)) (z.0 ∷ sure_targets known es) (sure_targets known es)) e.0) (sym same) (rw on (inl refl))
+
+-- the guard of an open term may be true
+open_entry : (known : List Known) (os es : List (ℕ × ℕ)) (k : ℕ) → Has (open_targets known os es) k → (e : ℕ × ℕ) × Has es e × (e.0 ≡ k) × (falsely (known_of known e.1) ≡ false)
+open_entry known os [] k h = absurd h
+open_entry known os (d ∷ es) k h = go (falsely (known_of known d.1)) (has_too known os d.0 d.1) refl (λ r. let f = open_entry known os es k r in (f.0, inr f.1, f.2, f.3)) h
+  where
+    go : (a b : Bool) → falsely (known_of known d.1) ≡ a → (Has (open_targets known os es) k → (e : ℕ × ℕ) × Has (d ∷ es) e × (e.0 ≡ k) × (falsely (known_of known e.1) ≡ false)) → Has (cond (a || b) (open_targets known os es) (d.0 ∷ open_targets known os es)) k → (e : ℕ × ℕ) × Has (d ∷ es) e × (e.0 ≡ k) × (falsely (known_of known e.1) ≡ false)
+    go true b off rest m = rest m
+    go false true off rest m = rest m
+    go false false off rest m = ⊎_elim (λ same. (d, inl refl, same, off)) rest m
+
+may_true : (x : Known) (b : Bool) → x ≡ Value b → falsely x ≡ false → truly x ≡ true
+may_true x true is off = ap truly is
+may_true x false is off = absurd (true≢false (sym (ap falsely is) ∙ off))
+
+-- where no open term's guard waits, the open terms are sure
+open_sure : (known : List Known) (os es : List (ℕ × ℕ)) → IsStrictlySortedBy nat_cmp (keys_of es) → AreSettledAmong known es (open_targets known os es) → IsSubset (open_targets known os es) (sure_targets known es)
+open_sure known os es sorted settled k h =
+    let f = open_entry known os es k h in
+    let s = settled k f.0.1 h (ap (guard_of es) (sym f.2) ∙ guard_found es f.0 sorted f.1) in
+    subst (Has (sure_targets known es)) f.2 (sure_in known es f.0 f.1 (may_true (known_of known f.0.1) s.0 s.1 f.3))
+
+-- of lists that are these
+pub sides_sure : (known : List Known) (os es : List (ℕ × ℕ)) (open_terms sure_terms : List ℕ) → IsStrictlySortedBy nat_cmp (keys_of es) → open_terms ≡ open_targets known os es → sure_terms ≡ sure_targets known es → AreSettledAmong known es open_terms → IsSubset open_terms sure_terms
+sides_sure known os es open_terms sure_terms sorted open_is sure_is settled k h =
+    subst (λ (l : List ℕ). Has l k) (sym sure_is)
+    (open_sure known os es sorted (λ j g m. settled j g (subst (λ (l : List ℕ). Has l j) (sym open_is) m)) k (subst (λ (l : List ℕ). Has l k) open_is h))
 
 -- ---- what the tests say
 
-module _ (t : TableParts) (are : AreTables t) (decided : List (Option Bool)) (known : List Known) (ak : AreKnown t decided known)
-    (ps : List PairParts) (numbers : (p : PairParts) → Has ps p → IsNumberSet (length t.terms) p.left × IsNumberSet (length t.terms) p.right)
-    (universal : Option ℕ) (within : (u : ℕ) → universal ≡ Some u → IsTerm t u)
-    (left right : List (ℕ × ℕ)) (own : AreEntries t left) (other : AreEntries t right) (atom : Atom) (extends : Extends decided atom) where
+module _ (t : TableParts) (are : AreTables t) (known : List Known) (atom : Atom) (universal : Option ℕ) (left right : List (ℕ × ℕ)) (own : AreEntries t left) (other : AreEntries t right) (at_left : AreRight t known atom left) (at_right : AreRight t known atom right) where
   -- a term that surely is among the targets is chosen
-  sure_has : (u : ℕ) (es : List (ℕ × ℕ)) → AreEntries t es → is_sure known es u ≡ true → Has (chosen t es atom) (term_at t u)
-  sure_has u es entries s =
+  sure_has : (u : ℕ) (es : List (ℕ × ℕ)) → AreRight t known atom es → is_sure known es u ≡ true → Has (chosen t es atom) (term_at t u)
+  sure_has u es right_here s =
       let v = any_value (λ g. truly (known_of known g)) (guard_of es u) s in
       let member = guard_member u es v.0 v.1 in
-      chosen_has t es atom (u, v.0) member (known_value t decided known ak atom extends v.0 true (entries (u, v.0) member).1 (truly_value (known_of known v.0) v.2))
+      chosen_has t es atom (u, v.0) member (right_here (u, v.0) member true (truly_value (known_of known v.0) v.2))
 
   both_universal : (universal : Option ℕ) → option_map_or (λ u. is_sure known left u && is_sure known right u) universal false ≡ true → BothUniversal (option_map (term_at t) universal) (chosen t left atom) (chosen t right atom)
   both_universal None e = absurd cc
   both_universal (Some u) e =
       let parts = and_parts (is_sure known left u) (is_sure known right u) e in
-      (sure_has u left own parts.0, sure_has u right other parts.1)
+      (sure_has u left at_left parts.0, sure_has u right at_right parts.1)
 
   more_universal : (universal : Option Term) (ps : List SetPair) (es fs : List Term) → BothUniversal universal es fs → BothUniversal universal (sat ps es) (sat ps fs)
   more_universal None ps es fs h = h
   more_universal (Some u) ps es fs h = (sat_keeps ps es u h.0, sat_keeps ps fs u h.1)
 
   -- both sets surely hold the universal term
-  pub universal_holds : option_map_or (λ u. is_sure known left u && is_sure known right u) universal false ≡ true → (style : Style) (to : Atom) → AreMatchedIn (nodes_in t) style (option_map (term_at t) universal) ps (chosen t left atom) (chosen t right atom) to
-  universal_holds e Plain to = inr (both_universal universal e)
-  universal_holds e UpTo to = inr (more_universal (option_map (term_at t) universal) (pairs_at (map (tested_pair_of (nodes_in t)) ps) to) (chosen t left atom) (chosen t right atom) (both_universal universal e))
-  universal_holds e Under to = inr (more_universal (option_map (term_at t) universal) (pairs_at (map (tested_pair_of (nodes_in t)) ps) to) (chosen t left atom) (chosen t right atom) (both_universal universal e))
+  pub universal_holds : option_map_or (λ u. is_sure known left u && is_sure known right u) universal false ≡ true → (ps : List PairParts) (style : Style) (to : Atom) → AreMatchedIn (nodes_in t) style (option_map (term_at t) universal) ps (chosen t left atom) (chosen t right atom) to
+  universal_holds e ps Plain to = inr (both_universal universal e)
+  universal_holds e ps UpTo to = inr (more_universal (option_map (term_at t) universal) (pairs_at (map (tested_pair_of (nodes_in t)) ps) to) (chosen t left atom) (chosen t right atom) (both_universal universal e))
+  universal_holds e ps Under to = inr (more_universal (option_map (term_at t) universal) (pairs_at (map (tested_pair_of (nodes_in t)) ps) to) (chosen t left atom) (chosen t right atom) (both_universal universal e))
 
   -- where all guards are settled, the chosen terms are those that surely are there
-  settled_same : (es : List (ℕ × ℕ)) → AreEntries t es → AreSettled known es → SameMembers (chosen t es atom) (terms_of (nodes_in t) (sure_targets known es))
-  settled_same es entries settled x = (settled_sure t are decided known ak [] 0 (omega arith) (λ p h. absurd h) atom extends es entries settled x, sure_chosen t decided known ak atom extends es entries x)
+  settled_same : (es : List (ℕ × ℕ)) → AreRight t known atom es → AreSettled known es → SameMembers (chosen t es atom) (terms_of (nodes_in t) (sure_targets known es))
+  settled_same es right_here settled x = (settled_sure t are known atom [] (λ p h. absurd h) es right_here settled x, sure_chosen t known atom es right_here x)
 
-  module _ (settled : AreSettled known left) (settled_other : AreSettled known right) where
+  module _ (ns : List NumberPair) (settled : AreSettled known left) (settled_other : AreSettled known right) where
     -- the sets that surely are there are listed
-    pub listed_holds : lists ps (sure_targets known left) (sure_targets known right) ≡ true → (to : Atom) → AreMatchedIn (nodes_in t) Plain (option_map (term_at t) universal) ps (chosen t left atom) (chosen t right atom) to
-    listed_holds e to =
-        let found = has_any (λ (p : PairParts). pointwise nat_eq p.left (sure_targets known left) && pointwise nat_eq p.right (sure_targets known right)) ps e in
+    pub listed_holds : lists ns (sure_targets known left) (sure_targets known right) ≡ true → IsListed (set_pairs_of (nodes_in t) ns) (chosen t left atom) (chosen t right atom)
+    listed_holds e =
+        let found = has_any (λ (p : NumberPair). pointwise nat_eq p.left (sure_targets known left) && pointwise nat_eq p.right (sure_targets known right)) ns e in
         let parts = and_parts (pointwise nat_eq found.0.left (sure_targets known left)) (pointwise nat_eq found.0.right (sure_targets known right)) found.2 in
-        inl (record {
+        record {
           pair = record { left = terms_of (nodes_in t) found.0.left; right = terms_of (nodes_in t) found.0.right };
-          listed = map_has (λ (p : NumberPair). record { left = terms_of (nodes_in t) p.left; right = terms_of (nodes_in t) p.right }) (map sets_of ps) (sets_of found.0) (map_has sets_of ps found.0 found.1);
-          lefts = subst (λ ks. SameMembers (chosen t left atom) (terms_of (nodes_in t) ks)) (sym (same_pointwise found.0.left (sure_targets known left) parts.0)) (settled_same left own settled);
-          rights = subst (λ ks. SameMembers (chosen t right atom) (terms_of (nodes_in t) ks)) (sym (same_pointwise found.0.right (sure_targets known right) parts.1)) (settled_same right other settled_other);
-        })
+          listed = map_has (λ (p : NumberPair). record { left = terms_of (nodes_in t) p.left; right = terms_of (nodes_in t) p.right }) ns found.0 found.1;
+          lefts = subst (λ ks. SameMembers (chosen t left atom) (terms_of (nodes_in t) ks)) (sym (same_pointwise found.0.left (sure_targets known left) parts.0)) (settled_same left at_left settled);
+          rights = subst (λ ks. SameMembers (chosen t right atom) (terms_of (nodes_in t) ks)) (sym (same_pointwise found.0.right (sure_targets known right) parts.1)) (settled_same right at_right settled_other);
+        }
 
     module _ (sorted : IsStrictlySortedBy nat_cmp (keys_of left)) (sorted_other : IsStrictlySortedBy nat_cmp (keys_of right)) where
       -- a universal term that is chosen surely is there
-      chosen_sure : (u : ℕ) → IsTerm t u → (es : List (ℕ × ℕ)) → AreEntries t es → AreSettled known es → IsStrictlySortedBy nat_cmp (keys_of es) → Has (chosen t es atom) (term_at t u) → is_sure known es u ≡ true
-      chosen_sure u is_term es entries all_settled keys h =
+      chosen_sure : (u : ℕ) → IsTerm t u → (es : List (ℕ × ℕ)) → AreEntries t es → AreRight t known atom es → AreSettled known es → IsStrictlySortedBy nat_cmp (keys_of es) → Has (chosen t es atom) (term_at t u) → is_sure known es u ≡ true
+      chosen_sure u is_term es entries right_here all_settled keys h =
           let f = has_chosen t es atom (term_at t u) h in
           let one : f.0.0 ≡ u = one_id_a_tree (nodes_in t) are.rules f.0.0 u (entries f.0 f.1).0 is_term f.3 in
           let s = all_settled f.0 f.1 in
-          let value : holds_at t f.0.1 atom ≡ s.0 = known_value t decided known ak atom extends f.0.1 s.0 (entries f.0 f.1).1 s.1 in
+          let value : holds_at t f.0.1 atom ≡ s.0 = right_here f.0 f.1 s.0 s.1 in
           let sure : known_of known f.0.1 ≡ Value true = s.1 ∙ ap Value (sym value ∙ f.2) in
           let found : guard_of es u ≡ Some f.0.1 = ap (guard_of es) (sym one) ∙ guard_found es f.0 keys f.1 in
           ap (λ o. option_map_or (λ g. truly (known_of known g)) o false) found ∙ ap truly sure
@@ -198,34 +200,33 @@ module _ (t : TableParts) (are : AreTables t) (decided : List (Option Bool)) (kn
       universal_sure None within h = absurd h
       universal_sure (Some u) within h =
           and_from (is_sure known left u) (is_sure known right u)
-          (chosen_sure u (within u refl) left own settled sorted h.0)
-          (chosen_sure u (within u refl) right other settled_other sorted_other h.1)
+          (chosen_sure u (within u refl) left own at_left settled sorted h.0)
+          (chosen_sure u (within u refl) right other at_right settled_other sorted_other h.1)
 
-      listed_found : IsListed (set_pairs_of (nodes_in t) (map sets_of ps)) (chosen t left atom) (chosen t right atom) → lists ps (sure_targets known left) (sure_targets known right) ≡ true
-      listed_found h =
-          let g = has_map (λ (p : NumberPair). record { left = terms_of (nodes_in t) p.left; right = terms_of (nodes_in t) p.right }) (map sets_of ps) h.pair h.listed in
-          let f = has_map sets_of ps g.0 g.1 in
-          let same : ◌≡◌ {A = SetPair} (record { left = terms_of (nodes_in t) f.0.left; right = terms_of (nodes_in t) f.0.right }) h.pair = ap (λ (p : NumberPair). record { left = terms_of (nodes_in t) p.left; right = terms_of (nodes_in t) p.right }) f.2 ∙ g.2 in
-          let sets = numbers f.0 f.1 in
-          let lefts : f.0.left ≡ sure_targets known left =
-          same_numbers t are f.0.left (sure_targets known left) sets.0.there (sure_below t known left own) sets.0.ascending (sure_ascending known left sorted)
-          (same_members_trans (terms_of (nodes_in t) f.0.left) (chosen t left atom) (terms_of (nodes_in t) (sure_targets known left))
-          (same_members_sym (chosen t left atom) (terms_of (nodes_in t) f.0.left) (subst (λ (p : SetPair). SameMembers (chosen t left atom) p.left) (sym same) h.lefts))
-          (settled_same left own settled)) in
-          let rights : f.0.right ≡ sure_targets known right =
-          same_numbers t are f.0.right (sure_targets known right) sets.1.there (sure_below t known right other) sets.1.ascending (sure_ascending known right sorted_other)
-          (same_members_trans (terms_of (nodes_in t) f.0.right) (chosen t right atom) (terms_of (nodes_in t) (sure_targets known right))
-          (same_members_sym (chosen t right atom) (terms_of (nodes_in t) f.0.right) (subst (λ (p : SetPair). SameMembers (chosen t right atom) p.right) (sym same) h.rights))
-          (settled_same right other settled_other)) in
-          any_has (λ (p : PairParts). pointwise nat_eq p.left (sure_targets known left) && pointwise nat_eq p.right (sure_targets known right)) ps f.0 f.1
-          (and_from (pointwise nat_eq f.0.left (sure_targets known left)) _
-          (ap (λ ks. pointwise nat_eq ks (sure_targets known left)) lefts ∙ pointwise_itself (sure_targets known left))
-          (ap (λ ks. pointwise nat_eq ks (sure_targets known right)) rights ∙ pointwise_itself (sure_targets known right)))
+      module _ (numbers : (n : NumberPair) → Has ns n → IsNumberSet (length t.terms) n.left × IsNumberSet (length t.terms) n.right) where
+        listed_found : IsListed (set_pairs_of (nodes_in t) ns) (chosen t left atom) (chosen t right atom) → lists ns (sure_targets known left) (sure_targets known right) ≡ true
+        listed_found h =
+            let f = has_map (λ (p : NumberPair). record { left = terms_of (nodes_in t) p.left; right = terms_of (nodes_in t) p.right }) ns h.pair h.listed in
+            let sets = numbers f.0 f.1 in
+            let lefts_are : f.0.left ≡ sure_targets known left =
+            same_numbers t are f.0.left (sure_targets known left) sets.0.there (sure_below t known left own) sets.0.ascending (sure_ascending known left sorted)
+            (same_members_trans (terms_of (nodes_in t) f.0.left) (chosen t left atom) (terms_of (nodes_in t) (sure_targets known left))
+            (same_members_sym (chosen t left atom) (terms_of (nodes_in t) f.0.left) (subst (λ (p : SetPair). SameMembers (chosen t left atom) p.left) (sym f.2) h.lefts))
+            (settled_same left at_left settled)) in
+            let rights_are : f.0.right ≡ sure_targets known right =
+            same_numbers t are f.0.right (sure_targets known right) sets.1.there (sure_below t known right other) sets.1.ascending (sure_ascending known right sorted_other)
+            (same_members_trans (terms_of (nodes_in t) f.0.right) (chosen t right atom) (terms_of (nodes_in t) (sure_targets known right))
+            (same_members_sym (chosen t right atom) (terms_of (nodes_in t) f.0.right) (subst (λ (p : SetPair). SameMembers (chosen t right atom) p.right) (sym f.2) h.rights))
+            (settled_same right at_right settled_other)) in
+            any_has (λ (p : NumberPair). pointwise nat_eq p.left (sure_targets known left) && pointwise nat_eq p.right (sure_targets known right)) ns f.0 f.1
+            (and_from (pointwise nat_eq f.0.left (sure_targets known left)) _
+            (ap (λ ks. pointwise nat_eq ks (sure_targets known left)) lefts_are ∙ pointwise_itself (sure_targets known left))
+            (ap (λ ks. pointwise nat_eq ks (sure_targets known right)) rights_are ∙ pointwise_itself (sure_targets known right)))
 
-      pub unlisted_fails : option_map_or (λ u. is_sure known left u && is_sure known right u) universal false ≡ false → lists ps (sure_targets known left) (sure_targets known right) ≡ false → (to : Atom)
-          → AreMatchedIn (nodes_in t) Plain (option_map (term_at t) universal) ps (chosen t left atom) (chosen t right atom) to → ⊥
-      unlisted_fails unsure none to m =
-          ⊎_elim
-          (λ l. true≢false (sym (listed_found l) ∙ none))
-          (λ u. true≢false (sym (universal_sure universal within u) ∙ unsure))
-          m
+        pub unlisted_fails : ((u : ℕ) → universal ≡ Some u → IsTerm t u) → option_map_or (λ u. is_sure known left u && is_sure known right u) universal false ≡ false → (lists ns (sure_targets known left) (sure_targets known right) ≡ true → ⊥)
+            → IsListed (set_pairs_of (nodes_in t) ns) (chosen t left atom) (chosen t right atom) ⊎ BothUniversal (option_map (term_at t) universal) (chosen t left atom) (chosen t right atom) → ⊥
+        unlisted_fails within unsure none m =
+            ⊎_elim
+            (λ l. none (listed_found l))
+            (λ u. true≢false (sym (universal_sure universal within u) ∙ unsure))
+            m

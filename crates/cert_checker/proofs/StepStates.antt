@@ -1,28 +1,31 @@
--- What is known of the questions about two atoms, from what is known of the tests at each of them.
-use Rattle.std.proofs.Common.{◌≡◌, ℕ, inl, inr, ⊎_elim, List, map, take, drop, length, refl, sym, ap, ◌∙◌, subst, Bool, true, false, not, ◌&&◌, Option, Some, None}
+-- What is known of a question at all values of two atoms with the decided tests.
+use Rattle.std.proofs.Common.{◌≡◌, ◌⊎◌, ℕ, inl, inr, ⊎_elim, List, map, take, drop, length, refl, sym, ap, ◌∙◌, subst, zero-add, Bool, true, false, not, ◌&&◌, Option, Some, None}
 use Rattle.std.specs.Option.{option_map, option_map_or, is_some, MatchOption}
-use Rattle.std.specs.List.Sorted.{IsStrictlySortedBy}
-use Rattle.std.specs.Map.{keys_of}
-use Rattle.std.specs.Ordering.{nat_cmp}
-use Rattle.std.proofs.lemmas.Bool.{and_parts}
+use Rattle.kat_model.specs.Members.{Has}
 use Rattle.kat_model.specs.Steps.{Atom}
-use Rattle.kat_model.specs.Pairs.{IsCongruent}
+use Rattle.kat_model.specs.Pairs.{IsCongruent, IsListed}
 use Rattle.kat_model.specs.TestedPairs.{pairs_at}
-use Rattle.certificate.specs.Accepted.{tested_pair_of}
+use Rattle.kat_model.proofs.Congruence.{congruent_more}
 use Rattle.certificate.specs.declared.nodes.Style.{Style}
 use Rattle.certificate.specs.declared.nodes.Style.TheVariants.{Plain, UpTo, Under}
-use Rattle.cert_checker.specs.declared.known.Known.{Known}
+use Rattle.certificate.specs.PairParts.{PairParts, sets_of}
+use Rattle.certificate.specs.Accepted.{tested_pair_of}
+use Rattle.term_nodes.specs.NumberSets.{NumberPair, IsNumberSet, set_pairs_of}
+use Rattle.checker_steps.specs.NodeTables.{TableParts, AreTables, holds_at, term_at, nodes_in}
+use Rattle.checker_steps.specs.Targets.{chosen}
+use Rattle.cert_checker.specs.declared.known.Case.{Case}
 use Rattle.cert_checker.specs.declared.known.Known.TheVariants.{Value, Waits as WaitsFor}
-use Rattle.cert_checker.specs.declared.moves.State.{State}
-use Rattle.cert_checker.specs.declared.moves.State.TheVariants.{Holds, Fails, Waits, WaitsAfter}
-use Rattle.cert_checker.specs.Working.NodeTables.{TableParts, AreTables, IsTest, term_at, nodes_in}
-use Rattle.cert_checker.specs.Working.Targets.{chosen, AreEntries}
-use Rattle.cert_checker.specs.Working.Cases.{Extends, AreKnown, HoldsThroughout}
-use Rattle.cert_checker.specs.Working.Matching.{RuleParts, AreRules, Counts, AreMatchedIn, MatchAt, AgreeAt, IsState, IsNext, IsOver, IsSettled, AreSettled, AreMovesSettled, known_of, is_excluded, is_sure, covers, counting, surely_matched, lists, sure_targets}
-use Rattle.cert_checker.proofs.Covering.{known_value}
-use Rattle.cert_checker.proofs.Halves.{extends_front, extends_back}
+use Rattle.cert_checker.specs.declared.matching.Sides.{Sides}
+use Rattle.cert_checker.specs.Working.Cases.{Extends, IsOpen, IsKnown, HoldsThroughout, known_of}
+use Rattle.cert_checker.specs.Working.Reaching.{ArePairsBelow}
+use Rattle.cert_checker.specs.Working.Questions.{QuestionParts, IsQuestion, AreNamed, IsCase, Counts, AreMatchedIn, MatchAt, NamesByTargets, NamesByMoves, NamesAtEnd, IsWaited}
+use Rattle.cert_checker.specs.Working.Matching.{sure_targets, is_sure, lists, counting, AreSides, AreCovered, AreSurelyMatched, AreSettled, AreTestsSettled, IsWaitedBy, is_excluded, DoesCount}
+use Rattle.cert_checker.proofs.Halves.{open_front, open_back, extends_front, extends_back}
+use Rattle.cert_checker.proofs.CountedPairs.{counting_has, counting_below, counting_all}
+use Rattle.cert_checker.proofs.Covering.{AreRight}
+use Rattle.cert_checker.proofs.Covered.{covered_congruent, congruent_covered}
+use Rattle.cert_checker.proofs.KnownMoves.{test_value, sure_are_at, at_are_counted, excluded_never, counts_then}
 use Rattle.cert_checker.proofs.StepAnswers.{universal_holds, listed_holds, unlisted_fails}
-use Rattle.cert_checker.proofs.MoveAnswers.{excluded_never, settled_counts, covered_at, uncovered_at}
 
 -- there is nothing where the answer says so
 pub none_is : (o : Option ℕ) (b : Bool) (A : Type 0) (B : ℕ → Type 0) → not b ≡ is_some o → b ≡ true → MatchOption o A B → A
@@ -30,84 +33,141 @@ none_is None b A B same e h = h
 none_is (Some x) true A B same e h = absurd cc
 none_is (Some x) false A B same e h = absurd cc
 
-pub is_true : (b : Bool) → not b ≡ false → b ≡ true
-is_true true e = refl
-is_true false e = absurd cc
+pub none_then : (o : Option ℕ) (b : Bool) → not b ≡ is_some o → o ≡ None → b ≡ true
+none_then o true same e = refl
+none_then o false same e = let f : true ≡ false = same ∙ ap is_some e in absurd cc
 
-module _ (t : TableParts) (are : AreTables t) (r : RuleParts) (rules : AreRules t r) (first second : List Known) (ds : List (Option Bool)) (ak : AreKnown t (take t.width ds) first) (bk : AreKnown t (drop t.width ds) second) where
-  -- a test to be decided next is not decided
-  pub next_state : (P : Atom → Type 0) (s : State) → IsNext first second s → IsState t.width P ds s
-  next_state P Holds n = absurd n
-  next_state P Fails n = absurd n
-  next_state P (Waits k) n = ak.each n.0 (WaitsFor k) n.1
-  next_state P (WaitsAfter k) n = bk.each n.0 (WaitsFor k) n.1
+module _ (t : TableParts) (are : AreTables t) (q : QuestionParts) (is : IsQuestion t q) (asked : List ℕ) (named : AreNamed t q asked) (ds : List (Option Bool)) (c : Case) (known : IsCase t q asked ds c) where
+  at_begin : (g : ℕ) → NamesByTargets q g ⊎ NamesByMoves q g → IsKnown 0 (take t.width ds) (holds_at t g) (known_of c.begin.items g)
+  at_begin g h = ⊎_elim (λ n. known.targets g (named.named g n)) (λ m. known.begin g (is.by_moves g m)) h
 
-  -- nothing is asked where the rules do not count
-  never_counts : is_excluded r first second ≡ true → (x : Atom) → Extends ds x → Counts t r (take t.width x) (drop t.width x) → ⊥
-  never_counts e x h = excluded_never t r rules (take t.width ds) (drop t.width ds) first second ak bk (take t.width x) (drop t.width x) (extends_front t.width ds x h) (extends_back t.width ds x h) e
+  at_end : (g : ℕ) → NamesAtEnd q g → IsKnown t.width (drop t.width ds) (holds_at t g) (known_of c.end.items g)
+  at_end g h = known.end g (is.at_end g h)
 
-  counts_here : is_excluded r first second ≡ false → IsSettled first r.own → AreMovesSettled r.forbidden first second → (x : Atom) → Extends ds x → Counts t r (take t.width x) (drop t.width x)
-  counts_here e own moves x h = settled_counts t r rules (take t.width ds) (drop t.width ds) first second ak bk (take t.width x) (drop t.width x) (extends_front t.width ds x h) (extends_back t.width ds x h) e own moves
+  -- what is waited for is not decided
+  pub waits_open : (k : ℕ) → IsWaited q c k → IsOpen ds k
+  waits_open k w = ⊎_elim (λ l. front (subst (IsKnown 0 (take t.width ds) (holds_at t w.0)) l.1 (at_begin w.0 l.0))) (λ r. back (subst (IsKnown t.width (drop t.width ds) (holds_at t w.0)) r.1 (at_end w.0 r.0))) w.1
+    where
+      front : IsKnown 0 (take t.width ds) (holds_at t w.0) (WaitsFor k) → IsOpen ds k
+      front o = subst (IsOpen ds) (sym (o.1 ∙ zero-add o.0)) (open_front t.width ds o.0 o.2)
 
-  -- ---- outputs
+      back : IsKnown t.width (drop t.width ds) (holds_at t w.0) (WaitsFor k) → IsOpen ds k
+      back o = subst (IsOpen ds) (sym o.1) (open_back t.width ds o.0 o.2)
 
-  module _ (x y : ℕ) (there : IsTest t x) (also_there : IsTest t y) where
-    pub excluded_agree : is_excluded r first second ≡ true → HoldsThroughout (AgreeAt t r x y) ds
-    excluded_agree e atoms h counts = absurd (never_counts e atoms h counts)
+  pub guard_open : (k : ℕ) → IsWaitedBy c.begin.items q.left k ⊎ IsWaitedBy c.begin.items q.right k → IsOpen ds k
+  guard_open k w =
+      waits_open k
+      (⊎_elim
+      (λ l. (l.0.1, inl (inl (inr (l.0, inl l.1, refl)), l.2)))
+      (λ r. (r.0.1, inl (inl (inr (r.0, inr r.1, refl)), r.2)))
+      w)
 
-    pub known_agree : (b : Bool) → known_of first x ≡ Value b → known_of first y ≡ Value b → HoldsThroughout (AgreeAt t r x y) ds
-    known_agree b e f atoms h counts =
-        known_value t (take t.width ds) first ak (take t.width atoms) (extends_front t.width ds atoms h) x b there e
-        ∙ sym (known_value t (take t.width ds) first ak (take t.width atoms) (extends_front t.width ds atoms h) y b also_there f)
+  module _ (x : Atom) (extends : Extends ds x) where
+    front_right : (g : ℕ) → NamesByTargets q g ⊎ NamesByMoves q g → (b : Bool) → known_of c.begin.items g ≡ Value b → holds_at t g (take t.width x) ≡ b
+    front_right g h b e = (subst (IsKnown 0 (take t.width ds) (holds_at t g)) e (at_begin g h)) (take t.width x) (extends_front t.width ds x extends)
 
-    pub known_disagree : (b c : Bool) → (b ≡ c → ⊥) → known_of first x ≡ Value b → known_of first y ≡ Value c → is_excluded r first second ≡ false → IsSettled first r.own → AreMovesSettled r.forbidden first second → (atoms : Atom) → Extends ds atoms → AgreeAt t r x y atoms → ⊥
-    known_disagree b c differ e f unexcluded own moves atoms h agree =
-        differ (sym (known_value t (take t.width ds) first ak (take t.width atoms) (extends_front t.width ds atoms h) x b there e)
-        ∙ agree (counts_here unexcluded own moves atoms h)
-        ∙ known_value t (take t.width ds) first ak (take t.width atoms) (extends_front t.width ds atoms h) y c also_there f)
+    back_right : (g : ℕ) → NamesAtEnd q g → (b : Bool) → known_of c.end.items g ≡ Value b → holds_at t g (drop t.width x) ≡ b
+    back_right g h b e = (subst (IsKnown t.width (drop t.width ds) (holds_at t g)) e (at_end g h)) (drop t.width x) (extends_back t.width ds x extends)
 
-  -- ---- steps
+    lefts : AreRight t c.begin.items (take t.width x) q.left
+    lefts e h b k = front_right e.1 (inl (inr (e, inl h, refl))) b k
 
-  module _ (left right : List (ℕ × ℕ)) (own : AreEntries t left) (other : AreEntries t right) where
-    pub excluded_match : is_excluded r first second ≡ true → HoldsThroughout (MatchAt t r left right) ds
-    excluded_match e x h counts = absurd (never_counts e x h counts)
+    rights : AreRight t c.begin.items (take t.width x) q.right
+    rights e h b k = front_right e.1 (inl (inr (e, inr h, refl))) b k
 
-    pub universal_match : option_map_or (λ u. is_sure first left u && is_sure first right u) r.universal false ≡ true → HoldsThroughout (MatchAt t r left right) ds
-    universal_match e x h counts =
-        universal_holds t are (take t.width ds) first ak r.pairs rules.pairs r.universal rules.universal left right own other (take t.width x) (extends_front t.width ds x h) e r.style (drop t.width x)
+    never_counts : is_excluded q c ≡ true → Counts t q (take t.width x) (drop t.width x) → ⊥
+    never_counts e counts =
+        excluded_never t q c (take t.width x) (drop t.width x)
+        (test_value t 0 (take t.width ds) c.begin.items (take t.width x) (extends_front t.width ds x extends) q.own (λ k o. at_begin k (inl (inl o))))
+        (λ f h. front_right f.0 (inr (f, h, refl))) (λ f h. back_right f.1 (inl (f, h, refl))) e counts
+
+    counts_here : DoesCount q c → Counts t q (take t.width x) (drop t.width x)
+    counts_here does =
+        counts_then t q c (take t.width x) (drop t.width x)
+        (test_value t 0 (take t.width ds) c.begin.items (take t.width x) (extends_front t.width ds x extends) q.own (λ k o. at_begin k (inl (inl o))))
+        (λ f h. front_right f.0 (inr (f, h, refl))) (λ f h. back_right f.1 (inl (f, h, refl))) does
+
+    pair_told : (p : PairParts) → Has q.pairs p → (k : ℕ) → p.test ≡ Some k → IsKnown t.width (drop t.width ds) (holds_at t k) (known_of c.end.items k)
+    pair_told p h k e = at_end k (inr (p, h, e))
+
+    numbers_below : (also : Bool) → ArePairsBelow (length t.terms) (counting also c.end.items q.pairs)
+    numbers_below also = counting_below also c.end.items (length t.terms) q.pairs (λ p h. let sets = is.pairs p h in (sets.0.there, sets.1.there))
+
+    number_sets : (n : NumberPair) → Has (counting false c.end.items q.pairs) n → IsNumberSet (length t.terms) n.left × IsNumberSet (length t.terms) n.right
+    number_sets n h =
+        let f = counting_has false c.end.items q.pairs n h in
+        subst (λ (m : NumberPair). IsNumberSet (length t.terms) m.left × IsNumberSet (length t.terms) m.right) f.3 (is.pairs f.0 f.1)
+
+    -- in the plain style all pairs count
+    plain_pairs : q.style ≡ Plain → counting false c.end.items q.pairs ≡ map sets_of q.pairs
+    plain_pairs e = counting_all false c.end.items q.pairs (is.untested e)
+
+    module _ (s : Sides) (sides : AreSides c.begin.items q.left q.right s) where
+      -- the pairs that surely are true at the end make the sets congruent
+      covered_here : AreCovered (counting false c.end.items q.pairs) q.universal s → IsCongruent (option_map (term_at t) q.universal) (pairs_at (map (tested_pair_of (nodes_in t)) q.pairs) (drop t.width x)) (chosen t q.left (take t.width x)) (chosen t q.right (take t.width x))
+      covered_here m =
+          congruent_more (set_pairs_of (nodes_in t) (counting false c.end.items q.pairs)) (pairs_at (map (tested_pair_of (nodes_in t)) q.pairs) (drop t.width x))
+          (sure_are_at t t.width (drop t.width ds) c.end.items (drop t.width x) (extends_back t.width ds x extends) q.pairs pair_told)
+          (option_map (term_at t) q.universal) (chosen t q.left (take t.width x)) (chosen t q.right (take t.width x))
+          (covered_congruent t are c.begin.items (take t.width x) (counting false c.end.items q.pairs) (numbers_below false) q.universal q.left q.right is.left is.right lefts rights s sides m)
+
+      -- and where all guards are settled, no others do
+      congruent_here : AreSettled c.begin.items q.left → AreSettled c.begin.items q.right → (also : Bool) → (also ≡ true) ⊎ AreTestsSettled c.end.items q.pairs
+          → IsCongruent (option_map (term_at t) q.universal) (pairs_at (map (tested_pair_of (nodes_in t)) q.pairs) (drop t.width x)) (chosen t q.left (take t.width x)) (chosen t q.right (take t.width x))
+          → AreCovered (counting also c.end.items q.pairs) q.universal s
+      congruent_here sl sr also settled m =
+          congruent_covered t are c.begin.items (take t.width x) (counting also c.end.items q.pairs) (numbers_below also) q.universal q.left q.right is.left is.right lefts rights s sides is.universal sl sr
+          (congruent_more (pairs_at (map (tested_pair_of (nodes_in t)) q.pairs) (drop t.width x)) (set_pairs_of (nodes_in t) (counting also c.end.items q.pairs))
+          (at_are_counted t t.width (drop t.width ds) c.end.items (drop t.width x) (extends_back t.width ds x extends) q.pairs pair_told also settled)
+          (option_map (term_at t) q.universal) (chosen t q.left (take t.width x)) (chosen t q.right (take t.width x)) m)
+
+      listed_here : AreSettled c.begin.items q.left → AreSettled c.begin.items q.right → q.style ≡ Plain → lists (counting false c.end.items q.pairs) s.lefts.items s.rights.items ≡ true
+          → IsListed (set_pairs_of (nodes_in t) (map sets_of q.pairs)) (chosen t q.left (take t.width x)) (chosen t q.right (take t.width x))
+      listed_here sl sr plain e =
+          subst (λ (ns : List NumberPair). IsListed (set_pairs_of (nodes_in t) ns) (chosen t q.left (take t.width x)) (chosen t q.right (take t.width x))) (plain_pairs plain)
+          (listed_holds t are c.begin.items (take t.width x) q.universal q.left q.right is.left is.right lefts rights (counting false c.end.items q.pairs) sl sr
+          (subst (λ (l : List ℕ). lists (counting false c.end.items q.pairs) (sure_targets c.begin.items q.left) l ≡ true) sides.rights (subst (λ (l : List ℕ). lists (counting false c.end.items q.pairs) l s.rights.items ≡ true) sides.lefts e)))
+
+      unlisted_here : AreSettled c.begin.items q.left → AreSettled c.begin.items q.right → q.style ≡ Plain → option_map_or (λ u. is_sure c.begin.items q.left u && is_sure c.begin.items q.right u) q.universal false ≡ false
+          → (lists (counting false c.end.items q.pairs) s.lefts.items s.rights.items ≡ true → ⊥)
+          → AreMatchedIn (nodes_in t) Plain (option_map (term_at t) q.universal) q.pairs (chosen t q.left (take t.width x)) (chosen t q.right (take t.width x)) (drop t.width x) → ⊥
+      unlisted_here sl sr plain unsure none m =
+          unlisted_fails t are c.begin.items (take t.width x) q.universal q.left q.right is.left is.right lefts rights (counting false c.end.items q.pairs) sl sr sides.left_ascends sides.right_ascends number_sets is.universal unsure
+          (λ e. none (subst (λ (l : List ℕ). lists (counting false c.end.items q.pairs) s.lefts.items l ≡ true) (sym sides.rights) (subst (λ (l : List ℕ). lists (counting false c.end.items q.pairs) l (sure_targets c.begin.items q.right) ≡ true) (sym sides.lefts) e)))
+          (⊎_elim (λ l. inl (subst (λ (ns : List NumberPair). IsListed (set_pairs_of (nodes_in t) ns) (chosen t q.left (take t.width x)) (chosen t q.right (take t.width x))) (sym (plain_pairs plain)) l)) inr m)
 
     -- matched in a style
-    by_style : (s : Style) → r.style ≡ s → (x : Atom) → AreMatchedIn (nodes_in t) s (option_map (term_at t) r.universal) r.pairs (chosen t left (take t.width x)) (chosen t right (take t.width x)) (drop t.width x) → MatchAt t r left right x
-    by_style s e x m counts = subst (λ z. AreMatchedIn (nodes_in t) z (option_map (term_at t) r.universal) r.pairs (chosen t left (take t.width x)) (chosen t right (take t.width x)) (drop t.width x)) (sym e) m
+    by_style : (style : Style) → q.style ≡ style → AreMatchedIn (nodes_in t) style (option_map (term_at t) q.universal) q.pairs (chosen t q.left (take t.width x)) (chosen t q.right (take t.width x)) (drop t.width x) → MatchAt t q x
+    by_style style e m counts = subst (λ z. AreMatchedIn (nodes_in t) z (option_map (term_at t) q.universal) q.pairs (chosen t q.left (take t.width x)) (chosen t q.right (take t.width x)) (drop t.width x)) (sym e) m
 
-    pub matched_match : (settled : Bool) → (settled ≡ true → AreSettled first left × AreSettled first right) → surely_matched r.style settled (length t.terms) r first second left right ≡ true → HoldsThroughout (MatchAt t r left right) ds
-    matched_match settled all e x h = go r.style refl e
+  -- ---- the states
+
+  -- nothing is asked where the move does not count
+  pub excluded_holds : is_excluded q c ≡ true → HoldsThroughout (MatchAt t q) ds
+  excluded_holds e x h counts = absurd (never_counts x h e counts)
+
+  pub universal_match : option_map_or (λ u. is_sure c.begin.items q.left u && is_sure c.begin.items q.right u) q.universal false ≡ true → HoldsThroughout (MatchAt t q) ds
+  universal_match e x h counts = universal_holds t are c.begin.items (take t.width x) q.universal q.left q.right is.left is.right (lefts x h) (rights x h) e q.pairs q.style (drop t.width x)
+
+  module _ (s : Sides) (sides : AreSides c.begin.items q.left q.right s) where
+    pub matched_holds : (open_settled all_settled : Bool) → (all_settled ≡ true → AreSettled c.begin.items q.left × AreSettled c.begin.items q.right) → AreSurelyMatched q.style (counting false c.end.items q.pairs) q.universal open_settled all_settled s → HoldsThroughout (MatchAt t q) ds
+    matched_holds open_settled all_settled all e x h = go q.style refl e
       where
-        go : (s : Style) → r.style ≡ s → surely_matched s settled (length t.terms) r first second left right ≡ true → MatchAt t r left right x
-        go Plain s m =
-            let parts = and_parts settled _ m in
-            let both = all parts.0 in
-            by_style Plain s x (listed_holds t are (take t.width ds) first ak r.pairs rules.pairs r.universal rules.universal left right own other (take t.width x) (extends_front t.width ds x h) both.0 both.1 parts.1 (drop t.width x))
-        go UpTo s m = by_style UpTo s x (covered_at t r rules (take t.width ds) (drop t.width ds) first second ak bk (take t.width x) (drop t.width x) (extends_front t.width ds x h) (extends_back t.width ds x h) are left right own other m)
-        go Under s m = by_style Under s x (covered_at t r rules (take t.width ds) (drop t.width ds) first second ak bk (take t.width x) (drop t.width x) (extends_front t.width ds x h) (extends_back t.width ds x h) are left right own other m)
+        go : (style : Style) → q.style ≡ style → AreSurelyMatched style (counting false c.end.items q.pairs) q.universal open_settled all_settled s → MatchAt t q x
+        go Plain is_style m = by_style x h Plain is_style (inl (listed_here x h s sides (all m.0).0 (all m.0).1 is_style m.1))
+        go UpTo is_style m = by_style x h UpTo is_style (covered_here x h s sides m.1)
+        go Under is_style m = by_style x h Under is_style (covered_here x h s sides m.1)
 
-    -- once all is settled, what is not surely matched is not matched
-    pub unmatched_fails : AreSettled first left × AreSettled first right → is_excluded r first second ≡ false → IsOver (length t.terms) r first second left right
-        → IsStrictlySortedBy nat_cmp (keys_of left) → IsStrictlySortedBy nat_cmp (keys_of right) → option_map_or (λ u. is_sure first left u && is_sure first right u) r.universal false ≡ false
-        → (settled : Bool) → settled ≡ true → surely_matched r.style settled (length t.terms) r first second left right ≡ false → (x : Atom) → Extends ds x → MatchAt t r left right x → ⊥
-    unmatched_fails both unexcluded over sorted sorted_other unsure settled all e x h m = go r.style refl e
+    -- once all guards are settled and the move counts, what is not surely matched is not matched
+    pub unmatched_fails : DoesCount q c → AreSettled c.begin.items q.left → AreSettled c.begin.items q.right → option_map_or (λ u. is_sure c.begin.items q.left u && is_sure c.begin.items q.right u) q.universal false ≡ false
+        → (open_settled all_settled : Bool) → open_settled ≡ true → all_settled ≡ true → (AreSurelyMatched q.style (counting false c.end.items q.pairs) q.universal open_settled all_settled s → ⊥)
+        → (AreCovered (counting true c.end.items q.pairs) q.universal s → ⊥) ⊎ AreTestsSettled c.end.items q.pairs → (x : Atom) → Extends ds x → MatchAt t q x → ⊥
+    unmatched_fails does sl sr unsure open_settled all_settled open_is all_is never over x h match_at = go q.style refl never (match_at (counts_here x h does))
       where
-        matched_in : (s : Style) → r.style ≡ s → AreMatchedIn (nodes_in t) s (option_map (term_at t) r.universal) r.pairs (chosen t left (take t.width x)) (chosen t right (take t.width x)) (drop t.width x)
-        matched_in s e = subst (λ z. AreMatchedIn (nodes_in t) z (option_map (term_at t) r.universal) r.pairs (chosen t left (take t.width x)) (chosen t right (take t.width x)) (drop t.width x)) e (m (counts_here unexcluded over.own over.moves x h))
+        uncovered : (AreCovered (counting false c.end.items q.pairs) q.universal s → ⊥) → IsCongruent (option_map (term_at t) q.universal) (pairs_at (map (tested_pair_of (nodes_in t)) q.pairs) (drop t.width x)) (chosen t q.left (take t.width x)) (chosen t q.right (take t.width x)) → ⊥
+        uncovered none m = ⊎_elim (λ also. also (congruent_here x h s sides sl sr true (inl refl) m)) (λ settled. none (congruent_here x h s sides sl sr false (inr settled) m)) over
 
-        uncovered : covers (length t.terms) (length r.pairs) (counting false second r.pairs) r.universal first left right ≡ false → IsCongruent (option_map (term_at t) r.universal) (pairs_at (map (tested_pair_of (nodes_in t)) r.pairs) (drop t.width x)) (chosen t left (take t.width x)) (chosen t right (take t.width x)) → ⊥
-        uncovered none congruent =
-            let never = uncovered_at t r rules (take t.width ds) (drop t.width ds) first second ak bk (take t.width x) (drop t.width x) (extends_front t.width ds x h) (extends_back t.width ds x h) are left right own other in
-            ⊎_elim (λ e. never true (inl refl) both.0 both.1 e congruent) (λ z. never false (inr z) both.0 both.1 none congruent) over.tests
-
-        go : (s : Style) → r.style ≡ s → surely_matched s settled (length t.terms) r first second left right ≡ false → ⊥
-        go Plain s none =
-            unlisted_fails t are (take t.width ds) first ak r.pairs rules.pairs r.universal rules.universal left right own other (take t.width x) (extends_front t.width ds x h) both.0 both.1 sorted sorted_other unsure
-            (sym (ap (λ b. b && lists r.pairs (sure_targets first left) (sure_targets first right)) all) ∙ none) (drop t.width x) (matched_in Plain s)
-        go UpTo s none = uncovered none (matched_in UpTo s)
-        go Under s none = uncovered none (matched_in Under s)
+        go : (style : Style) → q.style ≡ style → (AreSurelyMatched style (counting false c.end.items q.pairs) q.universal open_settled all_settled s → ⊥) → AreMatchedIn (nodes_in t) q.style (option_map (term_at t) q.universal) q.pairs (chosen t q.left (take t.width x)) (chosen t q.right (take t.width x)) (drop t.width x) → ⊥
+        go Plain is_style none m = unlisted_here x h s sides sl sr is_style unsure (λ l. none (all_is, l)) (subst (λ z. AreMatchedIn (nodes_in t) z (option_map (term_at t) q.universal) q.pairs (chosen t q.left (take t.width x)) (chosen t q.right (take t.width x)) (drop t.width x)) is_style m)
+        go UpTo is_style none m = uncovered (λ l. none (open_is, l)) (subst (λ z. AreMatchedIn (nodes_in t) z (option_map (term_at t) q.universal) q.pairs (chosen t q.left (take t.width x)) (chosen t q.right (take t.width x)) (drop t.width x)) is_style m)
+        go Under is_style none m = uncovered (λ l. none (open_is, l)) (subst (λ z. AreMatchedIn (nodes_in t) z (option_map (term_at t) q.universal) q.pairs (chosen t q.left (take t.width x)) (chosen t q.right (take t.width x)) (drop t.width x)) is_style m)

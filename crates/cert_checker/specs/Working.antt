@@ -1,9 +1,9 @@
 pub mod Ranges
-pub mod NodeTables
-pub mod Targets
 pub mod Roots
 pub mod Cases
-pub mod Marks
-pub mod Matching
+pub mod Indices
+pub mod Reaching
 pub mod Questions
+pub mod Matching
+pub mod Rounds
 pub mod Places

@@ -1,69 +1,27 @@
 //! The least values of two atoms at which a question fails, by cases on tests, false first.
-ghost use Rattle.std.specs.Prelude.{◌≡◌, ◌↔◌, ◌+◌, IsTrue, Bool, List, Option, Some, length, slice_set, IfOk};
+ghost use Rattle.std.specs.Prelude.{◌≡◌, ◌+◌, ◌≤◌, length, IfOk, IfSome, OnOk};
 ghost use Rattle.std.specs.Option.{option_map};
-ghost use Rattle.cert_checker.specs.Working.Cases.{IsOpen, least_of, is_less as is_less', IsBelow, IsFirstFailure};
-ghost use Rattle.cert_checker.specs.Working.Matching.{AreRules, IsState};
-ghost use Rattle.cert_checker.specs.Working.Questions.{AreAsked, IsAsked, IsSo};
+ghost use Rattle.kat_model.specs.declared.limits.TheConstants.{MAX_TESTS};
+ghost use Rattle.checker_steps.specs.NodeTables.{AreTables};
+ghost use Rattle.cert_checker.specs.Working.Cases.{least_of, IsBelow, IsFirstFailure};
+ghost use Rattle.cert_checker.specs.Working.Questions.{IsQuestion, AreNamed, HasRoom, MatchAt};
+ghost use Rattle.cert_checker.specs.Working.Places.{undecided};
 
-use crate::asked::Asked;
-use crate::known::known_tests;
-use crate::matching::{output_state, step_state};
-use crate::moves::{Rules, State};
-use crate::tables::Tables;
-use crate::targets::Targets;
+use crate::asked::{ask, ask_guards};
+use crate::known::Case;
+use crate::matching::{State, state_of};
+use crate::question::Question;
+use checker_steps::Tables;
 use kat_model::NoMemory;
 use std::alloc::Global;
+use std::collections::BTreeSet;
 
-/// What is asked of a pair at two atoms.
+// A question with the tests that its targets and its own test name at the first atom.
 #[derive(Drop)]
-pub(crate) enum PairTest {
-    /// Have these two tests, which say where its sets accept, one value?
-    Outputs(usize, usize),
-    /// Are the sets that these targets stand for matched by the rules?
-    Steps(Targets, Targets),
-}
-
-// What is known of the question where some tests are decided.
-fn state(
-    alloc: Global,
-    tables: &Tables,
-    rules: &Rules,
-    question: &PairTest,
-    asked: &Asked,
-    decided: &[Option<bool>],
-) -> Result<State, NoMemory>
-    requires rules { AreRules tables.now rules.now }
-    requires question { IsAsked tables.now question.now }
-    requires asked { AreAsked tables.now asked.now }
-    requires decided { length decided.now ≡ tables.now.width + tables.now.width }
-    ensures { IfOk result (λ s. IsState tables.now.width (IsSo tables.now rules.now question.now) decided.now s) }
-{
-    let width = tables.width();
-    let first = known_tests(alloc, tables, &asked.first, &decided[..width])?;
-    let second = known_tests(alloc, tables, &asked.second, &decided[width..])?;
-    match question {
-        PairTest::Outputs(left, right) => {
-            Ok(output_state(tables, rules, *left, *right, &first, &second))
-        }
-        PairTest::Steps(left, right) => {
-            step_state(alloc, tables, rules, left, right, &first, &second)
-        }
-    }
-}
-
-// The tests decided so far, and one more.
-fn decide(
-    alloc: Global,
-    decided: &[Option<bool>],
-    test: usize,
-    value: bool,
-) -> Result<Vec<Option<bool>>, NoMemory>
-    requires { IsOpen decided.now test }
-    ensures { IfOk result (λ v. v.items ≡ slice_set decided.now test (Some value)) }
-{
-    let mut list = decided.to_vec(alloc)?;
-    list[test] = Some(value);
-    Ok(list)
+struct Search<'a> {
+    tables: &'a Tables,
+    question: &'a Question<'a>,
+    asked: BTreeSet<usize>,
 }
 
 // The least values with the decided tests.
@@ -77,64 +35,72 @@ fn least_values(alloc: Global, decided: &[Option<bool>]) -> Result<Vec<bool>, No
     Ok(values)
 }
 
-/// Whether the first list of values is less: at the first test where they differ it is false.
-pub(crate) fn is_less(first: &[bool], second: &[bool]) -> bool
-    ensures { result ≡ is_less' first.now second.now }
-{
-    for i in 0..first.len().min(second.len()) {
-        if first[i] != second[i] {
-            return second[i];
-        }
-    }
-    false
-}
-
-// Whether the values are less than the bound, where there is one.
-fn is_below(values: &[bool], bound: Option<&[bool]>) -> bool
-    ensures { IsTrue result ↔ IsBelow (option_map (λ b. b.now) bound.entry) values.now }
-{
-    match bound {
-        Some(bound) => is_less(values, bound),
-        None => true,
-    }
-}
-
-/// The least values with the decided tests, and below the bound, at which the question fails.
-pub(crate) fn first_values(
-    alloc: Global,
-    tables: &Tables,
-    rules: &Rules,
-    question: &PairTest,
-    asked: &Asked,
-    decided: &[Option<bool>],
-    bound: Option<&[bool]>,
-) -> Result<Option<Vec<bool>>, NoMemory>
-    requires rules { AreRules tables.now rules.now }
-    requires question { IsAsked tables.now question.now }
-    requires asked { AreAsked tables.now asked.now }
-    requires decided { length decided.now ≡ tables.now.width + tables.now.width }
-    ensures { IfOk result (λ o. IsFirstFailure (λ x. IsBelow (option_map (λ b. b.now) bound.entry) x → IsSo tables.now rules.now question.now x) decided.now (option_map (λ v. v.items) o)) }
-{
-    let least = least_values(alloc, decided)?;
-    if !is_below(&least, bound) {
-        return Ok(None);
-    }
-    let test = match state(alloc, tables, rules, question, asked, decided)? {
-        State::Holds => return Ok(None),
-        State::Fails => return Ok(Some(least)),
-        State::Waits(test) => test,
-        State::WaitsAfter(test) => tables.width() + test,
-    };
-    let low = decide(alloc, decided, test, false)?;
-    let high = decide(alloc, decided, test, true)?;
-    match first_values(alloc, tables, rules, question, asked, &low, bound)? {
-        None => first_values(alloc, tables, rules, question, asked, &high, bound),
-        Some(found) => {
-            let lower = first_values(alloc, tables, rules, question, asked, &high, Some(&found))?;
-            match lower {
-                Some(values) => Ok(Some(values)),
-                None => Ok(Some(found)),
+impl<'a> Search<'a> {
+    // The least values with the decided tests, and below the bound, at which the question fails.
+    fn least_failure(
+        &self,
+        alloc: Global,
+        case: &mut Case,
+        decided: &mut [Option<bool>],
+        bound: Option<&Vec<bool>>,
+    ) -> Result<Option<Vec<bool>>, NoMemory>
+        requires tables { AreTables self.now.tables.now }
+        requires question { IsQuestion self.now.tables.now self.now.question.now }
+        requires asked { AreNamed self.now.tables.now self.now.question.now self.now.asked.keys }
+        requires room { HasRoom (length self.now.tables.now.tests) case.old }
+        requires decided { length decided.old ≡ self.now.tables.now.width + self.now.tables.now.width }
+        requires bound { IfSome bound (λ b. length b.now.items ≡ length decided.old) }
+        ensures failure { IfOk result (λ o. IsFirstFailure (λ x. IsBelow (option_map (λ b. b.now.items) bound.entry) x → MatchAt self.now.tables.now self.now.question.now x) decided.old (option_map (λ v. v.items) o)) }
+        ensures decided { OnOk result (decided.new ≡ decided.old) }
+        ensures room { OnOk result (HasRoom (length self.now.tables.now.tests) case.new) }
+    {
+        if let Some(bound) = bound {
+            if *bound <= least_values(alloc, decided)? {
+                return Ok(None);
             }
         }
+        case.decide(self.tables, self.question, &self.asked, decided);
+        let test = match state_of(alloc, self.question, case)? {
+            State::Holds => return Ok(None),
+            State::Fails => return Ok(Some(least_values(alloc, decided)?)),
+            State::Waits(test) => test,
+        };
+        decided[test] = Some(false);
+        let low = self.least_failure(alloc, case, decided, bound)?;
+        decided[test] = Some(true);
+        let high = match &low {
+            Some(found) => self.least_failure(alloc, case, decided, Some(found))?,
+            None => self.least_failure(alloc, case, decided, bound)?,
+        };
+        decided[test] = None;
+        Ok(high.or(low))
     }
+}
+
+/// The least values of two atoms, those of the first and then those of the second, at which the question fails. The case
+/// is only room for the search.
+pub(crate) fn least_failure(
+    alloc: Global,
+    tables: &Tables,
+    question: &Question,
+    case: &mut Case,
+) -> Result<Option<Vec<bool>>, NoMemory>
+    requires question { IsQuestion tables.now question.now }
+    requires narrow { tables.now.width ≤ MAX_TESTS }
+    ensures { IfOk result (λ o. IsFirstFailure (MatchAt tables.now question.now) (undecided (tables.now.width + tables.now.width)) (option_map (λ v. v.items) o)) }
+{
+    let mut asked = BTreeSet::new(alloc);
+    if let Some(test) = question.own {
+        ask(alloc, tables, &mut asked, test)?;
+    }
+    ask_guards(alloc, tables, &mut asked, &question.left)?;
+    ask_guards(alloc, tables, &mut asked, &question.right)?;
+    case.widen(tables.test_count())?;
+    let mut decided = vec![in alloc; None; tables.width() + tables.width()]?;
+    let search = Search {
+        tables,
+        question,
+        asked,
+    };
+    search.least_failure(alloc, case, &mut decided, None)
 }

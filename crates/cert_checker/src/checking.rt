@@ -10,12 +10,10 @@ ghost use Rattle.cert_checker.specs.Laws.{Says};
 ghost use Rattle.cert_checker.specs.Working.Places.{place_reason};
 
 use crate::answer::{Answer, Reason};
-use crate::places::{Place, begins_with, first_place};
+use crate::places::{Pass, Place};
 use crate::range::{action_out, test_out};
-use crate::roots::roots_of;
-use crate::steps::acceptances;
-use crate::tables::Tables;
 use certificate::{Cert, Evidence};
+use checker_steps::Tables;
 use kat_model::{Items, NoMemory, Problem};
 use std::alloc::Global;
 use string_tables::{Finding, verdict};
@@ -45,13 +43,11 @@ fn pairs_reason(alloc: Global, problem: &Problem, cert: &Cert) -> Result<Option<
     ensures { IfOk result (λ o. MatchOption o (IsAccepted problem.now cert.now) (λ r. FailsFirstBy problem.now cert.now r)) }
 {
     let mut tables = Tables::of(alloc, cert, problem.tests())?;
-    let roots = roots_of(alloc, &mut tables, problem, cert.style())?;
-    let accepting = acceptances(alloc, &mut tables)?;
-    let begins = begins_with(alloc, &mut tables, &accepting, problem, cert, &roots)?;
-    if !begins {
+    let pass = Pass::of(alloc, &mut tables, problem, cert)?;
+    if !pass.begins(alloc, &mut tables)? {
         return Ok(Some(Reason::FirstPair));
     }
-    match first_place(alloc, &mut tables, &accepting, problem, cert, &roots)? {
+    match pass.first_place(alloc, &mut tables)? {
         Some(place) => Ok(Some(reason_of_place(place))),
         None => Ok(None),
     }

@@ -1,15 +1,17 @@
-//! What is known of tests where some primitive tests are decided (three-valued logic, Kleene 1938).
-ghost use Rattle.std.specs.Prelude.{◌≡◌, IsTrue, length, MatchOption, IfOk, IfSome};
+//! What is known of tests where some primitive tests of two atoms are decided (three-valued logic, Kleene 1938). The
+//! primitive tests of both are numbered in one list: those of the first atom, and then those of the second.
+ghost use Rattle.std.specs.Prelude.{◌≡◌, ◌≤◌, ◌+◌, ℕ, length, OnOk};
+ghost use Rattle.kat_model.specs.Members.{Has};
 ghost use Rattle.term_nodes.specs.Nodes.{IsTestOver};
-ghost use Rattle.term_nodes.specs.NumberSets.{are_below};
-ghost use Rattle.cert_checker.specs.Working.NodeTables.{IsWithin};
-ghost use Rattle.cert_checker.specs.Working.Cases.{known_not, known_and, known_or, known_at, known_node, AreKnown, IsOpen, IsWaited, waiting_for};
-ghost use Rattle.cert_checker.specs.Working.Matching.{known_of, known_test, truly, falsely, IsSettled};
+ghost use Rattle.checker_steps.specs.NodeTables.{IsWithin};
+ghost use Rattle.cert_checker.specs.Working.Cases.{known_of, known_test, known_not, known_and, known_node, truly, falsely, AreAsked, AreKnown};
 
-use crate::tables::Tables;
+use crate::question::Question;
 use certificate::TestNode;
+use checker_steps::Tables;
 use kat_model::NoMemory;
 use std::alloc::Global;
+use std::collections::BTreeSet;
 
 /// What is known of a truth value.
 #[derive(Clone, Copy, Debug, PartialEq, Eq)]
@@ -20,133 +22,19 @@ pub(crate) enum Known {
     Waits(usize),
 }
 
-fn negation(x: Known) -> Known
-    ensures { result ≡ known_not x }
-{
-    match x {
-        Known::Value(value) => Known::Value(!value),
-        Known::Waits(test) => Known::Waits(test),
-    }
+/// What is known of tests by their numbers where some primitive tests are decided: at the first atom, at which a move
+/// begins, and at the second, at which it ends. It is right for the tests that are asked.
+#[derive(Drop)]
+pub(crate) struct Case {
+    pub begin: Vec<Known>,
+    pub end: Vec<Known>,
 }
 
-fn conjunction(x: Known, y: Known) -> Known
-    ensures { result ≡ known_and x y }
+/// What is known of the test.
+pub(crate) fn value_of(known: &[Known], test: usize) -> Known
+    ensures { result ≡ known_of known.now test }
 {
-    match (x, y) {
-        (Known::Value(false), _) | (_, Known::Value(false)) => Known::Value(false),
-        (Known::Value(true), other) | (other, Known::Value(true)) => other,
-        (Known::Waits(k), Known::Waits(_)) => Known::Waits(k),
-    }
-}
-
-fn disjunction(x: Known, y: Known) -> Known
-    ensures { result ≡ known_or x y }
-{
-    match (x, y) {
-        (Known::Value(true), _) | (_, Known::Value(true)) => Known::Value(true),
-        (Known::Value(false), other) | (other, Known::Value(false)) => other,
-        (Known::Waits(k), Known::Waits(_)) => Known::Waits(k),
-    }
-}
-
-// What is known of a primitive test.
-fn known_prim(decided: Option<bool>, test: usize) -> Known
-    ensures { result ≡ known_at decided test }
-{
-    match decided {
-        Some(value) => Known::Value(value),
-        None => Known::Waits(test),
-    }
-}
-
-// What is known of a node, over what is known of earlier ones.
-fn known_in(node: TestNode, earlier: &[Known], decided: &[Option<bool>]) -> Known
-    requires parts { IsTestOver (length earlier.now) node }
-    requires within { IsWithin (length decided.now) node }
-    ensures { result ≡ known_node decided.now earlier.now node }
-{
-    match node {
-        TestNode::False => Known::Value(false),
-        TestNode::True => Known::Value(true),
-        TestNode::Prim(k) => known_prim(decided[k], k),
-        TestNode::Not(x) => negation(earlier[x]),
-        TestNode::And(x, y) => conjunction(earlier[x], earlier[y]),
-        TestNode::Or(x, y) => disjunction(earlier[x], earlier[y]),
-    }
-}
-
-// What is known of each test of the tables.
-fn all_known(
-    alloc: Global,
-    tables: &Tables,
-    decided: &[Option<bool>],
-) -> Result<Vec<Known>, NoMemory>
-    requires { length decided.now ≡ tables.now.width }
-    ensures { IfOk result (λ v. AreKnown tables.now decided.now v.items) }
-{
-    let mut list = Vec::new(alloc);
-    for number in 0..tables.test_count() {
-        let value = known_in(tables.test_node(number), &list, decided);
-        list.push(value)?;
-    }
-    Ok(list)
-}
-
-// What is known of the tests that are asked; of others only that they may depend on this test.
-fn known_of_asked(
-    alloc: Global,
-    tables: &Tables,
-    asked: &[usize],
-    decided: &[Option<bool>],
-    test: usize,
-) -> Result<Vec<Known>, NoMemory>
-    requires decided { length decided.now ≡ tables.now.width }
-    requires asked { IsTrue (are_below (length tables.now.tests) asked.now) }
-    requires is_open { IsOpen decided.now test }
-    ensures { IfOk result (λ v. AreKnown tables.now decided.now v.items) }
-{
-    let mut list = vec![in alloc; Known::Waits(test); tables.test_count()]?;
-    for number in asked {
-        list[*number] = known_in(tables.test_node(*number), &list, decided);
-    }
-    Ok(list)
-}
-
-// A test that is not decided.
-fn open_test(decided: &[Option<bool>]) -> Option<usize>
-    ensures { IfSome result (IsOpen decided.now) }
-{
-    for (test, value) in decided.iter().enumerate() {
-        if value.is_none() {
-            return Some(test);
-        }
-    }
-    None
-}
-
-/// What is known of the tests of the tables, in their order, as far as those that are asked tell. Any may be
-/// asked: those on which an answer rests, and in ascending order those of which they are made.
-pub(crate) fn known_tests(
-    alloc: Global,
-    tables: &Tables,
-    asked: &[usize],
-    decided: &[Option<bool>],
-) -> Result<Vec<Known>, NoMemory>
-    requires decided { length decided.now ≡ tables.now.width }
-    requires asked { IsTrue (are_below (length tables.now.tests) asked.now) }
-    ensures { IfOk result (λ v. AreKnown tables.now decided.now v.items) }
-{
-    match open_test(decided) {
-        Some(test) => known_of_asked(alloc, tables, asked, decided, test),
-        None => all_known(alloc, tables, decided),
-    }
-}
-
-/// What is known of a guard.
-pub(crate) fn guard_value(known: &[Known], guard: usize) -> Known
-    ensures { result ≡ known_of known.now guard }
-{
-    known.get(guard).copied().unwrap_or(Known::Value(false))
+    known.get(test).copied().unwrap_or(Known::Value(false))
 }
 
 /// What is known of the test of a pair. Without one it is true.
@@ -154,7 +42,7 @@ pub(crate) fn test_value(known: &[Known], test: Option<usize>) -> Known
     ensures { result ≡ known_test known.now test }
 {
     match test {
-        Some(test) => guard_value(known, test),
+        Some(test) => value_of(known, test),
         None => Known::Value(true),
     }
 }
@@ -171,20 +59,108 @@ pub(crate) fn is_false(known: Known) -> bool
     matches!(known, Known::Value(false))
 }
 
-/// The test that a guard waits for.
-pub(crate) fn waited_test(known: &[Known], guard: usize) -> Option<usize>
-    ensures value { result ≡ waiting_for (known_of known.now guard) }
-    ensures waited { IfSome result (IsWaited known.now) }
+fn negation(x: Known) -> Known
+    ensures { result ≡ known_not x }
 {
-    match guard_value(known, guard) {
-        Known::Value(_) => None,
-        Known::Waits(test) => Some(test),
+    match x {
+        Known::Value(value) => Known::Value(!value),
+        Known::Waits(test) => Known::Waits(test),
     }
 }
 
-/// The test that the test of a pair waits for.
-pub(crate) fn waiting_test(known: &[Known], test: Option<usize>) -> Option<usize>
-    ensures { MatchOption result (IsSettled known.now test) (IsWaited known.now) }
+pub(crate) fn conjunction(x: Known, y: Known) -> Known
+    ensures { result ≡ known_and x y }
 {
-    waited_test(known, test?)
+    match (x, y) {
+        (Known::Value(false), _) | (_, Known::Value(false)) => Known::Value(false),
+        (Known::Value(true), other) | (other, Known::Value(true)) => other,
+        (Known::Waits(test), Known::Waits(_)) => Known::Waits(test),
+    }
+}
+
+// What is known of a node, over what is known of those that it names. The numbers of primitive tests begin at `first`.
+fn known_in(node: TestNode, known: &[Known], decided: &[Option<bool>], first: usize) -> Known
+    requires parts { IsTestOver (length known.now) node }
+    requires within { IsWithin (length decided.now) node }
+    requires narrow { first ≤ length decided.now }
+    ensures { result ≡ known_node first decided.now known.now node }
+{
+    match node {
+        TestNode::False => Known::Value(false),
+        TestNode::True => Known::Value(true),
+        TestNode::Prim(k) => match decided[k] {
+            Some(value) => Known::Value(value),
+            None => Known::Waits(first + k),
+        },
+        TestNode::Not(x) => negation(known[x]),
+        TestNode::And(x, y) => conjunction(known[x], known[y]),
+        TestNode::Or(x, y) => negation(conjunction(negation(known[x]), negation(known[y]))),
+    }
+}
+
+// Says what is known of these tests, among which are those of which they are made, at an atom. The numbers of its
+// primitive tests begin at `first`.
+fn evaluate(
+    known: &mut [Known],
+    tables: &Tables,
+    asked: &BTreeSet<usize>,
+    decided: &[Option<bool>],
+    first: usize,
+)
+    requires room { length tables.now.tests ≤ length known.old }
+    requires asked { AreAsked tables.now asked.now.keys }
+    requires decided { length decided.now ≡ tables.now.width }
+    requires narrow { first ≤ tables.now.width }
+    ensures known { AreKnown first tables.now decided.now asked.now.keys known.new }
+    ensures others { (k : ℕ) → (Has asked.now.keys k → ⊥) → known_of known.new k ≡ known_of known.old k }
+    ensures room { length known.new ≡ length known.old }
+{
+    for test in asked.iter() {
+        known[*test] = known_in(tables.test_node(*test), known, decided, first);
+    }
+}
+
+impl Case {
+    ghost use Rattle.cert_checker.specs.Working.Questions.{IsCase, HasRoom};
+
+    /// Nothing is known.
+    pub(crate) fn new(alloc: Global) -> Case {
+        Case {
+            begin: Vec::new(alloc),
+            end: Vec::new(alloc),
+        }
+    }
+
+    /// Makes room for so many tests.
+    pub(crate) fn widen(&mut self, count: usize) -> Result<(), NoMemory>
+        ensures { OnOk result (HasRoom count self.new) }
+    {
+        self.begin.resize(count, Known::Value(false))?;
+        self.end.resize(count, Known::Value(false))?;
+        Ok(())
+    }
+
+    /// Says what is known of the tests that are asked: of these, which the targets and the pair name, and of those of
+    /// the question.
+    pub(crate) fn decide(
+        &mut self,
+        tables: &Tables,
+        question: &Question,
+        asked: &BTreeSet<usize>,
+        decided: &[Option<bool>],
+    )
+        requires room { HasRoom (length tables.now.tests) self.old }
+        requires asked { AreAsked tables.now asked.now.keys }
+        requires begin { AreAsked tables.now question.now.begin }
+        requires end { AreAsked tables.now question.now.end }
+        requires decided { length decided.now ≡ tables.now.width + tables.now.width }
+        ensures known { IsCase tables.now question.now asked.now.keys decided.now self.new }
+        ensures room { HasRoom (length tables.now.tests) self.new }
+    {
+        let width = tables.width();
+        let (first, second) = decided.split_at(width);
+        evaluate(&mut self.begin, tables, asked, first, 0);
+        evaluate(&mut self.begin, tables, question.begin, first, 0);
+        evaluate(&mut self.end, tables, question.end, second, width);
+    }
 }

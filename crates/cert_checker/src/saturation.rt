@@ -1,128 +1,163 @@
-//! Saturation of a set by pairs (congruence closure: Bonchi and Pous 2013). A set is a mark for each term.
-ghost use Rattle.std.specs.Prelude.{◌≡◌, false, length, slice_index_or, IfOk};
-ghost use Rattle.cert_checker.specs.Working.Marks.{are_marked, with_marks, with_pair_marked, round_marked, rounds_marked, saturated_marks};
-ghost use Rattle.cert_checker.specs.Working.Matching.{known_test, may_be, counting};
-ghost use Rattle.certificate.specs.PairParts.{sets_of};
+//! Saturation of a set of terms by pairs (congruence closure: Bonchi and Pous 2013). Only the pairs that stand under terms
+//! of the set are looked at.
+ghost use Rattle.std.specs.Prelude.{◌≡◌, ◌↔◌, ◌⊎◌, ℕ, IsTrue, IfOk, OnOk};
+ghost use Rattle.kat_model.specs.Members.{Has, IsSubset};
+ghost use Rattle.cert_checker.specs.Working.Indices.{places_under, AreIndexed};
+ghost use Rattle.cert_checker.specs.Working.Reaching.{AreReached};
+ghost use Rattle.cert_checker.specs.Working.Matching.{does_count, counting};
+ghost use Rattle.cert_checker.specs.Working.Rounds.{AreAdded, IsBrought, GoesOn, AreTendedAt};
 
-use crate::known::{Known, test_value};
+use crate::index::PairIndex;
+use crate::known::{Case, Known, test_value};
+use crate::question::Question;
 use certificate::Pair;
+use indexmap::IndexSet;
 use kat_model::NoMemory;
 use std::alloc::Global;
 
-// Whether the term is marked.
-fn is_marked(marks: &[bool], term: usize) -> bool
-    ensures { result ≡ slice_index_or marks.now term false }
-{
-    marks.get(term).copied().unwrap_or(false)
+/// Listed pairs with their index. Those count whose test is true or, where `also_open` says so, may be.
+#[derive(Drop)]
+pub(crate) struct Counted<'a> {
+    pub pairs: &'a [Pair],
+    pub index: &'a PairIndex,
+    pub known: &'a [Known],
+    pub also_open: bool,
 }
 
-// Whether each of the terms is marked.
-fn holds_all(marks: &[bool], terms: &[usize]) -> bool
-    ensures { result ≡ are_marked marks.now terms.now }
-{
-    for term in terms {
-        if !is_marked(marks, *term) {
-            return false;
+impl<'a> Counted<'a> {
+    ghost use Rattle.std.specs.Prelude.{◌≡◌};
+
+    /// The listed pairs of the question, by what is known of tests at the end of a move.
+    pub(crate) fn of(question: &'a Question<'a>, case: &'a Case, also_open: bool) -> Counted<'a>
+        ensures pairs { result.pairs.now ≡ question.now.pairs }
+        ensures index { result.index.now ≡ question.now.index }
+        ensures known { result.known.now ≡ case.now.end.items }
+        ensures also_open { result.also_open ≡ also_open }
+    {
+        Counted {
+            pairs: question.pairs,
+            index: question.index,
+            known: &case.end,
+            also_open,
         }
     }
-    true
 }
 
-// Marks the terms, and answers whether one is new.
-fn mark_all(marks: &mut [bool], terms: &[usize]) -> bool
-    ensures marks { marks.new ≡ with_marks marks.old terms.now }
-    ensures same { result ≡ false → marks.new ≡ marks.old }
+/// Whether the pair counts.
+pub(crate) fn counts(counted: &Counted, pair: &Pair) -> bool
+    ensures { result ≡ does_count counted.now.also_open counted.now.known.now pair.now }
 {
-    let mut grew = false;
-    for term in terms {
-        if *term < marks.len() && !marks[*term] {
-            marks[*term] = true;
-            grew = true;
-        }
-    }
-    grew
-}
-
-// Where the set holds all of one side of the pair, adds both. Answers whether a term is new.
-fn add_pair(marks: &mut [bool], pair: &Pair) -> bool
-    ensures marks { marks.new ≡ with_pair_marked marks.old (sets_of pair.now) }
-    ensures same { result ≡ false → marks.new ≡ marks.old }
-{
-    let left = pair.left.as_slice();
-    let right = pair.right.as_slice();
-    if holds_all(marks, left) {
-        return mark_all(marks, right);
-    }
-    if holds_all(marks, right) {
-        return mark_all(marks, left);
-    }
-    false
-}
-
-// Whether the test of the pair is true, or may be where those that may be count.
-fn counts(pair: &Pair, known: &[Known], also_open: bool) -> bool
-    ensures { result ≡ may_be also_open (known_test known.now pair.now.test) }
-{
-    match test_value(known, pair.test) {
+    match test_value(counted.known, pair.test) {
         Known::Value(value) => value,
-        Known::Waits(_) => also_open,
+        Known::Waits(_) => counted.also_open,
     }
 }
 
-// One round over the pairs that count, left as soon as all the wanted terms are marked. Answers whether a term is new.
-fn round(
-    marks: &mut [bool],
-    pairs: &[Pair],
-    known: &[Known],
-    also_open: bool,
-    wanted: &[usize],
-) -> bool
-    ensures wanted { are_marked marks.new wanted.now ≡ are_marked (round_marked (counting also_open known.now pairs.now) marks.old) wanted.now }
-    ensures marks { are_marked marks.new wanted.now ≡ false → marks.new ≡ round_marked (counting also_open known.now pairs.now) marks.old }
-    ensures same { result ≡ false → marks.new ≡ marks.old }
+fn has_all(reached: &IndexSet<usize>, set: &[usize]) -> bool
+    ensures { IsTrue result ↔ IsSubset set.now reached.now.keys }
 {
-    let mut grew = false;
-    for pair in pairs {
-        if counts(pair, known, also_open) && add_pair(marks, pair) {
-            grew = true;
-            if holds_all(marks, wanted) {
-                return true;
+    set.iter().all(|term| reached.contains(term))
+}
+
+fn add_all(reached: &mut IndexSet<usize>, set: &[usize]) -> Result<(), NoMemory>
+    ensures { OnOk result (AreAdded set.now reached.old.keys reached.new.keys) }
+{
+    for term in set {
+        reached.insert(*term)?;
+    }
+    Ok(())
+}
+
+// Adds the second set where all of the first is reached.
+fn bring(reached: &mut IndexSet<usize>, set: &[usize], other: &[usize]) -> Result<(), NoMemory>
+    ensures { OnOk result (IsBrought set.now other.now reached.old.keys reached.new.keys) }
+{
+    if !has_all(reached, set) {
+        return Ok(());
+    }
+    add_all(reached, other)
+}
+
+// Goes over the pairs at these places: where one counts and all of one of its sets is reached, the other is added.
+fn add_pairs(
+    reached: &mut IndexSet<usize>,
+    counted: &Counted,
+    places: &[usize],
+) -> Result<(), NoMemory>
+    ensures goes_on { OnOk result (GoesOn (counting counted.now.also_open counted.now.known.now counted.now.pairs.now) reached.old.keys reached.new.keys) }
+    ensures tended { OnOk result (AreTendedAt counted.now.pairs.now counted.now.also_open counted.now.known.now reached.old.keys reached.new.keys places.now) }
+{
+    for place in places {
+        if let Some(pair) = counted.pairs.get(*place) {
+            if counts(counted, pair) {
+                bring(reached, pair.left.as_slice(), pair.right.as_slice())?;
+                bring(reached, pair.right.as_slice(), pair.left.as_slice())?;
             }
         }
     }
-    grew
+    Ok(())
 }
 
-// As many rounds as there are pairs, or until the others would tell no more: all the wanted terms are marked, and
-// stay so, or a round has added nothing.
-fn saturate(marks: &mut [bool], pairs: &[Pair], known: &[Known], also_open: bool, wanted: &[usize])
-    ensures { are_marked marks.new wanted.now ≡ are_marked (rounds_marked (length pairs.now) (counting also_open known.now pairs.now) marks.old) wanted.now }
+// Goes over the pairs under these terms.
+fn add_under(
+    reached: &mut IndexSet<usize>,
+    counted: &Counted,
+    terms: &[usize],
+) -> Result<(), NoMemory>
+    ensures { OnOk result (GoesOn (counting counted.now.also_open counted.now.known.now counted.now.pairs.now) reached.old.keys reached.new.keys) }
 {
-    for _turn in 0..pairs.len() {
-        if holds_all(marks, wanted) {
-            return;
-        }
-        if !round(marks, pairs, known, also_open, wanted) {
-            return;
-        }
+    for term in terms {
+        add_pairs(reached, counted, counted.index.under(*term))?;
     }
+    Ok(())
 }
 
-/// Whether all the wanted terms are among these terms, of `count` terms, saturated by the pairs whose test is true, or
-/// where `also_open` says so may be.
+// Goes over the pairs under each term that is reached, those that are added on the way too, until all that is wanted is
+// reached.
+fn add_round(
+    reached: &mut IndexSet<usize>,
+    counted: &Counted,
+    wanted: &[usize],
+) -> Result<(), NoMemory>
+    ensures goes_on { OnOk result (GoesOn (counting counted.now.also_open counted.now.known.now counted.now.pairs.now) reached.old.keys reached.new.keys) }
+    ensures tended { OnOk result (IsSubset wanted.now reached.new.keys ⊎ ((term : ℕ) → Has reached.new.keys term → AreTendedAt counted.now.pairs.now counted.now.also_open counted.now.known.now reached.old.keys reached.new.keys (places_under counted.now.index.now term))) }
+{
+    let mut place = 0;
+    while place < reached.len() {
+        if has_all(reached, wanted) {
+            return Ok(());
+        }
+        let term = *reached.get_index(place).unwrap();
+        add_pairs(reached, counted, counted.index.under(term))?;
+        place += 1;
+    }
+    Ok(())
+}
+
+/// Whether the pairs that count bring each of the wanted terms to these. The pairs under the wanted terms come first:
+/// mostly one of them does.
 pub(crate) fn reaches(
     alloc: Global,
-    count: usize,
-    pairs: &[Pair],
-    known: &[Known],
-    also_open: bool,
+    counted: &Counted,
     terms: &[usize],
     wanted: &[usize],
 ) -> Result<bool, NoMemory>
-    ensures { IfOk result (λ b. b ≡ are_marked (saturated_marks count (length pairs.now) (counting also_open known.now pairs.now) terms.now) wanted.now) }
+    requires { AreIndexed counted.now.index.now counted.now.pairs.now }
+    ensures { IfOk result (λ b. IsTrue b ↔ AreReached (counting counted.now.also_open counted.now.known.now counted.now.pairs.now) terms.now wanted.now) }
 {
-    let mut marks = vec![in alloc; false; count]?;
-    mark_all(&mut marks, terms);
-    saturate(&mut marks, pairs, known, also_open, wanted);
-    Ok(holds_all(&marks, wanted))
+    if wanted.is_empty() {
+        return Ok(true);
+    }
+    let mut reached = IndexSet::new(alloc);
+    add_all(&mut reached, terms)?;
+    add_under(&mut reached, counted, wanted)?;
+    while !has_all(&reached, wanted) {
+        let count = reached.len();
+        add_pairs(&mut reached, counted, counted.index.apart())?;
+        add_round(&mut reached, counted, wanted)?;
+        if reached.len() == count {
+            return Ok(false);
+        }
+    }
+    Ok(true)
 }

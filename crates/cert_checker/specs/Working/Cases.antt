@@ -1,10 +1,12 @@
 -- Cases on tests: some tests are decided, and what is known of a test where they are.
-use Rattle.std.specs.Prelude.{◌≡◌, ◌+◌, ℕ, Bool, true, false, not, List, [], ◌∷◌, length, slice_get, slice_index_or, Option, Some, None}
+use Rattle.std.specs.Prelude.{◌≡◌, ◌+◌, ◌⊎◌, ℕ, Bool, true, false, not, List, [], ◌∷◌, length, slice_get, slice_index_or, Option, Some, None}
+use Rattle.kat_model.specs.Members.{Has}
 use Rattle.kat_model.specs.Steps.{Atom}
 use Rattle.term_nodes.specs.declared.TestNode.{TestNode}
 use Rattle.term_nodes.specs.declared.TestNode.TheVariants.{False, True, Prim, Not, And, Or}
+use Rattle.term_nodes.specs.Nodes.{test_parts}
 use Rattle.cert_checker.specs.Answers.{IsLess}
-use Rattle.cert_checker.specs.Working.NodeTables.{TableParts, holds_at}
+use Rattle.checker_steps.specs.NodeTables.{TableParts, IsTest, holds_at}
 use Rattle.cert_checker.specs.declared.known.Known.{Known}
 use Rattle.cert_checker.specs.declared.known.Known.TheVariants.{Value, Waits}
 
@@ -20,10 +22,11 @@ Extends (Some c ∷ ds) (b ∷ bs) = (c ≡ b) × Extends ds bs
 abbrev pub IsOpen : List (Option Bool) → ℕ → Type 0
 IsOpen decided k = slice_get decided k ≡ Some None
 
--- what is known is so at each atom with the decided tests, and what it waits for is not decided
-abbrev pub IsKnown : List (Option Bool) → (Atom → Bool) → Known → Type 0
-IsKnown decided value (Value b) = (atom : Atom) → Extends decided atom → value atom ≡ b
-IsKnown decided value (Waits k) = IsOpen decided k
+-- what is known is so at each atom with the decided tests, and what it waits for is not decided; the numbers of the tests
+-- begin at the first one
+abbrev pub IsKnown : ℕ → List (Option Bool) → (Atom → Bool) → Known → Type 0
+IsKnown first decided value (Value b) = (atom : Atom) → Extends decided atom → value atom ≡ b
+IsKnown first decided value (Waits j) = (k : ℕ) × (j ≡ first + k) × IsOpen decided k
 
 -- what is known of tests that are put together (three-valued logic, Kleene 1938)
 abbrev pub known_not : Known → Known
@@ -38,38 +41,45 @@ known_and (Waits k) (Value true) = Waits k
 known_and (Waits k) (Waits l) = Waits k
 
 abbrev pub known_or : Known → Known → Known
-known_or (Value true) y = Value true
-known_or (Value false) y = y
-known_or (Waits k) (Value true) = Value true
-known_or (Waits k) (Value false) = Waits k
-known_or (Waits k) (Waits l) = Waits k
+known_or x y = known_not (known_and (known_not x) (known_not y))
 
-abbrev pub known_at : Option Bool → ℕ → Known
-known_at (Some b) k = Value b
-known_at None k = Waits k
+abbrev pub known_at : ℕ → Option Bool → ℕ → Known
+known_at first (Some b) k = Value b
+known_at first None k = Waits (first + k)
+
+-- what is known of a test, and of that of a pair, which is true where there is none
+abbrev pub known_of : List Known → ℕ → Known
+known_of known g = slice_index_or known g (Value false)
+
+abbrev pub known_test : List Known → Option ℕ → Known
+known_test known None = Value true
+known_test known (Some k) = known_of known k
 
 -- what is known of a node, over what is known of the nodes that it names
-abbrev pub known_node : List (Option Bool) → List Known → TestNode ℕ → Known
-known_node decided earlier False = Value false
-known_node decided earlier True = Value true
-known_node decided earlier (Prim k) = known_at (slice_index_or decided k None) k
-known_node decided earlier (Not x) = known_not (slice_index_or earlier x (Value false))
-known_node decided earlier (And x y) = known_and (slice_index_or earlier x (Value false)) (slice_index_or earlier y (Value false))
-known_node decided earlier (Or x y) = known_or (slice_index_or earlier x (Value false)) (slice_index_or earlier y (Value false))
+abbrev pub known_node : ℕ → List (Option Bool) → List Known → TestNode ℕ → Known
+known_node first decided known False = Value false
+known_node first decided known True = Value true
+known_node first decided known (Prim k) = known_at first (slice_index_or decided k None) k
+known_node first decided known (Not x) = known_not (known_of known x)
+known_node first decided known (And x y) = known_and (known_of known x) (known_of known y)
+known_node first decided known (Or x y) = known_or (known_of known x) (known_of known y)
 
--- the list tells what is known of each test of the tables
-pub record AreKnown (t : TableParts) (decided : List (Option Bool)) (known : List Known) : Type 0 where
-  pub count : length known ≡ length t.tests
-  pub each : (k : ℕ) (x : Known) → slice_get known k ≡ Some x → IsKnown decided (holds_at t k) x
+abbrev pub truly : Known → Bool
+truly (Value b) = b
+truly (Waits k) = false
 
--- the test that what is known waits for
-abbrev pub waiting_for : Known → Option ℕ
-waiting_for (Value b) = None
-waiting_for (Waits k) = Some k
+abbrev pub falsely : Known → Bool
+falsely (Value b) = not b
+falsely (Waits k) = false
 
--- something that is not known waits for the test
-abbrev pub IsWaited : List Known → ℕ → Type 0
-IsWaited known k = (g : ℕ) × (slice_get known g ≡ Some (Waits k))
+-- the numbers are those of tests of the tables, and with each test are those of which it is made
+abbrev pub AreAsked : TableParts → List ℕ → Type 0
+AreAsked t asked =
+    (k : ℕ) → Has asked k → IsTest t k × ((node : TestNode ℕ) → slice_get t.tests k ≡ Some node → (j : ℕ) → Has (test_parts node) j → Has asked j)
+
+-- the list tells what is known of each of these tests of the tables
+abbrev pub AreKnown : ℕ → TableParts → List (Option Bool) → List ℕ → List Known → Type 0
+AreKnown first t decided asked known = (k : ℕ) → Has asked k → IsKnown first decided (holds_at t k) (known_of known k)
 
 -- how many tests are not decided
 abbrev pub open_count : List (Option Bool) → ℕ
@@ -82,15 +92,6 @@ abbrev pub least_of : List (Option Bool) → Atom
 least_of [] = []
 least_of (None ∷ ds) = false ∷ least_of ds
 least_of (Some b ∷ ds) = b ∷ least_of ds
-
--- whether the first atom is less
-abbrev pub is_less : Atom → Atom → Bool
-is_less [] ys = false
-is_less (x ∷ xs) [] = false
-is_less (false ∷ xs) (true ∷ ys) = true
-is_less (true ∷ xs) (false ∷ ys) = false
-is_less (false ∷ xs) (false ∷ ys) = is_less xs ys
-is_less (true ∷ xs) (true ∷ ys) = is_less xs ys
 
 -- the atom is less than the bound, where there is one
 abbrev pub IsBelow : Option Atom → Atom → Type 0

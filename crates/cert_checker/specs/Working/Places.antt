@@ -1,8 +1,8 @@
 -- The first place at which the pairs of a certificate fail: at a pair and an atom, outputs come at turn 0 and
 -- each action at the turn after its number.
-use Rattle.std.specs.Prelude.{◌≡◌, ◌↔◌, ◌<◌, ◌≤◌, ◌+◌, ℕ, Bool, IsTrue, false, ◌&&◌, ◌||◌, nat_eq, nat_lt, if◌then◌else◌, List, length, slice_get, replicate, Option, Some, None}
-use Rattle.std.specs.Option.{option_map}
-use Rattle.kat_model.specs.Trees.{Term}
+use Rattle.std.specs.Prelude.{◌≡◌, ◌↔◌, ◌<◌, ◌≤◌, ◌+◌, ◌⊎◌, ℕ, Bool, IsTrue, false, ◌&&◌, if◌then◌else◌, List, [], ◌∷◌, length, map, take, drop, slice_get, replicate, Option, Some, None}
+use Rattle.std.specs.Option.{option_map, option_map_or}
+use Rattle.kat_model.specs.Trees.{Term, one}
 use Rattle.kat_model.specs.Problems.{ProblemParts, IsProblem}
 use Rattle.kat_model.specs.Members.{Has}
 use Rattle.kat_model.specs.Steps.{Atom, set_out, set_next}
@@ -11,20 +11,22 @@ use Rattle.kat_model.specs.TestedPairs.{TestedPair}
 use Rattle.term_nodes.specs.NumberSets.{are_below}
 use Rattle.certificate.specs.declared.nodes.Style.{Style}
 use Rattle.certificate.specs.declared.nodes.Style.TheVariants.{Plain, UpTo, Under}
-use Rattle.certificate.specs.Certs.{CertParts}
-use Rattle.certificate.specs.Accepted.{tested_pairs}
+use Rattle.certificate.specs.PairParts.{PairParts}
+use Rattle.certificate.specs.Certs.{CertParts, IsCert, nodes_of}
+use Rattle.certificate.specs.Accepted.{tested_pair_of, tested_pairs}
+use Rattle.checker_steps.specs.NodeTables.{TableParts, TablesGrow, tables_of, IsTest, HasValues, holds_at}
+use Rattle.checker_steps.specs.Marks.{IsMarked, AreClosed}
+use Rattle.checker_steps.specs.Targets.{AreAcceptances, AreSteps}
 use Rattle.cert_checker.specs.declared.roots.Roots.{Roots}
 use Rattle.cert_checker.specs.declared.places.Place.{Place}
-use Rattle.cert_checker.specs.declared.cases.PairTest.{PairTest}
-use Rattle.cert_checker.specs.declared.cases.PairTest.TheVariants.{Outputs, Steps}
+use Rattle.cert_checker.specs.declared.places.Turn.{Turn}
 use Rattle.cert_checker.specs.declared.answer.Reason.{Reason}
 use Rattle.cert_checker.specs.declared.answer.Reason.TheVariants.{FirstPair, Output, Missing, MissingTo, Shape, HypBroken, EndsAgree, TestNode, TermNode}
 use Rattle.cert_checker.specs.Answers.{turn_of, IsEarlier, FailsBy, OutputsHold, StepHolds, MoveHolds}
-use Rattle.cert_checker.specs.Working.Cases.{is_less}
-use Rattle.cert_checker.specs.Working.NodeTables.{TableParts, AreTables, TablesGrow, tables_of, IsTest, holds_at}
-use Rattle.cert_checker.specs.Working.Targets.{AreAcceptances, AreSteps, chosen}
+use Rattle.cert_checker.specs.Working.Cases.{AreAsked}
+use Rattle.cert_checker.specs.Working.Indices.{AreIndexed}
 use Rattle.cert_checker.specs.Working.Roots.{AreRoots, counted_short}
-use Rattle.cert_checker.specs.Working.Matching.{RuleParts, AreMatchedBy}
+use Rattle.cert_checker.specs.Working.Questions.{QuestionParts}
 
 -- the reason that stands at a pair and an atom, of outputs or of an action, which may lead to an atom
 abbrev pub reason_at : ℕ → List Bool → Option ℕ → Option (List Bool) → Reason
@@ -41,14 +43,13 @@ place_of Plain k atom action to = reason_at k atom action None
 place_of UpTo k atom action to = reason_at k atom action None
 place_of Under k atom action to = reason_at k atom action (Some to)
 
--- the earlier of the places that are there, the first where both are at one pair and atom
-abbrev pub comes_before : Place → Place → Bool
-comes_before x y = nat_lt x.pair y.pair || (nat_eq x.pair y.pair && is_less x.atom.items y.atom.items)
-
-abbrev pub earlier_place : Option Place → Option Place → Option Reason
-earlier_place None o = option_map place_reason o
-earlier_place (Some x) None = Some (place_reason x)
-earlier_place (Some x) (Some y) = if comes_before y x then Some (place_reason y) else Some (place_reason x)
+-- the place is the one that is there or, of two, one before which the other does not stand
+abbrev pub IsLeastOf : Option Place → Option Place → Option Place → Type 0
+IsLeastOf None o r = r ≡ o
+IsLeastOf (Some x) None r = r ≡ Some x
+IsLeastOf (Some x) (Some y) r =
+    ((r ≡ Some x) × (IsEarlier (turn_of (place_reason y)) (turn_of (place_reason x)) → ⊥))
+    ⊎ ((r ≡ Some y) × (IsEarlier (turn_of (place_reason x)) (turn_of (place_reason y)) → ⊥))
 
 -- no test is decided
 abbrev pub undecided : ℕ → List (Option Bool)
@@ -59,36 +60,48 @@ abbrev pub turn_number : Option ℕ → ℕ
 turn_number None = 0
 turn_number (Some a) = a + 1
 
--- the tables have the nodes of the certificate and the terms on which its pairs rest, and the tests tell where these
--- accept
-pub record IsPass (q : ProblemParts) (c : CertParts) (r : Roots) (t : TableParts) (tests : List ℕ) : Type 0 where
-  pub problem : IsProblem q
-  pub tables : AreTables t
-  pub nodes : TablesGrow (tables_of q.tests c) t
-  pub roots : AreRoots c.style q t r
-  pub accepting : AreAcceptances t tests
-  pub count : length c.term_nodes ≤ length tests
-  pub there : length tests ≤ length t.terms
-  pub shorts : IsTrue (are_below (length tests) r.shorts.items)
+-- what a certificate is gone through with: its problem, the roots, the tests that are true where terms accept and where a
+-- short hypothesis does, and marks of the terms of which steps are made
+pub record PassParts : Type 0 where
+  pub problem : ProblemParts
+  pub cert : CertParts
+  pub roots : Roots
+  pub accepting : List ℕ
+  pub banned : ℕ
+  pub needed : List Bool
 
--- the targets by an action of the terms of which it is known where they accept
-abbrev pub StepsOf : TableParts → Option ℕ → List ℕ → List (List (ℕ × ℕ)) → Type 0
-StepsOf t None accepting steps = Unit {0}
-StepsOf t (Some a) accepting steps = AreSteps t a steps × (length steps ≡ length accepting)
+-- the members of listed pairs and the short hypotheses are marked, and with them their parts
+pub record AreNeeded (t : TableParts) (c : CertParts) (numbers : List ℕ) (marks : List Bool) : Type 0 where
+  pub closed : AreClosed t marks
+  pub left : (p : PairParts) (k : ℕ) → Has c.pairs p → Has p.left k → IsMarked marks k
+  pub right : (p : PairParts) (k : ℕ) → Has c.pairs p → Has p.right k → IsMarked marks k
+  pub shorts : (k : ℕ) → Has numbers k → IsMarked marks k
 
--- what is asked of two sets at an atom, and at the atom that an action leads to
-abbrev pub IsAskedOf : TableParts → RuleParts → Option ℕ → List Term → List Term → Atom → Atom → Type 0
-IsAskedOf t r None es fs atom to = set_out es atom ≡ set_out fs atom
-IsAskedOf t r (Some a) es fs atom to = AreMatchedBy t r (set_next es atom a) (set_next fs atom a) to
+-- the tables have the nodes of the certificate and the terms on which its pairs rest, the tests tell where these accept,
+-- and the index is that of the pairs
+pub record IsPass (p : PassParts) (t : TableParts) : Type 0 where
+  pub problem : IsProblem p.problem
+  pub cert : IsCert p.cert
+  pub nodes : TablesGrow (tables_of p.problem.tests p.cert) t
+  pub roots : AreRoots p.cert.style p.problem t p.roots
+  pub indexed : AreIndexed p.roots.index p.cert.pairs
+  pub accepting : AreAcceptances t p.accepting
+  pub count : length p.cert.term_nodes ≤ length p.accepting
+  pub there : length p.accepting ≤ length t.terms
+  pub shorts : IsTrue (are_below (length p.accepting) p.roots.shorts.items)
+  pub banned : HasValues t (set_out (counted_short p.cert.style p.problem)) p.banned
+  pub marks : length p.needed ≡ length p.accepting
+  pub needed : AreNeeded t p.cert p.roots.shorts.items p.needed
 
--- what a question says at two atoms, where the rules count
-abbrev pub SaysAt : TableParts → RuleParts → PairTest → Atom → Atom → Type 0
-SaysAt t r (Outputs x y) atom to = holds_at t x atom ≡ holds_at t y atom
-SaysAt t r (Steps left right) atom to = AreMatchedBy t r (chosen t left.entries atom) (chosen t right.entries atom) to
+-- the targets by an action of the marked terms stand for what steps of them lead to
+abbrev pub StepsOf : TableParts → Option ℕ → List Bool → List (List (ℕ × ℕ)) → Type 0
+StepsOf t None marks steps = Unit {0}
+StepsOf t (Some a) marks steps = AreSteps t a (IsMarked marks) steps × (length steps ≡ length marks)
 
--- the question asks this of two sets
-abbrev pub AsksFor : TableParts → Option ℕ → List Term → List Term → PairTest → Type 0
-AsksFor t action es fs question = (r : RuleParts) (atom to : Atom) → SaysAt t r question atom to ↔ IsAskedOf t r action es fs atom to
+-- what a set leads to by an action; without one, to the empty product where it accepts
+abbrev pub led_to : Option ℕ → List Term → Atom → List Term
+led_to None es atom = if set_out es atom then one ∷ [] else []
+led_to (Some a) es atom = set_next es atom a
 
 -- the atom is allowed, or the move from it by the action is
 abbrev pub IsAllowed : List Term → Option ℕ → Atom → Atom → Type 0
@@ -100,6 +113,32 @@ IsAllowed shorts (Some a) atom to = IsAllowedMove shorts atom (record { act = a;
 pub record AreForbidden (t : TableParts) (c : CertParts) (q : ProblemParts) (action : Option ℕ) (forbidden : List (ℕ × ℕ)) : Type 0 where
   pub tests : (f : ℕ × ℕ) → Has forbidden f → IsTest t f.0 × IsTest t f.1
   pub mean : (atom to : Atom) → ((f : ℕ × ℕ) → Has forbidden f → (holds_at t f.0 atom && holds_at t f.1 to) ≡ false) ↔ IsAllowed (counted_short c.style q) action atom to
+
+-- what is asked of each pair by its outputs or by an action: steps, forbidden moves, and the tests that these and the pairs
+-- name
+pub record IsTurn (p : PassParts) (t : TableParts) (turn : Turn) : Type 0 where
+  pub steps : StepsOf t turn.action p.needed (map (λ x. x.entries) turn.list.items)
+  pub forbidden : AreForbidden t p.cert p.problem turn.action turn.forbidden.items
+  pub begin : AreAsked t turn.begin.keys
+  pub end : AreAsked t turn.end.keys
+  pub by_moves : (f : ℕ × ℕ) → Has turn.forbidden.items f → Has turn.begin.keys f.0 × Has turn.end.keys f.1
+  pub by_pairs : (r : PairParts) (g : ℕ) → Has p.cert.pairs r → r.test ≡ Some g → Has turn.end.keys g
+
+-- the question of a turn about what two sets lead to; of outputs it is whether they are the same
+abbrev pub question_of : PassParts → Turn → Option ℕ → List (ℕ × ℕ) → List (ℕ × ℕ) → QuestionParts
+question_of p turn own left right =
+    record { style = option_map_or (λ a. p.cert.style) turn.action UpTo; pairs = option_map_or (λ a. p.cert.pairs) turn.action []; index = p.roots.index; universal = option_map_or (λ a. p.roots.universal) turn.action None; forbidden = turn.forbidden.items; own = own; left = left; right = right; begin = turn.begin.keys; end = turn.end.keys }
+
+-- what has to hold of a pair at two atoms, of its outputs or of an action
+abbrev pub TurnHolds : Style → ProblemParts → CertParts → TestedPair → Option ℕ → Atom → Atom → Type 0
+TurnHolds s q c p None atom to = OutputsHold s q p atom
+TurnHolds Plain q c p (Some a) atom to = StepHolds Plain q c p atom a
+TurnHolds UpTo q c p (Some a) atom to = StepHolds UpTo q c p atom a
+TurnHolds Under q c p (Some a) atom to = MoveHolds Under q c p atom (record { act = a; atom = to })
+
+-- it holds of the pair at two atoms that stand side by side
+abbrev pub PairHolds : ProblemParts → CertParts → Option ℕ → PairParts → Atom → Type 0
+PairHolds q c action p x = TurnHolds c.style q c (tested_pair_of (nodes_of c) p) action (take q.tests x) (drop q.tests x)
 
 -- the reason stands at a pair, and at one of these turns
 abbrev pub IsAmong : (ℕ → Type 0) → Reason → Type 0

@@ -1,24 +1,122 @@
--- What is asked of a pair at two atoms.
-use Rattle.std.specs.Prelude.{IsTrue, length}
-use Rattle.kat_model.specs.Steps.{Atom}
-use Rattle.term_nodes.specs.NumberSets.{are_below}
-use Rattle.cert_checker.specs.declared.asked.Asked.{Asked}
-use Rattle.cert_checker.specs.declared.cases.PairTest.{PairTest}
-use Rattle.cert_checker.specs.declared.cases.PairTest.TheVariants.{Outputs, Steps}
-use Rattle.cert_checker.specs.Working.NodeTables.{TableParts, IsTest}
-use Rattle.cert_checker.specs.Working.Targets.{AreEntries}
-use Rattle.cert_checker.specs.Working.Matching.{RuleParts, MatchAt, AgreeAt}
+-- What is asked of a pair at two atoms, and what is known of the tests that it names.
+use Rattle.std.specs.Prelude.{◌≡◌, ◌⊎◌, ◌≤◌, ℕ, Bool, false, ◌&&◌, IsTrue, List, take, drop, map, length, Option, Some, None}
+use Rattle.std.specs.Option.{option_map}
+use Rattle.kat_model.specs.Trees.{Term}
+use Rattle.kat_model.specs.Members.{Has}
+use Rattle.kat_model.specs.Steps.{Atom, truth}
+use Rattle.kat_model.specs.Pairs.{plain, AreMatched, IsCongruent}
+use Rattle.kat_model.specs.TestedPairs.{pairs_at}
+use Rattle.certificate.specs.declared.nodes.Style.{Style}
+use Rattle.certificate.specs.declared.nodes.Style.TheVariants.{Plain, UpTo, Under}
+use Rattle.term_nodes.specs.NodeLists.{NodeParts}
+use Rattle.term_nodes.specs.NumberSets.{set_pairs_of, IsNumberSet}
+use Rattle.certificate.specs.PairParts.{PairParts, sets_of}
+use Rattle.certificate.specs.Accepted.{test_of, tested_pair_of}
+use Rattle.checker_steps.specs.NodeTables.{TableParts, IsTest, IsTerm, term_at, holds_at, nodes_in}
+use Rattle.checker_steps.specs.Targets.{AreEntries, chosen}
+use Rattle.cert_checker.specs.Working.Cases.{IsOpen, HoldsThroughout, Extends, AreAsked, AreKnown, known_of}
+use Rattle.cert_checker.specs.Working.Indices.{IndexParts, AreIndexed}
+use Rattle.cert_checker.specs.declared.known.Case.{Case}
+use Rattle.cert_checker.specs.declared.known.Known.TheVariants.{Waits as WaitsFor}
+use Rattle.cert_checker.specs.declared.matching.State.{State}
+use Rattle.cert_checker.specs.declared.matching.State.TheVariants.{Holds, Fails, Waits}
 
--- the question names tests and terms of the tables
-abbrev pub IsAsked : TableParts → PairTest → Type 0
-IsAsked t (Outputs x y) = IsTest t x × IsTest t y
-IsAsked t (Steps left right) = AreEntries t left.entries × AreEntries t right.entries
+-- The style, the listed pairs with their index, and the universal term; pairs of tests of which no move has the first true
+-- at its begin and the second at its end; the test of the pair that is asked about, and what its sets lead to; and the
+-- tests that these pairs of tests name at the first atom, and they and the listed pairs at the second.
+pub record QuestionParts : Type 0 where
+  pub style : Style
+  pub pairs : List PairParts
+  pub index : IndexParts
+  pub universal : Option ℕ
+  pub forbidden : List (ℕ × ℕ)
+  pub own : Option ℕ
+  pub left : List (ℕ × ℕ)
+  pub right : List (ℕ × ℕ)
+  pub begin : List ℕ
+  pub end : List ℕ
 
--- the answer to the question is yes at the two atoms
-abbrev pub IsSo : TableParts → RuleParts → PairTest → Atom → Type 0
-IsSo t r (Outputs x y) atoms = AgreeAt t r x y atoms
-IsSo t r (Steps left right) atoms = MatchAt t r left.entries right.entries atoms
+-- the tests that the question names at the first atom by the pair and the targets, and by moves; and at the second
+abbrev pub NamesByTargets : QuestionParts → ℕ → Type 0
+NamesByTargets q g = (q.own ≡ Some g) ⊎ ((e : ℕ × ℕ) × (Has q.left e ⊎ Has q.right e) × (e.1 ≡ g))
 
--- the numbers are those of tests of the tables
-abbrev pub AreAsked : TableParts → Asked → Type 0
-AreAsked t a = IsTrue (are_below (length t.tests) a.first.items) × IsTrue (are_below (length t.tests) a.second.items)
+abbrev pub NamesByMoves : QuestionParts → ℕ → Type 0
+NamesByMoves q g = (f : ℕ × ℕ) × Has q.forbidden f × (f.0 ≡ g)
+
+abbrev pub NamesAtEnd : QuestionParts → ℕ → Type 0
+NamesAtEnd q g = ((f : ℕ × ℕ) × Has q.forbidden f × (f.1 ≡ g)) ⊎ ((p : PairParts) × Has q.pairs p × (p.test ≡ Some g))
+
+-- the numbers are those of terms and tests of the tables, the tests that are named are asked, and pairs of the plain style
+-- have none
+pub record IsQuestion (t : TableParts) (q : QuestionParts) : Type 0 where
+  pub pairs : (p : PairParts) → Has q.pairs p → IsNumberSet (length t.terms) p.left × IsNumberSet (length t.terms) p.right
+  pub untested : q.style ≡ Plain → (p : PairParts) → Has q.pairs p → p.test ≡ None
+  pub indexed : AreIndexed q.index q.pairs
+  pub universal : (u : ℕ) → q.universal ≡ Some u → IsTerm t u
+  pub own : (k : ℕ) → q.own ≡ Some k → IsTest t k
+  pub left : AreEntries t q.left
+  pub right : AreEntries t q.right
+  pub begin : AreAsked t q.begin
+  pub end : AreAsked t q.end
+  pub by_moves : (g : ℕ) → NamesByMoves q g → Has q.begin g
+  pub at_end : (g : ℕ) → NamesAtEnd q g → Has q.end g
+
+-- these are the tests that it names by the pair and the targets
+pub record AreNamed (t : TableParts) (q : QuestionParts) (tests : List ℕ) : Type 0 where
+  pub asked : AreAsked t tests
+  pub named : (g : ℕ) → NamesByTargets q g → Has tests g
+
+-- there is room for so many tests
+pub record HasRoom (count : ℕ) (c : Case) : Type 0 where
+  pub begin : count ≤ length c.begin.items
+  pub end : count ≤ length c.end.items
+
+-- what is known of the tests that are asked where some primitive tests of both atoms are decided
+pub record IsCase (t : TableParts) (q : QuestionParts) (asked : List ℕ) (decided : List (Option Bool)) (c : Case) : Type 0 where
+  pub targets : AreKnown 0 t (take t.width decided) asked c.begin.items
+  pub begin : AreKnown 0 t (take t.width decided) q.begin c.begin.items
+  pub end : AreKnown t.width t (drop t.width decided) q.end c.end.items
+
+-- The values of two atoms stand side by side: those of the atom at which a move begins, and then those of the one at
+-- which it ends.
+abbrev pub first_half : TableParts → Atom → Atom
+first_half t x = take t.width x
+
+abbrev pub second_half : TableParts → Atom → Atom
+second_half t x = drop t.width x
+
+-- the truth of the test of a pair
+abbrev pub test_holds : TableParts → Option ℕ → Atom → Bool
+test_holds t test atom = truth (test_of (nodes_in t) test) atom
+
+-- the pair's test is true at the first atom, and the move from it to the second is not forbidden
+pub record Counts (t : TableParts) (q : QuestionParts) (atom to : Atom) : Type 0 where
+  pub own : IsTrue (test_holds t q.own atom)
+  pub free : (f : ℕ × ℕ) → Has q.forbidden f → (holds_at t f.0 atom && holds_at t f.1 to) ≡ false
+
+-- in a style these pairs match two sets of terms, in those up to congruence by the pairs whose test is true at the atom
+abbrev pub AreMatchedIn : NodeParts → Style → Option Term → List PairParts → List Term → List Term → Atom → Type 0
+AreMatchedIn nodes Plain u ps es fs to = AreMatched plain u (set_pairs_of nodes (map sets_of ps)) es fs
+AreMatchedIn nodes UpTo u ps es fs to = IsCongruent u (pairs_at (map (tested_pair_of nodes) ps) to) es fs
+AreMatchedIn nodes Under u ps es fs to = IsCongruent u (pairs_at (map (tested_pair_of nodes) ps) to) es fs
+
+-- the pairs of the question match two sets of terms
+abbrev pub AreMatchedBy : TableParts → QuestionParts → List Term → List Term → Atom → Type 0
+AreMatchedBy t q es fs to = AreMatchedIn (nodes_in t) q.style (option_map (term_at t) q.universal) q.pairs es fs to
+
+-- where the move counts, the pairs match what the targets stand for: the question holds at the two atoms
+abbrev pub MatchAt : TableParts → QuestionParts → Atom → Type 0
+MatchAt t q x =
+    Counts t q (first_half t x) (second_half t x)
+    → AreMatchedBy t q (chosen t q.left (first_half t x)) (chosen t q.right (first_half t x)) (second_half t x)
+
+-- what is known of a property of two atoms with the decided tests
+abbrev pub IsState : (Atom → Type 0) → List (Option Bool) → State → Type 0
+IsState P decided Holds = HoldsThroughout P decided
+IsState P decided Fails = (atom : Atom) → Extends decided atom → P atom → ⊥
+IsState P decided (Waits k) = IsOpen decided k
+
+-- something that the question names waits for the test
+abbrev pub IsWaited : QuestionParts → Case → ℕ → Type 0
+IsWaited q c k =
+    (g : ℕ) × (((NamesByTargets q g ⊎ NamesByMoves q g) × (known_of c.begin.items g ≡ WaitsFor k)) ⊎ (NamesAtEnd q g × (known_of c.end.items g ≡ WaitsFor k)))

@@ -1,7 +1,9 @@
-use Rattle.std.proofs.Common.{drop}
+use Rattle.std.proofs.Common.{take}
+use Rattle.std.specs.Option.{MatchOption}
+use Rattle.cert_checker.specs.Working.Questions.{IsWaited}
 use Rattle.cert_checker.specs.Working.Matching.{AreTestsSettled}
 use Rattle.cert_checker.proofs.matching.waiting_pair.Given as goal
 
--- all are settled where those that are left are
+-- what is known of the pairs before
 abbrev pub invariant-loop-pair : goal.invariant-loop-pair
-invariant-loop-pair l = AreTestsSettled l.second (drop l.pair-index l.pairs) → AreTestsSettled l.second l.pairs
+invariant-loop-pair l = MatchOption l.waiting (AreTestsSettled l.end (take l.pair-index l.pairs)) (IsWaited l.question l.case)

@@ -1,0 +1,155 @@
+-- How tests are asked with all their parts, the greatest first.
+use Rattle.std.proofs.Common.{◌≡◌, ◌<◌, ◌≤◌, ◌+◌, ℕ, max, ◌⊎◌, inl, inr, ⊎_elim, List, [], ◌∷◌, ◌++◌, length, ◌↔◌, slice_get, Some, refl, sym, ap, ◌∙◌, subst, arith, suc}
+use Rattle.std.specs.List.{All}
+use Rattle.std.specs.Ordering.{nat_cmp}
+use Rattle.std.specs.BTreeSet.{insert_key}
+use Rattle.std.specs.declared.cmp.Ordering.TheVariants.{Less}
+use Rattle.std.proofs.lemmas.Cmp.{ranked}
+use Rattle.std.proofs.lemmas.Map.Lookups.{exact_unsigned}
+use Rattle.kat_model.specs.Members.{Has, IsSubset}
+use Rattle.kat_model.proofs.Lists.{has_right, has_append}
+use Rattle.kat_model.proofs.SetKeys.{inserted_has}
+use Rattle.term_nodes.specs.declared.TestNode.{TestNode}
+use Rattle.term_nodes.specs.Nodes.{test_parts}
+use Rattle.term_nodes.proofs.Parts.{IsTestOver-part}
+use Rattle.checker_steps.specs.NodeTables.{TableParts, AreTables, IsTest}
+use Rattle.cert_checker.specs.Working.Cases.{AreAsked}
+
+-- ---- lists of numbers
+
+all_of : (P : ℕ → Type 0) (xs : List ℕ) → All P xs → (x : ℕ) → Has xs x → P x
+all_of P [] all x h = absurd h
+all_of P (y ∷ xs) all x h =
+    ⊎_elim (λ e. subst P e (all 0 y (omega arith))) (λ r. all_of P xs (λ k d lt. all (suc k) d (omega (arith, lt))) x r) h
+
+-- the least number above all
+abbrev pub bound_of : List ℕ → ℕ
+bound_of [] = 0
+bound_of (k ∷ ks) = max (k + 1) (bound_of ks)
+
+bound_above : (ks : List ℕ) (x : ℕ) → Has ks x → x < bound_of ks
+bound_above [] x h = absurd h
+bound_above (k ∷ ks) x h = ⊎_elim (λ e. omega (arith, e)) (λ r. let more = bound_above ks x r in omega (arith, more)) h
+
+bound_least : (ks : List ℕ) (n : ℕ) → ((x : ℕ) → Has ks x → x < n) → bound_of ks ≤ n
+bound_least [] n f = omega arith
+bound_least (k ∷ ks) n f = let first = f k (inl refl) in let rest = bound_least ks n (λ x h. f x (inr h)) in omega (arith, first, rest)
+
+-- ---- keys that are added
+
+-- the numbers are those of the first list and these
+abbrev pub Adds : List ℕ → List ℕ → List ℕ → Type 0
+Adds old new added = (x : ℕ) → Has new x ↔ (Has old x ⊎ Has added x)
+
+pub adds_none : (old : List ℕ) → Adds old old []
+adds_none old x = (inl, (λ h. ⊎_elim (λ o. o) absurd h))
+
+pub adds_one : (old new : List ℕ) (k : ℕ) → new ≡ insert_key nat_cmp old k → Adds old new (k ∷ [])
+adds_one old new k e x = subst (λ ns. Has ns x ↔ (Has old x ⊎ Has (k ∷ []) x)) (sym e) (
+  (λ h. ⊎_elim inl (λ s. inr (inl s)) ((inserted_has exact_unsigned k old x).0 h)),
+  (λ h. (inserted_has exact_unsigned k old x).1 (⊎_elim inl (λ m. inr (⊎_elim (λ z. z) absurd m)) h)),
+)
+
+pub adds_two : (old mid new : List ℕ) (j k : ℕ) → mid ≡ insert_key nat_cmp old j → new ≡ insert_key nat_cmp mid k → Adds old new (j ∷ k ∷ [])
+adds_two old mid new j k e f x =
+    let first = adds_one old mid j e x in
+    let second = adds_one mid new k f x in (
+      (λ h. ⊎_elim (λ m. ⊎_elim inl (λ a. inr (⊎_elim inl absurd a)) (first.0 m)) (λ a. inr (inr a)) (second.0 h)),
+      (λ h. ⊎_elim (λ o. second.1 (inl (first.1 (inl o)))) (λ m. ⊎_elim (λ s. second.1 (inl (first.1 (inr (inl s))))) (λ r. second.1 (inr r)) m) h),
+    )
+
+-- ---- asking
+
+-- some tests are pending, and the parts of those that are asked are pending or asked
+pub record IsAsking (t : TableParts) (old pending asked : List ℕ) (test : ℕ) : Type 0 where
+  pub pending_there : (k : ℕ) → Has pending k → IsTest t k
+  pub there : (k : ℕ) → Has asked k → IsTest t k
+  pub parts : (k : ℕ) (node : TestNode ℕ) → Has asked k → slice_get t.tests k ≡ Some node → (j : ℕ) → Has (test_parts node) j → Has pending j ⊎ Has asked j
+  pub kept : IsSubset old asked
+  pub has : Has pending test ⊎ Has asked test
+
+pub asking_starts : (t : TableParts) (old none pending : List ℕ) (test : ℕ) → AreAsked t old → IsTest t test → none ≡ [] → pending ≡ insert_key nat_cmp none test → IsAsking t old pending old test
+asking_starts t old none pending test closed is empty e = subst (λ l. IsAsking t old l old test) (sym (e ∙ ap (λ l. insert_key nat_cmp l test) empty)) (record {
+  pending_there = λ k h. ⊎_elim (λ s. subst (IsTest t) s is) absurd h;
+  there = λ k h. (closed k h).0;
+  parts = λ k node h at j p. inr ((closed k h).1 node at j p);
+  kept = λ k h. h;
+  has = inl (inl refl);
+})
+
+pub asking_ends : (t : TableParts) (old pending asked : List ℕ) (test : ℕ) → pending ≡ [] → IsAsking t old pending asked test → AreAsked t asked × IsSubset old asked × Has asked test
+asking_ends t old pending asked test empty g = (
+  (λ k h. (g.there k h, (λ node at j p. ⊎_elim (none j) (λ o. o) (g.parts k node h at j p)))),
+  g.kept,
+  ⊎_elim (none test) (λ o. o) g.has,
+)
+  where
+    none : (j : ℕ) → Has pending j → Has asked j
+    none j h = absurd (subst (λ l. Has l j) empty h)
+
+module _ (t : TableParts) (old pending rest next asked : List ℕ) (test k : ℕ) (node : TestNode ℕ) (g : IsAsking t old pending asked test) (e : pending ≡ rest ++ k ∷ []) (less : All (λ q. nat_cmp q k ≡ Less) rest)
+    (are : AreTables t) (at : slice_get t.tests k ≡ Some node) (adds : Adds rest next (test_parts node)) where
+  taken : Has pending k
+  taken = subst (λ l. Has l k) (sym e) (has_right rest (k ∷ []) k (inl refl))
+
+  under : (i : ℕ) → Has next i → i < k
+  under i h = ⊎_elim (λ o. ranked i k Less (sym (all_of (λ q. nat_cmp q k ≡ Less) rest less i o))) (IsTestOver-part k node (are.rules.tests_ordered k node at) i) ((adds i).0 h)
+
+  into : (i : ℕ) → Has asked i → Has (insert_key nat_cmp asked k) i
+  into i h = (inserted_has exact_unsigned k asked i).1 (inl h)
+
+  -- what was pending is so still, or was taken
+  moved : (i : ℕ) → Has pending i → Has next i ⊎ Has (insert_key nat_cmp asked k) i
+  moved i h =
+      ⊎_elim
+      (λ o. inl ((adds i).1 (inl o)))
+      (λ s. ⊎_elim (λ is. inr ((inserted_has exact_unsigned k asked i).1 (inr is))) absurd s)
+      (has_append rest (k ∷ []) i (subst (λ l. Has l i) e h))
+
+  still : (i : ℕ) → Has pending i ⊎ Has asked i → Has next i ⊎ Has (insert_key nat_cmp asked k) i
+  still i h = ⊎_elim (moved i) (λ o. inr (into i o)) h
+
+  parts_still : (i : ℕ) (n : TestNode ℕ) → Has (insert_key nat_cmp asked k) i → slice_get t.tests i ≡ Some n → (j : ℕ) → Has (test_parts n) j → Has next j ⊎ Has (insert_key nat_cmp asked k) j
+  parts_still i n h f j m =
+      ⊎_elim
+      (λ o. still j (g.parts i n o f j m))
+      (λ s. let same : node ≡ n = some_same (sym at ∙ ap (slice_get t.tests) s ∙ f) in inl ((adds j).1 (inr (subst (λ x. Has (test_parts x) j) (sym same) m))))
+      ((inserted_has exact_unsigned k asked i).0 h)
+    where
+      some_same : {x y : TestNode ℕ} → Some x ≡ Some y → x ≡ y
+      some_same s = cc
+
+  -- the greatest test is taken, and its parts are added, which are less
+  pub asking_goes_on : (new : List ℕ) → new ≡ insert_key nat_cmp asked k → IsAsking t old next new test
+  asking_goes_on new inserted = subst (λ l. IsAsking t old next l test) (sym inserted) (record {
+    pending_there = λ i h. let b = under i h in let c = g.pending_there k taken in omega (arith, b, c);
+    there = λ i h. ⊎_elim (g.there i) (λ s. subst (IsTest t) s (g.pending_there k taken)) ((inserted_has exact_unsigned k asked i).0 h);
+    parts = parts_still;
+    kept = λ i h. into i (g.kept i h);
+    has = still test g.has;
+  })
+
+  -- and what is pending is bounded by it
+  pub asking_falls : bound_of next < bound_of pending
+  asking_falls =
+      let l = bound_least next k under in
+      let b = bound_above pending k taken in
+      omega (arith, l, b)
+
+-- ---- what the calls tell
+
+pub last_has : (ks rest : List ℕ) (k : ℕ) → ks ≡ rest ++ k ∷ [] → Has ks k
+last_has ks rest k e = subst (λ l. Has l k) (sym e) (has_right rest (k ∷ []) k (inl refl))
+
+pub none_left : (ks : List ℕ) → (0 < length ks → ⊥) → ks ≡ []
+none_left [] f = refl
+none_left (k ∷ ks) f = absurd (f (omega arith))
+
+-- ---- guards
+
+-- the guards of the targets are asked, but for those of the entries that are left
+pub record IsAskingGuards (t : TableParts) (old : List ℕ) (entries rest : List (ℕ × ℕ)) (now : List ℕ) : Type 0 where
+  pub asked : AreAsked t now
+  pub kept : IsSubset old now
+  pub left : (e : ℕ × ℕ) → Has rest e → Has entries e
+  pub have : (e : ℕ × ℕ) → Has entries e → Has rest e ⊎ Has now e.1

@@ -1,0 +1,149 @@
+-- Indices of pairs as they grow, and listed pairs that are found by them.
+use Rattle.std.proofs.Common.{◌≡◌, ℕ, ◌+◌, ◌-◌, ◌<◌, ◌⊎◌, inl, inr, ⊎_elim, List, [], ◌∷◌, ◌++◌, map, length, get_or, take, slice_get, refl, sym, ap, ◌∙◌, subst, arith, Bool, true, false, cond, nat_eq, ◌&&◌, Option, Some, None}
+use Rattle.std.specs.Prelude.{unwrap_or}
+use Rattle.std.specs.Option.{option_map, option_map_or, MatchOption}
+use Rattle.std.specs.List.{ItemBy}
+use Rattle.std.specs.Map.{lookup}
+use Rattle.std.specs.BTreeMap.{is_at}
+use Rattle.std.specs.Ordering.{nat_cmp}
+use Rattle.std.specs.Cmp.Lexicographic.{pointwise}
+use Rattle.std.proofs.lemmas.Bool.{true≢false, false_from_ne_true, and_parts, and_from, cases_lt, cases_eq}
+use Rattle.std.proofs.lemmas.List.{take_more}
+use Rattle.std.proofs.lemmas.Map.Lookups.{exact_unsigned}
+use Rattle.std.proofs.lemmas.Map.Views.{tells_apart}
+use Rattle.std.proofs.lemmas.Option.{same_Some, slice_get_past, slice_get_read}
+use Rattle.kat_model.specs.Members.{Has}
+use Rattle.kat_model.proofs.Lists.{has_left, has_right, has_append, has_any, any_has}
+use Rattle.kat_model.proofs.Places.{has_at, place_of_member}
+use Rattle.term_nodes.specs.NumberSets.{NumberPair}
+use Rattle.certificate.specs.PairParts.{PairParts, sets_of}
+use Rattle.cert_checker.specs.declared.known.Known.{Known}
+use Rattle.cert_checker.specs.Working.Indices.{IndexParts, places_under, places_by, KeepsPlaces, AreIndexedTo, AreIndexed}
+use Rattle.cert_checker.specs.Working.Matching.{does_count, counting, lists}
+use Rattle.cert_checker.proofs.CountedPairs.{counting_has, has_counting}
+use Rattle.cert_checker.proofs.ListedPairs.{same_pointwise}
+
+pub below_next : (j i : ℕ) → j < i + 1 → (j < i) ⊎ (j ≡ i)
+below_next j i h = ⊎_elim inl (λ g. inr (omega (arith, h, g))) (cases_lt j i)
+
+-- what is lent of a list is what stands there
+pub item_read : {R X : Type 0} (now : R → X) (xs : List X) (i : ℕ) (r : Option R) → ItemBy now xs i i r → MatchOption r (slice_get xs i ≡ None) (λ x. slice_get xs i ≡ Some (now x))
+item_read now xs i None h = slice_get_past xs i h.3
+item_read now xs i (Some x) h = slice_get_read xs (length xs) i (now x) refl h.3.0 h.1
+
+-- ---- a place more
+
+pub pushed_has : (xs : List ℕ) (x : ℕ) → Has (xs ++ x ∷ []) x
+pushed_has xs x = has_right xs (x ∷ []) x (inl refl)
+
+not_at : (term k : ℕ) → (k ≡ term → ⊥) → is_at (nat_cmp term) k ≡ false
+not_at term k other = false_from_ne_true (is_at (nat_cmp term) k) (λ e. other (sym (tells_apart exact_unsigned term k e)))
+
+module _ {X : Type 0} (f : X → List ℕ) where
+  -- the places that stand at a key
+  abbrev pub places_at : List (ℕ × X) → ℕ → List ℕ
+  places_at es k = unwrap_or (lookup (is_at (nat_cmp k)) (map (λ (e : ℕ × X). (e.0, f e.1)) es)) []
+
+  lookup_mapped : (test : ℕ → Bool) (es : List (ℕ × X)) → lookup test (map (λ (e : ℕ × X). (e.0, f e.1)) es) ≡ option_map f (lookup test es)
+  lookup_mapped test [] = refl
+  lookup_mapped test (e ∷ es) = go (test e.0) (lookup_mapped test es)
+    where
+      go : (b : Bool) → lookup test (map (λ (e : ℕ × X). (e.0, f e.1)) es) ≡ option_map f (lookup test es) → cond b (Some (f e.1)) (lookup test (map (λ (e : ℕ × X). (e.0, f e.1)) es)) ≡ option_map f (cond b (Some e.1) (lookup test es))
+      go true same = refl
+      go false same = same
+
+  pub found_at : (es : List (ℕ × X)) (k : ℕ) (o : Option X) → o ≡ lookup (is_at (nat_cmp k)) es → places_at es k ≡ unwrap_or (option_map f o) []
+  found_at es k o e = ap (λ (p : Option (List ℕ)). unwrap_or p []) (lookup_mapped (is_at (nat_cmp k)) es ∙ ap (option_map f) (sym e))
+
+  module _ (old mid new : List (ℕ × X)) (term place : ℕ) (removed : Option X) (fresh now : X) (was : removed ≡ lookup (is_at (nat_cmp term)) old) (empty : f fresh ≡ []) (pushed : f now ≡ f (unwrap_or removed fresh) ++ place ∷ [])
+      (made : lookup (is_at (nat_cmp term)) new ≡ Some now) where
+    pub place_added : Has (places_at new term) place
+    place_added = subst (λ (l : List ℕ). Has l place) (sym (found_at new term (Some now) (sym made) ∙ pushed)) (pushed_has (f (unwrap_or removed fresh)) place)
+
+    module _ (left : (k : ℕ) → is_at (nat_cmp term) k ≡ false → lookup (is_at (nat_cmp k)) mid ≡ lookup (is_at (nat_cmp k)) old) (rest : (k : ℕ) → is_at (nat_cmp term) k ≡ false → lookup (is_at (nat_cmp k)) new ≡ lookup (is_at (nat_cmp k)) mid) where
+      here : (j : ℕ) → Has (places_at old term) j → Has (places_at new term) j
+      here j h = subst (λ (l : List ℕ). Has l j) (sym (found_at new term (Some now) (sym made) ∙ pushed)) (has_left (f (unwrap_or removed fresh)) (place ∷ []) j (go removed (subst (λ (l : List ℕ). Has l j) (found_at old term removed was) h)))
+        where
+          go : (o : Option X) → Has (unwrap_or (option_map f o) []) j → Has (f (unwrap_or o fresh)) j
+          go None m = absurd m
+          go (Some v) m = m
+
+      pub places_kept : (k j : ℕ) → Has (places_at old k) j → Has (places_at new k) j
+      places_kept k j h =
+          ⊎_elim
+          (λ same. subst (λ (i : ℕ). Has (places_at new i) j) (sym same) (here j (subst (λ (i : ℕ). Has (places_at old i) j) same h)))
+          (λ other.
+          let off = not_at term k other in
+          let alike : places_at old k ≡ places_at new k = found_at old k (lookup (is_at (nat_cmp k)) new) (rest k off ∙ left k off) ∙ sym (found_at new k (lookup (is_at (nat_cmp k)) new) refl) in
+          subst (λ (l : List ℕ). Has l j) alike h)
+          (cases_eq k term)
+
+pub kept_apart : (x y : IndexParts) (k : ℕ) → y.apart ≡ x.apart ++ k ∷ [] → y.under ≡ x.under → KeepsPlaces x y
+kept_apart x y k is same = record {
+  apart = λ j h. subst (λ (l : List ℕ). Has l j) (sym is) (has_left x.apart (k ∷ []) j h);
+  under = λ term j h. subst (λ (l : List (ℕ × List ℕ)). Has (unwrap_or (lookup (is_at (nat_cmp term)) l) []) j) (sym same) h;
+}
+
+-- under the last member of a set
+pub stands_last : (x : IndexParts) (ks : List ℕ) (k place : ℕ) → Some k ≡ slice_get ks (length ks - 1) → Has (places_under x k) place → Has (places_by x ks) place
+stands_last x ks k place last h = subst (λ (o : Option ℕ). Has (option_map_or (places_under x) o x.apart) place) last h
+
+pub stands_apart : (x : IndexParts) (ks : List ℕ) (place : ℕ) → None ≡ slice_get ks (length ks - 1) → Has x.apart place → Has (places_by x ks) place
+stands_apart x ks place last h = subst (λ (o : Option ℕ). Has (option_map_or (places_under x) o x.apart) place) last h
+
+stays : (x y : IndexParts) (ks : List ℕ) (place : ℕ) → KeepsPlaces x y → Has (places_by x ks) place → Has (places_by y ks) place
+stays x y ks place keeps h = go (slice_get ks (length ks - 1)) h
+  where
+    go : (o : Option ℕ) → Has (option_map_or (places_under x) o x.apart) place → Has (option_map_or (places_under y) o y.apart) place
+    go None m = keeps.apart place m
+    go (Some k) m = keeps.under k place m
+
+-- both sets of one pair more
+pub indexed_more : (x y z : IndexParts) (ps : List PairParts) (i : ℕ) (p : PairParts) → slice_get ps i ≡ Some p → AreIndexedTo i x ps → Has (places_by y p.left) i → KeepsPlaces x y → Has (places_by z p.right) i → KeepsPlaces y z → AreIndexedTo (i + 1) z ps
+indexed_more x y z ps i p at before left to_y right to_z k q low read =
+    ⊎_elim
+    (λ l. let was = before k q l read in (stays y z q.left k to_z (stays x y q.left k to_y was.0), stays y z q.right k to_z (stays x y q.right k to_y was.1)))
+    (λ e.
+    let same : p ≡ q = same_Some p q (sym at ∙ ap (slice_get ps) (sym e) ∙ read) in
+    subst (λ (r : PairParts). Has (places_by z r.left) k × Has (places_by z r.right) k) same
+    (subst (λ (j : ℕ). Has (places_by z p.left) j × Has (places_by z p.right) j) (sym e) (stays y z p.left i to_z left, right)))
+    (below_next k i low)
+
+-- ---- a listed pair stands by its sets
+
+-- a comparison of lists that are these
+pub compared_as : (r : Bool) (a b c d : List ℕ) → r ≡ pointwise nat_eq a b → a ≡ c → b ≡ d → pointwise nat_eq c d ≡ r
+compared_as r a b c d is e f = sym (is ∙ ap (λ (l : List ℕ). pointwise nat_eq l b) e ∙ ap (pointwise nat_eq c) f)
+
+module _ (ps : List PairParts) (also : Bool) (known : List Known) (ks ls : List ℕ) where
+  -- the pair at the place does not count, or is not of these sets
+  abbrev pub IsOther : ℕ → Type 0
+  IsOther j = (p : PairParts) → slice_get ps j ≡ Some p → (does_count also known p && (pointwise nat_eq p.left ks && pointwise nat_eq p.right ls)) ≡ false
+
+  pub other_more : (places : List ℕ) (i : ℕ) → i < length places → IsOther (get_or places i 0) → ((j : ℕ) → Has (take i places) j → IsOther j) → (j : ℕ) → Has (take (i + 1) places) j → IsOther j
+  other_more places i low here before j h =
+      ⊎_elim (before j) (λ m. ⊎_elim (λ e. subst IsOther e here) absurd m) (has_append (take i places) (get_or places i 0 ∷ []) j (subst (λ (l : List ℕ). Has l j) (take_more places i 0 low) h))
+
+  pub other_absent : (j : ℕ) → slice_get ps j ≡ None → IsOther j
+  other_absent j none p at = let f : None ≡ Some p = sym none ∙ at in absurd cc
+
+  pub other_pair : (j : ℕ) (q : PairParts) → slice_get ps j ≡ Some q → (does_count also known q && (pointwise nat_eq q.left ks && pointwise nat_eq q.right ls)) ≡ false → IsOther j
+  other_pair j q is off p at = subst (λ (r : PairParts). (does_count also known r && (pointwise nat_eq r.left ks && pointwise nat_eq r.right ls)) ≡ false) (same_Some q p (sym is ∙ at)) off
+
+  pub one_listed : (j : ℕ) (p : PairParts) → slice_get ps j ≡ Some p → does_count also known p ≡ true → pointwise nat_eq p.left ks ≡ true → pointwise nat_eq p.right ls ≡ true → lists (counting also known ps) ks ls ≡ true
+  one_listed j p at on left right =
+      any_has (λ (n : NumberPair). pointwise nat_eq n.left ks && pointwise nat_eq n.right ls) (counting also known ps) (sets_of p) (has_counting also known ps p (has_at ps j p at) on) (and_from (pointwise nat_eq p.left ks) (pointwise nat_eq p.right ls) left right)
+
+  -- all places at which it might stand were looked at
+  pub none_listed : (x : IndexParts) (places : List ℕ) → AreIndexed x ps → ((j : ℕ) → Has (places_by x ks) j → Has (places_by x ls) j → Has places j) → ((j : ℕ) → Has places j → IsOther j) → lists (counting also known ps) ks ls ≡ false
+  none_listed x places indexed within others =
+      false_from_ne_true (lists (counting also known ps) ks ls)
+      (λ e.
+      let f = has_any (λ (n : NumberPair). pointwise nat_eq n.left ks && pointwise nat_eq n.right ls) (counting also known ps) e in
+      let g = counting_has also known ps f.0 f.1 in
+      let both = subst (λ (n : NumberPair). (pointwise nat_eq n.left ks && pointwise nat_eq n.right ls) ≡ true) (sym g.3) f.2 in
+      let parts = and_parts (pointwise nat_eq g.0.left ks) (pointwise nat_eq g.0.right ls) both in
+      let at = place_of_member ps g.0 g.1 in
+      let stands = indexed at.0 g.0 at.1 in
+      let there = within at.0 (subst (λ (l : List ℕ). Has (places_by x l) at.0) (same_pointwise g.0.left ks parts.0) stands.0) (subst (λ (l : List ℕ). Has (places_by x l) at.0) (same_pointwise g.0.right ls parts.1) stands.1) in
+      true≢false (sym (and_from (does_count also known g.0) (pointwise nat_eq g.0.left ks && pointwise nat_eq g.0.right ls) g.2 both) ∙ others at.0 there g.0 at.1))

@@ -1,0 +1,177 @@
+-- What is known of a move: whether it counts, and which listed pairs do at its end.
+use Rattle.std.proofs.Common.{◌≡◌, ◌⊎◌, ℕ, ◌+◌, ◌<◌, inl, inr, ⊎_elim, List, [], ◌∷◌, map, length, get_or, take, refl, sym, ap, ◌∙◌, subst, Bool, true, false, ◌&&◌, Option, Some, None}
+use Rattle.std.specs.Prelude.{IfSome}
+use Rattle.std.specs.Option.{option_or}
+use Rattle.std.specs.List.{list_any}
+use Rattle.std.proofs.lemmas.Bool.{true≢false, and_right, and_parts, and_from, or_cases}
+use Rattle.std.proofs.lemmas.List.{take_more}
+use Rattle.std.proofs.lemmas.Option.{slice_get-get_or}
+use Rattle.kat_model.specs.Members.{Has, IsSubset}
+use Rattle.kat_model.specs.Steps.{Atom, truth}
+use Rattle.kat_model.specs.TestedPairs.{TestedPair, pairs_at}
+use Rattle.kat_model.proofs.Lists.{has_any, has_map, map_has, has_append}
+use Rattle.kat_model.proofs.Places.{has_at}
+use Rattle.kat_model.proofs.PairsUnderTests.{has_pairs_at, pairs_at_has}
+use Rattle.term_nodes.specs.NumberSets.{NumberPair, set_pairs_of, terms_of}
+use Rattle.certificate.specs.PairParts.{PairParts, sets_of}
+use Rattle.certificate.specs.Accepted.{tested_pair_of}
+use Rattle.checker_steps.specs.NodeTables.{TableParts, holds_at, nodes_in}
+use Rattle.cert_checker.specs.declared.known.Case.{Case}
+use Rattle.cert_checker.specs.declared.known.Known.{Known}
+use Rattle.cert_checker.specs.declared.known.Known.TheVariants.{Value, Waits}
+use Rattle.cert_checker.specs.Working.Cases.{Extends, IsKnown, known_and, known_of, known_test, truly, falsely}
+use Rattle.cert_checker.specs.Working.Questions.{QuestionParts, Counts, test_holds, IsWaited}
+use Rattle.cert_checker.specs.Working.Matching.{may_be, counting, is_excluded, DoesCount, AreTestsSettled}
+use Rattle.cert_checker.proofs.Covering.{truly_value, falsely_value}
+use Rattle.cert_checker.proofs.CountedPairs.{counting_has, has_counting}
+
+-- ---- what is known of two tests together
+
+one_false : (x y : Known) → known_and x y ≡ Value false → (x ≡ Value false) ⊎ (y ≡ Value false)
+one_false (Value false) y e = inl refl
+one_false (Value true) (Value false) e = inr refl
+one_false (Value true) (Value true) e = absurd cc
+one_false (Value true) (Waits k) e = absurd cc
+one_false (Waits k) (Value false) e = inr refl
+one_false (Waits k) (Value true) e = absurd cc
+one_false (Waits k) (Waits l) e = absurd cc
+
+one_waits : (x y : Known) (k : ℕ) → known_and x y ≡ Waits k → (x ≡ Waits k) ⊎ (y ≡ Waits k)
+one_waits (Value false) y k e = absurd cc
+one_waits (Value true) y k e = inr e
+one_waits (Waits j) (Value false) k e = absurd cc
+one_waits (Waits j) (Value true) k e = inl e
+one_waits (Waits j) (Waits l) k e = inl e
+
+-- ---- the forbidden pairs of tests are gone over
+
+-- after some of them: a test that is tied to true ones, or another that is waited for; and where there is none, what is
+-- known of the move
+pub record IsTold (q : QuestionParts) (c : Case) (done : List (ℕ × ℕ)) (tied waiting : Option ℕ) : Type 0 where
+  pub tied_waits : IfSome tied (IsWaited q c)
+  pub waits : IfSome waiting (IsWaited q c)
+  pub own : waiting ≡ None → known_test c.begin.items q.own ≡ Value true
+  pub free : tied ≡ None → waiting ≡ None → (f : ℕ × ℕ) → Has done f → known_and (known_of c.begin.items f.0) (known_of c.end.items f.1) ≡ Value false
+
+module _ (q : QuestionParts) (c : Case) where
+  forbidden_waits : (f : ℕ × ℕ) → Has q.forbidden f → (k : ℕ) → known_and (known_of c.begin.items f.0) (known_of c.end.items f.1) ≡ Waits k → IsWaited q c k
+  forbidden_waits f h k e =
+      ⊎_elim
+      (λ l. (f.0, inl (inr (f, h, refl), l)))
+      (λ r. (f.1, inr (inl (f, h, refl), r)))
+      (one_waits (known_of c.begin.items f.0) (known_of c.end.items f.1) k e)
+
+  or_some : (o : Option ℕ) (k : ℕ) → option_or o (Some k) ≡ None → ⊥
+  or_some None k e = absurd cc
+  or_some (Some j) k e = absurd cc
+
+  or_waits : (o : Option ℕ) (k : ℕ) → IfSome o (IsWaited q c) → IsWaited q c k → IfSome (option_or o (Some k)) (IsWaited q c)
+  or_waits None k h w = w
+  or_waits (Some j) k h w = h
+
+  told_free : (i : ℕ) (d : ℕ × ℕ) → i < length q.forbidden → (tied waiting : Option ℕ) → IsTold q c (take i q.forbidden) tied waiting → known_and (known_of c.begin.items (get_or q.forbidden i d).0) (known_of c.end.items (get_or q.forbidden i d).1) ≡ Value false → IsTold q c (take (i + 1) q.forbidden) tied waiting
+  told_free i d low tied waiting told e = record {
+    tied_waits = told.tied_waits;
+    waits = told.waits;
+    own = told.own;
+    free = λ n m f h.
+        ⊎_elim
+        (told.free n m f)
+        (λ s. ⊎_elim (λ same. subst (λ (z : ℕ × ℕ). known_and (known_of c.begin.items z.0) (known_of c.end.items z.1) ≡ Value false) same e) absurd s)
+        (has_append (take i q.forbidden) (get_or q.forbidden i d ∷ []) f (subst (λ (l : List (ℕ × ℕ)). Has l f) (take_more q.forbidden i d low) h));
+  }
+
+  told_tied : (i : ℕ) (tied waiting : Option ℕ) → IsTold q c (take i q.forbidden) tied waiting → (k : ℕ) → IsWaited q c k → IsTold q c (take (i + 1) q.forbidden) (option_or tied (Some k)) waiting
+  told_tied i tied waiting told k w = record { tied_waits = or_waits tied k told.tied_waits w; waits = told.waits; own = told.own; free = λ n m f h. absurd (or_some tied k n) }
+
+  told_waits : (i : ℕ) (tied waiting : Option ℕ) → IsTold q c (take i q.forbidden) tied waiting → (k : ℕ) → IsWaited q c k → IsTold q c (take (i + 1) q.forbidden) tied (option_or waiting (Some k))
+  told_waits i tied waiting told k w = record { tied_waits = told.tied_waits; waits = or_waits waiting k told.waits w; own = λ m. absurd (or_some waiting k m); free = λ n m f h. absurd (or_some waiting k m) }
+
+  -- one pair more, by what was computed of it
+  module _ (v : QuestionParts) (is : v ≡ q) (begin end : List Known) (begin_is : begin ≡ c.begin.items) (end_is : end ≡ c.end.items) (i : ℕ) (d : ℕ × ℕ) (low : i < length v.forbidden) (x y z : Known)
+      (x_is : x ≡ known_of begin (get_or v.forbidden i d).0) (y_is : y ≡ known_of end (get_or v.forbidden i d).1) (z_is : z ≡ known_and x y) (tied waiting now_tied now_waiting : Option ℕ) (told : IsTold q c (take i q.forbidden) tied waiting) where
+    below : i < length q.forbidden
+    below = subst (λ (u : QuestionParts). i < length u.forbidden) is low
+
+    both_are : z ≡ known_and (known_of c.begin.items (get_or q.forbidden i d).0) (known_of c.end.items (get_or q.forbidden i d).1)
+    both_are =
+        z_is ∙ ap (λ (k : Known). known_and k y) (x_is ∙ ap (λ (l : List Known). known_of l (get_or v.forbidden i d).0) begin_is ∙ ap (λ (u : QuestionParts). known_of c.begin.items (get_or u.forbidden i d).0) is)
+        ∙ ap (known_and (known_of c.begin.items (get_or q.forbidden i d).0)) (y_is ∙ ap (λ (l : List Known). known_of l (get_or v.forbidden i d).1) end_is ∙ ap (λ (u : QuestionParts). known_of c.end.items (get_or u.forbidden i d).1) is)
+
+    here_waits : (k : ℕ) → z ≡ Waits k → IsWaited q c k
+    here_waits k e = forbidden_waits (get_or q.forbidden i d) (has_at q.forbidden i (get_or q.forbidden i d) (slice_get-get_or q.forbidden i d below)) k (sym both_are ∙ e)
+
+    as_told : (o p : Option ℕ) → now_tied ≡ o → now_waiting ≡ p → IsTold q c (take (i + 1) q.forbidden) o p → IsTold q c (take (i + 1) q.forbidden) now_tied now_waiting
+    as_told o p e f h = subst (λ (u : Option ℕ). IsTold q c (take (i + 1) q.forbidden) u now_waiting) (sym e) (subst (λ (u : Option ℕ). IsTold q c (take (i + 1) q.forbidden) o u) (sym f) h)
+
+    pub next_free : now_tied ≡ tied → now_waiting ≡ waiting → z ≡ Value false → IsTold q c (take (i + 1) q.forbidden) now_tied now_waiting
+    next_free e f g = as_told tied waiting e f (told_free i d below tied waiting told (sym both_are ∙ g))
+
+    pub next_tied : (k : ℕ) → now_tied ≡ option_or tied (Some k) → now_waiting ≡ waiting → z ≡ Waits k → IsTold q c (take (i + 1) q.forbidden) now_tied now_waiting
+    next_tied k e f g = as_told (option_or tied (Some k)) waiting e f (told_tied i tied waiting told k (here_waits k g))
+
+    pub next_waits : (k : ℕ) → now_tied ≡ tied → now_waiting ≡ option_or waiting (Some k) → z ≡ Waits k → IsTold q c (take (i + 1) q.forbidden) now_tied now_waiting
+    next_waits k e f g = as_told tied (option_or waiting (Some k)) e f (told_waits i tied waiting told k (here_waits k g))
+
+-- ---- what is known is so
+
+module _ (t : TableParts) (first : ℕ) (decided : List (Option Bool)) (known : List Known) (atom : Atom) (extends : Extends decided atom) where
+  -- the test of a pair has the value that is known
+  pub test_value : (test : Option ℕ) → ((k : ℕ) → test ≡ Some k → IsKnown first decided (holds_at t k) (known_of known k)) → (b : Bool) → known_test known test ≡ Value b → test_holds t test atom ≡ b
+  test_value None told b e = cc
+  test_value (Some k) told b e = (subst (IsKnown first decided (holds_at t k)) e (told k refl)) atom extends
+
+  may_be_true : (x : Known) → may_be false x ≡ true → x ≡ Value true
+  may_be_true (Value true) e = refl
+  may_be_true (Value false) e = absurd cc
+  may_be_true (Waits k) e = absurd cc
+
+  true_may_be : (also : Bool) (x : Known) → (also ≡ true) ⊎ ((b : Bool) × (x ≡ Value b)) → (x ≡ Value false → ⊥) → may_be also x ≡ true
+  true_may_be also (Value true) h never = refl
+  true_may_be also (Value false) h never = absurd (never refl)
+  true_may_be also (Waits k) h never = ⊎_elim (λ e. e) (λ s. absurd cc) h
+
+  module _ (ps : List PairParts) (told : (p : PairParts) → Has ps p → (k : ℕ) → p.test ≡ Some k → IsKnown first decided (holds_at t k) (known_of known k)) where
+    pub sure_are_at : IsSubset (set_pairs_of (nodes_in t) (counting false known ps)) (pairs_at (map (tested_pair_of (nodes_in t)) ps) atom)
+    sure_are_at s h =
+        let m = has_map (λ (p : NumberPair). record { left = terms_of (nodes_in t) p.left; right = terms_of (nodes_in t) p.right }) (counting false known ps) s h in
+        let f = counting_has false known ps m.0 m.1 in
+        let holds : test_holds t f.0.test atom ≡ true = test_value f.0.test (told f.0 f.1) true (may_be_true (known_test known f.0.test) f.2) in
+        let same : (tested_pair_of (nodes_in t) f.0).sets ≡ s = ap (λ (p : NumberPair). record { left = terms_of (nodes_in t) p.left; right = terms_of (nodes_in t) p.right }) f.3 ∙ m.2 in
+        subst (Has (pairs_at (map (tested_pair_of (nodes_in t)) ps) atom)) same (pairs_at_has (map (tested_pair_of (nodes_in t)) ps) atom (tested_pair_of (nodes_in t) f.0) (map_has (tested_pair_of (nodes_in t)) ps f.0 f.1) holds)
+
+    pub at_are_counted : (also : Bool) → (also ≡ true) ⊎ AreTestsSettled known ps → IsSubset (pairs_at (map (tested_pair_of (nodes_in t)) ps) atom) (set_pairs_of (nodes_in t) (counting also known ps))
+    at_are_counted also settled s h =
+        let k = has_pairs_at (map (tested_pair_of (nodes_in t)) ps) atom s h in
+        let m = has_map (tested_pair_of (nodes_in t)) ps k.0 k.1 in
+        let holds : test_holds t m.0.test atom ≡ true = ap (λ (p : TestedPair). truth p.test atom) m.2 ∙ k.2 in
+        let counts = true_may_be also (known_test known m.0.test) (⊎_elim inl (λ z. inr (z m.0 m.1)) settled) (λ e. true≢false (sym holds ∙ test_value m.0.test (told m.0 m.1) false e)) in
+        let same : (tested_pair_of (nodes_in t) m.0).sets ≡ s = ap (λ (p : TestedPair). p.sets) m.2 ∙ k.3 in
+        subst (Has (set_pairs_of (nodes_in t) (counting also known ps))) same
+        (map_has (λ (p : NumberPair). record { left = terms_of (nodes_in t) p.left; right = terms_of (nodes_in t) p.right }) (counting also known ps) (sets_of m.0) (has_counting also known ps m.0 m.1 counts))
+
+-- where these are known at two atoms, what is known of the move is so
+module _ (t : TableParts) (q : QuestionParts) (c : Case) (atom to : Atom) (own : (b : Bool) → known_test c.begin.items q.own ≡ Value b → test_holds t q.own atom ≡ b)
+    (begins : (f : ℕ × ℕ) → Has q.forbidden f → (b : Bool) → known_of c.begin.items f.0 ≡ Value b → holds_at t f.0 atom ≡ b) (ends : (f : ℕ × ℕ) → Has q.forbidden f → (b : Bool) → known_of c.end.items f.1 ≡ Value b → holds_at t f.1 to ≡ b) where
+  -- what surely is excluded does not count
+  pub excluded_never : is_excluded q c ≡ true → Counts t q atom to → ⊥
+  excluded_never e counts =
+      ⊎_elim
+      (λ l. true≢false (sym counts.own ∙ own false (falsely_value (known_test c.begin.items q.own) l)))
+      (λ m.
+      let f = has_any (λ (d : ℕ × ℕ). truly (known_of c.begin.items d.0) && truly (known_of c.end.items d.1)) q.forbidden m in
+      let parts = and_parts (truly (known_of c.begin.items f.0.0)) (truly (known_of c.end.items f.0.1)) f.2 in
+      let both : (holds_at t f.0.0 atom && holds_at t f.0.1 to) ≡ true =
+      and_from (holds_at t f.0.0 atom) (holds_at t f.0.1 to) (begins f.0 f.1 true (truly_value (known_of c.begin.items f.0.0) parts.0)) (ends f.0 f.1 true (truly_value (known_of c.end.items f.0.1) parts.1)) in
+      true≢false (sym both ∙ counts.free f.0 f.1))
+      (or_cases (falsely (known_test c.begin.items q.own)) (list_any (λ (d : ℕ × ℕ). truly (known_of c.begin.items d.0) && truly (known_of c.end.items d.1)) q.forbidden) e)
+
+  pub counts_then : DoesCount q c → Counts t q atom to
+  counts_then does = record {
+    own = own true does.own;
+    free = λ f h.
+        ⊎_elim
+        (λ l. ap (λ b. b && holds_at t f.1 to) (begins f h false l))
+        (λ m. and_right (holds_at t f.0 atom) (holds_at t f.1 to) (ends f h false m))
+        (one_false (known_of c.begin.items f.0) (known_of c.end.items f.1) (does.free f h));
+  }

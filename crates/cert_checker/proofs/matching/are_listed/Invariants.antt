@@ -1,0 +1,8 @@
+use Rattle.std.proofs.Common.{ℕ, take}
+use Rattle.kat_model.specs.Members.{Has}
+use Rattle.cert_checker.proofs.Indexed.{IsOther}
+use Rattle.cert_checker.proofs.matching.are_listed.Given as goal
+
+-- no pair at a place before is that of the sets
+abbrev pub invariant-loop-place : goal.invariant-loop-place
+invariant-loop-place l = (j : ℕ) → Has (take l.place-index l.places) j → IsOther l.counted.pairs.now l.counted.also_open l.counted.known.now l.sides.lefts.items l.sides.rights.items j

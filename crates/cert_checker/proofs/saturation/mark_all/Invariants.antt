@@ -1,9 +1,0 @@
-use Rattle.std.proofs.Common.{◌≡◌, drop, false}
-use Rattle.cert_checker.specs.Working.Marks.{with_marks}
-use Rattle.cert_checker.proofs.saturation.mark_all.Given as goal
-
-abbrev pub invariant-loop-term : goal.invariant-loop-term
-invariant-loop-term l = record {
-  marks : with_marks l.marks (drop l.term-index l.terms) ≡ with_marks l.initial.marks l.terms;
-  same : l.grew ≡ false → l.marks ≡ l.initial.marks;
-}

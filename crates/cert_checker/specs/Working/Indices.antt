@@ -1,0 +1,33 @@
+-- Indices of listed pairs: the place of a pair stands under the last member of each of its sets.
+use Rattle.std.specs.Prelude.{◌≡◌, ◌<◌, ◌-◌, ℕ, List, [], length, slice_get, Some, unwrap_or}
+use Rattle.std.specs.Option.{option_map_or}
+use Rattle.std.specs.Map.{lookup}
+use Rattle.std.specs.BTreeMap.{is_at}
+use Rattle.std.specs.Ordering.{nat_cmp}
+use Rattle.kat_model.specs.Members.{Has}
+use Rattle.certificate.specs.PairParts.{PairParts}
+
+-- the places of pairs with an empty set, and those under terms
+pub record IndexParts : Type 0 where
+  pub apart : List ℕ
+  pub under : List (ℕ × List ℕ)
+
+-- the places under the term
+abbrev pub places_under : IndexParts → ℕ → List ℕ
+places_under x k = unwrap_or (lookup (is_at (nat_cmp k)) x.under) []
+
+-- the places among which are those of pairs with this set
+abbrev pub places_by : IndexParts → List ℕ → List ℕ
+places_by x ks = option_map_or (places_under x) (slice_get ks (length ks - 1)) x.apart
+
+-- an index with all that stands in this one
+pub record KeepsPlaces (old new : IndexParts) : Type 0 where
+  pub apart : (k : ℕ) → Has old.apart k → Has new.apart k
+  pub under : (term k : ℕ) → Has (places_under old term) k → Has (places_under new term) k
+
+-- the first n pairs, and all, stand where both their sets say
+abbrev pub AreIndexedTo : ℕ → IndexParts → List PairParts → Type 0
+AreIndexedTo n x ps = (k : ℕ) (p : PairParts) → k < n → slice_get ps k ≡ Some p → Has (places_by x p.left) k × Has (places_by x p.right) k
+
+abbrev pub AreIndexed : IndexParts → List PairParts → Type 0
+AreIndexed x ps = (k : ℕ) (p : PairParts) → slice_get ps k ≡ Some p → Has (places_by x p.left) k × Has (places_by x p.right) k

@@ -1,0 +1,38 @@
+-- Rounds of saturation: pairs are gone over, and what they bring to the numbers that are reached is added behind them.
+use Rattle.std.specs.Prelude.{◌≡◌, ◌⊎◌, ℕ, Bool, true, List, slice_get, Some}
+use Rattle.kat_model.specs.Members.{Has, IsSubset}
+use Rattle.term_nodes.specs.NumberSets.{NumberPair}
+use Rattle.certificate.specs.PairParts.{PairParts}
+use Rattle.cert_checker.specs.declared.known.Known.{Known}
+use Rattle.cert_checker.specs.Working.Matching.{does_count}
+use Rattle.cert_checker.specs.Working.Reaching.{HoldsAll, IsClosed}
+
+-- each number stands where it stood
+abbrev pub StayInPlace : List ℕ → List ℕ → Type 0
+StayInPlace old new = (j k : ℕ) → slice_get old j ≡ Some k → slice_get new j ≡ Some k
+
+-- the numbers of the set are added behind the others
+pub record AreAdded (set old new : List ℕ) : Type 0 where
+  pub kept : StayInPlace old new
+  pub there : IsSubset set new
+  pub only : (k : ℕ) → Has new k → Has old k ⊎ Has set k
+
+-- the numbers of the second set are, where all of the first was there
+pub record IsBrought (set other old new : List ℕ) : Type 0 where
+  pub kept : StayInPlace old new
+  pub there : IsSubset set old → IsSubset other new
+  pub only : (k : ℕ) → Has new k → Has old k ⊎ (IsSubset set old × Has other k)
+
+-- numbers are added behind the others which the pairs bring to them
+pub record GoesOn (ps : List NumberPair) (old new : List ℕ) : Type 0 where
+  pub kept : StayInPlace old new
+  pub made : (set : ℕ → Bool) → IsClosed ps set → HoldsAll set old → HoldsAll set new
+
+-- where the pair counts, and one of its sets was reached, the other is
+abbrev pub IsTended : Bool → List Known → List ℕ → List ℕ → PairParts → Type 0
+IsTended also known old new p =
+    does_count also known p ≡ true → (IsSubset p.left old → IsSubset p.right new) × (IsSubset p.right old → IsSubset p.left new)
+
+-- so it is with the pairs at these places
+abbrev pub AreTendedAt : List PairParts → Bool → List Known → List ℕ → List ℕ → List ℕ → Type 0
+AreTendedAt ps also known old new places = (k : ℕ) (p : PairParts) → Has places k → slice_get ps k ≡ Some p → IsTended also known old new p

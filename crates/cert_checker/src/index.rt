@@ -1,0 +1,87 @@
+//! An index of the listed pairs: each of their sets stands under its last member. So the sets that lie in a set of terms
+//! stand under those terms.
+ghost use Rattle.std.specs.Prelude.{◌≡◌, IfOk, OnOk};
+ghost use Rattle.kat_model.specs.Members.{Has};
+ghost use Rattle.cert_checker.specs.Working.Indices.{places_under, places_by, KeepsPlaces, AreIndexed};
+
+use certificate::Pair;
+use kat_model::NoMemory;
+use std::alloc::Global;
+use std::collections::BTreeMap;
+use std::marker::Model;
+
+/// Places of pairs: of those with an empty set, and by terms of those with a set of which the term is the last member.
+#[derive(Drop)]
+pub(crate) struct PairIndex {
+    apart: Vec<usize>,
+    under: BTreeMap<usize, Vec<usize>>,
+}
+
+impl Model for PairIndex {
+    ghost use Rattle.std.specs.Prelude.{map};
+    ghost use Rattle.cert_checker.specs.Working.Indices.{IndexParts};
+
+    ghost Value = { IndexParts };
+
+    ghost view = { λ x. record { apart = x.apart.items; under = map (λ e. (e.0, e.1.items)) x.under.entries } };
+}
+
+impl PairIndex {
+    // Adds the place of a pair with this set.
+    fn add(&mut self, alloc: Global, set: &[usize], place: usize) -> Result<(), NoMemory>
+        ensures added { OnOk result (Has (places_by self.new set.now) place) }
+        ensures kept { OnOk result (KeepsPlaces self.old self.new) }
+    {
+        match set.last() {
+            None => self.apart.push(place)?,
+            Some(term) => {
+                let mut places = self.under.remove(term).unwrap_or(Vec::new(alloc));
+                places.push(place)?;
+                self.under.insert(*term, places)?;
+            }
+        }
+        Ok(())
+    }
+
+    /// The index of these pairs.
+    pub(crate) fn of(alloc: Global, pairs: &[Pair]) -> Result<PairIndex, NoMemory>
+        ensures { IfOk result (λ x. AreIndexed x pairs.now) }
+    {
+        let mut index = PairIndex {
+            apart: Vec::new(alloc),
+            under: BTreeMap::new(alloc),
+        };
+        for (place, pair) in pairs.iter().enumerate() {
+            index.add(alloc, pair.left.as_slice(), place)?;
+            index.add(alloc, pair.right.as_slice(), place)?;
+        }
+        Ok(index)
+    }
+
+    /// The places of pairs with an empty set.
+    pub(crate) fn apart(&self) -> &[usize]
+        ensures { result.now ≡ self.now.apart }
+    {
+        &self.apart
+    }
+
+    /// The places of pairs that stand under the term.
+    pub(crate) fn under(&self, term: usize) -> &[usize]
+        ensures { result.now ≡ places_under self.now term }
+    {
+        match self.under.get(&term) {
+            Some(places) => places,
+            None => &[],
+        }
+    }
+
+    /// The places among which are those of the pairs with this set.
+    pub(crate) fn places_of(&self, set: &[usize]) -> &[usize]
+        ensures { result.now ≡ places_by self.now set.now }
+    {
+        match set.last() {
+            Some(term) => self.under(*term),
+            None => self.apart(),
+        }
+    }
+}

@@ -1,0 +1,3 @@
+pub mod NodeTables
+pub mod Marks
+pub mod Targets

@@ -1,0 +1,217 @@
+//! Symbolic partial derivatives (Antimirov 1996; with tests Pous 2015): under which atoms a term accepts, and under
+//! which a step of it leads to another. Terms are gone over in the order of their numbers, each after its parts.
+ghost use Rattle.std.specs.Prelude.{◌≡◌, ◌<◌, ◌≤◌, ◌++◌, ◌∷◌, [], if◌then◌else◌, IfOk, OnOk, IsTrue, length, map};
+ghost use Rattle.kat_model.specs.Members.{Has};
+ghost use Rattle.kat_model.specs.Steps.{dot, out, next, set_next};
+ghost use Rattle.term_nodes.specs.NumberSets.{are_below, terms_of};
+ghost use Rattle.checker_steps.specs.NodeTables.{AreTables, TablesGrow, TestsGrow, IsTest, IsTerm, HasValues, term_at, holds_at, nodes_in};
+ghost use Rattle.checker_steps.specs.Marks.{IsMarked, IsPart, AreClosed, IsClosure};
+ghost use Rattle.checker_steps.specs.Targets.{AreEntries, StandFor, chosen, AreAcceptances, AreSteps, HasNoneElsewhere};
+
+use crate::tables::Tables;
+use certificate::{TermNode, TestNode};
+use kat_model::NoMemory;
+use std::alloc::Global;
+use std::collections::BTreeMap;
+
+// The test that is true where the next term accepts, over those of earlier terms.
+fn acceptance(tables: &mut Tables, earlier: &[usize]) -> Result<usize, NoMemory>
+    requires earlier { AreAcceptances tables.old earlier.now }
+    requires next { IsTerm tables.old (length earlier.now) }
+    ensures values { IfOk result (HasValues tables.new (out (term_at tables.old (length earlier.now)))) }
+    ensures grows { TestsGrow tables.old tables.new }
+{
+    match tables.term_node(earlier.len()) {
+        TermNode::Zero | TermNode::Act(_) => tables.constant(false),
+        TermNode::One | TermNode::Star(_) => tables.constant(true),
+        TermNode::Test(x) => Ok(x),
+        TermNode::Sum(x, y) => tables.either(earlier[x], earlier[y]),
+        TermNode::Seq(x, y) => tables.both(earlier[x], earlier[y]),
+    }
+}
+
+/// For each term of the tables the number of the test that is true at the atoms that it accepts. Adds no term.
+pub fn acceptances(alloc: Global, tables: &mut Tables) -> Result<Vec<usize>, NoMemory>
+    ensures values { IfOk result (λ v. AreAcceptances tables.new v.items) }
+    ensures count { IfOk result (λ v. length v.items ≡ length tables.old.terms) }
+    ensures grows { TestsGrow tables.old tables.new }
+{
+    let mut guards = Vec::new(alloc);
+    for _ in 0..tables.term_count() {
+        let guard = acceptance(tables, &guards)?;
+        guards.push(guard)?;
+    }
+    Ok(guards)
+}
+
+/// Marks the parts of the marked terms, their parts, and so on: the terms of which steps of the marked ones are made.
+/// There is a mark for each of the first terms of the tables.
+pub fn close_marks(tables: &Tables, marks: &mut [bool])
+    requires { length marks.old ≤ length tables.now.terms }
+    ensures { IsClosure tables.now marks.old marks.new }
+{
+    for term in (0..marks.len()).rev() {
+        if marks[term] {
+            match tables.term_node(term) {
+                TermNode::Sum(x, y) | TermNode::Seq(x, y) => {
+                    marks[x] = true;
+                    marks[y] = true;
+                }
+                TermNode::Star(x) => marks[x] = true,
+                TermNode::Zero | TermNode::One | TermNode::Test(_) | TermNode::Act(_) => {}
+            }
+        }
+    }
+}
+
+/// Terms that steps may lead to, by numbers, each with that of its guard: the test that is true where they do.
+pub type Targets = BTreeMap<usize, usize>;
+
+// Adds a term, under the guard or where it was a target already.
+fn add(tables: &mut Tables, to: &mut Targets, term: usize, guard: usize) -> Result<(), NoMemory>
+    requires { AreEntries tables.old ((term, guard) ∷ to.old.entries) }
+    ensures added { OnOk result (StandFor tables.new to.new.entries (λ atom. chosen tables.old to.old.entries atom ++ (if holds_at tables.old guard atom then term_at tables.old term ∷ [] else []))) }
+    ensures grows { TestsGrow tables.old tables.new }
+{
+    if let TestNode::False = tables.test_node(guard) {
+        return Ok(());
+    }
+    let joined = match to.get(&term) {
+        Some(other) => tables.either(*other, guard)?,
+        None => guard,
+    };
+    to.insert(term, joined)?;
+    Ok(())
+}
+
+// Adds the targets, where the guard holds too.
+fn add_all(
+    tables: &mut Tables,
+    targets: &mut Targets,
+    more: &Targets,
+    guard: usize,
+) -> Result<(), NoMemory>
+    requires entries { AreEntries tables.old targets.old.entries }
+    requires others { AreEntries tables.old more.now.entries }
+    requires is_test { IsTest tables.old guard }
+    ensures added { OnOk result (StandFor tables.new targets.new.entries (λ atom. chosen tables.old targets.old.entries atom ++ (if holds_at tables.old guard atom then chosen tables.old more.now.entries atom else []))) }
+    ensures grows { TestsGrow tables.old tables.new }
+{
+    if let TestNode::False = tables.test_node(guard) {
+        return Ok(());
+    }
+    for (term, when) in more.iter() {
+        let both = tables.both(guard, *when)?;
+        add(tables, targets, *term, both)?;
+    }
+    Ok(())
+}
+
+// The targets, each with another term after it.
+fn continued_targets(
+    alloc: Global,
+    tables: &mut Tables,
+    first: &Targets,
+    after: usize,
+) -> Result<Targets, NoMemory>
+    requires tables { AreTables tables.old }
+    requires entries { AreEntries tables.old first.now.entries }
+    requires is_term { IsTerm tables.old after }
+    ensures targets { IfOk result (λ t. StandFor tables.new t.entries (λ atom. map (λ x. dot x (term_at tables.old after)) (chosen tables.old first.now.entries atom))) }
+    ensures grows { TablesGrow tables.old tables.new }
+{
+    let mut targets = BTreeMap::new(alloc);
+    for (term, when) in first.iter() {
+        let product = tables.dot(*term, after)?;
+        add(tables, &mut targets, product, *when)?;
+    }
+    Ok(targets)
+}
+
+/// The targets by the action of all members of a set together. Adds no term.
+pub fn of_set(
+    alloc: Global,
+    tables: &mut Tables,
+    steps: &[Targets],
+    set: &[usize],
+    action: usize,
+) -> Result<Targets, NoMemory>
+    requires steps { AreSteps tables.old action (Has set.now) (map (λ t. t.entries) steps.now) }
+    requires numbers { IsTrue (are_below (length steps.now) set.now) }
+    ensures targets { IfOk result (λ t. StandFor tables.new t.entries (λ atom. set_next (terms_of (nodes_in tables.old) set.now) atom action)) }
+    ensures grows { TestsGrow tables.old tables.new }
+{
+    let always = tables.constant(true)?;
+    let mut targets = BTreeMap::new(alloc);
+    for number in set {
+        add_all(tables, &mut targets, &steps[*number], always)?;
+    }
+    Ok(targets)
+}
+
+// The targets by the action of the next term, over those of its parts.
+fn step(
+    alloc: Global,
+    tables: &mut Tables,
+    accepting: &[usize],
+    earlier: &[Targets],
+    action: usize,
+) -> Result<Targets, NoMemory>
+    requires accepting { AreAcceptances tables.old accepting.now }
+    requires count { length earlier.now < length accepting.now }
+    requires next { IsTerm tables.old (length earlier.now) }
+    requires parts { AreSteps tables.old action (IsPart tables.old (length earlier.now)) (map (λ t. t.entries) earlier.now) }
+    ensures targets { IfOk result (λ t. StandFor tables.new t.entries (λ atom. next (term_at tables.old (length earlier.now)) atom action)) }
+    ensures grows { TablesGrow tables.old tables.new }
+{
+    match tables.term_node(earlier.len()) {
+        TermNode::Zero | TermNode::One | TermNode::Test(_) => Ok(BTreeMap::new(alloc)),
+        TermNode::Act(a) if a == action => {
+            let one = tables.term(TermNode::One)?;
+            let always = tables.constant(true)?;
+            let mut targets = BTreeMap::new(alloc);
+            targets.insert(one, always)?;
+            Ok(targets)
+        }
+        TermNode::Act(_) => Ok(BTreeMap::new(alloc)),
+        TermNode::Sum(x, y) => of_set(alloc, tables, earlier, &[x, y], action),
+        TermNode::Seq(x, y) => {
+            let mut targets = continued_targets(alloc, tables, &earlier[x], y)?;
+            add_all(tables, &mut targets, &earlier[y], accepting[x])?;
+            Ok(targets)
+        }
+        TermNode::Star(x) => continued_targets(alloc, tables, &earlier[x], earlier.len()),
+    }
+}
+
+/// For each marked term its targets by the action, and none for each other. The marks are closed (`close_marks`), and
+/// there are as many as tests that say where the first terms accept.
+pub fn steps(
+    alloc: Global,
+    tables: &mut Tables,
+    accepting: &[usize],
+    needed: &[bool],
+    action: usize,
+) -> Result<Vec<Targets>, NoMemory>
+    requires accepting { AreAcceptances tables.old accepting.now }
+    requires count { length accepting.now ≤ length tables.old.terms }
+    requires marks { length needed.now ≡ length accepting.now }
+    requires closed { AreClosed tables.old needed.now }
+    ensures steps { IfOk result (λ v. AreSteps tables.new action (IsMarked needed.now) (map (λ t. t.entries) v.items)) }
+    ensures others { IfOk result (λ v. HasNoneElsewhere needed.now (map (λ t. t.entries) v.items)) }
+    ensures all { IfOk result (λ v. length v.items ≡ length needed.now) }
+    ensures grows { TablesGrow tables.old tables.new }
+{
+    // The proof needs the rules of the tables.
+    let _count = tables.term_count();
+    let mut list = Vec::new(alloc);
+    for is_needed in needed {
+        if *is_needed {
+            let targets = step(alloc, tables, accepting, &list, action)?;
+            list.push(targets)?;
+        } else {
+            list.push(BTreeMap::new(alloc))?;
+        }
+    }
+    Ok(list)
+}
