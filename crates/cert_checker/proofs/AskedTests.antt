@@ -1,18 +1,23 @@
--- How tests are asked with all their parts, the greatest first.
-use Rattle.std.proofs.Common.{◌≡◌, ◌<◌, ◌≤◌, ◌+◌, ℕ, max, ◌⊎◌, inl, inr, ⊎_elim, List, [], ◌∷◌, ◌++◌, length, ◌↔◌, slice_get, Some, refl, sym, ap, ◌∙◌, subst, arith, suc}
-use Rattle.std.specs.List.{All}
-use Rattle.std.specs.Ordering.{nat_cmp}
+-- How tests are asked with all their parts, the greatest first, and which tests a question names.
+use Rattle.std.proofs.Common.{◌≡◌, ◌<◌, ◌≤◌, ◌+◌, ℕ, max, ◌⊎◌, inl, inr, ⊎_elim, true, List, [], ◌∷◌, ◌++◌, map, length, ◌↔◌, slice_get, Option, Some, None, refl, sym, ap, ◌∙◌, subst, arith, suc}
+use Rattle.std.specs.List.{All, list_any}
+use Rattle.std.specs.Option.{option_to_list}
+use Rattle.std.specs.Ordering.{nat_cmp, eq_by_cmp}
+use Rattle.std.specs.Set.{IsUnion}
+use Rattle.std.specs.BTreeMap.{is_at}
 use Rattle.std.specs.BTreeSet.{insert_key}
 use Rattle.std.specs.declared.cmp.Ordering.TheVariants.{Less}
-use Rattle.std.proofs.lemmas.Cmp.{ranked}
+use Rattle.std.proofs.lemmas.Bool.{or_left, or_right, or_cases}
+use Rattle.std.proofs.lemmas.Cmp.{ranked, nat_cmp_total}
 use Rattle.std.proofs.lemmas.Map.Lookups.{exact_unsigned}
 use Rattle.kat_model.specs.Members.{Has, IsSubset}
-use Rattle.kat_model.proofs.Lists.{has_right, has_append}
-use Rattle.kat_model.proofs.SetKeys.{inserted_has}
+use Rattle.kat_model.proofs.Lists.{has_right, has_append, has_map, map_has}
+use Rattle.kat_model.proofs.SetKeys.{found_has, inserted_has}
 use Rattle.term_nodes.specs.declared.TestNode.{TestNode}
 use Rattle.term_nodes.specs.Nodes.{test_parts}
 use Rattle.term_nodes.proofs.Parts.{IsTestOver-part}
 use Rattle.checker_steps.specs.NodeTables.{TableParts, AreTables, IsTest}
+use Rattle.checker_steps.specs.Targets.{AreEntries}
 use Rattle.cert_checker.specs.Working.Cases.{AreAsked}
 
 -- ---- lists of numbers
@@ -61,33 +66,30 @@ adds_two old mid new j k e f x =
 -- ---- asking
 
 -- some tests are pending, and the parts of those that are asked are pending or asked
-pub record IsAsking (t : TableParts) (old pending asked : List ℕ) (test : ℕ) : Type 0 where
+pub record IsAsking (t : TableParts) (old pending asked : List ℕ) : Type 0 where
   pub pending_there : (k : ℕ) → Has pending k → IsTest t k
   pub there : (k : ℕ) → Has asked k → IsTest t k
   pub parts : (k : ℕ) (node : TestNode ℕ) → Has asked k → slice_get t.tests k ≡ Some node → (j : ℕ) → Has (test_parts node) j → Has pending j ⊎ Has asked j
-  pub kept : IsSubset old asked
-  pub has : Has pending test ⊎ Has asked test
+  pub kept : (k : ℕ) → Has old k → Has pending k ⊎ Has asked k
 
-pub asking_starts : (t : TableParts) (old none pending : List ℕ) (test : ℕ) → AreAsked t old → IsTest t test → none ≡ [] → pending ≡ insert_key nat_cmp none test → IsAsking t old pending old test
-asking_starts t old none pending test closed is empty e = subst (λ l. IsAsking t old l old test) (sym (e ∙ ap (λ l. insert_key nat_cmp l test) empty)) (record {
-  pending_there = λ k h. ⊎_elim (λ s. subst (IsTest t) s is) absurd h;
-  there = λ k h. (closed k h).0;
-  parts = λ k node h at j p. inr ((closed k h).1 node at j p);
-  kept = λ k h. h;
-  has = inl (inl refl);
+pub asking_starts : (t : TableParts) (old none : List ℕ) → ((k : ℕ) → Has old k → IsTest t k) → none ≡ [] → IsAsking t old old none
+asking_starts t old none are empty = subst (IsAsking t old old) (sym empty) (record {
+  pending_there = are;
+  there = λ k h. absurd h;
+  parts = λ k node h at j p. absurd h;
+  kept = λ k h. inl h;
 })
 
-pub asking_ends : (t : TableParts) (old pending asked : List ℕ) (test : ℕ) → pending ≡ [] → IsAsking t old pending asked test → AreAsked t asked × IsSubset old asked × Has asked test
-asking_ends t old pending asked test empty g = (
+pub asking_ends : (t : TableParts) (old pending asked : List ℕ) → pending ≡ [] → IsAsking t old pending asked → AreAsked t asked × IsSubset old asked
+asking_ends t old pending asked empty g = (
   (λ k h. (g.there k h, (λ node at j p. ⊎_elim (none j) (λ o. o) (g.parts k node h at j p)))),
-  g.kept,
-  ⊎_elim (none test) (λ o. o) g.has,
+  (λ k h. ⊎_elim (none k) (λ o. o) (g.kept k h)),
 )
   where
     none : (j : ℕ) → Has pending j → Has asked j
     none j h = absurd (subst (λ l. Has l j) empty h)
 
-module _ (t : TableParts) (old pending rest next asked : List ℕ) (test k : ℕ) (node : TestNode ℕ) (g : IsAsking t old pending asked test) (e : pending ≡ rest ++ k ∷ []) (less : All (λ q. nat_cmp q k ≡ Less) rest)
+module _ (t : TableParts) (old pending rest next asked : List ℕ) (k : ℕ) (node : TestNode ℕ) (g : IsAsking t old pending asked) (e : pending ≡ rest ++ k ∷ []) (less : All (λ q. nat_cmp q k ≡ Less) rest)
     (are : AreTables t) (at : slice_get t.tests k ≡ Some node) (adds : Adds rest next (test_parts node)) where
   taken : Has pending k
   taken = subst (λ l. Has l k) (sym e) (has_right rest (k ∷ []) k (inl refl))
@@ -120,13 +122,12 @@ module _ (t : TableParts) (old pending rest next asked : List ℕ) (test k : ℕ
       some_same s = cc
 
   -- the greatest test is taken, and its parts are added, which are less
-  pub asking_goes_on : (new : List ℕ) → new ≡ insert_key nat_cmp asked k → IsAsking t old next new test
-  asking_goes_on new inserted = subst (λ l. IsAsking t old next l test) (sym inserted) (record {
+  pub asking_goes_on : (new : List ℕ) → new ≡ insert_key nat_cmp asked k → IsAsking t old next new
+  asking_goes_on new inserted = subst (IsAsking t old next) (sym inserted) (record {
     pending_there = λ i h. let b = under i h in let c = g.pending_there k taken in omega (arith, b, c);
     there = λ i h. ⊎_elim (g.there i) (λ s. subst (IsTest t) s (g.pending_there k taken)) ((inserted_has exact_unsigned k asked i).0 h);
     parts = parts_still;
-    kept = λ i h. into i (g.kept i h);
-    has = still test g.has;
+    kept = λ i h. still i (g.kept i h);
   })
 
   -- and what is pending is bounded by it
@@ -145,11 +146,54 @@ pub none_left : (ks : List ℕ) → (0 < length ks → ⊥) → ks ≡ []
 none_left [] f = refl
 none_left (k ∷ ks) f = absurd (f (omega arith))
 
--- ---- guards
+-- ---- sets that are extended
 
--- the guards of the targets are asked, but for those of the entries that are left
-pub record IsAskingGuards (t : TableParts) (old : List ℕ) (entries rest : List (ℕ × ℕ)) (now : List ℕ) : Type 0 where
-  pub asked : AreAsked t now
-  pub kept : IsSubset old now
-  pub left : (e : ℕ × ℕ) → Has rest e → Has entries e
-  pub have : (e : ℕ × ℕ) → Has entries e → Has rest e ⊎ Has now e.1
+-- a set that is extended has its members and those that are added
+pub extended_has : (old added new : List ℕ) → IsUnion (eq_by_cmp nat_cmp) old added new → (k : ℕ) → Has new k ↔ (Has old k ⊎ Has added k)
+extended_has old added new e k = (
+  (λ h. ⊎_elim (λ o. inl ((found old).0 o)) (λ a. inr ((found added).0 a)) (or_cases _ _ (sym (e k) ∙ (found new).1 h))),
+  (λ h. (found new).0 (e k ∙ ⊎_elim (λ o. or_left _ _ ((found old).1 o)) (λ a. or_right _ _ ((found added).1 a)) h)),
+)
+  where
+    found : (ks : List ℕ) → (list_any (is_at (nat_cmp k)) ks ≡ true) ↔ Has ks k
+    found ks = found_has nat_cmp_total exact_unsigned k ks
+
+-- ---- the tests that a question names
+
+-- the guards of these entries
+abbrev pub guards_of : List (ℕ × ℕ) → List ℕ
+guards_of es = map (λ e. e.1) es
+
+option_has : (o : Option ℕ) (k : ℕ) → Has (option_to_list o) k ↔ (o ≡ Some k)
+option_has None k = (absurd, none_some)
+  where
+    none_some : None ≡ Some k → Has [] k
+    none_some e = cc
+option_has (Some j) k = ((λ h. ⊎_elim (λ e. ap Some e) absurd h), (λ e. inl (some_same e)))
+  where
+    some_same : Some j ≡ Some k → j ≡ k
+    some_same e = cc
+
+-- an empty set that is extended by the test of the pair, if there is one, and by the guards of the targets
+module _ (own : Option ℕ) (left right : List (ℕ × ℕ)) (none first mid last : List ℕ) (empty : none ≡ []) (start : IsUnion (eq_by_cmp nat_cmp) none (option_to_list own) first) (one : IsUnion (eq_by_cmp nat_cmp) first (guards_of left) mid)
+    (two : IsUnion (eq_by_cmp nat_cmp) mid (guards_of right) last) where
+  -- it is of tests
+  pub gathered_tests : (t : TableParts) → ((k : ℕ) → own ≡ Some k → IsTest t k) → AreEntries t left → AreEntries t right → (k : ℕ) → Has last k → IsTest t k
+  gathered_tests t is lefts rights k h = ⊎_elim (λ m. ⊎_elim before (guards left lefts) ((extended_has first (guards_of left) mid one k).0 m)) (guards right rights) ((extended_has mid (guards_of right) last two k).0 h)
+    where
+      before : Has first k → IsTest t k
+      before m = ⊎_elim (λ n. absurd (subst (λ l. Has l k) empty n)) (λ o. is k ((option_has own k).0 o)) ((extended_has none (option_to_list own) first start k).0 m)
+
+      guards : (es : List (ℕ × ℕ)) → AreEntries t es → Has (guards_of es) k → IsTest t k
+      guards es are m = let e = has_map (λ (e : ℕ × ℕ). e.1) es k m in subst (IsTest t) e.2 (are e.0 e.1).1
+
+  -- among them is each that is named
+  pub gathered_all : (k : ℕ) → (own ≡ Some k) ⊎ ((e : ℕ × ℕ) × (Has left e ⊎ Has right e) × (e.1 ≡ k)) → Has last k
+  gathered_all k h =
+      ⊎_elim
+      (λ e. early k (inl ((extended_has none (option_to_list own) first start k).1 (inr ((option_has own k).1 e)))))
+      (λ m. subst (Has last) m.2 (⊎_elim (λ a. early m.0.1 (inr (map_has (λ (e : ℕ × ℕ). e.1) left m.0 a))) (λ b. (extended_has mid (guards_of right) last two m.0.1).1 (inr (map_has (λ (e : ℕ × ℕ). e.1) right m.0 b))) m.1))
+      h
+    where
+      early : (k : ℕ) → Has first k ⊎ Has (guards_of left) k → Has last k
+      early k g = (extended_has mid (guards_of right) last two k).1 (inl ((extended_has first (guards_of left) mid one k).1 g))

@@ -1,16 +1,27 @@
 -- The listed pairs that count.
-use Rattle.std.proofs.Common.{◌≡◌, ℕ, inl, inr, ⊎_elim, List, [], ◌∷◌, map, refl, sym, ap, ◌∙◌, subst, Bool, true, false, cond, Option, None}
+use Rattle.std.proofs.Common.{◌≡◌, ◌↔◌, ℕ, inl, inr, ⊎_elim, List, [], ◌∷◌, map, refl, sym, ap, ◌∙◌, subst, Bool, true, false, cond, Option, None}
 use Rattle.kat_model.specs.Members.{Has}
 use Rattle.term_nodes.specs.NumberSets.{NumberPair, are_below}
 use Rattle.certificate.specs.PairParts.{PairParts, sets_of}
 use Rattle.cert_checker.specs.declared.known.Known.{Known}
+use Rattle.cert_checker.specs.declared.saturation.Counted.{Counted}
 use Rattle.cert_checker.specs.Working.Reaching.{ArePairsBelow}
 use Rattle.cert_checker.specs.Working.Matching.{may_be, does_count, counting}
 use Rattle.cert_checker.specs.Working.Cases.{known_test}
+use Rattle.cert_checker.specs.Working.Questions.{TurnParts}
+use Rattle.cert_checker.specs.Working.Rounds.{counting_in}
 
 -- the pairs that count, by what is equal
-pub counting_as : (a b : Bool) (known other : List Known) (ps qs : List PairParts) → a ≡ b → known ≡ other → ps ≡ qs → counting a known ps ≡ counting b other qs
+counting_as : (a b : Bool) (known other : List Known) (ps qs : List PairParts) → a ≡ b → known ≡ other → ps ≡ qs → counting a known ps ≡ counting b other qs
 counting_as a b known other ps qs e f g = ap (λ (x : Bool). counting x known ps) e ∙ ap (λ (k : List Known). counting b k ps) f ∙ ap (counting b other) g
+
+-- what is said of those of a turn
+pub counted_as : (P : TurnParts → List NumberPair → Type 0) (counted : Counted) (turn : TurnParts) (known : List Known) (also : Bool) → counted.turn.now ≡ turn → counted.known.now ≡ known → counted.also_open ≡ also → P counted.turn.now (counting_in counted) ↔ P turn (counting also known turn.pairs)
+counted_as P counted turn known also e f g =
+    let same : counting_in counted ≡ counting also known turn.pairs = counting_as counted.also_open also counted.known.now known counted.turn.now.pairs turn.pairs g f (ap (λ (t : TurnParts). t.pairs) e) in (
+      (λ h. subst (λ (t : TurnParts). P t (counting also known turn.pairs)) e (subst (P counted.turn.now) same h)),
+      (λ h. subst (P counted.turn.now) (sym same) (subst (λ (t : TurnParts). P t (counting also known turn.pairs)) (sym e) h)),
+    )
 
 module _ (also : Bool) (known : List Known) where
   pub counting_has : (ps : List PairParts) (n : NumberPair) → Has (counting also known ps) n → (p : PairParts) × Has ps p × (does_count also known p ≡ true) × (sets_of p ≡ n)

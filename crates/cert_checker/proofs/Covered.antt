@@ -62,13 +62,13 @@ covered_as ps universal a b c d e f g h p q r s m =
 module _ (ps : List NumberPair) (universal : Option ℕ) (known : List Known) (left right : List (ℕ × ℕ)) (s : Sides) (sides : AreSides known left right s) where
   covered_covers : AreCovered ps universal s → Covers ps universal known left right
   covered_covers m =
-      covered_as ps universal s.lefts.items s.rights.items s.left_open.items s.right_open.items (sure_targets known left) (sure_targets known right) (open_targets known right left) (open_targets known left right)
-      sides.lefts sides.rights sides.left_open sides.right_open m
+      covered_as ps universal s.left.sure.items s.right.sure.items s.left.alone.items s.right.alone.items (sure_targets known left) (sure_targets known right) (open_targets known right left) (open_targets known left right)
+      sides.left.sure sides.right.sure sides.left.alone sides.right.alone m
 
   covers_covered : Covers ps universal known left right → AreCovered ps universal s
   covers_covered m =
-      covered_as ps universal (sure_targets known left) (sure_targets known right) (open_targets known right left) (open_targets known left right) s.lefts.items s.rights.items s.left_open.items s.right_open.items
-      (sym sides.lefts) (sym sides.rights) (sym sides.left_open) (sym sides.right_open) m
+      covered_as ps universal (sure_targets known left) (sure_targets known right) (open_targets known right left) (open_targets known left right) s.left.sure.items s.right.sure.items s.left.alone.items s.right.alone.items
+      (sym sides.left.sure) (sym sides.right.sure) (sym sides.left.alone) (sym sides.right.alone) m
 
 module _ (t : TableParts) (are : AreTables t) (known : List Known) (atom : Atom) (ps : List NumberPair) (pairs_below : ArePairsBelow (length t.terms) ps) where
   sure_within : (es : List (ℕ × ℕ)) → AreRight t known atom es → IsSubset (sat (set_pairs_of (nodes_in t) ps) (terms_of (nodes_in t) (sure_targets known es))) (sat (set_pairs_of (nodes_in t) ps) (chosen t es atom))

@@ -1,13 +1,15 @@
 -- Whether the first pair of a certificate is the closed sides, under a test that is true at each allowed atom.
-use Rattle.std.proofs.Common.{◌≡◌, ◌↔◌, ℕ, ◌≤◌, ◌+◌, inl, List, [], ◌∷◌, ◌++◌, map, length, take, drop, slice_get, refl, sym, ap, ◌∙◌, subst, arith, Bool, true, false, not, ◌&&◌, cond, Option, Some, None}
+use Rattle.std.proofs.Common.{◌≡◌, ◌↔◌, ℕ, ◌≤◌, ◌+◌, inl, List, [], ◌∷◌, ◌++◌, map, length, take, drop, slice_get, refl, sym, ap, ◌∙◌, subst, arith, Bool, true, false, not, ◌&&◌, cond, nat_eq, Decides, Option, Some, None}
 use Rattle.std.specs.Bool.{IsTrue}
 use Rattle.std.specs.Option.{option_map, option_map_or, is_some}
+use Rattle.std.specs.Cmp.Lexicographic.{pointwise}
+use Rattle.std.proofs.lemmas.Bool.Decides.{Decides-eqb}
+use Rattle.std.proofs.lemmas.Slice.Eq.{slice_eq-Decides}
 use Rattle.std.proofs.lemmas.List.{length-take-le, length-append}
 use Rattle.std.proofs.Math.Seq.{take-append_seam}
-use Rattle.kat_model.specs.declared.limits.TheConstants.{MAX_TESTS}
 use Rattle.kat_model.specs.Trees.{Term, TestTree, one}
 use Rattle.kat_model.specs.Problems.{ProblemParts}
-use Rattle.kat_model.specs.Members.{Has}
+use Rattle.kat_model.specs.Members.{Has, SameMembers}
 use Rattle.kat_model.specs.Steps.{Atom, truth}
 use Rattle.kat_model.specs.AllowedMoves.{IsAllowedAtom}
 use Rattle.kat_model.specs.Pairs.{SetPair}
@@ -22,96 +24,111 @@ use Rattle.certificate.specs.PairParts.{PairParts, sets_of}
 use Rattle.certificate.specs.Certs.{CertParts, IsPairOf, HasItsTest, nodes_of}
 use Rattle.certificate.specs.Accepted.{set_pairs, test_of, tested_pair_of, tested_pairs}
 use Rattle.checker_steps.specs.NodeTables.{TableParts, AreTables, TablesGrow, IsTest, IsTerm, HasValues, term_at, holds_at, nodes_in}
-use Rattle.checker_steps.specs.Targets.{StandFor, chosen}
+use Rattle.checker_steps.specs.Targets.{AreEntries, StandFor, chosen}
 use Rattle.checker_steps.proofs.GrowingTables.{grows_trans}
-use Rattle.checker_steps.proofs.StepSets.{stand_kept}
+use Rattle.checker_steps.proofs.StepSets.{stand_kept, stand_same}
 use Rattle.checker_steps.proofs.TargetSets.{holds_kept}
-use Rattle.cert_checker.specs.declared.places.Turn.{Turn}
 use Rattle.cert_checker.specs.Answers.{Begins}
-use Rattle.cert_checker.specs.Working.Cases.{Extends, IsFirstFailure}
+use Rattle.cert_checker.specs.Working.Cases.{Extends, IsFirstFailure, undecided}
 use Rattle.cert_checker.specs.Working.Roots.{compared, counted_short}
-use Rattle.cert_checker.specs.Working.Questions.{IsQuestion, Counts, AreMatchedIn, AreMatchedBy, MatchAt}
-use Rattle.cert_checker.specs.Working.Places.{PassParts, IsPass, IsTurn, IsAllowed, question_of, undecided}
-use Rattle.cert_checker.proofs.OutputTargets.{condition_stands}
-use Rattle.cert_checker.proofs.Passes.{pass_stays, turn_stays}
+use Rattle.cert_checker.specs.Working.Questions.{TurnParts, QuestionParts, IsPosed, IsAskedOf, AreNamed, Counts, AreMatchedIn, AreMatchedBy, MatchAt}
+use Rattle.cert_checker.specs.Working.Places.{PassParts, IsPass, PassGrows, IsTurn, IsAllowed}
+use Rattle.cert_checker.proofs.Passes.{pass_with, turn_with}
 use Rattle.cert_checker.proofs.PairPlaces.{undecided_extends, undecided_length}
-use Rattle.cert_checker.proofs.PairTurns.{set_kept, test_kept, test_there, outputs_told, question_asked, narrow}
+use Rattle.cert_checker.proofs.PairTurns.{set_kept, test_kept, test_there, outputs_told, both_trans, by_path, question_of, matched_in_turn, question_posed}
 
 -- ---- a test that is true at each allowed atom
 
+-- the empty product under a condition that has other words
+condition_stands : (t : TableParts) (es : List (ℕ × ℕ)) (f g : Atom → Bool) → ((atom : Atom) → f atom ≡ g atom) → StandFor t es (λ atom. cond (f atom) (one ∷ []) []) → StandFor t es (λ atom. cond (g atom) (one ∷ []) [])
+condition_stands t es f g same s =
+    stand_same t es (λ atom. cond (f atom) (one ∷ []) []) (λ atom. cond (g atom) (one ∷ []) []) s
+    (λ atom. subst (λ b. SameMembers (cond (f atom) (one ∷ []) []) (cond b (one ∷ []) [])) (same atom) (λ x. ((λ h. h), (λ h. h))))
+
 -- where it is asked whether the sets under two conditions are the same at each allowed atom, and the second condition is
 -- always true, there is no failure where the first is true at each of them
-module _ (p : PassParts) (t : TableParts) (pass : IsPass p t) (turn : Turn) (is : IsTurn p t turn) (none : turn.action ≡ None) (left right : List (ℕ × ℕ)) (f g : Atom → Bool)
-    (own : StandFor t left (λ atom. cond (f atom) (one ∷ []) [])) (other : StandFor t right (λ atom. cond (g atom) (one ∷ []) [])) (sure : (atom : Atom) → g atom ≡ true) where
+module _ (p : PassParts) (pass : IsPass p) (turn : TurnParts) (is : IsTurn p turn) (none : turn.action ≡ None) (left right : List (ℕ × ℕ)) (asked : List ℕ) (f g : Atom → Bool)
+    (own : StandFor p.tables left (λ atom. cond (f atom) (one ∷ []) [])) (other : StandFor p.tables right (λ atom. cond (g atom) (one ∷ []) [])) (sure : (atom : Atom) → g atom ≡ true) where
   abbrev HoldsAllowedly : Type 0
-  HoldsAllowedly = (atom : Atom) → length atom ≡ t.width → IsAllowedAtom (counted_short p.cert.style p.problem) atom → IsTrue (f atom)
+  HoldsAllowedly = (atom : Atom) → length atom ≡ p.tables.width → IsAllowedAtom (counted_short p.cert.style p.problem) atom → IsTrue (f atom)
 
-  mean : (atom to : Atom) → ((h : ℕ × ℕ) → Has turn.forbidden.items h → (holds_at t h.0 atom && holds_at t h.1 to) ≡ false) ↔ IsAllowed (counted_short p.cert.style p.problem) None atom to
-  mean = subst (λ o. (atom to : Atom) → ((h : ℕ × ℕ) → Has turn.forbidden.items h → (holds_at t h.0 atom && holds_at t h.1 to) ≡ false) ↔ IsAllowed (counted_short p.cert.style p.problem) o atom to) none is.forbidden.mean
+  abbrev the_question : QuestionParts
+  the_question = question_of p.tables turn None left right asked
 
-  told : (atom to : Atom) → AreMatchedBy t (question_of p turn None left right) (chosen t left atom) (chosen t right atom) to ↔ (f atom ≡ g atom)
+  mean : (atom to : Atom) → ((h : ℕ × ℕ) → Has turn.forbidden h → (holds_at p.tables h.0 atom && holds_at p.tables h.1 to) ≡ false) ↔ IsAllowed (counted_short p.cert.style p.problem) None atom to
+  mean = subst (λ o. (atom to : Atom) → ((h : ℕ × ℕ) → Has turn.forbidden h → (holds_at p.tables h.0 atom && holds_at p.tables h.1 to) ≡ false) ↔ IsAllowed (counted_short p.cert.style p.problem) o atom to) none is.forbidden.mean
+
+  told : (atom to : Atom) → AreMatchedBy p.tables the_question (chosen p.tables left atom) (chosen p.tables right atom) to ↔ (f atom ≡ g atom)
   told atom to =
-      subst (λ o. AreMatchedIn (nodes_in t) (option_map_or (λ a. p.cert.style) o UpTo) (option_map (term_at t) (option_map_or (λ a. p.roots.universal) o None)) (option_map_or (λ a. p.cert.pairs) o []) (chosen t left atom) (chosen t right atom) to ↔ (f atom ≡ g atom)) (sym none)
-      (outputs_told t left right f g own other atom to)
+      both_trans (by_path (matched_in_turn p pass turn is (chosen p.tables left atom) (chosen p.tables right atom) to))
+      (subst (λ o. AreMatchedIn (nodes_in p.tables) (option_map_or (λ a. p.cert.style) o UpTo) (option_map (term_at p.tables) (option_map_or (λ a. p.universal) o None)) (option_map_or (λ a. p.cert.pairs) o []) (chosen p.tables left atom) (chosen p.tables right atom) to ↔ (f atom ≡ g atom)) (sym none)
+      (outputs_told p.tables left right f g own other atom to))
 
-  found : (o : Option Atom) → IsFirstFailure (MatchAt t (question_of p turn None left right)) (undecided (t.width + t.width)) o → (o ≡ None) ↔ HoldsAllowedly
+  found : (o : Option Atom) → IsFirstFailure (MatchAt p.tables the_question) (undecided (p.tables.width + p.tables.width)) o → (o ≡ None) ↔ HoldsAllowedly
   found None h = (
     (λ e atom l allowed.
-        let front : take t.width (atom ++ atom) ≡ atom = ap (λ n. take n (atom ++ atom)) (sym l) ∙ take-append_seam atom atom in
-        let counts : Counts t (question_of p turn None left right) (take t.width (atom ++ atom)) (drop t.width (atom ++ atom)) =
-        record { own = refl; free = (mean (take t.width (atom ++ atom)) (drop t.width (atom ++ atom))).1 (subst (IsAllowedAtom (counted_short p.cert.style p.problem)) (sym front) allowed) } in
-        let there : Extends (undecided (t.width + t.width)) (atom ++ atom) = undecided_extends (t.width + t.width) (atom ++ atom) (omega (arith, l, length-append atom atom)) in
-        ap f (sym front) ∙ (told (take t.width (atom ++ atom)) (drop t.width (atom ++ atom))).0 (h (atom ++ atom) there counts) ∙ sure (take t.width (atom ++ atom))),
+        let front : take p.tables.width (atom ++ atom) ≡ atom = ap (λ n. take n (atom ++ atom)) (sym l) ∙ take-append_seam atom atom in
+        let counts : Counts p.tables the_question (take p.tables.width (atom ++ atom)) (drop p.tables.width (atom ++ atom)) =
+        record { own = refl; free = (mean (take p.tables.width (atom ++ atom)) (drop p.tables.width (atom ++ atom))).1 (subst (IsAllowedAtom (counted_short p.cert.style p.problem)) (sym front) allowed) } in
+        let there : Extends (undecided (p.tables.width + p.tables.width)) (atom ++ atom) = undecided_extends (p.tables.width + p.tables.width) (atom ++ atom) (omega (arith, l, length-append atom atom)) in
+        ap f (sym front) ∙ (told (take p.tables.width (atom ++ atom)) (drop p.tables.width (atom ++ atom))).0 (h (atom ++ atom) there counts) ∙ sure (take p.tables.width (atom ++ atom))),
     (λ all. refl),
   )
   found (Some x) h = (
     (λ e. absurd cc),
     (λ all.
-        let wide : length x ≡ t.width + t.width = undecided_length (t.width + t.width) x h.within in
-        let long : length (take t.width x) ≡ t.width = length-take-le t.width x (omega (arith, wide)) in
-        absurd (h.fails (λ counts. (told (take t.width x) (drop t.width x)).1 (all (take t.width x) long ((mean (take t.width x) (drop t.width x)).0 counts.free) ∙ sym (sure (take t.width x)))))),
+        let wide : length x ≡ p.tables.width + p.tables.width = undecided_length (p.tables.width + p.tables.width) x h.within in
+        let long : length (take p.tables.width x) ≡ p.tables.width = length-take-le p.tables.width x (omega (arith, wide)) in
+        absurd (h.fails (λ counts. (told (take p.tables.width x) (drop p.tables.width x)).1 (all (take p.tables.width x) long ((mean (take p.tables.width x) (drop p.tables.width x)).0 counts.free) ∙ sym (sure (take p.tables.width x)))))),
   )
 
-  throughout : {X : Type 0} (v : X → Atom) (o : Option X) (b : Bool) → is_some o ≡ not b → IsFirstFailure (MatchAt t (question_of p turn None left right)) (undecided (t.width + t.width)) (option_map v o) → IsTrue b ↔ HoldsAllowedly
+  throughout : {X : Type 0} (v : X → Atom) (o : Option X) (b : Bool) → is_some o ≡ not b → IsFirstFailure (MatchAt p.tables the_question) (undecided (p.tables.width + p.tables.width)) (option_map v o) → IsTrue b ↔ HoldsAllowedly
   throughout v None true e h = ((λ s. (found None h).0 refl), (λ all. refl))
   throughout v None false e h = absurd cc
   throughout v (Some x) true e h = absurd cc
   throughout v (Some x) false e h = ((λ s. absurd cc), (λ all. let none : Some (v x) ≡ None = (found (Some (v x)) h).1 all in absurd cc))
 
 -- the tables grow by what a turn and the two sets need
-module _ (p : PassParts) (t first second third last : TableParts) (pass : IsPass p t) (to_first : TablesGrow t first) (to_second : TablesGrow first second) (to_third : TablesGrow second third) (to_last : TablesGrow third last) (turn : Turn) (is : IsTurn p first turn)
-    (none : turn.action ≡ None) (test always : ℕ) (there : IsTest t test) (sure : HasValues second (λ atom. true) always) (left right : List (ℕ × ℕ))
+module _ (old p : PassParts) (grows : PassGrows old p) (begun : IsPass p) (second third last : TableParts) (to_second : TablesGrow p.tables second) (to_third : TablesGrow second third) (to_last : TablesGrow third last) (turn : TurnParts) (is : IsTurn p turn)
+    (none : turn.action ≡ None) (test always : ℕ) (there : IsTest old.tables test) (sure : HasValues second (λ atom. true) always) (left right : List (ℕ × ℕ))
     (own : StandFor third left (λ atom. cond (holds_at second test atom) (one ∷ []) [])) (other : StandFor last right (λ atom. cond (holds_at third always atom) (one ∷ []) [])) where
-  begun : IsPass p first
-  begun = pass_stays t first to_first p pass
+  to_end : TablesGrow p.tables last
+  to_end = grows_trans p.tables second last to_second (grows_trans second third last to_third to_last)
 
-  grown : TablesGrow first last
-  grown = grows_trans first second last to_second (grows_trans second third last to_third to_last)
+  ended : IsPass (record p { tables = last })
+  ended = pass_with p last to_end begun
 
-  ended : IsPass p last
-  ended = pass_stays first last grown p begun
+  turns : IsTurn (record p { tables = last }) turn
+  turns = turn_with p last to_end turn begun is
 
-  turns : IsTurn p last turn
-  turns = turn_stays first last grown p turn begun is
-
-  lefts : StandFor last left (λ atom. cond (holds_at t test atom) (one ∷ []) [])
+  lefts : StandFor last left (λ atom. cond (holds_at old.tables test atom) (one ∷ []) [])
   lefts =
-      condition_stands last left (holds_at second test) (holds_at t test) (λ atom. holds_kept t second to_first.was (grows_trans t first second to_first to_second) test atom there)
+      condition_stands last left (holds_at second test) (holds_at old.tables test) (λ atom. holds_kept old.tables second grows.tables.was (grows_trans old.tables p.tables second grows.tables to_second) test atom there)
       (stand_kept third last to_last.was to_last left (λ atom. cond (holds_at second test atom) (one ∷ []) []) own)
 
-  pub throughout_asked : IsQuestion last (question_of p turn None left right)
-  throughout_asked = question_asked p last ended turn turns None left right (λ k e. absurd cc) lefts.entries other.entries
+  pub throughout_entries : AreEntries last left
+  throughout_entries = lefts.entries
 
-  pub throughout_narrow : last.width ≤ MAX_TESTS
-  throughout_narrow = narrow p last ended
+  pub throughout_posed : (q : QuestionParts) → IsAskedOf last turn None left right q → AreNamed last q q.asked → IsPosed q
+  throughout_posed q e named = question_posed (record p { tables = last }) ended turn turns q None left right e named (λ k s. absurd cc) lefts.entries other.entries
 
-  pub throughout_told : {X : Type 0} (v : X → Atom) (o : Option X) (b : Bool) → is_some o ≡ not b → IsFirstFailure (MatchAt last (question_of p turn None left right)) (undecided (last.width + last.width)) (option_map v o)
-      → IsTrue b ↔ ((atom : Atom) → length atom ≡ p.problem.tests → IsAllowedAtom (counted_short p.cert.style p.problem) atom → IsTrue (holds_at t test atom))
-  throughout_told v o b same found =
-      subst (λ n. IsTrue b ↔ ((atom : Atom) → length atom ≡ n → IsAllowedAtom (counted_short p.cert.style p.problem) atom → IsTrue (holds_at t test atom))) ended.nodes.width
-      (throughout p last ended turn turns none left right (holds_at t test) (holds_at third always) lefts other (λ atom. holds_kept second third to_third.was to_third always atom sure.0 ∙ sure.1 atom) v o b same found)
+  pub throughout_told : (q : QuestionParts) → IsAskedOf last turn None left right q → {X : Type 0} (v : X → Atom) (o : Option X) (b : Bool) → is_some o ≡ not b → IsFirstFailure (MatchAt q.tables q) (undecided (last.width + last.width)) (option_map v o)
+      → IsTrue b ↔ ((atom : Atom) → length atom ≡ old.problem.tests → IsAllowedAtom (counted_short old.cert.style old.problem) atom → IsTrue (holds_at old.tables test atom))
+  throughout_told q e v o b same found =
+      subst (λ (z : PassParts). IsTrue b ↔ ((atom : Atom) → length atom ≡ z.problem.tests → IsAllowedAtom (counted_short z.cert.style z.problem) atom → IsTrue (holds_at old.tables test atom))) grows.same
+      (subst (λ n. IsTrue b ↔ ((atom : Atom) → length atom ≡ n → IsAllowedAtom (counted_short p.cert.style p.problem) atom → IsTrue (holds_at old.tables test atom))) ended.nodes.width
+      (throughout (record p { tables = last }) ended turn turns none left right q.asked (holds_at old.tables test) (holds_at third always) lefts other (λ atom. holds_kept second third to_third.was to_third always atom sure.0 ∙ sure.1 atom) v o b same
+      (subst (λ (z : QuestionParts). IsFirstFailure (MatchAt z.tables z) (undecided (last.width + last.width)) (option_map v o)) e found)))
 
 -- ---- sets of one term
+
+-- what `!=` of two sets says
+pub sets_differ : (ks ls : List ℕ) (r : Bool) → r ≡ not (pointwise nat_eq ks ls) → (r ≡ true → ks ≡ ls → ⊥) × (r ≡ false → ks ≡ ls)
+sets_differ ks ls r e = go (pointwise nat_eq ks ls) (slice_eq-Decides Decides-eqb ks ls (pointwise nat_eq ks ls) refl) e
+  where
+    go : (d : Bool) → Decides d (ks ≡ ls) → r ≡ not d → (r ≡ true → ks ≡ ls → ⊥) × (r ≡ false → ks ≡ ls)
+    go true tells is = ((λ yes same. let bad : false ≡ true = sym is ∙ yes in absurd cc), (λ no. tells.0 refl))
+    go false tells is = ((λ yes same. let bad : false ≡ true = tells.1 same in absurd cc), (λ no. let bad : true ≡ false = sym is ∙ no in absurd cc))
 
 -- a set is that of one term where it has the number of this term alone
 pub single_told : (t : TableParts) → AreTables t → (ks : List ℕ) → are_below (length t.terms) ks ≡ true → (k : ℕ) → IsTerm t k → (e : Term) → term_at t k ≡ e → (ks ≡ k ∷ []) ↔ (terms_of (nodes_in t) ks ≡ e ∷ [])
@@ -191,40 +208,40 @@ module _ (q : ProblemParts) (c : CertParts) (p : PairParts) (first : slice_get c
       let same = tested_heads (compared Under q).left (compared Under q).right b.0 b.1 b.2 in
       ap (λ (z : TestedPair). truth z.test atom) same ∙ b.3 atom l allowed
 
-module _ (p : PassParts) (t : TableParts) (pass : IsPass p t) (r : PairParts) (first : slice_get p.cert.pairs 0 ≡ Some r) where
+module _ (p : PassParts) (pass : IsPass p) (r : PairParts) (first : slice_get p.cert.pairs 0 ≡ Some r) where
   pair : IsPairOf p.cert r
   pair = pass.cert.pairs r (has_at p.cert.pairs 0 r first)
 
-  set_told : (ks : List ℕ) → IsNumberSet (length p.cert.term_nodes) ks → (k : ℕ) → IsTerm t k → (e : Term) → term_at t k ≡ e → (ks ≡ k ∷ []) ↔ (terms_of (nodes_of p.cert) ks ≡ e ∷ [])
+  set_told : (ks : List ℕ) → IsNumberSet (length p.cert.term_nodes) ks → (k : ℕ) → IsTerm p.tables k → (e : Term) → term_at p.tables k ≡ e → (ks ≡ k ∷ []) ↔ (terms_of (nodes_of p.cert) ks ≡ e ∷ [])
   set_told ks s k there e tree =
-      let low : are_below (length t.terms) ks ≡ true = below_more (length p.cert.term_nodes) (length t.terms) ks (omega (arith, pass.count, pass.there)) s.there in
-      subst (λ (ts : List Term). (ks ≡ k ∷ []) ↔ (ts ≡ e ∷ [])) (set_kept p.problem p.cert pass.cert t pass.nodes ks s.there) (single_told t pass.nodes.sound ks low k there e tree)
+      let low : are_below (length p.tables.terms) ks ≡ true = below_more (length p.cert.term_nodes) (length p.tables.terms) ks (omega (arith, pass.count, pass.there)) s.there in
+      subst (λ (ts : List Term). (ks ≡ k ∷ []) ↔ (ts ≡ e ∷ [])) (set_kept p.problem p.cert pass.cert p.tables pass.nodes ks s.there) (single_told p.tables pass.nodes.sound ks low k there e tree)
 
-  left_told : (r.left ≡ p.roots.left ∷ []) ↔ (terms_of (nodes_of p.cert) r.left ≡ (compared p.cert.style p.problem).left ∷ [])
-  left_told = set_told r.left pair.left p.roots.left pass.roots.left_there (compared p.cert.style p.problem).left pass.roots.left
+  left_told : (r.left ≡ p.left ∷ []) ↔ (terms_of (nodes_of p.cert) r.left ≡ (compared p.cert.style p.problem).left ∷ [])
+  left_told = set_told r.left pair.left p.left pass.roots.left_there (compared p.cert.style p.problem).left pass.roots.left
 
-  right_told : (r.right ≡ p.roots.right ∷ []) ↔ (terms_of (nodes_of p.cert) r.right ≡ (compared p.cert.style p.problem).right ∷ [])
-  right_told = set_told r.right pair.right p.roots.right pass.roots.right_there (compared p.cert.style p.problem).right pass.roots.right
+  right_told : (r.right ≡ p.right ∷ []) ↔ (terms_of (nodes_of p.cert) r.right ≡ (compared p.cert.style p.problem).right ∷ [])
+  right_told = set_told r.right pair.right p.right pass.roots.right_there (compared p.cert.style p.problem).right pass.roots.right
 
-  pub other_left : (r.left ≡ p.roots.left ∷ [] → ⊥) → Begins p.cert.style p.problem p.cert → ⊥
+  pub other_left : (r.left ≡ p.left ∷ [] → ⊥) → Begins p.cert.style p.problem p.cert → ⊥
   other_left never b = never (left_told.1 (begins_sides p.problem p.cert r first p.cert.style b).0)
 
-  pub other_right : (r.right ≡ p.roots.right ∷ [] → ⊥) → Begins p.cert.style p.problem p.cert → ⊥
+  pub other_right : (r.right ≡ p.right ∷ [] → ⊥) → Begins p.cert.style p.problem p.cert → ⊥
   other_right never b = never (right_told.1 (begins_sides p.problem p.cert r first p.cert.style b).1)
 
-  module _ (left : r.left ≡ p.roots.left ∷ []) (right : r.right ≡ p.roots.right ∷ []) where
+  module _ (left : r.left ≡ p.left ∷ []) (right : r.right ≡ p.right ∷ []) where
     pub begins_untested : r.test ≡ None → Begins p.cert.style p.problem p.cert
     begins_untested e =
         begins_from p.problem p.cert r first p.cert.style (left_told.0 left) (right_told.0 right)
         (λ u. absurd (never_under p.cert.style (length p.cert.test_nodes) (subst (HasItsTest p.cert.style (length p.cert.test_nodes)) e pair.test) u))
 
-    pub begins_tested : (test : ℕ) → r.test ≡ Some test → ((atom : Atom) → length atom ≡ p.problem.tests → IsAllowedAtom (counted_short p.cert.style p.problem) atom → IsTrue (holds_at t test atom)) ↔ Begins p.cert.style p.problem p.cert
+    pub begins_tested : (test : ℕ) → r.test ≡ Some test → ((atom : Atom) → length atom ≡ p.problem.tests → IsAllowedAtom (counted_short p.cert.style p.problem) atom → IsTrue (holds_at p.tables test atom)) ↔ Begins p.cert.style p.problem p.cert
     begins_tested test e = (
       (λ h. begins_from p.problem p.cert r first p.cert.style (left_told.0 left) (right_told.0 right) (λ u atom l allowed. sym (same atom) ∙ h atom l allowed)),
       (λ b atom l allowed. same atom ∙ begins_holds p.problem p.cert r first p.cert.style (under_only p.cert.style (length p.cert.test_nodes) test (subst (HasItsTest p.cert.style (length p.cert.test_nodes)) e pair.test)) b atom l allowed),
     )
       where
-        same : (atom : Atom) → holds_at t test atom ≡ truth (test_of (nodes_of p.cert) r.test) atom
+        same : (atom : Atom) → holds_at p.tables test atom ≡ truth (test_of (nodes_of p.cert) r.test) atom
         same atom =
-            ap (λ (o : Option ℕ). truth (test_of (nodes_in t) o) atom) (sym e)
-            ∙ ap (λ (b : TestTree). truth b atom) (test_kept p.problem p.cert pass.cert t pass.nodes r.test (test_there p.problem p.cert pass.cert t pass.nodes p.cert.style (length p.cert.test_nodes) r.test pair.test))
+            ap (λ (o : Option ℕ). truth (test_of (nodes_in p.tables) o) atom) (sym e)
+            ∙ ap (λ (b : TestTree). truth b atom) (test_kept p.problem p.cert pass.cert p.tables pass.nodes r.test (test_there p.problem p.cert pass.cert p.tables pass.nodes p.cert.style (length p.cert.test_nodes) r.test pair.test))

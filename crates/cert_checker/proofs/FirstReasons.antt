@@ -1,5 +1,6 @@
 -- The first reason of a certificate, from the first of each stage.
-use Rattle.std.proofs.Common.{◌≡◌, ℕ, ◌+◌, ◌<◌, ◌≤◌, ⊎_elim, [], length, refl, ap, ◌∙◌, subst, arith, Some, None}
+use Rattle.std.proofs.Common.{◌≡◌, ℕ, ◌+◌, ◌<◌, ◌≤◌, ⊎_elim, [], length, refl, ap, ◌∙◌, subst, arith, Option, Some, None}
+use Rattle.std.specs.Option.{option_map, MatchOption}
 use Rattle.kat_model.specs.Problems.{ProblemParts}
 use Rattle.kat_model.specs.Members.{Has}
 use Rattle.kat_model.specs.Steps.{Atom, set_next}
@@ -21,7 +22,8 @@ use Rattle.cert_checker.specs.declared.answer.Reason.{Reason}
 use Rattle.cert_checker.specs.declared.answer.Reason.TheVariants.{FirstPair, Output, Missing, MissingTo, Shape, HypBroken, EndsAgree, TestNode, TermNode}
 use Rattle.cert_checker.specs.Answers.{Turn, turn_of, IsEarlier, Begins, AcceptAlike, OutputsHold, StepHolds, MoveHolds, FailsBy, FailsFirstBy}
 use Rattle.cert_checker.specs.Working.Ranges.{IsFirstOut}
-use Rattle.cert_checker.specs.Working.Places.{IsFirstOf}
+use Rattle.cert_checker.specs.declared.pass.Place.{Place}
+use Rattle.cert_checker.specs.Working.Places.{IsFirstOf, place_reason}
 
 stage_grows : (s t : Turn) → IsEarlier s t → s.stage ≤ t.stage
 stage_grows s t h = ⊎_elim (λ l. omega (arith, l)) (λ k. omega (arith, k.0)) h
@@ -134,3 +136,8 @@ module _ (q : ProblemParts) (c : CertParts) where
                 steps = λ p h atom l t n low wide allowed. m p h atom l n low wide t allowed;
               };
             }
+
+        -- so it is with the first place, where there is one
+        pub pairs_told : (o : Option Place) → IsFirstOf q c (λ n. n < q.actions + 1) (option_map (place_reason c.style) o) → MatchOption (option_map (place_reason c.style) o) (IsAccepted q c) (λ r. FailsFirstBy q c r)
+        pairs_told None f = all_accepted f
+        pairs_told (Some x) f = first_place_fails (place_reason c.style x) f

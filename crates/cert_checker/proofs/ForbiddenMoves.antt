@@ -1,6 +1,7 @@
 -- Pairs of tests that tell which moves are allowed: those of the acceptance of the short hypotheses and of what a step
 -- leads to from them.
-use Rattle.std.proofs.Common.{◌≡◌, ◌↔◌, ℕ, ◌<◌, inl, inr, ⊎_elim, List, [], ◌∷◌, map, length, get_or, refl, sym, ap, ◌∙◌, subst, Bool, true, false, ◌&&◌, Some, None}
+use Rattle.std.proofs.Common.{◌≡◌, ◌↔◌, ℕ, ◌<◌, inl, inr, ⊎_elim, List, [], ◌∷◌, map, length, get_or, refl, sym, ap, ◌∙◌, subst, Bool, true, false, ◌&&◌, Option, Some, None}
+use Rattle.std.specs.Option.{is_some}
 use Rattle.std.proofs.lemmas.Bool.{true≢false, and_parts, and_from, and_right}
 use Rattle.kat_model.specs.Trees.{Term}
 use Rattle.kat_model.specs.Members.{Has}
@@ -11,9 +12,9 @@ use Rattle.kat_model.proofs.Lists.{has_any, any_has, has_map, map_has, has_flat_
 use Rattle.kat_model.specs.Problems.{ProblemParts}
 use Rattle.certificate.specs.Certs.{CertParts}
 use Rattle.checker_steps.specs.NodeTables.{TableParts, IsTest, HasValues, term_at, holds_at}
-use Rattle.checker_steps.specs.Targets.{AreEntries, StandFor, AreAcceptances}
+use Rattle.checker_steps.specs.Targets.{AreEntries, StandFor, AreAcceptances, set_leads_to}
 use Rattle.cert_checker.specs.Working.Roots.{counted_short}
-use Rattle.cert_checker.specs.Working.Places.{AreForbidden}
+use Rattle.cert_checker.specs.Working.Places.{AreForbidden, IsAllowed}
 use Rattle.checker_steps.proofs.ChosenTargets.{chosen_has, has_chosen}
 use Rattle.checker_steps.proofs.StepLists.{accept_at}
 
@@ -98,15 +99,36 @@ forbidden_tests t banned always bt at entries own outputs tell there f h =
 
 module _ (t : TableParts) (c : CertParts) (q : ProblemParts) where
   module _ (banned always : ℕ) (bans : HasValues t (set_out (counted_short c.style q)) banned) (sure : HasValues t (λ atom. true) always) where
-    pub outputs_forbidden : AreForbidden t c q None ((banned, always) ∷ [])
+    outputs_forbidden : AreForbidden t c q None ((banned, always) ∷ [])
     outputs_forbidden = record {
       tests = λ f h. ⊎_elim (λ s. subst (λ (z : ℕ × ℕ). IsTest t z.0 × IsTest t z.1) s (bans.0, sure.0)) absurd h;
       mean = outputs_free t (counted_short c.style q) banned always bans.1 sure.1;
     }
 
-    pub moves_forbidden : (a : ℕ) (entries : List (ℕ × ℕ)) → StandFor t entries (λ atom. set_next (counted_short c.style q) atom a) → (outputs : List ℕ) → AreAcceptances t outputs → ((e : ℕ × ℕ) → Has entries e → e.0 < length outputs)
+    moves_forbidden : (a : ℕ) (entries : List (ℕ × ℕ)) → StandFor t entries (λ atom. set_next (counted_short c.style q) atom a) → (outputs : List ℕ) → AreAcceptances t outputs → ((e : ℕ × ℕ) → Has entries e → e.0 < length outputs)
         → AreForbidden t c q (Some a) ((banned, always) ∷ (always, banned) ∷ map (forbidden_of outputs) entries)
     moves_forbidden a entries stand outputs tell there = record {
       tests = forbidden_tests t banned always bans.0 sure.0 entries stand.entries outputs tell there;
       mean = moves_free t (counted_short c.style q) banned always bans.1 sure.1 a entries stand outputs tell there;
     }
+
+    -- by whether there is an action
+    pub forbidden_without : (o : Option ℕ) → is_some o ≡ false → AreForbidden t c q o ((banned, always) ∷ [])
+    forbidden_without None e = outputs_forbidden
+    forbidden_without (Some a) e = absurd cc
+
+    pub forbidden_by : (o : Option ℕ) → is_some o ≡ true → (entries : List (ℕ × ℕ)) → StandFor t entries (set_leads_to o (counted_short c.style q)) → (outputs : List ℕ) → AreAcceptances t outputs → ((e : ℕ × ℕ) → Has entries e → e.0 < length outputs)
+        → AreForbidden t c q o ((banned, always) ∷ (always, banned) ∷ map (forbidden_of outputs) entries)
+    forbidden_by None e entries stand outputs tell there = absurd cc
+    forbidden_by (Some a) e entries stand outputs tell there = moves_forbidden a entries stand outputs tell there
+
+  -- without short hypotheses all are allowed
+  pub none_forbidden : counted_short c.style q ≡ [] → (o : Option ℕ) → AreForbidden t c q o []
+  none_forbidden none o = record {
+    tests = λ f h. absurd h;
+    mean = λ atom to. ((λ free. subst (λ es. IsAllowed es o atom to) (sym none) (allowed o atom to)), (λ a f h. absurd h));
+  }
+    where
+      allowed : (o : Option ℕ) (atom to : Atom) → IsAllowed [] o atom to
+      allowed None atom to = refl
+      allowed (Some a) atom to = record { from = refl; to = refl; move = refl }

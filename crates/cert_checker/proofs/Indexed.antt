@@ -41,8 +41,8 @@ not_at term k other = false_from_ne_true (is_at (nat_cmp term) k) (λ e. other (
 
 module _ {X : Type 0} (f : X → List ℕ) where
   -- the places that stand at a key
-  abbrev pub places_at : List (ℕ × X) → ℕ → List ℕ
-  places_at es k = unwrap_or (lookup (is_at (nat_cmp k)) (map (λ (e : ℕ × X). (e.0, f e.1)) es)) []
+  abbrev pub mapped_at : List (ℕ × X) → ℕ → List ℕ
+  mapped_at es k = unwrap_or (lookup (is_at (nat_cmp k)) (map (λ (e : ℕ × X). (e.0, f e.1)) es)) []
 
   lookup_mapped : (test : ℕ → Bool) (es : List (ℕ × X)) → lookup test (map (λ (e : ℕ × X). (e.0, f e.1)) es) ≡ option_map f (lookup test es)
   lookup_mapped test [] = refl
@@ -52,29 +52,29 @@ module _ {X : Type 0} (f : X → List ℕ) where
       go true same = refl
       go false same = same
 
-  pub found_at : (es : List (ℕ × X)) (k : ℕ) (o : Option X) → o ≡ lookup (is_at (nat_cmp k)) es → places_at es k ≡ unwrap_or (option_map f o) []
+  pub found_at : (es : List (ℕ × X)) (k : ℕ) (o : Option X) → o ≡ lookup (is_at (nat_cmp k)) es → mapped_at es k ≡ unwrap_or (option_map f o) []
   found_at es k o e = ap (λ (p : Option (List ℕ)). unwrap_or p []) (lookup_mapped (is_at (nat_cmp k)) es ∙ ap (option_map f) (sym e))
 
   module _ (old mid new : List (ℕ × X)) (term place : ℕ) (removed : Option X) (fresh now : X) (was : removed ≡ lookup (is_at (nat_cmp term)) old) (empty : f fresh ≡ []) (pushed : f now ≡ f (unwrap_or removed fresh) ++ place ∷ [])
       (made : lookup (is_at (nat_cmp term)) new ≡ Some now) where
-    pub place_added : Has (places_at new term) place
+    pub place_added : Has (mapped_at new term) place
     place_added = subst (λ (l : List ℕ). Has l place) (sym (found_at new term (Some now) (sym made) ∙ pushed)) (pushed_has (f (unwrap_or removed fresh)) place)
 
     module _ (left : (k : ℕ) → is_at (nat_cmp term) k ≡ false → lookup (is_at (nat_cmp k)) mid ≡ lookup (is_at (nat_cmp k)) old) (rest : (k : ℕ) → is_at (nat_cmp term) k ≡ false → lookup (is_at (nat_cmp k)) new ≡ lookup (is_at (nat_cmp k)) mid) where
-      here : (j : ℕ) → Has (places_at old term) j → Has (places_at new term) j
+      here : (j : ℕ) → Has (mapped_at old term) j → Has (mapped_at new term) j
       here j h = subst (λ (l : List ℕ). Has l j) (sym (found_at new term (Some now) (sym made) ∙ pushed)) (has_left (f (unwrap_or removed fresh)) (place ∷ []) j (go removed (subst (λ (l : List ℕ). Has l j) (found_at old term removed was) h)))
         where
           go : (o : Option X) → Has (unwrap_or (option_map f o) []) j → Has (f (unwrap_or o fresh)) j
           go None m = absurd m
           go (Some v) m = m
 
-      pub places_kept : (k j : ℕ) → Has (places_at old k) j → Has (places_at new k) j
+      pub places_kept : (k j : ℕ) → Has (mapped_at old k) j → Has (mapped_at new k) j
       places_kept k j h =
           ⊎_elim
-          (λ same. subst (λ (i : ℕ). Has (places_at new i) j) (sym same) (here j (subst (λ (i : ℕ). Has (places_at old i) j) same h)))
+          (λ same. subst (λ (i : ℕ). Has (mapped_at new i) j) (sym same) (here j (subst (λ (i : ℕ). Has (mapped_at old i) j) same h)))
           (λ other.
           let off = not_at term k other in
-          let alike : places_at old k ≡ places_at new k = found_at old k (lookup (is_at (nat_cmp k)) new) (rest k off ∙ left k off) ∙ sym (found_at new k (lookup (is_at (nat_cmp k)) new) refl) in
+          let alike : mapped_at old k ≡ mapped_at new k = found_at old k (lookup (is_at (nat_cmp k)) new) (rest k off ∙ left k off) ∙ sym (found_at new k (lookup (is_at (nat_cmp k)) new) refl) in
           subst (λ (l : List ℕ). Has l j) alike h)
           (cases_eq k term)
 

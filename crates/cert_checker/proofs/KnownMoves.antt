@@ -54,7 +54,7 @@ pub record IsTold (q : QuestionParts) (c : Case) (done : List (ℕ × ℕ)) (tie
   pub free : tied ≡ None → waiting ≡ None → (f : ℕ × ℕ) → Has done f → known_and (known_of c.begin.items f.0) (known_of c.end.items f.1) ≡ Value false
 
 module _ (q : QuestionParts) (c : Case) where
-  forbidden_waits : (f : ℕ × ℕ) → Has q.forbidden f → (k : ℕ) → known_and (known_of c.begin.items f.0) (known_of c.end.items f.1) ≡ Waits k → IsWaited q c k
+  forbidden_waits : (f : ℕ × ℕ) → Has q.turn.forbidden f → (k : ℕ) → known_and (known_of c.begin.items f.0) (known_of c.end.items f.1) ≡ Waits k → IsWaited q c k
   forbidden_waits f h k e =
       ⊎_elim
       (λ l. (f.0, inl (inr (f, h, refl), l)))
@@ -69,7 +69,7 @@ module _ (q : QuestionParts) (c : Case) where
   or_waits None k h w = w
   or_waits (Some j) k h w = h
 
-  told_free : (i : ℕ) (d : ℕ × ℕ) → i < length q.forbidden → (tied waiting : Option ℕ) → IsTold q c (take i q.forbidden) tied waiting → known_and (known_of c.begin.items (get_or q.forbidden i d).0) (known_of c.end.items (get_or q.forbidden i d).1) ≡ Value false → IsTold q c (take (i + 1) q.forbidden) tied waiting
+  told_free : (i : ℕ) (d : ℕ × ℕ) → i < length q.turn.forbidden → (tied waiting : Option ℕ) → IsTold q c (take i q.turn.forbidden) tied waiting → known_and (known_of c.begin.items (get_or q.turn.forbidden i d).0) (known_of c.end.items (get_or q.turn.forbidden i d).1) ≡ Value false → IsTold q c (take (i + 1) q.turn.forbidden) tied waiting
   told_free i d low tied waiting told e = record {
     tied_waits = told.tied_waits;
     waits = told.waits;
@@ -78,39 +78,39 @@ module _ (q : QuestionParts) (c : Case) where
         ⊎_elim
         (told.free n m f)
         (λ s. ⊎_elim (λ same. subst (λ (z : ℕ × ℕ). known_and (known_of c.begin.items z.0) (known_of c.end.items z.1) ≡ Value false) same e) absurd s)
-        (has_append (take i q.forbidden) (get_or q.forbidden i d ∷ []) f (subst (λ (l : List (ℕ × ℕ)). Has l f) (take_more q.forbidden i d low) h));
+        (has_append (take i q.turn.forbidden) (get_or q.turn.forbidden i d ∷ []) f (subst (λ (l : List (ℕ × ℕ)). Has l f) (take_more q.turn.forbidden i d low) h));
   }
 
-  told_tied : (i : ℕ) (tied waiting : Option ℕ) → IsTold q c (take i q.forbidden) tied waiting → (k : ℕ) → IsWaited q c k → IsTold q c (take (i + 1) q.forbidden) (option_or tied (Some k)) waiting
+  told_tied : (i : ℕ) (tied waiting : Option ℕ) → IsTold q c (take i q.turn.forbidden) tied waiting → (k : ℕ) → IsWaited q c k → IsTold q c (take (i + 1) q.turn.forbidden) (option_or tied (Some k)) waiting
   told_tied i tied waiting told k w = record { tied_waits = or_waits tied k told.tied_waits w; waits = told.waits; own = told.own; free = λ n m f h. absurd (or_some tied k n) }
 
-  told_waits : (i : ℕ) (tied waiting : Option ℕ) → IsTold q c (take i q.forbidden) tied waiting → (k : ℕ) → IsWaited q c k → IsTold q c (take (i + 1) q.forbidden) tied (option_or waiting (Some k))
+  told_waits : (i : ℕ) (tied waiting : Option ℕ) → IsTold q c (take i q.turn.forbidden) tied waiting → (k : ℕ) → IsWaited q c k → IsTold q c (take (i + 1) q.turn.forbidden) tied (option_or waiting (Some k))
   told_waits i tied waiting told k w = record { tied_waits = told.tied_waits; waits = or_waits waiting k told.waits w; own = λ m. absurd (or_some waiting k m); free = λ n m f h. absurd (or_some waiting k m) }
 
   -- one pair more, by what was computed of it
-  module _ (v : QuestionParts) (is : v ≡ q) (begin end : List Known) (begin_is : begin ≡ c.begin.items) (end_is : end ≡ c.end.items) (i : ℕ) (d : ℕ × ℕ) (low : i < length v.forbidden) (x y z : Known)
-      (x_is : x ≡ known_of begin (get_or v.forbidden i d).0) (y_is : y ≡ known_of end (get_or v.forbidden i d).1) (z_is : z ≡ known_and x y) (tied waiting now_tied now_waiting : Option ℕ) (told : IsTold q c (take i q.forbidden) tied waiting) where
-    below : i < length q.forbidden
-    below = subst (λ (u : QuestionParts). i < length u.forbidden) is low
+  module _ (fs : List (ℕ × ℕ)) (is : fs ≡ q.turn.forbidden) (begin end : List Known) (begin_is : begin ≡ c.begin.items) (end_is : end ≡ c.end.items) (i : ℕ) (d : ℕ × ℕ) (low : i < length fs) (x y z : Known)
+      (x_is : x ≡ known_of begin (get_or fs i d).0) (y_is : y ≡ known_of end (get_or fs i d).1) (z_is : z ≡ known_and x y) (tied waiting now_tied now_waiting : Option ℕ) (told : IsTold q c (take i q.turn.forbidden) tied waiting) where
+    below : i < length q.turn.forbidden
+    below = subst (λ (l : List (ℕ × ℕ)). i < length l) is low
 
-    both_are : z ≡ known_and (known_of c.begin.items (get_or q.forbidden i d).0) (known_of c.end.items (get_or q.forbidden i d).1)
+    both_are : z ≡ known_and (known_of c.begin.items (get_or q.turn.forbidden i d).0) (known_of c.end.items (get_or q.turn.forbidden i d).1)
     both_are =
-        z_is ∙ ap (λ (k : Known). known_and k y) (x_is ∙ ap (λ (l : List Known). known_of l (get_or v.forbidden i d).0) begin_is ∙ ap (λ (u : QuestionParts). known_of c.begin.items (get_or u.forbidden i d).0) is)
-        ∙ ap (known_and (known_of c.begin.items (get_or q.forbidden i d).0)) (y_is ∙ ap (λ (l : List Known). known_of l (get_or v.forbidden i d).1) end_is ∙ ap (λ (u : QuestionParts). known_of c.end.items (get_or u.forbidden i d).1) is)
+        z_is ∙ ap (λ (k : Known). known_and k y) (x_is ∙ ap (λ (l : List Known). known_of l (get_or fs i d).0) begin_is ∙ ap (λ (l : List (ℕ × ℕ)). known_of c.begin.items (get_or l i d).0) is)
+        ∙ ap (known_and (known_of c.begin.items (get_or q.turn.forbidden i d).0)) (y_is ∙ ap (λ (l : List Known). known_of l (get_or fs i d).1) end_is ∙ ap (λ (l : List (ℕ × ℕ)). known_of c.end.items (get_or l i d).1) is)
 
     here_waits : (k : ℕ) → z ≡ Waits k → IsWaited q c k
-    here_waits k e = forbidden_waits (get_or q.forbidden i d) (has_at q.forbidden i (get_or q.forbidden i d) (slice_get-get_or q.forbidden i d below)) k (sym both_are ∙ e)
+    here_waits k e = forbidden_waits (get_or q.turn.forbidden i d) (has_at q.turn.forbidden i (get_or q.turn.forbidden i d) (slice_get-get_or q.turn.forbidden i d below)) k (sym both_are ∙ e)
 
-    as_told : (o p : Option ℕ) → now_tied ≡ o → now_waiting ≡ p → IsTold q c (take (i + 1) q.forbidden) o p → IsTold q c (take (i + 1) q.forbidden) now_tied now_waiting
-    as_told o p e f h = subst (λ (u : Option ℕ). IsTold q c (take (i + 1) q.forbidden) u now_waiting) (sym e) (subst (λ (u : Option ℕ). IsTold q c (take (i + 1) q.forbidden) o u) (sym f) h)
+    as_told : (o p : Option ℕ) → now_tied ≡ o → now_waiting ≡ p → IsTold q c (take (i + 1) q.turn.forbidden) o p → IsTold q c (take (i + 1) q.turn.forbidden) now_tied now_waiting
+    as_told o p e f h = subst (λ (u : Option ℕ). IsTold q c (take (i + 1) q.turn.forbidden) u now_waiting) (sym e) (subst (λ (u : Option ℕ). IsTold q c (take (i + 1) q.turn.forbidden) o u) (sym f) h)
 
-    pub next_free : now_tied ≡ tied → now_waiting ≡ waiting → z ≡ Value false → IsTold q c (take (i + 1) q.forbidden) now_tied now_waiting
+    pub next_free : now_tied ≡ tied → now_waiting ≡ waiting → z ≡ Value false → IsTold q c (take (i + 1) q.turn.forbidden) now_tied now_waiting
     next_free e f g = as_told tied waiting e f (told_free i d below tied waiting told (sym both_are ∙ g))
 
-    pub next_tied : (k : ℕ) → now_tied ≡ option_or tied (Some k) → now_waiting ≡ waiting → z ≡ Waits k → IsTold q c (take (i + 1) q.forbidden) now_tied now_waiting
+    pub next_tied : (k : ℕ) → now_tied ≡ option_or tied (Some k) → now_waiting ≡ waiting → z ≡ Waits k → IsTold q c (take (i + 1) q.turn.forbidden) now_tied now_waiting
     next_tied k e f g = as_told (option_or tied (Some k)) waiting e f (told_tied i tied waiting told k (here_waits k g))
 
-    pub next_waits : (k : ℕ) → now_tied ≡ tied → now_waiting ≡ option_or waiting (Some k) → z ≡ Waits k → IsTold q c (take (i + 1) q.forbidden) now_tied now_waiting
+    pub next_waits : (k : ℕ) → now_tied ≡ tied → now_waiting ≡ option_or waiting (Some k) → z ≡ Waits k → IsTold q c (take (i + 1) q.turn.forbidden) now_tied now_waiting
     next_waits k e f g = as_told tied (option_or waiting (Some k)) e f (told_waits i tied waiting told k (here_waits k g))
 
 -- ---- what is known is so
@@ -152,19 +152,19 @@ module _ (t : TableParts) (first : ℕ) (decided : List (Option Bool)) (known : 
 
 -- where these are known at two atoms, what is known of the move is so
 module _ (t : TableParts) (q : QuestionParts) (c : Case) (atom to : Atom) (own : (b : Bool) → known_test c.begin.items q.own ≡ Value b → test_holds t q.own atom ≡ b)
-    (begins : (f : ℕ × ℕ) → Has q.forbidden f → (b : Bool) → known_of c.begin.items f.0 ≡ Value b → holds_at t f.0 atom ≡ b) (ends : (f : ℕ × ℕ) → Has q.forbidden f → (b : Bool) → known_of c.end.items f.1 ≡ Value b → holds_at t f.1 to ≡ b) where
+    (begins : (f : ℕ × ℕ) → Has q.turn.forbidden f → (b : Bool) → known_of c.begin.items f.0 ≡ Value b → holds_at t f.0 atom ≡ b) (ends : (f : ℕ × ℕ) → Has q.turn.forbidden f → (b : Bool) → known_of c.end.items f.1 ≡ Value b → holds_at t f.1 to ≡ b) where
   -- what surely is excluded does not count
   pub excluded_never : is_excluded q c ≡ true → Counts t q atom to → ⊥
   excluded_never e counts =
       ⊎_elim
       (λ l. true≢false (sym counts.own ∙ own false (falsely_value (known_test c.begin.items q.own) l)))
       (λ m.
-      let f = has_any (λ (d : ℕ × ℕ). truly (known_of c.begin.items d.0) && truly (known_of c.end.items d.1)) q.forbidden m in
+      let f = has_any (λ (d : ℕ × ℕ). truly (known_of c.begin.items d.0) && truly (known_of c.end.items d.1)) q.turn.forbidden m in
       let parts = and_parts (truly (known_of c.begin.items f.0.0)) (truly (known_of c.end.items f.0.1)) f.2 in
       let both : (holds_at t f.0.0 atom && holds_at t f.0.1 to) ≡ true =
       and_from (holds_at t f.0.0 atom) (holds_at t f.0.1 to) (begins f.0 f.1 true (truly_value (known_of c.begin.items f.0.0) parts.0)) (ends f.0 f.1 true (truly_value (known_of c.end.items f.0.1) parts.1)) in
       true≢false (sym both ∙ counts.free f.0 f.1))
-      (or_cases (falsely (known_test c.begin.items q.own)) (list_any (λ (d : ℕ × ℕ). truly (known_of c.begin.items d.0) && truly (known_of c.end.items d.1)) q.forbidden) e)
+      (or_cases (falsely (known_test c.begin.items q.own)) (list_any (λ (d : ℕ × ℕ). truly (known_of c.begin.items d.0) && truly (known_of c.end.items d.1)) q.turn.forbidden) e)
 
   pub counts_then : DoesCount q c → Counts t q atom to
   counts_then does = record {

@@ -1,5 +1,5 @@
 -- What is known of a test is so at each atom with the decided tests.
-use Rattle.std.proofs.Common.{◌≡◌, ℕ, zero, suc, ◌<◌, ◌≤◌, ◌⊎◌, ⊎_elim, inl, inr, set, List, [], ◌∷◌, length, get_or, slice_get, refl, sym, ap, ◌∙◌, subst, arith, Bool, true, false, not, ◌&&◌, ◌||◌, Option, Some, None, get_or-set_same}
+use Rattle.std.proofs.Common.{◌≡◌, ℕ, zero, suc, ◌<◌, ◌≤◌, ◌⊎◌, ⊎_elim, inl, inr, set, List, [], ◌∷◌, length, take, drop, get_or, slice_get, refl, sym, ap, ◌∙◌, subst, arith, Bool, true, false, not, ◌&&◌, ◌||◌, Option, Some, None, get_or-set_same}
 use Rattle.std.proofs.lemmas.Bool.{and_right, cases_eq}
 use Rattle.std.proofs.lemmas.Cmp.{ranked}
 use Rattle.std.proofs.lemmas.List.{length-set}
@@ -19,9 +19,11 @@ use Rattle.term_nodes.specs.NodeTrees.{test_tree_in}
 use Rattle.term_nodes.proofs.Parts.{IsTestOver-more, IsTestOver-part}
 use Rattle.term_nodes.proofs.TestTrees.{test_tree_at-node}
 use Rattle.checker_steps.specs.NodeTables.{TableParts, AreTables, IsTest, IsWithin, holds_at, nodes_in}
+use Rattle.cert_checker.specs.declared.known.Case.{Case}
 use Rattle.cert_checker.specs.declared.known.Known.{Known}
 use Rattle.cert_checker.specs.declared.known.Known.TheVariants.{Value, Waits}
 use Rattle.cert_checker.specs.Working.Cases.{Extends, IsKnown, AreAsked, AreKnown, known_of, known_not, known_and, known_or, known_at, known_node}
+use Rattle.cert_checker.specs.Working.Questions.{QuestionParts, IsCase}
 
 -- ---- values that are put together
 
@@ -172,6 +174,22 @@ has_or_not [] k = inr (λ h. h)
 has_or_not (j ∷ ks) k = ⊎_elim (λ e. inl (inl e)) (λ n. ⊎_elim (λ r. inl (inr r)) (λ m. inr (λ h. ⊎_elim n m h)) (has_or_not ks k)) (cases_eq j k)
 
 -- what was known stays so where more is told
-pub known_both : (first : ℕ) (t : TableParts) (decided : List (Option Bool)) (asked more : List ℕ) (old new : List Known) → AreKnown first t decided asked old → AreKnown first t decided more new
+known_both : (first : ℕ) (t : TableParts) (decided : List (Option Bool)) (asked more : List ℕ) (old new : List Known) → AreKnown first t decided asked old → AreKnown first t decided more new
     → ((k : ℕ) → (Has more k → ⊥) → known_of new k ≡ known_of old k) → AreKnown first t decided asked new
 known_both first t decided asked more old new was told others k h = ⊎_elim (told k) (λ n. subst (IsKnown first decided (holds_at t k)) (sym (others k n)) (was k h)) (has_or_not more k)
+
+-- the same, where its parts have other names
+known_along : (first : ℕ) (t t2 : TableParts) (ds ds2 : List (Option Bool)) (asked asked2 : List ℕ) (known known2 : List Known) → t ≡ t2 → ds ≡ ds2 → asked ≡ asked2 → known ≡ known2 → AreKnown first t ds asked known → AreKnown first t2 ds2 asked2 known2
+known_along first t t2 ds ds2 asked asked2 known known2 e f g h told =
+    subst (λ u. AreKnown first u ds2 asked2 known2) e (subst (λ l. AreKnown first t l asked2 known2) f (subst (λ ks. AreKnown first t ds ks known2) g (subst (AreKnown first t ds asked) h told)))
+
+-- a case of a question is known where its tests are told: first those that the targets and the pair name, and then those
+-- that moves name, in one list
+pub case_told : (q : QuestionParts) (t : TableParts) (asked begin end : List ℕ) (ds first second : List (Option Bool)) (n : ℕ) (one two three : List Known) (c : Case) → t ≡ q.tables → asked ≡ q.asked → begin ≡ q.turn.begin → end ≡ q.turn.end
+    → first ≡ take q.tables.width ds → second ≡ drop q.tables.width ds → n ≡ q.tables.width → AreKnown 0 t first asked one → AreKnown 0 t first begin two → ((k : ℕ) → (Has begin k → ⊥) → known_of two k ≡ known_of one k) → AreKnown n t second end three
+    → two ≡ c.begin.items → three ≡ c.end.items → IsCase q.tables q q.asked ds c
+case_told q t asked begin end ds first second n one two three c e ask at_begin at_end front back width targets moves others ends begun ended = record {
+  targets = known_along 0 t q.tables first (take q.tables.width ds) asked q.asked two c.begin.items e front ask begun (known_both 0 t first asked begin one two targets moves others);
+  begin = known_along 0 t q.tables first (take q.tables.width ds) begin q.turn.begin two c.begin.items e front at_begin begun moves;
+  end = subst (λ m. AreKnown m q.tables (drop q.tables.width ds) q.turn.end c.end.items) width (known_along n t q.tables second (drop q.tables.width ds) end q.turn.end three c.end.items e back at_end ended ends);
+}

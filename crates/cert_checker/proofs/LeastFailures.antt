@@ -1,12 +1,15 @@
 -- The least failure among the atoms with some tests decided, by cases on one more test.
-use Rattle.std.proofs.Common.{◌≡◌, ℕ, zero, suc, ◌<◌, ◌⊎◌, inl, inr, ⊎_elim, List, [], ◌∷◌, length, set as slice_set, refl, sym, ap, ◌∙◌, subst, arith, Bool, true, false, Option, Some, None}
+use Rattle.std.proofs.Common.{◌≡◌, ℕ, zero, suc, ◌<◌, ◌⊎◌, inl, inr, ⊎_elim, List, [], ◌∷◌, length, set as slice_set, refl, sym, ap, ◌∙◌, subst, arith, Bool, true, false, Option, Some, None, Bor, IfSome}
 use Rattle.std.proofs.lemmas.List.{set-set}
-use Rattle.std.specs.Option.{option_or, option_map}
+use Rattle.std.specs.Option.{option_or, option_map, option_copied}
 use Rattle.std.specs.Ordering.{bool_cmp, is_le, is_some_and}
 use Rattle.std.specs.Cmp.Lexicographic.{slice_partial_cmp}
 use Rattle.kat_model.specs.Steps.{Atom}
 use Rattle.cert_checker.specs.Answers.{IsLess}
 use Rattle.cert_checker.specs.Working.Cases.{Extends, IsOpen, open_count, least_of, IsBelow, IsFirstFailure}
+use Rattle.cert_checker.specs.Working.Questions.{IsState}
+use Rattle.cert_checker.specs.declared.matching.State.{State}
+use Rattle.cert_checker.specs.declared.matching.State.TheVariants.{Waits}
 
 -- ---- the order of atoms
 
@@ -51,11 +54,6 @@ less_trans (false ∷ xs) (true ∷ ys) (true ∷ zs) h k = tt
 less_trans (true ∷ xs) (false ∷ ys) (z ∷ zs) h k = absurd h
 less_trans (true ∷ xs) (true ∷ ys) (false ∷ zs) h k = absurd k
 less_trans (true ∷ xs) (true ∷ ys) (true ∷ zs) h k = less_trans xs ys zs h k
-
-pub less_itself : (xs : Atom) → IsLess xs xs → ⊥
-less_itself [] h = h
-less_itself (false ∷ xs) h = less_itself xs h
-less_itself (true ∷ xs) h = less_itself xs h
 
 -- of two atoms of one length one is less, or they are one
 pub less_total : (xs ys : Atom) → length xs ≡ length ys → IsLess xs ys ⊎ ((xs ≡ ys) ⊎ IsLess ys xs)
@@ -196,6 +194,10 @@ pub restored : (ds low high : List (Option Bool)) (k : ℕ) → IsOpen ds k → 
 restored ds low high k undecided e f =
     ap (λ l. slice_set l k None) (f ∙ ap (λ l. slice_set l k (Some true)) e ∙ set-set ds k (Some false) (Some true)) ∙ set-set ds k (Some true) None ∙ open_again ds k undecided
 
+-- the test for which the state waits is open
+pub waits_open : (P : Atom → Type 0) (ds now : List (Option Bool)) (s : State) (k : ℕ) → now ≡ ds → s ≡ Waits k → IsState P now s → IsOpen ds k
+waits_open P ds now s k e w told = subst (IsState P ds) w (subst (λ l. IsState P l s) e told)
+
 -- ---- what both halves of a search give
 
 options_or : {X Y : Type 0} (f : X → Y) (o p : Option X) → option_map f (option_or o p) ≡ option_or (option_map f o) (option_map f p)
@@ -207,9 +209,23 @@ pub searched : (P : Atom → Type 0) {V : Type 0} (items : V → Atom) (ds : Lis
 searched P items ds k bound low high undecided first second =
     subst (IsFirstFailure (Below P bound) ds) (sym (options_or items high low)) (lesser_first P ds k bound (option_map items low) (option_map items high) undecided first second)
 
-pub second_half : (P : Atom → Type 0) {V : Type 0} (items : V → Atom) (ds first : List (Option Bool)) (k : ℕ) (bound own : Option Atom) (low high found : Option V) → first ≡ slice_set ds k (Some false) → own ≡ option_or (option_map items low) bound → high ≡ found
-    → IsFirstFailure (Below P own) (slice_set first k (Some true)) (option_map items found) → IsFirstFailure (Below P (option_or (option_map items low) bound)) (slice_set ds k (Some true)) (option_map items high)
-second_half P items ds first k bound own low high found e f g told =
-    subst (λ o. IsFirstFailure (Below P (option_or (option_map items low) bound)) (slice_set ds k (Some true)) (option_map items o)) (sym g)
-    (subst (λ l. IsFirstFailure (Below P (option_or (option_map items low) bound)) l (option_map items found)) (ap (λ l. slice_set l k (Some true)) e ∙ set-set ds k (Some false) (Some true))
-    (subst (λ b. IsFirstFailure (Below P b) (slice_set first k (Some true)) (option_map items found)) f told))
+pub second_half : (P : Atom → Type 0) {V : Type 0} (items : V → Atom) (ds first : List (Option Bool)) (k : ℕ) (bound own : Option Atom) (low high : Option V) → first ≡ slice_set ds k (Some false) → own ≡ option_or (option_map items low) bound
+    → IsFirstFailure (Below P own) (slice_set first k (Some true)) (option_map items high) → IsFirstFailure (Below P (option_or (option_map items low) bound)) (slice_set ds k (Some true)) (option_map items high)
+second_half P items ds first k bound own low high e f told =
+    subst (λ l. IsFirstFailure (Below P (option_or (option_map items low) bound)) l (option_map items high)) (ap (λ l. slice_set l k (Some true)) e ∙ set-set ds k (Some false) (Some true))
+    (subst (λ b. IsFirstFailure (Below P b) (slice_set first k (Some true)) (option_map items high)) f told)
+
+-- ---- the bound of the second half: what the first has found, or else the old one
+
+pub or_bound : {V : Type 0} (items : V → Atom) (r : Option (Bor V)) (low : Option V) (bound : Option (Bor V)) → option_copied r ≡ low → option_map (λ (b : Bor V). items b.now) (option_or r bound) ≡ option_or (option_map items low) (option_map (λ (b : Bor V). items b.now) bound)
+or_bound {V} items None low bound e = ap (λ o. option_or (option_map items o) (option_map (λ (b : Bor V). items b.now) bound)) e
+or_bound {V} items (Some x) low bound e = ap (λ o. option_or (option_map items o) (option_map (λ (b : Bor V). items b.now) bound)) e
+
+-- it has as many values
+pub failure_long : (P : Atom → Type 0) {V : Type 0} (items : V → Atom) (ds : List (Option Bool)) (o : Option V) → IsFirstFailure P ds (option_map items o) → IfSome o (λ v. length (items v) ≡ length ds)
+failure_long P items ds None f = tt
+failure_long P items ds (Some v) f = extends_length ds (items v) f.within
+
+pub or_long : {V : Type 0} (items : V → Atom) (n : ℕ) (r : Option (Bor V)) (low : Option V) (bound : Option (Bor V)) → option_copied r ≡ low → IfSome low (λ v. length (items v) ≡ n) → IfSome bound (λ b. length (items b.now) ≡ n) → IfSome (option_or r bound) (λ b. length (items b.now) ≡ n)
+or_long items n None low bound e found old = old
+or_long items n (Some x) low bound e found old = subst (λ o. IfSome o (λ v. length (items v) ≡ n)) (sym e) found

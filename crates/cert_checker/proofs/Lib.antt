@@ -13,11 +13,11 @@ pub mod KnownMoves
 pub mod KnownTruths
 pub mod LeastFailures
 pub mod ListedPairs
+pub mod NamedTests
 pub mod NeededTerms
 pub mod NextTests
 pub mod NodeRanges
 pub mod OneAnswer
-pub mod OutputTargets
 pub mod PairPlaces
 pub mod PairTurns
 pub mod Passes
@@ -27,5 +27,6 @@ pub mod RootRanges
 pub mod Saturating
 pub mod SetAcceptances
 pub mod SetQuestions
+pub mod SideTurns
 pub mod StepAnswers
 pub mod StepStates

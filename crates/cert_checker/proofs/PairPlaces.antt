@@ -15,8 +15,8 @@ use Rattle.certificate.specs.Accepted.{tested_pair_of, tested_pairs}
 use Rattle.cert_checker.specs.declared.answer.Reason.{Reason}
 use Rattle.cert_checker.specs.declared.answer.Reason.TheVariants.{FirstPair, Output, Missing, MissingTo, Shape, HypBroken, EndsAgree, TestNode, TermNode}
 use Rattle.cert_checker.specs.Answers.{Turn, turn_of, IsEarlier, IsLess, OutputsHold, StepHolds, MoveHolds, FailsBy}
-use Rattle.cert_checker.specs.Working.Cases.{Extends, IsFirstFailure}
-use Rattle.cert_checker.specs.Working.Places.{IsAmong, IsFirstOf, TurnHolds, turn_number, place_of, undecided}
+use Rattle.cert_checker.specs.Working.Cases.{Extends, IsFirstFailure, undecided}
+use Rattle.cert_checker.specs.Working.Places.{IsAmong, IsFirstOf, TurnHolds, turn_number, reason_at}
 use Rattle.cert_checker.proofs.Halves.{less_append, less_behind}
 
 -- values with no test decided are any of that many
@@ -40,8 +40,8 @@ earlier_parts s t e a h =
     h
 
 -- the turn of a reason of a place
-place_turn : (s : Style) (k : ℕ) (atom : Atom) (o : Option ℕ) (to : Atom)
-    → ((turn_of (place_of s k atom o to)).stage ≡ 3) × ((turn_of (place_of s k atom o to)).number ≡ k) × ((turn_of (place_of s k atom o to)).atom ≡ atom) × ((turn_of (place_of s k atom o to)).action ≡ turn_number o)
+pub place_turn : (s : Style) (k : ℕ) (atom : Atom) (o : Option ℕ) (to : Atom)
+    → ((turn_of (reason_at s k atom o to)).stage ≡ 3) × ((turn_of (reason_at s k atom o to)).number ≡ k) × ((turn_of (reason_at s k atom o to)).atom ≡ atom) × ((turn_of (reason_at s k atom o to)).action ≡ turn_number o)
 place_turn Plain k atom None to = (refl, refl, refl, refl)
 place_turn UpTo k atom None to = (refl, refl, refl, refl)
 place_turn Under k atom None to = (refl, refl, refl, refl)
@@ -124,7 +124,7 @@ module _ (q : ProblemParts) (c : CertParts) (action : Option ℕ) where
     back_wide = omega (arith, wide, length-drop q.tests x)
 
     abbrev reason : Reason
-    reason = place_of c.style k front action back
+    reason = reason_at c.style k front action back
 
     turn : ((turn_of reason).stage ≡ 3) × ((turn_of reason).number ≡ k) × ((turn_of reason).atom ≡ front) × ((turn_of reason).action ≡ turn_number action)
     turn = place_turn c.style k front action back
@@ -143,7 +143,7 @@ module _ (q : ProblemParts) (c : CertParts) (action : Option ℕ) where
     outputs_fail : (TurnHolds c.style q c p None front back → ⊥) → FailsBy q c (Output k front)
     outputs_fail never = (p, is, front_wide, never)
 
-    place_fails : (s : Style) → c.style ≡ s → (o : Option ℕ) → turn_number o < q.actions + 1 → (TurnHolds c.style q c p o front back → ⊥) → FailsBy q c (place_of s k front o back)
+    place_fails : (s : Style) → c.style ≡ s → (o : Option ℕ) → turn_number o < q.actions + 1 → (TurnHolds c.style q c p o front back → ⊥) → FailsBy q c (reason_at s k front o back)
     place_fails Plain e None below never = outputs_fail never
     place_fails UpTo e None below never = outputs_fail never
     place_fails Under e None below never = outputs_fail never
@@ -176,7 +176,7 @@ module _ (q : ProblemParts) (c : CertParts) (action : Option ℕ) where
         (λ b. never (subst (λ z. TurnHolds c.style q c z action atom to) (one_pair j k g p b.0 e is) (halves_hold p atom to l (f.least (atom ++ to) (both_extend atom to l m) b.1))))
         h
 
-    to_of : (s : Style) (o : Option ℕ) (m : ℕ) (g : TestedPair) (atom to : Atom) → turn_number o ≡ suc m → (MoveHolds s q c g atom (record { act = m; atom = to }) → ⊥) → (turn_of (place_of s k front o back)).to ≡ back
+    to_of : (s : Style) (o : Option ℕ) (m : ℕ) (g : TestedPair) (atom to : Atom) → turn_number o ≡ suc m → (MoveHolds s q c g atom (record { act = m; atom = to }) → ⊥) → (turn_of (reason_at s k front o back)).to ≡ back
     to_of s None m g atom to e never = absurd (omega (arith, e))
     to_of Plain (Some a) m g atom to e never = absurd (never tt)
     to_of UpTo (Some a) m g atom to e never = absurd (never tt)
@@ -195,7 +195,7 @@ module _ (q : ProblemParts) (c : CertParts) (action : Option ℕ) where
     none (TestNode j) a e g = absurd (omega (arith, a.0))
     none (TermNode j) a e g = absurd (omega (arith, a.0))
 
-    pub first_fails : IsFirstOf q c (λ n. n ≡ turn_number action) (Some (place_of c.style k (take q.tests x) action (drop q.tests x)))
+    pub first_fails : IsFirstOf q c (λ n. n ≡ turn_number action) (Some (reason_at c.style k (take q.tests x) action (drop q.tests x)))
     first_fails = ((turn.0, turn.3), place_fails c.style refl action low f.fails, none)
 
 -- the pair that is gone through

@@ -22,16 +22,16 @@ use Rattle.certificate.specs.PairParts.{PairParts, sets_of}
 use Rattle.certificate.specs.Certs.{CertParts, IsCert, IsPairOf, HasItsTest, nodes_of, number_pairs}
 use Rattle.certificate.specs.Accepted.{set_pairs, test_of, tested_pair_of, tested_pairs}
 use Rattle.checker_steps.specs.NodeTables.{TableParts, TablesGrow, IsTest, tables_of, term_at, nodes_in}
-use Rattle.checker_steps.specs.Targets.{AreEntries, StandFor, chosen}
+use Rattle.checker_steps.specs.Targets.{AreEntries, AreSteps, StandFor, chosen, set_leads_to}
+use Rattle.checker_steps.proofs.GrowingTables.{grows_trans}
 use Rattle.checker_steps.proofs.StepSets.{stand_kept}
-use Rattle.cert_checker.specs.declared.places.Turn.{Turn}
-use Rattle.cert_checker.specs.Working.Cases.{IsFirstFailure}
-use Rattle.cert_checker.specs.Working.Indices.{AreIndexed}
+use Rattle.cert_checker.specs.Working.Cases.{IsFirstFailure, undecided}
+use Rattle.cert_checker.specs.Working.Indices.{IndexParts, AreIndexed}
 use Rattle.cert_checker.specs.Working.Roots.{compared, counted_short}
-use Rattle.cert_checker.specs.Working.Questions.{IsQuestion, Counts, AreMatchedIn, MatchAt, test_holds}
-use Rattle.cert_checker.specs.Working.Places.{PassParts, IsPass, IsTurn, IsAllowed, TurnHolds, PairHolds, led_to, question_of, undecided}
+use Rattle.cert_checker.specs.Working.Questions.{TurnParts, QuestionParts, IsQuestion, AreNamed, IsPosed, IsAskedOf, Counts, AreMatchedIn, MatchAt, test_holds}
+use Rattle.cert_checker.specs.Working.Places.{PassParts, IsPass, IsTurn, IsAllowed, TurnHolds, PairHolds}
 use Rattle.cert_checker.proofs.RootRanges.{terms_stay}
-use Rattle.cert_checker.proofs.Passes.{pass_stays, turn_stays}
+use Rattle.cert_checker.proofs.Passes.{pass_with, turn_with}
 use Rattle.cert_checker.proofs.SetQuestions.{matched_same}
 
 module _ (q : ProblemParts) (c : CertParts) (rules : IsCert c) (t : TableParts) (nodes : TablesGrow (tables_of q.tests c) t) where
@@ -118,27 +118,37 @@ same_failure P Q ds (Some x) same f = record {
 both_or : {A B C D : Type 0} → (A ↔ B) → (C ↔ D) → (A → C) ↔ (B → D)
 both_or x y = ((λ h b. y.0 (h (x.1 b))), (λ h a. y.1 (h (x.0 a))))
 
-both_trans : {A B C : Type 0} → (A ↔ B) → (B ↔ C) → A ↔ C
+pub both_trans : {A B C : Type 0} → (A ↔ B) → (B ↔ C) → A ↔ C
 both_trans x y = ((λ a. y.0 (x.0 a)), (λ c. x.1 (y.1 c)))
 
-by_path : {A B : Type 0} → A ≡ B → A ↔ B
+pub by_path : {A B : Type 0} → A ≡ B → A ↔ B
 by_path e = ((λ h. subst (λ (P : Type 0). P) e h), (λ h. subst (λ (P : Type 0). P) (sym e) h))
 
-module _ (p : PassParts) (t : TableParts) (pass : IsPass p t) where
+-- the question of a turn about what two sets lead to
+abbrev pub question_of : TableParts → TurnParts → Option ℕ → List (ℕ × ℕ) → List (ℕ × ℕ) → List ℕ → QuestionParts
+question_of t turn own left right asked = record { tables = t; turn = turn; own = own; left = left; right = right; asked = asked }
+
+module _ (p : PassParts) (pass : IsPass p) where
   -- what is asked of two sets at an atom, and at the atom that an action leads to
-  abbrev IsAskedOf : Option ℕ → List Term → List Term → Atom → Atom → Type 0
-  IsAskedOf None es fs atom to = set_out es atom ≡ set_out fs atom
-  IsAskedOf (Some a) es fs atom to = AreMatchedIn (nodes_in t) p.cert.style (option_map (term_at t) p.roots.universal) p.cert.pairs (set_next es atom a) (set_next fs atom a) to
+  abbrev IsAskedAt : Option ℕ → List Term → List Term → Atom → Atom → Type 0
+  IsAskedAt None es fs atom to = set_out es atom ≡ set_out fs atom
+  IsAskedAt (Some a) es fs atom to = AreMatchedIn (nodes_in p.tables) p.cert.style (option_map (term_at p.tables) p.universal) p.cert.pairs (set_next es atom a) (set_next fs atom a) to
 
   -- so a question asks about targets that stand for what the sets lead to
-  matched_told : (o : Option ℕ) (left right : List (ℕ × ℕ)) (es fs : List Term) → StandFor t left (led_to o es) → StandFor t right (led_to o fs) → (atom to : Atom)
-      → AreMatchedIn (nodes_in t) (option_map_or (λ a. p.cert.style) o UpTo) (option_map (term_at t) (option_map_or (λ a. p.roots.universal) o None)) (option_map_or (λ a. p.cert.pairs) o []) (chosen t left atom) (chosen t right atom) to ↔ IsAskedOf o es fs atom to
-  matched_told None left right es fs own other atom to = outputs_told t left right (set_out es) (set_out fs) own other atom to
+  matched_told : (o : Option ℕ) (left right : List (ℕ × ℕ)) (es fs : List Term) → StandFor p.tables left (set_leads_to o es) → StandFor p.tables right (set_leads_to o fs) → (atom to : Atom)
+      → AreMatchedIn (nodes_in p.tables) (option_map_or (λ a. p.cert.style) o UpTo) (option_map (term_at p.tables) (option_map_or (λ a. p.universal) o None)) (option_map_or (λ a. p.cert.pairs) o []) (chosen p.tables left atom) (chosen p.tables right atom) to ↔ IsAskedAt o es fs atom to
+  matched_told None left right es fs own other atom to = outputs_told p.tables left right (set_out es) (set_out fs) own other atom to
   matched_told (Some a) left right es fs own other atom to = (
-    (λ m. matched_same (nodes_in t) p.cert.style (option_map (term_at t) p.roots.universal) p.cert.pairs (chosen t left atom) (chosen t right atom) (set_next es atom a) (set_next fs atom a) to (own.same atom) (other.same atom) m),
-    (λ m. matched_same (nodes_in t) p.cert.style (option_map (term_at t) p.roots.universal) p.cert.pairs (set_next es atom a) (set_next fs atom a) (chosen t left atom) (chosen t right atom) to
-        (same_members_sym (chosen t left atom) (set_next es atom a) (own.same atom)) (same_members_sym (chosen t right atom) (set_next fs atom a) (other.same atom)) m),
+    (λ m. matched_same (nodes_in p.tables) p.cert.style (option_map (term_at p.tables) p.universal) p.cert.pairs (chosen p.tables left atom) (chosen p.tables right atom) (set_next es atom a) (set_next fs atom a) to (own.same atom) (other.same atom) m),
+    (λ m. matched_same (nodes_in p.tables) p.cert.style (option_map (term_at p.tables) p.universal) p.cert.pairs (set_next es atom a) (set_next fs atom a) (chosen p.tables left atom) (chosen p.tables right atom) to
+        (same_members_sym (chosen p.tables left atom) (set_next es atom a) (own.same atom)) (same_members_sym (chosen p.tables right atom) (set_next fs atom a) (other.same atom)) m),
   )
+
+  -- so it is in a turn
+  pub matched_in_turn : (turn : TurnParts) → IsTurn p turn → (es fs : List Term) (to : Atom)
+      → AreMatchedIn (nodes_in p.tables) turn.style (option_map (term_at p.tables) turn.universal) turn.pairs es fs to
+      ≡ AreMatchedIn (nodes_in p.tables) (option_map_or (λ a. p.cert.style) turn.action UpTo) (option_map (term_at p.tables) (option_map_or (λ a. p.universal) turn.action None)) (option_map_or (λ a. p.cert.pairs) turn.action []) es fs to
+  matched_in_turn turn is es fs to = λ i. AreMatchedIn (nodes_in p.tables) (is.style i) (option_map (term_at p.tables) (is.universal i)) (is.pairs i) es fs to
 
   -- in a style without tests no pair has one
   none_plain : p.cert.style ≡ Plain → (r : PairParts) → Has p.cert.pairs r → r.test ≡ None
@@ -147,33 +157,33 @@ module _ (p : PassParts) (t : TableParts) (pass : IsPass p t) where
   none_up_to : p.cert.style ≡ UpTo → (r : PairParts) → Has p.cert.pairs r → r.test ≡ None
   none_up_to e r h = subst (λ z. HasItsTest z (length p.cert.test_nodes) r.test) e (pass.cert.pairs r h).test
 
-  universal_in : (s : Style) → p.cert.style ≡ s → option_map (term_at t) p.roots.universal ≡ (compared s p.problem).universal
+  universal_in : (s : Style) → p.cert.style ≡ s → option_map (term_at p.tables) p.universal ≡ (compared s p.problem).universal
   universal_in s e = pass.roots.universal ∙ ap (λ z. (compared z p.problem).universal) e
 
   module _ (es fs : List Term) (to : Atom) where
-    in_style : (s : Style) → p.cert.style ≡ s → AreMatchedIn (nodes_in t) p.cert.style (option_map (term_at t) p.roots.universal) p.cert.pairs es fs to ≡ AreMatchedIn (nodes_in t) s (compared s p.problem).universal p.cert.pairs es fs to
-    in_style s e = λ i. AreMatchedIn (nodes_in t) (e i) (universal_in s e i) p.cert.pairs es fs to
+    in_style : (s : Style) → p.cert.style ≡ s → AreMatchedIn (nodes_in p.tables) p.cert.style (option_map (term_at p.tables) p.universal) p.cert.pairs es fs to ≡ AreMatchedIn (nodes_in p.tables) s (compared s p.problem).universal p.cert.pairs es fs to
+    in_style s e = λ i. AreMatchedIn (nodes_in p.tables) (e i) (universal_in s e i) p.cert.pairs es fs to
 
-    matched_plain : p.cert.style ≡ Plain → AreMatchedIn (nodes_in t) p.cert.style (option_map (term_at t) p.roots.universal) p.cert.pairs es fs to ≡ AreMatched plain (closed p.problem).universal (set_pairs p.cert) es fs
-    matched_plain e = in_style Plain e ∙ ap (λ ps. AreMatched plain (closed p.problem).universal ps es fs) (sets_kept p.problem p.cert pass.cert t pass.nodes)
+    matched_plain : p.cert.style ≡ Plain → AreMatchedIn (nodes_in p.tables) p.cert.style (option_map (term_at p.tables) p.universal) p.cert.pairs es fs to ≡ AreMatched plain (closed p.problem).universal (set_pairs p.cert) es fs
+    matched_plain e = in_style Plain e ∙ ap (λ ps. AreMatched plain (closed p.problem).universal ps es fs) (sets_kept p.problem p.cert pass.cert p.tables pass.nodes)
 
-    matched_up_to : p.cert.style ≡ UpTo → AreMatchedIn (nodes_in t) p.cert.style (option_map (term_at t) p.roots.universal) p.cert.pairs es fs to ≡ AreMatched up_to (closed p.problem).universal (set_pairs p.cert) es fs
-    matched_up_to e = in_style UpTo e ∙ ap (λ ps. IsCongruent (closed p.problem).universal ps es fs) (untested_all (nodes_in t) p.cert.pairs to (none_up_to e) ∙ sets_kept p.problem p.cert pass.cert t pass.nodes)
+    matched_up_to : p.cert.style ≡ UpTo → AreMatchedIn (nodes_in p.tables) p.cert.style (option_map (term_at p.tables) p.universal) p.cert.pairs es fs to ≡ AreMatched up_to (closed p.problem).universal (set_pairs p.cert) es fs
+    matched_up_to e = in_style UpTo e ∙ ap (λ ps. IsCongruent (closed p.problem).universal ps es fs) (untested_all (nodes_in p.tables) p.cert.pairs to (none_up_to e) ∙ sets_kept p.problem p.cert pass.cert p.tables pass.nodes)
 
-    matched_under : p.cert.style ≡ Under → AreMatchedIn (nodes_in t) p.cert.style (option_map (term_at t) p.roots.universal) p.cert.pairs es fs to ≡ IsCongruent (compared Under p.problem).universal (pairs_at (tested_pairs p.cert) to) es fs
-    matched_under e = in_style Under e ∙ ap (λ ps. IsCongruent (compared Under p.problem).universal (pairs_at ps to) es fs) (pairs_kept p.problem p.cert pass.cert t pass.nodes)
+    matched_under : p.cert.style ≡ Under → AreMatchedIn (nodes_in p.tables) p.cert.style (option_map (term_at p.tables) p.universal) p.cert.pairs es fs to ≡ IsCongruent (compared Under p.problem).universal (pairs_at (tested_pairs p.cert) to) es fs
+    matched_under e = in_style Under e ∙ ap (λ ps. IsCongruent (compared Under p.problem).universal (pairs_at ps to) es fs) (pairs_kept p.problem p.cert pass.cert p.tables pass.nodes)
 
   module _ (r : PairParts) (listed : Has p.cert.pairs r) where
     -- the test of a pair is one of the tables
-    pub test_in_tables : (k : ℕ) → r.test ≡ Some k → IsTest t k
-    test_in_tables k e = IsPrefix-within p.cert.test_nodes t.tests k pass.nodes.nodes.tests (test_there p.problem p.cert pass.cert t pass.nodes p.cert.style (length p.cert.test_nodes) r.test (pass.cert.pairs r listed).test k e)
+    pub test_in_tables : (k : ℕ) → r.test ≡ Some k → IsTest p.tables k
+    test_in_tables k e = IsPrefix-within p.cert.test_nodes p.tables.tests k pass.nodes.nodes.tests (test_there p.problem p.cert pass.cert p.tables pass.nodes p.cert.style (length p.cert.test_nodes) r.test (pass.cert.pairs r listed).test k e)
 
     true_without : r.test ≡ None → (atom : Atom) → truth (test_of (nodes_of p.cert) r.test) atom ≡ true
     true_without e atom = ap (λ o. truth (test_of (nodes_of p.cert) o) atom) e
 
     -- what a style asks of the sets of the pair
     asked_told : (s : Style) → p.cert.style ≡ s → (o : Option ℕ) (atom to : Atom)
-        → (IsTrue (truth (test_of (nodes_of p.cert) r.test) atom) × IsAllowed (counted_short s p.problem) o atom to → IsAskedOf o (terms_of (nodes_of p.cert) r.left) (terms_of (nodes_of p.cert) r.right) atom to)
+        → (IsTrue (truth (test_of (nodes_of p.cert) r.test) atom) × IsAllowed (counted_short s p.problem) o atom to → IsAskedAt o (terms_of (nodes_of p.cert) r.left) (terms_of (nodes_of p.cert) r.right) atom to)
         ↔ TurnHolds s p.problem p.cert (tested_pair_of (nodes_of p.cert) r) o atom to
     asked_told Plain e None atom to = ((λ h. h (true_without (none_plain e r listed) atom, refl)), (λ h _. h))
     asked_told UpTo e None atom to = ((λ h. h (true_without (none_up_to e r listed) atom, refl)), (λ h _. h))
@@ -188,40 +198,41 @@ module _ (p : PassParts) (t : TableParts) (pass : IsPass p t) where
         let same = by_path (matched_under (set_next (terms_of (nodes_of p.cert) r.left) atom a) (set_next (terms_of (nodes_of p.cert) r.right) atom a) to e) in
         ((λ h test allowed. same.0 (h (test, allowed))), (λ h both. same.1 (h both.0 both.1)))
 
-    module _ (turn : Turn) (is : IsTurn p t turn) (left right : List (ℕ × ℕ)) where
+    module _ (turn : TurnParts) (is : IsTurn p turn) (left right : List (ℕ × ℕ)) (asked : List ℕ) where
       -- the question about the pair counts where its test is true and the move is allowed
-      counts_told : (atom to : Atom) → Counts t (question_of p turn r.test left right) atom to ↔ (IsTrue (truth (test_of (nodes_of p.cert) r.test) atom) × IsAllowed (counted_short p.cert.style p.problem) turn.action atom to)
+      counts_told : (atom to : Atom) → Counts p.tables (question_of p.tables turn r.test left right asked) atom to ↔ (IsTrue (truth (test_of (nodes_of p.cert) r.test) atom) × IsAllowed (counted_short p.cert.style p.problem) turn.action atom to)
       counts_told atom to = (
         (λ h. (sym (same atom) ∙ h.own, (is.forbidden.mean atom to).0 h.free)),
         (λ h. record { own = same atom ∙ h.0; free = (is.forbidden.mean atom to).1 h.1 }),
       )
         where
-          same : (atom : Atom) → test_holds t r.test atom ≡ truth (test_of (nodes_of p.cert) r.test) atom
-          same atom = ap (λ b. truth b atom) (test_kept p.problem p.cert pass.cert t pass.nodes r.test (test_there p.problem p.cert pass.cert t pass.nodes p.cert.style (length p.cert.test_nodes) r.test (pass.cert.pairs r listed).test))
+          same : (atom : Atom) → test_holds p.tables r.test atom ≡ truth (test_of (nodes_of p.cert) r.test) atom
+          same atom = ap (λ b. truth b atom) (test_kept p.problem p.cert pass.cert p.tables pass.nodes r.test (test_there p.problem p.cert pass.cert p.tables pass.nodes p.cert.style (length p.cert.test_nodes) r.test (pass.cert.pairs r listed).test))
 
       -- it holds where the pair does
-      turn_told : StandFor t left (led_to turn.action (terms_of (nodes_of p.cert) r.left)) → StandFor t right (led_to turn.action (terms_of (nodes_of p.cert) r.right)) → (x : Atom)
-          → MatchAt t (question_of p turn r.test left right) x ↔ TurnHolds p.cert.style p.problem p.cert (tested_pair_of (nodes_of p.cert) r) turn.action (take t.width x) (drop t.width x)
+      pub turn_told : StandFor p.tables left (set_leads_to turn.action (terms_of (nodes_of p.cert) r.left)) → StandFor p.tables right (set_leads_to turn.action (terms_of (nodes_of p.cert) r.right)) → (x : Atom)
+          → MatchAt p.tables (question_of p.tables turn r.test left right asked) x ↔ TurnHolds p.cert.style p.problem p.cert (tested_pair_of (nodes_of p.cert) r) turn.action (take p.tables.width x) (drop p.tables.width x)
       turn_told own other x =
           both_trans
-          (both_or (counts_told (take t.width x) (drop t.width x))
-          (matched_told turn.action left right (terms_of (nodes_of p.cert) r.left) (terms_of (nodes_of p.cert) r.right) own other (take t.width x) (drop t.width x)))
-          (asked_told p.cert.style refl turn.action (take t.width x) (drop t.width x))
+          (both_or (counts_told (take p.tables.width x) (drop p.tables.width x))
+          (both_trans (by_path (matched_in_turn turn is (chosen p.tables left (take p.tables.width x)) (chosen p.tables right (take p.tables.width x)) (drop p.tables.width x)))
+          (matched_told turn.action left right (terms_of (nodes_of p.cert) r.left) (terms_of (nodes_of p.cert) r.right) own other (take p.tables.width x) (drop p.tables.width x))))
+          (asked_told p.cert.style refl turn.action (take p.tables.width x) (drop p.tables.width x))
 
   -- ---- the question of a turn
 
-  set_in_tables : (ks : List ℕ) → IsNumberSet (length p.cert.term_nodes) ks → IsNumberSet (length t.terms) ks
-  set_in_tables ks s = record { there = below_more (length p.cert.term_nodes) (length t.terms) ks (omega (arith, pass.count, pass.there)) s.there; ascending = s.ascending }
+  set_in_tables : (ks : List ℕ) → IsNumberSet (length p.cert.term_nodes) ks → IsNumberSet (length p.tables.terms) ks
+  set_in_tables ks s = record { there = below_more (length p.cert.term_nodes) (length p.tables.terms) ks (omega (arith, pass.count, pass.there)) s.there; ascending = s.ascending }
 
-  listed_in : (o : Option ℕ) (r : PairParts) → Has (option_map_or (λ a. p.cert.pairs) o []) r → Has p.cert.pairs r
+  pub listed_in : (o : Option ℕ) (r : PairParts) → Has (option_map_or (λ a. p.cert.pairs) o []) r → Has p.cert.pairs r
   listed_in None r h = absurd h
   listed_in (Some a) r h = h
 
-  indexed_in : (o : Option ℕ) → AreIndexed p.roots.index (option_map_or (λ a. p.cert.pairs) o [])
+  indexed_in : (o : Option ℕ) → AreIndexed p.index (option_map_or (λ a. p.cert.pairs) o [])
   indexed_in None = λ k r e. absurd cc
   indexed_in (Some a) = pass.indexed
 
-  universal_there : (o : Option ℕ) (u : ℕ) → option_map_or (λ a. p.roots.universal) o None ≡ Some u → u < length t.terms
+  universal_there : (o : Option ℕ) (u : ℕ) → option_map_or (λ a. p.universal) o None ≡ Some u → u < length p.tables.terms
   universal_there None u e = absurd cc
   universal_there (Some a) u e = pass.roots.universal_there u e
 
@@ -229,59 +240,93 @@ module _ (p : PassParts) (t : TableParts) (pass : IsPass p t) where
   untested_in None e r h = absurd h
   untested_in (Some a) e r h = none_plain e r h
 
-  pub question_asked : (turn : Turn) → IsTurn p t turn → (own : Option ℕ) (left right : List (ℕ × ℕ)) → ((k : ℕ) → own ≡ Some k → IsTest t k) → AreEntries t left → AreEntries t right → IsQuestion t (question_of p turn own left right)
-  question_asked turn is own left right test first second = record {
-    pairs = λ r h. let of = pass.cert.pairs r (listed_in turn.action r h) in (set_in_tables r.left of.left, set_in_tables r.right of.right);
-    untested = untested_in turn.action;
-    indexed = indexed_in turn.action;
-    universal = universal_there turn.action;
-    own = test;
-    left = first;
-    right = second;
-    begin = is.begin;
-    end = is.end;
-    by_moves = λ g n. subst (Has turn.begin.keys) n.2 (is.by_moves n.0 n.1).0;
-    at_end = λ g n. ⊎_elim (λ m. subst (Has turn.end.keys) m.2 (is.by_moves m.0 m.1).1) (λ m. is.by_pairs m.0 g (listed_in turn.action m.0 m.1) m.2) n;
-  }
+  module _ (turn : TurnParts) (is : IsTurn p turn) where
+    of_turn : (r : PairParts) → Has turn.pairs r → Has (option_map_or (λ a. p.cert.pairs) turn.action []) r
+    of_turn r h = subst (λ (ps : List PairParts). Has ps r) is.pairs h
+
+    question_asked : (own : Option ℕ) (left right : List (ℕ × ℕ)) (asked : List ℕ) → ((k : ℕ) → own ≡ Some k → IsTest p.tables k) → AreEntries p.tables left → AreEntries p.tables right → IsQuestion p.tables (question_of p.tables turn own left right asked)
+    question_asked own left right asked test first second = record {
+      pairs = λ r h. let of = pass.cert.pairs r (listed_in turn.action r (of_turn r h)) in (set_in_tables r.left of.left, set_in_tables r.right of.right);
+      untested = λ e r h. untested_in turn.action (sym is.style ∙ e) r (of_turn r h);
+      indexed = subst (λ (x : IndexParts). AreIndexed x turn.pairs) (sym is.index) (subst (AreIndexed p.index) (sym is.pairs) (indexed_in turn.action));
+      universal = λ u e. universal_there turn.action u (sym is.universal ∙ e);
+      own = test;
+      left = first;
+      right = second;
+      begin = is.begin;
+      end = is.end;
+      by_moves = λ g n. subst (Has turn.begin) n.2 (is.by_moves n.0 n.1).0;
+      at_end = λ g n. ⊎_elim (λ m. subst (Has turn.end) m.2 (is.by_moves m.0 m.1).1) (λ m. is.by_pairs m.0 g m.1 m.2) n;
+    }
+
+    pub question_posed : (q : QuestionParts) (own : Option ℕ) (left right : List (ℕ × ℕ)) → IsAskedOf p.tables turn own left right q → AreNamed p.tables q q.asked → ((k : ℕ) → own ≡ Some k → IsTest p.tables k) → AreEntries p.tables left → AreEntries p.tables right → IsPosed q
+    question_posed q own left right e named test first second = subst IsPosed (sym e) (record {
+      tables = pass.nodes.sound;
+      question = question_asked own left right q.asked test first second;
+      named = subst (λ (z : QuestionParts). AreNamed p.tables z z.asked) e named;
+    })
 
   -- two atoms are not too wide to be gone through
-  pub narrow : t.width ≤ MAX_TESTS
+  pub narrow : p.tables.width ≤ MAX_TESTS
   narrow = omega (arith, pass.nodes.width, pass.problem.tests)
 
 -- ---- the pair that is gone through
 
-module _ (p : PassParts) (first mid last : TableParts) (begun : IsPass p first) (to_mid : TablesGrow first mid) (to_last : TablesGrow mid last) (turn : Turn) (is : IsTurn p first turn) (r : PairParts) (listed : Has p.cert.pairs r)
-    (left right : List (ℕ × ℕ)) (own : StandFor mid left (led_to turn.action (terms_of (nodes_in first) r.left))) (other : StandFor last right (led_to turn.action (terms_of (nodes_in mid) r.right))) where
-  half : IsPass p mid
-  half = pass_stays first mid to_mid p begun
+module _ (p : PassParts) (begun : IsPass p) where
+  module _ (turn : TurnParts) (is : IsTurn p turn) (r : PairParts) (listed : Has p.cert.pairs r) where
+    -- the terms of its sets have targets
+    pub left_steps : AreSteps p.tables turn.action (Has r.left) turn.steps
+    left_steps = λ k es h at. is.steps.steps k es (begun.needed.left r k listed h) at
 
-  whole : IsPass p last
-  whole = pass_stays mid last to_last p half
+    pub right_steps : (mid : TableParts) → TablesGrow p.tables mid → AreSteps mid turn.action (Has r.right) turn.steps
+    right_steps mid to_mid = λ k es h at. (turn_with p mid to_mid turn begun is).steps.steps k es (begun.needed.right r k listed h) at
 
-  turns : IsTurn p last turn
-  turns = turn_stays mid last to_last p turn half (turn_stays first mid to_mid p turn begun is)
+    pub left_numbers : are_below (length turn.steps) r.left ≡ true
+    left_numbers = below_more (length p.cert.term_nodes) (length turn.steps) r.left (omega (arith, begun.count, begun.marks, is.steps.count)) (begun.cert.pairs r listed).left.there
 
-  lefts : StandFor last left (led_to turn.action (terms_of (nodes_of p.cert) r.left))
+    pub right_numbers : are_below (length turn.steps) r.right ≡ true
+    right_numbers = below_more (length p.cert.term_nodes) (length turn.steps) r.right (omega (arith, begun.count, begun.marks, is.steps.count)) (begun.cert.pairs r listed).right.there
+
+  module _ (r : PairParts) (listed : Has p.cert.pairs r) (mid last : TableParts) (to_mid : TablesGrow p.tables mid) (to_last : TablesGrow mid last) where
+    pub own_test : (k : ℕ) → r.test ≡ Some k → IsTest last k
+    own_test = test_in_tables (record p { tables = last }) (pass_with p last (grows_trans p.tables mid last to_mid to_last) begun) r listed
+
+module _ (p : PassParts) (mid last : TableParts) (begun : IsPass p) (to_mid : TablesGrow p.tables mid) (to_last : TablesGrow mid last) (turn : TurnParts) (is : IsTurn p turn) (r : PairParts) (listed : Has p.cert.pairs r)
+    (left right : List (ℕ × ℕ)) (own : StandFor mid left (set_leads_to turn.action (terms_of (nodes_in p.tables) r.left))) (other : StandFor last right (set_leads_to turn.action (terms_of (nodes_in mid) r.right))) where
+  half : IsPass (record p { tables = mid })
+  half = pass_with p mid to_mid begun
+
+  whole : IsPass (record p { tables = last })
+  whole = pass_with (record p { tables = mid }) last to_last half
+
+  turns : IsTurn (record p { tables = last }) turn
+  turns = turn_with (record p { tables = mid }) last to_last turn half (turn_with p mid to_mid turn begun is)
+
+  lefts : StandFor last left (set_leads_to turn.action (terms_of (nodes_of p.cert) r.left))
   lefts =
-      stand_kept mid last to_last.was to_last left (led_to turn.action (terms_of (nodes_of p.cert) r.left))
-      (subst (λ es. StandFor mid left (led_to turn.action es)) (set_kept p.problem p.cert begun.cert first begun.nodes r.left (begun.cert.pairs r listed).left.there) own)
+      stand_kept mid last to_last.was to_last left (set_leads_to turn.action (terms_of (nodes_of p.cert) r.left))
+      (subst (λ es. StandFor mid left (set_leads_to turn.action es)) (set_kept p.problem p.cert begun.cert p.tables begun.nodes r.left (begun.cert.pairs r listed).left.there) own)
 
-  rights : StandFor last right (led_to turn.action (terms_of (nodes_of p.cert) r.right))
-  rights = subst (λ es. StandFor last right (led_to turn.action es)) (set_kept p.problem p.cert begun.cert mid half.nodes r.right (begun.cert.pairs r listed).right.there) other
+  rights : StandFor last right (set_leads_to turn.action (terms_of (nodes_of p.cert) r.right))
+  rights = subst (λ es. StandFor last right (set_leads_to turn.action es)) (set_kept p.problem p.cert begun.cert mid half.nodes r.right (begun.cert.pairs r listed).right.there) other
 
-  pub pair_asked : IsQuestion last (question_of p turn r.test left right)
-  pair_asked = question_asked p last whole turn turns r.test left right (test_in_tables p last whole r listed) lefts.entries rights.entries
+  pub left_entries : AreEntries last left
+  left_entries = lefts.entries
 
-  pub pair_narrow : last.width ≤ MAX_TESTS
-  pair_narrow = narrow p last whole
+  pub right_entries : AreEntries last right
+  right_entries = rights.entries
+
+  pub pair_posed : (q : QuestionParts) → IsAskedOf last turn r.test left right q → AreNamed last q q.asked → IsPosed q
+  pair_posed q e named = question_posed (record p { tables = last }) whole turn turns q r.test left right e named (own_test p begun r listed mid last to_mid to_last) lefts.entries rights.entries
 
   -- the least values at which the question about it fails are those at which the pair does
-  pub pair_told : (o : Option Atom) → IsFirstFailure (MatchAt last (question_of p turn r.test left right)) (undecided (last.width + last.width)) o → IsFirstFailure (PairHolds p.problem p.cert turn.action r) (undecided (p.problem.tests + p.problem.tests)) o
-  pair_told o f =
-      subst (λ n. IsFirstFailure (PairHolds p.problem p.cert turn.action r) (undecided (n + n)) o) whole.nodes.width
-      (same_failure (MatchAt last (question_of p turn r.test left right)) (PairHolds p.problem p.cert turn.action r) (undecided (last.width + last.width)) o same f)
+  pub pair_told : (q : QuestionParts) (o : Option Atom) → IsAskedOf last turn r.test left right q → IsFirstFailure (MatchAt q.tables q) (undecided (p.tables.width + p.tables.width)) o → IsFirstFailure (PairHolds p.problem p.cert turn.action r) (undecided (p.problem.tests + p.problem.tests)) o
+  pair_told q o e f =
+      subst (λ n. IsFirstFailure (PairHolds p.problem p.cert turn.action r) (undecided (n + n)) o) begun.nodes.width
+      (same_failure (MatchAt q.tables q) (PairHolds p.problem p.cert turn.action r) (undecided (p.tables.width + p.tables.width)) o same f)
     where
-      same : (x : Atom) → MatchAt last (question_of p turn r.test left right) x ↔ PairHolds p.problem p.cert turn.action r x
+      same : (x : Atom) → MatchAt q.tables q x ↔ PairHolds p.problem p.cert turn.action r x
       same x =
-          subst (λ n. MatchAt last (question_of p turn r.test left right) x ↔ TurnHolds p.cert.style p.problem p.cert (tested_pair_of (nodes_of p.cert) r) turn.action (take n x) (drop n x)) whole.nodes.width
-          (turn_told p last whole r listed turn turns left right lefts rights x)
+          subst (λ (z : QuestionParts). MatchAt z.tables z x ↔ PairHolds p.problem p.cert turn.action r x) (sym e)
+          (subst (λ n. MatchAt last (question_of last turn r.test left right q.asked) x ↔ TurnHolds p.cert.style p.problem p.cert (tested_pair_of (nodes_of p.cert) r) turn.action (take n x) (drop n x)) whole.nodes.width
+          (turn_told (record p { tables = last }) whole r listed turn turns left right q.asked lefts rights x))

@@ -1,5 +1,5 @@
--- What is known in a pass over the pairs, and in a turn of it, stays so where tables grow.
-use Rattle.std.proofs.Common.{◌≡◌, ℕ, ◌≤◌, List, length, map, slice_get, sym, ap, ◌∙◌, subst, arith, Bool, ◌&&◌, Option, Some, None}
+-- What is known in a pass over the pairs, and in a turn of it, stays so where its tables grow.
+use Rattle.std.proofs.Common.{◌≡◌, ℕ, ◌≤◌, List, length, slice_get, refl, sym, ap, ◌∙◌, subst, arith, Bool, ◌&&◌, Option, Some}
 use mathlib.Core.Path.{ap₂}
 use Rattle.std.specs.Bool.{IsTrue}
 use Rattle.kat_model.specs.Problems.{ProblemParts, IsProblem}
@@ -13,20 +13,22 @@ use Rattle.checker_steps.specs.NodeTables.{TableParts, TablesGrow, TestsGrow, ta
 use Rattle.checker_steps.specs.Marks.{IsMarked}
 use Rattle.checker_steps.specs.Targets.{AreAcceptances}
 use Rattle.checker_steps.proofs.ClosingMarks.{closed_kept}
-use Rattle.checker_steps.proofs.GrowingTables.{grows_trans}
+use Rattle.checker_steps.proofs.GrowingTables.{grows_trans, grows_itself}
 use Rattle.checker_steps.proofs.StepLists.{all_accept, all_step, grows_longer}
 use Rattle.checker_steps.proofs.TargetSets.{test_within, holds_kept}
-use Rattle.cert_checker.specs.declared.places.Turn.{Turn}
 use Rattle.cert_checker.specs.Working.Cases.{AreAsked}
 use Rattle.cert_checker.specs.Working.Indices.{AreIndexed}
 use Rattle.cert_checker.specs.Working.Roots.{AreRoots, counted_short}
-use Rattle.cert_checker.specs.Working.Places.{PassParts, AreNeeded, IsPass, StepsOf, AreForbidden, IsTurn}
+use Rattle.cert_checker.specs.Working.Questions.{TurnParts}
+use Rattle.cert_checker.specs.Working.Places.{PassParts, AreNeeded, IsPass, PassGrows, StepsOf, AreForbidden, IsTurn}
 use Rattle.cert_checker.proofs.RootRanges.{roots_stay}
 
 module _ (t new : TableParts) (grows : TablesGrow t new) where
   pub steps_stay : (o : Option ℕ) (marks : List Bool) (steps : List (List (ℕ × ℕ))) → length marks ≤ length t.terms → StepsOf t o marks steps → StepsOf new o marks steps
-  steps_stay None marks steps low s = tt
-  steps_stay (Some a) marks steps low s = (all_step t new grows.was grows a (IsMarked marks) steps (omega (arith, low, s.1)) s.0, s.1)
+  steps_stay o marks steps low s = record {
+    steps = all_step t new grows.was grows o (IsMarked marks) steps (omega (arith, low, s.count)) s.steps;
+    count = s.count;
+  }
 
   pub forbidden_stays : (q : ProblemParts) (c : CertParts) (action : Option ℕ) (forbidden : List (ℕ × ℕ)) → AreForbidden t c q action forbidden → AreForbidden new c q action forbidden
   forbidden_stays q c action forbidden tell = record {
@@ -57,61 +59,88 @@ module _ (t new : TableParts) (grows : TablesGrow t new) where
     shorts = n.shorts;
   }
 
-  pub pass_stays : (p : PassParts) → IsPass p t → IsPass p new
-  pass_stays p pass = record {
+-- ---- passes whose tables grow
+
+module _ (p : PassParts) (new : TableParts) (grows : TablesGrow p.tables new) where
+  pub pass_with : IsPass p → IsPass (record p { tables = new })
+  pass_with pass = record {
     problem = pass.problem;
     cert = pass.cert;
-    nodes = grows_trans (tables_of p.problem.tests p.cert) t new pass.nodes grows;
-    roots = roots_stay p.cert.style p.problem t new p.roots grows pass.roots;
+    nodes = grows_trans (tables_of p.problem.tests p.cert) p.tables new pass.nodes grows;
     indexed = pass.indexed;
-    accepting = all_accept t new grows.was grows p.accepting pass.there pass.accepting;
+    roots = roots_stay p.cert.style p.problem p.tables new p.left p.right p.universal p.shorts grows pass.roots;
+    accepting = all_accept p.tables new grows.was grows p.accepting pass.there pass.accepting;
     count = pass.count;
-    there = omega (arith, pass.there, grows_longer t new grows);
+    there = omega (arith, pass.there, grows_longer p.tables new grows);
     shorts = pass.shorts;
-    banned = values_stay (set_out (counted_short p.cert.style p.problem)) p.banned pass.banned;
+    banned = values_stay p.tables new grows (set_out (counted_short p.cert.style p.problem)) p.banned pass.banned;
     marks = pass.marks;
-    needed = needed_stay p.cert p.roots.shorts.items p.needed (omega (arith, pass.marks, pass.there)) pass.needed;
+    needed = needed_stay p.tables new grows p.cert p.shorts p.needed (omega (arith, pass.marks, pass.there)) pass.needed;
   }
 
-  pub turn_stays : (p : PassParts) (turn : Turn) → IsPass p t → IsTurn p t turn → IsTurn p new turn
-  turn_stays p turn pass is = record {
-    steps = steps_stay turn.action p.needed (map (λ x. x.entries) turn.list.items) (omega (arith, pass.marks, pass.there)) is.steps;
-    forbidden = forbidden_stays p.problem p.cert turn.action turn.forbidden.items is.forbidden;
-    begin = asked_stay turn.begin.keys is.begin;
-    end = asked_stay turn.end.keys is.end;
+  pub turn_with : (turn : TurnParts) → IsPass p → IsTurn p turn → IsTurn (record p { tables = new }) turn
+  turn_with turn pass is = record {
+    steps = steps_stay p.tables new grows turn.action p.needed turn.steps (omega (arith, pass.marks, pass.there)) is.steps;
+    style = is.style;
+    pairs = is.pairs;
+    index = is.index;
+    universal = is.universal;
+    forbidden = forbidden_stays p.tables new grows p.problem p.cert turn.action turn.forbidden is.forbidden;
+    begin = asked_stay p.tables new grows turn.begin is.begin;
+    end = asked_stay p.tables new grows turn.end is.end;
     by_moves = is.by_moves;
     by_pairs = is.by_pairs;
   }
 
+-- the pass with the tables that were made of its own
+pub grown : {p old : PassParts} (new : TableParts) → p ≡ old → TablesGrow p.tables new → PassGrows old (record p { tables = new })
+grown {p} new e grows = subst (λ (z : PassParts). PassGrows z (record p { tables = new })) e (record { tables = grows; same = refl })
+
+module _ (p new : PassParts) (grows : PassGrows p new) where
+  pub pass_kept : IsPass p → IsPass new
+  pass_kept pass = subst IsPass (sym grows.same) (pass_with p new.tables grows.tables pass)
+
+  pub turn_kept : (turn : TurnParts) → IsPass p → IsTurn p turn → IsTurn new turn
+  turn_kept turn pass is = subst (λ (z : PassParts). IsTurn z turn) (sym grows.same) (turn_with p new.tables grows.tables turn pass is)
+
+pub passes_trans : (p q r : PassParts) → PassGrows p q → PassGrows q r → PassGrows p r
+passes_trans p q r g h = record {
+  tables = grows_trans p.tables q.tables r.tables g.tables h.tables;
+  same = h.same ∙ ap (λ (z : PassParts). record z { tables = r.tables }) g.same;
+}
+
+pub passes_itself : (p : PassParts) → IsPass p → PassGrows p p
+passes_itself p pass = record { tables = grows_itself p.tables pass.nodes.sound; same = refl }
+
 -- ---- the start of the passes
 
-module _ (p : PassParts) (first second third last : TableParts) (start : first ≡ tables_of p.problem.tests p.cert) (to_second : TablesGrow first second) (to_third : TestsGrow second third) (to_last : TestsGrow third last) (roots : AreRoots p.cert.style p.problem second p.roots)
+module _ (p : PassParts) (first second third : TableParts) (start : first ≡ tables_of p.problem.tests p.cert) (to_second : TablesGrow first second) (to_third : TestsGrow second third) (to_last : TestsGrow third p.tables) (roots : AreRoots p.cert.style p.problem second p.left p.right p.universal p.shorts)
     (count : length p.accepting ≡ length second.terms) where
-  pub all_there : length p.accepting ≤ length last.terms
+  pub all_there : length p.accepting ≤ length p.tables.terms
   all_there = omega (arith, count, ap length to_third.terms, ap length to_last.terms)
 
   pub nodes_there : length p.cert.term_nodes ≤ length p.accepting
   nodes_there = omega (arith, count, grows_longer first second to_second, ap (λ (z : TableParts). length z.terms) start)
 
-  pub shorts_there : IsTrue (are_below (length p.accepting) p.roots.shorts.items)
-  shorts_there = ap (λ n. are_below n p.roots.shorts.items) count ∙ roots.shorts_there
+  pub shorts_there : IsTrue (are_below (length p.accepting) p.shorts)
+  shorts_there = ap (λ n. are_below n p.shorts) count ∙ roots.shorts_there
 
-  pub pass_made : IsProblem p.problem → IsCert p.cert → AreIndexed p.roots.index p.cert.pairs → AreAcceptances third p.accepting → HasValues last (set_out (terms_of (nodes_in third) p.roots.shorts.items)) p.banned → length p.needed ≡ length p.accepting
-      → AreNeeded last p.cert p.roots.shorts.items p.needed → IsPass p last
+  pub pass_made : IsProblem p.problem → IsCert p.cert → AreIndexed p.index p.cert.pairs → AreAcceptances third p.accepting → HasValues p.tables (set_out (terms_of (nodes_in third) p.shorts)) p.banned → length p.needed ≡ length p.accepting
+      → AreNeeded p.tables p.cert p.shorts p.needed → IsPass p
   pass_made is rules indexed accepting banned marks needed = record {
     problem = is;
     cert = rules;
-    nodes = subst (λ z. TablesGrow z last) start (grows_trans first second last to_second rest);
-    roots = roots_stay p.cert.style p.problem second last p.roots rest roots;
+    nodes = subst (λ z. TablesGrow z p.tables) start (grows_trans first second p.tables to_second rest);
     indexed = indexed;
-    accepting = all_accept third last to_last.grows.was to_last.grows p.accepting (omega (arith, count, ap length to_third.terms)) accepting;
+    roots = roots_stay p.cert.style p.problem second p.tables p.left p.right p.universal p.shorts rest roots;
+    accepting = all_accept third p.tables to_last.grows.was to_last.grows p.accepting (omega (arith, count, ap length to_third.terms)) accepting;
     count = nodes_there;
     there = all_there;
     shorts = shorts_there;
-    banned = subst (λ es. HasValues last (set_out es) p.banned) (roots_stay p.cert.style p.problem second third p.roots to_third.grows roots).shorts banned;
+    banned = subst (λ es. HasValues p.tables (set_out es) p.banned) (roots_stay p.cert.style p.problem second third p.left p.right p.universal p.shorts to_third.grows roots).shorts banned;
     marks = marks;
     needed = needed;
   }
     where
-      rest : TablesGrow second last
-      rest = grows_trans second third last to_third.grows to_last.grows
+      rest : TablesGrow second p.tables
+      rest = grows_trans second third p.tables to_third.grows to_last.grows

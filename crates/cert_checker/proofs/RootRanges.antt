@@ -19,8 +19,7 @@ use Rattle.term_nodes.proofs.Parts.{below_has, has_below, below_more}
 use Rattle.certificate.specs.declared.nodes.Style.{Style}
 use Rattle.certificate.specs.declared.nodes.Style.TheVariants.{Plain, UpTo, Under}
 use Rattle.checker_steps.specs.NodeTables.{TableParts, TablesGrow, IsTerm, term_at, nodes_in}
-use Rattle.cert_checker.specs.declared.roots.Roots.{Roots}
-use Rattle.cert_checker.specs.Working.Roots.{AreClosedBelow, AreRoots, compared}
+use Rattle.cert_checker.specs.Working.Roots.{AreClosedBelow, AreRoots, compared, counted_short}
 use Rattle.short_hyps.proofs.LongProblems.{long_is_problem}
 use Rattle.checker_steps.proofs.GrowingTables.{grows_trans}
 use Rattle.checker_steps.proofs.StepLists.{grows_longer}
@@ -134,19 +133,44 @@ pub universal_stays : (t new : TableParts) → TablesGrow t new → (o : Option 
 universal_stays t new grows None e low same = ((λ u s. absurd cc), same)
 universal_stays t new grows (Some k) e low same = ((λ u s. IsPrefix-within t.terms new.terms u grows.nodes.terms (low u s)), ap (λ (x : Term). Some x) (grows.nodes.trees k (low k refl)) ∙ same)
 
+-- the number of the universal term, where there is one
+pub universal_told : (t : TableParts) (k : ℕ) (e : Term) → IsTerm t k → term_at t k ≡ e → ((u : ℕ) → Some k ≡ Some u → IsTerm t u) × (option_map (term_at t) (Some k) ≡ Some e)
+universal_told t k e there tree = ((λ u s. let same : k ≡ u = cc in subst (IsTerm t) same there), ap Some tree)
+
 -- the numbers of a problem's terms stay those
-pub roots_stay : (s : Style) (q : ProblemParts) (t new : TableParts) (r : Roots) → TablesGrow t new → AreRoots s q t r → AreRoots s q new r
-roots_stay s q t new r grows a =
-    let left = term_stays t new grows r.left _ a.left_there a.left in
-    let right = term_stays t new grows r.right _ a.right_there a.right in
-    let universal = universal_stays t new grows r.universal _ a.universal_there a.universal in
+pub roots_stay : (s : Style) (q : ProblemParts) (t new : TableParts) (left right : ℕ) (universal : Option ℕ) (shorts : List ℕ) → TablesGrow t new → AreRoots s q t left right universal shorts → AreRoots s q new left right universal shorts
+roots_stay s q t new left right universal shorts grows a =
+    let l = term_stays t new grows left _ a.left_there a.left in
+    let r = term_stays t new grows right _ a.right_there a.right in
+    let u = universal_stays t new grows universal _ a.universal_there a.universal in
     record {
-      left = left.1;
-      left_there = left.0;
-      right = right.1;
-      right_there = right.0;
-      universal = universal.1;
-      universal_there = universal.0;
-      shorts = terms_stay t new grows r.shorts.items a.shorts_there ∙ a.shorts;
-      shorts_there = numbers_stay t new grows r.shorts.items a.shorts_there;
+      left = l.1;
+      left_there = l.0;
+      right = r.1;
+      right_there = r.0;
+      universal = u.1;
+      universal_there = u.0;
+      shorts = terms_stay t new grows shorts a.shorts_there ∙ a.shorts;
+      shorts_there = numbers_stay t new grows shorts a.shorts_there;
+    }
+
+-- the numbers that are given one after another, while tables grow
+pub roots_made : (s : Style) (q : ProblemParts) (first second third last : TableParts) (left right : ℕ) (universal : Option ℕ) (shorts : List ℕ) → TablesGrow first second → TablesGrow second third → TablesGrow third last
+    → IsTerm first left → term_at first left ≡ (compared s q).left → IsTerm second right → term_at second right ≡ (compared s q).right
+    → ((u : ℕ) → universal ≡ Some u → IsTerm third u) → option_map (term_at third) universal ≡ (compared s q).universal
+    → terms_of (nodes_in last) shorts ≡ counted_short s q → are_below (length last.terms) shorts ≡ true → AreRoots s q last left right universal shorts
+roots_made s q first second third last left right universal shorts to_second to_third to_last left_there left_is right_there right_is universal_there universal_is shorts_are shorts_there =
+    let most = grows_trans second third last to_third to_last in
+    let l = term_stays first last (grows_trans first second last to_second most) left _ left_there left_is in
+    let r = term_stays second last most right _ right_there right_is in
+    let u = universal_stays third last to_last universal _ universal_there universal_is in
+    record {
+      left = l.1;
+      left_there = l.0;
+      right = r.1;
+      right_there = r.0;
+      universal = u.1;
+      universal_there = u.0;
+      shorts = shorts_are;
+      shorts_there = shorts_there;
     }

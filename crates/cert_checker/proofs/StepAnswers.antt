@@ -1,6 +1,6 @@
 -- What the tests of two lists of targets say of the question whether listed pairs match them.
 use Rattle.std.proofs.Common.{◌≡◌, ℕ, ◌<◌, ◌⊎◌, inl, inr, ⊎_elim, List, [], ◌∷◌, map, length, refl, sym, ap, ◌∙◌, subst, arith, Bool, true, false, nat_lt, nat_eq, ◌&&◌, ◌||◌, cond, Option, Some, None}
-use Rattle.std.specs.Option.{option_map, option_map_or}
+use Rattle.std.specs.Option.{option_map, option_map_or, MatchOption}
 use Rattle.std.specs.List.{AllByRecursion}
 use Rattle.std.specs.List.Sorted.{IsStrictlySortedBy}
 use Rattle.std.specs.Map.{keys_of}
@@ -8,8 +8,9 @@ use Rattle.std.specs.BTreeMap.{is_at}
 use Rattle.std.specs.Cmp.Lexicographic.{pointwise}
 use Rattle.std.specs.declared.cmp.Ordering.TheVariants.{Less, Equal, Greater}
 use Rattle.std.specs.Ordering.{nat_cmp, is_eq}
-use Rattle.std.proofs.lemmas.Bool.{true≢false, and_parts, and_from, eqb-true, eq-eqb, ltb-true}
+use Rattle.std.proofs.lemmas.Bool.{true≢false, and_parts, and_from, or_parts, eqb-true, eq-eqb, ltb-true}
 use Rattle.std.proofs.lemmas.Map.Keys.{sorted_head, sorted_tail}
+use Rattle.std.proofs.lemmas.Option.{MatchOption-at_none}
 use Rattle.kat_model.specs.Trees.{Term}
 use Rattle.kat_model.specs.Members.{Has, IsSubset, SameMembers}
 use Rattle.kat_model.specs.Steps.{Atom}
@@ -27,10 +28,11 @@ use Rattle.checker_steps.specs.NodeTables.{TableParts, AreTables, IsTerm, term_a
 use Rattle.checker_steps.specs.Targets.{chosen, guard_of, AreEntries}
 use Rattle.checker_steps.proofs.ChosenTargets.{chosen_has, has_chosen, guard_member, any_value}
 use Rattle.cert_checker.specs.declared.known.Known.{Known}
-use Rattle.cert_checker.specs.declared.known.Known.TheVariants.{Value}
+use Rattle.cert_checker.specs.declared.known.Known.TheVariants.{Value, Waits as WaitsFor}
+use Rattle.cert_checker.specs.declared.matching.Side.{Side}
 use Rattle.cert_checker.specs.Working.Cases.{known_of, truly, falsely}
 use Rattle.cert_checker.specs.Working.Questions.{AreMatchedIn}
-use Rattle.cert_checker.specs.Working.Matching.{sure_targets, open_targets, has_too, is_sure, lists, AreSettled, AreSettledAmong}
+use Rattle.cert_checker.specs.Working.Matching.{sure_targets, open_targets, has_too, is_sure, lists, AreSettled, AreSettledAmong, IsWaitedBy, IsSide}
 use Rattle.cert_checker.proofs.Covering.{AreRight, truly_value, sure_chosen}
 use Rattle.cert_checker.proofs.Covered.{sure_below, settled_sure}
 use Rattle.cert_checker.proofs.ListedPairs.{same_numbers, same_pointwise, pointwise_itself}
@@ -87,7 +89,7 @@ eq_is_eq x = go (nat_lt x x) (nat_eq x x) refl refl
     go false false s e = absurd (true≢false (sym (eq-eqb x x refl) ∙ e))
 
 -- the guard of a target is found
-guard_found : (es : List (ℕ × ℕ)) (e : ℕ × ℕ) → IsStrictlySortedBy nat_cmp (keys_of es) → Has es e → guard_of es e.0 ≡ Some e.1
+pub guard_found : (es : List (ℕ × ℕ)) (e : ℕ × ℕ) → IsStrictlySortedBy nat_cmp (keys_of es) → Has es e → guard_of es e.0 ≡ Some e.1
 guard_found [] e sorted h = absurd h
 guard_found (d ∷ es) e sorted h = ⊎_elim same (λ r. later (is_at (nat_cmp e.0) d.0) refl r (guard_found es e (sorted_tail nat_cmp d.0 (keys_of es) sorted) r)) h
   where
@@ -114,15 +116,14 @@ sure_in known (d ∷ es) e h on = ⊎_elim (λ same. here same) (λ r. later (tr
     here : d ≡ e → Has (cond (truly (known_of known d.1)) (d.0 ∷ sure_targets known es) (sure_targets known es)) e.0
     here same = subst (λ (z : ℕ × ℕ). Has (cond (truly (known_of known z.1)) (z.0 ∷ sure_targets known es) (sure_targets known es)) e.0) (sym same) (rw on (inl refl))
 
--- the guard of an open term may be true
-open_entry : (known : List Known) (os es : List (ℕ × ℕ)) (k : ℕ) → Has (open_targets known os es) k → (e : ℕ × ℕ) × Has es e × (e.0 ≡ k) × (falsely (known_of known e.1) ≡ false)
+-- a term that may be there alone, with its guard
+pub open_entry : (known : List Known) (os es : List (ℕ × ℕ)) (k : ℕ) → Has (open_targets known os es) k → (e : ℕ × ℕ) × Has es e × (e.0 ≡ k) × ((falsely (known_of known e.1) || has_too known os e.0 e.1) ≡ false)
 open_entry known os [] k h = absurd h
-open_entry known os (d ∷ es) k h = go (falsely (known_of known d.1)) (has_too known os d.0 d.1) refl (λ r. let f = open_entry known os es k r in (f.0, inr f.1, f.2, f.3)) h
+open_entry known os (d ∷ es) k h = go (falsely (known_of known d.1) || has_too known os d.0 d.1) refl (λ r. let f = open_entry known os es k r in (f.0, inr f.1, f.2, f.3)) h
   where
-    go : (a b : Bool) → falsely (known_of known d.1) ≡ a → (Has (open_targets known os es) k → (e : ℕ × ℕ) × Has (d ∷ es) e × (e.0 ≡ k) × (falsely (known_of known e.1) ≡ false)) → Has (cond (a || b) (open_targets known os es) (d.0 ∷ open_targets known os es)) k → (e : ℕ × ℕ) × Has (d ∷ es) e × (e.0 ≡ k) × (falsely (known_of known e.1) ≡ false)
-    go true b off rest m = rest m
-    go false true off rest m = rest m
-    go false false off rest m = ⊎_elim (λ same. (d, inl refl, same, off)) rest m
+    go : (b : Bool) → (falsely (known_of known d.1) || has_too known os d.0 d.1) ≡ b → (Has (open_targets known os es) k → (e : ℕ × ℕ) × Has (d ∷ es) e × (e.0 ≡ k) × ((falsely (known_of known e.1) || has_too known os e.0 e.1) ≡ false)) → Has (cond b (open_targets known os es) (d.0 ∷ open_targets known os es)) k → (e : ℕ × ℕ) × Has (d ∷ es) e × (e.0 ≡ k) × ((falsely (known_of known e.1) || has_too known os e.0 e.1) ≡ false)
+    go true off rest m = rest m
+    go false off rest m = ⊎_elim (λ same. (d, inl refl, same, off)) rest m
 
 may_true : (x : Known) (b : Bool) → x ≡ Value b → falsely x ≡ false → truly x ≡ true
 may_true x true is off = ap truly is
@@ -133,13 +134,28 @@ open_sure : (known : List Known) (os es : List (ℕ × ℕ)) → IsStrictlySorte
 open_sure known os es sorted settled k h =
     let f = open_entry known os es k h in
     let s = settled k f.0.1 h (ap (guard_of es) (sym f.2) ∙ guard_found es f.0 sorted f.1) in
-    subst (Has (sure_targets known es)) f.2 (sure_in known es f.0 f.1 (may_true (known_of known f.0.1) s.0 s.1 f.3))
+    subst (Has (sure_targets known es)) f.2 (sure_in known es f.0 f.1 (may_true (known_of known f.0.1) s.0 s.1 (or_parts (falsely (known_of known f.0.1)) (has_too known os f.0.0 f.0.1) f.3).0))
 
--- of lists that are these
-pub sides_sure : (known : List Known) (os es : List (ℕ × ℕ)) (open_terms sure_terms : List ℕ) → IsStrictlySortedBy nat_cmp (keys_of es) → open_terms ≡ open_targets known os es → sure_terms ≡ sure_targets known es → AreSettledAmong known es open_terms → IsSubset open_terms sure_terms
-sides_sure known os es open_terms sure_terms sorted open_is sure_is settled k h =
-    subst (λ (l : List ℕ). Has l k) (sym sure_is)
-    (open_sure known os es sorted (λ j g m. settled j g (subst (λ (l : List ℕ). Has l j) (sym open_is) m)) k (subst (λ (l : List ℕ). Has l k) open_is h))
+-- ---- what is known of one side
+
+-- where the guard of none waits, what may be there alone surely is there
+pub side_sure : (known : List Known) (os es : List (ℕ × ℕ)) (s : Side) → IsSide known os es s → s.alone_waits ≡ None → IsSubset s.alone.items s.sure.items
+side_sure known os es s side none k h =
+    subst (λ (l : List ℕ). Has l k) (sym side.sure)
+    (open_sure known os es side.ascends (MatchOption-at_none (AreSettledAmong known es (open_targets known os es)) (IsWaitedBy known es) none side.alone_waits) k (subst (λ (l : List ℕ). Has l k) side.alone h))
+
+pub side_settled : (known : List Known) (os es : List (ℕ × ℕ)) (s : Side) → IsSide known os es s → s.waits ≡ None → AreSettled known es
+side_settled known os es s side none = MatchOption-at_none (AreSettled known es) (IsWaitedBy known es) none side.waits
+
+pub none_alone : (known : List Known) (os es : List (ℕ × ℕ)) (s : Side) → IsSide known os es s → s.waits ≡ None → s.alone_waits ≡ None
+none_alone known os es s side none = go s.alone_waits side.alone_waits
+  where
+    go : (o : Option ℕ) → MatchOption o (AreSettledAmong known es (open_targets known os es)) (IsWaitedBy known es) → o ≡ None
+    go None h = refl
+    go (Some k) h =
+        let v = side_settled known os es s side none h.0 h.1 in
+        let f : WaitsFor k ≡ Value v.0 = sym h.2 ∙ v.1 in
+        absurd cc
 
 -- ---- what the tests say
 

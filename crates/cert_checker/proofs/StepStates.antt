@@ -1,6 +1,6 @@
 -- What is known of a question at all values of two atoms with the decided tests.
-use Rattle.std.proofs.Common.{◌≡◌, ◌⊎◌, ℕ, inl, inr, ⊎_elim, List, map, take, drop, length, refl, sym, ap, ◌∙◌, subst, zero-add, Bool, true, false, not, ◌&&◌, Option, Some, None}
-use Rattle.std.specs.Option.{option_map, option_map_or, is_some, MatchOption}
+use Rattle.std.proofs.Common.{◌≡◌, ◌⊎◌, ℕ, inl, inr, ⊎_elim, List, map, take, drop, length, refl, sym, ◌∙◌, subst, zero-add, Bool, true, false, ◌&&◌, Option, Some, None}
+use Rattle.std.specs.Option.{option_map, option_map_or}
 use Rattle.kat_model.specs.Members.{Has}
 use Rattle.kat_model.specs.Steps.{Atom}
 use Rattle.kat_model.specs.Pairs.{IsCongruent, IsListed}
@@ -25,17 +25,7 @@ use Rattle.cert_checker.proofs.CountedPairs.{counting_has, counting_below, count
 use Rattle.cert_checker.proofs.Covering.{AreRight}
 use Rattle.cert_checker.proofs.Covered.{covered_congruent, congruent_covered}
 use Rattle.cert_checker.proofs.KnownMoves.{test_value, sure_are_at, at_are_counted, excluded_never, counts_then}
-use Rattle.cert_checker.proofs.StepAnswers.{universal_holds, listed_holds, unlisted_fails}
-
--- there is nothing where the answer says so
-pub none_is : (o : Option ℕ) (b : Bool) (A : Type 0) (B : ℕ → Type 0) → not b ≡ is_some o → b ≡ true → MatchOption o A B → A
-none_is None b A B same e h = h
-none_is (Some x) true A B same e h = absurd cc
-none_is (Some x) false A B same e h = absurd cc
-
-pub none_then : (o : Option ℕ) (b : Bool) → not b ≡ is_some o → o ≡ None → b ≡ true
-none_then o true same e = refl
-none_then o false same e = let f : true ≡ false = same ∙ ap is_some e in absurd cc
+use Rattle.cert_checker.proofs.StepAnswers.{side_settled, none_alone, universal_holds, listed_holds, unlisted_fails}
 
 module _ (t : TableParts) (are : AreTables t) (q : QuestionParts) (is : IsQuestion t q) (asked : List ℕ) (named : AreNamed t q asked) (ds : List (Option Bool)) (c : Case) (known : IsCase t q asked ds c) where
   at_begin : (g : ℕ) → NamesByTargets q g ⊎ NamesByMoves q g → IsKnown 0 (take t.width ds) (holds_at t g) (known_of c.begin.items g)
@@ -87,58 +77,58 @@ module _ (t : TableParts) (are : AreTables t) (q : QuestionParts) (is : IsQuesti
         (test_value t 0 (take t.width ds) c.begin.items (take t.width x) (extends_front t.width ds x extends) q.own (λ k o. at_begin k (inl (inl o))))
         (λ f h. front_right f.0 (inr (f, h, refl))) (λ f h. back_right f.1 (inl (f, h, refl))) does
 
-    pair_told : (p : PairParts) → Has q.pairs p → (k : ℕ) → p.test ≡ Some k → IsKnown t.width (drop t.width ds) (holds_at t k) (known_of c.end.items k)
+    pair_told : (p : PairParts) → Has q.turn.pairs p → (k : ℕ) → p.test ≡ Some k → IsKnown t.width (drop t.width ds) (holds_at t k) (known_of c.end.items k)
     pair_told p h k e = at_end k (inr (p, h, e))
 
-    numbers_below : (also : Bool) → ArePairsBelow (length t.terms) (counting also c.end.items q.pairs)
-    numbers_below also = counting_below also c.end.items (length t.terms) q.pairs (λ p h. let sets = is.pairs p h in (sets.0.there, sets.1.there))
+    numbers_below : (also : Bool) → ArePairsBelow (length t.terms) (counting also c.end.items q.turn.pairs)
+    numbers_below also = counting_below also c.end.items (length t.terms) q.turn.pairs (λ p h. let sets = is.pairs p h in (sets.0.there, sets.1.there))
 
-    number_sets : (n : NumberPair) → Has (counting false c.end.items q.pairs) n → IsNumberSet (length t.terms) n.left × IsNumberSet (length t.terms) n.right
+    number_sets : (n : NumberPair) → Has (counting false c.end.items q.turn.pairs) n → IsNumberSet (length t.terms) n.left × IsNumberSet (length t.terms) n.right
     number_sets n h =
-        let f = counting_has false c.end.items q.pairs n h in
+        let f = counting_has false c.end.items q.turn.pairs n h in
         subst (λ (m : NumberPair). IsNumberSet (length t.terms) m.left × IsNumberSet (length t.terms) m.right) f.3 (is.pairs f.0 f.1)
 
     -- in the plain style all pairs count
-    plain_pairs : q.style ≡ Plain → counting false c.end.items q.pairs ≡ map sets_of q.pairs
-    plain_pairs e = counting_all false c.end.items q.pairs (is.untested e)
+    plain_pairs : q.turn.style ≡ Plain → counting false c.end.items q.turn.pairs ≡ map sets_of q.turn.pairs
+    plain_pairs e = counting_all false c.end.items q.turn.pairs (is.untested e)
 
     module _ (s : Sides) (sides : AreSides c.begin.items q.left q.right s) where
       -- the pairs that surely are true at the end make the sets congruent
-      covered_here : AreCovered (counting false c.end.items q.pairs) q.universal s → IsCongruent (option_map (term_at t) q.universal) (pairs_at (map (tested_pair_of (nodes_in t)) q.pairs) (drop t.width x)) (chosen t q.left (take t.width x)) (chosen t q.right (take t.width x))
+      covered_here : AreCovered (counting false c.end.items q.turn.pairs) q.turn.universal s → IsCongruent (option_map (term_at t) q.turn.universal) (pairs_at (map (tested_pair_of (nodes_in t)) q.turn.pairs) (drop t.width x)) (chosen t q.left (take t.width x)) (chosen t q.right (take t.width x))
       covered_here m =
-          congruent_more (set_pairs_of (nodes_in t) (counting false c.end.items q.pairs)) (pairs_at (map (tested_pair_of (nodes_in t)) q.pairs) (drop t.width x))
-          (sure_are_at t t.width (drop t.width ds) c.end.items (drop t.width x) (extends_back t.width ds x extends) q.pairs pair_told)
-          (option_map (term_at t) q.universal) (chosen t q.left (take t.width x)) (chosen t q.right (take t.width x))
-          (covered_congruent t are c.begin.items (take t.width x) (counting false c.end.items q.pairs) (numbers_below false) q.universal q.left q.right is.left is.right lefts rights s sides m)
+          congruent_more (set_pairs_of (nodes_in t) (counting false c.end.items q.turn.pairs)) (pairs_at (map (tested_pair_of (nodes_in t)) q.turn.pairs) (drop t.width x))
+          (sure_are_at t t.width (drop t.width ds) c.end.items (drop t.width x) (extends_back t.width ds x extends) q.turn.pairs pair_told)
+          (option_map (term_at t) q.turn.universal) (chosen t q.left (take t.width x)) (chosen t q.right (take t.width x))
+          (covered_congruent t are c.begin.items (take t.width x) (counting false c.end.items q.turn.pairs) (numbers_below false) q.turn.universal q.left q.right is.left is.right lefts rights s sides m)
 
       -- and where all guards are settled, no others do
-      congruent_here : AreSettled c.begin.items q.left → AreSettled c.begin.items q.right → (also : Bool) → (also ≡ true) ⊎ AreTestsSettled c.end.items q.pairs
-          → IsCongruent (option_map (term_at t) q.universal) (pairs_at (map (tested_pair_of (nodes_in t)) q.pairs) (drop t.width x)) (chosen t q.left (take t.width x)) (chosen t q.right (take t.width x))
-          → AreCovered (counting also c.end.items q.pairs) q.universal s
+      congruent_here : AreSettled c.begin.items q.left → AreSettled c.begin.items q.right → (also : Bool) → (also ≡ true) ⊎ AreTestsSettled c.end.items q.turn.pairs
+          → IsCongruent (option_map (term_at t) q.turn.universal) (pairs_at (map (tested_pair_of (nodes_in t)) q.turn.pairs) (drop t.width x)) (chosen t q.left (take t.width x)) (chosen t q.right (take t.width x))
+          → AreCovered (counting also c.end.items q.turn.pairs) q.turn.universal s
       congruent_here sl sr also settled m =
-          congruent_covered t are c.begin.items (take t.width x) (counting also c.end.items q.pairs) (numbers_below also) q.universal q.left q.right is.left is.right lefts rights s sides is.universal sl sr
-          (congruent_more (pairs_at (map (tested_pair_of (nodes_in t)) q.pairs) (drop t.width x)) (set_pairs_of (nodes_in t) (counting also c.end.items q.pairs))
-          (at_are_counted t t.width (drop t.width ds) c.end.items (drop t.width x) (extends_back t.width ds x extends) q.pairs pair_told also settled)
-          (option_map (term_at t) q.universal) (chosen t q.left (take t.width x)) (chosen t q.right (take t.width x)) m)
+          congruent_covered t are c.begin.items (take t.width x) (counting also c.end.items q.turn.pairs) (numbers_below also) q.turn.universal q.left q.right is.left is.right lefts rights s sides is.universal sl sr
+          (congruent_more (pairs_at (map (tested_pair_of (nodes_in t)) q.turn.pairs) (drop t.width x)) (set_pairs_of (nodes_in t) (counting also c.end.items q.turn.pairs))
+          (at_are_counted t t.width (drop t.width ds) c.end.items (drop t.width x) (extends_back t.width ds x extends) q.turn.pairs pair_told also settled)
+          (option_map (term_at t) q.turn.universal) (chosen t q.left (take t.width x)) (chosen t q.right (take t.width x)) m)
 
-      listed_here : AreSettled c.begin.items q.left → AreSettled c.begin.items q.right → q.style ≡ Plain → lists (counting false c.end.items q.pairs) s.lefts.items s.rights.items ≡ true
-          → IsListed (set_pairs_of (nodes_in t) (map sets_of q.pairs)) (chosen t q.left (take t.width x)) (chosen t q.right (take t.width x))
+      listed_here : AreSettled c.begin.items q.left → AreSettled c.begin.items q.right → q.turn.style ≡ Plain → lists (counting false c.end.items q.turn.pairs) s.left.sure.items s.right.sure.items ≡ true
+          → IsListed (set_pairs_of (nodes_in t) (map sets_of q.turn.pairs)) (chosen t q.left (take t.width x)) (chosen t q.right (take t.width x))
       listed_here sl sr plain e =
           subst (λ (ns : List NumberPair). IsListed (set_pairs_of (nodes_in t) ns) (chosen t q.left (take t.width x)) (chosen t q.right (take t.width x))) (plain_pairs plain)
-          (listed_holds t are c.begin.items (take t.width x) q.universal q.left q.right is.left is.right lefts rights (counting false c.end.items q.pairs) sl sr
-          (subst (λ (l : List ℕ). lists (counting false c.end.items q.pairs) (sure_targets c.begin.items q.left) l ≡ true) sides.rights (subst (λ (l : List ℕ). lists (counting false c.end.items q.pairs) l s.rights.items ≡ true) sides.lefts e)))
+          (listed_holds t are c.begin.items (take t.width x) q.turn.universal q.left q.right is.left is.right lefts rights (counting false c.end.items q.turn.pairs) sl sr
+          (subst (λ (l : List ℕ). lists (counting false c.end.items q.turn.pairs) (sure_targets c.begin.items q.left) l ≡ true) sides.right.sure (subst (λ (l : List ℕ). lists (counting false c.end.items q.turn.pairs) l s.right.sure.items ≡ true) sides.left.sure e)))
 
-      unlisted_here : AreSettled c.begin.items q.left → AreSettled c.begin.items q.right → q.style ≡ Plain → option_map_or (λ u. is_sure c.begin.items q.left u && is_sure c.begin.items q.right u) q.universal false ≡ false
-          → (lists (counting false c.end.items q.pairs) s.lefts.items s.rights.items ≡ true → ⊥)
-          → AreMatchedIn (nodes_in t) Plain (option_map (term_at t) q.universal) q.pairs (chosen t q.left (take t.width x)) (chosen t q.right (take t.width x)) (drop t.width x) → ⊥
+      unlisted_here : AreSettled c.begin.items q.left → AreSettled c.begin.items q.right → q.turn.style ≡ Plain → option_map_or (λ u. is_sure c.begin.items q.left u && is_sure c.begin.items q.right u) q.turn.universal false ≡ false
+          → (lists (counting false c.end.items q.turn.pairs) s.left.sure.items s.right.sure.items ≡ true → ⊥)
+          → AreMatchedIn (nodes_in t) Plain (option_map (term_at t) q.turn.universal) q.turn.pairs (chosen t q.left (take t.width x)) (chosen t q.right (take t.width x)) (drop t.width x) → ⊥
       unlisted_here sl sr plain unsure none m =
-          unlisted_fails t are c.begin.items (take t.width x) q.universal q.left q.right is.left is.right lefts rights (counting false c.end.items q.pairs) sl sr sides.left_ascends sides.right_ascends number_sets is.universal unsure
-          (λ e. none (subst (λ (l : List ℕ). lists (counting false c.end.items q.pairs) s.lefts.items l ≡ true) (sym sides.rights) (subst (λ (l : List ℕ). lists (counting false c.end.items q.pairs) l (sure_targets c.begin.items q.right) ≡ true) (sym sides.lefts) e)))
+          unlisted_fails t are c.begin.items (take t.width x) q.turn.universal q.left q.right is.left is.right lefts rights (counting false c.end.items q.turn.pairs) sl sr sides.left.ascends sides.right.ascends number_sets is.universal unsure
+          (λ e. none (subst (λ (l : List ℕ). lists (counting false c.end.items q.turn.pairs) s.left.sure.items l ≡ true) (sym sides.right.sure) (subst (λ (l : List ℕ). lists (counting false c.end.items q.turn.pairs) l (sure_targets c.begin.items q.right) ≡ true) (sym sides.left.sure) e)))
           (⊎_elim (λ l. inl (subst (λ (ns : List NumberPair). IsListed (set_pairs_of (nodes_in t) ns) (chosen t q.left (take t.width x)) (chosen t q.right (take t.width x))) (sym (plain_pairs plain)) l)) inr m)
 
     -- matched in a style
-    by_style : (style : Style) → q.style ≡ style → AreMatchedIn (nodes_in t) style (option_map (term_at t) q.universal) q.pairs (chosen t q.left (take t.width x)) (chosen t q.right (take t.width x)) (drop t.width x) → MatchAt t q x
-    by_style style e m counts = subst (λ z. AreMatchedIn (nodes_in t) z (option_map (term_at t) q.universal) q.pairs (chosen t q.left (take t.width x)) (chosen t q.right (take t.width x)) (drop t.width x)) (sym e) m
+    by_style : (style : Style) → q.turn.style ≡ style → AreMatchedIn (nodes_in t) style (option_map (term_at t) q.turn.universal) q.turn.pairs (chosen t q.left (take t.width x)) (chosen t q.right (take t.width x)) (drop t.width x) → MatchAt t q x
+    by_style style e m counts = subst (λ z. AreMatchedIn (nodes_in t) z (option_map (term_at t) q.turn.universal) q.turn.pairs (chosen t q.left (take t.width x)) (chosen t q.right (take t.width x)) (drop t.width x)) (sym e) m
 
   -- ---- the states
 
@@ -146,28 +136,49 @@ module _ (t : TableParts) (are : AreTables t) (q : QuestionParts) (is : IsQuesti
   pub excluded_holds : is_excluded q c ≡ true → HoldsThroughout (MatchAt t q) ds
   excluded_holds e x h counts = absurd (never_counts x h e counts)
 
-  pub universal_match : option_map_or (λ u. is_sure c.begin.items q.left u && is_sure c.begin.items q.right u) q.universal false ≡ true → HoldsThroughout (MatchAt t q) ds
-  universal_match e x h counts = universal_holds t are c.begin.items (take t.width x) q.universal q.left q.right is.left is.right (lefts x h) (rights x h) e q.pairs q.style (drop t.width x)
+  pub universal_match : option_map_or (λ u. is_sure c.begin.items q.left u && is_sure c.begin.items q.right u) q.turn.universal false ≡ true → HoldsThroughout (MatchAt t q) ds
+  universal_match e x h counts = universal_holds t are c.begin.items (take t.width x) q.turn.universal q.left q.right is.left is.right (lefts x h) (rights x h) e q.turn.pairs q.turn.style (drop t.width x)
 
   module _ (s : Sides) (sides : AreSides c.begin.items q.left q.right s) where
-    pub matched_holds : (open_settled all_settled : Bool) → (all_settled ≡ true → AreSettled c.begin.items q.left × AreSettled c.begin.items q.right) → AreSurelyMatched q.style (counting false c.end.items q.pairs) q.universal open_settled all_settled s → HoldsThroughout (MatchAt t q) ds
-    matched_holds open_settled all_settled all e x h = go q.style refl e
+    settled_left : s.left.waits ≡ None → AreSettled c.begin.items q.left
+    settled_left = side_settled c.begin.items q.right q.left s.left sides.left
+
+    settled_right : s.right.waits ≡ None → AreSettled c.begin.items q.right
+    settled_right = side_settled c.begin.items q.left q.right s.right sides.right
+
+    pub matched_holds : AreSurelyMatched q.turn.style (counting false c.end.items q.turn.pairs) q.turn.universal s → HoldsThroughout (MatchAt t q) ds
+    matched_holds e x h = go q.turn.style refl e
       where
-        go : (style : Style) → q.style ≡ style → AreSurelyMatched style (counting false c.end.items q.pairs) q.universal open_settled all_settled s → MatchAt t q x
-        go Plain is_style m = by_style x h Plain is_style (inl (listed_here x h s sides (all m.0).0 (all m.0).1 is_style m.1))
+        go : (style : Style) → q.turn.style ≡ style → AreSurelyMatched style (counting false c.end.items q.turn.pairs) q.turn.universal s → MatchAt t q x
+        go Plain is_style m = by_style x h Plain is_style (inl (listed_here x h s sides (settled_left m.0.0) (settled_right m.0.1) is_style m.1))
         go UpTo is_style m = by_style x h UpTo is_style (covered_here x h s sides m.1)
         go Under is_style m = by_style x h Under is_style (covered_here x h s sides m.1)
 
     -- once all guards are settled and the move counts, what is not surely matched is not matched
-    pub unmatched_fails : DoesCount q c → AreSettled c.begin.items q.left → AreSettled c.begin.items q.right → option_map_or (λ u. is_sure c.begin.items q.left u && is_sure c.begin.items q.right u) q.universal false ≡ false
-        → (open_settled all_settled : Bool) → open_settled ≡ true → all_settled ≡ true → (AreSurelyMatched q.style (counting false c.end.items q.pairs) q.universal open_settled all_settled s → ⊥)
-        → (AreCovered (counting true c.end.items q.pairs) q.universal s → ⊥) ⊎ AreTestsSettled c.end.items q.pairs → (x : Atom) → Extends ds x → MatchAt t q x → ⊥
-    unmatched_fails does sl sr unsure open_settled all_settled open_is all_is never over x h match_at = go q.style refl never (match_at (counts_here x h does))
+    pub unmatched_fails : DoesCount q c → s.left.waits ≡ None → s.right.waits ≡ None → option_map_or (λ u. is_sure c.begin.items q.left u && is_sure c.begin.items q.right u) q.turn.universal false ≡ false
+        → (AreSurelyMatched q.turn.style (counting false c.end.items q.turn.pairs) q.turn.universal s → ⊥)
+        → (AreCovered (counting true c.end.items q.turn.pairs) q.turn.universal s → ⊥) ⊎ AreTestsSettled c.end.items q.turn.pairs → (x : Atom) → Extends ds x → MatchAt t q x → ⊥
+    unmatched_fails does left right unsure never over x h match_at = go q.turn.style refl never (match_at (counts_here x h does))
       where
-        uncovered : (AreCovered (counting false c.end.items q.pairs) q.universal s → ⊥) → IsCongruent (option_map (term_at t) q.universal) (pairs_at (map (tested_pair_of (nodes_in t)) q.pairs) (drop t.width x)) (chosen t q.left (take t.width x)) (chosen t q.right (take t.width x)) → ⊥
+        sl : AreSettled c.begin.items q.left
+        sl = settled_left left
+
+        sr : AreSettled c.begin.items q.right
+        sr = settled_right right
+
+        uncovered : (AreCovered (counting false c.end.items q.turn.pairs) q.turn.universal s → ⊥)
+            → IsCongruent (option_map (term_at t) q.turn.universal) (pairs_at (map (tested_pair_of (nodes_in t)) q.turn.pairs) (drop t.width x)) (chosen t q.left (take t.width x)) (chosen t q.right (take t.width x)) → ⊥
         uncovered none m = ⊎_elim (λ also. also (congruent_here x h s sides sl sr true (inl refl) m)) (λ settled. none (congruent_here x h s sides sl sr false (inr settled) m)) over
 
-        go : (style : Style) → q.style ≡ style → (AreSurelyMatched style (counting false c.end.items q.pairs) q.universal open_settled all_settled s → ⊥) → AreMatchedIn (nodes_in t) q.style (option_map (term_at t) q.universal) q.pairs (chosen t q.left (take t.width x)) (chosen t q.right (take t.width x)) (drop t.width x) → ⊥
-        go Plain is_style none m = unlisted_here x h s sides sl sr is_style unsure (λ l. none (all_is, l)) (subst (λ z. AreMatchedIn (nodes_in t) z (option_map (term_at t) q.universal) q.pairs (chosen t q.left (take t.width x)) (chosen t q.right (take t.width x)) (drop t.width x)) is_style m)
-        go UpTo is_style none m = uncovered (λ l. none (open_is, l)) (subst (λ z. AreMatchedIn (nodes_in t) z (option_map (term_at t) q.universal) q.pairs (chosen t q.left (take t.width x)) (chosen t q.right (take t.width x)) (drop t.width x)) is_style m)
-        go Under is_style none m = uncovered (λ l. none (open_is, l)) (subst (λ z. AreMatchedIn (nodes_in t) z (option_map (term_at t) q.universal) q.pairs (chosen t q.left (take t.width x)) (chosen t q.right (take t.width x)) (drop t.width x)) is_style m)
+        alone : (s.left.alone_waits ≡ None) × (s.right.alone_waits ≡ None)
+        alone = (none_alone c.begin.items q.right q.left s.left sides.left left, none_alone c.begin.items q.left q.right s.right sides.right right)
+
+        as_style : (style : Style) → q.turn.style ≡ style → AreMatchedIn (nodes_in t) q.turn.style (option_map (term_at t) q.turn.universal) q.turn.pairs (chosen t q.left (take t.width x)) (chosen t q.right (take t.width x)) (drop t.width x)
+            → AreMatchedIn (nodes_in t) style (option_map (term_at t) q.turn.universal) q.turn.pairs (chosen t q.left (take t.width x)) (chosen t q.right (take t.width x)) (drop t.width x)
+        as_style style is_style m = subst (λ z. AreMatchedIn (nodes_in t) z (option_map (term_at t) q.turn.universal) q.turn.pairs (chosen t q.left (take t.width x)) (chosen t q.right (take t.width x)) (drop t.width x)) is_style m
+
+        go : (style : Style) → q.turn.style ≡ style → (AreSurelyMatched style (counting false c.end.items q.turn.pairs) q.turn.universal s → ⊥)
+            → AreMatchedIn (nodes_in t) q.turn.style (option_map (term_at t) q.turn.universal) q.turn.pairs (chosen t q.left (take t.width x)) (chosen t q.right (take t.width x)) (drop t.width x) → ⊥
+        go Plain is_style none m = unlisted_here x h s sides sl sr is_style unsure (λ l. none ((left, right), l)) (as_style Plain is_style m)
+        go UpTo is_style none m = uncovered (λ l. none (alone, l)) (as_style UpTo is_style m)
+        go Under is_style none m = uncovered (λ l. none (alone, l)) (as_style Under is_style m)

@@ -10,16 +10,16 @@ ghost use Rattle.cert_checker.specs.Laws.{Says};
 ghost use Rattle.cert_checker.specs.Working.Places.{place_reason};
 
 use crate::answer::{Answer, Reason};
-use crate::places::{Pass, Place};
+use crate::index::PairIndex;
+use crate::pass::{Pass, Place};
 use crate::range::{action_out, test_out};
-use certificate::{Cert, Evidence};
-use checker_steps::Tables;
+use certificate::{Cert, Evidence, Style};
 use kat_model::{Items, NoMemory, Problem};
 use std::alloc::Global;
 use string_tables::{Finding, verdict};
 
-fn reason_of_place(place: Place) -> Reason
-    ensures { result ≡ place_reason place }
+fn reason_of_place(place: Place, style: Style) -> Reason
+    ensures { result ≡ place_reason style place }
 {
     let Place {
         pair,
@@ -27,12 +27,11 @@ fn reason_of_place(place: Place) -> Reason
         action,
         to,
     } = place;
-    match (action, to) {
-        (None, _) => Reason::Output(pair, Items::of(atom)),
-        (Some(action), None) => Reason::Missing(pair, Items::of(atom), action),
-        (Some(action), Some(to)) => {
-            Reason::MissingTo(pair, Items::of(atom), action, Items::of(to))
-        }
+    let atom = Items::of(atom);
+    match (action, style) {
+        (None, _) => Reason::Output(pair, atom),
+        (Some(action), Style::Under) => Reason::MissingTo(pair, atom, action, Items::of(to)),
+        (Some(action), _) => Reason::Missing(pair, atom, action),
     }
 }
 
@@ -42,15 +41,13 @@ fn pairs_reason(alloc: Global, problem: &Problem, cert: &Cert) -> Result<Option<
     requires actions { (a : ℕ) → Has cert.now.term_nodes (Act a) → a < problem.now.actions }
     ensures { IfOk result (λ o. MatchOption o (IsAccepted problem.now cert.now) (λ r. FailsFirstBy problem.now cert.now r)) }
 {
-    let mut tables = Tables::of(alloc, cert, problem.tests())?;
-    let pass = Pass::of(alloc, &mut tables, problem, cert)?;
-    if !pass.begins(alloc, &mut tables)? {
+    let index = PairIndex::of(alloc, cert.pairs())?;
+    let mut pass = Pass::of(alloc, problem, cert, &index)?;
+    if !pass.begins()? {
         return Ok(Some(Reason::FirstPair));
     }
-    match pass.first_place(alloc, &mut tables)? {
-        Some(place) => Ok(Some(reason_of_place(place))),
-        None => Ok(None),
-    }
+    let place = pass.first_place()?;
+    Ok(place.map(|place| reason_of_place(place, cert.style())))
 }
 
 // The first reason why the certificate is not accepted.
@@ -92,10 +89,7 @@ fn first_reason(
 {
     match evidence {
         Evidence::Equal(cert) => certificate_reason(alloc, problem, cert),
-        Evidence::Different(string) => {
-            let finding = verdict(alloc, problem, string)?;
-            Ok(string_reason(finding))
-        }
+        Evidence::Different(string) => Ok(string_reason(verdict(alloc, problem, string)?)),
     }
 }
 

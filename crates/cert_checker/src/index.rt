@@ -2,7 +2,7 @@
 //! stand under those terms.
 ghost use Rattle.std.specs.Prelude.{◌≡◌, IfOk, OnOk};
 ghost use Rattle.kat_model.specs.Members.{Has};
-ghost use Rattle.cert_checker.specs.Working.Indices.{places_under, places_by, KeepsPlaces, AreIndexed};
+ghost use Rattle.cert_checker.specs.Working.Indices.{places_at, places_by, KeepsPlaces, AreIndexed};
 
 use certificate::Pair;
 use kat_model::NoMemory;
@@ -58,30 +58,16 @@ impl PairIndex {
         Ok(index)
     }
 
-    /// The places of pairs with an empty set.
-    pub(crate) fn apart(&self) -> &[usize]
-        ensures { result.now ≡ self.now.apart }
+    /// The places of pairs that stand under the term, or without one of those with an empty set.
+    pub(crate) fn places(&self, last: Option<usize>) -> &[usize]
+        ensures { result.now ≡ places_at self.now last }
     {
-        &self.apart
-    }
-
-    /// The places of pairs that stand under the term.
-    pub(crate) fn under(&self, term: usize) -> &[usize]
-        ensures { result.now ≡ places_under self.now term }
-    {
+        let Some(term) = last else {
+            return &self.apart;
+        };
         match self.under.get(&term) {
             Some(places) => places,
             None => &[],
-        }
-    }
-
-    /// The places among which are those of the pairs with this set.
-    pub(crate) fn places_of(&self, set: &[usize]) -> &[usize]
-        ensures { result.now ≡ places_by self.now set.now }
-    {
-        match set.last() {
-            Some(term) => self.under(*term),
-            None => self.apart(),
         }
     }
 }

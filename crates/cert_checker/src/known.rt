@@ -1,10 +1,10 @@
 //! What is known of tests where some primitive tests of two atoms are decided (three-valued logic, Kleene 1938). The
 //! primitive tests of both are numbered in one list: those of the first atom, and then those of the second.
-ghost use Rattle.std.specs.Prelude.{◌≡◌, ◌≤◌, ◌+◌, ℕ, length, OnOk};
+ghost use Rattle.std.specs.Prelude.{◌≡◌, ◌≤◌, ◌+◌, ℕ, length, IfOk, OnOk};
 ghost use Rattle.kat_model.specs.Members.{Has};
 ghost use Rattle.term_nodes.specs.Nodes.{IsTestOver};
 ghost use Rattle.checker_steps.specs.NodeTables.{IsWithin};
-ghost use Rattle.cert_checker.specs.Working.Cases.{known_of, known_test, known_not, known_and, known_node, truly, falsely, AreAsked, AreKnown};
+ghost use Rattle.cert_checker.specs.Working.Cases.{known_of, known_test, known_not, known_and, known_node, truly, undecided, AreAsked, AreKnown};
 
 use crate::question::Question;
 use certificate::TestNode;
@@ -22,10 +22,11 @@ pub(crate) enum Known {
     Waits(usize),
 }
 
-/// What is known of tests by their numbers where some primitive tests are decided: at the first atom, at which a move
-/// begins, and at the second, at which it ends. It is right for the tests that are asked.
+/// Which primitive tests of two atoms are decided, and what is known of tests by their numbers: at the first atom, at
+/// which a move begins, and at the second, at which it ends. It is right for the tests that are asked.
 #[derive(Drop)]
 pub(crate) struct Case {
+    pub decided: Vec<Option<bool>>,
     pub begin: Vec<Known>,
     pub end: Vec<Known>,
 }
@@ -51,12 +52,6 @@ pub(crate) fn is_true(known: Known) -> bool
     ensures { result ≡ truly known }
 {
     matches!(known, Known::Value(true))
-}
-
-pub(crate) fn is_false(known: Known) -> bool
-    ensures { result ≡ falsely known }
-{
-    matches!(known, Known::Value(false))
 }
 
 fn negation(x: Known) -> Known
@@ -121,46 +116,35 @@ fn evaluate(
 }
 
 impl Case {
-    ghost use Rattle.cert_checker.specs.Working.Questions.{IsCase, HasRoom};
+    ghost use Rattle.kat_model.specs.declared.limits.TheConstants.{MAX_TESTS};
+    ghost use Rattle.cert_checker.specs.Working.Questions.{IsPosed, IsCase};
 
-    /// Nothing is known.
-    pub(crate) fn new(alloc: Global) -> Case {
-        Case {
+    /// No test is decided.
+    pub(crate) fn new(alloc: Global, width: usize) -> Result<Case, NoMemory>
+        requires { width ≤ MAX_TESTS }
+        ensures { IfOk result (λ c. c.decided.items ≡ undecided (width + width)) }
+    {
+        Ok(Case {
+            decided: vec![in alloc; None; width + width]?,
             begin: Vec::new(alloc),
             end: Vec::new(alloc),
-        }
+        })
     }
 
-    /// Makes room for so many tests.
-    pub(crate) fn widen(&mut self, count: usize) -> Result<(), NoMemory>
-        ensures { OnOk result (HasRoom count self.new) }
+    /// Says what is known of the tests that the question names, after room is made for all.
+    pub(crate) fn evaluate(&mut self, question: &Question) -> Result<(), NoMemory>
+        requires question { IsPosed question.now }
+        requires decided { length self.old.decided.items ≡ question.now.tables.width + question.now.tables.width }
+        ensures known { OnOk result (IsCase question.now.tables question.now question.now.asked self.new.decided.items self.new) }
+        ensures decided { self.new.decided ≡ self.old.decided }
     {
-        self.begin.resize(count, Known::Value(false))?;
-        self.end.resize(count, Known::Value(false))?;
+        let (tables, turn) = (question.tables, question.turn);
+        self.begin.resize(tables.test_count(), Known::Value(false))?;
+        self.end.resize(tables.test_count(), Known::Value(false))?;
+        let (first, second) = self.decided.split_at(tables.width());
+        evaluate(&mut self.begin, tables, &question.asked, first, 0);
+        evaluate(&mut self.begin, tables, &turn.begin, first, 0);
+        evaluate(&mut self.end, tables, &turn.end, second, tables.width());
         Ok(())
-    }
-
-    /// Says what is known of the tests that are asked: of these, which the targets and the pair name, and of those of
-    /// the question.
-    pub(crate) fn decide(
-        &mut self,
-        tables: &Tables,
-        question: &Question,
-        asked: &BTreeSet<usize>,
-        decided: &[Option<bool>],
-    )
-        requires room { HasRoom (length tables.now.tests) self.old }
-        requires asked { AreAsked tables.now asked.now.keys }
-        requires begin { AreAsked tables.now question.now.begin }
-        requires end { AreAsked tables.now question.now.end }
-        requires decided { length decided.now ≡ tables.now.width + tables.now.width }
-        ensures known { IsCase tables.now question.now asked.now.keys decided.now self.new }
-        ensures room { HasRoom (length tables.now.tests) self.new }
-    {
-        let width = tables.width();
-        let (first, second) = decided.split_at(width);
-        evaluate(&mut self.begin, tables, asked, first, 0);
-        evaluate(&mut self.begin, tables, question.begin, first, 0);
-        evaluate(&mut self.end, tables, question.end, second, width);
     }
 }

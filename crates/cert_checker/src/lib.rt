@@ -17,10 +17,9 @@ mod index;
 mod known;
 mod laws;
 mod matching;
-mod places;
+mod pass;
 mod question;
 mod range;
-mod roots;
 mod saturation;
 
 pub use answer::{Answer, Reason};

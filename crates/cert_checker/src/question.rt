@@ -1,9 +1,39 @@
-//! What is asked of a pair.
+//! What is asked of pairs.
+use crate::asked::with_parts;
 use crate::index::PairIndex;
 use certificate::{Pair, Style};
-use checker_steps::Targets;
+use checker_steps::{Tables, Targets};
+use kat_model::NoMemory;
 use std::collections::BTreeSet;
 use std::marker::Model;
+
+/// What is asked of each pair: of its outputs or, where there is an action, of the sets that it leads to; with the steps
+/// by the action, and the style, pairs and universal term by which sets are matched. Of outputs it is that they are the
+/// same.
+#[derive(Drop)]
+pub(crate) struct Turn<'a> {
+    pub action: Option<usize>,
+    pub steps: Vec<Targets>,
+    pub style: Style,
+    pub pairs: &'a [Pair],
+    pub index: &'a PairIndex,
+    pub universal: Option<usize>,
+    /// Pairs of tests of which no move that is allowed has the first true at its begin and the second at its end; the
+    /// tests that these name at the first atom, and those that they and the pairs name at the second, with the tests of
+    /// which these are made.
+    pub forbidden: Vec<(usize, usize)>,
+    pub begin: BTreeSet<usize>,
+    pub end: BTreeSet<usize>,
+}
+
+impl<'a> Model for Turn<'a> {
+    ghost use Rattle.std.specs.Prelude.{map};
+    ghost use Rattle.cert_checker.specs.Working.Questions.{TurnParts};
+
+    ghost Value = { TurnParts };
+
+    ghost view = { λ t. record { action = t.action; steps = map (λ x. x.entries) t.steps.items; style = t.style; pairs = t.pairs.now; index = t.index.now; universal = t.universal; forbidden = t.forbidden.items; begin = t.begin.keys; end = t.end.keys } };
+}
 
 /// A question about two atoms, those at which a move begins and ends. Where the test of the pair is true at the first and
 /// no forbidden pair of tests is true, the one at the first and the other at the second, the listed pairs are to match
@@ -11,18 +41,13 @@ use std::marker::Model;
 /// pairs whose test is true at the second make them congruent.
 #[derive(Drop)]
 pub(crate) struct Question<'a> {
-    pub style: Style,
-    pub pairs: &'a [Pair],
-    pub index: &'a PairIndex,
-    pub universal: Option<usize>,
-    pub forbidden: &'a [(usize, usize)],
+    pub tables: &'a Tables,
+    pub turn: &'a Turn<'a>,
     pub own: Option<usize>,
     pub left: Targets,
     pub right: Targets,
-    /// The tests that forbidden moves name at the first atom, and those that they and the pairs name at the second, with
-    /// the tests of which these are made.
-    pub begin: &'a BTreeSet<usize>,
-    pub end: &'a BTreeSet<usize>,
+    /// The tests that the targets and the pair name, with those of which they are made.
+    pub asked: BTreeSet<usize>,
 }
 
 impl<'a> Model for Question<'a> {
@@ -30,5 +55,40 @@ impl<'a> Model for Question<'a> {
 
     ghost Value = { QuestionParts };
 
-    ghost view = { λ q. record { style = q.style; pairs = q.pairs.now; index = q.index.now; universal = q.universal; forbidden = q.forbidden.now; own = q.own; left = q.left.entries; right = q.right.entries; begin = q.begin.now.keys; end = q.end.now.keys } };
+    ghost view = { λ q. record { tables = q.tables.now; turn = q.turn.now; own = q.own; left = q.left.entries; right = q.right.entries; asked = q.asked.keys } };
+}
+
+impl<'a> Question<'a> {
+    ghost use Rattle.std.specs.Prelude.{◌≡◌, ℕ, IfOk};
+    ghost use Rattle.checker_steps.specs.NodeTables.{IsTest};
+    ghost use Rattle.checker_steps.specs.Targets.{AreEntries};
+    ghost use Rattle.cert_checker.specs.Working.Questions.{AreNamed, IsAskedOf};
+
+    /// What the turn asks of two sets that lead to these targets, under a test.
+    pub(crate) fn of(
+        tables: &'a Tables,
+        turn: &'a Turn<'a>,
+        own: Option<usize>,
+        left: Targets,
+        right: Targets,
+    ) -> Result<Question<'a>, NoMemory>
+        requires own { (k : ℕ) → own ≡ Some k → IsTest tables.now k }
+        requires left { AreEntries tables.now left.entries }
+        requires right { AreEntries tables.now right.entries }
+        ensures question { IfOk result (IsAskedOf tables.now turn.now own left.entries right.entries) }
+        ensures named { IfOk result (λ q. AreNamed tables.now q q.asked) }
+    {
+        let mut named = BTreeSet::new(tables.alloc());
+        named.extend(own)?;
+        named.extend(left.values())?;
+        named.extend(right.values())?;
+        Ok(Question {
+            tables,
+            turn,
+            own,
+            left,
+            right,
+            asked: with_parts(tables, named)?,
+        })
+    }
 }

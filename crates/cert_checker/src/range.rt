@@ -11,26 +11,12 @@ use certificate::{TermNode, TestNode};
 pub(crate) fn test_out(nodes: &[TestNode], tests: usize) -> Option<usize>
     ensures { MatchOption result ((i : ℕ) → Has nodes.now (Prim i) → i < tests) (λ k. IsFirstOut Prim tests nodes.now k) }
 {
-    for (k, node) in nodes.iter().enumerate() {
-        if let TestNode::Prim(test) = *node {
-            if test >= tests {
-                return Some(k);
-            }
-        }
-    }
-    None
+    nodes.iter().position(|node| matches!(node, TestNode::Prim(test) if *test >= tests))
 }
 
 /// The least term node whose action is not below the number of actions.
 pub(crate) fn action_out(nodes: &[TermNode], actions: usize) -> Option<usize>
     ensures { MatchOption result ((i : ℕ) → Has nodes.now (Act i) → i < actions) (λ k. IsFirstOut Act actions nodes.now k) }
 {
-    for (k, node) in nodes.iter().enumerate() {
-        if let TermNode::Act(action) = *node {
-            if action >= actions {
-                return Some(k);
-            }
-        }
-    }
-    None
+    nodes.iter().position(|node| matches!(node, TermNode::Act(action) if *action >= actions))
 }

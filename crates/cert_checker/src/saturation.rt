@@ -2,24 +2,24 @@
 //! of the set are looked at.
 ghost use Rattle.std.specs.Prelude.{◌≡◌, ◌↔◌, ◌⊎◌, ℕ, IsTrue, IfOk, OnOk};
 ghost use Rattle.kat_model.specs.Members.{Has, IsSubset};
-ghost use Rattle.cert_checker.specs.Working.Indices.{places_under, AreIndexed};
+ghost use Rattle.cert_checker.specs.Working.Indices.{places_at, places_under};
 ghost use Rattle.cert_checker.specs.Working.Reaching.{AreReached};
-ghost use Rattle.cert_checker.specs.Working.Matching.{does_count, counting};
-ghost use Rattle.cert_checker.specs.Working.Rounds.{AreAdded, IsBrought, GoesOn, AreTendedAt};
+ghost use Rattle.cert_checker.specs.Working.Matching.{does_count};
+ghost use Rattle.cert_checker.specs.Working.Rounds.{AreAdded, IsBrought, GoesOn, AreTendedAt, counting_in, IsIndexed};
 
-use crate::index::PairIndex;
 use crate::known::{Case, Known, test_value};
-use crate::question::Question;
+use crate::question::{Question, Turn};
 use certificate::Pair;
 use indexmap::IndexSet;
 use kat_model::NoMemory;
 use std::alloc::Global;
 
-/// Listed pairs with their index. Those count whose test is true or, where `also_open` says so, may be.
+/// The listed pairs of a turn of which the test is true or, where `also_open` says so, may be, by what is known of tests
+/// at the end of a move: those that count.
 #[derive(Drop)]
 pub(crate) struct Counted<'a> {
-    pub pairs: &'a [Pair],
-    pub index: &'a PairIndex,
+    pub alloc: Global,
+    pub turn: &'a Turn<'a>,
     pub known: &'a [Known],
     pub also_open: bool,
 }
@@ -27,16 +27,15 @@ pub(crate) struct Counted<'a> {
 impl<'a> Counted<'a> {
     ghost use Rattle.std.specs.Prelude.{◌≡◌};
 
-    /// The listed pairs of the question, by what is known of tests at the end of a move.
+    /// The pairs of the question that count in the case.
     pub(crate) fn of(question: &'a Question<'a>, case: &'a Case, also_open: bool) -> Counted<'a>
-        ensures pairs { result.pairs.now ≡ question.now.pairs }
-        ensures index { result.index.now ≡ question.now.index }
+        ensures turn { result.turn.now ≡ question.now.turn }
         ensures known { result.known.now ≡ case.now.end.items }
         ensures also_open { result.also_open ≡ also_open }
     {
         Counted {
-            pairs: question.pairs,
-            index: question.index,
+            alloc: question.tables.alloc(),
+            turn: question.turn,
             known: &case.end,
             also_open,
         }
@@ -78,17 +77,19 @@ fn bring(reached: &mut IndexSet<usize>, set: &[usize], other: &[usize]) -> Resul
     add_all(reached, other)
 }
 
-// Goes over the pairs at these places: where one counts and all of one of its sets is reached, the other is added.
+// Goes over the pairs under the term, or those with an empty set: where one counts and all of one of its sets is reached,
+// the other is added.
 fn add_pairs(
     reached: &mut IndexSet<usize>,
     counted: &Counted,
-    places: &[usize],
+    last: Option<usize>,
 ) -> Result<(), NoMemory>
-    ensures goes_on { OnOk result (GoesOn (counting counted.now.also_open counted.now.known.now counted.now.pairs.now) reached.old.keys reached.new.keys) }
-    ensures tended { OnOk result (AreTendedAt counted.now.pairs.now counted.now.also_open counted.now.known.now reached.old.keys reached.new.keys places.now) }
+    ensures goes_on { OnOk result (GoesOn (counting_in counted.now) reached.old.keys reached.new.keys) }
+    ensures tended { OnOk result (AreTendedAt counted.now.turn.now.pairs counted.now.also_open counted.now.known.now reached.old.keys reached.new.keys (places_at counted.now.turn.now.index last)) }
 {
-    for place in places {
-        if let Some(pair) = counted.pairs.get(*place) {
+    let turn = counted.turn;
+    for place in turn.index.places(last) {
+        if let Some(pair) = turn.pairs.get(*place) {
             if counts(counted, pair) {
                 bring(reached, pair.left.as_slice(), pair.right.as_slice())?;
                 bring(reached, pair.right.as_slice(), pair.left.as_slice())?;
@@ -104,10 +105,10 @@ fn add_under(
     counted: &Counted,
     terms: &[usize],
 ) -> Result<(), NoMemory>
-    ensures { OnOk result (GoesOn (counting counted.now.also_open counted.now.known.now counted.now.pairs.now) reached.old.keys reached.new.keys) }
+    ensures { OnOk result (GoesOn (counting_in counted.now) reached.old.keys reached.new.keys) }
 {
     for term in terms {
-        add_pairs(reached, counted, counted.index.under(*term))?;
+        add_pairs(reached, counted, Some(*term))?;
     }
     Ok(())
 }
@@ -119,8 +120,8 @@ fn add_round(
     counted: &Counted,
     wanted: &[usize],
 ) -> Result<(), NoMemory>
-    ensures goes_on { OnOk result (GoesOn (counting counted.now.also_open counted.now.known.now counted.now.pairs.now) reached.old.keys reached.new.keys) }
-    ensures tended { OnOk result (IsSubset wanted.now reached.new.keys ⊎ ((term : ℕ) → Has reached.new.keys term → AreTendedAt counted.now.pairs.now counted.now.also_open counted.now.known.now reached.old.keys reached.new.keys (places_under counted.now.index.now term))) }
+    ensures goes_on { OnOk result (GoesOn (counting_in counted.now) reached.old.keys reached.new.keys) }
+    ensures tended { OnOk result (IsSubset wanted.now reached.new.keys ⊎ ((term : ℕ) → Has reached.new.keys term → AreTendedAt counted.now.turn.now.pairs counted.now.also_open counted.now.known.now reached.old.keys reached.new.keys (places_under counted.now.turn.now.index term))) }
 {
     let mut place = 0;
     while place < reached.len() {
@@ -128,32 +129,27 @@ fn add_round(
             return Ok(());
         }
         let term = *reached.get_index(place).unwrap();
-        add_pairs(reached, counted, counted.index.under(term))?;
+        add_pairs(reached, counted, Some(term))?;
         place += 1;
     }
     Ok(())
 }
 
-/// Whether the pairs that count bring each of the wanted terms to these. The pairs under the wanted terms come first:
+/// Whether the pairs that count bring each of the wanted terms to these. Those under the wanted terms come first:
 /// mostly one of them does.
-pub(crate) fn reaches(
-    alloc: Global,
-    counted: &Counted,
-    terms: &[usize],
-    wanted: &[usize],
-) -> Result<bool, NoMemory>
-    requires { AreIndexed counted.now.index.now counted.now.pairs.now }
-    ensures { IfOk result (λ b. IsTrue b ↔ AreReached (counting counted.now.also_open counted.now.known.now counted.now.pairs.now) terms.now wanted.now) }
+pub(crate) fn reaches(counted: &Counted, from: &[usize], wanted: &[usize]) -> Result<bool, NoMemory>
+    requires { IsIndexed counted.now }
+    ensures { IfOk result (λ b. IsTrue b ↔ AreReached (counting_in counted.now) from.now wanted.now) }
 {
     if wanted.is_empty() {
         return Ok(true);
     }
-    let mut reached = IndexSet::new(alloc);
-    add_all(&mut reached, terms)?;
+    let mut reached = IndexSet::new(counted.alloc);
+    add_all(&mut reached, from)?;
     add_under(&mut reached, counted, wanted)?;
     while !has_all(&reached, wanted) {
         let count = reached.len();
-        add_pairs(&mut reached, counted, counted.index.apart())?;
+        add_pairs(&mut reached, counted, None)?;
         add_round(&mut reached, counted, wanted)?;
         if reached.len() == count {
             return Ok(false);

@@ -1,11 +1,11 @@
 -- What steps of nodes lead to, over what steps of the nodes that they name lead to.
-use Rattle.std.proofs.Common.{◌≡◌, ℕ, ⊎_elim, List, [], ◌++◌, map, slice_get, sym, ap, ◌∙◌, subst, Bool, true, false, cond, Some}
+use Rattle.std.proofs.Common.{◌≡◌, ℕ, ⊎_elim, List, [], ◌++◌, map, slice_get, sym, ap, ◌∙◌, subst, Bool, true, false, cond, Some, Option}
 use Rattle.kat_model.specs.Trees.{Term, product, star}
 use Rattle.kat_model.specs.Members.{Has, SameMembers}
 use Rattle.kat_model.specs.Steps.{Atom, out, next, dot}
 use Rattle.kat_model.proofs.Lists.{has_map, map_has, has_append, has_left, has_right}
 use Rattle.checker_steps.specs.NodeTables.{TableParts, AreTables, TablesGrow, IsTerm, term_at}
-use Rattle.checker_steps.specs.Targets.{StandFor, AreAcceptances, AreSteps}
+use Rattle.checker_steps.specs.Targets.{StandFor, AreAcceptances, AreSteps, leads_to}
 use Rattle.checker_steps.proofs.TargetSets.{test_within, holds_kept, entries_kept, chosen_kept}
 
 -- lists with the same members stand for one another
@@ -29,10 +29,10 @@ module _ (old new : TableParts) (are : AreTables old) (grows : TablesGrow old ne
         (λ atom. holds_kept old new are grows g atom was.0 ∙ was.1 atom ∙ ap (λ x. out x atom) (sym (grows.nodes.trees k (within k g e)))),
       )
 
-  pub steps_kept : (a : ℕ) (Among : ℕ → Type 0) (steps : List (List (ℕ × ℕ))) → ((k : ℕ) (es : List (ℕ × ℕ)) → slice_get steps k ≡ Some es → IsTerm old k) → AreSteps old a Among steps → AreSteps new a Among steps
-  steps_kept a Among steps within h k es m e =
-      stand_same new es (λ atom. next (term_at old k) atom a) (λ atom. next (term_at new k) atom a) (stand_kept es (λ atom. next (term_at old k) atom a) (h k es m e))
-      (λ atom. subst (λ x. SameMembers (next (term_at old k) atom a) (next x atom a)) (sym (grows.nodes.trees k (within k es e))) (λ x. ((λ m. m), (λ m. m))))
+  pub steps_kept : (action : Option ℕ) (Among : ℕ → Type 0) (steps : List (List (ℕ × ℕ))) → ((k : ℕ) (es : List (ℕ × ℕ)) → slice_get steps k ≡ Some es → IsTerm old k) → AreSteps old action Among steps → AreSteps new action Among steps
+  steps_kept action Among steps within h k es m e =
+      stand_same new es (leads_to action (term_at old k)) (leads_to action (term_at new k)) (stand_kept es (leads_to action (term_at old k)) (h k es m e))
+      (λ atom. subst (λ x. SameMembers (leads_to action (term_at old k) atom) (leads_to action x atom)) (sym (grows.nodes.trees k (within k es e))) (λ x. ((λ m. m), (λ m. m))))
 
 -- ---- what is left of a product
 

@@ -1,11 +1,11 @@
 -- Symbolic partial derivatives: terms with guards that stand for the terms that a step leads to, at each atom.
-use Rattle.std.specs.Prelude.{◌≡◌, ℕ, Bool, false, if◌then◌else◌, List, [], ◌∷◌, ◌++◌, slice_get, Option, Some}
+use Rattle.std.specs.Prelude.{◌≡◌, ℕ, Bool, false, if◌then◌else◌, List, [], ◌∷◌, ◌++◌, slice_get, Option, Some, None}
 use Rattle.std.specs.Ordering.{nat_cmp}
 use Rattle.std.specs.Map.{lookup}
 use Rattle.std.specs.BTreeMap.{is_at}
-use Rattle.kat_model.specs.Trees.{Term}
+use Rattle.kat_model.specs.Trees.{Term, one}
 use Rattle.kat_model.specs.Members.{Has, SameMembers}
-use Rattle.kat_model.specs.Steps.{Atom, out, next}
+use Rattle.kat_model.specs.Steps.{Atom, out, next, set_out, set_next}
 use Rattle.checker_steps.specs.NodeTables.{TableParts, IsTest, IsTerm, HasValues, holds_at, term_at}
 
 -- the terms whose guards are true at the atom
@@ -30,9 +30,19 @@ pub record StandFor (t : TableParts) (es : List (ℕ × ℕ)) (terms : Atom → 
 abbrev pub AreAcceptances : TableParts → List ℕ → Type 0
 AreAcceptances t guards = (k g : ℕ) → slice_get guards k ≡ Some g → HasValues t (out (term_at t k)) g
 
--- the targets of these terms stand for the terms that steps of them lead to
-abbrev pub AreSteps : TableParts → ℕ → (ℕ → Type 0) → List (List (ℕ × ℕ)) → Type 0
-AreSteps t a Among steps = (k : ℕ) (es : List (ℕ × ℕ)) → Among k → slice_get steps k ≡ Some es → StandFor t es (λ atom. next (term_at t k) atom a)
+-- what a term leads to by an action; without one, to the empty product where it accepts
+abbrev pub leads_to : Option ℕ → Term → Atom → List Term
+leads_to None e atom = if out e atom then one ∷ [] else []
+leads_to (Some a) e atom = next e atom a
+
+-- and a set of terms
+abbrev pub set_leads_to : Option ℕ → List Term → Atom → List Term
+set_leads_to None es atom = if set_out es atom then one ∷ [] else []
+set_leads_to (Some a) es atom = set_next es atom a
+
+-- the targets of these terms stand for what they lead to
+abbrev pub AreSteps : TableParts → Option ℕ → (ℕ → Type 0) → List (List (ℕ × ℕ)) → Type 0
+AreSteps t action Among steps = (k : ℕ) (es : List (ℕ × ℕ)) → Among k → slice_get steps k ≡ Some es → StandFor t es (λ atom. leads_to action (term_at t k) atom)
 
 -- terms that are not marked have no targets
 abbrev pub HasNoneElsewhere : List Bool → List (List (ℕ × ℕ)) → Type 0

@@ -1,17 +1,17 @@
 //! Symbolic partial derivatives (Antimirov 1996; with tests Pous 2015): under which atoms a term accepts, and under
 //! which a step of it leads to another. Terms are gone over in the order of their numbers, each after its parts.
 ghost use Rattle.std.specs.Prelude.{◌≡◌, ◌<◌, ◌≤◌, ◌++◌, ◌∷◌, [], if◌then◌else◌, IfOk, OnOk, IsTrue, length, map};
+ghost use Rattle.kat_model.specs.Trees.{one};
 ghost use Rattle.kat_model.specs.Members.{Has};
-ghost use Rattle.kat_model.specs.Steps.{dot, out, next, set_next};
+ghost use Rattle.kat_model.specs.Steps.{dot, out};
 ghost use Rattle.term_nodes.specs.NumberSets.{are_below, terms_of};
 ghost use Rattle.checker_steps.specs.NodeTables.{AreTables, TablesGrow, TestsGrow, IsTest, IsTerm, HasValues, term_at, holds_at, nodes_in};
 ghost use Rattle.checker_steps.specs.Marks.{IsMarked, IsPart, AreClosed, IsClosure};
-ghost use Rattle.checker_steps.specs.Targets.{AreEntries, StandFor, chosen, AreAcceptances, AreSteps, HasNoneElsewhere};
+ghost use Rattle.checker_steps.specs.Targets.{AreEntries, StandFor, chosen, leads_to, set_leads_to, AreAcceptances, AreSteps, HasNoneElsewhere};
 
 use crate::tables::Tables;
 use certificate::{TermNode, TestNode};
 use kat_model::NoMemory;
-use std::alloc::Global;
 use std::collections::BTreeMap;
 
 // The test that is true where the next term accepts, over those of earlier terms.
@@ -31,12 +31,12 @@ fn acceptance(tables: &mut Tables, earlier: &[usize]) -> Result<usize, NoMemory>
 }
 
 /// For each term of the tables the number of the test that is true at the atoms that it accepts. Adds no term.
-pub fn acceptances(alloc: Global, tables: &mut Tables) -> Result<Vec<usize>, NoMemory>
+pub fn acceptances(tables: &mut Tables) -> Result<Vec<usize>, NoMemory>
     ensures values { IfOk result (λ v. AreAcceptances tables.new v.items) }
     ensures count { IfOk result (λ v. length v.items ≡ length tables.old.terms) }
     ensures grows { TestsGrow tables.old tables.new }
 {
-    let mut guards = Vec::new(alloc);
+    let mut guards = Vec::new(tables.alloc());
     for _ in 0..tables.term_count() {
         let guard = acceptance(tables, &guards)?;
         guards.push(guard)?;
@@ -66,6 +66,18 @@ pub fn close_marks(tables: &Tables, marks: &mut [bool])
 
 /// Terms that steps may lead to, by numbers, each with that of its guard: the test that is true where they do.
 pub type Targets = BTreeMap<usize, usize>;
+
+/// The empty product, under the guard.
+pub fn empty_product(tables: &mut Tables, guard: usize) -> Result<Targets, NoMemory>
+    requires { IsTest tables.old guard }
+    ensures targets { IfOk result (λ t. StandFor tables.new t.entries (λ atom. if holds_at tables.old guard atom then one ∷ [] else [])) }
+    ensures grows { TablesGrow tables.old tables.new }
+{
+    let one = tables.term(TermNode::One)?;
+    let mut targets = BTreeMap::new(tables.alloc());
+    targets.insert(one, guard)?;
+    Ok(targets)
+}
 
 // Adds a term, under the guard or where it was a target already.
 fn add(tables: &mut Tables, to: &mut Targets, term: usize, guard: usize) -> Result<(), NoMemory>
@@ -108,19 +120,14 @@ fn add_all(
 }
 
 // The targets, each with another term after it.
-fn continued_targets(
-    alloc: Global,
-    tables: &mut Tables,
-    first: &Targets,
-    after: usize,
-) -> Result<Targets, NoMemory>
+fn continued(tables: &mut Tables, first: &Targets, after: usize) -> Result<Targets, NoMemory>
     requires tables { AreTables tables.old }
     requires entries { AreEntries tables.old first.now.entries }
     requires is_term { IsTerm tables.old after }
     ensures targets { IfOk result (λ t. StandFor tables.new t.entries (λ atom. map (λ x. dot x (term_at tables.old after)) (chosen tables.old first.now.entries atom))) }
     ensures grows { TablesGrow tables.old tables.new }
 {
-    let mut targets = BTreeMap::new(alloc);
+    let mut targets = BTreeMap::new(tables.alloc());
     for (term, when) in first.iter() {
         let product = tables.dot(*term, after)?;
         add(tables, &mut targets, product, *when)?;
@@ -128,70 +135,68 @@ fn continued_targets(
     Ok(targets)
 }
 
-/// The targets by the action of all members of a set together. Adds no term.
+/// The targets of all members of a set together, by the action or, without one, of outputs. Adds no term.
 pub fn of_set(
-    alloc: Global,
     tables: &mut Tables,
     steps: &[Targets],
     set: &[usize],
-    action: usize,
+    action: Option<usize>,
 ) -> Result<Targets, NoMemory>
     requires steps { AreSteps tables.old action (Has set.now) (map (λ t. t.entries) steps.now) }
     requires numbers { IsTrue (are_below (length steps.now) set.now) }
-    ensures targets { IfOk result (λ t. StandFor tables.new t.entries (λ atom. set_next (terms_of (nodes_in tables.old) set.now) atom action)) }
+    ensures targets { IfOk result (λ t. StandFor tables.new t.entries (λ atom. set_leads_to action (terms_of (nodes_in tables.old) set.now) atom)) }
     ensures grows { TestsGrow tables.old tables.new }
 {
     let always = tables.constant(true)?;
-    let mut targets = BTreeMap::new(alloc);
+    let mut targets = BTreeMap::new(tables.alloc());
     for number in set {
         add_all(tables, &mut targets, &steps[*number], always)?;
     }
     Ok(targets)
 }
 
-// The targets by the action of the next term, over those of its parts.
+// The targets of the next term, over those of its parts: by the action, or of outputs.
 fn step(
-    alloc: Global,
     tables: &mut Tables,
     accepting: &[usize],
     earlier: &[Targets],
-    action: usize,
+    action: Option<usize>,
 ) -> Result<Targets, NoMemory>
     requires accepting { AreAcceptances tables.old accepting.now }
     requires count { length earlier.now < length accepting.now }
     requires next { IsTerm tables.old (length earlier.now) }
     requires parts { AreSteps tables.old action (IsPart tables.old (length earlier.now)) (map (λ t. t.entries) earlier.now) }
-    ensures targets { IfOk result (λ t. StandFor tables.new t.entries (λ atom. next (term_at tables.old (length earlier.now)) atom action)) }
+    ensures targets { IfOk result (λ t. StandFor tables.new t.entries (λ atom. leads_to action (term_at tables.old (length earlier.now)) atom)) }
     ensures grows { TablesGrow tables.old tables.new }
 {
-    match tables.term_node(earlier.len()) {
-        TermNode::Zero | TermNode::One | TermNode::Test(_) => Ok(BTreeMap::new(alloc)),
-        TermNode::Act(a) if a == action => {
-            let one = tables.term(TermNode::One)?;
+    let term = earlier.len();
+    let Some(act) = action else {
+        return empty_product(tables, accepting[term]);
+    };
+    match tables.term_node(term) {
+        TermNode::Zero | TermNode::One | TermNode::Test(_) => Ok(BTreeMap::new(tables.alloc())),
+        TermNode::Act(a) if a == act => {
             let always = tables.constant(true)?;
-            let mut targets = BTreeMap::new(alloc);
-            targets.insert(one, always)?;
-            Ok(targets)
+            empty_product(tables, always)
         }
-        TermNode::Act(_) => Ok(BTreeMap::new(alloc)),
-        TermNode::Sum(x, y) => of_set(alloc, tables, earlier, &[x, y], action),
+        TermNode::Act(_) => Ok(BTreeMap::new(tables.alloc())),
+        TermNode::Sum(x, y) => of_set(tables, earlier, &[x, y], Some(act)),
         TermNode::Seq(x, y) => {
-            let mut targets = continued_targets(alloc, tables, &earlier[x], y)?;
+            let mut targets = continued(tables, &earlier[x], y)?;
             add_all(tables, &mut targets, &earlier[y], accepting[x])?;
             Ok(targets)
         }
-        TermNode::Star(x) => continued_targets(alloc, tables, &earlier[x], earlier.len()),
+        TermNode::Star(x) => continued(tables, &earlier[x], term),
     }
 }
 
-/// For each marked term its targets by the action, and none for each other. The marks are closed (`close_marks`), and
-/// there are as many as tests that say where the first terms accept.
+/// For each marked term its targets by the action or, without one, the empty product where it accepts; and none for each
+/// other term. The marks are closed (`close_marks`), and there are as many as tests that say where the first terms accept.
 pub fn steps(
-    alloc: Global,
     tables: &mut Tables,
     accepting: &[usize],
     needed: &[bool],
-    action: usize,
+    action: Option<usize>,
 ) -> Result<Vec<Targets>, NoMemory>
     requires accepting { AreAcceptances tables.old accepting.now }
     requires count { length accepting.now ≤ length tables.old.terms }
@@ -204,13 +209,13 @@ pub fn steps(
 {
     // The proof needs the rules of the tables.
     let _count = tables.term_count();
-    let mut list = Vec::new(alloc);
+    let mut list = Vec::new(tables.alloc());
     for is_needed in needed {
         if *is_needed {
-            let targets = step(alloc, tables, accepting, &list, action)?;
+            let targets = step(tables, accepting, &list, action)?;
             list.push(targets)?;
         } else {
-            list.push(BTreeMap::new(alloc))?;
+            list.push(BTreeMap::new(tables.alloc()))?;
         }
     }
     Ok(list)

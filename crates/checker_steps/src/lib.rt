@@ -7,5 +7,5 @@
 mod derivatives;
 mod tables;
 
-pub use derivatives::{Targets, acceptances, close_marks, of_set, steps};
+pub use derivatives::{Targets, acceptances, close_marks, empty_product, of_set, steps};
 pub use tables::Tables;

@@ -12,6 +12,7 @@ use std::marker::Model;
 /// steps and the terms that steps lead to. Equal terms have one number.
 #[derive(Drop)]
 pub struct Tables {
+    alloc: Global,
     width: usize,
     tests: IndexSet<TestNode>,
     terms: IndexSet<TermNode>,
@@ -41,6 +42,7 @@ impl Tables {
         ensures tables { IfOk result AreTables }
     {
         let mut tables = Tables {
+            alloc,
             width,
             tests: IndexSet::new(alloc),
             terms: IndexSet::new(alloc),
@@ -78,6 +80,11 @@ impl Tables {
     {
         let (number, _) = self.terms.insert_full(node)?;
         Ok(number)
+    }
+
+    /// What they are made with.
+    pub fn alloc(&self) -> Global {
+        self.alloc
     }
 
     /// How many primitive tests there are.
@@ -161,15 +168,12 @@ impl Tables {
     }
 
     /// The test that is true everywhere, or the one that is false.
-    pub fn constant(&mut self, value: bool) -> Result<usize, NoMemory>
-        ensures values { IfOk result (HasValues self.new (λ _. value)) }
+    pub fn constant(&mut self, on: bool) -> Result<usize, NoMemory>
+        ensures values { IfOk result (HasValues self.new (λ _. on)) }
         ensures grows { TestsGrow self.old self.new }
     {
-        self.test(if value {
-            TestNode::True
-        } else {
-            TestNode::False
-        })
+        let node = if on { TestNode::True } else { TestNode::False };
+        self.test(node)
     }
 
     /// A test that is true where both are. A test and its negation give the one that is false: fewer cases.

@@ -1,5 +1,5 @@
 -- Cases on tests: some tests are decided, and what is known of a test where they are.
-use Rattle.std.specs.Prelude.{◌≡◌, ◌+◌, ◌⊎◌, ℕ, Bool, true, false, not, List, [], ◌∷◌, length, slice_get, slice_index_or, Option, Some, None}
+use Rattle.std.specs.Prelude.{◌≡◌, ◌+◌, ℕ, Bool, true, false, not, List, [], ◌∷◌, slice_get, slice_index_or, replicate, map, Option, Some, None, unwrap_or}
 use Rattle.kat_model.specs.Members.{Has}
 use Rattle.kat_model.specs.Steps.{Atom}
 use Rattle.term_nodes.specs.declared.TestNode.{TestNode}
@@ -9,6 +9,10 @@ use Rattle.cert_checker.specs.Answers.{IsLess}
 use Rattle.checker_steps.specs.NodeTables.{TableParts, IsTest, holds_at}
 use Rattle.cert_checker.specs.declared.known.Known.{Known}
 use Rattle.cert_checker.specs.declared.known.Known.TheVariants.{Value, Waits}
+
+-- no test is decided
+abbrev pub undecided : ℕ → List (Option Bool)
+undecided n = replicate n None
 
 -- the atom has the values of the tests that are decided
 abbrev pub Extends : List (Option Bool) → Atom → Type 0
@@ -89,9 +93,7 @@ open_count (Some b ∷ ds) = open_count ds
 
 -- the least atom with the decided tests
 abbrev pub least_of : List (Option Bool) → Atom
-least_of [] = []
-least_of (None ∷ ds) = false ∷ least_of ds
-least_of (Some b ∷ ds) = b ∷ least_of ds
+least_of ds = map (λ d. unwrap_or d false) ds
 
 -- the atom is less than the bound, where there is one
 abbrev pub IsBelow : Option Atom → Atom → Type 0

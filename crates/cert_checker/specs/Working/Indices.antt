@@ -1,5 +1,5 @@
 -- Indices of listed pairs: the place of a pair stands under the last member of each of its sets.
-use Rattle.std.specs.Prelude.{◌≡◌, ◌<◌, ◌-◌, ℕ, List, [], length, slice_get, Some, unwrap_or}
+use Rattle.std.specs.Prelude.{◌≡◌, ◌<◌, ◌-◌, ℕ, List, [], length, slice_get, Option, Some, unwrap_or}
 use Rattle.std.specs.Option.{option_map_or}
 use Rattle.std.specs.Map.{lookup}
 use Rattle.std.specs.BTreeMap.{is_at}
@@ -16,9 +16,13 @@ pub record IndexParts : Type 0 where
 abbrev pub places_under : IndexParts → ℕ → List ℕ
 places_under x k = unwrap_or (lookup (is_at (nat_cmp k)) x.under) []
 
+-- and without a term those of pairs with an empty set
+abbrev pub places_at : IndexParts → Option ℕ → List ℕ
+places_at x last = option_map_or (places_under x) last x.apart
+
 -- the places among which are those of pairs with this set
 abbrev pub places_by : IndexParts → List ℕ → List ℕ
-places_by x ks = option_map_or (places_under x) (slice_get ks (length ks - 1)) x.apart
+places_by x ks = places_at x (slice_get ks (length ks - 1))
 
 -- an index with all that stands in this one
 pub record KeepsPlaces (old new : IndexParts) : Type 0 where

@@ -1,6 +1,6 @@
 -- Whether pairs by the numbers of terms match two sets of terms, as far as it is known.
-use Rattle.std.specs.Prelude.{◌≡◌, ◌⊎◌, ◌∷◌, [], ℕ, Bool, IsTrue, true, false, ◌&&◌, ◌||◌, nat_eq, if◌then◌else◌, List, Option, Some}
-use Rattle.std.specs.Option.{option_map_or}
+use Rattle.std.specs.Prelude.{◌≡◌, ◌⊎◌, ◌∷◌, [], ℕ, Bool, IsTrue, true, false, ◌&&◌, ◌||◌, nat_eq, if◌then◌else◌, List, Option, Some, None}
+use Rattle.std.specs.Option.{option_map_or, MatchOption}
 use Rattle.std.specs.List.{list_any}
 use Rattle.std.specs.List.Sorted.{IsStrictlySortedBy}
 use Rattle.std.specs.Map.{keys_of}
@@ -20,6 +20,7 @@ use Rattle.cert_checker.specs.declared.known.Known.{Known}
 use Rattle.cert_checker.specs.declared.known.Known.TheVariants.{Value, Waits as WaitsFor}
 use Rattle.cert_checker.specs.declared.matching.Move.{Move}
 use Rattle.cert_checker.specs.declared.matching.Move.TheVariants.{Counts, Tied, Waits}
+use Rattle.cert_checker.specs.declared.matching.Side.{Side}
 use Rattle.cert_checker.specs.declared.matching.Sides.{Sides}
 
 -- the terms that are surely among the targets
@@ -41,15 +42,6 @@ open_targets known others [] = []
 open_targets known others (e ∷ es) =
     if falsely (known_of known e.1) || has_too known others e.0 e.1 then open_targets known others es else e.0 ∷ open_targets known others es
 
--- the terms that surely are in the sets, and those that may be in one alone; the numbers of the terms ascend
-pub record AreSides (known : List Known) (left right : List (ℕ × ℕ)) (s : Sides) : Type 0 where
-  pub left_ascends : IsStrictlySortedBy nat_cmp (keys_of left)
-  pub right_ascends : IsStrictlySortedBy nat_cmp (keys_of right)
-  pub lefts : s.lefts.items ≡ sure_targets known left
-  pub rights : s.rights.items ≡ sure_targets known right
-  pub left_open : s.left_open.items ≡ open_targets known right left
-  pub right_open : s.right_open.items ≡ open_targets known left right
-
 -- whether what is known is true, or may be
 abbrev pub may_be : Bool → Known → Bool
 may_be also (Value b) = b
@@ -67,18 +59,6 @@ counting also known (p ∷ ps) = if does_count also known p then sets_of p ∷ c
 abbrev pub lists : List NumberPair → List ℕ → List ℕ → Bool
 lists pairs ks ls = list_any (λ p. pointwise nat_eq p.left ks && pointwise nat_eq p.right ls) pairs
 
--- these pairs bring what may be in one set alone to what surely is in the other, or the universal term to both
-abbrev pub AreCovered : List NumberPair → Option ℕ → Sides → Type 0
-AreCovered ps universal s =
-    (AreReached ps s.rights.items s.left_open.items × AreReached ps s.lefts.items s.right_open.items) ⊎ IsReachedByBoth ps universal s.lefts.items s.rights.items
-
--- the pairs surely match the sets: where each guard is settled these are listed, or covered where those of terms are
--- settled that may be in one set alone
-abbrev pub AreSurelyMatched : Style → List NumberPair → Option ℕ → Bool → Bool → Sides → Type 0
-AreSurelyMatched Plain ps universal open_settled all_settled s = IsTrue all_settled × IsTrue (lists ps s.lefts.items s.rights.items)
-AreSurelyMatched UpTo ps universal open_settled all_settled s = IsTrue open_settled × AreCovered ps universal s
-AreSurelyMatched Under ps universal open_settled all_settled s = IsTrue open_settled × AreCovered ps universal s
-
 -- each guard has a value that is known, and that of each of these terms
 abbrev pub AreSettled : List Known → List (ℕ × ℕ) → Type 0
 AreSettled known es = (e : ℕ × ℕ) → Has es e → (b : Bool) × (known_of known e.1 ≡ Value b)
@@ -94,6 +74,31 @@ IsWaitedBy known es k = (e : ℕ × ℕ) × Has es e × (known_of known e.1 ≡ 
 abbrev pub IsWaitedByOne : List Known → List (ℕ × ℕ) → List (ℕ × ℕ) → ℕ → Type 0
 IsWaitedByOne known left right k = IsWaitedBy known left k ⊎ IsWaitedBy known right k
 
+-- what is known of the targets of one side, beside those of the other: the numbers of the terms ascend, the lists are those of
+-- terms that surely are there and of those that may be there alone, and where no test is given, no guard of these waits
+pub record IsSide (known : List Known) (others es : List (ℕ × ℕ)) (s : Side) : Type 0 where
+  pub ascends : IsStrictlySortedBy nat_cmp (keys_of es)
+  pub sure : s.sure.items ≡ sure_targets known es
+  pub alone : s.alone.items ≡ open_targets known others es
+  pub alone_waits : MatchOption s.alone_waits (AreSettledAmong known es (open_targets known others es)) (IsWaitedBy known es)
+  pub waits : MatchOption s.waits (AreSettled known es) (IsWaitedBy known es)
+
+pub record AreSides (known : List Known) (es fs : List (ℕ × ℕ)) (s : Sides) : Type 0 where
+  pub left : IsSide known fs es s.left
+  pub right : IsSide known es fs s.right
+
+-- these pairs bring what may be in one set alone to what surely is in the other, or the universal term to both
+abbrev pub AreCovered : List NumberPair → Option ℕ → Sides → Type 0
+AreCovered ps universal s =
+    (AreReached ps s.right.sure.items s.left.alone.items × AreReached ps s.left.sure.items s.right.alone.items) ⊎ IsReachedByBoth ps universal s.left.sure.items s.right.sure.items
+
+-- the pairs surely match the sets: where no guard waits these are listed, or covered where none of a term does that may be in
+-- one set alone
+abbrev pub AreSurelyMatched : Style → List NumberPair → Option ℕ → Sides → Type 0
+AreSurelyMatched Plain ps universal s = ((s.left.waits ≡ None) × (s.right.waits ≡ None)) × IsTrue (lists ps s.left.sure.items s.right.sure.items)
+AreSurelyMatched UpTo ps universal s = ((s.left.alone_waits ≡ None) × (s.right.alone_waits ≡ None)) × AreCovered ps universal s
+AreSurelyMatched Under ps universal s = ((s.left.alone_waits ≡ None) × (s.right.alone_waits ≡ None)) × AreCovered ps universal s
+
 -- what is known of the test of each pair is its value
 abbrev pub AreTestsSettled : List Known → List PairParts → Type 0
 AreTestsSettled known ps = (p : PairParts) → Has ps p → (b : Bool) × (known_test known p.test ≡ Value b)
@@ -102,11 +107,11 @@ AreTestsSettled known ps = (p : PairParts) → Has ps p → (b : Bool) × (known
 -- pair's test is true, and no forbidden pair of tests is
 abbrev pub is_excluded : QuestionParts → Case → Bool
 is_excluded q c =
-    falsely (known_test c.begin.items q.own) || list_any (λ f. truly (known_of c.begin.items f.0) && truly (known_of c.end.items f.1)) q.forbidden
+    falsely (known_test c.begin.items q.own) || list_any (λ f. truly (known_of c.begin.items f.0) && truly (known_of c.end.items f.1)) q.turn.forbidden
 
 pub record DoesCount (q : QuestionParts) (c : Case) : Type 0 where
   pub own : known_test c.begin.items q.own ≡ Value true
-  pub free : (f : ℕ × ℕ) → Has q.forbidden f → known_and (known_of c.begin.items f.0) (known_of c.end.items f.1) ≡ Value false
+  pub free : (f : ℕ × ℕ) → Has q.turn.forbidden f → known_and (known_of c.begin.items f.0) (known_of c.end.items f.1) ≡ Value false
 
 abbrev pub IsMove : QuestionParts → Case → Move → Type 0
 IsMove q c Counts = DoesCount q c

@@ -1,11 +1,11 @@
 -- The first place at which the pairs of a certificate fail: at a pair and an atom, outputs come at turn 0 and
 -- each action at the turn after its number.
-use Rattle.std.specs.Prelude.{◌≡◌, ◌↔◌, ◌<◌, ◌≤◌, ◌+◌, ◌⊎◌, ℕ, Bool, IsTrue, false, ◌&&◌, if◌then◌else◌, List, [], ◌∷◌, length, map, take, drop, slice_get, replicate, Option, Some, None}
-use Rattle.std.specs.Option.{option_map, option_map_or}
-use Rattle.kat_model.specs.Trees.{Term, one}
+use Rattle.std.specs.Prelude.{◌≡◌, ◌↔◌, ◌<◌, ◌≤◌, ◌+◌, ◌⊎◌, ℕ, Bool, IsTrue, false, ◌&&◌, List, [], length, take, drop, slice_get, Option, Some, None}
+use Rattle.std.specs.Option.{option_map_or}
+use Rattle.kat_model.specs.Trees.{Term}
 use Rattle.kat_model.specs.Problems.{ProblemParts, IsProblem}
 use Rattle.kat_model.specs.Members.{Has}
-use Rattle.kat_model.specs.Steps.{Atom, set_out, set_next}
+use Rattle.kat_model.specs.Steps.{Atom, set_out}
 use Rattle.kat_model.specs.AllowedMoves.{IsAllowedAtom, IsAllowedMove}
 use Rattle.kat_model.specs.TestedPairs.{TestedPair}
 use Rattle.term_nodes.specs.NumberSets.{are_below}
@@ -17,55 +17,55 @@ use Rattle.certificate.specs.Accepted.{tested_pair_of, tested_pairs}
 use Rattle.checker_steps.specs.NodeTables.{TableParts, TablesGrow, tables_of, IsTest, HasValues, holds_at}
 use Rattle.checker_steps.specs.Marks.{IsMarked, AreClosed}
 use Rattle.checker_steps.specs.Targets.{AreAcceptances, AreSteps}
-use Rattle.cert_checker.specs.declared.roots.Roots.{Roots}
-use Rattle.cert_checker.specs.declared.places.Place.{Place}
-use Rattle.cert_checker.specs.declared.places.Turn.{Turn}
+use Rattle.cert_checker.specs.declared.pass.Place.{Place}
 use Rattle.cert_checker.specs.declared.answer.Reason.{Reason}
 use Rattle.cert_checker.specs.declared.answer.Reason.TheVariants.{FirstPair, Output, Missing, MissingTo, Shape, HypBroken, EndsAgree, TestNode, TermNode}
-use Rattle.cert_checker.specs.Answers.{turn_of, IsEarlier, FailsBy, OutputsHold, StepHolds, MoveHolds}
+use Rattle.cert_checker.specs.Answers.{Turn, turn_of, IsEarlier, FailsBy, OutputsHold, StepHolds, MoveHolds}
 use Rattle.cert_checker.specs.Working.Cases.{AreAsked}
-use Rattle.cert_checker.specs.Working.Indices.{AreIndexed}
+use Rattle.cert_checker.specs.Working.Indices.{IndexParts, AreIndexed}
 use Rattle.cert_checker.specs.Working.Roots.{AreRoots, counted_short}
-use Rattle.cert_checker.specs.Working.Questions.{QuestionParts}
+use Rattle.cert_checker.specs.Working.Questions.{TurnParts}
 
--- the reason that stands at a pair and an atom, of outputs or of an action, which may lead to an atom
-abbrev pub reason_at : ℕ → List Bool → Option ℕ → Option (List Bool) → Reason
-reason_at k atom None to = Output k atom
-reason_at k atom (Some a) None = Missing k atom a
-reason_at k atom (Some a) (Some to) = MissingTo k atom a to
+-- the reason that stands at a pair and an atom, of outputs or of an action; the atom that this leads to is told in the style of
+-- tests
+abbrev pub reason_at : Style → ℕ → List Bool → Option ℕ → List Bool → Reason
+reason_at s k atom None to = Output k atom
+reason_at Plain k atom (Some a) to = Missing k atom a
+reason_at UpTo k atom (Some a) to = Missing k atom a
+reason_at Under k atom (Some a) to = MissingTo k atom a to
 
-abbrev pub place_reason : Place → Reason
-place_reason p = reason_at p.pair p.atom.items p.action (option_map (λ v. v.items) p.to)
-
--- the reason of a style; the atom that an action leads to is told in that of tests
-abbrev pub place_of : Style → ℕ → List Bool → Option ℕ → List Bool → Reason
-place_of Plain k atom action to = reason_at k atom action None
-place_of UpTo k atom action to = reason_at k atom action None
-place_of Under k atom action to = reason_at k atom action (Some to)
-
--- the place is the one that is there or, of two, one before which the other does not stand
-abbrev pub IsLeastOf : Option Place → Option Place → Option Place → Type 0
-IsLeastOf None o r = r ≡ o
-IsLeastOf (Some x) None r = r ≡ Some x
-IsLeastOf (Some x) (Some y) r =
-    ((r ≡ Some x) × (IsEarlier (turn_of (place_reason y)) (turn_of (place_reason x)) → ⊥))
-    ⊎ ((r ≡ Some y) × (IsEarlier (turn_of (place_reason x)) (turn_of (place_reason y)) → ⊥))
-
--- no test is decided
-abbrev pub undecided : ℕ → List (Option Bool)
-undecided n = replicate n None
+abbrev pub place_reason : Style → Place → Reason
+place_reason s p = reason_at s p.pair p.atom.items p.action p.to.items
 
 -- the turn of outputs, and of an action
 abbrev pub turn_number : Option ℕ → ℕ
 turn_number None = 0
 turn_number (Some a) = a + 1
 
--- what a certificate is gone through with: its problem, the roots, the tests that are true where terms accept and where a
--- short hypothesis does, and marks of the terms of which steps are made
+-- where a place stands in the order
+abbrev pub turn_at : Place → Turn
+turn_at p = record { stage = 3; number = p.pair; atom = p.atom.items; action = turn_number p.action; to = p.to.items }
+
+-- the place is the one that is there or, of two, one before which the other does not stand
+abbrev pub IsLeastOf : Option Place → Option Place → Option Place → Type 0
+IsLeastOf None o r = r ≡ o
+IsLeastOf (Some x) None r = r ≡ Some x
+IsLeastOf (Some x) (Some y) r =
+    ((r ≡ Some x) × (IsEarlier (turn_at y) (turn_at x) → ⊥))
+    ⊎ ((r ≡ Some y) × (IsEarlier (turn_at x) (turn_at y) → ⊥))
+
+-- what a certificate is gone through with: its problem, the index of its pairs and the tables of its nodes; the numbers of the
+-- closed sides that are compared, of their universal term, and of the hypotheses that count as short; the tests that are true
+-- where terms accept and where a short hypothesis does; and marks of the terms of which steps are made
 pub record PassParts : Type 0 where
   pub problem : ProblemParts
   pub cert : CertParts
-  pub roots : Roots
+  pub index : IndexParts
+  pub tables : TableParts
+  pub left : ℕ
+  pub right : ℕ
+  pub universal : Option ℕ
+  pub shorts : List ℕ
   pub accepting : List ℕ
   pub banned : ℕ
   pub needed : List Bool
@@ -79,29 +79,29 @@ pub record AreNeeded (t : TableParts) (c : CertParts) (numbers : List ℕ) (mark
 
 -- the tables have the nodes of the certificate and the terms on which its pairs rest, the tests tell where these accept,
 -- and the index is that of the pairs
-pub record IsPass (p : PassParts) (t : TableParts) : Type 0 where
+pub record IsPass (p : PassParts) : Type 0 where
   pub problem : IsProblem p.problem
   pub cert : IsCert p.cert
-  pub nodes : TablesGrow (tables_of p.problem.tests p.cert) t
-  pub roots : AreRoots p.cert.style p.problem t p.roots
-  pub indexed : AreIndexed p.roots.index p.cert.pairs
-  pub accepting : AreAcceptances t p.accepting
+  pub nodes : TablesGrow (tables_of p.problem.tests p.cert) p.tables
+  pub indexed : AreIndexed p.index p.cert.pairs
+  pub roots : AreRoots p.cert.style p.problem p.tables p.left p.right p.universal p.shorts
+  pub accepting : AreAcceptances p.tables p.accepting
   pub count : length p.cert.term_nodes ≤ length p.accepting
-  pub there : length p.accepting ≤ length t.terms
-  pub shorts : IsTrue (are_below (length p.accepting) p.roots.shorts.items)
-  pub banned : HasValues t (set_out (counted_short p.cert.style p.problem)) p.banned
+  pub there : length p.accepting ≤ length p.tables.terms
+  pub shorts : IsTrue (are_below (length p.accepting) p.shorts)
+  pub banned : HasValues p.tables (set_out (counted_short p.cert.style p.problem)) p.banned
   pub marks : length p.needed ≡ length p.accepting
-  pub needed : AreNeeded t p.cert p.roots.shorts.items p.needed
+  pub needed : AreNeeded p.tables p.cert p.shorts p.needed
 
--- the targets by an action of the marked terms stand for what steps of them lead to
-abbrev pub StepsOf : TableParts → Option ℕ → List Bool → List (List (ℕ × ℕ)) → Type 0
-StepsOf t None marks steps = Unit {0}
-StepsOf t (Some a) marks steps = AreSteps t a (IsMarked marks) steps × (length steps ≡ length marks)
+-- nodes were added to its tables, and nothing else changed
+pub record PassGrows (old new : PassParts) : Type 0 where
+  pub tables : TablesGrow old.tables new.tables
+  pub same : new ≡ record old { tables = new.tables }
 
--- what a set leads to by an action; without one, to the empty product where it accepts
-abbrev pub led_to : Option ℕ → List Term → Atom → List Term
-led_to None es atom = if set_out es atom then one ∷ [] else []
-led_to (Some a) es atom = set_next es atom a
+-- the targets of the marked terms stand for what these lead to
+pub record StepsOf (t : TableParts) (action : Option ℕ) (marks : List Bool) (list : List (List (ℕ × ℕ))) : Type 0 where
+  pub steps : AreSteps t action (IsMarked marks) list
+  pub count : length list ≡ length marks
 
 -- the atom is allowed, or the move from it by the action is
 abbrev pub IsAllowed : List Term → Option ℕ → Atom → Atom → Type 0
@@ -114,20 +114,19 @@ pub record AreForbidden (t : TableParts) (c : CertParts) (q : ProblemParts) (act
   pub tests : (f : ℕ × ℕ) → Has forbidden f → IsTest t f.0 × IsTest t f.1
   pub mean : (atom to : Atom) → ((f : ℕ × ℕ) → Has forbidden f → (holds_at t f.0 atom && holds_at t f.1 to) ≡ false) ↔ IsAllowed (counted_short c.style q) action atom to
 
--- what is asked of each pair by its outputs or by an action: steps, forbidden moves, and the tests that these and the pairs
--- name
-pub record IsTurn (p : PassParts) (t : TableParts) (turn : Turn) : Type 0 where
-  pub steps : StepsOf t turn.action p.needed (map (λ x. x.entries) turn.list.items)
-  pub forbidden : AreForbidden t p.cert p.problem turn.action turn.forbidden.items
-  pub begin : AreAsked t turn.begin.keys
-  pub end : AreAsked t turn.end.keys
-  pub by_moves : (f : ℕ × ℕ) → Has turn.forbidden.items f → Has turn.begin.keys f.0 × Has turn.end.keys f.1
-  pub by_pairs : (r : PairParts) (g : ℕ) → Has p.cert.pairs r → r.test ≡ Some g → Has turn.end.keys g
-
--- the question of a turn about what two sets lead to; of outputs it is whether they are the same
-abbrev pub question_of : PassParts → Turn → Option ℕ → List (ℕ × ℕ) → List (ℕ × ℕ) → QuestionParts
-question_of p turn own left right =
-    record { style = option_map_or (λ a. p.cert.style) turn.action UpTo; pairs = option_map_or (λ a. p.cert.pairs) turn.action []; index = p.roots.index; universal = option_map_or (λ a. p.roots.universal) turn.action None; forbidden = turn.forbidden.items; own = own; left = left; right = right; begin = turn.begin.keys; end = turn.end.keys }
+-- what is asked of each pair by its outputs or by an action: by steps, and the pairs that match; of outputs it is whether they
+-- are the same
+pub record IsTurn (p : PassParts) (turn : TurnParts) : Type 0 where
+  pub steps : StepsOf p.tables turn.action p.needed turn.steps
+  pub style : turn.style ≡ option_map_or (λ a. p.cert.style) turn.action UpTo
+  pub pairs : turn.pairs ≡ option_map_or (λ a. p.cert.pairs) turn.action []
+  pub index : turn.index ≡ p.index
+  pub universal : turn.universal ≡ option_map_or (λ a. p.universal) turn.action None
+  pub forbidden : AreForbidden p.tables p.cert p.problem turn.action turn.forbidden
+  pub begin : AreAsked p.tables turn.begin
+  pub end : AreAsked p.tables turn.end
+  pub by_moves : (f : ℕ × ℕ) → Has turn.forbidden f → Has turn.begin f.0 × Has turn.end f.1
+  pub by_pairs : (r : PairParts) (g : ℕ) → Has turn.pairs r → r.test ≡ Some g → Has turn.end g
 
 -- what has to hold of a pair at two atoms, of its outputs or of an action
 abbrev pub TurnHolds : Style → ProblemParts → CertParts → TestedPair → Option ℕ → Atom → Atom → Type 0

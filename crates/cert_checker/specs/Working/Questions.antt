@@ -1,5 +1,5 @@
 -- What is asked of a pair at two atoms, and what is known of the tests that it names.
-use Rattle.std.specs.Prelude.{◌≡◌, ◌⊎◌, ◌≤◌, ℕ, Bool, false, ◌&&◌, IsTrue, List, take, drop, map, length, Option, Some, None}
+use Rattle.std.specs.Prelude.{◌≡◌, ◌⊎◌, ℕ, Bool, false, ◌&&◌, IsTrue, List, take, drop, map, length, Option, Some, None}
 use Rattle.std.specs.Option.{option_map}
 use Rattle.kat_model.specs.Trees.{Term}
 use Rattle.kat_model.specs.Members.{Has}
@@ -12,7 +12,7 @@ use Rattle.term_nodes.specs.NodeLists.{NodeParts}
 use Rattle.term_nodes.specs.NumberSets.{set_pairs_of, IsNumberSet}
 use Rattle.certificate.specs.PairParts.{PairParts, sets_of}
 use Rattle.certificate.specs.Accepted.{test_of, tested_pair_of}
-use Rattle.checker_steps.specs.NodeTables.{TableParts, IsTest, IsTerm, term_at, holds_at, nodes_in}
+use Rattle.checker_steps.specs.NodeTables.{TableParts, AreTables, IsTest, IsTerm, term_at, holds_at, nodes_in}
 use Rattle.checker_steps.specs.Targets.{AreEntries, chosen}
 use Rattle.cert_checker.specs.Working.Cases.{IsOpen, HoldsThroughout, Extends, AreAsked, AreKnown, known_of}
 use Rattle.cert_checker.specs.Working.Indices.{IndexParts, AreIndexed}
@@ -21,61 +21,74 @@ use Rattle.cert_checker.specs.declared.known.Known.TheVariants.{Waits as WaitsFo
 use Rattle.cert_checker.specs.declared.matching.State.{State}
 use Rattle.cert_checker.specs.declared.matching.State.TheVariants.{Holds, Fails, Waits}
 
--- The style, the listed pairs with their index, and the universal term; pairs of tests of which no move has the first true
--- at its begin and the second at its end; the test of the pair that is asked about, and what its sets lead to; and the
--- tests that these pairs of tests name at the first atom, and they and the listed pairs at the second.
-pub record QuestionParts : Type 0 where
+-- What is asked of pairs by an action, or without one of their outputs: the targets of terms; the style, the listed pairs with
+-- their index, and the universal term by which sets are matched; pairs of tests of which no move has the first true at its begin
+-- and the second at its end; and the tests that these name at the first atom, and they and the listed pairs at the second.
+pub record TurnParts : Type 0 where
+  pub action : Option ℕ
+  pub steps : List (List (ℕ × ℕ))
   pub style : Style
   pub pairs : List PairParts
   pub index : IndexParts
   pub universal : Option ℕ
   pub forbidden : List (ℕ × ℕ)
+  pub begin : List ℕ
+  pub end : List ℕ
+
+-- What is asked of a pair in a turn, over these tables: its test, what its sets lead to, and the tests that these name.
+pub record QuestionParts : Type 0 where
+  pub tables : TableParts
+  pub turn : TurnParts
   pub own : Option ℕ
   pub left : List (ℕ × ℕ)
   pub right : List (ℕ × ℕ)
-  pub begin : List ℕ
-  pub end : List ℕ
+  pub asked : List ℕ
 
 -- the tests that the question names at the first atom by the pair and the targets, and by moves; and at the second
 abbrev pub NamesByTargets : QuestionParts → ℕ → Type 0
 NamesByTargets q g = (q.own ≡ Some g) ⊎ ((e : ℕ × ℕ) × (Has q.left e ⊎ Has q.right e) × (e.1 ≡ g))
 
 abbrev pub NamesByMoves : QuestionParts → ℕ → Type 0
-NamesByMoves q g = (f : ℕ × ℕ) × Has q.forbidden f × (f.0 ≡ g)
+NamesByMoves q g = (f : ℕ × ℕ) × Has q.turn.forbidden f × (f.0 ≡ g)
 
 abbrev pub NamesAtEnd : QuestionParts → ℕ → Type 0
-NamesAtEnd q g = ((f : ℕ × ℕ) × Has q.forbidden f × (f.1 ≡ g)) ⊎ ((p : PairParts) × Has q.pairs p × (p.test ≡ Some g))
+NamesAtEnd q g = ((f : ℕ × ℕ) × Has q.turn.forbidden f × (f.1 ≡ g)) ⊎ ((p : PairParts) × Has q.turn.pairs p × (p.test ≡ Some g))
 
 -- the numbers are those of terms and tests of the tables, the tests that are named are asked, and pairs of the plain style
 -- have none
 pub record IsQuestion (t : TableParts) (q : QuestionParts) : Type 0 where
-  pub pairs : (p : PairParts) → Has q.pairs p → IsNumberSet (length t.terms) p.left × IsNumberSet (length t.terms) p.right
-  pub untested : q.style ≡ Plain → (p : PairParts) → Has q.pairs p → p.test ≡ None
-  pub indexed : AreIndexed q.index q.pairs
-  pub universal : (u : ℕ) → q.universal ≡ Some u → IsTerm t u
+  pub pairs : (p : PairParts) → Has q.turn.pairs p → IsNumberSet (length t.terms) p.left × IsNumberSet (length t.terms) p.right
+  pub untested : q.turn.style ≡ Plain → (p : PairParts) → Has q.turn.pairs p → p.test ≡ None
+  pub indexed : AreIndexed q.turn.index q.turn.pairs
+  pub universal : (u : ℕ) → q.turn.universal ≡ Some u → IsTerm t u
   pub own : (k : ℕ) → q.own ≡ Some k → IsTest t k
   pub left : AreEntries t q.left
   pub right : AreEntries t q.right
-  pub begin : AreAsked t q.begin
-  pub end : AreAsked t q.end
-  pub by_moves : (g : ℕ) → NamesByMoves q g → Has q.begin g
-  pub at_end : (g : ℕ) → NamesAtEnd q g → Has q.end g
+  pub begin : AreAsked t q.turn.begin
+  pub end : AreAsked t q.turn.end
+  pub by_moves : (g : ℕ) → NamesByMoves q g → Has q.turn.begin g
+  pub at_end : (g : ℕ) → NamesAtEnd q g → Has q.turn.end g
 
 -- these are the tests that it names by the pair and the targets
 pub record AreNamed (t : TableParts) (q : QuestionParts) (tests : List ℕ) : Type 0 where
   pub asked : AreAsked t tests
   pub named : (g : ℕ) → NamesByTargets q g → Has tests g
 
--- there is room for so many tests
-pub record HasRoom (count : ℕ) (c : Case) : Type 0 where
-  pub begin : count ≤ length c.begin.items
-  pub end : count ≤ length c.end.items
+-- a question over tables that are sound, with the tests that it names
+pub record IsPosed (q : QuestionParts) : Type 0 where
+  pub tables : AreTables q.tables
+  pub question : IsQuestion q.tables q
+  pub named : AreNamed q.tables q q.asked
+
+-- the question of a turn about a pair with this test and these targets
+abbrev pub IsAskedOf : TableParts → TurnParts → Option ℕ → List (ℕ × ℕ) → List (ℕ × ℕ) → QuestionParts → Type 0
+IsAskedOf t turn own left right q = q ≡ record { tables = t; turn = turn; own = own; left = left; right = right; asked = q.asked }
 
 -- what is known of the tests that are asked where some primitive tests of both atoms are decided
 pub record IsCase (t : TableParts) (q : QuestionParts) (asked : List ℕ) (decided : List (Option Bool)) (c : Case) : Type 0 where
   pub targets : AreKnown 0 t (take t.width decided) asked c.begin.items
-  pub begin : AreKnown 0 t (take t.width decided) q.begin c.begin.items
-  pub end : AreKnown t.width t (drop t.width decided) q.end c.end.items
+  pub begin : AreKnown 0 t (take t.width decided) q.turn.begin c.begin.items
+  pub end : AreKnown t.width t (drop t.width decided) q.turn.end c.end.items
 
 -- The values of two atoms stand side by side: those of the atom at which a move begins, and then those of the one at
 -- which it ends.
@@ -92,7 +105,7 @@ test_holds t test atom = truth (test_of (nodes_in t) test) atom
 -- the pair's test is true at the first atom, and the move from it to the second is not forbidden
 pub record Counts (t : TableParts) (q : QuestionParts) (atom to : Atom) : Type 0 where
   pub own : IsTrue (test_holds t q.own atom)
-  pub free : (f : ℕ × ℕ) → Has q.forbidden f → (holds_at t f.0 atom && holds_at t f.1 to) ≡ false
+  pub free : (f : ℕ × ℕ) → Has q.turn.forbidden f → (holds_at t f.0 atom && holds_at t f.1 to) ≡ false
 
 -- in a style these pairs match two sets of terms, in those up to congruence by the pairs whose test is true at the atom
 abbrev pub AreMatchedIn : NodeParts → Style → Option Term → List PairParts → List Term → List Term → Atom → Type 0
@@ -102,7 +115,7 @@ AreMatchedIn nodes Under u ps es fs to = IsCongruent u (pairs_at (map (tested_pa
 
 -- the pairs of the question match two sets of terms
 abbrev pub AreMatchedBy : TableParts → QuestionParts → List Term → List Term → Atom → Type 0
-AreMatchedBy t q es fs to = AreMatchedIn (nodes_in t) q.style (option_map (term_at t) q.universal) q.pairs es fs to
+AreMatchedBy t q es fs to = AreMatchedIn (nodes_in t) q.turn.style (option_map (term_at t) q.turn.universal) q.turn.pairs es fs to
 
 -- where the move counts, the pairs match what the targets stand for: the question holds at the two atoms
 abbrev pub MatchAt : TableParts → QuestionParts → Atom → Type 0

@@ -8,7 +8,6 @@ use Rattle.kat_model.specs.Degrees.{short_hyps, closed_long}
 use Rattle.term_nodes.specs.NumberSets.{are_below, terms_of}
 use Rattle.certificate.specs.declared.nodes.Style.{Style}
 use Rattle.certificate.specs.declared.nodes.Style.TheVariants.{Plain, UpTo, Under}
-use Rattle.cert_checker.specs.declared.roots.Roots.{Roots}
 use Rattle.checker_steps.specs.NodeTables.{TableParts, IsTerm, term_at, nodes_in}
 
 -- the closed sides that a style compares: in the style of tests those of the long hypotheses
@@ -30,12 +29,12 @@ pub record AreClosedBelow (n : ℕ) (c : Closed) : Type 0 where
   pub universal : (u : Term) → c.universal ≡ Some u → HasTestsBelow n u
 
 -- the numbers are those of the closed sides, of the universal term where there is one, and of the short hypotheses
-pub record AreRoots (s : Style) (q : ProblemParts) (t : TableParts) (r : Roots) : Type 0 where
-  pub left : term_at t r.left ≡ (compared s q).left
-  pub left_there : IsTerm t r.left
-  pub right : term_at t r.right ≡ (compared s q).right
-  pub right_there : IsTerm t r.right
-  pub universal : option_map (term_at t) r.universal ≡ (compared s q).universal
-  pub universal_there : (u : ℕ) → r.universal ≡ Some u → IsTerm t u
-  pub shorts : terms_of (nodes_in t) r.shorts.items ≡ counted_short s q
-  pub shorts_there : IsTrue (are_below (length t.terms) r.shorts.items)
+pub record AreRoots (s : Style) (q : ProblemParts) (t : TableParts) (l r : ℕ) (u : Option ℕ) (ks : List ℕ) : Type 0 where
+  pub left : term_at t l ≡ (compared s q).left
+  pub left_there : IsTerm t l
+  pub right : term_at t r ≡ (compared s q).right
+  pub right_there : IsTerm t r
+  pub universal : option_map (term_at t) u ≡ (compared s q).universal
+  pub universal_there : (k : ℕ) → u ≡ Some k → IsTerm t k
+  pub shorts : terms_of (nodes_in t) ks ≡ counted_short s q
+  pub shorts_there : IsTrue (are_below (length t.terms) ks)

@@ -4,7 +4,9 @@ use Rattle.kat_model.specs.Members.{Has, IsSubset}
 use Rattle.term_nodes.specs.NumberSets.{NumberPair}
 use Rattle.certificate.specs.PairParts.{PairParts}
 use Rattle.cert_checker.specs.declared.known.Known.{Known}
-use Rattle.cert_checker.specs.Working.Matching.{does_count}
+use Rattle.cert_checker.specs.declared.saturation.Counted.{Counted}
+use Rattle.cert_checker.specs.Working.Indices.{AreIndexed}
+use Rattle.cert_checker.specs.Working.Matching.{does_count, counting}
 use Rattle.cert_checker.specs.Working.Reaching.{HoldsAll, IsClosed}
 
 -- each number stands where it stood
@@ -36,3 +38,10 @@ IsTended also known old new p =
 -- so it is with the pairs at these places
 abbrev pub AreTendedAt : List PairParts → Bool → List Known → List ℕ → List ℕ → List ℕ → Type 0
 AreTendedAt ps also known old new places = (k : ℕ) (p : PairParts) → Has places k → slice_get ps k ≡ Some p → IsTended also known old new p
+
+-- the sets of the pairs that count, which have an index
+abbrev pub counting_in : Counted → List NumberPair
+counting_in c = counting c.also_open c.known.now c.turn.now.pairs
+
+abbrev pub IsIndexed : Counted → Type 0
+IsIndexed c = AreIndexed c.turn.now.index c.turn.now.pairs

@@ -6,9 +6,9 @@ use Rattle.cert_checker.specs.Answers.{IsFoundBy}
 use Rattle.cert_checker.proofs.OneAnswer.{string_told}
 use Rattle.cert_checker.proofs.checking.first_reason.Goals as goal
 
-pub returns-in_ok-finding-in-Different : goal.returns-in_ok-finding-in-Different
-returns-in_ok-finding-in-Different c =
+pub returns-in_ok-verdict-in-Different : goal.returns-in_ok-verdict-in-Different
+returns-in_ok-verdict-in-Different c =
     let q = c.args.problem.now in
     let x = c.in-Different.string in
     rw c.in-Different.is
-    (subst (λ o. MatchOption o (Refutes q x) (λ r. IsFoundBy q (Different x) r)) (sym c.string_reason.ensures) (string_told q x c.in_ok-finding-in-Different.finding c.in_ok-finding-in-Different.ensures))
+    (subst (λ o. MatchOption o (Refutes q x) (λ r. IsFoundBy q (Different x) r)) (sym c.string_reason.ensures) (string_told q x c.in_ok-verdict-in-Different.field-0 c.in_ok-verdict-in-Different.ensures))

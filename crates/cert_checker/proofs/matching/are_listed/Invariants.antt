@@ -5,4 +5,4 @@ use Rattle.cert_checker.proofs.matching.are_listed.Given as goal
 
 -- no pair at a place before is that of the sets
 abbrev pub invariant-loop-place : goal.invariant-loop-place
-invariant-loop-place l = (j : ℕ) → Has (take l.place-index l.places) j → IsOther l.counted.pairs.now l.counted.also_open l.counted.known.now l.sides.lefts.items l.sides.rights.items j
+invariant-loop-place l = (j : ℕ) → Has (take l.place-index l.places) j → IsOther l.counted.turn.now.pairs l.counted.also_open l.counted.known.now l.sides.left.sure.items l.sides.right.sure.items j

@@ -1,98 +1,126 @@
-use Rattle.std.proofs.Common.{ℕ, List, Option, true, false, ◌⊎◌, ⊎_elim, inl, inr, sym, ◌∙◌, subst}
-use Rattle.std.specs.Option.{MatchOption}
+use Rattle.std.proofs.Common.{◌≡◌, ◌⊎◌, ℕ, ◌&&◌, List, Bool, true, false, None, ⊎_elim, inl, inr, sym, ◌∙◌, subst}
+use Rattle.std.specs.Option.{option_map_or}
 use Rattle.std.proofs.lemmas.Bool.{iff_false}
 use Rattle.term_nodes.specs.NumberSets.{NumberPair}
-use Rattle.cert_checker.specs.Working.Indices.{IndexParts, AreIndexed}
-use Rattle.cert_checker.specs.Working.Matching.{counting, AreSettled, AreSettledAmong, IsWaitedByOne, AreTestsSettled, AreCovered, AreSurelyMatched, IsMove}
-use Rattle.cert_checker.proofs.CountedPairs.{counting_as}
-use Rattle.cert_checker.proofs.StepAnswers.{sides_sure}
-use Rattle.cert_checker.proofs.StepStates.{none_is, none_then, waits_open, guard_open, excluded_holds, universal_match, matched_holds, unmatched_fails}
+use Rattle.cert_checker.specs.declared.known.Known.{Known}
+use Rattle.cert_checker.specs.declared.matching.Side.{Side}
+use Rattle.cert_checker.specs.declared.matching.Sides.{Sides}
+use Rattle.cert_checker.specs.Working.Indices.{AreIndexed}
+use Rattle.cert_checker.specs.Working.Questions.{TurnParts, QuestionParts}
+use Rattle.cert_checker.specs.Working.Matching.{is_sure, counting, IsSide, AreSides, IsWaitedByOne, AreTestsSettled, AreCovered, AreSurelyMatched, IsMove}
+use Rattle.cert_checker.proofs.CountedPairs.{counted_as}
+use Rattle.cert_checker.proofs.StepAnswers.{side_sure, none_alone}
+use Rattle.cert_checker.proofs.StepStates.{waits_open, guard_open, excluded_holds, universal_match, matched_holds, unmatched_fails}
 use Rattle.cert_checker.proofs.matching.state_of.Goals as goal
-use Rattle.cert_checker.proofs.matching.state_of.Goals.{then-branch-2+in_default-waiting_pair, else-branch-2, in-Tied-the_move, in-Tied-the_move-2}
+use Rattle.cert_checker.proofs.matching.state_of.Goals.{then-are_universal-via-then-are_universal, then-are_universal-via-else-are_universal+in_ok-are_matched+then-branch, then-branch-2+in_default-waiting_pair, else-branch-2, in-Tied-the_move, in-Tied-the_move-2}
+
+-- what is told of the universal term, by what is equal
+sure_as : (q : QuestionParts) (k l : List Known) (a b : Bool) → k ≡ l → a ≡ option_map_or (λ u. is_sure k q.left u && is_sure k q.right u) q.turn.universal false → a ≡ b → option_map_or (λ u. is_sure l q.left u && is_sure l q.right u) q.turn.universal false ≡ b
+sure_as q k l a b same told is = subst (λ (m : List Known). option_map_or (λ u. is_sure m q.left u && is_sure m q.right u) q.turn.universal false ≡ b) same (sym told ∙ is)
+
+-- both sides, by what is equal
+sides_as : (p q : QuestionParts) (k l : List Known) (x y : Side) → p ≡ q → k ≡ l → IsSide k p.right p.left x → IsSide k p.left p.right y → AreSides l q.left q.right (record { left = x; right = y })
+sides_as p q k l x y e f left right = record {
+  left = subst (λ (m : List Known). IsSide m q.right q.left x) f (subst (λ (z : QuestionParts). IsSide k z.right z.left x) e left);
+  right = subst (λ (m : List Known). IsSide m q.left q.right y) f (subst (λ (z : QuestionParts). IsSide k z.left z.right y) e right);
+}
 
 pub returns-in_default : goal.returns-in_default
-returns-in_default c = λ t asked ds are is named known. excluded_holds t are c.args.question.now is asked named ds c.args.case.now known c.in_default.ensures
-
-pub returns-then-are_universal : goal.returns-then-are_universal
-returns-then-are_universal c = λ t asked ds are is named known. universal_match t are c.args.question.now is asked named ds c.args.case.now known (sym c.are_universal.ensures ∙ c.if-are_universal.true)
+returns-in_default c =
+    let q = c.args.question.now in
+    let case = c.args.case.now in
+    excluded_holds q.tables c.requires.question.tables q c.requires.question.question q.asked c.requires.question.named case.decided.items case c.requires.case c.in_default.ensures
 
 pub are_matched-requires-clause-left : goal.are_matched-requires-clause-left
-are_matched-requires-clause-left c = λ e.
+are_matched-requires-clause-left c =
     let q = c.args.question.now in
     let known = c.args.case.now.begin.items in
-    let s = c.in_ok-sides.sides in
-    let sides = c.in_ok-sides.ensures in
-    let settled =
-    none_is c.waiting_guards-differing.result.0 c.is_none.result (AreSettledAmong known q.left s.left_open.items × AreSettledAmong known q.right s.right_open.items) (IsWaitedByOne known q.left q.right) (sym c.is_none.ensures) e c.waiting_guards-differing.ensures.differing in
-    sides_sure known q.right q.left s.left_open.items s.lefts.items sides.left_ascends sides.left_open sides.lefts settled.0
+    let sides = sides_as _ q _ known c.in_ok-side_of.field-0 c.in_ok-side_of-2.field-0 c.question.view_is c.as_slice-known.ensures.value c.in_ok-side_of.ensures c.in_ok-side_of-2.ensures in
+    side_sure known q.right q.left c.in_ok-side_of.field-0 sides.left
 
 pub are_matched-requires-clause-right : goal.are_matched-requires-clause-right
-are_matched-requires-clause-right c = λ e.
+are_matched-requires-clause-right c =
     let q = c.args.question.now in
     let known = c.args.case.now.begin.items in
-    let s = c.in_ok-sides.sides in
-    let sides = c.in_ok-sides.ensures in
-    let settled =
-    none_is c.waiting_guards-differing.result.0 c.is_none.result (AreSettledAmong known q.left s.left_open.items × AreSettledAmong known q.right s.right_open.items) (IsWaitedByOne known q.left q.right) (sym c.is_none.ensures) e c.waiting_guards-differing.ensures.differing in
-    sides_sure known q.left q.right s.right_open.items s.rights.items sides.right_ascends sides.right_open sides.rights settled.1
+    let sides = sides_as _ q _ known c.in_ok-side_of.field-0 c.in_ok-side_of-2.field-0 c.question.view_is c.as_slice-known.ensures.value c.in_ok-side_of.ensures c.in_ok-side_of-2.ensures in
+    side_sure known q.left q.right c.in_ok-side_of-2.field-0 sides.right
 
-pub returns-then-branch : goal.returns-then-branch
-returns-then-branch c =
+pub returns-then-are_universal : goal.returns-then-are_universal
+returns-then-are_universal c =
     let q = c.args.question.now in
     let case = c.args.case.now in
-    let s = c.in_ok-sides.sides in
-    let same = counting_as c.of-surely.result.also_open false c.of-surely.result.known.now case.end.items c.of-surely.result.pairs.now q.pairs c.of-surely.ensures.also_open c.of-surely.ensures.known c.of-surely.ensures.pairs in
-    let matched = subst (λ (ns : List NumberPair). AreSurelyMatched q.style ns q.universal c.is_none.result c.is_none-2.result s) same (c.in_ok-are_matched.ensures.0 c.if-branch.true) in
-    let settled =
-    none_is c.waiting_guards-differing.result.1 c.is_none-2.result (AreSettled case.begin.items q.left × AreSettled case.begin.items q.right) (IsWaitedByOne case.begin.items q.left q.right) (sym c.is_none-2.ensures) in
-    λ t asked ds are is named known. matched_holds t are q is asked named ds case known s c.in_ok-sides.ensures c.is_none.result c.is_none-2.result (λ e. settled e c.waiting_guards-differing.ensures.all) matched
+    let known = case.begin.items in
+    let s : Sides = record { left = c.in_ok-side_of.field-0; right = c.in_ok-side_of-2.field-0 } in
+    let sides = sides_as _ q _ known c.in_ok-side_of.field-0 c.in_ok-side_of-2.field-0 c.question.view_is c.as_slice-known.ensures.value c.in_ok-side_of.ensures c.in_ok-side_of-2.ensures in
+    elim c.then-are_universal.branch [
+      | then-are_universal-via-then-are_universal w ↦
+          universal_match q.tables c.requires.question.tables q c.requires.question.question q.asked c.requires.question.named case.decided.items case c.requires.case
+          (sure_as q _ known c.are_universal.result true c.as_slice-known.ensures.value c.are_universal.ensures w.if-are_universal.true)
+      | then-are_universal-via-else-are_universal+in_ok-are_matched+then-branch w ↦
+          let said = counted_as (λ (t : TurnParts) (ns : List NumberPair). AreSurelyMatched t.style ns t.universal s) w.of.result q.turn case.end.items false w.of.ensures.turn w.of.ensures.known w.of.ensures.also_open in
+          matched_holds q.tables c.requires.question.tables q c.requires.question.question q.asked c.requires.question.named case.decided.items case c.requires.case s sides (said.0 (w.in_ok-are_matched.ensures.0 w.if-branch.true))
+    ]
 
 pub returns-in-Tied : goal.returns-in-Tied
-returns-in-Tied c = λ t asked ds are is named known. waits_open t are c.args.question.now is asked named ds c.args.case.now known c.in-Tied.test (subst (IsMove c.args.question.now c.args.case.now) c.in-Tied.is c.in-Some.ensures)
-
-pub returns-in-Some-guard : goal.returns-in-Some-guard
-returns-in-Some-guard c =
+returns-in-Tied c =
     let q = c.args.question.now in
     let case = c.args.case.now in
-    let waits =
-    subst (λ (o : Option ℕ). MatchOption o (AreSettled case.begin.items q.left × AreSettled case.begin.items q.right) (IsWaitedByOne case.begin.items q.left q.right)) c.in-Some-guard.is c.waiting_guards-differing.ensures.all in
-    λ t asked ds are is named known. guard_open t are q is asked named ds case known c.in-Some-guard.test waits
+    waits_open q.tables c.requires.question.tables q c.requires.question.question q.asked c.requires.question.named case.decided.items case c.requires.case c.in-Tied.test (subst (IsMove q case) c.in-Tied.is c.in-Some.ensures)
 
-pub is_covered-requires : goal.is_covered-requires
-is_covered-requires c =
+pub waiting_guard-requires : goal.waiting_guard-requires
+waiting_guard-requires c =
+    let q = c.args.question.now in
+    let known : List Known = c.as_slice-known.result.now in
+    record {
+      left = subst (λ (z : QuestionParts). IsSide known z.right z.left c.in_ok-side_of.field-0) c.question.view_is c.in_ok-side_of.ensures;
+      right = subst (λ (z : QuestionParts). IsSide known z.left z.right c.in_ok-side_of-2.field-0) c.question.view_is c.in_ok-side_of-2.ensures;
+    }
+
+pub returns-in-Some-waiting_guard : goal.returns-in-Some-waiting_guard
+returns-in-Some-waiting_guard c =
+    let q = c.args.question.now in
+    let case = c.args.case.now in
+    let k : ℕ = c.in-Some-waiting_guard.test in
+    guard_open q.tables c.requires.question.tables q c.requires.question.question q.asked c.requires.question.named case.decided.items case c.requires.case k
+    (subst (λ (l : List Known). IsWaitedByOne l q.left q.right k) c.as_slice-known.ensures.value c.in-Some-waiting_guard.ensures)
+
+pub are_covered-requires : goal.are_covered-requires
+are_covered-requires c =
     let q = c.args.question.now in
     let known = c.args.case.now.begin.items in
-    let s = c.in_ok-sides.sides in
-    let sides = c.in_ok-sides.ensures in
-    let settled =
-    subst (λ (o : Option ℕ). MatchOption o (AreSettledAmong known q.left s.left_open.items × AreSettledAmong known q.right s.right_open.items) (IsWaitedByOne known q.left q.right)) (c.waiting_guards-differing.ensures.first c.in_default-guard.is) c.waiting_guards-differing.ensures.differing in
+    let x : Side = c.in_ok-side_of.field-0 in
+    let y : Side = c.in_ok-side_of-2.field-0 in
+    let sides = sides_as _ q _ known x y c.question.view_is c.as_slice-known.ensures.value c.in_ok-side_of.ensures c.in_ok-side_of-2.ensures in
+    let none = c.in_default-waiting_guard.ensures in
     record {
-      indexed = subst (λ (x : IndexParts). AreIndexed x c.of.result.pairs.now) (sym c.of.ensures.index) (subst (AreIndexed q.index) (sym c.of.ensures.pairs) c.requires);
-      left = sides_sure known q.right q.left s.left_open.items s.lefts.items sides.left_ascends sides.left_open sides.lefts settled.0;
-      right = sides_sure known q.left q.right s.right_open.items s.rights.items sides.right_ascends sides.right_open sides.rights settled.1;
+      indexed = subst (λ (t : TurnParts). AreIndexed t.index t.pairs) (sym c.of-2.ensures.turn) c.requires.question.question.indexed;
+      left = side_sure known q.right q.left x sides.left (none_alone known q.right q.left x sides.left none.0);
+      right = side_sure known q.left q.right y sides.right (none_alone known q.left q.right y sides.right none.1);
     }
 
 pub returns-in-Some-waiting_pair : goal.returns-in-Some-waiting_pair
-returns-in-Some-waiting_pair c = λ t asked ds are is named known. waits_open t are c.args.question.now is asked named ds c.args.case.now known c.in-Some-waiting_pair.test c.in-Some-waiting_pair.ensures
+returns-in-Some-waiting_pair c =
+    let q = c.args.question.now in
+    let case = c.args.case.now in
+    waits_open q.tables c.requires.question.tables q c.requires.question.question q.asked c.requires.question.named case.decided.items case c.requires.case c.in-Some-waiting_pair.test c.in-Some-waiting_pair.ensures
 
 pub returns-in-Counts : goal.returns-in-Counts
 returns-in-Counts c =
     let q = c.args.question.now in
     let case = c.args.case.now in
-    let s = c.in_ok-sides.sides in
-    let settled = subst (λ (o : Option ℕ). MatchOption o (AreSettled case.begin.items q.left × AreSettled case.begin.items q.right) (IsWaitedByOne case.begin.items q.left q.right)) c.in_default-guard.is c.waiting_guards-differing.ensures.all in
-    let same = counting_as c.of-surely.result.also_open false c.of-surely.result.known.now case.end.items c.of-surely.result.pairs.now q.pairs c.of-surely.ensures.also_open c.of-surely.ensures.known c.of-surely.ensures.pairs in
-    let also = counting_as c.of.result.also_open true c.of.result.known.now case.end.items c.of.result.pairs.now q.pairs c.of.ensures.also_open c.of.ensures.known c.of.ensures.pairs in
-    let never : AreSurelyMatched q.style (counting false case.end.items q.pairs) q.universal c.is_none.result c.is_none-2.result s → ⊥ = λ m.
-    iff_false c.in_ok-are_matched.ensures c.if-branch.false (subst (λ (ns : List NumberPair). AreSurelyMatched q.style ns q.universal c.is_none.result c.is_none-2.result s) (sym same) m) in
-    let over : (AreCovered (counting true case.end.items q.pairs) q.universal s → ⊥) ⊎ AreTestsSettled case.end.items q.pairs =
+    let known = case.begin.items in
+    let s : Sides = record { left = c.in_ok-side_of.field-0; right = c.in_ok-side_of-2.field-0 } in
+    let sides = sides_as _ q _ known c.in_ok-side_of.field-0 c.in_ok-side_of-2.field-0 c.question.view_is c.as_slice-known.ensures.value c.in_ok-side_of.ensures c.in_ok-side_of-2.ensures in
+    let none : (s.left.waits ≡ None) × (s.right.waits ≡ None) = c.in_default-waiting_guard.ensures in
+    let said = counted_as (λ (t : TurnParts) (ns : List NumberPair). AreSurelyMatched t.style ns t.universal s) c.of.result q.turn case.end.items false c.of.ensures.turn c.of.ensures.known c.of.ensures.also_open in
+    let also = counted_as (λ (t : TurnParts) (ns : List NumberPair). AreCovered ns t.universal s) c.of-2.result q.turn case.end.items true c.of-2.ensures.turn c.of-2.ensures.known c.of-2.ensures.also_open in
+    let over : (AreCovered (counting true case.end.items q.turn.pairs) q.turn.universal s → ⊥) ⊎ AreTestsSettled case.end.items q.turn.pairs =
     elim c.if-branch-2.branch [
       | then-branch-2+in_default-waiting_pair w ↦ inr w.in_default-waiting_pair.ensures
-      | else-branch-2 w ↦ inl (λ m. iff_false c.in_ok-is_covered.ensures w.if-branch-2.false (subst (λ (ns : List NumberPair). AreCovered ns q.universal s) (sym also) m))
+      | else-branch-2 w ↦ inl (λ m. iff_false c.in_ok-are_covered.ensures w.if-branch-2.false (also.1 m))
     ] in
-    λ t asked ds are is named known.
-    unmatched_fails t are q is asked named ds case known s c.in_ok-sides.ensures (subst (IsMove q case) c.in-Counts.is c.in-Some.ensures) settled.0 settled.1 (sym c.are_universal.ensures ∙ c.if-are_universal.false) c.is_none.result c.is_none-2.result
-    (none_then c.waiting_guards-differing.result.0 c.is_none.result (sym c.is_none.ensures) (c.waiting_guards-differing.ensures.first c.in_default-guard.is)) (none_then c.waiting_guards-differing.result.1 c.is_none-2.result (sym c.is_none-2.ensures) c.in_default-guard.is) never over
+    unmatched_fails q.tables c.requires.question.tables q c.requires.question.question q.asked c.requires.question.named case.decided.items case c.requires.case s sides (subst (IsMove q case) c.in-Counts.is c.in-Some.ensures) none.0 none.1
+    (sure_as q _ known c.are_universal.result false c.as_slice-known.ensures.value c.are_universal.ensures c.if-are_universal.false) (λ m. iff_false c.in_ok-are_matched.ensures c.if-branch.false (said.1 m)) over
 
 pub returns : goal.returns
 returns c =
@@ -101,8 +129,8 @@ returns c =
     elim c.match-the_move-2.branch [
       | in-Tied-the_move w ↦
           let waits = ⊎_elim (λ e. subst (IsMove q case) e c.in-Some.ensures) (λ e. subst (IsMove q case) e c.in-Some.ensures) w.in-Tied-the_move.is in
-          rw w.result-is (λ t asked ds are is named known. waits_open t are q is asked named ds case known w.in-Tied-the_move.test waits)
+          rw w.result-is (waits_open q.tables c.requires.question.tables q c.requires.question.question q.asked c.requires.question.named case.decided.items case c.requires.case w.in-Tied-the_move.test waits)
       | in-Tied-the_move-2 w ↦
           let waits = ⊎_elim (λ e. subst (IsMove q case) e c.in-Some.ensures) (λ e. subst (IsMove q case) e c.in-Some.ensures) w.in-Tied-the_move.is in
-          rw w.result-is (λ t asked ds are is named known. waits_open t are q is asked named ds case known w.in-Tied-the_move.test waits)
+          rw w.result-is (waits_open q.tables c.requires.question.tables q c.requires.question.question q.asked c.requires.question.named case.decided.items case c.requires.case w.in-Tied-the_move.test waits)
     ]

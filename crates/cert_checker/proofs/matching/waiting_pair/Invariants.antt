@@ -6,4 +6,4 @@ use Rattle.cert_checker.proofs.matching.waiting_pair.Given as goal
 
 -- what is known of the pairs before
 abbrev pub invariant-loop-pair : goal.invariant-loop-pair
-invariant-loop-pair l = MatchOption l.waiting (AreTestsSettled l.end (take l.pair-index l.pairs)) (IsWaited l.question l.case)
+invariant-loop-pair l = MatchOption l.waiting (AreTestsSettled l.case.end.items (take l.pair-index l.question.turn.pairs)) (IsWaited l.question l.case)

@@ -1,13 +1,12 @@
 use Rattle.std.proofs.Common.{◌-◌, ◌^◌}
-use Rattle.cert_checker.specs.Working.Matching.{counting}
-use Rattle.cert_checker.specs.Working.Rounds.{GoesOn}
+use Rattle.cert_checker.specs.Working.Rounds.{GoesOn, counting_in}
 use Rattle.cert_checker.proofs.Saturating.{AreTendedTo}
 use Rattle.cert_checker.proofs.saturation.add_round.Given as goal
 
 abbrev pub invariant-loop-place : goal.invariant-loop-place
 invariant-loop-place l = record {
-  goes : GoesOn (counting l.counted.also_open l.counted.known.now l.counted.pairs.now) l.initial.reached.keys l.reached.keys;
-  tended : AreTendedTo l.counted.pairs.now l.counted.also_open l.counted.known.now l.counted.index.now l.place l.initial.reached.keys l.reached.keys;
+  goes : GoesOn (counting_in l.counted) l.initial.reached.keys l.reached.keys;
+  tended : AreTendedTo l.counted.turn.now.pairs l.counted.also_open l.counted.known.now l.counted.turn.now.index l.place l.initial.reached.keys l.reached.keys;
 }
 
 abbrev pub decreases-loop-place : goal.decreases-loop-place

@@ -2,10 +2,9 @@ use Rattle.std.proofs.Common.{◌≡◌, ◌<◌, ◌≤◌, ◌+◌, true, fals
 use Rattle.std.proofs.lemmas.Bool.{true≢false}
 use Rattle.std.proofs.lemmas.List.{length_push, length-map, map_push}
 use Rattle.std.proofs.lemmas.Option.{slice_get-get_or, get_or_from_slice_get}
-use Rattle.kat_model.specs.Steps.{next}
 use Rattle.checker_steps.specs.NodeTables.{term_at}
 use Rattle.checker_steps.specs.Marks.{IsMarked, IsPart}
-use Rattle.checker_steps.specs.Targets.{AreSteps, StandFor, HasNoneElsewhere}
+use Rattle.checker_steps.specs.Targets.{AreSteps, StandFor, HasNoneElsewhere, leads_to}
 use Rattle.checker_steps.proofs.GrowingTables.{grows_itself, grows_trans}
 use Rattle.checker_steps.proofs.ClosingMarks.{closed_kept}
 use Rattle.checker_steps.proofs.StepLists.{all_accept, steps_more, none_more, grows_longer}
@@ -46,7 +45,7 @@ loop-is_needed-preserved c =
           let grows = w.step.ensures.grows in
           let items = w.in_ok-push.ensures.items in
           let same : length w.deref.result.now ≡ length (map (λ t. t.entries) list) = ap length w.deref.ensures.value ∙ sym count in
-          let stands = subst (λ n. StandFor new w.in_ok-targets.targets.entries (λ atom. next (term_at t n) atom c.args.action)) same w.in_ok-targets.ensures.targets in
+          let stands = subst (λ n. StandFor new w.in_ok-targets.targets.entries (leads_to c.args.action (term_at t n))) same w.in_ok-targets.ensures.targets in
           rw (w.tables-is, w.list-is)
           (record {
             count = ap length items ∙ length_push list w.in_ok-targets.targets ∙ ap (λ n. n + 1) now.count;

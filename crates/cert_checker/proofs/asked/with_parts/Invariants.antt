@@ -1,0 +1,9 @@
+use Rattle.cert_checker.proofs.AskedTests.{bound_of, IsAsking}
+use Rattle.cert_checker.proofs.asked.with_parts.Given as goal
+
+abbrev pub invariant-loop-test : goal.invariant-loop-test
+invariant-loop-test l = IsAsking l.tables l.initial.tests.keys l.tests.keys l.asked.keys
+
+-- the greatest test that is pending falls
+abbrev pub decreases-loop-test : goal.decreases-loop-test
+decreases-loop-test l = bound_of l.tests.keys

@@ -1,0 +1,383 @@
+//! The first place at which the pairs of a certificate fail.
+ghost use Rattle.std.specs.Prelude.{◌≡◌, ◌≤◌, ℕ, Some, IsTrue, IfOk, length};
+ghost use Rattle.std.specs.Option.{option_map};
+ghost use Rattle.kat_model.specs.Members.{Has};
+ghost use Rattle.kat_model.specs.Steps.{set_out};
+ghost use Rattle.term_nodes.specs.NumberSets.{are_below, terms_of};
+ghost use Rattle.goal_forms.specs.ClosedTrees.{closed_trees};
+ghost use Rattle.checker_steps.specs.NodeTables.{AreTables, TablesGrow, TestsGrow, IsTerm, HasValues, term_at, nodes_in};
+ghost use Rattle.checker_steps.specs.Marks.{IsMarked};
+ghost use Rattle.checker_steps.specs.Targets.{AreAcceptances};
+ghost use Rattle.cert_checker.specs.Working.Roots.{AreClosedBelow, compared, counted_short};
+ghost use Rattle.cert_checker.specs.Working.Places.{AreNeeded, IsLeastOf};
+
+use crate::asked::with_parts;
+use crate::cases::least_failure;
+use crate::index::PairIndex;
+use crate::known::Case;
+use crate::question::{Question, Turn};
+use certificate::{Cert, Pair, Style};
+use checker_steps::{Tables, Targets, acceptances, close_marks, empty_product, of_set, steps};
+use goal_forms::{Closed, eliminate};
+use kat_model::{NoMemory, Problem};
+use short_hyps::{is_short, long_problem};
+use std::alloc::Global;
+use std::collections::BTreeSet;
+use std::marker::Model;
+
+/// A pair and an atom at which the sets of the pair do not accept alike or, where there is an action, the sets
+/// that it leads to are not matched at the atom to which it leads. The least comes first.
+#[derive(PartialEq, Eq, PartialOrd, Ord, Drop)]
+pub(crate) struct Place {
+    pub pair: usize,
+    pub atom: Vec<bool>,
+    pub action: Option<usize>,
+    pub to: Vec<bool>,
+}
+
+/// What a certificate is gone through with: its nodes and the terms on which its pairs rest, those that steps lead to after
+/// them; the numbers of the closed sides that are compared, of their universal term where there is one, and of the hypotheses
+/// that count as short; the tests that are true where terms accept and where a short hypothesis does; and marks of the terms
+/// of which steps are made.
+#[derive(Drop)]
+pub(crate) struct Pass<'a> {
+    problem: &'a Problem,
+    cert: &'a Cert,
+    index: &'a PairIndex,
+    tables: Tables,
+    left: usize,
+    right: usize,
+    universal: Option<usize>,
+    shorts: Vec<usize>,
+    accepting: Vec<usize>,
+    banned: usize,
+    needed: Vec<bool>,
+}
+
+impl<'a> Model for Pass<'a> {
+    ghost use Rattle.std.specs.Coded.{codes};
+    ghost use Rattle.kat_model.specs.Codes.{coded_term};
+    ghost use Rattle.cert_checker.specs.Working.Places.{PassParts, IsPass};
+
+    ghost Value = { PassParts };
+
+    ghost coded = { Prim.hlevel (codes, coded_term) };
+
+    ghost view = { λ p. record { problem = p.problem.now; cert = p.cert.now; index = p.index.now; tables = p.tables; left = p.left; right = p.right; universal = p.universal; shorts = p.shorts.items; accepting = p.accepting.items; banned = p.banned; needed = p.needed.items } };
+}
+
+// The closed sides that the style compares.
+fn closed_sides(alloc: Global, problem: &Problem, style: Style) -> Result<Closed, NoMemory>
+    ensures { IfOk result (λ c. closed_trees c ≡ compared style problem.now) }
+{
+    match style {
+        Style::Plain | Style::UpTo => eliminate(alloc, problem),
+        Style::Under => {
+            let long = long_problem(alloc, problem)?;
+            eliminate(alloc, &long)
+        }
+    }
+}
+
+// The number of the universal term, where there is one.
+fn universal_number(tables: &mut Tables, closed: &Closed) -> Result<Option<usize>, NoMemory>
+    requires tables { AreTables tables.old }
+    requires below { AreClosedBelow tables.old.width (closed_trees closed.now) }
+    ensures term { IfOk result (λ o. option_map (term_at tables.new) o ≡ (closed_trees closed.now).universal) }
+    ensures there { IfOk result (λ o. (u : ℕ) → o ≡ Some u → IsTerm tables.new u) }
+    ensures grows { TablesGrow tables.old tables.new }
+{
+    match &closed.universal {
+        Some(term) => Ok(Some(tables.number_of(term)?)),
+        None => Ok(None),
+    }
+}
+
+// The numbers of the hypotheses that count as short.
+fn short_numbers(
+    tables: &mut Tables,
+    problem: &Problem,
+    style: Style,
+) -> Result<Vec<usize>, NoMemory>
+    requires tables { AreTables tables.old }
+    requires width { problem.now.tests ≡ tables.old.width }
+    ensures terms { IfOk result (λ v. terms_of (nodes_in tables.new) v.items ≡ counted_short style problem.now) }
+    ensures there { IfOk result (λ v. IsTrue (are_below (length tables.new.terms) v.items)) }
+    ensures grows { TablesGrow tables.old tables.new }
+{
+    let mut numbers = Vec::new(tables.alloc());
+    if style != Style::Under {
+        return Ok(numbers);
+    }
+    for hyp in problem.hyps() {
+        if is_short(hyp) {
+            numbers.push(tables.number_of(hyp)?)?;
+        }
+    }
+    Ok(numbers)
+}
+
+// The test that is true where some member of the set accepts.
+fn acceptance(tables: &mut Tables, accepting: &[usize], set: &[usize]) -> Result<usize, NoMemory>
+    requires accepting { AreAcceptances tables.old accepting.now }
+    requires set { IsTrue (are_below (length accepting.now) set.now) }
+    requires there { length accepting.now ≤ length tables.old.terms }
+    ensures values { IfOk result (HasValues tables.new (set_out (terms_of (nodes_in tables.old) set.now))) }
+    ensures grows { TestsGrow tables.old tables.new }
+{
+    let mut guard = tables.constant(false)?;
+    for number in set {
+        guard = tables.either(guard, accepting[*number])?;
+    }
+    Ok(guard)
+}
+
+fn mark_all(marks: &mut [bool], set: &[usize])
+    requires { IsTrue (are_below (length marks.old) set.now) }
+    ensures kept { (k : ℕ) → IsMarked marks.old k → IsMarked marks.new k }
+    ensures marked { (k : ℕ) → Has set.now k → IsMarked marks.new k }
+    ensures count { length marks.new ≡ length marks.old }
+{
+    for number in set {
+        marks[*number] = true;
+    }
+}
+
+// Marks of the terms of which steps are made: those of listed pairs and short hypotheses, and their parts.
+fn needed_terms(tables: &Tables, cert: &Cert, shorts: &[usize]) -> Result<Vec<bool>, NoMemory>
+    requires shorts { IsTrue (are_below (length tables.now.terms) shorts.now) }
+    requires pairs { length cert.now.term_nodes ≤ length tables.now.terms }
+    ensures needed { IfOk result (λ v. AreNeeded tables.now cert.now shorts.now v.items) }
+    ensures count { IfOk result (λ v. length v.items ≡ length tables.now.terms) }
+{
+    let mut marks = vec![in tables.alloc(); false; tables.term_count()]?;
+    mark_all(&mut marks, shorts);
+    for pair in cert.pairs() {
+        mark_all(&mut marks, pair.left.as_slice());
+        mark_all(&mut marks, pair.right.as_slice());
+    }
+    close_marks(tables, &mut marks);
+    Ok(marks)
+}
+
+impl<'a> Pass<'a> {
+    ghost use Rattle.std.specs.Prelude.{◌≡◌, ◌↔◌, ◌<◌, ◌+◌, ℕ, IsTrue, IfOk, OnOk, length, map};
+    ghost use Rattle.std.specs.Option.{option_map};
+    ghost use Rattle.kat_model.specs.Members.{Has};
+    ghost use Rattle.kat_model.specs.Steps.{Atom};
+    ghost use Rattle.kat_model.specs.AllowedMoves.{IsAllowedAtom};
+    ghost use Rattle.term_nodes.specs.declared.TestNode.TheVariants.{Prim};
+    ghost use Rattle.checker_steps.specs.NodeTables.{IsTest, holds_at};
+    ghost use Rattle.cert_checker.specs.Answers.{Begins};
+    ghost use Rattle.cert_checker.specs.Working.Cases.{IsFirstFailure, undecided};
+    ghost use Rattle.cert_checker.specs.Working.Indices.{AreIndexed};
+    ghost use Rattle.cert_checker.specs.Working.Roots.{counted_short};
+    ghost use Rattle.cert_checker.specs.Working.Places.{IsFirstOf, IsPass, PassGrows, IsTurn, AreForbidden, StepsOf, PairHolds, place_reason, turn_number};
+
+    /// The pass over this certificate with the index of its pairs.
+    pub(crate) fn of(
+        alloc: Global,
+        problem: &'a Problem,
+        cert: &'a Cert,
+        index: &'a PairIndex,
+    ) -> Result<Pass<'a>, NoMemory>
+        requires tests { (k : ℕ) → Has cert.now.test_nodes (Prim k) → k < problem.now.tests }
+        requires index { AreIndexed index.now cert.now.pairs }
+        ensures pass { IfOk result IsPass }
+        ensures of { IfOk result (λ p. (p.problem ≡ problem.now) × (p.cert ≡ cert.now)) }
+    {
+        let mut tables = Tables::of(alloc, cert, problem.tests())?;
+        let closed = closed_sides(alloc, problem, cert.style())?;
+        let left = tables.number_of(&closed.left)?;
+        let right = tables.number_of(&closed.right)?;
+        let universal = universal_number(&mut tables, &closed)?;
+        let shorts = short_numbers(&mut tables, problem, cert.style())?;
+        let accepting = acceptances(&mut tables)?;
+        let banned = acceptance(&mut tables, &accepting, &shorts)?;
+        let needed = needed_terms(&tables, cert, &shorts)?;
+        Ok(Pass {
+            problem,
+            cert,
+            index,
+            tables,
+            left,
+            right,
+            universal,
+            shorts,
+            accepting,
+            banned,
+            needed,
+        })
+    }
+
+    // Pairs of tests of which no move by the action that is allowed, or without an action no allowed atom, has the first
+    // true at its begin and the second at its end.
+    fn forbidden(
+        &mut self,
+        steps: &[Targets],
+        action: Option<usize>,
+    ) -> Result<Vec<(usize, usize)>, NoMemory>
+        requires pass { IsPass self.old }
+        requires steps { StepsOf self.old.tables action self.old.needed (map (λ t. t.entries) steps.now) }
+        ensures forbidden { IfOk result (λ v. AreForbidden self.new.tables self.old.cert self.old.problem action v.items) }
+        ensures grows { PassGrows self.old self.new }
+    {
+        let mut forbidden = Vec::new(self.tables.alloc());
+        if self.shorts.is_empty() {
+            return Ok(forbidden);
+        }
+        let always = self.tables.constant(true)?;
+        forbidden.push((self.banned, always))?;
+        if action.is_some() {
+            forbidden.push((always, self.banned))?;
+            let targets = of_set(&mut self.tables, steps, &self.shorts, action)?;
+            let outputs = acceptances(&mut self.tables)?;
+            for (term, guard) in targets.iter() {
+                forbidden.push((*guard, outputs[*term]))?;
+            }
+        }
+        Ok(forbidden)
+    }
+
+    // What is asked of each pair: of its outputs, or by the action.
+    fn turn(&mut self, action: Option<usize>) -> Result<Turn<'a>, NoMemory>
+        requires { IsPass self.old }
+        ensures turn { IfOk result (IsTurn self.new) }
+        ensures action { IfOk result (λ t. t.action ≡ action) }
+        ensures grows { PassGrows self.old self.new }
+    {
+        let cert = self.cert;
+        let no_pairs: &[Pair] = &[];
+        let (style, pairs, universal) = match action {
+            None => (Style::UpTo, no_pairs, None),
+            Some(_) => (cert.style(), cert.pairs(), self.universal),
+        };
+        let steps = steps(&mut self.tables, &self.accepting, &self.needed, action)?;
+        let forbidden = self.forbidden(&steps, action)?;
+        let mut begin = BTreeSet::new(self.tables.alloc());
+        let mut end = BTreeSet::new(self.tables.alloc());
+        begin.extend(forbidden.iter().map(|tests| tests.0))?;
+        end.extend(forbidden.iter().map(|tests| tests.1))?;
+        end.extend(pairs.iter().filter_map(|pair| pair.test))?;
+        Ok(Turn {
+            action,
+            steps,
+            style,
+            pairs,
+            index: self.index,
+            universal,
+            forbidden,
+            begin: with_parts(&self.tables, begin)?,
+            end: with_parts(&self.tables, end)?,
+        })
+    }
+
+    // The least values of two atoms at which the pair fails.
+    fn pair_failure(
+        &mut self,
+        turn: &Turn,
+        case: &mut Case,
+        pair: &Pair,
+    ) -> Result<Option<Vec<bool>>, NoMemory>
+        requires pass { IsPass self.old }
+        requires turn { IsTurn self.old turn.now }
+        requires pair { Has self.old.cert.pairs pair.now }
+        requires undecided { case.old.decided.items ≡ undecided (self.old.tables.width + self.old.tables.width) }
+        ensures failure { IfOk result (λ o. IsFirstFailure (PairHolds self.old.problem self.old.cert turn.now.action pair.now) (undecided (self.old.problem.tests + self.old.problem.tests)) (option_map (λ v. v.items) o)) }
+        ensures undecided { OnOk result (case.new.decided.items ≡ case.old.decided.items) }
+        ensures grows { PassGrows self.old self.new }
+    {
+        let tables = &mut self.tables;
+        let left = of_set(tables, &turn.steps, pair.left.as_slice(), turn.action)?;
+        let right = of_set(tables, &turn.steps, pair.right.as_slice(), turn.action)?;
+        let question = Question::of(&self.tables, turn, pair.test, left, right)?;
+        least_failure(&question, case, None)
+    }
+
+    // The first pair that fails by its outputs or by the action, with its least atom.
+    fn first_failure(&mut self, action: Option<usize>) -> Result<Option<Place>, NoMemory>
+        requires pass { IsPass self.old }
+        requires action { turn_number action < self.old.problem.actions + 1 }
+        ensures first { IfOk result (λ o. IsFirstOf self.old.problem self.old.cert (λ n. n ≡ turn_number action) (option_map (place_reason self.old.cert.style) o)) }
+        ensures grows { PassGrows self.old self.new }
+    {
+        let alloc = self.tables.alloc();
+        let width = self.tables.width();
+        let cert = self.cert;
+        let turn = self.turn(action)?;
+        let mut case = Case::new(alloc, width)?;
+        for (pair, sets) in cert.pairs().iter().enumerate() {
+            if let Some(values) = self.pair_failure(&turn, &mut case, sets)? {
+                let (first, second) = values.split_at(width);
+                return Ok(Some(Place {
+                    pair,
+                    atom: first.to_vec(alloc)?,
+                    action,
+                    to: second.to_vec(alloc)?,
+                }));
+            }
+        }
+        Ok(None)
+    }
+
+    /// The first place at which the pairs fail. Outputs and each action are gone through apart.
+    pub(crate) fn first_place(&mut self) -> Result<Option<Place>, NoMemory>
+        requires { IsPass self.old }
+        ensures { IfOk result (λ o. IsFirstOf self.old.problem self.old.cert (λ n. n < self.old.problem.actions + 1) (option_map (place_reason self.old.cert.style) o)) }
+    {
+        let mut place = self.first_failure(None)?;
+        for action in 0..self.problem.actions() {
+            place = least_place(place, self.first_failure(Some(action))?);
+        }
+        Ok(place)
+    }
+
+    // Whether the test is true at each allowed atom.
+    fn holds_throughout(&mut self, test: usize) -> Result<bool, NoMemory>
+        requires pass { IsPass self.old }
+        requires is_test { IsTest self.old.tables test }
+        ensures holds { IfOk result (λ b. IsTrue b ↔ ((atom : Atom) → length atom ≡ self.old.problem.tests → IsAllowedAtom (counted_short self.old.cert.style self.old.problem) atom → IsTrue (holds_at self.old.tables test atom))) }
+        ensures grows { PassGrows self.old self.new }
+    {
+        let turn = self.turn(None)?;
+        let always = self.tables.constant(true)?;
+        let left = empty_product(&mut self.tables, test)?;
+        let right = empty_product(&mut self.tables, always)?;
+        let mut case = Case::new(self.tables.alloc(), self.tables.width())?;
+        let question = Question::of(&self.tables, &turn, None, left, right)?;
+        let failure = least_failure(&question, &mut case, None)?;
+        Ok(failure.is_none())
+    }
+
+    /// Whether the first pair is the two closed sides, each as a set of one term, under a test that is true at each
+    /// allowed atom.
+    pub(crate) fn begins(&mut self) -> Result<bool, NoMemory>
+        requires { IsPass self.old }
+        ensures begins { IfOk result (λ b. IsTrue b ↔ Begins self.old.cert.style self.old.problem self.old.cert) }
+        ensures grows { PassGrows self.old self.new }
+    {
+        let cert = self.cert;
+        let Some(pair) = cert.pairs().first() else {
+            return Ok(false);
+        };
+        if pair.left.as_slice() != [self.left].as_slice()
+            || pair.right.as_slice() != [self.right].as_slice()
+        {
+            return Ok(false);
+        }
+        match pair.test {
+            Some(test) => self.holds_throughout(test),
+            None => Ok(true),
+        }
+    }
+}
+
+// The lesser of the places that are there.
+fn least_place(first: Option<Place>, second: Option<Place>) -> Option<Place>
+    ensures { IsLeastOf first second result }
+{
+    match (first, second) {
+        (Some(first), Some(second)) => Some(first.min(second)),
+        (first, second) => first.or(second),
+    }
+}
