@@ -1,5 +1,5 @@
 //! What a token is to the grammar.
-ghost use Rattle.std.specs.Prelude.{◌≡◌, ℕ, ◌+◌, ◌<◌, length, drop, slice_get, IsTrue, IfOk, true};
+ghost use Rattle.std.specs.Prelude.{◌≡◌, ℕ, ◌+◌, ◌<◌, [], ◌∷◌, length, drop, slice_get, IsTrue, IfOk, true};
 ghost use Rattle.std.specs.List.{list_all};
 ghost use Rattle.std.specs.Char.{is_ascii_digit};
 ghost use Rattle.kat_tokens.specs.TokenParts.{parts_of_tokens};
@@ -102,34 +102,35 @@ pub enum Terminal {
     Other,
 }
 
+// A text is matched by its bytes, here and below, since a match on strings compares it with each of them in turn.
 fn symbol_terminal(text: &str) -> Terminal
     ensures { result ≡ symbol_terminal text.now }
 {
-    match text {
-        "(" => Terminal::RoundOpen,
-        ")" => Terminal::RoundClose,
-        "[" => Terminal::SquareOpen,
-        "]" => Terminal::SquareClose,
-        "!" => Terminal::Bang,
-        "*" => Terminal::Star,
-        "+" => Terminal::Plus,
-        "-" => Terminal::Minus,
-        "." => Terminal::Dot,
-        "&&" => Terminal::And,
-        "||" => Terminal::Or,
-        "==" => Terminal::Compares(Rel::Eq),
-        "!=" => Terminal::Compares(Rel::Ne),
-        "<" => Terminal::Compares(Rel::Lt),
-        "<=" => Terminal::Compares(Rel::Le),
-        ">" => Terminal::Compares(Rel::Gt),
-        ">=" => Terminal::Compares(Rel::Ge),
-        "," => Terminal::Separator(Separator::Comma),
-        ";" => Terminal::Separator(Separator::Semicolon),
-        "{" => Terminal::Separator(Separator::CurlyOpen),
-        "}" => Terminal::Separator(Separator::CurlyClose),
-        "=" => Terminal::Separator(Separator::Equals),
-        ":=" => Terminal::Separator(Separator::Becomes),
-        "^" => Terminal::Separator(Separator::Caret),
+    match text.as_bytes() {
+        b"(" => Terminal::RoundOpen,
+        b")" => Terminal::RoundClose,
+        b"[" => Terminal::SquareOpen,
+        b"]" => Terminal::SquareClose,
+        b"!" => Terminal::Bang,
+        b"*" => Terminal::Star,
+        b"+" => Terminal::Plus,
+        b"-" => Terminal::Minus,
+        b"." => Terminal::Dot,
+        b"&&" => Terminal::And,
+        b"||" => Terminal::Or,
+        b"==" => Terminal::Compares(Rel::Eq),
+        b"!=" => Terminal::Compares(Rel::Ne),
+        b"<" => Terminal::Compares(Rel::Lt),
+        b"<=" => Terminal::Compares(Rel::Le),
+        b">" => Terminal::Compares(Rel::Gt),
+        b">=" => Terminal::Compares(Rel::Ge),
+        b"," => Terminal::Separator(Separator::Comma),
+        b";" => Terminal::Separator(Separator::Semicolon),
+        b"{" => Terminal::Separator(Separator::CurlyOpen),
+        b"}" => Terminal::Separator(Separator::CurlyClose),
+        b"=" => Terminal::Separator(Separator::Equals),
+        b":=" => Terminal::Separator(Separator::Becomes),
+        b"^" => Terminal::Separator(Separator::Caret),
         _ => Terminal::Other,
     }
 }
@@ -137,27 +138,27 @@ fn symbol_terminal(text: &str) -> Terminal
 fn keyword_terminal(text: &str) -> Terminal
     ensures { result ≡ keyword_terminal text.now }
 {
-    match text {
-        "true" => Terminal::True,
-        "false" => Terminal::False,
-        "test" => Terminal::Keyword(Keyword::Test),
-        "action" => Terminal::Keyword(Keyword::Action),
-        "var" => Terminal::Keyword(Keyword::Var),
-        "prog" => Terminal::Keyword(Keyword::Prog),
-        "term" => Terminal::Keyword(Keyword::Term),
-        "hyp" => Terminal::Keyword(Keyword::Hyp),
-        "rounds" => Terminal::Keyword(Keyword::Rounds),
-        "width" => Terminal::Keyword(Keyword::Width),
-        "goal" => Terminal::Keyword(Keyword::Goal),
-        "equal" => Terminal::Keyword(Keyword::Equal),
-        "below" => Terminal::Keyword(Keyword::Below),
-        "triple" => Terminal::Keyword(Keyword::Triple),
-        "skip" => Terminal::Keyword(Keyword::Skip),
-        "abort" => Terminal::Keyword(Keyword::Abort),
-        "assert" => Terminal::Keyword(Keyword::Assert),
-        "if" => Terminal::Keyword(Keyword::If),
-        "else" => Terminal::Keyword(Keyword::Else),
-        "while" => Terminal::Keyword(Keyword::While),
+    match text.as_bytes() {
+        b"true" => Terminal::True,
+        b"false" => Terminal::False,
+        b"test" => Terminal::Keyword(Keyword::Test),
+        b"action" => Terminal::Keyword(Keyword::Action),
+        b"var" => Terminal::Keyword(Keyword::Var),
+        b"prog" => Terminal::Keyword(Keyword::Prog),
+        b"term" => Terminal::Keyword(Keyword::Term),
+        b"hyp" => Terminal::Keyword(Keyword::Hyp),
+        b"rounds" => Terminal::Keyword(Keyword::Rounds),
+        b"width" => Terminal::Keyword(Keyword::Width),
+        b"goal" => Terminal::Keyword(Keyword::Goal),
+        b"equal" => Terminal::Keyword(Keyword::Equal),
+        b"below" => Terminal::Keyword(Keyword::Below),
+        b"triple" => Terminal::Keyword(Keyword::Triple),
+        b"skip" => Terminal::Keyword(Keyword::Skip),
+        b"abort" => Terminal::Keyword(Keyword::Abort),
+        b"assert" => Terminal::Keyword(Keyword::Assert),
+        b"if" => Terminal::Keyword(Keyword::If),
+        b"else" => Terminal::Keyword(Keyword::Else),
+        b"while" => Terminal::Keyword(Keyword::While),
         _ => Terminal::Name,
     }
 }
@@ -187,18 +188,14 @@ fn small_number(text: &str) -> Option<u64>
 fn number_terminal(text: &str) -> Terminal
     ensures { result ≡ number_terminal text.now }
 {
-    if text == "0" {
-        return Terminal::Zero;
-    }
-    if text == "1" {
-        return Terminal::One;
-    }
-    if !is_digits(text) {
-        return Terminal::Other;
-    }
-    match small_number(text) {
-        Some(n) => Terminal::Number(n),
-        None => Terminal::WideNumber,
+    match text.as_bytes() {
+        b"0" => Terminal::Zero,
+        b"1" => Terminal::One,
+        _ if !is_digits(text) => Terminal::Other,
+        _ => match small_number(text) {
+            Some(n) => Terminal::Number(n),
+            None => Terminal::WideNumber,
+        },
     }
 }
 
@@ -240,16 +237,16 @@ pub fn syntax_fault_at(toks: &[Token], i: usize) -> TextFault
     TextFault::Syntax(place_at(toks, i))
 }
 
-fn is_symbol(token: &Token, symbol: &str) -> bool
-    ensures { result ≡ is_symbol symbol.now token.now.kind token.now.text.now }
+fn is_symbol(token: &Token, symbol: u8) -> bool
+    ensures { result ≡ is_symbol (symbol ∷ []) token.now.kind token.now.text.now }
 {
-    matches!(token.kind, Kind::Symbol) && token.text == symbol
+    matches!(token.kind, Kind::Symbol) && matches!(token.text.as_bytes(), [byte] if *byte == symbol)
 }
 
-// Whether the token at an index is this symbol, by one comparison: `terminal_of` may need one with each keyword, which the
-// search for a parenthesis would repeat for each level.
-fn is_symbol_at(toks: &[Token], i: usize, symbol: &str) -> bool
-    ensures { result ≡ heads_symbol symbol.now (drop i (parts_of_tokens toks.now)) }
+// Whether the token at an index is this symbol of one byte. It is told by that byte alone, since the search for a
+// parenthesis asks it of a token once for each level.
+fn is_symbol_at(toks: &[Token], i: usize, symbol: u8) -> bool
+    ensures { result ≡ heads_symbol (symbol ∷ []) (drop i (parts_of_tokens toks.now)) }
 {
     match toks.get(i) {
         None => false,
@@ -260,13 +257,13 @@ fn is_symbol_at(toks: &[Token], i: usize, symbol: &str) -> bool
 pub(crate) fn is_round_open_at(toks: &[Token], i: usize) -> bool
     ensures { result ≡ heads (is_terminal Terminal.RoundOpen) (drop i (lexemes toks.now)) }
 {
-    is_symbol_at(toks, i, "(")
+    is_symbol_at(toks, i, b'(')
 }
 
 pub(crate) fn is_round_close_at(toks: &[Token], i: usize) -> bool
     ensures { result ≡ heads (is_terminal Terminal.RoundClose) (drop i (lexemes toks.now)) }
 {
-    is_symbol_at(toks, i, ")")
+    is_symbol_at(toks, i, b')')
 }
 
 fn is_terminal(wanted: Terminal, terminal: Terminal) -> bool
