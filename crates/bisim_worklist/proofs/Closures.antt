@@ -1,18 +1,23 @@
 -- What pairs make of marks, in whatever order they are taken: once no pair adds a mark, it is what rounds make.
-use Rattle.std.proofs.Common.{◌≡◌, ℕ, zero, suc, ◌+◌, ◌<◌, ◌≤◌, ◌⊎◌, inl, inr, ⊎_elim, List, [], ◌∷◌, ◌++◌, length, get_or, set, slice_get, length-append, refl, sym, ap, ◌∙◌, subst, arith, Bool, true, false, ◌||◌, cond, Option, Some}
+use Rattle.std.proofs.Common.{◌≡◌, ℕ, zero, suc, ◌+◌, ◌<◌, ◌≤◌, ◌⊎◌, inl, inr, ⊎_elim, List, [], ◌∷◌, ◌++◌, length, get_or, set, slice_get, length-append, refl, sym, ap, ◌∙◌, subst, arith, Bool, true, false, not, ◌||◌, cond, Option, Some, None}
 use mathlib.Core.Path.{ap₂}
-use Rattle.std.proofs.lemmas.Bool.{true≢false, and_parts}
-use Rattle.std.proofs.lemmas.Option.{same_Some, slice_get_within, slice_get-get_or, get_or_from_slice_get}
+use Rattle.std.proofs.lemmas.Bool.{true≢false, and_parts, not-true}
+use Rattle.std.specs.Option.{option_map_or}
+use Rattle.std.proofs.lemmas.Option.{same_Some, slice_get_within, slice_get-get_or}
 use Rattle.std.proofs.Math.ListN.{length-set}
 use Rattle.kat_model.specs.Members.{Has}
 use Rattle.kat_model.proofs.Lists.{has_left, has_right}
 use Rattle.kat_model.proofs.Places.{has_at, place_of_member, get_or-set_cases}
-use Rattle.bisim_worklist.specs.Working.Listings.{IdEntry}
-use Rattle.bisim_worklist.specs.Working.Indices.{IndexParts, StandsUnder, AreIndexed}
-use Rattle.bisim_worklist.specs.Working.Marks.{are_marked, with_marks, with_pair_marked, round_marked, rounds_marked, are_reached, Stays, AreClosed, IsClosedAt, IsMade, MarkedParts, AreAmong, IsMore, unmarked, RuleParts}
-use Rattle.bisim_worklist.proofs.MarkSteps.{pair_stays, all_stay, reached_stays}
+use Rattle.stored_pairs.specs.declared.items.Side.{Side}
+use Rattle.stored_pairs.specs.declared.items.Side.TheVariants.{Left, Right}
+use Rattle.bisim_worklist.specs.declared.pair.Spot.{Spot}
+use Rattle.bisim_worklist.specs.Working.Listings.{IdEntry, set_on, set_across}
+use Rattle.bisim_worklist.specs.Working.Indices.{IndexParts, IsWitness, StandsUnder, AreIndexed, spot_at}
+use Rattle.bisim_worklist.specs.Working.Marks.{are_marked, with_marks, with_side_marked, with_pair_marked, round_marked, rounds_marked, are_reached, Stays, AreClosed, IsClosedAt, IsMade, MarkedParts, AreAmong, IsMore, unmarked, RuleParts}
+use Rattle.bisim_worklist.proofs.MarkSteps.{pair_stays, side_stays, all_stay, reached_stays}
 use Rattle.bisim_worklist.proofs.MarkEnds.{marked_held, held_same, all_rounds_closed}
-use Rattle.bisim_worklist.proofs.MarkedTerms.{length_with_pair}
+use Rattle.bisim_worklist.proofs.MarkedTerms.{length_with_pair, length_with_side}
+use Rattle.bisim_worklist.proofs.OutOfReach.{one_unmarked}
 
 -- ---- more marks, where there were more
 
@@ -28,21 +33,30 @@ marks_within : (ks : List ℕ) (m c : List Bool) → length m ≡ length c → S
 marks_within [] m c l s = s
 marks_within (k ∷ ks) m c l s = marks_within ks (set m k true) (set c k true) (length-set m k true ∙ l ∙ sym (length-set c k true)) (set_within m c k l s)
 
--- a pair brings nothing to a part of marks that is not in them, where it adds nothing to them
-pair_within : (m c : List Bool) (p : IdEntry) → length m ≡ length c → with_pair_marked c p ≡ c → Stays m c → Stays (with_pair_marked m p) c
-pair_within m c p l q s = go (are_marked m p.left) (are_marked m p.right) refl refl
+-- marks to which a pair adds nothing have all of each of its sets, where they have all of the other
+across_same : (c : List Bool) (p : IdEntry) → with_pair_marked c p ≡ c → (side : Side) → are_marked c (set_on side p) ≡ true → with_marks c (set_across side p) ≡ c
+across_same c p q Left e = sym (ap (λ (x : Bool). cond x (with_marks c p.right) (cond (are_marked c p.right) (with_marks c p.left) c)) e) ∙ q
+across_same c p q Right f = go (are_marked c p.left) refl
   where
-    with_right : are_marked c p.left ≡ true → with_marks c p.right ≡ c
-    with_right e = sym (ap (λ (x : Bool). cond x (with_marks c p.right) (cond (are_marked c p.right) (with_marks c p.left) c)) e) ∙ q
+    go : (x : Bool) → are_marked c p.left ≡ x → with_marks c p.left ≡ c
+    go true e = held_same p.left c (marked_held c p.left e)
+    go false e = sym (ap₂ (λ (x y : Bool). cond x (with_marks c p.right) (cond y (with_marks c p.left) c)) e f) ∙ q
 
-    with_left : are_marked c p.right ≡ true → (x : Bool) → are_marked c p.left ≡ x → with_marks c p.left ≡ c
-    with_left f true e = held_same p.left c (marked_held c p.left e)
-    with_left f false e = sym (ap₂ (λ (x y : Bool). cond x (with_marks c p.right) (cond y (with_marks c p.left) c)) e f) ∙ q
+-- a set of the pair brings nothing to a part of these marks that is not in them
+side_within : (side : Side) (m c : List Bool) (p : IdEntry) → length m ≡ length c → with_pair_marked c p ≡ c → Stays m c → Stays (with_side_marked side m p) c
+side_within side m c p l q s = go (are_marked m (set_on side p)) refl
+  where
+    go : (a : Bool) → are_marked m (set_on side p) ≡ a → Stays (cond a (with_marks m (set_across side p)) m) c
+    go true e = subst (Stays (with_marks m (set_across side p))) (across_same c p q side (all_stay m c s (set_on side p) e)) (marks_within (set_across side p) m c l s)
+    go false e = s
 
-    go : (a b : Bool) → are_marked m p.left ≡ a → are_marked m p.right ≡ b → Stays (cond a (with_marks m p.right) (cond b (with_marks m p.left) m)) c
-    go true b e f = subst (Stays (with_marks m p.right)) (with_right (all_stay m c s p.left e)) (marks_within p.right m c l s)
-    go false true e f = subst (Stays (with_marks m p.left)) (with_left (all_stay m c s p.right f) (are_marked c p.left) refl) (marks_within p.left m c l s)
-    go false false e f = s
+-- nor does the pair
+pair_within : (m c : List Bool) (p : IdEntry) → length m ≡ length c → with_pair_marked c p ≡ c → Stays m c → Stays (with_pair_marked m p) c
+pair_within m c p l q s = go (are_marked m p.left) refl
+  where
+    go : (a : Bool) → are_marked m p.left ≡ a → Stays (cond a (with_marks m p.right) (with_side_marked Right m p)) c
+    go true e = subst (Stays (with_marks m p.right)) (across_same c p q Left (all_stay m c s p.left e)) (marks_within p.right m c l s)
+    go false e = side_within Right m c p l q s
 
 -- ---- what pairs make
 
@@ -61,6 +75,13 @@ made_pair ps m p h = record {
   long = length_with_pair m p;
   keeps = pair_stays m p;
   least = λ c l q s. pair_within m c p (sym l) (q p h) s;
+}
+
+made_side : (ps : List IdEntry) (side : Side) (m : List Bool) (p : IdEntry) → Has ps p → IsMade ps m (with_side_marked side m p)
+made_side ps side m p h = record {
+  long = length_with_side side m p;
+  keeps = side_stays side m p;
+  least = λ c l q s. side_within side m c p (sym l) (q p h) s;
 }
 
 made_round : (all ps : List IdEntry) (m : List Bool) → ((p : IdEntry) → Has ps p → Has all p) → IsMade all m (round_marked ps m)
@@ -153,22 +174,30 @@ grown_among marks terms more k t among added same j e =
 pub at_read : {X : Type 0} (xs : List X) (i : ℕ) (x : X) → i < length xs → x ≡ get_or xs i x → slice_get xs i ≡ Some x
 at_read xs i x low is = slice_get-get_or xs i x low ∙ ap Some (sym is)
 
-pub made_at : (ps : List IdEntry) (k : ℕ) (p : IdEntry) (m n : List Bool) → slice_get ps k ≡ Some p → n ≡ with_pair_marked m p → IsMade ps m n
-made_at ps k p m n at is = subst (IsMade ps m) (sym is) (made_pair ps m p (has_at ps k p at))
+pub made_at : (ps : List IdEntry) (s : Spot) (p : IdEntry) (m n : List Bool) → slice_get ps s.place ≡ Some p → n ≡ with_side_marked s.side m p → IsMade ps m n
+made_at ps s p m n at is = subst (IsMade ps m) (sym is) (made_side ps s.side m p (has_at ps s.place p at))
 
-pub closed_at : (ps : List IdEntry) (k : ℕ) (p : IdEntry) (a b : MarkedParts) (y : Bool) → slice_get ps k ≡ Some p → b.marks ≡ with_pair_marked a.marks p → IsMore a b y → y ≡ false → IsClosedAt ps b.marks k
-closed_at ps k p a b y at is more f e there =
+pub closed_at : (ps : List IdEntry) (s : Spot) (p : IdEntry) (a b : MarkedParts) (y : Bool) → slice_get ps s.place ≡ Some p → b.marks ≡ with_side_marked s.side a.marks p → IsMore a b y → y ≡ false → IsClosedAt ps b.marks s
+closed_at ps s p a b y at is more f e there has =
     let same : b ≡ a = more.same f in
     let one : p ≡ e = same_Some p e (sym at ∙ there) in
-    let was : with_pair_marked a.marks p ≡ a.marks = sym is ∙ ap (λ (s : MarkedParts). s.marks) same in
-    subst (λ (s : MarkedParts). with_pair_marked s.marks e ≡ s.marks) (sym same) (subst (λ q. with_pair_marked a.marks q ≡ a.marks) one was)
+    let was : with_side_marked s.side a.marks p ≡ a.marks = sym is ∙ ap (λ (n : MarkedParts). n.marks) same in
+    subst (λ (n : MarkedParts). with_side_marked s.side n.marks e ≡ n.marks) (sym same) (subst (λ q. with_side_marked s.side a.marks q ≡ a.marks) one was)
+
+-- a set of which a member is not marked adds nothing
+pub closed_out : (ps : List IdEntry) (s : Spot) (m : List Bool) → option_map_or (λ w. not (get_or m w false)) s.witness false ≡ true → IsClosedAt ps m s
+closed_out ps s m lacks e there has = go s.witness lacks has
+  where
+    go : (o : Option ℕ) → option_map_or (λ w. not (get_or m w false)) o false ≡ true → IsWitness o (set_on s.side e) → with_side_marked s.side m e ≡ m
+    go None l h = absurd (true≢false (sym l))
+    go (Some w) l h = ap (λ (b : Bool). cond b (with_marks m (set_across s.side e)) m) (one_unmarked m (set_on s.side e) w h (not-true (get_or m w false) l))
 
 -- ---- the pairs of an index
 
--- a pair that stands under no marked term has no marked side, and adds nothing; the other pairs were taken
+-- a set that stands under no marked term is not marked, and adds nothing; the other sets were taken
 index_closed : (x : IndexParts) (ps : List IdEntry) (m : List Bool) (ids : List ℕ) → AreIndexed x ps → AreAmong m ids
-    → ((k : ℕ) → Has x.apart k → IsClosedAt ps m k)
-    → ((t k : ℕ) → Has ids t → Has (get_or x.under t []) k → IsClosedAt ps m k)
+    → ((s : Spot) → Has x.apart s → IsClosedAt ps m s)
+    → ((t : ℕ) (s : Spot) → Has ids t → Has (get_or x.under t []) s → IsClosedAt ps m s)
     → AreClosed ps m
 index_closed x ps m ids indexed among apart under p h = go (are_marked m p.left) (are_marked m p.right) refl refl
   where
@@ -181,16 +210,17 @@ index_closed x ps m ids indexed among apart under p h = go (are_marked m p.left)
         let parts = and_parts (get_or m k false) (are_marked m ks) e in
         ⊎_elim (λ s. subst (λ j. get_or m j false ≡ true) s parts.0) (λ r. one_marked ks t r parts.1) h
 
-    taken : (ks : List ℕ) → StandsUnder x ks place.0 → are_marked m ks ≡ true → with_pair_marked m p ≡ m
-    taken ks stands e =
-        ⊎_elim
-        (λ none. apart place.0 none.1 p place.1)
-        (λ some. under some.0 place.0 (among some.0 (one_marked ks some.0 some.1 e)) some.2 p place.1)
+    taken : (side : Side) → StandsUnder x (set_on side p) place.0 side → are_marked m (set_on side p) ≡ true → with_marks m (set_across side p) ≡ m
+    taken side stands e =
+        sym (ap (λ (b : Bool). cond b (with_marks m (set_across side p)) m) e)
+        ∙ ⊎_elim
+        (λ none. apart (spot_at place.0 side None) none.1 p place.1 tt)
+        (λ some. under some.0 (spot_at place.0 side (Some some.1)) (among some.0 (one_marked (set_on side p) some.0 some.2 e)) some.4 p place.1 some.3)
         stands
 
     go : (b c : Bool) → are_marked m p.left ≡ b → are_marked m p.right ≡ c → with_pair_marked m p ≡ m
-    go true c e f = taken p.left (indexed place.0 p place.1).0 e
-    go false true e f = taken p.right (indexed place.0 p place.1).1 f
+    go true c e f = ap (λ (b : Bool). cond b (with_marks m p.right) (cond (are_marked m p.right) (with_marks m p.left) m)) e ∙ taken Left (indexed place.0 p place.1).0 e
+    go false true e f = ap₂ (λ (b c : Bool). cond b (with_marks m p.right) (cond c (with_marks m p.left) m)) e f ∙ taken Right (indexed place.0 p place.1).1 f
     go false false e f = ap₂ (λ (b c : Bool). cond b (with_marks m p.right) (cond c (with_marks m p.left) m)) e f
 
 -- ---- pairs taken one after the other
@@ -213,16 +243,16 @@ all_next P a b i false false z e more before now f j h =
     (below_next j i h)
 
 -- what holds at each place holds of each member
-pub all_members : (P : ℕ → Type 0) (ks : List ℕ) (n : ℕ) → length ks ≤ n → ((j : ℕ) → j < n → P (get_or ks j 0)) → (k : ℕ) → Has ks k → P k
-all_members P ks n long each k h =
-    let at = place_of_member ks k h in
-    let within : at.0 < length ks = slice_get_within ks at.0 k at.1 in
-    subst P (get_or_from_slice_get ks at.0 k 0 at.1) (each at.0 (omega (arith, within, long)))
+pub all_members : {X : Type 0} (P : X → Type 0) (xs : List X) (n : ℕ) → length xs ≤ n → ((j : ℕ) → j < n → (x : X) → slice_get xs j ≡ Some x → P x) → (x : X) → Has xs x → P x
+all_members P xs n long each x h =
+    let at = place_of_member xs x h in
+    let within : at.0 < length xs = slice_get_within xs at.0 x at.1 in
+    each at.0 (omega (arith, within, long)) x at.1
 
 -- where neither the pairs with an empty set nor those under the marked terms bring a term, no pair does
 pub round_closed : (r : RuleParts) (b c : MarkedParts) (x y z : Bool) → z ≡ (x || y) → IsMore b c y → AreIndexed r.index r.pairs → AreAmong b.marks b.terms
-    → (x ≡ false → (k : ℕ) → Has r.index.apart k → IsClosedAt r.pairs b.marks k)
-    → (y ≡ false → (i : ℕ) → i < length b.terms → (t : ℕ) → slice_get b.terms i ≡ Some t → (k : ℕ) → Has (get_or r.index.under t []) k → IsClosedAt r.pairs c.marks k)
+    → (x ≡ false → (s : Spot) → Has r.index.apart s → IsClosedAt r.pairs b.marks s)
+    → (y ≡ false → (i : ℕ) → i < length b.terms → (t : ℕ) → slice_get b.terms i ≡ Some t → (s : Spot) → Has (get_or r.index.under t []) s → IsClosedAt r.pairs c.marks s)
     → z ≡ false → AreClosed r.pairs c.marks
 round_closed r b c true y z e more indexed among first second f = absurd (true≢false (sym e ∙ f))
 round_closed r b c false true z e more indexed among first second f = absurd (true≢false (sym e ∙ f))
@@ -231,3 +261,8 @@ round_closed r b c false false z e more indexed among first second f =
     (index_closed r.index r.pairs b.marks b.terms indexed among (first refl) (λ t k h u.
     let at = place_of_member b.terms t h in
     subst (λ (s : MarkedParts). IsClosedAt r.pairs s.marks k) (more.same refl) (second refl at.0 (slice_get_within b.terms at.0 t at.1) t at.1 k u)))
+
+-- where the last one brought a term, and all is reached, no more are taken
+pub grew_last : (x y z : Bool) → z ≡ (x || y) → y ≡ true → z ≡ false → ⊥
+grew_last true y z e f g = true≢false (sym e ∙ g)
+grew_last false y z e f g = true≢false (sym f ∙ sym e ∙ g)

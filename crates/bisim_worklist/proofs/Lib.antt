@@ -23,6 +23,7 @@ pub mod FixedItems
 pub mod DecidedCases
 pub mod MarkedTerms
 pub mod Closures
+pub mod Unmarking
 pub mod IndexLists
 pub mod CoveredItems
 pub mod CaseItems

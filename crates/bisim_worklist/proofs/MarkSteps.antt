@@ -2,8 +2,9 @@
 use Rattle.std.proofs.Common.{◌≡◌, ℕ, zero, suc, ⊎_elim, List, [], ◌∷◌, get_or, set, refl, ap, ◌∙◌, Bool, true, false, cond, Option, Some, None}
 use Rattle.std.proofs.lemmas.Bool.{and_parts, and_from, or_cases, or_left, or_right}
 use Rattle.kat_model.proofs.Places.{get_or-set_kept}
-use Rattle.bisim_worklist.specs.Working.Listings.{IdEntry}
-use Rattle.bisim_worklist.specs.Working.Marks.{are_marked, with_marks, with_pair_marked, round_marked, rounds_marked, are_reached, Stays}
+use Rattle.stored_pairs.specs.declared.items.Side.{Side}
+use Rattle.bisim_worklist.specs.Working.Listings.{IdEntry, set_on, set_across}
+use Rattle.bisim_worklist.specs.Working.Marks.{are_marked, with_marks, with_side_marked, with_pair_marked, round_marked, rounds_marked, are_reached, Stays}
 
 -- after a round that changes nothing no other does
 pub rounds_stay : (n : ℕ) (ps : List IdEntry) (marks : List Bool) → round_marked ps marks ≡ marks → rounds_marked n ps marks ≡ marks
@@ -15,6 +16,13 @@ rounds_stay (suc n) ps marks e = ap (rounds_marked n ps) e ∙ rounds_stay n ps 
 marks_stay : (marks : List Bool) (ids : List ℕ) → Stays marks (with_marks marks ids)
 marks_stay marks [] j e = e
 marks_stay marks (i ∷ ids) j e = marks_stay (set marks i true) ids j (get_or-set_kept marks i j true false e)
+
+pub side_stays : (side : Side) (marks : List Bool) (p : IdEntry) → Stays marks (with_side_marked side marks p)
+side_stays side marks p = go (are_marked marks (set_on side p))
+  where
+    go : (b : Bool) → Stays marks (cond b (with_marks marks (set_across side p)) marks)
+    go true = marks_stay marks (set_across side p)
+    go false = λ j e. e
 
 pub pair_stays : (marks : List Bool) (p : IdEntry) → Stays marks (with_pair_marked marks p)
 pair_stays marks p = go (are_marked marks p.left) (are_marked marks p.right)

@@ -15,8 +15,9 @@ use Rattle.term_nodes.specs.NodeTrees.{tree_at}
 use Rattle.term_nodes.proofs.TermTrees.{one_id_a_tree}
 use Rattle.bisim_worklist.specs.Walks.{Entry, pairs_of}
 use Rattle.term_nodes.specs.NumberSets.{terms_of}
-use Rattle.bisim_worklist.specs.Working.Listings.{IdEntry, pair_of, entry_of, entries_of}
-use Rattle.bisim_worklist.specs.Working.Marks.{are_marked, with_marks, with_pair_marked, round_marked, rounds_marked, saturated_marks}
+use Rattle.stored_pairs.specs.declared.items.Side.{Side}
+use Rattle.bisim_worklist.specs.Working.Listings.{IdEntry, set_on, set_across, pair_of, entry_of, entries_of}
+use Rattle.bisim_worklist.specs.Working.Marks.{are_marked, with_marks, with_side_marked, with_pair_marked, round_marked, rounds_marked, saturated_marks}
 
 -- the numbers are ids of terms, as are those of both sides of each pair
 abbrev pub AreIds : NodeParts → List ℕ → Type 0
@@ -34,6 +35,13 @@ MarksAre store marks es = (e : Term) → ((k : ℕ) × (slice_get marks k ≡ So
 pub length_with_marks : (marks : List Bool) (ks : List ℕ) → length (with_marks marks ks) ≡ length marks
 length_with_marks marks [] = refl
 length_with_marks marks (k ∷ ks) = length_with_marks (set marks k true) ks ∙ length-set marks k true
+
+pub length_with_side : (side : Side) (marks : List Bool) (p : IdEntry) → length (with_side_marked side marks p) ≡ length marks
+length_with_side side marks p = go (are_marked marks (set_on side p))
+  where
+    go : (b : Bool) → length (cond b (with_marks marks (set_across side p)) marks) ≡ length marks
+    go true = length_with_marks marks (set_across side p)
+    go false = refl
 
 pub length_with_pair : (marks : List Bool) (p : IdEntry) → length (with_pair_marked marks p) ≡ length marks
 length_with_pair marks p = go (are_marked marks p.left) (are_marked marks p.right)

@@ -1,25 +1,22 @@
--- The members of listed pairs stay among the keys as more are added.
-use Rattle.std.proofs.Common.{inl, inr, ⊎_elim, ℕ, List, [], ◌∷◌, ◌++◌, subst}
-use Rattle.kat_model.specs.Members.{Has, IsSubset}
+-- The members of listed pairs stay marked as more are marked.
+use Rattle.std.proofs.Common.{⊎_elim, List, [], ◌∷◌, ◌++◌, subst, Bool}
+use Rattle.kat_model.specs.Members.{Has}
 use Rattle.kat_model.proofs.Lists.{has_append}
-use Rattle.stored_pairs.specs.Needed.{AddsAll}
 use Rattle.bisim_worklist.specs.Working.Listings.{IdEntry}
+use Rattle.bisim_worklist.specs.Working.Marks.{AllMarked, Stays}
 
--- sets of pairs within some keys stay within more
-abbrev pub AreWithin : List IdEntry → List ℕ → Type 0
-AreWithin es ks = (e : IdEntry) → Has es e → IsSubset e.left ks × IsSubset e.right ks
+-- the marks have all members of the pairs
+abbrev pub AreWithin : List IdEntry → List Bool → Type 0
+AreWithin es marks = (e : IdEntry) → Has es e → AllMarked marks e.left × AllMarked marks e.right
 
-pub within_more : (es : List IdEntry) (ks more : List ℕ) → AreWithin es ks → IsSubset ks more → AreWithin es more
-within_more es ks more w s e h = ((λ x k. s x ((w e h).0 x k)), (λ x k. s x ((w e h).1 x k)))
+pub within_more : (es : List IdEntry) (marks more : List Bool) → AreWithin es marks → Stays marks more → AreWithin es more
+within_more es marks more w s e h = ((λ k m. s k ((w e h).0 k m)), (λ k m. s k ((w e h).1 k m)))
 
-pub within_one : (es : List IdEntry) (p : IdEntry) (ks more most : List ℕ) → AreWithin es ks → IsSubset ks more → AddsAll ks more p.left → AddsAll more most p.right → AreWithin (es ++ p ∷ []) most
-within_one es p ks more most w s left right e h =
+pub within_one : (es : List IdEntry) (p : IdEntry) (marks more most : List Bool) → AreWithin es marks → Stays marks more → Stays more most → AllMarked more p.left → AllMarked most p.right → AreWithin (es ++ p ∷ []) most
+within_one es p marks more most w first second left right e h =
     ⊎_elim
-    (λ old. (
-      (λ x k. (right x).1 (inl (s x ((w e old).0 x k)))),
-      (λ x k. (right x).1 (inl (s x ((w e old).1 x k)))),
-    ))
+    (within_more es more most (within_more es marks more w first) second e)
     (λ new. ⊎_elim
-    (λ is. subst (λ q. IsSubset q.left most × IsSubset q.right most) is ((λ x k. (right x).1 (inl ((left x).1 (inr k)))), (λ x k. (right x).1 (inr k))))
+    (λ is. subst (λ q. AllMarked most q.left × AllMarked most q.right) is ((λ k m. second k (left k m)), right))
     absurd new)
     (has_append es (p ∷ []) e h)

@@ -11,6 +11,7 @@ ghost use Rattle.stored_pairs.specs.declared.items.Side.TheVariants.{Left as OnL
 use crate::cases::{Case, case_with, is_lighter, least_atom};
 use crate::cover::{is_covered, sure_targets};
 use crate::halt::Halt;
+use crate::marked::Marked;
 use crate::pair::{Listed, Origin};
 use crate::rules::Rules;
 use crate::splitting::next_test;
@@ -47,6 +48,7 @@ fn census_of(ends: &Ends, items: &[Item]) -> Census {
 // Lists the pair of a case in which no guard depends on a test.
 fn list_case(
     alloc: Global,
+    marked: &Marked,
     rules: &mut Rules,
     ends: &Ends,
     stride: &Stride,
@@ -71,6 +73,7 @@ fn list_case(
     };
     rules.list(
         alloc,
+        marked.uses(),
         Listed {
             left: Items::of(left),
             right: Items::of(right),
@@ -82,6 +85,7 @@ fn list_case(
 // Lists the pair of a case in which no guard depends on a test, unless it is congruent.
 fn visit_leaf(
     alloc: Global,
+    marked: &mut Marked,
     rules: &mut Rules,
     diagrams: &Diagrams,
     stride: &Stride,
@@ -94,13 +98,13 @@ fn visit_leaf(
     ensures limit { rules.new.limit ≡ rules.old.limit }
 {
     let ends = ends_of(diagrams);
-    if is_covered(alloc, rules, &ends, &case.items)? {
+    if is_covered(alloc, marked, rules, &ends, &case.items)? {
         return Ok(());
     }
     if rules.is_full() {
         return Err(Halt::PairLimit);
     }
-    list_case(alloc, rules, &ends, stride, case)?;
+    list_case(alloc, marked, rules, &ends, stride, case)?;
     Ok(())
 }
 
@@ -108,6 +112,7 @@ fn visit_leaf(
 // comes after it.
 fn visit(
     alloc: Global,
+    marked: &mut Marked,
     rules: &mut Rules,
     diagrams: &mut Diagrams,
     stride: &Stride,
@@ -121,23 +126,23 @@ fn visit(
     ensures kept { KeepsFunctions diagrams.old diagrams.new }
 {
     let Some(test) = next_test(rules.universal(), diagrams, &case.items) else {
-        return visit_leaf(alloc, rules, diagrams, stride, case);
+        return visit_leaf(alloc, marked, rules, diagrams, stride, case);
     };
     let ends = ends_of(diagrams);
     let census = census_of(&ends, &case.items);
     if before != Some(census) {
-        if is_covered(alloc, rules, &ends, &case.items)? {
+        if is_covered(alloc, marked, rules, &ends, &case.items)? {
             return Ok(());
         }
     }
     let low = case_with(alloc, diagrams, &ends, case, test, false)?;
     let high = case_with(alloc, diagrams, &ends, case, test, true)?;
     if is_lighter(&ends, &low, &high) {
-        visit(alloc, rules, diagrams, stride, &high, Some(census))?;
-        return visit(alloc, rules, diagrams, stride, &low, Some(census));
+        visit(alloc, marked, rules, diagrams, stride, &high, Some(census))?;
+        return visit(alloc, marked, rules, diagrams, stride, &low, Some(census));
     }
-    visit(alloc, rules, diagrams, stride, &low, Some(census))?;
-    visit(alloc, rules, diagrams, stride, &high, Some(census))
+    visit(alloc, marked, rules, diagrams, stride, &low, Some(census))?;
+    visit(alloc, marked, rules, diagrams, stride, &high, Some(census))
 }
 
 /// Lists pairs until at each atom the sets that the stride leads to are congruent under the listed pairs. Each pair
@@ -145,6 +150,7 @@ fn visit(
 /// than may be listed.
 pub(crate) fn visit_all(
     alloc: Global,
+    marked: &mut Marked,
     rules: &mut Rules,
     diagrams: &mut Diagrams,
     stride: &Stride,
@@ -158,5 +164,5 @@ pub(crate) fn visit_all(
 {
     let decided = vec![in alloc; None; diagrams.tests()]?;
     let case = Case { decided, items };
-    visit(alloc, rules, diagrams, stride, &case, None)
+    visit(alloc, marked, rules, diagrams, stride, &case, None)
 }

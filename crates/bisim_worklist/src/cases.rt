@@ -52,6 +52,11 @@ fn right_fixed(
     diagrams.fix(item.right, test, value)
 }
 
+// For how many items there is to be room at once. So few that they need no second step take none before the first.
+fn room_for(count: usize) -> usize {
+    if count <= 4 { 0 } else { count }
+}
+
 // The items with the test set to the value. Those that are never reached then are left out.
 fn items_with(
     alloc: Global,
@@ -67,7 +72,7 @@ fn items_with(
     ensures items { IfOk result (λ v. AreItemsWith diagrams.old diagrams.new items.now test value v.items) }
     ensures kept { KeepsFunctions diagrams.old diagrams.new }
 {
-    let mut list = Vec::new(alloc);
+    let mut list = Vec::with_capacity(alloc, room_for(items.len()))?;
     for item in items {
         let left = diagrams.fix(item.left, test, value)?;
         let right = right_fixed(diagrams, item, left, test, value)?;
@@ -123,19 +128,31 @@ struct Weight {
     possible: usize,
 }
 
-// How many guards have the id.
-fn count_of(items: &[Item], guard: DiagramId) -> usize {
-    let left = items.iter().filter(|item| item.left == guard).count();
-    let right = items.iter().filter(|item| item.right == guard).count();
-    left.saturating_add(right)
+impl Weight {
+    // With a target of this guard.
+    fn with_guard(self, ends: &Ends, guard: DiagramId) -> Weight {
+        if guard == ends.never {
+            return self;
+        }
+        let sure = if guard == ends.always { 1 } else { 0 };
+        Weight {
+            sure: self.sure.saturating_add(sure),
+            possible: self.possible.saturating_add(1),
+        }
+    }
 }
 
 fn weight_of(ends: &Ends, items: &[Item]) -> Weight {
-    let guards = items.len().saturating_add(items.len());
-    Weight {
-        sure: count_of(items, ends.always),
-        possible: guards.saturating_sub(count_of(items, ends.never)),
+    let mut weight = Weight {
+        sure: 0,
+        possible: 0,
+    };
+    for item in items {
+        weight = weight
+            .with_guard(ends, item.left)
+            .with_guard(ends, item.right);
     }
+    weight
 }
 
 /// Whether the second case has smaller sets, so that it is to come first: its pairs make those of larger sets

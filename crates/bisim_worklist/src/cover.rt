@@ -1,8 +1,10 @@
 //! Whether the sets that a step leads to are congruent, as far as the tests that are decided tell.
-ghost use Rattle.std.specs.Prelude.{◌≡◌, ◌&&◌, IfOk};
+ghost use Rattle.std.specs.Prelude.{◌≡◌, ◌&&◌, IfOk, OnOk};
 ghost use Rattle.stored_pairs.specs.Items.{targets_under, is_open as is_open', open_targets as open_targets'};
 ghost use Rattle.bisim_worklist.specs.Working.Covers.{covers_on, covers};
+ghost use Rattle.bisim_worklist.specs.Working.Marks.{with_marks};
 
+use crate::marked::Marked;
 use crate::rules::Rules;
 use crate::saturation::reaches;
 use kat_model::NoMemory;
@@ -19,7 +21,7 @@ pub(crate) fn sure_targets(
 ) -> Result<Vec<TermId>, NoMemory>
     ensures { IfOk result (λ v. v.items ≡ targets_under ends.now.always side items.now) }
 {
-    let mut targets = Vec::new(alloc);
+    let mut targets = Vec::with_capacity(alloc, items.len())?;
     for item in items {
         if guard_on(item, side) == ends.always {
             targets.push(item.target)?;
@@ -55,9 +57,22 @@ fn open_targets(
     Ok(targets)
 }
 
+// Marks the targets that surely are in the side's set.
+fn mark_sure(marked: &mut Marked, ends: &Ends, items: &[Item], side: Side) -> Result<(), NoMemory>
+    ensures { OnOk result (marked.new.marks ≡ with_marks marked.old.marks (targets_under ends.now.always side items.now)) }
+{
+    for item in items {
+        if guard_on(item, side) == ends.always {
+            marked.mark(item.target)?;
+        }
+    }
+    Ok(())
+}
+
 // Whether what may be in the side's set alone is brought to the other by what surely is there.
 fn is_covered_on(
     alloc: Global,
+    marked: &mut Marked,
     rules: &Rules,
     ends: &Ends,
     items: &[Item],
@@ -70,8 +85,10 @@ fn is_covered_on(
     if open.is_empty() {
         return Ok(true);
     }
-    let sure = sure_targets(alloc, ends, items, other)?;
-    reaches(alloc, rules, &sure, &open)
+    marked.reset(rules.count())?;
+    mark_sure(marked, ends, items, other)?;
+    marked.count_uses()?;
+    reaches(marked, rules, &open)
 }
 
 /// Whether the sets are congruent at each atom with the decided tests: what may be in one set alone is brought to
@@ -79,14 +96,15 @@ fn is_covered_on(
 /// are congruent.
 pub(crate) fn is_covered(
     alloc: Global,
+    marked: &mut Marked,
     rules: &Rules,
     ends: &Ends,
     items: &[Item],
 ) -> Result<bool, NoMemory>
     ensures { IfOk result (λ b. b ≡ covers rules.now ends.now items.now) }
 {
-    if !is_covered_on(alloc, rules, ends, items, Side::Left, Side::Right)? {
+    if !is_covered_on(alloc, marked, rules, ends, items, Side::Left, Side::Right)? {
         return Ok(false);
     }
-    is_covered_on(alloc, rules, ends, items, Side::Right, Side::Left)
+    is_covered_on(alloc, marked, rules, ends, items, Side::Right, Side::Left)
 }

@@ -1,25 +1,29 @@
-//! An index of listed pairs: each stands under one member of each of its sets, so that the pairs of which a side lies in
-//! a set of terms stand under those terms.
+//! An index of listed pairs: each of their sets stands under one of its members, so that the sets that lie in a set of
+//! terms stand under those terms.
 ghost use Rattle.std.specs.Prelude.{◌≡◌, ◌⊎◌, ◌<◌, ◌∷◌, [], ℕ, length, slice_index_or, MatchOption, OnOk};
 ghost use Rattle.kat_model.specs.Members.{Has};
-ghost use Rattle.bisim_worklist.specs.Working.Indices.{StandsUnder, KeepsPlaces, KeepsLists};
+ghost use Rattle.bisim_worklist.specs.declared.pair.Spot.{Spot as Spot'};
+ghost use Rattle.stored_pairs.specs.declared.items.Side.TheVariants.{Left as OnLeft, Right as OnRight};
+ghost use Rattle.bisim_worklist.specs.Working.Indices.{StandsUnder, KeepsPlaces, KeepsLists, spot_at};
 
-use crate::pair::Listed;
+use crate::pair::{Listed, Spot};
 use kat_model::NoMemory;
 use std::alloc::Global;
 use std::marker::Model;
+use stored_pairs::Side;
 use term_store::TermId;
 
-/// Places of listed pairs.
+/// Sets of listed pairs.
 #[derive(Drop)]
 pub(crate) struct Places {
-    places: Vec<usize>,
+    places: Vec<Spot>,
 }
 
 impl Model for Places {
-    ghost use Rattle.std.specs.Prelude.{List, ℕ};
+    ghost use Rattle.std.specs.Prelude.{List};
+    ghost use Rattle.bisim_worklist.specs.declared.pair.Spot.{Spot as SpotParts};
 
-    ghost Value = { List ℕ };
+    ghost Value = { List SpotParts };
 
     ghost view = { λ p. p.places.items };
 }
@@ -33,23 +37,27 @@ impl Places {
         }
     }
 
-    fn add(&mut self, place: usize) -> Result<(), NoMemory>
-        ensures added { OnOk result (Has self.new place) }
-        ensures kept { (k : ℕ) → Has self.old k → Has self.new k }
+    fn add(&mut self, place: usize, side: Side, witness: Option<TermId>) -> Result<(), NoMemory>
+        ensures added { OnOk result (Has self.new (spot_at place side witness)) }
+        ensures kept { (s : Spot') → Has self.old s → Has self.new s }
     {
-        self.places.push(place)?;
+        self.places.push(Spot {
+            place,
+            side,
+            witness,
+        })?;
         Ok(())
     }
 
-    /// The places.
-    pub(crate) fn as_slice(&self) -> &[usize]
+    /// The sets.
+    pub(crate) fn as_slice(&self) -> &[Spot]
         ensures { result.now ≡ self.now }
     {
         &self.places
     }
 }
 
-/// For each term the places of pairs that stand under it, and apart those of pairs with an empty set.
+/// For each term the sets that stand under it, and apart the empty ones.
 #[derive(Drop)]
 pub(crate) struct PairIndex {
     apart: Places,
@@ -75,14 +83,19 @@ fn widen(alloc: Global, lists: &mut Vec<Places>, number: usize) -> Result<(), No
     Ok(())
 }
 
-// Adds the place to the list under this number.
-fn add_under(lists: &mut [Places], number: usize, place: usize) -> Result<(), NoMemory>
+// Adds the set to the list under this number.
+fn add_under(lists: &mut [Places], number: usize, spot: Spot) -> Result<(), NoMemory>
     requires { number < length lists.old }
-    ensures added { OnOk result (Has (slice_index_or lists.new number []) place) }
+    ensures added { OnOk result (Has (slice_index_or lists.new number []) spot) }
     ensures kept { KeepsLists lists.old lists.new }
 {
     let list = &mut lists[number];
-    list.add(place)
+    list.add(spot.place, spot.side, spot.witness)
+}
+
+// In how many questions the term was asked.
+fn uses_of(uses: &[usize], term: TermId) -> usize {
+    uses.get(term.number()).copied().unwrap_or(0)
 }
 
 impl PairIndex {
@@ -96,21 +109,21 @@ impl PairIndex {
         }
     }
 
-    /// The places of pairs with an empty set.
+    /// The empty sets.
     pub(crate) fn apart(&self) -> &Places
         ensures { result.now ≡ self.now.apart }
     {
         &self.apart
     }
 
-    /// The places of the pairs that stand under the term, if it has a list.
+    /// The sets that stand under the term, if it has a list.
     pub(crate) fn under(&self, term: TermId) -> Option<&Places>
         ensures { MatchOption result (slice_index_or self.now.under term [] ≡ []) (λ p. p.now ≡ slice_index_or self.now.under term []) }
     {
         self.under.get(term.number())
     }
 
-    /// How many pairs stand under the term. Only a matter of speed.
+    /// How many sets stand under the term. Only a matter of speed.
     pub(crate) fn load(&self, term: TermId) -> usize {
         match self.under(term) {
             Some(places) => places.as_slice().len(),
@@ -118,46 +131,89 @@ impl PairIndex {
         }
     }
 
-    // The member of the set under which the fewest pairs stand, so that few are looked at.
-    fn lightest(&self, set: &[TermId]) -> Option<TermId>
+    // Whether the term was asked in fewer questions than the other, or in as many, and fewer sets stand under it.
+    fn is_lighter(&self, uses: &[usize], term: TermId, other: TermId) -> bool {
+        let own = uses_of(uses, term);
+        let others = uses_of(uses, other);
+        own < others || (own == others && self.load(term) < self.load(other))
+    }
+
+    // The member of the set that is asked in the fewest questions, so that few look at the set.
+    fn lightest(&self, uses: &[usize], set: &[TermId]) -> Option<TermId>
         ensures { MatchOption result (set.now ≡ []) (Has set.now) }
     {
         let mut lightest = *set.last()?;
         for term in set {
-            if self.load(*term) < self.load(lightest) {
+            if self.is_lighter(uses, *term, lightest) {
                 lightest = *term;
             }
         }
         Some(lightest)
     }
 
-    // Adds the place under a member of the set.
+    // Whether the term is not this one, and the witness is, or is asked in more questions than the term.
+    fn is_better(&self, uses: &[usize], term: TermId, own: TermId, witness: TermId) -> bool {
+        term != own && (witness == own || self.is_lighter(uses, term, witness))
+    }
+
+    // Of the other members of the set the one that is asked in the fewest questions, or this one where it has no other.
+    fn witness(&self, uses: &[usize], set: &[TermId], own: TermId) -> TermId
+        requires { Has set.now own }
+        ensures { Has set.now result }
+    {
+        let mut witness = own;
+        for term in set {
+            if self.is_better(uses, *term, own, witness) {
+                witness = *term;
+            }
+        }
+        witness
+    }
+
+    // Adds the set of the pair at the place under one of its members.
     fn add_under_member(
         &mut self,
         alloc: Global,
+        uses: &[usize],
         set: &[TermId],
         place: usize,
+        side: Side,
     ) -> Result<(), NoMemory>
-        ensures added { OnOk result (StandsUnder self.new set.now place) }
+        ensures added { OnOk result (StandsUnder self.new set.now place side) }
         ensures kept { KeepsPlaces self.old self.new }
     {
-        match self.lightest(set) {
-            Some(term) => {
-                let number = term.number();
-                widen(alloc, &mut self.under, number)?;
-                add_under(&mut self.under, number, place)
-            }
-            None => self.apart.add(place),
-        }
+        let Some(term) = self.lightest(uses, set) else {
+            return self.apart.add(place, side, None);
+        };
+        let other = self.witness(uses, set, term);
+        let witness = Some(other);
+        let number = term.number();
+        widen(alloc, &mut self.under, number)?;
+        add_under(
+            &mut self.under,
+            number,
+            Spot {
+                place,
+                side,
+                witness,
+            },
+        )
     }
 
-    /// Adds the place of the pair.
-    pub(crate) fn add(&mut self, alloc: Global, pair: &Listed, place: usize) -> Result<(), NoMemory>
-        ensures left { OnOk result (StandsUnder self.new pair.now.left place) }
-        ensures right { OnOk result (StandsUnder self.new pair.now.right place) }
+    /// Adds the sets of the pair at the place. The counts tell in how many questions each term was asked, and are only a
+    /// matter of speed.
+    pub(crate) fn add(
+        &mut self,
+        alloc: Global,
+        uses: &[usize],
+        pair: &Listed,
+        place: usize,
+    ) -> Result<(), NoMemory>
+        ensures left { OnOk result (StandsUnder self.new pair.now.left place OnLeft) }
+        ensures right { OnOk result (StandsUnder self.new pair.now.right place OnRight) }
         ensures kept { KeepsPlaces self.old self.new }
     {
-        self.add_under_member(alloc, pair.left.as_slice(), place)?;
-        self.add_under_member(alloc, pair.right.as_slice(), place)
+        self.add_under_member(alloc, uses, pair.left.as_slice(), place, Side::Left)?;
+        self.add_under_member(alloc, uses, pair.right.as_slice(), place, Side::Right)
     }
 }

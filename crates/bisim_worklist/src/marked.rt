@@ -1,18 +1,21 @@
-//! A set of terms: a mark for each id of a store, and the marked terms in the order in which they were marked.
-ghost use Rattle.std.specs.Prelude.{◌≡◌, ◌||◌, [], false, true, replicate, slice_index_or, slice_set, IfOk, OnOk};
-ghost use Rattle.bisim_worklist.specs.Working.Marks.{are_marked, with_marks, with_pair_marked, AreAmong, IsMore};
+//! A set of terms: a mark for each id of a store, and the marked terms in the order in which they were marked. One set
+//! serves all questions, one after the other: to make the marks anew, one for each id, would cost more than most answers.
+ghost use Rattle.std.specs.Prelude.{◌≡◌, ◌||◌, [], ℕ, false, true, length, replicate, slice_index_or, slice_set, IfOk, OnOk};
+ghost use Rattle.bisim_worklist.specs.Working.Marks.{are_marked, with_marks, without_marks, with_side_marked, AreAmong, IsMore};
 
 use crate::pair::Listed;
 use kat_model::NoMemory;
 use std::alloc::Global;
 use std::marker::Model;
+use stored_pairs::Side;
 use term_store::TermId;
 
-/// The marks, and the marked terms.
+/// The marks, the marked terms, and of each id how many questions its term was asked in, as far as it was counted.
 #[derive(Drop)]
 pub(crate) struct Marked {
     marks: Vec<bool>,
     terms: Vec<TermId>,
+    uses: Vec<usize>,
 }
 
 impl Model for Marked {
@@ -25,15 +28,89 @@ impl Model for Marked {
     ghost invariant = { λ m. AreAmong m.marks.items m.terms.items };
 }
 
+// Takes the mark off the term.
+fn unmark(marks: &mut [bool], term: TermId)
+    ensures { marks.new ≡ slice_set marks.old term false }
+{
+    let number = term.number();
+    if number < marks.len() {
+        marks[number] = false;
+    }
+}
+
+// Takes the marks off the terms.
+fn unmark_all(marks: &mut [bool], terms: &[TermId])
+    ensures { marks.new ≡ without_marks marks.old terms.now }
+{
+    for term in terms {
+        unmark(marks, *term);
+    }
+}
+
+// Makes the marks so many. A term that is marked then was so before.
+fn set_count(marks: &mut Vec<bool>, count: usize) -> Result<(), NoMemory>
+    ensures count { OnOk result (length marks.new.items ≡ count) }
+    ensures marks { (j : ℕ) → slice_index_or marks.new.items j false ≡ true → slice_index_or marks.old.items j false ≡ true }
+{
+    marks.truncate(count);
+    while marks.len() < count {
+        marks.push(false)?;
+    }
+    Ok(())
+}
+
+// Makes room for at least so many counts.
+fn widen_counts(counts: &mut Vec<usize>, count: usize) -> Result<(), NoMemory> {
+    while counts.len() < count {
+        counts.push(0)?;
+    }
+    Ok(())
+}
+
+// Counts each of the terms once more.
+fn count_all(counts: &mut [usize], terms: &[TermId]) {
+    for term in terms {
+        let number = term.number();
+        if number < counts.len() {
+            counts[number] = counts[number].saturating_add(1);
+        }
+    }
+}
+
 impl Marked {
-    /// No terms, of so many ids.
-    pub(crate) fn new(alloc: Global, count: usize) -> Result<Marked, NoMemory>
-        ensures { IfOk result (λ m. m ≡ record { marks = replicate count false; terms = [] }) }
+    /// No terms, of no ids. It takes no memory.
+    pub(crate) fn new(alloc: Global) -> Marked
+        ensures { result ≡ record { marks = []; terms = [] } }
     {
-        Ok(Marked {
-            marks: vec![in alloc; false; count]?,
+        Marked {
+            marks: Vec::new(alloc),
             terms: Vec::new(alloc),
-        })
+            uses: Vec::new(alloc),
+        }
+    }
+
+    /// Takes off all marks, and makes room for those of so many ids.
+    pub(crate) fn reset(&mut self, count: usize) -> Result<(), NoMemory>
+        ensures { OnOk result (self.new ≡ record { marks = replicate count false; terms = [] }) }
+    {
+        unmark_all(&mut self.marks, &self.terms);
+        self.terms.clear();
+        set_count(&mut self.marks, count)?;
+        Ok(())
+    }
+
+    /// Counts that a question is asked of the marked terms. Only a matter of speed.
+    pub(crate) fn count_uses(&mut self) -> Result<(), NoMemory>
+        ensures { self.new ≡ self.old }
+    {
+        widen_counts(&mut self.uses, self.marks.len())?;
+        count_all(&mut self.uses, &self.terms);
+        Ok(())
+    }
+
+    /// Of each id in how many questions its term was asked, as far as it was counted. Only a matter of speed.
+    pub(crate) fn uses(&self) -> &[usize] {
+        &self.uses
     }
 
     /// The marked terms.
@@ -51,8 +128,8 @@ impl Marked {
         self.marks.get(term.number()).copied().unwrap_or(false)
     }
 
-    // Marks the term. Answers whether it is new.
-    fn mark(&mut self, term: TermId) -> Result<bool, NoMemory>
+    /// Marks the term. Answers whether it is new.
+    pub(crate) fn mark(&mut self, term: TermId) -> Result<bool, NoMemory>
         ensures marks { OnOk result (self.new.marks ≡ slice_set self.old.marks term true) }
         ensures more { IfOk result (IsMore self.old self.new) }
     {
@@ -101,18 +178,13 @@ pub(crate) fn mark_all(marked: &mut Marked, terms: &[TermId]) -> Result<bool, No
     Ok(grew)
 }
 
-/// Where the set holds all of one side of the pair, adds the other. Answers whether a term is new.
-pub(crate) fn add_pair(marked: &mut Marked, pair: &Listed) -> Result<bool, NoMemory>
-    ensures marks { OnOk result (marked.new.marks ≡ with_pair_marked marked.old.marks pair.now) }
+/// Where the set holds all of this side of the pair, adds the other. Answers whether a term is new.
+pub(crate) fn add_across(marked: &mut Marked, pair: &Listed, side: Side) -> Result<bool, NoMemory>
+    ensures marks { OnOk result (marked.new.marks ≡ with_side_marked side marked.old.marks pair.now) }
     ensures more { IfOk result (IsMore marked.old marked.new) }
 {
-    let left = pair.left.as_slice();
-    let right = pair.right.as_slice();
-    if holds_all(marked, left) {
-        return mark_all(marked, right);
-    }
-    if holds_all(marked, right) {
-        return mark_all(marked, left);
+    if holds_all(marked, pair.set_on(side)) {
+        return mark_all(marked, pair.set_across(side));
     }
     Ok(false)
 }

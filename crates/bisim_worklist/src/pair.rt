@@ -5,7 +5,7 @@ ghost use Rattle.bisim_worklist.specs.Working.Listings.{untested_of};
 use kat_model::{Items, NoMemory};
 use std::alloc::Global;
 use std::marker::Model;
-use stored_pairs::StoredPair;
+use stored_pairs::{Side, StoredPair};
 use term_store::TermId;
 
 /// A step from a listed pair: the place of the pair, and the atom and the action of the step.
@@ -39,6 +39,39 @@ impl Model for Listed {
     ghost Value = { IdEntry };
 
     ghost view = { λ p. record { left = p.left; right = p.right; origin = p.origin } };
+}
+
+impl Listed {
+    ghost use Rattle.bisim_worklist.specs.Working.Listings.{set_on as set_on', set_across as set_across'};
+
+    /// The set on this side.
+    pub(crate) fn set_on(&self, side: Side) -> &[TermId]
+        ensures { result.now ≡ set_on' side self.now }
+    {
+        match side {
+            Side::Left => self.left.as_slice(),
+            Side::Right => self.right.as_slice(),
+        }
+    }
+
+    /// The set on the other side.
+    pub(crate) fn set_across(&self, side: Side) -> &[TermId]
+        ensures { result.now ≡ set_across' side self.now }
+    {
+        match side {
+            Side::Left => self.right.as_slice(),
+            Side::Right => self.left.as_slice(),
+        }
+    }
+}
+
+/// One set of a listed pair, by the place of the pair, with a member of it, where one is told. A set of terms that lacks
+/// the member does not hold the set.
+#[derive(Clone, Copy, Debug)]
+pub(crate) struct Spot {
+    pub place: usize,
+    pub side: Side,
+    pub witness: Option<TermId>,
 }
 
 // The ids in a list of their own.

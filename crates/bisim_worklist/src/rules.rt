@@ -1,22 +1,20 @@
 //! The pairs that a walk has listed, which are the rules of congruence.
-ghost use Rattle.std.specs.Prelude.{◌≡◌, ◌↔◌, ◌++◌, ◌∷◌, [], IsTrue, OnOk, OnErr};
-ghost use Rattle.kat_model.specs.Members.{Has};
+ghost use Rattle.std.specs.Prelude.{◌≡◌, ◌<◌, ◌++◌, ◌∷◌, [], true, false, length, slice_index_or, OnOk, OnErr};
+ghost use Rattle.bisim_worklist.specs.Working.Marks.{AllMarked, Stays};
 
 use crate::index::PairIndex;
 use crate::pair::Listed;
 use kat_model::NoMemory;
 use std::alloc::Global;
-use std::collections::BTreeSet;
 use std::marker::Model;
-use stored_pairs::add_all;
 use term_store::TermId;
 
-/// The listed pairs in order, the terms that stand in them, their index, the universal term, where there is one, and how
+/// The listed pairs in order, a mark for each term that stands in them, their index, the universal term, where there is one, and how
 /// many pairs may be listed, where there is a limit. All ids are below the count.
 #[derive(Drop)]
 pub(crate) struct Rules {
     pairs: Vec<Listed>,
-    members: BTreeSet<TermId>,
+    members: Vec<bool>,
     index: PairIndex,
     universal: Option<TermId>,
     count: usize,
@@ -29,9 +27,42 @@ impl Model for Rules {
 
     ghost Value = { RuleParts };
 
-    ghost view = { λ r. record { pairs = r.pairs.items; members = r.members.keys; index = r.index; universal = r.universal; count = r.count; limit = r.limit } };
+    ghost view = { λ r. record { pairs = r.pairs.items; members = r.members.items; index = r.index; universal = r.universal; count = r.count; limit = r.limit } };
 
-    ghost invariant = { λ r. AreMembers (record { pairs = r.pairs.items; members = r.members.keys; index = r.index; universal = r.universal; count = r.count; limit = r.limit }) × AreIndexed r.index r.pairs.items };
+    ghost invariant = { λ r. AreMembers (record { pairs = r.pairs.items; members = r.members.items; index = r.index; universal = r.universal; count = r.count; limit = r.limit }) × AreIndexed r.index r.pairs.items };
+}
+
+// Makes room for a mark of this number. What is marked stays so.
+fn widen(marks: &mut Vec<bool>, number: usize) -> Result<(), NoMemory>
+    ensures room { OnOk result (number < length marks.new.items) }
+    ensures kept { Stays marks.old.items marks.new.items }
+{
+    while marks.len() <= number {
+        marks.push(false)?;
+    }
+    Ok(())
+}
+
+// Marks the term. What is marked stays so.
+fn note(marks: &mut Vec<bool>, term: TermId) -> Result<(), NoMemory>
+    ensures noted { OnOk result (slice_index_or marks.new.items term false ≡ true) }
+    ensures kept { Stays marks.old.items marks.new.items }
+{
+    let number = term.number();
+    widen(marks, number)?;
+    marks[number] = true;
+    Ok(())
+}
+
+// Marks the terms. What is marked stays so.
+fn note_all(marks: &mut Vec<bool>, terms: &[TermId]) -> Result<(), NoMemory>
+    ensures noted { OnOk result (AllMarked marks.new.items terms.now) }
+    ensures kept { Stays marks.old.items marks.new.items }
+{
+    for term in terms {
+        note(marks, *term)?;
+    }
+    Ok(())
 }
 
 impl Rules {
@@ -49,7 +80,7 @@ impl Rules {
     {
         Rules {
             pairs: Vec::new(alloc),
-            members: BTreeSet::new(alloc),
+            members: Vec::new(alloc),
             index: PairIndex::new(alloc),
             universal,
             count,
@@ -68,7 +99,8 @@ impl Rules {
 
     /// The index of the pairs.
     pub(crate) fn index(&self) -> &PairIndex
-        ensures { result.now ≡ self.now.index }
+        ensures value { result.now ≡ self.now.index }
+        ensures indexed { AreIndexed self.now.index self.now.pairs }
     {
         &self.index
     }
@@ -107,14 +139,19 @@ impl Rules {
 
     /// Whether the term stands in a listed pair.
     pub(crate) fn has_member(&self, term: TermId) -> bool
-        ensures value { IsTrue result ↔ Has self.now.members term }
+        ensures value { result ≡ slice_index_or self.now.members term false }
         ensures members { AreMembers self.now }
     {
-        self.members.contains(&term)
+        self.members.get(term.number()).copied().unwrap_or(false)
     }
 
-    /// Lists a pair.
-    pub(crate) fn list(&mut self, alloc: Global, pair: Listed) -> Result<(), NoMemory>
+    /// Lists a pair. The counts tell in how many questions each term was asked, and are only a matter of speed.
+    pub(crate) fn list(
+        &mut self,
+        alloc: Global,
+        uses: &[usize],
+        pair: Listed,
+    ) -> Result<(), NoMemory>
         ensures pairs { OnOk result (self.new.pairs ≡ self.old.pairs ++ pair ∷ []) }
         ensures same { OnErr result (self.new.pairs ≡ self.old.pairs) }
         ensures universal { self.new.universal ≡ self.old.universal }
@@ -122,10 +159,10 @@ impl Rules {
         ensures limit { self.new.limit ≡ self.old.limit }
         ensures members { AreMembers self.new }
     {
-        add_all(&mut self.members, pair.left.as_slice())?;
-        add_all(&mut self.members, pair.right.as_slice())?;
+        note_all(&mut self.members, pair.left.as_slice())?;
+        note_all(&mut self.members, pair.right.as_slice())?;
         let place = self.pairs.len();
-        self.index.add(alloc, &pair, place)?;
+        self.index.add(alloc, uses, &pair, place)?;
         self.pairs.push(pair)?;
         Ok(())
     }

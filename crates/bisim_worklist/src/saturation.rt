@@ -1,113 +1,17 @@
-//! Saturation of a set of terms by pairs of sets (congruence closure: Bonchi and Pous 2013). Of the listed pairs only
-//! those are looked at that the index has under a term of the set, or apart for an empty side: no other has a side that
-//! lies in the set.
-ghost use Rattle.std.specs.Prelude.{◌≡◌, ◌↔◌, ◌≤◌, ◌<◌, ℕ, [], Some, false, length, slice_get, slice_index_or, IsTrue, IfOk, OnOk};
+//! Saturation of a set of terms by pairs of sets (congruence closure: Bonchi and Pous 2013). Of the sets of listed pairs only
+//! those are looked at that the index has under a term of the set, or apart for an empty one: no other lies in the set.
+ghost use Rattle.std.specs.Prelude.{◌≡◌, ◌≤◌, ◌<◌, ℕ, [], Some, false, not, length, slice_get, slice_index_or, IfOk, OnOk};
 ghost use Rattle.std.specs.Option.{option_map_or};
 ghost use Rattle.kat_model.specs.Members.{Has};
-ghost use Rattle.bisim_worklist.specs.Working.Marks.{are_reached, rounds_marked, reaches_targets, AreClosed, IsClosedAt, IsMade, IsMore};
+ghost use Rattle.bisim_worklist.specs.declared.pair.Spot.{Spot as Spot'};
+ghost use Rattle.bisim_worklist.specs.Working.Marks.{are_reached, rounds_marked, AreClosed, IsClosedAt, IsMade, IsMore};
 
-use crate::marked::{Marked, add_pair, either, holds_all, mark_all};
-use crate::pair::Listed;
+use crate::marked::{Marked, add_across, either, holds_all};
+use crate::pair::Spot;
 use crate::rules::Rules;
 use kat_model::NoMemory;
-use std::alloc::Global;
+use stored_pairs::Side;
 use term_store::TermId;
-
-// Takes the pair at the place, if there is one. Answers whether a term is new.
-fn add_at(marked: &mut Marked, pairs: &[Listed], place: usize) -> Result<bool, NoMemory>
-    ensures made { OnOk result (IsMade pairs.now marked.old.marks marked.new.marks) }
-    ensures closed { IfOk result (λ b. b ≡ false → IsClosedAt pairs.now marked.new.marks place) }
-    ensures more { IfOk result (IsMore marked.old marked.new) }
-{
-    let Some(pair) = pairs.get(place) else {
-        return Ok(false);
-    };
-    let is_new = add_pair(marked, pair)?;
-    Ok(is_new)
-}
-
-// Takes the pairs at the places. Answers whether a term is new.
-fn add_places(marked: &mut Marked, pairs: &[Listed], places: &[usize]) -> Result<bool, NoMemory>
-    ensures made { OnOk result (IsMade pairs.now marked.old.marks marked.new.marks) }
-    ensures closed { IfOk result (λ b. b ≡ false → (k : ℕ) → Has places.now k → IsClosedAt pairs.now marked.new.marks k) }
-    ensures more { IfOk result (IsMore marked.old marked.new) }
-{
-    let mut grew = false;
-    for place in places {
-        let is_new = add_at(marked, pairs, *place)?;
-        grew = either(grew, is_new);
-    }
-    Ok(grew)
-}
-
-// Takes the pairs that stand under the term. Answers whether a term is new.
-fn add_under(marked: &mut Marked, rules: &Rules, term: TermId) -> Result<bool, NoMemory>
-    ensures made { OnOk result (IsMade rules.now.pairs marked.old.marks marked.new.marks) }
-    ensures closed { IfOk result (λ b. b ≡ false → (k : ℕ) → Has (slice_index_or rules.now.index.under term []) k → IsClosedAt rules.now.pairs marked.new.marks k) }
-    ensures more { IfOk result (IsMore marked.old marked.new) }
-{
-    match rules.index().under(term) {
-        Some(places) => add_places(marked, rules.pairs(), places.as_slice()),
-        None => Ok(false),
-    }
-}
-
-// Takes the pairs that stand under the first so many marked terms. Answers whether a term is new.
-fn add_under_first(marked: &mut Marked, rules: &Rules, count: usize) -> Result<bool, NoMemory>
-    requires { count ≤ length marked.old.terms }
-    ensures made { OnOk result (IsMade rules.now.pairs marked.old.marks marked.new.marks) }
-    ensures closed { IfOk result (λ b. b ≡ false → (i : ℕ) → i < count → (t : ℕ) → slice_get marked.old.terms i ≡ Some t → (k : ℕ) → Has (slice_index_or rules.now.index.under t []) k → IsClosedAt rules.now.pairs marked.new.marks k) }
-    ensures more { IfOk result (IsMore marked.old marked.new) }
-{
-    let mut grew = false;
-    for index in 0..count {
-        let term = marked.terms()[index];
-        let is_new = add_under(marked, rules, term)?;
-        grew = either(grew, is_new);
-    }
-    Ok(grew)
-}
-
-// Takes the pairs that stand under the terms.
-fn add_under_all(marked: &mut Marked, rules: &Rules, terms: &[TermId]) -> Result<(), NoMemory>
-    ensures { OnOk result (IsMade rules.now.pairs marked.old.marks marked.new.marks) }
-{
-    for term in terms {
-        add_under(marked, rules, *term)?;
-    }
-    Ok(())
-}
-
-// How many pairs stand under the terms. Only a matter of speed.
-fn load(rules: &Rules, terms: &[TermId]) -> usize {
-    let mut load: usize = 0;
-    for term in terms {
-        load = load.saturating_add(rules.index().load(*term));
-    }
-    load
-}
-
-// Where fewer pairs stand under the targets than under the set, takes those first: one of them often brings all.
-fn look_back(marked: &mut Marked, rules: &Rules, targets: &[TermId]) -> Result<(), NoMemory>
-    ensures { OnOk result (IsMade rules.now.pairs marked.old.marks marked.new.marks) }
-{
-    if load(rules, targets) < load(rules, marked.terms()) {
-        add_under_all(marked, rules, targets)?;
-    }
-    Ok(())
-}
-
-// Takes the pairs of which a side may lie in the set. Answers whether a term is new: where none is, the set is closed.
-fn round(marked: &mut Marked, rules: &Rules) -> Result<bool, NoMemory>
-    ensures made { OnOk result (IsMade rules.now.pairs marked.old.marks marked.new.marks) }
-    ensures closed { IfOk result (λ b. b ≡ false → AreClosed rules.now.pairs marked.new.marks) }
-    ensures more { IfOk result (IsMore marked.old marked.new) }
-{
-    let from_apart = add_places(marked, rules.pairs(), rules.index().apart().as_slice())?;
-    let count = marked.terms().len();
-    let from_terms = add_under_first(marked, rules, count)?;
-    Ok(either(from_apart, from_terms))
-}
 
 // Whether the universal term is marked, where there is one.
 fn is_universal(marked: &Marked, universal: Option<TermId>) -> bool
@@ -123,16 +27,174 @@ fn is_reached(marked: &Marked, universal: Option<TermId>, targets: &[TermId]) ->
     is_universal(marked, universal) || holds_all(marked, targets)
 }
 
+// Whether the set lacks the witness, where there is one.
+fn lacks(marked: &Marked, witness: Option<TermId>) -> bool
+    ensures { result ≡ option_map_or (λ w. not (slice_index_or marked.now.marks w false)) witness false }
+{
+    witness.is_some_and(|term| !marked.has(term))
+}
+
+// Where the set holds this set of a pair, adds the other. Answers whether a term is new.
+fn add_at(marked: &mut Marked, rules: &Rules, spot: Spot) -> Result<bool, NoMemory>
+    ensures made { OnOk result (IsMade rules.now.pairs marked.old.marks marked.new.marks) }
+    ensures closed { IfOk result (λ b. b ≡ false → IsClosedAt rules.now.pairs marked.new.marks spot) }
+    ensures more { IfOk result (IsMore marked.old marked.new) }
+{
+    if lacks(marked, spot.witness) {
+        return Ok(false);
+    }
+    let Some(pair) = rules.pairs().get(spot.place) else {
+        return Ok(false);
+    };
+    let is_new = add_across(marked, pair, spot.side)?;
+    Ok(is_new)
+}
+
+// Adds the other set of each pair of which the set holds this one, until all is reached. Answers whether a term is new.
+fn add_spots(
+    marked: &mut Marked,
+    rules: &Rules,
+    spots: &[Spot],
+    targets: &[TermId],
+) -> Result<bool, NoMemory>
+    ensures made { OnOk result (IsMade rules.now.pairs marked.old.marks marked.new.marks) }
+    ensures closed { IfOk result (λ b. b ≡ false → (s : Spot') → Has spots.now s → IsClosedAt rules.now.pairs marked.new.marks s) }
+    ensures more { IfOk result (IsMore marked.old marked.new) }
+{
+    let mut grew = false;
+    for spot in spots {
+        let is_new = add_at(marked, rules, *spot)?;
+        grew = either(grew, is_new);
+        if is_new && is_reached(marked, rules.universal(), targets) {
+            return Ok(grew);
+        }
+    }
+    Ok(grew)
+}
+
+// Does so with the sets that stand under the term. Answers whether a term is new.
+fn add_under(
+    marked: &mut Marked,
+    rules: &Rules,
+    term: TermId,
+    targets: &[TermId],
+) -> Result<bool, NoMemory>
+    ensures made { OnOk result (IsMade rules.now.pairs marked.old.marks marked.new.marks) }
+    ensures closed { IfOk result (λ b. b ≡ false → (s : Spot') → Has (slice_index_or rules.now.index.under term []) s → IsClosedAt rules.now.pairs marked.new.marks s) }
+    ensures more { IfOk result (IsMore marked.old marked.new) }
+{
+    match rules.index().under(term) {
+        Some(spots) => add_spots(marked, rules, spots.as_slice(), targets),
+        None => Ok(false),
+    }
+}
+
+// Does so with the sets that stand under the first so many marked terms. Answers whether a term is new.
+fn add_under_first(
+    marked: &mut Marked,
+    rules: &Rules,
+    count: usize,
+    targets: &[TermId],
+) -> Result<bool, NoMemory>
+    requires { count ≤ length marked.old.terms }
+    ensures made { OnOk result (IsMade rules.now.pairs marked.old.marks marked.new.marks) }
+    ensures closed { IfOk result (λ b. b ≡ false → (i : ℕ) → i < count → (t : ℕ) → slice_get marked.old.terms i ≡ Some t → (s : Spot') → Has (slice_index_or rules.now.index.under t []) s → IsClosedAt rules.now.pairs marked.new.marks s) }
+    ensures more { IfOk result (IsMore marked.old marked.new) }
+{
+    let mut grew = false;
+    for index in 0..count {
+        let term = marked.terms()[index];
+        let is_new = add_under(marked, rules, term, targets)?;
+        grew = either(grew, is_new);
+    }
+    Ok(grew)
+}
+
+// The other set of the pair.
+fn across(spot: Spot) -> Spot {
+    let side = match spot.side {
+        Side::Left => Side::Right,
+        Side::Right => Side::Left,
+    };
+    Spot {
+        place: spot.place,
+        side,
+        witness: None,
+    }
+}
+
+// Adds the set of each pair of which the set holds the other one.
+fn add_back(marked: &mut Marked, rules: &Rules, spots: &[Spot]) -> Result<(), NoMemory>
+    ensures { OnOk result (IsMade rules.now.pairs marked.old.marks marked.new.marks) }
+{
+    for spot in spots {
+        add_at(marked, rules, across(*spot))?;
+    }
+    Ok(())
+}
+
+// Does so with the sets that stand under the term.
+fn add_back_under(marked: &mut Marked, rules: &Rules, term: TermId) -> Result<(), NoMemory>
+    ensures { OnOk result (IsMade rules.now.pairs marked.old.marks marked.new.marks) }
+{
+    match rules.index().under(term) {
+        Some(spots) => add_back(marked, rules, spots.as_slice()),
+        None => Ok(()),
+    }
+}
+
+// Does so with the sets that stand under the terms.
+fn add_back_under_all(marked: &mut Marked, rules: &Rules, terms: &[TermId]) -> Result<(), NoMemory>
+    ensures { OnOk result (IsMade rules.now.pairs marked.old.marks marked.new.marks) }
+{
+    for term in terms {
+        add_back_under(marked, rules, *term)?;
+    }
+    Ok(())
+}
+
+// How many sets stand under the terms. Only a matter of speed.
+fn load(rules: &Rules, terms: &[TermId]) -> usize {
+    let mut load: usize = 0;
+    for term in terms {
+        load = load.saturating_add(rules.index().load(*term));
+    }
+    load
+}
+
+// Where fewer sets stand under the targets than under the set, takes those first: one of them often brings all.
+fn look_back(marked: &mut Marked, rules: &Rules, targets: &[TermId]) -> Result<(), NoMemory>
+    ensures { OnOk result (IsMade rules.now.pairs marked.old.marks marked.new.marks) }
+{
+    if load(rules, targets) < load(rules, marked.terms()) {
+        add_back_under_all(marked, rules, targets)?;
+    }
+    Ok(())
+}
+
+// Adds the other set of each pair of which the set may hold one, until all is reached. Answers whether a term is new: where
+// none is, the set is closed.
+fn round(marked: &mut Marked, rules: &Rules, targets: &[TermId]) -> Result<bool, NoMemory>
+    ensures made { OnOk result (IsMade rules.now.pairs marked.old.marks marked.new.marks) }
+    ensures closed { IfOk result (λ b. b ≡ false → AreClosed rules.now.pairs marked.new.marks) }
+    ensures more { IfOk result (IsMore marked.old marked.new) }
+{
+    let from_apart = add_spots(marked, rules, rules.index().apart().as_slice(), targets)?;
+    let count = marked.terms().len();
+    let from_terms = add_under_first(marked, rules, count, targets)?;
+    Ok(either(from_apart, from_terms))
+}
+
 // Whether the universal term stands in a pair, where there is one.
 fn has_universal(rules: &Rules, universal: Option<TermId>) -> bool
-    ensures { IsTrue result ↔ ((u : ℕ) × (universal ≡ Some u) × Has rules.now.members u) }
+    ensures { result ≡ option_map_or (λ u. slice_index_or rules.now.members u false) universal false }
 {
     universal.is_some_and(|term| rules.has_member(term))
 }
 
 // Whether each target is marked or stands in a pair.
 fn may_hold_all(rules: &Rules, marked: &Marked, targets: &[TermId]) -> bool
-    ensures { result ≡ false → (t : ℕ) × Has targets.now t × (slice_index_or marked.now.marks t false ≡ false) × (Has rules.now.members t → ⊥) }
+    ensures { result ≡ false → (t : ℕ) × Has targets.now t × (slice_index_or marked.now.marks t false ≡ false) × (slice_index_or rules.now.members t false ≡ false) }
 {
     for target in targets {
         if !marked.has(*target) {
@@ -157,7 +219,7 @@ fn saturate(marked: &mut Marked, rules: &Rules, targets: &[TermId]) -> Result<()
 {
     look_back(marked, rules, targets)?;
     while !is_reached(marked, rules.universal(), targets) {
-        let grew = round(marked, rules)?;
+        let grew = round(marked, rules, targets)?;
         if !grew {
             return Ok(());
         }
@@ -165,19 +227,16 @@ fn saturate(marked: &mut Marked, rules: &Rules, targets: &[TermId]) -> Result<()
     Ok(())
 }
 
-/// Whether the listed pairs bring each of the targets to the set of these terms, or the universal term.
+/// Whether the listed pairs bring each of the targets to the marked terms, or the universal term.
 pub(crate) fn reaches(
-    alloc: Global,
+    marked: &mut Marked,
     rules: &Rules,
-    terms: &[TermId],
     targets: &[TermId],
 ) -> Result<bool, NoMemory>
-    ensures { IfOk result (λ b. b ≡ reaches_targets rules.now terms.now targets.now) }
+    ensures { IfOk result (λ b. b ≡ are_reached rules.now.universal targets.now (rounds_marked (length rules.now.pairs) rules.now.pairs marked.old.marks)) }
 {
-    let mut marked = Marked::new(alloc, rules.count())?;
-    mark_all(&mut marked, terms)?;
-    if may_reach(rules, &marked, targets) {
-        saturate(&mut marked, rules, targets)?;
+    if may_reach(rules, marked, targets) {
+        saturate(marked, rules, targets)?;
     }
-    Ok(is_reached(&marked, rules.universal(), targets))
+    Ok(is_reached(marked, rules.universal(), targets))
 }

@@ -15,6 +15,7 @@ ghost use Rattle.bisim_worklist.specs.Working.Walking.{IsUnderWay, AreStepsAt, H
 
 use crate::branching::{Stride, visit_all};
 use crate::halt::Halt;
+use crate::marked::Marked;
 use crate::pair::Listed;
 use crate::rules::Rules;
 use kat_model::{Items, NoMemory, Problem};
@@ -76,6 +77,7 @@ impl Walk {
         let mut rules = Rules::new(alloc, universal, count, limit);
         rules.list(
             alloc,
+            &[],
             Listed {
                 left: single(alloc, left)?,
                 right: single(alloc, right)?,
@@ -127,6 +129,7 @@ impl Walk {
     fn expand(
         &mut self,
         alloc: Global,
+        marked: &mut Marked,
         place: usize,
         actions: usize,
         steps: &BothSteps,
@@ -143,7 +146,14 @@ impl Walk {
         for act in &actions_in_order(alloc, left, right, actions)? {
             let items = items_of(alloc, &self.diagrams, left, right, *act)?;
             let stride = Stride { place, act: *act };
-            visit_all(alloc, &mut self.rules, &mut self.diagrams, &stride, items)?;
+            visit_all(
+                alloc,
+                marked,
+                &mut self.rules,
+                &mut self.diagrams,
+                &stride,
+                items,
+            )?;
         }
         Ok(())
     }
@@ -176,6 +186,7 @@ impl Walk {
         &mut self,
         alloc: Global,
         store: &mut Store,
+        marked: &mut Marked,
         actions: usize,
         place: usize,
     ) -> Result<Option<Vec<bool>>, Halt>
@@ -192,7 +203,7 @@ impl Walk {
         if let Some(atom) = self.difference(alloc, &steps)? {
             return Ok(Some(atom));
         }
-        self.expand(alloc, place, actions, &steps)?;
+        self.expand(alloc, marked, place, actions, &steps)?;
         Ok(None)
     }
 
@@ -213,8 +224,9 @@ impl Walk {
         ensures kept { Grows store.old store.new }
     {
         let mut place = 0;
+        let mut marked = Marked::new(alloc);
         while place < self.rules.pairs().len() {
-            if let Some(atom) = self.take(alloc, store, problem.actions(), place)? {
+            if let Some(atom) = self.take(alloc, store, &mut marked, problem.actions(), place)? {
                 return Ok(Some(Difference { place, atom }));
             }
             place += 1;

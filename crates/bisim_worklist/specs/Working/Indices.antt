@@ -1,27 +1,42 @@
--- Indices of listed pairs: the place of each stands under a member of each of its sets.
-use Rattle.std.specs.Prelude.{◌≡◌, ◌⊎◌, ◌≤◌, ℕ, List, [], length, slice_get, slice_index_or, Some}
+-- Indices of listed pairs: each of their sets stands under one of its members.
+use Rattle.std.specs.Prelude.{◌≡◌, ◌⊎◌, ◌≤◌, ℕ, List, [], length, slice_get, slice_index_or, Option, Some, None}
+use Rattle.stored_pairs.specs.declared.items.Side.{Side}
+use Rattle.stored_pairs.specs.declared.items.Side.TheVariants.{Left, Right}
 use Rattle.kat_model.specs.Members.{Has}
+use Rattle.bisim_worklist.specs.declared.pair.Spot.{Spot}
 use Rattle.bisim_worklist.specs.Working.Listings.{IdEntry}
 
--- places of pairs with an empty set, and for each term those of the pairs that stand under it
+-- the empty sets, and for each term the sets that stand under it
 pub record IndexParts : Type 0 where
-  pub apart : List ℕ
-  pub under : List (List ℕ)
+  pub apart : List Spot
+  pub under : List (List Spot)
 
--- the place stands under a member of the set, or the set is empty and it stands apart
-abbrev pub StandsUnder : IndexParts → List ℕ → ℕ → Type 0
-StandsUnder x ids k = ((ids ≡ []) × Has x.apart k) ⊎ ((t : ℕ) × Has ids t × Has (slice_index_or x.under t []) k)
+-- one set of the pair at the place, and a member of it
+abbrev pub spot_at : ℕ → Side → Option ℕ → Spot
+spot_at k side w = record { place = k; side = side; witness = w }
+
+-- the witness is a member, where there is one
+abbrev pub IsWitness : Option ℕ → List ℕ → Type 0
+IsWitness None ids = Unit {0}
+IsWitness (Some w) ids = Has ids w
+
+-- the set on this side of the pair at the place, which has these members, stands under one of them with a witness, or it is
+-- empty and stands apart
+abbrev pub StandsUnder : IndexParts → List ℕ → ℕ → Side → Type 0
+StandsUnder x ids k side =
+    ((ids ≡ []) × Has x.apart (spot_at k side None))
+    ⊎ ((t : ℕ) × (w : ℕ) × Has ids t × Has ids w × Has (slice_index_or x.under t []) (spot_at k side (Some w)))
 
 -- lists with all that stands in these
-pub record KeepsLists (old new : List (List ℕ)) : Type 0 where
+pub record KeepsLists (old new : List (List Spot)) : Type 0 where
   pub longer : length old ≤ length new
-  pub members : (t k : ℕ) → Has (slice_index_or old t []) k → Has (slice_index_or new t []) k
+  pub members : (t : ℕ) (s : Spot) → Has (slice_index_or old t []) s → Has (slice_index_or new t []) s
 
 -- an index with all that stands in this one
 pub record KeepsPlaces (old new : IndexParts) : Type 0 where
-  pub apart : (k : ℕ) → Has old.apart k → Has new.apart k
-  pub under : (t k : ℕ) → Has (slice_index_or old.under t []) k → Has (slice_index_or new.under t []) k
+  pub apart : (s : Spot) → Has old.apart s → Has new.apart s
+  pub under : (t : ℕ) (s : Spot) → Has (slice_index_or old.under t []) s → Has (slice_index_or new.under t []) s
 
--- each pair stands under a member of each of its sets
+-- both sets of each pair stand under a member
 abbrev pub AreIndexed : IndexParts → List IdEntry → Type 0
-AreIndexed x es = (k : ℕ) (e : IdEntry) → slice_get es k ≡ Some e → StandsUnder x e.left k × StandsUnder x e.right k
+AreIndexed x es = (k : ℕ) (e : IdEntry) → slice_get es k ≡ Some e → StandsUnder x e.left k Left × StandsUnder x e.right k Right

@@ -7,11 +7,22 @@ use Rattle.term_nodes.specs.NodeLists.{NodeParts}
 use Rattle.certificate.specs.PairParts.{PairParts}
 use Rattle.bisim_worklist.specs.Walks.{Origin, Entry}
 use Rattle.stored_pairs.specs.IdSets.{IsIdSet}
+use Rattle.stored_pairs.specs.declared.items.Side.{Side}
+use Rattle.stored_pairs.specs.declared.items.Side.TheVariants.{Left, Right}
 
 pub record IdEntry : Type 0 where
   pub left : List ℕ
   pub right : List ℕ
   pub origin : Option Origin
+
+-- the set of the pair on one side, and on the other
+abbrev pub set_on : Side → IdEntry → List ℕ
+set_on Left e = e.left
+set_on Right e = e.right
+
+abbrev pub set_across : Side → IdEntry → List ℕ
+set_across Left e = e.right
+set_across Right e = e.left
 
 abbrev pub pair_of : NodeParts → IdEntry → SetPair
 pair_of store e = record { left = terms_of store e.left; right = terms_of store e.right }

@@ -2,9 +2,11 @@
 use Rattle.std.specs.Prelude.{◌≡◌, ◌≤◌, ◌<◌, ◌+◌, zero, suc, ℕ, Bool, true, false, nat_le, ◌||◌, if◌then◌else◌, List, [], ◌∷◌, length, slice_get, slice_index_or, slice_set, replicate, Option, Some, None}
 use Rattle.std.specs.Option.{option_map_or}
 use Rattle.std.specs.List.{list_all}
-use Rattle.kat_model.specs.Members.{Has, IsSubset}
-use Rattle.bisim_worklist.specs.Working.Listings.{IdEntry}
-use Rattle.bisim_worklist.specs.Working.Indices.{IndexParts}
+use Rattle.kat_model.specs.Members.{Has}
+use Rattle.stored_pairs.specs.declared.items.Side.{Side}
+use Rattle.bisim_worklist.specs.declared.pair.Spot.{Spot}
+use Rattle.bisim_worklist.specs.Working.Listings.{IdEntry, set_on, set_across}
+use Rattle.bisim_worklist.specs.Working.Indices.{IndexParts, IsWitness}
 
 -- each of the ids is marked
 abbrev pub are_marked : List Bool → List ℕ → Bool
@@ -15,7 +17,16 @@ abbrev pub with_marks : List Bool → List ℕ → List Bool
 with_marks marks [] = marks
 with_marks marks (i ∷ ids) = with_marks (slice_set marks i true) ids
 
--- and those of both sides of a pair where one side is marked
+-- the marks without those of the ids
+abbrev pub without_marks : List Bool → List ℕ → List Bool
+without_marks marks [] = marks
+without_marks marks (i ∷ ids) = without_marks (slice_set marks i false) ids
+
+-- the marks, and those of the other set of a pair where this one is marked
+abbrev pub with_side_marked : Side → List Bool → IdEntry → List Bool
+with_side_marked side marks e = if are_marked marks (set_on side e) then with_marks marks (set_across side e) else marks
+
+-- the marks, and those of both sides of a pair where one side is marked
 abbrev pub with_pair_marked : List Bool → IdEntry → List Bool
 with_pair_marked marks e = if are_marked marks e.left then with_marks marks e.right else (if are_marked marks e.right then with_marks marks e.left else marks)
 
@@ -46,9 +57,9 @@ Stays marks more = (j : ℕ) → slice_index_or marks j false ≡ true → slice
 abbrev pub AreClosed : List IdEntry → List Bool → Type 0
 AreClosed es marks = (e : IdEntry) → Has es e → with_pair_marked marks e ≡ marks
 
--- nor does the pair at this place
-abbrev pub IsClosedAt : List IdEntry → List Bool → ℕ → Type 0
-IsClosedAt es marks k = (e : IdEntry) → slice_get es k ≡ Some e → with_pair_marked marks e ≡ marks
+-- nor does this set of a pair
+abbrev pub IsClosedAt : List IdEntry → List Bool → Spot → Type 0
+IsClosedAt es marks s = (e : IdEntry) → slice_get es s.place ≡ Some e → IsWitness s.witness (set_on s.side e) → with_side_marked s.side marks e ≡ marks
 
 -- the pairs bring the new marks to the old ones
 pub record IsMade (es : List IdEntry) (old new : List Bool) : Type 0 where
@@ -66,6 +77,10 @@ pub record MarkedParts : Type 0 where
   pub marks : List Bool
   pub terms : List ℕ
 
+-- each of the ids is marked
+abbrev pub AllMarked : List Bool → List ℕ → Type 0
+AllMarked marks ids = (k : ℕ) → Has ids k → slice_index_or marks k false ≡ true
+
 -- each marked id is among these
 abbrev pub AreAmong : List Bool → List ℕ → Type 0
 AreAmong marks ids = (k : ℕ) → slice_index_or marks k false ≡ true → Has ids k
@@ -78,11 +93,11 @@ pub record IsMore (old new : MarkedParts) (grew : Bool) : Type 0 where
 
 -- ---- rules
 
--- the listed pairs, which are rules of congruence, the terms that stand in them and their index, the universal term, how
+-- the listed pairs, which are rules of congruence, a mark for each term that stands in them, and their index, the universal term, how
 -- many ids there are, and how many pairs may be listed, where there is a limit
 pub record RuleParts : Type 0 where
   pub pairs : List IdEntry
-  pub members : List ℕ
+  pub members : List Bool
   pub index : IndexParts
   pub universal : Option ℕ
   pub count : ℕ
@@ -97,9 +112,9 @@ abbrev pub IsWithinLimit : Option ℕ → ℕ → Type 0
 IsWithinLimit None n = Unit {0}
 IsWithinLimit (Some m) n = n ≤ m
 
--- the members are those of the sets of the pairs
+-- the members of the sets of the pairs are marked
 abbrev pub AreMembers : RuleParts → Type 0
-AreMembers r = (e : IdEntry) → Has r.pairs e → IsSubset e.left r.members × IsSubset e.right r.members
+AreMembers r = (e : IdEntry) → Has r.pairs e → AllMarked r.members e.left × AllMarked r.members e.right
 
 -- whether the pairs bring the targets to the set, or the universal term
 abbrev pub reaches_targets : RuleParts → List ℕ → List ℕ → Bool

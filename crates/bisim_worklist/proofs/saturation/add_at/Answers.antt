@@ -1,14 +1,20 @@
-use Rattle.bisim_worklist.proofs.Closures.{at_read, made_at, closed_at}
+use Rattle.std.proofs.Common.{◌≡◌, Some, slice_get, true, sym, ◌∙◌, subst, arith}
+use Rattle.bisim_worklist.proofs.Closures.{at_read, made_at, closed_at, closed_out}
 use Rattle.bisim_worklist.proofs.saturation.add_at.Goals as goal
+
+pub returns-then-lacks-clause-closed : goal.returns-then-lacks-clause-closed
+returns-then-lacks-clause-closed c = λ _. closed_out c.args.rules.now.pairs c.args.spot c.args.marked.now.marks (sym c.lacks.ensures ∙ c.if-lacks.true)
 
 pub returns-clause-made : goal.returns-clause-made
 returns-clause-made c =
     let at = c.in-Some.ensures.lookup in
-    made_at c.args.pairs.now c.args.place c.in-Some.pair.now c.args.marked.now.marks c.add_pair.new.marked.marks
-    (at_read c.args.pairs.now c.args.place c.in-Some.pair.now at.3.0 at.1) c.in_ok-is_new.ensures.marks
+    let read : slice_get c.pairs.result.now c.args.spot.place ≡ Some c.in-Some.pair.now = at_read c.pairs.result.now c.args.spot.place c.in-Some.pair.now at.3.0 at.1 in
+    made_at c.args.rules.now.pairs c.args.spot c.in-Some.pair.now c.args.marked.now.marks c.add_across.new.marked.marks
+    (subst (λ ps. slice_get ps c.args.spot.place ≡ Some c.in-Some.pair.now) c.pairs.ensures.value read) c.in_ok-is_new.ensures.marks
 
 pub returns-clause-closed : goal.returns-clause-closed
 returns-clause-closed c =
     let at = c.in-Some.ensures.lookup in
-    closed_at c.args.pairs.now c.args.place c.in-Some.pair.now c.args.marked.now c.add_pair.new.marked c.in_ok-is_new.is_new
-    (at_read c.args.pairs.now c.args.place c.in-Some.pair.now at.3.0 at.1) c.in_ok-is_new.ensures.marks c.in_ok-is_new.ensures.more
+    let read : slice_get c.pairs.result.now c.args.spot.place ≡ Some c.in-Some.pair.now = at_read c.pairs.result.now c.args.spot.place c.in-Some.pair.now at.3.0 at.1 in
+    closed_at c.args.rules.now.pairs c.args.spot c.in-Some.pair.now c.args.marked.now c.add_across.new.marked c.in_ok-is_new.is_new
+    (subst (λ ps. slice_get ps c.args.spot.place ≡ Some c.in-Some.pair.now) c.pairs.ensures.value read) c.in_ok-is_new.ensures.marks c.in_ok-is_new.ensures.more

@@ -2,6 +2,7 @@ use Rattle.std.proofs.Common.{ℕ, List, Some, length, slice_get, sym, ap, ◌�
 use Rattle.std.proofs.lemmas.Option.{same_Some}
 use Rattle.std.specs.Prelude.{◌≡◌, [], slice_index_or}
 use Rattle.kat_model.specs.Members.{Has}
+use Rattle.bisim_worklist.specs.declared.pair.Spot.{Spot}
 use Rattle.bisim_worklist.specs.Working.Marks.{IsClosedAt, IsMore, MarkedParts}
 use Rattle.bisim_worklist.proofs.Closures.{made_itself, made_then, more_itself, more_then, all_next, at_read}
 use Rattle.bisim_worklist.proofs.saturation.add_under_first.Goals as goal
@@ -23,7 +24,7 @@ loop-index-preserved c =
     let read : slice_get c.terms.result.now i ≡ Some term = at_read c.terms.result.now i term (omega (arith, c.loop-index-test.true, c.requires, now.more.longer, ap length c.terms.ensures.value)) c.index-terms-index.is in
     record {
       made = made_then c.args.rules.now.pairs c.args.marked.now.marks c.loop-index.marked.marks c.add_under.new.marked.marks now.made told.made;
-      closed = all_next (λ s j. (t : ℕ) → slice_get terms j ≡ Some t → (k : ℕ) → Has (slice_index_or c.args.rules.now.index.under t []) k → IsClosedAt c.args.rules.now.pairs s.marks k) c.loop-index.marked c.add_under.new.marked i c.loop-index.grew c.in_ok-is_new.is_new c.either-grew.result c.either-grew.ensures told.more now.closed
+      closed = all_next (λ s j. (t : ℕ) → slice_get terms j ≡ Some t → (k : Spot) → Has (slice_index_or c.args.rules.now.index.under t []) k → IsClosedAt c.args.rules.now.pairs s.marks k) c.loop-index.marked c.add_under.new.marked i c.loop-index.grew c.in_ok-is_new.is_new c.either-grew.result c.either-grew.ensures told.more now.closed
           (λ unchanged f t at k h.
           let first : slice_get terms i ≡ Some term = subst (λ (s : MarkedParts). slice_get s.terms i ≡ Some term) (now.more.same unchanged) (subst (λ ts. slice_get ts i ≡ Some term) c.terms.ensures.value read) in
           told.closed f k (subst (λ u. Has (slice_index_or c.args.rules.now.index.under u []) k) (same_Some t term (sym at ∙ first)) h));

@@ -1,13 +1,14 @@
 use Rattle.std.proofs.Common.{◌≡◌, ◌<◌, ℕ, false, Some, slice_get, []}
 use Rattle.std.specs.Prelude.{slice_index_or}
 use Rattle.kat_model.specs.Members.{Has}
+use Rattle.bisim_worklist.specs.declared.pair.Spot.{Spot}
 use Rattle.bisim_worklist.specs.Working.Marks.{IsClosedAt, IsMade, IsMore}
 use Rattle.bisim_worklist.proofs.saturation.add_under_first.Given as goal
 
--- where no term is new, the pairs under the terms taken so far add none
+-- where no term is new, the sets under the terms taken so far add none
 abbrev pub invariant-loop-index : goal.invariant-loop-index
 invariant-loop-index l = record {
   made : IsMade l.rules.pairs l.initial.marked.marks l.marked.marks;
-  closed : l.grew ≡ false → (i : ℕ) → i < l.index → (t : ℕ) → slice_get l.initial.marked.terms i ≡ Some t → (k : ℕ) → Has (slice_index_or l.rules.index.under t []) k → IsClosedAt l.rules.pairs l.marked.marks k;
+  closed : l.grew ≡ false → (i : ℕ) → i < l.index → (t : ℕ) → slice_get l.initial.marked.terms i ≡ Some t → (s : Spot) → Has (slice_index_or l.rules.index.under t []) s → IsClosedAt l.rules.pairs l.marked.marks s;
   more : IsMore l.initial.marked l.marked l.grew;
 }

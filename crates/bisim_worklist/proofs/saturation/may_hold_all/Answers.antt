@@ -10,5 +10,5 @@ returns-then-not-has_member c =
       c.target-item.result,
       has_item c.args.targets.now c.loop-target.target-index c.target-item.result c.loop-target-test.true c.target-item.is,
       sym c.has.ensures ∙ off,
-      λ h. absurd (grind (arith, out, c.has_member.ensures.value.1 h)),
+      sym c.has_member.ensures.value ∙ out,
     )
