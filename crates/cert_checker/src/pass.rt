@@ -72,10 +72,7 @@ fn closed_sides(alloc: Global, problem: &Problem, style: Style) -> Result<Closed
 {
     match style {
         Style::Plain | Style::UpTo => eliminate(alloc, problem),
-        Style::Under => {
-            let long = long_problem(alloc, problem)?;
-            eliminate(alloc, &long)
-        }
+        Style::Under => eliminate(alloc, &long_problem(alloc, problem)?),
     }
 }
 
@@ -345,8 +342,7 @@ impl<'a> Pass<'a> {
         let right = empty_product(&mut self.tables, always)?;
         let mut case = Case::new(self.tables.alloc(), self.tables.width())?;
         let question = Question::of(&self.tables, &turn, None, left, right)?;
-        let failure = least_failure(&question, &mut case, None)?;
-        Ok(failure.is_none())
+        Ok(least_failure(&question, &mut case, None)?.is_none())
     }
 
     /// Whether the first pair is the two closed sides, each as a set of one term, under a test that is true at each

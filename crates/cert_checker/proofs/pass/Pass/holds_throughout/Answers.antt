@@ -80,11 +80,11 @@ returns-clause-holds c =
     let begun = pass_kept p new c.turn.ensures.grows c.requires.pass in
     let to_second = subst (λ z. TablesGrow z second) t c.constant.ensures.grows.grows in
     let q = c.in_ok-question.question in
-    let o = option_map (λ v. v.items) c.in_ok-failure.failure in
+    let o = option_map (λ v. v.items) c.in_ok-least_failure.field-0 in
     let ds = c.in_ok-case.ensures ∙ ap (λ n. undecided (n + n)) c.width.ensures in
     throughout_told p new c.turn.ensures.grows begun second third last to_second c.empty_product.ensures.grows c.empty_product-2.ensures.grows c.in_ok-turn.turn c.in_ok-turn.ensures.turn c.in_ok-turn.ensures.action c.args.test c.in_ok-always.always c.requires.is_test c.in_ok-always.ensures.values c.in_ok-left.left.entries c.in_ok-right.right.entries c.in_ok-left.ensures.targets c.in_ok-right.ensures.targets
-    q c.in_ok-question.ensures.question (λ v. v.items) c.in_ok-failure.failure c.is_none.result c.is_none.ensures
-    (unbounded (MatchAt q.tables q) (undecided (last.width + last.width)) o (subst (λ l. IsFirstFailure (Below (MatchAt q.tables q) None) l o) ds c.in_ok-failure.ensures.failure))
+    q c.in_ok-question.ensures.question (λ v. v.items) c.in_ok-least_failure.field-0 c.is_none.result c.is_none.ensures
+    (unbounded (MatchAt q.tables q) (undecided (last.width + last.width)) o (subst (λ l. IsFirstFailure (Below (MatchAt q.tables q) None) l o) ds c.in_ok-least_failure.ensures.failure))
 
 pub returns-clause-grows : goal.returns-clause-grows
 returns-clause-grows c = passes_trans c.args.self.now c.turn.new.self _ c.turn.ensures.grows (grown c.empty_product-2.new.tables c.self.view_is (grows_trans c.self.inside.tables c.empty_product.new.tables c.empty_product-2.new.tables (grows_trans c.self.inside.tables c.constant.new.self c.empty_product.new.tables c.constant.ensures.grows.grows c.empty_product.ensures.grows) c.empty_product-2.ensures.grows))
@@ -104,5 +104,5 @@ returns-in_err-case-clause-grows c = passes_trans c.args.self.now c.turn.new.sel
 pub returns-in_err-question-clause-grows : goal.returns-in_err-question-clause-grows
 returns-in_err-question-clause-grows c = passes_trans c.args.self.now c.turn.new.self _ c.turn.ensures.grows (grown c.empty_product-2.new.tables c.self.view_is (grows_trans c.self.inside.tables c.empty_product.new.tables c.empty_product-2.new.tables (grows_trans c.self.inside.tables c.constant.new.self c.empty_product.new.tables c.constant.ensures.grows.grows c.empty_product.ensures.grows) c.empty_product-2.ensures.grows))
 
-pub returns-in_err-failure-clause-grows : goal.returns-in_err-failure-clause-grows
-returns-in_err-failure-clause-grows c = passes_trans c.args.self.now c.turn.new.self _ c.turn.ensures.grows (grown c.empty_product-2.new.tables c.self.view_is (grows_trans c.self.inside.tables c.empty_product.new.tables c.empty_product-2.new.tables (grows_trans c.self.inside.tables c.constant.new.self c.empty_product.new.tables c.constant.ensures.grows.grows c.empty_product.ensures.grows) c.empty_product-2.ensures.grows))
+pub returns-in_err-least_failure-clause-grows : goal.returns-in_err-least_failure-clause-grows
+returns-in_err-least_failure-clause-grows c = passes_trans c.args.self.now c.turn.new.self _ c.turn.ensures.grows (grown c.empty_product-2.new.tables c.self.view_is (grows_trans c.self.inside.tables c.empty_product.new.tables c.empty_product-2.new.tables (grows_trans c.self.inside.tables c.constant.new.self c.empty_product.new.tables c.constant.ensures.grows.grows c.empty_product.ensures.grows) c.empty_product-2.ensures.grows))
