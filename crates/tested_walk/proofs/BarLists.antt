@@ -1,14 +1,16 @@
 -- The bars of the moves by an action, gathered a move at a time.
 use Rattle.std.proofs.Common.{◌≡◌, ◌+◌, ◌<◌, ◌≤◌, ◌⊎◌, inl, ⊎_elim, ℕ, Bool, true, List, [], ◌∷◌, ◌++◌, length, take, get_or, eqb, slice_get, Some, refl, sym, ap, ◌∙◌, subst, arith}
-use Rattle.std.specs.List.{filter}
+use Rattle.std.specs.List.{filter, All}
+use Rattle.std.specs.Prelude.{IsPermutation}
 use Rattle.std.proofs.lemmas.Bool.{false≢true, eqb-true, eq-eqb}
 use Rattle.std.proofs.lemmas.List.{get_or_past, take_all, take-append-le}
-use Rattle.std.proofs.lemmas.Option.{slice_get_within}
-use Rattle.kat_model.specs.Members.{Has}
+use Rattle.std.proofs.lemmas.List.Sorted.{All-permutation, IsPermutation-sym}
+use Rattle.std.proofs.lemmas.Option.{slice_get_within, slice_get-get_or, get_or_from_slice_get}
+use Rattle.kat_model.specs.Members.{Has, SameMembers}
 use Rattle.kat_model.specs.Steps.{set_out}
 use Rattle.kat_model.proofs.Lists.{has_left, has_right, has_append}
 use Rattle.kat_model.proofs.Filters.{has_filter, filter_has}
-use Rattle.kat_model.proofs.Places.{slice_get_last}
+use Rattle.kat_model.proofs.Places.{slice_get_last, place_of_member, has_at}
 use Rattle.term_nodes.specs.NodeLists.{NodeParts}
 use Rattle.term_nodes.specs.NodeTrees.{tree_at}
 use Rattle.test_diagrams.specs.Functions.{DiagramsParts, IsDiagramId, IsDiagramOf, IsIndependent}
@@ -100,12 +102,12 @@ module _ (s t : NodeParts) (c d : DiagramsParts) (kept : Keeps s t c d) (moves :
 
 -- all moves were looked at
 module _ (store : NodeParts) (d : DiagramsParts) (moves : List Guarded) (i : ℕ) (bars : List Bar) (asked : List Bool) (so_far : AreBarsSoFar store d moves i bars asked) where
-  pub so_far_all : (all : List Guarded) (act : ℕ) → moves ≡ filter (λ (m : Guarded). eqb m.act act) all → length moves ≤ i → AreBarsOf store d all act bars
-  so_far_all all act is past = record {
-    there = λ m h a. so_far.there m (subst (λ l. Has l m) (sym (take_all i moves past)) (subst (λ l. Has l m) (sym is) (filter_has (λ (x : Guarded). eqb x.act act) all m h (eq-eqb m.act act a))));
+  pub so_far_all : (all : List Guarded) (act : ℕ) → SameMembers moves (filter (λ (m : Guarded). eqb m.act act) all) → length moves ≤ i → AreBarsOf store d all act bars
+  so_far_all all act are past = record {
+    there = λ m h a. so_far.there m (subst (λ l. Has l m) (sym (take_all i moves past)) ((are m).1 (filter_has (λ (x : Guarded). eqb x.act act) all m h (eq-eqb m.act act a))));
     back = λ r h.
         let m = so_far.back r h in
-        let own = has_filter (λ (x : Guarded). eqb x.act act) all m.0 (subst (λ l. Has l m.0) is m.1) in
+        let own = has_filter (λ (x : Guarded). eqb x.act act) all m.0 ((are m.0).0 m.1) in
         (m.0, own.0, eqb-true m.0.act act own.1, m.2);
   }
 
@@ -119,10 +121,23 @@ module _ (store : NodeParts) (d : DiagramsParts) (moves : List Guarded) (i : ℕ
     images = λ e h. absurd (subst (λ l. Has l e) none h);
   }
 
--- the moves by an action, as a list that is read
-module _ (all read own : List Guarded) (act : ℕ) (is : own ≡ filter (λ (m : Guarded). eqb m.act act) all) (same : read ≡ own) where
+-- the order of the moves does not matter
+has_shuffled : (xs ys : List Guarded) → IsPermutation xs ys → (m : Guarded) → Has xs m → Has ys m
+has_shuffled xs ys s m h =
+    let k = place_of_member xs m h in
+    let own : All (Has ys) ys = λ i d lt. has_at ys i (get_or ys i d) (slice_get-get_or ys i d lt) in
+    subst (Has ys) (get_or_from_slice_get xs k.0 m m k.1) (All-permutation (Has ys) ys xs (IsPermutation-sym xs ys s) own k.0 m (slice_get_within xs k.0 m k.1))
+
+-- the moves by an action, in another order
+pub moves_shuffled : (all own other read : List Guarded) (act : ℕ) → own ≡ filter (λ (m : Guarded). eqb m.act act) all → IsPermutation own other → read ≡ other → SameMembers read (filter (λ (m : Guarded). eqb m.act act) all)
+moves_shuffled all own other read act is s same m = (
+  (λ h. subst (λ l. Has l m) is (has_shuffled other own (IsPermutation-sym own other s) m (subst (λ l. Has l m) same h))),
+  (λ h. subst (λ l. Has l m) (sym same) (has_shuffled own other s m (subst (λ l. Has l m) (sym is) h))),
+)
+
+module _ (all read : List Guarded) (act : ℕ) (are : SameMembers read (filter (λ (m : Guarded). eqb m.act act) all)) where
   of_all : (m : Guarded) → Has read m → Has all m
-  of_all m h = (has_filter (λ (x : Guarded). eqb x.act act) all m (subst (λ l. Has l m) (same ∙ is) h)).0
+  of_all m h = (has_filter (λ (x : Guarded). eqb x.act act) all m ((are m).0 h)).0
 
   pub targets_by : (s t : NodeParts) (c d : DiagramsParts) → Keeps s t c d → AreTargets s c.tests all → AreTargets t d.tests read
   targets_by s t c d kept targets m h = AreTargets-kept s t c d kept all targets m (of_all m h)

@@ -129,7 +129,10 @@ pub(crate) fn bars_of(
     ensures right { AreRight store.new diagrams.new derivatives.new }
     ensures kept { Keeps store.old store.new diagrams.old diagrams.new }
 {
-    let own = moves_by(alloc, moves, act)?;
+    let mut own = moves_by(alloc, moves, act)?;
+    // The last bars are taken first. Since hypotheses mostly stand in the order of the tests that they ask, these ask the tests
+    // that diagrams ask first.
+    own.reverse();
     let mut marks = vec![in alloc; false; diagrams.tests()]?;
     let asked = marks.as_mut_slice();
     let mut bars = Vec::new(alloc);

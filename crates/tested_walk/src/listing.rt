@@ -180,10 +180,14 @@ impl Listing {
         ensures reached { IfOk result (IsReachedAt diagrams.new self.now.entries.items self.now.universal set.now targets.now) }
         ensures kept { KeepsFunctions diagrams.old diagrams.new }
     {
+        let never = diagrams.constant(false);
+        if within == never {
+            return Ok(never);
+        }
         if targets.is_empty() {
             return Ok(within);
         }
-        let mut list = vec![in alloc; diagrams.constant(false); self.count]?;
+        let mut list = vec![in alloc; never; self.count]?;
         let marks = list.as_mut_slice();
         mark_all(diagrams, marks, set, within)?;
         saturate(diagrams, marks, &self.entries)?;

@@ -59,6 +59,15 @@ pub(crate) fn mark_all(
     Ok(grew)
 }
 
+// Whether some of the terms is marked at no atom. Only a matter of speed. The last terms come first: sets that are listed one
+// after the other often begin alike.
+fn has_unmarked(marks: &[DiagramId], terms: &[TermId], never: DiagramId) -> bool {
+    terms
+        .iter()
+        .rev()
+        .any(|term| marks.get(term.number()).copied() == Some(never))
+}
+
 // The atoms within the test at which the marks bring all of the terms.
 fn marked_at(
     diagrams: &mut Diagrams,
@@ -72,6 +81,10 @@ fn marked_at(
     ensures brings { IfOk result (λ id. (es : List EntryParts) (set : List ℕ) → AreMarks diagrams.old es set marks.now → Brings diagrams.new es set id terms.now) }
     ensures kept { KeepsFunctions diagrams.old diagrams.new }
 {
+    let never = diagrams.constant(false);
+    if within == never || has_unmarked(marks, terms, never) {
+        return Ok(never);
+    }
     let mut id = within;
     for term in terms {
         let Some(mark) = marks.get(term.number()) else {
