@@ -52,11 +52,6 @@ fn right_fixed(
     diagrams.fix(item.right, test, value)
 }
 
-// For how many items there is to be room at once. So few that they need no second step take none before the first.
-fn room_for(count: usize) -> usize {
-    if count <= 4 { 0 } else { count }
-}
-
 // The items with the test set to the value. Those that are never reached then are left out.
 fn items_with(
     alloc: Global,
@@ -72,7 +67,7 @@ fn items_with(
     ensures items { IfOk result (λ v. AreItemsWith diagrams.old diagrams.new items.now test value v.items) }
     ensures kept { KeepsFunctions diagrams.old diagrams.new }
 {
-    let mut list = Vec::with_capacity(alloc, room_for(items.len()))?;
+    let mut list = Vec::with_capacity(alloc, items.len())?;
     for item in items {
         let left = diagrams.fix(item.left, test, value)?;
         let right = right_fixed(diagrams, item, left, test, value)?;

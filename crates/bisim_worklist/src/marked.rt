@@ -59,14 +59,6 @@ fn set_count(marks: &mut Vec<bool>, count: usize) -> Result<(), NoMemory>
     Ok(())
 }
 
-// Makes room for at least so many counts.
-fn widen_counts(counts: &mut Vec<usize>, count: usize) -> Result<(), NoMemory> {
-    while counts.len() < count {
-        counts.push(0)?;
-    }
-    Ok(())
-}
-
 // Counts each of the terms once more.
 fn count_all(counts: &mut [usize], terms: &[TermId]) {
     for term in terms {
@@ -103,7 +95,9 @@ impl Marked {
     pub(crate) fn count_uses(&mut self) -> Result<(), NoMemory>
         ensures { self.new ≡ self.old }
     {
-        widen_counts(&mut self.uses, self.marks.len())?;
+        if self.uses.len() < self.marks.len() {
+            self.uses.resize(self.marks.len(), 0)?;
+        }
         count_all(&mut self.uses, &self.terms);
         Ok(())
     }

@@ -9,8 +9,8 @@ use std::alloc::Global;
 use std::marker::Model;
 use term_store::TermId;
 
-/// The listed pairs in order, a mark for each term that stands in them, their index, the universal term, where there is one, and how
-/// many pairs may be listed, where there is a limit. All ids are below the count.
+/// The listed pairs in order, a mark for each term that stands in them, their index, the universal term, where there is
+/// one, and how many pairs may be listed, where there is a limit. All ids are below the count.
 #[derive(Drop)]
 pub(crate) struct Rules {
     pairs: Vec<Listed>,

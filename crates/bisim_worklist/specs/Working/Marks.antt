@@ -93,8 +93,8 @@ pub record IsMore (old new : MarkedParts) (grew : Bool) : Type 0 where
 
 -- ---- rules
 
--- the listed pairs, which are rules of congruence, a mark for each term that stands in them, and their index, the universal term, how
--- many ids there are, and how many pairs may be listed, where there is a limit
+-- the listed pairs, which are rules of congruence, a mark for each term that stands in them, and their index, the universal
+-- term, how many ids there are, and how many pairs may be listed, where there is a limit
 pub record RuleParts : Type 0 where
   pub pairs : List IdEntry
   pub members : List Bool
