@@ -71,7 +71,7 @@ pub(crate) fn follow_action(row: &Row, table: &Table, act: usize, to: &mut Row)
 {
     to.clear(table.states);
     for step in table.moves.as_slice() {
-        if step.act == act && row.at(step.from) {
+        if row.at(step.from) && step.act == act {
             to.mark(step.to);
         }
     }

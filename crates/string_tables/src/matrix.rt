@@ -69,9 +69,7 @@ impl Row {
         ensures copied { (j : ℕ) → j < n → slice_index_or self.new j false ≡ slice_index_or other.now j false }
         ensures width { length self.new ≡ length self.old }
     {
-        for j in 0..n {
-            self.values[j] = other.values[j];
-        }
+        copy_values(&mut self.values, &other.values, n);
     }
 
     /// Makes those of the first n entries true that are true in the other row.
@@ -83,6 +81,16 @@ impl Row {
     {
         join_values(&mut self.values, &other.values, n);
     }
+}
+
+// Makes the first n values those of the other list.
+fn copy_values(own: &mut [bool], other: &[bool], n: usize)
+    requires own { n ≤ length own.old }
+    requires others { n ≤ length other.now }
+    ensures copied { (j : ℕ) → j < n → slice_index_or own.new j false ≡ slice_index_or other.now j false }
+    ensures width { length own.new ≡ length own.old }
+{
+    own[..n].copy_from_slice(&other[..n]);
 }
 
 // Makes those of the first n values true that are true in the other list.
