@@ -1,5 +1,5 @@
 -- How tests are asked with all their parts, the greatest first, and which tests a question names.
-use Rattle.std.proofs.Common.{◌≡◌, ◌<◌, ◌≤◌, ◌+◌, ℕ, max, ◌⊎◌, inl, inr, ⊎_elim, true, List, [], ◌∷◌, ◌++◌, map, length, ◌↔◌, slice_get, Option, Some, None, refl, sym, ap, ◌∙◌, subst, arith, suc}
+use Rattle.std.proofs.Common.{◌≡◌, ◌<◌, ◌≤◌, ◌+◌, ℕ, max, ◌⊎◌, inl, inr, ⊎_elim, true, List, [], ◌∷◌, ◌++◌, map, length, ◌↔◌, slice_get, Option, Some, None, refl, sym, ap, ◌∙◌, subst, arith, zero, suc, take, reverse}
 use Rattle.std.specs.List.{All, list_any}
 use Rattle.std.specs.Option.{option_to_list}
 use Rattle.std.specs.Ordering.{nat_cmp, eq_by_cmp}
@@ -9,6 +9,7 @@ use Rattle.std.specs.BTreeSet.{insert_key}
 use Rattle.std.specs.declared.cmp.Ordering.TheVariants.{Less}
 use Rattle.std.proofs.lemmas.Bool.{or_left, or_right, or_cases}
 use Rattle.std.proofs.lemmas.Cmp.{ranked, nat_cmp_total}
+use Rattle.std.proofs.lemmas.List.{reverse-append}
 use Rattle.std.proofs.lemmas.Map.Lookups.{exact_unsigned}
 use Rattle.kat_model.specs.Members.{Has, IsSubset}
 use Rattle.kat_model.proofs.Lists.{has_right, has_append, has_map, map_has}
@@ -65,31 +66,32 @@ adds_two old mid new j k e f x =
 
 -- ---- asking
 
--- some tests are pending, and the parts of those that are asked are pending or asked
-pub record IsAsking (t : TableParts) (old pending asked : List ℕ) : Type 0 where
+-- some tests are pending; the parts of one that was taken are pending or stand before it, where the latest stands first
+pub record IsAsking (t : TableParts) (old pending all : List ℕ) : Type 0 where
   pub pending_there : (k : ℕ) → Has pending k → IsTest t k
-  pub there : (k : ℕ) → Has asked k → IsTest t k
-  pub parts : (k : ℕ) (node : TestNode ℕ) → Has asked k → slice_get t.tests k ≡ Some node → (j : ℕ) → Has (test_parts node) j → Has pending j ⊎ Has asked j
-  pub kept : (k : ℕ) → Has old k → Has pending k ⊎ Has asked k
+  pub parts : (i k : ℕ) → slice_get all i ≡ Some k → IsTest t k × ((node : TestNode ℕ) → slice_get t.tests k ≡ Some node → (j : ℕ) → Has (test_parts node) j → Has pending j ⊎ Has (take i all) j)
+  pub kept : (k : ℕ) → Has old k → Has pending k ⊎ Has all k
 
-pub asking_starts : (t : TableParts) (old none : List ℕ) → ((k : ℕ) → Has old k → IsTest t k) → none ≡ [] → IsAsking t old old none
-asking_starts t old none are empty = subst (IsAsking t old old) (sym empty) (record {
+pub asking_starts : (t : TableParts) (old none : List ℕ) → ((k : ℕ) → Has old k → IsTest t k) → none ≡ [] → IsAsking t old old (reverse none)
+asking_starts t old none are empty = subst (λ l. IsAsking t old old (reverse l)) (sym empty) (record {
   pending_there = are;
-  there = λ k h. absurd h;
-  parts = λ k node h at j p. absurd h;
+  parts = λ i k at. absurd cc;
   kept = λ k h. inl h;
 })
 
-pub asking_ends : (t : TableParts) (old pending asked : List ℕ) → pending ≡ [] → IsAsking t old pending asked → AreAsked t asked × IsSubset old asked
-asking_ends t old pending asked empty g = (
-  (λ k h. (g.there k h, (λ node at j p. ⊎_elim (none j) (λ o. o) (g.parts k node h at j p)))),
-  (λ k h. ⊎_elim (none k) (λ o. o) (g.kept k h)),
+pub asking_ends : (t : TableParts) (old pending all asked : List ℕ) → pending ≡ [] → asked ≡ all → IsAsking t old pending all → AreAsked t asked × IsSubset old asked
+asking_ends t old pending all asked empty same g = subst (λ l. AreAsked t l × IsSubset old l) (sym same) (
+  (λ i k at. ((g.parts i k at).0, λ node f j p. ⊎_elim (none (take i all) j) (λ o. o) ((g.parts i k at).1 node f j p))),
+  (λ k h. ⊎_elim (none all k) (λ o. o) (g.kept k h)),
 )
   where
-    none : (j : ℕ) → Has pending j → Has asked j
-    none j h = absurd (subst (λ l. Has l j) empty h)
+    none : (l : List ℕ) (j : ℕ) → Has pending j → Has l j
+    none l j h = absurd (subst (λ l. Has l j) empty h)
 
-module _ (t : TableParts) (old pending rest next asked : List ℕ) (k : ℕ) (node : TestNode ℕ) (g : IsAsking t old pending asked) (e : pending ≡ rest ++ k ∷ []) (less : All (λ q. nat_cmp q k ≡ Less) rest)
+some_same : {X : Type 0} {x y : X} → Some x ≡ Some y → x ≡ y
+some_same e = cc
+
+module _ (t : TableParts) (old pending rest next items : List ℕ) (k : ℕ) (node : TestNode ℕ) (g : IsAsking t old pending (reverse items)) (e : pending ≡ rest ++ k ∷ []) (less : All (λ q. nat_cmp q k ≡ Less) rest)
     (are : AreTables t) (at : slice_get t.tests k ≡ Some node) (adds : Adds rest next (test_parts node)) where
   taken : Has pending k
   taken = subst (λ l. Has l k) (sym e) (has_right rest (k ∷ []) k (inl refl))
@@ -97,37 +99,25 @@ module _ (t : TableParts) (old pending rest next asked : List ℕ) (k : ℕ) (no
   under : (i : ℕ) → Has next i → i < k
   under i h = ⊎_elim (λ o. ranked i k Less (sym (all_of (λ q. nat_cmp q k ≡ Less) rest less i o))) (IsTestOver-part k node (are.rules.tests_ordered k node at) i) ((adds i).0 h)
 
-  into : (i : ℕ) → Has asked i → Has (insert_key nat_cmp asked k) i
-  into i h = (inserted_has exact_unsigned k asked i).1 (inl h)
-
   -- what was pending is so still, or was taken
-  moved : (i : ℕ) → Has pending i → Has next i ⊎ Has (insert_key nat_cmp asked k) i
-  moved i h =
+  moved : (i : ℕ) (l : List ℕ) → Has pending i ⊎ Has l i → Has next i ⊎ Has (k ∷ l) i
+  moved i l h =
       ⊎_elim
-      (λ o. inl ((adds i).1 (inl o)))
-      (λ s. ⊎_elim (λ is. inr ((inserted_has exact_unsigned k asked i).1 (inr is))) absurd s)
-      (has_append rest (k ∷ []) i (subst (λ l. Has l i) e h))
+      (λ p. ⊎_elim (λ o. inl ((adds i).1 (inl o))) (λ s. ⊎_elim (λ is. inr (inl is)) absurd s) (has_append rest (k ∷ []) i (subst (λ m. Has m i) e p)))
+      (λ r. inr (inr r))
+      h
 
-  still : (i : ℕ) → Has pending i ⊎ Has asked i → Has next i ⊎ Has (insert_key nat_cmp asked k) i
-  still i h = ⊎_elim (moved i) (λ o. inr (into i o)) h
-
-  parts_still : (i : ℕ) (n : TestNode ℕ) → Has (insert_key nat_cmp asked k) i → slice_get t.tests i ≡ Some n → (j : ℕ) → Has (test_parts n) j → Has next j ⊎ Has (insert_key nat_cmp asked k) j
-  parts_still i n h f j m =
-      ⊎_elim
-      (λ o. still j (g.parts i n o f j m))
-      (λ s. let same : node ≡ n = some_same (sym at ∙ ap (slice_get t.tests) s ∙ f) in inl ((adds j).1 (inr (subst (λ x. Has (test_parts x) j) (sym same) m))))
-      ((inserted_has exact_unsigned k asked i).0 h)
-    where
-      some_same : {x y : TestNode ℕ} → Some x ≡ Some y → x ≡ y
-      some_same s = cc
+  parts_still : (i j : ℕ) → slice_get (k ∷ reverse items) i ≡ Some j → IsTest t j × ((n : TestNode ℕ) → slice_get t.tests j ≡ Some n → (x : ℕ) → Has (test_parts n) x → Has next x ⊎ Has (take i (k ∷ reverse items)) x)
+  parts_still zero j f = let same : k ≡ j = some_same f in
+      (subst (IsTest t) same (g.pending_there k taken), λ n h x m. inl ((adds x).1 (inr (subst (λ (y : TestNode ℕ). Has (test_parts y) x) (some_same (sym h ∙ ap (slice_get t.tests) (sym same) ∙ at)) m))))
+  parts_still (suc i) j f = let was = g.parts i j f in (was.0, λ n h x m. moved x (take i (reverse items)) (was.1 n h x m))
 
   -- the greatest test is taken, and its parts are added, which are less
-  pub asking_goes_on : (new : List ℕ) → new ≡ insert_key nat_cmp asked k → IsAsking t old next new
-  asking_goes_on new inserted = subst (IsAsking t old next) (sym inserted) (record {
+  pub asking_goes_on : (new : List ℕ) → new ≡ items ++ k ∷ [] → IsAsking t old next (reverse new)
+  asking_goes_on new pushed = subst (IsAsking t old next) (sym (ap reverse pushed ∙ reverse-append items (k ∷ []))) (record {
     pending_there = λ i h. let b = under i h in let c = g.pending_there k taken in omega (arith, b, c);
-    there = λ i h. ⊎_elim (g.there i) (λ s. subst (IsTest t) s (g.pending_there k taken)) ((inserted_has exact_unsigned k asked i).0 h);
     parts = parts_still;
-    kept = λ i h. still i (g.kept i h);
+    kept = λ i h. moved i (reverse items) (g.kept i h);
   })
 
   -- and what is pending is bounded by it
@@ -170,9 +160,6 @@ option_has None k = (absurd, none_some)
     none_some : None ≡ Some k → Has [] k
     none_some e = cc
 option_has (Some j) k = ((λ h. ⊎_elim (λ e. ap Some e) absurd h), (λ e. inl (some_same e)))
-  where
-    some_same : Some j ≡ Some k → j ≡ k
-    some_same e = cc
 
 -- an empty set that is extended by the test of the pair, if there is one, and by the guards of the targets
 module _ (own : Option ℕ) (left right : List (ℕ × ℕ)) (none first mid last : List ℕ) (empty : none ≡ []) (start : IsUnion (eq_by_cmp nat_cmp) none (option_to_list own) first) (one : IsUnion (eq_by_cmp nat_cmp) first (guards_of left) mid)

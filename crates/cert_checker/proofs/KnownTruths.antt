@@ -1,16 +1,11 @@
 -- What is known of a test is so at each atom with the decided tests.
-use Rattle.std.proofs.Common.{◌≡◌, ℕ, zero, suc, ◌<◌, ◌≤◌, ◌⊎◌, ⊎_elim, inl, inr, set, List, [], ◌∷◌, length, take, drop, get_or, slice_get, refl, sym, ap, ◌∙◌, subst, arith, Bool, true, false, not, ◌&&◌, ◌||◌, Option, Some, None, get_or-set_same}
+use Rattle.std.proofs.Common.{◌≡◌, ℕ, zero, suc, ◌<◌, ◌≤◌, ◌⊎◌, ⊎_elim, inl, inr, set, ◌+◌, List, [], ◌∷◌, ◌++◌, length, take, drop, get_or, slice_get, refl, sym, ap, ◌∙◌, subst, arith, Bool, true, false, not, ◌&&◌, ◌||◌, Option, Some, None, get_or-set_same}
 use Rattle.std.proofs.lemmas.Bool.{and_right, cases_eq}
-use Rattle.std.proofs.lemmas.Cmp.{ranked}
-use Rattle.std.proofs.lemmas.List.{length-set}
-use Rattle.std.proofs.lemmas.Map.Keys.{sorted_head, sorted_tail}
-use Rattle.std.proofs.lemmas.Option.{slice_get-get_or}
-use Rattle.std.specs.List.{AllByRecursion}
-use Rattle.std.specs.List.Sorted.{IsStrictlySortedBy}
-use Rattle.std.specs.Ordering.{nat_cmp}
-use Rattle.std.specs.declared.cmp.Ordering.TheVariants.{Less}
+use Rattle.std.proofs.lemmas.List.{length-set, take_more, take_all}
+use Rattle.std.proofs.lemmas.Option.{slice_get-get_or, slice_get_within, get_or_from_slice_get}
 use Rattle.kat_model.specs.Members.{Has}
 use Rattle.kat_model.specs.Steps.{Atom, truth}
+use Rattle.kat_model.proofs.Lists.{has_append}
 use Rattle.kat_model.proofs.Places.{has_at, get_or-set_cases}
 use Rattle.term_nodes.specs.declared.TestNode.{TestNode}
 use Rattle.term_nodes.specs.declared.TestNode.TheVariants.{False, True, Prim, Not, And, Or}
@@ -101,71 +96,46 @@ module _ (first : ℕ) (t : TableParts) (are : AreTables t) (decided : List (Opt
       by_node (And x y) e part = and_known first decided (holds_at t x) (holds_at t y) (known_of known x) (known_of known y) (part x (inl refl)) (part y (inr (inl refl)))
       by_node (Or x y) e part = or_known first decided (holds_at t x) (holds_at t y) (known_of known x) (known_of known y) (part x (inl refl)) (part y (inr (inl refl)))
 
--- ---- the asked tests, in ascending order
+-- ---- the asked tests, one after the other
 
--- those that are left ascend, and of the others it is known
-pub record IsEvaluating (first : ℕ) (t : TableParts) (decided : List (Option Bool)) (asked rest : List ℕ) (old new : List Known) : Type 0 where
-  pub sorted : IsStrictlySortedBy nat_cmp rest
-  pub left : (k : ℕ) → Has rest k → Has asked k
-  pub done : (k : ℕ) → Has asked k → Has rest k ⊎ IsKnown first decided (holds_at t k) (known_of new k)
+-- of the first so many it is known
+pub record IsEvaluating (first : ℕ) (t : TableParts) (decided : List (Option Bool)) (asked : List ℕ) (i : ℕ) (old new : List Known) : Type 0 where
+  pub done : AreKnown first t decided (take i asked) new
   pub others : (k : ℕ) → (Has asked k → ⊥) → known_of new k ≡ known_of old k
   pub room : length new ≡ length old
 
-pub evaluating_starts : (first : ℕ) (t : TableParts) (decided : List (Option Bool)) (asked rest : List ℕ) (known : List Known) → rest ≡ asked → IsStrictlySortedBy nat_cmp asked → IsEvaluating first t decided asked rest known known
-evaluating_starts first t decided asked rest known e sorted = record {
-  sorted = subst (IsStrictlySortedBy nat_cmp) (sym e) sorted;
-  left = λ k h. subst (λ l. Has l k) e h;
-  done = λ k h. inl (subst (λ l. Has l k) (sym e) h);
-  others = λ k h. refl;
-  room = refl;
-}
+pub evaluating_starts : (first : ℕ) (t : TableParts) (decided : List (Option Bool)) (asked : List ℕ) (known : List Known) → IsEvaluating first t decided asked 0 known known
+evaluating_starts first t decided asked known = record { done = λ k h. absurd h; others = λ k h. refl; room = refl }
 
--- the next one is a test of the tables
-pub next_test : (first : ℕ) (t : TableParts) (decided : List (Option Bool)) (asked rest : List ℕ) (old new : List Known) → AreAsked t asked → IsEvaluating first t decided asked rest old new → (k : ℕ) (more : List ℕ) → rest ≡ k ∷ more → IsTest t k
-next_test first t decided asked rest old new closed e k more cut = (closed k (e.left k (subst (λ l. Has l k) (sym cut) (inl refl)))).0
-
-above_first : (k : ℕ) (ks : List ℕ) (j : ℕ) → AllByRecursion (λ y. nat_cmp k y ≡ Less) ks → Has ks j → k < j
-above_first k [] j all h = absurd h
-above_first k (l ∷ ks) j all h = ⊎_elim (λ s. subst (λ n. k < n) s (ranked k l Less (sym all.0))) (λ r. above_first k ks j all.1 r) h
-
-module _ (first : ℕ) (t : TableParts) (decided : List (Option Bool)) (asked : List ℕ) (k : ℕ) (rest : List ℕ) (old now : List Known) (are : AreTables t) (closed : AreAsked t asked) (width : length decided ≡ t.width)
-    (node : TestNode ℕ) (at : slice_get t.tests k ≡ Some node) (e : IsEvaluating first t decided asked (k ∷ rest) old now) where
-  own : Has asked k
-  own = e.left k (inl refl)
-
+module _ (first : ℕ) (t : TableParts) (decided : List (Option Bool)) (asked : List ℕ) (i k : ℕ) (is : slice_get asked i ≡ Some k) (old now : List Known) (are : AreTables t) (closed : AreAsked t asked) (width : length decided ≡ t.width)
+    (node : TestNode ℕ) (at : slice_get t.tests k ≡ Some node) (e : IsEvaluating first t decided asked i old now) where
   -- the parts of the next test come before it
   part : (x : ℕ) → Has (test_parts node) x → IsKnown first decided (holds_at t x) (known_of now x)
-  part x h =
-      let low : x < k = IsTestOver-part k node (are.rules.tests_ordered k node at) x h in
-      ⊎_elim
-      (λ r. ⊎_elim
-      (λ s. absurd (omega (arith, s, low)))
-      (λ m. let high : k < x = above_first k rest x (sorted_head nat_cmp k rest e.sorted) m in absurd (omega (arith, low, high)))
-      r)
-      (λ told. told)
-      (e.done x ((closed k own).1 node at x h))
+  part x h = e.done x ((closed i k is).1 node at x h)
 
-  module _ (x : Known) (is : x ≡ known_node first decided now node) (low : k < length now) where
+  -- the next one is one of those that were taken then
+  taken : take (i + 1) asked ≡ take i asked ++ k ∷ []
+  taken = take_more asked i k (slice_get_within asked i k is) ∙ ap (λ x. take i asked ++ x ∷ []) (get_or_from_slice_get asked i k k is)
+
+  module _ (x : Known) (told : x ≡ known_node first decided now node) (low : k < length now) where
     abbrev Told : ℕ → Type 0
     Told j = IsKnown first decided (holds_at t j) (known_of (set now k x) j)
 
     here : Told k
-    here = subst (IsKnown first decided (holds_at t k)) (sym (get_or-set_same now k x (Value false) low ∙ is)) (node_known first t are decided width now k node at part)
+    here = subst (IsKnown first decided (holds_at t k)) (sym (get_or-set_same now k x (Value false) low ∙ told)) (node_known first t are decided width now k node at part)
 
     kept : (j : ℕ) → IsKnown first decided (holds_at t j) (known_of now j) → Told j
-    kept j told = ⊎_elim (λ s. subst Told (sym s) here) (λ same. subst (IsKnown first decided (holds_at t j)) same told) (get_or-set_cases now k j x (known_of (set now k x) j) (Value false) refl)
+    kept j known = ⊎_elim (λ s. subst Told (sym s) here) (λ same. subst (IsKnown first decided (holds_at t j)) same known) (get_or-set_cases now k j x (known_of (set now k x) j) (Value false) refl)
 
-    pub evaluating_more : IsEvaluating first t decided asked rest old (set now k x)
+    pub evaluating_more : IsEvaluating first t decided asked (i + 1) old (set now k x)
     evaluating_more = record {
-      sorted = sorted_tail nat_cmp k rest e.sorted;
-      left = λ j h. e.left j (inr h);
-      done = λ j h. ⊎_elim (λ r. ⊎_elim (λ s. inr (subst Told s here)) inl r) (λ told. inr (kept j told)) (e.done j h);
-      others = λ j h. ⊎_elim (λ s. absurd (h (subst (Has asked) (sym s) own))) (λ same. sym same ∙ e.others j h) (get_or-set_cases now k j x (known_of (set now k x) j) (Value false) refl);
+      done = λ j h. ⊎_elim (λ r. kept j (e.done j r)) (λ s. ⊎_elim (λ same. subst Told same here) absurd s) (has_append (take i asked) (k ∷ []) j (subst (λ l. Has l j) taken h));
+      others = λ j h. ⊎_elim (λ s. absurd (h (subst (Has asked) (sym s) (has_at asked i k is)))) (λ same. sym same ∙ e.others j h) (get_or-set_cases now k j x (known_of (set now k x) j) (Value false) refl);
       room = length-set now k x ∙ e.room;
     }
 
-pub evaluating_ends : (first : ℕ) (t : TableParts) (decided : List (Option Bool)) (asked rest : List ℕ) (old new : List Known) → rest ≡ [] → IsEvaluating first t decided asked rest old new → AreKnown first t decided asked new
-evaluating_ends first t decided asked rest old new e now k h = ⊎_elim (λ r. absurd (subst (λ l. Has l k) e r)) (λ told. told) (now.done k h)
+pub evaluating_ends : (first : ℕ) (t : TableParts) (decided : List (Option Bool)) (asked : List ℕ) (i : ℕ) (old new : List Known) → length asked ≤ i → IsEvaluating first t decided asked i old new → AreKnown first t decided asked new
+evaluating_ends first t decided asked i old new past e = subst (λ l. AreKnown first t decided l new) (take_all i asked past) e.done
 
 -- ---- two lists of asked tests
 

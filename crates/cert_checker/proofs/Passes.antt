@@ -43,10 +43,10 @@ module _ (t new : TableParts) (grows : TablesGrow t new) where
       same atom to f h = ap₂ (λ x y. x && y) (holds_kept t new grows.was grows f.0 atom (tell.tests f h).0) (holds_kept t new grows.was grows f.1 to (tell.tests f h).1)
 
   pub asked_stay : (asked : List ℕ) → AreAsked t asked → AreAsked new asked
-  asked_stay asked are k h = (test_within t new grows.was grows k (are k h).0, λ node at j m. (are k h).1 node (was node at) j m)
+  asked_stay asked are i k h = (test_within t new grows.was grows k (are i k h).0, λ node at. (are i k h).1 node (was node at))
     where
       was : (node : TestNode ℕ) → slice_get new.tests k ≡ Some node → slice_get t.tests k ≡ Some node
-      was node at = sym (slice_get-append_left t.tests grows.nodes.tests.0 k (are k h).0) ∙ ap (λ l. slice_get l k) (sym grows.nodes.tests.1) ∙ at
+      was node at = sym (slice_get-append_left t.tests grows.nodes.tests.0 k (are i k h).0) ∙ ap (λ l. slice_get l k) (sym grows.nodes.tests.1) ∙ at
 
   pub values_stay : (values : Atom → Bool) (k : ℕ) → HasValues t values k → HasValues new values k
   values_stay values k h = (test_within t new grows.was grows k h.0, (λ atom. holds_kept t new grows.was grows k atom h.0 ∙ h.1 atom))

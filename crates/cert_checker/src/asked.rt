@@ -9,18 +9,18 @@ use checker_steps::Tables;
 use kat_model::NoMemory;
 use std::collections::BTreeSet;
 
-/// These tests, and those of which they are made.
+/// These tests, and those of which they are made, which come first.
 pub(crate) fn with_parts(
     tables: &Tables,
     mut tests: BTreeSet<usize>,
-) -> Result<BTreeSet<usize>, NoMemory>
+) -> Result<Vec<usize>, NoMemory>
     requires { (k : ℕ) → Has tests.keys k → IsTest tables.now k }
-    ensures asked { IfOk result (λ s. AreAsked tables.now s.keys) }
-    ensures kept { IfOk result (λ s. IsSubset tests.keys s.keys) }
+    ensures asked { IfOk result (λ v. AreAsked tables.now v.items) }
+    ensures kept { IfOk result (λ v. IsSubset tests.keys v.items) }
 {
-    let mut asked = BTreeSet::new(tables.alloc());
+    let mut asked = Vec::new(tables.alloc());
     while let Some(test) = tests.pop_last() {
-        asked.insert(test)?;
+        asked.push(test)?;
         match tables.test_node(test) {
             TestNode::False | TestNode::True | TestNode::Prim(_) => {}
             TestNode::Not(x) => {
@@ -32,5 +32,6 @@ pub(crate) fn with_parts(
             }
         }
     }
+    asked.reverse();
     Ok(asked)
 }

@@ -11,7 +11,6 @@ use certificate::TestNode;
 use checker_steps::Tables;
 use kat_model::NoMemory;
 use std::alloc::Global;
-use std::collections::BTreeSet;
 
 /// What is known of a truth value.
 #[derive(Clone, Copy, Debug, PartialEq, Eq)]
@@ -98,19 +97,19 @@ fn known_in(node: TestNode, known: &[Known], decided: &[Option<bool>], first: us
 fn evaluate(
     known: &mut [Known],
     tables: &Tables,
-    asked: &BTreeSet<usize>,
+    asked: &[usize],
     decided: &[Option<bool>],
     first: usize,
 )
     requires room { length tables.now.tests ≤ length known.old }
-    requires asked { AreAsked tables.now asked.now.keys }
+    requires asked { AreAsked tables.now asked.now }
     requires decided { length decided.now ≡ tables.now.width }
     requires narrow { first ≤ tables.now.width }
-    ensures known { AreKnown first tables.now decided.now asked.now.keys known.new }
-    ensures others { (k : ℕ) → (Has asked.now.keys k → ⊥) → known_of known.new k ≡ known_of known.old k }
+    ensures known { AreKnown first tables.now decided.now asked.now known.new }
+    ensures others { (k : ℕ) → (Has asked.now k → ⊥) → known_of known.new k ≡ known_of known.old k }
     ensures room { length known.new ≡ length known.old }
 {
-    for test in asked.iter() {
+    for test in asked {
         known[*test] = known_in(tables.test_node(*test), known, decided, first);
     }
 }

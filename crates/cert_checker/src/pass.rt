@@ -298,8 +298,7 @@ impl<'a> Pass<'a> {
         ensures first { IfOk result (λ o. IsFirstOf self.old.problem self.old.cert (λ n. n ≡ turn_number action) (option_map (place_reason self.old.cert.style) o)) }
         ensures grows { PassGrows self.old self.new }
     {
-        let alloc = self.tables.alloc();
-        let width = self.tables.width();
+        let (alloc, width) = (self.tables.alloc(), self.tables.width());
         let cert = self.cert;
         let turn = self.turn(action)?;
         let mut case = Case::new(alloc, width)?;

@@ -22,8 +22,8 @@ pub(crate) struct Turn<'a> {
     /// tests that these name at the first atom, and those that they and the pairs name at the second, with the tests of
     /// which these are made.
     pub forbidden: Vec<(usize, usize)>,
-    pub begin: BTreeSet<usize>,
-    pub end: BTreeSet<usize>,
+    pub begin: Vec<usize>,
+    pub end: Vec<usize>,
 }
 
 impl<'a> Model for Turn<'a> {
@@ -32,7 +32,7 @@ impl<'a> Model for Turn<'a> {
 
     ghost Value = { TurnParts };
 
-    ghost view = { λ t. record { action = t.action; steps = map (λ x. x.entries) t.steps.items; style = t.style; pairs = t.pairs.now; index = t.index.now; universal = t.universal; forbidden = t.forbidden.items; begin = t.begin.keys; end = t.end.keys } };
+    ghost view = { λ t. record { action = t.action; steps = map (λ x. x.entries) t.steps.items; style = t.style; pairs = t.pairs.now; index = t.index.now; universal = t.universal; forbidden = t.forbidden.items; begin = t.begin.items; end = t.end.items } };
 }
 
 /// A question about two atoms, those at which a move begins and ends. Where the test of the pair is true at the first and
@@ -47,7 +47,7 @@ pub(crate) struct Question<'a> {
     pub left: Targets,
     pub right: Targets,
     /// The tests that the targets and the pair name, with those of which they are made.
-    pub asked: BTreeSet<usize>,
+    pub asked: Vec<usize>,
 }
 
 impl<'a> Model for Question<'a> {
@@ -55,7 +55,7 @@ impl<'a> Model for Question<'a> {
 
     ghost Value = { QuestionParts };
 
-    ghost view = { λ q. record { tables = q.tables.now; turn = q.turn.now; own = q.own; left = q.left.entries; right = q.right.entries; asked = q.asked.keys } };
+    ghost view = { λ q. record { tables = q.tables.now; turn = q.turn.now; own = q.own; left = q.left.entries; right = q.right.entries; asked = q.asked.items } };
 }
 
 impl<'a> Question<'a> {

@@ -1,6 +1,6 @@
 -- Cases on tests: some tests are decided, and what is known of a test where they are.
-use Rattle.std.specs.Prelude.{◌≡◌, ◌+◌, ℕ, Bool, true, false, not, List, [], ◌∷◌, slice_get, slice_index_or, replicate, map, Option, Some, None, unwrap_or}
-use Rattle.kat_model.specs.Members.{Has}
+use Rattle.std.specs.Prelude.{◌≡◌, ◌+◌, ℕ, Bool, true, false, not, List, [], ◌∷◌, slice_get, slice_index_or, replicate, map, take, Option, Some, None, unwrap_or}
+use Rattle.kat_model.specs.Members.{Has, IsSubset}
 use Rattle.kat_model.specs.Steps.{Atom}
 use Rattle.term_nodes.specs.declared.TestNode.{TestNode}
 use Rattle.term_nodes.specs.declared.TestNode.TheVariants.{False, True, Prim, Not, And, Or}
@@ -76,10 +76,10 @@ abbrev pub falsely : Known → Bool
 falsely (Value b) = not b
 falsely (Waits k) = false
 
--- the numbers are those of tests of the tables, and with each test are those of which it is made
+-- the numbers are those of tests of the tables, and those of which a test is made stand before it
 abbrev pub AreAsked : TableParts → List ℕ → Type 0
 AreAsked t asked =
-    (k : ℕ) → Has asked k → IsTest t k × ((node : TestNode ℕ) → slice_get t.tests k ≡ Some node → (j : ℕ) → Has (test_parts node) j → Has asked j)
+    (i k : ℕ) → slice_get asked i ≡ Some k → IsTest t k × ((node : TestNode ℕ) → slice_get t.tests k ≡ Some node → IsSubset (test_parts node) (take i asked))
 
 -- the list tells what is known of each of these tests of the tables
 abbrev pub AreKnown : ℕ → TableParts → List (Option Bool) → List ℕ → List Known → Type 0

@@ -1,8 +1,9 @@
+use Rattle.std.proofs.Common.{reverse}
 use Rattle.cert_checker.proofs.AskedTests.{bound_of, IsAsking}
 use Rattle.cert_checker.proofs.asked.with_parts.Given as goal
 
 abbrev pub invariant-loop-test : goal.invariant-loop-test
-invariant-loop-test l = IsAsking l.tables l.initial.tests.keys l.tests.keys l.asked.keys
+invariant-loop-test l = IsAsking l.tables l.initial.tests.keys l.tests.keys (reverse l.asked.items)
 
 -- the greatest test that is pending falls
 abbrev pub decreases-loop-test : goal.decreases-loop-test

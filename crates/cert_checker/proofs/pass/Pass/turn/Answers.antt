@@ -103,8 +103,8 @@ returns-clause-turn c =
     let third_made = items_from_extend c.extend-3.result c.extend-3.ensures.ran (YieldsList-from_filter_map _ (λ (r : PairParts). r.test) (YieldsList-from_slice prs cc) c.filter_map.ensures.closure (λ x r q k. search (rules, tests))) in
     let third = rw c.in_ok-extend-3.was at third_made in
     let low : length c.self.inside.needed.items ≤ length t.terms = omega (arith, begun.marks, begun.there) in
-    let begin_asked = subst (λ z. AreAsked z c.in_ok-with_parts.field-0.keys) tables c.in_ok-with_parts.ensures.asked in
-    let end_asked = subst (λ z. AreAsked z c.in_ok-with_parts-2.field-0.keys) tables c.in_ok-with_parts-2.ensures.asked in
+    let begin_asked = subst (λ z. AreAsked z c.in_ok-with_parts.field-0.items) tables c.in_ok-with_parts.ensures.asked in
+    let end_asked = subst (λ z. AreAsked z c.in_ok-with_parts-2.field-0.items) tables c.in_ok-with_parts-2.ensures.asked in
     record {
       steps = subst (λ (z : PassParts). StepsOf p.tables c.args.action z.needed made) (sym grows.same) (steps_stay t p.tables grows.tables c.args.action c.self.inside.needed.items made low stand);
       style = asked.0 ∙ ap (λ (z : PassParts). option_map_or (λ a. z.cert.style) c.args.action UpTo) (sym grows.same);
