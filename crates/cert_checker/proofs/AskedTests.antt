@@ -1,68 +1,26 @@
 -- How tests are asked with all their parts, the greatest first, and which tests a question names.
-use Rattle.std.proofs.Common.{◌≡◌, ◌<◌, ◌≤◌, ◌+◌, ℕ, max, ◌⊎◌, inl, inr, ⊎_elim, true, List, [], ◌∷◌, ◌++◌, map, length, ◌↔◌, slice_get, Option, Some, None, refl, sym, ap, ◌∙◌, subst, arith, zero, suc, take, reverse}
+use Rattle.std.proofs.Common.{◌≡◌, ◌<◌, ◌+◌, ℕ, ◌⊎◌, inl, inr, ⊎_elim, true, List, [], ◌∷◌, ◌++◌, map, ◌↔◌, slice_get, Option, Some, None, refl, sym, ap, ◌∙◌, subst, arith, zero, suc, take, reverse}
 use Rattle.std.specs.List.{All, list_any}
 use Rattle.std.specs.Option.{option_to_list}
 use Rattle.std.specs.Ordering.{nat_cmp, eq_by_cmp}
 use Rattle.std.specs.Set.{IsUnion}
 use Rattle.std.specs.BTreeMap.{is_at}
-use Rattle.std.specs.BTreeSet.{insert_key}
 use Rattle.std.specs.declared.cmp.Ordering.TheVariants.{Less}
 use Rattle.std.proofs.lemmas.Bool.{or_left, or_right, or_cases}
 use Rattle.std.proofs.lemmas.Cmp.{ranked, nat_cmp_total}
 use Rattle.std.proofs.lemmas.List.{reverse-append}
+use Rattle.std.proofs.lemmas.Option.{same_Some}
 use Rattle.std.proofs.lemmas.Map.Lookups.{exact_unsigned}
 use Rattle.kat_model.specs.Members.{Has, IsSubset}
 use Rattle.kat_model.proofs.Lists.{has_right, has_append, has_map, map_has}
-use Rattle.kat_model.proofs.SetKeys.{found_has, inserted_has}
+use Rattle.kat_model.proofs.SetKeys.{found_has}
+use Rattle.kat_model.proofs.NumberKeys.{all_of, Adds, bound_of, bound_above, bound_least}
 use Rattle.term_nodes.specs.declared.TestNode.{TestNode}
 use Rattle.term_nodes.specs.Nodes.{test_parts}
 use Rattle.term_nodes.proofs.Parts.{IsTestOver-part}
 use Rattle.checker_steps.specs.NodeTables.{TableParts, AreTables, IsTest}
 use Rattle.checker_steps.specs.Targets.{AreEntries}
 use Rattle.cert_checker.specs.Working.Cases.{AreAsked}
-
--- ---- lists of numbers
-
-all_of : (P : ℕ → Type 0) (xs : List ℕ) → All P xs → (x : ℕ) → Has xs x → P x
-all_of P [] all x h = absurd h
-all_of P (y ∷ xs) all x h =
-    ⊎_elim (λ e. subst P e (all 0 y (omega arith))) (λ r. all_of P xs (λ k d lt. all (suc k) d (omega (arith, lt))) x r) h
-
--- the least number above all
-abbrev pub bound_of : List ℕ → ℕ
-bound_of [] = 0
-bound_of (k ∷ ks) = max (k + 1) (bound_of ks)
-
-bound_above : (ks : List ℕ) (x : ℕ) → Has ks x → x < bound_of ks
-bound_above [] x h = absurd h
-bound_above (k ∷ ks) x h = ⊎_elim (λ e. omega (arith, e)) (λ r. let more = bound_above ks x r in omega (arith, more)) h
-
-bound_least : (ks : List ℕ) (n : ℕ) → ((x : ℕ) → Has ks x → x < n) → bound_of ks ≤ n
-bound_least [] n f = omega arith
-bound_least (k ∷ ks) n f = let first = f k (inl refl) in let rest = bound_least ks n (λ x h. f x (inr h)) in omega (arith, first, rest)
-
--- ---- keys that are added
-
--- the numbers are those of the first list and these
-abbrev pub Adds : List ℕ → List ℕ → List ℕ → Type 0
-Adds old new added = (x : ℕ) → Has new x ↔ (Has old x ⊎ Has added x)
-
-pub adds_none : (old : List ℕ) → Adds old old []
-adds_none old x = (inl, (λ h. ⊎_elim (λ o. o) absurd h))
-
-pub adds_one : (old new : List ℕ) (k : ℕ) → new ≡ insert_key nat_cmp old k → Adds old new (k ∷ [])
-adds_one old new k e x = subst (λ ns. Has ns x ↔ (Has old x ⊎ Has (k ∷ []) x)) (sym e) (
-  (λ h. ⊎_elim inl (λ s. inr (inl s)) ((inserted_has exact_unsigned k old x).0 h)),
-  (λ h. (inserted_has exact_unsigned k old x).1 (⊎_elim inl (λ m. inr (⊎_elim (λ z. z) absurd m)) h)),
-)
-
-pub adds_two : (old mid new : List ℕ) (j k : ℕ) → mid ≡ insert_key nat_cmp old j → new ≡ insert_key nat_cmp mid k → Adds old new (j ∷ k ∷ [])
-adds_two old mid new j k e f x =
-    let first = adds_one old mid j e x in
-    let second = adds_one mid new k f x in (
-      (λ h. ⊎_elim (λ m. ⊎_elim inl (λ a. inr (⊎_elim inl absurd a)) (first.0 m)) (λ a. inr (inr a)) (second.0 h)),
-      (λ h. ⊎_elim (λ o. second.1 (inl (first.1 (inl o)))) (λ m. ⊎_elim (λ s. second.1 (inl (first.1 (inr (inl s))))) (λ r. second.1 (inr r)) m) h),
-    )
 
 -- ---- asking
 
@@ -88,9 +46,6 @@ asking_ends t old pending all asked empty same g = subst (λ l. AreAsked t l × 
     none : (l : List ℕ) (j : ℕ) → Has pending j → Has l j
     none l j h = absurd (subst (λ l. Has l j) empty h)
 
-some_same : {X : Type 0} {x y : X} → Some x ≡ Some y → x ≡ y
-some_same e = cc
-
 module _ (t : TableParts) (old pending rest next items : List ℕ) (k : ℕ) (node : TestNode ℕ) (g : IsAsking t old pending (reverse items)) (e : pending ≡ rest ++ k ∷ []) (less : All (λ q. nat_cmp q k ≡ Less) rest)
     (are : AreTables t) (at : slice_get t.tests k ≡ Some node) (adds : Adds rest next (test_parts node)) where
   taken : Has pending k
@@ -108,8 +63,8 @@ module _ (t : TableParts) (old pending rest next items : List ℕ) (k : ℕ) (no
       h
 
   parts_still : (i j : ℕ) → slice_get (k ∷ reverse items) i ≡ Some j → IsTest t j × ((n : TestNode ℕ) → slice_get t.tests j ≡ Some n → (x : ℕ) → Has (test_parts n) x → Has next x ⊎ Has (take i (k ∷ reverse items)) x)
-  parts_still zero j f = let same : k ≡ j = some_same f in
-      (subst (IsTest t) same (g.pending_there k taken), λ n h x m. inl ((adds x).1 (inr (subst (λ (y : TestNode ℕ). Has (test_parts y) x) (some_same (sym h ∙ ap (slice_get t.tests) (sym same) ∙ at)) m))))
+  parts_still zero j f = let same : k ≡ j = same_Some k j f in
+      (subst (IsTest t) same (g.pending_there k taken), λ n h x m. inl ((adds x).1 (inr (subst (λ (y : TestNode ℕ). Has (test_parts y) x) (same_Some n node (sym h ∙ ap (slice_get t.tests) (sym same) ∙ at)) m))))
   parts_still (suc i) j f = let was = g.parts i j f in (was.0, λ n h x m. moved x (take i (reverse items)) (was.1 n h x m))
 
   -- the greatest test is taken, and its parts are added, which are less
@@ -126,15 +81,6 @@ module _ (t : TableParts) (old pending rest next items : List ℕ) (k : ℕ) (no
       let l = bound_least next k under in
       let b = bound_above pending k taken in
       omega (arith, l, b)
-
--- ---- what the calls tell
-
-pub last_has : (ks rest : List ℕ) (k : ℕ) → ks ≡ rest ++ k ∷ [] → Has ks k
-last_has ks rest k e = subst (λ l. Has l k) (sym e) (has_right rest (k ∷ []) k (inl refl))
-
-pub none_left : (ks : List ℕ) → (0 < length ks → ⊥) → ks ≡ []
-none_left [] f = refl
-none_left (k ∷ ks) f = absurd (f (omega arith))
 
 -- ---- sets that are extended
 
@@ -159,7 +105,7 @@ option_has None k = (absurd, none_some)
   where
     none_some : None ≡ Some k → Has [] k
     none_some e = cc
-option_has (Some j) k = ((λ h. ⊎_elim (λ e. ap Some e) absurd h), (λ e. inl (some_same e)))
+option_has (Some j) k = ((λ h. ⊎_elim (λ e. ap Some e) absurd h), (λ e. inl (same_Some j k e)))
 
 -- an empty set that is extended by the test of the pair, if there is one, and by the guards of the targets
 module _ (own : Option ℕ) (left right : List (ℕ × ℕ)) (none first mid last : List ℕ) (empty : none ≡ []) (start : IsUnion (eq_by_cmp nat_cmp) none (option_to_list own) first) (one : IsUnion (eq_by_cmp nat_cmp) first (guards_of left) mid)

@@ -1,5 +1,5 @@
 -- What is known of a test is so at each atom with the decided tests.
-use Rattle.std.proofs.Common.{◌≡◌, ℕ, zero, suc, ◌<◌, ◌≤◌, ◌⊎◌, ⊎_elim, inl, inr, set, ◌+◌, List, [], ◌∷◌, ◌++◌, length, take, drop, get_or, slice_get, refl, sym, ap, ◌∙◌, subst, arith, Bool, true, false, not, ◌&&◌, ◌||◌, Option, Some, None, get_or-set_same}
+use Rattle.std.proofs.Common.{◌≡◌, ℕ, zero, suc, ◌<◌, ◌≤◌, ◌⊎◌, ⊎_elim, inl, inr, set, ◌+◌, List, [], ◌∷◌, ◌++◌, length, take, drop, get_or, slice_get, refl, sym, ap, ◌∙◌, subst, Bool, true, false, not, ◌&&◌, ◌||◌, Option, Some, None, get_or-set_same}
 use Rattle.std.proofs.lemmas.Bool.{and_right, cases_eq}
 use Rattle.std.proofs.lemmas.List.{length-set, take_more, take_all}
 use Rattle.std.proofs.lemmas.Option.{slice_get-get_or, slice_get_within, get_or_from_slice_get}
@@ -11,9 +11,9 @@ use Rattle.term_nodes.specs.declared.TestNode.{TestNode}
 use Rattle.term_nodes.specs.declared.TestNode.TheVariants.{False, True, Prim, Not, And, Or}
 use Rattle.term_nodes.specs.Nodes.{IsTestOver, test_parts}
 use Rattle.term_nodes.specs.NodeTrees.{test_tree_in}
-use Rattle.term_nodes.proofs.Parts.{IsTestOver-more, IsTestOver-part}
+use Rattle.term_nodes.proofs.Parts.{IsTestOver-more}
 use Rattle.term_nodes.proofs.TestTrees.{test_tree_at-node}
-use Rattle.checker_steps.specs.NodeTables.{TableParts, AreTables, IsTest, IsWithin, holds_at, nodes_in}
+use Rattle.checker_steps.specs.NodeTables.{TableParts, AreTables, IsWithin, holds_at, nodes_in}
 use Rattle.cert_checker.specs.declared.known.Case.{Case}
 use Rattle.cert_checker.specs.declared.known.Known.{Known}
 use Rattle.cert_checker.specs.declared.known.Known.TheVariants.{Value, Waits}

@@ -2,6 +2,7 @@ pub mod Lists
 pub mod Filters
 pub mod Places
 pub mod SetKeys
+pub mod NumberKeys
 pub mod ValuesInOrder
 pub mod Faults
 pub mod Ranges

@@ -1,5 +1,5 @@
 -- Members of sets that are kept as keys in order.
-use Rattle.std.proofs.Common.{◌≡◌, ◌<◌, ◌≤◌, ◌+◌, length, get_or, take, ◌⊎◌, ◌↔◌, inl, inr, ⊎_elim, ℕ, true, nat_eq, List, [], ◌∷◌, ◌++◌, refl, sym, subst}
+use Rattle.std.proofs.Common.{◌≡◌, ◌<◌, ◌≤◌, ◌+◌, length, get_or, take, ◌⊎◌, inl, inr, ⊎_elim, ℕ, true, nat_eq, List, [], ◌∷◌, ◌++◌, refl, sym, subst}
 use Rattle.std.specs.List.{list_any}
 use Rattle.std.specs.Ordering.{nat_cmp}
 use Rattle.std.proofs.lemmas.Bool.{eq-eqb}
@@ -37,21 +37,6 @@ adds_last old new terms i le a = subst (AddsAll old new) (take_all i terms le) a
 
 pub inserted_kept : (old ks new : List ℕ) (k : ℕ) → new ≡ insert_key nat_cmp ks k → IsSubset old ks → IsSubset old new
 inserted_kept old ks new k e s = subst (IsSubset old) (sym e) (λ x h. (inserted_has exact_unsigned k ks x).1 (inl (s x h)))
-
--- one key, or two
-pub adds_single : (old new : List ℕ) (k : ℕ) → new ≡ insert_key nat_cmp old k → AddsAll old new (k ∷ [])
-adds_single old new k e x = subst (λ ns. Has ns x ↔ (Has old x ⊎ Has (k ∷ []) x)) (sym e) (
-  (λ h. ⊎_elim inl (λ s. inr (inl s)) ((inserted_has exact_unsigned k old x).0 h)),
-  (λ h. (inserted_has exact_unsigned k old x).1 (⊎_elim inl (λ m. inr (⊎_elim (λ z. z) absurd m)) h)),
-)
-
-pub adds_two : (old mid new : List ℕ) (j k : ℕ) → mid ≡ insert_key nat_cmp old j → new ≡ insert_key nat_cmp mid k → AddsAll old new (j ∷ k ∷ [])
-adds_two old mid new j k e f x =
-    let first = adds_single old mid j e x in
-    let second = adds_single mid new k f x in (
-      (λ h. ⊎_elim (λ m. ⊎_elim inl (λ a. inr (⊎_elim inl absurd a)) (first.0 m)) (λ a. inr (inr a)) (second.0 h)),
-      (λ h. ⊎_elim (λ o. second.1 (inl (first.1 (inl o)))) (λ m. ⊎_elim (λ s. second.1 (inl (first.1 (inr (inl s))))) (λ r. second.1 (inr r)) m) h),
-    )
 
 -- ---- keys in order of insertion
 

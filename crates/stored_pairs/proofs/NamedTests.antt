@@ -13,7 +13,7 @@ use Rattle.partial_derivs.proofs.Items.{take_item}
 use Rattle.term_nodes.specs.Nodes.{tests_of_term}
 use Rattle.stored_pairs.specs.Needed.{NamesTests, AddsAll}
 use Rattle.certificate.proofs.Ascending.{ascending_seam}
-use Rattle.stored_pairs.proofs.PartSets.{some_same}
+use Rattle.std.proofs.lemmas.Option.{same_Some}
 
 pub names_first : (store : NodeParts) (terms ks : List ℕ) → ks ≡ [] → NamesTests store (take 0 terms) ks
 names_first store terms ks e x = ((λ h. absurd (subst (λ l. Has l x) e h)), (λ r. absurd r.member))
@@ -32,7 +32,7 @@ names_next store terms ks new i term shape lt is at adds before =
       (λ r. ⊎_elim
           (λ o. (adds x).1 (inl ((before x).1 (record { term = r.term; shape = r.shape; member = o; at = r.at; names = r.names }))))
           (λ m. ⊎_elim
-          (λ s. let same : r.shape ≡ shape = some_same (sym r.at ∙ ap (slice_get store.terms) (sym s) ∙ at) in (adds x).1 (inr (subst (λ (z : TermNode ℕ ℕ). Has (tests_of_term z) x) same r.names)))
+          (λ s. let same : r.shape ≡ shape = same_Some r.shape shape (sym r.at ∙ ap (slice_get store.terms) (sym s) ∙ at) in (adds x).1 (inr (subst (λ (z : TermNode ℕ ℕ). Has (tests_of_term z) x) same r.names)))
           absurd m)
           (has_append (take i terms) (term ∷ []) r.term r.member)),
     )

@@ -1,40 +1,19 @@
 -- How ids are gathered with all their parts, the greatest first.
-use Rattle.std.proofs.Common.{◌≡◌, ◌<◌, ◌≤◌, ◌+◌, ℕ, suc, max, ◌⊎◌, inl, inr, ⊎_elim, List, [], ◌∷◌, ◌++◌, length, get_or, drop, ◌↔◌, slice_get, Some, refl, sym, ap, ◌∙◌, subst, arith, true}
+use Rattle.std.proofs.Common.{◌≡◌, ◌<◌, ◌≤◌, ◌+◌, ℕ, ◌⊎◌, inl, inr, ⊎_elim, List, [], ◌∷◌, ◌++◌, length, get_or, drop, ◌↔◌, slice_get, Some, refl, sym, ap, ◌∙◌, subst, arith, true}
 use Rattle.std.specs.List.{All}
 use Rattle.std.specs.Ordering.{nat_cmp}
 use Rattle.std.specs.BTreeSet.{insert_key}
 use Rattle.std.specs.declared.cmp.Ordering.TheVariants.{Less}
 use Rattle.std.proofs.lemmas.List.{drop_more, drop_all}
 use Rattle.std.proofs.lemmas.Map.Lookups.{exact_unsigned}
+use Rattle.std.proofs.lemmas.Option.{same_Some}
 use Rattle.kat_model.specs.Members.{Has, SameMembers}
 use Rattle.kat_model.proofs.Lists.{has_left, has_right, has_append}
 use Rattle.kat_model.proofs.SetKeys.{inserted_has}
+use Rattle.kat_model.proofs.NumberKeys.{all_of, bound_of, bound_above, bound_least}
 use Rattle.term_nodes.specs.NumberSets.{are_ascending}
 use Rattle.stored_pairs.specs.Needed.{IsPart, own, part, AreParts, AddsAll, members_of}
 use Rattle.certificate.specs.PairParts.{PairParts}
-
--- ---- lists of numbers
-
-pub all_of : (P : ℕ → Type 0) (xs : List ℕ) → All P xs → (x : ℕ) → Has xs x → P x
-all_of P [] all x h = absurd h
-all_of P (y ∷ xs) all x h =
-    ⊎_elim (λ e. subst P e (all 0 y (omega arith))) (λ r. all_of P xs (λ k d lt. all (suc k) d (omega (arith, lt))) x r) h
-
--- the least number above all
-abbrev pub bound_of : List ℕ → ℕ
-bound_of [] = 0
-bound_of (k ∷ ks) = max (k + 1) (bound_of ks)
-
-pub bound_above : (ks : List ℕ) (x : ℕ) → Has ks x → x < bound_of ks
-bound_above [] x h = absurd h
-bound_above (k ∷ ks) x h = ⊎_elim (λ e. omega (arith, e)) (λ r. let more = bound_above ks x r in omega (arith, more)) h
-
-pub bound_least : (ks : List ℕ) (n : ℕ) → ((x : ℕ) → Has ks x → x < n) → bound_of ks ≤ n
-bound_least [] n f = omega arith
-bound_least (k ∷ ks) n f = let first = f k (inl refl) in let rest = bound_least ks n (λ x h. f x (inr h)) in omega (arith, first, rest)
-
-pub some_same : {X : Type 0} {x y : X} → Some x ≡ Some y → x ≡ y
-some_same e = cc
 
 -- ---- gathering
 
@@ -98,7 +77,7 @@ module _ (N : Type 0) (nodes : List N) (named : N → List ℕ) (from : List ℕ
     parts_kept i n h f j m =
         ⊎_elim
         (λ o. kept j (g.parts i n o f j m))
-        (λ s. let same : node ≡ n = some_same (sym at ∙ ap (slice_get nodes) s ∙ f) in inl ((adds j).1 (inr (subst (λ x. Has (named x) j) (sym same) m))))
+        (λ s. let same : node ≡ n = same_Some node n (sym at ∙ ap (slice_get nodes) s ∙ f) in inl ((adds j).1 (inr (subst (λ x. Has (named x) j) (sym same) m))))
         ((inserted_has exact_unsigned k all i).0 h)
 
     -- the greatest id is taken, and its parts are added, which are less
@@ -119,15 +98,6 @@ module _ (N : Type 0) (nodes : List N) (named : N → List ℕ) (from : List ℕ
         let l = bound_least next k under in
         let b = bound_above pending k taken in
         omega (arith, l, b)
-
--- ---- what the calls tell
-
-pub last_has : (ks rest : List ℕ) (k : ℕ) → ks ≡ rest ++ k ∷ [] → Has ks k
-last_has ks rest k e = subst (λ l. Has l k) (sym e) (has_right rest (k ∷ []) k (inl refl))
-
-pub none_left : (ks : List ℕ) → (0 < length ks → ⊥) → ks ≡ []
-none_left [] f = refl
-none_left (k ∷ ks) f = absurd (f (omega arith))
 
 -- ---- the members of pairs
 

@@ -1,7 +1,7 @@
 -- The numbers of ids in a list that ascends: their places.
 use Rattle.std.proofs.Common.{◌≡◌, ◌<◌, ◌+◌, inl, inr, ⊎_elim, ℕ, zero, suc, Bool, true, false, cond, not, nat_eq, nat_lt, List, [], ◌∷◌, length, map, slice_get, Some, None, unwrap_or, refl, sym, ap, ◌∙◌, subst, arith}
 use Rattle.std.proofs.lemmas.Bool.{eqb-true, eqb-false, and_from, lt-ltb, ltb-true, ltb-false}
-use Rattle.std.proofs.lemmas.Option.{slice_get_within}
+use Rattle.std.proofs.lemmas.Option.{slice_get_within, same_Some}
 use Rattle.std.specs.List.{position_or_len}
 use Rattle.kat_model.specs.Members.{Has, HasNoDoubles}
 use Rattle.kat_model.proofs.Lists.{has_map}
@@ -9,7 +9,6 @@ use Rattle.kat_model.proofs.Places.{has_at, one_place}
 use Rattle.term_nodes.specs.NumberSets.{are_below, are_ascending}
 use Rattle.stored_pairs.specs.Numbering.{number_of, numbers_of}
 use Rattle.certificate.proofs.Ascending.{ascending_first, ascending_tail}
-use Rattle.stored_pairs.proofs.PartSets.{some_same}
 
 abbrev place_of : ℕ → List ℕ → ℕ
 place_of i ids = position_or_len (nat_eq i) ids
@@ -43,12 +42,12 @@ number_of_place ids once k i e = one_place ids once (number_of ids i) k i (numbe
 
 -- one number is one id
 pub number_once : (ids : List ℕ) (i j : ℕ) → Has ids i → Has ids j → number_of ids i ≡ number_of ids j → i ≡ j
-number_once ids i j h k e = some_same (sym (number_at ids i h) ∙ ap (slice_get ids) e ∙ number_at ids j k)
+number_once ids i j h k e = same_Some i j (sym (number_at ids i h) ∙ ap (slice_get ids) e ∙ number_at ids j k)
 
 places_ascend : (ids : List ℕ) → are_ascending ids ≡ true → (a b i j : ℕ) → slice_get ids a ≡ Some i → slice_get ids b ≡ Some j → a < b → i < j
 places_ascend [] up a b i j e f lt = absurd cc
 places_ascend (x ∷ ids) up zero zero i j e f lt = absurd (omega (arith, lt))
-places_ascend (x ∷ ids) up zero (suc b) i j e f lt = subst (λ z. z < j) (some_same e) (ascending_first x ids up j (has_at ids b j f))
+places_ascend (x ∷ ids) up zero (suc b) i j e f lt = subst (λ z. z < j) (same_Some x i e) (ascending_first x ids up j (has_at ids b j f))
 places_ascend (x ∷ ids) up (suc a) zero i j e f lt = absurd (omega (arith, lt))
 places_ascend (x ∷ ids) up (suc a) (suc b) i j e f lt = places_ascend ids (ascending_tail x ids up) a b i j e f (omega (arith, lt))
 
@@ -105,5 +104,5 @@ mapped_at f (x ∷ xs) (suc k) y e = mapped_at f xs k y e
 
 pub at_mapped : {X Y : Type 0} (f : X → Y) (xs : List X) (k : ℕ) (x : X) → slice_get xs k ≡ Some x → slice_get (map f xs) k ≡ Some (f x)
 at_mapped f [] k x e = cc
-at_mapped f (y ∷ xs) zero x e = ap (λ z. Some (f z)) (some_same e)
+at_mapped f (y ∷ xs) zero x e = ap (λ z. Some (f z)) (same_Some y x e)
 at_mapped f (y ∷ xs) (suc k) x e = at_mapped f xs k x e

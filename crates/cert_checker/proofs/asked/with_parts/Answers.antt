@@ -1,7 +1,8 @@
 use Rattle.std.proofs.Common.{◌≡◌, [], ◌∷◌, sym, ap, subst, ⊎_elim}
 use Rattle.std.proofs.lemmas.Bool.{false≢true}
 use Rattle.term_nodes.specs.Nodes.{test_parts}
-use Rattle.cert_checker.proofs.AskedTests.{Adds, adds_none, adds_one, adds_two, asking_starts, asking_goes_on, asking_falls, asking_ends, last_has, none_left}
+use Rattle.kat_model.proofs.NumberKeys.{Adds, adds_none, adds_one, adds_two, last_has, none_left}
+use Rattle.cert_checker.proofs.AskedTests.{asking_starts, asking_goes_on, asking_falls, asking_ends}
 use Rattle.cert_checker.proofs.asked.with_parts.Goals as goal
 
 pub loop-test-init : goal.loop-test-init

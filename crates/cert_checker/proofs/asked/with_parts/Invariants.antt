@@ -1,5 +1,6 @@
 use Rattle.std.proofs.Common.{reverse}
-use Rattle.cert_checker.proofs.AskedTests.{bound_of, IsAsking}
+use Rattle.kat_model.proofs.NumberKeys.{bound_of}
+use Rattle.cert_checker.proofs.AskedTests.{IsAsking}
 use Rattle.cert_checker.proofs.asked.with_parts.Given as goal
 
 abbrev pub invariant-loop-test : goal.invariant-loop-test

@@ -1,13 +1,13 @@
 use Rattle.std.proofs.Common.{sym, ap, subst, ⊎_elim}
 use Rattle.term_nodes.specs.Nodes.{term_parts}
 use Rattle.stored_pairs.specs.Needed.{AddsAll}
-use Rattle.stored_pairs.proofs.KeySets.{adds_single, adds_two}
+use Rattle.kat_model.proofs.NumberKeys.{adds_one, adds_two}
 use Rattle.stored_pairs.proofs.needed.add_parts.Goals as goal
 
 pub returns-in_ok-insert-in-Star : goal.returns-in_ok-insert-in-Star
 returns-in_ok-insert-in-Star c =
     subst (AddsAll c.args.set.now.keys c.insert.new.self.keys) (sym (ap term_parts c.in-Star.is))
-    (adds_single c.args.set.now.keys c.insert.new.self.keys c.in-Star.e c.in_ok-insert-in-Star.ensures.keys)
+    (adds_one c.args.set.now.keys c.insert.new.self.keys c.in-Star.e c.in_ok-insert-in-Star.ensures.keys)
 
 pub returns-in_ok-insert-in-Sum-2 : goal.returns-in_ok-insert-in-Sum-2
 returns-in_ok-insert-in-Sum-2 c =

@@ -1,13 +1,13 @@
 use Rattle.std.proofs.Common.{sym, ap, subst, ⊎_elim}
 use Rattle.term_nodes.specs.Nodes.{test_parts}
 use Rattle.stored_pairs.specs.Needed.{AddsAll}
-use Rattle.stored_pairs.proofs.KeySets.{adds_single, adds_two}
+use Rattle.kat_model.proofs.NumberKeys.{adds_one, adds_two}
 use Rattle.stored_pairs.proofs.needed.add_test_parts.Goals as goal
 
 pub returns-in_ok-insert-in-Not : goal.returns-in_ok-insert-in-Not
 returns-in_ok-insert-in-Not c =
     subst (AddsAll c.args.set.now.keys c.insert.new.self.keys) (sym (ap test_parts c.in-Not.is))
-    (adds_single c.args.set.now.keys c.insert.new.self.keys c.in-Not.b c.in_ok-insert-in-Not.ensures.keys)
+    (adds_one c.args.set.now.keys c.insert.new.self.keys c.in-Not.b c.in_ok-insert-in-Not.ensures.keys)
 
 pub returns-in_ok-insert-in-And-2 : goal.returns-in_ok-insert-in-And-2
 returns-in_ok-insert-in-And-2 c =

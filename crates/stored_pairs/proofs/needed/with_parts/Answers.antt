@@ -3,7 +3,8 @@ use Rattle.std.proofs.lemmas.Bool.{false≢true}
 use Rattle.term_nodes.specs.declared.TermNode.{TermNode}
 use Rattle.term_nodes.specs.Nodes.{term_parts}
 use Rattle.term_nodes.proofs.Parts.{IsOver-part}
-use Rattle.stored_pairs.proofs.PartSets.{IsGathering, gathering_starts, gathering_goes_on, gathering_falls, gathering_ends, last_has, none_left}
+use Rattle.kat_model.proofs.NumberKeys.{last_has, none_left}
+use Rattle.stored_pairs.proofs.PartSets.{IsGathering, gathering_starts, gathering_goes_on, gathering_falls, gathering_ends}
 use Rattle.stored_pairs.proofs.SortedKeys.{sorted_ascending}
 use Rattle.stored_pairs.proofs.needed.with_parts.Goals as goal
 

@@ -3,7 +3,8 @@ use Rattle.std.specs.List.Sorted.{IsStrictlySortedBy}
 use Rattle.std.specs.Ordering.{nat_cmp}
 use Rattle.term_nodes.specs.declared.TestNode.{TestNode}
 use Rattle.term_nodes.specs.Nodes.{test_parts}
-use Rattle.stored_pairs.proofs.PartSets.{bound_of, IsGathering}
+use Rattle.kat_model.proofs.NumberKeys.{bound_of}
+use Rattle.stored_pairs.proofs.PartSets.{IsGathering}
 use Rattle.stored_pairs.proofs.needed.with_test_parts.Given as goal
 
 abbrev pub invariant-loop-test : goal.invariant-loop-test
