@@ -1,5 +1,5 @@
 -- Whether the first pair of a certificate is the closed sides, under a test that is true at each allowed atom.
-use Rattle.std.proofs.Common.{◌≡◌, ◌↔◌, ℕ, ◌≤◌, ◌+◌, inl, List, [], ◌∷◌, ◌++◌, map, length, take, drop, slice_get, refl, sym, ap, ◌∙◌, subst, arith, Bool, true, false, not, ◌&&◌, cond, nat_eq, Decides, Option, Some, None}
+use Rattle.std.proofs.Common.{◌≡◌, ◌↔◌, ℕ, ◌+◌, inl, List, [], ◌∷◌, ◌++◌, map, length, take, drop, slice_get, refl, sym, ap, ◌∙◌, subst, arith, Bool, true, false, not, ◌&&◌, cond, nat_eq, Decides, Option, Some, None}
 use Rattle.std.specs.Bool.{IsTrue}
 use Rattle.std.specs.Option.{option_map, option_map_or, is_some}
 use Rattle.std.specs.Cmp.Lexicographic.{pointwise}
@@ -218,10 +218,10 @@ module _ (p : PassParts) (pass : IsPass p) (r : PairParts) (first : slice_get p.
       subst (λ (ts : List Term). (ks ≡ k ∷ []) ↔ (ts ≡ e ∷ [])) (set_kept p.problem p.cert pass.cert p.tables pass.nodes ks s.there) (single_told p.tables pass.nodes.sound ks low k there e tree)
 
   left_told : (r.left ≡ p.left ∷ []) ↔ (terms_of (nodes_of p.cert) r.left ≡ (compared p.cert.style p.problem).left ∷ [])
-  left_told = set_told r.left pair.left p.left pass.roots.left_there (compared p.cert.style p.problem).left pass.roots.left
+  left_told = set_told r.left pair.left p.left pass.roots.sides.left_there (compared p.cert.style p.problem).left pass.roots.sides.left
 
   right_told : (r.right ≡ p.right ∷ []) ↔ (terms_of (nodes_of p.cert) r.right ≡ (compared p.cert.style p.problem).right ∷ [])
-  right_told = set_told r.right pair.right p.right pass.roots.right_there (compared p.cert.style p.problem).right pass.roots.right
+  right_told = set_told r.right pair.right p.right pass.roots.sides.right_there (compared p.cert.style p.problem).right pass.roots.sides.right
 
   pub other_left : (r.left ≡ p.left ∷ [] → ⊥) → Begins p.cert.style p.problem p.cert → ⊥
   other_left never b = never (left_told.1 (begins_sides p.problem p.cert r first p.cert.style b).0)

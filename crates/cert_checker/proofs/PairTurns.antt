@@ -158,7 +158,7 @@ module _ (p : PassParts) (pass : IsPass p) where
   none_up_to e r h = subst (λ z. HasItsTest z (length p.cert.test_nodes) r.test) e (pass.cert.pairs r h).test
 
   universal_in : (s : Style) → p.cert.style ≡ s → option_map (term_at p.tables) p.universal ≡ (compared s p.problem).universal
-  universal_in s e = pass.roots.universal ∙ ap (λ z. (compared z p.problem).universal) e
+  universal_in s e = pass.roots.sides.universal ∙ ap (λ z. (compared z p.problem).universal) e
 
   module _ (es fs : List Term) (to : Atom) where
     in_style : (s : Style) → p.cert.style ≡ s → AreMatchedIn (nodes_in p.tables) p.cert.style (option_map (term_at p.tables) p.universal) p.cert.pairs es fs to ≡ AreMatchedIn (nodes_in p.tables) s (compared s p.problem).universal p.cert.pairs es fs to
@@ -234,7 +234,7 @@ module _ (p : PassParts) (pass : IsPass p) where
 
   universal_there : (o : Option ℕ) (u : ℕ) → option_map_or (λ a. p.universal) o None ≡ Some u → u < length p.tables.terms
   universal_there None u e = absurd cc
-  universal_there (Some a) u e = pass.roots.universal_there u e
+  universal_there (Some a) u e = pass.roots.sides.universal_there u e
 
   untested_in : (o : Option ℕ) → option_map_or (λ a. p.cert.style) o UpTo ≡ Plain → (r : PairParts) → Has (option_map_or (λ a. p.cert.pairs) o []) r → r.test ≡ None
   untested_in None e r h = absurd h

@@ -19,7 +19,7 @@ use Rattle.term_nodes.proofs.Parts.{below_has, has_below, below_more}
 use Rattle.certificate.specs.declared.nodes.Style.{Style}
 use Rattle.certificate.specs.declared.nodes.Style.TheVariants.{Plain, UpTo, Under}
 use Rattle.checker_steps.specs.NodeTables.{TableParts, TablesGrow, IsTerm, term_at, nodes_in}
-use Rattle.cert_checker.specs.Working.Roots.{AreClosedBelow, AreRoots, compared, counted_short}
+use Rattle.cert_checker.specs.Working.Roots.{AreClosedBelow, AreSideNumbers, AreRoots, compared, counted_short}
 use Rattle.short_hyps.proofs.LongProblems.{long_is_problem}
 use Rattle.checker_steps.proofs.GrowingTables.{grows_trans}
 use Rattle.checker_steps.proofs.StepLists.{grows_longer}
@@ -137,9 +137,9 @@ universal_stays t new grows (Some k) e low same = ((λ u s. IsPrefix-within t.te
 pub universal_told : (t : TableParts) (k : ℕ) (e : Term) → IsTerm t k → term_at t k ≡ e → ((u : ℕ) → Some k ≡ Some u → IsTerm t u) × (option_map (term_at t) (Some k) ≡ Some e)
 universal_told t k e there tree = ((λ u s. let same : k ≡ u = cc in subst (IsTerm t) same there), ap Some tree)
 
--- the numbers of a problem's terms stay those
-pub roots_stay : (s : Style) (q : ProblemParts) (t new : TableParts) (left right : ℕ) (universal : Option ℕ) (shorts : List ℕ) → TablesGrow t new → AreRoots s q t left right universal shorts → AreRoots s q new left right universal shorts
-roots_stay s q t new left right universal shorts grows a =
+-- the numbers of the closed sides stay those
+sides_stay : (s : Style) (q : ProblemParts) (t new : TableParts) (left right : ℕ) (universal : Option ℕ) → TablesGrow t new → AreSideNumbers s q t left right universal → AreSideNumbers s q new left right universal
+sides_stay s q t new left right universal grows a =
     let l = term_stays t new grows left _ a.left_there a.left in
     let r = term_stays t new grows right _ a.right_there a.right in
     let u = universal_stays t new grows universal _ a.universal_there a.universal in
@@ -150,20 +150,23 @@ roots_stay s q t new left right universal shorts grows a =
       right_there = r.0;
       universal = u.1;
       universal_there = u.0;
-      shorts = terms_stay t new grows shorts a.shorts_there ∙ a.shorts;
-      shorts_there = numbers_stay t new grows shorts a.shorts_there;
     }
 
+-- and those of all of a problem's terms
+pub roots_stay : (s : Style) (q : ProblemParts) (t new : TableParts) (left right : ℕ) (universal : Option ℕ) (shorts : List ℕ) → TablesGrow t new → AreRoots s q t left right universal shorts → AreRoots s q new left right universal shorts
+roots_stay s q t new left right universal shorts grows a = record {
+  sides = sides_stay s q t new left right universal grows a.sides;
+  shorts = terms_stay t new grows shorts a.shorts_there ∙ a.shorts;
+  shorts_there = numbers_stay t new grows shorts a.shorts_there;
+}
+
 -- the numbers that are given one after another, while tables grow
-pub roots_made : (s : Style) (q : ProblemParts) (first second third last : TableParts) (left right : ℕ) (universal : Option ℕ) (shorts : List ℕ) → TablesGrow first second → TablesGrow second third → TablesGrow third last
+pub sides_made : (s : Style) (q : ProblemParts) (first second last : TableParts) (left right : ℕ) (universal : Option ℕ) → TablesGrow first second → TablesGrow second last
     → IsTerm first left → term_at first left ≡ (compared s q).left → IsTerm second right → term_at second right ≡ (compared s q).right
-    → ((u : ℕ) → universal ≡ Some u → IsTerm third u) → option_map (term_at third) universal ≡ (compared s q).universal
-    → terms_of (nodes_in last) shorts ≡ counted_short s q → are_below (length last.terms) shorts ≡ true → AreRoots s q last left right universal shorts
-roots_made s q first second third last left right universal shorts to_second to_third to_last left_there left_is right_there right_is universal_there universal_is shorts_are shorts_there =
-    let most = grows_trans second third last to_third to_last in
-    let l = term_stays first last (grows_trans first second last to_second most) left _ left_there left_is in
-    let r = term_stays second last most right _ right_there right_is in
-    let u = universal_stays third last to_last universal _ universal_there universal_is in
+    → ((u : ℕ) → universal ≡ Some u → IsTerm last u) × (option_map (term_at last) universal ≡ (compared s q).universal) → AreSideNumbers s q last left right universal
+sides_made s q first second last left right universal to_second to_last left_there left_is right_there right_is u =
+    let l = term_stays first last (grows_trans first second last to_second to_last) left _ left_there left_is in
+    let r = term_stays second last to_last right _ right_there right_is in
     record {
       left = l.1;
       left_there = l.0;
@@ -171,6 +174,12 @@ roots_made s q first second third last left right universal shorts to_second to_
       right_there = r.0;
       universal = u.1;
       universal_there = u.0;
-      shorts = shorts_are;
-      shorts_there = shorts_there;
     }
+
+pub roots_made : (s : Style) (q : ProblemParts) (first last : TableParts) (left right : ℕ) (universal : Option ℕ) (shorts : List ℕ) → TablesGrow first last → AreSideNumbers s q first left right universal
+    → terms_of (nodes_in last) shorts ≡ counted_short s q → are_below (length last.terms) shorts ≡ true → AreRoots s q last left right universal shorts
+roots_made s q first last left right universal shorts grows sides shorts_are shorts_there = record {
+  sides = sides_stay s q first last left right universal grows sides;
+  shorts = shorts_are;
+  shorts_there = shorts_there;
+}

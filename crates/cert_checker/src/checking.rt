@@ -21,17 +21,13 @@ use string_tables::{Finding, verdict};
 fn reason_of_place(place: Place, style: Style) -> Reason
     ensures { result ≡ place_reason style place }
 {
-    let Place {
-        pair,
-        atom,
-        action,
-        to,
-    } = place;
-    let atom = Items::of(atom);
-    match (action, style) {
-        (None, _) => Reason::Output(pair, atom),
-        (Some(action), Style::Under) => Reason::MissingTo(pair, atom, action, Items::of(to)),
-        (Some(action), _) => Reason::Missing(pair, atom, action),
+    let atom = Items::of(place.atom);
+    match (place.action, style) {
+        (None, _) => Reason::Output(place.pair, atom),
+        (Some(action), Style::Under) => {
+            Reason::MissingTo(place.pair, atom, action, Items::of(place.to))
+        }
+        (Some(action), _) => Reason::Missing(place.pair, atom, action),
     }
 }
 

@@ -8,7 +8,7 @@ ghost use Rattle.goal_forms.specs.ClosedTrees.{closed_trees};
 ghost use Rattle.checker_steps.specs.NodeTables.{AreTables, TablesGrow, TestsGrow, IsTerm, HasValues, term_at, nodes_in};
 ghost use Rattle.checker_steps.specs.Marks.{IsMarked};
 ghost use Rattle.checker_steps.specs.Targets.{AreAcceptances};
-ghost use Rattle.cert_checker.specs.Working.Roots.{AreClosedBelow, compared, counted_short};
+ghost use Rattle.cert_checker.specs.Working.Roots.{AreClosedBelow, AreSideNumbers, compared, counted_short};
 ghost use Rattle.cert_checker.specs.Working.Places.{AreNeeded, IsLeastOf};
 
 use crate::asked::with_parts;
@@ -76,18 +76,25 @@ fn closed_sides(alloc: Global, problem: &Problem, style: Style) -> Result<Closed
     }
 }
 
-// The number of the universal term, where there is one.
-fn universal_number(tables: &mut Tables, closed: &Closed) -> Result<Option<usize>, NoMemory>
+// The numbers of these sides, and of the universal term where there is one.
+fn side_numbers(
+    tables: &mut Tables,
+    problem: &Problem,
+    style: Style,
+) -> Result<(usize, usize, Option<usize>), NoMemory>
     requires tables { AreTables tables.old }
-    requires below { AreClosedBelow tables.old.width (closed_trees closed.now) }
-    ensures term { IfOk result (λ o. option_map (term_at tables.new) o ≡ (closed_trees closed.now).universal) }
-    ensures there { IfOk result (λ o. (u : ℕ) → o ≡ Some u → IsTerm tables.new u) }
+    requires below { AreClosedBelow tables.old.width (compared style problem.now) }
+    ensures sides { IfOk result (λ n. AreSideNumbers style problem.now tables.new n.0 n.1 n.2) }
     ensures grows { TablesGrow tables.old tables.new }
 {
-    match &closed.universal {
-        Some(term) => Ok(Some(tables.number_of(term)?)),
-        None => Ok(None),
-    }
+    let closed = closed_sides(tables.alloc(), problem, style)?;
+    let left = tables.number_of(&closed.left)?;
+    let right = tables.number_of(&closed.right)?;
+    let universal = match &closed.universal {
+        Some(term) => Some(tables.number_of(term)?),
+        None => None,
+    };
+    Ok((left, right, universal))
 }
 
 // The numbers of the hypotheses that count as short.
@@ -184,10 +191,7 @@ impl<'a> Pass<'a> {
         ensures of { IfOk result (λ p. (p.problem ≡ problem.now) × (p.cert ≡ cert.now)) }
     {
         let mut tables = Tables::of(alloc, cert, problem.tests())?;
-        let closed = closed_sides(alloc, problem, cert.style())?;
-        let left = tables.number_of(&closed.left)?;
-        let right = tables.number_of(&closed.right)?;
-        let universal = universal_number(&mut tables, &closed)?;
+        let (left, right, universal) = side_numbers(&mut tables, problem, cert.style())?;
         let shorts = short_numbers(&mut tables, problem, cert.style())?;
         let accepting = acceptances(&mut tables)?;
         let banned = acceptance(&mut tables, &accepting, &shorts)?;

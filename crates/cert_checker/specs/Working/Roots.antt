@@ -1,5 +1,5 @@
 -- The terms of a problem on which the pairs rest, by their numbers.
-use Rattle.std.specs.Prelude.{◌≡◌, ℕ, IsTrue, List, [], length, Option, Some, None}
+use Rattle.std.specs.Prelude.{◌≡◌, ℕ, IsTrue, List, [], length, Option, Some}
 use Rattle.std.specs.Option.{option_map}
 use Rattle.kat_model.specs.Trees.{Term}
 use Rattle.kat_model.specs.Problems.{ProblemParts, HasTestsBelow}
@@ -28,13 +28,17 @@ pub record AreClosedBelow (n : ℕ) (c : Closed) : Type 0 where
   pub right : HasTestsBelow n c.right
   pub universal : (u : Term) → c.universal ≡ Some u → HasTestsBelow n u
 
--- the numbers are those of the closed sides, of the universal term where there is one, and of the short hypotheses
-pub record AreRoots (s : Style) (q : ProblemParts) (t : TableParts) (l r : ℕ) (u : Option ℕ) (ks : List ℕ) : Type 0 where
+-- the numbers are those of the closed sides, and of the universal term where there is one
+pub record AreSideNumbers (s : Style) (q : ProblemParts) (t : TableParts) (l r : ℕ) (u : Option ℕ) : Type 0 where
   pub left : term_at t l ≡ (compared s q).left
   pub left_there : IsTerm t l
   pub right : term_at t r ≡ (compared s q).right
   pub right_there : IsTerm t r
   pub universal : option_map (term_at t) u ≡ (compared s q).universal
   pub universal_there : (k : ℕ) → u ≡ Some k → IsTerm t k
+
+-- and those of the short hypotheses
+pub record AreRoots (s : Style) (q : ProblemParts) (t : TableParts) (l r : ℕ) (u : Option ℕ) (ks : List ℕ) : Type 0 where
+  pub sides : AreSideNumbers s q t l r u
   pub shorts : terms_of (nodes_in t) ks ≡ counted_short s q
   pub shorts_there : IsTrue (are_below (length t.terms) ks)

@@ -1,4 +1,4 @@
-use Rattle.std.proofs.Common.{◌≡◌, ◌<◌, ℕ, true, length, get_or, subst, arith, below_more, sym, ◌∙◌}
+use Rattle.std.proofs.Common.{◌<◌, true, length, get_or, subst, arith, below_more, ◌∙◌}
 use Rattle.std.proofs.lemmas.List.{length-set}
 use Rattle.std.proofs.lemmas.Option.{slice_get_within, get_or_from_slice_get}
 use Rattle.kat_model.proofs.Places.{place_of_member, slice_get-set_same, slice_get-set_kept}

@@ -1,8 +1,7 @@
-use Rattle.std.proofs.Common.{◌≡◌, ◌+◌, ℕ, List, length, take, drop, Option, Some, None, sym, ap, ◌∙◌, subst, arith, below_more}
+use Rattle.std.proofs.Common.{◌≡◌, ◌+◌, length, take, drop, Some, None, sym, ap, ◌∙◌, subst, arith, below_more}
 use Rattle.std.specs.Option.{option_map}
 use Rattle.kat_model.specs.Members.{Has}
 use Rattle.kat_model.proofs.Places.{has_at}
-use Rattle.certificate.specs.PairParts.{PairParts}
 use Rattle.certificate.specs.Certs.{nodes_of}
 use Rattle.certificate.specs.Accepted.{tested_pair_of}
 use Rattle.cert_checker.specs.Working.Cases.{IsFirstFailure, undecided}

@@ -1,4 +1,4 @@
-use Rattle.std.proofs.Common.{◌≡◌, ◌<◌, ◌+◌, suc, sym, ap, ◌∙◌, subst, arith}
+use Rattle.std.proofs.Common.{◌≡◌, ◌<◌, ◌+◌, suc, subst, arith}
 use Rattle.std.specs.Option.{option_map}
 use Rattle.cert_checker.specs.Working.Places.{PassParts, IsFirstOf, place_reason}
 use Rattle.cert_checker.proofs.EarlierPlaces.{least_first}

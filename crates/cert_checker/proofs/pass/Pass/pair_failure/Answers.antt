@@ -1,4 +1,4 @@
-use Rattle.std.proofs.Common.{◌≡◌, ◌+◌, ℕ, List, map, length, None, sym, ap, ◌∙◌, subst}
+use Rattle.std.proofs.Common.{◌≡◌, ◌+◌, map, length, None, sym, ap, ◌∙◌, subst}
 use Rattle.std.specs.Option.{option_map}
 use Rattle.std.specs.Bool.{IsTrue}
 use Rattle.std.proofs.lemmas.List.{length-map, length-replicate}
@@ -6,8 +6,8 @@ use Rattle.std.proofs.lemmas.Result.{IfOk-weaker}
 use Rattle.kat_model.specs.Members.{Has}
 use Rattle.term_nodes.specs.NumberSets.{are_below, terms_of}
 use Rattle.certificate.specs.PairParts.{PairParts}
-use Rattle.checker_steps.specs.NodeTables.{TablesGrow, IsTest, nodes_in}
-use Rattle.checker_steps.specs.Targets.{AreEntries, AreSteps, StandFor, set_leads_to}
+use Rattle.checker_steps.specs.NodeTables.{TablesGrow, nodes_in}
+use Rattle.checker_steps.specs.Targets.{AreSteps, StandFor, set_leads_to}
 use Rattle.checker_steps.proofs.GrowingTables.{grows_trans}
 use Rattle.cert_checker.specs.Working.Cases.{IsFirstFailure, undecided}
 use Rattle.cert_checker.specs.Working.Questions.{TurnParts, QuestionParts, IsAskedOf, MatchAt}
