@@ -1,11 +1,11 @@
 -- The merged pairs of a walk have sets that steps from the closed sides lead to, and so are few.
-use Rattle.std.proofs.Common.{◌≡◌, ◌<◌, inl, inr, ⊎_elim, ℕ, zero, suc, List, [], ◌∷◌, length, slice_get, Some, refl, sym, ap, ◌∙◌, subst, arith}
+use Rattle.std.proofs.Common.{◌≡◌, ◌<◌, inl, inr, ⊎_elim, ℕ, zero, suc, List, ◌∷◌, length, slice_get, Some, refl, sym, ap, ◌∙◌, subst, arith}
 use Rattle.std.specs.Bool.{IsTrue}
 use Rattle.std.proofs.lemmas.Option.{same_Some}
 use Rattle.kat_model.specs.Trees.{Term}
-use Rattle.kat_model.specs.Members.{Has, SameMembers}
+use Rattle.kat_model.specs.Members.{Has}
 use Rattle.kat_model.specs.Problems.{ProblemParts}
-use Rattle.kat_model.specs.Steps.{Atom, truth, set_next, reach}
+use Rattle.kat_model.specs.Steps.{Atom, truth, reach}
 use Rattle.kat_model.specs.Closed.{closed}
 use Rattle.kat_model.specs.Guarded.{IsGuarded, IsSingle}
 use Rattle.kat_model.specs.Pairs.{SetPair, AllDiffer}

@@ -1,11 +1,11 @@
 -- The atoms at which as many moves reached the sets of an entry: one entry after the other.
-use Rattle.std.proofs.Common.{◌≡◌, ◌<◌, ◌||◌, inl, inr, ⊎_elim, ℕ, false, List, [], ◌∷◌, ◌++◌, refl, sym, ◌∙◌, subst, arith}
+use Rattle.std.proofs.Common.{◌<◌, ◌||◌, inl, ⊎_elim, ℕ, false, List, [], ◌∷◌, ◌++◌, refl, sym, ◌∙◌, subst, arith}
 use Rattle.std.specs.Bool.{IsTrue}
 use Rattle.std.proofs.lemmas.Bool.{both_ways, or_cases, or_left, or_right}
 use Rattle.kat_model.specs.Members.{Has}
 use Rattle.kat_model.specs.Steps.{Atom}
 use Rattle.kat_model.proofs.Lists.{has_left, has_right, has_append}
-use Rattle.test_diagrams.specs.Functions.{DiagramsParts, value_of, IsDiagramId, IsAtomOf, IsDiagramOf, KeepsFunctions}
+use Rattle.test_diagrams.specs.Functions.{DiagramsParts, value_of, IsDiagramId, IsDiagramOf, KeepsFunctions}
 use Rattle.tested_walk.specs.Working.Entries.{EntryParts}
 use Rattle.tested_walk.specs.Working.Allowance.{IsWithin}
 use Rattle.tested_walk.specs.Working.Listings.{IsWith, IsLevelAtom, AreLevelAtoms}

@@ -1,5 +1,5 @@
 -- How the entries of a walk are made one pair for each two sets.
-use Rattle.std.proofs.Common.{◌≡◌, ◌<◌, ◌+◌, ◌||◌, inl, inr, ⊎_elim, ℕ, Bool, true, false, nat_eq, List, [], ◌∷◌, ◌++◌, slice_get, Some, refl, sym, ap, ◌∙◌, subst, arith, append_assoc, append-nil}
+use Rattle.std.proofs.Common.{◌≡◌, ◌<◌, ◌+◌, ◌||◌, inl, ⊎_elim, ℕ, Bool, true, false, nat_eq, List, [], ◌∷◌, ◌++◌, slice_get, Some, refl, sym, ap, ◌∙◌, subst, arith, append_assoc, append-nil}
 use Rattle.std.specs.Bool.{IsTrue}
 use Rattle.std.proofs.lemmas.Bool.{both_ways, eqb-true, eqb-false, or_cases, or_left, or_right}
 use Rattle.std.proofs.lemmas.Option.{same_Some}
@@ -9,14 +9,14 @@ use Rattle.kat_model.specs.Steps.{Atom, truth}
 use Rattle.kat_model.specs.Trees.{TestTree}
 use Rattle.kat_model.proofs.Lists.{has_left, has_right, has_append}
 use Rattle.kat_model.proofs.Places.{place_of_member}
-use Rattle.term_nodes.specs.NodeLists.{NodeParts, IsTest}
+use Rattle.term_nodes.specs.NodeLists.{NodeParts}
 use Rattle.term_nodes.specs.NodeTrees.{test_tree_at}
 use Rattle.term_nodes.specs.Growth.{Grows}
 use Rattle.certificate.specs.PairParts.{PairParts}
 use Rattle.test_diagrams.specs.Functions.{DiagramsParts, value_of, IsDiagramId, IsAtomOf, IsDiagramOf, KeepsFunctions}
 use Rattle.tested_walk.specs.Working.Entries.{EntryParts}
 use Rattle.tested_walk.specs.Working.StoredTests.{IsTestFor}
-use Rattle.tested_walk.specs.Working.Merging.{IsReachedThere, AreAtomsOf, IsMergedPair, HasPairOf, IsFirst, AreFirst, AreMergedIds}
+use Rattle.tested_walk.specs.Working.Merging.{IsReachedThere, AreAtomsOf, IsMergedPair, HasPairOf, IsFirst, AreFirst}
 
 -- ---- the atoms of two sets
 

@@ -1,26 +1,24 @@
 -- The merged pairs of a walk that has ended: they are those of its entries, differ, and are reached along allowed moves.
-use Rattle.std.proofs.Common.{◌≡◌, ◌<◌, ◌≤◌, inl, inr, ⊎_elim, ℕ, zero, suc, List, [], ◌∷◌, ◌++◌, length, map, slice_get, Option, Some, None, refl, sym, ap, ◌∙◌, subst, arith}
+use Rattle.std.proofs.Common.{◌≡◌, ◌≤◌, inl, inr, ⊎_elim, ℕ, zero, suc, List, [], ◌∷◌, ◌++◌, length, map, slice_get, Option, Some, refl, sym, ap, ◌∙◌, subst, arith}
 use Rattle.std.specs.Bool.{IsTrue}
-use Rattle.std.proofs.lemmas.List.{length-map, map-append}
+use Rattle.std.proofs.lemmas.List.{map-append}
 use Rattle.std.proofs.lemmas.Option.{same_Some}
-use Rattle.kat_model.specs.Trees.{TestTree}
 use Rattle.kat_model.specs.Members.{Has, SameMembers}
-use Rattle.kat_model.specs.Problems.{ProblemParts}
 use Rattle.kat_model.specs.Steps.{Atom, truth, set_next}
 use Rattle.kat_model.specs.Pairs.{SetPair, IsListed, AllDiffer}
 use Rattle.kat_model.specs.TestedPairs.{TestedPair, sets_of}
 use Rattle.kat_model.proofs.Lists.{has_left, has_right, has_append, has_map, map_has}
 use Rattle.kat_model.proofs.Places.{has_at}
 use Rattle.term_nodes.specs.NodeLists.{NodeParts, AreNodes}
-use Rattle.term_nodes.specs.NodeTrees.{test_tree_at, tree_at}
+use Rattle.term_nodes.specs.NodeTrees.{test_tree_at}
 use Rattle.term_nodes.specs.NumberSets.{terms_of}
 use Rattle.term_nodes.specs.Growth.{Grows}
-use Rattle.test_diagrams.specs.Functions.{DiagramsParts, value_of, IsAtomOf}
+use Rattle.test_diagrams.specs.Functions.{DiagramsParts, IsAtomOf}
 use Rattle.test_diagrams.proofs.Kept.{KeepsFunctions-itself}
 use Rattle.partial_derivs.specs.Moves.{Keeps}
 use Rattle.certificate.specs.PairParts.{PairParts}
 use Rattle.certificate.specs.Accepted.{test_of, tested_pair_of}
-use Rattle.certificate.specs.UnderTests.{LeadsUnder, IsSomewhere, IsReachedPair, AreReachedPairs, AreAllReached}
+use Rattle.certificate.specs.UnderTests.{IsReachedPair, AreReachedPairs, AreAllReached}
 use Rattle.stored_pairs.specs.IdSets.{IsIdSet}
 use Rattle.stored_pairs.proofs.PlaceNumbers.{mapped_at, at_mapped}
 use Rattle.tested_walk.specs.TestedWalks.{TestedEntry, closed_sides, IsListedAt}
@@ -28,7 +26,7 @@ use Rattle.tested_walk.specs.MergedPairs.{AreMergedPairs}
 use Rattle.tested_walk.specs.Working.Entries.{EntryParts}
 use Rattle.tested_walk.specs.Working.Listings.{pair_of, entry_of, entries_of, IsLevelAtom}
 use Rattle.tested_walk.specs.Working.Walking.{Setting, IsUnderWay}
-use Rattle.tested_walk.specs.Working.Merging.{IsReachedThere, IsMergedPair, HasPairOf, IsFirst, AreFirst, AreMergedIds}
+use Rattle.tested_walk.specs.Working.Merging.{IsReachedThere, HasPairOf, IsFirst, AreFirst, AreMergedIds}
 use Rattle.tested_walk.specs.declared.walk.Walk.{Walk}
 use Rattle.tested_walk.proofs.WalkSteps.{first_entry}
 use Rattle.tested_walk.proofs.Standing.{one_id_set, same_ids, level_atom}

@@ -1,5 +1,5 @@
 -- Tests of a store that stand for functions: of one node, of two tests, and by a primitive test.
-use Rattle.std.proofs.Common.{◌≡◌, ◌<◌, ℕ, Bool, true, false, cond, not, ◌&&◌, ◌||◌, length, get_or, refl, sym, ap, ◌∙◌, subst, Result, Ok, Err, IfOk}
+use Rattle.std.proofs.Common.{◌≡◌, ℕ, Bool, true, false, cond, not, ◌&&◌, ◌||◌, length, get_or, refl, sym, ap, ◌∙◌, subst, Result, Ok, Err, IfOk}
 use Rattle.kat_model.specs.Trees.{TestTree, complement, meet, join}
 use Rattle.kat_model.specs.Steps.{Atom, truth}
 use Rattle.kat_model.specs.Problems.{IsTestInRange}

@@ -1,5 +1,5 @@
 -- The certificate of the merged pairs of a walk that has ended decides the question, and so does the string to a difference.
-use Rattle.std.proofs.Common.{◌≡◌, ◌≤◌, ◌+◌, ◌*◌, ◌^◌, inl, inr, ⊎_elim, ℕ, List, [], ◌∷◌, ◌++◌, length, map, Some, refl, sym, ap, ◌∙◌, subst}
+use Rattle.std.proofs.Common.{◌≡◌, ◌≤◌, ◌+◌, ◌*◌, ◌^◌, ⊎_elim, ℕ, List, [], ◌∷◌, ◌++◌, length, map, sym, ap, ◌∙◌, subst}
 use Rattle.std.specs.Bool.{IsTrue}
 use Rattle.std.specs.Option.{option_to_list}
 use Rattle.std.proofs.lemmas.List.{length-map}
@@ -18,14 +18,13 @@ use Rattle.kat_model.proofs.Splits.{split_by_degree}
 use Rattle.kat_model.proofs.Sameness.{accepted_under_same}
 use Rattle.term_nodes.specs.NodeLists.{NodeParts, AreNodes}
 use Rattle.term_nodes.specs.NodeTrees.{test_tree_at, tree_at}
-use Rattle.term_nodes.specs.NumberSets.{terms_of}
 use Rattle.term_nodes.specs.Growth.{Grows}
 use Rattle.string_tables.proofs.Counterexamples.{refuted_not_same}
 use Rattle.certificate.specs.declared.nodes.Style.TheVariants.{Under}
 use Rattle.certificate.specs.declared.evidence.Evidence.TheVariants.{Equal, Different}
 use Rattle.certificate.specs.PairParts.{PairParts}
 use Rattle.certificate.specs.Certs.{CertParts}
-use Rattle.certificate.specs.Accepted.{set_pairs, tested_pairs, ShowsSame, IsAccepted}
+use Rattle.certificate.specs.Accepted.{set_pairs, ShowsSame, IsAccepted}
 use Rattle.certificate.specs.UnderTests.{AreReachedPairs, AreAllReached, IsConciseUnder}
 use Rattle.certificate.specs.Decisions.{IsShortest}
 use Rattle.short_hyps.proofs.LongProblems.{long_is_problem}

@@ -9,7 +9,7 @@ use Rattle.kat_model.specs.Steps.{Atom, set_next}
 use Rattle.kat_model.specs.Pairs.{SetPair}
 use Rattle.kat_model.specs.AllowedMoves.{IsAllowedMove}
 use Rattle.kat_model.proofs.Congruence.{sat_same}
-use Rattle.kat_model.proofs.Places.{has_at, slice_get-append_some}
+use Rattle.kat_model.proofs.Places.{slice_get-append_some}
 use Rattle.kat_model.proofs.Lists.{has_right, has_append, has_map, same_members_sym, same_members_trans}
 use Rattle.term_nodes.specs.NodeTrees.{tree_at}
 use Rattle.term_nodes.specs.NumberSets.{are_ascending, terms_of}

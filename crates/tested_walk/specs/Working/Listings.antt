@@ -2,12 +2,11 @@
 use Rattle.std.specs.Prelude.{◌≡◌, ℕ, List, map, slice_get, Some, IsTrue}
 use Rattle.std.specs.Option.{option_map}
 use Rattle.term_nodes.specs.NodeLists.{NodeParts}
-use Rattle.term_nodes.specs.NumberSets.{are_ascending, terms_of}
+use Rattle.term_nodes.specs.NumberSets.{terms_of}
 use Rattle.kat_model.specs.Members.{Has, SameMembers}
 use Rattle.kat_model.specs.Steps.{Atom, set_next}
 use Rattle.kat_model.specs.Pairs.{SetPair}
 use Rattle.test_diagrams.specs.Functions.{DiagramsParts, value_of, IsDiagramId, IsAtomOf}
-use Rattle.partial_derivs.specs.Moves.{IsTermOf}
 use Rattle.tested_walk.specs.TestedWalks.{TestedOrigin, TestedEntry}
 use Rattle.tested_walk.specs.Working.Entries.{EntryParts}
 use Rattle.tested_walk.specs.Working.Allowance.{IsWithin}

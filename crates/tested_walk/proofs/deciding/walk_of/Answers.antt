@@ -1,18 +1,14 @@
-use Rattle.std.proofs.Common.{◌≡◌, ℕ, List, All, get_or, map, Result, Ok, Err, IfOk, sym, ap, ◌∙◌, subst}
+use Rattle.std.proofs.Common.{ℕ, List, All, get_or, map, Result, Ok, Err, IfOk, sym, ap, ◌∙◌, subst}
 use Rattle.std.proofs.lemmas.Option.{slice_get-get_or}
 use Rattle.std.proofs.lemmas.Result.{IfOk-weaker}
 use Rattle.kat_model.specs.Trees.{Term}
 use Rattle.kat_model.specs.Members.{Has}
-use Rattle.kat_model.specs.Problems.{ProblemParts}
-use Rattle.kat_model.specs.Closed.{Closed, closed}
 use Rattle.kat_model.specs.Degrees.{long_hyps, with_hyps}
 use Rattle.kat_model.proofs.Places.{has_at}
 use Rattle.term_nodes.specs.NodeTrees.{tree_at}
 use Rattle.term_nodes.proofs.Growing.{Grows-trans}
-use Rattle.goal_forms.specs.ClosedTrees.{closed_trees}
 use Rattle.partial_derivs.specs.Moves.{IsTermOf}
 use Rattle.short_hyps.proofs.LongProblems.{long_is_problem}
-use Rattle.stored_pairs.specs.ClosedTerms.{AreIdsOf}
 use Rattle.tested_walk.specs.Working.Walking.{about, IsUnderWay}
 use Rattle.tested_walk.proofs.UnderDecisions.{closed_known}
 use Rattle.tested_walk.proofs.deciding.walk_of.Goals as goal
@@ -39,13 +35,10 @@ pub returns-clause-under_way : goal.returns-clause-under_way
 returns-clause-under_way c =
     let p = c.args.problem.now in
     let q = with_hyps p (long_hyps p) in
-    let s = c.closed_ids.new.store in
+    let s = c.side_ids.new.store in
     let t = c.short_ids.new.store in
     let sides = c.in_ok-sides.sides in
-    let trees : closed_trees c.in_ok-closed.closed ≡ closed q = c.in_ok-closed.ensures ∙ ap closed c.in_ok-long.ensures in
-    let ids =
-    closed_known s t q (long_is_problem p c.tests-tests.ensures.within) sides c.in_ok-shorts.ensures.kept c.count.ensures.store
-    (subst (λ (k : Closed). AreIdsOf s k sides) trees c.in_ok-sides.ensures.ids) in
+    let ids = closed_known s t q (long_is_problem p c.tests-tests.ensures.within) sides c.in_ok-shorts.ensures.kept c.count.ensures.store c.in_ok-sides.ensures.ids in
     IfOk-weaker c.new.result _ _
     (λ w started.
     subst (λ (hs : List Term). IsUnderWay (about hs q c.new.new.store) w 0) (ap (map (tree_at t)) c.deref.ensures.value ∙ c.in_ok-shorts.ensures.trees)

@@ -1,5 +1,4 @@
-use Rattle.std.proofs.Common.{◌≡◌, sym, ap, ◌∙◌, subst}
-use Rattle.std.specs.Bool.{IsTrue}
+use Rattle.std.proofs.Common.{◌≡◌, sym, ap, ◌∙◌}
 use Rattle.std.proofs.lemmas.Bool.{both_ways}
 use Rattle.test_diagrams.specs.Functions.{value_of}
 use Rattle.tested_walk.specs.Working.Entries.{EntryParts}

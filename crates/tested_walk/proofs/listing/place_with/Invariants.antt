@@ -1,4 +1,4 @@
-use Rattle.std.proofs.Common.{◌≡◌, take}
+use Rattle.std.proofs.Common.{take}
 use Rattle.std.specs.Bool.{IsTrue}
 use Rattle.kat_model.specs.Members.{Has}
 use Rattle.test_diagrams.specs.Functions.{value_of}

@@ -1,10 +1,9 @@
-use Rattle.std.proofs.Common.{◌<◌, ◌&&◌, not, ℕ, Bool, false, get_or}
+use Rattle.std.proofs.Common.{◌&&◌, not, false, get_or}
 use Rattle.std.proofs.lemmas.Result.{IfOk-weaker}
 use Rattle.kat_model.specs.Steps.{Atom}
 use Rattle.term_nodes.specs.NodeLists.{NodeParts}
 use Rattle.term_nodes.specs.Growth.{Grows}
 use Rattle.term_nodes.proofs.Growing.{Grows-trans}
-use Rattle.tested_walk.specs.Working.StoredTests.{IsTestFor}
 use Rattle.tested_walk.proofs.StoredTests.{test_kept, chosen_high, chosen_low, chosen_both}
 use Rattle.tested_walk.proofs.test_table.choice.Goals as goal
 

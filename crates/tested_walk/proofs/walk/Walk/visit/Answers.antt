@@ -3,9 +3,8 @@ use Rattle.std.specs.Bool.{IsTrue}
 use Rattle.std.proofs.lemmas.Bool.{eqb-true, eqb-false}
 use Rattle.std.proofs.lemmas.List.{take_all}
 use Rattle.kat_model.specs.Members.{Has}
-use Rattle.kat_model.proofs.Places.{has_at}
 use Rattle.partial_derivs.proofs.Items.{take_item}
-use Rattle.test_diagrams.specs.Functions.{DiagramsParts, value_of, IsDiagramId, IsAtomOf, KeepsFunctions}
+use Rattle.test_diagrams.specs.Functions.{DiagramsParts, value_of, IsAtomOf, KeepsFunctions}
 use Rattle.test_diagrams.proofs.Kept.{KeepsFunctions-itself, KeepsFunctions-trans}
 use Rattle.stored_pairs.specs.declared.items.Item.{Item}
 use Rattle.tested_walk.specs.declared.parts.Part.{Part}
