@@ -1,5 +1,5 @@
 -- Marks that are taken off, and marks of further ids, which are off.
-use Rattle.std.proofs.Common.{◌≡◌, ℕ, zero, suc, ⊎_elim, List, [], ◌∷◌, ◌++◌, length, get_or, set, take, replicate, refl, sym, ap, ◌∙◌, Bool, true, false}
+use Rattle.std.proofs.Common.{◌≡◌, ℕ, zero, suc, ⊎_elim, List, [], ◌∷◌, ◌++◌, length, get_or, set, take, replicate, refl, sym, ap, Bool, true, false}
 use Rattle.std.proofs.lemmas.Bool.{true≢false}
 use Rattle.kat_model.specs.Members.{Has}
 use Rattle.bisim_worklist.specs.Working.Marks.{without_marks, AreAmong}

@@ -71,11 +71,11 @@ fn evidence_of(
     alloc: Global,
     store: &mut Store,
     problem: &Problem,
-    mut walk: Walk,
+    walk: &mut Walk,
 ) -> Result<Evidence, Halt>
     requires within { IsProblem problem.now }
-    requires under_way { IsUnderWay problem.now store.old walk 0 }
-    requires limit { walk.rules.limit ≡ limit_of' problem.now }
+    requires under_way { IsUnderWay problem.now store.old walk.old 0 }
+    requires limit { walk.old.rules.limit ≡ limit_of' problem.now }
     ensures decision { IfOk result (IsDecision problem.now) }
     ensures ids { IfOk result (HasIdsOf store.new problem.now) }
     ensures short { result ≡ Err PairLimit → IsTrue (has_short' problem.now) }
@@ -108,11 +108,15 @@ pub fn decide_in(alloc: Global, store: &mut Store, problem: &Problem) -> Result<
     ensures kept { Grows store.old store.new }
     ensures store { AreNodes store.new }
 {
-    let walk = walk_of(alloc, store, problem)?;
-    match evidence_of(alloc, store, problem, walk) {
+    let mut walk = walk_of(alloc, store, problem)?;
+    match evidence_of(alloc, store, problem, &mut walk) {
         Ok(evidence) => Ok(evidence),
         Err(Halt::NoMemory) => Err(NoMemory),
-        Err(Halt::PairLimit) => decide_under(alloc, store, problem),
+        Err(Halt::PairLimit) => {
+            // The second walk may need the memory of the first.
+            drop(walk);
+            decide_under(alloc, store, problem)
+        }
     }
 }
 

@@ -1,4 +1,4 @@
-use Rattle.std.proofs.Common.{◌≡◌, Some, slice_get, true, sym, ◌∙◌, subst, arith}
+use Rattle.std.proofs.Common.{◌≡◌, Some, slice_get, sym, ◌∙◌, subst}
 use Rattle.bisim_worklist.proofs.Closures.{at_read, made_at, closed_at, closed_out}
 use Rattle.bisim_worklist.proofs.saturation.add_at.Goals as goal
 

@@ -1,4 +1,4 @@
-use Rattle.std.proofs.Common.{◌≡◌, ℕ, Option, Some, Bool, true, false, length, get_or, sym, ap, ◌∙◌}
+use Rattle.std.proofs.Common.{ℕ, Option, Bool, false, length, get_or, sym, ap, ◌∙◌}
 use Rattle.std.specs.Option.{option_map_or}
 use Rattle.std.proofs.lemmas.Bool.{true≢false}
 use Rattle.bisim_worklist.proofs.OutOfReach.{stays_out}

@@ -1,4 +1,4 @@
-use Rattle.std.proofs.Common.{◌≡◌, ℕ, List, [], Bool, true, false, length, get_or, replicate, ap, ◌∙◌, subst, arith}
+use Rattle.std.proofs.Common.{◌≡◌, ℕ, List, Bool, true, false, length, get_or, replicate, ap, ◌∙◌, subst, arith}
 use mathlib.Core.Path.{ap₂}
 use Rattle.std.proofs.lemmas.List.{with_items_is}
 use Rattle.bisim_worklist.specs.Working.Marks.{without_marks, MarkedParts}
