@@ -115,6 +115,17 @@ def frameless(n):
     return unswitched_frames(n, "q")
 
 
+def literal(pick, tests_of):
+    return f"{pick.choice(['', '!'])}{pick.choice(tests_of)}"
+
+
+def corners(n):
+    """`frames` with as many random hypotheses more: each rules out one of its actions in a corner of three tests, or fewer."""
+    pick, t = random.Random(1), names("b", n)
+    more = "".join(f"hyp {literal(pick, t)}.{literal(pick, t)}.{pick.choice('pq')}.{literal(pick, t)} = 0;\n" for _ in t)
+    return frames(n).replace("goal", f"{more}goal")
+
+
 def asked(n):
     """n tests that an action leaves alone, asked in front of a loop of it and again behind it, the first one more."""
     t = names("b", n)
@@ -122,10 +133,6 @@ def asked(n):
     text += "".join(f"hyp {one}.q.{other} = 0;\n" for it in t for one, other in ((it, f"!{it}"), (f"!{it}", it)))
     branches = ".".join(f"({it}.p + !{it})" for it in t)
     return text + f"goal equal {branches}.(c.q)*.!c.{branches}, {branches}.(c.q)*.!c.({t[0]} + !{t[0]}).{branches};\n"
-
-
-def literal(pick, tests_of):
-    return f"{pick.choice(['', '!'])}{pick.choice(tests_of)}"
 
 
 def moves(n):
@@ -243,6 +250,7 @@ FAMILIES = {
     "differ": (differ, 256),
     "frames": (frames, 5),
     "frameless": (frameless, 5),
+    "corners": (corners, 12),
     "asked": (asked, 4),
     "moves": (moves, 10),
     "unswitched": (unswitched, 1),

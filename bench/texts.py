@@ -228,7 +228,7 @@ CASES = {
     "chain": ("check", chain, 800_000),
     "chain-read": ("replay", chain, 800_000),
     "mixed-read": ("replay", mixed, 250_000),
-    "few": ("check", few, 10_000),
+    "few": ("check", few, 125_000),
     "listed": ("check", listed, 100_000),
     "nested": ("replay", nested, 1_000),
     "product": ("replay", product, 512),
