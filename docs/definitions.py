@@ -17,8 +17,8 @@ TOP = Path(__file__).resolve().parent.parent
 PAGE = TOP / "docs/definitions.md"
 BEGIN, END = "<!-- The list begins. docs/definitions.py writes it. -->\n", "<!-- The list ends. -->\n"
 # The crates and files that are listed. The laws are in docs/proofs.md.
-LISTED = ["kat_model", "goal_forms", "problem_file", "linear_forms", "while_lang", "one_loop", "abstraction", "abstract_texts", "axiom_chains", "chain_proofs", "bench_problems/Generator", "simple_hyps/TestTerms", "outline_notes", "outline_rules", "guarded_terms", "gkat_front", "optimiser_theory", "term_nodes", "string_tables", "certificate",
-          "cert_checker/Answers", "bisim_worklist/StoredTerms", "kat_report", "plain_texts", "kat_io/Outside", "tool_words", "tool_steps", "decide_replies", "check_replies", "outline_replies", "program_replies", "kat_tool"]
+LISTED = ["kat_model", "goal_forms", "problem_file", "linear_forms", "while_lang", "one_loop", "abstraction", "abstract_texts", "chain_rules", "chain_proofs", "bench_problems/Generator", "simple_hyps/TestTerms", "outline_notes", "outline_rules", "gkat_terms", "gkat_front", "optimiser_theory", "term_nodes", "string_tables", "certificate",
+          "cert_checker/Answers", "bisim_worklist/StoredTerms", "kat_report", "problem_texts", "kat_io/Outside", "tool_commands", "tool_inputs", "tool_decide", "tool_check", "tool_outline", "tool_programs", "kat_tool"]
 DEFINITION = re.compile(r"(?:abbrev|opaque|unfoldable) pub (\S+)|pub (?:abbrev|opaque|record|data) (\S+)")
 
 

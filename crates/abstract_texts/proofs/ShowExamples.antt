@@ -5,10 +5,10 @@ use Rattle.std.specs.Fmt.{digits}
 use Rattle.kat_model.specs.Expressions.{number, variable, plus, always, compared}
 use Rattle.kat_model.specs.declared.expression.Rel.TheVariants.{Eq}
 use Rattle.kat_model.specs.declared.expression.Width.TheVariants.{W64}
-use Rattle.kat_text.specs.declared.meaning.Meaning.TheVariants.{Var}
-use Rattle.kat_text.specs.ScopeParts.{ScopeParts, IsNameOf}
-use Rattle.kat_print.specs.Printing.{name_of}
-use Rattle.kat_print.proofs.NameOf.{name_is}
+use Rattle.text_scopes.specs.declared.meaning.Meaning.TheVariants.{Var}
+use Rattle.text_scopes.specs.ScopeParts.{ScopeParts, IsNameOf}
+use Rattle.text_print.specs.Printing.{name_of}
+use Rattle.text_print.proofs.NameOf.{name_is}
 use Rattle.while_lang.specs.Programs.{empty, assign_then}
 use Rattle.problem_file.specs.Files.{prog_side, triple, FileParts}
 use Rattle.abstraction.specs.Abstracts.{abstract_parts}

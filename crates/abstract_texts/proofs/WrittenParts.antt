@@ -5,11 +5,11 @@ use Rattle.std.specs.Prelude.{codes, flat_map}
 use Rattle.std.specs.List.{zip, enumerate_from}
 use Rattle.kat_model.specs.Trees.{Term}
 use Rattle.kat_model.specs.Problems.{ProblemParts, IsProblem, IsInRange, AreInRange}
-use Rattle.kat_text.specs.ScopeParts.{ScopeParts}
-use Rattle.kat_print.specs.Printing.{name_of}
-use Rattle.plain_texts.specs.Questions.{plain_name, tests_text, actions_text, hyp_text, goal_text}
-use Rattle.plain_texts.specs.Working.Scopes.{IsPlain}
-use Rattle.plain_texts.proofs.PlainScopes.{plain_as, term_same}
+use Rattle.text_scopes.specs.ScopeParts.{ScopeParts}
+use Rattle.text_print.specs.Printing.{name_of}
+use Rattle.problem_texts.specs.Questions.{plain_name, tests_text, actions_text, hyp_text, goal_text}
+use Rattle.problem_texts.specs.Working.Scopes.{IsPlain}
+use Rattle.problem_texts.proofs.PlainScopes.{plain_as, term_same}
 use Rattle.abstraction.specs.declared.rows.ActionRow.{ActionRow}
 use Rattle.abstraction.specs.declared.rows.TestRow.{TestRow}
 use Rattle.abstraction.specs.declared.rows.Rule.{Rule}

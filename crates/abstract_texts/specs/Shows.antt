@@ -4,14 +4,14 @@ use Rattle.std.specs.Prelude.{ℕ, List, [], ◌∷◌, ◌++◌, codes, Bool, t
 use Rattle.std.specs.List.{zip, enumerate_from}
 use Rattle.std.specs.Fmt.{decimal}
 use Rattle.kat_model.specs.Trees.{Term}
-use Rattle.kat_text.specs.declared.meaning.Meaning.{Meaning}
-use Rattle.kat_text.specs.declared.meaning.Meaning.TheVariants.{Test, Action, Var}
-use Rattle.kat_text.specs.ScopeParts.{ScopeParts}
-use Rattle.kat_print.specs.Printing.{name_of}
+use Rattle.text_scopes.specs.declared.meaning.Meaning.{Meaning}
+use Rattle.text_scopes.specs.declared.meaning.Meaning.TheVariants.{Test, Action, Var}
+use Rattle.text_scopes.specs.ScopeParts.{ScopeParts}
+use Rattle.text_print.specs.Printing.{name_of}
 use Rattle.linear_forms.specs.Forms.{FormTree, constant, var_term, product_term}
 use Rattle.linear_forms.specs.declared.comparison.Atomic.{Atomic}
 use Rattle.linear_forms.specs.declared.comparison.Atomic.TheVariants.{Zero, Less}
-use Rattle.plain_texts.specs.Questions.{plain_name, tests_text, actions_text, hyp_text, goal_text}
+use Rattle.problem_texts.specs.Questions.{plain_name, tests_text, actions_text, hyp_text, goal_text}
 use Rattle.abstraction.specs.Abstracts.{AbstractParts}
 use Rattle.abstraction.specs.declared.rows.ActionRow.{ActionRow}
 use Rattle.abstraction.specs.declared.rows.ActionRow.TheVariants as action

@@ -1,16 +1,16 @@
 //! Forms and comparisons of forms as text.
 ghost use Rattle.std.specs.Prelude.{◌≡◌, ◌++◌, OnOk};
 ghost use Rattle.linear_forms.specs.Views.{mono_tree};
-ghost use Rattle.kat_print.specs.Printing.{name_of};
+ghost use Rattle.text_print.specs.Printing.{name_of};
 ghost use Rattle.abstract_texts.specs.Shows.{plus_text, times_text, form_text, comparison_text};
 ghost use Rattle.abstract_texts.specs.Working.SumParts.{mono_text, term_text, constant_text};
 
 use crate::writing::{put, put_number};
 use kat_model::NoMemory;
-use kat_print::put_name;
-use kat_text::{Meaning, Scope};
 use linear_forms::{Atomic, Form, Mono, Term};
 use std::alloc::Global;
+use text_print::put_name;
+use text_scopes::{Meaning, Scope};
 
 // What stands before a part of a sum, unless it is the first.
 fn put_plus(out: &mut Vec<u8>, first: bool) -> Result<(), NoMemory>

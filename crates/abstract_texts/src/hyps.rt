@@ -1,15 +1,15 @@
 //! Hypotheses, each behind the comment with its rule where that is new.
 ghost use Rattle.std.specs.Prelude.{◌≡◌, ◌++◌, None, OnOk};
 ghost use Rattle.std.specs.List.{zip};
-ghost use Rattle.plain_texts.specs.Working.Scopes.{IsPlain};
+ghost use Rattle.problem_texts.specs.Working.Scopes.{IsPlain};
 ghost use Rattle.abstract_texts.specs.Shows.{rule_text, rule_comment, is_new, hyps_text};
 
 use crate::writing::put;
 use abstraction::Rule;
 use kat_model::{NoMemory, Problem};
-use kat_text::Scope;
-use plain_texts::put_hyp;
+use problem_texts::put_hyp;
 use std::alloc::Global;
+use text_scopes::Scope;
 
 fn put_rule(alloc: Global, out: &mut Vec<u8>, rule: Rule) -> Result<(), NoMemory>
     ensures { OnOk result (out.new.items ≡ out.old.items ++ rule_text rule) }

@@ -1,17 +1,17 @@
 //! Comments on what tests and actions stand for.
 ghost use Rattle.std.specs.Prelude.{◌≡◌, ◌++◌, flat_map, OnOk};
 ghost use Rattle.std.specs.List.{enumerate_from};
-ghost use Rattle.kat_print.specs.Printing.{name_of};
+ghost use Rattle.text_print.specs.Printing.{name_of};
 ghost use Rattle.abstract_texts.specs.Shows.{test_comment, action_comment};
 
 use crate::forms::{put_comparison, put_form};
 use crate::writing::put;
 use abstraction::{ActionRow, TestRow};
 use kat_model::NoMemory;
-use kat_print::put_name;
-use kat_text::{Meaning, Scope};
-use plain_texts::{put_action_name, put_test_name};
+use problem_texts::{put_action_name, put_test_name};
 use std::alloc::Global;
+use text_print::put_name;
+use text_scopes::{Meaning, Scope};
 
 fn put_test_comment(
     alloc: Global,

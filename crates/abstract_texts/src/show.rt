@@ -6,8 +6,8 @@ use crate::hyps::put_hyps;
 use crate::rows::{put_action_comments, put_test_comments};
 use abstraction::Abstract;
 use kat_model::NoMemory;
-use plain_texts::{plain_scope, put_actions, put_goal, put_tests};
 use problem_file::File;
+use problem_texts::{plain_scope, put_actions, put_goal, put_tests};
 use std::alloc::Global;
 
 /// The problem of an abstraction as the text of a problem file, an item a line: comments say what each test and each

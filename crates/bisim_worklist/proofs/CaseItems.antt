@@ -11,14 +11,14 @@ use Rattle.term_nodes.specs.NodeTrees.{tree_at}
 use Rattle.test_diagrams.specs.Functions.{DiagramsParts, value_of, IsDiagramId, IsAtomOf, IsConstant}
 use Rattle.test_diagrams.specs.Reduced.{IsReduced}
 use Rattle.test_diagrams.proofs.Apart.{same_function_same_id}
-use Rattle.stored_pairs.specs.Covered.{IsBetween}
+use Rattle.walk_pairs.specs.Covered.{IsBetween}
 use Rattle.term_nodes.specs.NumberSets.{terms_of}
-use Rattle.stored_pairs.specs.Items.{guard_of, guard_beyond, targets_under, is_open, open_targets, chosen}
-use Rattle.stored_pairs.specs.Items.{AreEnds}
-use Rattle.stored_pairs.specs.declared.items.Item.{Item}
-use Rattle.stored_pairs.specs.declared.items.Ends.{Ends}
-use Rattle.stored_pairs.specs.declared.items.Side.{Side}
-use Rattle.stored_pairs.proofs.ItemTargets.{under_where, open_where, chosen_where, where_has, has_where}
+use Rattle.walk_pairs.specs.Items.{guard_of, guard_beyond, targets_under, is_open, open_targets, chosen}
+use Rattle.walk_pairs.specs.Items.{AreEnds}
+use Rattle.walk_pairs.specs.declared.items.Item.{Item}
+use Rattle.walk_pairs.specs.declared.items.Ends.{Ends}
+use Rattle.walk_pairs.specs.declared.items.Side.{Side}
+use Rattle.walk_pairs.proofs.ItemTargets.{under_where, open_where, chosen_where, where_has, has_where}
 
 pub terms_within : (store : NodeParts) (ks ls : List ℕ) → IsSubset ks ls → IsSubset (terms_of store ks) (terms_of store ls)
 terms_within store ks ls s x h = let f = has_map (tree_at store) ks x h in subst (Has (terms_of store ls)) f.2 (map_has (tree_at store) ls f.0 (s f.0 f.1))

@@ -8,8 +8,8 @@ use Rattle.std.proofs.Math.ListN.{length-set}
 use Rattle.kat_model.specs.Members.{Has}
 use Rattle.kat_model.proofs.Lists.{has_left, has_right}
 use Rattle.kat_model.proofs.Places.{has_at, place_of_member, get_or-set_cases}
-use Rattle.stored_pairs.specs.declared.items.Side.{Side}
-use Rattle.stored_pairs.specs.declared.items.Side.TheVariants.{Left, Right}
+use Rattle.walk_pairs.specs.declared.items.Side.{Side}
+use Rattle.walk_pairs.specs.declared.items.Side.TheVariants.{Left, Right}
 use Rattle.bisim_worklist.specs.declared.pair.Spot.{Spot}
 use Rattle.bisim_worklist.specs.Working.Listings.{IdEntry, set_on, set_across}
 use Rattle.bisim_worklist.specs.Working.Indices.{IndexParts, IsWitness, StandsUnder, AreIndexed, spot_at}

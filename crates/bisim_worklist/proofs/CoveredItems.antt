@@ -10,19 +10,19 @@ use Rattle.kat_model.specs.Closed.{closed}
 use Rattle.term_nodes.specs.NodeLists.{NodeParts, IsTerm}
 use Rattle.term_nodes.specs.NodeTrees.{tree_at}
 use Rattle.bisim_worklist.specs.Walks.{pairs_of}
-use Rattle.stored_pairs.specs.Covered.{HasUniversal, IsReached, IsCovered}
+use Rattle.walk_pairs.specs.Covered.{HasUniversal, IsReached, IsCovered}
 use Rattle.term_nodes.specs.NumberSets.{terms_of}
 use Rattle.bisim_worklist.specs.Working.Listings.{entries_of}
 use Rattle.bisim_worklist.specs.Working.Marks.{RuleParts, are_marked, saturated_marks, reaches_targets}
-use Rattle.stored_pairs.specs.Items.{targets_under, open_targets, is_open, guard_of}
+use Rattle.walk_pairs.specs.Items.{targets_under, open_targets, is_open, guard_of}
 use Rattle.bisim_worklist.specs.Working.Covers.{covers_on, covers}
 use Rattle.bisim_worklist.specs.Working.IdWalks.{AreRulesOf}
-use Rattle.stored_pairs.specs.declared.items.Item.{Item}
-use Rattle.stored_pairs.specs.declared.items.Ends.{Ends}
-use Rattle.stored_pairs.specs.declared.items.Side.{Side}
-use Rattle.stored_pairs.specs.declared.items.Side.TheVariants.{Left, Right}
+use Rattle.walk_pairs.specs.declared.items.Item.{Item}
+use Rattle.walk_pairs.specs.declared.items.Ends.{Ends}
+use Rattle.walk_pairs.specs.declared.items.Side.{Side}
+use Rattle.walk_pairs.specs.declared.items.Side.TheVariants.{Left, Right}
 use Rattle.bisim_worklist.proofs.MarkedTerms.{AreIds, ArePairIds, MarksAre, marked_id, all_marked, saturated_set, saturated_length}
-use Rattle.stored_pairs.proofs.ItemTargets.{targets_where, under_where, open_where, has_where}
+use Rattle.walk_pairs.proofs.ItemTargets.{targets_where, under_where, open_where, has_where}
 
 -- the targets of items are ids, and so are those of some of them
 abbrev pub AreTargetIds : NodeParts → List Item → Type 0

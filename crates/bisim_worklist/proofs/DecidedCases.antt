@@ -3,7 +3,7 @@ use Rattle.std.proofs.Common.{◌≡◌, inl, inr, ℕ, zero, suc, Bool, true, f
 use Rattle.std.proofs.lemmas.Bool.{eqb-true, eqb-false}
 use Rattle.kat_model.specs.Members.{Has}
 use Rattle.test_diagrams.specs.Functions.{DiagramsParts, KeepsFunctions}
-use Rattle.stored_pairs.specs.declared.items.Item.{Item}
+use Rattle.walk_pairs.specs.declared.items.Item.{Item}
 use Rattle.bisim_worklist.specs.Working.Cases.{IsFixedItem, IsCase, AreItemsWith}
 
 get_apart : (ds : List (Option Bool)) (j k : ℕ) (d : Option Bool) → (k ≡ j → ⊥) → slice_get (set ds j d) k ≡ slice_get ds k

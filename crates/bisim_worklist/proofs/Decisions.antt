@@ -20,7 +20,7 @@ use Rattle.certificate.specs.Certs.{CertParts}
 use Rattle.term_nodes.specs.NodeLists.{NodeParts}
 use Rattle.term_nodes.specs.NodeTrees.{tree_at, HasTree}
 use Rattle.term_nodes.specs.Growth.{Grows}
-use Rattle.tested_walk.specs.Decisions.{IsDecisionUnder}
+use Rattle.walk_under.specs.Decisions.{IsDecisionUnder}
 use Rattle.partial_derivs.specs.Moves.{IsTermOf}
 use Rattle.certificate.specs.PairParts.{PairParts}
 use Rattle.certificate.specs.Accepted.{set_pairs, tested_pair_of}
@@ -30,9 +30,9 @@ use Rattle.bisim_worklist.specs.StoredTerms.{HasIdsOf}
 use Rattle.bisim_worklist.specs.Walks.{Origin, Entry, pairs_of, IsWalk, IsTrail, after_trail}
 use Rattle.term_nodes.specs.NumberSets.{terms_of}
 use Rattle.bisim_worklist.specs.Working.Listings.{IdEntry, entry_of, entries_of, AreIdSets, ComesEarlier, AreTraced, origin_in, LeadsBack, untested_of}
-use Rattle.stored_pairs.specs.StoredPairs.{IsStoredPair, AreStoredPairs}
-use Rattle.stored_pairs.specs.Numbering.{ArePairsWithin, IsCertOf}
-use Rattle.stored_pairs.proofs.CertSets.{set_pairs_are}
+use Rattle.walk_pairs.specs.StoredPairs.{IsStoredPair, AreStoredPairs}
+use Rattle.walk_pairs.specs.Numbering.{ArePairsWithin, IsCertOf}
+use Rattle.walk_pairs.proofs.CertSets.{set_pairs_are}
 use Rattle.bisim_worklist.specs.Working.Limits.{limit_of}
 use Rattle.bisim_worklist.specs.Working.Walking.{IsUnderWay, IsDifference}
 use Rattle.bisim_worklist.specs.declared.walk.Walk.{Walk}

@@ -20,18 +20,18 @@ use Rattle.bisim_worklist.specs.Walks.{Entry, pairs_of, AreCongruentAfter}
 use Rattle.bisim_worklist.specs.Working.Visits.{AddsEntries}
 use Rattle.term_nodes.specs.NumberSets.{terms_of}
 use Rattle.bisim_worklist.specs.Working.Listings.{IdEntry, pair_of, entry_of, entries_of}
-use Rattle.stored_pairs.specs.IdSets.{IsIdSet}
+use Rattle.walk_pairs.specs.IdSets.{IsIdSet}
 use Rattle.bisim_worklist.specs.Working.Marks.{RuleParts}
-use Rattle.stored_pairs.specs.Items.{AreItemsOf, AreLedTo}
+use Rattle.walk_pairs.specs.Items.{AreItemsOf, AreLedTo}
 use Rattle.bisim_worklist.specs.Working.Cases.{Extends}
 use Rattle.bisim_worklist.specs.Working.IdWalks.{AreRulesOf, StandFor, AreVisited, Visits, IsPastLimit, PassesLimit}
 use Rattle.bisim_worklist.specs.Working.Walking.{IsUnderWay, AreStepsAt, IsExpanded}
-use Rattle.stored_pairs.specs.declared.items.Item.{Item}
+use Rattle.walk_pairs.specs.declared.items.Item.{Item}
 use Rattle.bisim_worklist.specs.declared.branching.Stride.{Stride}
 use Rattle.bisim_worklist.specs.declared.walk.Walk.{Walk}
 use Rattle.bisim_worklist.specs.declared.walk.BothSteps.{BothSteps}
-use Rattle.stored_pairs.proofs.PlaceNumbers.{mapped_at, at_mapped}
-use Rattle.stored_pairs.proofs.NextSets.{next_of_ids, target_term}
+use Rattle.walk_pairs.proofs.PlaceNumbers.{mapped_at, at_mapped}
+use Rattle.walk_pairs.proofs.NextSets.{next_of_ids, target_term}
 use Rattle.bisim_worklist.proofs.Visiting.{grows_then, grown_at, grown_after}
 
 -- ---- the items of an action

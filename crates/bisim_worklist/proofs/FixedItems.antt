@@ -8,11 +8,11 @@ use Rattle.term_nodes.specs.NumberSets.{are_ascending}
 use Rattle.test_diagrams.specs.Functions.{DiagramsParts, value_of, IsAtomOf, IsDiagramId, IsDiagramOf, IsIndependent, KeepsFunctions}
 use Rattle.test_diagrams.proofs.Kept.{IsDiagramOf-kept}
 use Rattle.partial_derivs.proofs.Items.{has_item, take_item}
-use Rattle.stored_pairs.specs.declared.items.Item.{Item}
-use Rattle.stored_pairs.specs.declared.items.Side.{Side}
-use Rattle.stored_pairs.specs.declared.items.Side.TheVariants.{Left, Right}
-use Rattle.stored_pairs.specs.Items.{targets_of, chosen, guard_of}
-use Rattle.stored_pairs.proofs.FixedDiagrams.{IsFixedTo, fixed_independent}
+use Rattle.walk_pairs.specs.declared.items.Item.{Item}
+use Rattle.walk_pairs.specs.declared.items.Side.{Side}
+use Rattle.walk_pairs.specs.declared.items.Side.TheVariants.{Left, Right}
+use Rattle.walk_pairs.specs.Items.{targets_of, chosen, guard_of}
+use Rattle.walk_pairs.proofs.FixedDiagrams.{IsFixedTo, fixed_independent}
 use Rattle.bisim_worklist.specs.Working.Cases.{AreItemsWith, IsFixedItem}
 use Rattle.certificate.proofs.Ascending.{ascending_tail, ascending_first, ascending_more}
 

@@ -16,19 +16,19 @@ use Rattle.partial_derivs.specs.Moves.{IsTermOf}
 use Rattle.bisim_worklist.specs.Walks.{Origin, Entry, IsWalk}
 use Rattle.bisim_worklist.specs.Working.Visits.{IsVisited}
 use Rattle.bisim_worklist.specs.Working.Listings.{IdEntry, pair_of, entry_of, entries_of, AreIdSets}
-use Rattle.stored_pairs.specs.IdSets.{IsIdSet}
+use Rattle.walk_pairs.specs.IdSets.{IsIdSet}
 use Rattle.bisim_worklist.specs.Working.Marks.{RuleParts, IsWithinLimit, is_full}
-use Rattle.stored_pairs.specs.Items.{guard_of, targets_under, open_targets}
+use Rattle.walk_pairs.specs.Items.{guard_of, targets_under, open_targets}
 use Rattle.bisim_worklist.specs.Working.Covers.{covers}
-use Rattle.stored_pairs.specs.Items.{AreEnds}
+use Rattle.walk_pairs.specs.Items.{AreEnds}
 use Rattle.bisim_worklist.specs.Working.Cases.{Extends, least_of, AreConstant, IsCase}
 use Rattle.bisim_worklist.specs.Working.IdWalks.{AreRulesOf, StandFor, AreVisited, Visits, PassesLimit}
-use Rattle.stored_pairs.specs.declared.items.Item.{Item}
-use Rattle.stored_pairs.specs.declared.items.Ends.{Ends}
-use Rattle.stored_pairs.specs.declared.items.Side.{Side}
-use Rattle.stored_pairs.specs.declared.items.Side.TheVariants.{Left, Right}
+use Rattle.walk_pairs.specs.declared.items.Item.{Item}
+use Rattle.walk_pairs.specs.declared.items.Ends.{Ends}
+use Rattle.walk_pairs.specs.declared.items.Side.{Side}
+use Rattle.walk_pairs.specs.declared.items.Side.TheVariants.{Left, Right}
 use Rattle.bisim_worklist.specs.declared.branching.Stride.{Stride}
-use Rattle.stored_pairs.proofs.ItemTargets.{under_where, has_where, where_ascending}
+use Rattle.walk_pairs.proofs.ItemTargets.{under_where, has_where, where_ascending}
 use Rattle.bisim_worklist.proofs.CoveredItems.{AreTargetIds, covers_told}
 use Rattle.bisim_worklist.proofs.CaseItems.{terms_within, are_between, open_sure, same_sure}
 use Rattle.bisim_worklist.proofs.Visiting.{visited_covered, visited_listed}

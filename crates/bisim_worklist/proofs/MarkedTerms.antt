@@ -15,7 +15,7 @@ use Rattle.term_nodes.specs.NodeTrees.{tree_at}
 use Rattle.term_nodes.proofs.TermTrees.{one_id_a_tree}
 use Rattle.bisim_worklist.specs.Walks.{Entry, pairs_of}
 use Rattle.term_nodes.specs.NumberSets.{terms_of}
-use Rattle.stored_pairs.specs.declared.items.Side.{Side}
+use Rattle.walk_pairs.specs.declared.items.Side.{Side}
 use Rattle.bisim_worklist.specs.Working.Listings.{IdEntry, set_on, set_across, pair_of, entry_of, entries_of}
 use Rattle.bisim_worklist.specs.Working.Marks.{are_marked, with_marks, with_side_marked, with_pair_marked, round_marked, rounds_marked, saturated_marks}
 

@@ -4,7 +4,7 @@ use Rattle.std.specs.Option.{MatchOption, IfSome}
 use Rattle.std.proofs.lemmas.List.{drop_more}
 use Rattle.kat_model.specs.Members.{Has}
 use Rattle.test_diagrams.specs.Functions.{DiagramsParts}
-use Rattle.stored_pairs.specs.declared.items.Item.{Item}
+use Rattle.walk_pairs.specs.declared.items.Item.{Item}
 use Rattle.bisim_worklist.specs.Working.Cases.{IsConstantItem, HasNextTest, IsNextTest, AreConstant}
 
 -- a test of one item is one of the items

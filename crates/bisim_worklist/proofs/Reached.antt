@@ -4,8 +4,8 @@ use Rattle.kat_model.specs.Trees.{Term}
 use Rattle.kat_model.specs.Members.{Has, IsSubset, SameMembers}
 use Rattle.kat_model.specs.Pairs.{SetPair, sat}
 use Rattle.kat_model.proofs.Congruence.{sat_same}
-use Rattle.stored_pairs.specs.Covered.{HasUniversal, IsReached}
-use Rattle.stored_pairs.proofs.Covered.{universal_within}
+use Rattle.walk_pairs.specs.Covered.{HasUniversal, IsReached}
+use Rattle.walk_pairs.proofs.Covered.{universal_within}
 use Rattle.bisim_worklist.proofs.Rounds.{StandsIn, sat_from}
 
 -- the marks have the targets, or the universal term

@@ -4,7 +4,7 @@ use Rattle.kat_model.specs.Trees.{Term}
 use Rattle.kat_model.specs.Members.{Has}
 use Rattle.kat_model.specs.Problems.{ProblemParts, IsInRange, IsProblem}
 use Rattle.kat_model.specs.Closed.{closed}
-use Rattle.stored_pairs.proofs.SideRanges.{sides_in_range, within_side}
+use Rattle.walk_pairs.proofs.SideRanges.{sides_in_range, within_side}
 use Rattle.bisim_worklist.specs.Walks.{Entry, IsWalk}
 use Rattle.bisim_worklist.proofs.Entries.{has_pair}
 use Rattle.bisim_worklist.proofs.Endings.{walk_bounds}

@@ -14,14 +14,14 @@ use Rattle.partial_derivs.specs.Moves.{IsTermOf}
 use Rattle.term_nodes.specs.NumberSets.{terms_of}
 use Rattle.bisim_worklist.specs.Working.Listings.{entries_of}
 use Rattle.bisim_worklist.specs.Working.Marks.{RuleParts}
-use Rattle.stored_pairs.specs.Items.{guard_of, chosen, AreItems}
-use Rattle.stored_pairs.specs.Items.{AreEnds}
+use Rattle.walk_pairs.specs.Items.{guard_of, chosen, AreItems}
+use Rattle.walk_pairs.specs.Items.{AreEnds}
 use Rattle.bisim_worklist.specs.Working.Cases.{Extends, IsOpen, open_count, IsNextTest, IsCase, AreItemsWith}
 use Rattle.bisim_worklist.specs.Working.IdWalks.{StandFor, Visits, IsPastLimit, PassesLimit}
-use Rattle.stored_pairs.specs.declared.items.Item.{Item}
-use Rattle.stored_pairs.specs.declared.items.Ends.{Ends}
-use Rattle.stored_pairs.specs.declared.items.Side.{Side}
-use Rattle.stored_pairs.specs.declared.items.Side.TheVariants.{Left, Right}
+use Rattle.walk_pairs.specs.declared.items.Item.{Item}
+use Rattle.walk_pairs.specs.declared.items.Ends.{Ends}
+use Rattle.walk_pairs.specs.declared.items.Side.{Side}
+use Rattle.walk_pairs.specs.declared.items.Side.TheVariants.{Left, Right}
 use Rattle.bisim_worklist.specs.declared.branching.Stride.{Stride}
 use Rattle.bisim_worklist.proofs.Visiting.{grown_at, visited_both}
 

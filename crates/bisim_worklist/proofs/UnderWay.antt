@@ -25,15 +25,15 @@ use Rattle.bisim_worklist.specs.Walks.{Entry, pairs_of, AcceptAlike, AreCongruen
 use Rattle.certificate.specs.Decisions.{pair_limit}
 use Rattle.term_nodes.specs.NumberSets.{terms_of}
 use Rattle.bisim_worklist.specs.Working.Listings.{IdEntry, pair_of, entry_of, entries_of, AreIdSets}
-use Rattle.stored_pairs.specs.IdSets.{IsIdSet}
+use Rattle.walk_pairs.specs.IdSets.{IsIdSet}
 use Rattle.bisim_worklist.specs.Working.Marks.{RuleParts, IsWithinLimit}
 use Rattle.bisim_worklist.specs.Working.IdWalks.{AreRulesOf}
 use Rattle.bisim_worklist.specs.Working.Walking.{IsUnderWay, AreStepsAt, HasStepIds, IsDifference}
 use Rattle.bisim_worklist.specs.declared.walk.Walk.{Walk}
 use Rattle.bisim_worklist.specs.declared.walk.BothSteps.{BothSteps}
 use Rattle.bisim_worklist.proofs.Endings.{walk_few, walk_ended}
-use Rattle.stored_pairs.proofs.PlaceNumbers.{at_mapped}
-use Rattle.stored_pairs.proofs.SideRanges.{universal_in_range, sides_in_range}
+use Rattle.walk_pairs.proofs.PlaceNumbers.{at_mapped}
+use Rattle.walk_pairs.proofs.SideRanges.{universal_in_range, sides_in_range}
 use Rattle.bisim_worklist.proofs.WalkSteps.{first_entry, walk_starts, walk_goes_on}
 
 -- ---- the start

@@ -9,10 +9,10 @@ use Rattle.kat_model.specs.Closed.{closed}
 use Rattle.kat_model.specs.Pairs.{SetPair, IsCongruent}
 use Rattle.kat_model.proofs.Lists.{has_right}
 use Rattle.kat_model.proofs.Places.{slice_get-append_some}
-use Rattle.stored_pairs.specs.Covered.{IsBetween, IsCovered}
+use Rattle.walk_pairs.specs.Covered.{IsBetween, IsCovered}
 use Rattle.bisim_worklist.specs.Walks.{Origin, Entry, pairs_of, IsNextOf, AreCongruentAfter, IsWalk}
 use Rattle.bisim_worklist.specs.Working.Visits.{AddsEntries, IsVisited}
-use Rattle.stored_pairs.proofs.Covered.{covered_congruent, congruent_covered, listed_congruent}
+use Rattle.walk_pairs.proofs.Covered.{covered_congruent, congruent_covered, listed_congruent}
 use Rattle.bisim_worklist.proofs.Entries.{pairs_of-append, has_pair}
 use Rattle.bisim_worklist.proofs.MorePairs.{congruent_front}
 use Rattle.bisim_worklist.proofs.WalkSteps.{walk_lists}

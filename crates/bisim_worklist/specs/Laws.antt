@@ -15,7 +15,7 @@ use Rattle.certificate.specs.declared.nodes.Style.TheVariants.{UpTo}
 use Rattle.certificate.specs.Certs.{CertParts}
 use Rattle.certificate.specs.Accepted.{set_pairs}
 use Rattle.certificate.specs.Decisions.{HasNoRedundantPair, pair_limit, IsConcise, IsShortest}
-use Rattle.stored_pairs.specs.Covered.{IsBetween, IsCovered}
+use Rattle.walk_pairs.specs.Covered.{IsBetween, IsCovered}
 use Rattle.bisim_worklist.specs.Walks.{Origin, Entry, pairs_of, closed_pair, IsNextOf, IsSettled, IsWalk, IsTrail, after_trail}
 
 -- sets that are congruent under some pairs are so under more

@@ -2,11 +2,11 @@
 //! are listed.
 ghost use Rattle.std.specs.Prelude.{◌≡◌, ◌++◌, ◌∷◌, [], Some, None, Err, length, replicate, OnOk};
 ghost use Rattle.test_diagrams.specs.Functions.{KeepsFunctions};
-ghost use Rattle.stored_pairs.specs.Items.{AreItems, targets_under};
+ghost use Rattle.walk_pairs.specs.Items.{AreItems, targets_under};
 ghost use Rattle.bisim_worklist.specs.Working.Cases.{IsCase, AreConstant, least_of};
 ghost use Rattle.bisim_worklist.specs.Working.IdWalks.{Visits, PassesLimit};
 ghost use Rattle.bisim_worklist.specs.declared.halt.Halt.TheVariants.{PairLimit};
-ghost use Rattle.stored_pairs.specs.declared.items.Side.TheVariants.{Left as OnLeft, Right as OnRight};
+ghost use Rattle.walk_pairs.specs.declared.items.Side.TheVariants.{Left as OnLeft, Right as OnRight};
 
 use crate::cases::{Case, case_with, is_lighter, least_atom};
 use crate::cover::{is_covered, sure_targets};
@@ -17,8 +17,8 @@ use crate::rules::Rules;
 use crate::splitting::next_test;
 use kat_model::{Items, NoMemory};
 use std::alloc::Global;
-use stored_pairs::{Ends, Item, Side, ends_of};
 use test_diagrams::Diagrams;
+use walk_pairs::{Ends, Item, Side, ends_of};
 
 /// Steps from the listed pair at this place, by this action.
 #[derive(Clone, Copy, Debug)]

@@ -1,14 +1,14 @@
 //! Cases on tests: some tests are decided, and the guards do not depend on them.
 ghost use Rattle.std.specs.Prelude.{◌≡◌, ◌<◌, Some, IfOk, slice_set};
 ghost use Rattle.test_diagrams.specs.Functions.{IsDiagramId, KeepsFunctions, IsDiagramOf, value_of};
-ghost use Rattle.stored_pairs.specs.Items.{AreItems};
-ghost use Rattle.stored_pairs.specs.Items.{AreEnds};
+ghost use Rattle.walk_pairs.specs.Items.{AreItems};
+ghost use Rattle.walk_pairs.specs.Items.{AreEnds};
 ghost use Rattle.bisim_worklist.specs.Working.Cases.{IsOpen, least_of, AreItemsWith, IsCase};
 
 use kat_model::NoMemory;
 use std::alloc::Global;
-use stored_pairs::{Ends, Item};
 use test_diagrams::{DiagramId, Diagrams};
+use walk_pairs::{Ends, Item};
 
 /// A case: the tests that are decided in it, and the items that are left there.
 #[derive(Drop)]

@@ -1,6 +1,6 @@
 //! Whether the sets that a step leads to are congruent, as far as the tests that are decided tell.
 ghost use Rattle.std.specs.Prelude.{◌≡◌, ◌&&◌, IfOk, OnOk};
-ghost use Rattle.stored_pairs.specs.Items.{targets_under, is_open as is_open', open_targets as open_targets'};
+ghost use Rattle.walk_pairs.specs.Items.{targets_under, is_open as is_open', open_targets as open_targets'};
 ghost use Rattle.bisim_worklist.specs.Working.Covers.{covers_on, covers};
 ghost use Rattle.bisim_worklist.specs.Working.Marks.{with_marks};
 
@@ -9,8 +9,8 @@ use crate::rules::Rules;
 use crate::saturation::reaches;
 use kat_model::NoMemory;
 use std::alloc::Global;
-use stored_pairs::{Ends, Item, Side, guard_across, guard_on};
 use term_store::TermId;
+use walk_pairs::{Ends, Item, Side, guard_across, guard_on};
 
 /// The targets that surely are in the side's set, in ascending order.
 pub(crate) fn sure_targets(

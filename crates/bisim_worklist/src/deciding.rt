@@ -18,12 +18,12 @@ use crate::string::string_to;
 use crate::walk::Walk;
 use certificate::{Evidence, Style};
 use goal_forms::eliminate;
+use hypothesis_kinds::has_short;
 use kat_model::{NoMemory, Problem};
-use short_hyps::has_short;
 use std::alloc::Global;
-use stored_pairs::{cert_of, closed_ids};
 use term_store::Store;
-use tested_walk::decide_under;
+use walk_pairs::{cert_of, closed_ids};
+use walk_under::decide_under;
 
 // How many pairs a certificate without tests may have, where tests can stand for hypotheses.
 const UNTESTED_LIMIT: usize = 2_000;

@@ -3,15 +3,15 @@
 ghost use Rattle.std.specs.Prelude.{◌≡◌, ◌⊎◌, ◌<◌, ◌∷◌, [], ℕ, length, slice_index_or, MatchOption, OnOk};
 ghost use Rattle.kat_model.specs.Members.{Has};
 ghost use Rattle.bisim_worklist.specs.declared.pair.Spot.{Spot as Spot'};
-ghost use Rattle.stored_pairs.specs.declared.items.Side.TheVariants.{Left as OnLeft, Right as OnRight};
+ghost use Rattle.walk_pairs.specs.declared.items.Side.TheVariants.{Left as OnLeft, Right as OnRight};
 ghost use Rattle.bisim_worklist.specs.Working.Indices.{StandsUnder, KeepsPlaces, KeepsLists, spot_at};
 
 use crate::pair::{Listed, Spot};
 use kat_model::NoMemory;
 use std::alloc::Global;
 use std::marker::Model;
-use stored_pairs::Side;
 use term_store::TermId;
+use walk_pairs::Side;
 
 /// Sets of listed pairs.
 #[derive(Drop)]

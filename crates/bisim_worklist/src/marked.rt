@@ -7,8 +7,8 @@ use crate::pair::Listed;
 use kat_model::NoMemory;
 use std::alloc::Global;
 use std::marker::Model;
-use stored_pairs::Side;
 use term_store::TermId;
+use walk_pairs::Side;
 
 /// The marks, the marked terms, and of each id how many questions its term was asked in, as far as it was counted.
 #[derive(Drop)]

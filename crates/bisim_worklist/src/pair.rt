@@ -5,8 +5,8 @@ ghost use Rattle.bisim_worklist.specs.Working.Listings.{untested_of};
 use kat_model::{Items, NoMemory};
 use std::alloc::Global;
 use std::marker::Model;
-use stored_pairs::{Side, StoredPair};
 use term_store::TermId;
+use walk_pairs::{Side, StoredPair};
 
 /// A step from a listed pair: the place of the pair, and the atom and the action of the step.
 #[derive(Drop)]

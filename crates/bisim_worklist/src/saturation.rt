@@ -10,8 +10,8 @@ use crate::marked::{Marked, add_across, either, holds_all};
 use crate::pair::Spot;
 use crate::rules::Rules;
 use kat_model::NoMemory;
-use stored_pairs::Side;
 use term_store::TermId;
+use walk_pairs::Side;
 
 // Whether the universal term is marked, where there is one.
 fn is_universal(marked: &Marked, universal: Option<TermId>) -> bool

@@ -1,12 +1,12 @@
 //! The test that is decided next.
 ghost use Rattle.std.specs.Prelude.{MatchOption, IfSome};
 ghost use Rattle.test_diagrams.specs.Functions.{IsDiagramId};
-ghost use Rattle.stored_pairs.specs.Items.{AreItems};
+ghost use Rattle.walk_pairs.specs.Items.{AreItems};
 ghost use Rattle.bisim_worklist.specs.Working.Cases.{HasNextTest, IsNextTest, AreConstant, IsConstantItem};
 
-use stored_pairs::Item;
 use term_store::TermId;
 use test_diagrams::Diagrams;
+use walk_pairs::Item;
 
 // The least test on which a guard of the item depends.
 fn test_of(diagrams: &Diagrams, item: &Item) -> Option<usize>

@@ -21,9 +21,9 @@ use crate::rules::Rules;
 use kat_model::{Items, NoMemory, Problem};
 use partial_derivs::{Derivatives, Steps};
 use std::alloc::Global;
-use stored_pairs::{actions_in_order, differing_atom, items_of};
 use term_store::{Store, TermId};
 use test_diagrams::Diagrams;
+use walk_pairs::{actions_in_order, differing_atom, items_of};
 
 /// What a walk keeps: the listed pairs, and the derivatives of terms with their diagrams.
 #[derive(Drop)]

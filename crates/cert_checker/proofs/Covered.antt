@@ -13,9 +13,9 @@ use Rattle.term_nodes.specs.NumberSets.{NumberPair, are_below, set_pairs_of, ter
 use Rattle.cert_checker.specs.declared.known.Known.{Known}
 use Rattle.cert_checker.specs.declared.known.Known.TheVariants.{Value}
 use Rattle.cert_checker.specs.declared.matching.Sides.{Sides}
-use Rattle.checker_steps.specs.NodeTables.{TableParts, AreTables, IsTerm, term_at, holds_at, nodes_in}
-use Rattle.checker_steps.specs.Targets.{chosen, AreEntries}
-use Rattle.checker_steps.proofs.ChosenTargets.{chosen_has, has_chosen}
+use Rattle.cert_steps.specs.NodeTables.{TableParts, AreTables, IsTerm, term_at, holds_at, nodes_in}
+use Rattle.cert_steps.specs.Targets.{chosen, AreEntries}
+use Rattle.cert_steps.proofs.ChosenTargets.{chosen_has, has_chosen}
 use Rattle.cert_checker.specs.Working.Cases.{known_of, truly, falsely}
 use Rattle.cert_checker.specs.Working.Reaching.{ArePairsBelow, IsReached, AreReached, IsReachedByBoth}
 use Rattle.cert_checker.specs.Working.Matching.{sure_targets, has_too, open_targets, AreSides, AreCovered, AreSettled}

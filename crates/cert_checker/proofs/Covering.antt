@@ -6,9 +6,9 @@ use Rattle.kat_model.specs.Members.{Has, IsSubset}
 use Rattle.kat_model.specs.Steps.{Atom}
 use Rattle.kat_model.proofs.Lists.{has_right, has_append}
 use Rattle.term_nodes.specs.NumberSets.{terms_of}
-use Rattle.checker_steps.specs.NodeTables.{TableParts, term_at, holds_at, nodes_in}
-use Rattle.checker_steps.specs.Targets.{chosen, guard_of}
-use Rattle.checker_steps.proofs.ChosenTargets.{chosen_has, guard_member, any_value}
+use Rattle.cert_steps.specs.NodeTables.{TableParts, term_at, holds_at, nodes_in}
+use Rattle.cert_steps.specs.Targets.{chosen, guard_of}
+use Rattle.cert_steps.proofs.ChosenTargets.{chosen_has, guard_member, any_value}
 use Rattle.cert_checker.specs.declared.known.Known.{Known}
 use Rattle.cert_checker.specs.declared.known.Known.TheVariants.{Value, Waits}
 use Rattle.cert_checker.specs.Working.Cases.{known_of, truly, falsely}

@@ -23,11 +23,11 @@ use Rattle.certificate.specs.declared.nodes.Style.TheVariants.{Plain, UpTo, Unde
 use Rattle.certificate.specs.PairParts.{PairParts, sets_of}
 use Rattle.certificate.specs.Certs.{CertParts, IsPairOf, HasItsTest, nodes_of}
 use Rattle.certificate.specs.Accepted.{set_pairs, test_of, tested_pair_of, tested_pairs}
-use Rattle.checker_steps.specs.NodeTables.{TableParts, AreTables, TablesGrow, IsTest, IsTerm, HasValues, term_at, holds_at, nodes_in}
-use Rattle.checker_steps.specs.Targets.{AreEntries, StandFor, chosen}
-use Rattle.checker_steps.proofs.GrowingTables.{grows_trans}
-use Rattle.checker_steps.proofs.StepSets.{stand_kept, stand_same}
-use Rattle.checker_steps.proofs.TargetSets.{holds_kept}
+use Rattle.cert_steps.specs.NodeTables.{TableParts, AreTables, TablesGrow, IsTest, IsTerm, HasValues, term_at, holds_at, nodes_in}
+use Rattle.cert_steps.specs.Targets.{AreEntries, StandFor, chosen}
+use Rattle.cert_steps.proofs.GrowingTables.{grows_trans}
+use Rattle.cert_steps.proofs.StepSets.{stand_kept, stand_same}
+use Rattle.cert_steps.proofs.TargetSets.{holds_kept}
 use Rattle.cert_checker.specs.Answers.{Begins}
 use Rattle.cert_checker.specs.Working.Cases.{Extends, IsFirstFailure, undecided}
 use Rattle.cert_checker.specs.Working.Roots.{compared, counted_short}

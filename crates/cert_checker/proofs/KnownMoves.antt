@@ -15,7 +15,7 @@ use Rattle.kat_model.proofs.PairsUnderTests.{has_pairs_at, pairs_at_has}
 use Rattle.term_nodes.specs.NumberSets.{NumberPair, set_pairs_of, terms_of}
 use Rattle.certificate.specs.PairParts.{PairParts, sets_of}
 use Rattle.certificate.specs.Accepted.{tested_pair_of}
-use Rattle.checker_steps.specs.NodeTables.{TableParts, holds_at, nodes_in}
+use Rattle.cert_steps.specs.NodeTables.{TableParts, holds_at, nodes_in}
 use Rattle.cert_checker.specs.declared.known.Case.{Case}
 use Rattle.cert_checker.specs.declared.known.Known.{Known}
 use Rattle.cert_checker.specs.declared.known.Known.TheVariants.{Value, Waits}

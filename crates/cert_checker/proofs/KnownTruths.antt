@@ -13,7 +13,7 @@ use Rattle.term_nodes.specs.Nodes.{IsTestOver, test_parts}
 use Rattle.term_nodes.specs.NodeTrees.{test_tree_in}
 use Rattle.term_nodes.proofs.Parts.{IsTestOver-more}
 use Rattle.term_nodes.proofs.TestTrees.{test_tree_at-node}
-use Rattle.checker_steps.specs.NodeTables.{TableParts, AreTables, IsWithin, holds_at, nodes_in}
+use Rattle.cert_steps.specs.NodeTables.{TableParts, AreTables, IsWithin, holds_at, nodes_in}
 use Rattle.cert_checker.specs.declared.known.Case.{Case}
 use Rattle.cert_checker.specs.declared.known.Known.{Known}
 use Rattle.cert_checker.specs.declared.known.Known.TheVariants.{Value, Waits}

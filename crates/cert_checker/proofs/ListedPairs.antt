@@ -8,7 +8,7 @@ use Rattle.kat_model.proofs.Lists.{has_map, map_has}
 use Rattle.term_nodes.specs.NumberSets.{are_below, are_ascending, terms_of}
 use Rattle.certificate.proofs.Ascending.{ascending_tail, ascending_first}
 use Rattle.term_nodes.proofs.Parts.{below_has}
-use Rattle.checker_steps.specs.NodeTables.{TableParts, AreTables, term_at, nodes_in}
+use Rattle.cert_steps.specs.NodeTables.{TableParts, AreTables, term_at, nodes_in}
 use Rattle.term_nodes.proofs.TermTrees.{one_id_a_tree}
 
 -- lists of numbers that are compared place by place

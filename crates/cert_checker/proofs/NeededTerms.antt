@@ -6,8 +6,8 @@ use Rattle.kat_model.specs.Members.{Has}
 use Rattle.kat_model.proofs.Places.{has_at, place_of_member}
 use Rattle.certificate.specs.PairParts.{PairParts}
 use Rattle.certificate.specs.Certs.{CertParts}
-use Rattle.checker_steps.specs.NodeTables.{TableParts}
-use Rattle.checker_steps.specs.Marks.{IsMarked, IsClosure}
+use Rattle.cert_steps.specs.NodeTables.{TableParts}
+use Rattle.cert_steps.specs.Marks.{IsMarked, IsClosure}
 use Rattle.cert_checker.specs.Working.Places.{AreNeeded}
 
 -- those of short hypotheses are marked, and those of the first n pairs

@@ -5,8 +5,8 @@ use Rattle.std.proofs.lemmas.List.{take_more}
 use Rattle.kat_model.specs.Members.{Has}
 use Rattle.kat_model.proofs.Lists.{has_append}
 use Rattle.certificate.specs.PairParts.{PairParts}
-use Rattle.checker_steps.specs.Targets.{guard_of}
-use Rattle.checker_steps.proofs.ChosenTargets.{guard_member}
+use Rattle.cert_steps.specs.Targets.{guard_of}
+use Rattle.cert_steps.proofs.ChosenTargets.{guard_member}
 use Rattle.cert_checker.specs.declared.known.Case.{Case}
 use Rattle.cert_checker.specs.declared.known.Known.{Known}
 use Rattle.cert_checker.specs.declared.known.Known.TheVariants.{Value, Waits as WaitsFor}

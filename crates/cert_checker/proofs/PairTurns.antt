@@ -21,10 +21,10 @@ use Rattle.certificate.specs.declared.nodes.Style.TheVariants.{Plain, UpTo, Unde
 use Rattle.certificate.specs.PairParts.{PairParts, sets_of}
 use Rattle.certificate.specs.Certs.{CertParts, IsCert, IsPairOf, HasItsTest, nodes_of, number_pairs}
 use Rattle.certificate.specs.Accepted.{set_pairs, test_of, tested_pair_of, tested_pairs}
-use Rattle.checker_steps.specs.NodeTables.{TableParts, TablesGrow, IsTest, tables_of, term_at, nodes_in}
-use Rattle.checker_steps.specs.Targets.{AreEntries, AreSteps, StandFor, chosen, set_leads_to}
-use Rattle.checker_steps.proofs.GrowingTables.{grows_trans}
-use Rattle.checker_steps.proofs.StepSets.{stand_kept}
+use Rattle.cert_steps.specs.NodeTables.{TableParts, TablesGrow, IsTest, tables_of, term_at, nodes_in}
+use Rattle.cert_steps.specs.Targets.{AreEntries, AreSteps, StandFor, chosen, set_leads_to}
+use Rattle.cert_steps.proofs.GrowingTables.{grows_trans}
+use Rattle.cert_steps.proofs.StepSets.{stand_kept}
 use Rattle.cert_checker.specs.Working.Cases.{IsFirstFailure, undecided}
 use Rattle.cert_checker.specs.Working.Indices.{IndexParts, AreIndexed}
 use Rattle.cert_checker.specs.Working.Roots.{compared, counted_short}

@@ -18,11 +18,11 @@ use Rattle.term_nodes.proofs.Prefixes.{IsPrefix-within}
 use Rattle.term_nodes.proofs.Parts.{below_has, has_below, below_more}
 use Rattle.certificate.specs.declared.nodes.Style.{Style}
 use Rattle.certificate.specs.declared.nodes.Style.TheVariants.{Plain, UpTo, Under}
-use Rattle.checker_steps.specs.NodeTables.{TableParts, TablesGrow, IsTerm, term_at, nodes_in}
+use Rattle.cert_steps.specs.NodeTables.{TableParts, TablesGrow, IsTerm, term_at, nodes_in}
 use Rattle.cert_checker.specs.Working.Roots.{AreClosedBelow, AreSideNumbers, AreRoots, compared, counted_short}
-use Rattle.short_hyps.proofs.LongProblems.{long_is_problem}
-use Rattle.checker_steps.proofs.GrowingTables.{grows_trans}
-use Rattle.checker_steps.proofs.StepLists.{grows_longer}
+use Rattle.hypothesis_kinds.proofs.LongProblems.{long_is_problem}
+use Rattle.cert_steps.proofs.GrowingTables.{grows_trans}
+use Rattle.cert_steps.proofs.StepLists.{grows_longer}
 
 -- ---- ranges
 

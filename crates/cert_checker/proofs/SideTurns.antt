@@ -8,7 +8,7 @@ use Rattle.std.proofs.lemmas.Bool.{true≢false}
 use Rattle.std.proofs.lemmas.List.{append-nil}
 use Rattle.std.proofs.lemmas.Option.{same_Some}
 use Rattle.kat_model.specs.Members.{Has, IsSubset}
-use Rattle.checker_steps.specs.Targets.{guard_of}
+use Rattle.cert_steps.specs.Targets.{guard_of}
 use Rattle.cert_checker.specs.declared.known.Known.{Known}
 use Rattle.cert_checker.specs.declared.known.Known.TheVariants.{Value, Waits as WaitsFor}
 use Rattle.cert_checker.specs.declared.matching.Side.{Side}

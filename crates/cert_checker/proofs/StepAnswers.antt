@@ -24,9 +24,9 @@ use Rattle.certificate.specs.PairParts.{PairParts}
 use Rattle.certificate.specs.Accepted.{tested_pair_of}
 use Rattle.term_nodes.specs.NumberSets.{NumberPair, IsNumberSet, are_ascending, set_pairs_of, terms_of}
 use Rattle.term_nodes.proofs.TermTrees.{one_id_a_tree}
-use Rattle.checker_steps.specs.NodeTables.{TableParts, AreTables, IsTerm, term_at, holds_at, nodes_in}
-use Rattle.checker_steps.specs.Targets.{chosen, guard_of, AreEntries}
-use Rattle.checker_steps.proofs.ChosenTargets.{chosen_has, has_chosen, guard_member, any_value}
+use Rattle.cert_steps.specs.NodeTables.{TableParts, AreTables, IsTerm, term_at, holds_at, nodes_in}
+use Rattle.cert_steps.specs.Targets.{chosen, guard_of, AreEntries}
+use Rattle.cert_steps.proofs.ChosenTargets.{chosen_has, has_chosen, guard_member, any_value}
 use Rattle.cert_checker.specs.declared.known.Known.{Known}
 use Rattle.cert_checker.specs.declared.known.Known.TheVariants.{Value, Waits as WaitsFor}
 use Rattle.cert_checker.specs.declared.matching.Side.{Side}

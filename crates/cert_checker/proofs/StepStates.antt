@@ -11,8 +11,8 @@ use Rattle.certificate.specs.declared.nodes.Style.TheVariants.{Plain, UpTo, Unde
 use Rattle.certificate.specs.PairParts.{PairParts, sets_of}
 use Rattle.certificate.specs.Accepted.{tested_pair_of}
 use Rattle.term_nodes.specs.NumberSets.{NumberPair, IsNumberSet, set_pairs_of}
-use Rattle.checker_steps.specs.NodeTables.{TableParts, AreTables, holds_at, term_at, nodes_in}
-use Rattle.checker_steps.specs.Targets.{chosen}
+use Rattle.cert_steps.specs.NodeTables.{TableParts, AreTables, holds_at, term_at, nodes_in}
+use Rattle.cert_steps.specs.Targets.{chosen}
 use Rattle.cert_checker.specs.declared.known.Case.{Case}
 use Rattle.cert_checker.specs.declared.known.Known.TheVariants.{Value, Waits as WaitsFor}
 use Rattle.cert_checker.specs.declared.matching.Sides.{Sides}

@@ -1,11 +1,11 @@
 //! The tests on which the answer to a question rests. Nothing is known of others, which it does not name.
 ghost use Rattle.std.specs.Prelude.{IfOk, ℕ};
 ghost use Rattle.kat_model.specs.Members.{Has, IsSubset};
-ghost use Rattle.checker_steps.specs.NodeTables.{IsTest};
+ghost use Rattle.cert_steps.specs.NodeTables.{IsTest};
 ghost use Rattle.cert_checker.specs.Working.Cases.{AreAsked};
 
+use cert_steps::Tables;
 use certificate::TestNode;
-use checker_steps::Tables;
 use kat_model::NoMemory;
 use std::collections::BTreeSet;
 

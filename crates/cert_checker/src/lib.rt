@@ -1,5 +1,5 @@
 //! The checker of evidence. It stands on no part of a prover. What it shares with one lies below both: terms and
-//! their steps (`kat_model`), the closed sides of a problem (`goal_forms`), which hypotheses are short (`short_hyps`),
+//! their steps (`kat_model`), the closed sides of a problem (`goal_forms`), which hypotheses are short (`hypothesis_kinds`),
 //! guarded strings and their tables (`string_tables`), nodes of terms (`term_nodes`), and what a certificate is and when
 //! one is accepted (`certificate`).
 //!

@@ -9,8 +9,8 @@ ghost use Rattle.cert_checker.specs.Working.Rounds.{counting_in, IsIndexed};
 use crate::known::{Case, Known, conjunction, is_true, test_value, value_of};
 use crate::question::Question;
 use crate::saturation::{Counted, counts, reaches};
+use cert_steps::Targets;
 use certificate::Style;
-use checker_steps::Targets;
 use kat_model::NoMemory;
 use std::alloc::Global;
 

@@ -1,8 +1,8 @@
 //! What is asked of pairs.
 use crate::asked::with_parts;
 use crate::index::PairIndex;
+use cert_steps::{Tables, Targets};
 use certificate::{Pair, Style};
-use checker_steps::{Tables, Targets};
 use kat_model::NoMemory;
 use std::collections::BTreeSet;
 use std::marker::Model;
@@ -60,8 +60,8 @@ impl<'a> Model for Question<'a> {
 
 impl<'a> Question<'a> {
     ghost use Rattle.std.specs.Prelude.{◌≡◌, ℕ, IfOk};
-    ghost use Rattle.checker_steps.specs.NodeTables.{IsTest};
-    ghost use Rattle.checker_steps.specs.Targets.{AreEntries};
+    ghost use Rattle.cert_steps.specs.NodeTables.{IsTest};
+    ghost use Rattle.cert_steps.specs.Targets.{AreEntries};
     ghost use Rattle.cert_checker.specs.Working.Questions.{AreNamed, IsAskedOf};
 
     /// What the turn asks of two sets that lead to these targets, under a test.

@@ -11,10 +11,10 @@ use Rattle.kat_model.proofs.Places.{slice_get-append_seam}
 use Rattle.kat_model.specs.Strings.{Move, GuardedString}
 use Rattle.term_nodes.specs.declared.TestNode.{TestNode}
 use Rattle.term_nodes.specs.declared.TermNode.{TermNode}
-use Rattle.line_texts.proofs.TextParts.{LackFeeds, parts_after}
-use Rattle.line_texts.proofs.Words.{none_wide}
-use Rattle.line_texts.specs.Lines.{line_of, text_of_lines, parts_of}
-use Rattle.line_texts.specs.Numerals.{too_wide}
+use Rattle.line_format.proofs.TextParts.{LackFeeds, parts_after}
+use Rattle.line_format.proofs.Words.{none_wide}
+use Rattle.line_format.specs.Lines.{line_of, text_of_lines, parts_of}
+use Rattle.line_format.specs.Numerals.{too_wide}
 use Rattle.certificate.specs.declared.nodes.Style.{Style}
 use Rattle.certificate.specs.declared.nodes.Style.TheVariants.{Plain, UpTo, Under}
 use Rattle.certificate.specs.declared.entry.Entry.{Entry}
@@ -28,7 +28,7 @@ use Rattle.certificate.specs.Certs.{CertParts, IsCert}
 use Rattle.certificate.specs.Texts.{entry_words, entry_numbers, move_words, heading, entries_of, lines_before_end, text_of, IsNarrow, IsEvidence}
 use Rattle.certificate.specs.Faults.{Answer, with_entry, cert_from, with_move, moves_from, no_entries, all_from, answer_of}
 use Rattle.certificate.proofs.Growth.{Passes, passes_faultless, test_stands, test_below, any_lacks, same_test_equal, test_same_itself, same_term_equal, term_same_itself}
-use Rattle.line_texts.proofs.Splits.{LacksByte}
+use Rattle.line_format.proofs.Splits.{LacksByte}
 use Rattle.certificate.proofs.Spellings.{entry_back, entry_lacks, entry_not_end}
 use Rattle.certificate.proofs.StringSpellings.{first_back, first_lacks, move_back, move_lacks}
 use Rattle.certificate.proofs.TextParts.{complete}

@@ -8,9 +8,9 @@ use Rattle.term_nodes.specs.declared.TestNode.{TestNode}
 use Rattle.term_nodes.specs.declared.TestNode.TheVariants.{False, True, Prim, Not, And, Or}
 use Rattle.term_nodes.specs.declared.TermNode.{TermNode}
 use Rattle.term_nodes.specs.declared.TermNode.TheVariants.{Zero, One, Test, Act, Sum, Seq, Star}
-use Rattle.line_texts.specs.Numerals.{is_numeral, value_of, numbers_of, too_wide}
-use Rattle.line_texts.specs.Readings.{HasNumbers}
-use Rattle.line_texts.specs.declared.numerals.Numbers.{Numbers}
+use Rattle.line_format.specs.Numerals.{is_numeral, value_of, numbers_of, too_wide}
+use Rattle.line_format.specs.Readings.{HasNumbers}
+use Rattle.line_format.specs.declared.numerals.Numbers.{Numbers}
 use Rattle.certificate.specs.declared.entry.Entry.{Entry}
 use Rattle.certificate.specs.declared.entry.Entry.TheVariants.{TestLine, TermLine}
 use Rattle.certificate.specs.declared.entry.Section.{Section}

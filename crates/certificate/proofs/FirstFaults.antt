@@ -2,7 +2,7 @@
 use Rattle.std.proofs.Common.{◌≡◌, ◌≢◌, ℕ, ◌+◌, List, [], ◌∷◌, ◌++◌, Bool, true, false, None, Err, codes, refl, sym, ap, ◌∙◌, ◌==◌, arith}
 use Rattle.std.specs.Str.{bytes_eq}
 use Rattle.std.specs.Result.{result_err}
-use Rattle.line_texts.specs.Lines.{text_of_lines, parts_of}
+use Rattle.line_format.specs.Lines.{text_of_lines, parts_of}
 use Rattle.certificate.specs.declared.evidence.Evidence.{Evidence}
 use Rattle.certificate.specs.declared.evidence.Evidence.TheVariants.{Equal, Different}
 use Rattle.certificate.specs.declared.evidence.EvidenceFault.TheVariants.{Line, Truncated, Trailing}
@@ -10,7 +10,7 @@ use Rattle.certificate.specs.Texts.{string_heading, lines_before_end, IsEvidence
 use Rattle.certificate.specs.Forms.{first_of}
 use Rattle.certificate.specs.Faults.{ended, after_first, string_from, answer_of}
 use Rattle.certificate.specs.Laws.{IsLine, text_with, next_line, FaultsAreFirst}
-use Rattle.line_texts.proofs.Splits.{split_lacking, split_at, split_some}
+use Rattle.line_format.proofs.Splits.{split_lacking, split_at, split_some}
 use Rattle.certificate.proofs.EntryForms.{named}
 use Rattle.certificate.proofs.LineSteps.{goes_on, cert_fault, moves_formless, moves_wide, string_none, string_first, all_none, all_string, all_header}
 use Rattle.certificate.proofs.Completeness.{next_from, text_scanned, text_ends}

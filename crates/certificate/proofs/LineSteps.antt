@@ -4,8 +4,8 @@ use Rattle.std.specs.List.{onto_first}
 use Rattle.std.specs.Str.{bytes_eq}
 use Rattle.std.proofs.lemmas.List.Splits.{slice_split-cons_yes, slice_split-cons_no}
 use Rattle.kat_model.specs.Strings.{Move, GuardedString}
-use Rattle.line_texts.specs.Lines.{parts_of}
-use Rattle.line_texts.specs.Numerals.{too_wide}
+use Rattle.line_format.specs.Lines.{parts_of}
+use Rattle.line_format.specs.Numerals.{too_wide}
 use Rattle.certificate.specs.declared.entry.Entry.{Entry}
 use Rattle.certificate.specs.declared.evidence.Evidence.{Evidence}
 use Rattle.certificate.specs.declared.evidence.Evidence.TheVariants.{Equal, Different}
@@ -18,7 +18,7 @@ use Rattle.certificate.specs.Texts.{heading, string_heading}
 use Rattle.certificate.specs.Forms.{entry_of, first_of, move_of}
 use Rattle.certificate.specs.Faults.{Answer, or_truncated, ended, entry_fault, with_entry, line_fault_after, after_line, cert_from, with_move, after_move, moves_from, after_first, string_from, no_entries, all_from}
 use Rattle.certificate.specs.Working.Readings.{Answers, draft_parts, AddsEntry}
-use Rattle.line_texts.proofs.Splits.{split_some}
+use Rattle.line_format.proofs.Splits.{split_some}
 
 -- a text always has a last part
 pub not_truncated : (after : List ℕ) (answer : Answer) → or_truncated (parts_of after) answer ≡ answer

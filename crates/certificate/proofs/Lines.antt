@@ -5,8 +5,8 @@ use Rattle.std.specs.Fmt.{decimal}
 use Rattle.std.proofs.lemmas.Grind.{flat_map-append}
 use Rattle.kat_model.specs.Steps.{Atom}
 use Rattle.kat_model.specs.Strings.{Move, GuardedString}
-use Rattle.line_texts.specs.Lines.{line_of, text_of_lines, with_feed, after_blanks}
-use Rattle.line_texts.proofs.LineForms.{line_of-cons, flat_map-map}
+use Rattle.line_format.specs.Lines.{line_of, text_of_lines, with_feed, after_blanks}
+use Rattle.line_format.proofs.LineForms.{line_of-cons, flat_map-map}
 use Rattle.certificate.specs.declared.entry.Entry.TheVariants.{PairLine}
 use Rattle.certificate.specs.declared.evidence.Evidence.{Evidence}
 use Rattle.certificate.specs.declared.evidence.Evidence.TheVariants.{Equal, Different}

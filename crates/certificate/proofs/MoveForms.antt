@@ -5,7 +5,7 @@ use Rattle.std.proofs.lemmas.Bool.{le-leb}
 use Rattle.std.proofs.lemmas.Bool.Decides.{nat_tests}
 use Rattle.kat_model.specs.Steps.{Atom}
 use Rattle.kat_model.specs.Strings.{Move}
-use Rattle.line_texts.specs.Numerals.{is_numeral, value_of, too_wide}
+use Rattle.line_format.specs.Numerals.{is_numeral, value_of, too_wide}
 use Rattle.certificate.specs.Forms.{is_bit, bits_of, atom_of_words, move_after}
 
 pub move_read : (act : List ℕ) (ws : List (List ℕ)) (atom : Atom) → is_numeral act ≡ true → Some atom ≡ atom_of_words ws → move_after act ws ≡ Some (record { act = value_of act; atom = atom })

@@ -8,9 +8,9 @@ use Rattle.std.proofs.lemmas.Bool.{or_parts}
 use Rattle.std.proofs.lemmas.Simd.{map-map}
 use Rattle.std.proofs.lemmas.List.Folds.{list_any-append}
 use Rattle.std.proofs.lemmas.List.Splits.{slice_split-cons_yes, slice_split-cons_no}
-use Rattle.line_texts.specs.Numerals.{is_numeral, value_of, numbers_of, too_wide}
-use Rattle.line_texts.specs.Readings.{texts, HasNumbers}
-use Rattle.line_texts.specs.declared.numerals.Numbers.{Numbers}
+use Rattle.line_format.specs.Numerals.{is_numeral, value_of, numbers_of, too_wide}
+use Rattle.line_format.specs.Readings.{texts, HasNumbers}
+use Rattle.line_format.specs.declared.numerals.Numbers.{Numbers}
 use Rattle.certificate.specs.declared.entry.Entry.{Entry}
 use Rattle.certificate.specs.declared.entry.Entry.TheVariants.{PairLine}
 use Rattle.certificate.specs.declared.entry.LineFault.{LineFault}
@@ -20,7 +20,7 @@ use Rattle.certificate.specs.Texts.{maybe_one}
 use Rattle.certificate.specs.Forms.{is_bar, pair_with}
 use Rattle.certificate.specs.Faults.{is_wide, section_of}
 use Rattle.certificate.specs.Working.Readings.{single_of, ReadsEntry}
-use Rattle.line_texts.proofs.Splits.{split_some}
+use Rattle.line_format.proofs.Splits.{split_some}
 use Rattle.certificate.proofs.EntryForms.{named, numbers_of_all, numbers_of_none}
 
 -- ---- words between bars

@@ -21,8 +21,8 @@ use Rattle.certificate.specs.declared.evidence.Evidence.TheVariants.{Equal, Diff
 use Rattle.certificate.specs.PairParts.{PairParts}
 use Rattle.certificate.specs.Texts.{test_name, test_numbers, term_name, term_numbers, last_words, entry_words, bits, bit_words, atom_words, move_words, heading, string_heading, entries_of, lines_before_end, lines_of, text_of}
 use Rattle.certificate.specs.Laws.{is_plain, IsPlain}
-use Rattle.line_texts.specs.Lines.{line_of, text_of_lines}
-use Rattle.line_texts.proofs.TextParts.{text-cons}
+use Rattle.line_format.specs.Lines.{line_of, text_of_lines}
+use Rattle.line_format.proofs.TextParts.{text-cons}
 
 append_plain : (xs ys : List ℕ) → IsPlain xs → IsPlain ys → IsPlain (xs ++ ys)
 append_plain xs ys x y = list_all-append is_plain xs ys ∙ both_true x y

@@ -11,10 +11,10 @@ use Rattle.kat_model.proofs.Lists.{has_append}
 use Rattle.kat_model.specs.Strings.{Move, GuardedString}
 use Rattle.term_nodes.specs.declared.TestNode.{TestNode}
 use Rattle.term_nodes.specs.declared.TermNode.{TermNode}
-use Rattle.line_texts.proofs.TextParts.{with_last, text_back}
-use Rattle.line_texts.proofs.Words.{are_narrow}
-use Rattle.line_texts.specs.Lines.{line_of, parts_of}
-use Rattle.line_texts.specs.Numerals.{too_wide}
+use Rattle.line_format.proofs.TextParts.{with_last, text_back}
+use Rattle.line_format.proofs.Words.{are_narrow}
+use Rattle.line_format.specs.Lines.{line_of, parts_of}
+use Rattle.line_format.specs.Numerals.{too_wide}
 use Rattle.certificate.specs.declared.nodes.Style.{Style}
 use Rattle.certificate.specs.declared.nodes.Style.TheVariants.{Plain, UpTo, Under}
 use Rattle.certificate.specs.declared.entry.Entry.{Entry}

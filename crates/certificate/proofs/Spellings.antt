@@ -16,17 +16,17 @@ use Rattle.term_nodes.specs.declared.TestNode.{TestNode}
 use Rattle.term_nodes.specs.declared.TestNode.TheVariants.{False, True, Prim, Not, And, Or}
 use Rattle.term_nodes.specs.declared.TermNode.{TermNode}
 use Rattle.term_nodes.specs.declared.TermNode.TheVariants.{Zero, One, Test, Act, Sum, Seq, Star}
-use Rattle.line_texts.proofs.LineForms.{line_of-cons}
-use Rattle.line_texts.specs.Lines.{line_of, words_of}
-use Rattle.line_texts.specs.Numerals.{is_numeral, value_of, numbers_of, too_wide}
-use Rattle.line_texts.proofs.Words.{AreNarrow, numbers_back, IsWord, AreWords, decimals_words, words_append, words_back, line_back, line_lacks, numbers_told}
+use Rattle.line_format.proofs.LineForms.{line_of-cons}
+use Rattle.line_format.specs.Lines.{line_of, words_of}
+use Rattle.line_format.specs.Numerals.{is_numeral, value_of, numbers_of, too_wide}
+use Rattle.line_format.proofs.Words.{AreNarrow, numbers_back, IsWord, AreWords, decimals_words, words_append, words_back, line_back, line_lacks, numbers_told}
 use Rattle.certificate.specs.declared.entry.Entry.{Entry}
 use Rattle.certificate.specs.declared.entry.Entry.TheVariants.{TestLine, TermLine, PairLine}
 use Rattle.certificate.specs.PairParts.{PairParts}
 use Rattle.certificate.specs.Texts.{test_name, test_numbers, term_name, term_numbers, maybe_one, last_words, entry_words, entry_numbers, IsNarrow}
 use Rattle.certificate.specs.Forms.{test_node_of, term_node_of, is_bar, pair_with, pair_of, entry_of_words, entry_of}
-use Rattle.line_texts.proofs.Splits.{LacksByte, split_none, split_first, split_lacking, split_at}
-use Rattle.line_texts.proofs.NumeralValues.{own, numeral_decimal, decimal_numeral}
+use Rattle.line_format.proofs.Splits.{LacksByte, split_none, split_first, split_lacking, split_at}
+use Rattle.line_format.proofs.NumeralValues.{own, numeral_decimal, decimal_numeral}
 use Rattle.certificate.proofs.EntryForms.{named, test_node_told, test_node_made, term_node_told, term_node_made}
 use Rattle.certificate.proofs.PairForms.{with_bars, bars_back, part_numbers, pair_made, pair_with_told}
 

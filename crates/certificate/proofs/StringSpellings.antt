@@ -9,13 +9,13 @@ use Rattle.std.specs.Str.{bytes_eq}
 use Rattle.std.proofs.lemmas.Bool.Decides.{nat_tests}
 use Rattle.kat_model.specs.Steps.{Atom}
 use Rattle.kat_model.specs.Strings.{Move}
-use Rattle.line_texts.proofs.Words.{IsWord, AreWords, words_back, line_back, line_lacks, decimals_words}
-use Rattle.line_texts.specs.Lines.{line_of, words_of}
-use Rattle.line_texts.specs.Numerals.{is_numeral, value_of}
+use Rattle.line_format.proofs.Words.{IsWord, AreWords, words_back, line_back, line_lacks, decimals_words}
+use Rattle.line_format.specs.Lines.{line_of, words_of}
+use Rattle.line_format.specs.Numerals.{is_numeral, value_of}
 use Rattle.certificate.specs.Texts.{bits, bit_words, atom_words, move_words}
 use Rattle.certificate.specs.Forms.{is_bit, bits_of, atom_of_words, first_of_words, first_of, move_after, move_of_words, move_of}
-use Rattle.line_texts.proofs.Splits.{LacksByte}
-use Rattle.line_texts.proofs.NumeralValues.{numeral_decimal, decimal_numeral}
+use Rattle.line_format.proofs.Splits.{LacksByte}
+use Rattle.line_format.proofs.NumeralValues.{numeral_decimal, decimal_numeral}
 use Rattle.certificate.proofs.EntryForms.{named}
 
 bits_word : (atom : Atom) → IsWord (bits atom)

@@ -6,8 +6,8 @@ use Rattle.std.specs.Result.{result_err}
 use Rattle.std.specs.Str.{bytes_eq}
 use Rattle.kat_model.specs.Steps.{Atom}
 use Rattle.kat_model.specs.Strings.{Move, GuardedString}
-use Rattle.line_texts.specs.Lines.{parts_of}
-use Rattle.line_texts.specs.Numerals.{too_wide}
+use Rattle.line_format.specs.Lines.{parts_of}
+use Rattle.line_format.specs.Numerals.{too_wide}
 use Rattle.certificate.specs.declared.nodes.Style.{Style}
 use Rattle.certificate.specs.declared.nodes.Style.TheVariants.{Plain, UpTo, Under}
 use Rattle.certificate.specs.declared.entry.Entry.{Entry}

@@ -10,8 +10,8 @@ use Rattle.term_nodes.specs.declared.TestNode.{TestNode}
 use Rattle.term_nodes.specs.declared.TestNode.TheVariants.{False, True, Prim, Not, And, Or}
 use Rattle.term_nodes.specs.declared.TermNode.{TermNode}
 use Rattle.term_nodes.specs.declared.TermNode.TheVariants.{Zero, One, Test, Act, Sum, Seq, Star}
-use Rattle.line_texts.specs.Lines.{words_of}
-use Rattle.line_texts.specs.Numerals.{is_numeral, value_of, numbers_of}
+use Rattle.line_format.specs.Lines.{words_of}
+use Rattle.line_format.specs.Numerals.{is_numeral, value_of, numbers_of}
 use Rattle.certificate.specs.declared.entry.Entry.{Entry}
 use Rattle.certificate.specs.declared.entry.Entry.TheVariants.{TestLine, TermLine, PairLine}
 use Rattle.certificate.specs.PairParts.{PairParts}

@@ -9,8 +9,8 @@ use Rattle.kat_model.specs.Relations.{Same}
 use Rattle.string_tables.specs.Tables.{ExactlyOne}
 use Rattle.term_nodes.specs.declared.TestNode.{TestNode}
 use Rattle.term_nodes.specs.declared.TermNode.{TermNode}
-use Rattle.line_texts.specs.Lines.{line_of, text_of_lines}
-use Rattle.line_texts.specs.Numerals.{too_wide}
+use Rattle.line_format.specs.Lines.{line_of, text_of_lines}
+use Rattle.line_format.specs.Numerals.{too_wide}
 use Rattle.certificate.specs.declared.entry.Entry.{Entry}
 use Rattle.certificate.specs.declared.evidence.Evidence.{Evidence}
 use Rattle.certificate.specs.declared.evidence.EvidenceFault.{EvidenceFault}

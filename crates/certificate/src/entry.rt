@@ -2,8 +2,8 @@
 ghost use Rattle.std.specs.Prelude.{◌≡◌, ◌||◌, ◌∷◌, [], ℕ, List, map, Some, IfOk};
 ghost use Rattle.std.specs.List.{slice_split};
 ghost use Rattle.std.specs.Option.{option_map, option_and_then};
-ghost use Rattle.line_texts.specs.Numerals.{numbers_of};
-ghost use Rattle.line_texts.specs.Readings.{texts, HasNumbers};
+ghost use Rattle.line_format.specs.Numerals.{numbers_of};
+ghost use Rattle.line_format.specs.Readings.{texts, HasNumbers};
 ghost use Rattle.certificate.specs.Forms.{test_node_of, term_node_of, is_bar, pair_with, pair_of, entry_of_words, entry_of};
 ghost use Rattle.certificate.specs.Faults.{section_of};
 ghost use Rattle.certificate.specs.Working.Readings.{single_of, ReadsEntry};
@@ -12,7 +12,7 @@ ghost use Rattle.certificate.specs.declared.entry.LineFault.TheVariants.{NoMemor
 
 use crate::nodes::{Pair, TermNode, TestNode};
 use kat_model::{Items, NoMemory};
-use line_texts::{Numbers, read_numbers, words_of};
+use line_format::{Numbers, read_numbers, words_of};
 use std::alloc::Global;
 
 // What a line of a certificate says.

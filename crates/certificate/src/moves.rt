@@ -1,13 +1,13 @@
 //! The lines of a string: its first atom, and its moves.
 ghost use Rattle.std.specs.Prelude.{◌≡◌, ◌==◌, map, IfOk};
 ghost use Rattle.std.specs.List.{list_all};
-ghost use Rattle.line_texts.specs.Readings.{texts};
+ghost use Rattle.line_format.specs.Readings.{texts};
 ghost use Rattle.certificate.specs.Forms.{is_bit, bits_of, atom_of_words, first_of, move_after, move_of};
 ghost use Rattle.certificate.specs.Working.Readings.{ReadsMove};
 ghost use Rattle.certificate.specs.declared.moves.MoveFault.TheVariants.{NoMemory as NoRoom};
 
 use kat_model::{Items, NoMemory};
-use line_texts::{is_numeral, number_of, words_of};
+use line_format::{is_numeral, number_of, words_of};
 use std::alloc::Global;
 use string_tables::Move;
 

@@ -1,6 +1,6 @@
 //! Reading evidence.
 ghost use Rattle.std.specs.Prelude.{◌≡◌, ◌+◌, ◌<◌, ◌^◌, [], length, IfOk, IfErr};
-ghost use Rattle.line_texts.specs.Lines.{parts_of};
+ghost use Rattle.line_format.specs.Lines.{parts_of};
 ghost use Rattle.certificate.specs.Texts.{text_of, IsEvidence};
 ghost use Rattle.certificate.specs.Faults.{ended, cert_from, moves_from, string_from, no_entries, answer_of};
 ghost use Rattle.certificate.specs.Readings.{IsFault, Gives};
@@ -12,7 +12,7 @@ use crate::evidence::{Evidence, EvidenceFault};
 use crate::moves::{MoveFault, read_first, read_move};
 use crate::nodes::Style;
 use kat_model::Items;
-use line_texts::first_line;
+use line_format::first_line;
 use std::alloc::Global;
 use string_tables::GString;
 

@@ -1,7 +1,7 @@
 //! Writing evidence.
 ghost use Rattle.std.specs.Prelude.{◌≡◌, ◌∷◌, ◌++◌, if◌then◌else◌, map, IfOk, OnOk};
 ghost use Rattle.std.specs.Fmt.{decimal};
-ghost use Rattle.line_texts.specs.Lines.{line_of, after_blanks, with_feed};
+ghost use Rattle.line_format.specs.Lines.{line_of, after_blanks, with_feed};
 ghost use Rattle.certificate.specs.Texts.{last_words, entry_words, atom_words, move_words, bit_words, heading, entries_of, text_of};
 ghost use Rattle.certificate.specs.Working.Writings.{entry_lines, move_lines, string_lines, body_of};
 ghost use Rattle.certificate.specs.declared.entry.Entry.TheVariants.{TestLine, TermLine, PairLine};
@@ -10,7 +10,7 @@ use crate::cert::Cert;
 use crate::evidence::Evidence;
 use crate::nodes::{Pair, Style, TermNode, TestNode};
 use kat_model::NoMemory;
-use line_texts::{put_form, put_line, put_numbers};
+use line_format::{put_form, put_line, put_numbers};
 use std::alloc::Global;
 use string_tables::{GString, Move};
 

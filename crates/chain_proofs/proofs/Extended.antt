@@ -1,10 +1,10 @@
 -- A chain with one line more at its end.
 use Rattle.std.proofs.Common.{◌≡◌, ℕ, List, [], ◌∷◌, ◌++◌, Option, None, Some, refl, ap, ◌∙◌}
 use Rattle.kat_model.specs.Trees.{Term, kat_tree}
-use Rattle.axiom_chains.specs.Chains.{ChainTree}
-use Rattle.axiom_chains.specs.ChainViews.{with_line, unboxed, chain_tree}
-use Rattle.axiom_chains.specs.declared.chain.Axiom.{Axiom}
-use Rattle.axiom_chains.specs.declared.chain.Line.{Line}
+use Rattle.chain_rules.specs.Chains.{ChainTree}
+use Rattle.chain_rules.specs.ChainViews.{with_line, unboxed, chain_tree}
+use Rattle.chain_rules.specs.declared.chain.Axiom.{Axiom}
+use Rattle.chain_rules.specs.declared.chain.Line.{Line}
 use Rattle.chain_proofs.specs.ChainMaking.{extended}
 
 extended_line : (e : Term) (r : Axiom) (p : List ℕ) (i : Option ChainTree) (rest : ChainTree) (f : Term) (rule : Axiom) (path : List ℕ) (inner : Option ChainTree) → with_line e r p i (extended rest f rule path inner) ≡ extended (with_line e r p i rest) f rule path inner

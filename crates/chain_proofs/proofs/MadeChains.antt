@@ -1,22 +1,22 @@
 -- What is made of the tokens of a chain is the chain of its phrase.
 use Rattle.std.proofs.Common.{◌≡◌, ℕ, List, [], ◌∷◌, false, Result, Ok, Err, refl}
 use Rattle.kat_model.specs.Trees.{Term}
-use Rattle.kat_tokens.specs.declared.fault.TextFault.{TextFault}
-use Rattle.kat_syntax.specs.declared.terminal.Terminal.TheVariants.{And, Compares, Dot, Or, Plus, Star}
-use Rattle.kat_syntax.specs.Lexemes.{Lexeme}
-use Rattle.kat_syntax.specs.Parsed.{◌>>=◌, before, change, place_of}
-use Rattle.kat_syntax.specs.Actions.{context}
-use Rattle.kat_syntax.specs.Phrases.{Symbol, term, Phrase, cons_token, sum_terminal, yield_before, MeetsLookahead}
-use Rattle.kat_syntax.specs.Phrases.{one_prod, more_prods, one_star, more_stars, bare, starred, zero_unit, one_unit, name_unit, not_unit, square_unit, round_unit, one_conj, more_conjs, one_lit, more_lits, true_lit, false_lit, name_lit, not_lit, round_lit, relation_lit, one_mul, more_muls, one_fac, more_facs, zero_fac, one_fac_number, number_fac, wide_fac, name_fac, round_fac}
-use Rattle.kat_syntax.specs.Folds.{fold}
-use Rattle.kat_syntax.specs.Ends.{Ends}
-use Rattle.kat_syntax.proofs.ParserCompleteness.{term_parsed}
-use Rattle.kat_syntax.proofs.Longest.{longest}
-use Rattle.kat_text.specs.declared.extent.Extent.{Extent}
-use Rattle.kat_text.specs.ScopeParts.{ScopeParts}
-use Rattle.kat_text.specs.Measuring.{extents}
-use Rattle.kat_text.specs.Building.{trees}
-use Rattle.axiom_chains.specs.Chains.{ChainTree}
+use Rattle.text_tokens.specs.declared.fault.TextFault.{TextFault}
+use Rattle.text_grammar.specs.declared.terminal.Terminal.TheVariants.{And, Compares, Dot, Or, Plus, Star}
+use Rattle.text_grammar.specs.Lexemes.{Lexeme}
+use Rattle.text_grammar.specs.Parsed.{◌>>=◌, before, change, place_of}
+use Rattle.text_grammar.specs.Actions.{context}
+use Rattle.text_grammar.specs.Phrases.{Symbol, term, Phrase, cons_token, sum_terminal, yield_before, MeetsLookahead}
+use Rattle.text_grammar.specs.Phrases.{one_prod, more_prods, one_star, more_stars, bare, starred, zero_unit, one_unit, name_unit, not_unit, square_unit, round_unit, one_conj, more_conjs, one_lit, more_lits, true_lit, false_lit, name_lit, not_lit, round_lit, relation_lit, one_mul, more_muls, one_fac, more_facs, zero_fac, one_fac_number, number_fac, wide_fac, name_fac, round_fac}
+use Rattle.text_grammar.specs.Folds.{fold}
+use Rattle.text_grammar.specs.Ends.{Ends}
+use Rattle.text_grammar.proofs.ParserCompleteness.{term_parsed}
+use Rattle.text_grammar.proofs.Longest.{longest}
+use Rattle.text_scopes.specs.declared.extent.Extent.{Extent}
+use Rattle.text_scopes.specs.ScopeParts.{ScopeParts}
+use Rattle.text_scopes.specs.Measuring.{extents}
+use Rattle.text_scopes.specs.Building.{trees}
+use Rattle.chain_rules.specs.Chains.{ChainTree}
 use Rattle.chain_proofs.specs.ChainMaking.{total_with, sized_term, making_chain}
 use Rattle.chain_proofs.specs.ChainFolds.{sized_fold, fold_chain}
 use Rattle.chain_proofs.specs.Laws.{ChainsAreMade}

@@ -1,25 +1,25 @@
 -- The tests of tokens give no fault for want of memory: the walk takes fewer steps than it has.
 use Rattle.std.proofs.Common.{◌≡◌, refl, ℕ, zero, suc, ◌+◌, ◌<◌, List, [], ◌∷◌, length, drop, Bool, true, false, cond, nat_lt, ◌||◌, Option, Some, None, Ok, Err, arith}
-use Rattle.kat_tokens.specs.declared.fault.TextFault.TheVariants.{Syntax, TooLarge}
-use Rattle.kat_syntax.specs.declared.terminal.Terminal.TheVariants.{Name, Keyword, Separator, Dot}
-use Rattle.kat_syntax.specs.declared.terminal.Keyword.TheVariants as word
-use Rattle.kat_syntax.specs.declared.terminal.Separator.TheVariants.{Semicolon, CurlyOpen, CurlyClose, Equals}
-use Rattle.kat_syntax.specs.Lexemes.{Lexeme, lexeme, heads, is_terminal}
-use Rattle.kat_syntax.specs.Parsed.{Parsed, ◌>>=◌, then_wants, place_of}
-use Rattle.kat_syntax.specs.Actions.{context}
-use Rattle.kat_syntax.specs.Scans.{scanning}
-use Rattle.kat_syntax.specs.Terms.{parse_term, choice}
-use Rattle.kat_syntax.proofs.Within.{headed}
-use Rattle.kat_syntax.proofs.NamedFaults.{IsNamed, then_named, bind_named, if_named, change_named, then_wants_named, term_named}
-use Rattle.kat_text.specs.ScopeParts.{ScopeParts}
-use Rattle.kat_text.specs.Building.{trees}
-use Rattle.kat_text.specs.Measuring.{extents}
+use Rattle.text_tokens.specs.declared.fault.TextFault.TheVariants.{Syntax, TooLarge}
+use Rattle.text_grammar.specs.declared.terminal.Terminal.TheVariants.{Name, Keyword, Separator, Dot}
+use Rattle.text_grammar.specs.declared.terminal.Keyword.TheVariants as word
+use Rattle.text_grammar.specs.declared.terminal.Separator.TheVariants.{Semicolon, CurlyOpen, CurlyClose, Equals}
+use Rattle.text_grammar.specs.Lexemes.{Lexeme, lexeme, heads, is_terminal}
+use Rattle.text_grammar.specs.Parsed.{Parsed, ◌>>=◌, then_wants, place_of}
+use Rattle.text_grammar.specs.Actions.{context}
+use Rattle.text_grammar.specs.Scans.{scanning}
+use Rattle.text_grammar.specs.Terms.{parse_term, choice}
+use Rattle.text_grammar.proofs.Within.{headed}
+use Rattle.text_grammar.proofs.NamedFaults.{IsNamed, then_named, bind_named, if_named, change_named, then_wants_named, term_named}
+use Rattle.text_scopes.specs.ScopeParts.{ScopeParts}
+use Rattle.text_scopes.specs.Building.{trees}
+use Rattle.text_scopes.specs.Measuring.{extents}
 use Rattle.while_lang.specs.Blocks.{enter}
 use Rattle.problem_file.specs.Items.{number_at}
 use Rattle.problem_file.proofs.NamedBlocks.{wanted_named, enter_named}
 use Rattle.problem_file.proofs.NamedItems.{number_at_named}
 use Rattle.problem_file.proofs.NamedTexts.{extents_named, trees_named, scanning_named}
-use Rattle.axiom_chains.specs.declared.chain.Axiom.{Axiom}
+use Rattle.chain_rules.specs.declared.chain.Axiom.{Axiom}
 use Rattle.chain_proofs.specs.ChainActions.{ChainActions}
 use Rattle.chain_proofs.specs.ChainWalks.{is_word, wants_word, rule_name, has_number, argument, parts_by, path_by, rule_by, ChainAim, whole_chain, lines_after, ChainParser, braces_by, inner_by, line_by, chain_by, chain_within, parse_chain}
 use Rattle.chain_proofs.specs.ChainScans.{scanning_chain, ends, scan_chain}

@@ -1,11 +1,11 @@
 -- Bytes spell one chain or have one first fault, and not both.
 use Rattle.std.proofs.Common.{◌≡◌, ℕ, List, Result, Ok, Err, IfErr, refl}
-use Rattle.kat_tokens.specs.declared.fault.TextFault.{TextFault}
-use Rattle.kat_tokens.specs.declared.fault.TextFault.TheVariants.{NoMemory}
+use Rattle.text_tokens.specs.declared.fault.TextFault.{TextFault}
+use Rattle.text_tokens.specs.declared.fault.TextFault.TheVariants.{NoMemory}
 use Rattle.problem_file.specs.Laws.{HaveOneAnswer}
 use Rattle.problem_file.proofs.TextAnswers.{Tells, no_fault, one_answer}
-use Rattle.axiom_chains.specs.Chains.{ChainTree}
-use Rattle.plain_texts.specs.NumberedScopes.{numbered_scope}
+use Rattle.chain_rules.specs.Chains.{ChainTree}
+use Rattle.problem_texts.specs.NumberedScopes.{numbered_scope}
 use Rattle.chain_proofs.specs.Reads.{Reads, FirstFault, tested, Answers}
 use Rattle.chain_proofs.proofs.ReadTexts.{read_told, tests_pass}
 use Rattle.chain_proofs.proofs.NamedChains.{tested_named}

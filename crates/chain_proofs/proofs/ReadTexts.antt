@@ -1,18 +1,18 @@
 -- The chain that bytes spell is what both passes over their tokens give.
 use Rattle.std.proofs.Common.{◌≡◌, ℕ, List, [], map, Result, Ok, sym, ap, ◌∙◌}
-use Rattle.kat_tokens.specs.declared.fault.TextFault.{TextFault}
-use Rattle.kat_tokens.specs.declared.token.Token.{Token}
-use Rattle.kat_tokens.specs.TokenParts.{TokenParts, parts_of_tokens}
-use Rattle.kat_tokens.specs.Lex.{Lexes}
-use Rattle.kat_syntax.specs.Lexemes.{lexeme_of, lexemes}
-use Rattle.kat_syntax.specs.Parsed.{◌>>=◌}
-use Rattle.kat_syntax.proofs.ParserSoundness.{bind_ok}
-use Rattle.kat_text.specs.ScopeParts.{ScopeParts}
-use Rattle.axiom_chains.specs.Chains.{ChainTree}
+use Rattle.text_tokens.specs.declared.fault.TextFault.{TextFault}
+use Rattle.text_tokens.specs.declared.token.Token.{Token}
+use Rattle.text_tokens.specs.TokenParts.{TokenParts, parts_of_tokens}
+use Rattle.text_tokens.specs.Lex.{Lexes}
+use Rattle.text_grammar.specs.Lexemes.{lexeme_of, lexemes}
+use Rattle.text_grammar.specs.Parsed.{◌>>=◌}
+use Rattle.text_grammar.proofs.ParserSoundness.{bind_ok}
+use Rattle.text_scopes.specs.ScopeParts.{ScopeParts}
+use Rattle.chain_rules.specs.Chains.{ChainTree}
 use Rattle.chain_proofs.specs.ChainPhrases.{chain_onto}
 use Rattle.chain_proofs.specs.ChainScans.{scan_chain}
 use Rattle.chain_proofs.specs.ChainMaking.{make_chain}
-use Rattle.plain_texts.specs.NumberedScopes.{numbered_scope}
+use Rattle.problem_texts.specs.NumberedScopes.{numbered_scope}
 use Rattle.chain_proofs.specs.Reads.{Reads, tested}
 use Rattle.chain_proofs.proofs.ScannedChains.{chains_are_scanned}
 use Rattle.chain_proofs.proofs.MadeChains.{chains_are_made}

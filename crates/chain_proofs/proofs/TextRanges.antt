@@ -3,30 +3,30 @@ use Rattle.std.proofs.Common.{◌≡◌, ℕ, zero, suc, ◌+◌, List, [], ◌�
 use Rattle.std.proofs.lemmas.Option.{slice_get_past, none-some}
 use Rattle.kat_model.specs.Trees.{Term}
 use Rattle.kat_model.specs.Problems.{IsInRange}
-use Rattle.kat_tokens.specs.declared.fault.TextFault.{TextFault}
-use Rattle.kat_syntax.specs.Parsed.{◌>>=◌, place_of}
-use Rattle.kat_syntax.specs.Actions.{context}
-use Rattle.kat_syntax.specs.Phrases.{term, Phrase, yield_before}
-use Rattle.kat_syntax.specs.Folds.{fold}
-use Rattle.kat_syntax.proofs.ParserSoundness.{bind_ok}
-use Rattle.kat_text.specs.declared.meaning.Meaning.TheVariants.{Test, Action}
-use Rattle.kat_text.specs.ScopeParts.{ScopeParts, Definition}
-use Rattle.kat_text.specs.Measuring.{extents}
-use Rattle.kat_text.specs.Building.{trees}
+use Rattle.text_tokens.specs.declared.fault.TextFault.{TextFault}
+use Rattle.text_grammar.specs.Parsed.{◌>>=◌, place_of}
+use Rattle.text_grammar.specs.Actions.{context}
+use Rattle.text_grammar.specs.Phrases.{term, Phrase, yield_before}
+use Rattle.text_grammar.specs.Folds.{fold}
+use Rattle.text_grammar.proofs.ParserSoundness.{bind_ok}
+use Rattle.text_scopes.specs.declared.meaning.Meaning.TheVariants.{Test, Action}
+use Rattle.text_scopes.specs.ScopeParts.{ScopeParts, Definition}
+use Rattle.text_scopes.specs.Measuring.{extents}
+use Rattle.text_scopes.specs.Building.{trees}
 use Rattle.while_lang.specs.Blocks.{enter}
 use Rattle.problem_file.specs.Working.Numbers.{AreNumbered}
 use Rattle.problem_file.proofs.Numbering.{empty_numbered, test_numbered, action_numbered}
 use Rattle.problem_file.proofs.InRanges.{DefinedInRange, term_in}
 use Rattle.problem_file.proofs.Results.{same_ok}
-use Rattle.plain_texts.specs.Questions.{plain_name}
-use Rattle.axiom_chains.specs.declared.chain.Axiom.{Axiom}
-use Rattle.axiom_chains.specs.Chains.{ChainTree, alone, equal_by, equal_by_inner}
-use Rattle.axiom_chains.specs.ChainViews.{with_line}
-use Rattle.axiom_chains.specs.Chained.{HasTermsInRange}
+use Rattle.problem_texts.specs.Questions.{plain_name}
+use Rattle.chain_rules.specs.declared.chain.Axiom.{Axiom}
+use Rattle.chain_rules.specs.Chains.{ChainTree, alone, equal_by, equal_by_inner}
+use Rattle.chain_rules.specs.ChainViews.{with_line}
+use Rattle.chain_rules.specs.Chained.{HasTermsInRange}
 use Rattle.chain_proofs.specs.ChainMaking.{total_with, extended, making_chain}
 use Rattle.chain_proofs.specs.ChainPhrases.{Lines, no_lines, plain_line, line_around, ChainPhrase}
 use Rattle.chain_proofs.specs.ChainFolds.{fold_rule, sized_fold, fold_lines, fold_chain, chain_of}
-use Rattle.plain_texts.specs.NumberedScopes.{tests_scope, numbered_scope}
+use Rattle.problem_texts.specs.NumberedScopes.{tests_scope, numbered_scope}
 use Rattle.chain_proofs.specs.Reads.{Reads, Answers}
 
 -- ---- the scope of a proof

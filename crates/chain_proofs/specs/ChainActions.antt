@@ -1,8 +1,8 @@
 -- What is made of the parts of a chain while it is read.
 use Rattle.std.specs.Prelude.{ℕ, ◌<◌, List, length, Option, Result, Ok, Err}
-use Rattle.kat_tokens.specs.declared.fault.TextFault.{TextFault}
-use Rattle.kat_syntax.specs.Lexemes.{Lexeme}
-use Rattle.kat_syntax.specs.Parsed.{Parsed}
+use Rattle.text_tokens.specs.declared.fault.TextFault.{TextFault}
+use Rattle.text_grammar.specs.Lexemes.{Lexeme}
+use Rattle.text_grammar.specs.Parsed.{Parsed}
 
 -- what is read leaves fewer tokens
 abbrev pub LeavesFewer : {V : Type 0} → List Lexeme → Parsed V → Type 0

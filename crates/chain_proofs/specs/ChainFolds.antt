@@ -1,18 +1,18 @@
 -- What actions make of a chain, from left to right, or the first fault.
 use Rattle.std.specs.Prelude.{ℕ, [], ◌∷◌, false, Option, None, Some, Result, Ok}
 use Rattle.kat_model.specs.Trees.{Term}
-use Rattle.kat_tokens.specs.declared.fault.TextFault.{TextFault}
-use Rattle.kat_syntax.specs.Parsed.{◌>>=◌, place_of}
-use Rattle.kat_syntax.specs.Actions.{context}
-use Rattle.kat_syntax.specs.Phrases.{term, Phrase, yield_before}
-use Rattle.kat_syntax.specs.Folds.{fold}
-use Rattle.kat_text.specs.ScopeParts.{ScopeParts}
-use Rattle.kat_text.specs.Measuring.{extents}
-use Rattle.kat_text.specs.Building.{trees}
+use Rattle.text_tokens.specs.declared.fault.TextFault.{TextFault}
+use Rattle.text_grammar.specs.Parsed.{◌>>=◌, place_of}
+use Rattle.text_grammar.specs.Actions.{context}
+use Rattle.text_grammar.specs.Phrases.{term, Phrase, yield_before}
+use Rattle.text_grammar.specs.Folds.{fold}
+use Rattle.text_scopes.specs.ScopeParts.{ScopeParts}
+use Rattle.text_scopes.specs.Measuring.{extents}
+use Rattle.text_scopes.specs.Building.{trees}
 use Rattle.while_lang.specs.Blocks.{enter}
 use Rattle.problem_file.specs.Phrases.{Numeral}
 use Rattle.problem_file.specs.Folds.{numeral_value}
-use Rattle.axiom_chains.specs.Chains.{ChainTree}
+use Rattle.chain_rules.specs.Chains.{ChainTree}
 use Rattle.chain_proofs.specs.ChainActions.{ChainActions}
 use Rattle.chain_proofs.specs.ChainWalks.{has_inner, Reason}
 use Rattle.chain_proofs.specs.ChainMaking.{total_with, making_chain}

@@ -3,22 +3,22 @@ use Rattle.std.specs.Prelude.{ℕ, ◌+◌, List, [], ◌∷◌, ◌++◌, lengt
 use Rattle.std.specs.Str.{bytes_eq}
 use Rattle.std.proofs.Common.{arith}
 use Rattle.kat_model.specs.Trees.{Term}
-use Rattle.kat_tokens.specs.declared.fault.TextFault.{TextFault}
-use Rattle.kat_tokens.specs.declared.fault.TextFault.TheVariants.{UnknownName, TooLarge}
-use Rattle.kat_syntax.specs.Lexemes.{Lexeme}
-use Rattle.kat_syntax.specs.Parsed.{Parsed, ◌>>=◌, change, place_of}
-use Rattle.kat_syntax.specs.Actions.{context}
-use Rattle.kat_syntax.specs.Terms.{parse_term, choice}
-use Rattle.kat_syntax.proofs.Within.{Within}
-use Rattle.kat_syntax.proofs.TermSteps.{term_read_short}
-use Rattle.kat_text.specs.declared.extent.Extent.{Extent}
-use Rattle.kat_text.specs.ScopeParts.{ScopeParts}
-use Rattle.kat_text.specs.Measuring.{extents}
-use Rattle.kat_text.specs.Building.{trees}
-use Rattle.axiom_chains.specs.declared.chain.Axiom.{Axiom}
-use Rattle.axiom_chains.specs.declared.chain.Axiom.TheVariants.{Assoc, Comm, Idem, Zero, SeqAssoc, OneLeft, OneRight, ZeroLeft, ZeroRight, DistLeft, DistRight, UnfoldLeft, UnfoldRight, Bool as BoolRule, Hyp, Lfp, Rfp}
-use Rattle.axiom_chains.specs.Chains.{ChainTree, alone, equal_by, equal_by_inner}
-use Rattle.axiom_chains.specs.ChainViews.{with_line}
+use Rattle.text_tokens.specs.declared.fault.TextFault.{TextFault}
+use Rattle.text_tokens.specs.declared.fault.TextFault.TheVariants.{UnknownName, TooLarge}
+use Rattle.text_grammar.specs.Lexemes.{Lexeme}
+use Rattle.text_grammar.specs.Parsed.{Parsed, ◌>>=◌, change, place_of}
+use Rattle.text_grammar.specs.Actions.{context}
+use Rattle.text_grammar.specs.Terms.{parse_term, choice}
+use Rattle.text_grammar.proofs.Within.{Within}
+use Rattle.text_grammar.proofs.TermSteps.{term_read_short}
+use Rattle.text_scopes.specs.declared.extent.Extent.{Extent}
+use Rattle.text_scopes.specs.ScopeParts.{ScopeParts}
+use Rattle.text_scopes.specs.Measuring.{extents}
+use Rattle.text_scopes.specs.Building.{trees}
+use Rattle.chain_rules.specs.declared.chain.Axiom.{Axiom}
+use Rattle.chain_rules.specs.declared.chain.Axiom.TheVariants.{Assoc, Comm, Idem, Zero, SeqAssoc, OneLeft, OneRight, ZeroLeft, ZeroRight, DistLeft, DistRight, UnfoldLeft, UnfoldRight, Bool as BoolRule, Hyp, Lfp, Rfp}
+use Rattle.chain_rules.specs.Chains.{ChainTree, alone, equal_by, equal_by_inner}
+use Rattle.chain_rules.specs.ChainViews.{with_line}
 use Rattle.chain_proofs.specs.ChainActions.{LeavesFewer, ChainActions}
 use Rattle.chain_proofs.specs.ChainWalks.{whole_chain, parse_chain}
 

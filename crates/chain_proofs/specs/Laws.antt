@@ -1,8 +1,8 @@
 -- The laws of proof texts. Each stands on a function of the crate that does nothing.
 use Rattle.std.specs.Prelude.{◌≡◌, ◌↔◌, List, [], Ok}
-use Rattle.kat_syntax.specs.Lexemes.{Lexeme}
-use Rattle.kat_syntax.specs.Phrases.{MeetsLookahead}
-use Rattle.kat_text.specs.ScopeParts.{ScopeParts}
+use Rattle.text_grammar.specs.Lexemes.{Lexeme}
+use Rattle.text_grammar.specs.Phrases.{MeetsLookahead}
+use Rattle.text_scopes.specs.ScopeParts.{ScopeParts}
 use Rattle.chain_proofs.specs.ChainScans.{scan_chain}
 use Rattle.chain_proofs.specs.ChainMaking.{make_chain}
 use Rattle.chain_proofs.specs.ChainPhrases.{ChainPhrase, lines_onto, chain_onto, LinesObey, IsChainPhrase}

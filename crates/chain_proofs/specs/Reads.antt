@@ -1,19 +1,19 @@
 -- What is answered to bytes: the chain that they spell, or their first fault.
 use Rattle.std.specs.Prelude.{◌≡◌, ◌⊎◌, ℕ, List, [], map, Result, Ok, Err}
-use Rattle.kat_tokens.specs.declared.fault.TextFault.{TextFault}
-use Rattle.kat_tokens.specs.declared.fault.TextFault.TheVariants.{NoMemory}
-use Rattle.kat_tokens.specs.TokenParts.{TokenParts}
-use Rattle.kat_tokens.specs.Lex.{Lexes}
-use Rattle.kat_syntax.specs.Lexemes.{Lexeme, lexeme_of}
-use Rattle.kat_syntax.specs.Parsed.{◌>>=◌}
-use Rattle.kat_text.specs.ScopeParts.{ScopeParts}
+use Rattle.text_tokens.specs.declared.fault.TextFault.{TextFault}
+use Rattle.text_tokens.specs.declared.fault.TextFault.TheVariants.{NoMemory}
+use Rattle.text_tokens.specs.TokenParts.{TokenParts}
+use Rattle.text_tokens.specs.Lex.{Lexes}
+use Rattle.text_grammar.specs.Lexemes.{Lexeme, lexeme_of}
+use Rattle.text_grammar.specs.Parsed.{◌>>=◌}
+use Rattle.text_scopes.specs.ScopeParts.{ScopeParts}
 use Rattle.problem_file.specs.FirstFaults.{IsFirstFault}
-use Rattle.axiom_chains.specs.Chains.{ChainTree}
+use Rattle.chain_rules.specs.Chains.{ChainTree}
 use Rattle.chain_proofs.specs.ChainPhrases.{IsChainPhrase}
 use Rattle.chain_proofs.specs.ChainFolds.{chain_of}
 use Rattle.chain_proofs.specs.ChainScans.{scan_chain}
 use Rattle.chain_proofs.specs.ChainMaking.{make_chain}
-use Rattle.plain_texts.specs.NumberedScopes.{numbered_scope}
+use Rattle.problem_texts.specs.NumberedScopes.{numbered_scope}
 
 -- The bytes spell this chain: they are the tokens of a chain, nothing in them is too deep or too wide, and with the names
 -- of a proof this is the chain of the phrase.

@@ -9,7 +9,7 @@ mod scan;
 mod walk;
 mod words;
 
-pub use axiom_chains::{
+pub use chain_rules::{
     Axiom, Chain, ChainAnswer, ChainReason, Line, chained_are_same, check_chain,
 };
 pub use laws::{chains_are_made, chains_are_scanned, have_one_answer};

@@ -2,19 +2,19 @@
 ghost use Rattle.std.specs.Prelude.{◌≡◌, IfOk, Ok};
 ghost use Rattle.std.specs.Option.{option_map};
 ghost use Rattle.kat_model.specs.Trees.{kat_tree};
-ghost use Rattle.kat_syntax.specs.Lexemes.{lexemes};
-ghost use Rattle.kat_syntax.specs.Parsed.{Makes};
-ghost use Rattle.axiom_chains.specs.ChainViews.{unboxed};
+ghost use Rattle.text_grammar.specs.Lexemes.{lexemes};
+ghost use Rattle.text_grammar.specs.Parsed.{Makes};
+ghost use Rattle.chain_rules.specs.ChainViews.{unboxed};
 ghost use Rattle.chain_proofs.specs.ChainMaking.{axiom_named, known_axiom, total_with, extended, making_chain, make_chain};
 
 use crate::chain_reading::ChainReading;
 use crate::walk::read_chain;
-use axiom_chains::{Axiom, Chain, Line};
+use chain_rules::{Axiom, Chain, Line};
 use kat_model::{Kat, MAX_TERM_NODES, MAX_TEXT_NODES, NoMemory};
-use kat_syntax::place_at;
-use kat_text::{Scope, build_term, measure_term};
-use kat_tokens::{TextFault, Token};
 use std::alloc::Global;
+use text_grammar::place_at;
+use text_scopes::{Scope, build_term, measure_term};
+use text_tokens::{TextFault, Token};
 
 // Makes the chain, with the names of the scope.
 #[derive(Clone, Copy)]
@@ -98,8 +98,8 @@ impl ChainReading for Make<'_> {
 
     ghost use Rattle.std.specs.Prelude.{ℕ, List};
     ghost use Rattle.kat_model.specs.Trees.{Term};
-    ghost use Rattle.axiom_chains.specs.Chains.{ChainTree};
-    ghost use Rattle.axiom_chains.specs.declared.chain.Axiom.{Axiom};
+    ghost use Rattle.chain_rules.specs.Chains.{ChainTree};
+    ghost use Rattle.chain_rules.specs.declared.chain.Axiom.{Axiom};
 
     ghost Z = { ℕ };
 

@@ -1,22 +1,22 @@
 //! The text of a proof, read.
 ghost use Rattle.std.specs.Prelude.{◌≡◌, ◌≤◌, length, IfOk, IfErr};
-ghost use Rattle.kat_tokens.specs.declared.fault.TextFault.TheVariants.{NoMemory as NoRoom};
-ghost use Rattle.kat_tokens.specs.declared.lexer.TheConstants.{MAX_LEN as MOST};
-ghost use Rattle.kat_syntax.specs.Lexemes.{lexemes};
-ghost use Rattle.kat_syntax.specs.Parsed.{Makes};
-ghost use Rattle.axiom_chains.specs.Chains.{ChainTree};
-ghost use Rattle.axiom_chains.specs.Chained.{HasTermsInRange};
-ghost use Rattle.plain_texts.specs.NumberedScopes.{numbered_scope};
+ghost use Rattle.text_tokens.specs.declared.fault.TextFault.TheVariants.{NoMemory as NoRoom};
+ghost use Rattle.text_tokens.specs.declared.lexer.TheConstants.{MAX_LEN as MOST};
+ghost use Rattle.text_grammar.specs.Lexemes.{lexemes};
+ghost use Rattle.text_grammar.specs.Parsed.{Makes};
+ghost use Rattle.chain_rules.specs.Chains.{ChainTree};
+ghost use Rattle.chain_rules.specs.Chained.{HasTermsInRange};
+ghost use Rattle.problem_texts.specs.NumberedScopes.{numbered_scope};
 ghost use Rattle.chain_proofs.specs.Reads.{Reads, tested, Answers};
 
 use crate::making::make_chain;
 use crate::scan::test_syntax;
-use axiom_chains::Chain;
-use kat_text::Scope;
-use kat_tokens::{TextFault, Token, tokens};
-use plain_texts::numbered_scope;
+use chain_rules::Chain;
 use problem_file::{fault_in_text, text_of};
+use problem_texts::numbered_scope;
 use std::alloc::Global;
+use text_scopes::Scope;
+use text_tokens::{TextFault, Token, tokens};
 
 // The chain, or the first fault of the tokens.
 fn test(alloc: Global, scope: &Scope, toks: &[Token]) -> Result<Chain, TextFault>

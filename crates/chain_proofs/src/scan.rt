@@ -1,13 +1,13 @@
 //! The test of the syntax of chains, which takes no memory.
 ghost use Rattle.std.specs.Prelude.{◌≡◌, Ok};
-ghost use Rattle.kat_syntax.specs.Lexemes.{lexemes};
-ghost use Rattle.kat_syntax.specs.Parsed.{Makes};
+ghost use Rattle.text_grammar.specs.Lexemes.{lexemes};
+ghost use Rattle.text_grammar.specs.Parsed.{Makes};
 ghost use Rattle.chain_proofs.specs.ChainScans.{scanning_chain, scan_chain};
 
 use crate::chain_reading::ChainReading;
 use crate::walk::read_chain;
-use kat_syntax::{Context, Scan, terminal_at};
-use kat_tokens::{TextFault, Token};
+use text_grammar::{Context, Scan, terminal_at};
+use text_tokens::{TextFault, Token};
 
 // Makes nothing of a chain, and refuses no part.
 struct ChainScan;
@@ -54,7 +54,12 @@ impl ChainReading for ChainScan {
         depth: usize,
         _: (),
     ) -> Result<(((), ()), usize), TextFault> {
-        let (_, end) = kat_syntax::read_term(&Scan, toks, from, Context::outermost(depth, false))?;
+        let (_, end) = text_grammar::read_term(
+            &Scan,
+            toks,
+            from,
+            Context::outermost(depth, false),
+        )?;
         Ok((((), ()), end))
     }
 

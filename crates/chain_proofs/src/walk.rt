@@ -1,16 +1,16 @@
 //! Chains, gone through once for any reading.
 ghost use Rattle.std.specs.Prelude.{◌≡◌, ◌≤◌, ◌<◌, length, drop, IfOk};
 ghost use Rattle.std.specs.Option.{option_map};
-ghost use Rattle.kat_syntax.specs.Lexemes.{lexemes};
-ghost use Rattle.kat_syntax.specs.Parsed.{Reads, Goes};
+ghost use Rattle.text_grammar.specs.Lexemes.{lexemes};
+ghost use Rattle.text_grammar.specs.Parsed.{Reads, Goes};
 ghost use Rattle.chain_proofs.specs.ChainWalks.{argument, parts_by, path_by, rule_by, whole_chain, lines_after, braces_by, inner_by, line_by, parse_chain};
 ghost use Rattle.chain_proofs.specs.Working.Reading.{reason_of};
 
 use crate::chain_reading::ChainReading;
 use crate::words::{expect_word, has_inner, has_number, is_word_at, rule_name_at};
-use kat_syntax::{Separator, Terminal, expect, is_at, place_at};
-use kat_tokens::{TextFault, Token};
 use problem_file::number_at;
+use text_grammar::{Separator, Terminal, expect, is_at, place_at};
+use text_tokens::{TextFault, Token};
 use while_lang::enter;
 
 // A rule, its place, and whether an inner chain follows.
@@ -22,7 +22,7 @@ struct Reason<R, P> {
 }
 
 // The number after the name of a rule, 0 where there is none, and the index after it.
-#[tactic(auto, using(kat_syntax::proofs::Tokens::next_drop))]
+#[tactic(auto, using(text_grammar::proofs::Tokens::next_drop))]
 fn argument(toks: &[Token], from: usize, name: &str) -> Result<(u64, usize), TextFault>
     ensures value { Reads ⊥ (λ n. n) (lexemes toks.now) result (argument name.now (drop from (lexemes toks.now))) }
     ensures goes { IfOk result (λ x. from ≤ x.1) }
@@ -36,7 +36,7 @@ fn argument(toks: &[Token], from: usize, name: &str) -> Result<(u64, usize), Tex
 }
 
 // The parts of a path after those so far, and the index after them.
-#[tactic(auto, using(crate::proofs::PathSteps::parts_step, kat_syntax::proofs::Tokens::next_drop, crate::proofs::PathSteps::second_drop))]
+#[tactic(auto, using(crate::proofs::PathSteps::parts_step, text_grammar::proofs::Tokens::next_drop, crate::proofs::PathSteps::second_drop))]
 fn parts<R: ChainReading>(
     reading: &R,
     toks: &[Token],
@@ -58,7 +58,7 @@ fn parts<R: ChainReading>(
 }
 
 // The path of a line, to the whole term where there is none, and the index after it.
-#[tactic(auto, using(kat_syntax::proofs::Tokens::next_drop, crate::proofs::PathSteps::second_drop))]
+#[tactic(auto, using(text_grammar::proofs::Tokens::next_drop, crate::proofs::PathSteps::second_drop))]
 fn path<R: ChainReading>(
     reading: &R,
     toks: &[Token],
@@ -78,7 +78,7 @@ fn path<R: ChainReading>(
 }
 
 // What is told of the rule at an index: the rule, its place, and whether an inner chain follows; and the index after it.
-#[tactic(auto, using(kat_syntax::proofs::Tokens::next_drop))]
+#[tactic(auto, using(text_grammar::proofs::Tokens::next_drop))]
 fn rule_and_place<R: ChainReading>(
     reading: &R,
     toks: &[Token],
@@ -101,7 +101,7 @@ fn rule_and_place<R: ChainReading>(
 // `TooDeep` at the token with which more than 200 constructs are open, `NumberTooWide` at a number of 2^64 or more, or
 // that with which the reading refuses a part.
 #[cycle(chains)]
-#[tactic(auto, using(crate::proofs::ChainSteps::chain_step, kat_syntax::proofs::Tokens::next_drop))]
+#[tactic(auto, using(crate::proofs::ChainSteps::chain_step, text_grammar::proofs::Tokens::next_drop))]
 pub(crate) fn read_chain<R: ChainReading>(
     reading: &R,
     toks: &[Token],
@@ -127,7 +127,7 @@ pub(crate) fn read_chain<R: ChainReading>(
 
 // One line after a chain so far, from the token after its `=` on.
 #[cycle(chains)]
-#[tactic(auto, using(kat_syntax::proofs::Tokens::next_drop))]
+#[tactic(auto, using(text_grammar::proofs::Tokens::next_drop))]
 fn line<R: ChainReading>(
     reading: &R,
     toks: &[Token],
@@ -149,7 +149,7 @@ fn line<R: ChainReading>(
 
 // The inner chain of a line, where one has to follow.
 #[cycle(chains)]
-#[tactic(auto, using(kat_syntax::proofs::Tokens::next_drop))]
+#[tactic(auto, using(text_grammar::proofs::Tokens::next_drop))]
 fn inner_chain<R: ChainReading>(
     reading: &R,
     toks: &[Token],
@@ -171,7 +171,7 @@ fn inner_chain<R: ChainReading>(
 
 // A chain in braces.
 #[cycle(chains)]
-#[tactic(auto, using(kat_syntax::proofs::Tokens::next_drop))]
+#[tactic(auto, using(text_grammar::proofs::Tokens::next_drop))]
 fn braces<R: ChainReading>(
     reading: &R,
     toks: &[Token],

@@ -1,11 +1,11 @@
 //! Names and numbers of a chain.
 ghost use Rattle.std.specs.Prelude.{◌≡◌, ◌+◌, ◌<◌, length, drop, IsTrue, IfOk};
-ghost use Rattle.kat_syntax.specs.Lexemes.{lexemes};
-ghost use Rattle.kat_syntax.specs.Parsed.{Makes, Wants};
+ghost use Rattle.text_grammar.specs.Lexemes.{lexemes};
+ghost use Rattle.text_grammar.specs.Parsed.{Makes, Wants};
 ghost use Rattle.chain_proofs.specs.ChainWalks.{is_word, wants_word, rule_name, has_number, has_inner};
 
-use kat_syntax::{Keyword, Terminal, syntax_fault_at, terminal_at, text_at};
-use kat_tokens::{TextFault, Token};
+use text_grammar::{Keyword, Terminal, syntax_fault_at, terminal_at, text_at};
+use text_tokens::{TextFault, Token};
 
 /// Whether the token at an index is this plain name.
 pub(crate) fn is_word_at(toks: &[Token], i: usize, word: &str) -> bool
@@ -19,7 +19,7 @@ pub(crate) fn is_word_at(toks: &[Token], i: usize, word: &str) -> bool
 }
 
 /// The index after a token that has to be this plain name.
-#[tactic(auto, using(kat_syntax::proofs::Tokens::next_drop))]
+#[tactic(auto, using(text_grammar::proofs::Tokens::next_drop))]
 pub(crate) fn expect_word(toks: &[Token], i: usize, word: &str) -> Result<usize, TextFault>
     ensures value { Wants (lexemes toks.now) result (wants_word word.now (drop i (lexemes toks.now))) }
     ensures goes { IfOk result (λ end. (end ≡ i + 1) × (i < length toks.now)) }

@@ -1,12 +1,12 @@
 -- Reading the tokens of items is their fold.
 use Rattle.std.proofs.Common.{◌≡◌, ℕ, zero, suc, ◌<◌, ◌≤◌, List, [], ◌∷◌, length, Result, Ok, Err, refl, ap, ◌∙◌, arith}
-use Rattle.kat_tokens.specs.declared.fault.TextFault.{TextFault}
-use Rattle.kat_syntax.specs.declared.terminal.Terminal.TheVariants.{RoundClose, SquareClose, Plus, Dot, Separator}
-use Rattle.kat_syntax.specs.declared.terminal.Separator.TheVariants.{Comma, Semicolon, Caret}
-use Rattle.kat_syntax.specs.Lexemes.{Lexeme, is_terminal}
-use Rattle.kat_syntax.specs.Parsed.{Parsed, ◌>>=◌, before, then_wants}
-use Rattle.kat_syntax.specs.Phrases.{Leaf, cons_token}
-use Rattle.kat_syntax.proofs.ParserCompleteness.{then_rest, checked, closed}
+use Rattle.text_tokens.specs.declared.fault.TextFault.{TextFault}
+use Rattle.text_grammar.specs.declared.terminal.Terminal.TheVariants.{RoundClose, SquareClose, Plus, Dot, Separator}
+use Rattle.text_grammar.specs.declared.terminal.Separator.TheVariants.{Comma, Semicolon, Caret}
+use Rattle.text_grammar.specs.Lexemes.{Lexeme, is_terminal}
+use Rattle.text_grammar.specs.Parsed.{Parsed, ◌>>=◌, before, then_wants}
+use Rattle.text_grammar.specs.Phrases.{Leaf, cons_token}
+use Rattle.text_grammar.proofs.ParserCompleteness.{then_rest, checked, closed}
 use Rattle.problem_file.specs.Phrases.{ended}
 use Rattle.problem_file.specs.Items.{items_within}
 use Rattle.problem_file.proofs.NameWalks.{names_long, declaration_folded}

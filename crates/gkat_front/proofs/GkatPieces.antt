@@ -3,11 +3,11 @@ use Rattle.std.proofs.Common.{◌≡◌, ℕ, List, [], ◌∷◌, ◌++◌, Boo
 use Rattle.std.proofs.lemmas.List.{append-nil}
 use Rattle.std.specs.Prelude.{codes}
 use Rattle.kat_model.specs.Trees.{TestTree, bottom, top}
-use Rattle.kat_tokens.specs.Pieces.{Piece, symbol, gap, spelled}
-use Rattle.kat_text.specs.declared.meaning.Meaning.{Meaning}
-use Rattle.kat_print.specs.Printing.{cond_of, cond_text, in_round}
-use Rattle.kat_print.proofs.PieceTexts.{cond_spells, test_spells}
-use Rattle.guarded_terms.specs.Expressions.{GkatTree, test, act, product, choice, loop}
+use Rattle.text_tokens.specs.Pieces.{Piece, symbol, gap, spelled}
+use Rattle.text_scopes.specs.declared.meaning.Meaning.{Meaning}
+use Rattle.text_print.specs.Printing.{cond_of, cond_text, in_round}
+use Rattle.text_print.proofs.PieceTexts.{cond_spells, test_spells}
+use Rattle.gkat_terms.specs.Expressions.{GkatTree, test, act, product, choice, loop}
 use Rattle.gkat_front.specs.Printing.{is_loop, guard_text, gkat_text, guard_pieces, gkat_pieces}
 
 -- the pieces spell a text, and go on

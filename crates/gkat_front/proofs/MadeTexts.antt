@@ -1,19 +1,19 @@
 -- What is made of the tokens of items is what the items make.
 use Rattle.std.proofs.Common.{◌≡◌, ℕ, List, false, Result, Ok, Err, refl}
 use Rattle.kat_model.specs.Expressions.{CondTree, test_without_comparisons}
-use Rattle.kat_tokens.specs.declared.fault.TextFault.{TextFault}
-use Rattle.kat_syntax.specs.Lexemes.{Lexeme}
-use Rattle.kat_syntax.specs.Parsed.{◌>>=◌, before, change}
-use Rattle.kat_syntax.specs.Actions.{context}
-use Rattle.kat_syntax.specs.Phrases.{cond, Phrase, yield_before, MeetsLookahead}
-use Rattle.kat_syntax.specs.Folds.{fold}
-use Rattle.kat_syntax.specs.Ends.{Ends}
-use Rattle.kat_syntax.proofs.ParserCompleteness.{cond_parsed}
-use Rattle.kat_syntax.proofs.Longest.{longest}
-use Rattle.kat_text.specs.declared.extent.Extent.{Extent}
-use Rattle.kat_text.specs.ScopeParts.{ScopeParts}
-use Rattle.kat_text.specs.Measuring.{extents}
-use Rattle.kat_text.specs.Building.{trees}
+use Rattle.text_tokens.specs.declared.fault.TextFault.{TextFault}
+use Rattle.text_grammar.specs.Lexemes.{Lexeme}
+use Rattle.text_grammar.specs.Parsed.{◌>>=◌, before, change}
+use Rattle.text_grammar.specs.Actions.{context}
+use Rattle.text_grammar.specs.Phrases.{cond, Phrase, yield_before, MeetsLookahead}
+use Rattle.text_grammar.specs.Folds.{fold}
+use Rattle.text_grammar.specs.Ends.{Ends}
+use Rattle.text_grammar.proofs.ParserCompleteness.{cond_parsed}
+use Rattle.text_grammar.proofs.Longest.{longest}
+use Rattle.text_scopes.specs.declared.extent.Extent.{Extent}
+use Rattle.text_scopes.specs.ScopeParts.{ScopeParts}
+use Rattle.text_scopes.specs.Measuring.{extents}
+use Rattle.text_scopes.specs.Building.{trees}
 use Rattle.gkat_front.specs.GkatWalks.{whole, parse_gkat}
 use Rattle.gkat_front.specs.GkatMaking.{guard_at, making_expr}
 use Rattle.gkat_front.specs.GkatPhrases.{expr, GkatPhrase, gkat_onto, GkatObeys}

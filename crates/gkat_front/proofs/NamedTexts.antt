@@ -1,25 +1,25 @@
 -- The tests of tokens give no fault for want of memory: the walk takes fewer steps than it has.
 use Rattle.std.proofs.Common.{ℕ, zero, suc, ◌<◌, List, [], ◌∷◌, length, drop, true, false, nat_lt, Option, Some, None, Ok, Err, arith}
 use Rattle.std.specs.Option.{is_some}
-use Rattle.kat_tokens.specs.declared.fault.TextFault.TheVariants.{TooLarge, TooMany, TwoGoals, DoubleName}
-use Rattle.kat_syntax.specs.declared.terminal.Terminal.TheVariants.{RoundOpen, RoundClose, SquareOpen, SquareClose, Plus, Dot, Zero, One, Name, Keyword, Separator}
-use Rattle.kat_syntax.specs.declared.terminal.Keyword.TheVariants as word
-use Rattle.kat_syntax.specs.declared.terminal.Separator.TheVariants.{Comma, Semicolon, Caret}
-use Rattle.kat_syntax.specs.Lexemes.{Lexeme, lexeme, heads, is_terminal}
-use Rattle.kat_syntax.specs.Parsed.{◌>>=◌, then_wants, place_of}
-use Rattle.kat_syntax.specs.Actions.{context}
-use Rattle.kat_syntax.specs.Scans.{scanning_conds}
-use Rattle.kat_syntax.specs.Conds.{parse_cond, disjunction}
-use Rattle.kat_syntax.proofs.Within.{Within, bind_within, weaken, before_within, enter_within, then_wants_within, headed}
-use Rattle.kat_syntax.proofs.NamedFaults.{IsNamed, then_named, bind_named, if_named, before_named, change_named, then_wants_named, cond_named}
-use Rattle.kat_text.specs.declared.meaning.Meaning.{Meaning}
-use Rattle.kat_text.specs.declared.meaning.Meaning.TheVariants.{Test, Action}
-use Rattle.kat_text.specs.ScopeParts.{ScopeParts, meaning}
-use Rattle.kat_text.specs.Building.{cond_trees}
-use Rattle.kat_text.specs.Measuring.{cond_extents}
+use Rattle.text_tokens.specs.declared.fault.TextFault.TheVariants.{TooLarge, TooMany, TwoGoals, DoubleName}
+use Rattle.text_grammar.specs.declared.terminal.Terminal.TheVariants.{RoundOpen, RoundClose, SquareOpen, SquareClose, Plus, Dot, Zero, One, Name, Keyword, Separator}
+use Rattle.text_grammar.specs.declared.terminal.Keyword.TheVariants as word
+use Rattle.text_grammar.specs.declared.terminal.Separator.TheVariants.{Comma, Semicolon, Caret}
+use Rattle.text_grammar.specs.Lexemes.{Lexeme, lexeme, heads, is_terminal}
+use Rattle.text_grammar.specs.Parsed.{◌>>=◌, then_wants, place_of}
+use Rattle.text_grammar.specs.Actions.{context}
+use Rattle.text_grammar.specs.Scans.{scanning_conds}
+use Rattle.text_grammar.specs.Conds.{parse_cond, disjunction}
+use Rattle.text_grammar.proofs.Within.{Within, bind_within, weaken, before_within, enter_within, then_wants_within, headed}
+use Rattle.text_grammar.proofs.NamedFaults.{IsNamed, then_named, bind_named, if_named, before_named, change_named, then_wants_named, cond_named}
+use Rattle.text_scopes.specs.declared.meaning.Meaning.{Meaning}
+use Rattle.text_scopes.specs.declared.meaning.Meaning.TheVariants.{Test, Action}
+use Rattle.text_scopes.specs.ScopeParts.{ScopeParts, meaning}
+use Rattle.text_scopes.specs.Building.{cond_trees}
+use Rattle.text_scopes.specs.Measuring.{cond_extents}
 use Rattle.while_lang.specs.Blocks.{enter}
 use Rattle.problem_file.specs.Items.{declaration_by}
-use Rattle.guarded_terms.specs.Expressions.{GkatTree, gkat_size}
+use Rattle.gkat_terms.specs.Expressions.{GkatTree, gkat_size}
 use Rattle.gkat_front.specs.GkatActions.{GkatActions}
 use Rattle.gkat_front.specs.GkatWalks.{GkatAim, whole, factors_after, GkatParser, guard_by, round_by, unit_by, loop_by, factor_by, product_by, choice_by, gkat_by, gkat_within, parse_gkat}
 use Rattle.gkat_front.specs.GkatScans.{scanning_expr}

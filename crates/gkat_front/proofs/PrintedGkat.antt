@@ -4,34 +4,34 @@ use Rattle.std.proofs.lemmas.Bool.{both_ways}
 use Rattle.std.specs.Prelude.{codes}
 use Rattle.kat_model.specs.Trees.{TestTree, bottom, top, prim, complement, meet, join}
 use Rattle.kat_model.specs.Expressions.{CondTree, has_comparison, test_without_comparisons}
-use Rattle.kat_tokens.specs.declared.fault.TextFault.{TextFault}
-use Rattle.kat_tokens.specs.declared.lexer.TheConstants.{MAX_LEN}
-use Rattle.kat_tokens.specs.Pieces.{Piece, word, number as numeral, symbol, gap, spelled}
-use Rattle.kat_tokens.proofs.Printed.{printed}
-use Rattle.kat_syntax.specs.declared.terminal.Terminal.{Terminal}
-use Rattle.kat_syntax.specs.declared.terminal.Terminal.TheVariants.{RoundOpen, SquareOpen, Plus, Dot, Separator}
-use Rattle.kat_syntax.specs.declared.terminal.Separator.TheVariants.{Caret}
-use Rattle.kat_syntax.specs.Lexemes.{Lexeme, lexeme}
-use Rattle.kat_syntax.specs.Parsed.{◌>>=◌}
-use Rattle.kat_syntax.specs.Actions.{context}
-use Rattle.kat_syntax.specs.Phrases.{lit, cond as condition, Leaf, Phrase, one_conj, one_lit}
-use Rattle.kat_syntax.specs.Folds.{fold}
-use Rattle.kat_text.specs.declared.extent.Extent.{Extent}
-use Rattle.kat_text.specs.declared.meaning.Meaning.{Meaning}
-use Rattle.kat_text.specs.declared.meaning.Meaning.TheVariants.{Test, Action}
-use Rattle.kat_text.specs.ScopeParts.{ScopeParts, IsNameOf}
-use Rattle.kat_text.specs.Measuring.{extents}
-use Rattle.kat_text.specs.Building.{trees}
-use Rattle.kat_text.proofs.Measured.{cond_decided}
-use Rattle.kat_print.specs.Printing.{cond_of, in_round, CondIsNamed, cond_nesting}
-use Rattle.kat_print.proofs.WordTerminals.{name_terminal}
-use Rattle.kat_print.proofs.Separate.{nothing_ends}
-use Rattle.kat_print.proofs.PrintedPhrases.{lexemes_from, leaf}
-use Rattle.kat_print.proofs.PrintedConds.{IsCondOf, cond_back}
-use Rattle.kat_print.proofs.PrintedTerms.{test_of_cond, no_comparison}
+use Rattle.text_tokens.specs.declared.fault.TextFault.{TextFault}
+use Rattle.text_tokens.specs.declared.lexer.TheConstants.{MAX_LEN}
+use Rattle.text_tokens.specs.Pieces.{Piece, word, number as numeral, symbol, gap, spelled}
+use Rattle.text_tokens.proofs.Printed.{printed}
+use Rattle.text_grammar.specs.declared.terminal.Terminal.{Terminal}
+use Rattle.text_grammar.specs.declared.terminal.Terminal.TheVariants.{RoundOpen, SquareOpen, Plus, Dot, Separator}
+use Rattle.text_grammar.specs.declared.terminal.Separator.TheVariants.{Caret}
+use Rattle.text_grammar.specs.Lexemes.{Lexeme, lexeme}
+use Rattle.text_grammar.specs.Parsed.{◌>>=◌}
+use Rattle.text_grammar.specs.Actions.{context}
+use Rattle.text_grammar.specs.Phrases.{lit, cond as condition, Leaf, Phrase, one_conj, one_lit}
+use Rattle.text_grammar.specs.Folds.{fold}
+use Rattle.text_scopes.specs.declared.extent.Extent.{Extent}
+use Rattle.text_scopes.specs.declared.meaning.Meaning.{Meaning}
+use Rattle.text_scopes.specs.declared.meaning.Meaning.TheVariants.{Test, Action}
+use Rattle.text_scopes.specs.ScopeParts.{ScopeParts, IsNameOf}
+use Rattle.text_scopes.specs.Measuring.{extents}
+use Rattle.text_scopes.specs.Building.{trees}
+use Rattle.text_scopes.proofs.Measured.{cond_decided}
+use Rattle.text_print.specs.Printing.{cond_of, in_round, CondIsNamed, cond_nesting}
+use Rattle.text_print.proofs.WordTerminals.{name_terminal}
+use Rattle.text_print.proofs.Separate.{nothing_ends}
+use Rattle.text_print.proofs.PrintedPhrases.{lexemes_from, leaf}
+use Rattle.text_print.proofs.PrintedConds.{IsCondOf, cond_back}
+use Rattle.text_print.proofs.PrintedTerms.{test_of_cond, no_comparison}
 use Rattle.while_lang.specs.Blocks.{enter}
 use Rattle.while_lang.proofs.ScannedBlocks.{enters}
-use Rattle.guarded_terms.specs.Expressions.{GkatTree, test, act, product, choice, loop}
+use Rattle.gkat_terms.specs.Expressions.{GkatTree, test, act, product, choice, loop}
 use Rattle.gkat_front.specs.GkatMaking.{named_by, making_expr}
 use Rattle.gkat_front.specs.GkatPhrases.{Guard, GkatSymbol, factor, unit, GkatPhrase, one_product, two_products, one_factor, more_factors, once, repeated, zero_unit, one_unit, name_unit, guard_unit, round_unit, guard_onto, gkat_onto, GuardObeys, GkatObeys, GuardFits, GkatFits}
 use Rattle.gkat_front.specs.GkatFolds.{fold_guard, fold_gkat, cond_fold}

@@ -1,11 +1,11 @@
 -- The file that bytes say is what both passes over their tokens give.
 use Rattle.std.proofs.Common.{◌≡◌, ℕ, List, map, Result, Ok, sym, ap, ◌∙◌}
-use Rattle.kat_tokens.specs.declared.fault.TextFault.{TextFault}
-use Rattle.kat_tokens.specs.TokenParts.{TokenParts}
-use Rattle.kat_tokens.specs.Lex.{Lexes}
-use Rattle.kat_syntax.specs.Lexemes.{lexeme_of}
-use Rattle.kat_syntax.specs.Parsed.{◌>>=◌}
-use Rattle.kat_syntax.proofs.ParserSoundness.{bind_ok}
+use Rattle.text_tokens.specs.declared.fault.TextFault.{TextFault}
+use Rattle.text_tokens.specs.TokenParts.{TokenParts}
+use Rattle.text_tokens.specs.Lex.{Lexes}
+use Rattle.text_grammar.specs.Lexemes.{lexeme_of}
+use Rattle.text_grammar.specs.Parsed.{◌>>=◌}
+use Rattle.text_grammar.proofs.ParserSoundness.{bind_ok}
 use Rattle.gkat_front.specs.Files.{GkatFileParts, file_of}
 use Rattle.gkat_front.specs.FileFolds.{file_made}
 use Rattle.gkat_front.specs.Making.{scan_file, walk, tested}

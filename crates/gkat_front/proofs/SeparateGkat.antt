@@ -2,13 +2,13 @@
 use Rattle.std.proofs.Common.{List, ℕ, ◌∷◌, refl}
 use Rattle.std.specs.Prelude.{codes}
 use Rattle.kat_model.specs.Trees.{bottom, top, prim, complement, meet, join}
-use Rattle.kat_tokens.specs.Pieces.{Piece, symbol, gap, spelled, AreSeparate}
-use Rattle.kat_text.specs.declared.meaning.Meaning.{Meaning}
-use Rattle.kat_text.specs.declared.meaning.Meaning.TheVariants.{Test, Action}
-use Rattle.kat_text.specs.ScopeParts.{ScopeParts}
-use Rattle.kat_print.specs.Printing.{cond_of}
-use Rattle.kat_print.proofs.Separate.{EndsWords, Separate, blank_ends, round_ends, open_alone, close_alone, product_separate, rounded_separate, word_separate, bracket_separate}
-use Rattle.guarded_terms.specs.Expressions.{GkatTree, test, act, product, choice, loop}
+use Rattle.text_tokens.specs.Pieces.{Piece, symbol, gap, spelled, AreSeparate}
+use Rattle.text_scopes.specs.declared.meaning.Meaning.{Meaning}
+use Rattle.text_scopes.specs.declared.meaning.Meaning.TheVariants.{Test, Action}
+use Rattle.text_scopes.specs.ScopeParts.{ScopeParts}
+use Rattle.text_print.specs.Printing.{cond_of}
+use Rattle.text_print.proofs.Separate.{EndsWords, Separate, blank_ends, round_ends, open_alone, close_alone, product_separate, rounded_separate, word_separate, bracket_separate}
+use Rattle.gkat_terms.specs.Expressions.{GkatTree, test, act, product, choice, loop}
 use Rattle.gkat_front.specs.Printing.{is_loop, guard_pieces, gkat_pieces, GkatIsNamed}
 
 caret_ends : (ps : List Piece) → EndsWords (symbol (codes "^") ∷ ps)

@@ -1,8 +1,8 @@
 -- What is done with the items of a text while they are read.
 use Rattle.std.specs.Prelude.{ℕ, List, Result}
-use Rattle.kat_tokens.specs.declared.fault.TextFault.{TextFault}
-use Rattle.kat_syntax.specs.Lexemes.{Lexeme}
-use Rattle.kat_syntax.specs.Parsed.{Parsed}
+use Rattle.text_tokens.specs.declared.fault.TextFault.{TextFault}
+use Rattle.text_grammar.specs.Lexemes.{Lexeme}
+use Rattle.text_grammar.specs.Parsed.{Parsed}
 
 -- S is what the items so far have made, V is what is made of an expression. A number is the place of a name that is declared,
 -- and otherwise that of the keyword of the item.

@@ -1,5 +1,5 @@
 -- What a file of the program says.
-use Rattle.guarded_terms.specs.Expressions.{gkat_tree}
+use Rattle.gkat_terms.specs.Expressions.{gkat_tree}
 use Rattle.gkat_front.specs.Files.{GkatFileParts}
 use Rattle.gkat_front.specs.declared.file.GkatFile.{GkatFile}
 

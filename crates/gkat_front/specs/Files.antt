@@ -1,12 +1,12 @@
 -- What a text says, and what its items so far have made.
 use Rattle.std.specs.Prelude.{ℕ, ◌+◌, if◌then◌else◌, nat_lt, Result, Ok, Err, List, Option, Some, None}
 use Rattle.std.specs.Option.{is_some}
-use Rattle.kat_tokens.specs.declared.fault.TextFault.{TextFault}
-use Rattle.kat_tokens.specs.declared.fault.TextFault.TheVariants.{DoubleName, TooMany, TooLarge, TwoGoals, NoGoal}
-use Rattle.kat_syntax.specs.Parsed.{◌>>=◌}
-use Rattle.kat_text.specs.declared.meaning.Meaning.TheVariants.{Test, Action}
-use Rattle.kat_text.specs.ScopeParts.{ScopeParts, meaning, empty_scope, declared}
-use Rattle.guarded_terms.specs.Expressions.{GkatTree, gkat_size}
+use Rattle.text_tokens.specs.declared.fault.TextFault.{TextFault}
+use Rattle.text_tokens.specs.declared.fault.TextFault.TheVariants.{DoubleName, TooMany, TooLarge, TwoGoals, NoGoal}
+use Rattle.text_grammar.specs.Parsed.{◌>>=◌}
+use Rattle.text_scopes.specs.declared.meaning.Meaning.TheVariants.{Test, Action}
+use Rattle.text_scopes.specs.ScopeParts.{ScopeParts, meaning, empty_scope, declared}
+use Rattle.gkat_terms.specs.Expressions.{GkatTree, gkat_size}
 
 -- what a text says: its names, how many tests and actions it declares, and two expressions
 pub record GkatFileParts : Type 0 where

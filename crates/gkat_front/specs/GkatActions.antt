@@ -1,9 +1,9 @@
 -- What is made of the parts of an expression while it is read.
 use Rattle.std.specs.Prelude.{ℕ, List, length, Result}
-use Rattle.kat_tokens.specs.declared.fault.TextFault.{TextFault}
-use Rattle.kat_syntax.specs.Lexemes.{Lexeme}
-use Rattle.kat_syntax.specs.Parsed.{Parsed}
-use Rattle.kat_syntax.proofs.Within.{Within}
+use Rattle.text_tokens.specs.declared.fault.TextFault.{TextFault}
+use Rattle.text_grammar.specs.Lexemes.{Lexeme}
+use Rattle.text_grammar.specs.Parsed.{Parsed}
+use Rattle.text_grammar.proofs.Within.{Within}
 
 -- C is what is made of a condition, P of a product so far, and V of an expression. A condition is read with so many
 -- constructs open around it, and leaves fewer tokens. A name is told with its place and its text.

@@ -2,16 +2,16 @@
 use Rattle.std.specs.Prelude.{ℕ, false, Result, Ok}
 use Rattle.kat_model.specs.Trees.{TestTree}
 use Rattle.kat_model.specs.Expressions.{test_without_comparisons}
-use Rattle.kat_tokens.specs.declared.fault.TextFault.{TextFault}
-use Rattle.kat_syntax.specs.Parsed.{◌>>=◌}
-use Rattle.kat_syntax.specs.Actions.{context}
-use Rattle.kat_syntax.specs.Phrases.{cond, Phrase}
-use Rattle.kat_syntax.specs.Folds.{fold}
-use Rattle.kat_text.specs.ScopeParts.{ScopeParts}
-use Rattle.kat_text.specs.Measuring.{extents}
-use Rattle.kat_text.specs.Building.{trees}
+use Rattle.text_tokens.specs.declared.fault.TextFault.{TextFault}
+use Rattle.text_grammar.specs.Parsed.{◌>>=◌}
+use Rattle.text_grammar.specs.Actions.{context}
+use Rattle.text_grammar.specs.Phrases.{cond, Phrase}
+use Rattle.text_grammar.specs.Folds.{fold}
+use Rattle.text_scopes.specs.ScopeParts.{ScopeParts}
+use Rattle.text_scopes.specs.Measuring.{extents}
+use Rattle.text_scopes.specs.Building.{trees}
 use Rattle.while_lang.specs.Blocks.{enter}
-use Rattle.guarded_terms.specs.Expressions.{GkatTree}
+use Rattle.gkat_terms.specs.Expressions.{GkatTree}
 use Rattle.gkat_front.specs.GkatActions.{GkatActions}
 use Rattle.gkat_front.specs.GkatMaking.{making_expr}
 use Rattle.gkat_front.specs.GkatPhrases.{Guard, GkatSymbol, expr, factors, GkatPhrase, one_product, two_products, one_factor, more_factors, once, repeated, zero_unit, one_unit, name_unit, guard_unit, round_unit}

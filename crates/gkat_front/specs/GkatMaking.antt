@@ -3,20 +3,20 @@ use Rattle.std.specs.Prelude.{ℕ, ◌+◌, List, [], ◌∷◌, ◌++◌, lengt
 use Rattle.std.proofs.Common.{arith}
 use Rattle.kat_model.specs.Trees.{TestTree, bottom, top, prim}
 use Rattle.kat_model.specs.Expressions.{test_without_comparisons}
-use Rattle.kat_tokens.specs.declared.fault.TextFault.{TextFault}
-use Rattle.kat_tokens.specs.declared.fault.TextFault.TheVariants.{UnknownName, Sort}
-use Rattle.kat_syntax.specs.Lexemes.{Lexeme}
-use Rattle.kat_syntax.specs.Parsed.{Parsed, ◌>>=◌, change}
-use Rattle.kat_syntax.specs.Actions.{context}
-use Rattle.kat_syntax.specs.Conds.{parse_cond, disjunction}
-use Rattle.kat_syntax.proofs.Within.{Within, weaken, change_within}
-use Rattle.kat_syntax.proofs.CondSteps.{cond_read_short}
-use Rattle.kat_text.specs.declared.meaning.Meaning.{Meaning}
-use Rattle.kat_text.specs.declared.meaning.Meaning.TheVariants.{Test, Action}
-use Rattle.kat_text.specs.ScopeParts.{ScopeParts, meaning}
-use Rattle.kat_text.specs.Measuring.{cond_extents}
-use Rattle.kat_text.specs.Building.{cond_trees}
-use Rattle.guarded_terms.specs.Expressions.{GkatTree, test, act, choice, loop, gkat_product}
+use Rattle.text_tokens.specs.declared.fault.TextFault.{TextFault}
+use Rattle.text_tokens.specs.declared.fault.TextFault.TheVariants.{UnknownName, Sort}
+use Rattle.text_grammar.specs.Lexemes.{Lexeme}
+use Rattle.text_grammar.specs.Parsed.{Parsed, ◌>>=◌, change}
+use Rattle.text_grammar.specs.Actions.{context}
+use Rattle.text_grammar.specs.Conds.{parse_cond, disjunction}
+use Rattle.text_grammar.proofs.Within.{Within, weaken, change_within}
+use Rattle.text_grammar.proofs.CondSteps.{cond_read_short}
+use Rattle.text_scopes.specs.declared.meaning.Meaning.{Meaning}
+use Rattle.text_scopes.specs.declared.meaning.Meaning.TheVariants.{Test, Action}
+use Rattle.text_scopes.specs.ScopeParts.{ScopeParts, meaning}
+use Rattle.text_scopes.specs.Measuring.{cond_extents}
+use Rattle.text_scopes.specs.Building.{cond_trees}
+use Rattle.gkat_terms.specs.Expressions.{GkatTree, test, act, choice, loop, gkat_product}
 use Rattle.gkat_front.specs.GkatActions.{GkatActions}
 
 -- the condition at the front as a test, or the first fault of its names: it is measured before it is built

@@ -1,13 +1,13 @@
 -- The test of the syntax of expressions.
 use Rattle.std.specs.Prelude.{ℕ, ◌+◌, List, length, false, true, Ok}
 use Rattle.std.proofs.Common.{arith}
-use Rattle.kat_syntax.specs.Lexemes.{Lexeme}
-use Rattle.kat_syntax.specs.Parsed.{Parsed}
-use Rattle.kat_syntax.specs.Actions.{context}
-use Rattle.kat_syntax.specs.Scans.{scanning_conds}
-use Rattle.kat_syntax.specs.Conds.{parse_cond, disjunction}
-use Rattle.kat_syntax.proofs.Within.{Within, weaken}
-use Rattle.kat_syntax.proofs.CondSteps.{cond_read_short}
+use Rattle.text_grammar.specs.Lexemes.{Lexeme}
+use Rattle.text_grammar.specs.Parsed.{Parsed}
+use Rattle.text_grammar.specs.Actions.{context}
+use Rattle.text_grammar.specs.Scans.{scanning_conds}
+use Rattle.text_grammar.specs.Conds.{parse_cond, disjunction}
+use Rattle.text_grammar.proofs.Within.{Within, weaken}
+use Rattle.text_grammar.proofs.CondSteps.{cond_read_short}
 use Rattle.gkat_front.specs.GkatActions.{GkatActions}
 
 -- a condition, with so many constructs open around it

@@ -1,12 +1,12 @@
 -- The items of a text, read one after the other by any actions.
 use Rattle.std.specs.Prelude.{ℕ, List, [], ◌∷◌, Result, Ok, Err}
-use Rattle.kat_tokens.specs.declared.fault.TextFault.{TextFault}
-use Rattle.kat_tokens.specs.declared.fault.TextFault.TheVariants.{Syntax}
-use Rattle.kat_syntax.specs.declared.terminal.Terminal.TheVariants.{Keyword, Separator}
-use Rattle.kat_syntax.specs.declared.terminal.Keyword.TheVariants as word
-use Rattle.kat_syntax.specs.declared.terminal.Separator.TheVariants.{Comma, Semicolon}
-use Rattle.kat_syntax.specs.Lexemes.{Lexeme, lexeme, is_terminal}
-use Rattle.kat_syntax.specs.Parsed.{Parsed, ◌>>=◌, at_end, before, then_wants}
+use Rattle.text_tokens.specs.declared.fault.TextFault.{TextFault}
+use Rattle.text_tokens.specs.declared.fault.TextFault.TheVariants.{Syntax}
+use Rattle.text_grammar.specs.declared.terminal.Terminal.TheVariants.{Keyword, Separator}
+use Rattle.text_grammar.specs.declared.terminal.Keyword.TheVariants as word
+use Rattle.text_grammar.specs.declared.terminal.Separator.TheVariants.{Comma, Semicolon}
+use Rattle.text_grammar.specs.Lexemes.{Lexeme, lexeme, is_terminal}
+use Rattle.text_grammar.specs.Parsed.{Parsed, ◌>>=◌, at_end, before, then_wants}
 use Rattle.problem_file.specs.Items.{declaration_by, over_items}
 use Rattle.gkat_front.specs.FileActions.{FileActions}
 

@@ -1,12 +1,12 @@
 -- The laws of texts. Each stands on a function of the crate that does nothing.
 use Rattle.std.specs.Prelude.{◌≡◌, ◌↔◌, ◌≤◌, ℕ, List, [], length, map, Ok}
-use Rattle.kat_tokens.specs.declared.lexer.TheConstants.{MAX_LEN}
-use Rattle.kat_tokens.specs.Lex.{Lexes}
-use Rattle.kat_tokens.specs.Pieces.{Piece, spelled as bytes_of, parts_from}
-use Rattle.kat_syntax.specs.Lexemes.{Lexeme, lexeme_of}
-use Rattle.kat_text.specs.declared.meaning.Meaning.{Meaning}
-use Rattle.kat_text.specs.ScopeParts.{ScopeParts}
-use Rattle.guarded_terms.specs.Expressions.{GkatTree}
+use Rattle.text_tokens.specs.declared.lexer.TheConstants.{MAX_LEN}
+use Rattle.text_tokens.specs.Lex.{Lexes}
+use Rattle.text_tokens.specs.Pieces.{Piece, spelled as bytes_of, parts_from}
+use Rattle.text_grammar.specs.Lexemes.{Lexeme, lexeme_of}
+use Rattle.text_scopes.specs.declared.meaning.Meaning.{Meaning}
+use Rattle.text_scopes.specs.ScopeParts.{ScopeParts}
+use Rattle.gkat_terms.specs.Expressions.{GkatTree}
 use Rattle.gkat_front.specs.GkatPhrases.{expr, IsGkatPhrase}
 use Rattle.gkat_front.specs.GkatFolds.{gkat_of}
 use Rattle.gkat_front.specs.Files.{start}

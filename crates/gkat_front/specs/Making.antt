@@ -1,9 +1,9 @@
 -- What each item of a text makes of what the items before it have made, and the test of their syntax.
 use Rattle.std.specs.Prelude.{List, Result, Ok}
-use Rattle.kat_tokens.specs.declared.fault.TextFault.{TextFault}
-use Rattle.kat_syntax.specs.Lexemes.{Lexeme}
-use Rattle.kat_syntax.specs.Parsed.{◌>>=◌}
-use Rattle.guarded_terms.specs.Expressions.{GkatTree}
+use Rattle.text_tokens.specs.declared.fault.TextFault.{TextFault}
+use Rattle.text_grammar.specs.Lexemes.{Lexeme}
+use Rattle.text_grammar.specs.Parsed.{◌>>=◌}
+use Rattle.gkat_terms.specs.Expressions.{GkatTree}
 use Rattle.gkat_front.specs.GkatWalks.{whole, parse_gkat}
 use Rattle.gkat_front.specs.GkatScans.{scanning_expr}
 use Rattle.gkat_front.specs.GkatMaking.{making_expr}

@@ -1,12 +1,12 @@
 -- Expressions as they are printed: their texts, and the pieces that spell them.
 use Rattle.std.specs.Prelude.{◌+◌, max, ℕ, List, ◌∷◌, ◌++◌, codes, Bool, true, false, if◌then◌else◌}
 use Rattle.kat_model.specs.Trees.{TestTree, bottom, top}
-use Rattle.kat_tokens.specs.Pieces.{Piece, word, number as numeral, symbol, gap}
-use Rattle.kat_text.specs.declared.meaning.Meaning.{Meaning}
-use Rattle.kat_text.specs.declared.meaning.Meaning.TheVariants.{Action}
-use Rattle.kat_text.specs.ScopeParts.{ScopeParts, IsNameOf}
-use Rattle.kat_print.specs.Printing.{cond_of, cond_text, test_text, cond_pieces, test_pieces, in_round, CondIsNamed, cond_nesting, test_nesting}
-use Rattle.guarded_terms.specs.Expressions.{GkatTree, test, act, product, choice, loop}
+use Rattle.text_tokens.specs.Pieces.{Piece, word, number as numeral, symbol, gap}
+use Rattle.text_scopes.specs.declared.meaning.Meaning.{Meaning}
+use Rattle.text_scopes.specs.declared.meaning.Meaning.TheVariants.{Action}
+use Rattle.text_scopes.specs.ScopeParts.{ScopeParts, IsNameOf}
+use Rattle.text_print.specs.Printing.{cond_of, cond_text, test_text, cond_pieces, test_pieces, in_round, CondIsNamed, cond_nesting, test_nesting}
+use Rattle.gkat_terms.specs.Expressions.{GkatTree, test, act, product, choice, loop}
 
 -- whether the expression is a loop
 abbrev pub is_loop : GkatTree → Bool

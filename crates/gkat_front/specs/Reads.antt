@@ -1,10 +1,10 @@
 -- What is answered to bytes: the file that they say, or their first fault.
 use Rattle.std.specs.Prelude.{◌≡◌, ◌⊎◌, ℕ, List, map, Result, Ok, Err}
-use Rattle.kat_tokens.specs.declared.fault.TextFault.{TextFault}
-use Rattle.kat_tokens.specs.declared.fault.TextFault.TheVariants.{NoMemory}
-use Rattle.kat_tokens.specs.TokenParts.{TokenParts}
-use Rattle.kat_tokens.specs.Lex.{Lexes}
-use Rattle.kat_syntax.specs.Lexemes.{lexeme_of}
+use Rattle.text_tokens.specs.declared.fault.TextFault.{TextFault}
+use Rattle.text_tokens.specs.declared.fault.TextFault.TheVariants.{NoMemory}
+use Rattle.text_tokens.specs.TokenParts.{TokenParts}
+use Rattle.text_tokens.specs.Lex.{Lexes}
+use Rattle.text_grammar.specs.Lexemes.{lexeme_of}
 use Rattle.problem_file.specs.FirstFaults.{IsFirstFault}
 use Rattle.gkat_front.specs.declared.file.GkatFile.{GkatFile}
 use Rattle.gkat_front.specs.Files.{GkatFileParts}

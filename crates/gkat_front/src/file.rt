@@ -1,6 +1,6 @@
 //! What a text of GKAT says.
-use guarded_terms::Gkat;
-use kat_text::Scope;
+use gkat_terms::Gkat;
+use text_scopes::Scope;
 
 /// What a text of GKAT says: its names, how many tests and actions it declares, and the two expressions of which it asks
 /// whether they are equal.

@@ -1,10 +1,10 @@
 //! What is made of the parts of an expression while it is read.
 ghost use Rattle.std.specs.Prelude.{◌≡◌, length, drop, Ok};
-ghost use Rattle.kat_syntax.specs.Lexemes.{lexemes};
-ghost use Rattle.kat_syntax.specs.Parsed.{Makes, Reads, Goes};
+ghost use Rattle.text_grammar.specs.Lexemes.{lexemes};
+ghost use Rattle.text_grammar.specs.Parsed.{Makes, Reads, Goes};
 ghost use Rattle.gkat_front.specs.GkatActions.{GkatActions};
 
-use kat_tokens::{TextFault, Token};
+use text_tokens::{TextFault, Token};
 
 // What is made of the parts of an expression while it is read: the methods are called for the parts in text order. A part
 // that is refused ends the reading with that fault. Places are in bytes of the text.

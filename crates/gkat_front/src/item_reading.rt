@@ -1,13 +1,13 @@
 //! What is done with the items of a text while they are read.
 ghost use Rattle.std.specs.Prelude.{length, drop};
-ghost use Rattle.kat_syntax.specs.Lexemes.{lexemes};
-ghost use Rattle.kat_syntax.specs.Parsed.{Makes, Reads, Goes};
-ghost use Rattle.kat_text.specs.ScopeParts.{IsIdentifier};
+ghost use Rattle.text_grammar.specs.Lexemes.{lexemes};
+ghost use Rattle.text_grammar.specs.Parsed.{Makes, Reads, Goes};
+ghost use Rattle.text_scopes.specs.ScopeParts.{IsIdentifier};
 ghost use Rattle.problem_file.specs.Working.Walks.{Does};
 ghost use Rattle.gkat_front.specs.FileActions.{FileActions};
 ghost use Rattle.gkat_front.specs.Working.Declarations.{declare_by};
 
-use kat_tokens::{TextFault, Token};
+use text_tokens::{TextFault, Token};
 
 // What names may be declared for.
 #[derive(Clone, Copy, Debug, PartialEq, Eq)]

@@ -1,7 +1,7 @@
 //! The items of a text, gone through once for any reading.
 ghost use Rattle.std.specs.Prelude.{◌≡◌, ◌+◌, ◌<◌, ◌≤◌, length, drop, IfOk};
-ghost use Rattle.kat_syntax.specs.Lexemes.{lexemes};
-ghost use Rattle.kat_syntax.specs.Parsed.{Reads, Goes};
+ghost use Rattle.text_grammar.specs.Lexemes.{lexemes};
+ghost use Rattle.text_grammar.specs.Parsed.{Reads, Goes};
 ghost use Rattle.problem_file.specs.Items.{at_name, over_names, declaration_by};
 ghost use Rattle.problem_file.specs.Tokens.{AreTokens};
 ghost use Rattle.problem_file.specs.Working.Walks.{Steps, Does};
@@ -9,12 +9,12 @@ ghost use Rattle.gkat_front.specs.Items.{sides_by, equal_by, item_by, items_by};
 ghost use Rattle.gkat_front.specs.Working.Declarations.{declare_by};
 
 use crate::item_reading::{Declared, ItemReading};
-use kat_syntax::{Keyword, Separator, Terminal, expect, is_at, syntax_fault_at, terminal_at};
-use kat_tokens::{TextFault, Token};
 use problem_file::name_at;
+use text_grammar::{Keyword, Separator, Terminal, expect, is_at, syntax_fault_at, terminal_at};
+use text_tokens::{TextFault, Token};
 
 // Declares the name at an index, and gives the index after it.
-#[tactic(auto, using(kat_syntax::proofs::Tokens::next_drop))]
+#[tactic(auto, using(text_grammar::proofs::Tokens::next_drop))]
 fn read_name<R: ItemReading>(
     reading: &mut R,
     toks: &[Token],
@@ -31,7 +31,7 @@ fn read_name<R: ItemReading>(
 }
 
 // Declares names with commas between.
-#[tactic(auto, using(kat_syntax::proofs::Tokens::next_drop))]
+#[tactic(auto, using(text_grammar::proofs::Tokens::next_drop))]
 fn read_names<R: ItemReading>(
     reading: &mut R,
     toks: &[Token],
@@ -97,7 +97,7 @@ fn read_equal<R: ItemReading>(
     Ok(end)
 }
 
-#[tactic(auto, using(kat_syntax::proofs::Tokens::next_drop))]
+#[tactic(auto, using(text_grammar::proofs::Tokens::next_drop))]
 fn read_item<R: ItemReading>(
     reading: &mut R,
     toks: &[Token],

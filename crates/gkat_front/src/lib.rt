@@ -15,7 +15,7 @@ mod walk;
 
 pub use bench_problems::bench_problem;
 pub use file::GkatFile;
-pub use guarded_terms::{Gkat, expressions_are_guarded, guarded, kat_of, pair_bound};
+pub use gkat_terms::{Gkat, expressions_are_guarded, guarded, kat_of, pair_bound};
 pub use laws::{have_one_answer, printed_expressions_read_back, texts_are_made, texts_are_scanned};
 pub use print::print_gkat;
 pub use reading::read_gkat;

@@ -1,16 +1,16 @@
 //! What the items of a text make.
 ghost use Rattle.std.specs.Prelude.{◌≡◌};
-ghost use Rattle.kat_syntax.specs.Parsed.{Makes};
+ghost use Rattle.text_grammar.specs.Parsed.{Makes};
 ghost use Rattle.kat_model.specs.Trees.{test_tree};
-ghost use Rattle.guarded_terms.specs.Expressions.{gkat_tree};
+ghost use Rattle.gkat_terms.specs.Expressions.{gkat_tree};
 ghost use Rattle.gkat_front.specs.GkatMaking.{named_by, making_expr};
 
 use crate::gkat_reading::GkatReading;
-use guarded_terms::{Gkat, gkat_product};
+use gkat_terms::{Gkat, gkat_product};
 use kat_model::{Test, test_without_comparisons};
-use kat_text::{Meaning, Scope, build_cond, measure_cond};
-use kat_tokens::{TextFault, Token};
 use std::alloc::Global;
+use text_scopes::{Meaning, Scope, build_cond, measure_cond};
+use text_tokens::{TextFault, Token};
 
 // Makes the tree of an expression, with the names of the scope.
 #[derive(Clone, Copy)]
@@ -39,7 +39,7 @@ impl GkatReading for MakeExpr<'_> {
 
     ghost use Rattle.std.specs.Prelude.{List, map};
     ghost use Rattle.kat_model.specs.Trees.{TestTree};
-    ghost use Rattle.guarded_terms.specs.Expressions.{GkatTree};
+    ghost use Rattle.gkat_terms.specs.Expressions.{GkatTree};
 
     ghost C = { TestTree };
 

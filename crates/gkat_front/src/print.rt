@@ -1,16 +1,16 @@
 //! Expressions as text.
 ghost use Rattle.std.specs.Prelude.{◌≡◌, [], ◌++◌, codes, OnOk, IfOk};
 ghost use Rattle.kat_model.specs.Trees.{test_tree};
-ghost use Rattle.kat_tokens.specs.Pieces.{spelled};
-ghost use Rattle.kat_print.specs.Printing.{name_of};
-ghost use Rattle.guarded_terms.specs.Expressions.{test, gkat_tree};
+ghost use Rattle.text_tokens.specs.Pieces.{spelled};
+ghost use Rattle.text_print.specs.Printing.{name_of};
+ghost use Rattle.gkat_terms.specs.Expressions.{test, gkat_tree};
 ghost use Rattle.gkat_front.specs.Printing.{is_loop, guard_text, gkat_text, gkat_pieces};
 
-use guarded_terms::Gkat;
+use gkat_terms::Gkat;
 use kat_model::{NoMemory, Test};
-use kat_print::{put_name, put_test};
-use kat_text::{Meaning, Scope};
 use std::alloc::Global;
+use text_print::{put_name, put_test};
+use text_scopes::{Meaning, Scope};
 
 // The test in brackets.
 fn put_guard(out: &mut Vec<u8>, guard: &Test, scope: &Scope) -> Result<(), NoMemory>

@@ -5,11 +5,11 @@ use crate::file::GkatFile;
 use crate::item_reading::{Declared, ItemReading};
 use crate::making::MakeExpr;
 use crate::walk::read_expr;
-use guarded_terms::Gkat;
+use gkat_terms::Gkat;
 use kat_model::{MAX_ACTIONS, MAX_TERM_NODES, MAX_TESTS};
-use kat_text::{Meaning, Scope};
-use kat_tokens::{TextFault, Token};
 use std::alloc::Global;
+use text_scopes::{Meaning, Scope};
+use text_tokens::{TextFault, Token};
 
 // Reads items whose syntax was tested.
 #[derive(Drop)]
@@ -24,8 +24,8 @@ pub(crate) struct GkatReader {
 
 impl GkatReader {
     ghost use Rattle.std.specs.Prelude.{◌≡◌};
-    ghost use Rattle.kat_syntax.specs.Parsed.{Makes};
-    ghost use Rattle.kat_text.specs.ScopeParts.{IsIdentifier};
+    ghost use Rattle.text_grammar.specs.Parsed.{Makes};
+    ghost use Rattle.text_scopes.specs.ScopeParts.{IsIdentifier};
     ghost use Rattle.problem_file.specs.Working.Walks.{Does};
     ghost use Rattle.gkat_front.specs.Files.{start, check_new, declare_test, declare_action, file_of};
     ghost use Rattle.gkat_front.specs.FileViews.{file_parts};
@@ -108,7 +108,7 @@ impl GkatReader {
 impl ItemReading for GkatReader {
     type Expr = Gkat;
 
-    ghost use Rattle.guarded_terms.specs.Expressions.{GkatTree, gkat_tree};
+    ghost use Rattle.gkat_terms.specs.Expressions.{GkatTree, gkat_tree};
     ghost use Rattle.gkat_front.specs.Files.{State};
     ghost use Rattle.gkat_front.specs.Making.{making};
     ghost use Rattle.gkat_front.specs.Working.States.{state_of};

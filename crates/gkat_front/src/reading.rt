@@ -1,9 +1,9 @@
 //! The text of GKAT, read.
 ghost use Rattle.std.specs.Prelude.{◌≡◌, ◌≤◌, length, IfErr};
-ghost use Rattle.kat_tokens.specs.declared.fault.TextFault.TheVariants.{NoMemory as NoRoom};
-ghost use Rattle.kat_tokens.specs.declared.lexer.TheConstants.{MAX_LEN as MOST};
-ghost use Rattle.kat_syntax.specs.Lexemes.{lexemes};
-ghost use Rattle.kat_syntax.specs.Parsed.{Makes};
+ghost use Rattle.text_tokens.specs.declared.fault.TextFault.TheVariants.{NoMemory as NoRoom};
+ghost use Rattle.text_tokens.specs.declared.lexer.TheConstants.{MAX_LEN as MOST};
+ghost use Rattle.text_grammar.specs.Lexemes.{lexemes};
+ghost use Rattle.text_grammar.specs.Parsed.{Makes};
 ghost use Rattle.problem_file.specs.Tokens.{AreTokens};
 ghost use Rattle.gkat_front.specs.Files.{GkatFileParts};
 ghost use Rattle.gkat_front.specs.FileViews.{file_parts};
@@ -15,9 +15,9 @@ use crate::file::GkatFile;
 use crate::items::read_items;
 use crate::reader::GkatReader;
 use crate::scan::test_syntax;
-use kat_tokens::{TextFault, Token, tokens};
 use problem_file::{fault_in_text, text_of};
 use std::alloc::Global;
+use text_tokens::{TextFault, Token, tokens};
 
 fn walk(alloc: Global, toks: &[Token]) -> Result<GkatReader, TextFault>
     requires tokens { AreTokens toks.now }

@@ -1,6 +1,6 @@
 //! The test of the syntax of texts, which takes no memory.
 ghost use Rattle.std.specs.Prelude.{◌≡◌};
-ghost use Rattle.kat_syntax.specs.Lexemes.{lexemes};
+ghost use Rattle.text_grammar.specs.Lexemes.{lexemes};
 ghost use Rattle.problem_file.specs.Tokens.{AreTokens};
 ghost use Rattle.gkat_front.specs.GkatScans.{scanning_expr};
 ghost use Rattle.gkat_front.specs.Making.{scanning, scan_file};
@@ -9,8 +9,8 @@ use crate::gkat_reading::GkatReading;
 use crate::item_reading::{Declared, ItemReading};
 use crate::items::read_items;
 use crate::walk::read_expr;
-use kat_syntax::{Context, Scan};
-use kat_tokens::{TextFault, Token};
+use text_grammar::{Context, Scan};
+use text_tokens::{TextFault, Token};
 
 // Makes nothing of an expression, and refuses no part.
 struct ExprScan;
@@ -44,7 +44,7 @@ impl GkatReading for ExprScan {
         from: usize,
         depth: usize,
     ) -> Result<((), usize), TextFault> {
-        kat_syntax::read_cond(&Scan, toks, from, Context::outermost(depth, true))
+        text_grammar::read_cond(&Scan, toks, from, Context::outermost(depth, true))
     }
 
     fn never(&self) {}

@@ -1,14 +1,14 @@
 //! Expressions, gone through once for any reading.
 ghost use Rattle.std.specs.Prelude.{◌≡◌, length, drop};
-ghost use Rattle.kat_syntax.specs.Lexemes.{lexemes};
-ghost use Rattle.kat_syntax.specs.Parsed.{Reads, Goes};
+ghost use Rattle.text_grammar.specs.Lexemes.{lexemes};
+ghost use Rattle.text_grammar.specs.Parsed.{Reads, Goes};
 ghost use Rattle.gkat_front.specs.GkatWalks.{guard_by, tested_by, round_by, unit_by, factor_by, product_by, whole, parse_gkat};
 
 use crate::gkat_reading::GkatReading;
-use kat_syntax::{
+use text_grammar::{
     Separator, Terminal, expect, is_at, place_at, syntax_fault_at, terminal_at, text_at,
 };
-use kat_tokens::{TextFault, Token};
+use text_tokens::{TextFault, Token};
 use while_lang::enter;
 
 // A condition in brackets.
@@ -44,7 +44,7 @@ fn tested<R: GkatReading>(
 
 // An expression in parentheses.
 #[cycle(exprs)]
-#[tactic(auto, using(kat_syntax::proofs::Tokens::next_drop))]
+#[tactic(auto, using(text_grammar::proofs::Tokens::next_drop))]
 fn round<R: GkatReading>(
     reading: &R,
     toks: &[Token],
@@ -62,7 +62,7 @@ fn round<R: GkatReading>(
 }
 
 #[cycle(exprs)]
-#[tactic(auto, using(kat_syntax::proofs::Tokens::next_drop))]
+#[tactic(auto, using(text_grammar::proofs::Tokens::next_drop))]
 fn unit<R: GkatReading>(
     reading: &R,
     toks: &[Token],
@@ -87,7 +87,7 @@ fn unit<R: GkatReading>(
 
 // A unit, or a loop over one.
 #[cycle(exprs)]
-#[tactic(auto, using(kat_syntax::proofs::Tokens::next_drop))]
+#[tactic(auto, using(text_grammar::proofs::Tokens::next_drop))]
 fn factor<R: GkatReading>(
     reading: &R,
     toks: &[Token],
@@ -107,7 +107,7 @@ fn factor<R: GkatReading>(
 
 // Factors with dots between.
 #[cycle(exprs)]
-#[tactic(auto, using(crate::proofs::GkatSteps::gkat_step, kat_syntax::proofs::Tokens::next_drop))]
+#[tactic(auto, using(crate::proofs::GkatSteps::gkat_step, text_grammar::proofs::Tokens::next_drop))]
 fn product<R: GkatReading>(
     reading: &R,
     toks: &[Token],
@@ -133,7 +133,7 @@ fn product<R: GkatReading>(
 // `usize::MAX` after the last token), `TooDeep` at the token with which more than 200 constructs are open, or that with which
 // the reading refuses a part.
 #[cycle(exprs)]
-#[tactic(auto, using(crate::proofs::GkatSteps::gkat_step, kat_syntax::proofs::Tokens::next_drop))]
+#[tactic(auto, using(crate::proofs::GkatSteps::gkat_step, text_grammar::proofs::Tokens::next_drop))]
 pub(crate) fn read_expr<R: GkatReading>(
     reading: &R,
     toks: &[Token],

@@ -6,8 +6,8 @@ use Rattle.kat_model.specs.Problems.{ProblemParts}
 use Rattle.kat_model.specs.Steps.{Atom}
 use Rattle.kat_model.specs.Trees.{act}
 use Rattle.while_lang.specs.Flows.{act as act_stmt}
-use Rattle.step_diagrams.specs.StepFunctions.{StepDiagramsParts, step_value, IsStepDiagram, KeepsSteps, IsImage}
-use Rattle.step_diagrams.proofs.StepSets.{KeepsSteps-trans, IsStepDiagram-kept}
+use Rattle.outline_diagrams.specs.StepFunctions.{StepDiagramsParts, step_value, IsStepDiagram, KeepsSteps, IsImage}
+use Rattle.outline_diagrams.proofs.StepSets.{KeepsSteps-trans, IsStepDiagram-kept}
 use Rattle.simple_hyps.specs.TestTerms.{AreSimple, IsRuledOut}
 use Rattle.simple_hyps.specs.HypothesisForms.{allows, some_rules_out}
 use Rattle.simple_hyps.proofs.SimpleForms.{allows_told, allowed_allows, ruled_out_told, told_ruled_out}

@@ -1,8 +1,8 @@
 -- The state of the finder as diagrams are added.
 use Rattle.std.proofs.Common.{◌≡◌, sym, ◌∙◌, subst}
 use Rattle.kat_model.specs.Problems.{ProblemParts}
-use Rattle.step_diagrams.specs.StepFunctions.{AreStepDiagrams, KeepsSteps}
-use Rattle.step_diagrams.proofs.StepSets.{KeepsSteps-itself}
+use Rattle.outline_diagrams.specs.StepFunctions.{AreStepDiagrams, KeepsSteps}
+use Rattle.outline_diagrams.proofs.StepSets.{KeepsSteps-itself}
 use Rattle.simple_hyps.specs.HypothesisForms.{allows}
 use Rattle.hoare_outlines.specs.declared.finding.Finder.{Finder}
 use Rattle.hoare_outlines.specs.Working.AtomSets.{IsSetId}

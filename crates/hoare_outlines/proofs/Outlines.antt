@@ -12,8 +12,8 @@ use Rattle.kat_model.proofs.ProductRelations.{product_of_relations}
 use Rattle.abstraction.proofs.PathTables.{same_in_frame}
 use Rattle.goal_forms.specs.Sides.{SideTrees, failing_run}
 use Rattle.while_lang.specs.Encoding.{stmt_terms, encoded}
-use Rattle.step_diagrams.specs.StepFunctions.{StepDiagramsParts, step_value, IsStepId, IsStepDiagram, KeepsSteps, Entails}
-use Rattle.step_diagrams.proofs.StepSets.{step_value-kept}
+use Rattle.outline_diagrams.specs.StepFunctions.{StepDiagramsParts, step_value, IsStepId, IsStepDiagram, KeepsSteps, Entails}
+use Rattle.outline_diagrams.proofs.StepSets.{step_value-kept}
 use Rattle.outline_notes.specs.NoteLists.{NotesParts, note_holds}
 use Rattle.simple_hyps.specs.TestTerms.{AreSimple}
 use Rattle.simple_hyps.specs.HypothesisForms.{allows}

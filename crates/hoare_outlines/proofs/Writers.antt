@@ -1,7 +1,7 @@
 -- The nodes of a writer as diagrams and nodes are added.
 use Rattle.std.proofs.Common.{◌≡◌, ℕ, ◌<◌, ⊎_elim, List, length, sym, subst, arith}
 use Rattle.kat_model.specs.Members.{HasNoDoubles}
-use Rattle.step_diagrams.specs.StepFunctions.{StepDiagramsParts, KeepsSteps}
+use Rattle.outline_diagrams.specs.StepFunctions.{StepDiagramsParts, KeepsSteps}
 use Rattle.outline_notes.specs.declared.notes.NoteNode.{NoteNode}
 use Rattle.outline_notes.specs.declared.notes.NoteNode.TheVariants.{False, True, Branch}
 use Rattle.hoare_outlines.specs.declared.noting.NodeWriter.{NodeWriter}

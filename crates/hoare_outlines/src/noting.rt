@@ -1,14 +1,14 @@
 //! Sets of atoms as notes.
 ghost use Rattle.std.specs.Prelude.{◌≡◌, ◌≤◌, [], IfOk, IfSome, OnOk, Some, slice_get};
 ghost use Rattle.kat_model.specs.Members.{HasNoDoubles};
-ghost use Rattle.step_diagrams.specs.StepFunctions.{StepDiagramsParts, IsStepId, KeepsSteps, AreStepDiagrams};
+ghost use Rattle.outline_diagrams.specs.StepFunctions.{StepDiagramsParts, IsStepId, KeepsSteps, AreStepDiagrams};
 ghost use Rattle.hoare_outlines.specs.Working.Noted.{IsSetFrom, IsNodeFor, AreNoteNodes, AreKnown, IsNodeWriter, AddsNode, AddsNodes, AreSets, AreNodesFor, NotesSets};
 
 use indexmap::{IndexMap, IndexSet};
 use kat_model::NoMemory;
+use outline_diagrams::{DiagramId, Moment, StepDiagrams};
 use outline_notes::{NoteNode, Notes};
 use std::alloc::Global;
-use step_diagrams::{DiagramId, Moment, StepDiagrams};
 
 // The nodes so far, and which node a diagram has.
 #[derive(Drop)]

@@ -3,8 +3,8 @@ use Rattle.std.specs.Prelude.{ℕ, List, [], ◌∷◌, ◌++◌, codes}
 use Rattle.std.specs.Fmt.{decimal}
 use Rattle.kat_model.specs.Steps.{Atom}
 use Rattle.certificate.specs.Texts.{bits}
-use Rattle.axiom_chains.specs.declared.answer.ChainReason.{ChainReason}
-use Rattle.axiom_chains.specs.declared.answer.ChainReason.TheVariants.{Start, End, Step}
+use Rattle.chain_rules.specs.declared.answer.ChainReason.{ChainReason}
+use Rattle.chain_rules.specs.declared.answer.ChainReason.TheVariants.{Start, End, Step}
 use Rattle.cert_checker.specs.declared.answer.Reason.{Reason}
 use Rattle.cert_checker.specs.declared.answer.Reason.TheVariants.{FirstPair, Output, Missing, MissingTo, Shape, HypBroken, EndsAgree, TestNode, TermNode}
 

@@ -3,7 +3,7 @@ ghost use Rattle.std.specs.Prelude.{◌≡◌, ◌++◌, IfOk, OnOk};
 ghost use Rattle.kat_report.specs.Reasons.{chain_reason_text, chain_reason_line};
 
 use crate::writing::{put_numbered, put_word};
-use axiom_chains::ChainReason;
+use chain_rules::ChainReason;
 use kat_model::NoMemory;
 use std::alloc::Global;
 

@@ -4,8 +4,8 @@ ghost use Rattle.kat_report.specs.Refusals.{fault_word, fault_place, text_fault_
 
 use crate::writing::{put_numbered, put_word};
 use kat_model::NoMemory;
-use kat_tokens::TextFault;
 use std::alloc::Global;
+use text_tokens::TextFault;
 
 fn word(fault: &TextFault) -> &'static str
     ensures { result.now ≡ fault_word fault.now }

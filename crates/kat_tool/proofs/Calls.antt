@@ -7,46 +7,46 @@ use Rattle.kat_io.specs.Outside.{Rose, AppendsFront}
 use Rattle.kat_model.specs.Members.{Has}
 use Rattle.kat_model.specs.Problems.{ProblemParts}
 use Rattle.bisim_worklist.proofs.AnswerCerts.{answer_accepted}
-use Rattle.tool_words.specs.Commands.{Command, decide, report, show, gkat, batch, check, replay, outline, check_notes, chain, run, oneloop, bench, optimise, command_of, files_of}
-use Rattle.tool_steps.specs.Asking.{Asks}
-use Rattle.tool_steps.specs.Posing.{Poses}
-use Rattle.tool_steps.specs.Steps.{ShelfUse, HasFailedOn, GetsFile, AsksText}
-use Rattle.decide_replies.specs.Decide.{IsDecided, DecidesText, Decides, DecideCauses}
-use Rattle.decide_replies.specs.Report.{IsReported, ReportsText, Reports}
-use Rattle.check_replies.specs.Show.{ShowsText, Shows}
-use Rattle.program_replies.specs.Gkat.{TranslatesText, Translates}
-use Rattle.decide_replies.specs.Batch.{AnswersText, Batches}
-use Rattle.check_replies.specs.Check.{ChecksBytes, Checks, CheckStatus}
-use Rattle.check_replies.specs.Replay.{ReplaysBytes, Replays}
-use Rattle.outline_replies.specs.Triples.{AsksTask, PosesTask}
-use Rattle.outline_replies.specs.Outline.{OutlinesText, Outlines, OutlineCauses}
-use Rattle.outline_replies.specs.OutlineCheck.{ChecksNotes, GetsNotes, ChecksNoteFiles}
-use Rattle.check_replies.specs.Chain.{GetsProof, Proves}
-use Rattle.program_replies.specs.Running.{RunsText}
-use Rattle.program_replies.specs.OneLoop.{FormsText}
-use Rattle.decide_replies.specs.Bench.{Tallies}
-use Rattle.program_replies.specs.Optimise.{OptimisesText}
+use Rattle.tool_commands.specs.Commands.{Command, decide, report, show, gkat, batch, check, replay, outline, check_notes, chain, run, oneloop, bench, optimise, command_of, files_of}
+use Rattle.tool_inputs.specs.Asking.{Asks}
+use Rattle.tool_inputs.specs.Posing.{Poses}
+use Rattle.tool_inputs.specs.Steps.{ShelfUse, HasFailedOn, GetsFile, AsksText}
+use Rattle.tool_decide.specs.Decide.{IsDecided, DecidesText, Decides, DecideCauses}
+use Rattle.tool_decide.specs.Report.{IsReported, ReportsText, Reports}
+use Rattle.tool_check.specs.Show.{ShowsText, Shows}
+use Rattle.tool_programs.specs.Gkat.{TranslatesText, Translates}
+use Rattle.tool_decide.specs.Batch.{AnswersText, Batches}
+use Rattle.tool_check.specs.Check.{ChecksBytes, Checks, CheckStatus}
+use Rattle.tool_check.specs.Replay.{ReplaysBytes, Replays}
+use Rattle.tool_outline.specs.Triples.{AsksTask, PosesTask}
+use Rattle.tool_outline.specs.Outline.{OutlinesText, Outlines, OutlineCauses}
+use Rattle.tool_outline.specs.OutlineCheck.{ChecksNotes, GetsNotes, ChecksNoteFiles}
+use Rattle.tool_check.specs.Chain.{GetsProof, Proves}
+use Rattle.tool_programs.specs.Running.{RunsText}
+use Rattle.tool_programs.specs.OneLoop.{FormsText}
+use Rattle.tool_decide.specs.Bench.{Tallies}
+use Rattle.tool_programs.specs.Optimise.{OptimisesText}
 use Rattle.kat_tool.specs.Replies.{RepliesTo, HasNoCommand, Replies}
 use Rattle.kat_tool.specs.Agreement.{IsAgreed, AreAccepting}
 use Rattle.kat_tool.specs.Run.{HasFailed, IsUnfit, IsReply, Call, IsRun}
 use Rattle.kat_tool.specs.Laws.{CausesExclude}
-use Rattle.tool_steps.proofs.Contents.{held_same}
-use Rattle.tool_steps.proofs.Steps.{OneStatus, gets_once, text_once}
-use Rattle.decide_replies.proofs.DecideReplies.{decided_once, decide_causes}
-use Rattle.decide_replies.proofs.ReportReplies.{reported_once, report_causes}
-use Rattle.decide_replies.proofs.BatchReplies.{batches_once, batch_causes}
-use Rattle.check_replies.proofs.CheckReplies.{bytes_once, check_causes}
-use Rattle.check_replies.proofs.ReplayReplies.{bytes_once as replayed_once, replay_causes}
-use Rattle.outline_replies.proofs.Triples.{asks_once}
-use Rattle.outline_replies.proofs.OutlineReplies.{outlines_once, outline_causes}
-use Rattle.outline_replies.proofs.NotesReplies.{notes_once, notes_causes}
-use Rattle.check_replies.proofs.ChainReplies.{bytes_once as proved_once, chain_causes}
-use Rattle.check_replies.proofs.ShowReplies.{shows_once, show_causes}
-use Rattle.program_replies.proofs.GkatReplies.{translates_once, gkat_causes}
-use Rattle.program_replies.proofs.RunReplies.{runs_once, run_causes}
-use Rattle.program_replies.proofs.OneLoopReplies.{forms_once, one_loop_causes}
-use Rattle.decide_replies.proofs.BenchReplies.{tallies_once, bench_causes}
-use Rattle.program_replies.proofs.OptimiseReplies.{optimises_once, optimise_causes}
+use Rattle.tool_inputs.proofs.Contents.{held_same}
+use Rattle.tool_inputs.proofs.Steps.{OneStatus, gets_once, text_once}
+use Rattle.tool_decide.proofs.DecideReplies.{decided_once, decide_causes}
+use Rattle.tool_decide.proofs.ReportReplies.{reported_once, report_causes}
+use Rattle.tool_decide.proofs.BatchReplies.{batches_once, batch_causes}
+use Rattle.tool_check.proofs.CheckReplies.{bytes_once, check_causes}
+use Rattle.tool_check.proofs.ReplayReplies.{bytes_once as replayed_once, replay_causes}
+use Rattle.tool_outline.proofs.Triples.{asks_once}
+use Rattle.tool_outline.proofs.OutlineReplies.{outlines_once, outline_causes}
+use Rattle.tool_outline.proofs.NotesReplies.{notes_once, notes_causes}
+use Rattle.tool_check.proofs.ChainReplies.{bytes_once as proved_once, chain_causes}
+use Rattle.tool_check.proofs.ShowReplies.{shows_once, show_causes}
+use Rattle.tool_programs.proofs.GkatReplies.{translates_once, gkat_causes}
+use Rattle.tool_programs.proofs.RunReplies.{runs_once, run_causes}
+use Rattle.tool_programs.proofs.OneLoopReplies.{forms_once, one_loop_causes}
+use Rattle.tool_decide.proofs.BenchReplies.{tallies_once, bench_causes}
+use Rattle.tool_programs.proofs.OptimiseReplies.{optimises_once, optimise_causes}
 
 -- replies to commands, by their statuses
 module _ (s : ShelfUse) (status : ℕ) (output : List ℕ) where

@@ -2,8 +2,8 @@
 use Rattle.std.specs.Prelude.{◌≡◌, ℕ, List, Some}
 use Rattle.kat_io.specs.Told.{Told, Holds}
 use Rattle.kat_io.specs.Outside.{Rose}
-use Rattle.tool_words.specs.Commands.{Command, check, check_notes, command_of}
-use Rattle.tool_steps.specs.Steps.{ShelfUse}
+use Rattle.tool_commands.specs.Commands.{Command, check, check_notes, command_of}
+use Rattle.tool_inputs.specs.Steps.{ShelfUse}
 use Rattle.kat_tool.specs.Replies.{Replies}
 
 -- whatever this command replies to these bytes against the same text, where the shelf does not fail, has this status

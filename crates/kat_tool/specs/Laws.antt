@@ -5,8 +5,8 @@ use Rattle.kat_io.specs.Told.{Untold}
 use Rattle.kat_io.specs.Outside.{Rose}
 use Rattle.problem_file.specs.Files.{FileParts}
 use Rattle.problem_file.specs.Concrete.{IsStoreOf}
-use Rattle.tool_steps.specs.Steps.{ShelfUse}
-use Rattle.tool_words.specs.StoreWords.{store_of}
+use Rattle.tool_inputs.specs.Steps.{ShelfUse}
+use Rattle.tool_commands.specs.StoreWords.{store_of}
 use Rattle.kat_tool.specs.Replies.{Replies}
 
 -- where the shelf did not fail and tells what each file holds, no two statuses have a cause

@@ -1,21 +1,21 @@
 -- What the top call replies to words.
 use Rattle.std.specs.Prelude.{◌≡◌, ◌⊎◌, ℕ, List, None, Some, codes}
-use Rattle.tool_words.specs.Commands.{Command, decide, report, show, gkat, batch, check, replay, outline, check_notes, chain, run, oneloop, bench, optimise, command_of}
-use Rattle.tool_steps.specs.Steps.{ShelfUse, Replying}
-use Rattle.decide_replies.specs.Decide.{Decides}
-use Rattle.decide_replies.specs.Report.{Reports}
-use Rattle.check_replies.specs.Show.{Shows}
-use Rattle.program_replies.specs.Gkat.{Translates}
-use Rattle.decide_replies.specs.Batch.{Batches}
-use Rattle.check_replies.specs.Check.{Checks}
-use Rattle.check_replies.specs.Replay.{Replays}
-use Rattle.outline_replies.specs.Outline.{Outlines}
-use Rattle.outline_replies.specs.OutlineCheck.{ChecksNoteFiles}
-use Rattle.check_replies.specs.Chain.{Proves}
-use Rattle.program_replies.specs.Running.{Runs}
-use Rattle.program_replies.specs.OneLoop.{Forms}
-use Rattle.decide_replies.specs.Bench.{Tallies}
-use Rattle.program_replies.specs.Optimise.{Optimises}
+use Rattle.tool_commands.specs.Commands.{Command, decide, report, show, gkat, batch, check, replay, outline, check_notes, chain, run, oneloop, bench, optimise, command_of}
+use Rattle.tool_inputs.specs.Steps.{ShelfUse, Replying}
+use Rattle.tool_decide.specs.Decide.{Decides}
+use Rattle.tool_decide.specs.Report.{Reports}
+use Rattle.tool_check.specs.Show.{Shows}
+use Rattle.tool_programs.specs.Gkat.{Translates}
+use Rattle.tool_decide.specs.Batch.{Batches}
+use Rattle.tool_check.specs.Check.{Checks}
+use Rattle.tool_check.specs.Replay.{Replays}
+use Rattle.tool_outline.specs.Outline.{Outlines}
+use Rattle.tool_outline.specs.OutlineCheck.{ChecksNoteFiles}
+use Rattle.tool_check.specs.Chain.{Proves}
+use Rattle.tool_programs.specs.Running.{Runs}
+use Rattle.tool_programs.specs.OneLoop.{Forms}
+use Rattle.tool_decide.specs.Bench.{Tallies}
+use Rattle.tool_programs.specs.Optimise.{Optimises}
 
 -- the reply to a command
 abbrev pub RepliesTo : ShelfUse → Command → Replying

@@ -3,22 +3,22 @@ use Rattle.std.specs.Prelude.{◌≡◌, ◌≢◌, ◌⊎◌, ℕ, List, Option
 use Rattle.std.specs.Io.KnownBytes.{Appends, Keeps}
 use Rattle.kat_io.specs.Outside.{Rose, AppendsFront}
 use Rattle.kat_model.specs.Members.{Has}
-use Rattle.tool_words.specs.Commands.{Command, decide, report, show, gkat, batch, check, replay, outline, check_notes, chain, run, oneloop, bench, optimise, command_of, files_of}
-use Rattle.tool_steps.specs.Steps.{ShelfUse, HasFailedOn}
-use Rattle.decide_replies.specs.Decide.{DecideCauses}
-use Rattle.decide_replies.specs.Report.{ReportCauses}
-use Rattle.check_replies.specs.Show.{ShowCauses}
-use Rattle.program_replies.specs.Gkat.{GkatCauses}
-use Rattle.decide_replies.specs.Batch.{BatchCauses}
-use Rattle.check_replies.specs.Check.{CheckCauses}
-use Rattle.check_replies.specs.Replay.{ReplayCauses}
-use Rattle.outline_replies.specs.Outline.{OutlineCauses}
-use Rattle.outline_replies.specs.OutlineCheck.{NotesCauses}
-use Rattle.check_replies.specs.Chain.{ChainCauses}
-use Rattle.program_replies.specs.Running.{MayMisfit, RunCauses}
-use Rattle.program_replies.specs.OneLoop.{MayLackProgram, OneLoopCauses}
-use Rattle.decide_replies.specs.Bench.{BenchCauses}
-use Rattle.program_replies.specs.Optimise.{MayLackAnyProgram, OptimiseCauses}
+use Rattle.tool_commands.specs.Commands.{Command, decide, report, show, gkat, batch, check, replay, outline, check_notes, chain, run, oneloop, bench, optimise, command_of, files_of}
+use Rattle.tool_inputs.specs.Steps.{ShelfUse, HasFailedOn}
+use Rattle.tool_decide.specs.Decide.{DecideCauses}
+use Rattle.tool_decide.specs.Report.{ReportCauses}
+use Rattle.tool_check.specs.Show.{ShowCauses}
+use Rattle.tool_programs.specs.Gkat.{GkatCauses}
+use Rattle.tool_decide.specs.Batch.{BatchCauses}
+use Rattle.tool_check.specs.Check.{CheckCauses}
+use Rattle.tool_check.specs.Replay.{ReplayCauses}
+use Rattle.tool_outline.specs.Outline.{OutlineCauses}
+use Rattle.tool_outline.specs.OutlineCheck.{NotesCauses}
+use Rattle.tool_check.specs.Chain.{ChainCauses}
+use Rattle.tool_programs.specs.Running.{MayMisfit, RunCauses}
+use Rattle.tool_programs.specs.OneLoop.{MayLackProgram, OneLoopCauses}
+use Rattle.tool_decide.specs.Bench.{BenchCauses}
+use Rattle.tool_programs.specs.Optimise.{MayLackAnyProgram, OptimiseCauses}
 use Rattle.kat_tool.specs.Replies.{Replies}
 use Rattle.kat_tool.specs.Agreement.{IsAgreed, AreAccepting}
 

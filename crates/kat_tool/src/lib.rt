@@ -4,11 +4,11 @@
 mod laws;
 mod top;
 
-pub use check_replies::{checked_texts, proved_texts, replayed_texts, show_reply};
-pub use decide_replies::{batch_reply, decided_text, reported_text};
 pub use laws::{causes_exclude, words_give_stores};
-pub use outline_replies::{notes_reply, outline_reply};
-pub use program_replies::{one_loop_reply, optimised_reply, run_reply, translated_text};
-pub use tool_steps::Reply;
-pub use tool_words::Words;
+pub use tool_check::{checked_texts, proved_texts, replayed_texts, show_reply};
+pub use tool_commands::Words;
+pub use tool_decide::{batch_reply, decided_text, reported_text};
+pub use tool_inputs::Reply;
+pub use tool_outline::{notes_reply, outline_reply};
+pub use tool_programs::{one_loop_reply, optimised_reply, run_reply, translated_text};
 pub use top::run;

@@ -1,20 +1,20 @@
 //! The top call.
 ghost use Rattle.std.specs.Prelude.{◌≡◌, ℕ, List, IfOk};
-ghost use Rattle.tool_words.specs.Commands.{command_seen};
-ghost use Rattle.tool_steps.specs.Steps.{shelf_use};
-ghost use Rattle.tool_steps.specs.Outcomes.{IsReplied, Counts};
+ghost use Rattle.tool_commands.specs.Commands.{command_seen};
+ghost use Rattle.tool_inputs.specs.Steps.{shelf_use};
+ghost use Rattle.tool_inputs.specs.Outcomes.{IsReplied, Counts};
 ghost use Rattle.kat_tool.specs.Replies.{RepliesTo, Replies};
 ghost use Rattle.kat_tool.specs.Run.{IsRun, sink_use};
 
-use check_replies::{chain_files, check_files, replay_files, show_file};
-use decide_replies::{batch_file, decide_file, report_file, tally_reply};
 use kat_io::{Shelf, Sink, send};
 use kat_model::NoMemory;
-use outline_replies::{notes_files, outline_file};
-use program_replies::{gkat_file, one_loop_file, optimise_file, run_file};
 use std::alloc::Global;
-use tool_steps::{Reply, Stop, line};
-use tool_words::{Command, Words};
+use tool_check::{chain_files, check_files, replay_files, show_file};
+use tool_commands::{Command, Words};
+use tool_decide::{batch_file, decide_file, report_file, tally_reply};
+use tool_inputs::{Reply, Stop, line};
+use tool_outline::{notes_files, outline_file};
+use tool_programs::{gkat_file, one_loop_file, optimise_file, run_file};
 
 fn command_reply<S: Shelf>(
     alloc: Global,

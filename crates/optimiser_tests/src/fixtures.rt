@@ -1,10 +1,10 @@
 //! What the optimiser makes of a program of a text, as text.
 ghost use Rattle.problem_file.specs.Ranges.{IsNumbered};
 
-use kat_tokens::TextFault;
 use optimiser_steps::{Ended, LogLine, Optimised, optimise};
 use problem_file::{File, read};
 use std::alloc::{AllocError, Global};
+use text_tokens::TextFault;
 use while_lang::print_prog;
 
 fn push_path(alloc: Global, out: &mut String, path: &[usize]) -> Result<(), AllocError> {

@@ -6,9 +6,9 @@ use Rattle.std.proofs.lemmas.Grind.{flat_map-append}
 use Rattle.kat_model.specs.Members.{Has, HasNoDoubles}
 use Rattle.kat_model.proofs.Lists.{has_left, has_right, map_has}
 use Rattle.kat_model.proofs.Places.{slice_get-append_seam}
-use Rattle.line_texts.specs.Lines.{line_of, text_of_lines, parts_of}
-use Rattle.line_texts.proofs.TextParts.{LackFeeds, parts_after}
-use Rattle.line_texts.proofs.Words.{none_wide}
+use Rattle.line_format.specs.Lines.{line_of, text_of_lines, parts_of}
+use Rattle.line_format.proofs.TextParts.{LackFeeds, parts_after}
+use Rattle.line_format.proofs.Words.{none_wide}
 use Rattle.outline_notes.specs.declared.notes.NoteNode.{NoteNode}
 use Rattle.outline_notes.specs.declared.line.NoteLine.{NoteLine}
 use Rattle.outline_notes.specs.declared.line.NoteLine.TheVariants.{Node, Note}

@@ -2,8 +2,8 @@
 use Rattle.std.proofs.Common.{◌≡◌, ◌≢◌, ℕ, ◌+◌, List, [], ◌∷◌, ◌++◌, Bool, true, false, None, Err, codes, refl, sym, ap, ◌∙◌, ◌==◌, arith}
 use Rattle.std.specs.Str.{bytes_eq}
 use Rattle.std.specs.Result.{result_err}
-use Rattle.line_texts.specs.Lines.{text_of_lines, parts_of}
-use Rattle.line_texts.proofs.Splits.{split_lacking, split_at, split_some}
+use Rattle.line_format.specs.Lines.{text_of_lines, parts_of}
+use Rattle.line_format.proofs.Splits.{split_lacking, split_at, split_some}
 use Rattle.outline_notes.specs.declared.fault.NotesFault.TheVariants.{Truncated, Trailing}
 use Rattle.outline_notes.specs.NoteLists.{NotesParts}
 use Rattle.outline_notes.specs.Texts.{lines_before_end, AreNarrowNotes}

@@ -3,8 +3,8 @@ use Rattle.std.proofs.Common.{◌≡◌, ℕ, ◌+◌, ◌<◌, List, [], ◌∷
 use Rattle.std.specs.List.{onto_first}
 use Rattle.std.specs.Str.{bytes_eq}
 use Rattle.std.proofs.lemmas.List.Splits.{slice_split-cons_yes, slice_split-cons_no}
-use Rattle.line_texts.specs.Lines.{parts_of}
-use Rattle.line_texts.proofs.Splits.{split_some}
+use Rattle.line_format.specs.Lines.{parts_of}
+use Rattle.line_format.proofs.Splits.{split_some}
 use Rattle.outline_notes.specs.declared.line.NoteLine.{NoteLine}
 use Rattle.outline_notes.specs.declared.fault.NotesFault.{NotesFault}
 use Rattle.outline_notes.specs.declared.fault.NotesFault.TheVariants.{NoMemory, Header, Line, NodeOrder, DoubleNode, NumberTooWide, Truncated, Trailing}

@@ -4,9 +4,9 @@ use Rattle.std.specs.List.{list_all, list_any}
 use Rattle.std.specs.Option.{option_map, option_and_then}
 use Rattle.std.specs.Str.{bytes_eq}
 use Rattle.std.proofs.lemmas.Slice.Eq.{bytes_eq-Decides}
-use Rattle.line_texts.specs.Numerals.{is_numeral, value_of, numbers_of, too_wide}
-use Rattle.line_texts.specs.Readings.{HasNumbers}
-use Rattle.line_texts.specs.declared.numerals.Numbers.{Numbers}
+use Rattle.line_format.specs.Numerals.{is_numeral, value_of, numbers_of, too_wide}
+use Rattle.line_format.specs.Readings.{HasNumbers}
+use Rattle.line_format.specs.declared.numerals.Numbers.{Numbers}
 use Rattle.outline_notes.specs.declared.notes.NoteNode.{NoteNode}
 use Rattle.outline_notes.specs.declared.notes.NoteNode.TheVariants.{False, True, Branch}
 use Rattle.outline_notes.specs.declared.line.NoteLine.{NoteLine}

@@ -6,9 +6,9 @@ use Rattle.std.specs.Str.{bytes_eq}
 use Rattle.std.proofs.lemmas.List.{map-append}
 use Rattle.kat_model.specs.Members.{Has}
 use Rattle.kat_model.proofs.Lists.{has_append}
-use Rattle.line_texts.specs.Lines.{parts_of}
-use Rattle.line_texts.proofs.TextParts.{with_last, text_back}
-use Rattle.line_texts.proofs.Words.{are_narrow}
+use Rattle.line_format.specs.Lines.{parts_of}
+use Rattle.line_format.proofs.TextParts.{with_last, text_back}
+use Rattle.line_format.proofs.Words.{are_narrow}
 use Rattle.outline_notes.specs.declared.notes.NoteNode.{NoteNode}
 use Rattle.outline_notes.specs.declared.line.NoteLine.{NoteLine}
 use Rattle.outline_notes.specs.declared.line.NoteLine.TheVariants.{Node, Note}

@@ -4,10 +4,10 @@ use mathlib.Core.Path.{ap₂}
 use Rattle.std.specs.Option.{option_map, option_and_then}
 use Rattle.std.specs.Fmt.{decimal}
 use Rattle.std.specs.Str.{bytes_eq}
-use Rattle.line_texts.specs.Lines.{words_of, line_of}
-use Rattle.line_texts.specs.Numerals.{numbers_of}
-use Rattle.line_texts.proofs.Splits.{LacksByte}
-use Rattle.line_texts.proofs.Words.{AreNarrow, numbers_back, numbers_told, IsWord, AreWords, decimals_words, words_back, line_back, line_lacks}
+use Rattle.line_format.specs.Lines.{words_of, line_of}
+use Rattle.line_format.specs.Numerals.{numbers_of}
+use Rattle.line_format.proofs.Splits.{LacksByte}
+use Rattle.line_format.proofs.Words.{AreNarrow, numbers_back, numbers_told, IsWord, AreWords, decimals_words, words_back, line_back, line_lacks}
 use Rattle.outline_notes.specs.declared.notes.NoteNode.{NoteNode}
 use Rattle.outline_notes.specs.declared.notes.NoteNode.TheVariants.{False, True, Branch}
 use Rattle.outline_notes.specs.declared.line.NoteLine.{NoteLine}

@@ -1,8 +1,8 @@
 -- What the writer has written is the text of the notes.
 use Rattle.std.proofs.Common.{◌≡◌, ℕ, List, [], ◌∷◌, ◌++◌, map, sym, ap, ◌∙◌, append_assoc, codes}
 use Rattle.std.proofs.lemmas.Grind.{flat_map-append}
-use Rattle.line_texts.specs.Lines.{with_feed, text_of_lines}
-use Rattle.line_texts.proofs.LineForms.{flat_map-map}
+use Rattle.line_format.specs.Lines.{with_feed, text_of_lines}
+use Rattle.line_format.proofs.LineForms.{flat_map-map}
 use Rattle.outline_notes.specs.declared.notes.NoteNode.{NoteNode}
 use Rattle.outline_notes.specs.declared.line.NoteLine.{NoteLine}
 use Rattle.outline_notes.specs.declared.line.NoteLine.TheVariants.{Node, Note}

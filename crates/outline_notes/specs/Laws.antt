@@ -1,7 +1,7 @@
 -- The laws of the text of notes. Each stands on a function of the crate that does nothing.
 use Rattle.std.specs.Prelude.{◌≡◌, ◌≢◌, ◌↔◌, ◌⊎◌, ◌+◌, ℕ, false, ◌==◌, List, ◌∷◌, ◌++◌, length, codes, Some}
 use Rattle.std.specs.List.{list_any}
-use Rattle.line_texts.specs.Lines.{line_of, text_of_lines}
+use Rattle.line_format.specs.Lines.{line_of, text_of_lines}
 use Rattle.outline_notes.specs.declared.line.NoteLine.{NoteLine}
 use Rattle.outline_notes.specs.declared.fault.NotesFault.{NotesFault}
 use Rattle.outline_notes.specs.declared.fault.NotesFault.TheVariants.{Header, Truncated, Trailing}

@@ -2,7 +2,7 @@
 use Rattle.std.specs.Prelude.{ℕ, ◌^◌, ◌<◌, List, [], ◌∷◌, ◌++◌, map, codes}
 use Rattle.std.specs.Fmt.{decimal}
 use Rattle.kat_model.specs.Members.{Has}
-use Rattle.line_texts.specs.Lines.{line_of, text_of_lines}
+use Rattle.line_format.specs.Lines.{line_of, text_of_lines}
 use Rattle.outline_notes.specs.declared.notes.NoteNode.{NoteNode}
 use Rattle.outline_notes.specs.declared.notes.NoteNode.TheVariants.{False, True, Branch}
 use Rattle.outline_notes.specs.declared.line.NoteLine.{NoteLine}

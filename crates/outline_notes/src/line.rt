@@ -1,7 +1,7 @@
 //! The lines of notes: nodes, and then notes.
 ghost use Rattle.std.specs.Prelude.{◌≡◌};
-ghost use Rattle.line_texts.specs.Readings.{texts};
-ghost use Rattle.line_texts.specs.Numerals.{numbers_of};
+ghost use Rattle.line_format.specs.Readings.{texts};
+ghost use Rattle.line_format.specs.Numerals.{numbers_of};
 ghost use Rattle.std.specs.Option.{option_map, option_and_then};
 ghost use Rattle.outline_notes.specs.Forms.{node_of, note_of, line_of_words, read_line};
 ghost use Rattle.outline_notes.specs.Faults.{section_of};
@@ -11,7 +11,7 @@ ghost use Rattle.outline_notes.specs.declared.line.LineFault.TheVariants.{NoMemo
 
 use crate::notes::NoteNode;
 use kat_model::NoMemory;
-use line_texts::{read_numbers, words_of};
+use line_format::{read_numbers, words_of};
 use std::alloc::Global;
 
 // What a line of notes says.

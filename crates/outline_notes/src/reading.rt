@@ -1,6 +1,6 @@
 //! Reading notes.
 ghost use Rattle.std.specs.Prelude.{◌≡◌, ◌+◌, ◌<◌, ◌^◌, length, IfOk, IfErr};
-ghost use Rattle.line_texts.specs.Lines.{parts_of};
+ghost use Rattle.line_format.specs.Lines.{parts_of};
 ghost use Rattle.outline_notes.specs.NoteLists.{NotesParts};
 ghost use Rattle.outline_notes.specs.Texts.{text_of, AreNarrowNotes};
 ghost use Rattle.outline_notes.specs.Faults.{ended, notes_from, no_lines, answer_of};
@@ -10,7 +10,7 @@ ghost use Rattle.outline_notes.specs.Working.Readings.{Answers};
 use crate::draft::Draft;
 use crate::fault::NotesFault;
 use crate::notes::Notes;
-use line_texts::first_line;
+use line_format::first_line;
 use std::alloc::Global;
 
 // What the line `end` gives, where line `number` would begin after it.

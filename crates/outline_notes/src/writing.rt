@@ -1,13 +1,13 @@
 //! Writing notes.
 ghost use Rattle.std.specs.Prelude.{◌≡◌, ◌++◌, map, IfOk, OnOk};
-ghost use Rattle.line_texts.specs.Lines.{line_of, with_feed};
+ghost use Rattle.line_format.specs.Lines.{line_of, with_feed};
 ghost use Rattle.outline_notes.specs.Texts.{line_words, text_of};
 ghost use Rattle.outline_notes.specs.Working.Writings.{lines_text};
 ghost use Rattle.outline_notes.specs.declared.line.NoteLine.TheVariants.{Node, Note};
 
 use crate::notes::{NoteNode, Notes};
 use kat_model::NoMemory;
-use line_texts::{put_form, put_line};
+use line_format::{put_form, put_line};
 use std::alloc::Global;
 
 fn put_node(alloc: Global, out: &mut Vec<u8>, node: NoteNode) -> Result<(), NoMemory>

@@ -8,10 +8,10 @@ use Rattle.std.proofs.lemmas.Option.{slice_get-get_or, slice_get-map, get_or_fro
 use Rattle.kat_model.proofs.Places.{has_at}
 use Rattle.kat_model.specs.CourseOfValues.{continued, course_of_values}
 use Rattle.kat_model.specs.Steps.{Atom}
-use Rattle.step_diagrams.specs.declared.moments.Moment.{Moment}
-use Rattle.step_diagrams.specs.Interleaved.{atom_at_moment}
-use Rattle.step_diagrams.specs.StepFunctions.{StepDiagramsParts, step_value, IsStepId, IsStepDiagram, KeepsSteps}
-use Rattle.step_diagrams.proofs.StepSets.{IsStepId-kept, step_value-kept, IsStepDiagram-kept}
+use Rattle.outline_diagrams.specs.declared.moments.Moment.{Moment}
+use Rattle.outline_diagrams.specs.Interleaved.{atom_at_moment}
+use Rattle.outline_diagrams.specs.StepFunctions.{StepDiagramsParts, step_value, IsStepId, IsStepDiagram, KeepsSteps}
+use Rattle.outline_diagrams.proofs.StepSets.{IsStepId-kept, step_value-kept, IsStepDiagram-kept}
 use Rattle.outline_notes.specs.declared.notes.NoteNode.{NoteNode}
 use Rattle.outline_notes.specs.declared.notes.NoteNode.TheVariants.{False, True, Branch}
 use Rattle.outline_notes.specs.NoteLists.{NotesParts, node_holds, holds_at, note_holds, AreNotes}

@@ -4,10 +4,10 @@ ghost use Rattle.std.specs.Prelude.{◌≡◌, ◌↔◌, Bool, map, position, I
 ghost use Rattle.kat_model.specs.Trees.{kat_tree, test_tree};
 ghost use Rattle.kat_model.specs.Steps.{Atom, truth};
 ghost use Rattle.kat_model.specs.Problems.{IsTestInRange};
-ghost use Rattle.step_diagrams.specs.Interleaved.{atom_at_moment};
-ghost use Rattle.step_diagrams.specs.declared.moments.Moment.{Moment};
-ghost use Rattle.step_diagrams.specs.declared.moments.Moment.TheVariants.{Before};
-ghost use Rattle.step_diagrams.specs.StepFunctions.{step_value, IsStepId, IsStepDiagram, KeepsSteps, AreStepDiagrams};
+ghost use Rattle.outline_diagrams.specs.Interleaved.{atom_at_moment};
+ghost use Rattle.outline_diagrams.specs.declared.moments.Moment.{Moment};
+ghost use Rattle.outline_diagrams.specs.declared.moments.Moment.TheVariants.{Before};
+ghost use Rattle.outline_diagrams.specs.StepFunctions.{step_value, IsStepId, IsStepDiagram, KeepsSteps, AreStepDiagrams};
 ghost use Rattle.outline_notes.specs.NoteLists.{AreNotes, node_holds, note_holds};
 ghost use Rattle.simple_hyps.specs.TestTerms.{AreSimple};
 ghost use Rattle.outline_rules.specs.Tasks.{task_parts, IsTripleOf};
@@ -21,10 +21,10 @@ use crate::answer::{NoteAnswer, NoteReason};
 use crate::checks::{Check, Guard, next_place, push_checks};
 use crate::task::Task;
 use kat_model::{NoMemory, Problem, Test};
+use outline_diagrams::{DiagramId, Moment, StepDiagrams};
 use outline_notes::{NoteNode, Notes};
 use simple_hyps::{allowed_atoms, ruled_out_steps};
 use std::alloc::Global;
-use step_diagrams::{DiagramId, Moment, StepDiagrams};
 
 // The allowed atoms at a moment, and the atoms there of each node of the notes.
 #[derive(Drop)]

@@ -1,9 +1,9 @@
 -- Where a block ends is what the test of its syntax reads.
 use Rattle.std.proofs.Common.{◌≡◌, ℕ, List, drop, Result, Ok, Err, ap}
-use Rattle.kat_tokens.specs.declared.fault.TextFault.{TextFault}
-use Rattle.kat_tokens.specs.declared.fault.TextFault.TheVariants.{NoMemory}
-use Rattle.kat_syntax.specs.Lexemes.{Lexeme}
-use Rattle.kat_syntax.specs.Parsed.{Parsed, ◌>>=◌, Reads, Wants}
+use Rattle.text_tokens.specs.declared.fault.TextFault.{TextFault}
+use Rattle.text_tokens.specs.declared.fault.TextFault.TheVariants.{NoMemory}
+use Rattle.text_grammar.specs.Lexemes.{Lexeme}
+use Rattle.text_grammar.specs.Parsed.{Parsed, ◌>>=◌, Reads, Wants}
 use Rattle.while_lang.specs.Blocks.{block, parse_block}
 use Rattle.while_lang.specs.BlockScans.{scanning_blocks, scan_block}
 use Rattle.while_lang.specs.BlockFaults.{IsBlockFault}

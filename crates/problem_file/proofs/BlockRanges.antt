@@ -1,13 +1,13 @@
 -- The programs of blocks have no other tests, actions and variables than those that are declared.
 use Rattle.std.proofs.Common.{◌≡◌, ℕ, ◌+◌, ◌<◌, List, [], ◌∷◌, ◌++◌, Bool, true, false, nat_lt, cond as if_true, slice_get, Option, Some, None, Ok, Err, refl, subst}
-use Rattle.kat_tokens.specs.declared.fault.TextFault.TheVariants.{TooDeep}
-use Rattle.kat_syntax.specs.Parsed.{◌>>=◌}
-use Rattle.kat_syntax.specs.Actions.{context}
-use Rattle.kat_syntax.proofs.ParserSoundness.{bind_ok}
-use Rattle.kat_text.specs.declared.meaning.Meaning.{Meaning}
-use Rattle.kat_text.specs.declared.meaning.Meaning.TheVariants.{Test, Action, Var, Term, Prog}
-use Rattle.kat_text.specs.ScopeParts.{ScopeParts, meaning}
-use Rattle.kat_text.specs.Sound.{IsExprName}
+use Rattle.text_tokens.specs.declared.fault.TextFault.TheVariants.{TooDeep}
+use Rattle.text_grammar.specs.Parsed.{◌>>=◌}
+use Rattle.text_grammar.specs.Actions.{context}
+use Rattle.text_grammar.proofs.ParserSoundness.{bind_ok}
+use Rattle.text_scopes.specs.declared.meaning.Meaning.{Meaning}
+use Rattle.text_scopes.specs.declared.meaning.Meaning.TheVariants.{Test, Action, Var, Term, Prog}
+use Rattle.text_scopes.specs.ScopeParts.{ScopeParts, meaning}
+use Rattle.text_scopes.specs.Sound.{IsExprName}
 use Rattle.while_lang.specs.Programs.{ProgTree, empty, skip_then, abort_then, assert_then, act_then, assign_then, branch_then, loop_then}
 use Rattle.while_lang.specs.Programs.{StmtTree, skip, abort, assert, act, assign, branch, loop, with_stmt, prog_of, stmts_of}
 use Rattle.while_lang.specs.NamedProgs.{ProgParts}

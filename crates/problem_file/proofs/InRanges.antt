@@ -6,18 +6,18 @@ use Rattle.kat_model.specs.Expressions.{ExprTree, CondTree, always, never, named
 use Rattle.kat_model.specs.Problems.{IsTestInRange, IsInRange, AreInRange}
 use Rattle.kat_model.proofs.BalancedTrees.{balanced_holds}
 use Rattle.kat_model.proofs.Ranges.{AreInRange-append, AreInRange-append_left, AreInRange-append_right}
-use Rattle.kat_tokens.specs.declared.fault.TextFault.{TextFault}
-use Rattle.kat_syntax.specs.declared.reading.Context.{Context}
-use Rattle.kat_syntax.specs.declared.reading.Operator.{Operator}
-use Rattle.kat_syntax.specs.declared.reading.Operator.TheVariants.{Add, Subtract, Multiply}
-use Rattle.kat_syntax.specs.Phrases.{term, cond, expr, Phrase}
-use Rattle.kat_syntax.specs.Folds.{fold}
-use Rattle.kat_text.specs.declared.meaning.Meaning.{Meaning}
-use Rattle.kat_text.specs.declared.meaning.Meaning.TheVariants.{Test, Action, Var, Term as TermName, Prog}
-use Rattle.kat_text.specs.Sizes.{as_test}
-use Rattle.kat_text.specs.ScopeParts.{Definition, ScopeParts, meaning}
-use Rattle.kat_text.specs.Building.{joined, variable_tree, condition_tree, defined_tree, name_tree, trees}
-use Rattle.kat_text.proofs.Related.{Both, AreRelated, related}
+use Rattle.text_tokens.specs.declared.fault.TextFault.{TextFault}
+use Rattle.text_grammar.specs.declared.reading.Context.{Context}
+use Rattle.text_grammar.specs.declared.reading.Operator.{Operator}
+use Rattle.text_grammar.specs.declared.reading.Operator.TheVariants.{Add, Subtract, Multiply}
+use Rattle.text_grammar.specs.Phrases.{term, cond, expr, Phrase}
+use Rattle.text_grammar.specs.Folds.{fold}
+use Rattle.text_scopes.specs.declared.meaning.Meaning.{Meaning}
+use Rattle.text_scopes.specs.declared.meaning.Meaning.TheVariants.{Test, Action, Var, Term as TermName, Prog}
+use Rattle.text_scopes.specs.Sizes.{as_test}
+use Rattle.text_scopes.specs.ScopeParts.{Definition, ScopeParts, meaning}
+use Rattle.text_scopes.specs.Building.{joined, variable_tree, condition_tree, defined_tree, name_tree, trees}
+use Rattle.text_scopes.proofs.Related.{Both, AreRelated, related}
 use Rattle.problem_file.specs.Working.Numbers.{AreNumbered}
 use Rattle.problem_file.specs.Ranges.{IsExprInRange, IsCondInRange}
 

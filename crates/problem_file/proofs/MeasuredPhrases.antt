@@ -3,23 +3,23 @@ use Rattle.std.proofs.Common.{◌≡◌, ℕ, ◌≤◌, List, [], ◌∷◌, Bo
 use Rattle.std.proofs.lemmas.Bool.{ltb-true, ltb-false}
 use Rattle.kat_model.specs.Trees.{Term, test_size, term_size}
 use Rattle.kat_model.specs.Expressions.{CondTree, test_without_comparisons}
-use Rattle.kat_tokens.specs.declared.fault.TextFault.{TextFault}
-use Rattle.kat_syntax.specs.Lexemes.{Lexeme}
-use Rattle.kat_syntax.specs.Parsed.{◌>>=◌, before}
-use Rattle.kat_syntax.specs.Actions.{context}
-use Rattle.kat_syntax.specs.Phrases.{term, cond, Phrase, yield_before, MeetsLookahead, IsWithinLimits}
-use Rattle.kat_syntax.specs.Ends.{Ends}
-use Rattle.kat_syntax.specs.Folds.{fold}
-use Rattle.kat_syntax.proofs.ParserCompleteness.{term_parsed, cond_parsed}
-use Rattle.kat_syntax.proofs.Longest.{longest}
-use Rattle.kat_text.specs.declared.extent.Extent.{Extent}
-use Rattle.kat_text.specs.Sizes.{cond_size, largest_expr, capped}
-use Rattle.kat_text.specs.ScopeParts.{ScopeParts}
-use Rattle.kat_text.specs.Building.{trees}
-use Rattle.kat_text.specs.Measuring.{extents}
-use Rattle.kat_text.specs.Sound.{IsSound, nesting}
-use Rattle.kat_text.specs.Laws.{told_nodes}
-use Rattle.kat_text.proofs.Measured.{term_decided, cond_decided, term_measured, cond_measured}
+use Rattle.text_tokens.specs.declared.fault.TextFault.{TextFault}
+use Rattle.text_grammar.specs.Lexemes.{Lexeme}
+use Rattle.text_grammar.specs.Parsed.{◌>>=◌, before}
+use Rattle.text_grammar.specs.Actions.{context}
+use Rattle.text_grammar.specs.Phrases.{term, cond, Phrase, yield_before, MeetsLookahead, IsWithinLimits}
+use Rattle.text_grammar.specs.Ends.{Ends}
+use Rattle.text_grammar.specs.Folds.{fold}
+use Rattle.text_grammar.proofs.ParserCompleteness.{term_parsed, cond_parsed}
+use Rattle.text_grammar.proofs.Longest.{longest}
+use Rattle.text_scopes.specs.declared.extent.Extent.{Extent}
+use Rattle.text_scopes.specs.Sizes.{cond_size, largest_expr, capped}
+use Rattle.text_scopes.specs.ScopeParts.{ScopeParts}
+use Rattle.text_scopes.specs.Building.{trees}
+use Rattle.text_scopes.specs.Measuring.{extents}
+use Rattle.text_scopes.specs.Sound.{IsSound, nesting}
+use Rattle.text_scopes.specs.Laws.{told_nodes}
+use Rattle.text_scopes.proofs.Measured.{term_decided, cond_decided, term_measured, cond_measured}
 use Rattle.problem_file.specs.Files.{State}
 use Rattle.problem_file.specs.ItemActions.{Measurement}
 use Rattle.problem_file.specs.Making.{built_term, built_cond, making}

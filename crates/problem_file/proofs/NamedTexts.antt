@@ -1,23 +1,23 @@
 -- The tests of tokens give no fault for want of memory.
 use Rattle.std.proofs.Common.{ℕ, ◌+◌, List, length, nat_lt, Bool, true, false, Ok, Err, Option, Some, None, is_some, slice_get, ◌∷◌, []}
 use Rattle.std.specs.Option.{option_and_then}
-use Rattle.kat_tokens.specs.declared.fault.TextFault.TheVariants.{Sort, TooDeep, DoubleName, TooMany, TooLarge, NumberTooWide}
-use Rattle.kat_syntax.specs.declared.reading.Context.{Context}
-use Rattle.kat_syntax.specs.declared.terminal.Terminal.TheVariants.{Number, WideNumber}
-use Rattle.kat_syntax.specs.Lexemes.{Lexeme, lexeme}
-use Rattle.kat_syntax.specs.Parsed.{Parsed}
-use Rattle.kat_syntax.specs.Actions.{context}
-use Rattle.kat_syntax.specs.Conds.{disjunction}
-use Rattle.kat_syntax.specs.Terms.{choice}
-use Rattle.kat_syntax.specs.Scans.{scanning}
-use Rattle.kat_syntax.proofs.NamedFaults.{IsNamedFault, IsNamed, then_named, if_named, NameTerms, cond_named, term_named, change_named}
-use Rattle.kat_text.specs.declared.meaning.Meaning.{Meaning}
-use Rattle.kat_text.specs.declared.meaning.Meaning.TheVariants.{Test, Action, Var, Term as TermName, Prog}
-use Rattle.kat_text.specs.declared.extent.Extent.{Extent}
-use Rattle.kat_text.specs.Sizes.{is_test}
-use Rattle.kat_text.specs.ScopeParts.{Definition, ScopeParts, meaning}
-use Rattle.kat_text.specs.Building.{cond_trees, trees}
-use Rattle.kat_text.specs.Measuring.{number_extent, variable_extent, condition_extent, defined_extent, name_extent, extents}
+use Rattle.text_tokens.specs.declared.fault.TextFault.TheVariants.{Sort, TooDeep, DoubleName, TooMany, TooLarge, NumberTooWide}
+use Rattle.text_grammar.specs.declared.reading.Context.{Context}
+use Rattle.text_grammar.specs.declared.terminal.Terminal.TheVariants.{Number, WideNumber}
+use Rattle.text_grammar.specs.Lexemes.{Lexeme, lexeme}
+use Rattle.text_grammar.specs.Parsed.{Parsed}
+use Rattle.text_grammar.specs.Actions.{context}
+use Rattle.text_grammar.specs.Conds.{disjunction}
+use Rattle.text_grammar.specs.Terms.{choice}
+use Rattle.text_grammar.specs.Scans.{scanning}
+use Rattle.text_grammar.proofs.NamedFaults.{IsNamedFault, IsNamed, then_named, if_named, NameTerms, cond_named, term_named, change_named}
+use Rattle.text_scopes.specs.declared.meaning.Meaning.{Meaning}
+use Rattle.text_scopes.specs.declared.meaning.Meaning.TheVariants.{Test, Action, Var, Term as TermName, Prog}
+use Rattle.text_scopes.specs.declared.extent.Extent.{Extent}
+use Rattle.text_scopes.specs.Sizes.{is_test}
+use Rattle.text_scopes.specs.ScopeParts.{Definition, ScopeParts, meaning}
+use Rattle.text_scopes.specs.Building.{cond_trees, trees}
+use Rattle.text_scopes.specs.Measuring.{number_extent, variable_extent, condition_extent, defined_extent, name_extent, extents}
 use Rattle.kat_model.specs.Trees.{Term}
 use Rattle.kat_model.specs.Stores.{modulus}
 use Rattle.kat_model.specs.declared.expression.Width.{Width}

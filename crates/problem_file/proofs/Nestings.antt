@@ -1,11 +1,11 @@
 -- A phrase that may stand somewhere and fits there is not too deep with its names expanded.
 use Rattle.std.proofs.Common.{ℕ, ◌+◌, ◌<◌, ◌≤◌, max, slice_get, Option, Some, None, arith}
-use Rattle.kat_syntax.specs.declared.reading.Context.{Context}
-use Rattle.kat_syntax.specs.Phrases.{Symbol, Phrase, one_prod, more_prods, one_star, more_stars, bare, starred, zero_unit, one_unit, name_unit, not_unit, square_unit, round_unit, one_conj, more_conjs, one_lit, more_lits, true_lit, false_lit, name_lit, not_lit, round_lit, relation_lit, one_mul, more_muls, one_fac, more_facs, zero_fac, one_fac_number, number_fac, wide_fac, name_fac, round_fac, IsWithinLimits}
-use Rattle.kat_text.specs.declared.meaning.Meaning.{Meaning}
-use Rattle.kat_text.specs.declared.meaning.Meaning.TheVariants.{Test, Action, Var, Term as TermName, Prog}
-use Rattle.kat_text.specs.ScopeParts.{Definition, ScopeParts, meaning}
-use Rattle.kat_text.specs.Sound.{inside, inside_not, IsUsable, IsTermName, IsSound, defined_nesting, name_nesting, nesting}
+use Rattle.text_grammar.specs.declared.reading.Context.{Context}
+use Rattle.text_grammar.specs.Phrases.{Symbol, Phrase, one_prod, more_prods, one_star, more_stars, bare, starred, zero_unit, one_unit, name_unit, not_unit, square_unit, round_unit, one_conj, more_conjs, one_lit, more_lits, true_lit, false_lit, name_lit, not_lit, round_lit, relation_lit, one_mul, more_muls, one_fac, more_facs, zero_fac, one_fac_number, number_fac, wide_fac, name_fac, round_fac, IsWithinLimits}
+use Rattle.text_scopes.specs.declared.meaning.Meaning.{Meaning}
+use Rattle.text_scopes.specs.declared.meaning.Meaning.TheVariants.{Test, Action, Var, Term as TermName, Prog}
+use Rattle.text_scopes.specs.ScopeParts.{Definition, ScopeParts, meaning}
+use Rattle.text_scopes.specs.Sound.{inside, inside_not, IsUsable, IsTermName, IsSound, defined_nesting, name_nesting, nesting}
 
 used_fits : (c : Context) (o : Option Definition) → IsUsable c o → c.depth ≤ 200 → c.depth + defined_nesting o ≤ 200
 used_fits c None sound le = omega (arith, le)

@@ -1,10 +1,10 @@
 -- The numbers among some tokens, looked at one after the other.
 use Rattle.std.proofs.Common.{◌≡◌, ℕ, zero, suc, ◌+◌, ◌-◌, ◌<◌, ◌≤◌, List, [], ◌∷◌, length, take, drop, Ok, Err, refl, ap, ◌∙◌, arith, length-drop}
 use Rattle.kat_model.specs.declared.expression.Width.{Width}
-use Rattle.kat_tokens.specs.declared.fault.TextFault.{TextFault}
-use Rattle.kat_tokens.specs.declared.fault.TextFault.TheVariants.{NoMemory}
-use Rattle.kat_syntax.specs.Lexemes.{Lexeme}
-use Rattle.kat_syntax.specs.Parsed.{◌>>=◌, Makes}
+use Rattle.text_tokens.specs.declared.fault.TextFault.{TextFault}
+use Rattle.text_tokens.specs.declared.fault.TextFault.TheVariants.{NoMemory}
+use Rattle.text_grammar.specs.Lexemes.{Lexeme}
+use Rattle.text_grammar.specs.Parsed.{◌>>=◌, Makes}
 use Rattle.problem_file.specs.Numbers.{until, check_numbers}
 use Rattle.problem_file.specs.Working.NumberSteps.{check_first}
 

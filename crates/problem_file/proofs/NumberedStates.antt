@@ -10,14 +10,14 @@ use Rattle.kat_model.specs.Problems.{IsTestInRange, IsInRange, AreInRange}
 use Rattle.kat_model.specs.Members.{Has}
 use Rattle.kat_model.proofs.Places.{slice_get_last}
 use Rattle.kat_model.proofs.Ranges.{AreInRange-append}
-use Rattle.kat_syntax.specs.Actions.{context}
-use Rattle.kat_syntax.specs.Phrases.{term, Leaf, Phrase}
-use Rattle.kat_text.specs.Sizes.{cond_size}
-use Rattle.kat_text.specs.Sound.{nesting}
-use Rattle.kat_text.specs.declared.meaning.Meaning.{Meaning}
-use Rattle.kat_text.specs.declared.meaning.Meaning.TheVariants.{Test, Action, Var, Term as TermName, Prog}
-use Rattle.kat_text.specs.ScopeParts.{Definition, ScopeParts, Means, IsUndeclared, declared, defined}
-use Rattle.kat_text.proofs.Inverse.{insert_extends}
+use Rattle.text_grammar.specs.Actions.{context}
+use Rattle.text_grammar.specs.Phrases.{term, Leaf, Phrase}
+use Rattle.text_scopes.specs.Sizes.{cond_size}
+use Rattle.text_scopes.specs.Sound.{nesting}
+use Rattle.text_scopes.specs.declared.meaning.Meaning.{Meaning}
+use Rattle.text_scopes.specs.declared.meaning.Meaning.TheVariants.{Test, Action, Var, Term as TermName, Prog}
+use Rattle.text_scopes.specs.ScopeParts.{Definition, ScopeParts, Means, IsUndeclared, declared, defined}
+use Rattle.text_scopes.proofs.Inverse.{insert_extends}
 use Rattle.while_lang.specs.Programs.{ProgTree, empty, skip_then, abort_then, assert_then, act_then, assign_then, branch_then, loop_then}
 use Rattle.while_lang.specs.ProgramSizes.{prog_size}
 use Rattle.while_lang.specs.NamedProgs.{ProgParts}

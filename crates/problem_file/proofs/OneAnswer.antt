@@ -1,11 +1,11 @@
 -- Bytes say one file or have one first fault, and not both.
 use Rattle.std.proofs.Common.{◌≡◌, ℕ, List, [], map, drop, Ok, Option, Some, None, slice_get, arith, refl, sym, ap, ap₂, ◌∙◌}
 use Rattle.std.proofs.lemmas.Option.{slice_get_past, none-some}
-use Rattle.kat_tokens.specs.TokenParts.{TokenParts}
-use Rattle.kat_tokens.specs.Lex.{Lexes}
-use Rattle.kat_syntax.specs.Lexemes.{lexeme_of}
-use Rattle.kat_syntax.specs.Parsed.{◌>>=◌}
-use Rattle.kat_syntax.proofs.ParserSoundness.{bind_ok}
+use Rattle.text_tokens.specs.TokenParts.{TokenParts}
+use Rattle.text_tokens.specs.Lex.{Lexes}
+use Rattle.text_grammar.specs.Lexemes.{lexeme_of}
+use Rattle.text_grammar.specs.Parsed.{◌>>=◌}
+use Rattle.text_grammar.proofs.ParserSoundness.{bind_ok}
 use Rattle.while_lang.specs.NamedProgs.{ProgParts}
 use Rattle.while_lang.specs.BlockLaws.{AreLimited}
 use Rattle.problem_file.specs.declared.goal_limit.GoalLimit.{GoalLimit}

@@ -1,7 +1,7 @@
 -- What follows of a result that is given.
 use Rattle.std.proofs.Common.{◌≡◌, Bool, true, false, cond as if_true, Result, Ok, Err, refl, ap, subst}
-use Rattle.kat_tokens.specs.declared.fault.TextFault.{TextFault}
-use Rattle.kat_syntax.specs.Parsed.{◌>>=◌}
+use Rattle.text_tokens.specs.declared.fault.TextFault.{TextFault}
+use Rattle.text_grammar.specs.Parsed.{◌>>=◌}
 
 abbrev pub ok_of : {A : Type 0} → A → Result A TextFault
 ok_of x = Ok x

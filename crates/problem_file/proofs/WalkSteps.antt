@@ -1,17 +1,17 @@
 -- The tests of an item: what each gives where it is passed, and what is known where it is.
 use Rattle.std.proofs.Common.{◌≡◌, ℕ, ◌+◌, ◌≤◌, ◌<◌, List, [], ◌∷◌, length, Bool, true, false, nat_lt, cond as if_true, Option, Some, None, is_some, Ok, Err, refl, sym, arith}
 use Rattle.std.proofs.lemmas.Bool.{ltb-true, ltb-false, lt-ltb, le-ltb}
-use Rattle.kat_tokens.specs.declared.fault.TextFault.{TextFault}
-use Rattle.kat_tokens.specs.declared.fault.TextFault.TheVariants.{DoubleName, TooMany, TooLarge, Sort, NumberTooWide}
+use Rattle.text_tokens.specs.declared.fault.TextFault.{TextFault}
+use Rattle.text_tokens.specs.declared.fault.TextFault.TheVariants.{DoubleName, TooMany, TooLarge, Sort, NumberTooWide}
 use Rattle.kat_model.specs.Stores.{modulus}
 use Rattle.kat_model.specs.declared.expression.Width.{Width}
-use Rattle.kat_syntax.specs.declared.terminal.Terminal.TheVariants.{Number, WideNumber}
-use Rattle.kat_syntax.specs.Lexemes.{Lexeme, lexeme}
-use Rattle.kat_syntax.specs.Parsed.{◌>>=◌}
-use Rattle.kat_syntax.specs.Phrases.{Leaf}
-use Rattle.kat_syntax.proofs.ParserSoundness.{bind_ok}
-use Rattle.kat_text.specs.declared.extent.Extent.{Extent}
-use Rattle.kat_text.specs.ScopeParts.{meaning, IsUndeclared}
+use Rattle.text_grammar.specs.declared.terminal.Terminal.TheVariants.{Number, WideNumber}
+use Rattle.text_grammar.specs.Lexemes.{Lexeme, lexeme}
+use Rattle.text_grammar.specs.Parsed.{◌>>=◌}
+use Rattle.text_grammar.specs.Phrases.{Leaf}
+use Rattle.text_grammar.proofs.ParserSoundness.{bind_ok}
+use Rattle.text_scopes.specs.declared.extent.Extent.{Extent}
+use Rattle.text_scopes.specs.ScopeParts.{meaning, IsUndeclared}
 use Rattle.problem_file.specs.declared.item_reading.Setting.TheVariants as setting
 use Rattle.problem_file.specs.Files.{State, most_goals, goal_fault, declare_test, declare_action, declare_var, check_new, has_begun, begin_rounds, begin_width, set_rounds, with_rounds, with_width, width_with, take_width, set_width, grow, check_size}
 use Rattle.problem_file.specs.Numbers.{IsNarrow, AreNarrow, check_number, check_numbers}

@@ -2,17 +2,17 @@
 use Rattle.std.proofs.Common.{◌≡◌, ℕ, ◌+◌, ◌≤◌, ◌<◌, List, [], ◌∷◌, ◌++◌, length, ⊎_elim, true, false, Ok, refl, sym, ap, subst, ◌∙◌, arith}
 use Rattle.kat_model.specs.Expressions.{CondTree}
 use Rattle.kat_model.proofs.Places.{slice_get_last}
-use Rattle.kat_syntax.specs.declared.terminal.Terminal.TheVariants.{Separator, Zero}
-use Rattle.kat_syntax.specs.declared.terminal.Separator.TheVariants.{Comma, CurlyClose, Equals}
-use Rattle.kat_syntax.specs.Lexemes.{Lexeme}
-use Rattle.kat_syntax.specs.Parsed.{◌>>=◌}
-use Rattle.kat_syntax.specs.Phrases.{term, Leaf, Phrase, cons_token, yield_before, IsWithinLimits}
-use Rattle.kat_syntax.specs.Actions.{context}
-use Rattle.kat_syntax.specs.Folds.{fold}
-use Rattle.kat_syntax.proofs.ParserSoundness.{bind_ok}
-use Rattle.kat_text.specs.Measuring.{extents}
-use Rattle.kat_text.specs.declared.extent.Extent.{Extent}
-use Rattle.kat_text.specs.Sizes.{cond_size}
+use Rattle.text_grammar.specs.declared.terminal.Terminal.TheVariants.{Separator, Zero}
+use Rattle.text_grammar.specs.declared.terminal.Separator.TheVariants.{Comma, CurlyClose, Equals}
+use Rattle.text_grammar.specs.Lexemes.{Lexeme}
+use Rattle.text_grammar.specs.Parsed.{◌>>=◌}
+use Rattle.text_grammar.specs.Phrases.{term, Leaf, Phrase, cons_token, yield_before, IsWithinLimits}
+use Rattle.text_grammar.specs.Actions.{context}
+use Rattle.text_grammar.specs.Folds.{fold}
+use Rattle.text_grammar.proofs.ParserSoundness.{bind_ok}
+use Rattle.text_scopes.specs.Measuring.{extents}
+use Rattle.text_scopes.specs.declared.extent.Extent.{Extent}
+use Rattle.text_scopes.specs.Sizes.{cond_size}
 use Rattle.while_lang.specs.ProgramSizes.{largest_in}
 use Rattle.while_lang.specs.NamedProgs.{ProgParts}
 use Rattle.while_lang.specs.BlockSound.{block_nesting}

@@ -3,19 +3,19 @@
 use Rattle.std.proofs.Common.{◌≡◌, ℕ, ◌+◌, ◌≤◌, List, [], false, Result, Ok, refl, sym, ap, subst, ◌∙◌, arith}
 use Rattle.kat_model.specs.Trees.{Term, test_size, term_size}
 use Rattle.kat_model.specs.Expressions.{CondTree, test_without_comparisons}
-use Rattle.kat_tokens.specs.declared.fault.TextFault.{TextFault}
-use Rattle.kat_syntax.specs.declared.terminal.Terminal.TheVariants.{Separator}
-use Rattle.kat_syntax.specs.declared.terminal.Separator.TheVariants.{CurlyClose}
-use Rattle.kat_syntax.specs.Lexemes.{Lexeme}
-use Rattle.kat_syntax.specs.Parsed.{◌>>=◌}
-use Rattle.kat_syntax.specs.Actions.{context}
-use Rattle.kat_syntax.specs.Phrases.{term, Leaf, Phrase, cons_token, yield_before, MeetsLookahead, IsWithinLimits}
-use Rattle.kat_syntax.specs.Ends.{Ends}
-use Rattle.kat_syntax.specs.Folds.{fold}
-use Rattle.kat_syntax.proofs.ParserSoundness.{bind_ok}
-use Rattle.kat_text.specs.declared.extent.Extent.{Extent}
-use Rattle.kat_text.specs.Measuring.{extents}
-use Rattle.kat_text.specs.Sizes.{cond_size}
+use Rattle.text_tokens.specs.declared.fault.TextFault.{TextFault}
+use Rattle.text_grammar.specs.declared.terminal.Terminal.TheVariants.{Separator}
+use Rattle.text_grammar.specs.declared.terminal.Separator.TheVariants.{CurlyClose}
+use Rattle.text_grammar.specs.Lexemes.{Lexeme}
+use Rattle.text_grammar.specs.Parsed.{◌>>=◌}
+use Rattle.text_grammar.specs.Actions.{context}
+use Rattle.text_grammar.specs.Phrases.{term, Leaf, Phrase, cons_token, yield_before, MeetsLookahead, IsWithinLimits}
+use Rattle.text_grammar.specs.Ends.{Ends}
+use Rattle.text_grammar.specs.Folds.{fold}
+use Rattle.text_grammar.proofs.ParserSoundness.{bind_ok}
+use Rattle.text_scopes.specs.declared.extent.Extent.{Extent}
+use Rattle.text_scopes.specs.Measuring.{extents}
+use Rattle.text_scopes.specs.Sizes.{cond_size}
 use Rattle.while_lang.specs.ProgramSizes.{prog_size}
 use Rattle.while_lang.specs.BlockPhrases.{block, BlockPhrase, block_before, BlockObeys, BlockFits}
 use Rattle.while_lang.specs.BlockLaws.{AreLimited}

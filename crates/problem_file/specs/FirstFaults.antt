@@ -1,12 +1,12 @@
 -- The first fault of the bytes of a text, whatever is tested of its tokens.
 use Rattle.std.specs.Prelude.{◌≡◌, ◌≤◌, ◌<◌, ℕ, min, List, length, map, Result, Ok, Err}
 use Rattle.std.specs.Str.{IsValidUpTo}
-use Rattle.kat_tokens.specs.declared.lexer.TheConstants.{MAX_LEN}
-use Rattle.kat_tokens.specs.declared.fault.TextFault.{TextFault}
-use Rattle.kat_tokens.specs.declared.fault.TextFault.TheVariants.{TooLong, NotUtf8, BadToken, Syntax}
-use Rattle.kat_tokens.specs.TokenParts.{TokenParts}
-use Rattle.kat_tokens.specs.Lex.{Lexes, FirstBad}
-use Rattle.kat_syntax.specs.Lexemes.{Lexeme, lexeme_of}
+use Rattle.text_tokens.specs.declared.lexer.TheConstants.{MAX_LEN}
+use Rattle.text_tokens.specs.declared.fault.TextFault.{TextFault}
+use Rattle.text_tokens.specs.declared.fault.TextFault.TheVariants.{TooLong, NotUtf8, BadToken, Syntax}
+use Rattle.text_tokens.specs.TokenParts.{TokenParts}
+use Rattle.text_tokens.specs.Lex.{Lexes, FirstBad}
+use Rattle.text_grammar.specs.Lexemes.{Lexeme, lexeme_of}
 
 -- a fault past the last token is at the text's length
 abbrev pub placed : ℕ → TextFault → TextFault

@@ -1,14 +1,14 @@
 -- What actions make of items, from left to right, or the first fault. Measurements name the tokens that follow a phrase.
 use Rattle.std.specs.Prelude.{ℕ, List, [], ◌∷◌, Bool, true, false, if◌then◌else◌, Result, Ok, Err, Option, Some, None, option_and_then}
-use Rattle.kat_tokens.specs.declared.fault.TextFault.{TextFault}
-use Rattle.kat_tokens.specs.declared.fault.TextFault.TheVariants.{NumberTooWide}
-use Rattle.kat_syntax.specs.declared.terminal.Terminal.TheVariants.{Separator, Zero}
-use Rattle.kat_syntax.specs.declared.terminal.Separator.TheVariants.{Comma, CurlyClose, Equals}
-use Rattle.kat_syntax.specs.Lexemes.{Lexeme}
-use Rattle.kat_syntax.specs.Parsed.{◌>>=◌}
-use Rattle.kat_syntax.specs.Actions.{context}
-use Rattle.kat_syntax.specs.Phrases.{term, cond, Leaf, Phrase, cons_token, yield_before}
-use Rattle.kat_syntax.specs.Folds.{fold}
+use Rattle.text_tokens.specs.declared.fault.TextFault.{TextFault}
+use Rattle.text_tokens.specs.declared.fault.TextFault.TheVariants.{NumberTooWide}
+use Rattle.text_grammar.specs.declared.terminal.Terminal.TheVariants.{Separator, Zero}
+use Rattle.text_grammar.specs.declared.terminal.Separator.TheVariants.{Comma, CurlyClose, Equals}
+use Rattle.text_grammar.specs.Lexemes.{Lexeme}
+use Rattle.text_grammar.specs.Parsed.{◌>>=◌}
+use Rattle.text_grammar.specs.Actions.{context}
+use Rattle.text_grammar.specs.Phrases.{term, cond, Leaf, Phrase, cons_token, yield_before}
+use Rattle.text_grammar.specs.Folds.{fold}
 use Rattle.while_lang.specs.BlockPhrases.{block, BlockPhrase, block_before}
 use Rattle.while_lang.specs.BlockFolds.{fold_block}
 use Rattle.problem_file.specs.declared.item_reading.Declared.TheVariants as what

@@ -1,9 +1,9 @@
 -- What is done with the parts of an item while it is read. Actions may refuse a part; all else that can be wrong with an
 -- item is its syntax.
 use Rattle.std.specs.Prelude.{ℕ, List, Result, Option}
-use Rattle.kat_tokens.specs.declared.fault.TextFault.{TextFault}
-use Rattle.kat_syntax.specs.Lexemes.{Lexeme}
-use Rattle.kat_syntax.specs.Actions.{Actions}
+use Rattle.text_tokens.specs.declared.fault.TextFault.{TextFault}
+use Rattle.text_grammar.specs.Lexemes.{Lexeme}
+use Rattle.text_grammar.specs.Actions.{Actions}
 use Rattle.while_lang.specs.BlockActions.{BlockActions}
 use Rattle.problem_file.specs.declared.item_reading.Declared.{Declared}
 use Rattle.problem_file.specs.declared.item_reading.Setting.{Setting}

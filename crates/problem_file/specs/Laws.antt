@@ -1,9 +1,9 @@
 -- The laws of problem files. Each stands on a function of the crate that does nothing.
 use Rattle.std.specs.Prelude.{◌≡◌, ◌↔◌, ◌⊎◌, ℕ, List, Ok}
 use Rattle.kat_model.specs.Members.{Has}
-use Rattle.kat_tokens.specs.declared.fault.TextFault.{TextFault}
-use Rattle.kat_tokens.specs.declared.fault.TextFault.TheVariants.{NoMemory}
-use Rattle.kat_syntax.specs.Lexemes.{Lexeme}
+use Rattle.text_tokens.specs.declared.fault.TextFault.{TextFault}
+use Rattle.text_tokens.specs.declared.fault.TextFault.TheVariants.{NoMemory}
+use Rattle.text_grammar.specs.Lexemes.{Lexeme}
 use Rattle.while_lang.specs.BlockLaws.{AreLimited}
 use Rattle.problem_file.specs.Files.{GoalTree, FileParts, State}
 use Rattle.problem_file.specs.Syntax.{checking, scan_file}

@@ -2,9 +2,9 @@
 use Rattle.std.specs.Prelude.{◌≡◌, ◌≤◌, ◌<◌, ℕ, List, [], ◌∷◌, length, slice_get, Some}
 use Rattle.kat_model.specs.Expressions.{ExprTree, number, variable, plus, minus, times, CondTree, always, never, named, compared, negation, both, either}
 use Rattle.kat_model.specs.Problems.{IsInRange, AreInRange}
-use Rattle.kat_text.specs.declared.meaning.Meaning.{Meaning}
-use Rattle.kat_text.specs.declared.meaning.Meaning.TheVariants.{Test, Action, Var, Prog}
-use Rattle.kat_text.specs.ScopeParts.{ScopeParts, Means}
+use Rattle.text_scopes.specs.declared.meaning.Meaning.{Meaning}
+use Rattle.text_scopes.specs.declared.meaning.Meaning.TheVariants.{Test, Action, Var, Prog}
+use Rattle.text_scopes.specs.ScopeParts.{ScopeParts, Means}
 use Rattle.while_lang.specs.Programs.{ProgTree, empty, skip_then, abort_then, assert_then, act_then, assign_then, branch_then, loop_then}
 use Rattle.while_lang.specs.NamedProgs.{ProgParts}
 use Rattle.problem_file.specs.Files.{SideTree, term_side, prog_side, GoalTree, equal, below, triple, FileParts}

@@ -3,15 +3,15 @@ use Rattle.std.specs.Prelude.{◌≡◌, ◌≤◌, ◌<◌, ℕ, ◌+◌, List,
 use Rattle.kat_model.specs.Trees.{Term, term_size}
 use Rattle.kat_model.specs.Expressions.{CondTree}
 use Rattle.kat_model.specs.declared.expression.Width.{Width}
-use Rattle.kat_syntax.specs.Parsed.{◌>>=◌}
-use Rattle.kat_syntax.specs.Actions.{context}
-use Rattle.kat_syntax.specs.Phrases.{term, cond, Leaf, Phrase}
-use Rattle.kat_syntax.specs.Folds.{fold}
-use Rattle.kat_text.specs.declared.meaning.Meaning.TheVariants.{Test, Action, Var}
-use Rattle.kat_text.specs.Sizes.{cond_size, largest_expr}
-use Rattle.kat_text.specs.ScopeParts.{ScopeParts, IsUndeclared, declared}
-use Rattle.kat_text.specs.Building.{trees}
-use Rattle.kat_text.specs.Sound.{IsSound, nesting}
+use Rattle.text_grammar.specs.Parsed.{◌>>=◌}
+use Rattle.text_grammar.specs.Actions.{context}
+use Rattle.text_grammar.specs.Phrases.{term, cond, Leaf, Phrase}
+use Rattle.text_grammar.specs.Folds.{fold}
+use Rattle.text_scopes.specs.declared.meaning.Meaning.TheVariants.{Test, Action, Var}
+use Rattle.text_scopes.specs.Sizes.{cond_size, largest_expr}
+use Rattle.text_scopes.specs.ScopeParts.{ScopeParts, IsUndeclared, declared}
+use Rattle.text_scopes.specs.Building.{trees}
+use Rattle.text_scopes.specs.Sound.{IsSound, nesting}
 use Rattle.while_lang.specs.Programs.{ProgTree, prog_of as prog_with}
 use Rattle.while_lang.specs.ProgramSizes.{prog_size, largest_in}
 use Rattle.while_lang.specs.NamedProgs.{ProgParts}

@@ -1,8 +1,8 @@
 -- The test of the syntax of a whole file.
 use Rattle.std.specs.Prelude.{List, Result, Ok, None}
-use Rattle.kat_tokens.specs.declared.fault.TextFault.{TextFault}
-use Rattle.kat_syntax.specs.Lexemes.{Lexeme}
-use Rattle.kat_syntax.specs.Scans.{scanning}
+use Rattle.text_tokens.specs.declared.fault.TextFault.{TextFault}
+use Rattle.text_grammar.specs.Lexemes.{Lexeme}
+use Rattle.text_grammar.specs.Scans.{scanning}
 use Rattle.while_lang.specs.BlockScans.{scanning_blocks}
 use Rattle.problem_file.specs.ItemActions.{ItemActions}
 use Rattle.problem_file.specs.Items.{items_by}

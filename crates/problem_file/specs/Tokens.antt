@@ -1,7 +1,7 @@
 -- Tokens that a lexer made.
 use Rattle.std.specs.Prelude.{◌≡◌, ℕ, List, slice_get, Some}
-use Rattle.kat_tokens.specs.declared.token.Token.{Token}
-use Rattle.kat_tokens.specs.Kinds.{IsToken}
+use Rattle.text_tokens.specs.declared.token.Token.{Token}
+use Rattle.text_tokens.specs.Kinds.{IsToken}
 
 -- each token's text is a token of its kind
 abbrev pub AreTokens : List Token → Type 0

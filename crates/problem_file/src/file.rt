@@ -6,8 +6,8 @@ ghost use Rattle.problem_file.specs.Trees.{goal_tree};
 ghost use Rattle.problem_file.specs.Concrete.{AsksOfProgs, IsConcrete};
 
 use kat_model::{Cond, Kat, Width};
-use kat_text::{Meaning, Scope};
 use std::marker::Model;
+use text_scopes::{Meaning, Scope};
 use while_lang::{NamedProg, Prog};
 
 /// A side of a goal. It is a program exactly where the text has the one name of a program in its place.
@@ -56,7 +56,7 @@ impl Model for File {
     ghost use Rattle.kat_model.specs.Codes.{coded_term};
     ghost use Rattle.kat_model.specs.ConditionCodes.{coded_cond};
     ghost use Rattle.kat_model.specs.Trees.{kat_tree};
-    ghost use Rattle.kat_text.specs.Definitions.{coded_meanings};
+    ghost use Rattle.text_scopes.specs.Definitions.{coded_meanings};
     ghost use Rattle.while_lang.specs.ProgramCodes.{coded_prog};
     ghost use Rattle.while_lang.specs.NamedProgs.{parts_of_progs};
     ghost use Rattle.problem_file.specs.Files.{FileParts};

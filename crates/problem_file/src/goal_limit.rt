@@ -1,5 +1,5 @@
 //! How many goals a text may have.
-use kat_tokens::TextFault;
+use text_tokens::TextFault;
 
 // How many goals a text may have.
 #[derive(Clone, Copy, Debug, PartialEq, Eq)]

@@ -6,9 +6,9 @@ ghost use Rattle.problem_file.specs.Working.Numbers.{AreNumbered};
 use crate::file::{File, Goal};
 use crate::goal_limit::GoalLimit;
 use kat_model::{Kat, MAX_ACTIONS, MAX_TESTS, MAX_TEXT_NODES, Width};
-use kat_text::{Meaning, Scope};
-use kat_tokens::{TextFault, Token};
 use std::alloc::Global;
+use text_scopes::{Meaning, Scope};
+use text_tokens::{TextFault, Token};
 use while_lang::NamedProg;
 
 // The most variables of a text.
@@ -34,8 +34,8 @@ pub(crate) struct ItemReader {
 
 impl ItemReader {
     ghost use Rattle.std.specs.Prelude.{◌≡◌, Ok};
-    ghost use Rattle.kat_syntax.specs.Parsed.{Makes};
-    ghost use Rattle.kat_text.specs.ScopeParts.{IsIdentifier};
+    ghost use Rattle.text_grammar.specs.Parsed.{Makes};
+    ghost use Rattle.text_scopes.specs.ScopeParts.{IsIdentifier};
     ghost use Rattle.problem_file.specs.Files.{start, declare_test, declare_action, declare_var};
     ghost use Rattle.problem_file.specs.Files.{check_new, add_prog, grow, width_of};
     ghost use Rattle.problem_file.specs.Working.States.{state_of, Leaves};

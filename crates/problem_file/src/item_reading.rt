@@ -1,15 +1,15 @@
 //! What is done with the parts of an item while it is read.
 ghost use Rattle.std.specs.Prelude.{◌≡◌, ◌≤◌, length, drop, Ok};
-ghost use Rattle.kat_syntax.specs.Lexemes.{lexemes};
-ghost use Rattle.kat_syntax.specs.Parsed.{Makes, Goes};
-ghost use Rattle.kat_text.specs.ScopeParts.{IsIdentifier};
+ghost use Rattle.text_grammar.specs.Lexemes.{lexemes};
+ghost use Rattle.text_grammar.specs.Parsed.{Makes, Goes};
+ghost use Rattle.text_scopes.specs.ScopeParts.{IsIdentifier};
 ghost use Rattle.problem_file.specs.ItemActions.{ItemActions};
 ghost use Rattle.problem_file.specs.Numbers.{until};
 ghost use Rattle.problem_file.specs.Items.{measure_term, measure_cond, measure_block};
 ghost use Rattle.problem_file.specs.Working.Walks.{measured_of, sides_of, triple_of, Tells, Does};
 
 use crate::phrase::{Measured, Sides, Triple};
-use kat_tokens::{TextFault, Token};
+use text_tokens::{TextFault, Token};
 
 // What names may be declared for.
 #[derive(Clone, Copy, Debug, PartialEq, Eq)]

@@ -1,6 +1,6 @@
 //! The items of a problem file, gone through once for any reading.
 ghost use Rattle.std.specs.Prelude.{◌≡◌, ◌+◌, ◌<◌, ◌≤◌, length, drop, IfOk, IfSome};
-ghost use Rattle.kat_syntax.specs.Lexemes.{lexemes};
+ghost use Rattle.text_grammar.specs.Lexemes.{lexemes};
 ghost use Rattle.problem_file.specs.Tokens.{AreTokens};
 ghost use Rattle.problem_file.specs.Items.{at_name, over_names, at_number, term_by, block_by, program_by, side_by};
 ghost use Rattle.problem_file.specs.Items.{braced_by, middle_by, triple_by, sides_by, declaration_by, meaning_by};
@@ -12,13 +12,13 @@ ghost use Rattle.problem_file.specs.Working.Walks.{measured_of, sides_of, triple
 use crate::item_reading::{Comparison, Declared, ItemReading, Setting};
 use crate::names::{lone_name, name_at, number_at};
 use crate::phrase::{Measured, Sides, Triple};
-use kat_syntax::{
+use text_grammar::{
     Keyword, Separator, Terminal, expect, is_at, place_at, syntax_fault_at, terminal_at,
 };
-use kat_tokens::{TextFault, Token};
+use text_tokens::{TextFault, Token};
 
 // Declares the name at an index, and gives the index after it.
-#[tactic(auto, using(kat_syntax::proofs::Tokens::next_drop))]
+#[tactic(auto, using(text_grammar::proofs::Tokens::next_drop))]
 fn read_name<R: ItemReading>(
     reading: &mut R,
     toks: &[Token],
@@ -37,7 +37,7 @@ fn read_name<R: ItemReading>(
 }
 
 // Declares names with commas between.
-#[tactic(auto, using(kat_syntax::proofs::Tokens::next_drop))]
+#[tactic(auto, using(text_grammar::proofs::Tokens::next_drop))]
 fn read_names<R: ItemReading>(
     reading: &mut R,
     toks: &[Token],
@@ -116,7 +116,7 @@ fn program_at<R: ItemReading>(reading: &R, toks: &[Token], from: usize) -> Optio
 }
 
 // A side of a goal: the name of a program, or a term.
-#[tactic(auto, using(kat_syntax::proofs::Tokens::next_drop))]
+#[tactic(auto, using(text_grammar::proofs::Tokens::next_drop))]
 fn side_at<R: ItemReading>(
     reading: &R,
     toks: &[Token],
@@ -204,7 +204,7 @@ fn meaning_at<R: ItemReading>(
     Ok((term, end))
 }
 
-#[tactic(auto, using(kat_syntax::proofs::Tokens::next_drop))]
+#[tactic(auto, using(text_grammar::proofs::Tokens::next_drop))]
 fn read_definition<R: ItemReading>(
     reading: &mut R,
     toks: &[Token],
@@ -224,7 +224,7 @@ fn read_definition<R: ItemReading>(
     Ok(end)
 }
 
-#[tactic(auto, using(kat_syntax::proofs::Tokens::next_drop))]
+#[tactic(auto, using(text_grammar::proofs::Tokens::next_drop))]
 fn read_prog<R: ItemReading>(
     reading: &mut R,
     toks: &[Token],
@@ -264,7 +264,7 @@ fn read_zero<R: ItemReading>(
     Ok(end)
 }
 
-#[tactic(auto, using(kat_syntax::proofs::Tokens::next_drop))]
+#[tactic(auto, using(text_grammar::proofs::Tokens::next_drop))]
 fn read_hyp<R: ItemReading>(
     reading: &mut R,
     toks: &[Token],
@@ -287,7 +287,7 @@ fn read_hyp<R: ItemReading>(
 }
 
 // Sets what is set to the number at an index, and gives the index after it.
-#[tactic(auto, using(kat_syntax::proofs::Tokens::next_drop))]
+#[tactic(auto, using(text_grammar::proofs::Tokens::next_drop))]
 fn read_number<R: ItemReading>(
     reading: &mut R,
     toks: &[Token],

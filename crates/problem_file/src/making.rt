@@ -1,9 +1,9 @@
 //! What each item of a text makes, once the syntax of the whole text was tested.
 ghost use Rattle.std.specs.Prelude.{◌≡◌, ◌+◌, min, ◌^◌, ◌-◌, ◌≤◌, length, drop, nat_lt, Ok, IfOk, None, option_map, option_and_then};
 ghost use Rattle.kat_model.specs.Stores.{modulus};
-ghost use Rattle.kat_syntax.specs.Lexemes.{lexemes};
-ghost use Rattle.kat_syntax.specs.Parsed.{Makes};
-ghost use Rattle.kat_text.specs.ScopeParts.{IsIdentifier};
+ghost use Rattle.text_grammar.specs.Lexemes.{lexemes};
+ghost use Rattle.text_grammar.specs.Parsed.{Makes};
+ghost use Rattle.text_scopes.specs.ScopeParts.{IsIdentifier};
 ghost use Rattle.while_lang.specs.NamedProgs.{prog_parts};
 ghost use Rattle.problem_file.specs.Files.{State, prog_named, width_with, check_new, check_size, width_of};
 ghost use Rattle.problem_file.specs.Files.{has_begun, begin_rounds, begin_width, set_rounds, set_width};
@@ -24,10 +24,10 @@ use crate::names::lone_name;
 use crate::phrase::{Measured, Sides, Triple};
 use crate::triple::triple_term;
 use kat_model::{Cond, Items, Kat, MAX_HYPS, MAX_OPEN, MAX_TERM_NODES, NoMemory, Width};
-use kat_syntax::{Terminal, terminal_at};
-use kat_text::{Extent, build_cond, build_term, measure_cond, measure_term};
-use kat_tokens::{TextFault, Token};
 use std::alloc::Global;
+use text_grammar::{Terminal, terminal_at};
+use text_scopes::{Extent, build_cond, build_term, measure_cond, measure_term};
+use text_tokens::{TextFault, Token};
 use while_lang::{NamedProg, build_block, measure_block};
 
 // The most rounds of a text.

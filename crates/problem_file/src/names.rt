@@ -1,14 +1,14 @@
 //! Names and numbers among the tokens.
 ghost use Rattle.std.specs.Prelude.{◌≡◌, ◌+◌, ◌<◌, length, drop, IfOk, IfErr, IfSome, Ok, Err, option_map};
-ghost use Rattle.kat_syntax.specs.Lexemes.{lexemes, heads};
-ghost use Rattle.kat_syntax.specs.Phrases.{term};
-ghost use Rattle.kat_syntax.specs.Ends.{goes_on};
-ghost use Rattle.kat_text.specs.ScopeParts.{IsIdentifier};
+ghost use Rattle.text_grammar.specs.Lexemes.{lexemes, heads};
+ghost use Rattle.text_grammar.specs.Phrases.{term};
+ghost use Rattle.text_grammar.specs.Ends.{goes_on};
+ghost use Rattle.text_scopes.specs.ScopeParts.{IsIdentifier};
 ghost use Rattle.problem_file.specs.Items.{name_at, number_at, lone_name};
 ghost use Rattle.problem_file.specs.Tokens.{AreTokens};
 
-use kat_syntax::{Terminal, syntax_fault_at, terminal_at, terminal_of, text_at};
-use kat_tokens::{TextFault, Token};
+use text_grammar::{Terminal, syntax_fault_at, terminal_at, terminal_of, text_at};
+use text_tokens::{TextFault, Token};
 
 /// The token at an index, which has to be a name: otherwise `Syntax` at its place, or at `usize::MAX` after the last token.
 pub fn name_at<'a, 'b>(toks: &'b [Token<'a>], i: usize) -> Result<&'b Token<'a>, TextFault>

@@ -1,9 +1,9 @@
 //! The text of a problem file, read.
 ghost use Rattle.std.specs.Prelude.{◌≡◌, ◌≤◌, ◌⊎◌, List, map, length, IfOk, IfErr, MatchResult};
-ghost use Rattle.kat_tokens.specs.declared.fault.TextFault.TheVariants.{NoMemory as NoRoom};
-ghost use Rattle.kat_syntax.specs.Lexemes.{lexemes};
-ghost use Rattle.kat_syntax.specs.Parsed.{Makes};
-ghost use Rattle.kat_tokens.specs.declared.lexer.TheConstants.{MAX_LEN as MOST};
+ghost use Rattle.text_tokens.specs.declared.fault.TextFault.TheVariants.{NoMemory as NoRoom};
+ghost use Rattle.text_grammar.specs.Lexemes.{lexemes};
+ghost use Rattle.text_grammar.specs.Parsed.{Makes};
+ghost use Rattle.text_tokens.specs.declared.lexer.TheConstants.{MAX_LEN as MOST};
 ghost use Rattle.problem_file.specs.Files.{GoalTree, FileParts, start};
 ghost use Rattle.problem_file.specs.Trees.{goal_tree};
 ghost use Rattle.problem_file.specs.Making.{walk};
@@ -18,8 +18,8 @@ use crate::goal_limit::GoalLimit;
 use crate::item_reader::ItemReader;
 use crate::items::read_items;
 use crate::syntax::test_syntax;
-use kat_tokens::{MAX_LEN, TextFault, Token, tokens};
 use std::alloc::Global;
+use text_tokens::{MAX_LEN, TextFault, Token, tokens};
 
 /// The bytes as a text: otherwise `TooLong` past 1,048,576 bytes, or `NotUtf8` with the length of their longest front that is
 /// UTF-8.

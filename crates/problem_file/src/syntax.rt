@@ -1,7 +1,7 @@
 //! The test of the syntax of a whole file, which takes no memory.
 ghost use Rattle.std.specs.Prelude.{◌≡◌, length, Ok};
-ghost use Rattle.kat_syntax.specs.Lexemes.{lexemes};
-ghost use Rattle.kat_syntax.specs.Parsed.{Goes};
+ghost use Rattle.text_grammar.specs.Lexemes.{lexemes};
+ghost use Rattle.text_grammar.specs.Parsed.{Goes};
 ghost use Rattle.problem_file.specs.Tokens.{AreTokens};
 ghost use Rattle.problem_file.specs.Working.Walks.{Tells};
 ghost use Rattle.problem_file.specs.Items.{measure_block};
@@ -10,8 +10,8 @@ ghost use Rattle.problem_file.specs.Syntax.{checking, scan_file};
 use crate::item_reading::{Comparison, Declared, ItemReading, Setting};
 use crate::items::read_items;
 use crate::phrase::{Measured, Sides, Triple};
-use kat_syntax::{Context, Scan, read_cond, read_term};
-use kat_tokens::{TextFault, Token};
+use text_grammar::{Context, Scan, read_cond, read_term};
+use text_tokens::{TextFault, Token};
 use while_lang::block_end;
 
 // That a block stands there, and the index after it.

@@ -7,10 +7,10 @@ use Rattle.std.proofs.lemmas.List.Folds.{list_all-append, list_any-append}
 use Rattle.kat_model.specs.Trees.{Term, kat_tree}
 use Rattle.kat_model.specs.declared.tree.Kat.{Kat}
 use Rattle.kat_model.specs.Steps.{Atom, out}
-use Rattle.step_diagrams.specs.declared.moments.Moment.{Moment}
-use Rattle.step_diagrams.specs.Interleaved.{atom_at_moment}
-use Rattle.step_diagrams.specs.StepFunctions.{StepDiagramsParts, step_value, IsStepDiagram, KeepsSteps}
-use Rattle.step_diagrams.proofs.StepSets.{IsStepDiagram-same, step_value-kept}
+use Rattle.outline_diagrams.specs.declared.moments.Moment.{Moment}
+use Rattle.outline_diagrams.specs.Interleaved.{atom_at_moment}
+use Rattle.outline_diagrams.specs.StepFunctions.{StepDiagramsParts, step_value, IsStepDiagram, KeepsSteps}
+use Rattle.outline_diagrams.proofs.StepSets.{IsStepDiagram-same, step_value-kept}
 use Rattle.simple_hyps.specs.TestTerms.{is_test_term}
 use Rattle.simple_hyps.specs.HypothesisForms.{allows, rules_out, some_rules_out}
 

@@ -9,7 +9,7 @@ use Rattle.kat_model.specs.Members.{Has}
 use Rattle.kat_model.specs.declared.tree.Kat.{Kat}
 use Rattle.kat_model.specs.declared.tree.Kat.TheVariants.{Zero}
 use Rattle.kat_model.proofs.Lists.{has_map, any_has}
-use Rattle.line_texts.proofs.Splits.{position_none}
+use Rattle.line_format.proofs.Splits.{position_none}
 use Rattle.simple_hyps.specs.TestTerms.{IsSimple, AreSimple, IsNotSimple}
 use Rattle.simple_hyps.specs.HypothesisForms.{is_simple}
 use Rattle.simple_hyps.proofs.SimpleForms.{simple_is, is_simple_of}

@@ -3,13 +3,13 @@ ghost use Rattle.std.specs.Prelude.{◌≡◌, ◌&&◌, not, All, map, position
 ghost use Rattle.kat_model.specs.Trees.{kat_tree};
 ghost use Rattle.kat_model.specs.Problems.{HasTestsBelow};
 ghost use Rattle.kat_model.specs.Steps.{out};
-ghost use Rattle.step_diagrams.specs.Interleaved.{atom_at_moment};
-ghost use Rattle.step_diagrams.specs.StepFunctions.{step_value, IsStepId, IsStepDiagram, KeepsSteps, AreStepDiagrams};
+ghost use Rattle.outline_diagrams.specs.Interleaved.{atom_at_moment};
+ghost use Rattle.outline_diagrams.specs.StepFunctions.{step_value, IsStepId, IsStepDiagram, KeepsSteps, AreStepDiagrams};
 ghost use Rattle.simple_hyps.specs.TestTerms.{is_test_term, AreSimple, IsNotSimple};
 ghost use Rattle.simple_hyps.specs.HypothesisForms.{is_step, is_simple, allows, rules_out, some_rules_out};
 
 use kat_model::{Kat, NoMemory, Problem};
-use step_diagrams::{DiagramId, Moment, StepDiagrams};
+use outline_diagrams::{DiagramId, Moment, StepDiagrams};
 
 // Whether a term has neither actions nor stars.
 fn is_test_term(term: &Kat) -> bool

@@ -1,19 +1,19 @@
 -- A block is measured exactly where it is sound and fits, and then its nesting is told.
 use Rattle.std.proofs.Common.{◌≡◌, ◌≤◌, ◌<◌, ◌+◌, ◌↔◌, ℕ, max, min, Bool, true, false, cond, nat_lt, slice_get, List, Option, Some, None, Result, Ok, Err, IsOk, refl, ap, subst, ◌∙◌, arith}
 use Rattle.std.proofs.lemmas.Bool.{ltb-true, ltb-false}
-use Rattle.kat_tokens.specs.declared.fault.TextFault.{TextFault}
-use Rattle.kat_tokens.specs.declared.fault.TextFault.TheVariants.{TooDeep}
-use Rattle.kat_syntax.specs.Parsed.{◌>>=◌}
-use Rattle.kat_syntax.specs.Actions.{context}
-use Rattle.kat_syntax.specs.Phrases.{cond as cond_symbol, Phrase, IsWithinLimits}
-use Rattle.kat_text.specs.declared.meaning.Meaning.{Meaning}
-use Rattle.kat_text.specs.declared.meaning.Meaning.TheVariants.{Test, Action, Var, Term as TermName, Prog}
-use Rattle.kat_text.specs.declared.extent.Extent.{Extent}
-use Rattle.kat_text.specs.ScopeParts.{ScopeParts, meaning}
-use Rattle.kat_text.specs.Measuring.{compared_nodes}
-use Rattle.kat_text.specs.Sound.{IsSound, IsExprName, nesting}
-use Rattle.kat_text.proofs.MeasureSoundness.{Judged, first}
-use Rattle.kat_text.proofs.Measured.{cond_judged, expr_judged}
+use Rattle.text_tokens.specs.declared.fault.TextFault.{TextFault}
+use Rattle.text_tokens.specs.declared.fault.TextFault.TheVariants.{TooDeep}
+use Rattle.text_grammar.specs.Parsed.{◌>>=◌}
+use Rattle.text_grammar.specs.Actions.{context}
+use Rattle.text_grammar.specs.Phrases.{cond as cond_symbol, Phrase, IsWithinLimits}
+use Rattle.text_scopes.specs.declared.meaning.Meaning.{Meaning}
+use Rattle.text_scopes.specs.declared.meaning.Meaning.TheVariants.{Test, Action, Var, Term as TermName, Prog}
+use Rattle.text_scopes.specs.declared.extent.Extent.{Extent}
+use Rattle.text_scopes.specs.ScopeParts.{ScopeParts, meaning}
+use Rattle.text_scopes.specs.Measuring.{compared_nodes}
+use Rattle.text_scopes.specs.Sound.{IsSound, IsExprName, nesting}
+use Rattle.text_scopes.proofs.MeasureSoundness.{Judged, first}
+use Rattle.text_scopes.proofs.Measured.{cond_judged, expr_judged}
 use Rattle.while_lang.specs.ProgramSizes.{prog_size}
 use Rattle.while_lang.specs.NamedProgs.{ProgParts}
 use Rattle.while_lang.specs.Blocks.{enter}

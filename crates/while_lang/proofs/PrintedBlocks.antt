@@ -4,29 +4,29 @@ use Rattle.std.proofs.lemmas.Bool.{le-ltb}
 use Rattle.std.proofs.lemmas.List.{append-nil}
 use Rattle.std.specs.Prelude.{codes}
 use Rattle.kat_model.specs.Expressions.{ExprTree, CondTree}
-use Rattle.kat_tokens.specs.declared.fault.TextFault.{TextFault}
-use Rattle.kat_tokens.specs.Pieces.{Piece, word, symbol, gap}
-use Rattle.kat_tokens.proofs.Printed.{printed}
-use Rattle.kat_syntax.specs.declared.terminal.Terminal.{Terminal}
-use Rattle.kat_syntax.specs.declared.terminal.Terminal.TheVariants.{Name, Keyword, Separator}
-use Rattle.kat_syntax.specs.declared.terminal.Keyword.TheVariants as keyword
-use Rattle.kat_syntax.specs.declared.terminal.Separator.TheVariants.{Semicolon, CurlyOpen, Becomes}
-use Rattle.kat_syntax.specs.Lexemes.{Lexeme, lexeme}
-use Rattle.kat_syntax.specs.Parsed.{Parsed, ◌>>=◌, before, change, place_of}
-use Rattle.kat_syntax.specs.Actions.{context}
-use Rattle.kat_syntax.specs.Phrases.{one_conj, one_lit, one_mul, one_fac, yield_before, MeetsLookahead}
-use Rattle.kat_text.specs.declared.meaning.Meaning.{Meaning}
-use Rattle.kat_text.specs.declared.meaning.Meaning.TheVariants.{Action, Var}
-use Rattle.kat_text.specs.declared.extent.Extent.{Extent}
-use Rattle.kat_text.specs.ScopeParts.{ScopeParts, IsNameOf}
-use Rattle.kat_text.specs.Readings.{within, phrased}
-use Rattle.kat_text.specs.Laws.{told_nodes}
-use Rattle.kat_text.specs.Sound.{IsExprName}
-use Rattle.kat_print.specs.Printing.{expr_pieces, cond_pieces, CondIsNamed, ExprIsNamed, expr_nesting, cond_nesting}
-use Rattle.kat_print.proofs.WordTerminals.{name_terminal}
-use Rattle.kat_print.proofs.PrintedPhrases.{lexemes_from, leaf}
-use Rattle.kat_print.proofs.PrintedExprs.{expr_back}
-use Rattle.kat_print.proofs.PrintedConds.{cond_back}
+use Rattle.text_tokens.specs.declared.fault.TextFault.{TextFault}
+use Rattle.text_tokens.specs.Pieces.{Piece, word, symbol, gap}
+use Rattle.text_tokens.proofs.Printed.{printed}
+use Rattle.text_grammar.specs.declared.terminal.Terminal.{Terminal}
+use Rattle.text_grammar.specs.declared.terminal.Terminal.TheVariants.{Name, Keyword, Separator}
+use Rattle.text_grammar.specs.declared.terminal.Keyword.TheVariants as keyword
+use Rattle.text_grammar.specs.declared.terminal.Separator.TheVariants.{Semicolon, CurlyOpen, Becomes}
+use Rattle.text_grammar.specs.Lexemes.{Lexeme, lexeme}
+use Rattle.text_grammar.specs.Parsed.{Parsed, ◌>>=◌, before, change, place_of}
+use Rattle.text_grammar.specs.Actions.{context}
+use Rattle.text_grammar.specs.Phrases.{one_conj, one_lit, one_mul, one_fac, yield_before, MeetsLookahead}
+use Rattle.text_scopes.specs.declared.meaning.Meaning.{Meaning}
+use Rattle.text_scopes.specs.declared.meaning.Meaning.TheVariants.{Action, Var}
+use Rattle.text_scopes.specs.declared.extent.Extent.{Extent}
+use Rattle.text_scopes.specs.ScopeParts.{ScopeParts, IsNameOf}
+use Rattle.text_scopes.specs.Readings.{within, phrased}
+use Rattle.text_scopes.specs.Laws.{told_nodes}
+use Rattle.text_scopes.specs.Sound.{IsExprName}
+use Rattle.text_print.specs.Printing.{expr_pieces, cond_pieces, CondIsNamed, ExprIsNamed, expr_nesting, cond_nesting}
+use Rattle.text_print.proofs.WordTerminals.{name_terminal}
+use Rattle.text_print.proofs.PrintedPhrases.{lexemes_from, leaf}
+use Rattle.text_print.proofs.PrintedExprs.{expr_back}
+use Rattle.text_print.proofs.PrintedConds.{cond_back}
 use Rattle.while_lang.specs.Programs.{ProgTree, empty, skip_then, abort_then, assert_then, act_then, assign_then, branch_then, loop_then, prog_of, stmts_of}
 use Rattle.while_lang.specs.Programs.{StmtTree, skip, abort, assert, act, assign, branch as branch_stmt, loop}
 use Rattle.while_lang.specs.ProgramSizes.{prog_size, largest_in}

@@ -1,11 +1,11 @@
 -- The test of the syntax takes just the blocks.
 use Rattle.std.proofs.Common.{◌≡◌, ℕ, ◌+◌, ◌<◌, List, [], true, false, Result, Ok, Err, refl, ap, ◌∙◌}
 use Rattle.std.proofs.lemmas.Bool.{lt-ltb}
-use Rattle.kat_tokens.specs.declared.fault.TextFault.{TextFault}
-use Rattle.kat_syntax.specs.Lexemes.{Lexeme}
-use Rattle.kat_syntax.specs.Parsed.{Parsed, ◌>>=◌}
-use Rattle.kat_syntax.specs.Actions.{context}
-use Rattle.kat_syntax.proofs.Scanned.{scanned}
+use Rattle.text_tokens.specs.declared.fault.TextFault.{TextFault}
+use Rattle.text_grammar.specs.Lexemes.{Lexeme}
+use Rattle.text_grammar.specs.Parsed.{Parsed, ◌>>=◌}
+use Rattle.text_grammar.specs.Actions.{context}
+use Rattle.text_grammar.proofs.Scanned.{scanned}
 use Rattle.while_lang.specs.Blocks.{enter, block as block_aim, parse_block}
 use Rattle.while_lang.specs.BlockPhrases.{BlockSymbol, BlockPhrase, braced, no_stmts, more_stmts, skip_stmt, abort_stmt, assert_stmt, name_stmt, assign_stmt, if_stmt, while_stmt, no_else, else_block, else_if, BlockFits}
 use Rattle.while_lang.specs.BlockFolds.{fold_block}

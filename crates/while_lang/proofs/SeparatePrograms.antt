@@ -1,13 +1,13 @@
 -- The pieces of a printed program are tokens that do not go on in the next.
 use Rattle.std.proofs.Common.{ℕ, List, [], ◌∷◌, refl}
 use Rattle.std.specs.Prelude.{codes}
-use Rattle.kat_tokens.specs.declared.token.Kind.TheVariants.{Symbol}
-use Rattle.kat_tokens.specs.Pieces.{Piece, symbol, gap, spelled, EndsBefore, AreSeparate}
-use Rattle.kat_tokens.proofs.Words.{keyword_is_name}
-use Rattle.kat_text.specs.declared.meaning.Meaning.{Meaning}
-use Rattle.kat_text.specs.ScopeParts.{ScopeParts}
-use Rattle.kat_print.specs.Printing.{expr_pieces, cond_pieces}
-use Rattle.kat_print.proofs.Separate.{EndsWords, blank_ends, expr_separate, cond_separate}
+use Rattle.text_tokens.specs.declared.token.Kind.TheVariants.{Symbol}
+use Rattle.text_tokens.specs.Pieces.{Piece, symbol, gap, spelled, EndsBefore, AreSeparate}
+use Rattle.text_tokens.proofs.Words.{keyword_is_name}
+use Rattle.text_scopes.specs.declared.meaning.Meaning.{Meaning}
+use Rattle.text_scopes.specs.ScopeParts.{ScopeParts}
+use Rattle.text_print.specs.Printing.{expr_pieces, cond_pieces}
+use Rattle.text_print.proofs.Separate.{EndsWords, blank_ends, expr_separate, cond_separate}
 use Rattle.while_lang.specs.Programs.{ProgTree, empty, skip_then, abort_then, assert_then, act_then, assign_then, branch_then, loop_then}
 use Rattle.while_lang.specs.ProgramPrinting.{keyword_pieces, in_curly, stmts_pieces, block_pieces, ProgIsNamed}
 

@@ -1,8 +1,8 @@
 -- What is made of the parts of a block while it is read. Actions may refuse a part; all else that can be wrong with a
 -- block is its syntax, its depth, or a number that is too wide.
 use Rattle.std.specs.Prelude.{ℕ, List, Result}
-use Rattle.kat_tokens.specs.declared.fault.TextFault.{TextFault}
-use Rattle.kat_syntax.specs.Actions.{Actions}
+use Rattle.text_tokens.specs.declared.fault.TextFault.{TextFault}
+use Rattle.text_grammar.specs.Actions.{Actions}
 
 -- S is what is made of the statements of a block so far, and each action on statements takes that. A number is first how
 -- many constructs are open, and then the place of a name.

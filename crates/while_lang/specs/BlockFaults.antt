@@ -1,14 +1,14 @@
 -- Which faults the test of the syntax of blocks answers.
 use Rattle.std.specs.Prelude.{◌≡◌, ◌⊎◌, ℕ, List, Bool, true, ◌||◌, Err}
-use Rattle.kat_tokens.specs.declared.fault.TextFault.{TextFault}
-use Rattle.kat_tokens.specs.declared.fault.TextFault.TheVariants.{Syntax, TooDeep, NumberTooWide}
-use Rattle.kat_syntax.specs.declared.terminal.Terminal.{Terminal}
-use Rattle.kat_syntax.specs.declared.terminal.Terminal.TheVariants.{Keyword, Separator}
-use Rattle.kat_syntax.specs.declared.terminal.Keyword.TheVariants as word
-use Rattle.kat_syntax.specs.declared.terminal.Separator.TheVariants.{CurlyOpen}
-use Rattle.kat_syntax.specs.Lexemes.{Lexeme, is_terminal}
-use Rattle.kat_syntax.specs.Parsed.{at_end}
-use Rattle.kat_syntax.specs.Faults.{opens, is_wide, StandsAt}
+use Rattle.text_tokens.specs.declared.fault.TextFault.{TextFault}
+use Rattle.text_tokens.specs.declared.fault.TextFault.TheVariants.{Syntax, TooDeep, NumberTooWide}
+use Rattle.text_grammar.specs.declared.terminal.Terminal.{Terminal}
+use Rattle.text_grammar.specs.declared.terminal.Terminal.TheVariants.{Keyword, Separator}
+use Rattle.text_grammar.specs.declared.terminal.Keyword.TheVariants as word
+use Rattle.text_grammar.specs.declared.terminal.Separator.TheVariants.{CurlyOpen}
+use Rattle.text_grammar.specs.Lexemes.{Lexeme, is_terminal}
+use Rattle.text_grammar.specs.Parsed.{at_end}
+use Rattle.text_grammar.specs.Faults.{opens, is_wide, StandsAt}
 use Rattle.while_lang.specs.BlockScans.{scan_block}
 
 -- what opens a construct of a block: a brace, the `if` of an `else if`, and what opens one of a condition or an expression

@@ -1,14 +1,14 @@
 -- What is made of a block, and what its measures tell of its tree.
 use Rattle.std.specs.Prelude.{◌≡◌, ◌↔◌, ◌≤◌, ◌+◌, ℕ, min, List, [], length, slice_get, Some, IsOk, Ok}
-use Rattle.kat_tokens.specs.declared.lexer.TheConstants.{MAX_LEN}
-use Rattle.kat_tokens.specs.Pieces.{spelled}
-use Rattle.kat_syntax.specs.Lexemes.{Lexeme}
-use Rattle.kat_syntax.specs.Parsed.{◌>>=◌, before}
-use Rattle.kat_text.specs.declared.extent.Extent.{Extent}
-use Rattle.kat_text.specs.declared.meaning.Meaning.{Meaning}
-use Rattle.kat_text.specs.ScopeParts.{ScopeParts}
-use Rattle.kat_text.specs.Laws.{told_nodes}
-use Rattle.kat_print.specs.Laws.{ReadsBack}
+use Rattle.text_tokens.specs.declared.lexer.TheConstants.{MAX_LEN}
+use Rattle.text_tokens.specs.Pieces.{spelled}
+use Rattle.text_grammar.specs.Lexemes.{Lexeme}
+use Rattle.text_grammar.specs.Parsed.{◌>>=◌, before}
+use Rattle.text_scopes.specs.declared.extent.Extent.{Extent}
+use Rattle.text_scopes.specs.declared.meaning.Meaning.{Meaning}
+use Rattle.text_scopes.specs.ScopeParts.{ScopeParts}
+use Rattle.text_scopes.specs.Laws.{told_nodes}
+use Rattle.text_print.specs.Laws.{ReadsBack}
 use Rattle.while_lang.specs.Programs.{ProgTree, prog_of}
 use Rattle.while_lang.specs.ProgramSizes.{prog_size, largest_in}
 use Rattle.while_lang.specs.NamedProgs.{ProgParts}

@@ -1,11 +1,11 @@
 -- What is read of a block: its tree and its nesting, or its first fault.
 use Rattle.std.specs.Prelude.{ℕ, List, Result}
-use Rattle.kat_tokens.specs.declared.fault.TextFault.{TextFault}
-use Rattle.kat_syntax.specs.Lexemes.{Lexeme}
-use Rattle.kat_syntax.specs.Parsed.{Parsed, change, place_of}
-use Rattle.kat_text.specs.declared.extent.Extent.{Extent}
-use Rattle.kat_text.specs.ScopeParts.{ScopeParts}
-use Rattle.kat_text.specs.Readings.{Phrased, within, phrased}
+use Rattle.text_tokens.specs.declared.fault.TextFault.{TextFault}
+use Rattle.text_grammar.specs.Lexemes.{Lexeme}
+use Rattle.text_grammar.specs.Parsed.{Parsed, change, place_of}
+use Rattle.text_scopes.specs.declared.extent.Extent.{Extent}
+use Rattle.text_scopes.specs.ScopeParts.{ScopeParts}
+use Rattle.text_scopes.specs.Readings.{Phrased, within, phrased}
 use Rattle.while_lang.specs.Programs.{ProgTree, prog_of}
 use Rattle.while_lang.specs.NamedProgs.{ProgParts}
 use Rattle.while_lang.specs.Blocks.{block, parse_block}

@@ -1,15 +1,15 @@
 -- Blocks of statements, read from the front of the tokens.
 use Rattle.std.specs.Prelude.{ℕ, zero, suc, ◌+◌, ◌*◌, List, [], ◌∷◌, length, drop, true, false, if◌then◌else◌, nat_lt, Result, Ok, Err}
-use Rattle.kat_tokens.specs.declared.fault.TextFault.{TextFault}
-use Rattle.kat_tokens.specs.declared.fault.TextFault.TheVariants.{NoMemory, Syntax, TooDeep}
-use Rattle.kat_syntax.specs.declared.terminal.Terminal.TheVariants.{Name, Keyword, Separator}
-use Rattle.kat_syntax.specs.declared.terminal.Keyword.TheVariants as word
-use Rattle.kat_syntax.specs.declared.terminal.Separator.TheVariants.{Semicolon, CurlyOpen, CurlyClose, Becomes}
-use Rattle.kat_syntax.specs.Lexemes.{Lexeme, lexeme, heads, is_terminal}
-use Rattle.kat_syntax.specs.Parsed.{Parsed, ◌>>=◌, at_end, place_of, before, change, wants, then_wants}
-use Rattle.kat_syntax.specs.Actions.{context}
-use Rattle.kat_syntax.specs.Exprs.{parse_expr, sums}
-use Rattle.kat_syntax.specs.Conds.{parse_cond, disjunction}
+use Rattle.text_tokens.specs.declared.fault.TextFault.{TextFault}
+use Rattle.text_tokens.specs.declared.fault.TextFault.TheVariants.{NoMemory, Syntax, TooDeep}
+use Rattle.text_grammar.specs.declared.terminal.Terminal.TheVariants.{Name, Keyword, Separator}
+use Rattle.text_grammar.specs.declared.terminal.Keyword.TheVariants as word
+use Rattle.text_grammar.specs.declared.terminal.Separator.TheVariants.{Semicolon, CurlyOpen, CurlyClose, Becomes}
+use Rattle.text_grammar.specs.Lexemes.{Lexeme, lexeme, heads, is_terminal}
+use Rattle.text_grammar.specs.Parsed.{Parsed, ◌>>=◌, at_end, place_of, before, change, wants, then_wants}
+use Rattle.text_grammar.specs.Actions.{context}
+use Rattle.text_grammar.specs.Exprs.{parse_expr, sums}
+use Rattle.text_grammar.specs.Conds.{parse_cond, disjunction}
 use Rattle.while_lang.specs.BlockActions.{BlockActions}
 
 -- one construct more is open, from the token at the place on

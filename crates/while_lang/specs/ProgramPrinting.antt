@@ -1,10 +1,10 @@
 -- Programs as they are printed.
 use Rattle.std.specs.Prelude.{◌+◌, max, ℕ, List, ◌∷◌, codes}
-use Rattle.kat_tokens.specs.Pieces.{Piece, word, symbol, gap}
-use Rattle.kat_text.specs.declared.meaning.Meaning.{Meaning}
-use Rattle.kat_text.specs.declared.meaning.Meaning.TheVariants.{Action, Var}
-use Rattle.kat_text.specs.ScopeParts.{ScopeParts, IsNameOf}
-use Rattle.kat_print.specs.Printing.{expr_pieces, cond_pieces, ExprIsNamed, CondIsNamed, expr_nesting, cond_nesting}
+use Rattle.text_tokens.specs.Pieces.{Piece, word, symbol, gap}
+use Rattle.text_scopes.specs.declared.meaning.Meaning.{Meaning}
+use Rattle.text_scopes.specs.declared.meaning.Meaning.TheVariants.{Action, Var}
+use Rattle.text_scopes.specs.ScopeParts.{ScopeParts, IsNameOf}
+use Rattle.text_print.specs.Printing.{expr_pieces, cond_pieces, ExprIsNamed, CondIsNamed, expr_nesting, cond_nesting}
 use Rattle.while_lang.specs.Programs.{ProgTree, empty, skip_then, abort_then, assert_then, act_then, assign_then, branch_then, loop_then}
 
 -- a statement that is a word, after a blank

@@ -1,7 +1,7 @@
 //! The tree of a block.
 ghost use Rattle.std.specs.Prelude.{◌≡◌, ◌++◌, map, length, drop, slice_get, OnOk, IfOk};
-ghost use Rattle.kat_syntax.specs.Lexemes.{lexemes};
-ghost use Rattle.kat_syntax.specs.Parsed.{Reads, Goes};
+ghost use Rattle.text_grammar.specs.Lexemes.{lexemes};
+ghost use Rattle.text_grammar.specs.Parsed.{Reads, Goes};
 ghost use Rattle.while_lang.specs.Programs.{stmts_of};
 ghost use Rattle.while_lang.specs.ProgramViews.{stmt_tree};
 ghost use Rattle.while_lang.specs.NamedProgs.{parts_of_progs};
@@ -13,9 +13,9 @@ use crate::blocks;
 use crate::named::NamedProg;
 use crate::prog::{Prog, Stmt, push_stmt};
 use kat_model::{Cond, Expr, NoMemory};
-use kat_text::{Meaning, Scope};
-use kat_tokens::{TextFault, Token};
 use std::alloc::Global;
+use text_scopes::{Meaning, Scope};
+use text_tokens::{TextFault, Token};
 
 // Builds the tree of a block that was measured before.
 #[derive(Clone, Copy)]
@@ -118,7 +118,7 @@ impl BlockReading for BlockBuild<'_> {
         from: usize,
         depth: usize,
     ) -> Result<(Expr, usize), TextFault> {
-        kat_text::build_expr(self.alloc, toks, from, depth, self.scope)
+        text_scopes::build_expr(self.alloc, toks, from, depth, self.scope)
     }
 
     fn read_cond(
@@ -127,7 +127,7 @@ impl BlockReading for BlockBuild<'_> {
         from: usize,
         depth: usize,
     ) -> Result<(Cond, usize), TextFault> {
-        kat_text::build_cond(self.alloc, toks, from, depth, self.scope, true)
+        text_scopes::build_cond(self.alloc, toks, from, depth, self.scope, true)
     }
 
     fn none(&self) -> Vec<Stmt> {

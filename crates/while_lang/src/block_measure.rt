@@ -1,8 +1,8 @@
 //! The faults of the names of a block, and how large and how deep it is.
 ghost use Rattle.std.specs.Prelude.{◌≡◌, length, drop, slice_get};
-ghost use Rattle.kat_syntax.specs.Lexemes.{lexemes};
-ghost use Rattle.kat_syntax.specs.Parsed.{Reads, Goes};
-ghost use Rattle.kat_text.specs.Measuring.{compared_nodes};
+ghost use Rattle.text_grammar.specs.Lexemes.{lexemes};
+ghost use Rattle.text_grammar.specs.Parsed.{Reads, Goes};
+ghost use Rattle.text_scopes.specs.Measuring.{compared_nodes};
 ghost use Rattle.while_lang.specs.NamedProgs.{parts_of_progs};
 ghost use Rattle.while_lang.specs.BlockMeasuring.{extent, with_node, beside, deeper, spliced_extent, named_extent, check_target, block_extents};
 ghost use Rattle.while_lang.specs.BlockReadings.{measured_block};
@@ -11,8 +11,8 @@ use crate::block_reading::BlockReading;
 use crate::blocks;
 use crate::named::NamedProg;
 use kat_model::{MAX_EXPR_NODES, MAX_OPEN, MAX_TERM_NODES};
-use kat_text::{Extent, Meaning, Scope};
-use kat_tokens::{TextFault, Token};
+use text_scopes::{Extent, Meaning, Scope};
+use text_tokens::{TextFault, Token};
 
 // Measures a block, and refuses what may not stand in it.
 #[derive(Clone, Copy)]
@@ -118,7 +118,7 @@ impl BlockReading for BlockMeasure<'_> {
 
     type Stmts = Extent;
 
-    ghost use Rattle.kat_text.specs.declared.extent.Extent.{Extent};
+    ghost use Rattle.text_scopes.specs.declared.extent.Extent.{Extent};
 
     ghost E = { Extent };
 
@@ -148,7 +148,7 @@ impl BlockReading for BlockMeasure<'_> {
         from: usize,
         depth: usize,
     ) -> Result<(Extent, usize), TextFault> {
-        kat_text::measure_expr(toks, from, depth, self.scope)
+        text_scopes::measure_expr(toks, from, depth, self.scope)
     }
 
     fn read_cond(
@@ -157,7 +157,7 @@ impl BlockReading for BlockMeasure<'_> {
         from: usize,
         depth: usize,
     ) -> Result<(Extent, usize), TextFault> {
-        kat_text::measure_cond(toks, from, depth, self.scope, true)
+        text_scopes::measure_cond(toks, from, depth, self.scope, true)
     }
 
     fn none(&self) -> Extent {

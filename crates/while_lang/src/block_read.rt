@@ -1,7 +1,7 @@
 //! Blocks read in a scope.
 ghost use Rattle.std.specs.Prelude.{◌≡◌, ◌<◌, ◌≤◌, length, drop, IfOk};
-ghost use Rattle.kat_syntax.specs.Lexemes.{lexemes};
-ghost use Rattle.kat_text.specs.Readings.{Answers};
+ghost use Rattle.text_grammar.specs.Lexemes.{lexemes};
+ghost use Rattle.text_scopes.specs.Readings.{Answers};
 ghost use Rattle.while_lang.specs.NamedProgs.{parts_of_progs};
 ghost use Rattle.while_lang.specs.BlockReadings.{block_at};
 
@@ -10,10 +10,10 @@ use crate::block_measure::measure_block;
 use crate::named::NamedProg;
 use crate::prog::Prog;
 use kat_model::MAX_TERM_NODES;
-use kat_syntax::place_at;
-use kat_text::Scope;
-use kat_tokens::{TextFault, Token};
 use std::alloc::Global;
+use text_grammar::place_at;
+use text_scopes::Scope;
+use text_tokens::{TextFault, Token};
 
 /// The block that begins at `from`, with nothing open around it: its program, with the programs that it names spliced in,
 /// the index after it, and its nesting. Or the first fault of its syntax or its names in text order (`UnknownName`, `Sort`,

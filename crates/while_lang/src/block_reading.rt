@@ -1,11 +1,11 @@
 //! What is made of the parts of a block while it is read.
 ghost use Rattle.std.specs.Prelude.{◌≡◌, length, drop, Ok};
-ghost use Rattle.kat_syntax.specs.Lexemes.{lexemes};
-ghost use Rattle.kat_syntax.specs.Parsed.{Makes, Reads, Goes};
+ghost use Rattle.text_grammar.specs.Lexemes.{lexemes};
+ghost use Rattle.text_grammar.specs.Parsed.{Makes, Reads, Goes};
 ghost use Rattle.while_lang.specs.BlockActions.{BlockActions};
 ghost use Rattle.while_lang.specs.Blocks.{cond_by, expr_by};
 
-use kat_tokens::{TextFault, Token};
+use text_tokens::{TextFault, Token};
 
 // What is made of the parts of a block while it is read: the methods are called for the parts in text order, and each
 // method on statements takes those of the block so far. A part that is refused ends the reading with that fault. Places

@@ -1,14 +1,14 @@
 //! The test of the syntax of blocks, which takes no memory.
 ghost use Rattle.std.specs.Prelude.{◌≡◌, ◌<◌, ◌≤◌, length, drop, IfOk, IfErr};
-ghost use Rattle.kat_syntax.specs.Lexemes.{lexemes};
-ghost use Rattle.kat_syntax.specs.Parsed.{Wants};
+ghost use Rattle.text_grammar.specs.Lexemes.{lexemes};
+ghost use Rattle.text_grammar.specs.Parsed.{Wants};
 ghost use Rattle.while_lang.specs.BlockScans.{scanning_blocks, scan_block};
 ghost use Rattle.while_lang.specs.BlockFaults.{IsBlockFault};
 
 use crate::block_reading::BlockReading;
 use crate::blocks::read_block;
-use kat_syntax::{Context, Scan};
-use kat_tokens::{TextFault, Token};
+use text_grammar::{Context, Scan};
+use text_tokens::{TextFault, Token};
 
 // Makes nothing of a block, and refuses no part.
 struct BlockScan;
@@ -48,7 +48,7 @@ impl BlockReading for BlockScan {
         from: usize,
         depth: usize,
     ) -> Result<((), usize), TextFault> {
-        kat_syntax::read_expr(&Scan, toks, from, Context::outermost(depth, true))
+        text_grammar::read_expr(&Scan, toks, from, Context::outermost(depth, true))
     }
 
     fn read_cond(
@@ -57,7 +57,7 @@ impl BlockReading for BlockScan {
         from: usize,
         depth: usize,
     ) -> Result<((), usize), TextFault> {
-        kat_syntax::read_cond(&Scan, toks, from, Context::outermost(depth, true))
+        text_grammar::read_cond(&Scan, toks, from, Context::outermost(depth, true))
     }
 
     fn none(&self) {}

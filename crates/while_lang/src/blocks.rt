@@ -1,16 +1,16 @@
 //! Blocks of statements, gone through once for any reading.
 ghost use Rattle.std.specs.Prelude.{◌≡◌, ℕ, ◌+◌, ◌<◌, ◌≤◌, length, drop, IfOk};
-ghost use Rattle.kat_syntax.specs.Lexemes.{lexemes, text_at, is_terminal};
-ghost use Rattle.kat_syntax.specs.Parsed.{Reads, Goes, Wants, wants};
+ghost use Rattle.text_grammar.specs.Lexemes.{lexemes, text_at, is_terminal};
+ghost use Rattle.text_grammar.specs.Parsed.{Reads, Goes, Wants, wants};
 ghost use Rattle.while_lang.specs.Blocks.{enter, block, stmts_after, stmt_after, branch_after, parse_block};
 ghost use Rattle.while_lang.specs.Blocks.{assign_by, named_by, else_by};
 
 use crate::block_reading::BlockReading;
 use kat_model::MAX_OPEN;
-use kat_syntax::{
+use text_grammar::{
     Keyword, Separator, Terminal, expect, is_at, place_at, syntax_fault_at, terminal_at, text_at,
 };
-use kat_tokens::{TextFault, Token};
+use text_tokens::{TextFault, Token};
 
 /// How many constructs are open once one more is, which begins at the place; `TooDeep` at that place where 200 or more are
 /// open before it.
@@ -28,7 +28,7 @@ pub fn enter(depth: usize, at: usize) -> Result<usize, TextFault>
 // place `usize::MAX` after the last token), `TooDeep` at the token with which more than 200 constructs are open,
 // `NumberTooWide` at a number of 2^64 or more, or that with which the reading refuses a part.
 #[cycle(blocks)]
-#[tactic(auto, using(crate::proofs::BlockSteps::block_step, kat_syntax::proofs::Tokens::next_drop))]
+#[tactic(auto, using(crate::proofs::BlockSteps::block_step, text_grammar::proofs::Tokens::next_drop))]
 pub(crate) fn read_block<R: BlockReading>(
     reading: &R,
     toks: &[Token],
@@ -46,7 +46,7 @@ pub(crate) fn read_block<R: BlockReading>(
 
 // Statements up to a closing brace, and the index after it.
 #[cycle(blocks)]
-#[tactic(auto, using(crate::proofs::BlockSteps::block_step, kat_syntax::proofs::Tokens::next_drop))]
+#[tactic(auto, using(crate::proofs::BlockSteps::block_step, text_grammar::proofs::Tokens::next_drop))]
 fn stmts<R: BlockReading>(
     reading: &R,
     toks: &[Token],
@@ -68,7 +68,7 @@ fn stmts<R: BlockReading>(
 
 // A statement after those of a list.
 #[cycle(blocks)]
-#[tactic(auto, using(crate::proofs::BlockSteps::block_step, kat_syntax::proofs::Tokens::next_drop))]
+#[tactic(auto, using(crate::proofs::BlockSteps::block_step, text_grammar::proofs::Tokens::next_drop))]
 fn stmt<R: BlockReading>(
     reading: &R,
     toks: &[Token],
@@ -123,7 +123,7 @@ fn semicolon(toks: &[Token], i: usize) -> Result<usize, TextFault>
 }
 
 // A statement that begins with a name, from the token after it on.
-#[tactic(auto, using(kat_syntax::proofs::Tokens::next_drop))]
+#[tactic(auto, using(text_grammar::proofs::Tokens::next_drop))]
 fn name_statement<R: BlockReading>(
     reading: &R,
     toks: &[Token],
@@ -164,7 +164,7 @@ fn assignment<R: BlockReading>(
 
 // A statement from its `if` on, after those of a list.
 #[cycle(blocks)]
-#[tactic(auto, using(crate::proofs::BlockSteps::block_step, kat_syntax::proofs::Tokens::next_drop))]
+#[tactic(auto, using(crate::proofs::BlockSteps::block_step, text_grammar::proofs::Tokens::next_drop))]
 fn branch<R: BlockReading>(
     reading: &R,
     toks: &[Token],
@@ -183,7 +183,7 @@ fn branch<R: BlockReading>(
 
 // The second block of an `if`, and the index after it.
 #[cycle(blocks)]
-#[tactic(auto, using(kat_syntax::proofs::Tokens::next_drop))]
+#[tactic(auto, using(text_grammar::proofs::Tokens::next_drop))]
 fn otherwise<R: BlockReading>(
     reading: &R,
     toks: &[Token],

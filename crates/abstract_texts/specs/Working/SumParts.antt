@@ -1,8 +1,8 @@
 -- The parts of a form's text that are printed one by one.
 use Rattle.std.specs.Prelude.{ℕ, List, [], ◌++◌, codes, Bool, ◌&&◌, not, nat_eq, if◌then◌else◌}
 use Rattle.std.specs.Fmt.{decimal}
-use Rattle.kat_text.specs.declared.meaning.Meaning.{Meaning}
-use Rattle.kat_text.specs.declared.meaning.Meaning.TheVariants.{Var}
+use Rattle.text_scopes.specs.declared.meaning.Meaning.{Meaning}
+use Rattle.text_scopes.specs.declared.meaning.Meaning.TheVariants.{Var}
 use Rattle.linear_forms.specs.Forms.{MonoTree, var, product, TermTree}
 use Rattle.abstract_texts.specs.Shows.{plus_text, times_text, form_text}
 

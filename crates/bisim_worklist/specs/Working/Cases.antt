@@ -3,9 +3,9 @@ use Rattle.std.specs.Prelude.{◌≡◌, ◌⊎◌, ◌<◌, ◌+◌, ℕ, Bool,
 use Rattle.kat_model.specs.Members.{Has}
 use Rattle.kat_model.specs.Steps.{Atom}
 use Rattle.test_diagrams.specs.Functions.{DiagramsParts, IsAtomOf, IsIndependent, IsConstant, DependsOn}
-use Rattle.stored_pairs.specs.declared.items.Item.{Item}
-use Rattle.stored_pairs.specs.declared.items.Side.{Side}
-use Rattle.stored_pairs.specs.Items.{AreItems, targets_of, chosen}
+use Rattle.walk_pairs.specs.declared.items.Item.{Item}
+use Rattle.walk_pairs.specs.declared.items.Side.{Side}
+use Rattle.walk_pairs.specs.Items.{AreItems, targets_of, chosen}
 
 -- the atom has the values of the tests that are decided
 abbrev pub Extends : List (Option Bool) → Atom → Type 0

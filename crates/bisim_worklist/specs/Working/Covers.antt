@@ -1,10 +1,10 @@
 -- Whether sets of targets are congruent as far as the decided tests tell.
 use Rattle.std.specs.Prelude.{◌&&◌, Bool, List}
-use Rattle.stored_pairs.specs.declared.items.Item.{Item}
-use Rattle.stored_pairs.specs.declared.items.Ends.{Ends}
-use Rattle.stored_pairs.specs.declared.items.Side.{Side}
-use Rattle.stored_pairs.specs.declared.items.Side.TheVariants.{Left, Right}
-use Rattle.stored_pairs.specs.Items.{targets_under, open_targets}
+use Rattle.walk_pairs.specs.declared.items.Item.{Item}
+use Rattle.walk_pairs.specs.declared.items.Ends.{Ends}
+use Rattle.walk_pairs.specs.declared.items.Side.{Side}
+use Rattle.walk_pairs.specs.declared.items.Side.TheVariants.{Left, Right}
+use Rattle.walk_pairs.specs.Items.{targets_under, open_targets}
 use Rattle.bisim_worklist.specs.Working.Marks.{RuleParts, reaches_targets}
 
 -- whether what may be on one side alone is brought to the other by what surely is there

@@ -15,10 +15,10 @@ use Rattle.bisim_worklist.specs.Working.Visits.{IsVisited}
 use Rattle.term_nodes.specs.NumberSets.{terms_of}
 use Rattle.bisim_worklist.specs.Working.Listings.{entries_of, AreIdSets}
 use Rattle.bisim_worklist.specs.Working.Marks.{RuleParts, IsWithinLimit}
-use Rattle.stored_pairs.specs.Items.{chosen}
+use Rattle.walk_pairs.specs.Items.{chosen}
 use Rattle.bisim_worklist.specs.Working.Cases.{Extends}
-use Rattle.stored_pairs.specs.declared.items.Item.{Item}
-use Rattle.stored_pairs.specs.declared.items.Side.TheVariants.{Left, Right}
+use Rattle.walk_pairs.specs.declared.items.Item.{Item}
+use Rattle.walk_pairs.specs.declared.items.Side.TheVariants.{Left, Right}
 use Rattle.bisim_worklist.specs.declared.branching.Stride.{Stride}
 
 -- the rules are the pairs of a walk, by ids of the store, that has processed the first so many

@@ -1,7 +1,7 @@
 -- Indices of listed pairs: each of their sets stands under one of its members.
 use Rattle.std.specs.Prelude.{◌≡◌, ◌⊎◌, ◌≤◌, ℕ, List, [], length, slice_get, slice_index_or, Option, Some, None}
-use Rattle.stored_pairs.specs.declared.items.Side.{Side}
-use Rattle.stored_pairs.specs.declared.items.Side.TheVariants.{Left, Right}
+use Rattle.walk_pairs.specs.declared.items.Side.{Side}
+use Rattle.walk_pairs.specs.declared.items.Side.TheVariants.{Left, Right}
 use Rattle.kat_model.specs.Members.{Has}
 use Rattle.bisim_worklist.specs.declared.pair.Spot.{Spot}
 use Rattle.bisim_worklist.specs.Working.Listings.{IdEntry}

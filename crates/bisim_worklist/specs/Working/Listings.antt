@@ -6,9 +6,9 @@ use Rattle.term_nodes.specs.NumberSets.{terms_of}
 use Rattle.term_nodes.specs.NodeLists.{NodeParts}
 use Rattle.certificate.specs.PairParts.{PairParts}
 use Rattle.bisim_worklist.specs.Walks.{Origin, Entry}
-use Rattle.stored_pairs.specs.IdSets.{IsIdSet}
-use Rattle.stored_pairs.specs.declared.items.Side.{Side}
-use Rattle.stored_pairs.specs.declared.items.Side.TheVariants.{Left, Right}
+use Rattle.walk_pairs.specs.IdSets.{IsIdSet}
+use Rattle.walk_pairs.specs.declared.items.Side.{Side}
+use Rattle.walk_pairs.specs.declared.items.Side.TheVariants.{Left, Right}
 
 pub record IdEntry : Type 0 where
   pub left : List ℕ

@@ -3,7 +3,7 @@ use Rattle.std.specs.Prelude.{◌≡◌, ◌≤◌, ◌<◌, ◌+◌, zero, suc,
 use Rattle.std.specs.Option.{option_map_or}
 use Rattle.std.specs.List.{list_all}
 use Rattle.kat_model.specs.Members.{Has}
-use Rattle.stored_pairs.specs.declared.items.Side.{Side}
+use Rattle.walk_pairs.specs.declared.items.Side.{Side}
 use Rattle.bisim_worklist.specs.declared.pair.Spot.{Spot}
 use Rattle.bisim_worklist.specs.Working.Listings.{IdEntry, set_on, set_across}
 use Rattle.bisim_worklist.specs.Working.Indices.{IndexParts, IsWitness}

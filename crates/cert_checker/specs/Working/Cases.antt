@@ -6,7 +6,7 @@ use Rattle.term_nodes.specs.declared.TestNode.{TestNode}
 use Rattle.term_nodes.specs.declared.TestNode.TheVariants.{False, True, Prim, Not, And, Or}
 use Rattle.term_nodes.specs.Nodes.{test_parts}
 use Rattle.cert_checker.specs.Answers.{IsLess}
-use Rattle.checker_steps.specs.NodeTables.{TableParts, IsTest, holds_at}
+use Rattle.cert_steps.specs.NodeTables.{TableParts, IsTest, holds_at}
 use Rattle.cert_checker.specs.declared.known.Known.{Known}
 use Rattle.cert_checker.specs.declared.known.Known.TheVariants.{Value, Waits}
 

@@ -11,7 +11,7 @@ use Rattle.certificate.specs.declared.nodes.Style.{Style}
 use Rattle.certificate.specs.declared.nodes.Style.TheVariants.{Plain, UpTo, Under}
 use Rattle.term_nodes.specs.NumberSets.{NumberPair}
 use Rattle.certificate.specs.PairParts.{PairParts, sets_of}
-use Rattle.checker_steps.specs.Targets.{guard_of}
+use Rattle.cert_steps.specs.Targets.{guard_of}
 use Rattle.cert_checker.specs.Working.Cases.{known_of, known_test, known_and, truly, falsely}
 use Rattle.cert_checker.specs.Working.Reaching.{AreReached, IsReachedByBoth}
 use Rattle.cert_checker.specs.Working.Questions.{QuestionParts, IsWaited}

@@ -14,9 +14,9 @@ use Rattle.certificate.specs.declared.nodes.Style.TheVariants.{Plain, UpTo, Unde
 use Rattle.certificate.specs.PairParts.{PairParts}
 use Rattle.certificate.specs.Certs.{CertParts, IsCert, nodes_of}
 use Rattle.certificate.specs.Accepted.{tested_pair_of, tested_pairs}
-use Rattle.checker_steps.specs.NodeTables.{TableParts, TablesGrow, tables_of, IsTest, HasValues, holds_at}
-use Rattle.checker_steps.specs.Marks.{IsMarked, AreClosed}
-use Rattle.checker_steps.specs.Targets.{AreAcceptances, AreSteps}
+use Rattle.cert_steps.specs.NodeTables.{TableParts, TablesGrow, tables_of, IsTest, HasValues, holds_at}
+use Rattle.cert_steps.specs.Marks.{IsMarked, AreClosed}
+use Rattle.cert_steps.specs.Targets.{AreAcceptances, AreSteps}
 use Rattle.cert_checker.specs.declared.pass.Place.{Place}
 use Rattle.cert_checker.specs.declared.answer.Reason.{Reason}
 use Rattle.cert_checker.specs.declared.answer.Reason.TheVariants.{FirstPair, Output, Missing, MissingTo, Shape, HypBroken, EndsAgree, TestNode, TermNode}

@@ -6,8 +6,8 @@ use Rattle.std.specs.declared.cmp.Ordering.{Ordering}
 use Rattle.std.specs.declared.cmp.Ordering.TheVariants.{Equal}
 use Rattle.kat_model.specs.Members.{SameMembers}
 use Rattle.kat_model.specs.Strings.{Move}
-use Rattle.line_texts.specs.Lines.{parts_of}
-use Rattle.line_texts.specs.Numerals.{is_numeral, value_of, too_wide}
+use Rattle.line_format.specs.Lines.{parts_of}
+use Rattle.line_format.specs.Numerals.{is_numeral, value_of, too_wide}
 use Rattle.certificate.specs.declared.entry.Entry.{Entry}
 use Rattle.certificate.specs.declared.entry.LineFault.{LineFault}
 use Rattle.certificate.specs.declared.entry.LineFault.TheVariants.{NoMemory as NoRoom, Form, Wide}

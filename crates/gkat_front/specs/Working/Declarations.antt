@@ -1,6 +1,6 @@
 -- What a name is declared for.
 use Rattle.std.specs.Prelude.{ℕ, List, Result}
-use Rattle.kat_tokens.specs.declared.fault.TextFault.{TextFault}
+use Rattle.text_tokens.specs.declared.fault.TextFault.{TextFault}
 use Rattle.gkat_front.specs.declared.item_reading.Declared.{Declared}
 use Rattle.gkat_front.specs.declared.item_reading.Declared.TheVariants.{Test, Action}
 use Rattle.gkat_front.specs.FileActions.{FileActions}

@@ -1,7 +1,7 @@
 -- What the items so far have made, as a state.
 use Rattle.std.specs.Prelude.{Option, Some, None}
-use Rattle.guarded_terms.specs.declared.gkat.Gkat.{Gkat}
-use Rattle.guarded_terms.specs.Expressions.{GkatTree, gkat_tree}
+use Rattle.gkat_terms.specs.declared.gkat.Gkat.{Gkat}
+use Rattle.gkat_terms.specs.Expressions.{GkatTree, gkat_tree}
 use Rattle.gkat_front.specs.Files.{State}
 use Rattle.gkat_front.specs.declared.reader.GkatReader.{GkatReader}
 

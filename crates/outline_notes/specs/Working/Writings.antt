@@ -1,7 +1,7 @@
 -- Parts of texts, as the writer appends them.
 use Rattle.std.specs.Prelude.{ℕ, List}
 use Rattle.std.specs.List.{flat_map}
-use Rattle.line_texts.specs.Lines.{line_of, with_feed}
+use Rattle.line_format.specs.Lines.{line_of, with_feed}
 use Rattle.outline_notes.specs.declared.line.NoteLine.{NoteLine}
 use Rattle.outline_notes.specs.Texts.{line_words}
 

@@ -5,9 +5,9 @@ use Rattle.kat_model.specs.Members.{Has}
 use Rattle.kat_model.specs.CourseOfValues.{course_of_values}
 use Rattle.kat_model.specs.Problems.{ProblemParts, IsTestInRange}
 use Rattle.kat_model.specs.Steps.{Atom}
-use Rattle.step_diagrams.specs.declared.moments.Moment.{Moment}
-use Rattle.step_diagrams.specs.Interleaved.{atom_at_moment}
-use Rattle.step_diagrams.specs.StepFunctions.{StepDiagramsParts, step_value, IsStepId, IsStepDiagram}
+use Rattle.outline_diagrams.specs.declared.moments.Moment.{Moment}
+use Rattle.outline_diagrams.specs.Interleaved.{atom_at_moment}
+use Rattle.outline_diagrams.specs.StepFunctions.{StepDiagramsParts, step_value, IsStepId, IsStepDiagram}
 use Rattle.outline_notes.specs.declared.notes.NoteNode.{NoteNode}
 use Rattle.outline_notes.specs.declared.notes.NoteNode.TheVariants.{False, True, Branch}
 use Rattle.outline_notes.specs.NoteLists.{NotesParts, node_holds}

@@ -1,8 +1,8 @@
 -- The first token of those that are looked at.
 use Rattle.std.specs.Prelude.{List, [], ◌∷◌, Result, Ok}
 use Rattle.kat_model.specs.declared.expression.Width.{Width}
-use Rattle.kat_tokens.specs.declared.fault.TextFault.{TextFault}
-use Rattle.kat_syntax.specs.Lexemes.{Lexeme}
+use Rattle.text_tokens.specs.declared.fault.TextFault.{TextFault}
+use Rattle.text_grammar.specs.Lexemes.{Lexeme}
 use Rattle.problem_file.specs.Numbers.{check_number}
 
 -- the fault of the first token, where it is a number that is too wide

@@ -1,7 +1,7 @@
 -- The numbers that names stand for.
 use Rattle.std.specs.Prelude.{◌<◌, ℕ, List}
-use Rattle.kat_text.specs.declared.meaning.Meaning.TheVariants.{Test, Action, Var, Prog}
-use Rattle.kat_text.specs.ScopeParts.{ScopeParts, Means}
+use Rattle.text_scopes.specs.declared.meaning.Meaning.TheVariants.{Test, Action, Var, Prog}
+use Rattle.text_scopes.specs.ScopeParts.{ScopeParts, Means}
 
 -- tests, actions, variables and programs that are named are below these numbers
 pub record AreNumbered (w : ScopeParts) (tests actions vars progs : ℕ) : Type 0 where

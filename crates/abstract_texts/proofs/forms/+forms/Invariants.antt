@@ -1,6 +1,6 @@
 use Rattle.std.proofs.Common.{◌≡◌, ◌++◌, drop, true}
 use Rattle.linear_forms.specs.Forms.{form_of}
-use Rattle.kat_print.specs.Printing.{name_of}
+use Rattle.text_print.specs.Printing.{name_of}
 use Rattle.abstract_texts.specs.Shows.{sum_text}
 use Rattle.abstract_texts.proofs.forms.+forms.Given as goal
 

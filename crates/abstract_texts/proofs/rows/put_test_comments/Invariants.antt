@@ -1,7 +1,7 @@
 use Rattle.std.proofs.Common.{◌≡◌, ◌++◌, drop}
 use Rattle.std.specs.Prelude.{flat_map}
 use Rattle.std.specs.List.{enumerate_from}
-use Rattle.kat_print.specs.Printing.{name_of}
+use Rattle.text_print.specs.Printing.{name_of}
 use Rattle.abstract_texts.specs.Shows.{test_comment}
 use Rattle.abstract_texts.proofs.rows.put_test_comments.Given as goal
 

@@ -1,7 +1,7 @@
 use Rattle.std.proofs.Common.{◌+◌, take, refl, sym, ap, ◌∙◌, subst, arith, false}
 use Rattle.test_diagrams.proofs.Kept.{KeepsFunctions-trans, IsDiagramOf-kept}
 use Rattle.partial_derivs.proofs.Items.{has_item}
-use Rattle.stored_pairs.specs.declared.items.Item.{Item}
+use Rattle.walk_pairs.specs.declared.items.Item.{Item}
 use Rattle.bisim_worklist.specs.Working.Cases.{AreItemsWith}
 use Rattle.bisim_worklist.proofs.FixedItems.{with_kept, fixed_later, fixed_before, with_item, with_unreached}
 use Rattle.bisim_worklist.proofs.cases.items_with.Goals.{then-ne+in_ok-push, else-ne+else-ne-2}

@@ -1,5 +1,5 @@
 use Rattle.std.proofs.Common.{◌≡◌, drop}
-use Rattle.stored_pairs.specs.Items.{targets_under}
+use Rattle.walk_pairs.specs.Items.{targets_under}
 use Rattle.bisim_worklist.specs.Working.Marks.{with_marks}
 use Rattle.bisim_worklist.proofs.cover.mark_sure.Given as goal
 

@@ -1,5 +1,5 @@
 use Rattle.std.proofs.Common.{◌≡◌, ◌++◌, drop}
-use Rattle.stored_pairs.specs.Items.{open_targets}
+use Rattle.walk_pairs.specs.Items.{open_targets}
 use Rattle.bisim_worklist.proofs.cover.open_targets.Given as goal
 
 abbrev pub invariant-loop-item : goal.invariant-loop-item

@@ -1,5 +1,5 @@
 use Rattle.std.proofs.Common.{◌≡◌, ◌++◌, drop}
-use Rattle.stored_pairs.specs.Items.{targets_under}
+use Rattle.walk_pairs.specs.Items.{targets_under}
 use Rattle.bisim_worklist.proofs.cover.sure_targets.Given as goal
 
 abbrev pub invariant-loop-item : goal.invariant-loop-item

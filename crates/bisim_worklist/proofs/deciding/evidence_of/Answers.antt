@@ -1,8 +1,8 @@
 use Rattle.std.proofs.Common.{◌≡◌, ◌<◌, length, map, Err, sym, ap, ◌∙◌, subst}
 use Rattle.certificate.specs.declared.nodes.Style.TheVariants.{UpTo}
 use Rattle.bisim_worklist.specs.Working.Listings.{AreTraced, untested_of}
-use Rattle.stored_pairs.specs.StoredPairs.{AreStoredPairs}
-use Rattle.stored_pairs.specs.Numbering.{IsCertOf}
+use Rattle.walk_pairs.specs.StoredPairs.{AreStoredPairs}
+use Rattle.walk_pairs.specs.Numbering.{IsCertOf}
 use Rattle.bisim_worklist.proofs.PassedOn.{passed_on}
 use Rattle.bisim_worklist.proofs.PairLimits.{short_where_limited, many_where_past}
 use Rattle.bisim_worklist.proofs.Decisions.{traced, stored, certified, certified_ids, difference_within, refuted, refuted_ids}

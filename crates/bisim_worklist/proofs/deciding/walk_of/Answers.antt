@@ -1,7 +1,7 @@
 use Rattle.std.proofs.Common.{subst}
 use Rattle.std.proofs.lemmas.Result.{IfOk-weaker}
 use Rattle.kat_model.specs.Closed.{Closed, closed}
-use Rattle.stored_pairs.specs.ClosedTerms.{AreIdsOf}
+use Rattle.walk_pairs.specs.ClosedTerms.{AreIdsOf}
 use Rattle.bisim_worklist.proofs.deciding.walk_of.Goals as goal
 
 pub returns-clause-under_way : goal.returns-clause-under_way

@@ -1,4 +1,4 @@
-use Rattle.stored_pairs.proofs.Covered.{congruent_covered}
+use Rattle.walk_pairs.proofs.Covered.{congruent_covered}
 use Rattle.bisim_worklist.proofs.laws.congruent_are_covered.Goals as goal
 
 pub returns : goal.returns

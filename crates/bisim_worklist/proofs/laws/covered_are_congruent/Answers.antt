@@ -1,4 +1,4 @@
-use Rattle.stored_pairs.proofs.Covered.{covered_congruent}
+use Rattle.walk_pairs.proofs.Covered.{covered_congruent}
 use Rattle.bisim_worklist.proofs.laws.covered_are_congruent.Goals as goal
 
 pub returns : goal.returns

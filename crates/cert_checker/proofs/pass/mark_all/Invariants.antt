@@ -1,5 +1,5 @@
 use Rattle.std.proofs.Common.{◌≡◌, ◌<◌, ℕ, length, get_or}
-use Rattle.checker_steps.specs.Marks.{IsMarked}
+use Rattle.cert_steps.specs.Marks.{IsMarked}
 use Rattle.cert_checker.proofs.pass.mark_all.Given as goal
 
 -- the old marks stay, and the numbers gone through are marked

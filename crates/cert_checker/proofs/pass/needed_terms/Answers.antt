@@ -4,7 +4,7 @@ use Rattle.kat_model.specs.Members.{Has}
 use Rattle.kat_model.proofs.Places.{has_at}
 use Rattle.term_nodes.specs.NumberSets.{are_below}
 use Rattle.certificate.specs.PairParts.{PairParts}
-use Rattle.checker_steps.specs.Marks.{IsMarked, IsClosure}
+use Rattle.cert_steps.specs.Marks.{IsMarked, IsClosure}
 use Rattle.cert_checker.specs.Working.Places.{AreNeeded}
 use Rattle.cert_checker.proofs.PairPlaces.{pair_at}
 use Rattle.term_nodes.proofs.Parts.{below_more}

@@ -2,7 +2,7 @@ use Rattle.std.proofs.Common.{map, refl, sym, ◌∙◌, subst, arith, add-one}
 use Rattle.kat_model.specs.Trees.{kat_tree}
 use Rattle.kat_model.specs.Problems.{HasTestsBelow}
 use Rattle.cert_checker.proofs.RootRanges.{hyp_below, shorts_more, shorts_same}
-use Rattle.checker_steps.proofs.GrowingTables.{grows_itself}
+use Rattle.cert_steps.proofs.GrowingTables.{grows_itself}
 use Rattle.cert_checker.proofs.pass.short_numbers.Goals as goal
 use Rattle.cert_checker.proofs.pass.short_numbers.Goals.{then-is_short+in_ok-number_of+in_ok-push, else-is_short}
 

@@ -3,7 +3,7 @@ use Rattle.std.specs.Option.{option_map}
 use Rattle.kat_model.specs.Trees.{kat_tree}
 use Rattle.kat_model.specs.Problems.{HasTestsBelow}
 use Rattle.kat_model.specs.Closed.{Closed}
-use Rattle.checker_steps.proofs.GrowingTables.{grows_itself, grows_trans}
+use Rattle.cert_steps.proofs.GrowingTables.{grows_itself, grows_trans}
 use Rattle.cert_checker.specs.Working.Roots.{AreClosedBelow}
 use Rattle.cert_checker.proofs.RootRanges.{universal_told, sides_made}
 use Rattle.cert_checker.proofs.pass.side_numbers.Goals as goal

@@ -1,8 +1,8 @@
 use Rattle.std.proofs.Common.{◌∙◌, ℕ, List, map, ap, subst}
 use Rattle.std.specs.Borrow.{Bor}
 use Rattle.std.specs.Option.{option_map}
-use Rattle.line_texts.specs.Numerals.{numbers_of}
-use Rattle.line_texts.specs.Readings.{texts}
+use Rattle.line_format.specs.Numerals.{numbers_of}
+use Rattle.line_format.specs.Readings.{texts}
 use Rattle.certificate.specs.declared.entry.Entry.TheVariants.{PairLine}
 use Rattle.certificate.specs.Forms.{pair_with}
 use Rattle.certificate.specs.Working.Readings.{ReadsEntry}

@@ -2,8 +2,8 @@ use Rattle.std.proofs.Common.{◌≡◌, ℕ, List, map, length, ap, arith}
 use Rattle.std.specs.Borrow.{Bor}
 use Rattle.std.specs.Option.{option_map}
 use Rattle.std.proofs.lemmas.List.{length-map}
-use Rattle.line_texts.specs.Numerals.{numbers_of}
-use Rattle.line_texts.specs.Readings.{texts}
+use Rattle.line_format.specs.Numerals.{numbers_of}
+use Rattle.line_format.specs.Readings.{texts}
 use Rattle.certificate.specs.declared.entry.Entry.TheVariants.{PairLine}
 use Rattle.certificate.proofs.PairForms.{pair_count}
 use Rattle.certificate.proofs.entry.pair_of_parts.Goals.{in_default-via-then-parts-lt2, in_default-via-else-parts-lt2+else-parts-lt3+else-parts-lt4}

@@ -1,7 +1,7 @@
 use Rattle.std.proofs.Common.{[], ◌∷◌, map, ap, subst}
 use Rattle.std.specs.Option.{option_map}
-use Rattle.line_texts.specs.Numerals.{value_of, numbers_of}
-use Rattle.line_texts.specs.Readings.{texts, ReadsNumbers}
+use Rattle.line_format.specs.Numerals.{value_of, numbers_of}
+use Rattle.line_format.specs.Readings.{texts, ReadsNumbers}
 use Rattle.certificate.specs.declared.entry.Entry.TheVariants.{PairLine}
 use Rattle.certificate.proofs.PairForms.{no_first, no_second, of_two}
 use Rattle.certificate.proofs.entry.pair_of_two.Goals as goal

@@ -1,5 +1,5 @@
 use Rattle.std.proofs.Common.{◌∙◌, sym, ap, subst}
-use Rattle.line_texts.specs.Readings.{texts, ReadsNumbers}
+use Rattle.line_format.specs.Readings.{texts, ReadsNumbers}
 use Rattle.certificate.specs.Forms.{test_node_of}
 use Rattle.certificate.proofs.EntryForms.{wide_test}
 use Rattle.certificate.proofs.entry.test_line.Goals as goal

@@ -1,5 +1,5 @@
 use Rattle.std.proofs.Common.{sym, ◌∙◌}
-use Rattle.line_texts.specs.Readings.{texts}
+use Rattle.line_format.specs.Readings.{texts}
 use Rattle.certificate.proofs.MoveForms.{wide_move}
 use Rattle.certificate.proofs.moves.move_from.Goals as goal
 

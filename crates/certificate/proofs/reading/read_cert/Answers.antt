@@ -1,7 +1,7 @@
 use Rattle.std.proofs.Common.{◌≡◌, ◌+◌, sym, ap, ◌∙◌, subst, true, false, codes, arith, Some, Err}
 use Rattle.std.specs.Str.{bytes_eq}
 use Rattle.std.proofs.lemmas.Result.{err_from_is_err_and}
-use Rattle.line_texts.specs.Lines.{parts_of}
+use Rattle.line_format.specs.Lines.{parts_of}
 use Rattle.certificate.specs.declared.evidence.Evidence.TheVariants.{Equal}
 use Rattle.certificate.specs.Faults.{Answer, ended, cert_from, no_entries, line_fault_after}
 use Rattle.certificate.specs.declared.evidence.EvidenceFault.{EvidenceFault}

@@ -1,5 +1,5 @@
 use Rattle.std.proofs.Common.{◌≡◌, ◌+◌, ◌≤◌, length}
-use Rattle.line_texts.specs.Lines.{parts_of}
+use Rattle.line_format.specs.Lines.{parts_of}
 use Rattle.certificate.specs.Faults.{cert_from, no_entries}
 use Rattle.certificate.specs.Working.Readings.{draft_parts, IsDraft}
 use Rattle.certificate.proofs.reading.read_cert.Given as goal

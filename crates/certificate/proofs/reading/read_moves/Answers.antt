@@ -1,7 +1,7 @@
 use Rattle.std.proofs.Common.{◌≡◌, ◌+◌, sym, ap, ◌∙◌, true, false, codes}
 use Rattle.std.specs.Str.{bytes_eq}
 use Rattle.kat_model.specs.Strings.{GuardedString}
-use Rattle.line_texts.specs.Lines.{parts_of}
+use Rattle.line_format.specs.Lines.{parts_of}
 use Rattle.certificate.specs.declared.evidence.Evidence.TheVariants.{Different}
 use Rattle.certificate.specs.Faults.{ended}
 use Rattle.certificate.proofs.LineSteps.{moves_none, moves_end, moves_formless, moves_wide, answers_same}

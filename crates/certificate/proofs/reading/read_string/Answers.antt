@@ -1,5 +1,5 @@
 use Rattle.std.proofs.Common.{◌∙◌, ap, sym}
-use Rattle.line_texts.specs.Lines.{parts_of}
+use Rattle.line_format.specs.Lines.{parts_of}
 use Rattle.certificate.specs.Faults.{after_first}
 use Rattle.certificate.proofs.LineSteps.{string_first}
 use Rattle.certificate.proofs.reading.read_string.Goals as goal

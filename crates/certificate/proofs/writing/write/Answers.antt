@@ -1,5 +1,5 @@
 use Rattle.std.proofs.Common.{◌∙◌, ◌++◌, ap, sym, codes}
-use Rattle.line_texts.specs.Lines.{with_feed}
+use Rattle.line_format.specs.Lines.{with_feed}
 use Rattle.certificate.specs.Working.Writings.{body_of}
 use Rattle.certificate.proofs.Lines.{text_of-body}
 use Rattle.certificate.proofs.writing.write.Goals as goal

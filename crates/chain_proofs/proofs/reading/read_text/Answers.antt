@@ -1,14 +1,14 @@
 use Rattle.std.proofs.Common.{◌≡◌, ◌⊎◌, Ok, Err, sym, subst, ap, ◌∙◌}
 use Rattle.std.proofs.lemmas.Result.{err_from_is_err_and}
-use Rattle.kat_tokens.specs.declared.fault.TextFault.{TextFault}
-use Rattle.kat_tokens.specs.declared.fault.TextFault.TheVariants.{NoMemory}
-use Rattle.kat_tokens.specs.TokenParts.{parts_of_tokens}
-use Rattle.kat_syntax.specs.Lexemes.{lexemes}
-use Rattle.kat_syntax.specs.Parsed.{Makes}
-use Rattle.kat_text.specs.ScopeParts.{ScopeParts}
-use Rattle.axiom_chains.specs.Chains.{ChainTree}
+use Rattle.text_tokens.specs.declared.fault.TextFault.{TextFault}
+use Rattle.text_tokens.specs.declared.fault.TextFault.TheVariants.{NoMemory}
+use Rattle.text_tokens.specs.TokenParts.{parts_of_tokens}
+use Rattle.text_grammar.specs.Lexemes.{lexemes}
+use Rattle.text_grammar.specs.Parsed.{Makes}
+use Rattle.text_scopes.specs.ScopeParts.{ScopeParts}
+use Rattle.chain_rules.specs.Chains.{ChainTree}
 use Rattle.problem_file.proofs.TextAnswers.{bad_told, fault_told}
-use Rattle.plain_texts.specs.NumberedScopes.{numbered_scope}
+use Rattle.problem_texts.specs.NumberedScopes.{numbered_scope}
 use Rattle.chain_proofs.specs.Reads.{FirstFault, tested, Answers}
 use Rattle.chain_proofs.proofs.ReadTexts.{chain_told}
 use Rattle.chain_proofs.proofs.reading.read_text.Goals as goal

@@ -1,4 +1,4 @@
-use Rattle.tool_words.proofs.StoreValues.{store_is}
+use Rattle.tool_commands.proofs.StoreValues.{store_is}
 use Rattle.kat_tool.proofs.laws.words_give_stores.Goals as goal
 
 pub returns : goal.returns

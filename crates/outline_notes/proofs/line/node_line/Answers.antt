@@ -1,5 +1,5 @@
 use Rattle.std.proofs.Common.{◌∙◌, sym, ap, subst}
-use Rattle.line_texts.specs.Readings.{texts, ReadsNumbers}
+use Rattle.line_format.specs.Readings.{texts, ReadsNumbers}
 use Rattle.outline_notes.specs.Forms.{node_of}
 use Rattle.outline_notes.proofs.NoteForms.{wide_node}
 use Rattle.outline_notes.proofs.line.node_line.Goals as goal

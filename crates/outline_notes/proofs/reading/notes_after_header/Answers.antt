@@ -1,7 +1,7 @@
 use Rattle.std.proofs.Common.{◌≡◌, ◌+◌, sym, ap, ◌∙◌, subst, true, false, codes, arith, Some, Err}
 use Rattle.std.specs.Str.{bytes_eq}
 use Rattle.std.proofs.lemmas.Result.{err_from_is_err_and}
-use Rattle.line_texts.specs.Lines.{parts_of}
+use Rattle.line_format.specs.Lines.{parts_of}
 use Rattle.outline_notes.specs.declared.fault.NotesFault.{NotesFault}
 use Rattle.outline_notes.specs.Forms.{read_line}
 use Rattle.outline_notes.specs.Faults.{Answer, ended, notes_from, no_lines, line_fault_after}

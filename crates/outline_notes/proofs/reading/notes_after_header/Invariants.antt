@@ -1,5 +1,5 @@
 use Rattle.std.proofs.Common.{◌≡◌, ◌+◌, ◌≤◌, length}
-use Rattle.line_texts.specs.Lines.{parts_of}
+use Rattle.line_format.specs.Lines.{parts_of}
 use Rattle.outline_notes.specs.Faults.{notes_from, no_lines}
 use Rattle.outline_notes.specs.Working.Readings.{draft_parts, IsDraft}
 use Rattle.outline_notes.proofs.reading.notes_after_header.Given as goal

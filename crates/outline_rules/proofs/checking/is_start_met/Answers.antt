@@ -1,8 +1,8 @@
 use Rattle.std.proofs.Common.{◌∙◌, true}
 use Rattle.kat_model.specs.Trees.{test_tree}
 use Rattle.kat_model.specs.Steps.{Atom, truth}
-use Rattle.step_diagrams.specs.declared.moments.Moment.TheVariants.{Before}
-use Rattle.step_diagrams.proofs.StepSets.{IsStepDiagram-kept}
+use Rattle.outline_diagrams.specs.declared.moments.Moment.TheVariants.{Before}
+use Rattle.outline_diagrams.proofs.StepSets.{IsStepDiagram-kept}
 use Rattle.outline_notes.specs.NoteLists.{note_holds}
 use Rattle.simple_hyps.specs.HypothesisForms.{allows}
 use Rattle.outline_rules.proofs.NodeSets.{sets_kept}

@@ -1,6 +1,6 @@
 use Rattle.std.proofs.Common.{map}
-use Rattle.step_diagrams.specs.declared.moments.Moment.TheVariants.{Before}
-use Rattle.step_diagrams.proofs.StepSets.{KeepsSteps-trans}
+use Rattle.outline_diagrams.specs.declared.moments.Moment.TheVariants.{Before}
+use Rattle.outline_diagrams.proofs.StepSets.{KeepsSteps-trans}
 use Rattle.kat_model.specs.Trees.{test_tree}
 use Rattle.outline_notes.specs.NoteLists.{note_holds}
 use Rattle.outline_rules.specs.Follows.{starts, ends}

@@ -1,5 +1,5 @@
-use Rattle.step_diagrams.specs.declared.moments.Moment.TheVariants.{Before}
-use Rattle.step_diagrams.proofs.StepSets.{KeepsSteps-trans}
+use Rattle.outline_diagrams.specs.declared.moments.Moment.TheVariants.{Before}
+use Rattle.outline_diagrams.proofs.StepSets.{KeepsSteps-trans}
 use Rattle.outline_notes.specs.NoteLists.{note_holds}
 use Rattle.outline_rules.proofs.NodeSets.{moment_sets_kept}
 use Rattle.outline_rules.proofs.LeastTargets.{least_next}

@@ -1,6 +1,6 @@
 use Rattle.std.proofs.Common.{map, take}
-use Rattle.step_diagrams.specs.declared.moments.Moment.TheVariants.{Before}
-use Rattle.step_diagrams.specs.StepFunctions.{KeepsSteps}
+use Rattle.outline_diagrams.specs.declared.moments.Moment.TheVariants.{Before}
+use Rattle.outline_diagrams.specs.StepFunctions.{KeepsSteps}
 use Rattle.outline_notes.specs.NoteLists.{note_holds}
 use Rattle.outline_rules.specs.Working.Checks.{condition_of}
 use Rattle.outline_rules.specs.Working.Sets.{AreMomentSets, TellsLeastUnmet}

@@ -1,7 +1,7 @@
 use Rattle.std.proofs.Common.{◌≡◌, map, take}
 use Rattle.kat_model.specs.Trees.{kat_tree}
-use Rattle.step_diagrams.specs.Interleaved.{atom_at_moment}
-use Rattle.step_diagrams.specs.StepFunctions.{IsStepDiagram, KeepsSteps, AreStepDiagrams}
+use Rattle.outline_diagrams.specs.Interleaved.{atom_at_moment}
+use Rattle.outline_diagrams.specs.StepFunctions.{IsStepDiagram, KeepsSteps, AreStepDiagrams}
 use Rattle.simple_hyps.specs.HypothesisForms.{allows}
 use Rattle.simple_hyps.proofs.hypotheses.allowed_atoms.Given as goal
 

@@ -1,5 +1,5 @@
 use Rattle.std.proofs.Common.{◌≡◌, ◌<◌, arith}
-use Rattle.step_diagrams.proofs.StepSets.{KeepsSteps-trans}
+use Rattle.outline_diagrams.proofs.StepSets.{KeepsSteps-trans}
 use Rattle.simple_hyps.proofs.HypothesisSets.{ruled_out_more}
 use Rattle.simple_hyps.proofs.hypotheses.ruled_out_steps.Goals as goal
 

@@ -1,6 +1,6 @@
 use Rattle.std.proofs.Common.{◌≡◌, map, take}
 use Rattle.kat_model.specs.Trees.{kat_tree}
-use Rattle.step_diagrams.specs.StepFunctions.{IsStepDiagram, KeepsSteps, AreStepDiagrams}
+use Rattle.outline_diagrams.specs.StepFunctions.{IsStepDiagram, KeepsSteps, AreStepDiagrams}
 use Rattle.simple_hyps.specs.HypothesisForms.{some_rules_out}
 use Rattle.simple_hyps.proofs.hypotheses.ruled_out_steps.Given as goal
 

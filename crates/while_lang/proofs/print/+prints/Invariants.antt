@@ -1,5 +1,5 @@
 use Rattle.std.proofs.Common.{◌≡◌, ◌++◌, drop}
-use Rattle.kat_print.specs.Printing.{name_of}
+use Rattle.text_print.specs.Printing.{name_of}
 use Rattle.while_lang.specs.ProgramViews.{list_tree}
 use Rattle.while_lang.specs.Working.ProgramTexts.{stmts_text}
 use Rattle.while_lang.proofs.print.+prints.Given as goal

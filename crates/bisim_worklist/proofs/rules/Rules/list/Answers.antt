@@ -1,5 +1,5 @@
 use Rattle.std.proofs.Common.{◌≡◌, length, subst, sym, ap, ◌∙◌, arith}
-use Rattle.stored_pairs.specs.declared.items.Side.TheVariants.{Left, Right}
+use Rattle.walk_pairs.specs.declared.items.Side.TheVariants.{Left, Right}
 use Rattle.bisim_worklist.specs.Working.Listings.{IdEntry}
 use Rattle.bisim_worklist.specs.Working.Marks.{AllMarked}
 use Rattle.bisim_worklist.specs.Working.Indices.{StandsUnder, AreIndexed}

@@ -4,7 +4,7 @@ use Rattle.std.proofs.lemmas.Option.{slice_get-get_or}
 use Rattle.kat_model.specs.Members.{Has}
 use Rattle.kat_model.proofs.Places.{has_at}
 use Rattle.test_diagrams.proofs.Kept.{KeepsFunctions-trans}
-use Rattle.stored_pairs.specs.Items.{AreItemsOf, AreLedTo}
+use Rattle.walk_pairs.specs.Items.{AreItemsOf, AreLedTo}
 use Rattle.bisim_worklist.proofs.PassedOn.{passed_on}
 use Rattle.bisim_worklist.proofs.Expanding.{StepsBy, steps_more, steps_pass, steps_all}
 use Rattle.bisim_worklist.proofs.walk.Walk.expand.Goals as goal

@@ -7,12 +7,12 @@ use Rattle.kat_model.specs.Members.{Has}
 use Rattle.kat_model.specs.Trees.{Term}
 use Rattle.kat_model.specs.Steps.{set_out}
 use Rattle.term_nodes.specs.NumberSets.{terms_of}
-use Rattle.checker_steps.specs.NodeTables.{TablesGrow, nodes_in}
-use Rattle.checker_steps.specs.Marks.{IsMarked}
-use Rattle.checker_steps.specs.Targets.{AreSteps, StandFor, set_leads_to}
-use Rattle.checker_steps.proofs.GrowingTables.{grows_trans}
-use Rattle.checker_steps.proofs.StepLists.{all_step}
-use Rattle.checker_steps.proofs.StepSets.{stand_kept}
+use Rattle.cert_steps.specs.NodeTables.{TablesGrow, nodes_in}
+use Rattle.cert_steps.specs.Marks.{IsMarked}
+use Rattle.cert_steps.specs.Targets.{AreSteps, StandFor, set_leads_to}
+use Rattle.cert_steps.proofs.GrowingTables.{grows_trans}
+use Rattle.cert_steps.proofs.StepLists.{all_step}
+use Rattle.cert_steps.proofs.StepSets.{stand_kept}
 use Rattle.cert_checker.specs.Working.Roots.{counted_short}
 use Rattle.cert_checker.specs.Working.Places.{PassParts, IsPass, AreForbidden}
 use Rattle.cert_checker.proofs.ForbiddenMoves.{forbidden_of, forbidden_without, forbidden_by, none_forbidden}

@@ -1,9 +1,9 @@
 use Rattle.std.proofs.Common.{◌≡◌, ◌+◌, length, None, sym, ap, ◌∙◌, subst, arith}
 use Rattle.std.specs.Option.{option_map}
 use Rattle.std.proofs.lemmas.List.{length-replicate}
-use Rattle.checker_steps.specs.NodeTables.{TablesGrow, IsTest}
-use Rattle.checker_steps.proofs.GrowingTables.{grows_trans}
-use Rattle.checker_steps.proofs.TargetSets.{test_within}
+use Rattle.cert_steps.specs.NodeTables.{TablesGrow, IsTest}
+use Rattle.cert_steps.proofs.GrowingTables.{grows_trans}
+use Rattle.cert_steps.proofs.TargetSets.{test_within}
 use Rattle.cert_checker.specs.Working.Cases.{IsFirstFailure, undecided}
 use Rattle.cert_checker.specs.Working.Questions.{QuestionParts, MatchAt}
 use Rattle.cert_checker.specs.Working.Places.{PassParts}

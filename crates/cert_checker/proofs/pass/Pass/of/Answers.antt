@@ -2,10 +2,10 @@ use Rattle.std.proofs.Common.{◌≡◌, ℕ, List, length, sym, ap, ◌∙◌, 
 use mathlib.Core.Path.{ap₂}
 use Rattle.kat_model.specs.Steps.{set_out}
 use Rattle.term_nodes.specs.NumberSets.{are_below, terms_of}
-use Rattle.checker_steps.specs.NodeTables.{TableParts, ArePrimsBelow, HasValues, tables_of, nodes_in}
-use Rattle.checker_steps.specs.Targets.{AreAcceptances}
-use Rattle.checker_steps.proofs.GrowingTables.{grows_trans}
-use Rattle.checker_steps.proofs.StepLists.{grows_longer}
+use Rattle.cert_steps.specs.NodeTables.{TableParts, ArePrimsBelow, HasValues, tables_of, nodes_in}
+use Rattle.cert_steps.specs.Targets.{AreAcceptances}
+use Rattle.cert_steps.proofs.GrowingTables.{grows_trans}
+use Rattle.cert_steps.proofs.StepLists.{grows_longer}
 use Rattle.cert_checker.specs.Working.Roots.{AreClosedBelow, AreSideNumbers, compared, counted_short}
 use Rattle.cert_checker.specs.Working.Places.{PassParts, AreNeeded}
 use Rattle.cert_checker.proofs.Passes.{pass_made}

@@ -6,9 +6,9 @@ use Rattle.std.proofs.lemmas.Result.{IfOk-weaker}
 use Rattle.kat_model.specs.Members.{Has}
 use Rattle.term_nodes.specs.NumberSets.{are_below, terms_of}
 use Rattle.certificate.specs.PairParts.{PairParts}
-use Rattle.checker_steps.specs.NodeTables.{TablesGrow, nodes_in}
-use Rattle.checker_steps.specs.Targets.{AreSteps, StandFor, set_leads_to}
-use Rattle.checker_steps.proofs.GrowingTables.{grows_trans}
+use Rattle.cert_steps.specs.NodeTables.{TablesGrow, nodes_in}
+use Rattle.cert_steps.specs.Targets.{AreSteps, StandFor, set_leads_to}
+use Rattle.cert_steps.proofs.GrowingTables.{grows_trans}
 use Rattle.cert_checker.specs.Working.Cases.{IsFirstFailure, undecided}
 use Rattle.cert_checker.specs.Working.Questions.{TurnParts, QuestionParts, IsAskedOf, MatchAt}
 use Rattle.cert_checker.specs.Working.Places.{PassParts}

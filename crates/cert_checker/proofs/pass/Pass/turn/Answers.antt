@@ -8,8 +8,8 @@ use Rattle.std.proofs.lemmas.Iterator.Adapters.{items_from_extend}
 use Rattle.kat_model.specs.Members.{Has}
 use Rattle.certificate.specs.declared.nodes.Style.TheVariants.{UpTo}
 use Rattle.certificate.specs.PairParts.{PairParts}
-use Rattle.checker_steps.specs.Marks.{IsMarked}
-use Rattle.checker_steps.specs.Targets.{AreSteps}
+use Rattle.cert_steps.specs.Marks.{IsMarked}
+use Rattle.cert_steps.specs.Targets.{AreSteps}
 use Rattle.cert_checker.specs.Working.Cases.{AreAsked}
 use Rattle.cert_checker.specs.Working.Places.{PassParts, IsPass, AreForbidden, StepsOf}
 use Rattle.cert_checker.proofs.NamedTests.{move_named, named_by_moves, named_stays, pair_named, named_by_pairs}

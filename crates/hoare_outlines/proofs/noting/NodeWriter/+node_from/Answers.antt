@@ -1,6 +1,6 @@
 use Rattle.std.proofs.Common.{◌≡◌, ◌∙◌, ◌+◌, ◌<◌, List, length, false, true, refl, sym, subst, arith, rules}
 use Rattle.std.proofs.lemmas.Result.{IfOk-weaker}
-use Rattle.step_diagrams.proofs.StepSets.{KeepsSteps-itself, KeepsSteps-trans}
+use Rattle.outline_diagrams.proofs.StepSets.{KeepsSteps-itself, KeepsSteps-trans}
 use Rattle.outline_notes.specs.declared.notes.NoteNode.{NoteNode}
 use Rattle.outline_notes.specs.declared.notes.NoteNode.TheVariants.{Branch}
 use Rattle.hoare_outlines.specs.Working.Noted.{IsNodeFor, AreNoteNodes}

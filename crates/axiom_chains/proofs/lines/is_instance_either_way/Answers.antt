@@ -1,6 +1,0 @@
-use Rattle.axiom_chains.proofs.InstanceChecks.{either_way}
-use Rattle.axiom_chains.proofs.lines.is_instance_either_way.Goals as goal
-
-pub returns : goal.returns
-returns c =
-    either_way c.in_ok-is_instance.field-0 c.in_ok-back.back c.if-branch.false c.in_ok-is_instance.ensures c.in_ok-back.ensures

@@ -1,6 +1,0 @@
-use Rattle.decide_replies.specs.Working.Tallies.{IsTallied}
-use Rattle.decide_replies.proofs.bench.tally_of.Given as goal
-
--- the problems so far are counted
-abbrev pub invariant-loop-k : goal.invariant-loop-k
-invariant-loop-k l = IsTallied l.k l.tally.equal l.tally.different l.tally.moves

@@ -1,0 +1,70 @@
+//! Expressions of guarded Kleene algebra with tests.
+ghost use Rattle.std.specs.Prelude.{◌≡◌, IfOk};
+ghost use Rattle.kat_model.specs.Trees.{test_tree};
+ghost use Rattle.kat_model.specs.Problems.{counted};
+ghost use Rattle.gkat_terms.specs.Expressions.{product, choice, loop, gkat_tree, gkat_size};
+
+use kat_model::{NoMemory, Test};
+use std::alloc::Global;
+
+/// An expression of guarded Kleene algebra with tests over primitive tests and actions, which are numbered from 0 (Smolka et
+/// al., *Guarded Kleene algebra with tests*, 2020).
+#[derive(Drop)]
+pub enum Gkat {
+    Test(Test),
+    Act(usize),
+    Seq(Box<Gkat>, Box<Gkat>),
+    /// The first expression where the test holds, and otherwise the second.
+    Choice(Test, Box<Gkat>, Box<Gkat>),
+    /// The expression again and again, as long as the test holds.
+    Loop(Test, Box<Gkat>),
+}
+
+impl Gkat {
+    /// `Seq` over two expressions. It fails only when out of memory, and the parts are dropped then.
+    pub fn new_seq(alloc: Global, first: Gkat, second: Gkat) -> Result<Self, NoMemory>
+        ensures { IfOk result (λ e. gkat_tree e ≡ product (gkat_tree first) (gkat_tree second)) }
+    {
+        let first = Box::new(alloc, first)?;
+        let second = Box::new(alloc, second)?;
+        Ok(Gkat::Seq(first, second))
+    }
+
+    /// `Choice` over a test and two expressions. It fails only when out of memory, and the parts are dropped then.
+    pub fn new_choice(
+        alloc: Global,
+        guard: Test,
+        first: Gkat,
+        second: Gkat,
+    ) -> Result<Self, NoMemory>
+        ensures { IfOk result (λ e. gkat_tree e ≡ choice (test_tree guard) (gkat_tree first) (gkat_tree second)) }
+    {
+        let first = Box::new(alloc, first)?;
+        let second = Box::new(alloc, second)?;
+        Ok(Gkat::Choice(guard, first, second))
+    }
+
+    /// `Loop` over a test and an expression. It fails only when out of memory, and the parts are dropped then.
+    pub fn new_loop(alloc: Global, guard: Test, body: Gkat) -> Result<Self, NoMemory>
+        ensures { IfOk result (λ e. gkat_tree e ≡ loop (test_tree guard) (gkat_tree body)) }
+    {
+        Ok(Gkat::Loop(guard, Box::new(alloc, body)?))
+    }
+
+    /// The number of nodes, those of tests among them, which stops at `u64::MAX`.
+    pub fn size(&self) -> u64
+        ensures { result ≡ counted (gkat_size (gkat_tree self.now)) }
+    {
+        match self {
+            Gkat::Test(b) => b.size().saturating_add(1),
+            Gkat::Act(_) => 1,
+            Gkat::Seq(e, f) => e.size().saturating_add(f.size()).saturating_add(1),
+            Gkat::Choice(b, e, f) => b
+                .size()
+                .saturating_add(e.size())
+                .saturating_add(f.size())
+                .saturating_add(1),
+            Gkat::Loop(b, e) => b.size().saturating_add(e.size()).saturating_add(1),
+        }
+    }
+}

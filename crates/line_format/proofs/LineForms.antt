@@ -1,0 +1,13 @@
+-- Lines as their first word and the others after blanks.
+use Rattle.std.proofs.Common.{◌≡◌, ℕ, List, [], ◌∷◌, ◌++◌, map, refl, sym, ap, append-nil}
+use Rattle.std.specs.List.{flat_map}
+use Rattle.line_format.specs.Lines.{line_of, after_blanks}
+
+-- a line is its first word and the others after blanks
+pub line_of-cons : (w : List ℕ) (ws : List (List ℕ)) → line_of (w ∷ ws) ≡ w ++ after_blanks ws
+line_of-cons w [] = sym (append-nil w)
+line_of-cons w (v ∷ ws) = ap (λ l. w ++ 32 ∷ l) (line_of-cons v ws)
+
+pub flat_map-map : {X Y Z : Type 0} (f : X → Y) (g : Y → List Z) (xs : List X) → flat_map g (map f xs) ≡ flat_map (λ x. g (f x)) xs
+flat_map-map f g [] = refl
+flat_map-map f g (x ∷ xs) = ap (λ l. g (f x) ++ l) (flat_map-map f g xs)

@@ -1,0 +1,11 @@
+use Rattle.std.proofs.Common.{◌≡◌, map, rules, tests}
+use Rattle.std.proofs.lemmas.Result.{IfOk-at_ok}
+use Rattle.std.proofs.lemmas.Iterator.Consumers.{map_from_collect}
+use Rattle.std.proofs.lemmas.Iterator.Splits.{YieldsList-from_slice_split}
+use Rattle.line_format.specs.Lines.{words_of}
+use Rattle.line_format.proofs.lines.words_of.Goals as goal
+
+pub returns : goal.returns
+returns c =
+    IfOk-at_ok (λ v. map (λ w. w.now) v.items ≡ words_of c.args.line.now) c.in_ok-collect.was
+    (map_from_collect _ c.collect.ensures.ran (YieldsList-from_slice_split _ _ c.args.line.now c.split.ensures.rest c.split.ensures.done c.split.ensures.closure (λ x r q k. search (rules, tests))))

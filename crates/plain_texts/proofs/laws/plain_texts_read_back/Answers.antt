@@ -1,5 +1,0 @@
-use Rattle.plain_texts.proofs.PlainReadings.{reads_back}
-use Rattle.plain_texts.proofs.laws.plain_texts_read_back.Goals as goal
-
-pub returns : goal.returns
-returns c q printable = reads_back q printable

@@ -1,9 +1,0 @@
-use Rattle.std.proofs.Common.{◌≡◌, ◌-◌, ◌++◌}
-use Rattle.kat_text.specs.declared.meaning.Meaning.TheVariants.{Var}
-use Rattle.kat_print.specs.Printing.{name_of}
-use Rattle.plain_texts.proofs.PlainWritten.{later_names}
-use Rattle.plain_texts.proofs.program_writing.put_vars.Given as goal
-
--- the names so far, but for the first
-abbrev pub invariant-loop-k : goal.invariant-loop-k
-invariant-loop-k l = l.out.items ≡ l.initial.out.items ++ later_names (λ k. name_of l.scope (Var k)) (l.k - 1)

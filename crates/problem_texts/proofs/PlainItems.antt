@@ -1,0 +1,277 @@
+-- The pieces of a plain text are items, which make what they are to make.
+use Rattle.std.proofs.Common.{◌≡◌, ◌≤◌, ◌<◌, ◌+◌, ℕ, zero, suc, List, [], ◌∷◌, ◌++◌, length, false, refl, sym, ap, ◌∙◌, subst, arith, append_assoc, length-append}
+use Rattle.std.proofs.lemmas.List.{append-nil}
+use Rattle.std.specs.Prelude.{codes}
+use Rattle.kat_model.specs.Trees.{Term, term_size}
+use Rattle.kat_model.specs.Problems.{terms_size}
+use Rattle.text_tokens.specs.Pieces.{Piece, word}
+use Rattle.text_grammar.specs.declared.terminal.Terminal.{Terminal}
+use Rattle.text_grammar.specs.declared.terminal.Terminal.TheVariants.{Name, Keyword, Separator, Zero}
+use Rattle.text_grammar.specs.declared.terminal.Keyword.TheVariants as keyword
+use Rattle.text_grammar.specs.declared.terminal.Separator.TheVariants.{Comma, Semicolon, Equals}
+use Rattle.text_grammar.specs.Lexemes.{Lexeme, lexeme}
+use Rattle.text_grammar.specs.Actions.{context}
+use Rattle.text_grammar.specs.Phrases.{star, Phrase, one_prod, one_star, yield_before, MeetsLookahead}
+use Rattle.text_scopes.specs.declared.meaning.Meaning.TheVariants.{Test, Action}
+use Rattle.text_scopes.specs.ScopeParts.{ScopeParts}
+use Rattle.text_print.specs.Printing.{TermIsNamed, term_nesting}
+use Rattle.text_print.proofs.WordTerminals.{name_terminal}
+use Rattle.text_print.proofs.PrintedPhrases.{lexemes_from, leaf}
+use Rattle.text_print.proofs.PrintedTerms.{IsTermOf, term_back}
+use Rattle.problem_file.specs.Files.{term_side, State, most_goals, width_of, equal, state_hyp, state_goal}
+use Rattle.problem_file.specs.Phrases.{Names, one_name, more_names, tests, actions, hypothesis, goal_equal, Item, names_onto, ended, spelled, ItemsObey, ItemsFit}
+use Rattle.problem_file.specs.Sound.{with_test, with_action, DeclaresTest, DeclaresAction, EachName, IsTerm, grown, MakeAll}
+use Rattle.problem_texts.specs.Questions.{plain_name}
+use Rattle.problem_texts.proofs.PlainNumbers.{narrow}
+use Rattle.problem_texts.proofs.PlainNames.{test_identifier, action_identifier}
+use Rattle.problem_texts.specs.Working.Scopes.{IsPlain}
+use Rattle.problem_texts.proofs.PlainScopes.{test_is_new, test_plain, action_is_new, action_plain}
+use Rattle.problem_texts.proofs.PlainPieces.{names_pieces, declaration_pieces, zero_pieces, hyps_pieces, end_pieces, right_pieces, goal_pieces, test_names, action_names, AreIdentifiers}
+
+-- the pieces at a place are items that make of this state another, of which P holds
+pub record AreItems (s : State) (at : ℕ) (ps : List Piece) (P : State → Type 0) : Type 0 where
+  pub items : List Item
+  pub spells : lexemes_from at ps ≡ spelled items
+  pub obey : ItemsObey items
+  pub fit : ItemsFit items
+  pub final : State
+  pub make : MakeAll s items final
+  pub holds : P final
+
+-- ---- hypotheses and a goal
+
+-- the term is within the limits of a text, and each number in it has its name
+pub record IsWritable (w : ScopeParts) (e : Term) : Type 0 where
+  pub named : TermIsNamed w plain_name e
+  pub shallow : term_nesting e ≤ 200
+  pub small : term_size e ≤ 100000
+
+abbrev pub AreWritable : ScopeParts → List Term → Type 0
+AreWritable w [] = Unit {0}
+AreWritable w (e ∷ es) = IsWritable w e × AreWritable w es
+
+-- these hypotheses more are stated, and this goal
+pub record Asks (s : State) (more : List Term) (left right : Term) (t : State) : Type 0 where
+  pub tests : t.tests ≡ s.tests
+  pub actions : t.actions ≡ s.actions
+  pub hyps : t.hyps ≡ s.hyps ++ more
+  pub goals : t.goals ≡ s.goals ++ equal (term_side left) (term_side right) ∷ []
+
+is_term : (w : ScopeParts) (e : Term) (p : Phrase star) → IsTermOf w e (term_nesting e) p → IsWritable w e → IsTerm w (one_prod (one_star p)) e
+is_term w e p h writable = record {
+  sound = h.sound (context 0 false false) refl;
+  built = let tree = h.tree (context 0 false false) (omega (arith, writable.shallow)) in rw tree refl;
+  small = writable.small;
+}
+
+goal_items : (s : State) (at : ℕ) (left right : Term) → IsWritable s.world left → IsWritable s.world right → s.size + (term_size left + term_size right) ≤ 1000000 → length s.goals < most_goals s.limit → AreItems s at (goal_pieces left right) (Asks s [] left right)
+goal_items s at left right l r room first =
+    let a = (term_back s.world plain_name left l.named).0 (at + 4 + 1 + 5 + 1) (right_pieces right) in
+    let b = (term_back s.world plain_name right r.named).0 (a.end + 1 + 1) end_pieces in
+    let last : List Lexeme = lexeme (Separator Semicolon) b.end (codes ";") ∷ [] in
+    let p = one_prod (one_star a.phrase) in
+    let q = one_prod (one_star b.phrase) in
+    let c = context 0 false false in
+    let after : List Lexeme = lexeme (Separator Comma) a.end (codes ",") ∷ yield_before b.phrase last in
+    let right_narrow = narrow (width_of s) s.world c q (b.holds.sound c refl) (b.holds.fits 0 (omega (arith, r.shallow))) refl last (tt, tt) in
+    let numbers = narrow (width_of s) s.world c p (a.holds.sound c refl) (a.holds.fits 0 (omega (arith, l.shallow))) refl after (tt, right_narrow) in
+    record {
+      items = record { keyword = leaf at (codes "goal"); body = goal_equal (leaf (at + 4 + 1) (codes "equal")) (one_prod (one_star a.phrase)) (leaf a.end (codes ",")) (one_prod (one_star b.phrase)) (leaf b.end (codes ";")) } ∷ [];
+      spells =
+          ap (λ (ts : List Lexeme). lexeme (Keyword keyword.Goal) at (codes "goal") ∷ lexeme (Keyword keyword.Equal) (at + 4 + 1) (codes "equal") ∷ ts)
+          (a.spelled ∙ ap (λ (ts : List Lexeme). yield_before a.phrase (lexeme (Separator Comma) a.end (codes ",") ∷ ts)) b.spelled);
+      obey = ((subst (λ (ts : List Lexeme). MeetsLookahead a.phrase (lexeme (Separator Comma) a.end (codes ",") ∷ ts)) b.spelled a.obeys, b.obeys), tt);
+      fit = ((a.holds.fits 0 (omega (arith, l.shallow)), b.holds.fits 0 (omega (arith, r.shallow))), tt);
+      final = state_goal (grown s (term_size left + term_size right)) (equal (term_side left) (term_side right));
+      make = (
+        state_goal (grown s (term_size left + term_size right)) (equal (term_side left) (term_side right)),
+        record { few = first; left = term_side left; right = term_side right; is_left = is_term s.world left a.phrase a.holds l; is_right = is_term s.world right b.phrase b.holds r; numbers = numbers; room = room; made = refl },
+        refl,
+      );
+      holds = record { tests = refl; actions = refl; hyps = sym (append-nil s.hyps); goals = refl };
+    }
+
+pub hyps_items : (hyps : List Term) (s : State) (at : ℕ) (left right : Term) → AreWritable s.world hyps → IsWritable s.world left → IsWritable s.world right → length s.hyps + length hyps ≤ 8192 → s.size + (terms_size hyps + (term_size left + term_size right)) ≤ 1000000 → length s.goals < most_goals s.limit → AreItems s at (hyps_pieces hyps (goal_pieces left right)) (Asks s hyps left right)
+hyps_items [] s at left right h l r few room first = goal_items s at left right l r (omega arith) first
+hyps_items (e ∷ es) s at left right h l r few room first =
+    let a = (term_back s.world plain_name e h.0.named).0 (at + 3 + 1) (zero_pieces (hyps_pieces es (goal_pieces left right))) in
+    let next = a.end + 1 + 1 + 1 + 1 + 1 + 1 in
+    let u = state_hyp (grown s (term_size e)) e in
+    let longer : length (s.hyps ++ e ∷ []) ≡ length s.hyps + 1 = length-append s.hyps (e ∷ []) in
+    let rest = hyps_items es u next left right h.1 l r (omega arith) (omega arith) first in
+    let before : List Lexeme → List Lexeme = λ (ts : List Lexeme). lexeme (Separator Equals) (a.end + 1) (codes "=") ∷ lexeme Zero (a.end + 1 + 1 + 1) (codes "0") ∷ lexeme (Separator Semicolon) (a.end + 1 + 1 + 1 + 1) (codes ";") ∷ ts in
+    record {
+      items = record { keyword = leaf at (codes "hyp"); body = hypothesis (one_prod (one_star a.phrase)) (leaf (a.end + 1) (codes "=")) (leaf (a.end + 1 + 1 + 1) (codes "0")) (leaf (a.end + 1 + 1 + 1 + 1) (codes ";")) } ∷ rest.items;
+      spells =
+          ap (λ (ts : List Lexeme). lexeme (Keyword keyword.Hyp) at (codes "hyp") ∷ ts)
+          (a.spelled ∙ ap (λ (ts : List Lexeme). yield_before a.phrase (before ts)) rest.spells);
+      obey = (subst (λ (ts : List Lexeme). MeetsLookahead a.phrase (before ts)) rest.spells a.obeys, rest.obey);
+      fit = (a.holds.fits 0 (omega (arith, h.0.shallow)), rest.fit);
+      final = rest.final;
+      make = (
+        u,
+        record { few = omega arith; tree = e; is_term = is_term s.world e a.phrase a.holds h.0; room = omega arith; made = refl },
+        rest.make,
+      );
+      holds = record {
+        tests = rest.holds.tests;
+        actions = rest.holds.actions;
+        hyps = rest.holds.hyps ∙ append_assoc s.hyps (e ∷ []) es;
+        goals = rest.holds.goals;
+      };
+    }
+
+-- ---- declarations
+
+-- the names from this place on
+abbrev pub names_at : List ℕ → List (List ℕ) → ℕ → Names
+names_at x [] at = one_name (leaf at x)
+names_at x (y ∷ ys) at = more_names (leaf at x) (leaf (at + length x) (codes ",")) (names_at y ys (at + length x + 1 + 1))
+
+-- the place of the semicolon after them
+abbrev pub names_stop : List ℕ → List (List ℕ) → ℕ → ℕ
+names_stop x [] at = at + length x
+names_stop x (y ∷ ys) at = names_stop y ys (at + length x + 1 + 1)
+
+pub names_spelled : (x : List ℕ) (xs : List (List ℕ)) (at : ℕ) (ps : List Piece) → AreIdentifiers (x ∷ xs)
+    → lexemes_from at (word x ∷ names_pieces xs ps) ≡ names_onto (names_at x xs at) (ended (leaf (names_stop x xs at) (codes ";")) (lexemes_from (names_stop x xs at + 1 + 1) ps))
+names_spelled x [] at ps is = ap (λ (s : Terminal). lexeme s at x ∷ lexeme (Separator Semicolon) (at + length x) (codes ";") ∷ lexemes_from (at + length x + 1 + 1) ps) (name_terminal x is.0.no_keyword)
+names_spelled x (y ∷ ys) at ps is =
+    let next = at + length x + 1 + 1 in
+    ap (λ (s : Terminal). lexeme s at x ∷ lexeme (Separator Comma) (at + length x) (codes ",") ∷ lexemes_from next (word y ∷ names_pieces ys ps)) (name_terminal x is.0.no_keyword)
+    ∙ ap (λ (ts : List Lexeme). lexeme Name at x ∷ lexeme (Separator Comma) (at + length x) (codes ",") ∷ ts) (names_spelled y ys next ps is.1)
+
+pub tests_are_identifiers : (n k : ℕ) → k + n ≤ 48 → AreIdentifiers (test_names k n)
+tests_are_identifiers zero k few = tt
+tests_are_identifiers (suc n) k few = (test_identifier k (omega arith), tests_are_identifiers n (k + 1) (omega arith))
+
+pub actions_are_identifiers : (n k : ℕ) → k + n ≤ 48 → AreIdentifiers (action_names k n)
+actions_are_identifiers zero k few = tt
+actions_are_identifiers (suc n) k few = (action_identifier k (omega arith), actions_are_identifiers n (k + 1) (omega arith))
+
+-- so many tests and actions are declared by their names, and all else is as in a state
+pub record Declares (s : State) (n m : ℕ) (t : State) : Type 0 where
+  pub tests : t.tests ≡ n
+  pub actions : t.actions ≡ m
+  pub hyps : t.hyps ≡ s.hyps
+  pub limit : t.limit ≡ s.limit
+  pub goals : t.goals ≡ s.goals
+  pub size : t.size ≡ s.size
+  pub plain : IsPlain t.world n m
+
+-- n tests after the next one
+each_test : (n : ℕ) (s : State) (at : ℕ) → s.tests + suc n ≤ 48 → s.actions ≤ 48 → IsPlain s.world s.tests s.actions
+    → (t : State) × EachName DeclaresTest s (names_at (plain_name (Test s.tests)) (test_names (s.tests + 1) n) at) t × Declares s (s.tests + suc n) s.actions t
+each_test zero s at few small plain =
+    let name = plain_name (Test s.tests) in
+    let more = test_plain s.world s.tests s.actions (omega arith) (omega arith) plain in (
+      with_test s name,
+      (test_is_new s.world s.tests s.actions (omega arith) (omega arith) plain, omega arith, refl),
+      record {
+        tests = omega arith;
+        actions = refl;
+        hyps = refl;
+        limit = refl;
+        goals = refl;
+        size = refl;
+        plain = subst (λ (k : ℕ). IsPlain (with_test s name).world k s.actions) (omega arith) more;
+      },
+    )
+each_test (suc n) s at few small plain =
+    let name = plain_name (Test s.tests) in
+    let more = test_plain s.world s.tests s.actions (omega arith) (omega arith) plain in
+    let rest = each_test n (with_test s name) (at + length name + 1 + 1) (omega arith) small more in (
+      rest.0,
+      (with_test s name, (test_is_new s.world s.tests s.actions (omega arith) (omega arith) plain, omega arith, refl), rest.1),
+      record {
+        tests = rest.2.tests ∙ omega arith;
+        actions = rest.2.actions;
+        hyps = rest.2.hyps;
+        limit = rest.2.limit;
+        goals = rest.2.goals;
+        size = rest.2.size;
+        plain = subst (λ (k : ℕ). IsPlain (rest.0).world k s.actions) (omega arith) rest.2.plain;
+      },
+    )
+
+each_action : (n : ℕ) (s : State) (at : ℕ) → s.actions + suc n ≤ 48 → s.tests ≤ 48 → IsPlain s.world s.tests s.actions
+    → (t : State) × EachName DeclaresAction s (names_at (plain_name (Action s.actions)) (action_names (s.actions + 1) n) at) t × Declares s s.tests (s.actions + suc n) t
+each_action zero s at few small plain =
+    let name = plain_name (Action s.actions) in
+    let more = action_plain s.world s.tests s.actions (omega arith) (omega arith) plain in (
+      with_action s name,
+      (action_is_new s.world s.tests s.actions (omega arith) (omega arith) plain, omega arith, refl),
+      record {
+        tests = refl;
+        actions = omega arith;
+        hyps = refl;
+        limit = refl;
+        goals = refl;
+        size = refl;
+        plain = subst (λ (k : ℕ). IsPlain (with_action s name).world s.tests k) (omega arith) more;
+      },
+    )
+each_action (suc n) s at few small plain =
+    let name = plain_name (Action s.actions) in
+    let more = action_plain s.world s.tests s.actions (omega arith) (omega arith) plain in
+    let rest = each_action n (with_action s name) (at + length name + 1 + 1) (omega arith) small more in (
+      rest.0,
+      (with_action s name, (action_is_new s.world s.tests s.actions (omega arith) (omega arith) plain, omega arith, refl), rest.1),
+      record {
+        tests = rest.2.tests;
+        actions = rest.2.actions ∙ omega arith;
+        hyps = rest.2.hyps;
+        limit = rest.2.limit;
+        goals = rest.2.goals;
+        size = rest.2.size;
+        plain = subst (λ (k : ℕ). IsPlain (rest.0).world s.tests k) (omega arith) rest.2.plain;
+      },
+    )
+
+-- what follows the declarations is items, wherever it stands and whatever declares these tests and actions
+abbrev Follow : State → ℕ → ℕ → List Piece → (State → Type 0) → Type 0
+Follow s n m ps P = (t : State) (at : ℕ) → Declares s n m t → AreItems t at ps P
+
+pub tests_items : (n : ℕ) (s : State) (at : ℕ) (ps : List Piece) (P : State → Type 0) → s.tests + n ≤ 48 → s.actions ≤ 48 → IsPlain s.world s.tests s.actions → Follow s (s.tests + n) s.actions ps P → AreItems s at (declaration_pieces (codes "test") (test_names s.tests n) ps) P
+tests_items zero s at ps P few small plain follow =
+    follow s at (record { tests = omega arith; actions = refl; hyps = refl; limit = refl; goals = refl; size = refl; plain = subst (λ (k : ℕ). IsPlain s.world k s.actions) (omega arith) plain })
+tests_items (suc n) s at ps P few small plain follow =
+    let name = plain_name (Test s.tests) in
+    let names = test_names (s.tests + 1) n in
+    let each = each_test n s (at + 4 + 1) few small plain in
+    let stop = names_stop name names (at + 4 + 1) in
+    let rest = follow each.0 (stop + 1 + 1) each.2 in
+    record {
+      items = record { keyword = leaf at (codes "test"); body = tests (names_at name names (at + 4 + 1)) (leaf stop (codes ";")) } ∷ rest.items;
+      spells =
+          ap (λ (ts : List Lexeme). lexeme (Keyword keyword.Test) at (codes "test") ∷ ts)
+          (names_spelled name names (at + 4 + 1) ps (tests_are_identifiers (suc n) s.tests few)
+          ∙ ap (λ (ts : List Lexeme). names_onto (names_at name names (at + 4 + 1)) (ended (leaf stop (codes ";")) ts)) rest.spells);
+      obey = (tt, rest.obey);
+      fit = (tt, rest.fit);
+      final = rest.final;
+      make = (each.0, each.1, rest.make);
+      holds = rest.holds;
+    }
+
+pub actions_items : (n : ℕ) (s : State) (at : ℕ) (ps : List Piece) (P : State → Type 0) → s.actions + n ≤ 48 → s.tests ≤ 48 → IsPlain s.world s.tests s.actions → Follow s s.tests (s.actions + n) ps P → AreItems s at (declaration_pieces (codes "action") (action_names s.actions n) ps) P
+actions_items zero s at ps P few small plain follow =
+    follow s at (record { tests = refl; actions = omega arith; hyps = refl; limit = refl; goals = refl; size = refl; plain = subst (λ (k : ℕ). IsPlain s.world s.tests k) (omega arith) plain })
+actions_items (suc n) s at ps P few small plain follow =
+    let name = plain_name (Action s.actions) in
+    let names = action_names (s.actions + 1) n in
+    let each = each_action n s (at + 6 + 1) few small plain in
+    let stop = names_stop name names (at + 6 + 1) in
+    let rest = follow each.0 (stop + 1 + 1) each.2 in
+    record {
+      items = record { keyword = leaf at (codes "action"); body = actions (names_at name names (at + 6 + 1)) (leaf stop (codes ";")) } ∷ rest.items;
+      spells =
+          ap (λ (ts : List Lexeme). lexeme (Keyword keyword.Action) at (codes "action") ∷ ts)
+          (names_spelled name names (at + 6 + 1) ps (actions_are_identifiers (suc n) s.actions few)
+          ∙ ap (λ (ts : List Lexeme). names_onto (names_at name names (at + 6 + 1)) (ended (leaf stop (codes ";")) ts)) rest.spells);
+      obey = (tt, rest.obey);
+      fit = (tt, rest.fit);
+      final = rest.final;
+      make = (each.0, each.1, rest.make);
+      holds = rest.holds;
+    }

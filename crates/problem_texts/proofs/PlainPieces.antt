@@ -1,0 +1,150 @@
+-- The pieces of a plain text: they spell it, and none goes on in the next.
+use Rattle.std.proofs.Common.{◌≡◌, ℕ, List, [], ◌∷◌, ◌++◌, map, refl, sym, ap, ◌∙◌, append_assoc}
+use Rattle.std.specs.Prelude.{codes, flat_map}
+use Rattle.std.specs.List.{range_with_len}
+use Rattle.kat_model.specs.Trees.{Term}
+use Rattle.kat_model.specs.Problems.{ProblemParts}
+use Rattle.text_tokens.specs.Pieces.{Piece, word, number, symbol, gap, spelled, AreSeparate}
+use Rattle.text_tokens.specs.declared.token.Kind.TheVariants.{Name}
+use Rattle.text_tokens.specs.Kinds.{IsToken}
+use Rattle.text_tokens.proofs.Words.{keyword_is_name}
+use Rattle.text_scopes.specs.declared.meaning.Meaning.TheVariants.{Test, Action}
+use Rattle.text_scopes.specs.ScopeParts.{ScopeParts, IsIdentifier}
+use Rattle.text_print.specs.Printing.{term_text, term_pieces, TermIsNamed}
+use Rattle.text_print.proofs.PieceTexts.{term_spells}
+use Rattle.text_print.proofs.Separate.{EndsWords, term_separate}
+use Rattle.problem_texts.specs.Questions.{plain_name, declaration_text, tests_text, actions_text, hyp_text, goal_text, question_text}
+
+-- the other names of a declaration, and its end
+abbrev pub names_pieces : List (List ℕ) → List Piece → List Piece
+names_pieces [] ps = symbol (codes ";") ∷ gap 10 ∷ ps
+names_pieces (name ∷ names) ps = symbol (codes ",") ∷ gap 32 ∷ word name ∷ names_pieces names ps
+
+abbrev pub declaration_pieces : List ℕ → List (List ℕ) → List Piece → List Piece
+declaration_pieces keyword [] ps = ps
+declaration_pieces keyword (name ∷ names) ps = word keyword ∷ gap 32 ∷ word name ∷ names_pieces names ps
+
+-- what follows the term of a hypothesis
+abbrev pub zero_pieces : List Piece → List Piece
+zero_pieces ps = gap 32 ∷ symbol (codes "=") ∷ gap 32 ∷ number (codes "0") ∷ symbol (codes ";") ∷ gap 10 ∷ ps
+
+abbrev pub hyp_pieces : Term → List Piece → List Piece
+hyp_pieces e ps = word (codes "hyp") ∷ gap 32 ∷ term_pieces plain_name e (zero_pieces ps)
+
+abbrev pub hyps_pieces : List Term → List Piece → List Piece
+hyps_pieces [] ps = ps
+hyps_pieces (e ∷ es) ps = hyp_pieces e (hyps_pieces es ps)
+
+-- what follows the left side of a goal, and its right side
+abbrev pub end_pieces : List Piece
+end_pieces = symbol (codes ";") ∷ gap 10 ∷ []
+
+abbrev pub right_pieces : Term → List Piece
+right_pieces right = symbol (codes ",") ∷ gap 32 ∷ term_pieces plain_name right end_pieces
+
+abbrev pub goal_pieces : Term → Term → List Piece
+goal_pieces left right = word (codes "goal") ∷ gap 32 ∷ word (codes "equal") ∷ gap 32 ∷ term_pieces plain_name left (right_pieces right)
+
+-- the names of n tests from number k on, and of n actions
+abbrev pub test_names : ℕ → ℕ → List (List ℕ)
+test_names k n = map (λ j. plain_name (Test j)) (range_with_len k n)
+
+abbrev pub action_names : ℕ → ℕ → List (List ℕ)
+action_names k n = map (λ j. plain_name (Action j)) (range_with_len k n)
+
+abbrev pub asked_pieces : ProblemParts → List Piece
+asked_pieces q = hyps_pieces q.hyps (goal_pieces q.left q.right)
+
+abbrev pub question_pieces : ProblemParts → List Piece
+question_pieces q = declaration_pieces (codes "test") (test_names 0 q.tests) (declaration_pieces (codes "action") (action_names 0 q.actions) (asked_pieces q))
+
+-- ---- what they spell
+
+names_spell : (names : List (List ℕ)) (ps : List Piece) → spelled (names_pieces names ps) ≡ flat_map (λ y. codes ", " ++ y) names ++ (59 ∷ 10 ∷ spelled ps)
+names_spell [] ps = refl
+names_spell (x ∷ xs) ps =
+    ap (λ (l : List ℕ). 44 ∷ 32 ∷ (x ++ l)) (names_spell xs ps)
+    ∙ ap (λ (l : List ℕ). 44 ∷ 32 ∷ l) (sym (append_assoc x (flat_map (λ y. codes ", " ++ y) xs) (59 ∷ 10 ∷ spelled ps)))
+
+declaration_regrouped : (keyword x f r : List ℕ) → keyword ++ codes " " ++ (x ++ f) ++ codes ";\n" ++ r ≡ keyword ++ (32 ∷ (x ++ (f ++ (59 ∷ 10 ∷ r))))
+declaration_regrouped keyword x f r = simp append_assoc
+
+pub declaration_spells : (keyword : List ℕ) (names : List (List ℕ)) (ps : List Piece) → spelled (declaration_pieces keyword names ps) ≡ declaration_text keyword names ++ spelled ps
+declaration_spells keyword [] ps = refl
+declaration_spells keyword (x ∷ xs) ps =
+    ap (λ (l : List ℕ). keyword ++ (32 ∷ (x ++ l))) (names_spell xs ps)
+    ∙ sym (declaration_regrouped keyword x (flat_map (λ y. codes ", " ++ y) xs) (spelled ps))
+
+hyp_regrouped : (x r : List ℕ) → codes "hyp " ++ x ++ codes " = 0;\n" ++ r ≡ 104 ∷ 121 ∷ 112 ∷ 32 ∷ (x ++ (32 ∷ 61 ∷ 32 ∷ 48 ∷ 59 ∷ 10 ∷ r))
+hyp_regrouped x r = simp append_assoc
+
+hyp_spells : (e : Term) (ps : List Piece) → spelled (hyp_pieces e ps) ≡ hyp_text plain_name e ++ spelled ps
+hyp_spells e ps =
+    ap (λ (l : List ℕ). 104 ∷ 121 ∷ 112 ∷ 32 ∷ l) (term_spells plain_name e (zero_pieces ps))
+    ∙ sym (hyp_regrouped (term_text plain_name e) (spelled ps))
+
+hyps_spell : (es : List Term) (ps : List Piece) → spelled (hyps_pieces es ps) ≡ flat_map (hyp_text plain_name) es ++ spelled ps
+hyps_spell [] ps = refl
+hyps_spell (e ∷ es) ps =
+    hyp_spells e (hyps_pieces es ps)
+    ∙ ap (λ (l : List ℕ). hyp_text plain_name e ++ l) (hyps_spell es ps)
+    ∙ sym (append_assoc (hyp_text plain_name e) (flat_map (hyp_text plain_name) es) (spelled ps))
+
+goal_regrouped : (x y : List ℕ) → codes "goal equal " ++ x ++ codes ", " ++ y ++ codes ";\n" ≡ codes "goal equal " ++ (x ++ (44 ∷ 32 ∷ (y ++ (59 ∷ 10 ∷ []))))
+goal_regrouped x y = simp append_assoc
+
+goal_spells : (left right : Term) → spelled (goal_pieces left right) ≡ goal_text plain_name left right
+goal_spells left right =
+    ap (λ (l : List ℕ). codes "goal equal " ++ l)
+    (term_spells plain_name left (right_pieces right)
+    ∙ ap (λ (l : List ℕ). term_text plain_name left ++ (44 ∷ 32 ∷ l)) (term_spells plain_name right end_pieces))
+    ∙ sym (goal_regrouped (term_text plain_name left) (term_text plain_name right))
+
+question_regrouped : (a b c d : List ℕ) → a ++ b ++ c ++ d ≡ a ++ (b ++ (c ++ d))
+question_regrouped a b c d = simp append_assoc
+
+pub question_spells : (q : ProblemParts) → spelled (question_pieces q) ≡ question_text q
+question_spells q =
+    let goal = goal_pieces q.left q.right in
+    let asked = asked_pieces q in
+    let actions = declaration_pieces (codes "action") (action_names 0 q.actions) asked in
+    declaration_spells (codes "test") (test_names 0 q.tests) actions
+    ∙ ap (λ (l : List ℕ). tests_text q.tests ++ l)
+    (declaration_spells (codes "action") (action_names 0 q.actions) asked
+    ∙ ap (λ (l : List ℕ). actions_text q.actions ++ l) (hyps_spell q.hyps goal ∙ ap (λ (l : List ℕ). flat_map (hyp_text plain_name) q.hyps ++ l) (goal_spells q.left q.right)))
+    ∙ sym (question_regrouped (tests_text q.tests) (actions_text q.actions) (flat_map (hyp_text plain_name) q.hyps) (goal_text plain_name q.left q.right))
+
+-- ---- they are separate
+
+abbrev pub AreIdentifiers : List (List ℕ) → Type 0
+AreIdentifiers [] = Unit {0}
+AreIdentifiers (name ∷ names) = IsIdentifier name × AreIdentifiers names
+
+names_end : (names : List (List ℕ)) (ps : List Piece) → EndsWords (names_pieces names ps)
+names_end [] ps = record { name = λ b. refl; number = λ b. refl }
+names_end (x ∷ xs) ps = record { name = λ b. refl; number = λ b. refl }
+
+names_separate : (names : List (List ℕ)) (ps : List Piece) → AreIdentifiers names → AreSeparate ps → AreSeparate (names_pieces names ps)
+names_separate [] ps is after = (refl, refl, (refl, after))
+names_separate (x ∷ xs) ps is after = (refl, refl, (refl, (is.0.name, (names_end xs ps).name x, names_separate xs ps is.1 after)))
+
+pub declaration_separate : (keyword : List ℕ) (names : List (List ℕ)) (ps : List Piece) → IsToken Name keyword → AreIdentifiers names → AreSeparate ps → AreSeparate (declaration_pieces keyword names ps)
+declaration_separate keyword [] ps token is after = after
+declaration_separate keyword (x ∷ xs) ps token is after = (token, refl, (refl, (is.0.name, (names_end xs ps).name x, names_separate xs ps is.1 after)))
+
+module _ (w : ScopeParts) where
+  abbrev pub AreNamed : List Term → Type 0
+  AreNamed [] = Unit {0}
+  AreNamed (e ∷ es) = TermIsNamed w plain_name e × AreNamed es
+
+  pub hyps_separate : (es : List Term) (ps : List Piece) → AreNamed es → AreSeparate ps → AreSeparate (hyps_pieces es ps)
+  hyps_separate [] ps is after = after
+  hyps_separate (e ∷ es) ps is after =
+      let rest : AreSeparate (zero_pieces (hyps_pieces es ps)) = (refl, (refl, refl, (refl, (refl, refl, (refl, refl, (refl, hyps_separate es ps is.1 after)))))) in
+      (keyword_is_name (codes "hyp") refl, refl, (refl, term_separate w plain_name e is.0 (zero_pieces (hyps_pieces es ps)) (record { name = λ b. refl; number = λ b. refl }) rest))
+
+  pub goal_separate : (left right : Term) → TermIsNamed w plain_name left → TermIsNamed w plain_name right → AreSeparate (goal_pieces left right)
+  goal_separate left right l r =
+      let last : AreSeparate end_pieces = (refl, refl, (refl, tt)) in
+      let second : AreSeparate (right_pieces right) = (refl, refl, (refl, term_separate w plain_name right r end_pieces (record { name = λ b. refl; number = λ b. refl }) last)) in
+      (keyword_is_name (codes "goal") refl, refl, (refl, (keyword_is_name (codes "equal") refl, refl, (refl, term_separate w plain_name left l (right_pieces right) (record { name = λ b. refl; number = λ b. refl }) second))))

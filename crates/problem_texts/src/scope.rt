@@ -1,0 +1,57 @@
+//! The scopes of plain names.
+ghost use Rattle.std.specs.Prelude.{◌≡◌, ◌≤◌, false, OnOk, IfOk};
+ghost use Rattle.text_scopes.specs.ScopeParts.{IsIdentifier, IsUnnamed, IsUndeclared, is_term, declared};
+ghost use Rattle.problem_texts.specs.NumberedScopes.{numbered_scope};
+ghost use Rattle.problem_texts.specs.Working.Scopes.{IsPlain};
+
+use kat_model::NoMemory;
+use std::alloc::Global;
+use text_scopes::{Meaning, Scope};
+use text_tokens::{Kind, TextFault, Token};
+
+/// Declares one name more, which is an identifier and not there yet. It fails only when out of memory.
+pub fn declare(scope: &mut Scope, name: &str, meaning: Meaning) -> Result<(), NoMemory>
+    requires identifier { IsIdentifier name.now }
+    requires undeclared { IsUndeclared scope.old name.now }
+    requires no_term { is_term meaning ≡ false }
+    requires unnamed { IsUnnamed scope.old meaning }
+    ensures { OnOk result (scope.new ≡ declared scope.old name.now meaning) }
+{
+    let token = Token {
+        kind: Kind::Name,
+        text: name,
+        at: 0,
+    };
+    match scope.declare(&token, meaning) {
+        Ok(()) => Ok(()),
+        Err(TextFault::NoMemory) => Err(NoMemory),
+        Err(_) => unreachable!(),
+    }
+}
+
+/// The scope that names so many tests `t0`, `t1`, .. and so many actions `a0`, `a1`, .., and nothing else. It fails only
+/// when out of memory.
+pub fn numbered_scope(alloc: Global, tests: usize, actions: usize) -> Result<Scope, NoMemory>
+    ensures { IfOk result (λ scope. scope ≡ numbered_scope tests actions) }
+{
+    let mut scope = Scope::new(alloc);
+    for k in 0..tests {
+        let name = format!(in alloc; "t{k}")?;
+        declare(&mut scope, name.as_str(), Meaning::Test(k))?;
+    }
+    for a in 0..actions {
+        let name = format!(in alloc; "a{a}")?;
+        declare(&mut scope, name.as_str(), Meaning::Action(a))?;
+    }
+    Ok(scope)
+}
+
+/// The scope that names so many tests `t0`, `t1`, .. and so many actions `a0`, `a1`, .., at most 48 of each, and nothing
+/// else. It fails only when out of memory.
+pub fn plain_scope(alloc: Global, tests: usize, actions: usize) -> Result<Scope, NoMemory>
+    requires tests { tests ≤ 48 }
+    requires actions { actions ≤ 48 }
+    ensures { IfOk result (λ scope. IsPlain scope tests actions) }
+{
+    numbered_scope(alloc, tests, actions)
+}

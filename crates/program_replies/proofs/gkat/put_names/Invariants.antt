@@ -1,9 +1,0 @@
-use Rattle.std.proofs.Common.{◌≡◌, ◌-◌, ◌++◌}
-use Rattle.kat_print.specs.Printing.{name_of}
-use Rattle.plain_texts.proofs.PlainWritten.{later_names}
-use Rattle.program_replies.specs.Working.Kinds.{kind_meaning}
-use Rattle.program_replies.proofs.gkat.put_names.Given as goal
-
--- the names so far, but for the first
-abbrev pub invariant-loop-k : goal.invariant-loop-k
-invariant-loop-k l = l.out.items ≡ l.initial.out.items ++ later_names (λ k. name_of l.scope (kind_meaning l.kind k)) (l.k - 1)

@@ -1,5 +1,0 @@
-use Rattle.std.proofs.Common.{◌≡◌, ◌++◌}
-use Rattle.stored_pairs.proofs.needed.tests_in_order.Given as goal
-
-abbrev pub invariant-loop-test : goal.invariant-loop-test
-invariant-loop-test l = l.tests.keys ++ l.test-iterator ≡ l.all.keys

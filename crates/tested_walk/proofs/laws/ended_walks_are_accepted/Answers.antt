@@ -1,5 +1,0 @@
-use Rattle.tested_walk.proofs.EndedWalks.{ended_accepted}
-use Rattle.tested_walk.proofs.laws.ended_walks_are_accepted.Goals as goal
-
-pub returns : goal.returns
-returns c shorts q es walk pairs m = ended_accepted shorts q es walk pairs m

@@ -1,0 +1,125 @@
+//! The tokens of texts, and names to read phrases with.
+//!
+//! A function that makes values with trees in them or drops them is proved the faster the fewer its exits are at which
+//! one must be dropped. So each helper of these tests has one such value, and lends it to the next.
+ghost use Rattle.std.specs.Prelude.{◌≡◌, false, IfOk};
+ghost use Rattle.text_tokens.specs.declared.token.Kind.TheVariants.{Name};
+ghost use Rattle.text_tokens.specs.Kinds.{IsToken};
+ghost use Rattle.text_tokens.specs.Keywords.{is_keyword};
+ghost use Rattle.text_scopes.specs.ScopeParts.{is_term};
+
+use kat_model::{Kat, NoMemory};
+use problem_file::{File, read};
+use std::alloc::Global;
+use text_print::print_term;
+use text_scopes::{Meaning, Scope};
+use text_tokens::{Kind, MAX_LEN, TextFault, Token, is_keyword, tokens};
+
+// The tokens of a text of any length.
+pub(crate) fn cut<'a>(alloc: Global, text: &'a str) -> Result<Vec<Token<'a>>, TextFault> {
+    if text.len() > MAX_LEN {
+        return Err(TextFault::TooLong);
+    }
+    tokens(alloc, text)
+}
+
+// The token at the beginning of the text, where it is an identifier.
+fn identifier<'a>(alloc: Global, text: &'a str) -> Result<Token<'a>, TextFault>
+    ensures name { IfOk result (λ token. IsToken Name token.text.now) }
+    ensures no_keyword { IfOk result (λ token. is_keyword token.text.now ≡ false) }
+{
+    if text.len() > MAX_LEN {
+        return Err(TextFault::TooLong);
+    }
+    let found = tokens(alloc, text)?;
+    match found.first() {
+        Some(token) if matches!(token.kind, Kind::Name) && !is_keyword(token.text) => Ok(*token),
+        _ => Err(TextFault::Syntax(0)),
+    }
+}
+
+// Declares a name, unless what it is to mean has one.
+pub(crate) fn declare(
+    alloc: Global,
+    scope: &mut Scope,
+    text: &str,
+    meaning: Meaning,
+) -> Result<(), TextFault>
+    requires { is_term meaning ≡ false }
+{
+    let name = identifier(alloc, text)?;
+    if scope.name(meaning).is_some() {
+        return Err(TextFault::Sort(name.at));
+    }
+    scope.declare(&name, meaning)
+}
+
+fn scope_of(file: File) -> Scope {
+    file.scope
+}
+
+fn declare_variables(alloc: Global, scope: &mut Scope) -> Result<(), TextFault> {
+    declare(alloc, scope, "x", Meaning::Var(0))?;
+    declare(alloc, scope, "y", Meaning::Var(1))
+}
+
+// Two tests, two actions, two variables, a term that is a test, and one that is none.
+pub(crate) fn sample(alloc: Global) -> Result<Scope, TextFault> {
+    let text = "test b, c; action p, q; term t = !(b + c); term e = p.b; goal equal 1, 1;";
+    let mut scope = scope_of(read(alloc, text.as_bytes())?);
+    declare_variables(alloc, &mut scope)?;
+    Ok(scope)
+}
+
+// Whether this was found, or the text was refused so.
+pub(crate) fn is_so(found: Result<Vec<u8>, TextFault>, want: Result<&str, TextFault>) -> bool {
+    match (found, want) {
+        (Ok(found), Ok(want)) => found.as_slice() == want.as_bytes(),
+        (Err(found), Err(want)) => found == want,
+        _ => false,
+    }
+}
+
+pub(crate) fn put(out: &mut Vec<u8>, piece: &[u8]) -> Result<(), NoMemory> {
+    Ok(out.extend_from_slice(piece)?)
+}
+
+pub(crate) fn put_term(
+    alloc: Global,
+    out: &mut Vec<u8>,
+    term: &Kat,
+    scope: &Scope,
+) -> Result<(), NoMemory> {
+    let text = print_term(alloc, term, scope)?;
+    put(out, &text)
+}
+
+// Adds the middle with so many pieces before it and after it.
+pub(crate) fn put_around(
+    out: &mut String,
+    before: &str,
+    middle: &str,
+    after: &str,
+    times: usize,
+) -> Result<(), NoMemory> {
+    for _ in 0..times {
+        out.push_str(before)?;
+    }
+    out.push_str(middle)?;
+    for _ in 0..times {
+        out.push_str(after)?;
+    }
+    Ok(())
+}
+
+pub(crate) fn text_around(
+    alloc: Global,
+    before: &str,
+    middle: &str,
+    after: &str,
+    times: usize,
+) -> Result<String, NoMemory> {
+    let mut out = String::new(alloc);
+    put_around(&mut out, before, middle, after, times)?;
+    Ok(out)
+}

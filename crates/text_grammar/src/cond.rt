@@ -1,0 +1,205 @@
+//! Conditions.
+//!
+//! A `(` begins an expression or a condition, by the token after the parenthesis that matches it. It is found by a search
+//! ahead that counts parentheses and takes no memory. Only a `(` that may begin a condition is searched from, and none
+//! within an expression, so a token is passed over at most once for each `(` that is open there: at most 201 times, by
+//! the limit of depth.
+ghost use Rattle.std.specs.Prelude.{◌≡◌, ℕ, ◌+◌, ◌<◌, ◌≤◌, length, drop, IfOk};
+ghost use Rattle.text_grammar.specs.Lexemes.{lexemes};
+ghost use Rattle.text_grammar.specs.Parsed.{Reads, Goes};
+ghost use Rattle.text_grammar.specs.Conds.{after_close, begins_expr, relation, comparison, parenthesis, negation, parse_cond, disjunction, conjunction, literal};
+
+use crate::expr::read_expr;
+use crate::reading::{Context, Reading};
+use crate::terminal::{
+    Terminal, expect, is_at, is_round_close_at, is_round_open_at, syntax_fault_at, terminal_at,
+    text_at,
+};
+use kat_model::Rel;
+use text_tokens::{TextFault, Token};
+
+// The index after the parenthesis that matches one just before `from`, or the number of tokens where there is none.
+#[tactic(auto, using(crate::proofs::Parentheses::match_closed, crate::proofs::Tokens::next_drop))]
+fn after_close(toks: &[Token], from: usize) -> usize
+    ensures { drop result (lexemes toks.now) ≡ after_close 0 (drop from (lexemes toks.now)) }
+{
+    let mut open: usize = 0;
+    for i in from..toks.len() {
+        if is_round_open_at(toks, i) {
+            open += 1;
+        } else if is_round_close_at(toks, i) {
+            if open == 0 {
+                return i + 1;
+            }
+            open -= 1;
+        }
+    }
+    toks.len()
+}
+
+fn begins_expr(toks: &[Token], i: usize) -> bool
+    ensures { result ≡ begins_expr (drop i (lexemes toks.now)) }
+{
+    matches!(
+        terminal_at(toks, i),
+        Some((
+            Terminal::Plus | Terminal::Minus | Terminal::Star | Terminal::Compares(_),
+            _
+        ))
+    )
+}
+
+fn relation(toks: &[Token], i: usize) -> Result<(Rel, usize), TextFault>
+    ensures value { Reads ⊥ (λ r. r) (lexemes toks.now) result (relation (drop i (lexemes toks.now))) }
+    ensures goes { Goes i (length toks.now) result }
+{
+    match terminal_at(toks, i) {
+        Some((Terminal::Compares(relation), _)) => Ok((relation, i + 1)),
+        _ => Err(syntax_fault_at(toks, i)),
+    }
+}
+
+fn comparison<R: Reading>(
+    reading: &R,
+    toks: &[Token],
+    from: usize,
+    context: Context,
+) -> Result<(R::Cond, usize), TextFault>
+    ensures value { Reads R.memory R.cond (lexemes toks.now) result (comparison (R.actions reading.now).conds context (drop from (lexemes toks.now))) }
+    ensures goes { Goes from (length toks.now) result }
+{
+    let (left, next) = read_expr(reading, toks, from, context)?;
+    let (relation, next) = relation(toks, next)?;
+    let (right, end) = read_expr(reading, toks, next, context)?;
+    Ok((reading.compare(relation, left, right), end))
+}
+
+/// Reads the condition that begins at `from`, as [`crate::read_term`] reads a term.
+pub fn read_cond<R: Reading>(
+    reading: &R,
+    toks: &[Token],
+    from: usize,
+    context: Context,
+) -> Result<(R::Cond, usize), TextFault>
+    ensures value { Reads R.memory R.cond (lexemes toks.now) result (parse_cond (R.actions reading.now).conds disjunction context (drop from (lexemes toks.now))) }
+    ensures goes { Goes from (length toks.now) result }
+{
+    disjunction(reading, toks, from, context)
+}
+
+#[cycle(conds)]
+#[tactic(auto, using(crate::proofs::CondSteps::cond_step, crate::proofs::Tokens::next_drop))]
+fn disjunction<R: Reading>(
+    reading: &R,
+    toks: &[Token],
+    from: usize,
+    context: Context,
+) -> Result<(R::Cond, usize), TextFault>
+    ensures value { Reads R.memory R.cond (lexemes toks.now) result (parse_cond (R.actions reading.now).conds disjunction context (drop from (lexemes toks.now))) }
+    ensures goes { Goes from (length toks.now) result }
+{
+    let (first, next) = conjunction(reading, toks, from, context)?;
+    let mut list = reading.one_cond(first)?;
+    let mut at = next;
+    'parts: while is_at(toks, at, Terminal::Or) {
+        let (more, next) = conjunction(reading, toks, at + 1, context)?;
+        list = reading.more_conds(list, more)?;
+        at = next;
+    }
+    Ok((reading.any(list)?, at))
+}
+
+#[cycle(conds)]
+#[tactic(auto, using(crate::proofs::CondSteps::cond_step, crate::proofs::Tokens::next_drop))]
+fn conjunction<R: Reading>(
+    reading: &R,
+    toks: &[Token],
+    from: usize,
+    context: Context,
+) -> Result<(R::Cond, usize), TextFault>
+    ensures value { Reads R.memory R.cond (lexemes toks.now) result (parse_cond (R.actions reading.now).conds conjunction context (drop from (lexemes toks.now))) }
+    ensures goes { Goes from (length toks.now) result }
+{
+    let (first, next) = literal(reading, toks, from, context)?;
+    let mut list = reading.one_cond(first)?;
+    let mut at = next;
+    'parts: while is_at(toks, at, Terminal::And) {
+        let (more, next) = literal(reading, toks, at + 1, context)?;
+        list = reading.more_conds(list, more)?;
+        at = next;
+    }
+    Ok((reading.all(list)?, at))
+}
+
+#[cycle(conds)]
+#[tactic(auto, using(crate::proofs::CondSteps::cond_step, crate::proofs::Tokens::next_drop))]
+fn literal<R: Reading>(
+    reading: &R,
+    toks: &[Token],
+    from: usize,
+    context: Context,
+) -> Result<(R::Cond, usize), TextFault>
+    ensures value { Reads R.memory R.cond (lexemes toks.now) result (parse_cond (R.actions reading.now).conds literal context (drop from (lexemes toks.now))) }
+    ensures goes { Goes from (length toks.now) result }
+{
+    let Some((terminal, at)) = terminal_at(toks, from) else {
+        return Err(syntax_fault_at(toks, from));
+    };
+    match terminal {
+        Terminal::True => Ok((reading.always(), from + 1)),
+        Terminal::False => Ok((reading.never(), from + 1)),
+        Terminal::Bang => negation(reading, toks, from + 1, context, at),
+        Terminal::Name => {
+            if begins_expr(toks, from + 1) {
+                return comparison(reading, toks, from, context);
+            }
+            Ok((
+                reading.named_cond(context, at, text_at(toks, from))?,
+                from + 1,
+            ))
+        }
+        Terminal::RoundOpen => {
+            if begins_expr(toks, after_close(toks, from + 1)) {
+                return comparison(reading, toks, from, context);
+            }
+            parenthesis(reading, toks, from + 1, context, at)
+        }
+        Terminal::Zero | Terminal::One | Terminal::Number(_) | Terminal::WideNumber => {
+            comparison(reading, toks, from, context)
+        }
+        _ => Err(TextFault::Syntax(at)),
+    }
+}
+
+#[cycle(conds)]
+fn negation<R: Reading>(
+    reading: &R,
+    toks: &[Token],
+    from: usize,
+    context: Context,
+    at: usize,
+) -> Result<(R::Cond, usize), TextFault>
+    ensures value { Reads R.memory R.cond (lexemes toks.now) result (negation (R.actions reading.now).conds (parse_cond (R.actions reading.now).conds) context at (drop from (lexemes toks.now))) }
+    ensures goes { Goes from (length toks.now) result }
+{
+    let inside = context.enter_not(at)?;
+    let (operand, end) = literal(reading, toks, from, inside)?;
+    Ok((reading.negated_cond(operand)?, end))
+}
+
+#[cycle(conds)]
+fn parenthesis<R: Reading>(
+    reading: &R,
+    toks: &[Token],
+    from: usize,
+    context: Context,
+    at: usize,
+) -> Result<(R::Cond, usize), TextFault>
+    ensures value { Reads R.memory R.cond (lexemes toks.now) result (parenthesis (R.actions reading.now).conds (parse_cond (R.actions reading.now).conds) context at (drop from (lexemes toks.now))) }
+    ensures goes { Goes from (length toks.now) result }
+{
+    let inside = context.enter(at)?;
+    let (cond, end) = disjunction(reading, toks, from, inside)?;
+    let end = expect(toks, end, Terminal::RoundClose)?;
+    Ok((reading.enclosed_cond(cond), end))
+}

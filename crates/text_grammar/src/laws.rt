@@ -1,0 +1,28 @@
+//! Laws of the definitions. Each function does nothing: its contract is the law.
+ghost use Rattle.std.specs.Prelude.{◌≡◌, List};
+ghost use Rattle.text_grammar.specs.Lexemes.{Lexeme};
+ghost use Rattle.text_grammar.specs.Phrases.{Symbol, term, cond, expr, Phrase, yield_before, MeetsLookahead, IsLongest};
+ghost use Rattle.text_grammar.specs.Scans.{scan_term, scan_cond, scan_expr, TakesPhrases};
+ghost use Rattle.text_grammar.specs.Ends.{Ends, TakesGrammar};
+
+/// The test of the syntax takes just the phrases of the grammar that are as long as they can be, nest at most 200
+/// constructs and have no number of 2^64 or more.
+pub fn grammar_is_scanned()
+    ensures terms { TakesPhrases term scan_term }
+    ensures conds { TakesPhrases cond scan_cond }
+    ensures exprs { TakesPhrases expr scan_expr }
+{}
+
+/// Where the token that follows goes on with no phrase of the symbol, each phrase before it is as long as it can be,
+/// and the test takes just the phrases of the grammar with its two rules on conditions.
+pub fn phrases_end()
+    ensures longest { (x : Symbol) (p : Phrase x) (ts : List Lexeme) → Ends x ts → IsLongest p ts }
+    ensures terms { TakesGrammar term scan_term }
+    ensures conds { TakesGrammar cond scan_cond }
+    ensures exprs { TakesGrammar expr scan_expr }
+{}
+
+/// Tokens begin with one phrase of a symbol at most that is as long as it can be: the grammar is not ambiguous.
+pub fn phrases_are_unique()
+    ensures { (x : Symbol) (p q : Phrase x) (r s : List Lexeme) → yield_before p r ≡ yield_before q s → MeetsLookahead p r → MeetsLookahead q s → IsLongest p r → IsLongest q s → (p ≡ q) × (r ≡ s) }
+{}

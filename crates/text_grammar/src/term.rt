@@ -1,0 +1,166 @@
+//! Terms.
+ghost use Rattle.std.specs.Prelude.{◌≡◌, ℕ, ◌+◌, ◌<◌, ◌≤◌, length, drop, IfOk};
+ghost use Rattle.text_grammar.specs.Lexemes.{lexemes};
+ghost use Rattle.text_grammar.specs.Parsed.{Reads, Goes};
+ghost use Rattle.text_grammar.specs.Terms.{parenthesis, bracket, negation, star_or_not, parse_term, choice, sequence, unit};
+
+use crate::cond::read_cond;
+use crate::reading::{Context, Reading};
+use crate::terminal::{Terminal, expect, is_at, syntax_fault_at, terminal_at, text_at};
+use text_tokens::{TextFault, Token};
+
+/// Reads the term that begins at `from`: what the reading makes of it, and the index after it. Otherwise the fault that
+/// comes first in the text: `Syntax` at the token that cannot stand there (the place `usize::MAX` after the last token),
+/// `TooDeep` at the token with which more than 200 constructs are open, `NumberTooWide` at a number of 2^64 or more, or
+/// that with which the reading refuses a part. `NoMemory` comes from the reading alone.
+pub fn read_term<R: Reading>(
+    reading: &R,
+    toks: &[Token],
+    from: usize,
+    context: Context,
+) -> Result<(R::Term, usize), TextFault>
+    ensures value { Reads R.memory R.term (lexemes toks.now) result (parse_term (R.actions reading.now) choice context (drop from (lexemes toks.now))) }
+    ensures goes { Goes from (length toks.now) result }
+{
+    choice(reading, toks, from, context)
+}
+
+#[cycle(terms)]
+#[tactic(auto, using(crate::proofs::TermSteps::term_step, crate::proofs::Tokens::next_drop))]
+fn choice<R: Reading>(
+    reading: &R,
+    toks: &[Token],
+    from: usize,
+    context: Context,
+) -> Result<(R::Term, usize), TextFault>
+    ensures value { Reads R.memory R.term (lexemes toks.now) result (parse_term (R.actions reading.now) choice context (drop from (lexemes toks.now))) }
+    ensures goes { Goes from (length toks.now) result }
+{
+    let (first, next) = sequence(reading, toks, from, context)?;
+    let mut list = reading.one_term(first)?;
+    let mut at = next;
+    'parts: while is_at(toks, at, Terminal::Plus) {
+        let (more, next) = sequence(reading, toks, at + 1, context)?;
+        list = reading.more_terms(list, more)?;
+        at = next;
+    }
+    Ok((reading.sum(list)?, at))
+}
+
+#[cycle(terms)]
+#[tactic(auto, using(crate::proofs::TermSteps::term_step, crate::proofs::Tokens::next_drop))]
+fn sequence<R: Reading>(
+    reading: &R,
+    toks: &[Token],
+    from: usize,
+    context: Context,
+) -> Result<(R::Term, usize), TextFault>
+    ensures value { Reads R.memory R.term (lexemes toks.now) result (parse_term (R.actions reading.now) sequence context (drop from (lexemes toks.now))) }
+    ensures goes { Goes from (length toks.now) result }
+{
+    let (first, next) = unit(reading, toks, from, context)?;
+    let (first, next) = star_or_not(reading, toks, next, context, first)?;
+    let mut list = reading.one_term(first)?;
+    let mut at = next;
+    'parts: while is_at(toks, at, Terminal::Dot) {
+        let (more, next) = unit(reading, toks, at + 1, context)?;
+        let (more, next) = star_or_not(reading, toks, next, context, more)?;
+        list = reading.more_terms(list, more)?;
+        at = next;
+    }
+    Ok((reading.product(list)?, at))
+}
+
+fn star_or_not<R: Reading>(
+    reading: &R,
+    toks: &[Token],
+    i: usize,
+    context: Context,
+    operand: R::Term,
+) -> Result<(R::Term, usize), TextFault>
+    ensures value { Reads R.memory R.term (lexemes toks.now) result (star_or_not (R.actions reading.now) context (R.term operand) (drop i (lexemes toks.now))) }
+    ensures goes { IfOk result (λ x. i ≤ x.1) }
+    ensures within { i ≤ length toks.now → IfOk result (λ x. x.1 ≤ length toks.now) }
+{
+    match terminal_at(toks, i) {
+        Some((Terminal::Star, at)) => Ok((reading.starred(context, at, operand)?, i + 1)),
+        _ => Ok((operand, i)),
+    }
+}
+
+#[cycle(terms)]
+#[tactic(auto, using(crate::proofs::TermSteps::term_step, crate::proofs::Tokens::next_drop))]
+fn unit<R: Reading>(
+    reading: &R,
+    toks: &[Token],
+    from: usize,
+    context: Context,
+) -> Result<(R::Term, usize), TextFault>
+    ensures value { Reads R.memory R.term (lexemes toks.now) result (parse_term (R.actions reading.now) unit context (drop from (lexemes toks.now))) }
+    ensures goes { Goes from (length toks.now) result }
+{
+    let Some((terminal, at)) = terminal_at(toks, from) else {
+        return Err(syntax_fault_at(toks, from));
+    };
+    match terminal {
+        Terminal::Zero => Ok((reading.zero(), from + 1)),
+        Terminal::One => Ok((reading.one(), from + 1)),
+        Terminal::Name => Ok((
+            reading.named_term(context, at, text_at(toks, from))?,
+            from + 1,
+        )),
+        Terminal::Bang => negation(reading, toks, from + 1, context, at),
+        Terminal::SquareOpen => bracket(reading, toks, from + 1, context, at),
+        Terminal::RoundOpen => parenthesis(reading, toks, from + 1, context, at),
+        _ => Err(TextFault::Syntax(at)),
+    }
+}
+
+#[cycle(terms)]
+fn negation<R: Reading>(
+    reading: &R,
+    toks: &[Token],
+    from: usize,
+    context: Context,
+    at: usize,
+) -> Result<(R::Term, usize), TextFault>
+    ensures value { Reads R.memory R.term (lexemes toks.now) result (negation (R.actions reading.now) (parse_term (R.actions reading.now)) context at (drop from (lexemes toks.now))) }
+    ensures goes { Goes from (length toks.now) result }
+{
+    let inside = context.enter_not(at)?;
+    let (operand, end) = unit(reading, toks, from, inside)?;
+    Ok((reading.negated_term(operand)?, end))
+}
+
+fn bracket<R: Reading>(
+    reading: &R,
+    toks: &[Token],
+    from: usize,
+    context: Context,
+    at: usize,
+) -> Result<(R::Term, usize), TextFault>
+    ensures value { Reads R.memory R.term (lexemes toks.now) result (bracket (R.actions reading.now) context at (drop from (lexemes toks.now))) }
+    ensures goes { Goes from (length toks.now) result }
+{
+    let inside = context.enter(at)?;
+    let (cond, end) = read_cond(reading, toks, from, inside)?;
+    let end = expect(toks, end, Terminal::SquareClose)?;
+    Ok((reading.tested(cond)?, end))
+}
+
+#[cycle(terms)]
+fn parenthesis<R: Reading>(
+    reading: &R,
+    toks: &[Token],
+    from: usize,
+    context: Context,
+    at: usize,
+) -> Result<(R::Term, usize), TextFault>
+    ensures value { Reads R.memory R.term (lexemes toks.now) result (parenthesis (R.actions reading.now) (parse_term (R.actions reading.now)) context at (drop from (lexemes toks.now))) }
+    ensures goes { Goes from (length toks.now) result }
+{
+    let inside = context.enter(at)?;
+    let (term, end) = choice(reading, toks, from, inside)?;
+    let end = expect(toks, end, Terminal::RoundClose)?;
+    Ok((reading.enclosed_term(term), end))
+}

@@ -1,0 +1,315 @@
+//! What a token is to the grammar.
+ghost use Rattle.std.specs.Prelude.{◌≡◌, ℕ, ◌+◌, ◌<◌, [], ◌∷◌, length, drop, slice_get, IsTrue, IfOk, true};
+ghost use Rattle.std.specs.List.{list_all};
+ghost use Rattle.std.specs.Char.{is_ascii_digit};
+ghost use Rattle.text_tokens.specs.TokenParts.{parts_of_tokens};
+ghost use Rattle.text_tokens.specs.declared.fault.TextFault.TheVariants.{Syntax};
+ghost use Rattle.text_grammar.specs.Terminals.{terminal_of, is_symbol, heads_symbol, keyword_terminal, number_terminal, symbol_terminal, is_digits, small_number};
+ghost use Rattle.text_grammar.specs.Lexemes.{lexemes, text_at, Sees, heads, is_terminal, is_sum};
+ghost use Rattle.text_grammar.specs.Parsed.{place_of, Wants, wants};
+
+use kat_model::Rel;
+use text_tokens::{Kind, TextFault, Token};
+
+/// A word that names nothing, spelled as its variant in lower case. `true` and `false` are [`Terminal::True`] and [`Terminal::False`].
+#[derive(Clone, Copy, Debug, PartialEq, Eq)]
+pub enum Keyword {
+    Test,
+    Action,
+    Var,
+    Prog,
+    Term,
+    Hyp,
+    Rounds,
+    Width,
+    Goal,
+    Equal,
+    Below,
+    Triple,
+    Skip,
+    Abort,
+    Assert,
+    If,
+    Else,
+    While,
+}
+
+/// A symbol that stands between phrases and in none.
+#[derive(Clone, Copy, Debug, PartialEq, Eq)]
+pub enum Separator {
+    /// `,`
+    Comma,
+    /// `;`
+    Semicolon,
+    /// `{`
+    CurlyOpen,
+    /// `}`
+    CurlyClose,
+    /// `=`
+    Equals,
+    /// `:=`
+    Becomes,
+    /// `^`
+    Caret,
+}
+
+/// What a token is to the grammar. Numbers are told apart by what the grammar asks of them.
+#[derive(Clone, Copy, Debug, PartialEq, Eq)]
+pub enum Terminal {
+    /// `(`
+    RoundOpen,
+    /// `)`
+    RoundClose,
+    /// `[`
+    SquareOpen,
+    /// `]`
+    SquareClose,
+    /// `!`, the complement of a test or condition.
+    Bang,
+    /// `*`, the star of a term or the product of numbers.
+    Star,
+    /// `+`, the sum of terms or of numbers.
+    Plus,
+    /// `-`
+    Minus,
+    /// `.`, the product of terms.
+    Dot,
+    /// `&&`
+    And,
+    /// `||`
+    Or,
+    /// `==`, `!=`, `<`, `<=`, `>` or `>=`.
+    Compares(Rel),
+    /// The number `0`, spelled so: in a term, the term 0.
+    Zero,
+    /// The number `1`, spelled so: in a term, the term 1.
+    One,
+    /// Any other number below 2^64, `00` and `01` among them.
+    Number(u64),
+    /// A number of 2^64 or more.
+    WideNumber,
+    /// The keyword `true`.
+    True,
+    /// The keyword `false`.
+    False,
+    /// A name that is no keyword.
+    Name,
+    /// Any other keyword.
+    Keyword(Keyword),
+    /// A symbol that stands in no phrase.
+    Separator(Separator),
+    /// No token of the format: texts cut by [`text_tokens::tokens`] have none.
+    Other,
+}
+
+// A text is matched by its bytes, here and below, since a match on strings compares it with each of them in turn.
+fn symbol_terminal(text: &str) -> Terminal
+    ensures { result ≡ symbol_terminal text.now }
+{
+    match text.as_bytes() {
+        b"(" => Terminal::RoundOpen,
+        b")" => Terminal::RoundClose,
+        b"[" => Terminal::SquareOpen,
+        b"]" => Terminal::SquareClose,
+        b"!" => Terminal::Bang,
+        b"*" => Terminal::Star,
+        b"+" => Terminal::Plus,
+        b"-" => Terminal::Minus,
+        b"." => Terminal::Dot,
+        b"&&" => Terminal::And,
+        b"||" => Terminal::Or,
+        b"==" => Terminal::Compares(Rel::Eq),
+        b"!=" => Terminal::Compares(Rel::Ne),
+        b"<" => Terminal::Compares(Rel::Lt),
+        b"<=" => Terminal::Compares(Rel::Le),
+        b">" => Terminal::Compares(Rel::Gt),
+        b">=" => Terminal::Compares(Rel::Ge),
+        b"," => Terminal::Separator(Separator::Comma),
+        b";" => Terminal::Separator(Separator::Semicolon),
+        b"{" => Terminal::Separator(Separator::CurlyOpen),
+        b"}" => Terminal::Separator(Separator::CurlyClose),
+        b"=" => Terminal::Separator(Separator::Equals),
+        b":=" => Terminal::Separator(Separator::Becomes),
+        b"^" => Terminal::Separator(Separator::Caret),
+        _ => Terminal::Other,
+    }
+}
+
+fn keyword_terminal(text: &str) -> Terminal
+    ensures { result ≡ keyword_terminal text.now }
+{
+    match text.as_bytes() {
+        b"true" => Terminal::True,
+        b"false" => Terminal::False,
+        b"test" => Terminal::Keyword(Keyword::Test),
+        b"action" => Terminal::Keyword(Keyword::Action),
+        b"var" => Terminal::Keyword(Keyword::Var),
+        b"prog" => Terminal::Keyword(Keyword::Prog),
+        b"term" => Terminal::Keyword(Keyword::Term),
+        b"hyp" => Terminal::Keyword(Keyword::Hyp),
+        b"rounds" => Terminal::Keyword(Keyword::Rounds),
+        b"width" => Terminal::Keyword(Keyword::Width),
+        b"goal" => Terminal::Keyword(Keyword::Goal),
+        b"equal" => Terminal::Keyword(Keyword::Equal),
+        b"below" => Terminal::Keyword(Keyword::Below),
+        b"triple" => Terminal::Keyword(Keyword::Triple),
+        b"skip" => Terminal::Keyword(Keyword::Skip),
+        b"abort" => Terminal::Keyword(Keyword::Abort),
+        b"assert" => Terminal::Keyword(Keyword::Assert),
+        b"if" => Terminal::Keyword(Keyword::If),
+        b"else" => Terminal::Keyword(Keyword::Else),
+        b"while" => Terminal::Keyword(Keyword::While),
+        _ => Terminal::Name,
+    }
+}
+
+fn all_digits(text: &str) -> bool
+    ensures { result ≡ list_all is_ascii_digit text.now }
+{
+    text.bytes().all(|b| b.is_ascii_digit())
+}
+
+fn is_digits(text: &str) -> bool
+    ensures { result ≡ is_digits text.now }
+{
+    all_digits(text) && text.len() > 0
+}
+
+fn small_number(text: &str) -> Option<u64>
+    requires { is_digits text.now ≡ true }
+    ensures { result ≡ small_number text.now }
+{
+    match text.parse::<u64>() {
+        Ok(n) => Some(n),
+        Err(_) => None,
+    }
+}
+
+fn number_terminal(text: &str) -> Terminal
+    ensures { result ≡ number_terminal text.now }
+{
+    match text.as_bytes() {
+        b"0" => Terminal::Zero,
+        b"1" => Terminal::One,
+        _ if !is_digits(text) => Terminal::Other,
+        _ => match small_number(text) {
+            Some(n) => Terminal::Number(n),
+            None => Terminal::WideNumber,
+        },
+    }
+}
+
+/// What the token is to the grammar, by its kind and text.
+pub fn terminal_of(token: &Token) -> Terminal
+    ensures { result ≡ terminal_of token.now.kind token.now.text.now }
+{
+    match token.kind {
+        Kind::Name => keyword_terminal(token.text),
+        Kind::Number => number_terminal(token.text),
+        Kind::Symbol => symbol_terminal(token.text),
+    }
+}
+
+/// The terminal and the place in bytes of the token at an index, where there is one.
+pub fn terminal_at(toks: &[Token], i: usize) -> Option<(Terminal, usize)>
+    ensures { Sees result toks.now i }
+{
+    match toks.get(i) {
+        None => None,
+        Some(token) => Some((terminal_of(token), token.at)),
+    }
+}
+
+/// The place in bytes of the token at an index, or `usize::MAX` after the last.
+pub fn place_at(toks: &[Token], i: usize) -> usize
+    ensures { result ≡ place_of (drop i (lexemes toks.now)) }
+{
+    match terminal_at(toks, i) {
+        Some((_, at)) => at,
+        None => usize::MAX,
+    }
+}
+
+/// The fault of a token at an index that cannot be there: `Syntax` with its place, or `usize::MAX` after the last.
+pub fn syntax_fault_at(toks: &[Token], i: usize) -> TextFault
+    ensures { result ≡ Syntax (place_of (drop i (lexemes toks.now))) }
+{
+    TextFault::Syntax(place_at(toks, i))
+}
+
+fn is_symbol(token: &Token, symbol: u8) -> bool
+    ensures { result ≡ is_symbol (symbol ∷ []) token.now.kind token.now.text.now }
+{
+    matches!(token.kind, Kind::Symbol) && matches!(token.text.as_bytes(), [byte] if *byte == symbol)
+}
+
+// Whether the token at an index is this symbol of one byte. It is told by that byte alone, since the search for a
+// parenthesis asks it of a token once for each level.
+fn is_symbol_at(toks: &[Token], i: usize, symbol: u8) -> bool
+    ensures { result ≡ heads_symbol (symbol ∷ []) (drop i (parts_of_tokens toks.now)) }
+{
+    match toks.get(i) {
+        None => false,
+        Some(token) => is_symbol(token, symbol),
+    }
+}
+
+pub(crate) fn is_round_open_at(toks: &[Token], i: usize) -> bool
+    ensures { result ≡ heads (is_terminal Terminal.RoundOpen) (drop i (lexemes toks.now)) }
+{
+    is_symbol_at(toks, i, b'(')
+}
+
+pub(crate) fn is_round_close_at(toks: &[Token], i: usize) -> bool
+    ensures { result ≡ heads (is_terminal Terminal.RoundClose) (drop i (lexemes toks.now)) }
+{
+    is_symbol_at(toks, i, b')')
+}
+
+fn is_terminal(wanted: Terminal, terminal: Terminal) -> bool
+    ensures { result ≡ is_terminal wanted terminal }
+{
+    wanted == terminal
+}
+
+/// Whether the token at an index is this terminal.
+pub fn is_at(toks: &[Token], i: usize, terminal: Terminal) -> bool
+    ensures value { result ≡ heads (is_terminal terminal) (drop i (lexemes toks.now)) }
+    ensures within { IsTrue result → i < length toks.now }
+{
+    matches!(terminal_at(toks, i), Some((found, _)) if is_terminal(terminal, found))
+}
+
+/// Whether the token at an index is `+` or `-`.
+pub fn is_sum_at(toks: &[Token], i: usize) -> bool
+    ensures value { result ≡ heads is_sum (drop i (lexemes toks.now)) }
+    ensures within { IsTrue result → i < length toks.now }
+{
+    matches!(
+        terminal_at(toks, i),
+        Some((Terminal::Plus | Terminal::Minus, _))
+    )
+}
+
+/// The index after a token at `i` that has to be this terminal. `Syntax` comes exactly where it is not, with the place of
+/// the token that is there, or `usize::MAX` after the last.
+#[tactic(auto, using(crate::proofs::Tokens::heads_wants, crate::proofs::Tokens::other_wants, crate::proofs::Tokens::next_drop))]
+pub fn expect(toks: &[Token], i: usize, terminal: Terminal) -> Result<usize, TextFault>
+    ensures value { Wants (lexemes toks.now) result (wants (is_terminal terminal) (drop i (lexemes toks.now))) }
+    ensures goes { IfOk result (λ end. (end ≡ i + 1) × (i < length toks.now)) }
+{
+    if !is_at(toks, i, terminal) {
+        return Err(syntax_fault_at(toks, i));
+    }
+    Ok(i + 1)
+}
+
+/// The text of the token at an index, empty where there is no token.
+pub fn text_at<'a>(toks: &[Token<'a>], i: usize) -> &'a str
+    ensures { result.now ≡ text_at toks.now i }
+{
+    match toks.get(i) {
+        Some(token) => token.text,
+        None => "",
+    }
+}

@@ -1,0 +1,36 @@
+//! Terms turned into tests.
+ghost use Rattle.std.specs.Prelude.{◌≡◌, IfOk};
+ghost use Rattle.kat_model.specs.Trees.{complement, test, test_tree, kat_tree};
+ghost use Rattle.text_scopes.specs.Sizes.{as_test};
+
+use kat_model::{Kat, NoMemory, Test};
+use std::alloc::Global;
+
+// The term as a test; what is none counts as false.
+fn as_test(alloc: Global, term: Kat) -> Result<Test, NoMemory>
+    ensures { IfOk result (λ t. test_tree t ≡ as_test (kat_tree term)) }
+{
+    match term {
+        Kat::Zero | Kat::Act(_) | Kat::Star(_) => Ok(Test::False),
+        Kat::One => Ok(Test::True),
+        Kat::Test(b) => Ok(b),
+        Kat::Sum(e, f) => {
+            let left = as_test(alloc, Box::into_inner(e))?;
+            let right = as_test(alloc, Box::into_inner(f))?;
+            Test::new_or(alloc, left, right)
+        }
+        Kat::Seq(e, f) => {
+            let left = as_test(alloc, Box::into_inner(e))?;
+            let right = as_test(alloc, Box::into_inner(f))?;
+            Test::new_and(alloc, left, right)
+        }
+    }
+}
+
+// The opposite of the term as a test.
+pub(crate) fn negated(alloc: Global, term: Kat) -> Result<Kat, NoMemory>
+    ensures { IfOk result (λ e. kat_tree e ≡ test (complement (as_test (kat_tree term)))) }
+{
+    let operand = as_test(alloc, term)?;
+    Ok(Kat::Test(Test::new_not(alloc, operand)?))
+}

@@ -1,0 +1,62 @@
+//! A defined term.
+ghost use Rattle.std.specs.Prelude.{◌≡◌};
+ghost use Rattle.kat_model.specs.Trees.{kat_tree, term_size, test_size};
+ghost use Rattle.kat_model.specs.Problems.{counted};
+ghost use Rattle.text_scopes.specs.Sizes.{is_test, as_test};
+ghost use Rattle.text_scopes.specs.Measuring.{limited};
+
+use crate::extent::{Extent, cut_extent};
+use kat_model::Kat;
+
+// A defined term, how large and how deep the phrase is, and whether it is a test.
+#[derive(Drop)]
+pub(crate) struct Definition {
+    pub(crate) tree: Kat,
+    pub(crate) nesting: usize,
+    pub(crate) extent: Extent,
+    pub(crate) testable: bool,
+    pub(crate) ghost measured: { extent ≡ limited (term_size (kat_tree tree)) (test_size (as_test (kat_tree tree))) nesting },
+    pub(crate) ghost told: { testable ≡ is_test (kat_tree tree) },
+}
+
+// Whether no action and no star stands in the term.
+fn is_test(term: &Kat) -> bool
+    ensures { result ≡ is_test (kat_tree term.now) }
+{
+    match term {
+        Kat::Zero | Kat::One | Kat::Test(_) => true,
+        Kat::Act(_) | Kat::Star(_) => false,
+        Kat::Sum(e, f) | Kat::Seq(e, f) => is_test(e) && is_test(f),
+    }
+}
+
+// The number of nodes of the term as a test, which stops at `u64::MAX`.
+fn test_size(term: &Kat) -> u64
+    ensures { result ≡ counted (test_size (as_test (kat_tree term.now))) }
+{
+    match term {
+        Kat::Zero | Kat::One | Kat::Act(_) | Kat::Star(_) => 1,
+        Kat::Test(b) => b.size(),
+        Kat::Sum(e, f) | Kat::Seq(e, f) => test_size(e)
+            .saturating_add(test_size(f))
+            .saturating_add(1),
+    }
+}
+
+impl Definition {
+    ghost use Rattle.text_scopes.specs.Definitions.{definition_of};
+
+    // The term with its measures.
+    pub(crate) fn new(tree: Kat, nesting: usize) -> Definition
+        ensures { definition_of result ≡ record { tree = kat_tree tree; nesting = nesting } }
+    {
+        let extent = cut_extent(tree.size(), test_size(&tree), nesting);
+        let testable = is_test(&tree);
+        Definition {
+            tree,
+            nesting,
+            extent,
+            testable,
+        }
+    }
+}

@@ -1,0 +1,35 @@
+//! Laws of the definitions. Each function does nothing: its contract is the law.
+ghost use Rattle.std.specs.Prelude.{◌≡◌, ◌≤◌, ◌<◌, ◌^◌, ◌⊎◌, ℕ, List, length, map, true, All, decimal};
+ghost use Rattle.std.specs.List.Sorted.{IsStrictlyIncreasing};
+ghost use Rattle.text_tokens.specs.declared.token.Kind.TheVariants.{Name, Number};
+ghost use Rattle.text_tokens.specs.Kinds.{IsToken};
+ghost use Rattle.text_tokens.specs.Keywords.{is_keyword};
+ghost use Rattle.text_tokens.specs.TokenParts.{TokenParts, place_of};
+ghost use Rattle.text_tokens.specs.declared.lexer.TheConstants.{MAX_LEN};
+ghost use Rattle.text_tokens.specs.Lex.{IsText, Lexes, FirstBad, IsSlice};
+ghost use Rattle.text_tokens.specs.Pieces.{Piece, AreSeparate, spelled, parts_from};
+
+/// A text either is one list of tokens or has one first place that begins no token, and never both.
+pub fn one_reading()
+    ensures tokens { (text : List ℕ) (ms ns : List TokenParts) → Lexes text ms → Lexes text ns → ms ≡ ns }
+    ensures places { (text : List ℕ) (m n : ℕ) → FirstBad text m → FirstBad text n → m ≡ n }
+    ensures either { (text : List ℕ) (ms : List TokenParts) (n : ℕ) → Lexes text ms → FirstBad text n → ⊥ }
+    ensures some { (text : List ℕ) → IsText text → ((ms : List TokenParts) × Lexes text ms) ⊎ ((n : ℕ) × FirstBad text n) }
+{}
+
+/// The tokens of a text are slices of it, each of its kind, and their places ascend.
+pub fn tokens_are_slices()
+    ensures slices { (text : List ℕ) (ms : List TokenParts) → Lexes text ms → All (IsSlice text) ms }
+    ensures ascend { (text : List ℕ) (ms : List TokenParts) → Lexes text ms → IsStrictlyIncreasing (map place_of ms) }
+{}
+
+/// A text that is spelled by pieces, of which none goes on with the one before, has the tokens of its pieces.
+pub fn pieces_lex()
+    ensures { (ps : List Piece) → AreSeparate ps → length (spelled ps) ≤ MAX_LEN → Lexes (spelled ps) (parts_from 0 ps) }
+{}
+
+/// A keyword is a name, and what a number is written as in decimal is a number.
+pub fn words_are_tokens()
+    ensures keywords { (bytes : List ℕ) → is_keyword bytes ≡ true → IsToken Name bytes }
+    ensures decimals { (n : ℕ) → n < 2 ^ 64 → IsToken Number (decimal n) }
+{}

@@ -1,0 +1,118 @@
+//! The store that a word gives.
+ghost use Rattle.std.specs.Prelude.{◌≡◌, ◌==◌, map, Some, None, if◌then◌else◌, unwrap_or, IfOk, IfSome};
+ghost use Rattle.std.specs.Option.{option_map};
+ghost use Rattle.std.specs.List.{slice_split};
+ghost use Rattle.kat_model.specs.Stores.{IsStore};
+ghost use Rattle.text_scopes.specs.ScopeParts.{meaning};
+ghost use Rattle.tool_commands.specs.StoreWords.{variable_meant, setting_of, with_setting, with_item, with_items, values_of, store_of};
+
+use crate::numbers::number_within;
+use kat_model::{NoMemory, Width};
+use problem_file::File;
+use std::alloc::Global;
+use text_scopes::{Meaning, Scope};
+use while_lang::Store;
+
+// The variable of that name.
+fn variable_of(scope: &Scope, name: &str) -> Option<usize>
+    ensures { result ≡ variable_meant (meaning scope.now name.now) }
+{
+    match scope.find(name) {
+        Some(Meaning::Var(k)) => Some(k),
+        _ => None,
+    }
+}
+
+// The variable and the number of an item.
+fn setting_of(scope: &Scope, width: Width, item: &str) -> Option<(usize, u64)>
+    ensures { result ≡ setting_of scope.now width item.now }
+{
+    let (name, number) = item.split_once('=')?;
+    let var = variable_of(scope, name)?;
+    let value = number_within(width, number)?;
+    Some((var, value))
+}
+
+// Gives a variable its value, unless it has one.
+fn set_value(values: &mut Vec<Option<u64>>, setting: (usize, u64)) -> bool
+    ensures { (if result then Some values.new.items else None) ≡ with_setting values.old.items setting }
+{
+    let (var, value) = setting;
+    match values.get(var) {
+        Some(None) => {
+            values[var] = Some(value);
+            true
+        }
+        _ => false,
+    }
+}
+
+// Gives a variable the value of an item, unless the item is none or the variable has a value.
+fn set_item(scope: &Scope, width: Width, item: &str, values: &mut Vec<Option<u64>>) -> bool
+    ensures { (if result then Some values.new.items else None) ≡ with_item scope.now width values.old.items item.now }
+{
+    match setting_of(scope, width, item) {
+        Some(setting) => set_value(values, setting),
+        None => false,
+    }
+}
+
+// The same of items, one after the other, up to the first of which it cannot be done.
+fn set_items(scope: &Scope, width: Width, items: &[&str], values: &mut Vec<Option<u64>>) -> bool
+    ensures { (if result then Some values.new.items else None) ≡ with_items scope.now width values.old.items (map (λ i. i.now) items.now) }
+{
+    for item in items {
+        if !set_item(scope, width, item, values) {
+            return false;
+        }
+    }
+    true
+}
+
+fn items_of<'a>(alloc: Global, word: &'a str) -> Result<Vec<&'a str>, NoMemory>
+    ensures { IfOk result (λ v. map (λ i. i.now) v.items ≡ slice_split (λ b. b == 44) word.now) }
+{
+    Ok(word.split(',').collect(alloc)?)
+}
+
+// The values that the word gives.
+fn values_of(alloc: Global, file: &File, word: &str) -> Result<Option<Vec<Option<u64>>>, NoMemory>
+    ensures { IfOk result (λ vs. option_map (λ v. v.items) vs ≡ values_of file.now word.now) }
+{
+    let mut values = vec![in alloc; None; file.vars]?;
+    if word == "zero" {
+        return Ok(Some(values));
+    }
+    let items = items_of(alloc, word)?;
+    if set_items(&file.scope, file.width, &items, &mut values) {
+        Ok(Some(values))
+    } else {
+        Ok(None)
+    }
+}
+
+// The numbers of the variables; one without a value is 0.
+fn numbers_of(alloc: Global, values: &[Option<u64>]) -> Result<Vec<u64>, NoMemory>
+    ensures { IfOk result (λ v. v.items ≡ map (λ v. unwrap_or v 0) values.now) }
+{
+    Ok(
+        values
+            .iter()
+            .map(|value| value.unwrap_or(0))
+            .collect(alloc)?,
+    )
+}
+
+/// The store of the file that the word gives: `zero`, or items `NAME=NUMBER` with a comma between two of them, in which a
+/// variable without an item is 0. `None` exactly where it gives none. It fails only when out of memory.
+pub fn store_of(alloc: Global, file: &File, word: &str) -> Result<Option<Store>, NoMemory>
+    ensures value { IfOk result (λ s. s ≡ store_of file.now word.now) }
+    ensures within { IfOk result (λ s. IfSome s (IsStore file.now.width)) }
+{
+    match values_of(alloc, file, word)? {
+        Some(values) => Ok(Some(Store {
+            values: numbers_of(alloc, &values)?,
+        })),
+        None => Ok(None),
+    }
+}

@@ -1,0 +1,266 @@
+//! The words of a command line, and the table of those that have a command.
+ghost use Rattle.std.specs.Prelude.{◌≡◌, ◌++◌, ◌∷◌, [], List, ℕ, OnOk, OnErr, Option, if◌then◌else◌};
+ghost use Rattle.std.specs.Option.{option_map};
+ghost use Rattle.tool_commands.specs.Commands.{command_of, command_seen, is_value, with_file, with_option, with_value, with_turns, with_limit};
+
+use crate::numbers::{ProblemCount, count_of, number_of};
+use kat_model::NoMemory;
+use std::alloc::Global;
+use std::marker::Model;
+
+/// The words of a command line, without the program's name.
+#[derive(Drop)]
+pub struct Words {
+    alloc: Global,
+    texts: Vec<String>,
+}
+
+impl Model for Words {
+    ghost use Rattle.std.specs.Prelude.{List, ℕ, map, string_bytes};
+
+    ghost Value = { List (List ℕ) };
+
+    ghost view = { λ w. map string_bytes w.texts.items };
+}
+
+/// What a list of words asks for.
+#[derive(Clone, Copy)]
+pub enum Command<'a> {
+    /// `decide` FILE
+    Decide(&'a str),
+    /// `decide` FILE `--json`
+    Report(&'a str),
+    /// `show` FILE
+    Show(&'a str),
+    /// `gkat` FILE
+    Gkat(&'a str),
+    /// `batch` FILE
+    Batch(&'a str),
+    /// `check` FILE EVIDENCE
+    Check(&'a str, &'a str),
+    /// `replay` FILE EVIDENCE
+    Replay(&'a str, &'a str),
+    /// `outline` FILE
+    Outline(&'a str),
+    /// `outline` FILE NOTES
+    CheckNotes(&'a str, &'a str),
+    /// `chain` FILE PROOF
+    Chain(&'a str, &'a str),
+    /// `run` FILE PROG STORE TURNS
+    Run {
+        file: &'a str,
+        prog: &'a str,
+        store: &'a str,
+        turns: u64,
+    },
+    /// `oneloop` FILE PROG
+    OneLoop(&'a str, &'a str),
+    /// `bench` N
+    Bench(ProblemCount),
+    /// `optimise` FILE PROG, with or without `--turns` N
+    Optimise {
+        file: &'a str,
+        prog: &'a str,
+        turns: u64,
+    },
+}
+
+impl Words {
+    /// No words. It takes no memory.
+    pub fn new(alloc: Global) -> Words
+        ensures { result ≡ [] }
+    {
+        Words {
+            alloc,
+            texts: Vec::new(alloc),
+        }
+    }
+
+    /// Adds a word at the end. Out of memory leaves the list as it was.
+    pub fn push(&mut self, word: &str) -> Result<(), NoMemory>
+        ensures ok { OnOk result (self.new ≡ self.old ++ word.now ∷ []) }
+        ensures err { OnErr result (self.new ≡ self.old) }
+    {
+        let text = String::from_str(self.alloc, word)?;
+        self.texts.push(text)?;
+        Ok(())
+    }
+
+    /// The command that the table has for the words; `None` where it has none.
+    pub fn command(&self) -> Option<Command<'_>>
+        ensures { option_map command_seen result ≡ command_of self.now }
+    {
+        match self.texts.as_slice() {
+            [name, file] => of_two(name.as_str(), file.as_str()),
+            [name, file, last] => of_three(name.as_str(), file.as_str(), last.as_str()),
+            [name, file, prog, next, turns] => of_five(
+                name.as_str(),
+                file.as_str(),
+                prog.as_str(),
+                next.as_str(),
+                turns.as_str(),
+            ),
+            _ => None,
+        }
+    }
+}
+
+// The command of two words, of three and of five.
+fn of_two<'a>(name: &str, file: &'a str) -> Option<Command<'a>>
+    ensures { option_map command_seen result ≡ command_of (name.now ∷ file.now ∷ []) }
+{
+    if is_value(file) {
+        with_file(name, file)
+    } else {
+        None
+    }
+}
+
+fn of_three<'a>(name: &str, file: &'a str, last: &'a str) -> Option<Command<'a>>
+    ensures { option_map command_seen result ≡ command_of (name.now ∷ file.now ∷ last.now ∷ []) }
+{
+    if is_value(file) {
+        with_last(name, file, last)
+    } else {
+        None
+    }
+}
+
+fn of_five<'a>(
+    name: &str,
+    file: &'a str,
+    prog: &'a str,
+    next: &'a str,
+    turns: &str,
+) -> Option<Command<'a>>
+    ensures { option_map command_seen result ≡ command_of (name.now ∷ file.now ∷ prog.now ∷ next.now ∷ turns.now ∷ []) }
+{
+    if is_value(file) && is_value(prog) {
+        with_number(name, file, prog, next, turns)
+    } else {
+        None
+    }
+}
+
+// The commands of one file, or of a number.
+#[tactic(auto, unfolding(crate::specs::Commands::with_file))]
+fn with_file<'a>(name: &str, file: &'a str) -> Option<Command<'a>>
+    ensures { option_map command_seen result ≡ with_file name.now file.now }
+{
+    match name {
+        "decide" => Some(Command::Decide(file)),
+        "show" => Some(Command::Show(file)),
+        "gkat" => Some(Command::Gkat(file)),
+        "batch" => Some(Command::Batch(file)),
+        "outline" => Some(Command::Outline(file)),
+        "bench" => match count_of(file) {
+            Some(count) => Some(Command::Bench(count)),
+            None => None,
+        },
+        _ => None,
+    }
+}
+
+// The commands of a file and a last word, which is a value or an option.
+fn with_last<'a>(name: &str, file: &'a str, last: &'a str) -> Option<Command<'a>>
+    ensures { option_map command_seen result ≡ (if is_value last.now then with_value name.now file.now last.now else with_option name.now file.now last.now) }
+{
+    if is_value(last) {
+        with_value(name, file, last)
+    } else {
+        with_option(name, file, last)
+    }
+}
+
+// The commands of a file and an option.
+#[tactic(auto, unfolding(crate::specs::Commands::with_option))]
+fn with_option<'a>(name: &str, file: &'a str, option: &str) -> Option<Command<'a>>
+    ensures { option_map command_seen result ≡ with_option name.now file.now option.now }
+{
+    match (name, option) {
+        ("decide", "--json") => Some(Command::Report(file)),
+        _ => None,
+    }
+}
+
+// The commands of a file and its evidence, a proof, notes or a program.
+#[tactic(auto, unfolding(crate::specs::Commands::with_value))]
+fn with_value<'a>(name: &str, file: &'a str, value: &'a str) -> Option<Command<'a>>
+    ensures { option_map command_seen result ≡ with_value name.now file.now value.now }
+{
+    match name {
+        "check" => Some(Command::Check(file, value)),
+        "replay" => Some(Command::Replay(file, value)),
+        "chain" => Some(Command::Chain(file, value)),
+        "outline" => Some(Command::CheckNotes(file, value)),
+        "oneloop" => Some(Command::OneLoop(file, value)),
+        "optimise" => Some(Command::Optimise {
+            file,
+            prog: value,
+            turns: 1000,
+        }),
+        _ => None,
+    }
+}
+
+// The commands of a file, a program, a store and turns.
+#[tactic(auto, unfolding(crate::specs::Commands::with_turns))]
+fn with_turns<'a>(
+    name: &str,
+    file: &'a str,
+    prog: &'a str,
+    store: &'a str,
+    turns: &str,
+) -> Option<Command<'a>>
+    ensures { option_map command_seen result ≡ with_turns name.now file.now prog.now store.now turns.now }
+{
+    match (name, number_of(turns)) {
+        ("run", Some(turns)) => Some(Command::Run {
+            file,
+            prog,
+            store,
+            turns,
+        }),
+        _ => None,
+    }
+}
+
+// The commands of a file, a program, an option and its number.
+#[tactic(auto, unfolding(crate::specs::Commands::with_limit))]
+fn with_limit<'a>(
+    name: &str,
+    file: &'a str,
+    prog: &'a str,
+    option: &str,
+    turns: &str,
+) -> Option<Command<'a>>
+    ensures { option_map command_seen result ≡ with_limit name.now file.now prog.now option.now turns.now }
+{
+    match (name, option, number_of(turns)) {
+        ("optimise", "--turns", Some(turns)) => Some(Command::Optimise { file, prog, turns }),
+        _ => None,
+    }
+}
+
+// The commands of a file, a program, a store or an option, and a number.
+fn with_number<'a>(
+    name: &str,
+    file: &'a str,
+    prog: &'a str,
+    next: &'a str,
+    turns: &str,
+) -> Option<Command<'a>>
+    ensures { option_map command_seen result ≡ (if is_value next.now then with_turns name.now file.now prog.now next.now turns.now else with_limit name.now file.now prog.now next.now turns.now) }
+{
+    if is_value(next) {
+        with_turns(name, file, prog, next, turns)
+    } else {
+        with_limit(name, file, prog, next, turns)
+    }
+}
+
+fn is_value(word: &str) -> bool
+    ensures { result ≡ is_value word.now }
+{
+    !word.is_empty() && !word.starts_with('-')
+}

@@ -1,0 +1,46 @@
+-- What `decide` answers is evidence, so its text is read as it again, and it is the cause of the status.
+use Rattle.std.proofs.Common.{◌≡◌, ◌<◌, ◌≤◌, ◌^◌, ℕ, inl, inr, List, length, refl, sym, subst, arith, ltb-true}
+use Rattle.kat_model.specs.Problems.{ProblemParts, IsProblem}
+use Rattle.kat_model.specs.Strings.{GuardedString}
+use Rattle.string_tables.specs.Tables.{Refutes}
+use Rattle.certificate.specs.declared.evidence.Evidence.{Evidence}
+use Rattle.certificate.specs.declared.evidence.Evidence.TheVariants.{Equal, Different}
+use Rattle.certificate.specs.Certs.{CertParts, IsCert}
+use Rattle.certificate.specs.Accepted.{IsAccepted}
+use Rattle.certificate.specs.Texts.{text_of, IsEvidence}
+use Rattle.kat_report.specs.Reports.{json_report}
+use Rattle.certificate.proofs.Written.{cert_is_evidence}
+use Rattle.certificate.specs.Decisions.{IsDecision}
+use Rattle.bisim_worklist.proofs.AnswerCerts.{answer_accepted, answer_few}
+use Rattle.tool_inputs.specs.Showing.{evidence_status, Spells}
+use Rattle.tool_decide.specs.Decide.{IsDecided}
+use Rattle.tool_decide.specs.Report.{IsReported}
+
+-- what is below a count of a problem is a number of the program
+pub small : (k n : ℕ) → k < n → n ≤ 48 → k < 2 ^ 64
+small k n lt le = let wide : 48 < 2 ^ 64 = ltb-true 48 (2 ^ 64) refl in omega (arith, lt, le, wide)
+
+module _ (q : ProblemParts) (problem : IsProblem q) where
+  accepted_evidence : (c : CertParts) → IsCert c → IsAccepted q c → length c.test_nodes < 2 ^ 64 → length c.term_nodes < 2 ^ 64 → IsEvidence (Equal c)
+  accepted_evidence c cert accepted tests terms =
+      cert_is_evidence c cert (λ k h. small k q.tests (accepted.tests k h) problem.tests) (λ a h. small a q.actions (accepted.actions a h) problem.actions) tests terms
+
+  string_evidence : (x : GuardedString) → Refutes q x → IsEvidence (Different x)
+  string_evidence x r m h = small m.act q.actions (r.fits.rest m h).0 problem.actions
+
+  module _ (e : Evidence) (d : IsDecision q e) where
+    pub equal_evidence : (c : CertParts) → e ≡ Equal c → IsCert c → length c.test_nodes < 2 ^ 64 → length c.term_nodes < 2 ^ 64 → IsEvidence e
+    equal_evidence c is cert tests terms = subst IsEvidence (sym is) (accepted_evidence c cert (answer_accepted q c (subst (IsDecision q) is d).1) tests terms)
+
+    pub different_evidence : (x : GuardedString) → e ≡ Different x → IsEvidence e
+    different_evidence x is = subst IsEvidence (sym is) (string_evidence x (subst (IsDecision q) is d).1.refutes)
+
+pub decided : (q : ProblemParts) (e : Evidence) (output : List ℕ) → IsDecision q e → Spells output e → IsDecided q (evidence_status e) output
+decided q (Equal c) output d s = inl (refl, record { same = d.0; cert = c; answer = d.1; few = answer_few q c d.1; printed = s })
+decided q (Different x) output d s = inr (refl, record { differ = d.0; string = x; shortest = d.1; printed = s })
+
+-- the report of a decision is that of the text that `decide` may print
+pub reported : (q : ProblemParts) (e : Evidence) (output : List ℕ) → IsDecision q e → IsEvidence e → output ≡ json_report q e → IsReported q (evidence_status e) output
+reported q e output d evidence printed =
+    let spells : Spells (text_of e) e = record { evidence = evidence; text = refl } in
+    record { text = text_of e; decided = decided q e (text_of e) d spells; report = record { evidence = e; spells = spells; printed = printed } }

@@ -1,0 +1,11 @@
+use Rattle.std.proofs.Common.{map}
+use Rattle.kat_model.specs.Members.{Has}
+use Rattle.problem_file.specs.Files.{FileParts}
+use Rattle.problem_file.specs.Trees.{goal_tree}
+use Rattle.tool_decide.specs.Batch.{AsksSome}
+use Rattle.tool_decide.proofs.GoalLists.{with_first}
+use Rattle.tool_decide.proofs.batch.test_goals.Given as goal
+
+-- the goals so far ask questions
+abbrev pub invariant-loop-goal : goal.invariant-loop-goal
+invariant-loop-goal l = (g : FileParts) → Has (with_first l.file l.goal-index (map goal_tree l.more)) g → AsksSome g

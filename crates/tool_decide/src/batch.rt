@@ -1,0 +1,134 @@
+//! `batch`: the reply to a text is the decision of each of its goals, over one growing store.
+ghost use Rattle.std.specs.Prelude.{◌≡◌, ◌++◌, ℕ, max, List, map, IfOk, OnOk};
+ghost use Rattle.std.specs.Fmt.{decimal};
+ghost use Rattle.kat_model.specs.Members.{Has};
+ghost use Rattle.abstraction.specs.Abstracts.{AbstractParts, HasNumbersInRange, abstract_of, with_goal};
+ghost use Rattle.problem_file.specs.Files.{FileParts};
+ghost use Rattle.problem_file.specs.Reads.{FirstFaultOfAll};
+ghost use Rattle.problem_file.specs.Laws.{ReadsBoth};
+ghost use Rattle.problem_file.specs.Trees.{goal_tree};
+ghost use Rattle.tool_inputs.specs.Posing.{IsFaultOf, AsksNone};
+ghost use Rattle.tool_inputs.specs.Steps.{IsRefusal};
+ghost use Rattle.tool_decide.specs.Decide.{IsDecided};
+ghost use Rattle.tool_decide.specs.Batch.{with_each, AsksSome, IsFirstRefused, goal_line, IsGoalAnswer, AnswersFrom, AnswersAll, AnswersText};
+ghost use Rattle.tool_inputs.specs.Outcomes.{IsOutcome, IsReplied, IsQuestionOf};
+ghost use Rattle.tool_decide.specs.Working.Goals.{AreInRange};
+
+use crate::decide::{evidence_status, text};
+use abstraction::{Abstract, AbstractFault, abstracted_for};
+use bisim_worklist::decide_in;
+use kat_model::{NoMemory, Problem};
+use problem_file::{File, Goal, read_all};
+use std::alloc::Global;
+use term_store::Store;
+use tool_inputs::{Reply, Stop, abstract_for, text_fault_stop};
+
+// The file with its first goal, and the goals after it.
+fn goals_of(alloc: Global, text: &[u8]) -> Result<(File, Vec<Goal>), Stop>
+    ensures { IsOutcome (λ x. ReadsBoth text.now (x.0, map goal_tree x.1.items)) (IsRefusal (IsFaultOf (FirstFaultOfAll text.now))) result }
+{
+    match read_all(alloc, text) {
+        Ok(goals) => Ok(goals),
+        Err(fault) => Err(text_fault_stop(alloc, fault)),
+    }
+}
+
+// That a goal asks a question, which is not kept.
+fn test_goal(alloc: Global, file: &File, goal: &Goal) -> Result<(), Stop>
+    requires { HasNumbersInRange (with_goal file.now (goal_tree goal.now)) }
+    ensures { IsOutcome (λ u. AsksSome (with_goal file.now (goal_tree goal.now))) (IsRefusal (AsksNone (with_goal file.now (goal_tree goal.now)))) result }
+{
+    match abstract_for(alloc, file, goal) {
+        Ok(_) => Ok(()),
+        Err(stop) => Err(stop),
+    }
+}
+
+// That each goal asks a question. None is kept, since all hypotheses together can be millions of nodes.
+fn test_goals(alloc: Global, file: &File, more: &[Goal]) -> Result<(), Stop>
+    requires { AreInRange file.now (map goal_tree more.now) }
+    ensures { IsOutcome (λ u. (f : FileParts) → Has (with_each file.now (map goal_tree more.now)) f → AsksSome f) (IsRefusal (IsFirstRefused (with_each file.now (map goal_tree more.now)))) result }
+{
+    test_goal(alloc, file, &file.goal)?;
+    for goal in more {
+        test_goal(alloc, file, goal)?;
+    }
+    Ok(())
+}
+
+// The question of a goal that asks one: only memory may be wanting.
+fn question_of(alloc: Global, file: &File, goal: &Goal) -> Result<Problem, NoMemory>
+    requires numbers { HasNumbersInRange (with_goal file.now (goal_tree goal.now)) }
+    requires asks { AsksSome (with_goal file.now (goal_tree goal.now)) }
+    ensures { IfOk result (IsQuestionOf (with_goal file.now (goal_tree goal.now))) }
+{
+    match abstracted_for(alloc, file, goal) {
+        Ok(Abstract { problem, .. }) => Ok(problem),
+        Err(AbstractFault::NoMemory) => Err(NoMemory),
+        Err(_) => unreachable!(),
+    }
+}
+
+// The answer to a goal.
+fn goal_reply(alloc: Global, store: &mut Store, file: &File, goal: &Goal) -> Result<Reply, NoMemory>
+    requires numbers { HasNumbersInRange (with_goal file.now (goal_tree goal.now)) }
+    requires asks { AsksSome (with_goal file.now (goal_tree goal.now)) }
+    ensures { IfOk result (λ r. IsGoalAnswer (with_goal file.now (goal_tree goal.now)) r.status r.output.items) }
+{
+    let problem = question_of(alloc, file, goal)?;
+    let evidence = decide_in(alloc, store, &problem)?;
+    Ok(Reply {
+        status: evidence_status(&evidence),
+        output: text(alloc, &problem, &evidence)?,
+    })
+}
+
+// Adds the answer to the goal of that number.
+fn put_answer(alloc: Global, all: &mut Reply, k: usize, answer: &Reply) -> Result<(), NoMemory>
+    ensures { OnOk result (
+        (all.new.status ≡ max all.old.status answer.now.status) × (all.new.output.items ≡ all.old.output.items ++ (goal_line k ++ answer.now.output.items))
+        ) }
+{
+    all.output
+        .extend_from_slice(format!(in alloc; "goal {k}\n")?.as_bytes())?;
+    all.output.extend_from_slice(&answer.output)?;
+    all.status = all.status.max(answer.status);
+    Ok(())
+}
+
+// The answers to all goals.
+fn answers(alloc: Global, file: &File, more: &[Goal]) -> Result<Reply, NoMemory>
+    requires numbers { AreInRange file.now (map goal_tree more.now) }
+    requires asks { (f : FileParts) → Has (with_each file.now (map goal_tree more.now)) f → AsksSome f }
+    ensures { IfOk result (λ r. AnswersFrom 0 (with_each file.now (map goal_tree more.now)) r.status r.output.items) }
+{
+    let mut store = Store::new(alloc);
+    let mut all = Reply {
+        status: 0,
+        output: Vec::new(alloc),
+    };
+    let first = goal_reply(alloc, &mut store, file, &file.goal)?;
+    put_answer(alloc, &mut all, 0, &first)?;
+    for (k, goal) in more.iter().enumerate() {
+        let answer = goal_reply(alloc, &mut store, file, goal)?;
+        put_answer(alloc, &mut all, k + 1, &answer)?;
+    }
+    Ok(all)
+}
+
+// The reply to what was read. Each goal is tested before the first is decided, so that a refusal is printed alone.
+fn goals_reply(alloc: Global, file: &File, more: &[Goal]) -> Result<Reply, Stop>
+    requires { AreInRange file.now (map goal_tree more.now) }
+    ensures { IsReplied (AnswersAll file.now (map goal_tree more.now)) result }
+{
+    test_goals(alloc, file, more)?;
+    Ok(answers(alloc, file, more)?)
+}
+
+/// The reply to a text.
+pub(crate) fn text_reply(alloc: Global, text: &[u8]) -> Result<Reply, Stop>
+    ensures { IsReplied (AnswersText text.now) result }
+{
+    let (file, more) = goals_of(alloc, text)?;
+    goals_reply(alloc, &file, &more)
+}

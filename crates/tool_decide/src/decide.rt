@@ -1,0 +1,79 @@
+//! `decide`: the reply to a text is the decision of the problem that it poses.
+ghost use Rattle.std.specs.Prelude.{◌≡◌, length, IfOk};
+ghost use Rattle.certificate.specs.Decisions.{IsDecision};
+ghost use Rattle.certificate.specs.Texts.{IsEvidence};
+ghost use Rattle.tool_inputs.specs.Showing.{Spells, evidence_status};
+ghost use Rattle.tool_decide.specs.Decide.{IsDecided, DecidesText};
+ghost use Rattle.tool_inputs.specs.Outcomes.{IsReplied};
+
+use bisim_worklist::decide;
+use certificate::{Evidence, write};
+use kat_model::{NoMemory, Problem};
+use std::alloc::Global;
+use tool_inputs::{Reply, Stop, problem_in};
+
+/// How many nodes there are.
+pub fn count<T>(nodes: &[T]) -> usize
+    ensures { result ≡ length nodes.now }
+{
+    nodes.len()
+}
+
+// A decision is evidence of the program: its numbers are those of nodes, tests and actions.
+pub(crate) fn know_numbers(problem: &Problem, evidence: &Evidence)
+    requires { IsDecision problem.now evidence.now }
+    ensures { IsEvidence evidence.now }
+{
+    // The proof needs the limits of a problem, and of a certificate its rules and how many nodes it has.
+    let _ = problem.tests();
+    match evidence {
+        Evidence::Equal(cert) => {
+            let _ = count(cert.test_nodes());
+            let _ = count(cert.term_nodes());
+        }
+        Evidence::Different(_) => {}
+    }
+}
+
+/// The text of a decision, which is read as that decision again.
+pub(crate) fn text(
+    alloc: Global,
+    problem: &Problem,
+    evidence: &Evidence,
+) -> Result<Vec<u8>, NoMemory>
+    requires { IsDecision problem.now evidence.now }
+    ensures { IfOk result (λ v. Spells v.items evidence.now) }
+{
+    know_numbers(problem, evidence);
+    write(alloc, evidence)
+}
+
+pub(crate) fn evidence_status(evidence: &Evidence) -> u8
+    ensures { result ≡ evidence_status evidence.now }
+{
+    match evidence {
+        Evidence::Equal(_) => 0,
+        Evidence::Different(_) => 1,
+    }
+}
+
+/// The reply of `decide` to a problem: the status 0 with the text of a certificate where both sides denote one relation in every
+/// table that keeps the hypotheses, and otherwise 1 with the text of a shortest string that refutes it. It fails only when out
+/// of memory.
+pub fn decide_reply(alloc: Global, problem: &Problem) -> Result<Reply, NoMemory>
+    ensures { IfOk result (λ r. IsDecided problem.now r.status r.output.items) }
+{
+    let evidence = decide(alloc, problem)?;
+    Ok(Reply {
+        status: evidence_status(&evidence),
+        output: text(alloc, problem, &evidence)?,
+    })
+}
+
+/// The reply to a text.
+pub(crate) fn text_reply(alloc: Global, text: &[u8]) -> Result<Reply, Stop>
+    ensures { IsReplied (DecidesText text.now) result }
+{
+    let problem = problem_in(alloc, text)?;
+    Ok(decide_reply(alloc, &problem)?)
+}

@@ -1,0 +1,60 @@
+//! The problem that a file asks: that of its abstraction.
+ghost use Rattle.std.specs.Prelude.{◌≡◌, ◌≢◌, Ok};
+ghost use Rattle.abstraction.specs.declared.fault.AbstractFault.TheVariants.{NoMemory as NoRoom};
+ghost use Rattle.problem_file.specs.Trees.{goal_tree};
+ghost use Rattle.abstraction.specs.Abstracts.{HasNumbersInRange, abstract_of, with_goal};
+ghost use Rattle.abstract_texts.specs.Refusals.{abstract_fault_line};
+ghost use Rattle.tool_inputs.specs.Posing.{AsksNone};
+ghost use Rattle.tool_inputs.specs.Steps.{IsRefusal};
+ghost use Rattle.tool_inputs.specs.Outcomes.{IsOutcome, IsStop, IsQuestionOf};
+
+use crate::reply::{Reply, Stop};
+use abstract_texts::abstract_fault_line;
+use abstraction::{Abstract, AbstractFault, abstracted, abstracted_for};
+use kat_model::{NoMemory, Problem};
+use problem_file::{File, Goal};
+use std::alloc::Global;
+
+// The reply to a file that has no abstraction for this reason, which is a refusal unless memory ran out.
+fn fault_stop(alloc: Global, fault: AbstractFault) -> Stop
+    ensures { IsStop (λ status output. (status ≡ 2) × ((fault ≢ NoRoom) × (output ≡ abstract_fault_line fault))) result }
+{
+    match fault {
+        AbstractFault::NoMemory => Stop::NoMemory,
+        _ => match abstract_fault_line(alloc, &fault) {
+            Ok(output) => Stop::Replied(Reply { status: 2, output }),
+            Err(NoMemory) => Stop::NoMemory,
+        },
+    }
+}
+
+/// The abstraction of a file. A file that has none is refused with the line that says why.
+pub fn abstract_in(alloc: Global, file: &File) -> Result<Abstract, Stop>
+    requires { HasNumbersInRange file.now }
+    ensures { IsOutcome (λ a. abstract_of file.now ≡ Ok a) (IsRefusal (AsksNone file.now)) result }
+{
+    match abstracted(alloc, file) {
+        Ok(shown) => Ok(shown),
+        Err(fault) => Err(fault_stop(alloc, fault)),
+    }
+}
+
+/// The abstraction of a file with this goal alone. One that has none is refused with the line that says why.
+pub fn abstract_for(alloc: Global, file: &File, goal: &Goal) -> Result<Abstract, Stop>
+    requires { HasNumbersInRange (with_goal file.now (goal_tree goal.now)) }
+    ensures { IsOutcome (λ a. abstract_of (with_goal file.now (goal_tree goal.now)) ≡ Ok a) (IsRefusal (AsksNone (with_goal file.now (goal_tree goal.now)))) result }
+{
+    match abstracted_for(alloc, file, goal) {
+        Ok(shown) => Ok(shown),
+        Err(fault) => Err(fault_stop(alloc, fault)),
+    }
+}
+
+/// The problem of a file, which is that of its abstraction.
+pub(crate) fn problem_of(alloc: Global, file: &File) -> Result<Problem, Stop>
+    requires { HasNumbersInRange file.now }
+    ensures { IsOutcome (IsQuestionOf file.now) (IsRefusal (AsksNone file.now)) result }
+{
+    let Abstract { problem, .. } = abstract_in(alloc, file)?;
+    Ok(problem)
+}

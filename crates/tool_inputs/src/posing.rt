@@ -1,0 +1,47 @@
+//! The problem that a text poses.
+ghost use Rattle.std.specs.Prelude.{◌≡◌, ◌≢◌};
+ghost use Rattle.text_tokens.specs.declared.fault.TextFault.TheVariants.{NoMemory as NoRoom};
+ghost use Rattle.kat_report.specs.Refusals.{text_fault_line};
+ghost use Rattle.problem_file.specs.Reads.{Reads};
+ghost use Rattle.tool_inputs.specs.Posing.{IsFaulty};
+ghost use Rattle.tool_inputs.specs.Steps.{IsRefusal};
+ghost use Rattle.tool_inputs.specs.Outcomes.{IsOutcome, IsPosedBy, IsStop};
+
+use crate::asking::problem_of;
+use crate::reply::{Reply, Stop};
+use kat_model::{NoMemory, Problem};
+use kat_report::text_fault_line;
+use problem_file::{File, read};
+use std::alloc::Global;
+use text_tokens::TextFault;
+
+/// The reply to a text with this fault, which is a refusal unless memory ran out.
+pub fn text_fault_stop(alloc: Global, fault: TextFault) -> Stop
+    ensures { IsStop (λ status output. (status ≡ 2) × ((fault ≢ NoRoom) × (output ≡ text_fault_line fault))) result }
+{
+    match fault {
+        TextFault::NoMemory => Stop::NoMemory,
+        _ => match text_fault_line(alloc, &fault) {
+            Ok(output) => Stop::Replied(Reply { status: 2, output }),
+            Err(NoMemory) => Stop::NoMemory,
+        },
+    }
+}
+
+/// What the text of a problem file says. One with a first fault is refused with its line.
+pub fn file_of(alloc: Global, text: &[u8]) -> Result<File, Stop>
+    ensures { IsOutcome (Reads text.now) (IsRefusal (IsFaulty text.now)) result }
+{
+    match read(alloc, text) {
+        Ok(file) => Ok(file),
+        Err(fault) => Err(text_fault_stop(alloc, fault)),
+    }
+}
+
+/// The problem that a text poses. A text that poses none is refused with the line that says why.
+pub fn problem_in(alloc: Global, text: &[u8]) -> Result<Problem, Stop>
+    ensures { IsPosedBy text.now result }
+{
+    let file = file_of(alloc, text)?;
+    problem_of(alloc, &file)
+}

@@ -1,0 +1,9 @@
+use Rattle.std.proofs.Common.{◌≡◌, ◌-◌, ◌++◌}
+use Rattle.text_print.specs.Printing.{name_of}
+use Rattle.problem_texts.proofs.PlainWritten.{later_names}
+use Rattle.tool_programs.specs.Working.Kinds.{kind_meaning}
+use Rattle.tool_programs.proofs.gkat.put_names.Given as goal
+
+-- the names so far, but for the first
+abbrev pub invariant-loop-k : goal.invariant-loop-k
+invariant-loop-k l = l.out.items ≡ l.initial.out.items ++ later_names (λ k. name_of l.scope (kind_meaning l.kind k)) (l.k - 1)

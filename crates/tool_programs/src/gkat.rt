@@ -1,0 +1,106 @@
+//! `gkat`: the reply to a text of GKAT is the problem that it asks, as the text of a problem file.
+ghost use Rattle.std.specs.Prelude.{◌≡◌, ◌++◌, ℕ, List, map, IfOk, OnOk, codes};
+ghost use Rattle.std.specs.List.{range_with_len};
+ghost use Rattle.text_scopes.specs.declared.meaning.Meaning.{Meaning};
+ghost use Rattle.text_print.specs.Printing.{name_of};
+ghost use Rattle.problem_texts.specs.Questions.{declaration_text};
+ghost use Rattle.gkat_front.specs.FileViews.{file_parts};
+ghost use Rattle.gkat_front.specs.Reads.{Reads, FirstFault};
+ghost use Rattle.tool_programs.specs.Gkat.{names_line, gkat_text, TranslatesText};
+ghost use Rattle.tool_inputs.specs.Posing.{IsFaultOf};
+ghost use Rattle.tool_inputs.specs.Steps.{IsRefusal};
+ghost use Rattle.tool_programs.specs.Working.Kinds.{kind_word, kind_meaning};
+ghost use Rattle.tool_inputs.specs.Outcomes.{IsOutcome, IsReplied};
+
+use gkat_front::{GkatFile, kat_of, read_gkat};
+use kat_model::NoMemory;
+use problem_texts::put_goal;
+use std::alloc::Global;
+use text_print::put_name;
+use text_scopes::{Meaning, Scope};
+use tool_inputs::{Reply, Stop, text_fault_stop};
+
+// What a text of GKAT declares.
+#[derive(Clone, Copy)]
+enum Kind {
+    Test,
+    Action,
+}
+
+impl Kind {
+    fn word(self) -> &'static [u8]
+        ensures { result.now ≡ kind_word self }
+    {
+        match self {
+            Kind::Test => b"test",
+            Kind::Action => b"action",
+        }
+    }
+
+    fn meaning(self, k: usize) -> Meaning
+        ensures { result ≡ kind_meaning self k }
+    {
+        match self {
+            Kind::Test => Meaning::Test(k),
+            Kind::Action => Meaning::Action(k),
+        }
+    }
+}
+
+fn put(out: &mut Vec<u8>, text: &[u8]) -> Result<(), NoMemory>
+    ensures { OnOk result (out.new.items ≡ out.old.items ++ text.now) }
+{
+    out.extend_from_slice(text)?;
+    Ok(())
+}
+
+// The declaration of so many names of a kind; nothing where there are none.
+fn put_names(out: &mut Vec<u8>, scope: &Scope, kind: Kind, count: usize) -> Result<(), NoMemory>
+    ensures { OnOk result (out.new.items ≡ out.old.items ++ names_line (kind_word kind) (name_of scope.now) (kind_meaning kind) count) }
+{
+    if count == 0 {
+        return Ok(());
+    }
+    put(out, kind.word())?;
+    put(out, b" ")?;
+    put_name(out, scope, kind.meaning(0))?;
+    for k in 1..count {
+        put(out, b", ")?;
+        put_name(out, scope, kind.meaning(k))?;
+    }
+    put(out, b";\n")?;
+    Ok(())
+}
+
+fn translation(alloc: Global, file: &GkatFile) -> Result<Vec<u8>, NoMemory>
+    ensures { IfOk result (λ v. v.items ≡ gkat_text (file_parts file.now)) }
+{
+    let mut out = Vec::new(alloc);
+    put_names(&mut out, &file.scope, Kind::Test, file.tests)?;
+    put_names(&mut out, &file.scope, Kind::Action, file.actions)?;
+    let left = kat_of(alloc, &file.left)?;
+    let right = kat_of(alloc, &file.right)?;
+    put_goal(alloc, &mut out, &left, &right, &file.scope)?;
+    Ok(out)
+}
+
+// What a text says.
+fn file_of(alloc: Global, text: &[u8]) -> Result<GkatFile, Stop>
+    ensures { IsOutcome (λ f. Reads text.now (file_parts f)) (IsRefusal (IsFaultOf (FirstFault text.now))) result }
+{
+    match read_gkat(alloc, text) {
+        Ok(file) => Ok(file),
+        Err(fault) => Err(text_fault_stop(alloc, fault)),
+    }
+}
+
+/// The reply to a text.
+pub(crate) fn text_reply(alloc: Global, text: &[u8]) -> Result<Reply, Stop>
+    ensures { IsReplied (TranslatesText text.now) result }
+{
+    let file = file_of(alloc, text)?;
+    Ok(Reply {
+        status: 0,
+        output: translation(alloc, &file)?,
+    })
+}

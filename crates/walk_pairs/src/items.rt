@@ -1,0 +1,164 @@
+//! What a step of a pair by one action may lead to: the targets on both sides, with their guards.
+ghost use Rattle.std.specs.Prelude.{◌≡◌, IfOk, OnOk};
+ghost use Rattle.std.specs.Ordering.{nat_cmp};
+ghost use Rattle.std.specs.BTreeMap.{IsOrdered};
+ghost use Rattle.partial_derivs.specs.Moves.{AreGuards, AreMerged};
+ghost use Rattle.test_diagrams.specs.Reduced.{IsReduced};
+ghost use Rattle.walk_pairs.specs.Items.{guard_of, guard_beyond, item_in, AddsMoves, AddsTargets, AreKeyed, items_in, AreItemsOf, AreLedTo};
+ghost use Rattle.walk_pairs.specs.Items.{AreEnds};
+ghost use Rattle.walk_pairs.specs.declared.items.Side.TheVariants.{Left as OnLeft, Right as OnRight};
+
+use kat_model::NoMemory;
+use partial_derivs::Guarded;
+use std::alloc::Global;
+use std::collections::BTreeMap;
+use term_store::TermId;
+use test_diagrams::{DiagramId, Diagrams};
+
+/// A term, and the atoms at which the step leads to it, on the left and on the right.
+#[derive(Clone, Copy, Debug, PartialEq, Eq)]
+pub struct Item {
+    pub target: TermId,
+    pub left: DiagramId,
+    pub right: DiagramId,
+}
+
+/// One side of a pair.
+#[derive(Clone, Copy, Debug, PartialEq, Eq)]
+pub enum Side {
+    Left,
+    Right,
+}
+
+/// The diagrams of the constants.
+#[derive(Clone, Copy, Debug)]
+pub struct Ends {
+    pub never: DiagramId,
+    pub always: DiagramId,
+}
+
+/// The constants of the collection.
+pub fn ends_of(diagrams: &Diagrams) -> Ends
+    ensures ends { AreEnds diagrams.now result }
+    ensures reduced { IsReduced diagrams.now }
+{
+    Ends {
+        never: diagrams.constant(false),
+        always: diagrams.constant(true),
+    }
+}
+
+/// The guard of the item on this side.
+pub fn guard_on(item: &Item, side: Side) -> DiagramId
+    ensures { result ≡ guard_of side item.now }
+{
+    match side {
+        Side::Left => item.left,
+        Side::Right => item.right,
+    }
+}
+
+/// The guard of the item on the other side.
+pub fn guard_across(item: &Item, side: Side) -> DiagramId
+    ensures { result ≡ guard_beyond side item.now }
+{
+    match side {
+        Side::Left => item.right,
+        Side::Right => item.left,
+    }
+}
+
+// Items by their targets.
+type ByTarget = BTreeMap<TermId, Item>;
+
+// The item of the target so far.
+fn item_at(items: &ByTarget, target: TermId, never: DiagramId) -> Item
+    ensures { result ≡ item_in never items.now.entries target }
+{
+    match items.get(&target) {
+        Some(item) => *item,
+        None => Item {
+            target,
+            left: never,
+            right: never,
+        },
+    }
+}
+
+// Adds the moves of the action as those of the left side.
+fn add_left(
+    items: &mut ByTarget,
+    moves: &[Guarded],
+    act: usize,
+    never: DiagramId,
+) -> Result<(), NoMemory>
+    requires keyed { AreKeyed items.old.entries }
+    ensures added { OnOk result (AddsMoves never OnLeft OnRight items.old.entries items.new.entries moves.now act) }
+    ensures targets { OnOk result (AddsTargets items.old.entries items.new.entries moves.now) }
+    ensures keyed { OnOk result (AreKeyed items.new.entries) }
+{
+    for guarded in moves {
+        if guarded.act == act {
+            let item = item_at(items, guarded.to, never);
+            let left = guarded.guard;
+            items.insert(guarded.to, Item { left, ..item })?;
+        }
+    }
+    Ok(())
+}
+
+// Adds the moves of the action as those of the right side.
+fn add_right(
+    items: &mut ByTarget,
+    moves: &[Guarded],
+    act: usize,
+    never: DiagramId,
+) -> Result<(), NoMemory>
+    requires keyed { AreKeyed items.old.entries }
+    ensures added { OnOk result (AddsMoves never OnRight OnLeft items.old.entries items.new.entries moves.now act) }
+    ensures targets { OnOk result (AddsTargets items.old.entries items.new.entries moves.now) }
+    ensures keyed { OnOk result (AreKeyed items.new.entries) }
+{
+    for guarded in moves {
+        if guarded.act == act {
+            let item = item_at(items, guarded.to, never);
+            let right = guarded.guard;
+            items.insert(guarded.to, Item { right, ..item })?;
+        }
+    }
+    Ok(())
+}
+
+// The items in ascending order of their targets.
+fn item_list(alloc: Global, items: &ByTarget) -> Result<Vec<Item>, NoMemory>
+    ensures items { IfOk result (λ v. v.items ≡ items_in items.now.entries) }
+    ensures ordered { IsOrdered nat_cmp items.now }
+{
+    let mut list = Vec::new(alloc);
+    for (_, item) in items.iter() {
+        list.push(*item)?;
+    }
+    Ok(list)
+}
+
+/// The items of the action, in ascending order of their targets.
+pub fn items_of(
+    alloc: Global,
+    diagrams: &Diagrams,
+    left: &[Guarded],
+    right: &[Guarded],
+    act: usize,
+) -> Result<Vec<Item>, NoMemory>
+    requires left { AreGuards diagrams.now left.now }
+    requires right { AreGuards diagrams.now right.now }
+    requires left_merged { AreMerged left.now }
+    requires right_merged { AreMerged right.now }
+    ensures items { IfOk result (λ v. AreItemsOf diagrams.now left.now right.now act v.items) }
+    ensures targets { IfOk result (λ v. AreLedTo left.now right.now v.items) }
+{
+    let never = diagrams.constant(false);
+    let mut items = BTreeMap::new(alloc);
+    add_left(&mut items, left, act, never)?;
+    add_right(&mut items, right, act, never)?;
+    item_list(alloc, &items)
+}

@@ -1,0 +1,17 @@
+use Rattle.std.proofs.Common.{◌≡◌, ◌++◌, ℕ, map, drop}
+use Rattle.std.specs.List.{filter}
+use Rattle.kat_model.specs.Members.{Has}
+use Rattle.kat_model.specs.Trees.{kat_tree}
+use Rattle.kat_model.specs.Degrees.{is_short}
+use Rattle.term_nodes.specs.NodeTrees.{tree_at}
+use Rattle.term_nodes.specs.Growth.{Grows}
+use Rattle.partial_derivs.specs.Moves.{IsTermOf}
+use Rattle.walk_under.proofs.deciding.short_ids.Given as goal
+
+-- the short ones so far, and those among the rest
+abbrev pub invariant-loop-hyp : goal.invariant-loop-hyp
+invariant-loop-hyp l = record {
+  kept : Grows l.initial.store l.store;
+  trees : map (tree_at l.store) l.shorts.items ++ filter is_short (map kat_tree (drop l.hyp-index l.hyp-items)) ≡ filter is_short (map kat_tree l.hyp-items);
+  terms : (i : ℕ) → Has l.shorts.items i → IsTermOf l.store l.problem.tests i;
+}

@@ -1,0 +1,12 @@
+use Rattle.std.proofs.Common.{◌≡◌, IfOk, ap, ◌∙◌, subst}
+use Rattle.kat_model.specs.Closed.{Closed, closed}
+use Rattle.kat_model.specs.Degrees.{long_hyps, with_hyps}
+use Rattle.goal_forms.specs.ClosedTrees.{closed_trees}
+use Rattle.walk_pairs.specs.ClosedTerms.{AreIdsOf}
+use Rattle.walk_under.proofs.deciding.side_ids.Goals as goal
+
+pub returns-clause-ids : goal.returns-clause-ids
+returns-clause-ids c =
+    let p = c.args.problem.now in
+    let trees : closed_trees c.in_ok-closed.closed ≡ closed (with_hyps p (long_hyps p)) = c.in_ok-closed.ensures ∙ ap closed c.in_ok-long.ensures in
+    subst (λ (k : Closed). IfOk c.closed_ids.result (AreIdsOf c.closed_ids.new.store k)) trees c.closed_ids.ensures.ids

@@ -1,0 +1,13 @@
+use Rattle.std.proofs.lemmas.Result.{IfOk-weaker}
+use Rattle.walk_under.proofs.Marking.{open_part}
+use Rattle.walk_under.proofs.listing.Listing.open_part.Goals as goal
+
+pub returns-clause-part : goal.returns-clause-part
+returns-clause-part c =
+    let sides = c.args.sides.now in
+    IfOk-weaker c.and_not.result _ _
+    (λ id function.
+    open_part c.args.diagrams.now c.reached.new.diagrams c.reached-2.new.diagrams c.and_not.new.diagrams c.in_ok-left.ensures.kept c.in_ok-both.ensures.kept c.and_not.ensures.kept
+    c.args.self.now.entries.items c.requires.tests c.args.self.now.universal sides.left.now sides.right.now sides.open_left.now sides.open_right.now c.args.within c.in_ok-left.left c.in_ok-both.both id c.requires.within
+    c.in_ok-left.ensures.part c.in_ok-left.ensures.reached c.in_ok-both.ensures.part c.in_ok-both.ensures.reached function)
+    c.and_not.ensures.function

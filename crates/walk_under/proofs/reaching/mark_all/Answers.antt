@@ -1,0 +1,21 @@
+use Rattle.std.proofs.Common.{ℕ, List, [], ◌∷◌}
+use Rattle.kat_model.specs.Members.{Has}
+use Rattle.kat_model.proofs.Places.{has_at}
+use Rattle.test_diagrams.proofs.Kept.{KeepsFunctions-trans}
+use Rattle.walk_under.proofs.Marking.{read_number, alone, brings_part, brings_kept}
+use Rattle.walk_under.proofs.reaching.mark_all.Goals as goal
+
+pub loop-term-preserved : goal.loop-term-preserved
+loop-term-preserved c =
+    let terms : List ℕ = c.args.terms.now in
+    let t : ℕ = c.term-item.result in
+    let h : Has terms t = has_at terms c.loop-term.term-index t (read_number terms c.loop-term.term-index t c.loop-term-test.true c.term-item.is) in
+    let before = c.loop-term.invariant in
+    record {
+      kept = KeepsFunctions-trans c.args.diagrams.now c.loop-term.diagrams c.mark.new.diagrams before.kept c.in_ok-mark.ensures.kept;
+      ids = c.in_ok-mark.ensures.ids;
+      marks = λ es all first brings.
+          c.in_ok-mark.ensures.marks es all (before.marks es all first brings)
+          (brings_kept c.args.diagrams.now c.loop-term.diagrams before.kept es first.tests all c.args.test (t ∷ []) c.requires.test
+          (brings_part c.args.diagrams.now es all terms (t ∷ []) c.args.test (alone terms t h) brings));
+    }

@@ -1,0 +1,17 @@
+use Rattle.std.proofs.Common.{◌≡◌, ◌-◌, List}
+use Rattle.kat_model.specs.Trees.{Term}
+use Rattle.kat_model.specs.Problems.{ProblemParts}
+use Rattle.term_nodes.specs.Growth.{Grows}
+use Rattle.walk_under.specs.Working.Walking.{about, IsUnderWay, walk_limit}
+use Rattle.walk_under.proofs.walk.Walk.run.Given as goal
+
+abbrev pub invariant-loop-place : goal.invariant-loop-place
+invariant-loop-place l = record {
+  some : (shorts : List Term) × (q : ProblemParts) × IsUnderWay (about shorts q l.store) l.self l.place × (l.actions ≡ q.actions);
+  each : (shorts : List Term) (q : ProblemParts) → l.actions ≡ q.actions → IsUnderWay (about shorts q l.initial.store) l.initial.self 0 → IsUnderWay (about shorts q l.store) l.self l.place;
+  kept : Grows l.initial.store l.store;
+}
+
+-- there are not many pairs
+abbrev pub decreases-loop-place : goal.decreases-loop-place
+decreases-loop-place l = walk_limit l.store l.self.diagrams.tests l.self.listing.entries.items - l.place

@@ -1,0 +1,10 @@
+-- Listed pairs by the ids of terms and diagrams.
+use Rattle.std.specs.Prelude.{ℕ, List, Option}
+use Rattle.walk_under.specs.declared.entry.Origin.{Origin}
+
+pub record EntryParts : Type 0 where
+  pub left : List ℕ
+  pub right : List ℕ
+  pub test : ℕ
+  pub level : ℕ
+  pub origin : Option Origin

@@ -1,0 +1,104 @@
+//! Which atoms and moves are allowed where short hypotheses are zero.
+ghost use Rattle.std.specs.Prelude.{◌≡◌, ◌<◌, ℕ, List, All, map, length, IfOk, OnOk};
+ghost use Rattle.kat_model.specs.Trees.{Term};
+ghost use Rattle.kat_model.specs.AllowedMoves.{IsAllowedAtom};
+ghost use Rattle.term_nodes.specs.NodeTrees.{tree_at};
+ghost use Rattle.test_diagrams.specs.Functions.{IsDiagramId, IsAtomOf, KeepsFunctions};
+ghost use Rattle.partial_derivs.specs.Moves.{IsTermOf, Keeps};
+ghost use Rattle.partial_derivs.specs.Tables.{AreRight};
+ghost use Rattle.walk_under.specs.Working.Allowance.{IsAllowance, IsWithin, IsAllowedImage, HasAllowedSource, IsAllowedSource};
+
+use crate::asking::bars_of;
+use crate::bars::Bars;
+use kat_model::NoMemory;
+use partial_derivs::Derivatives;
+use std::alloc::Global;
+use term_store::{Store, TermId};
+use test_diagrams::{DiagramId, Diagrams};
+use walk_pairs::true_atom;
+
+/// The allowed atoms, and for each action the bars that keep moves out.
+#[derive(Drop)]
+pub(crate) struct AllowedMoves {
+    allowed: DiagramId,
+    actions: Vec<Bars>,
+}
+
+impl AllowedMoves {
+    /// What short hypotheses allow. Fails only when out of memory; it may leave further nodes, diagrams and derivatives.
+    pub(crate) fn of_hyps(
+        alloc: Global,
+        store: &mut Store,
+        diagrams: &mut Diagrams,
+        derivatives: &mut Derivatives,
+        shorts: &[TermId],
+        actions: usize,
+    ) -> Result<AllowedMoves, NoMemory>
+        requires terms { All (IsTermOf store.old diagrams.old.tests) shorts.now }
+        requires right { AreRight store.old diagrams.old derivatives.old }
+        ensures allowance { IfOk result (IsAllowance diagrams.new (map (tree_at store.old) shorts.now) actions) }
+        ensures right { AreRight store.new diagrams.new derivatives.new }
+        ensures kept { Keeps store.old store.new diagrams.old diagrams.new }
+    {
+        let steps = derivatives.step(alloc, store, diagrams, shorts)?;
+        let allowed = diagrams.not(steps.accepts)?;
+        let mut list = Vec::new(alloc);
+        for act in 0..actions {
+            let bars = bars_of(alloc, store, diagrams, derivatives, &steps.moves, act)?;
+            list.push(bars)?;
+        }
+        Ok(AllowedMoves {
+            allowed,
+            actions: list,
+        })
+    }
+
+    /// The allowed atoms.
+    pub(crate) fn allowed(&self) -> DiagramId
+        ensures { result ≡ self.now.allowed }
+    {
+        self.allowed
+    }
+
+    /// The atoms to which an allowed move by the action leads from an atom of the region.
+    pub(crate) fn image(
+        &mut self,
+        diagrams: &mut Diagrams,
+        region: DiagramId,
+        act: usize,
+    ) -> Result<DiagramId, NoMemory>
+        requires moves { (shorts : List Term) × IsAllowance diagrams.old shorts (length self.old.actions.items) self.old }
+        requires region { IsDiagramId diagrams.old region }
+        requires act { act < length self.old.actions.items }
+        ensures image { IfOk result (λ id. (shorts : List Term) (actions : ℕ) → IsAllowance diagrams.old shorts actions self.old
+            → IsWithin diagrams.old region self.old.allowed → IsAllowedImage diagrams.new shorts region act id) }
+        ensures moves { OnOk result ((shorts : List Term) (actions : ℕ) → IsAllowance diagrams.old shorts actions self.old → IsAllowance diagrams.new shorts actions self.new) }
+        ensures allowed { self.new.allowed ≡ self.old.allowed }
+        ensures kept { KeepsFunctions diagrams.old diagrams.new }
+    {
+        let led_to = self.actions[act].image(diagrams, region)?;
+        diagrams.and(led_to, self.allowed)
+    }
+
+    /// An atom of the region from which an allowed move by the action leads to this atom. There is one.
+    pub(crate) fn source(
+        &self,
+        alloc: Global,
+        diagrams: &mut Diagrams,
+        region: DiagramId,
+        act: usize,
+        after: &[bool],
+    ) -> Result<Vec<bool>, NoMemory>
+        requires moves { (shorts : List Term) × IsAllowance diagrams.old shorts (length self.now.actions.items) self.now
+            × HasAllowedSource diagrams.old shorts region act after.now }
+        requires region { IsDiagramId diagrams.old region }
+        requires act { act < length self.now.actions.items }
+        requires after { IsAtomOf diagrams.old after.now }
+        ensures source { IfOk result (λ v. (shorts : List Term) (actions : ℕ) → IsAllowance diagrams.old shorts actions self.now → IsAllowedAtom shorts after.now
+            → IsWithin diagrams.old region self.now.allowed → IsAllowedSource diagrams.old shorts region act after.now v.items) }
+        ensures kept { KeepsFunctions diagrams.old diagrams.new }
+    {
+        let sources = self.actions[act].sources(diagrams, region, after)?;
+        true_atom(alloc, diagrams, sources)
+    }
+}

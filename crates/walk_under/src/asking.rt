@@ -1,0 +1,145 @@
+//! The bars of an action, from the moves of the short hypotheses.
+ghost use Rattle.std.specs.Prelude.{◌≡◌, ◌==◌, ◌<◌, ℕ, filter, length, IfOk, OnOk};
+ghost use Rattle.kat_model.specs.Members.{Has};
+ghost use Rattle.test_diagrams.specs.Functions.{IsDiagramId, KeepsFunctions};
+ghost use Rattle.partial_derivs.specs.Moves.{IsTermOf, AreGuards, AreTargets, Keeps};
+ghost use Rattle.partial_derivs.specs.Tables.{AreRight};
+ghost use Rattle.walk_under.specs.Working.Bars.{AreSoundBars};
+ghost use Rattle.walk_under.specs.Working.Asking.{IsUnaskedTest, Asks, AreFreshTests, IsBarOf, AreBarsOf};
+
+use crate::bars::{Bar, Bars, depends_on};
+use kat_model::NoMemory;
+use partial_derivs::{Derivatives, Guarded};
+use std::alloc::Global;
+use term_store::Store;
+use test_diagrams::{DiagramId, Diagrams};
+
+// Whether the diagram is the first to ask the test, which is then asked.
+fn asks_first(
+    diagrams: &mut Diagrams,
+    id: DiagramId,
+    asked: &mut [bool],
+    test: usize,
+) -> Result<bool, NoMemory>
+    requires id { IsDiagramId diagrams.old id }
+    requires test { test < length asked.old }
+    requires tests { length asked.old ≡ diagrams.old.tests }
+    ensures asks { IfOk result (Asks diagrams.new id asked.old asked.new test) }
+    ensures kept { KeepsFunctions diagrams.old diagrams.new }
+{
+    if asked[test] {
+        return Ok(false);
+    }
+    let asks = depends_on(diagrams, id, test)?;
+    if asks {
+        asked[test] = true;
+    }
+    Ok(asks)
+}
+
+// The tests that the diagram is the first to ask. They are asked then.
+fn fresh_tests(
+    alloc: Global,
+    diagrams: &mut Diagrams,
+    id: DiagramId,
+    asked: &mut [bool],
+) -> Result<Vec<usize>, NoMemory>
+    requires id { IsDiagramId diagrams.old id }
+    requires tests { length asked.old ≡ diagrams.old.tests }
+    ensures fresh { IfOk result (λ v. AreFreshTests diagrams.new id asked.old asked.new (length asked.old) v.items) }
+    ensures kept { KeepsFunctions diagrams.old diagrams.new }
+{
+    let mut fresh = Vec::new(alloc);
+    for test in 0..asked.len() {
+        if asks_first(diagrams, id, asked, test)? {
+            fresh.push(test)?;
+        }
+    }
+    Ok(fresh)
+}
+
+// The bar of a move: what is left of a short hypothesis after it accepts the atoms to which no move may lead.
+fn bar_of(
+    alloc: Global,
+    store: &mut Store,
+    diagrams: &mut Diagrams,
+    derivatives: &mut Derivatives,
+    guarded: &Guarded,
+    asked: &mut [bool],
+) -> Result<Bar, NoMemory>
+    requires guard { IsDiagramId diagrams.old guarded.now.guard }
+    requires to { IsTermOf store.old diagrams.old.tests guarded.now.to }
+    requires right { AreRight store.old diagrams.old derivatives.old }
+    requires tests { length asked.old ≡ diagrams.old.tests }
+    ensures bar { IfOk result (IsBarOf store.new diagrams.new guarded.now) }
+    ensures fresh { IfOk result (λ b. AreFreshTests diagrams.new b.from asked.old asked.new (length asked.old) b.fresh.items) }
+    ensures right { AreRight store.new diagrams.new derivatives.new }
+    ensures kept { Keeps store.old store.new diagrams.old diagrams.new }
+{
+    let left = [guarded.to];
+    let after = derivatives.step(alloc, store, diagrams, &left)?;
+    let fresh = fresh_tests(alloc, diagrams, guarded.guard, asked)?;
+    Ok(Bar {
+        from: guarded.guard,
+        to: after.accepts,
+        fresh,
+    })
+}
+
+// The tests that were not asked.
+fn unasked_tests(alloc: Global, asked: &[bool]) -> Result<Vec<usize>, NoMemory>
+    ensures { IfOk result (λ v. (t : ℕ) → Has v.items t → IsUnaskedTest asked.now t) }
+{
+    let mut unasked = Vec::new(alloc);
+    for (test, was_asked) in asked.iter().enumerate() {
+        if !*was_asked {
+            unasked.push(test)?;
+        }
+    }
+    Ok(unasked)
+}
+
+// The moves by the action.
+fn moves_by(alloc: Global, moves: &[Guarded], act: usize) -> Result<Vec<Guarded>, NoMemory>
+    ensures { IfOk result (λ v. v.items ≡ filter (λ m. m.act == act) moves.now) }
+{
+    let own = moves
+        .iter()
+        .copied()
+        .filter(|guarded| guarded.act == act)
+        .collect(alloc)?;
+    Ok(own)
+}
+
+/// The bars of an action, one for each move by it of the short hypotheses. Fails only when out of memory; it may leave
+/// further nodes, diagrams and derivatives.
+pub(crate) fn bars_of(
+    alloc: Global,
+    store: &mut Store,
+    diagrams: &mut Diagrams,
+    derivatives: &mut Derivatives,
+    moves: &[Guarded],
+    act: usize,
+) -> Result<Bars, NoMemory>
+    requires guards { AreGuards diagrams.old moves.now }
+    requires targets { AreTargets store.old diagrams.old.tests moves.now }
+    requires right { AreRight store.old diagrams.old derivatives.old }
+    ensures bars { IfOk result (λ b. AreBarsOf store.new diagrams.new moves.now act b.bars.items) }
+    ensures sound { IfOk result (AreSoundBars diagrams.new) }
+    ensures right { AreRight store.new diagrams.new derivatives.new }
+    ensures kept { Keeps store.old store.new diagrams.old diagrams.new }
+{
+    let mut own = moves_by(alloc, moves, act)?;
+    // The last bars are taken first. Since hypotheses mostly stand in the order of the tests that they ask, these ask the tests
+    // that diagrams ask first.
+    own.reverse();
+    let mut marks = vec![in alloc; false; diagrams.tests()]?;
+    let asked = marks.as_mut_slice();
+    let mut bars = Vec::new(alloc);
+    for guarded in &own {
+        let bar = bar_of(alloc, store, diagrams, derivatives, guarded, asked)?;
+        bars.push(bar)?;
+    }
+    let unasked = unasked_tests(alloc, asked)?;
+    Ok(Bars::new(alloc, bars, unasked))
+}

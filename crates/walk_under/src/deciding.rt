@@ -1,0 +1,111 @@
+//! The answer to a problem by a walk under tests.
+ghost use Rattle.std.specs.Prelude.{◌≡◌, ℕ, All, map, length, IfOk};
+ghost use Rattle.kat_model.specs.Members.{Has};
+ghost use Rattle.kat_model.specs.Trees.{Term};
+ghost use Rattle.kat_model.specs.Problems.{IsProblem};
+ghost use Rattle.kat_model.specs.Closed.{closed};
+ghost use Rattle.kat_model.specs.Degrees.{short_hyps, long_hyps, with_hyps};
+ghost use Rattle.term_nodes.specs.NodeLists.{AreNodes};
+ghost use Rattle.term_nodes.specs.NodeTrees.{tree_at, HasTree};
+ghost use Rattle.term_nodes.specs.Growth.{Grows};
+ghost use Rattle.partial_derivs.specs.Moves.{IsTermOf};
+ghost use Rattle.certificate.specs.Decisions.{node_terms};
+ghost use Rattle.walk_pairs.specs.ClosedTerms.{AreIdsOf};
+ghost use Rattle.walk_under.specs.Decisions.{IsDecisionUnder};
+ghost use Rattle.walk_under.specs.Working.Walking.{about, IsUnderWay};
+
+use crate::walk::Walk;
+use certificate::{Evidence, Style};
+use goal_forms::eliminate;
+use hypothesis_kinds::{is_short, long_problem};
+use kat_model::{NoMemory, Problem};
+use std::alloc::Global;
+use term_store::{Store, TermId};
+use walk_pairs::{ClosedIds, cert_of, closed_ids};
+
+// The ids of the short hypotheses.
+fn short_ids(alloc: Global, store: &mut Store, problem: &Problem) -> Result<Vec<TermId>, NoMemory>
+    ensures trees { IfOk result (λ v. map (tree_at store.new) v.items ≡ short_hyps problem.now) }
+    ensures terms { IfOk result (λ v. (i : ℕ) → Has v.items i → IsTermOf store.new problem.now.tests i) }
+    ensures kept { Grows store.old store.new }
+{
+    // The proof needs the limits of the problem.
+    let _tests = problem.tests();
+    let mut shorts = Vec::new(alloc);
+    for hyp in problem.hyps() {
+        if is_short(hyp) {
+            shorts.push(store.of_tree(hyp)?)?;
+        }
+    }
+    Ok(shorts)
+}
+
+// The ids of the closed sides of the problem with its long hypotheses alone.
+fn side_ids(alloc: Global, store: &mut Store, problem: &Problem) -> Result<ClosedIds, NoMemory>
+    ensures ids { IfOk result (AreIdsOf store.new (closed (with_hyps problem.now (long_hyps problem.now)))) }
+    ensures kept { Grows store.old store.new }
+{
+    let long = long_problem(alloc, problem)?;
+    let closed = eliminate(alloc, &long)?;
+    closed_ids(store, &closed)
+}
+
+// The walk of a problem over the store, which has listed the pair of the closed sides of its long hypotheses.
+fn walk_of(alloc: Global, store: &mut Store, problem: &Problem) -> Result<Walk, NoMemory>
+    ensures within { IfOk result (λ w. IsProblem problem.now) }
+    ensures under_way { IfOk result (λ w. IsUnderWay (about (short_hyps problem.now) (with_hyps problem.now (long_hyps problem.now)) store.new) w 0) }
+    ensures kept { Grows store.old store.new }
+{
+    let sides = side_ids(alloc, store, problem)?;
+    let shorts = short_ids(alloc, store, problem)?;
+    // The proof needs the rules of the store.
+    let _ = store.count();
+    let tests = problem.tests();
+    let actions = problem.actions();
+    Walk::new(alloc, store, tests, actions, &shorts, &sides)
+}
+
+// The evidence that the walk of the problem ends with.
+fn evidence_of(
+    alloc: Global,
+    store: &mut Store,
+    problem: &Problem,
+    walk: &mut Walk,
+) -> Result<Evidence, NoMemory>
+    requires within { IsProblem problem.now }
+    requires under_way { IsUnderWay (about (short_hyps problem.now) (with_hyps problem.now (long_hyps problem.now)) store.old) walk.old 0 }
+    ensures decision { IfOk result (IsDecisionUnder problem.now) }
+    ensures nodes { IfOk result (λ e. (t : Term) → Has (node_terms e) t → HasTree store.new t) }
+    ensures kept { Grows store.old store.new }
+{
+    match walk.run(alloc, store, problem.actions())? {
+        Some(difference) => {
+            let string = walk.string_to(alloc, difference.place, difference.atom)?;
+            Ok(Evidence::Different(string))
+        }
+        None => {
+            let pairs = walk.merge(alloc, store)?;
+            // The proof needs the rules of the store.
+            let _ = store.count();
+            let cert = cert_of(alloc, store, Style::Under, &pairs)?;
+            Ok(Evidence::Equal(cert))
+        }
+    }
+}
+
+/// Whether both sides of a problem denote one relation in each table that keeps the hypotheses, with evidence: a
+/// certificate of pairs under tests, or a string that refutes the problem, than which none has fewer moves. Short
+/// hypotheses are not eliminated. The store has ids of the terms of a certificate's nodes afterwards, and all older ids
+/// keep their trees. Fails only when out of memory; it may leave further nodes.
+pub fn decide_under(
+    alloc: Global,
+    store: &mut Store,
+    problem: &Problem,
+) -> Result<Evidence, NoMemory>
+    ensures decision { IfOk result (IsDecisionUnder problem.now) }
+    ensures nodes { IfOk result (λ e. (t : Term) → Has (node_terms e) t → HasTree store.new t) }
+    ensures kept { Grows store.old store.new }
+{
+    let mut walk = walk_of(alloc, store, problem)?;
+    evidence_of(alloc, store, problem, &mut walk)
+}

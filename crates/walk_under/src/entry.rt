@@ -1,0 +1,32 @@
+//! Pairs of sets of terms with the atoms at which the walk reached them.
+use kat_model::Items;
+use std::marker::Model;
+use term_store::TermId;
+use test_diagrams::DiagramId;
+
+/// A step from a listed pair: the place of the pair, the action, and the atoms from which the action leads to the sets.
+#[derive(Clone, Copy, Debug)]
+pub(crate) struct Origin {
+    pub place: usize,
+    pub act: usize,
+    pub region: DiagramId,
+}
+
+/// A pair of sets of terms, each by its ids in ascending order, the atoms at which it was reached, how many moves lead to
+/// it, and the step that did. The first pair of a walk has no origin.
+#[derive(Drop)]
+pub(crate) struct Entry {
+    pub left: Items<TermId>,
+    pub right: Items<TermId>,
+    pub test: DiagramId,
+    pub level: usize,
+    pub origin: Option<Origin>,
+}
+
+impl Model for Entry {
+    ghost use Rattle.walk_under.specs.Working.Entries.{EntryParts};
+
+    ghost Value = { EntryParts };
+
+    ghost view = { λ e. record { left = e.left; right = e.right; test = e.test; level = e.level; origin = e.origin } };
+}

@@ -1,0 +1,214 @@
+//! The pairs that a walk listed.
+ghost use Rattle.std.specs.Prelude.{◌≡◌, ◌↔◌, ◌++◌, ◌∷◌, [], ℕ, List, IfOk, OnOk, IsTrue};
+ghost use Rattle.kat_model.specs.Members.{Has};
+ghost use Rattle.test_diagrams.specs.Functions.{value_of, IsDiagramId, IsAtomOf, KeepsFunctions};
+ghost use Rattle.walk_under.specs.Working.Entries.{EntryParts};
+ghost use Rattle.walk_under.specs.Working.Reaching.{IsPartOf, IsReachedAt, IsOpenPart};
+ghost use Rattle.walk_under.specs.Working.Listings.{IsWithoutPair, IsFreshPart, IsWith, AreLevelAtoms, IsLevelAtom, IsPlaceWith};
+
+use crate::entry::Entry;
+use crate::reaching::{mark_all, reached_at, saturate};
+use kat_model::NoMemory;
+use std::alloc::Global;
+use term_store::TermId;
+use test_diagrams::{DiagramId, Diagrams};
+use walk_pairs::and_not;
+
+/// The pairs that a walk listed, the id of the universal term if the store has it, and how many ids the pairs are among.
+#[derive(Drop)]
+pub(crate) struct Listing {
+    pub entries: Vec<Entry>,
+    pub universal: Option<TermId>,
+    pub count: usize,
+}
+
+/// Terms that two next sets surely have, and those that each may have beside the terms of the other.
+#[derive(Clone, Copy)]
+pub(crate) struct Sides<'a> {
+    pub left: &'a [TermId],
+    pub right: &'a [TermId],
+    pub open_left: &'a [TermId],
+    pub open_right: &'a [TermId],
+}
+
+// Whether the ids are the same.
+fn are_same(ids: &[TermId], others: &[TermId]) -> bool
+    ensures { IsTrue result ↔ (ids.now ≡ others.now) }
+{
+    ids == others
+}
+
+/// Whether the pair has these sets.
+pub(crate) fn has_sets(entry: &Entry, left: &[TermId], right: &[TermId]) -> bool
+    ensures { IsTrue result ↔ ((entry.now.left ≡ left.now) × (entry.now.right ≡ right.now)) }
+{
+    let own_left = entry.left.as_slice();
+    let own_right = entry.right.as_slice();
+    let same_left = are_same(own_left, left);
+    let same_right = are_same(own_right, right);
+    same_left && same_right
+}
+
+// The atoms of the diagram, without those of the pair where it has these sets.
+fn without_pair(
+    diagrams: &mut Diagrams,
+    id: DiagramId,
+    entry: &Entry,
+    left: &[TermId],
+    right: &[TermId],
+) -> Result<DiagramId, NoMemory>
+    requires id { IsDiagramId diagrams.old id }
+    requires test { IsDiagramId diagrams.old entry.now.test }
+    ensures without { IfOk result (IsWithoutPair diagrams.old diagrams.new entry.now left.now right.now id) }
+    ensures kept { OnOk result (KeepsFunctions diagrams.old diagrams.new) }
+{
+    let same = has_sets(entry, left, right);
+    if same {
+        return and_not(diagrams, id, entry.test);
+    }
+    Ok(id)
+}
+
+/// The atoms within the test at which none of the pairs has these sets.
+pub(crate) fn fresh_part(
+    diagrams: &mut Diagrams,
+    entries: &[Entry],
+    left: &[TermId],
+    right: &[TermId],
+    within: DiagramId,
+) -> Result<DiagramId, NoMemory>
+    requires tests { (e : EntryParts) → Has entries.now e → IsDiagramId diagrams.old e.test }
+    requires within { IsDiagramId diagrams.old within }
+    ensures part { IfOk result (IsFreshPart diagrams.new entries.now left.now right.now within) }
+    ensures kept { OnOk result (KeepsFunctions diagrams.old diagrams.new) }
+{
+    let mut id = within;
+    for entry in entries {
+        id = without_pair(diagrams, id, entry, left, right)?;
+    }
+    Ok(id)
+}
+
+// Whether both have the same sets and level.
+fn is_with(entry: &Entry, pair: &Entry) -> bool
+    ensures { IsTrue result ↔ IsWith entry.now pair.now }
+{
+    let same_level = entry.level == pair.level;
+    same_level && has_sets(entry, pair.left.as_slice(), pair.right.as_slice())
+}
+
+// The atoms of the diagram, and those of the entry where it has the same sets and level as the pair.
+fn with_entry(
+    diagrams: &mut Diagrams,
+    id: DiagramId,
+    entry: &Entry,
+    pair: &Entry,
+) -> Result<DiagramId, NoMemory>
+    requires id { IsDiagramId diagrams.old id }
+    requires test { IsDiagramId diagrams.old entry.now.test }
+    ensures atoms { IfOk result (λ new. (es : List EntryParts) → ((e : EntryParts) → Has es e → IsDiagramId diagrams.old e.test)
+        → AreLevelAtoms diagrams.old es pair.now id → AreLevelAtoms diagrams.new (es ++ entry.now ∷ []) pair.now new) }
+    ensures kept { KeepsFunctions diagrams.old diagrams.new }
+{
+    let same = is_with(entry, pair);
+    if same {
+        return diagrams.or(id, entry.test);
+    }
+    Ok(id)
+}
+
+/// The atoms at which some entry has the sets and the level of the pair.
+pub(crate) fn level_atoms(
+    diagrams: &mut Diagrams,
+    entries: &[Entry],
+    pair: &Entry,
+) -> Result<DiagramId, NoMemory>
+    requires tests { (e : EntryParts) → Has entries.now e → IsDiagramId diagrams.old e.test }
+    ensures atoms { IfOk result (AreLevelAtoms diagrams.new entries.now pair.now) }
+    ensures kept { KeepsFunctions diagrams.old diagrams.new }
+{
+    let mut id = diagrams.constant(false);
+    for entry in entries {
+        id = with_entry(diagrams, id, entry, pair)?;
+    }
+    Ok(id)
+}
+
+// Whether the entry has the sets and the level of the pair, and was reached at the atom.
+fn is_reached_with(diagrams: &Diagrams, entry: &Entry, pair: &Entry, atom: &[bool]) -> bool
+    requires test { IsDiagramId diagrams.now entry.now.test }
+    requires atom { IsAtomOf diagrams.now atom.now }
+    ensures { IsTrue result ↔ (IsWith entry.now pair.now × IsTrue (value_of diagrams.now entry.now.test atom.now)) }
+{
+    let same = is_with(entry, pair);
+    same && diagrams.value_at(entry.test, atom)
+}
+
+/// The place of an entry that has the sets and the level of the pair, and was reached at the atom. There is one.
+pub(crate) fn place_with(
+    diagrams: &Diagrams,
+    entries: &[Entry],
+    pair: &Entry,
+    atom: &[bool],
+) -> usize
+    requires tests { (e : EntryParts) → Has entries.now e → IsDiagramId diagrams.now e.test }
+    requires atom { IsAtomOf diagrams.now atom.now }
+    requires listed { IsLevelAtom diagrams.now entries.now pair.now atom.now }
+    ensures { IsPlaceWith diagrams.now entries.now pair.now atom.now result }
+{
+    for (place, entry) in entries.iter().enumerate() {
+        if is_reached_with(diagrams, entry, pair, atom) {
+            return place;
+        }
+    }
+    0
+}
+
+impl Listing {
+    // Atoms within the test at which the pairs bring the targets, or the universal term, to the set.
+    fn reached(
+        &self,
+        alloc: Global,
+        diagrams: &mut Diagrams,
+        set: &[TermId],
+        targets: &[TermId],
+        within: DiagramId,
+    ) -> Result<DiagramId, NoMemory>
+        requires tests { (e : EntryParts) → Has self.now.entries.items e → IsDiagramId diagrams.old e.test }
+        requires within { IsDiagramId diagrams.old within }
+        ensures part { IfOk result (IsPartOf diagrams.new within) }
+        ensures reached { IfOk result (IsReachedAt diagrams.new self.now.entries.items self.now.universal set.now targets.now) }
+        ensures kept { KeepsFunctions diagrams.old diagrams.new }
+    {
+        let never = diagrams.constant(false);
+        if within == never {
+            return Ok(never);
+        }
+        if targets.is_empty() {
+            return Ok(within);
+        }
+        let mut list = vec![in alloc; never; self.count]?;
+        let marks = list.as_mut_slice();
+        mark_all(diagrams, marks, set, within)?;
+        saturate(diagrams, marks, &self.entries)?;
+        reached_at(diagrams, marks, self.universal, targets, within)
+    }
+
+    /// The atoms within the test at which the pairs do not bring the open terms of each side to the sure ones of the other.
+    pub(crate) fn open_part(
+        &self,
+        alloc: Global,
+        diagrams: &mut Diagrams,
+        sides: &Sides<'_>,
+        within: DiagramId,
+    ) -> Result<DiagramId, NoMemory>
+        requires tests { (e : EntryParts) → Has self.now.entries.items e → IsDiagramId diagrams.old e.test }
+        requires within { IsDiagramId diagrams.old within }
+        ensures part { IfOk result (IsOpenPart diagrams.new self.now.entries.items self.now.universal sides.now.left.now sides.now.right.now sides.now.open_left.now sides.now.open_right.now within) }
+        ensures kept { KeepsFunctions diagrams.old diagrams.new }
+    {
+        let left = self.reached(alloc, diagrams, sides.right, sides.open_left, within)?;
+        let both = self.reached(alloc, diagrams, sides.left, sides.open_right, left)?;
+        and_not(diagrams, within, both)
+    }
+}

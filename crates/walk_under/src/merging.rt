@@ -1,0 +1,127 @@
+//! The pairs that a walk listed, where those with the same sets are made one.
+ghost use Rattle.std.specs.Prelude.{◌≡◌, ◌↔◌, ◌++◌, ◌∷◌, [], ℕ, List, IfOk, OnOk, IsTrue};
+ghost use Rattle.kat_model.specs.Members.{Has};
+ghost use Rattle.term_nodes.specs.Growth.{Grows};
+ghost use Rattle.test_diagrams.specs.Functions.{DiagramsParts, IsDiagramId, KeepsFunctions};
+ghost use Rattle.walk_under.specs.Working.Entries.{EntryParts};
+ghost use Rattle.walk_under.specs.Working.StoredTests.{AreTestsFor};
+ghost use Rattle.walk_under.specs.Working.Merging.{AreAtomsOf, IsMergedPair, HasPairOf, AreMergedIds};
+
+use crate::entry::Entry;
+use crate::listing::has_sets;
+use crate::test_table::TestTable;
+use kat_model::{Items, NoMemory};
+use std::alloc::Global;
+use term_store::{Store, TermId};
+use test_diagrams::{DiagramId, Diagrams};
+use walk_pairs::StoredPair;
+
+// The atoms of the diagram, and those of the entry where it has these sets.
+fn with_atoms(
+    diagrams: &mut Diagrams,
+    id: DiagramId,
+    entry: &Entry,
+    left: &[TermId],
+    right: &[TermId],
+) -> Result<DiagramId, NoMemory>
+    requires id { IsDiagramId diagrams.old id }
+    requires test { IsDiagramId diagrams.old entry.now.test }
+    ensures atoms { IfOk result (λ new. (c : DiagramsParts) (es : List EntryParts) → KeepsFunctions c diagrams.old → IsDiagramId c entry.now.test
+        → AreAtomsOf c diagrams.old es left.now right.now id → AreAtomsOf c diagrams.new (es ++ entry.now ∷ []) left.now right.now new) }
+    ensures kept { KeepsFunctions diagrams.old diagrams.new }
+{
+    let same = has_sets(entry, left, right);
+    if same {
+        return diagrams.or(id, entry.test);
+    }
+    Ok(id)
+}
+
+// The atoms at which some entry has these sets.
+fn atoms_of(
+    diagrams: &mut Diagrams,
+    entries: &[Entry],
+    left: &[TermId],
+    right: &[TermId],
+) -> Result<DiagramId, NoMemory>
+    requires tests { (e : EntryParts) → Has entries.now e → IsDiagramId diagrams.old e.test }
+    ensures atoms { IfOk result (AreAtomsOf diagrams.old diagrams.new entries.now left.now right.now) }
+    ensures kept { KeepsFunctions diagrams.old diagrams.new }
+{
+    let mut id = diagrams.constant(false);
+    for entry in entries {
+        id = with_atoms(diagrams, id, entry, left, right)?;
+    }
+    Ok(id)
+}
+
+// Whether the pair has the sets of the entry.
+fn is_pair_of(pair: &StoredPair, entry: &Entry) -> bool
+    ensures { IsTrue result ↔ ((entry.now.left ≡ pair.now.left) × (entry.now.right ≡ pair.now.right)) }
+{
+    has_sets(entry, pair.left.as_slice(), pair.right.as_slice())
+}
+
+// Whether one of the pairs has the sets of the entry.
+fn has_pair_of(pairs: &[StoredPair], entry: &Entry) -> bool
+    ensures { IsTrue result ↔ HasPairOf pairs.now entry.now }
+{
+    for pair in pairs {
+        if is_pair_of(pair, entry) {
+            return true;
+        }
+    }
+    false
+}
+
+// The pair of the entry's sets, at all atoms at which some entry has them.
+fn merged_pair(
+    alloc: Global,
+    store: &mut Store,
+    diagrams: &mut Diagrams,
+    table: &mut TestTable,
+    entries: &[Entry],
+    entry: &Entry,
+) -> Result<StoredPair, NoMemory>
+    requires tests { (e : EntryParts) → Has entries.now e → IsDiagramId diagrams.old e.test }
+    requires table { AreTestsFor store.old diagrams.old table.old.tests.entries }
+    ensures left { IfOk result (λ p. p.left ≡ entry.now.left) }
+    ensures right { IfOk result (λ p. p.right ≡ entry.now.right) }
+    ensures pair { IfOk result (IsMergedPair store.new diagrams.old entries.now) }
+    ensures table { OnOk result (AreTestsFor store.new diagrams.new table.new.tests.entries) }
+    ensures grows { Grows store.old store.new }
+    ensures kept { KeepsFunctions diagrams.old diagrams.new }
+{
+    let left = entry.left.as_slice();
+    let right = entry.right.as_slice();
+    let atoms = atoms_of(diagrams, entries, left, right)?;
+    let test = table.test_of(store, diagrams, atoms)?;
+    Ok(StoredPair {
+        left: Items::of(Vec::from_slice(alloc, left)?),
+        right: Items::of(Vec::from_slice(alloc, right)?),
+        test: Some(test),
+    })
+}
+
+/// The pairs of the entries, each once, at all atoms at which it was reached. Fails only when out of memory; it may leave
+/// further nodes and diagrams.
+pub(crate) fn merged_pairs(
+    alloc: Global,
+    store: &mut Store,
+    diagrams: &mut Diagrams,
+    entries: &[Entry],
+) -> Result<Vec<StoredPair>, NoMemory>
+    requires tests { (e : EntryParts) → Has entries.now e → IsDiagramId diagrams.old e.test }
+    ensures merged { IfOk result (λ v. AreMergedIds store.new diagrams.old entries.now v.items) }
+    ensures grows { Grows store.old store.new }
+{
+    let mut table = TestTable::new(alloc);
+    let mut pairs = Vec::new(alloc);
+    for entry in entries {
+        if !has_pair_of(&pairs, entry) {
+            let pair = merged_pair(alloc, store, diagrams, &mut table, entries, entry)?;
+            pairs.push(pair)?;
+        }
+    }
+    Ok(pairs)
+}

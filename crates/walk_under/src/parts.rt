@@ -1,0 +1,259 @@
+//! The parts of a region at each of which an action leads to the same terms.
+ghost use Rattle.std.specs.Prelude.{◌≡◌, ◌⊎◌, ◌++◌, ◌∷◌, [], ℕ, List, IfOk, OnOk, IsTrue, IsFalse};
+ghost use Rattle.std.specs.List.Sorted.{IsPermutation};
+ghost use Rattle.kat_model.specs.Members.{Has};
+ghost use Rattle.kat_model.specs.Steps.{Atom};
+ghost use Rattle.test_diagrams.specs.Functions.{value_of, IsDiagramId, IsAtomOf, KeepsFunctions};
+ghost use Rattle.walk_pairs.specs.Items.{chosen, AreItems};
+ghost use Rattle.walk_pairs.specs.Outputs.{IsSomewhereTrue};
+ghost use Rattle.walk_pairs.specs.declared.items.Item.{Item as Item'};
+ghost use Rattle.walk_pairs.specs.declared.items.Side.TheVariants.{Left as OnLeft, Right as OnRight};
+ghost use Rattle.walk_under.specs.Working.Reaching.{IsPartOf};
+ghost use Rattle.walk_under.specs.Working.Parts.{with_if, IsRegionWhere, IsPart, AreParts, HavePartIds, HasPartAt, IsCase, TellsApart};
+
+use kat_model::NoMemory;
+use std::alloc::Global;
+use term_store::TermId;
+use test_diagrams::{DiagramId, Diagrams};
+use walk_pairs::{Item, and_not};
+
+/// Some atoms, and the terms to which an action leads from each of them on the left and on the right, in ascending order.
+#[derive(Drop)]
+pub(crate) struct Part {
+    pub region: DiagramId,
+    pub left: Vec<TermId>,
+    pub right: Vec<TermId>,
+}
+
+// The atoms of the region at which the guard has the value.
+fn region_where(
+    diagrams: &mut Diagrams,
+    region: DiagramId,
+    guard: DiagramId,
+    value: bool,
+) -> Result<DiagramId, NoMemory>
+    requires region { IsDiagramId diagrams.old region }
+    requires guard { IsDiagramId diagrams.old guard }
+    ensures told { IfOk result (IsRegionWhere diagrams.old diagrams.new region guard value) }
+    ensures kept { OnOk result (KeepsFunctions diagrams.old diagrams.new) }
+{
+    if value {
+        return diagrams.and(region, guard);
+    }
+    and_not(diagrams, region, guard)
+}
+
+// The terms, and the target where the value is true.
+fn with_target(
+    alloc: Global,
+    terms: &[TermId],
+    target: TermId,
+    value: bool,
+) -> Result<Vec<TermId>, NoMemory>
+    ensures { IfOk result (λ v. v.items ≡ with_if value terms.now target) }
+{
+    let mut list = Vec::from_slice(alloc, terms)?;
+    if value {
+        list.push(target)?;
+        return Ok(list);
+    }
+    Ok(list)
+}
+
+// The atoms of the part at which the guards of the item have these values.
+fn part_where(
+    alloc: Global,
+    diagrams: &mut Diagrams,
+    part: &Part,
+    item: &Item,
+    left: bool,
+    right: bool,
+) -> Result<Part, NoMemory>
+    requires region { IsDiagramId diagrams.old part.now.region }
+    requires left { IsDiagramId diagrams.old item.now.left }
+    requires right { IsDiagramId diagrams.old item.now.right }
+    ensures part { IfOk result (λ p. (items : List Item') (whole : ℕ) → IsPart diagrams.old items whole part.now → IsPart diagrams.new (items ++ item.now ∷ []) whole p) }
+    ensures id { IfOk result (λ p. IsDiagramId diagrams.new p.region) }
+    ensures there { IfOk result (λ p. (atom : Atom) → IsAtomOf diagrams.new atom → IsCase diagrams.old part.now item.now left right atom → IsTrue (value_of diagrams.new p.region atom)) }
+    ensures kept { OnOk result (KeepsFunctions diagrams.old diagrams.new) }
+{
+    let beside = region_where(diagrams, part.region, item.left, left)?;
+    let region = region_where(diagrams, beside, item.right, right)?;
+    Ok(Part {
+        region,
+        left: with_target(alloc, &part.left, item.target, left)?,
+        right: with_target(alloc, &part.right, item.target, right)?,
+    })
+}
+
+// Adds the atoms of the part at which the guards of the item have these values, where there are some.
+fn add_case(
+    alloc: Global,
+    diagrams: &mut Diagrams,
+    parts: &mut Vec<Part>,
+    part: &Part,
+    item: &Item,
+    left: bool,
+    right: bool,
+) -> Result<(), NoMemory>
+    requires region { IsDiagramId diagrams.old part.now.region }
+    requires left { IsDiagramId diagrams.old item.now.left }
+    requires right { IsDiagramId diagrams.old item.now.right }
+    requires ids { HavePartIds diagrams.old parts.old.items }
+    ensures parts { OnOk result ((items : List Item') (whole : ℕ) → IsPart diagrams.old items whole part.now
+        → AreParts diagrams.old (items ++ item.now ∷ []) whole parts.old.items → AreParts diagrams.new (items ++ item.now ∷ []) whole parts.new.items) }
+    ensures ids { OnOk result (HavePartIds diagrams.new parts.new.items) }
+    ensures covers { OnOk result ((atom : Atom) → IsAtomOf diagrams.new atom
+        → HasPartAt diagrams.old parts.old.items atom ⊎ IsCase diagrams.old part.now item.now left right atom → HasPartAt diagrams.new parts.new.items atom) }
+    ensures kept { OnOk result (KeepsFunctions diagrams.old diagrams.new) }
+{
+    let case = part_where(alloc, diagrams, part, item, left, right)?;
+    if case.region == diagrams.constant(false) {
+        return Ok(());
+    }
+    parts.push(case)?;
+    Ok(())
+}
+
+// Adds the parts of the part by the guards of the item, of which the left one has this value.
+fn add_cases(
+    alloc: Global,
+    diagrams: &mut Diagrams,
+    parts: &mut Vec<Part>,
+    part: &Part,
+    item: &Item,
+    left: bool,
+) -> Result<(), NoMemory>
+    requires region { IsDiagramId diagrams.old part.now.region }
+    requires left { IsDiagramId diagrams.old item.now.left }
+    requires right { IsDiagramId diagrams.old item.now.right }
+    requires ids { HavePartIds diagrams.old parts.old.items }
+    ensures parts { OnOk result ((items : List Item') (whole : ℕ) → IsPart diagrams.old items whole part.now
+        → AreParts diagrams.old (items ++ item.now ∷ []) whole parts.old.items → AreParts diagrams.new (items ++ item.now ∷ []) whole parts.new.items) }
+    ensures ids { OnOk result (HavePartIds diagrams.new parts.new.items) }
+    ensures covers { OnOk result ((atom : Atom) → IsAtomOf diagrams.new atom
+        → HasPartAt diagrams.old parts.old.items atom ⊎ (IsTrue (value_of diagrams.old part.now.region atom) × (value_of diagrams.old item.now.left atom ≡ left)) → HasPartAt diagrams.new parts.new.items atom) }
+    ensures kept { OnOk result (KeepsFunctions diagrams.old diagrams.new) }
+{
+    add_case(alloc, diagrams, parts, part, item, left, false)?;
+    add_case(alloc, diagrams, parts, part, item, left, true)
+}
+
+// Adds the parts of the part by the guards of the item.
+fn split_part(
+    alloc: Global,
+    diagrams: &mut Diagrams,
+    parts: &mut Vec<Part>,
+    part: &Part,
+    item: &Item,
+) -> Result<(), NoMemory>
+    requires region { IsDiagramId diagrams.old part.now.region }
+    requires left { IsDiagramId diagrams.old item.now.left }
+    requires right { IsDiagramId diagrams.old item.now.right }
+    requires ids { HavePartIds diagrams.old parts.old.items }
+    ensures parts { OnOk result ((items : List Item') (whole : ℕ) → IsPart diagrams.old items whole part.now
+        → AreParts diagrams.old (items ++ item.now ∷ []) whole parts.old.items → AreParts diagrams.new (items ++ item.now ∷ []) whole parts.new.items) }
+    ensures ids { OnOk result (HavePartIds diagrams.new parts.new.items) }
+    ensures covers { OnOk result ((atom : Atom) → IsAtomOf diagrams.new atom
+        → HasPartAt diagrams.old parts.old.items atom ⊎ IsTrue (value_of diagrams.old part.now.region atom) → HasPartAt diagrams.new parts.new.items atom) }
+    ensures kept { OnOk result (KeepsFunctions diagrams.old diagrams.new) }
+{
+    add_cases(alloc, diagrams, parts, part, item, false)?;
+    add_cases(alloc, diagrams, parts, part, item, true)
+}
+
+// The parts of all parts by the guards of the item.
+fn split_parts(
+    alloc: Global,
+    diagrams: &mut Diagrams,
+    parts: &[Part],
+    item: &Item,
+) -> Result<Vec<Part>, NoMemory>
+    requires left { IsDiagramId diagrams.old item.now.left }
+    requires right { IsDiagramId diagrams.old item.now.right }
+    requires ids { HavePartIds diagrams.old parts.now }
+    ensures parts { IfOk result (λ v. (items : List Item') (whole : ℕ) → AreParts diagrams.old items whole parts.now → AreParts diagrams.new (items ++ item.now ∷ []) whole v.items) }
+    ensures ids { IfOk result (λ v. HavePartIds diagrams.new v.items) }
+    ensures covers { IfOk result (λ v. (atom : Atom) → IsAtomOf diagrams.new atom → HasPartAt diagrams.old parts.now atom → HasPartAt diagrams.new v.items atom) }
+    ensures kept { OnOk result (KeepsFunctions diagrams.old diagrams.new) }
+{
+    let mut list = Vec::new(alloc);
+    for part in parts {
+        split_part(alloc, diagrams, &mut list, part, item)?;
+    }
+    Ok(list)
+}
+
+// Those with small sets first: their pairs join larger sets, and not the other way round.
+fn order_parts(parts: &mut Vec<Part>) -> Result<(), NoMemory>
+    ensures { IsPermutation parts.old.items parts.new.items }
+{
+    parts.sort_by_key(|part| part.left.len().saturating_add(part.right.len()))?;
+    Ok(())
+}
+
+/// The parts of the region, which is not empty, by the terms to which the items lead. No part is empty. Those with small sets come first.
+pub(crate) fn parts_of(
+    alloc: Global,
+    diagrams: &mut Diagrams,
+    items: &[Item],
+    region: DiagramId,
+) -> Result<Vec<Part>, NoMemory>
+    requires items { AreItems diagrams.old items.now }
+    requires region { IsDiagramId diagrams.old region }
+    requires somewhere { IsSomewhereTrue diagrams.old region }
+    ensures parts { IfOk result (λ v. AreParts diagrams.new items.now region v.items) }
+    ensures covers { IfOk result (λ v. (atom : Atom) → IsAtomOf diagrams.new atom → IsTrue (value_of diagrams.new region atom) → HasPartAt diagrams.new v.items atom) }
+    ensures kept { OnOk result (KeepsFunctions diagrams.old diagrams.new) }
+{
+    let whole = Part {
+        region,
+        left: Vec::new(alloc),
+        right: Vec::new(alloc),
+    };
+    let mut parts = Vec::new(alloc);
+    parts.push(whole)?;
+    for item in items {
+        parts = split_parts(alloc, diagrams, &parts, item)?;
+    }
+    order_parts(&mut parts)?;
+    Ok(parts)
+}
+
+// The atoms of the diagram, and those at which the guards of the item differ.
+fn with_difference(
+    diagrams: &mut Diagrams,
+    id: DiagramId,
+    item: &Item,
+) -> Result<DiagramId, NoMemory>
+    requires id { IsDiagramId diagrams.old id }
+    requires left { IsDiagramId diagrams.old item.now.left }
+    requires right { IsDiagramId diagrams.old item.now.right }
+    ensures told { IfOk result (TellsApart diagrams.old diagrams.new id item.now) }
+    ensures kept { OnOk result (KeepsFunctions diagrams.old diagrams.new) }
+{
+    let only_left = and_not(diagrams, item.left, item.right)?;
+    let only_right = and_not(diagrams, item.right, item.left)?;
+    let apart = diagrams.or(only_left, only_right)?;
+    diagrams.or(id, apart)
+}
+
+/// The atoms of the region at which the items do not lead to the same terms on both sides.
+pub(crate) fn differing_part(
+    diagrams: &mut Diagrams,
+    items: &[Item],
+    region: DiagramId,
+) -> Result<DiagramId, NoMemory>
+    requires items { AreItems diagrams.old items.now }
+    requires region { IsDiagramId diagrams.old region }
+    ensures part { IfOk result (IsPartOf diagrams.new region) }
+    ensures alike { IfOk result (λ id. (atom : Atom) → IsAtomOf diagrams.new atom → IsTrue (value_of diagrams.new region atom) → IsFalse (value_of diagrams.new id atom)
+        → chosen diagrams.new OnLeft items.now atom ≡ chosen diagrams.new OnRight items.now atom) }
+    ensures kept { OnOk result (KeepsFunctions diagrams.old diagrams.new) }
+{
+    let mut apart = diagrams.constant(false);
+    for item in items {
+        apart = with_difference(diagrams, apart, item)?;
+    }
+    diagrams.and(region, apart)
+}

@@ -1,0 +1,439 @@
+//! The walk over pairs under tests.
+ghost use Rattle.std.specs.Prelude.{◌≡◌, ◌<◌, ◌+◌, ◌^◌, ℕ, List, map, length, slice_get, All, Some, MatchOption, IfOk, OnOk, IsTrue};
+ghost use Rattle.kat_model.specs.Trees.{Term};
+ghost use Rattle.kat_model.specs.Members.{Has};
+ghost use Rattle.kat_model.specs.Problems.{ProblemParts};
+ghost use Rattle.kat_model.specs.Degrees.{with_hyps, AreSplit};
+ghost use Rattle.certificate.specs.Decisions.{IsShortest};
+ghost use Rattle.term_nodes.specs.NodeLists.{NodeParts};
+ghost use Rattle.term_nodes.specs.NodeTrees.{tree_at};
+ghost use Rattle.term_nodes.specs.Growth.{Grows};
+ghost use Rattle.partial_derivs.specs.Moves.{IsTermOf};
+ghost use Rattle.test_diagrams.specs.Functions.{value_of, IsDiagramId, IsAtomOf, KeepsFunctions};
+ghost use Rattle.walk_under.specs.Working.Entries.{EntryParts};
+ghost use Rattle.walk_under.specs.Working.Listings.{IsNextPart, IsLevelAtom, IsPlaceWith};
+ghost use Rattle.walk_under.specs.Working.Merging.{AreMergedIds};
+ghost use Rattle.walk_under.specs.Working.Walking.{Setting, about, first_ids, new_ids, AreClosedIds, IsUnderWay, IsAtStride, IsOpenAt, IsVisited, AreNextItems, IsTaking, IsTurn, HasStepped, IsDifference, TellApart, AcceptAlike};
+
+use crate::allowed::AllowedMoves;
+use crate::entry::{Entry, Origin};
+use crate::listing::{Listing, Sides, fresh_part, level_atoms, place_with};
+use crate::merging::merged_pairs;
+use crate::parts::{Part, differing_part, parts_of};
+use kat_model::{Items, NoMemory};
+use partial_derivs::{Derivatives, Steps};
+use std::alloc::Global;
+use std::mem;
+use string_tables::{GString, Move};
+use term_store::{Store, TermId};
+use test_diagrams::{DiagramId, Diagrams};
+use walk_pairs::{ClosedIds, Item, StoredPair, actions_in_order, differing_atom, items_of};
+
+/// What a walk keeps: the listed pairs, the allowed moves, and the derivatives of terms with their diagrams.
+#[derive(Drop)]
+pub(crate) struct Walk {
+    listing: Listing,
+    moves: AllowedMoves,
+    diagrams: Diagrams,
+    derivatives: Derivatives,
+}
+
+/// The step by the action from these atoms of the listed pair at this place, to which so many moves lead.
+#[derive(Clone, Copy, Debug)]
+pub(crate) struct Stride {
+    pub place: usize,
+    pub level: usize,
+    pub test: DiagramId,
+    pub act: usize,
+}
+
+/// The listed pair that is taken: its place, how many moves lead to it, and the atoms at which as many moves reached its
+/// sets.
+#[derive(Clone, Copy, Debug)]
+pub(crate) struct Turn {
+    pub place: usize,
+    pub level: usize,
+    pub test: DiagramId,
+}
+
+/// An atom of the listed pair at this place at which just one of its sets accepts.
+#[derive(Drop)]
+pub(crate) struct Difference {
+    pub place: usize,
+    pub atom: Vec<bool>,
+}
+
+/// The steps of both sets of a pair.
+#[derive(Drop)]
+pub(crate) struct BothSteps {
+    pub left: Steps,
+    pub right: Steps,
+}
+
+// The pair of the closed sides, at the atoms of the test.
+fn first_entry(alloc: Global, sides: &ClosedIds, test: DiagramId) -> Result<Entry, NoMemory>
+    ensures { IfOk result (λ e. e ≡ first_ids sides.now test) }
+{
+    let left = vec![in alloc; sides.left]?;
+    let right = vec![in alloc; sides.right]?;
+    Ok(Entry {
+        left: Items::of(left),
+        right: Items::of(right),
+        test,
+        level: 0,
+        origin: None,
+    })
+}
+
+// The pair of the part, at the atoms of the test.
+fn entry_of(alloc: Global, stride: &Stride, part: &Part, test: DiagramId) -> Result<Entry, NoMemory>
+    requires { stride.now.level + 1 < 2 ^ 64 }
+    ensures { IfOk result (λ e. e ≡ new_ids stride.now part.now test) }
+{
+    let origin = Origin {
+        place: stride.place,
+        act: stride.act,
+        region: part.region,
+    };
+    let left = Vec::from_slice(alloc, &part.left)?;
+    let right = Vec::from_slice(alloc, &part.right)?;
+    Ok(Entry {
+        left: Items::of(left),
+        right: Items::of(right),
+        test,
+        level: stride.level + 1,
+        origin: Some(origin),
+    })
+}
+
+impl Walk {
+    /// A walk that has listed the pair of the closed sides at all allowed atoms. Fails only when out of memory; it may leave
+    /// further nodes.
+    pub(crate) fn new(
+        alloc: Global,
+        store: &mut Store,
+        tests: usize,
+        actions: usize,
+        shorts: &[TermId],
+        sides: &ClosedIds,
+    ) -> Result<Walk, NoMemory>
+        requires terms { All (IsTermOf store.old tests) shorts.now }
+        ensures under_way { IfOk result (λ w. (q : ProblemParts) → tests ≡ q.tests → actions ≡ q.actions → AreClosedIds q store.old sides.now
+            → IsUnderWay (about (map (tree_at store.old) shorts.now) q store.new) w 0) }
+        ensures kept { Grows store.old store.new }
+    {
+        let mut diagrams = Diagrams::new(alloc, tests)?;
+        let mut derivatives = Derivatives::new(alloc);
+        let moves = AllowedMoves::of_hyps(
+            alloc,
+            store,
+            &mut diagrams,
+            &mut derivatives,
+            shorts,
+            actions,
+        )?;
+        let entry = first_entry(alloc, sides, moves.allowed())?;
+        let mut entries = Vec::new(alloc);
+        entries.push(entry)?;
+        let listing = Listing {
+            entries,
+            universal: sides.universal,
+            count: store.count(),
+        };
+        Ok(Walk {
+            listing,
+            moves,
+            diagrams,
+            derivatives,
+        })
+    }
+
+    // The atoms to which the step leads from the part, and at which the listed pairs do not join its sets.
+    fn open_atoms(
+        &mut self,
+        alloc: Global,
+        stride: &Stride,
+        part: &Part,
+    ) -> Result<DiagramId, NoMemory>
+        requires { (s : Setting) × (from : EntryParts) × IsAtStride s self.old stride.now from × IsNextPart s.store self.old.diagrams from stride.now.test stride.now.act part.now }
+        ensures { IfOk result (λ id. (s : Setting) (from : EntryParts) → IsAtStride s self.old stride.now from
+            → IsNextPart s.store self.old.diagrams from stride.now.test stride.now.act part.now → IsOpenAt s self.old self.new stride.now from part.now id) }
+    {
+        let image = self
+            .moves
+            .image(&mut self.diagrams, part.region, stride.act)?;
+        let entries = &self.listing.entries;
+        let fresh = fresh_part(&mut self.diagrams, entries, &part.left, &part.right, image)?;
+        let sides = Sides {
+            left: &part.left,
+            right: &part.right,
+            open_left: &part.left,
+            open_right: &part.right,
+        };
+        self.listing
+            .open_part(alloc, &mut self.diagrams, &sides, fresh)
+    }
+
+    // Lists the pair of the part at the atoms to which the step leads from it, as far as the listed pairs do not join it.
+    fn visit_part(&mut self, alloc: Global, stride: &Stride, part: &Part) -> Result<(), NoMemory>
+        requires level { stride.now.level + 1 < 2 ^ 64 }
+        requires stands { (s : Setting) × (from : EntryParts) × IsAtStride s self.old stride.now from × IsNextPart s.store self.old.diagrams from stride.now.test stride.now.act part.now }
+        ensures { OnOk result ((s : Setting) (from : EntryParts) → IsAtStride s self.old stride.now from
+            → IsNextPart s.store self.old.diagrams from stride.now.test stride.now.act part.now → IsVisited s self.old self.new stride.now from (λ atom. IsTrue (value_of self.old.diagrams part.now.region atom))) }
+    {
+        let test = self.open_atoms(alloc, stride, part)?;
+        if test == self.diagrams.constant(false) {
+            return Ok(());
+        }
+        let entry = entry_of(alloc, stride, part, test)?;
+        self.listing.entries.push(entry)?;
+        Ok(())
+    }
+
+    // Lists pairs until behind the allowed moves of the step the next sets are joined.
+    fn visit(&mut self, alloc: Global, stride: &Stride, items: &[Item]) -> Result<(), NoMemory>
+        requires level { stride.now.level + 1 < 2 ^ 64 }
+        requires stands { (s : Setting) × (from : EntryParts) × IsAtStride s self.old stride.now from × AreNextItems s self.old stride.now from items.now }
+        ensures { OnOk result ((s : Setting) (from : EntryParts) → IsAtStride s self.old stride.now from
+            → AreNextItems s self.old stride.now from items.now → IsVisited s self.old self.new stride.now from (λ atom. IsTrue (value_of self.old.diagrams stride.now.test atom))) }
+    {
+        let region = differing_part(&mut self.diagrams, items, stride.test)?;
+        if region == self.diagrams.constant(false) {
+            return Ok(());
+        }
+        let parts = parts_of(alloc, &mut self.diagrams, items, region)?;
+        for part in &parts {
+            self.visit_part(alloc, stride, part)?;
+        }
+        Ok(())
+    }
+
+    // The pair at the place, with all atoms at which as many moves reached its sets.
+    fn turn_at(&mut self, place: usize) -> Result<Turn, NoMemory>
+        requires place { place < length self.old.listing.entries.items }
+        requires tests { (e : EntryParts) → Has self.old.listing.entries.items e → IsDiagramId self.old.diagrams e.test }
+        ensures place { IfOk result (λ t. t.place ≡ place) }
+        ensures turn { IfOk result (λ t. (e : EntryParts) → slice_get self.old.listing.entries.items place ≡ Some e → IsTurn self.new t e) }
+        ensures listing { self.new.listing ≡ self.old.listing }
+        ensures moves { self.new.moves ≡ self.old.moves }
+        ensures derivatives { self.new.derivatives ≡ self.old.derivatives }
+        ensures kept { OnOk result (KeepsFunctions self.old.diagrams self.new.diagrams) }
+    {
+        let entry = &self.listing.entries[place];
+        let test = level_atoms(&mut self.diagrams, &self.listing.entries, entry)?;
+        Ok(Turn {
+            place,
+            level: entry.level,
+            test,
+        })
+    }
+
+    // The steps of both sets of the pair at the place.
+    fn steps_at(
+        &mut self,
+        alloc: Global,
+        store: &mut Store,
+        place: usize,
+    ) -> Result<BothSteps, NoMemory>
+        requires under_way { (shorts : List Term) × (q : ProblemParts) × IsUnderWay (about shorts q store.old) self.old place }
+        requires place { place < length self.old.listing.entries.items }
+        ensures steps { IfOk result (λ steps. (shorts : List Term) (q : ProblemParts) (e : EntryParts) → IsUnderWay (about shorts q store.old) self.old place
+            → slice_get self.old.listing.entries.items place ≡ Some e → IsTaking (about shorts q store.new) self.new place e steps) }
+        ensures entries { self.new.listing.entries.items ≡ self.old.listing.entries.items }
+        ensures kept { Grows store.old store.new }
+    {
+        let entry = &self.listing.entries[place];
+        let left = self
+            .derivatives
+            .step(alloc, store, &mut self.diagrams, entry.left.as_slice())?;
+        let right = self
+            .derivatives
+            .step(alloc, store, &mut self.diagrams, entry.right.as_slice())?;
+        self.listing.count = store.count();
+        Ok(BothSteps { left, right })
+    }
+
+    // The atoms at which the pair at the place was reached.
+    fn test_at(&self, place: usize) -> DiagramId
+        requires { place < length self.now.listing.entries.items }
+        ensures { (e : EntryParts) → slice_get self.now.listing.entries.items place ≡ Some e → result ≡ e.test }
+    {
+        let entry = &self.listing.entries[place];
+        entry.test
+    }
+
+    // An atom of the test at which just one of the steps accepts, where there is one.
+    fn difference(
+        &mut self,
+        alloc: Global,
+        test: DiagramId,
+        steps: &BothSteps,
+    ) -> Result<Option<Vec<bool>>, NoMemory>
+        requires test { IsDiagramId self.old.diagrams test }
+        requires left { IsDiagramId self.old.diagrams steps.now.left.accepts }
+        requires right { IsDiagramId self.old.diagrams steps.now.right.accepts }
+        ensures found { IfOk result (λ found. MatchOption found (AcceptAlike self.old.diagrams test steps.now) (λ atom. TellApart self.old.diagrams test steps.now atom.items)) }
+        ensures listing { self.new.listing ≡ self.old.listing }
+        ensures moves { self.new.moves ≡ self.old.moves }
+        ensures derivatives { self.new.derivatives ≡ self.old.derivatives }
+        ensures kept { OnOk result (KeepsFunctions self.old.diagrams self.new.diagrams) }
+    {
+        let left = self.diagrams.and(test, steps.left.accepts)?;
+        let right = self.diagrams.and(test, steps.right.accepts)?;
+        if left == right {
+            return Ok(None);
+        }
+        let atom = differing_atom(alloc, &mut self.diagrams, left, right)?;
+        Ok(Some(atom))
+    }
+
+    // Lists pairs until, behind the allowed moves by each action from the atoms of the pair, its next sets are joined.
+    fn expand(
+        &mut self,
+        alloc: Global,
+        turn: &Turn,
+        actions: usize,
+        steps: &BothSteps,
+    ) -> Result<(), NoMemory>
+        requires level { turn.now.level + 1 < 2 ^ 64 }
+        requires taking { (s : Setting) × (from : EntryParts) × IsTaking s self.old turn.now.place from steps.now × IsTurn self.old turn.now from × (actions ≡ s.problem.actions) }
+        ensures { OnOk result ((s : Setting) (from : EntryParts) → IsTaking s self.old turn.now.place from steps.now → IsTurn self.old turn.now from → actions ≡ s.problem.actions
+            → (acts : List ℕ) × ((a : ℕ) → a < actions → Has acts a) × HasStepped s self.old self.new turn.now from acts) }
+    {
+        let left = &steps.left.moves;
+        let right = &steps.right.moves;
+        for act in &actions_in_order(alloc, left, right, actions)? {
+            let items = items_of(alloc, &self.diagrams, left, right, *act)?;
+            let stride = Stride {
+                place: turn.place,
+                level: turn.level,
+                test: turn.test,
+                act: *act,
+            };
+            self.visit(alloc, &stride, &items)?;
+        }
+        Ok(())
+    }
+
+    // Takes the pair at the place. Answers an atom of its test at which just one of its sets accepts, where there is one.
+    fn take(
+        &mut self,
+        alloc: Global,
+        store: &mut Store,
+        actions: usize,
+        place: usize,
+    ) -> Result<Option<Vec<bool>>, NoMemory>
+        requires under_way { (shorts : List Term) × (q : ProblemParts) × IsUnderWay (about shorts q store.old) self.old place × (actions ≡ q.actions) }
+        requires place { place < length self.old.listing.entries.items }
+        requires small { place + 1 < 2 ^ 64 }
+        ensures taken { IfOk result (λ found. (shorts : List Term) (q : ProblemParts) → actions ≡ q.actions → IsUnderWay (about shorts q store.old) self.old place →
+            MatchOption found (IsUnderWay (about shorts q store.new) self.new (place + 1))
+            (λ atom. IsUnderWay (about shorts q store.new) self.new place × IsDifference (about shorts q store.new) self.new place atom.items)) }
+        ensures kept { Grows store.old store.new }
+    {
+        let steps = self.steps_at(alloc, store, place)?;
+        let test = self.test_at(place);
+        if let Some(atom) = self.difference(alloc, test, &steps)? {
+            return Ok(Some(atom));
+        }
+        let turn = self.turn_at(place)?;
+        self.expand(alloc, &turn, actions, &steps)?;
+        Ok(None)
+    }
+
+    /// Takes the listed pairs in order, those that are listed meanwhile among them. Answers the first difference, or none
+    /// where the pairs are a bisimulation under tests.
+    pub(crate) fn run(
+        &mut self,
+        alloc: Global,
+        store: &mut Store,
+        actions: usize,
+    ) -> Result<Option<Difference>, NoMemory>
+        requires { (shorts : List Term) × (q : ProblemParts) × IsUnderWay (about shorts q store.old) self.old 0 × (actions ≡ q.actions) }
+        ensures answer { IfOk result (λ found. (shorts : List Term) (q : ProblemParts) → actions ≡ q.actions → IsUnderWay (about shorts q store.old) self.old 0 →
+            MatchOption found (IsUnderWay (about shorts q store.new) self.new (length self.new.listing.entries.items))
+            (λ d. IsUnderWay (about shorts q store.new) self.new d.place × IsDifference (about shorts q store.new) self.new d.place d.atom.items)) }
+        ensures kept { Grows store.old store.new }
+    {
+        let mut place = 0;
+        while place < self.listing.entries.len() {
+            if let Some(atom) = self.take(alloc, store, actions, place)? {
+                return Ok(Some(Difference { place, atom }));
+            }
+            place += 1;
+        }
+        Ok(None)
+    }
+
+    // The step that led to the pair at the place, unless it is the first.
+    fn origin_at(&self, place: usize) -> Option<Origin>
+        requires { place < length self.now.listing.entries.items }
+        ensures { (e : EntryParts) → slice_get self.now.listing.entries.items place ≡ Some e → result ≡ e.origin }
+    {
+        let entry = &self.listing.entries[place];
+        entry.origin
+    }
+
+    // The place of a pair with the sets and the level of that at this place, which was reached at the atom. There is one.
+    fn place_at(&self, place: usize, atom: &[bool]) -> usize
+        requires place { place < length self.now.listing.entries.items }
+        requires tests { (e : EntryParts) → Has self.now.listing.entries.items e → IsDiagramId self.now.diagrams e.test }
+        requires atom { IsAtomOf self.now.diagrams atom.now }
+        requires listed { (e : EntryParts) → slice_get self.now.listing.entries.items place ≡ Some e → IsLevelAtom self.now.diagrams self.now.listing.entries.items e atom.now }
+        ensures { (e : EntryParts) → slice_get self.now.listing.entries.items place ≡ Some e → IsPlaceWith self.now.diagrams self.now.listing.entries.items e atom.now result }
+    {
+        let pair = &self.listing.entries[place];
+        place_with(&self.diagrams, &self.listing.entries, pair, atom)
+    }
+
+    /// The string of the steps that lead to the pair at the place, with the atom at which it does not accept alike at its end.
+    pub(crate) fn string_to(
+        &mut self,
+        alloc: Global,
+        place: usize,
+        last: Vec<bool>,
+    ) -> Result<GString, NoMemory>
+        requires { (s : Setting) × IsUnderWay s self.old place × IsDifference s self.old place last.items }
+        ensures { IfOk result (λ x. (whole : ProblemParts) (shorts longs : List Term) (store : NodeParts) → AreSplit whole.hyps shorts longs
+            → IsUnderWay (about shorts (with_hyps whole longs) store) self.old place → IsDifference (about shorts (with_hyps whole longs) store) self.old place last.items → IsShortest whole x) }
+    {
+        let mut place = place;
+        let mut first = last;
+        let mut moves = Vec::new(alloc);
+        while let Some(origin) = self.origin_at(place) {
+            let after = first.as_slice();
+            let before = self.moves.source(
+                alloc,
+                &mut self.diagrams,
+                origin.region,
+                origin.act,
+                after,
+            )?;
+            let atom = Items::of(mem::replace(&mut first, before));
+            moves.push(Move {
+                act: origin.act,
+                atom,
+            })?;
+            place = self.place_at(origin.place, first.as_slice());
+        }
+        moves.reverse();
+        Ok(GString {
+            first: Items::of(first),
+            rest: Items::of(moves),
+        })
+    }
+
+    /// The listed pairs, each once, at all atoms at which it was reached. Fails only when out of memory; it may leave
+    /// further nodes.
+    pub(crate) fn merge(
+        &mut self,
+        alloc: Global,
+        store: &mut Store,
+    ) -> Result<Vec<StoredPair>, NoMemory>
+        requires { (s : Setting) × IsUnderWay s self.old (length self.old.listing.entries.items) }
+        ensures merged { IfOk result (λ v. AreMergedIds store.new self.old.diagrams self.old.listing.entries.items v.items) }
+        ensures kept { Grows store.old store.new }
+    {
+        merged_pairs(alloc, store, &mut self.diagrams, &self.listing.entries)
+    }
+}
