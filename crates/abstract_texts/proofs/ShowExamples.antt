@@ -30,7 +30,7 @@ wrap_around w = record {
   width = W64;
 }
 
--- what is printed of it, where this is the name of its variable
+-- the printed text, where x is the name of its variable
 abbrev text_with : List ℕ → List ℕ
 text_with x =
     codes "# t0 is " ++ (x ++ (codes " == 0\n# t1 is " ++ (x ++ (codes " + 1 == 0\ntest t0, t1;\n"

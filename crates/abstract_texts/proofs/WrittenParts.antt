@@ -1,4 +1,4 @@
--- What is written is the text, part by part.
+-- The functions write the text, part by part.
 use Rattle.std.proofs.Common.{◌≡◌, ◌≤◌, ℕ, List, [], ◌∷◌, ◌++◌, length, None, Bool, Option, Some, refl, sym, ap, ◌∙◌, append_assoc}
 use Rattle.std.proofs.lemmas.List.{append-nil, nil_from_length}
 use Rattle.std.specs.Prelude.{codes, flat_map}
@@ -31,7 +31,7 @@ module _ (w : ScopeParts) (tests actions : ℕ) (few : tests ≤ 48) (small : ac
       ∙ append_assoc old comment (hyp_text plain_name e ++ rest)
       ∙ ap (λ (l : List ℕ). old ++ l) (sym (append_assoc comment (hyp_text plain_name e) rest))
 
-  -- one hypothesis more is written
+  -- one step of writing hypotheses
   pub hyp_written : (before : Option Rule) (rule : Rule) (all rules : List Rule) (e : Term) (terms es : List Term) (new : Bool) (start old marked written : List ℕ)
       → all ≡ rule ∷ rules → terms ≡ e ∷ es → AreInRange tests actions terms → new ≡ is_new before rule → marked ≡ old ++ rule_comment new rule → written ≡ marked ++ hyp_text (name_of w) e
       → old ++ hyps_text before (zip all terms) ≡ start
@@ -44,7 +44,7 @@ zip-nothing : {K X : Type 0} (ks : List K) → zip {K = K} {X = X} ks [] ≡ []
 zip-nothing [] = refl
 zip-nothing (k ∷ ks) = refl
 
--- all hypotheses are written where no rule is left, or no term
+-- all hypotheses are written when no rule is left, or no term
 pub no_rule_left : (before : Option Rule) (all : List Rule) (terms : List Term) (start out : List ℕ) → length all ≡ 0 → out ++ hyps_text before (zip all terms) ≡ start → out ≡ start
 no_rule_left before all terms start out none so_far =
     sym (append-nil out) ∙ ap (λ (rs : List Rule). out ++ hyps_text before (zip rs terms)) (sym (nil_from_length all none)) ∙ so_far
@@ -53,7 +53,7 @@ pub no_term_left : (before : Option Rule) (all : List Rule) (terms : List Term) 
 no_term_left before all terms start out none so_far =
     sym (append-nil out) ∙ ap (λ (ps : List (Rule × Term)). out ++ hyps_text before ps) (sym (zip-nothing all)) ∙ ap (λ (es : List Term). out ++ hyps_text before (zip all es)) (sym none) ∙ so_far
 
--- the whole
+-- the whole text is written
 pub shown_written : (w plain : ScopeParts) (p : ProblemParts) (tests : List TestRow) (actions : List ActionRow) (rules : List Rule) (t u t' u' : ℕ) (left right : Term) (a b c d e f g : List ℕ)
     → IsProblem p → IsPlain plain t u → t ≡ p.tests → u ≡ p.actions → t' ≡ p.tests → u' ≡ p.actions → left ≡ p.left → right ≡ p.right
     → a ≡ [] → b ≡ a ++ flat_map (test_comment (name_of w)) (enumerate_from 0 tests) → c ≡ b ++ tests_text t'

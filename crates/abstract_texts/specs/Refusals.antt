@@ -1,4 +1,4 @@
--- The lines that tell why a file has no abstraction.
+-- The lines that report why a file has no abstraction.
 use Rattle.std.specs.Prelude.{ℕ, List, ◌++◌, codes}
 use Rattle.abstraction.specs.declared.fault.AbstractFault.{AbstractFault}
 use Rattle.abstraction.specs.declared.fault.AbstractFault.TheVariants.{NoMemory, TooManyTests, TooManyActions, ProblemTooLarge}

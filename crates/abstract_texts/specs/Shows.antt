@@ -1,5 +1,5 @@
--- The text of an abstraction: its problem as terms over plain names, and in comments what its tests, actions and
--- hypotheses stand for.
+-- The text of an abstraction: its problem as terms over plain names, and the meanings of its tests, actions and
+-- hypotheses in comments.
 use Rattle.std.specs.Prelude.{ℕ, List, [], ◌∷◌, ◌++◌, codes, Bool, true, false, ◌&&◌, not, nat_eq, if◌then◌else◌, flat_map, Option, Some, None}
 use Rattle.std.specs.List.{zip, enumerate_from}
 use Rattle.std.specs.Fmt.{decimal}
@@ -22,15 +22,15 @@ use Rattle.abstraction.specs.declared.rows.Rule.TheVariants.{Stated, Assign, F1,
 
 -- ---- forms
 
--- a coefficient before what it multiplies; 1 is not written
+-- a coefficient before its monomial; 1 is not written
 abbrev pub times_text : ℕ → List ℕ
 times_text t = if nat_eq t 1 then [] else decimal t ++ codes "*"
 
--- what stands before a part of a sum, unless it is the first
+-- the text before a part of a sum, unless the part is the first
 abbrev pub plus_text : Bool → List ℕ
 plus_text first = if first then [] else codes " + "
 
--- the terms of a form and then its constant, which is left out where it is 0 and there is a term
+-- the terms of a form, then its constant, which is omitted if it is 0 and there is a term
 abbrev pub sum_text : (Meaning → List ℕ) → Bool → FormTree → List ℕ
 sum_text names first (constant c) = if not first && nat_eq c 0 then [] else plus_text first ++ decimal c
 sum_text names first (var_term k t rest) = plus_text first ++ times_text t ++ names (Var k) ++ sum_text names false rest
@@ -46,7 +46,7 @@ comparison_text names (Less f g) = form_text names f ++ codes " < " ++ form_text
 
 -- ---- comments
 
--- `# NAME is TEXT`, for what a test or an action stands for
+-- `# NAME is TEXT`, the meaning of a test or an action
 abbrev pub row_comment : Meaning → List ℕ → List ℕ
 row_comment m text = codes "# " ++ plain_name m ++ codes " is " ++ text ++ codes "\n"
 
@@ -58,11 +58,11 @@ abbrev pub action_comment : (Meaning → List ℕ) → ℕ × ActionRow → List
 action_comment names (k, action.Named n) = row_comment (Action k) (names (Action n))
 action_comment names (k, action.Assign x f) = row_comment (Action k) (names (Var x) ++ codes " := " ++ form_text names f)
 
--- a blank and the name of a test
+-- a space and the name of a test
 abbrev pub and_test : ℕ → List ℕ
 and_test k = codes " " ++ plain_name (Test k)
 
--- why a hypothesis is one
+-- the reason for a hypothesis
 abbrev pub rule_text : Rule → List ℕ
 rule_text (Stated k) = codes "stated " ++ decimal k
 rule_text (Assign i j) = codes "assign " ++ plain_name (Action i) ++ and_test j
@@ -73,7 +73,7 @@ rule_text (F4 i j) = codes "F4" ++ and_test i ++ and_test j
 rule_text (F5 i j) = codes "F5" ++ and_test i ++ and_test j
 rule_text (F6 i j k) = codes "F6" ++ and_test i ++ and_test j ++ and_test k
 
--- the comment with a rule, which stands once before the hypotheses that have it
+-- the comment with a rule, once before the hypotheses with that rule
 abbrev pub rule_comment : Bool → Rule → List ℕ
 rule_comment new rule = if new then codes "# " ++ rule_text rule ++ codes "\n" else []
 
@@ -89,12 +89,12 @@ is_same_rule (F5 i j) (F5 k l) = nat_eq i k && nat_eq j l
 is_same_rule (F6 i j n) (F6 k l m) = nat_eq i k && (nat_eq j l && nat_eq n m)
 is_same_rule _ _ = false
 
--- whether a hypothesis has another rule than the one before it, if there is one
+-- whether a hypothesis has a different rule from the one before it, if there is one
 abbrev pub is_new : Option Rule → Rule → Bool
 is_new None rule = true
 is_new (Some before) rule = not (is_same_rule before rule)
 
--- the hypotheses, each behind the comment with its rule where that is new
+-- the hypotheses, each after the comment with its rule if that rule is new
 abbrev pub hyps_text : Option Rule → List (Rule × Term) → List ℕ
 hyps_text before [] = []
 hyps_text before ((rule, e) ∷ rest) = rule_comment (is_new before rule) rule ++ hyp_text plain_name e ++ hyps_text (Some rule) rest

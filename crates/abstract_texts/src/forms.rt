@@ -1,4 +1,4 @@
-//! Forms and comparisons of forms as text.
+//! Forms and comparisons of forms, as text.
 ghost use Rattle.std.specs.Prelude.{◌≡◌, ◌++◌, OnOk};
 ghost use Rattle.linear_forms.specs.Views.{mono_tree};
 ghost use Rattle.text_print.specs.Printing.{name_of};
@@ -12,7 +12,7 @@ use std::alloc::Global;
 use text_print::put_name;
 use text_scopes::{Meaning, Scope};
 
-// What stands before a part of a sum, unless it is the first.
+// Writes the text before a part of a sum, unless the part is the first.
 fn put_plus(out: &mut Vec<u8>, first: bool) -> Result<(), NoMemory>
     ensures { OnOk result (out.new.items ≡ out.old.items ++ plus_text first) }
 {
@@ -22,7 +22,7 @@ fn put_plus(out: &mut Vec<u8>, first: bool) -> Result<(), NoMemory>
     put(out, b" + ")
 }
 
-// A coefficient other than 1.
+// Writes a coefficient other than 1.
 fn put_times(alloc: Global, out: &mut Vec<u8>, times: u64) -> Result<(), NoMemory>
     ensures { OnOk result (out.new.items ≡ out.old.items ++ times_text times) }
 {
@@ -33,7 +33,7 @@ fn put_times(alloc: Global, out: &mut Vec<u8>, times: u64) -> Result<(), NoMemor
     put(out, b"*")
 }
 
-// The constant at the end of a form.
+// Writes the constant at the end of a form.
 fn put_constant(
     alloc: Global,
     out: &mut Vec<u8>,
@@ -80,7 +80,7 @@ fn put_term(
     put_mono(alloc, out, &term.mono, scope)
 }
 
-/// The terms of a form and then its constant.
+/// Writes the terms of a form, then its constant.
 #[cycle(forms)]
 pub(crate) fn put_form(
     alloc: Global,
@@ -98,7 +98,7 @@ pub(crate) fn put_form(
     put_constant(alloc, out, first, form.constant)
 }
 
-/// That a form is 0, or that one is less than another.
+/// Writes that a form is 0, or that one form is less than another.
 pub(crate) fn put_comparison(
     alloc: Global,
     out: &mut Vec<u8>,

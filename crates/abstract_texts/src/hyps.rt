@@ -1,4 +1,4 @@
-//! Hypotheses, each behind the comment with its rule where that is new.
+//! Hypotheses, each after the comment with its rule if that rule is new.
 ghost use Rattle.std.specs.Prelude.{◌≡◌, ◌++◌, None, OnOk};
 ghost use Rattle.std.specs.List.{zip};
 ghost use Rattle.problem_texts.specs.Working.Scopes.{IsPlain};
@@ -29,7 +29,7 @@ fn put_rule(alloc: Global, out: &mut Vec<u8>, rule: Rule) -> Result<(), NoMemory
     }
 }
 
-// The rule of a hypothesis, where it is new.
+// Writes the rule of a hypothesis, if it is new.
 fn put_rule_comment(alloc: Global, out: &mut Vec<u8>, new: bool, rule: Rule) -> Result<(), NoMemory>
     ensures { OnOk result (out.new.items ≡ out.old.items ++ rule_comment new rule) }
 {
@@ -50,8 +50,8 @@ fn is_new(before: Option<Rule>, rule: Rule) -> bool
     }
 }
 
-/// The hypotheses of a problem, each behind the comment with its rule where that is new, over the plain scope of the
-/// problem.
+/// Writes the hypotheses of a problem over the plain scope of the problem, each after the comment with its rule if that
+/// rule is new.
 pub(crate) fn put_hyps(
     alloc: Global,
     out: &mut Vec<u8>,

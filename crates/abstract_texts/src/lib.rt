@@ -1,4 +1,4 @@
-//! What is printed of an abstraction: its problem as a text, and why there is none.
+//! The printed form of an abstraction: its problem as a text, or the line that reports why there is no abstraction.
 #![tactic(auto)]
 
 mod forms;

@@ -1,4 +1,4 @@
-//! Why a file has no abstraction, as a line.
+//! The line that reports why a file has no abstraction.
 ghost use Rattle.std.specs.Prelude.{◌≡◌, IfOk};
 ghost use Rattle.abstract_texts.specs.Refusals.{abstract_fault_word, abstract_fault_line};
 
@@ -18,7 +18,7 @@ fn word(fault: &AbstractFault) -> &'static str
     }
 }
 
-/// The line `refused: WORD` of why a file has no abstraction. It fails only when out of memory.
+/// Returns the line `refused: WORD`, which reports why a file has no abstraction. Fails only when out of memory.
 pub fn abstract_fault_line(alloc: Global, fault: &AbstractFault) -> Result<Vec<u8>, NoMemory>
     ensures { IfOk result (λ v. v.items ≡ abstract_fault_line fault.now) }
 {

@@ -1,4 +1,4 @@
-//! Comments on what tests and actions stand for.
+//! Comments with the meanings of tests and actions.
 ghost use Rattle.std.specs.Prelude.{◌≡◌, ◌++◌, flat_map, OnOk};
 ghost use Rattle.std.specs.List.{enumerate_from};
 ghost use Rattle.text_print.specs.Printing.{name_of};
@@ -32,7 +32,7 @@ fn put_test_comment(
     put(out, b"\n")
 }
 
-/// What each test stands for, by the names of the scope.
+/// Writes the meaning of each test, with the names of the scope.
 pub(crate) fn put_test_comments(
     alloc: Global,
     out: &mut Vec<u8>,
@@ -70,7 +70,7 @@ fn put_action_comment(
     put(out, b"\n")
 }
 
-/// What each action stands for, by the names of the scope.
+/// Writes the meaning of each action, with the names of the scope.
 pub(crate) fn put_action_comments(
     alloc: Global,
     out: &mut Vec<u8>,

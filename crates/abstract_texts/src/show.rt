@@ -10,9 +10,10 @@ use problem_file::File;
 use problem_texts::{plain_scope, put_actions, put_goal, put_tests};
 use std::alloc::Global;
 
-/// The problem of an abstraction as the text of a problem file, an item a line: comments say what each test and each
-/// action stands for, by the names of the file, and before each hypothesis, or the first of a few, why it is one. Tests are
-/// named `t0`, `t1`, .. and actions `a0`, `a1`, .. in the text. It fails only when out of memory.
+/// Returns the problem of an abstraction as the text of a problem file, one item per line. Comments give the meaning of
+/// each test and each action with the names of the file, and the reason for each hypothesis, once for adjacent
+/// hypotheses with the same reason. Tests are named `t0`, `t1`, .. and actions `a0`, `a1`, .. in the text. Fails only
+/// when out of memory.
 pub fn show_text(alloc: Global, file: &File, shown: &Abstract) -> Result<Vec<u8>, NoMemory>
     ensures { IfOk result (λ v. v.items ≡ show_text file.now.scope shown.now) }
 {

@@ -1,4 +1,4 @@
-//! Words and numbers at the end of a text.
+//! Appends words and numbers to a text.
 ghost use Rattle.std.specs.Prelude.{◌≡◌, ◌++◌, OnOk};
 ghost use Rattle.std.specs.Fmt.{decimal};
 

@@ -1,4 +1,4 @@
--- Where the sides of an abstraction are the same, the goal of a concrete file holds of its stores.
+-- If the sides of an abstraction are the same, the goal of a concrete file holds for all its stores.
 use Rattle.std.proofs.Common.{◌≡◌, ℕ, ◌+◌, ◌<◌, ⊎_elim, ◌↔◌, List, [], ◌++◌, length, refl, sym, ap, ◌∙◌, subst, arith, slice_get, Option, Some, None, Ok}
 use Rattle.std.proofs.lemmas.Bool.{cases_Bool}
 use Rattle.std.proofs.lemmas.List.{length-map}
@@ -52,7 +52,7 @@ module _ (f : FileParts) (cs : List Atomic) (xs : List Assignment) where
       let r = same s t ss st in
       ((λ g. second.1 (r.0 (first.0 g))), (λ g. first.1 (r.1 (second.0 g))))
 
-  -- a program of which no failing run relates stores meets its triple
+  -- a program whose failing runs relate no stores meets its triple
   meets_triple : (b : CondTree) (p : ProgTree) (c : CondTree) → IsGoalInRange f.tests f.actions f.vars (triple b (prog_side p) c) →
       IsSubset (goal_comparisons (modulus f.width) (triple b (prog_side p) c)) cs → IsSubset (prog_assignments (modulus f.width) p) xs →
       SameSides (triple b (prog_side p) c) → MeetsTriple f b p c
@@ -72,7 +72,7 @@ module _ (f : FileParts) (cs : List Atomic) (xs : List Assignment) where
 
 -- ---- files
 
--- an action that relates stores stands among the actions
+-- an action that relates stores is one of the actions
 acts_within : (m : ℕ) (rows : List ActionRow) (k : ℕ) (s t : Store) → Sets m (slice_get rows k) s t → k < length rows
 acts_within m rows k s t h = go (slice_get rows k) refl h
   where
@@ -80,7 +80,7 @@ acts_within m rows k s t h = go (slice_get rows k) refl h
     go (Some r) e h = slice_get_within rows k r e
     go None e h = absurd h
 
--- without stated hypotheses the stores of a file keep those of its abstraction
+-- without stated hypotheses, the stores of a file satisfy the problem of its abstraction
 stores_fit : (f : FileParts) → f.hyps ≡ [] → DerivedHold f (abstract_parts f) → FitsProblem (frame_with f (file_comparisons f) (file_assignments f)) (file_problem f)
 stores_fit f none derived = record { wide = λ s is. wide s; acts = acts; keeps = keeps }
   where

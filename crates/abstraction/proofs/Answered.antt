@@ -1,4 +1,4 @@
--- What an abstraction that is answered says of stores.
+-- The meaning of a returned abstraction over stores.
 use Rattle.std.proofs.Common.{Result, Ok, Err, IfOk}
 use Rattle.problem_file.specs.Files.{FileParts}
 use Rattle.abstraction.specs.declared.fault.AbstractFault.{AbstractFault}

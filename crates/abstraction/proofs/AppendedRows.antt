@@ -1,4 +1,5 @@
--- What rounds append: comparisons that were not appended once are not appended later, so only new ones need be substituted.
+-- The comparisons that rounds append. A comparison that was not appended once is not appended later, so only new
+-- comparisons need substitution.
 use Rattle.std.proofs.Common.{◌≡◌, ℕ, zero, suc, ◌+◌, ◌-◌, ◌<◌, ◌≤◌, Bool, true, false, not, cond, nat_lt, List, [], ◌∷◌, ◌++◌, length, take, drop, get_or, ◌⊎◌, inl, inr, ⊎_elim, refl, sym, ap, subst, ◌∙◌, arith}
 use Rattle.std.specs.List.{list_any, flat_map}
 use Rattle.std.proofs.lemmas.List.{length-append, append-nil, append_assoc, take-append-drop, drop_more, drop_all, take_at}
@@ -25,7 +26,7 @@ module _ (most : ℕ) where
   append_all-append table [] ys = refl
   append_all-append table (x ∷ xs) ys = append_all-append (cond (is_appended most table x) (table ++ x ∷ []) table) xs ys
 
-  -- why a comparison is not appended
+  -- the reasons why a comparison is not appended
   abbrev Refused : List Atomic → Atomic → Type 0
   Refused table a = (list_any (is_same_comparison a) table ≡ true) ⊎ ((nat_lt (atomic_nodes a) 1001 ≡ false) ⊎ (most ≤ length table))
 
@@ -49,12 +50,12 @@ module _ (most : ℕ) where
   refused_later table more a (inr (inl h)) = inr (inl h)
   refused_later table more a (inr (inr h)) = inr (inr (omega (arith, length-append table more)))
 
-  -- a table that is full stays
+  -- a full table does not change
   pub append_all-full : (table xs : List Atomic) → most ≤ length table → append_all most table xs ≡ table
   append_all-full table [] h = refl
   append_all-full table (x ∷ xs) h = rw (not_appended table x (inr (inr h))) (append_all-full table xs h)
 
-  -- ---- what was gone over
+  -- ---- processed comparisons
 
   abbrev pub AllRefused : List Atomic → List Atomic → Type 0
   AllRefused table [] = Unit {0}
@@ -76,7 +77,7 @@ module _ (most : ℕ) where
   all_refused_left table [] ys h = tt
   all_refused_left table (x ∷ xs) ys h = (h.0, all_refused_left table xs ys h.1)
 
-  -- refused ones change nothing
+  -- refused comparisons change nothing
   append_all-refused : (table xs ys : List Atomic) → AllRefused table xs → append_all most table (xs ++ ys) ≡ append_all most table ys
   append_all-refused table [] ys h = refl
   append_all-refused table (x ∷ xs) ys h =
@@ -94,7 +95,7 @@ module _ (most : ℕ) where
       let b = append_all-extends (cond (is_appended most table x) (table ++ x ∷ []) table) xs in
       (a.0 ++ b.0, b.1 ∙ ap (λ t. t ++ b.0) a.1 ∙ append_assoc table a.0 b.0)
 
-  -- what was gone over is refused
+  -- a comparison is refused after it was processed once
   gone_over_one : (table : List Atomic) (x : Atomic) (b : Bool) → is_appended most table x ≡ b → Refused (cond b (table ++ x ∷ []) table) x
   gone_over_one table x true h = inl (list_any-last (is_same_comparison x) table x (is_same_comparison-same x))
   gone_over_one table x false h = refused table x h
@@ -109,7 +110,7 @@ module _ (most : ℕ) where
   -- ---- rounds
 
   module _ (m : ℕ) (assigned : List Assignment) where
-    -- a round goes over the comparisons that were not gone over
+    -- a round needs to process only the comparisons that were not processed before
     only_new : (bs : List Assignment) (table old new : List Atomic) → AllRefused table (substitutions m bs old) → append_all most table (substitutions m bs (old ++ new)) ≡ append_all most table (substitutions m bs new)
     only_new [] table old new h = refl
     only_new (a ∷ bs) table old new h =
@@ -126,19 +127,19 @@ module _ (most : ℕ) where
         ∙ only_new bs next old new later
         ∙ sym (append_all-append table (flat_map g new) (substitutions m bs new))
 
-    -- where so many comparisons were gone over, a round goes over the others
+    -- if the first `done` comparisons were processed, a round processes the others
     pub round-rest : (table : List Atomic) (done : ℕ) → AllRefused table (substitutions m assigned (take done table)) → round m most assigned table ≡ append_all most table (substitutions m assigned (drop done table))
     round-rest table done h =
         ap (λ t. append_all most table (substitutions m assigned t)) (sym (take-append-drop done table)) ∙ only_new assigned table (take done table) (drop done table) h
 
-    -- and then all were gone over
+    -- after a round, all comparisons from before it were processed
     pub round_refused : (table new : List Atomic) → new ≡ round m most assigned table → AllRefused new (substitutions m assigned (take (length table) new))
     round_refused table new e =
         let grown = append_all-extends table (substitutions m assigned table) in
         let front : take (length table) new ≡ table = ap (take (length table)) (e ∙ grown.1) ∙ take_at table grown.0 (length table) refl in
         rw (front) (subst (λ t. AllRefused t (substitutions m assigned table)) (sym e) (gone_over table (substitutions m assigned table)))
 
-    -- a table that a round leaves as it is stays in all rounds
+    -- a table that one round does not change is unchanged after all rounds
     stays : (n : ℕ) (table : List Atomic) → round m most assigned table ≡ table → rounds n m most assigned table ≡ table
     stays zero table h = refl
     stays (suc n) table h = rw (h) (stays n table h)
@@ -154,12 +155,12 @@ module _ (most : ℕ) where
     rounds-gone_over n table done le h =
         stays n table (round-rest table done h ∙ ap (λ t. append_all most table (substitutions m assigned t)) (drop_all done table le) ∙ ap (append_all most table) (nothing_left assigned))
 
-    -- no comparison is gone over at first
+    -- at the start, no comparison was processed
     pub none_gone_over : (bs : List Assignment) (table : List Atomic) → AllRefused table (substitutions m bs [])
     none_gone_over [] table = tt
     none_gone_over (a ∷ bs) table = none_gone_over bs table
 
-    -- what a loop over the assignments makes of a table
+    -- one step of a loop over the assignments
     pub substitutions_go_on : (bs : List Assignment) (fresh : List Atomic) (i : ℕ) (a : Assignment) → i < length bs → a ≡ get_or bs i a → (rows new : List Atomic) →
         new ≡ append_all most rows (flat_map (λ phi. atomics (substituted m a.var a.form phi)) fresh) →
         append_all most new (substitutions m (drop (i + 1) bs) fresh) ≡ append_all most rows (substitutions m (drop i bs) fresh)
@@ -168,7 +169,7 @@ module _ (most : ℕ) where
         let left : drop i bs ≡ a ∷ drop (i + 1) bs = drop_more bs i a lt ∙ ap (λ y. y ∷ drop (i + 1) bs) (sym e) in
         rw (f, left) (sym (append_all-append rows (flat_map g fresh) (substitutions m (drop (i + 1) bs) fresh)))
 
-    -- what a loop of rounds makes of a table
+    -- one step of a loop of rounds
     pub rounds_go_on : (count i done : ℕ) (first rows fresh new : List Atomic) → i < count → fresh ≡ drop done rows → AllRefused rows (substitutions m assigned (take done rows)) →
         new ≡ append_all most rows (substitutions m assigned fresh) → rounds (count - i) m most assigned rows ≡ rounds count m most assigned first →
         (length rows ≤ length new) × AllRefused new (substitutions m assigned (take (length rows) new)) × (rounds (count - (i + 1)) m most assigned new ≡ rounds count m most assigned first)
@@ -183,7 +184,7 @@ module _ (most : ℕ) where
     rounds_end count i done first rows (inl le) h goes = sym (rounds-gone_over (count - i) rows done le h) ∙ goes
     rounds_end count i done first rows (inr le) h goes = sym (rounds-full (count - i) rows le) ∙ goes
 
--- a table that has room has no more than it may have
+-- a table within its limit stays within it
 module _ (most : ℕ) where
   one_more : (table : List Atomic) (x : Atomic) (b : Bool) → is_appended most table x ≡ b → length table ≤ most → length (cond b (table ++ x ∷ []) table) ≤ most
   one_more table x true e le =

@@ -1,4 +1,4 @@
--- What assignments make of comparisons relates no store to any, where actions set variables.
+-- The hypotheses from assignments and comparisons relate no stores, if actions set variables.
 use Rattle.std.proofs.Common.{◌≡◌, ◌<◌, ℕ, [], ◌∷◌, length, set, All, Option, Some, None, refl, sym, ap, ◌∙◌}
 use Rattle.std.proofs.lemmas.Bool.{not-true, both_ways}
 use Rattle.std.proofs.lemmas.List.Elements.{All-nil, All-cons}
@@ -21,7 +21,7 @@ use Rattle.abstraction.proofs.RelatesNothing.{around_action}
 use Rattle.abstraction.proofs.TestRows.{IsTestRow, holds_at, fails_at, form_test_holds}
 use Rattle.abstraction.proofs.FactsHold.{HoldsIn}
 
--- a row of assignments: the action with its number sets the variable, which each state has, to the value of the form
+-- a row of an assignment: the action with its number sets the variable, which each state has, to the value of the form
 pub record IsActionRow (m : ℕ) (frame : Frame Store) (row : ActionRowOf) : Type 0 where
   pub sets : (s t : Store) → frame.IsState s → frame.Acts row.0 s t → (row.1.var < length s) × (t ≡ set s row.1.var (form_value m s row.1.form))
 
@@ -33,13 +33,13 @@ module _ (frame : Frame Store) (t : Tables) (rows : All (IsTestRow (modulus t.wi
     abbrev before : CondForm
     before = substituted m a.var a.form phi
 
-    -- the comparison holds after the assignment exactly where the substituted one holds before it
+    -- the comparison holds after the assignment exactly when the substituted one holds before it
     kept : (s u : Store) → frame.IsState s → frame.Acts i s u → cond_form_holds m s before ≡ atomic_holds m u phi
     kept s u state acts =
         let step = p.sets s u state acts in
         substituted_holds m s a.var a.form phi (modulus_above_one t.width) step.0 ∙ ap (λ x. atomic_holds m x phi) (sym step.1)
 
-    -- the two hypotheses: no run from psi ends outside, and none from outside psi ends inside
+    -- the two hypotheses: no run from psi ends outside the test, and no run from the complement of psi ends in it
     abbrev ends_outside : TestTree → Hypothesis
     ends_outside psi = record { rule = Assign i j; term = product (test psi) (product (act i) (test (complement (prim j)))) }
 

@@ -11,7 +11,7 @@ module _ {X : Type 0} (n : ℕ) (same : X → X → Bool) where
   with_all_new_within-append xs [] zs = refl
   with_all_new_within-append xs (y ∷ ys) zs = with_all_new_within-append (with_new_within n same xs y) ys zs
 
-  -- a table with too many rows stays
+  -- a table with too many rows does not change
   pub with_new_within-over : (xs : List X) (x : X) → n < length xs → with_new_within n same xs x ≡ xs
   with_new_within-over xs x h = rw (lt-ltb n (length xs) h) refl
 
@@ -19,7 +19,7 @@ module _ {X : Type 0} (n : ℕ) (same : X → X → Bool) where
   with_all_new_within-over xs [] h = refl
   with_all_new_within-over xs (y ∷ ys) h = rw (with_new_within-over xs y h) (with_all_new_within-over xs ys h)
 
-  -- a table that has room has all rows
+  -- a table within the limit has all rows
   capped-within : (xs ys : List X) → length (with_all_new_within n same xs ys) ≤ n → with_all_new_within n same xs ys ≡ with_all_new same xs ys
   capped-within xs [] h = refl
   capped-within xs (y ∷ ys) h =
@@ -37,7 +37,7 @@ module _ {X : Type 0} (n : ℕ) (same : X → X → Bool) where
       by_there true h = h
       by_there false h = omega (arith, length-append xs (y ∷ []))
 
-  -- and one that has none would have too many
+  -- if the capped table exceeds the limit, so does the table of all rows
   capped-over : (xs ys : List X) → n < length (with_all_new_within n same xs ys) → n < length (with_all_new same xs ys)
   capped-over xs [] h = h
   capped-over xs (y ∷ ys) h =
@@ -53,7 +53,7 @@ module _ {X : Type 0} (n : ℕ) (same : X → X → Bool) where
   pub too_many_rows : (rows new : List X) → new ≡ with_all_new_within n same [] rows → n < length new → n < length (with_all_new same [] rows)
   too_many_rows rows new e lt = capped-over [] rows (omega (arith, ap length e))
 
--- the table of some rows has some
+-- the table of a nonempty list of rows is nonempty
 pub first_rows_some : {X : Type 0} (same : X → X → Bool) (rows : List X) → 0 < length rows → 0 < length (with_all_new same [] rows)
 first_rows_some same [] h = absurd (omega arith)
 first_rows_some same (y ∷ ys) h = omega (arith, grows 0 same (y ∷ []) ys)

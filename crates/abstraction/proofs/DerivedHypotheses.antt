@@ -25,7 +25,7 @@ use Rattle.abstraction.proofs.FactsHold.{HoldsIn, fact_one_holds, fact_two_holds
 use Rattle.abstraction.proofs.AssignmentFacts.{IsActionRow, assignment_facts_hold}
 use Rattle.abstraction.proofs.StoreRows.{are_test_rows, are_action_rows}
 
--- in a frame whose tests are the truth of comparisons, and whose actions are assignments
+-- for a frame whose tests are the truth of comparisons, and whose actions are assignments
 module _ (frame : Frame Store) (t : Tables) (tests : All (IsTestRow (modulus t.width) frame.atom) (test_rows t)) (actions : All (IsActionRow (modulus t.width) frame) (action_rows t)) where
   abbrev m : ℕ
   m = modulus t.width
@@ -72,7 +72,7 @@ length-stated_from : (k : ℕ) (hs : List Term) → length (stated_from k hs) �
 length-stated_from k [] = refl
 length-stated_from k (h ∷ hs) = ap suc (length-stated_from (k + 1) hs)
 
--- the terms of hypotheses after the stated ones are those of the derived ones
+-- the terms after the stated hypotheses are the terms of the derived ones
 module _ (P : Term → Type 0) (t : Tables) (stated : List Term) where
   past_stated : (k : ℕ) (h : Term) → length stated ≤ k → All (λ hyp. P hyp.term) (derived t) → slice_get (map (λ hyp. hyp.term) (hypotheses t stated)) k ≡ Some h → P h
   past_stated k h past all e =
@@ -81,7 +81,7 @@ module _ (P : Term → Type 0) (t : Tables) (stated : List Term) where
       (All-map P (λ hyp. hyp.term) (derived t) all)
       (ap (λ xs. slice_get xs k) (sym (map-append (λ hyp. hyp.term) (stated_from 0 stated) (derived t))) ∙ e)
 
--- an abstraction, where there is one, is that of the file
+-- an abstraction, if there is one, is the abstraction of the file
 module _ {X Y : Type 0} (x y : X) (a b c : Y) where
   past_refusals : (p q r : Bool) → (if p then Err a else if q then Err b else if r then Err c else Ok x) ≡ Ok y → x ≡ y
   past_refusals true q r e = absurd cc

@@ -1,4 +1,4 @@
--- What holds of each element of lists that are made of others.
+-- Properties of each element of lists that are built from other lists.
 use Rattle.std.proofs.Common.{◌≡◌, ℕ, zero, suc, ◌≤◌, List, [], ◌∷◌, ◌++◌, length, flat_map, get_or, slice_get, All, Bool, true, false, if◌then◌else◌, Some, subst, arith}
 use Rattle.std.specs.List.{list_any}
 use Rattle.std.proofs.lemmas.List.Elements.{All-nil, All-head, All-tail, All-append, All-push, All-get_or, All-weaker}
@@ -19,7 +19,7 @@ module _ {X : Type 0} (P : X → Type 0) where
   pub All-slice_get : (xs : List X) (k : ℕ) (x : X) → All P xs → slice_get xs k ≡ Some x → P x
   All-slice_get xs k x all e = subst P (get_or_from_slice_get xs k x x e) (All-get_or P xs k x (slice_get_within xs k x e) all)
 
-  -- an element after the first list is one of the second
+  -- an element past the first list is an element of the second
   pub All-slice_get_past : (xs ys : List X) (k : ℕ) (x : X) → length xs ≤ k → All P ys → slice_get (xs ++ ys) k ≡ Some x → P x
   All-slice_get_past [] ys k x past all e = All-slice_get ys k x all e
   All-slice_get_past (y ∷ xs) ys zero x past all e = absurd (omega arith)
@@ -37,7 +37,7 @@ module _ {X : Type 0} (P : X → Type 0) where
   All-flat_map make (y ∷ ys) all =
       All-append P (make y) (flat_map make ys) (All-head (λ z. All P (make z)) y ys all) (All-flat_map make ys (All-tail (λ z. All P (make z)) y ys all))
 
-  -- what is made of rows of two lists, of which this holds
+  -- the property holds for everything made from pairs of rows of two lists
   pub All-of_pairs : {Y Z : Type 0} (Q : Y → Type 0) (R : Z → Type 0) (make : Y → Z → List X) → ((y : Y) (z : Z) → Q y → R z → All P (make y z)) →
       (ys : List Y) (zs : List Z) → All Q ys → All R zs → All P (of_pairs make ys zs)
   All-of_pairs Q R make each ys zs all_q all_r =

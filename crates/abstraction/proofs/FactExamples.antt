@@ -1,4 +1,4 @@
--- Worked examples of derived hypotheses. The numbers are found by hand.
+-- Worked examples of derived hypotheses. The numbers were computed by hand.
 use Rattle.std.proofs.Common.{◌≡◌, ℕ, ◌^◌, List, [], ◌∷◌, ◌++◌, Ok, refl}
 use Rattle.kat_model.specs.Trees.{TestTree, bottom, top, prim, complement, Term, test, act, product}
 use Rattle.kat_model.specs.Expressions.{number, variable, plus, always, compared}
@@ -44,7 +44,7 @@ not_both i j = product (test (prim i)) (test (prim j))
 abbrev not_alone : ℕ → ℕ → Term
 not_alone i j = product (test (prim i)) (test (complement (prim j)))
 
--- x and x + 1 are not both 0; the rows are named in order, once
+-- x and x + 1 are not both 0; the rows are named in order, and only once
 differ_by_one : fact_one (2 ^ 64) (0, Zero x) (1, Zero x_and_one) ≡ because (F1 0 1) (not_both 0 1) ∷ []
 differ_by_one = refl
 
@@ -61,7 +61,7 @@ both_orders = refl
 less_and_equal : fact_three (2 ^ 64) (0, Less x y) (1, Zero x_less_y) ≡ because (F3 0 1) (not_both 0 1) ∷ []
 less_and_equal = refl
 
--- and so for y < x, whose difference has the same canonical form; here the second row has the lesser number
+-- the same for y < x, whose difference has the same canonical form; here the second row has the smaller number
 greater_and_equal : fact_three (2 ^ 64) (1, Less y x) (0, Zero x_less_y) ≡ because (F3 1 0) (not_both 1 0) ∷ []
 greater_and_equal = refl
 
@@ -79,11 +79,11 @@ three_is_below = refl
 three_is_above : fact_five (2 ^ 64) (0, Zero x_less_three) (1, Less x (constant 2)) ≡ because (F5 0 1) (not_both 0 1) ∷ []
 three_is_above = refl
 
--- of -x and x - 3 the sum is a constant, the number that stands for -3
+-- the sum of -x and x - 3 is a constant, the number that represents -3
 sum_is_constant : fact_five 256 (0, Zero (var_term 0 1 (constant 253))) (1, Less (var_term 0 255 (constant 0)) (constant 5)) ≡ because (F5 0 1) (not_both 0 1) ∷ []
 sum_is_constant = refl
 
--- where 128 x = 0 modulo 256, the form 128 x + 3 is 3 by the difference and by the sum
+-- if 128 x = 0 modulo 256, the form 128 x + 3 is 3 by the difference and by the sum
 by_both : fact_five 256 (0, Zero (var_term 0 128 (constant 0))) (1, Less (var_term 0 128 (constant 3)) (constant 5))
     ≡ because (F5 0 1) (not_alone 0 1) ∷ because (F5 0 1) (not_alone 0 1) ∷ []
 by_both = refl
@@ -92,7 +92,7 @@ one_of_three : fact_six (2 ^ 64) (0, Less x y) (1, Less y x) (2, Zero x_less_y)
     ≡ because (F6 0 1 2) (product (test (complement (prim 0))) (product (test (complement (prim 1))) (test (complement (prim 2))))) ∷ []
 one_of_three = refl
 
--- a file of one variable, with one round
+-- a file with one variable and one round
 abbrev file_with : Width → GoalTree → FileParts
 file_with w g = record {
   scope = empty_scope;
@@ -120,7 +120,7 @@ tests_of_wrap_around = refl
 abstraction_of_wrap_around : abstract_of wrap_around ≡ Ok (abstract_parts wrap_around)
 abstraction_of_wrap_around = refl
 
--- no run of action i from psi ends outside test j, and none from outside psi in it
+-- no run of action i from psi ends outside test j, and no run from outside psi ends in it
 abbrev kept : ℕ → ℕ → TestTree → List Hypothesis
 kept i j psi =
     because (Assign i j) (product (test psi) (product (act i) (test (complement (prim j)))))
@@ -129,7 +129,8 @@ kept i j psi =
 hypotheses_of_wrap_around : derived (tables_of wrap_around) ≡ kept 0 0 bottom ++ kept 0 1 top ++ kept 1 0 (prim 1) ++ because (F1 0 1) (not_both 0 1) ∷ []
 hypotheses_of_wrap_around = refl
 
--- triple {x < 255} { x := x + 1; } {x > 0} at width 8: tests x < 255 and x == 0, and by the round x + 1 < 255 and x + 1 == 0
+-- triple {x < 255} { x := x + 1; } {x > 0} at width 8: tests x < 255 and x == 0, and from the round x + 1 < 255 and
+-- x + 1 == 0
 abbrev increment : FileParts
 increment =
     file_with W8
@@ -139,7 +140,7 @@ tests_of_increment : test_rows_of (tables_of increment)
     ≡ Compare (Less x (constant 255)) ∷ Compare (Zero x) ∷ Compare (Less x_and_one (constant 255)) ∷ Compare (Zero x_and_one) ∷ []
 tests_of_increment = refl
 
--- what is 255 is not below it
+-- a value equal to 255 is not below 255
 hypotheses_of_increment : derived (tables_of increment)
     ≡ kept 0 0 (prim 2) ++ kept 0 1 (prim 3) ++ because (F1 1 3) (not_both 1 3) ∷ because (F3 0 3) (not_both 0 3)
     ∷ because (F5 1 0) (not_alone 1 0) ∷ because (F5 1 2) (not_alone 1 2) ∷ because (F5 3 0) (not_both 3 0) ∷ because (F5 3 2) (not_alone 3 2) ∷ []

@@ -1,4 +1,4 @@
--- What facts of arithmetic say of the values of forms in a store.
+-- The facts of arithmetic, as statements about the values of forms in a store.
 use Rattle.std.proofs.Common.{◌≡◌, ◌≢◌, refl, ℕ, ◌%◌, ◌<◌, true, false, ◌||◌, nat_eq, nat_lt, sym, ◌∙◌, ap, ⊎_elim, subst, mod-eq_of_lt, arith}
 use Rattle.std.proofs.lemmas.Bool.{eqb-true, eq-eqb, ltb-true, ltb-false, or_cases, both_ways}
 use Rattle.std.proofs.lemmas.Bool.Decides.{nat_tests}
@@ -22,7 +22,7 @@ module _ (m : ℕ) (s : Store) (h : 1 < m) where
   below_modulus : (f : FormTree) → form_value m s f < m
   below_modulus f = form_value_below m s f (omega (arith, h))
 
-  -- where g is 0 and the difference of f and g is a constant, f is that constant
+  -- if g is 0 and the difference of f and g is a constant, f is that constant
   pub value_by_difference : (f g : FormTree) (c : ℕ) → form_difference m f g ≡ constant c → nat_eq (form_value m s g) 0 ≡ true → form_value m s f ≡ c
   value_by_difference f g c e z =
       let zero : form_value m s g ≡ 0 = eqb-true (form_value m s g) 0 z in
@@ -49,7 +49,7 @@ module _ (m : ℕ) (s : Store) (h : 1 < m) where
   pub not_both_less : (f g : FormTree) → nat_lt (form_value m s f) (form_value m s g) ≡ true → nat_lt (form_value m s g) (form_value m s f) ≡ true → ⊥
   not_both_less f g p q = let a = ltb-true _ _ p in let b = ltb-true _ _ q in omega arith
 
-  -- the canonical difference is 0 exactly where both forms are equal
+  -- the canonical difference is 0 exactly when both forms are equal
   canonical_difference : (f g : FormTree) → nat_eq (form_value m s (canonical m (form_difference m f g))) 0 ≡ nat_eq (form_value m s f) (form_value m s g)
   canonical_difference f g = zero-canonical m s (form_difference m f g) h ∙ zero-form_difference m s f g h
 
@@ -63,7 +63,7 @@ module _ (m : ℕ) (s : Store) (h : 1 < m) where
       let b = ltb-false _ _ q in
       both_ways _ (sym (canonical_difference f g) ∙ r) (eq-eqb (form_value m s f) (form_value m s g) (omega arith))
 
-  -- constants are their values
+  -- the value of a constant is the constant
   less_constants : (f g : FormTree) → IsForm m f → IsForm m g → are_less f g ≡ true → form_value m s f < form_value m s g
   less_constants (constant c) (constant d) p q e = rw (mod-eq_of_lt {n = c} {m = m} p, mod-eq_of_lt {n = d} {m = m} q) (ltb-true c d e)
   less_constants (constant c) (var_term k t rest) p q e = absurd cc
@@ -79,6 +79,6 @@ module _ (m : ℕ) (s : Store) (h : 1 < m) where
       let j = ltb-false _ _ b in
       omega arith
 
-  -- a form with a known value against a constant
+  -- a form with a known value, compared with a constant
   pub less_than_constant : (f : FormTree) (c d : ℕ) → form_value m s f ≡ c → d < m → nat_lt (form_value m s f) (form_value m s (constant d)) ≡ nat_lt c d
   less_than_constant f c d e l = rw (e, mod-eq_of_lt {n = d} {m = m} l) refl

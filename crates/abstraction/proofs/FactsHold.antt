@@ -1,4 +1,4 @@
--- Facts of arithmetic relate no store to any, where tests are the truth of comparisons.
+-- Facts of arithmetic relate no stores, if tests are the truth of comparisons.
 use Rattle.std.proofs.Common.{◌≡◌, ℕ, ◌<◌, [], All, Bool, true, false, ◌&&◌, ◌||◌, nat_eq, nat_lt, if◌then◌else◌, refl, sym, ap, ap₂, ◌∙◌}
 use Rattle.std.proofs.lemmas.Bool.{and_parts, both_ways}
 use Rattle.std.proofs.lemmas.List.Elements.{All-nil, All-cons, All-append}
@@ -20,7 +20,7 @@ use Rattle.abstraction.proofs.TestRows.{IsTestRow, holds_at, fails_at}
 use Rattle.abstraction.proofs.RelatesNothing.{RelatesNone, two_tests, three_tests}
 use Rattle.abstraction.proofs.FactValues.{value_by_difference, value_by_sum, not_both_zero, not_both_less, not_less_and_equal, one_of_three, less_than_greater, less_than_constant}
 
--- the hypothesis relates no store to any
+-- the hypothesis relates no states
 abbrev pub HoldsIn : Frame Store → Hypothesis → Type 0
 HoldsIn frame hyp = RelatesNone frame hyp.term
 
@@ -81,7 +81,7 @@ module _ (m : ℕ) (h : 1 < m) (frame : Frame Store) where
   fact_four_holds (i, Less f c) (j, Zero z) p q = none
   fact_four_holds (i, Zero z) b p q = none
 
-  -- where z is 0 and then f is c, z decides whether f < d
+  -- if z = 0 implies f = c, then z = 0 decides whether f < d
   module _ (i j : ℕ) (z f : FormTree) where
     decided : (c d : ℕ) → IsRow (i, Zero z) → IsRow (j, Less f (constant d)) → ((s : Store) → nat_eq (form_value m s z) 0 ≡ true → form_value m s f ≡ c)
         → (b : Bool) → nat_lt c d ≡ b → RelatesNone frame (if b then implies i j else excludes i j)

@@ -11,7 +11,7 @@ use Rattle.abstraction.specs.Tables.{is_same_comparison, is_same_assignment, wit
 use Rattle.abstraction.specs.Rounds.{is_appended, append_all, substitutions, round, rounds, file_comparisons}
 use Rattle.abstraction.proofs.SameRows.{is_same_comparison-true, is_same_assignment-true}
 
--- what a list has, it has with one more at its end or none
+-- a list keeps its members when an element may be appended
 append_if_keeps : {X : Type 0} (b : Bool) (xs : List X) (y x : X) → Has xs x → Has (if b then xs ++ y ∷ [] else xs) x
 append_if_keeps true xs y x h = has_left xs (y ∷ []) x h
 append_if_keeps false xs y x h = h

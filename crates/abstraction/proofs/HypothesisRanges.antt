@@ -1,4 +1,4 @@
--- The hypotheses have their numbers below those of the rows.
+-- The hypotheses use only the numbers of the rows.
 use Rattle.std.proofs.Common.{ℕ, ◌+◌, ◌<◌, ◌≤◌, Bool, true, false, cond, nat_lt, List, [], ◌∷◌, ◌++◌, length, map, Option, Some, None, arith}
 use Rattle.std.specs.List.{flat_map, enumerate_from}
 use Rattle.kat_model.specs.Trees.{TestTree, Term}
@@ -15,7 +15,7 @@ use Rattle.abstraction.specs.Facts.{Hypothesis, TestRowOf, fact_if, fact_one, fa
 use Rattle.abstraction.specs.Derived.{ActionRowOf, stated_from, keeps_before, assignment_facts, test_rows, action_rows, of_pairs, derived, hypotheses}
 use Rattle.abstraction.proofs.TestRanges.{IsInRange-more, OptionInRange, all_tests, all_actions, form_test_in}
 
--- all members of a list
+-- the property holds for all members of a list
 abbrev pub AllOf : {X : Type 0} → (X → Type 0) → List X → Type 0
 AllOf P [] = Unit {0}
 AllOf P (x ∷ xs) = P x × AllOf P xs
@@ -41,7 +41,7 @@ module _ (t a : ℕ) where
       AllOf P xs → AllOf Q ys → AreHypsInRange (of_pairs make xs ys)
   pairs_in P Q make each xs ys p q = flat_map_in P (λ x. flat_map (make x) ys) (λ x px. flat_map_in Q (make x) (λ y qy. each x y px qy) ys q) xs p
 
-  -- a row with its number below
+  -- a row whose number is below the bound
   abbrev TestBelow : TestRowOf → Type 0
   TestBelow r = r.0 < t
 

@@ -1,4 +1,4 @@
--- The derived hypotheses, one sort after the other.
+-- The derived hypotheses, kind by kind.
 use Rattle.std.proofs.Common.{◌≡◌, ℕ, List, ◌++◌, append_assoc, ◌∙◌}
 use Rattle.std.specs.List.{flat_map}
 use Rattle.kat_model.specs.Stores.{modulus}

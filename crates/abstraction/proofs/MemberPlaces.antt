@@ -1,4 +1,4 @@
--- The place at which a member of a list is found, by a test that tells which are equal.
+-- The position at which a test of equality finds a member of a list.
 use Rattle.std.proofs.Common.{◌≡◌, ℕ, ◌<◌, ⊎_elim, List, [], ◌∷◌, length, refl, sym, ap, subst, arith, Bool, true, false, nat_lt, slice_get, Some}
 use Rattle.std.specs.List.{position, position_or_len}
 use Rattle.std.proofs.lemmas.Bool.{both_ways}
@@ -20,7 +20,7 @@ module _ {X : Type 0} (same : X → X → Bool) (is : (x y : X) → same x y ≡
           (λ m. let l = later m in rw (e, one-add (position_or_len (same x) xs)) (omega (arith, l.0), l.1))
           h
 
-  -- a member stands where the first that is the same does
+  -- the test finds a position for each member, and the list has the member at this position
   pub position_of_member : (xs : List X) (x : X) → Has xs x → (k : ℕ) × (position (same x) xs ≡ Some k) × (slice_get xs k ≡ Some x)
   position_of_member xs x h =
       let p = first_place xs x h in

@@ -1,4 +1,4 @@
--- Rows with their numbers, one more at the end.
+-- Rows with their numbers, and an additional row at the end.
 use Rattle.std.proofs.Common.{◌≡◌, ℕ, ◌+◌, ◌<◌, List, [], ◌∷◌, ◌++◌, length, take, map, get_or, sym, ap, ◌∙◌, arith}
 use Rattle.std.proofs.lemmas.List.{take_more, map_more, length-map, length-take-le}
 use Rattle.std.specs.List.{enumerate_from}
@@ -21,7 +21,7 @@ stated_from-push n (g ∷ hs) h =
     let first : Hypothesis = record { rule = Stated n; term = g } in
     ap (λ l. first ∷ l) (stated_from-push (n + 1) hs h ∙ ap (λ k. stated_from (n + 1) hs ++ record { rule = Stated k; term = h } ∷ []) e)
 
--- what loops over a list make
+-- one step of a loop that numbers a list
 pub enumerate_from-more : {X : Type 0} (n : ℕ) (xs : List X) (i : ℕ) (x : X) → i < length xs → x ≡ get_or xs i x → enumerate_from n (take i xs) ++ (n + i, x) ∷ [] ≡ enumerate_from n (take (i + 1) xs)
 enumerate_from-more n xs i x lt e =
     let len : length (take i xs) ≡ i = length-take-le i xs (omega arith) in

@@ -1,5 +1,5 @@
--- Where no hypothesis relates two states of a frame, the sides of a problem that are the same in each table relate the
--- same states of the frame: the positions of a path are the states of a table.
+-- If no hypothesis relates two states of a frame, sides of a problem that are the same in each table relate the same
+-- states of the frame: the positions of a path are the states of a table.
 use Rattle.std.proofs.Common.{◌≡◌, ℕ, zero, suc, ◌+◌, ◌<◌, ◌≤◌, inl, inr, ⊎_elim, ◌↔◌, List, [], ◌∷◌, length, map, refl, sym, ap, ◌∙◌, subst, arith}
 use Rattle.std.specs.Bool.{IsTrue}
 use Rattle.std.proofs.lemmas.List.{length-map}
@@ -11,7 +11,7 @@ use Rattle.kat_model.specs.Relations.{Frame, Along, RelatesIn, Step, Table, atom
 use Rattle.kat_model.specs.Strings.{accepts, Hop, IsPath, spelled}
 use Rattle.kat_model.proofs.Paths.{relates_spelled, spelled_relates}
 
--- ---- what maps states to states
+-- ---- maps of states
 
 along_mapped : {S T : Type 0} (f : S → T) (IsS : S → Type 0) (IsT : T → Type 0) (Q : S → S → Type 0) (R : T → T → Type 0) →
     ((i : S) → IsS i → IsT (f i)) → ((i j : S) → IsS i → IsS j → Q i j → R (f i) (f j)) →
@@ -20,7 +20,7 @@ along_mapped f IsS IsT Q R states each [] i j si h = ap f h
 along_mapped f IsS IsT Q R states each (k ∷ ks) i j si h =
     (states k h.0, each i k si h.0 h.1, along_mapped f IsS IsT Q R states each ks k j h.0 h.2)
 
--- what a term relates in one frame, it relates in another to which the first is mapped
+-- if a term relates two states in one frame, it relates their images in another frame
 module _ {S T : Type 0} (first : Frame S) (second : Frame T) (f : S → T)
     (states : (i : S) → first.IsState i → second.IsState (f i))
     (atoms : (i : S) → first.IsState i → first.atom i ≡ second.atom (f i))
@@ -48,7 +48,7 @@ abbrev moves_from : {S : Type 0} → ℕ → List (Hop S) → List Step
 moves_from k [] = []
 moves_from k (h ∷ hops) = record { from = k; act = h.act; to = suc k } ∷ moves_from (suc k) hops
 
--- the path by positions, from position k on
+-- the path over positions, from position k on
 abbrev numbered_from : {S : Type 0} → ℕ → List (Hop S) → List (Hop ℕ)
 numbered_from k [] = []
 numbered_from k (h ∷ hops) = record { act = h.act; to = suc k } ∷ numbered_from (suc k) hops
@@ -65,12 +65,12 @@ record IsMoveAlong {S : Type 0} (frame : Frame S) (k : ℕ) (i : S) (hops : List
   acts : frame.Acts m.act (state_at i hops position) (state_at i hops (suc position))
 
 module _ {S : Type 0} (frame : Frame S) where
-  -- the last position is that of the last state
+  -- the state at the last position is the last state
   state_at_end : (i j : S) (hops : List (Hop S)) → IsPath frame i hops j → state_at i hops (length hops) ≡ j
   state_at_end i j [] p = p
   state_at_end i j (h ∷ hops) p = state_at_end h.to j hops p.2
 
-  -- each position is that of a state, and the table has its truths
+  -- the state at each position is a state of the frame, and its truth values are those of the table
   is_state_at : (i j : S) (hops : List (Hop S)) (k : ℕ) → frame.IsState i → IsPath frame i hops j → frame.IsState (state_at i hops k)
   is_state_at i j hops zero s p = s
   is_state_at i j [] (suc k) s p = s
@@ -102,7 +102,7 @@ module _ {S : Type 0} (frame : Frame S) where
         acts = later.acts;
       }
 
-  -- the positions from k on are a path of a table that has the moves from there
+  -- the positions from k on are a path of any table that has the moves from there
   numbered_is_path : (t : Table) (k : ℕ) (hops : List (Hop S)) → k + length hops < t.states → ((m : Step) → Has (moves_from k hops) m → Has t.moves m) →
       IsPath (frame_of t) k (numbered_from k hops) (k + length hops)
   numbered_is_path t k [] lt has = omega arith
@@ -111,7 +111,7 @@ module _ {S : Type 0} (frame : Frame S) where
       let rest = numbered_is_path t (suc k) hops (omega arith) (λ m l. has m (inr l)) in
       (omega arith, has (record { from = k; act = h.act; to = suc k }) (inl refl), subst (λ n. IsPath (frame_of t) (suc k) (numbered_from (suc k) hops) n) next rest)
 
-  -- it spells what the path spells, where it has the truths
+  -- it spells the same string as the path, if the truth values are equal
   numbered_spelled : (t : Table) (k : ℕ) (i : S) (hops : List (Hop S)) → ((d : ℕ) → d ≤ length hops → atom_at t (k + d) ≡ frame.atom (state_at i hops d)) →
       spelled (frame_of t) (numbered_from k hops) ≡ spelled frame hops
   numbered_spelled t k i [] truths = refl
@@ -120,7 +120,7 @@ module _ {S : Type 0} (frame : Frame S) where
       let rest = numbered_spelled t (suc k) h.to hops (λ d le. ap (atom_at t) (omega arith) ∙ truths (suc d) (omega arith)) in
       rw (first, rest) refl
 
-  -- a term that accepts what a path spells relates the ends of its table
+  -- a term that accepts the string of a path relates the ends of its table
   ends_related : (e : Term) (i : S) (hops : List (Hop S)) → IsTrue (accepts e (frame.atom i) (spelled frame hops)) → Relates (path_table frame i hops) e 0 (length hops)
   ends_related e i hops h =
       let t = path_table frame i hops in
@@ -130,7 +130,7 @@ module _ {S : Type 0} (frame : Frame S) where
       let ends = subst (λ n. IsPath (frame_of t) 0 (numbered_from 0 hops) n) last path in
       spelled_relates (frame_of t) e 0 (length hops) (numbered_from 0 hops) (omega arith) ends (rw spells h)
 
-  -- what relates two positions relates their states
+  -- if a term relates two positions, it relates their states
   positions_related : (e : Term) (i j : S) (hops : List (Hop S)) → frame.IsState i → IsPath frame i hops j → (k l : ℕ) → k < suc (length hops) → l < suc (length hops) →
       Relates (path_table frame i hops) e k l → RelatesIn frame e (state_at i hops k) (state_at i hops l)
   positions_related e i j hops s p =
@@ -145,14 +145,14 @@ module _ {S : Type 0} (frame : Frame S) where
 
 -- ---- problems in frames
 
--- the frame has the tests and actions of the problem, and keeps its hypotheses
+-- the frame has the tests and actions of the problem, and satisfies its hypotheses
 pub record FitsProblem {S : Type 0} (frame : Frame S) (q : ProblemParts) : Type 0 where
   pub wide : (s : S) → frame.IsState s → length (frame.atom s) ≡ q.tests
   pub acts : (a : ℕ) (s t : S) → frame.Acts a s t → a < q.actions
   pub keeps : (h : Term) → Has q.hyps h → (s t : S) → frame.IsState s → frame.IsState t → RelatesIn frame h s t → ⊥
 
 module _ {S : Type 0} (frame : Frame S) (q : ProblemParts) (fits : FitsProblem frame q) where
-  -- the table of a path is one of the problem, and keeps its hypotheses
+  -- the table of a path is a table of the problem, and satisfies its hypotheses
   path_is_table : (i j : S) (hops : List (Hop S)) → frame.IsState i → IsPath frame i hops j → IsTable q.tests q.actions (path_table frame i hops)
   path_is_table i j hops s p =
       record {
@@ -171,7 +171,7 @@ module _ {S : Type 0} (frame : Frame S) (q : ProblemParts) (fits : FitsProblem f
       fits.keeps h has (state_at i hops k) (state_at i hops l) (is_state_at frame i j hops k s p) (is_state_at frame i j hops l s p)
       (positions_related frame h i j hops s p k l lt_k lt_l r)
 
-  -- where the second term relates what the first does in each table that keeps the hypotheses, it does in the frame
+  -- if the second term includes the first in each table that satisfies the hypotheses, it includes it in the frame
   relates_as_in_tables : (d e : Term) → ((t : Table) → IsTable q.tests q.actions t → Keeps t q.hyps → (k l : ℕ) → k < t.states → l < t.states → Relates t d k l → Relates t e k l) →
       (s t : S) → frame.IsState s → frame.IsState t → RelatesIn frame d s t → RelatesIn frame e s t
   relates_as_in_tables d e each s t ss st r =

@@ -1,5 +1,5 @@
--- A program ends as its term relates, in a frame of stores whose tests and actions stand for its conditions and
--- assignments.
+-- A program ends in the stores that its term relates, in a frame of stores whose tests and actions represent its
+-- conditions and assignments.
 use Rattle.std.proofs.Common.{◌≡◌, ℕ, zero, suc, ◌+◌, ◌⊎◌, inl, inr, ⊎_elim, ◌↔◌, List, [], ◌∷◌, refl, sym, ap, ◌∙◌, subst, Bool, true, false, set}
 use Rattle.std.proofs.lemmas.Bool.{not-true, not_from_false}
 use Rattle.kat_model.specs.Trees.{TestTree, complement, Term, test, product}
@@ -16,7 +16,7 @@ use Rattle.while_lang.specs.Encoding.{stmt_terms, encoded}
 use Rattle.abstraction.specs.Tables.{Tables}
 use Rattle.abstraction.specs.Tests.{cond_test, assignment_action, prog_flow}
 
--- which of two is chosen
+-- the chosen part, by cases
 pub chosen_parts : {A B : Type 0} (b : Bool) → Chosen b A B → ((b ≡ true) × A) ⊎ ((b ≡ false) × B)
 chosen_parts true h = inl (refl, h)
 chosen_parts false h = inr (refl, h)
@@ -27,7 +27,7 @@ parts_chosen true (inr h) = absurd cc
 parts_chosen false (inl h) = absurd cc
 parts_chosen false (inr h) = h.1
 
--- a term relates after a test where the test holds and the term relates
+-- a test before a term: the test holds and the term relates
 module _ {S : Type 0} (frame : Frame S) where
   guarded_relates : (b : TestTree) (e : Term) (s t : S) → frame.IsState s → truth b (frame.atom s) ≡ true → RelatesIn frame e s t → RelatesIn frame (product (test b) e) s t
   guarded_relates b e s t ss h r = (s, ss, (refl, h), r)
@@ -35,18 +35,18 @@ module _ {S : Type 0} (frame : Frame S) where
   relates_guarded : (b : TestTree) (e : Term) (s t : S) → RelatesIn frame (product (test b) e) s t → (truth b (frame.atom s) ≡ true) × RelatesIn frame e s t
   relates_guarded b e s t r = (r.2.1, subst (λ u. RelatesIn frame e u t) (sym r.2.0) r.3)
 
--- the test of a condition holds in the states in which the condition does
+-- the test of a condition holds in exactly the states in which the condition does
 abbrev pub IsCondRead : Width → Tables → Frame Store → CondTree → Type 0
 IsCondRead w t frame b = (s : Store) → frame.IsState s → truth (cond_test t b) (frame.atom s) ≡ holds w s b
 
--- the action of an assignment leads from each state to the one in which the variable is set to the value
+-- the action of an assignment leads from each state to exactly the state in which the variable is set to the value
 abbrev pub IsAssignRead : Width → Tables → Frame Store → ℕ → ExprTree → Type 0
 IsAssignRead w t frame x e =
     (s : Store) → frame.IsState s →
     frame.IsState (set s x (value w s e))
     × ((u : Store) → frame.Acts (assignment_action t (record { var = x; form = normal_form (modulus t.width) e })) s u ↔ (u ≡ set s x (value w s e)))
 
--- these are so of all conditions and assignments of a program, and its named actions lead nowhere
+-- this is true of all conditions and assignments of a program, and its named actions lead nowhere
 abbrev pub IsProgRead : Width → Tables → Frame Store → ProgTree → Type 0
 IsProgRead w t frame empty = Unit {0}
 IsProgRead w t frame (skip_then rest) = IsProgRead w t frame rest
@@ -62,7 +62,7 @@ module _ (w : Width) (t : Tables) (frame : Frame Store) where
   abbrev InTurn : ProgTree → Store → Store → Type 0
   InTurn p s u = RelateInTurn frame (stmt_terms (prog_flow t p)) s u
 
-  -- what holds, is true of the test, and the other way round
+  -- a condition holds exactly when its test is true
   pub holds_read : (b : CondTree) (s : Store) → IsCondRead w t frame b → frame.IsState s → holds w s b ≡ true → truth (cond_test t b) (frame.atom s) ≡ true
   holds_read b s read ss h = read s ss ∙ h
 
@@ -75,13 +75,13 @@ module _ (w : Width) (t : Tables) (frame : Frame Store) where
   read_fails : (b : CondTree) (s : Store) → IsCondRead w t frame b → frame.IsState s → truth (complement (cond_test t b)) (frame.atom s) ≡ true → holds w s b ≡ false
   read_fails b s read ss h = sym (read s ss) ∙ not-true (truth (cond_test t b) (frame.atom s)) h
 
-  -- the term of a program relates as those of its statements do, one after the other
+  -- the term of a program relates two stores exactly when the terms of its statements do in sequence
   encoded_in_turn : (p : ProgTree) (s u : Store) → frame.IsState s → frame.IsState u → RelatesIn frame (encoded (prog_flow t p)) s u ↔ InTurn p s u
   encoded_in_turn p s u ss su = product_of_relations frame (stmt_terms (prog_flow t p)) s u ss su
 
-  -- ---- what runs, is related
+  -- ---- runs are related
 
-  -- the turns of a loop lead along stores to one in which its condition fails
+  -- the turns of a loop lead along stores to a store in which its condition fails
   turns_related : (b : CondTree) (p : ProgTree) → IsCondRead w t frame b →
       ((s : Store) (k : ℕ) (u : Store) → frame.IsState s → Goes w p s k u → frame.IsState u × InTurn p s u) →
       (n : ℕ) (s : Store) (k : ℕ) (u : Store) → frame.IsState s → Turns n (condition w b) (Goes w p) (Leaves (condition w b)) s k u →
@@ -94,7 +94,7 @@ module _ (w : Width) (t : Tables) (frame : Frame Store) where
       let turn = guarded_relates frame (cond_test t b) (encoded (prog_flow t p)) s v ss (holds_read b s read ss h) ((encoded_in_turn p s v ss first.0).1 first.1) in
       (rest.0, rest.1, v ∷ rest.2, (first.0, turn, rest.3))
 
-  -- a run leads to a state, and the terms of the statements do too
+  -- a run leads to a state, and the terms of the statements lead to the same state
   goes_related : (p : ProgTree) → IsProgRead w t frame p → (s : Store) (k : ℕ) (u : Store) → frame.IsState s → Goes w p s k u → frame.IsState u × InTurn p s u
   goes_related empty read s k u ss (e, f) = (subst frame.IsState (sym f) ss, sym f)
   goes_related (skip_then rest) read s k u ss g = let r = goes_related rest read s k u ss g in (r.0, (s, ss, refl, r.1))
@@ -125,9 +125,9 @@ module _ (w : Width) (t : Tables) (frame : Frame Store) where
       let r = goes_related rest read.2 v j u turns.0 c in
       (r.0, (v, turns.0, (v, turns.0, (turns.2, turns.3), (refl, fails_read b v read.0 turns.0 turns.1)), r.1))
 
-  -- ---- what is related, runs
+  -- ---- related stores have runs
 
-  -- stores along which the body of a loop leads are its turns
+  -- stores connected by the body of a loop are the turns of the loop
   along_turns : (b : CondTree) (p : ProgTree) → IsCondRead w t frame b →
       ((s u : Store) → frame.IsState s → frame.IsState u → InTurn p s u → Ends w p s u) →
       (ks : List Store) (s u : Store) → frame.IsState s → frame.IsState u → holds w u b ≡ false →
@@ -172,7 +172,7 @@ module _ (w : Width) (t : Tables) (frame : Frame Store) where
       let loops = subst (λ v. Turns turns.0 (condition w b) (Goes w p) (Leaves (condition w b)) s turns.1 v) end turns.2 in
       (turns.1 + later.0, (turns.1, later.0, r.0, (turns.0, loops), later.1, refl))
 
-  -- a program ends in the states that its term relates
+  -- a program ends in exactly the states that its term relates
   pub ends_as_related : (p : ProgTree) → IsProgRead w t frame p → (s u : Store) → frame.IsState s → frame.IsState u →
       Ends w p s u ↔ RelatesIn frame (encoded (prog_flow t p)) s u
   ends_as_related p read s u ss su =

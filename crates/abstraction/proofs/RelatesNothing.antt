@@ -1,10 +1,10 @@
--- Terms that relate no state of a frame to any, by what the tests in them say at the states.
+-- Terms that relate no states of a frame, because of the truth of their tests at the states.
 use Rattle.std.proofs.Common.{ℕ, IsTrue, sym, ◌∙◌, subst}
 use Rattle.kat_model.specs.Trees.{TestTree, Term, test, act, product}
 use Rattle.kat_model.specs.Steps.{truth}
 use Rattle.kat_model.specs.Relations.{Frame, RelatesIn}
 
--- the term relates no state to any
+-- the term relates no states
 abbrev pub RelatesNone : {S : Type 0} → Frame S → Term → Type 0
 RelatesNone {S} frame e = (s t : S) → frame.IsState s → frame.IsState t → RelatesIn frame e s t → ⊥
 

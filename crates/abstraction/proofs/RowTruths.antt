@@ -1,4 +1,4 @@
--- What the tests and actions of tables say of stores.
+-- The tests and actions of tables, over stores.
 use Rattle.std.proofs.Common.{◌≡◌, ℕ, suc, ◌+◌, ◌<◌, inl, inr, ◌↔◌, List, [], ◌∷◌, ◌++◌, length, map, refl, sym, ap, ◌∙◌, subst, arith, length-append, false, not, ◌&&◌, ◌||◌, slice_get, set, Some, unwrap_or, option_map}
 use mathlib.Core.Path.{ap₂}
 use Rattle.std.specs.List.{range_with_len}
@@ -80,7 +80,7 @@ frame_with f cs xs = record {
 abbrev assigned : FileParts → ℕ → ExprTree → Assignment
 assigned f x e = record { var = x; form = normal_form (modulus f.width) e }
 
--- the parts of a list within another are within it
+-- if a concatenation is a subset of a list, so are its parts
 
 pub two_within : {X : Type 0} (xs ys all : List X) → IsSubset (xs ++ ys) all → IsSubset xs all × IsSubset ys all
 two_within xs ys all within = ((λ x h. within x (has_left xs ys x h)), (λ x h. within x (has_right xs ys x h)))
@@ -92,7 +92,7 @@ three_within xs ys zs all within =
     (both.0, both.1, front.1)
 
 module _ (f : FileParts) (cs : List Atomic) (xs : List Assignment) where
-  -- what is seen of a store
+  -- the truth values of the tests in a store
   abbrev atom_of : Store → Atom
   atom_of s = map (row_holds (modulus f.width) s) (test_rows_of (tables_with f cs xs))
 
@@ -101,7 +101,7 @@ module _ (f : FileParts) (cs : List Atomic) (xs : List Assignment) where
       get_or_from_slice_get (atom_of s) k (row_holds (modulus f.width) s r) false
       (slice_get-map (row_holds (modulus f.width) s) (test_rows_of (tables_with f cs xs)) k ∙ ap (option_map (row_holds (modulus f.width) s)) e)
 
-  -- the test of a comparison of the table holds where the comparison does
+  -- the test of a comparison in the table holds exactly when the comparison does
   comparison_truth : (a : Atomic) → Has cs a → (k : ℕ) × (test_number (tables_with f cs xs) a ≡ Some k) × ((s : Store) → truth (prim k) (atom_of s) ≡ atomic_holds (modulus f.width) s a)
   comparison_truth a h =
       let p = position_of_member is_same_comparison is_same_comparison-true is_same_comparison-same cs a h in
@@ -130,7 +130,7 @@ module _ (f : FileParts) (cs : List Atomic) (xs : List Assignment) where
       let parts = two_within (cond_comparisons (modulus f.width) b) (cond_comparisons (modulus f.width) c) cs all in
       ap₂ ◌||◌ (cond_read b range.0 parts.0 s is) (cond_read c range.1 parts.1 s is)
 
-  -- the action of an assignment of the table sets the variable
+  -- the action of an assignment in the table sets the variable
   assign_read : (x : ℕ) (e : ExprTree) → Has xs (assigned f x e) → IsAssignRead f.width (tables_with f cs xs) (frame_with f cs xs) x e
   assign_read x e h s is = ((length-set s x (value f.width s e) ∙ is.0, set_is_store f.width s x (value f.width s e) is.1 (value_below f.width s e is.1)), acts)
     where

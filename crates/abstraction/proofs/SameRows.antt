@@ -1,4 +1,4 @@
--- The tests that compare rows tell which are equal.
+-- The functions that compare rows decide equality.
 use Rattle.std.proofs.Common.{arith, ◌≡◌, true, nat_eq, Decides, Ordering, Less, Equal, Greater, refl, ap}
 use Rattle.std.specs.Ordering.{is_eq}
 use Rattle.std.proofs.lemmas.Bool.{false≢true, and_parts, and_from}

@@ -1,4 +1,4 @@
--- The tables that rows show.
+-- Reading the rows of tables gives the tables back.
 use Rattle.std.proofs.Common.{◌≡◌, ℕ, ◌+◌, List, [], ◌∷◌, ◌++◌, length, map, refl, sym, ap, ◌∙◌, arith, Ok, Err, Bool, true, false, cond, nat_lt}
 use Rattle.std.specs.List.{range_with_len}
 use Rattle.std.proofs.lemmas.List.FromFn.{length-range_with_len}
@@ -29,7 +29,7 @@ action_row_count [] = omega arith
 action_row_count (action.Named k ∷ rows) = omega (arith, action_row_count rows)
 action_row_count (action.Assign x f ∷ rows) = omega (arith, action_row_count rows)
 
--- the rows of tables show the tables
+-- the rows of tables give the tables back
 named_tests : (ks : List ℕ) (rows : List TestRow) → declared_tests (map test.Named ks ++ rows) ≡ length ks + declared_tests rows
 named_tests [] rows = omega arith
 named_tests (k ∷ ks) rows = omega (arith, named_tests ks rows)
@@ -79,7 +79,7 @@ shown_tables-abstract_parts f =
     (named_comparisons tests (map test.Compare t.comparisons) ∙ compared_rows t.comparisons)
     (named_assignments actions (assign_rows t.assignments) ∙ assigned_rows t.assignments) refl
 
--- an abstraction is made of the tables
+-- an abstraction is built from the tables
 too_many : (b d e : Bool) (p a : AbstractParts) (x y z : AbstractFault) → cond b (Err x) (cond d (Err y) (cond e (Err z) (Ok p))) ≡ Ok a → p ≡ a
 too_many true d e p a x y z h = absurd cc
 too_many false true e p a x y z h = absurd cc

@@ -1,4 +1,4 @@
--- The comparisons and the assignments of a list of statements are those of the first and those of the others.
+-- The comparisons and the assignments of a list of statements are those of the first statement and those of the others.
 use Rattle.std.proofs.Common.{◌≡◌, ℕ, ◌+◌, ◌<◌, List, ◌∷◌, ◌++◌, length, drop, get_or, refl, sym, ap, ◌∙◌}
 use Rattle.std.proofs.lemmas.List.{append-nil, drop_more}
 use Rattle.linear_forms.specs.declared.comparison.Atomic.{Atomic}
@@ -32,7 +32,7 @@ module _ (m n : ℕ) (items : List Stmt) (i : ℕ) (x : Stmt) (lt : i < length i
   left : drop i items ≡ x ∷ drop (i + 1) items
   left = drop_more items i x lt ∙ ap (λ y. y ∷ drop (i + 1) items) (sym e)
 
-  -- what is left to the statements that are left, one statement on
+  -- one step of a loop over the statements: the remaining ones give the same rows
   pub comparisons_go_on : (rows new : List Atomic) → new ≡ with_all_new_within n is_same_comparison rows (prog_comparisons m (with_stmt (stmt_tree x) empty)) →
       with_all_new_within n is_same_comparison new (prog_comparisons m (list_tree (drop (i + 1) items))) ≡ with_all_new_within n is_same_comparison rows (prog_comparisons m (list_tree (drop i items)))
   comparisons_go_on rows new f =

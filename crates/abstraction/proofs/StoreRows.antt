@@ -1,4 +1,4 @@
--- The rows of a table in its frame of stores: tests are the truth of the comparisons, and actions the assignments.
+-- The rows of a table in its frame of stores: tests are the truth of the comparisons, and actions are the assignments.
 use Rattle.std.proofs.Common.{◌≡◌, ◌<◌, ◌+◌, ℕ, List, ◌++◌, length, map, get_or, slice_get, slice_index_or, All, false, Some, sym, ap, ◌∙◌, subst, arith, length-append}
 use Rattle.std.proofs.lemmas.List.{length-map, get_or-map, get_or-append_right}
 use Rattle.std.proofs.lemmas.List.FromFn.{length-enumerate_from, get_or-enumerate_from, length-range_with_len}
@@ -20,7 +20,7 @@ use Rattle.abstraction.proofs.TableForms.{IsAssignment}
 use Rattle.abstraction.proofs.TestRows.{IsTestRow}
 use Rattle.abstraction.proofs.AssignmentFacts.{IsActionRow}
 
--- what stands after the declared rows
+-- the rows after the declared ones
 after_declared : {X : Type 0} (declared rows : List X) (n k : ℕ) (d : X) → length declared ≡ n → get_or (declared ++ rows) (n + k) d ≡ get_or rows k d
 after_declared declared rows n k d e = get_or-append_right declared rows n (n + k) d e (omega arith) ∙ ap (λ i. get_or rows i d) (omega arith)
 
@@ -41,7 +41,7 @@ module _ (m : ℕ) (t : Tables) where
         length-map t.comparisons test.Compare,
       )
 
-  -- the truth at the number of a comparison
+  -- the truth value at the number of a comparison
   compared_truth : (s : Store) (k : ℕ) (d : Atomic) → k < length t.comparisons
       → slice_index_or (map (row_holds m s) (test_rows_of t)) (t.tests + k) false ≡ atomic_holds m s (get_or t.comparisons k d)
   compared_truth s k d l =

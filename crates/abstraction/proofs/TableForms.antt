@@ -1,4 +1,4 @@
--- The comparisons of a table are of forms, and its assignments set variables that are declared to forms.
+-- The comparisons of a table are well formed, and its assignments set declared variables to well-formed forms.
 use Rattle.std.proofs.Common.{ℕ, zero, suc, ◌-◌, ◌<◌, List, [], ◌++◌, All, flat_map}
 use Rattle.std.proofs.lemmas.List.Elements.{All-nil, All-cons, All-append, All-weaker}
 use Rattle.kat_model.specs.Stores.{modulus}
@@ -18,7 +18,7 @@ use Rattle.abstraction.specs.Tables.{is_same_comparison, is_same_assignment, fir
 use Rattle.abstraction.specs.Rounds.{substitutions, round, rounds, file_comparisons}
 use Rattle.abstraction.proofs.EachElement.{All-every, All-with_all_new, All-flat_map, All-append_all}
 
--- an assignment of a form to one of so many variables
+-- an assignment of a well-formed form to a variable below `vars`
 pub record IsAssignment (m vars : ℕ) (a : Assignment) : Type 0 where
   pub var : a.var < vars
   pub form : IsForm m a.form
@@ -97,7 +97,7 @@ module _ (m : ℕ) (h : 1 < m) where
     goal_assigned (below l r) i = both_assigned (side_assignments m l) (side_assignments m r) (side_assigned l i.0) (side_assigned r i.1)
     goal_assigned (triple pre body post) i = side_assigned body i.1
 
-  -- and so are those that the rounds append
+  -- the comparisons that the rounds append are well formed
   substitutions_atomic : (vars : ℕ) (assigned : List Assignment) (table : List Atomic) → All (IsAssignment m vars) assigned → All (IsAtomic m) (substitutions m assigned table)
   substitutions_atomic vars assigned table all =
       All-flat_map (IsAtomic m) _ assigned

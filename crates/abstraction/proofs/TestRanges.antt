@@ -1,4 +1,4 @@
--- The tests and the flows that conditions and programs are over tables have their numbers below those of the rows.
+-- The tests of conditions and the flows of programs, over tables, use only the numbers of the rows.
 use Rattle.std.proofs.Common.{◌≡◌, ℕ, ◌+◌, ◌<◌, ◌≤◌, Bool, true, false, cond, nat_lt, List, ◌++◌, length, Option, Some, None, option_map, unwrap_or, refl, arith}
 use Rattle.std.specs.List.{position, position_or_len}
 use Rattle.std.proofs.lemmas.List.{length-append}
@@ -21,7 +21,7 @@ use Rattle.abstraction.specs.Comparisons.{Assignment, prog_assignments}
 use Rattle.abstraction.specs.Tables.{Tables, is_same_comparison, is_same_assignment}
 use Rattle.abstraction.specs.Tests.{test_number, action_number, form_test, cond_test, assignment_action, prog_flow}
 
--- ---- more tests and actions
+-- ---- additional tests and actions
 
 module _ (t a u b : ℕ) (tests : t ≤ u) (actions : a ≤ b) where
   IsTestInRange-more : (e : TestTree) → IsTestInRange t e → IsTestInRange u e
@@ -46,7 +46,7 @@ product_of_in t a =
     balanced_holds one product (λ xs x. AreInRange t a xs → IsInRange t a x) (λ h. tt) (λ x h. h.0)
     (λ xs ys x y f g h. (f (AreInRange-append_left t a xs ys h), g (AreInRange-append_right t a xs ys h)))
 
--- the number, where there is one, is below n
+-- the number, if there is one, is below n
 abbrev pub OptionBelow : ℕ → Option ℕ → Type 0
 OptionBelow n None = Unit {0}
 OptionBelow n (Some k) = k < n
@@ -58,7 +58,7 @@ position_below p xs n = by_place (nat_lt (position_or_len p xs) (length xs)) ref
     by_place true e = omega (arith, ltb-true (position_or_len p xs) (length xs) e)
     by_place false e = tt
 
--- the test, where there is one, has its numbers below n
+-- the test, if there is one, has its numbers below n
 abbrev pub OptionInRange : ℕ → Option TestTree → Type 0
 OptionInRange n None = Unit {0}
 OptionInRange n (Some b) = IsTestInRange n b
@@ -107,7 +107,7 @@ module _ (t : Tables) where
     action_in : (a : Assignment) → 0 < length t.assignments → assignment_action t a < all_actions
     action_in a some = or_zero all_actions (action_number t a) (position_below (is_same_assignment a) t.assignments t.actions) (omega arith)
 
-    -- the table has an assignment where the program has one
+    -- the table has an assignment if the program has one
     abbrev pub HasSome : ProgTree → Type 0
     HasSome p = 0 < length (prog_assignments (modulus t.width) p) → 0 < length t.assignments
 

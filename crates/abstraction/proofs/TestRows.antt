@@ -1,4 +1,4 @@
--- Tests that are the truth of the comparisons of a table.
+-- Tests whose truth values are those of the comparisons of a table.
 use Rattle.std.proofs.Common.{◌≡◌, ◌<◌, ◌+◌, ℕ, slice_index_or, length, All, true, false, not, IsTrue, Option, Some, None, option_map, position, refl, sym, ap, ◌∙◌, subst}
 use Rattle.std.proofs.lemmas.Bool.{not-true}
 use Rattle.std.proofs.lemmas.Option.{same_Some}
@@ -17,7 +17,8 @@ use Rattle.abstraction.specs.Facts.{TestRowOf}
 use Rattle.abstraction.specs.Derived.{test_rows}
 use Rattle.abstraction.proofs.SameRows.{is_same_comparison-true}
 
--- a row of comparisons: its forms are forms, and the test with its number is the truth of the comparison
+-- a row of a comparison: its forms are well formed, and the test with its number is true exactly when the comparison
+-- holds
 pub record IsTestRow (m : ℕ) (atom : Store → Atom) (row : TestRowOf) : Type 0 where
   pub form : IsAtomic m row.1
   pub truth : (s : Store) → slice_index_or (atom s) row.0 false ≡ atomic_holds m s row.1
@@ -30,7 +31,7 @@ module _ (m : ℕ) (atom : Store → Atom) where
   fails_at i a row s t = sym (row.truth s) ∙ not-true _ t
 
   module _ (t : Tables) (rows : All (IsTestRow m atom) (test_rows t)) where
-    -- the test with the number of a comparison is its truth
+    -- the test with the number of a comparison is true exactly when the comparison holds
     pub test_number_holds : (a : Atomic) (n : ℕ) → test_number t a ≡ Some n → (s : Store) → slice_index_or (atom s) n false ≡ atomic_holds m s a
     test_number_holds a n e s = by_place (position (is_same_comparison a) t.comparisons) refl e
       where
@@ -44,7 +45,7 @@ module _ (m : ℕ) (atom : Store → Atom) where
             ∙ row.truth s
             ∙ ap (atomic_holds m s) (sym (is_same_comparison-true a _ found.1))
 
-    -- the test of a form of conditions holds where the condition does
+    -- the test of a condition form holds exactly when the condition does
     pub form_test_holds : (b : CondForm) (psi : TestTree) → form_test t b ≡ Some psi → (s : Store) → truth psi (atom s) ≡ cond_form_holds m s b
     form_test_holds True psi e s = ap (λ x. truth x (atom s)) (sym (same_Some top psi e))
     form_test_holds False psi e s = ap (λ x. truth x (atom s)) (sym (same_Some bottom psi e))

@@ -1,4 +1,4 @@
--- The abstraction of a file: a problem of terms, with what its tests, actions and hypotheses stand for.
+-- The abstraction of a file: a problem of terms, and the meanings of its tests, actions and hypotheses.
 use Rattle.std.specs.Prelude.{◌≡◌, ◌+◌, List, ◌++◌, length, map, nat_lt, if◌then◌else◌, Result, Ok, Err}
 use Rattle.std.specs.List.{range_with_len}
 use Rattle.kat_model.specs.declared.expression.Width.{Width}
@@ -18,7 +18,7 @@ use Rattle.abstraction.specs.Rounds.{tables_of}
 use Rattle.abstraction.specs.Goals.{goal_sides}
 use Rattle.abstraction.specs.Derived.{hypotheses}
 
--- the problem; what each test and action stands for, by their numbers; the rule of each hypothesis; the width of numbers
+-- the problem; the meaning of each test and action, by their numbers; the rule of each hypothesis; the width of numbers
 pub record AbstractParts : Type 0 where
   pub problem : ProblemParts
   pub actions : List ActionRow
@@ -26,7 +26,7 @@ pub record AbstractParts : Type 0 where
   pub rules : List Rule
   pub width : Width
 
--- the declared ones by their numbers, and then the comparisons, or the assignments
+-- the declared tests or actions by their numbers, then the comparisons or the assignments
 abbrev pub test_rows_of : Tables → List TestRow
 test_rows_of t = map test.Named (range_with_len 0 t.tests) ++ map test.Compare t.comparisons
 
@@ -52,8 +52,8 @@ abstract_parts f = record {
   width = f.width;
 }
 
--- the abstraction of a file, or why there is none: before the rounds there are more than 48 tests, or there are more than
--- 48 actions, or the problem has more than 100,000 nodes
+-- the abstraction of a file, or the reason for its absence: there are more than 48 tests before the rounds, or there
+-- are more than 48 actions, or the problem has more than 100,000 nodes
 abbrev pub abstract_of : FileParts → Result AbstractParts AbstractFault
 abstract_of f =
     if nat_lt MAX_TESTS (f.tests + length (first_comparisons f)) then Err TooManyTests
@@ -61,7 +61,7 @@ abstract_of f =
     else if nat_lt MAX_TERM_NODES (problem_size (file_problem f)) then Err ProblemTooLarge
     else Ok (abstract_parts f)
 
--- what is answered to a file: its abstraction, or out of memory, or why there is none
+-- the result for a file: its abstraction, or out of memory, or the reason for its absence
 abbrev pub IsAbstraction : FileParts → Result AbstractParts AbstractFault → Type 0
 IsAbstraction f (Ok a) = abstract_of f ≡ Ok a
 IsAbstraction f (Err NoMemory) = Unit {0}
@@ -71,7 +71,7 @@ IsAbstraction f (Err fault) = abstract_of f ≡ Err fault
 abbrev pub with_goal : FileParts → GoalTree → FileParts
 with_goal f goal = record f { goal = goal }
 
--- the tests, actions and variables of the stated hypotheses and of the goal are numbered below those that are declared
+-- the stated hypotheses and the goal use only declared tests, actions and variables
 pub record HasNumbersInRange (f : FileParts) : Type 0 where
   pub hyps : AreInRange f.tests f.actions f.hyps
   pub goal : IsGoalInRange f.tests f.actions f.vars f.goal

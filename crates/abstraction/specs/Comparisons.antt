@@ -1,5 +1,5 @@
--- The comparisons and the assignments of a goal, in the order in which they stand: its sides from left to right, of a
--- triple the first condition, the side and the second condition, programs statement by statement.
+-- The comparisons and the assignments of a goal in text order: its sides from left to right; for a triple the first
+-- condition, the side and the second condition; programs statement by statement.
 use Rattle.std.specs.Prelude.{ℕ, List, [], ◌∷◌, ◌++◌}
 use Rattle.kat_model.specs.Expressions.{CondTree, always, never, named, compared, negation, both, either}
 use Rattle.linear_forms.specs.Forms.{FormTree}
@@ -16,7 +16,7 @@ pub record Assignment : Type 0 where
   pub var : ℕ
   pub form : FormTree
 
--- the comparison of a form of conditions; a constant one has none
+-- the comparison of a condition form; a constant form has none
 abbrev pub atomics : CondForm → List Atomic
 atomics True = []
 atomics False = []
@@ -52,7 +52,7 @@ goal_comparisons m (equal l r) = side_comparisons m l ++ side_comparisons m r
 goal_comparisons m (below l r) = side_comparisons m l ++ side_comparisons m r
 goal_comparisons m (triple pre body post) = cond_comparisons m pre ++ side_comparisons m body ++ cond_comparisons m post
 
--- the assignments of a program, their expressions in normal form modulo m
+-- the assignments of a program, with their expressions in normal form modulo m
 abbrev pub prog_assignments : ℕ → ProgTree → List Assignment
 prog_assignments m empty = []
 prog_assignments m (skip_then rest) = prog_assignments m rest

@@ -1,4 +1,4 @@
--- Facts of arithmetic that some comparisons of a table keep together, each as a term that relates no store to any.
+-- Facts of arithmetic about some comparisons of a table together, each as a term that relates no stores.
 use Rattle.std.specs.Prelude.{ℕ, List, [], ◌∷◌, Bool, true, false, not, ◌&&◌, ◌||◌, nat_eq, nat_lt, if◌then◌else◌, ◌++◌}
 use Rattle.kat_model.specs.Trees.{Term, test, prim, complement, product}
 use Rattle.linear_forms.specs.Forms.{FormTree, constant}
@@ -10,7 +10,7 @@ use Rattle.abstraction.specs.declared.rows.Rule.{Rule}
 use Rattle.abstraction.specs.declared.rows.Rule.TheVariants.{F1, F2, F3, F4, F5, F6}
 use Rattle.abstraction.specs.Tables.{is_same_form}
 
--- a term that is stated or derived to be 0, and why
+-- a term that is stated or derived to be 0, and the reason
 pub record Hypothesis : Type 0 where
   pub rule : Rule
   pub term : Term
@@ -26,16 +26,16 @@ excludes i j = product (test (prim i)) (test (prim j))
 abbrev pub implies : ℕ → ℕ → Term
 implies i j = product (test (prim i)) (test (complement (prim j)))
 
--- a hypothesis, where it holds by this fact
+-- a list with the hypothesis, if the condition holds
 abbrev pub fact_if : Bool → Rule → Term → List Hypothesis
 fact_if b rule term = if b then record { rule = rule; term = term } ∷ [] else []
 
--- a constant other than 0
+-- whether the form is a constant other than 0
 abbrev pub is_nonzero : FormTree → Bool
 is_nonzero (constant c) = not (nat_eq c 0)
 is_nonzero f = false
 
--- two constants, the first less than the second
+-- whether both forms are constants, and the first is less than the second
 abbrev pub are_less : FormTree → FormTree → Bool
 are_less (constant c) (constant d) = nat_lt c d
 are_less f g = false
@@ -56,17 +56,17 @@ abbrev pub fact_three : ℕ → TestRowOf → TestRowOf → List Hypothesis
 fact_three m (i, Less f g) (j, Zero z) = fact_if (is_same_form z (canonical m (form_difference m f g))) (F3 i j) (excludes i j)
 fact_three m a b = []
 
--- F4: f < c implies f < d where c < d
+-- F4: f < c implies f < d if c < d
 abbrev pub fact_four : TestRowOf → TestRowOf → List Hypothesis
 fact_four (i, Less f c) (j, Less g d) = fact_if (is_same_form f g && are_less c d) (F4 i j) (implies i j)
 fact_four a b = []
 
--- F5: where z = 0 makes f the constant c, it decides whether f < d
+-- F5: if z = 0 makes f the constant c, it decides whether f < d
 abbrev pub decided_by : ℕ → ℕ → FormTree → FormTree → List Hypothesis
 decided_by i j (constant c) (constant d) = fact_if true (F5 i j) (if nat_lt c d then implies i j else excludes i j)
 decided_by i j f g = []
 
--- z = 0 makes f the difference f - z, and the sum f + z
+-- if z = 0, f equals the difference f - z and the sum f + z
 abbrev pub fact_five : ℕ → TestRowOf → TestRowOf → List Hypothesis
 fact_five m (i, Zero z) (j, Less f d) = decided_by i j (form_difference m f z) d ++ decided_by i j (form_sum m f z) d
 fact_five m a b = []

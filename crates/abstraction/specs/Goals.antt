@@ -6,7 +6,7 @@ use Rattle.problem_file.specs.Files.{SideTree, term_side, prog_side, GoalTree, e
 use Rattle.abstraction.specs.Tables.{Tables}
 use Rattle.abstraction.specs.Tests.{cond_test, prog_flow}
 
--- a program is the term of its flow
+-- the term of a program is the term of its flow
 abbrev pub side_term : Tables → SideTree → Term
 side_term t (term_side e) = e
 side_term t (prog_side p) = encoded (prog_flow t p)

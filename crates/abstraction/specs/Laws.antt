@@ -1,4 +1,4 @@
--- What an abstraction says of stores.
+-- The meaning of an abstraction over stores.
 use Rattle.std.specs.Prelude.{◌≡◌, ◌≤◌, ℕ, length, slice_get, Some}
 use Rattle.kat_model.specs.Trees.{Term}
 use Rattle.kat_model.specs.Stores.{Store}
@@ -14,7 +14,7 @@ DerivedHold f a =
     (k : ℕ) (h : Term) → length f.hyps ≤ k → slice_get a.problem.hyps k ≡ Some h
     → (s t : Store) → IsStoreOf f s → IsStoreOf f t → Moves f a h s t → ⊥
 
--- where both sides denote one relation in each table that keeps the hypotheses, the goal of a concrete file holds of all
--- its stores
+-- if both sides denote one relation in each table that satisfies the hypotheses, the goal of a concrete file holds for
+-- all its stores
 abbrev pub AgreesWhereSame : FileParts → AbstractParts → Type 0
 AgreesWhereSame f a = IsConcrete f → Same a.problem → Agrees f

@@ -1,4 +1,4 @@
--- Rounds: comparisons in which assignments are substituted, as further tests.
+-- Rounds: substituting assignments in comparisons gives further tests.
 use Rattle.std.specs.Prelude.{ℕ, zero, suc, ◌-◌, List, [], ◌∷◌, ◌++◌, length, flat_map, Bool, ◌&&◌, not, nat_lt, if◌then◌else◌}
 use Rattle.std.specs.List.{list_any}
 use Rattle.kat_model.specs.Stores.{modulus}
@@ -8,7 +8,7 @@ use Rattle.problem_file.specs.Files.{FileParts}
 use Rattle.abstraction.specs.Comparisons.{Assignment, atomics}
 use Rattle.abstraction.specs.Tables.{is_same_comparison, Tables, first_comparisons, file_assignments}
 
--- whether a comparison is appended to those of a table, of which there may be so many: it is not there yet, has at most
+-- whether a comparison is appended to a table with at most `most` comparisons: it is not in the table yet, has at most
 -- 1,000 nodes, and there is room
 abbrev pub is_appended : ℕ → List Atomic → Atomic → Bool
 is_appended most table a = not (list_any (is_same_comparison a) table) && (nat_lt (atomic_nodes a) 1001 && nat_lt (length table) most)
@@ -17,12 +17,12 @@ abbrev pub append_all : ℕ → List Atomic → List Atomic → List Atomic
 append_all most table [] = table
 append_all most table (a ∷ rest) = append_all most (if is_appended most table a then table ++ a ∷ [] else table) rest
 
--- the comparisons that hold before an assignment where those of a list hold after it, for each assignment in order and
--- each comparison in order
+-- the comparisons that hold before an assignment exactly when those of a list hold after it, for each assignment in
+-- order and each comparison in order
 abbrev pub substitutions : ℕ → List Assignment → List Atomic → List Atomic
 substitutions m assigned table = flat_map (λ a. flat_map (λ phi. atomics (substituted m a.var a.form phi)) table) assigned
 
--- one round goes over the comparisons that stood in the table when it began
+-- one round processes the comparisons that were in the table when it began
 abbrev pub round : ℕ → ℕ → List Assignment → List Atomic → List Atomic
 round m most assigned table = append_all most table (substitutions m assigned table)
 
@@ -30,8 +30,8 @@ abbrev pub rounds : ℕ → ℕ → ℕ → List Assignment → List Atomic → 
 rounds zero m most assigned table = table
 rounds (suc n) m most assigned table = rounds n m most assigned (round m most assigned table)
 
--- all comparisons of the file's table: with the declared tests there are at most 48 after the rounds, unless there were
--- more before them
+-- all comparisons of the table of the file: with the declared tests there are at most 48 after the rounds, unless there
+-- were more before them
 abbrev pub file_comparisons : FileParts → List Atomic
 file_comparisons f = rounds f.rounds (modulus f.width) (48 - f.tests) (file_assignments f) (first_comparisons f)
 

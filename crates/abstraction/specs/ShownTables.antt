@@ -1,4 +1,4 @@
--- The tables by which an abstraction reads conditions and programs.
+-- The tables with which an abstraction reads conditions and programs.
 use Rattle.std.specs.Prelude.{ℕ, ◌+◌, List, [], ◌∷◌}
 use Rattle.linear_forms.specs.declared.comparison.Atomic.{Atomic}
 use Rattle.abstraction.specs.declared.rows.ActionRow.{ActionRow}
@@ -9,7 +9,7 @@ use Rattle.abstraction.specs.Comparisons.{Assignment}
 use Rattle.abstraction.specs.Tables.{Tables}
 use Rattle.abstraction.specs.Abstracts.{AbstractParts}
 
--- how many tests of a table are declared, and its comparisons
+-- the number of declared tests of a table, and the comparisons of the table
 abbrev pub declared_tests : List TestRow → ℕ
 declared_tests [] = 0
 declared_tests (test.Named k ∷ rows) = declared_tests rows + 1
@@ -20,7 +20,7 @@ row_comparisons [] = []
 row_comparisons (test.Named k ∷ rows) = row_comparisons rows
 row_comparisons (test.Compare a ∷ rows) = a ∷ row_comparisons rows
 
--- how many actions of a table are declared, and its assignments
+-- the number of declared actions of a table, and the assignments of the table
 abbrev pub declared_actions : List ActionRow → ℕ
 declared_actions [] = 0
 declared_actions (action.Named k ∷ rows) = declared_actions rows + 1

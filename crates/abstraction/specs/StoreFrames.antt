@@ -13,7 +13,7 @@ use Rattle.abstraction.specs.declared.rows.TestRow.{TestRow}
 use Rattle.abstraction.specs.declared.rows.TestRow.TheVariants as test
 use Rattle.abstraction.specs.Abstracts.{AbstractParts}
 
--- whether a test holds in a store; a declared one, of which a store says nothing, is false
+-- whether a test holds in a store; a declared test, which has no meaning in a store, is false
 abbrev pub row_holds : ℕ → Store → TestRow → Bool
 row_holds m s (test.Named k) = false
 row_holds m s (test.Compare a) = atomic_holds m s a

@@ -14,14 +14,14 @@ use Rattle.while_lang.specs.Flows.{FlowTree}
 use Rattle.abstraction.specs.Comparisons.{Assignment}
 use Rattle.abstraction.specs.Tables.{is_same_comparison, is_same_assignment, Tables}
 
--- the number of a comparison among the tests, and that of an assignment among the actions: the declared ones come first
+-- the number of a comparison among the tests, and of an assignment among the actions; the declared ones come first
 abbrev pub test_number : Tables → Atomic → Option ℕ
 test_number t a = option_map (λ k. t.tests + k) (position (is_same_comparison a) t.comparisons)
 
 abbrev pub action_number : Tables → Assignment → Option ℕ
 action_number t a = option_map (λ k. t.actions + k) (position (is_same_assignment a) t.assignments)
 
--- the test of a form of conditions, where it is constant or its comparison is in the table
+-- the test of a condition form, if it is constant or its comparison is in the table
 abbrev pub form_test : Tables → CondForm → Option TestTree
 form_test t True = Some top
 form_test t False = Some bottom

@@ -1,4 +1,4 @@
-//! The assignments of a goal, in the order in which they stand, as rows of a table.
+//! The assignments of a goal in text order, as rows of a table.
 ghost use Rattle.std.specs.Prelude.{◌≡◌, [], ◌∷◌, IfOk, OnOk};
 ghost use Rattle.kat_model.specs.Expressions.{expr_tree};
 ghost use Rattle.kat_model.specs.Stores.{modulus};
@@ -18,7 +18,7 @@ use problem_file::{Goal, Side};
 use std::alloc::Global;
 use while_lang::{Prog, Stmt};
 
-/// The assignment of the normal form of an expression.
+/// Builds the assignment of the normal form of an expression.
 pub(crate) fn assigned_form(
     alloc: Global,
     width: Width,
@@ -69,7 +69,7 @@ fn add_prog(
     ensures { OnOk result (rows.new.items ≡ with_all_new_within most is_same_assignment rows.old.items (prog_assignments (modulus width) prog.now)) }
 {
     for stmt in &prog.list {
-        // A table past its limit takes no more rows.
+        // A table past its limit accepts no more rows.
         if rows.len() > most {
             return Ok(());
         }
@@ -115,7 +115,7 @@ fn add_goal(
     }
 }
 
-/// The assignments of a goal, each once, or one more than so many of them.
+/// Returns the assignments of a goal, each once, in order; stops at `most` + 1 of them.
 pub(crate) fn first_assignments(
     alloc: Global,
     width: Width,

@@ -1,4 +1,4 @@
-//! The comparisons of a goal, in the order in which they stand, as rows of a table.
+//! The comparisons of a goal in text order, as rows of a table.
 ghost use Rattle.std.specs.Prelude.{◌≡◌, [], IfOk, OnOk};
 ghost use Rattle.kat_model.specs.Expressions.{expr_tree, cond_tree};
 ghost use Rattle.kat_model.specs.Stores.{modulus};
@@ -17,7 +17,7 @@ use problem_file::{Goal, Side};
 use std::alloc::Global;
 use while_lang::{Prog, Stmt};
 
-// Adds the comparison of a form of conditions, which a constant one does not have.
+// Adds the comparison of a condition form; a constant form has none.
 fn add_atomic(cond: CondForm, most: usize, rows: &mut Vec<Atomic>) -> Result<(), NoMemory>
     ensures { OnOk result (rows.new.items ≡ with_all_new_within most is_same_comparison rows.old.items (atomics cond)) }
 {
@@ -94,7 +94,7 @@ fn add_prog(
     ensures { OnOk result (rows.new.items ≡ with_all_new_within most is_same_comparison rows.old.items (prog_comparisons (modulus width) prog.now)) }
 {
     for stmt in &prog.list {
-        // A table past its limit takes no more rows.
+        // A table past its limit accepts no more rows.
         if rows.len() > most {
             return Ok(());
         }
@@ -144,7 +144,7 @@ fn add_goal(
     }
 }
 
-/// The comparisons of a goal, each once, or one more than so many of them.
+/// Returns the comparisons of a goal, each once, in order; stops at `most` + 1 of them.
 pub(crate) fn first_comparisons(
     alloc: Global,
     width: Width,

@@ -9,7 +9,7 @@ use kat_model::{Cond, NoMemory, Test};
 use linear_forms::{CondForm, normal_cond};
 use std::alloc::Global;
 
-/// The test of a form of conditions, where it is constant or its comparison is a row.
+/// Builds the test of a condition form, if it is constant or its comparison is a row.
 pub(crate) fn form_test(
     alloc: Global,
     tables: &RowTables,
@@ -28,7 +28,7 @@ pub(crate) fn form_test(
     }
 }
 
-/// The test of a condition; a comparison that is no row counts as false.
+/// Builds the test of a condition; a comparison that is not a row counts as false.
 pub(crate) fn cond_test(alloc: Global, tables: &RowTables, cond: &Cond) -> Result<Test, NoMemory>
     ensures { IfOk result (λ t. test_tree t ≡ cond_test tables.now (cond_tree cond.now)) }
 {

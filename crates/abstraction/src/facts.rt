@@ -1,4 +1,4 @@
-//! Facts of arithmetic that comparisons keep together, each as a term that relates no store to any.
+//! Facts of arithmetic about some comparisons together, each as a term that relates no stores.
 ghost use Rattle.std.specs.Prelude.{◌≡◌, [], ◌∷◌, ◌++◌, ◌||◌, Option, IfOk, OnOk};
 ghost use Rattle.kat_model.specs.Stores.{modulus};
 ghost use Rattle.kat_model.specs.Trees.{prim, complement, test, kat_tree};
@@ -14,7 +14,7 @@ use linear_forms::{Atomic, Form, canon, minus, plus, same_form};
 use std::alloc::Global;
 use std::marker::Model;
 
-/// A term that is stated or derived to be 0, and why.
+/// A term that is stated or derived to be 0, and the reason.
 #[derive(Drop)]
 pub(crate) struct RuledTerm {
     pub(crate) rule: Rule,
@@ -53,7 +53,7 @@ impl<'a> Model for NumberedTest<'a> {
     ghost view = { λ t. (t.number, t.atomic.now) };
 }
 
-/// One more hypothesis at the end.
+/// Appends a hypothesis.
 pub(crate) fn push_hyp(hyps: &mut Vec<RuledTerm>, rule: Rule, term: Kat) -> Result<(), NoMemory>
     ensures { OnOk result (hyps.new.items ≡ hyps.old.items ++ record { rule = rule; term = kat_tree term } ∷ []) }
 {
@@ -89,7 +89,7 @@ fn one_holds(alloc: Global, i: usize, j: usize, k: usize) -> Result<Kat, NoMemor
     Kat::new_seq(alloc, first, end)
 }
 
-// The number that a constant form is.
+// Returns the number of a constant form.
 fn constant_value(form: &Form) -> Option<u64>
     ensures { result ≡ constant_value form.now }
 {
@@ -135,7 +135,8 @@ fn are_apart(alloc: Global, width: Width, left: &Form, right: &Form) -> Result<b
     Ok(is_nonzero(&total))
 }
 
-// Whether a form is 0 exactly where two others are equal, in normal form.
+// Whether `zero` is the canonical form of the difference of `left` and `right`, so that it is 0 exactly when they are
+// equal.
 fn is_difference(
     alloc: Global,
     width: Width,
@@ -212,7 +213,7 @@ pub(crate) fn add_fact_three(
     push_hyp(hyps, Rule::F3(i, j), excludes(alloc, i, j)?)
 }
 
-/// F4: `f < c` implies `f < d` where c is less than d.
+/// F4: `f < c` implies `f < d` if c is less than d.
 pub(crate) fn add_fact_four(
     alloc: Global,
     first: &NumberedTest<'_>,
@@ -232,7 +233,8 @@ pub(crate) fn add_fact_four(
     push_hyp(hyps, Rule::F4(i, j), implies(alloc, i, j)?)
 }
 
-// What a comparison with a constant is, where test i makes the form a constant.
+// Appends that test i implies or excludes test j, which compares `form` with `bound` where test i holds, if both forms
+// are constants.
 fn add_decided(
     alloc: Global,
     i: usize,
@@ -255,7 +257,7 @@ fn add_decided(
     }
 }
 
-/// F5: a form that a test makes a constant is below another constant or not.
+/// F5: a test that makes a form a constant decides whether the form is below another constant.
 pub(crate) fn add_fact_five(
     alloc: Global,
     width: Width,

@@ -1,11 +1,11 @@
-//! Why a file has no abstraction.
+//! The reasons why a file has no abstraction.
 ghost use Rattle.std.specs.Prelude.{◌≡◌};
 ghost use Rattle.abstraction.specs.declared.fault.AbstractFault.TheVariants.{NoMemory as NoRoom};
 
 use kat_model::NoMemory;
 use std::alloc::AllocError;
 
-/// Why there is no abstraction of a file.
+/// The reason why a file has no abstraction.
 #[derive(Clone, Copy, PartialEq, Eq, Debug)]
 pub enum AbstractFault {
     /// Out of memory.
@@ -14,7 +14,7 @@ pub enum AbstractFault {
     TooManyTests,
     /// There are more than 48 actions: the declared ones and the assignments of the goal.
     TooManyActions,
-    /// The problem has more than 100,000 nodes, derived hypotheses among them.
+    /// The problem has more than 100,000 nodes, including the derived hypotheses.
     ProblemTooLarge,
 }
 

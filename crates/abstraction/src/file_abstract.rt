@@ -44,7 +44,7 @@ fn declared_actions(alloc: Global, count: usize) -> Result<Vec<ActionRow>, NoMem
     Ok(rows)
 }
 
-// The rows of all tests.
+// Returns the rows of all tests.
 fn test_rows(
     alloc: Global,
     declared: usize,
@@ -59,7 +59,7 @@ fn test_rows(
     Ok(rows)
 }
 
-// The rows of all actions.
+// Returns the rows of all actions.
 fn action_rows(
     alloc: Global,
     declared: usize,
@@ -75,7 +75,7 @@ fn action_rows(
     Ok(rows)
 }
 
-// One more rule and one more term.
+// Appends a rule and a term.
 fn push_parts(rules: &mut Vec<Rule>, terms: &mut Vec<Kat>, hyp: RuledTerm) -> Result<(), NoMemory>
     ensures rule { OnOk result (rules.new.items ≡ rules.old.items ++ hyp.rule ∷ []) }
     ensures term { OnOk result (map kat_tree terms.new.items ≡ map kat_tree terms.old.items ++ hyp.term ∷ []) }
@@ -85,7 +85,7 @@ fn push_parts(rules: &mut Vec<Rule>, terms: &mut Vec<Kat>, hyp: RuledTerm) -> Re
     Ok(terms.push(term)?)
 }
 
-// The rules and the terms of hypotheses.
+// Splits hypotheses into their rules and their terms.
 fn rules_and_terms(alloc: Global, hyps: Vec<RuledTerm>) -> Result<(Vec<Rule>, Vec<Kat>), NoMemory>
     ensures rules { IfOk result (λ both. both.0.items ≡ map (λ h. h.rule) hyps.items) }
     ensures terms { IfOk result (λ both. map kat_tree both.1.items ≡ map (λ h. h.term) hyps.items) }
@@ -98,7 +98,7 @@ fn rules_and_terms(alloc: Global, hyps: Vec<RuledTerm>) -> Result<(Vec<Rule>, Ve
     Ok((rules, terms))
 }
 
-// The abstraction of these parts, where they are within the limits of a problem.
+// Builds the abstraction of these parts, if they are within the limits of a problem.
 fn abstract_with(
     alloc: Global,
     tables: RowTables,
@@ -132,7 +132,7 @@ fn abstract_with(
     }
 }
 
-// The abstraction of a file with this goal.
+// Builds the abstraction of a file with this goal.
 fn make_abstract(alloc: Global, file: &File, goal: &Goal) -> Result<Abstract, AbstractFault>
     requires numbers { HasNumbersInRange (with_goal file.now (goal_tree goal.now)) }
     ensures { IsAbstraction (with_goal file.now (goal_tree goal.now)) result }
@@ -143,14 +143,14 @@ fn make_abstract(alloc: Global, file: &File, goal: &Goal) -> Result<Abstract, Ab
     abstract_with(alloc, tables, sides, hyps)
 }
 
-/// The abstraction of a file with another goal. Its tests are the declared ones, then the comparisons of the goal, then
-/// those that rounds of substitution add; its actions are the declared ones, then the assignments of the goal. Its
-/// hypotheses are the stated ones, then that a comparison holds after an assignment exactly where the substituted one
-/// holds before it, then facts of arithmetic. Fails when out of memory; with `TooManyTests` exactly where there are more
-/// than 48 tests before the rounds; otherwise with `TooManyActions` exactly where there are more than 48 actions; and
-/// otherwise with `ProblemTooLarge` exactly where the problem has more than 100,000 nodes. No derived hypothesis relates
-/// two stores of the file, and where both sides of the problem of a concrete file are the same, its goal holds of all its
-/// stores.
+/// Builds the abstraction of a file with another goal. Its tests are the declared ones, then the comparisons of the
+/// goal, then those that rounds of substitution add; its actions are the declared ones, then the assignments of the
+/// goal. Its hypotheses are the stated ones, then that a comparison holds after an assignment exactly when the
+/// substituted one holds before it, then facts of arithmetic. Fails when out of memory; with `TooManyTests` exactly
+/// when there are more than 48 tests before the rounds; otherwise with `TooManyActions` exactly when there are more
+/// than 48 actions; and otherwise with `ProblemTooLarge` exactly when the problem has more than 100,000 nodes. No
+/// derived hypothesis relates two stores of the file, and if both sides of the problem of a concrete file are the same,
+/// its goal holds for all its stores.
 pub fn abstracted_for(alloc: Global, file: &File, goal: &Goal) -> Result<Abstract, AbstractFault>
     requires numbers { HasNumbersInRange (with_goal file.now (goal_tree goal.now)) }
     ensures exact { IsAbstraction (with_goal file.now (goal_tree goal.now)) result }
@@ -160,7 +160,7 @@ pub fn abstracted_for(alloc: Global, file: &File, goal: &Goal) -> Result<Abstrac
     make_abstract(alloc, file, goal)
 }
 
-/// The abstraction of a file, as for another goal.
+/// Builds the abstraction of a file with its own goal. The result and the faults are those of `abstracted_for`.
 pub fn abstracted(alloc: Global, file: &File) -> Result<Abstract, AbstractFault>
     requires numbers { HasNumbersInRange file.now }
     ensures exact { IsAbstraction file.now result }

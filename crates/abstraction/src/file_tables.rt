@@ -18,7 +18,7 @@ use linear_forms::Atomic;
 use problem_file::{File, Goal};
 use std::alloc::Global;
 
-// The comparisons of the goal, where there are not too many.
+// Returns the comparisons of the goal, unless there are too many.
 fn test_table(alloc: Global, file: &File, goal: &Goal) -> Result<Vec<Atomic>, AbstractFault>
     ensures { IsTestTable (with_goal file.now (goal_tree goal.now)) result }
 {
@@ -33,7 +33,7 @@ fn test_table(alloc: Global, file: &File, goal: &Goal) -> Result<Vec<Atomic>, Ab
     Ok(rows)
 }
 
-// The assignments of the goal, where there are not too many.
+// Returns the assignments of the goal, unless there are too many.
 fn action_table(alloc: Global, file: &File, goal: &Goal) -> Result<Vec<AssignedForm>, AbstractFault>
     ensures { IsActionTable (with_goal file.now (goal_tree goal.now)) result }
 {
@@ -48,7 +48,7 @@ fn action_table(alloc: Global, file: &File, goal: &Goal) -> Result<Vec<AssignedF
     Ok(rows)
 }
 
-/// The tables of a file with this goal.
+/// Builds the tables of a file with this goal.
 pub(crate) fn file_tables(
     alloc: Global,
     file: &File,

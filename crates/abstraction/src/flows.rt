@@ -15,14 +15,14 @@ use kat_model::{Expr, NoMemory};
 use std::alloc::Global;
 use while_lang::{Flow, Flows, Prog, Stmt};
 
-// One more statement at the end.
+// Appends a statement.
 fn push_flow(list: &mut Vec<Flow>, flow: Flow) -> Result<(), NoMemory>
     ensures { OnOk result (map flow_stmt list.new.items ≡ map flow_stmt list.old.items ++ flow_stmt flow ∷ []) }
 {
     Ok(list.push(flow)?)
 }
 
-// The action of an assignment; one that is no row counts as action 0.
+// Returns the action of an assignment; an assignment that is not a row counts as action 0.
 fn assignment_action(
     alloc: Global,
     tables: &RowTables,
@@ -59,7 +59,7 @@ fn stmt_flow(alloc: Global, tables: &RowTables, stmt: &Stmt) -> Result<Flow, NoM
     }
 }
 
-/// The flow of a program: its conditions as tests, and its assignments as actions.
+/// Builds the flow of a program: its conditions as tests, and its assignments as actions.
 #[cycle(flows)]
 pub(crate) fn prog_flow(alloc: Global, tables: &RowTables, prog: &Prog) -> Result<Flows, NoMemory>
     ensures { IfOk result (λ f. f ≡ prog_flow tables.now prog.now) }

@@ -26,7 +26,7 @@ fn side_term(alloc: Global, tables: &RowTables, side: &Side) -> Result<Kat, NoMe
     }
 }
 
-/// The sides of a goal.
+/// Builds the sides of a goal.
 pub(crate) fn goal_sides(alloc: Global, tables: &RowTables, goal: &Goal) -> Result<Sides, NoMemory>
     ensures { IfOk result (λ s. side_trees s ≡ goal_sides tables.now (goal_tree goal.now)) }
 {

@@ -1,4 +1,4 @@
-//! The hypotheses of an abstraction: the stated ones, what assignments make of comparisons, and facts of arithmetic.
+//! The hypotheses of an abstraction: the stated ones, those from assignments and comparisons, and facts of arithmetic.
 ghost use Rattle.std.specs.Prelude.{◌≡◌, [], ◌∷◌, ◌++◌, flat_map, map, Option, option_map, IfOk, OnOk};
 ghost use Rattle.kat_model.specs.Stores.{modulus};
 ghost use Rattle.kat_model.specs.Trees.{kat_tree, test_tree, prim, complement, test, act, product};
@@ -39,7 +39,7 @@ impl<'a> Model for NumberedAssignment<'a> {
     ghost view = { λ a. (a.number, a.assigned.now) };
 }
 
-// The facts of two comparisons.
+// A kind of fact about two comparisons.
 #[derive(Clone, Copy)]
 enum PairFact {
     One,
@@ -49,7 +49,7 @@ enum PairFact {
     Five,
 }
 
-// The stated terms.
+// Returns the stated terms as hypotheses.
 fn stated_hyps(alloc: Global, terms: &[Kat]) -> Result<Vec<RuledTerm>, NoMemory>
     ensures { IfOk result (λ v. v.items ≡ stated_from 0 (map kat_tree terms.now)) }
 {
@@ -60,7 +60,7 @@ fn stated_hyps(alloc: Global, terms: &[Kat]) -> Result<Vec<RuledTerm>, NoMemory>
     Ok(hyps)
 }
 
-// That the action changes nothing outside the test, and leads into it, where psi holds before it.
+// Appends that no run of action i from psi ends outside test j, and that no run from the complement of psi ends in it.
 fn add_kept(
     alloc: Global,
     i: usize,
@@ -87,7 +87,7 @@ fn add_kept(
     )
 }
 
-// What an assignment makes of a comparison.
+// Appends the hypotheses from an assignment and a comparison.
 fn add_assignment_facts(
     alloc: Global,
     tables: &RowTables,
@@ -176,7 +176,7 @@ fn add_pair_facts_of(
     Ok(())
 }
 
-// A fact of each two comparisons.
+// Appends one kind of fact for each two comparisons.
 fn add_pair_facts(
     alloc: Global,
     width: Width,
@@ -262,7 +262,7 @@ fn numbered_assignments(
     Ok(rows)
 }
 
-// What is derived of these assignments and comparisons.
+// Appends the hypotheses that follow from these assignments and comparisons.
 fn add_facts(
     alloc: Global,
     tables: &RowTables,
@@ -282,7 +282,7 @@ fn add_facts(
     add_facts_six(alloc, width, rows, hyps)
 }
 
-// Those that hold in every store of the width.
+// Appends the hypotheses that hold in every store of the width.
 fn add_derived(alloc: Global, tables: &RowTables, hyps: &mut Vec<RuledTerm>) -> Result<(), NoMemory>
     ensures { OnOk result (hyps.new.items ≡ hyps.old.items ++ derived tables.now) }
 {
@@ -291,7 +291,7 @@ fn add_derived(alloc: Global, tables: &RowTables, hyps: &mut Vec<RuledTerm>) -> 
     add_facts(alloc, tables, &actions, &rows, hyps)
 }
 
-/// All hypotheses, for the stated terms.
+/// Returns all hypotheses: the stated terms, then the derived ones.
 pub(crate) fn hypotheses(
     alloc: Global,
     tables: &RowTables,

@@ -6,21 +6,21 @@ ghost use Rattle.abstraction.specs.Abstracts.{AbstractParts, HasNumbersInRange, 
 ghost use Rattle.abstraction.specs.ShownTables.{shown_tables};
 ghost use Rattle.abstraction.specs.Laws.{DerivedHold, AgreesWhereSame};
 
-/// The rows of the abstraction of a file show the tables by which its goal was read. So a condition or a program of the
-/// goal has, by these rows, the test or the flow that it has in the problem.
+/// The rows of the abstraction of a file give the tables with which its goal was read. So a condition or a program of
+/// the goal has the same test or flow by these rows as in the problem.
 pub fn tables_are_shown()
     ensures { (f : FileParts) (a : AbstractParts) → abstract_of f ≡ Ok a → shown_tables a ≡ tables_of f }
 {}
 
-/// No derived hypothesis of an abstraction relates two stores of the file, by the truth of comparisons and by what
-/// assignments set.
+/// No derived hypothesis of an abstraction relates two stores of the file, if tests are the truth of comparisons and
+/// actions set variables.
 pub fn derived_hypotheses_hold()
     ensures { (f : FileParts) (a : AbstractParts) → HasNumbersInRange f → abstract_of f ≡ Ok a → DerivedHold f a }
 {}
 
-/// Where both sides of the problem of a concrete file denote one relation in each table that keeps the hypotheses, the
-/// goal holds of all stores of the file: both programs end in the same stores from each, or the triple holds of every run
-/// that ends.
+/// If both sides of the problem of a concrete file denote one relation in each table that satisfies the hypotheses, the
+/// goal holds for all stores of the file: both programs end in the same stores from each store, or the triple holds for
+/// every run that ends.
 pub fn same_sides_agree()
     ensures { (f : FileParts) (a : AbstractParts) → HasNumbersInRange f → abstract_of f ≡ Ok a → AgreesWhereSame f a }
 {}

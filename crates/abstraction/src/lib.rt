@@ -1,5 +1,5 @@
-//! The abstraction of a problem file: programs over variables become terms over tests and actions, with the hypotheses
-//! that are known of assignments and comparisons.
+//! The abstraction of a problem file: programs over variables become terms over tests and actions, with the known
+//! hypotheses about assignments and comparisons.
 #![tactic(auto)]
 
 mod assignments;

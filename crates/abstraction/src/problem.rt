@@ -3,17 +3,17 @@ use crate::rows::{ActionRow, Rule, TestRow};
 use kat_model::{Problem, Width};
 use std::marker::Model;
 
-/// The problem of a file, with what its tests, actions and hypotheses stand for, by their numbers.
+/// The problem of a file, with the meanings of its tests, actions and hypotheses, by their numbers.
 #[derive(Drop)]
 pub struct Abstract {
     pub problem: Problem,
-    /// What each action stands for: the declared ones, and then the assignments of the goal.
+    /// The meaning of each action: the declared ones, then the assignments of the goal.
     pub actions: Vec<ActionRow>,
-    /// What each test stands for: the declared ones, the comparisons of the goal, and those that the rounds add.
+    /// The meaning of each test: the declared ones, the comparisons of the goal, and those that the rounds add.
     pub tests: Vec<TestRow>,
-    /// Why each hypothesis is one.
+    /// The reason for each hypothesis.
     pub rules: Vec<Rule>,
-    /// The width of the file's numbers.
+    /// The width of the numbers in the file.
     pub width: Width,
 }
 

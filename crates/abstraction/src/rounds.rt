@@ -1,4 +1,4 @@
-//! Rounds: comparisons in which assignments are substituted, as further tests.
+//! Rounds: substituting assignments in comparisons gives further tests.
 ghost use Rattle.std.specs.Prelude.{◌≡◌, [], ◌∷◌, ◌++◌, flat_map, IfOk, OnOk, if◌then◌else◌};
 ghost use Rattle.kat_model.specs.Stores.{modulus};
 ghost use Rattle.linear_forms.specs.Comparisons.{substituted};
@@ -11,10 +11,10 @@ use kat_model::{NoMemory, Width};
 use linear_forms::{Atomic, CondForm, atomic_size, subst};
 use std::alloc::Global;
 
-// The most nodes of a comparison that a round appends.
+// The maximum number of nodes of a comparison that a round appends.
 const MAX_APPENDED_NODES: u64 = 1_000;
 
-// Appends a comparison that is not there yet, has few nodes, and has room.
+// Appends a comparison, unless it is in the table already, has too many nodes, or the table is full.
 fn append_comparison(rows: &mut Vec<Atomic>, most: usize, atomic: Atomic) -> Result<(), NoMemory>
     ensures { OnOk result (rows.new.items ≡ (if is_appended most rows.old.items atomic then rows.old.items ++ atomic ∷ [] else rows.old.items)) }
 {
@@ -34,8 +34,8 @@ fn append_atomic(rows: &mut Vec<Atomic>, most: usize, cond: CondForm) -> Result<
     }
 }
 
-// Appends a comparison in which an assignment is substituted. The result of a substitution can be large: it is dropped
-// before there is another.
+// Appends a comparison in which an assignment is substituted. The result of a substitution can be large, so it is
+// dropped before the next one is built.
 fn append_substituted(
     alloc: Global,
     width: Width,
@@ -69,7 +69,7 @@ fn append_all_substituted(
     Ok(())
 }
 
-// Appends these comparisons in which each assignment is substituted.
+// Appends these comparisons with each assignment substituted.
 fn append_substitutions(
     alloc: Global,
     width: Width,
@@ -96,8 +96,8 @@ fn copies(alloc: Global, atomics: &[Atomic]) -> Result<Vec<Atomic>, NoMemory>
     Ok(list)
 }
 
-/// The rounds. Only comparisons that are new since the round before are substituted, since no other gives a new row, and
-/// rounds that append nothing are left out.
+/// Runs the rounds. Substitutes only in comparisons that are new since the previous round, because the others give no
+/// new rows, and stops when further rounds would append nothing.
 pub(crate) fn add_rounds(
     alloc: Global,
     width: Width,

@@ -1,7 +1,7 @@
-//! What the tests, actions and hypotheses of an abstraction stand for.
+//! The meanings of the tests, actions and hypotheses of an abstraction.
 use linear_forms::{Atomic, Form};
 
-/// What an action stands for.
+/// The meaning of an action.
 #[derive(Drop)]
 pub enum ActionRow {
     /// A declared action, by its number in the file.
@@ -10,7 +10,7 @@ pub enum ActionRow {
     Assign(usize, Form),
 }
 
-/// What a test stands for.
+/// The meaning of a test.
 #[derive(Drop)]
 pub enum TestRow {
     /// A declared test, by its number in the file.
@@ -19,22 +19,23 @@ pub enum TestRow {
     Compare(Atomic),
 }
 
-/// Why a hypothesis is one: it is stated, by its number in the text; an action leaves a comparison as it finds the
-/// substituted one; or comparisons, by their numbers among the tests, exclude or imply one another.
+/// The reason for a hypothesis: the text states it, under this number; a comparison holds after an action exactly when
+/// the substituted one holds before it; or comparisons, given by their numbers among the tests, exclude or imply one
+/// another.
 #[derive(Clone, Copy, PartialEq, Eq, Debug)]
 pub enum Rule {
     Stated(usize),
-    /// An action and a test.
+    /// The numbers of an action and of a test.
     Assign(usize, usize),
-    /// Two forms that differ, or add up to, a constant other than 0 are not both 0.
+    /// Two forms whose difference or sum is a constant other than 0 are not both 0.
     F1(usize, usize),
     /// `f < g` and `g < f` exclude one another.
     F2(usize, usize),
     /// `f < g` and `f == g` exclude one another.
     F3(usize, usize),
-    /// `f < c` implies `f < d` where c is less than d.
+    /// `f < c` implies `f < d` if c is less than d.
     F4(usize, usize),
-    /// A form that is a constant is below another constant or not.
+    /// A test that makes a form a constant decides whether the form is below another constant.
     F5(usize, usize),
     /// One of `f < g`, `g < f` and `f == g` holds.
     F6(usize, usize, usize),

@@ -1,4 +1,4 @@
-//! Conditions and programs, read by the tables that an abstraction shows.
+//! Conditions and programs, read with the tables of an abstraction.
 ghost use Rattle.std.specs.Prelude.{◌≡◌, [], ◌∷◌, ◌++◌, IfOk, OnOk};
 ghost use Rattle.kat_model.specs.Expressions.{cond_tree};
 ghost use Rattle.kat_model.specs.Trees.{test_tree};
@@ -64,7 +64,7 @@ fn row_assignments(alloc: Global, rows: &[ActionRow]) -> Result<Vec<AssignedForm
     Ok(list)
 }
 
-// The tables of the rows that an abstraction has.
+// Builds the tables of the rows of an abstraction.
 fn shown_tables(alloc: Global, shown: &Abstract) -> Result<RowTables, NoMemory>
     ensures { IfOk result (λ t. t ≡ shown_tables shown.now) }
 {
@@ -81,9 +81,9 @@ fn shown_tables(alloc: Global, shown: &Abstract) -> Result<RowTables, NoMemory>
     })
 }
 
-/// The flow of a program by the rows of an abstraction: its conditions as tests, and its assignments as actions. Where
-/// the abstraction lacks a row, a comparison counts as false and an assignment as action 0. It fails only when out of
-/// memory.
+/// Builds the flow of a program with the rows of an abstraction: its conditions as tests, and its assignments as
+/// actions. If the abstraction lacks a row, a comparison counts as false and an assignment as action 0. Fails only when
+/// out of memory.
 pub fn flow_of(alloc: Global, shown: &Abstract, prog: &Prog) -> Result<Flows, NoMemory>
     ensures { IfOk result (λ f. f ≡ prog_flow (shown_tables shown.now) prog.now) }
 {
@@ -91,7 +91,8 @@ pub fn flow_of(alloc: Global, shown: &Abstract, prog: &Prog) -> Result<Flows, No
     prog_flow(alloc, &tables, prog)
 }
 
-/// The test of a condition by the rows of an abstraction, as for programs. It fails only when out of memory.
+/// Builds the test of a condition with the rows of an abstraction; missing rows count as for `flow_of`. Fails only when
+/// out of memory.
 pub fn test_of(alloc: Global, shown: &Abstract, cond: &Cond) -> Result<Test, NoMemory>
     ensures { IfOk result (λ t. test_tree t ≡ cond_test (shown_tables shown.now) (cond_tree cond.now)) }
 {

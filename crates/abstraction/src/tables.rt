@@ -1,4 +1,4 @@
-//! The tables of an abstraction: which comparisons are its tests, and which assignments its actions.
+//! The tables of an abstraction: the comparisons that are its tests, and the assignments that are its actions.
 ghost use Rattle.std.specs.Prelude.{◌≡◌, option_map};
 
 use crate::unique_rows::{Row, place_of};
@@ -45,8 +45,8 @@ impl Row for AssignedForm {
     }
 }
 
-/// What conditions and programs are read by: how many tests and actions are declared, and the comparisons and the
-/// assignments that are tests and actions after these.
+/// The tables with which conditions and programs are read: the numbers of declared tests and actions, and the
+/// comparisons and the assignments that are the tests and actions after the declared ones.
 #[derive(Drop)]
 pub(crate) struct RowTables {
     pub(crate) tests: usize,
@@ -80,7 +80,7 @@ impl Model for RowTables {
 impl RowTables {
     ghost use Rattle.abstraction.specs.Tests.{test_number, action_number};
 
-    /// The number of a comparison among the tests.
+    /// Returns the number of a comparison among the tests.
     pub(crate) fn test_number(&self, atomic: &Atomic) -> Option<usize>
         ensures { result ≡ test_number self.now atomic.now }
     {
@@ -90,7 +90,7 @@ impl RowTables {
         }
     }
 
-    /// The number of an assignment among the actions.
+    /// Returns the number of an assignment among the actions.
     pub(crate) fn action_number(&self, assignment: &AssignedForm) -> Option<usize>
         ensures { result ≡ action_number self.now assignment.now }
     {

@@ -1,4 +1,4 @@
-//! Rows that a table has once.
+//! Tables that have each row once.
 ghost use Rattle.std.specs.Prelude.{◌≡◌, ◌≤◌, ◌<◌, [], ◌∷◌, length, position, IfOk, OnOk, Ok, Err};
 ghost use Rattle.std.specs.List.{list_any};
 ghost use Rattle.abstraction.specs.Working.CappedRows.{with_new_within};
@@ -16,7 +16,7 @@ pub(crate) trait Row {
         ensures { result ≡ same self.now other.now };
 }
 
-/// The place of a row in a table.
+/// Returns the index of a row in a table.
 pub(crate) fn place_of<T: Row>(rows: &[T], row: &T) -> Option<usize>
     ensures { result ≡ position (T.same row.now) rows.now }
 {
@@ -30,7 +30,7 @@ pub(crate) fn has_row<T: Row>(rows: &[T], row: &T) -> bool
     rows.iter().any(|x| row.is_same(x))
 }
 
-/// Appends a row, unless the table has it or has more than so many rows.
+/// Appends a row, unless the table has it already or has more than `most` rows.
 pub(crate) fn add_row<T: Row + Drop>(rows: &mut Vec<T>, most: usize, row: T) -> Result<(), NoMemory>
     ensures { OnOk result (rows.new.items ≡ with_new_within most T.same rows.old.items row) }
 {

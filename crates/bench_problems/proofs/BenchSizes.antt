@@ -1,4 +1,4 @@
--- The generated problems are within the limits of problems.
+-- The generated problems are within the limits on problems.
 use Rattle.std.proofs.Common.{◌≡◌, ℕ, zero, suc, ◌+◌, ◌*◌, ◌%◌, ◌<◌, ◌≤◌, List, [], map, Bool, true, false, cond, None, Some, nat_eq, refl, ap, ◌∙◌, subst, sym, arith}
 use mathlib.Core.Path.{ap₂}
 use Rattle.kat_model.specs.Trees.{prim, Term, kat_tree}
@@ -12,7 +12,7 @@ use Rattle.bench_problems.specs.Generator.{Drawn, drawn, next_state, drawn_numbe
 use Rattle.bench_problems.proofs.UnrolledFlows.{unrolled-followed_by}
 use Rattle.bench_problems.proofs.FlowSizes.{IsFit, encoded_in_range, encoded_size, fit_more, fit_none, fit_action, fit_both, fit_branch, fit_loop}
 
--- what a program of so many levels has at most, its loops unrolled or not
+-- an upper bound on the size of a program with at most d levels, with its loops unrolled or not
 bound : ℕ → ℕ
 bound zero = 2
 bound (suc d) = 2 * bound d + 21
@@ -92,7 +92,7 @@ bench_is_problem k =
 abbrev parts : List Term → Term → Term → ProblemParts
 parts hyps left right = record { tests = 4; actions = 4; hyps = hyps; left = left; right = right }
 
--- so it is never refused
+-- so the problem is never refused
 pub bench_not_refused : (k s t : ℕ) (p q : FlowTree) (hyps : List Kat) (left right : Kat) (bad : BadProblem) →
     drawn p s ≡ drawn_program 4 t → t ≡ k → q ≡ right_program k p → hyps ≡ [] → kat_tree left ≡ encoded p → kat_tree right ≡ encoded q → problem_fault (problem_parts 4 4 hyps left right) ≡ Some bad → ⊥
 bench_not_refused k s t p q hyps left right bad made from unrolled none left_is right_is refused =

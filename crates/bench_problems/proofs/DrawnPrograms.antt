@@ -1,4 +1,4 @@
--- The programs that are drawn, level by level.
+-- The drawn programs, level by level.
 use Rattle.std.proofs.Common.{◌≡◌, ◌≢◌, ℕ, zero, suc, List, [], ◌∷◌, ◌++◌, map, refl, sym, ap, ◌∙◌, arith}
 use Rattle.std.proofs.lemmas.List.{map-append}
 use Rattle.while_lang.specs.Flows.{FlowStmt, skip, abort, assert, act, branch, loop, flow_of, skip_then, abort_then, assert_then, act_then, branch_then, loop_then}
@@ -11,7 +11,7 @@ unfolding drawn_program
 drawn_program-none zero s h = refl
 drawn_program-none (suc d) s h = absurd (omega arith)
 
--- by the number that is drawn first
+-- the drawn program, by the first number drawn
 drawn_program-more : (d e s n : ℕ) → d ≡ suc e → n ≡ drawn_number s → drawn_program d s ≡ drawn_by (drawn_program e) n (next_state s)
 unfolding drawn_program
 drawn_program-more d e s n h is = rw (h, is) refl

@@ -1,4 +1,4 @@
--- How large the terms of programs are, and which tests and actions they have.
+-- The sizes of the terms of programs, and their tests and actions.
 use Rattle.std.proofs.Common.{◌≡◌, ℕ, zero, suc, ◌+◌, ◌/◌, ◌<◌, ◌≤◌, List, [], ◌∷◌, ◌++◌, length, take, drop, refl, sym, ap, ◌∙◌, subst, arith}
 use Rattle.std.proofs.lemmas.List.{take-append-drop, length-take, length-drop}
 use Rattle.kat_model.specs.Trees.{prim, Term, zero as nothing, one, test, act, product, term_size}
@@ -10,7 +10,7 @@ use Rattle.while_lang.specs.Flows.{FlowTree, empty, skip_then, abort_then, asser
 use Rattle.while_lang.specs.Encoding.{branch_term, loop_term, stmt_terms, encoded}
 use Rattle.bench_problems.specs.Generator.{followed_by}
 
--- the nodes of the terms, and one for each
+-- the total number of nodes of the terms, plus one for each term
 abbrev weight : List Term → ℕ
 weight [] = 0
 weight (e ∷ es) = term_size e + weight es + 1
@@ -19,7 +19,7 @@ weight-append : (es fs : List Term) → weight (es ++ fs) ≡ weight es + weight
 weight-append [] fs = omega arith
 weight-append (e ∷ es) fs = omega (arith, weight-append es fs)
 
--- a product of one member or more has a node between two of its members
+-- the product of k > 0 terms adds at most k - 1 nodes
 nonempty_size : (n : ℕ) (es : List Term) → length es ≤ n → 0 < length es → term_size (balanced_within one product n es) + 1 ≤ weight es
 nonempty_size n [] le some = absurd (omega arith)
 nonempty_size zero (e ∷ es) le some = absurd (omega arith)
@@ -55,7 +55,7 @@ stmt_terms-followed_by (act_then a rest) g = ap (λ (es : List Term). act a ∷ 
 stmt_terms-followed_by (branch_then b p q rest) g = ap (λ (es : List Term). branch_term b (encoded p) (encoded q) ∷ es) (stmt_terms-followed_by rest g)
 stmt_terms-followed_by (loop_then b p rest) g = ap (λ (es : List Term). loop_term b (encoded p) ∷ es) (stmt_terms-followed_by rest g)
 
--- a program of four tests and four actions, the nodes of whose statements and one for each are within a bound
+-- a program of four tests and four actions, whose statements have at most `bound` nodes, plus one counted for each
 pub record IsFit (bound : ℕ) (f : FlowTree) : Type 0 where
   pub range : AreInRange 4 4 (stmt_terms f)
   pub size : weight (stmt_terms f) ≤ bound

@@ -1,4 +1,4 @@
--- The programs that are drawn from some numbers.
+-- The programs drawn from some numbers.
 use Rattle.std.proofs.Common.{◌≡◌, refl}
 use Rattle.kat_model.specs.Trees.{prim, term_size}
 use Rattle.while_lang.specs.Flows.{empty, act_then, branch_then, loop_then}
@@ -25,7 +25,7 @@ program-zero : (drawn_program 4 0).flow ≡ act_then 0 empty
 unfolding drawn_program
 program-zero = refl
 
--- nested loops
+-- nested loops, unrolled
 unrolled-nested : unrolled (loop_then (prim 0) (loop_then (prim 1) (act_then 0 empty) empty) empty)
     ≡ branch_then (prim 0)
     (branch_then (prim 1) (act_then 0 (loop_then (prim 1) (act_then 0 empty) empty)) empty (loop_then (prim 0) (branch_then (prim 1) (act_then 0 (loop_then (prim 1) (act_then 0 empty) empty)) empty empty) empty))

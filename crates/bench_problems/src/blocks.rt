@@ -1,4 +1,4 @@
-//! Programs, made of statements and of other programs.
+//! Programs built from statements and from other programs.
 ghost use Rattle.std.specs.Prelude.{◌≡◌, [], ◌∷◌, ◌++◌, map, IfOk, OnOk};
 ghost use Rattle.while_lang.specs.Flows.{empty, with_stmt};
 ghost use Rattle.while_lang.specs.FlowViews.{flow_stmt};
@@ -8,14 +8,14 @@ use kat_model::NoMemory;
 use std::alloc::Global;
 use while_lang::{Flow, Flows};
 
-// One more statement at the end.
+// Appends a statement.
 pub(crate) fn push_stmt(list: &mut Vec<Flow>, stmt: Flow) -> Result<(), NoMemory>
     ensures { OnOk result (map flow_stmt list.new.items ≡ map flow_stmt list.old.items ++ flow_stmt stmt ∷ []) }
 {
     Ok(list.push(stmt)?)
 }
 
-// The program of one statement.
+// Builds the program of one statement.
 pub(crate) fn one_stmt(alloc: Global, stmt: Flow) -> Result<Flows, NoMemory>
     ensures { IfOk result (λ f. f ≡ with_stmt (flow_stmt stmt) empty) }
 {
@@ -24,7 +24,7 @@ pub(crate) fn one_stmt(alloc: Global, stmt: Flow) -> Result<Flows, NoMemory>
     Ok(Flows { list })
 }
 
-// The statements of the one program, and then those of the other.
+// Appends the statements of the second program to the first.
 pub(crate) fn join(first: Flows, second: Flows) -> Result<Flows, NoMemory>
     ensures { IfOk result (λ f. f ≡ followed_by first second) }
 {

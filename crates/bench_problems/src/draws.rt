@@ -1,4 +1,4 @@
-//! Numbers that are drawn one after the other.
+//! The generator of the drawn numbers.
 ghost use Rattle.std.specs.Prelude.{◌≡◌, ◌<◌, ◌^◌};
 ghost use Rattle.bench_problems.specs.Generator.{next_state, drawn_number};
 
@@ -17,7 +17,7 @@ impl Draws {
         Draws { state: seed }
     }
 
-    // The next number, which is below 4.
+    // Returns the next number, which is below 4.
     pub(crate) fn draw(&mut self) -> usize
         ensures number { result ≡ drawn_number self.old.state }
         ensures state { self.new.state ≡ next_state self.old.state }

@@ -14,7 +14,7 @@ fn draw_action(alloc: Global, draws: &mut Draws) -> Result<Flows, NoMemory>
     one_stmt(alloc, Flow::Act(draws.draw()))
 }
 
-// A program, and then another.
+// Draws a program and then another.
 #[cycle(programs)]
 fn draw_both(alloc: Global, levels: u32, draws: &mut Draws) -> Result<Flows, NoMemory>
     ensures { IfOk result (λ f. drawn f draws.new.state ≡ drawn_by (drawn_program levels) 1 draws.old.state) }
@@ -43,7 +43,7 @@ fn draw_loop(alloc: Global, levels: u32, draws: &mut Draws) -> Result<Flows, NoM
     one_stmt(alloc, Flow::While(test, body))
 }
 
-// A program of so many levels.
+// Draws a program with at most `levels` levels.
 #[cycle(programs)]
 pub(crate) fn draw_program(alloc: Global, levels: u32, draws: &mut Draws) -> Result<Flows, NoMemory>
     ensures { IfOk result (λ f. drawn f draws.new.state ≡ drawn_program levels draws.old.state) }

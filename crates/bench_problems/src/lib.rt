@@ -1,6 +1,6 @@
-//! Generated problems: random programs, each beside itself with its loops unrolled. Unrolling a loop does not change what a
-//! program does, so a prover has to find the sides of every second problem the same; those of the others have one action
-//! more on the right.
+//! Generated problems: random programs, each compared with itself after its loops are unrolled. Unrolling a loop does
+//! not change the meaning of a program, so the sides of every second problem are equal; the other problems have an
+//! additional action on the right.
 #![tactic(auto)]
 
 mod blocks;

@@ -10,13 +10,13 @@ use kat_model::{NoMemory, Problem};
 use std::alloc::Global;
 use while_lang::{Flow, Flows, encode};
 
-// How many tests and actions there are.
+// The number of tests, and the number of actions.
 const COUNT: usize = 4;
 
-// How many levels a program has.
+// The maximum number of levels of a program.
 const LEVELS: u32 = 4;
 
-// The program of the right side.
+// Builds the program of the right side.
 fn right_program(alloc: Global, k: u64, program: &Flows) -> Result<Flows, NoMemory>
     ensures { IfOk result (λ f. f ≡ right_program k program.now) }
 {
@@ -28,9 +28,9 @@ fn right_program(alloc: Global, k: u64, program: &Flows) -> Result<Flows, NoMemo
     join(unrolled, last)
 }
 
-/// Generated problem k. It has four tests, four actions and no hypotheses. The left side is the term of a random program of
-/// four levels, whose draws begin from k, and the right side that of the same program with each loop unrolled once; for odd
-/// k the first action stands behind it. It fails only when out of memory.
+/// Builds generated problem k. It has four tests, four actions and no hypotheses. The left side is the term of a random
+/// program of four levels, whose draws start from k. The right side is the term of the same program with each loop
+/// unrolled once; for odd k the first action follows it. Fails only when out of memory.
 pub fn bench_problem(alloc: Global, k: u64) -> Result<Problem, NoMemory>
     requires { k < 10000 }
     ensures { IfOk result (λ p. p ≡ bench_problem k) }

@@ -11,7 +11,7 @@ use kat_model::{NoMemory, Test};
 use std::alloc::Global;
 use while_lang::{Flow, Flows};
 
-// A branch that takes the first turn of a loop, before the loop with its blocks unrolled.
+// Builds the branch that runs the first turn of a loop, `turn`, and then the loop over `body`.
 fn unrolled_loop(alloc: Global, test: &Test, turn: Flows, body: Flows) -> Result<Flow, NoMemory>
     ensures { IfOk result (λ s. flow_stmt s ≡ branch (test_tree test.now) (followed_by turn (loop_then (test_tree test.now) body empty)) empty) }
 {
@@ -46,7 +46,7 @@ fn unroll_stmt(alloc: Global, stmt: &Flow) -> Result<Flow, NoMemory>
     }
 }
 
-// Each loop is unrolled once, inside blocks too.
+// Unrolls each loop once, also inside blocks.
 #[cycle(unrolling)]
 pub(crate) fn unroll(alloc: Global, flows: &Flows) -> Result<Flows, NoMemory>
     ensures { IfOk result (λ f. f ≡ unrolled flows.now) }

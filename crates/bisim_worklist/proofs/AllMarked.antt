@@ -1,9 +1,9 @@
--- Whether all of some ids are marked, looked at from the last one on.
+-- Whether all of some ids are marked, checked from the last id on.
 use Rattle.std.proofs.Common.{◌≡◌, ℕ, suc, ◌+◌, ◌<◌, ◌≤◌, List, [], ◌∷◌, length, get_or, refl, arith, Bool, true, false}
 use Rattle.std.proofs.lemmas.Bool.{and_from}
 use Rattle.bisim_worklist.specs.Working.Marks.{are_marked}
 
--- the last i of them are
+-- the last i ids are marked
 abbrev pub AreLastMarked : List Bool → List ℕ → ℕ → Type 0
 AreLastMarked marks ids i = (k : ℕ) → k < length ids → length ids ≤ k + i → get_or marks (get_or ids k 0) false ≡ true
 

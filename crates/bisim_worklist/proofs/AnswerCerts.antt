@@ -1,4 +1,4 @@
--- What each certificate has that the prover answers, with or without tests.
+-- Properties of each certificate that the prover returns, with or without tests.
 use Rattle.std.proofs.Common.{◌≡◌, ◌+◌, ◌*◌, ◌≤◌, ⊎_elim, [], length, subst}
 use Rattle.std.specs.Bool.{IsTrue}
 use Rattle.std.specs.List.{list_any}
@@ -16,7 +16,7 @@ module _ (q : ProblemParts) (c : CertParts) where
   pub answer_accepted : IsAnswerCert q c → IsAccepted q c
   answer_accepted a = ⊎_elim (λ (u : IsUntestedAnswer q c). u.concise.accepted) (λ (t : IsTestedAnswer q c). t.concise.accepted) a
 
-  -- without hypotheses none is short
+  -- without hypotheses there is no short one
   none_is_short : q.hyps ≡ [] → IsTrue (has_short q) → ⊥
   none_is_short none short = false≢true (subst (λ hs. IsTrue (list_any is_short hs)) none short)
 

@@ -1,5 +1,5 @@
--- Items at an atom: what surely is on a side is chosen there, and what is chosen on one side alone is open. Where the
--- guards are constant, just what surely is there is chosen.
+-- Items at an atom: a sure target of a side is chosen there, and a target chosen on only one side is open. If the
+-- guards are constant, exactly the sure targets are chosen.
 use Rattle.std.proofs.Common.{◌≡◌, ◌⊎◌, ℕ, inl, inr, ⊎_elim, List, refl, sym, ap, ◌∙◌, subst, Bool, true, false, not, ◌&&◌, nat_eq}
 use Rattle.std.proofs.lemmas.Bool.{not-true, true≢false, eqb-true, eq-eqb, and_parts}
 use Rattle.kat_model.specs.Trees.{Term}
@@ -58,7 +58,7 @@ module _ (d : DiagramsParts) (ends : Ends) (are_ends : AreEnds d ends) (items : 
         go i m v same true e = inr (subst (Has (open_targets ends.never ends.always side items)) same (subst (λ ts. Has ts i.target) (sym (open_where ends.never ends.always side items)) (where_has (is_open ends.never ends.always side) items i m e)))
         go i m v same false e = inl (subst (Has (chosen d other items atom)) same (chosen_has other i m (shut_chosen i v e)))
 
-    -- sets with the chosen terms are between what surely is there and what may be
+    -- a set with the chosen terms lies between the sure and the open targets
     pub are_between : (store : NodeParts) (es fs : List Term) → SameMembers es (terms_of store (chosen d side items atom)) → SameMembers fs (terms_of store (chosen d other items atom)) → IsBetween (terms_of store (targets_under ends.always side items)) (terms_of store (open_targets ends.never ends.always side items)) es fs
     are_between store es fs s t = record {
       has = λ x h. (s x).1 (terms_within store (targets_under ends.always side items) (chosen d side items atom) (sure_chosen side) x h);
@@ -70,7 +70,7 @@ module _ (d : DiagramsParts) (ends : Ends) (are_ends : AreEnds d ends) (items : 
           (chosen_reached f.0 f.1);
     }
 
-  -- ---- where all guards are constant
+  -- ---- when all guards are constant
 
   module _ (reduced : IsReduced d) (side : Side) (ids : (i : Item) → Has items i → IsDiagramId d (guard_of side i)) (constants : (i : Item) → Has items i → IsConstant d (guard_of side i)) where
     under_has : (i : Item) → Has items i → guard_of side i ≡ ends.always → Has (targets_under ends.always side items) i.target
@@ -100,7 +100,7 @@ module _ (d : DiagramsParts) (ends : Ends) (are_ends : AreEnds d ends) (items : 
             let may = and_parts (not (nat_eq (guard_of side i) ends.never)) (not (nat_eq (guard_beyond side i) ends.always)) (and_parts (not (nat_eq i.left i.right)) (not (nat_eq (guard_of side i) ends.never) && not (nat_eq (guard_beyond side i) ends.always)) o).1 in
             absurd (true≢false (sym (eq-eqb (guard_of side i) ends.never (is_never i m v)) ∙ not-true (nat_eq (guard_of side i) ends.never) may.0))
 
-    -- the sets with the chosen terms have what surely is there
+    -- a set with the chosen terms has the sure targets
     pub same_sure : (store : NodeParts) (es : List Term) → SameMembers es (terms_of store (chosen d side items atom)) → SameMembers es (terms_of store (targets_under ends.always side items))
     same_sure store es s x = (
       (λ h. terms_within store (chosen d side items atom) (targets_under ends.always side items) chosen_sure x ((s x).0 h)),

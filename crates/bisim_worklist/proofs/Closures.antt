@@ -1,4 +1,4 @@
--- What pairs make of marks, in whatever order they are taken: once no pair adds a mark, it is what rounds make.
+-- The marks that pairs add, in any order: when no pair adds a mark, they are the marks after rounds over the pairs.
 use Rattle.std.proofs.Common.{◌≡◌, ℕ, zero, suc, ◌+◌, ◌<◌, ◌≤◌, ◌⊎◌, inl, inr, ⊎_elim, List, [], ◌∷◌, ◌++◌, length, get_or, set, slice_get, length-append, refl, sym, ap, ◌∙◌, subst, arith, Bool, true, false, not, ◌||◌, cond, Option, Some, None}
 use mathlib.Core.Path.{ap₂}
 use Rattle.std.proofs.lemmas.Bool.{true≢false, and_parts, not-true}
@@ -19,7 +19,7 @@ use Rattle.bisim_worklist.proofs.MarkEnds.{marked_held, held_same, all_rounds_cl
 use Rattle.bisim_worklist.proofs.MarkedTerms.{length_with_pair, length_with_side}
 use Rattle.bisim_worklist.proofs.OutOfReach.{one_unmarked}
 
--- ---- more marks, where there were more
+-- ---- adding the same marks to a set and to a larger one
 
 set_within : (m c : List Bool) (k : ℕ) → length m ≡ length c → Stays m c → (j : ℕ) → get_or (set m k true) j false ≡ true → get_or (set c k true) j false ≡ true
 set_within [] c k l s j e = absurd (true≢false (sym e))
@@ -33,7 +33,7 @@ marks_within : (ks : List ℕ) (m c : List Bool) → length m ≡ length c → S
 marks_within [] m c l s = s
 marks_within (k ∷ ks) m c l s = marks_within ks (set m k true) (set c k true) (length-set m k true ∙ l ∙ sym (length-set c k true)) (set_within m c k l s)
 
--- marks to which a pair adds nothing have all of each of its sets, where they have all of the other
+-- marks to which a pair adds nothing and that contain one of its sets contain the other
 across_same : (c : List Bool) (p : IdEntry) → with_pair_marked c p ≡ c → (side : Side) → are_marked c (set_on side p) ≡ true → with_marks c (set_across side p) ≡ c
 across_same c p q Left e = sym (ap (λ (x : Bool). cond x (with_marks c p.right) (cond (are_marked c p.right) (with_marks c p.left) c)) e) ∙ q
 across_same c p q Right f = go (are_marked c p.left) refl
@@ -42,7 +42,7 @@ across_same c p q Right f = go (are_marked c p.left) refl
     go true e = held_same p.left c (marked_held c p.left e)
     go false e = sym (ap₂ (λ (x y : Bool). cond x (with_marks c p.right) (cond y (with_marks c p.left) c)) e f) ∙ q
 
--- a set of the pair brings nothing to a part of these marks that is not in them
+-- a set of the pair adds only marks of `c` to a subset of `c`
 side_within : (side : Side) (m c : List Bool) (p : IdEntry) → length m ≡ length c → with_pair_marked c p ≡ c → Stays m c → Stays (with_side_marked side m p) c
 side_within side m c p l q s = go (are_marked m (set_on side p)) refl
   where
@@ -50,7 +50,7 @@ side_within side m c p l q s = go (are_marked m (set_on side p)) refl
     go true e = subst (Stays (with_marks m (set_across side p))) (across_same c p q side (all_stay m c s (set_on side p) e)) (marks_within (set_across side p) m c l s)
     go false e = s
 
--- nor does the pair
+-- the pair adds only marks of `c` to a subset of `c`
 pair_within : (m c : List Bool) (p : IdEntry) → length m ≡ length c → with_pair_marked c p ≡ c → Stays m c → Stays (with_pair_marked m p) c
 pair_within m c p l q s = go (are_marked m p.left) refl
   where
@@ -58,7 +58,7 @@ pair_within m c p l q s = go (are_marked m p.left) refl
     go true e = subst (Stays (with_marks m p.right)) (across_same c p q Left (all_stay m c s p.left e)) (marks_within p.right m c l s)
     go false e = side_within Right m c p l q s
 
--- ---- what pairs make
+-- ---- the marks that pairs add
 
 pub made_itself : (ps : List IdEntry) (m : List Bool) → IsMade ps m m
 made_itself ps m = record { long = refl; keeps = λ j e. e; least = λ c l q s. s }
@@ -94,13 +94,13 @@ made_rounds : (n : ℕ) (ps : List IdEntry) (m : List Bool) → IsMade ps m (rou
 made_rounds zero ps m = made_itself ps m
 made_rounds (suc n) ps m = made_then ps m (round_marked ps m) (rounds_marked n ps (round_marked ps m)) (made_round ps ps m (λ p h. h)) (made_rounds n ps (round_marked ps m))
 
--- what pairs make is among what rounds make
+-- the marks that pairs add are among those after rounds
 made_among : (ps : List IdEntry) (m n : List Bool) → IsMade ps m n → Stays n (rounds_marked (length ps) ps m)
 made_among ps m n made =
     let rounds = made_rounds (length ps) ps m in
     made.least (rounds_marked (length ps) ps m) rounds.long (all_rounds_closed ps m) rounds.keeps
 
--- so what is reached is reached by rounds
+-- targets that are reached are reached by rounds
 pub reached_so : (ps : List IdEntry) (m n : List Bool) (universal : Option ℕ) (targets : List ℕ) → IsMade ps m n → are_reached universal targets n ≡ true
     → are_reached universal targets n ≡ are_reached universal targets (rounds_marked (length ps) ps m)
 reached_so ps m n universal targets made e = e ∙ sym (reached_stays n (rounds_marked (length ps) ps m) (made_among ps m n made) universal targets e)
@@ -111,7 +111,7 @@ same_bool true false f g = sym (f refl)
 same_bool false true f g = g refl
 same_bool false false f g = refl
 
--- and once no pair adds a mark, just that
+-- when no pair adds a mark, exactly these targets are reached
 pub closed_so : (ps : List IdEntry) (m n : List Bool) (universal : Option ℕ) (targets : List ℕ) → IsMade ps m n → AreClosed ps n
     → are_reached universal targets n ≡ are_reached universal targets (rounds_marked (length ps) ps m)
 closed_so ps m n universal targets made closed =
@@ -146,13 +146,13 @@ more_then a b c false false first second = record {
   fewer = λ e. absurd (true≢false (sym e));
 }
 
--- one mark more
+-- an additional mark
 fewer_set : (m : List Bool) (k : ℕ) → k < length m → get_or m k false ≡ false → unmarked (set m k true) < unmarked m
 fewer_set [] k h e = absurd (omega arith)
 fewer_set (b ∷ m) zero h e = let is : b ≡ false = e in subst (λ (x : Bool). 0 + unmarked m < cond x 0 1 + unmarked m) (sym is) (omega arith)
 fewer_set (b ∷ m) (suc k) h e = let rest = fewer_set m k (omega (arith, h)) e in omega (arith, rest)
 
--- the set with one term more
+-- the set with an additional term
 pub grown : (a : MarkedParts) (marks : List Bool) (terms more : List ℕ) (k t : ℕ) → record { marks = marks; terms = terms } ≡ a → more ≡ terms ++ t ∷ [] → k < length marks → get_or marks k false ≡ false
     → IsMore a (record { marks = set marks k true; terms = more }) true
 grown a marks terms more k t is added low off = record {
@@ -184,7 +184,7 @@ closed_at ps s p a b y at is more f e there has =
     let was : with_side_marked s.side a.marks p ≡ a.marks = sym is ∙ ap (λ (n : MarkedParts). n.marks) same in
     subst (λ (n : MarkedParts). with_side_marked s.side n.marks e ≡ n.marks) (sym same) (subst (λ q. with_side_marked s.side a.marks q ≡ a.marks) one was)
 
--- a set of which a member is not marked adds nothing
+-- a set with an unmarked member adds nothing
 pub closed_out : (ps : List IdEntry) (s : Spot) (m : List Bool) → option_map_or (λ w. not (get_or m w false)) s.witness false ≡ true → IsClosedAt ps m s
 closed_out ps s m lacks e there has = go s.witness lacks has
   where
@@ -194,7 +194,8 @@ closed_out ps s m lacks e there has = go s.witness lacks has
 
 -- ---- the pairs of an index
 
--- a set that stands under no marked term is not marked, and adds nothing; the other sets were taken
+-- if no set under a marked term and no empty set adds a mark, no pair does: a set under no marked term is not fully
+-- marked
 index_closed : (x : IndexParts) (ps : List IdEntry) (m : List Bool) (ids : List ℕ) → AreIndexed x ps → AreAmong m ids
     → ((s : Spot) → Has x.apart s → IsClosedAt ps m s)
     → ((t : ℕ) (s : Spot) → Has ids t → Has (get_or x.under t []) s → IsClosedAt ps m s)
@@ -223,7 +224,7 @@ index_closed x ps m ids indexed among apart under p h = go (are_marked m p.left)
     go false true e f = ap₂ (λ (b c : Bool). cond b (with_marks m p.right) (cond c (with_marks m p.left) m)) e f ∙ taken Right (indexed place.0 p place.1).1 f
     go false false e f = ap₂ (λ (b c : Bool). cond b (with_marks m p.right) (cond c (with_marks m p.left) m)) e f
 
--- ---- pairs taken one after the other
+-- ---- pairs applied one after the other
 
 below_next : (j i : ℕ) → j < i + 1 → (j < i) ⊎ (j ≡ i)
 below_next zero zero h = inr refl
@@ -231,7 +232,7 @@ below_next zero (suc i) h = inl (omega arith)
 below_next (suc j) zero h = absurd (omega (arith, h))
 below_next (suc j) (suc i) h = ⊎_elim (λ l. inl (omega (arith, l))) (λ e. inr (ap suc e)) (below_next j i (omega (arith, h)))
 
--- where neither these nor the next one brought a term, all hold of the set after it
+-- if neither the previous steps nor this one added a term, the property holds for all of them and the new set
 pub all_next : (P : MarkedParts → ℕ → Type 0) (a b : MarkedParts) (i : ℕ) (x y z : Bool) → z ≡ (x || y) → IsMore a b y
     → (x ≡ false → (j : ℕ) → j < i → P a j) → (x ≡ false → y ≡ false → P b i) → z ≡ false → (j : ℕ) → j < i + 1 → P b j
 all_next P a b i true y z e more before now f j h = absurd (true≢false (sym e ∙ f))
@@ -242,14 +243,14 @@ all_next P a b i false false z e more before now f j h =
     (λ s. subst (P b) (sym s) (now refl refl))
     (below_next j i h)
 
--- what holds at each place holds of each member
+-- what holds at each place holds for each member
 pub all_members : {X : Type 0} (P : X → Type 0) (xs : List X) (n : ℕ) → length xs ≤ n → ((j : ℕ) → j < n → (x : X) → slice_get xs j ≡ Some x → P x) → (x : X) → Has xs x → P x
 all_members P xs n long each x h =
     let at = place_of_member xs x h in
     let within : at.0 < length xs = slice_get_within xs at.0 x at.1 in
     each at.0 (omega (arith, within, long)) x at.1
 
--- where neither the pairs with an empty set nor those under the marked terms bring a term, no pair does
+-- if neither the empty sets nor the sets under the marked terms add a term, no pair does
 pub round_closed : (r : RuleParts) (b c : MarkedParts) (x y z : Bool) → z ≡ (x || y) → IsMore b c y → AreIndexed r.index r.pairs → AreAmong b.marks b.terms
     → (x ≡ false → (s : Spot) → Has r.index.apart s → IsClosedAt r.pairs b.marks s)
     → (y ≡ false → (i : ℕ) → i < length b.terms → (t : ℕ) → slice_get b.terms i ≡ Some t → (s : Spot) → Has (get_or r.index.under t []) s → IsClosedAt r.pairs c.marks s)
@@ -262,7 +263,7 @@ round_closed r b c false false z e more indexed among first second f =
     let at = place_of_member b.terms t h in
     subst (λ (s : MarkedParts). IsClosedAt r.pairs s.marks k) (more.same refl) (second refl at.0 (slice_get_within b.terms at.0 t at.1) t at.1 k u)))
 
--- where the last one brought a term, and all is reached, no more are taken
+-- if the last step added a term, the result is true
 pub grew_last : (x y z : Bool) → z ≡ (x || y) → y ≡ true → z ≡ false → ⊥
 grew_last true y z e f g = true≢false (sym e ∙ g)
 grew_last false y z e f g = true≢false (sym f ∙ sym e ∙ g)

@@ -1,4 +1,4 @@
--- A certificate of the pairs of a finished walk is concise, and a concise one has few pairs where both sides are guarded.
+-- A certificate of the pairs of a finished walk is concise, and a concise one has few pairs if both sides are guarded.
 use Rattle.std.proofs.Common.{◌≡◌, ◌+◌, ◌*◌, ◌≤◌, ◌<◌, ℕ, List, [], length, sym, subst, arith}
 use Rattle.kat_model.specs.Trees.{acts}
 use Rattle.kat_model.specs.Problems.{ProblemParts}

@@ -1,4 +1,4 @@
--- What the marks of ids tell of the sets of terms: which are reached, and which are covered.
+-- The marks of ids and the sets of their terms: which terms are reached, and which are covered.
 use Rattle.std.proofs.Common.{◌≡◌, ◌↔◌, ℕ, inl, inr, ⊎_elim, List, length, get_or, refl, sym, ◌∙◌, subst, Bool, true, false, Option, Some, None, nat_eq}
 use Rattle.std.specs.Option.{option_map, option_map_or}
 use Rattle.std.proofs.lemmas.Bool.{or_cases, or_left, or_right, and_parts, and_from}
@@ -24,7 +24,7 @@ use Rattle.walk_pairs.specs.declared.items.Side.TheVariants.{Left, Right}
 use Rattle.bisim_worklist.proofs.MarkedTerms.{AreIds, ArePairIds, MarksAre, marked_id, all_marked, saturated_set, saturated_length}
 use Rattle.walk_pairs.proofs.ItemTargets.{targets_where, under_where, open_where, has_where}
 
--- the targets of items are ids, and so are those of some of them
+-- the targets of all items are ids, and so are those of some of the items
 abbrev pub AreTargetIds : NodeParts → List Item → Type 0
 AreTargetIds store is = (i : Item) → Has is i → IsTerm store i.target
 
@@ -61,7 +61,7 @@ module _ (q : ProblemParts) (store : NodeParts) (r : RuleParts) (done : ℕ) (ru
     universal_told None there = ((λ e. absurd cc), (λ h. absurd h))
     universal_told (Some k) there = marked_id store rules.sound marks made wide marked k (there k refl)
 
-    -- what is told to be reached is so, and nothing else
+    -- targets are reached by ids if and only if their terms are reached
     pub reached_told : (targets : List ℕ) → AreIds store targets → (reaches_targets r ids targets ≡ true) ↔ IsReached (closed q).universal listed_pairs (terms_of store ids) (terms_of store targets)
     reached_told targets there = (
       (λ e. ⊎_elim (λ u. inr (subst (λ o. HasUniversal o made) rules.universal (told.0 u))) (λ m. inl (all.0 m)) (or_cases any (are_marked marks targets) e)),
@@ -84,7 +84,7 @@ module _ (q : ProblemParts) (store : NodeParts) (r : RuleParts) (done : ℕ) (ru
     abbrev pub CoversTerms : Type 0
     CoversTerms = IsCovered (closed q).universal listed_pairs (terms_of store (targets_under ends.always Left items)) (terms_of store (targets_under ends.always Right items)) (terms_of store (open_targets ends.never ends.always Left items)) (terms_of store (open_targets ends.never ends.always Right items))
 
-    -- and so are covers
+    -- items are covered by ids if and only if their terms are covered
     pub covers_told : (covers r ends items ≡ true) ↔ CoversTerms
     covers_told = (
       (λ e. let parts = and_parts (covers_on r ends items Left Right) (covers_on r ends items Right Left) e in record { lefts = (side_told Left Right).0 parts.0; rights = (side_told Right Left).0 parts.1 }),

@@ -1,4 +1,4 @@
--- The evidence at the end of a walk decides the question, and the store has ids of its terms.
+-- The evidence at the end of a walk decides the problem, and the store has ids of its terms.
 use Rattle.std.proofs.Common.{◌≡◌, ◌<◌, ◌≤◌, inl, inr, ⊎_elim, ℕ, zero, suc, List, [], ◌∷◌, ◌++◌, length, map, slice_get, Option, Some, None, refl, sym, ap, ◌∙◌, subst, arith}
 use Rattle.std.specs.Bool.{IsTrue}
 use Rattle.std.specs.Option.{option_map, option_to_list}
@@ -56,7 +56,7 @@ trail_back store es k (o ∷ os) h = (here (slice_get es k) refl h.0, trail_back
     here None at f = absurd cc
     here (Some e) at f = (entry_of store e, entry_at store es k e at, f)
 
--- a set of one term is one id
+-- if the terms of a set are one term, the term has an id
 one_id : (store : NodeParts) (n : ℕ) (ids : List ℕ) (t : Term) → ((i : ℕ) → Has ids i → IsTermOf store n i) → terms_of store ids ≡ t ∷ [] → HasTree store t
 one_id store n [] t there e = absurd cc
 one_id store n (i ∷ ids) t there e =
@@ -64,12 +64,12 @@ one_id store n (i ∷ ids) t there e =
     (i, (there i (inl refl)).is_id, tree)
 
 module _ (q : ProblemParts) (store : NodeParts) where
-  -- the sets of pairs without tests
+  -- the sets of listed pairs, as pairs without tests
   untested_sets : (es : List IdEntry) → sets_of (map (tested_pair_of store) (map untested_of es)) ≡ pairs_of (entries_of store es)
   untested_sets [] = refl
   untested_sets (e ∷ es) = ap (λ (l : List SetPair). (entry_of store e).pair ∷ l) (untested_sets es)
 
-  -- of the first pair
+  -- the closed sides have ids, because they are the first pair
   sides_of_first : (es : List IdEntry) → AreIdSets store q.tests es → slice_get (entries_of store es) 0 ≡ Some (first_entry q) → HasTree store (closed q).left × HasTree store (closed q).right
   sides_of_first [] sets first = absurd cc
   sides_of_first (e ∷ es) sets first =
@@ -122,7 +122,7 @@ module _ (q : ProblemParts) (store : NodeParts) where
         let sets = way.rules.sets e.0 e.1 in
         subst (IsStoredPair store UpTo q.tests) e.2 (record { left = sets.0; right = sets.1; test = refl })
 
-    -- where all pairs are taken, their certificate decides
+    -- if all pairs are processed, their certificate decides the problem
     pub certified : (c : CertParts) → IsProblem q → w.rules.limit ≡ limit_of q → IsUnderWay q store w (length w.rules.pairs) → IsCertOf store UpTo (map untested_of w.rules.pairs) c → IsDecision q (Equal c)
     certified c problem limit way cert =
         let es = entries_of store w.rules.pairs in
@@ -140,7 +140,7 @@ module _ (q : ProblemParts) (store : NodeParts) where
     pub certified_ids : (c : CertParts) (done : ℕ) → IsUnderWay q store w done → IsCertOf store UpTo (map untested_of w.rules.pairs) c → HasIdsOf store q (Equal c)
     certified_ids c done way cert = let sides = sides_have_ids done way in record { left = sides.0; right = sides.1; nodes = cert.ids }
 
-    -- where a difference is found, the string that leads to it decides
+    -- if a difference is found, the string that leads to it decides the problem
     module _ (place : ℕ) (atom : Atom) (way : IsUnderWay q store w place) (d : IsDifference q store w place atom) where
       pub difference_within : place < length w.rules.pairs
       difference_within = subst (λ n. place < n) (length-map w.rules.pairs (entry_of store)) (slice_get_within (entries_of store w.rules.pairs) place d.entry d.at)
@@ -156,7 +156,7 @@ module _ (q : ProblemParts) (store : NodeParts) where
       pub refuted_ids : (x : GuardedString) → HasIdsOf store q (Different x)
       refuted_ids x = let sides = sides_have_ids place way in record { left = sides.0; right = sides.1; nodes = λ t h. absurd h }
 
--- ---- where the pairs under tests decide
+-- ---- when the pairs under tests decide
 
 pub tree_later : (s t : NodeParts) (e : Term) → Grows s t → HasTree s e → HasTree t e
 tree_later s t e grows h = (h.0, grows.term_numbers h.0 h.1, grows.trees h.0 h.1 ∙ h.2)

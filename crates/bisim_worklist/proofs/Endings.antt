@@ -1,4 +1,4 @@
--- The pairs of a walk are few, and once all are processed they are accepted.
+-- The pairs of a walk are few, and when all are processed they are accepted.
 use Rattle.std.proofs.Common.{◌≡◌, ◌≤◌, ◌∙◌, ℕ, zero, suc, List, [], ◌∷◌, length, slice_get, Some, sym, ap, subst, arith}
 use Rattle.std.proofs.lemmas.List.{length-map}
 use Rattle.std.proofs.lemmas.Option.{slice_get_within, same_Some}
@@ -24,7 +24,7 @@ module _ (q : ProblemParts) (es : List Entry) (done : ℕ) (walk : IsWalk q es d
   pub walk_bounds : AreFew q (pairs_of es)
   walk_bounds = let b = begins q es walk.first in subst (AreFew q) (sym b.1) (no_redundant_bounds q b.0 (subst (HasNoRedundantPair q) b.1 walk.needed))
 
-  -- the walk has a place for each listed pair
+  -- the number of listed pairs is at most the bound on pairs
   pub walk_few : length es ≤ pair_limit q
   walk_few = subst (λ n. n ≤ pair_limit q) (length-map es (λ (x : Entry). x.pair)) walk_bounds.few
 
@@ -48,7 +48,7 @@ module _ (q : ProblemParts) (es : List Entry) (done : ℕ) (walk : IsWalk q es d
     pub walk_same : Same q
     walk_same = accepted_same up_to q (pairs_of es) walk_accepted
 
-    -- it has processed just the listed pairs
+    -- exactly the listed pairs are processed
     pub walk_ended : IsWalk q es (length es)
     walk_ended = record {
       first = walk.first;

@@ -15,7 +15,7 @@ has_pair es e h = map_has (λ (x : Entry). x.pair) es e h
 pub pair_has : (es : List Entry) (p : SetPair) → Has (pairs_of es) p → (e : Entry) × Has es e × (e.pair ≡ p)
 pair_has es p h = has_map (λ (x : Entry). x.pair) es p h
 
--- what is found by a place is found by later ones
+-- an origin found by a place is found by later places
 pub found_later : (k n : ℕ) (o : Option Origin) → k ≤ n → IsFoundBy k o → IsFoundBy n o
 found_later k n None l h = tt
 found_later k n (Some o) l h = omega arith

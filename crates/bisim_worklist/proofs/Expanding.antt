@@ -1,5 +1,5 @@
--- The pair that is processed, by one action after another: the items of an action stand for its next sets, and the
--- pairs that its cases list make them congruent.
+-- The pair that is processed, one action after the other: the items of an action represent its next sets, and the pairs
+-- that its cases list make them congruent.
 use Rattle.std.proofs.Common.{◌≡◌, ◌<◌, ℕ, zero, suc, inl, inr, ⊎_elim, List, [], ◌∷◌, ◌++◌, length, replicate, slice_get, Bool, Option, Some, None, refl, sym, ap, ◌∙◌, subst, arith}
 use Rattle.kat_model.specs.Members.{Has}
 use Rattle.kat_model.specs.Steps.{Atom}
@@ -47,7 +47,7 @@ items_stand q store d p left right act items decided tests on_left on_right are 
   rights = λ atom wide c. next_of_ids store d act atom p.right right _ on_right (wide ∙ sym tests) (are.rights atom (wide ∙ sym tests));
 }
 
--- each atom is one of the case in which no test is decided
+-- each atom belongs to the case in which no test is decided
 extends_none : (n : ℕ) (atom : Atom) → length atom ≡ n → Extends (replicate n None) atom
 extends_none zero [] e = tt
 extends_none zero (b ∷ bs) e = absurd (omega (arith, e))
@@ -56,7 +56,7 @@ extends_none (suc n) (b ∷ bs) e = extends_none n bs (omega (arith, e))
 
 -- ---- entries of ids
 
--- ids of a store have their trees alone
+-- different ids of a store have different trees
 module _ (store : NodeParts) (is : AreNodes store) where
   one_list : (ks ls : List ℕ) → ((i : ℕ) → Has ks i → IsTerm store i) → ((i : ℕ) → Has ls i → IsTerm store i) → terms_of store ks ≡ terms_of store ls → ks ≡ ls
   one_list [] [] p r e = refl
@@ -78,7 +78,7 @@ module _ (store : NodeParts) (is : AreNodes store) where
       let right : a.right ≡ b.right = one_set n a.right b.right p.1 r.1 (ap (λ (x : Entry). x.pair.right) e) in
       λ v. record { left = left v; right = right v; origin = (ap (λ (x : Entry). x.origin) e) v }
 
--- so an entry of ids keeps its place when entries are listed
+-- an entry of ids keeps its place when entries are listed
 kept_entry : (q : ProblemParts) (store : NodeParts) (old new : RuleParts) (done place : ℕ) (e : IdEntry) → AreRulesOf q store old done → AreRulesOf q store new done → AddsEntries (entries_of store old.pairs) (entries_of store new.pairs)
     → slice_get old.pairs place ≡ Some e → slice_get new.pairs place ≡ Some e
 kept_entry q store old new done place e was is grows at =
@@ -88,13 +88,14 @@ kept_entry q store old new done place e was is grows at =
 
 -- ---- one action after another
 
--- the new rules are the old ones and further pairs, under which the next sets of the pair by each of the actions are congruent
+-- the new rules are the old ones and additional pairs, under which the next sets of the pair by each of the actions are
+-- congruent
 pub record HasStepped (q : ProblemParts) (store : NodeParts) (old new : RuleParts) (place : ℕ) (p : SetPair) (acts : List ℕ) : Type 0 where
   pub rules : AreRulesOf q store new place
   pub grows : AddsEntries (entries_of store old.pairs) (entries_of store new.pairs)
   pub congruent : (a : ℕ) → Has acts a → AreCongruentAfter q (pairs_of (entries_of store new.pairs)) p a
 
--- whatever the question, the store and the pair are
+-- for every problem, store and pair
 abbrev pub StepsBy : ℕ → Walk → RuleParts → ℕ → BothSteps → List ℕ → Type 0
 StepsBy actions old new place steps acts =
     (q : ProblemParts) (store : NodeParts) → actions ≡ q.actions → (e : IdEntry) → IsUnderWay q store old place → slice_get old.rules.pairs place ≡ Some e → AreStepsAt store old e steps
@@ -104,7 +105,7 @@ module _ (actions : ℕ) (old : Walk) (place : ℕ) (steps : BothSteps) (acts : 
   module _ (d : DiagramsParts) (mid : RuleParts) (stride : Stride) (items : List Item) (kept : KeepsFunctions old.diagrams d) (same_place : stride.place ≡ place) (below : stride.act < actions)
       (are : AreItemsOf d steps.left.moves.items steps.right.moves.items stride.act items) (led_items : AreLedTo steps.left.moves.items steps.right.moves.items items)
       (before : StepsBy actions old mid place steps acts) where
-    -- what the cases of the action are asked of
+    -- the assumptions of the cases of the action
     module _ (q : ProblemParts) (store : NodeParts) (count : actions ≡ q.actions) (e : IdEntry) (under : IsUnderWay q store old place) (at : slice_get old.rules.pairs place ≡ Some e) (steps_at : AreStepsAt store old e steps) where
       m : HasStepped q store old.rules mid place (pair_of store e) acts
       m = before q store count e under at steps_at
@@ -130,7 +131,7 @@ module _ (actions : ℕ) (old : Walk) (place : ℕ) (steps : BothSteps) (acts : 
           subst (λ n. slice_get (entries_of store mid.pairs) n ≡ Some (entry_of store e)) (sym same_place)
           (grown_at (entries_of store old.rules.pairs) (entries_of store mid.pairs) place (entry_of store e) m.grows (at_mapped (entry_of store) old.rules.pairs place e at))
 
-    -- one action more
+    -- an additional action
     pub steps_more : (new : RuleParts) → Visits d stride (replicate d.tests None) items mid new → StepsBy actions old new place steps (acts ++ stride.act ∷ [])
     steps_more new visits q store count e under at steps_at =
         record { rules = subst (AreRulesOf q store new) same_place u.rules; grows = grows_then (entries_of store old.rules.pairs) (entries_of store mid.pairs) (entries_of store new.pairs) before_it.grows u.visited.grows; congruent = all }
@@ -154,7 +155,7 @@ module _ (actions : ℕ) (old : Walk) (place : ℕ) (steps : BothSteps) (acts : 
             absurd l)
             (has_append acts (stride.act ∷ []) a h)
 
-    -- one that needs more pairs than may be listed
+    -- an action that needs more pairs than may be listed
     pub steps_pass : mid.limit ≡ old.rules.limit → PassesLimit d stride (replicate d.tests None) items mid
         → (q : ProblemParts) (store : NodeParts) (e : IdEntry) → actions ≡ q.actions → IsUnderWay q store old place → slice_get old.rules.pairs place ≡ Some e → AreStepsAt store old e steps → IsPastLimit q old.rules.limit
     steps_pass limit passes q store e count under at steps_at =

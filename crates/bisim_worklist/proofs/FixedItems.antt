@@ -16,7 +16,7 @@ use Rattle.walk_pairs.proofs.FixedDiagrams.{IsFixedTo, fixed_independent}
 use Rattle.bisim_worklist.specs.Working.Cases.{AreItemsWith, IsFixedItem}
 use Rattle.certificate.proofs.Ascending.{ascending_tail, ascending_first, ascending_more}
 
--- ---- what is chosen
+-- ---- the chosen targets
 
 chosen-append : (d : DiagramsParts) (side : Side) (xs ys : List Item) (atom : Atom) → chosen d side (xs ++ ys) atom ≡ chosen d side xs atom ++ chosen d side ys atom
 chosen-append d side [] ys atom = refl
@@ -36,7 +36,7 @@ chosen-kept d e kept side (x ∷ xs) atom ids =
     ap (λ b. cond b (x.target ∷ chosen e side xs atom) (chosen e side xs atom)) (kept.values (guard_of side x) (ids x (inl refl)) atom)
     ∙ ap (λ l. cond (value_of d (guard_of side x) atom) (x.target ∷ l) l) (chosen-kept d e kept side xs atom (λ i h. ids i (inr h)))
 
--- the targets of earlier items are less
+-- the targets of earlier items are smaller
 earlier_less : (items : List Item) → are_ascending (targets_of items) ≡ true → (i : ℕ) (item : Item) → i < length items → item ≡ get_or items i item → (t : ℕ) → Has (targets_of (take i items)) t → t < item.target
 earlier_less [] ascends i item lt is t h = absurd (omega (arith, lt))
 earlier_less (y ∷ ys) ascends zero item lt is t h = absurd h
@@ -47,10 +47,10 @@ earlier_less (y ∷ ys) ascends (suc i) item lt is t h =
     (earlier_less ys (ascending_tail y.target (targets_of ys) ascends) i item within is t)
     h
 
--- ---- one item more
+-- ---- an additional item
 
 module _ (c d e : DiagramsParts) (more : KeepsFunctions d e) (test : ℕ) (value : Bool) where
-  -- what was gathered stays right
+  -- collected items remain correct
   pub with_kept : (old new : List Item) → AreItemsWith c d old test value new → AreItemsWith c e old test value new
   with_kept old new gathered = record {
     are = record {
@@ -70,11 +70,11 @@ module _ (c d e : DiagramsParts) (more : KeepsFunctions d e) (test : ℕ) (value
       independent-kept : (id k : ℕ) → IsDiagramId d id → IsIndependent d id k → IsIndependent e id k
       independent-kept id k there free atom fits b = more.values id there (set atom k b) ∙ free atom (fits ∙ more.tests) b ∙ sym (more.values id there atom)
 
-  -- a guard that is fixed before the last diagrams were made
+  -- a guard that was fixed before the last diagrams were added
   pub fixed_later : (old id : ℕ) → IsFixedTo c d test value old id → IsFixedTo c e test value old id
   fixed_later old id is = IsDiagramOf-kept d e more id (λ atom. value_of c old (set atom test value)) is
 
-  -- or of an id whose function was kept
+  -- a guard of an id whose function was kept
   pub fixed_before : (kept : KeepsFunctions c d) (old id : ℕ) → IsDiagramId c old → IsFixedTo d e test value old id → IsFixedTo c e test value old id
   fixed_before kept old id there is = record {
     in_range = is.in_range;
@@ -144,7 +144,7 @@ module _ (c e : DiagramsParts) (tests : e.tests ≡ c.tests) (test : ℕ) (value
       last : (side : Side) (atom : Atom) → IsAtomOf e atom → chosen e side (j ∷ []) atom ≡ chosen c side (item ∷ []) (set atom test value)
       last side atom fits = ap (λ b. cond b (j.target ∷ []) []) (value_on side atom fits) ∙ ap (λ t. cond (value_of c (guard_of side item) (set atom test value)) (t ∷ []) []) same
 
-  -- an item that is never reached then
+  -- an item that is never reached with the test set
   pub with_none : ((side : Side) (atom : Atom) → IsAtomOf e atom → value_of c (guard_of side item) (set atom test value) ≡ false) → AreItemsWith c e (take (i + 1) items) test value new
   with_none nowhere = record {
     are = gathered.are;
@@ -158,7 +158,7 @@ module _ (c e : DiagramsParts) (tests : e.tests ≡ c.tests) (test : ℕ) (value
     independent = λ k free x h. gathered.independent k (earlier_free free) x h;
   }
 
-  -- and so is an item whose guards are fixed to `never`
+  -- an item whose guards are fixed to `never` is never reached
   pub with_unreached : (left right never : ℕ) → IsFixedTo c e test value item.left left → IsFixedTo c e test value item.right right → IsDiagramOf e never (λ atom. false) → left ≡ never → right ≡ never → AreItemsWith c e (take (i + 1) items) test value new
   with_unreached left right never is_left is_right nowhere same_left same_right = with_none on
     where

@@ -1,4 +1,4 @@
--- Lists of places as they grow, and the pairs that stand in them.
+-- Lists of places as they grow, and the pairs in them.
 use Rattle.std.proofs.Common.{◌≡◌, ℕ, inl, inr, ⊎_elim, List, [], ◌∷◌, ◌++◌, length, get_or, refl, sym, subst, Some, None}
 use Rattle.kat_model.specs.Members.{Has}
 use Rattle.kat_model.proofs.Lists.{has_left, has_right}
@@ -9,7 +9,7 @@ use Rattle.bisim_worklist.specs.declared.pair.Spot.{Spot}
 use Rattle.bisim_worklist.specs.Working.Listings.{IdEntry}
 use Rattle.bisim_worklist.specs.Working.Indices.{IndexParts, StandsUnder, KeepsPlaces, AreIndexed, spot_at}
 
--- ---- a set more
+-- ---- an additional set
 
 pub pushed_has : (xs ys : List Spot) (p : Spot) → ys ≡ xs ++ p ∷ [] → Has ys p
 pushed_has xs ys p is = subst (λ zs. Has zs p) (sym is) (has_right xs (p ∷ []) p (inl refl))
@@ -17,7 +17,7 @@ pushed_has xs ys p is = subst (λ zs. Has zs p) (sym is) (has_right xs (p ∷ []
 pub pushed_keeps : (xs ys : List Spot) (p : Spot) → ys ≡ xs ++ p ∷ [] → (k : Spot) → Has xs k → Has ys k
 pushed_keeps xs ys p is k h = subst (λ zs. Has zs k) (sym is) (has_left xs (p ∷ []) k h)
 
--- under a member of a set
+-- a set indexed under one of its members
 pub stands_member : (x : IndexParts) (ids : List ℕ) (t w n k : ℕ) (side : Side) → Has ids t → Has ids w → n ≡ t → Has (get_or x.under n []) (spot_at k side (Some w)) → StandsUnder x ids k side
 stands_member x ids t w n k side member witness same h = inr (t, w, member, witness, subst (λ i. Has (get_or x.under i []) (spot_at k side (Some w))) same h)
 
@@ -35,7 +35,7 @@ indexed_kept x y ps keeps indexed k e at =
     let both = indexed k e at in
     (stands_kept x y e.left k Left keeps both.0, stands_kept x y e.right k Right keeps both.1)
 
--- one pair more
+-- an additional pair
 pub indexed_more : (x y : IndexParts) (ps : List IdEntry) (p : IdEntry) → AreIndexed x ps → KeepsPlaces x y → StandsUnder y p.left (length ps) Left → StandsUnder y p.right (length ps) Right → AreIndexed y (ps ++ p ∷ [])
 indexed_more x y ps p indexed keeps left right k e at =
     ⊎_elim

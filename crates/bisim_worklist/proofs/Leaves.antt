@@ -52,7 +52,7 @@ module _ (d : DiagramsParts) (stride : Stride) (decided : List (Option Bool)) (i
   target_ids : (q : ProblemParts) (store : NodeParts) (from : Entry) → StandFor q store d items from.pair stride.act decided → AreTargetIds store items
   target_ids q store from stands i h = (stands.targets i h).is_id
 
-  -- a case that is covered lists nothing
+  -- a covered case lists nothing
   pub visits_covered : (r : RuleParts) → covers r ends items ≡ true → Visits d stride decided items r r
   visits_covered r e q store from tests acts rules at stands = record {
     rules = rules;
@@ -71,7 +71,7 @@ module _ (d : DiagramsParts) (stride : Stride) (decided : List (Option Bool)) (i
   abbrev pub leaf_entry : IdEntry
   leaf_entry = record { left = targets_under ends.always Left items; right = targets_under ends.always Right items; origin = Some leaf_origin }
 
-  -- one that is not covered lists its pair
+  -- a case that is not covered lists its pair
   module _ (r : RuleParts) (is_case : IsCase d decided items) (constant : AreConstant d items) (reduced : IsReduced d) (uncovered : covers r ends items ≡ false) where
     module _ (q : ProblemParts) (store : NodeParts) (from : Entry) (tests : d.tests ≡ q.tests) (acts : stride.act < q.actions) (rules : AreRulesOf q store r stride.place) (at : slice_get (entries_of store r.pairs) stride.place ≡ Some from) (stands : StandFor q store d items from.pair stride.act decided) where
       side_set : (side : Side) → IsIdSet store q.tests (targets_under ends.always side items)
@@ -139,7 +139,7 @@ module _ (d : DiagramsParts) (stride : Stride) (decided : List (Option Bool)) (i
     pub visits_listed : Visits d stride decided items r new
     visits_listed = leaf_visited
 
-  -- one more than may be listed, where the rules are full
+  -- if the rules are full, a case that is not covered needs more pairs than may be listed
   pub leaf_passes : (r : RuleParts) → IsCase d decided items → AreConstant d items → IsReduced d → covers r ends items ≡ false → is_full r ≡ true → PassesLimit d stride decided items r
   leaf_passes r is_case constant reduced uncovered full q store from tests acts rules at stands =
       let f = full_limit r.limit (length r.pairs) full in

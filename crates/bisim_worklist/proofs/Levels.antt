@@ -1,4 +1,4 @@
--- The entries of smaller depth agree on the strings that are short enough.
+-- The entries of smaller depth agree on all sufficiently short strings.
 use Rattle.std.proofs.Common.{◌≡◌, ◌+◌, ◌≤◌, ◌<◌, ◌⊎◌, inl, inr, ⊎_elim, ℕ, List, [], ◌∷◌, length, slice_get, Some, refl, sym, ◌∙◌, subst, arith}
 use Rattle.kat_model.specs.Problems.{ProblemParts}
 use Rattle.kat_model.specs.Steps.{Atom, set_next}
@@ -11,7 +11,7 @@ use Rattle.bisim_worklist.specs.Walks.{Origin, Entry, IsWalk, IsTrail}
 use Rattle.bisim_worklist.proofs.Trails.{no_longer_trail, found_trail}
 
 module _ (q : ProblemParts) (es : List Entry) (done : ℕ) (walk : IsWalk q es done) (last : List Origin) (depth : IsTrail es done last) where
-  -- an entry of smaller depth than the one that is being processed has been processed
+  -- an entry of smaller depth than the entry being processed has been processed
   is_processed : (k : ℕ) (os : List Origin) → IsTrail es k os → length os < length last → k < done
   is_processed k os t l = ⊎_elim (λ h. h) (λ h. absurd (let longer = no_longer_trail q es done walk last os done k h depth t in omega arith)) (cases k)
     where

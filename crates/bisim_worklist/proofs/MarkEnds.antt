@@ -1,4 +1,4 @@
--- As many rounds over pairs as there are pairs are enough: each round that marks something settles a pair more.
+-- As many rounds as there are pairs suffice: each round that adds a mark settles an additional pair.
 use Rattle.std.proofs.Common.{◌≡◌, ℕ, zero, suc, ◌+◌, ◌<◌, ◌≤◌, ◌⊎◌, inl, inr, ⊎_elim, List, [], ◌∷◌, length, get_or, set, slice_get, refl, sym, ap, ◌∙◌, subst, arith, Bool, true, false, ◌&&◌, cond, Option, Some, None}
 use Rattle.std.proofs.lemmas.Bool.{and_parts, and_from, and_right, true≢false}
 use Rattle.kat_model.specs.Members.{Has}
@@ -6,7 +6,7 @@ use Rattle.bisim_worklist.specs.Working.Listings.{IdEntry}
 use Rattle.bisim_worklist.specs.Working.Marks.{are_marked, with_marks, with_pair_marked, round_marked, rounds_marked, Stays, AreClosed}
 use Rattle.bisim_worklist.proofs.MarkSteps.{rounds_stay, pair_stays, all_stay}
 
--- a mark that is there is true
+-- whether a mark is true or out of range
 abbrev pub fine : Option Bool → Bool
 fine None = true
 fine (Some b) = b
@@ -75,7 +75,7 @@ marks_held (k ∷ ks) m =
 
 -- ---- pairs
 
--- both sides are marked, as far as there are marks
+-- whether both sides are marked, as far as marks exist
 abbrev pub settled : List Bool → IdEntry → Bool
 settled m p = held m p.left && held m p.right
 
@@ -102,7 +102,7 @@ round_fine (p ∷ ps) m = λ k e. round_fine ps (with_pair_marked m p) k (pair_f
 side_kept : (m n : List Bool) (p : IdEntry) → Stays m n → SideMarked m p → SideMarked n p
 side_kept m n p s h = ⊎_elim (λ l. inl (all_stay m n s p.left l)) (λ r. inr (all_stay m n s p.right r)) h
 
--- a pair of which a side is marked is settled once it is taken
+-- a pair with a marked side is settled after it is applied
 side_settles : (m : List Bool) (p : IdEntry) → SideMarked m p → settled (with_pair_marked m p) p ≡ true
 side_settles m p s = go (are_marked m p.left) (are_marked m p.right) refl refl
   where
@@ -117,7 +117,7 @@ side_settles m p s = go (are_marked m p.left) (are_marked m p.right) refl refl
         (held_kept m (with_marks m p.left) (marks_fine p.left m) p.right (marked_held m p.right f))
     go false false e f = absurd (⊎_elim (λ h. true≢false (sym h ∙ e)) (λ h. true≢false (sym h ∙ f)) s)
 
--- a pair adds nothing, or a side of it is marked and it is not settled
+-- a pair adds nothing, or one of its sides is marked and it is not settled
 pair_cases : (m : List Bool) (p : IdEntry) → (with_pair_marked m p ≡ m) ⊎ (SideMarked m p × (settled m p ≡ false))
 pair_cases m p = go (are_marked m p.left) (are_marked m p.right) refl refl
   where
@@ -134,7 +134,7 @@ pair_cases m p = go (are_marked m p.left) (are_marked m p.right) refl refl
     go false true e f = on_left f (held m p.left) refl
     go false false e f = inl refl
 
--- marks are closed, or some pair of which a side is marked is not settled
+-- marks are closed, or some pair with a marked side is not settled
 closed_cases : (ps : List IdEntry) (m : List Bool) → AreClosed ps m ⊎ ((p : IdEntry) × Has ps p × SideMarked m p × (settled m p ≡ false))
 closed_cases [] m = inl (λ p h. absurd h)
 closed_cases (p ∷ ps) m =
@@ -147,7 +147,7 @@ closed_cases (p ∷ ps) m =
     (λ found. inr (p, inl refl, found.0, found.1))
     (pair_cases m p)
 
--- a round settles each pair of which a side is marked
+-- a round settles each pair with a marked side
 round_settles : (ps : List IdEntry) (m : List Bool) (p : IdEntry) → Has ps p → SideMarked m p → settled (round_marked ps m) p ≡ true
 round_settles [] m p h s = absurd h
 round_settles (q ∷ ps) m p h s =
@@ -157,7 +157,7 @@ round_settles (q ∷ ps) m p h s =
     (λ k. round_settles ps (with_pair_marked m q) p k (side_kept m (with_pair_marked m q) p (pair_stays m q) s))
     h
 
--- ---- how many pairs are not settled
+-- ---- the number of unsettled pairs
 
 abbrev pub lacking : List Bool → List IdEntry → ℕ
 lacking m [] = 0
@@ -196,7 +196,7 @@ module _ (m n : List Bool) (keeps : KeepsFine m n) where
       (λ k. omega (arith, one_fewer q, lacking_less ps p k l b))
       h
 
--- marks are closed, or a round leaves fewer pairs that are not settled
+-- marks are closed, or a round leaves fewer unsettled pairs
 round_cases : (ps : List IdEntry) (m : List Bool) → AreClosed ps m ⊎ (lacking (round_marked ps m) ps < lacking m ps)
 round_cases ps m =
     ⊎_elim
@@ -216,6 +216,6 @@ rounds_end (suc n) ps m h =
     (λ l. rounds_end n ps (round_marked ps m) (omega arith))
     (round_cases ps m)
 
--- so the marks after as many rounds as there are pairs are closed
+-- the marks after as many rounds as there are pairs are closed
 pub all_rounds_closed : (ps : List IdEntry) (m : List Bool) → AreClosed ps (rounds_marked (length ps) ps m)
 all_rounds_closed ps m = rounds_end (length ps) ps m (lacking-le-length m ps)

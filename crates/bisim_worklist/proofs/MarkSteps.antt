@@ -1,4 +1,4 @@
--- Rounds over pairs: one that changes nothing, and what stays.
+-- Rounds over pairs: a round that changes nothing, and marks that remain.
 use Rattle.std.proofs.Common.{◌≡◌, ℕ, zero, suc, ⊎_elim, List, [], ◌∷◌, get_or, set, refl, ap, ◌∙◌, Bool, true, false, cond, Option, Some, None}
 use Rattle.std.proofs.lemmas.Bool.{and_parts, and_from, or_cases, or_left, or_right}
 use Rattle.kat_model.proofs.Places.{get_or-set_kept}
@@ -6,12 +6,12 @@ use Rattle.walk_pairs.specs.declared.items.Side.{Side}
 use Rattle.bisim_worklist.specs.Working.Listings.{IdEntry, set_on, set_across}
 use Rattle.bisim_worklist.specs.Working.Marks.{are_marked, with_marks, with_side_marked, with_pair_marked, round_marked, rounds_marked, are_reached, Stays}
 
--- after a round that changes nothing no other does
+-- after a round that changes nothing, no other round changes anything
 pub rounds_stay : (n : ℕ) (ps : List IdEntry) (marks : List Bool) → round_marked ps marks ≡ marks → rounds_marked n ps marks ≡ marks
 rounds_stay zero ps marks e = refl
 rounds_stay (suc n) ps marks e = ap (rounds_marked n ps) e ∙ rounds_stay n ps marks e
 
--- ---- marks stay
+-- ---- marks remain
 
 marks_stay : (marks : List Bool) (ids : List ℕ) → Stays marks (with_marks marks ids)
 marks_stay marks [] j e = e
@@ -46,7 +46,7 @@ all_stay marks more s (i ∷ ids) e =
     let parts = and_parts (get_or marks i false) (are_marked marks ids) e in
     and_from (get_or more i false) (are_marked more ids) (s i parts.0) (all_stay marks more s ids parts.1)
 
--- what is reached stays so
+-- reached targets remain reached
 pub reached_stays : (marks more : List Bool) → Stays marks more → (universal : Option ℕ) (targets : List ℕ) → are_reached universal targets marks ≡ true → are_reached universal targets more ≡ true
 reached_stays marks more s None targets e = all_stay marks more s targets e
 reached_stays marks more s (Some u) targets e =

@@ -1,4 +1,4 @@
--- Marks that stand for a set of terms, and their saturation.
+-- Marks that represent a set of terms, and their saturation.
 use Rattle.std.proofs.Common.{◌≡◌, ◌↔◌, ℕ, zero, suc, ◌<◌, ◌⊎◌, inl, inr, ⊎_elim, List, [], ◌∷◌, ◌++◌, length, get_or, set, slice_get, replicate, refl, sym, ap, ◌∙◌, subst, arith, Bool, true, false, ◌||◌, cond, Some}
 use Rattle.std.proofs.lemmas.Bool.{and_parts, and_from}
 use Rattle.std.proofs.lemmas.Option.{slice_get-get_or, slice_get_within, get_or_from_slice_get}
@@ -19,7 +19,7 @@ use Rattle.walk_pairs.specs.declared.items.Side.{Side}
 use Rattle.bisim_worklist.specs.Working.Listings.{IdEntry, set_on, set_across, pair_of, entry_of, entries_of}
 use Rattle.bisim_worklist.specs.Working.Marks.{are_marked, with_marks, with_side_marked, with_pair_marked, round_marked, rounds_marked, saturated_marks}
 
--- the numbers are ids of terms, as are those of both sides of each pair
+-- the numbers are ids of terms; and the ids of both sides of each pair
 abbrev pub AreIds : NodeParts → List ℕ → Type 0
 AreIds store ks = (k : ℕ) → Has ks k → IsTerm store k
 
@@ -30,7 +30,7 @@ ArePairIds store ps = (p : IdEntry) → Has ps p → AreIds store p.left × AreI
 abbrev pub MarksAre : NodeParts → List Bool → List Term → Type 0
 MarksAre store marks es = (e : Term) → ((k : ℕ) × (slice_get marks k ≡ Some true) × (tree_at store k ≡ e)) ↔ Has es e
 
--- ---- one mark more
+-- ---- an additional mark
 
 pub length_with_marks : (marks : List Bool) (ks : List ℕ) → length (with_marks marks ks) ≡ length marks
 length_with_marks marks [] = refl
@@ -65,7 +65,7 @@ saturated_length n ps ks = length_rounds (length ps) ps (with_marks (replicate n
 -- ---- marks and terms
 
 module _ (store : NodeParts) (is : AreNodes store) where
-  -- an id is marked exactly where its term is in the set
+  -- an id is marked if and only if its term is in the set
   pub marked_id : (marks : List Bool) (es : List Term) → length marks ≡ length store.terms → MarksAre store marks es → (k : ℕ) → IsTerm store k → (get_or marks k false ≡ true) ↔ Has es (tree_at store k)
   marked_id marks es l m k h = (
     (λ e. (m (tree_at store k)).0 (k, slice_get-get_or marks k false (omega (arith, l, h)) ∙ ap (λ (b : Bool). Some b) e, refl)),
@@ -76,7 +76,7 @@ module _ (store : NodeParts) (is : AreNodes store) where
         subst (λ j. get_or marks j false ≡ true) same (get_or_from_slice_get marks found.0 true false found.1)),
   )
 
-  -- so all ids are exactly where the set holds all their terms
+  -- all ids are marked if and only if the set contains all their terms
   pub all_marked : (marks : List Bool) (es : List Term) → length marks ≡ length store.terms → MarksAre store marks es → (ks : List ℕ) → AreIds store ks → (are_marked marks ks ≡ true) ↔ IsSubset (terms_of store ks) es
   all_marked marks es l m ks below = (to ks below, from ks below)
     where
@@ -102,7 +102,7 @@ module _ (store : NodeParts) (is : AreNodes store) where
     (λ r. ⊎_elim (λ s. (k, slice_get-set_same marks k true (omega (arith, l, h)), s)) (λ q. let f = (m e).1 q in (f.0, slice_get-set_kept marks k f.0 true f.1, f.2)) r),
   )
 
-  -- the marks of more ids stand for a set with their terms
+  -- the marks with those of additional ids represent the set with their terms
   pub more_marks : (ks : List ℕ) (marks : List Bool) (es fs : List Term) → length marks ≡ length store.terms → AreIds store ks → MarksAre store marks es
       → ((e : Term) → Has fs e ↔ (Has es e ⊎ Has (terms_of store ks) e)) → MarksAre store (with_marks marks ks) fs
   more_marks [] marks es fs l below m same e = (
@@ -169,7 +169,7 @@ module _ (store : NodeParts) (is : AreNodes store) where
   none_marked (suc n) zero e = absurd cc
   none_marked (suc n) (suc k) e = none_marked n k e
 
-  -- the marks that are computed are those of the saturated set
+  -- the computed marks represent the saturated set
   pub saturated_set : (ps : List IdEntry) (ks : List ℕ) → ArePairIds store ps → AreIds store ks → MarksAre store (saturated_marks (length store.terms) ps ks) (sat (pairs_of (entries_of store ps)) (terms_of store ks))
   saturated_set ps ks below low =
       subst (λ n. MarksAre store (saturated_marks (length store.terms) ps ks) (rounds n (pairs_of (entries_of store ps)) (terms_of store ks))) (sym (length-map (entries_of store ps) (λ (x : Entry). x.pair) ∙ length-map ps (entry_of store)))

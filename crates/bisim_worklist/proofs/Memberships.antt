@@ -1,4 +1,4 @@
--- The members of listed pairs stay marked as more are marked.
+-- The members of listed pairs remain marked as more ids are marked.
 use Rattle.std.proofs.Common.{⊎_elim, List, [], ◌∷◌, ◌++◌, subst, Bool}
 use Rattle.kat_model.specs.Members.{Has}
 use Rattle.kat_model.proofs.Lists.{has_append}

@@ -1,4 +1,4 @@
--- What is congruent under some of the pairs is congruent under more.
+-- Sets that are congruent under some pairs are congruent under more.
 use Rattle.std.proofs.Common.{ℕ, List, ◌++◌, Option}
 use Rattle.kat_model.specs.Trees.{Term}
 use Rattle.kat_model.specs.Members.{IsSubset}

@@ -1,4 +1,4 @@
--- Pairs of which none is redundant are different, have their members among what steps lead to, and so are few.
+-- Pairs without a redundant one are different, have their members among the terms that steps reach, and so are few.
 use Rattle.std.proofs.Common.{◌≡◌, ◌+◌, ◌*◌, ◌≤◌, inl, inr, ⊎_elim, ℕ, List, [], ◌∷◌, ◌++◌, length, refl, sym, ap, subst}
 use Rattle.kat_model.specs.Trees.{Term, acts}
 use Rattle.kat_model.specs.Members.{Has, IsSubset, SameMembers}
@@ -33,10 +33,10 @@ module _ (q : ProblemParts) (P : SetPair → Type 0) (kept : (from to : SetPair)
   all_have p ps all own r h =
       ⊎_elim (λ e. subst P e own) (λ k. needed_have (p ∷ []) ps all (λ s m. ⊎_elim (λ e. subst P e own) (λ n. absurd n) m) r k) h
 
--- ---- they are different
+-- ---- the pairs are different
 
 module _ (q : ProblemParts) where
-  -- none has the sets of one before
+  -- no pair has the sets of an earlier one
   not_again : (before ps : List SetPair) (p : SetPair) → AreNeeded q before ps → Has before p → IsListed ps p.left p.right → ⊥
   not_again before [] p all h l = l.listed
   not_again before (r ∷ ps) p all h l =
@@ -53,7 +53,7 @@ module _ (q : ProblemParts) where
   no_redundant_differ [] all = tt
   no_redundant_differ (p ∷ ps) all = (not_again (p ∷ []) ps p all (inl refl), needed_differ (p ∷ []) ps all)
 
--- ---- they are among what steps lead to
+-- ---- their members are among the terms that steps reach
 
 module _ (q : ProblemParts) (ps : List SetPair) (all : HasNoRedundantPair q (closed_pair q ∷ ps)) where
   pub no_redundant_reached : AreReached (closed q).left (closed q).right (closed_pair q ∷ ps)
@@ -66,9 +66,9 @@ module _ (q : ProblemParts) (ps : List SetPair) (all : HasNoRedundantPair q (clo
   pub no_redundant_few : length (closed_pair q ∷ ps) ≤ pair_limit q
   no_redundant_few = pairs_bound (closed q).left (closed q).right (closed_pair q ∷ ps) (no_redundant_differ q (closed_pair q ∷ ps) all) no_redundant_reached
 
--- ---- where both sides are guarded
+-- ---- when both sides are guarded
 
--- each side guarded, and the first pair that of the sides
+-- pairs of which the first is that of two guarded sides
 module _ (q : ProblemParts) (l r : Term) (left : IsGuarded l) (right : IsGuarded r) (ps : List SetPair) (all : HasNoRedundantPair q (record { left = l ∷ []; right = r ∷ [] } ∷ ps)) where
   sides_single : AreSingle l r (record { left = l ∷ []; right = r ∷ [] } ∷ ps)
   sides_single =
@@ -80,7 +80,7 @@ module _ (q : ProblemParts) (l r : Term) (left : IsGuarded l) (right : IsGuarded
   sides_few : length (record { left = l ∷ []; right = r ∷ [] } ∷ ps) ≤ (acts l + 2) * (acts r + 2)
   sides_few = single_pairs_bound l r (record { left = l ∷ []; right = r ∷ [] } ∷ ps) (no_redundant_differ q (record { left = l ∷ []; right = r ∷ [] } ∷ ps) all) sides_single
 
--- without hypotheses the closed sides are the sides
+-- without hypotheses, the closed sides are the sides
 pub guarded_few : (q : ProblemParts) (ps : List SetPair) → HasNoRedundantPair q (closed_pair q ∷ ps) → q.hyps ≡ [] → IsGuarded q.left → IsGuarded q.right → length (closed_pair q ∷ ps) ≤ (acts q.left + 2) * (acts q.right + 2)
 guarded_few q ps all none left right =
     let same : closed_pair q ≡ record { left = q.left ∷ []; right = q.right ∷ [] } = ap (λ hs. pair_under hs) none in

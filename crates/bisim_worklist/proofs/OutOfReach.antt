@@ -1,4 +1,4 @@
--- What rounds over pairs cannot mark.
+-- Ids that rounds over pairs cannot mark.
 use Rattle.std.proofs.Common.{◌≡◌, ℕ, zero, suc, ◌⊎◌, inl, inr, ⊎_elim, List, [], ◌∷◌, get_or, set, refl, sym, ap, ◌∙◌, subst, Bool, true, false, ◌&&◌, ◌||◌, cond, Option, Some, None}
 use Rattle.std.proofs.lemmas.Bool.{and_right}
 use Rattle.kat_model.specs.Members.{Has}
@@ -8,7 +8,7 @@ use Rattle.bisim_worklist.specs.Working.Marks.{are_marked, with_marks, with_pair
 use Rattle.bisim_worklist.proofs.MarkSteps.{rounds_keep}
 use Rattle.bisim_worklist.proofs.Memberships.{AreWithin}
 
--- what is marked was so, or is marked here
+-- each new mark was there before or is in `all`
 abbrev pub IsFrom : List Bool → List Bool → List Bool → Type 0
 IsFrom all marks more = (j : ℕ) → get_or more j false ≡ true → (get_or marks j false ≡ true) ⊎ (get_or all j false ≡ true)
 
@@ -41,7 +41,7 @@ rounds_from all zero ps marks w = λ j e. inl e
 rounds_from all (suc n) ps marks w = λ j e.
     ⊎_elim (λ h. round_from all ps marks w j h) inr (rounds_from all n ps (round_marked ps marks) w j e)
 
--- so the mark of another stays as it is
+-- so any other mark is unchanged
 same_bool : (a b : Bool) → (b ≡ true → a ≡ true) → (a ≡ true → b ≡ true) → a ≡ b
 same_bool true true f g = refl
 same_bool true false f g = sym (g refl)
@@ -59,7 +59,8 @@ one_unmarked marks (i ∷ ids) t h e =
     (λ r. and_right (get_or marks i false) (are_marked marks ids) (one_unmarked marks ids t r e))
     h
 
--- where neither the universal term nor some target is or may be marked, rounds change nothing of what is reached
+-- if neither the universal term nor some target is marked or a member of a pair, rounds do not change whether the
+-- targets are reached
 pub stays_out : (r : RuleParts) (marks : List Bool) (targets : List ℕ) (n : ℕ) → AreMembers r
     → ((u : ℕ) → r.universal ≡ Some u → get_or r.members u false ≡ true → ⊥)
     → (t : ℕ) → Has targets t → get_or marks t false ≡ false → (get_or r.members t false ≡ true → ⊥)

@@ -1,4 +1,4 @@
--- How many pairs may be listed: where there is room for one more, and where there is none.
+-- The limit on listed pairs: when an additional pair may be listed, and when the limit is reached.
 use Rattle.std.proofs.Common.{◌≡◌, ◌≤◌, ◌+◌, ℕ, Bool, true, false, cond, nat_le, List, ◌∷◌, length, Option, Some, None, refl, sym, ap, ◌∙◌, subst, arith}
 use Rattle.std.specs.Option.{option_map_or}
 use Rattle.std.specs.Bool.{IsTrue}
@@ -21,7 +21,7 @@ pub full_limit : (limit : Option ℕ) (n : ℕ) → option_map_or (λ m. nat_le 
 full_limit None n e = absurd cc
 full_limit (Some m) n e = (m, refl, leb-true m n e)
 
--- ---- of a problem
+-- ---- the limit of a problem
 
 abbrev limit_if : Bool → Option ℕ
 limit_if true = Some untested_limit

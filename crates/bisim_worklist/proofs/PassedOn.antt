@@ -1,4 +1,4 @@
--- The halt that a `?` passes on.
+-- The halt that `?` propagates.
 use Rattle.std.proofs.Common.{◌≡◌, Result, Ok, Err, IsErrAnd, sym, ◌∙◌}
 use Rattle.bisim_worklist.specs.declared.halt.Halt.{Halt}
 use Rattle.bisim_worklist.specs.declared.halt.Halt.TheVariants.{PairLimit}

@@ -1,4 +1,4 @@
--- The members of the sets that a walk lists are in the problem's range.
+-- The members of the sets that a walk lists are in range of the problem.
 use Rattle.std.proofs.Common.{ℕ, List}
 use Rattle.kat_model.specs.Trees.{Term}
 use Rattle.kat_model.specs.Members.{Has}

@@ -1,4 +1,4 @@
--- What rounds over pairs do to the members of a set, and when they have brought all that they can.
+-- The effect of rounds over pairs on the members of a set, and when they have reached the closure.
 use Rattle.std.proofs.Common.{◌≡◌, ◌⊎◌, inl, inr, ⊎_elim, ℕ, zero, suc, List, [], ◌∷◌, ◌++◌, refl, sym, subst, Bool, true, false, ◌||◌, cond}
 use mathlib.Core.Path.{ap₂}
 use Rattle.std.specs.Cmp.{both_ways}
@@ -12,28 +12,28 @@ use Rattle.kat_model.proofs.Saturation.{Respects, IsClosed, HoldsSide, round_has
 use Rattle.kat_model.proofs.SaturationEnds.{sat_closed}
 use Rattle.kat_model.proofs.Congruence.{sat_least}
 
--- a round that adds nothing leaves a closed set
+-- a set to which a round adds nothing is closed
 pub unchanged_closed : (ps : List SetPair) (es : List Term) → IsSubset (round ps es) es → IsClosed ps es
 unchanged_closed ps es s p h = (
   (λ l x k. s x ((round_has ps es p h (inl l)).1 x k)),
   (λ r x k. s x ((round_has ps es p h (inr r)).0 x k)),
 )
 
--- a closed set with no more than the pairs make of a part of it is what they make
+-- a closed set between a set and its closure is the closure
 pub closed_sat : (ps : List SetPair) (es fs : List Term) → IsSubset es fs → IsSubset fs (sat ps es) → IsClosed ps fs → SameMembers fs (sat ps es)
 closed_sat ps es fs s t c x = (t x, sat_least ps es fs c s x)
 
--- rounds make no more than the pairs do
+-- rounds add only members of the closure
 pub rounds_within : (n : ℕ) (ps : List SetPair) (es fs : List Term) → IsSubset fs (sat ps es) → IsSubset (rounds n ps fs) (sat ps es)
 rounds_within n ps es fs s = rounds_each (Has (sat ps es)) n ps fs (sat_closed ps es) s
 
--- the term stands in some pair
+-- the term is a member of some pair
 pub record StandsIn (ps : List SetPair) (x : Term) : Type 0 where
   pub pair : SetPair
   pub listed : Has ps pair
   pub member : Has pair.left x ⊎ Has pair.right x
 
--- what the pairs bring to a set stands in them
+-- a member of the closure is in the set or in a pair
 pub sat_from : (ps : List SetPair) (es : List Term) (x : Term) → Has (sat ps es) x → Has es x ⊎ StandsIn ps x
 sat_from ps es x h = sat_each IsFrom ps es respected (λ y k. inl k) x h
   where
@@ -73,7 +73,7 @@ with_neither es p l r = go (holds_all es p.left || holds_all es p.right) refl
     go true e = absurd (⊎_elim (λ m. l (holds_all-true es p.left m)) (λ m. r (holds_all-true es p.right m)) (or_cases _ _ e))
     go false e = refl
 
--- ---- a round depends on the members of the set alone
+-- ---- a round depends only on the members of the set
 
 holds_all_same : (es fs gs : List Term) → SameMembers es fs → holds_all es gs ≡ holds_all fs gs
 holds_all_same es fs gs s =

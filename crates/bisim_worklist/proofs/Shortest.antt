@@ -1,4 +1,5 @@
--- The string that a walk spells to a pair that does not accept alike refutes, and none is shorter.
+-- The string that a walk spells to a pair whose sets accept different atoms refutes the problem, and no shorter string
+-- does.
 use Rattle.std.proofs.Common.{◌≡◌, ◌≢◌, ◌+◌, ◌≤◌, ◌<◌, ◌⊎◌, ⊎_elim, ℕ, List, [], ◌∷◌, length, slice_get, Some, None, refl, sym, ap, ◌∙◌, subst, arith}
 use Rattle.std.proofs.lemmas.Option.{same_Some}
 use Rattle.kat_model.specs.Problems.{ProblemParts}
@@ -20,7 +21,8 @@ abbrev pub SetsDiffer : SetPair → GuardedString → Type 0
 SetsDiffer p x = set_accepts p.left x.first x.rest ≢ set_accepts p.right x.first x.rest
 
 module _ (q : ProblemParts) where
-  -- so it is with the pair that a step leads from, and the string after that step
+  -- if the sets that a step leads to differ on a string, the sets that it starts from differ on the string with the
+  -- step before it
   step_differs : (from to : SetPair) (o : Origin) (x : GuardedString) → IsNextOf q.tests q.actions from o.atom o.act to → SetsDiffer to x → SetsDiffer from (after_step o x)
   step_differs from to o x next ne same =
       ne
@@ -63,7 +65,7 @@ module _ (q : ProblemParts) where
         ∙ set_accepts-single (closed q).right y.first y.rest
 
     module _ (e : Entry) (here : slice_get es done ≡ Some e) (atom : Atom) (wide : length atom ≡ q.tests) (ne : set_out e.pair.left atom ≢ set_out e.pair.right atom) where
-      -- the string of an atom at which the pair that is processed does not accept alike
+      -- the string of an atom at which exactly one set of the pair being processed accepts
       pub found_shortest : IsShortestFrom q es done (record { first = atom; rest = [] })
       found_shortest os t = record {
         refutes = trail_refutes os done e (record { first = atom; rest = [] }) here t (record { first = wide; rest = λ m h. absurd h }) ne;
@@ -80,6 +82,6 @@ module _ (q : ProblemParts) where
     pub shortest_step : (k : ℕ) (e : Entry) (o : Origin) (x : GuardedString) → slice_get es k ≡ Some e → e.origin ≡ Some o → IsShortestFrom q es k x → IsShortestFrom q es o.place (after_step o x)
     shortest_step k e o x at is s os t = s (o ∷ os) ((e, at, is), t)
 
-    -- at the first pair the string is whole
+    -- at the first pair the string is complete
     pub shortest_whole : (e : Entry) (k : ℕ) (x : GuardedString) → slice_get es k ≡ Some e → e.origin ≡ None → IsShortestFrom q es k x → IsShortest q x
     shortest_whole e k x at is s = s [] (no_origin_first q es done walk k e at is)

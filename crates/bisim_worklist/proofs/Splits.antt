@@ -1,4 +1,4 @@
--- A case that is split by a test that is not decided: it is visited where both parts are.
+-- A case that is split by an undecided test: it is visited when both parts are.
 use Rattle.std.proofs.Common.{◌≡◌, ◌<◌, ◌⊎◌, ℕ, zero, suc, inl, inr, ⊎_elim, List, [], ◌∷◌, length, replicate, slice_get, get_or, set, refl, sym, ap, ◌∙◌, subst, arith, Bool, true, false, not, cond, Option, Some, None}
 use mathlib.Core.Path.{ap₂}
 use Rattle.std.proofs.lemmas.List.{set-get_or, length-replicate}
@@ -25,7 +25,7 @@ use Rattle.walk_pairs.specs.declared.items.Side.TheVariants.{Left, Right}
 use Rattle.bisim_worklist.specs.declared.branching.Stride.{Stride}
 use Rattle.bisim_worklist.proofs.Visiting.{grown_at, visited_both}
 
--- ---- the test that is decided next
+-- ---- the next test
 
 depends_not : (d : DiagramsParts) (id k : ℕ) → DependsOn d id k → IsIndependent d id k → ⊥
 depends_not d id k dep ind = dep.changes (ind dep.atom dep.fits false ∙ sym (ind dep.atom dep.fits true))
@@ -106,7 +106,7 @@ module _ (d e : DiagramsParts) (kept : KeepsFunctions d e) where
 
 -- ---- the parts of a case
 
--- what stands for the next sets at the atoms of one case has others that do at those of another
+-- if the items represent the next sets at the atoms of one case, the other items do at those of another case
 abbrev pub Carries : (c : DiagramsParts) (items : List Item) (decided : List (Option Bool)) (d : DiagramsParts) (others : List Item) (more : List (Option Bool)) → Type 0
 Carries c items decided d others more = (q : ProblemParts) (store : NodeParts) (p : SetPair) (a : ℕ) → c.tests ≡ q.tests → StandFor q store c items p a decided → StandFor q store d others p a more
 
@@ -127,7 +127,7 @@ module _ (c d : DiagramsParts) (items others : List Item) (decided : List (Optio
         subst (λ ts. SameMembers (set_next p.right atom a) (terms_of store ts)) (side_same Right atom (wide ∙ sym (same ∙ tests)) w.1) (stands.rights atom wide w.0);
   }
 
--- the part that is made first, and one that is made after it
+-- the part that is made first, and the part that is made after it
 pub first_carries : (c d e : DiagramsParts) (items others : List Item) (decided : List (Option Bool)) (test : ℕ) (value : Bool) → AreItemsWith c d items test value others → IsOpen decided test → KeepsFunctions c d → KeepsFunctions d e → Carries c items decided e others (set decided test (Some value))
 first_carries c d e items others decided test value parts undecided k l q store p a tests stands =
     stands_kept d e l q store others p a (set decided test (Some value)) parts.are (part_stands c d items others decided test value parts undecided k.tests q store p a tests stands)
@@ -160,7 +160,7 @@ module _ (c : DiagramsParts) (stride : Stride) (decided : List (Option Bool)) (i
             u.visited v.visited;
       }
 
--- a case needs one pair more than may be listed where a part does, the one that is visited first or the other
+-- a case needs more pairs than may be listed if the part that is visited first or the other part does
 pub passes_first : (c d : DiagramsParts) (stride : Stride) (decided more : List (Option Bool)) (items one : List Item) (old : RuleParts) → d.tests ≡ c.tests → Carries c items decided d one more → PassesLimit d stride more one old → PassesLimit c stride decided items old
 passes_first c d stride decided more items one old same carries passes q store from tests acts rules at stands =
     passes q store from (same ∙ tests) acts rules at (carries q store from.pair stride.act tests stands)
@@ -177,7 +177,7 @@ passes_second c d e stride decided more others items one other old middle m n fi
     let there = grown_at (entries_of store old.pairs) (entries_of store middle.pairs) stride.place from u.visited.grows at in
     subst (IsPastLimit q) limit (passes q store from (n ∙ tests) acts u.rules there (second_carries q store from.pair stride.act tests stands))
 
--- a part of a case leaves fewer tests undecided
+-- a part of a case has fewer undecided tests
 pub fewer_part : (ds es : List (Option Bool)) (k : ℕ) (b : Bool) → IsOpen ds k → es ≡ set ds k (Some b) → open_count es < open_count ds
 fewer_part ds es k b o e = subst (λ xs. open_count xs < open_count ds) (sym e) (fewer_open ds k b o)
 

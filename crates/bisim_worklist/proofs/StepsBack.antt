@@ -1,4 +1,4 @@
--- The string of the steps that lead to a listed pair, from its end.
+-- The string of the steps that lead to a listed pair, built from its end.
 use Rattle.std.proofs.Common.{◌≡◌, ◌<◌, ⊎_elim, ℕ, Bool, List, [], ◌∷◌, ◌++◌, length, slice_get, Option, Some, None, refl, sym, ap, ◌∙◌, subst, arith, append_assoc, reverse}
 use Rattle.std.proofs.lemmas.Option.{slice_get_cases}
 use Rattle.std.proofs.lemmas.List.{reverse-append}
@@ -10,7 +10,7 @@ use Rattle.bisim_worklist.specs.Working.Listings.{IdEntry, AreTraced, ComesEarli
 abbrev pub string_of : List Bool → List Move → GuardedString
 string_of first rest = record { first = first; rest = rest }
 
--- the moves so far, the last of them first, are those of steps from the place back to another
+-- the moves so far, in reverse order, are those of the steps from `back` to `place`
 pub record IsSpelling (pairs : List IdEntry) (place : ℕ) (last : List Bool) (back : ℕ) (first : List Bool) (moves : List Move) : Type 0 where
   pub within : back < length pairs
   pub steps : List Origin

@@ -1,4 +1,4 @@
--- Each entry has a trail back to the first, and trails do not grow shorter along the list: the walk is breadth first.
+-- Each entry has a trail back to the first, and trails do not become shorter along the list: the walk is breadth first.
 use Rattle.std.proofs.Common.{◌≡◌, ◌≤◌, ◌<◌, ℕ, zero, suc, List, [], ◌∷◌, length, slice_get, Option, Some, None, refl, sym, ap, ◌∙◌, subst, arith}
 use Rattle.std.proofs.lemmas.Option.{slice_get_within, same_Some}
 use Rattle.kat_model.specs.Members.{Has}
@@ -8,7 +8,7 @@ use Rattle.kat_model.proofs.Places.{element_at, place_of_member}
 use Rattle.bisim_worklist.proofs.WalkSteps.{first_entry}
 
 module _ (q : ProblemParts) (es : List Entry) (done : ℕ) (walk : IsWalk q es done) where
-  -- the first entry has no origin, and each other has one
+  -- the first entry has no origin, and every other entry has one
   first_has_none : (e : Entry) (o : Origin) → slice_get es 0 ≡ Some e → e.origin ≡ Some o → ⊥
   first_has_none e o h is =
       let same : first_entry q ≡ e = same_Some (first_entry q) e (sym walk.first ∙ h) in
@@ -41,7 +41,7 @@ module _ (q : ProblemParts) (es : List Entry) (done : ℕ) (walk : IsWalk q es d
       let shorter = no_longer_trail os ps o.place p.place found t.1 u.1 in
       omega arith
 
-  -- a trail of each place below n
+  -- each place below n has a trail
   trail_below : (n k : ℕ) → k < n → k < length es → (os : List Origin) × IsTrail es k os
   trail_below zero k l within = absurd (omega arith)
   trail_below (suc n) zero l within = ([], refl)
@@ -54,7 +54,7 @@ module _ (q : ProblemParts) (es : List Entry) (done : ℕ) (walk : IsWalk q es d
   pub trail_of : (k : ℕ) → k < length es → (os : List Origin) × IsTrail es k os
   trail_of k within = trail_below (suc k) k (omega arith) within
 
-  -- an entry that is found by place k has a trail that is at most one longer
+  -- an entry found by place k has a trail that is at most one step longer
   pub found_trail : (k : ℕ) (os : List Origin) (e : Entry) → IsTrail es k os → Has es e → IsFoundBy k e.origin → (j : ℕ) × (slice_get es j ≡ Some e) × ((ps : List Origin) × IsTrail es j ps × (length ps ≤ suc (length os)))
   found_trail k os e t h found = let place = place_of_member es e h in go e.origin place.0 refl found place.1
     where

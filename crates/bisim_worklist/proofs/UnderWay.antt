@@ -1,4 +1,4 @@
--- A walk that is under way: how it begins, that it stays so where store and diagrams grow, and that it takes a pair.
+-- A walk under way: its start, the growth of store and diagrams, and the processing of a pair.
 use Rattle.std.proofs.Common.{◌≡◌, ◌≢◌, ◌≤◌, ◌<◌, ◌+◌, inl, inr, ⊎_elim, ℕ, suc, List, [], ◌∷◌, length, get_or, slice_get, All, Option, Some, None, refl, sym, ap, ◌∙◌, subst, arith}
 use mathlib.Core.Path.{ap₂}
 use Rattle.std.specs.Option.{option_map}
@@ -75,7 +75,7 @@ module _ (q : ProblemParts) (store : NodeParts) (problem : IsProblem q) (sound :
         both : Term → Term → List Entry
         both l r = record { pair = record { left = l ∷ []; right = r ∷ [] }; origin = None } ∷ []
 
-    -- the rules with the first pair alone
+    -- the rules with only the first pair
     pub rules_start : (r : RuleParts) → r.pairs ≡ first_ids left right ∷ [] → IsWithinLimit r.limit 1 → r.count ≡ length store.terms → ((u : ℕ) → r.universal ≡ Some u → IsTerm store u) → option_map (tree_at store) r.universal ≡ (closed q).universal → AreRulesOf q store r 0
     rules_start r pairs room count ids universal = record {
       sound = sound;
@@ -109,7 +109,7 @@ module _ (old new : NodeParts) (kept : Grows old new) (n : ℕ) where
       ap₂ (λ (x : Entry) (xs : List Entry). x ∷ xs) (entry_kept e (sets e (inl refl)).0 (sets e (inl refl)).1) (entries_kept es (λ f h. sets f (inr h)))
 
 module _ (q : ProblemParts) (old new : NodeParts) (kept : Grows old new) (sound : AreNodes new) (done : ℕ) where
-  -- the rules stay those of the walk, once they have the new count
+  -- the rules remain those of the walk, with the new count
   pub rules_kept : (r s : RuleParts) → s ≡ record r { count = length new.terms } → AreRulesOf q old r done → AreRulesOf q new s done
   rules_kept r s is rules = subst (λ t. AreRulesOf q new t done) (sym is) counted
     where
@@ -131,7 +131,7 @@ module _ (q : ProblemParts) (old new : NodeParts) (kept : Grows old new) (sound 
   pub under_way_kept : (w x : Walk) → x.diagrams.tests ≡ w.diagrams.tests → x.rules ≡ record w.rules { count = length new.terms } → AreRight new x.diagrams x.derivatives → IsUnderWay q old w done → IsUnderWay q new x done
   under_way_kept w x tests is right under_way = record { tests = tests ∙ under_way.tests; rules = rules_kept w.rules x.rules is under_way.rules; right = right }
 
--- where diagrams alone are added
+-- when only diagrams are added
 pub under_way_more : (q : ProblemParts) (store : NodeParts) (done : ℕ) (w x : Walk) → KeepsFunctions w.diagrams x.diagrams → x.rules ≡ w.rules → x.derivatives ≡ w.derivatives → IsUnderWay q store w done → IsUnderWay q store x done
 under_way_more q store done w x kept rules derivatives under_way = record {
   tests = kept.tests ∙ under_way.tests;
@@ -145,14 +145,14 @@ pub all_terms : (store : NodeParts) (n : ℕ) (ids : List ℕ) → IsIdSet store
 all_terms store n ids set k i within = set.there (get_or ids k i) (has_at ids k (get_or ids k i) (slice_get-get_or ids k i within))
 
 module _ (old new : NodeParts) (n : ℕ) (ids : List ℕ) (set : IsIdSet old n ids) (steps : Steps) where
-  -- the trees that a set had
+  -- the steps of a set whose trees are kept
   pub steps_there : (d : DiagramsParts) → Grows old new → IsStepsOf new d (terms_of old ids) steps → IsStepsOf new d (terms_of new ids) steps
   steps_there d kept is = subst (λ es. IsStepsOf new d es steps) (sym (terms_kept old new kept n ids set.there)) is
 
   pub steps_kept : (c d : DiagramsParts) → Keeps old new c d → IsStepsOf old c (terms_of old ids) steps → IsStepsOf new d (terms_of new ids) steps
   steps_kept c d kept is = steps_there d kept.trees (IsStepsBy-kept old new c d kept (set_out (terms_of old ids)) (set_next (terms_of old ids)) steps is)
 
--- steps of one set, and then of another, while store and diagrams grow
+-- the steps of one set and then of another, while store and diagrams grow
 pub both_steps : (r s t : NodeParts) (b c d : DiagramsParts) (n : ℕ) (left right : List ℕ) (steps : BothSteps) → Keeps r s b c → Keeps s t c d → IsIdSet r n left → IsIdSet r n right
     → IsStepsOf s c (terms_of r left) steps.left → IsStepsOf t d (terms_of s right) steps.right
     → IsStepsOf t d (terms_of t left) steps.left × IsStepsOf t d (terms_of t right) steps.right
@@ -182,16 +182,16 @@ module _ (store : NodeParts) (w x : Walk) (kept : KeepsFunctions w.diagrams x.di
     right = IsStepsBy-kept store store w.diagrams x.diagrams more (set_out (terms_of store e.right)) (set_next (terms_of store e.right)) steps.right at.right;
   }
 
--- ---- a pair is taken
+-- ---- a pair is processed
 
 module _ (q : ProblemParts) (store : NodeParts) (w : Walk) (e : IdEntry) (steps : BothSteps) (tests : w.diagrams.tests ≡ q.tests) (at : AreStepsAt store w e steps) where
-  -- where the steps accept alike, so do the sets
+  -- if the steps accept alike, the sets do
   pub alike : steps.left.accepts ≡ steps.right.accepts → AcceptAlike q (pair_of store e)
   alike same atom wide =
       let fits : IsAtomOf w.diagrams atom = wide ∙ sym tests in
       sym (at.left.accepts.value atom fits) ∙ ap (λ (id : ℕ). value_of w.diagrams id atom) same ∙ at.right.accepts.value atom fits
 
-  -- where they differ, so do the sets
+  -- if the steps differ at an atom, the sets do
   pub apart : (x : Walk) (place : ℕ) (atom : Atom) → x.rules ≡ w.rules → slice_get w.rules.pairs place ≡ Some e → IsAtomOf w.diagrams atom → value_of w.diagrams steps.left.accepts atom ≢ value_of w.diagrams steps.right.accepts atom → IsDifference q store x place atom
   apart x place atom rules here fits differ = record {
     entry = entry_of store e;
@@ -222,13 +222,13 @@ taken q store w place e under_way here outputs steps = record {
 
 -- ---- places
 
--- a listed pair stands below the bound on pairs
+-- the place of a listed pair is below the bound on pairs
 pub place_limit : (q : ProblemParts) (store : NodeParts) (w : Walk) (place : ℕ) → IsUnderWay q store w place → place < length w.rules.pairs → place < pair_limit q
 place_limit q store w place under_way within =
     let few : length (entries_of store w.rules.pairs) ≤ pair_limit q = walk_few q (entries_of store w.rules.pairs) place under_way.rules.walk in
     omega (arith, within, few, length-map w.rules.pairs (entry_of store))
 
--- where no pair is left, all listed ones are processed
+-- if no pair is left, all listed pairs are processed
 pub all_taken : (q : ProblemParts) (store : NodeParts) (w : Walk) (place : ℕ) → IsUnderWay q store w place → length w.rules.pairs ≤ place → IsUnderWay q store w (length w.rules.pairs)
 all_taken q store w place under_way past = record {
   tests = under_way.tests;
@@ -246,7 +246,7 @@ all_taken q store w place under_way past = record {
 
 -- ---- the steps at a place
 
--- what is read at a place stands there
+-- a pair read in range is the one at that place
 pub read_at : (ps read : List IdEntry) (place : ℕ) (p : IdEntry) → read ≡ ps → place < length ps → p ≡ get_or read place p → slice_get ps place ≡ Some p
 read_at ps read place p same within is = slice_get-get_or ps place p within ∙ ap (λ l. Some (get_or l place p)) (sym same) ∙ ap Some (sym is)
 

@@ -1,10 +1,10 @@
--- Marks that are taken off, and marks of further ids, which are off.
+-- Marks that are removed, and marks of additional ids, which are false.
 use Rattle.std.proofs.Common.{◌≡◌, ℕ, zero, suc, ⊎_elim, List, [], ◌∷◌, ◌++◌, length, get_or, set, take, replicate, refl, sym, ap, Bool, true, false}
 use Rattle.std.proofs.lemmas.Bool.{true≢false}
 use Rattle.kat_model.specs.Members.{Has}
 use Rattle.bisim_worklist.specs.Working.Marks.{without_marks, AreAmong}
 
--- a mark that is left was there, and is not the one that was taken off
+-- a mark that remains was there and is not the one that was removed
 off_set : (m : List Bool) (i j : ℕ) → get_or (set m i false) j false ≡ true → (get_or m j false ≡ true) × (i ≡ j → ⊥)
 off_set [] i j e = absurd (true≢false (sym e))
 off_set (b ∷ m) zero zero e = absurd (true≢false (sym e))
@@ -19,11 +19,11 @@ without_off (i ∷ ids) m j e =
     let first = off_set m i j rest.0 in
     (first.0, λ h. ⊎_elim first.1 rest.1 h)
 
--- no mark is left where those of all marked ids are taken off
+-- if the marks of all marked ids are removed, no mark remains
 pub none_left : (m : List Bool) (ids : List ℕ) → AreAmong m ids → (j : ℕ) → get_or (without_marks m ids) j false ≡ true → ⊥
 none_left m ids among j e = let left = without_off ids m j e in left.1 (among j left.0)
 
--- marks of which none is on
+-- if no mark is true, all are false
 pub all_off : (m : List Bool) → ((j : ℕ) → get_or m j false ≡ true → ⊥) → m ≡ replicate (length m) false
 all_off [] none = refl
 all_off (true ∷ m) none = absurd (none zero refl)

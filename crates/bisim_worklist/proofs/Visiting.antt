@@ -1,5 +1,5 @@
--- The cases of one action of the pair that is processed: a case that is covered, one whose pair is listed, and a case
--- of two.
+-- The cases of one action of the pair being processed: a covered case, a case whose pair is listed, and a case that is
+-- split in two.
 use Rattle.std.proofs.Common.{◌≡◌, ◌<◌, ◌⊎◌, inl, ⊎_elim, ℕ, List, [], ◌∷◌, ◌++◌, length, slice_get, Some, refl, sym, ap, ◌∙◌, subst, append-nil, append_assoc}
 use Rattle.kat_model.specs.Trees.{Term}
 use Rattle.kat_model.specs.Members.{IsSubset, SameMembers}
@@ -41,7 +41,7 @@ module _ (q : ProblemParts) (es fs : List Entry) (g : AddsEntries es fs) where
 -- ---- cases
 
 module _ (q : ProblemParts) (done : ℕ) (p : SetPair) (a : ℕ) where
-  -- a case that is covered lists nothing
+  -- a covered case lists nothing
   pub visited_covered : (es : List Entry) (IsCase : Atom → Type 0) (sure_left sure_right open_left open_right : List Term)
       → IsWalk q es done
       → ((atom : Atom) → length atom ≡ q.tests → IsCase atom → IsBetween sure_left open_left (set_next p.left atom a) (set_next p.right atom a) × IsBetween sure_right open_right (set_next p.right atom a) (set_next p.left atom a))
@@ -55,7 +55,7 @@ module _ (q : ProblemParts) (done : ℕ) (p : SetPair) (a : ℕ) where
         covered_congruent (closed q).universal (pairs_of es) sure_left sure_right open_left open_right (set_next p.left atom a) (set_next p.right atom a) b.0 b.1 covered;
   }
 
-  -- a case of two cases
+  -- a case that is split in two
   pub visited_both : (es fs gs : List Entry) (IsCase First Second : Atom → Type 0)
       → ((atom : Atom) → length atom ≡ q.tests → IsCase atom → First atom ⊎ Second atom)
       → IsVisited q es fs done p a First
@@ -71,7 +71,7 @@ module _ (q : ProblemParts) (done : ℕ) (p : SetPair) (a : ℕ) where
         (split atom wide in_case);
   }
 
--- a case that is not covered, in which all terms are sure, lists their pair
+-- a case that is not covered and has only sure terms lists their pair
 module _ (q : ProblemParts) (es : List Entry) (done : ℕ) (from : Entry) (r : SetPair) (o : Origin) (IsCase : Atom → Type 0) (open_left open_right : List Term) where
   pub visited_listed : IsWalk q es done
       → slice_get es done ≡ Some from

@@ -1,4 +1,4 @@
--- A walk begins with the closed pair, lists one pair more, or has processed one more.
+-- A walk begins with the closed pair, lists an additional pair, or processes an additional one.
 use Rattle.std.proofs.Common.{◌≡◌, ◌≤◌, ◌<◌, ◌⊎◌, ⊎_elim, ℕ, zero, suc, List, [], ◌∷◌, ◌++◌, slice_get, Some, None, refl, sym, ap, ◌∙◌, subst, arith, append-nil, append_assoc}
 use Rattle.std.proofs.lemmas.Option.{slice_get_within, same_Some}
 use Rattle.kat_model.specs.Members.{Has}
@@ -13,7 +13,7 @@ use Rattle.bisim_worklist.proofs.Entries.{pairs_of-append, has_pair, pair_has, f
 
 -- ---- the start
 
--- the walk with the closed pair alone
+-- the first entry, of the closed pair
 abbrev pub first_entry : ProblemParts → Entry
 first_entry q = record { pair = closed_pair q; origin = None }
 
@@ -31,7 +31,7 @@ walk_starts q = record {
     alone i zero e f o l at is from = let same : first_entry q ≡ f = cc in let none : None ≡ Some o = ap (λ (x : Entry). x.origin) same ∙ from in absurd cc
     alone i (suc j) e f o l at is from = absurd cc
 
--- ---- one pair more
+-- ---- an additional pair
 
 needed_more : (q : ProblemParts) (before ps : List SetPair) (p : SetPair) → AreNeeded q before ps → IsNeeded q (before ++ ps) p → AreNeeded q before (ps ++ p ∷ [])
 needed_more q before [] p all new = (subst (λ z. IsNeeded q z p) (append-nil before) new, tt)
@@ -41,7 +41,7 @@ pub no_redundant_more : (q : ProblemParts) (ps : List SetPair) (p : SetPair) →
 no_redundant_more q [] p all new = tt
 no_redundant_more q (r ∷ ps) p all new = needed_more q (r ∷ []) ps p all new
 
--- the step from the pair that is being processed leads to a pair that is not congruent yet
+-- the step from the pair being processed leads to a pair that is not yet congruent
 module _ (q : ProblemParts) (es : List Entry) (done : ℕ) (walk : IsWalk q es done) where
   module _ (from : Entry) (here : slice_get es done ≡ Some from) (p : SetPair) (o : Origin) (at : o.place ≡ done) (next : IsNextOf q.tests q.actions from.pair o.atom o.act p) (fresh : IsCongruent (closed q).universal (pairs_of es) p.left p.right → ⊥) where
     abbrev new_entry : Entry
@@ -102,7 +102,7 @@ module _ (q : ProblemParts) (es : List Entry) (done : ℕ) (walk : IsWalk q es d
         (λ last. absurd (let m = slice_get_within es done from here in let n = last.0 in omega arith))
         (slice_get_last es new_entry k e h)
 
-    -- it is listed at the end
+    -- with the new pair at the end
     pub walk_lists : IsWalk q (es ++ record { pair = p; origin = Some o } ∷ []) done
     walk_lists = record {
       first = slice_get-append_some es (new_entry ∷ []) 0 (first_entry q) walk.first;
@@ -113,7 +113,7 @@ module _ (q : ProblemParts) (es : List Entry) (done : ℕ) (walk : IsWalk q es d
       processed = new_processed;
     }
 
-  -- ---- one pair more is processed
+  -- ---- an additional pair is processed
 
   module _ (e : Entry) (here : slice_get es done ≡ Some e) (settled : IsSettled q (pairs_of es) e.pair) where
     pub walk_goes_on : IsWalk q es (suc done)

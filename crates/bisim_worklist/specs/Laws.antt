@@ -1,4 +1,4 @@
--- The laws of walks. Each stands on a function of the crate that does nothing.
+-- The laws of walks. Each is the contract of a function of the crate with an empty body.
 use Rattle.std.specs.Prelude.{◌≡◌, ◌≢◌, ◌≤◌, ◌<◌, ◌+◌, ◌*◌, ℕ, suc, List, [], ◌∷◌, ◌++◌, length, slice_get, Option, Some, None}
 use Rattle.kat_model.specs.Trees.{Term, acts}
 use Rattle.kat_model.specs.Members.{Has, IsSubset, SameMembers}
@@ -18,11 +18,11 @@ use Rattle.certificate.specs.Decisions.{HasNoRedundantPair, pair_limit, IsConcis
 use Rattle.walk_pairs.specs.Covered.{IsBetween, IsCovered}
 use Rattle.bisim_worklist.specs.Walks.{Origin, Entry, pairs_of, closed_pair, IsNextOf, IsSettled, IsWalk, IsTrail, after_trail}
 
--- sets that are congruent under some pairs are so under more
+-- sets that are congruent under some pairs are congruent under more
 abbrev pub MorePairs : Type 0
 MorePairs = (universal : Option Term) (ps qs : List SetPair) (es fs : List Term) → IsCongruent universal ps es fs → IsCongruent universal (ps ++ qs) es fs
 
--- sets between terms of which the sure cover the open are congruent
+-- two sets between sure and open terms are congruent if the sure terms cover the open ones
 abbrev pub CoveredAreCongruent : Type 0
 CoveredAreCongruent =
     (universal : Option Term) (pairs : List SetPair) (sure_left sure_right open_left open_right es fs : List Term)
@@ -31,7 +31,7 @@ CoveredAreCongruent =
     → IsCovered universal pairs sure_left sure_right open_left open_right
     → IsCongruent universal pairs es fs
 
--- the sure terms of congruent sets cover their terms, where all are sure
+-- if all terms of two congruent sets are sure, the sure terms cover the open ones
 abbrev pub CongruentAreCovered : Type 0
 CongruentAreCovered =
     (universal : Option Term) (pairs : List SetPair) (sure_left sure_right open_left open_right es fs : List Term)
@@ -42,7 +42,7 @@ CongruentAreCovered =
     → IsCongruent universal pairs es fs
     → IsCovered universal pairs sure_left sure_right open_left open_right
 
--- how a walk begins and goes on
+-- the start of a walk, and its continuation by a pair that is listed or processed
 pub record WalkGoesOn (q : ProblemParts) : Type 0 where
   pub starts : IsWalk q (record { pair = closed_pair q; origin = None } ∷ []) 0
   pub lists : (es : List Entry) (done : ℕ) (from : Entry) (p : SetPair) (o : Origin)
@@ -54,7 +54,7 @@ pub record WalkGoesOn (q : ProblemParts) : Type 0 where
       → IsWalk q (es ++ record { pair = p; origin = Some o } ∷ []) done
   pub processes : (es : List Entry) (done : ℕ) (e : Entry) → IsWalk q es done → slice_get es done ≡ Some e → IsSettled q (pairs_of es) e.pair → IsWalk q es (suc done)
 
--- pairs from the closed pair on, none redundant, are different and not many
+-- pairs that begin with the closed pair and have no redundant one are different, and their number is bounded
 pub record AreFew (q : ProblemParts) (pairs : List SetPair) : Type 0 where
   pub differ : AllDiffer pairs
   pub reached : AreReached (closed q).left (closed q).right pairs
@@ -71,7 +71,7 @@ WalksAreFew = (q : ProblemParts) (es : List Entry) (done : ℕ) → IsWalk q es 
 abbrev pub FinishedAreAccepted : Type 0
 FinishedAreAccepted = (q : ProblemParts) (es : List Entry) → IsWalk q es (length es) → AreAccepted up_to q (pairs_of es) × Same q
 
--- and so does a certificate of those pairs, which is concise
+-- a certificate of these pairs is concise
 abbrev pub FinishedAreConcise : Type 0
 FinishedAreConcise =
     (q : ProblemParts) (es : List Entry) (c : CertParts)
@@ -82,12 +82,13 @@ FinishedAreConcise =
     → ((a : ℕ) → Has c.term_nodes (Act a) → a < q.actions)
     → IsConcise q c
 
--- the terms of the pairs of a walk are in the problem's range
+-- the terms of the pairs of a walk are in range of the problem
 abbrev pub MembersAreInRange : Type 0
 MembersAreInRange =
     (q : ProblemParts) (es : List Entry) (done : ℕ) (e : Entry) (x : Term) → IsProblem q → IsWalk q es done → Has es e → (Has e.pair.left x → IsInRange q.tests q.actions x) × (Has e.pair.right x → IsInRange q.tests q.actions x)
 
--- where the pair that is processed does not accept alike, the steps to it and the atom are a shortest string
+-- if the sets of the pair being processed differ at an atom, the steps to the pair and the atom are a shortest refuting
+-- string
 abbrev pub FoundAreShortest : Type 0
 FoundAreShortest =
     (q : ProblemParts) (es : List Entry) (done : ℕ) (e : Entry) (os : List Origin) (atom : Atom)
@@ -98,10 +99,10 @@ FoundAreShortest =
     → set_out e.pair.left atom ≢ set_out e.pair.right atom
     → IsShortest q (after_trail os (record { first = atom; rest = [] })) × (Same q → ⊥)
 
--- each listed pair has such steps
+-- each listed pair has a trail
 abbrev pub ListedHaveTrails : Type 0
 ListedHaveTrails = (q : ProblemParts) (es : List Entry) (done : ℕ) → IsWalk q es done → (k : ℕ) (e : Entry) → slice_get es k ≡ Some e → (os : List Origin) × IsTrail es k os
 
--- the pairs of a concise certificate, where there are no hypotheses and both sides are guarded
+-- a concise certificate has few pairs if there are no hypotheses and both sides are guarded
 abbrev pub ConciseAreFew : Type 0
 ConciseAreFew = (q : ProblemParts) (c : CertParts) → IsConcise q c → q.hyps ≡ [] → IsGuarded q.left → IsGuarded q.right → length (set_pairs c) ≤ (acts q.left + 2) * (acts q.right + 2)

@@ -1,4 +1,4 @@
--- The terms of evidence in a store.
+-- The terms of evidence that a store has.
 use Rattle.kat_model.specs.Trees.{Term}
 use Rattle.kat_model.specs.Members.{Has}
 use Rattle.kat_model.specs.Problems.{ProblemParts}

@@ -1,5 +1,5 @@
 -- The walk over pairs of sets of terms, breadth first (Bonchi and Pous 2013, algorithm HKC): the pairs that it has
--- listed, where each comes from, and how many it has processed.
+-- listed, the origin of each, and the number of processed pairs.
 use Rattle.std.specs.Prelude.{◌≡◌, ◌≤◌, ◌<◌, ℕ, suc, List, [], ◌∷◌, map, length, slice_get, Option, Some, None}
 use Rattle.kat_model.specs.Members.{Has, SameMembers}
 use Rattle.kat_model.specs.Steps.{Atom, set_out, set_next}
@@ -9,7 +9,7 @@ use Rattle.kat_model.specs.Closed.{closed}
 use Rattle.kat_model.specs.Pairs.{SetPair, IsCongruent}
 use Rattle.certificate.specs.Decisions.{HasNoRedundantPair, IsShortest}
 
--- the place of the pair that a pair comes from, and the atom and action of the step that leads to it
+-- the place of the previous pair, and the atom and the action of the step that leads from it
 pub record Origin : Type 0 where
   pub place : ℕ
   pub atom : Atom
@@ -27,14 +27,14 @@ pairs_of es = map (λ e. e.pair) es
 abbrev pub closed_pair : ProblemParts → SetPair
 closed_pair q = record { left = (closed q).left ∷ []; right = (closed q).right ∷ [] }
 
--- the step leads from the sets of one pair to those of the other
+-- the step leads from the sets of `from` to those of `to`
 pub record IsNextOf (tests actions : ℕ) (from : SetPair) (atom : Atom) (act : ℕ) (to : SetPair) : Type 0 where
   pub of_tests : length atom ≡ tests
   pub of_actions : act < actions
   pub lefts : SameMembers (set_next from.left atom act) to.left
   pub rights : SameMembers (set_next from.right atom act) to.right
 
--- the entry comes from one at place k or before
+-- the entry comes from an entry at place k or before
 pub record ComesFrom (q : ProblemParts) (es : List Entry) (k : ℕ) (e : Entry) : Type 0 where
   pub origin : Origin
   pub is : e.origin ≡ Some origin
@@ -43,12 +43,12 @@ pub record ComesFrom (q : ProblemParts) (es : List Entry) (k : ℕ) (e : Entry) 
   pub earlier : origin.place ≤ k
   pub next : IsNextOf q.tests q.actions from.pair origin.atom origin.act e.pair
 
--- it is listed when the pair at place k has been processed
+-- the entry is listed when the pair at place k has been processed
 abbrev pub IsFoundBy : ℕ → Option Origin → Type 0
 IsFoundBy k None = Unit {0}
 IsFoundBy k (Some o) = o.place ≤ k
 
--- each entry comes from no later place than those after it
+-- the origins of the entries are in ascending order of their places
 abbrev pub AreInOrder : List Entry → Type 0
 AreInOrder es = (i j : ℕ) (e f : Entry) (o : Origin) → i ≤ j → slice_get es i ≡ Some e → slice_get es j ≡ Some f → f.origin ≡ Some o → IsFoundBy o.place e.origin
 
@@ -56,22 +56,22 @@ AreInOrder es = (i j : ℕ) (e f : Entry) (o : Origin) → i ≤ j → slice_get
 abbrev pub AcceptAlike : ProblemParts → SetPair → Type 0
 AcceptAlike q p = (atom : Atom) → length atom ≡ q.tests → set_out p.left atom ≡ set_out p.right atom
 
--- the next sets of the pair by the action are congruent under each atom
+-- the next sets of the pair by the action are congruent for each atom
 abbrev pub AreCongruentAfter : ProblemParts → List SetPair → SetPair → ℕ → Type 0
 AreCongruentAfter q pairs p a = (atom : Atom) → length atom ≡ q.tests → IsCongruent (closed q).universal pairs (set_next p.left atom a) (set_next p.right atom a)
 
--- the pair accepts alike, and its next sets are congruent under the pairs
+-- both sets of the pair accept the same atoms, and its next sets are congruent under the pairs
 pub record IsSettled (q : ProblemParts) (pairs : List SetPair) (p : SetPair) : Type 0 where
   pub outputs : AcceptAlike q p
   pub steps : (a : ℕ) → a < q.actions → AreCongruentAfter q pairs p a
 
--- the pair at place k is settled by pairs that are found by then
+-- the pair at place k is settled by pairs that were listed when it had been processed
 pub record IsProcessed (q : ProblemParts) (es : List Entry) (k : ℕ) (p : SetPair) : Type 0 where
   pub pairs : List SetPair
   pub found : (r : SetPair) → Has pairs r → (e : Entry) × Has es e × (e.pair ≡ r) × IsFoundBy k e.origin
   pub settled : IsSettled q pairs p
 
--- the walk has listed these entries, and processed the first so many of them
+-- the walk has listed these entries, and processed the first `done`
 pub record IsWalk (q : ProblemParts) (es : List Entry) (done : ℕ) : Type 0 where
   pub first : slice_get es 0 ≡ Some (record { pair = closed_pair q; origin = None })
   pub origins : (k : ℕ) (e : Entry) → slice_get es (suc k) ≡ Some e → ComesFrom q es k e
@@ -85,7 +85,7 @@ abbrev pub IsTrail : List Entry → ℕ → List Origin → Type 0
 IsTrail es k [] = k ≡ 0
 IsTrail es k (o ∷ os) = ((e : Entry) × (slice_get es k ≡ Some e) × (e.origin ≡ Some o)) × IsTrail es o.place os
 
--- the string with the step of an origin before it
+-- the string with the atom and the action of an origin before it
 abbrev pub after_step : Origin → GuardedString → GuardedString
 after_step o x = record { first = o.atom; rest = record { act = o.act; atom = x.first } ∷ x.rest }
 
@@ -94,6 +94,6 @@ abbrev pub after_trail : List Origin → GuardedString → GuardedString
 after_trail [] x = x
 after_trail (o ∷ os) x = after_trail os (after_step o x)
 
--- with the steps that lead to place k before it, the string is a shortest one that refutes
+-- the string with the steps that lead to place k before it is a shortest refuting string
 abbrev pub IsShortestFrom : ProblemParts → List Entry → ℕ → GuardedString → Type 0
 IsShortestFrom q es k x = (os : List Origin) → IsTrail es k os → IsShortest q (after_trail os x)

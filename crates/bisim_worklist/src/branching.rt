@@ -1,5 +1,4 @@
-//! The pairs of sets that a step of a listed pair by one action leads to, of which those that are not congruent yet
-//! are listed.
+//! Lists the pairs of sets that a step of a listed pair by one action leads to, unless they are congruent already.
 ghost use Rattle.std.specs.Prelude.{◌≡◌, ◌++◌, ◌∷◌, [], Some, None, Err, length, replicate, OnOk};
 ghost use Rattle.test_diagrams.specs.Functions.{KeepsFunctions};
 ghost use Rattle.walk_pairs.specs.Items.{AreItems, targets_under};
@@ -20,15 +19,15 @@ use std::alloc::Global;
 use test_diagrams::Diagrams;
 use walk_pairs::{Ends, Item, Side, ends_of};
 
-/// Steps from the listed pair at this place, by this action.
+/// The steps from the listed pair at `place` by the action `act`.
 #[derive(Clone, Copy, Debug)]
 pub(crate) struct Stride {
     pub place: usize,
     pub act: usize,
 }
 
-// What is decided in a case: how many targets surely are on the left, and on the right, and on how many items the
-// sides differ. No more is covered where it is as it was.
+// The number of targets that are surely on the left and on the right, and the number of items on which the sides
+// differ. If a split leaves these numbers unchanged, `visit` does not repeat the check for a cover.
 #[derive(Clone, Copy, Debug, PartialEq, Eq)]
 struct Census {
     left: usize,
@@ -82,7 +81,8 @@ fn list_case(
     )
 }
 
-// Lists the pair of a case in which no guard depends on a test, unless it is congruent.
+// Lists the pair of a case in which no guard depends on a test, unless its sets are congruent. Fails with
+// `Halt::PairLimit` if the pair must be listed and the limit is reached.
 fn visit_leaf(
     alloc: Global,
     marked: &mut Marked,
@@ -108,8 +108,7 @@ fn visit_leaf(
     Ok(())
 }
 
-// Lists pairs until at each atom of the case the sets of the step are congruent. A pair that is listed covers what
-// comes after it.
+// Lists pairs until the sets of the step are congruent at each atom of the case. A listed pair can cover later cases.
 fn visit(
     alloc: Global,
     marked: &mut Marked,
@@ -145,9 +144,9 @@ fn visit(
     visit(alloc, marked, rules, diagrams, stride, &high, Some(census))
 }
 
-/// Lists pairs until at each atom the sets that the stride leads to are congruent under the listed pairs. Each pair
-/// that is listed is one of such sets, and is not congruent under the pairs before it. Stops where one more is needed
-/// than may be listed.
+/// Lists pairs until, at each atom, the sets to which the stride leads are congruent under the listed pairs. Each pair
+/// that is listed consists of two such sets, and is not congruent under the pairs before it. Stops with
+/// `Halt::PairLimit` if it needs more pairs than may be listed.
 pub(crate) fn visit_all(
     alloc: Global,
     marked: &mut Marked,

@@ -1,4 +1,4 @@
-//! Cases on tests: some tests are decided, and the guards do not depend on them.
+//! Cases: some tests are decided, and the guards do not depend on them.
 ghost use Rattle.std.specs.Prelude.{◌≡◌, ◌<◌, Some, IfOk, slice_set};
 ghost use Rattle.test_diagrams.specs.Functions.{IsDiagramId, KeepsFunctions, IsDiagramOf, value_of};
 ghost use Rattle.walk_pairs.specs.Items.{AreItems};
@@ -10,14 +10,14 @@ use std::alloc::Global;
 use test_diagrams::{DiagramId, Diagrams};
 use walk_pairs::{Ends, Item};
 
-/// A case: the tests that are decided in it, and the items that are left there.
+/// A case: the decided tests, and the items that remain.
 #[derive(Drop)]
 pub(crate) struct Case {
     pub decided: Vec<Option<bool>>,
     pub items: Vec<Item>,
 }
 
-// The tests decided so far, and one more.
+// Returns the decided tests with an additional one.
 fn with_decision(
     alloc: Global,
     decided: &[Option<bool>],
@@ -32,7 +32,7 @@ fn with_decision(
     Ok(list)
 }
 
-// The guard of the right side with the test set, where that of the left side is given.
+// Returns the right guard with the test set. `left` is the left guard with the test set.
 fn right_fixed(
     diagrams: &mut Diagrams,
     item: &Item,
@@ -52,7 +52,7 @@ fn right_fixed(
     diagrams.fix(item.right, test, value)
 }
 
-// The items with the test set to the value. Those that are never reached then are left out.
+// Returns the items with the test set to the value, without those that are never reached then.
 fn items_with(
     alloc: Global,
     diagrams: &mut Diagrams,
@@ -83,7 +83,7 @@ fn items_with(
     Ok(list)
 }
 
-/// The case with another test decided too.
+/// Returns the case with an additional test decided.
 pub(crate) fn case_with(
     alloc: Global,
     diagrams: &mut Diagrams,
@@ -105,7 +105,7 @@ pub(crate) fn case_with(
     Ok(Case { decided, items })
 }
 
-/// The least atom with the decided tests.
+/// Returns the least atom with the values of the decided tests.
 pub(crate) fn least_atom(alloc: Global, decided: &[Option<bool>]) -> Result<Vec<bool>, NoMemory>
     ensures { IfOk result (λ v. v.items ≡ least_of decided.now) }
 {
@@ -116,7 +116,7 @@ pub(crate) fn least_atom(alloc: Global, decided: &[Option<bool>]) -> Result<Vec<
     Ok(atom)
 }
 
-// How many targets surely are on the left and on the right, and then how many may be.
+// The numbers of sure and of possible targets on both sides together, compared in this order.
 #[derive(Clone, Copy, Debug, PartialEq, Eq, PartialOrd, Ord)]
 struct Weight {
     sure: usize,
@@ -124,7 +124,7 @@ struct Weight {
 }
 
 impl Weight {
-    // With a target of this guard.
+    // Returns the weight with a target of this guard added.
     fn with_guard(self, ends: &Ends, guard: DiagramId) -> Weight {
         if guard == ends.never {
             return self;
@@ -150,8 +150,7 @@ fn weight_of(ends: &Ends, items: &[Item]) -> Weight {
     weight
 }
 
-/// Whether the second case has smaller sets, so that it is to come first: its pairs make those of larger sets
-/// congruent.
+/// Whether `high` has smaller sets than `low`. If so, it comes first: its pairs can make larger sets congruent.
 pub(crate) fn is_lighter(ends: &Ends, low: &Case, high: &Case) -> bool {
     weight_of(ends, &high.items) < weight_of(ends, &low.items)
 }

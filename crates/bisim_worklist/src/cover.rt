@@ -1,4 +1,4 @@
-//! Whether the sets that a step leads to are congruent, as far as the tests that are decided tell.
+//! Checks whether the sets that a step leads to are congruent by what the decided tests determine.
 ghost use Rattle.std.specs.Prelude.{◌≡◌, ◌&&◌, IfOk, OnOk};
 ghost use Rattle.walk_pairs.specs.Items.{targets_under, is_open as is_open', open_targets as open_targets'};
 ghost use Rattle.bisim_worklist.specs.Working.Covers.{covers_on, covers};
@@ -12,7 +12,7 @@ use std::alloc::Global;
 use term_store::TermId;
 use walk_pairs::{Ends, Item, Side, guard_across, guard_on};
 
-/// The targets that surely are in the side's set, in ascending order.
+/// Returns the targets that are surely in the side's set, in ascending order.
 pub(crate) fn sure_targets(
     alloc: Global,
     ends: &Ends,
@@ -30,7 +30,7 @@ pub(crate) fn sure_targets(
     Ok(targets)
 }
 
-// Whether the target may be in the side's set at an atom at which it is not in the other.
+// Whether the target may be in the side's set at an atom at which it is not in the other set.
 fn is_open(ends: &Ends, item: &Item, side: Side) -> bool
     ensures { result ≡ is_open' ends.now.never ends.now.always side item.now }
 {
@@ -39,7 +39,7 @@ fn is_open(ends: &Ends, item: &Item, side: Side) -> bool
         && guard_across(item, side) != ends.always
 }
 
-// The targets that may be in the side's set at an atom at which they are not in the other.
+// Returns the targets that may be in the side's set at an atom at which they are not in the other set.
 fn open_targets(
     alloc: Global,
     ends: &Ends,
@@ -57,7 +57,7 @@ fn open_targets(
     Ok(targets)
 }
 
-// Marks the targets that surely are in the side's set.
+// Marks the targets that are surely in the side's set.
 fn mark_sure(marked: &mut Marked, ends: &Ends, items: &[Item], side: Side) -> Result<(), NoMemory>
     ensures { OnOk result (marked.new.marks ≡ with_marks marked.old.marks (targets_under ends.now.always side items.now)) }
 {
@@ -69,7 +69,7 @@ fn mark_sure(marked: &mut Marked, ends: &Ends, items: &[Item], side: Side) -> Re
     Ok(())
 }
 
-// Whether what may be in the side's set alone is brought to the other by what surely is there.
+// Whether the other side's sure targets reach all targets that may be only in this side's set.
 fn is_covered_on(
     alloc: Global,
     marked: &mut Marked,
@@ -91,9 +91,9 @@ fn is_covered_on(
     reaches(marked, rules, &open)
 }
 
-/// Whether the sets are congruent at each atom with the decided tests: what may be in one set alone is brought to
-/// the other by what surely is there. At a leaf, where all tests that count are decided, it is just whether they
-/// are congruent.
+/// Whether the sure targets of each side reach all targets that may be only on the other side. If so, the sets are
+/// congruent at each atom with the decided tests. At a leaf, at which all relevant tests are decided, this is whether
+/// the sets are congruent.
 pub(crate) fn is_covered(
     alloc: Global,
     marked: &mut Marked,

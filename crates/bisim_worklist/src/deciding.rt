@@ -1,4 +1,4 @@
-//! The answer to a problem.
+//! Decides a problem.
 ghost use Rattle.std.specs.Prelude.{◌≡◌, Err, IfOk, OnErr, IsTrue};
 ghost use Rattle.kat_model.specs.Problems.{IsProblem};
 ghost use Rattle.kat_model.specs.Closed.{closed};
@@ -25,10 +25,10 @@ use term_store::Store;
 use walk_pairs::{cert_of, closed_ids};
 use walk_under::decide_under;
 
-// How many pairs a certificate without tests may have, where tests can stand for hypotheses.
+// The maximal number of pairs of a certificate without tests, if tests can replace hypotheses.
 const UNTESTED_LIMIT: usize = 2_000;
 
-// How many pairs a walk without tests may list, where there is a limit.
+// Returns the limit on the number of pairs of a walk without tests, if there is one.
 fn limit_of(problem: &Problem) -> Option<usize>
     ensures value { result ≡ limit_of' problem.now }
     ensures room { IsWithinLimit result 1 }
@@ -39,7 +39,7 @@ fn limit_of(problem: &Problem) -> Option<usize>
     None
 }
 
-// The walk of a problem over the store, which has listed the pair of the closed sides.
+// Returns a walk of the problem over the store that has listed the pair of the closed sides.
 fn walk_of(alloc: Global, store: &mut Store, problem: &Problem) -> Result<Walk, NoMemory>
     ensures under_way { IfOk result (λ w. IsProblem problem.now × IsUnderWay problem.now store.new w 0) }
     ensures limit { IfOk result (λ w. w.rules.limit ≡ limit_of' problem.now) }
@@ -48,7 +48,7 @@ fn walk_of(alloc: Global, store: &mut Store, problem: &Problem) -> Result<Walk, 
     ensures kept { Grows store.old store.new }
     ensures store { AreNodes store.new }
 {
-    // The proof needs the rules of the store.
+    // The proof needs the invariants of the store.
     let _ = store.count();
     let closed = eliminate(alloc, problem)?;
     let sides = closed_ids(store, &closed)?;
@@ -66,7 +66,7 @@ fn walk_of(alloc: Global, store: &mut Store, problem: &Problem) -> Result<Walk, 
     )
 }
 
-// The evidence that the walk ends with, unless it needs more pairs than it may list.
+// Runs the walk and returns its evidence, unless it needs more pairs than it may list.
 fn evidence_of(
     alloc: Global,
     store: &mut Store,
@@ -84,7 +84,7 @@ fn evidence_of(
     ensures store { AreNodes store.new }
 {
     let found = walk.run(alloc, store, problem);
-    // The proof needs the rules of the store, also where memory is short.
+    // The proof needs the invariants of the store, also when out of memory.
     let _ = store.count();
     match found? {
         Some(difference) => {
@@ -99,9 +99,9 @@ fn evidence_of(
     }
 }
 
-/// The answer to a problem, as `decide` gives it, over a store that may hold nodes already. After an answer the store
-/// has ids of both closed sides and of the terms of a certificate's nodes. Fails only when out of memory; it may
-/// leave further nodes. All older ids keep their trees.
+/// Decides a problem like `decide`, over a store that may have nodes already. On success the store has ids of both
+/// closed sides and of the terms of a certificate's nodes. All older ids keep their trees. Fails only when out of
+/// memory; on failure, extra nodes may remain.
 pub fn decide_in(alloc: Global, store: &mut Store, problem: &Problem) -> Result<Evidence, NoMemory>
     ensures decision { IfOk result (IsDecision problem.now) }
     ensures ids { IfOk result (HasIdsOf store.new problem.now) }
@@ -120,10 +120,10 @@ pub fn decide_in(alloc: Global, store: &mut Store, problem: &Problem) -> Result<
     }
 }
 
-/// Whether both sides of a problem denote one relation in each table that keeps the hypotheses, with evidence: a
-/// certificate whose pairs are a bisimulation up to congruence, none of them redundant (Bonchi and Pous 2013), or a
-/// string that refutes the problem, than which none has fewer moves. Where some hypothesis is short and more than 2,000
-/// such pairs are found, the certificate is one of pairs under tests. Fails only when out of memory.
+/// Decides whether both sides of `problem` denote the same relation in each table that satisfies the hypotheses.
+/// Returns evidence: a certificate whose pairs are a bisimulation up to congruence without redundant pairs (Bonchi and
+/// Pous 2013), or a string that refutes the problem and has the fewest moves. If some hypothesis is short and more than
+/// 2,000 such pairs are found, the certificate has pairs under tests. Fails only when out of memory.
 pub fn decide(alloc: Global, problem: &Problem) -> Result<Evidence, NoMemory>
     ensures { IfOk result (IsDecision problem.now) }
 {

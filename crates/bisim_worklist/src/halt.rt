@@ -1,16 +1,16 @@
-//! Why a walk stops before its end.
+//! Why a walk stops early.
 ghost use Rattle.std.specs.Prelude.{◌≡◌};
 ghost use Rattle.bisim_worklist.specs.declared.halt.Halt.TheVariants.{NoMemory as NoRoom};
 
 use kat_model::NoMemory;
 use std::alloc::AllocError;
 
-/// Why a walk stops before its end.
+/// Why a walk stops early.
 #[derive(Clone, Copy, Debug, PartialEq, Eq)]
 pub(crate) enum Halt {
-    /// Memory is short.
+    /// Out of memory.
     NoMemory,
-    /// One pair more is needed than may be listed.
+    /// The walk needs more pairs than may be listed.
     PairLimit,
 }
 

@@ -1,5 +1,5 @@
-//! An index of listed pairs: each of their sets stands under one of its members, so that the sets that lie in a set of
-//! terms stand under those terms.
+//! An index of listed pairs. Each nonempty set is indexed under one of its members, so the sets within a set of terms
+//! are empty or indexed under those terms.
 ghost use Rattle.std.specs.Prelude.{◌≡◌, ◌⊎◌, ◌<◌, ◌∷◌, [], ℕ, length, slice_index_or, MatchOption, OnOk};
 ghost use Rattle.kat_model.specs.Members.{Has};
 ghost use Rattle.bisim_worklist.specs.declared.pair.Spot.{Spot as Spot'};
@@ -13,7 +13,7 @@ use std::marker::Model;
 use term_store::TermId;
 use walk_pairs::Side;
 
-/// Sets of listed pairs.
+/// A list of sets of listed pairs.
 #[derive(Drop)]
 pub(crate) struct Places {
     places: Vec<Spot>,
@@ -49,7 +49,7 @@ impl Places {
         Ok(())
     }
 
-    /// The sets.
+    /// Returns the sets.
     pub(crate) fn as_slice(&self) -> &[Spot]
         ensures { result.now ≡ self.now }
     {
@@ -57,7 +57,7 @@ impl Places {
     }
 }
 
-/// For each term the sets that stand under it, and apart the empty ones.
+/// For each term the sets that are indexed under it, and separately the empty sets.
 #[derive(Drop)]
 pub(crate) struct PairIndex {
     apart: Places,
@@ -72,7 +72,7 @@ impl Model for PairIndex {
     ghost view = { λ x. record { apart = x.apart; under = x.under.items } };
 }
 
-// Makes room for a list under each number up to this one.
+// Extends the lists so that there is one at `number`.
 fn widen(alloc: Global, lists: &mut Vec<Places>, number: usize) -> Result<(), NoMemory>
     ensures room { OnOk result (number < length lists.new.items) }
     ensures kept { KeepsLists lists.old.items lists.new.items }
@@ -83,7 +83,7 @@ fn widen(alloc: Global, lists: &mut Vec<Places>, number: usize) -> Result<(), No
     Ok(())
 }
 
-// Adds the set to the list under this number.
+// Appends the set to the list at `number`.
 fn add_under(lists: &mut [Places], number: usize, spot: Spot) -> Result<(), NoMemory>
     requires { number < length lists.old }
     ensures added { OnOk result (Has (slice_index_or lists.new number []) spot) }
@@ -93,13 +93,13 @@ fn add_under(lists: &mut [Places], number: usize, spot: Spot) -> Result<(), NoMe
     list.add(spot.place, spot.side, spot.witness)
 }
 
-// In how many questions the term was asked.
+// Returns the number of queries whose set had the term.
 fn uses_of(uses: &[usize], term: TermId) -> usize {
     uses.get(term.number()).copied().unwrap_or(0)
 }
 
 impl PairIndex {
-    /// No pairs. It takes no memory.
+    /// Returns an empty index. It allocates no memory.
     pub(crate) fn new(alloc: Global) -> PairIndex
         ensures { result ≡ record { apart = []; under = [] } }
     {
@@ -109,21 +109,21 @@ impl PairIndex {
         }
     }
 
-    /// The empty sets.
+    /// Returns the empty sets.
     pub(crate) fn apart(&self) -> &Places
         ensures { result.now ≡ self.now.apart }
     {
         &self.apart
     }
 
-    /// The sets that stand under the term, if it has a list.
+    /// Returns the sets that are indexed under the term, if it has a list.
     pub(crate) fn under(&self, term: TermId) -> Option<&Places>
         ensures { MatchOption result (slice_index_or self.now.under term [] ≡ []) (λ p. p.now ≡ slice_index_or self.now.under term []) }
     {
         self.under.get(term.number())
     }
 
-    /// How many sets stand under the term. Only a matter of speed.
+    /// Returns the number of sets that are indexed under the term. Affects only speed.
     pub(crate) fn load(&self, term: TermId) -> usize {
         match self.under(term) {
             Some(places) => places.as_slice().len(),
@@ -131,14 +131,14 @@ impl PairIndex {
         }
     }
 
-    // Whether the term was asked in fewer questions than the other, or in as many, and fewer sets stand under it.
+    // Whether `term` was in fewer queries than `other`, or in equally many and fewer sets are indexed under it.
     fn is_lighter(&self, uses: &[usize], term: TermId, other: TermId) -> bool {
         let own = uses_of(uses, term);
         let others = uses_of(uses, other);
         own < others || (own == others && self.load(term) < self.load(other))
     }
 
-    // The member of the set that is asked in the fewest questions, so that few look at the set.
+    // Returns the member of the set that was in the fewest queries, so that few queries visit the set.
     fn lightest(&self, uses: &[usize], set: &[TermId]) -> Option<TermId>
         ensures { MatchOption result (set.now ≡ []) (Has set.now) }
     {
@@ -151,12 +151,12 @@ impl PairIndex {
         Some(lightest)
     }
 
-    // Whether the term is not this one, and the witness is, or is asked in more questions than the term.
+    // Whether `term` is a better witness than `witness`: it is not `own`, and `witness` is `own` or heavier.
     fn is_better(&self, uses: &[usize], term: TermId, own: TermId, witness: TermId) -> bool {
         term != own && (witness == own || self.is_lighter(uses, term, witness))
     }
 
-    // Of the other members of the set the one that is asked in the fewest questions, or this one where it has no other.
+    // Returns the member other than `own` that was in the fewest queries, or `own` if the set has no other member.
     fn witness(&self, uses: &[usize], set: &[TermId], own: TermId) -> TermId
         requires { Has set.now own }
         ensures { Has set.now result }
@@ -170,7 +170,7 @@ impl PairIndex {
         witness
     }
 
-    // Adds the set of the pair at the place under one of its members.
+    // Adds the set of the pair at `place` under one of its members, or to the empty sets.
     fn add_under_member(
         &mut self,
         alloc: Global,
@@ -200,8 +200,7 @@ impl PairIndex {
         )
     }
 
-    /// Adds the sets of the pair at the place. The counts tell in how many questions each term was asked, and are only a
-    /// matter of speed.
+    /// Adds both sets of the pair at `place`. `uses` has the number of queries of each term and affects only speed.
     pub(crate) fn add(
         &mut self,
         alloc: Global,

@@ -1,4 +1,4 @@
-//! Laws of walks. Each function does nothing: its contract is the law.
+//! Laws of walks. Each function has an empty body; its contract is the law.
 ghost use Rattle.kat_model.specs.Problems.{ProblemParts};
 ghost use Rattle.bisim_worklist.specs.Laws.{MorePairs, CoveredAreCongruent, CongruentAreCovered, WalkGoesOn, NoRedundantAreFew, WalksAreFew, FinishedAreAccepted, FoundAreShortest, ListedHaveTrails, FinishedAreConcise, MembersAreInRange, ConciseAreFew};
 
@@ -7,49 +7,51 @@ pub fn more_pairs()
     ensures { MorePairs }
 {}
 
-/// Sets between covered terms are congruent. So one test serves all atoms at which no more is known.
+/// Sets between sure terms and open terms that they cover are congruent. So one check suffices for all atoms with the
+/// same decided tests.
 pub fn covered_are_congruent()
     ensures { CoveredAreCongruent }
 {}
 
-/// The test for covered terms passes at all congruent sets of which each term is sure: there it loses nothing.
+/// If all terms of two congruent sets are sure, the check for a cover succeeds. In this case it loses nothing.
 pub fn congruent_are_covered()
     ensures { CongruentAreCovered }
 {}
 
-/// A walk begins with the pair of the closed sides, lists what a step leads to, and processes one pair more.
+/// A walk begins with the pair of the closed sides, lists the pairs to which steps lead, and processes an additional
+/// pair.
 pub fn walk_goes_on()
     ensures { (q : ProblemParts) → WalkGoesOn q }
 {}
 
-/// Pairs of which none is redundant are different and finite in number, with a smaller bound where both sides are
-/// guarded and there are no hypotheses.
+/// Pairs without a redundant one are different and finite in number. The bound is smaller if both sides are guarded and
+/// there are no hypotheses.
 pub fn no_redundant_are_few()
     ensures { NoRedundantAreFew }
 {}
 
-/// So are those of a walk, at each time.
+/// The pairs of a walk, at any time, have the same bounds.
 pub fn walks_are_few()
     ensures { WalksAreFew }
 {}
 
-/// The pairs of a walk that has processed all of them are accepted up to congruence, so both sides are the same.
+/// If a walk has processed all its pairs, they are accepted up to congruence, so both sides are the same.
 pub fn finished_are_accepted()
     ensures { FinishedAreAccepted }
 {}
 
-/// A certificate that lists those pairs is concise.
+/// A certificate that lists the pairs of a finished walk is concise.
 pub fn finished_are_concise()
     ensures { FinishedAreConcise }
 {}
 
-/// The terms of the pairs of a walk have their tests and actions among the problem's.
+/// The terms of the pairs of a walk have only tests and actions of the problem.
 pub fn members_are_in_range()
     ensures { MembersAreInRange }
 {}
 
-/// The string that a walk finds refutes the question, and none with fewer moves does: breadth first, each shorter
-/// string was looked at.
+/// The string that a walk finds refutes the problem, and no string with fewer moves does, because a breadth-first walk
+/// visits shorter strings first.
 pub fn found_are_shortest()
     ensures { FoundAreShortest }
 {}
@@ -59,7 +61,7 @@ pub fn listed_have_trails()
     ensures { ListedHaveTrails }
 {}
 
-/// A concise certificate has few pairs where both sides are guarded and there are no hypotheses.
+/// A concise certificate has few pairs if both sides are guarded and there are no hypotheses.
 pub fn concise_are_few()
     ensures { ConciseAreFew }
 {}

@@ -1,10 +1,10 @@
-//! The prover: it decides whether the two sides of a problem are the same, and answers with evidence.
+//! The prover: decides whether the two sides of a problem are the same, and returns evidence.
 //!
-//! A walk, breadth first, over pairs of sets of terms, from the pair of the closed sides. Under each atom and
-//! action the pair of the sets that a step leads to is listed, unless the pairs listed so far make one set of
-//! both (Hopcroft and Karp 1971; up to congruence, Bonchi and Pous 2013). The listed pairs are a bisimulation up
-//! to congruence, in which none is redundant. Where two sets accept different atoms, the steps that led to them
-//! spell a string that refutes the problem, and none with fewer moves does.
+//! The prover walks, breadth first, over pairs of sets of terms, from the pair of the closed sides. For each atom and
+//! action it lists the pair of sets to which the step leads, unless the pairs listed so far already join both sets
+//! (Hopcroft and Karp 1971; up to congruence, Bonchi and Pous 2013). The listed pairs are a bisimulation up to
+//! congruence without redundant pairs. If two sets accept different atoms, the steps that led to them spell a string
+//! that refutes the problem, and no string with fewer moves does.
 #![tactic(auto)]
 
 mod branching;

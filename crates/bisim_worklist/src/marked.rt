@@ -1,5 +1,5 @@
 //! A set of terms: a mark for each id of a store, and the marked terms in the order in which they were marked. One set
-//! serves all questions, one after the other: to make the marks anew, one for each id, would cost more than most answers.
+//! is reused for all queries, because allocating the marks for each query would cost more than most queries.
 ghost use Rattle.std.specs.Prelude.{◌≡◌, ◌||◌, [], ℕ, false, true, length, replicate, slice_index_or, slice_set, IfOk, OnOk};
 ghost use Rattle.bisim_worklist.specs.Working.Marks.{are_marked, with_marks, without_marks, with_side_marked, AreAmong, IsMore};
 
@@ -10,7 +10,7 @@ use std::marker::Model;
 use term_store::TermId;
 use walk_pairs::Side;
 
-/// The marks, the marked terms, and of each id how many questions its term was asked in, as far as it was counted.
+/// The marks, the marked terms, and for each id the number of queries whose set had its term, as far as counted.
 #[derive(Drop)]
 pub(crate) struct Marked {
     marks: Vec<bool>,
@@ -28,7 +28,7 @@ impl Model for Marked {
     ghost invariant = { λ m. AreAmong m.marks.items m.terms.items };
 }
 
-// Takes the mark off the term.
+// Removes the mark of the term.
 fn unmark(marks: &mut [bool], term: TermId)
     ensures { marks.new ≡ slice_set marks.old term false }
 {
@@ -38,7 +38,7 @@ fn unmark(marks: &mut [bool], term: TermId)
     }
 }
 
-// Takes the marks off the terms.
+// Removes the marks of the terms.
 fn unmark_all(marks: &mut [bool], terms: &[TermId])
     ensures { marks.new ≡ without_marks marks.old terms.now }
 {
@@ -47,7 +47,7 @@ fn unmark_all(marks: &mut [bool], terms: &[TermId])
     }
 }
 
-// Makes the marks so many. A term that is marked then was so before.
+// Sets the number of marks to `count`. Adds no marked term.
 fn set_count(marks: &mut Vec<bool>, count: usize) -> Result<(), NoMemory>
     ensures count { OnOk result (length marks.new.items ≡ count) }
     ensures marks { (j : ℕ) → slice_index_or marks.new.items j false ≡ true → slice_index_or marks.old.items j false ≡ true }
@@ -59,7 +59,7 @@ fn set_count(marks: &mut Vec<bool>, count: usize) -> Result<(), NoMemory>
     Ok(())
 }
 
-// Counts each of the terms once more.
+// Increments the count of each of the terms.
 fn count_all(counts: &mut [usize], terms: &[TermId]) {
     for term in terms {
         let number = term.number();
@@ -70,7 +70,7 @@ fn count_all(counts: &mut [usize], terms: &[TermId]) {
 }
 
 impl Marked {
-    /// No terms, of no ids. It takes no memory.
+    /// Returns the empty set over no ids. It allocates no memory.
     pub(crate) fn new(alloc: Global) -> Marked
         ensures { result ≡ record { marks = []; terms = [] } }
     {
@@ -81,7 +81,7 @@ impl Marked {
         }
     }
 
-    /// Takes off all marks, and makes room for those of so many ids.
+    /// Removes all marks, and sets the number of marks to `count`.
     pub(crate) fn reset(&mut self, count: usize) -> Result<(), NoMemory>
         ensures { OnOk result (self.new ≡ record { marks = replicate count false; terms = [] }) }
     {
@@ -91,7 +91,7 @@ impl Marked {
         Ok(())
     }
 
-    /// Counts that a question is asked of the marked terms. Only a matter of speed.
+    /// Counts a query for each of the marked terms. Affects only speed.
     pub(crate) fn count_uses(&mut self) -> Result<(), NoMemory>
         ensures { self.new ≡ self.old }
     {
@@ -102,12 +102,12 @@ impl Marked {
         Ok(())
     }
 
-    /// Of each id in how many questions its term was asked, as far as it was counted. Only a matter of speed.
+    /// Returns for each id the number of queries whose set had its term, as far as counted. Affects only speed.
     pub(crate) fn uses(&self) -> &[usize] {
         &self.uses
     }
 
-    /// The marked terms.
+    /// Returns the marked terms.
     pub(crate) fn terms(&self) -> &[TermId]
         ensures value { result.now ≡ self.now.terms }
         ensures among { AreAmong self.now.marks self.now.terms }
@@ -122,7 +122,7 @@ impl Marked {
         self.marks.get(term.number()).copied().unwrap_or(false)
     }
 
-    /// Marks the term. Answers whether it is new.
+    /// Marks the term, if it has a mark. Returns whether it is new.
     pub(crate) fn mark(&mut self, term: TermId) -> Result<bool, NoMemory>
         ensures marks { OnOk result (self.new.marks ≡ slice_set self.old.marks term true) }
         ensures more { IfOk result (IsMore self.old self.new) }
@@ -137,15 +137,15 @@ impl Marked {
     }
 }
 
-/// Whether one of them is true.
+/// Whether `first` or `second` is true.
 pub(crate) fn either(first: bool, second: bool) -> bool
     ensures { result ≡ (first || second) }
 {
     first || second
 }
 
-/// Whether each of the terms is marked. The last terms come first: sets that are listed one after the other often begin
-/// alike.
+/// Whether each of the terms is marked. Checks the last terms first, because sets that are listed one after the other
+/// often have a common prefix.
 pub(crate) fn holds_all(marked: &Marked, terms: &[TermId]) -> bool
     ensures { result ≡ are_marked marked.now.marks terms.now }
 {
@@ -159,7 +159,7 @@ pub(crate) fn holds_all(marked: &Marked, terms: &[TermId]) -> bool
     true
 }
 
-/// Marks the terms. Answers whether one is new.
+/// Marks the terms. Returns whether one is new.
 pub(crate) fn mark_all(marked: &mut Marked, terms: &[TermId]) -> Result<bool, NoMemory>
     ensures marks { OnOk result (marked.new.marks ≡ with_marks marked.old.marks terms.now) }
     ensures more { IfOk result (IsMore marked.old marked.new) }
@@ -172,7 +172,7 @@ pub(crate) fn mark_all(marked: &mut Marked, terms: &[TermId]) -> Result<bool, No
     Ok(grew)
 }
 
-/// Where the set holds all of this side of the pair, adds the other. Answers whether a term is new.
+/// Adds the other side of the pair if the set contains all of this side. Returns whether a term is new.
 pub(crate) fn add_across(marked: &mut Marked, pair: &Listed, side: Side) -> Result<bool, NoMemory>
     ensures marks { OnOk result (marked.new.marks ≡ with_side_marked side marked.old.marks pair.now) }
     ensures more { IfOk result (IsMore marked.old marked.new) }

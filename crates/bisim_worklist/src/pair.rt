@@ -1,4 +1,4 @@
-//! Pairs of sets of terms, and how the walk came to them.
+//! Pairs of sets of terms, and how the walk reached them.
 ghost use Rattle.std.specs.Prelude.{◌≡◌, map, IfOk};
 ghost use Rattle.bisim_worklist.specs.Working.Listings.{untested_of};
 
@@ -24,8 +24,8 @@ impl Model for Origin {
     ghost view = { λ o. record { place = o.place; atom = o.atom; act = o.act } };
 }
 
-/// A pair of sets of terms, each by its ids in ascending order, and the step that led to it. The first pair of a
-/// walk has no origin.
+/// A pair of sets of terms, and the step that led to it. The ids of each set are in ascending order. The first pair of
+/// a walk has no origin.
 #[derive(Drop)]
 pub(crate) struct Listed {
     pub left: Items<TermId>,
@@ -44,7 +44,7 @@ impl Model for Listed {
 impl Listed {
     ghost use Rattle.bisim_worklist.specs.Working.Listings.{set_on as set_on', set_across as set_across'};
 
-    /// The set on this side.
+    /// Returns the set on this side.
     pub(crate) fn set_on(&self, side: Side) -> &[TermId]
         ensures { result.now ≡ set_on' side self.now }
     {
@@ -54,7 +54,7 @@ impl Listed {
         }
     }
 
-    /// The set on the other side.
+    /// Returns the set on the other side.
     pub(crate) fn set_across(&self, side: Side) -> &[TermId]
         ensures { result.now ≡ set_across' side self.now }
     {
@@ -65,8 +65,8 @@ impl Listed {
     }
 }
 
-/// One set of a listed pair, by the place of the pair, with a member of it, where one is told. A set of terms that lacks
-/// the member does not hold the set.
+/// One set of a listed pair, by the place of the pair, with one of its members as an optional witness. A set of terms
+/// without the witness does not contain the set.
 #[derive(Clone, Copy, Debug)]
 pub(crate) struct Spot {
     pub place: usize,
@@ -74,14 +74,14 @@ pub(crate) struct Spot {
     pub witness: Option<TermId>,
 }
 
-// The ids in a list of their own.
+// Copies the ids into a new list.
 fn copy_ids(alloc: Global, ids: &[TermId]) -> Result<Items<TermId>, NoMemory>
     ensures { IfOk result (λ set. set ≡ ids.now) }
 {
     Ok(Items::of(Vec::from_slice(alloc, ids)?))
 }
 
-/// The listed pairs as those of a certificate, without tests.
+/// Returns the listed pairs as pairs of a certificate, without tests.
 pub(crate) fn stored_pairs_of(alloc: Global, pairs: &[Listed]) -> Result<Vec<StoredPair>, NoMemory>
     ensures { IfOk result (λ v. v.items ≡ map untested_of pairs.now) }
 {

@@ -1,4 +1,4 @@
-//! The pairs that a walk has listed, which are the rules of congruence.
+//! The pairs that a walk has listed, as the rules of congruence.
 ghost use Rattle.std.specs.Prelude.{◌≡◌, ◌<◌, ◌++◌, ◌∷◌, [], true, false, length, slice_index_or, OnOk, OnErr};
 ghost use Rattle.bisim_worklist.specs.Working.Marks.{AllMarked, Stays};
 
@@ -9,8 +9,8 @@ use std::alloc::Global;
 use std::marker::Model;
 use term_store::TermId;
 
-/// The listed pairs in order, a mark for each term that stands in them, their index, the universal term, where there is
-/// one, and how many pairs may be listed, where there is a limit. All ids are below the count.
+/// The listed pairs in order, a mark for each term in them, their index, the universal term, if there is one, and the
+/// limit on the number of pairs, if there is one. All ids are below the count.
 #[derive(Drop)]
 pub(crate) struct Rules {
     pairs: Vec<Listed>,
@@ -32,7 +32,7 @@ impl Model for Rules {
     ghost invariant = { λ r. AreMembers (record { pairs = r.pairs.items; members = r.members.items; index = r.index; universal = r.universal; count = r.count; limit = r.limit }) × AreIndexed r.index r.pairs.items };
 }
 
-// Makes room for a mark of this number. What is marked stays so.
+// Extends the marks so that there is one at `number`. Existing marks remain.
 fn widen(marks: &mut Vec<bool>, number: usize) -> Result<(), NoMemory>
     ensures room { OnOk result (number < length marks.new.items) }
     ensures kept { Stays marks.old.items marks.new.items }
@@ -43,7 +43,7 @@ fn widen(marks: &mut Vec<bool>, number: usize) -> Result<(), NoMemory>
     Ok(())
 }
 
-// Marks the term. What is marked stays so.
+// Marks the term. Existing marks remain.
 fn note(marks: &mut Vec<bool>, term: TermId) -> Result<(), NoMemory>
     ensures noted { OnOk result (slice_index_or marks.new.items term false ≡ true) }
     ensures kept { Stays marks.old.items marks.new.items }
@@ -54,7 +54,7 @@ fn note(marks: &mut Vec<bool>, term: TermId) -> Result<(), NoMemory>
     Ok(())
 }
 
-// Marks the terms. What is marked stays so.
+// Marks the terms. Existing marks remain.
 fn note_all(marks: &mut Vec<bool>, terms: &[TermId]) -> Result<(), NoMemory>
     ensures noted { OnOk result (AllMarked marks.new.items terms.now) }
     ensures kept { Stays marks.old.items marks.new.items }
@@ -69,7 +69,7 @@ impl Rules {
     ghost use Rattle.bisim_worklist.specs.Working.Indices.{AreIndexed};
     ghost use Rattle.bisim_worklist.specs.Working.Marks.{AreMembers, is_full as is_full'};
 
-    /// No pairs. It takes no memory.
+    /// Returns rules without pairs. They allocate no memory.
     pub(crate) fn new(
         alloc: Global,
         universal: Option<TermId>,
@@ -88,7 +88,7 @@ impl Rules {
         }
     }
 
-    /// The listed pairs.
+    /// Returns the listed pairs.
     pub(crate) fn pairs(&self) -> &[Listed]
         ensures value { result.now ≡ self.now.pairs }
         ensures members { AreMembers self.now }
@@ -97,7 +97,7 @@ impl Rules {
         &self.pairs
     }
 
-    /// The index of the pairs.
+    /// Returns the index of the pairs.
     pub(crate) fn index(&self) -> &PairIndex
         ensures value { result.now ≡ self.now.index }
         ensures indexed { AreIndexed self.now.index self.now.pairs }
@@ -105,7 +105,7 @@ impl Rules {
         &self.index
     }
 
-    /// The universal term.
+    /// Returns the universal term, if there is one.
     pub(crate) fn universal(&self) -> Option<TermId>
         ensures value { result ≡ self.now.universal }
         ensures members { AreMembers self.now }
@@ -113,14 +113,14 @@ impl Rules {
         self.universal
     }
 
-    /// How many ids there are.
+    /// Returns the number of ids.
     pub(crate) fn count(&self) -> usize
         ensures { result ≡ self.now.count }
     {
         self.count
     }
 
-    /// Whether no more pairs may be listed.
+    /// Whether no further pair may be listed.
     pub(crate) fn is_full(&self) -> bool
         ensures { result ≡ is_full' self.now }
     {
@@ -130,14 +130,14 @@ impl Rules {
         }
     }
 
-    /// Takes the ids below another count.
+    /// Sets the number of ids to `count`.
     pub(crate) fn widen(&mut self, count: usize)
         ensures { self.new ≡ record self.old { count = count } }
     {
         self.count = count;
     }
 
-    /// Whether the term stands in a listed pair.
+    /// Whether the term is a member of a listed pair.
     pub(crate) fn has_member(&self, term: TermId) -> bool
         ensures value { result ≡ slice_index_or self.now.members term false }
         ensures members { AreMembers self.now }
@@ -145,7 +145,7 @@ impl Rules {
         self.members.get(term.number()).copied().unwrap_or(false)
     }
 
-    /// Lists a pair. The counts tell in how many questions each term was asked, and are only a matter of speed.
+    /// Lists a pair. `uses` has the number of queries of each term and affects only speed.
     pub(crate) fn list(
         &mut self,
         alloc: Global,

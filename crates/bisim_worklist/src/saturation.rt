@@ -1,5 +1,5 @@
-//! Saturation of a set of terms by pairs of sets (congruence closure: Bonchi and Pous 2013). Of the sets of listed pairs only
-//! those are looked at that the index has under a term of the set, or apart for an empty one: no other lies in the set.
+//! Saturation of a set of terms by pairs of sets (congruence closure: Bonchi and Pous 2013). Rounds visit only the sets
+//! of listed pairs that are empty or indexed under a term of the set, because no other set lies within it.
 ghost use Rattle.std.specs.Prelude.{◌≡◌, ◌≤◌, ◌<◌, ℕ, [], Some, false, not, length, slice_get, slice_index_or, IfOk, OnOk};
 ghost use Rattle.std.specs.Option.{option_map_or};
 ghost use Rattle.kat_model.specs.Members.{Has};
@@ -13,7 +13,7 @@ use kat_model::NoMemory;
 use term_store::TermId;
 use walk_pairs::Side;
 
-// Whether the universal term is marked, where there is one.
+// Whether there is a universal term and it is marked.
 fn is_universal(marked: &Marked, universal: Option<TermId>) -> bool
     ensures { result ≡ option_map_or (λ u. slice_index_or marked.now.marks u false) universal false }
 {
@@ -27,14 +27,14 @@ fn is_reached(marked: &Marked, universal: Option<TermId>, targets: &[TermId]) ->
     is_universal(marked, universal) || holds_all(marked, targets)
 }
 
-// Whether the set lacks the witness, where there is one.
+// Whether there is a witness and the set lacks it.
 fn lacks(marked: &Marked, witness: Option<TermId>) -> bool
     ensures { result ≡ option_map_or (λ w. not (slice_index_or marked.now.marks w false)) witness false }
 {
     witness.is_some_and(|term| !marked.has(term))
 }
 
-// Where the set holds this set of a pair, adds the other. Answers whether a term is new.
+// Adds the other set of the pair if the set contains this one. Returns whether a term is new.
 fn add_at(marked: &mut Marked, rules: &Rules, spot: Spot) -> Result<bool, NoMemory>
     ensures made { OnOk result (IsMade rules.now.pairs marked.old.marks marked.new.marks) }
     ensures closed { IfOk result (λ b. b ≡ false → IsClosedAt rules.now.pairs marked.new.marks spot) }
@@ -50,7 +50,8 @@ fn add_at(marked: &mut Marked, rules: &Rules, spot: Spot) -> Result<bool, NoMemo
     Ok(is_new)
 }
 
-// Adds the other set of each pair of which the set holds this one, until all is reached. Answers whether a term is new.
+// Adds the other set of each pair of which the set contains the given one, until the universal term or all targets are
+// reached. Returns whether a term is new.
 fn add_spots(
     marked: &mut Marked,
     rules: &Rules,
@@ -72,7 +73,7 @@ fn add_spots(
     Ok(grew)
 }
 
-// Does so with the sets that stand under the term. Answers whether a term is new.
+// Calls `add_spots` with the sets that are indexed under the term. Returns whether a term is new.
 fn add_under(
     marked: &mut Marked,
     rules: &Rules,
@@ -89,7 +90,7 @@ fn add_under(
     }
 }
 
-// Does so with the sets that stand under the first so many marked terms. Answers whether a term is new.
+// Calls `add_under` for the first `count` marked terms. Returns whether a term is new.
 fn add_under_first(
     marked: &mut Marked,
     rules: &Rules,
@@ -110,7 +111,7 @@ fn add_under_first(
     Ok(grew)
 }
 
-// The other set of the pair.
+// Returns the other set of the pair, without a witness.
 fn across(spot: Spot) -> Spot {
     let side = match spot.side {
         Side::Left => Side::Right,
@@ -123,7 +124,7 @@ fn across(spot: Spot) -> Spot {
     }
 }
 
-// Adds the set of each pair of which the set holds the other one.
+// Adds each of the given sets if the set contains the other set of its pair.
 fn add_back(marked: &mut Marked, rules: &Rules, spots: &[Spot]) -> Result<(), NoMemory>
     ensures { OnOk result (IsMade rules.now.pairs marked.old.marks marked.new.marks) }
 {
@@ -133,7 +134,7 @@ fn add_back(marked: &mut Marked, rules: &Rules, spots: &[Spot]) -> Result<(), No
     Ok(())
 }
 
-// Does so with the sets that stand under the term.
+// Calls `add_back` with the sets that are indexed under the term.
 fn add_back_under(marked: &mut Marked, rules: &Rules, term: TermId) -> Result<(), NoMemory>
     ensures { OnOk result (IsMade rules.now.pairs marked.old.marks marked.new.marks) }
 {
@@ -143,7 +144,7 @@ fn add_back_under(marked: &mut Marked, rules: &Rules, term: TermId) -> Result<()
     }
 }
 
-// Does so with the sets that stand under the terms.
+// Calls `add_back_under` for each of the terms.
 fn add_back_under_all(marked: &mut Marked, rules: &Rules, terms: &[TermId]) -> Result<(), NoMemory>
     ensures { OnOk result (IsMade rules.now.pairs marked.old.marks marked.new.marks) }
 {
@@ -153,7 +154,7 @@ fn add_back_under_all(marked: &mut Marked, rules: &Rules, terms: &[TermId]) -> R
     Ok(())
 }
 
-// How many sets stand under the terms. Only a matter of speed.
+// Returns the number of sets that are indexed under the terms. Affects only speed.
 fn load(rules: &Rules, terms: &[TermId]) -> usize {
     let mut load: usize = 0;
     for term in terms {
@@ -162,7 +163,8 @@ fn load(rules: &Rules, terms: &[TermId]) -> usize {
     load
 }
 
-// Where fewer sets stand under the targets than under the set, takes those first: one of them often brings all.
+// If fewer sets are indexed under the targets than under the marked terms, tries those first: one of them often reaches
+// all targets.
 fn look_back(marked: &mut Marked, rules: &Rules, targets: &[TermId]) -> Result<(), NoMemory>
     ensures { OnOk result (IsMade rules.now.pairs marked.old.marks marked.new.marks) }
 {
@@ -172,8 +174,8 @@ fn look_back(marked: &mut Marked, rules: &Rules, targets: &[TermId]) -> Result<(
     Ok(())
 }
 
-// Adds the other set of each pair of which the set may hold one, until all is reached. Answers whether a term is new: where
-// none is, the set is closed.
+// Adds the other set of each pair of which the set may contain one, until the universal term or all targets are
+// reached. Returns whether a term is new; if not, the set is closed.
 fn round(marked: &mut Marked, rules: &Rules, targets: &[TermId]) -> Result<bool, NoMemory>
     ensures made { OnOk result (IsMade rules.now.pairs marked.old.marks marked.new.marks) }
     ensures closed { IfOk result (λ b. b ≡ false → AreClosed rules.now.pairs marked.new.marks) }
@@ -185,14 +187,14 @@ fn round(marked: &mut Marked, rules: &Rules, targets: &[TermId]) -> Result<bool,
     Ok(either(from_apart, from_terms))
 }
 
-// Whether the universal term stands in a pair, where there is one.
+// Whether there is a universal term and it is a member of a pair.
 fn has_universal(rules: &Rules, universal: Option<TermId>) -> bool
     ensures { result ≡ option_map_or (λ u. slice_index_or rules.now.members u false) universal false }
 {
     universal.is_some_and(|term| rules.has_member(term))
 }
 
-// Whether each target is marked or stands in a pair.
+// Whether each target is marked or a member of a pair.
 fn may_hold_all(rules: &Rules, marked: &Marked, targets: &[TermId]) -> bool
     ensures { result ≡ false → (t : ℕ) × Has targets.now t × (slice_index_or marked.now.marks t false ≡ false) × (slice_index_or rules.now.members t false ≡ false) }
 {
@@ -206,14 +208,14 @@ fn may_hold_all(rules: &Rules, marked: &Marked, targets: &[TermId]) -> bool
     true
 }
 
-// Whether rounds may reach more: the universal term or all targets.
+// Whether rounds may reach the universal term or all targets.
 fn may_reach(rules: &Rules, marked: &Marked, targets: &[TermId]) -> bool
     ensures { result ≡ false → are_reached rules.now.universal targets.now (rounds_marked (length rules.now.pairs) rules.now.pairs marked.now.marks) ≡ are_reached rules.now.universal targets.now marked.now.marks }
 {
     has_universal(rules, rules.universal()) || may_hold_all(rules, marked, targets)
 }
 
-// Rounds until all is reached, or no term is new.
+// Performs rounds until the universal term or all targets are reached, or no term is new.
 fn saturate(marked: &mut Marked, rules: &Rules, targets: &[TermId]) -> Result<(), NoMemory>
     ensures { OnOk result (are_reached rules.now.universal targets.now marked.new.marks ≡ are_reached rules.now.universal targets.now (rounds_marked (length rules.now.pairs) rules.now.pairs marked.old.marks)) }
 {
@@ -227,7 +229,7 @@ fn saturate(marked: &mut Marked, rules: &Rules, targets: &[TermId]) -> Result<()
     Ok(())
 }
 
-/// Whether the listed pairs bring each of the targets to the marked terms, or the universal term.
+/// Whether the closure of the marked terms under the listed pairs contains all targets or the universal term.
 pub(crate) fn reaches(
     marked: &mut Marked,
     rules: &Rules,

@@ -1,4 +1,4 @@
-//! The test that is decided next.
+//! Selects the test to decide next.
 ghost use Rattle.std.specs.Prelude.{MatchOption, IfSome};
 ghost use Rattle.test_diagrams.specs.Functions.{IsDiagramId};
 ghost use Rattle.walk_pairs.specs.Items.{AreItems};
@@ -8,7 +8,7 @@ use term_store::TermId;
 use test_diagrams::Diagrams;
 use walk_pairs::Item;
 
-// The least test on which a guard of the item depends.
+// Returns a test on which a guard of the item depends: the least of the left guard, or else the least of the right one.
 fn test_of(diagrams: &Diagrams, item: &Item) -> Option<usize>
     requires left { IsDiagramId diagrams.now item.now.left }
     requires right { IsDiagramId diagrams.now item.now.right }
@@ -20,7 +20,7 @@ fn test_of(diagrams: &Diagrams, item: &Item) -> Option<usize>
     }
 }
 
-// A test on which a guard of the universal term depends.
+// Returns a test on which a guard of the universal term depends, if there is one.
 fn universal_test(universal: Option<TermId>, diagrams: &Diagrams, items: &[Item]) -> Option<usize>
     requires { AreItems diagrams.now items.now }
     ensures { IfSome result (IsNextTest diagrams.now items.now) }
@@ -34,7 +34,7 @@ fn universal_test(universal: Option<TermId>, diagrams: &Diagrams, items: &[Item]
     None
 }
 
-// A test on which a guard depends of an item on which the sides differ.
+// Returns a test on which a guard depends of an item with different guards on the two sides.
 fn difference_test(diagrams: &Diagrams, items: &[Item]) -> Option<usize>
     requires { AreItems diagrams.now items.now }
     ensures { IfSome result (IsNextTest diagrams.now items.now) }
@@ -49,7 +49,7 @@ fn difference_test(diagrams: &Diagrams, items: &[Item]) -> Option<usize>
     None
 }
 
-// A test on which some guard depends.
+// Returns a test on which some guard depends, if there is one.
 fn any_test(diagrams: &Diagrams, items: &[Item]) -> Option<usize>
     requires { AreItems diagrams.now items.now }
     ensures { MatchOption result (AreConstant diagrams.now items.now) (IsNextTest diagrams.now items.now) }
@@ -62,8 +62,9 @@ fn any_test(diagrams: &Diagrams, items: &[Item]) -> Option<usize>
     None
 }
 
-/// The test to decide next, while some guard depends on one: first one of the guards of the universal term, then one
-/// of guards in which the sides differ, then any. Each choice leads to a right answer; this one keeps the cases few.
+/// Returns the test to decide next, if some guard depends on one: first a test of the guards of the universal term,
+/// then a test of guards in which the sides differ, then any test. Any choice is correct; this order keeps the number
+/// of cases small.
 pub(crate) fn next_test(
     universal: Option<TermId>,
     diagrams: &Diagrams,

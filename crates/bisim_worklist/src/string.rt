@@ -1,4 +1,4 @@
-//! The string that leads to a listed pair.
+//! Builds the string that leads to a listed pair.
 ghost use Rattle.std.specs.Prelude.{◌≡◌, ◌<◌, [], ℕ, List, length, slice_get, Some, None, IfOk, MatchOption};
 ghost use Rattle.bisim_worklist.specs.Walks.{Origin as Origin', after_trail};
 ghost use Rattle.bisim_worklist.specs.Working.Listings.{AreTraced, LeadsBack, origin_of};
@@ -9,7 +9,7 @@ use std::alloc::Global;
 use std::mem;
 use string_tables::{GString, Move};
 
-// The step that led to the pair at this place, where there is one.
+// Returns the step that led to the pair at `place`, if there is one.
 fn origin_at(pairs: &[Listed], place: usize) -> Option<&Origin>
     ensures { MatchOption result (origin_of pairs.now place ≡ None) (λ o. origin_of pairs.now place ≡ Some o.now) }
 {
@@ -19,7 +19,7 @@ fn origin_at(pairs: &[Listed], place: usize) -> Option<&Origin>
     }
 }
 
-/// The string of the steps that led from the first pair to the one at this place, with the atom at its end.
+/// Returns the string of the steps from the first pair to the pair at `place`, with the atom `last` at its end.
 pub(crate) fn string_to(
     alloc: Global,
     pairs: &[Listed],

@@ -1,4 +1,4 @@
-//! The walk over the listed pairs, in their order.
+//! The walk over the listed pairs, in order.
 ghost use Rattle.std.specs.Prelude.{◌≡◌, ◌≢◌, ◌<◌, ◌+◌, ◌∷◌, [], ℕ, length, IfOk, OnOk, MatchOption, Some, Err, slice_get};
 ghost use Rattle.kat_model.specs.Problems.{ProblemParts, IsProblem};
 ghost use Rattle.kat_model.specs.Closed.{closed};
@@ -25,7 +25,7 @@ use term_store::{Store, TermId};
 use test_diagrams::Diagrams;
 use walk_pairs::{actions_in_order, differing_atom, items_of};
 
-/// What a walk keeps: the listed pairs, and the derivatives of terms with their diagrams.
+/// The state of a walk: the listed pairs, and the derivatives of terms with their diagrams.
 #[derive(Drop)]
 pub(crate) struct Walk {
     rules: Rules,
@@ -33,7 +33,7 @@ pub(crate) struct Walk {
     derivatives: Derivatives,
 }
 
-/// An atom at which just one of the sets of the listed pair at this place accepts.
+/// An atom that exactly one of the sets of the listed pair at `place` accepts.
 #[derive(Drop)]
 pub(crate) struct Difference {
     pub place: usize,
@@ -47,7 +47,7 @@ struct BothSteps {
     right: Steps,
 }
 
-// The set of one term.
+// Returns the set of one term.
 fn single(alloc: Global, term: TermId) -> Result<Items<TermId>, NoMemory>
     ensures { IfOk result (λ set. set ≡ term ∷ []) }
 {
@@ -55,7 +55,7 @@ fn single(alloc: Global, term: TermId) -> Result<Items<TermId>, NoMemory>
 }
 
 impl Walk {
-    /// A walk that has listed the pair of two terms, and may list so many pairs, where there is a limit.
+    /// Returns a walk that has listed the pair of two terms. With a limit, it lists at most `limit` pairs.
     pub(crate) fn new(
         alloc: Global,
         tests: usize,
@@ -91,14 +91,14 @@ impl Walk {
         })
     }
 
-    /// The listed pairs.
+    /// Returns the listed pairs.
     pub(crate) fn pairs(&self) -> &[Listed]
         ensures { result.now ≡ self.now.rules.pairs }
     {
         self.rules.pairs()
     }
 
-    // The steps of both sets of the pair at the place.
+    // Returns the steps of both sets of the pair at `place`.
     fn steps_at(
         &mut self,
         alloc: Global,
@@ -124,8 +124,8 @@ impl Walk {
         Ok(BothSteps { left, right })
     }
 
-    // Lists pairs until, at each atom and for each action, the sets that a step of the pair at the place leads to
-    // are congruent.
+    // Lists pairs until, at each atom and for each action, the sets to which a step of the pair at `place` leads are
+    // congruent.
     fn expand(
         &mut self,
         alloc: Global,
@@ -158,7 +158,7 @@ impl Walk {
         Ok(())
     }
 
-    // An atom at which just one of the steps accepts, where there is one.
+    // Returns an atom at which exactly one of the two steps accepts, if there is one.
     fn difference(
         &mut self,
         alloc: Global,
@@ -181,7 +181,7 @@ impl Walk {
         Ok(Some(atom))
     }
 
-    // Takes the pair at the place. Answers an atom at which just one of its sets accepts, where there is one.
+    // Processes the pair at `place`. Returns an atom that exactly one of its sets accepts, if there is one.
     fn take(
         &mut self,
         alloc: Global,
@@ -207,8 +207,9 @@ impl Walk {
         Ok(None)
     }
 
-    /// Takes the listed pairs in order, those that are listed meanwhile among them. Answers the first difference, or
-    /// none where the pairs are a bisimulation up to congruence. Stops where one more pair is needed than may be listed.
+    /// Processes the listed pairs in order, including those that are listed meanwhile. Returns the first difference, or
+    /// `None` if the pairs are a bisimulation up to congruence. Stops with `Halt::PairLimit` if it needs more pairs
+    /// than may be listed.
     pub(crate) fn run(
         &mut self,
         alloc: Global,

@@ -1,4 +1,4 @@
--- How tests are asked with all their parts, the greatest first, and which tests a question names.
+-- How tests are collected with all their parts, the greatest first, and which tests a question names.
 use Rattle.std.proofs.Common.{◌≡◌, ◌<◌, ℕ, ◌⊎◌, inl, inr, ⊎_elim, true, List, [], ◌∷◌, ◌++◌, map, ◌↔◌, slice_get, Option, Some, None, refl, sym, ap, ◌∙◌, subst, arith, zero, suc, take, reverse}
 use Rattle.std.specs.List.{All, list_any}
 use Rattle.std.specs.Option.{option_to_list}
@@ -22,9 +22,10 @@ use Rattle.cert_steps.specs.NodeTables.{TableParts, AreTables, IsTest}
 use Rattle.cert_steps.specs.Targets.{AreEntries}
 use Rattle.cert_checker.specs.Working.Cases.{AreAsked}
 
--- ---- asking
+-- ---- collecting tests
 
--- some tests are pending; the parts of one that was taken are pending or stand before it, where the latest stands first
+-- some tests are pending; the parts of a processed test are pending or come before it in `all`, whose first element is
+-- the latest
 pub record IsAsking (t : TableParts) (old pending all : List ℕ) : Type 0 where
   pub pending_there : (k : ℕ) → Has pending k → IsTest t k
   pub parts : (i k : ℕ) → slice_get all i ≡ Some k → IsTest t k × ((node : TestNode ℕ) → slice_get t.tests k ≡ Some node → (j : ℕ) → Has (test_parts node) j → Has pending j ⊎ Has (take i all) j)
@@ -54,7 +55,7 @@ module _ (t : TableParts) (old pending rest next items : List ℕ) (k : ℕ) (no
   under : (i : ℕ) → Has next i → i < k
   under i h = ⊎_elim (λ o. ranked i k Less (sym (all_of (λ q. nat_cmp q k ≡ Less) rest less i o))) (IsTestOver-part k node (are.rules.tests_ordered k node at) i) ((adds i).0 h)
 
-  -- what was pending is so still, or was taken
+  -- a pending test remains pending or is now processed
   moved : (i : ℕ) (l : List ℕ) → Has pending i ⊎ Has l i → Has next i ⊎ Has (k ∷ l) i
   moved i l h =
       ⊎_elim
@@ -67,7 +68,7 @@ module _ (t : TableParts) (old pending rest next items : List ℕ) (k : ℕ) (no
       (subst (IsTest t) same (g.pending_there k taken), λ n h x m. inl ((adds x).1 (inr (subst (λ (y : TestNode ℕ). Has (test_parts y) x) (same_Some n node (sym h ∙ ap (slice_get t.tests) (sym same) ∙ at)) m))))
   parts_still (suc i) j f = let was = g.parts i j f in (was.0, λ n h x m. moved x (take i (reverse items)) (was.1 n h x m))
 
-  -- the greatest test is taken, and its parts are added, which are less
+  -- processing the greatest pending test adds its parts, which are smaller
   pub asking_goes_on : (new : List ℕ) → new ≡ items ++ k ∷ [] → IsAsking t old next (reverse new)
   asking_goes_on new pushed = subst (IsAsking t old next) (sym (ap reverse pushed ∙ reverse-append items (k ∷ []))) (record {
     pending_there = λ i h. let b = under i h in let c = g.pending_there k taken in omega (arith, b, c);
@@ -75,16 +76,16 @@ module _ (t : TableParts) (old pending rest next items : List ℕ) (k : ℕ) (no
     kept = λ i h. moved i (reverse items) (g.kept i h);
   })
 
-  -- and what is pending is bounded by it
+  -- and the bound of the pending tests decreases
   pub asking_falls : bound_of next < bound_of pending
   asking_falls =
       let l = bound_least next k under in
       let b = bound_above pending k taken in
       omega (arith, l, b)
 
--- ---- sets that are extended
+-- ---- extended sets
 
--- a set that is extended has its members and those that are added
+-- an extended set has its old members and the added ones
 pub extended_has : (old added new : List ℕ) → IsUnion (eq_by_cmp nat_cmp) old added new → (k : ℕ) → Has new k ↔ (Has old k ⊎ Has added k)
 extended_has old added new e k = (
   (λ h. ⊎_elim (λ o. inl ((found old).0 o)) (λ a. inr ((found added).0 a)) (or_cases _ _ (sym (e k) ∙ (found new).1 h))),
@@ -96,7 +97,7 @@ extended_has old added new e k = (
 
 -- ---- the tests that a question names
 
--- the guards of these entries
+-- the guards of the entries
 abbrev pub guards_of : List (ℕ × ℕ) → List ℕ
 guards_of es = map (λ e. e.1) es
 
@@ -107,10 +108,10 @@ option_has None k = (absurd, none_some)
     none_some e = cc
 option_has (Some j) k = ((λ h. ⊎_elim (λ e. ap Some e) absurd h), (λ e. inl (same_Some j k e)))
 
--- an empty set that is extended by the test of the pair, if there is one, and by the guards of the targets
+-- extends an empty set by the test of the pair, if any, and by the guards of the targets
 module _ (own : Option ℕ) (left right : List (ℕ × ℕ)) (none first mid last : List ℕ) (empty : none ≡ []) (start : IsUnion (eq_by_cmp nat_cmp) none (option_to_list own) first) (one : IsUnion (eq_by_cmp nat_cmp) first (guards_of left) mid)
     (two : IsUnion (eq_by_cmp nat_cmp) mid (guards_of right) last) where
-  -- it is of tests
+  -- the resulting set contains only tests of the tables
   pub gathered_tests : (t : TableParts) → ((k : ℕ) → own ≡ Some k → IsTest t k) → AreEntries t left → AreEntries t right → (k : ℕ) → Has last k → IsTest t k
   gathered_tests t is lefts rights k h = ⊎_elim (λ m. ⊎_elim before (guards left lefts) ((extended_has first (guards_of left) mid one k).0 m)) (guards right rights) ((extended_has mid (guards_of right) last two k).0 h)
     where
@@ -120,7 +121,7 @@ module _ (own : Option ℕ) (left right : List (ℕ × ℕ)) (none first mid las
       guards : (es : List (ℕ × ℕ)) → AreEntries t es → Has (guards_of es) k → IsTest t k
       guards es are m = let e = has_map (λ (e : ℕ × ℕ). e.1) es k m in subst (IsTest t) e.2 (are e.0 e.1).1
 
-  -- among them is each that is named
+  -- the resulting set contains every named test
   pub gathered_all : (k : ℕ) → (own ≡ Some k) ⊎ ((e : ℕ × ℕ) × (Has left e ⊎ Has right e) × (e.1 ≡ k)) → Has last k
   gathered_all k h =
       ⊎_elim

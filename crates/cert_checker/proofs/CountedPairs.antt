@@ -11,11 +11,11 @@ use Rattle.cert_checker.specs.Working.Cases.{known_test}
 use Rattle.cert_checker.specs.Working.Questions.{TurnParts}
 use Rattle.cert_checker.specs.Working.Rounds.{counting_in}
 
--- the pairs that count, by what is equal
+-- equal arguments give equal lists of counting pairs
 counting_as : (a b : Bool) (known other : List Known) (ps qs : List PairParts) → a ≡ b → known ≡ other → ps ≡ qs → counting a known ps ≡ counting b other qs
 counting_as a b known other ps qs e f g = ap (λ (x : Bool). counting x known ps) e ∙ ap (λ (k : List Known). counting b k ps) f ∙ ap (counting b other) g
 
--- what is said of those of a turn
+-- a property holds for the counting pairs of `counted` if and only if it holds for those of its parts
 pub counted_as : (P : TurnParts → List NumberPair → Type 0) (counted : Counted) (turn : TurnParts) (known : List Known) (also : Bool) → counted.turn.now ≡ turn → counted.known.now ≡ known → counted.also_open ≡ also → P counted.turn.now (counting_in counted) ↔ P turn (counting also known turn.pairs)
 counted_as P counted turn known also e f g =
     let same : counting_in counted ≡ counting also known turn.pairs = counting_as counted.also_open also counted.known.now known counted.turn.now.pairs turn.pairs g f (ap (λ (t : TurnParts). t.pairs) e) in (
@@ -48,7 +48,7 @@ module _ (also : Bool) (known : List Known) where
       let f = counting_has ps m h in
       subst (λ (p : NumberPair). (are_below n p.left ≡ true) × (are_below n p.right ≡ true)) f.3 (numbers f.0 f.1)
 
-  -- without tests all count
+  -- without tests all pairs count
   pub counting_all : (ps : List PairParts) → ((p : PairParts) → Has ps p → p.test ≡ None) → counting also known ps ≡ map sets_of ps
   counting_all [] untested = refl
   counting_all (p ∷ ps) untested =

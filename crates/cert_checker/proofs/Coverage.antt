@@ -1,4 +1,4 @@
--- Answers about sets of targets that pairs bring together.
+-- Results about sets of targets that pairs make congruent.
 use Rattle.std.proofs.Common.{◌≡◌, ◌↔◌, ℕ, inl, inr, ⊎_elim, List, [], ◌∷◌, refl, sym, ◌∙◌, subst, Bool, true, false, nat_eq, ◌&&◌, Option, Some, None}
 use Rattle.std.specs.Cmp.Lexicographic.{pointwise}
 use Rattle.std.proofs.lemmas.Bool.{and_parts, false≢true}
@@ -10,7 +10,7 @@ use Rattle.cert_checker.specs.Working.Reaching.{HoldsAll, IsReached, AreReached,
 use Rattle.cert_checker.specs.Working.Matching.{lists, AreCovered}
 use Rattle.cert_checker.proofs.ListedPairs.{same_pointwise}
 
--- what is told of lists that are these
+-- replaces the lists in a result by equal lists
 pub reached_as : (ps : List NumberPair) (b : Bool) (ks ks' ls ls' : List ℕ) → ks ≡ ks' → ls ≡ ls' → (b ≡ true) ↔ AreReached ps ks ls → (b ≡ true) ↔ AreReached ps ks' ls'
 reached_as ps b ks ks' ls ls' e f h = subst (λ k. (b ≡ true) ↔ AreReached ps k ls') e (subst (λ l. (b ≡ true) ↔ AreReached ps ks l) f h)
 
@@ -22,7 +22,7 @@ module _ (ps : List NumberPair) where
   reached_one ks u h k m = ⊎_elim (λ e. subst (IsReached ps ks) e h) absurd m
 
   module _ (universal : Option ℕ) (s : Sides) where
-    -- a pair with just these sets
+    -- a listed pair with exactly these sets covers the sides
     pub covered_listed : lists ps s.left.sure.items s.right.sure.items ≡ true → IsSubset s.left.alone.items s.left.sure.items → IsSubset s.right.alone.items s.right.sure.items → AreCovered ps universal s
     covered_listed e left right =
         let f = has_any (λ (p : NumberPair). pointwise nat_eq p.left s.left.sure.items && pointwise nat_eq p.right s.right.sure.items) ps e in

@@ -1,5 +1,5 @@
--- The test of two lists of targets up to congruence: where it passes they are congruent at all the atoms with the
--- decided tests, and where all guards are settled, only there.
+-- The test of two lists of targets up to congruence: if it passes, the lists are congruent at all atoms that extend the
+-- decided tests; if all guards are settled, the converse holds.
 use Rattle.std.proofs.Common.{◌≡◌, ℕ, ◌⊎◌, inl, inr, ⊎_elim, List, [], ◌∷◌, length, refl, sym, ap, ◌∙◌, subst, Bool, true, false, nat_lt, ◌||◌, cond, Option, Some, None}
 use Rattle.std.specs.Option.{option_map}
 use Rattle.std.proofs.lemmas.Bool.{and_from, lt-ltb}
@@ -42,13 +42,13 @@ open_below t known os (d ∷ es) own = go (falsely (known_of known d.1) || has_t
 
 -- ---- the sides of two lists of targets
 
--- `AreCovered` by the targets
+-- `AreCovered` for the targets
 abbrev Covers : List NumberPair → Option ℕ → List Known → List (ℕ × ℕ) → List (ℕ × ℕ) → Type 0
 Covers ps universal known left right =
     (AreReached ps (sure_targets known right) (open_targets known right left) × AreReached ps (sure_targets known left) (open_targets known left right))
     ⊎ IsReachedByBoth ps universal (sure_targets known left) (sure_targets known right)
 
--- lists that are these
+-- the same for given lists
 abbrev CoveredBy : List NumberPair → Option ℕ → List ℕ → List ℕ → List ℕ → List ℕ → Type 0
 CoveredBy ps universal lefts rights left_open right_open = (AreReached ps rights left_open × AreReached ps lefts right_open) ⊎ IsReachedByBoth ps universal lefts rights
 
@@ -74,7 +74,7 @@ module _ (t : TableParts) (are : AreTables t) (known : List Known) (atom : Atom)
   sure_within : (es : List (ℕ × ℕ)) → AreRight t known atom es → IsSubset (sat (set_pairs_of (nodes_in t) ps) (terms_of (nodes_in t) (sure_targets known es))) (sat (set_pairs_of (nodes_in t) ps) (chosen t es atom))
   sure_within es right = sat_grows (set_pairs_of (nodes_in t) ps) _ _ (λ x h. sat_keeps (set_pairs_of (nodes_in t) ps) (chosen t es atom) x (sure_chosen t known atom es right x h))
 
-  -- what may be in one set is in the other, saturated
+  -- every term that may be in one set is in the saturation of the other
   one_side : (es os : List (ℕ × ℕ)) → AreEntries t es → AreEntries t os → AreRight t known atom es → AreRight t known atom os → AreReached ps (sure_targets known os) (open_targets known os es) → IsSubset (sat (set_pairs_of (nodes_in t) ps) (chosen t es atom)) (sat (set_pairs_of (nodes_in t) ps) (chosen t os atom))
   one_side es os own other right right_too m =
       sat_grows (set_pairs_of (nodes_in t) ps) _ _
@@ -89,9 +89,9 @@ module _ (t : TableParts) (are : AreTables t) (known : List Known) (atom : Atom)
   universal_both (Some k) left right lefts rights e =
       (sure_within left lefts (term_at t k) (reached_has t are ps (sure_targets known left) k e.0), sure_within right rights (term_at t k) (reached_has t are ps (sure_targets known right) k e.1))
 
-  -- ---- where all guards are settled
+  -- ---- if all guards are settled
 
-  -- what is chosen surely is there
+  -- every chosen term is surely present
   pub settled_sure : (es : List (ℕ × ℕ)) → AreRight t known atom es → AreSettled known es → IsSubset (chosen t es atom) (terms_of (nodes_in t) (sure_targets known es))
   settled_sure es right settled x h =
       let f = has_chosen t es atom x h in

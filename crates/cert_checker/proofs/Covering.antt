@@ -1,4 +1,4 @@
--- What may be in one set and surely is not brought to the other by a shared guard is open; and what is known of guards is so.
+-- A term that may be in one set is also in the other by its guard, or is open. Known values of guards are correct.
 use Rattle.std.proofs.Common.{◌≡◌, ℕ, ◌⊎◌, inl, inr, ⊎_elim, List, [], ◌∷◌, refl, sym, ap, ◌∙◌, subst, Bool, true, false, ◌||◌, cond, nat_eq}
 use Rattle.std.proofs.lemmas.Bool.{true≢false, eqb-true, or_cases}
 use Rattle.kat_model.specs.Trees.{Term}
@@ -25,11 +25,11 @@ falsely_value (Value false) e = refl
 falsely_value (Waits k) e = absurd cc
 
 module _ (t : TableParts) (known : List Known) (atom : Atom) where
-  -- the values of guards that are known are those at the atom
+  -- the known values of the guards are their values at the atom
   abbrev pub AreRight : List (ℕ × ℕ) → Type 0
   AreRight es = (e : ℕ × ℕ) → Has es e → (b : Bool) → known_of known e.1 ≡ Value b → holds_at t e.1 atom ≡ b
 
-  -- what surely is among the targets is chosen
+  -- every term that is surely among the targets is chosen
   pub sure_chosen : (es : List (ℕ × ℕ)) → AreRight es → IsSubset (terms_of (nodes_in t) (sure_targets known es)) (chosen t es atom)
   sure_chosen [] right x h = h
   sure_chosen (e ∷ es) right x h = go (truly (known_of known e.1)) refl (sure_chosen es (λ d m. right d (inr m)) x) h

@@ -15,7 +15,7 @@ use Rattle.cert_checker.proofs.LeastFailures.{less_trans}
 use Rattle.cert_checker.proofs.OneAnswer.{turns_total, same_length, to_length}
 use Rattle.cert_checker.proofs.PairPlaces.{place_turn}
 
--- what is less in the first part, or equal there and less in the rest
+-- the lexicographic order: less in the first part, or equal there and less in the rest
 less_parts : {A B C E F G R S T : Type 0} → A ⊎ (E × R) → B ⊎ (F × S) → (A → B → C) → (A → F → C) → (E → B → C) → (E → F → G) → (R → S → T) → C ⊎ (G × T)
 less_parts x y both first second same rest =
     ⊎_elim
@@ -69,12 +69,13 @@ reasons_ordered s k l a b o p to up h =
     ))
     h
 
--- a place whose reason is the earlier stands before
+-- a place with the earlier reason is the earlier place
 place_earlier : (s : Style) (x y : Place) → IsEarlier (turn_of (place_reason s x)) (turn_of (place_reason s y)) → IsEarlier (turn_at x) (turn_at y)
 place_earlier s x y h = reasons_ordered s x.pair y.pair x.atom.items y.atom.items x.action y.action x.to.items y.to.items h
 
 module _ (q : ProblemParts) (c : CertParts) where
-  -- what does not come before x, and fails, does not come before y, before which x does not come
+  -- for reasons `x` and `s` by which the certificate fails: if `s` does not precede `x`, and `x` does not precede `y`,
+  -- then `s` does not precede `y`
   not_before : (x y s : Reason) → FailsBy q c x → FailsBy q c s → (IsEarlier (turn_of s) (turn_of x) → ⊥) → (IsEarlier (turn_of x) (turn_of y) → ⊥) → IsEarlier (turn_of s) (turn_of y) → ⊥
   not_before x y s fx fs not never h =
       ⊎_elim not

@@ -39,14 +39,14 @@ use Rattle.cert_checker.proofs.PairTurns.{set_kept, test_kept, test_there, outpu
 
 -- ---- a test that is true at each allowed atom
 
--- the empty product under a condition that has other words
+-- the empty product under an equivalent condition
 condition_stands : (t : TableParts) (es : List (ℕ × ℕ)) (f g : Atom → Bool) → ((atom : Atom) → f atom ≡ g atom) → StandFor t es (λ atom. cond (f atom) (one ∷ []) []) → StandFor t es (λ atom. cond (g atom) (one ∷ []) [])
 condition_stands t es f g same s =
     stand_same t es (λ atom. cond (f atom) (one ∷ []) []) (λ atom. cond (g atom) (one ∷ []) []) s
     (λ atom. subst (λ b. SameMembers (cond (f atom) (one ∷ []) []) (cond b (one ∷ []) [])) (same atom) (λ x. ((λ h. h), (λ h. h))))
 
--- where it is asked whether the sets under two conditions are the same at each allowed atom, and the second condition is
--- always true, there is no failure where the first is true at each of them
+-- The question is whether the sets under two conditions are the same at each allowed atom, and the second condition is
+-- always true. It has no failure if and only if the first condition is true at each allowed atom.
 module _ (p : PassParts) (pass : IsPass p) (turn : TurnParts) (is : IsTurn p turn) (none : turn.action ≡ None) (left right : List (ℕ × ℕ)) (asked : List ℕ) (f g : Atom → Bool)
     (own : StandFor p.tables left (λ atom. cond (f atom) (one ∷ []) [])) (other : StandFor p.tables right (λ atom. cond (g atom) (one ∷ []) [])) (sure : (atom : Atom) → g atom ≡ true) where
   abbrev HoldsAllowedly : Type 0
@@ -88,7 +88,7 @@ module _ (p : PassParts) (pass : IsPass p) (turn : TurnParts) (is : IsTurn p tur
   throughout v (Some x) true e h = absurd cc
   throughout v (Some x) false e h = ((λ s. absurd cc), (λ all. let none : Some (v x) ≡ None = (found (Some (v x)) h).1 all in absurd cc))
 
--- the tables grow by what a turn and the two sets need
+-- a turn and the two sets add nodes to the tables
 module _ (old p : PassParts) (grows : PassGrows old p) (begun : IsPass p) (second third last : TableParts) (to_second : TablesGrow p.tables second) (to_third : TablesGrow second third) (to_last : TablesGrow third last) (turn : TurnParts) (is : IsTurn p turn)
     (none : turn.action ≡ None) (test always : ℕ) (there : IsTest old.tables test) (sure : HasValues second (λ atom. true) always) (left right : List (ℕ × ℕ))
     (own : StandFor third left (λ atom. cond (holds_at second test atom) (one ∷ []) [])) (other : StandFor last right (λ atom. cond (holds_at third always atom) (one ∷ []) [])) where
@@ -122,7 +122,7 @@ module _ (old p : PassParts) (grows : PassGrows old p) (begun : IsPass p) (secon
 
 -- ---- sets of one term
 
--- what `!=` of two sets says
+-- the meaning of `!=` for two sets
 pub sets_differ : (ks ls : List ℕ) (r : Bool) → r ≡ not (pointwise nat_eq ks ls) → (r ≡ true → ks ≡ ls → ⊥) × (r ≡ false → ks ≡ ls)
 sets_differ ks ls r e = go (pointwise nat_eq ks ls) (slice_eq-Decides Decides-eqb ks ls (pointwise nat_eq ks ls) refl) e
   where
@@ -130,7 +130,7 @@ sets_differ ks ls r e = go (pointwise nat_eq ks ls) (slice_eq-Decides Decides-eq
     go true tells is = ((λ yes same. let bad : false ≡ true = sym is ∙ yes in absurd cc), (λ no. tells.0 refl))
     go false tells is = ((λ yes same. let bad : false ≡ true = tells.1 same in absurd cc), (λ no. let bad : true ≡ false = sym is ∙ no in absurd cc))
 
--- a set is that of one term where it has the number of this term alone
+-- a set consists of one term if and only if it contains only the number of this term
 pub single_told : (t : TableParts) → AreTables t → (ks : List ℕ) → are_below (length t.terms) ks ≡ true → (k : ℕ) → IsTerm t k → (e : Term) → term_at t k ≡ e → (ks ≡ k ∷ []) ↔ (terms_of (nodes_in t) ks ≡ e ∷ [])
 single_told t are ks low k there e tree = ((λ s. ap (terms_of (nodes_in t)) s ∙ ap (λ (x : Term). x ∷ []) tree), back ks low)
   where

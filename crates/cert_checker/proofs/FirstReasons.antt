@@ -28,7 +28,7 @@ use Rattle.cert_checker.specs.Working.Places.{IsFirstOf, place_reason}
 stage_grows : (s t : Turn) → IsEarlier s t → s.stage ≤ t.stage
 stage_grows s t h = ⊎_elim (λ l. omega (arith, l)) (λ k. omega (arith, k.0)) h
 
--- an earlier node of one stage has a lesser number
+-- an earlier node of the same stage has a lesser number
 lesser_node : (stage j k : ℕ) → IsEarlier (record { stage = stage; number = j; atom = []; action = 0; to = [] }) (record { stage = stage; number = k; atom = []; action = 0; to = [] }) → j < k
 lesser_node stage j k h =
     ⊎_elim (λ l. absurd (omega (arith, l)))
@@ -99,7 +99,7 @@ module _ (q : ProblemParts) (c : CertParts) where
             moves : (p : TestedPair) → Has (tested_pairs c) p → (atom : Atom) → length atom ≡ q.tests → (m : Move) → m.act < q.actions → length m.atom ≡ q.tests → MoveHolds c.style q c p atom m
             moves p h atom l m low wide = let k = place_of_member (tested_pairs c) p h in f (MissingTo k.0 atom m.act m.atom) (refl, omega (arith, low)) p k.1 l low wide
 
-            -- each listed pair of sets stands under some test
+            -- each listed pair of sets has some test
             tested : (s : SetPair) → Has (set_pairs c) s → (p : TestedPair) × Has (tested_pairs c) p × (p.sets ≡ s)
             tested s h =
                 let n = has_map (λ (n : NumberPair). record { left = terms_of (nodes_of c) n.left; right = terms_of (nodes_of c) n.right }) (number_pairs c) s h in
@@ -137,7 +137,8 @@ module _ (q : ProblemParts) (c : CertParts) where
               };
             }
 
-        -- so it is with the first place, where there is one
+        -- the certificate is accepted if there is no first place; otherwise the reason of that place is its first
+        -- reason
         pub pairs_told : (o : Option Place) → IsFirstOf q c (λ n. n < q.actions + 1) (option_map (place_reason c.style) o) → MatchOption (option_map (place_reason c.style) o) (IsAccepted q c) (λ r. FailsFirstBy q c r)
         pairs_told None f = all_accepted f
         pairs_told (Some x) f = first_place_fails (place_reason c.style x) f

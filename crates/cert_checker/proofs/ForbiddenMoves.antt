@@ -1,5 +1,5 @@
--- Pairs of tests that tell which moves are allowed: those of the acceptance of the short hypotheses and of what a step
--- leads to from them.
+-- Pairs of tests that decide which moves are allowed: those for the acceptance of the short hypotheses and for the
+-- terms that a step leads to from them.
 use Rattle.std.proofs.Common.{◌≡◌, ◌↔◌, ℕ, ◌<◌, inl, inr, ⊎_elim, List, [], ◌∷◌, map, length, get_or, refl, sym, ap, ◌∙◌, subst, Bool, true, false, ◌&&◌, Option, Some, None}
 use Rattle.std.specs.Option.{is_some}
 use Rattle.std.proofs.lemmas.Bool.{true≢false, and_parts, and_from, and_right}
@@ -22,7 +22,7 @@ use Rattle.cert_steps.proofs.StepLists.{accept_at}
 abbrev pub IsFree : TableParts → List (ℕ × ℕ) → Atom → Atom → Type 0
 IsFree t fs atom to = (f : ℕ × ℕ) → Has fs f → (holds_at t f.0 atom && holds_at t f.1 to) ≡ false
 
--- the guard of a target, and the test that tells where it accepts
+-- the guard of a target, and the test that is true where the target accepts
 abbrev pub forbidden_of : List ℕ → ℕ × ℕ → ℕ × ℕ
 forbidden_of outputs e = (e.1, get_or outputs e.0 0)
 
@@ -44,7 +44,7 @@ module _ (t : TableParts) (es : List Term) (banned always : ℕ) (bans : (atom :
   )
 
   module _ (a : ℕ) (entries : List (ℕ × ℕ)) (stand : StandFor t entries (λ atom. set_next es atom a)) (outputs : List ℕ) (tell : AreAcceptances t outputs) (there : (e : ℕ × ℕ) → Has entries e → e.0 < length outputs) where
-    -- an entry stands for a string of one move that is accepted
+    -- an entry stands for an accepted string of one move
     entry_accepts : (atom to : Atom) (e : ℕ × ℕ) → Has entries e → (holds_at t e.1 atom && holds_at t (get_or outputs e.0 0) to) ≡ true → set_accepts es atom (record { act = a; atom = to } ∷ []) ≡ true
     entry_accepts atom to e h both =
         let parts = and_parts (holds_at t e.1 atom) (holds_at t (get_or outputs e.0 0) to) both in
@@ -53,7 +53,7 @@ module _ (t : TableParts) (es : List Term) (banned always : ℕ) (bans : (atom :
         any_has (λ x. accepts x atom (record { act = a; atom = to } ∷ [])) es from.0 from.1
         (any_has (λ x. accepts x to []) (next from.0 atom a) (term_at t e.0) from.2 (sym ((accept_at t outputs e.0 tell (there e h)).1 to) ∙ parts.1))
 
-    -- and each such string has its entry
+    -- and each such string has an entry
     accepts_entry : (atom to : Atom) → set_accepts es atom (record { act = a; atom = to } ∷ []) ≡ true → (e : ℕ × ℕ) × Has entries e × ((holds_at t e.1 atom && holds_at t (get_or outputs e.0 0) to) ≡ true)
     accepts_entry atom to s =
         let from = has_any (λ x. accepts x atom (record { act = a; atom = to } ∷ [])) es s in
@@ -83,7 +83,7 @@ module _ (t : TableParts) (es : List Term) (banned always : ℕ) (bans : (atom :
             r)
             h
 
--- all these are tests of the tables
+-- all of them are tests of the tables
 forbidden_tests : (t : TableParts) (banned always : ℕ) → IsTest t banned → IsTest t always → (entries : List (ℕ × ℕ)) → AreEntries t entries → (outputs : List ℕ) → AreAcceptances t outputs → ((e : ℕ × ℕ) → Has entries e → e.0 < length outputs)
     → (f : ℕ × ℕ) → Has ((banned, always) ∷ (always, banned) ∷ map (forbidden_of outputs) entries) f → IsTest t f.0 × IsTest t f.1
 forbidden_tests t banned always bt at entries own outputs tell there f h =
@@ -112,7 +112,7 @@ module _ (t : TableParts) (c : CertParts) (q : ProblemParts) where
       mean = moves_free t (counted_short c.style q) banned always bans.1 sure.1 a entries stand outputs tell there;
     }
 
-    -- by whether there is an action
+    -- by cases on whether there is an action
     pub forbidden_without : (o : Option ℕ) → is_some o ≡ false → AreForbidden t c q o ((banned, always) ∷ [])
     forbidden_without None e = outputs_forbidden
     forbidden_without (Some a) e = absurd cc
@@ -122,7 +122,7 @@ module _ (t : TableParts) (c : CertParts) (q : ProblemParts) where
     forbidden_by None e entries stand outputs tell there = absurd cc
     forbidden_by (Some a) e entries stand outputs tell there = moves_forbidden a entries stand outputs tell there
 
-  -- without short hypotheses all are allowed
+  -- without short hypotheses all moves are allowed
   pub none_forbidden : counted_short c.style q ≡ [] → (o : Option ℕ) → AreForbidden t c q o []
   none_forbidden none o = record {
     tests = λ f h. absurd h;

@@ -1,4 +1,4 @@
--- Values of two atoms side by side: what is decided of each, and their order.
+-- Concatenated values of two atoms: what is decided of each, and their order.
 use Rattle.std.proofs.Common.{◌≡◌, ℕ, zero, suc, ◌+◌, List, [], ◌∷◌, ◌++◌, take, drop, slice_get, ap, ◌∙◌, arith, zero-add, Bool, true, false, Option, Some, None}
 use Rattle.kat_model.specs.Steps.{Atom}
 use Rattle.cert_checker.specs.Answers.{IsLess}
@@ -31,7 +31,7 @@ extends_back (suc n) (d ∷ ds) [] h = absurd h
 extends_back (suc n) (None ∷ ds) (b ∷ x) h = extends_back n ds x h
 extends_back (suc n) (Some c ∷ ds) (b ∷ x) h = extends_back n ds x h.1
 
--- what is less stays so with more values behind, and with the same values before
+-- appending values after lesser ones keeps the order, and so does prepending equal values
 pub less_append : (xs ys zs ws : Atom) → IsLess xs ys → IsLess (xs ++ zs) (ys ++ ws)
 less_append [] ys zs ws h = absurd h
 less_append (x ∷ xs) [] zs ws h = absurd h

@@ -1,4 +1,4 @@
--- Indices of pairs as they grow, and listed pairs that are found by them.
+-- Growing indices of pairs, and how they find listed pairs.
 use Rattle.std.proofs.Common.{◌≡◌, ℕ, ◌+◌, ◌-◌, ◌<◌, ◌⊎◌, inl, inr, ⊎_elim, List, [], ◌∷◌, ◌++◌, map, length, get_or, take, slice_get, refl, sym, ap, ◌∙◌, subst, arith, Bool, true, false, cond, nat_eq, ◌&&◌, Option, Some, None}
 use Rattle.std.specs.Prelude.{unwrap_or}
 use Rattle.std.specs.Option.{option_map, option_map_or, MatchOption}
@@ -26,12 +26,12 @@ use Rattle.cert_checker.proofs.ListedPairs.{same_pointwise}
 pub below_next : (j i : ℕ) → j < i + 1 → (j < i) ⊎ (j ≡ i)
 below_next j i h = ⊎_elim inl (λ g. inr (omega (arith, h, g))) (cases_lt j i)
 
--- what is lent of a list is what stands there
+-- an element borrowed from a list is the element at that place
 pub item_read : {R X : Type 0} (now : R → X) (xs : List X) (i : ℕ) (r : Option R) → ItemBy now xs i i r → MatchOption r (slice_get xs i ≡ None) (λ x. slice_get xs i ≡ Some (now x))
 item_read now xs i None h = slice_get_past xs i h.3
 item_read now xs i (Some x) h = slice_get_read xs (length xs) i (now x) refl h.3.0 h.1
 
--- ---- a place more
+-- ---- an additional place
 
 pub pushed_has : (xs : List ℕ) (x : ℕ) → Has (xs ++ x ∷ []) x
 pushed_has xs x = has_right xs (x ∷ []) x (inl refl)
@@ -40,7 +40,7 @@ not_at : (term k : ℕ) → (k ≡ term → ⊥) → is_at (nat_cmp term) k ≡ 
 not_at term k other = false_from_ne_true (is_at (nat_cmp term) k) (λ e. other (sym (tells_apart exact_unsigned term k e)))
 
 module _ {X : Type 0} (f : X → List ℕ) where
-  -- the places that stand at a key
+  -- the places listed under a key
   abbrev pub mapped_at : List (ℕ × X) → ℕ → List ℕ
   mapped_at es k = unwrap_or (lookup (is_at (nat_cmp k)) (map (λ (e : ℕ × X). (e.0, f e.1)) es)) []
 
@@ -84,7 +84,7 @@ kept_apart x y k is same = record {
   under = λ term j h. subst (λ (l : List (ℕ × List ℕ)). Has (unwrap_or (lookup (is_at (nat_cmp term)) l) []) j) (sym same) h;
 }
 
--- under the last member of a set
+-- a place under the last member of a set is found by the set
 pub stands_last : (x : IndexParts) (ks : List ℕ) (k place : ℕ) → Some k ≡ slice_get ks (length ks - 1) → Has (places_under x k) place → Has (places_by x ks) place
 stands_last x ks k place last h = subst (λ (o : Option ℕ). Has (option_map_or (places_under x) o x.apart) place) last h
 
@@ -98,7 +98,7 @@ stays x y ks place keeps h = go (slice_get ks (length ks - 1)) h
     go None m = keeps.apart place m
     go (Some k) m = keeps.under k place m
 
--- both sets of one pair more
+-- the index after both sets of an additional pair were added
 pub indexed_more : (x y z : IndexParts) (ps : List PairParts) (i : ℕ) (p : PairParts) → slice_get ps i ≡ Some p → AreIndexedTo i x ps → Has (places_by y p.left) i → KeepsPlaces x y → Has (places_by z p.right) i → KeepsPlaces y z → AreIndexedTo (i + 1) z ps
 indexed_more x y z ps i p at before left to_y right to_z k q low read =
     ⊎_elim
@@ -109,14 +109,14 @@ indexed_more x y z ps i p at before left to_y right to_z k q low read =
     (subst (λ (j : ℕ). Has (places_by z p.left) j × Has (places_by z p.right) j) (sym e) (stays y z p.left i to_z left, right)))
     (below_next k i low)
 
--- ---- a listed pair stands by its sets
+-- ---- a listed pair is found by its sets
 
--- a comparison of lists that are these
+-- a comparison of equal lists
 pub compared_as : (r : Bool) (a b c d : List ℕ) → r ≡ pointwise nat_eq a b → a ≡ c → b ≡ d → pointwise nat_eq c d ≡ r
 compared_as r a b c d is e f = sym (is ∙ ap (λ (l : List ℕ). pointwise nat_eq l b) e ∙ ap (pointwise nat_eq c) f)
 
 module _ (ps : List PairParts) (also : Bool) (known : List Known) (ks ls : List ℕ) where
-  -- the pair at the place does not count, or is not of these sets
+  -- the pair at the place does not count, or has other sets
   abbrev pub IsOther : ℕ → Type 0
   IsOther j = (p : PairParts) → slice_get ps j ≡ Some p → (does_count also known p && (pointwise nat_eq p.left ks && pointwise nat_eq p.right ls)) ≡ false
 
@@ -134,7 +134,7 @@ module _ (ps : List PairParts) (also : Bool) (known : List Known) (ks ls : List 
   one_listed j p at on left right =
       any_has (λ (n : NumberPair). pointwise nat_eq n.left ks && pointwise nat_eq n.right ls) (counting also known ps) (sets_of p) (has_counting also known ps p (has_at ps j p at) on) (and_from (pointwise nat_eq p.left ks) (pointwise nat_eq p.right ls) left right)
 
-  -- all places at which it might stand were looked at
+  -- the search checked all places at which the pair can be listed
   pub none_listed : (x : IndexParts) (places : List ℕ) → AreIndexed x ps → ((j : ℕ) → Has (places_by x ks) j → Has (places_by x ls) j → Has places j) → ((j : ℕ) → Has places j → IsOther j) → lists (counting also known ps) ks ls ≡ false
   none_listed x places indexed within others =
       false_from_ne_true (lists (counting also known ps) ks ls)

@@ -1,4 +1,4 @@
--- What is known of a move: whether it counts, and which listed pairs do at its end.
+-- What is known of a move: whether it counts, and which listed pairs count at its end.
 use Rattle.std.proofs.Common.{◌≡◌, ◌⊎◌, ℕ, ◌+◌, ◌<◌, inl, inr, ⊎_elim, List, [], ◌∷◌, map, length, get_or, take, refl, sym, ap, ◌∙◌, subst, Bool, true, false, ◌&&◌, Option, Some, None}
 use Rattle.std.specs.Prelude.{IfSome}
 use Rattle.std.specs.Option.{option_or}
@@ -25,7 +25,7 @@ use Rattle.cert_checker.specs.Working.Matching.{may_be, counting, is_excluded, D
 use Rattle.cert_checker.proofs.Covering.{truly_value, falsely_value}
 use Rattle.cert_checker.proofs.CountedPairs.{counting_has, has_counting}
 
--- ---- what is known of two tests together
+-- ---- what is known of a conjunction of two tests
 
 one_false : (x y : Known) → known_and x y ≡ Value false → (x ≡ Value false) ⊎ (y ≡ Value false)
 one_false (Value false) y e = inl refl
@@ -43,10 +43,10 @@ one_waits (Waits j) (Value false) k e = absurd cc
 one_waits (Waits j) (Value true) k e = inl e
 one_waits (Waits j) (Waits l) k e = inl e
 
--- ---- the forbidden pairs of tests are gone over
+-- ---- the loop over the forbidden pairs of tests
 
--- after some of them: a test that is tied to true ones, or another that is waited for; and where there is none, what is
--- known of the move
+-- after some of the forbidden pairs: an undecided test that is tied to a true one, or another undecided test; without
+-- either, the test of the pair is true, and each of these forbidden pairs has a false test
 pub record IsTold (q : QuestionParts) (c : Case) (done : List (ℕ × ℕ)) (tied waiting : Option ℕ) : Type 0 where
   pub tied_waits : IfSome tied (IsWaited q c)
   pub waits : IfSome waiting (IsWaited q c)
@@ -87,7 +87,7 @@ module _ (q : QuestionParts) (c : Case) where
   told_waits : (i : ℕ) (tied waiting : Option ℕ) → IsTold q c (take i q.turn.forbidden) tied waiting → (k : ℕ) → IsWaited q c k → IsTold q c (take (i + 1) q.turn.forbidden) tied (option_or waiting (Some k))
   told_waits i tied waiting told k w = record { tied_waits = told.tied_waits; waits = or_waits waiting k told.waits w; own = λ m. absurd (or_some waiting k m); free = λ n m f h. absurd (or_some waiting k m) }
 
-  -- one pair more, by what was computed of it
+  -- one additional pair, by its computed values
   module _ (fs : List (ℕ × ℕ)) (is : fs ≡ q.turn.forbidden) (begin end : List Known) (begin_is : begin ≡ c.begin.items) (end_is : end ≡ c.end.items) (i : ℕ) (d : ℕ × ℕ) (low : i < length fs) (x y z : Known)
       (x_is : x ≡ known_of begin (get_or fs i d).0) (y_is : y ≡ known_of end (get_or fs i d).1) (z_is : z ≡ known_and x y) (tied waiting now_tied now_waiting : Option ℕ) (told : IsTold q c (take i q.turn.forbidden) tied waiting) where
     below : i < length q.turn.forbidden
@@ -113,10 +113,10 @@ module _ (q : QuestionParts) (c : Case) where
     pub next_waits : (k : ℕ) → now_tied ≡ tied → now_waiting ≡ option_or waiting (Some k) → z ≡ Waits k → IsTold q c (take (i + 1) q.turn.forbidden) now_tied now_waiting
     next_waits k e f g = as_told tied (option_or waiting (Some k)) e f (told_waits i tied waiting told k (here_waits k g))
 
--- ---- what is known is so
+-- ---- known values are correct
 
 module _ (t : TableParts) (first : ℕ) (decided : List (Option Bool)) (known : List Known) (atom : Atom) (extends : Extends decided atom) where
-  -- the test of a pair has the value that is known
+  -- the test of a pair has its known value
   pub test_value : (test : Option ℕ) → ((k : ℕ) → test ≡ Some k → IsKnown first decided (holds_at t k) (known_of known k)) → (b : Bool) → known_test known test ≡ Value b → test_holds t test atom ≡ b
   test_value None told b e = cc
   test_value (Some k) told b e = (subst (IsKnown first decided (holds_at t k)) e (told k refl)) atom extends
@@ -150,10 +150,10 @@ module _ (t : TableParts) (first : ℕ) (decided : List (Option Bool)) (known : 
         subst (Has (set_pairs_of (nodes_in t) (counting also known ps))) same
         (map_has (λ (p : NumberPair). record { left = terms_of (nodes_in t) p.left; right = terms_of (nodes_in t) p.right }) (counting also known ps) (sets_of m.0) (has_counting also known ps m.0 m.1 counts))
 
--- where these are known at two atoms, what is known of the move is so
+-- known values at two atoms give what is known of the move
 module _ (t : TableParts) (q : QuestionParts) (c : Case) (atom to : Atom) (own : (b : Bool) → known_test c.begin.items q.own ≡ Value b → test_holds t q.own atom ≡ b)
     (begins : (f : ℕ × ℕ) → Has q.turn.forbidden f → (b : Bool) → known_of c.begin.items f.0 ≡ Value b → holds_at t f.0 atom ≡ b) (ends : (f : ℕ × ℕ) → Has q.turn.forbidden f → (b : Bool) → known_of c.end.items f.1 ≡ Value b → holds_at t f.1 to ≡ b) where
-  -- what surely is excluded does not count
+  -- a surely excluded move does not count
   pub excluded_never : is_excluded q c ≡ true → Counts t q atom to → ⊥
   excluded_never e counts =
       ⊎_elim

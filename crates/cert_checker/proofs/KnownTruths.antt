@@ -1,4 +1,4 @@
--- What is known of a test is so at each atom with the decided tests.
+-- What is known of a test is true at each atom that extends the decided tests.
 use Rattle.std.proofs.Common.{◌≡◌, ℕ, zero, suc, ◌<◌, ◌≤◌, ◌⊎◌, ⊎_elim, inl, inr, set, ◌+◌, List, [], ◌∷◌, ◌++◌, length, take, drop, get_or, slice_get, refl, sym, ap, ◌∙◌, subst, Bool, true, false, not, ◌&&◌, ◌||◌, Option, Some, None, get_or-set_same}
 use Rattle.std.proofs.lemmas.Bool.{and_right, cases_eq}
 use Rattle.std.proofs.lemmas.List.{length-set, take_more, take_all}
@@ -20,7 +20,7 @@ use Rattle.cert_checker.specs.declared.known.Known.TheVariants.{Value, Waits}
 use Rattle.cert_checker.specs.Working.Cases.{Extends, IsKnown, AreAsked, AreKnown, known_of, known_not, known_and, known_or, known_at, known_node}
 use Rattle.cert_checker.specs.Working.Questions.{QuestionParts, IsCase}
 
--- ---- values that are put together
+-- ---- combined values
 
 de_morgan : (b c : Bool) → (b || c) ≡ not (not b && not c)
 de_morgan true c = refl
@@ -40,7 +40,7 @@ module _ (first : ℕ) (decided : List (Option Bool)) where
   and_known v w (Waits l) (Value true) h k = h
   and_known v w (Waits l) (Waits m) h k = h
 
-  -- the same value under another name
+  -- functions with equal values have the same known value
   same_known : (v w : Atom → Bool) (x : Known) → ((atom : Atom) → w atom ≡ v atom) → IsKnown first decided v x → IsKnown first decided w x
   same_known v w (Value b) same h = λ atom e. same atom ∙ h atom e
   same_known v w (Waits k) same h = h
@@ -51,7 +51,7 @@ module _ (first : ℕ) (decided : List (Option Bool)) where
       (not_known (λ atom. not (v atom) && not (w atom)) (known_and (known_not x) (known_not y))
       (and_known (λ atom. not (v atom)) (λ atom. not (w atom)) (known_not x) (known_not y) (not_known v x h) (not_known w y k)))
 
--- a decided test has its value
+-- a decided test has its decided value
 decided_value : (ds : List (Option Bool)) (k : ℕ) (b : Bool) (atom : Atom) → slice_get ds k ≡ Some (Some b) → Extends ds atom → get_or atom k false ≡ b
 decided_value [] k b atom e h = absurd cc
 decided_value (d ∷ ds) k b [] e h = absurd h
@@ -66,7 +66,7 @@ prim_known first ds k (Some b) e = λ atom h. decided_value ds k b atom e h
 
 -- ---- a node of the tables
 
--- a primitive test is in range, and the numbers that a node names are below more
+-- a primitive test is in range; the numbers that a node names are below every number from that of the node on
 pub node_within : (t : TableParts) → AreTables t → (w k : ℕ) (n : TestNode ℕ) → w ≡ t.width → slice_get t.tests k ≡ Some n → IsWithin w n
 node_within t are w k False e h = tt
 node_within t are w k True e h = tt
@@ -79,7 +79,7 @@ pub parts_within : (t : TableParts) → AreTables t → (k m : ℕ) (n : TestNod
 parts_within t are k m n le e = IsTestOver-more k m n le (are.rules.tests_ordered k n e)
 
 module _ (first : ℕ) (t : TableParts) (are : AreTables t) (decided : List (Option Bool)) (width : length decided ≡ t.width) where
-  -- what is known of a node, where it is known of the tests that it names
+  -- what is known of a node, given what is known of the tests that it names
   node_known : (known : List Known) (j : ℕ) (n : TestNode ℕ) → slice_get t.tests j ≡ Some n
       → ((x : ℕ) → Has (test_parts n) x → IsKnown first decided (holds_at t x) (known_of known x)) → IsKnown first decided (holds_at t j) (known_node first decided known n)
   node_known known j n e part =
@@ -96,9 +96,9 @@ module _ (first : ℕ) (t : TableParts) (are : AreTables t) (decided : List (Opt
       by_node (And x y) e part = and_known first decided (holds_at t x) (holds_at t y) (known_of known x) (known_of known y) (part x (inl refl)) (part y (inr (inl refl)))
       by_node (Or x y) e part = or_known first decided (holds_at t x) (holds_at t y) (known_of known x) (known_of known y) (part x (inl refl)) (part y (inr (inl refl)))
 
--- ---- the asked tests, one after the other
+-- ---- evaluating the listed tests in order
 
--- of the first so many it is known
+-- the values of the first `i` tests are known
 pub record IsEvaluating (first : ℕ) (t : TableParts) (decided : List (Option Bool)) (asked : List ℕ) (i : ℕ) (old new : List Known) : Type 0 where
   pub done : AreKnown first t decided (take i asked) new
   pub others : (k : ℕ) → (Has asked k → ⊥) → known_of new k ≡ known_of old k
@@ -113,7 +113,7 @@ module _ (first : ℕ) (t : TableParts) (decided : List (Option Bool)) (asked : 
   part : (x : ℕ) → Has (test_parts node) x → IsKnown first decided (holds_at t x) (known_of now x)
   part x h = e.done x ((closed i k is).1 node at x h)
 
-  -- the next one is one of those that were taken then
+  -- the first `i + 1` tests are the first `i` and the next one
   taken : take (i + 1) asked ≡ take i asked ++ k ∷ []
   taken = take_more asked i k (slice_get_within asked i k is) ∙ ap (λ x. take i asked ++ x ∷ []) (get_or_from_slice_get asked i k k is)
 
@@ -137,24 +137,24 @@ module _ (first : ℕ) (t : TableParts) (decided : List (Option Bool)) (asked : 
 pub evaluating_ends : (first : ℕ) (t : TableParts) (decided : List (Option Bool)) (asked : List ℕ) (i : ℕ) (old new : List Known) → length asked ≤ i → IsEvaluating first t decided asked i old new → AreKnown first t decided asked new
 evaluating_ends first t decided asked i old new past e = subst (λ l. AreKnown first t decided l new) (take_all i asked past) e.done
 
--- ---- two lists of asked tests
+-- ---- two lists of tests
 
 has_or_not : (ks : List ℕ) (k : ℕ) → Has ks k ⊎ (Has ks k → ⊥)
 has_or_not [] k = inr (λ h. h)
 has_or_not (j ∷ ks) k = ⊎_elim (λ e. inl (inl e)) (λ n. ⊎_elim (λ r. inl (inr r)) (λ m. inr (λ h. ⊎_elim n m h)) (has_or_not ks k)) (cases_eq j k)
 
--- what was known stays so where more is told
+-- known values remain known when the values of more tests are added
 known_both : (first : ℕ) (t : TableParts) (decided : List (Option Bool)) (asked more : List ℕ) (old new : List Known) → AreKnown first t decided asked old → AreKnown first t decided more new
     → ((k : ℕ) → (Has more k → ⊥) → known_of new k ≡ known_of old k) → AreKnown first t decided asked new
 known_both first t decided asked more old new was told others k h = ⊎_elim (told k) (λ n. subst (IsKnown first decided (holds_at t k)) (sym (others k n)) (was k h)) (has_or_not more k)
 
--- the same, where its parts have other names
+-- the same for equal arguments
 known_along : (first : ℕ) (t t2 : TableParts) (ds ds2 : List (Option Bool)) (asked asked2 : List ℕ) (known known2 : List Known) → t ≡ t2 → ds ≡ ds2 → asked ≡ asked2 → known ≡ known2 → AreKnown first t ds asked known → AreKnown first t2 ds2 asked2 known2
 known_along first t t2 ds ds2 asked asked2 known known2 e f g h told =
     subst (λ u. AreKnown first u ds2 asked2 known2) e (subst (λ l. AreKnown first t l asked2 known2) f (subst (λ ks. AreKnown first t ds ks known2) g (subst (AreKnown first t ds asked) h told)))
 
--- a case of a question is known where its tests are told: first those that the targets and the pair name, and then those
--- that moves name, in one list
+-- a case of a question is known after its tests are evaluated: first those that the targets and the pair name, then, in
+-- the same list, those that moves name
 pub case_told : (q : QuestionParts) (t : TableParts) (asked begin end : List ℕ) (ds first second : List (Option Bool)) (n : ℕ) (one two three : List Known) (c : Case) → t ≡ q.tables → asked ≡ q.asked → begin ≡ q.turn.begin → end ≡ q.turn.end
     → first ≡ take q.tables.width ds → second ≡ drop q.tables.width ds → n ≡ q.tables.width → AreKnown 0 t first asked one → AreKnown 0 t first begin two → ((k : ℕ) → (Has begin k → ⊥) → known_of two k ≡ known_of one k) → AreKnown n t second end three
     → two ≡ c.begin.items → three ≡ c.end.items → IsCase q.tables q q.asked ds c

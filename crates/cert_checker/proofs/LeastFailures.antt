@@ -1,4 +1,4 @@
--- The least failure among the atoms with some tests decided, by cases on one more test.
+-- The least failure among the atoms that extend the decided tests, by cases on an additional test.
 use Rattle.std.proofs.Common.{◌≡◌, ℕ, zero, suc, ◌<◌, ◌⊎◌, inl, inr, ⊎_elim, List, [], ◌∷◌, length, set as slice_set, refl, sym, ap, ◌∙◌, subst, arith, Bool, true, false, Option, Some, None, Bor, IfSome}
 use Rattle.std.proofs.lemmas.List.{set-set}
 use Rattle.std.specs.Option.{option_or, option_map, option_copied}
@@ -55,7 +55,7 @@ less_trans (true ∷ xs) (false ∷ ys) (z ∷ zs) h k = absurd h
 less_trans (true ∷ xs) (true ∷ ys) (false ∷ zs) h k = absurd k
 less_trans (true ∷ xs) (true ∷ ys) (true ∷ zs) h k = less_trans xs ys zs h k
 
--- of two atoms of one length one is less, or they are one
+-- two atoms of the same length are equal, or one is less than the other
 pub less_total : (xs ys : Atom) → length xs ≡ length ys → IsLess xs ys ⊎ ((xs ≡ ys) ⊎ IsLess ys xs)
 less_total [] [] l = inr (inl refl)
 less_total [] (y ∷ ys) l = absurd (omega (arith, l))
@@ -76,7 +76,7 @@ extends_length (d ∷ ds) [] h = absurd h
 extends_length (None ∷ ds) (b ∷ bs) h = ap suc (extends_length ds bs h)
 extends_length (Some c ∷ ds) (b ∷ bs) h = ap suc (extends_length ds bs h.1)
 
--- with one test more decided there are fewer atoms
+-- each atom that extends the decisions with an additional test extends the original decisions
 extends_before : (ds : List (Option Bool)) (k : ℕ) (b : Bool) (atom : Atom) → IsOpen ds k → Extends (slice_set ds k (Some b)) atom → Extends ds atom
 extends_before [] k b atom undecided h = absurd cc
 extends_before (d ∷ ds) k b [] undecided h = absurd (none d ds k b h)
@@ -89,7 +89,7 @@ extends_before (Some a ∷ ds) zero b (c ∷ atom) undecided h = absurd cc
 extends_before (None ∷ ds) (suc k) b (c ∷ atom) undecided h = extends_before ds k b atom undecided h
 extends_before (Some a ∷ ds) (suc k) b (c ∷ atom) undecided h = (h.0, extends_before ds k b atom undecided h.1)
 
--- and each atom is one of those with the test false, or with the test true
+-- and each atom that extends the original decisions has the additional test false or true
 extends_cases : (ds : List (Option Bool)) (k : ℕ) (atom : Atom) → IsOpen ds k → Extends ds atom → Extends (slice_set ds k (Some false)) atom ⊎ Extends (slice_set ds k (Some true)) atom
 extends_cases [] k atom undecided h = absurd cc
 extends_cases (d ∷ ds) k [] undecided h = absurd h
@@ -99,7 +99,7 @@ extends_cases (Some a ∷ ds) zero (c ∷ atom) undecided h = absurd cc
 extends_cases (None ∷ ds) (suc k) (c ∷ atom) undecided h = extends_cases ds k atom undecided h
 extends_cases (Some a ∷ ds) (suc k) (c ∷ atom) undecided h = ⊎_elim (λ l. inl (h.0, l)) (λ r. inr (h.0, r)) (extends_cases ds k atom undecided h.1)
 
--- ---- where all fail
+-- ---- if all atoms fail
 
 pub least_extends : (ds : List (Option Bool)) → Extends ds (least_of ds)
 least_extends [] = tt
@@ -118,7 +118,7 @@ least_is_least (Some true ∷ ds) (false ∷ bs) h l = let e : true ≡ false = 
 least_is_least (Some true ∷ ds) (true ∷ bs) h l = least_is_least ds bs h.1 l
 
 module _ (P : Atom → Type 0) where
-  -- below a bound the property fails
+  -- the property holds if the atom is below the bound
   abbrev pub Below : Option Atom → Atom → Type 0
   Below bound x = IsBelow bound x → P x
 
@@ -129,7 +129,7 @@ module _ (P : Atom → Type 0) where
     least = λ other h l. absurd (least_is_least ds other h l);
   }
 
-  -- no atom with the decided tests is below a bound that the least of them is not
+  -- if the least atom that extends the decisions is not below the bound, no such atom is
   pub none_below : (ds : List (Option Bool)) (bound : Option Atom) → (IsBelow bound (least_of ds) → ⊥) → IsFirstFailure (Below bound) ds None
   none_below ds None never atom h low = absurd (never tt)
   none_below ds (Some bound) never atom h low =
@@ -147,7 +147,7 @@ module _ (P : Atom → Type 0) where
   below_trans None y x l h = tt
   below_trans (Some v) y x l h = less_trans y x v l h
 
-  -- ---- by cases on one test more, of which the second looks below what the first has found
+  -- ---- by cases on an additional test; the second case searches below the result of the first
 
   lesser_first : (ds : List (Option Bool)) (k : ℕ) (bound o p : Option Atom) → IsOpen ds k → IsFirstFailure (Below bound) (slice_set ds k (Some false)) o → IsFirstFailure (Below (option_or o bound)) (slice_set ds k (Some true)) p → IsFirstFailure (Below bound) ds (option_or p o)
   lesser_first ds k bound None None undecided low high = λ atom h. ⊎_elim (low atom) (high atom) (extends_cases ds k atom undecided h)
@@ -175,7 +175,7 @@ module _ (P : Atom → Type 0) where
   unbounded ds None f = λ atom h. f atom h tt
   unbounded ds (Some x) f = record { within = f.within; fails = λ p. f.fails (λ l. p); least = λ other h l. f.least other h l tt }
 
--- ---- one test more is decided, and then open again
+-- ---- an additional test is decided, and then open again
 
 pub decided_fewer : (ds : List (Option Bool)) (k : ℕ) (b : Bool) → IsOpen ds k → open_count (slice_set ds k (Some b)) < open_count ds
 decided_fewer [] k b undecided = absurd cc
@@ -198,7 +198,7 @@ restored ds low high k undecided e f =
 pub waits_open : (P : Atom → Type 0) (ds now : List (Option Bool)) (s : State) (k : ℕ) → now ≡ ds → s ≡ Waits k → IsState P now s → IsOpen ds k
 waits_open P ds now s k e w told = subst (IsState P ds) w (subst (λ l. IsState P l s) e told)
 
--- ---- what both halves of a search give
+-- ---- the result of both halves of a search
 
 options_or : {X Y : Type 0} (f : X → Y) (o p : Option X) → option_map f (option_or o p) ≡ option_or (option_map f o) (option_map f p)
 options_or f None p = refl
@@ -215,13 +215,13 @@ second_half P items ds first k bound own low high e f told =
     subst (λ l. IsFirstFailure (Below P (option_or (option_map items low) bound)) l (option_map items high)) (ap (λ l. slice_set l k (Some true)) e ∙ set-set ds k (Some false) (Some true))
     (subst (λ b. IsFirstFailure (Below P b) (slice_set first k (Some true)) (option_map items high)) f told)
 
--- ---- the bound of the second half: what the first has found, or else the old one
+-- ---- the bound of the second half: the result of the first, or the old bound
 
 pub or_bound : {V : Type 0} (items : V → Atom) (r : Option (Bor V)) (low : Option V) (bound : Option (Bor V)) → option_copied r ≡ low → option_map (λ (b : Bor V). items b.now) (option_or r bound) ≡ option_or (option_map items low) (option_map (λ (b : Bor V). items b.now) bound)
 or_bound {V} items None low bound e = ap (λ o. option_or (option_map items o) (option_map (λ (b : Bor V). items b.now) bound)) e
 or_bound {V} items (Some x) low bound e = ap (λ o. option_or (option_map items o) (option_map (λ (b : Bor V). items b.now) bound)) e
 
--- it has as many values
+-- a failure has one value for each test
 pub failure_long : (P : Atom → Type 0) {V : Type 0} (items : V → Atom) (ds : List (Option Bool)) (o : Option V) → IsFirstFailure P ds (option_map items o) → IfSome o (λ v. length (items v) ≡ length ds)
 failure_long P items ds None f = tt
 failure_long P items ds (Some v) f = extends_length ds (items v) f.within

@@ -1,4 +1,4 @@
--- Ascending lists of numbers with the same members are one, so that a listed pair is found by its numbers.
+-- Ascending lists of numbers with the same members are equal, so a listed pair is found by its numbers.
 use Rattle.std.proofs.Common.{◌≡◌, ◌↔◌, ℕ, ◌<◌, inl, inr, ⊎_elim, List, [], ◌∷◌, length, refl, sym, subst, arith, true, nat_eq}
 use mathlib.Core.Path.{ap₂}
 use Rattle.std.specs.Cmp.Lexicographic.{pointwise}
@@ -11,7 +11,7 @@ use Rattle.term_nodes.proofs.Parts.{below_has}
 use Rattle.cert_steps.specs.NodeTables.{TableParts, AreTables, term_at, nodes_in}
 use Rattle.term_nodes.proofs.TermTrees.{one_id_a_tree}
 
--- lists of numbers that are compared place by place
+-- lists of numbers that agree at each place are equal
 pub same_pointwise : (ks ls : List ℕ) → pointwise nat_eq ks ls ≡ true → ks ≡ ls
 same_pointwise [] [] e = refl
 same_pointwise [] (l ∷ ls) e = absurd cc
@@ -43,7 +43,7 @@ ascending_same (x ∷ ks) (y ∷ ls) a b same =
         (λ r. ⊎_elim (λ s. s) (λ q. let up : y < x = ascending_first y ls b x r in let down : x < y = ascending_first x ks a y q in absurd (omega arith)) ((same y).1 (inl refl)))
         ((same x).0 (inl refl))
 
--- sets of numbers of terms are told apart by their terms
+-- sets of numbers with the same terms are equal
 module _ (t : TableParts) (are : AreTables t) where
   number_has : (ks ls : List ℕ) → are_below (length t.terms) ks ≡ true → are_below (length t.terms) ls ≡ true → SameMembers (terms_of (nodes_in t) ks) (terms_of (nodes_in t) ls) → (k : ℕ) → Has ks k → Has ls k
   number_has ks ls low lower same k h =

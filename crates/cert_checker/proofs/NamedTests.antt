@@ -1,4 +1,4 @@
--- The tests that forbidden moves and pairs name, as they are gathered into sets.
+-- The sets of tests that forbidden moves and pairs name.
 use Rattle.std.proofs.Common.{◌≡◌, ◌⊎◌, ◌↔◌, inl, inr, ⊎_elim, ℕ, List, [], ◌∷◌, map, Option, Some, None, refl, sym, ap, ◌∙◌, subst}
 use Rattle.std.specs.List.{filter_map, cons_option}
 use Rattle.std.specs.BTreeSet.{BTreeSet, InsertsAll}
@@ -9,7 +9,7 @@ use Rattle.certificate.specs.PairParts.{PairParts}
 use Rattle.cert_checker.proofs.AskedTests.{extended_has}
 
 module _ {X Y : Type 0} (f : X → Option Y) where
-  -- what is made of a member is a member of what is made of all, and there are no others
+  -- `filter_map` contains the image of each member, and nothing else
   filter_map_has : (xs : List X) (x : X) (y : Y) → Has xs x → f x ≡ Some y → Has (filter_map f xs) y
   filter_map_has [] x y h e = absurd h
   filter_map_has (z ∷ xs) x y h e = go (f z) refl h (λ r. filter_map_has xs x y r e)
@@ -26,11 +26,11 @@ module _ {X Y : Type 0} (f : X → Option Y) where
       go None s m rest = rest m
       go (Some w) s m rest = ⊎_elim (λ e. (z, inl refl, s ∙ ap Some e)) rest m
 
--- a set to which numbers were added
+-- a set after numbers were added to it
 added_has : (old new : BTreeSet ℕ) (xs : List ℕ) → InsertsAll nat_cmp old xs new → (k : ℕ) → Has new.keys k ↔ (Has old.keys k ⊎ Has xs k)
 added_has old new xs made k = extended_has old.keys xs new.keys made.0 k
 
--- of each of these, the set has what h gives
+-- the set contains the image of each element under `h`
 module _ (h : ℕ × ℕ → ℕ) (old new : BTreeSet ℕ) (fs : List (ℕ × ℕ)) (none : old.keys ≡ []) (made : InsertsAll nat_cmp old (map h fs) new) where
   pub move_named : (f : ℕ × ℕ) → Has fs f → Has new.keys (h f)
   move_named f m = (added_has old new (map h fs) made (h f)).1 (inr (map_has h fs f m))
@@ -38,7 +38,7 @@ module _ (h : ℕ × ℕ → ℕ) (old new : BTreeSet ℕ) (fs : List (ℕ × �
   pub named_by_moves : (k : ℕ) → Has new.keys k → (f : ℕ × ℕ) × Has fs f × (h f ≡ k)
   named_by_moves k m = ⊎_elim (λ was. absurd (subst (λ (ks : List ℕ). Has ks k) none was)) (λ r. has_map h fs k r) ((added_has old new (map h fs) made k).0 m)
 
--- a set that has tests of pairs too
+-- a set that also contains the tests of the pairs
 module _ (old new : BTreeSet ℕ) (ps : List PairParts) (made : InsertsAll nat_cmp old (filter_map (λ (p : PairParts). p.test) ps) new) where
   pub named_stays : (k : ℕ) → Has old.keys k → Has new.keys k
   named_stays k m = (added_has old new (filter_map (λ (p : PairParts). p.test) ps) made k).1 (inl m)

@@ -1,4 +1,4 @@
--- Marks of the terms of which steps are made, and the tests that forbidden moves name, as they are gathered.
+-- Marks of the terms whose steps are computed, and the sets of tests that forbidden moves name.
 use Rattle.std.proofs.Common.{◌≡◌, ◌⊎◌, ◌<◌, ◌≤◌, ◌+◌, ℕ, ⊎_elim, List, ◌++◌, take, drop, length, slice_get, get_or, Bool, Some, arith, subst, sym, ap, ◌∙◌}
 use Rattle.std.proofs.Math.Seq.{take-append_seam}
 use Rattle.std.proofs.lemmas.Option.{slice_get_within, slice_get-get_or, get_or_from_slice_get}
@@ -10,7 +10,7 @@ use Rattle.cert_steps.specs.NodeTables.{TableParts}
 use Rattle.cert_steps.specs.Marks.{IsMarked, IsClosure}
 use Rattle.cert_checker.specs.Working.Places.{AreNeeded}
 
--- those of short hypotheses are marked, and those of the first n pairs
+-- the terms of the short hypotheses and of the first n pairs are marked
 pub record AreGathered (numbers : List ℕ) (ps : List PairParts) (n : ℕ) (marks : List Bool) : Type 0 where
   pub shorts : (k : ℕ) → Has numbers k → IsMarked marks k
   pub left : (j : ℕ) (p : PairParts) (k : ℕ) → j < n → slice_get ps j ≡ Some p → Has p.left k → IsMarked marks k
@@ -30,7 +30,7 @@ gathered_more shorts ps n marks mid new p is g keep lefts keeps rights = record 
     same : (j : ℕ) (r : PairParts) → slice_get ps j ≡ Some r → j ≡ n → r ≡ p
     same j r at e = let f : Some r ≡ Some p = sym at ∙ ap (slice_get ps) e ∙ is in cc
 
--- once all pairs are gone through, and the marks closed, all that are needed are there
+-- after all pairs were processed and the marks were closed, all needed terms are marked
 pub gathered_ends : (t : TableParts) (c : CertParts) (shorts : List ℕ) (n : ℕ) (marks new : List Bool) → length c.pairs ≤ n → AreGathered shorts c.pairs n marks → IsClosure t marks new → AreNeeded t c shorts new
 gathered_ends t c shorts n marks new all g made = record {
   closed = made.closed;
@@ -39,14 +39,14 @@ gathered_ends t c shorts n marks new all g made = record {
   shorts = λ k h. made.kept k (g.shorts k h);
 }
 
--- what holds of the element at each place holds of each member
+-- a property of the element at each place holds for each member
 pub each_member : {X : Type 0} (P : X → Type 0) (xs : List X) (d : X) → ((j : ℕ) → j < length xs → P (get_or xs j d)) → (x : X) → Has xs x → P x
 each_member P xs d each x h = let at = place_of_member xs x h in subst P (get_or_from_slice_get xs at.0 x d at.1) (each at.0 (slice_get_within xs at.0 x at.1))
 
--- what stands at a place is a member
+-- the element at a place is a member
 pub member_at : {X : Type 0} (xs : List X) (i : ℕ) (d : X) → i < length xs → Has xs (get_or xs i d)
 member_at xs i d low = has_at xs i (get_or xs i d) (slice_get-get_or xs i d low)
 
--- marks that a slice of them was written into
+-- the marks after a slice of them was overwritten
 pub written_back : (n : ℕ) (new marks : List Bool) → length new ≡ n → take n (new ++ drop (length new) marks) ≡ new
 written_back n new marks e = ap (λ m. take m (new ++ drop (length new) marks)) (sym e) ∙ take-append_seam new (drop (length new) marks)

@@ -1,4 +1,4 @@
--- Tests to be decided next, and what is known where there is none.
+-- The test to decide next, and what is known if no such test exists.
 use Rattle.std.proofs.Common.{◌≡◌, ℕ, ◌+◌, ◌<◌, inr, ⊎_elim, List, [], ◌∷◌, length, get_or, take, refl, ◌∙◌, subst, Bool, Option, Some, None}
 use Rattle.std.specs.Option.{MatchOption}
 use Rattle.std.proofs.lemmas.List.{take_more}
@@ -14,7 +14,7 @@ use Rattle.cert_checker.specs.Working.Cases.{known_of, known_test}
 use Rattle.cert_checker.specs.Working.Questions.{QuestionParts, IsWaited}
 use Rattle.cert_checker.specs.Working.Matching.{IsWaitedBy, AreTestsSettled}
 
--- what waits is the guard of a term
+-- the guard of a term waits
 pub guard_waits : (known : List Known) (es : List (ℕ × ℕ)) (term g k : ℕ) → guard_of es term ≡ Some g → known_of known g ≡ WaitsFor k → IsWaitedBy known es k
 guard_waits known es term g k at e = ((term, g), guard_member term es g at, e)
 
@@ -28,7 +28,7 @@ module _ (q : QuestionParts) (c : Case) where
       go None is w = absurd cc
       go (Some g) is w = (g, inr (inr (p, h, is), w))
 
--- one pair more has a test with a value
+-- one additional pair has a test with a value
 pub pairs_more : (known : List Known) (ps : List PairParts) (i : ℕ) (p : PairParts) (o : Option ℕ) (W : ℕ → Type 0) → i < length ps → p ≡ get_or ps i p → (b : Bool) × (known_test known p.test ≡ Value b) → MatchOption o (AreTestsSettled known (take i ps)) W → MatchOption o (AreTestsSettled known (take (i + 1) ps)) W
 pairs_more known ps i p (Some k) W low is value h = h
 pairs_more known ps i p None W low is value h = λ r m.

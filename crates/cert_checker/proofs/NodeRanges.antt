@@ -8,14 +8,14 @@ use Rattle.kat_model.proofs.Places.{place_of_member}
 use Rattle.cert_checker.specs.Working.Ranges.{IsFirstOut}
 
 module _ {N : Type 0} (make : ℕ → N) (n : ℕ) where
-  -- the node has a number that is out of range, or none
+  -- the node has a number out of range; the node has no number out of range
   abbrev pub IsOut : N → Type 0
   IsOut x = (i : ℕ) × (x ≡ make i) × (n ≤ i)
 
   abbrev pub IsIn : N → Type 0
   IsIn x = (i : ℕ) → x ≡ make i → i < n
 
-  -- where none is out, all are in range; otherwise the first that is out is told
+  -- if no node is out of range, all are in range; otherwise the result is the first node out of range
   pub first_told : (nodes : List N) (r : Option ℕ) → MatchOption r (AllWithin IsIn nodes 0 (length nodes)) (λ k. (k < length nodes) × HoldsAt IsOut nodes k × AllWithin IsIn nodes 0 k) → MatchOption r ((i : ℕ) → Has nodes (make i) → i < n) (λ k. IsFirstOut make n nodes k)
   first_told nodes None h = λ i m.
       let at = place_of_member nodes (make i) m in

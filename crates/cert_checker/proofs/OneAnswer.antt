@@ -1,4 +1,4 @@
--- Evidence has one answer: reasons that stand first are one.
+-- Evidence has one answer: two first reasons are equal.
 use Rattle.std.proofs.Common.{◌≡◌, ℕ, suc, ◌<◌, ◌⊎◌, inl, inr, ⊎_elim, [], length, refl, sym, ap, ◌∙◌, arith, subst, Some, None}
 use Rattle.std.specs.Option.{MatchOption}
 use Rattle.kat_model.specs.Strings.{GuardedString}
@@ -41,7 +41,7 @@ use Rattle.cert_checker.proofs.LeastFailures.{less_total}
 three_ways : (m n : ℕ) → (m < n) ⊎ ((m ≡ n) ⊎ (n < m))
 three_ways m n = grind arith
 
--- of two turns one is earlier, or they are one
+-- two turns are equal, or one is earlier than the other
 pub turns_total : (s t : Turn) → (s.stage ≡ t.stage → length s.atom ≡ length t.atom) → (s.stage ≡ t.stage → s.action ≡ t.action → length s.to ≡ length t.to) → IsEarlier s t ⊎ ((s ≡ t) ⊎ IsEarlier t s)
 turns_total s t long far =
     ⊎_elim
@@ -83,7 +83,7 @@ turns_total s t long far =
         (λ r. ⊎_elim (λ number. by_atom stage number (less_total s.atom t.atom (long stage))) (λ l. inr (inr (inr (sym stage, inl l)))) r)
         h
 
--- how long the atom of a reason is
+-- the length of the atom of a reason
 atom_length : (q : ProblemParts) (c : CertParts) (r : Reason) → FailsBy q c r → ((turn_of r).stage < 3) × ((turn_of r).atom ≡ []) ⊎ ((turn_of r).stage ≡ 3) × (length (turn_of r).atom ≡ q.tests)
 atom_length q c (TestNode k) f = inl (omega arith, refl)
 atom_length q c (TermNode k) f = inl (omega arith, refl)
@@ -102,7 +102,7 @@ same_length q c r s f g e =
     (λ a. ⊎_elim (λ b. absurd (omega (arith, a.0, b.0, e))) (λ b. a.1 ∙ sym b.1) (atom_length q c s g))
     (atom_length q c r f)
 
--- a certificate fails by steps or by moves, as its style is
+-- a certificate fails either by steps or by moves, depending on its style
 no_step : (q : ProblemParts) (c : CertParts) (k l : ℕ) (a b : Atom) (m n : ℕ) (to : Atom) → FailsBy q c (Missing k a m) → FailsBy q c (MissingTo l b n to) → ⊥
 no_step q c k l a b m n to f g = go c.style f.4 g.5
   where
@@ -111,7 +111,7 @@ no_step q c k l a b m n to f g = go c.style f.4 g.5
     go UpTo x y = y tt
     go Under x y = x tt
 
--- how long the atom is that an action leads to
+-- the length of the atom that an action leads to
 pub to_length : (q : ProblemParts) (c : CertParts) (r s : Reason) → FailsBy q c r → FailsBy q c s → (turn_of r).stage ≡ (turn_of s).stage → (turn_of r).action ≡ (turn_of s).action → length (turn_of r).to ≡ length (turn_of s).to
 to_length q c (MissingTo k a m to) (MissingTo l b n also) f g e h = f.4 ∙ sym g.4
 to_length q c (MissingTo k a m to) (Missing l b n) f g e h = absurd (no_step q c l k b a n m to g f)
@@ -132,7 +132,7 @@ to_length q c r (HypBroken i j k) f g e h = absurd g
 to_length q c r EndsAgree f g e h = absurd g
 to_length q c r s f g e h = refl
 
--- reasons of a certificate with one turn are one
+-- reasons of a certificate with the same turn are equal
 one_turn : (q : ProblemParts) (c : CertParts) (r s : Reason) → FailsBy q c r → FailsBy q c s → turn_of r ≡ turn_of s → r ≡ s
 one_turn q c (TestNode k) (TestNode l) f g e = ap TestNode (ap (λ (t : Turn). t.number) e)
 one_turn q c (TermNode k) (TermNode l) f g e = ap TermNode (ap (λ (t : Turn). t.number) e)
@@ -159,7 +159,7 @@ one_turn q c r s f g e =
     let action : (turn_of r).action ≡ (turn_of s).action = ap (λ (t : Turn). t.action) e in
     absurd cc
 
--- a certificate has one first reason
+-- a certificate has at most one first reason
 pub one_first : (q : ProblemParts) (c : CertParts) (r s : Reason) → FailsFirstBy q c r → FailsFirstBy q c s → r ≡ s
 one_first q c r s f g =
     ⊎_elim
@@ -167,10 +167,10 @@ one_first q c r s f g =
     (λ k. ⊎_elim (λ e. one_turn q c r s f.fails g.fails e) (λ l. absurd (f.first s l g.fails)) k)
     (turns_total (turn_of r) (turn_of s) (same_length q c r s f.fails g.fails) (to_length q c r s f.fails g.fails))
 
--- ---- what fails is not accepted
+-- ---- a failing certificate is not accepted
 
 module _ (q : ProblemParts) (c : CertParts) where
-  -- a pair under a test is one of the sets
+  -- the sets of a pair under a test are a listed pair of sets
   among : (p : TestedPair) → Has (tested_pairs c) p → Has (set_pairs c) p.sets
   among p h =
       let m = has_map (tested_pair_of (nodes_of c)) c.pairs p h in
@@ -231,7 +231,7 @@ shown_so q (Equal c) h = by_style c.style h.pairs
     by_style Under shown = accepted_under_same q (short_hyps q) (long_hyps q) (tested_pairs c) (split_by_degree q) shown
 shown_so q (Different x) h = refuted_not_same q x h
 
--- a string with a finding refutes, or the finding has its reason
+-- a string with a finding refutes the problem, or the finding has a reason
 pub string_told : (q : ProblemParts) (x : GuardedString) (f : Finding) → IsFinding q x f → MatchOption (finding_reason f) (Refutes q x) (λ r. IsFoundBy q (Different x) r)
 string_told q x (FoundRefutes b) is = refuted_by q x b is
 string_told q x (FoundShape k) is = (FoundShape k, is, refl)

@@ -1,4 +1,4 @@
--- The first reason of one turn, from what is known of the pairs gone through: outputs or one action.
+-- The first reason of one turn, from what is known of the processed pairs: of outputs or of one action.
 use Rattle.std.proofs.Common.{◌≡◌, ◌↔◌, ℕ, zero, suc, ◌+◌, ◌<◌, ◌⊎◌, inl, inr, ⊎_elim, List, [], ◌∷◌, ◌++◌, take, drop, length, get_or, slice_get, refl, sym, ap, ◌∙◌, subst, arith, add-one, Option, Some, None}
 use Rattle.std.specs.Option.{option_map}
 use Rattle.std.proofs.lemmas.Option.{slice_get_within, slice_get_read, slice_get-map}
@@ -19,7 +19,7 @@ use Rattle.cert_checker.specs.Working.Cases.{Extends, IsFirstFailure, undecided}
 use Rattle.cert_checker.specs.Working.Places.{IsAmong, IsFirstOf, TurnHolds, turn_number, reason_at}
 use Rattle.cert_checker.proofs.Halves.{less_append, less_behind}
 
--- values with no test decided are any of that many
+-- every atom of length n extends n undecided tests
 pub undecided_extends : (n : ℕ) (x : Atom) → length x ≡ n → Extends (undecided n) x
 undecided_extends zero [] e = tt
 undecided_extends zero (b ∷ bs) e = absurd (omega (arith, e))
@@ -32,14 +32,14 @@ undecided_length zero (b ∷ bs) h = absurd h
 undecided_length (suc n) [] h = absurd h
 undecided_length (suc n) (b ∷ bs) h = ap suc (undecided_length n bs h)
 
--- an earlier turn of one stage and action has a lesser number, or at one number lesser atoms
+-- an earlier turn of the same stage and action has a lesser number, or the same number and lesser atoms
 earlier_parts : (s t : Turn) → s.stage ≡ t.stage → s.action ≡ t.action → IsEarlier s t → (s.number < t.number) ⊎ ((s.number ≡ t.number) × (IsLess s.atom t.atom ⊎ ((s.atom ≡ t.atom) × IsLess s.to t.to)))
 earlier_parts s t e a h =
     ⊎_elim (λ l. absurd (omega (arith, l, e)))
     (λ k. ⊎_elim inl (λ l. inr (l.0, ⊎_elim inl (λ m. ⊎_elim (λ n. absurd (omega (arith, n, a))) (λ n. inr (m.0, n.1)) m.1) l.1)) k.1)
     h
 
--- the turn of a reason of a place
+-- the turn of the reason of a place
 pub place_turn : (s : Style) (k : ℕ) (atom : Atom) (o : Option ℕ) (to : Atom)
     → ((turn_of (reason_at s k atom o to)).stage ≡ 3) × ((turn_of (reason_at s k atom o to)).number ≡ k) × ((turn_of (reason_at s k atom o to)).atom ≡ atom) × ((turn_of (reason_at s k atom o to)).action ≡ turn_number o)
 place_turn Plain k atom None to = (refl, refl, refl, refl)
@@ -50,11 +50,11 @@ place_turn UpTo k atom (Some a) to = (refl, refl, refl, sym (add-one a))
 place_turn Under k atom (Some a) to = (refl, refl, refl, sym (add-one a))
 
 module _ (q : ProblemParts) (c : CertParts) (action : Option ℕ) where
-  -- the pair at the place holds at each two atoms, of its outputs or of the action
+  -- the pair at the place holds at all pairs of atoms, for its outputs or for the action
   abbrev pub HoldsAtEach : ℕ → Type 0
   HoldsAtEach k = (p : TestedPair) → slice_get (tested_pairs c) k ≡ Some p → (atom to : Atom) → length atom ≡ q.tests → length to ≡ q.tests → TurnHolds c.style q c p action atom to
 
-  -- it holds at the first and the second half of the values
+  -- the property holds at the first and the second half of the values
   abbrev pub HoldsAtHalves : TestedPair → Atom → Type 0
   HoldsAtHalves p x = TurnHolds c.style q c p action (take q.tests x) (drop q.tests x)
 
@@ -75,7 +75,7 @@ module _ (q : ProblemParts) (c : CertParts) (action : Option ℕ) where
       subst (λ z. TurnHolds c.style q c z action atom to) (one_pair k k r p refl h is)
       (halves_hold p atom to l (f (atom ++ to) (both_extend atom to l m)))
 
-  -- what holds of a turn is what is asked of its outputs, its step or its move
+  -- the condition of a turn is the condition on its outputs, its step or its move
   outputs_of : (s : Style) (o : Option ℕ) (p : TestedPair) (atom to : Atom) → turn_number o ≡ 0 → TurnHolds s q c p o atom to → OutputsHold s q p atom
   outputs_of s None p atom to e h = h
   outputs_of s (Some a) p atom to e h = absurd (omega (arith, e))
@@ -151,7 +151,7 @@ module _ (q : ProblemParts) (c : CertParts) (action : Option ℕ) where
     place_fails UpTo e (Some a) below never = (p, is, front_wide, omega arith, λ h. never (turn_from_step c.style a (λ u. absurd cc) h))
     place_fails Under e (Some a) below never = (p, is, front_wide, omega arith, back_wide, λ h. never (turn_from_move c.style a e h))
 
-    -- and by none that stands before
+    -- and by no earlier reason
     whole : front ++ back ≡ x
     whole = take-append-drop q.tests x
 
@@ -198,14 +198,14 @@ module _ (q : ProblemParts) (c : CertParts) (action : Option ℕ) where
     pub first_fails : IsFirstOf q c (λ n. n ≡ turn_number action) (Some (reason_at c.style k (take q.tests x) action (drop q.tests x)))
     first_fails = ((turn.0, turn.3), place_fails c.style refl action low f.fails, none)
 
--- the pair that is gone through
+-- the pair that the loop visits
 pub pair_at : (ps items : List PairParts) (k : ℕ) (p : PairParts) → items ≡ ps → k < length items → p ≡ get_or items k p → slice_get ps k ≡ Some p
 pair_at ps items k p e low is = ap (λ (l : List PairParts). slice_get l k) (sym e) ∙ slice_get_read items (length items) k p refl low is
 
 pub tested_at : (c : CertParts) (k : ℕ) (p : PairParts) → slice_get c.pairs k ≡ Some p → slice_get (tested_pairs c) k ≡ Some (tested_pair_of (nodes_of c) p)
 tested_at c k p e = slice_get-map (tested_pair_of (nodes_of c)) c.pairs k ∙ ap (option_map (tested_pair_of (nodes_of c))) e
 
--- turns named in another way
+-- an equivalent description of the turns gives the same first reason
 pub first_of_same : (q : ProblemParts) (c : CertParts) (T U : ℕ → Type 0) (o : Option Reason) → ((n : ℕ) → T n ↔ U n) → IsFirstOf q c T o → IsFirstOf q c U o
 first_of_same q c T U None same f = λ s a. f s (a.0, (same (turn_of s).action).1 a.1)
 first_of_same q c T U (Some r) same f = ((f.0.0, (same (turn_of r).action).0 f.0.1), f.1, λ s a. f.2 s (a.0, (same (turn_of s).action).1 a.1))

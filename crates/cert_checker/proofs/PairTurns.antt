@@ -1,4 +1,4 @@
--- What a question about a pair says of the certificate, in each style.
+-- What a question about a pair means for the certificate, in each style.
 use Rattle.std.proofs.Common.{◌≡◌, ◌↔◌, ℕ, ◌<◌, ◌≤◌, ◌+◌, inl, inr, ⊎_elim, List, [], ◌∷◌, map, take, drop, length, refl, sym, ap, ◌∙◌, subst, arith, Bool, true, false, cond, Option, Some, None}
 use mathlib.Core.Path.{ap₂}
 use Rattle.std.specs.Bool.{IsTrue}
@@ -78,16 +78,16 @@ untested_all nodes (p ∷ ps) atom none = go p.test (none p (inl refl)) (unteste
     go None e rest = ap (λ l. record { left = terms_of nodes p.left; right = terms_of nodes p.right } ∷ l) rest
     go (Some k) e rest = absurd cc
 
--- ---- what is asked of two sets
+-- ---- the condition on two sets
 
--- the empty product under one condition and under another make one set where the conditions are the same
+-- if the empty product under one condition and under another give the same set, the conditions are equal
 same_condition : (b d : Bool) → SameMembers (cond b (one ∷ []) []) (cond d (one ∷ []) []) → b ≡ d
 same_condition true true s = refl
 same_condition false false s = refl
 same_condition true false s = absurd ((s one).0 (inl refl))
 same_condition false true s = absurd ((s one).1 (inl refl))
 
--- with no pairs and no universal term only sets with the same members are congruent
+-- with no pairs and no universal term, only sets with the same members are congruent
 pub outputs_told : (t : TableParts) (left right : List (ℕ × ℕ)) (f g : Atom → Bool) → StandFor t left (λ atom. cond (f atom) (one ∷ []) []) → StandFor t right (λ atom. cond (g atom) (one ∷ []) []) → (atom to : Atom)
     → AreMatchedIn (nodes_in t) UpTo None [] (chosen t left atom) (chosen t right atom) to ↔ (f atom ≡ g atom)
 outputs_told t left right f g own other atom to = (forth, back)
@@ -106,7 +106,7 @@ outputs_told t left right f g own other atom to = (forth, back)
         (subst (λ b. SameMembers (chosen t left atom) (cond b (one ∷ []) [])) e (own.same atom))
         (same_members_sym (chosen t right atom) (cond (g atom) (one ∷ []) []) (other.same atom)))
 
--- a property that holds where another does has the same first failure
+-- equivalent properties have the same first failure
 same_failure : (P Q : Atom → Type 0) (ds : List (Option Bool)) (o : Option Atom) → ((x : Atom) → P x ↔ Q x) → IsFirstFailure P ds o → IsFirstFailure Q ds o
 same_failure P Q ds None same f = λ x h. (same x).0 (f x h)
 same_failure P Q ds (Some x) same f = record {
@@ -124,17 +124,17 @@ both_trans x y = ((λ a. y.0 (x.0 a)), (λ c. x.1 (y.1 c)))
 pub by_path : {A B : Type 0} → A ≡ B → A ↔ B
 by_path e = ((λ h. subst (λ (P : Type 0). P) e h), (λ h. subst (λ (P : Type 0). P) (sym e) h))
 
--- the question of a turn about what two sets lead to
+-- the question of a turn about the targets of two sets
 abbrev pub question_of : TableParts → TurnParts → Option ℕ → List (ℕ × ℕ) → List (ℕ × ℕ) → List ℕ → QuestionParts
 question_of t turn own left right asked = record { tables = t; turn = turn; own = own; left = left; right = right; asked = asked }
 
 module _ (p : PassParts) (pass : IsPass p) where
-  -- what is asked of two sets at an atom, and at the atom that an action leads to
+  -- the condition on two sets at an atom and at the atom that an action leads to
   abbrev IsAskedAt : Option ℕ → List Term → List Term → Atom → Atom → Type 0
   IsAskedAt None es fs atom to = set_out es atom ≡ set_out fs atom
   IsAskedAt (Some a) es fs atom to = AreMatchedIn (nodes_in p.tables) p.cert.style (option_map (term_at p.tables) p.universal) p.cert.pairs (set_next es atom a) (set_next fs atom a) to
 
-  -- so a question asks about targets that stand for what the sets lead to
+  -- the question about targets that stand for what the sets lead to is equivalent to the condition on the sets
   matched_told : (o : Option ℕ) (left right : List (ℕ × ℕ)) (es fs : List Term) → StandFor p.tables left (set_leads_to o es) → StandFor p.tables right (set_leads_to o fs) → (atom to : Atom)
       → AreMatchedIn (nodes_in p.tables) (option_map_or (λ a. p.cert.style) o UpTo) (option_map (term_at p.tables) (option_map_or (λ a. p.universal) o None)) (option_map_or (λ a. p.cert.pairs) o []) (chosen p.tables left atom) (chosen p.tables right atom) to ↔ IsAskedAt o es fs atom to
   matched_told None left right es fs own other atom to = outputs_told p.tables left right (set_out es) (set_out fs) own other atom to
@@ -144,13 +144,13 @@ module _ (p : PassParts) (pass : IsPass p) where
         (same_members_sym (chosen p.tables left atom) (set_next es atom a) (own.same atom)) (same_members_sym (chosen p.tables right atom) (set_next fs atom a) (other.same atom)) m),
   )
 
-  -- so it is in a turn
+  -- the same in a turn
   pub matched_in_turn : (turn : TurnParts) → IsTurn p turn → (es fs : List Term) (to : Atom)
       → AreMatchedIn (nodes_in p.tables) turn.style (option_map (term_at p.tables) turn.universal) turn.pairs es fs to
       ≡ AreMatchedIn (nodes_in p.tables) (option_map_or (λ a. p.cert.style) turn.action UpTo) (option_map (term_at p.tables) (option_map_or (λ a. p.universal) turn.action None)) (option_map_or (λ a. p.cert.pairs) turn.action []) es fs to
   matched_in_turn turn is es fs to = λ i. AreMatchedIn (nodes_in p.tables) (is.style i) (option_map (term_at p.tables) (is.universal i)) (is.pairs i) es fs to
 
-  -- in a style without tests no pair has one
+  -- in a style without tests no pair has a test
   none_plain : p.cert.style ≡ Plain → (r : PairParts) → Has p.cert.pairs r → r.test ≡ None
   none_plain e r h = subst (λ z. HasItsTest z (length p.cert.test_nodes) r.test) e (pass.cert.pairs r h).test
 
@@ -174,14 +174,14 @@ module _ (p : PassParts) (pass : IsPass p) where
     matched_under e = in_style Under e ∙ ap (λ ps. IsCongruent (compared Under p.problem).universal (pairs_at ps to) es fs) (pairs_kept p.problem p.cert pass.cert p.tables pass.nodes)
 
   module _ (r : PairParts) (listed : Has p.cert.pairs r) where
-    -- the test of a pair is one of the tables
+    -- the test of a pair is a test of the tables
     pub test_in_tables : (k : ℕ) → r.test ≡ Some k → IsTest p.tables k
     test_in_tables k e = IsPrefix-within p.cert.test_nodes p.tables.tests k pass.nodes.nodes.tests (test_there p.problem p.cert pass.cert p.tables pass.nodes p.cert.style (length p.cert.test_nodes) r.test (pass.cert.pairs r listed).test k e)
 
     true_without : r.test ≡ None → (atom : Atom) → truth (test_of (nodes_of p.cert) r.test) atom ≡ true
     true_without e atom = ap (λ o. truth (test_of (nodes_of p.cert) o) atom) e
 
-    -- what a style asks of the sets of the pair
+    -- the condition of a style on the sets of the pair
     asked_told : (s : Style) → p.cert.style ≡ s → (o : Option ℕ) (atom to : Atom)
         → (IsTrue (truth (test_of (nodes_of p.cert) r.test) atom) × IsAllowed (counted_short s p.problem) o atom to → IsAskedAt o (terms_of (nodes_of p.cert) r.left) (terms_of (nodes_of p.cert) r.right) atom to)
         ↔ TurnHolds s p.problem p.cert (tested_pair_of (nodes_of p.cert) r) o atom to
@@ -199,7 +199,7 @@ module _ (p : PassParts) (pass : IsPass p) where
         ((λ h test allowed. same.0 (h (test, allowed))), (λ h both. same.1 (h both.0 both.1)))
 
     module _ (turn : TurnParts) (is : IsTurn p turn) (left right : List (ℕ × ℕ)) (asked : List ℕ) where
-      -- the question about the pair counts where its test is true and the move is allowed
+      -- the question about the pair counts if and only if the pair's test is true and the move is allowed
       counts_told : (atom to : Atom) → Counts p.tables (question_of p.tables turn r.test left right asked) atom to ↔ (IsTrue (truth (test_of (nodes_of p.cert) r.test) atom) × IsAllowed (counted_short p.cert.style p.problem) turn.action atom to)
       counts_told atom to = (
         (λ h. (sym (same atom) ∙ h.own, (is.forbidden.mean atom to).0 h.free)),
@@ -209,7 +209,7 @@ module _ (p : PassParts) (pass : IsPass p) where
           same : (atom : Atom) → test_holds p.tables r.test atom ≡ truth (test_of (nodes_of p.cert) r.test) atom
           same atom = ap (λ b. truth b atom) (test_kept p.problem p.cert pass.cert p.tables pass.nodes r.test (test_there p.problem p.cert pass.cert p.tables pass.nodes p.cert.style (length p.cert.test_nodes) r.test (pass.cert.pairs r listed).test))
 
-      -- it holds where the pair does
+      -- the question holds if and only if the pair does
       pub turn_told : StandFor p.tables left (set_leads_to turn.action (terms_of (nodes_of p.cert) r.left)) → StandFor p.tables right (set_leads_to turn.action (terms_of (nodes_of p.cert) r.right)) → (x : Atom)
           → MatchAt p.tables (question_of p.tables turn r.test left right asked) x ↔ TurnHolds p.cert.style p.problem p.cert (tested_pair_of (nodes_of p.cert) r) turn.action (take p.tables.width x) (drop p.tables.width x)
       turn_told own other x =
@@ -266,11 +266,11 @@ module _ (p : PassParts) (pass : IsPass p) where
       named = subst (λ (z : QuestionParts). AreNamed p.tables z z.asked) e named;
     })
 
-  -- two atoms are not too wide to be gone through
+  -- the number of tests is within the limit
   pub narrow : p.tables.width ≤ MAX_TESTS
   narrow = omega (arith, pass.nodes.width, pass.problem.tests)
 
--- ---- the pair that is gone through
+-- ---- the pair that the loop visits
 
 module _ (p : PassParts) (begun : IsPass p) where
   module _ (turn : TurnParts) (is : IsTurn p turn) (r : PairParts) (listed : Has p.cert.pairs r) where
@@ -319,7 +319,7 @@ module _ (p : PassParts) (mid last : TableParts) (begun : IsPass p) (to_mid : Ta
   pub pair_posed : (q : QuestionParts) → IsAskedOf last turn r.test left right q → AreNamed last q q.asked → IsPosed q
   pair_posed q e named = question_posed (record p { tables = last }) whole turn turns q r.test left right e named (own_test p begun r listed mid last to_mid to_last) lefts.entries rights.entries
 
-  -- the least values at which the question about it fails are those at which the pair does
+  -- the least values at which the question about the pair fails are the least at which the pair fails
   pub pair_told : (q : QuestionParts) (o : Option Atom) → IsAskedOf last turn r.test left right q → IsFirstFailure (MatchAt q.tables q) (undecided (p.tables.width + p.tables.width)) o → IsFirstFailure (PairHolds p.problem p.cert turn.action r) (undecided (p.problem.tests + p.problem.tests)) o
   pair_told q o e f =
       subst (λ n. IsFirstFailure (PairHolds p.problem p.cert turn.action r) (undecided (n + n)) o) begun.nodes.width

@@ -1,4 +1,4 @@
--- What is known in a pass over the pairs, and in a turn of it, stays so where its tables grow.
+-- What is known in a pass over the pairs, and in a turn of it, remains true when its tables grow.
 use Rattle.std.proofs.Common.{◌≡◌, ℕ, ◌≤◌, List, length, slice_get, refl, sym, ap, ◌∙◌, subst, arith, Bool, ◌&&◌, Option, Some}
 use mathlib.Core.Path.{ap₂}
 use Rattle.std.specs.Bool.{IsTrue}
@@ -92,7 +92,7 @@ module _ (p : PassParts) (new : TableParts) (grows : TablesGrow p.tables new) wh
     by_pairs = is.by_pairs;
   }
 
--- the pass with the tables that were made of its own
+-- the pass after its tables grew
 pub grown : {p old : PassParts} (new : TableParts) → p ≡ old → TablesGrow p.tables new → PassGrows old (record p { tables = new })
 grown {p} new e grows = subst (λ (z : PassParts). PassGrows z (record p { tables = new })) e (record { tables = grows; same = refl })
 

@@ -1,4 +1,4 @@
--- The derived order of places is that in which they stand.
+-- The derived order of places is the order of their turns.
 use Rattle.std.proofs.Common.{Ordering, Less, Equal, Greater, ◌≡◌, ℕ, ◌<◌, ◌⊎◌, inl, inr, ⊎_elim, [], ◌∷◌, refl, sym, ap, ◌∙◌, subst, arith, true, false, cond, Option, Some, None}
 use Rattle.std.specs.Option.{option_cmp}
 use Rattle.std.specs.Ordering.{MatchOrdering, nat_cmp, bool_cmp, ordering_then, ordering_reverse, ord_min, is_lt}

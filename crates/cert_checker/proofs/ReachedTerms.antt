@@ -1,4 +1,4 @@
--- Numbers are reached exactly where their terms are in the saturated set.
+-- Numbers are reached if and only if their terms are in the saturated set.
 use Rattle.std.proofs.Common.{◌≡◌, ◌↔◌, ℕ, List, length, refl, sym, ◌∙◌, subst, Bool, true}
 use Rattle.kat_model.specs.Trees.{Term}
 use Rattle.kat_model.specs.Members.{Has, IsSubset}
@@ -13,11 +13,11 @@ use Rattle.term_nodes.proofs.TermTrees.{one_id_a_tree}
 use Rattle.cert_steps.specs.NodeTables.{TableParts, AreTables, IsTerm, term_at, nodes_in}
 use Rattle.cert_checker.specs.Working.Reaching.{ArePairsBelow, HoldsAll, IsClosed, IsReached, AreReached}
 
--- the sets of a pair of sets of numbers
+-- the sets of terms of a pair of sets of numbers
 abbrev terms_pair : TableParts → NumberPair → SetPair
 terms_pair t p = record { left = terms_of (nodes_in t) p.left; right = terms_of (nodes_in t) p.right }
 
--- the numbers of the terms of a set, and the terms of which all numbers are in a set
+-- the numbers of the terms of a set, and the terms whose numbers are all in a set
 abbrev numbers_in : TableParts → List Term → ℕ → Bool
 numbers_in t es k = holds es (term_at t k)
 

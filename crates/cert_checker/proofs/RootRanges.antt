@@ -1,4 +1,4 @@
--- The hypotheses and the closed sides of a problem are in its range, and keep their numbers where tables grow.
+-- The hypotheses and the closed sides of a problem are within its range, and keep their numbers when tables grow.
 use Rattle.std.proofs.Common.{◌≡◌, ⊎_elim, append_assoc, ℕ, ◌<◌, ◌≤◌, zero as nought, suc, inl, List, [], ◌∷◌, ◌++◌, map, length, drop, drop-cons, get_or, refl, sym, ap, ◌∙◌, subst, arith, true, false, cond, nat_lt, Option, Some, None}
 use mathlib.Core.Path.{ap₂}
 use Rattle.std.specs.List.{filter}
@@ -71,7 +71,7 @@ hyp_below q p hyps same i x low at = IsInRange-HasTestsBelow q.tests q.actions (
     go (k ∷ hs) nought h low at = subst (λ z. IsInRange q.tests q.actions (kat_tree z)) (sym at) h.0
     go (k ∷ hs) (suc i) h low at = go hs i h.1 (omega (arith, low)) at
 
--- ---- numbers where tables grow
+-- ---- numbers in growing tables
 
 module _ (t new : TableParts) (grows : TablesGrow t new) where
   pub terms_stay : (ks : List ℕ) → are_below (length t.terms) ks ≡ true → terms_of (nodes_in new) ks ≡ terms_of (nodes_in t) ks
@@ -94,7 +94,7 @@ below_push n ks k low h = has_below n (ks ++ k ∷ []) (λ j m. go ks low j m)
     go [] low j m = ⊎_elim (λ s. subst (λ z. z < n) s h) absurd m
     go (l ∷ ks) low j m = ⊎_elim (λ s. below_has n (l ∷ ks) low j (inl s)) (λ r. go ks (and_parts (nat_lt l n) (are_below n ks) low).1 j r) m
 
--- the short ones so far, and those among the rest
+-- the numbers of the short hypotheses so far, with the short hypotheses among the rest
 pub record AreShorts (first now : TableParts) (numbers : List ℕ) (rest all : List Term) : Type 0 where
   pub grows : TablesGrow first now
   pub there : are_below (length now.terms) numbers ≡ true
@@ -125,7 +125,7 @@ shorts_same first now numbers hyps i x all s low at short = record {
     next : filter is_short (map kat_tree (drop i hyps)) ≡ filter is_short (map kat_tree (drop (suc i) hyps))
     next = ap (λ l. filter is_short (map kat_tree l)) (drop-cons hyps i x low) ∙ ap (λ y. filter is_short (kat_tree y ∷ map kat_tree (drop (suc i) hyps))) (sym at) ∙ ap (λ b. cond b (kat_tree x ∷ filter is_short (map kat_tree (drop (suc i) hyps))) (filter is_short (map kat_tree (drop (suc i) hyps)))) short
 
--- the number of a term stays that
+-- a term keeps its number
 pub term_stays : (t new : TableParts) → TablesGrow t new → (k : ℕ) (e : Term) → IsTerm t k → term_at t k ≡ e → IsTerm new k × (term_at new k ≡ e)
 term_stays t new grows k e low same = (IsPrefix-within t.terms new.terms k grows.nodes.terms low, grows.nodes.trees k low ∙ same)
 
@@ -133,11 +133,11 @@ pub universal_stays : (t new : TableParts) → TablesGrow t new → (o : Option 
 universal_stays t new grows None e low same = ((λ u s. absurd cc), same)
 universal_stays t new grows (Some k) e low same = ((λ u s. IsPrefix-within t.terms new.terms u grows.nodes.terms (low u s)), ap (λ (x : Term). Some x) (grows.nodes.trees k (low k refl)) ∙ same)
 
--- the number of the universal term, where there is one
+-- the number of the universal term, if there is one
 pub universal_told : (t : TableParts) (k : ℕ) (e : Term) → IsTerm t k → term_at t k ≡ e → ((u : ℕ) → Some k ≡ Some u → IsTerm t u) × (option_map (term_at t) (Some k) ≡ Some e)
 universal_told t k e there tree = ((λ u s. let same : k ≡ u = cc in subst (IsTerm t) same there), ap Some tree)
 
--- the numbers of the closed sides stay those
+-- the closed sides keep their numbers
 sides_stay : (s : Style) (q : ProblemParts) (t new : TableParts) (left right : ℕ) (universal : Option ℕ) → TablesGrow t new → AreSideNumbers s q t left right universal → AreSideNumbers s q new left right universal
 sides_stay s q t new left right universal grows a =
     let l = term_stays t new grows left _ a.left_there a.left in
@@ -152,7 +152,7 @@ sides_stay s q t new left right universal grows a =
       universal_there = u.0;
     }
 
--- and those of all of a problem's terms
+-- and so do all terms of a problem
 pub roots_stay : (s : Style) (q : ProblemParts) (t new : TableParts) (left right : ℕ) (universal : Option ℕ) (shorts : List ℕ) → TablesGrow t new → AreRoots s q t left right universal shorts → AreRoots s q new left right universal shorts
 roots_stay s q t new left right universal shorts grows a = record {
   sides = sides_stay s q t new left right universal grows a.sides;
@@ -160,7 +160,7 @@ roots_stay s q t new left right universal shorts grows a = record {
   shorts_there = numbers_stay t new grows shorts a.shorts_there;
 }
 
--- the numbers that are given one after another, while tables grow
+-- the numbers that are assigned one after another, while tables grow
 pub sides_made : (s : Style) (q : ProblemParts) (first second last : TableParts) (left right : ℕ) (universal : Option ℕ) → TablesGrow first second → TablesGrow second last
     → IsTerm first left → term_at first left ≡ (compared s q).left → IsTerm second right → term_at second right ≡ (compared s q).right
     → ((u : ℕ) → universal ≡ Some u → IsTerm last u) × (option_map (term_at last) universal ≡ (compared s q).universal) → AreSideNumbers s q last left right universal

@@ -1,4 +1,4 @@
--- What rounds over pairs bring to the numbers that are reached: once a round adds nothing, the numbers are closed under the
+-- Rounds over pairs add numbers to the reached numbers. Once a round adds nothing, the numbers are closed under the
 -- pairs.
 use Rattle.std.proofs.Common.{◌≡◌, ◌↔◌, ℕ, ◌+◌, ◌-◌, ◌<◌, ◌≤◌, ◌⊎◌, inl, inr, ⊎_elim, List, [], ◌∷◌, ◌++◌, length, get_or, take, slice_get, refl, sym, ap, ◌∙◌, subst, arith, Bool, true, false, cond, nat_eq, Option, Some, None}
 use Rattle.std.specs.List.{list_any, list_all}
@@ -41,7 +41,7 @@ subset_all (k ∷ set) keys sub =
 pub all_there : (set keys : List ℕ) (b : Bool) → b ≡ list_all (λ k. list_any (nat_eq k) keys) set → (b ≡ true) ↔ IsSubset set keys
 all_there set keys b is = ((λ e. all_subset set keys (sym is ∙ e)), (λ sub. is ∙ subset_all set keys sub))
 
--- ---- numbers are added
+-- ---- adding numbers
 
 abbrev with_key : List ℕ → ℕ → List ℕ
 with_key ks x = cond (list_any (nat_eq x) ks) ks (ks ++ x ∷ [])
@@ -70,7 +70,7 @@ key_cases ks x k = go (list_any (nat_eq x) ks)
 stays_has : (old new : List ℕ) → StayInPlace old new → (k : ℕ) → Has old k → Has new k
 stays_has old new stays k h = let at = place_of_member old k h in has_at new at.0 k (stays at.0 k at.1)
 
--- one number more
+-- an additional number
 pub added_more : (set old mid new : List ℕ) (i : ℕ) → i < length set → new ≡ with_key mid (get_or set i 0) → AreAdded (take i set) old mid → AreAdded (take (i + 1) set) old new
 added_more set old mid new i low is added =
     let x = get_or set i 0 in
@@ -93,9 +93,9 @@ added_more set old mid new i low is added =
 pub brought_as : (set other set' other' old new : List ℕ) → set ≡ set' → other ≡ other' → IsBrought set other old new → IsBrought set' other' old new
 brought_as set other set' other' old new e f h = subst (λ (l : List ℕ). IsBrought l other' old new) e (subst (λ (l : List ℕ). IsBrought set l old new) f h)
 
--- ---- numbers that pairs bring
+-- ---- numbers that pairs add
 
--- where none is added, there is none more
+-- if the length is unchanged, no number is new
 pub no_more : (old new : List ℕ) → StayInPlace old new → length new ≡ length old → IsSubset new old
 no_more old new stays same k h =
     let at = place_of_member new k h in
@@ -110,7 +110,7 @@ stays_longer (k ∷ old) new stays =
     let low : length old < length new = slice_get_within new (length old) last.0 (stays (length old) last.0 last.1) in
     omega (arith, low)
 
--- the numbers are there, with more that the pairs bring to them
+-- the keys contain the numbers, and every other key is reached from them by the pairs
 pub record AreBrought (ps : List NumberPair) (terms keys : List ℕ) : Type 0 where
   pub there : IsSubset terms keys
   pub made : (set : ℕ → Bool) → IsClosed ps set → HoldsAll set terms → HoldsAll set keys
@@ -128,17 +128,17 @@ module _ (ps : List NumberPair) where
   pub brought_on : (terms a b : List ℕ) → AreBrought ps terms a → GoesOn ps a b → AreBrought ps terms b
   brought_on terms a b x goes = record { there = λ k h. stays_has a b goes.kept k (x.there k h); made = λ set closed h. goes.made set closed (x.made set closed h) }
 
-  -- what is there is reached, and once the set is closed nothing else
+  -- every key is reached; once the set of keys is closed, every reached number is a key
   pub there_reached : (terms keys wanted : List ℕ) → AreBrought ps terms keys → IsSubset wanted keys → AreReached ps terms wanted
   there_reached terms keys wanted x sub k h set closed holds_all = x.made set closed holds_all k (sub k h)
 
   closed_reached : (terms keys wanted : List ℕ) → AreBrought ps terms keys → IsClosed ps (λ k. list_any (nat_eq k) keys) → AreReached ps terms wanted → IsSubset wanted keys
   closed_reached terms keys wanted x closed reached k h = any_key keys k (reached k h (λ j. list_any (nat_eq j) keys) closed (λ j m. key_any keys j (x.there j m)))
 
--- ---- pairs that are gone over
+-- ---- processed pairs
 
 module _ (ps : List PairParts) (also : Bool) (known : List Known) where
-  -- a pair that was tended between two times is so for a wider span
+  -- a pair that is processed between two states is processed over a wider span
   tended_wider : (a b c d : List ℕ) (p : PairParts) → StayInPlace a b → IsTended also known b c p → StayInPlace c d → IsTended also known a d p
   tended_wider a b c d p first tended last on = (
     (λ sub k h. stays_has c d last k ((tended on).0 (λ j m. stays_has a b first j (sub j m)) k h)),
@@ -157,7 +157,7 @@ module _ (ps : List PairParts) (also : Bool) (known : List Known) where
   pub pair_tended : (p : PairParts) (a b c : List ℕ) → IsBrought p.left p.right a b → IsBrought p.right p.left b c → IsTended also known a c p
   pair_tended p a b c x y on = ((λ sub k h. stays_has b c y.kept k (x.there sub k h)), (λ sub. y.there (λ k h. stays_has a b x.kept k (sub k h))))
 
-  -- one place more
+  -- an additional place
   pub tended_more : (places a b c : List ℕ) (i : ℕ) → i < length places → StayInPlace a b → StayInPlace b c → ((p : PairParts) → slice_get ps (get_or places i 0) ≡ Some p → IsTended also known b c p)
       → AreTendedAt ps also known a b (take i places) → AreTendedAt ps also known a c (take (i + 1) places)
   tended_more places a b c i low first last step before k p h at =
@@ -166,7 +166,7 @@ module _ (ps : List PairParts) (also : Bool) (known : List Known) where
       (λ m. ⊎_elim (λ e. tended_wider a b c c p first (step p (ap (slice_get ps) e ∙ at)) (λ j n q. q)) absurd m)
       (has_append (take i places) (get_or places i 0 ∷ []) k (subst (λ (l : List ℕ). Has l k) (take_more places i 0 low) h))
 
-  -- no pair stands there, or one that does not count
+  -- no pair is at the place, or the pair does not count
   pub tended_absent : (a b : List ℕ) (j : ℕ) → slice_get ps j ≡ None → (p : PairParts) → slice_get ps j ≡ Some p → IsTended also known a b p
   tended_absent a b j none p at = let f : None ≡ Some p = sym none ∙ at in absurd cc
 
@@ -179,7 +179,7 @@ module _ (ps : List PairParts) (also : Bool) (known : List Known) where
   -- ---- a round
 
   module _ (x : IndexParts) where
-    -- the pairs under the first terms are gone over
+    -- the pairs under the first i terms are processed
     abbrev pub AreTendedTo : ℕ → List ℕ → List ℕ → Type 0
     AreTendedTo i a b = (j term : ℕ) → j < i → slice_get b j ≡ Some term → AreTendedAt ps also known a b (places_under x term)
 
@@ -202,10 +202,10 @@ module _ (ps : List PairParts) (also : Bool) (known : List Known) where
         let within : at.0 < length b = slice_get_within b at.0 term at.1 in
         tended at.0 term (omega (arith, within, over)) at.1
 
-    -- where nothing was added, the numbers are closed under the pairs
+    -- if nothing was added, the numbers are closed under the pairs
     module _ (indexed : AreIndexed x ps) (a b c : List ℕ) (first : StayInPlace a b) (last : StayInPlace b c) (same : length c ≡ length a)
         (apart : AreTendedAt ps also known a b x.apart) (under : (term : ℕ) → Has c term → AreTendedAt ps also known b c (places_under x term)) where
-      -- what stands by a set of which all is there is tended
+      -- a pair is processed if all of one of its sets is present
       by_set : (own : List ℕ) (k : ℕ) (p : PairParts) → Has (places_by x own) k → slice_get ps k ≡ Some p → IsSubset own c → IsTended also known a c p
       by_set own k p h at sub = go (slice_get own (length own - 1)) refl h
         where

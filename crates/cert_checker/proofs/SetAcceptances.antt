@@ -1,4 +1,4 @@
--- The test that is true where some member of a set accepts, made of the tests of its members.
+-- The test that is true when some member of a set accepts, built from the tests of its members.
 use Rattle.std.proofs.Common.{◌≡◌, ℕ, ◌<◌, List, ◌∷◌, length, get_or, [], refl, sym, ap, ◌∙◌, Bool, true, false, ◌||◌}
 use Rattle.std.proofs.Math.Bool.{or-false}
 use Rattle.kat_model.specs.Steps.{Atom, out, set_out}
@@ -9,7 +9,7 @@ use Rattle.cert_steps.proofs.TargetSets.{holds_kept}
 use Rattle.cert_steps.proofs.GrowingTables.{tests_trans}
 use Rattle.cert_steps.proofs.StepLists.{accept_at}
 
--- the guard is true where one of the members gone through accepts, and the rest of them is left
+-- the guard is true where a processed member accepts; the other members are left
 pub record IsAccepting (first now : TableParts) (guard : ℕ) (rest all : List ℕ) : Type 0 where
   pub grows : TestsGrow first now
   pub test : IsTest now guard
@@ -40,7 +40,7 @@ accepting_more first now new guard next_guard k rest all accepting a accepts low
     here : IsTest first (get_or accepting k 0) × ((atom : Atom) → holds_at first (get_or accepting k 0) atom ≡ out (term_at first k) atom)
     here = accept_at first accepting k accepts low
 
--- once no member is left it is true where one of them all accepts
+-- once no member is left, the guard is true where some member accepts
 pub accepting_ends : (first now : TableParts) (guard : ℕ) (rest all : List ℕ) → rest ≡ [] → IsAccepting first now guard rest all → HasValues now (set_out (terms_of (nodes_in first) all)) guard
 accepting_ends first now guard rest all none a = (
   a.test,

@@ -1,4 +1,4 @@
--- Sets with the same members are matched alike.
+-- Sets with the same members are matched by the same pairs.
 use Rattle.std.proofs.Common.{inl, inr, ⊎_elim, List, map, Option, Some, None}
 use Rattle.kat_model.specs.Trees.{Term}
 use Rattle.kat_model.specs.Members.{SameMembers}
@@ -25,7 +25,7 @@ congruent_same universal ps es fs gs hs s u m =
     (λ b. inr (both_same universal (sat ps es) (sat ps fs) (sat ps gs) (sat ps hs) (sat_same ps es gs s) (sat_same ps fs hs u) b))
     m
 
--- sets with the same members are matched alike
+-- sets with the same members are matched by the same pairs
 pub matched_same : (nodes : NodeParts) (style : Style) (universal : Option Term) (ps : List PairParts) (es fs gs hs : List Term) (to : Atom) → SameMembers es gs → SameMembers fs hs → AreMatchedIn nodes style universal ps es fs to → AreMatchedIn nodes style universal ps gs hs to
 matched_same nodes Plain universal ps es fs gs hs to s u m =
     ⊎_elim

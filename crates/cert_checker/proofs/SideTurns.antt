@@ -1,4 +1,4 @@
--- The targets of one side of a question, as they are gone over.
+-- The loop over the targets of one side of a question.
 use Rattle.std.proofs.Common.{◌≡◌, ℕ, inl, inr, ⊎_elim, List, [], ◌∷◌, ◌++◌, append_assoc, refl, sym, ap, ◌∙◌, subst, Bool, true, false, ◌||◌, cond, Option, Some, None}
 use Rattle.std.specs.Option.{option_or, MatchOption}
 use Rattle.std.specs.List.Sorted.{IsStrictlySortedBy}
@@ -16,11 +16,11 @@ use Rattle.cert_checker.specs.Working.Cases.{known_of, truly, falsely}
 use Rattle.cert_checker.specs.Working.Matching.{sure_targets, has_too, open_targets, AreSettled, AreSettledAmong, IsWaitedBy, IsSide}
 use Rattle.cert_checker.proofs.StepAnswers.{guard_found, open_entry}
 
--- the guards of these targets have a value that is known, where the terms may be there alone
+-- the guards of targets that may be only on this side have known values
 abbrev pub AreOpenSettled : List Known → List (ℕ × ℕ) → List (ℕ × ℕ) → Type 0
 AreOpenSettled known others es = (e : ℕ × ℕ) → Has es e → (falsely (known_of known e.1) || has_too known others e.0 e.1) ≡ false → (b : Bool) × (known_of known e.1 ≡ Value b)
 
--- the lists are those of the targets before these that are left, and where no test is given none of those waits
+-- the lists are those of the targets before `rest`; without a given test, no guard of those targets waits
 pub record IsSideOf (known : List Known) (others es rest : List (ℕ × ℕ)) (ks ls : List ℕ) (o p : Option ℕ) : Type 0 where
   pub sure : ks ++ sure_targets known rest ≡ sure_targets known es
   pub alone : ls ++ open_targets known others rest ≡ open_targets known others es
@@ -38,13 +38,14 @@ or_then None (Some j) A B C W f h k = k
 or_then (Some i) p A B C W f h k = h
 
 module _ (known : List Known) (others es : List (ℕ × ℕ)) where
-  -- of a target that may be there: with those that are left, these surely are, and its guard has a value or waits for this
+  -- for a target that may be present: `now` and the rest give the surely present terms; its guard has a known value or
+  -- waits for the test
   pub record IsFound (more : List (ℕ × ℕ)) (d : ℕ × ℕ) (now : List ℕ) (w : Option ℕ) : Type 0 where
     pub sure : now ++ sure_targets known more ≡ sure_targets known es
     pub may : falsely (known_of known d.1) ≡ false
     pub told : MatchOption w ((b : Bool) × (known_of known d.1 ≡ Value b)) (IsWaitedBy known es)
 
-  -- one target more
+  -- an additional target
   module _ (rest more : List (ℕ × ℕ)) (d : ℕ × ℕ) (cut : rest ≡ d ∷ more) (ks ls : List ℕ) (o p : Option ℕ) (before : IsSideOf known others es rest ks ls o p) where
     sure_cut : (x : Known) → known_of known d.1 ≡ x → sure_targets known rest ≡ cond (truly x) (d.0 ∷ sure_targets known more) (sure_targets known more)
     sure_cut x e = ap (sure_targets known) cut ∙ ap (λ (y : Known). cond (truly y) (d.0 ∷ sure_targets known more) (sure_targets known more)) e
@@ -68,7 +69,7 @@ module _ (known : List Known) (others es : List (ℕ × ℕ)) where
         subst (AreOpenSettled known others) (sym cut)
         (λ e h. ⊎_elim (λ same. subst (λ (z : ℕ × ℕ). (falsely (known_of known z.1) || has_too known others z.0 z.1) ≡ false → (b : Bool) × (known_of known z.1 ≡ Value b)) same value) (s e) h)
 
-    -- one that surely is not there
+    -- a surely absent target
     pub side_skipped : known_of known d.1 ≡ Value false → IsSideOf known others es more ks ls o p
     side_skipped e =
         let value : (b : Bool) × (known_of known d.1 ≡ Value b) = (false, e) in
@@ -100,7 +101,7 @@ module _ (known : List Known) (others es : List (ℕ × ℕ)) where
           or_then p w (AreSettled known rest → AreSettled known es) (AreSettled known more → AreSettled known es) ((b : Bool) × (known_of known d.1 ≡ Value b)) (IsWaitedBy known es) (λ f value s. f (settled_more value s)) before.waits
           found.told
 
-      -- one that is in the other set too
+      -- a target that is also in the other set
       pub side_shared : has_too known others d.0 d.1 ≡ true → IsSideOf known others es more now ls o (option_or p w)
       side_shared e =
           let off : (falsely (known_of known d.1) || has_too known others d.0 d.1) ≡ true = ap (λ (b : Bool). b || has_too known others d.0 d.1) found.may ∙ e in
@@ -125,7 +126,7 @@ module _ (known : List Known) (others es : List (ℕ × ℕ)) where
         waits = waits_now;
       }
 
-  -- ---- once none is left
+  -- ---- the end of the loop
 
   open_among : IsStrictlySortedBy nat_cmp (keys_of es) → AreOpenSettled known others es → AreSettledAmong known es (open_targets known others es)
   open_among sorted settled k g h at =

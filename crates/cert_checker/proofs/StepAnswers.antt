@@ -1,4 +1,4 @@
--- What the tests of two lists of targets say of the question whether listed pairs match them.
+-- What the tests of two lists of targets say about whether listed pairs match them.
 use Rattle.std.proofs.Common.{◌≡◌, ℕ, ◌<◌, ◌⊎◌, inl, inr, ⊎_elim, List, [], ◌∷◌, map, length, refl, sym, ap, ◌∙◌, subst, arith, Bool, true, false, nat_lt, nat_eq, ◌&&◌, ◌||◌, cond, Option, Some, None}
 use Rattle.std.specs.Option.{option_map, option_map_or, MatchOption}
 use Rattle.std.specs.List.{AllByRecursion}
@@ -47,7 +47,7 @@ less_lt x y = go (nat_lt x y) (nat_eq x y)
     go false true e = absurd cc
     go false false e = absurd cc
 
--- a number below the keys is below the targets that surely are there
+-- a number below the keys is below the surely present targets
 sure_above : (known : List Known) (x : ℕ) (es : List (ℕ × ℕ)) → AllByRecursion (λ y. nat_cmp x y ≡ Less) (keys_of es) → are_ascending (sure_targets known es) ≡ true → are_ascending (x ∷ sure_targets known es) ≡ true
 sure_above known x [] above a = refl
 sure_above known x (e ∷ es) above a = go (truly (known_of known e.1)) (sure_above known x es above.1) a
@@ -88,7 +88,7 @@ eq_is_eq x = go (nat_lt x x) (nat_eq x x) refl refl
     go false true s e = refl
     go false false s e = absurd (true≢false (sym (eq-eqb x x refl) ∙ e))
 
--- the guard of a target is found
+-- looking up the term of a target finds its guard
 pub guard_found : (es : List (ℕ × ℕ)) (e : ℕ × ℕ) → IsStrictlySortedBy nat_cmp (keys_of es) → Has es e → guard_of es e.0 ≡ Some e.1
 guard_found [] e sorted h = absurd h
 guard_found (d ∷ es) e sorted h = ⊎_elim same (λ r. later (is_at (nat_cmp e.0) d.0) refl r (guard_found es e (sorted_tail nat_cmp d.0 (keys_of es) sorted) r)) h
@@ -116,7 +116,7 @@ sure_in known (d ∷ es) e h on = ⊎_elim (λ same. here same) (λ r. later (tr
     here : d ≡ e → Has (cond (truly (known_of known d.1)) (d.0 ∷ sure_targets known es) (sure_targets known es)) e.0
     here same = subst (λ (z : ℕ × ℕ). Has (cond (truly (known_of known z.1)) (z.0 ∷ sure_targets known es) (sure_targets known es)) e.0) (sym same) (rw on (inl refl))
 
--- a term that may be there alone, with its guard
+-- a term that may be only in one set has a target with its guard
 pub open_entry : (known : List Known) (os es : List (ℕ × ℕ)) (k : ℕ) → Has (open_targets known os es) k → (e : ℕ × ℕ) × Has es e × (e.0 ≡ k) × ((falsely (known_of known e.1) || has_too known os e.0 e.1) ≡ false)
 open_entry known os [] k h = absurd h
 open_entry known os (d ∷ es) k h = go (falsely (known_of known d.1) || has_too known os d.0 d.1) refl (λ r. let f = open_entry known os es k r in (f.0, inr f.1, f.2, f.3)) h
@@ -129,7 +129,7 @@ may_true : (x : Known) (b : Bool) → x ≡ Value b → falsely x ≡ false → 
 may_true x true is off = ap truly is
 may_true x false is off = absurd (true≢false (sym (ap falsely is) ∙ off))
 
--- where no open term's guard waits, the open terms are sure
+-- if the guard of no open term waits, the open terms are sure
 open_sure : (known : List Known) (os es : List (ℕ × ℕ)) → IsStrictlySortedBy nat_cmp (keys_of es) → AreSettledAmong known es (open_targets known os es) → IsSubset (open_targets known os es) (sure_targets known es)
 open_sure known os es sorted settled k h =
     let f = open_entry known os es k h in
@@ -138,7 +138,7 @@ open_sure known os es sorted settled k h =
 
 -- ---- what is known of one side
 
--- where the guard of none waits, what may be there alone surely is there
+-- if no such guard waits, every term that may be only in one set is surely in it
 pub side_sure : (known : List Known) (os es : List (ℕ × ℕ)) (s : Side) → IsSide known os es s → s.alone_waits ≡ None → IsSubset s.alone.items s.sure.items
 side_sure known os es s side none k h =
     subst (λ (l : List ℕ). Has l k) (sym side.sure)
@@ -157,10 +157,10 @@ none_alone known os es s side none = go s.alone_waits side.alone_waits
         let f : WaitsFor k ≡ Value v.0 = sym h.2 ∙ v.1 in
         absurd cc
 
--- ---- what the tests say
+-- ---- the results of the tests
 
 module _ (t : TableParts) (are : AreTables t) (known : List Known) (atom : Atom) (universal : Option ℕ) (left right : List (ℕ × ℕ)) (own : AreEntries t left) (other : AreEntries t right) (at_left : AreRight t known atom left) (at_right : AreRight t known atom right) where
-  -- a term that surely is among the targets is chosen
+  -- every term that is surely among the targets is chosen
   sure_has : (u : ℕ) (es : List (ℕ × ℕ)) → AreRight t known atom es → is_sure known es u ≡ true → Has (chosen t es atom) (term_at t u)
   sure_has u es right_here s =
       let v = any_value (λ g. truly (known_of known g)) (guard_of es u) s in
@@ -177,18 +177,18 @@ module _ (t : TableParts) (are : AreTables t) (known : List Known) (atom : Atom)
   more_universal None ps es fs h = h
   more_universal (Some u) ps es fs h = (sat_keeps ps es u h.0, sat_keeps ps fs u h.1)
 
-  -- both sets surely hold the universal term
+  -- both sets surely contain the universal term
   pub universal_holds : option_map_or (λ u. is_sure known left u && is_sure known right u) universal false ≡ true → (ps : List PairParts) (style : Style) (to : Atom) → AreMatchedIn (nodes_in t) style (option_map (term_at t) universal) ps (chosen t left atom) (chosen t right atom) to
   universal_holds e ps Plain to = inr (both_universal universal e)
   universal_holds e ps UpTo to = inr (more_universal (option_map (term_at t) universal) (pairs_at (map (tested_pair_of (nodes_in t)) ps) to) (chosen t left atom) (chosen t right atom) (both_universal universal e))
   universal_holds e ps Under to = inr (more_universal (option_map (term_at t) universal) (pairs_at (map (tested_pair_of (nodes_in t)) ps) to) (chosen t left atom) (chosen t right atom) (both_universal universal e))
 
-  -- where all guards are settled, the chosen terms are those that surely are there
+  -- if all guards are settled, the chosen terms are the surely present ones
   settled_same : (es : List (ℕ × ℕ)) → AreRight t known atom es → AreSettled known es → SameMembers (chosen t es atom) (terms_of (nodes_in t) (sure_targets known es))
   settled_same es right_here settled x = (settled_sure t are known atom [] (λ p h. absurd h) es right_here settled x, sure_chosen t known atom es right_here x)
 
   module _ (ns : List NumberPair) (settled : AreSettled known left) (settled_other : AreSettled known right) where
-    -- the sets that surely are there are listed
+    -- the sets of surely present terms are listed
     pub listed_holds : lists ns (sure_targets known left) (sure_targets known right) ≡ true → IsListed (set_pairs_of (nodes_in t) ns) (chosen t left atom) (chosen t right atom)
     listed_holds e =
         let found = has_any (λ (p : NumberPair). pointwise nat_eq p.left (sure_targets known left) && pointwise nat_eq p.right (sure_targets known right)) ns e in
@@ -201,7 +201,7 @@ module _ (t : TableParts) (are : AreTables t) (known : List Known) (atom : Atom)
         }
 
     module _ (sorted : IsStrictlySortedBy nat_cmp (keys_of left)) (sorted_other : IsStrictlySortedBy nat_cmp (keys_of right)) where
-      -- a universal term that is chosen surely is there
+      -- a chosen universal term is surely present
       chosen_sure : (u : ℕ) → IsTerm t u → (es : List (ℕ × ℕ)) → AreEntries t es → AreRight t known atom es → AreSettled known es → IsStrictlySortedBy nat_cmp (keys_of es) → Has (chosen t es atom) (term_at t u) → is_sure known es u ≡ true
       chosen_sure u is_term es entries right_here all_settled keys h =
           let f = has_chosen t es atom (term_at t u) h in

@@ -1,4 +1,4 @@
--- What is known of a question at all values of two atoms with the decided tests.
+-- What is known of a question at all values of two atoms that extend the decided tests.
 use Rattle.std.proofs.Common.{◌≡◌, ◌⊎◌, ℕ, inl, inr, ⊎_elim, List, map, take, drop, length, refl, sym, ◌∙◌, subst, zero-add, Bool, true, false, ◌&&◌, Option, Some, None}
 use Rattle.std.specs.Option.{option_map, option_map_or}
 use Rattle.kat_model.specs.Members.{Has}
@@ -34,7 +34,7 @@ module _ (t : TableParts) (are : AreTables t) (q : QuestionParts) (is : IsQuesti
   at_end : (g : ℕ) → NamesAtEnd q g → IsKnown t.width (drop t.width ds) (holds_at t g) (known_of c.end.items g)
   at_end g h = known.end g (is.at_end g h)
 
-  -- what is waited for is not decided
+  -- a test that something waits for is open
   pub waits_open : (k : ℕ) → IsWaited q c k → IsOpen ds k
   waits_open k w = ⊎_elim (λ l. front (subst (IsKnown 0 (take t.width ds) (holds_at t w.0)) l.1 (at_begin w.0 l.0))) (λ r. back (subst (IsKnown t.width (drop t.width ds) (holds_at t w.0)) r.1 (at_end w.0 r.0))) w.1
     where
@@ -93,7 +93,7 @@ module _ (t : TableParts) (are : AreTables t) (q : QuestionParts) (is : IsQuesti
     plain_pairs e = counting_all false c.end.items q.turn.pairs (is.untested e)
 
     module _ (s : Sides) (sides : AreSides c.begin.items q.left q.right s) where
-      -- the pairs that surely are true at the end make the sets congruent
+      -- the pairs whose tests are surely true at the end make the sets congruent
       covered_here : AreCovered (counting false c.end.items q.turn.pairs) q.turn.universal s → IsCongruent (option_map (term_at t) q.turn.universal) (pairs_at (map (tested_pair_of (nodes_in t)) q.turn.pairs) (drop t.width x)) (chosen t q.left (take t.width x)) (chosen t q.right (take t.width x))
       covered_here m =
           congruent_more (set_pairs_of (nodes_in t) (counting false c.end.items q.turn.pairs)) (pairs_at (map (tested_pair_of (nodes_in t)) q.turn.pairs) (drop t.width x))
@@ -101,7 +101,7 @@ module _ (t : TableParts) (are : AreTables t) (q : QuestionParts) (is : IsQuesti
           (option_map (term_at t) q.turn.universal) (chosen t q.left (take t.width x)) (chosen t q.right (take t.width x))
           (covered_congruent t are c.begin.items (take t.width x) (counting false c.end.items q.turn.pairs) (numbers_below false) q.turn.universal q.left q.right is.left is.right lefts rights s sides m)
 
-      -- and where all guards are settled, no others do
+      -- and if all guards are settled, no other pairs are needed
       congruent_here : AreSettled c.begin.items q.left → AreSettled c.begin.items q.right → (also : Bool) → (also ≡ true) ⊎ AreTestsSettled c.end.items q.turn.pairs
           → IsCongruent (option_map (term_at t) q.turn.universal) (pairs_at (map (tested_pair_of (nodes_in t)) q.turn.pairs) (drop t.width x)) (chosen t q.left (take t.width x)) (chosen t q.right (take t.width x))
           → AreCovered (counting also c.end.items q.turn.pairs) q.turn.universal s
@@ -126,13 +126,13 @@ module _ (t : TableParts) (are : AreTables t) (q : QuestionParts) (is : IsQuesti
           (λ e. none (subst (λ (l : List ℕ). lists (counting false c.end.items q.turn.pairs) s.left.sure.items l ≡ true) (sym sides.right.sure) (subst (λ (l : List ℕ). lists (counting false c.end.items q.turn.pairs) l (sure_targets c.begin.items q.right) ≡ true) (sym sides.left.sure) e)))
           (⊎_elim (λ l. inl (subst (λ (ns : List NumberPair). IsListed (set_pairs_of (nodes_in t) ns) (chosen t q.left (take t.width x)) (chosen t q.right (take t.width x))) (sym (plain_pairs plain)) l)) inr m)
 
-    -- matched in a style
+    -- a match in a style gives a match at the values
     by_style : (style : Style) → q.turn.style ≡ style → AreMatchedIn (nodes_in t) style (option_map (term_at t) q.turn.universal) q.turn.pairs (chosen t q.left (take t.width x)) (chosen t q.right (take t.width x)) (drop t.width x) → MatchAt t q x
     by_style style e m counts = subst (λ z. AreMatchedIn (nodes_in t) z (option_map (term_at t) q.turn.universal) q.turn.pairs (chosen t q.left (take t.width x)) (chosen t q.right (take t.width x)) (drop t.width x)) (sym e) m
 
   -- ---- the states
 
-  -- nothing is asked where the move does not count
+  -- the question holds if the move does not count
   pub excluded_holds : is_excluded q c ≡ true → HoldsThroughout (MatchAt t q) ds
   excluded_holds e x h counts = absurd (never_counts x h e counts)
 
@@ -154,7 +154,7 @@ module _ (t : TableParts) (are : AreTables t) (q : QuestionParts) (is : IsQuesti
         go UpTo is_style m = by_style x h UpTo is_style (covered_here x h s sides m.1)
         go Under is_style m = by_style x h Under is_style (covered_here x h s sides m.1)
 
-    -- once all guards are settled and the move counts, what is not surely matched is not matched
+    -- once all guards are settled and the move counts, sets that are not surely matched are not matched
     pub unmatched_fails : DoesCount q c → s.left.waits ≡ None → s.right.waits ≡ None → option_map_or (λ u. is_sure c.begin.items q.left u && is_sure c.begin.items q.right u) q.turn.universal false ≡ false
         → (AreSurelyMatched q.turn.style (counting false c.end.items q.turn.pairs) q.turn.universal s → ⊥)
         → (AreCovered (counting true c.end.items q.turn.pairs) q.turn.universal s → ⊥) ⊎ AreTestsSettled c.end.items q.turn.pairs → (x : Atom) → Extends ds x → MatchAt t q x → ⊥

@@ -1,4 +1,4 @@
--- What evidence has to show, and the first reason why it does not.
+-- What evidence must show, and the first reason why it does not.
 use Rattle.std.specs.Prelude.{◌≡◌, ◌⊎◌, ◌<◌, ◌≤◌, ℕ, suc, IsTrue, true, false, List, [], ◌∷◌, length, slice_get, Option, Some, None}
 use Rattle.kat_model.specs.Trees.{TestTree}
 use Rattle.kat_model.specs.Problems.{ProblemParts}
@@ -26,7 +26,7 @@ use Rattle.cert_checker.specs.declared.answer.Reason.TheVariants.{FirstPair, Out
 use Rattle.cert_checker.specs.declared.answer.Answer.{Answer}
 use Rattle.cert_checker.specs.declared.answer.Answer.TheVariants.{Accepted, Rejected}
 
--- the evidence shows what it says: the certificate is accepted, or the string refutes
+-- the evidence shows its claim: the certificate is accepted, or the string refutes the problem
 abbrev pub Shows : ProblemParts → Evidence → Type 0
 Shows q (Equal c) = IsAccepted q c
 Shows q (Different x) = Refutes q x
@@ -35,7 +35,8 @@ Shows q (Different x) = Refutes q x
 abbrev pub BeginsWithSides : ProblemParts → List SetPair → Type 0
 BeginsWithSides q pairs = (rest : List SetPair) × (pairs ≡ record { left = (closed q).left ∷ []; right = (closed q).right ∷ [] } ∷ rest)
 
--- in the style of tests it is those of the long hypotheses, under a test that is true at each allowed atom
+-- in the style of tests, the first pair is the closed sides for the long hypotheses, under a test that is true at each
+-- allowed atom
 abbrev pub BeginsUnderTest : ProblemParts → List TestedPair → Type 0
 BeginsUnderTest q pairs =
     (test : TestTree) × (rest : List TestedPair)
@@ -47,25 +48,25 @@ Begins Plain q c = BeginsWithSides q (set_pairs c)
 Begins UpTo q c = BeginsWithSides q (set_pairs c)
 Begins Under q c = BeginsUnderTest q (tested_pairs c)
 
--- under the atom both sets of the pair accept, or neither does
+-- both sets of the pair accept the atom, or neither does
 abbrev pub AcceptAlike : SetPair → Atom → Type 0
 AcceptAlike p atom = set_out p.left atom ≡ set_out p.right atom
 
--- the sets of a pair have to accept alike under each atom; in the style of tests, under each allowed one at which
--- the pair's test is true
+-- the sets of a pair accept alike at each atom; in the style of tests, at each allowed atom that satisfies the pair's
+-- test
 abbrev pub OutputsHold : Style → ProblemParts → TestedPair → Atom → Type 0
 OutputsHold Plain q p atom = AcceptAlike p.sets atom
 OutputsHold UpTo q p atom = AcceptAlike p.sets atom
 OutputsHold Under q p atom = IsAllowedAtom (short_hyps q) atom → IsTrue (truth p.test atom) → AcceptAlike p.sets atom
 
--- the sets that the pair leads to by the action have to be matched by the listed pairs
+-- the listed pairs match the sets that the pair leads to by the action
 abbrev pub StepHolds : Style → ProblemParts → CertParts → TestedPair → Atom → ℕ → Type 0
 StepHolds Plain q c p atom a = AreMatched plain (closed q).universal (set_pairs c) (set_next p.sets.left atom a) (set_next p.sets.right atom a)
 StepHolds UpTo q c p atom a = AreMatched up_to (closed q).universal (set_pairs c) (set_next p.sets.left atom a) (set_next p.sets.right atom a)
 StepHolds Under q c p atom a = Unit {0}
 
--- in the style of tests, from each atom of the pair's test along each allowed move, by those whose test is true at
--- its end
+-- in the style of tests, for each atom that satisfies the pair's test and each allowed move: the pairs whose test is
+-- true at the end of the move match the sets
 abbrev pub MoveHolds : Style → ProblemParts → CertParts → TestedPair → Atom → Move → Type 0
 MoveHolds Plain q c p atom m = Unit {0}
 MoveHolds UpTo q c p atom m = Unit {0}
@@ -73,7 +74,7 @@ MoveHolds Under q c p atom m =
     IsTrue (truth p.test atom) → IsAllowedMove (short_hyps q) atom m
     → IsCongruent (closed_long q).universal (pairs_at (tested_pairs c) m.atom) (set_next p.sets.left atom m.act) (set_next p.sets.right atom m.act)
 
--- the certificate fails so
+-- the certificate fails by the reason
 abbrev pub FailsBy : ProblemParts → CertParts → Reason → Type 0
 FailsBy q c (TestNode k) = (i : ℕ) × (slice_get c.test_nodes k ≡ Some (Prim i)) × (q.tests ≤ i)
 FailsBy q c (TermNode k) = (a : ℕ) × (slice_get c.term_nodes k ≡ Some (Act a)) × (q.actions ≤ a)
@@ -89,7 +90,7 @@ FailsBy q c (Shape k) = ⊥
 FailsBy q c (HypBroken h i j) = ⊥
 FailsBy q c EndsAgree = ⊥
 
--- at the first test where the atoms differ, the first is false
+-- at the first test where the atoms differ, the first atom is false
 abbrev pub IsLess : Atom → Atom → Type 0
 IsLess [] ys = ⊥
 IsLess (x ∷ xs) [] = ⊥
@@ -98,8 +99,8 @@ IsLess (true ∷ xs) (false ∷ ys) = ⊥
 IsLess (false ∷ xs) (false ∷ ys) = IsLess xs ys
 IsLess (true ∷ xs) (true ∷ ys) = IsLess xs ys
 
--- where a reason stands in the order: its stage, its node or pair, its atom, there outputs before actions, and for
--- an action the atom that it leads to
+-- the position of a reason in the order: its stage, its node or pair, its atom, outputs before actions, and for an
+-- action the atom after it
 pub record Turn : Type 0 where
   pub stage : ℕ
   pub number : ℕ
@@ -118,7 +119,7 @@ turn_of (Shape k) = record { stage = 4; number = k; atom = []; action = 0; to = 
 turn_of (HypBroken h i j) = record { stage = 5; number = h; atom = []; action = 0; to = [] }
 turn_of EndsAgree = record { stage = 6; number = 0; atom = []; action = 0; to = [] }
 
--- the first of stage, number, atom, action and the atom after it in which they differ decides
+-- the order is lexicographic in stage, number, atom, action and the atom after the action
 abbrev pub IsEarlier : Turn → Turn → Type 0
 IsEarlier s t =
     (s.stage < t.stage)
@@ -127,24 +128,24 @@ IsEarlier s t =
     ⊎ ((s.atom ≡ t.atom) × ((s.action < t.action)
     ⊎ ((s.action ≡ t.action) × IsLess s.to t.to)))))))
 
--- the certificate fails so, and in no way that stands before
+-- the certificate fails by the reason, and by no earlier one
 pub record FailsFirstBy (q : ProblemParts) (c : CertParts) (r : Reason) : Type 0 where
   pub fails : FailsBy q c r
   pub first : (s : Reason) → IsEarlier (turn_of s) (turn_of r) → FailsBy q c s → ⊥
 
--- the reason why a string with this finding does not refute, where there is one
+-- the reason why a string with this finding does not refute, if there is one
 abbrev pub finding_reason : Finding → Option Reason
 finding_reason (FoundRefutes b) = None
 finding_reason (FoundShape k) = Some (Shape k)
 finding_reason (FoundHypBroken h i j) = Some (HypBroken h i j)
 finding_reason (FoundEndsAgree b) = Some EndsAgree
 
--- the first reason why the evidence does not show what it says
+-- the first reason why the evidence does not show its claim
 abbrev pub IsFoundBy : ProblemParts → Evidence → Reason → Type 0
 IsFoundBy q (Equal c) r = FailsFirstBy q c r
 IsFoundBy q (Different x) r = (f : Finding) × IsFinding q x f × (finding_reason f ≡ Some r)
 
--- the answer to evidence: accepted where it shows what it says, and otherwise rejected with the first reason
+-- the answer to evidence: accepted if it shows its claim, otherwise rejected with the first reason
 abbrev pub IsAnswer : ProblemParts → Evidence → Answer → Type 0
 IsAnswer q e Accepted = Shows q e
 IsAnswer q e (Rejected r) = (Shows q e → ⊥) × IsFoundBy q e r

@@ -1,4 +1,4 @@
--- The laws of answers. Each stands on a function of the crate that does nothing.
+-- The laws of answers. Each is the contract of a function of the crate that does nothing.
 use Rattle.std.specs.Prelude.{◌≡◌}
 use Rattle.kat_model.specs.Problems.{ProblemParts}
 use Rattle.kat_model.specs.Relations.{Same}
@@ -7,15 +7,15 @@ use Rattle.certificate.specs.declared.evidence.Evidence.TheVariants.{Equal, Diff
 use Rattle.cert_checker.specs.declared.answer.Answer.{Answer}
 use Rattle.cert_checker.specs.Answers.{Shows, IsAnswer}
 
--- what evidence says of a question: a certificate that both sides are the same, a string that they are not
+-- the claim of evidence: a certificate says that both sides are the same, a string that they are not
 abbrev pub Says : ProblemParts → Evidence → Type 0
 Says q (Equal c) = Same q
 Says q (Different x) = Same q → ⊥
 
--- what evidence shows is so
+-- accepted evidence has a true claim
 abbrev pub ShownIsSo : Type 0
 ShownIsSo = (q : ProblemParts) (e : Evidence) → Shows q e → Says q e
 
--- evidence has one answer
+-- evidence has exactly one answer
 abbrev pub HasOneAnswer : Type 0
 HasOneAnswer = (q : ProblemParts) (e : Evidence) (a b : Answer) → IsAnswer q e a → IsAnswer q e b → a ≡ b

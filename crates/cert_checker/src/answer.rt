@@ -1,29 +1,29 @@
 //! Answers of the checker.
 use kat_model::Items;
 
-/// Why evidence is rejected. Pairs, nodes, hypotheses, positions and actions are numbered from 0; an atom has
-/// a truth value for each test, test 0 first.
+/// Why evidence is rejected. Pairs, nodes, hypotheses, positions and actions are numbered from 0. An atom has a truth
+/// value for each test, test 0 first.
 ///
-/// The reason of a certificate is the first in this order: `TestNode`, `TermNode`, `FirstPair`, and then the
-/// least pair that fails, in it the least atom at which it fails (atoms are compared from test 0, false before
-/// true), and there `Output` before `Missing` and `MissingTo`, which name the least action, and for it the
-/// least atom that it leads to.
+/// The reason of a rejected certificate is the first in this order: `TestNode`, `TermNode`, `FirstPair`, and then the
+/// reasons of the least failing pair. For this pair, the least atom at which it fails comes first (atoms are compared
+/// from test 0, false before true). At this atom `Output` precedes `Missing` and `MissingTo`, which name the least
+/// action and, for it, the least atom after the action.
 #[derive(Drop)]
 pub enum Reason {
-    /// There is no pair, or the first one is not the two closed sides, each as a set of one term; or its test
-    /// is false at an allowed atom.
+    /// There is no pair, or the first pair is not the two closed sides, each as a set of one term, or its test is false
+    /// at an allowed atom.
     FirstPair,
-    /// At this pair and atom one set accepts and the other does not. In the style of tests the atom is allowed and
-    /// the pair's test is true there.
+    /// One set of this pair accepts this atom and the other does not. In the style of tests the atom is allowed and
+    /// satisfies the pair's test.
     Output(usize, Items<bool>),
-    /// At this pair and atom, the sets that this action leads to are not matched by the listed pairs.
+    /// At this pair and atom, the listed pairs do not match the sets that this action leads to.
     Missing(usize, Items<bool>, usize),
-    /// At this pair and atom, the sets that this action leads to are not matched by the listed pairs whose tests
-    /// are true at the atom named last. The pair's test is true at the first atom, and the move is allowed.
+    /// At this pair and atom, the sets that this action leads to are not matched by the listed pairs whose tests are
+    /// true at the last atom. The first atom satisfies the pair's test, and the move is allowed.
     MissingTo(usize, Items<bool>, usize, Items<bool>),
-    /// At this position the atom has not a value for each test, or the action into it is out of range.
+    /// At this position the atom does not assign every test, or the action into it is out of range.
     Shape(usize),
-    /// This hypothesis relates the first position named to the second.
+    /// This hypothesis relates the first position to the second.
     HypBroken(usize, usize, usize),
     /// Both sides relate the ends of the string, or neither does.
     EndsAgree,
@@ -33,11 +33,11 @@ pub enum Reason {
     TermNode(usize),
 }
 
-/// What the checker says of evidence.
+/// The verdict of the checker on evidence.
 #[derive(Drop)]
 pub enum Answer {
-    /// It shows what it says: that the sides are the same, or that they are not.
+    /// The evidence shows its claim: that the sides are the same, or that they are not.
     Accepted,
-    /// It does not, and this is the first reason.
+    /// The evidence does not show its claim, for this first reason.
     Rejected(Reason),
 }

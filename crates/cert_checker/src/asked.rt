@@ -1,4 +1,4 @@
-//! The tests on which the answer to a question rests. Nothing is known of others, which it does not name.
+//! The tests that the answer to a question depends on. No other tests are evaluated.
 ghost use Rattle.std.specs.Prelude.{IfOk, ℕ};
 ghost use Rattle.kat_model.specs.Members.{Has, IsSubset};
 ghost use Rattle.cert_steps.specs.NodeTables.{IsTest};
@@ -9,7 +9,7 @@ use certificate::TestNode;
 use kat_model::NoMemory;
 use std::collections::BTreeSet;
 
-/// These tests, and those of which they are made, which come first.
+/// Returns the given tests and, before each, the tests that are its parts.
 pub(crate) fn with_parts(
     tables: &Tables,
     mut tests: BTreeSet<usize>,

@@ -10,7 +10,7 @@ use crate::question::Question;
 use kat_model::NoMemory;
 use std::alloc::Global;
 
-// The least values with the decided tests.
+// Returns the least values that extend the decided tests.
 fn least_values(alloc: Global, decided: &[Option<bool>]) -> Result<Vec<bool>, NoMemory>
     ensures { IfOk result (λ v. v.items ≡ least_of decided.now) }
 {
@@ -18,8 +18,8 @@ fn least_values(alloc: Global, decided: &[Option<bool>]) -> Result<Vec<bool>, No
     Ok(values.collect(alloc)?)
 }
 
-/// The least values of two atoms, those of the first and then those of the second, with the decided tests and below the
-/// bound, at which the question fails.
+/// Returns the least values of two atoms, those of the first atom followed by those of the second, that extend the
+/// decided tests, are below the bound, and at which the question fails.
 pub(crate) fn least_failure(
     question: &Question,
     case: &mut Case,

@@ -31,7 +31,7 @@ fn reason_of_place(place: Place, style: Style) -> Reason
     }
 }
 
-// The first reason of the pairs, where all nodes are in range.
+// Returns the first reason of the pairs. All nodes must be in range.
 fn pairs_reason(alloc: Global, problem: &Problem, cert: &Cert) -> Result<Option<Reason>, NoMemory>
     requires tests { (k : ℕ) → Has cert.now.test_nodes (Prim k) → k < problem.now.tests }
     requires actions { (a : ℕ) → Has cert.now.term_nodes (Act a) → a < problem.now.actions }
@@ -46,7 +46,7 @@ fn pairs_reason(alloc: Global, problem: &Problem, cert: &Cert) -> Result<Option<
     Ok(place.map(|place| reason_of_place(place, cert.style())))
 }
 
-// The first reason why the certificate is not accepted.
+// Returns the first reason why the certificate is not accepted.
 fn certificate_reason(
     alloc: Global,
     problem: &Problem,
@@ -63,7 +63,7 @@ fn certificate_reason(
     pairs_reason(alloc, problem, cert)
 }
 
-// Why a string with this finding does not refute the problem.
+// Returns the reason why a string with this finding does not refute the problem.
 fn string_reason(finding: Finding) -> Option<Reason>
     ensures { result ≡ finding_reason finding }
 {
@@ -75,7 +75,7 @@ fn string_reason(finding: Finding) -> Option<Reason>
     }
 }
 
-// The first reason why the evidence does not show what it says.
+// Returns the first reason why the evidence does not show its claim.
 fn first_reason(
     alloc: Global,
     problem: &Problem,
@@ -89,17 +89,16 @@ fn first_reason(
     }
 }
 
-/// Whether the evidence shows what it says of the problem: `Accepted` exactly where the certificate is accepted
-/// or the string refutes the problem, and otherwise `Rejected` with the first reason. Nothing is assumed of who
-/// made it. Fails only when out of memory.
+/// Checks whether the evidence shows its claim about the problem. Returns `Accepted` if and only if the certificate is
+/// accepted or the string refutes the problem, otherwise `Rejected` with the first reason. Makes no assumption about
+/// the origin of the evidence. Fails only when out of memory.
 ///
-/// The reason is the one that `Reason` says: the certificate or the string fails so, and in no way that stands
-/// before.
+/// The reason follows the order of `Reason`: the certificate or the string fails by it, and by no earlier reason.
 pub fn check(alloc: Global, problem: &Problem, evidence: &Evidence) -> Result<Answer, NoMemory>
     ensures accepted { IfOk result (λ answer. (answer ≡ Accepted) ↔ Shows problem.now evidence.now) }
     ensures answer { IfOk result (λ answer. IsAnswer problem.now evidence.now answer) }
 
-    // What accepted evidence says is so: both sides are the same, or they are not.
+    // The claim of accepted evidence is true: both sides are the same, or they are not.
     ensures shown { IfOk result (λ answer. answer ≡ Accepted → Says problem.now evidence.now) }
 {
     match first_reason(alloc, problem, evidence)? {

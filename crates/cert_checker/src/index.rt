@@ -1,5 +1,5 @@
-//! An index of the listed pairs: each of their sets stands under its last member. So the sets that lie in a set of terms
-//! stand under those terms.
+//! An index of the listed pairs: each of their sets is listed under its last member. So the nonempty subsets of a set
+//! of terms are listed under its members.
 ghost use Rattle.std.specs.Prelude.{◌≡◌, IfOk, OnOk};
 ghost use Rattle.kat_model.specs.Members.{Has};
 ghost use Rattle.cert_checker.specs.Working.Indices.{places_at, places_by, KeepsPlaces, AreIndexed};
@@ -10,7 +10,8 @@ use std::alloc::Global;
 use std::collections::BTreeMap;
 use std::marker::Model;
 
-/// Places of pairs: of those with an empty set, and by terms of those with a set of which the term is the last member.
+/// Places of pairs: those of pairs with an empty set, and for each term those of pairs with a set whose last member is
+/// the term.
 #[derive(Drop)]
 pub(crate) struct PairIndex {
     apart: Vec<usize>,
@@ -27,7 +28,7 @@ impl Model for PairIndex {
 }
 
 impl PairIndex {
-    // Adds the place of a pair with this set.
+    // Adds the place of a pair that has this set.
     fn add(&mut self, alloc: Global, set: &[usize], place: usize) -> Result<(), NoMemory>
         ensures added { OnOk result (Has (places_by self.new set.now) place) }
         ensures kept { OnOk result (KeepsPlaces self.old self.new) }
@@ -43,7 +44,7 @@ impl PairIndex {
         Ok(())
     }
 
-    /// The index of these pairs.
+    /// Builds the index of these pairs.
     pub(crate) fn of(alloc: Global, pairs: &[Pair]) -> Result<PairIndex, NoMemory>
         ensures { IfOk result (λ x. AreIndexed x pairs.now) }
     {
@@ -58,7 +59,7 @@ impl PairIndex {
         Ok(index)
     }
 
-    /// The places of pairs that stand under the term, or without one of those with an empty set.
+    /// Returns the places of pairs under the term or, without a term, of pairs with an empty set.
     pub(crate) fn places(&self, last: Option<usize>) -> &[usize]
         ensures { result.now ≡ places_at self.now last }
     {

@@ -1,5 +1,5 @@
-//! What is known of tests where some primitive tests of two atoms are decided (three-valued logic, Kleene 1938). The
-//! primitive tests of both are numbered in one list: those of the first atom, and then those of the second.
+//! What is known of tests when some primitive tests of two atoms are decided (three-valued logic, Kleene 1938). The
+//! primitive tests of both atoms have numbers in one list: first those of the first atom, then those of the second.
 ghost use Rattle.std.specs.Prelude.{◌≡◌, ◌≤◌, ◌+◌, ℕ, length, IfOk, OnOk};
 ghost use Rattle.kat_model.specs.Members.{Has};
 ghost use Rattle.term_nodes.specs.Nodes.{IsTestOver};
@@ -15,14 +15,14 @@ use std::alloc::Global;
 /// What is known of a truth value.
 #[derive(Clone, Copy, Debug, PartialEq, Eq)]
 pub(crate) enum Known {
-    /// It is this, however the other tests are decided.
+    /// It has this value for all values of the open tests.
     Value(bool),
     /// It may depend on this test, which is not decided.
     Waits(usize),
 }
 
-/// Which primitive tests of two atoms are decided, and what is known of tests by their numbers: at the first atom, at
-/// which a move begins, and at the second, at which it ends. It is right for the tests that are asked.
+/// Which primitive tests of two atoms are decided, and what is known of tests, by their numbers: at the first atom,
+/// where a move begins, and at the second, where it ends. It is correct for the tests in the lists of the question.
 #[derive(Drop)]
 pub(crate) struct Case {
     pub decided: Vec<Option<bool>>,
@@ -30,14 +30,14 @@ pub(crate) struct Case {
     pub end: Vec<Known>,
 }
 
-/// What is known of the test.
+/// Returns what is known of the test.
 pub(crate) fn value_of(known: &[Known], test: usize) -> Known
     ensures { result ≡ known_of known.now test }
 {
     known.get(test).copied().unwrap_or(Known::Value(false))
 }
 
-/// What is known of the test of a pair. Without one it is true.
+/// Returns what is known of the test of a pair. Without a test the value is true.
 pub(crate) fn test_value(known: &[Known], test: Option<usize>) -> Known
     ensures { result ≡ known_test known.now test }
 {
@@ -72,7 +72,8 @@ pub(crate) fn conjunction(x: Known, y: Known) -> Known
     }
 }
 
-// What is known of a node, over what is known of those that it names. The numbers of primitive tests begin at `first`.
+// Returns what is known of a node, given what is known of the nodes that it names. The numbers of primitive tests begin
+// at `first`.
 fn known_in(node: TestNode, known: &[Known], decided: &[Option<bool>], first: usize) -> Known
     requires parts { IsTestOver (length known.now) node }
     requires within { IsWithin (length decided.now) node }
@@ -92,8 +93,8 @@ fn known_in(node: TestNode, known: &[Known], decided: &[Option<bool>], first: us
     }
 }
 
-// Says what is known of these tests, among which are those of which they are made, at an atom. The numbers of its
-// primitive tests begin at `first`.
+// Computes what is known of these tests at an atom. The list must contain their parts. The numbers of the primitive
+// tests begin at `first`.
 fn evaluate(
     known: &mut [Known],
     tables: &Tables,
@@ -118,7 +119,7 @@ impl Case {
     ghost use Rattle.kat_model.specs.declared.limits.TheConstants.{MAX_TESTS};
     ghost use Rattle.cert_checker.specs.Working.Questions.{IsPosed, IsCase};
 
-    /// No test is decided.
+    /// Creates a case in which no test is decided.
     pub(crate) fn new(alloc: Global, width: usize) -> Result<Case, NoMemory>
         requires { width ≤ MAX_TESTS }
         ensures { IfOk result (λ c. c.decided.items ≡ undecided (width + width)) }
@@ -130,7 +131,7 @@ impl Case {
         })
     }
 
-    /// Says what is known of the tests that the question names, after room is made for all.
+    /// Computes what is known of the tests that the question names, after making room for all tests.
     pub(crate) fn evaluate(&mut self, question: &Question) -> Result<(), NoMemory>
         requires question { IsPosed question.now }
         requires decided { length self.old.decided.items ≡ question.now.tables.width + question.now.tables.width }

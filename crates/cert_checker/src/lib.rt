@@ -1,12 +1,12 @@
-//! The checker of evidence. It stands on no part of a prover. What it shares with one lies below both: terms and
-//! their steps (`kat_model`), the closed sides of a problem (`goal_forms`), which hypotheses are short (`hypothesis_kinds`),
-//! guarded strings and their tables (`string_tables`), nodes of terms (`term_nodes`), and what a certificate is and when
-//! one is accepted (`certificate`).
+//! The checker of evidence. It depends on no part of a prover. The crates that it shares with a prover are below both:
+//! terms and their steps (`kat_model`), the closed sides of a problem (`goal_forms`), which hypotheses are short
+//! (`hypothesis_kinds`), guarded strings and their tables (`string_tables`), nodes of terms (`term_nodes`), and
+//! certificates and their acceptance (`certificate`).
 //!
-//! A certificate is gone through as it stands: the ranges of its nodes, its first pair, and then, for the outputs
-//! and for each action, each pair by cases on the tests of an atom and, in the style of tests, of the atom that a
-//! move leads to. The terms that steps lead to are numbers of one table, so that long chains and shared nodes cost
-//! neither stack nor the size of the trees.
+//! The checker traverses a certificate in its own order: the ranges of its nodes, its first pair, and then, for the
+//! outputs and for each action, each pair. It checks a pair by cases on the tests of an atom and, in the style of
+//! tests, of the atom after a move. The terms that steps lead to are numbers of one table, so long chains and shared
+//! nodes cost neither stack nor the size of the trees.
 #![tactic(auto)]
 
 mod answer;

@@ -1,4 +1,4 @@
-//! Whether the listed pairs match the sets that an action leads to, as far as the decided tests tell.
+//! Whether the listed pairs match the sets that an action leads to, as far as the decided tests determine it.
 ghost use Rattle.std.specs.Prelude.{◌≡◌, ◌↔◌, ◌&&◌, false, None, IsTrue, MatchOption, IfSome, IfOk};
 ghost use Rattle.std.specs.Option.{option_map_or};
 ghost use Rattle.kat_model.specs.Members.{IsSubset};
@@ -14,12 +14,12 @@ use certificate::Style;
 use kat_model::NoMemory;
 use std::alloc::Global;
 
-/// What is known of a question at all values of two atoms with the decided tests.
+/// What is known of a question at all values of two atoms that extend the decided tests.
 #[derive(Clone, Copy)]
 pub(crate) enum State {
-    /// It holds at each of them.
+    /// It holds at all of these values.
     Holds,
-    /// It fails at each of them.
+    /// It fails at all of these values.
     Fails,
     /// It may depend on this test, which is not decided.
     Waits(usize),
@@ -30,15 +30,15 @@ pub(crate) enum State {
 pub(crate) enum Move {
     /// It counts.
     Counts,
-    /// This test alone tells whether it is forbidden by some pair of tests.
+    /// Only this test decides whether some pair of tests forbids the move.
     Tied(usize),
     /// Whether it counts may depend on this test.
     Waits(usize),
 }
 
-/// What is known of the targets of one side of a question: the terms that surely are in its set, in ascending order; those
-/// that may be in it at an atom at which they are not in the other; and a test that the guard of one of these waits for, and
-/// one that the guard of some target does.
+/// What is known of the targets of one side of a question: the terms that are surely in its set, in ascending order;
+/// the open terms, which may be in it at an atom at which they are not in the other set; a test that the guard of an
+/// open term waits for; and a test that the guard of some target waits for.
 #[derive(Drop)]
 pub(crate) struct Side {
     pub sure: Vec<usize>,
@@ -54,7 +54,8 @@ pub(crate) struct Sides {
     pub right: Side,
 }
 
-// None where the move does not count: the test of the pair is false where it begins, or it is forbidden.
+// Returns what is known of the move, or `None` if it does not count: the test of the pair is false at its beginning, or
+// the move is forbidden.
 fn move_of(question: &Question, case: &Case) -> Option<Move>
     ensures { MatchOption result (IsTrue (is_excluded question.now case.now)) (IsMove question.now case.now) }
 {
@@ -87,7 +88,7 @@ fn move_of(question: &Question, case: &Case) -> Option<Move>
     }
 }
 
-// Whether the term surely is among the targets where its guard is true.
+// Whether `term` is surely among the targets wherever `guard` is true.
 fn has_too(targets: &Targets, term: usize, guard: usize, known: &[Known]) -> bool
     ensures { result ≡ has_too' known.now targets.now.entries term guard }
 {
@@ -129,7 +130,7 @@ fn side_of(
     Ok(side)
 }
 
-// Whether the terms that surely are in the sets are those of some pair that counts.
+// Whether some pair that counts has exactly the surely present terms as its sets.
 fn are_listed(counted: &Counted, sides: &Sides) -> bool
     requires { IsIndexed counted.now }
     ensures { result ≡ lists (counting_in counted.now) sides.now.left.sure.items sides.now.right.sure.items }
@@ -156,8 +157,8 @@ fn are_listed(counted: &Counted, sides: &Sides) -> bool
     false
 }
 
-// Whether the pairs that count bring what may be in one set alone to what surely is in the other, or the universal term to
-// both. What may be in one alone surely is in it.
+// Whether the pairs that count make each open term reachable from the surely present terms of the other set, or the
+// universal term from both sets. Open terms must be surely present in their own set.
 fn are_covered(counted: &Counted, sides: &Sides) -> Result<bool, NoMemory>
     requires indexed { IsIndexed counted.now }
     requires left { IsSubset sides.now.left.alone.items sides.now.left.sure.items }
@@ -199,7 +200,7 @@ fn are_matched(counted: &Counted, sides: &Sides) -> Result<bool, NoMemory>
     }
 }
 
-// Whether the term surely is among the targets.
+// Whether the term is surely among the targets.
 fn is_sure(targets: &Targets, term: usize, known: &[Known]) -> bool
     ensures { result ≡ is_sure' known.now targets.now.entries term }
 {
@@ -208,7 +209,7 @@ fn is_sure(targets: &Targets, term: usize, known: &[Known]) -> bool
         .is_some_and(|guard| is_true(value_of(known, *guard)))
 }
 
-// Whether both sets surely hold the universal term.
+// Whether both sets surely contain the universal term.
 fn are_universal(question: &Question, known: &[Known]) -> bool
     ensures { result ≡ option_map_or (λ u. is_sure' known.now question.now.left u && is_sure' known.now question.now.right u) question.now.turn.universal false }
 {
@@ -223,7 +224,7 @@ fn has_surely_all(targets: &Targets, terms: &[usize], known: &[Known]) -> bool {
     terms.iter().all(|term| is_sure(targets, *term, known))
 }
 
-// A test that a listed pair waits for: first of those of which both sets surely are within the two.
+// Returns a test that a listed pair waits for, preferably of a pair whose sets are surely subsets of the two sets.
 fn waiting_pair(question: &Question, case: &Case) -> Option<usize>
     ensures { MatchOption result (AreTestsSettled case.now.end.items question.now.turn.pairs) (IsWaited question.now case.now) }
 {
@@ -241,7 +242,7 @@ fn waiting_pair(question: &Question, case: &Case) -> Option<usize>
     waiting
 }
 
-// A test that the guard of the universal term waits for.
+// Returns a test that the guard of the universal term waits for.
 fn waiting_universal(targets: &Targets, universal: Option<usize>, known: &[Known]) -> Option<usize>
     ensures { IfSome result (IsWaitedBy known.now targets.now.entries) }
 {
@@ -251,8 +252,7 @@ fn waiting_universal(targets: &Targets, universal: Option<usize>, known: &[Known
     }
 }
 
-// A test that some guard waits for: first of that of the universal term, then of those of terms that may be in one set
-// alone.
+// Returns a test that some guard waits for: preferably that of the universal term, then that of an open term.
 fn waiting_guard(question: &Question, known: &[Known], sides: &Sides) -> Option<usize>
     requires { AreSides known.now question.now.left question.now.right sides.now }
     ensures { MatchOption result ((sides.now.left.waits ≡ None) × (sides.now.right.waits ≡ None)) (IsWaitedByOne known.now question.now.left question.now.right) }
@@ -266,9 +266,10 @@ fn waiting_guard(question: &Question, known: &[Known], sides: &Sides) -> Option<
         .or(sides.right.waits)
 }
 
-/// What is known of the question in this case. Where it is not known, the test is one that keeps the cases few: one that
-/// is tied to decided ones, then one of a guard, first where the sides differ, then one of a pair where those that may
-/// count cover the sets, and then one that tells whether the move counts.
+/// Returns what is known of the question in this case. If it is not known, the returned test is chosen to keep the
+/// number of cases low: first a test that is tied to decided ones; then a test of a guard, preferably of one where the
+/// sides differ; then a test of a pair, if the pairs that may count cover the sets; then a test that decides whether
+/// the move counts.
 pub(crate) fn state_of(question: &Question, case: &Case) -> Result<State, NoMemory>
     requires question { IsPosed question.now }
     requires case { IsCase question.now.tables question.now question.now.asked case.now.decided.items case.now }

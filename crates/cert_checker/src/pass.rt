@@ -25,8 +25,9 @@ use std::alloc::Global;
 use std::collections::BTreeSet;
 use std::marker::Model;
 
-/// A pair and an atom at which the sets of the pair do not accept alike or, where there is an action, the sets
-/// that it leads to are not matched at the atom to which it leads. The least comes first.
+/// A pair and an atom at which the pair fails: without an action, its sets do not accept alike; with an action, the
+/// sets that the action leads to are not matched at the atom after it. Places are ordered by pair, atom, action and the
+/// atom after it.
 #[derive(PartialEq, Eq, PartialOrd, Ord, Drop)]
 pub(crate) struct Place {
     pub pair: usize,
@@ -35,10 +36,10 @@ pub(crate) struct Place {
     pub to: Vec<bool>,
 }
 
-/// What a certificate is gone through with: its nodes and the terms on which its pairs rest, those that steps lead to after
-/// them; the numbers of the closed sides that are compared, of their universal term where there is one, and of the hypotheses
-/// that count as short; the tests that are true where terms accept and where a short hypothesis does; and marks of the terms
-/// of which steps are made.
+/// The state of a pass over a certificate: its nodes and the root terms of the problem, followed by the terms that
+/// steps lead to; the numbers of the compared closed sides, of their universal term if there is one, and of the
+/// hypotheses that count as short; the tests that are true where terms accept and where a short hypothesis does; and
+/// marks of the terms whose steps are computed.
 #[derive(Drop)]
 pub(crate) struct Pass<'a> {
     problem: &'a Problem,
@@ -66,7 +67,7 @@ impl<'a> Model for Pass<'a> {
     ghost view = { λ p. record { problem = p.problem.now; cert = p.cert.now; index = p.index.now; tables = p.tables; left = p.left; right = p.right; universal = p.universal; shorts = p.shorts.items; accepting = p.accepting.items; banned = p.banned; needed = p.needed.items } };
 }
 
-// The closed sides that the style compares.
+// Returns the closed sides that the style compares.
 fn closed_sides(alloc: Global, problem: &Problem, style: Style) -> Result<Closed, NoMemory>
     ensures { IfOk result (λ c. closed_trees c ≡ compared style problem.now) }
 {
@@ -76,7 +77,7 @@ fn closed_sides(alloc: Global, problem: &Problem, style: Style) -> Result<Closed
     }
 }
 
-// The numbers of these sides, and of the universal term where there is one.
+// Returns the numbers of these sides, and of the universal term if there is one.
 fn side_numbers(
     tables: &mut Tables,
     problem: &Problem,
@@ -97,7 +98,7 @@ fn side_numbers(
     Ok((left, right, universal))
 }
 
-// The numbers of the hypotheses that count as short.
+// Returns the numbers of the hypotheses that count as short.
 fn short_numbers(
     tables: &mut Tables,
     problem: &Problem,
@@ -121,7 +122,7 @@ fn short_numbers(
     Ok(numbers)
 }
 
-// The test that is true where some member of the set accepts.
+// Returns the test that is true where some member of the set accepts.
 fn acceptance(tables: &mut Tables, accepting: &[usize], set: &[usize]) -> Result<usize, NoMemory>
     requires accepting { AreAcceptances tables.old accepting.now }
     requires set { IsTrue (are_below (length accepting.now) set.now) }
@@ -147,7 +148,7 @@ fn mark_all(marks: &mut [bool], set: &[usize])
     }
 }
 
-// Marks of the terms of which steps are made: those of listed pairs and short hypotheses, and their parts.
+// Marks the terms whose steps are computed: those of listed pairs and short hypotheses, and their parts.
 fn needed_terms(tables: &Tables, cert: &Cert, shorts: &[usize]) -> Result<Vec<bool>, NoMemory>
     requires shorts { IsTrue (are_below (length tables.now.terms) shorts.now) }
     requires pairs { length cert.now.term_nodes ≤ length tables.now.terms }
@@ -178,7 +179,7 @@ impl<'a> Pass<'a> {
     ghost use Rattle.cert_checker.specs.Working.Roots.{counted_short};
     ghost use Rattle.cert_checker.specs.Working.Places.{IsFirstOf, IsPass, PassGrows, IsTurn, AreForbidden, StepsOf, PairHolds, place_reason, turn_number};
 
-    /// The pass over this certificate with the index of its pairs.
+    /// Prepares the pass over this certificate, with the index of its pairs.
     pub(crate) fn of(
         alloc: Global,
         problem: &'a Problem,
@@ -211,8 +212,8 @@ impl<'a> Pass<'a> {
         })
     }
 
-    // Pairs of tests of which no move by the action that is allowed, or without an action no allowed atom, has the first
-    // true at its begin and the second at its end.
+    // Returns pairs of tests that forbid a move: a move by the action or, without an action, an atom is allowed if and
+    // only if no pair has its first test true at the beginning and its second at the end.
     fn forbidden(
         &mut self,
         steps: &[Targets],
@@ -240,7 +241,7 @@ impl<'a> Pass<'a> {
         Ok(forbidden)
     }
 
-    // What is asked of each pair: of its outputs, or by the action.
+    // Returns the condition on each pair: on its outputs, or for the action.
     fn turn(&mut self, action: Option<usize>) -> Result<Turn<'a>, NoMemory>
         requires { IsPass self.old }
         ensures turn { IfOk result (IsTurn self.new) }
@@ -273,7 +274,7 @@ impl<'a> Pass<'a> {
         })
     }
 
-    // The least values of two atoms at which the pair fails.
+    // Returns the least values of two atoms at which the pair fails.
     fn pair_failure(
         &mut self,
         turn: &Turn,
@@ -295,7 +296,7 @@ impl<'a> Pass<'a> {
         least_failure(&question, case, None)
     }
 
-    // The first pair that fails by its outputs or by the action, with its least atom.
+    // Returns the first pair that fails by its outputs or by the action, with its least atom.
     fn first_failure(&mut self, action: Option<usize>) -> Result<Option<Place>, NoMemory>
         requires pass { IsPass self.old }
         requires action { turn_number action < self.old.problem.actions + 1 }
@@ -320,7 +321,7 @@ impl<'a> Pass<'a> {
         Ok(None)
     }
 
-    /// The first place at which the pairs fail. Outputs and each action are gone through apart.
+    /// Returns the first place at which the pairs fail. Checks outputs and each action separately.
     pub(crate) fn first_place(&mut self) -> Result<Option<Place>, NoMemory>
         requires { IsPass self.old }
         ensures { IfOk result (λ o. IsFirstOf self.old.problem self.old.cert (λ n. n < self.old.problem.actions + 1) (option_map (place_reason self.old.cert.style) o)) }
@@ -371,7 +372,7 @@ impl<'a> Pass<'a> {
     }
 }
 
-// The lesser of the places that are there.
+// Returns the lesser of the given places.
 fn least_place(first: Option<Place>, second: Option<Place>) -> Option<Place>
     ensures { IsLeastOf first second result }
 {

@@ -1,4 +1,4 @@
-//! What is asked of pairs.
+//! The conditions on pairs.
 use crate::asked::with_parts;
 use crate::index::PairIndex;
 use cert_steps::{Tables, Targets};
@@ -7,9 +7,8 @@ use kat_model::NoMemory;
 use std::collections::BTreeSet;
 use std::marker::Model;
 
-/// What is asked of each pair: of its outputs or, where there is an action, of the sets that it leads to; with the steps
-/// by the action, and the style, pairs and universal term by which sets are matched. Of outputs it is that they are the
-/// same.
+/// The condition on each pair: on its outputs or, if there is an action, on the sets that it leads to; with the steps
+/// by the action, and the style, the pairs and the universal term for matching sets. The outputs must be the same.
 #[derive(Drop)]
 pub(crate) struct Turn<'a> {
     pub action: Option<usize>,
@@ -18,9 +17,9 @@ pub(crate) struct Turn<'a> {
     pub pairs: &'a [Pair],
     pub index: &'a PairIndex,
     pub universal: Option<usize>,
-    /// Pairs of tests of which no move that is allowed has the first true at its begin and the second at its end; the
-    /// tests that these name at the first atom, and those that they and the pairs name at the second, with the tests of
-    /// which these are made.
+    /// Pairs of tests: a move is forbidden if the first is true at its beginning and the second at its end. `begin` and
+    /// `end` are the tests that these pairs name at the first atom, and that these and the listed pairs name at the
+    /// second, with their parts.
     pub forbidden: Vec<(usize, usize)>,
     pub begin: Vec<usize>,
     pub end: Vec<usize>,
@@ -35,10 +34,11 @@ impl<'a> Model for Turn<'a> {
     ghost view = { λ t. record { action = t.action; steps = map (λ x. x.entries) t.steps.items; style = t.style; pairs = t.pairs.now; index = t.index.now; universal = t.universal; forbidden = t.forbidden.items; begin = t.begin.items; end = t.end.items } };
 }
 
-/// A question about two atoms, those at which a move begins and ends. Where the test of the pair is true at the first and
-/// no forbidden pair of tests is true, the one at the first and the other at the second, the listed pairs are to match
-/// the sets for which the targets stand at the first: in the plain style some pair is these sets, and in the others those
-/// pairs whose test is true at the second make them congruent.
+/// A question about two atoms, at the beginning and the end of a move. It concerns moves that count: the test of the
+/// pair is true at the first atom, and no forbidden pair has its first test true there and its second test true at the
+/// second atom. For such a move the listed pairs must match the sets that the targets stand for at the first atom. In
+/// the plain style some pair has exactly these sets; in the other styles the pairs whose test is true at the second
+/// atom make them congruent.
 #[derive(Drop)]
 pub(crate) struct Question<'a> {
     pub tables: &'a Tables,
@@ -46,7 +46,7 @@ pub(crate) struct Question<'a> {
     pub own: Option<usize>,
     pub left: Targets,
     pub right: Targets,
-    /// The tests that the targets and the pair name, with those of which they are made.
+    /// The tests that the targets and the pair name, with their parts.
     pub asked: Vec<usize>,
 }
 
@@ -64,7 +64,7 @@ impl<'a> Question<'a> {
     ghost use Rattle.cert_steps.specs.Targets.{AreEntries};
     ghost use Rattle.cert_checker.specs.Working.Questions.{AreNamed, IsAskedOf};
 
-    /// What the turn asks of two sets that lead to these targets, under a test.
+    /// Builds the question of the turn about two sets with these targets, under a test.
     pub(crate) fn of(
         tables: &'a Tables,
         turn: &'a Turn<'a>,

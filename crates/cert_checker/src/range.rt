@@ -7,14 +7,14 @@ ghost use Rattle.cert_checker.specs.Working.Ranges.{IsFirstOut};
 
 use certificate::{TermNode, TestNode};
 
-/// The least test node whose primitive test is not below the number of tests.
+/// Returns the least test node whose primitive test is not below the number of tests.
 pub(crate) fn test_out(nodes: &[TestNode], tests: usize) -> Option<usize>
     ensures { MatchOption result ((i : ℕ) → Has nodes.now (Prim i) → i < tests) (λ k. IsFirstOut Prim tests nodes.now k) }
 {
     nodes.iter().position(|node| matches!(node, TestNode::Prim(test) if *test >= tests))
 }
 
-/// The least term node whose action is not below the number of actions.
+/// Returns the least term node whose action is not below the number of actions.
 pub(crate) fn action_out(nodes: &[TermNode], actions: usize) -> Option<usize>
     ensures { MatchOption result ((i : ℕ) → Has nodes.now (Act i) → i < actions) (λ k. IsFirstOut Act actions nodes.now k) }
 {

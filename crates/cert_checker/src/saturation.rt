@@ -1,5 +1,5 @@
-//! Saturation of a set of terms by pairs (congruence closure: Bonchi and Pous 2013). Only the pairs that stand under terms
-//! of the set are looked at.
+//! Saturation of a set of terms by pairs (congruence closure: Bonchi and Pous 2013). Visits only the pairs that the
+//! index lists under reached or wanted terms, and the pairs with an empty set.
 ghost use Rattle.std.specs.Prelude.{◌≡◌, ◌↔◌, ◌⊎◌, ℕ, IsTrue, IfOk, OnOk};
 ghost use Rattle.kat_model.specs.Members.{Has, IsSubset};
 ghost use Rattle.cert_checker.specs.Working.Indices.{places_at, places_under};
@@ -14,8 +14,8 @@ use indexmap::IndexSet;
 use kat_model::NoMemory;
 use std::alloc::Global;
 
-/// The listed pairs of a turn of which the test is true or, where `also_open` says so, may be, by what is known of tests
-/// at the end of a move: those that count.
+/// The listed pairs of a turn that count: by what is known of tests at the end of a move, their test is true or, if
+/// `also_open`, may be true.
 #[derive(Drop)]
 pub(crate) struct Counted<'a> {
     pub alloc: Global,
@@ -27,7 +27,7 @@ pub(crate) struct Counted<'a> {
 impl<'a> Counted<'a> {
     ghost use Rattle.std.specs.Prelude.{◌≡◌};
 
-    /// The pairs of the question that count in the case.
+    /// Returns the pairs of the question that count in the case.
     pub(crate) fn of(question: &'a Question<'a>, case: &'a Case, also_open: bool) -> Counted<'a>
         ensures turn { result.turn.now ≡ question.now.turn }
         ensures known { result.known.now ≡ case.now.end.items }
@@ -67,7 +67,7 @@ fn add_all(reached: &mut IndexSet<usize>, set: &[usize]) -> Result<(), NoMemory>
     Ok(())
 }
 
-// Adds the second set where all of the first is reached.
+// Adds the second set if all of the first is reached.
 fn bring(reached: &mut IndexSet<usize>, set: &[usize], other: &[usize]) -> Result<(), NoMemory>
     ensures { OnOk result (IsBrought set.now other.now reached.old.keys reached.new.keys) }
 {
@@ -77,8 +77,8 @@ fn bring(reached: &mut IndexSet<usize>, set: &[usize], other: &[usize]) -> Resul
     add_all(reached, other)
 }
 
-// Goes over the pairs under the term, or those with an empty set: where one counts and all of one of its sets is reached,
-// the other is added.
+// Visits the pairs under the term, or those with an empty set. If a pair counts and all of one of its sets is reached,
+// adds the other set.
 fn add_pairs(
     reached: &mut IndexSet<usize>,
     counted: &Counted,
@@ -99,7 +99,7 @@ fn add_pairs(
     Ok(())
 }
 
-// Goes over the pairs under these terms.
+// Visits the pairs under these terms.
 fn add_under(
     reached: &mut IndexSet<usize>,
     counted: &Counted,
@@ -113,7 +113,7 @@ fn add_under(
     Ok(())
 }
 
-// Goes over the pairs under each term that is reached, those that are added on the way too, until all that is wanted is
+// Visits the pairs under each reached term, including terms that are added on the way, until all wanted terms are
 // reached.
 fn add_round(
     reached: &mut IndexSet<usize>,
@@ -135,8 +135,8 @@ fn add_round(
     Ok(())
 }
 
-/// Whether the pairs that count bring each of the wanted terms to these. Those under the wanted terms come first:
-/// mostly one of them does.
+/// Whether the pairs that count make each wanted term reachable from `from`. Visits the pairs under the wanted terms
+/// first, because usually one of those suffices.
 pub(crate) fn reaches(counted: &Counted, from: &[usize], wanted: &[usize]) -> Result<bool, NoMemory>
     requires { IsIndexed counted.now }
     ensures { IfOk result (λ b. IsTrue b ↔ AreReached (counting_in counted.now) from.now wanted.now) }

@@ -25,7 +25,7 @@ adding_step false h x was now rest s =
 adding_step true h x was now rest s =
     subst (SameMembers (now ++ rest)) (append_assoc was (cond h (x ∷ []) []) rest) (append_same now (was ++ cond h (x ∷ []) []) rest rest s (same_itself rest))
 
--- targets were added to those before, and the rest of them is left
+-- some targets were added to `before`, giving `after`; `rest` remains
 pub record IsAdding (first now : TableParts) (before after rest all : List (ℕ × ℕ)) (guard : ℕ) : Type 0 where
   pub grows : TestsGrow first now
   pub test : IsTest first guard
@@ -34,7 +34,7 @@ pub record IsAdding (first now : TableParts) (before after rest all : List (ℕ 
   pub same : (atom : Atom) → SameMembers (chosen now after atom ++ cond (holds_at first guard atom) (chosen first rest atom) []) (chosen first before atom ++ cond (holds_at first guard atom) (chosen first all atom) [])
 
 module _ (first now mid last : TableParts) (before after new rest all : List (ℕ × ℕ)) (guard both : ℕ) (e : ℕ × ℕ) where
-  -- the test that is made of both guards
+  -- the conjunction of both guards is the guard of the added target
   pub adding_more : IsAdding first now before after (e ∷ rest) all guard → TestsGrow now mid → ((atom : Atom) → holds_at mid both atom ≡ (holds_at now guard atom && holds_at now e.1 atom))
       → TestsGrow mid last → StandFor last new (λ atom. chosen mid after atom ++ cond (holds_at mid both atom) (term_at mid e.0 ∷ []) []) → IsAdding first last before new rest all guard
   adding_more a to_mid value to_last stands = record {
@@ -63,7 +63,7 @@ module _ (first now mid last : TableParts) (before after new rest all : List (�
           same_members_trans (chosen last new atom) _ (chosen now after atom ++ cond (holds_at first guard atom && holds_at first e.1 atom) (term_at first e.0 ∷ []) []) (stands.same atom)
           (same_from _ _ (ap₂ (λ (xs ys : List Term). xs ++ ys) (chosen_kept now mid grown.sound to_mid.grows after atom a.entries) (ap₂ (λ (b : Bool) (x : Term). cond b (x ∷ []) []) (guards atom) name)))
 
--- ---- each target with another term after it
+-- ---- each target followed by another term
 
 follow_step : (f : Term → Term) (h : Bool) (x : Term) (was now rest : List Term) → SameMembers now (was ++ cond h (f x ∷ []) []) → SameMembers (now ++ map f rest) (was ++ map f (cond h (x ∷ []) [] ++ rest))
 follow_step f true x was now rest s =
@@ -110,7 +110,7 @@ following_ends first now after targets all a = record {
   same = λ atom. subst (λ l. SameMembers l (map (λ x. dot x (term_at first after)) (chosen first all atom))) (append-nil (chosen now targets atom)) (a.same atom);
 }
 
--- ---- targets added under no condition
+-- ---- targets added unconditionally
 
 -- the added targets are those of older tables
 pub gathered : (first now last : TableParts) (es new more : List (ℕ × ℕ)) (always : ℕ) → TablesGrow first now → AreEntries first more → ((atom : Atom) → holds_at now always atom ≡ true) → StandFor last new (λ atom. chosen now es atom ++ cond (holds_at now always atom) (chosen now more atom) []) → StandFor last new (λ atom. chosen now es atom ++ chosen first more atom)

@@ -11,11 +11,11 @@ use Rattle.term_nodes.specs.Nodes.{IsTestOver, IsOver}
 use Rattle.certificate.specs.Certs.{CertParts, IsCert}
 use Rattle.cert_steps.specs.NodeTables.{TableParts, AddsTest, AddsTerm, MayBeTest, MayBeTerm, IsWithin}
 
--- what stands at a place of a list that is another
+-- the element at a place of an equal list
 pub item_at : {X : Type 0} (xs ys : List X) (i : ℕ) (d : X) → ys ≡ xs → i < length xs → get_or ys i d ≡ get_or xs i (get_or ys i d)
 item_at xs ys i d e low = ap (λ l. get_or l i d) e ∙ get_or_default xs i d (get_or ys i d) low
 
--- the tables with the first test nodes, and with all of them and the first term nodes
+-- the tables with the first i test nodes, and those with all test nodes and the first i term nodes
 abbrev pub front_tests : ℕ → CertParts → ℕ → TableParts
 front_tests width c i = record { width = width; tests = take i c.test_nodes; terms = [] }
 
@@ -28,7 +28,7 @@ take_get [] (suc i) k x e = absurd cc
 take_get (y ∷ xs) (suc i) zero x e = (omega arith, e)
 take_get (y ∷ xs) (suc i) (suc k) x e = let rest = take_get xs i k x e in (omega (arith, rest.0), rest.1)
 
--- where no member stands twice, the next one is new
+-- if a list has no duplicates, its next member is new
 next_new : {X : Type 0} (xs old new : List X) (i k : ℕ) (x : X) → HasNoDoubles xs → i < length xs → x ≡ get_or xs i x → old ≡ take i xs → (new ≡ old) ⊎ (new ≡ old ++ x ∷ []) → slice_get new k ≡ Some x → new ≡ take (i + 1) xs
 next_new xs old new i k x once low is was adds at =
     ⊎_elim

@@ -13,7 +13,7 @@ use Rattle.cert_steps.specs.Marks.{IsMarked, IsPart, AreClosed, IsClosure}
 
 -- ---- the marks of some numbers
 
--- the marks, and those of the numbers
+-- the marks, with the numbers marked in addition
 abbrev pub with_marks : List Bool → List ℕ → List Bool
 with_marks marks [] = marks
 with_marks marks (k ∷ ks) = with_marks (set marks k true) ks
@@ -40,7 +40,7 @@ marked_cases (k ∷ ks) marks j m =
 
 -- ---- the marks from some number on are closed
 
--- parts stand before
+-- parts have lesser numbers
 pub parts_before : (t : TableParts) → AreTables t → (k : ℕ) (node : TermNode ℕ ℕ) → slice_get t.terms k ≡ Some node → (j : ℕ) → Has (term_parts node) j → j < k
 parts_before t are k node at = IsOver-part (length t.tests) k node (are.rules.terms_ordered k node at)
 
@@ -67,7 +67,7 @@ module _ (t : TableParts) (from : ℕ) (old now : List Bool) (above : 0 < from) 
   here_or_later : (k : ℕ) → from - 1 ≤ k → (k ≡ from - 1) ⊎ (from ≤ k)
   here_or_later k le = ⊎_elim (λ low. inl (omega (arith, above, le, low))) (λ more. inr more) (cases_lt k from)
 
-  -- the term before is not marked
+  -- the step for an unmarked term
   pub closing_past : (IsMarked now (from - 1) → ⊥) → IsClosing t (from - 1) old now
   closing_past other = record {
     kept = c.kept;
@@ -75,7 +75,7 @@ module _ (t : TableParts) (from : ℕ) (old now : List Bool) (above : 0 < from) 
     least = c.least;
   }
 
-  -- its parts are marked
+  -- the step for a marked term, which marks its parts
   pub closing_more : (node : TermNode ℕ ℕ) → slice_get t.terms (from - 1) ≡ Some node → IsMarked now (from - 1) → ((j : ℕ) → Has (term_parts node) j → j < from - 1) → IsClosing t (from - 1) old (with_marks now (term_parts node))
   closing_more node at own earlier = record {
     kept = λ k m. keep k (c.kept k m);
@@ -102,7 +102,7 @@ module _ (t : TableParts) (from : ℕ) (old now : List Bool) (above : 0 < from) 
           let there : from - 1 < length now = slice_get_within now (from - 1) true own in
           marked_new (term_parts node) now j mine (omega (arith, low, there))
 
--- ---- closed marks stay so where tables grow
+-- ---- closed marks remain closed when tables grow
 
 pub closed_kept : (old new : TableParts) → TablesGrow old new → (marks : List Bool) → length marks ≤ length old.terms → AreClosed old marks → AreClosed new marks
 closed_kept old new grows marks low closed k j m part =

@@ -25,7 +25,7 @@ tests_trans a b c g h = record { grows = grows_trans a b c g.grows h.grows; term
 within_prim : (width k : ℕ) (n : TestNode ℕ) → n ≡ Prim k → IsWithin width n → k < width
 within_prim width k n e h = subst (IsWithin width) e h
 
--- the tables after an insert of a node of a test, refused or not
+-- the tables after the insertion of a test node, whether it succeeds or fails
 pub test_added : {T E : Type 0} (eq : TestNode ℕ → TestNode ℕ → Bool) → ((x : TestNode ℕ) → eq x x ≡ true) → (r : Result T E) (t : TableParts) (tests : List (TestNode ℕ)) (n : TestNode ℕ) → AreTables t → MayBeTest t n → IsDistinct eq tests
     → IfOk r (λ _. tests ≡ insert_key eq t.tests n) → OnErr r (tests ≡ t.tests) → AreTables (record t { tests = tests })
 test_added eq own r t tests n are may unique e same =
@@ -35,7 +35,7 @@ test_added eq own r t tests n are may unique e same =
       within = λ k h. added_members (λ m. m ≡ Prim k → k < t.width) t.tests tests n adds (λ m g f. are.within k (subst (Has t.tests) f g)) (λ f. within_prim t.width k n f may.1) (Prim k) h refl;
     }
 
--- and after an insert of a node of a term
+-- and after the insertion of a term node
 pub term_added : {T E : Type 0} (eq : TermNode ℕ ℕ → TermNode ℕ ℕ → Bool) → ((x : TermNode ℕ ℕ) → eq x x ≡ true) → (r : Result T E) (t : TableParts) (terms : List (TermNode ℕ ℕ)) (n : TermNode ℕ ℕ) → AreTables t → MayBeTerm t n → IsDistinct eq terms
     → IfOk r (λ _. terms ≡ insert_key eq t.terms n) → OnErr r (terms ≡ t.terms) → AreTables (record t { terms = terms })
 term_added eq own r t terms n are may unique e same = record {

@@ -26,7 +26,7 @@ below_at n [] i d e h = absurd (omega (arith, h))
 below_at n (k ∷ ks) zero d e h = ltb-true k n (and_parts (nat_lt k n) (are_below n ks) e).0
 below_at n (k ∷ ks) (suc i) d e h = below_at n ks i d (and_parts (nat_lt k n) (are_below n ks) e).1 (omega (arith, h))
 
--- ---- one more of each list
+-- ---- an additional element of each list
 
 module _ (t new : TableParts) (are : AreTables t) (grows : TablesGrow t new) where
   pub acceptances_more : (guards : List ℕ) (g : ℕ) → AreAcceptances t guards → length guards < length t.terms → HasValues new (out (term_at t (length guards))) g → AreAcceptances new (guards ++ g ∷ [])
@@ -63,7 +63,7 @@ none_more marks steps es was here k fs m e =
 
 -- ---- the targets of a set
 
--- what some member leads to, and the others
+-- the empty product under two conditions is the empty product under their disjunction
 one_more : (a b : Bool) → SameMembers (cond a (one ∷ []) [] ++ cond b (one ∷ []) []) (cond (a || b) (one ∷ []) [])
 one_more true true x = ((λ h. ⊎_elim inl (λ r. r) h), (λ h. inr h))
 one_more true false x = ((λ h. h), (λ h. h))
@@ -78,7 +78,7 @@ no_members_lead : (action : Option ℕ) (atom : Atom) → set_leads_to action []
 no_members_lead None atom = refl
 no_members_lead (Some a) atom = refl
 
--- the targets of some members were gathered, and the rest of them is left
+-- the targets of some members were added; the other members are left
 pub record IsGathering (first now : TableParts) (action : Option ℕ) (always : ℕ) (targets : List (ℕ × ℕ)) (rest all : List ℕ) : Type 0 where
   pub grows : TestsGrow first now
   pub test : IsTest now always
@@ -141,7 +141,7 @@ gathering_ends first now action always targets [] all e g = record {
 }
 gathering_ends first now action always targets (k ∷ rest) all e g = absurd cc
 
--- ---- what stands at a place
+-- ---- the element at a place
 
 pub read_map : {X Y : Type 0} (v : X → Y) (xs : List X) (i : ℕ) (x : X) → i < length xs → x ≡ get_or xs i x → slice_get (map v xs) i ≡ Some (v x)
 read_map v xs i x low is = slice_get-map v xs i ∙ ap (option_map v) (slice_get_read xs (length xs) i x refl low is)
@@ -181,7 +181,7 @@ product_stands t mid new x y a guard left right begun es are grows first second 
     (subst (λ l. SameMembers l (next (term_at t y) atom a)) (sym (chosen_kept t mid are grows right atom second.entries)) (second.same atom))
     (holds_kept t mid are grows guard atom test ∙ accepts atom)))
 
--- the empty product as the one target
+-- the empty product as the only target
 pub one_stands : (t new : TableParts) (es : List (ℕ × ℕ)) (k guard : ℕ) → TablesGrow t new → IsTest t guard → IsTerm new k → term_at new k ≡ one → es ≡ (k, guard) ∷ [] → StandFor new es (λ atom. cond (holds_at t guard atom) (one ∷ []) [])
 one_stands t new es k guard grows test there tree made = record {
   entries = λ e h. ⊎_elim
@@ -197,14 +197,14 @@ one_stands t new es k guard grows test there tree made = record {
     alone true = λ x. ((λ h. h), (λ h. h))
     alone false = λ x. ((λ h. h), (λ h. h))
 
--- these nodes accept no atom, and these each
+-- zero and actions accept no atom; one and stars accept every atom
 pub silent : (t : TableParts) (n : TermNode ℕ ℕ) (atom : Atom) → (n ≡ Zero) ⊎ ((a : ℕ) × (n ≡ Act a)) → out (tree_in (nodes_in t) n) atom ≡ false
 silent t n atom h = ⊎_elim (ap (λ m. out (tree_in (nodes_in t) m) atom)) (λ a. ap (λ m. out (tree_in (nodes_in t) m) atom) a.1) h
 
 pub ready : (t : TableParts) (n : TermNode ℕ ℕ) (atom : Atom) → (n ≡ One) ⊎ ((x : ℕ) × (n ≡ Star x)) → out (tree_in (nodes_in t) n) atom ≡ true
 ready t n atom h = ⊎_elim (ap (λ m. out (tree_in (nodes_in t) m) atom)) (λ x. ap (λ m. out (tree_in (nodes_in t) m) atom) x.1) h
 
--- no step leads from these nodes
+-- zero, one and tests have no steps
 pub still : (t : TableParts) (n : TermNode ℕ ℕ) (atom : Atom) (a : ℕ) → (n ≡ Zero) ⊎ ((n ≡ One) ⊎ ((x : ℕ) × (n ≡ Test x))) → next (tree_in (nodes_in t) n) atom a ≡ []
 still t n atom a h =
     ⊎_elim

@@ -1,4 +1,4 @@
--- What steps of nodes lead to, over what steps of the nodes that they name lead to.
+-- The targets of steps of nodes, from the targets of the nodes that they name.
 use Rattle.std.proofs.Common.{◌≡◌, ℕ, ⊎_elim, List, [], ◌++◌, map, slice_get, sym, ap, ◌∙◌, subst, Bool, true, false, cond, Some, Option}
 use Rattle.kat_model.specs.Trees.{Term, product, star}
 use Rattle.kat_model.specs.Members.{Has, SameMembers}
@@ -8,7 +8,7 @@ use Rattle.cert_steps.specs.NodeTables.{TableParts, AreTables, TablesGrow, IsTer
 use Rattle.cert_steps.specs.Targets.{StandFor, AreAcceptances, AreSteps, leads_to}
 use Rattle.cert_steps.proofs.TargetSets.{test_within, holds_kept, entries_kept, chosen_kept}
 
--- lists with the same members stand for one another
+-- targets that stand for a list also stand for every list with the same members
 pub stand_same : (t : TableParts) (es : List (ℕ × ℕ)) (f g : Atom → List Term) → StandFor t es f → ((atom : Atom) → SameMembers (f atom) (g atom)) → StandFor t es g
 stand_same t es f g s same = record {
   entries = s.entries;
@@ -34,7 +34,7 @@ module _ (old new : TableParts) (are : AreTables old) (grows : TablesGrow old ne
       stand_same new es (leads_to action (term_at old k)) (leads_to action (term_at new k)) (stand_kept es (leads_to action (term_at old k)) (h k es m e))
       (λ atom. subst (λ x. SameMembers (leads_to action (term_at old k) atom) (leads_to action x atom)) (sym (grows.nodes.trees k (within k es e))) (λ x. ((λ m. m), (λ m. m))))
 
--- ---- what is left of a product
+-- ---- the rest of a product
 
 map_same : {X Y : Type 0} (f : X → Y) (xs ys : List X) → SameMembers xs ys → SameMembers (map f xs) (map f ys)
 map_same f xs ys same y = (

@@ -1,4 +1,4 @@
--- Lists of targets: what they stand for where the tables grow, and where one target is added.
+-- Lists of targets: what they stand for after the tables grow, and after a target is added.
 use Rattle.std.proofs.Common.{◌≡◌, ℕ, ◌⊎◌, inl, inr, ⊎_elim, List, [], ◌∷◌, ◌++◌, refl, sym, ap, ◌∙◌, subst, Bool, true, false, ◌||◌, cond, Some}
 use mathlib.Core.Path.{ap₂}
 use Rattle.std.specs.declared.cmp.Ordering.{Ordering}
@@ -43,7 +43,7 @@ module _ (old new : TableParts) (are : AreTables old) (grows : TablesGrow old ne
       (ap₂ (λ (b : Bool) (x : Term). cond b (x ∷ []) []) (holds_kept e.1 atom (own e (inl refl)).1) (grows.nodes.trees e.0 (own e (inl refl)).0))
       (chosen_kept es atom (λ d m. own d (inr m)))
 
--- ---- one target more
+-- ---- an additional target
 
 module _ (k g : ℕ) where
   pub insert_only : (es : List (ℕ × ℕ)) (e : ℕ × ℕ) → Has (insert_entry nat_cmp es k g) e → (e ≡ (k, g)) ⊎ Has es e
@@ -64,7 +64,7 @@ module _ (k g : ℕ) where
       go rest Equal s = inl (ap (λ (j : ℕ). (j, g)) (sym (exact_unsigned k d.0 s)))
       go rest Greater s = inr rest
 
-  -- an older entry stays, or it was the one of this key
+  -- an older entry remains, or it was the entry of this key
   pub insert_old : (es : List (ℕ × ℕ)) (e : ℕ × ℕ) → Has es e → Has (insert_entry nat_cmp es k g) e ⊎ ((e.0 ≡ k) × (guard_of es k ≡ Some e.1))
   insert_old [] e h = absurd h
   insert_old (d ∷ es) e h = go (insert_old es e) (nat_cmp k d.0) refl h
@@ -85,7 +85,7 @@ module _ (k g : ℕ) where
 module _ (old new : TableParts) (are : AreTables old) (grows : TablesGrow old new) (es : List (ℕ × ℕ)) (own : AreEntries old es)
     (k guard joined : ℕ) (is_term : IsTerm old k) (is_test : IsTest new joined)
     (value : (atom : Atom) → holds_at new joined atom ≡ (option_map_or (λ o. holds_at old o atom) (guard_of es k) false || holds_at old guard atom)) where
-  -- the list with the target added stands for the terms before and this one
+  -- the list with the added target stands for the previous terms and the added one
   pub added_stands : StandFor new (insert_entry nat_cmp es k joined) (λ atom. chosen old es atom ++ cond (holds_at old guard atom) (term_at old k ∷ []) [])
   added_stands = record { entries = entries; same = λ atom x. (to atom x, from atom x) }
     where
@@ -121,7 +121,7 @@ module _ (old new : TableParts) (are : AreTables old) (grows : TablesGrow old ne
           has_left (chosen old es atom) _ x (subst (Has (chosen old es atom)) there (chosen_has old es atom f.0 m true_here)))
           (insert_only k joined es f.0 f.1)
 
-      -- the added target is chosen where its guard is true or was
+      -- the added target is chosen if its guard is true or the previous guard was
       chosen_added : (atom : Atom) → (option_map_or (λ o. holds_at old o atom) (guard_of es k) false || holds_at old guard atom) ≡ true → Has (chosen new (insert_entry nat_cmp es k joined) atom) (term_at old k)
       chosen_added atom h =
           subst (Has (chosen new (insert_entry nat_cmp es k joined) atom)) name

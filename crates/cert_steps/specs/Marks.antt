@@ -9,7 +9,7 @@ use Rattle.cert_steps.specs.NodeTables.{TableParts}
 abbrev pub IsMarked : List Bool → ℕ → Type 0
 IsMarked marks k = slice_get marks k ≡ Some true
 
--- the second number is that of a part of the first one's term
+-- the second number is a part of the term with the first number
 abbrev pub IsPart : TableParts → ℕ → ℕ → Type 0
 IsPart t k j = (node : TermNode ℕ ℕ) × (slice_get t.terms k ≡ Some node) × Has (term_parts node) j
 
@@ -17,7 +17,7 @@ IsPart t k j = (node : TermNode ℕ ℕ) × (slice_get t.terms k ≡ Some node) 
 abbrev pub AreClosed : TableParts → List Bool → Type 0
 AreClosed t marks = (k j : ℕ) → IsMarked marks k → IsPart t k j → IsMarked marks j
 
--- the least marks that have the old ones and are closed: each new mark is that of a part of a marked term
+-- the least closed marks that contain the old ones: each new mark is a part of a marked term
 pub record IsClosure (t : TableParts) (old new : List Bool) : Type 0 where
   pub kept : (k : ℕ) → IsMarked old k → IsMarked new k
   pub closed : AreClosed t new

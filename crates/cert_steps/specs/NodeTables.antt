@@ -12,7 +12,7 @@ use Rattle.term_nodes.specs.NodeTrees.{test_tree_at, tree_at}
 use Rattle.term_nodes.specs.Growth.{Grows}
 use Rattle.certificate.specs.Certs.{CertParts}
 
--- nodes of tests and terms, and how many primitive tests there are
+-- nodes of tests and terms, and the number of primitive tests
 pub record TableParts : Type 0 where
   pub width : ℕ
   pub tests : List (TestNode ℕ)
@@ -35,7 +35,7 @@ pub record AreTables (t : TableParts) : Type 0 where
 abbrev pub tables_of : ℕ → CertParts → TableParts
 tables_of width c = record { width = width; tests = c.test_nodes; terms = c.term_nodes }
 
--- nodes were added behind the older ones, which keep their numbers and trees; both tables are sound
+-- nodes were appended; the older ones keep their numbers and trees; both tables are sound
 pub record TablesGrow (old new : TableParts) : Type 0 where
   pub was : AreTables old
   pub sound : AreTables new
@@ -47,7 +47,7 @@ pub record TestsGrow (old new : TableParts) : Type 0 where
   pub grows : TablesGrow old new
   pub terms : new.terms ≡ old.terms
 
--- at most this node is new
+-- the node is the only possible addition
 abbrev pub AddsTest : TableParts → TableParts → TestNode ℕ → Type 0
 AddsTest old new n = (new ≡ old) ⊎ (new ≡ record old { tests = old.tests ++ n ∷ [] })
 
@@ -61,18 +61,18 @@ test_at t k = test_tree_at (nodes_in t) k
 abbrev pub term_at : TableParts → ℕ → Term
 term_at t k = tree_at (nodes_in t) k
 
--- the truth of a test at an atom
+-- whether the atom satisfies the test
 abbrev pub holds_at : TableParts → ℕ → Atom → Bool
 holds_at t k atom = truth (test_at t k) atom
 
--- the number is that of a test, or of a term
+-- the number is a test of the tables; the number is a term of the tables
 abbrev pub IsTest : TableParts → ℕ → Type 0
 IsTest t k = k < length t.tests
 
 abbrev pub IsTerm : TableParts → ℕ → Type 0
 IsTerm t k = k < length t.terms
 
--- the number is that of a test with these values, one for each atom
+-- the number is a test with these values, one for each atom
 abbrev pub HasValues : TableParts → (Atom → Bool) → ℕ → Type 0
 HasValues t values k = IsTest t k × ((atom : Atom) → holds_at t k atom ≡ values atom)
 
@@ -85,7 +85,7 @@ IsWithin width (Not x) = Unit {0}
 IsWithin width (And x y) = Unit {0}
 IsWithin width (Or x y) = Unit {0}
 
--- the node names only tests of the tables, and is in range
+-- the node names only tests of the tables, and its primitive test is in range
 abbrev pub MayBeTest : TableParts → TestNode ℕ → Type 0
 MayBeTest t n = IsTestOver (length t.tests) n × IsWithin t.width n
 

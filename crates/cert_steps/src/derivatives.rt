@@ -1,5 +1,6 @@
-//! Symbolic partial derivatives (Antimirov 1996; with tests Pous 2015): under which atoms a term accepts, and under
-//! which a step of it leads to another. Terms are gone over in the order of their numbers, each after its parts.
+//! Symbolic partial derivatives (Antimirov 1996; with tests Pous 2015): the atoms that a term accepts, and the atoms at
+//! which a step leads from it to another term. Terms are traversed in the order of their numbers, so each comes after
+//! its parts.
 ghost use Rattle.std.specs.Prelude.{◌≡◌, ◌<◌, ◌≤◌, ◌++◌, ◌∷◌, [], if◌then◌else◌, IfOk, OnOk, IsTrue, length, map};
 ghost use Rattle.kat_model.specs.Trees.{one};
 ghost use Rattle.kat_model.specs.Members.{Has};
@@ -14,7 +15,7 @@ use certificate::{TermNode, TestNode};
 use kat_model::NoMemory;
 use std::collections::BTreeMap;
 
-// The test that is true where the next term accepts, over those of earlier terms.
+// Returns the test that is true where the next term accepts, given those of earlier terms.
 fn acceptance(tables: &mut Tables, earlier: &[usize]) -> Result<usize, NoMemory>
     requires earlier { AreAcceptances tables.old earlier.now }
     requires next { IsTerm tables.old (length earlier.now) }
@@ -30,7 +31,8 @@ fn acceptance(tables: &mut Tables, earlier: &[usize]) -> Result<usize, NoMemory>
     }
 }
 
-/// For each term of the tables the number of the test that is true at the atoms that it accepts. Adds no term.
+/// Returns, for each term of the tables, the number of the test that is true at the atoms that the term accepts. Adds
+/// no term.
 pub fn acceptances(tables: &mut Tables) -> Result<Vec<usize>, NoMemory>
     ensures values { IfOk result (λ v. AreAcceptances tables.new v.items) }
     ensures count { IfOk result (λ v. length v.items ≡ length tables.old.terms) }
@@ -44,8 +46,8 @@ pub fn acceptances(tables: &mut Tables) -> Result<Vec<usize>, NoMemory>
     Ok(guards)
 }
 
-/// Marks the parts of the marked terms, their parts, and so on: the terms of which steps of the marked ones are made.
-/// There is a mark for each of the first terms of the tables.
+/// Marks the parts of the marked terms, transitively: these are the terms whose steps are needed for the steps of the
+/// marked terms. `marks` covers the first terms of the tables.
 pub fn close_marks(tables: &Tables, marks: &mut [bool])
     requires { length marks.old ≤ length tables.now.terms }
     ensures { IsClosure tables.now marks.old marks.new }
@@ -64,10 +66,11 @@ pub fn close_marks(tables: &Tables, marks: &mut [bool])
     }
 }
 
-/// Terms that steps may lead to, by numbers, each with that of its guard: the test that is true where they do.
+/// Terms that steps may lead to, by number. Each has the number of its guard: the test that is true where a step leads
+/// to the term.
 pub type Targets = BTreeMap<usize, usize>;
 
-/// The empty product, under the guard.
+/// Returns the empty product as a target, with the given guard.
 pub fn empty_product(tables: &mut Tables, guard: usize) -> Result<Targets, NoMemory>
     requires { IsTest tables.old guard }
     ensures targets { IfOk result (λ t. StandFor tables.new t.entries (λ atom. if holds_at tables.old guard atom then one ∷ [] else [])) }
@@ -79,7 +82,7 @@ pub fn empty_product(tables: &mut Tables, guard: usize) -> Result<Targets, NoMem
     Ok(targets)
 }
 
-// Adds a term, under the guard or where it was a target already.
+// Adds a term, with the guard. If the term is a target already, its new guard is the disjunction of both guards.
 fn add(tables: &mut Tables, to: &mut Targets, term: usize, guard: usize) -> Result<(), NoMemory>
     requires { AreEntries tables.old ((term, guard) ∷ to.old.entries) }
     ensures added { OnOk result (StandFor tables.new to.new.entries (λ atom. chosen tables.old to.old.entries atom ++ (if holds_at tables.old guard atom then term_at tables.old term ∷ [] else []))) }
@@ -96,7 +99,7 @@ fn add(tables: &mut Tables, to: &mut Targets, term: usize, guard: usize) -> Resu
     Ok(())
 }
 
-// Adds the targets, where the guard holds too.
+// Adds the targets, each with the conjunction of its guard and `guard`.
 fn add_all(
     tables: &mut Tables,
     targets: &mut Targets,
@@ -119,7 +122,7 @@ fn add_all(
     Ok(())
 }
 
-// The targets, each with another term after it.
+// Returns the targets, each followed by the term `after`.
 fn continued(tables: &mut Tables, first: &Targets, after: usize) -> Result<Targets, NoMemory>
     requires tables { AreTables tables.old }
     requires entries { AreEntries tables.old first.now.entries }
@@ -135,7 +138,7 @@ fn continued(tables: &mut Tables, first: &Targets, after: usize) -> Result<Targe
     Ok(targets)
 }
 
-/// The targets of all members of a set together, by the action or, without one, of outputs. Adds no term.
+/// Returns the union of the targets of all members of a set, by the action or, without one, of outputs. Adds no term.
 pub fn of_set(
     tables: &mut Tables,
     steps: &[Targets],
@@ -155,7 +158,7 @@ pub fn of_set(
     Ok(targets)
 }
 
-// The targets of the next term, over those of its parts: by the action, or of outputs.
+// Returns the targets of the next term, by the action or of outputs, given those of its parts.
 fn step(
     tables: &mut Tables,
     accepting: &[usize],
@@ -190,8 +193,8 @@ fn step(
     }
 }
 
-/// For each marked term its targets by the action or, without one, the empty product where it accepts; and none for each
-/// other term. The marks are closed (`close_marks`), and there are as many as tests that say where the first terms accept.
+/// Returns, for each marked term, its targets by the action or, without one, the empty product where it accepts; other
+/// terms have no targets. The marks must be closed (`close_marks`), one for each of the tests in `accepting`.
 pub fn steps(
     tables: &mut Tables,
     accepting: &[usize],

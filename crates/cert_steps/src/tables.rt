@@ -8,8 +8,8 @@ use kat_model::{Kat, NoMemory, Test};
 use std::alloc::Global;
 use std::marker::Model;
 
-/// The nodes that are met, each once: those of a certificate with their numbers, and after them the guards of
-/// steps and the terms that steps lead to. Equal terms have one number.
+/// Distinct nodes: those of a certificate with their numbers, followed by the guards of steps and the terms that steps
+/// lead to. Equal terms have one number.
 #[derive(Drop)]
 pub struct Tables {
     alloc: Global,
@@ -35,7 +35,7 @@ impl Tables {
     ghost use Rattle.term_nodes.specs.Nodes.{IsOver};
     ghost use Rattle.term_nodes.specs.NodeTrees.{test_tree_in, tree_in};
 
-    /// The tables with the nodes of the certificate alone. Its primitive tests are below `width`.
+    /// Builds tables with only the nodes of the certificate. Its primitive tests must be below `width`.
     pub fn of(alloc: Global, cert: &Cert, width: usize) -> Result<Tables, NoMemory>
         requires { ArePrimsBelow width cert.now.test_nodes }
         ensures nodes { IfOk result (λ t. t ≡ tables_of width cert.now) }
@@ -56,7 +56,7 @@ impl Tables {
         Ok(tables)
     }
 
-    /// The number of the node of a test, which is added where it does not stand yet.
+    /// Returns the number of a test node, and adds the node if it is new.
     pub fn test(&mut self, node: TestNode) -> Result<usize, NoMemory>
         requires { MayBeTest self.old node }
         ensures node { IfOk result (λ k. slice_get self.new.tests k ≡ Some node) }
@@ -69,7 +69,7 @@ impl Tables {
         Ok(number)
     }
 
-    /// The number of the node of a term, likewise.
+    /// Returns the number of a term node, and adds the node if it is new.
     pub fn term(&mut self, node: TermNode) -> Result<usize, NoMemory>
         requires { MayBeTerm self.old node }
         ensures node { IfOk result (λ k. slice_get self.new.terms k ≡ Some node) }
@@ -82,19 +82,19 @@ impl Tables {
         Ok(number)
     }
 
-    /// What they are made with.
+    /// Returns the allocator of the tables.
     pub fn alloc(&self) -> Global {
         self.alloc
     }
 
-    /// How many primitive tests there are.
+    /// Returns the number of primitive tests.
     pub fn width(&self) -> usize
         ensures { result ≡ self.now.width }
     {
         self.width
     }
 
-    /// How many tests there are.
+    /// Returns the number of tests.
     pub fn test_count(&self) -> usize
         ensures value { result ≡ length self.now.tests }
         ensures tables { AreTables self.now }
@@ -102,7 +102,7 @@ impl Tables {
         self.tests.len()
     }
 
-    /// How many terms there are.
+    /// Returns the number of terms.
     pub fn term_count(&self) -> usize
         ensures value { result ≡ length self.now.terms }
         ensures tables { AreTables self.now }
@@ -110,7 +110,7 @@ impl Tables {
         self.terms.len()
     }
 
-    /// The node of a test.
+    /// Returns the node of a test.
     pub fn test_node(&self, number: usize) -> TestNode
         requires { IsTest self.now number }
         ensures node { slice_get self.now.tests number ≡ Some result }
@@ -120,7 +120,7 @@ impl Tables {
         *self.tests.get_index(number).unwrap()
     }
 
-    /// The node of a term.
+    /// Returns the node of a term.
     pub fn term_node(&self, number: usize) -> TermNode
         requires { IsTerm self.now number }
         ensures node { slice_get self.now.terms number ≡ Some result }
@@ -131,7 +131,7 @@ impl Tables {
         *self.terms.get_index(number).unwrap()
     }
 
-    // The number of the test, whose nodes are added where they do not stand yet.
+    // Returns the number of the test, and adds the nodes that are new.
     fn number_of_test(&mut self, test: &Test) -> Result<usize, NoMemory>
         requires { IsTestInRange self.old.width (test_tree test.now) }
         ensures tree { IfOk result (λ k. IsTest self.new k × (test_at self.new k ≡ test_tree test.now)) }
@@ -148,7 +148,7 @@ impl Tables {
         self.test(node)
     }
 
-    /// The number of the term, whose nodes are added where they do not stand yet.
+    /// Returns the number of the term, and adds the nodes that are new.
     pub fn number_of(&mut self, term: &Kat) -> Result<usize, NoMemory>
         requires { HasTestsBelow self.old.width (kat_tree term.now) }
         ensures is_term { IfOk result (IsTerm self.new) }
@@ -167,7 +167,7 @@ impl Tables {
         self.term(node)
     }
 
-    /// The test that is true everywhere, or the one that is false.
+    /// Returns the test that is always true or, if `on` is false, the test that is always false.
     pub fn constant(&mut self, on: bool) -> Result<usize, NoMemory>
         ensures values { IfOk result (HasValues self.new (λ _. on)) }
         ensures grows { TestsGrow self.old self.new }
@@ -176,7 +176,8 @@ impl Tables {
         self.test(node)
     }
 
-    /// A test that is true where both are. A test and its negation give the one that is false: fewer cases.
+    /// Returns a test that is true if and only if both tests are. For a test and its negation, returns the test that is
+    /// always false, which saves cases.
     pub fn both(&mut self, x: usize, y: usize) -> Result<usize, NoMemory>
         requires first { IsTest self.old x }
         requires second { IsTest self.old y }
@@ -193,7 +194,8 @@ impl Tables {
         }
     }
 
-    /// A test that is true where one of them is. A test and its negation give the one that is true: fewer cases.
+    /// Returns a test that is true if and only if at least one of the tests is. For a test and its negation, returns
+    /// the test that is always true, which saves cases.
     pub fn either(&mut self, x: usize, y: usize) -> Result<usize, NoMemory>
         requires first { IsTest self.old x }
         requires second { IsTest self.old y }
@@ -210,7 +212,7 @@ impl Tables {
         }
     }
 
-    /// The term that is one term and then another, where nothing is left to do of `One`.
+    /// Returns the product of the terms, or `second` if `first` is `One`.
     pub fn dot(&mut self, first: usize, second: usize) -> Result<usize, NoMemory>
         requires first { IsTerm self.old first }
         requires second { IsTerm self.old second }

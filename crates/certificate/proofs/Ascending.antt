@@ -1,11 +1,11 @@
--- Lists of numbers that ascend: each is below the next, and so below all that follow.
+-- Ascending lists of numbers: each number is below the next, and so below all later ones.
 use Rattle.std.proofs.Common.{◌≡◌, inl, inr, ⊎_elim, ℕ, zero, suc, ◌+◌, ◌<◌, List, [], ◌∷◌, ◌++◌, length, get_or, Bool, true, false, nat_lt, ltb-true, refl, sym, subst, arith}
 use Rattle.std.specs.List.{AllAdjacentBelow, IsAllAdjacentAnswer}
 use Rattle.std.proofs.lemmas.Bool.{and_parts, and_from, and_left, and_right, lt-ltb}
 use Rattle.kat_model.specs.Members.{Has, HasNoDoubles}
 use Rattle.term_nodes.specs.NumberSets.{are_ascending}
 
--- ---- as a loop over neighbours finds it
+-- ---- the check of neighbours in a loop
 
 later_pair : (b : Bool) (x y : ℕ) (ks : List ℕ) (k d : ℕ) → b ≡ nat_lt (get_or (x ∷ y ∷ ks) (suc k) d) (get_or (x ∷ y ∷ ks) (suc k + 1) d) → b ≡ nat_lt (get_or (y ∷ ks) k d) (get_or (y ∷ ks) (k + 1) d)
 later_pair b x y ks k d e =
@@ -42,7 +42,7 @@ ascending_first k (j ∷ ks) e x h =
     let low : k < j = ltb-true k j parts.0 in
     ⊎_elim (λ s. subst (λ z. k < z) s low) (λ r. let more = ascending_first j ks parts.1 x r in omega (arith, low, more)) h
 
--- one more behind, which is above all
+-- a list remains ascending if a number above all its members is appended
 pub ascending_more : (ks : List ℕ) (x : ℕ) → are_ascending ks ≡ true → ((y : ℕ) → Has ks y → y < x) → are_ascending (ks ++ x ∷ []) ≡ true
 ascending_more [] x e below = refl
 ascending_more (k ∷ []) x e below = and_from (nat_lt k x) true (lt-ltb k x (below k (inl refl))) refl
@@ -50,12 +50,12 @@ ascending_more (k ∷ j ∷ ks) x e below =
     let parts = and_parts (nat_lt k j) (are_ascending (j ∷ ks)) e in
     and_from (nat_lt k j) (are_ascending (j ∷ (ks ++ x ∷ []))) parts.0 (ascending_more (j ∷ ks) x parts.1 (λ y h. below y (inr h)))
 
--- no number stands twice
+-- no number occurs twice
 pub ascending_once : (ks : List ℕ) → are_ascending ks ≡ true → HasNoDoubles ks
 ascending_once [] e = tt
 ascending_once (k ∷ ks) e = ((λ h. let low = ascending_first k ks e k h in omega (arith, low)), ascending_once ks (ascending_tail k ks e))
 
--- in a list of two parts, the first number of the second part is none of the first
+-- the first number of the second part of a list is not in the first part
 pub ascending_seam : (ks rest : List ℕ) (x : ℕ) → are_ascending (ks ++ x ∷ rest) ≡ true → Has ks x → ⊥
 ascending_seam [] rest x e h = h
 ascending_seam (k ∷ ks) rest x e h =

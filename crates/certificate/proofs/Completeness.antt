@@ -1,4 +1,4 @@
--- The text of evidence is read as this evidence.
+-- Reading the text of evidence gives this evidence.
 use Rattle.std.proofs.Common.{◌≡◌, ℕ, ◌+◌, ◌^◌, ◌<◌, inl, inr, ⊎_elim, List, [], ◌∷◌, ◌++◌, map, length, false, ◌&&◌, nat_lt, Some, slice_get, Ok, refl, sym, ap, ◌∙◌, subst, codes, arith, append_assoc, append-nil}
 use Rattle.std.proofs.lemmas.Bool.{or_parts}
 use mathlib.Core.Path.{ap₂}
@@ -53,7 +53,7 @@ abbrev pub PassAll : CertParts → List Entry → Type 0
 PassAll c [] = Unit {0}
 PassAll c (e ∷ es) = IsNarrow e × Passes c e × PassAll (with_entry c e) es
 
--- after entries that pass, the next part
+-- scanning entries that pass continues with the next part
 pub entries_scanned : (es : List Entry) (c : CertParts) (n i : ℕ) (part : List ℕ) (parts : List (List ℕ)) → PassAll c es → i ≡ n + length es → cert_from c n (map entry_line es ++ part ∷ parts) ≡ cert_from (with_entries c es) i (part ∷ parts)
 entries_scanned [] c n i part parts pass e = let same : n ≡ i = omega (arith, e) in ap (λ k. cert_from c k (part ∷ parts)) same
 entries_scanned (e ∷ es) c n i part parts pass place =
@@ -167,7 +167,7 @@ module _ (c : CertParts) (cert : IsCert c) (narrow : (e : Entry) → Has (entrie
       ∙ with_terms [] c.term_nodes (map PairLine c.pairs)
       ∙ with_pairs [] c.pairs
 
-  -- the entries of the certificate, and the next part
+  -- scanning the entries of the certificate continues with the next part
   pub cert_scanned : (i : ℕ) (part : List ℕ) (parts : List (List ℕ)) → i ≡ 2 + length (entries_of c) → cert_from (no_entries c.style) 2 (map entry_line (entries_of c) ++ part ∷ parts) ≡ cert_from c i (part ∷ parts)
   cert_scanned i part parts place =
       entries_scanned (entries_of c) (no_entries c.style) 2 i part parts (tests_pass [] c.test_nodes refl) place ∙ ap (λ d. cert_from d i (part ∷ parts)) all_entries
@@ -184,7 +184,7 @@ AreSmall ms = (m : Move) → Has ms m → m.act < 2 ^ 64
 small_narrow : (m : Move) → m.act < 2 ^ 64 → too_wide m.act ≡ false
 small_narrow m small = (or_parts (too_wide m.act) false (none_wide (m.act ∷ []) (λ k h. ⊎_elim (λ p. subst (λ n. n < 2 ^ 64) p small) absurd h))).0
 
--- after moves, the next part
+-- scanning moves continues with the next part
 pub moves_scanned : (ms : List Move) (x : GuardedString) (n i : ℕ) (part : List ℕ) (parts : List (List ℕ)) → AreSmall ms → i ≡ n + length ms → moves_from x n (map move_line ms ++ part ∷ parts) ≡ moves_from (record { first = x.first; rest = x.rest ++ ms }) i (part ∷ parts)
 moves_scanned [] x n i part parts small place =
     let same : n ≡ i = omega (arith, place) in
@@ -214,7 +214,7 @@ pub lines_lack : (e : Evidence) → IsEvidence e → LackFeeds (lines_before_end
 lines_lack (Equal c) is = (heading_lacks c.style, entries_lack c is.0 is.1 (entries_of c) is.1)
 lines_lack (Different x) is = (refl, (first_lacks x.first, moves_lack x.rest is))
 
--- what is said of the next part, after the lines of evidence before the last one
+-- the answer for the next part, after the lines of evidence before the last one
 abbrev pub next_from : Evidence → ℕ → List (List ℕ) → Answer
 next_from (Equal c) i parts = cert_from c i parts
 next_from (Different x) i parts = moves_from x i parts
@@ -227,7 +227,7 @@ lines_scanned (Different x) i part parts is place =
     complete (map move_line x.rest) part parts _
     ∙ rw (first_back x.first) (moves_scanned x.rest (record { first = x.first; rest = [] }) 3 i part parts is (omega (arith, place, length-map x.rest move_line)))
 
--- a text that begins with these lines
+-- the answer for a text that begins with these lines
 pub text_scanned : (e : Evidence) (i : ℕ) (rest part : List ℕ) (parts : List (List ℕ)) → IsEvidence e → i ≡ length (lines_before_end e) + 1 → parts_of rest ≡ part ∷ parts → answer_of (text_of_lines (lines_before_end e) ++ rest) ≡ next_from e i (part ∷ parts)
 text_scanned e i rest part parts is place cut =
     ap all_from (parts_after (lines_before_end e) rest (lines_lack e is) ∙ ap (λ ps. lines_before_end e ++ ps) cut) ∙ lines_scanned e i part parts is place

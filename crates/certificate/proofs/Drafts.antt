@@ -1,4 +1,4 @@
--- Drafts with one more entry.
+-- Drafts with an additional entry.
 use Rattle.std.proofs.Common.{◌≡◌, ℕ, inl, inr, ⊎_elim, List, [], ◌∷◌, ◌++◌, true, Some, None, refl, sym, subst}
 use Rattle.std.specs.declared.cmp.Ordering.{Ordering}
 use Rattle.std.specs.BTreeSet.{insert_key}
@@ -21,7 +21,7 @@ use Rattle.certificate.specs.Working.Readings.{draft_parts, IsDraft, MayBeAdded}
 use Rattle.certificate.proofs.Growth.{Passes, passes_faultless, double_fault, cert_grown, any_same, any_lacks, same_test_equal, test_same_itself, same_term_equal, term_same_itself}
 use Rattle.term_nodes.proofs.Insertions.{has_pushed}
 
--- the keys of a set with one more key, and the list with one more node
+-- a set with an additional key has the members of the list with this node appended
 pub known_pushed : {X : Type 0} {R : X → X → Ordering} → CmpEqualImpliesEq R → (olds xs : List X) (x : X) → SameMembers olds xs → SameMembers (insert_key R olds x) (xs ++ x ∷ [])
 known_pushed exact olds xs x was y =
     let keys = inserted_has exact x olds y in (
@@ -30,7 +30,7 @@ known_pushed exact olds xs x was y =
     )
 
 module _ (d : Draft) (n : ℕ) where
-  -- a known node is a double
+  -- a known node is a duplicate
   pub test_double : (node : TestNode ℕ) → IsDraft d → MayBeAdded d (TestLine node) → Has d.known_tests.keys node → entry_fault (draft_parts d) n (TestLine node) ≡ Some (DoubleNode n)
   test_double node draft may known =
       double_fault (draft_parts d) n (TestLine node) may.stands may.narrow may.earlier (any_same same_test_node same_test_equal test_same_itself d.test_nodes.items node ((draft.tests node).0 known))
@@ -39,7 +39,7 @@ module _ (d : Draft) (n : ℕ) where
   term_double node draft may known =
       double_fault (draft_parts d) n (TermLine node) may.stands may.narrow may.earlier (any_same same_term_node same_term_equal term_same_itself d.term_nodes.items node ((draft.terms node).0 known))
 
-  -- a node that is not known passes
+  -- a new node passes
   pub test_passes : (node : TestNode ℕ) → IsDraft d → MayBeAdded d (TestLine node) → (Has d.known_tests.keys node → ⊥) → Passes (draft_parts d) (TestLine node)
   test_passes node draft may new =
       record {
@@ -60,7 +60,7 @@ module _ (d : Draft) (n : ℕ) where
         ordered = refl;
       }
 
-  -- what an entry that passes makes of the draft
+  -- adding a passing entry to a draft gives a draft
   pub added : (e : Entry) (new : Draft) → IsDraft d → Passes (draft_parts d) e → draft_parts new ≡ with_entry (draft_parts d) e → SameMembers new.known_tests.keys new.test_nodes.items → SameMembers new.known_terms.keys new.term_nodes.items
       → IsDraft new × ((f : Entry) × (◌≡◌ {A = _} (Some e) (Some f)) × (entry_fault (draft_parts d) n f ≡ None) × (draft_parts new ≡ with_entry (draft_parts d) f))
   added e new draft passes is tests terms = (

@@ -1,4 +1,4 @@
--- The forms of the nodes of a certificate, and what the numbers in them have to do with them.
+-- The forms of the nodes of a certificate, and how they depend on the numbers in them.
 use Rattle.std.proofs.Common.{◌≡◌, ℕ, ◌⊎◌, inl, inr, ⊎_elim, List, [], ◌∷◌, map, length, Bool, true, false, cond, Option, Some, None, refl, sym, ap, ◌∙◌, arith, codes}
 use Rattle.std.specs.List.{list_all, list_any}
 use Rattle.std.specs.Option.{option_map, option_and_then}
@@ -41,11 +41,11 @@ some_of_three false true d x y z h = (y, refl)
 some_of_three false false true x y z h = (z, refl)
 some_of_three false false false x y z h = ⊎_elim (λ p. cc) (λ q. ⊎_elim (λ p. cc) (λ p. cc) q) h
 
--- a name that is compared with a word is that word
+-- a name that compares equal to a word is that word
 pub named : (name word : List ℕ) → bytes_eq name word ≡ true → name ≡ word
 named name word e = (bytes_eq-Decides name word).0 e
 
--- a node's name and numbers are those that are read
+-- a node has the name and the numbers from which it was read
 test_two : (name v w : List ℕ) (ks : List ℕ) (x y n : TestNode ℕ) → test_name x ≡ v → test_name y ≡ w → ks ≡ test_numbers x → ks ≡ test_numbers y → cond (bytes_eq name v) (Some x) (cond (bytes_eq name w) (Some y) None) ≡ Some n → (name ≡ test_name n) × (ks ≡ test_numbers n)
 test_two name v w ks x y n nx ny kx ky e =
     ⊎_elim
@@ -99,7 +99,7 @@ term_node_made (Sum x y) = refl
 term_node_made (Seq x y) = refl
 term_node_made (Star x) = refl
 
--- whether there is a node depends on how many numbers there are, and not on which
+-- whether a name and numbers form a node depends only on the name and the number of numbers
 of_two : {N : Type 0} (b c : Bool) (w x y z n : N) → cond b (Some w) (cond c (Some x) None) ≡ Some n → (m : N) × (cond b (Some y) (cond c (Some z) None) ≡ Some m)
 of_two b c w x y z n e = some_of_two b c y z (⊎_elim (λ p. inl p.0) (λ p. inr p.0) (two_forms b c w x n e))
 
@@ -137,7 +137,7 @@ numbers_of_all ws e = rw e refl
 pub numbers_of_none : (ws : List (List ℕ)) → list_all is_numeral ws ≡ false → numbers_of ws ≡ None
 numbers_of_none ws e = rw e refl
 
--- the entry of a node of one sort
+-- the entry of a test node or a term node
 module _ {N : Type 0} (node_of : List ℕ → Option N) (made : N → Entry) (numbers : N → List ℕ) (section : Section)
     (same : (xs ys : List ℕ) (n : N) → length xs ≡ length ys → node_of xs ≡ Some n → (m : N) × (node_of ys ≡ Some m))
     (told : (ks : List ℕ) (n : N) → node_of ks ≡ Some n → ks ≡ numbers n)

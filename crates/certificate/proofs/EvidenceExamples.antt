@@ -1,4 +1,4 @@
--- Worked examples of evidence: texts that are read, the first faults of others, and the trees of nodes.
+-- Worked examples of evidence: the evidence that texts give, the first faults of other texts, and the trees of nodes.
 use Rattle.std.proofs.Common.{◌≡◌, ◌<◌, inl, inr, ⊎_elim, List, [], ◌∷◌, length, true, false, Some, None, Ok, codes, refl, sym, subst, arith}
 use Rattle.std.specs.Bool.{IsTrue}
 use Rattle.std.proofs.lemmas.Bool.{true≢false}
@@ -63,7 +63,7 @@ denesting_pairs : set_pairs denesting ≡ record { left = star (sum p q) ∷ [];
 unfolding test_trees trees
 denesting_pairs = refl
 
--- p = p.b where the hypothesis p.!b = 0 says that b holds after each p: the second pair is to hold there alone
+-- p = p.b, given the hypothesis p.!b = 0, which says that b holds after each p: the second pair must hold only there
 
 abbrev b : TestTree
 b = prim 0
@@ -102,7 +102,7 @@ hyps = product p (test (complement b)) ∷ []
 abbrev asks : ProblemParts
 asks = record { tests = 1; actions = 1; hyps = hyps; left = p; right = product p (test b) }
 
--- after p, where b holds, the second pair is there
+-- after p, where b holds, the second pair is available
 after_p : (atom after : Atom) → IsAllowedMove hyps atom (record { act = 0; atom = after }) → IsCongruent None (pairs_at both after) (one ∷ []) (test b ∷ [])
 after_p atom [] m = absurd (true≢false m.move)
 after_p atom (false ∷ after) m = absurd (true≢false m.move)
@@ -176,7 +176,7 @@ nothing_there = refl
 one_more : line_fault (codes "kat 1 equal\nend\n\n") ≡ Some (Trailing 3)
 one_more = refl
 
--- a pair under tests has a test, and no other pair has one, whatever their numbers
+-- a pair under tests has a test, and no other pair has one, whatever the numbers
 lacks_test : line_fault (codes "kat 1 equal under\nT true\nE one\nP 18446744073709551616 | 0\nend\n") ≡ Some (Line 4)
 lacks_test = refl
 
@@ -192,7 +192,7 @@ no_test = refl
 one_test_alone : line_fault (codes "kat 1 equal under\nT true\nE one\nP 0 | 0 |\nend\n") ≡ Some (Line 4)
 one_test_alone = refl
 
--- a test node after a term node has no form there, whatever its numbers
+-- a test node after a term node has no form, whatever its numbers
 out_of_place : line_fault (codes "kat 1 equal\nE zero\nT prim 18446744073709551616\n") ≡ Some (Line 3)
 out_of_place = refl
 
@@ -200,6 +200,6 @@ out_of_place = refl
 no_atom : line_fault (codes "kat 1 different\nend\n") ≡ Some (Line 2)
 no_atom = refl
 
--- a blank at the end is one blank too many
+-- a trailing blank is not allowed
 blank : line_fault (codes "kat 1 different\nA \n") ≡ Some (Line 2)
 blank = refl

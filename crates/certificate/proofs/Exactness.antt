@@ -1,4 +1,4 @@
--- Texts and faults exclude each other, and the reader's answers.
+-- No bytes are both a text of evidence and faulty. The answers of the reader.
 use Rattle.std.proofs.Common.{◌≡◌, ℕ, inl, inr, List, Some, None, Ok, Err, refl, sym, ap, ◌∙◌}
 use Rattle.std.specs.Result.{IfOk, result_err}
 use Rattle.string_tables.specs.Tables.{ExactlyOne}
@@ -13,7 +13,7 @@ use Rattle.certificate.specs.Laws.{TextsDiffer, IsText, HasFault, IsTextOrFaulty
 use Rattle.certificate.proofs.Completeness.{evidence_read}
 use Rattle.certificate.proofs.ReadTexts.{read_told}
 
--- the bytes of evidence are answered by it
+-- reading the text of evidence gives the evidence
 text_answer : (bytes : List ℕ) (e : Evidence) → IsEvidence e → bytes ≡ text_of e → answer_of bytes ≡ Ok e
 text_answer bytes e is text = ap answer_of text ∙ evidence_read e is
 
@@ -35,7 +35,7 @@ pub evidence_from : (bytes : List ℕ) (r : Answer) → Answers (answer_of bytes
 evidence_from bytes (Ok e) a = read_told bytes e a
 evidence_from bytes (Err fault) a = tt
 
--- an answer that is a fault is not given of a text
+-- a text of evidence has no fault
 no_fault : (bytes : List ℕ) (fault : EvidenceFault) (e : Evidence) → IsEvidence e → bytes ≡ text_of e → answer_of bytes ≡ Err fault → ⊥
 no_fault bytes fault e is text a = let clash : Err fault ≡ Ok e = sym a ∙ text_answer bytes e is text in cc
 

@@ -1,4 +1,4 @@
--- After lines that are right, what is wrong is the first fault.
+-- What is wrong after correct lines is the first fault.
 use Rattle.std.proofs.Common.{◌≡◌, ◌≢◌, ℕ, ◌+◌, List, [], ◌∷◌, ◌++◌, Bool, true, false, None, Err, codes, refl, sym, ap, ◌∙◌, ◌==◌, arith}
 use Rattle.std.specs.Str.{bytes_eq}
 use Rattle.std.specs.Result.{result_err}
@@ -15,7 +15,7 @@ use Rattle.certificate.proofs.EntryForms.{named}
 use Rattle.certificate.proofs.LineSteps.{goes_on, cert_fault, moves_formless, moves_wide, string_none, string_first, all_none, all_string, all_header}
 use Rattle.certificate.proofs.Completeness.{next_from, text_scanned, text_ends}
 
--- a word is not one that it differs from
+-- two different words do not compare equal
 differs : (line word : List ℕ) → line ≢ word → bytes_eq line word ≡ false
 differs line word apart = by_test (bytes_eq line word) refl
   where
@@ -23,7 +23,7 @@ differs line word apart = by_test (bytes_eq line word) refl
     by_test true is = absurd (apart (named line word is))
     by_test false is = is
 
--- what is said of a line and of the parts after it, for lines that are right before it
+-- the answer for a line and the parts after it, after correct lines
 module _ (e : Evidence) (line more : List ℕ) (is : IsEvidence e) (whole : IsLine line) where
   cut : parts_of (line ++ 10 ∷ more) ≡ line ∷ parts_of more
   cut = split_at 10 line more whole

@@ -1,4 +1,4 @@
--- A certificate with one more entry that has no fault keeps the rules.
+-- A certificate with an additional entry that has no fault keeps the rules.
 use Rattle.std.proofs.Common.{◌≡◌, ℕ, ◌≤◌, ◌<◌, inl, ⊎_elim, List, [], ◌∷◌, ◌++◌, length, Bool, true, false, not, ◌&&◌, eqb, nat_lt, Option, Some, None, refl, sym, ap, ◌∙◌, subst, arith, length-append, eqb-true, eq-eqb}
 use mathlib.Core.Path.{ap₂}
 use Rattle.std.specs.List.{list_any}
@@ -58,7 +58,7 @@ faultless_passes c n e h =
       ordered = not-false _ (right_where _ _ four.1);
     }
 
--- the first fault where the tests before it are passed
+-- the first fault of an entry that passes the tests before it
 module _ (c : CertParts) (n : ℕ) (e : Entry) where
   pub passes_faultless : Passes c e → entry_fault c n e ≡ None
   passes_faultless p = rw (p.stands, p.narrow, p.earlier, p.new, p.ordered) refl
@@ -113,7 +113,7 @@ term_same_itself (Sum x y) = two_equal x y
 term_same_itself (Seq x y) = two_equal x y
 term_same_itself (Star x) = eq-eqb x x refl
 
--- a test of equality finds a member
+-- an equality test finds a member
 module _ {X : Type 0} (same : X → X → Bool) (equal : (x y : X) → same x y ≡ true → x ≡ y) (itself : (x : X) → same x x ≡ true) where
   pub any_same : (xs : List X) (x : X) → Has xs x → list_any (same x) xs ≡ true
   any_same xs x h = any_has (same x) xs x h (itself x)
@@ -131,7 +131,7 @@ module _ {X : Type 0} (same : X → X → Bool) (equal : (x y : X) → same x y 
       by_cases true e = absurd (lacks (same_any xs x e))
       by_cases false e = e
 
--- ---- one more entry
+-- ---- an additional entry
 
 pub set_more : (m n : ℕ) (ks : List ℕ) → m ≤ n → IsNumberSet m ks → IsNumberSet n ks
 set_more m n ks le s = record { there = below_more m n ks le s.there; ascending = s.ascending }
@@ -151,7 +151,7 @@ its_some Plain n k e below = cc
 its_some UpTo n k e below = cc
 its_some Under n k e below = (k, refl, below)
 
--- a pair has its test where it may stand and names a test that is there
+-- a pair that is allowed in its section, and whose test is a test node, has the test that its style requires
 pub its_test : (c : CertParts) (n : ℕ) (t : Option ℕ) → may_stand c (pair_section t) ≡ true → are_below n (maybe_one t) ≡ true → HasItsTest c.style n t
 its_test c n None stands below = its_none c.style n stands
 its_test c n (Some k) stands below = its_some c.style n k stands (below_has n (k ∷ []) below k (inl refl))
@@ -176,7 +176,7 @@ test_below Under n (Some k) its =
     let same : its.0 ≡ k = cc in
     has_below n (k ∷ []) (λ j h. ⊎_elim (λ e. subst (λ i. i < n) (same ∙ e) its.2) absurd h)
 
--- with more tests
+-- the same for a larger number of test nodes
 its_test_more : (style : Style) (m n : ℕ) (t : Option ℕ) → m ≤ n → HasItsTest style m t → HasItsTest style n t
 its_test_more Plain m n t le its = its
 its_test_more UpTo m n t le its = its

@@ -1,4 +1,4 @@
--- The orders of nodes tell different nodes apart, and an insert in a set of nodes finds those that are known.
+-- The orders of nodes distinguish different nodes, and an insertion into a set of nodes finds a known node.
 use Rattle.std.proofs.Common.{◌≡◌, ℕ, List, Bool, true, false, not, sym, ap, ◌∙◌, subst, arith}
 use Rattle.std.specs.declared.cmp.Ordering.{Ordering}
 use Rattle.std.specs.declared.cmp.Ordering.TheVariants.{Equal}
@@ -22,7 +22,7 @@ cmp_own x = grind (arith, common_steps)
 pub two_own : (x y : ℕ) → ordering_then (nat_cmp x x) (nat_cmp y y) ≡ Equal
 two_own x y = rw (cmp_own x) (cmp_own y)
 
--- a node was known where an insert finds it, and only there
+-- an insertion finds a node if and only if the node was known
 module _ {K : Type 0} {R : K → K → Ordering} (exact : TellsApart R) (own : IsReflexive R) (k : K) (ks : List K) (is_new : Bool) (told : is_new ≡ not (list_any (is_at (R k)) ks)) where
   pub old_known : is_new ≡ false → Has ks k
   old_known old =

@@ -1,4 +1,4 @@
--- What the scans say of a text that begins with a complete line, and of one with none.
+-- The answers of the scans for a text that begins with a complete line, and for one that does not.
 use Rattle.std.proofs.Common.{◌≡◌, ℕ, ◌+◌, ◌<◌, List, [], ◌∷◌, length, Bool, true, false, cond, Option, Some, None, Err, codes, refl, sym, ap, ◌∙◌, subst, arith, ◌==◌}
 use Rattle.std.specs.List.{onto_first}
 use Rattle.std.specs.Str.{bytes_eq}
@@ -24,7 +24,7 @@ use Rattle.line_format.proofs.Splits.{split_some}
 pub not_truncated : (after : List ℕ) (answer : Answer) → or_truncated (parts_of after) answer ≡ answer
 not_truncated after answer = let some = split_some (λ b. b == 10) after in rw some.2 refl
 
--- a text that goes on after the line `end`
+-- a text that continues after the line `end`
 pub goes_on : (e : Evidence) (n : ℕ) (after : List ℕ) → 0 < length after → ended e n (parts_of after) ≡ Err (Trailing n)
 goes_on e n [] some = absurd (omega arith)
 goes_on e n (b ∷ bs) some = by_head (b == 10) refl
@@ -114,12 +114,12 @@ module _ (bytes : List ℕ) where
     pub all_header : bytes_eq line (heading Plain) ≡ false → bytes_eq line (heading UpTo) ≡ false → bytes_eq line (heading Under) ≡ false → bytes_eq line string_heading ≡ false → all_from (parts_of bytes) ≡ Err Header
     all_header first second third fourth = all_line false false false false first second third fourth
 
--- ---- what an answer says
+-- ---- answers
 
 pub answers_same : (told same : Answer) (given : Answer) → told ≡ same → Answers same given → Answers told given
 answers_same told same given e a = subst (λ t. Answers t given) (sym e) a
 
--- a fault that an entry has is that of the text
+-- the fault of an entry is the fault of the text
 pub adds_fault : (old new : Draft) (n : ℕ) (o : Option Entry) (told : Answer) (fault : EvidenceFault) → AddsEntry old n o new (Err fault) → ((f : EvidenceFault) → line_fault_after (draft_parts old) n o ≡ Some f → told ≡ Err f) → Answers told (Err fault)
 adds_fault old new n o told NoMemory a same = tt
 adds_fault old new n o told Header a same = same Header a

@@ -1,4 +1,4 @@
--- Lines as their first word and the others after blanks, and texts as their lines.
+-- Lines as their first word and the other words after blanks, and texts as their lines.
 use Rattle.std.proofs.Common.{◌≡◌, ℕ, List, [], ◌∷◌, ◌++◌, map, Option, refl, sym, ap, ◌∙◌, append_assoc, append-nil, codes}
 use Rattle.std.specs.List.{flat_map}
 use Rattle.std.specs.Fmt.{decimal}
@@ -22,7 +22,7 @@ pair_line p =
     ∙ ap (λ l. codes "P" ++ l) (flat_map-append (λ w. 32 ∷ w) (map decimal p.left) (codes "|" ∷ rights))
     ∙ ap (λ l. codes "P" ++ (after_blanks (map decimal p.left) ++ (codes " |" ++ l))) (flat_map-append (λ w. 32 ∷ w) (map decimal p.right) (last_words p.test))
 
--- all lines and the last
+-- all lines but the last, and then the last
 pub text_of-body : (e : Evidence) → text_of e ≡ body_of e ++ with_feed (codes "end")
 text_of-body (Equal c) =
     let rest : text_of_lines (map (λ e. line_of (entry_words e)) (entries_of c) ++ codes "end" ∷ []) ≡ entry_lines (entries_of c) ++ with_feed (codes "end") =
@@ -36,12 +36,12 @@ text_of-body (Different x) =
     ∙ ap (λ l. with_feed string_heading ++ l) (sym (append_assoc first (move_lines x.rest) (with_feed (codes "end"))))
     ∙ sym (append_assoc (with_feed string_heading) (first ++ move_lines x.rest) (with_feed (codes "end")))
 
--- what was written after three steps
+-- the output after three steps
 pub three_written : (out first second third a b c : List ℕ) → first ≡ out ++ a → second ≡ first ++ b → third ≡ second ++ c → third ≡ out ++ (a ++ (b ++ c))
 three_written out first second third a b c ea eb ec =
     ec ∙ ap (λ l. l ++ c) (eb ∙ ap (λ l. l ++ b) ea) ∙ append_assoc (out ++ a) b c ∙ append_assoc out a (b ++ c)
 
--- what was written after one more step
+-- the output after an additional step
 then_written : (out before after a b : List ℕ) → before ≡ out ++ a → after ≡ before ++ b → after ≡ out ++ (a ++ b)
 then_written out before after a b ea eb = eb ∙ ap (λ l. l ++ b) ea ∙ append_assoc out a b
 

@@ -1,4 +1,4 @@
--- A line is read where it is spelled so, and nowhere else.
+-- A line is read as an entry, an atom or a move if and only if it is its spelling.
 use Rattle.std.proofs.Common.{ap, ◌∙◌}
 use Rattle.certificate.specs.Forms.{entry_of, first_of, move_of}
 use Rattle.certificate.specs.Laws.{EachHasOneSpelling}

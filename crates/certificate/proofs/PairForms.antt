@@ -25,7 +25,7 @@ use Rattle.certificate.proofs.EntryForms.{named, numbers_of_all, numbers_of_none
 
 -- ---- words between bars
 
--- a list is cut where its images are
+-- splitting a list corresponds to splitting its image
 module _ {A B : Type 0} (f : A → B) (p : B → Bool) where
   onto-map : (x : A) (parts : List (List A)) → map (map f) (onto_first x parts) ≡ onto_first (f x) (map (map f) parts)
   onto-map x [] = refl
@@ -46,12 +46,12 @@ module _ {A B : Type 0} (f : A → B) (p : B → Bool) where
           ∙ ap (onto_first (f x)) more
           ∙ sym (slice_split-cons_no p (f x) (map f xs) is)
 
--- the parts of words, by their bytes
+-- the parts of words, as bytes
 pub parts_texts : (parts : List (Bor (List (Bor (List ℕ))))) (words : List (Bor (List ℕ))) → map (λ (part : Bor (List (Bor (List ℕ)))). part.now) parts ≡ slice_split (λ (w : Bor (List ℕ)). is_bar w.now) words → map (λ (part : Bor (List (Bor (List ℕ)))). texts part.now) parts ≡ slice_split is_bar (texts words)
 parts_texts parts words e =
     sym (map-map texts (λ (part : Bor (List (Bor (List ℕ)))). part.now) parts) ∙ ap (map texts) e ∙ slice_split-map (λ (w : Bor (List ℕ)). w.now) is_bar words
 
--- and their numbers
+-- and as numbers
 pub parts_numbers : (parts : List (Bor (List (Bor (List ℕ))))) (words : List (Bor (List ℕ))) → map (λ (part : Bor (List (Bor (List ℕ)))). texts part.now) parts ≡ slice_split is_bar (texts words) → map (λ (part : Bor (List (Bor (List ℕ)))). numbers_of (texts part.now)) parts ≡ map numbers_of (slice_split is_bar (texts words))
 parts_numbers parts words e = sym (map-map numbers_of (λ (part : Bor (List (Bor (List ℕ)))). texts part.now) parts) ∙ ap (map numbers_of) e
 
@@ -65,7 +65,7 @@ onto_bars : (w : List ℕ) (part : List (List ℕ)) (parts : List (List (List �
 onto_bars w part [] = refl
 onto_bars w part (next ∷ parts) = refl
 
--- the parts with bars between them are the words
+-- joining the parts with bars gives the words
 pub bars_back : (ws : List (List ℕ)) → with_bars (slice_split is_bar ws) ≡ ws
 bars_back [] = refl
 bars_back (w ∷ ws) = by_head (is_bar w) refl (bars_back ws)
@@ -108,7 +108,7 @@ pair_with_told (Some ks ∷ Some ls ∷ Some (t ∷ []) ∷ []) p e =
 pair_with_told (Some ks ∷ Some ls ∷ Some (t ∷ []) ∷ part ∷ parts) p e = cc
 pair_with_told (Some ks ∷ Some ls ∷ Some (t ∷ u ∷ ts) ∷ parts) p e = cc
 
--- there are two parts or three
+-- a pair has two parts or three
 pub pair_count : (parts : List (Option (List ℕ))) → (length parts ≡ 2 → ⊥) → (length parts ≡ 3 → ⊥) → pair_with parts ≡ None
 pair_count [] two three = refl
 pair_count (None ∷ parts) two three = refl
@@ -121,7 +121,7 @@ pair_count (Some ks ∷ Some ls ∷ Some (t ∷ []) ∷ []) two three = absurd (
 pair_count (Some ks ∷ Some ls ∷ Some (t ∷ []) ∷ part ∷ parts) two three = refl
 pair_count (Some ks ∷ Some ls ∷ Some (t ∷ u ∷ ts) ∷ parts) two three = refl
 
--- each part is numerals
+-- each part consists of numerals
 pub no_first : (ws : List (List ℕ)) (parts : List (Option (List ℕ))) → list_all is_numeral ws ≡ false → pair_with (numbers_of ws ∷ parts) ≡ None
 no_first ws parts e = rw (numbers_of_none ws e) refl
 
@@ -134,7 +134,7 @@ no_third None q ws parts e = refl
 no_third (Some ks) None ws parts e = refl
 no_third (Some ks) (Some ls) ws parts e = rw (numbers_of_none ws e) refl
 
--- what is read of the numbers is read of the words that spell them
+-- what is read from the numbers is read from the words that spell them
 pub of_two : (ws vs : List (List ℕ)) (r : Result Entry LineFault) → list_all is_numeral ws ≡ true → list_all is_numeral vs ≡ true → ReadsEntry (option_map PairLine (pair_with (Some (map value_of ws) ∷ Some (map value_of vs) ∷ []))) r → ReadsEntry (option_map PairLine (pair_with (numbers_of ws ∷ numbers_of vs ∷ []))) r
 of_two ws vs r nw nv =
     subst (λ parts. ReadsEntry (option_map PairLine (pair_with parts)) r) (ap₂ (λ k l. k ∷ l ∷ []) (sym (numbers_of_all ws nw)) (sym (numbers_of_all vs nv)))
@@ -144,19 +144,19 @@ of_three ws vs us r nw nv nu =
     subst (λ parts. ReadsEntry (option_map PairLine (pair_with parts)) r)
     (ap₂ (λ k l. k ∷ l) (sym (numbers_of_all ws nw)) (ap₂ (λ l m. l ∷ m ∷ []) (sym (numbers_of_all vs nv)) (sym (numbers_of_all us nu))))
 
--- ---- the pair of numbers that are read
+-- ---- the pair of the numbers that were read
 
 module _ (ks ls : List ℕ) (v w : Numbers) (hv : HasNumbers ks v) (hw : HasNumbers ls w) where
   abbrev under : Option ℕ → PairParts
   under t = record { left = ks; right = ls; test = t }
 
-  -- it is wide where some number of it is
+  -- a pair is wide if and only if one of its numbers is
   wide_parts : (t : Option ℕ) → is_wide (PairLine (under t)) ≡ (v.wide || (w.wide || list_any too_wide (maybe_one t)))
   wide_parts t =
       list_any-append too_wide ks (ls ++ maybe_one t)
       ∙ ap₂ (λ b c. b || c) (sym hv.wide) (list_any-append too_wide ls (maybe_one t) ∙ ap (λ b. b || list_any too_wide (maybe_one t)) (sym hw.wide))
 
-  -- where none is wide, it is the pair of the numbers
+  -- if no number is wide, the result is the pair of the numbers
   narrow_parts : (t : Option ℕ) (p : PairParts) → v.wide ≡ false → w.wide ≡ false → list_any too_wide (maybe_one t) ≡ false → p.left ≡ v.values.items → p.right ≡ w.values.items → p.test ≡ t
       → (◌≡◌ {A = Option Entry} (Some (PairLine (under t))) (Some (PairLine p))) × (is_wide (PairLine p) ≡ false)
   narrow_parts t p nl nr nt left right test =
@@ -181,12 +181,12 @@ module _ (ks ls : List ℕ) (v w : Numbers) (hv : HasNumbers ks v) (hw : HasNumb
   pub pair_narrow : (p : PairParts) → (v.wide || w.wide) ≡ false → p.left ≡ v.values.items → p.right ≡ w.values.items → p.test ≡ None → (option_map PairLine (pair_with (Some ks ∷ Some ls ∷ [])) ≡ Some (PairLine p)) × (is_wide (PairLine p) ≡ false)
   pair_narrow p narrow = let parts = or_parts v.wide w.wide narrow in narrow_parts None p parts.0 parts.1 refl
 
-  -- under the one number of a test
+  -- the same under the one number of a test
   module _ (ts : List ℕ) (u : Numbers) (hu : HasNumbers ts u) where
     abbrev tested : Option Entry
     tested = option_map PairLine (pair_with (Some ks ∷ Some ls ∷ Some ts ∷ []))
 
-    -- as many numbers are read as are spelled
+    -- the number of numbers read equals the number spelled
     counted : (k : ℕ) → single_of u.values.items ≡ Some k → (t : ℕ) × (ts ≡ t ∷ [])
     counted k one = by_lists u.values.items ts hu.count one
       where

@@ -1,4 +1,4 @@
--- The text of evidence is made of letters, digits, blanks, bars and line feeds.
+-- The text of evidence consists of letters, digits, blanks, bars and line feeds.
 use Rattle.std.proofs.Common.{◌≡◌, ◌<◌, ◌+◌, ◌/◌, ◌%◌, ℕ, zero, suc, List, [], ◌∷◌, ◌++◌, map, Bool, true, false, if◌then◌else◌, ◌&&◌, ◌||◌, ◌==◌, Option, None, Some, refl, sym, subst, ◌∙◌, codes, arith}
 use Rattle.std.specs.List.{list_all, join_with_byte}
 use Rattle.std.specs.Char.{is_ascii_alphanumeric}

@@ -1,4 +1,4 @@
--- What a text is read as has this text.
+-- Evidence that is read from a text has this text.
 use Rattle.std.proofs.Common.{◌≡◌, ℕ, ◌+◌, ◌^◌, ◌<◌, inl, ⊎_elim, List, [], ◌∷◌, ◌++◌, map, length, Bool, true, false, cond, ◌==◌, eqb-true, Option, Some, None, Ok, Err, refl, sym, ap, ◌∙◌, subst, codes, append_assoc, append-nil, unwrap_or, arith}
 use Rattle.std.proofs.lemmas.Bool.{and_parts}
 use mathlib.Core.Path.{ap₂}
@@ -73,7 +73,7 @@ same_style c (TestLine n) = refl
 same_style c (TermLine n) = refl
 same_style c (PairLine p) = refl
 
--- what the lines after the entries of c were read as
+-- the evidence that is read from the lines after the entries of c
 pub record CertTold (c : CertParts) (parts : List (List ℕ)) (f : Evidence) : Type 0 where
   pub whole : CertParts
   pub is : f ≡ Equal whole
@@ -137,7 +137,7 @@ cert_told (line ∷ part ∷ parts) c n f h cert narrow =
 abbrev AreSmall : List Move → Type 0
 AreSmall ms = (m : Move) → Has ms m → m.act < 2 ^ 64
 
--- what the lines after these moves were read as
+-- the evidence that is read from the lines after these moves
 pub record MovesTold (x : GuardedString) (parts : List (List ℕ)) (f : Evidence) : Type 0 where
   pub more : List Move
   pub is : f ≡ Different (record { first = x.first; rest = x.rest ++ more })
@@ -190,7 +190,7 @@ pub record Told (parts : List (List ℕ)) (f : Evidence) : Type 0 where
 regroup : (xs : List (List ℕ)) → xs ++ ending ≡ with_last (xs ++ codes "end" ∷ [])
 regroup xs = sym (append_assoc xs (codes "end" ∷ []) ([] ∷ []))
 
--- no entries keep the rules
+-- a certificate without entries keeps the rules
 pub no_cert : (style : Style) → IsCert (no_entries style)
 no_cert style =
     record {

@@ -1,4 +1,4 @@
--- What is spelled is read, and what is read is spelled so: the lines of entries.
+-- The lines of entries: each spelling is read, and each line that is read is a spelling.
 use Rattle.std.proofs.Common.{◌≡◌, ℕ, ◌^◌, ◌<◌, ◌≤◌, ◌⊎◌, inl, inr, ⊎_elim, List, [], ◌∷◌, ◌++◌, map, Bool, true, false, cond, ◌==◌, nat_lt, Option, Some, None, refl, sym, ap, ◌∙◌, subst, arith, codes, append-nil}
 use mathlib.Core.Path.{ap₂}
 use Rattle.std.specs.List.{slice_split, list_all, list_any}
@@ -108,12 +108,12 @@ pair_split ks ls (Some t) nk nl nt =
 pub pair_back : (p : PairParts) → IsNarrow (PairLine p) → pair_of (map decimal p.left ++ codes "|" ∷ (map decimal p.right ++ last_words p.test)) ≡ Some p
 pair_back p narrow = ap pair_with (pair_split p.left p.right p.test (narrow_left p narrow) (narrow_right p narrow) (narrow_last p narrow)) ∙ pair_made p.left p.right p.test
 
--- the words of a pair's line after the first are one or more
+-- the words of a pair's line after the first are at least one
 pair_words : (ls rest : List (List ℕ)) → entry_of_words (codes "P" ∷ (ls ++ codes "|" ∷ rest)) ≡ option_map PairLine (pair_of (ls ++ codes "|" ∷ rest))
 pair_words [] rest = refl
 pair_words (l ∷ ls) rest = refl
 
--- an entry is read of its words, and of its line
+-- an entry is read from its words, and from its line
 entry_of_its_words : (e : Entry) → IsNarrow e → entry_of_words (entry_words e) ≡ Some e
 entry_of_its_words (TestLine n) narrow = ap (λ o. option_map TestLine (option_and_then (test_node_of (test_name n)) o)) (numbers_back (test_numbers n) narrow) ∙ ap (option_map TestLine) (test_node_made n)
 entry_of_its_words (TermLine n) narrow = ap (λ o. option_map TermLine (option_and_then (term_node_of (term_name n)) o)) (numbers_back (term_numbers n) narrow) ∙ ap (option_map TermLine) (term_node_made n)
@@ -143,7 +143,7 @@ entry_not_end (TestLine n) = refl
 entry_not_end (TermLine n) = refl
 entry_not_end (PairLine p) = ap (λ l. bytes_eq l (codes "end")) (line_of-cons (codes "P") (map decimal p.left ++ codes "|" ∷ (map decimal p.right ++ last_words p.test)))
 
--- ---- what is read of a line is spelled so
+-- ---- a line that is read is a spelling
 
 some_of_map : {X Y : Type 0} (f : X → Y) (o : Option X) (y : Y) → option_map f o ≡ Some y → (x : X) × (o ≡ Some x) × (f x ≡ y)
 some_of_map f None y e = cc
@@ -156,7 +156,7 @@ some_of_then f (Some x) y e = (x, refl, e)
 cons_parts : {X : Type 0} (x y : X) (xs ys : List X) → x ∷ xs ≡ y ∷ ys → (x ≡ y) × (xs ≡ ys)
 cons_parts x y xs ys e = (cc, cc)
 
--- the words of parts with these numbers
+-- the words of parts that have these numbers
 parts_told : (parts : List (List (List ℕ))) (ks ls : List ℕ) (t : Option ℕ) → map numbers_of parts ≡ part_numbers ks ls t → AreNarrow ks → AreNarrow ls → AreNarrow (maybe_one t) → with_bars parts ≡ map decimal ks ++ codes "|" ∷ (map decimal ls ++ last_words t)
 parts_told [] ks ls None e nk nl nt = cc
 parts_told [] ks ls (Some t) e nk nl nt = cc
@@ -221,6 +221,6 @@ words_told (kind ∷ name ∷ ws) e narrow h =
     q)
     (three_kinds (bytes_eq kind (codes "T")) (bytes_eq kind (codes "E")) (bytes_eq kind (codes "P")) _ _ _ e h)
 
--- the line of an entry that is read
+-- a line that is read as an entry is the line of this entry
 pub entry_told : (line : List ℕ) (e : Entry) → IsNarrow e → entry_of line ≡ Some e → line ≡ line_of (entry_words e)
 entry_told line e narrow h = sym (line_back line) ∙ ap line_of (words_told (words_of line) e narrow h)

@@ -1,4 +1,4 @@
--- The lines of a string: what is spelled is read, and what is read is spelled so.
+-- The lines of a string: each spelling is read, and each line that is read is a spelling.
 use Rattle.std.proofs.Common.{◌≡◌, ℕ, ◌^◌, ◌<◌, List, [], ◌∷◌, map, length, Bool, true, false, ◌&&◌, cond, ◌==◌, nat_lt, Option, Some, None, refl, sym, ap, ◌∙◌, subst, arith, codes, ⊎_elim}
 use Rattle.std.proofs.lemmas.Bool.{and_parts}
 use mathlib.Core.Path.{ap₂}
@@ -45,7 +45,7 @@ bit_are_words : (atom : Atom) → AreWords (bit_words atom)
 bit_are_words [] = tt
 bit_are_words (b ∷ bs) = (bits_word (b ∷ bs), tt)
 
--- ---- a word of bits is that of its values
+-- ---- a word of bits is the word of its values
 
 bit_back : (c : ℕ) → is_bit c ≡ true → cond (c == 49) 49 48 ≡ c
 bit_back c e = grind (arith, nat_tests)

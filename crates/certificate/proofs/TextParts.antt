@@ -1,4 +1,4 @@
--- A line with parts after it is complete.
+-- A line that other parts follow is complete.
 use Rattle.std.proofs.Common.{◌≡◌, ℕ, List, [], ◌∷◌, ◌++◌, refl}
 use Rattle.certificate.specs.Faults.{Answer, or_truncated}
 

@@ -1,4 +1,5 @@
--- A certificate is evidence of the program where its tests and actions are numbers of the program and its nodes so many.
+-- A certificate is evidence of the program if its tests, its actions and its numbers of nodes are numbers of the
+-- program.
 use Rattle.std.proofs.Common.{◌<◌, ◌^◌, ℕ, ⊎_elim, ◌++◌, map, length, subst, arith}
 use Rattle.std.proofs.lemmas.Option.{slice_get_within}
 use Rattle.kat_model.specs.Members.{Has}

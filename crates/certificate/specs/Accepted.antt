@@ -21,7 +21,7 @@ use Rattle.certificate.specs.Certs.{CertParts, nodes_of, number_pairs}
 abbrev pub set_pairs : CertParts → List SetPair
 set_pairs c = set_pairs_of (nodes_of c) (number_pairs c)
 
--- the test of a pair; without one it is to hold everywhere
+-- the test of a pair; a pair without one must hold at every atom
 abbrev pub test_of : NodeParts → Option ℕ → TestTree
 test_of nodes None = top
 test_of nodes (Some k) = test_tree_at nodes k
@@ -35,7 +35,7 @@ abbrev pub tested_pairs : CertParts → List TestedPair
 tested_pairs c = map (tested_pair_of (nodes_of c)) c.pairs
 
 -- The pairs of the certificate show in this style that the sides of the question are the same. In the style of tests
--- short hypotheses are not eliminated: they tell which moves there are.
+-- short hypotheses are not eliminated; they determine the allowed moves.
 abbrev pub ShowsSame : Style → ProblemParts → CertParts → Type 0
 ShowsSame Plain q c = AreAccepted plain q (set_pairs c)
 ShowsSame UpTo q c = AreAccepted up_to q (set_pairs c)

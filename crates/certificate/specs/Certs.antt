@@ -1,4 +1,4 @@
--- What a certificate is made of, and the rules that it keeps.
+-- The parts of a certificate, and the rules that it keeps.
 use Rattle.std.specs.Prelude.{◌≡◌, ◌<◌, ℕ, List, map, length, Option, Some, None}
 use Rattle.kat_model.specs.Members.{Has}
 use Rattle.term_nodes.specs.declared.TestNode.{TestNode}
@@ -27,19 +27,19 @@ nodes_of c = record { tests = c.test_nodes; terms = c.term_nodes }
 abbrev pub number_pairs : CertParts → List NumberPair
 number_pairs c = map sets_of c.pairs
 
--- the test of a pair is a test node, in the style that has tests, and there is none in the others
+-- in the style with tests, the test of a pair is a test node; in the other styles a pair has no test
 abbrev pub HasItsTest : Style → ℕ → Option ℕ → Type 0
 HasItsTest Plain n t = t ≡ None
 HasItsTest UpTo n t = t ≡ None
 HasItsTest Under n t = (k : ℕ) × (t ≡ Some k) × (k < n)
 
--- the sets of a pair are sets of term nodes, and its test is as its style has it
+-- the sets of a pair are sets of term nodes, and its test is as its style requires
 pub record IsPairOf (c : CertParts) (p : PairParts) : Type 0 where
   pub left : IsNumberSet (length c.term_nodes) p.left
   pub right : IsNumberSet (length c.term_nodes) p.right
   pub test : HasItsTest c.style (length c.test_nodes) p.test
 
--- nodes name earlier nodes, none stands twice, and the pairs are pairs of sets of these nodes
+-- nodes name earlier nodes, no node occurs twice, and the pairs are pairs of sets of these nodes
 pub record IsCert (c : CertParts) : Type 0 where
   pub nodes : AreNodes (nodes_of c)
   pub pairs : (p : PairParts) → Has c.pairs p → IsPairOf c p

@@ -1,5 +1,5 @@
--- What the prover answers: a certificate in which no pair is redundant (Bonchi and Pous 2013), one of pairs under tests
--- where such pairs are many, or a shortest string that refutes.
+-- The answers of the prover: a certificate without redundant pairs (Bonchi and Pous 2013), a certificate of pairs under
+-- tests if there are many such pairs and some hypothesis is short, or a shortest string that refutes.
 use Rattle.std.specs.Prelude.{◌≡◌, ◌⊎◌, ◌≤◌, ◌<◌, ◌+◌, ◌*◌, ◌^◌, ℕ, Bool, List, [], ◌∷◌, ◌++◌, length, IsTrue}
 use Rattle.std.specs.List.{list_any}
 use Rattle.kat_model.specs.Trees.{Term, acts}
@@ -29,14 +29,14 @@ pub record LeadsTo (tests actions : ℕ) (from to : SetPair) : Type 0 where
   pub lefts : SameMembers (set_next from.left atom act) to.left
   pub rights : SameMembers (set_next from.right atom act) to.right
 
--- a step leads to the pair from one of those before it, under which it is not congruent
+-- a step leads to the pair from an earlier one, and the pair is not congruent under the earlier ones
 pub record IsNeeded (q : ProblemParts) (before : List SetPair) (p : SetPair) : Type 0 where
   pub from : SetPair
   pub earlier : Has before from
   pub leads : LeadsTo q.tests q.actions from p
   pub fresh : IsCongruent (closed q).universal before p.left p.right → ⊥
 
--- each of the pairs is needed after those before it
+-- each of the pairs is needed after the earlier ones
 abbrev pub AreNeeded : ProblemParts → List SetPair → List SetPair → Type 0
 AreNeeded q before [] = Unit {0}
 AreNeeded q before (p ∷ ps) = IsNeeded q before p × AreNeeded q (before ++ p ∷ []) ps
@@ -46,11 +46,11 @@ abbrev pub HasNoRedundantPair : ProblemParts → List SetPair → Type 0
 HasNoRedundantPair q [] = Unit {0}
 HasNoRedundantPair q (p ∷ ps) = AreNeeded q (p ∷ []) ps
 
--- how many pairs there can be
+-- the greatest possible number of pairs
 abbrev pub pair_limit : ProblemParts → ℕ
 pair_limit q = 2 ^ (acts (closed q).left + 1) * 2 ^ (acts (closed q).right + 1)
 
--- the certificate is accepted, in the style up to congruence, and none of its pairs is redundant
+-- the certificate is accepted, its style is up to congruence, and none of its pairs is redundant
 pub record IsConcise (q : ProblemParts) (c : CertParts) : Type 0 where
   pub accepted : IsAccepted q c
   pub up_to : c.style ≡ UpTo
@@ -58,32 +58,32 @@ pub record IsConcise (q : ProblemParts) (c : CertParts) : Type 0 where
   pub needed : HasNoRedundantPair q (set_pairs c)
   pub bounded : length (set_pairs c) ≤ pair_limit q
 
--- whether some hypothesis is short, so that tests can stand for it
+-- whether some hypothesis is short, so that tests can replace it
 abbrev pub has_short : ProblemParts → Bool
 has_short q = list_any is_short q.hyps
 
--- how many pairs a certificate without tests may have then
+-- the greatest number of pairs of a certificate without tests, if some hypothesis is short
 abbrev pub untested_limit : ℕ
 untested_limit = 2000
 
--- more pairs than that lead on from the closed sides, none of them redundant
+-- there are more pairs than that from the closed sides on, and none is redundant
 pub record HasManyPairs (q : ProblemParts) : Type 0 where
   pub rest : List SetPair
   pub needed : HasNoRedundantPair q (record { left = (closed q).left ∷ []; right = (closed q).right ∷ [] } ∷ rest)
   pub many : untested_limit < length rest + 1
 
--- a certificate without tests, whose pairs are few where some hypothesis is short
+-- a certificate without tests; it has few pairs if some hypothesis is short
 pub record IsUntestedAnswer (q : ProblemParts) (c : CertParts) : Type 0 where
   pub concise : IsConcise q c
   pub few : IsTrue (has_short q) → length (set_pairs c) ≤ untested_limit
 
--- a certificate of pairs under tests, where some hypothesis is short and pairs without tests are many
+-- a certificate of pairs under tests; some hypothesis is short, and there are many pairs without tests
 pub record IsTestedAnswer (q : ProblemParts) (c : CertParts) : Type 0 where
   pub concise : IsConciseUnder q c
   pub short : IsTrue (has_short q)
   pub many : HasManyPairs q
 
--- the certificate that the prover answers
+-- the certificate is an answer of the prover
 abbrev pub IsAnswerCert : ProblemParts → CertParts → Type 0
 IsAnswerCert q c = IsUntestedAnswer q c ⊎ IsTestedAnswer q c
 
@@ -92,12 +92,12 @@ pub record IsShortest (q : ProblemParts) (x : GuardedString) : Type 0 where
   pub refutes : Refutes q x
   pub fewest : (y : GuardedString) → Refutes q y → length x.rest ≤ length y.rest
 
--- what the prover answers to a question
+-- the evidence is an answer of the prover to the question
 abbrev pub IsDecision : ProblemParts → Evidence → Type 0
 IsDecision q (Equal c) = Same q × IsAnswerCert q c
 IsDecision q (Different x) = (Same q → ⊥) × IsShortest q x
 
--- the terms of the nodes of evidence
+-- the terms of the nodes of the evidence
 abbrev pub node_terms : Evidence → List Term
 node_terms (Equal c) = trees (nodes_of c)
 node_terms (Different x) = []

@@ -46,7 +46,7 @@ has_tests Under = true
 abbrev pub is_empty : {X : Type 0} → List X → Bool
 is_empty xs = length xs == 0
 
--- test nodes stand before term nodes, these before pairs, which have tests just in the style that has them
+-- test nodes precede term nodes, and these precede pairs; pairs have tests if and only if the style does
 abbrev pub may_stand : CertParts → Section → Bool
 may_stand c Tests = is_empty c.term_nodes && is_empty c.pairs
 may_stand c Terms = is_empty c.pairs
@@ -64,11 +64,11 @@ terms_named (TestLine n) = []
 terms_named (TermLine n) = term_parts n
 terms_named (PairLine p) = p.left ++ p.right
 
--- each node that the entry names stands before it
+-- the entry names only earlier nodes
 abbrev pub names_earlier : CertParts → Entry → Bool
 names_earlier c e = are_below (length c.test_nodes) (tests_named e) && are_below (length c.term_nodes) (terms_named e)
 
--- its node equals an earlier one of its sort
+-- its node equals an earlier node of the same kind
 abbrev pub stands_already : CertParts → Entry → Bool
 stands_already c (TestLine n) = list_any (same_test_node n) c.test_nodes
 stands_already c (TermLine n) = list_any (same_term_node n) c.term_nodes
@@ -83,7 +83,7 @@ has_order (PairLine p) = are_ascending p.left && are_ascending p.right
 abbrev pub fault_where : Bool → EvidenceFault → Option EvidenceFault
 fault_where wrong fault = if wrong then Some fault else None
 
--- what is wrong with an entry on line n, after those of c
+-- the fault of an entry on line n, after the entries of c
 abbrev pub entry_fault : CertParts → ℕ → Entry → Option EvidenceFault
 entry_fault c n e =
     option_or (fault_where (not (may_stand c (section_of e))) (Line n))
@@ -92,46 +92,46 @@ entry_fault c n e =
     (option_or (fault_where (stands_already c e) (DoubleNode n))
     (fault_where (not (has_order e)) (SetOrder n)))))
 
--- with one more entry
+-- the certificate with an additional entry
 abbrev pub with_entry : CertParts → Entry → CertParts
 with_entry c (TestLine n) = record c { test_nodes = c.test_nodes ++ n ∷ [] }
 with_entry c (TermLine n) = record c { term_nodes = c.term_nodes ++ n ∷ [] }
 with_entry c (PairLine p) = record c { pairs = c.pairs ++ p ∷ [] }
 
--- evidence, or the first fault of a text
+-- the evidence or the first fault of a text
 abbrev pub Answer : Type 0
 Answer = Result Evidence EvidenceFault
 
--- A text is taken as the list of its parts between line feeds: each part but the last is a complete line.
--- The last part is no complete line, so the text ends too early.
+-- A text is the list of its parts between line feeds. Each part but the last is a complete line. A last part in the
+-- place of a line means that the text is truncated.
 abbrev pub or_truncated : List (List ℕ) → Answer → Answer
 or_truncated [] answer = Err Truncated
 or_truncated (part ∷ parts) answer = answer
 
--- after the line `end` the text ends, where line n would begin
+-- the text must end after the line `end`; line n would begin there
 abbrev pub ended : Evidence → ℕ → List (List ℕ) → Answer
 ended e n [] = Err (Trailing n)
 ended e n ([] ∷ []) = Ok e
 ended e n ([] ∷ part ∷ parts) = Err (Trailing n)
 ended e n ((b ∷ bs) ∷ parts) = Err (Trailing n)
 
--- what is wrong with line n after the entries of c: it is no entry, or what is wrong with the entry
+-- the fault of line n after the entries of c: the line is not an entry, or the entry has a fault
 abbrev pub line_fault_after : CertParts → ℕ → Option Entry → Option EvidenceFault
 line_fault_after c n None = Some (Line n)
 line_fault_after c n (Some e) = entry_fault c n e
 
--- the fault of a line, or what is said of the lines after it
+-- the fault of a line, or the answer for the lines after it
 abbrev pub after_line : CertParts → ℕ → Option Entry → (CertParts → Answer) → Answer
 after_line c n None more = Err (Line n)
 after_line c n (Some e) more = unwrap_or (option_map Err (entry_fault c n e)) (more (with_entry c e))
 
--- what the lines from line n on say after the entries of c
+-- the answer for the lines from line n on, after the entries of c
 abbrev pub cert_from : CertParts → ℕ → List (List ℕ) → Answer
 cert_from c n [] = Err Truncated
 cert_from c n (line ∷ parts) =
     or_truncated parts (if bytes_eq line (codes "end") then ended (Equal c) (n + 1) parts else after_line c n (entry_of line) (λ d. cert_from d (n + 1) parts))
 
--- with one more move
+-- the string with an additional move
 abbrev pub with_move : GuardedString → Move → GuardedString
 with_move x m = record { first = x.first; rest = x.rest ++ m ∷ [] }
 
@@ -139,13 +139,13 @@ abbrev pub after_move : GuardedString → ℕ → Option Move → (GuardedString
 after_move x n None more = Err (Line n)
 after_move x n (Some m) more = if too_wide m.act then Err (NumberTooWide n) else more (with_move x m)
 
--- what the lines from line n on say after these moves
+-- the answer for the lines from line n on, after these moves
 abbrev pub moves_from : GuardedString → ℕ → List (List ℕ) → Answer
 moves_from x n [] = Err Truncated
 moves_from x n (line ∷ parts) =
     or_truncated parts (if bytes_eq line (codes "end") then ended (Different x) (n + 1) parts else after_move x n (move_of line) (λ y. moves_from y (n + 1) parts))
 
--- line 2 of a string is its first atom
+-- the answer for a string: line 2 is its first atom
 abbrev pub after_first : Option Atom → List (List ℕ) → Answer
 after_first None parts = Err (Line 2)
 after_first (Some atom) parts = moves_from (record { first = atom; rest = [] }) 3 parts
@@ -157,7 +157,7 @@ string_from (line ∷ parts) = or_truncated parts (after_first (first_of line) p
 abbrev pub no_entries : Style → CertParts
 no_entries style = record { style = style; test_nodes = []; term_nodes = []; pairs = [] }
 
--- line 1 tells the kind of evidence
+-- the answer for all lines: line 1 gives the kind of evidence
 abbrev pub all_from : List (List ℕ) → Answer
 all_from [] = Err Truncated
 all_from (line ∷ parts) =
@@ -167,7 +167,7 @@ all_from (line ∷ parts) =
     else (if bytes_eq line (heading Under) then cert_from (no_entries Under) 2 parts
     else (if bytes_eq line string_heading then string_from parts else Err Header))))
 
--- what a text says
+-- the answer for a text
 abbrev pub answer_of : List ℕ → Answer
 answer_of bytes = all_from (parts_of bytes)
 

@@ -1,4 +1,4 @@
--- What a line says, where it has a form: its words, and the numbers that they spell.
+-- The content of a line that has a form: its words, and the numbers that they spell.
 use Rattle.std.specs.Prelude.{ℕ, ◌+◌, ◌-◌, ◌*◌, Bool, not, ◌&&◌, ◌||◌, ◌==◌, nat_lt, if◌then◌else◌, List, [], ◌∷◌, length, map, slice_index, codes, Option, Some, None}
 use Rattle.std.specs.List.{slice_split, list_all}
 use Rattle.std.specs.Option.{option_map, option_and_then}
@@ -16,7 +16,7 @@ use Rattle.certificate.specs.declared.entry.Entry.{Entry}
 use Rattle.certificate.specs.declared.entry.Entry.TheVariants.{TestLine, TermLine, PairLine}
 use Rattle.certificate.specs.PairParts.{PairParts}
 
--- the node of a name and of the numbers after it
+-- the node with a name and the numbers after it
 abbrev pub test_node_of : List ℕ → List ℕ → Option (TestNode ℕ)
 test_node_of name [] = if bytes_eq name (codes "false") then Some False else (if bytes_eq name (codes "true") then Some True else None)
 test_node_of name (x ∷ []) = if bytes_eq name (codes "prim") then Some (Prim x) else (if bytes_eq name (codes "not") then Some (Not x) else None)
@@ -34,7 +34,7 @@ term_node_of name (x ∷ y ∷ z ∷ ks) = None
 abbrev pub is_bar : List ℕ → Bool
 is_bar w = bytes_eq w (codes "|")
 
--- the pair of two sets of numbers, or of two sets and the one number of a test, where all are spelled
+-- the pair of two sets of numbers, or of two sets and the one number of a test, if all numbers are spelled
 abbrev pub pair_with : List (Option (List ℕ)) → Option PairParts
 pair_with (Some ks ∷ Some ls ∷ []) = Some (record { left = ks; right = ls; test = None })
 pair_with (Some ks ∷ Some ls ∷ Some (t ∷ []) ∷ []) = Some (record { left = ks; right = ls; test = Some t })
@@ -56,7 +56,7 @@ entry_of_words (kind ∷ name ∷ ws) =
 abbrev pub entry_of : List ℕ → Option Entry
 entry_of line = entry_of_words (words_of line)
 
--- the truth values that no word spells, or one word of bits
+-- the truth values of no word, or of one word of bits
 abbrev pub is_bit : ℕ → Bool
 is_bit c = c == 48 || c == 49
 

@@ -1,4 +1,5 @@
--- The laws of certificates and of the text of evidence. Each stands on a function of the crate that does nothing.
+-- The laws of certificates and of the text of evidence. Each is the contract of a function of the crate that does
+-- nothing.
 use Rattle.std.specs.Prelude.{◌≡◌, ◌≢◌, ◌↔◌, ◌+◌, ◌^◌, ◌<◌, ℕ, true, false, ◌==◌, List, ◌∷◌, ◌++◌, length, slice_get, codes, Some, None, ◌||◌, Bool}
 use Rattle.std.specs.List.{list_any, list_all}
 use Rattle.std.specs.Char.{is_ascii_alphanumeric}
@@ -47,11 +48,11 @@ IsLine line = list_any (λ b. b == 10) line ≡ false
 abbrev pub text_with : Evidence → List ℕ → List ℕ → List ℕ
 text_with e line more = text_of_lines (lines_before_end e) ++ (line ++ 10 ∷ more)
 
--- the number of the line after those
+-- the number of the line that follows
 abbrev pub next_line : Evidence → ℕ
 next_line e = length (lines_before_end e) + 1
 
--- A line of each kind is read where it is spelled so, and nowhere else.
+-- A line is read as an entry, an atom or a move if and only if it is its spelling.
 pub record LinesHaveOneSpelling (line : List ℕ) : Type 0 where
   pub entry : (e : Entry) → IsNarrow e → (entry_of line ≡ Some e) ↔ (line ≡ line_of (entry_words e))
   pub first : (atom : Atom) → (first_of line ≡ Some atom) ↔ (line ≡ line_of (atom_words atom))
@@ -60,7 +61,7 @@ pub record LinesHaveOneSpelling (line : List ℕ) : Type 0 where
 abbrev pub EachHasOneSpelling : Type 0
 EachHasOneSpelling = (line : List ℕ) → LinesHaveOneSpelling line
 
--- What follows lines that are right and is wrong is the first fault of a text.
+-- What is wrong after correct lines is the first fault of a text.
 pub record FaultsAreFirst : Type 0 where
   pub header : (line more : List ℕ) → IsLine line → line ≢ heading Plain → line ≢ heading UpTo → line ≢ heading Under → line ≢ string_heading → line_fault (line ++ 10 ∷ more) ≡ Some Header
   pub first : (line more : List ℕ) → IsLine line → first_of line ≡ None → line_fault (string_heading ++ 10 ∷ (line ++ 10 ∷ more)) ≡ Some (Line 2)
@@ -79,11 +80,11 @@ is_plain b = is_ascii_alphanumeric b || (b == 32 || (b == 124 || b == 10))
 abbrev pub IsPlain : List ℕ → Type 0
 IsPlain bytes = list_all is_plain bytes ≡ true
 
--- the text of evidence has no other bytes, so it is ASCII, and may stand in a text of another format
+-- the text of evidence has no other bytes, so it is ASCII and can be part of a text of another format
 abbrev pub TextsArePlain : Type 0
 TextsArePlain = (e : Evidence) → IsPlain (text_of e)
 
--- each node has the tree that it says, over the trees of the nodes that it names
+-- each node has the tree that it describes, over the trees of the nodes that it names
 pub record HasNodeTrees (c : CertParts) : Type 0 where
   pub tests : (k : ℕ) (n : TestNode ℕ) → slice_get c.test_nodes k ≡ Some n → slice_get (test_trees (nodes_of c)) k ≡ Some (test_tree_in (nodes_of c) n)
   pub terms : (k : ℕ) (n : TermNode ℕ ℕ) → slice_get c.term_nodes k ≡ Some n → slice_get (trees (nodes_of c)) k ≡ Some (tree_in (nodes_of c) n)

@@ -1,4 +1,4 @@
--- What a pair of a certificate is made of: two sets of terms, and a test where its style has one, by their numbers.
+-- The parts of a pair of a certificate, by their numbers: two sets of terms, and a test if its style has one.
 use Rattle.std.specs.Prelude.{ℕ, List, Option}
 use Rattle.term_nodes.specs.NumberSets.{NumberPair}
 
@@ -7,6 +7,6 @@ pub record PairParts : Type 0 where
   pub right : List ℕ
   pub test : Option ℕ
 
--- the sets alone
+-- only the sets
 abbrev pub sets_of : PairParts → NumberPair
 sets_of p = record { left = p.left; right = p.right }

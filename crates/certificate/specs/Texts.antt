@@ -58,7 +58,8 @@ abbrev pub maybe_one : Option ℕ → List ℕ
 maybe_one None = []
 maybe_one (Some k) = k ∷ []
 
--- the words of the line of a test node, a term node or a pair, which ends with its test where it has one
+-- the words that end the line of a pair, with its test if it has one; the words of the line of a test node, a term node
+-- or a pair
 abbrev pub last_words : Option ℕ → List (List ℕ)
 last_words None = []
 last_words (Some k) = codes "|" ∷ decimal k ∷ []
@@ -68,13 +69,13 @@ entry_words (TestLine n) = codes "T" ∷ test_name n ∷ map decimal (test_numbe
 entry_words (TermLine n) = codes "E" ∷ term_name n ∷ map decimal (term_numbers n)
 entry_words (PairLine p) = codes "P" ∷ (map decimal p.left ++ codes "|" ∷ (map decimal p.right ++ last_words p.test))
 
--- the numbers in it
+-- the numbers in an entry
 abbrev pub entry_numbers : Entry → List ℕ
 entry_numbers (TestLine n) = test_numbers n
 entry_numbers (TermLine n) = term_numbers n
 entry_numbers (PairLine p) = p.left ++ (p.right ++ maybe_one p.test)
 
--- one `0` or `1` for each test, and no word where there are no tests
+-- one `0` or `1` for each test, and no word if there are no tests
 abbrev pub bits : Atom → List ℕ
 bits atom = map (λ b. if b then 49 else 48) atom
 

@@ -1,4 +1,4 @@
--- Concise certificates of pairs under tests: no sets stand twice, and each pair is reached along allowed moves.
+-- Concise certificates of pairs under tests: all pairs have different sets, and each pair is reached by allowed moves.
 use Rattle.std.specs.Prelude.{◌≡◌, ◌≤◌, ◌<◌, ◌+◌, ◌*◌, ◌^◌, ℕ, List, [], ◌∷◌, ◌++◌, length, IsTrue}
 use Rattle.kat_model.specs.Trees.{Term, acts}
 use Rattle.kat_model.specs.Members.{Has, SameMembers}
@@ -14,7 +14,7 @@ use Rattle.certificate.specs.declared.nodes.Style.TheVariants.{Under}
 use Rattle.certificate.specs.Certs.{CertParts}
 use Rattle.certificate.specs.Accepted.{set_pairs, tested_pairs, IsAccepted}
 
--- an allowed move from an atom of the test of the one pair leads from its sets to those of the other
+-- an allowed move from an atom that satisfies the test of the first pair leads from its sets to those of the second
 pub record LeadsUnder (shorts : List Term) (tests actions : ℕ) (from to : TestedPair) : Type 0 where
   pub atom : Atom
   pub move : Move
@@ -33,14 +33,14 @@ pub record IsSomewhere (shorts : List Term) (tests : ℕ) (p : TestedPair) : Typ
   pub allowed : IsAllowedAtom shorts atom
   pub holds : IsTrue (truth p.test atom)
 
--- one of the pairs before it leads to the pair, which is somewhere
+-- an earlier pair leads to the pair, and the test of the pair is true at an allowed atom
 pub record IsReachedPair (shorts : List Term) (tests actions : ℕ) (before : List TestedPair) (p : TestedPair) : Type 0 where
   pub from : TestedPair
   pub earlier : Has before from
   pub leads : LeadsUnder shorts tests actions from p
   pub somewhere : IsSomewhere shorts tests p
 
--- each of the pairs is reached after those before it
+-- each of the pairs is reached after the earlier ones
 abbrev pub AreReachedPairs : List Term → ℕ → ℕ → List TestedPair → List TestedPair → Type 0
 AreReachedPairs shorts tests actions before [] = Unit {0}
 AreReachedPairs shorts tests actions before (p ∷ ps) = IsReachedPair shorts tests actions before p × AreReachedPairs shorts tests actions (before ++ p ∷ []) ps
@@ -50,8 +50,8 @@ abbrev pub AreAllReached : List Term → ℕ → ℕ → List TestedPair → Typ
 AreAllReached shorts tests actions [] = Unit {0}
 AreAllReached shorts tests actions (p ∷ ps) = AreReachedPairs shorts tests actions (p ∷ []) ps
 
--- The certificate is accepted, in the style of tests. Its pairs have different sets and are reached, and they are not many:
--- the fewer where both sides are guarded and no hypothesis is long.
+-- The certificate is accepted, in the style of tests. Its pairs have different sets and are reached, and their number
+-- is bounded. The bound is lower if both sides are guarded and no hypothesis is long.
 pub record IsConciseUnder (q : ProblemParts) (c : CertParts) : Type 0 where
   pub accepted : IsAccepted q c
   pub under : c.style ≡ Under

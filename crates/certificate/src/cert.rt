@@ -5,10 +5,10 @@ ghost use Rattle.certificate.specs.Certs.{cert_of, IsCert};
 use crate::nodes::{Pair, Style, TermNode, TestNode};
 use std::marker::Model;
 
-/// A certificate that two terms are the same: nodes of tests and terms, and pairs of sets of terms. A node
-/// names only earlier nodes of its list, and test nodes where it is `Test`; no node stands twice in a list;
-/// the sets of a pair name term nodes, in strictly ascending order; its test names a test node in the style `Under`,
-/// and there is none in another style.
+/// A certificate that two terms are the same: nodes of tests and terms, and pairs of sets of terms. A node names only
+/// earlier nodes of its list; `Test` names a test node. No node occurs twice in a list. The sets of a pair name term
+/// nodes, in strictly ascending order. The test of a pair names a test node in the style `Under`; in the other styles a
+/// pair has no test.
 #[derive(Drop)]
 pub struct Cert {
     style: Style,
@@ -28,7 +28,7 @@ impl Model for Cert {
 }
 
 impl Cert {
-    /// The certificate of these parts, which keep its rules. It takes no memory.
+    /// Builds the certificate of these parts, which must keep its rules. Allocates no memory.
     pub fn of_parts(
         style: Style,
         test_nodes: Vec<TestNode>,
@@ -46,7 +46,7 @@ impl Cert {
         }
     }
 
-    /// How the successors of a pair are told.
+    /// Returns how the listed pairs determine the successors of a pair.
     pub fn style(&self) -> Style
         ensures value { result ≡ self.now.style }
         ensures rules { IsCert self.now }
@@ -54,7 +54,7 @@ impl Cert {
         self.style
     }
 
-    /// The test nodes.
+    /// Returns the test nodes.
     pub fn test_nodes(&self) -> &[TestNode]
         ensures value { result.now ≡ self.now.test_nodes }
         ensures rules { IsCert self.now }
@@ -62,7 +62,7 @@ impl Cert {
         &self.test_nodes
     }
 
-    /// The term nodes.
+    /// Returns the term nodes.
     pub fn term_nodes(&self) -> &[TermNode]
         ensures value { result.now ≡ self.now.term_nodes }
         ensures rules { IsCert self.now }
@@ -70,7 +70,7 @@ impl Cert {
         &self.term_nodes
     }
 
-    /// The pairs of sets of terms. The first is that of both sides.
+    /// Returns the pairs of sets of terms. In an accepted certificate the first is that of both sides.
     pub fn pairs(&self) -> &[Pair]
         ensures value { result.now ≡ self.now.pairs }
         ensures rules { IsCert self.now }

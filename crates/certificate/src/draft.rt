@@ -1,4 +1,4 @@
-//! A certificate that is being read.
+//! A certificate during reading.
 ghost use Rattle.std.specs.Prelude.{◌≡◌, ◌&&◌, ◌++◌, false, Some};
 ghost use Rattle.term_nodes.specs.Nodes.{test_parts, term_parts, tests_of_term};
 ghost use Rattle.term_nodes.specs.NumberSets.{are_below, are_ascending};
@@ -15,7 +15,7 @@ use crate::nodes::{Pair, Style, TermNode, TestNode};
 use std::alloc::Global;
 use std::collections::BTreeSet;
 
-// The entries so far. The sets have the nodes too, so that an equal node is found fast.
+// The entries so far. The sets contain the nodes as well, for a fast search of equal nodes.
 #[derive(Drop)]
 pub(crate) struct Draft {
     style: Style,
@@ -26,7 +26,7 @@ pub(crate) struct Draft {
     known_terms: BTreeSet<TermNode>,
 }
 
-// Does nothing: what is known of the orders in which the sets keep nodes.
+// Does nothing. Its contract states the properties of the orders in which the sets keep nodes.
 fn node_orders()
     ensures tests { TellsApart ⟦<TestNode as Ord>⟧.cmp }
     ensures tests_own { IsReflexive ⟦<TestNode as Ord>⟧.cmp }
@@ -40,7 +40,7 @@ fn all_below(numbers: &[usize], count: usize) -> bool
     numbers.iter().all(|k| *k < count)
 }
 
-// Whether the number is below the count, where there is one.
+// Whether the number, if there is one, is below the count.
 fn is_below(number: Option<usize>, count: usize) -> bool
     ensures { result ≡ are_below count (maybe_one number) }
 {
@@ -102,7 +102,7 @@ impl Draft {
         }
     }
 
-    // The certificate of the entries.
+    // Returns the certificate of the entries.
     pub(crate) fn into_cert(self) -> Cert
         requires { IsDraft self }
         ensures { result ≡ draft_parts self }
@@ -206,7 +206,7 @@ impl Draft {
         }
     }
 
-    // Adds the entry of the line of this number. After a fault the draft is of no use.
+    // Adds the entry on the line with this number. After a fault the draft must not be used.
     pub(crate) fn add(
         &mut self,
         alloc: Global,

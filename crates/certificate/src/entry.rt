@@ -15,7 +15,7 @@ use kat_model::{Items, NoMemory};
 use line_format::{Numbers, read_numbers, words_of};
 use std::alloc::Global;
 
-// What a line of a certificate says.
+// The content of a line of a certificate.
 #[derive(Drop)]
 pub(crate) enum Entry {
     TestLine(TestNode),
@@ -23,7 +23,7 @@ pub(crate) enum Entry {
     PairLine(Pair),
 }
 
-// The parts of a certificate, in the order in which they stand.
+// The parts of a certificate, in their order.
 #[derive(Clone, Copy)]
 pub(crate) enum Section {
     Tests,
@@ -32,7 +32,7 @@ pub(crate) enum Section {
     TestedPairs,
 }
 
-// Why a line is not read.
+// Why a line is not an entry.
 #[derive(Clone, Copy)]
 pub(crate) enum LineFault {
     NoMemory,
@@ -63,7 +63,7 @@ impl Entry {
     }
 }
 
-// The test node of this name and these numbers.
+// Returns the test node with this name and these numbers.
 fn test_node(name: &[u8], numbers: &[usize]) -> Option<TestNode>
     ensures { result ≡ test_node_of name.now numbers.now }
 {
@@ -99,7 +99,7 @@ fn test_node(name: &[u8], numbers: &[usize]) -> Option<TestNode>
     }
 }
 
-// The term node of this name and these numbers.
+// Returns the term node with this name and these numbers.
 fn term_node(name: &[u8], numbers: &[usize]) -> Option<TermNode>
     ensures { result ≡ term_node_of name.now numbers.now }
 {
@@ -178,7 +178,7 @@ fn is_bar(word: &[u8]) -> bool
     word == b"|".as_slice()
 }
 
-// The parts of words that bars separate.
+// Splits words at bars.
 fn between_bars<'a, 'b>(
     alloc: Global,
     words: &'a [&'b [u8]],
@@ -195,7 +195,7 @@ fn are_wide(left: &Numbers, right: &Numbers) -> bool
     left.wide || right.wide
 }
 
-// The one number of a list.
+// Returns the number of a list with exactly one.
 fn single(numbers: &[usize]) -> Option<usize>
     ensures { result ≡ single_of numbers.now }
 {
@@ -205,7 +205,7 @@ fn single(numbers: &[usize]) -> Option<usize>
     }
 }
 
-// The pair of these sets, without a test.
+// Returns the pair of these sets, without a test.
 fn pair(left: Numbers, right: Numbers) -> Result<Entry, LineFault>
     ensures { (ks ls : List ℕ) → HasNumbers ks left → HasNumbers ls right
         → ReadsEntry (option_map PairLine (pair_with (Some ks ∷ Some ls ∷ []))) result }
@@ -220,7 +220,7 @@ fn pair(left: Numbers, right: Numbers) -> Result<Entry, LineFault>
     }))
 }
 
-// The pair of these sets under the test of a number.
+// Returns the pair of these sets under the test with a number.
 fn tested_pair(left: Numbers, right: Numbers, test: &Numbers) -> Result<Entry, LineFault>
     ensures { (ks ls ts : List ℕ) → HasNumbers ks left → HasNumbers ls right → HasNumbers ts test.now
         → ReadsEntry (option_map PairLine (pair_with (Some ks ∷ Some ls ∷ Some ts ∷ []))) result }
@@ -241,7 +241,7 @@ fn tested_pair(left: Numbers, right: Numbers, test: &Numbers) -> Result<Entry, L
     }))
 }
 
-// The pair of words of two sets.
+// Reads a pair from the words of two sets.
 fn pair_of_two(alloc: Global, left: &[&[u8]], right: &[&[u8]]) -> Result<Entry, LineFault>
     ensures { ReadsEntry (option_map PairLine (pair_with (numbers_of (texts left.now) ∷ numbers_of (texts right.now) ∷ []))) result }
 {
@@ -254,7 +254,7 @@ fn pair_of_two(alloc: Global, left: &[&[u8]], right: &[&[u8]]) -> Result<Entry, 
     pair(left, right)
 }
 
-// The pair of words of two sets and of the number of a test.
+// Reads a pair from the words of two sets and of the number of a test.
 fn pair_of_three(
     alloc: Global,
     left: &[&[u8]],
@@ -275,7 +275,7 @@ fn pair_of_three(
     tested_pair(left, right, &test)
 }
 
-// The pair of words of these parts.
+// Reads a pair from the words of its parts.
 fn pair_of_parts(alloc: Global, parts: &[&[&[u8]]]) -> Result<Entry, LineFault>
     ensures { ReadsEntry (option_map PairLine (pair_with (map (λ part. numbers_of (texts part.now)) parts.now))) result }
 {
@@ -293,7 +293,7 @@ fn pair_line(alloc: Global, words: &[&[u8]]) -> Result<Entry, LineFault>
     pair_of_parts(alloc, parts.as_slice())
 }
 
-// The entry of words.
+// Reads an entry from words.
 fn entry_of_words(alloc: Global, words: &[&[u8]]) -> Result<Entry, LineFault>
     ensures { ReadsEntry (entry_of_words (texts words.now)) result }
 {
@@ -314,7 +314,7 @@ fn entry_of_words(alloc: Global, words: &[&[u8]]) -> Result<Entry, LineFault>
     }
 }
 
-// The entry of a line.
+// Reads an entry from a line.
 pub(crate) fn read_entry(alloc: Global, line: &[u8]) -> Result<Entry, LineFault>
     ensures { ReadsEntry (entry_of line.now) result }
 {

@@ -1,4 +1,4 @@
-//! Evidence, and what is wrong with a text that is none.
+//! Evidence, and the faults of a text that is not the text of evidence.
 ghost use Rattle.std.specs.Prelude.{◌≡◌};
 ghost use Rattle.certificate.specs.declared.evidence.EvidenceFault.TheVariants.{NoMemory as NoRoom};
 
@@ -7,7 +7,7 @@ use kat_model::NoMemory;
 use std::alloc::{AllocError, AllocFailed};
 use string_tables::GString;
 
-/// What shows an answer.
+/// Evidence for an answer.
 #[derive(Drop)]
 pub enum Evidence {
     /// A certificate that both sides are the same.
@@ -19,15 +19,15 @@ pub enum Evidence {
 /// The first fault of a text that is not the text of evidence. Lines are counted from 1.
 #[derive(Clone, Copy, Debug, PartialEq, Eq)]
 pub enum EvidenceFault {
-    /// Memory ran out.
+    /// Out of memory.
     NoMemory,
-    /// Line 1 is none of `kat 1 equal`, `kat 2 equal`, `kat 1 equal under` and `kat 1 different`.
+    /// Line 1 is not one of `kat 1 equal`, `kat 2 equal`, `kat 1 equal under` and `kat 1 different`.
     Header,
-    /// The line has none of the forms that may stand there.
+    /// The line has none of the forms that are allowed there.
     Line(u64),
-    /// The line names a node that is not earlier, or a pair names a node that is not there.
+    /// The line names a node that no earlier line defines.
     NodeOrder(u64),
-    /// The node of the line equals an earlier one of its sort.
+    /// The node of the line equals an earlier node of the same kind.
     DoubleNode(u64),
     /// A set of the line is not strictly ascending.
     SetOrder(u64),
@@ -35,7 +35,7 @@ pub enum EvidenceFault {
     NumberTooWide(u64),
     /// The text ends before a complete line `end`.
     Truncated,
-    /// Bytes follow the line `end`: this is the number of the line after it.
+    /// Bytes follow the line `end`. This is the number of the line after it.
     Trailing(u64),
 }
 

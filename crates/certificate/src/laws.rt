@@ -11,29 +11,29 @@ pub fn is_text_or_faulty()
     ensures { IsTextOrFaulty }
 {}
 
-/// Each line that may stand in evidence is read where it is spelled so, and nowhere else.
+/// Each line of evidence is read as an entry, an atom or a move if and only if it is its spelling.
 pub fn lines_have_one_spelling()
     ensures { EachHasOneSpelling }
 {}
 
-/// After lines that are right, the first line that is wrong tells the fault of a text; so do a text that ends
-/// too early, and bytes after its last line.
+/// After correct lines, the first wrong line is the fault of a text. The same holds for a text that ends too early, and
+/// for bytes after its last line.
 pub fn faults_are_first()
     ensures { FaultsAreFirst }
 {}
 
-/// The text of evidence is made of ASCII letters and digits, blanks, bars and line feeds.
+/// The text of evidence consists of ASCII letters and digits, blanks, bars and line feeds.
 pub fn texts_are_plain()
     ensures { TextsArePlain }
 {}
 
-/// The tree of each node of a certificate is what the node says, over the trees of the nodes that it names.
+/// Each node of a certificate has the tree that it describes, over the trees of the nodes that it names.
 pub fn nodes_have_trees()
     ensures { NodesHaveTrees }
 {}
 
-/// A certificate that is accepted shows that both sides denote one relation in each table that keeps the
-/// hypotheses, whoever made it.
+/// An accepted certificate shows that both sides denote one relation in each table that satisfies the hypotheses. Its
+/// origin does not matter.
 pub fn accepted_are_same()
     ensures { AcceptedAreSame }
 {}

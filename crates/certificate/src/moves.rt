@@ -11,7 +11,7 @@ use line_format::{is_numeral, number_of, words_of};
 use std::alloc::Global;
 use string_tables::Move;
 
-// Why a line is no move.
+// Why a line is not a move.
 #[derive(Clone, Copy)]
 pub(crate) enum MoveFault {
     NoMemory,
@@ -39,7 +39,7 @@ fn values_of(alloc: Global, word: &[u8]) -> Result<Vec<bool>, NoMemory>
     Ok(word.iter().map(|c| *c == b'1').collect(alloc)?)
 }
 
-// The truth values of a word of bits.
+// Returns the truth values of a word of bits.
 fn bits(alloc: Global, word: &[u8]) -> Result<Option<Items<bool>>, NoMemory>
     ensures { IfOk result (λ read. read ≡ bits_of word.now) }
 {
@@ -52,7 +52,7 @@ fn bits(alloc: Global, word: &[u8]) -> Result<Option<Items<bool>>, NoMemory>
     Ok(Some(Items::of(values_of(alloc, word)?)))
 }
 
-// The truth values of no word, or of a word of bits.
+// Returns the truth values of no word, or of a word of bits.
 fn atom(alloc: Global, words: &[&[u8]]) -> Result<Option<Items<bool>>, NoMemory>
     ensures { IfOk result (λ read. read ≡ atom_of_words (texts words.now)) }
 {
@@ -63,7 +63,7 @@ fn atom(alloc: Global, words: &[&[u8]]) -> Result<Option<Items<bool>>, NoMemory>
     }
 }
 
-// The first atom of a string.
+// Reads the first atom of a string.
 pub(crate) fn read_first(alloc: Global, line: &[u8]) -> Result<Option<Items<bool>>, NoMemory>
     ensures { IfOk result (λ read. read ≡ first_of line.now) }
 {
@@ -79,7 +79,7 @@ pub(crate) fn read_first(alloc: Global, line: &[u8]) -> Result<Option<Items<bool
     }
 }
 
-// The move of an action and an atom.
+// Reads a move from an action and an atom.
 fn move_from(alloc: Global, act: &[u8], words: &[&[u8]]) -> Result<Move, MoveFault>
     ensures { ReadsMove (move_after act.now (texts words.now)) result }
 {
@@ -95,7 +95,7 @@ fn move_from(alloc: Global, act: &[u8], words: &[&[u8]]) -> Result<Move, MoveFau
     }
 }
 
-// The move of a line.
+// Reads a move from a line.
 pub(crate) fn read_move(alloc: Global, line: &[u8]) -> Result<Move, MoveFault>
     ensures { ReadsMove (move_of line.now) result }
 {

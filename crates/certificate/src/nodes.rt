@@ -2,23 +2,23 @@
 use kat_model::Items;
 use std::marker::Model;
 
-/// How the successors of a pair are told by the pairs that are listed.
+/// How the listed pairs determine the successors of a pair.
 #[derive(Clone, Copy, Debug, PartialEq, Eq)]
 pub enum Style {
-    /// Each is a listed pair (bisimulation; Hopcroft and Karp 1971).
+    /// Each successor is a listed pair (bisimulation; Hopcroft and Karp 1971).
     Plain,
-    /// Each is made one set by the listed pairs (up to congruence; Bonchi and Pous 2013).
+    /// The listed pairs make the two sets of each successor congruent (up to congruence; Bonchi and Pous 2013).
     UpTo,
-    /// The same from the atoms of each pair's test on, along the moves that hypotheses on single atoms and moves allow;
-    /// at the end of a move the pairs count whose tests are true there.
+    /// As `UpTo`, from the atoms that satisfy the pair's test, along the moves that the hypotheses on single atoms and
+    /// moves allow. Only the pairs whose tests are true at the end of a move count.
     Under,
 }
 
-/// A node of a test. The numbers of `Not`, `And` and `Or` are those of earlier test nodes, from 0.
+/// A node of a test. The numbers of `Not`, `And` and `Or` are numbers of earlier test nodes, from 0.
 pub type TestNode = term_nodes::TestNode<usize>;
 
-/// A node of a term. The number of `Test` is that of a test node, those of `Sum`, `Seq` and `Star` are of
-/// earlier term nodes, from 0.
+/// A node of a term. The number of `Test` is the number of a test node; the numbers of `Sum`, `Seq` and `Star` are
+/// numbers of earlier term nodes, from 0.
 pub type TermNode = term_nodes::TermNode<usize, usize>;
 
 /// Two sets of terms, by the numbers of their nodes.
@@ -26,7 +26,7 @@ pub type TermNode = term_nodes::TermNode<usize, usize>;
 pub struct Pair {
     pub left: Items<usize>,
     pub right: Items<usize>,
-    /// The test node at whose atoms both sets are to accept alike, in the style `Under`; no other style has one.
+    /// A test node, only in the style `Under`: both sets must accept alike at the atoms that satisfy it.
     pub test: Option<usize>,
 }
 

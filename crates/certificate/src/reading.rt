@@ -16,7 +16,7 @@ use line_format::first_line;
 use std::alloc::Global;
 use string_tables::GString;
 
-// What the line `end` gives, where line `number` would begin after it.
+// Returns the answer after the line `end`; line `number` would begin there.
 fn ended(evidence: Evidence, number: u64, after: &[u8]) -> Result<Evidence, EvidenceFault>
     ensures { Answers (ended evidence number (parts_of after.now)) result }
 {
@@ -27,7 +27,7 @@ fn ended(evidence: Evidence, number: u64, after: &[u8]) -> Result<Evidence, Evid
     }
 }
 
-// A certificate from line 2 on.
+// Reads a certificate from line 2 on.
 fn read_cert(alloc: Global, style: Style, bytes: &[u8]) -> Result<Evidence, EvidenceFault>
     requires { length bytes.now + 4 < 2 ^ 64 }
     ensures { Answers (cert_from (no_entries style) 2 (parts_of bytes.now)) result }
@@ -48,7 +48,7 @@ fn read_cert(alloc: Global, style: Style, bytes: &[u8]) -> Result<Evidence, Evid
     }
 }
 
-// The moves of a string from line 3 on.
+// Reads the moves of a string from line 3 on.
 fn read_moves(alloc: Global, first: Items<bool>, bytes: &[u8]) -> Result<Evidence, EvidenceFault>
     requires { length bytes.now + 4 < 2 ^ 64 }
     ensures { Answers (moves_from (record { first = first; rest = [] }) 3 (parts_of bytes.now)) result }
@@ -76,7 +76,7 @@ fn read_moves(alloc: Global, first: Items<bool>, bytes: &[u8]) -> Result<Evidenc
     }
 }
 
-// A string from line 2 on.
+// Reads a string from line 2 on.
 fn read_string(alloc: Global, bytes: &[u8]) -> Result<Evidence, EvidenceFault>
     requires { length bytes.now + 4 < 2 ^ 64 }
     ensures { Answers (string_from (parts_of bytes.now)) result }
@@ -111,17 +111,17 @@ fn read_all(alloc: Global, bytes: &[u8]) -> Result<Evidence, EvidenceFault>
     Err(EvidenceFault::Header)
 }
 
-/// The evidence of which the bytes are the text. Bytes that are the text of none have a first fault, which is
-/// that of the first line at fault: on one line the form is tested first, then the width of numerals, the
-/// order of nodes, equal nodes, and the order of sets. There is no limit but memory.
+/// Reads the evidence whose text is `bytes`. Bytes that are not the text of evidence have a first fault, on the first
+/// faulty line. On one line the order of checks is: form, width of numerals, order of nodes, equal nodes, order of
+/// sets. The only limit is memory.
 pub fn read(alloc: Global, bytes: &[u8]) -> Result<Evidence, EvidenceFault>
-    // What is read is evidence, and the bytes are its text.
+    // The result is evidence, and the bytes are its text.
     ensures evidence { IfOk result (λ e. IsEvidence e × (bytes.now ≡ text_of e)) }
 
-    // Evidence of which the bytes are the text is read, unless memory runs out.
+    // The text of evidence is read as this evidence, unless memory runs out.
     ensures only { (e : Evidence) → IsEvidence e → bytes.now ≡ text_of e → Gives e result }
 
-    // Any other answer is the first fault of the bytes, unless memory runs out.
+    // An error is the first fault of the bytes, unless memory runs out.
     ensures fault { IfErr result (λ fault. IsFault bytes.now fault) }
 {
     read_all(alloc, bytes)

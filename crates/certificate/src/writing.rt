@@ -41,7 +41,7 @@ fn put_term(alloc: Global, out: &mut Vec<u8>, node: TermNode) -> Result<(), NoMe
     }
 }
 
-// The end of the line of a pair: its test, where it has one.
+// Appends the end of the line of a pair: its test, if it has one.
 fn put_last(alloc: Global, out: &mut Vec<u8>, test: Option<usize>) -> Result<(), NoMemory>
     ensures { OnOk result (out.new.items ≡ out.old.items ++ with_feed (after_blanks (last_words test))) }
 {
@@ -113,7 +113,7 @@ fn bit(value: bool) -> u8
     if value { b'1' } else { b'0' }
 }
 
-// The bits of an atom after a blank, or nothing where there are no tests.
+// Appends the bits of an atom after a blank, or nothing if there are no tests.
 fn put_bits(out: &mut Vec<u8>, atom: &[bool]) -> Result<(), NoMemory>
     ensures { OnOk result (out.new.items ≡ out.old.items ++ after_blanks (bit_words atom.now)) }
 {
@@ -163,7 +163,7 @@ fn put_string(alloc: Global, out: &mut Vec<u8>, string: &GString) -> Result<(), 
     put_moves(alloc, out, string.rest.as_slice())
 }
 
-// All lines but the last.
+// Appends all lines but the last.
 fn put_body(alloc: Global, out: &mut Vec<u8>, evidence: &Evidence) -> Result<(), NoMemory>
     ensures { OnOk result (out.new.items ≡ out.old.items ++ body_of evidence.now) }
 {
@@ -173,7 +173,7 @@ fn put_body(alloc: Global, out: &mut Vec<u8>, evidence: &Evidence) -> Result<(),
     }
 }
 
-/// The one spelling of evidence. Fails only when out of memory.
+/// Returns the text of evidence, which is unique. Fails only when out of memory.
 pub fn write(alloc: Global, evidence: &Evidence) -> Result<Vec<u8>, NoMemory>
     ensures { IfOk result (λ text. text.items ≡ text_of evidence.now) }
 {

@@ -1,4 +1,4 @@
--- Reading the tokens of a chain is its fold.
+-- Reading the tokens of a chain gives its fold.
 use Rattle.std.proofs.Common.{◌≡◌, ℕ, List, Bool, true, false, Option, None, Some, Result, Ok, Err, refl, ap, sym, ◌∙◌, drop}
 use Rattle.std.specs.Option.{is_some}
 use Rattle.std.specs.Str.{bytes_eq}
@@ -23,7 +23,7 @@ use Rattle.chain_proofs.specs.ChainFolds.{fold_number, fold_parts, fold_place, f
 use Rattle.chain_proofs.proofs.PathSteps.{parts_step}
 use Rattle.chain_proofs.proofs.ChainSteps.{chain_step}
 
--- the tokens go on with no path and with no part of one
+-- the tokens do not continue a rule: they begin with neither a path nor a further part of a path
 pub record EndsRule (ts : List Lexeme) : Type 0 where
   pub no_path : is_word (codes "at") ts ≡ false
   pub no_part : heads (is_terminal Dot) ts ≡ false
@@ -52,7 +52,7 @@ name_rest : (w : RuleWord) (ts : List Lexeme) → drop 1 (word_onto w ts) ≡ ts
 name_rest (plain l) ts = refl
 name_rest (keyword l) ts = refl
 
--- three steps, and then the rest
+-- three steps followed by a continuation
 then_three : {A B C Y W : Type 0} (m : Result A TextFault) (n : A → Result B TextFault) (o : Result C TextFault) (mk : B → C → Y) (us ts : List Lexeme) (k : Y × List Lexeme → Parsed W) (l : Y → Result W TextFault) →
     ((x : B) (p : C) → k (mk x p, us) ≡ before ts (l (mk x p))) → (before us (m >>= λ a. n a >>= λ x. o >>= λ p. Ok (mk x p)) >>= k) ≡ before ts ((m >>= λ a. n a >>= λ x. o >>= λ p. Ok (mk x p)) >>= l)
 then_three {A} {B} {C} {Y} m n o mk us ts k l h = by_first m where
@@ -103,7 +103,7 @@ module _ {Z T R P V : Type 0} (g : ChainActions Z T R P V) (t : TermFold Z T) (r
   abbrev f : ChainParser Z V
   f = parse_chain g
 
-  -- what is made of a line after its rule
+  -- the chain extended by a line, from the parts of the line
   abbrev lined : V → T → Reason R P → Option V × Z → V × Z
   lined v x r i = (g.line v x r.rule r.path i.0, i.1)
 
@@ -116,7 +116,7 @@ module _ {Z T R P V : Type 0} (g : ChainActions Z T R P V) (t : TermFold Z T) (r
   abbrev after_term : V → ℕ → (T × Z) × List Lexeme → Parsed (V × Z)
   after_term v d x = wants_word (codes "by") x.1 >>= λ b. rule_by g b >>= after_rule v d x.0
 
-  -- the tokens of a line, where what follows its rule is read so
+  -- reading a line is its fold if reading what follows its rule is
   line_read : (v : V) (z : Z) (d : ℕ) (p : Phrase term) (by : Leaf) (r : RulePhrase) (b : Bool) (us ts : List Lexeme) (l : T × Z → Reason R P → Result (V × Z) TextFault) →
       MeetsLookahead p (reason_onto by r us) → RuleObeys by r b → EndsRule us → ((x : T × Z) (y : R) (q : P) → after_rule v d x (reason g r y q, us) ≡ before ts (l x (reason g r y q))) →
       line_by g f v z d (yield_before p (reason_onto by r us)) ≡ before ts (t d z p >>= λ x. fold_rule g r >>= l x)
@@ -130,7 +130,7 @@ module _ {Z T R P V : Type 0} (g : ChainActions Z T R P V) (t : TermFold Z T) (r
   abbrev Read : ℕ → Lines → Type 0
   Read d ls = (v : V) (z : Z) (ts : List Lexeme) → heads (is_terminal (Separator Equals)) ts ≡ false → Ends term ts → LinesObey ls ts → f (lines_after v z) d (lines_onto ls ts) ≡ before ts (fold_lines g t d v z ls)
 
-  -- the token before the lines, or after them, goes on with no term
+  -- the lines and the tokens after them do not continue a term
   lines_end : (ls : Lines) (ts : List Lexeme) → Ends term ts → Ends term (lines_onto ls ts)
   lines_end no_lines ts e = e
   lines_end (plain_line equals p by r end rest) ts e = refl
@@ -139,7 +139,7 @@ module _ {Z T R P V : Type 0} (g : ChainActions Z T R P V) (t : TermFold Z T) (r
   abbrev go_on : ℕ → (V × Z) × List Lexeme → Parsed (V × Z)
   go_on d x = f (lines_after (x.0).0 (x.0).1) d x.1
 
-  -- a chain in braces, where its lines are read so
+  -- reading a chain in braces is its fold if reading its lines is
   braces_read : (z : Z) (d : ℕ) (opening closing : Leaf) (first : Phrase term) (inner : Lines) (us : List Lexeme) → ((e : ℕ) → Read e inner) →
       MeetsLookahead first (lines_onto inner (cons_token (Separator CurlyClose) closing us)) → LinesObey inner (cons_token (Separator CurlyClose) closing us) →
       braces_by f z d (cons_token (Separator CurlyOpen) opening (yield_before first (lines_onto inner (cons_token (Separator CurlyClose) closing us)))) ≡ before us (enter d opening.at >>= λ e. t e z first >>= λ a. fold_lines g t e (g.first a.0) a.1 inner)
@@ -152,7 +152,7 @@ module _ {Z T R P V : Type 0} (g : ChainActions Z T R P V) (t : TermFold Z T) (r
       ∙ then_rest (lines_onto inner vs) vs (t e z first) (λ a. f (lines_after (g.first (a.0).0) (a.0).1) e a.1) (λ a. fold_lines g t e (g.first a.0) a.1 inner) (λ a. read e (g.first a.0) a.1 vs refl refl obey))
       ∙ closed (Separator CurlyClose) closing us (t e z first >>= λ a. fold_lines g t e (g.first a.0) a.1 inner) refl)
 
-  -- the inner chain of a line, as far as the semicolon
+  -- the inner chain of a line, up to the semicolon
   around_read : (v : V) (x : T) (r : Reason R P) (end : Leaf) (ts : List Lexeme) (m : Result (V × Z) TextFault) →
       (change (λ (c : V × Z). (Some c.0, c.1)) (before (ended end ts) m) >>= after_inner v x r) ≡ before ts (m >>= λ c. Ok (g.line v x r.rule r.path (Some c.0), c.1))
   around_read v x r end ts (Ok c) = refl

@@ -1,4 +1,4 @@
--- What is read as a chain from the front of the tokens is a chain.
+-- What is read as a chain from the start of the tokens is a chain.
 use Rattle.std.proofs.Common.{◌≡◌, ℕ, zero, suc, ◌+◌, ◌<◌, List, [], ◌∷◌, Bool, true, false, cond as if_true, Option, None, Some, Result, Ok, Err, refl, ap, sym, subst, ◌∙◌, drop}
 use Rattle.std.specs.Option.{is_some}
 use Rattle.std.specs.Str.{bytes_eq}
@@ -30,7 +30,7 @@ tokens_of (Err e) = []
 
 -- ---- names and numbers
 
--- a word at the front
+-- a word at the start
 pub word_headed : (w : List ℕ) (ts : List Lexeme) → is_word w ts ≡ true → (l : Leaf) × (ts ≡ cons_token Name l (drop 1 ts)) × (bytes_eq l.text w ≡ true)
 word_headed w [] e = absurd cc
 word_headed w (lexeme Name at text ∷ ts) e = (leaf at text, refl, e)
@@ -55,7 +55,7 @@ name_ok (lexeme Name at text ∷ ts) x e = (plain (leaf at text), refl, ap text_
 name_ok (lexeme (Keyword word.Hyp) at text ∷ ts) x e = (keyword (leaf at text), refl, ap text_told e)
 name_ok (lexeme _ at text ∷ ts) x e = absurd cc
 
--- a number after the name of a rule
+-- the tokens begin with the number that the name of a rule requires
 pub record IsArgument (name : List ℕ) (ts rest : List Lexeme) : Type 0 where
   pub number : Option Numeral
   pub spelled : ts ≡ number_onto number rest
@@ -72,7 +72,7 @@ argument_ok name ts y e =
     (λ h k. record { number = None; spelled = ap rest_of k; there = sym h; fits = tt })
     e
 
--- the parts of a path
+-- the tokens begin with parts of a path
 pub record AreParts (ts rest : List Lexeme) : Type 0 where
   pub phrase : Parts
   pub spelled : ts ≡ parts_onto phrase rest
@@ -101,7 +101,7 @@ module _ {Z T R P V : Type 0} (g : ChainActions Z T R P V) where
       (λ h k. none_there (x ∷ z ∷ ts) y.1 (ap rest_of k))
       e
 
-  -- a path
+  -- the tokens begin with an optional path
   pub record IsPlace (ts rest : List Lexeme) : Type 0 where
     pub phrase : Place
     pub spelled : ts ≡ place_onto phrase rest
@@ -124,7 +124,7 @@ module _ {Z T R P V : Type 0} (g : ChainActions Z T R P V) where
       (λ h k. record { phrase = no_place; spelled = ap rest_of k; obeys = tt; fits = tt })
       e
 
-  -- a rule with its number and its path
+  -- the tokens begin with a rule with its number and its path
   pub record IsRule (inner : Bool) (ts rest : List Lexeme) : Type 0 where
     pub phrase : RulePhrase
     pub spelled : ts ≡ rule_onto phrase rest
@@ -157,19 +157,19 @@ module _ {Z T R P V : Type 0} (g : ChainActions Z T R P V) where
         fits = (n.fits, p.fits);
       }
 
--- lines
+-- the tokens begin with lines
 pub record AreLines (d : ℕ) (ts rest : List Lexeme) : Type 0 where
   pub phrase : Lines
   pub spelled : ts ≡ lines_onto phrase rest
   pub obey : LinesObey phrase rest
   pub fit : LinesFit d phrase
 
--- what stands in braces after a rule, or nothing
+-- an inner chain in braces after a rule, or nothing
 pub data Inner (d : ℕ) (inner : Bool) (ts rest : List Lexeme) : Type 0 where
   nothing_there : (told : inner ≡ false) → (same : ts ≡ rest) → Inner d inner ts rest
   chain_there : (told : inner ≡ true) → (opening closing : Leaf) → (us : List Lexeme) → (spelled : ts ≡ cons_token (Separator CurlyOpen) opening us) → (lt : d < 200) → (c : IsChainPhrase (d + 1) us (cons_token (Separator CurlyClose) closing rest)) → Inner d inner ts rest
 
--- a chain is a term before lines
+-- a chain is a term followed by lines
 chain_found : (d : ℕ) (ts mid rest : List Lexeme) → IsPhrase term d ts mid → AreLines d mid rest → IsChainPhrase d ts rest
 chain_found d ts mid rest p q =
     let k : IsPhrase term d ts (lines_onto q.phrase rest) = subst (IsPhrase term d ts) q.spelled p in
@@ -182,7 +182,7 @@ chain_found d ts mid rest p q =
       fit = q.fit;
     }
 
--- a line before lines, where all of its parts are there
+-- a complete line followed by lines gives lines
 module _ {Z T R P V : Type 0} (g : ChainActions Z T R P V) where
   line_found : (d : ℕ) (equals by end : Leaf) (inner : Bool) (ts mid after rest us all : List Lexeme) →
       ts ≡ cons_token (Separator Equals) equals us → IsPhrase term d us (cons_token Name by mid) → bytes_eq by.text (codes "by") ≡ true → IsRule g inner mid after → Inner d inner after (ended end rest) → AreLines d rest all → AreLines d ts all
@@ -244,7 +244,7 @@ module _ {Z T R P V : Type 0} (g : ChainActions Z T R P V) (term_is : (d : ℕ) 
   line_told z (Ok x) = x.0
   line_told z (Err e) = z
 
-  -- a line, from the token after its `=` on, and then lines
+  -- a line after its `=`, followed by lines, gives lines
   line_finds : (f : ChainParser Z V) → Finds f → (v : V) (z : Z) (d : ℕ) (equals : Leaf) (ts us rest : List Lexeme) (y : (V × Z) × List Lexeme) → ts ≡ cons_token (Separator Equals) equals us → line_by g f v z d us ≡ Ok y → AreLines d y.1 rest → AreLines d ts rest
   line_finds f s v z d equals ts us rest y head e q =
       let t = bind_ok (g.term d z us) _ y e in

@@ -1,4 +1,4 @@
--- The equation of the reading of chains, in which no number of steps stands.
+-- The equation of reading a chain, without the bound on steps.
 use Rattle.std.proofs.Common.{◌≡◌, ℕ, zero, suc, ◌+◌, ◌<◌, List, [], ◌∷◌, length, Bool, true, false, cond, None, Some, Ok, Err, refl, ap, arith, drop, length-drop}
 use Rattle.text_tokens.specs.declared.fault.TextFault.TheVariants.{Syntax}
 use Rattle.text_grammar.specs.declared.terminal.Terminal.TheVariants.{Dot, Separator}
@@ -12,7 +12,7 @@ use Rattle.while_lang.proofs.BlockSteps.{wanted_within, wanted_same}
 use Rattle.problem_file.specs.Items.{number_at}
 use Rattle.chain_proofs.specs.ChainWalks.{is_word, wants_word, rule_name, has_number, argument, parts_by, path_by, rule_by, ChainAim, whole_chain, lines_after, ChainParser, braces_by, inner_by, line_by, chain_by, chain_within, parse_chain}
 
--- ---- what is read leaves fewer tokens, or as many where there may be nothing
+-- ---- reading consumes at least one token, unless the phrase may be empty
 
 abbrev pub bound : {Z V : Type 0} → ChainAim Z V → ℕ → ℕ
 bound (whole_chain z) n = n
@@ -21,7 +21,7 @@ bound (lines_after v z) n = n + 1
 abbrev pub IsShort : {Z V : Type 0} → ChainParser Z V → Type 0
 IsShort {Z} {V} f = (x : ChainAim Z V) (d : ℕ) (ts : List Lexeme) → Within (bound x (length ts)) (f x d ts)
 
--- one word, and then what is read after it
+-- a word, and the continuation after it
 pub tail_shorter : (w : List ℕ) (ts : List Lexeme) → is_word w ts ≡ true → length (drop 1 ts) < length ts
 tail_shorter w [] e = absurd cc
 tail_shorter w (x ∷ ts) e = omega arith
@@ -99,7 +99,7 @@ unfolding chain_within
 within_short g zero x d ts = tt
 within_short g (suc n) x d ts = chain_short g (chain_within g n) (within_short g n) x d ts
 
--- ---- what reads alike on fewer tokens reads alike
+-- ---- readers that agree on fewer tokens agree
 
 abbrev Same : {Z V : Type 0} → ChainParser Z V → ChainParser Z V → ℕ → Type 0
 Same {Z} {V} f h n = (x : ChainAim Z V) (d : ℕ) (ts : List Lexeme) → length ts < n → f x d ts ≡ h x d ts
@@ -145,7 +145,7 @@ pub chain_step : {Z T R P V : Type 0} (g : ChainActions Z T R P V) (x : ChainAim
 unfolding parse_chain chain_within
 chain_step g x d ts = chain_same g (chain_within g (length ts)) (parse_chain g) (within_short g (length ts)) x d ts (λ y e us lt. enough g (length ts) (suc (length us)) y e us lt (omega arith))
 
--- what is read leaves fewer tokens
+-- reading consumes tokens
 pub chain_read_short : {Z T R P V : Type 0} (g : ChainActions Z T R P V) → IsShort (parse_chain g)
 unfolding parse_chain
 chain_read_short g x d ts = within_short g (suc (length ts)) x d ts

@@ -1,4 +1,4 @@
--- A chain with one line more at its end.
+-- A chain extended by a line at its end.
 use Rattle.std.proofs.Common.{◌≡◌, ℕ, List, [], ◌∷◌, ◌++◌, Option, None, Some, refl, ap, ◌∙◌}
 use Rattle.kat_model.specs.Trees.{Term, kat_tree}
 use Rattle.chain_rules.specs.Chains.{ChainTree}

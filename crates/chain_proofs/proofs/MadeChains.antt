@@ -1,4 +1,4 @@
--- What is made of the tokens of a chain is the chain of its phrase.
+-- The chain made from tokens is the chain of their phrase.
 use Rattle.std.proofs.Common.{◌≡◌, ℕ, List, [], ◌∷◌, false, Result, Ok, Err, refl}
 use Rattle.kat_model.specs.Trees.{Term}
 use Rattle.text_tokens.specs.declared.fault.TextFault.{TextFault}
@@ -22,7 +22,7 @@ use Rattle.chain_proofs.specs.ChainFolds.{sized_fold, fold_chain}
 use Rattle.chain_proofs.specs.Laws.{ChainsAreMade}
 use Rattle.chain_proofs.proofs.ChainCompleteness.{chain_read}
 
--- a phrase begins at the same place, whatever follows it
+-- a phrase begins at the same place whatever follows it
 first_place : {x : Symbol} (p : Phrase x) (ts us : List Lexeme) → place_of (yield_before p ts) ≡ place_of (yield_before p us)
 first_place (one_prod p) ts us = first_place p ts us
 first_place (more_prods p l t) ts us = first_place p (cons_token Plus l (yield_before t ts)) (cons_token Plus l (yield_before t us))
@@ -57,7 +57,7 @@ first_place (wide_fac l) ts us = refl
 first_place (name_fac l) ts us = refl
 first_place (round_fac l e r) ts us = refl
 
--- a term that is measured and then built
+-- measuring a term and then building it
 sized_same : (ts : List Lexeme) (m : Result Extent TextFault) (n : ℕ → Result ℕ TextFault) (t : Result Term TextFault) →
     (before ts m >>= λ m. n (m.0).nodes >>= λ all. change {W = Term × ℕ} (λ (e : Term). (e, all)) (before ts t)) ≡ before ts (m >>= λ m. n m.nodes >>= λ all. t >>= λ e. Ok (e, all))
 sized_same ts (Err e) n t = refl

@@ -1,4 +1,4 @@
--- The tests of tokens give no fault for want of memory: the walk takes fewer steps than it has.
+-- The tests of tokens never fail with out of memory: reading takes fewer steps than its bound.
 use Rattle.std.proofs.Common.{◌≡◌, refl, ℕ, zero, suc, ◌+◌, ◌<◌, List, [], ◌∷◌, length, drop, Bool, true, false, cond, nat_lt, ◌||◌, Option, Some, None, Ok, Err, arith}
 use Rattle.text_tokens.specs.declared.fault.TextFault.TheVariants.{Syntax, TooLarge}
 use Rattle.text_grammar.specs.declared.terminal.Terminal.TheVariants.{Name, Keyword, Separator, Dot}
@@ -27,7 +27,7 @@ use Rattle.chain_proofs.specs.ChainMaking.{known_axiom, axiom_named, total_with,
 use Rattle.chain_proofs.specs.Reads.{tested}
 use Rattle.chain_proofs.proofs.ChainSteps.{tail_shorter, rule_short, IsShort, line_short, within_short}
 
--- ---- the walk
+-- ---- reading
 
 rule_name_named : (ts : List Lexeme) → IsNamed (rule_name ts)
 rule_name_named [] = tt
@@ -109,7 +109,7 @@ module _ {Z T R P V : Type 0} (g : ChainActions Z T R P V) (terms : (d : ℕ) (z
   unfolding parse_chain
   chain_named x d ts = within_named (suc (length ts)) x d ts (omega arith)
 
--- ---- its parts
+-- ---- the parts of a chain
 
 axiom_known : (at : ℕ) (o : Option Axiom) → IsNamed (known_axiom at o)
 axiom_known at None = tt

@@ -1,4 +1,4 @@
--- Bytes spell one chain or have one first fault, and not both.
+-- Bytes either spell exactly one chain or have exactly one first fault.
 use Rattle.std.proofs.Common.{◌≡◌, ℕ, List, Result, Ok, Err, IfErr, refl}
 use Rattle.text_tokens.specs.declared.fault.TextFault.{TextFault}
 use Rattle.text_tokens.specs.declared.fault.TextFault.TheVariants.{NoMemory}

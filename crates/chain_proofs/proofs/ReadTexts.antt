@@ -1,4 +1,4 @@
--- The chain that bytes spell is what both passes over their tokens give.
+-- The chain that bytes spell is the result of both passes over their tokens.
 use Rattle.std.proofs.Common.{◌≡◌, ℕ, List, [], map, Result, Ok, sym, ap, ◌∙◌}
 use Rattle.text_tokens.specs.declared.fault.TextFault.{TextFault}
 use Rattle.text_tokens.specs.declared.token.Token.{Token}
@@ -37,6 +37,6 @@ module _ (tests actions : ℕ) where
       let made : make_chain w ts ≡ Ok c = ap (make_chain w) i.spelled ∙ chains_are_made w i.phrase i.first_obeys i.obey ∙ x.chain in
       ap (λ (m : Result (Unit {0}) TextFault). m >>= λ u. make_chain w ts) scanned ∙ made
 
-  -- so it is with what the program tells of its tokens
+  -- the same for the tokens as the program reports them
   pub chain_told : (scope : ScopeParts) (text : List ℕ) (ts : List Token) (c : ChainTree) → scope ≡ w → Lexes text (parts_of_tokens ts) → tested scope (lexemes ts) ≡ Ok c → Reads tests actions text c
   chain_told scope text ts c same lexes e = read_told text (parts_of_tokens ts) c lexes (ap (λ (v : ScopeParts). tested v (lexemes ts)) (sym same) ∙ e)

@@ -1,4 +1,4 @@
--- The test of the syntax takes just the chains.
+-- The syntax test accepts exactly the chains.
 use Rattle.std.proofs.Common.{◌≡◌, ℕ, ◌+◌, List, [], ◌∷◌, false, Option, None, Some, Ok, refl, ap, subst, ◌∙◌}
 use Rattle.text_grammar.specs.Lexemes.{Lexeme, lexeme}
 use Rattle.text_grammar.specs.Parsed.{◌>>=◌, before}
@@ -35,7 +35,7 @@ reads : (d : ℕ) (z : Unit {0}) (p : Phrase term) (ts : List Lexeme) → MeetsL
 reads d z p ts o last =
     rw (term_parsed scanning p (context d false false) ts o (longest p ts last)) (changed ts (λ (u : Unit {0}). (tt, tt)) (fold scanning (context d false false) p (λ u. tt)))
 
--- ---- nothing is refused where nothing is too deep or too wide
+-- ---- the test refuses nothing if nothing is too deep or too wide
 
 number_passes : (n : Option Numeral) → NumberFits n → (v : ℕ) × (fold_number n ≡ Ok v)
 number_passes None fits = (0, refl)

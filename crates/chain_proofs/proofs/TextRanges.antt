@@ -121,7 +121,7 @@ module _ (tests actions : ℕ) where
   pub reads_in_range : (bytes : List ℕ) (c : ChainTree) → Reads tests actions bytes c → Good c
   reads_in_range bytes c x = chain_good (x.spells).phrase c x.chain
 
-  -- so it is with what is answered
+  -- the same for an answer
   pub answered_in_range : (bytes : List ℕ) (r : Result ChainTree TextFault) → Answers tests actions bytes r → IfOk r Good
   answered_in_range bytes (Ok c) h = reads_in_range bytes c h
   answered_in_range bytes (Err e) h = tt

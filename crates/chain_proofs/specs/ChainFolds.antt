@@ -1,4 +1,4 @@
--- What actions make of a chain, from left to right, or the first fault.
+-- The value of a chain under actions, computed from left to right, or the first fault.
 use Rattle.std.specs.Prelude.{ℕ, [], ◌∷◌, false, Option, None, Some, Result, Ok}
 use Rattle.kat_model.specs.Trees.{Term}
 use Rattle.text_tokens.specs.declared.fault.TextFault.{TextFault}
@@ -18,7 +18,7 @@ use Rattle.chain_proofs.specs.ChainWalks.{has_inner, Reason}
 use Rattle.chain_proofs.specs.ChainMaking.{total_with, making_chain}
 use Rattle.chain_proofs.specs.ChainPhrases.{rule_leaf, Parts, no_parts, more_parts, Place, no_place, at_place, RulePhrase, Lines, no_lines, plain_line, line_around, ChainPhrase}
 
--- the number after a rule, 0 where there is none
+-- the number after a rule, or 0 without one
 abbrev pub fold_number : Option Numeral → Result ℕ TextFault
 fold_number None = Ok 0
 fold_number (Some n) = numeral_value n
@@ -38,7 +38,7 @@ fold_rule g r =
     >>= λ x. fold_place g r.place
     >>= λ p. Ok (record { rule = x; path = p; inner = has_inner (rule_leaf r.name).text })
 
--- what is made of a term, with so many constructs open around it and so much known of the terms before it
+-- the value of a term, from the number of open constructs around it and the state after the terms before it
 abbrev pub TermFold : Type 0 → Type 0 → Type 0
 TermFold Z T = ℕ → Z → Phrase term → Result (T × Z) TextFault
 
@@ -59,7 +59,7 @@ fold_lines {Z} {T} {R} {P} {V} g t d v z (line_around equals p by r opening firs
 abbrev pub fold_chain : {Z T R P V : Type 0} → ChainActions Z T R P V → TermFold Z T → ℕ → Z → ChainPhrase → Result (V × Z) TextFault
 fold_chain g t d z p = t d z p.first >>= λ a. fold_lines g t d (g.first a.0) a.1 p.lines
 
--- the term of a phrase in a scope, measured before it is built, with the nodes of all terms so far
+-- the term of a phrase in a scope, measured before it is built, and the number of nodes of all terms so far
 abbrev pub sized_fold : ScopeParts → TermFold ℕ Term
 sized_fold w d total p =
     fold (extents w) (context d false false) p (λ m. m)

@@ -22,7 +22,7 @@ use Rattle.chain_rules.specs.ChainViews.{with_line}
 use Rattle.chain_proofs.specs.ChainActions.{LeavesFewer, ChainActions}
 use Rattle.chain_proofs.specs.ChainWalks.{whole_chain, parse_chain}
 
--- the axiom of a name, with the number of a hypothesis
+-- the axiom with this name; the number selects the hypothesis of `hyp`
 abbrev pub axiom_named : List ℕ → ℕ → Option Axiom
 axiom_named name n =
     if bytes_eq name (codes "assoc") then Some Assoc
@@ -44,16 +44,16 @@ axiom_named name n =
     else if bytes_eq name (codes "rfp") then Some Rfp
     else None
 
--- `UnknownName` at a name of no rule
+-- fails with `UnknownName` if the name is not a rule
 abbrev pub known_axiom : ℕ → Option Axiom → Result Axiom TextFault
 known_axiom at None = Err (UnknownName at)
 known_axiom at (Some rule) = Ok rule
 
--- the nodes of all terms so far, where a term has at most 100,000 nodes and all have at most 1,000,000
+-- the number of nodes of all terms so far; a term may have 100,000 nodes, and all terms together 1,000,000
 abbrev pub total_with : ℕ → ℕ → ℕ → Result ℕ TextFault
 total_with at total nodes = if nat_lt 100000 nodes || nat_lt 1000000 (total + nodes) then Err (TooLarge at) else Ok (total + nodes)
 
--- the term at the front, with the nodes of all terms so far
+-- the term at the start, and the number of nodes of all terms so far
 abbrev pub sized_term : ScopeParts → ℕ → ℕ → List Lexeme → Parsed (Term × ℕ)
 sized_term w d total ts =
     parse_term (extents w) choice (context d false false) ts
@@ -74,13 +74,13 @@ sized_shorter w d total ts = by_extent (parse_term (extents w) choice (context d
   by_extent (Ok m) = by_total (total_with (place_of ts) total (m.0).nodes)
   by_extent (Err e) = tt
 
--- the chain with one line more at its end
+-- the chain extended by a line at its end
 abbrev pub extended : ChainTree → Term → Axiom → List ℕ → Option ChainTree → ChainTree
 extended (alone e) f rule path inner = with_line e rule path inner (alone f)
 extended (equal_by e r p rest) f rule path inner = equal_by e r p (extended rest f rule path inner)
 extended (equal_by_inner e r p c rest) f rule path inner = equal_by_inner e r p c (extended rest f rule path inner)
 
--- the chain is made of its parts, with the names of a scope
+-- makes the chain from its parts, with the names of a scope
 abbrev pub making_chain : ScopeParts → ChainActions ℕ Term Axiom (List ℕ) ChainTree
 making_chain w = record {
   term = sized_term w;
@@ -92,6 +92,6 @@ making_chain w = record {
   line = extended;
 }
 
--- the chain of the tokens, which are one
+-- builds the chain from tokens that passed the syntax test
 abbrev pub make_chain : ScopeParts → List Lexeme → Result ChainTree TextFault
 make_chain w ts = parse_chain (making_chain w) (whole_chain 0) 0 ts >>= λ x. Ok (x.0).0

@@ -46,7 +46,7 @@ pub record ChainPhrase : Type 0 where
   pub first : Phrase term
   pub lines : Lines
 
--- ---- the tokens, and then those that follow
+-- ---- the tokens of a phrase, prepended to those that follow
 
 abbrev pub word_onto : RuleWord → List Lexeme → List Lexeme
 word_onto (plain l) ts = cons_token Name l ts
@@ -85,13 +85,13 @@ lines_onto (line_around equals t by r opening first inner closing end rest) ts =
 abbrev pub chain_onto : ChainPhrase → List Lexeme → List Lexeme
 chain_onto p ts = yield_before p.first (lines_onto p.lines ts)
 
--- ---- the words, what follows which rule, and the token that follows a name or a parenthesis in a condition
+-- ---- the fixed words, what follows each rule, and the rules on the token after a name or a parenthesis in a condition
 
 abbrev pub PlaceObeys : Place → Type 0
 PlaceObeys no_place = Unit {0}
 PlaceObeys (at_place l n ps) = bytes_eq l.text (codes "at") ≡ true
 
--- a number follows just after `hyp`, and an inner chain just where this is so
+-- `hyp` and no other rule has a number; an inner chain is present exactly when the rule requires one
 pub record RuleObeys (by : Leaf) (r : RulePhrase) (inner : Bool) : Type 0 where
   pub word : bytes_eq by.text (codes "by") ≡ true
   pub number : is_some r.number ≡ has_number (rule_leaf r.name).text
@@ -106,7 +106,7 @@ LinesObey (line_around equals t by r opening first inner closing end rest) ts =
     let after = cons_token (Separator CurlyClose) closing (ended end (lines_onto rest ts)) in
     MeetsLookahead t (reason_onto by r (cons_token (Separator CurlyOpen) opening (yield_before first (lines_onto inner after)))) × RuleObeys by r true × MeetsLookahead first (lines_onto inner after) × LinesObey inner after × LinesObey rest ts
 
--- ---- with so many constructs open around it nothing is too deep, and no number is too wide
+-- ---- with this number of open constructs around the phrase, nothing is too deep, and no number is too wide
 
 abbrev pub NumberFits : Option Numeral → Type 0
 NumberFits None = Unit {0}
@@ -129,7 +129,7 @@ LinesFit d (plain_line equals t by r end rest) = IsWithinLimits d t × RuleFits 
 LinesFit d (line_around equals t by r opening first inner closing end rest) =
     IsWithinLimits d t × RuleFits r × (d < 200) × IsWithinLimits (d + 1) first × LinesFit (d + 1) inner × LinesFit d rest
 
--- the tokens begin with a chain, and go on with the rest
+-- the tokens are a chain followed by the rest
 pub record IsChainPhrase (d : ℕ) (ts rest : List Lexeme) : Type 0 where
   pub phrase : ChainPhrase
   pub spelled : ts ≡ chain_onto phrase rest

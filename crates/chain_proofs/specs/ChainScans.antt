@@ -1,4 +1,4 @@
--- The test of the syntax of a whole chain.
+-- The syntax test of a whole chain.
 use Rattle.std.specs.Prelude.{ℕ, ◌+◌, List, [], ◌∷◌, length, false, Result, Ok, Err}
 use Rattle.std.proofs.Common.{arith}
 use Rattle.text_tokens.specs.declared.fault.TextFault.{TextFault}
@@ -13,7 +13,7 @@ use Rattle.text_grammar.proofs.TermSteps.{term_read_short}
 use Rattle.chain_proofs.specs.ChainActions.{LeavesFewer, ChainActions}
 use Rattle.chain_proofs.specs.ChainWalks.{whole_chain, parse_chain}
 
--- the term at the front, of which nothing is made
+-- reads the term at the start without a value
 abbrev pub scanned_term : ℕ → List Lexeme → Parsed (Unit {0} × Unit {0})
 scanned_term d ts = change (λ u. (tt, tt)) (parse_term scanning choice (context d false false) ts)
 
@@ -23,7 +23,7 @@ scanned_shorter d ts = by_result (parse_term scanning choice (context d false fa
   by_result (Ok x) h = omega arith
   by_result (Err e) h = tt
 
--- nothing is made, and no part is refused
+-- makes nothing and refuses no part
 abbrev pub scanning_chain : ChainActions (Unit {0}) (Unit {0}) (Unit {0}) (Unit {0}) (Unit {0})
 scanning_chain = record {
   term = λ d z ts. scanned_term d ts;
@@ -35,11 +35,11 @@ scanning_chain = record {
   line = λ v t r p i. tt;
 }
 
--- no token is left
+-- no token remains
 abbrev pub ends : List Lexeme → Result (Unit {0}) TextFault
 ends [] = Ok tt
 ends (lexeme s at text ∷ ts) = Err (Syntax at)
 
--- all tokens are one chain, or the first fault of their syntax
+-- succeeds if the tokens are exactly one chain; otherwise gives the first syntax fault
 abbrev pub scan_chain : List Lexeme → Result (Unit {0}) TextFault
 scan_chain ts = parse_chain scanning_chain (whole_chain tt) 0 ts >>= λ x. ends x.1

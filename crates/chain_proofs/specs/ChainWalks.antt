@@ -1,4 +1,4 @@
--- Chains, read from the front of the tokens.
+-- Reading chains from the start of the tokens.
 use Rattle.std.specs.Prelude.{ℕ, zero, suc, List, [], ◌∷◌, length, drop, Bool, false, ◌||◌, if◌then◌else◌, codes, Option, None, Some, Result, Ok, Err}
 use Rattle.std.specs.Str.{bytes_eq}
 use Rattle.text_tokens.specs.declared.fault.TextFault.{TextFault}
@@ -18,7 +18,7 @@ is_word w [] = false
 is_word w (lexeme Name at text ∷ ts) = bytes_eq text w
 is_word w (lexeme _ at text ∷ ts) = false
 
--- what follows this plain name
+-- the tokens after this plain name, or a fault
 abbrev pub wants_word : List ℕ → List Lexeme → Result (List Lexeme) TextFault
 wants_word w ts = if is_word w ts then Ok (drop 1 ts) else Err (Syntax (place_of ts))
 
@@ -29,7 +29,7 @@ rule_name (lexeme Name at text ∷ ts) = Ok (at, text)
 rule_name (lexeme (Keyword word.Hyp) at text ∷ ts) = Ok (at, text)
 rule_name (lexeme _ at text ∷ ts) = Err (Syntax at)
 
--- whether a number follows the rule of this name, and whether an inner chain does
+-- whether a rule with this name requires a number; and whether it requires an inner chain
 abbrev pub has_number : List ℕ → Bool
 has_number name = bytes_eq name (codes "hyp")
 
@@ -40,7 +40,7 @@ has_inner name = bytes_eq name (codes "lfp") || bytes_eq name (codes "rfp")
 abbrev pub argument : List ℕ → List Lexeme → Parsed ℕ
 argument name ts = if has_number name then (number_at ts >>= λ n. Ok (n, drop 1 ts)) else Ok (0, ts)
 
--- { "." NUMBER }, after a path so far
+-- { "." NUMBER }, continuing a path
 unfoldable pub parts_by : {Z T R P V : Type 0} → ChainActions Z T R P V → P → List Lexeme → Parsed P
 parts_by g p [] = Ok (p, [])
 parts_by g p (x ∷ []) = if heads (is_terminal Dot) (x ∷ []) then Err (Syntax at_end) else Ok (p, x ∷ [])
@@ -52,7 +52,7 @@ abbrev pub path_by : {Z T R P V : Type 0} → ChainActions Z T R P V → List Le
 path_by g ts =
     if is_word (codes "at") ts then (number_at (drop 1 ts) >>= λ n. parts_by g (g.part g.whole n) (drop 2 ts)) else Ok (g.whole, ts)
 
--- a rule, its place, and whether an inner chain follows
+-- a rule, its path, and whether it requires an inner chain
 pub record Reason (R P : Type 0) : Type 0 where
   pub rule : R
   pub path : P
@@ -63,12 +63,12 @@ abbrev pub rule_by : {Z T R P V : Type 0} → ChainActions Z T R P V → List Le
 rule_by g ts =
     rule_name ts >>= λ w. argument w.1 (drop 1 ts) >>= λ n. g.rule w.0 w.1 n.0 >>= λ r. change (λ p. record { rule = r; path = p; inner = has_inner w.1 }) (path_by g n.1)
 
--- what is read: a chain, or the lines that follow a chain so far
+-- what to read: a chain, or the lines that continue a chain
 pub data ChainAim (Z V : Type 0) : Type 0 where
   whole_chain : (z : Z) → ChainAim Z V
   lines_after : (v : V) (z : Z) → ChainAim Z V
 
--- what reads an aim from the front of tokens, with so many constructs open around it
+-- reads what the aim says from the start of the tokens, with this number of open constructs around it
 abbrev pub ChainParser : Type 0 → Type 0 → Type 0
 ChainParser Z V = ChainAim Z V → ℕ → List Lexeme → Parsed (V × Z)
 
@@ -91,17 +91,17 @@ line_by g f v z d ts =
     >>= λ r. inner_by f (r.0).inner (t.0).1 d r.1
     >>= λ i. then_wants (is_terminal (Separator Semicolon)) (Ok ((g.line v (t.0).0 (r.0).rule (r.0).path (i.0).0, (i.0).1), i.1))
 
--- one step: each aim by aims on fewer tokens
+-- one step: reads an aim by reading aims on fewer tokens
 abbrev pub chain_by : {Z T R P V : Type 0} → ChainActions Z T R P V → ChainParser Z V → ChainParser Z V
 chain_by g f (whole_chain z) d ts = g.term d z ts >>= λ t. f (lines_after (g.first (t.0).0) (t.0).1) d t.1
 chain_by g f (lines_after v z) d ts =
     if heads (is_terminal (Separator Equals)) ts then (line_by g f v z d (drop 1 ts) >>= λ x. f (lines_after (x.0).0 (x.0).1) d x.1) else Ok ((v, z), ts)
 
--- in so many steps
+-- reading with at most this number of steps
 unfoldable pub chain_within : {Z T R P V : Type 0} → ChainActions Z T R P V → ℕ → ChainParser Z V
 chain_within g zero x d ts = Err NoMemory
 chain_within g (suc n) x d ts = chain_by g (chain_within g n) x d ts
 
--- the chain at the front of the tokens, or its first fault; each step has fewer tokens
+-- reads the chain at the start of the tokens, or gives its first fault; each step has fewer tokens
 unfoldable pub parse_chain : {Z T R P V : Type 0} → ChainActions Z T R P V → ChainParser Z V
 parse_chain g x d ts = chain_within g (suc (length ts)) x d ts

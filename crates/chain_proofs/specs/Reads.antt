@@ -1,4 +1,4 @@
--- What is answered to bytes: the chain that they spell, or their first fault.
+-- The answer to bytes: the chain that they spell, or their first fault.
 use Rattle.std.specs.Prelude.{◌≡◌, ◌⊎◌, ℕ, List, [], map, Result, Ok, Err}
 use Rattle.text_tokens.specs.declared.fault.TextFault.{TextFault}
 use Rattle.text_tokens.specs.declared.fault.TextFault.TheVariants.{NoMemory}
@@ -15,23 +15,23 @@ use Rattle.chain_proofs.specs.ChainScans.{scan_chain}
 use Rattle.chain_proofs.specs.ChainMaking.{make_chain}
 use Rattle.problem_texts.specs.NumberedScopes.{numbered_scope}
 
--- The bytes spell this chain: they are the tokens of a chain, nothing in them is too deep or too wide, and with the names
--- of a proof this is the chain of the phrase.
+-- The bytes spell this chain: their tokens are a chain in which nothing is too deep or too wide, and the phrase denotes
+-- this chain with the numbered names of a proof.
 pub record Reads (tests actions : ℕ) (bytes : List ℕ) (c : ChainTree) : Type 0 where
   pub parts_of_tokens : List TokenParts
   pub lexes : Lexes bytes parts_of_tokens
   pub spells : IsChainPhrase 0 (map lexeme_of parts_of_tokens) []
   pub chain : chain_of (numbered_scope tests actions) spells.phrase ≡ Ok c
 
--- the tests of tokens one after the other: of their syntax, and then of their names and sizes
+-- tests the tokens: first their syntax, then their names and sizes
 abbrev pub tested : ScopeParts → List Lexeme → Result ChainTree TextFault
 tested w ts = scan_chain ts >>= λ u. make_chain w ts
 
--- the first fault of the bytes, in the order of refusals
+-- the first fault of the bytes, in the order in which faults are reported
 abbrev pub FirstFault : ℕ → ℕ → List ℕ → TextFault → Type 0
 FirstFault tests actions bytes e = IsFirstFault (tested (numbered_scope tests actions)) bytes e
 
--- the answer to bytes: the chain that they spell, or out of memory, or their first fault
+-- the answer to the bytes: the chain that they spell, their first fault, or out of memory
 abbrev pub Answers : ℕ → ℕ → List ℕ → Result ChainTree TextFault → Type 0
 Answers tests actions bytes (Ok c) = Reads tests actions bytes c
 Answers tests actions bytes (Err e) = (e ≡ NoMemory) ⊎ FirstFault tests actions bytes e

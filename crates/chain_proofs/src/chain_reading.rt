@@ -1,4 +1,4 @@
-//! What is made of the parts of a chain while it is read.
+//! Methods called on the parts of a chain while it is read.
 ghost use Rattle.std.specs.Prelude.{◌≡◌, length, drop, Ok};
 ghost use Rattle.std.specs.Option.{option_map};
 ghost use Rattle.text_grammar.specs.Lexemes.{lexemes};
@@ -7,21 +7,21 @@ ghost use Rattle.chain_proofs.specs.ChainActions.{ChainActions};
 
 use text_tokens::{TextFault, Token};
 
-// What is made of the parts of a chain while it is read: the methods are called for the parts in text order. A part that
-// is refused ends the reading with that fault. Places are in bytes of the text.
+// What to make of the parts of a chain while it is read. The methods are called for the parts in text order. A fault of
+// a method ends the reading. Places are byte offsets in the text.
 //
-// Contracts see what is made through `size`, `term`, `rule`, `path` and `chain`, and the methods as `actions`. `memory` is
-// what may be said where a method answers `NoMemory`: `⊥` where none does.
+// Contracts see the values through `size`, `term`, `rule`, `path` and `chain`, and the methods as `actions`. `memory`
+// is what a `NoMemory` of a method implies: `⊥` if no method returns it.
 pub(crate) trait ChainReading {
-    // What is known of all terms so far.
+    // The state after all terms so far.
     type Size: Copy;
-    // What is made of a term.
+    // The value of a term.
     type Term: Drop;
-    // What is made of a rule.
+    // The value of a rule.
     type Rule: Drop;
-    // What is made of a path so far.
+    // The value of a path so far.
     type Path: Drop;
-    // What is made of a chain so far.
+    // The value of a chain so far.
     type Chain: Drop;
 
     ghost Z: { Type 0 };
@@ -48,8 +48,8 @@ pub(crate) trait ChainReading {
 
     ghost actions: { Self → ChainActions Z T R P V };
 
-    // The term that begins at `from`, with `depth` constructs open around it, what is known of all terms with it, and the
-    // index after it.
+    // Reads the term that begins at `from`, with `depth` open constructs around it. Returns its value, the state after
+    // it, and the index after it.
     fn read_term(
         &self,
         toks: &[Token],
@@ -60,23 +60,23 @@ pub(crate) trait ChainReading {
         ensures value { Reads memory (λ x. (term x.0, size x.1)) (lexemes toks.now) result ((actions self.now).term depth (size known) (drop from (lexemes toks.now))) }
         ensures goes { Goes from (length toks.now) result };
 
-    // The rule of that name, with the number after it, 0 where there is none.
+    // Returns the rule with that name and the number after it, or 0 without a number.
     fn read_rule(&self, at: usize, name: &str, number: u64) -> Result<Self::Rule, TextFault>
         ensures { Makes memory rule result ((actions self.now).rule at name.now number) };
 
-    // The path to the whole term.
+    // Returns the path to the whole term.
     fn whole(&self) -> Self::Path
         ensures { path result ≡ (actions self.now).whole };
 
-    // One part further down.
+    // Extends a path by a part.
     fn part(&self, so_far: Self::Path, number: u64) -> Result<Self::Path, TextFault>
         ensures { Makes memory path result (Ok ((actions self.now).part (path so_far) number)) };
 
-    // The chain of a first term alone.
+    // Returns the chain that consists of its first term.
     fn first(&self, only: Self::Term) -> Self::Chain
         ensures { chain result ≡ (actions self.now).first (term only) };
 
-    // One line more.
+    // Extends a chain by a line.
     fn line(
         &self,
         so_far: Self::Chain,

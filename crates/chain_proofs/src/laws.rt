@@ -4,17 +4,17 @@ ghost use Rattle.problem_file.specs.Laws.{HaveOneAnswer};
 ghost use Rattle.chain_proofs.specs.Reads.{Reads, FirstFault};
 ghost use Rattle.chain_proofs.specs.Laws.{ChainsAreScanned, ChainsAreMade};
 
-/// The test of the syntax takes just the phrases of the grammar in which nothing is too deep or too wide.
+/// The syntax test accepts exactly the phrases of the grammar in which nothing is too deep or too wide.
 pub fn chains_are_scanned()
     ensures { ChainsAreScanned }
 {}
 
-/// What is made of the tokens of a chain is the chain of its phrase, or the first fault of its names and sizes.
+/// The result for the tokens of a chain is the chain of its phrase, or the first fault of its names and sizes.
 pub fn chains_are_made()
     ensures { ChainsAreMade }
 {}
 
-/// Bytes spell one chain or have one first fault, and not both; a first fault is never want of memory.
+/// Bytes either spell exactly one chain or have exactly one first fault; a first fault is never out of memory.
 pub fn have_one_answer()
     ensures { (tests actions : ℕ) → HaveOneAnswer (Reads tests actions) (FirstFault tests actions) }
 {}

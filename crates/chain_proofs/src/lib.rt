@@ -1,4 +1,4 @@
-//! Equational proofs: their texts, and what the crate below checks of them.
+//! Equational proofs: reads their texts as chains, which the crate below checks.
 #![tactic(auto)]
 
 mod chain_reading;

@@ -1,4 +1,4 @@
-//! The chain of a text.
+//! Builds the chain of a text.
 ghost use Rattle.std.specs.Prelude.{◌≡◌, IfOk, Ok};
 ghost use Rattle.std.specs.Option.{option_map};
 ghost use Rattle.kat_model.specs.Trees.{kat_tree};
@@ -16,7 +16,7 @@ use text_grammar::place_at;
 use text_scopes::{Scope, build_term, measure_term};
 use text_tokens::{TextFault, Token};
 
-// Makes the chain, with the names of the scope.
+// Builds the chain, with the names of the scope.
 #[derive(Clone, Copy)]
 struct Make<'a> {
     alloc: Global,
@@ -57,7 +57,7 @@ fn known_axiom(at: usize, found: Option<Axiom>) -> Result<Axiom, TextFault>
     }
 }
 
-// The nodes of all terms with one more, whose first byte is at the place.
+// Adds the nodes of a term, whose first byte is at `at`, to those of all terms so far.
 fn total_with(at: usize, total: u64, nodes: u64) -> Result<u64, TextFault>
     ensures { result ≡ total_with at total nodes }
 {
@@ -77,7 +77,7 @@ fn boxed(alloc: Global, chain: Option<Chain>) -> Result<Option<Box<Chain>>, NoMe
     }
 }
 
-// The chain with one line more at its end.
+// Appends a line to the chain.
 fn with_line(mut chain: Chain, line: Line) -> Result<Chain, NoMemory>
     ensures { IfOk result (λ c. c ≡ extended chain (kat_tree line.next) line.rule line.path.items (unboxed line.inner)) }
 {
@@ -181,8 +181,8 @@ impl ChainReading for Make<'_> {
     }
 }
 
-/// The chain of the tokens, which are one, with the names of the scope; or the first of `UnknownName`, `Sort`, `TooLarge`
-/// in text order.
+/// Builds the chain from tokens that passed the syntax test, with the names of the scope. Fails with the first of
+/// `UnknownName`, `Sort` and `TooLarge` in text order.
 pub(crate) fn make_chain(alloc: Global, scope: &Scope, toks: &[Token]) -> Result<Chain, TextFault>
     ensures { Makes (Unit {0}) (λ c. c) result (make_chain scope.now (lexemes toks.now)) }
 {

@@ -1,4 +1,4 @@
-//! The text of a proof, read.
+//! Reads the text of a proof.
 ghost use Rattle.std.specs.Prelude.{◌≡◌, ◌≤◌, length, IfOk, IfErr};
 ghost use Rattle.text_tokens.specs.declared.fault.TextFault.TheVariants.{NoMemory as NoRoom};
 ghost use Rattle.text_tokens.specs.declared.lexer.TheConstants.{MAX_LEN as MOST};
@@ -18,7 +18,7 @@ use std::alloc::Global;
 use text_scopes::Scope;
 use text_tokens::{TextFault, Token, tokens};
 
-// The chain, or the first fault of the tokens.
+// Returns the chain, or the first fault of the tokens.
 fn test(alloc: Global, scope: &Scope, toks: &[Token]) -> Result<Chain, TextFault>
     ensures { Makes (Unit {0}) (λ c. c) result (tested scope.now (lexemes toks.now)) }
 {
@@ -38,22 +38,22 @@ fn read_text(alloc: Global, text: &str, tests: usize, actions: usize) -> Result<
     }
 }
 
-/// The chain that the text of a proof spells. Its terms name `tests` tests `t0`, `t1`, .. and `actions` actions `a0`, `a1`,
-/// .., as the abstract problem is shown. A text that spells none is refused for its first fault, in this order: `TooLong`
-/// past 1,048,576 bytes; `NotUtf8`; `BadToken`; the first in text order of `Syntax`, of `TooDeep` where more than 200
-/// constructs are open, the braces of inner chains among them, and of `NumberTooWide` from 2^64 on; the first in text order
-/// of `UnknownName` at a name or a rule that is not there, of `Sort`, and, at the first byte of a term, of `TooLarge` where
-/// the term has more than 100,000 nodes or all terms so far have more than 1,000,000.
+/// Returns the chain that the text of a proof spells. Its terms name `tests` tests `t0`, `t1`, .. and `actions` actions
+/// `a0`, `a1`, .., as the abstract problem shows them. Otherwise fails with the first fault, in this order: `TooLong`
+/// for more than 1,048,576 bytes; `NotUtf8`; `BadToken`; the first in text order of `Syntax`, of `TooDeep` if more than
+/// 200 constructs are open, including the braces of inner chains, and of `NumberTooWide` for 2^64 or more; the first in
+/// text order of `UnknownName` at an undefined name or rule, of `Sort`, and of `TooLarge` at the first byte of a term
+/// if it has more than 100,000 nodes or all terms so far have more than 1,000,000.
 pub fn read_chain(
     alloc: Global,
     bytes: &[u8],
     tests: usize,
     actions: usize,
 ) -> Result<Chain, TextFault>
-    // The chain is what the bytes spell; a refusal is `NoMemory` or the first fault of the bytes.
+    // The chain is the one that the bytes spell; a failure is `NoMemory` or the first fault of the bytes.
     ensures answers { Answers tests actions bytes.now result }
 
-    // Its terms are in range.
+    // The terms of the chain are in range.
     ensures in_range { IfOk result (HasTermsInRange tests actions) }
 
     // Bytes that spell a chain fail only when out of memory.

@@ -1,4 +1,4 @@
-//! The test of the syntax of chains, which takes no memory.
+//! The syntax test of chains, which allocates nothing.
 ghost use Rattle.std.specs.Prelude.{◌≡◌, Ok};
 ghost use Rattle.text_grammar.specs.Lexemes.{lexemes};
 ghost use Rattle.text_grammar.specs.Parsed.{Makes};
@@ -9,7 +9,7 @@ use crate::walk::read_chain;
 use text_grammar::{Context, Scan, terminal_at};
 use text_tokens::{TextFault, Token};
 
-// Makes nothing of a chain, and refuses no part.
+// Makes nothing of a chain and refuses no part.
 struct ChainScan;
 
 impl ChainReading for ChainScan {
@@ -82,8 +82,8 @@ impl ChainReading for ChainScan {
     }
 }
 
-/// Whether the tokens are one chain, or the first of `Syntax`, `TooDeep` and `NumberTooWide` in text order. A `Syntax`
-/// after the last token has the place `usize::MAX`.
+/// Checks that the tokens are exactly one chain. Otherwise fails with the first of `Syntax`, `TooDeep` and
+/// `NumberTooWide` in text order. A `Syntax` after the last token has the place `usize::MAX`.
 pub(crate) fn test_syntax(toks: &[Token]) -> Result<(), TextFault>
     ensures { result ≡ scan_chain (lexemes toks.now) }
 {

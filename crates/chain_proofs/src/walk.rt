@@ -1,4 +1,4 @@
-//! Chains, gone through once for any reading.
+//! One traversal of chains for all readings.
 ghost use Rattle.std.specs.Prelude.{◌≡◌, ◌≤◌, ◌<◌, length, drop, IfOk};
 ghost use Rattle.std.specs.Option.{option_map};
 ghost use Rattle.text_grammar.specs.Lexemes.{lexemes};
@@ -13,7 +13,7 @@ use text_grammar::{Separator, Terminal, expect, is_at, place_at};
 use text_tokens::{TextFault, Token};
 use while_lang::enter;
 
-// A rule, its place, and whether an inner chain follows.
+// A rule, its path, and whether it requires an inner chain.
 #[derive(Drop)]
 struct Reason<R, P> {
     rule: R,
@@ -21,7 +21,7 @@ struct Reason<R, P> {
     inner: bool,
 }
 
-// The number after the name of a rule, 0 where there is none, and the index after it.
+// Returns the number after the name of a rule, or 0 without one, and the index after it.
 #[tactic(auto, using(text_grammar::proofs::Tokens::next_drop))]
 fn argument(toks: &[Token], from: usize, name: &str) -> Result<(u64, usize), TextFault>
     ensures value { Reads ⊥ (λ n. n) (lexemes toks.now) result (argument name.now (drop from (lexemes toks.now))) }
@@ -35,7 +35,7 @@ fn argument(toks: &[Token], from: usize, name: &str) -> Result<(u64, usize), Tex
     Ok((number, from + 1))
 }
 
-// The parts of a path after those so far, and the index after them.
+// Reads the parts that continue a path, and returns the path and the index after it.
 #[tactic(auto, using(crate::proofs::PathSteps::parts_step, text_grammar::proofs::Tokens::next_drop, crate::proofs::PathSteps::second_drop))]
 fn parts<R: ChainReading>(
     reading: &R,
@@ -57,7 +57,7 @@ fn parts<R: ChainReading>(
     Ok((path, at))
 }
 
-// The path of a line, to the whole term where there is none, and the index after it.
+// Reads the path of a line and the index after it. Without a path, the place is the whole term.
 #[tactic(auto, using(text_grammar::proofs::Tokens::next_drop, crate::proofs::PathSteps::second_drop))]
 fn path<R: ChainReading>(
     reading: &R,
@@ -77,7 +77,7 @@ fn path<R: ChainReading>(
     parts(reading, toks, from + 2, path)
 }
 
-// What is told of the rule at an index: the rule, its place, and whether an inner chain follows; and the index after it.
+// Reads the rule at an index. Returns the rule, its path, whether it requires an inner chain, and the index after it.
 #[tactic(auto, using(text_grammar::proofs::Tokens::next_drop))]
 fn rule_and_place<R: ChainReading>(
     reading: &R,
@@ -95,11 +95,11 @@ fn rule_and_place<R: ChainReading>(
     Ok((Reason { rule, path, inner }, end))
 }
 
-// Reads the chain that begins at `from`, with `depth` constructs open around it and so much known of the terms before it:
-// what the reading makes of it, what is known of all terms then, and the index after it. Otherwise the fault that comes
-// first in the text: `Syntax` at the token that cannot stand there (the place `usize::MAX` after the last token),
-// `TooDeep` at the token with which more than 200 constructs are open, `NumberTooWide` at a number of 2^64 or more, or
-// that with which the reading refuses a part.
+// Reads the chain that begins at `from`, with `depth` open constructs around it and the state `known` after the terms
+// before it. Returns the value of the chain, the state after all terms, and the index after it. Otherwise returns the
+// first fault in the text: `Syntax` at the token that cannot occur there (the place `usize::MAX` after the last token),
+// `TooDeep` at the token that exceeds 200 open constructs, `NumberTooWide` at a number of 2^64 or more, or the fault
+// with which the reading refuses a part.
 #[cycle(chains)]
 #[tactic(auto, using(crate::proofs::ChainSteps::chain_step, text_grammar::proofs::Tokens::next_drop))]
 pub(crate) fn read_chain<R: ChainReading>(
@@ -125,7 +125,7 @@ pub(crate) fn read_chain<R: ChainReading>(
     Ok(((list, all), at))
 }
 
-// One line after a chain so far, from the token after its `=` on.
+// Reads one line that continues a chain, starting after its `=`.
 #[cycle(chains)]
 #[tactic(auto, using(text_grammar::proofs::Tokens::next_drop))]
 fn line<R: ChainReading>(
@@ -147,7 +147,7 @@ fn line<R: ChainReading>(
     Ok(((reading.line(list, next, rule, path, inner)?, size), end))
 }
 
-// The inner chain of a line, where one has to follow.
+// Reads the inner chain of a line, if the rule requires one.
 #[cycle(chains)]
 #[tactic(auto, using(text_grammar::proofs::Tokens::next_drop))]
 fn inner_chain<R: ChainReading>(
@@ -169,7 +169,7 @@ fn inner_chain<R: ChainReading>(
     Ok(((Some(inner), size), end))
 }
 
-// A chain in braces.
+// Reads a chain in braces.
 #[cycle(chains)]
 #[tactic(auto, using(text_grammar::proofs::Tokens::next_drop))]
 fn braces<R: ChainReading>(

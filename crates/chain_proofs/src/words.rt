@@ -1,4 +1,4 @@
-//! Names and numbers of a chain.
+//! Reads names and numbers of a chain.
 ghost use Rattle.std.specs.Prelude.{◌≡◌, ◌+◌, ◌<◌, length, drop, IsTrue, IfOk};
 ghost use Rattle.text_grammar.specs.Lexemes.{lexemes};
 ghost use Rattle.text_grammar.specs.Parsed.{Makes, Wants};
@@ -18,7 +18,7 @@ pub(crate) fn is_word_at(toks: &[Token], i: usize, word: &str) -> bool
     }
 }
 
-/// The index after a token that has to be this plain name.
+/// Returns the index after a token that must be this plain name.
 #[tactic(auto, using(text_grammar::proofs::Tokens::next_drop))]
 pub(crate) fn expect_word(toks: &[Token], i: usize, word: &str) -> Result<usize, TextFault>
     ensures value { Wants (lexemes toks.now) result (wants_word word.now (drop i (lexemes toks.now))) }
@@ -30,7 +30,7 @@ pub(crate) fn expect_word(toks: &[Token], i: usize, word: &str) -> Result<usize,
     Ok(i + 1)
 }
 
-/// The place and the text of the name of a rule at an index: a name, or the keyword `hyp`.
+/// Returns the place and the text of the name of a rule at an index: a name, or the keyword `hyp`.
 pub(crate) fn rule_name_at<'a>(toks: &[Token<'a>], i: usize) -> Result<(usize, &'a str), TextFault>
     ensures value { Makes ⊥ (λ x. (x.0, x.1.now)) result (rule_name (drop i (lexemes toks.now))) }
     ensures within { IfOk result (λ x. i < length toks.now) }
@@ -42,14 +42,14 @@ pub(crate) fn rule_name_at<'a>(toks: &[Token<'a>], i: usize) -> Result<(usize, &
     }
 }
 
-/// Whether a number follows the rule of this name.
+/// Whether a rule with this name requires a number.
 pub(crate) fn has_number(name: &str) -> bool
     ensures { result ≡ has_number name.now }
 {
     name == "hyp"
 }
 
-/// Whether an inner chain follows the rule of this name.
+/// Whether a rule with this name requires an inner chain.
 pub(crate) fn has_inner(name: &str) -> bool
     ensures { result ≡ has_inner name.now }
 {

@@ -1,4 +1,4 @@
--- Terms that relate the same states of a frame, and how that passes from parts to whole terms.
+-- Terms that relate the same states of a frame; agreement of parts implies agreement of whole terms.
 use Rattle.std.proofs.Common.{◌≡◌, ℕ, zero as nought, suc, inl, inr, ⊎_elim, ◌↔◌, List, [], ◌∷◌, Some}
 use Rattle.kat_model.specs.Trees.{Term, sum, product, star}
 use Rattle.kat_model.specs.Relations.{Frame, RelatesIn}
@@ -6,7 +6,7 @@ use Rattle.kat_model.proofs.Closure.{along_weaken}
 use Rattle.chain_rules.specs.Places.{subterm, AreEqualOutside}
 
 module _ {S : Type 0} (frame : Frame S) where
-  -- both terms relate the same states
+  -- the two terms relate the same states
   abbrev pub Agree : Term → Term → Type 0
   Agree e f = (i j : S) → frame.IsState i → frame.IsState j → RelatesIn frame e i j ↔ RelatesIn frame f i j
 
@@ -41,7 +41,7 @@ module _ {S : Type 0} (frame : Frame S) where
     (λ h. (h.0, along_weaken frame.IsState (RelatesIn frame c) (RelatesIn frame a) (λ k l sk sl r. (p k l sk sl).1 r) h.0 i j si h.1)),
   )
 
-  -- terms that are equal outside a place agree where their subterms there do
+  -- two terms that are equal outside a place agree if their subterms there agree
   pub agree_at : (path : List ℕ) (e f x y : Term) → AreEqualOutside path e f → subterm path e ≡ Some x → subterm path f ≡ Some y → Agree x y → Agree e f
   agree_at [] e f x y o b c a =
       let p : e ≡ x = cc in

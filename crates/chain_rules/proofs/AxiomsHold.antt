@@ -1,4 +1,4 @@
--- Each axiom holds in every frame, the two on fixed points where their premise does.
+-- Each axiom holds in every frame; the two fixed-point axioms hold if their premise does.
 use Rattle.std.proofs.Common.{◌≡◌, ℕ, inl, inr, ⊎_elim, List, [], ◌∷◌, ◌++◌, length, Option, Some, refl, sym, subst, MatchOption}
 use Rattle.std.specs.Bool.{IsTrue}
 use Rattle.std.proofs.lemmas.Bool.{false≢true, and_parts, and_from, or_cases, or_left, or_right}
@@ -58,7 +58,7 @@ module _ {S : Type 0} (frame : Frame S) where
     (λ h. ⊎_elim (λ p. (p.0, p.1, inl p.2, p.3)) (λ q. (q.0, q.1, inr q.2, q.3)) h),
   )
 
-  -- the first step along a list of states, and the last
+  -- splitting off the first step along a list of states, and the last step
   first_step : (x : Term) (ks : List S) (i j : S) → Along frame.IsState (RelatesIn frame x) i ks j → RelatesIn frame (sum one (product x (star x))) i j
   first_step x [] i j h = inl h
   first_step x (k ∷ ks) i j h = inr (k, h.0, h.1, (ks, h.2))
@@ -87,7 +87,7 @@ module _ {S : Type 0} (frame : Frame S) where
         h),
   )
 
-  -- what q and then p before r relate, r does: so it does what p, however often, before q relates
+  -- if r includes q and p followed by r, it includes any number of steps by p followed by q
   least_left : (p q r : Term) → Agree frame (sum (sum q (product p r)) r) r → (ks : List S) (i k j : S) → frame.IsState i → frame.IsState j → Along frame.IsState (RelatesIn frame p) i ks k → RelatesIn frame q k j → RelatesIn frame r i j
   least_left p q r a [] i k j si sj h g = (a i j si sj).0 (inl (inl (subst (λ m. RelatesIn frame q m j) (sym h) g)))
   least_left p q r a (m ∷ ks) i k j si sj h g =
@@ -99,7 +99,7 @@ module _ {S : Type 0} (frame : Frame S) where
     (λ h. inr h),
   )
 
-  -- the same with p behind r
+  -- the same with p after r
   least_right : (p q r : Term) → Agree frame (sum (sum q (product r p)) r) r → (ks : List S) (i k j : S) → frame.IsState i → frame.IsState k → RelatesIn frame r i k → Along frame.IsState (RelatesIn frame p) k ks j → RelatesIn frame r i j
   least_right p q r a [] i k j si sk g h = subst (λ m. RelatesIn frame r i m) h g
   least_right p q r a (m ∷ ks) i k j si sk g h =
@@ -111,7 +111,7 @@ module _ {S : Type 0} (frame : Frame S) where
     (λ h. inr h),
   )
 
-  -- the premise, where there is one, holds
+  -- the premise holds if there is one
   abbrev pub PremiseHolds : Option Equation → Type 0
   PremiseHolds premise = MatchOption premise (Unit {0}) (λ s. Agree frame s.left s.right)
 
@@ -139,7 +139,7 @@ module _ {S : Type 0} (frame : Frame S) where
   axiom_holds Bool x y z s e p = absurd cc
   axiom_holds (Hyp k) x y z s e p = absurd cc
 
-  -- what a term without actions and stars relates
+  -- a term without actions and stars relates a state only to itself, if the atom of the state satisfies the term
   test_relates : (e : Term) → IsTestTerm e → (i j : S) → frame.IsState i → RelatesIn frame e i j → (i ≡ j) × IsTrue (out e (frame.atom i))
   test_relates zero t i j si h = absurd h
   test_relates one t i j si h = (h, refl)

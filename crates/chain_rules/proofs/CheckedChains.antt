@@ -1,4 +1,4 @@
--- What the answers of the check say.
+-- What the results of the check mean.
 use Rattle.std.proofs.Common.{arith, ◌≡◌, ◌≢◌, ℕ, ◌↔◌, Bool, true, false, nat_eq, refl, sym, ◌∙◌}
 use Rattle.std.specs.Bool.{IsTrue}
 use Rattle.kat_model.specs.Trees.{Term}
@@ -15,12 +15,12 @@ use Rattle.chain_rules.specs.declared.answer.ChainAnswer.{ChainAnswer}
 use Rattle.chain_rules.specs.declared.answer.ChainAnswer.TheVariants.{Accepted, Rejected}
 use Rattle.chain_rules.proofs.Soundness.{chained_same}
 
--- an accepted chain shows that both sides are the same
+-- if the check accepts a chain, both sides are the same
 pub sound_answer : (q : ProblemParts) (c : ChainTree) (answer : ChainAnswer) → Answers q c answer → answer ≡ Accepted → Same q
 sound_answer q c Accepted h e = chained_same q c h
 sound_answer q c (Rejected reason) h e = absurd cc
 
--- two terms are true at the same atoms exactly where their diagrams have one id
+-- two terms without actions and stars are true at the same atoms if and only if their diagrams have the same id
 pub equal_ids : (tests : ℕ) (d : DiagramsParts) (i j : ℕ) (e f : Term) → d.tests ≡ tests → IsReduced d → IsDiagramOf d i (out e) → IsDiagramOf d j (out f) → IsTestTerm e → IsTestTerm f → (i ≡ j) ↔ AreEqualTests tests (equation e f)
 equal_ids tests d i j e f same reduced of_e of_f is_e is_f = (
   (λ one. record {
@@ -34,7 +34,7 @@ equal_ids tests d i j e f same reduced of_e of_f is_e is_f = (
       (λ atom fits. of_e.value atom fits ∙ equal.same atom (fits ∙ same) ∙ sym (of_f.value atom fits))),
 )
 
--- two ids are compared
+-- comparing two ids
 pub ids_compared : {X : Type 0} (i j : ℕ) (same : Bool) → same ≡ nat_eq i j → (i ≡ j) ↔ X → IsTrue same ↔ X
 ids_compared i j true is f = ((λ h. f.0 (grind (arith, is))), (λ x. refl))
 ids_compared i j false is f = ((λ h. absurd cc), (λ x. absurd (let other : i ≢ j = grind (arith, is) in other (f.1 x))))

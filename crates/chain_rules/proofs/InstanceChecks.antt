@@ -1,4 +1,4 @@
--- How instances are checked.
+-- The check of instances.
 use Rattle.std.proofs.Common.{◌≡◌, ◌↔◌, ◌⊎◌, inl, inr, ℕ, Bool, false, Option, None, Some, Result, Ok, Err, IfOk, refl, sym, subst}
 use Rattle.std.specs.Bool.{IsTrue}
 use Rattle.std.specs.Option.{is_some, option_map}
@@ -11,7 +11,7 @@ use Rattle.chain_rules.specs.declared.chain.Axiom.{Axiom}
 use Rattle.chain_rules.specs.declared.chain.Axiom.TheVariants.{Bool as by_tests}
 use Rattle.chain_rules.specs.declared.fixed_points.Ends.{Ends}
 
--- `Bool`, by the diagrams of both sides
+-- instances of `Bool`, by the diagrams of both sides
 pub bool_instances : {E : Type 0} (q : ProblemParts) (rule : Axiom) (tests : ℕ) (s : Equation) (r : Result Bool E) → rule ≡ by_tests → tests ≡ q.tests → IfOk r (λ same. IsTrue same ↔ AreEqualTests tests s) → IfOk r (λ same. IsTrue same ↔ IsInstance q rule None s)
 bool_instances q rule tests s (Ok same) is own h =
     subst (λ (a : Axiom). IsTrue same ↔ IsInstance q a None s) (sym is) (
@@ -20,12 +20,12 @@ bool_instances q rule tests s (Ok same) is own h =
     )
 bool_instances q rule tests s (Err e) is own h = tt
 
--- no premise is there
+-- there is no premise
 pub no_premise : (premise : Option Ends) (some : Bool) → some ≡ is_some premise → some ≡ false → option_map equation_of premise ≡ None
 no_premise None some own none = refl
 no_premise (Some ends) some own none = absurd cc
 
--- in one order or the other, where the first does not fit
+-- an instance in the second order, if it is not one in the first
 pub either_way : {A B : Type 0} (there back : Bool) → there ≡ false → IsTrue there ↔ A → IsTrue back ↔ B → IsTrue back ↔ (A ⊎ B)
 either_way {A} {B} there back fails t b = ((λ h. inr (b.0 h)), by_side) where
   by_side : A ⊎ B → IsTrue back

@@ -1,4 +1,4 @@
--- What fits an axiom by the form of the left side is an instance of it, and the other way round.
+-- An equation fits an axiom by the form of its left side if and only if it is an instance of the axiom.
 use Rattle.std.proofs.Common.{◌≡◌, ◌↔◌, ℕ, Option, None, Some, refl, ap}
 use Rattle.kat_model.specs.Trees.{Term, zero, sum, product, star}
 use Rattle.kat_model.specs.Problems.{ProblemParts}
@@ -8,11 +8,11 @@ use Rattle.chain_rules.specs.Working.Fits.{FitsAssoc, FitsComm, FitsSeqAssoc, Fi
 use Rattle.chain_rules.specs.declared.chain.Axiom.{Axiom}
 use Rattle.chain_rules.specs.declared.chain.Axiom.TheVariants.{Assoc, Comm, Idem, Zero, SeqAssoc, OneLeft, OneRight, ZeroLeft, ZeroRight, DistLeft, DistRight, UnfoldLeft, UnfoldRight, Bool, Hyp, Lfp, Rfp}
 
--- the three terms, where the sides and the premise are those of the axiom
+-- an instance from three terms for which the sides and the premise are those of the axiom
 over : (rule : Axiom) (inner : Option Equation) (e f x y z : Term) → axiom_equation rule x y z ≡ Some (equation e f) → axiom_premise rule x y z ≡ inner → IsOverTerms rule inner (equation e f)
 over rule inner e f x y z s p = record { x = x; y = y; z = z; sides = s; premise = p }
 
--- the sides of two equations that are one
+-- the sides of equal equations
 abbrev left_of : Option Equation → Term
 left_of None = zero
 left_of (Some s) = s.left
@@ -83,7 +83,7 @@ over_rfp inner e f h =
     let r : h.z ≡ f = right_same (sum (product h.y (star h.x)) h.z) h.z e f h.sides in
     rw (← l) (rw r refl, rw (← h.premise) refl)
 
--- the axioms with no premise
+-- the axioms without a premise
 fits_over : (rule : Axiom) (e f : Term) → Fits rule e f → IsOverTerms rule None (equation e f)
 fits_over Assoc e f h = assoc_over e f h
 fits_over Comm e f h = comm_over e f h
@@ -103,7 +103,7 @@ fits_over (Hyp k) e f h = absurd h
 fits_over Lfp e f h = absurd h
 fits_over Rfp e f h = absurd h
 
--- what fits the sides of the axiom over three terms
+-- an equation equal to one that fits an axiom fits it too
 sides_fit : (rule : Axiom) (e f a b : Term) → Some (equation a b) ≡ Some (equation e f) → Fits rule a b → Fits rule e f
 sides_fit rule e f a b h g =
     let l : a ≡ e = left_same a b e f h in
@@ -138,7 +138,7 @@ rfp_instances q inner e f = (rfp_over inner e f, over_rfp inner e f)
 plain_both : (rule : Axiom) (e f : Term) → Fits rule e f ↔ IsOverTerms rule None (equation e f)
 plain_both rule e f = (fits_over rule e f, λ h. over_fits rule None e f h h.premise)
 
--- the axioms other than `Bool` and `Hyp`, where no inner chain is there
+-- the axioms other than `Bool` and `Hyp`, without an inner chain
 pub plain_instances : (q : ProblemParts) (rule : Axiom) (e f : Term) → (rule ≡ Bool → ⊥) → ((k : ℕ) → rule ≡ Hyp k → ⊥) → Fits rule e f ↔ IsInstance q rule None (equation e f)
 plain_instances q Assoc e f b h = plain_both Assoc e f
 plain_instances q Comm e f b h = plain_both Comm e f

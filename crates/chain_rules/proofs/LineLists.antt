@@ -1,4 +1,4 @@
--- The lines of a chain, gone through one by one.
+-- The lines of a chain, traversed one by one.
 use Rattle.std.proofs.Common.{arith, ◌≡◌, ℕ, ◌+◌, ◌-◌, ◌≤◌, List, [], ◌∷◌, ◌++◌, length, take, drop, Option, None, Some, MatchOption, refl, sym, ap, subst, ◌∙◌, append_assoc, append-nil, zero-add, ◌<◌, get_or, length-append, zero as nought, suc, Bool, ◌↔◌, Box, Global}
 use Rattle.std.specs.Bool.{IsTrue}
 use Rattle.std.specs.List.{All, slice_get}
@@ -48,7 +48,7 @@ lines_of-with_line : (e : Term) (rule : Axiom) (path : List ℕ) (inner : Option
 lines_of-with_line e rule path None rest = refl
 lines_of-with_line e rule path (Some c) rest = refl
 
--- a line comes first, then those of its inner chain, then the others
+-- a line comes first, then the lines of its inner chain, then the other lines
 lines_of-chain_tree : (e : Term) (l : Line) (ls : List Line) → lines_of (chain_tree e (l ∷ ls)) ≡ lines_at e l ++ lines_of (chain_tree (kat_tree l.next) ls)
 lines_of-chain_tree e l ls =
     lines_of-with_line e l.rule l.path.items (unboxed l.inner) (chain_tree (kat_tree l.next) ls)
@@ -87,7 +87,7 @@ pub ends_found : (first last : Term) (own : List Line) (whole : ChainTree) → c
 ends_found first last own whole view end =
     ap (λ (e : Term). equation e last) (start_found first own whole view) ∙ ap (λ (e : Term). equation (first_term whole) e) end
 
--- the ends are compared with the sides
+-- comparing the ends with the sides
 pub end_compared : (last right end side : Term) (same : Bool) → last ≡ end → right ≡ side → IsTrue same ↔ (last ≡ right) → IsTrue same ↔ (end ≡ side)
 end_compared last right end side same l r f = ((λ h. sym l ∙ f.0 h ∙ r), (λ h. f.1 (l ∙ h ∙ sym r)))
 
@@ -106,7 +106,7 @@ next_in_range : (tests actions : ℕ) (l : Line) (ls : List Line) → HasTermsIn
 next_in_range tests actions l ls r =
     subst (λ (e : Term). IsInRange tests actions e) (first_term-chain_tree (kat_tree l.next) ls) (range_of_first tests actions (chain_tree (kat_tree l.next) ls) r)
 
--- the parts of a chain that begins with a line are in range
+-- all parts of a chain that begins with a line are in range
 pub record IsLineInRange (tests actions : ℕ) (e : Term) (l : Line) (after : ChainTree) : Type 0 where
   pub before : IsInRange tests actions e
   pub next : IsInRange tests actions (kat_tree l.next)
@@ -119,7 +119,7 @@ line_in_range tests actions e l ls r = by_inner (unboxed l.inner) refl r where
   by_inner None p h = record { before = h.0; next = next_in_range tests actions l ls h.1; inner = rw p tt; rest = h.1 }
   by_inner (Some c) p h = record { before = h.0; next = next_in_range tests actions l ls h.2; inner = rw p h.1; rest = h.2 }
 
--- ---- what is found
+-- ---- results of the check
 
 slice_get-append_right : {X : Type 0} (xs ys : List X) (n : ℕ) → slice_get (xs ++ ys) (length xs + n) ≡ slice_get ys n
 slice_get-append_right [] ys n = ap (slice_get ys) (zero-add n)
@@ -127,12 +127,12 @@ slice_get-append_right (x ∷ xs) ys n =
     let e : length (x ∷ xs) + n ≡ suc (length xs + n) = omega arith in
     rw e (slice_get-append_right xs ys n)
 
--- a line that fails is the first of the lines that begin with it
+-- a line that fails is the first failing line of any list that it begins
 pub fails_at_once : (q : ProblemParts) (line : LineParts) (lines : List LineParts) → (Holds q line → ⊥) → IsLineCheck q (line ∷ lines) (FirstFailing 0)
 fails_at_once q line lines f =
     (0, record { line = line; here = refl; fails = f; earlier = All-nil (Holds q) }, refl)
 
--- the first that fails, behind lines that hold
+-- the first failing line after lines that hold
 later_failing : (q : ProblemParts) (done lines : List LineParts) (n : ℕ) → All (Holds q) done → IsFirstFailing q lines n → IsFirstFailing q (done ++ lines) (length done + n)
 later_failing q done lines n h f =
     record {
@@ -142,7 +142,7 @@ later_failing q done lines n h f =
       earlier = All-same (Holds q) _ _ (take-append-add done lines n) (All-append (Holds q) done (take n lines) h f.earlier);
     }
 
--- the first that fails, with lines behind it
+-- the first failing line stays the first when lines are added after it
 failing_before : (q : ProblemParts) (lines others : List LineParts) (n : ℕ) → IsFirstFailing q lines n → IsFirstFailing q (lines ++ others) n
 failing_before q lines others n f =
     record {
@@ -155,12 +155,12 @@ failing_before q lines others n f =
 counted_sum : (m n : ℕ) → counted (counted m + counted n) ≡ counted (m + n)
 counted_sum m n = omega arith
 
--- the line holds, and so do those of its inner chain
+-- the line holds, and so do the lines of its inner chain
 pub hold_after : (q : ProblemParts) (line : LineParts) (lines : List LineParts) (n : ℕ) → Holds q line → IsLineCheck q lines (AllHold n) → IsLineCheck q (line ∷ lines) (AllHold (counted (n + 1)))
 hold_after q line lines n h c =
     (All-cons (Holds q) line lines h c.0, rw c.1 (let e : counted (counted (length lines) + 1) ≡ counted (length (line ∷ lines)) = omega arith in e))
 
--- the line holds, and one of its inner chain does not
+-- the line holds, and a line of its inner chain fails
 pub fail_after : (q : ProblemParts) (line : LineParts) (lines : List LineParts) (n : ℕ) → Holds q line → IsLineCheck q lines (FirstFailing n) → IsLineCheck q (line ∷ lines) (FirstFailing (counted (n + 1)))
 fail_after q line lines n h c =
     (1 + c.0, later_failing q (line ∷ []) lines c.0 (All-cons (Holds q) line [] h (All-nil (Holds q))) c.1, omega (arith, c.2))
@@ -197,7 +197,7 @@ under_way_last q all count e u =
 
 -- ---- the steps of the program
 
--- the rest of the lines begins with the one whose turn it is
+-- the remaining lines begin with the current one
 rest_at : (q : ProblemParts) (all : List LineParts) (count i : ℕ) (e : Term) (l : Line) (items : List Line) → i < length items → l ≡ get_or items i l → IsUnderWay q all count (chain_tree e (drop i items)) → IsUnderWay q all count (chain_tree e (l ∷ drop (i + 1) items))
 rest_at q all count i e l items lt is u =
     let left : drop i items ≡ l ∷ drop (i + 1) items = drop_more items i l lt ∙ ap (λ (k : Line). k ∷ drop (i + 1) items) (sym is) in
@@ -208,7 +208,7 @@ line_at q all count i e l items lt is u =
     let begun = rest_at q all count i e l items lt is u in
     line_in_range q.tests q.actions e l (drop (i + 1) items) begun.in_range
 
--- the chains in a line are smaller than the chain of the line
+-- the chains in a line are smaller than the chain that has the line
 pub line_below : (first : Term) (items own : List Line) (whole : ChainTree) (i : ℕ) (l : Line) → items ≡ own → chain_tree first own ≡ whole → i < length items → l ≡ get_or items i l → deep-Line l ≤ lines_count whole
 line_below first items own whole i l read view lt is =
     let one : deep-Line (get_or items i l) ≤ most (λ (k : Line). deep-Line k) items = at_most (λ (k : Line). deep-Line k) items i l lt in
@@ -229,7 +229,7 @@ module _ (q : ProblemParts) (first : Term) (items own : List Line) (whole : Chai
   whole_lines : lines_of (chain_tree first items) ≡ lines_of whole
   whole_lines = ap (λ (ls : List Line). lines_of (chain_tree first ls)) read ∙ ap lines_of view
 
-  -- a line fails, or one of its inner chain
+  -- the line fails, or a line of its inner chain does
   pub loop_fails : (count i : ℕ) (e : Term) (l : Line) (found : LineCheck) (n m : ℕ) → i < length items → l ≡ get_or items i l → IsUnderWay q (lines_of (chain_tree first items)) count (chain_tree e (drop i items)) → IsLineCheck q (lines_at e l) found → found ≡ FirstFailing n → m ≡ counted (count + n) → IsLineCheck q (lines_of whole) (FirstFailing m)
   loop_fails count i e l found n m lt at u f is number =
       let all = lines_of (chain_tree first items) in
@@ -243,7 +243,7 @@ module _ (q : ProblemParts) (first : Term) (items own : List Line) (whole : Chai
       let done : IsUnderWay q all count (alone e) = subst (λ (ls : List Line). IsUnderWay q all count (chain_tree e ls)) (drop_all i items le) u in
       subst (λ (ls : List LineParts). IsLineCheck q ls (AllHold count)) whole_lines (under_way_last q all count e done)
 
--- the line holds, with those of its inner chain
+-- the line and the lines of its inner chain hold
 pub loop_goes_on : (q : ProblemParts) (all : List LineParts) (count i : ℕ) (e : Term) (l : Line) (items : List Line) (found : LineCheck) (n m : ℕ) → i < length items → l ≡ get_or items i l → IsUnderWay q all count (chain_tree e (drop i items)) → IsLineCheck q (lines_at e l) found → found ≡ AllHold n → m ≡ counted (count + n) → IsUnderWay q all m (chain_tree (kat_tree l.next) (drop (i + 1) items))
 loop_goes_on q all count i e l items found n m lt at u f is number =
     let here : IsLineCheck q (lines_at e l) (AllHold n) = subst (λ (a : LineCheck). IsLineCheck q (lines_at e l) a) is f in

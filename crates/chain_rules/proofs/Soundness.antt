@@ -1,4 +1,4 @@
--- A chain that is a proof shows that both sides are the same.
+-- If a chain is a proof, both sides are the same.
 use Rattle.std.proofs.Common.{◌≡◌, ⊎_elim, List, [], ◌∷◌, ◌++◌, length, Option, None, Some, sym, subst}
 use Rattle.std.specs.List.{All}
 use Rattle.std.proofs.lemmas.List.Elements.{All-nil, All-cons, All-head, All-tail}
@@ -16,7 +16,7 @@ use Rattle.chain_rules.specs.declared.chain.Axiom.TheVariants.{Bool, Hyp}
 use Rattle.chain_rules.proofs.Agreement.{Agree, agree_itself, agree_sym, agree_trans, agree_at}
 use Rattle.chain_rules.proofs.AxiomsHold.{PremiseHolds, axiom_holds, equal_tests_agree}
 
--- what holds of each element of two lists that are joined
+-- a property of all elements of a concatenation holds for all elements of each list
 pub all_left : {X : Type 0} (P : X → Type 0) (xs ys : List X) → All P (xs ++ ys) → All P xs
 all_left P [] ys h = All-nil P
 all_left P (x ∷ xs) ys h = All-cons P x xs (All-head P x (xs ++ ys) h) (all_left P xs ys (All-tail P x (xs ++ ys) h))

@@ -1,4 +1,4 @@
--- The axioms of Kleene algebra with tests (Kozen 1994, 1997), and which equations are instances of each.
+-- The axioms of Kleene algebra with tests (Kozen 1994, 1997), and the equations that are instances of each.
 use Rattle.std.specs.Prelude.{◌≡◌, ℕ, length, Option, Some, None, slice_get}
 use Rattle.kat_model.specs.Trees.{Term, zero, one, test, act, sum, product, star}
 use Rattle.kat_model.specs.Steps.{Atom, out}
@@ -7,7 +7,7 @@ use Rattle.chain_rules.specs.Chains.{Equation, equation}
 use Rattle.chain_rules.specs.declared.chain.Axiom.{Axiom}
 use Rattle.chain_rules.specs.declared.chain.Axiom.TheVariants.{Assoc, Comm, Idem, Zero, SeqAssoc, OneLeft, OneRight, ZeroLeft, ZeroRight, DistLeft, DistRight, UnfoldLeft, UnfoldRight, Bool, Hyp, Lfp, Rfp}
 
--- the equation of an axiom over three terms; `Bool` and `Hyp` have none
+-- the equation of an axiom for three terms; `Bool` and `Hyp` have none
 abbrev pub axiom_equation : Axiom → Term → Term → Term → Option Equation
 axiom_equation Assoc x y z = Some (equation (sum x (sum y z)) (sum (sum x y) z))
 axiom_equation Comm x y z = Some (equation (sum x y) (sum y x))
@@ -27,7 +27,7 @@ axiom_equation Rfp p q r = Some (equation (sum (product q (star p)) r) r)
 axiom_equation Bool x y z = None
 axiom_equation (Hyp k) x y z = None
 
--- the premise of an axiom over three terms: what an inner chain is to show, where there is to be one
+-- the premise of an axiom for three terms: the equation that an inner chain must show, if one is required
 abbrev pub axiom_premise : Axiom → Term → Term → Term → Option Equation
 axiom_premise Lfp p q r = Some (equation (sum (sum q (product p r)) r) r)
 axiom_premise Rfp p q r = Some (equation (sum (sum q (product r p)) r) r)
@@ -43,13 +43,13 @@ IsTestTerm (sum e f) = IsTestTerm e × IsTestTerm f
 IsTestTerm (product e f) = IsTestTerm e × IsTestTerm f
 IsTestTerm (star e) = ⊥
 
--- both sides are such terms, and are true at the same atoms of so many tests
+-- both sides have no action and no star, and are true at the same atoms of `tests` tests
 pub record AreEqualTests (tests : ℕ) (s : Equation) : Type 0 where
   pub left : IsTestTerm s.left
   pub right : IsTestTerm s.right
   pub same : (atom : Atom) → length atom ≡ tests → out s.left atom ≡ out s.right atom
 
--- the equation and the premise are those of the axiom over some three terms
+-- the equation and the premise are those of the axiom for some three terms
 pub record IsOverTerms (rule : Axiom) (inner : Option Equation) (s : Equation) : Type 0 where
   pub x : Term
   pub y : Term
@@ -57,7 +57,8 @@ pub record IsOverTerms (rule : Axiom) (inner : Option Equation) (s : Equation) :
   pub sides : axiom_equation rule x y z ≡ Some s
   pub premise : axiom_premise rule x y z ≡ inner
 
--- the equation, read from left to right, is an instance of the axiom, where an inner chain shows this premise, or none is there
+-- the equation, from left to right, is an instance of the axiom; `inner` is the equation that an inner chain shows, if
+-- there is one
 abbrev pub IsInstance : ProblemParts → Axiom → Option Equation → Equation → Type 0
 IsInstance q Bool inner s = (inner ≡ None) × AreEqualTests q.tests s
 IsInstance q (Hyp k) inner s = (inner ≡ None) × (slice_get q.hyps k ≡ Some s.left) × (s.right ≡ zero)

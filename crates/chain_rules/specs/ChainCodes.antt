@@ -1,4 +1,4 @@
--- Chains as trees of numbers, by which the logic tells the values of a model apart.
+-- Chains encoded as trees of numbers, by which the logic distinguishes the values of a model.
 use Rattle.std.specs.Prelude.{◌≡◌, refl, ℕ, List, [], ◌∷◌, slice_index_or}
 use Rattle.std.proofs.Common.{ap}
 use base.Stored.{Gv, gnil, gnum, gcons}
@@ -9,7 +9,7 @@ use Rattle.chain_rules.specs.Chains.{ChainTree, alone, equal_by, equal_by_inner}
 use Rattle.chain_rules.specs.declared.chain.Axiom.{Axiom}
 use Rattle.chain_rules.specs.declared.chain.Axiom.TheVariants.{Assoc, Comm, Idem, Zero, SeqAssoc, OneLeft, OneRight, ZeroLeft, ZeroRight, DistLeft, DistRight, UnfoldLeft, UnfoldRight, Bool, Hyp, Lfp, Rfp}
 
--- the axioms without a number, in order
+-- the axioms without a number, in order of their codes
 abbrev pub plain_axioms : List Axiom
 plain_axioms = Assoc ∷ Comm ∷ Idem ∷ Zero ∷ SeqAssoc ∷ OneLeft ∷ OneRight ∷ ZeroLeft ∷ ZeroRight ∷ DistLeft ∷ DistRight ∷ UnfoldLeft ∷ UnfoldRight ∷ Bool ∷ Lfp ∷ Rfp ∷ []
 

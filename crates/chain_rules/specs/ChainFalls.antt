@@ -1,4 +1,4 @@
--- A chain has more lines than the chains in it.
+-- A chain has more lines than each chain inside it.
 use Rattle.std.specs.Prelude.{◌≤◌, ℕ, List, [], ◌∷◌, Option, None, Some}
 use Rattle.std.proofs.Common.{arith}
 use denote.Param.Weighed.{most}

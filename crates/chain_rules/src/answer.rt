@@ -1,22 +1,22 @@
-//! What the check of a chain answers.
+//! The result of the check of a chain.
 
-/// Why a chain is no proof: the first of these, in this order.
+/// Why a chain is not a proof: the first reason that applies, in this order.
 #[derive(Clone, Copy, Debug, PartialEq, Eq)]
 pub enum ChainReason {
-    /// Its first term is not the left side.
+    /// The first term of the chain is not the left side.
     Start,
-    /// Its last term is not the right side.
+    /// The last term of the chain is not the right side.
     End,
-    /// The line of that number is the first that does not hold. Lines are numbered from 0 in the order of the text,
-    /// where a line comes before those of its inner chain. The number stops at `usize::MAX`.
+    /// The first line that fails, by its number. Lines are numbered from 0 in text order, in which a line precedes
+    /// those of its inner chain. The number saturates at `usize::MAX`.
     Step(usize),
 }
 
-/// What the check of a chain answers.
+/// The result of the check of a chain.
 #[derive(Clone, Copy, Debug, PartialEq, Eq)]
 pub enum ChainAnswer {
     /// The chain is a proof.
     Accepted,
-    /// It is none, for this reason.
+    /// The chain is not a proof, for this reason.
     Rejected(ChainReason),
 }

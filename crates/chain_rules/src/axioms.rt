@@ -1,4 +1,4 @@
-//! Instances of the axioms that need no premise.
+//! Instances of the axioms without a premise.
 ghost use Rattle.std.specs.Prelude.{◌≡◌, ◌↔◌, IsTrue};
 ghost use Rattle.kat_model.specs.Trees.{kat_tree, zero, one, sum, product};
 ghost use Rattle.chain_rules.specs.Working.Fits.{FitsAssoc, FitsComm, FitsSeqAssoc, FitsZeroLeft, FitsZeroRight, FitsDistLeft, FitsDistRight, FitsUnfoldLeft, FitsUnfoldRight, Fits};
@@ -154,8 +154,8 @@ fn fits_unfold_right(left: &Kat, right: &Kat) -> bool
     }
 }
 
-/// Whether the two terms, from left to right, are an instance of an axiom that needs no premise, other than `Bool` and
-/// `Hyp`.
+/// Whether the terms, from left to right, are an instance of the axiom, for axioms without a premise. False for `Bool`
+/// and `Hyp`.
 pub(crate) fn fits(rule: Axiom, left: &Kat, right: &Kat) -> bool
     ensures { IsTrue result ↔ Fits rule (kat_tree left.now) (kat_tree right.now) }
 {

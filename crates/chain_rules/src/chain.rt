@@ -3,7 +3,7 @@ use kat_model::Kat;
 use std::marker::Model;
 
 /// An axiom of Kleene algebra with tests (Kozen, *A completeness theorem for Kleene algebras and the algebra of regular
-/// events*, 1994; *Kleene algebra with tests*, 1997), as an equation of two terms that may be read both ways.
+/// events*, 1994; *Kleene algebra with tests*, 1997), as an equation of two terms that may be used in both directions.
 #[derive(Clone, Copy, Debug, PartialEq, Eq)]
 pub enum Axiom {
     /// `x + (y + z) = (x + y) + z`
@@ -32,17 +32,17 @@ pub enum Axiom {
     UnfoldLeft,
     /// `x* = 1 + x*.x`
     UnfoldRight,
-    /// Two terms without actions and stars that are true at the same atoms.
+    /// `x = y` for terms without actions and stars that are true at the same atoms.
     Bool,
-    /// The hypothesis of that number is 0.
+    /// `x = 0` for the hypothesis `x` with this number.
     Hyp(u64),
-    /// `p*.q + r = r`, where an inner chain turns `(q + p.r) + r` into `r`.
+    /// `p*.q + r = r`, if an inner chain turns `(q + p.r) + r` into `r`.
     Lfp,
-    /// `q.p* + r = r`, where an inner chain turns `(q + r.p) + r` into `r`.
+    /// `q.p* + r = r`, if an inner chain turns `(q + r.p) + r` into `r`.
     Rfp,
 }
 
-/// A chain of equations: its first term, and the lines that turn it into others.
+/// A chain of equations: its first term, and the lines that transform it.
 #[cycle(chain)]
 #[derive(Drop)]
 pub struct Chain {
@@ -50,22 +50,22 @@ pub struct Chain {
     pub lines: Vec<Line>,
 }
 
-/// A line of a chain: the term before it equals its own term by an axiom, at a place of both.
+/// A line of a chain: its term equals the term before it, by an axiom at a place of both.
 #[cycle(chain)]
 pub struct Line {
     /// The term of the line.
     pub next: Kat,
     /// The axiom.
     pub rule: Axiom,
-    /// The place: the parts to go down to from the whole term. Those of a sum and a product are 0 and 1, that of a star
-    /// is 0.
+    /// The place, as a path down from the whole term: 0 and 1 for the parts of a sum or product, 0 for the body of a
+    /// star.
     pub path: Vec<u64>,
     /// The chain that shows the premise of the axiom.
     pub inner: Option<Box<Chain>>,
 }
 
-// Written out, so that it is proved here once: a derived drop of a type that reaches itself is proved anew in each crate
-// that owns one.
+// Explicit, so that this crate proves it once: a derived drop of a recursive type is proved again in each crate that
+// owns a value.
 impl Drop for Line {
     #[cycle(chain)]
     fn drop(self) {

@@ -1,4 +1,4 @@
-//! Whether a chain is a proof.
+//! Checks whether a chain is a proof.
 ghost use Rattle.std.specs.Prelude.{◌≡◌, ◌↔◌, IfOk, MatchOption};
 ghost use Rattle.kat_model.specs.Trees.{kat_tree};
 ghost use Rattle.kat_model.specs.Problems.{IsInRange};
@@ -17,16 +17,16 @@ use crate::lines::{holds, last_term};
 use kat_model::{Kat, NoMemory, Problem};
 use std::alloc::Global;
 
-// What was found of lines in text order. The numbers stop at `usize::MAX`.
+// The result for lines in text order. The numbers saturate at `usize::MAX`.
 #[derive(Clone, Copy)]
 enum LineCheck {
-    // All hold, and there are so many.
+    // All lines hold; this is their number.
     AllHold(usize),
-    // The line of that number is the first that does not hold.
+    // The number of the first line that fails.
     FirstFailing(usize),
 }
 
-// The line behind this term, and the lines of its inner chain.
+// Checks the line after this term, and the lines of its inner chain.
 #[cycle(check)]
 fn check_line(
     alloc: Global,
@@ -51,7 +51,7 @@ fn check_line(
     }
 }
 
-// All lines of the chain.
+// Checks all lines of the chain.
 #[cycle(check)]
 fn check_lines(alloc: Global, problem: &Problem, chain: &Chain) -> Result<LineCheck, NoMemory>
     requires { HasTermsInRange problem.now.tests problem.now.actions chain.now }
@@ -87,18 +87,18 @@ fn answer_of(alloc: Global, problem: &Problem, chain: &Chain) -> Result<ChainAns
     }
 }
 
-/// Whether the chain goes from the left side of the problem to its right side by lines that hold, those of inner chains
-/// among them; otherwise the first reason why not. Terms are compared as trees. A line holds where the term before it and
-/// its own term are equal outside its place, and the two subterms there are the sides of an instance of its axiom, in one
-/// order or the other; `Lfp` and `Rfp` need an inner chain from the first term of their premise to its last, and no other
-/// axiom has one. It fails only when out of memory.
+/// Checks that the chain leads from the left side of the problem to its right side by lines that hold, including those
+/// of inner chains. Otherwise gives the first reason why not. Terms are compared as trees. A line holds if its term and
+/// the term before it are equal outside its place, and the two subterms there are the sides of an instance of its
+/// axiom, in one order or the other. `Lfp` and `Rfp` need an inner chain from the left side of their premise to its
+/// right side; the other axioms permit none. Fails only when out of memory.
 pub fn check_chain(alloc: Global, problem: &Problem, chain: &Chain) -> Result<ChainAnswer, NoMemory>
     requires { HasTermsInRange problem.now.tests problem.now.actions chain.now }
-    // The answer is right: a rejection has the first reason.
+    // The answer is correct: a rejection has the first reason.
     ensures answer { IfOk result (Answers problem.now chain.now) }
     ensures accepted { IfOk result (λ answer. (answer ≡ Accepted) ↔ IsChained problem.now chain.now) }
 
-    // An accepted chain shows that both sides are the same.
+    // If the chain is accepted, both sides are the same.
     ensures sound { IfOk result (λ answer. answer ≡ Accepted → Same problem.now) }
 {
     let answer = answer_of(alloc, problem, chain)?;

@@ -1,4 +1,4 @@
-//! Equality of the trees of tests and terms, and terms against trees that are not built.
+//! Equality of the trees of tests and terms, and comparison of terms with trees that are not built.
 ghost use Rattle.std.specs.Prelude.{◌≡◌, ◌↔◌, IsTrue};
 ghost use Rattle.kat_model.specs.Trees.{test_tree, kat_tree, zero, one, sum, product};
 
@@ -17,7 +17,7 @@ fn same_test(left: &Test, right: &Test) -> bool
     }
 }
 
-/// Whether both are one tree.
+/// Whether the two terms are the same tree.
 pub(crate) fn same_term(left: &Kat, right: &Kat) -> bool
     ensures { IsTrue result ↔ (kat_tree left.now ≡ kat_tree right.now) }
 {

@@ -1,4 +1,4 @@
-//! Instances of the two axioms on fixed points, which need a premise.
+//! Instances of the two fixed-point axioms, which need a premise.
 ghost use Rattle.std.specs.Prelude.{◌≡◌, ◌↔◌, IsTrue, Some};
 ghost use Rattle.std.specs.Option.{option_map};
 ghost use Rattle.kat_model.specs.Trees.{kat_tree, sum, product, star};
@@ -9,14 +9,14 @@ ghost use Rattle.chain_rules.specs.Working.LineViews.{equation_of};
 use crate::equality::{is_fixed_point_sum, same_term};
 use kat_model::Kat;
 
-/// The first term and the last of a chain.
+/// The first and the last term of a chain.
 #[derive(Clone, Copy)]
 pub(crate) struct Ends<'a> {
     pub(crate) first: &'a Kat,
     pub(crate) last: &'a Kat,
 }
 
-// Whether the premise is that `(w + x.y) + z` is `z`.
+// Whether the premise is `(w + x.y) + z = z`.
 fn is_premise(premise: Option<Ends>, w: &Kat, x: &Kat, y: &Kat, z: &Kat) -> bool
     ensures { IsTrue result ↔ (option_map equation_of premise.entry ≡ Some (equation (sum (sum (kat_tree w.now) (product (kat_tree x.now) (kat_tree y.now))) (kat_tree z.now)) (kat_tree z.now))) }
 {
@@ -26,7 +26,7 @@ fn is_premise(premise: Option<Ends>, w: &Kat, x: &Kat, y: &Kat, z: &Kat) -> bool
     }
 }
 
-// What stands before `+ r` in the sum of `lfp`: `p*.q`.
+// Checks an instance of `lfp` with the left side `before + r`, where `before` must be `p*.q`.
 fn fits_star_product(premise: Option<Ends>, before: &Kat, r: &Kat, right: &Kat) -> bool
     ensures { IsTrue result ↔ FitsLfp (option_map equation_of premise.entry) (sum (kat_tree before.now) (kat_tree r.now)) (kat_tree right.now) }
 {
@@ -45,7 +45,7 @@ fn fits_star_then(premise: Option<Ends>, s: &Kat, q: &Kat, r: &Kat, right: &Kat)
     }
 }
 
-/// Whether the two terms are an instance of `lfp`, with the premise.
+/// Whether the terms, from left to right, are an instance of `lfp` with this premise.
 pub(crate) fn fits_lfp(premise: Option<Ends>, left: &Kat, right: &Kat) -> bool
     ensures { IsTrue result ↔ FitsLfp (option_map equation_of premise.entry) (kat_tree left.now) (kat_tree right.now) }
 {
@@ -55,7 +55,7 @@ pub(crate) fn fits_lfp(premise: Option<Ends>, left: &Kat, right: &Kat) -> bool
     }
 }
 
-// What stands before `+ r` in the sum of `rfp`: `q.p*`.
+// Checks an instance of `rfp` with the left side `before + r`, where `before` must be `q.p*`.
 fn fits_product_star(premise: Option<Ends>, before: &Kat, r: &Kat, right: &Kat) -> bool
     ensures { IsTrue result ↔ FitsRfp (option_map equation_of premise.entry) (sum (kat_tree before.now) (kat_tree r.now)) (kat_tree right.now) }
 {
@@ -74,7 +74,7 @@ fn fits_then_star(premise: Option<Ends>, q: &Kat, s: &Kat, r: &Kat, right: &Kat)
     }
 }
 
-/// Whether the two terms are an instance of `rfp`, with the premise.
+/// Whether the terms, from left to right, are an instance of `rfp` with this premise.
 pub(crate) fn fits_rfp(premise: Option<Ends>, left: &Kat, right: &Kat) -> bool
     ensures { IsTrue result ↔ FitsRfp (option_map equation_of premise.entry) (kat_tree left.now) (kat_tree right.now) }
 {

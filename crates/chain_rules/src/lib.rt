@@ -1,5 +1,5 @@
-//! Chains of equations, by which one side of an equation is turned into the other by the axioms of Kleene algebra with
-//! tests, line by line.
+//! Chains of equations: they turn one side of an equation into the other line by line, by the axioms of Kleene algebra
+//! with tests.
 #![tactic(auto)]
 
 mod answer;

@@ -1,4 +1,4 @@
-//! One line of a chain.
+//! Checking one line of a chain.
 ghost use Rattle.std.specs.Prelude.{◌≡◌, ◌↔◌, ◌⊎◌, IsTrue, IfOk, None, Some, slice_get};
 ghost use Rattle.std.specs.Option.{option_map};
 ghost use Rattle.kat_model.specs.Trees.{kat_tree, zero};
@@ -18,7 +18,7 @@ use crate::test_terms::are_equal_tests;
 use kat_model::{Kat, NoMemory, Problem};
 use std::alloc::Global;
 
-/// The last term of a chain.
+/// Returns the last term of a chain.
 pub(crate) fn last_term(chain: &Chain) -> &Kat
     ensures { kat_tree result.now ≡ last_term chain.now }
 {
@@ -46,7 +46,7 @@ fn premise_of(inner: &Option<Box<Chain>>) -> Option<Ends<'_>>
     }
 }
 
-// Whether the first term is hypothesis `number` of the problem, and the second is 0.
+// Whether `left` is hypothesis `number` of the problem, and `right` is 0.
 fn fits_hyp(problem: &Problem, number: u64, left: &Kat, right: &Kat) -> bool
     ensures { IsTrue result ↔ ((slice_get problem.now.hyps number ≡ Some (kat_tree left.now)) × (kat_tree right.now ≡ zero)) }
 {
@@ -56,7 +56,7 @@ fn fits_hyp(problem: &Problem, number: u64, left: &Kat, right: &Kat) -> bool
     }
 }
 
-// Whether the two terms, from left to right, are an instance of the axiom, where no inner chain is there.
+// Whether the terms, from left to right, are an instance of the axiom without an inner chain.
 fn is_plain_instance(
     alloc: Global,
     problem: &Problem,
@@ -75,7 +75,7 @@ fn is_plain_instance(
     }
 }
 
-// Whether the two terms, from left to right, are an instance of the axiom, with the premise.
+// Whether the terms, from left to right, are an instance of the axiom with this premise.
 fn is_instance(
     alloc: Global,
     problem: &Problem,
@@ -96,7 +96,7 @@ fn is_instance(
     }
 }
 
-// The same in one order or the other.
+// Whether the terms are an instance of the axiom with this premise, in one order or the other.
 fn is_instance_either_way(
     alloc: Global,
     problem: &Problem,
@@ -118,7 +118,7 @@ fn is_instance_either_way(
     Ok(back)
 }
 
-/// Whether the line holds behind this term.
+/// Whether the line holds after the term `before`.
 pub(crate) fn holds(
     alloc: Global,
     problem: &Problem,

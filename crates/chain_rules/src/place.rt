@@ -1,4 +1,4 @@
-//! Places of terms.
+//! Places in terms.
 ghost use Rattle.std.specs.Prelude.{◌≡◌, ◌↔◌, IsTrue};
 ghost use Rattle.std.specs.Option.{option_map};
 ghost use Rattle.kat_model.specs.Trees.{kat_tree};
@@ -7,7 +7,7 @@ ghost use Rattle.chain_rules.specs.Places.{subterm, AreEqualOutside};
 use crate::equality::same_term;
 use kat_model::Kat;
 
-/// The subterm at the place that the path names, or `None` where the path leaves the tree.
+/// Returns the subterm at the place of the path, or `None` if the path leaves the tree.
 pub(crate) fn subterm<'a>(term: &'a Kat, path: &[u64]) -> Option<&'a Kat>
     ensures { option_map (λ x. kat_tree x.now) result ≡ subterm path.now (kat_tree term.now) }
 {
@@ -28,7 +28,7 @@ pub(crate) fn subterm<'a>(term: &'a Kat, path: &[u64]) -> Option<&'a Kat>
     }
 }
 
-/// Whether the path names a place in both terms, and both are equal outside it.
+/// Whether the path is a place of both terms, and they are equal outside it.
 pub(crate) fn are_equal_outside(left: &Kat, right: &Kat, path: &[u64]) -> bool
     ensures { IsTrue result ↔ AreEqualOutside path.now (kat_tree left.now) (kat_tree right.now) }
 {

@@ -1,4 +1,4 @@
-//! Terms without actions and stars, and whether two are true at the same atoms.
+//! Terms without actions and stars, and a check whether two are true at the same atoms.
 ghost use Rattle.std.specs.Prelude.{◌≡◌, ◌↔◌, IsTrue, IfOk};
 ghost use Rattle.kat_model.specs.Trees.{kat_tree};
 ghost use Rattle.kat_model.specs.Steps.{out};
@@ -22,7 +22,7 @@ fn is_test_term(term: &Kat) -> bool
     }
 }
 
-// The diagram of the atoms that the term accepts.
+// Returns the diagram of the atoms that the term accepts.
 fn diagram_of(diagrams: &mut Diagrams, term: &Kat) -> Result<DiagramId, NoMemory>
     requires in_range { HasTestsBelow diagrams.old.tests (kat_tree term.now) }
     ensures function { IfOk result (λ id. IsDiagramOf diagrams.new id (out (kat_tree term.now))) }
@@ -46,7 +46,7 @@ fn diagram_of(diagrams: &mut Diagrams, term: &Kat) -> Result<DiagramId, NoMemory
     }
 }
 
-// Whether both terms, which have no action and no star, are true at the same atoms.
+// Whether the terms are true at the same atoms. They must have no action and no star.
 fn have_one_diagram(diagrams: &mut Diagrams, left: &Kat, right: &Kat) -> Result<bool, NoMemory>
     requires is_left { IsTestTerm (kat_tree left.now) }
     requires is_right { IsTestTerm (kat_tree right.now) }
@@ -59,7 +59,7 @@ fn have_one_diagram(diagrams: &mut Diagrams, left: &Kat, right: &Kat) -> Result<
     Ok(first == second)
 }
 
-/// Whether both terms have no action and no star, and are true at the same atoms of so many tests.
+/// Whether the terms have no action and no star, and are true at the same atoms of `tests` tests.
 pub(crate) fn are_equal_tests(
     alloc: Global,
     tests: usize,

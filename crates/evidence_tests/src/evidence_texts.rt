@@ -1,4 +1,4 @@
-//! Texts that are read and written again, and the faults of others.
+//! Tests of texts that are read and written again, and of the faults of other texts.
 use certificate::{EvidenceFault, read, write};
 use kat_model::NoMemory;
 use std::alloc::Global;
@@ -8,7 +8,7 @@ fn name_of(alloc: Global, fault: EvidenceFault) -> Result<Vec<u8>, NoMemory> {
     Ok(format!(in alloc; "{fault:?}")?.into_bytes())
 }
 
-// The text of the evidence that is read, or its first fault.
+// Returns the text of the evidence that is read, or its first fault.
 fn written(alloc: Global, text: &str) -> Result<Vec<u8>, NoMemory> {
     match read(alloc, text.as_bytes()) {
         Ok(evidence) => write(alloc, &evidence),
@@ -30,7 +30,7 @@ const TEXTS: &[&str] = &[
     "kat 1 different\nA\nM 3\nend\n",
 ];
 
-// The number of the first text that is not written as it was read, or of all.
+// Returns the number of the first text that is not written as it was read, or the number of texts.
 fn first_changed(alloc: Global) -> Result<usize, NoMemory> {
     for (row, text) in TEXTS.iter().enumerate() {
         if !holds(alloc, text, text)? {
@@ -79,7 +79,7 @@ const FAULTS: &[(&str, &str)] = &[
     ("kat 1 equal\nend\n\n", "Trailing(3)"),
 ];
 
-// The number of the first row that is not so, or of all rows.
+// Returns the number of the first row that fails, or the number of rows.
 fn first_wrong(alloc: Global) -> Result<usize, NoMemory> {
     for (row, (text, want)) in FAULTS.iter().enumerate() {
         if !holds(alloc, text, want)? {

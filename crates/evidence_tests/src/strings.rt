@@ -1,4 +1,4 @@
-//! Strings, their tables, and what they show of problems.
+//! Tests of strings, their tables, and what they show of problems.
 use certificate::{Evidence, EvidenceFault, read};
 use kat_model::{Kat, NoMemory, Problem, seq_of, sum_of};
 use std::alloc::Global;
@@ -16,13 +16,13 @@ fn string_in(evidence: Evidence) -> Result<GString, EvidenceFault> {
     }
 }
 
-// The string that evidence of these lines holds.
+// Returns the string of the evidence with these lines.
 fn string(alloc: Global, lines: &str) -> Result<GString, EvidenceFault> {
     let text = evidence_text(alloc, lines)?;
     string_in(read(alloc, text.as_bytes())?)
 }
 
-// The action so many times.
+// Returns the product of `times` copies of action 0.
 fn power(alloc: Global, times: usize) -> Result<Kat, NoMemory> {
     let mut factors = Vec::new(alloc);
     for _ in 0..times {
@@ -31,7 +31,7 @@ fn power(alloc: Global, times: usize) -> Result<Kat, NoMemory> {
     seq_of(alloc, factors)
 }
 
-// The action at most so many times.
+// Returns the sum of the products of 0 to `most` copies of action 0.
 fn powers(alloc: Global, most: usize) -> Result<Kat, NoMemory> {
     let mut list = Vec::new(alloc);
     for times in 0..most {
@@ -59,7 +59,7 @@ fn hyps(alloc: Global, name: &str) -> Result<Vec<Kat>, NoMemory> {
     Ok(hyps)
 }
 
-// The problem of one test and one action, which is within the limits.
+// Returns the problem of one test and one action, if it is within the limits.
 fn problem(alloc: Global, left: &str, right: &str, hyp: &str) -> Result<Option<Problem>, NoMemory> {
     let hyps = hyps(alloc, hyp)?;
     let left = term(alloc, left)?;
@@ -67,7 +67,7 @@ fn problem(alloc: Global, left: &str, right: &str, hyp: &str) -> Result<Option<P
     Ok(Problem::new(1, 1, hyps, left, right).ok())
 }
 
-// What the string shows, and whether it refutes.
+// Returns what the string shows, and whether it refutes.
 fn shown(alloc: Global, problem: &Problem, string: &GString) -> Result<String, EvidenceFault> {
     let finding = verdict(alloc, problem, string)?;
     let refuted = refutes(alloc, problem, string)?;
@@ -112,7 +112,7 @@ const ROWS: &[Row] = &[
     ("p", "0", "p", "A 1\nM 0 1\nM 1 0\n", "Shape(2) false"),
 ];
 
-// The number of the first row that is not so, or of all rows.
+// Returns the number of the first row that fails, or the number of rows.
 fn first_wrong(alloc: Global) -> Result<usize, EvidenceFault> {
     for (number, row) in ROWS.iter().enumerate() {
         if !row_holds(alloc, row)? {
@@ -136,7 +136,7 @@ fn forty_moves(alloc: Global) -> Result<String, NoMemory> {
     Ok(lines)
 }
 
-// Whether a string of forty moves shows this of a term and 0.
+// Whether a string of forty moves shows `want` for the term `left` and 0.
 fn forty_show(alloc: Global, left: &str, want: &str) -> Result<bool, EvidenceFault> {
     let lines = forty_moves(alloc)?;
     match problem(alloc, left, "0", "")? {
@@ -152,7 +152,7 @@ fn the_powers_take_forty_steps(rt: HostRuntime) -> Result<(), Fail> {
     Ok(())
 }
 
-// The states, the truth values and the moves of a table.
+// Appends the states, the truth values and the moves of a table.
 fn put_table(out: &mut String, table: &Table) -> Result<(), NoMemory> {
     write!(out, "{}", table.states)?;
     for atom in table.truths.as_slice() {

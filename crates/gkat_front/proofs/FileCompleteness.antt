@@ -1,4 +1,4 @@
--- Reading the tokens of items is their fold.
+-- Reading the tokens of items gives their fold.
 use Rattle.std.proofs.Common.{◌≡◌, ℕ, zero, suc, ◌<◌, ◌≤◌, List, [], ◌∷◌, length, Result, Ok, Err, refl, ap, ◌∙◌, arith}
 use Rattle.text_tokens.specs.declared.fault.TextFault.{TextFault}
 use Rattle.text_grammar.specs.declared.terminal.Terminal.TheVariants.{RoundClose, SquareClose, Plus, Dot, Separator}
@@ -47,7 +47,7 @@ items_long : (items : List Item) → length items ≤ length (spelled items)
 items_long [] = omega arith
 items_long (i ∷ items) = omega (arith, items_long items, item_long i (spelled items))
 
--- two values, and then what is done with them
+-- reading two values and then passing both to a step
 asked : {S V : Type 0} (ask : V → V → Result S TextFault) (ts : List Lexeme) (v w : Result V TextFault) →
     (before {V = V × V} ts (v >>= λ x. w >>= λ y. Ok (x, y)) >>= λ x. before x.1 (ask (x.0).0 (x.0).1)) ≡ before ts (v >>= λ x. w >>= λ y. ask x y)
 asked ask ts (Ok x) (Ok y) = refl
@@ -84,14 +84,14 @@ module _ {S V : Type 0} (g : FileActions S V) (t : ExprFold S V) (reads : (s : S
   then_items items n (Ok u) h = h u
   then_items items n (Err e) h = refl
 
-  -- an item, and then others
+  -- reading an item and then the other items
   item_first : (i : Item) (items : List Item) (s : S) (n : ℕ) → item_by g s (item_onto i (spelled items)) ≡ before (spelled items) (fold_item g t s i) → ((u : S) → items_within (item_by g) n u (spelled items) ≡ fold_items g t u items) →
       items_within (item_by g) (suc n) s (item_onto i (spelled items)) ≡ (fold_item g t s i >>= λ u. fold_items g t u items)
   item_first (tests keyword ns end) items s n e h = ap (λ (m : Parsed S). m >>= λ x. items_within (item_by g) n x.0 x.1) e ∙ then_items items n (fold_item g t s (tests keyword ns end)) h
   item_first (actions keyword ns end) items s n e h = ap (λ (m : Parsed S). m >>= λ x. items_within (item_by g) n x.0 x.1) e ∙ then_items items n (fold_item g t s (actions keyword ns end)) h
   item_first (equal keyword p comma q end) items s n e h = ap (λ (m : Parsed S). m >>= λ x. items_within (item_by g) n x.0 x.1) e ∙ then_items items n (fold_item g t s (equal keyword p comma q end)) h
 
-  -- a list of items is read in as many steps as it has items, and one
+  -- reading a list of n items takes at most n + 1 steps
   within_folded : (items : List Item) (s : S) (n : ℕ) → ItemsObey items → length items ≤ n → items_within (item_by g) (suc n) s (spelled items) ≡ fold_items g t s items
   within_folded [] s n o le = refl
   within_folded (i ∷ items) s zero o le = absurd (omega (arith, le))

@@ -1,4 +1,4 @@
--- What is read as items is items.
+-- What is read as items is a list of items.
 use Rattle.std.proofs.Common.{◌≡◌, ℕ, zero, suc, List, [], ◌∷◌, length, Ok, refl, ap, subst, ◌∙◌}
 use Rattle.text_grammar.specs.declared.terminal.Terminal.TheVariants.{Keyword, Separator}
 use Rattle.text_grammar.specs.declared.terminal.Keyword.TheVariants as word
@@ -18,7 +18,7 @@ use Rattle.gkat_front.specs.FilePhrases.{Item, tests, actions, equal, item_onto,
 
 -- ---- items
 
--- an item at the front
+-- the tokens begin with an item
 record ItemFound (ts rest : List Lexeme) : Type 0 where
   item : Item
   spelled : ts ≡ item_onto item rest

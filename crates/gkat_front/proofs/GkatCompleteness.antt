@@ -1,4 +1,4 @@
--- Reading the tokens of an expression is its fold.
+-- Reading the tokens of an expression gives its fold.
 use Rattle.std.proofs.Common.{◌≡◌, ℕ, List, false, Result, Ok, Err, refl, ap, ◌∙◌}
 use Rattle.text_tokens.specs.declared.fault.TextFault.{TextFault}
 use Rattle.text_grammar.specs.declared.terminal.Terminal.TheVariants.{RoundClose, SquareClose, Plus, Dot, Separator}
@@ -15,7 +15,7 @@ use Rattle.gkat_front.specs.GkatPhrases.{Guard, GkatSymbol, expr, factors, facto
 use Rattle.gkat_front.specs.GkatFolds.{CondFold, Folded, fold_guard, fold_gkat}
 use Rattle.gkat_front.proofs.GkatSteps.{gkat_step}
 
--- the token that follows a phrase goes on with no phrase at its end
+-- the token after a phrase does not continue the phrase at its end
 abbrev pub Stops : GkatSymbol → List Lexeme → Type 0
 Stops unit ts = Unit {0}
 Stops factor ts = heads (is_terminal (Separator Caret)) ts ≡ false
@@ -36,7 +36,7 @@ module _ {C P V : Type 0} (g : GkatActions C P V) (t : CondFold C) (reads : (d :
       checked ts (enter d b.opening.at) (λ e. then_wants (is_terminal SquareClose) (g.cond e (yield_before b.inner us))) (λ e. t e b.inner)
       (λ e. ap (then_wants (is_terminal SquareClose)) (reads e b.inner us o refl) ∙ closed SquareClose b.closing ts (t e b.inner) refl)
 
-  -- what reads the symbol
+  -- reading the tokens as the symbol gives this value
   abbrev pub ReadsAs : (x : GkatSymbol) → ℕ → List Lexeme → List Lexeme → Folded P V x → Type 0
   ReadsAs unit d ts rest v = unit_by g f d ts ≡ before rest v
   ReadsAs factor d ts rest v = factor_by g f d ts ≡ before rest v

@@ -10,11 +10,11 @@ use Rattle.text_print.proofs.PieceTexts.{cond_spells, test_spells}
 use Rattle.gkat_terms.specs.Expressions.{GkatTree, test, act, product, choice, loop}
 use Rattle.gkat_front.specs.Printing.{is_loop, guard_text, gkat_text, guard_pieces, gkat_pieces}
 
--- the pieces spell a text, and go on
+-- the pieces spell the text, whatever pieces follow
 abbrev Spell : (List Piece → List Piece) → List ℕ → Type 0
 Spell pieces text = (ps : List Piece) → spelled (pieces ps) ≡ text ++ spelled ps
 
--- ---- texts with their parts from the right
+-- ---- texts associated to the right
 
 product_regrouped : (x y r : List ℕ) → codes "(" ++ x ++ codes "." ++ y ++ codes ")" ++ r ≡ 40 ∷ (x ++ (46 ∷ (y ++ (41 ∷ r))))
 product_regrouped x y r = simp append_assoc
@@ -32,7 +32,7 @@ module _ (names : Meaning → List ℕ) where
   guard_spells : (b : TestTree) → Spell (guard_pieces names b) (guard_text names b)
   guard_spells b ps = ap (λ (l : List ℕ). 91 ∷ l) (cond_spells names (cond_of b) (symbol (codes "]") ∷ ps) ∙ sym (append_assoc (cond_text names (cond_of b)) (codes "]") (spelled ps)))
 
-  -- a loop, whose operand is in parentheses where it is one
+  -- a loop; its operand is in parentheses if it is itself a loop
   loop_spells : (looped : Bool) (inside : List Piece → List Piece) (x : List ℕ) (b : TestTree) → Spell inside x → (ps : List Piece) →
       spelled (cond looped (in_round inside (symbol (codes "^") ∷ guard_pieces names b ps)) (inside (symbol (codes "^") ∷ guard_pieces names b ps)))
       ≡ cond looped (codes "(" ++ x ++ codes ")^" ++ guard_text names b) (x ++ codes "^" ++ guard_text names b) ++ spelled ps
@@ -65,6 +65,6 @@ module _ (names : Meaning → List ℕ) where
       ∙ sym (choice_regrouped (gkat_text names e) (guard_text names b) (gkat_text names f) (spelled ps))
   gkat_spells (loop b e) ps = loop_spells (is_loop e) (gkat_pieces names e) (gkat_text names e) b (gkat_spells e) ps
 
-  -- what is written onto nothing
+  -- writing an expression to an empty output
   pub gkat_printed : (e : GkatTree) (old new : List ℕ) → old ≡ [] → new ≡ old ++ gkat_text names e → new ≡ spelled (gkat_pieces names e [])
   gkat_printed e old new h k = k ∙ ap (λ (l : List ℕ). l ++ gkat_text names e) h ∙ sym (gkat_spells e [] ∙ append-nil (gkat_text names e))

@@ -1,4 +1,4 @@
--- What is read as an expression from the front of the tokens is one.
+-- What is read as an expression from the start of the tokens is an expression.
 use Rattle.std.proofs.Common.{◌≡◌, ℕ, zero, suc, ◌+◌, List, [], ◌∷◌, Ok, ap, subst, ◌∙◌, drop}
 use Rattle.text_grammar.specs.declared.terminal.Terminal.TheVariants.{RoundOpen, RoundClose, SquareOpen, SquareClose, Plus, Dot, Zero, One, Name, Separator}
 use Rattle.text_grammar.specs.declared.terminal.Separator.TheVariants.{Caret}
@@ -13,14 +13,14 @@ use Rattle.gkat_front.specs.GkatActions.{GkatActions}
 use Rattle.gkat_front.specs.GkatWalks.{GkatAim, whole, factors_after, GkatParser, guard_by, round_by, unit_by, loop_by, factor_by, product_by, choice_by, gkat_by, gkat_within, parse_gkat}
 use Rattle.gkat_front.specs.GkatPhrases.{Guard, expr, factors, factor, unit, one_product, two_products, one_factor, more_factors, once, repeated, zero_unit, one_unit, name_unit, guard_unit, round_unit, guard_onto, gkat_onto, GuardObeys, GuardFits, IsGkatPhrase}
 
--- a condition in brackets
+-- the tokens begin with a condition in brackets
 record IsGuard (d : ℕ) (ts rest : List Lexeme) : Type 0 where
   phrase : Guard
   spelled : ts ≡ guard_onto phrase rest
   obeys : GuardObeys phrase rest
   fits : GuardFits d phrase
 
--- nothing, or a dot and factors
+-- a dot followed by factors, or nothing
 pub data Tail (d : ℕ) (ts rest : List Lexeme) : Type 0 where
   no_more : (same : ts ≡ rest) → Tail d ts rest
   dotted : (dot : Leaf) → (us : List Lexeme) → (spelled : ts ≡ cons_token Dot dot us) → (more : IsGkatPhrase factors d us rest) → Tail d ts rest

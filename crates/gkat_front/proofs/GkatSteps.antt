@@ -1,4 +1,4 @@
--- The equation of the reading of expressions, in which no number of steps stands.
+-- The equation of reading an expression, without the bound on steps.
 use Rattle.std.proofs.Common.{◌≡◌, ℕ, zero, suc, ◌+◌, ◌<◌, List, [], ◌∷◌, length, Ok, refl, ap, arith, drop}
 use Rattle.text_grammar.specs.declared.terminal.Terminal.TheVariants.{RoundOpen, RoundClose, SquareOpen, SquareClose, Plus, Dot, Zero, One, Name, Separator}
 use Rattle.text_grammar.specs.declared.terminal.Separator.TheVariants.{Caret}
@@ -10,7 +10,7 @@ use Rattle.while_lang.proofs.BlockSteps.{wanted_within, wanted_same}
 use Rattle.gkat_front.specs.GkatActions.{GkatActions}
 use Rattle.gkat_front.specs.GkatWalks.{GkatAim, whole, factors_after, GkatParser, guard_by, round_by, unit_by, loop_by, factor_by, product_by, choice_by, gkat_by, gkat_within, parse_gkat}
 
--- ---- what is read leaves fewer tokens, or as many where there may be nothing
+-- ---- reading consumes at least one token, unless the phrase may be empty
 
 abbrev pub bound : {P : Type 0} → GkatAim P → ℕ → ℕ
 bound whole n = n
@@ -84,7 +84,7 @@ module _ {C P V : Type 0} (g : GkatActions C P V) where
   within_short zero x d ts = tt
   within_short (suc n) x d ts = gkat_short (gkat_within g n) (within_short n) x d ts
 
-  -- ---- what reads alike on fewer tokens reads alike
+  -- ---- readers that agree on fewer tokens agree
 
   abbrev Same : GkatParser P V → GkatParser P V → ℕ → Type 0
   Same f h n = (x : GkatAim P) (d : ℕ) (ts : List Lexeme) → length ts < n → f x d ts ≡ h x d ts
@@ -135,7 +135,7 @@ pub gkat_step : {C P V : Type 0} (g : GkatActions C P V) (x : GkatAim P) (d : �
 unfolding parse_gkat gkat_within
 gkat_step g x d ts = gkat_same g (gkat_within g (length ts)) (parse_gkat g) (within_short g (length ts)) x d ts (λ y e us lt. enough g (length ts) (suc (length us)) y e us lt (omega arith))
 
--- what is read leaves fewer tokens
+-- reading consumes tokens
 pub gkat_read_short : {C P V : Type 0} (g : GkatActions C P V) → IsShort (parse_gkat g)
 unfolding parse_gkat
 gkat_read_short g x d ts = within_short g (suc (length ts)) x d ts

@@ -1,4 +1,4 @@
--- What is made of the tokens of items is what the items make.
+-- The result for the tokens of items is the result of the items.
 use Rattle.std.proofs.Common.{◌≡◌, ℕ, List, false, Result, Ok, Err, refl}
 use Rattle.kat_model.specs.Expressions.{CondTree, test_without_comparisons}
 use Rattle.text_tokens.specs.declared.fault.TextFault.{TextFault}
@@ -24,7 +24,7 @@ use Rattle.gkat_front.specs.Laws.{TextsAreMade}
 use Rattle.gkat_front.proofs.GkatCompleteness.{Stops, gkat_read}
 use Rattle.gkat_front.proofs.FileCompleteness.{items_folded}
 
--- a condition that is measured and then built
+-- measuring a condition and then building it
 measured_same : (ts : List Lexeme) (m : Result Extent TextFault) (b : Result CondTree TextFault) →
     (before ts m >>= λ x. change test_without_comparisons (before ts b)) ≡ before ts (m >>= λ x. b >>= λ y. Ok (test_without_comparisons y))
 measured_same ts (Ok x) (Ok y) = refl

@@ -1,4 +1,4 @@
--- The tests of tokens give no fault for want of memory: the walk takes fewer steps than it has.
+-- The tests of tokens never fail with out of memory: reading takes fewer steps than its bound.
 use Rattle.std.proofs.Common.{ℕ, zero, suc, ◌<◌, List, [], ◌∷◌, length, drop, true, false, nat_lt, Option, Some, None, Ok, Err, arith}
 use Rattle.std.specs.Option.{is_some}
 use Rattle.text_tokens.specs.declared.fault.TextFault.TheVariants.{TooLarge, TooMany, TwoGoals, DoubleName}
@@ -102,7 +102,7 @@ module _ {C P V : Type 0} (g : GkatActions C P V) (conds : (d : ℕ) (ts : List 
 
 -- ---- items
 
--- the actions give no fault for want of memory, and leave fewer tokens
+-- the actions never fail with out of memory, and reading an expression consumes tokens
 record NameFiles {S V : Type 0} (g : FileActions S V) : Type 0 where
   exprs : (s : S) (ts : List Lexeme) → IsNamed (g.expr s ts)
   shorter : (s : S) (ts : List Lexeme) → Within (length ts) (g.expr s ts)
@@ -151,7 +151,7 @@ module _ {S V : Type 0} (g : FileActions S V) (h : NameFiles g) where
   items_named : (s : S) (ts : List Lexeme) → IsNamed (items_by g s ts)
   items_named s ts = all_named (item_by g) item_named item_short s ts
 
--- ---- its parts
+-- ---- the actions on items
 
 guard_at_named : (w : ScopeParts) (d : ℕ) (ts : List Lexeme) → IsNamed (guard_at w d ts)
 guard_at_named w d ts =

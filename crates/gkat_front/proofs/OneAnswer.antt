@@ -1,4 +1,4 @@
--- Bytes say one file or have one first fault, and not both.
+-- Bytes either denote exactly one file or have exactly one first fault.
 use Rattle.std.proofs.Common.{◌≡◌, List, ℕ, Result, Ok, Err, IfErr, refl}
 use Rattle.text_tokens.specs.declared.fault.TextFault.{TextFault}
 use Rattle.text_tokens.specs.declared.fault.TextFault.TheVariants.{NoMemory}
@@ -21,7 +21,7 @@ have_one_answer = one_answer tested Reads (λ f. f) (record {
   named = tested_named;
 })
 
--- bytes that say a file have no first fault
+-- bytes that denote a file have no first fault
 pub only_memory : (bytes : List ℕ) (f : GkatFileParts) (r : Result GkatFile TextFault) → Reads bytes f → Answers bytes r → IfErr r (λ e. e ≡ NoMemory)
 only_memory bytes f (Ok g) says h = tt
 only_memory bytes f (Err e) says h = no_fault tested bytes f e (file_told bytes f says) h

@@ -43,7 +43,7 @@ ok_value : (r : Result Extent TextFault) → IsOk r → (m : Extent) × (r ≡ O
 ok_value (Ok m) h = (m, refl)
 ok_value (Err e) h = absurd cc
 
--- what is measured and then built
+-- measuring and then building
 measured_built : (m : Result Extent TextFault) (r : Result CondTree TextFault) (x : Extent) (b : CondTree) → m ≡ Ok x → r ≡ Ok b → (m >>= λ y. r >>= λ z. Ok (test_without_comparisons z)) ≡ Ok (test_without_comparisons b)
 measured_built m r x b e f = rw (e, f) refl
 
@@ -51,7 +51,7 @@ entered : {V : Type 0} (d at : ℕ) (f : ℕ → Result V TextFault) → d < 200
 entered d at f lt = ap (λ m. m >>= f) (enters d at lt)
 
 module _ (w : ScopeParts) where
-  -- ---- the phrase has that tree, and is so deep at most
+  -- ---- the phrase has the tree, and at most this depth
 
   record IsGuardOf (b : TestTree) (p : Guard) : Type 0 where
     tree : (d : ℕ) → d + (cond_nesting (cond_of b) + 1) ≤ 200 → fold_guard (cond_fold w) d p ≡ Ok b
@@ -126,7 +126,7 @@ module _ (w : ScopeParts) where
     fits = λ d le. (h.fits d (omega arith), i.fits d (omega arith));
   }
 
-  -- ---- the pieces begin with a phrase, and go on with others
+  -- ---- the pieces begin with a phrase, followed by other pieces
 
   record BeginsGuard (b : TestTree) (at : ℕ) (qs ps : List Piece) : Type 0 where
     phrase : Guard
@@ -241,7 +241,7 @@ module _ (w : ScopeParts) where
           holds = loop_holds b e n c.phrase a.phrase _ c.holds a.holds;
         }
 
-    -- the operand of a loop, which is in parentheses where it is one
+    -- the operand of a loop; it is in parentheses if it is itself a loop
     abbrev operand_pieces : GkatTree → List Piece → List Piece
     operand_pieces e ps = cond (is_loop e) (in_round (gkat_pieces names e) ps) (gkat_pieces names e ps)
 
@@ -271,7 +271,7 @@ module _ (w : ScopeParts) where
         let turns = loop_back b e (operand_nesting e) (operand_pieces e) is.0 operand in
         (turns, round_back (loop b e) (gkat_nesting (loop b e)) (gkat_pieces names (loop b e)) turns)
 
-    -- ---- what is printed within the limits reads back
+    -- ---- text printed within the limits reads back
 
     pub printed_back : (e : GkatTree) → GkatIsNamed w names e → length (spelled (gkat_pieces names e [])) ≤ MAX_LEN → gkat_nesting e ≤ 200 → ReadsBack w (gkat_pieces names e []) e
     printed_back e is len depth =

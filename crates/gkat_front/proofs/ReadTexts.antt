@@ -1,4 +1,4 @@
--- The file that bytes say is what both passes over their tokens give.
+-- The file that bytes denote is the result of both passes over their tokens.
 use Rattle.std.proofs.Common.{◌≡◌, ℕ, List, map, Result, Ok, sym, ap, ◌∙◌}
 use Rattle.text_tokens.specs.declared.fault.TextFault.{TextFault}
 use Rattle.text_tokens.specs.TokenParts.{TokenParts}

@@ -1,4 +1,4 @@
--- The test of the syntax takes just the texts.
+-- The syntax test accepts exactly the items of the grammar.
 use Rattle.std.proofs.Common.{◌≡◌, ℕ, ◌+◌, List, [], ◌∷◌, true, false, Ok, refl, ap, ◌∙◌}
 use Rattle.text_grammar.specs.Lexemes.{Lexeme}
 use Rattle.text_grammar.specs.Parsed.{before}
@@ -43,7 +43,7 @@ cond_reads d p ts o last = cond_parsed scanning_terms p (context d false true) t
 expr_reads : (s : Unit {0}) (p : GkatPhrase expr) (ts : List Lexeme) → GkatObeys p ts → Stops expr ts → parse_gkat scanning_expr whole 0 (gkat_onto p ts) ≡ before ts (expr_scan s p)
 expr_reads s p ts o stops = gkat_read scanning_expr cond_scan cond_reads p 0 ts o stops
 
--- ---- nothing is refused where nothing is too deep or too wide
+-- ---- the test refuses nothing if nothing is too deep or too wide
 
 abbrev Passes : (x : GkatSymbol) → Folded (Unit {0}) (Unit {0}) x → Type 0
 Passes factors v = (k : Unit {0} → Unit {0}) → v k ≡ Ok tt

@@ -1,4 +1,4 @@
--- The pieces of a printed expression are tokens that do not go on in the next.
+-- The pieces of a printed expression are tokens, none of which continues into the next piece.
 use Rattle.std.proofs.Common.{List, ℕ, ◌∷◌, refl}
 use Rattle.std.specs.Prelude.{codes}
 use Rattle.kat_model.specs.Trees.{bottom, top, prim, complement, meet, join}

@@ -1,4 +1,4 @@
--- What actions make of items, in text order, or the first fault.
+-- The state of actions after items, in text order, or the first fault.
 use Rattle.std.specs.Prelude.{List, [], ◌∷◌, Result, Ok}
 use Rattle.text_tokens.specs.declared.fault.TextFault.{TextFault}
 use Rattle.text_grammar.specs.Parsed.{◌>>=◌}
@@ -10,7 +10,7 @@ use Rattle.gkat_front.specs.FilePhrases.{Item, tests, actions, equal}
 use Rattle.gkat_front.specs.Files.{GkatFileParts, State, start, file_of}
 use Rattle.gkat_front.specs.Making.{making}
 
--- what is made of an expression after the items so far
+-- the value of an expression in the state after the items so far
 abbrev pub ExprFold : Type 0 → Type 0 → Type 0
 ExprFold S V = S → GkatPhrase expr → Result V TextFault
 
@@ -23,7 +23,7 @@ abbrev pub fold_items : {S V : Type 0} → FileActions S V → ExprFold S V → 
 fold_items g x s [] = Ok s
 fold_items g x s (i ∷ is) = fold_item g x s i >>= λ t. fold_items g x t is
 
--- what items make that stand after others
+-- the state after further items
 abbrev pub made_by : State → List Item → Result State TextFault
 made_by s items = fold_items making (λ t p. gkat_of t.world p) s items
 

@@ -26,7 +26,7 @@ abbrev pub spelled : List Item → List Lexeme
 spelled [] = []
 spelled (i ∷ is) = item_onto i (spelled is)
 
--- the rules on the token that follows a name or a parenthesis in a condition
+-- the conditions of the item satisfy the rules on the token after a name or a parenthesis
 abbrev pub ItemObeys : Item → List Lexeme → Type 0
 ItemObeys (tests keyword ns end) ts = Unit {0}
 ItemObeys (actions keyword ns end) ts = Unit {0}
@@ -46,7 +46,7 @@ abbrev pub ItemsFit : List Item → Type 0
 ItemsFit [] = Unit {0}
 ItemsFit (i ∷ is) = ItemFits i × ItemsFit is
 
--- the tokens are these items, and nothing in them is too deep or too wide
+-- the tokens spell these items, and nothing in them is too deep or too wide
 pub record AreSpelledBy (items : List Item) (ts : List Lexeme) : Type 0 where
   pub spells : ts ≡ spelled items
   pub obey : ItemsObey items

@@ -1,4 +1,4 @@
--- What a file of the program says.
+-- The contents of a file of the program.
 use Rattle.gkat_terms.specs.Expressions.{gkat_tree}
 use Rattle.gkat_front.specs.Files.{GkatFileParts}
 use Rattle.gkat_front.specs.declared.file.GkatFile.{GkatFile}

@@ -1,4 +1,4 @@
--- What a text says, and what its items so far have made.
+-- The contents of a text, and the state after its items so far.
 use Rattle.std.specs.Prelude.{ℕ, ◌+◌, if◌then◌else◌, nat_lt, Result, Ok, Err, List, Option, Some, None}
 use Rattle.std.specs.Option.{is_some}
 use Rattle.text_tokens.specs.declared.fault.TextFault.{TextFault}
@@ -8,7 +8,7 @@ use Rattle.text_scopes.specs.declared.meaning.Meaning.TheVariants.{Test, Action}
 use Rattle.text_scopes.specs.ScopeParts.{ScopeParts, meaning, empty_scope, declared}
 use Rattle.gkat_terms.specs.Expressions.{GkatTree, gkat_size}
 
--- what a text says: its names, how many tests and actions it declares, and two expressions
+-- the contents of a text: its names, the numbers of tests and actions that it declares, and two expressions
 pub record GkatFileParts : Type 0 where
   pub scope : ScopeParts
   pub tests : ℕ
@@ -16,7 +16,7 @@ pub record GkatFileParts : Type 0 where
   pub left : GkatTree
   pub right : GkatTree
 
--- what the items so far have made
+-- the state after the items so far
 pub record State : Type 0 where
   pub world : ScopeParts
   pub tests : ℕ
@@ -26,11 +26,11 @@ pub record State : Type 0 where
 abbrev pub start : State
 start = record { world = empty_scope; tests = 0; actions = 0; sides = None }
 
--- a name that is declared must be new
+-- a declared name must be new
 abbrev pub check_new : ScopeParts → ℕ → List ℕ → Result (Unit {0}) TextFault
 check_new w at name = if is_some (meaning w name) then Err (DoubleName at) else Ok tt
 
--- a test or an action more, of which there may be 48
+-- declares a further test; there may be 48 tests. The same for actions
 abbrev pub declare_test : State → ℕ → List ℕ → Result State TextFault
 declare_test s at name =
     check_new s.world at name >>= λ u.
@@ -41,18 +41,18 @@ declare_action s at name =
     check_new s.world at name >>= λ u.
     if nat_lt 47 s.actions then Err (TooMany at) else Ok (record s { world = declared s.world name (Action s.actions); actions = s.actions + 1 })
 
--- `equal` may stand once
+-- `equal` may occur once
 abbrev pub begin_equal : State → ℕ → Result (Unit {0}) TextFault
 begin_equal s at = if is_some s.sides then Err (TwoGoals at) else Ok tt
 
--- two sides, each of which may have 100,000 nodes, in an item that begins at the place
+-- stores the two sides of an item that begins at the place; each may have 100,000 nodes
 abbrev pub ask : State → ℕ → GkatTree → GkatTree → Result State TextFault
 ask s at l r =
     if nat_lt 100000 (gkat_size l) then Err (TooLarge at)
     else if nat_lt 100000 (gkat_size r) then Err (TooLarge at)
     else Ok (record s { sides = Some (l, r) })
 
--- the file of a text in which `equal` stands
+-- the file of a text that has an `equal`
 abbrev pub file_with : State → Option (GkatTree × GkatTree) → Result GkatFileParts TextFault
 file_with s None = Err NoGoal
 file_with s (Some x) = Ok (record { scope = s.world; tests = s.tests; actions = s.actions; left = x.0; right = x.1 })

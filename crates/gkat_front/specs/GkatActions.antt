@@ -1,12 +1,12 @@
--- What is made of the parts of an expression while it is read.
+-- Actions on the parts of an expression, called while it is read.
 use Rattle.std.specs.Prelude.{ℕ, List, length, Result}
 use Rattle.text_tokens.specs.declared.fault.TextFault.{TextFault}
 use Rattle.text_grammar.specs.Lexemes.{Lexeme}
 use Rattle.text_grammar.specs.Parsed.{Parsed}
 use Rattle.text_grammar.proofs.Within.{Within}
 
--- C is what is made of a condition, P of a product so far, and V of an expression. A condition is read with so many
--- constructs open around it, and leaves fewer tokens. A name is told with its place and its text.
+-- C is the value of a condition, P of a product so far, and V of an expression. `cond` takes the number of open
+-- constructs around the condition, and consumes tokens. `name` takes the place and the text of the name.
 pub record GkatActions (C P V : Type 0) : Type 0 where
   pub cond : ℕ → List Lexeme → Parsed C
   pub shorter : (d : ℕ) (ts : List Lexeme) → Within (length ts) (cond d ts)

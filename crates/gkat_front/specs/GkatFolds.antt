@@ -1,4 +1,4 @@
--- What actions make of an expression, from left to right, or the first fault.
+-- The value of an expression under actions, computed from left to right, or the first fault.
 use Rattle.std.specs.Prelude.{ℕ, false, Result, Ok}
 use Rattle.kat_model.specs.Trees.{TestTree}
 use Rattle.kat_model.specs.Expressions.{test_without_comparisons}
@@ -16,20 +16,20 @@ use Rattle.gkat_front.specs.GkatActions.{GkatActions}
 use Rattle.gkat_front.specs.GkatMaking.{making_expr}
 use Rattle.gkat_front.specs.GkatPhrases.{Guard, GkatSymbol, expr, factors, GkatPhrase, one_product, two_products, one_factor, more_factors, once, repeated, zero_unit, one_unit, name_unit, guard_unit, round_unit}
 
--- what is made of a condition, with so many constructs open around it
+-- the value of a condition, from the number of open constructs around it
 abbrev pub CondFold : Type 0 → Type 0
 CondFold C = ℕ → Phrase cond → Result C TextFault
 
--- what is made: of factors, given how the first of them joins what was before it
+-- the value of a phrase; for factors, given how the first factor extends the product before it
 abbrev pub Folded : Type 0 → Type 0 → GkatSymbol → Type 0
 Folded P V factors = (V → P) → Result V TextFault
 Folded P V _ = Result V TextFault
 
--- of a condition in brackets
+-- the value of a condition in brackets
 abbrev pub fold_guard : {C : Type 0} → CondFold C → ℕ → Guard → Result C TextFault
 fold_guard t d b = enter d b.opening.at >>= λ e. t e b.inner
 
--- by the form of the phrase
+-- the value of a phrase, by its form
 abbrev pub fold_gkat : {C P V : Type 0} → GkatActions C P V → CondFold C → ℕ → {x : GkatSymbol} → GkatPhrase x → Folded P V x
 fold_gkat g t d (one_product p) = fold_gkat g t d p g.first
 fold_gkat g t d (two_products p plus b q) =

@@ -19,7 +19,7 @@ use Rattle.text_scopes.specs.Building.{cond_trees}
 use Rattle.gkat_terms.specs.Expressions.{GkatTree, test, act, choice, loop, gkat_product}
 use Rattle.gkat_front.specs.GkatActions.{GkatActions}
 
--- the condition at the front as a test, or the first fault of its names: it is measured before it is built
+-- the condition at the start as a test, measured before it is built, or the first fault of its names
 abbrev pub guard_at : ScopeParts → ℕ → List Lexeme → Parsed TestTree
 guard_at w d ts =
     parse_cond (cond_extents w) disjunction (context d false false) ts
@@ -32,7 +32,7 @@ guard_shorter w d ts = by_extent (parse_cond (cond_extents w) disjunction (conte
       (weaken (length ts + 0) (length ts) (parse_cond (cond_trees w) disjunction (context d false false) ts) (omega arith) (cond_read_short (cond_trees w) disjunction (context d false false) ts))
   by_extent (Err e) = tt
 
--- the expression that a name at a place stands for
+-- the expression that a name at a place denotes
 abbrev pub named_by : ℕ → Option Meaning → Result GkatTree TextFault
 named_by at None = Err (UnknownName at)
 named_by at (Some (Test k)) = Ok (test (prim k))

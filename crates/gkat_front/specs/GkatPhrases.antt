@@ -30,7 +30,7 @@ pub data GkatPhrase : GkatSymbol → Type 0 where
   guard_unit : (b : Guard) → GkatPhrase unit
   round_unit : (opening : Leaf) → (e : GkatPhrase expr) → (closing : Leaf) → GkatPhrase unit
 
--- ---- the tokens, and then those that follow
+-- ---- the tokens of a phrase, prepended to those that follow
 
 abbrev pub guard_onto : Guard → List Lexeme → List Lexeme
 guard_onto b ts = cons_token SquareOpen b.opening (yield_before b.inner (cons_token SquareClose b.closing ts))
@@ -48,7 +48,7 @@ gkat_onto (name_unit l) ts = cons_token Name l ts
 gkat_onto (guard_unit b) ts = guard_onto b ts
 gkat_onto (round_unit opening e closing) ts = cons_token RoundOpen opening (gkat_onto e (cons_token RoundClose closing ts))
 
--- ---- the rules on the token that follows a name or a parenthesis in a condition
+-- ---- the rules on the token after a name or a parenthesis in a condition
 
 abbrev pub GuardObeys : Guard → List Lexeme → Type 0
 GuardObeys b ts = MeetsLookahead b.inner (cons_token SquareClose b.closing ts)
@@ -64,7 +64,7 @@ GkatObeys (guard_unit b) ts = GuardObeys b ts
 GkatObeys (round_unit opening e closing) ts = GkatObeys e (cons_token RoundClose closing ts)
 GkatObeys _ ts = Unit {0}
 
--- ---- with so many constructs open around it nothing is too deep, and no number is too wide
+-- ---- with this number of open constructs around the phrase, nothing is too deep, and no number is too wide
 
 abbrev pub GuardFits : ℕ → Guard → Type 0
 GuardFits d b = (d < 200) × IsWithinLimits (d + 1) b.inner
@@ -80,7 +80,7 @@ GkatFits d (guard_unit b) = GuardFits d b
 GkatFits d (round_unit opening e closing) = (d < 200) × GkatFits (d + 1) e
 GkatFits d _ = Unit {0}
 
--- the tokens begin with a phrase of the symbol, and go on with the rest
+-- the tokens are a phrase of the symbol followed by the rest
 pub record IsGkatPhrase (x : GkatSymbol) (d : ℕ) (ts rest : List Lexeme) : Type 0 where
   pub phrase : GkatPhrase x
   pub spelled : ts ≡ gkat_onto phrase rest

@@ -1,4 +1,4 @@
--- The test of the syntax of expressions.
+-- The syntax test of expressions.
 use Rattle.std.specs.Prelude.{ℕ, ◌+◌, List, length, false, true, Ok}
 use Rattle.std.proofs.Common.{arith}
 use Rattle.text_grammar.specs.Lexemes.{Lexeme}
@@ -10,14 +10,14 @@ use Rattle.text_grammar.proofs.Within.{Within, weaken}
 use Rattle.text_grammar.proofs.CondSteps.{cond_read_short}
 use Rattle.gkat_front.specs.GkatActions.{GkatActions}
 
--- a condition, with so many constructs open around it
+-- reads a condition with this number of open constructs around it, without a value
 abbrev pub scanned_cond : ℕ → List Lexeme → Parsed (Unit {0})
 scanned_cond d ts = parse_cond scanning_conds disjunction (context d false true) ts
 
 pub scanned_shorter : (d : ℕ) (ts : List Lexeme) → Within (length ts) (scanned_cond d ts)
 scanned_shorter d ts = weaken (length ts + 0) (length ts) (scanned_cond d ts) (omega arith) (cond_read_short scanning_conds disjunction (context d false true) ts)
 
--- nothing is made, and no part is refused
+-- makes nothing and refuses no part
 abbrev pub scanning_expr : GkatActions (Unit {0}) (Unit {0}) (Unit {0})
 scanning_expr = record {
   cond = scanned_cond;

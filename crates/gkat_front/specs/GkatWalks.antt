@@ -1,4 +1,4 @@
--- Expressions, read from the front of the tokens.
+-- Reading expressions from the start of the tokens.
 use Rattle.std.specs.Prelude.{ℕ, zero, suc, List, [], ◌∷◌, length, drop, if◌then◌else◌, Ok, Err}
 use Rattle.text_tokens.specs.declared.fault.TextFault.TheVariants.{NoMemory, Syntax}
 use Rattle.text_grammar.specs.declared.terminal.Terminal.TheVariants.{RoundOpen, RoundClose, SquareOpen, SquareClose, Plus, Dot, Zero, One, Name, Separator}
@@ -8,12 +8,12 @@ use Rattle.text_grammar.specs.Parsed.{Parsed, ◌>>=◌, at_end, place_of, befor
 use Rattle.while_lang.specs.Blocks.{enter}
 use Rattle.gkat_front.specs.GkatActions.{GkatActions}
 
--- what is read: an expression, or the factors that follow a product so far
+-- what to read: an expression, or the factors that continue a product
 pub data GkatAim (P : Type 0) : Type 0 where
   whole : GkatAim P
   factors_after : (p : P) → GkatAim P
 
--- what reads an aim from the front of tokens, with so many constructs open around it
+-- reads what the aim says from the start of the tokens, with this number of open constructs around it
 abbrev pub GkatParser : Type 0 → Type 0 → Type 0
 GkatParser P V = GkatAim P → ℕ → List Lexeme → Parsed V
 
@@ -21,7 +21,7 @@ GkatParser P V = GkatAim P → ℕ → List Lexeme → Parsed V
 abbrev pub guard_by : {C P V : Type 0} → GkatActions C P V → ℕ → List Lexeme → Parsed C
 guard_by g d ts = wants (is_terminal SquareOpen) ts >>= λ a. enter d (place_of ts) >>= λ e. then_wants (is_terminal SquareClose) (g.cond e a)
 
--- the same as an expression
+-- the same, as an expression
 abbrev pub tested_by : {C P V : Type 0} → GkatActions C P V → ℕ → List Lexeme → Parsed V
 tested_by g d ts = change g.test (guard_by g d ts)
 
@@ -56,17 +56,17 @@ abbrev pub choice_by : {C P V : Type 0} → GkatActions C P V → GkatParser P V
 choice_by g f d v ts =
     if heads (is_terminal Plus) ts then (guard_by g d (drop 1 ts) >>= λ c. change (λ w. g.choice c.0 v w) (product_by g f d c.1)) else Ok (v, ts)
 
--- one step: each aim by aims on fewer tokens
+-- one step: reads an aim by reading aims on fewer tokens
 abbrev pub gkat_by : {C P V : Type 0} → GkatActions C P V → GkatParser P V → GkatParser P V
 gkat_by g f whole d ts = product_by g f d ts >>= λ x. choice_by g f d x.0 x.1
 gkat_by g f (factors_after p) d ts =
     if heads (is_terminal Dot) ts then (factor_by g f d (drop 1 ts) >>= λ x. f (factors_after (g.more p x.0)) d x.1) else Ok (g.product p, ts)
 
--- in so many steps
+-- reading with at most this number of steps
 unfoldable pub gkat_within : {C P V : Type 0} → GkatActions C P V → ℕ → GkatParser P V
 gkat_within g zero x d ts = Err NoMemory
 gkat_within g (suc n) x d ts = gkat_by g (gkat_within g n) x d ts
 
--- the expression at the front of the tokens, or its first fault; each step has fewer tokens
+-- reads the expression at the start of the tokens, or gives its first fault; each step has fewer tokens
 unfoldable pub parse_gkat : {C P V : Type 0} → GkatActions C P V → GkatParser P V
 parse_gkat g x d ts = gkat_within g (suc (length ts)) x d ts

@@ -1,4 +1,4 @@
--- The items of a text, read one after the other by any actions.
+-- Reading the items of a text one after the other, with any actions.
 use Rattle.std.specs.Prelude.{ℕ, List, [], ◌∷◌, Result, Ok, Err}
 use Rattle.text_tokens.specs.declared.fault.TextFault.{TextFault}
 use Rattle.text_tokens.specs.declared.fault.TextFault.TheVariants.{Syntax}
@@ -19,7 +19,7 @@ abbrev pub equal_by : {S V : Type 0} → FileActions S V → S → ℕ → List 
 equal_by g s at ts =
     g.begin_equal s at >>= λ u. then_wants (is_terminal (Separator Semicolon)) (sides_by g s ts) >>= λ x. before x.1 (g.ask s at (x.0).0 (x.0).1)
 
--- an item, by its keyword
+-- an item, selected by its keyword
 abbrev pub item_by : {S V : Type 0} → FileActions S V → S → List Lexeme → Parsed S
 item_by g s [] = Err (Syntax at_end)
 item_by g s (lexeme (Keyword word.Test) at text ∷ ts) = declaration_by g.declare_test s ts

@@ -1,4 +1,4 @@
--- The laws of texts. Each stands on a function of the crate that does nothing.
+-- The laws of texts. Each is the contract of a function that does nothing.
 use Rattle.std.specs.Prelude.{◌≡◌, ◌↔◌, ◌≤◌, ℕ, List, [], length, map, Ok}
 use Rattle.text_tokens.specs.declared.lexer.TheConstants.{MAX_LEN}
 use Rattle.text_tokens.specs.Lex.{Lexes}
@@ -15,23 +15,23 @@ use Rattle.gkat_front.specs.FileFolds.{made_by}
 use Rattle.gkat_front.specs.Making.{scan_file, walk}
 use Rattle.gkat_front.specs.Printing.{gkat_pieces, GkatIsNamed, gkat_nesting}
 
--- the test of the syntax takes the tokens exactly where they are items and nothing in them is too deep or too wide
+-- the syntax test accepts the tokens if and only if they spell items in which nothing is too deep or too wide
 abbrev pub TextsAreScanned : Type 0
 TextsAreScanned = (ts : List Lexeme) → (scan_file ts ≡ Ok tt) ↔ ((items : List Item) × AreSpelledBy items ts)
 
--- what is made of the tokens of items is what the items make
+-- the state after the tokens of items is the state after the items
 abbrev pub TextsAreMade : Type 0
 TextsAreMade = (items : List Item) → ItemsObey items → walk (spelled items) ≡ made_by start items
 
--- the text of the pieces has tokens, which are those of a side of `equal` with nothing after it, and its tree in the scope is
--- this one
+-- the tokens of the text of the pieces are those of one side of `equal` with nothing after it, and this side has the
+-- given tree in the scope
 pub record ReadsBack (w : ScopeParts) (ps : List Piece) (e : GkatTree) : Type 0 where
   pub lexes : Lexes (bytes_of ps) (parts_from 0 ps)
   pub phrase : IsGkatPhrase expr 0 (map lexeme_of (parts_from 0 ps)) []
   pub tree : gkat_of w phrase.phrase ≡ Ok e
 
--- what is printed with the one name of each number reads back to the same expression, where the text and its nesting are
--- within the limits
+-- text printed with the names of the scope reads back to the same expression, if its length and nesting are within the
+-- limits
 abbrev pub PrintedReadsBack : Type 0
 PrintedReadsBack =
     (w : ScopeParts) (names : Meaning → List ℕ) (e : GkatTree) → GkatIsNamed w names e →

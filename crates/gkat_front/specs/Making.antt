@@ -1,4 +1,4 @@
--- What each item of a text makes of what the items before it have made, and the test of their syntax.
+-- The effect of each item of a text on the state after the items before it, and the syntax test of items.
 use Rattle.std.specs.Prelude.{List, Result, Ok}
 use Rattle.text_tokens.specs.declared.fault.TextFault.{TextFault}
 use Rattle.text_grammar.specs.Lexemes.{Lexeme}
@@ -11,7 +11,7 @@ use Rattle.gkat_front.specs.FileActions.{FileActions}
 use Rattle.gkat_front.specs.Items.{items_by}
 use Rattle.gkat_front.specs.Files.{GkatFileParts, State, start, declare_test, declare_action, begin_equal, ask, file_of}
 
--- nothing is made, and no part is refused
+-- makes nothing and refuses no part
 abbrev pub scanning : FileActions (Unit {0}) (Unit {0})
 scanning = record {
   expr = λ s ts. parse_gkat scanning_expr whole 0 ts;
@@ -21,7 +21,7 @@ scanning = record {
   ask = λ s at l r. Ok tt;
 }
 
--- all tokens are items, or the first fault of their syntax
+-- succeeds if the tokens are items; otherwise gives the first syntax fault
 abbrev pub scan_file : List Lexeme → Result (Unit {0}) TextFault
 scan_file ts = items_by scanning tt ts
 
@@ -34,10 +34,10 @@ making = record {
   ask = ask;
 }
 
--- what all items have made, or the first fault of the first item that has one
+-- the state after all items, or the first fault of the first item that has one
 abbrev pub walk : List Lexeme → Result State TextFault
 walk ts = items_by making start ts
 
--- the tests of tokens one after the other: of their syntax, and then of their items
+-- tests the tokens: first their syntax, then their items
 abbrev pub tested : List Lexeme → Result GkatFileParts TextFault
 tested ts = scan_file ts >>= λ u. walk ts >>= file_of

@@ -1,4 +1,4 @@
--- Expressions as they are printed: their texts, and the pieces that spell them.
+-- Printed expressions: their texts, and the pieces that spell the texts.
 use Rattle.std.specs.Prelude.{◌+◌, max, ℕ, List, ◌∷◌, ◌++◌, codes, Bool, true, false, if◌then◌else◌}
 use Rattle.kat_model.specs.Trees.{TestTree, bottom, top}
 use Rattle.text_tokens.specs.Pieces.{Piece, word, number as numeral, symbol, gap}
@@ -13,7 +13,7 @@ abbrev pub is_loop : GkatTree → Bool
 is_loop (loop b e) = true
 is_loop _ = false
 
--- ---- texts, where each meaning has a name
+-- ---- texts, with a name for each meaning
 
 -- a test in brackets
 abbrev pub guard_text : (Meaning → List ℕ) → TestTree → List ℕ
@@ -29,7 +29,7 @@ gkat_text names (choice b e f) = codes "(" ++ gkat_text names e ++ codes " +" ++
 gkat_text names (loop b e) =
     if is_loop e then codes "(" ++ gkat_text names e ++ codes ")^" ++ guard_text names b else gkat_text names e ++ codes "^" ++ guard_text names b
 
--- ---- the same, piece by piece, and then the pieces that follow
+-- ---- the same as pieces, prepended to those that follow
 
 abbrev pub guard_pieces : (Meaning → List ℕ) → TestTree → List Piece → List Piece
 guard_pieces names b ps = symbol (codes "[") ∷ cond_pieces names (cond_of b) (symbol (codes "]") ∷ ps)
@@ -45,9 +45,9 @@ gkat_pieces names (choice b e f) ps =
 gkat_pieces names (loop b e) ps =
     if is_loop e then in_round (gkat_pieces names e) (symbol (codes "^") ∷ guard_pieces names b ps) else gkat_pieces names e (symbol (codes "^") ∷ guard_pieces names b ps)
 
--- ---- what reads back
+-- ---- conditions for reading back
 
--- each number of the expression has that name
+-- each test and action of the expression has the name that `names` gives it
 abbrev pub GkatIsNamed : ScopeParts → (Meaning → List ℕ) → GkatTree → Type 0
 GkatIsNamed w names (test b) = CondIsNamed w names (cond_of b)
 GkatIsNamed w names (act a) = IsNameOf w (names (Action a)) (Action a)
@@ -55,7 +55,7 @@ GkatIsNamed w names (product e f) = GkatIsNamed w names e × GkatIsNamed w names
 GkatIsNamed w names (choice b e f) = CondIsNamed w names (cond_of b) × GkatIsNamed w names e × GkatIsNamed w names f
 GkatIsNamed w names (loop b e) = CondIsNamed w names (cond_of b) × GkatIsNamed w names e
 
--- how many constructs are open at one place at most in the printed text of an expression
+-- the greatest number of constructs open at one place in the printed text of an expression
 abbrev pub gkat_nesting : GkatTree → ℕ
 gkat_nesting (test bottom) = 0
 gkat_nesting (test top) = 0

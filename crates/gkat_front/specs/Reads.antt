@@ -1,4 +1,4 @@
--- What is answered to bytes: the file that they say, or their first fault.
+-- The answer to bytes: the file that they denote, or their first fault.
 use Rattle.std.specs.Prelude.{◌≡◌, ◌⊎◌, ℕ, List, map, Result, Ok, Err}
 use Rattle.text_tokens.specs.declared.fault.TextFault.{TextFault}
 use Rattle.text_tokens.specs.declared.fault.TextFault.TheVariants.{NoMemory}
@@ -13,8 +13,8 @@ use Rattle.gkat_front.specs.FilePhrases.{Item, AreSpelledBy}
 use Rattle.gkat_front.specs.FileFolds.{file_made}
 use Rattle.gkat_front.specs.Making.{tested}
 
--- The bytes say this file: they are the tokens of items, nothing in them is too deep or too wide, and this is what the items
--- make.
+-- The bytes denote this file: their tokens spell items in which nothing is too deep or too wide, and these items make
+-- the file.
 pub record Reads (bytes : List ℕ) (f : GkatFileParts) : Type 0 where
   pub parts_of_tokens : List TokenParts
   pub lexes : Lexes bytes parts_of_tokens
@@ -22,11 +22,11 @@ pub record Reads (bytes : List ℕ) (f : GkatFileParts) : Type 0 where
   pub spells : AreSpelledBy items (map lexeme_of parts_of_tokens)
   pub file : file_made items ≡ Ok f
 
--- the first fault of the bytes, in the order of refusals
+-- the first fault of the bytes, in the order in which faults are reported
 abbrev pub FirstFault : List ℕ → TextFault → Type 0
 FirstFault bytes e = IsFirstFault tested bytes e
 
--- what is answered to bytes: the file that they say, or out of memory, or their first fault
+-- the answer to the bytes: the file that they denote, their first fault, or out of memory
 abbrev pub Answers : List ℕ → Result GkatFile TextFault → Type 0
 Answers bytes (Ok f) = Reads bytes (file_parts f)
 Answers bytes (Err e) = (e ≡ NoMemory) ⊎ FirstFault bytes e

@@ -1,9 +1,9 @@
-//! What a text of GKAT says.
+//! The contents of a text of GKAT.
 use gkat_terms::Gkat;
 use text_scopes::Scope;
 
-/// What a text of GKAT says: its names, how many tests and actions it declares, and the two expressions of which it asks
-/// whether they are equal.
+/// The contents of a text of GKAT: its names, the numbers of tests and actions that it declares, and the two
+/// expressions to compare.
 #[derive(Drop)]
 pub struct GkatFile {
     pub scope: Scope,

@@ -1,4 +1,4 @@
-//! What is done with the items of a text while they are read.
+//! Methods called on the items of a text while they are read.
 ghost use Rattle.std.specs.Prelude.{length, drop};
 ghost use Rattle.text_grammar.specs.Lexemes.{lexemes};
 ghost use Rattle.text_grammar.specs.Parsed.{Makes, Reads, Goes};
@@ -9,20 +9,20 @@ ghost use Rattle.gkat_front.specs.Working.Declarations.{declare_by};
 
 use text_tokens::{TextFault, Token};
 
-// What names may be declared for.
+// The kinds of declared names.
 #[derive(Clone, Copy, Debug, PartialEq, Eq)]
 pub(crate) enum Declared {
     Test,
     Action,
 }
 
-// What is done with the parts of an item while it is read: the methods are called for the parts in text order. A part that
-// is refused ends the reading with that fault. `at` is the place of the item's keyword.
+// What to do with the parts of an item while it is read. The methods are called for the parts in text order. A fault of
+// a method ends the reading. `at` is the place of the keyword of the item.
 //
-// Contracts see what the items so far have made as `state`, and the methods as `actions`. `memory` is what may be said
-// where a method answers `NoMemory`: `⊥` where none does.
+// Contracts see the effect of the items so far as `state`, and the methods as `actions`. `memory` is what a `NoMemory`
+// of a method implies: `⊥` if no method returns it.
 pub(crate) trait ItemReading {
-    // What is made of an expression.
+    // The value of an expression.
     type Expr: Drop;
 
     ghost S: { Type 0 };
@@ -37,21 +37,21 @@ pub(crate) trait ItemReading {
 
     ghost actions: { FileActions S V };
 
-    // The expression that begins at `from`, and the index after it, or its first fault.
+    // Reads the expression that begins at `from`. Returns its value and the index after it, or its first fault.
     fn read_expr(&self, toks: &[Token], from: usize) -> Result<(Self::Expr, usize), TextFault>
         ensures value { Reads memory expr (lexemes toks.now) result ((actions).expr (state self.now) (drop from (lexemes toks.now))) }
         ensures goes { Goes from (length toks.now) result };
 
-    // One name more is declared.
+    // Declares a name.
     fn declare(&mut self, what: Declared, name: &Token) -> Result<(), TextFault>
         requires { IsIdentifier name.now.text.now }
         ensures { Does memory result (state self.new) (declare_by actions what (state self.old) name.now.at name.now.text.now) };
 
-    // An item `equal` begins.
+    // Begins an item `equal`.
     fn begin_equal(&self, at: usize) -> Result<(), TextFault>
         ensures { Makes ⊥ (λ u. u) result ((actions).begin_equal (state self.now) at) };
 
-    // It asks whether two expressions are equal.
+    // Completes an item `equal` with its two sides.
     fn ask(&mut self, at: usize, left: Self::Expr, right: Self::Expr) -> Result<(), TextFault>
         ensures { Does memory result (state self.new) ((actions).ask (state self.old) at (expr left) (expr right)) };
 }

@@ -1,4 +1,4 @@
-//! The items of a text, gone through once for any reading.
+//! One traversal of the items of a text for all readings.
 ghost use Rattle.std.specs.Prelude.{◌≡◌, ◌+◌, ◌<◌, ◌≤◌, length, drop, IfOk};
 ghost use Rattle.text_grammar.specs.Lexemes.{lexemes};
 ghost use Rattle.text_grammar.specs.Parsed.{Reads, Goes};
@@ -13,7 +13,7 @@ use problem_file::name_at;
 use text_grammar::{Keyword, Separator, Terminal, expect, is_at, syntax_fault_at, terminal_at};
 use text_tokens::{TextFault, Token};
 
-// Declares the name at an index, and gives the index after it.
+// Declares the name at an index, and returns the index after it.
 #[tactic(auto, using(text_grammar::proofs::Tokens::next_drop))]
 fn read_name<R: ItemReading>(
     reading: &mut R,
@@ -30,7 +30,7 @@ fn read_name<R: ItemReading>(
     Ok(from + 1)
 }
 
-// Declares names with commas between.
+// Declares names separated by commas.
 #[tactic(auto, using(text_grammar::proofs::Tokens::next_drop))]
 fn read_names<R: ItemReading>(
     reading: &mut R,
@@ -66,7 +66,7 @@ fn read_declaration<R: ItemReading>(
     expect(toks, end, Terminal::Separator(Separator::Semicolon))
 }
 
-// Two expressions with a comma between.
+// Reads two expressions separated by a comma.
 fn read_sides<R: ItemReading>(
     reading: &R,
     toks: &[Token],
@@ -122,7 +122,7 @@ fn read_item<R: ItemReading>(
     }
 }
 
-// Reads all items, or up to the first that has a fault. A `Syntax` after the last token has the place `usize::MAX`.
+// Reads all items, up to the first fault. A `Syntax` after the last token has the place `usize::MAX`.
 pub(crate) fn read_items<R: ItemReading>(reading: &mut R, toks: &[Token]) -> Result<(), TextFault>
     requires tokens { AreTokens toks.now }
     ensures { Does R.memory result (R.state reading.new) (items_by R.actions (R.state reading.old) (lexemes toks.now)) }

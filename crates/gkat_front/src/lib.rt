@@ -1,4 +1,4 @@
-//! Guarded Kleene algebra with tests (Smolka et al. 2020): its texts, and the terms that its expressions stand for.
+//! Guarded Kleene algebra with tests (Smolka et al. 2020): its texts, and the terms that its expressions denote.
 #![tactic(auto)]
 
 mod file;

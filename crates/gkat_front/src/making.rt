@@ -1,4 +1,4 @@
-//! What the items of a text make.
+//! Builds the expressions of a text.
 ghost use Rattle.std.specs.Prelude.{◌≡◌};
 ghost use Rattle.text_grammar.specs.Parsed.{Makes};
 ghost use Rattle.kat_model.specs.Trees.{test_tree};
@@ -12,7 +12,7 @@ use std::alloc::Global;
 use text_scopes::{Meaning, Scope, build_cond, measure_cond};
 use text_tokens::{TextFault, Token};
 
-// Makes the tree of an expression, with the names of the scope.
+// Builds the tree of an expression, with the names of the scope.
 #[derive(Clone, Copy)]
 pub(crate) struct MakeExpr<'a> {
     pub(crate) alloc: Global,

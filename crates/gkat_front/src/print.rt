@@ -1,4 +1,4 @@
-//! Expressions as text.
+//! Prints expressions.
 ghost use Rattle.std.specs.Prelude.{◌≡◌, [], ◌++◌, codes, OnOk, IfOk};
 ghost use Rattle.kat_model.specs.Trees.{test_tree};
 ghost use Rattle.text_tokens.specs.Pieces.{spelled};
@@ -12,7 +12,7 @@ use std::alloc::Global;
 use text_print::{put_name, put_test};
 use text_scopes::{Meaning, Scope};
 
-// The test in brackets.
+// Appends the test in brackets.
 fn put_guard(out: &mut Vec<u8>, guard: &Test, scope: &Scope) -> Result<(), NoMemory>
     ensures { OnOk result (out.new.items ≡ out.old.items ++ guard_text (name_of scope.now) (test_tree guard.now)) }
 {
@@ -22,7 +22,7 @@ fn put_guard(out: &mut Vec<u8>, guard: &Test, scope: &Scope) -> Result<(), NoMem
     Ok(())
 }
 
-// The test as an expression: `0`, `1`, its name, or its condition in brackets.
+// Appends the test as an expression: `0`, `1`, its name, or its condition in brackets.
 fn put_tested(out: &mut Vec<u8>, guard: &Test, scope: &Scope) -> Result<(), NoMemory>
     ensures { OnOk result (out.new.items ≡ out.old.items ++ gkat_text (name_of scope.now) (test (test_tree guard.now))) }
 {
@@ -34,7 +34,7 @@ fn put_tested(out: &mut Vec<u8>, guard: &Test, scope: &Scope) -> Result<(), NoMe
     }
 }
 
-// What is written after the operand of a loop.
+// Appends what follows the operand of a loop.
 fn put_turns(out: &mut Vec<u8>, guard: &Test, scope: &Scope) -> Result<(), NoMemory>
     ensures { OnOk result (out.new.items ≡ out.old.items ++ (codes "^" ++ guard_text (name_of scope.now) (test_tree guard.now))) }
 {
@@ -85,9 +85,9 @@ fn put_gkat(out: &mut Vec<u8>, expr: &Gkat, scope: &Scope) -> Result<(), NoMemor
     Ok(())
 }
 
-/// The text of an expression, with the names of the scope: `0`, `1`, a name, `[c]` for another test, `(x.y)`, `(x +[c] y)`,
-/// and `x^[c]` with a loop in parentheses under a loop. A number that no name of the scope stands for is left out. It fails
-/// only when out of memory.
+/// Returns the text of an expression, with the names of the scope: `0`, `1`, a name, `[c]` for other tests, `(x.y)`,
+/// `(x +[c] y)`, and `x^[c]`, with parentheses around `x` if it is a loop. Omits a test or action that has no name in
+/// the scope. Fails only when out of memory.
 #[tactic(auto, using(crate::proofs::GkatPieces::gkat_printed))]
 pub fn print_gkat(alloc: Global, expr: &Gkat, scope: &Scope) -> Result<Vec<u8>, NoMemory>
     ensures { IfOk result (λ v. v.items ≡ spelled (gkat_pieces (name_of scope.now) (gkat_tree expr.now) [])) }

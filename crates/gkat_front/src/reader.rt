@@ -1,4 +1,4 @@
-//! What the items of a text so far have made.
+//! The state after the items of a text so far.
 ghost use Rattle.problem_file.specs.Working.Numbers.{AreNumbered};
 
 use crate::file::GkatFile;
@@ -11,7 +11,7 @@ use std::alloc::Global;
 use text_scopes::{Meaning, Scope};
 use text_tokens::{TextFault, Token};
 
-// Reads items whose syntax was tested.
+// Reads items that passed the syntax test.
 #[derive(Drop)]
 pub(crate) struct GkatReader {
     alloc: Global,
@@ -43,7 +43,7 @@ impl GkatReader {
         }
     }
 
-    // That a name is not declared yet.
+    // Checks that a name is not declared yet.
     fn check_new(&self, name: &Token) -> Result<(), TextFault>
         ensures { result ≡ check_new self.now.scope name.now.at name.now.text.now }
     {
@@ -81,7 +81,7 @@ impl GkatReader {
         Ok(())
     }
 
-    // What the text says, once all items are read.
+    // Returns the contents of the text, once all items are read.
     pub(crate) fn file(self) -> Result<GkatFile, TextFault>
         ensures { Makes ⊥ file_parts result (file_of (state_of self)) }
     {
@@ -147,7 +147,8 @@ impl ItemReading for GkatReader {
         }
     }
 
-    // A tree has at most two nodes for each token of its text, since no name stands for one, so it is counted once it is made.
+    // A tree has at most two nodes for each token of its text, since a name denotes a single test or action. It is
+    // therefore counted after it is built.
     fn ask(&mut self, at: usize, left: Gkat, right: Gkat) -> Result<(), TextFault> {
         if left.size() > MAX_TERM_NODES || right.size() > MAX_TERM_NODES {
             return Err(TextFault::TooLarge(at));

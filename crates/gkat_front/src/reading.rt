@@ -1,4 +1,4 @@
-//! The text of GKAT, read.
+//! Reads a text of GKAT.
 ghost use Rattle.std.specs.Prelude.{◌≡◌, ◌≤◌, length, IfErr};
 ghost use Rattle.text_tokens.specs.declared.fault.TextFault.TheVariants.{NoMemory as NoRoom};
 ghost use Rattle.text_tokens.specs.declared.lexer.TheConstants.{MAX_LEN as MOST};
@@ -28,7 +28,7 @@ fn walk(alloc: Global, toks: &[Token]) -> Result<GkatReader, TextFault>
     Ok(reader)
 }
 
-// The file, or the first fault of the tokens.
+// Returns the file, or the first fault of the tokens.
 fn test(alloc: Global, toks: &[Token]) -> Result<GkatFile, TextFault>
     requires tokens { AreTokens toks.now }
     ensures { Makes (Unit {0}) file_parts result (tested (lexemes toks.now)) }
@@ -48,16 +48,16 @@ fn read_text(alloc: Global, text: &str) -> Result<GkatFile, TextFault>
     }
 }
 
-/// What the text of GKAT says. A text that says nothing is refused for its first fault, in this order: `TooLong` past
-/// 1,048,576 bytes; `NotUtf8`; `BadToken`; the first in text order of `Syntax`, of `TooDeep` where more than 200 constructs
-/// are open, and of `NumberTooWide` from 2^64 on; the first fault of the first item that has one (at its keyword `TwoGoals`
-/// for a second `equal`; at its tokens `DoubleName`, `TooMany`, `UnknownName`, `Sort`; and last, at its keyword, `TooLarge`
-/// where a side has more than 100,000 nodes); `NoGoal` where no item is an `equal`.
+/// Returns the contents of a text of GKAT. Otherwise fails with the first fault, in this order: `TooLong` for more than
+/// 1,048,576 bytes; `NotUtf8`; `BadToken`; the first in text order of `Syntax`, of `TooDeep` if more than 200
+/// constructs are open, and of `NumberTooWide` for 2^64 or more; the first fault of the first item that has one (at its
+/// keyword `TwoGoals` for a second `equal`; at its tokens `DoubleName`, `TooMany`, `UnknownName`, `Sort`; and last, at
+/// its keyword, `TooLarge` if a side has more than 100,000 nodes); `NoGoal` if no item is an `equal`.
 pub fn read_gkat(alloc: Global, bytes: &[u8]) -> Result<GkatFile, TextFault>
-    // The file is what the bytes say; a refusal is `NoMemory` or the first fault of the bytes.
+    // The file is the one that the bytes denote; a failure is `NoMemory` or the first fault of the bytes.
     ensures answers { Answers bytes.now result }
 
-    // Bytes that say something fail only when out of memory.
+    // Bytes that denote a file fail only when out of memory.
     ensures only { (f : GkatFileParts) → Reads bytes.now f → IfErr result (λ e. e ≡ NoRoom) }
 {
     let text = text_of(bytes)?;

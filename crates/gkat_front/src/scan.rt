@@ -1,4 +1,4 @@
-//! The test of the syntax of texts, which takes no memory.
+//! The syntax test of texts, which allocates nothing.
 ghost use Rattle.std.specs.Prelude.{◌≡◌};
 ghost use Rattle.text_grammar.specs.Lexemes.{lexemes};
 ghost use Rattle.problem_file.specs.Tokens.{AreTokens};
@@ -12,7 +12,7 @@ use crate::walk::read_expr;
 use text_grammar::{Context, Scan};
 use text_tokens::{TextFault, Token};
 
-// Makes nothing of an expression, and refuses no part.
+// Makes nothing of an expression and refuses no part.
 struct ExprScan;
 
 impl GkatReading for ExprScan {
@@ -114,8 +114,8 @@ impl ItemReading for FileScan {
     }
 }
 
-/// Whether the tokens are items, or the first of `Syntax`, `TooDeep` and `NumberTooWide` in text order. A `Syntax` after the
-/// last token has the place `usize::MAX`.
+/// Checks that the tokens are items. Otherwise fails with the first of `Syntax`, `TooDeep` and `NumberTooWide` in text
+/// order. A `Syntax` after the last token has the place `usize::MAX`.
 pub(crate) fn test_syntax(toks: &[Token]) -> Result<(), TextFault>
     requires tokens { AreTokens toks.now }
     ensures { result ≡ scan_file (lexemes toks.now) }

@@ -1,4 +1,4 @@
-//! Expressions, gone through once for any reading.
+//! One traversal of expressions for all readings.
 ghost use Rattle.std.specs.Prelude.{◌≡◌, length, drop};
 ghost use Rattle.text_grammar.specs.Lexemes.{lexemes};
 ghost use Rattle.text_grammar.specs.Parsed.{Reads, Goes};
@@ -11,7 +11,7 @@ use text_grammar::{
 use text_tokens::{TextFault, Token};
 use while_lang::enter;
 
-// A condition in brackets.
+// Reads a condition in brackets.
 fn guard<R: GkatReading>(
     reading: &R,
     toks: &[Token],
@@ -28,7 +28,7 @@ fn guard<R: GkatReading>(
     Ok((cond, end))
 }
 
-// A test in brackets.
+// Reads a condition in brackets as an expression.
 fn tested<R: GkatReading>(
     reading: &R,
     toks: &[Token],
@@ -42,7 +42,7 @@ fn tested<R: GkatReading>(
     Ok((reading.tested(cond), end))
 }
 
-// An expression in parentheses.
+// Reads an expression in parentheses.
 #[cycle(exprs)]
 #[tactic(auto, using(text_grammar::proofs::Tokens::next_drop))]
 fn round<R: GkatReading>(
@@ -85,7 +85,7 @@ fn unit<R: GkatReading>(
     }
 }
 
-// A unit, or a loop over one.
+// Reads a unit, or a loop over a unit.
 #[cycle(exprs)]
 #[tactic(auto, using(text_grammar::proofs::Tokens::next_drop))]
 fn factor<R: GkatReading>(
@@ -105,7 +105,7 @@ fn factor<R: GkatReading>(
     Ok((reading.repeat(cond, body)?, end))
 }
 
-// Factors with dots between.
+// Reads factors separated by dots.
 #[cycle(exprs)]
 #[tactic(auto, using(crate::proofs::GkatSteps::gkat_step, text_grammar::proofs::Tokens::next_drop))]
 fn product<R: GkatReading>(
@@ -128,9 +128,9 @@ fn product<R: GkatReading>(
     Ok((reading.product(list)?, at))
 }
 
-// Reads the expression that begins at `from`, with `depth` constructs open around it: what the reading makes of it, and the
-// index after it. Otherwise the fault that comes first in the text: `Syntax` at the token that cannot stand there (the place
-// `usize::MAX` after the last token), `TooDeep` at the token with which more than 200 constructs are open, or that with which
+// Reads the expression that begins at `from`, with `depth` open constructs around it. Returns its value and the index
+// after it. Otherwise returns the first fault in the text: `Syntax` at the token that cannot occur there (the place
+// `usize::MAX` after the last token), `TooDeep` at the token that exceeds 200 open constructs, or the fault with which
 // the reading refuses a part.
 #[cycle(exprs)]
 #[tactic(auto, using(crate::proofs::GkatSteps::gkat_step, text_grammar::proofs::Tokens::next_drop))]

@@ -1,4 +1,4 @@
--- A term is guarded exactly where its form says so.
+-- A term is guarded exactly when `is_guarded` accepts it.
 use Rattle.std.proofs.Common.{◌≡◌, ◌↔◌, ◌∙◌, Bool, true, IsTrue, refl, sym, ap}
 use Rattle.std.proofs.lemmas.Bool.{false≢true, and_parts, and_from}
 use Rattle.kat_model.specs.Trees.{TestTree, complement, Term, zero, one, test, act, sum, product, star}

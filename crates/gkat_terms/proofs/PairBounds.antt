@@ -15,7 +15,7 @@ acts_within (sum e f) = omega (arith, acts_within e, acts_within f)
 acts_within (product e f) = omega (arith, acts_within e, acts_within f)
 acts_within (star e) = omega (arith, acts_within e)
 
--- what is counted of the actions of a side is their number
+-- the count of the actions of a side is exact
 pub record IsCounted (n : ℕ) (e : Term) : Type 0 where
   pub whole : n ≡ acts e
   pub small : n ≤ 100000

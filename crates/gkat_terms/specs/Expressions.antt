@@ -1,5 +1,5 @@
--- Expressions of guarded Kleene algebra with tests (Smolka et al. 2020) as trees, without the boxes of the program, and the
--- terms that they stand for.
+-- Expressions of guarded Kleene algebra with tests (Smolka et al. 2020) as trees, without the boxes of the program, and
+-- their terms.
 use Rattle.std.specs.Prelude.{ℕ, ◌+◌, List}
 use Rattle.kat_model.specs.Trees.{TestTree, top, test_tree, test_size, Term, test as test_term, act as act_term, product as product_term}
 use Rattle.kat_model.specs.Balanced.{balanced}
@@ -7,7 +7,7 @@ use Rattle.while_lang.specs.Encoding.{branch_term, loop_term}
 use Rattle.gkat_terms.specs.declared.gkat.Gkat.{Gkat}
 use Rattle.gkat_terms.specs.declared.gkat.Gkat.TheVariants.{Test, Act, Seq', Choice', Loop'}
 
--- an expression, over primitive actions by their numbers
+-- an expression over primitive actions, which are numbers
 pub data GkatTree : Type 0 where
   test : (b : TestTree) → GkatTree
   act : (a : ℕ) → GkatTree
@@ -23,7 +23,7 @@ gkat_tree (Seq' p e q f) = product (gkat_tree e) (gkat_tree f)
 gkat_tree (Choice' b p e q f) = choice (test_tree b) (gkat_tree e) (gkat_tree f)
 gkat_tree (Loop' b p e) = loop (test_tree b) (gkat_tree e)
 
--- the number of nodes, those of tests among them
+-- the number of nodes, including those of tests
 abbrev pub gkat_size : GkatTree → ℕ
 gkat_size (test b) = test_size b + 1
 gkat_size (act a) = 1
@@ -35,7 +35,7 @@ gkat_size (loop b e) = test_size b + gkat_size e + 1
 abbrev pub gkat_product : List GkatTree → GkatTree
 gkat_product = balanced (test top) product
 
--- the term of an expression: a choice is that of an `if`, and a loop that of a `while`
+-- the term of an expression: the term of a choice is that of an `if`, and the term of a loop is that of a `while`
 abbrev pub kat_of : GkatTree → Term
 kat_of (test b) = test_term b
 kat_of (act a) = act_term a

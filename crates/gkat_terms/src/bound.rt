@@ -1,4 +1,4 @@
-//! How many pairs show that guarded terms are the same.
+//! A bound on the number of pairs that prove guarded terms equal.
 ghost use Rattle.std.specs.Prelude.{◌≡◌, ◌+◌, ◌*◌, []};
 ghost use Rattle.std.specs.Option.{SomeIff};
 ghost use Rattle.kat_model.specs.Trees.{acts};
@@ -7,8 +7,8 @@ ghost use Rattle.kat_model.specs.Guarded.{IsGuarded};
 use crate::guards::guarded;
 use kat_model::Problem;
 
-/// How many pairs a certificate of the problem has at most, where both sides are guarded and there are no hypotheses. There
-/// is no such number exactly where there is a hypothesis or a side is not guarded. It takes no memory.
+/// Returns an upper bound on the number of pairs in a certificate of the problem, if both sides are guarded and there
+/// are no hypotheses, and `None` otherwise. Allocates no memory.
 pub fn pair_bound(problem: &Problem) -> Option<u64>
     ensures { SomeIff result
         ((problem.now.hyps ≡ []) × IsGuarded problem.now.left × IsGuarded problem.now.right)

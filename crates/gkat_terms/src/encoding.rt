@@ -8,8 +8,8 @@ use kat_model::{Kat, NoMemory};
 use std::alloc::Global;
 use while_lang::{branch_term, loop_term};
 
-/// The term of an expression: a test or an action is itself, a product a product, a choice `b.e + !b.f` and a loop
-/// `(b.e)*.!b`. It fails only when out of memory.
+/// Builds the term of an expression: a test or an action is itself, a product is a product, a choice is `b.e + !b.f`
+/// and a loop is `(b.e)*.!b`. Fails only when out of memory.
 pub fn kat_of(alloc: Global, expr: &Gkat) -> Result<Kat, NoMemory>
     ensures { IfOk result (λ e. kat_tree e ≡ kat_of (gkat_tree expr.now)) }
 {

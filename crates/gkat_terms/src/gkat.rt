@@ -7,21 +7,21 @@ ghost use Rattle.gkat_terms.specs.Expressions.{product, choice, loop, gkat_tree,
 use kat_model::{NoMemory, Test};
 use std::alloc::Global;
 
-/// An expression of guarded Kleene algebra with tests over primitive tests and actions, which are numbered from 0 (Smolka et
-/// al., *Guarded Kleene algebra with tests*, 2020).
+/// An expression of guarded Kleene algebra with tests over primitive tests and actions, which are numbered from 0
+/// (Smolka et al., *Guarded Kleene algebra with tests*, 2020).
 #[derive(Drop)]
 pub enum Gkat {
     Test(Test),
     Act(usize),
     Seq(Box<Gkat>, Box<Gkat>),
-    /// The first expression where the test holds, and otherwise the second.
+    /// The first expression if the test holds, and otherwise the second.
     Choice(Test, Box<Gkat>, Box<Gkat>),
-    /// The expression again and again, as long as the test holds.
+    /// The expression repeated as long as the test holds.
     Loop(Test, Box<Gkat>),
 }
 
 impl Gkat {
-    /// `Seq` over two expressions. It fails only when out of memory, and the parts are dropped then.
+    /// Builds `Seq` of two expressions. Fails only when out of memory; the parts are then dropped.
     pub fn new_seq(alloc: Global, first: Gkat, second: Gkat) -> Result<Self, NoMemory>
         ensures { IfOk result (λ e. gkat_tree e ≡ product (gkat_tree first) (gkat_tree second)) }
     {
@@ -30,7 +30,7 @@ impl Gkat {
         Ok(Gkat::Seq(first, second))
     }
 
-    /// `Choice` over a test and two expressions. It fails only when out of memory, and the parts are dropped then.
+    /// Builds `Choice` of a test and two expressions. Fails only when out of memory; the parts are then dropped.
     pub fn new_choice(
         alloc: Global,
         guard: Test,
@@ -44,14 +44,14 @@ impl Gkat {
         Ok(Gkat::Choice(guard, first, second))
     }
 
-    /// `Loop` over a test and an expression. It fails only when out of memory, and the parts are dropped then.
+    /// Builds `Loop` of a test and an expression. Fails only when out of memory; the parts are then dropped.
     pub fn new_loop(alloc: Global, guard: Test, body: Gkat) -> Result<Self, NoMemory>
         ensures { IfOk result (λ e. gkat_tree e ≡ loop (test_tree guard) (gkat_tree body)) }
     {
         Ok(Gkat::Loop(guard, Box::new(alloc, body)?))
     }
 
-    /// The number of nodes, those of tests among them, which stops at `u64::MAX`.
+    /// Returns the number of nodes, including those of tests, or `u64::MAX` if it is larger.
     pub fn size(&self) -> u64
         ensures { result ≡ counted (gkat_size (gkat_tree self.now)) }
     {

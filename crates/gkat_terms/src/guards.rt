@@ -1,4 +1,4 @@
-//! Which terms are guarded.
+//! The check whether a term is guarded.
 ghost use Rattle.std.specs.Prelude.{◌≡◌, ◌↔◌, IsTrue};
 ghost use Rattle.kat_model.specs.Trees.{test_tree, kat_tree, sum, product, star};
 ghost use Rattle.kat_model.specs.Pairs.{same_test};
@@ -20,7 +20,7 @@ fn same_test(left: &Test, right: &Test) -> bool
     }
 }
 
-// Whether they are a test and its complement.
+// Whether the terms are a test and its complement.
 fn are_opposite(left: &Kat, right: &Kat) -> bool
     ensures { result ≡ are_opposite (kat_tree left.now) (kat_tree right.now) }
 {
@@ -30,7 +30,7 @@ fn are_opposite(left: &Kat, right: &Kat) -> bool
     }
 }
 
-// Whether the sum of the two is guarded: one test decides which is taken.
+// Whether the sum of the two terms is guarded: a test decides between them.
 #[cycle(guards)]
 fn is_choice(left: &Kat, right: &Kat) -> bool
     ensures { result ≡ is_guarded (sum (kat_tree left.now) (kat_tree right.now)) }
@@ -41,7 +41,7 @@ fn is_choice(left: &Kat, right: &Kat) -> bool
     }
 }
 
-// Whether turns and what follows them are a guarded loop: one test decides whether there is a further turn.
+// Whether the star of `turn` followed by `end` is a guarded loop: a test decides whether there is another turn.
 #[cycle(guards)]
 fn is_loop(turn: &Kat, end: &Kat) -> bool
     ensures { result ≡ is_guarded (product (star (kat_tree turn.now)) (kat_tree end.now)) }
@@ -74,7 +74,7 @@ fn is_product(first: &Kat, second: &Kat) -> bool
     }
 }
 
-/// Whether the term is guarded, as the terms of GKAT's expressions are (Smolka et al. 2020). It takes no memory.
+/// Whether the term is guarded, as the terms of GKAT expressions are (Smolka et al. 2020). Allocates no memory.
 pub fn guarded(term: &Kat) -> bool
     ensures { IsTrue result ↔ IsGuarded (kat_tree term.now) }
 {

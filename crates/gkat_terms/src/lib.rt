@@ -1,5 +1,5 @@
-//! Guarded Kleene algebra with tests (Smolka et al. 2020): its expressions, the terms that they stand for, and which terms are
-//! of such a form.
+//! Guarded Kleene algebra with tests (Smolka et al. 2020): its expressions, their terms, and the check whether a term
+//! is guarded.
 #![tactic(auto)]
 
 mod bound;

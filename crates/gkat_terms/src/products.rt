@@ -6,7 +6,7 @@ use crate::gkat::Gkat;
 use kat_model::{NoMemory, Test};
 use std::alloc::Global;
 
-// The product of the last members of a list, which are taken from it.
+// Builds the product of the last members of a list, and removes them from the list.
 fn product_of_last(alloc: Global, list: &mut Vec<Gkat>, count: usize) -> Result<Gkat, NoMemory>
     requires { count ≤ vec_len list.old }
     ensures left { IfOk result (λ _. list.new.items ≡ take (vec_len list.old - count) list.old.items) }
@@ -26,9 +26,9 @@ fn product_of_last(alloc: Global, list: &mut Vec<Gkat>, count: usize) -> Result<
     Gkat::new_seq(alloc, first, second)
 }
 
-/// The balanced product of expressions in order: the test 1 of none, the expression itself of one, and otherwise the product
-/// of the tree of the first half, rounded down, and that of the rest. It fails only when out of memory, and the expressions
-/// are dropped then.
+/// Builds the balanced product of expressions in order: the test 1 for none, the expression itself for one, and
+/// otherwise the product of the tree of the first half, rounded down, and that of the rest. Fails only when out of
+/// memory; the expressions are then dropped.
 pub fn gkat_product(alloc: Global, mut list: Vec<Gkat>) -> Result<Gkat, NoMemory>
     ensures { IfOk result (λ e. gkat_tree e ≡ gkat_product (map gkat_tree list.items)) }
 {

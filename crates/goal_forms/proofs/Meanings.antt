@@ -1,4 +1,4 @@
--- What the sides of goals mean.
+-- The meaning of the sides of goals.
 use Rattle.std.proofs.Common.{◌≡◌, ℕ, ◌<◌, ◌↔◌, ◌⊎◌, inl, inr, ⊎_elim, Bool, true, false, not, refl, sym, subst}
 use Rattle.std.specs.Bool.{IsTrue}
 use Rattle.kat_model.specs.Trees.{TestTree, complement, Term}

@@ -10,11 +10,11 @@ pub record SideTrees : Type 0 where
 abbrev pub side_trees : Sides → SideTrees
 side_trees s = record { left = kat_tree s.left; right = kat_tree s.right }
 
--- small is below large where nothing is added to large by small
+-- small is below large if small adds nothing to large
 abbrev pub below_sides : Term → Term → SideTrees
 below_sides small large = record { left = sum small large; right = large }
 
--- the runs that break a triple: those of the body that begin in pre and end outside post
+-- the runs that break a triple: the runs of the body that begin in pre and end outside post
 abbrev pub failing_run : TestTree → Term → TestTree → Term
 failing_run pre body post = product (test pre) (product body (test (complement post)))
 

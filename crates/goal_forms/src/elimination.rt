@@ -7,8 +7,7 @@ ghost use Rattle.goal_forms.specs.ClosedTrees.{closed_trees};
 use kat_model::{Kat, NoMemory, Problem, sum_of};
 use std::alloc::Global;
 
-/// The terms that are compared in place of the sides of a problem, and the universal term where there are
-/// hypotheses.
+/// The terms that are compared in place of the sides of a problem, and the universal term if there are hypotheses.
 #[derive(Drop)]
 pub struct Closed {
     pub left: Kat,
@@ -16,7 +15,7 @@ pub struct Closed {
     pub universal: Option<Kat>,
 }
 
-// The actions below the count, in order.
+// Returns the actions below the count, in order.
 fn actions(alloc: Global, count: usize) -> Result<Vec<Kat>, NoMemory>
     ensures { IfOk result (λ v. map kat_tree v.items ≡ actions_below count) }
 {
@@ -27,7 +26,7 @@ fn actions(alloc: Global, count: usize) -> Result<Vec<Kat>, NoMemory>
     Ok(list)
 }
 
-// The term that accepts every string over the actions below the count.
+// Returns the term that accepts every string over the actions below the count.
 fn universal(alloc: Global, count: usize) -> Result<Kat, NoMemory>
     ensures { IfOk result (λ e. kat_tree e ≡ universal_of count) }
 {
@@ -46,7 +45,7 @@ fn copies(alloc: Global, terms: &[Kat]) -> Result<Vec<Kat>, NoMemory>
     Ok(list)
 }
 
-// Anything, then the term, then anything.
+// Returns the product of `anything`, the term and `anything`.
 fn surround(alloc: Global, anything: &Kat, term: Kat) -> Result<Kat, NoMemory>
     ensures { IfOk result (λ e. kat_tree e ≡ inside (kat_tree anything.now) (kat_tree term)) }
 {
@@ -56,10 +55,10 @@ fn surround(alloc: Global, anything: &Kat, term: Kat) -> Result<Kat, NoMemory>
     Kat::new_seq(alloc, before, end)
 }
 
-/// The closed terms of a problem (elimination of hypotheses `e = 0`: Cohen 1994; Kozen and Smith 1996).
-/// Without hypotheses they are both sides, and there is no universal term. Otherwise let `u` be the star of
-/// the sum of all actions in order and `h` the sum of the hypotheses; each side `e` becomes `e + u.(h.u)`,
-/// and `u` is the universal term. Fails only when out of memory.
+/// Returns the closed terms of a problem (elimination of hypotheses `e = 0`: Cohen 1994; Kozen and Smith 1996). Without
+/// hypotheses they are both sides, and there is no universal term. Otherwise let `u` be the star of the sum of all
+/// actions in order and `h` the sum of the hypotheses; each side `e` becomes `e + u.(h.u)`, and `u` is the universal
+/// term. Fails only when out of memory.
 pub fn eliminate(alloc: Global, problem: &Problem) -> Result<Closed, NoMemory>
     ensures { IfOk result (λ c. closed_trees c ≡ closed problem.now) }
 {

@@ -13,9 +13,8 @@ pub struct Sides {
     pub right: Kat,
 }
 
-/// The sides of the goal that `small` relates only what `large` does: `small + large` and `large` (Kozen
-/// 1997). It fails only when out of memory, and the
-/// terms are dropped then.
+/// Returns the sides of the goal that `small` relates only what `large` relates: `small + large` and `large` (Kozen
+/// 1997). Fails only when out of memory; the terms are dropped then.
 pub fn below(alloc: Global, small: Kat, large: Kat) -> Result<Sides, NoMemory>
     ensures { IfOk result (λ s. side_trees s ≡ below_sides (kat_tree small) (kat_tree large)) }
 {
@@ -24,9 +23,9 @@ pub fn below(alloc: Global, small: Kat, large: Kat) -> Result<Sides, NoMemory>
     Ok(Sides { left, right })
 }
 
-/// The runs that break the Hoare triple of `pre`, `body` and `post`, those of the body that begin in `pre`
-/// and end outside `post`: `pre.body.!post`. The triple holds where it is 0 (partial correctness; Kozen
-/// 2000). It fails only when out of memory, and the trees are dropped then.
+/// Returns the runs that break the Hoare triple of `pre`, `body` and `post`, the runs of the body that begin in `pre`
+/// and end outside `post`: `pre.body.!post`. The triple holds exactly when this term is 0 (partial correctness; Kozen
+/// 2000). Fails only when out of memory; the trees are dropped then.
 pub fn failing_run(alloc: Global, pre: Test, body: Kat, post: Test) -> Result<Kat, NoMemory>
     ensures { IfOk result
         (λ e. kat_tree e ≡ failing_run (test_tree pre) (kat_tree body) (test_tree post)) }
@@ -36,8 +35,8 @@ pub fn failing_run(alloc: Global, pre: Test, body: Kat, post: Test) -> Result<Ka
     Kat::new_seq(alloc, Kat::Test(pre), end)
 }
 
-/// The sides of the Hoare triple of `pre`, `body` and `post`: the runs that break it, `pre.body.!post`, and
-/// `0` (partial correctness; Kozen 2000). It fails only when out of memory, and the trees are dropped then.
+/// Returns the sides of the Hoare triple of `pre`, `body` and `post`: the runs that break it, `pre.body.!post`, and `0`
+/// (partial correctness; Kozen 2000). Fails only when out of memory; the trees are dropped then.
 pub fn triple(alloc: Global, pre: Test, body: Kat, post: Test) -> Result<Sides, NoMemory>
     ensures { IfOk result (λ s. side_trees s ≡ triple_sides (test_tree pre) (kat_tree body) (test_tree post)) }
 {

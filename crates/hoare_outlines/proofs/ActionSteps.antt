@@ -1,4 +1,4 @@
--- What is found of an action: the image of a set under the steps that no hypothesis rules out.
+-- The result of the finder for an action: the image of a set under the steps that no hypothesis rules out.
 use Rattle.std.proofs.Common.{◌≡◌, ℕ, ◌<◌, [], length, Bool, true, false, not, ◌&&◌, refl, sym, ap, ◌∙◌}
 use mathlib.Core.Path.{ap₂}
 use Rattle.std.proofs.lemmas.Bool.{and_parts, and_from, not-true}
@@ -16,17 +16,17 @@ use Rattle.hoare_outlines.specs.Working.Annotated.{LeadsInto}
 use Rattle.hoare_outlines.specs.Working.Reached.{Reached}
 use Rattle.hoare_outlines.specs.Working.Found.{StmtFound}
 
--- two tests of which each implies the other are equal
+-- two Boolean values that imply each other are equal
 both_ways : (a b : Bool) → (a ≡ true → b ≡ true) → (b ≡ true → a ≡ true) → a ≡ b
 both_ways true b f g = sym (f refl)
 both_ways false true f g = g refl
 both_ways false false f g = refl
 
--- the atoms at which a diagram that says nothing of what follows is true
+-- the atoms before a step at which a diagram is true, if the diagram does not depend on the atom after it
 abbrev pub set_of : StepDiagramsParts → ℕ → AtomSet
 set_of d id = λ atom. step_value d id atom atom
 
--- an image says nothing of what follows
+-- an image does not depend on the atom after the step
 pub image_set : (old new : StepDiagramsParts) (relation image : ℕ) → new.tests ≡ old.tests → IsImage old relation new image → IsSetId new image (set_of new image)
 image_set old new relation image tests is =
     record {

@@ -1,4 +1,4 @@
--- Sets at the places of a program that meet the rules by its form meet its conditions.
+-- If sets at the places of a program meet the rules by the form of the program, they meet its conditions.
 use Rattle.std.proofs.Common.{◌≡◌, ℕ, suc, ◌+◌, ⊎_elim, List, [], ◌∷◌, ◌++◌, length, sym, ap, ◌∙◌, subst, arith, length-append}
 use Rattle.kat_model.specs.Trees.{TestTree, top, complement}
 use Rattle.kat_model.specs.Members.{Has}
@@ -12,11 +12,11 @@ use Rattle.hoare_outlines.specs.Working.AtomSets.{AtomSet}
 use Rattle.hoare_outlines.specs.Working.Annotated.{ImpliesUnder, LeadsInto, Annotated}
 
 module _ (q : ProblemParts) (note : ℕ → AtomSet) where
-  -- the set is noted at the place
+  -- the note at place n has the values of the set
   abbrev pub IsAt : ℕ → AtomSet → Type 0
   IsAt n X = (atom : Atom) → length atom ≡ q.tests → note n atom ≡ X atom
 
-  -- the sets are noted from the place on
+  -- the notes from place n on have the values of the sets
   abbrev pub AreAt : ℕ → List AtomSet → Type 0
   AreAt n [] = Unit {0}
   AreAt n (X ∷ Xs) = IsAt n X × AreAt (suc n) Xs
@@ -43,13 +43,13 @@ module _ (q : ProblemParts) (note : ℕ → AtomSet) where
   met_leads : (n a m : ℕ) (X Y : AtomSet) → IsAt n X → IsAt m Y → LeadsInto q X a Y → IsMet q note (leads n a m)
   met_leads n a m X Y at_n at_m lead x y lx ly ax ay h miss = lead x y lx ly ax ay (sym (at_n x lx) ∙ h) (sym (at_m y ly) ∙ miss)
 
-  -- what is told of a list of statements whose first place is n
+  -- the conditions of a list of statements whose first place is n, and its last place
   pub record IsMetFrom (f : FlowTree) (n : ℕ) (sets : List AtomSet) (Y : AtomSet) : Type 0 where
     pub met : AllMet (conditions_from f n)
     pub last : last_place f n ≡ n + length sets
     pub end : IsAt (last_place f n) Y
 
-  -- nothing stands within the statement before the others
+  -- a statement without inner places precedes other statements
   plain_at : (X Z : AtomSet) (inner more sets : List AtomSet) (n : ℕ) → sets ≡ inner ++ Z ∷ more → inner ≡ [] → AreAt n (X ∷ sets) → AreAt (suc n) (Z ∷ more)
   plain_at X Z inner more sets n all none at = subst (λ (l : List AtomSet). AreAt (suc n) l) (all ∙ ap (λ (l : List AtomSet). l ++ Z ∷ more) none) at.1
 

@@ -12,7 +12,7 @@ use Rattle.simple_hyps.specs.TestTerms.{is_test_term, are_test_terms, all_true, 
 use Rattle.hoare_outlines.specs.Working.Reached.{atom_frame}
 
 module _ {S : Type 0} (frame : Frame S) where
-  -- a test term relates states to themselves alone, where it is true
+  -- a test term relates each state only to itself, if it is true there
   test_term_related : (e : Term) (i j : S) → is_test_term e ≡ true → RelatesIn frame e i j → (i ≡ j) × (out e (frame.atom i) ≡ true)
   test_term_related zero i j t r = absurd r
   test_term_related one i j t r = (r, refl)
@@ -39,7 +39,7 @@ module _ {S : Type 0} (frame : Frame S) where
       let rest = test_terms_related es r.0 j tests.1 r.3 in
       (first.0 ∙ rest.0, and_from (out e (frame.atom i)) (all_true es (frame.atom i)) first.1 (subst (λ k. all_true es (frame.atom k) ≡ true) (sym first.0) rest.1))
 
-  -- what a term relates, its factors do one after the other
+  -- the factors of a term relate in sequence what the term relates
   related_factors : (e : Term) (i j : S) → frame.IsState j → RelatesIn frame e i j → RelateInTurn frame (factors e) i j
   related_factors zero i j s r = absurd r
   related_factors one i j s r = (j, s, r, refl)
@@ -49,7 +49,7 @@ module _ {S : Type 0} (frame : Frame S) where
   related_factors (product e f) i j s r = in_turn_append frame (factors e) (factors f) i r.0 j (related_factors e i r.0 r.1 r.2) (related_factors f r.0 j s r.3)
   related_factors (star e) i j s r = (j, s, r, refl)
 
-  -- one action between test terms relates states by that action, where the tests are true
+  -- one action between test terms relates states by that action, if the tests are true
   record IsStepBetween (form : StepForm) (i j : S) : Type 0 where
     acts : frame.Acts form.act i j
     before : all_true form.befores (frame.atom i) ≡ true

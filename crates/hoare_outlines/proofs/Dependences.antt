@@ -1,4 +1,4 @@
--- On which of its values it depends whether an atom is in a set.
+-- Which values of an atom decide whether it is in a set.
 use Rattle.std.proofs.Common.{◌≡◌, ℕ, zero, suc, ◌+◌, ◌≤◌, [], ◌∷◌, length, drop, get_or, Bool, true, false, cond, refl, sym, ap, ◌∙◌, subst, arith, length-set}
 use Rattle.std.proofs.Math.ListN.{set}
 use Rattle.std.proofs.lemmas.List.{set-get_or}
@@ -10,11 +10,11 @@ use Rattle.outline_diagrams.proofs.StepSets.{IsStepId-kept, step_value-kept, IsS
 use Rattle.hoare_outlines.specs.Working.AtomSets.{AtomSet, IsSetId}
 use Rattle.hoare_outlines.specs.Working.Noted.{DependsFrom, IsSetFrom}
 
--- all values matter
+-- membership may depend on all values
 pub depends_all : (tests : ℕ) (X : AtomSet) → DependsFrom tests 0 X
 depends_all tests X atom other la lo e = ap X e
 
--- none do
+-- membership that depends on no value is the same for all atoms
 drop_past : (k : ℕ) (atom : Atom) → length atom ≤ k → drop k atom ≡ []
 drop_past zero [] le = refl
 drop_past zero (b ∷ atom) le = absurd (omega (arith, le))
@@ -24,7 +24,7 @@ drop_past (suc k) (b ∷ atom) le = drop_past k atom (omega (arith, le))
 pub depends_none : (tests : ℕ) (X : AtomSet) (atom other : Atom) → DependsFrom tests tests X → length atom ≡ tests → length other ≡ tests → X atom ≡ X other
 depends_none tests X atom other dep la lo = dep atom other la lo (drop_past tests atom (omega (arith, la)) ∙ sym (drop_past tests other (omega (arith, lo))))
 
--- one more does not, where it is set
+-- after a test is set to a value, membership does not depend on that test
 drop_set : (k : ℕ) (x y : Atom) (v : Bool) → length x ≡ length y → drop (suc k) x ≡ drop (suc k) y → drop k (set x k v) ≡ drop k (set y k v)
 drop_set k [] [] v l e = refl
 drop_set k [] (b ∷ y) v l e = absurd (omega (arith, l))
@@ -38,7 +38,7 @@ depends_set tests k v X dep atom other la lo e =
 
 -- ---- ids of sets with a test set to a value
 
--- the id is that of the older set with the test set to the value
+-- the id is the older set with test k set to v
 abbrev pub IsFixed : StepDiagramsParts → StepDiagramsParts → ℕ → Bool → ℕ → ℕ → Type 0
 IsFixed old new k v id fixed = IsStepDiagram new fixed (with_value Before k v (step_value old id))
 
@@ -64,7 +64,7 @@ fixed_from old new k next v id fixed kept e s fix =
           subst (λ n. DependsFrom new.tests n (λ atom. s.set (set atom k v))) is (λ atom other la lo d. depends_set old.tests k v s.set s.depends atom other (la ∙ kept.tests) (lo ∙ kept.tests) d);
     }
 
--- the value of a set by that of the test
+-- the value of a set from the value of a test
 fixed_value : (old new : StepDiagramsParts) (k : ℕ) (v : Bool) (id fixed : ℕ) (atom : Atom) → IsFixed old new k v id fixed → length atom ≡ new.tests → get_or atom k false ≡ v → step_value new fixed atom atom ≡ step_value old id atom atom
 fixed_value old new k v id fixed atom fix wide is =
     let own : set atom k v ≡ atom = ap (set atom k) (sym is) ∙ set-get_or atom k false in
@@ -81,7 +81,7 @@ chosen_value old mid new k id low high atom first second is is_low is_high wide 
     by_value true e = fixed_value mid new k true id high atom is_high wide e ∙ step_value-kept old mid first id is atom atom ∙ sym own
     by_value false e = step_value-kept mid new second low is_low.in_range atom atom ∙ fixed_value old mid k false id low atom is_low (wide ∙ second.tests) e ∙ sym own
 
--- where both are one id, it is that of the set
+-- if both values of the test give one id, it is that of the set
 pub one_value : (v : Bool) (x y z : Bool) → x ≡ y → cond v x y ≡ z → y ≡ z
 one_value true x y z e c = sym e ∙ c
 one_value false x y z e c = c

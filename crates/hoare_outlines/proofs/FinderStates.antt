@@ -1,4 +1,4 @@
--- The state of the finder as diagrams are added.
+-- The state of the finder when diagrams are added.
 use Rattle.std.proofs.Common.{◌≡◌, sym, ◌∙◌, subst}
 use Rattle.kat_model.specs.Problems.{ProblemParts}
 use Rattle.outline_diagrams.specs.StepFunctions.{AreStepDiagrams, KeepsSteps}
@@ -17,7 +17,7 @@ finder_kept q old new same kept sound is =
       allowed = subst (λ id. IsSetId new.diagrams id (allows q.hyps)) (sym same) (set_kept old.diagrams new.diagrams kept old.allowed (allows q.hyps) is.allowed);
     }
 
--- and as notes are added
+-- the state when notes are added
 pub noted_kept : (old new : Finder) → new.diagrams ≡ old.diagrams → KeepsSteps old.diagrams new.diagrams
 noted_kept old new same = subst (λ d. KeepsSteps old.diagrams d) (sym same) (KeepsSteps-itself old.diagrams)
 

@@ -1,4 +1,4 @@
--- What is found of each statement, and of a statement before others.
+-- The result of the finder for a statement, and for a statement before others.
 use Rattle.std.proofs.Common.{ℕ, ⊎_elim, List, [], ◌∷◌, ◌++◌, false, not, ◌&&◌, ◌||◌, refl, sym, subst}
 use Rattle.std.proofs.lemmas.Bool.{false≢true, and_parts, and_from, or_cases, or_left, or_right}
 use Rattle.kat_model.specs.Trees.{TestTree, complement}
@@ -41,7 +41,7 @@ module _ (q : ProblemParts) where
         reached = subst (λ es. ReachedInTurn q es X later.end) (sym (terms_then s rest)) (reached_then q (stmt_term s) (stmt_terms rest) X found.end later.end found.reached later.reached);
       }
 
-  -- what is found stays found
+  -- results stay valid when diagrams are added
   pub found_kept : (f : FlowTree) (old new : StepDiagramsParts) (X : AtomSet) (ids : List ℕ) (last : ℕ) → KeepsSteps old new → FlowFound q f old X ids last → FlowFound q f new X ids last
   found_kept f old new X ids last kept found =
       record {
@@ -54,7 +54,7 @@ module _ (q : ProblemParts) where
         reached = found.reached;
       }
 
-  -- ---- statements with nothing within
+  -- ---- statements without inner places
 
   pub skip_found : (d : StepDiagramsParts) (X : AtomSet) (set : ℕ) → IsSetId d set X → IsAllowedSet q X → StmtFound q skip d X [] set
   skip_found d X set is allowed =

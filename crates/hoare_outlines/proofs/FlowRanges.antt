@@ -1,4 +1,4 @@
--- The tests and actions of a program are in range where its terms are.
+-- The tests and actions of a program are in range if its terms are.
 use Rattle.std.proofs.Common.{inl, inr, refl, List, ◌∷◌}
 use Rattle.kat_model.specs.Trees.{Term, one, zero, test, act}
 use Rattle.kat_model.specs.Members.{Has}

@@ -1,4 +1,4 @@
--- What is found of a list of statements, one more at a time.
+-- The result of the finder for a list of statements, extended by one statement at a time.
 use Rattle.std.proofs.Common.{◌≡◌, ℕ, zero, suc, ◌+◌, ◌<◌, ◌≤◌, List, [], ◌∷◌, ◌++◌, length, drop, get_or, refl, sym, ap, ◌∙◌, subst, append_assoc, append-nil, add-one, arith}
 use Rattle.std.proofs.Math.Seq.{drop-cons}
 use denote.Param.Weighed.{most, at_most}
@@ -16,7 +16,7 @@ use Rattle.hoare_outlines.specs.Working.Reached.{IsFlowInRange, IsStmtInRange}
 use Rattle.hoare_outlines.specs.Working.Found.{FlowFound, FindsStmt, FlowSoFar}
 use Rattle.hoare_outlines.proofs.Findings.{flow_none, flow_then}
 
--- the statements that are left, of which one is the first
+-- the remaining statements, of which one is the first
 pub first_left : (items : List Flow) (i : ℕ) (s : Flow) → i < length items → s ≡ get_or items i s → flows_tree (drop i items) ≡ with_stmt (flow_stmt s) (flows_tree (drop (i + 1) items))
 first_left items i s lt is =
     let cut : drop i items ≡ s ∷ drop (i + 1) items = rw (add-one, drop-cons items i s lt) (ap (λ (x : Flow). x ∷ drop (suc i) items) (sym is)) in
@@ -31,7 +31,7 @@ none_left items i le = let none : drop i items ≡ [] = past items i le in ap fl
     past (x ∷ xs) zero l = absurd (omega (arith, l))
     past (x ∷ xs) (suc k) l = past xs k (omega (arith, l))
 
--- a statement of a program is less deep than the program has statements
+-- the depth of a statement of a program is at most the number of statements of the program
 pub stmt_below : (items own : List Flow) (whole : FlowTree) (i : ℕ) (s : Flow) → items ≡ own → flows_tree own ≡ whole → i < length items → s ≡ get_or items i s → deep-Flow s ≤ statements whole
 stmt_below items own whole i s read view lt is =
     let one : deep-Flow (get_or items i s) ≤ most (λ (f : Flow). deep-Flow f) items = at_most (λ (f : Flow). deep-Flow f) items i s lt in
@@ -42,7 +42,7 @@ stmt_below items own whole i s read view lt is =
 
 -- ---- ranges
 
--- the first statement of several, and the others
+-- a program with a first statement is in range: the statement and the others are
 with_stmt_range : (q : ProblemParts) (s : FlowStmt) (rest : FlowTree) → IsFlowInRange q (with_stmt s rest) → IsStmtInRange q s × IsFlowInRange q rest
 with_stmt_range q skip rest h = (tt, h)
 with_stmt_range q abort rest h = (tt, h)
@@ -54,7 +54,7 @@ with_stmt_range q (loop b f) rest h = ((h.0, h.1), h.2)
 pub first_range : (q : ProblemParts) (items : List Flow) (i : ℕ) (s : Flow) → i < length items → s ≡ get_or items i s → IsFlowInRange q (flows_tree (drop i items)) → IsStmtInRange q (flow_stmt s) × IsFlowInRange q (flows_tree (drop (i + 1) items))
 first_range q items i s lt is h = with_stmt_range q (flow_stmt s) (flows_tree (drop (i + 1) items)) (subst (IsFlowInRange q) (first_left items i s lt is) h)
 
--- ---- what is found so far
+-- ---- results so far
 
 module _ (q : ProblemParts) (items : List Flow) (entry : List ℕ) where
   pub flow_start : (f : Finder) (X : AtomSet) (set : ℕ) → f.notes.items ≡ entry → IsSetId f.diagrams set X → IsAllowedSet q X → FlowSoFar q items 0 entry f X set

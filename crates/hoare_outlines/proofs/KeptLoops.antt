@@ -1,4 +1,4 @@
--- What was found of the loops of a program, by their places, as diagrams and notes are added and loops are found.
+-- The loops that the finder has solved, by their places, when diagrams, notes and loops are added.
 use Rattle.std.proofs.Common.{◌≡◌, ℕ, suc, ◌+◌, ◌<◌, List, [], ◌∷◌, ◌++◌, length, get_or, drop, Bool, true, false, cond, Option, Some, None, IfSome, refl, sym, ap, ◌∙◌, subst, arith, length-append}
 use Rattle.std.specs.Map.{lookup}
 use Rattle.indexmap.specs.IndexMap.{insert_entry}
@@ -17,7 +17,7 @@ use Rattle.hoare_outlines.proofs.FinderStates.{noted_kept}
 use Rattle.hoare_outlines.proofs.FlowSteps.{first_left}
 use Rattle.hoare_outlines.proofs.LoopPlaces.{turns_then, turns_parts, listed_turns}
 
--- ---- as diagrams are added
+-- ---- when diagrams are added
 
 found_loop_kept : (q : ProblemParts) (old new : StepDiagramsParts) (turn : Term) (found : FoundLoop) → KeepsSteps old new → IsFoundLoop q old turn found → IsFoundLoop q new turn found
 found_loop_kept q old new turn found kept is =
@@ -64,7 +64,7 @@ module _ (eq : ℕ → ℕ → Bool) (same : (x y : ℕ) → eq x y ≡ true →
           by_value true p later = (subst (λ n. IsFoundLoop q d (turns n) found) (same place entry.0 p) own, h.1)
           by_value false p later = (h.0, later)
 
--- what was found of a loop is of its turn, where there is something
+-- the stored result of a loop, if any, is for the turn of that loop
 pub earlier_loop_found : (q : ProblemParts) (d : StepDiagramsParts) (turns : ℕ → Term) (turn : Term) (loops : List (ℕ × FoundLoop)) (place : ℕ) (found : Option FoundLoop)
     → IfSome found (λ x. (q : ProblemParts) (d : StepDiagramsParts) (turns : ℕ → Term) → AreFoundLoops q d turns loops → IsFoundLoop q d (turns place) x) → AreFoundLoops q d turns loops → turns place ≡ turn → IfSome found (IsFoundLoop q d turn)
 earlier_loop_found q d turns turn loops place None each are e = tt
@@ -76,7 +76,7 @@ earlier_loop_ids q d turn (Some x) is = (is.is_entry.in_range, is.is_invariant.i
 
 -- ---- along a program
 
--- the turns behind a place that has been noted
+-- the turns after a place that has a note now
 next_turns : (turns : ℕ → Term) (es : List Term) (old new : Finder) (set : ℕ) → new.notes.items ≡ old.notes.items ++ set ∷ [] → AreTurnsFrom turns (suc (length old.notes.items)) es → AreTurnsFrom turns (length new.notes.items) es
 next_turns turns es old new set pushed at =
     let all : length new.notes.items ≡ length (old.notes.items ++ set ∷ []) = ap length pushed in
@@ -84,7 +84,7 @@ next_turns turns es old new set pushed at =
     subst (λ n. AreTurnsFrom turns n es) count at
 
 module _ (q : ProblemParts) where
-  -- nothing was found, and nothing is noted
+  -- the first state: no loops are stored, and there are no notes
   pub no_loops : (es : List Term) (f : Finder) → f.notes.items ≡ [] → f.loops.entries ≡ [] → KnowsLoops q es f
   no_loops es f notes loops =
       let turns = λ (n : ℕ). get_or es n one in (
@@ -97,7 +97,7 @@ module _ (q : ProblemParts) where
     pub loops_start : LoopsSoFar q items 0 entry entry
     loops_start = record { left = λ turns at. at; loops = λ turns at are. are }
 
-    -- the turns of the next statement, and of those after it
+    -- the turns of the next statement, and of the statements after it
     turns_left : (f : Finder) (i : ℕ) (s : Flow) → i < length items → s ≡ get_or items i s → LoopsSoFar q items i entry f → (turns : ℕ → Term) → AreTurnsFrom turns (length entry.notes.items) (flow_turns (flows_tree items))
         → AreTurnsFrom turns (length f.notes.items) (stmt_turns (flow_stmt s)) × AreTurnsFrom turns (length f.notes.items + length (stmt_turns (flow_stmt s))) (one ∷ flow_turns (flows_tree (drop (i + 1) items)))
     turns_left f i s lt is so_far turns at =
@@ -120,7 +120,7 @@ module _ (q : ProblemParts) where
           loops = λ turns at are. loops_later q g h turns (noted_kept g h diagrams) loops (keeps turns (turns_left f i s lt is so_far turns at).0 (so_far.loops turns at are));
         }
 
-  -- the first place of a list of statements has been noted
+  -- the first place of a list of statements has a note now
   pub first_noted : (es : List Term) (old new : Finder) (set : ℕ) → new.notes.items ≡ old.notes.items ++ set ∷ [] → new.diagrams ≡ old.diagrams → new.loops.entries ≡ old.loops.entries → KnowsLoops q (one ∷ es) old → KnowsLoops q es new
   first_noted es old new set pushed diagrams loops known = (known.0, next_turns known.0 es old new set pushed known.1.1, loops_later q old new known.0 (noted_kept old new diagrams) loops known.2)
 
@@ -157,12 +157,12 @@ module _ (q : ProblemParts) where
   -- ---- a loop
 
   module _ (b : TestTree) (f : FlowTree) (entry : Finder) where
-    -- what an earlier turn found of it
+    -- what an earlier turn of an outer loop stored for this loop
     pub earlier_known : (place : ℕ) (found : Option FoundLoop) → place ≡ length entry.notes.items → IfSome found (λ x. (q : ProblemParts) (d : StepDiagramsParts) (turns : ℕ → Term) → AreFoundLoops q d turns entry.loops.entries → IsFoundLoop q d (turns place) x)
         → KnowsLoops q (stmt_turns (loop b f)) entry → IfSome found (IsFoundLoop q entry.diagrams (turn_term b f))
     earlier_known place found count each known = earlier_loop_found q entry.diagrams known.0 (turn_term b f) entry.loops.entries place found each known.2 (ap known.0 count ∙ known.1.0)
 
-    -- its invariant is noted, and then its body is gone through
+    -- the invariant of the loop has a note now, and the body follows
     module _ (mid n2 : Finder) (invariant : ℕ) (so_far : KeepsLoops q (stmt_turns (loop b f)) entry mid) (k2 : KeepsSteps mid.diagrams n2.diagrams) (loops : n2.loops.entries ≡ mid.loops.entries) (noted : n2.notes.items ≡ entry.notes.items ++ invariant ∷ []) where
       body_turns : (turns : ℕ → Term) → AreTurnsFrom turns (length entry.notes.items) (stmt_turns (loop b f)) → AreTurnsFrom turns (length n2.notes.items) (one ∷ flow_turns f)
       body_turns turns at = next_turns turns (one ∷ flow_turns f) entry n2 invariant noted at.1
@@ -176,7 +176,7 @@ module _ (q : ProblemParts) where
       pub turn_keeps : (n3 n4 : Finder) → KeepsLoops q (one ∷ flow_turns f) n2 n3 → KeepsSteps n3.diagrams n4.diagrams → n4.loops.entries ≡ n3.loops.entries → KeepsLoops q (stmt_turns (loop b f)) entry n4
       turn_keeps n3 n4 keeps k4 same turns at are = loops_later q n3 n4 turns k4 same (keeps turns (body_turns turns at) (before_body turns at are))
 
-    -- what is found of it is of its turn
+    -- the new result of the loop is for its turn
     pub loop_is_found : (mid d : StepDiagramsParts) (set invariant place : ℕ) (turns : ℕ → Term) → KeepsSteps entry.diagrams d → KeepsSteps mid d → place ≡ length entry.notes.items → HasAllowedSet q entry.diagrams set → GrowsFrom q (turn_term b f) entry.diagrams set mid invariant
         → AreTurnsFrom turns (length entry.notes.items) (stmt_turns (loop b f)) → IsFoundLoop q d (turns place) (record { entry = set; invariant = invariant })
     loop_is_found mid d set invariant place turns k0 k count has grown at =

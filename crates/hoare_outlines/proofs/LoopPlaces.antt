@@ -1,4 +1,5 @@
--- The places of a program at which invariants stand: the turns of loops there, and as many places as are noted.
+-- The places of a program at which invariants are: the turns of the loops there, and the number of places as the number
+-- of notes.
 use Rattle.std.proofs.Common.{◌≡◌, ℕ, suc, ◌+◌, List, [], ◌∷◌, ◌++◌, length, get_or, refl, ap, ◌∙◌, subst, arith, length-append}
 use Rattle.kat_model.specs.Trees.{Term, one}
 use Rattle.kat_model.specs.Problems.{ProblemParts}
@@ -12,7 +13,7 @@ use Rattle.hoare_outlines.proofs.SetIds.{sets_count}
 
 -- ---- the turns at places
 
--- those of a statement, and then of others
+-- the turns of a statement, then those of the other statements
 pub turns_then : (s : FlowStmt) (rest : FlowTree) → flow_turns (with_stmt s rest) ≡ stmt_turns s ++ one ∷ flow_turns rest
 turns_then skip rest = refl
 turns_then abort rest = refl
@@ -36,11 +37,11 @@ module _ (turns : ℕ → Term) where
     turns_listed es (suc n) (λ i. let next : suc n + i ≡ n + suc i = omega arith in ap turns next ∙ each (suc i)),
   )
 
--- a list of terms stands at the first places
+-- the terms of a list are the turns of the first places
 pub listed_turns : (es : List Term) → AreTurnsFrom (λ n. get_or es n one) 0 es
 listed_turns es = turns_listed (λ n. get_or es n one) es 0 (λ i. let own : 0 + i ≡ i = omega arith in ap (λ n. get_or es n one) own)
 
--- ---- how many places there are
+-- ---- the number of places
 
 then_count : (inner more sets : List AtomSet) (next : AtomSet) (es fs : List Term) → sets ≡ inner ++ next ∷ more → length inner ≡ length es → length more ≡ length fs → length sets ≡ length (es ++ one ∷ fs)
 then_count inner more sets next es fs all here later =
@@ -84,7 +85,7 @@ module _ (q : ProblemParts) where
       (annotated_count g h.second h.seconds h.second_end h.runs_second)
   stmt_count (loop b f) X inner Z h = loop_count inner h.bodies h.invariant h.body (turn_term b f) (flow_turns f) h.within (annotated_count f h.body h.bodies h.body_end h.runs)
 
-  -- there is a note for each place
+  -- the finder adds a note for each place
   pub stmt_longer : (s : FlowStmt) (old new : Finder) (set last : ℕ) → HasAllowedSet q old.diagrams set → FindsStmt q s old set new last → length new.notes.items ≡ length old.notes.items + length (stmt_turns s)
   stmt_longer s old new set last has finds =
       let r = finds has.0 has.1 has.2 in

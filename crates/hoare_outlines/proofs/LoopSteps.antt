@@ -1,4 +1,4 @@
--- What is found of a loop: the sets that its invariant grows through, until its body keeps it.
+-- The result of the finder for a loop: the sets through which its invariant grows, until its body keeps it.
 use Rattle.std.proofs.Common.{◌≡◌, ℕ, zero, suc, ◌+◌, ◌<◌, ◌≤◌, ◌⊎◌, ⊎_elim, List, [], ◌∷◌, length, Bool, true, false, not, cond, if◌then◌else◌, ◌&&◌, ◌||◌, refl, sym, ap, ◌∙◌, arith}
 use Rattle.std.proofs.lemmas.Bool.{and_from, or_cases, or_left, or_right}
 use Rattle.kat_model.specs.Trees.{TestTree, Term}
@@ -17,7 +17,7 @@ use Rattle.hoare_outlines.proofs.SetParts.{union_set}
 use Rattle.hoare_outlines.proofs.Findings.{part_allowed, union_allowed}
 use Rattle.hoare_outlines.proofs.Reaching.{reached_before, reached_under, reached_again, reached_loop}
 
--- ---- how many atoms are outside a set
+-- ---- the number of atoms outside a set
 
 abbrev pub outside : ℕ → AtomSet → ℕ
 outside zero X = if X [] then 0 else 1
@@ -35,7 +35,7 @@ fewer_outside (suc n) X Y inside =
     let second = fewer_outside n (λ atom. X (true ∷ atom)) (λ atom. Y (true ∷ atom)) (λ atom wide h. inside (true ∷ atom) (ap suc wide) h) in
     omega (arith, first, second)
 
--- where there are as many outside a larger set, it is not larger
+-- a superset with at least as many atoms outside it is the same set
 pub as_many_outside : (n : ℕ) (X Y : AtomSet) → ((atom : Atom) → length atom ≡ n → X atom ≡ true → Y atom ≡ true) → outside n X ≤ outside n Y → (atom : Atom) → length atom ≡ n → Y atom ≡ true → X atom ≡ true
 as_many_outside zero X Y inside le [] wide h = by_value (X []) (Y []) h le
   where
@@ -52,18 +52,18 @@ as_many_outside (suc n) X Y inside le (true ∷ atom) wide h =
     let first = fewer_outside n (λ z. X (false ∷ z)) (λ z. Y (false ∷ z)) (λ z w k. inside (false ∷ z) (ap suc w) k) in
     as_many_outside n (λ z. X (true ∷ z)) (λ z. Y (true ∷ z)) (λ z w k. inside (true ∷ z) (ap suc w) k) (omega (arith, le, first)) atom (omega (arith, wide)) h
 
--- the atoms outside the set of an id
+-- the number of atoms outside the set of an id
 abbrev pub outside_id : StepDiagramsParts → ℕ → ℕ
 outside_id d id = outside d.tests (λ atom. step_value d id atom atom)
 
--- as diagrams are added there are no more
+-- when diagrams are added, this number does not grow
 pub outside_kept : (old new : StepDiagramsParts) (id : ℕ) → KeepsSteps old new → IsStepId old id → outside_id new id ≤ outside_id old id
 outside_kept old new id kept is =
     let same : outside new.tests (λ atom. step_value new id atom atom) ≡ outside old.tests (λ atom. step_value new id atom atom) = ap (λ n. outside n (λ atom. step_value new id atom atom)) kept.tests in
     let fewer = fewer_outside old.tests (λ atom. step_value old id atom atom) (λ atom. step_value new id atom atom) (λ atom wide h. step_value-kept old new kept id is atom atom ∙ h) in
     omega (arith, same, fewer)
 
--- a set to which some atom is added has fewer outside
+-- adding an atom to a set leaves fewer atoms outside
 pub fewer_left : (old new : StepDiagramsParts) (invariant again grown : ℕ) (I A : AtomSet) → KeepsSteps old new → IsSetId old invariant I → IsSetId old again A → (Entails old again invariant → ⊥)
     → IsSetId new grown (λ atom. I atom || A atom) → outside_id new grown < outside_id old invariant
 fewer_left old new invariant again grown I A kept is_invariant is_again more is_grown = by_order (outside_id new grown) (outside_id old invariant) as_many
@@ -97,7 +97,7 @@ module _ (q : ProblemParts) (turn : Term) where
   grown_first : (X : AtomSet) → IsAllowedSet q X → IsGrown q turn X X
   grown_first X allowed = record { holds = λ atom h. h; allowed = allowed; reached = reached_before q turn X allowed }
 
-  -- what is grown from less, with the entry
+  -- a set grown from a smaller entry, with the entry added, is grown from the entry
   grown_from_less : (Y J X : AtomSet) → ((atom : Atom) → length atom ≡ q.tests → Y atom ≡ true → X atom ≡ true) → IsAllowedSet q X → IsGrown q turn Y J → IsGrown q turn X (λ atom. J atom || X atom)
   grown_from_less Y J X within allowed grown =
       record {
@@ -110,14 +110,14 @@ module _ (q : ProblemParts) (turn : Term) where
             (or_cases (J to) (X to) h);
       }
 
-  -- a loop may begin with its entry
+  -- a loop may start with its entry
   pub starts_itself : (d : StepDiagramsParts) (set : ℕ) → GrowsFrom q turn d set d set
   starts_itself d set X is allowed = (X, is, grown_first X allowed)
 
   pub starts_kept : (old new : StepDiagramsParts) (set : ℕ) → KeepsSteps old new → GrowsFrom q turn old set new set
   starts_kept old new set kept X is allowed = (X, set_kept old new kept set X is, grown_first X allowed)
 
-  -- and with what was found from less, and its entry
+  -- a loop may start with its entry and the invariant found from a smaller entry
   pub starts_found : (old mid new : StepDiagramsParts) (found : FoundLoop) (set start : ℕ) → KeepsSteps old mid → KeepsSteps mid new → old.tests ≡ q.tests → Entails old found.entry set
       → IsStepDiagram new start (λ x y. step_value mid found.invariant x y || step_value mid set x y) → IsFoundLoop q old turn found → GrowsFrom q turn old set new start
   starts_found old mid new found set start k1 k2 tests entails is_start earlier X is allowed = (
@@ -140,7 +140,7 @@ module _ (q : ProblemParts) (b : TestTree) (f : FlowTree) where
         reached = reached_again q (turn_term b f) X I found.end found.allowed grown.reached (reached_under q b f I found.end found.allowed found.reached);
       }
 
-  -- where the body leads back into it, the loop is found
+  -- if the body leads back into the invariant, the loop is solved
   pub loop_found : (mid d : StepDiagramsParts) (X I : AtomSet) (ids : List ℕ) (invariant enters again leaves : ℕ) → KeepsSteps mid d → d.tests ≡ q.tests → IsGrown q (turn_term b f) X I → IsSetId mid invariant I → IsSetId mid enters (λ atom. I atom && truth b atom)
       → IsSetId mid leaves (λ atom. I atom && not (truth b atom)) → FlowFound q f d (λ atom. I atom && truth b atom) ids again → Entails d again invariant → StmtFound q (loop b f) d X (invariant ∷ enters ∷ ids) leaves
   loop_found mid d X I ids invariant enters again leaves kept tests grown is_invariant is_enters is_leaves found entails =

@@ -1,4 +1,4 @@
--- One more turn of a loop: the set that grows, and the measure that falls.
+-- An additional turn of a loop: its set grows, and the measure decreases.
 use Rattle.std.proofs.Common.{◌≡◌, ℕ, ◌<◌, List, [], ◌∷◌, ◌++◌, length, take, ◌&&◌, ◌||◌, refl, ap, ◌∙◌, arith, append_assoc}
 use Rattle.kat_model.specs.Trees.{TestTree}
 use Rattle.kat_model.specs.Problems.{ProblemParts}
@@ -15,7 +15,7 @@ use Rattle.hoare_outlines.proofs.Findings.{part_allowed}
 use Rattle.hoare_outlines.proofs.StmtFinds.{SplitsHolds}
 use Rattle.hoare_outlines.proofs.LoopSteps.{grown_more, outside_id, outside_kept, fewer_left}
 
--- what a list was before more stood behind it
+-- truncating a list restores the list before the elements were appended
 cut_back : (xs more ys cut : List ℕ) (n : ℕ) → n ≡ length xs → ys ≡ xs ++ more → cut ≡ take n ys → cut ≡ xs
 cut_back xs more ys cut n e is c = c ∙ ap (λ k. take k ys) e ∙ ap (λ (l : List ℕ). take (length xs) l) is ∙ front xs
   where
@@ -23,11 +23,11 @@ cut_back xs more ys cut n e is c = c ∙ ap (λ k. take k ys) e ∙ ap (λ (l : 
     front [] = refl
     front (x ∷ l) = ap (λ (r : List ℕ). x ∷ r) (front l)
 
--- and that with one more element
+-- the restored list with an element appended
 pub noted_again : (xs more ys cut after : List ℕ) (n v : ℕ) → n ≡ length xs → ys ≡ xs ++ more → cut ≡ take n ys → after ≡ cut ++ v ∷ [] → after ≡ xs ++ v ∷ []
 noted_again xs more ys cut after n v e is c pushed = pushed ∙ ap (λ (l : List ℕ). l ++ v ∷ []) (cut_back xs more ys cut n e is c)
 
--- what is found stays found
+-- results stay valid when diagrams are added
 pub finds_later : (q : ProblemParts) (s : FlowStmt) (old new later : Finder) (set last : ℕ) → KeepsSteps new.diagrams later.diagrams → later.notes.items ≡ new.notes.items → FindsStmt q s old set new last → FindsStmt q s old set later last
 finds_later q s old new later set last kept same finds X is allowed =
     let r = finds X is allowed in
@@ -48,7 +48,7 @@ finds_later q s old new later set last kept same finds X is allowed =
 module _ (q : ProblemParts) (b : TestTree) (f : FlowTree) (entry n2 n3 : Finder) (mid d4 d5 : StepDiagramsParts) (set invariant enters again next : ℕ) (grown : GrowsFrom q (turn_term b f) entry.diagrams set mid invariant)
     (is_enters : SplitsHolds mid invariant b n2.diagrams enters) (k2 : KeepsSteps mid n2.diagrams) (k3 : KeepsSteps n2.diagrams n3.diagrams) (k4 : KeepsSteps n3.diagrams d4) (k5 : KeepsSteps d4 d5) (finds : FindsFlow q f n2 enters n3 again)
     (is_next : IsStepDiagram d5 next (λ x y. step_value d4 invariant x y || step_value d4 again x y)) where
-  -- the invariant with the atoms that its body leads to
+  -- the invariant with the atoms that its body reaches
   pub loop_grown : GrowsFrom q (turn_term b f) entry.diagrams set d5 next
   loop_grown X is allowed =
       let g = grown X is allowed in
@@ -70,7 +70,7 @@ module _ (q : ProblemParts) (b : TestTree) (f : FlowTree) (entry n2 n3 : Finder)
       let kept = outside_kept mid n3.diagrams invariant k23 g.1.in_range in
       omega (arith, fewer, kept)
 
-  -- the notes of the last turn alone
+  -- only the notes of the last turn remain
   pub loop_notes : HasAllowedSet q entry.diagrams set → n2.notes.items ≡ entry.notes.items ++ invariant ∷ [] → (more : List ℕ) × (n3.notes.items ≡ entry.notes.items ++ more)
   loop_notes has noted =
       let g = grown has.0 has.1 has.2 in

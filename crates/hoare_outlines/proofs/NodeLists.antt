@@ -1,4 +1,4 @@
--- Lists of nodes of notes to which nodes are added: the rules that they keep, and where their nodes hold.
+-- Appending nodes to the nodes of notes: the rules that they keep, and where the nodes hold.
 use Rattle.std.proofs.Common.{◌≡◌, ℕ, ◌+◌, ◌<◌, ◌≤◌, ◌⊎◌, inl, inr, ⊎_elim, List, [], ◌∷◌, ◌++◌, length, get_or, Bool, true, false, cond, if◌then◌else◌, Result, Ok, Err, Some, slice_get, refl, sym, ap, ◌∙◌, subst, arith, append-nil, length-append}
 use Rattle.std.specs.Result.{IfOk, OnOk}
 use Rattle.std.specs.List.{list_any}
@@ -40,7 +40,7 @@ adds_longer old new adds = let e : length new ≡ length old + length adds.0 = a
 abbrev pub HasTestIn : ℕ → NoteNode → Type 0
 HasTestIn tests node = (test low high : ℕ) → node ≡ Branch test low high → test < tests
 
--- the nodes that a node names are among the first so many
+-- the nodes that a node names are below `count`
 abbrev pub NamesBelow : ℕ → NoteNode → Type 0
 NamesBelow count node = (part : ℕ) → Has (node_parts node) part → part < count
 

@@ -1,4 +1,4 @@
--- Nodes that hold where diagrams are true: constants, branches, and those that are kept for later.
+-- Nodes that hold where diagrams are true: constants, branches, and nodes that are stored for later.
 use Rattle.std.proofs.Common.{◌≡◌, ℕ, zero, suc, ◌<◌, inl, inr, ⊎_elim, List, [], ◌∷◌, ◌++◌, length, map, get_or, Bool, true, false, cond, Option, Some, None, IfSome, slice_get, slice_index_or, refl, sym, ap, ◌∙◌, subst}
 use mathlib.Core.Path.{ap₂}
 use Rattle.std.specs.Map.{lookup}
@@ -44,7 +44,7 @@ false_for old new always set k nodes kept s is_always some at =
 
 -- ---- by the value of a test
 
--- both values of the test have one set
+-- both values of the test give the same set
 pub same_for : (old mid new later : StepDiagramsParts) (test set low high node : ℕ) (nodes : List NoteNode) → KeepsSteps old mid → KeepsSteps mid new → KeepsSteps new later → IsStepId old set
     → IsFixed old mid test false set low → IsFixed mid new test true set high → low ≡ high → IsNodeFor later nodes low node → IsNodeFor later nodes set node
 same_for old mid new later test set low high node nodes first second rest is is_low is_high same found =
@@ -82,7 +82,7 @@ branch_for old mid new third fourth test set low high where_false where_true nod
           ∙ sym (step_value-kept new fourth rest set own atom atom);
     }
 
--- ---- what is known
+-- ---- stored nodes
 
 module _ (eq : ℕ → ℕ → Bool) (same : (x y : ℕ) → eq x y ≡ true → x ≡ y) (nodes : List NoteNode) where
   looked_up : (d : StepDiagramsParts) (known : List (ℕ × ℕ)) (set node : ℕ) → AreKnown d nodes known → lookup (eq set) known ≡ Some node → IsNodeFor d nodes set node
@@ -150,7 +150,7 @@ are_notes d nodes ids ns rules are = record { ordered = rules.ordered; once = ru
 pub notes_sets : (d : StepDiagramsParts) (nodes : List NoteNode) (ids ns : List ℕ) → AreNoteNodes d.tests nodes → AreNodesFor d nodes ids ns → NotesSets d ids (record { nodes = nodes; notes = ns })
 notes_sets d nodes ids ns rules are = record { tests = rules.in_range; count = nodes_count d nodes ids ns are; holds = λ place atom wide. nodes_hold d nodes ids ns place atom wide are }
 
--- and they are those of the sets in an older collection
+-- notes of the sets are notes of the sets in an older collection
 pub notes_older : (old new : StepDiagramsParts) (ids : List ℕ) (ns : NotesParts) → KeepsSteps old new → AreSets old ids → NotesSets new ids ns → NotesSets old ids ns
 notes_older old new ids ns kept sets notes =
     record {

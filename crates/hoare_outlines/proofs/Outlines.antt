@@ -1,5 +1,5 @@
--- The sets that are found for a task: where both sides of its triple are the same, the last one implies the
--- post-condition, and where it does, notes of the sets follow.
+-- The sets that the finder gives for a task. If both sides of its triple are the same, the last set implies the
+-- post-condition. If it does, the notes of the sets follow.
 use Rattle.std.proofs.Common.{◌≡◌, ℕ, suc, ◌+◌, ⊎_elim, List, [], ◌∷◌, length, map, get_or, Bool, true, false, not, ◌&&◌, refl, sym, ap, ◌∙◌, subst, arith}
 use Rattle.std.proofs.lemmas.Bool.{and_parts, and_from}
 use Rattle.kat_model.specs.Trees.{TestTree, zero}
@@ -37,7 +37,7 @@ pub start_allowed : (q : ProblemParts) (pre : TestTree) → IsAllowedSet q (star
 start_allowed q pre atom wide h = allows_told q.hyps atom (and_parts (allows q.hyps atom) (truth pre atom) h).0
 
 module _ (q : ProblemParts) (t : TaskParts) (triple : IsTripleOf q t) where
-  -- where the sides are the same, each atom that is reached meets the post-condition
+  -- if the sides are the same, each reached atom meets the post-condition
   pub same_entails : AreSimple q.hyps → Same q → (d : StepDiagramsParts) (ids : List ℕ) (last post : ℕ) → d.tests ≡ q.tests → FlowFound q t.flow d (start_set q t.pre) ids last
       → IsStepDiagram d post (λ x y. truth t.post x) → Entails d last post
   same_entails simple same d ids last post tests found is_post before after lb la h = is_post.value before after lb la ∙ by_value (truth t.post before) refl
@@ -61,12 +61,12 @@ module _ (q : ProblemParts) (t : TaskParts) (triple : IsTripleOf q t) where
           let none = (same_in_frame (atom_frame q) q (atoms_fit q simple) same r.0 before r.1 state).0 (subst (λ e. RelatesIn (atom_frame q) e r.0 before) (sym left) fails) in
           absurd (subst (λ e. RelatesIn (atom_frame q) e r.0 before) right none)
 
--- an entailment stays one
+-- an entailment remains true when diagrams are added
 pub entails_kept : (old new : StepDiagramsParts) (a b : ℕ) → KeepsSteps old new → IsStepId old a → IsStepId old b → Entails old a b → Entails new a b
 entails_kept old new a b kept is_a is_b entails x y lx ly h =
     step_value-kept old new kept b is_b x y ∙ entails x y (lx ∙ kept.tests) (ly ∙ kept.tests) (sym (step_value-kept old new kept a is_a x y) ∙ h)
 
--- what is noted at each place is the value of its id
+-- the note at each place has the value of its id
 sets_noted : (q : ProblemParts) (note : ℕ → AtomSet) (d : StepDiagramsParts) (ids : List ℕ) (Xs : List AtomSet) (n : ℕ) → d.tests ≡ q.tests → AreSetIds d ids Xs
     → ((i : ℕ) (atom : Atom) → length atom ≡ d.tests → note (n + i) atom ≡ get_or (map (λ id. step_value d id atom atom) ids) i false) → AreAt q note n Xs
 sets_noted q note d [] [] n tests are noted = tt

@@ -1,4 +1,4 @@
--- Sets that are reached: along a statement and then others, along a branch, and along the turns of a loop.
+-- Sets of reached atoms: along a statement and then others, along a branch, and along the turns of a loop.
 use Rattle.std.proofs.Common.{◌≡◌, inl, inr, ⊎_elim, List, [], ◌∷◌, ◌++◌, false, not, ◌&&◌, ◌||◌, refl, sym, ◌∙◌, subst}
 use Rattle.std.proofs.lemmas.Bool.{false≢true, and_parts, or_cases}
 use Rattle.kat_model.specs.Trees.{TestTree, complement, Term, one, zero, test, product, star}
@@ -11,7 +11,7 @@ use Rattle.while_lang.specs.Encoding.{branch_term, loop_term, stmt_terms, encode
 use Rattle.hoare_outlines.specs.Working.AtomSets.{AtomSet, IsAllowedSet}
 use Rattle.hoare_outlines.specs.Working.Reached.{atom_frame, Reached, ReachedInTurn, stmt_term}
 
--- the terms of a statement and others
+-- the terms of a statement and the statements after it
 pub terms_then : (s : FlowStmt) (rest : FlowTree) → stmt_terms (with_stmt s rest) ≡ stmt_term s ∷ stmt_terms rest
 terms_then skip rest = refl
 terms_then abort rest = refl
@@ -21,7 +21,7 @@ terms_then (branch b f g) rest = refl
 terms_then (loop b f) rest = refl
 
 module _ (q : ProblemParts) where
-  -- from each atom itself, where nothing is done
+  -- without statements, each atom is reached from itself
   pub reached_itself : (X : AtomSet) → IsAllowedSet q X → ReachedInTurn q [] X X
   reached_itself X allowed to wide h = (to, (wide, allowed to wide h), h, refl)
 

@@ -1,4 +1,4 @@
--- Ids of sets as diagrams are added.
+-- Ids of sets when diagrams are added.
 use Rattle.std.proofs.Common.{◌≡◌, ℕ, suc, ⊎_elim, List, [], ◌∷◌, ◌++◌, length, refl, ap, subst}
 use Rattle.outline_diagrams.specs.StepFunctions.{StepDiagramsParts, KeepsSteps}
 use Rattle.outline_diagrams.proofs.StepSets.{IsStepDiagram-kept}
@@ -21,14 +21,14 @@ sets_append d [] js (X ∷ Xs) Ys are more = absurd are
 sets_append d (id ∷ ids) js [] Ys are more = absurd are
 sets_append d (id ∷ ids) js (X ∷ Xs) Ys are more = (are.0, sets_append d ids js Xs Ys are.1 more)
 
--- they are as many as the sets
+-- the numbers of ids and sets are equal
 pub sets_count : (d : StepDiagramsParts) (ids : List ℕ) (Xs : List AtomSet) → AreSetIds d ids Xs → length ids ≡ length Xs
 sets_count d [] [] are = refl
 sets_count d [] (X ∷ Xs) are = absurd are
 sets_count d (id ∷ ids) [] are = absurd are
 sets_count d (id ∷ ids) (X ∷ Xs) are = ap suc (sets_count d ids Xs are.1)
 
--- each of the ids is that of a set
+-- each of the ids is the id of a set
 pub each_set : (d : StepDiagramsParts) (ids : List ℕ) (Xs : List AtomSet) → AreSetIds d ids Xs → AreSets d ids
 each_set d [] Xs are id h = absurd h
 each_set d (i ∷ ids) [] are id h = absurd are

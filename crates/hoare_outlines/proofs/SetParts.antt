@@ -1,4 +1,4 @@
--- Parts of sets by a test, and sets of the atoms of two.
+-- The parts of a set by a test, and the union of two sets.
 use Rattle.std.proofs.Common.{ℕ, not, ◌&&◌, ◌||◌, ap, ◌∙◌}
 use mathlib.Core.Path.{ap₂}
 use Rattle.kat_model.specs.Trees.{TestTree}

@@ -1,4 +1,4 @@
--- What the finder finds of each statement, with the notes that it adds.
+-- The result of the finder for each statement, with the notes that it adds.
 use Rattle.std.proofs.Common.{◌≡◌, ℕ, List, [], ◌∷◌, ◌++◌, false, not, ◌&&◌, ◌||◌, refl, sym, ap, ◌∙◌, append_assoc, append-nil}
 use Rattle.kat_model.specs.Trees.{TestTree}
 use Rattle.kat_model.specs.Problems.{ProblemParts}
@@ -22,11 +22,11 @@ SplitsHolds old set b new holds = (X : AtomSet) → IsSetId old set X → IsSetI
 abbrev pub SplitsFails : StepDiagramsParts → ℕ → TestTree → StepDiagramsParts → ℕ → Type 0
 SplitsFails old set b new fails = (X : AtomSet) → IsSetId old set X → IsSetId new fails (λ atom. X atom && not (truth b atom))
 
--- where nothing was noted
+-- no notes are added
 plain_notes : (old new : Finder) → new.notes.items ≡ old.notes.items → new.notes.items ≡ old.notes.items ++ []
 plain_notes old new e = e ∙ sym (append-nil old.notes.items)
 
--- what is found ends in a set of allowed atoms
+-- the last set has only allowed atoms
 pub finds_allowed : (q : ProblemParts) (s : FlowStmt) (old new : Finder) (set last : ℕ) → HasAllowedSet q old.diagrams set → FindsStmt q s old set new last → HasAllowedSet q new.diagrams last
 finds_allowed q s old new set last has finds = let found = finds has.0 has.1 has.2 in (found.2.end, found.2.is_end, found.2.allowed)
 

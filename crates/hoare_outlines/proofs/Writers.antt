@@ -1,4 +1,4 @@
--- The nodes of a writer as diagrams and nodes are added.
+-- The nodes of a writer when diagrams and nodes are added.
 use Rattle.std.proofs.Common.{◌≡◌, ℕ, ◌<◌, ⊎_elim, List, length, sym, subst, arith}
 use Rattle.kat_model.specs.Members.{HasNoDoubles}
 use Rattle.outline_diagrams.specs.StepFunctions.{StepDiagramsParts, KeepsSteps}
@@ -23,14 +23,14 @@ writer_with old new v w node kept adds once names test same is =
       known = subst (λ (l : List (ℕ × ℕ)). AreKnown new w.nodes.keys l) (sym same) (known_later old new v.nodes.keys w.nodes.keys kept (adds_one v.nodes.keys w.nodes.keys node adds) v.known.entries is.known);
     }
 
--- a constant names no node and tests nothing
+-- a constant names no node and has no test
 pub writer_true : (old new : StepDiagramsParts) (v w : NodeWriter) → KeepsSteps old new → AddsNode v.nodes.keys w.nodes.keys True → HasNoDoubles w.nodes.keys → w.known.entries ≡ v.known.entries → IsNodeWriter old v → IsNodeWriter new w
 writer_true old new v w kept adds once same is = writer_with old new v w True kept adds once (λ part h. absurd h) (λ t low high e. cc) same is
 
 pub writer_false : (old new : StepDiagramsParts) (v w : NodeWriter) → KeepsSteps old new → AddsNode v.nodes.keys w.nodes.keys False → HasNoDoubles w.nodes.keys → w.known.entries ≡ v.known.entries → IsNodeWriter old v → IsNodeWriter new w
 writer_false old new v w kept adds once same is = writer_with old new v w False kept adds once (λ part h. absurd h) (λ t low high e. cc) same is
 
--- a branch names nodes that stand there, and tests one of the problem's tests
+-- a branch names existing nodes and is on a test of the problem
 pub writer_branch : (old new : StepDiagramsParts) (v w : NodeWriter) (test low high : ℕ) → KeepsSteps old new → AddsNode v.nodes.keys w.nodes.keys (Branch test low high) → HasNoDoubles w.nodes.keys → test < old.tests → low < length v.nodes.keys → high < length v.nodes.keys
     → w.known.entries ≡ v.known.entries → IsNodeWriter old v → IsNodeWriter new w
 writer_branch old new v w test low high kept adds once lt low_in high_in same is =

@@ -1,7 +1,7 @@
-//! The finder of outlines: the note at a place is the set of allowed atoms that a run from the pre-condition reaches there
-//! (the strongest annotation), a loop's invariant the least set that holds its entry and that its body keeps. In each turn
-//! of a loop the invariants of the loops within it grow on from where they were (the recursive strategy of Bourdoncle,
-//! Efficient chaotic iteration strategies with widenings, 1993).
+//! The finder of outlines. The note at a place is the set of the allowed atoms that a run from the pre-condition
+//! reaches there (the strongest annotation). The invariant of a loop is the least set that contains its entry and that
+//! its body keeps. In each turn of a loop, the invariants of its inner loops continue to grow from their last values
+//! (the recursive strategy of Bourdoncle, Efficient chaotic iteration strategies with widenings, 1993).
 ghost use Rattle.std.specs.Prelude.{◌≡◌, ◌<◌, ◌&&◌, ℕ, not, [], ◌∷◌, ◌++◌, IfOk, IfSome, OnOk, MatchOption};
 ghost use Rattle.kat_model.specs.Trees.{Term, one, test_tree};
 ghost use Rattle.kat_model.specs.Problems.{ProblemParts, IsProblem, IsTestInRange};
@@ -29,8 +29,8 @@ use simple_hyps::{allowed_atoms, ruled_out_steps};
 use std::alloc::Global;
 use while_lang::{Flow, Flows};
 
-// What is found: the diagrams, the allowed atoms, the sets at the places so far, and the loops by the places of their
-// invariants.
+// The state of the finder: the diagrams, the allowed atoms, the sets at the places so far, and the loops by the places
+// of their invariants.
 #[derive(Drop)]
 struct Finder {
     diagrams: StepDiagrams,
@@ -39,14 +39,14 @@ struct Finder {
     loops: IndexMap<usize, FoundLoop>,
 }
 
-// A set before a loop, and the invariant of the loop that was found from it.
+// A set before a loop, and the invariant found from it.
 #[derive(Clone, Copy)]
 struct FoundLoop {
     entry: DiagramId,
     invariant: DiagramId,
 }
 
-// The atoms of a set at which a test is true, and those at which it is false.
+// The atoms of a set at which a test is true, and the atoms at which it is false.
 #[derive(Clone, Copy)]
 struct Parts {
     holds: DiagramId,
@@ -79,7 +79,7 @@ impl Finder {
         Ok(self.notes.push(set)?)
     }
 
-    // What an earlier turn of the loops around it found of the loop at a place.
+    // Returns the result for the loop at a place from an earlier turn of the loops around it.
     fn earlier_loop(&self, place: usize) -> Option<FoundLoop>
         ensures { IfSome result (λ found. (q : ProblemParts) (d : StepDiagramsParts) (turns : ℕ → Term)
             → AreFoundLoops q d turns self.now.loops.entries → IsFoundLoop q d (turns place) found) }
@@ -87,7 +87,7 @@ impl Finder {
         self.loops.get(&place).copied()
     }
 
-    // Keeps what was found of the loop at a place for later turns.
+    // Stores the result for the loop at a place for later turns.
     fn keep_loop(
         &mut self,
         place: usize,
@@ -122,8 +122,8 @@ fn parts_by(diagrams: &mut StepDiagrams, set: DiagramId, test: &Test) -> Result<
     Ok(Parts { holds, fails })
 }
 
-// The atoms that the action may lead to from the set. Only the image is cut down to allowed atoms: a diagram of those before
-// and after a step can be as large as the square of that of the allowed atoms.
+// Returns the atoms that the action may reach from the set. Only the image is restricted to allowed atoms: a diagram of
+// the allowed atoms before and after a step can be as large as the square of the diagram of the allowed atoms.
 fn after_action(
     diagrams: &mut StepDiagrams,
     problem: &Problem,
@@ -147,7 +147,8 @@ fn after_action(
     diagrams.and(ends, allowed)
 }
 
-// The set that the invariant of a loop grows from: its entry, and with it an earlier invariant where that grew from less.
+// Returns the set from which the invariant of a loop grows: its entry, with the earlier invariant if that grew from a
+// subset of the entry.
 fn first_invariant(
     diagrams: &mut StepDiagrams,
     earlier: Option<FoundLoop>,
@@ -171,7 +172,7 @@ fn first_invariant(
 }
 
 impl Finder {
-    // The atoms that the statement leads to from the set. The places within it get their notes.
+    // Returns the atoms that the statement reaches from the set, and appends the notes of the places within it.
     #[cycle(finding)]
     fn after_stmt(
         &mut self,
@@ -208,7 +209,7 @@ impl Finder {
         }
     }
 
-    // The atoms that the statements lead to from the set, one after the other. Their places get their notes.
+    // Returns the atoms that the statements reach from the set in sequence, and appends the notes of their places.
     #[cycle(finding)]
     fn after_flow(
         &mut self,
@@ -236,8 +237,9 @@ impl Finder {
         Ok(reached)
     }
 
-    // The atoms that the loop leads to from the set. Its invariant grows until its body keeps it, and only its last notes
-    // stay. The next turn of a loop around it reaches no less, so there it grows on from this invariant.
+    // Returns the atoms that the loop reaches from the set. Its invariant grows until its body keeps it, and only the
+    // notes of the last round remain. The next turn of an outer loop reaches at least these atoms, so there the
+    // invariant continues to grow from this one.
     #[cycle(finding)]
     fn after_loop(
         &mut self,
@@ -274,8 +276,8 @@ impl Finder {
     }
 }
 
-/// Notes that follow, where the triple holds: both sides of the problem denote one relation in each table that keeps the
-/// hypotheses. `None` where it does not. Fails only when out of memory.
+/// Returns notes that follow, if the triple holds: both sides of the problem denote the same relation in each table
+/// that keeps the hypotheses. Returns `None` if it does not hold. Fails only when out of memory.
 pub fn outline(alloc: Global, problem: &Problem, task: &Task) -> Result<Option<Notes>, NoMemory>
     requires simple { AreSimple problem.now.hyps }
     requires triple { IsTripleOf problem.now (task_parts task.now) }

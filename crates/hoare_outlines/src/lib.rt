@@ -1,6 +1,6 @@
-//! Outlines: proofs of Hoare triples in the form in which people write and read them, with a note at every place of the
-//! program. This crate finds the notes of a triple that holds; the rules and their checker are in `outline_rules`, the
-//! text of notes in `outline_notes`, and what hypotheses say in `simple_hyps`.
+//! Outlines: proofs of Hoare triples in their usual form, with a note at every place of the program. This crate finds
+//! the notes of a triple that holds. The rules and their checker are in `outline_rules`, the text of notes in
+//! `outline_notes`, and the meaning of hypotheses in `simple_hyps`.
 #![tactic(auto)]
 
 mod finding;

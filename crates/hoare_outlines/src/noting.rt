@@ -10,7 +10,7 @@ use outline_diagrams::{DiagramId, Moment, StepDiagrams};
 use outline_notes::{NoteNode, Notes};
 use std::alloc::Global;
 
-// The nodes so far, and which node a diagram has.
+// The nodes so far, and the known nodes of diagrams.
 #[derive(Drop)]
 struct NodeWriter {
     nodes: IndexSet<NoteNode>,
@@ -28,7 +28,7 @@ impl NodeWriter {
         }
     }
 
-    // The number of a node, which is added where it does not stand yet.
+    // Returns the number of a node, which it appends unless it exists.
     fn node(&mut self, node: NoteNode) -> Result<usize, NoMemory>
         ensures number { IfOk result (λ k. slice_get self.new.nodes.keys k ≡ Some node) }
         ensures added { OnOk result (AddsNode self.old.nodes.keys self.new.nodes.keys node) }
@@ -41,14 +41,14 @@ impl NodeWriter {
         }
     }
 
-    // The node of a diagram that was found before.
+    // Returns the stored node of a diagram, if any.
     fn find(&self, set: DiagramId) -> Option<usize>
         ensures { IfSome result (λ node. (d : StepDiagramsParts) → AreKnown d self.now.nodes.keys self.now.known.entries → IsNodeFor d self.now.nodes.keys set node) }
     {
         self.known.get(&set).copied()
     }
 
-    // Keeps the node of a diagram for later.
+    // Stores the node of a diagram.
     fn remember(&mut self, set: DiagramId, node: usize) -> Result<(), NoMemory>
         ensures known { OnOk result ((d : StepDiagramsParts) → AreKnown d self.old.nodes.keys self.old.known.entries → IsNodeFor d self.old.nodes.keys set node → AreKnown d self.new.nodes.keys self.new.known.entries) }
         ensures nodes { self.new.nodes.keys ≡ self.old.nodes.keys }
@@ -57,7 +57,7 @@ impl NodeWriter {
         Ok(())
     }
 
-    // The node of a diagram that depends on no test.
+    // Returns the node of a diagram that depends on no test.
     fn constant_node(
         &mut self,
         diagrams: &mut StepDiagrams,
@@ -78,7 +78,7 @@ impl NodeWriter {
         self.node(NoteNode::False)
     }
 
-    // The node of a diagram that depends on no test before this one.
+    // Returns the node of a diagram that does not depend on the tests before this one.
     fn node_from(
         &mut self,
         diagrams: &mut StepDiagrams,
@@ -122,7 +122,7 @@ impl NodeWriter {
     }
 }
 
-// The nodes for the sets.
+// Returns the nodes of the sets, in order.
 fn nodes_for(
     alloc: Global,
     writer: &mut NodeWriter,
@@ -143,7 +143,7 @@ fn nodes_for(
     Ok(notes)
 }
 
-// The notes of the sets.
+// Returns the notes of the sets.
 pub(crate) fn notes_of_sets(
     alloc: Global,
     diagrams: &mut StepDiagrams,

@@ -1,4 +1,4 @@
--- The problem with its long hypotheses alone is within the limits, as the problem is.
+-- A problem within the limits is also within them with only its long hypotheses.
 use Rattle.std.proofs.Common.{◌≡◌, ℕ, ◌+◌, ◌≤◌, List, [], ◌∷◌, arith, Bool, true, false, cond, None}
 use Rattle.std.specs.List.{filter}
 use Rattle.kat_model.specs.Trees.{Term, term_size}

@@ -1,4 +1,4 @@
-//! The short hypotheses of a problem, those that speak of single atoms and single moves, and the long ones.
+//! The short hypotheses of a problem, which concern single atoms and single moves, and the long ones.
 ghost use Rattle.std.specs.Prelude.{◌≡◌, IfOk};
 ghost use Rattle.std.specs.List.{list_any};
 ghost use Rattle.kat_model.specs.Trees.{kat_tree};
@@ -8,7 +8,7 @@ ghost use Rattle.hypothesis_kinds.specs.Capped.{capped};
 use kat_model::{Kat, NoMemory, Problem};
 use std::alloc::Global;
 
-// The degree of the term, where 2 stands for any that is higher and for none.
+// Returns the degree of the term, or 2 if it is higher or not bounded.
 fn degree(term: &Kat) -> u8
     ensures { result ≡ capped (degree' (kat_tree term.now)) }
 {
@@ -40,7 +40,7 @@ pub fn has_short(problem: &Problem) -> bool
     false
 }
 
-/// The problem with its long hypotheses alone. Fails only when out of memory.
+/// Returns the problem with only its long hypotheses. Fails only when out of memory.
 pub fn long_problem(alloc: Global, problem: &Problem) -> Result<Problem, NoMemory>
     ensures { IfOk result (λ p. p ≡ with_hyps problem.now (long_hyps problem.now)) }
 {

@@ -1,4 +1,4 @@
-//! The short hypotheses of a problem, those that speak of single atoms and single moves, and the long ones.
+//! The short hypotheses of a problem, which concern single atoms and single moves, and the long ones.
 #![tactic(auto)]
 
 mod hyps;

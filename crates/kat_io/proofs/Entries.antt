@@ -17,7 +17,7 @@ option_map-cond : {A B : Type 0} (f : A → B) (b : Bool) (x : A) (o : Option A)
 option_map-cond f true x o = refl
 option_map-cond f false x o = refl
 
--- a text is found among the entries as their texts are
+-- a name is found in the contents exactly when its text is found in the entries
 find-contents : (es : List (String Global × Vec ℕ Global)) (q : List ℕ) → find (slice_cmp nat_cmp) q (mapped (λ e. (string_bytes e.0, e.1.items)) es) ≡ option_map (λ v. v.items) (lookup (is_at (λ k. slice_cmp nat_cmp q (string_bytes k))) es)
 find-contents [] q = refl
 find-contents (e ∷ es) q =
@@ -27,7 +27,7 @@ find-contents (e ∷ es) q =
 pub get-contents_of : (m : BTreeMap (String Global) (Vec ℕ Global)) (q : List ℕ) → get (contents_of m.entries) q ≡ option_map (λ v. v.items) (get_by_text m q)
 get-contents_of m q = get-from_entries nat_list_cmp_total _ q ∙ find-contents m.entries q
 
--- a map in which one text was set holds the contents with that name set
+-- if one text is set in a map, its contents have the content of that name set
 pub contents_of-insert : (m n : BTreeMap (String Global) (Vec ℕ Global)) (name : List ℕ) (bytes : Vec ℕ Global) → UpdatesBy string_cmp (λ k. slice_cmp nat_cmp name (string_bytes k)) m n (Some bytes) → contents_of n.entries ≡ insert (contents_of m.entries) name bytes.items
 contents_of-insert m n name bytes updates =
     same_map nat_list_cmp_total (slice_cmp-IsAntisymmetric nat_cmp-IsAntisymmetric) _ _ (λ q.
@@ -39,6 +39,6 @@ contents_of-insert m n name bytes updates =
     ∙ ap (λ b. cond b (Some bytes.items) (get (contents_of m.entries) q)) same
     ∙ sym (get-insert nat_list_cmp_total (contents_of m.entries) name bytes.items q))
 
--- and so where the name and the bytes are told by copies
+-- the same, if `name` and `content` are the bytes of the key and of the vector
 pub contents_of-set : (m n : BTreeMap (String Global) (Vec ℕ Global)) (key : String Global) (bytes : Vec ℕ Global) (name content : List ℕ) → string_bytes key ≡ name → bytes.items ≡ content → UpdatesBy string_cmp (string_cmp key) m n (Some bytes) → contents_of n.entries ≡ insert (contents_of m.entries) name content
 contents_of-set m n key bytes name content named held updates = rw (← named, ← held) (contents_of-insert m n (string_bytes key) bytes updates)

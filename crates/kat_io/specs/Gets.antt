@@ -1,4 +1,4 @@
--- What a shelf answers.
+-- The results of a shelf.
 use Rattle.std.specs.Prelude.{◌≡◌, ◌≤◌, ◌<◌, ℕ, List, length, Option, None, Some, Result, Ok, Err, IsSome, Vec}
 use Rattle.std.specs.declared.alloc.Global.{Global}
 use Rattle.kat_io.specs.declared.outside.GetFault.{GetFault}
@@ -6,14 +6,14 @@ use Rattle.kat_io.specs.declared.outside.GetFault.TheVariants.{NoMemory, Failed,
 use Rattle.kat_io.specs.Outside.{Rose}
 use Rattle.kat_io.specs.Told.{Told, Untold, Missing, Holds}
 
--- a fault raises the count and sets the last name that failed, and no other answer changes either
+-- a fault raises the count and sets the last failed name, and no other result changes either
 abbrev pub IsCounted : {T : Type 0} → Result T GetFault → List ℕ → ℕ → ℕ → Option (List ℕ) → Option (List ℕ) → Type 0
 IsCounted (Err Failed) name before now last next = (before ≤ now) × Rose before now × (next ≡ Some name)
 IsCounted (Err NoMemory) name before now last next = (now ≡ before) × (next ≡ last)
 IsCounted (Err TooLong) name before now last next = (now ≡ before) × (next ≡ last)
 IsCounted (Ok x) name before now last next = (now ≡ before) × (next ≡ last)
 
--- so many bytes are within the limit, where there is one, or past it
+-- the number of bytes is within the limit, if there is one; `IsPast`: past the limit
 abbrev pub IsWithin : ℕ → Option ℕ → Type 0
 IsWithin n None = Unit {0}
 IsWithin n (Some limit) = n ≤ limit
@@ -22,7 +22,8 @@ abbrev pub IsPast : ℕ → Option ℕ → Type 0
 IsPast n None = ⊥
 IsPast n (Some limit) = limit < n
 
--- what is got is the whole content and within the limit, and what is too long is past it
+-- a returned content is within the limit and, if known, the whole content; a known content that is too long is past the
+-- limit
 abbrev pub GetsFrom : Told → Result (Vec ℕ Global) GetFault → Option ℕ → Type 0
 GetsFrom told (Err NoMemory) limit = Unit {0}
 GetsFrom told (Err Failed) limit = Unit {0}

@@ -1,4 +1,4 @@
--- The shelf in memory as a whole: its contents by name, which calls are to fail, and what has been.
+-- The state of a shelf in memory: its contents by name, the calls that must fail, and the counts so far.
 use Rattle.std.specs.Prelude.{◌≡◌, ◌⊎◌, ℕ, List, Option, Some, None, Result, Ok, Err, Vec, IsTrue, string_bytes, String, map as mapped}
 use Rattle.std.specs.Ordering.{nat_cmp}
 use Rattle.std.specs.Cmp.Lexicographic.{slice_cmp}
@@ -25,7 +25,7 @@ pub record ShelfState : Type 0 where
   pub faults : ℕ
   pub last : Option (List ℕ)
 
--- the contents that entries of texts hold
+-- the contents in a list of entries
 abbrev pub contents_of : List (String Global × Vec ℕ Global) → Contents
 contents_of entries = from_entries (mapped (λ e. (string_bytes e.0, e.1.items)) entries)
 
@@ -33,22 +33,23 @@ abbrev pub told_of : Option (List ℕ) → Told
 told_of None = Missing
 told_of (Some bytes) = Holds bytes
 
--- what the shelf tells of a name
+-- what is known about a name: its content, or that it is missing
 abbrev pub tells : ShelfState → List ℕ → Told
 tells s name = told_of (get s.files name)
 
--- what a call leaves that does not fail, and what a fault leaves
+-- the state after a call without a fault; `after_fault`: after a fault
 abbrev pub after_call : ShelfState → ShelfState
 after_call s = record s { calls = one_more s.calls }
 
 abbrev pub after_fault : ShelfState → List ℕ → ShelfState
 after_fault s name = record s { calls = one_more s.calls; faults = one_more s.faults; last = Some name }
 
--- a get of the name has to fail: the call is due, or there is no such name
+-- a get of the name must fail: the call is due, or the name is missing
 abbrev pub HasToFail : ShelfState → List ℕ → Type 0
 HasToFail s name = IsTrue (is_due s.schedule s.calls) ⊎ (tells s name ≡ Missing)
 
--- each answer comes where it has to, and leaves this; out of memory leaves all as it was
+-- a fault occurs only if the get must fail, any other result only if it need not, each with this state after it; out of
+-- memory changes nothing
 abbrev pub Leaves : Result (Vec ℕ Global) GetFault → ShelfState → List ℕ → ShelfState → Type 0
 Leaves (Err NoMemory) old name now = now ≡ old
 Leaves (Err Failed) old name now = HasToFail old name × (now ≡ after_fault old name)

@@ -1,4 +1,4 @@
--- What a shelf tells of a name.
+-- What is known about a name of a shelf.
 use Rattle.std.specs.Prelude.{ℕ, List, Option, None, Some}
 
 -- nothing, that it is missing, or the content
@@ -7,7 +7,7 @@ pub data Told : Type 0 where
   Missing : Told
   Holds : List ℕ → Told
 
--- what a reader tells that has these bytes left, where they are known
+-- what is known from a reader that has these bytes left, if they are known
 abbrev pub told_left : Option (List ℕ) → Told
 told_left None = Untold
 told_left (Some bytes) = Holds bytes

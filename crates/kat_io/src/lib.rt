@@ -1,4 +1,4 @@
-//! The outside of the program: a shelf of named contents, and a sink of bytes.
+//! Input and output of the program: a shelf of named contents, and a sink of bytes.
 #![tactic(auto)]
 
 mod mem_shelf;

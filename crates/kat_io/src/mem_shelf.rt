@@ -1,4 +1,4 @@
-//! A shelf in memory, whose calls fail as they were told to.
+//! A shelf in memory, of which chosen calls fail.
 ghost use Rattle.std.specs.Prelude.{◌≡◌, ◌∷◌, [], ◌++◌, ◌≤◌, ◌^◌, ◌<◌, ℕ, List, None, OnOk, OnErr, MatchOption, IsTrue, false, ◌↔◌, string_bytes};
 ghost use Rattle.std.specs.FinMap as map;
 ghost use Rattle.kat_io.specs.Gets.{IsCounted, GetsFrom};
@@ -36,7 +36,7 @@ impl Model for MemShelf {
     ghost view = { λ s. record { files = contents_of s.files.entries; schedule = s.schedule.items; calls = s.calls; faults = s.faults; last = option_map string_bytes s.last } };
 }
 
-// Whether so many bytes are past the limit.
+// Returns whether the number of bytes is past the limit.
 pub(crate) fn is_past(count: usize, limit: Option<u64>) -> bool
     ensures { MatchOption limit (result ≡ false) (λ most. IsTrue result ↔ (most < count)) }
 {
@@ -46,7 +46,7 @@ pub(crate) fn is_past(count: usize, limit: Option<u64>) -> bool
     }
 }
 
-// The content of a name.
+// Returns the content of a name.
 fn content_of<'a>(files: &'a BTreeMap<String, Vec<u8>>, name: &str) -> Option<&'a [u8]>
     ensures { option_copied result ≡ map.get (contents_of files.now.entries) name.now }
 {
@@ -57,7 +57,7 @@ fn content_of<'a>(files: &'a BTreeMap<String, Vec<u8>>, name: &str) -> Option<&'
 }
 
 impl MemShelf {
-    /// A shelf that holds nothing, is told of no failure and has had no fault.
+    /// Returns an empty shelf with no planned failure and no fault so far.
     pub fn new(alloc: Global) -> MemShelf
         ensures { result ≡ record { files = map.empty; schedule = []; calls = 0; faults = 0; last = None } }
     {
@@ -71,7 +71,7 @@ impl MemShelf {
         }
     }
 
-    /// Sets the content of a name. A refusal leaves the shelf as it was.
+    /// Sets the content of a name. When out of memory, the shelf is unchanged.
     pub fn add(&mut self, name: &str, bytes: &[u8]) -> Result<(), NoMemory>
         ensures ok { OnOk result (self.new ≡ record self.old { files = map.insert self.old.files name.now bytes.now }) }
         ensures err { OnErr result (self.new ≡ self.old) }
@@ -82,7 +82,7 @@ impl MemShelf {
         Ok(())
     }
 
-    /// Has the call of that number fail, counted from 0. A refusal leaves the shelf as it was.
+    /// Plans that the call of this number fails, counted from 0. When out of memory, the shelf is unchanged.
     pub fn fail_at(&mut self, call: u64) -> Result<(), NoMemory>
         ensures ok { OnOk result (self.new ≡ record self.old { schedule = self.old.schedule ++ call ∷ [] }) }
         ensures err { OnErr result (self.new ≡ self.old) }
@@ -114,7 +114,7 @@ impl Shelf for MemShelf {
         ensures whole { GetsFrom (tells self.old name.now) result limit }
         ensures kept { (other : List ℕ) → tells self.new other ≡ tells self.old other }
 
-        // A call that is due and a name that is missing are its only faults. Want of memory changes nothing.
+        // Only a call that is due and a missing name are faults. Out of memory changes nothing.
         ensures state { Leaves result self.old name.now self.new }
     {
         let copy = String::from_str(self.alloc, name)?;

@@ -1,4 +1,4 @@
-//! A sink in memory, whose calls fail as they were told to.
+//! A sink in memory, of which chosen calls fail.
 ghost use Rattle.std.specs.Prelude.{◌≡◌, ◌∷◌, [], ◌++◌, ◌≤◌, ◌^◌, ℕ, Some, Ok, Err, IfOk, OnOk, OnErr, if◌then◌else◌};
 ghost use Rattle.kat_io.specs.Outside.{one_more, Puts, HasCause};
 ghost use Rattle.kat_io.specs.Sinks.{put_gives, after_put};
@@ -8,7 +8,7 @@ use kat_model::NoMemory;
 use std::alloc::Global;
 use std::marker::Model;
 
-/// Takes bytes up to its room.
+/// A sink that takes bytes up to its room.
 #[derive(Drop)]
 pub struct MemSink {
     bytes: Vec<u8>,
@@ -30,7 +30,7 @@ impl Model for MemSink {
     ghost invariant = { λ s. (1 ≤ s.most) × (length s.bytes.items ≤ s.room) × (s.room ≤ vec_capacity s.bytes) };
 }
 
-// The count after one more, which stands still at its type's end.
+// Returns the next count, saturated at `u64::MAX`.
 pub(crate) fn more(count: u64) -> u64
     ensures value { result ≡ one_more count }
     ensures later { count ≤ result }
@@ -39,8 +39,7 @@ pub(crate) fn more(count: u64) -> u64
 }
 
 impl MemSink {
-    /// A sink that has room for so many bytes, of which one put takes at most `most`. All memory is taken
-    /// here.
+    /// Returns a sink with room for `room` bytes, of which one put takes at most `most`. All memory is taken here.
     pub fn new(alloc: Global, room: usize, most: usize) -> Result<MemSink, NoMemory>
         requires { 1 ≤ most }
         ensures { IfOk result (λ s. s ≡ record { room = room; most = most; taken = []; schedule = []; calls = 0; faults = 0 }) }
@@ -55,7 +54,7 @@ impl MemSink {
         })
     }
 
-    /// Has the call of that number fail, counted from 0. A refusal leaves the sink as it was.
+    /// Plans that the call of this number fails, counted from 0. When out of memory, the sink is unchanged.
     pub fn fail_at(&mut self, call: u64) -> Result<(), NoMemory>
         ensures ok { OnOk result (self.new ≡ record self.old { schedule = self.old.schedule ++ call ∷ [] }) }
         ensures err { OnErr result (self.new ≡ self.old) }
@@ -64,7 +63,7 @@ impl MemSink {
         Ok(())
     }
 
-    /// The bytes taken so far.
+    /// Returns the bytes taken so far.
     pub fn taken(&self) -> &[u8]
         ensures { result.now ≡ self.now.taken }
     {
@@ -81,7 +80,8 @@ impl Sink for MemSink {
         ensures bytes { Puts (Some self.old.taken) (Some self.new.taken) result piece.now }
         ensures cause { HasCause self.old.faults self.new.faults result }
 
-        // It fails where it was told to and where there is no room, and takes all that it may otherwise.
+        // Fails if the call is due or if there is no room for a piece that is not empty, and otherwise takes as many
+        // bytes as it may.
         ensures exact { result ≡ put_gives self.old piece.now }
         ensures after { self.new ≡ after_put self.old piece.now }
     {

@@ -1,6 +1,6 @@
-//! The real outside: the current folder, and standard output. The shelf is one over any opener of files, and the sink one
-//! over any writer, and both are proved whatever these tell. The opener of the folder and std's writer tell nothing, so of
-//! those two alone the bytes are not proved.
+//! Files of the current folder, and standard output. The shelf works over any opener of files and the sink over any
+//! writer, and both are proved for all of them. The contents of the folder and of std's writer are unknown, so only for
+//! those two the bytes are not proved.
 ghost use Rattle.std.specs.Prelude.{◌≡◌, ℕ, List, None, IfOk, string_bytes};
 ghost use Rattle.std.specs.Option.{option_map};
 ghost use Rattle.kat_io.specs.Told.{Told, Untold, told_left};
@@ -21,15 +21,15 @@ pub trait Opener {
     /// An open file.
     type File: Read + Drop;
 
-    /// What the opener has under a name, where it tells that.
+    /// What is known about the content under a name.
     ghost content: { Self → List ℕ → Told };
 
-    /// The file of the name, which gives what the opener tells of it.
+    /// Opens the file of the name. If the content is known, the file has this content.
     fn open(&self, name: &str) -> io::Result<Self::File>
         ensures { IfOk result (λ file. Opens (content self.now name.now) (Self.File.remaining file)) };
 }
 
-/// The files of the current folder. What they hold is not told.
+/// The files of the current folder. Their contents are unknown.
 #[derive(Drop)]
 pub struct Folder<'a, R: Files> {
     rt: &'a R,
@@ -47,7 +47,7 @@ impl<'a, R: Files> Opener for Folder<'a, R> {
     }
 }
 
-/// The files that an opener has, by their names.
+/// A shelf of the files of an opener, by their names.
 #[derive(Drop)]
 pub struct FileShelf<O: Opener> {
     opener: O,
@@ -55,11 +55,11 @@ pub struct FileShelf<O: Opener> {
     last: Option<String>,
 }
 
-/// The files of the current folder by their names.
+/// A shelf of the files of the current folder, by their names.
 pub type FolderShelf<'a, R> = FileShelf<Folder<'a, R>>;
 
 impl<'a, R: Files> FileShelf<Folder<'a, R>> {
-    /// A shelf with no faults so far.
+    /// Returns a shelf with no faults so far.
     pub fn new(rt: &'a R) -> FileShelf<Folder<'a, R>>
         ensures faults { result.faults ≡ 0 }
         ensures last { result.last ≡ None }
@@ -72,8 +72,8 @@ impl<'a, R: Files> FileShelf<Folder<'a, R>> {
     }
 }
 
-// All bytes that the reader has left, unless they are more than the limit. Up to one piece past the limit
-// is read. Each turn takes at least one byte, so a content that outlives the turns is larger than any
+// Returns all bytes that the reader has left, unless they are more than the limit. Reads up to one piece past the
+// limit. Each turn takes at least one byte, so a content that is not complete after all turns is larger than any
 // vector.
 fn read_within<R: Read>(
     reader: &mut R,
@@ -136,7 +136,7 @@ impl<O: Opener> Shelf for FileShelf<O> {
     }
 }
 
-// A writer that takes nothing of a piece that is not empty has failed.
+// Writes a prefix of the piece. A writer that takes nothing of a piece that is not empty has failed.
 fn write_some<W: Write>(writer: &mut W, piece: &[u8]) -> Result<usize, Failed>
     ensures { Puts (W.contents writer.old) (W.contents writer.new) result piece.now }
 {
@@ -146,18 +146,18 @@ fn write_some<W: Write>(writer: &mut W, piece: &[u8]) -> Result<usize, Failed>
     }
 }
 
-/// What a writer takes.
+/// A sink over a writer.
 #[derive(Drop)]
 pub struct WriterSink<W: Write> {
     writer: W,
     faults: u64,
 }
 
-/// The standard output.
+/// A sink over standard output.
 pub type StdoutSink<'a, R> = WriterSink<Printer<'a, R>>;
 
 impl<'a, R: Print> WriterSink<Printer<'a, R>> {
-    /// A sink with no faults so far.
+    /// Returns a sink with no faults so far.
     pub fn new(rt: &'a R) -> WriterSink<Printer<'a, R>>
         ensures { result.faults ≡ 0 }
     {

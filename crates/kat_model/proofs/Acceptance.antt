@@ -1,4 +1,4 @@
--- Which guarded strings a set of terms accepts, and which a term accepts by its form.
+-- The guarded strings that a set of terms accepts, and those that a term accepts, by its form.
 use Rattle.std.proofs.Common.{◌≡◌, ℕ, List, [], ◌∷◌, ◌++◌, refl, sym, ap, ◌∙◌, subst, Bool, false, ◌||◌}
 use Rattle.std.specs.Bool.{IsTrue}
 use Rattle.std.specs.List.{list_any, flat_map}
@@ -83,7 +83,7 @@ pub accepts-sum : (e f : Term) (atom : Atom) (ms : List Move) → accepts (sum e
 accepts-sum e f atom [] = refl
 accepts-sum e f atom (m ∷ ms) = set_accepts-append (next e atom m.act) (next f atom m.act) m.atom ms
 
--- what is left to do of `one` is nothing
+-- `dot` accepts the same strings as the product
 pub accepts-dot : (e f : Term) (atom : Atom) (ms : List Move) → accepts (dot e f) atom ms ≡ accepts (product e f) atom ms
 accepts-dot zero f atom ms = refl
 accepts-dot one f atom [] = refl

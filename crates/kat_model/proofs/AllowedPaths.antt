@@ -1,4 +1,4 @@
--- A table that keeps hypotheses has allowed moves, and one that has them keeps those that are short.
+-- A table that keeps hypotheses has only allowed moves, and such a table keeps the short hypotheses.
 use Rattle.std.proofs.Common.{◌≡◌, ℕ, ◌<◌, List, [], ◌∷◌, refl, false}
 use Rattle.std.specs.Bool.{IsTrue}
 use Rattle.std.proofs.lemmas.Bool.{false_from_ne_true}
@@ -32,13 +32,13 @@ module _ (t : Table) (hyps : List Term) (keeps : Keeps t hyps) where
       moves m h lf lt = record { from = atoms m.from lf; to = atoms m.to lt; move = kept_refuse m.from (record { act = m.act; to = m.to } ∷ []) m.to lf lt (lt, h, refl) }
 
 module _ (t : Table) (shorts : List Term) (allowed : HasAllowedMoves shorts t) where
-  -- its paths spell allowed strings alone
+  -- the paths of the table spell only allowed strings
   pub spelled_allowed : (i : ℕ) (hops : List (Hop ℕ)) (j : ℕ) → i < t.states → IsPath (frame_of t) i hops j → AreAllowed shorts (atom_at t i) (spelled (frame_of t) hops)
   spelled_allowed i [] j li path = allowed.atoms i li
   spelled_allowed i (hop ∷ hops) j li path =
       (allowed.moves (record { from = i; act = hop.act; to = hop.to }) path.1 li path.0, spelled_allowed hop.to hops j path.0 path.2)
 
-  -- so it keeps them, if they are short
+  -- so the table keeps the hypotheses if they are short
   pub allowed_keeps : ((h : Term) → Has shorts h → IsTrue (is_short h)) → Keeps t shorts
   allowed_keeps are_short h has i j li lj r =
       let s = relates_spelled (frame_of t) h i j li lj r in

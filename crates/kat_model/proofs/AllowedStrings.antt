@@ -1,4 +1,4 @@
--- A string is allowed exactly where no short hypothesis accepts a part of it.
+-- A string is allowed exactly when no short hypothesis accepts a part of it.
 use Rattle.std.proofs.Common.{◌≡◌, ◌≤◌, List, [], ◌∷◌, ◌++◌, length, refl, ap, subst, arith, false, append_assoc}
 use Rattle.std.specs.Bool.{IsTrue}
 use Rattle.std.proofs.lemmas.Bool.{both_ways, false_from_ne_true}
@@ -20,7 +20,7 @@ pub allowed_after : (shorts : List Term) (atom : Atom) (xs ys : List Move) → A
 allowed_after shorts atom [] ys all = all
 allowed_after shorts atom (m ∷ xs) ys all = allowed_after shorts m.atom xs ys all.1
 
--- no short hypothesis accepts a part that begins an allowed string
+-- no short hypothesis accepts a prefix of an allowed string
 pub allowed_refuse : (shorts : List Term) (h : Term) (atom : Atom) (part after : List Move)
     → Has shorts h → length part ≤ 1 → AreAllowed shorts atom (part ++ after) → IsTrue (accepts h atom part) → ⊥
 allowed_refuse shorts h atom [] after has few all taken =
@@ -37,14 +37,14 @@ module _ (shorts : List Term) (are_short : (h : Term) → Has shorts h → IsTru
       allowed_refuse shorts h start w.part w.after has few
       (allowed_after shorts atom w.before (w.part ++ w.after) (subst (AreAllowed shorts atom) (append_assoc w.before w.part w.after) whole)) w.taken
 
--- a part that the term accepts is one of a longer string
+-- a part that the term accepts is also a part of the string with an additional first move
 within_later : (h : Term) (atom : Atom) (m : Move) (ms : List Move) → IsWithin h m.atom ms → IsWithin h atom (m ∷ ms)
 within_later h atom m ms w = record { before = m ∷ w.before; part = w.part; after = w.after; whole = ap (λ l. m ∷ l) w.whole; taken = w.taken }
 
 within_first : (h : Term) (atom : Atom) (part after : List Move) → IsTrue (accepts h atom part) → IsWithin h atom (part ++ after)
 within_first h atom part after taken = record { before = []; part = part; after = after; whole = refl; taken = taken }
 
--- where none is inside the string, the set refuses what begins it
+-- if no hypothesis accepts a part of the string, the set accepts no prefix of it
 none_within_refuse : (hyps : List Term) (atom : Atom) (part after : List Move) → ((h : Term) → Has hyps h → IsWithin h atom (part ++ after) → ⊥) → set_accepts hyps atom part ≡ false
 none_within_refuse hyps atom part after none =
     false_from_ne_true _ (λ t. let r = has_set_accepts hyps atom part t in none r.0 r.1 (within_first r.0 atom part after r.2))

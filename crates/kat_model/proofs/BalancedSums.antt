@@ -1,4 +1,4 @@
--- What a balanced sum accepts, steps to and relates: what its members do.
+-- A balanced sum accepts, steps to and relates what its members do.
 use Rattle.std.proofs.Common.{◌≡◌, ℕ, inl, inr, ⊎_elim, ◌↔◌, List, [], ◌∷◌, ◌++◌, refl, sym, ◌∙◌, subst, ◌||◌}
 use mathlib.Core.Path.{ap₂}
 use Rattle.std.proofs.lemmas.List.{append-nil}
@@ -35,7 +35,7 @@ pub out-sum_of : (es : List Term) (atom : Atom) → out (sum_of es) atom ≡ set
 out-sum_of es atom = accepts-sum_of es atom []
 
 module _ {S : Type 0} (frame : Frame S) (i j : S) where
-  -- a sum relates what some member does
+  -- a sum relates two states exactly when some member does
   pub sum_of_relations : (es : List Term) → RelatesIn frame (sum_of es) i j ↔ SomeRelates frame es i j
   sum_of_relations es = balanced_holds term_zero sum (λ fs e. RelatesIn frame e i j ↔ SomeRelates frame fs i j) none one two es
     where
@@ -51,10 +51,10 @@ module _ {S : Type 0} (frame : Frame S) (i j : S) where
         (λ s. ⊎_elim (λ x. inl (p.1 (s.0, x, s.2))) (λ y. inr (q.1 (s.0, y, s.2))) (has_append fs gs s.0 s.1)),
       )
 
-  -- what a sum relates, a member does
+  -- if a sum relates two states, some member does
   pub relates_sum_of : (es : List Term) → RelatesIn frame (sum_of es) i j → (e : Term) × Has es e × RelatesIn frame e i j
   relates_sum_of es r = (sum_of_relations es).0 r
 
-  -- what a member relates, the sum does
+  -- if a member relates two states, the sum does
   pub sum_of_relates : (es : List Term) (e : Term) → Has es e → RelatesIn frame e i j → RelatesIn frame (sum_of es) i j
   sum_of_relates es e h r = (sum_of_relations es).1 (e, h, r)

@@ -5,7 +5,8 @@ use mathlib.Core.Path.{ap₂}
 use Rattle.kat_model.specs.Balanced.{balanced_within, balanced}
 
 module _ {X : Type 0} (unit : X) (node : X → X → X) where
-  -- what holds of no member, of one, and of two lists' trees under a node holds of a list and its tree
+  -- what holds for the empty list, for one member, and for the node over the trees of two lists holds for every list
+  -- and its tree
   pub balanced_within_holds : (P : List X → X → Type 0) → P [] unit → ((x : X) → P (x ∷ []) x) → ((xs ys : List X) (a b : X) → P xs a → P ys b → P (xs ++ ys) (node a b)) → (n : ℕ) (xs : List X) → length xs ≤ n → P xs (balanced_within unit node n xs)
   balanced_within_holds P none one two zero [] le = none
   balanced_within_holds P none one two zero (x ∷ xs) le = absurd (omega arith)
@@ -21,7 +22,7 @@ module _ {X : Type 0} (unit : X) (node : X → X → X) where
   pub balanced_holds : (P : List X → X → Type 0) → P [] unit → ((x : X) → P (x ∷ []) x) → ((xs ys : List X) (a b : X) → P xs a → P ys b → P (xs ++ ys) (node a b)) → (xs : List X) → P xs (balanced unit node xs)
   balanced_holds P none one two xs = balanced_within_holds P none one two (length xs) xs (omega arith)
 
-  -- any bound that the length is within gives the same tree
+  -- every bound that is at least the length gives the same tree
   pub balanced_within_more : (n m : ℕ) (xs : List X) → length xs ≤ n → length xs ≤ m → balanced_within unit node n xs ≡ balanced_within unit node m xs
   balanced_within_more zero zero xs h k = refl
   balanced_within_more zero (suc m) [] h k = refl
@@ -40,7 +41,7 @@ module _ {X : Type 0} (unit : X) (node : X → X → X) where
   pub balanced_within-enough : (n : ℕ) (xs : List X) → length xs ≤ n → balanced_within unit node n xs ≡ balanced unit node xs
   balanced_within-enough n xs h = balanced_within_more n (length xs) xs h (omega arith)
 
-  -- the tree of two members or more
+  -- the tree of two or more members is the node over the trees of both halves
   pub balanced-halves : (xs : List X) → 2 ≤ length xs → balanced unit node xs ≡ node (balanced unit node (take (length xs / 2) xs)) (balanced unit node (drop (length xs / 2) xs))
   balanced-halves [] h = absurd (omega arith)
   balanced-halves (x ∷ []) h = absurd (omega arith)
@@ -52,7 +53,7 @@ module _ {X : Type 0} (unit : X) (node : X → X → X) where
       let b = length-drop i l in
       ap₂ node (balanced_within-enough n (take i l) (omega arith)) (balanced_within-enough n (drop i l) (omega arith))
 
-  -- the tree of the members from a place on, of which there are two or more
+  -- the tree of the members from an index on, if there are two or more
   pub balanced-last : {Y : Type 0} (f : Y → X) (l : List Y) (low half count : ℕ) → length l ≡ low + count → 2 ≤ count → half ≡ count / 2 → balanced unit node (map f (drop low l)) ≡ node (balanced unit node (map f (drop low (take (low + half) l)))) (balanced unit node (map f (drop (low + half) l)))
   balanced-last f l low half count e h k =
       let n : length (map f (drop low l)) ≡ count = omega (arith, length-map (drop low l) f, length-drop low l) in
@@ -61,7 +62,7 @@ module _ {X : Type 0} (unit : X) (node : X → X → X) where
       let b : drop half (map f (drop low l)) ≡ map f (drop (low + half) l) = drop-map f half (drop low l) ∙ ap (map f) (drop-drop half low l) in
       balanced-halves (map f (drop low l)) (omega arith) ∙ rw (m, a, b) refl
 
-  -- the trees of the last members, taken from the list in two parts, the later part first
+  -- the trees of the last members, if they are taken from the list in two parts, the later part first
   pub balanced-parts : {Y : Type 0} (f : Y → X) (l rest : List Y) (len left count : ℕ) (s r : X) → len ≡ length l → left ≡ length rest → count ≤ len → 2 ≤ count → rest ≡ take (len - (count - count / 2)) l → s ≡ balanced unit node (map f (drop (left - count / 2) rest)) → r ≡ balanced unit node (map f (drop (len - (count - count / 2)) l)) → node s r ≡ balanced unit node (map f (drop (len - count) l))
   balanced-parts f l rest len left count s r e d within two cut es er =
       let mid : len - (count - count / 2) ≡ len - count + count / 2 = omega arith in

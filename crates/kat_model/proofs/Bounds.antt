@@ -1,4 +1,4 @@
--- How many different pairs of sets there are over two terms.
+-- Bounds on the number of different pairs of sets over two terms.
 use Rattle.std.proofs.Common.{◌≡◌, ◌+◌, ◌*◌, ◌^◌, ◌≤◌, inl, inr, ⊎_elim, List, [], ◌∷◌, map, length, refl, sym, ◌∙◌, subst, arith, Bool}
 use Rattle.std.proofs.lemmas.List.{length-map}
 use Rattle.kat_model.specs.Trees.{Term, acts}
@@ -12,12 +12,12 @@ use Rattle.kat_model.proofs.SameTrees.{holds-true, has-holds}
 use Rattle.kat_model.proofs.Reach.{length-reach}
 use Rattle.kat_model.proofs.Counting.{AreToldApart, told_apart_within, all_bits, length-all_bits, all_bits_has, all_pairs, length-all_pairs, all_pairs_has}
 
--- where a list tells each set of a kind
+-- a list has a key for each set of a kind, and sets with the same key have the same members
 record AreTold {Y : Type 0} (ys : List Y) (Tells : Y → List Term → Type 0) (Kind : List Term → Type 0) : Type 0 where
   pub told : (es : List Term) → Kind es → (y : Y) × Has ys y × Tells y es
   pub same : (y : Y) (es fs : List Term) → Tells y es → Tells y fs → SameMembers es fs
 
--- different pairs are no more than the product of the numbers of what tells their sets
+-- the number of different pairs is at most the product of the numbers of keys of their sets
 module _ {Y Z : Type 0} (ys : List Y) (zs : List Z) (Left : Y → List Term → Type 0) (Right : Z → List Term → Type 0) (KindLeft KindRight : List Term → Type 0) (lefts : AreTold ys Left KindLeft) (rights : AreTold zs Right KindRight) where
   abbrev TellBoth : Y × Z → SetPair → Type 0
   TellBoth k p = Left k.0 p.left × Right k.1 p.right
@@ -40,7 +40,7 @@ module _ {Y Z : Type 0} (ys : List Y) (zs : List Z) (Left : Y → List Term → 
           let r = rights.told p.right (kinds p h).1 in
           ((l.0, r.0), all_pairs_has ys zs l.0 r.0 l.1 r.1, (l.2, r.2))
 
--- a set is told by which of these terms it has
+-- the key of a set of these terms: which of the terms it contains
 module _ (us : List Term) where
   abbrev HasThese : List Bool → List Term → Type 0
   HasThese bits es = IsSubset es us × (map (holds es) us ≡ bits)
@@ -66,7 +66,7 @@ module _ (us : List Term) where
         same = same_these;
       }
 
--- a set of at most one member is told by that member
+-- the keys of sets with at most one member: the empty list, and lists of one member
 abbrev singles_of : Term → List (List Term)
 singles_of e = [] ∷ map (λ x. x ∷ []) (e ∷ reach e)
 

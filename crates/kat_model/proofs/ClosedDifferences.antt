@@ -1,4 +1,4 @@
--- Strings on which the closed sides differ: short hypotheses need not be eliminated, where strings are allowed.
+-- Strings on which the closed sides differ. On allowed strings, short hypotheses need not be eliminated.
 use Rattle.std.proofs.Common.{◌≡◌, ◌≢◌, ℕ, ◌↔◌, ⊎_elim, List, [], ◌∷◌, refl, sym, ap, ◌∙◌, true, false, ◌||◌}
 use Rattle.std.proofs.Math.Bool.{or-true, or-false}
 use Rattle.std.proofs.lemmas.Bool.{false_from_ne_true}
@@ -36,7 +36,7 @@ module _ (tests actions : ℕ) (left right : Term) (atom : Atom) (ms : List Move
     taken = accepts-sum_of hyps (last_atom atom w.before) w.part ∙ set_accepts_has hyps (last_atom atom w.before) w.part h has w.taken;
   }
 
-  -- a hypothesis inside the string makes both accept it
+  -- if the closed sides differ, no hypothesis accepts a part of the string, since both would accept it
   pub differ_none_within : (hyps : List Term) → ClosedDiffer hyps → (h : Term) → Has hyps h → IsWithin h atom ms → ⊥
   differ_none_within [] differ h has w = absurd has
   differ_none_within (g ∷ gs) differ h has w =
@@ -47,7 +47,7 @@ module _ (tests actions : ℕ) (left right : Term) (atom : Atom) (ms : List Move
       λ e. accepts-sum e around atom ms ∙ ap (λ b. accepts e atom ms || b) taken ∙ or-true (accepts e atom ms) in
       differ (both left ∙ sym (both right))
 
-  -- and without one they accept what the sides accept
+  -- if no hypothesis accepts a part of the string, the closed sides accept it exactly when the sides do
   pub none_within_closed : (hyps : List Term) → ((h : Term) → Has hyps h → IsWithin h atom ms → ⊥)
       → (accepts (closed_under actions hyps left right).left atom ms ≡ accepts left atom ms) × (accepts (closed_under actions hyps left right).right atom ms ≡ accepts right atom ms)
   none_within_closed [] none = (refl, refl)
@@ -65,7 +65,8 @@ module _ (tests actions : ℕ) (left right : Term) (atom : Atom) (ms : List Move
   closed_differ : (hyps : List Term) → ((h : Term) → Has hyps h → IsWithin h atom ms → ⊥) → accepts left atom ms ≢ accepts right atom ms → ClosedDiffer hyps
   closed_differ hyps none differ e = let c = none_within_closed hyps none in differ (sym c.0 ∙ e ∙ c.1)
 
-  -- the closed sides differ on a string exactly where it is allowed and those of the long hypotheses differ.
+  -- the closed sides differ on a string exactly when it is allowed and the closed sides with only the long hypotheses
+  -- differ on it
   pub differ_by_allowed : (hyps shorts longs : List Term) → AreSplit hyps shorts longs → ClosedDiffer hyps ↔ (AreAllowed shorts atom ms × ClosedDiffer longs)
   differ_by_allowed hyps shorts longs split = (there, back)
     where

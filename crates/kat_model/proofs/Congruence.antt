@@ -1,4 +1,4 @@
--- Sets of which the pairs make the same set.
+-- Congruent sets, which the pairs saturate to the same set.
 use Rattle.std.proofs.Common.{inl, inr, ⊎_elim, List, Option, Some, None}
 use Rattle.kat_model.specs.Trees.{Term}
 use Rattle.kat_model.specs.Members.{Has, IsSubset, SameMembers}
@@ -6,11 +6,11 @@ use Rattle.kat_model.specs.Pairs.{SetPair, sat, BothUniversal, IsListed, IsCongr
 use Rattle.kat_model.proofs.Saturation.{IsClosed, sat_keeps, sat_each}
 use Rattle.kat_model.proofs.SaturationEnds.{sat_closed}
 
--- a closed set that holds a set holds what the pairs make of it
+-- a closed set that includes a set includes its saturation by the pairs
 pub sat_least : (ps : List SetPair) (es fs : List Term) → IsClosed ps fs → IsSubset es fs → IsSubset (sat ps es) fs
 sat_least ps es fs c s = sat_each (Has fs) ps es c s
 
--- so it grows with the set, and depends on its members alone
+-- so the saturation grows with the set, and depends only on its members
 pub sat_grows : (ps : List SetPair) (es fs : List Term) → IsSubset es (sat ps fs) → IsSubset (sat ps es) (sat ps fs)
 sat_grows ps es fs s = sat_least ps es (sat ps fs) (sat_closed ps fs) s
 
@@ -40,7 +40,7 @@ matched_congruent plain universal ps es fs m =
     m
 matched_congruent up_to universal ps es fs m = m
 
--- more pairs make of a set a larger one
+-- more pairs give a larger saturation
 module _ (ps qs : List SetPair) (more : IsSubset ps qs) where
   sat_more : (es : List Term) → IsSubset (sat ps es) (sat qs es)
   sat_more es = sat_least ps es (sat qs es) (λ p h. sat_closed qs es p (more p h)) (sat_keeps qs es)
@@ -48,7 +48,7 @@ module _ (ps qs : List SetPair) (more : IsSubset ps qs) where
   same_more : (es fs : List Term) → IsSubset (sat ps fs) (sat ps es) → IsSubset (sat qs fs) (sat qs es)
   same_more es fs s = sat_grows qs fs es (λ x h. sat_more es x (s x (sat_keeps ps fs x h)))
 
-  -- so sets that are congruent under some of the pairs are congruent under all
+  -- so sets that are congruent under some of the pairs are congruent under all pairs
   pub congruent_more : (universal : Option Term) (es fs : List Term) → IsCongruent universal ps es fs → IsCongruent universal qs es fs
   congruent_more universal es fs c =
       ⊎_elim

@@ -1,5 +1,5 @@
--- How many members a list can have that are told apart by those of another, all lists of so many truth
--- values, and all pairs of two lists' members.
+-- Counting: lists whose members have different keys in another list, all lists of n truth values, and all pairs of
+-- members of two lists.
 use Rattle.std.proofs.Common.{◌≡◌, ℕ, zero, suc, ◌*◌, ◌^◌, ◌≤◌, inl, inr, ⊎_elim, List, [], ◌∷◌, ◌++◌, map, length, refl, sym, ap, ◌∙◌, subst, arith, Bool, true, false, length-append, pow-suc}
 use Rattle.std.proofs.lemmas.List.{length-map}
 use Rattle.std.proofs.Math.Nat.{suc-mul}
@@ -28,12 +28,12 @@ module _ {X : Type 0} where
   without_has (y ∷ xs) x z (inr h) (inr k) ne = inr (without_has xs x z h k ne)
 
 module _ {X Y : Type 0} (Tells : Y → X → Type 0) where
-  -- what tells a member tells no later one
+  -- a key of a member is not a key of a later member
   abbrev pub AreToldApart : List X → Type 0
   AreToldApart [] = Unit {0}
   AreToldApart (x ∷ xs) = ((y : Y) (z : X) → Has xs z → Tells y x → Tells y z → ⊥) × AreToldApart xs
 
-  -- members that are told apart are no more than what tells them
+  -- the number of members with different keys is at most the number of keys
   pub told_apart_within : (xs : List X) (ys : List Y) → AreToldApart xs → ((x : X) → Has xs x → (y : Y) × Has ys y × Tells y x) → length xs ≤ length ys
   told_apart_within [] ys apart told = omega arith
   told_apart_within (x ∷ xs) ys apart told =
@@ -41,7 +41,7 @@ module _ {X Y : Type 0} (Tells : Y → X → Type 0) where
       let rest = told_apart_within xs (without ys here.0 here.1) apart.1 (λ z h. let t = told z (inr h) in (t.0, without_has ys here.0 t.0 here.1 t.1 (λ e. apart.0 here.0 z h here.2 (subst (λ y. Tells y z) e t.2)), t.2)) in
       omega (arith, rest, length-without ys here.0 here.1)
 
--- a list with no doubles is no longer than one that has all its members
+-- a list without duplicates is no longer than a list that has all its members
 pub no_doubles_within : {X : Type 0} (xs ys : List X) → HasNoDoubles xs → IsSubset xs ys → length xs ≤ length ys
 no_doubles_within {X} xs ys distinct within = told_apart_within (λ (y x : X). y ≡ x) xs ys (apart xs distinct) (λ x h. (x, within x h, refl))
   where

@@ -1,5 +1,5 @@
--- The language of a product is the concatenation of two languages, and that of a star the concatenations
--- of any number of strings of one.
+-- The language of a product is the concatenation of two languages. The language of a star consists of the
+-- concatenations of any number of strings of one language.
 use Rattle.std.proofs.Common.{◌≡◌, ℕ, zero, suc, ◌≤◌, ⊎_elim, List, [], ◌∷◌, ◌++◌, length, refl, sym, ap, ◌∙◌, subst, arith}
 use Rattle.std.specs.Bool.{IsTrue}
 use Rattle.std.specs.List.{flat_map}
@@ -46,7 +46,7 @@ accepts_product e f atom (m ∷ ms) h =
     (λ q. record { before = []; after = m ∷ ms; whole = refl; first = q.0; second = step_accepts f atom m ms x.0 q.1 x.2 })
     (has_next_product atom m.act e f x.0 x.1)
 
--- a piece before a string of a star
+-- a piece followed by a string of the star is a string of the star
 pub star_accepts_piece : (e : Term) (atom : Atom) (piece rest : List Move) → IsTrue (accepts e atom piece) → IsTrue (accepts (star e) (last_atom atom piece) rest) → IsTrue (accepts (star e) atom (piece ++ rest))
 star_accepts_piece e atom [] rest h g = g
 star_accepts_piece e atom (m ∷ ms) rest h g =
@@ -58,7 +58,7 @@ pub star_accepts : (e : Term) (atom : Atom) (ps : List (List Move)) → AcceptsE
 star_accepts e atom [] h = refl
 star_accepts e atom (p ∷ ps) h = star_accepts_piece e atom p (flat_map (λ q. q) ps) h.0 (star_accepts e (last_atom atom p) ps h.1)
 
--- the first piece of a string of a star, after its first move
+-- after its first move, a string of a star is the rest of the first piece and a string of the star
 accepts_star_step : (e : Term) (atom : Atom) (m : Move) (ms : List Move) → IsTrue (accepts (star e) atom (m ∷ ms)) → (x : Term) × Has (next e atom m.act) x × IsCut x (star e) m.atom ms
 accepts_star_step e atom m ms h =
     let x = accepts_step (star e) atom m ms h in

@@ -1,4 +1,4 @@
--- The plainest search is true exactly where the term relates the states.
+-- The direct search returns true exactly when the term relates the states.
 use Rattle.std.proofs.Common.{◌≡◌, ℕ, zero as nought, suc, ◌<◌, ◌⊎◌, inl, inr, ⊎_elim, ◌↔◌, refl, sym, ◌∙◌, subst, arith, Bool, false, ◌&&◌, eqb}
 use Rattle.std.specs.Bool.{IsTrue}
 use Rattle.std.proofs.lemmas.Bool.{true≢false, false≢true, eqb-true, eq-eqb, or_cases, or_left, or_right, and_parts, and_from}
@@ -71,7 +71,7 @@ module _ (t : Table) where
   relates_now_decides (star e) i j li lj =
       through_now_leads t.states (computes_relation t e) (Relates t e) (λ k l sk sl. relates_now_decides e k l sk sl) i j li lj
 
-  -- what is computed as true holds, and what is computed as false does not
+  -- if the computed value is true, the term relates the states; if it is false, it does not
   pub computed_relates : (e : Term) (i j : ℕ) → i < t.states → j < t.states → IsTrue (computes_relation t e i j) → Relates t e i j
   computed_relates e i j li lj h = (relates_now_decides e i j li lj).0 h
 

@@ -13,7 +13,7 @@ use Rattle.kat_model.specs.Degrees.{both_bounds, repeated_bound, degree, IsBound
 use Rattle.kat_model.proofs.Acceptance.{accepts-zero, accepts_one, accepts_test, accepts_act, accepts-sum}
 use Rattle.kat_model.proofs.Cuts.{accepts_product, accepts_star}
 
--- bounds of two kinds
+-- the bounds of sums and products
 
 larger_left : (c d : Option ℕ) (k : ℕ) → IsBounded c k → IsBounded (both_bounds max c d) k
 larger_left None d k h = tt
@@ -30,7 +30,7 @@ sum_bounded None d k l h g = tt
 sum_bounded (Some m) None k l h g = tt
 sum_bounded (Some m) (Some n) k l h g = omega (arith, h, g)
 
--- pieces without a move, one after the other
+-- a concatenation of pieces without moves has no move
 pieces_end : (e : Term) (ps : List (List Move)) (atom : Atom)
     → ((a : Atom) (p : List Move) → IsTrue (accepts e a p) → length p ≤ 0) → AcceptsEach e atom ps → length (flat_map (λ p. p) ps) ≤ 0
 pieces_end e [] atom each h = omega arith
@@ -66,11 +66,11 @@ at_most_bounded : (n : ℕ) (d : Option ℕ) (k : ℕ) → IsTrue (is_at_most n 
 at_most_bounded n None k t h = absurd (false≢true t)
 at_most_bounded n (Some m) k t h = omega (arith, leb-true m n t, h)
 
--- of degree at most n: at most n moves; so a short term has at most one
+-- a string of a term of degree at most n has at most n moves; so a string of a short term has at most one
 pub accepts_at_most : (n : ℕ) (e : Term) (atom : Atom) (ms : List Move) → IsTrue (is_at_most n (degree e)) → IsTrue (accepts e atom ms) → length ms ≤ n
 accepts_at_most n e atom ms t h = at_most_bounded n (degree e) (length ms) t (accepts_bounded e atom ms h)
 
--- of degree 0: none
+-- a string of a term of degree 0 has no move
 pub accepts_no_move : (e : Term) (atom : Atom) (ms : List Move) → degree e ≡ Some 0 → IsTrue (accepts e atom ms) → ms ≡ []
 accepts_no_move e atom [] d h = refl
 accepts_no_move e atom (m ∷ ms) d h = absurd (omega (arith, accepts_at_most 0 e atom (m ∷ ms) (rw d refl) h))

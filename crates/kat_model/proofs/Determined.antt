@@ -1,5 +1,5 @@
--- A guarded term has at most one step under each atom, and none where it may end, and so has all that its
--- steps lead to.
+-- A guarded term has at most one step under each atom, and no step under an atom that it accepts. The same holds for
+-- all terms that its steps lead to.
 use Rattle.std.proofs.Common.{◌≡◌, ℕ, ⊎_elim, [], map, ap, ◌∙◌, subst, true}
 use Rattle.std.proofs.lemmas.Bool.{both_ways, not-true, and_parts, or_cases}
 use Rattle.kat_model.specs.Trees.{TestTree, complement, Term, zero, one, test, act, sum, product, star}
@@ -10,7 +10,7 @@ use Rattle.kat_model.specs.Laws.{HasOneStep}
 use Rattle.kat_model.proofs.Lists.{has_append, has_map, has_next_product}
 use Rattle.kat_model.proofs.OneStep.{IsAlone, IsEnded, alone_sum, alone_product, alone_star, one_step_product, one_step_dot, one_step_test, one_step_act, one_step_none}
 
--- a step after a test
+-- a step of a product that begins with a test is a step of the rest, and the test is true
 after_test : (b : TestTree) (e x : Term) (atom : Atom) (a : ℕ) → Has (next (product (test b) e) atom a) x → (truth b atom ≡ true) × Has (next e atom a) x
 after_test b e x atom a h = ⊎_elim (λ p. absurd p.1) (λ q. q) (has_next_product atom a (test b) e x h)
 
@@ -61,14 +61,14 @@ module _ (b : TestTree) (e : Term) (d : HasOneStep e) where
   alone_turns : IsAlone turns
   alone_turns = alone_star (product (test b) e) (one_step_product (test b) e (one_step_test b) d).alone
 
-  -- a turn begins only where the test is true
+  -- a turn begins only if the test is true
   turn_is_true : (atom : Atom) (a : ℕ) (x : Term) → Has (next turns atom a) x → truth b atom ≡ true
   turn_is_true atom a x h = let p = has_map (λ z. dot z turns) (next (product (test b) e) atom a) x h in (after_test b e p.0 atom a p.1).0
 
   before_done : (f x : Term) (atom : Atom) (a : ℕ) → Has (next (product f done) atom a) x → (y : Term) × Has (next f atom a) y
   before_done f x atom a h = ⊎_elim (λ p. (p.0, p.1)) (λ q. absurd q.1) (has_next_product atom a f done x h)
 
-  -- no step can be of the test that ends the loop
+  -- the test that ends the loop adds no step
   alone_done : (f : Term) → IsAlone f → IsAlone (product f done)
   alone_done f alone = alone_product f done alone (one_step_test (complement b)).alone (λ atom a c x y o h k. k)
 
@@ -79,7 +79,7 @@ module _ (b : TestTree) (e : Term) (d : HasOneStep e) where
         alone = alone_done turns alone_turns;
       }
 
-  -- the loop, within a turn
+  -- the loop with the rest of a turn before it
   one_step_within : (f : Term) → HasOneStep f → HasOneStep (product (product f turns) done)
   one_step_within f g = record { ended = ended; alone = alone_done (product f turns) (alone_product f turns g.alone alone_turns (λ atom a c x y o h k. g.ended atom a x o h)) }
     where

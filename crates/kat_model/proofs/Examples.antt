@@ -1,5 +1,5 @@
--- Worked examples of tests and terms, what they accept under an atom and what a step leaves of them. Each is
--- computed by the definitions, and its value is found by hand.
+-- Worked examples of tests and terms: what they accept under an atom, and what remains of them after a step. The
+-- definitions compute each value; the expected values were found by hand.
 use Rattle.std.proofs.Common.{◌≡◌, Bool, true, false, List, [], ◌∷◌, map, refl}
 use Rattle.kat_model.specs.Trees.{TestTree, bottom, top, prim, complement, meet, join, Term, zero, one, test, act, sum, product, star}
 use Rattle.kat_model.specs.Steps.{Atom, truth, dot, out, next, set_out, set_next}
@@ -41,7 +41,7 @@ slid_right = product p (star (product q p))
 abbrev pub slid_left : Term
 slid_left = product (star (product p q)) p
 
--- Truth: the table of each connective, over the four atoms of two tests.
+-- The truth table of each connective over the four atoms of two tests.
 
 abbrev pub two_tests : List Atom
 two_tests = (true ∷ true ∷ []) ∷ (true ∷ false ∷ []) ∷ (false ∷ true ∷ []) ∷ (false ∷ false ∷ []) ∷ []
@@ -58,7 +58,7 @@ truth_first = refl
 truth_second : map (truth c) two_tests ≡ true ∷ false ∷ true ∷ false ∷ []
 truth_second = refl
 
--- a test with no value is false
+-- a test that the atom does not assign is false
 truth_beyond : map (truth (prim 2)) two_tests ≡ false ∷ false ∷ false ∷ false ∷ []
 truth_beyond = refl
 
@@ -75,7 +75,7 @@ truth_join = refl
 truth_de_morgan : map (truth (complement (meet b c))) two_tests ≡ map (truth (join (complement b) (complement c))) two_tests
 truth_de_morgan = refl
 
--- What a term accepts under the atoms of one test, first where b is true and then where it is false.
+-- Whether a term accepts the atoms of one test: first the atom with b true, then the one with b false.
 
 abbrev pub on : Atom
 on = true ∷ []
@@ -104,19 +104,19 @@ out_sum = refl
 out_product : outs (product one (test b)) ≡ true ∷ false ∷ []
 out_product = refl
 
--- b and then p is no atom alone
+-- b.p does not accept an atom
 out_product_act : outs (product (test b) p) ≡ false ∷ false ∷ []
 out_product_act = refl
 
--- no turn of a star accepts every atom
+-- a star accepts every atom, with no turn
 out_star : outs (star (product (test b) p)) ≡ true ∷ true ∷ []
 out_star = refl
 
--- the loop ends at once where its test is false
+-- the loop ends at once if its test is false
 out_while : outs while_b ≡ false ∷ true ∷ []
 out_while = refl
 
--- What is left after an action.
+-- What remains after an action.
 
 dot_one : dot one q ≡ q
 dot_one = refl
@@ -148,7 +148,7 @@ next_other_act = refl
 next_sum : next (sum p q) on 1 ≡ one ∷ []
 next_sum = refl
 
--- a list may hold a term twice
+-- a list may contain a term twice
 next_sum_twice : next (sum p p) on 0 ≡ one ∷ one ∷ []
 next_sum_twice = refl
 
@@ -159,14 +159,14 @@ next_product = refl
 next_product_second : next (product p q) on 1 ≡ []
 next_product_second = refl
 
--- b.p begins where b is true alone
+-- b.p begins only if b is true
 next_guarded_on : next (product (test b) p) on 0 ≡ one ∷ []
 next_guarded_on = refl
 
 next_guarded_off : next (product (test b) p) off 0 ≡ []
 next_guarded_off = refl
 
--- p*.q goes on with p, or ends by q
+-- p*.q continues with p or ends with q
 next_star_product : next (product (star p) q) on 0 ≡ product (star p) q ∷ []
 next_star_product = refl
 
@@ -176,18 +176,18 @@ next_star_product_end = refl
 next_nested : next nested on 1 ≡ nested ∷ []
 next_nested = refl
 
--- the loop is left as it is by a turn, which is taken where b is true
+-- a turn, which is taken if b is true, leaves the loop unchanged
 next_while_on : next while_b on 0 ≡ while_b ∷ []
 next_while_on = refl
 
 next_while_off : next while_b off 0 ≡ []
 next_while_off = refl
 
--- p*.p* goes on in the first star or in the second
+-- p*.p* continues in the first star or in the second
 next_star_twice : next (product (star p) (star p)) on 0 ≡ product (star p) (star p) ∷ star p ∷ []
 next_star_twice = refl
 
--- a set accepts where a member does, and steps to what its members do
+-- a set accepts an atom if a member does, and steps to what its members step to
 set_out_example : set_out (p ∷ test b ∷ []) on ∷ set_out (p ∷ test b ∷ []) off ∷ set_out [] on ∷ [] ≡ true ∷ false ∷ false ∷ []
 set_out_example = refl
 

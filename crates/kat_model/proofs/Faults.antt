@@ -1,4 +1,4 @@
--- A question has no fault exactly where it is within the limits of a problem.
+-- A question has no fault exactly when it is within the limits of a problem.
 use Rattle.std.proofs.Common.{◌≡◌, ℕ, ◌≤◌, List, [], ◌∷◌, Option, Some, None, Bool, true, false, cond, nat_lt, refl}
 use Rattle.std.specs.Option.{option_or, option_map}
 use Rattle.std.proofs.lemmas.Bool.{ltb-true, ltb-false, lt-ltb, le-ltb}
@@ -8,7 +8,7 @@ use Rattle.kat_model.specs.declared.problem.BadProblem.{BadProblem}
 use Rattle.kat_model.specs.declared.problem.BadProblem.TheVariants.{TooManyTests, TooManyActions, TestRange, TooLarge}
 use Rattle.kat_model.specs.declared.limits.TheConstants.{MAX_TESTS, MAX_ACTIONS, MAX_TERM_NODES}
 
--- the first of two faults is none where both are
+-- the first of two faults is `None` exactly when both are
 module _ {X : Type 0} where
   none_parts : (o p : Option X) → option_or o p ≡ None → (o ≡ None) × (p ≡ None)
   none_parts None p h = (refl, h)

@@ -1,5 +1,5 @@
--- Worked examples of hypotheses: the Hoare triple {b} p {c} as b.p.!c = 0, and what follows from it on tables.
--- That it says the same as b.p = b.p.c is of Kozen, On Hoare logic and Kleene algebra with tests (2000).
+-- Worked examples of hypotheses: the Hoare triple {b} p {c} as b.p.!c = 0, and what it implies on tables. It is
+-- equivalent to b.p = b.p.c (Kozen, On Hoare logic and Kleene algebra with tests, 2000).
 use Rattle.std.proofs.Common.{◌≡◌, ℕ, ◌<◌, ◌⊎◌, true, false, inl, inr, ⊎_elim, List, [], ◌∷◌, length, Some, refl, sym, subst, arith}
 use Rattle.std.proofs.lemmas.Bool.{cases_Bool, not_from_false}
 use Rattle.kat_model.specs.Trees.{complement, Term, zero, one, test, product, star}
@@ -46,15 +46,15 @@ broken_keeps_not : Keeps broken (triple ∷ []) → ⊥
 broken_keeps_not keeps =
     keeps triple (inl refl) 0 1 (omega arith) (omega arith) (computed_relates broken triple 0 1 (omega arith) (omega arith) refl)
 
--- each hypothesis has to be kept
+-- a table must keep every hypothesis
 broken_keeps_not_both : Keeps broken (zero ∷ triple ∷ []) → ⊥
 broken_keeps_not_both keeps = broken_keeps_not (λ h k. keeps h (inr k))
 
--- with no hypothesis each table keeps them
+-- every table keeps the empty list of hypotheses
 broken_keeps_none : Keeps broken []
 broken_keeps_none h k = absurd k
 
--- b.p = b.p.c holds under the hypothesis, and not without
+-- b.p = b.p.c holds under the hypothesis, and does not hold without it
 
 abbrev asks : List Term → ProblemParts
 asks hyps = record { tests = 2; actions = 1; hyps = hyps; left = left; right = right }
@@ -99,8 +99,8 @@ differ_without h =
     let both = h broken broken_is_table broken_keeps_none 0 1 (omega arith) (omega arith) in
     computed_relates_not broken right 0 1 (omega arith) (omega arith) refl (both.0 (computed_relates broken left 0 1 (omega arith) (omega arith) refl))
 
--- Under the hypothesis 1 = 0 all terms are the same, since no table with a state keeps it. The pair of closed
--- sides alone shows it: after p both have the universal term.
+-- Under the hypothesis 1 = 0 all terms are the same, since no table with a state keeps it. The pair of closed sides is
+-- sufficient evidence: after p both sets contain the universal term.
 
 abbrev collapsed : ProblemParts
 collapsed = record { tests = 0; actions = 1; hyps = one ∷ []; left = zero; right = one }

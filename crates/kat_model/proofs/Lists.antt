@@ -1,4 +1,4 @@
--- Members of lists, and of the terms that steps leave.
+-- Members of lists, and of the lists of next terms.
 use Rattle.std.proofs.Common.{◌≡◌, ℕ, ◌⊎◌, inl, inr, ⊎_elim, List, [], ◌∷◌, ◌++◌, map, refl, sym, ap, ◌∙◌, subst, Bool, true, false, cond, eqb}
 use Rattle.std.specs.List.{list_any, flat_map}
 use Rattle.std.proofs.lemmas.Bool.{false≢true, eqb-true, eq-eqb, or_cases, or_left, or_right}
@@ -19,7 +19,7 @@ module _ {X : Type 0} where
   has_append [] ys x h = inr h
   has_append (y ∷ xs) ys x h = ⊎_elim (λ e. inl (inl e)) (λ k. ⊎_elim (λ a. inl (inr a)) inr (has_append xs ys x k)) h
 
-  -- some member passes the test
+  -- if `list_any` is true, some member passes the test
   pub has_any : (p : X → Bool) (xs : List X) → list_any p xs ≡ true → (x : X) × Has xs x × (p x ≡ true)
   has_any p [] h = absurd (false≢true h)
   has_any p (y ∷ xs) h =
@@ -58,7 +58,7 @@ module _ {X Y : Type 0} where
       (λ l. has_right (f z) (flat_map f xs) y (flat_map_has f xs x y l k))
       h
 
--- what a step leaves of an action, and of a product
+-- the next terms of an action, and of a product
 module _ (atom : Atom) (a : ℕ) where
   pub has_next_act : (b : ℕ) (x : Term) → Has (next (act b) atom a) x → (a ≡ b) × (one ≡ x)
   has_next_act b x h = go (eqb a b) refl h

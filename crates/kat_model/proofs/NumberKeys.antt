@@ -1,4 +1,4 @@
--- Sets of numbers as keys of a `BTreeSet`: what is added to them, and a bound that falls as the greatest are taken.
+-- Sets of numbers as keys of a `BTreeSet`: additions, and a bound that falls as the greatest numbers are removed.
 use Rattle.std.proofs.Common.{◌≡◌, ◌<◌, ◌≤◌, ◌+◌, ℕ, suc, max, ◌⊎◌, ◌↔◌, inl, inr, ⊎_elim, List, [], ◌∷◌, ◌++◌, length, refl, sym, subst, arith}
 use Rattle.std.specs.List.{All}
 use Rattle.std.specs.Ordering.{nat_cmp}
@@ -8,7 +8,7 @@ use Rattle.kat_model.specs.Members.{Has}
 use Rattle.kat_model.proofs.Lists.{has_right}
 use Rattle.kat_model.proofs.SetKeys.{inserted_has}
 
--- what holds at each place holds of each member
+-- what holds at each index holds for each member
 pub all_of : (P : ℕ → Type 0) (xs : List ℕ) → All P xs → (x : ℕ) → Has xs x → P x
 all_of P [] all x h = absurd h
 all_of P (y ∷ xs) all x h =
@@ -16,7 +16,7 @@ all_of P (y ∷ xs) all x h =
 
 -- ---- keys that are added
 
--- the new set is the old one with these numbers
+-- the new set has the members of the old one and these numbers
 abbrev pub Adds : List ℕ → List ℕ → List ℕ → Type 0
 Adds old new added = (x : ℕ) → Has new x ↔ (Has old x ⊎ Has added x)
 
@@ -39,7 +39,7 @@ adds_two old mid new j k e f x =
 
 -- ---- the greatest is taken
 
--- the least number above all
+-- the least number greater than all members
 abbrev pub bound_of : List ℕ → ℕ
 bound_of [] = 0
 bound_of (k ∷ ks) = max (k + 1) (bound_of ks)

@@ -11,7 +11,7 @@ use Rattle.kat_model.proofs.Lists.{has_append, has_map, has_next_act, has_next_p
 abbrev pub IsAlone : Term → Type 0
 IsAlone e = (atom : Atom) (a b : ℕ) (x y : Term) → Has (next e atom a) x → Has (next e atom b) y → (a ≡ b) × (x ≡ y)
 
--- an atom that the term accepts leaves no step
+-- there is no step under an atom that the term accepts
 abbrev pub IsEnded : Term → Type 0
 IsEnded e = (atom : Atom) (a : ℕ) (x : Term) → out e atom ≡ true → Has (next e atom a) x → ⊥
 

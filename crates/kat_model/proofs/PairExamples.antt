@@ -1,5 +1,5 @@
--- A worked example of bisimulations: p* = p*.p* by one pair of sets up to congruence (Bonchi and Pous 2013),
--- which is no plain bisimulation, and by two pairs a plain one (Hopcroft and Karp 1971).
+-- A worked example of bisimulations: p* = p*.p* by one pair of sets up to congruence (Bonchi and Pous 2013), which is
+-- not a plain bisimulation, and by two pairs that are a plain bisimulation (Hopcroft and Karp 1971).
 use Rattle.std.proofs.Common.{◌≡◌, ℕ, ◌<◌, true, false, inl, inr, ⊎_elim, List, [], ◌∷◌, length, Some, None, refl, sym, ◌∙◌, subst, arith}
 use Rattle.std.proofs.lemmas.Bool.{true≢false}
 use Rattle.kat_model.specs.Trees.{Term, one, product, star}
@@ -18,11 +18,11 @@ twice = product (star p) (star p)
 abbrev pair : List Term → List Term → SetPair
 pair es fs = record { left = es; right = fs }
 
--- both sides as sets of one
+-- both sides as singleton sets
 abbrev start : SetPair
 start = pair (once ∷ []) (twice ∷ [])
 
--- the next sets of the pair, by hand from the rules for a product and a star
+-- the next sets of the pair, found by hand from the rules for products and stars
 
 next_left : (atom : Atom) → set_next (once ∷ []) atom 0 ≡ once ∷ []
 next_left atom = refl
@@ -30,7 +30,7 @@ next_left atom = refl
 next_right : (atom : Atom) → set_next (twice ∷ []) atom 0 ≡ twice ∷ once ∷ []
 next_right atom = refl
 
--- what holds of a set
+-- membership in a set
 
 holds_example : holds (once ∷ twice ∷ []) twice ≡ true
 holds_example = refl
@@ -44,7 +44,7 @@ holds_all_example = refl
 holds_all_part : holds_all (once ∷ twice ∷ []) (twice ∷ p ∷ []) ≡ false
 holds_all_part = refl
 
--- a set that holds one side of the pair gains the other
+-- a set that contains one side of the pair gains the other side
 
 sat_left : sat (start ∷ []) (once ∷ []) ≡ once ∷ once ∷ twice ∷ []
 sat_left = refl
@@ -52,19 +52,19 @@ sat_left = refl
 sat_right : sat (start ∷ []) (twice ∷ once ∷ []) ≡ twice ∷ once ∷ once ∷ twice ∷ []
 sat_right = refl
 
--- a part of a side is not enough
+-- a part of a side is not sufficient
 sat_part : sat (pair (p ∷ q ∷ []) (one ∷ []) ∷ []) (p ∷ []) ≡ p ∷ []
 sat_part = refl
 
--- one that holds neither stays
+-- a set that contains neither side is unchanged
 sat_other : sat (start ∷ []) (p ∷ []) ≡ p ∷ []
 sat_other = refl
 
--- a pair that only a later one lets in is found in the second round, of as many as there are pairs
+-- a pair that applies only after a later one is found in the second round; there are as many rounds as pairs
 sat_rounds : sat (pair (q ∷ []) (one ∷ []) ∷ pair (p ∷ []) (q ∷ []) ∷ []) (p ∷ []) ≡ p ∷ p ∷ q ∷ q ∷ one ∷ p ∷ q ∷ []
 sat_rounds = refl
 
--- no pairs add nothing
+-- without pairs, nothing is added
 sat_nothing : sat [] (p ∷ q ∷ []) ≡ p ∷ q ∷ []
 sat_nothing = refl
 
@@ -77,11 +77,11 @@ same_sets x = (
 next_congruent : IsCongruent None (start ∷ []) (once ∷ []) (twice ∷ once ∷ [])
 next_congruent = inl same_sets
 
--- without the pair they are not made the same
+-- without the pair the sets are not congruent
 not_congruent : IsCongruent None [] (once ∷ []) (twice ∷ once ∷ []) → ⊥
 not_congruent h = ⊎_elim (λ s. ⊎_elim (λ e. absurd cc) absurd ((s twice).1 (inl refl))) absurd h
 
--- but they are where both hold the universal term
+-- but they are congruent if both contain the universal term
 universal_congruent : IsCongruent (Some once) [] (once ∷ []) (twice ∷ once ∷ [])
 universal_congruent = inr (inl refl, inr (inl refl))
 
@@ -105,7 +105,7 @@ asks = record { tests = 0; actions = 1; hyps = []; left = once; right = twice }
 one_pair_accepted : AreAccepted up_to asks (start ∷ [])
 one_pair_accepted = record { rest = []; first = refl; bisimulation = one_pair_up_to }
 
--- the pairs have to begin with the sides
+-- the first pair must be the two sides
 other_start_refused : AreAccepted up_to asks (pair (once ∷ []) (once ∷ []) ∷ []) → ⊥
 other_start_refused h =
     let listed : Has (pair (once ∷ []) (once ∷ []) ∷ []) start = subst (λ l. Has l start) (sym h.first) (inl refl) in
@@ -115,11 +115,11 @@ other_start_refused h =
     ⊎_elim (λ d. absurd cc) absurd member)
     absurd listed
 
--- and to accept alike: p* accepts an atom, and p does not
+-- the sets of a pair must accept the same atoms: p* accepts an atom, and p does not
 unlike_refused : IsBisimulation up_to 0 1 None (pair (once ∷ []) (p ∷ []) ∷ []) → ⊥
 unlike_refused h = true≢false (h.outputs (pair (once ∷ []) (p ∷ [])) (inl refl) [] refl)
 
--- the right next set holds p*, and no listed right set does
+-- the right next set contains p*, and no listed right set does
 one_pair_not_plain : IsBisimulation plain 0 1 None (start ∷ []) → ⊥
 one_pair_not_plain h = ⊎_elim unlisted absurd (h.steps start (inl refl) [] refl 0 (omega arith))
   where
@@ -145,7 +145,7 @@ next_right_again atom = refl
 same_left : SameMembers (once ∷ []) (once ∷ [])
 same_left x = ((λ h. h), (λ h. h))
 
--- a member more than once makes no difference
+-- a repeated member makes no difference
 same_right : SameMembers (twice ∷ once ∷ once ∷ []) (twice ∷ once ∷ [])
 same_right x = (
   (λ h. ⊎_elim inl (λ k. ⊎_elim (λ e. inr (inl e)) (λ l. inr l) k) h),

@@ -39,7 +39,7 @@ pairs_at-everywhere [] atom = refl
 pairs_at-everywhere (p ∷ ps) atom = ap (λ l. p ∷ l) (pairs_at-everywhere ps atom)
 
 module _ (tests actions : ℕ) (universal : Option Term) (ps : List SetPair) where
-  -- a bisimulation of either style is one under such tests, with no short hypotheses
+  -- a bisimulation of either style is a bisimulation under such tests, with no short hypotheses
   pub bisimulation_tested : (style : Style) → IsBisimulation style tests actions universal ps → IsTestedBisimulation [] tests actions universal (map everywhere ps)
   bisimulation_tested style b = record { outputs = outputs; steps = steps }
     where
@@ -58,7 +58,7 @@ module _ (tests actions : ℕ) (universal : Option Term) (ps : List SetPair) whe
           rw (pairs_at-everywhere ps m.atom)
           (subst (λ (z : TestedPair). IsCongruent universal ps (set_next z.sets.left atom m.act) (set_next z.sets.right atom m.act)) r.2 own)
 
-  -- and such a one is a bisimulation up to congruence
+  -- and a bisimulation under such tests is a bisimulation up to congruence
   pub tested_bisimulation : IsTestedBisimulation [] tests actions universal (map everywhere ps) → IsBisimulation up_to tests actions universal ps
   tested_bisimulation b = record { outputs = outputs; steps = steps }
     where

@@ -1,4 +1,4 @@
--- A term relates two states of a frame exactly where it accepts what some path between them spells.
+-- A term relates two states of a frame exactly when it accepts what some path between them spells.
 use Rattle.std.proofs.Common.{◌≡◌, ℕ, inl, inr, ⊎_elim, List, [], ◌∷◌, ◌++◌, refl, sym, ap, subst}
 use Rattle.std.specs.Bool.{IsTrue}
 use Rattle.std.proofs.lemmas.Bool.{false≢true, and_parts, or_cases, or_left, or_right}
@@ -28,7 +28,7 @@ module _ {S : Type 0} (frame : Frame S) where
   last_atom-spelled i j [] p = ap (λ s. frame.atom s) p
   last_atom-spelled i j (h ∷ hops) p = last_atom-spelled h.to j hops p.2
 
-  -- what is accepted is related
+  -- if a term accepts what a path spells, it relates the ends of the path
 
   out_relates : (e : Term) (i : S) → frame.IsState i → IsTrue (out e (frame.atom i)) → RelatesIn frame e i i
   out_relates zero i s h = absurd (false≢true h)
@@ -50,7 +50,7 @@ module _ {S : Type 0} (frame : Frame S) where
   dot_relates (product e g) f i j s r = r
   dot_relates (star e) f i j s r = r
 
-  -- an action, and then what is left of the term after it
+  -- an action, followed by what a next term of the term relates
   pub step_relates : (e : Term) (a : ℕ) (i k j : S) (x : Term) → frame.IsState i → frame.IsState k → frame.Acts a i k → Has (next e (frame.atom i) a) x → RelatesIn frame x k j → RelatesIn frame e i j
   step_relates zero a i k j x si sk m h r = absurd h
   step_relates one a i k j x si sk m h r = absurd h
@@ -79,7 +79,7 @@ module _ {S : Type 0} (frame : Frame S) where
       let x = accepts_step e (frame.atom i) (record { act = m.act; atom = frame.atom m.to }) (spelled frame hops) h in
       step_relates e m.act i m.to j x.0 s p.0 p.1 x.1 (spelled_relates x.0 m.to j hops p.0 p.2 x.2)
 
-  -- what is related is accepted
+  -- if a term relates two states, it accepts what some path between them spells
 
   product_spelled : (e f : Term) (i k j : S) → IsSpelledIn frame e i k → IsSpelledIn frame f k j → IsSpelledIn frame (product e f) i j
   product_spelled e f i k j p q =

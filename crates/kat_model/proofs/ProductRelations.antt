@@ -1,4 +1,4 @@
--- A balanced product relates two states exactly where its members relate them one after the other.
+-- A balanced product relates two states exactly when its members relate them in turn.
 use Rattle.std.proofs.Common.{◌↔◌, List, [], ◌∷◌, ◌++◌, refl, sym, subst}
 use Rattle.kat_model.specs.Trees.{Term, one, product}
 use Rattle.kat_model.specs.Relations.{Frame, RelatesIn, RelateInTurn}
@@ -17,7 +17,7 @@ module _ {S : Type 0} (frame : Frame S) where
   in_turn_append [] fs i k j p q = subst (λ s. RelateInTurn frame fs s j) (sym p) q
   in_turn_append (e ∷ es) fs i k j p q = (p.0, p.1, p.2, in_turn_append es fs p.0 k j p.3 q)
 
-  -- what the term relates, the terms of the list do in turn
+  -- what the term relates, the terms of the list relate in turn
   abbrev IsInTurn : List Term → Term → Type 0
   IsInTurn es e = (i j : S) → frame.IsState i → frame.IsState j → RelatesIn frame e i j ↔ RelateInTurn frame es i j
 

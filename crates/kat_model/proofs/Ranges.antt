@@ -1,10 +1,10 @@
--- Terms in range: the half on their tests, the product of two, and lists of them.
+-- Terms in range: their tests, products as a step builds them, and lists of terms.
 use Rattle.std.proofs.Common.{ℕ, List, [], ◌∷◌, ◌++◌}
 use Rattle.kat_model.specs.Trees.{Term, zero, one, test, act, sum, product, star}
 use Rattle.kat_model.specs.Problems.{IsInRange, AreInRange, HasTestsBelow}
 use Rattle.kat_model.specs.Steps.{dot}
 
--- what holds of the product of two terms of which it holds, holds of it as a step writes it
+-- if a property of two terms holds for their product, it also holds for the product that a step builds
 dot_holds : (P : Term → Type 0) → ((e f : Term) → P e → P f → P (product e f)) → (e f : Term) → P e → P f → P (dot e f)
 dot_holds P two zero f p q = two zero f p q
 dot_holds P two one f p q = q

@@ -1,4 +1,4 @@
--- What steps can lead to, and how much of it there is.
+-- The terms that steps can lead to, and their number.
 use Rattle.std.proofs.Common.{◌≡◌, ℕ, inl, ⊎_elim, map, length, refl, sym, ◌∙◌, subst, arith, length-append}
 use Rattle.std.proofs.lemmas.List.{length-map}
 use Rattle.kat_model.specs.Trees.{Term, zero, one, test, act, sum, product, star, acts}
@@ -16,7 +16,7 @@ length-reach (product e f) =
     omega (arith, length-append (map (λ x. dot x f) (reach e)) (reach f), length-map (reach e) (λ x. dot x f), length-reach e, length-reach f)
 length-reach (star e) = length-map (reach e) (λ x. dot x (star e)) ∙ length-reach e
 
--- nothing is left to do of `one`
+-- `dot` has the same next terms as the product
 pub next-dot : (e f : Term) (atom : Atom) (a : ℕ) → next (dot e f) atom a ≡ next (product e f) atom a
 next-dot zero f atom a = refl
 next-dot one f atom a = refl
@@ -26,7 +26,7 @@ next-dot (sum e g) f atom a = refl
 next-dot (product e g) f atom a = refl
 next-dot (star e) f atom a = refl
 
--- a member of the reach of the first is followed by the second
+-- a term reached from the first, followed by the second
 reach_first : (e f x y : Term) → Has (reach e) y → dot y f ≡ x → Has (map (λ z. dot z f) (reach e)) x
 reach_first e f x y h s = subst (Has (map (λ z. dot z f) (reach e))) s (map_has (λ z. dot z f) (reach e) y h)
 

@@ -1,5 +1,5 @@
--- Pairs of which each has the next sets of an earlier one have their members among what steps lead to, and so
--- are few; with or without tests.
+-- If each pair has the next sets of an earlier pair, the members of its sets are terms that steps lead to, so there are
+-- few such pairs. This holds with and without tests.
 use Rattle.std.proofs.Common.{◌≡◌, ◌+◌, ◌*◌, ◌^◌, ◌≤◌, ℕ, inl, inr, ⊎_elim, List, [], ◌∷◌, ◌++◌, length, refl, sym, subst}
 use Rattle.std.proofs.lemmas.List.{length-map}
 use Rattle.kat_model.specs.Trees.{Term, acts}
@@ -22,7 +22,7 @@ pub record HasNextSets (from to : SetPair) : Type 0 where
   pub lefts : SameMembers (set_next from.left atom act) to.left
   pub rights : SameMembers (set_next from.right atom act) to.right
 
--- each of the pairs has the next sets of one before it
+-- each of the pairs has the next sets of a pair before it
 abbrev pub AreNextSets : List SetPair → List SetPair → Type 0
 AreNextSets before [] = Unit {0}
 AreNextSets before (p ∷ ps) = ((from : SetPair) × Has before from × HasNextSets from p) × AreNextSets (before ++ p ∷ []) ps
@@ -56,7 +56,7 @@ single_kept e g es fs atom a same s =
     (λ r. inr (r.0, r.1, same_members_trans fs (set_next es atom a) (r.0 ∷ []) back r.2))
     (single_next e (one_step_guarded g) (one_step_reached g) es atom a s)
 
--- two terms, each as a set of one
+-- two terms, each as a singleton set
 abbrev pub start_pair : Term → Term → SetPair
 start_pair l r = record { left = l ∷ []; right = r ∷ [] }
 
@@ -76,7 +76,7 @@ module _ (l r : Term) (rest : List SetPair) (all : AreNextSets (start_pair l r �
       (start_pair l r) rest all
       (inr (l, inl refl, (λ x. ((λ h. h), (λ h. h)))), inr (r, inl refl, (λ x. ((λ h. h), (λ h. h)))))
 
--- pairs under tests are as few as their sets, where no two have the same sets
+-- the bounds also hold for pairs under tests, if no two of them have the same sets
 module _ (l r : Term) (pairs : List TestedPair) (differ : AllDiffer (sets_of pairs)) where
   pub tested_pairs_bound : AreReached l r (sets_of pairs) → length pairs ≤ 2 ^ (acts l + 1) * 2 ^ (acts r + 1)
   tested_pairs_bound reached = rw (← length-map pairs (λ (p : TestedPair). p.sets)) (pairs_bound l r (sets_of pairs) differ reached)
@@ -84,7 +84,7 @@ module _ (l r : Term) (pairs : List TestedPair) (differ : AllDiffer (sets_of pai
   pub tested_single_bound : AreSingle l r (sets_of pairs) → length pairs ≤ (acts l + 2) * (acts r + 2)
   tested_single_bound single = rw (← length-map pairs (λ (p : TestedPair). p.sets)) (single_pairs_bound l r (sets_of pairs) differ single)
 
--- so they are few where their sets are those of two terms and next sets of earlier ones
+-- so the bounds hold if the sets are those of two terms and the next sets of earlier pairs
 module _ (l r : Term) (pairs : List TestedPair) (differ : AllDiffer (sets_of pairs)) (rest : List SetPair)
     (first : sets_of pairs ≡ start_pair l r ∷ rest) (all : AreNextSets (start_pair l r ∷ []) rest) where
   pub reached_pairs_bound : length pairs ≤ 2 ^ (acts l + 1) * 2 ^ (acts r + 1)

@@ -1,4 +1,4 @@
--- The relation of a term on a table written out: for each state the states that the term relates it to.
+-- The relation of a term on a table, written out: for each state, the states that the term relates it to.
 use Rattle.std.proofs.Common.{◌≡◌, ℕ, zero as nought, suc, ◌+◌, ◌<◌, ◌≤◌, ◌⊎◌, inl, inr, ⊎_elim, ◌↔◌, List, [], ◌∷◌, map, replicate, refl, sym, subst, arith, Bool, true, false, cond}
 use Rattle.std.specs.Bool.{IsTrue}
 use Rattle.std.specs.List.{filter, range_with_len, slice_index_or}
@@ -46,7 +46,7 @@ module _ (t : Table) (e : Term) where
   row_here : (i : ℕ) → i < t.states → slice_index_or (rows_now t e) i [] ≡ filter (computes_relation t e i) (range_with_len 0 t.states)
   row_here i li = get_or-map-range_with_len (λ k. filter (computes_relation t e k) (range_with_len 0 t.states)) 0 t.states i i [] li (omega arith)
 
-  -- the rows that are computed are those of the relation
+  -- the computed rows are the rows of the relation
   pub computed_rows : HasRows t e (rows_now t e)
   computed_rows = record { row = same }
     where
@@ -63,6 +63,6 @@ module _ (t : Table) (e : Term) where
 pub has_rows : {t : Table} {e : Term} {rows : List (List ℕ)} → rows_now t e ≡ rows → HasRows t e rows
 has_rows {t} {e} h = subst (HasRows t e) h (computed_rows t e)
 
--- where each row is empty, the term relates nothing
+-- if each row is empty, the term relates nothing
 pub no_rows : (t : Table) (e : Term) → HasRows t e (replicate t.states []) → (i j : ℕ) → i < t.states → j < t.states → Relates t e i j → ⊥
 no_rows t e h i j li lj r = subst (λ l. Has l j) (get_or-replicate t.states i [] [] li) ((h.row i j li lj).0 r)

@@ -1,4 +1,4 @@
--- The tests that compare trees and sets of terms, and what they find.
+-- What the comparisons of trees and of sets of terms decide.
 use Rattle.std.proofs.Common.{◌≡◌, inl, inr, ⊎_elim, List, [], ◌∷◌, refl, ap, subst, true}
 use Rattle.std.proofs.lemmas.Bool.{eqb-true, eq-eqb, and_parts, and_from}
 use Rattle.kat_model.specs.Trees.{TestTree, bottom, top, prim, complement, meet, join, Term, zero, one, test, act, sum, product, star}
@@ -6,7 +6,7 @@ use Rattle.kat_model.specs.Members.{Has, IsSubset}
 use Rattle.kat_model.specs.Pairs.{same_test, same_term, holds, holds_all}
 use Rattle.kat_model.proofs.Lists.{has_any, any_has}
 
--- tests that are told to be the same are one tree, and the other way round
+-- `same_test` is true exactly for equal trees
 pub same_test-true : (b c : TestTree) → same_test b c ≡ true → b ≡ c
 same_test-true bottom bottom h = refl
 same_test-true top top h = refl

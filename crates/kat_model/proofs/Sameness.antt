@@ -1,5 +1,5 @@
--- Terms that accept the same allowed strings relate the same states of a table that has allowed moves, and so do
--- the sides of a problem of which the closed sides do, in a table that keeps the hypotheses.
+-- Terms that accept the same allowed strings relate the same states of a table with only allowed moves. If the closed
+-- sides of a problem relate the same states, so do the sides, in every table that keeps the hypotheses.
 use Rattle.std.proofs.Common.{◌≡◌, ℕ, ◌<◌, ◌↔◌, inl, ⊎_elim, List, [], ◌∷◌, map, length, sym, ◌∙◌, subst}
 use Rattle.kat_model.specs.Trees.{Term}
 use Rattle.kat_model.specs.Balanced.{sum_of}
@@ -19,7 +19,7 @@ use Rattle.kat_model.proofs.AllowedPaths.{kept_allowed, spelled_allowed}
 use Rattle.kat_model.proofs.Splits.{split_all_long, split_keeps}
 use Rattle.kat_model.proofs.Soundness.{accepted_agree}
 
--- the terms accept the same allowed strings over so many tests and actions
+-- the terms accept the same allowed strings over these numbers of tests and actions
 abbrev pub AcceptAlike : List Term → ℕ → ℕ → Term → Term → Type 0
 AcceptAlike shorts tests actions e f = (atom : Atom) (ms : List Move) → length atom ≡ tests → AreMoves tests actions ms → AreAllowed shorts atom ms → accepts e atom ms ≡ accepts f atom ms
 
@@ -34,7 +34,7 @@ module _ (tests actions : ℕ) (t : Table) (is_table : IsTable tests actions t) 
       h
 
   module _ (shorts : List Term) (allowed : HasAllowedMoves shorts t) where
-    -- terms that accept alike relate the same states
+    -- if two terms accept the same strings, what the first relates, the second relates
     alike_leads : (e f : Term) (i j : ℕ) → i < t.states → j < t.states → AcceptAlike shorts tests actions e f → Relates t e i j → Relates t f i j
     alike_leads e f i j li lj alike r =
         let h = relates_spelled (frame_of t) e i j li lj r in
@@ -44,13 +44,13 @@ module _ (tests actions : ℕ) (t : Table) (is_table : IsTable tests actions t) 
     pub alike_relates : (e f : Term) (i j : ℕ) → i < t.states → j < t.states → AcceptAlike shorts tests actions e f → Relates t e i j ↔ Relates t f i j
     alike_relates e f i j li lj alike = (alike_leads e f i j li lj alike, alike_leads f e i j li lj (λ atom ms wide are all. sym (alike atom ms wide are all)))
 
--- a hypothesis with anything around it relates nothing in a table that keeps the hypotheses
+-- a hypothesis between two other terms relates nothing in a table that keeps the hypotheses
 pub inside_relates_none : (t : Table) (hyps : List Term) (u : Term) (i j : ℕ) → Keeps t hyps → Relates t (inside u (sum_of hyps)) i j → ⊥
 inside_relates_none t hyps u i j keeps r =
     let s = relates_sum_of (frame_of t) r.0 r.3.0 hyps r.3.2 in
     keeps s.0 s.1 r.0 r.3.0 r.1 r.3.1 s.2
 
--- so there the sides relate the same states where the closed sides do
+-- so in such a table the sides relate the same states if the closed sides do
 pub closed_relates : (actions : ℕ) (hyps : List Term) (left right : Term) (t : Table) (i j : ℕ) → Keeps t hyps → Relates t (closed_under actions hyps left right).left i j ↔ Relates t (closed_under actions hyps left right).right i j → Relates t left i j ↔ Relates t right i j
 closed_relates actions [] left right t i j keeps s = s
 closed_relates actions (h ∷ hs) left right t i j keeps s =
@@ -67,7 +67,7 @@ accepted_under_same q shorts longs pairs split acc t is_table keeps i j li lj =
     closed_relates q.actions longs q.left q.right t i j kept.1
     (alike_relates q.tests q.actions t is_table shorts (kept_allowed t shorts kept.0) sides.left sides.right i j li lj (accepted_agree shorts (with_hyps q longs) pairs acc))
 
--- and so do those of the other styles
+-- and so do accepted pairs without tests, of either style
 pub accepted_same : (style : Style) (q : ProblemParts) (pairs : List SetPair) → AreAccepted style q pairs → Same q
 accepted_same style q pairs acc =
     accepted_under_same q [] q.hyps (map everywhere pairs) (split_all_long q.hyps) (accepted_tested style q pairs acc)

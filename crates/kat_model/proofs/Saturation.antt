@@ -1,4 +1,4 @@
--- What rounds over the pairs add to a set, and which properties of its members they keep.
+-- What rounds over the pairs add to a set, and which properties of its members they preserve.
 use Rattle.std.proofs.Common.{◌≡◌, ℕ, zero, suc, ◌⊎◌, inl, inr, ⊎_elim, List, [], ◌∷◌, ◌++◌, length, refl, Bool, true, false, ◌||◌, cond}
 use Rattle.std.proofs.lemmas.Bool.{or_cases, or_left, or_right, cond-true}
 use Rattle.kat_model.specs.Trees.{Term}
@@ -11,15 +11,15 @@ use Rattle.kat_model.proofs.SameTrees.{holds_all-true, subset-holds_all}
 abbrev pub Each : (Term → Type 0) → List Term → Type 0
 Each P es = (x : Term) → Has es x → P x
 
--- where all terms of one side of a listed pair have the property, those of the other side have it
+-- if all terms of one side of a listed pair have the property, all terms of the other side have it
 abbrev pub Respects : (Term → Type 0) → List SetPair → Type 0
 Respects P ps = (p : SetPair) → Has ps p → (Each P p.left → Each P p.right) × (Each P p.right → Each P p.left)
 
--- the set holds all of one side of each pair exactly where it holds all of the other
+-- the set contains all of one side of each pair exactly when it contains all of the other side
 abbrev pub IsClosed : List SetPair → List Term → Type 0
 IsClosed ps es = Respects (Has es) ps
 
--- the set holds all of one side of the pair, and of both
+-- the set contains all of one side of the pair; `HoldsBoth`: all of both sides
 abbrev pub HoldsSide : List Term → SetPair → Type 0
 HoldsSide es p = IsSubset p.left es ⊎ IsSubset p.right es
 
@@ -32,7 +32,7 @@ holds_side_more es fs p s h = ⊎_elim (λ l. inl (λ x k. s x (l x k))) (λ r. 
 pub holds_both_more : (es fs : List Term) (p : SetPair) → IsSubset es fs → HoldsBoth es p → HoldsBoth fs p
 holds_both_more es fs p s h = ((λ x k. s x (h.0 x k)), (λ x k. s x (h.1 x k)))
 
--- the set with one pair has the set's members, and both sides of the pair where the set held one of them
+-- a member of the set with one pair added is a member of the set, or of the pair if the set contains one of its sides
 has_with_pair : (es : List Term) (p : SetPair) (x : Term) → Has (with_pair es p) x → Has es x ⊎ (HoldsSide es p × (Has p.left x ⊎ Has p.right x))
 has_with_pair es p x h = go (holds_all es p.left || holds_all es p.right) refl h
   where
@@ -64,7 +64,7 @@ with_pair_has es p s =
     is_larger : with_pair es p ≡ es ++ p.left ++ p.right
     is_larger = cond-true _ _ _ held
 
--- rounds keep what the set held
+-- rounds keep the members of the set
 pub round_keeps : (ps : List SetPair) (es : List Term) → IsSubset es (round ps es)
 round_keeps [] es x h = h
 round_keeps (p ∷ ps) es x h = round_keeps ps (with_pair es p) x (with_pair_keeps es p x h)
@@ -76,7 +76,7 @@ rounds_keep (suc n) ps es x h = rounds_keep n ps (round ps es) x (round_keeps ps
 pub sat_keeps : (ps : List SetPair) (es : List Term) → IsSubset es (sat ps es)
 sat_keeps ps es = rounds_keep (length ps) ps es
 
--- rounds keep a property that the pairs respect
+-- rounds preserve a property that the pairs respect
 module _ (P : Term → Type 0) where
   with_pair_each : (es : List Term) (p : SetPair) → (Each P p.left → Each P p.right) × (Each P p.right → Each P p.left) → Each P es → Each P (with_pair es p)
   with_pair_each es p r e x h = ⊎_elim (e x) (λ k. ⊎_elim ((sides k.0).0 x) ((sides k.0).1 x) k.1) (has_with_pair es p x h)
@@ -99,7 +99,7 @@ module _ (P : Term → Type 0) where
   pub sat_each : (ps : List SetPair) (es : List Term) → Respects P ps → Each P es → Each P (sat ps es)
   sat_each ps es = rounds_each (length ps) ps es
 
--- a round adds both sides of a pair of which the set holds one
+-- a round adds both sides of a pair if the set contains one of them
 pub round_has : (ps : List SetPair) (es : List Term) (p : SetPair) → Has ps p → HoldsSide es p → HoldsBoth (round ps es) p
 round_has [] es p h s = absurd h
 round_has (q ∷ ps) es p h s =

@@ -1,5 +1,5 @@
--- As many rounds as there are pairs are enough: each round that adds something makes the set hold both
--- sides of a pair more.
+-- As many rounds as there are pairs are sufficient: in each round that adds something, the set gains both sides of an
+-- additional pair.
 use Rattle.std.proofs.Common.{◌≡◌, ℕ, ◌+◌, ◌<◌, ◌≤◌, zero, suc, ◌⊎◌, inl, inr, ⊎_elim, List, [], ◌∷◌, length, refl, sym, subst, Bool, true, false, not, ◌&&◌, cond, arith}
 use Rattle.std.proofs.lemmas.Bool.{both_ways, and_parts, not-false}
 use Rattle.kat_model.specs.Trees.{Term}
@@ -8,11 +8,11 @@ use Rattle.kat_model.specs.Pairs.{SetPair, holds_all, round, rounds, sat}
 use Rattle.kat_model.proofs.SameTrees.{holds_all-true, subset-holds_all}
 use Rattle.kat_model.proofs.Saturation.{IsClosed, HoldsSide, HoldsBoth, holds_both_more, round_keeps, round_has, rounds_keep, rounds_each}
 
--- the set does not hold both sides of the pair
+-- the set does not contain both sides of the pair
 abbrev lacks : List Term → SetPair → Bool
 lacks es p = not (holds_all es p.left && holds_all es p.right)
 
--- how many pairs there are of which the set does not hold both sides
+-- the number of pairs of which the set does not contain both sides
 abbrev lacking : List Term → List SetPair → ℕ
 lacking es [] = 0
 lacking es (p ∷ ps) = cond (lacks es p) 1 0 + lacking es ps
@@ -25,11 +25,11 @@ holds_both es p h =
 holds_both-lacks : (es : List Term) (p : SetPair) → HoldsBoth es p → lacks es p ≡ false
 holds_both-lacks es p h = rw (subset-holds_all es p.left h.0, subset-holds_all es p.right h.1) refl
 
--- the set holds all of one side of the pair exactly where it holds all of the other
+-- the set contains all of one side of the pair exactly when it contains all of the other side
 abbrev IsClosedAt : List Term → SetPair → Type 0
 IsClosedAt es p = (IsSubset p.left es → IsSubset p.right es) × (IsSubset p.right es → IsSubset p.left es)
 
--- that is so, or the set holds one side alone
+-- the set is closed under the pair, or contains only one side of it
 closed_at_cases : (es : List Term) (p : SetPair) → IsClosedAt es p ⊎ (HoldsSide es p × (lacks es p ≡ true))
 closed_at_cases es p = go (holds_all es p.left) (holds_all es p.right) refl refl
   where
@@ -42,7 +42,7 @@ closed_at_cases es p = go (holds_all es p.left) (holds_all es p.right) refl refl
     go false true l r = inr (inr (holds_all-true es p.right r), rw l refl)
     go false false l r = inl ((λ s. absurd (never p.left l s)), (λ s. absurd (never p.right r s)))
 
--- the same for all pairs: a set is closed, or holds one side alone of some pair
+-- the same for all pairs: a set is closed, or contains only one side of some pair
 closed_cases : (ps : List SetPair) (es : List Term) → IsClosed ps es ⊎ ((p : SetPair) × Has ps p × HoldsSide es p × (lacks es p ≡ true))
 closed_cases [] es = inl (λ p h. absurd h)
 closed_cases (p ∷ ps) es =
@@ -81,7 +81,7 @@ module _ (es fs : List Term) (larger : IsSubset es fs) where
   one_less : (p : SetPair) → lacks es p ≡ true → HoldsBoth fs p → cond (lacks fs p) 1 0 < cond (lacks es p) 1 0
   one_less p l b = rw (l, holds_both-lacks fs p b) (omega arith)
 
-  -- strictly, where it holds both sides of a pair more
+  -- it lacks strictly fewer pairs if it contains both sides of an additional pair
   lacking_less : (ps : List SetPair) (p : SetPair) → Has ps p → lacks es p ≡ true → HoldsBoth fs p → lacking fs ps < lacking es ps
   lacking_less [] p h l b = absurd h
   lacking_less (q ∷ ps) p h l b =
@@ -90,7 +90,7 @@ module _ (es fs : List Term) (larger : IsSubset es fs) where
       (λ k. omega (arith, one_fewer q, lacking_less ps p k l b))
       h
 
--- a set is closed, or a round leaves fewer pairs that it lacks
+-- a set is closed, or a round reduces the number of pairs that it lacks
 round_cases : (ps : List SetPair) (es : List Term) → IsClosed ps es ⊎ (lacking (round ps es) ps < lacking es ps)
 round_cases ps es =
     ⊎_elim
@@ -108,12 +108,12 @@ rounds_closed n ps es c p h = (
     back : IsSubset (rounds n ps es) es
     back = rounds_each (Has es) n ps es c (λ x k. k)
 
--- as many rounds as there are such pairs make a set closed
+-- n rounds close a set that lacks at most n pairs
 rounds_end : (n : ℕ) (ps : List SetPair) (es : List Term) → lacking es ps ≤ n → IsClosed ps (rounds n ps es)
 rounds_end zero ps es h = ⊎_elim (λ c. c) (λ l. absurd (omega arith)) (round_cases ps es)
 rounds_end (suc n) ps es h =
     ⊎_elim (rounds_closed (suc n) ps es) (λ l. rounds_end n ps (round ps es) (omega arith)) (round_cases ps es)
 
--- what the pairs make of a set holds all of one side of a pair exactly where it holds all of the other
+-- the saturation of a set contains all of one side of a pair exactly when it contains all of the other side
 pub sat_closed : (ps : List SetPair) (es : List Term) → IsClosed ps (sat ps es)
 sat_closed ps es = rounds_end (length ps) ps es (lacking-le-length es ps)

@@ -1,4 +1,4 @@
--- The keys of a `BTreeSet`: which are found, and what an insert leaves.
+-- The keys of a `BTreeSet`: lookups and inserts.
 use Rattle.std.proofs.Common.{◌≡◌, ◌⊎◌, ◌↔◌, inl, inr, ⊎_elim, true, List, [], ◌∷◌, refl, sym, ap, ◌∙◌, subst}
 use Rattle.std.specs.List.{list_any}
 use Rattle.std.specs.Cmp.{IsTotalOrder}
@@ -14,18 +14,18 @@ use Rattle.kat_model.specs.Members.{Has}
 use Rattle.kat_model.proofs.Lists.{has_any, any_has}
 
 module _ {K : Type 0} {R : K → K → Ordering} where
-  -- a key is where it is
+  -- a key compares equal to itself
   pub is_at_own : IsTotalOrder R → (k : K) → is_at (R k) k ≡ true
   is_at_own order k = ap is_eq (tied_itself order k)
 
-  -- a key is found exactly where it is one of them
+  -- a key is found exactly when it is in the set
   pub found_has : IsTotalOrder R → CmpEqualImpliesEq R → (k : K) (ks : List K) → (list_any (is_at (R k)) ks ≡ true) ↔ Has ks k
   found_has order exact k ks = (
     (λ e. let found = has_any (is_at (R k)) ks e in subst (Has ks) (sym (tells_apart exact k found.0 found.2)) found.1),
     (λ h. any_has (is_at (R k)) ks k h (is_at_own order k)),
   )
 
-  -- a key that is inserted is one, and the others stay
+  -- an insert adds the key and keeps the others
   pub inserted_has : CmpEqualImpliesEq R → (k : K) (ks : List K) (x : K) → Has (insert_key R ks k) x ↔ (Has ks x ⊎ (k ≡ x))
   inserted_has exact k [] x = ((λ h. ⊎_elim inr absurd h), (λ h. ⊎_elim absurd inl h))
   inserted_has exact k (j ∷ ks) x = go (R k j) (exact k j) (inserted_has exact k ks x)

@@ -1,4 +1,4 @@
--- The next terms of a set with at most one member, where each term has at most one step.
+-- The next terms of a set with at most one member, if each term has at most one step.
 use Rattle.std.proofs.Common.{◌≡◌, ℕ, ◌⊎◌, inl, inr, ⊎_elim, List, [], ◌∷◌, refl, sym, subst}
 use Rattle.kat_model.specs.Trees.{Term}
 use Rattle.kat_model.specs.Members.{Has, SameMembers}
@@ -8,7 +8,7 @@ use Rattle.kat_model.specs.Laws.{HasOneStep}
 use Rattle.kat_model.proofs.Lists.{has_flat_map}
 use Rattle.kat_model.proofs.Reach.{next_reach, reach_next}
 
--- a list of equal members is empty, or one of them is all
+-- a list of equal members is empty, or has the members of a singleton list
 none_or_one : {X : Type 0} (P : X → Type 0) (xs : List X) → ((x : X) → Has xs x → P x) → ((x y : X) → Has xs x → Has xs y → x ≡ y) → SameMembers xs [] ⊎ ((x : X) × P x × SameMembers xs (x ∷ []))
 none_or_one P [] each same = inl (λ x. ((λ h. h), (λ h. h)))
 none_or_one P (x ∷ xs) each same =

@@ -1,5 +1,5 @@
--- Where the pairs of each level are settled by those of the next, the closed sides accept the same allowed strings
--- of fewer moves than there are levels; and all, where the pairs are accepted.
+-- If the next level justifies the pairs of each level, the closed sides agree on allowed strings with fewer moves than
+-- there are levels, and on all allowed strings if the pairs are accepted.
 use Rattle.std.proofs.Common.{◌≡◌, ℕ, suc, ◌+◌, ◌<◌, inl, inr, ⊎_elim, List, [], ◌∷◌, length, refl, sym, ◌∙◌, subst, arith, true, Option, Some, None}
 use Rattle.std.specs.Bool.{IsTrue}
 use Rattle.std.specs.Cmp.{both_ways}
@@ -22,7 +22,7 @@ use Rattle.kat_model.proofs.AllowedStrings.{allowed_first}
 abbrev pub AllAgree : List SetPair → Atom → List Move → Type 0
 AllAgree ps atom ms = (p : SetPair) → Has ps p → set_accepts p.left atom ms ≡ set_accepts p.right atom ms
 
--- the only universal term that there may be is the problem's
+-- the universal term, if any, is the universal term of the problem
 abbrev pub IsUniversalOf : ℕ → Option Term → Type 0
 IsUniversalOf actions universal = (u : Term) → universal ≡ Some u → u ≡ universal_of actions
 
@@ -31,11 +31,11 @@ closed_universal actions [] left right u e = cc
 closed_universal actions (h ∷ hs) left right u e = cc
 
 module _ (atom : Atom) (ms : List Move) where
-  -- where the pairs agree on a string, what they make of a set accepts it exactly where the set does
+  -- if the pairs agree on a string, the saturation of a set accepts it exactly when the set does
   pub set_accepts-sat : (ps : List SetPair) (es : List Term) → AllAgree ps atom ms → set_accepts (sat ps es) atom ms ≡ set_accepts es atom ms
   set_accepts-sat ps es agree = both_ways _ _ there back
     where
-      -- the set accepts the string where the term does
+      -- if the term accepts the string, so does the set
       IsCovered : Term → Type 0
       IsCovered x = IsTrue (accepts x atom ms) → IsTrue (set_accepts es atom ms)
 
@@ -56,7 +56,7 @@ module _ (atom : Atom) (ms : List Move) where
       back h = let r = has_set_accepts es atom ms h in set_accepts_has (sat ps es) atom ms r.0 (sat_keeps ps es r.0 r.1) r.2
 
 module _ (tests actions : ℕ) where
-  -- sets that hold the universal term accept every string in range
+  -- sets that contain the universal term accept every string in range
   both_universal_accept : (universal : Option Term) (es fs : List Term) (atom : Atom) (ms : List Move) → IsUniversalOf actions universal → AreMoves tests actions ms → BothUniversal universal es fs → set_accepts es atom ms ≡ set_accepts fs atom ms
   both_universal_accept None es fs atom ms is are b = absurd b
   both_universal_accept (Some u) es fs atom ms is are b = accepted es b.0 ∙ sym (accepted fs b.1)
@@ -64,15 +64,15 @@ module _ (tests actions : ℕ) where
       accepted : (gs : List Term) → Has gs u → set_accepts gs atom ms ≡ true
       accepted gs h = set_accepts_has gs atom ms (universal_of actions) (subst (Has gs) (is u refl) h) (accepts-universal tests actions atom ms are)
 
-  -- congruent sets accept a string alike, where the pairs agree on it
+  -- if the pairs agree on a string, congruent sets agree on it
   pub congruent_accepts : (universal : Option Term) (ps : List SetPair) (es fs : List Term) (atom : Atom) (ms : List Move) → IsUniversalOf actions universal → AreMoves tests actions ms → AllAgree ps atom ms → IsCongruent universal ps es fs → set_accepts es atom ms ≡ set_accepts fs atom ms
   congruent_accepts universal ps es fs atom ms is are agree c =
       sym (set_accepts-sat atom ms ps es agree)
       ∙ ⊎_elim (set_accepts_same (sat ps es) (sat ps fs) atom ms) (both_universal_accept universal (sat ps es) (sat ps fs) atom ms is are) c
       ∙ set_accepts-sat atom ms ps fs agree
 
--- At each allowed atom of its test each pair of a level accepts alike, and behind each allowed move its next sets
--- are congruent under the pairs of the next level whose test is true there.
+-- At each allowed atom that satisfies its test, the sets of a pair of the level agree. After each allowed move, its
+-- next sets are congruent under the pairs of the next level whose test is true at the atom after the move.
 pub record IsLevel (shorts : List Term) (q : ProblemParts) (ps qs : List TestedPair) : Type 0 where
   pub outputs : (p : TestedPair) → Has ps p → (atom : Atom) → length atom ≡ q.tests → IsAllowedAtom shorts atom → IsTrue (truth p.test atom)
       → set_out p.sets.left atom ≡ set_out p.sets.right atom
@@ -82,7 +82,8 @@ pub record IsLevel (shorts : List Term) (q : ProblemParts) (ps qs : List TestedP
 
 module _ (shorts : List Term) (q : ProblemParts) (levels : ℕ → List TestedPair) (n : ℕ)
     (each : (k : ℕ) → k < n → IsLevel shorts q (levels k) (levels (suc k))) where
-  -- the pairs of a level that hold at the first atom of an allowed string agree on it, where enough levels follow
+  -- the pairs of a level whose test is true at the first atom of an allowed string agree on the string, if enough
+  -- levels follow
   pub levels_agree : (k : ℕ) (atom : Atom) (ms : List Move) → k + length ms < n
       → length atom ≡ q.tests → AreMoves q.tests q.actions ms → AreAllowed shorts atom ms → AllAgree (pairs_at (levels k) atom) atom ms
   levels_agree k atom [] few wide are allowed s h =
@@ -102,7 +103,7 @@ module _ (shorts : List Term) (q : ProblemParts) (levels : ℕ → List TestedPa
       ∙ congruent_accepts q.tests q.actions (closed q).universal _ (set_next l atom m.act) (set_next r atom m.act) m.atom ms universal rest agree congruent
       ∙ sym (set_accepts-cons r atom m ms))
 
-  -- so the closed sides accept alike allowed strings of fewer moves than there are levels
+  -- so the closed sides accept the same allowed strings with fewer moves than there are levels
   pub levels_alike : (test : TestTree)
       → Has (levels 0) (record { sets = record { left = (closed q).left ∷ []; right = (closed q).right ∷ [] }; test = test })
       → ((atom : Atom) → length atom ≡ q.tests → IsAllowedAtom shorts atom → IsTrue (truth test atom))
@@ -115,7 +116,7 @@ module _ (shorts : List Term) (q : ProblemParts) (levels : ℕ → List TestedPa
       ∙ levels_agree 0 atom ms (omega (arith, few)) wide are allowed start first
       ∙ set_accepts-single (closed q).right atom ms
 
--- and of any number of moves, where the pairs of accepted ones stand on each level
+-- and allowed strings with any number of moves, if the pairs are accepted: each level then has all pairs
 pub accepted_agree : (shorts : List Term) (q : ProblemParts) (pairs : List TestedPair) → AreAcceptedUnder shorts q pairs
     → (atom : Atom) (ms : List Move) → length atom ≡ q.tests → AreMoves q.tests q.actions ms → AreAllowed shorts atom ms
     → accepts (closed q).left atom ms ≡ accepts (closed q).right atom ms

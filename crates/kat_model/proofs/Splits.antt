@@ -1,4 +1,4 @@
--- The hypotheses of a problem, those that count as short and the others.
+-- The split of the hypotheses of a problem into those that count as short and the others.
 use Rattle.std.proofs.Common.{◌↔◌, ◌⊎◌, ⊎_elim, List, [], ◌++◌}
 use Rattle.std.proofs.lemmas.Bool.{cases_Bool, not_from_false}
 use Rattle.kat_model.specs.Trees.{Term}
@@ -23,7 +23,7 @@ split_by_degree q = record { all = λ h. (there h, back h); short = λ h k. (has
     back h k =
         ⊎_elim (λ s. (has_filter is_short q.hyps h s).0) (λ l. (has_filter is_long q.hyps h l).0) (has_append (short_hyps q) (long_hyps q) h k)
 
--- none counts as short
+-- no hypothesis counts as short
 pub split_all_long : (hyps : List Term) → AreSplit hyps [] hyps
 split_all_long hyps = record { all = λ h. ((λ k. k), (λ k. k)); short = λ h k. absurd k }
 
@@ -34,7 +34,7 @@ module _ (hyps shorts longs : List Term) (split : AreSplit hyps shorts longs) wh
   pub split_long : (h : Term) → Has longs h → Has hyps h
   split_long h k = (split.all h).1 (has_right shorts longs h k)
 
-  -- each hypothesis is one of the short ones or of the others
+  -- each hypothesis is in one of the two lists
   pub split_cases : (h : Term) → Has hyps h → Has shorts h ⊎ Has longs h
   split_cases h k = has_append shorts longs h ((split.all h).0 k)
 

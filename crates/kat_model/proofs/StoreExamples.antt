@@ -1,11 +1,11 @@
--- Worked examples of values and conditions in stores. The values are found by hand.
+-- Worked examples of values and conditions in stores. The expected values were found by hand.
 use Rattle.std.proofs.Common.{◌≡◌, [], ◌∷◌, true, false, refl}
 use Rattle.kat_model.specs.Expressions.{ExprTree, number, variable, plus, minus, times, CondTree, always, never, named, compared, negation, both, either, any_of, all_of}
 use Rattle.kat_model.specs.Stores.{value, holds}
 use Rattle.kat_model.specs.declared.expression.Width.TheVariants.{W8, W16, W64}
 use Rattle.kat_model.specs.declared.expression.Rel.TheVariants.{Eq, Ne, Lt, Le, Gt, Ge}
 
--- Values go round at the width's end.
+-- Values wrap around at the end of the width.
 
 sum_within : value W8 [] (plus (number 200) (number 55)) ≡ 255
 sum_within = refl
@@ -34,7 +34,7 @@ less_than_nothing = refl
 second_variable : value W8 (3 ∷ 5 ∷ []) (variable 1) ≡ 5
 second_variable = refl
 
--- Comparisons are of unsigned numbers.
+-- Comparisons are unsigned.
 
 abbrev five : ExprTree
 five = number 5
@@ -75,7 +75,7 @@ both_differ = refl
 either_one : holds W8 (4 ∷ []) (either (negation (compared Eq x five)) never) ≡ true
 either_one = refl
 
--- A store says nothing of a named test.
+-- A named test is false, since a store gives it no value.
 
 named_is_false : holds W8 (4 ∷ []) (named 0) ≡ false
 named_is_false = refl

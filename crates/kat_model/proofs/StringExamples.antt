@@ -1,5 +1,5 @@
--- Worked examples of the strings that terms accept. The values are the words of the regular expressions, or
--- the runs of the loop, found by hand.
+-- Worked examples of the strings that terms accept. The expected values, words of the regular expressions or runs of
+-- the loop, were found by hand.
 use Rattle.std.proofs.Common.{◌≡◌, ℕ, zero as nought, suc, true, false, List, [], ◌∷◌, ◌++◌, map, refl}
 use Rattle.std.specs.List.{flat_map, filter}
 use Rattle.kat_model.specs.Trees.{Term, zero, one, test, sum, product, star}
@@ -16,7 +16,7 @@ abbrev words_of : ℕ → List (List ℕ)
 words_of nought = [] ∷ []
 words_of (suc n) = flat_map (λ w. (0 ∷ w) ∷ (1 ∷ w) ∷ []) (words_of n)
 
--- the words of at most three actions that the term accepts, the shorter first
+-- the words of at most three actions that the term accepts, shorter words first
 abbrev words : Term → List (List ℕ)
 words e = filter (λ w. accepts e [] (moves_of w)) (words_of 0 ++ words_of 1 ++ words_of 2 ++ words_of 3)
 
@@ -42,7 +42,7 @@ words_star = refl
 words_star_zero : words (star zero) ≡ [] ∷ []
 words_star_zero = refl
 
--- sliding: p, then any number of times qp
+-- sliding: p, then qp any number of times
 words_slid_right : words slid_right ≡ (0 ∷ []) ∷ (0 ∷ 1 ∷ 0 ∷ []) ∷ []
 words_slid_right = refl
 
@@ -56,11 +56,11 @@ words_nested = refl
 words_denested : words denested ≡ words_of 0 ++ words_of 1 ++ words_of 2 ++ words_of 3
 words_denested = refl
 
--- p or the empty word, and then q
+-- a set with p and p.q accepts p and pq
 words_set : filter (λ w. set_accepts (p ∷ product p q ∷ []) [] (moves_of w)) (words_of 1 ++ words_of 2) ≡ (0 ∷ []) ∷ (0 ∷ 1 ∷ []) ∷ []
 words_set = refl
 
--- Guarded strings over one test: the loop takes a turn where b is true, and ends where it is false.
+-- Guarded strings over one test: the loop takes a turn if b is true, and ends if it is false.
 
 abbrev then_p : Atom → Move
 then_p atom = record { act = 0; atom = atom }
@@ -74,21 +74,21 @@ while_once = refl
 while_twice : accepts while_b on (then_p on ∷ then_p off ∷ []) ≡ true
 while_twice = refl
 
--- no end while b is true
+-- the loop does not end while b is true
 while_unended : accepts while_b on [] ≡ false
 while_unended = refl
 
 while_unended_later : accepts while_b on (then_p on ∷ []) ≡ false
 while_unended_later = refl
 
--- no turn where b is false
+-- the loop takes no turn if b is false
 while_too_long : accepts while_b off (then_p off ∷ []) ≡ false
 while_too_long = refl
 
 while_other_action : accepts while_b on (record { act = 1; atom = off } ∷ []) ≡ false
 while_other_action = refl
 
--- a test after an action reads the atom after it
+-- a test after an action is evaluated at the atom after the action
 test_after : accepts (product p (test b)) off (then_p on ∷ []) ≡ true
 test_after = refl
 

@@ -1,5 +1,5 @@
--- Worked examples of the relations that terms denote on tables: for each state the states that the term
--- relates it to, found by hand from the table.
+-- Worked examples of the relations that terms denote on tables: for each state, the states that the term relates it to.
+-- The expected values were found by hand from the table.
 use Rattle.std.proofs.Common.{◌≡◌, ℕ, ◌<◌, true, false, inl, inr, ⊎_elim, [], ◌∷◌, length, refl, ap, subst, arith}
 use Rattle.std.proofs.lemmas.List.{get_or-replicate}
 use Rattle.kat_model.specs.Trees.{bottom, top, complement, zero, one, test, sum, product, star}
@@ -51,11 +51,11 @@ rows_star_zero = has_rows refl
 rows_star_sum : HasRows line nested ((0 ∷ 1 ∷ 2 ∷ []) ∷ (1 ∷ 2 ∷ []) ∷ (2 ∷ []) ∷ [])
 rows_star_sum = has_rows refl
 
--- p.q relates 0 to 2 by the state 1 in between, without any search
+-- p.q relates 0 to 2 through state 1, shown without the search
 relates_product : Relates line (product p q) 0 2
 relates_product = (1, omega arith, inl refl, inr (inl refl))
 
--- (p + q)* relates 0 to 2 along 1 and 2
+-- (p + q)* relates 0 to 2 along the states 1 and 2
 relates_star : Relates line nested 0 2
 relates_star = (1 ∷ 2 ∷ [], (omega arith, inl (inl refl), (omega arith, inr (inr (inl refl)), refl)))
 
@@ -81,7 +81,7 @@ line_is_table = record { rows = refl; wide = wide; moves = moves }
     moves : (m : Step) → Has line.moves m → IsMove m
     moves m h = ⊎_elim (λ e. subst IsMove e (omega arith, omega arith, omega arith)) (λ k. ⊎_elim (λ e. subst IsMove e (omega arith, omega arith, omega arith)) absurd k) h
 
--- with one action the move by q is none of a table
+-- a table for one action must not have the move by q
 line_needs_two : IsTable 0 1 line → ⊥
 line_needs_two h = absurd (omega (arith, h.moves (step 1 1 2) (inr (inl refl))))
 
@@ -122,7 +122,7 @@ exit_nested = has_rows refl
 exit_denested : HasRows exit denested ((0 ∷ 1 ∷ 2 ∷ []) ∷ (0 ∷ 1 ∷ 2 ∷ []) ∷ (2 ∷ []) ∷ [])
 exit_denested = has_rows refl
 
--- A counter below 3 that p moves on, 0 -p-> 1 -p-> 2 -p-> 0, with b true below 2
+-- A counter below 3 that p advances, 0 -p-> 1 -p-> 2 -p-> 0, with b true below 2
 
 abbrev counter : Table
 counter = record { states = 3; truths = (true ∷ []) ∷ (true ∷ []) ∷ (false ∷ []) ∷ []; moves = step 0 0 1 ∷ step 1 0 2 ∷ step 2 0 0 ∷ [] }
@@ -141,6 +141,6 @@ counter_turns = has_rows refl
 counter_while : HasRows counter while_b ((2 ∷ []) ∷ (2 ∷ []) ∷ (2 ∷ []) ∷ [])
 counter_while = has_rows refl
 
--- where b is false, the test relates nothing
+-- if b is false, the test relates nothing
 test_off : HasRows (record { states = 2; truths = (false ∷ []) ∷ (false ∷ []) ∷ []; moves = [] }) (test b) ([] ∷ [] ∷ [])
 test_off = has_rows refl

@@ -1,5 +1,5 @@
--- Worked examples of what is read off a whole term or question: reach, sizes, balanced sums, the closed sides,
--- faults, and which terms are guarded. The values are found by hand.
+-- Worked examples of functions of a whole term or question: reach, sizes, balanced sums, closed sides, faults, and
+-- guarded terms. The expected values were found by hand.
 use Rattle.std.proofs.Common.{◌≡◌, ℕ, List, [], ◌∷◌, Option, Some, None, refl, inl}
 use Rattle.kat_model.specs.Trees.{prim, complement, meet, Term, zero, one, test, act, sum, product, star, test_size, term_size, term_height, acts}
 use Rattle.kat_model.specs.Steps.{reach}
@@ -33,7 +33,7 @@ acts_denested = refl
 acts_while : acts while_b ≡ 1
 acts_while = refl
 
--- Sizes: a test in a term is one node, and has the nodes of its own tree below it.
+-- Sizes: a test in a term is a node, with the nodes of its own tree below it.
 
 test_size_example : test_size (meet b (complement c)) ≡ 4
 test_size_example = refl
@@ -53,7 +53,7 @@ term_height_while = refl
 term_height_denested : term_height denested ≡ 5
 term_height_denested = refl
 
--- Balanced sums: both halves, of which the first is the shorter.
+-- Balanced sums: the first half is the shorter one.
 
 sum_of_none : sum_of [] ≡ zero
 sum_of_none = refl
@@ -79,7 +79,7 @@ product_of_none = refl
 product_of_three : product_of (p ∷ q ∷ r ∷ []) ≡ product p (product q r)
 product_of_three = refl
 
--- Closed sides: as they are with no hypothesis, and otherwise with u.h.u added (Kozen and Smith 1996).
+-- Closed sides: unchanged without hypotheses, and otherwise with u.h.u added (Kozen and Smith 1996).
 
 universal_of_none : universal_of 0 ≡ star zero
 universal_of_none = refl
@@ -100,7 +100,7 @@ closed_with_one : closed (asks (r ∷ [])) ≡ record {
 }
 closed_with_one = refl
 
--- two hypotheses stand as their sum
+-- the sum of two hypotheses is used
 closed_with_two : (closed (asks (r ∷ one ∷ []))).left ≡ sum p (product (star (sum p q)) (product (sum r one) (star (sum p q))))
 closed_with_two = refl
 

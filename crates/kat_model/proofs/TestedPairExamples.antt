@@ -1,5 +1,5 @@
--- Worked examples of short hypotheses and of pairs under tests: where p leaves b alone, as the Hoare triple
--- {b} p {b} says by b.p.!b = 0, the loop `while b do p` ends only where b fails before it.
+-- Worked examples of short hypotheses and of pairs under tests. If p preserves b, stated by the Hoare triple {b} p {b}
+-- as b.p.!b = 0, the loop `while b do p` ends only if b is false before it.
 use Rattle.std.proofs.Common.{◌≡◌, ◌<◌, true, false, inl, inr, ⊎_elim, List, [], ◌∷◌, length, Some, None, refl, sym, subst, arith}
 use Rattle.std.specs.Bool.{IsTrue}
 use Rattle.std.proofs.lemmas.Bool.{true≢false}
@@ -64,7 +64,7 @@ leaves m = true≢false m.move
 forbidden : IsAllowedAtom (test b ∷ []) (true ∷ []) → ⊥
 forbidden h = true≢false h
 
--- the question, whose hypothesis is short
+-- the question, which has a short hypothesis
 
 abbrev asks : ProblemParts
 asks = record { tests = 1; actions = 1; hyps = hyps; left = while_b; right = test (complement b) }
@@ -75,7 +75,7 @@ short_one = refl
 long_none : long_hyps asks ≡ []
 long_none = refl
 
--- The sides accept alike everywhere. Inside the loop, where b holds, nothing is accepted any more.
+-- The sides agree at every atom. Inside the loop, while b is true, nothing is accepted.
 
 abbrev pair : List Term → List Term → TestTree → TestedPair
 pair es fs t = record { sets = record { left = es; right = fs }; test = t }
@@ -89,7 +89,7 @@ inside = pair (while_b ∷ []) [] b
 abbrev both : List TestedPair
 both = start ∷ inside ∷ []
 
--- by an allowed move, to a set that holds the loop only where b holds
+-- an allowed move leads to a set that contains the loop only if b is true
 next_congruent : (atom after : Atom) → IsAllowedMove hyps atom (moves_to after) → IsCongruent None (pairs_at both after) (set_next (while_b ∷ []) atom 0) []
 next_congruent [] after m = inl (λ x. ((λ h. h), (λ h. h)))
 next_congruent (false ∷ xs) after m = inl (λ x. ((λ h. h), (λ h. h)))
@@ -133,11 +133,11 @@ both_accepted = record { test = top; rest = inside ∷ []; first = refl; holds =
 loop_same : Same asks
 loop_same = accepted_under_same asks (short_hyps asks) (long_hyps asks) both (split_by_degree asks) both_accepted
 
--- without its test the second pair is refused: where b fails the loop ends
+-- without its test the second pair is refused: the loop ends if b is false
 everywhere_refused : IsTestedBisimulation hyps 1 1 None (start ∷ pair (while_b ∷ []) [] top ∷ []) → ⊥
 everywhere_refused h = true≢false (h.outputs (pair (while_b ∷ []) [] top) (inr (inl refl)) (false ∷ []) refl refl refl)
 
--- and without the hypothesis the move out of the loop is there, behind which only the first pair holds
+-- without the hypothesis the move out of the loop is allowed, and only the first pair holds after it
 every_move_refused : IsTestedBisimulation [] 1 1 None both → ⊥
 every_move_refused h =
     ⊎_elim (λ s. (s while_b).0 (inl refl)) (λ u. u)

@@ -1,4 +1,4 @@
--- The universal term accepts every string over its actions, and puts anything around a term.
+-- The universal term accepts every string over its actions, and any strings around another term.
 use Rattle.std.proofs.Common.{◌≡◌, ℕ, zero, suc, ◌<◌, ◌⊎◌, inl, inr, ⊎_elim, List, [], ◌∷◌, ◌++◌, refl, sym, ap, ◌∙◌, subst, arith, true, append_assoc}
 use Rattle.std.specs.Bool.{IsTrue}
 use Rattle.kat_model.specs.Trees.{Term, one, act, product, star}
@@ -41,7 +41,7 @@ module _ (tests actions : ℕ) where
   pub are_moves_right : (xs ys : List Move) → AreMoves tests actions (xs ++ ys) → AreMoves tests actions ys
   are_moves_right xs ys are m h = are m (has_right xs ys m h)
 
--- what is accepted with anything around a term has a part that the term accepts
+-- a string that `inside` accepts has a part that the inner term accepts
 pub accepts_inside : (u e : Term) (atom : Atom) (ms : List Move) → IsTrue (accepts (inside u e) atom ms) → IsWithin e atom ms
 accepts_inside u e atom ms h =
     let c = accepts_product u (product e u) atom ms h in

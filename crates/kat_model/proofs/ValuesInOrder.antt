@@ -1,12 +1,12 @@
--- Values along a list, each computed from all earlier ones: how many there are, what each is, and that
--- later elements do not change them.
+-- Values along a list, each computed from all earlier ones: their number, the value of each element, and that later
+-- elements do not change the values of earlier ones.
 use Rattle.std.proofs.Common.{◌≡◌, ℕ, zero, suc, ◌+◌, ◌<◌, List, [], ◌∷◌, ◌++◌, length, Some, slice_get, get_or, refl, sym, ap, ◌∙◌, arith, length-append}
 use Rattle.std.proofs.lemmas.List.{get_or_append_left}
 use Rattle.std.proofs.Math.Seq.{get_or-append_seam}
 use Rattle.kat_model.specs.CourseOfValues.{continued, course_of_values}
 
 module _ {X Y : Type 0} (step : List Y → X → Y) where
-  -- the values so far stay
+  -- the values so far do not change
   get_or-continued : (values : List Y) (xs : List X) (d : Y) (i : ℕ) → i < length values → get_or (continued step values xs) i d ≡ get_or values i d
   get_or-continued values [] d i h = refl
   get_or-continued values (x ∷ xs) d i h =
@@ -31,7 +31,7 @@ module _ {X Y : Type 0} (step : List Y → X → Y) where
       let within : i < length (course_of_values step xs) = omega (arith, length-course_of_values xs) in
       ap (λ l. get_or l i d) (continued-append [] xs more) ∙ get_or-continued (course_of_values step xs) more d i within
 
-  -- the value at a place is that of its element, over the values before it
+  -- the value at an index is computed from its element and the values before it
   pub record IsStepAt (d : Y) (values : List Y) (i : ℕ) (x : X) : Type 0 where
     pub front : List Y
     pub here : get_or values i d ≡ step front x

@@ -1,5 +1,5 @@
--- Which atoms and moves there are where short hypotheses are zero. Of each list of hypotheses that count as
--- short; of the empty list all atoms and moves are allowed.
+-- The atoms and moves that are possible if the short hypotheses are zero. They are defined for every list of hypotheses
+-- that count as short; with the empty list, all atoms and moves are allowed.
 use Rattle.std.specs.Prelude.{◌≡◌, ◌<◌, ℕ, false, List, [], ◌∷◌}
 use Rattle.kat_model.specs.Trees.{Term}
 use Rattle.kat_model.specs.Steps.{Atom, set_out}
@@ -11,7 +11,7 @@ use Rattle.kat_model.specs.Strings.{Move, set_accepts}
 abbrev pub IsAllowedAtom : List Term → Atom → Type 0
 IsAllowedAtom shorts atom = set_out shorts atom ≡ false
 
--- both atoms are allowed, and no short hypothesis accepts the string from the one to the other
+-- both atoms are allowed, and no short hypothesis accepts the string of the move
 pub record IsAllowedMove (shorts : List Term) (atom : Atom) (m : Move) : Type 0 where
   pub from : IsAllowedAtom shorts atom
   pub to : IsAllowedAtom shorts m.atom

@@ -1,5 +1,5 @@
--- Balanced trees over a list: the node joins the tree of the first half, which is the shorter one, and
--- the tree of the rest.
+-- Balanced trees over a list: a node joins the tree of the first half, which is the shorter one, and the tree of the
+-- rest.
 use Rattle.std.specs.Prelude.{ℕ, zero, suc, ◌/◌, List, [], ◌∷◌, length, take, drop}
 use Rattle.kat_model.specs.Trees.{Term, zero as term_zero, one, sum, product}
 

@@ -1,4 +1,4 @@
--- The terms that are compared in place of the sides, so that strings with a hypothesis inside do not
+-- The closed sides, which are compared in place of the sides. Strings that contain a string of a hypothesis do not
 -- count (elimination of hypotheses e = 0: Cohen 1994; Kozen and Smith 1996).
 use Rattle.std.specs.Prelude.{ℕ, zero, suc, List, [], ◌∷◌, ◌++◌, Option, Some, None}
 use Rattle.kat_model.specs.Trees.{Term, act, sum, product, star}
@@ -10,11 +10,11 @@ abbrev pub actions_below : ℕ → List Term
 actions_below zero = []
 actions_below (suc n) = actions_below n ++ act n ∷ []
 
--- the term that accepts every string over these actions
+-- the term that accepts every string over the first n actions
 abbrev pub universal_of : ℕ → Term
 universal_of actions = star (sum_of (actions_below actions))
 
--- anything, then the term, then anything
+-- any string, then the term, then any string
 abbrev pub inside : Term → Term → Term
 inside u e = product u (product e u)
 
@@ -32,6 +32,6 @@ closed_under actions (h ∷ hs) left right =
       universal = Some (universal_of actions);
     }
 
--- the closed sides of a problem, and the universal term where there are hypotheses
+-- the closed sides of a problem, and the universal term if there are hypotheses
 abbrev pub closed : ProblemParts → Closed
 closed q = closed_under q.actions q.hyps q.left q.right

@@ -1,4 +1,4 @@
--- Terms as trees of numbers, by which the logic tells the values of a model apart.
+-- Codes of terms as trees of numbers, by which the logic distinguishes the values of a model.
 use Rattle.std.specs.Prelude.{◌≡◌, refl}
 use Rattle.std.proofs.Common.{ap}
 use mathlib.Core.Path.{ap₂}

@@ -1,4 +1,4 @@
--- Expressions and conditions as trees of numbers, by which the logic tells the values of a model apart.
+-- Codes of expressions and conditions as trees of numbers, by which the logic distinguishes the values of a model.
 use Rattle.std.specs.Prelude.{◌≡◌, refl}
 use Rattle.std.proofs.Common.{ap, ◌∙◌}
 use mathlib.Core.Path.{ap₂}
@@ -27,7 +27,7 @@ coded_as_expr (gcons (gcons gnil u) v) = plus (coded_as_expr u) (coded_as_expr v
 coded_as_expr (gcons (gcons (gnum k) u) v) = minus (coded_as_expr u) (coded_as_expr v)
 coded_as_expr (gcons (gcons (gcons x y) u) v) = times (coded_as_expr u) (coded_as_expr v)
 
--- a relation is one of two pairs or one of two lone ones
+-- the code of a relation is one of two leaves or one of four pairs
 abbrev pub rel_code : Rel → Gv
 rel_code Eq = gnil
 rel_code Ne = gnum 0

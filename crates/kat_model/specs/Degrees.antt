@@ -1,4 +1,4 @@
--- How many moves the strings of a term may have, and by that which hypotheses are short: those that speak of
+-- The degree of a term, which bounds the number of moves of its strings. It defines the short hypotheses, those on
 -- single atoms and single moves.
 use Rattle.std.specs.Prelude.{ℕ, ◌+◌, ◌≤◌, zero as nought, suc, max, Bool, false, not, nat_le, IsTrue, List, ◌++◌, Option, Some, None}
 use Rattle.std.specs.List.{filter}
@@ -7,19 +7,19 @@ use Rattle.kat_model.specs.Members.{Has, SameMembers}
 use Rattle.kat_model.specs.Problems.{ProblemParts}
 use Rattle.kat_model.specs.Closed.{Closed, closed}
 
--- two bounds taken together; where one of them is missing there is no bound
+-- the combination of two bounds; if one of them is missing, there is no bound
 abbrev pub both_bounds : (ℕ → ℕ → ℕ) → Option ℕ → Option ℕ → Option ℕ
 both_bounds f None n = None
 both_bounds f (Some m) None = None
 both_bounds f (Some m) (Some n) = Some (f m n)
 
--- the bound of what repeats: only nothing, however often, is bounded
+-- the bound of a repetition: only the bound 0 gives a bound
 abbrev pub repeated_bound : Option ℕ → Option ℕ
 repeated_bound None = None
 repeated_bound (Some nought) = Some 0
 repeated_bound (Some (suc n)) = None
 
--- the degree of a term: a bound for the moves of its strings, read off its form
+-- the degree of a term: a bound on the number of moves of its strings, computed from its form
 abbrev pub degree : Term → Option ℕ
 degree zero = Some 0
 degree one = Some 0
@@ -29,7 +29,7 @@ degree (sum e f) = both_bounds max (degree e) (degree f)
 degree (product e f) = both_bounds (◌+◌) (degree e) (degree f)
 degree (star e) = repeated_bound (degree e)
 
--- a number keeps to a bound, where there is one
+-- a number is within a bound, if there is one
 abbrev pub IsBounded : Option ℕ → ℕ → Type 0
 IsBounded None k = Unit {0}
 IsBounded (Some n) k = k ≤ n
@@ -57,12 +57,12 @@ long_hyps q = filter is_long q.hyps
 abbrev pub with_hyps : ProblemParts → List Term → ProblemParts
 with_hyps q hyps = record { tests = q.tests; actions = q.actions; hyps = hyps; left = q.left; right = q.right }
 
--- the closed sides of the problem with its long hypotheses alone
+-- the closed sides of the problem with only its long hypotheses
 abbrev pub closed_long : ProblemParts → Closed
 closed_long q = closed (with_hyps q (long_hyps q))
 
--- The hypotheses are these two lists, of which the terms of the first are short: all short ones, or fewer.
--- Only the others have to be eliminated.
+-- The hypotheses are the members of these two lists. The first list has only short hypotheses, all or some of them.
+-- Only the second list must be eliminated.
 pub record AreSplit (hyps shorts longs : List Term) : Type 0 where
   pub all : SameMembers hyps (shorts ++ longs)
   pub short : (h : Term) → Has shorts h → IsTrue (is_short h)

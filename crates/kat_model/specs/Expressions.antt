@@ -1,4 +1,4 @@
--- Expressions and conditions as trees, without the addresses that the boxes of the program have.
+-- Expressions and conditions as trees, without the addresses of the boxes.
 use Rattle.std.specs.Prelude.{ℕ, List, Bool, true, false, ◌||◌}
 use Rattle.kat_model.specs.Trees.{TestTree, bottom, top, prim, complement, meet, join}
 use Rattle.kat_model.specs.Balanced.{balanced}
@@ -44,7 +44,7 @@ cond_tree (Not' p b) = negation (cond_tree b)
 cond_tree (And' p b q c) = both (cond_tree b) (cond_tree c)
 cond_tree (Or' p b q c) = either (cond_tree b) (cond_tree c)
 
--- that some condition of a list holds, and that all hold
+-- the condition that some condition of a list holds; `all_of`: that all hold
 abbrev pub any_of : List CondTree → CondTree
 any_of = balanced never either
 

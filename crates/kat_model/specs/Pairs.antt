@@ -1,5 +1,5 @@
--- Pairs of sets of terms that show that the sides of a problem are the same: a bisimulation (Hopcroft and
--- Karp 1971), or one up to congruence (Bonchi and Pous 2013).
+-- Pairs of sets of terms that show that the sides of a problem are the same: a bisimulation (Hopcroft and Karp 1971),
+-- or a bisimulation up to congruence (Bonchi and Pous 2013).
 use Rattle.std.specs.Prelude.{◌≡◌, ◌⊎◌, ◌<◌, ℕ, zero as nought, suc, Bool, true, false, ◌&&◌, ◌||◌, eqb, if◌then◌else◌, List, [], ◌∷◌, ◌++◌, length, Option, Some, None}
 use Rattle.std.specs.List.{list_any, list_all}
 use Rattle.kat_model.specs.Trees.{TestTree, bottom, top, prim, complement, meet, join, Term, zero, one, test, act, sum, product, star}
@@ -8,7 +8,7 @@ use Rattle.kat_model.specs.Steps.{Atom, set_out, set_next}
 use Rattle.kat_model.specs.Problems.{ProblemParts}
 use Rattle.kat_model.specs.Closed.{closed}
 
--- whether two tests, or two terms, are one tree
+-- whether two tests are the same tree; `same_term` compares two terms
 abbrev pub same_test : TestTree → TestTree → Bool
 same_test bottom bottom = true
 same_test top top = true
@@ -28,20 +28,20 @@ same_term (product e f) (product g h) = same_term e g && same_term f h
 same_term (star e) (star f) = same_term e f
 same_term e f = false
 
--- whether the set holds the term
+-- whether the set contains the term
 abbrev pub holds : List Term → Term → Bool
 holds es e = list_any (λ x. same_term x e) es
 
--- whether the set holds all terms of another
+-- whether the set contains all terms of another set
 abbrev pub holds_all : List Term → List Term → Bool
 holds_all es fs = list_all (holds es) fs
 
--- two sets of terms that are to accept the same strings
+-- two sets of terms that should accept the same strings
 pub record SetPair : Type 0 where
   pub left : List Term
   pub right : List Term
 
--- a set, and both sets of the pair where it holds all of one of them
+-- a set, with both sets of the pair added if it contains all of one of them
 abbrev pub with_pair : List Term → SetPair → List Term
 with_pair es p = if holds_all es p.left || holds_all es p.right then es ++ p.left ++ p.right else es
 
@@ -54,11 +54,11 @@ abbrev pub rounds : ℕ → List SetPair → List Term → List Term
 rounds nought ps es = es
 rounds (suc n) ps es = rounds n ps (round ps es)
 
--- a set after as many rounds as there are pairs
+-- the saturation of a set: the set after as many rounds as there are pairs
 abbrev pub sat : List SetPair → List Term → List Term
 sat ps es = rounds (length ps) ps es
 
--- both sets hold the universal term, where there is one
+-- there is a universal term, and both sets contain it
 abbrev pub BothUniversal : Option Term → List Term → List Term → Type 0
 BothUniversal None es fs = ⊥
 BothUniversal (Some u) es fs = Has es u × Has fs u
@@ -70,11 +70,11 @@ pub record IsListed (pairs : List SetPair) (es fs : List Term) : Type 0 where
   pub lefts : SameMembers es pair.left
   pub rights : SameMembers fs pair.right
 
--- the pairs make the same set of both
+-- both sets have the same saturation, or both saturations contain the universal term
 abbrev pub IsCongruent : Option Term → List SetPair → List Term → List Term → Type 0
 IsCongruent universal pairs es fs = SameMembers (sat pairs es) (sat pairs fs) ⊎ BothUniversal universal (sat pairs es) (sat pairs fs)
 
--- how the next sets of a pair have to be told by the pairs that are listed
+-- how the listed pairs must match the next sets of a pair: as listed, or up to congruence
 pub data Style : Type 0 where
   plain : Style
   up_to : Style
@@ -83,12 +83,12 @@ abbrev pub AreMatched : Style → Option Term → List SetPair → List Term →
 AreMatched plain universal pairs es fs = IsListed pairs es fs ⊎ BothUniversal universal es fs
 AreMatched up_to universal pairs es fs = IsCongruent universal pairs es fs
 
--- under each atom the sets of a pair accept alike, and their next sets are matched
+-- under each atom the sets of a pair accept alike, and after each action their next sets are matched
 pub record IsBisimulation (style : Style) (tests actions : ℕ) (universal : Option Term) (pairs : List SetPair) : Type 0 where
   pub outputs : (p : SetPair) → Has pairs p → (atom : Atom) → length atom ≡ tests → set_out p.left atom ≡ set_out p.right atom
   pub steps : (p : SetPair) → Has pairs p → (atom : Atom) → length atom ≡ tests → (a : ℕ) → a < actions → AreMatched style universal pairs (set_next p.left atom a) (set_next p.right atom a)
 
--- the pairs begin with the closed sides, each as a set of one term, and are a bisimulation
+-- the first pair is the closed sides, each as a singleton set, and the pairs are a bisimulation
 pub record AreAccepted (style : Style) (q : ProblemParts) (pairs : List SetPair) : Type 0 where
   pub rest : List SetPair
   pub first : pairs ≡ record { left = (closed q).left ∷ []; right = (closed q).right ∷ [] } ∷ rest

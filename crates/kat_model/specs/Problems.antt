@@ -1,4 +1,4 @@
--- What a problem asks, which problems there are, and why there is no other.
+-- The question of a problem, the limits that problems keep to, and the faults of other questions.
 use Rattle.std.specs.Prelude.{ℕ, ◌+◌, ◌-◌, ◌^◌, ◌<◌, ◌≤◌, min, nat_lt, if◌then◌else◌, List, [], ◌∷◌, map, Option, Some, None}
 use Rattle.std.specs.Option.{option_or, option_map}
 use Rattle.kat_model.specs.Trees.{TestTree, bottom, top, prim, complement, meet, join, Term, zero, one, test, act, sum, product, star, term_size, kat_tree}
@@ -7,7 +7,7 @@ use Rattle.kat_model.specs.declared.tree.Kat.{Kat}
 use Rattle.kat_model.specs.declared.problem.BadProblem.{BadProblem}
 use Rattle.kat_model.specs.declared.problem.BadProblem.TheVariants.{TooManyTests, TooManyActions, TestRange, ActionRange, TooLarge}
 
--- are two terms the same where each hypothesis is zero?
+-- the question whether two terms are the same if each hypothesis is zero
 pub record ProblemParts : Type 0 where
   pub tests : ℕ
   pub actions : ℕ
@@ -34,7 +34,7 @@ HasTestsBelow n (sum e f) = HasTestsBelow n e × HasTestsBelow n f
 HasTestsBelow n (product e f) = HasTestsBelow n e × HasTestsBelow n f
 HasTestsBelow n (star e) = HasTestsBelow n e
 
--- each primitive test in the term is below the number of tests, and each action below that of actions
+-- each primitive test in the term is below the number of tests, and each action below the number of actions
 abbrev pub IsInRange : ℕ → ℕ → Term → Type 0
 IsInRange tests actions zero = Unit {0}
 IsInRange tests actions one = Unit {0}
@@ -52,7 +52,7 @@ abbrev pub terms_size : List Term → ℕ
 terms_size [] = 0
 terms_size (e ∷ es) = term_size e + terms_size es
 
--- the nodes of the hypotheses and of both sides
+-- the number of nodes of the hypotheses and both sides
 abbrev pub problem_size : ProblemParts → ℕ
 problem_size q = terms_size q.hyps + term_size q.left + term_size q.right
 
@@ -88,14 +88,14 @@ abbrev pub first_out_of_all : ℕ → ℕ → List Term → Option BadProblem
 first_out_of_all tests actions [] = None
 first_out_of_all tests actions (e ∷ es) = option_or (first_out tests actions e) (first_out_of_all tests actions es)
 
--- a number of nodes, or the largest that is counted
+-- the number of nodes, at most 2^64 - 1
 abbrev pub counted : ℕ → ℕ
 counted n = min n (2 ^ 64 - 1)
 
 abbrev pub bad_above : ℕ → ℕ → BadProblem → Option BadProblem
 bad_above limit n bad = if nat_lt limit n then Some bad else None
 
--- the first reason why there is no such problem
+-- the first reason why the question does not form a problem
 abbrev pub problem_fault : ProblemParts → Option BadProblem
 problem_fault q =
     option_or (bad_above MAX_TESTS q.tests (TooManyTests q.tests))
@@ -105,7 +105,7 @@ problem_fault q =
     (option_or (first_out q.tests q.actions q.right)
     (bad_above MAX_TERM_NODES (problem_size q) (TooLarge (counted (problem_size q))))))))
 
--- what a problem of these parts asks
+-- the question of a problem with these parts
 abbrev pub problem_parts : ℕ → ℕ → List Kat → Kat → Kat → ProblemParts
 problem_parts tests actions hyps left right =
     record { tests = tests; actions = actions; hyps = map kat_tree hyps; left = kat_tree left; right = kat_tree right }

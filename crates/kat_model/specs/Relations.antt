@@ -1,4 +1,4 @@
--- What a term means: the relation on states that it denotes in a relational model (Kozen 1997).
+-- The meaning of a term: the relation on states that it denotes in a relational model (Kozen 1997).
 use Rattle.std.specs.Prelude.{◌≡◌, ℕ, ◌<◌, ◌⊎◌, ◌↔◌, List, [], ◌∷◌, length, slice_index_or, IsTrue}
 use Rattle.kat_model.specs.Trees.{Term, zero, one, test, act, sum, product, star}
 use Rattle.kat_model.specs.Members.{Has}
@@ -12,7 +12,7 @@ pub record Frame (S : Type 0) : Type 1 where
   pub atom : S → Atom
   pub Acts : ℕ → S → S → Type 0
 
--- the relation leads from i along these states, the last of which is j
+-- the relation leads from i to j along these states; the last of them is j
 abbrev pub Along : {S : Type 0} → (S → Type 0) → (S → S → Type 0) → S → List S → S → Type 0
 Along IsState R i [] j = i ≡ j
 Along IsState R i (k ∷ ks) j = IsState k × R i k × Along IsState R k ks j
@@ -31,7 +31,7 @@ RelatesIn {S} frame (star e) i j = (ks : List S) × Along frame.IsState (Relates
 abbrev pub SomeRelates : {S : Type 0} → Frame S → List Term → S → S → Type 0
 SomeRelates frame es i j = (e : Term) × Has es e × RelatesIn frame e i j
 
--- the terms of a list relate the states one after the other, over a chain of states in between
+-- the terms of a list relate the states in turn, over a chain of states in between
 abbrev pub RelateInTurn : {S : Type 0} → Frame S → List Term → S → S → Type 0
 RelateInTurn frame [] i j = i ≡ j
 RelateInTurn {S} frame (e ∷ es) i j = (k : S) × frame.IsState k × RelatesIn frame e i k × RelateInTurn frame es k j
@@ -52,7 +52,7 @@ pub record Table : Type 0 where
 abbrev pub atom_at : Table → ℕ → Atom
 atom_at t i = slice_index_or t.truths i []
 
--- a table for so many tests and actions
+-- a table for these numbers of tests and actions
 pub record IsTable (tests actions : ℕ) (t : Table) : Type 0 where
   pub rows : length t.truths ≡ t.states
   pub wide : (i : ℕ) → i < t.states → length (atom_at t i) ≡ tests

@@ -1,5 +1,5 @@
--- Partial derivatives of terms (Antimirov 1996; with tests Kozen 2008, Pous 2015): what a term accepts
--- under an atom, and the terms that are left of it after an action.
+-- Partial derivatives of terms (Antimirov 1996; with tests Kozen 2008, Pous 2015): what a term accepts under an atom,
+-- and the terms that remain of it after an action.
 use Rattle.std.specs.Prelude.{ℕ, Bool, true, false, not, ◌&&◌, ◌||◌, eqb, if◌then◌else◌, List, [], ◌∷◌, ◌++◌, map, slice_index_or}
 use Rattle.std.specs.List.{list_any, flat_map}
 use Rattle.kat_model.specs.Trees.{TestTree, bottom, top, prim, complement, meet, join, Term, zero, one, test, act, sum, product, star}
@@ -8,7 +8,7 @@ use Rattle.kat_model.specs.Trees.{TestTree, bottom, top, prim, complement, meet,
 abbrev pub Atom : Type 0
 Atom = List Bool
 
--- the truth of a test at an atom
+-- whether the atom satisfies the test
 abbrev pub truth : TestTree → Atom → Bool
 truth bottom atom = false
 truth top atom = true
@@ -17,7 +17,7 @@ truth (complement b) atom = not (truth b atom)
 truth (meet b c) atom = truth b atom && truth c atom
 truth (join b c) atom = truth b atom || truth c atom
 
--- one term and then another, where nothing is left to do of `one`
+-- the product of two terms, but only the second term if the first is `one`
 abbrev pub dot : Term → Term → Term
 dot one f = f
 dot zero f = product zero f
@@ -37,7 +37,7 @@ out (sum e f) atom = out e atom || out f atom
 out (product e f) atom = out e atom && out f atom
 out (star e) atom = true
 
--- the terms that may be left of a term after an action under an atom
+-- the terms that may remain of a term after an action under an atom
 abbrev pub next : Term → Atom → ℕ → List Term
 next zero atom a = []
 next one atom a = []
@@ -47,14 +47,14 @@ next (sum e f) atom a = next e atom a ++ next f atom a
 next (product e f) atom a = map (λ x. dot x f) (next e atom a) ++ (if out e atom then next f atom a else [])
 next (star e) atom a = map (λ x. dot x (star e)) (next e atom a)
 
--- a set of terms accepts an atom where some member does, and its next terms are those of its members
+-- a set of terms accepts an atom if some member does; its next terms (`set_next`) are those of its members
 abbrev pub set_out : List Term → Atom → Bool
 set_out es atom = list_any (λ e. out e atom) es
 
 abbrev pub set_next : List Term → Atom → ℕ → List Term
 set_next es atom a = flat_map (λ e. next e atom a) es
 
--- the terms that any steps can lead to
+-- the terms that steps can lead to
 abbrev pub reach : Term → List Term
 reach zero = []
 reach one = []

@@ -13,7 +13,7 @@ bits W16 = 16
 bits W32 = 32
 bits W64 = 64
 
--- how many numbers there are of the width
+-- the number of values of the width
 abbrev pub modulus : Width → ℕ
 modulus w = 2 ^ bits w
 
@@ -24,7 +24,7 @@ Store = List ℕ
 abbrev pub IsStore : Width → Store → Type 0
 IsStore w s = (n : ℕ) → Has s n → n < modulus w
 
--- the value of an expression, modulo the number of values; a variable that there is not is 0
+-- the value of an expression, modulo the number of values; an undefined variable is 0
 abbrev pub value : Width → Store → ExprTree → ℕ
 value w s (number n) = n % modulus w
 value w s (variable k) = slice_index_or s k 0
@@ -32,7 +32,7 @@ value w s (plus e f) = (value w s e + value w s f) % modulus w
 value w s (minus e f) = (value w s e + (modulus w - value w s f)) % modulus w
 value w s (times e f) = (value w s e * value w s f) % modulus w
 
--- whether two numbers are so related
+-- whether the relation holds between two numbers
 abbrev pub compares : Rel → ℕ → ℕ → Bool
 compares Eq m n = nat_eq m n
 compares Ne m n = not (nat_eq m n)
@@ -41,7 +41,7 @@ compares Le m n = not (nat_lt n m)
 compares Gt m n = nat_lt n m
 compares Ge m n = not (nat_lt m n)
 
--- whether a condition holds in a store; a named test, of which a store says nothing, is false
+-- whether a condition holds in a store; a named test is false, since a store gives it no value
 abbrev pub holds : Width → Store → CondTree → Bool
 holds w s always = true
 holds w s never = false

@@ -1,5 +1,5 @@
--- Guarded strings (Kaplan 1969; Kozen and Smith 1996), which terms accept them, and the paths of a frame
--- that spell them.
+-- Guarded strings (Kaplan 1969; Kozen and Smith 1996), the terms that accept them, and the paths of a frame that spell
+-- them.
 use Rattle.std.specs.Prelude.{◌≡◌, ◌<◌, ℕ, Bool, List, [], ◌∷◌, length}
 use Rattle.std.specs.List.{list_any}
 use Rattle.kat_model.specs.Members.{Has}
@@ -22,11 +22,11 @@ abbrev pub last_atom : Atom → List Move → Atom
 last_atom atom [] = atom
 last_atom atom (m ∷ ms) = last_atom m.atom ms
 
--- each move's action and atom are those of a problem
+-- each action is below the number of actions, and each atom assigns exactly the tests
 abbrev pub AreMoves : ℕ → ℕ → List Move → Type 0
 AreMoves tests actions ms = (m : Move) → Has ms m → (m.act < actions) × (length m.atom ≡ tests)
 
--- the string's atoms and actions are those of a problem
+-- each atom of the string assigns exactly the tests, and each action is below the number of actions
 pub record IsString (tests actions : ℕ) (x : GuardedString) : Type 0 where
   pub first : length x.first ≡ tests
   pub rest : AreMoves tests actions x.rest
@@ -36,7 +36,7 @@ abbrev pub accepts : Term → Atom → List Move → Bool
 accepts e atom [] = out e atom
 accepts e atom (m ∷ ms) = list_any (λ f. accepts f m.atom ms) (next e atom m.act)
 
--- a set of terms accepts where some member does
+-- a set of terms accepts a string if some member does
 abbrev pub set_accepts : List Term → Atom → List Move → Bool
 set_accepts es atom ms = list_any (λ e. accepts e atom ms) es
 

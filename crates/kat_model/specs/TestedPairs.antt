@@ -1,5 +1,5 @@
--- Pairs of sets of terms that are to accept alike only from the atoms of a test on. So hypotheses on single
--- moves need not be eliminated: the tests say which moves there are.
+-- Pairs of sets of terms that should accept the same strings only from the atoms of a test. So hypotheses on single
+-- moves need not be eliminated: the tests determine the possible moves.
 use Rattle.std.specs.Prelude.{◌≡◌, ◌<◌, ℕ, List, [], ◌∷◌, map, length, Option, IsTrue}
 use Rattle.std.specs.List.{filter}
 use Rattle.kat_model.specs.Trees.{TestTree, top, Term}
@@ -16,7 +16,7 @@ pub record TestedPair : Type 0 where
   pub sets : SetPair
   pub test : TestTree
 
--- the sets alone
+-- the sets of the pairs, without their tests
 abbrev pub sets_of : List TestedPair → List SetPair
 sets_of pairs = map (λ p. p.sets) pairs
 
@@ -28,8 +28,8 @@ everywhere p = record { sets = p; test = top }
 abbrev pub pairs_at : List TestedPair → Atom → List SetPair
 pairs_at pairs atom = sets_of (filter (λ p. truth p.test atom) pairs)
 
--- At each allowed atom of its test each pair accepts alike, and behind each allowed move its next sets are
--- congruent under the pairs whose test is true there.
+-- At each allowed atom that satisfies its test, the sets of a pair accept alike. After each allowed move, its next sets
+-- are congruent under the pairs whose test is true at the atom after the move.
 pub record IsTestedBisimulation (shorts : List Term) (tests actions : ℕ) (universal : Option Term) (pairs : List TestedPair) : Type 0 where
   pub outputs : (p : TestedPair) → Has pairs p → (atom : Atom) → length atom ≡ tests → IsAllowedAtom shorts atom → IsTrue (truth p.test atom)
       → set_out p.sets.left atom ≡ set_out p.sets.right atom
@@ -37,8 +37,8 @@ pub record IsTestedBisimulation (shorts : List Term) (tests actions : ℕ) (univ
       → (m : Move) → m.act < actions → length m.atom ≡ tests → IsAllowedMove shorts atom m
       → IsCongruent universal (pairs_at pairs m.atom) (set_next p.sets.left atom m.act) (set_next p.sets.right atom m.act)
 
--- The pairs begin with the closed sides under a test that is true at every allowed atom, and are a
--- bisimulation. The hypotheses of the problem are those that do not count as short.
+-- The first pair is the closed sides under a test that is true at every allowed atom, and the pairs are a bisimulation.
+-- The hypotheses of the problem `q` are those that do not count as short.
 pub record AreAcceptedUnder (shorts : List Term) (q : ProblemParts) (pairs : List TestedPair) : Type 0 where
   pub test : TestTree
   pub rest : List TestedPair

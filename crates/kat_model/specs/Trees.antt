@@ -1,5 +1,4 @@
--- Tests and terms of Kleene algebra with tests as trees (Kozen 1997), without the addresses that the
--- boxes of the program have.
+-- Tests and terms of Kleene algebra with tests as trees (Kozen 1997), without the addresses of the boxes.
 use Rattle.std.specs.Prelude.{ℕ, ◌+◌, max}
 use Rattle.kat_model.specs.declared.tree.Test.{Test}
 use Rattle.kat_model.specs.declared.tree.Test.TheVariants.{False, True, Prim, Not', And', Or'}
@@ -53,7 +52,7 @@ test_size (complement b) = test_size b + 1
 test_size (meet b c) = test_size b + test_size c + 1
 test_size (join b c) = test_size b + test_size c + 1
 
--- the number of nodes, those of tests among them
+-- the number of nodes, including those of tests
 abbrev pub term_size : Term → ℕ
 term_size zero = 1
 term_size one = 1
@@ -63,7 +62,7 @@ term_size (sum e f) = term_size e + term_size f + 1
 term_size (product e f) = term_size e + term_size f + 1
 term_size (star e) = term_size e + 1
 
--- the number of nodes on the longest path, where a test is one node
+-- the number of nodes on the longest path; a test counts as one node
 abbrev pub term_height : Term → ℕ
 term_height zero = 1
 term_height one = 1

@@ -8,11 +8,11 @@ use crate::expression::Cond;
 use crate::tree::{Kat, NoMemory};
 use std::alloc::Global;
 
-// How the members of a list become one tree.
+// How to build one tree from the members of a list.
 trait Joint {
     type Tree: Drop;
 
-    // What contracts see of a tree.
+    // The value of a tree in contracts.
     ghost View: { Type 0 };
 
     ghost view: { Self.Tree → View };
@@ -21,11 +21,11 @@ trait Joint {
 
     ghost node: { View → View → View };
 
-    // The tree of no member.
+    // Returns the tree of the empty list.
     fn unit() -> Self::Tree
         ensures { view result ≡ unit };
 
-    // The tree over those of two lists.
+    // Returns the node over the trees of two lists.
     fn node(alloc: Global, left: Self::Tree, right: Self::Tree) -> Result<Self::Tree, NoMemory>
         ensures { IfOk result (λ e. view e ≡ node (view left) (view right)) };
 }
@@ -126,7 +126,7 @@ impl Joint for All {
     }
 }
 
-// The tree of the last members of a list, which are taken from it.
+// Takes the last `count` members from the list, and returns their tree.
 fn tree_of_last<J: Joint>(
     alloc: Global,
     list: &mut Vec<J::Tree>,
@@ -158,32 +158,33 @@ fn tree_of<J: Joint>(alloc: Global, mut list: Vec<J::Tree>) -> Result<J::Tree, N
     tree_of_last::<J>(alloc, &mut list, count)
 }
 
-/// The balanced sum of a list of terms: `Zero` of none, the term itself of one, and otherwise the sum of
-/// the tree of the first half, rounded down, and that of the rest. It fails only when out of memory, and
-/// the terms are dropped then.
+/// Returns the balanced sum of a list of terms: `Zero` for no term, the term itself for one, and otherwise the sum of
+/// the tree of the first half, rounded down, and the tree of the rest. Fails only when out of memory; the terms are
+/// dropped then.
 pub fn sum_of(alloc: Global, list: Vec<Kat>) -> Result<Kat, NoMemory>
     ensures { IfOk result (λ e. kat_tree e ≡ sum_tree (map kat_tree list.items)) }
 {
     tree_of::<Sum>(alloc, list)
 }
 
-/// The balanced product of a list of terms in order, as for a sum, and `One` of none.
+/// Returns the balanced product of a list of terms in order, built like the sum, with `One` for no term.
 pub fn seq_of(alloc: Global, list: Vec<Kat>) -> Result<Kat, NoMemory>
     ensures { IfOk result (λ e. kat_tree e ≡ product_of (map kat_tree list.items)) }
 {
     tree_of::<Product>(alloc, list)
 }
 
-/// The balanced disjunction of a list of conditions: `False` of none, the condition itself of one, and
-/// otherwise `Or` over the tree of the first half, rounded down, and that of the rest. It fails only when
-/// out of memory, and the conditions are dropped then.
+/// Returns the balanced disjunction of a list of conditions: `False` for no condition, the condition itself for one,
+/// and otherwise `Or` over the tree of the first half, rounded down, and the tree of the rest. Fails only when out of
+/// memory; the conditions are dropped then.
 pub fn any_of(alloc: Global, list: Vec<Cond>) -> Result<Cond, NoMemory>
     ensures { IfOk result (λ b. cond_tree b ≡ any_tree (map cond_tree list.items)) }
 {
     tree_of::<Any>(alloc, list)
 }
 
-/// The balanced conjunction of a list of conditions in order, as for a disjunction, and `True` of none.
+/// Returns the balanced conjunction of a list of conditions in order, built like the disjunction, with `True` for no
+/// condition.
 pub fn all_of(alloc: Global, list: Vec<Cond>) -> Result<Cond, NoMemory>
     ensures { IfOk result (λ b. cond_tree b ≡ all_tree (map cond_tree list.items)) }
 {

@@ -6,7 +6,7 @@ ghost use Rattle.kat_model.specs.Expressions.{plus, minus, times, compared, nega
 use crate::tree::{NoMemory, Test, boxed_pair};
 use std::alloc::Global;
 
-/// How many bits the numbers of a store have.
+/// The number of bits of the numbers of a store.
 #[derive(Clone, Copy, Debug, PartialEq, Eq)]
 pub enum Width {
     W8,
@@ -36,8 +36,8 @@ pub enum Rel {
     Ge,
 }
 
-/// A condition of a program: a Boolean combination of named tests, which are numbered from 0, and of
-/// comparisons of values as unsigned numbers.
+/// A condition of a program: a Boolean combination of named tests, numbered from 0, and of comparisons of values as
+/// unsigned numbers.
 #[derive(Drop)]
 pub enum Cond {
     True,
@@ -50,7 +50,7 @@ pub enum Cond {
 }
 
 impl Expr {
-    /// `Add` over two expressions. It fails only when out of memory, and the parts are dropped then.
+    /// Returns `Add` over two expressions. Fails only when out of memory; the parts are dropped then.
     pub fn new_add(alloc: Global, left: Expr, right: Expr) -> Result<Self, NoMemory>
         ensures { IfOk result (λ e. expr_tree e ≡ plus (expr_tree left) (expr_tree right)) }
     {
@@ -58,7 +58,7 @@ impl Expr {
         Ok(Expr::Add(left, right))
     }
 
-    /// `Sub` over two expressions. It fails only when out of memory, and the parts are dropped then.
+    /// Returns `Sub` over two expressions. Fails only when out of memory; the parts are dropped then.
     pub fn new_sub(alloc: Global, left: Expr, right: Expr) -> Result<Self, NoMemory>
         ensures { IfOk result (λ e. expr_tree e ≡ minus (expr_tree left) (expr_tree right)) }
     {
@@ -66,7 +66,7 @@ impl Expr {
         Ok(Expr::Sub(left, right))
     }
 
-    /// `Mul` over two expressions. It fails only when out of memory, and the parts are dropped then.
+    /// Returns `Mul` over two expressions. Fails only when out of memory; the parts are dropped then.
     pub fn new_mul(alloc: Global, left: Expr, right: Expr) -> Result<Self, NoMemory>
         ensures { IfOk result (λ e. expr_tree e ≡ times (expr_tree left) (expr_tree right)) }
     {
@@ -74,7 +74,7 @@ impl Expr {
         Ok(Expr::Mul(left, right))
     }
 
-    /// The same tree again. It fails only when out of memory.
+    /// Returns a copy of the tree. Fails only when out of memory.
     #[cycle(copies)]
     pub fn copy(&self, alloc: Global) -> Result<Expr, NoMemory>
         ensures { IfOk result (λ e. expr_tree e ≡ expr_tree self.now) }
@@ -97,7 +97,7 @@ impl Expr {
         }
     }
 
-    // Copies of both, each in a box of its own.
+    // Returns copies of both expressions, each in its own box.
     #[cycle(copies)]
     fn boxed_copies(
         alloc: Global,
@@ -111,14 +111,14 @@ impl Expr {
 }
 
 impl Cond {
-    /// `Not` over a condition. It fails only when out of memory, and the part is dropped then.
+    /// Returns `Not` over a condition. Fails only when out of memory; the part is dropped then.
     pub fn new_not(alloc: Global, inner: Cond) -> Result<Self, NoMemory>
         ensures { IfOk result (λ b. cond_tree b ≡ negation (cond_tree inner)) }
     {
         Ok(Cond::Not(Box::new(alloc, inner)?))
     }
 
-    /// `And` over two conditions. It fails only when out of memory, and the parts are dropped then.
+    /// Returns `And` over two conditions. Fails only when out of memory; the parts are dropped then.
     pub fn new_and(alloc: Global, left: Cond, right: Cond) -> Result<Self, NoMemory>
         ensures { IfOk result (λ b. cond_tree b ≡ both (cond_tree left) (cond_tree right)) }
     {
@@ -126,7 +126,7 @@ impl Cond {
         Ok(Cond::And(left, right))
     }
 
-    /// `Or` over two conditions. It fails only when out of memory, and the parts are dropped then.
+    /// Returns `Or` over two conditions. Fails only when out of memory; the parts are dropped then.
     pub fn new_or(alloc: Global, left: Cond, right: Cond) -> Result<Self, NoMemory>
         ensures { IfOk result (λ b. cond_tree b ≡ either (cond_tree left) (cond_tree right)) }
     {
@@ -134,7 +134,7 @@ impl Cond {
         Ok(Cond::Or(left, right))
     }
 
-    /// Whether a comparison occurs in the condition.
+    /// Returns whether a comparison occurs in the condition.
     pub fn has_comparison(&self) -> bool
         ensures { result ≡ has_comparison (cond_tree self.now) }
     {
@@ -146,7 +146,7 @@ impl Cond {
         }
     }
 
-    /// The same tree again. It fails only when out of memory.
+    /// Returns a copy of the tree. Fails only when out of memory.
     #[cycle(copies)]
     pub fn copy(&self, alloc: Global) -> Result<Cond, NoMemory>
         ensures { IfOk result (λ b. cond_tree b ≡ cond_tree self.now) }
@@ -168,7 +168,7 @@ impl Cond {
         }
     }
 
-    // A copy in a box.
+    // Returns a copy in a box.
     #[cycle(copies)]
     fn boxed_copy(alloc: Global, cond: &Cond) -> Result<Box<Cond>, NoMemory>
         ensures { IfOk result (λ b. cond_tree b.value ≡ cond_tree cond.now) }
@@ -176,7 +176,7 @@ impl Cond {
         Ok(Box::new(alloc, cond.copy(alloc)?)?)
     }
 
-    // The comparison of copies of both.
+    // Returns the comparison of copies of both expressions.
     fn compare_copies(alloc: Global, rel: Rel, left: &Expr, right: &Expr) -> Result<Cond, NoMemory>
         ensures { IfOk result (λ b. cond_tree b ≡ compared rel (expr_tree left.now) (expr_tree right.now)) }
     {
@@ -186,15 +186,15 @@ impl Cond {
     }
 }
 
-/// The test of a condition without comparisons; where there is one, it counts as false. It fails only when
-/// out of memory, and the condition is dropped then.
+/// Returns the test of a condition without comparisons; a comparison counts as false. Fails only when out of memory;
+/// the condition is dropped then.
 pub fn test_without_comparisons(alloc: Global, cond: Cond) -> Result<Test, NoMemory>
     ensures { IfOk result (λ t. test_tree t ≡ test_without_comparisons (cond_tree cond)) }
 {
     test_of(alloc, &cond)
 }
 
-// That test, of a condition that stays.
+// Returns that test of a condition, which is not consumed.
 fn test_of(alloc: Global, cond: &Cond) -> Result<Test, NoMemory>
     ensures { IfOk result (λ t. test_tree t ≡ test_without_comparisons (cond_tree cond.now)) }
 {

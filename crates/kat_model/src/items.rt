@@ -3,8 +3,7 @@ ghost use Rattle.std.specs.Prelude.{◌≡◌};
 
 use std::marker::Model;
 
-/// A `Vec` that contracts see as the list of its elements. It is made from a `Vec` and gives it back without
-/// taking memory.
+/// A `Vec` that contracts see as the list of its elements. Conversion from and to a `Vec` takes no memory.
 #[derive(Drop)]
 pub struct Items<T> {
     items: Vec<T>,
@@ -22,21 +21,21 @@ impl<T> Model for Items<T> {
 }
 
 impl<T> Items<T> {
-    /// The elements of the vector, in order.
+    /// Returns the elements of the vector, in order.
     pub fn of(items: Vec<T>) -> Items<T>
         ensures { result ≡ items.items }
     {
         Items { items }
     }
 
-    /// The elements.
+    /// Returns the elements.
     pub fn as_slice(&self) -> &[T]
         ensures { result.now ≡ self.now }
     {
         &self.items
     }
 
-    /// The vector again.
+    /// Returns the vector.
     pub fn into_vec(self) -> Vec<T>
         ensures { result.items ≡ self }
     {

@@ -1,4 +1,4 @@
-//! Kleene algebra with tests: trees, problems, and the definitions that the other crates speak of.
+//! Kleene algebra with tests: trees, problems, and the definitions that the other crates use.
 #![tactic(auto)]
 
 mod balanced;

@@ -10,24 +10,24 @@ use crate::limits::{MAX_ACTIONS, MAX_TERM_NODES, MAX_TESTS};
 use crate::tree::{Kat, Test};
 use std::marker::Model;
 
-/// Why there is no such problem: the first of these, in this order.
+/// Why the parts do not form a problem: the first reason that applies, in this order.
 #[derive(Clone, Copy, Debug, PartialEq, Eq)]
 pub enum BadProblem {
-    /// More than 48 tests: this many.
+    /// There are more than 48 tests: this many.
     TooManyTests(usize),
-    /// More than 48 actions: this many.
+    /// There are more than 48 actions: this many.
     TooManyActions(usize),
     /// This number of a primitive test is not below the number of tests. It is the first number out of
     /// range, in preorder over the hypotheses, left and right.
     TestRange(usize),
-    /// This number of an action is not below the number of actions, likewise.
+    /// This number of an action is not below the number of actions. It is also the first number out of range.
     ActionRange(usize),
-    /// More than 100,000 nodes in hypotheses, left and right: this many, which stops at `u64::MAX`.
+    /// There are more than 100,000 nodes in hypotheses, left and right: this many, saturated at `u64::MAX`.
     TooLarge(u64),
 }
 
-/// A question that is within the limits: do `left` and `right` denote one relation wherever no hypothesis
-/// relates anything? Tests and actions are numbered from 0.
+/// A question within the limits: do `left` and `right` denote one relation in every table in which no hypothesis
+/// relates any states? Tests and actions are numbered from 0.
 #[derive(Drop)]
 pub struct Problem {
     tests: usize,
@@ -111,7 +111,7 @@ fn total_size(terms: &[Kat]) -> u64
     total
 }
 
-// The first number out of range, in preorder over the hypotheses, left and right.
+// Returns the first number out of range, in preorder over the hypotheses, left and right.
 fn number_out(
     tests: usize,
     actions: usize,
@@ -130,7 +130,7 @@ fn number_out(
     }
 }
 
-// That the terms have too many nodes.
+// Returns `TooLarge` if the terms have too many nodes.
 fn too_large(hyps: &[Kat], left: &Kat, right: &Kat) -> Option<BadProblem>
     ensures { let size = terms_size (map kat_tree hyps.now) + term_size (kat_tree left.now) + term_size (kat_tree right.now) in
         result ≡ bad_above MAX_TERM_NODES size (TooLarge (counted size)) }
@@ -144,7 +144,7 @@ fn too_large(hyps: &[Kat], left: &Kat, right: &Kat) -> Option<BadProblem>
     None
 }
 
-// The first reason why there is no problem of these parts.
+// Returns the first reason why these parts do not form a problem.
 fn fault_of(
     tests: usize,
     actions: usize,
@@ -166,13 +166,13 @@ fn fault_of(
     }
 }
 
-// Drops the terms of which there is no problem. Where one function makes a value of them or drops them, its
-// proof takes long.
+// Drops the terms of a refused problem. In one function that either drops them or builds a value from them, the proof
+// takes long.
 fn drop_terms(_hyps: Vec<Kat>, _left: Kat, _right: Kat) {}
 
 impl Problem {
-    /// The problem of these parts, where they are within the limits, and otherwise the first reason why
-    /// not. The trees are dropped then. It takes no memory.
+    /// Returns the problem with these parts if they are within the limits, and otherwise the first reason why not; the
+    /// trees are dropped then. Takes no memory.
     pub fn new(
         tests: usize,
         actions: usize,
@@ -197,7 +197,7 @@ impl Problem {
         })
     }
 
-    /// The number of tests, at most 48.
+    /// Returns the number of tests, at most 48.
     pub fn tests(&self) -> usize
         ensures value { result ≡ self.now.tests }
         ensures within { IsProblem self.now }
@@ -205,7 +205,7 @@ impl Problem {
         self.tests
     }
 
-    /// The number of actions, at most 48.
+    /// Returns the number of actions, at most 48.
     pub fn actions(&self) -> usize
         ensures value { result ≡ self.now.actions }
         ensures within { IsProblem self.now }
@@ -213,7 +213,7 @@ impl Problem {
         self.actions
     }
 
-    /// The hypotheses, each of which says that a term is 0.
+    /// Returns the hypotheses. Each states that a term is 0.
     pub fn hyps(&self) -> &[Kat]
         ensures value { map kat_tree result.now ≡ self.now.hyps }
         ensures within { IsProblem self.now }
@@ -221,7 +221,7 @@ impl Problem {
         &self.hyps
     }
 
-    /// The left side.
+    /// Returns the left side.
     pub fn left(&self) -> &Kat
         ensures value { kat_tree result.now ≡ self.now.left }
         ensures within { IsProblem self.now }
@@ -229,7 +229,7 @@ impl Problem {
         &self.left
     }
 
-    /// The right side.
+    /// Returns the right side.
     pub fn right(&self) -> &Kat
         ensures value { kat_tree result.now ≡ self.now.right }
         ensures within { IsProblem self.now }

@@ -5,7 +5,7 @@ impl Width {
     ghost use Rattle.std.specs.Prelude.{◌≡◌, ◌+◌, ◌-◌, ◌*◌, ◌%◌};
     ghost use Rattle.kat_model.specs.Stores.{modulus};
 
-    /// The greatest number of the width.
+    /// Returns the greatest number of the width.
     pub fn greatest(self) -> u64
         ensures { result ≡ modulus self - 1 }
     {
@@ -17,7 +17,7 @@ impl Width {
         }
     }
 
-    /// The number modulo 2 to the width.
+    /// Returns the number modulo 2 to the width.
     pub fn residue(self, x: u64) -> u64
         ensures { result ≡ x % modulus self }
     {
@@ -29,21 +29,21 @@ impl Width {
         }
     }
 
-    /// The sum modulo 2 to the width.
+    /// Returns the sum modulo 2 to the width.
     pub fn add(self, x: u64, y: u64) -> u64
         ensures { result ≡ (x + y) % modulus self }
     {
         self.residue(x.wrapping_add(y))
     }
 
-    /// The difference modulo 2 to the width.
+    /// Returns the difference modulo 2 to the width.
     pub fn sub(self, x: u64, y: u64) -> u64
         ensures { result ≡ (x + (modulus self - y % modulus self)) % modulus self }
     {
         self.residue(x.wrapping_sub(self.residue(y)))
     }
 
-    /// The product modulo 2 to the width.
+    /// Returns the product modulo 2 to the width.
     pub fn mul(self, x: u64, y: u64) -> u64
         ensures { result ≡ (x * y) % modulus self }
     {

@@ -6,7 +6,7 @@ ghost use Rattle.kat_model.specs.Problems.{counted, IsTestInRange};
 
 use std::alloc::{AllocError, AllocFailed, Global};
 
-/// Memory was wanted and could not be had.
+/// Out of memory.
 #[derive(Clone, Copy, Debug, PartialEq, Eq)]
 pub struct NoMemory;
 
@@ -22,7 +22,7 @@ impl<T: Drop> From<AllocFailed<T>> for NoMemory {
     }
 }
 
-// Both values in boxes of their own. Where the second gets none, the first is dropped again.
+// Moves both values to boxes. If there is no memory for the second box, the first is dropped.
 pub(crate) fn boxed_pair<T: Drop>(
     alloc: Global,
     left: T,
@@ -35,8 +35,8 @@ pub(crate) fn boxed_pair<T: Drop>(
     Ok((left, right))
 }
 
-/// A test: an element of a Boolean algebra over primitive tests, which are numbered from 0 (Kozen, *Kleene
-/// algebra with tests*, 1997).
+/// A test: an element of a Boolean algebra over primitive tests, numbered from 0 (Kozen, *Kleene algebra with tests*,
+/// 1997).
 #[derive(Drop)]
 pub enum Test {
     False,
@@ -47,7 +47,7 @@ pub enum Test {
     Or(Box<Test>, Box<Test>),
 }
 
-/// A term of Kleene algebra with tests over primitive actions, which are numbered from 0 (Kozen 1997).
+/// A term of Kleene algebra with tests over primitive actions, numbered from 0 (Kozen 1997).
 #[derive(Drop)]
 pub enum Kat {
     Zero,
@@ -60,14 +60,14 @@ pub enum Kat {
 }
 
 impl Test {
-    /// `Not` over a test. It fails only when out of memory, and the part is dropped then.
+    /// Returns `Not` over a test. Fails only when out of memory; the part is dropped then.
     pub fn new_not(alloc: Global, inner: Test) -> Result<Self, NoMemory>
         ensures { IfOk result (λ b. test_tree b ≡ complement (test_tree inner)) }
     {
         Ok(Test::Not(Box::new(alloc, inner)?))
     }
 
-    /// `And` over two tests. It fails only when out of memory, and the parts are dropped then.
+    /// Returns `And` over two tests. Fails only when out of memory; the parts are dropped then.
     pub fn new_and(alloc: Global, left: Test, right: Test) -> Result<Self, NoMemory>
         ensures { IfOk result (λ b. test_tree b ≡ meet (test_tree left) (test_tree right)) }
     {
@@ -75,7 +75,7 @@ impl Test {
         Ok(Test::And(left, right))
     }
 
-    /// `Or` over two tests. It fails only when out of memory, and the parts are dropped then.
+    /// Returns `Or` over two tests. Fails only when out of memory; the parts are dropped then.
     pub fn new_or(alloc: Global, left: Test, right: Test) -> Result<Self, NoMemory>
         ensures { IfOk result (λ b. test_tree b ≡ join (test_tree left) (test_tree right)) }
     {
@@ -83,7 +83,7 @@ impl Test {
         Ok(Test::Or(left, right))
     }
 
-    /// The same tree again. It fails only when out of memory.
+    /// Returns a copy of the tree. Fails only when out of memory.
     pub fn copy(&self, alloc: Global) -> Result<Test, NoMemory>
         ensures { IfOk result (λ b. test_tree b ≡ test_tree self.now) }
     {
@@ -97,7 +97,7 @@ impl Test {
         }
     }
 
-    /// The truth of the test where the primitive tests have these values.
+    /// Returns whether `atom` satisfies the test.
     pub fn truth_at(&self, atom: &[bool]) -> bool
         requires { IsTestInRange (length atom.now) (test_tree self.now) }
         ensures { result ≡ truth (test_tree self.now) atom.now }
@@ -112,7 +112,7 @@ impl Test {
         }
     }
 
-    /// The number of nodes, which stops at `u64::MAX`.
+    /// Returns the number of nodes, saturated at `u64::MAX`.
     pub fn size(&self) -> u64
         ensures { result ≡ counted (test_size (test_tree self.now)) }
     {
@@ -125,7 +125,7 @@ impl Test {
 }
 
 impl Kat {
-    /// `Sum` over two terms. It fails only when out of memory, and the parts are dropped then.
+    /// Returns `Sum` over two terms. Fails only when out of memory; the parts are dropped then.
     pub fn new_sum(alloc: Global, left: Kat, right: Kat) -> Result<Self, NoMemory>
         ensures { IfOk result (λ e. kat_tree e ≡ sum (kat_tree left) (kat_tree right)) }
     {
@@ -133,7 +133,7 @@ impl Kat {
         Ok(Kat::Sum(left, right))
     }
 
-    /// `Seq` over two terms. It fails only when out of memory, and the parts are dropped then.
+    /// Returns `Seq` over two terms. Fails only when out of memory; the parts are dropped then.
     pub fn new_seq(alloc: Global, first: Kat, second: Kat) -> Result<Self, NoMemory>
         ensures { IfOk result (λ e. kat_tree e ≡ product (kat_tree first) (kat_tree second)) }
     {
@@ -141,14 +141,14 @@ impl Kat {
         Ok(Kat::Seq(first, second))
     }
 
-    /// `Star` over a term. It fails only when out of memory, and the part is dropped then.
+    /// Returns `Star` over a term. Fails only when out of memory; the part is dropped then.
     pub fn new_star(alloc: Global, inner: Kat) -> Result<Self, NoMemory>
         ensures { IfOk result (λ e. kat_tree e ≡ star (kat_tree inner)) }
     {
         Ok(Kat::Star(Box::new(alloc, inner)?))
     }
 
-    /// The same tree again. It fails only when out of memory.
+    /// Returns a copy of the tree. Fails only when out of memory.
     #[cycle(copies)]
     pub fn copy(&self, alloc: Global) -> Result<Kat, NoMemory>
         ensures { IfOk result (λ e. kat_tree e ≡ kat_tree self.now) }
@@ -170,7 +170,7 @@ impl Kat {
         }
     }
 
-    // Copies of both, each in a box of its own.
+    // Returns copies of both terms, each in its own box.
     #[cycle(copies)]
     fn boxed_copies(
         alloc: Global,
@@ -182,7 +182,7 @@ impl Kat {
         boxed_pair(alloc, left.copy(alloc)?, right.copy(alloc)?)
     }
 
-    /// The number of nodes, those of tests among them, which stops at `u64::MAX`.
+    /// Returns the number of nodes, including those of tests, saturated at `u64::MAX`.
     pub fn size(&self) -> u64
         ensures { result ≡ counted (term_size (kat_tree self.now)) }
     {
@@ -194,7 +194,7 @@ impl Kat {
         }
     }
 
-    /// The number of nodes on the longest path, where a test is one node. It stops at `usize::MAX`.
+    /// Returns the number of nodes on the longest path, saturated at `usize::MAX`. A test counts as one node.
     pub fn height(&self) -> usize
         ensures { result ≡ counted (term_height (kat_tree self.now)) }
     {
@@ -205,7 +205,7 @@ impl Kat {
         }
     }
 
-    /// The number of occurrences of actions, which stops at `u64::MAX`.
+    /// Returns the number of occurrences of actions, saturated at `u64::MAX`.
     pub fn acts(&self) -> u64
         ensures { result ≡ counted (acts (kat_tree self.now)) }
     {

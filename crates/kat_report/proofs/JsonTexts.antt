@@ -1,4 +1,4 @@
--- Evidence in a line of JSON: its text is ASCII, and only line feeds are written otherwise in a string.
+-- Evidence in a line of JSON: its text is ASCII, and JSON escapes only its line feeds.
 use Rattle.std.proofs.Common.{◌≡◌, ◌<◌, ℕ, zero, suc, if◌then◌else◌, List, [], ◌∷◌, ◌++◌, flat_map, slice_index, length, codes, Bool, true, false, ◌==◌, refl, ap, ◌∙◌, arith, append_assoc}
 use Rattle.std.specs.List.{list_all}
 use Rattle.std.proofs.lemmas.Bool.{and_parts}
@@ -19,7 +19,7 @@ use Rattle.certificate.proofs.PlainBytes.{text_plain}
 use Rattle.kat_report.specs.Working.JsonValues.{report_value}
 use Rattle.kat_report.specs.Reports.{answer_name, evidence_size, in_one_line, json_report}
 
--- a plain byte stands as it is in a string of JSON, but for a line feed
+-- JSON escapes a plain byte only if it is a line feed
 plain_byte : (b : ℕ) → is_plain b ≡ true → escape_byte b ≡ (if b == 10 then 92 ∷ 110 ∷ [] else b ∷ [])
 unfolding escape_byte
 plain_byte b p = grind (arith, nat_tests)
@@ -41,7 +41,7 @@ plain_ascii (b ∷ bs) p (suc i) = plain_ascii bs (and_parts (is_plain b) (list_
 pub plain_utf8 : (text : List ℕ) → IsPlain text → IsUtf8 text
 plain_utf8 text p = IsUtf8-from_ascii text (plain_ascii text p)
 
--- the answer's name stands as it is
+-- JSON escapes nothing in the name of the answer
 name_escape : (e : Evidence) → escape (answer_name e) ≡ answer_name e
 unfolding json_on_literals
 name_escape (Equal c) = refl
@@ -55,7 +55,7 @@ regroup : (a t h s : List ℕ)
     ≡ line_with a t h s
 regroup a t h s = simp append_assoc
 
--- the text of the value, and a line feed
+-- the report is the text of the value and a line feed
 pub report_line : (q : ProblemParts) (e : Evidence) → compact_text (report_value (answer_name e) (text_of e) (length q.hyps) (evidence_size e)) ++ 10 ∷ [] ≡ json_report q e
 unfolding json_on_literals
 report_line q e =

@@ -1,4 +1,4 @@
--- The lines that tell why evidence and proofs are rejected.
+-- The lines with the reasons why evidence and proofs are rejected.
 use Rattle.std.specs.Prelude.{ℕ, List, [], ◌∷◌, ◌++◌, codes}
 use Rattle.std.specs.Fmt.{decimal}
 use Rattle.kat_model.specs.Steps.{Atom}
@@ -8,12 +8,12 @@ use Rattle.chain_rules.specs.declared.answer.ChainReason.TheVariants.{Start, End
 use Rattle.cert_checker.specs.declared.answer.Reason.{Reason}
 use Rattle.cert_checker.specs.declared.answer.Reason.TheVariants.{FirstPair, Output, Missing, MissingTo, Shape, HypBroken, EndsAgree, TestNode, TermNode}
 
--- one `0` or `1` for each test, and a dash where there are none
+-- one `0` or `1` for each test, or a dash if there are no tests
 abbrev pub atom_text : Atom → List ℕ
 atom_text [] = codes "-"
 atom_text (b ∷ bs) = bits (b ∷ bs)
 
--- the reason's word and its numbers
+-- the word and the numbers of the reason
 abbrev pub reason_text : Reason → List ℕ
 reason_text FirstPair = codes "FirstPair"
 reason_text (Output k atom) = codes "Output pair " ++ decimal k ++ codes " atom " ++ atom_text atom
@@ -30,7 +30,7 @@ reason_text (TermNode k) = codes "TermNode " ++ decimal k
 abbrev pub reason_line : Reason → List ℕ
 reason_line r = codes "rejected: " ++ reason_text r ++ 10 ∷ []
 
--- of an equational proof: the reason's word, and the number of the line that does not hold
+-- for an equational proof: the word of the reason, and the number of the line that does not hold
 abbrev pub chain_reason_text : ChainReason → List ℕ
 chain_reason_text Start = codes "Start"
 chain_reason_text End = codes "End"

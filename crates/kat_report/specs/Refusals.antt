@@ -1,4 +1,4 @@
--- The lines that tell why a text or evidence is refused.
+-- The lines with the reasons why a text or evidence is refused.
 use Rattle.std.specs.Prelude.{ℕ, List, [], ◌∷◌, ◌++◌, codes, Option, Some, None}
 use Rattle.std.specs.Fmt.{decimal}
 use Rattle.text_tokens.specs.declared.fault.TextFault.{TextFault}
@@ -38,7 +38,7 @@ fault_place (TooMany at) = Some at
 fault_place NoGoal = None
 fault_place (TwoGoals at) = Some at
 
--- a place after a space, where there is one
+-- a space and the place, if any
 abbrev pub place_text : Option ℕ → List ℕ
 place_text None = []
 place_text (Some at) = 32 ∷ decimal at
@@ -47,7 +47,7 @@ place_text (Some at) = 32 ∷ decimal at
 abbrev pub text_fault_line : TextFault → List ℕ
 text_fault_line fault = codes "refused: " ++ fault_word fault ++ place_text (fault_place fault) ++ 10 ∷ []
 
--- of the text of an equational proof: `refused: chain WORD`, the place, and a line feed
+-- for the text of an equational proof: `refused: chain WORD`, the place, and a line feed
 abbrev pub chain_fault_line : TextFault → List ℕ
 chain_fault_line fault = codes "refused: chain " ++ fault_word fault ++ place_text (fault_place fault) ++ 10 ∷ []
 
@@ -62,7 +62,7 @@ evidence_word (NumeralTooWide n) = codes "NumberTooWide"
 evidence_word Truncated = codes "Truncated"
 evidence_word (Trailing n) = codes "Trailing"
 
--- the number of the line at fault
+-- the number of the faulty line, if any
 abbrev pub evidence_place : EvidenceFault → Option ℕ
 evidence_place NoRoom = None
 evidence_place Header = None

@@ -19,7 +19,7 @@ fn answer_name(evidence: &Evidence) -> &'static str
     }
 }
 
-// How many pairs a certificate has, or moves a string.
+// Returns the number of pairs of a certificate, or of moves of a string.
 fn evidence_size(evidence: &Evidence) -> usize
     ensures { result ≡ evidence_size evidence.now }
 {
@@ -29,7 +29,7 @@ fn evidence_size(evidence: &Evidence) -> usize
     }
 }
 
-// The text of evidence, which is ASCII.
+// Returns the text of evidence, which is ASCII.
 fn evidence_text(alloc: Global, evidence: &Evidence) -> Result<String, NoMemory>
     ensures { IfOk result (λ s. string_bytes s ≡ text_of evidence.now) }
 {
@@ -37,7 +37,7 @@ fn evidence_text(alloc: Global, evidence: &Evidence) -> Result<String, NoMemory>
     Ok(String::from_utf8(bytes).unwrap())
 }
 
-// The report as a value.
+// Returns the report as a JSON value.
 fn report_value(
     alloc: Global,
     answer: &str,
@@ -50,9 +50,9 @@ fn report_value(
     json!(in alloc; {"answer": answer, "evidence": evidence, "hypotheses": hypotheses, "size": size})
 }
 
-/// The answer to a problem as one line of compact JSON (RFC 8259): an object with the keys `answer` (`equal` or
-/// `different`), `evidence` (its text), `hypotheses` (how many the problem has) and `size` (the number of pairs, or of
-/// moves), in this order, and a line feed. Fails only when out of memory.
+/// Returns the answer to a problem as one line of compact JSON (RFC 8259): an object with the keys `answer` (`equal` or
+/// `different`), `evidence` (its text), `hypotheses` (the number of hypotheses of the problem) and `size` (the number
+/// of pairs or moves), in this order, and a line feed. Fails only when out of memory.
 pub fn json_report(
     alloc: Global,
     problem: &Problem,

@@ -1,4 +1,4 @@
-//! Why an equational proof is rejected, as a line.
+//! The line with the reason why an equational proof is rejected.
 ghost use Rattle.std.specs.Prelude.{◌≡◌, ◌++◌, IfOk, OnOk};
 ghost use Rattle.kat_report.specs.Reasons.{chain_reason_text, chain_reason_line};
 
@@ -17,8 +17,9 @@ fn put_reason(alloc: Global, out: &mut Vec<u8>, reason: &ChainReason) -> Result<
     }
 }
 
-/// The line that tells why an equational proof is rejected: `rejected: chain Start`, `rejected: chain End`, or
-/// `rejected: chain Step N` with the number of the first line that does not hold. Fails only when out of memory.
+/// Returns the line with the reason why an equational proof is rejected: `rejected: chain Start`, `rejected: chain
+/// End`, or `rejected: chain Step N` with the number of the first line that does not hold. Fails only when out of
+/// memory.
 pub fn chain_reason_line(alloc: Global, reason: &ChainReason) -> Result<Vec<u8>, NoMemory>
     ensures { IfOk result (λ line. line.items ≡ chain_reason_line reason.now) }
 {

@@ -1,4 +1,4 @@
-//! Why evidence is refused, as a line.
+//! The line with the reason why evidence is refused.
 ghost use Rattle.std.specs.Prelude.{◌≡◌, ◌≢◌, IfOk};
 ghost use Rattle.kat_report.specs.Refusals.{evidence_word, evidence_place, evidence_fault_line};
 
@@ -37,9 +37,9 @@ fn place(fault: &EvidenceFault) -> Option<u64>
     }
 }
 
-/// The line that tells why evidence is refused: `refused: evidence WORD`, the fault's name, and where the fault is
-/// in a line a space and its number, counted from 1. Fails only when out of memory, so a fault that is want
-/// of memory itself has no line.
+/// Returns the line with the reason why evidence is refused: `refused: evidence WORD` with the name of the fault, and a
+/// space and the line number, counted from 1, if the fault is in a line. The fault `NoMemory` has no line. Fails only
+/// when out of memory.
 pub fn evidence_fault_line(alloc: Global, fault: &EvidenceFault) -> Result<Vec<u8>, NoMemory>
     requires { fault.now ≢ EvidenceFault.NoMemory }
     ensures { IfOk result (λ line. line.items ≡ evidence_fault_line fault.now) }

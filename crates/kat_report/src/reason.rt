@@ -1,4 +1,4 @@
-//! Why evidence is rejected, as a line.
+//! The line with the reason why evidence is rejected.
 ghost use Rattle.std.specs.Prelude.{◌≡◌, ◌++◌, codes, if◌then◌else◌, IfOk, OnOk};
 ghost use Rattle.std.specs.Fmt.{decimal};
 ghost use Rattle.certificate.specs.Texts.{bits};
@@ -24,7 +24,7 @@ fn put_bits(out: &mut Vec<u8>, atom: &[bool]) -> Result<(), NoMemory>
     Ok(())
 }
 
-// The bits of an atom, or a dash where there are no tests.
+// Appends the bits of an atom, or a dash if there are no tests.
 fn put_atom(out: &mut Vec<u8>, atom: &[bool]) -> Result<(), NoMemory>
     ensures { OnOk result (out.new.items ≡ out.old.items ++ atom_text atom.now) }
 {
@@ -34,7 +34,7 @@ fn put_atom(out: &mut Vec<u8>, atom: &[bool]) -> Result<(), NoMemory>
     put_bits(out, atom)
 }
 
-// A pair, and an atom at it.
+// Appends a word, the number of a pair, and an atom.
 fn put_place(
     alloc: Global,
     out: &mut Vec<u8>,
@@ -109,9 +109,9 @@ fn put_reason(alloc: Global, out: &mut Vec<u8>, reason: &Reason) -> Result<(), N
     }
 }
 
-/// The line that tells why evidence is rejected: `rejected: `, the reason's name, and its numbers with the words
-/// that name them, as in `rejected: Missing pair 1 atom 010 action 2`, after which ` to 110` stands in the style of
-/// tests. An atom has a bit for each test, test 0 first, and is `-` where there are no tests. Fails only when out of
+/// Returns the line with the reason why evidence is rejected: `rejected: `, the name of the reason, and its numbers
+/// with the words that name them, as in `rejected: Missing pair 1 atom 010 action 2`. In the style of tests, ` to 110`
+/// follows. An atom has a bit for each test, test 0 first, and is `-` if there are no tests. Fails only when out of
 /// memory.
 pub fn reason_line(alloc: Global, reason: &Reason) -> Result<Vec<u8>, NoMemory>
     ensures { IfOk result (λ line. line.items ≡ reason_line reason.now) }

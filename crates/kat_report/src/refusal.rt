@@ -1,4 +1,4 @@
-//! Why a text is refused, as a line.
+//! The line with the reason why a text is refused.
 ghost use Rattle.std.specs.Prelude.{◌≡◌, ◌≢◌, ◌++◌, ◌∷◌, [], codes, IfOk, OnOk};
 ghost use Rattle.kat_report.specs.Refusals.{fault_word, fault_place, text_fault_line, chain_fault_line, place_text};
 
@@ -47,7 +47,7 @@ fn place(fault: &TextFault) -> Option<usize>
     }
 }
 
-// The fault's word and place, and the end of the line, behind what the line begins with.
+// Appends the word and the place of the fault, and the end of the line.
 fn put_fault(alloc: Global, line: &mut Vec<u8>, fault: &TextFault) -> Result<(), NoMemory>
     ensures { OnOk result (line.new.items ≡ line.old.items ++ (fault_word fault.now ++ place_text (fault_place fault.now) ++ 10 ∷ [])) }
 {
@@ -59,7 +59,7 @@ fn put_fault(alloc: Global, line: &mut Vec<u8>, fault: &TextFault) -> Result<(),
     Ok(())
 }
 
-/// The line that tells why a text is refused: `refused: WORD`, and a space and the place in bytes where there is one.
+/// Returns the line with the reason why a text is refused: `refused: WORD`, and a space and the place in bytes, if any.
 /// Fails only when out of memory.
 pub fn text_fault_line(alloc: Global, fault: &TextFault) -> Result<Vec<u8>, NoMemory>
     requires { fault.now ≢ TextFault.NoMemory }
@@ -70,8 +70,8 @@ pub fn text_fault_line(alloc: Global, fault: &TextFault) -> Result<Vec<u8>, NoMe
     Ok(line)
 }
 
-/// The line that tells why the text of an equational proof is refused: `refused: chain WORD`, and a space and the place
-/// in bytes where there is one. Fails only when out of memory.
+/// Returns the line with the reason why the text of an equational proof is refused: `refused: chain WORD`, and a space
+/// and the place in bytes, if any. Fails only when out of memory.
 pub fn chain_fault_line(alloc: Global, fault: &TextFault) -> Result<Vec<u8>, NoMemory>
     requires { fault.now ≢ TextFault.NoMemory }
     ensures { IfOk result (λ line. line.items ≡ chain_fault_line fault.now) }

@@ -1,4 +1,4 @@
-//! A string told position by position, and what it shows.
+//! A string as text, position by position, and what it shows.
 ghost use Rattle.std.specs.Prelude.{◌≡◌, ◌++◌, IfOk, OnOk};
 ghost use Rattle.kat_report.specs.Replays.{literal_text, literals_text, position_line, move_line, moves_text, string_text, finding_line, replay_text, Fits};
 
@@ -7,7 +7,7 @@ use kat_model::NoMemory;
 use std::alloc::Global;
 use string_tables::{Finding, GString, Move};
 
-// A blank and the test of this number, or its complement where it is false.
+// Appends a space and the test with this number, or its complement if it is false.
 fn put_literal(alloc: Global, out: &mut Vec<u8>, test: usize, value: bool) -> Result<(), NoMemory>
     ensures { OnOk result (out.new.items ≡ out.old.items ++ literal_text test value) }
 {
@@ -18,7 +18,7 @@ fn put_literal(alloc: Global, out: &mut Vec<u8>, test: usize, value: bool) -> Re
     }
 }
 
-// Each test of an atom.
+// Appends each test of an atom.
 fn put_literals(alloc: Global, out: &mut Vec<u8>, atom: &[bool]) -> Result<(), NoMemory>
     ensures { OnOk result (out.new.items ≡ out.old.items ++ literals_text 0 atom.now) }
 {
@@ -41,7 +41,7 @@ fn put_position(
     put_word(out, "\n")
 }
 
-// The line of a move, and that of the position that it leads to.
+// Appends the line of a move, and the line of the position that it leads to.
 fn put_move(alloc: Global, out: &mut Vec<u8>, position: usize, step: &Move) -> Result<(), NoMemory>
     ensures { OnOk result (out.new.items ≡ out.old.items ++ (move_line step.now.act ++ position_line position step.now.atom)) }
 {
@@ -50,7 +50,7 @@ fn put_move(alloc: Global, out: &mut Vec<u8>, position: usize, step: &Move) -> R
     put_position(alloc, out, position, step.atom.as_slice())
 }
 
-// Moves from the first position on.
+// Appends all moves of a string, with the positions from 1 on.
 fn put_moves(alloc: Global, out: &mut Vec<u8>, moves: &[Move]) -> Result<(), NoMemory>
     ensures { OnOk result (out.new.items ≡ out.old.items ++ moves_text 1 moves.now) }
 {
@@ -67,7 +67,7 @@ fn put_string(alloc: Global, out: &mut Vec<u8>, string: &GString) -> Result<(), 
     put_moves(alloc, out, string.rest.as_slice())
 }
 
-// The line of a broken hypothesis.
+// Appends the line for a broken hypothesis.
 fn put_broken(
     alloc: Global,
     out: &mut Vec<u8>,
@@ -100,10 +100,10 @@ fn put_finding(alloc: Global, out: &mut Vec<u8>, finding: &Finding) -> Result<()
     }
 }
 
-/// A string told position by position, and what it shows. For each position, counted from 0, there is a line of
-/// its number and of each test, ` tI` where test I is true and ` !tI` where it is false; between two positions
-/// stands a line `aI` of the action I that leads from one to the next. The last line tells the finding, which is
-/// of a string that fits: where it does not fit there is nothing to tell. Fails only when out of memory.
+/// Returns a string as text, position by position, and what it shows. Each position, counted from 0, has a line with
+/// its number and its tests: ` tI` if test I is true, ` !tI` if it is false. A line `aI` between two positions is the
+/// action I that leads from one to the next. The last line is the finding, which must be for a string that fits. Fails
+/// only when out of memory.
 pub fn replay_text(alloc: Global, string: &GString, verdict: &Finding) -> Result<Vec<u8>, NoMemory>
     requires { Fits verdict.now }
     ensures { IfOk result (λ text. text.items ≡ replay_text string.now verdict.now) }

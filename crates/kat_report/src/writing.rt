@@ -14,7 +14,7 @@ pub(crate) fn put_word(out: &mut Vec<u8>, word: &str) -> Result<(), NoMemory>
     Ok(())
 }
 
-/// Appends a word and a number in decimal right after it.
+/// Appends a word, and a number in decimal directly after it.
 pub(crate) fn put_numbered(
     alloc: Global,
     out: &mut Vec<u8>,

@@ -1,9 +1,9 @@
--- Lines as their first word and the others after blanks.
+-- A line as its first word, followed by the others, each after a blank.
 use Rattle.std.proofs.Common.{◌≡◌, ℕ, List, [], ◌∷◌, ◌++◌, map, refl, sym, ap, append-nil}
 use Rattle.std.specs.List.{flat_map}
 use Rattle.line_format.specs.Lines.{line_of, after_blanks}
 
--- a line is its first word and the others after blanks
+-- a line is its first word, followed by the others, each after a blank
 pub line_of-cons : (w : List ℕ) (ws : List (List ℕ)) → line_of (w ∷ ws) ≡ w ++ after_blanks ws
 line_of-cons w [] = sym (append-nil w)
 line_of-cons w (v ∷ ws) = ap (λ l. w ++ 32 ∷ l) (line_of-cons v ws)

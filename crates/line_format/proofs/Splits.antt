@@ -1,4 +1,4 @@
--- Texts cut at a byte: into lines at line feeds, and into words at blanks.
+-- Texts split at a byte: into lines at line feeds, and into words at blanks.
 use Rattle.std.proofs.Common.{◌≡◌, ℕ, suc, ◌+◌, ◌<◌, ◌≤◌, List, [], ◌∷◌, ◌++◌, length, take, drop, Bool, true, false, ◌||◌, ◌==◌, None, Some, refl, sym, ap, ◌∙◌, subst, position, cond, arith, eq-eqb, ltb-true, nat_lt, not, length-drop, length-take-le}
 use Rattle.std.specs.List.{slice_split, onto_first, list_any, position_or_len, prefix_len}
 use Rattle.std.proofs.lemmas.Bool.{or_parts, ltb-false}
@@ -7,7 +7,7 @@ use Rattle.std.proofs.lemmas.List.Splits.{slice_split_first, slice_split-cons_ye
 use Rattle.line_format.specs.Lines.{parts_of}
 use Rattle.line_format.specs.Readings.{IsCutLine}
 
--- the byte does not stand in the list
+-- the byte does not occur in the list
 abbrev pub LacksByte : ℕ → List ℕ → Type 0
 LacksByte mark bytes = list_any (λ b. b == mark) bytes ≡ false
 
@@ -15,28 +15,28 @@ pub same_byte : (mark : ℕ) → (mark == mark) ≡ true
 same_byte mark = eq-eqb mark mark refl
 
 module _ {X : Type 0} (p : X → Bool) where
-  -- a list in which nothing passes is one part
+  -- a list in which no element passes is one part
   pub split_none : (xs : List X) → list_any p xs ≡ false → slice_split p xs ≡ xs ∷ []
   split_none [] lacks = refl
   split_none (x ∷ xs) lacks =
       let both = or_parts (p x) (list_any p xs) lacks in
       slice_split-cons_no p x xs both.0 ∙ ap (onto_first x) (split_none xs both.1)
 
-  -- the first part ends before the first that passes
+  -- the first part ends before the first element that passes
   pub split_first : (xs : List X) (y : X) (ys : List X) → list_any p xs ≡ false → p y ≡ true → slice_split p (xs ++ y ∷ ys) ≡ xs ∷ slice_split p ys
   split_first [] y ys lacks passes = slice_split-cons_yes p y ys passes
   split_first (x ∷ xs) y ys lacks passes =
       let both = or_parts (p x) (list_any p xs) lacks in
       slice_split-cons_no p x (xs ++ y ∷ ys) both.0 ∙ ap (onto_first x) (split_first xs y ys both.1 passes)
 
--- the same at a byte
+-- the same for a byte
 pub split_lacking : (mark : ℕ) (xs : List ℕ) → LacksByte mark xs → slice_split (λ b. b == mark) xs ≡ xs ∷ []
 split_lacking mark = split_none (λ b. b == mark)
 
 pub split_at : (mark : ℕ) (xs ys : List ℕ) → LacksByte mark xs → slice_split (λ b. b == mark) (xs ++ mark ∷ ys) ≡ xs ∷ slice_split (λ b. b == mark) ys
 split_at mark xs ys lacks = split_first (λ b. b == mark) xs mark ys lacks (same_byte mark)
 
--- there is a part
+-- there is at least one part
 pub split_some : {X : Type 0} (p : X → Bool) (xs : List X) → (part : List X) × (parts : List (List X)) × (slice_split p xs ≡ part ∷ parts)
 split_some {X = X} p [] = ([], [], refl)
 split_some {X = X} p (x ∷ xs) = split_some_at (p x) refl
@@ -69,7 +69,7 @@ line_cut bs i left e enough =
       length = omega (arith, found.1, ap length rest, length-drop (i + 1) bs, length-take-le i bs (omega (arith, found.1)));
     }
 
--- where no member passes, no place is the first
+-- if no index is the first that passes, no element passes
 module _ {X : Type 0} (p : X → Bool) where
   absent_step : (x : X) (xs : List X) (t : Bool) (n : ℕ) → p x ≡ t → suc (length xs) ≤ cond (not t) (1 + n) 0 → (length xs ≤ n → list_any p xs ≡ false) → list_any p (x ∷ xs) ≡ false
   absent_step x xs true n e long more = absurd (omega (arith, long))

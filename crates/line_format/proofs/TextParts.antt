@@ -1,4 +1,4 @@
--- The parts of a text are its lines, and then nothing.
+-- The parts of a text are its lines, followed by an empty part.
 use Rattle.std.proofs.Common.{◌≡◌, ℕ, List, [], ◌∷◌, ◌++◌, refl, sym, ap, ◌∙◌, append_assoc, append-nil}
 use Rattle.std.specs.List.{join_with_byte}
 use Rattle.std.proofs.lemmas.List.Splits.{join_with_byte-slice_split}
@@ -9,14 +9,14 @@ abbrev pub LackFeeds : List (List ℕ) → Type 0
 LackFeeds [] = Unit {0}
 LackFeeds (l ∷ ls) = LacksByte 10 l × LackFeeds ls
 
--- the last part is empty
+-- the parts with an empty part at the end
 abbrev pub with_last : List (List ℕ) → List (List ℕ)
 with_last ls = ls ++ [] ∷ []
 
 pub text-cons : (l : List ℕ) (ls : List (List ℕ)) → text_of_lines (l ∷ ls) ≡ l ++ 10 ∷ text_of_lines ls
 text-cons l ls = append_assoc l (10 ∷ []) (text_of_lines ls)
 
--- the parts of lines and of what follows them
+-- the parts of lines followed by a rest
 pub parts_after : (ls : List (List ℕ)) (rest : List ℕ) → LackFeeds ls → parts_of (text_of_lines ls ++ rest) ≡ ls ++ parts_of rest
 parts_after [] rest lacks = refl
 parts_after (l ∷ ls) rest lacks =

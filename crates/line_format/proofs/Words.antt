@@ -1,4 +1,4 @@
--- What is spelled is read, and what is read is spelled so: numerals and words.
+-- Numerals and words are read as they were written, and written as they were read.
 use Rattle.std.proofs.Common.{◌≡◌, ℕ, ◌^◌, ◌<◌, ◌≤◌, inl, inr, ⊎_elim, List, [], ◌∷◌, ◌++◌, map, Bool, true, false, cond, ◌==◌, nat_lt, Some, None, refl, sym, ap, ◌∙◌, subst, arith}
 use mathlib.Core.Path.{ap₂}
 use Rattle.std.specs.List.{list_all, list_any}
@@ -98,13 +98,13 @@ pub words_append : (vs ws : List (List ℕ)) → AreWords vs → AreWords ws →
 words_append [] ws a b = b
 words_append (v ∷ vs) ws a b = (a.0, words_append vs ws a.1 b)
 
--- the words of a line of words
+-- a line built from words has these words
 pub words_back : (w : List ℕ) (ws : List (List ℕ)) → AreWords (w ∷ ws) → words_of (line_of (w ∷ ws)) ≡ w ∷ ws
 words_back w [] words = split_lacking 32 w (word_lacks 32 w (omega arith) words.0)
 words_back w (v ∷ ws) words =
     split_at 32 w (line_of (v ∷ ws)) (word_lacks 32 w (omega arith) words.0) ∙ ap (λ l. w ∷ l) (words_back v ws words.1)
 
--- a line is that of its words
+-- a line is the line built from its words
 pub line_back : (line : List ℕ) → line_of (words_of line) ≡ line
 line_back line = join_with_byte-slice_split 32 line
 

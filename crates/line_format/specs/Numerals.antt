@@ -1,4 +1,4 @@
--- Numerals, and the numbers that they spell.
+-- Numerals, and the numbers that they denote.
 use Rattle.std.specs.Prelude.{ℕ, ◌+◌, ◌-◌, ◌*◌, ◌^◌, Bool, not, ◌&&◌, ◌||◌, ◌==◌, nat_lt, nat_le, if◌then◌else◌, List, [], ◌∷◌, length, map, slice_index, Option, Some, None}
 use Rattle.std.specs.List.{list_all}
 use Rattle.std.specs.Char.{is_ascii_digit}
@@ -14,7 +14,7 @@ value_from n (c ∷ cs) = value_from (10 * n + (c - 48)) cs
 abbrev pub value_of : List ℕ → ℕ
 value_of w = value_from 0 w
 
--- the numbers that words spell, where each is a numeral
+-- the numbers that words denote, if each word is a numeral
 abbrev pub numbers_of : List (List ℕ) → Option (List ℕ)
 numbers_of ws = if list_all is_numeral ws then Some (map value_of ws) else None
 

@@ -1,4 +1,4 @@
-//! Texts of lines: their lines, words and numerals, read and written.
+//! Reads and writes texts of lines: their lines, words and numerals.
 #![tactic(auto)]
 
 mod lines;

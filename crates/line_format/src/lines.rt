@@ -12,7 +12,7 @@ fn feed_place(bytes: &[u8]) -> Option<usize>
     bytes.iter().position(|b| *b == b'\n')
 }
 
-/// The first complete line, and what follows its line feed; `None` where no line feed stands.
+/// Returns the first complete line and what follows its line feed, or `None` if there is no line feed.
 pub fn first_line(bytes: &[u8]) -> Option<(&[u8], &[u8])>
     ensures line { IfSome result (λ cut. IsCutLine bytes.now cut.0.now cut.1.now) }
     ensures none { IfNone result (parts_of bytes.now ≡ bytes.now ∷ []) }
@@ -23,8 +23,7 @@ pub fn first_line(bytes: &[u8]) -> Option<(&[u8], &[u8])>
     }
 }
 
-/// The words of a line, which single blanks separate: there is one more than there are blanks. Fails only when out of
-/// memory.
+/// Returns the words of a line, separated by single blanks: n blanks give n + 1 words. Fails only when out of memory.
 pub fn words_of<'a>(alloc: Global, line: &'a [u8]) -> Result<Vec<&'a [u8]>, NoMemory>
     ensures { IfOk result (λ words. texts words.items ≡ words_of line.now) }
 {

@@ -1,4 +1,4 @@
-//! Numerals: numbers as they are printed.
+//! Numerals: the decimal notation of numbers.
 ghost use Rattle.std.specs.Prelude.{◌≡◌, ◌≤◌, ◌<◌, ◌^◌, IfOk, IfSome, IfNone, true};
 ghost use Rattle.std.specs.List.{list_all};
 ghost use Rattle.std.specs.Char.{is_ascii_digit};
@@ -15,14 +15,14 @@ fn all_digits(word: &[u8]) -> bool
     word.iter().all(|b| b.is_ascii_digit())
 }
 
-/// Whether a word is a number as it is printed, of whatever size.
+/// Returns whether a word is the decimal notation of a number, of any size.
 pub fn is_numeral(word: &[u8]) -> bool
     ensures { result ≡ is_numeral word.now }
 {
     !word.is_empty() && (word[0] != b'0' || word.len() == 1) && all_digits(word)
 }
 
-/// The number of a numeral, where it is below 2^64.
+/// Returns the number of a numeral, or `None` if it is 2^64 or more.
 pub fn number_of(word: &[u8]) -> Option<usize>
     requires { is_numeral word.now ≡ true }
     ensures some { IfSome result (λ n. (n ≡ value_of word.now) × (n < 2 ^ 64)) }
@@ -37,7 +37,7 @@ pub fn number_of(word: &[u8]) -> Option<usize>
     }
 }
 
-/// The numbers of numerals. Where some number is too wide, which is 2^64 or more, only their count means anything.
+/// The numbers of numerals. If one of them is 2^64 or more, `wide` is true and only the number of values is meaningful.
 #[derive(Drop)]
 pub struct Numbers {
     pub values: Vec<usize>,
@@ -50,7 +50,7 @@ fn all_numerals(words: &[&[u8]]) -> bool
     words.iter().all(|word| is_numeral(word))
 }
 
-/// The numbers of the words, where all are numerals. Fails only when out of memory.
+/// Returns the numbers of the words, or `None` if some word is not a numeral. Fails only when out of memory.
 pub fn read_numbers(alloc: Global, words: &[&[u8]]) -> Result<Option<Numbers>, NoMemory>
     ensures { IfOk result (λ read. ReadsNumbers (texts words.now) read) }
 {

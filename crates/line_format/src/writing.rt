@@ -1,4 +1,4 @@
-//! Writing lines.
+//! Writes lines and numbers.
 ghost use Rattle.std.specs.Prelude.{◌≡◌, ◌∷◌, ◌++◌, map, OnOk};
 ghost use Rattle.std.specs.Fmt.{decimal};
 ghost use Rattle.line_format.specs.Lines.{after_blanks, with_feed};
@@ -34,7 +34,7 @@ pub fn put_numbers(alloc: Global, out: &mut Vec<u8>, numbers: &[usize]) -> Resul
     Ok(())
 }
 
-/// Appends a line of these bytes and numbers, each after a blank. Fails only when out of memory.
+/// Appends a line of `form` and the numbers, each number after a blank. Fails only when out of memory.
 pub fn put_form(
     alloc: Global,
     out: &mut Vec<u8>,

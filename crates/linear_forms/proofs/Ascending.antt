@@ -1,4 +1,4 @@
--- Lists of terms as forms have them, and their merging.
+-- Ascending lists of terms, as in forms, and their merging.
 use Rattle.std.proofs.Common.{ℕ, ◌≡◌, ◌+◌, ◌*◌, ◌%◌, ◌<◌, nat_eq, Bool, true, false, if◌then◌else◌, List, [], ◌∷◌, refl, arith, ◌⊎◌, inl, inr, Ordering, Less, Equal, Greater}
 use Rattle.std.proofs.lemmas.Bool.{cases_eq}
 use Rattle.std.proofs.lemmas.Bool.Decides.{nat_tests}
@@ -10,12 +10,12 @@ use Rattle.linear_forms.specs.NormalForms.{IsBefore, IsCoefficient, IsForm, IsMo
 use Rattle.linear_forms.proofs.SameOrder.{same_mono}
 use Rattle.linear_forms.proofs.TotalOrder.{mono_passes, mono_turned}
 
--- the monomial comes before all those of the list
+-- the monomial comes before all monomials of the list
 abbrev pub IsBeforeAll : MonoTree → List TermTree → Type 0
 IsBeforeAll p [] = Unit {0}
 IsBeforeAll p (x ∷ xs) = (mono_cmp p x.0 ≡ Less) × IsBeforeAll p xs
 
--- the terms of a form: coefficients and monomials as forms have them, strictly ascending
+-- the terms of a form: valid coefficients and monomials, strictly ascending
 abbrev pub AreTerms : ℕ → List TermTree → Type 0
 AreTerms m [] = Unit {0}
 AreTerms m (x ∷ xs) = IsCoefficient m x.1 × IsMono m x.0 × IsBeforeAll x.0 xs × AreTerms m xs
@@ -49,7 +49,7 @@ constant_of_form m (constant c) i = i
 constant_of_form m (var_term k t rest) i = constant_of_form m rest i.2
 constant_of_form m (product_term f g t rest) i = constant_of_form m rest i.2
 
--- what comes before two lists comes before their merging
+-- a monomial before all monomials of two lists is before all monomials of their merging
 
 pub before_all_less : (p q : MonoTree) (xs : List TermTree) → mono_cmp p q ≡ Less → IsBeforeAll q xs → IsBeforeAll p xs
 before_all_less p q [] h a = tt
@@ -82,7 +82,7 @@ pub before_all_scale : (m : ℕ) (a : ℕ) (p : MonoTree) (xs : List TermTree) �
 before_all_scale m a p [] b = tt
 before_all_scale m a p (x ∷ xs) b = before_all_put_nonzero p x.0 ((a * x.1) % m) (scale m a xs) b.0 (before_all_scale m a p xs b.1)
 
--- merging and scaling give terms of a form
+-- merging and scaling give the terms of a form
 
 are_terms_put_nonzero : (m : ℕ) (p : MonoTree) (t : ℕ) (xs : List TermTree) → t < m → IsMono m p → IsBeforeAll p xs → AreTerms m xs → AreTerms m (put_nonzero p t xs)
 are_terms_put_nonzero m p t xs h i b a = by_cases (cases_eq t 0)

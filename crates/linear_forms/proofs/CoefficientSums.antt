@@ -1,4 +1,4 @@
--- Coefficients of sums and multiples, and forms that have the same coefficients.
+-- Coefficients of sums and multiples, and forms with the same coefficients.
 use Rattle.std.proofs.Common.{ℕ, ◌≡◌, ◌+◌, ◌*◌, ◌%◌, ◌<◌, nat_eq, Bool, true, false, if◌then◌else◌, List, [], ◌∷◌, refl, sym, ◌∙◌, ap, subst, arith, ◌⊎◌, inl, inr, Ordering, Less, Equal, Greater}
 use Rattle.std.specs.Ordering.{is_eq}
 use Rattle.std.proofs.lemmas.Bool.{cases_eq}
@@ -27,7 +27,7 @@ coefficient_by_terms p (product_term f g t rest) = rw (coefficient_by_terms p re
 coefficient-form_of : (p : MonoTree) (xs : List TermTree) (c : ℕ) → coefficient p (form_of xs c) ≡ coefficient_in p xs
 coefficient-form_of p xs c = coefficient_by_terms p (form_of xs c) ∙ ap (coefficient_in p) (terms_of-form_of xs c)
 
--- a monomial that compares as equal is the same
+-- monomials that compare as equal are the same
 same_of_test : (p q : MonoTree) → is_eq (mono_cmp p q) ≡ true → p ≡ q
 same_of_test p q h = same_mono p q (by_order_of (mono_cmp p q) h)
   where
@@ -36,12 +36,12 @@ same_of_test p q h = same_mono p q (by_order_of (mono_cmp p q) h)
     by_order_of Equal e = refl
     by_order_of Greater e = absurd cc
 
--- a list whose monomials all come after this one does not have it
+-- the coefficient is 0 if all monomials of the list come after this one
 coefficient_before : (p : MonoTree) (xs : List TermTree) → IsBeforeAll p xs → coefficient_in p xs ≡ 0
 coefficient_before p [] b = refl
 coefficient_before p (x ∷ xs) b = rw (b.0) (coefficient_before p xs b.1)
 
--- nor has it another monomial that is the same
+-- the same for a monomial that compares as equal
 coefficient_before_same : (p q : MonoTree) (xs : List TermTree) → IsBeforeAll q xs → is_eq (mono_cmp p q) ≡ true → coefficient_in p xs ≡ 0
 coefficient_before_same p q xs b e = subst (λ r. coefficient_in r xs ≡ 0) (sym (same_of_test p q e)) (coefficient_before q xs b)
 

@@ -1,4 +1,4 @@
--- The order of forms, read off their lists.
+-- The order of forms, computed from their lists.
 use Rattle.std.proofs.Common.{ℕ, zero, suc, ◌≡◌, ◌<◌, ◌≤◌, List, [], ◌∷◌, length, drop, min, refl, ◌∙◌, arith, get_or, true, not, Ordering, Less, Equal, Greater, nat_cmp}
 use Rattle.std.proofs.lemmas.Bool.Decides.{nat_tests}
 use Rattle.std.specs.Ordering.{ordering_then, ordering_index}
@@ -6,7 +6,7 @@ use Rattle.std.specs.Bool.{◌==◌}
 use Rattle.linear_forms.specs.Forms.{TermTree, var, product, form_of}
 use Rattle.linear_forms.specs.Order.{form_cmp, mono_cmp}
 
--- the order of forms, of their lists of terms and their constants
+-- the order of forms, by their lists of terms and their constants
 abbrev pub terms_cmp : List TermTree → ℕ → List TermTree → ℕ → Ordering
 terms_cmp [] c [] d = nat_cmp c d
 terms_cmp [] c (y ∷ ys) d = Less
@@ -24,7 +24,7 @@ form_cmp-form_of ((var j, t) ∷ xs) c ((product f g, u) ∷ ys) d = refl
 form_cmp-form_of ((product e b, t) ∷ xs) c ((var k, u) ∷ ys) d = refl
 form_cmp-form_of ((product e b, t) ∷ xs) c ((product f g, u) ∷ ys) d = rw (form_cmp-form_of xs c ys d) refl
 
--- where one list is at its end, the lengths and the constants decide
+-- at the end of one list, the lengths and the constants decide
 pub at_end : (i : ℕ) (xs : List TermTree) (c : ℕ) (ys : List TermTree) (d : ℕ) → i ≤ length xs → i ≤ length ys → min (length xs) (length ys) ≤ i →
     terms_cmp (drop i xs) c (drop i ys) d ≡ ordering_then (nat_cmp (length xs) (length ys)) (nat_cmp c d)
 at_end zero [] c [] d p q r = refl
@@ -39,7 +39,7 @@ at_end (suc i) (x ∷ xs) c (y ∷ ys) d p q r =
     same_order : nat_cmp (suc (length xs)) (suc (length ys)) ≡ nat_cmp (length xs) (length ys)
     same_order = grind (arith, nat_tests)
 
--- where both lists go on, their next terms decide first
+-- if both lists continue, their next terms decide first
 pub next_terms : (i : ℕ) (xs : List TermTree) (c : ℕ) (ys : List TermTree) (d : ℕ) (x y : TermTree) → i < length xs → i < length ys → x ≡ get_or xs i x → y ≡ get_or ys i y →
     terms_cmp (drop i xs) c (drop i ys) d ≡ ordering_then (mono_cmp x.0 y.0) (ordering_then (nat_cmp x.1 y.1) (terms_cmp (drop (suc i) xs) c (drop (suc i) ys) d))
 next_terms i [] c ys d x y p q e f = absurd (omega (arith, p))

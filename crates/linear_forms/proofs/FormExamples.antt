@@ -1,4 +1,4 @@
--- Worked examples of forms and comparisons. The values are found by hand.
+-- Worked examples of forms and comparisons. The expected values were found by hand.
 use Rattle.std.proofs.Common.{◌≡◌, ◌^◌, [], ◌∷◌, Less, Greater, refl}
 use Rattle.kat_model.specs.Expressions.{ExprTree, number, variable, plus, minus, times}
 use Rattle.kat_model.specs.declared.expression.Rel.TheVariants.{Eq, Ne, Lt, Le, Gt, Ge}
@@ -21,7 +21,7 @@ y = variable 1
 abbrev x_by_y : FormTree
 x_by_y = product_term (form_of_var 0) (form_of_var 1) 1 (constant 0)
 
--- Sums go term by term, in the order of the variables.
+-- Sums are computed term by term, in the order of the variables.
 
 sum_in_order : normal_form 256 (plus y (plus x (plus y (number 3)))) ≡ var_term 0 1 (var_term 1 2 (constant 3))
 sum_in_order = refl
@@ -38,7 +38,7 @@ difference_turns_signs = refl
 number_beyond : normal_form 256 (number 300) ≡ constant 44
 number_beyond = refl
 
--- Products with a constant are multiplied out, and others are not.
+-- Products with a constant are multiplied out; others are not.
 
 constant_times_form : normal_form 256 (times (number 3) (plus x (number 5))) ≡ var_term 0 3 (constant 15)
 constant_times_form = refl
@@ -66,7 +66,7 @@ monomials_first = refl
 then_coefficients : form_cmp (var_term 0 2 (constant 0)) (var_term 0 1 (constant 5)) ≡ Greater
 then_coefficients = refl
 
--- One node, and one for each term of a variable, or one and those of both forms.
+-- A form has one node, and for each term one for a variable, or one and the nodes of both forms of a product.
 
 nodes_of_sum : form_nodes (var_term 0 1 (var_term 1 255 (constant 255))) ≡ 3
 nodes_of_sum = refl
@@ -74,7 +74,7 @@ nodes_of_sum = refl
 nodes_of_product : form_nodes x_by_y ≡ 6
 nodes_of_product = refl
 
--- Of a form and its negative the lesser list of coefficients is taken, then the lesser constant.
+-- The canonical one of a form and its negative has the lesser list of coefficients, then the lesser constant.
 
 negative_is_lesser : canonical 256 (var_term 0 255 (constant 253)) ≡ var_term 0 1 (constant 3)
 negative_is_lesser = refl
@@ -85,7 +85,7 @@ form_is_lesser = refl
 constant_decides : canonical 256 (var_term 0 128 (constant 253)) ≡ var_term 0 128 (constant 3)
 constant_decides = refl
 
--- The comparisons of the worked rows, at 64 bits.
+-- Worked comparisons at 64 bits.
 
 nothing_is_below_zero : comparison_form (2 ^ 64) Lt x (number 0) ≡ False
 nothing_is_below_zero = refl
@@ -105,7 +105,7 @@ equal_to_three = refl
 equal_sums : comparison_form (2 ^ 64) Eq (plus x y) (plus y x) ≡ True
 equal_sums = refl
 
--- The other comparisons.
+-- Other comparisons.
 
 not_equal : comparison_form 256 Ne x y ≡ Neg (Zero (var_term 0 1 (var_term 1 255 (constant 0))))
 not_equal = refl
@@ -143,7 +143,7 @@ a_comparison_of_zero = refl
 untouched : substituted 256 2 (constant 7) (Below (form_of_var 0) (form_of_var 1)) ≡ Pos (Below (form_of_var 0) (form_of_var 1))
 untouched = refl
 
--- Values go round at the width's end.
+-- Values wrap around at the end of the width.
 
 value_beyond : form_value 256 (100 ∷ 3 ∷ []) (product_term (form_of_var 0) (form_of_var 1) 2 (constant 1)) ≡ 89
 value_beyond = refl

@@ -1,4 +1,4 @@
--- What is made of forms is a form.
+-- The results of operations on forms are forms.
 use Rattle.std.proofs.Common.{ℕ, ◌≡◌, ◌+◌, ◌-◌, ◌*◌, ◌%◌, ◌<◌, nat_eq, Bool, true, false, if◌then◌else◌, refl, sym, ◌∙◌, ap, arith, Ordering, Less, Equal, Greater, nat_cmp, map}
 use Rattle.std.specs.Ordering.{ordering_reverse, is_eq}
 use Rattle.std.specs.Cmp.Lexicographic.{slice_cmp}

@@ -14,7 +14,7 @@ put_nonzero-append p t xs = by_truth (nat_eq t 0)
     by_truth true = refl
     by_truth false = refl
 
--- where one list is at its end, the rest of both is what is merged
+-- at the end of one list, the merging is the rest of both
 pub merge_at_end : (m : ℕ) (xs ys : List TermTree) → (xs ≡ []) ⊎ (ys ≡ []) → xs ++ ys ≡ merge m xs ys
 merge_at_end m xs ys (inl e) = rw (e) refl
 merge_at_end m [] ys (inr e) = refl
@@ -24,7 +24,7 @@ pub none_reversed : (xs : List TermTree) → length xs ≡ 0 → reverse xs ≡ 
 none_reversed [] e = refl
 none_reversed (x ∷ xs) e = absurd (omega (arith, e))
 
--- where nothing is left to be multiplied, all is written
+-- if no term remains to be multiplied, the list is complete
 pub scale_at_end : (m a : ℕ) (to rest all : List TermTree) → to ++ scale m a rest ≡ all → length rest ≡ 0 → to ≡ all
 scale_at_end m a to [] all h e = sym (append-nil to) ∙ h
 scale_at_end m a to (x ∷ rest) all h e = absurd (omega (arith, e))

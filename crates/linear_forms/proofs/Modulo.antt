@@ -1,4 +1,4 @@
--- Numbers that are the same modulo m.
+-- Numbers that are congruent modulo m.
 use Rattle.std.proofs.Common.{ℕ, zero, suc, ◌≡◌, ◌+◌, ◌-◌, ◌*◌, ◌%◌, ◌/◌, ◌<◌, sym, ◌∙◌, ap, arith}
 use Rattle.std.proofs.Math.Nat.{mod-add-div, add-mul-mod_self_left, mul-suc, suc-mul, mod_self, zero-mod, mod-eq_of_lt}
 use Rattle.std.proofs.lemmas.Nat.{mul-mod}
@@ -24,15 +24,15 @@ cong_add m a b c d p q = sym (add-mod a c m) ∙ rw (p, q) (add-mod b d m)
 pub cong_mul : (m a b c d : ℕ) → Cong m a b → Cong m c d → Cong m (a * c) (b * d)
 cong_mul m a b c d p q = mul-mod a c m ∙ rw (p, q) (sym (mul-mod b d m))
 
--- to cut a number changes nothing
+-- a number is congruent to its remainder
 pub cong_cut : (m a : ℕ) → Cong m (a % m) a
 cong_cut m a = ap (λ n. n % m) (omega arith) ∙ add-mod_first a 0 m ∙ ap (λ n. n % m) (omega arith)
 
--- a number below m is its own remainder
+-- a number is congruent to `v` if `v` is its remainder
 pub cong_of : (m a v : ℕ) → a % m ≡ v → v < m → Cong m a v
 cong_of m a v e h = e ∙ sym (mod-eq_of_lt h)
 
--- to count m - 1 times is to take away
+-- m - 1 times a number is congruent to its negative
 pub negated : (m v : ℕ) → v < m → Cong m ((m - 1) * v) (m - v)
 negated m zero h = ap (λ n. n % m) (omega arith) ∙ zero-mod m ∙ sym (mod_self m) ∙ ap (λ n. n % m) (omega arith)
 negated zero (suc u) h = absurd (omega (arith, h))

@@ -1,4 +1,4 @@
--- Negatives of forms, and the canonical form of both.
+-- Negatives of forms, and the common canonical form of a form and its negative.
 use Rattle.std.proofs.Common.{ℕ, ◌≡◌, ◌≢◌, ◌-◌, ◌<◌, nat_eq, false, [], ◌∷◌, map, refl, sym, ◌∙◌, ap, arith, ◌⊎◌, inl, inr, Ordering, Less, Equal, Greater, nat_cmp}
 use Rattle.std.specs.Ordering.{ordering_reverse}
 use Rattle.std.specs.Cmp.Lexicographic.{slice_cmp}
@@ -13,7 +13,7 @@ use Rattle.linear_forms.specs.Comparisons.{coefficients, negative_number, canoni
 use Rattle.linear_forms.proofs.Modulo.{negated}
 use Rattle.linear_forms.proofs.SameOrder.{then_equal, same_number}
 
--- a number other than 0 has a negative other than 0
+-- the negative of a number n other than 0 is m - n
 negative_below : (m n : ℕ) → 0 < n → n < m → negative_number m n ≡ m - n
 negative_below m n h l = negated m n l ∙ mod-eq_of_lt (omega (arith, h, l))
 
@@ -88,7 +88,7 @@ canonical-negative m f h i =
     by_cases Equal e = own_negative m f i e
     by_cases Greater e = refl
 
--- the canonical form has the lesser list
+-- the canonical form has the lesser list of coefficients
 pub lesser-canonical : (m : ℕ) (f : FormTree) → 1 < m → IsForm m f → slice_cmp nat_cmp (coefficients (canonical m f)) (coefficients (negative m (canonical m f))) ≢ Greater
 lesser-canonical m f h i = by_cases (slice_cmp nat_cmp (coefficients f) (map (negative_number m) (coefficients f))) refl
   where

@@ -1,4 +1,4 @@
--- Comparisons in normal form are in normal form again.
+-- The normal form of a comparison is its own normal form.
 use Rattle.std.proofs.Common.{ℕ, ◌≡◌, ◌-◌, ◌<◌, nat_eq, nat_lt, Bool, true, false, if◌then◌else◌, map, refl, ◌∙◌, ap, arith, ◌⊎◌, inl, inr, Ordering, Less, Equal, Greater, nat_cmp}
 use Rattle.std.specs.Ordering.{is_eq}
 use Rattle.std.specs.Cmp.Lexicographic.{slice_cmp}
@@ -68,7 +68,7 @@ chosen : (m : ℕ) (b : Bool) (x y : CondForm) → (b ≡ true → IsSettledCond
 chosen m true x y p q = p refl
 chosen m false x y p q = q refl
 
--- of two forms of which one has terms, the other has some where the one is constant
+-- if one of two forms is not constant, and the second one is constant, the first one is not constant
 other_varies : (e f : FormTree) (d : ℕ) → IsVarying e ⊎ IsVarying f → is_constant f d ≡ true → IsVarying e
 other_varies e (constant c) d (inl v) q = v
 other_varies e (constant c) d (inr v) q = absurd v

@@ -1,5 +1,5 @@
--- The normal form of an expression has its value, and a form in place of a variable has the value of the form
--- where the variable is set.
+-- The normal form of an expression has the value of the expression. A form with a variable replaced has the value of
+-- the form in the store with the variable set.
 use Rattle.std.proofs.Common.{ℕ, zero, suc, ◌≡◌, ◌+◌, ◌-◌, ◌*◌, ◌%◌, ◌<◌, nat_eq, true, false, [], ◌∷◌, get_or, set, length, refl, sym, ◌∙◌, ap, ◌⊎◌, inl, inr, arith}
 use Rattle.std.proofs.Math.Nat.{mod-eq_of_lt}
 use Rattle.std.proofs.lemmas.List.{get_or-set_same, get_or-set_other}
@@ -58,7 +58,7 @@ form_value-normal_form w s (times e f) i =
     (cong_of (modulus w) _ _ (form_value-normal_form w s e i) (value_below w s e i))
     (cong_of (modulus w) _ _ (form_value-normal_form w s f i) (value_below w s f i))
 
--- a variable replaced by a form has the value of the variable where it is set to the value of the form
+-- a replaced variable has the value of the variable in the store in which it is set to the value of the form
 polynomial-var_replaced : (m : ℕ) (s : Store) (j : ℕ) (by : FormTree) (k : ℕ) → j < length s → Cong m (polynomial s (var_replaced j by k)) (get_or (set s j (form_value m s by)) k 0)
 polynomial-var_replaced m s j by k h = by_cases (cases_eq k j)
   where
@@ -66,7 +66,7 @@ polynomial-var_replaced m s j by k h = by_cases (cases_eq k j)
     by_cases (inl e) = let n : nat_eq k j ≡ true = grind (arith, nat_tests, e) in rw (n, e, get_or-set_same s j (form_value m s by) 0 h) (sym (cong_cut m (polynomial s by)))
     by_cases (inr d) = let n : nat_eq k j ≡ false = grind (arith, nat_tests, d) in rw (n, get_or-set_other s j k (form_value m s by) 0 d) (ap (λ n. n % m) (omega arith))
 
--- a form with a variable replaced by a form has the value of the form where the variable is set
+-- a form with a variable replaced has the value of the form in the store in which the variable is set
 pub polynomial-replaced : (m : ℕ) (s : Store) (j : ℕ) (by f : FormTree) → j < length s → Cong m (polynomial s (replaced m j by f)) (polynomial (set s j (form_value m s by)) f)
 polynomial-replaced m s j by (constant c) h = cong_cut m c
 polynomial-replaced m s j by (var_term k t rest) h =

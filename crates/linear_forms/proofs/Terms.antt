@@ -1,4 +1,4 @@
--- A form is made of its terms and its constant.
+-- A form consists of its terms and its constant.
 use Rattle.std.proofs.Common.{ℕ, ◌≡◌, ◌<◌, List, [], ◌∷◌, length, refl, ap, arith}
 use Rattle.linear_forms.specs.Forms.{var, product, TermTree, form_of, terms_of, constant_of}
 use Rattle.linear_forms.specs.Arithmetic.{multiple, ordered_product, form_product}
@@ -13,7 +13,7 @@ constant_of-form_of [] c = refl
 constant_of-form_of ((var k, t) ∷ xs) c = constant_of-form_of xs c
 constant_of-form_of ((product f g, t) ∷ xs) c = constant_of-form_of xs c
 
--- a product with a form that has no terms, and one of two forms that have some
+-- the product with a form that has no terms, and the product of two forms that have terms
 pub product_by_constant : (m : ℕ) (xs : List TermTree) (c : ℕ) (ys : List TermTree) (d : ℕ) → 0 < length xs → length ys ≡ 0 →
     form_product m (form_of xs c) (form_of ys d) ≡ multiple m d (form_of xs c)
 product_by_constant m [] c ys d p q = absurd (omega (arith, p))

@@ -39,11 +39,11 @@ form_turned (product_term e d t r) (var_term k u q) = refl
 form_turned (product_term e d t r) (product_term f g u q) =
     then_turned _ _ _ _ (then_turned _ _ _ _ (form_turned e f) (form_turned d g)) (then_turned _ _ _ _ (number_turned t u) (form_turned r q))
 
--- less, and not less, after one another
+-- less is transitive
 pub number_less : (i j k : ℕ) → nat_cmp i j ≡ Less → nat_cmp j k ≡ Less → nat_cmp i k ≡ Less
 number_less i j k p q = grind (arith, nat_tests, p, q)
 
--- what a first comparison and then a second must give for the third
+-- the result of a third comparison that transitivity gives from a first and a second
 abbrev pub Passes : Ordering → Ordering → Ordering → Type 0
 Passes a b c = (a ≡ Less → b ≡ Less → c ≡ Less) × (a ≡ Equal → c ≡ b) × (b ≡ Equal → c ≡ a)
 

@@ -1,4 +1,4 @@
--- The value of a form, added up term by term.
+-- The value of a form, summed term by term.
 use Rattle.std.proofs.Common.{ℕ, zero, suc, ◌≡◌, ◌+◌, ◌*◌, ◌%◌, ◌<◌, List, [], ◌∷◌, get_or, drop, length, refl, ◌∙◌, ap, arith}
 use Rattle.std.proofs.lemmas.Nat.{mul-mod_second}
 use Rattle.kat_model.specs.Stores.{Store}

@@ -1,4 +1,4 @@
--- The forms of comparisons hold where the comparisons do.
+-- The normal forms of comparisons hold exactly when the comparisons do.
 use Rattle.std.proofs.Common.{ℕ, ◌≡◌, ◌+◌, ◌-◌, ◌%◌, ◌<◌, ◌≤◌, ◌↔◌, nat_eq, nat_lt, Bool, true, false, not, if◌then◌else◌, map, set, length, refl, sym, ◌∙◌, ap, ◌⊎◌, inl, inr, arith, Ordering, Less, Equal, Greater, nat_cmp}
 use Rattle.std.proofs.lemmas.Bool.Decides.{nat_tests}
 use Rattle.std.proofs.lemmas.Bool.{cases_eq}
@@ -29,7 +29,7 @@ use Rattle.linear_forms.proofs.StoredValues.{modulus_above_one, form_value-norma
 use Rattle.linear_forms.proofs.Ascending.{constant_of_form}
 use Rattle.linear_forms.proofs.Forming.{is_form_normal}
 
--- -f is 0 where f is
+-- -f is 0 exactly when f is
 pub zero-negative : (m : ℕ) (s : Store) (f : FormTree) → 1 < m → nat_eq (form_value m s (negative m f)) 0 ≡ nat_eq (form_value m s f) 0
 zero-negative m s f h = by_cases (cases_eq (form_value m s f) 0)
   where
@@ -103,7 +103,7 @@ less_form_holds m s (constant c) (product_term f g t r) h p q = varying_less_for
 less_form_holds m s (var_term k t r) g h p q = varying_less_form_holds m s (var_term k t r) g h
 less_form_holds m s (product_term e f t r) g h p q = varying_less_form_holds m s (product_term e f t r) g h
 
--- a difference is 0 exactly where both numbers are equal
+-- a difference is 0 exactly when both numbers are equal
 zero_difference : (m a b : ℕ) → a < m → b < m → nat_eq ((a + (m - b)) % m) 0 ≡ nat_eq a b
 zero_difference m a b p q = by_order_of (cases_eq a b) (nat_lt a b) refl
   where
@@ -157,7 +157,7 @@ constant_below_replaced m j by (var_term k t rest) h = constant_below_sum m (mul
 constant_below_replaced m j by (product_term f g t rest) h =
     constant_below_sum m (multiple m t (form_product m (replaced m j by f) (replaced m j by g))) (replaced m j by rest) h
 
--- a comparison with a form in place of a variable holds where it holds with the variable set
+-- a comparison with a form in place of a variable holds exactly when it holds in the store with the variable set
 pub substituted_holds : (m : ℕ) (s : Store) (j : ℕ) (by : FormTree) (a : Atomic) → 1 < m → j < length s →
     cond_form_holds m s (substituted m j by a) ≡ atomic_holds m (set s j (form_value m s by)) a
 substituted_holds m s j by (Zero f) h l =
@@ -168,7 +168,7 @@ substituted_holds m s j by (Below f g) h l =
     (constant_below_replaced m j by f (omega (arith, h))) (constant_below_replaced m j by g (omega (arith, h)))
     ∙ rw (polynomial-replaced m s j by f l, polynomial-replaced m s j by g l) refl
 
--- the same as facts, for the laws
+-- the same as propositions, for the laws
 
 same_tests : (a b c d : ℕ) → nat_eq a b ≡ nat_eq c d → (a ≡ b) ↔ (c ≡ d)
 same_tests a b c d h = (λ e. grind (arith, nat_tests, h, e), λ e. grind (arith, nat_tests, h, e))
@@ -179,7 +179,7 @@ equal-form_difference m s f g h = same_tests _ _ _ _ (zero-form_difference m s f
 pub zero_value-canonical : (m : ℕ) (s : Store) (f : FormTree) → 1 < m → (form_value m s (canonical m f) ≡ 0) ↔ (form_value m s f ≡ 0)
 zero_value-canonical m s f h = same_tests _ _ _ _ (zero-canonical m s f h)
 
--- forms whose difference is a constant have values that are so far apart
+-- forms whose difference is a constant have values that differ by this constant
 pub apart-form_difference : (m : ℕ) (s : Store) (f g : FormTree) (c : ℕ) → 1 < m → form_difference m f g ≡ constant c → form_value m s f ≡ (form_value m s g + c) % m
 apart-form_difference m s f g c h e =
     sym (cong_add m b b c (a + (m - b)) refl (sym difference)

@@ -1,4 +1,4 @@
--- A form without the variable stays itself.
+-- Replacing a variable that does not occur in a form leaves the form unchanged.
 use Rattle.std.proofs.Common.{ℕ, ◌≡◌, ◌≢◌, ◌+◌, ◌*◌, ◌%◌, ◌<◌, nat_eq, false, ◌||◌, List, [], ◌∷◌, refl, ◌∙◌, ap, arith, Ordering, Less, Equal, Greater}
 use Rattle.std.proofs.lemmas.Bool.{or_parts}
 use Rattle.std.proofs.lemmas.Bool.Decides.{nat_tests}
@@ -15,12 +15,12 @@ use Rattle.linear_forms.specs.declared.comparison.CondForm.TheVariants.{Pos}
 use Rattle.linear_forms.proofs.Ascending.{IsBeforeAll, before_all_terms, constant_of_form}
 use Rattle.linear_forms.proofs.CoefficientSums.{form_by_terms}
 
--- a first term merged with later ones stands before them
+-- a single term merged with later ones comes first
 merge_first : (m : ℕ) (x : TermTree) (ys : List TermTree) → IsBeforeAll x.0 ys → merge m (x ∷ []) ys ≡ x ∷ ys
 merge_first m x [] b = refl
 merge_first m x (y ∷ ys) b = rw (b.0) refl
 
--- a form of one term and a form whose monomials come later
+-- the sum of a form of one term and a form whose monomials come later
 sum_first : (m : ℕ) (p : MonoTree) (t : ℕ) (rest : FormTree) → IsBeforeAll p (terms_of rest) → constant_of rest < m →
     form_of (merge m ((p, t) ∷ []) (terms_of rest)) ((0 + constant_of rest) % m) ≡ form_of ((p, t) ∷ terms_of rest) (constant_of rest)
 sum_first m p t rest b l = rw (merge_first m (p, t) (terms_of rest) b, zero-add (constant_of rest), mod-eq_of_lt {n = constant_of rest} {m = m} l) refl
@@ -31,7 +31,7 @@ multiple_of_one m t p h l =
     let z : nat_eq t 0 ≡ false = grind (arith, nat_tests, h) in
     rw (mul-one t, mod-eq_of_lt {n = t} {m = m} l, z, mul-zero t, zero-mod m) refl
 
--- the two forms of a product of a form are in order already
+-- two forms in order, neither of them constant, keep their order in their product
 product_in_order : (m : ℕ) (f g : FormTree) → IsVarying f → IsVarying g → form_cmp f g ≢ Greater → form_product m f g ≡ product_term f g 1 (constant 0)
 product_in_order m f g u v n = both_varying f g u v ∙ by_cases (form_cmp f g) refl
   where

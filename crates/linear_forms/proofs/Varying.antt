@@ -1,4 +1,4 @@
--- The forms of comparisons, where a form is not constant.
+-- The normal forms of comparisons, if a form is not constant.
 use Rattle.std.proofs.Common.{ℕ, ◌≡◌, ◌<◌, List, [], ◌∷◌, length, refl, arith, ◌⊎◌, inl, inr}
 use Rattle.linear_forms.specs.Forms.{var, product, TermTree, form_of}
 use Rattle.linear_forms.specs.Comparisons.{canonical, zero_form, varying_less_form, less_form}

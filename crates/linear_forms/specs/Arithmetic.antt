@@ -5,17 +5,17 @@ use Rattle.kat_model.specs.Expressions.{ExprTree, number, variable, plus, minus,
 use Rattle.linear_forms.specs.Forms.{FormTree, constant, product_term, MonoTree, TermTree, form_of, terms_of, constant_of, form_of_var}
 use Rattle.linear_forms.specs.Order.{form_cmp, mono_cmp}
 
--- the first, second or third, by an order
+-- the first, second or third value, selected by an ordering
 abbrev pub by_order : {X : Type 0} → Ordering → X → X → X → X
 by_order Less x y z = x
 by_order Equal x y z = y
 by_order Greater x y z = z
 
--- a monomial with its coefficient before a list of terms, or the list alone where the coefficient is 0
+-- a monomial with its coefficient before a list of terms, or only the list if the coefficient is 0
 abbrev pub put_nonzero : MonoTree → ℕ → List TermTree → List TermTree
 put_nonzero p t xs = if nat_eq t 0 then xs else (p, t) ∷ xs
 
--- the terms x and xs merged with a list of terms, where `merge_rest` merges xs with one
+-- the terms x and xs merged with a list of terms; `merge_rest` merges xs with a list
 abbrev pub merge_onto : ℕ → TermTree → List TermTree → (List TermTree → List TermTree) → List TermTree → List TermTree
 merge_onto m x xs merge_rest [] = x ∷ xs
 merge_onto m x xs merge_rest (y ∷ ys) =
@@ -24,12 +24,12 @@ merge_onto m x xs merge_rest (y ∷ ys) =
     (put_nonzero x.0 ((x.1 + y.1) % m) (merge_rest ys))
     (y ∷ merge_onto m x xs merge_rest ys)
 
--- two ascending lists of terms as one, the coefficients of a monomial of both added
+-- two ascending lists of terms as one, with the coefficients of common monomials added
 abbrev pub merge : ℕ → List TermTree → List TermTree → List TermTree
 merge m [] ys = ys
 merge m (x ∷ xs) ys = merge_onto m x xs (merge m xs) ys
 
--- a list of terms, each a number of times
+-- a list of terms, each multiplied by a number
 abbrev pub scale : ℕ → ℕ → List TermTree → List TermTree
 scale m a [] = []
 scale m a (x ∷ xs) = put_nonzero x.0 ((a * x.1) % m) (scale m a xs)
@@ -38,7 +38,7 @@ scale m a (x ∷ xs) = put_nonzero x.0 ((a * x.1) % m) (scale m a xs)
 abbrev pub form_sum : ℕ → FormTree → FormTree → FormTree
 form_sum m f g = form_of (merge m (terms_of f) (terms_of g)) ((constant_of f + constant_of g) % m)
 
--- a number of times a form
+-- a form multiplied by a number
 abbrev pub multiple : ℕ → ℕ → FormTree → FormTree
 multiple m a f = form_of (scale m a (terms_of f)) ((a * constant_of f) % m)
 
@@ -54,7 +54,7 @@ abbrev pub ordered_product : FormTree → FormTree → FormTree
 ordered_product f g =
     by_order (form_cmp f g) (product_term f g 1 (constant 0)) (product_term f g 1 (constant 0)) (product_term g f 1 (constant 0))
 
--- the product of two forms: of a constant and a form its multiple, and otherwise one opaque product
+-- the product of two forms: a multiple if one of them is constant, and otherwise one opaque product
 abbrev pub form_product : ℕ → FormTree → FormTree → FormTree
 form_product m (constant c) g = multiple m c g
 form_product m f (constant d) = multiple m d f

@@ -1,4 +1,4 @@
--- The rank of a form is above those of the forms in it.
+-- The rank of a form is greater than the ranks of the forms in it.
 use Rattle.std.specs.Prelude.{ℕ, ◌≤◌, ◌+◌, List, [], ◌∷◌}
 use Rattle.std.proofs.Common.{arith}
 use denote.Param.Weighed.{most}

@@ -1,7 +1,7 @@
 -- Forms as trees, without the lists and boxes of the program.
 use Rattle.std.specs.Prelude.{ℕ, ◌+◌, List, [], ◌∷◌}
 
--- a form: a constant, or a variable or a product of two forms, times its coefficient, before a form
+-- a form: a constant, or a term before a form; the term is a variable or a product of two forms, with its coefficient
 pub data FormTree : Type 0 where
   constant : (c : ℕ) → FormTree
   var_term : (k coefficient : ℕ) (rest : FormTree) → FormTree
@@ -26,7 +26,7 @@ abbrev pub form_of : List TermTree → ℕ → FormTree
 form_of [] c = constant c
 form_of (x ∷ xs) c = with_term x (form_of xs c)
 
--- the terms of a form, and its constant
+-- the terms of a form; `constant_of`: its constant
 abbrev pub terms_of : FormTree → List TermTree
 terms_of (constant c) = []
 terms_of (var_term k t rest) = (var k, t) ∷ terms_of rest
@@ -41,7 +41,8 @@ constant_of (product_term f g t rest) = constant_of rest
 abbrev pub form_of_var : ℕ → FormTree
 form_of_var k = var_term k 1 (constant 0)
 
--- how many nodes a form has: one, and for each term one for a variable, or one and those of both forms of a product
+-- the number of nodes of a form: one, and for each term one for a variable, or one and the nodes of both forms of a
+-- product
 abbrev pub form_nodes : FormTree → ℕ
 form_nodes (constant c) = 1
 form_nodes (var_term k t rest) = form_nodes rest + 1

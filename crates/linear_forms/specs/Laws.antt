@@ -1,4 +1,4 @@
--- The laws of forms. Each stands on a function of the crate that does nothing.
+-- The laws of forms. Each is the contract of a function of the crate that does nothing.
 use Rattle.std.specs.Prelude.{◌≡◌, ◌≢◌, false, map, ◌↔◌, ◌+◌, ◌-◌, ◌*◌, ◌%◌, ◌<◌, ℕ}
 use Rattle.std.proofs.Common.{Equal, Greater, nat_cmp}
 use Rattle.std.specs.Cmp.{IsTotalOrder}
@@ -16,7 +16,7 @@ use Rattle.linear_forms.specs.Comparisons.{coefficients, negative_number, canoni
 use Rattle.linear_forms.specs.declared.comparison.Atomic.{Atomic}
 use Rattle.linear_forms.specs.declared.comparison.CondForm.TheVariants.{Pos}
 
--- what is made of forms has in each store the value that is made of theirs
+-- in each store, the value of an operation on forms is the operation on their values
 pub record KeepsValues (m : ℕ) (s : Store) : Type 0 where
   pub below : (f : FormTree) → form_value m s f < m
   pub of_sum : (f g : FormTree) → form_value m s (form_sum m f g) ≡ (form_value m s f + form_value m s g) % m
@@ -27,14 +27,14 @@ pub record KeepsValues (m : ℕ) (s : Store) : Type 0 where
   pub apart : (f g : FormTree) (c : ℕ) → form_difference m f g ≡ constant c → form_value m s f ≡ (form_value m s g + c) % m
   pub zero : (f : FormTree) → (form_value m s (canonical m f) ≡ 0) ↔ (form_value m s f ≡ 0)
 
--- monomials and forms are totally ordered, and what the order does not tell apart is the same
+-- monomials and forms are totally ordered, and only equal ones compare as equal
 pub record AreOrdered : Type 0 where
   pub monos : IsTotalOrder mono_cmp
   pub forms : IsTotalOrder form_cmp
   pub same_mono : (p q : MonoTree) → (mono_cmp p q ≡ Equal) ↔ (p ≡ q)
   pub same_form : (f g : FormTree) → (form_cmp f g ≡ Equal) ↔ (f ≡ g)
 
--- sums and multiples of forms are those of their coefficients, and a form has no other form's
+-- sums and multiples of forms are computed by coefficients, and the coefficients and the constant determine a form
 pub record GoByCoefficients (m : ℕ) : Type 0 where
   pub of_sum : (f g : FormTree) → IsForm m f → IsForm m g → (p : MonoTree) → coefficient p (form_sum m f g) ≡ (coefficient p f + coefficient p g) % m
   pub of_multiple : (a : ℕ) (f : FormTree) → IsForm m f → (p : MonoTree) → coefficient p (multiple m a f) ≡ (a * coefficient p f) % m
@@ -42,14 +42,16 @@ pub record GoByCoefficients (m : ℕ) : Type 0 where
   pub constant_of_multiple : (a : ℕ) (f : FormTree) → constant_of (multiple m a f) ≡ (a * constant_of f) % m
   pub one : (f g : FormTree) → IsForm m f → IsForm m g → ((p : MonoTree) → coefficient p f ≡ coefficient p g) → constant_of f ≡ constant_of g → f ≡ g
 
--- the negative of a form has the negatives of its coefficients, and both have one canonical form, the lesser
+-- the negative of a form has the negatives of its coefficients; both have the same canonical form, which has the lesser
+-- list
 pub record HasOneSign (m : ℕ) (f : FormTree) : Type 0 where
   pub of_negative : coefficients (negative m f) ≡ map (negative_number m) (coefficients f)
   pub twice : negative m (negative m f) ≡ f
   pub both : canonical m (negative m f) ≡ canonical m f
   pub lesser : slice_cmp nat_cmp (coefficients (canonical m f)) (coefficients (negative m (canonical m f))) ≢ Greater
 
--- comparisons that were made normal are their own normal forms, and one without the variable stays itself
+-- the normal forms of comparisons are their own normal forms, and a comparison without the variable is unchanged by
+-- substitution
 pub record StaySettled (m : ℕ) : Type 0 where
   pub of_comparison : (rel : Rel) (e f : ExprTree) → IsSettledCond m (comparison_form m rel e f)
   pub of_substitution : (j : ℕ) (by : FormTree) (a : Atomic) → IsForm m by → IsSettledCond m (substituted m j by a)

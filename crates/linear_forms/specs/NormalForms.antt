@@ -1,4 +1,4 @@
--- Forms as the arithmetic keeps them.
+-- The conditions on forms that the arithmetic keeps.
 use Rattle.std.specs.Prelude.{ℕ, ◌≡◌, ◌≢◌, ◌<◌}
 use Rattle.std.proofs.Common.{Less, Greater}
 use Rattle.linear_forms.specs.Forms.{FormTree, constant, var_term, product_term, MonoTree, var, product}
@@ -10,18 +10,18 @@ IsVarying (constant c) = ⊥
 IsVarying (var_term k t rest) = Unit {0}
 IsVarying (product_term f g t rest) = Unit {0}
 
--- the monomial comes before all those of the form
+-- the monomial comes before all monomials of the form
 abbrev pub IsBefore : MonoTree → FormTree → Type 0
 IsBefore p (constant c) = Unit {0}
 IsBefore p (var_term k t rest) = (mono_cmp p (var k) ≡ Less) × IsBefore p rest
 IsBefore p (product_term f g t rest) = (mono_cmp p (product f g) ≡ Less) × IsBefore p rest
 
--- a coefficient is not 0, and below m
+-- a coefficient is not 0 and is below m
 abbrev pub IsCoefficient : ℕ → ℕ → Type 0
 IsCoefficient m t = (0 < t) × (t < m)
 
--- a form modulo m: a constant below m, or a term before a form, the monomials strictly ascending; the two forms
--- of a product are not constant, and the first is not the greater
+-- a form modulo m: a constant below m, or a term before a form, with strictly ascending monomials; the two forms of a
+-- product are not constant, and the first is not greater than the second
 abbrev pub IsForm : ℕ → FormTree → Type 0
 IsForm m (constant c) = c < m
 IsForm m (var_term k t rest) = IsCoefficient m t × IsBefore (var k) rest × IsForm m rest

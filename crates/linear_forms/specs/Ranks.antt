@@ -1,4 +1,4 @@
--- A number that falls from a form to the forms in its products, by which recursion over forms ends.
+-- A number that decreases from a form to the forms in its products, so that recursion over forms terminates.
 use Rattle.std.specs.Prelude.{ℕ, ◌+◌}
 use Rattle.linear_forms.specs.Forms.{FormTree, constant, var_term, product_term, MonoTree, var, product}
 

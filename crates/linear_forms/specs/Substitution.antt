@@ -3,7 +3,7 @@ use Rattle.std.specs.Prelude.{Bool, false, ◌||◌, ℕ, ◌%◌, nat_eq, if◌
 use Rattle.linear_forms.specs.Forms.{FormTree, constant, var_term, product_term, MonoTree, var, product, form_of_var}
 use Rattle.linear_forms.specs.Arithmetic.{form_sum, multiple, form_product}
 
--- variable k, where the form `by` stands in place of variable j
+-- variable k, with the form `by` in place of variable j
 abbrev pub var_replaced : ℕ → FormTree → ℕ → FormTree
 var_replaced j by k = if nat_eq k j then by else form_of_var k
 
@@ -19,7 +19,7 @@ abbrev pub mono_replaced : ℕ → ℕ → FormTree → MonoTree → FormTree
 mono_replaced m j by (var k) = var_replaced j by k
 mono_replaced m j by (product f g) = form_product m (replaced m j by f) (replaced m j by g)
 
--- whether a form holds variable j
+-- whether variable j occurs in a form
 abbrev pub has_var : ℕ → FormTree → Bool
 has_var j (constant c) = false
 has_var j (var_term k t rest) = nat_eq k j || has_var j rest

@@ -5,7 +5,7 @@ use Rattle.kat_model.specs.Stores.{modulus, Store, IsStore, value}
 use Rattle.kat_model.specs.declared.expression.Width.{Width}
 use Rattle.linear_forms.specs.Forms.{FormTree, constant, var_term, product_term, MonoTree, var, product}
 
--- the value of a form as a polynomial over the natural numbers; a variable that there is not is 0
+-- the value of a form as a polynomial over the natural numbers; an undefined variable is 0
 abbrev pub polynomial : Store → FormTree → ℕ
 polynomial s (constant c) = c
 polynomial s (var_term k t rest) = t * slice_index_or s k 0 + polynomial s rest

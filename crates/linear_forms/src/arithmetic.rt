@@ -1,5 +1,5 @@
-//! Sums, differences, multiples and products of forms. Inside the crate forms are moved and not copied, so that
-//! the cost of an operation does not grow with the depth of the products in its forms.
+//! Sums, differences, multiples and products of forms. Inside the crate, forms are moved and not copied, so the cost of
+//! an operation does not grow with the depth of the products in its forms.
 ghost use Rattle.std.specs.Prelude.{◌≡◌, ◌+◌, ◌-◌, ◌%◌, ◌<◌, [], ◌∷◌, ◌++◌, length, take, drop, reverse, IfOk, OnOk};
 ghost use Rattle.kat_model.specs.Stores.{modulus};
 ghost use Rattle.linear_forms.specs.Forms.{constant, product_term};
@@ -14,7 +14,7 @@ use kat_model::{NoMemory, Width};
 use std::alloc::Global;
 use std::cmp::Ordering;
 
-// A monomial moved to the end, unless its coefficient is 0.
+// Appends a monomial, unless its coefficient is 0.
 fn push_nonzero(terms: &mut Vec<Term>, mono: Mono, times: u64) -> Result<(), NoMemory>
     ensures { OnOk result (terms.new.items ≡ terms.old.items ++ put_nonzero (mono_tree mono) times []) }
 {
@@ -24,7 +24,7 @@ fn push_nonzero(terms: &mut Vec<Term>, mono: Mono, times: u64) -> Result<(), NoM
     push_term(terms, mono, times)
 }
 
-// The last term of one list, moved to the end of another.
+// Moves the last term of one list to the end of another.
 fn move_last(from: &mut Vec<Term>, to: &mut Vec<Term>) -> Result<(), NoMemory>
     ensures moved { OnOk result (to.new.items ≡ to.old.items ++ take 1 (reverse from.old.items)) }
     ensures left { OnOk result (reverse from.new.items ≡ drop 1 (reverse from.old.items)) }
@@ -35,7 +35,7 @@ fn move_last(from: &mut Vec<Term>, to: &mut Vec<Term>) -> Result<(), NoMemory>
     }
 }
 
-// The order of the monomials of the last terms of two lists.
+// Returns the order of the monomials of the last terms of two lists.
 fn last_order(left: &[Term], right: &[Term]) -> Ordering
     requires left_some { 0 < length left.now }
     requires right_some { 0 < length right.now }
@@ -46,7 +46,7 @@ fn last_order(left: &[Term], right: &[Term]) -> Ordering
     cmp_mono(&x.mono, &y.mono)
 }
 
-// The last terms of two lists, which have one monomial, moved as one term to the end of a third.
+// Moves the last terms of two lists, which have the same monomial, as one term to the end of a third.
 fn join_last(
     width: Width,
     left: &mut Vec<Term>,
@@ -63,7 +63,7 @@ fn join_last(
     }
 }
 
-// Two ascending lists of terms as one. Both are turned round first, so that their first terms can be popped.
+// Merges two ascending lists of terms. Reverses both first, so that their first terms can be popped.
 fn merge_of(
     alloc: Global,
     width: Width,
@@ -91,7 +91,7 @@ fn merge_of(
     Ok(to)
 }
 
-/// The sum of two forms.
+/// Returns the sum of two forms.
 pub(crate) fn sum(alloc: Global, width: Width, left: Form, right: Form) -> Result<Form, NoMemory>
     ensures { IfOk result (λ f. f ≡ form_sum (modulus width) left right) }
 {
@@ -100,7 +100,7 @@ pub(crate) fn sum(alloc: Global, width: Width, left: Form, right: Form) -> Resul
     Ok(Form { terms, constant })
 }
 
-/// A number of times a form.
+/// Returns a form multiplied by a number.
 pub(crate) fn multiple(
     alloc: Global,
     width: Width,
@@ -120,14 +120,14 @@ pub(crate) fn multiple(
     })
 }
 
-/// The form with its sign turned.
+/// Returns the negative of a form.
 pub(crate) fn negative(alloc: Global, width: Width, form: Form) -> Result<Form, NoMemory>
     ensures { IfOk result (λ f. f ≡ form_negative (modulus width) form) }
 {
     multiple(alloc, width, width.greatest(), form)
 }
 
-/// The difference of two forms.
+/// Returns the difference of two forms.
 pub(crate) fn difference(
     alloc: Global,
     width: Width,
@@ -140,7 +140,7 @@ pub(crate) fn difference(
     sum(alloc, width, left, right)
 }
 
-// The form that is one product.
+// Returns the form that is one product.
 fn product_form(alloc: Global, first: Form, second: Form) -> Result<Form, NoMemory>
     ensures { IfOk result (λ f. f ≡ product_term first second 1 (constant 0)) }
 {
@@ -151,7 +151,7 @@ fn product_form(alloc: Global, first: Form, second: Form) -> Result<Form, NoMemo
     Ok(Form { terms, constant: 0 })
 }
 
-// The form that is one product of two forms, the lesser first.
+// Returns the form that is one product of two forms, the lesser first.
 fn opaque_product(alloc: Global, left: Form, right: Form) -> Result<Form, NoMemory>
     ensures { IfOk result (λ f. f ≡ ordered_product left right) }
 {
@@ -161,7 +161,7 @@ fn opaque_product(alloc: Global, left: Form, right: Form) -> Result<Form, NoMemo
     product_form(alloc, left, right)
 }
 
-/// The product of two forms.
+/// Returns the product of two forms.
 pub(crate) fn product(
     alloc: Global,
     width: Width,
@@ -179,8 +179,8 @@ pub(crate) fn product(
     opaque_product(alloc, left, right)
 }
 
-/// The sum of two forms modulo 2 to the width: term by term, without the coefficients that become 0. Where both
-/// are kept as [`Form`] says, so is the sum. Fails only when out of memory.
+/// Returns the sum of two forms modulo 2 to the width: term by term, without the coefficients that become 0. If both
+/// satisfy the conditions at [`Form`], so does the sum. Fails only when out of memory.
 pub fn plus(alloc: Global, width: Width, left: &Form, right: &Form) -> Result<Form, NoMemory>
     ensures exact { IfOk result (λ f. f ≡ form_sum (modulus width) left.now right.now) }
     ensures form { IsForm (modulus width) left.now → IsForm (modulus width) right.now → IfOk result (IsForm (modulus width)) }
@@ -190,7 +190,7 @@ pub fn plus(alloc: Global, width: Width, left: &Form, right: &Form) -> Result<Fo
     sum(alloc, width, left, right)
 }
 
-/// The difference of two forms modulo 2 to the width, as for the sum.
+/// Returns the difference of two forms modulo 2 to the width, with the same properties as the sum.
 pub fn minus(alloc: Global, width: Width, left: &Form, right: &Form) -> Result<Form, NoMemory>
     ensures exact { IfOk result (λ f. f ≡ form_difference (modulus width) left.now right.now) }
     ensures form { IsForm (modulus width) left.now → IsForm (modulus width) right.now → IfOk result (IsForm (modulus width)) }

@@ -22,8 +22,8 @@ pub enum Atomic {
     Less(Form, Form),
 }
 
-/// The normal form of a condition that compares two expressions: it always holds or never does, or it is a
-/// comparison or the opposite of one.
+/// The normal form of a condition that compares two expressions: always true, always false, a comparison, or the
+/// negation of a comparison.
 #[derive(Drop)]
 pub enum CondForm {
     True,
@@ -33,7 +33,7 @@ pub enum CondForm {
 }
 
 impl Atomic {
-    /// The same comparison again. Fails only when out of memory.
+    /// Returns a copy of the comparison. Fails only when out of memory.
     pub fn copy(&self, alloc: Global) -> Result<Atomic, NoMemory>
         ensures { IfOk result (λ a. a ≡ self.now) }
     {
@@ -48,7 +48,7 @@ impl Atomic {
     }
 }
 
-/// Whether two comparisons are the same tree. Takes no memory.
+/// Returns whether two comparisons are the same tree. Takes no memory.
 pub fn same_atomic(left: &Atomic, right: &Atomic) -> bool
     ensures { IsTrue result ↔ (left.now ≡ right.now) }
 {
@@ -59,7 +59,7 @@ pub fn same_atomic(left: &Atomic, right: &Atomic) -> bool
     }
 }
 
-/// How many nodes a comparison has: one and those of its forms. The count stops at `u64::MAX`.
+/// Returns the number of nodes of a comparison, one plus the nodes of its forms, saturated at `u64::MAX`.
 pub fn atomic_size(atomic: &Atomic) -> u64
     ensures { result ≡ min (atomic_nodes atomic.now) (2 ^ 64 - 1) }
 {
@@ -69,8 +69,7 @@ pub fn atomic_size(atomic: &Atomic) -> u64
     }
 }
 
-/// Whether a comparison holds in a store, the values modulo 2 to the width. A variable that the store does not
-/// have is 0.
+/// Returns whether a comparison holds in a store, with values modulo 2 to the width. An undefined variable is 0.
 pub fn holds(width: Width, atomic: &Atomic, store: &[u64]) -> bool
     ensures { result ≡ atomic_holds (modulus width) store.now atomic.now }
 {
@@ -80,7 +79,7 @@ pub fn holds(width: Width, atomic: &Atomic, store: &[u64]) -> bool
     }
 }
 
-// How the coefficients and the constant of a form compare with their negatives.
+// Compares the coefficients and the constant of a form with their negatives.
 fn cmp_negative(width: Width, form: &Form) -> Ordering
     ensures { result ≡ slice_cmp nat_cmp (coefficients form.now) (map (negative_number (modulus width)) (coefficients form.now)) }
 {
@@ -94,7 +93,7 @@ fn cmp_negative(width: Width, form: &Form) -> Ordering
     form.constant.cmp(&width.mul(most, form.constant))
 }
 
-// The form or its negative.
+// Returns the canonical one of the form and its negative.
 fn canonical(alloc: Global, width: Width, form: Form) -> Result<Form, NoMemory>
     ensures { IfOk result (λ f. f ≡ canonical_form (modulus width) form) }
 {
@@ -104,9 +103,9 @@ fn canonical(alloc: Global, width: Width, form: Form) -> Result<Form, NoMemory>
     Ok(form)
 }
 
-/// The form or its negative, whichever has the lesser list of coefficients followed by the constant. One is 0
-/// exactly where the other is. Where the form is kept as [`Form`] says, so is the result. The only refusal is
-/// out of memory.
+/// Returns the form or its negative, whichever has the lesser list of coefficients followed by the constant. One is 0
+/// exactly when the other is. If the form satisfies the conditions at [`Form`], so does the result. Fails only when out
+/// of memory.
 pub fn canon(alloc: Global, width: Width, form: &Form) -> Result<Form, NoMemory>
     ensures exact { IfOk result (λ f. f ≡ canonical_form (modulus width) form.now) }
     ensures form { IsForm (modulus width) form.now → IfOk result (IsForm (modulus width)) }
@@ -136,7 +135,7 @@ fn opposite_of(cond: CondForm) -> CondForm
     }
 }
 
-/// That a form is 0.
+/// Returns the condition that a form is 0.
 pub(crate) fn zero_cond(alloc: Global, width: Width, form: Form) -> Result<CondForm, NoMemory>
     ensures { IfOk result (λ b. b ≡ zero_form (modulus width) form) }
 {
@@ -152,7 +151,7 @@ fn is_this(form: &Form, number: u64) -> bool
     form.terms.is_empty() && form.constant == number
 }
 
-// That one form is less than another, where one of them is not constant.
+// Returns the condition that one form is less than another, if one of them is not constant.
 fn varying_less_cond(
     alloc: Global,
     width: Width,
@@ -176,7 +175,7 @@ fn varying_less_cond(
     Ok(CondForm::Pos(Atomic::Less(left, right)))
 }
 
-/// That one form is less than another.
+/// Returns the condition that one form is less than another.
 pub(crate) fn less_cond(
     alloc: Global,
     width: Width,
@@ -198,7 +197,7 @@ fn equal_cond(alloc: Global, width: Width, left: Form, right: Form) -> Result<Co
     zero_cond(alloc, width, form)
 }
 
-// The form of a comparison of two forms.
+// Returns the normal form of a comparison of two forms.
 fn comparison_form(
     alloc: Global,
     width: Width,
@@ -232,7 +231,7 @@ fn comparison_of(
     comparison_form(alloc, width, rel, left, right)
 }
 
-/// The normal form of a comparison of two expressions. It holds in the same stores of the width as the
+/// Returns the normal form of a comparison of two expressions. It holds in the same stores of the width as the
 /// comparison. Fails only when out of memory.
 pub fn normal_cond(
     alloc: Global,

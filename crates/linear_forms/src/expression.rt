@@ -39,9 +39,8 @@ pub(crate) fn normal_of(alloc: Global, width: Width, expr: &Expr) -> Result<Form
     }
 }
 
-/// The normal form of an expression: a sum of terms, in which the product of two forms that are not constant is
-/// a monomial of its own. It has the value of the expression in every store of the width. The only refusal is
-/// out of memory.
+/// Returns the normal form of an expression: a sum of terms, in which a product of two forms that are not constant is a
+/// monomial. It has the value of the expression in every store of the width. Fails only when out of memory.
 pub fn normal(alloc: Global, width: Width, expr: &Expr) -> Result<Form, NoMemory>
     ensures exact { IfOk result (λ f. f ≡ normal_form (modulus width) (expr_tree expr.now)) }
     ensures form { IfOk result (IsForm (modulus width)) }
@@ -60,7 +59,7 @@ fn mono_value(width: Width, mono: &Mono, store: &[u64]) -> u64
     }
 }
 
-/// The value of a form in a store, modulo 2 to the width. A variable that the store does not have is 0.
+/// Returns the value of a form in a store, modulo 2 to the width. An undefined variable is 0.
 #[cycle(values)]
 pub fn value(width: Width, form: &Form, store: &[u64]) -> u64
     ensures { result ≡ form_value (modulus width) store.now form.now }

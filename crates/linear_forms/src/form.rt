@@ -7,7 +7,7 @@ use kat_model::NoMemory;
 use std::alloc::Global;
 use std::marker::Model;
 
-/// What a term counts: a variable, numbered from 0, or a product of two forms that is not multiplied out.
+/// A monomial: a variable, numbered from 0, or a product of two forms that is not multiplied out.
 #[cycle(form)]
 #[derive(Drop)]
 pub enum Mono {
@@ -44,8 +44,8 @@ impl Model for Term {
     ghost size_decreases = { λ a h. Prim.omega (arith, mono_falls a.mono) };
 }
 
-/// A sum of terms and a constant. The arithmetic of this crate keeps it so: the monomials strictly ascending, the
-/// coefficients other than 0, each number below 2 to the width, and in a product two forms that are not
+/// A sum of terms and a constant. The arithmetic of this crate keeps these conditions: the monomials are strictly
+/// ascending, the coefficients are not 0, each number is below 2 to the width, and the two forms of a product are not
 /// constant, the lesser first.
 #[cycle(form)]
 #[derive(Drop)]
@@ -79,7 +79,7 @@ pub(crate) fn boxed_form(alloc: Global, form: Form) -> Result<Box<Form>, NoMemor
     Ok(Box::new(alloc, form)?)
 }
 
-// One more term at the end.
+// Appends a term.
 pub(crate) fn push_term(terms: &mut Vec<Term>, mono: Mono, times: u64) -> Result<(), NoMemory>
     ensures { OnOk result (terms.new.items ≡ terms.old.items ++ (mono_tree mono, times) ∷ []) }
 {
@@ -101,7 +101,7 @@ pub(crate) fn copy_mono(alloc: Global, mono: &Mono) -> Result<Mono, NoMemory>
 }
 
 impl Form {
-    /// The same form again. Fails only when out of memory.
+    /// Returns a copy of the form. Fails only when out of memory.
     #[cycle(copies)]
     pub fn copy(&self, alloc: Global) -> Result<Form, NoMemory>
         ensures { IfOk result (λ f. f ≡ self.now) }
@@ -117,7 +117,7 @@ impl Form {
     }
 }
 
-// The form that is one variable.
+// Returns the form that is one variable.
 pub(crate) fn variable(alloc: Global, k: usize) -> Result<Form, NoMemory>
     ensures { IfOk result (λ f. f ≡ form_of_var k) }
 {
@@ -136,8 +136,8 @@ fn mono_size(mono: &Mono) -> u64
     }
 }
 
-/// How many nodes a form has: one, and for each term one for a variable, or one and the nodes of both forms of
-/// a product. The count stops at `u64::MAX`.
+/// Returns the number of nodes of a form, saturated at `u64::MAX`: one, and for each term one for a variable, or one
+/// and the nodes of both forms of a product.
 #[cycle(sizes)]
 pub fn form_size(form: &Form) -> u64
     ensures { result ≡ min (form_nodes form.now) (2 ^ 64 - 1) }

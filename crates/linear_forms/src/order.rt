@@ -6,7 +6,7 @@ ghost use Rattle.linear_forms.specs.Views.{mono_tree};
 use crate::form::{Form, Mono};
 use std::cmp::Ordering;
 
-/// The order of monomials: variables before products, by number; products by their first form, then by their
+/// Returns the order of monomials: variables before products, by number; products by their first form, then by their
 /// second.
 #[cycle(orders)]
 pub(crate) fn cmp_mono(left: &Mono, right: &Mono) -> Ordering
@@ -20,7 +20,7 @@ pub(crate) fn cmp_mono(left: &Mono, right: &Mono) -> Ordering
     }
 }
 
-/// The order of forms: as lists of terms, monomial before coefficient, a proper prefix being less; then by
+/// Returns the order of forms: as lists of terms, monomial before coefficient, a proper prefix being less; then by
 /// constant.
 #[cycle(orders)]
 pub(crate) fn cmp_form(left: &Form, right: &Form) -> Ordering
@@ -41,7 +41,7 @@ pub(crate) fn cmp_form(left: &Form, right: &Form) -> Ordering
         .then(left.constant.cmp(&right.constant))
 }
 
-/// Whether two forms are the same tree. Takes no memory.
+/// Returns whether two forms are the same tree. Takes no memory.
 pub fn same_form(left: &Form, right: &Form) -> bool
     ensures { IsTrue result ↔ (left.now ≡ right.now) }
 {

@@ -37,7 +37,7 @@ fn replace_mono(
     }
 }
 
-// The normal form of a form with another in place of a variable. The terms are added from the last on.
+// Returns the normal form of a form with another form in place of a variable. Adds the terms from the last one on.
 #[cycle(replaced)]
 fn replace(
     alloc: Global,
@@ -82,11 +82,11 @@ fn substitute_in(
     }
 }
 
-/// The normal form of a comparison with a form in place of a variable, in products too. It holds in a store of
-/// the width exactly where the comparison holds in the store in which the variable is set to the value of the
-/// form. Where the form in place of the variable is kept as [`Form`] says, so are the forms of the result. The
-/// only failure is out of memory. The use of stack grows with the depth of the products in the result: a result
-/// of a million nodes in which products stand 998 deep is tested.
+/// Returns the normal form of a comparison with a form in place of a variable, also in products. It holds in a store of
+/// the width exactly when the comparison holds in the store in which the variable is set to the value of the form. If
+/// the form in place of the variable satisfies the conditions at [`Form`], so do the forms of the result. Fails only
+/// when out of memory. The use of stack grows with the depth of the products in the result: a result of a million nodes
+/// with products of depth 998 is tested.
 pub fn subst(
     alloc: Global,
     width: Width,

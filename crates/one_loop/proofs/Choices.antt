@@ -1,18 +1,18 @@
--- A choice among the last blocks of a list, as they are taken from it.
+-- A choice among the last blocks of a list, which are removed from the list.
 use Rattle.std.proofs.Common.{◌≡◌, ℕ, ◌+◌, ◌-◌, ◌<◌, ◌≤◌, List, [], ◌∷◌, ◌++◌, length, take, drop, sym, ap, ◌∙◌, subst, arith}
 use Rattle.std.proofs.lemmas.List.{drop_all, drop_at, drop-take, drop-drop, length-take, length-drop, length_push}
 use Rattle.while_lang.specs.Programs.{ProgTree, empty, branch_then}
 use Rattle.one_loop.specs.Working.Blocks.{Chooses, no_block, one_block, two_parts, is_below}
 
 module _ (v : ℕ) where
-  -- of no block
+  -- the choice of no block
   pub none_chosen : (blocks : List ProgTree) (len count : ℕ) (p : ProgTree) → len ≡ length blocks → count ≡ 0 → p ≡ empty →
       Chooses v (len - count + 1) (drop (len - count) blocks) p
   none_chosen blocks len count p n none is =
       let past : drop (len - count) blocks ≡ [] = drop_all (len - count) blocks (omega (arith, n, none)) in
       rw (past, is) (no_block (len - count + 1))
 
-  -- of the last block alone
+  -- the choice of only the last block
   pub one_chosen : (blocks rest : List ProgTree) (len count : ℕ) (p : ProgTree) → len ≡ length blocks → count ≡ 1 → blocks ≡ rest ++ p ∷ [] →
       Chooses v (len - count + 1) (drop (len - count) blocks) p
   one_chosen blocks rest len count p n one is =
@@ -20,7 +20,7 @@ module _ (v : ℕ) where
       let last : drop (len - count) blocks ≡ p ∷ [] = ap (drop (len - count)) is ∙ drop_at rest (p ∷ []) (len - count) m in
       rw (last) (one_block (len - count + 1) p)
 
-  -- of two parts, the later one taken first
+  -- the choice of two parts; the second part is removed first
   pub two_chosen : (blocks rest : List ProgTree) (len left count half : ℕ) (p q r : ProgTree) → len ≡ length blocks → left ≡ length rest → count ≤ len → half < count →
       rest ≡ take (len - (count - half)) blocks →
       Chooses v (len - (count - half) + 1) (drop (len - (count - half)) blocks) q → Chooses v (left - half + 1) (drop (left - half) rest) p →

@@ -1,4 +1,4 @@
--- What a form means.
+-- The meaning of a form.
 use Rattle.std.proofs.Common.{◌≡◌, ℕ, zero, suc, ◌+◌, ◌<◌, ◌↔◌, inl, inr, List, [], ◌∷◌, ◌++◌, length, Some, refl, sym, ap, ◌∙◌, subst, arith}
 use Rattle.std.specs.List.{slice_get}
 use Rattle.std.proofs.lemmas.List.{length_push}
@@ -11,7 +11,7 @@ use Rattle.while_lang.specs.Runs.{Ends}
 use Rattle.one_loop.specs.Forms.{IsStoreOf, with_counter, IsOneForm}
 use Rattle.one_loop.proofs.KeptStores.{goes_kept}
 
--- a store whose last variable is known is one with that counter
+-- a store whose last variable is known is a store with that counter
 split_last : (u : Store) (v c : ℕ) → length u ≡ v + 1 → slice_get u v ≡ Some c → (t : Store) × (u ≡ with_counter t c) × (length t ≡ v)
 split_last [] v c len at = absurd (omega (arith, len))
 split_last (x ∷ []) zero c len at = ([], ap (λ n. n ∷ []) (same_Some x c at), refl)
@@ -21,7 +21,7 @@ split_last (x ∷ u) (suc v) c len at =
     (x ∷ rest.0, ap (λ (s : Store). x ∷ s) rest.1, ap suc rest.2)
 
 module _ (w : Width) where
-  -- a store with a counter of the width is a store, and so is what stands before the counter
+  -- a store with a counter below 2 to the width is a store, and so is the part before the counter
   counter_is_store : (s : Store) (c : ℕ) → IsStore w s → c < modulus w → IsStore w (with_counter s c)
   counter_is_store [] c is number n (inl e) = subst (λ (m : ℕ). m < modulus w) e number
   counter_is_store [] c is number n (inr h) = absurd h

@@ -1,4 +1,4 @@
--- Runs lead from stores to stores of as many variables.
+-- Runs lead from stores to stores with equally many variables.
 use Rattle.std.proofs.Common.{◌≡◌, ℕ, zero, suc, ◌+◌, ◌<◌, ◌⊎◌, inl, inr, List, [], ◌∷◌, ◌++◌, length, set, Bool, true, false, refl, sym, ap, ◌∙◌, subst, arith}
 use Rattle.std.proofs.lemmas.List.{length-set}
 use Rattle.kat_model.specs.Members.{Has}
@@ -10,7 +10,7 @@ use Rattle.while_lang.specs.Runs.{condition, Chosen, Leaves, Turns, Goes}
 use Rattle.while_lang.proofs.StoreValues.{set_is_store}
 
 module _ (w : Width) where
-  -- a store of as many variables
+  -- a store with equally many variables
   abbrev pub Keeps : Store → Store → Type 0
   Keeps s u = IsStore w u × (length u ≡ length s)
 

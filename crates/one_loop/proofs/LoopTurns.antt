@@ -19,7 +19,7 @@ use Rattle.one_loop.specs.Working.Blocks.{jump, block_of, is_below, Chooses, no_
 use Rattle.one_loop.proofs.Counters.{counter_value, counter_set, point_number, value_kept, holds_kept, set_kept}
 use Rattle.one_loop.proofs.TurnShapes.{IsPointWithin}
 
--- a choice alone, without a statement after it
+-- the cases of a choice
 branch_parts : {A B : Type 0} (x : Bool) → Chosen x A B → ((x ≡ true) × A) ⊎ ((x ≡ false) × B)
 branch_parts true h = inl (refl, h)
 branch_parts false h = inr (refl, h)
@@ -27,13 +27,13 @@ branch_parts false h = inr (refl, h)
 -- ---- stores of v variables and a counter
 
 module _ (w : Width) (v m : ℕ) (fits : m < modulus w) where
-  -- the counter is set to a point
+  -- setting the counter to a point
   pub jumped : (s : Store) (c n : ℕ) → length s ≡ v → n ≤ m → set (with_counter s c) v (value w (with_counter s c) (number n)) ≡ with_counter s n
   jumped s c n len le =
       let same : value w (with_counter s c) (number n) ≡ n = mod-eq_of_lt (omega (arith, le, fits)) in
       ap (set (with_counter s c) v) same ∙ counter_set v c n s len
 
-  -- a variable is set, and then the counter
+  -- setting a variable, then the counter
   set_and_jumped : (s : Store) (c x a n : ℕ) → length s ≡ v → x < v → n ≤ m → set (set (with_counter s c) x a) v (value w (set (with_counter s c) x a) (number n)) ≡ with_counter (set s x a) n
   set_and_jumped s c x a n len less le =
       let kept : set (with_counter s c) x a ≡ with_counter (set s x a) c = set_kept v c x a s len less in
@@ -41,7 +41,7 @@ module _ (w : Width) (v m : ℕ) (fits : m < modulus w) where
 
   -- ---- the block of a point
 
-  -- a step of the machine as a step of its block
+  -- a step of the machine is a run of its block
   pub block_goes : (point : Point) (s : Store) (c k : ℕ) (t : Store) → length s ≡ v → IsPointWithin v m point → Steps w point s k t → Goes w (block_of v point) (with_counter s c) 0 (with_counter t k)
   block_goes (passes next) s c k t len h (e, f) = (refl, rw (e, f) (sym (jumped s c next len h)))
   block_goes stops s c k t len h step = elim step [ ]
@@ -64,7 +64,7 @@ module _ (w : Width) (v m : ℕ) (fits : m < modulus w) where
       by_truth true d = (refl, rw (e, f, d) (sym (jumped s c met len h.2)))
       by_truth false d = (refl, rw (e, f, d) (sym (jumped s c unmet len h.3)))
 
-  -- a step of the machine, and the store and the counter that it leads to
+  -- a step of the machine, with the store and the counter after it
   abbrev pub Stepping : Point → Store → Store → Type 0
   Stepping point s u = (k : ℕ) × (t : Store) × Steps w point s k t × (u ≡ with_counter t k) × (k ≤ m) × (length t ≡ v)
 
@@ -86,7 +86,7 @@ module _ (w : Width) (v m : ℕ) (fits : m < modulus w) where
 
 -- ---- the choice
 
--- what stands at a place of the first part of a list, and of the rest
+-- the element at a position of a prefix of a list, and of the rest
 get_take : {X : Type 0} (xs : List X) (j i : ℕ) → i < j → slice_get (take j xs) i ≡ slice_get xs i
 get_take xs zero i less = absurd (omega (arith, less))
 get_take [] (suc j) i less = refl
@@ -101,7 +101,7 @@ get_drop (x ∷ xs) (suc j) i =
     get_drop xs j i ∙ ap (slice_get (x ∷ xs)) (sym next)
 
 module _ (w : Width) where
-  -- a branch alone is run as the part that its condition chooses
+  -- a branch with no statement after it runs as the part that its condition chooses
   branch_true : (b : CondTree) (p q : ProgTree) (s : Store) → holds w s b ≡ true → (k : ℕ) (u : Store) → Goes w (branch_then b p q empty) s k u ↔ Goes w p s k u
   branch_true b p q s h k u = (there, back)
     where
@@ -127,11 +127,11 @@ module _ (w : Width) where
       back goes = (k, 0, u, subst (λ x. Chosen x (Goes w p s k u) (Goes w q s k u)) (sym h) goes, (refl, refl), omega arith)
 
 module _ (w : Width) (v m : ℕ) (fits : m < modulus w) where
-  -- the test of a choice
+  -- the test of a choice compares the counter with a number
   below_tested : (s : Store) (c n : ℕ) → length s ≡ v → n ≤ m → holds w (with_counter s c) (is_below v n) ≡ nat_lt c n
   below_tested s c n len le = ap₂ nat_lt (counter_value w v c s len) (point_number w (with_counter s c) n (omega (arith, le, fits)))
 
-  -- a choice is run as the block that the counter chooses
+  -- a choice runs as the block that the counter chooses
   choice_runs : (first : ℕ) (blocks : List ProgTree) (q : ProgTree) → Chooses v first blocks q → first + length blocks ≤ m + 1 →
       (s : Store) (c i : ℕ) (block : ProgTree) → length s ≡ v → c ≡ first + i → slice_get blocks i ≡ Some block →
       (k : ℕ) (u : Store) → Goes w q (with_counter s c) k u ↔ Goes w block (with_counter s c) k u
@@ -171,12 +171,12 @@ module _ (w : Width) (v m : ℕ) (fits : m < modulus w) where
 
 module _ (w : Width) (v m : ℕ) (fits : m < modulus w) (points : List Point) (many : length points ≡ m) (within : All (IsPointWithin v m) points)
     (body : ProgTree) (chooses_points : Chooses v 1 (map (block_of v) points) body) where
-  -- the loop goes on as long as the counter is not at the end
+  -- the loop continues as long as the counter is not 0
   going_tested : (s : Store) (c : ℕ) → length s ≡ v → holds w (with_counter s c) (is_going v) ≡ not (nat_eq c 0)
   going_tested s c len =
       ap₂ (λ x y. not (nat_eq x y)) (counter_value w v c s len) (point_number w (with_counter s c) 0 (omega (arith, fits)))
 
-  -- a turn at a point is its block
+  -- a turn at a point runs its block
   turn_runs : (s : Store) (j : ℕ) (point : Point) → length s ≡ v → slice_get points j ≡ Some point →
       (k : ℕ) (u : Store) → Goes w body (with_counter s (suc j)) k u ↔ Goes w (block_of v point) (with_counter s (suc j)) k u
   turn_runs s j point len at k u =
@@ -192,7 +192,7 @@ module _ (w : Width) (v m : ℕ) (fits : m < modulus w) (points : List Point) (m
   abbrev pub Looping : ℕ → Store → ℕ → Store → Type 0
   Looping n s k u = Turns n (condition w (is_going v)) (Goes w body) (Leaves (condition w (is_going v))) s k u
 
-  -- steps of the machine are turns of the loop
+  -- the steps of the machine are turns of the loop
   pub halts_turns : (n k : ℕ) (s t : Store) → length s ≡ v → Halts w points n k s t → (i : ℕ) × Looping n (with_counter s k) i (with_counter t 0)
   halts_turns zero k s t len (e, f) =
       let stopped : not (nat_eq k 0) ≡ false = rw (e) refl in
@@ -212,7 +212,7 @@ module _ (w : Width) (v m : ℕ) (fits : m < modulus w) (points : List Point) (m
       steps_length (sets x a next) s k u (e, f) = ap length f ∙ length-set s x (value w s a)
       steps_length (chooses b met unmet) s k u (e, f) = ap length f
 
-  -- turns of the loop are steps of the machine, and the counter ends as 0
+  -- the turns of the loop are steps of the machine, and the counter is 0 at the end
   pub turns_halt : (n k : ℕ) (s : Store) (i : ℕ) (u : Store) → length s ≡ v → k ≤ m → Looping n (with_counter s k) i u → (t : Store) × (u ≡ with_counter t 0) × Halts w points n k s t × (length t ≡ v)
   turns_halt zero k s i u len le (left, (none, stays)) =
       let over : not (nat_eq k 0) ≡ false = sym (going_tested s k len) ∙ left in

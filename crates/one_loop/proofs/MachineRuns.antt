@@ -1,4 +1,4 @@
--- A run of a program is a run of its machine, and the other way round.
+-- A run of a program is a run of its machine, and conversely.
 use Rattle.std.proofs.Common.{◌≡◌, ℕ, zero, suc, ◌+◌, ◌<◌, ◌≤◌, ◌↔◌, List, [], ◌∷◌, ◌++◌, length, set, Bool, true, false, if◌then◌else◌, Option, Some, refl, sym, ap, ◌∙◌, subst, arith}
 use Rattle.std.specs.List.{slice_get}
 use Rattle.std.proofs.lemmas.Option.{same_Some}
@@ -11,9 +11,9 @@ use Rattle.while_lang.specs.Runs.{condition, Chosen, Leaves, Turns, Loops, Goes,
 use Rattle.one_loop.specs.Working.Machine.{Point, passes, stops, checks, sets, chooses, Steps, IsPointAt, Halts, start_of, points_of}
 use Rattle.one_loop.proofs.PointLists.{length_points}
 
--- ---- where points stand
+-- ---- the positions of points
 
--- the points of a program stand behind so many others
+-- the points of a program occur in `points` after `before` others
 abbrev pub IsLaid : List Point → ProgTree → ℕ → ℕ → Type 0
 IsLaid points empty before next = Unit {0}
 IsLaid points (skip_then rest) before next =
@@ -38,7 +38,7 @@ IsLaid points (loop_then b p rest) before next =
     ≡ Some (chooses b (start_of p (before + statements rest + 1) (before + statements rest + 1)) (start_of rest before next)))
     × IsLaid points p (before + statements rest + 1) (before + statements rest + 1)
 
--- the points of one list are those of another from a place on
+-- the points of `part` occur in `points` from position `before` on
 abbrev pub IsPart : List Point → List Point → ℕ → Type 0
 IsPart points part before = (k : ℕ) (point : Point) → slice_get part k ≡ Some point → slice_get points (before + k) ≡ Some point
 
@@ -70,7 +70,7 @@ part_head points ys x before part =
 part_tail : (points ys : List Point) (x : Point) (before : ℕ) → IsPart points (x ∷ ys) before → IsPart points ys (before + 1)
 part_tail points ys x before part = part_right points (x ∷ []) ys before 1 refl part
 
--- what is at the end of a part
+-- the last point of a part
 part_last : (points xs : List Point) (x : Point) (before n : ℕ) → length xs ≡ n → IsPart points (xs ++ x ∷ []) before → slice_get points (before + n) ≡ Some x
 part_last points xs x before n len part = part_head points [] x (before + n) (part_right points xs (x ∷ []) before n len part)
 
@@ -110,27 +110,27 @@ laid points (loop_then b p rest) before next part =
 
 -- ---- runs
 
--- the number of the point at a place
+-- the number of the point at a position
 at_place : (points : List Point) (n : ℕ) (point : Point) → slice_get points n ≡ Some point → IsPointAt points (n + 1) point
 at_place points n point h =
     let number : suc n ≡ n + 1 = omega arith in
     subst (λ k. IsPointAt points k point) number h
 
--- there is one point at a number, and the end has none
+-- a number has at most one point
 same_point : (points : List Point) (n : ℕ) (a b : Point) → slice_get points n ≡ Some a → IsPointAt points (n + 1) b → a ≡ b
 same_point points n a b h k =
     let number : n + 1 ≡ suc n = omega arith in
     same_Some a b (sym h ∙ subst (λ i. IsPointAt points i b) number k)
 
 module _ (w : Width) (points : List Point) where
-  -- some steps lead from the point k and the store s to the end and the store t
+  -- some number of steps leads from the point k and the store s to the end and the store t
   abbrev pub EndsFrom : ℕ → Store → Store → Type 0
   EndsFrom k s t = (n : ℕ) × Halts w points n k s t
 
   step_first : (n next : ℕ) (point : Point) (s u t : Store) → slice_get points n ≡ Some point → Steps w point s next u → EndsFrom next u t → EndsFrom (n + 1) s t
   step_first n next point s u t at step later = (suc later.0, (point, next, u, at_place points n point at, step, later.1))
 
-  -- the machine goes where the run of the program does
+  -- the machine follows the run of the program
   turns_run : (b : CondTree) (p : ProgTree) (own leave k : ℕ) (t : Store) →
       slice_get points own ≡ Some (chooses b k leave) →
       ((s : Store) (i : ℕ) (u : Store) → Goes w p s i u → EndsFrom (own + 1) u t → EndsFrom k s t) →
@@ -177,9 +177,9 @@ module _ (w : Width) (points : List Point) where
       turns_run b p own f (start_of p (own + 1) (own + 1)) t is.1 (λ x h y g k. run_machine p (own + 1) (own + 1) is.2 x h y t g k) n s j r turns
       (run_machine rest before next is.0 r l u t goes later)
 
-  -- ---- the run of the program goes where the machine does
+  -- ---- the run of the program follows the machine
 
-  -- the first step of a run that does not stand at the end
+  -- the first step of a run that does not begin at the end
   abbrev Stepped : ℕ → Point → Store → Store → Type 0
   Stepped n point s t = (m : ℕ) × (next : ℕ) × (u : Store) × (m < n) × Steps w point s next u × Halts w points m next u t
 
@@ -188,7 +188,7 @@ module _ (w : Width) (points : List Point) where
   step_back (suc m) own point s t at (other, next, u, there, step, later) =
       (m, next, u, omega arith, subst (λ x. Steps w x s next u) (sym (same_point points own point other at there)) step, later)
 
-  -- a run of a program, and then at most so many steps from the point that follows
+  -- a run of a program, then at most n steps from the point that follows
   abbrev Came : ℕ → (Store → ℕ → Store → Type 0) → ℕ → Store → Store → Type 0
   Came n R next s t = (i : ℕ) × (u : Store) × R s i u × (m : ℕ) × (m ≤ n) × Halts w points m next u t
 
@@ -272,12 +272,12 @@ module _ (w : Width) (points : List Point) where
       let run = machine_run rest before next is.0 first.3 first.1 t first.5 in
       (first.0 + run.0, run.1, (first.0, run.0, first.1, first.2, run.2, refl), run.3, omega (arith, run.4, first.4), run.5)
 
-  -- nothing follows the end
+  -- no step is possible from the end
   pub at_end : (n : ℕ) (u t : Store) → Halts w points n 0 u t → t ≡ u
   at_end zero u t (none, stays) = stays
   at_end (suc n) u t (point, next, r, there, step, later) = absurd there
 
--- a program ends exactly where its machine does
+-- a program ends exactly when its machine does
 pub machine_ends : (w : Width) (p : ProgTree) (s t : Store) → Ends w p s t ↔ EndsFrom w (points_of p 0 0) (start_of p 0 0) s t
 machine_ends w p s t =
     let points = points_of p 0 0 in

@@ -8,7 +8,7 @@ use Rattle.while_lang.specs.declared.prog.Stmt.{Stmt}
 use Rattle.one_loop.specs.Working.Machine.{Point, chooses, points_of, start_of, stmt_points}
 use Rattle.one_loop.specs.Working.Blocks.{block_of}
 
--- there are as many points as statements
+-- the number of points is the number of statements
 pub length_points : (p : ProgTree) (before next : ℕ) → length (points_of p before next) ≡ statements p
 unfolding points_of
 length_points empty before next = refl
@@ -33,13 +33,13 @@ length_points (loop_then b p rest) before next =
     let b : length (points_of p m m) ≡ statements p = length_points p m m in
     length-append (points_of rest before next) _ ∙ omega (arith, a, b)
 
--- where no statement is left to be counted, the total is that of all
+-- when no statement is left to count, the total is the number of all statements
 pub all_counted : (total i : ℕ) (items : List Stmt) (p : ProgTree) → length items ≤ i → total + statements (list_tree (drop i items)) ≡ statements (list_tree items) → list_tree items ≡ p → total ≡ statements p
 all_counted total i items p past whole is =
     let none : statements (list_tree (drop i items)) ≡ 0 = ap (λ (ss : List Stmt). statements (list_tree ss)) (drop_all i items past) in
     omega (arith, none, whole, ap statements is)
 
--- a statement before others
+-- a statement prepended to others
 pub points_with : (s : StmtTree) (rest : ProgTree) (before next : ℕ) →
     points_of (with_stmt s rest) before next ≡ points_of rest before next ++ stmt_points s (before + statements rest) (start_of rest before next)
 unfolding points_of
@@ -75,12 +75,12 @@ module _ (v : ℕ) where
   abbrev blocks : ProgTree → ℕ → ℕ → List ProgTree
   blocks p before next = map (block_of v) (points_of p before next)
 
-  -- the blocks behind a list of blocks
+  -- the number of blocks after the blocks of a program are appended
   pub length_behind : (xs : List ProgTree) (p : ProgTree) (before next : ℕ) → length (xs ++ blocks p before next) ≡ length xs + statements p
   length_behind xs p before next =
       length-append xs (blocks p before next) ∙ ap (λ n. length xs + n) (length-map (points_of p before next) (block_of v) ∙ length_points p before next)
 
-  -- before any statement is added
+  -- the blocks before any statement is added
   pub none_added : (old : List ProgTree) (items : List Stmt) (i before next : ℕ) → length items ≤ i → old ≡ old ++ blocks (list_tree (drop i items)) before next
   none_added old items i before next past =
       rw (drop_all i items past, none_points before next) (sym (append-nil old))
@@ -88,13 +88,13 @@ module _ (v : ℕ) where
   pub start_none : (items : List Stmt) (i before next : ℕ) → length items ≤ i → next ≡ start_of (list_tree (drop i items)) before next
   start_none items i before next past = rw (drop_all i items past) (sym (none_start before next))
 
-  -- the statement before those that were added
+  -- the statement before the statements added so far
   one_more : (items : List Stmt) (i : ℕ) (s : Stmt) → 0 < i → i ≤ length items → s ≡ get_or items (i - 1) s → list_tree (drop (i - 1) items) ≡ with_stmt (stmt_tree s) (list_tree (drop i items))
   one_more items i s some within is =
       let next : i - 1 + 1 ≡ i = omega (arith, some) in
       ap list_tree (drop_more items (i - 1) s (omega (arith, some, within))) ∙ rw (← is, next) refl
 
-  -- one more statement, before those that were added; `len` is their number
+  -- adds a statement before the statements added so far; `len` is the number of blocks so far
   pub added_more : (old now new : List ProgTree) (items : List Stmt) (i : ℕ) (s : Stmt) (before len follow next : ℕ) → before ≡ length old → len ≡ length now →
       0 < i → i ≤ length items → s ≡ get_or items (i - 1) s →
       follow ≡ start_of (list_tree (drop i items)) before next → now ≡ old ++ blocks (list_tree (drop i items)) before next →
@@ -114,7 +114,7 @@ module _ (v : ℕ) where
       let n : len ≡ before + statements rest = count ∙ ap length had ∙ length_behind old rest before next ∙ ap (λ k. k + statements rest) (sym size) in
       told ∙ ap (λ k. k + 1) n ∙ sym (start_with (stmt_tree s) rest before next) ∙ ap (λ p. start_of p before next) (sym (one_more items i s some within is))
 
-  -- the place of a statement's own block is filled when those of its blocks are there
+  -- the block of a statement itself is filled in after the blocks of its body are added
   pub loop_added : (old placed grown : List ProgTree) (b : CondTree) (p : ProgTree) (before own len number inside next : ℕ) (block : ProgTree) →
       before ≡ length old → own ≡ before → len ≡ length placed →
       placed ≡ old ++ empty ∷ [] → number ≡ before + 1 → inside ≡ start_of p len number → grown ≡ placed ++ blocks p len number →

@@ -1,4 +1,5 @@
--- What stands in the loop of a form: no loop, no named test and no named action, and the counter is the one variable more.
+-- The shape of the loop body of a form: it has no loop, no named test and no named action, and the counter is its only
+-- additional variable.
 use Rattle.std.proofs.Common.{◌≡◌, ℕ, ◌+◌, ◌<◌, ◌≤◌, List, [], ◌∷◌, ◌++◌, length, map, take, drop, true, false, ◌&&◌, refl, sym, ap, ◌∙◌, arith}
 use Rattle.std.specs.List.{All}
 use Rattle.std.proofs.lemmas.Bool.{and_parts, and_from, false≢true}
@@ -12,7 +13,7 @@ use Rattle.one_loop.specs.Working.Blocks.{jump, block_of, is_below, Chooses, no_
 
 -- ---- points
 
--- no named test is asked at the point, its variables are below v, and the points that follow are at most m
+-- the point has no named test, its variables are below v, and the points that follow it are at most m
 abbrev pub IsPointWithin : ℕ → ℕ → Point → Type 0
 IsPointWithin v m (passes next) = next ≤ m
 IsPointWithin v m stops = Unit {0}
@@ -79,7 +80,7 @@ module _ (v m : ℕ) where
 
 -- ---- turns
 
--- one variable more
+-- an additional variable
 expr_more : (v : ℕ) (e : ExprTree) → ExprHasVarsBelow v e → ExprHasVarsBelow (v + 1) e
 expr_more v (number n) h = tt
 expr_more v (variable k) h = omega (arith, h)
@@ -96,7 +97,7 @@ cond_more v (negation b) h = cond_more v b h
 cond_more v (both b d) h = (cond_more v b h.0, cond_more v d h.1)
 cond_more v (either b d) h = (cond_more v b h.0, cond_more v d h.1)
 
--- what may stand in the loop of a form whose counter is v
+-- a possible loop body of a form whose counter is v
 pub record IsTurn (v : ℕ) (p : ProgTree) : Type 0 where
   pub straight : loops p ≡ 0
   pub concrete : is_concrete p ≡ true
@@ -135,7 +136,7 @@ choice_is_turn v _ _ _ (two_parts first i blocks p r less c d) h =
       variables = ((counter_below v, tt), a.variables, b.variables, tt);
     }
 
--- the form itself
+-- the form has exactly one loop
 pub one_loop_only : (v start : ℕ) (body : ProgTree) → IsTurn v body → loops (loop_from v start body) ≡ 1
 one_loop_only v start body h = omega (arith, h.straight)
 

@@ -1,4 +1,4 @@
--- The loop over the points of a program is its form.
+-- The loop over the points of a program is a form of the program.
 use Rattle.std.proofs.Common.{◌≡◌, ℕ, ◌+◌, ◌<◌, ◌≤◌, ◌↔◌, List, [], ◌∷◌, ◌++◌, length, map, set, true, Some, refl, sym, ap, ◌∙◌, subst, arith}
 use Rattle.std.specs.List.{All, slice_get}
 use Rattle.std.proofs.lemmas.List.{same_from_push}
@@ -16,7 +16,7 @@ use Rattle.one_loop.proofs.MachineRuns.{EndsFrom, machine_ends}
 use Rattle.one_loop.proofs.TurnShapes.{IsPointWithin, points_within, start_within, blocks_are_turns, choice_is_turn, one_loop_only, form_is_concrete, form_variables}
 use Rattle.one_loop.proofs.LoopTurns.{jumped, halts_turns, turns_halt}
 
--- what is at the end of a list
+-- the element at the end of a list
 get_last : (s : Store) (v c : ℕ) → length s ≡ v → slice_get (with_counter s c) v ≡ Some c
 get_last [] v c len = rw (← len) refl
 get_last (x ∷ s) v c len = rw (← len) (get_last s (length s) c refl)
@@ -32,7 +32,7 @@ module _ (w : Width) (p : ProgTree) (v : ℕ) (concrete : is_concrete p ≡ true
   begun : start_of p 0 0 ≤ statements p
   begun = start_within (statements p) p 0 0 (omega arith) (omega arith)
 
-  -- the form begins at the first point, whatever the counter is
+  -- the form starts at the first point, whatever the counter is
   begins : (s : Store) (c : ℕ) → length s ≡ v → set (with_counter s c) v (value w (with_counter s c) (number (start_of p 0 0))) ≡ with_counter s (start_of p 0 0)
   begins s c len = jumped w v (statements p) fits s c (start_of p 0 0) len begun
 

@@ -1,4 +1,4 @@
--- The laws of forms. Each stands on a function of the crate that does nothing.
+-- The laws of forms. Each is the contract of a function of the crate that does nothing.
 use Rattle.std.specs.Prelude.{◌≡◌, ◌↔◌, ◌<◌, ℕ}
 use Rattle.kat_model.specs.Stores.{modulus, Store}
 use Rattle.kat_model.specs.declared.expression.Width.{Width}
@@ -6,7 +6,7 @@ use Rattle.while_lang.specs.Programs.{ProgTree}
 use Rattle.while_lang.specs.Runs.{Ends}
 use Rattle.one_loop.specs.Forms.{IsStoreOf, with_counter, IsOneForm}
 
--- a form ends in the stores in which its program does, with the counter 0 behind them, and in no others
+-- a form ends exactly in the stores in which its program does, followed by the counter 0
 abbrev pub FormsEndAsPrograms : Type 0
 FormsEndAsPrograms =
     (w : Width) (p q : ProgTree) (v : ℕ) → IsOneForm w p q v → (s u : Store) (c : ℕ) → IsStoreOf w v s → c < modulus w →

@@ -1,8 +1,8 @@
--- The loops of programs.
+-- The number of loops of programs.
 use Rattle.std.specs.Prelude.{ℕ, ◌+◌}
 use Rattle.while_lang.specs.Programs.{ProgTree, empty, skip_then, abort_then, assert_then, act_then, assign_then, branch_then, loop_then}
 
--- how many loops there are, those inside others among them
+-- the number of loops, including nested ones
 abbrev pub loops : ProgTree → ℕ
 loops empty = 0
 loops (skip_then rest) = loops rest

@@ -1,4 +1,4 @@
--- Programs over so many variables.
+-- Programs whose variables are below a bound.
 use Rattle.std.specs.Prelude.{ℕ, ◌<◌}
 use Rattle.kat_model.specs.Expressions.{ExprTree, number, variable, plus, minus, times, CondTree, always, never, named, compared, negation, both, either}
 use Rattle.while_lang.specs.Programs.{ProgTree, empty, skip_then, abort_then, assert_then, act_then, assign_then, branch_then, loop_then}

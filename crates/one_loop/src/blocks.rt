@@ -1,4 +1,4 @@
-//! The statements that a form does in a turn of its loop.
+//! The statements that a form runs in a turn of its loop.
 ghost use Rattle.std.specs.Prelude.{◌≡◌, IfOk};
 ghost use Rattle.kat_model.specs.Expressions.{cond_tree, expr_tree, number};
 ghost use Rattle.while_lang.specs.Programs.{empty, with_stmt, assign};
@@ -10,14 +10,14 @@ use kat_model::{Cond, Expr, NoMemory};
 use std::alloc::Global;
 use while_lang::{Prog, Stmt};
 
-// The counter is set to a point.
+// Builds the statement that sets the counter to a point.
 pub(crate) fn jump(counter: usize, point: u64) -> Stmt
     ensures { stmt_tree result ≡ assign counter (number point) }
 {
     Stmt::Assign(counter, Expr::Num(point))
 }
 
-// The program of one statement.
+// Builds the program of one statement.
 pub(crate) fn one_stmt(alloc: Global, stmt: Stmt) -> Result<Prog, NoMemory>
     ensures { IfOk result (λ p. p ≡ with_stmt (stmt_tree stmt) empty) }
 {
@@ -26,7 +26,7 @@ pub(crate) fn one_stmt(alloc: Global, stmt: Stmt) -> Result<Prog, NoMemory>
     Ok(Prog { list })
 }
 
-// The program of two statements.
+// Builds the program of two statements.
 pub(crate) fn two_stmts(alloc: Global, first: Stmt, second: Stmt) -> Result<Prog, NoMemory>
     ensures { IfOk result (λ p. p ≡ with_stmt (stmt_tree first) (with_stmt (stmt_tree second) empty)) }
 {
@@ -36,7 +36,7 @@ pub(crate) fn two_stmts(alloc: Global, first: Stmt, second: Stmt) -> Result<Prog
     Ok(Prog { list })
 }
 
-// The block of a check.
+// Builds the block of a check.
 pub(crate) fn check_block(
     alloc: Global,
     counter: usize,
@@ -49,7 +49,7 @@ pub(crate) fn check_block(
     two_stmts(alloc, check, jump(counter, next))
 }
 
-// The block that sets a variable.
+// Builds the block that sets a variable.
 pub(crate) fn set_block(
     alloc: Global,
     counter: usize,
@@ -63,7 +63,7 @@ pub(crate) fn set_block(
     two_stmts(alloc, set, jump(counter, next))
 }
 
-// The block that goes on at one of two points.
+// Builds the block that continues at one of two points.
 pub(crate) fn fork_block(
     alloc: Global,
     counter: usize,

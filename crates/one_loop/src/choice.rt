@@ -7,8 +7,8 @@ use kat_model::{Cond, Expr, NoMemory, Rel};
 use std::alloc::Global;
 use while_lang::{Prog, Stmt};
 
-// The choice among the last blocks of a list, which are taken from it. Blocks are numbered from 1. It tells the first half
-// from the rest, so that it nests by the logarithm of their number.
+// Builds the choice among the last blocks of a list, and removes them from the list. Blocks are numbered from 1. The
+// choice separates the first half from the rest, so its depth is logarithmic in the number of blocks.
 pub(crate) fn choice_of_last(
     alloc: Global,
     counter: usize,

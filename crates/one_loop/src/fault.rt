@@ -1,18 +1,18 @@
-//! Why a program has no form.
+//! The reasons why a program has no form.
 ghost use Rattle.std.specs.Prelude.{◌≡◌};
 ghost use Rattle.one_loop.specs.declared.fault.OneLoopFault.TheVariants.{NoMemory as NoRoom};
 
 use kat_model::NoMemory;
 
-/// Why there is no form of a program.
+/// The reason why a program has no form.
 #[derive(Clone, Copy, PartialEq, Eq, Debug)]
 pub enum OneLoopFault {
     /// Out of memory.
     NoMemory,
-    /// There are 64 variables, and no place for the counter.
+    /// There are 64 variables, which leaves no room for the counter.
     TooManyVars,
-    /// There are more statements than the greatest number of the width, inner ones counted. Their number is told, and stops
-    /// at `u64::MAX`.
+    /// There are more statements than the greatest number of the width, including nested ones. Holds their number, or
+    /// `u64::MAX` if it is larger.
     TooManyStatements(u64),
 }
 

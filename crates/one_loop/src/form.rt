@@ -15,10 +15,10 @@ use kat_model::{Cond, Expr, NoMemory, Rel, Width};
 use std::alloc::Global;
 use while_lang::{Prog, Stmt};
 
-/// The most variables of a program.
+/// The maximum number of variables of a program.
 const MAX_VARS: usize = 64;
 
-// The loop that begins at a point and is left at the end.
+// Builds the loop that starts at a point and stops at the end.
 fn loop_over(alloc: Global, counter: usize, start: u64, body: Prog) -> Result<Prog, NoMemory>
     ensures { IfOk result (λ p. p ≡ loop_from counter start body) }
 {
@@ -26,7 +26,7 @@ fn loop_over(alloc: Global, counter: usize, start: u64, body: Prog) -> Result<Pr
     two_stmts(alloc, jump(counter, start), Stmt::While(going, body))
 }
 
-// The loop over the points of a program.
+// Builds the loop over the points of a program.
 fn point_loop(alloc: Global, prog: &Prog, counter: usize) -> Result<Prog, NoMemory>
     ensures { IfOk result (λ p. IsPointLoop counter prog.now p) }
 {
@@ -37,11 +37,11 @@ fn point_loop(alloc: Global, prog: &Prog, counter: usize) -> Result<Prog, NoMemo
     loop_over(alloc, counter, start, body)
 }
 
-/// The form of a concrete program over so many variables, at most 64: a program with just one loop and one variable more,
-/// which ends in the same stores with that variable, its counter, behind them (Harel 1980; Kozen 1997). The counter has the
-/// next number, its value before does not matter, and it ends as 0. There is no form where there are 64 variables; else none
-/// where there are more statements than the greatest number of the width, blocks' statements counted. It fails otherwise
-/// only when out of memory.
+/// Builds the form of a concrete program over `vars` variables, at most 64: a program with exactly one loop and one
+/// additional variable, its counter, which ends in the same stores followed by the counter (Harel 1980; Kozen 1997).
+/// The counter is variable number `vars`; its initial value does not matter, and it is 0 at the end. Fails with
+/// `TooManyVars` if there are 64 variables, and otherwise with `TooManyStatements` if there are more statements than
+/// the greatest number of the width, including statements of blocks. Otherwise fails only when out of memory.
 pub fn one_loop(alloc: Global, prog: &Prog, vars: usize, width: Width) -> Result<Prog, OneLoopFault>
     requires concrete { is_concrete prog.now ≡ true }
     requires variables { HasVarsBelow vars prog.now }

@@ -1,8 +1,8 @@
 //! The law of forms. The function does nothing: its contract is the law.
 ghost use Rattle.one_loop.specs.Laws.{FormsEndAsPrograms};
 
-/// A form has one meaning: from a store of the program's variables, with any value of the counter, it ends in just those
-/// stores in which the program ends, with 0 behind them.
+/// A form has one meaning: from a store of the program's variables, with any value of the counter, it ends exactly in
+/// the stores in which the program ends, followed by 0.
 pub fn forms_end_as_programs()
     ensures { FormsEndAsPrograms }
 {}

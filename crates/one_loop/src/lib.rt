@@ -1,9 +1,10 @@
-//! One loop is enough: each program over variables has a form with just one loop and one variable more, which ends in the
-//! same stores (the folk theorem of while programs: Harel 1980; in Kleene algebra with tests Kozen 1997).
+//! One loop is enough: each program over variables has a form with exactly one loop and one additional variable, which
+//! ends in the same stores (the folk theorem of while programs: Harel 1980; in Kleene algebra with tests Kozen 1997).
 //!
-//! The statements of the program are numbered, from the last to the first, and those of blocks behind the statement that
-//! holds them. In the form, a counter holds the number of the statement that is to be done, and 0 stands for the end. The
-//! loop chooses it by halves, does it, and sets the counter to the number of the one that follows. Of
+//! The statements of the program are numbered from the last to the first, and the statements of blocks after the
+//! statement that contains them. In the form, a counter holds the number of the next statement, and 0 is the end. The
+//! loop finds the statement by bisection, runs it, and sets the counter to the number of the statement that follows. As
+//! an example, the form of
 //!
 //! ```text
 //! while (x < 3) {
@@ -11,7 +12,7 @@
 //! }
 //! ```
 //!
-//! the form is, with the counter `pc`,
+//! with the counter `pc` is
 //!
 //! ```text
 //! pc := 1;

@@ -1,4 +1,4 @@
-//! The points of a program, each as the block that a form does there.
+//! The points of a program, each as the block that a form runs there.
 ghost use Rattle.std.specs.Prelude.{◌≡◌, ◌+◌, [], ◌∷◌, ◌++◌, map, IfOk, OnOk, vec_len};
 ghost use Rattle.while_lang.specs.Programs.{empty};
 ghost use Rattle.while_lang.specs.ProgramViews.{stmt_tree};
@@ -10,7 +10,7 @@ use kat_model::NoMemory;
 use std::alloc::Global;
 use while_lang::{Prog, Stmt};
 
-// One more point, whose number is given.
+// Appends the block of a point, and returns the number of the point.
 fn push_block(blocks: &mut Vec<Prog>, block: Prog) -> Result<u64, NoMemory>
     ensures number { IfOk result (λ k. k ≡ vec_len blocks.old + 1) }
     ensures blocks { OnOk result (blocks.new.items ≡ blocks.old.items ++ block ∷ []) }
@@ -19,7 +19,7 @@ fn push_block(blocks: &mut Vec<Prog>, block: Prog) -> Result<u64, NoMemory>
     Ok(blocks.len() as u64)
 }
 
-// One more point, whose block is not known yet.
+// Appends a point whose block is not known yet, and returns its number.
 fn push_place(alloc: Global, blocks: &mut Vec<Prog>) -> Result<u64, NoMemory>
     ensures number { IfOk result (λ k. k ≡ vec_len blocks.old + 1) }
     ensures blocks { OnOk result (blocks.new.items ≡ blocks.old.items ++ empty ∷ []) }
@@ -28,7 +28,8 @@ fn push_place(alloc: Global, blocks: &mut Vec<Prog>) -> Result<u64, NoMemory>
     push_block(blocks, Prog { list })
 }
 
-// The points of a statement, its own before those of its blocks; a loop follows its block. The number of its own is given.
+// Appends the points of a statement, its own before those of its blocks, and returns the number of its own point. The
+// body of a loop is followed by the loop.
 #[cycle(points)]
 fn add_stmt(
     alloc: Global,
@@ -64,7 +65,7 @@ fn add_stmt(
     }
 }
 
-// The points of a program, its last statement first. The number at which it begins is given.
+// Appends the points of a program, its last statement first, and returns the number of the point at which it starts.
 #[cycle(points)]
 pub(crate) fn add_points(
     alloc: Global,

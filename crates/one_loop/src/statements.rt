@@ -19,7 +19,7 @@ fn stmt_count(stmt: &Stmt) -> Option<u64>
     }
 }
 
-// How many statements there are, those of blocks among them, where the number fits.
+// Returns the number of statements, including those of blocks, or `None` if it exceeds `u64::MAX`.
 #[cycle(counts)]
 pub(crate) fn statement_count(prog: &Prog) -> Option<u64>
     ensures { SomeIff result (statements prog.now < 2 ^ 64) (statements prog.now) }

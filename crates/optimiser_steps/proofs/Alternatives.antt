@@ -1,4 +1,4 @@
--- What holds where one of several facts holds.
+-- Elimination of disjunctions of several facts.
 use Rattle.std.proofs.Common.{◌⊎◌, inl, inr}
 
 pub one_of_five : {A B C D E R : Type 0} → A ⊎ (B ⊎ (C ⊎ (D ⊎ E))) → (A → R) → (B → R) → (C → R) → (D → R) → (E → R) → R

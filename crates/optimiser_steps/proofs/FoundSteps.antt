@@ -1,4 +1,4 @@
--- The first step of a list, as the search finds it.
+-- The first step of a list, as the search returns it.
 use Rattle.std.proofs.Common.{◌≡◌, ◌<◌, ◌≤◌, ◌+◌, ℕ, zero, suc, List, [], ◌∷◌, ◌++◌, map, length, take, drop, get_or, Some, None, refl, sym, ap, ◌∙◌, subst, arith}
 use Rattle.std.proofs.lemmas.List.{drop_more, drop-map, take-map, length-take}
 use Rattle.kat_model.specs.Expressions.{CondTree}
@@ -16,7 +16,7 @@ use Rattle.optimiser_steps.specs.declared.made.Made.{Made}
 use Rattle.optimiser_steps.specs.declared.within.Found.{Found}
 use Rattle.optimiser_steps.proofs.ListedPrograms.{listed}
 
--- the statement at a position begins what stands from there on
+-- the statement at a position is the head of the suffix from there
 pub at_position : (list : List Stmt) (k : ℕ) (s : Stmt) → k < length list → s ≡ get_or list k s → drop k (map stmt_tree list) ≡ stmt_tree s ∷ drop (k + 1) (map stmt_tree list)
 at_position list k s lt is =
     drop-map stmt_tree k list
@@ -25,14 +25,14 @@ at_position list k s lt is =
     ∙ ap (λ (l : List StmtTree). stmt_tree s ∷ l) (sym (drop-map stmt_tree (k + 1) list))
 
 module _ (f : FileParts) where
-  -- what stands from a position on is in range, and the statement there
+  -- the suffix from a position is in range, and so is the statement there
   pub rest_in_range : (list tail : List Stmt) (k : ℕ) → tail ≡ drop k list → AreStmtsInRange f (map stmt_tree list) → AreStmtsInRange f (map stmt_tree tail)
   rest_in_range list tail k is h = subst (AreStmtsInRange f) (drop-map stmt_tree k list ∙ ap (map stmt_tree) (sym is)) (drop_in f k (map stmt_tree list) h)
 
   pub stmt_in_range : (ss rest : List StmtTree) (k : ℕ) (s : StmtTree) → drop k ss ≡ s ∷ rest → AreStmtsInRange f ss → IsStmtInRange f s
   stmt_in_range ss rest k s at h = let left : AreStmtsInRange f (s ∷ rest) = subst (AreStmtsInRange f) at (drop_in f k ss h) in left.0
 
-  -- what is found is the first step
+  -- the value found is the first step
   first_found : (ss : List StmtTree) (m : Found) (path : List ℕ) (n : ℕ) (ts : List StmtTree) → IsFirstStep f ss path n ts → m.step ≡ n → m.path.items ≡ path → map stmt_tree m.list.items ≡ ts → IsFirst f ss m
   first_found ss m path n ts first a b c = rw (a, b, c) first
 
@@ -68,7 +68,7 @@ module _ (f : FileParts) where
     pub none_in_block : NoStep f (map stmt_tree items) → NoStepBefore f (k ∷ (j + 1) ∷ []) ss
     none_in_block nothing = none_inside f ss k j s rest p at is none (subst (NoStep f) (sym (listed items p view)) nothing)
 
-  -- the statement with another block
+  -- the statement with a block replaced
   first_replaced : (s : StmtTree) (b c : CondTree) (p q r new : ProgTree) → s ≡ branch b p q → c ≡ b → r ≡ q → branch c new r ≡ with_block s 0 new
   first_replaced s b c p q r new is d e = sym (ap (λ (x : StmtTree). with_block x 0 new) is ∙ ap (λ (x : CondTree). branch x new q) (sym d) ∙ ap (λ (x : ProgTree). branch c new x) (sym e))
 
@@ -108,7 +108,7 @@ module _ (f : FileParts) where
     pub none_in_body : NoStep f (map stmt_tree items) → NoStepBefore f (k ∷ 1 ∷ []) ss
     none_in_body nothing = none_in_block ss k 0 s rest items p at (ap (λ (t : StmtTree). block t 0) is) view none nothing
 
-  -- an `if` has two blocks, a loop one
+  -- an `if` has two blocks, a loop has one
   no_third : (b : CondTree) (p q : ProgTree) (i : ℕ) → 2 ≤ i → block (branch b p q) i ≡ None
   no_third b p q zero le = absurd (omega arith)
   no_third b p q (suc zero) le = absurd (omega arith)

@@ -1,4 +1,4 @@
--- Which steps can take a list of statements anywhere, by the statements with which it begins.
+-- Which steps are possible on a list of statements, by the first statements of the list.
 use Rattle.std.proofs.Common.{◌≡◌, ◌<◌, ◌≤◌, ◌+◌, ℕ, ⊎_elim, List, [], ◌∷◌, length, map, Option, Some, None, refl, sym, ap, ◌∙◌, subst, arith}
 use Rattle.std.proofs.lemmas.Bool.{cases_eq, cases_lt}
 use Rattle.kat_model.specs.Expressions.{ExprTree, CondTree, always, negation}
@@ -14,7 +14,7 @@ use Rattle.optimiser_steps.specs.Working.Found.{NoStepFrom, IsLeastFrom, FindsLe
 use Rattle.optimiser_steps.specs.declared.made.Made.{Made}
 
 module _ (f : FileParts) (ss : List StmtTree) where
-  -- no number is from low to below low, and the next may be tried
+  -- no step has a number in an empty range; a range without a step can be extended by a number without one
   pub none_yet : (low : ℕ) → NoStepFrom f ss low low
   none_yet low n ts lo hi step = absurd (omega arith)
 
@@ -22,7 +22,7 @@ module _ (f : FileParts) (ss : List StmtTree) where
   none_more low k none here n ts lo hi step =
       ⊎_elim {C = ⊥} (λ e. here ts (subst (λ x. Step f x ss ts) e step)) (λ d. none n ts lo (omega arith) step) (cases_eq n k)
 
-  -- where no lesser number has a step, the least of the greater ones is the least
+  -- if no smaller number has a step, the least step of the greater numbers is the least
   pub finds_after : (low mid high : ℕ) (r : Option Made) → low ≤ mid → NoStepFrom f ss low mid → FindsLeast f ss mid high r → FindsLeast f ss low high r
   finds_after low mid high None le none found = λ n ts lo hi step. ⊎_elim {C = ⊥} (λ lt. none n ts lo lt step) (λ ge. found n ts ge hi step) (cases_lt n mid)
   finds_after low mid high (Some m) le none found = record {
@@ -32,11 +32,11 @@ module _ (f : FileParts) (ss : List StmtTree) where
     least = λ n ts lo lt step. ⊎_elim {C = ⊥} (λ less. none n ts lo less step) (λ ge. found.least n ts ge lt step) (cases_lt n mid);
   }
 
-  -- and where one of those has a step, it is the least of all
+  -- the least step of a lower range is the least of the whole range
   pub finds_before : (low mid high : ℕ) (m : Made) → mid ≤ high → IsLeastFrom f ss low mid m → IsLeastFrom f ss low high m
   finds_before low mid high m le found = record { above = found.above; below = omega (arith, found.below); step = found.step; least = found.least }
 
--- what was made is made by the least step
+-- a step without a smaller possible step is the least
 pub is_least : (f : FileParts) (ss : List StmtTree) (low high n : ℕ) (m : Made) → m.step ≡ n → low ≤ n → n < high → Step f n ss (map stmt_tree m.list.items) → NoStepFrom f ss low n → IsLeastFrom f ss low high m
 is_least f ss low high n m is lo hi step least = record {
   above = omega (arith, is);
@@ -69,7 +69,7 @@ module _ (f : FileParts) (rest : List StmtTree) where
   pub none_below_abort : NoStepFrom f (abort ∷ rest) 1 2
   none_below_abort = none_more f (abort ∷ rest) 1 1 (none_yet f (abort ∷ rest) 1) (λ ts s. s)
 
-  -- an `assert`
+  -- at an `assert`
   module _ (b : CondTree) where
     abbrev Asserts : List StmtTree
     Asserts = assert b ∷ rest
@@ -82,7 +82,7 @@ module _ (f : FileParts) (rest : List StmtTree) where
         none_more f Asserts 1 8 (none_more f Asserts 1 7 (none_more f Asserts 1 6 (none_more f Asserts 1 5 (none_more f Asserts 1 4 (none_more f Asserts 1 3 none_below_assert
         (λ ts s. unsure s.0)) (λ ts s. s)) (λ ts s. s)) (λ ts s. s)) (λ ts s. s)) (λ ts s. s)
 
-  -- an `if`
+  -- at an `if`
   module _ (b : CondTree) (p q : ProgTree) where
     abbrev Branches : List StmtTree
     Branches = branch b p q ∷ rest
@@ -102,7 +102,7 @@ module _ (f : FileParts) (rest : List StmtTree) where
     pub none_shared : ((ps qs : List StmtTree) (r : StmtTree) → EndAlike p q ps qs r → ⊥) → NoStepFrom f (branch b p q ∷ rest) 8 9
     none_shared differ = none_more f Branches 8 8 (none_yet f Branches 8) (λ ts s. differ s.0 s.1 s.2 (s.3, s.4))
 
-  -- a `while`
+  -- at a `while`
   module _ (b : CondTree) (p : ProgTree) where
     abbrev Loops : List StmtTree
     Loops = loop b p ∷ rest
@@ -153,7 +153,7 @@ module _ (f : FileParts) (s : StmtTree) where
 
 -- ---- loops
 
--- the statement is no loop
+-- the statement is not a loop
 abbrev pub IsNoLoop : StmtTree → Type 0
 IsNoLoop (loop b p) = ⊥
 IsNoLoop s = Unit {0}
@@ -161,7 +161,7 @@ IsNoLoop s = Unit {0}
 pub no_loop_at : (s t : Stmt) → s ≡ t → IsNoLoop (stmt_tree t) → IsNoLoop (stmt_tree s)
 no_loop_at s t e is = subst (λ (x : Stmt). IsNoLoop (stmt_tree x)) (sym e) is
 
--- the program is one statement that is an `if` or a loop
+-- the program is a single statement, an `if` or a loop
 abbrev pub IsNested : ProgTree → Type 0
 IsNested (branch_then c p q empty) = Unit {0}
 IsNested (loop_then c p empty) = Unit {0}

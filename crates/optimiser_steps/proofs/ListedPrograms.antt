@@ -1,4 +1,4 @@
--- Programs as lists of statements of the program.
+-- Programs and lists of their statements.
 use Rattle.std.proofs.Common.{◌≡◌, ◌<◌, ◌≤◌, ◌+◌, ◌-◌, ◌↔◌, ℕ, Bool, List, [], ◌∷◌, ◌++◌, map, length, take, drop, get_or, refl, sym, ap, ◌∙◌, subst, append_assoc, arith}
 use Rattle.std.proofs.lemmas.List.{take_all, map_more, drop_more, take-map, drop-map, take_rest}
 use Rattle.std.specs.Bool.{IsTrue}
@@ -14,7 +14,7 @@ use Rattle.optimiser_theory.proofs.RangesKept.{stmts_in}
 
 -- ---- copies
 
--- one statement more is copied
+-- copying an additional statement
 pub pushed_more : (base : List StmtTree) (list new items : List Stmt) (i : ℕ) (s t : Stmt) → map stmt_tree new ≡ map stmt_tree list ++ stmt_tree t ∷ [] → stmt_tree t ≡ stmt_tree s →
     i < length items → s ≡ get_or items i s → map stmt_tree list ≡ base ++ map stmt_tree (take i items) → map stmt_tree new ≡ base ++ map stmt_tree (take (i + 1) items)
 pushed_more base list new items i s t pushed same lt is before =
@@ -23,7 +23,7 @@ pushed_more base list new items i s t pushed same lt is before =
 pub pushed_all : (base : List StmtTree) (list items : List Stmt) (i : ℕ) → length items ≤ i → map stmt_tree list ≡ base ++ map stmt_tree (take i items) → map stmt_tree list ≡ base ++ map stmt_tree items
 pushed_all base list items i le before = before ∙ ap (λ (l : List Stmt). base ++ map stmt_tree l) (take_all i items le)
 
--- another statement in the place of one
+-- replacing the statement at a position
 pub with_stmt_at : (list : List Stmt) (i j left : ℕ) (s : Stmt) (whole pushed all : List StmtTree) → length (drop j list) ≤ left → whole ≡ map stmt_tree (take i list) → pushed ≡ whole ++ stmt_tree s ∷ [] →
     all ≡ pushed ++ map stmt_tree (take left (drop j list)) → all ≡ take i (map stmt_tree list) ++ stmt_tree s ∷ drop j (map stmt_tree list)
 with_stmt_at list i j left s whole pushed all enough a b c =
@@ -36,7 +36,7 @@ with_stmt_at list i j left s whole pushed all enough a b c =
 pub listed : (items : List Stmt) (p : ProgTree) → list_tree items ≡ p → stmts_of p ≡ map stmt_tree items
 listed items p e = ap stmts_of (sym e) ∙ stmts_of-prog_of (map stmt_tree items)
 
--- and those of a block, taken as a slice, are its statements
+-- the statements of a block are those of the slice taken from it
 pub block_listed : (slice items : List Stmt) (p : ProgTree) → slice ≡ items → list_tree items ≡ p → map stmt_tree slice ≡ stmts_of p
 block_listed slice items p same view = ap (map stmt_tree) same ∙ sym (listed items p view)
 
@@ -49,7 +49,7 @@ block_between s joined rest slice items p e same view = e ∙ ap (λ (l : List S
 pub listed_in : (f : FileParts) (items : List Stmt) (p : ProgTree) → list_tree items ≡ p → IsProgInRange f.tests f.actions f.vars p → AreStmtsInRange f (map stmt_tree items)
 listed_in f items p e range = subst (AreStmtsInRange f) (listed items p e) (stmts_in f p range)
 
--- a list that is not empty is its first statement before the others
+-- a nonempty list is its first statement followed by the rest
 pub first_and_rest : (items : List Stmt) (s : Stmt) → 1 ≤ length items → s ≡ get_or items 0 s → map stmt_tree items ≡ stmt_tree s ∷ map stmt_tree (take (length items - 1) (drop 1 items))
 first_and_rest items s some is =
     ap (map stmt_tree) (drop_more items 0 s (omega arith)) ∙ ap (λ (x : Stmt). stmt_tree x ∷ map stmt_tree (drop 1 items)) (sym is)
@@ -59,7 +59,7 @@ pub nothing_left : (items : List Stmt) → length items ≡ 0 → map stmt_tree 
 nothing_left [] e = refl
 nothing_left (s ∷ items) e = absurd (omega arith)
 
--- programs of one statement are the same where the statements are
+-- programs of one statement are equal only if the statements are
 pub single_same : (s t : StmtTree) → single s ≡ single t → s ≡ t
 single_same s t e =
     let lists : s ∷ [] ≡ t ∷ [] = sym (stmts_of-prog_of (s ∷ [])) ∙ ap stmts_of e ∙ stmts_of-prog_of (t ∷ []) in
@@ -68,7 +68,7 @@ single_same s t e =
 pub assert_same : (b c : CondTree) → single (assert b) ≡ single (assert c) → b ≡ c
 assert_same b c e = cc
 
--- so programs of one statement, compared, decide whether copies of statements, and of conditions, are the same
+-- so comparing two programs of one statement decides whether the copied statements, or conditions, are equal
 pub same_statements : (r : Bool) (p q : ProgTree) (x y s t : StmtTree) → IsTrue r ↔ (p ≡ q) → p ≡ single x → q ≡ single y → x ≡ s → y ≡ t → IsTrue r ↔ (s ≡ t)
 same_statements r p q x y s t decided first second left right = (
   (λ h. sym left ∙ single_same x y (sym first ∙ decided.0 h ∙ second) ∙ right),

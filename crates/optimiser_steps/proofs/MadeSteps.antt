@@ -1,4 +1,4 @@
--- What is made of a list of statements is made by the least step.
+-- The rewritten list is the result of the least step.
 use Rattle.std.proofs.Common.{◌≡◌, ◌≤◌, ◌-◌, List, [], ◌∷◌, ◌++◌, length, map, take, drop, get_or, Option, Some, None, refl, sym, ap, ◌∙◌, subst, arith}
 use Rattle.std.proofs.lemmas.List.{length-map, take_rest}
 use Rattle.kat_model.specs.Expressions.{CondTree, always, negation}
@@ -15,7 +15,7 @@ use Rattle.optimiser_steps.proofs.LeastSteps.{is_least, finds_after, finds_befor
 
 -- ---- one statement
 
--- the last `abort` of a list, and another
+-- no step is possible at an `abort` at the end of a list; the step S2 is the least at any other `abort`
 pub none_at_abort : (f : FileParts) (items : List Stmt) → length items ≡ 0 → NoStepFrom f (abort ∷ map stmt_tree items) 1 9
 none_at_abort f [] e = none_at_last_abort f []
 none_at_abort f (s ∷ items) e = absurd (omega arith)
@@ -51,7 +51,7 @@ module _ (f : FileParts) (rest : List StmtTree) (m : Made) where
     shared_made ps qs r alike is made =
         is_least f (branch b p q ∷ rest) 8 9 8 m is (omega arith) (omega arith) (ps, qs, r, alike.0, alike.1, made) (none_yet f (branch b p q ∷ rest) 8)
 
--- where nothing else can be done to an `if`, what is found of the statement with which its blocks end is the least
+-- if no other step is possible at an `if`, the search for a shared last statement finds the least step
 pub finds_shared : (f : FileParts) (rest : List StmtTree) (b : CondTree) (p q : ProgTree) (r : Option Made) → (HoldsAlways f b → ⊥) → (HoldsNever f b → ⊥) → (p ≡ q → ⊥) →
     FindsLeast f (branch b p q ∷ rest) 8 9 r → FindsLeast f (branch b p q ∷ rest) 1 9 r
 finds_shared f rest b p q r unsure possible differ found =
@@ -100,7 +100,7 @@ one_listed (x ∷ y ∷ items) s p e one is = absurd (omega arith)
 pub not_nested : (items : List Stmt) (p : ProgTree) → list_tree items ≡ p → (length items ≡ 1 → ⊥) → IsNested p → ⊥
 not_nested items p e other is = other (sym (length-map items stmt_tree) ∙ nested_is_one (map stmt_tree items) (subst IsNested (sym e) is))
 
--- nothing can be done to no statement
+-- no step is possible on an empty list
 pub none_of_none : (f : FileParts) → NoStepFrom f [] 1 13
 none_of_none f n ts lo hi step = none_at_end f [] 0 (omega arith) (none_at_first f []) n (0 ∷ []) ts (ts, step, refl)
 

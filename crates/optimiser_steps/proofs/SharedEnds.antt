@@ -1,4 +1,4 @@
--- The statement with which two programs end.
+-- The last statement that two programs share.
 use Rattle.std.proofs.Common.{◌≡◌, List, [], ◌∷◌, ◌++◌, length, map, refl, sym, ap, ◌∙◌, arith}
 use Rattle.std.proofs.lemmas.List.{map-append}
 use Rattle.kat_model.specs.Expressions.{CondTree}
@@ -15,7 +15,7 @@ nothing_before : (ss : List StmtTree) (r : StmtTree) → [] ≡ ss ++ r ∷ [] �
 nothing_before [] r e = cc
 nothing_before (s ∷ ss) r e = cc
 
--- an empty program ends with no statement
+-- an empty program has no last statement
 pub no_end : (items : List Stmt) (p : ProgTree) (ps : List StmtTree) (r : StmtTree) → list_tree items ≡ p → length items ≡ 0 → stmts_of p ≡ ps ++ r ∷ [] → ⊥
 no_end [] p ps r view none e = nothing_before ps r (sym (listed [] p view) ∙ e)
 no_end (s ∷ items) p ps r view none e = absurd (omega arith)
@@ -25,14 +25,14 @@ pub ends_with : (items front : List Stmt) (last : Stmt) (p : ProgTree) → list_
 ends_with items front last p view is = listed items p view ∙ ap (map stmt_tree) is ∙ map-append stmt_tree front (last ∷ [])
 
 module _ (xs ys front other_front : List Stmt) (last other : Stmt) (p q : ProgTree) (first : list_tree xs ≡ p) (second : list_tree ys ≡ q) (xs_is : xs ≡ front ++ last ∷ []) (ys_is : ys ≡ other_front ++ other ∷ []) where
-  -- programs with unlike last statements do not end alike
+  -- programs with different last statements share none
   pub end_unlike : (stmt_tree last ≡ stmt_tree other → ⊥) → (ps qs : List StmtTree) (r : StmtTree) → EndAlike p q ps qs r → ⊥
   end_unlike differ ps qs r alike =
       let one = last_same (map stmt_tree front) ps (stmt_tree last) r (sym (ends_with xs front last p first xs_is) ∙ alike.0) in
       let two = last_same (map stmt_tree other_front) qs (stmt_tree other) r (sym (ends_with ys other_front other q second ys_is) ∙ alike.1) in
       differ (one.1 ∙ sym two.1)
 
-  -- those with the same do
+  -- programs with the same last statement share it
   pub end_alike : stmt_tree last ≡ stmt_tree other → (copies other_copies : List Stmt) (copy : Stmt) → map stmt_tree copies ≡ map stmt_tree front → map stmt_tree other_copies ≡ map stmt_tree other_front →
       stmt_tree copy ≡ stmt_tree last → EndAlike p q (stmts_of (list_tree copies)) (stmts_of (list_tree other_copies)) (stmt_tree copy)
   end_alike same copies other_copies copy copied others kept = (
@@ -40,7 +40,7 @@ module _ (xs ys front other_front : List Stmt) (last other : Stmt) (p q : ProgTr
     ends_with ys other_front other q second ys_is ∙ rw (listed_stmts other_copies, others, kept, same) refl,
   )
 
--- that statement stands after the `if` of what stands before it
+-- the shared statement follows the `if` of the remaining blocks
 pub shared_list : (b c : CondTree) (p q : ProgTree) (r : StmtTree) (start one two all rest : List StmtTree) → start ≡ [] → one ≡ start ++ branch c p q ∷ [] → c ≡ b → two ≡ one ++ r ∷ [] → all ≡ two ++ rest →
     all ≡ branch b (prog_of (stmts_of p)) (prog_of (stmts_of q)) ∷ r ∷ rest
 shared_list b c p q r start one two all rest none made copied more last = last ∙ rw (more, made, none, copied, prog_of-stmts_of p, prog_of-stmts_of q) refl

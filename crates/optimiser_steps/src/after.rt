@@ -1,4 +1,4 @@
-//! The steps S9 and S10, which look at a statement and the one after it.
+//! The steps S9 and S10, which depend on a statement and the one after it.
 ghost use Rattle.std.specs.Prelude.{◌≡◌, ◌∷◌, ◌++◌, IfOk, map};
 ghost use Rattle.kat_model.specs.Expressions.{cond_tree};
 ghost use Rattle.kat_model.specs.Problems.{AreInRange};
@@ -16,7 +16,7 @@ use problem_file::File;
 use std::alloc::Global;
 use while_lang::{Prog, Stmt, copy_stmt, push_stmt};
 
-// Copies of the statement, of these and of those after them.
+// Returns copies of `stmt`, of `taken` and of `later`.
 fn list_after(
     alloc: Global,
     stmt: &Stmt,
@@ -32,7 +32,7 @@ fn list_after(
     Ok(list)
 }
 
-// S9 and S10 at a statement before an `if`.
+// Tries S9 and S10 at a statement that precedes an `if`.
 fn if_after(
     alloc: Global,
     file: &File,
@@ -58,7 +58,7 @@ fn if_after(
     Ok(None)
 }
 
-// S10 at a statement before a `while`.
+// Tries S10 at a statement that precedes a `while`.
 fn while_after(
     alloc: Global,
     file: &File,
@@ -79,7 +79,7 @@ fn while_after(
     Ok(Some(Made { step: 10, list }))
 }
 
-/// The lesser of the steps S9 and S10 at a statement before others, where there is one.
+/// Returns the lesser possible step of S9 and S10 at a statement followed by `rest`, if there is one.
 pub(crate) fn step_after(
     alloc: Global,
     file: &File,

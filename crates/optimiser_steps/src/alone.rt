@@ -1,4 +1,4 @@
-//! The steps S1 to S8, which look at one statement, or see that it is an `abort`.
+//! The steps S1 to S8, which depend on one statement, or on an `abort` with statements after it.
 ghost use Rattle.std.specs.Prelude.{◌≡◌, ◌∷◌, IfOk, map};
 ghost use Rattle.kat_model.specs.Expressions.{cond_tree};
 ghost use Rattle.kat_model.specs.Problems.{AreInRange};
@@ -17,7 +17,7 @@ use problem_file::File;
 use std::alloc::Global;
 use while_lang::{Prog, Stmt, copy_stmt, push_stmt};
 
-// S2 at an `abort`.
+// Tries S2 at an `abort`.
 fn abort_step(alloc: Global, rest: &[Stmt]) -> Result<Option<Made>, NoMemory>
     ensures { IfOk result (λ r. (f : FileParts) → FindsLeast f (abort ∷ map stmt_tree rest.now) 1 9 r) }
 {
@@ -30,7 +30,7 @@ fn abort_step(alloc: Global, rest: &[Stmt]) -> Result<Option<Made>, NoMemory>
     }
 }
 
-// S3 at an `assert`.
+// Tries S3 at an `assert`.
 fn assert_step(
     alloc: Global,
     file: &File,
@@ -48,7 +48,7 @@ fn assert_step(
     Ok(Some(Made { step: 3, list }))
 }
 
-// What stands in both blocks of an `if` before the statement with which both end, and that statement.
+// The last statement that both blocks of an `if` share, and what precedes it in each.
 #[derive(Drop)]
 struct SharedEnd {
     first: Prog,
@@ -82,7 +82,7 @@ fn shared_end(alloc: Global, first: &Prog, second: &Prog) -> Result<Option<Share
     }))
 }
 
-// S8 at an `if`.
+// Tries S8 at an `if`.
 fn shared_end_step(
     alloc: Global,
     cond: &Cond,
@@ -110,7 +110,7 @@ fn shared_end_step(
     }
 }
 
-// S4, S5, S7 and S8 at an `if`.
+// Tries S4, S5, S7 and S8 at an `if`.
 fn if_step(
     alloc: Global,
     file: &File,
@@ -138,7 +138,7 @@ fn if_step(
     shared_end_step(alloc, cond, first, second, rest)
 }
 
-// S6 at a `while`.
+// Tries S6 at a `while`.
 fn while_step(
     alloc: Global,
     file: &File,
@@ -157,7 +157,7 @@ fn while_step(
     Ok(Some(Made { step: 6, list }))
 }
 
-/// The least of the steps S1 to S8 at a statement before others, where there is one.
+/// Returns the least possible step of S1 to S8 at a statement followed by `rest`, if there is one.
 pub(crate) fn step_alone(
     alloc: Global,
     file: &File,

@@ -8,7 +8,7 @@ use kat_model::{Cond, NoMemory};
 use std::alloc::Global;
 use while_lang::{Prog, Stmt, copy_stmt, push_stmt};
 
-/// Copies of these statements at the end.
+/// Appends copies of `stmts` to `list`.
 pub(crate) fn push_copies(
     alloc: Global,
     list: &mut Vec<Stmt>,
@@ -22,7 +22,7 @@ pub(crate) fn push_copies(
     Ok(())
 }
 
-/// Copies of these statements.
+/// Returns copies of the statements.
 pub(crate) fn copies_of(alloc: Global, stmts: &[Stmt]) -> Result<Vec<Stmt>, NoMemory>
     ensures { IfOk result (λ v. map stmt_tree v.items ≡ map stmt_tree stmts.now) }
 {
@@ -31,7 +31,7 @@ pub(crate) fn copies_of(alloc: Global, stmts: &[Stmt]) -> Result<Vec<Stmt>, NoMe
     Ok(list)
 }
 
-/// This statement, and copies of those after it.
+/// Returns `stmt`, followed by copies of `rest`.
 pub(crate) fn list_of(alloc: Global, stmt: Stmt, rest: &[Stmt]) -> Result<Vec<Stmt>, NoMemory>
     ensures { IfOk result (λ v. map stmt_tree v.items ≡ stmt_tree stmt ∷ map stmt_tree rest.now) }
 {
@@ -41,7 +41,7 @@ pub(crate) fn list_of(alloc: Global, stmt: Stmt, rest: &[Stmt]) -> Result<Vec<St
     Ok(list)
 }
 
-/// Copies of these statements and of those after them.
+/// Returns copies of `first`, followed by copies of `rest`.
 pub(crate) fn joined_list(
     alloc: Global,
     first: &[Stmt],
@@ -54,7 +54,7 @@ pub(crate) fn joined_list(
     Ok(list)
 }
 
-/// The program that is this one statement.
+/// Returns the program that consists of this statement.
 pub(crate) fn single(alloc: Global, stmt: Stmt) -> Result<Prog, NoMemory>
     ensures { IfOk result (λ p. p ≡ single (stmt_tree stmt)) }
 {
@@ -63,7 +63,7 @@ pub(crate) fn single(alloc: Global, stmt: Stmt) -> Result<Prog, NoMemory>
     Ok(Prog { list })
 }
 
-/// Whether both statements are one tree.
+/// Whether the two statements are the same tree.
 pub(crate) fn is_same_stmt(alloc: Global, left: &Stmt, right: &Stmt) -> Result<bool, NoMemory>
     ensures { IfOk result (λ same. IsTrue same ↔ (stmt_tree left.now ≡ stmt_tree right.now)) }
 {
@@ -72,7 +72,7 @@ pub(crate) fn is_same_stmt(alloc: Global, left: &Stmt, right: &Stmt) -> Result<b
     Ok(first.same(&second))
 }
 
-/// Whether both conditions are one tree.
+/// Whether the two conditions are the same tree.
 pub(crate) fn is_same_cond(alloc: Global, left: &Cond, right: &Cond) -> Result<bool, NoMemory>
     ensures { IfOk result (λ same. IsTrue same ↔ (cond_tree left.now ≡ cond_tree right.now)) }
 {

@@ -1,4 +1,4 @@
-//! The step at the beginning of a list.
+//! The step at the head of a list.
 ghost use Rattle.std.specs.Prelude.{◌∷◌, IfOk, map};
 ghost use Rattle.kat_model.specs.Problems.{AreInRange};
 ghost use Rattle.while_lang.specs.ProgramViews.{stmt_tree};
@@ -14,7 +14,7 @@ use problem_file::File;
 use std::alloc::Global;
 use while_lang::Stmt;
 
-// The least step at a statement before others, where there is one.
+// Returns the least possible step at a statement followed by `rest`, if there is one.
 fn step_of(alloc: Global, file: &File, stmt: &Stmt, rest: &[Stmt]) -> Result<Option<Made>, NoMemory>
     requires hyps { AreInRange file.now.tests file.now.actions file.now.hyps }
     requires stmt { IsStmtInRange file.now (stmt_tree stmt.now) }
@@ -30,7 +30,7 @@ fn step_of(alloc: Global, file: &File, stmt: &Stmt, rest: &[Stmt]) -> Result<Opt
     step_nested(alloc, file, stmt, rest)
 }
 
-/// The least step at the beginning of a list, where there is one.
+/// Returns the least possible step at the head of a list, if there is one.
 pub(crate) fn step_here(alloc: Global, file: &File, list: &[Stmt]) -> Result<Option<Made>, NoMemory>
     requires hyps { AreInRange file.now.tests file.now.actions file.now.hyps }
     requires list { AreStmtsInRange file.now (map stmt_tree list.now) }

@@ -1,4 +1,4 @@
-//! The optimiser: a program is rewritten by steps whose conditions the prover decides.
+//! The optimiser: rewrites a program by steps whose conditions the prover decides.
 #![tactic(auto)]
 
 mod after;

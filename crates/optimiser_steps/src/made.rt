@@ -1,7 +1,7 @@
-//! What a step makes of a list of statements.
+//! The result of a step on a list of statements.
 use while_lang::Stmt;
 
-/// The number of a step, and the list that it makes.
+/// The number of a step, and the list after it.
 #[derive(Drop)]
 pub(crate) struct Made {
     pub step: u8,

@@ -1,4 +1,4 @@
-//! The steps S11 and S12, which look at a loop whose body is one statement.
+//! The steps S11 and S12, which depend on a loop whose body is one statement.
 ghost use Rattle.std.specs.Prelude.{◌≡◌, ◌↔◌, ◌∷◌, IsTrue, IfOk, map};
 ghost use Rattle.kat_model.specs.Expressions.{negation, cond_tree};
 ghost use Rattle.kat_model.specs.Problems.{AreInRange};
@@ -18,7 +18,7 @@ use problem_file::File;
 use std::alloc::Global;
 use while_lang::{Prog, Stmt};
 
-// The program that is one loop.
+// Returns the program that consists of one loop.
 fn loop_of(alloc: Global, cond: &Cond, body: &Prog) -> Result<Prog, NoMemory>
     ensures { IfOk result (λ p. p ≡ single (loop (cond_tree cond.now) body.now)) }
 {
@@ -26,7 +26,7 @@ fn loop_of(alloc: Global, cond: &Cond, body: &Prog) -> Result<Prog, NoMemory>
     single(alloc, Stmt::While(guard, body.copy(alloc)?))
 }
 
-// The loop with an `if` as its body, as an `if` of two loops.
+// Returns the `if` of two loops for a loop with an `if` as its body.
 fn unswitched_loop(
     alloc: Global,
     guard: &Cond,
@@ -41,7 +41,7 @@ fn unswitched_loop(
     Ok(Stmt::If(cond.copy(alloc)?, loops, others))
 }
 
-// The loop on this condition, before others.
+// Returns the loop with this condition, followed by copies of `rest`.
 fn list_of_loop(
     alloc: Global,
     guard: &Cond,
@@ -54,7 +54,7 @@ fn list_of_loop(
     list_of(alloc, Stmt::While(copy, body.copy(alloc)?), rest)
 }
 
-// S12 at a loop whose body is a loop.
+// Tries S12 at a loop whose body is a loop.
 fn loop_inside(
     alloc: Global,
     guard: &Cond,
@@ -71,7 +71,7 @@ fn loop_inside(
     Ok(Some(Made { step: 12, list }))
 }
 
-// Whether neither block changes whether the condition holds, each where it is run.
+// Whether `first` preserves the condition and `second` preserves its negation.
 fn is_kept(
     alloc: Global,
     file: &File,
@@ -91,7 +91,7 @@ fn is_kept(
     keeps_opposite(alloc, file, cond, second)
 }
 
-// S11 and S12 at a loop whose body is an `if`.
+// Tries S11 and S12 at a loop whose body is an `if`.
 fn if_inside(
     alloc: Global,
     file: &File,
@@ -119,7 +119,7 @@ fn if_inside(
     Ok(None)
 }
 
-// S11 and S12 at a loop.
+// Tries S11 and S12 at a loop.
 fn loop_step(
     alloc: Global,
     file: &File,
@@ -144,7 +144,7 @@ fn loop_step(
     }
 }
 
-/// The lesser of the steps S11 and S12 at a statement before others, where there is one.
+/// Returns the lesser possible step of S11 and S12 at a statement followed by `rest`, if there is one.
 pub(crate) fn step_nested(
     alloc: Global,
     file: &File,

@@ -11,13 +11,13 @@ use std::alloc::Global;
 use std::marker::Model;
 use while_lang::Prog;
 
-/// A step that was made.
+/// A step of the optimiser.
 #[derive(Drop)]
 pub struct LogLine {
-    /// Its number, 1 to 12.
+    /// The number of the step, 1 to 12.
     pub step: u8,
-    /// Where it was made, in the program as it was then: a position, and for each level down the number of a block (1 for
-    /// the second of an `if`, and otherwise 0) and a position in it.
+    /// The place of the step in the program before it: a position, and for each level down the number of a block (1 for
+    /// the second block of an `if`, otherwise 0) and a position in it.
     pub path: Vec<usize>,
 }
 
@@ -32,16 +32,16 @@ impl Model for LogLine {
     ghost view = { λ l. record { step = l.step; path = l.path.items } };
 }
 
-/// How the optimiser ended.
+/// Why the optimiser ended.
 #[derive(Clone, Copy, PartialEq, Eq, Debug)]
 pub enum Ended {
-    /// No further step can be made.
+    /// No further step is possible.
     Done,
-    /// As many steps were made as were allowed, and a further one can be made.
+    /// The permitted number of steps was reached, and a further step is possible.
     TurnLimit,
 }
 
-/// An optimised program, with the steps that were made, in order.
+/// An optimised program, and the steps that led to it, in order.
 #[derive(Drop)]
 pub struct Optimised {
     pub prog: Prog,
@@ -49,13 +49,13 @@ pub struct Optimised {
     pub ended: Ended,
 }
 
-/// Makes the first step of a program again and again, at most so many times: the first position at which a step can be
-/// made, and there the least number of a step. Conditions of steps are triples that the prover decides, with the tests,
-/// actions, stated hypotheses, rounds and width of the file. It fails only when out of memory.
+/// Applies the first step of a program repeatedly, at most `turns` times: the step with the least number at the first
+/// position at which a step is possible. Conditions of steps are triples that the prover decides, with the tests,
+/// actions, stated hypotheses, rounds and width of the file. Fails only when out of memory.
 ///
-/// In a file without variables the program relates the same states as before in each table that keeps the stated
-/// hypotheses. In a file without tests, actions, terms and stated hypotheses it ends in the same stores as before, from
-/// each store. Of other files the log is right, and no more is claimed.
+/// If the file has no variables, the result relates the same states as `prog` in each table that satisfies the stated
+/// hypotheses. If the file has no tests, actions, terms and stated hypotheses, the result ends in the same stores as
+/// `prog`, from each store. For other files only the log is guaranteed.
 pub fn optimise(alloc: Global, file: &File, prog: &Prog, turns: u64) -> Result<Optimised, NoMemory>
     requires { HasProgInRange file.now prog.now }
     ensures log { IfOk result (λ o. IsLog file.now prog.now o.log.items o.prog) }

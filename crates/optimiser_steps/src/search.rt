@@ -13,7 +13,7 @@ use problem_file::File;
 use std::alloc::Global;
 use while_lang::{Prog, Stmt};
 
-// The first step inside the statement at a position, where there is one and none before it.
+// Returns the first step inside the statement at a position. Requires that no earlier step is possible.
 #[cycle(search)]
 fn step_inside(
     alloc: Global,
@@ -81,7 +81,7 @@ fn step_inside(
     }
 }
 
-/// The first step of a list, where there is one.
+/// Returns the first step of a list, if there is one.
 #[cycle(search)]
 pub(crate) fn first_step_in(
     alloc: Global,

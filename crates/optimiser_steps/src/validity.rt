@@ -1,4 +1,4 @@
-//! The conditions of the steps, decided.
+//! Decides the conditions of the steps.
 ghost use Rattle.std.specs.Prelude.{◌≡◌, ◌↔◌, IsTrue, IfOk};
 ghost use Rattle.kat_model.specs.Relations.{Same};
 ghost use Rattle.kat_model.specs.Problems.{AreInRange};
@@ -29,7 +29,7 @@ fn is_same(alloc: Global, problem: &Problem) -> Result<bool, NoMemory>
     }
 }
 
-// Whether the goal is within the limits of an abstraction, and both sides of its problem are the same.
+// Whether the goal is within the limits of an abstraction, and the two sides of its problem are the same.
 fn is_goal_same(alloc: Global, file: &File, goal: &Goal) -> Result<bool, NoMemory>
     requires { HasNumbersInRange (with_goal file.now (goal_tree goal.now)) }
     ensures { IfOk result (λ same. IsTrue same ↔ GoalIsSame (with_goal file.now (goal_tree goal.now))) }
@@ -70,7 +70,7 @@ fn opposite_of(alloc: Global, cond: &Cond) -> Result<Cond, NoMemory>
     Cond::new_not(alloc, copy)
 }
 
-/// Whether the condition holds always.
+/// Whether the condition always holds.
 pub(crate) fn holds_always(alloc: Global, file: &File, cond: &Cond) -> Result<bool, NoMemory>
     requires hyps { AreInRange file.now.tests file.now.actions file.now.hyps }
     requires cond { IsCondInRange file.now.tests file.now.vars (cond_tree cond.now) }
@@ -82,7 +82,7 @@ pub(crate) fn holds_always(alloc: Global, file: &File, cond: &Cond) -> Result<bo
     is_valid(alloc, file, Cond::True, nothing, cond.copy(alloc)?)
 }
 
-/// Whether the condition holds never.
+/// Whether the condition never holds.
 pub(crate) fn holds_never(alloc: Global, file: &File, cond: &Cond) -> Result<bool, NoMemory>
     requires hyps { AreInRange file.now.tests file.now.actions file.now.hyps }
     requires cond { IsCondInRange file.now.tests file.now.vars (cond_tree cond.now) }
@@ -92,7 +92,7 @@ pub(crate) fn holds_never(alloc: Global, file: &File, cond: &Cond) -> Result<boo
     holds_always(alloc, file, &opposite)
 }
 
-/// Whether the condition holds after each run of the statement that ends.
+/// Whether the condition holds after each terminating run of the statement.
 pub(crate) fn holds_after(
     alloc: Global,
     file: &File,
@@ -108,7 +108,7 @@ pub(crate) fn holds_after(
     is_valid(alloc, file, Cond::True, body, cond.copy(alloc)?)
 }
 
-/// Whether the condition fails after each run of the statement that ends.
+/// Whether the condition fails after each terminating run of the statement.
 pub(crate) fn fails_after(
     alloc: Global,
     file: &File,
@@ -124,7 +124,7 @@ pub(crate) fn fails_after(
     holds_after(alloc, file, stmt, &opposite)
 }
 
-/// Whether the program keeps the condition as true as it is.
+/// Whether the program preserves the condition.
 pub(crate) fn keeps(alloc: Global, file: &File, cond: &Cond, body: &Prog) -> Result<bool, NoMemory>
     requires hyps { AreInRange file.now.tests file.now.actions file.now.hyps }
     requires body { IsProgInRange file.now.tests file.now.actions file.now.vars body.now }
@@ -136,7 +136,7 @@ pub(crate) fn keeps(alloc: Global, file: &File, cond: &Cond, body: &Prog) -> Res
     is_valid(alloc, file, pre, body.copy(alloc)?, post)
 }
 
-/// Whether the program keeps the condition as false as it is.
+/// Whether the program preserves the negation of the condition.
 pub(crate) fn keeps_opposite(
     alloc: Global,
     file: &File,

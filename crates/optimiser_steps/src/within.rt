@@ -1,4 +1,4 @@
-//! The step that is found in a list, with its path.
+//! A step found in a list, with its path.
 ghost use Rattle.std.specs.Prelude.{◌≡◌, ◌+◌, ◌<◌, [], ◌∷◌, ◌++◌, length, take, drop, IfOk, map};
 ghost use Rattle.while_lang.specs.ProgramViews.{stmt_tree};
 
@@ -8,7 +8,7 @@ use kat_model::NoMemory;
 use std::alloc::Global;
 use while_lang::{Stmt, push_stmt};
 
-/// The number of a step, where it is made, and the list that it makes.
+/// The number of a step, its place, and the list after it.
 #[derive(Drop)]
 pub(crate) struct Found {
     pub step: u8,
@@ -16,7 +16,7 @@ pub(crate) struct Found {
     pub list: Vec<Stmt>,
 }
 
-/// The step that is made at the end of these statements.
+/// Returns the step `made` at the position after `front`.
 pub(crate) fn found_here(alloc: Global, front: &[Stmt], made: &Made) -> Result<Found, NoMemory>
     ensures step { IfOk result (λ m. m.step ≡ made.now.step) }
     ensures path { IfOk result (λ m. m.path.items ≡ length front.now ∷ []) }
@@ -32,7 +32,7 @@ pub(crate) fn found_here(alloc: Global, front: &[Stmt], made: &Made) -> Result<F
     })
 }
 
-// The path to a place inside a block of the statement at a position.
+// Returns the path to a place inside a block of the statement at a position.
 fn path_inside(
     alloc: Global,
     position: usize,
@@ -48,7 +48,7 @@ fn path_inside(
     Ok(whole)
 }
 
-// The list with another statement at a position.
+// Returns the list with the statement at a position replaced.
 fn list_with(
     alloc: Global,
     list: &[Stmt],
@@ -64,7 +64,7 @@ fn list_with(
     Ok(whole)
 }
 
-/// The step that is made inside a block of the statement at a position, which becomes this statement.
+/// Returns a step inside a block of the statement at `position`; the step replaces that statement by `stmt`.
 pub(crate) fn found_inside(
     alloc: Global,
     list: &[Stmt],

@@ -1,4 +1,4 @@
-//! What the optimiser makes of a program of a text, as text.
+//! Results of the optimiser for a program of a text, as text.
 ghost use Rattle.problem_file.specs.Ranges.{IsNumbered};
 
 use optimiser_steps::{Ended, LogLine, Optimised, optimise};
@@ -72,7 +72,8 @@ fn optimised_file(
     }
 }
 
-/// The lines of the log, how it ended, and the block of the program.
+/// Returns the lines of the log, how the optimiser ended, and the block of the program; `None` if the text has no
+/// program `name`.
 pub fn optimised_text(
     alloc: Global,
     text: &str,
@@ -83,7 +84,7 @@ pub fn optimised_text(
     optimised_file(alloc, &file, name, turns)
 }
 
-/// Whether that is the text.
+/// Whether `optimised_text` returns `want`.
 pub fn is_optimised(
     alloc: Global,
     text: &str,
@@ -111,7 +112,7 @@ fn file_log(alloc: Global, file: &File, name: &str, turns: u64) -> Result<Option
     }
 }
 
-/// Whether these are the lines of the log and how it ended.
+/// Whether the lines of the log and how the optimiser ended are `want`.
 pub fn has_log(
     alloc: Global,
     text: &str,

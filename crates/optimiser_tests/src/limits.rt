@@ -1,9 +1,9 @@
-//! The limit of turns, and the limits of the abstraction of a condition.
+//! The limit on turns, and the limits on the abstraction of a condition.
 use crate::fixtures::has_log;
 use std::alloc::{AllocError, Global};
 use std::test::Fail;
 
-// A program that is so many times `skip`.
+// A text with a program of `count` times `skip`.
 fn skips(alloc: Global, count: usize) -> Result<String, AllocError> {
     let mut text = String::from_str(alloc, "test b; prog L { ")?;
     for _ in 0..count {
@@ -13,7 +13,7 @@ fn skips(alloc: Global, count: usize) -> Result<String, AllocError> {
     Ok(text)
 }
 
-// So many steps at the first position, and how the log ends.
+// A log of `count` steps at the first position, and how it ends.
 fn skip_log(alloc: Global, count: usize, ended: &str) -> Result<String, AllocError> {
     let mut text = String::new(alloc);
     for _ in 0..count {
@@ -42,7 +42,7 @@ fn thousand_turns(rt: HostRuntime) -> Result<(), Fail> {
     Ok(())
 }
 
-// An `if` on a comparison or its opposite, in a file with so many tests.
+// A text with `tests` tests and an `if` on a comparison or its negation.
 fn tested_program(alloc: Global, tests: usize) -> Result<String, AllocError> {
     let mut text = String::from_str(alloc, "var x; test t0")?;
     for k in 1..tests {
@@ -55,7 +55,7 @@ fn tested_program(alloc: Global, tests: usize) -> Result<String, AllocError> {
     Ok(text)
 }
 
-// With the comparison there are 48 tests, or 49.
+// Together with the comparison there are 48 tests, or 49.
 #[test]
 fn tests_of_a_condition(rt: HostRuntime) -> Result<(), Fail> {
     let fits = tested_program(rt.alloc(), 47)?;

@@ -1,4 +1,4 @@
-//! Each step, and where it does not come.
+//! Each step, and cases in which a step is not possible.
 use crate::fixtures::{has_log, is_optimised};
 use std::test::Fail;
 
@@ -56,7 +56,7 @@ fn each(rt: HostRuntime) -> Result<(), Fail> {
     Ok(())
 }
 
-// A condition that fails by one thing: the next step number comes, or none.
+// Conditions that are not satisfied in one respect: a step with a greater number follows, or none.
 #[test]
 fn conditions(rt: HostRuntime) -> Result<(), Fail> {
     let most =

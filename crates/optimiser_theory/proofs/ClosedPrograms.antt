@@ -22,7 +22,7 @@ use Rattle.optimiser_theory.specs.Meanings.{declared_tables}
 
 -- ---- expressions and comparisons
 
--- an expression without variables has a constant as its form
+-- the form of an expression without variables is a constant
 constant_form : (m : ℕ) (e : ExprTree) → IsExprInRange 0 e → (c : ℕ) × (normal_form m e ≡ constant c)
 constant_form m (number n) h = (n % m, refl)
 constant_form m (variable k) h = absurd (let lt : k < 0 = h in omega arith)
@@ -93,7 +93,7 @@ unassigned m tests actions (loop_then b p rest) h = rw (unassigned m tests actio
 
 -- ---- files
 
--- rounds over no comparisons append none
+-- rounds with no assignments and no comparisons append nothing
 no_rounds : (n m most : ℕ) → rounds n m most [] [] ≡ []
 no_rounds zero m most = refl
 no_rounds (suc n) m most = no_rounds n m most
@@ -118,7 +118,7 @@ module _ (f : FileParts) (none : f.vars ≡ 0) (b : CondTree) (p : ProgTree) (c 
   no_assignments : file_assignments Asked ≡ []
   no_assignments = rw (unassigned (modulus f.width) f.tests f.actions p (subst (λ v. IsProgInRange f.tests f.actions v p) none in_p)) refl
 
-  -- the tables of a triple are those of the file's tests and actions alone
+  -- the tables of a triple have only the tests and actions of the file
   pub triple_tables : tables_of Asked ≡ declared_tables f
   triple_tables = rw (no_comparisons, no_assignments, no_rounds f.rounds (modulus f.width) (48 - f.tests)) refl
 

@@ -1,4 +1,4 @@
--- The first step of a list, sought from place to place.
+-- The search for the first step of a list, place by place.
 use Rattle.std.proofs.Common.{◌≡◌, ◌<◌, ◌≤◌, ◌+◌, ℕ, zero, suc, ◌⊎◌, inl, inr, ⊎_elim, List, [], ◌∷◌, ◌++◌, length, take, drop, Some, None, refl, sym, ap, ◌∙◌, subst, arith}
 use Rattle.std.proofs.lemmas.Bool.{cases_lt, cases_eq}
 use Rattle.std.proofs.lemmas.Option.{same_Some}
@@ -15,7 +15,7 @@ module _ (f : FileParts) where
   pub step_within : (n : ℕ) (ss ts : List StmtTree) → Step f n ss ts → (1 ≤ n) × (n < 13)
   step_within n ss ts step = let w = nth_within n (step_relations f ss ts) step in (w.0, omega (arith, w.1))
 
-  -- nothing can be done to no statement
+  -- no step applies to the empty list
   none_of_nothing : (n : ℕ) (ts : List StmtTree) → Step f n [] ts → ⊥
   none_of_nothing n ts step = by_case (some_holds n (step_relations f [] ts) step)
     where
@@ -34,7 +34,7 @@ module _ (f : FileParts) where
       by_case (inr (inr (inr (inr (inr (inr (inr (inr (inr (inr (inr (inl x)))))))))))) = x
       by_case (inr (inr (inr (inr (inr (inr (inr (inr (inr (inr (inr (inr x)))))))))))) = x
 
-  -- the statement at a position, and its block, are one
+  -- the statement at a position, and its block, are unique
   module _ (ss : List StmtTree) (k j : ℕ) (s : StmtTree) (rest : List StmtTree) (p : ProgTree) (at : drop k ss ≡ s ∷ rest) (is : block s j ≡ Some p) where
     inner_step : (n : ℕ) (path : List ℕ) (ts : List StmtTree) → StepsAt f n (k ∷ j ∷ path) ss ts → (us : List StmtTree) × StepsAt f n path (stmts_of p) us
     inner_step n path ts (s', rest', p', q', at', is', made, e) =
@@ -43,7 +43,7 @@ module _ (f : FileParts) where
         let same_p : p' ≡ p = same_Some p' p (sym is' ∙ ap (λ (x : StmtTree). block x j) same_s ∙ is) in
         (stmts_of q', subst (λ x. StepsAt f n path (stmts_of x) (stmts_of q')) same_p made)
 
-    -- the first step of a block is that of the list, where none comes before the block
+    -- the first step of a block is the first step of the list, if no step comes before the block
     pub first_inside : NoStepBefore f (k ∷ j ∷ []) ss → (path : List ℕ) (n : ℕ) (us : List StmtTree) → IsFirstStep f (stmts_of p) path n us →
         IsFirstStep f ss (k ∷ j ∷ path) n (take k ss ++ with_block s j (prog_of us) ∷ rest)
     first_inside none path n us inner = record { made = made; first = first; least = least }
@@ -64,7 +64,7 @@ module _ (f : FileParts) where
         least : (m : ℕ) (vs : List StmtTree) → m < n → StepsAt f m (k ∷ j ∷ path) ss vs → ⊥
         least m vs lt step = let within = inner_step m path vs step in inner.least m within.0 lt within.1
 
-    -- where a block has no step, none comes before the next block
+    -- if a block has no step, no step comes before the next block
     pub none_inside : NoStepBefore f (k ∷ j ∷ []) ss → NoStep f (stmts_of p) → NoStepBefore f (k ∷ (j + 1) ∷ []) ss
     none_inside none inner m [] ts before step = absurd step
     none_inside none inner m (i ∷ more) ts (inl lt) step = none m (i ∷ more) ts (inl lt) step
@@ -79,7 +79,7 @@ module _ (f : FileParts) where
         (λ d. none m (i ∷ l ∷ more) ts (inr (e, inl (omega arith))) step)
         (cases_eq l j)
 
-  -- where a statement has no further block, no step comes before the next position
+  -- if a statement has no further block, no step comes before the next position
   pub none_in_statement : (ss : List StmtTree) (k j : ℕ) (s : StmtTree) (rest : List StmtTree) → drop k ss ≡ s ∷ rest → ((i : ℕ) → j ≤ i → block s i ≡ None) →
       NoStepBefore f (k ∷ j ∷ []) ss → NoStepBefore f ((k + 1) ∷ []) ss
   none_in_statement ss k j s rest at last none m [] ts before step = absurd step
@@ -100,13 +100,13 @@ module _ (f : FileParts) where
               let some : Some p' ≡ None = sym is' ∙ ap (λ (x : StmtTree). block x l) same_s ∙ last l le in
               absurd (let nothing : Some p' ≡ None = some in cc)
 
-  -- before the first position there is none
+  -- no step comes before the first position
   pub none_at_first : (ss : List StmtTree) → NoStepBefore f (0 ∷ []) ss
   none_at_first ss m [] ts before step = absurd step
   none_at_first ss m (i ∷ more) ts (inl lt) step = absurd (let less : i < 0 = lt in omega arith)
   none_at_first ss m (i ∷ more) ts (inr (e, before)) step = absurd before
 
-  -- the least step at a position is the first, where none comes before it
+  -- the least step at a position is the first, if no step comes before it
   pub first_here : (ss : List StmtTree) (k n : ℕ) (new : List StmtTree) → NoStepBefore f (k ∷ []) ss → Step f n (drop k ss) new →
       ((m : ℕ) (ts : List StmtTree) → 1 ≤ m → m < n → Step f m (drop k ss) ts → ⊥) → IsFirstStep f ss (k ∷ []) n (take k ss ++ new)
   first_here ss k n new none step least = record {
@@ -115,7 +115,7 @@ module _ (f : FileParts) where
     least = λ m us lt made. least m made.0 (step_within m (drop k ss) made.0 made.1).0 lt made.1;
   }
 
-  -- where there is none at a position, none comes before the blocks there
+  -- if no step is possible at a position, none comes before the blocks there
   pub none_here : (ss : List StmtTree) (k : ℕ) → NoStepBefore f (k ∷ []) ss → ((m : ℕ) (ts : List StmtTree) → 1 ≤ m → m < 13 → Step f m (drop k ss) ts → ⊥) →
       NoStepBefore f (k ∷ 0 ∷ []) ss
   none_here ss k none here m [] ts before step = absurd step
@@ -127,7 +127,7 @@ module _ (f : FileParts) where
   none_here ss k none here m (i ∷ l ∷ more) ts (inr (e, inl lt)) step = absurd (let less : l < 0 = lt in omega arith)
   none_here ss k none here m (i ∷ l ∷ more) ts (inr (e, inr (d, before))) step = absurd before
 
-  -- past the last position there is none
+  -- there is no statement past the last position
   drop_past : (k : ℕ) (ss : List StmtTree) → length ss ≤ k → drop k ss ≡ []
   drop_past zero [] le = refl
   drop_past (suc k) [] le = refl

@@ -1,4 +1,4 @@
--- What the steps of a log keep.
+-- What the steps of a log preserve.
 use Rattle.std.proofs.Common.{List, [], ◌∷◌, subst}
 use Rattle.problem_file.specs.Files.{FileParts}
 use Rattle.while_lang.specs.Programs.{ProgTree, stmts_of}

@@ -1,4 +1,4 @@
--- What programs do over any kind of states, as relations on them.
+-- The meaning of programs as relations on any kind of states.
 use Rattle.std.proofs.Common.{◌≡◌, ℕ, ◌⊎◌, inl, inr, ⊎_elim, ◌↔◌, List, [], ◌∷◌, ◌++◌, refl, sym, subst, Bool, true, false, not}
 use Rattle.kat_model.specs.Expressions.{ExprTree, CondTree, always, negation}
 use Rattle.kat_model.specs.Relations.{Along}
@@ -6,7 +6,7 @@ use Rattle.while_lang.specs.Programs.{ProgTree, empty, skip_then, abort_then, as
 use Rattle.while_lang.proofs.ProgramLists.{stmts_of-prog_of}
 use Rattle.optimiser_theory.specs.Statements.{single}
 
--- states, the conditions that hold in them, and where actions and assignments lead from them
+-- states, the conditions that hold in them, and the states to which actions and assignments lead
 pub record Machine (S : Type 0) : Type 1 where
   pub IsState : S → Type 0
   pub holds : CondTree → S → Bool
@@ -27,7 +27,7 @@ module _ {S : Type 0} (m : Machine S) where
   abbrev pub Passes : CondTree → S → S → Type 0
   Passes b i j = (i ≡ j) × (m.holds b i ≡ true)
 
-  -- the condition holds, or fails, and then the relation leads on
+  -- the condition has the given truth value, and the relation leads on
   abbrev pub Where : CondTree → Bool → (S → S → Type 0) → S → S → Type 0
   Where b v R i j = (m.holds b i ≡ v) × R i j
 
@@ -50,7 +50,7 @@ module _ {S : Type 0} (m : Machine S) where
   Leads (branch_then b p q rest) = Then (Chooses b (Leads p) (Leads q)) (Leads rest)
   Leads (loop_then b p rest) = Then (Repeats b (Leads p)) (Leads rest)
 
-  -- so does a statement, and a list of statements
+  -- a statement leads from one state to another; the same for a list of statements
   abbrev pub Does : StmtTree → S → S → Type 0
   Does skip = Stays
   Does abort = λ i j. ⊥
@@ -66,7 +66,7 @@ module _ {S : Type 0} (m : Machine S) where
 
   -- ---- relations that relate the same states
 
-  -- from a state, and from each
+  -- both relations agree from one state; the same from every state
   abbrev pub AlikeAt : S → (S → S → Type 0) → (S → S → Type 0) → Type 0
   AlikeAt i R Q = (j : S) → m.IsState j → R i j ↔ Q i j
 
@@ -91,7 +91,7 @@ module _ {S : Type 0} (m : Machine S) where
   pub through : (R Q P : S → S → Type 0) → Alike R Q → Alike Q P → Alike R P
   through R Q P a b i si = at_through i R Q P (a i si) (b i si)
 
-  -- ---- one after the other
+  -- ---- composition
 
   pub then_at : (i : S) (R R' Q Q' : S → S → Type 0) → AlikeAt i R R' → Alike Q Q' → AlikeAt i (Then R Q) (Then R' Q')
   then_at i R R' Q Q' a b j sj = (
@@ -102,7 +102,7 @@ module _ {S : Type 0} (m : Machine S) where
   pub then_alike : (R R' Q Q' : S → S → Type 0) → Alike R R' → Alike Q Q' → Alike (Then R Q) (Then R' Q')
   then_alike R R' Q Q' a b i si = then_at i R R' Q Q' (a i si) b
 
-  -- what the first leads to may be known
+  -- the second relation may use that the first one led to its state
   pub then_after : (R Q Q' : S → S → Type 0) → ((i k : S) → m.IsState i → m.IsState k → R i k → AlikeAt k Q Q') → Alike (Then R Q) (Then R Q')
   then_after R Q Q' each i si j sj = (
     (λ r. (r.0, r.1, r.2, (each i r.0 si r.1 r.2 j sj).0 r.3)),
@@ -135,7 +135,7 @@ module _ {S : Type 0} (m : Machine S) where
     (λ r. ⊎_elim {C = Chooses b R Q i j} (λ h. inl (h.0, (a i si j sj).1 h.1)) (λ h. inr (h.0, (c i si j sj).1 h.1)) r),
   )
 
-  -- along states that keep a fact, what leads on by one relation leads on by another
+  -- if the states satisfy an invariant, a path of one relation is a path of another
   pub along_kept : (I : S → Type 0) (R R' : S → S → Type 0) → ((i k : S) → m.IsState i → m.IsState k → I i → R i k → R' i k × I k) →
       (ks : List S) (i j : S) → m.IsState i → I i → Along m.IsState R i ks j → Along m.IsState R' i ks j
   along_kept I R R' each [] i j si h a = a
@@ -152,7 +152,7 @@ module _ {S : Type 0} (m : Machine S) where
     (λ r. (r.0, along_each (Where b true R') (Where b true R) (λ l k sl sk h. (h.0, (a l sl k sk).1 h.1)) r.0 i j si r.1, r.2)),
   )
 
-  -- where the condition fails, a loop is not entered
+  -- if the condition fails, a loop is not entered
   pub along_none : (b : CondTree) (R : S → S → Type 0) (ks : List S) (i j : S) → m.holds b i ≡ false → Along m.IsState (Where b true R) i ks j → i ≡ j
   along_none b R [] i j h a = a
   along_none b R (k ∷ ks) i j h a = absurd (let holds : m.holds b i ≡ true = a.1.0 in cc)
@@ -166,12 +166,12 @@ module _ {S : Type 0} (m : Machine S) where
       (then_alike (Does x) (Does x) (Follow (xs ++ ys)) (Then (Follow xs) (Follow ys)) (same (Does x)) (follow_append xs ys))
       (back (Then (Then (Does x) (Follow xs)) (Follow ys)) (Then (Does x) (Then (Follow xs) (Follow ys))) (then_assoc (Does x) (Follow xs) (Follow ys)))
 
-  -- lists that begin alike lead on alike
+  -- lists with a common prefix agree if their rests agree
   pub follow_front : (xs ys zs : List StmtTree) → Alike (Follow ys) (Follow zs) → Alike (Follow (xs ++ ys)) (Follow (xs ++ zs))
   follow_front [] ys zs a = a
   follow_front (x ∷ xs) ys zs a = then_alike (Does x) (Does x) (Follow (xs ++ ys)) (Follow (xs ++ zs)) (same (Does x)) (follow_front xs ys zs a)
 
-  -- a program does what its statements do
+  -- a program does the same as its statements in sequence
   pub leads_follow : (p : ProgTree) → Alike (Leads p) (Follow (stmts_of p))
   leads_follow empty = same Stays
   leads_follow (skip_then rest) = then_alike Stays Stays (Leads rest) (Follow (stmts_of rest)) (same Stays) (leads_follow rest)
@@ -192,7 +192,7 @@ module _ {S : Type 0} (m : Machine S) where
   pub leads-single : (s : StmtTree) → Alike (Leads (single s)) (Does s)
   leads-single s = through (Leads (single s)) (Then (Does s) Stays) (Does s) (leads-prog_of (s ∷ [])) (then_stays (Does s))
 
-  -- programs of lists that do the same
+  -- programs agree if their statements do
   pub follow_leads : (p q : ProgTree) → Alike (Follow (stmts_of p)) (Follow (stmts_of q)) → Alike (Leads p) (Leads q)
   follow_leads p q a =
       through (Leads p) (Follow (stmts_of q)) (Leads q)

@@ -1,4 +1,4 @@
--- Facts by their numbers, as steps are.
+-- Facts in a list, selected by their number as steps are.
 use Rattle.std.proofs.Common.{◌≤◌, ℕ, zero, suc, ◌⊎◌, inl, inr, List, [], ◌∷◌, length, arith}
 use Rattle.optimiser_theory.specs.Steps.{NthHolds}
 
@@ -13,7 +13,7 @@ some_holds zero (A ∷ As) h = absurd h
 some_holds (suc zero) (A ∷ As) h = inl h
 some_holds (suc (suc n)) (A ∷ As) h = inr (some_holds (suc n) As h)
 
--- the facts of two lists at the same place
+-- at some position, the facts of both lists hold
 abbrev pub SomeHold : List (Type 0) → List (Type 0) → Type 0
 SomeHold [] Bs = ⊥
 SomeHold (A ∷ As) [] = ⊥
@@ -26,7 +26,7 @@ some_hold zero (A ∷ As) (B ∷ Bs) h k = absurd h
 some_hold (suc zero) (A ∷ As) (B ∷ Bs) h k = inl (h, k)
 some_hold (suc (suc n)) (A ∷ As) (B ∷ Bs) h k = inr (some_hold (suc n) As Bs h k)
 
--- there are no others
+-- every such number is between 1 and the length
 pub nth_within : (n : ℕ) (As : List (Type 0)) → NthHolds n As → (1 ≤ n) × (n ≤ length As)
 nth_within n [] h = absurd h
 nth_within zero (A ∷ As) h = absurd h

@@ -1,4 +1,4 @@
--- Of a list of statements there is at most one first step.
+-- A list of statements has at most one first step.
 use Rattle.std.proofs.Common.{◌≡◌, ℕ, ◌⊎◌, inl, inr, ⊎_elim, List, [], ◌∷◌, ◌++◌, take, drop, refl, sym, ap, ◌∙◌, subst, arith}
 use Rattle.std.proofs.lemmas.Bool.{cases_lt}
 use Rattle.std.proofs.lemmas.Option.{same_Some}
@@ -16,7 +16,7 @@ no_last : {X : Type 0} (xs : List X) (x : X) → xs ++ x ∷ [] ≡ [] → ⊥
 no_last [] x e = cc
 no_last (y ∷ xs) x e = cc
 
--- lists with one more member each are the same where all but it are, and it is
+-- if two lists with an element appended are equal, so are the lists and the elements
 pub last_same : {X : Type 0} (xs ys : List X) (x y : X) → xs ++ x ∷ [] ≡ ys ++ y ∷ [] → (xs ≡ ys) × (x ≡ y)
 last_same [] [] x y e = (refl, cc)
 last_same [] (b ∷ ys) x y e = let rest : [] ≡ ys ++ y ∷ [] = cc in absurd (no_last ys y (sym rest))
@@ -27,12 +27,12 @@ last_same (a ∷ xs) (b ∷ ys) x y e =
     let both = last_same xs ys x y tail in
     (ap₂ ◌∷◌ head both.0, both.1)
 
--- programs with the same statements are the same
+-- programs with equal statements are equal
 pub same_progs : (p q : ProgTree) → stmts_of p ≡ stmts_of q → p ≡ q
 same_progs p q e = sym (prog_of-stmts_of p) ∙ ap prog_of e ∙ prog_of-stmts_of q
 
 module _ (f : FileParts) where
-  -- a step takes a list to one list
+  -- each step takes a list to at most one list
 
   one_skip : (ss ts us : List StmtTree) → LeavesOutSkip ss ts → LeavesOutSkip ss us → ts ≡ us
   one_skip (skip ∷ rest) ts us d e = d ∙ sym e
@@ -105,7 +105,7 @@ module _ (f : FileParts) where
       by_case (inr (inr (inr (inr (inr (inr (inr (inr (inr (inr (inr (inl x)))))))))))) = one_flattened ss ts us x.0 x.1
       by_case (inr (inr (inr (inr (inr (inr (inr (inr (inr (inr (inr (inr x)))))))))))) = absurd x
 
-  -- and so it does at a path
+  -- the same for a step at a path
   pub one_at : (n : ℕ) (path : List ℕ) (ss ts us : List StmtTree) → StepsAt f n path ss ts → StepsAt f n path ss us → ts ≡ us
   one_at n [] ss ts us d e = absurd d
   one_at n (k ∷ []) ss ts us (new, step, e) (other, made, d) = e ∙ ap (λ (l : List StmtTree). take k ss ++ l) (one_step n (drop k ss) new other step made) ∙ sym d
@@ -118,7 +118,7 @@ module _ (f : FileParts) where
       let same_q : q ≡ q' = same_progs q q' (one_at n path (stmts_of p) (stmts_of q) (stmts_of q') made other) in
       e ∙ rw (same_s, same_rest, same_q) (sym e')
 
-  -- of two places one comes before the other, or they are the same
+  -- two places are equal, or one comes before the other
   abbrev Ordered : List ℕ → List ℕ → Type 0
   Ordered xs ys = (xs ≡ ys) ⊎ (IsBefore xs ys ⊎ IsBefore ys xs)
 

@@ -1,4 +1,4 @@
--- A program that is named in a file has its numbers in the file's ranges.
+-- A program that is named in a file uses only numbers in the ranges of the file.
 use Rattle.std.proofs.Common.{◌≡◌, ℕ, List, Option, None, Some, refl, subst}
 use Rattle.std.proofs.lemmas.Option.{same_Some, none-some}
 use Rattle.std.specs.Option.{option_map}
@@ -10,7 +10,7 @@ use Rattle.problem_file.specs.Ranges.{IsProgInRange, IsNumbered}
 use Rattle.problem_file.proofs.NumberedStates.{meant_in}
 use Rattle.optimiser_theory.specs.Meanings.{HasProgInRange}
 
--- the tree of the one that is meant, where there is one
+-- if the program is found, p is its tree and has the property
 tree_in : (P : ProgTree → Type 0) (o : Option ProgParts) (p : ProgTree) → ((d : ProgParts) → o ≡ Some d → P d.tree) → option_map (λ d. d.tree) o ≡ Some p → P p
 tree_in P None p h e = absurd (none-some p e)
 tree_in P (Some d) p h e = subst P (same_Some d.tree p e) (h d refl)

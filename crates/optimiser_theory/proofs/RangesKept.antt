@@ -40,7 +40,7 @@ module _ (f : FileParts) where
   pub single_in : (s : StmtTree) → IsStmtInRange f s → InRange (single s)
   single_in s h = prog_of_in (s ∷ []) (h, tt)
 
-  -- a program is in range where its statements are
+  -- a program is in range if its statements are
   pub prog_in : (p : ProgTree) → AreStmtsInRange f (stmts_of p) → InRange p
   prog_in p h = subst InRange (prog_of-stmts_of p) (prog_of_in (stmts_of p) h)
 

@@ -1,4 +1,4 @@
--- Each step takes a list of statements to one that leads from the same states to the same states.
+-- Each step takes a list of statements to a list that relates the same states.
 use Rattle.std.proofs.Common.{◌≡◌, ℕ, zero, suc, ◌⊎◌, inl, inr, ⊎_elim, List, [], ◌∷◌, ◌++◌, take, drop, Some, refl, sym, ap, ◌∙◌, subst, true, false}
 use Rattle.std.proofs.lemmas.List.{take-append-drop}
 use Rattle.std.proofs.lemmas.Bool.{cases_Bool, not-true, not_from_false}
@@ -19,7 +19,7 @@ use Rattle.optimiser_theory.proofs.Machines.{Machine, Then, Stays, Passes, Where
 module _ {S : Type 0} (m : Machine S) where
   -- ---- choices and loops
 
-  -- a choice, where the condition holds and where it fails
+  -- a choice whose condition holds, and one whose condition fails
   chooses_first : (i : S) (b : CondTree) (R Q : S → S → Type 0) → m.holds b i ≡ true → AlikeAt m i (Chooses m b R Q) R
   chooses_first i b R Q h j sj = (
     (λ r. ⊎_elim {C = R i j} (λ x. x.1) (λ x. let fails : m.holds b i ≡ false = x.0 in absurd cc) r),
@@ -32,19 +32,19 @@ module _ {S : Type 0} (m : Machine S) where
     (λ r. inr (h, r)),
   )
 
-  -- a choice between one and the same
+  -- a choice between equal relations
   chooses_same : (b : CondTree) (R : S → S → Type 0) → Alike m (Chooses m b R R) R
   chooses_same b R i si =
       ⊎_elim {C = AlikeAt m i (Chooses m b R R) R} (chooses_first i b R R) (chooses_second i b R R) (cases_Bool (m.holds b i))
 
-  -- what both lead to at the end may stand after the choice
+  -- a common end of both relations may come after the choice
   chooses_then : (b : CondTree) (R Q P : S → S → Type 0) → Alike m (Chooses m b (Then m R P) (Then m Q P)) (Then m (Chooses m b R Q) P)
   chooses_then b R Q P i si j sj = (
     (λ r. ⊎_elim {C = Then m (Chooses m b R Q) P i j} (λ x. (x.1.0, x.1.1, inl (x.0, x.1.2), x.1.3)) (λ x. (x.1.0, x.1.1, inr (x.0, x.1.2), x.1.3)) r),
     (λ r. ⊎_elim {C = Chooses m b (Then m R P) (Then m Q P) i j} (λ x. inl (x.0, (r.0, r.1, x.1, r.3))) (λ x. inr (x.0, (r.0, r.1, x.1, r.3))) r.2),
   )
 
-  -- so may the statement with which both blocks of a choice end
+  -- a common last statement of both blocks may come after the choice
   taken_out : (b : CondTree) (P Q P' Q' R F : S → S → Type 0) → Alike m P (Then m P' R) → Alike m Q (Then m Q' R) →
       Alike m (Then m (Chooses m b P Q) F) (Then m (Chooses m b P' Q') (Then m R F))
   taken_out b P Q P' Q' R F p q =
@@ -61,7 +61,7 @@ module _ {S : Type 0} (m : Machine S) where
     (λ e. ([], e, ap (m.holds b) (sym e) ∙ h)),
   )
 
-  -- a loop over a choice on a condition that stays as it is
+  -- a loop over a choice on a condition that the loop does not change
   module _ (b c : CondTree) (R Q : S → S → Type 0)
       (keeps : (i k : S) → m.IsState i → m.IsState k → m.holds c i ≡ true → R i k → m.holds c k ≡ true)
       (keeps_not : (i k : S) → m.IsState i → m.IsState k → m.holds c i ≡ false → Q i k → m.holds c k ≡ false) where
@@ -123,7 +123,7 @@ module _ {S : Type 0} (m : Machine S) where
     (λ r. (r.0, along_kept m (λ s. Unit {0}) (Where m b true R) (Where m b true (Chooses m b R Q)) (λ l k sl sk u t. ((t.0, inl (t.0, t.1)), tt)) r.0 i j si tt r.1, r.2)),
   )
 
-  -- a block in place of what does the same
+  -- a block replaces a statement that does the same
   block_at : (i : S) (R : S → S → Type 0) (p : ProgTree) (rest : List StmtTree) → m.IsState i → AlikeAt m i R (Leads m p) → AlikeAt m i (Then m R (Follow m rest)) (Follow m (stmts_of p ++ rest))
   block_at i R p rest si a =
       at_through m i (Then m R (Follow m rest)) (Then m (Follow m (stmts_of p)) (Follow m rest)) (Follow m (stmts_of p ++ rest))
@@ -132,11 +132,11 @@ module _ {S : Type 0} (m : Machine S) where
 
 -- ---- steps
 
--- from states in which the condition holds, the program leads only to such in which the other holds
+-- from states in which the first condition holds, the program leads only to states in which the second holds
 abbrev pub Meets : {S : Type 0} → Machine S → CondTree → ProgTree → CondTree → Type 0
 Meets {S} m b p c = (i j : S) → m.IsState i → m.IsState j → m.holds b i ≡ true → Leads m p i j → m.holds c j ≡ true
 
--- valid triples are met
+-- the machine meets every valid triple
 abbrev pub MeetsValid : {S : Type 0} → FileParts → Machine S → Type 0
 MeetsValid f m =
     (b : CondTree) (p : ProgTree) (c : CondTree) → IsCondInRange f.tests f.vars b → IsProgInRange f.tests f.actions f.vars p → IsCondInRange f.tests f.vars c
@@ -192,7 +192,7 @@ module _ {S : Type 0} (f : FileParts) (m : Machine S) (meets : MeetsValid f m) w
       rw (e, ← twice) (λ i si. block_at m i (Chooses m b (Leads m p) (Leads m p)) p rest si (chooses_same m b (Leads m p) i si))
   either_kept _ ts e = absurd e
 
-  -- a block that ends with a statement
+  -- a block that ends with the statement r
   ended_block : (p : ProgTree) (ps : List StmtTree) (r : StmtTree) → stmts_of p ≡ ps ++ r ∷ [] → Alike m (Leads m p) (Then m (Leads m (prog_of ps)) (Does m r))
   ended_block p ps r e =
       let parts : Alike m (Leads m p) (Follow m (ps ++ r ∷ [])) = subst (λ us. Alike m (Leads m p) (Follow m us)) e (leads_follow m p) in
@@ -290,7 +290,7 @@ module _ {S : Type 0} (f : FileParts) (m : Machine S) (meets : MeetsValid f m) w
   block_kept (loop b x) zero p q e a = repeats_alike m b (Leads m x) (Leads m q) (subst (λ z. Alike m (Leads m z) (Leads m q)) (sym (same_Some x p e)) a)
   block_kept _ _ p q e a = absurd cc
 
-  -- a list does what another does where both do so from a position on
+  -- lists agree if they agree from a position on
   from_position : (k : ℕ) (ss new : List StmtTree) → Alike m (Follow m (drop k ss)) (Follow m new) → Alike m (Follow m ss) (Follow m (take k ss ++ new))
   from_position k ss new a =
       subst (λ us. Alike m (Follow m us) (Follow m (take k ss ++ new))) (take-append-drop k ss) (follow_front m (take k ss) (drop k ss) new a)

@@ -1,4 +1,4 @@
--- In a file without tests, actions, terms and stated hypotheses, steps keep the stores in which a program ends.
+-- In a file without tests, actions, terms and stated hypotheses, steps preserve the stores in which a program ends.
 use Rattle.std.proofs.Common.{◌≡◌, ℕ, zero, suc, ◌+◌, ◌⊎◌, inl, inr, ⊎_elim, ◌↔◌, List, [], ◌∷◌, refl, sym, ap, ◌∙◌, subst, true, false, set}
 use Rattle.std.proofs.lemmas.List.{length-set}
 use Rattle.kat_model.specs.Expressions.{ExprTree, CondTree}
@@ -34,11 +34,11 @@ stores_of f = record {
 }
 
 module _ (f : FileParts) where
-  -- what a store becomes by an assignment is one
+  -- an assignment turns a store of the file into a store of the file
   set_store : (x : ℕ) (e : ExprTree) (s : Store) → IsStoreOf f s → IsStoreOf f (set s x (value f.width s e))
   set_store x e s is = (length-set s x (value f.width s e) ∙ is.0, set_is_store f.width s x (value f.width s e) is.1 (value_below f.width s e is.1))
 
-  -- ---- where a program goes, it leads
+  -- ---- runs of a program are related by `Leads`
 
   turns_lead : (b : CondTree) (p : ProgTree) → ((s : Store) (k : ℕ) (u : Store) → IsStoreOf f s → Goes f.width p s k u → IsStoreOf f u × Leads (stores_of f) p s u) →
       (n : ℕ) (s : Store) (k : ℕ) (u : Store) → IsStoreOf f s → Turns n (condition f.width b) (Goes f.width p) (Leaves (condition f.width b)) s k u →
@@ -76,7 +76,7 @@ module _ (f : FileParts) where
       let r = goes_lead rest v j u turns.0 c in
       (r.0, (v, turns.0, turns.1, r.1))
 
-  -- ---- where a program leads, it goes
+  -- ---- stores related by `Leads` have runs
 
   along_turns : (b : CondTree) (p : ProgTree) → ((s u : Store) → IsStoreOf f s → IsStoreOf f u → Leads (stores_of f) p s u → Ends f.width p s u) →
       (ks : List Store) (s u : Store) → IsStoreOf f s → IsStoreOf f u → holds f.width u b ≡ false → Along (IsStoreOf f) (Where (stores_of f) b true (Leads (stores_of f) p)) s ks u →
@@ -112,7 +112,7 @@ module _ (f : FileParts) where
       let turns = along_turns b p (λ x y sx sy h. leads_end p x y sx sy h) r.2.0 s r.0 ss r.1 r.2.2 r.2.1 in
       (turns.1 + later.0, (turns.1, later.0, r.0, (turns.0, turns.2), later.1, refl))
 
-  -- a program ends in the stores to which it leads
+  -- a program ends in exactly the stores to which it leads
   ends_where_leads : (p : ProgTree) (s u : Store) → IsStoreOf f s → IsStoreOf f u → Ends f.width p s u ↔ Leads (stores_of f) p s u
   ends_where_leads p s u ss su = ((λ g. (goes_lead p s g.0 u ss g.1).1), leads_end p s u ss su)
 

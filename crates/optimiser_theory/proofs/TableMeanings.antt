@@ -1,4 +1,4 @@
--- In a file without variables, steps keep what a program relates in tables.
+-- In a file without variables, steps preserve what a program relates in tables.
 use Rattle.std.proofs.Common.{◌≡◌, ◌<◌, ◌+◌, ℕ, ◌↔◌, length, sym, ap, ◌∙◌, subst, arith}
 use Rattle.kat_model.specs.Expressions.{CondTree}
 use Rattle.kat_model.specs.Relations.{Table, IsTable, frame_of, Relates, Keeps, Same}

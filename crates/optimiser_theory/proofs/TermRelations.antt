@@ -1,4 +1,4 @@
--- The term of a program relates the states of a frame between which the program leads.
+-- The term of a program relates exactly the states of a frame between which the program leads.
 use Rattle.std.proofs.Common.{◌≡◌, ◌⊎◌, inl, inr, ⊎_elim, ◌↔◌, refl, sym, subst, true, false}
 use Rattle.std.proofs.lemmas.Bool.{not-true, not_from_false}
 use Rattle.kat_model.specs.Trees.{TestTree, complement, Term, test, product}
@@ -14,7 +14,7 @@ use Rattle.abstraction.specs.Tables.{Tables}
 use Rattle.abstraction.specs.Tests.{cond_test, assignment_action, prog_flow}
 use Rattle.optimiser_theory.proofs.Machines.{Machine, Then, Stays, Passes, Where, Chooses, Repeats, Leads, Alike, same, through, then_alike, along_kept}
 
--- a frame in which tables read conditions and assignments
+-- the machine of a frame whose conditions and assignments are read with tables
 abbrev pub machine_of : {S : Type 0} → Frame S → Tables → Machine S
 machine_of frame t = record {
   IsState = frame.IsState;
@@ -26,7 +26,7 @@ machine_of frame t = record {
 }
 
 module _ {S : Type 0} (frame : Frame S) (t : Tables) where
-  -- the term of a condition before another, where the condition holds
+  -- the term of a condition before another term: the condition holds and the term relates
   guarded : (b : TestTree) (e : Term) (R : S → S → Type 0) → Alike (machine_of frame t) (RelatesIn frame e) R → (i j : S) → frame.IsState i → frame.IsState j →
       RelatesIn frame (product (test b) e) i j ↔ ((truth b (frame.atom i) ≡ true) × R i j)
   guarded b e R a i j si sj = (
@@ -66,14 +66,14 @@ module _ {S : Type 0} (frame : Frame S) (t : Tables) where
       Alike (machine_of frame t) (Then (machine_of frame t) R (RelateInTurn frame (stmt_terms (prog_flow t rest)))) (Then (machine_of frame t) Q (Leads (machine_of frame t) rest))
   with_rest rest R Q = then_alike (machine_of frame t) R Q (RelateInTurn frame (stmt_terms (prog_flow t rest))) (Leads (machine_of frame t) rest)
 
-  -- the term of a program relates as its statements do in turn
+  -- the term of a program relates two states exactly when its statements do in sequence
   whole : (p : ProgTree) → Alike (machine_of frame t) (RelateInTurn frame (stmt_terms (prog_flow t p))) (Leads (machine_of frame t) p) →
       Alike (machine_of frame t) (RelatesIn frame (encoded (prog_flow t p))) (Leads (machine_of frame t) p)
   whole p a =
       through (machine_of frame t) (RelatesIn frame (encoded (prog_flow t p))) (RelateInTurn frame (stmt_terms (prog_flow t p))) (Leads (machine_of frame t) p)
       (λ i si j sj. product_of_relations frame (stmt_terms (prog_flow t p)) i j si sj) a
 
-  -- the terms of the statements, one after the other, relate so
+  -- the terms of the statements, in sequence, relate the states between which the program leads
   in_turn_leads : (p : ProgTree) → Alike (machine_of frame t) (RelateInTurn frame (stmt_terms (prog_flow t p))) (Leads (machine_of frame t) p)
   in_turn_leads empty = same (machine_of frame t) (Stays (machine_of frame t))
   in_turn_leads (skip_then rest) = with_rest rest (Stays (machine_of frame t)) (Stays (machine_of frame t)) (same (machine_of frame t) (Stays (machine_of frame t))) (in_turn_leads rest)

@@ -1,17 +1,17 @@
--- The laws of steps and logs. Each stands on a function of the crate that does nothing.
+-- The laws of steps and logs. Each is the contract of a function of the crate that does nothing.
 use Rattle.std.specs.Prelude.{◌≡◌, List}
 use Rattle.problem_file.specs.Files.{FileParts}
 use Rattle.while_lang.specs.Programs.{ProgTree}
 use Rattle.optimiser_theory.specs.Logs.{LogLineParts, FirstStep, IsLog}
 use Rattle.optimiser_theory.specs.Meanings.{HasProgInRange, KeepsInTables, KeepsFromStores}
 
--- of a file and a program there is at most one first step, and one program that it gives
+-- a program in a file has at most one first step, and the step gives one program
 abbrev pub FirstStepIsOne : Type 0
 FirstStepIsOne =
     (f : FileParts) (p q r : ProgTree) (line other : LogLineParts)
     → FirstStep f p line q → FirstStep f p other r → (line ≡ other) × (q ≡ r)
 
--- the steps of a log keep the numbers in range, and what the program means
+-- the steps of a log keep the numbers in range, and preserve the meaning of the program
 pub record LogsKeep (f : FileParts) (p : ProgTree) (log : List LogLineParts) (q : ProgTree) : Type 0 where
   pub range : HasProgInRange f q
   pub in_tables : KeepsInTables f p q

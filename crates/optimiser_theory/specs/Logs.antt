@@ -4,21 +4,21 @@ use Rattle.problem_file.specs.Files.{FileParts}
 use Rattle.while_lang.specs.Programs.{ProgTree, stmts_of}
 use Rattle.optimiser_theory.specs.Paths.{NoStep, IsFirstStep}
 
--- the number of a step, and where it is made, in the program as it is then
+-- the number of a step, and its place in the program before the step
 pub record LogLineParts : Type 0 where
   pub step : ℕ
   pub path : List ℕ
 
--- the first step of a program, which takes it to another
+-- the step is the first of program p, and gives q
 abbrev pub FirstStep : FileParts → ProgTree → LogLineParts → ProgTree → Type 0
 FirstStep f p line q = IsFirstStep f (stmts_of p) line.path line.step (stmts_of q)
 
--- each line is the first step of what the lines before it come to
+-- each line is the first step of the result of the lines before it
 abbrev pub IsLog : FileParts → ProgTree → List LogLineParts → ProgTree → Type 0
 IsLog f p [] q = p ≡ q
 IsLog f p (line ∷ log) q = (r : ProgTree) × FirstStep f p line r × IsLog f r log q
 
--- no step can be made, or some can
+-- no step is possible; some step is possible
 abbrev pub IsFinished : FileParts → ProgTree → Type 0
 IsFinished f p = NoStep f (stmts_of p)
 

@@ -4,25 +4,25 @@ use Rattle.problem_file.specs.Files.{FileParts}
 use Rattle.problem_file.specs.Ranges.{IsExprInRange, IsCondInRange, IsProgInRange}
 use Rattle.while_lang.specs.Programs.{ProgTree, StmtTree, skip, abort, assert, act, assign, branch, loop, prog_of}
 
--- the block of a statement by its number: those of an `if` are 0 and 1, that of a `while` is 0
+-- the block of a statement with this number: an `if` has blocks 0 and 1, a `while` has block 0
 abbrev pub block : StmtTree → ℕ → Option ProgTree
 block (branch b p q) zero = Some p
 block (branch b p q) (suc zero) = Some q
 block (loop b p) zero = Some p
 block s j = None
 
--- the statement with another program as that block
+-- the statement with that block replaced
 abbrev pub with_block : StmtTree → ℕ → ProgTree → StmtTree
 with_block (branch b p q) zero r = branch b r q
 with_block (branch b p q) (suc zero) r = branch b p r
 with_block (loop b p) zero r = loop b r
 with_block s j r = s
 
--- the program that is this one statement
+-- the program of this statement only
 abbrev pub single : StmtTree → ProgTree
 single s = prog_of (s ∷ [])
 
--- each test, action and variable of the statement is one of the file
+-- each test, action and variable of the statement is declared in the file
 abbrev pub IsStmtInRange : FileParts → StmtTree → Type 0
 IsStmtInRange f skip = Unit {0}
 IsStmtInRange f abort = Unit {0}

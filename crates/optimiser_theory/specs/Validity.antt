@@ -1,4 +1,4 @@
--- The conditions of the optimiser: triples (Hoare 1969) that hold whatever the tests, actions and values are.
+-- The conditions of the optimiser: triples (Hoare 1969) that hold for all tests, actions and values.
 use Rattle.std.specs.Prelude.{◌≡◌, Ok}
 use Rattle.kat_model.specs.Expressions.{CondTree, always, negation}
 use Rattle.kat_model.specs.Relations.{Same}
@@ -13,7 +13,7 @@ pub record IsValid (f : FileParts) (pre : CondTree) (body : ProgTree) (post : Co
   pub made : abstract_of (with_goal f (triple pre (prog_side body) post)) ≡ Ok parts
   pub same : Same parts.problem
 
--- the condition holds everywhere, or nowhere
+-- the condition always holds; the condition never holds
 abbrev pub HoldsAlways : FileParts → CondTree → Type 0
 HoldsAlways f b = IsValid f always empty b
 

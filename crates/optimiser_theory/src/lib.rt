@@ -1,4 +1,4 @@
-//! The steps of the optimiser, as rewritings of programs, and what they keep of a program's meaning.
+//! The steps of the optimiser as rewritings of programs, and the meaning that they preserve.
 #![tactic(auto)]
 
 mod laws;

@@ -1,4 +1,4 @@
--- Functions of diagrams that are made in several steps.
+-- Functions of diagrams that are built in several steps.
 use Rattle.std.proofs.Common.{◌≡◌, ℕ, ◌+◌, ◌↔◌, length, get_or, Bool, true, false, not, ◌&&◌, ◌||◌, cond, refl, sym, ap, ◌∙◌, subst}
 use mathlib.Core.Path.{ap₂}
 use Rattle.std.proofs.Math.ListN.{set, length-set}
@@ -14,7 +14,7 @@ use Rattle.outline_diagrams.specs.StepFunctions.{StepDiagramsParts, AreStepDiagr
 use Rattle.outline_diagrams.proofs.Interleaving.{atom_parts}
 use Rattle.outline_diagrams.proofs.StepSets.{step_value-kept, KeepsSteps-trans, IsStepId-kept, choice_values}
 
--- the value of what was made before two more steps
+-- a choice by a test, built from the diagrams of the test and its complement
 pub choice_function : (s0 s1 s2 s3 s4 : StepDiagramsParts) (moment : Moment) (test low high holds fails wf wt : ℕ) → KeepsSteps s0 s1 → KeepsSteps s1 s2 → KeepsSteps s2 s3 → KeepsSteps s3 s4 → IsStepId s0 low → IsStepId s0 high
     → IsStepDiagram s1 holds (λ x y. get_or (atom_at_moment moment x y) test false)
     → IsStepDiagram s2 fails (λ x y. not (step_value s1 holds x y))
@@ -36,7 +36,7 @@ choice_function s0 s1 s2 s3 s4 moment test low high holds fails wf wt k1 k2 k3 k
     ∙ ap₂ (λ p q. p && q) (step_value-kept s1 s3 k13 holds d1.in_range x y ∙ own) (step_value-kept s0 s3 k03 high h x y) in
     ap₂ (λ p q. p || q) first second ∙ choice_values b (step_value s0 low x y) (step_value s0 high x y)
 
--- the two values of a test that is set
+-- true for some value of a test: the disjunction over both values
 pub some_value_function : (s0 s1 s2 : StepDiagramsParts) (a test low high : ℕ) → KeepsSteps s0 s1 → KeepsSteps s1 s2 → IsStepId s0 a
     → IsStepDiagram s1 low (with_value Before test false (step_value s0 a)) → IsStepDiagram s2 high (with_value Before test true (step_value s1 a))
     → (x y : Atom) → length x ≡ s0.tests → length y ≡ s0.tests → (step_value s2 low x y || step_value s2 high x y) ≡ (step_value s0 a (set x test false) y || step_value s0 a (set x test true) y)
@@ -46,7 +46,7 @@ some_value_function s0 s1 s2 a test low high k1 k2 is d1 d2 x y lx ly =
     (step_value-kept s1 s2 k2 low d1.in_range x y ∙ d1.value x y (lx ∙ sym k1.tests) (ly ∙ sym k1.tests))
     (d2.value x y (lx ∙ sym k02.tests) (ly ∙ sym k02.tests) ∙ step_value-kept s0 s1 k1 a is (set x test true) y)
 
--- the value after the step that the test has before it
+-- a test after the step gets its value from before the step
 pub moved_function : (s0 s1 s2 : StepDiagramsParts) (a test low high : ℕ) → KeepsSteps s0 s1 → KeepsSteps s1 s2 → IsStepId s0 a
     → IsStepDiagram s1 low (with_value After test false (step_value s0 a)) → IsStepDiagram s2 high (with_value After test true (step_value s1 a))
     → (x y : Atom) → length x ≡ s0.tests → length y ≡ s0.tests → choice_by Before test (step_value s2 low) (step_value s2 high) x y ≡ step_value s0 a x (set y test (get_or x test false))
@@ -58,7 +58,7 @@ moved_function s0 s1 s2 a test low high k1 k2 is d1 d2 x y lx ly = by_value (get
         d2.value x y (lx ∙ sym k02.tests) (ly ∙ sym k02.tests) ∙ step_value-kept s0 s1 k1 a is x (set y test true)
     by_value false = step_value-kept s1 s2 k2 low d1.in_range x y ∙ d1.value x y (lx ∙ sym k1.tests) (ly ∙ sym k1.tests)
 
--- what is nowhere true while another is false is entailed
+-- if `a` and the complement of `b` are never both true, `a` entails `b`, and conversely
 module _ (s0 s1 s2 : StepDiagramsParts) (a b outside broken never : ℕ) (k1 : KeepsSteps s0 s1) (k2 : KeepsSteps s1 s2) (ia : IsStepId s0 a) (ib : IsStepId s0 b)
     (d1 : IsStepDiagram s1 outside (λ x y. not (step_value s0 b x y))) (d2 : IsStepDiagram s2 broken (λ x y. step_value s1 a x y && step_value s1 outside x y)) (d3 : IsStepDiagram s2 never (λ x y. false))
     (sound : AreStepDiagrams s2) (ids : EqualIdsAreEqualFunctions s2.diagrams) where

@@ -1,4 +1,5 @@
--- Images of relations: some values of all tests before a step, and the atom after it in place of that before it.
+-- Images of relations: true for some values of all tests before a step, then the atom after the step replaced by the
+-- atom before it.
 use Rattle.std.proofs.Common.{◌≡◌, ℕ, zero, suc, ◌+◌, ◌<◌, ◌≤◌, inl, inr, ⊎_elim, List, [], ◌∷◌, ◌++◌, length, take, drop, get_or, Bool, true, false, ◌||◌, Result, Ok, Err, refl, sym, ap, ◌∙◌, subst, arith, append-nil}
 use mathlib.Core.Path.{ap₂}
 use Rattle.std.specs.Result.{IfOk}
@@ -12,7 +13,7 @@ use Rattle.outline_diagrams.proofs.StepSets.{IsStepDiagram-same}
 
 -- ---- some values of the first tests
 
--- from the given place on, two atoms have the same values
+-- from test k on, two atoms have equal values
 abbrev AgreeFrom : ℕ → Atom → Atom → Type 0
 AgreeFrom k w x = drop k w ≡ drop k x
 
@@ -51,7 +52,7 @@ drop_agree (suc k) (a ∷ w) [] h = later k w h
 drop_agree (suc k) (a ∷ w) (b ∷ x) h = drop_agree k w x h
 
 module _ (f : Atom → Bool) where
-  -- where there are such values, there is an atom with them
+  -- if `some_first` is true at an atom, the function is true at some atom
   pub some_first_source : (k : ℕ) (x : Atom) → some_first k f x ≡ true → (w : Atom) × (length w ≡ length x) × (f w ≡ true)
   some_first_source zero x e = (x, refl, e)
   some_first_source (suc k) x e =
@@ -60,7 +61,7 @@ module _ (f : Atom → Bool) where
       (λ p. let s = some_first_source k (set x k true) p in (s.0, s.1 ∙ length-set x k true, s.2))
       (or_cases (some_first k f (set x k false)) (some_first k f (set x k true)) e)
 
-  -- and each atom that differs in the first tests alone gives them
+  -- an atom at which the function is true makes `some_first` true at each atom that differs only in the first k tests
   pub some_first_reached : (k : ℕ) (w x : Atom) → length w ≡ length x → AgreeFrom k w x → f w ≡ true → some_first k f x ≡ true
   some_first_reached zero w x e h t = subst (λ y. f y ≡ true) h t
   some_first_reached (suc k) w x e h t =

@@ -1,4 +1,4 @@
--- The values of two atoms that are interleaved: each stands at the copy of its test.
+-- The values of two interleaved atoms: each value is at the copy of its test.
 use Rattle.std.proofs.Common.{◌≡◌, ℕ, zero, suc, ◌+◌, List, [], ◌∷◌, length, Bool, false, get_or, refl, sym, ap, ◌∙◌, arith}
 use Rattle.std.proofs.Math.ListN.{set}
 use Rattle.kat_model.specs.Steps.{Atom}
@@ -10,7 +10,7 @@ length-interleaved (a ∷ x) [] n ex ey = absurd (omega (arith, ex, ey))
 length-interleaved (a ∷ x) (b ∷ y) zero ex ey = absurd (omega (arith, ex))
 length-interleaved (a ∷ x) (b ∷ y) (suc n) ex ey = omega (arith, length-interleaved x y n (omega (arith, ex)) (omega (arith, ey)))
 
--- an atom over twice as many tests is made of two
+-- an atom over twice as many tests is two interleaved atoms
 pub record IsInterleaved (n : ℕ) (z : Atom) : Type 0 where
   pub before : Atom
   pub after : Atom
@@ -33,7 +33,7 @@ atom_parts (suc n) (a ∷ b ∷ z) e =
       is = ap (λ (l : Atom). a ∷ b ∷ l) p.is;
     }
 
--- the value of a test before the step, and after it
+-- the value of a test before the step and after it, in the interleaved atom
 
 pub get_or-before : (x y : Atom) (k j : ℕ) → length x ≡ length y → j ≡ k + k → get_or (interleaved x y) j false ≡ get_or x k false
 get_or-before [] y k j e h = refl
@@ -55,7 +55,7 @@ get_or-after (a ∷ x) (b ∷ y) (suc k) zero e h = absurd (omega (arith, h))
 get_or-after (a ∷ x) (b ∷ y) (suc k) (suc zero) e h = absurd (omega (arith, h))
 get_or-after (a ∷ x) (b ∷ y) (suc k) (suc (suc j)) e h = get_or-after x y k j (omega (arith, e)) (omega (arith, h))
 
--- an atom with another value of a test before the step, or after it
+-- changing the value of a test before the step or after it, in the interleaved atom
 
 pub set-before : (x y : Atom) (k j : ℕ) (v : Bool) → length x ≡ length y → j ≡ k + k → set (interleaved x y) j v ≡ interleaved (set x k v) y
 set-before [] y k j v e h = refl

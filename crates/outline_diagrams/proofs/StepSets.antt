@@ -1,4 +1,4 @@
--- Diagrams over twice as many tests as functions of two atoms.
+-- Diagrams over twice as many tests, as functions of two atoms.
 use Rattle.std.proofs.Common.{◌≡◌, ℕ, ◌+◌, length, get_or, Bool, true, false, not, ◌&&◌, ◌||◌, cond, Result, Ok, Err, refl, sym, ap, ◌∙◌}
 use Rattle.std.proofs.Math.ListN.{set}
 use Rattle.std.specs.Result.{IfOk}
@@ -11,11 +11,11 @@ use Rattle.outline_diagrams.specs.Interleaved.{interleaved, atom_at_moment, copy
 use Rattle.outline_diagrams.specs.StepFunctions.{StepDiagramsParts, AreStepDiagrams, step_value, IsStepId, IsStepDiagram, KeepsSteps}
 use Rattle.outline_diagrams.proofs.Interleaving.{length-interleaved, get_or-before, get_or-after, set-before, set-after}
 
--- both atoms together have a value for each test of the diagrams
+-- two interleaved atoms have a value for each test of the diagrams
 pub whole_length : (d : StepDiagramsParts) (x y : Atom) → AreStepDiagrams d → length x ≡ d.tests → length y ≡ d.tests → length (interleaved x y) ≡ d.diagrams.tests
 whole_length d x y sound ex ey = length-interleaved x y d.tests ex ey ∙ sym sound.twice
 
--- a function of the whole is one of both atoms
+-- a function of the interleaved atom is a function of both atoms
 pub step_diagram : (d : StepDiagramsParts) (id : ℕ) (f : Atom → Bool) (g : Atom → Atom → Bool) → AreStepDiagrams d → IsDiagramOf d.diagrams id f → ((x y : Atom) → length x ≡ d.tests → length y ≡ d.tests → f (interleaved x y) ≡ g x y) → IsStepDiagram d id g
 step_diagram d id f g sound is same =
     record {
@@ -43,11 +43,11 @@ module _ (old new : StepDiagramsParts) (kept : KeepsSteps old new) where
         value = λ x y ex ey. step_value-kept id is.in_range x y ∙ is.value x y (ex ∙ kept.tests) (ey ∙ kept.tests);
       }
 
--- a function may be told by another that has its values
+-- a function may be replaced by one with equal values
 pub IsStepDiagram-same : (d : StepDiagramsParts) (id : ℕ) (f g : Atom → Atom → Bool) → IsStepDiagram d id f → ((x y : Atom) → length x ≡ d.tests → length y ≡ d.tests → f x y ≡ g x y) → IsStepDiagram d id g
 IsStepDiagram-same d id f g is same = record { in_range = is.in_range; value = λ x y ex ey. is.value x y ex ey ∙ same x y ex ey }
 
--- what a call on the diagrams gives, where it may fail
+-- the result of a call on the diagrams that may fail
 pub tail_diagram : {E : Type 0} (r : Result ℕ E) (d : StepDiagramsParts) (f : Atom → Bool) (g : Atom → Atom → Bool) → AreStepDiagrams d → IfOk r (λ id. IsDiagramOf d.diagrams id f)
     → ((x y : Atom) → length x ≡ d.tests → length y ≡ d.tests → f (interleaved x y) ≡ g x y) → IfOk r (λ id. IsStepDiagram d id g)
 tail_diagram (Ok id) d f g sound is same = step_diagram d id f g sound is same
@@ -58,7 +58,7 @@ pub tail_same : {E : Type 0} (r : Result ℕ E) (d : StepDiagramsParts) (f g : A
 tail_same (Ok id) d f g is same = IsStepDiagram-same d id f g is same
 tail_same (Err e) d f g is same = tt
 
--- the value of a test's copy, and an atom with another value there
+-- the value of the copy of a test, and an atom with another value there
 pub copy_value : (moment : Moment) (test j : ℕ) (x y : Atom) → length x ≡ length y → j ≡ copy_number test moment → get_or (interleaved x y) j false ≡ get_or (atom_at_moment moment x y) test false
 copy_value Before test j x y e is = get_or-before x y test j e is
 copy_value After test j x y e is = get_or-after x y test j e is
@@ -67,7 +67,7 @@ pub copy_set : (d : StepDiagramsParts) (id : ℕ) (moment : Moment) (test j : �
 copy_set d id Before test j v x y e is = ap (value_of d.diagrams id) (set-before x y test j v e is)
 copy_set d id After test j v x y e is = ap (value_of d.diagrams id) (set-after x y test j v e is)
 
--- the values of a choice
+-- the value of a choice
 pub choice_values : (b low high : Bool) → ((not b && low) || (b && high)) ≡ cond b high low
 choice_values true low high = refl
 choice_values false true high = refl

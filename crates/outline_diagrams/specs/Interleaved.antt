@@ -1,10 +1,10 @@
--- Two atoms as one over twice as many tests: the values before a step at the even numbers, those after it at the odd ones.
+-- Two atoms as one atom over twice as many tests: values before a step at even indices, values after it at odd indices.
 use Rattle.std.specs.Prelude.{ℕ, ◌+◌, Bool, List, [], ◌∷◌, slice_set}
 use Rattle.kat_model.specs.Steps.{Atom}
 use Rattle.outline_diagrams.specs.declared.moments.Moment.{Moment}
 use Rattle.outline_diagrams.specs.declared.moments.Moment.TheVariants.{Before, After}
 
--- the first value of each, then the second of each, and so on
+-- the first value of each atom, then the second value of each, and so on
 abbrev pub interleaved : Atom → Atom → Atom
 interleaved [] after = []
 interleaved (x ∷ before) [] = []
@@ -15,12 +15,12 @@ abbrev pub atom_at_moment : Moment → Atom → Atom → Atom
 atom_at_moment Before before after = before
 atom_at_moment After before after = after
 
--- the number of a test's copy among twice as many tests
+-- the number of the copy of a test, among twice as many tests
 abbrev pub copy_number : ℕ → Moment → ℕ
 copy_number test Before = test + test
 copy_number test After = test + test + 1
 
--- a function of two atoms, at another value of a test at a moment
+-- a function of two atoms, with the value of a test at a moment replaced
 abbrev pub with_value : Moment → ℕ → Bool → (Atom → Atom → Bool) → Atom → Atom → Bool
 with_value Before test value function before after = function (slice_set before test value) after
 with_value After test value function before after = function before (slice_set after test value)

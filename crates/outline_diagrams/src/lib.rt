@@ -1,4 +1,4 @@
-//! Diagrams over two copies of the tests: what holds before a step and what holds after it.
+//! Diagrams over two copies of the tests, one for the atom before a step and one for the atom after it.
 #![tactic(auto)]
 
 mod moments;

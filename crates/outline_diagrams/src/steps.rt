@@ -12,8 +12,8 @@ use std::marker::Model;
 use test_diagrams::{DiagramId, Diagrams, equal_ids_are_equal_functions};
 
 /// Boolean functions of two atoms, one before a step and one after it, as diagrams over twice as many tests: test `k`
-/// before the step is test `2k` of the diagrams, and after it test `2k + 1`. So a relation that leaves a test alone has
-/// three nodes for it.
+/// before the step is test `2k` of the diagrams, and after it test `2k + 1`. So a relation that does not change a test
+/// has three nodes for it.
 #[derive(Drop)]
 pub struct StepDiagrams {
     tests: usize,
@@ -30,7 +30,7 @@ impl Model for StepDiagrams {
     ghost invariant = { λ d. AreStepDiagrams (record { tests = d.tests; diagrams = d.diagrams }) };
 }
 
-// The number of a test's copy in the diagrams.
+// Returns the number of the copy of a test in the diagrams.
 fn copy_of(test: usize, moment: Moment) -> usize
     requires { test + test + 1 < 2 ^ 64 }
     ensures { result ≡ copy_number test moment }
@@ -45,8 +45,8 @@ impl StepDiagrams {
     ghost use Rattle.outline_diagrams.specs.StepFunctions.{step_value, IsStepId, IsStepDiagram, KeepsSteps, AreStepDiagrams, choice_by, Entails, IsImage};
     ghost use Rattle.outline_diagrams.specs.Working.Quantified.{some_first};
 
-    /// A collection for functions of two atoms of this many tests. It holds the two constants. Fails only when out of
-    /// memory.
+    /// Returns a collection for functions of two atoms over `tests` tests, with the two constants. Fails only when out
+    /// of memory.
     pub fn new(alloc: Global, tests: usize) -> Result<StepDiagrams, NoMemory>
         requires { tests < 2 ^ 63 }
         ensures tests { IfOk result (λ d. d.tests ≡ tests) }
@@ -56,7 +56,7 @@ impl StepDiagrams {
         Ok(StepDiagrams { tests, diagrams })
     }
 
-    /// The number of tests of each atom.
+    /// Returns the number of tests of each atom.
     pub fn tests(&self) -> usize
         ensures tests { result ≡ self.now.tests }
         ensures sound { AreStepDiagrams self.now }
@@ -64,7 +64,7 @@ impl StepDiagrams {
         self.tests
     }
 
-    /// The constant of this value.
+    /// Returns the diagram of a constant.
     pub fn constant(&self, value: bool) -> DiagramId
         ensures function { IsStepDiagram self.now result (λ before after. value) }
         ensures sound { AreStepDiagrams self.now }
@@ -72,7 +72,7 @@ impl StepDiagrams {
         self.diagrams.constant(value)
     }
 
-    /// The diagram of a test at a moment. A refusal may leave further diagrams.
+    /// Returns the diagram of a test at a moment. On failure, extra diagrams may remain.
     pub fn of_test(&mut self, test: &Test, moment: Moment) -> Result<DiagramId, NoMemory>
         requires in_range { IsTestInRange self.old.tests (test_tree test.now) }
         ensures function { IfOk result (λ id. IsStepDiagram self.new id
@@ -101,7 +101,7 @@ impl StepDiagrams {
         }
     }
 
-    // The diagram of a primitive test at a moment.
+    // Returns the diagram of a primitive test at a moment.
     fn of_prim(&mut self, test: usize, moment: Moment) -> Result<DiagramId, NoMemory>
         requires in_range { test < self.old.tests }
         ensures function { IfOk result (λ id. IsStepDiagram self.new id
@@ -112,7 +112,7 @@ impl StepDiagrams {
         self.diagrams.of_test(&Test::Prim(copy_of(test, moment)))
     }
 
-    /// The diagram that is true where both are. A refusal may leave further diagrams.
+    /// Returns the diagram of the conjunction. On failure, extra diagrams may remain.
     pub fn and(&mut self, a: DiagramId, b: DiagramId) -> Result<DiagramId, NoMemory>
         requires left { IsStepId self.old a }
         requires right { IsStepId self.old b }
@@ -124,7 +124,7 @@ impl StepDiagrams {
         self.diagrams.and(a, b)
     }
 
-    /// The diagram that is true where at least one of both is. A refusal may leave further diagrams.
+    /// Returns the diagram of the disjunction. On failure, extra diagrams may remain.
     pub fn or(&mut self, a: DiagramId, b: DiagramId) -> Result<DiagramId, NoMemory>
         requires left { IsStepId self.old a }
         requires right { IsStepId self.old b }
@@ -136,7 +136,7 @@ impl StepDiagrams {
         self.diagrams.or(a, b)
     }
 
-    /// The diagram that is true where this one is false. A refusal may leave further diagrams.
+    /// Returns the diagram of the complement. On failure, extra diagrams may remain.
     pub fn not(&mut self, a: DiagramId) -> Result<DiagramId, NoMemory>
         requires { IsStepId self.old a }
         ensures function { IfOk result (λ id. IsStepDiagram self.new id
@@ -147,8 +147,8 @@ impl StepDiagrams {
         self.diagrams.not(a)
     }
 
-    /// The choice by a test at a moment: `low` where it is false there, and `high` where it is true. A refusal may leave
-    /// further diagrams.
+    /// Returns the choice by a test at a moment: `high` if it is true there, else `low`. On failure, extra diagrams may
+    /// remain.
     pub fn choice(
         &mut self,
         test: usize,
@@ -171,7 +171,7 @@ impl StepDiagrams {
         self.or(where_false, where_true)
     }
 
-    /// Whether the second function is true wherever the first is. A refusal may leave further diagrams.
+    /// Whether the second function is true whenever the first is. On failure, extra diagrams may remain.
     pub fn entails(&mut self, a: DiagramId, b: DiagramId) -> Result<bool, NoMemory>
         requires first { IsStepId self.old a }
         requires second { IsStepId self.old b }
@@ -185,7 +185,7 @@ impl StepDiagrams {
         Ok(broken == self.constant(false))
     }
 
-    /// The diagram with a test at a moment set to a value. A refusal may leave further diagrams.
+    /// Returns the diagram with a test at a moment set to a value. On failure, extra diagrams may remain.
     pub fn fix(
         &mut self,
         a: DiagramId,
@@ -203,9 +203,9 @@ impl StepDiagrams {
         self.diagrams.fix(a, copy_of(test, moment), value)
     }
 
-    /// The image of a relation between the atoms before a step and those after it (the strongest postcondition): the
-    /// diagram that is true exactly at the atoms before a step that are, as atoms after it, those that the relation leads
-    /// to. A refusal may leave further diagrams.
+    /// Returns the image of a relation between the atoms before a step and those after it (the strongest
+    /// postcondition): the diagram that is true exactly when the atom before the step is one that the relation reaches.
+    /// On failure, extra diagrams may remain.
     pub fn image(&mut self, relation: DiagramId) -> Result<DiagramId, NoMemory>
         requires { IsStepId self.old relation }
         ensures image { IfOk result (λ id. IsImage self.old relation self.new id) }
@@ -216,7 +216,7 @@ impl StepDiagrams {
         self.moved_before(ends)
     }
 
-    // The diagram that is true where this one is for some atom before the step.
+    // Returns the diagram that is true when the relation holds for some atom before the step.
     fn from_some(&mut self, relation: DiagramId) -> Result<DiagramId, NoMemory>
         requires { IsStepId self.old relation }
         ensures function { IfOk result (λ id. IsStepDiagram self.new id
@@ -231,7 +231,7 @@ impl StepDiagrams {
         Ok(set)
     }
 
-    // The diagram that is true where this one is for some value of the test before the step.
+    // Returns the diagram that is true when `a` is true for some value of the test before the step.
     fn for_some_value(&mut self, a: DiagramId, test: usize) -> Result<DiagramId, NoMemory>
         requires id { IsStepId self.old a }
         requires in_range { test < self.old.tests }
@@ -246,7 +246,7 @@ impl StepDiagrams {
         self.or(low, high)
     }
 
-    // The diagram that says of the atom before the step what this one says of the atom after it.
+    // Returns the diagram of `set` at the atom before the step in place of the atom after it.
     fn moved_before(&mut self, set: DiagramId) -> Result<DiagramId, NoMemory>
         requires { IsStepId self.old set }
         ensures function { IfOk result (λ id. IsStepDiagram self.new id
@@ -261,7 +261,7 @@ impl StepDiagrams {
         Ok(moved)
     }
 
-    // The diagram in which the test before the step stands for the test after it.
+    // Returns the diagram in which the test before the step replaces the test after it.
     fn test_moved_before(&mut self, a: DiagramId, test: usize) -> Result<DiagramId, NoMemory>
         requires id { IsStepId self.old a }
         requires in_range { test < self.old.tests }

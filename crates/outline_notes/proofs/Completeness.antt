@@ -1,4 +1,4 @@
--- The text of notes is read as these notes.
+-- Reading the text of notes gives these notes.
 use Rattle.std.proofs.Common.{◌≡◌, ℕ, ◌+◌, ◌<◌, inl, inr, ⊎_elim, List, [], ◌∷◌, ◌++◌, map, length, true, false, Some, slice_get, Ok, refl, sym, ap, ◌∙◌, subst, codes, arith, append_assoc, append-nil}
 use mathlib.Core.Path.{ap₂}
 use Rattle.std.proofs.lemmas.List.{length-map}
@@ -23,7 +23,7 @@ use Rattle.outline_notes.proofs.LineSteps.{complete}
 abbrev pub spelled_line : NoteLine → List ℕ
 spelled_line l = line_of (line_words l)
 
--- the last parts of a text
+-- the last two parts of the text of notes
 abbrev pub ending : List (List ℕ)
 ending = codes "end" ∷ [] ∷ []
 
@@ -37,7 +37,7 @@ abbrev pub PassAll : NotesParts → List NoteLine → Type 0
 PassAll ns [] = Unit {0}
 PassAll ns (l ∷ ls) = IsNarrow l × Passes ns l × PassAll (with_line ns l) ls
 
--- after lines that pass, the next part
+-- scanning lines that pass adds them to the notes and continues at the next part
 pub lines_scanned : (ls : List NoteLine) (ns : NotesParts) (n i : ℕ) (part : List ℕ) (parts : List (List ℕ)) → PassAll ns ls → i ≡ n + length ls → notes_from ns n (map spelled_line ls ++ part ∷ parts) ≡ notes_from (with_lines ns ls) i (part ∷ parts)
 lines_scanned [] ns n i part parts pass e = let same : n ≡ i = omega (arith, e) in ap (λ k. notes_from ns k (part ∷ parts)) same
 lines_scanned (l ∷ ls) ns n i part parts pass place =
@@ -105,7 +105,7 @@ module _ (ns : NotesParts) (are : AreNotes ns) (narrow : (l : NoteLine) → Has 
   all_lines : with_lines no_lines (note_lines ns) ≡ ns
   all_lines = with_nodes [] ns.nodes (map Note ns.notes) ∙ with_notes [] ns.notes
 
-  -- the lines of the notes, and the next part
+  -- scanning all lines of the notes continues at the next part
   pub notes_scanned : (i : ℕ) (part : List ℕ) (parts : List (List ℕ)) → i ≡ 2 + length (note_lines ns) → notes_from no_lines 2 (map spelled_line (note_lines ns) ++ part ∷ parts) ≡ notes_from ns i (part ∷ parts)
   notes_scanned i part parts place =
       lines_scanned (note_lines ns) no_lines 2 i part parts (nodes_pass [] ns.nodes refl) place ∙ ap (λ ms. notes_from ms i (part ∷ parts)) all_lines
@@ -124,7 +124,7 @@ all_scanned ns i part parts is place =
     complete (map spelled_line (note_lines ns)) part parts _
     ∙ notes_scanned ns is.0 is.1 i part parts (omega (arith, place, length-map (note_lines ns) spelled_line))
 
--- a text that begins with these lines
+-- scanning a text that begins with the lines of notes continues after these lines
 pub text_scanned : (ns : NotesParts) (i : ℕ) (rest part : List ℕ) (parts : List (List ℕ)) → AreNarrowNotes ns → i ≡ length (lines_before_end ns) + 1 → parts_of rest ≡ part ∷ parts → answer_of (text_of_lines (lines_before_end ns) ++ rest) ≡ notes_from ns i (part ∷ parts)
 text_scanned ns i rest part parts is place cut =
     ap all_from (parts_after (lines_before_end ns) rest (lines_lack ns is) ∙ ap (λ ps. lines_before_end ns ++ ps) cut) ∙ all_scanned ns i part parts is place

@@ -1,4 +1,4 @@
--- Drafts with one more line.
+-- Drafts after a line is added.
 use Rattle.std.proofs.Common.{◌≡◌, ℕ, true, false, Some, None, refl, sym, subst}
 use Rattle.kat_model.specs.Members.{Has, SameMembers}
 use Rattle.outline_notes.specs.declared.notes.NoteNode.{NoteNode}
@@ -13,21 +13,21 @@ use Rattle.outline_notes.proofs.KnownNodes.{any_same, any_lacks}
 use Rattle.outline_notes.proofs.Growth.{Passes, passes_faultless, double_fault, notes_grown}
 
 module _ (d : Draft) (n : ℕ) where
-  -- a known node is a double
+  -- a node that is known already is a double node
   pub node_double : (node : NoteNode) → IsDraft d → MayBeAdded d (Node node) → Has d.known.keys node → line_fault_of (draft_parts d) n (Node node) ≡ Some (DoubleNode n)
   node_double node draft may known =
       double_fault (draft_parts d) n (Node node) may.stands may.narrow may.earlier (any_same d.nodes.items node ((draft.nodes node).0 known))
 
-  -- a node that is not known passes
+  -- an unknown node passes
   pub node_passes : (node : NoteNode) → IsDraft d → MayBeAdded d (Node node) → (Has d.known.keys node → ⊥) → Passes (draft_parts d) (Node node)
   node_passes node draft may new =
       record { stands = may.stands; narrow = may.narrow; earlier = may.earlier; new = any_lacks d.nodes.items node (λ h. new ((draft.nodes node).1 h)) }
 
-  -- and so does a note
+  -- a note passes
   pub note_passes : (k : ℕ) → MayBeAdded d (Note k) → Passes (draft_parts d) (Note k)
   note_passes k may = record { stands = may.stands; narrow = may.narrow; earlier = may.earlier; new = refl }
 
-  -- what a line that passes makes of the draft
+  -- a line that passes extends the draft
   pub added : (l : NoteLine) (new : Draft) → IsDraft d → Passes (draft_parts d) l → draft_parts new ≡ with_line (draft_parts d) l → SameMembers new.known.keys new.nodes.items
       → IsDraft new × ((m : NoteLine) × (◌≡◌ {A = _} (Some l) (Some m)) × (line_fault_of (draft_parts d) n m ≡ None) × (draft_parts new ≡ with_line (draft_parts d) m))
   added l new draft passes is nodes = (

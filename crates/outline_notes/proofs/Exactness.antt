@@ -1,4 +1,4 @@
--- Texts and faults exclude each other, and the reader's answers.
+-- No text of notes has a fault; and the answers of the reader.
 use Rattle.std.proofs.Common.{◌≡◌, ℕ, ◌⊎◌, inl, inr, List, Some, None, Ok, Err, refl, sym, ap, ◌∙◌}
 use Rattle.std.specs.Result.{IfOk, result_err}
 use Rattle.outline_notes.specs.declared.fault.NotesFault.{NotesFault}
@@ -12,7 +12,7 @@ use Rattle.outline_notes.specs.Laws.{TextsDiffer, IsText, HasFault, IsTextOrFaul
 use Rattle.outline_notes.proofs.Completeness.{notes_read}
 use Rattle.outline_notes.proofs.ReadTexts.{read_told}
 
--- the bytes of notes are answered by them
+-- the answer for the text of notes is these notes
 text_answer : (bytes : List ℕ) (ns : NotesParts) → AreNarrowNotes ns → bytes ≡ text_of ns → answer_of bytes ≡ Ok ns
 text_answer bytes ns is text = ap answer_of text ∙ notes_read ns is
 
@@ -34,7 +34,7 @@ pub notes_from_answer : (bytes : List ℕ) (r : Answer) → Answers (answer_of b
 notes_from_answer bytes (Ok ns) a = read_told bytes ns a
 notes_from_answer bytes (Err fault) a = tt
 
--- an answer that is a fault is not given of a text
+-- the answer for the text of notes is not a fault
 no_fault : (bytes : List ℕ) (fault : NotesFault) (ns : NotesParts) → AreNarrowNotes ns → bytes ≡ text_of ns → answer_of bytes ≡ Err fault → ⊥
 no_fault bytes fault ns is text a = let clash : Err fault ≡ Ok ns = sym a ∙ text_answer bytes ns is text in cc
 

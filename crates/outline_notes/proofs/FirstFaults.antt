@@ -1,4 +1,4 @@
--- After lines that are right, what is wrong is the first fault; and a line is read where it is spelled so alone.
+-- After correct lines, the first error is the fault of the text; and a line has only one spelling.
 use Rattle.std.proofs.Common.{◌≡◌, ◌≢◌, ℕ, ◌+◌, List, [], ◌∷◌, ◌++◌, Bool, true, false, None, Err, codes, refl, sym, ap, ◌∙◌, ◌==◌, arith}
 use Rattle.std.specs.Str.{bytes_eq}
 use Rattle.std.specs.Result.{result_err}
@@ -18,7 +18,7 @@ use Rattle.outline_notes.proofs.Completeness.{text_scanned, text_ends}
 pub lines_have_one_spelling_lem : EachHasOneSpelling
 lines_have_one_spelling_lem line l narrow = (line_told line l narrow, (λ is. ap read_line is ∙ line_read l narrow))
 
--- a word is not one that it differs from
+-- comparing a line with a different word gives false
 differs : (line word : List ℕ) → line ≢ word → bytes_eq line word ≡ false
 differs line word apart = by_test (bytes_eq line word) refl
   where
@@ -26,7 +26,7 @@ differs line word apart = by_test (bytes_eq line word) refl
     by_test true is = absurd (apart (named line word is))
     by_test false is = is
 
--- what is said of a line and of the parts after it, for lines that are right before it
+-- scanning a line and the parts after it, when all lines before it are correct
 module _ (ns : NotesParts) (line more : List ℕ) (is : AreNarrowNotes ns) (whole : IsLine line) where
   cut : parts_of (line ++ 10 ∷ more) ≡ line ∷ parts_of more
   cut = split_at 10 line more whole

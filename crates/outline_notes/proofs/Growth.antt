@@ -1,4 +1,4 @@
--- Notes with one more line that has no fault keep the rules.
+-- Notes with an additional line that has no fault keep the rules.
 use Rattle.std.proofs.Common.{◌≡◌, ℕ, ◌<◌, inl, inr, ⊎_elim, List, [], ◌∷◌, ◌++◌, length, Bool, true, false, not, nat_lt, Option, Some, None, slice_get, refl, sym, subst, arith, length-append, ltb-true}
 use Rattle.std.specs.List.{list_all}
 use Rattle.std.specs.Option.{option_or}
@@ -15,7 +15,7 @@ use Rattle.outline_notes.specs.NoteLists.{NotesParts, node_parts, AreNotes}
 use Rattle.outline_notes.specs.Faults.{is_wide, section_of, may_stand, are_below, nodes_named, names_earlier, stands_already, fault_where, line_fault_of, with_line}
 use Rattle.outline_notes.proofs.KnownNodes.{lacks_any, no_doubles_pushed}
 
--- a line passes every test
+-- the line passes all tests
 pub record Passes (ns : NotesParts) (l : NoteLine) : Type 0 where
   pub stands : may_stand ns (section_of l) ≡ true
   pub narrow : is_wide l ≡ false
@@ -49,7 +49,7 @@ module _ (ns : NotesParts) (n : ℕ) (l : NoteLine) where
   pub double_fault : may_stand ns (section_of l) ≡ true → is_wide l ≡ false → names_earlier ns l ≡ true → stands_already ns l ≡ true → line_fault_of ns n l ≡ Some (DoubleNode n)
   double_fault stands narrow earlier double = rw (stands, narrow, earlier, double) refl
 
--- numbers that are tested to be below a count are, and the other way round
+-- the test `are_below` is true exactly when all numbers are below the count
 pub below_has : (n : ℕ) (ks : List ℕ) → are_below n ks ≡ true → (k : ℕ) → Has ks k → k < n
 below_has n [] e k h = absurd h
 below_has n (j ∷ ks) e k h =

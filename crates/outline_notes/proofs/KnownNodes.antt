@@ -1,4 +1,4 @@
--- Equal nodes, the order in which a set keeps nodes, and what an insert in a set tells.
+-- Equality of nodes, the order of the nodes in a set, and what inserting a node into a set shows.
 use Rattle.std.proofs.Common.{◌≡◌, ℕ, inl, inr, ⊎_elim, List, [], ◌∷◌, ◌++◌, Bool, true, false, not, ◌&&◌, eqb, refl, sym, ap, ◌∙◌, subst, arith, eqb-true, eq-eqb}
 use Rattle.std.specs.declared.cmp.Ordering.{Ordering}
 use Rattle.std.specs.declared.cmp.Ordering.TheVariants.{Equal}
@@ -40,7 +40,7 @@ node_same_itself False = refl
 node_same_itself True = refl
 node_same_itself (Branch k x y) = rw (eq-eqb k k refl, eq-eqb x x refl, eq-eqb y y refl) refl
 
--- the test of equality finds a member
+-- the test of equality finds each member
 pub any_same : (xs : List NoteNode) (x : NoteNode) → Has xs x → list_any (same_node x) xs ≡ true
 any_same xs x h = any_has (same_node x) xs x h (node_same_itself x)
 
@@ -54,7 +54,7 @@ any_lacks xs x lacks = by_cases (list_any (same_node x) xs) refl
     by_cases true e = let found = has_any (same_node x) xs e in absurd (lacks (subst (Has xs) (sym (same_node_equal x found.0 found.2)) found.1))
     by_cases false e = e
 
--- ---- lists with one more
+-- ---- lists with an additional member
 
 pub no_doubles_pushed : {X : Type 0} (xs : List X) (x : X) → HasNoDoubles xs → (Has xs x → ⊥) → HasNoDoubles (xs ++ x ∷ [])
 no_doubles_pushed [] x none lacks = ((λ h. h), tt)
@@ -73,7 +73,7 @@ branch_exact k l x y z w e =
 pub cmp_own : (x : ℕ) → nat_cmp x x ≡ Equal
 cmp_own x = grind (arith, common_steps)
 
--- a node was known where an insert finds it, and only there
+-- an insert reports a key as old exactly when the set had it before
 module _ {K : Type 0} {R : K → K → Ordering} (exact : TellsApart R) (own : IsReflexive R) (k : K) (ks : List K) (is_new : Bool) (told : is_new ≡ not (list_any (is_at (R k)) ks)) where
   pub old_known : is_new ≡ false → Has ks k
   old_known old =
@@ -83,7 +83,7 @@ module _ {K : Type 0} {R : K → K → Ordering} (exact : TellsApart R) (own : I
   pub new_unknown : is_new ≡ true → Has ks k → ⊥
   new_unknown new h = false≢true (sym (not-true (list_any (is_at (R k)) ks) (sym told ∙ new)) ∙ any_has (is_at (R k)) ks k h (ap is_eq (own k)))
 
--- the keys of a set with one more key, and the list with one more node
+-- adding a node to the set and to the list keeps their members the same
 pub known_pushed : {X : Type 0} {R : X → X → Ordering} → CmpEqualImpliesEq R → (olds xs : List X) (x : X) → SameMembers olds xs → SameMembers (insert_key R olds x) (xs ++ x ∷ [])
 known_pushed exact olds xs x was y =
     let keys = inserted_has exact x olds y in (

@@ -1,4 +1,4 @@
--- What the scan says of a text that begins with a complete line, and of one with none.
+-- Results of scanning a text that begins with a complete line, and a text without one.
 use Rattle.std.proofs.Common.{◌≡◌, ℕ, ◌+◌, ◌<◌, List, [], ◌∷◌, ◌++◌, length, Bool, true, false, cond, Option, Some, None, Err, codes, refl, sym, ap, ◌∙◌, subst, arith, ◌==◌}
 use Rattle.std.specs.List.{onto_first}
 use Rattle.std.specs.Str.{bytes_eq}
@@ -24,7 +24,7 @@ pub complete : (xs : List (List ℕ)) (y : List ℕ) (ys : List (List ℕ)) (ans
 complete [] y ys answer = refl
 complete (x ∷ xs) y ys answer = refl
 
--- a text that goes on after the line `end`
+-- bytes after the line `end` are a fault
 pub goes_on : (ns : NotesParts) (n : ℕ) (after : List ℕ) → 0 < length after → ended ns n (parts_of after) ≡ Err (Trailing n)
 goes_on ns n [] some = absurd (omega arith)
 goes_on ns n (b ∷ bs) some = by_head (b == 10) refl
@@ -81,7 +81,7 @@ module _ (bytes : List ℕ) where
 pub answers_same : (told same : Answer) (given : Answer) → told ≡ same → Answers same given → Answers told given
 answers_same told same given e a = subst (λ t. Answers t given) (sym e) a
 
--- a fault that a line has is that of the text
+-- a fault of a line is the fault of the text
 pub adds_fault : (old new : Draft) (n : ℕ) (o : Option NoteLine) (told : Answer) (fault : NotesFault) → AddsLine old n o new (Err fault) → ((f : NotesFault) → line_fault_after (draft_parts old) n o ≡ Some f → told ≡ Err f) → Answers told (Err fault)
 adds_fault old new n o told NoMemory a same = tt
 adds_fault old new n o told Header a same = same Header a

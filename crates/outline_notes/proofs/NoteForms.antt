@@ -1,4 +1,4 @@
--- The forms of the lines of notes, and what the numbers in them have to do with them.
+-- The forms of the lines of notes, and how the numbers of a line relate to its form.
 use Rattle.std.proofs.Common.{◌≡◌, ℕ, ◌⊎◌, inl, inr, ⊎_elim, List, [], ◌∷◌, map, length, Bool, true, false, cond, Option, Some, None, refl, sym, ap, ◌∙◌, arith, codes}
 use Rattle.std.specs.List.{list_all, list_any}
 use Rattle.std.specs.Option.{option_map, option_and_then}
@@ -17,7 +17,7 @@ use Rattle.outline_notes.specs.Texts.{node_name, node_numbers, line_numbers}
 use Rattle.outline_notes.specs.Forms.{node_of, note_of}
 use Rattle.outline_notes.specs.Faults.{is_wide, section_of}
 
--- a name that is compared with a word is that word
+-- a name that compares equal to a word is that word
 pub named : (name word : List ℕ) → bytes_eq name word ≡ true → name ≡ word
 named name word e = (bytes_eq-Decides name word).0 e
 
@@ -30,7 +30,7 @@ one_form : {N : Type 0} (b : Bool) (x n : N) → cond b (Some x) None ≡ Some n
 one_form true x n e = (refl, cc)
 one_form false x n e = cc
 
--- a node's name and numbers are those that are read
+-- a node is read only from its own name and numbers
 pub node_told : (name ks : List ℕ) (n : NoteNode) → node_of name ks ≡ Some n → (name ≡ node_name n) × (ks ≡ node_numbers n)
 node_told name [] n e =
     ⊎_elim
@@ -54,7 +54,7 @@ note_told [] l e = cc
 note_told (k ∷ []) l e = let same : Note k ≡ l = cc in (ap line_numbers same, ap section_of (sym same))
 note_told (k ∷ j ∷ ks) l e = cc
 
--- whether there is a node depends on how many numbers there are, and not on which
+-- whether numbers form a node depends on how many they are, not on their values
 some_of_one : {N : Type 0} (b : Bool) (y : N) → b ≡ true → (m : N) × (cond b (Some y) None ≡ Some m)
 some_of_one true y h = (y, refl)
 some_of_one false y h = cc
@@ -83,7 +83,7 @@ note_same (x ∷ w ∷ xs) ys l h e = cc
 numbers_of_all : (ws : List (List ℕ)) → list_all is_numeral ws ≡ true → numbers_of ws ≡ Some (map value_of ws)
 numbers_of_all ws e = rw e refl
 
--- what a line of numbers says
+-- the content of a line of numbers
 module _ {N : Type 0} (form_of : List ℕ → Option N) (made : N → NoteLine) (section : Section)
     (same : (xs ys : List ℕ) (n : N) → length xs ≡ length ys → form_of xs ≡ Some n → (m : N) × (form_of ys ≡ Some m))
     (told : (ks : List ℕ) (n : N) → form_of ks ≡ Some n → (ks ≡ line_numbers (made n)) × (section_of (made n) ≡ section)) where
@@ -124,7 +124,7 @@ narrow_node name = narrow_form (node_of name) Node Nodes (node_same name) (node_
 pub no_node : (name : List ℕ) (ws : List (List ℕ)) (v : Numbers) → list_all is_numeral ws ≡ true → HasNumbers (map value_of ws) v → node_of name v.values.items ≡ None → option_map Node (option_and_then (node_of name) (numbers_of ws)) ≡ None
 no_node name = no_form (node_of name) Node Nodes (node_same name) (node_told_line name)
 
--- the same of notes
+-- the same for notes
 own_line : (o : Option NoteLine) → option_map (λ (l : NoteLine). l) o ≡ o
 own_line None = refl
 own_line (Some l) = refl

@@ -1,4 +1,4 @@
--- What a text is read as has this text.
+-- The notes read from a text have this text.
 use Rattle.std.proofs.Common.{◌≡◌, ℕ, ◌+◌, ◌<◌, ⊎_elim, List, [], ◌∷◌, ◌++◌, map, length, Bool, true, false, cond, ◌==◌, eqb-true, Option, Some, None, Ok, Err, refl, sym, ap, ◌∙◌, subst, codes, append_assoc, append-nil, unwrap_or, arith}
 use mathlib.Core.Path.{ap₂}
 use Rattle.std.specs.Option.{option_map}
@@ -46,7 +46,7 @@ lines_grown ns (Note k) stands =
     let nodes : List NoteLine = map Node ns.nodes in
     ap (λ l. nodes ++ l) (map-append Note ns.notes (k ∷ [])) ∙ sym (append_assoc nodes (map Note ns.notes) (Note k ∷ []))
 
--- what the lines after those of ns were read as
+-- `whole` is the result of reading `parts` after the lines of `ns`
 pub record Told (ns : NotesParts) (parts : List (List ℕ)) (whole : NotesParts) : Type 0 where
   pub notes : AreNotes whole
   pub narrow : AllNarrow whole
@@ -96,7 +96,7 @@ notes_told (line ∷ []) ns n whole h are narrow = cc
 notes_told (line ∷ part ∷ parts) ns n whole h are narrow =
     end_or_line ns n whole line (part ∷ parts) are narrow (λ ms. notes_told (part ∷ parts) ms (n + 1) whole) (bytes_eq line (codes "end")) refl h
 
--- no lines keep the rules
+-- notes without lines keep the rules
 pub no_notes : AreNotes no_lines
 no_notes = record { ordered = λ k n e. cc; once = tt; notes = λ k h. absurd h }
 

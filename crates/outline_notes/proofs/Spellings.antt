@@ -1,4 +1,4 @@
--- What is spelled is read, and what is read is spelled so: the lines of notes.
+-- Each line of notes is read from its spelling, and only from it.
 use Rattle.std.proofs.Common.{◌≡◌, ℕ, ◌⊎◌, inl, inr, ⊎_elim, List, [], ◌∷◌, map, Bool, true, false, cond, Option, Some, None, refl, sym, ap, ◌∙◌, subst, codes}
 use mathlib.Core.Path.{ap₂}
 use Rattle.std.specs.Option.{option_map, option_and_then}
@@ -33,7 +33,7 @@ first_of_line : (l : NoteLine) → (w : List ℕ) × (ws : List (List ℕ)) × (
 first_of_line (Node n) = (_, _, refl)
 first_of_line (Note k) = (_, _, refl)
 
--- what a line says is read of its words, and of the line
+-- reading the words of a line, or the line, gives its content
 pub line_read : (l : NoteLine) → IsNarrow l → read_line (line_of (line_words l)) ≡ Some l
 line_read l narrow =
     let first = first_of_line l in
@@ -51,7 +51,7 @@ pub line_not_end : (l : NoteLine) → bytes_eq (line_of (line_words l)) (codes "
 line_not_end (Node n) = refl
 line_not_end (Note k) = refl
 
--- ---- what is read of a line is spelled so
+-- ---- a line that is read has its spelling
 
 some_of_map : {X Y : Type 0} (f : X → Y) (o : Option X) (y : Y) → option_map f o ≡ Some y → (x : X) × (o ≡ Some x) × (f x ≡ y)
 some_of_map f None y e = cc
@@ -61,7 +61,7 @@ some_of_then : {X Y : Type 0} (f : X → Option Y) (o : Option X) (y : Y) → op
 some_of_then f None y e = cc
 some_of_then f (Some x) y e = (x, refl, e)
 
--- the cases of a line by its first word
+-- the two cases of a line, by its first word
 two_kinds : (a b : Bool) (x y : Option NoteLine) (l : NoteLine) → cond a x (cond b y None) ≡ Some l → ((a ≡ true) × (x ≡ Some l)) ⊎ ((b ≡ true) × (y ≡ Some l))
 two_kinds true b x y l h = inl (refl, h)
 two_kinds false true x y l h = inr (refl, h)

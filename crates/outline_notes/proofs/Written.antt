@@ -1,4 +1,4 @@
--- What the writer has written is the text of the notes.
+-- The writer writes the text of the notes.
 use Rattle.std.proofs.Common.{◌≡◌, ℕ, List, [], ◌∷◌, ◌++◌, map, sym, ap, ◌∙◌, append_assoc, codes}
 use Rattle.std.proofs.lemmas.Grind.{flat_map-append}
 use Rattle.line_format.specs.Lines.{with_feed, text_of_lines}

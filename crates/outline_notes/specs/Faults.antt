@@ -25,21 +25,21 @@ abbrev pub section_of : NoteLine → Section
 section_of (Node n) = Nodes
 section_of (Note k) = Notes
 
--- nodes stand before notes
+-- whether a line of the section may come next: nodes precede notes
 abbrev pub may_stand : NotesParts → Section → Bool
 may_stand ns Nodes = length ns.notes == 0
 may_stand ns Notes = true
 
--- each of the numbers is below the count
+-- whether all numbers are below the count
 abbrev pub are_below : ℕ → List ℕ → Bool
 are_below count ks = list_all (λ k. nat_lt k count) ks
 
--- the nodes that a line names
+-- the nodes that the line names
 abbrev pub nodes_named : NoteLine → List ℕ
 nodes_named (Node n) = node_parts n
 nodes_named (Note k) = k ∷ []
 
--- each node that the line names stands before it
+-- whether each node that the line names precedes it
 abbrev pub names_earlier : NotesParts → NoteLine → Bool
 names_earlier ns l = are_below (length ns.nodes) (nodes_named l)
 
@@ -50,7 +50,7 @@ same_node True True = true
 same_node (Branch k x y) (Branch l z w) = k == l && (x == z && y == w)
 same_node m n = false
 
--- its node equals an earlier one
+-- whether the line has a node that equals an earlier one
 abbrev pub stands_already : NotesParts → NoteLine → Bool
 stands_already ns (Node n) = list_any (same_node n) ns.nodes
 stands_already ns (Note k) = false
@@ -58,7 +58,7 @@ stands_already ns (Note k) = false
 abbrev pub fault_where : Bool → NotesFault → Option NotesFault
 fault_where wrong fault = if wrong then Some fault else None
 
--- what is wrong with line n, after those of ns
+-- the fault of line n, which has content `l`, after the lines of ns
 abbrev pub line_fault_of : NotesParts → ℕ → NoteLine → Option NotesFault
 line_fault_of ns n l =
     option_or (fault_where (not (may_stand ns (section_of l))) (Line n))
@@ -66,7 +66,7 @@ line_fault_of ns n l =
     (option_or (fault_where (not (names_earlier ns l)) (NodeOrder n))
     (fault_where (stands_already ns l) (DoubleNode n))))
 
--- with one more line
+-- the notes with an additional line
 abbrev pub with_line : NotesParts → NoteLine → NotesParts
 with_line ns (Node n) = notes_of (ns.nodes ++ n ∷ []) ns.notes
 with_line ns (Note k) = notes_of ns.nodes (ns.notes ++ k ∷ [])
@@ -75,30 +75,30 @@ with_line ns (Note k) = notes_of ns.nodes (ns.notes ++ k ∷ [])
 abbrev pub Answer : Type 0
 Answer = Result NotesParts NotesFault
 
--- A text is taken as the list of its parts between line feeds: each part but the last is a complete line.
--- The last part is no complete line, so the text ends too early.
+-- A text is the list of its parts between line feeds. Each part but the last is a complete line. If no part follows,
+-- the text ends too early.
 abbrev pub or_truncated : List (List ℕ) → Answer → Answer
 or_truncated [] answer = Err Truncated
 or_truncated (part ∷ parts) answer = answer
 
--- after the line `end` the text ends, where line n would begin
+-- the answer after the line `end`: the text must end where line n would begin
 abbrev pub ended : NotesParts → ℕ → List (List ℕ) → Answer
 ended ns n [] = Err (Trailing n)
 ended ns n ([] ∷ []) = Ok ns
 ended ns n ([] ∷ part ∷ parts) = Err (Trailing n)
 ended ns n ((b ∷ bs) ∷ parts) = Err (Trailing n)
 
--- what is wrong with line n after those of ns: it has no form, or what is wrong with what it says
+-- the fault of line n after the lines of ns: it has no form, or its content has a fault
 abbrev pub line_fault_after : NotesParts → ℕ → Option NoteLine → Option NotesFault
 line_fault_after ns n None = Some (Line n)
 line_fault_after ns n (Some l) = line_fault_of ns n l
 
--- the fault of a line, or what is said of the lines after it
+-- the fault of a line, or the answer for the lines after it
 abbrev pub after_line : NotesParts → ℕ → Option NoteLine → (NotesParts → Answer) → Answer
 after_line ns n None more = Err (Line n)
 after_line ns n (Some l) more = unwrap_or (option_map Err (line_fault_of ns n l)) (more (with_line ns l))
 
--- what the lines from line n on say after those of ns
+-- the answer for the lines from line n on, after the lines of ns
 abbrev pub notes_from : NotesParts → ℕ → List (List ℕ) → Answer
 notes_from ns n [] = Err Truncated
 notes_from ns n (line ∷ parts) =
@@ -107,12 +107,12 @@ notes_from ns n (line ∷ parts) =
 abbrev pub no_lines : NotesParts
 no_lines = notes_of [] []
 
--- line 1 is the heading
+-- the answer for all lines: line 1 must be the heading
 abbrev pub all_from : List (List ℕ) → Answer
 all_from [] = Err Truncated
 all_from (line ∷ parts) = or_truncated parts (if bytes_eq line heading then notes_from no_lines 2 parts else Err Header)
 
--- what a text says
+-- the answer for a text
 abbrev pub answer_of : List ℕ → Answer
 answer_of bytes = all_from (parts_of bytes)
 

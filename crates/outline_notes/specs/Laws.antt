@@ -1,4 +1,4 @@
--- The laws of the text of notes. Each stands on a function of the crate that does nothing.
+-- The laws of the text of notes. Each law is the contract of a function that does nothing.
 use Rattle.std.specs.Prelude.{◌≡◌, ◌≢◌, ◌↔◌, ◌⊎◌, ◌+◌, ℕ, false, ◌==◌, List, ◌∷◌, ◌++◌, length, codes, Some}
 use Rattle.std.specs.List.{list_any}
 use Rattle.line_format.specs.Lines.{line_of, text_of_lines}
@@ -21,7 +21,7 @@ IsText bytes = (ns : NotesParts) × AreNarrowNotes ns × (bytes ≡ text_of ns)
 abbrev pub HasFault : List ℕ → Type 0
 HasFault bytes = (fault : NotesFault) × (notes_fault bytes ≡ Some fault)
 
--- bytes are the text of some notes, or have a first fault, and not both
+-- bytes are either the text of some notes or have a first fault
 abbrev pub IsTextOrFaulty : Type 0
 IsTextOrFaulty = (bytes : List ℕ) → (IsText bytes × (HasFault bytes → ⊥)) ⊎ ((IsText bytes → ⊥) × HasFault bytes)
 
@@ -29,19 +29,19 @@ IsTextOrFaulty = (bytes : List ℕ) → (IsText bytes × (HasFault bytes → ⊥
 abbrev pub IsLine : List ℕ → Type 0
 IsLine line = list_any (λ b. b == 10) line ≡ false
 
--- the text has the lines of these notes before their last one, then this line, and then more bytes
+-- the lines of these notes before `end`, then this line, then more bytes
 abbrev pub text_with : NotesParts → List ℕ → List ℕ → List ℕ
 text_with ns line more = text_of_lines (lines_before_end ns) ++ (line ++ 10 ∷ more)
 
--- the number of the line after those
+-- the number of the line after the lines before `end`
 abbrev pub next_line : NotesParts → ℕ
 next_line ns = length (lines_before_end ns) + 1
 
--- A line is read where it is spelled so, and nowhere else.
+-- A line is read as `l` if and only if it is the spelling of `l`.
 abbrev pub EachHasOneSpelling : Type 0
 EachHasOneSpelling = (line : List ℕ) (l : NoteLine) → IsNarrow l → (read_line line ≡ Some l) ↔ (line ≡ line_of (line_words l))
 
--- What follows lines that are right and is wrong is the first fault of a text.
+-- An error after correct lines is the first fault of the text.
 pub record FaultsAreFirst : Type 0 where
   pub header : (line more : List ℕ) → IsLine line → line ≢ heading → notes_fault (line ++ 10 ∷ more) ≡ Some Header
   pub line : (ns : NotesParts) (line more : List ℕ) (fault : NotesFault) → AreNarrowNotes ns → IsLine line → line ≢ codes "end" → line_fault_after ns (next_line ns) (read_line line) ≡ Some fault → notes_fault (text_with ns line more) ≡ Some fault

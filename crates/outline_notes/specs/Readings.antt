@@ -1,4 +1,4 @@
--- What the reader answers. Memory may run out.
+-- Answers of the reader. Memory may run out.
 use Rattle.std.specs.Prelude.{◌≡◌, ℕ, List, Some, Ok, Err}
 use Rattle.outline_notes.specs.declared.fault.NotesFault.{NotesFault}
 use Rattle.outline_notes.specs.declared.fault.NotesFault.TheVariants.{NoMemory}
@@ -10,7 +10,7 @@ abbrev pub IsFault : List ℕ → NotesFault → Type 0
 IsFault bytes NoMemory = Unit {0}
 IsFault bytes fault = notes_fault bytes ≡ Some fault
 
--- the notes are given, unless memory ran out
+-- the answer is these notes, unless memory ran out
 abbrev pub Gives : NotesParts → Answer → Type 0
 Gives ns (Ok given) = given ≡ ns
 Gives ns (Err NoMemory) = Unit {0}

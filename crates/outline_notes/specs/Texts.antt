@@ -25,24 +25,24 @@ abbrev pub line_words : NoteLine → List (List ℕ)
 line_words (Node n) = codes "D" ∷ node_name n ∷ map decimal (node_numbers n)
 line_words (Note k) = codes "C" ∷ map decimal (k ∷ [])
 
--- the numbers in it
+-- the numbers in the line of a node or a note
 abbrev pub line_numbers : NoteLine → List ℕ
 line_numbers (Node n) = node_numbers n
 line_numbers (Note k) = k ∷ []
 
--- the first line
+-- the first line of the text of notes
 abbrev pub heading : List ℕ
 heading = codes "kat 1 outline"
 
--- nodes, then notes
+-- the lines of the nodes, then the lines of the notes
 abbrev pub note_lines : NotesParts → List NoteLine
 note_lines ns = map Node ns.nodes ++ map Note ns.notes
 
--- the lines of notes before the last one
+-- the lines of notes before the line `end`
 abbrev pub lines_before_end : NotesParts → List (List ℕ)
 lines_before_end ns = heading ∷ map (λ l. line_of (line_words l)) (note_lines ns)
 
--- the lines of notes
+-- all lines of notes
 abbrev pub lines_of : NotesParts → List (List ℕ)
 lines_of ns = lines_before_end ns ++ codes "end" ∷ []
 
@@ -50,10 +50,10 @@ lines_of ns = lines_before_end ns ++ codes "end" ∷ []
 abbrev pub text_of : NotesParts → List ℕ
 text_of ns = text_of_lines (lines_of ns)
 
--- the numbers of a line are numbers of the program
+-- all numbers of the line are below 2^64
 abbrev pub IsNarrow : NoteLine → Type 0
 IsNarrow l = (k : ℕ) → Has (line_numbers l) k → k < 2 ^ 64
 
--- notes of the program: they keep the rules, and their numbers are numbers of the program
+-- the notes keep the rules, and all their numbers are below 2^64
 abbrev pub AreNarrowNotes : NotesParts → Type 0
 AreNarrowNotes ns = AreNotes ns × ((l : NoteLine) → Has (note_lines ns) l → IsNarrow l)

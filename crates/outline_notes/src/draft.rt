@@ -1,4 +1,4 @@
-//! Notes that are being read.
+//! Notes during reading.
 ghost use Rattle.std.specs.Prelude.{◌≡◌, ◌&&◌, Some, false};
 ghost use Rattle.outline_notes.specs.NoteLists.{node_parts};
 ghost use Rattle.outline_notes.specs.Forms.{read_line};
@@ -12,7 +12,7 @@ use crate::notes::{NoteNode, Notes};
 use std::alloc::Global;
 use std::collections::BTreeSet;
 
-// The lines so far. The set has the nodes too, so that an equal node is found fast.
+// The lines read so far. `known` has the same nodes as `nodes`, to find an equal node fast.
 #[derive(Drop)]
 pub(crate) struct Draft {
     nodes: Vec<NoteNode>,
@@ -20,7 +20,7 @@ pub(crate) struct Draft {
     known: BTreeSet<NoteNode>,
 }
 
-// Does nothing: what is known of the order in which the set keeps nodes.
+// Does nothing: its contract states two facts about the order of nodes in the set.
 fn node_order()
     ensures apart { TellsApart ⟦<NoteNode as Ord>⟧.cmp }
     ensures own { IsReflexive ⟦<NoteNode as Ord>⟧.cmp }
@@ -47,7 +47,7 @@ impl Draft {
         }
     }
 
-    // The notes of the lines.
+    // Returns the notes with these lines.
     pub(crate) fn into_notes(self) -> Notes
         requires { IsDraft self }
         ensures { result ≡ draft_parts self }
@@ -119,7 +119,7 @@ impl Draft {
         }
     }
 
-    // Adds what the line of this number says. After a fault the draft is of no use.
+    // Adds the content of line `number`. After a fault the draft is of no use.
     pub(crate) fn add(&mut self, alloc: Global, line: &[u8], number: u64) -> Result<(), NotesFault>
         requires { IsDraft self.old }
         ensures { AddsLine self.old number (read_line line.now) self.new result }

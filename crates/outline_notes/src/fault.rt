@@ -1,4 +1,4 @@
-//! What is wrong with a text that is not the text of notes.
+//! Faults of a text that is not the text of notes.
 ghost use Rattle.std.specs.Prelude.{◌≡◌};
 ghost use Rattle.outline_notes.specs.declared.fault.NotesFault.TheVariants.{NoMemory as NoRoom};
 
@@ -12,9 +12,9 @@ pub enum NotesFault {
     NoMemory,
     /// Line 1 is not `kat 1 outline`.
     Header,
-    /// The line has none of the forms that may stand there.
+    /// The line has no form that is allowed at its position.
     Line(u64),
-    /// A branch names a node that is not earlier, or a note one that is not there.
+    /// A branch names a node that is not earlier, or a note names an undefined node.
     NodeOrder(u64),
     /// The node of the line equals an earlier one.
     DoubleNode(u64),
@@ -22,7 +22,7 @@ pub enum NotesFault {
     NumberTooWide(u64),
     /// The text ends before a complete line `end`.
     Truncated,
-    /// Bytes follow the line `end`: this is the number of the line after it.
+    /// Bytes follow the line `end`. The number is that of the line after it.
     Trailing(u64),
 }
 

@@ -6,18 +6,18 @@ pub fn texts_differ()
     ensures { TextsDiffer }
 {}
 
-/// Bytes are the text of some notes or have a first fault, and not both.
+/// Bytes are either the text of some notes or have a first fault.
 pub fn is_text_or_faulty()
     ensures { IsTextOrFaulty }
 {}
 
-/// Each line that may stand in notes is read where it is spelled so, and nowhere else.
+/// Each line of notes is read from its one spelling, and from no other line.
 pub fn lines_have_one_spelling()
     ensures { EachHasOneSpelling }
 {}
 
-/// After lines that are right, the first line that is wrong tells the fault of a text; so do a text that ends too early,
-/// and bytes after its last line.
+/// After correct lines, the first error gives the fault of the text: a line with an error, a text that ends too early,
+/// or bytes after the last line.
 pub fn faults_are_first()
     ensures { FaultsAreFirst }
 {}

@@ -1,4 +1,4 @@
-//! The notes of an outline: sets of atoms as branching nodes, one for each place of a program; and their text.
+//! The notes of an outline, one set of atoms for each place of a program, as branching nodes; and the text of notes.
 #![tactic(auto)]
 
 mod draft;

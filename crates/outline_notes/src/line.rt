@@ -1,4 +1,4 @@
-//! The lines of notes: nodes, and then notes.
+//! The lines of notes: first nodes, then notes.
 ghost use Rattle.std.specs.Prelude.{◌≡◌};
 ghost use Rattle.line_format.specs.Readings.{texts};
 ghost use Rattle.line_format.specs.Numerals.{numbers_of};
@@ -14,21 +14,21 @@ use kat_model::NoMemory;
 use line_format::{read_numbers, words_of};
 use std::alloc::Global;
 
-// What a line of notes says.
+// The content of a line of notes.
 #[derive(Clone, Copy)]
 pub(crate) enum NoteLine {
     Node(NoteNode),
     Note(usize),
 }
 
-// The parts of notes, in the order in which they stand.
+// The parts of notes, in the order of the text.
 #[derive(Clone, Copy)]
 pub(crate) enum Section {
     Nodes,
     Notes,
 }
 
-// Why a line is not read.
+// Why a line cannot be read.
 #[derive(Clone, Copy)]
 pub(crate) enum LineFault {
     NoMemory,
@@ -55,7 +55,7 @@ impl NoteLine {
     }
 }
 
-// The node of this name and these numbers.
+// Returns the node with this name and these numbers, if any.
 fn node(name: &[u8], numbers: &[usize]) -> Option<NoteNode>
     ensures { result ≡ node_of name.now numbers.now }
 {
@@ -79,7 +79,7 @@ fn node(name: &[u8], numbers: &[usize]) -> Option<NoteNode>
     }
 }
 
-// The note of these numbers.
+// Returns the note with these numbers, if there is exactly one number.
 fn note(numbers: &[usize]) -> Option<NoteLine>
     ensures { result ≡ note_of numbers.now }
 {
@@ -123,7 +123,7 @@ fn note_line(alloc: Global, words: &[&[u8]]) -> Result<NoteLine, LineFault>
     }
 }
 
-// What the words of a line say, by the first.
+// Reads the content of a line from its words. The first word selects the form.
 fn line_of(alloc: Global, words: &[&[u8]]) -> Result<NoteLine, LineFault>
     ensures { ReadsLine (line_of_words (texts words.now)) result }
 {
@@ -134,7 +134,7 @@ fn line_of(alloc: Global, words: &[&[u8]]) -> Result<NoteLine, LineFault>
     }
 }
 
-// What a line says.
+// Reads the content of a line.
 pub(crate) fn read_line(alloc: Global, line: &[u8]) -> Result<NoteLine, LineFault>
     ensures { ReadsLine (read_line line.now) result }
 {

@@ -14,8 +14,8 @@ pub enum NoteNode {
     Branch(usize, usize, usize),
 }
 
-/// The notes of an outline: nodes, and for each place of a program the number of the node that is noted there. A branch
-/// names earlier nodes alone, from 0; no node stands twice; each note names a node.
+/// The notes of an outline: nodes, and for each place of a program the number of its node. Nodes are numbered from 0. A
+/// branch names only earlier nodes, no node occurs twice, and each note names a node.
 #[derive(Drop)]
 pub struct Notes {
     nodes: Vec<NoteNode>,
@@ -33,7 +33,7 @@ impl Model for Notes {
 }
 
 impl Notes {
-    /// The notes of these parts, which keep the rules. It takes no memory.
+    /// Returns the notes with these parts, which must keep the rules. Allocates nothing.
     pub fn of_parts(nodes: Vec<NoteNode>, notes: Vec<usize>) -> Notes
         requires { AreNotes (notes_of nodes.items notes.items) }
         ensures { result ≡ notes_of nodes.items notes.items }
@@ -41,7 +41,7 @@ impl Notes {
         Notes { nodes, notes }
     }
 
-    /// The nodes.
+    /// Returns the nodes.
     pub fn nodes(&self) -> &[NoteNode]
         ensures value { result.now ≡ self.now.nodes }
         ensures rules { AreNotes self.now }
@@ -49,7 +49,7 @@ impl Notes {
         &self.nodes
     }
 
-    /// The number of the node that is noted at each place.
+    /// Returns the number of the node at each place.
     pub fn notes(&self) -> &[usize]
         ensures value { result.now ≡ self.now.notes }
         ensures rules { AreNotes self.now }

@@ -13,7 +13,7 @@ use crate::notes::Notes;
 use line_format::first_line;
 use std::alloc::Global;
 
-// What the line `end` gives, where line `number` would begin after it.
+// Returns the answer after the line `end`, after which line `number` would begin.
 fn ended(notes: Notes, number: u64, after: &[u8]) -> Result<Notes, NotesFault>
     ensures { Answers (ended notes number (parts_of after.now)) result }
 {
@@ -24,7 +24,7 @@ fn ended(notes: Notes, number: u64, after: &[u8]) -> Result<Notes, NotesFault>
     }
 }
 
-// Notes from line 2 on.
+// Reads notes from line 2 on.
 fn notes_after_header(alloc: Global, bytes: &[u8]) -> Result<Notes, NotesFault>
     requires { length bytes.now + 4 < 2 ^ 64 }
     ensures { Answers (notes_from no_lines 2 (parts_of bytes.now)) result }
@@ -57,17 +57,17 @@ fn read_all(alloc: Global, bytes: &[u8]) -> Result<Notes, NotesFault>
     Err(NotesFault::Header)
 }
 
-/// The notes of which the bytes are the text. Bytes that are the text of none have a first fault, which is that of the
-/// first line at fault: on one line the form is tested first, then the width of numerals, the order of nodes, and equal
-/// nodes. There is no limit but memory.
+/// Reads notes from their text. Bytes that are not the text of notes have a first fault, that of the first line with an
+/// error. On one line the checks are, in this order: form, width of numerals, order of nodes, equal nodes. There is no
+/// limit except memory.
 pub fn read_notes(alloc: Global, bytes: &[u8]) -> Result<Notes, NotesFault>
-    // The bytes are the text of what is read.
+    // `bytes` is the text of the notes read.
     ensures notes { IfOk result (λ n. AreNarrowNotes n × (bytes.now ≡ text_of n)) }
 
-    // Notes of which the bytes are the text are read, unless memory runs out.
+    // The text of notes is read as these notes, unless memory runs out.
     ensures only { (n : NotesParts) → AreNarrowNotes n → bytes.now ≡ text_of n → Gives n result }
 
-    // Any other answer is the first fault of the bytes, unless memory runs out.
+    // An error is the first fault of `bytes`, unless memory runs out.
     ensures fault { IfErr result (λ fault. IsFault bytes.now fault) }
 {
     read_all(alloc, bytes)

@@ -38,7 +38,7 @@ fn put_notes(alloc: Global, out: &mut Vec<u8>, notes: &[usize]) -> Result<(), No
     Ok(())
 }
 
-/// The one spelling of notes. Fails only when out of memory.
+/// Returns the one spelling of notes. Fails only when out of memory.
 pub fn write_notes(alloc: Global, notes: &Notes) -> Result<Vec<u8>, NoMemory>
     ensures { IfOk result (λ text. text.items ≡ text_of notes.now) }
 {

@@ -1,4 +1,4 @@
--- Notes for which there is a reason against them do not follow.
+-- Notes with a reason against them do not follow.
 use Rattle.std.proofs.Common.{sym, ◌∙◌, arith}
 use Rattle.kat_model.specs.Problems.{ProblemParts}
 use Rattle.kat_model.proofs.Places.{has_at}

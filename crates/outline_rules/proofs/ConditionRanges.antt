@@ -16,7 +16,7 @@ module _ (t a : ℕ) where
   abbrev AllInRange : List Term → Type 0
   AllInRange es = (e : Term) → Has es e → IsInRange t a e
 
-  -- the members of a balanced product that is in range are
+  -- if a balanced product is in range, all its members are
   pub product_parts : (es : List Term) → IsInRange t a (product_of es) → AllInRange es
   product_parts =
       balanced_holds one product (λ es x. IsInRange t a x → AllInRange es)

@@ -15,7 +15,7 @@ use Rattle.simple_hyps.specs.HypothesisForms.{allows, some_rules_out}
 use Rattle.outline_rules.specs.Working.Sets.{EntailsUnder, free_step, AreEnds}
 use Rattle.simple_hyps.proofs.SimpleForms.{allows_told, allowed_allows, ruled_out_told, told_ruled_out}
 
--- an entailment of diagrams is one of their functions
+-- an implication of functions, as an entailment of diagrams states it
 abbrev pub Implied : ℕ → (Atom → Atom → Bool) → (Atom → Atom → Bool) → (Atom → Atom → Bool) → (Atom → Atom → Bool) → Type 0
 Implied tests f g h k = (x y : Atom) → length x ≡ tests → length y ≡ tests → f x y ≡ true → g x y ≡ true → h x y ≡ true → k x y ≡ true
 
@@ -25,7 +25,7 @@ entails_implied d a b c e f g h k fa gb hc ke = (
   (λ im x y lx ly p q r. ke.value x y lx ly ∙ im x y lx ly (sym (fa.value x y lx ly) ∙ p) (sym (gb.value x y lx ly) ∙ q) (sym (hc.value x y lx ly) ∙ r)),
 )
 
--- an entailment from what is in all of three sets
+-- an entailment from the intersection of three sets
 pub under_entails : (d0 d1 d2 : StepDiagramsParts) (allowed from guard to both there : ℕ) → KeepsSteps d0 d1 → KeepsSteps d1 d2 → IsStepId d0 allowed → IsStepId d0 to
     → IsStepDiagram d1 both (λ x y. step_value d0 from x y && step_value d0 guard x y) → IsStepDiagram d2 there (λ x y. step_value d1 allowed x y && step_value d1 both x y) → Entails d2 there to ↔ EntailsUnder d0 allowed from guard to
 under_entails d0 d1 d2 allowed from guard to both there k1 k2 is_allowed is_to is_both is_there = (
@@ -46,7 +46,7 @@ under_entails d0 d1 d2 allowed from guard to both there k1 k2 is_allowed is_to i
     inside x y lx ly = is_there.value x y lx ly ∙ ap₂ (λ p r. p && r) (step_value-kept d0 d1 k1 allowed is_allowed x y) (is_both.value x y (lx ∙ k2.tests) (ly ∙ k2.tests))
 
 module _ (q : ProblemParts) (note : ℕ → Atom → Bool) where
-  -- one note and a guard imply another note
+  -- a note and a guard imply another note
   pub implies_implied : (from to : ℕ) (b : TestTree) → Implied q.tests (λ x y. allows q.hyps x) (λ x y. note from x) (λ x y. truth b x) (λ x y. note to x) ↔ IsMet q note (implies from b to)
   implies_implied from to b = (
     (λ im x lx is n t. im x x lx lx (allowed_allows q.hyps x is) n t),
@@ -67,7 +67,7 @@ module _ (q : ProblemParts) (note : ℕ → Atom → Bool) where
     (λ met x y lx ly al n r. met x lx (allows_told q.hyps x al) n),
   )
 
-  -- an action leads from one note to another: its ends have that
+  -- an action leads from one note to another: the second note has the ends of its steps
   pub leads_met : AreSimple q.hyps → (from a to : ℕ) (d : StepDiagramsParts) (allowed led always target : ℕ) → d.tests ≡ q.tests → IsStepDiagram d allowed (λ x y. allows q.hyps x) → AreEnds q.tests (free_step q.hyps a (allows q.hyps) (note from)) d led
       → IsStepDiagram d always (λ x y. true) → IsStepDiagram d target (λ x y. note to x) → EntailsUnder d allowed led always target ↔ IsMet q note (leads from a to)
   leads_met simple from a to d allowed led always target tests is_allowed are_ends is_always is_target = (
@@ -93,7 +93,7 @@ module _ (q : ProblemParts) (note : ℕ → Atom → Bool) where
           let out = told_ruled_out q.hyps a s.0 x (met s.0 x s.1 (lx ∙ tests) (allows_told q.hyps s.0 both.0) (allows_told q.hyps x (sym (is_allowed.value x y lx ly) ∙ al)) both.1 miss) in
           absurd (false≢true (sym (not-true (some_rules_out q.hyps a s.0 x) step.1) ∙ out))
 
--- an answer tells a fact where it tells one that comes to the same
+-- an answer for a fact is an answer for an equivalent fact
 pub told_same : {E : Type 0} {A B : Type 0} (r : Result Bool E) → IfOk r (λ b. IsTrue b ↔ A) → A ↔ B → IfOk r (λ b. IsTrue b ↔ B)
 told_same (Ok b) told same = ((λ h. same.0 (told.0 h)), (λ h. told.1 (same.1 h)))
 told_same (Err e) told same = tt
@@ -101,14 +101,14 @@ told_same (Err e) told same = tt
 pub then_same : {A B C : Type 0} → A ↔ B → B ↔ C → A ↔ C
 then_same p q = ((λ a. q.0 (p.0 a)), (λ c. p.1 (q.1 c)))
 
--- an entailment in other tests is one in as many
+-- an implication over an equal number of tests
 pub implied_tests : (m n : ℕ) (f g h k : Atom → Atom → Bool) → m ≡ n → Implied m f g h k ↔ Implied n f g h k
 implied_tests m n f g h k e = (
   (λ im x y lx ly. im x y (lx ∙ sym e) (ly ∙ sym e)),
   (λ im x y lx ly. im x y (lx ∙ e) (ly ∙ e)),
 )
 
--- the image of the free steps from both sets
+-- the image of the free steps from the intersection of both sets
 pub ends_are : (d0 d1 d2 d3 d4 d5 : StepDiagramsParts) (hyps : List Term) (a tests allowed from ruled free there steps led : ℕ) (f g : Atom → Bool) → KeepsSteps d0 d1 → KeepsSteps d1 d2 → KeepsSteps d2 d3 → KeepsSteps d3 d4 → d4.tests ≡ tests
     → IsStepDiagram d0 allowed (λ x y. f x) → IsStepDiagram d0 from (λ x y. g x) → IsStepDiagram d1 ruled (some_rules_out hyps a) → IsStepDiagram d2 free (λ x y. not (step_value d1 ruled x y))
     → IsStepDiagram d3 there (λ x y. step_value d2 allowed x y && step_value d2 from x y) → IsStepDiagram d4 steps (λ x y. step_value d3 there x y && step_value d3 free x y) → IsImage d4 steps d5 led → AreEnds tests (free_step hyps a f g) d5 led

@@ -1,4 +1,5 @@
--- The tests of the hypotheses of a problem are tests of the problem, and diagrams of the one are diagrams of the other.
+-- The tests of the hypotheses of a problem are tests of the problem; and diagrams of its list of hypotheses are
+-- diagrams of an equal list.
 use Rattle.std.proofs.Common.{◌≡◌, ℕ, zero, suc, List, [], ◌∷◌, map, All, sym, subst, arith}
 use Rattle.kat_model.specs.Trees.{Term, kat_tree}
 use Rattle.kat_model.specs.declared.tree.Kat.{Kat}

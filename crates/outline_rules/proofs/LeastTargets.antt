@@ -1,4 +1,4 @@
--- The least target of conditions that are not met, of one condition and of lists that are joined.
+-- The least target of an unmet condition: of one condition, and of concatenated lists.
 use Rattle.std.proofs.Common.{◌≡◌, ℕ, ◌+◌, ◌<◌, ◌≤◌, ◌↔◌, inl, ◌⊎◌, ⊎_elim, List, [], ◌∷◌, ◌++◌, map, length, take, get_or, min, Bool, true, false, cond, Option, Some, None, refl, sym, ap, ◌∙◌, subst, arith}
 use Rattle.std.proofs.lemmas.List.{map_more}
 use Rattle.std.specs.Bool.{IsTrue}
@@ -27,7 +27,7 @@ module _ (q : ProblemParts) (note : ℕ → Atom → Bool) where
       same : (d : Condition) → c ≡ d → target d < target c → ⊥
       same d e lt = let own : target c < target c = subst (λ x. target x < target c) (sym e) lt in omega (arith, own)
 
-  -- an unmet condition of one of two lists, with the least target of both
+  -- an unmet condition of one of two lists, if its target is the least of both lists
   among : (cs ds : List Condition) (k m : ℕ) → IsLeastUnmet q note cs k → m ≡ k → ((c : Condition) → Has ds c → target c < m → IsMet q note c) → IsLeastUnmet q note (cs ++ ds) m
   among cs ds k m u e others =
       record {
@@ -61,7 +61,7 @@ module _ (q : ProblemParts) (note : ℕ → Atom → Bool) where
       (λ e. among_right cs ds l (min k l) b e.0 (λ c h lt. a.least c h (omega (arith, lt, e.0, e.1))))
       (two_orders k l)
 
-  -- one more check of a list
+  -- adding a check to a list
   pub least_next : (checks : List Check) (i : ℕ) (check : Check) (met : Bool) (least one next : Option ℕ) (t : ℕ) → i < length checks → check ≡ get_or checks i check → t ≡ target (condition_of check) → one ≡ cond met None (Some t) → next ≡ lesser_of least one
       → TellsLeastUnmet q note (map condition_of (take i checks)) least → IsTrue met ↔ IsMet q note (condition_of check) → TellsLeastUnmet q note (map condition_of (take (i + 1) checks)) next
   least_next checks i check met least one next t lt is own chosen joins so_far tells =

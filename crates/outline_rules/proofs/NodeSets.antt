@@ -1,4 +1,4 @@
--- The sets of the nodes of notes, one more at a time, and those of the notes.
+-- The sets of the nodes of notes, extended by one node at a time, and the sets of the notes.
 use Rattle.std.proofs.Common.{◌≡◌, ℕ, zero, suc, ◌+◌, ◌<◌, inl, inr, All, List, [], ◌∷◌, ◌++◌, map, length, take, get_or, slice_get, Bool, false, Some, refl, sym, ap, ◌∙◌, subst, arith, length-append}
 use mathlib.Core.Path.{ap₂}
 use Rattle.std.specs.Option.{option_map}
@@ -21,7 +21,7 @@ use Rattle.outline_rules.specs.Follows.{HasTests}
 use Rattle.outline_rules.specs.Working.Sets.{HasPartsInRange, AreNodeSets, AreMomentSets}
 use Rattle.outline_rules.specs.declared.checking.MomentSets.{MomentSets}
 
--- one more value along a list
+-- adding a value at the end of a list
 continued-push : {X Y : Type 0} (step : List Y → X → Y) (values : List Y) (xs : List X) (x : X) → continued step values (xs ++ x ∷ []) ≡ continued step values xs ++ step (continued step values xs) x ∷ []
 continued-push step values [] x = refl
 continued-push step values (y ∷ xs) x = continued-push step (values ++ step values y ∷ []) xs x
@@ -39,7 +39,7 @@ pub ids_kept : (old new : StepDiagramsParts) (ids : List ℕ) → KeepsSteps old
 ids_kept old new ids kept all k d lt = IsStepId-kept old new kept (get_or ids k d) (all k d lt)
 
 module _ (old new : StepDiagramsParts) (moment : Moment) (kept : KeepsSteps old new) where
-  -- the sets of nodes with one more
+  -- the sets of the nodes with an additional node
   pub sets_pushed : (done : List NoteNode) (ids : List ℕ) (node : NoteNode) (id : ℕ) → AreNodeSets old moment done ids
       → IsStepDiagram new id (λ x y. node_holds (atom_at_moment moment x y) (map (λ e. step_value old e x y) ids) node)
       → AreNodeSets new moment (done ++ node ∷ []) (ids ++ id ∷ [])
@@ -58,7 +58,7 @@ module _ (old new : StepDiagramsParts) (moment : Moment) (kept : KeepsSteps old 
       one zero d lt = is.in_range
       one (suc k) d lt = absurd (omega (arith, lt))
 
-  -- and as they are
+  -- the sets of the same nodes in newer diagrams
   pub sets_kept : (nodes : List NoteNode) (ids : List ℕ) → AreNodeSets old moment nodes ids → AreNodeSets new moment nodes ids
   sets_kept nodes ids sets =
       record {
@@ -67,7 +67,7 @@ module _ (old new : StepDiagramsParts) (moment : Moment) (kept : KeepsSteps old 
         values = λ x y lx ly. values_kept old new ids x y kept sets.in_range ∙ sets.values x y (lx ∙ kept.tests) (ly ∙ kept.tests);
       }
 
--- and so do the sets at a moment
+-- the sets at a moment in newer diagrams
 pub moment_sets_kept : (old new : StepDiagramsParts) (moment : Moment) (hyps : List Term) (ns : NotesParts) (s : MomentSets) → KeepsSteps old new → AreMomentSets old moment hyps ns s → AreMomentSets new moment hyps ns s
 moment_sets_kept old new moment hyps ns s kept sets =
     record {
@@ -75,11 +75,11 @@ moment_sets_kept old new moment hyps ns s kept sets =
       nodes = sets_kept old new moment kept ns.nodes s.nodes.items sets.nodes;
     }
 
--- no sets yet
+-- the sets of no nodes
 pub sets_none : (d : StepDiagramsParts) (moment : Moment) → AreNodeSets d moment [] []
 sets_none d moment = record { count = refl; in_range = λ k id lt. absurd (omega (arith, lt)); values = λ x y lx ly. refl }
 
--- one more node of a list
+-- adding the next node of a list
 pub sets_next : (old new : StepDiagramsParts) (moment : Moment) (items : List NoteNode) (ids earlier all : List ℕ) (i id : ℕ) → KeepsSteps old new → i < length items → earlier ≡ ids → all ≡ ids ++ id ∷ [] → AreNodeSets old moment (take i items) ids
     → IsStepDiagram new id (λ x y. node_holds (atom_at_moment moment x y) (map (λ e. step_value old e x y) earlier) (get_or items i False)) → AreNodeSets new moment (take (i + 1) items) all
 sets_next old new moment items ids earlier all i id kept lt same more sets is =
@@ -88,7 +88,7 @@ sets_next old new moment items ids earlier all i id kept lt same more sets is =
     (sets_pushed old new moment kept (take i items) ids (get_or items i False) id sets
     (subst (λ (l : List ℕ). IsStepDiagram new id (λ x y. node_holds (atom_at_moment moment x y) (map (λ e. step_value old e x y) l) (get_or items i False))) same is)))
 
--- the parts of a node of notes are in range
+-- the test of a node of notes and the nodes that it names are in range
 pub parts_in_range : (tests count : ℕ) (ns : NotesParts) (items : List NoteNode) (i : ℕ) → AreNotes ns → HasTests tests ns.nodes → items ≡ ns.nodes → i < length items → count ≡ i → HasPartsInRange tests count (get_or items i False)
 parts_in_range tests count ns items i are has same lt e =
     subst (λ n. HasPartsInRange tests n (get_or items i False)) (sym e) (by_node (get_or items i False) (ap (λ (l : List NoteNode). slice_get l i) (sym same) ∙ slice_get-get_or items i False lt))

@@ -1,4 +1,4 @@
--- The least node of which the test is out of range, by the search for it.
+-- The search finds the least node whose test is out of range.
 use Rattle.std.proofs.Common.{◌≡◌, ℕ, ◌<◌, ◌≤◌, List, Bool, true, false, not, nat_lt, Option, Some, None, get_or, position, refl, sym, ap, ◌∙◌}
 use Rattle.std.specs.Option.{IfSome, IfNone}
 use Rattle.std.proofs.lemmas.Bool.{ltb-true, ltb-false}
@@ -12,7 +12,7 @@ use Rattle.outline_rules.specs.Follows.{HasTests}
 use Rattle.outline_rules.specs.Reasons.{IsOutOfRange}
 use Rattle.outline_rules.specs.Working.Sets.{tests_out}
 
--- a node that is out of range is a branch
+-- a node whose test is out of range is a branch
 branch_out : (tests : ℕ) (node : NoteNode) → tests_out tests node ≡ true → (test : ℕ) × (low : ℕ) × (high : ℕ) × (node ≡ Branch test low high) × (tests ≤ test)
 branch_out tests False e = cc
 branch_out tests True e = cc
@@ -22,7 +22,7 @@ branch_out tests (Branch test low high) e = (test, low, high, refl, ltb-false te
     was_false true e = cc
     was_false false e = refl
 
--- one that is not tests one of the tests
+-- a branch that is not out of range is on a test of the problem
 not_out : (tests test low high : ℕ) → tests_out tests (Branch test low high) ≡ false → test < tests
 not_out tests test low high e = ltb-true test tests (was_true (nat_lt test tests) e)
   where

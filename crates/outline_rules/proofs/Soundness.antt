@@ -1,5 +1,5 @@
--- Notes that follow show the triple: along each run of the program in a table that keeps the hypotheses, the note at each
--- place is true (Hoare 1969).
+-- Notes that follow prove the triple: along each run of the program in a table that keeps the hypotheses, the note at
+-- each place is true (Hoare 1969).
 use Rattle.std.proofs.Common.{◌≡◌, ℕ, suc, ◌<◌, inl, inr, ⊎_elim, List, [], ◌∷◌, ◌++◌, Bool, true, false, refl, ap, subst}
 use Rattle.std.proofs.lemmas.Bool.{not-true}
 use Rattle.kat_model.specs.Trees.{TestTree, top, complement, Term, zero, test, product}
@@ -38,11 +38,11 @@ module _ (q : ProblemParts) (note : ℕ → Atom → Bool) (t : Table) (is_table
       by_value true e = absurd (keeps h has i i lt lt (test_term_relates (frame_of t) h i lt is_test e))
       by_value false e = e
 
-  -- and its moves are not ruled out
+  -- no move of the table is ruled out
   not_ruled_out : (a i j : ℕ) → i < t.states → j < t.states → (frame_of t).Acts a i j → IsRuledOut q.hyps a (atom_at t i) (atom_at t j) → ⊥
   not_ruled_out a i j li lj step r = keeps r.0 r.1 i j li lj (ruled_out_relates (frame_of t) r.0 a i j li lj r.2 step)
 
-  -- a note that implies another under a test
+  -- a note implies another note under a test
   implied : (from to : ℕ) (b : TestTree) (i : ℕ) → i < t.states → IsMet q note (implies from b to) → note from (atom_at t i) ≡ true → truth b (atom_at t i) ≡ true → note to (atom_at t i) ≡ true
   implied from to b i lt met n h = met (atom_at t i) (is_table.wide i lt) (allowed i lt) n h
 
@@ -56,7 +56,7 @@ module _ (q : ProblemParts) (note : ℕ → Atom → Bool) (t : Table) (is_table
   moved : (n i j : ℕ) → i ≡ j → note n (atom_at t i) ≡ true → note n (atom_at t j) ≡ true
   moved n i j e h = subst (λ k. note n (atom_at t k) ≡ true) e h
 
-  -- a body that keeps the invariant keeps it along each chain of turns
+  -- a body that keeps the invariant keeps it along each sequence of turns
   kept_along : (b : TestTree) (body : Term) (invariant : ℕ) →
       ((i j : ℕ) → i < t.states → j < t.states → truth b (atom_at t i) ≡ true → Relates t body i j → note invariant (atom_at t i) ≡ true → note invariant (atom_at t j) ≡ true) →
       (ks : List ℕ) (i j : ℕ) → i < t.states → Along (λ k. k < t.states) (RelatesIn (frame_of t) (product (test b) body)) i ks j → note invariant (atom_at t i) ≡ true → note invariant (atom_at t j) ≡ true
@@ -67,7 +67,7 @@ module _ (q : ProblemParts) (note : ℕ → Atom → Bool) (t : Table) (is_table
       let holds : truth b (atom_at t step.0) ≡ true = subst (λ m. truth b (atom_at t m) ≡ true) step.2.0 step.2.1 in
       kept_along b body invariant turn ks k j r.0 r.2 (turn step.0 k step.1 r.0 holds step.3 here)
 
-  -- runs lead from the first note to the last
+  -- a run that starts in the first note ends in the last note
   pub run_keeps : (f : FlowTree) (n i j : ℕ) → i < t.states → j < t.states → AllMet (conditions_from f n) → RelateInTurn (frame_of t) (stmt_terms f) i j → note n (atom_at t i) ≡ true → note (last_place f n) (atom_at t j) ≡ true
   run_keeps empty n i j li lj met r h = moved n i j r h
   run_keeps (skip_then rest) n i j li lj met r h =

@@ -13,7 +13,7 @@ use Rattle.outline_rules.specs.Working.Checks.{condition_of}
 use Rattle.outline_rules.specs.Working.Sets.{HasCheckInRange}
 use Rattle.outline_rules.proofs.ConditionRanges.{product_parts, conditions_in}
 
--- what is told of the parts of a task whose triple a problem asks
+-- the tests and actions of a task whose triple is the problem are those of the problem
 pub record IsTaskInRange (q : ProblemParts) (t : TaskParts) : Type 0 where
   pub pre : IsTestInRange q.tests t.pre
   pub flow : (e : Term) → Has (stmt_terms t.flow) e → IsInRange q.tests q.actions e

@@ -1,5 +1,5 @@
--- When the notes of an outline follow one from the other by the rules of Hoare logic (Hoare 1969): the conditions of
--- its places, each with its target.
+-- When the notes of an outline follow from each other by the rules of Hoare logic (Hoare 1969): the conditions of its
+-- places, each with its target.
 use Rattle.std.specs.Prelude.{◌≡◌, ◌<◌, ℕ, suc, Bool, false, List, [], ◌∷◌, ◌++◌, length, IsTrue}
 use Rattle.kat_model.specs.Trees.{TestTree, top, complement}
 use Rattle.kat_model.specs.Members.{Has}
@@ -13,7 +13,7 @@ use Rattle.simple_hyps.specs.TestTerms.{IsAllowed, IsRuledOut}
 use Rattle.outline_rules.specs.Tasks.{TaskParts}
 use Rattle.outline_rules.specs.Places.{last_place, places}
 
--- what an outline has to meet: the pre-condition implies the first note; a note and a test imply a note; an action leads
+-- a condition of an outline: the pre-condition implies the first note; a note and a test imply a note; an action leads
 -- from a note to a note; a note implies the post-condition
 pub data Condition : Type 0 where
   starts : (pre : TestTree) → Condition
@@ -21,7 +21,7 @@ pub data Condition : Type 0 where
   leads : (from a to : ℕ) → Condition
   ends : (from : ℕ) (post : TestTree) → Condition
 
--- the conditions of a list of statements, the first place of which is n
+-- the conditions of a list of statements whose first place is n
 abbrev pub conditions_from : FlowTree → ℕ → List Condition
 conditions_from empty n = []
 conditions_from (skip_then rest) n = implies n top (suc n) ∷ conditions_from rest (suc n)
@@ -45,14 +45,14 @@ conditions_from (loop_then b f rest) n =
 abbrev pub conditions : TaskParts → List Condition
 conditions t = starts t.pre ∷ (conditions_from t.flow 0 ++ ends (last_place t.flow 0) t.post ∷ [])
 
--- the place of the note that a condition is to give, and for the post-condition the number of places
+-- the place of the note that a condition establishes; for the post-condition, the number of places
 abbrev pub target : Condition → ℕ
 target (starts pre) = 0
 target (implies from b to) = to
 target (leads from a to) = to
 target (ends from post) = suc from
 
--- the condition is met by what holds at the places, at every allowed atom
+-- the condition is met by the values `note` at the places, at every allowed atom
 abbrev pub IsMet : ProblemParts → (ℕ → Atom → Bool) → Condition → Type 0
 IsMet q note (starts pre) =
     (atom : Atom) → length atom ≡ q.tests → IsAllowed q.hyps atom → IsTrue (truth pre atom) → IsTrue (note 0 atom)
@@ -64,11 +64,11 @@ IsMet q note (leads from a to) =
 IsMet q note (ends from post) =
     (atom : Atom) → length atom ≡ q.tests → IsAllowed q.hyps atom → IsTrue (note from atom) → IsTrue (truth post atom)
 
--- each test of a branch is one of the problem's
+-- the test of each branch is a test of the problem
 abbrev pub HasTests : ℕ → List NoteNode → Type 0
 HasTests tests nodes = (test low high : ℕ) → Has nodes (Branch test low high) → test < tests
 
--- the notes follow: the tests are there, there is a note for each place, and each condition is met
+-- the notes follow: their tests are tests of the problem, each place has a note, and each condition is met
 pub record Follows (q : ProblemParts) (t : TaskParts) (ns : NotesParts) : Type 0 where
   pub tests : HasTests q.tests ns.nodes
   pub count : length ns.notes ≡ places t.flow

@@ -1,4 +1,4 @@
--- The laws of outlines. Each stands on a function of the crate that does nothing.
+-- The laws of outlines. Each law is the contract of a function that does nothing.
 use Rattle.kat_model.specs.Problems.{ProblemParts}
 use Rattle.kat_model.specs.Relations.{Same}
 use Rattle.outline_notes.specs.NoteLists.{NotesParts}
@@ -7,7 +7,7 @@ use Rattle.outline_rules.specs.Tasks.{TaskParts, IsTripleOf}
 use Rattle.outline_rules.specs.Follows.{Follows}
 use Rattle.outline_rules.specs.Reasons.{IsFirstReason}
 
--- notes that follow show the triple, whoever wrote them
+-- notes that follow prove the triple, whatever their origin
 abbrev pub FollowsIsSame : Type 0
 FollowsIsSame = (q : ProblemParts) (t : TaskParts) (ns : NotesParts) → IsTripleOf q t → Follows q t ns → Same q
 

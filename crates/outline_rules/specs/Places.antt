@@ -1,9 +1,9 @@
--- The places of a program at which an outline has a note: before each statement, after the last of each list, and at
--- each loop for its invariant, in the order in which the program is read.
+-- The places of a program, each with a note in an outline: before each statement, after the last of each list, and at
+-- each loop for its invariant, in the order of the program text.
 use Rattle.std.specs.Prelude.{ℕ, suc}
 use Rattle.while_lang.specs.Flows.{FlowTree, empty, skip_then, abort_then, assert_then, act_then, branch_then, loop_then}
 
--- the last place of a list of statements, where the first is n
+-- the last place of a list of statements whose first place is n
 abbrev pub last_place : FlowTree → ℕ → ℕ
 last_place empty n = n
 last_place (skip_then rest) n = last_place rest (suc n)
@@ -13,6 +13,6 @@ last_place (act_then a rest) n = last_place rest (suc n)
 last_place (branch_then b f g rest) n = last_place rest (suc (last_place g (suc (last_place f (suc n)))))
 last_place (loop_then b f rest) n = last_place rest (suc (last_place f (suc (suc n))))
 
--- how many places there are
+-- the number of places
 abbrev pub places : FlowTree → ℕ
 places f = suc (last_place f 0)

@@ -1,4 +1,4 @@
--- Why notes do not follow: the first reason.
+-- The first reason why notes do not follow.
 use Rattle.std.specs.Prelude.{◌≡◌, ◌≢◌, ◌<◌, ◌≤◌, ℕ, Bool, List, length, Some, slice_get}
 use Rattle.kat_model.specs.Members.{Has}
 use Rattle.kat_model.specs.Problems.{ProblemParts}
@@ -14,7 +14,7 @@ use Rattle.outline_rules.specs.Tasks.{TaskParts}
 use Rattle.outline_rules.specs.Places.{places}
 use Rattle.outline_rules.specs.Follows.{Condition, conditions, target, IsMet, HasTests, Follows}
 
--- the least node of which the test is out of range
+-- the least node whose test is out of range
 pub record IsOutOfRange (tests : ℕ) (nodes : List NoteNode) (n : ℕ) : Type 0 where
   pub test : ℕ
   pub low : ℕ
@@ -23,7 +23,7 @@ pub record IsOutOfRange (tests : ℕ) (nodes : List NoteNode) (n : ℕ) : Type 0
   pub out : tests ≤ test
   pub least : (m test low high : ℕ) → m < n → slice_get nodes m ≡ Some (Branch test low high) → test < tests
 
--- the number is the least target of a condition of the list that is not met
+-- the number is the least target of an unmet condition of the list
 pub record IsLeastUnmet (q : ProblemParts) (note : ℕ → Atom → Bool) (cs : List Condition) (k : ℕ) : Type 0 where
   pub unmet : Condition
   pub has : Has cs unmet
@@ -37,7 +37,7 @@ IsFirstReason q t ns (Range n) = IsOutOfRange q.tests ns.nodes n
 IsFirstReason q t ns (Count n) = HasTests q.tests ns.nodes × (n ≡ places t.flow) × (length ns.notes ≢ n)
 IsFirstReason q t ns (Step k) = HasTests q.tests ns.nodes × (length ns.notes ≡ places t.flow) × IsLeastUnmet q (note_holds ns) (conditions t) k
 
--- accepted where they follow, and otherwise rejected for the first reason
+-- the notes are accepted if they follow, else rejected for the first reason
 abbrev pub IsNoteAnswer : ProblemParts → TaskParts → NotesParts → NoteAnswer → Type 0
 IsNoteAnswer q t ns Accepted = Follows q t ns
 IsNoteAnswer q t ns (Rejected reason) = IsFirstReason q t ns reason

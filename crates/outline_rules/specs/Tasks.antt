@@ -12,7 +12,7 @@ pub record TaskParts : Type 0 where
   pub flow : FlowTree
   pub post : TestTree
 
--- the trees of a task of the program
+-- the parts of a task as trees
 abbrev pub task_parts : Task → TaskParts
 task_parts t = record { pre = test_tree t.pre; flow = t.flow; post = test_tree t.post }
 

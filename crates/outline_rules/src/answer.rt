@@ -1,14 +1,14 @@
-//! What the rule checker answers.
+//! Answers of the rule checker.
 
-/// Why notes do not follow: the first of these, in this order.
+/// Why notes do not follow: the first reason that applies, in this order.
 #[derive(Clone, Copy, Debug, PartialEq, Eq)]
 pub enum NoteReason {
-    /// The test of this node, the least such, is not one of the problem's.
+    /// The least node whose test is not a test of the problem.
     Range(usize),
-    /// The program has this many places, and the notes are not as many.
+    /// The number of notes differs from the number of places, which is this.
     Count(usize),
-    /// This is the least target of a check that fails: the note that the check is to give, or the number of notes where it
-    /// is to give the post-condition.
+    /// The least target of a check that fails: the place of the note that it establishes, or the number of notes for
+    /// the check of the post-condition.
     Step(usize),
 }
 

@@ -1,5 +1,5 @@
-//! The rule checker of outlines. It shares with the finder the definitions and the diagrams of tests and hypotheses, and
-//! no rule.
+//! The rule checker of outlines. It shares the definitions and the diagrams of tests and hypotheses with the finder,
+//! but no rule.
 ghost use Rattle.std.specs.Prelude.{◌≡◌, ◌↔◌, Bool, map, position, IfOk, IfSome, IfNone, IsTrue, All, length, Some, None, if◌then◌else◌, [], ◌∷◌, ◌++◌};
 ghost use Rattle.kat_model.specs.Trees.{kat_tree, test_tree};
 ghost use Rattle.kat_model.specs.Steps.{Atom, truth};
@@ -26,14 +26,14 @@ use outline_notes::{NoteNode, Notes};
 use simple_hyps::{allowed_atoms, ruled_out_steps};
 use std::alloc::Global;
 
-// The allowed atoms at a moment, and the atoms there of each node of the notes.
+// The set of the allowed atoms at a moment, and the set of each node of the notes there.
 #[derive(Drop)]
 pub(crate) struct MomentSets {
     pub allowed: DiagramId,
     pub nodes: Vec<DiagramId>,
 }
 
-// Whether a node tests none of so many tests.
+// Whether the node is a branch on a test that is `tests` or more.
 fn tests_out(node: &NoteNode, tests: usize) -> bool
     ensures { result ≡ tests_out tests node.now }
 {
@@ -49,7 +49,7 @@ fn first_out(nodes: &[NoteNode], tests: usize) -> Option<usize>
     nodes.iter().position(|node| tests_out(node, tests))
 }
 
-// The least node of which the test is out of range.
+// Returns the least node whose test is out of range.
 fn node_out_of_range(nodes: &[NoteNode], tests: usize) -> Option<usize>
     ensures least { IfSome result (IsOutOfRange tests nodes.now) }
     ensures none { IfNone result (HasTests tests nodes.now) }
@@ -57,7 +57,7 @@ fn node_out_of_range(nodes: &[NoteNode], tests: usize) -> Option<usize>
     first_out(nodes, tests)
 }
 
-// The set of a node at a moment, where those of the earlier nodes are given.
+// Returns the set of a node at a moment, given the sets of the earlier nodes.
 fn node_set(
     diagrams: &mut StepDiagrams,
     earlier: &[DiagramId],
@@ -80,7 +80,7 @@ fn node_set(
     }
 }
 
-// The sets of the nodes at a moment.
+// Returns the sets of the nodes at a moment.
 fn node_sets(
     alloc: Global,
     diagrams: &mut StepDiagrams,
@@ -101,7 +101,7 @@ fn node_sets(
     Ok(sets)
 }
 
-// The sets of the allowed atoms and of the nodes at a moment.
+// Returns the sets of the allowed atoms and of the nodes at a moment.
 fn moment_sets(
     alloc: Global,
     diagrams: &mut StepDiagrams,
@@ -120,7 +120,7 @@ fn moment_sets(
     Ok(MomentSets { allowed, nodes })
 }
 
-// The set of the note at a place. It is empty where there is no such place.
+// Returns the set of the note at a place, which is empty if there is no such place.
 fn note_set(diagrams: &StepDiagrams, sets: &MomentSets, notes: &Notes, place: usize) -> DiagramId
     requires count { length sets.now.nodes.items ≡ length notes.now.nodes }
     requires sound { AreStepDiagrams diagrams.now }
@@ -133,7 +133,7 @@ fn note_set(diagrams: &StepDiagrams, sets: &MomentSets, notes: &Notes, place: us
     }
 }
 
-// The atoms at which a guard holds.
+// Returns the set of the atoms at which a guard holds.
 fn guard_set(diagrams: &mut StepDiagrams, guard: &Guard<'_>) -> Result<DiagramId, NoMemory>
     requires { HasGuardInRange diagrams.old.tests guard.now }
     ensures function { IfOk result (λ id. IsStepDiagram diagrams.new id (λ before after. truth (guard_tree guard.now) before)) }
@@ -150,7 +150,7 @@ fn guard_set(diagrams: &mut StepDiagrams, guard: &Guard<'_>) -> Result<DiagramId
     }
 }
 
-// Whether at every allowed atom of the first set at which the guard holds, the second set is true.
+// Whether the second set has every allowed atom of the first at which the guard holds.
 fn implies(
     diagrams: &mut StepDiagrams,
     allowed: DiagramId,
@@ -171,8 +171,8 @@ fn implies(
     diagrams.entails(there, to)
 }
 
-// The atoms that an action may lead to from the allowed atoms of a set. No diagram speaks of the allowed atoms before and after
-// a step: it can be as large as the square of theirs.
+// Returns the atoms that an action may reach from the allowed atoms of a set. No diagram restricts both atoms of a step
+// to allowed atoms: it can be as large as the square of the diagram of the allowed atoms.
 fn ends_of(
     diagrams: &mut StepDiagrams,
     problem: &Problem,
@@ -273,7 +273,7 @@ fn is_end_met(
 }
 
 impl Check<'_> {
-    // The place of the note that the condition is to give.
+    // Returns the place of the note that the check establishes.
     fn target(&self) -> usize
         ensures { result ≡ target (condition_of self.now) }
     {
@@ -283,14 +283,14 @@ impl Check<'_> {
     }
 }
 
-// The target of a condition, unless it is met.
+// Returns the target of a condition, unless it is met.
 fn target_unless(met: bool, target: usize) -> Option<usize>
     ensures { result ≡ (if met then None else Some target) }
 {
     if met { None } else { Some(target) }
 }
 
-// The lesser of two numbers, where there are any.
+// Returns the lesser of two numbers, or the only one, if any.
 fn lesser(first: Option<usize>, second: Option<usize>) -> Option<usize>
     ensures { result ≡ lesser_of first second }
 {
@@ -301,7 +301,7 @@ fn lesser(first: Option<usize>, second: Option<usize>) -> Option<usize>
     }
 }
 
-// The least target of a condition of the program that is not met.
+// Returns the least target of an unmet condition of the program.
 fn least_unmet_check(
     diagrams: &mut StepDiagrams,
     problem: &Problem,
@@ -324,7 +324,7 @@ fn least_unmet_check(
     Ok(least)
 }
 
-// The least target of a condition that is not met.
+// Returns the least target of an unmet condition.
 fn least_unmet(
     alloc: Global,
     problem: &Problem,
@@ -351,8 +351,8 @@ fn least_unmet(
     Ok(lesser(target_unless(starts, 0), later))
 }
 
-/// Whether the notes follow one from the other by the rules of Hoare logic at every place of the program (Hoare 1969),
-/// whoever wrote them; otherwise the first reason why not. Fails only when out of memory.
+/// Checks whether the notes follow from each other by the rules of Hoare logic at every place of the program (Hoare
+/// 1969), whatever their origin. Otherwise gives the first reason against them. Fails only when out of memory.
 pub fn check_notes(
     alloc: Global,
     problem: &Problem,

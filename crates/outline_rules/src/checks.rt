@@ -1,4 +1,4 @@
-//! The checks of an outline, in the order of the program: its conditions but the first and the last.
+//! The checks of an outline, in the order of the program: all its conditions but the first and the last.
 ghost use Rattle.std.specs.Prelude.{◌≡◌, [], ◌∷◌, ◌++◌, suc, map, IfOk, OnOk};
 ghost use Rattle.while_lang.specs.Flows.{with_stmt, empty};
 ghost use Rattle.while_lang.specs.FlowViews.{flow_stmt};
@@ -9,7 +9,7 @@ ghost use Rattle.outline_rules.specs.Working.Checks.{condition_of, place_after, 
 use kat_model::{NoMemory, Test};
 use while_lang::{Flow, Flows};
 
-// What has to hold beside the first note.
+// What holds in addition to the first note.
 #[derive(Clone, Copy)]
 pub(crate) enum Guard<'a> {
     Always,
@@ -18,14 +18,14 @@ pub(crate) enum Guard<'a> {
 }
 
 // A condition: the note at the first place and the guard imply the note at the last one, or the action leads from the
-// one to the other.
+// first note to the last.
 #[derive(Clone, Copy)]
 pub(crate) enum Check<'a> {
     Implies(usize, Guard<'a>, usize),
     Leads(usize, usize, usize),
 }
 
-// The place after this one. There is no memory for more places than there are numbers.
+// Returns the place after this one. An overflow counts as out of memory: memory cannot hold that many places.
 pub(crate) fn next_place(place: usize) -> Result<usize, NoMemory>
     ensures { IfOk result (λ next. next ≡ suc place) }
 {
@@ -38,7 +38,7 @@ fn push_check<'a>(checks: &mut Vec<Check<'a>>, check: Check<'a>) -> Result<(), N
     Ok(checks.push(check)?)
 }
 
-// Appends the checks of a statement before which this place stands, and gives the place after it.
+// Appends the checks of a statement that begins at `place`, and returns the place after it.
 #[cycle(checks)]
 fn push_stmt_checks<'a>(
     checks: &mut Vec<Check<'a>>,
@@ -88,7 +88,7 @@ fn push_stmt_checks<'a>(
     }
 }
 
-// Appends the checks of a list of statements of which this is the first place, and gives the last.
+// Appends the checks of a list of statements whose first place is `place`, and returns its last place.
 #[cycle(checks)]
 pub(crate) fn push_checks<'a>(
     checks: &mut Vec<Check<'a>>,

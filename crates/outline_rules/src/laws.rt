@@ -1,13 +1,13 @@
 //! Laws of outlines. Each function does nothing: its contract is the law.
 ghost use Rattle.outline_rules.specs.Laws.{FollowsIsSame, ReasonsAreAgainst};
 
-/// Where the sides of a problem are those of the triple of a task, notes that follow show that both sides denote one
-/// relation in each table that keeps the hypotheses, whoever wrote the notes (Hoare 1969; Kozen 2000).
+/// If the sides of a problem are those of the triple of a task, notes that follow show that both sides denote the same
+/// relation in each table that keeps the hypotheses, whatever the origin of the notes (Hoare 1969; Kozen 2000).
 pub fn follows_is_same()
     ensures { FollowsIsSame }
 {}
 
-/// Notes for which there is a reason against them do not follow.
+/// Notes with a reason against them do not follow.
 pub fn reasons_are_against()
     ensures { ReasonsAreAgainst }
 {}

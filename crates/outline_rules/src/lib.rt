@@ -1,5 +1,5 @@
-//! The rules of outlines, annotated programs as proofs of Hoare triples, and a checker that tells whether notes follow by
-//! them. It finds no notes.
+//! The rules of outlines, which are annotated programs as proofs of Hoare triples, and a checker that decides whether
+//! notes follow by these rules. It finds no notes.
 #![tactic(auto)]
 
 mod answer;

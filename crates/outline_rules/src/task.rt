@@ -2,7 +2,8 @@
 use kat_model::Test;
 use while_lang::Flows;
 
-/// The Hoare triple of a program: from where `pre` is true, `flow` leads only to where `post` is (partial correctness).
+/// The Hoare triple of a program (partial correctness): from the atoms at which `pre` is true, `flow` leads only to
+/// atoms at which `post` is true.
 #[derive(Drop)]
 pub struct Task {
     pub pre: Test,

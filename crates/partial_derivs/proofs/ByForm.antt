@@ -1,4 +1,4 @@
--- The derivative of a term from those of its parts.
+-- The derivative of a term from the derivatives of its parts.
 use Rattle.std.specs.Prelude.{◌↔◌}
 use Rattle.std.proofs.Common.{◌≡◌, ◌⊎◌, inl, inr, ⊎_elim, ℕ, true, false, ◌&&◌, List, [], ◌∷◌, refl, sym, ap, ◌∙◌, subst}
 use Rattle.std.specs.Bool.{IsTrue}
@@ -16,7 +16,7 @@ use Rattle.partial_derivs.specs.Moves.{IsTermOf, AreGuards, AreTargets, AreMerge
 use Rattle.partial_derivs.specs.Working.Gathered.{AddsUnder, Follows}
 use Rattle.partial_derivs.proofs.Kept.{AreTargets-kept, LeadsTo-kept, LeadsTo-was, LeadsTo-more, LeadsTo-less}
 
--- the one move of an action
+-- an action has one move
 pub action_moves : (store : NodeParts) (d : DiagramsParts) (a : ℕ) (always to : ℕ) (steps : Steps) → IsDiagramOf d steps.accepts (λ atom. false) → IsDiagramOf d always (λ atom. true) → IsTerm store to → tree_at store to ≡ one
     → steps.moves.items ≡ record { guard = always; act = a; to = to } ∷ [] → IsDerivativeOf store d (act a) steps
 action_moves store d a always to steps accepts constant is_id tree moves = record {
@@ -42,7 +42,8 @@ action_moves store d a always to steps accepts constant is_id tree moves = recor
         let left : tree_at store to ≡ x = subst (λ (k : Guarded). tree_at store k.to ≡ x) (sym own_move) r.tree in
         subst (Has (next (act a) atom b)) (sym tree ∙ left) (next_act_has atom b a (sym action))
 
--- a product: the moves of the first, each followed by the second, and those of the second where the first accepts
+-- a product: the moves of the first term, each followed by the second, and the moves of the second where the first
+-- accepts
 module _ (s t : NodeParts) (b c d g : DiagramsParts) (e : Term) (tail : ℕ) (first second steps : Steps) (mid : List Guarded) (trees : Keeps s t b c) (under_kept : KeepsFunctions c d) (both_kept : KeepsFunctions d g) (is_first : IsDerivativeOf s b e first) (is_second : IsDerivativeOf s b (tree_at s tail) second) (follows : Follows s t b c mid first.moves.items tail) (under : AddsUnder c d mid steps.moves.items second.moves.items first.accepts) (both : IsDiagramOf g steps.accepts (λ atom. value_of d first.accepts atom && value_of d second.accepts atom)) (merged : AreMerged steps.moves.items) where
   pub product_steps : IsDerivativeOf t g (product e (tree_at s tail)) steps
   product_steps = record {

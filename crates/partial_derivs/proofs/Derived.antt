@@ -1,4 +1,4 @@
--- The answers of calls that derive a term from its parts.
+-- Results of calls that derive a term from its parts.
 use Rattle.std.proofs.Common.{◌≡◌, ℕ, Result, IfOk, sym, ◌∙◌, subst}
 use Rattle.std.proofs.lemmas.Result.{IfOk-weaker}
 use Rattle.kat_model.specs.Trees.{Term, sum, product}

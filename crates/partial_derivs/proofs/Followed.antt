@@ -1,4 +1,4 @@
--- Moves that are followed by a term.
+-- Moves followed by a term.
 use Rattle.std.proofs.Common.{◌≡◌, inl, inr, ⊎_elim, ℕ, ◌<◌, ◌+◌, List, [], ◌∷◌, ◌++◌, length, get_or, take, refl, sym, ap, ◌∙◌, subst}
 use Rattle.std.specs.Bool.{IsTrue}
 use Rattle.kat_model.specs.Trees.{Term}
@@ -17,11 +17,11 @@ use Rattle.partial_derivs.proofs.Items.{has_item, take_item}
 use Rattle.kat_model.proofs.Ranges.{HasTestsBelow-dot}
 use Rattle.partial_derivs.proofs.Kept.{AreTargets-trees, LeadsTo-kept, LeadsTo-was, LeadsTo-left}
 
--- the id of a product is that of a term in range
+-- the id of the product of two terms in range is the id of a term in range
 pub dot_in_range : (s t : NodeParts) (n i j id : ℕ) → IsTermOf s n i → IsTermOf s n j → IsTerm t id → tree_at t id ≡ dot (tree_at s i) (tree_at s j) → IsTermOf t n id
 dot_in_range s t n i j id p q is same = record { is_id = is; in_range = subst (HasTestsBelow n) (sym same) (HasTestsBelow-dot n (tree_at s i) (tree_at s j) p.in_range q.in_range) }
 
--- one move, followed
+-- one move followed by the term
 module _ (s t : NodeParts) (c d : DiagramsParts) (old new : List Guarded) (m : Guarded) (tail id : ℕ) (trees : Grows s t) (functions : KeepsFunctions c d) (guards : AreGuards c old) (targets : AreTargets s c.tests old) (to : IsTermOf s c.tests m.to) (tail_there : IsTermOf s c.tests tail) (is : IsTerm t id) (same : tree_at t id ≡ dot (tree_at s m.to) (tree_at s tail)) (adds : AddsMove c d old new (record { guard = m.guard; act = m.act; to = id })) where
   trees_only : Keeps s t c c
   trees_only = record { trees = trees; functions = KeepsFunctions-itself c }
@@ -40,7 +40,7 @@ module _ (s t : NodeParts) (c d : DiagramsParts) (old new : List Guarded) (m : G
     );
   }
 
--- moves that are followed, and then one more
+-- moves followed by the term, and then an additional move
 module _ (s t u : NodeParts) (b c d : DiagramsParts) (mid new done : List Guarded) (m : Guarded) (tail : ℕ) (first : Keeps s t b c) (second : KeepsFunctions c d) (own_guard : IsDiagramId b m.guard) (to : IsTerm s m.to) (tail_there : IsTerm s tail) (before : Follows s t b c mid done tail) (last : AddsFollowed t u c d mid new m tail) where
   same_dot : dot (tree_at t m.to) (tree_at t tail) ≡ dot (tree_at s m.to) (tree_at s tail)
   same_dot = λ k. dot (first.trees.trees m.to to k) (first.trees.trees tail tail_there k)
@@ -75,7 +75,7 @@ module _ (s t u : NodeParts) (b c d : DiagramsParts) (mid new done : List Guarde
           (last.leads atom fits a e).1 (inr (own_act, first.functions.values m.guard own_guard atom ∙ own_open, same_dot ∙ ap (λ z. dot z (tree_at s tail)) own_tree ∙ q)))
           (has_append done (m ∷ []) r.through r.member)
 
--- a step of a loop over moves
+-- the loop step over moves
 pub step_followed : (s t u : NodeParts) (b c d : DiagramsParts) (mid new moves : List Guarded) (i : ℕ) (m : Guarded) (tail : ℕ) → i < length moves → m ≡ get_or moves i m → AreGuards b moves → AreTargets s b.tests moves → IsTermOf s b.tests tail
     → Keeps s t b c → Follows s t b c mid (take i moves) tail → AddsFollowed t u c d mid new m tail → KeepsFunctions c d → Follows s u b d new (take (i + 1) moves) tail
 step_followed s t u b c d mid new moves i m tail lt is guards targets tail_there first before last second =

@@ -1,4 +1,4 @@
--- Moves to which one is added, where moves of one target have one guard.
+-- Adding a move to moves that have one guard for each target.
 use Rattle.std.proofs.Common.{◌≡◌, ◌⊎◌, inl, inr, ⊎_elim, ℕ, Bool, true, false, ◌||◌, Option, Some, None, List, refl, sym, ap, ◌∙◌, subst}
 use Rattle.std.specs.Bool.{IsTrue}
 use Rattle.std.specs.Map.{lookup}
@@ -17,17 +17,17 @@ use Rattle.partial_derivs.specs.Moves.{IsTermOf, AreGuards, AreTargets, LeadsTo}
 use Rattle.partial_derivs.specs.Working.Gathered.{move_of, moves_of, guard_at, AddsMove}
 use Rattle.partial_derivs.proofs.Entries.{insert_entry_has, has_insert_entry, has_kept, lookup_has}
 
--- what is found at a target is the guard of a move
+-- a lookup of a target returns the guard of a move
 pub found_guard : (c : DiagramsParts) (eq : Target → Target → Bool) → ((x y : Target) → eq x y ≡ true → x ≡ y) → (entries : List (Target × ℕ)) (target : Target) (id : ℕ) → AreGuards c (moves_of entries) → lookup (eq target) entries ≡ Some id → IsDiagramId c id
 found_guard c eq same entries target id guards e = guards (move_of (target, id)) (map_has move_of entries (target, id) (lookup_has eq same target entries id e))
 
--- a guard that is true is there
+-- a guard that is true exists
 guard_there : (c : DiagramsParts) (atom : Atom) (found : Option ℕ) → IsTrue (guard_at c found atom) → (id : ℕ) × (found ≡ Some id) × IsTrue (value_of c id atom)
 guard_there c atom None h = absurd (false≢true h)
 guard_there c atom (Some id) h = (id, refl, h)
 
 module _ (eq : Target → Target → Bool) (same : (x y : Target) → eq x y ≡ true → x ≡ y) (entries : List (Target × ℕ)) (target : Target) (joined : ℕ) where
-  -- a move was there, or is the new one
+  -- a move after the insert is an old move or the new one
   added_has : (m : Guarded) → Has (moves_of (insert_entry eq entries target joined)) m → Has (moves_of entries) m ⊎ (m ≡ move_of (target, joined))
   added_has m h =
       let r = has_map move_of (insert_entry eq entries target joined) m h in
@@ -39,7 +39,7 @@ module _ (eq : Target → Target → Bool) (same : (x y : Target) → eq x y ≡
   has_added : Has (moves_of (insert_entry eq entries target joined)) (move_of (target, joined))
   has_added = map_has move_of (insert_entry eq entries target joined) (target, joined) (has_insert_entry eq same target joined entries)
 
-  -- a move stays, or it is that of the target
+  -- an old move remains, or it has the inserted target
   stays : (m : Guarded) → Has (moves_of entries) m
       → Has (moves_of (insert_entry eq entries target joined)) m ⊎ ((m.act ≡ target.act) × (m.to ≡ target.to) × (lookup (eq target) entries ≡ Some m.guard))
   stays m h =
@@ -69,7 +69,7 @@ module _ (c d : DiagramsParts) (eq : Target → Target → Bool) (same : (x y : 
       (added_has eq same entries target joined m h)
 
   module _ (store : NodeParts) (atom : Atom) (fits : IsAtomOf d atom) (a : ℕ) (e : Term) where
-    -- the move of the target was there, and its guard true
+    -- if the old guard of the target is true, the old moves lead there
     was_open : IsTrue (guard_at c (lookup (eq target) entries) atom) → target.act ≡ a → tree_at store target.to ≡ e → LeadsTo store c (moves_of entries) atom a e
     was_open t act tree =
         let r = guard_there c atom (lookup (eq target) entries) t in
@@ -117,7 +117,7 @@ module _ (c d : DiagramsParts) (eq : Target → Target → Bool) (same : (x y : 
         (λ own. open_now (inl (ap (λ (o : Option ℕ). guard_at c o atom) own.2 ∙ r.guard)) (sym own.0 ∙ r.action) (ap (tree_at store) (sym own.1) ∙ r.tree))
         (stays eq same entries target joined r.through r.member)
 
-  -- the table after an insert has the old moves and the new one
+  -- after an insert the table has the old moves and the new one
   pub adds_move : (new : List (Target × ℕ)) → new ≡ insert_entry eq entries target joined → AddsMove c d (moves_of entries) (moves_of new) (record { guard = guard; act = target.act; to = target.to })
   adds_move new e = subst (λ l. AddsMove c d (moves_of entries) (moves_of l) (record { guard = guard; act = target.act; to = target.to })) (sym e) (record {
     guards = added_guards;
@@ -128,7 +128,7 @@ module _ (c d : DiagramsParts) (eq : Target → Target → Bool) (same : (x y : 
     );
   })
 
--- a move whose guard is never true leads nowhere, and is left out
+-- omitting a move whose guard is always false loses nothing
 pub adds_never : (d : DiagramsParts) (moves : List Guarded) (m : Guarded) → AreGuards d moves → IsDiagramOf d m.guard (λ atom. false) → AddsMove d d moves moves m
 adds_never d moves m guards never = record {
   guards = guards;

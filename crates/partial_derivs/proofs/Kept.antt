@@ -1,4 +1,4 @@
--- What stays where both collections grow.
+-- What stays unchanged when the store and the diagrams grow.
 use Rattle.std.proofs.Common.{ℕ, Bool, List, ◌++◌, sym, ◌∙◌, subst}
 use Rattle.std.specs.Bool.{IsTrue}
 use Rattle.kat_model.specs.Trees.{Term}
@@ -50,7 +50,7 @@ module _ (s t : NodeParts) (c d : DiagramsParts) (kept : Keeps s t c d) where
   pub HasIds-kept : (steps : Steps) → HasIds c steps → HasIds d steps
   HasIds-kept steps h = record { accepts = kept.functions.ids steps.accepts h.accepts; guards = AreGuards-kept steps.moves.items h.guards }
 
-  -- an atom of the new collection is one of the old
+  -- an atom of the new collection is an atom of the old one
   pub was_atom : (atom : Atom) → IsAtomOf d atom → IsAtomOf c atom
   was_atom atom fits = fits ∙ kept.functions.tests
 
@@ -72,7 +72,7 @@ module _ (s t : NodeParts) (c d : DiagramsParts) (kept : Keeps s t c d) where
     tree = sym (kept.trees.trees r.through.to (targets r.through r.member).is_id) ∙ r.tree;
   }
 
-  -- steps stay right
+  -- steps stay correct
   pub IsStepsBy-kept : (accepted : Atom → Bool) (left : Atom → ℕ → List Term) (steps : Steps) → IsStepsBy s c accepted left steps → IsStepsBy t d accepted left steps
   IsStepsBy-kept accepted left steps is = record {
     accepts = IsDiagramOf-kept c d kept.functions steps.accepts accepted is.accepts;
@@ -85,7 +85,7 @@ module _ (s t : NodeParts) (c d : DiagramsParts) (kept : Keeps s t c d) where
     merged = is.merged;
   }
 
--- the same where only diagrams are added, whatever the terms
+-- the same when only diagrams are added, for arbitrary terms
 module _ (c d : DiagramsParts) (kept : KeepsFunctions c d) (store : NodeParts) where
   pub LeadsTo-more : (moves : List Guarded) (atom : Atom) (a : ℕ) (e : Term) → AreGuards c moves → LeadsTo store c moves atom a e → LeadsTo store d moves atom a e
   LeadsTo-more moves atom a e guards r = record {
@@ -105,7 +105,7 @@ module _ (c d : DiagramsParts) (kept : KeepsFunctions c d) (store : NodeParts) w
     tree = r.tree;
   }
 
--- a move of a part of a list
+-- a list leads to all terms to which a part of it leads
 module _ (store : NodeParts) (d : DiagramsParts) (atom : Atom) (a : ℕ) (e : Term) where
   pub LeadsTo-by : (moves more : List Guarded) → ((m : Guarded) → Has moves m → Has more m) → LeadsTo store d moves atom a e → LeadsTo store d more atom a e
   LeadsTo-by moves more within r = record { through = r.through; member = within r.through r.member; action = r.action; guard = r.guard; tree = r.tree }

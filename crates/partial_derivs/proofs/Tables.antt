@@ -16,11 +16,11 @@ use Rattle.partial_derivs.specs.Tables.{IsRight, AreRight}
 use Rattle.partial_derivs.proofs.Kept.{IsTermOf-kept, IsStepsBy-kept}
 use Rattle.partial_derivs.proofs.Entries.{insert_entry_has, lookup_has}
 
--- a derivative stays one where older ids keep their trees and functions
+-- a derivative stays a derivative if old ids keep their trees and functions
 pub IsDerivativeOf-kept : (s t : NodeParts) (c d : DiagramsParts) (e : Term) (steps : Steps) → Keeps s t c d → IsDerivativeOf s c e steps → IsDerivativeOf t d e steps
 IsDerivativeOf-kept s t c d e steps kept is = IsStepsBy-kept s t c d kept (out e) (next e) steps is
 
--- and so does a table
+-- so does a correct table
 pub AreRight-kept : (s t : NodeParts) (c d : DiagramsParts) (derivatives : Derivatives) → Keeps s t c d → AreRight s c derivatives → AreRight t d derivatives
 AreRight-kept s t c d derivatives kept right entry h =
     let is = right entry h in
@@ -29,14 +29,14 @@ AreRight-kept s t c d derivatives kept right entry h =
       steps_of = subst (λ e. IsDerivativeOf t d e entry.1) (sym (kept.trees.trees entry.0 is.term.is_id)) (IsDerivativeOf-kept s t c d (tree_at s entry.0) entry.1 kept is.steps_of);
     }
 
--- a derivative of a term that was there
+-- the derivative of a term of the old store is correct for its id
 pub right_derived : (s t : NodeParts) (c d : DiagramsParts) (i : ℕ) (steps : Steps) → Keeps s t c d → IsTermOf s c.tests i → IsDerivativeOf t d (tree_at s i) steps → IsRight t d i steps
 right_derived s t c d i steps kept there is = record {
   term = IsTermOf-kept s t c d kept i there;
   steps_of = subst (λ e. IsDerivativeOf t d e steps) (sym (kept.trees.trees i there.is_id)) is;
 }
 
--- steps with the same parts are the same derivative
+-- steps with equal parts are the same derivative
 pub same_steps : (store : NodeParts) (d : DiagramsParts) (e : Term) (steps copy : Steps) → copy.accepts ≡ steps.accepts → copy.moves.items ≡ steps.moves.items → IsDerivativeOf store d e steps → IsDerivativeOf store d e copy
 same_steps store d e steps copy accepts moves is = record {
   accepts = subst (λ id. IsDiagramOf d id (out e)) (sym accepts) is.accepts;
@@ -47,11 +47,11 @@ same_steps store d e steps copy accepts moves is = record {
 }
 
 module _ (eq : ℕ → ℕ → Bool) (same : (x y : ℕ) → eq x y ≡ true → x ≡ y) where
-  -- what the table has at a term is right
+  -- a lookup in a correct table returns a correct derivative
   pub right_found : (s : NodeParts) (c : DiagramsParts) (derivatives : Derivatives) (i : ℕ) (steps : Steps) → lookup (eq i) derivatives.table.entries ≡ Some steps → AreRight s c derivatives → IsDerivativeOf s c (tree_at s i) steps
   right_found s c derivatives i steps e right = (right (i, steps) (lookup_has eq same i derivatives.table.entries steps e)).steps_of
 
-  -- the table with one more derivative
+  -- a correct table stays correct after an insert of a correct derivative
   pub right_insert : (s : NodeParts) (c : DiagramsParts) (old new : Derivatives) (i : ℕ) (steps : Steps) → new.table.entries ≡ insert_entry eq old.table.entries i steps → IsRight s c i steps → AreRight s c old → AreRight s c new
   right_insert s c old new i steps e is right entry h =
       ⊎_elim

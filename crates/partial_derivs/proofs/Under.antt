@@ -1,4 +1,4 @@
--- Moves to which others are added where a guard is true.
+-- Adding moves that apply only where a guard is true.
 use Rattle.std.proofs.Common.{◌≡◌, ◌⊎◌, inl, inr, ⊎_elim, ℕ, ◌<◌, ◌+◌, ◌&&◌, List, [], ◌∷◌, ◌++◌, take, length, get_or, refl, sym, ◌∙◌, subst}
 use Rattle.std.specs.Bool.{IsTrue}
 use Rattle.std.proofs.lemmas.Bool.{and_parts, and_from}
@@ -14,7 +14,7 @@ use Rattle.partial_derivs.specs.Working.Gathered.{AddsMove, AddsUnder}
 use Rattle.partial_derivs.proofs.Items.{has_item, has_take, take_item}
 use Rattle.partial_derivs.proofs.Kept.{LeadsTo-more, LeadsTo-less, LeadsTo-left, LeadsTo-right}
 
--- one move, where its guard and the other are both true
+-- one move, with the conjunction of its own guard and the given one
 module _ (b c d : DiagramsParts) (old new : List Guarded) (m : Guarded) (guard both : ℕ) (first : KeepsFunctions b c) (guards : AreGuards b old) (value : IsDiagramOf c both (λ atom. value_of b m.guard atom && value_of b guard atom)) (adds : AddsMove c d old new (record { guard = both; act = m.act; to = m.to })) (second : KeepsFunctions c d) where
   pub one_under : AddsUnder b d old new (m ∷ []) guard
   one_under = record {
@@ -46,7 +46,7 @@ module _ (b c d : DiagramsParts) (old new : List Guarded) (m : Guarded) (guard b
           )))
           h
 
--- moves, and then one more
+-- several moves, and then an additional one
 module _ (b c d : DiagramsParts) (old mid new done : List Guarded) (m : Guarded) (guard : ℕ) (first : KeepsFunctions b c) (done_guards : AreGuards b done) (own_guard : IsDiagramId b m.guard) (guard_id : IsDiagramId b guard) (before : AddsUnder b c old mid done guard) (last : AddsUnder c d mid new (m ∷ []) guard) (second : KeepsFunctions c d) where
   single_guards : AreGuards b (m ∷ [])
   single_guards k h = ⊎_elim (λ e. subst (λ (n : Guarded). IsDiagramId b n.guard) e own_guard) absurd h
@@ -83,7 +83,7 @@ module _ (b c d : DiagramsParts) (old mid new done : List Guarded) (m : Guarded)
           (has_append done (m ∷ []) q.1.through q.1.member))
           h
 
--- a step of a loop over moves
+-- the loop step over moves
 pub step_under : (b c d : DiagramsParts) (old mid new moves : List Guarded) (i : ℕ) (m : Guarded) (guard : ℕ) → i < length moves → m ≡ get_or moves i m → AreGuards b moves → IsDiagramId b guard
     → KeepsFunctions b c → AddsUnder b c old mid (take i moves) guard → AddsUnder c d mid new (m ∷ []) guard → KeepsFunctions c d → AddsUnder b d old new (take (i + 1) moves) guard
 step_under b c d old mid new moves i m guard lt is guards id first before last second =

@@ -25,7 +25,7 @@ use Rattle.partial_derivs.proofs.Kept.{AreGuards-kept, AreTargets-kept, LeadsTo-
 pub ids_of_steps : (store : NodeParts) (d : DiagramsParts) (accepted : Atom → Bool) (left : Atom → ℕ → List Term) (steps : Steps) → IsStepsBy store d accepted left steps → HasIds d steps
 ids_of_steps store d accepted left steps is = record { accepts = is.accepts.in_range; guards = is.guards }
 
--- steps that are added: their moves under the constant `true`, and what they accept
+-- adding steps: their moves under the constant `true`, and the atoms that they accept
 module _ (b c d : DiagramsParts) (old new : Union) (steps : Steps) (always : ℕ) (first : KeepsFunctions b c) (second : KeepsFunctions c d) (constant : IsDiagramOf b always (λ atom. true)) (ids : HasIds b steps) (old_ids : IsUnionOfIds b old) (under : AddsUnder b c (moves_of old.gathered.guards.entries) (moves_of new.gathered.guards.entries) steps.moves.items always) (either : IsDiagramOf d new.accepts (λ atom. value_of c old.accepts atom || value_of c steps.accepts atom)) where
   pub adds_steps : AddsSteps b d old new steps
   adds_steps store accepted also_accepted left also_left was is = record {
@@ -62,7 +62,7 @@ module _ (b c d : DiagramsParts) (old new : Union) (steps : Steps) (always : ℕ
           (λ q. has_right (left atom a) (also_left atom a) e ((is.leads atom fits_b a e).1 q.1))
           ((under.leads store atom (fits ∙ second.tests) a e).0 (LeadsTo-less c d second store (moves_of new.gathered.guards.entries) atom a e under.guards r))
 
--- a union stays right where both collections grow
+-- a union stays correct when both collections grow
 pub IsUnionBy-kept : (s t : NodeParts) (c d : DiagramsParts) → Keeps s t c d → (accepted : Atom → Bool) (left : Atom → ℕ → List Term) (union : Union) → IsUnionBy s c accepted left union → IsUnionBy t d accepted left union
 IsUnionBy-kept s t c d kept accepted left union is =
     let moves = moves_of union.gathered.guards.entries in
@@ -76,7 +76,7 @@ IsUnionBy-kept s t c d kept accepted left union is =
       );
     }
 
--- what a set with one more term accepts, and what it leaves
+-- the atoms that a set with an additional term accepts, and the terms that it leads to
 pub set_out-more : (es : List Term) (e : Term) (atom : Atom) → set_out (es ++ e ∷ []) atom ≡ (set_out es atom || out e atom)
 set_out-more es e atom = list_any-append (λ x. out x atom) es (e ∷ []) ∙ ap (λ b. set_out es atom || b) (or-false (out e atom))
 
@@ -92,20 +92,20 @@ set_more store d es e union is = record {
   leads = λ atom fits a x. subst (λ l. (Has l x) ↔ (LeadsTo store d (moves_of union.gathered.guards.entries) atom a x)) (sym (set_next-more es e atom a)) (is.leads atom fits a x);
 }
 
--- the steps of two terms, added to those of none
+-- adding the steps of two terms to the empty union gives the steps of their sum
 pub sum_union : (store : NodeParts) (b c d : DiagramsParts) (none mid whole : Union) (first second : Steps) (e f : Term) → IsUnionBy store b (λ atom. false) (λ atom a. []) none → AddsSteps b c none mid first → KeepsFunctions b c → AddsSteps c d mid whole second
     → IsDerivativeOf store b e first → IsDerivativeOf store b f second → IsUnionBy store d (out (sum e f)) (next (sum e f)) whole
 sum_union store b c d none mid whole first second e f empty one kept two is_first is_second =
     let now : IsDerivativeOf store c f second = IsStepsBy-kept store store b c (Keeps-functions store b c kept) (out f) (next f) second is_second in
     two store (out e) (out f) (next e) (next f) (one store (λ atom. false) (out e) (λ atom a. []) (next e) empty is_first) now
 
--- the steps of one more term of a set
+-- adding the steps of an additional term of a set
 pub term_added : (s t : NodeParts) (b c d : DiagramsParts) (e : Term) (old new : Union) (steps : Steps) → Keeps s t b c → IsDerivativeOf t c e steps → AddsSteps c d old new steps
     → (es : List Term) → IsUnionBy s b (set_out es) (set_next es) old → IsUnionBy t d (set_out (es ++ e ∷ [])) (set_next (es ++ e ∷ [])) new
 term_added s t b c d e old new steps kept is adds es before =
     set_more t d es e new (adds t (set_out es) (out e) (set_next es) (next e) (IsUnionBy-kept s t b c kept (set_out es) (set_next es) old before) is)
 
--- a step of a loop over terms
+-- the loop step over terms
 pub union_step : (first s t : NodeParts) (c d : DiagramsParts) (terms : List ℕ) (i x : ℕ) (old new : Union) → i < length terms → x ≡ get_or terms i x → tree_at s x ≡ tree_at first x
     → ((es : List Term) → IsUnionBy s c (set_out es) (set_next es) old → IsUnionBy t d (set_out (es ++ tree_at s x ∷ [])) (set_next (es ++ tree_at s x ∷ [])) new)
     → IsUnionBy s c (set_out (map (tree_at first) (take i terms))) (set_next (map (tree_at first) (take i terms))) old

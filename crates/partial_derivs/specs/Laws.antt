@@ -5,6 +5,6 @@ use Rattle.test_diagrams.specs.Functions.{DiagramsParts, KeepsFunctions}
 use Rattle.partial_derivs.specs.declared.derivatives.Derivatives.{Derivatives}
 use Rattle.partial_derivs.specs.Tables.{AreRight}
 
--- a table stays right while older ids keep their trees and functions
+-- the table stays correct if old ids keep their trees and functions
 abbrev pub StaysRight : Derivatives → Type 0
 StaysRight table = (s t : NodeParts) (c d : DiagramsParts) → Grows s t → KeepsFunctions c d → AreRight s c table → AreRight t d table

@@ -18,15 +18,15 @@ use std::alloc::Global;
 use term_store::{Shape, Store, TermId};
 use test_diagrams::Diagrams;
 
-/// The derivatives of terms that were met, those of parts of terms among them. A table belongs to the store
-/// and the collection of diagrams that it was filled with.
+/// The derivatives computed so far, including those of parts of terms. A table belongs to the store and the collection
+/// of diagrams that filled it.
 #[derive(Drop)]
 pub struct Derivatives {
     table: IndexMap<TermId, Steps>,
 }
 
 impl Derivatives {
-    /// No derivatives, which is right for each store and collection. It takes no memory.
+    /// Creates an empty table, which is valid for each store and collection. Allocates nothing.
     pub fn new(alloc: Global) -> Derivatives
         ensures { (store : NodeParts) (d : DiagramsParts) → AreRight store d result }
     {
@@ -35,9 +35,8 @@ impl Derivatives {
         }
     }
 
-    /// The steps of a set of terms, with the derivatives that the table has; those that it lacks are added to
-    /// it. The recursion goes down the terms, as deep as they are. Fails only when out of memory; it may
-    /// leave further nodes, diagrams and derivatives.
+    /// Returns the steps of a set of terms. Uses the derivatives in the table and adds the missing ones. Recurses to
+    /// the depth of the terms. Fails only when out of memory; extra nodes, diagrams and derivatives may remain then.
     pub fn step(
         &mut self,
         alloc: Global,
@@ -58,7 +57,7 @@ impl Derivatives {
         whole.steps(alloc)
     }
 
-    // Adds a term to a set.
+    // Adds the steps of a term to the union.
     fn add_term(
         &mut self,
         alloc: Global,
@@ -81,7 +80,7 @@ impl Derivatives {
         whole.add(diagrams, &steps)
     }
 
-    // The derivative of the term, where the table has it.
+    // Returns the derivative of the term if the table has it.
     fn find_steps(&self, alloc: Global, term: TermId) -> Result<Option<Steps>, NoMemory>
         ensures { IfOk result (λ found. IfSome found (λ steps. (store : NodeParts) (d : DiagramsParts)
             → AreRight store d self.now → IsDerivativeOf store d (tree_at store term) steps)) }
@@ -102,7 +101,7 @@ impl Derivatives {
         Ok(())
     }
 
-    // The derivative of the term.
+    // Returns the derivative of the term, from the table or computed and added to it.
     #[cycle(derive)]
     fn steps_of(
         &mut self,
@@ -125,7 +124,7 @@ impl Derivatives {
         Ok(steps)
     }
 
-    // The derivative of the term, from those of its parts.
+    // Computes the derivative of the term from those of its parts.
     #[cycle(derive)]
     fn derive(
         &mut self,
@@ -151,7 +150,7 @@ impl Derivatives {
         }
     }
 
-    // The derivative of the sum of two terms.
+    // Computes the derivative of the sum of two terms.
     #[cycle(derive)]
     fn derive_sum(
         &mut self,
@@ -173,7 +172,7 @@ impl Derivatives {
         sum_steps(alloc, diagrams, &first, &second)
     }
 
-    // The derivative of the product of two terms.
+    // Computes the derivative of the product of two terms.
     #[cycle(derive)]
     fn derive_product(
         &mut self,
@@ -195,7 +194,7 @@ impl Derivatives {
         product_steps(alloc, store, diagrams, &first, &second, f)
     }
 
-    // The derivative of the star of a term. The id of the star is given.
+    // Computes the derivative of the star of `e`. `own` is the id of the star.
     #[cycle(derive)]
     fn derive_star(
         &mut self,
@@ -218,9 +217,9 @@ impl Derivatives {
     }
 }
 
-/// The steps of a set of terms. At each atom it accepts what some of the terms accepts, and its moves lead to
-/// just the terms that steps of the set leave. The recursion goes down the terms, as deep as they are. The
-/// only failure is out of memory; it may leave further nodes and diagrams.
+/// Returns the steps of a set of terms. They accept an atom if some term of the set accepts it, and their moves lead
+/// exactly to the terms to which the set steps. Recurses to the depth of the terms. Fails only when out of memory;
+/// extra nodes and diagrams may remain then.
 pub fn step(
     alloc: Global,
     store: &mut Store,

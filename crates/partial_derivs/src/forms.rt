@@ -1,4 +1,4 @@
-//! The derivative of a term from those of its parts.
+//! The derivative of a term from the derivatives of its parts.
 ghost use Rattle.std.specs.Prelude.{◌≡◌, [], IfOk, Bool, ℕ};
 ghost use Rattle.kat_model.specs.Trees.{Term, test as test_term, act, product, star};
 ghost use Rattle.kat_model.specs.Steps.{truth};
@@ -16,7 +16,7 @@ use std::alloc::Global;
 use term_store::{Shape, Store, TermId, TestId, TestShape};
 use test_diagrams::{DiagramId, Diagrams};
 
-// The diagram of a test of the store.
+// Returns the diagram of a test of the store.
 fn diagram_of(store: &Store, diagrams: &mut Diagrams, test: TestId) -> Result<DiagramId, NoMemory>
     requires id { IsTest store.now test }
     requires in_range { IsTestInRange diagrams.old.tests (test_tree_at store.now test) }
@@ -44,7 +44,7 @@ fn diagram_of(store: &Store, diagrams: &mut Diagrams, test: TestId) -> Result<Di
     }
 }
 
-/// Steps that accept the constant and have no moves: those of zero and one. It takes no memory.
+/// Returns steps that accept all atoms or none and have no moves: the derivative of one or zero. Allocates nothing.
 pub(crate) fn constant_steps(alloc: Global, diagrams: &Diagrams, value: bool) -> Steps
     ensures { (store : NodeParts) → IsStepsBy store diagrams.now (λ atom. value) (λ atom a. []) result }
 {
@@ -54,7 +54,7 @@ pub(crate) fn constant_steps(alloc: Global, diagrams: &Diagrams, value: bool) ->
     }
 }
 
-/// The steps of a test.
+/// Returns the steps of a test.
 pub(crate) fn test_steps(
     alloc: Global,
     store: &Store,
@@ -73,7 +73,7 @@ pub(crate) fn test_steps(
     })
 }
 
-/// The steps of an action.
+/// Returns the steps of an action.
 pub(crate) fn action_steps(
     alloc: Global,
     store: &mut Store,
@@ -95,8 +95,8 @@ pub(crate) fn action_steps(
     Ok(Steps { accepts, moves })
 }
 
-/// The steps of a product, whose second term is given: the moves of the first term, each followed by the
-/// second, and those of the second where the first accepts.
+/// Returns the steps of a product with the second term `tail`: the moves of the first term, each followed by the
+/// second, and the moves of the second where the first accepts.
 pub(crate) fn product_steps(
     alloc: Global,
     store: &mut Store,
@@ -121,7 +121,7 @@ pub(crate) fn product_steps(
     Ok(Steps { accepts, moves })
 }
 
-/// The steps of a star, which is given: the moves of the inner term, each followed by the star.
+/// Returns the steps of a star: the moves of the inner term, each followed by the star, whose id is given.
 pub(crate) fn star_steps(
     alloc: Global,
     store: &mut Store,

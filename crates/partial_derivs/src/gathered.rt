@@ -1,4 +1,4 @@
-//! Moves that are gathered, so that those of one action to one term have one guard.
+//! Moves collected so that all moves by one action to one term share one guard.
 ghost use Rattle.std.specs.Prelude.{◌≡◌, [], ◌∷◌, ◌||◌, IfOk, OnOk};
 ghost use Rattle.std.specs.List.{IsDistinct};
 ghost use Rattle.std.specs.Map.{lookup, keys_of};
@@ -14,7 +14,7 @@ use std::alloc::Global;
 use term_store::{Store, TermId};
 use test_diagrams::{DiagramId, Diagrams};
 
-/// Where a move leads, and by which action.
+/// The action and the target term of a move.
 #[derive(Clone, Copy, Debug, PartialEq, Eq, Hash)]
 pub(crate) struct Target {
     act: usize,
@@ -28,7 +28,7 @@ pub(crate) struct Gathered {
 }
 
 impl Gathered {
-    /// No moves. It takes no memory.
+    /// Creates a collection without moves. Allocates nothing.
     pub(crate) fn new(alloc: Global) -> Gathered
         ensures { result.guards.entries ≡ [] }
     {
@@ -37,7 +37,7 @@ impl Gathered {
         }
     }
 
-    // The guard, or the guard that the target has.
+    // Returns the disjunction of `guard` and the present guard of the target, if it has one.
     fn guard_with(
         &self,
         diagrams: &mut Diagrams,
@@ -56,7 +56,7 @@ impl Gathered {
         }
     }
 
-    // Adds a move. One whose guard is never true is left out.
+    // Adds a move, unless its guard is always false.
     fn add(
         &mut self,
         diagrams: &mut Diagrams,
@@ -79,7 +79,7 @@ impl Gathered {
         Ok(())
     }
 
-    // Adds a move where the guard is true.
+    // Adds a move, restricted to the atoms at which `guard` is true.
     fn add_guarded(
         &mut self,
         diagrams: &mut Diagrams,
@@ -97,7 +97,7 @@ impl Gathered {
         self.add(diagrams, guarded.act, guarded.to, both)
     }
 
-    /// Adds the moves where the guard is true.
+    /// Adds moves, restricted to the atoms at which `guard` is true.
     pub(crate) fn add_under(
         &mut self,
         diagrams: &mut Diagrams,
@@ -117,7 +117,7 @@ impl Gathered {
         Ok(())
     }
 
-    // Adds a move, followed by the term.
+    // Adds a move followed by the term.
     fn add_followed(
         &mut self,
         store: &mut Store,
@@ -139,7 +139,7 @@ impl Gathered {
         self.add(diagrams, guarded.act, to, guarded.guard)
     }
 
-    /// The moves, each followed by the term.
+    /// Returns the moves, each followed by the term.
     pub(crate) fn with_tail(
         alloc: Global,
         store: &mut Store,
@@ -162,7 +162,7 @@ impl Gathered {
         Ok(gathered)
     }
 
-    // The moves as a list, from targets that are distinct.
+    // Returns the moves as a list, with distinct targets.
     fn move_list(&self, alloc: Global) -> Result<Vec<Guarded>, NoMemory>
         ensures items { IfOk result (λ v. v.items ≡ moves_of self.now.guards.entries) }
         ensures distinct { IsDistinct same_target (keys_of self.now.guards.entries) }
@@ -179,7 +179,7 @@ impl Gathered {
         Ok(moves)
     }
 
-    /// The moves as a list.
+    /// Returns the moves as a list.
     pub(crate) fn moves(&self, alloc: Global) -> Result<Vec<Guarded>, NoMemory>
         ensures items { IfOk result (λ v. v.items ≡ moves_of self.now.guards.entries) }
         ensures merged { IfOk result (λ v. AreMerged v.items) }

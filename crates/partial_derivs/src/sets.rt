@@ -1,4 +1,4 @@
-//! Steps of a set of terms, from those of its members.
+//! Steps of a set of terms from those of its members.
 ghost use Rattle.std.specs.Prelude.{[], ℕ, Bool, false, List, IfOk, OnOk};
 ghost use Rattle.kat_model.specs.Trees.{Term, sum};
 ghost use Rattle.kat_model.specs.Steps.{Atom};
@@ -13,7 +13,7 @@ use kat_model::NoMemory;
 use std::alloc::Global;
 use test_diagrams::{DiagramId, Diagrams};
 
-/// What the terms so far accept, and their moves.
+/// The atoms that the terms so far accept, and their moves.
 #[derive(Drop)]
 pub(crate) struct Union {
     accepts: DiagramId,
@@ -21,7 +21,7 @@ pub(crate) struct Union {
 }
 
 impl Union {
-    /// The steps of no term. It takes no memory.
+    /// Creates the steps of the empty set. Allocates nothing.
     pub(crate) fn new(alloc: Global, diagrams: &Diagrams) -> Union
         ensures ids { IsUnionOfIds diagrams.now result }
         ensures none { (store : NodeParts) → IsUnionBy store diagrams.now (λ atom. false) (λ atom a. []) result }
@@ -46,7 +46,7 @@ impl Union {
         Ok(())
     }
 
-    /// The steps of the terms so far.
+    /// Returns the steps of the terms so far.
     pub(crate) fn steps(&self, alloc: Global) -> Result<Steps, NoMemory>
         ensures { IfOk result (λ s. (store : NodeParts) (d : DiagramsParts) (accepted : Atom → Bool) (left : Atom → ℕ → List Term)
             → IsUnionBy store d accepted left self.now → IsStepsBy store d accepted left s) }
@@ -59,7 +59,7 @@ impl Union {
     }
 }
 
-/// The steps of a sum.
+/// Returns the steps of a sum.
 pub(crate) fn sum_steps(
     alloc: Global,
     diagrams: &mut Diagrams,

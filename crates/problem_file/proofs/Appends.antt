@@ -1,4 +1,4 @@
--- The tokens of a phrase stand before those that follow, whatever follows.
+-- The tokens of a phrase precede the tokens that follow it, whatever these are.
 use Rattle.std.proofs.Common.{◌≡◌, ◌-◌, List, [], ◌++◌, length, refl, ap, ◌∙◌, arith, length-append}
 use Rattle.std.proofs.lemmas.List.{take-append-le, take_all}
 use Rattle.text_grammar.specs.declared.terminal.Terminal.TheVariants.{Name, Keyword, Separator, Dot, Plus, Star, Or, And, Compares, RoundOpen, RoundClose, SquareOpen, SquareClose, Bang}
@@ -11,11 +11,11 @@ use Rattle.while_lang.specs.BlockPhrases.{no_else, else_block, else_if, block_be
 use Rattle.problem_file.specs.Numbers.{until}
 use Rattle.problem_file.specs.Phrases.{Braced, TriplePhrase, braced_onto, triple_onto, ended, sides_onto, prog_onto}
 
--- what puts tokens before others puts them before whatever follows
+-- a function that prepends a fixed list of tokens
 abbrev Appends : (List Lexeme → List Lexeme) → Type 0
 Appends f = (us ts : List Lexeme) → f (us ++ ts) ≡ f us ++ ts
 
--- one after the other
+-- the composition of two such functions
 after : (f g : List Lexeme → List Lexeme) → Appends f → Appends g → Appends (λ ts. f (g ts))
 after f g h k us ts = ap f (k us ts) ∙ h (g us) ts
 
@@ -71,7 +71,7 @@ block_append (no_else b p) us ts = (ap (λ rs. (yield_before b rs)) (block_appen
 block_append (else_block b p l q) us ts = (ap (λ rs. (yield_before b (block_before p (cons_token (Keyword word.Else) l rs)))) (block_append q us ts)) ∙ (ap (λ rs. (yield_before b rs)) (block_append p (cons_token (Keyword word.Else) l (block_before q us)) ts)) ∙ (yield_append b (block_before p (cons_token (Keyword word.Else) l (block_before q us))) ts)
 block_append (else_if b p l i r) us ts = (ap (λ rs. (yield_before b (block_before p (cons_token (Keyword word.Else) l (cons_token (Keyword word.If) i rs))))) (block_append r us ts)) ∙ (ap (λ rs. (yield_before b rs)) (block_append p (cons_token (Keyword word.Else) l (cons_token (Keyword word.If) i (block_before r us))) ts)) ∙ (yield_append b (block_before p (cons_token (Keyword word.Else) l (cons_token (Keyword word.If) i (block_before r us)))) ts)
 
--- ---- the tokens of an item up to those that are left
+-- ---- the tokens of an item before the rest
 
 braced_append : (b : Braced) → Appends (braced_onto b)
 braced_append b us ts = ap (cons_token (Separator CurlyOpen) b.left) (yield_append b.inner (cons_token (Separator CurlyClose) b.right us) ts)
@@ -82,7 +82,7 @@ triple_append x = after (braced_onto x.pre) (λ ts. yield_before x.body (braced_
 sides_append : (p : Phrase term) (c : Leaf) (q : Phrase term) → Appends (sides_onto p c q)
 sides_append p c q = after (yield_before p) (λ ts. cons_token (Separator Comma) c (yield_before q ts)) (yield_append p) (λ us ts. ap (cons_token (Separator Comma) c) (yield_append q us ts))
 
--- the tokens before those that follow are those that stand before none
+-- the tokens before `ts` do not depend on `ts`
 until_append : (f : List Lexeme → List Lexeme) → Appends f → (ts : List Lexeme) → until (f ts) ts ≡ f []
 until_append f h ts =
     let e : f ts ≡ f [] ++ ts = h [] ts in

@@ -1,4 +1,4 @@
--- Where a block ends is what the test of its syntax reads.
+-- The syntax check of a block finds the same end as the grammar.
 use Rattle.std.proofs.Common.{◌≡◌, ℕ, List, drop, Result, Ok, Err, ap}
 use Rattle.text_tokens.specs.declared.fault.TextFault.{TextFault}
 use Rattle.text_tokens.specs.declared.fault.TextFault.TheVariants.{NoMemory}

@@ -1,4 +1,4 @@
--- A block that may stand somewhere and fits there is not too deep with the programs that it names expanded.
+-- A block that is well scoped and within the depth limit is not too deep after the programs that it names are expanded.
 use Rattle.std.proofs.Common.{ℕ, ◌+◌, ◌≤◌, max, true, false, List, slice_get, Option, Some, None, arith}
 use Rattle.text_grammar.specs.Actions.{context}
 use Rattle.text_scopes.specs.declared.meaning.Meaning.{Meaning}

@@ -1,4 +1,4 @@
--- The programs of blocks have no other tests, actions and variables than those that are declared.
+-- The programs of blocks use only declared tests, actions and variables.
 use Rattle.std.proofs.Common.{◌≡◌, ℕ, ◌+◌, ◌<◌, List, [], ◌∷◌, ◌++◌, Bool, true, false, nat_lt, cond as if_true, slice_get, Option, Some, None, Ok, Err, refl, subst}
 use Rattle.text_tokens.specs.declared.fault.TextFault.TheVariants.{TooDeep}
 use Rattle.text_grammar.specs.Parsed.{◌>>=◌}
@@ -21,7 +21,7 @@ use Rattle.problem_file.specs.Ranges.{IsProgInRange}
 use Rattle.problem_file.proofs.Results.{same_ok}
 use Rattle.problem_file.proofs.InRanges.{DefinedInRange, cond_in, expr_in}
 
--- each program has its numbers below these
+-- the numbers in each program are below these bounds
 abbrev pub ProgsInRange : List ProgParts → ℕ → ℕ → ℕ → Type 0
 ProgsInRange ps t a v = (i : ℕ) (p : ProgParts) → slice_get ps i ≡ Some p → IsProgInRange t a v p.tree
 
@@ -32,11 +32,11 @@ entered d e at h = by_depth (nat_lt d 200) h where
   by_depth false k = absurd cc
 
 module _ (t a v : ℕ) where
-  -- the program of these statements has its numbers below
+  -- the numbers in the program of these statements are below the bounds
   abbrev In : List StmtTree → Type 0
   In ss = IsProgInRange t a v (prog_of ss)
 
-  -- a statement before others
+  -- a statement prepended to a program
   in_front : (s : StmtTree) (p q : ProgTree) → IsProgInRange t a v (with_stmt s p) → IsProgInRange t a v q → IsProgInRange t a v (with_stmt s q)
   in_front skip p q h k = k
   in_front abort p q h k = k

@@ -1,4 +1,4 @@
--- Reading the tokens of items by any actions is what the actions make of them.
+-- Reading the tokens of items with any actions gives the fold of the actions over the items.
 use Rattle.std.proofs.Common.{◌≡◌, ℕ, zero, suc, ◌≤◌, List, [], ◌∷◌, length, drop, Bool, true, false, cond as if_true, Result, Ok, Err, Option, Some, None, refl, ap, ◌∙◌, arith}
 use Rattle.std.specs.Option.{option_and_then}
 use Rattle.text_tokens.specs.declared.fault.TextFault.{TextFault}
@@ -33,7 +33,7 @@ use Rattle.problem_file.proofs.Appends.{until_prog, until_sides, until_triple}
 
 -- ---- steps
 
--- what is made of the tokens of a part, and then of the rest
+-- the result of a part's tokens, then the result of the rest
 step : {V W : Type 0} (m : Parsed V) (ts us : List Lexeme) (v : Result V TextFault) (k : V × List Lexeme → Parsed W) (l : V → Result W TextFault) → m ≡ before ts v → ((x : V) → k (x, ts) ≡ before us (l x)) → (m >>= k) ≡ before us (v >>= l)
 step m ts us v k l e h = ap (λ r. r >>= k) e ∙ then_rest ts us v k l h
 
@@ -43,7 +43,7 @@ done {S} f m end ts v e = ap (then_do f) e ∙ by_value v where
   by_value (Ok x) = refl
   by_value (Err x) = refl
 
--- so where the numbers of the item are looked at before
+-- the same if the numbers of the item are checked first
 asked : {S X M : Type 0} (g : ItemActions S X) (s : S) (us own : List Lexeme) (f : M → Result S TextFault) (m : Parsed M) (end : Leaf) (ts : List Lexeme) (v : Result M TextFault) → until us ts ≡ own → m ≡ before (ended end ts) v →
     then_ask g s us f m ≡ before ts (v >>= λ x. g.check_numbers s own >>= λ u. f x)
 asked {S} {X} {M} g s us own f m end ts v h e = ap (then_ask g s us f) e ∙ by_value v where
@@ -57,7 +57,7 @@ asked {S} {X} {M} g s us own f m end ts v h e = ap (then_ask g s us f) e ∙ by_
 
 -- ---- numbers
 
--- what is done at a number, and what follows
+-- the action at a number, and the tokens after it
 number_folded : {S : Type 0} (f : ℕ → ℕ → Result S TextFault) (n : Numeral) (ts : List Lexeme) → at_number f (numeral_onto n ts) ≡ before ts (numeral_value n >>= λ v. f (numeral_leaf n).at v)
 number_folded f (zero_number l) ts = refl
 number_folded f (one_number l) ts = refl
@@ -84,17 +84,17 @@ module _ {S X : Type 0} (g : ItemActions S X) where
       let measured : X → Measurement X = λ m. record { measure = m; tokens = block_before b ts } in
       ap (change measured) (block_parsed (g.blocks s) b 0 (g.blocks s).none ts obeys) ∙ changed ts measured (fold_block (g.blocks s) 0 b (g.blocks s).none)
 
-  -- the program that a side names, or its term
+  -- a side is the program that it names, or its term
   named_folded : (us ts : List Lexeme) (o : Option X) (m : Parsed (Measurement X)) (r : Result (Measurement X) TextFault) → ((x : X) → o ≡ Some x → drop 1 us ≡ ts) → m ≡ before ts r → named_or us o m ≡ before ts (named_else us o r)
   named_folded us ts (Some x) m r rest e = ap (λ vs. Ok (record { measure = x; tokens = us }, vs)) (rest x refl)
   named_folded us ts None m r rest e = e
 
-  -- a name that is alone is followed by what follows the term
+  -- the tokens after a lone name are the tokens after the term
   alone_rest : (s : S) (p : Phrase term) (ts : List Lexeme) (o : Option Leaf) → lone_leaf p ≡ o → (x : X) → option_and_then (g.program s) (text_of o) ≡ Some x → drop 1 (yield_before p ts) ≡ ts
   alone_rest s p ts (Some l) e x h = lone_rest p ts l e
   alone_rest s p ts None e x h = absurd cc
 
-  -- looked up by its text
+  -- the lookup by the text of the name
   by_text : (s : S) (o : Option Leaf) → option_and_then (g.program s) (text_of o) ≡ option_and_then (λ l. g.program s l.text) o
   by_text s (Some l) = refl
   by_text s None = refl

@@ -1,4 +1,5 @@
--- What any actions take from the front of the tokens are items of the grammar, in which nothing is too deep or too wide.
+-- Whatever the actions, what they read at the start of the tokens are items of the grammar, in which nothing is too
+-- deep or too wide.
 use Rattle.std.proofs.Common.{◌≡◌, ℕ, zero, suc, List, [], ◌∷◌, length, drop, Bool, true, false, cond as if_true, Result, Ok, Err, Option, Some, None, refl, ap, subst, ◌∙◌}
 use Rattle.std.specs.Option.{option_and_then}
 use Rattle.text_tokens.specs.declared.fault.TextFault.{TextFault}
@@ -29,7 +30,7 @@ use Rattle.problem_file.specs.Phrases.{word_of, numeral_onto, braced_onto, tripl
 use Rattle.problem_file.specs.Laws.{IsSomeFile}
 use Rattle.problem_file.proofs.NameWalks.{name_leaf, declaration_found}
 
--- what is done with a value once a semicolon is read
+-- a value, used after a semicolon is read
 done_ok : {S M : Type 0} (f : M → Result S TextFault) (m : Parsed M) (y : S × List Lexeme) → then_do f m ≡ Ok y → (v : M) × (l : Leaf) × (m ≡ Ok (v, ended l y.1))
 done_ok f m y e =
     let a = bind_ok (then_wants (is_terminal (Separator Semicolon)) m) (λ x. before x.1 (f x.0)) y e in
@@ -37,7 +38,7 @@ done_ok f m y e =
     let same = before_ok a.0.1 (f a.0.0) y.0 y.1 a.2 in
     (a.0.0, b.0, b.1 ∙ ap (λ us. Ok (a.0.0, ended b.0 us)) same)
 
--- so where the numbers of the item are looked at before
+-- the same if the numbers of the item are checked first
 asked_ok : {S X M : Type 0} (g : ItemActions S X) (s : S) (us : List Lexeme) (f : M → Result S TextFault) (m : Parsed M) (y : S × List Lexeme) → then_ask g s us f m ≡ Ok y → (v : M) × (l : Leaf) × (m ≡ Ok (v, ended l y.1))
 asked_ok g s us f m y e =
     let a = bind_ok (then_wants (is_terminal (Separator Semicolon)) m) (λ x. g.check_numbers s (until us x.1) >>= λ u. before x.1 (f x.0)) y e in
@@ -65,7 +66,7 @@ number_found f ts y e =
     let same = before_ok (drop 1 ts) (f _ a.0) y.0 y.1 a.2 in
     subst (NumeralFound ts) same (numeral_found ts a.0 a.1)
 
--- a name that is alone is a term
+-- a lone name is a term
 lone_found : (ts : List Lexeme) (name : List ℕ) → lone_name ts ≡ Some name → IsPhrase term 0 ts (drop 1 ts)
 lone_found [] name e = absurd cc
 lone_found (lexeme Name at text ∷ ts) name e = by_next (heads (goes_on term) ts) refl e where
@@ -126,7 +127,7 @@ module _ {S X : Type 0} (g : ItemActions S X) where
       let a = changed_ok (λ m. record { measure = m; tokens = ts }) (parse_block (g.blocks s) block_aim 0 ts) y.0 y.1 e in
       blocks_found (g.blocks s) block_aim 0 ts (a.0, y.1) a.1
 
-  -- the name of a program or a term
+  -- the name of a program, or a term
   named_found : (s : S) (ts : List Lexeme) (y : Measurement X × List Lexeme) (o : Option (List ℕ)) (x : Option X) → lone_name ts ≡ o → option_and_then (g.program s) o ≡ x → named_or ts x (term_by g s ts) ≡ Ok y → IsPhrase term 0 ts y.1
   named_found s ts y o None h k e = term_found s ts y e
   named_found s ts y None (Some x) h k e = absurd cc

@@ -1,4 +1,4 @@
--- The trees of phrases have no other tests, actions and variables than those that are declared.
+-- The trees of phrases use only declared tests, actions and variables.
 use Rattle.std.proofs.Common.{◌≡◌, ℕ, List, [], ◌∷◌, ◌++◌, slice_get, Option, Some, None, Result, Ok, refl, subst}
 use Rattle.kat_model.specs.Trees.{Term, zero, one, test, act, sum, product, star}
 use Rattle.kat_model.specs.Balanced.{balanced}
@@ -21,12 +21,12 @@ use Rattle.text_scopes.proofs.Related.{Both, AreRelated, related}
 use Rattle.problem_file.specs.Working.Numbers.{AreNumbered}
 use Rattle.problem_file.specs.Ranges.{IsExprInRange, IsCondInRange}
 
--- all conditions, and all terms, of a list
+-- the numbers in all conditions, or all terms, of a list are below the bounds
 abbrev pub CondsInRange : ℕ → ℕ → List CondTree → Type 0
 CondsInRange t v [] = Unit {0}
 CondsInRange t v (b ∷ bs) = IsCondInRange t v b × CondsInRange t v bs
 
--- each defined term has its numbers below these
+-- the numbers in each defined term are below these bounds
 abbrev pub DefinedInRange : ScopeParts → ℕ → ℕ → Type 0
 DefinedInRange w t a = (i : ℕ) (d : Definition) → slice_get w.terms i ≡ Some d → IsInRange t a d.tree
 

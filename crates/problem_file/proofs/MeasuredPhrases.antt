@@ -1,4 +1,4 @@
--- What is measured and built of phrases whose syntax is right.
+-- The measures and trees of phrases whose syntax is correct.
 use Rattle.std.proofs.Common.{◌≡◌, ℕ, ◌≤◌, List, [], ◌∷◌, Bool, true, false, nat_lt, cond as if_true, Result, Ok, Err, IsOk, refl, sym, ap, subst, ◌∙◌, arith}
 use Rattle.std.proofs.lemmas.Bool.{ltb-true, ltb-false}
 use Rattle.kat_model.specs.Trees.{Term, test_size, term_size}
@@ -99,7 +99,8 @@ pub record CondWalk (w : ScopeParts) (compares : Bool) (p : Phrase cond) (m : Ex
 pub cond_is : (w : ScopeParts) (compares : Bool) (p : Phrase cond) (m : Extent) (tree : CondTree) → CondWalk w compares p m tree → IsCond w compares p tree
 cond_is w compares p m tree x = record { sound = x.sound; built = x.built; narrow = x.narrow; small = x.small }
 
--- few nodes are told of a condition just where it is small and its expressions are
+-- if the reported count of nodes is within the limit, then the condition and its expressions are, and the count is
+-- exact
 pub told_few : (largest size n : ℕ) → n ≡ told_nodes largest size → n ≤ 100000 → (largest ≤ 1000) × (size ≤ 100000) × (n ≡ size)
 told_few largest size n e few = by_width (nat_lt 1000 largest) refl e where
   by_width : (b : Bool) → nat_lt 1000 largest ≡ b → n ≡ if_true b 100001 (capped size) → (largest ≤ 1000) × (size ≤ 100000) × (n ≡ size)
@@ -159,7 +160,7 @@ module _ (s : State) where
   pub cond_tree_there : (compares : Bool) (p : Phrase cond) (ts : List Lexeme) (tree : CondTree) → Ends cond ts → MeetsLookahead p ts → fold (trees s.world) (context 1 false compares) p (λ b. b ∷ []) ≡ Ok tree → built_cond s compares (yield_before p ts) ≡ Ok (tree, ts)
   cond_tree_there compares p ts tree ends obeys e = cond_parsed (trees s.world) p (context 1 false compares) ts obeys (longest p ts ends) ∙ ap (before ts) e
 
-  -- what goes on after a phrase goes on with its measure
+  -- a computation that continues after a phrase receives the measure of the phrase
 
   measure_ok : {V : Type 0} (r : Result Extent TextFault) (f : Extent → Measurement Extent) (k : Measurement Extent → Result V TextFault) (y : V) → ((r >>= λ m. Ok (f m)) >>= k) ≡ Ok y → (m : Extent) × (r ≡ Ok m) × (k (f m) ≡ Ok y)
   measure_ok (Ok m) f k y h = (m, refl, h)

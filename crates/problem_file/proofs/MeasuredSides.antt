@@ -1,4 +1,4 @@
--- What is measured and built of blocks and of the sides of goals whose syntax is right.
+-- The measures and trees of blocks and of the sides of goals whose syntax is correct.
 use Rattle.std.proofs.Common.{◌≡◌, ℕ, ◌≤◌, List, [], false, Result, Ok, Err, Option, Some, None, refl, sym, ap, subst, ◌∙◌, arith}
 use Rattle.std.specs.Option.{option_map, option_and_then}
 use Rattle.kat_model.specs.Trees.{Term}
@@ -81,7 +81,7 @@ block_walks w ps p tree limited fits h =
       },
     )
 
--- among the tokens
+-- the block among the tokens
 
 prog_there : (ts : List Lexeme) (r : Result (List StmtTree) TextFault) (tree : ProgTree) → (r >>= λ ss. Ok (prog_with ss)) ≡ Ok tree → change prog_with (before ts r) ≡ Ok (tree, ts)
 prog_there ts (Ok ss) tree e = ap (λ q. Ok (q, ts)) (same_ok (prog_with ss) tree e)
@@ -100,7 +100,7 @@ after_block s p ts k y e = prog_measure_ok (fold_block (block_extents s.world s.
 
 -- ---- sides
 
--- a term that is one name is sound where that name is
+-- a term that is a single name is sound if the name is
 sound_unit : (w : ScopeParts) (u : Phrase unit) (l : Leaf) → lone_leaf u ≡ Some l → IsSound w (context 0 false false) u → IsTermName w (context 0 false false) (meaning w l.text)
 sound_unit w (name_unit k) l e h = let same : k ≡ l = cc in subst (λ (x : Leaf). IsTermName w (context 0 false false) (meaning w x.text)) same h
 sound_unit w (zero_unit k) l e h = absurd cc
@@ -121,7 +121,7 @@ sound_term : (w : ScopeParts) (p : Phrase term) (l : Leaf) → lone_leaf p ≡ S
 sound_term w (one_prod p) l e h = sound_prod w p l e h
 sound_term w (more_prods p k t) l e h = absurd cc
 
--- a name in a term is no program's
+-- a name in a term is not the name of a program
 no_prog : (w : ScopeParts) (ps : List ProgParts) (o : Option Meaning) → IsTermName w (context 0 false false) o → prog_meant ps o ≡ None
 no_prog w ps None h = refl
 no_prog w ps (Some (Test k)) h = refl
@@ -134,7 +134,7 @@ term_names_none : (s : State) (p : Phrase term) (o : Option Leaf) → lone_leaf 
 term_names_none s p None e h = refl
 term_names_none s p (Some l) e h = no_prog s.world s.progs (meaning s.world l.text) (sound_term s.world p l e h)
 
--- the program that a phrase names, measured, and by the tokens
+-- the extent of the program that a phrase names: mapping it before or after the lookup gives the same
 measured_name : (s : State) (o : Option Leaf) → option_and_then (λ l. option_map program_extent (prog_named s.world s.progs l.text)) o ≡ option_map program_extent (option_and_then (λ l. prog_named s.world s.progs l.text) o)
 measured_name s None = refl
 measured_name s (Some l) = refl
@@ -152,7 +152,7 @@ pub record SideWalk (s : State) (p : Phrase term) (ts : List Lexeme) (m : Extent
   pub built : (k : ℕ) → built_side (grown s k) (yield_before p ts) ≡ Ok side
 
 module _ (s : State) (p : Phrase term) (ts : List Lexeme) (ends : Ends term ts) (obeys : MeetsLookahead p ts) (fits : IsWithinLimits 0 p) where
-  -- by the program that the phrase names
+  -- the measure, by cases on whether the phrase names a program
   measured_as : (o : Option ProgParts) → named_by s p ≡ o → fold_side making s p ts ≡ named_else (yield_before p ts) (option_map program_extent o) (fold_term making s p ts)
   measured_as o e = ap (λ x. named_else (yield_before p ts) x (fold_term making s p ts)) (measured_name s (lone_leaf p) ∙ ap (option_map program_extent) e)
 
@@ -197,7 +197,7 @@ module _ (s : State) (p : Phrase term) (ts : List Lexeme) (ends : Ends term ts) 
   pub side_walked : (x : Measurement Extent) → fold_side making s p ts ≡ Ok x → (x.measure).nodes ≤ 100000 → (side : SideTree) × SideWalk s p ts x.measure side
   side_walked x h few = by_name (named_by s p) refl x h few
 
-  -- what is built at the tokens of its measure
+  -- the side built at the tokens of its measure
   pub side_built : (x : Measurement Extent) (side : SideTree) (k : ℕ) → fold_side making s p ts ≡ Ok x → SideWalk s p ts x.measure side → built_side (grown s k) x.tokens ≡ Ok side
   side_built x side k h w =
       let same = same_ok x (record { measure = x.measure; tokens = yield_before p ts }) (sym h ∙ w.measured) in

@@ -1,4 +1,4 @@
--- Which tokens are names to the grammar.
+-- The tokens that are names in the grammar.
 use Rattle.std.proofs.Common.{◌≡◌, ◌<◌, ◌+◌, ℕ, zero, suc, List, [], ◌∷◌, length, drop, get_or, Option, Some, None, Bool, true, false, cond, not, Ok, Err, refl, sym, ap, ◌∙◌, subst, arith}
 use Rattle.std.specs.Prelude.{codes, bytes_eq}
 use Rattle.text_tokens.specs.declared.fault.TextFault.TheVariants.{Syntax}
@@ -17,21 +17,21 @@ use Rattle.text_grammar.specs.Lexemes.{Lexeme, lexeme, lexemes}
 use Rattle.text_scopes.specs.ScopeParts.{IsIdentifier}
 use Rattle.problem_file.specs.Items.{name_at}
 
--- whether a terminal is that of a name
+-- whether a terminal is `Name`
 abbrev is_name : Terminal → Bool
 is_name Name = true
 is_name _ = false
 
--- the terminal is that of no name
+-- the terminal is not `Name`
 record IsOther (s : Terminal) : Type 0 where
   no_name : is_name s ≡ false
 
--- a choice between terminals of which neither is a name
+-- a choice between two terminals that are not names
 neither : (b : Bool) (s rest : Terminal) → is_name s ≡ false → IsOther rest → IsOther (cond b s rest)
 neither true s rest e h = record { no_name = e }
 neither false s rest e h = h
 
--- and one that is a name, of which the first is none
+-- a choice that is a name although its first terminal is not
 second : (b : Bool) (s rest : Terminal) → is_name s ≡ false → cond b s rest ≡ Name → (b ≡ false) × (rest ≡ Name)
 second true s rest e h = absurd (let k : is_name s ≡ true = ap is_name h in cc)
 second false s rest e h = (refl, h)
@@ -99,7 +99,7 @@ no_keyword text e =
 apart : (s : Terminal) → IsOther s → s ≡ Name → ⊥
 apart s other h = let k : is_name s ≡ true = ap is_name h in let e = other.no_name in absurd cc
 
--- a token that is a name to the grammar is an identifier
+-- a token that is a name in the grammar is an identifier
 pub identifier : (t : Kind) (text : List ℕ) (s : Terminal) → IsToken t text → s ≡ terminal_of t text → s ≡ Name → IsIdentifier text
 identifier kind.Name text s token is name = record { name = token; no_keyword = no_keyword text (sym is ∙ name) }
 identifier kind.Number text s token is name = absurd (apart (number_terminal text) (number_apart text) (sym is ∙ name))

@@ -1,5 +1,5 @@
--- Names with commas between: what is read as names is names, and reading their tokens is what is made of the names; it leaves
--- fewer tokens, and gives no fault for want of memory where no name does.
+-- Names separated by commas: the tokens read are names, reading them gives the fold over the names, fewer tokens
+-- remain, and no fault is `NoMemory` if the action at a name gives no such fault.
 use Rattle.std.proofs.Common.{◌≡◌, ℕ, zero, suc, ◌<◌, ◌≤◌, List, [], ◌∷◌, length, length-drop, drop, false, cond as if_true, Result, Ok, Err, refl, ap, ◌∙◌, arith}
 use Rattle.text_tokens.specs.declared.fault.TextFault.{TextFault}
 use Rattle.text_grammar.specs.declared.terminal.Terminal.TheVariants.{Name, Separator}
@@ -16,7 +16,7 @@ use Rattle.problem_file.specs.Items.{name_at, at_name, names_within, over_names,
 use Rattle.problem_file.specs.Phrases.{Names, one_name, more_names, names_onto, ended}
 use Rattle.problem_file.specs.Folds.{fold_names}
 
--- ---- what is read is names
+-- ---- the tokens read are names
 
 pub name_leaf : (ts : List Lexeme) (l : Leaf) → name_at ts ≡ Ok l → ts ≡ cons_token Name l (drop 1 ts)
 name_leaf [] l e = absurd cc
@@ -52,7 +52,7 @@ declaration_found f s ts y e =
     let b = names_found f (suc (length ts)) s ts (y.0, ended a.0 y.1) a.1 in
     (b.0, a.0, b.1)
 
--- ---- what is made of names
+-- ---- the fold over names
 
 pub names_long : (ns : Names) (ts : List Lexeme) → length ts < length (names_onto ns ts)
 names_long (one_name l) ts = omega arith
@@ -71,7 +71,7 @@ module _ {S : Type 0} (f : S → ℕ → List ℕ → Result S TextFault) where
   pub declaration_folded : (ns : Names) (s : S) (end : Leaf) (ts : List Lexeme) → declaration_by f s (names_onto ns (ended end ts)) ≡ before ts (fold_names f s ns)
   declaration_folded ns s end ts = ap (then_wants (is_terminal (Separator Semicolon))) (names_folded ns s (ended end ts) (length (names_onto ns (ended end ts))) refl (omega arith)) ∙ closed (Separator Semicolon) end ts (fold_names f s ns) refl
 
--- ---- fewer tokens are left, and no fault is want of memory
+-- ---- fewer tokens remain, and no fault is `NoMemory`
 
 pub name_at_named : (ts : List Lexeme) → IsNamed (name_at ts)
 name_at_named [] = tt

@@ -1,4 +1,4 @@
--- A fault of a block is never want of memory, where its actions give none: there are enough steps.
+-- A fault of a block is never `NoMemory` if its actions give no such fault, because the steps suffice.
 use Rattle.std.proofs.Common.{ℕ, zero, suc, ◌+◌, ◌*◌, ◌<◌, List, [], ◌∷◌, length, Bool, true, false, cond as if_true, nat_lt, Ok, Err, arith, drop, length-drop}
 use Rattle.text_tokens.specs.declared.fault.TextFault.TheVariants.{Syntax, TooDeep}
 use Rattle.text_grammar.specs.declared.terminal.Terminal.{Terminal}
@@ -16,7 +16,7 @@ use Rattle.while_lang.specs.Blocks.{enter, BlockAim, block, stmts_after, stmt_af
 use Rattle.while_lang.specs.Blocks.{blocks_by, steps, block_within, parse_block}
 use Rattle.while_lang.proofs.BlockSteps.{IsShort, cond_short, within_short}
 
--- no action refuses a part for want of memory
+-- no action fails with `NoMemory`
 pub record NameBlocks {E B L T M S : Type 0} (g : BlockActions E B L T M S) : Type 0 where
   pub phrases : NameTerms g.phrases
   pub named : (d at : ℕ) (text : List ℕ) (s : S) → IsNamed (g.named d at text s)

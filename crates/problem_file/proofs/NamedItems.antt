@@ -1,4 +1,4 @@
--- The walk over items gives no fault for want of memory, where its actions give none.
+-- The walk over items never fails with `NoMemory` if its actions never do.
 use Rattle.std.proofs.Common.{ℕ, suc, ◌+◌, ◌<◌, List, [], ◌∷◌, length, Bool, true, false, cond, Result, Ok, Err, Option, Some, None, arith, drop, length-drop}
 use Rattle.text_tokens.specs.declared.fault.TextFault.{TextFault}
 use Rattle.text_tokens.specs.declared.fault.TextFault.TheVariants.{Syntax}
@@ -51,7 +51,7 @@ at_number_short f (lexeme (Number n) at text ∷ ts) = before_within (suc (lengt
 at_number_short f (lexeme WideNumber at text ∷ ts) = tt
 at_number_short f (lexeme _ at text ∷ ts) = tt
 
--- ---- fewer tokens are left
+-- ---- fewer tokens remain
 
 wants_short : {V : Type 0} (p : Terminal → Bool) (ts : List Lexeme) (n : ℕ) (k : List Lexeme → Parsed V) → ((us : List Lexeme) → length us < length ts → Within n (k us)) → Within n (wants p ts >>= k)
 wants_short p [] n k h = tt
@@ -165,7 +165,7 @@ module _ {S X : Type 0} (g : ItemActions S X) where
   item_short s (lexeme (Keyword word.Goal) at text ∷ ts) = enter_within (suc (length ts)) (g.begin_goal s at) _ (λ u. weaken (length ts) (suc (length ts)) (asked_by g s at ts) (omega arith) (asked_short s at ts))
   item_short s (lexeme _ at text ∷ ts) = tt
 
--- no action refuses a part for want of memory
+-- no action fails with `NoMemory`
 pub record NameItems {S X : Type 0} (g : ItemActions S X) : Type 0 where
   pub phrases : (s : S) → NameTerms (g.phrases s)
   pub blocks : (s : S) → NameBlocks (g.blocks s)

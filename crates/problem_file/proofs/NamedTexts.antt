@@ -1,4 +1,4 @@
--- The tests of tokens give no fault for want of memory.
+-- The checks of tokens never fail with `NoMemory`.
 use Rattle.std.proofs.Common.{ℕ, ◌+◌, List, length, nat_lt, Bool, true, false, Ok, Err, Option, Some, None, is_some, slice_get, ◌∷◌, []}
 use Rattle.std.specs.Option.{option_and_then}
 use Rattle.text_tokens.specs.declared.fault.TextFault.TheVariants.{Sort, TooDeep, DoubleName, TooMany, TooLarge, NumberTooWide}

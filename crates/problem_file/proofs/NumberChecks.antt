@@ -1,4 +1,4 @@
--- The numbers among some tokens, looked at one after the other.
+-- The check of the numbers among tokens, token by token.
 use Rattle.std.proofs.Common.{◌≡◌, ℕ, zero, suc, ◌+◌, ◌-◌, ◌<◌, ◌≤◌, List, [], ◌∷◌, length, take, drop, Ok, Err, refl, ap, ◌∙◌, arith, length-drop}
 use Rattle.kat_model.specs.declared.expression.Width.{Width}
 use Rattle.text_tokens.specs.declared.fault.TextFault.{TextFault}
@@ -8,11 +8,11 @@ use Rattle.text_grammar.specs.Parsed.{◌>>=◌, Makes}
 use Rattle.problem_file.specs.Numbers.{until, check_numbers}
 use Rattle.problem_file.specs.Working.NumberSteps.{check_first}
 
--- what the look at all tokens from `from` up to `end` gives is what is left to look at from `at` on
+-- the check of the tokens from `from` up to `end` equals the check of those from `at` up to `end`
 abbrev pub NumbersLeft : Width → List Lexeme → ℕ → ℕ → ℕ → Type 0
 NumbersLeft w ts from at end = check_numbers w (until (drop from ts) (drop end ts)) ≡ check_numbers w (take (end - at) (drop at ts))
 
--- one token more
+-- the check of the first token, then of the others
 first_then : (w : Width) (ts : List Lexeme) (at n : ℕ) → 0 < n → at < length ts → check_numbers w (take n (drop at ts)) ≡ (check_first w (drop at ts) >>= λ u. check_numbers w (take (n - 1) (drop (at + 1) ts)))
 first_then w [] at n some lt = absurd (omega (arith, lt))
 first_then w (t ∷ ts) zero zero some lt = absurd (omega (arith, some))

@@ -1,5 +1,5 @@
--- The items of a text keep the numbers of tests, actions, variables and programs below those that are declared, and each
--- that is declared has a name.
+-- The items of a text use only numbers of declared tests, actions, variables and programs, and each declared one has a
+-- name.
 use Rattle.std.proofs.Common.{◌≡◌, ◌≤◌, ◌<◌, ◌+◌, ⊎_elim, ℕ, zero, suc, List, [], ◌∷◌, ◌++◌, length, drop, nat_lt, Bool, slice_get, Option, Some, None, refl, sym, ap, subst, ◌∙◌, false, true, arith, length-append}
 use Rattle.std.proofs.lemmas.Bool.{ltb-true, ltb-false}
 use Rattle.std.proofs.lemmas.Option.{slice_get_past, none-some}
@@ -35,7 +35,7 @@ use Rattle.problem_file.proofs.Numbering.{empty_numbered, test_numbered, action_
 use Rattle.problem_file.proofs.InRanges.{DefinedInRange, test_of_in, term_in, cond_in}
 use Rattle.problem_file.proofs.BlockRanges.{ProgsInRange, block_in}
 
--- ---- more tests, actions and variables
+-- ---- additional tests, actions and variables
 
 module _ (t u : ℕ) (more : t ≤ u) where
   test_more : (b : TestTree) → IsTestInRange t b → IsTestInRange u b
@@ -102,7 +102,7 @@ module _ (t a v u b x : ℕ) (more_tests : t ≤ u) (more_actions : a ≤ b) (mo
   defined_more : (w : ScopeParts) → DefinedInRange w t a → DefinedInRange w u b
   defined_more w h i d e = term_more d.tree (h i d e)
 
--- all goals
+-- the numbers in all goals are below the bounds
 abbrev GoalsInRange : ℕ → ℕ → ℕ → List GoalTree → Type 0
 GoalsInRange t a v [] = Unit {0}
 GoalsInRange t a v (g ∷ gs) = IsGoalInRange t a v g × GoalsInRange t a v gs
@@ -133,7 +133,7 @@ module _ (t a v : ℕ) where
   progs_at (q ∷ ps) h zero p e = let same : q ≡ p = cc in subst (λ (x : ProgParts). IsProgInRange t a v x.tree) same h.0
   progs_at (q ∷ ps) h (suc i) p e = progs_at ps h.1 i p e
 
-  -- a program that a name stands for is one of them
+  -- the numbers in a program that a name stands for are below the bounds
   pub meant_in : (ps : List ProgParts) (o : Option Meaning) (d : ProgParts) → AreProgsInRange t a v ps → prog_meant ps o ≡ Some d → IsProgInRange t a v d.tree
   meant_in ps None d h e = absurd cc
   meant_in ps (Some (Test k)) d h e = absurd cc
@@ -171,7 +171,7 @@ module _ (w : ScopeParts) (name : List ℕ) (m : Meaning) (new : IsUndeclared w 
   names_still : (names : List (List ℕ)) → AreNamesOfProgs w names → AreNamesOfProgs (declared w name m) names
   names_still names h i n e = still_means n (Prog i) (h i n e)
 
--- the next program has the last name
+-- the next program gets the last name
 next_name : (w : ScopeParts) (name : List ℕ) (ps : List ProgParts) (names : List (List ℕ)) → IsUndeclared w name → length names ≡ length ps → AreNamesOfProgs w names → AreNamesOfProgs (declared w name (Prog (length ps))) (names ++ name ∷ [])
 next_name w name ps names new counted h i n e =
     let m = Prog (length ps) in
@@ -184,7 +184,7 @@ next_name w name ps names new counted h i n e =
 
 -- ---- states
 
--- what is declared and stated has its numbers below those that are declared
+-- all declarations and statements use only declared numbers
 pub record Ranged (s : State) : Type 0 where
   pub numbers : AreNumbered s.world s.tests s.actions s.vars (length s.progs)
   pub defined : DefinedInRange s.world s.tests s.actions
@@ -292,11 +292,11 @@ names_ranged : (each : State → Leaf → State → Type 0) → ((s : State) (l 
 names_ranged each step (one_name l) s t h r = step s l t h r
 names_ranged each step (more_names l c ns) s t h r = names_ranged each step ns h.0 t h.2 (step s l h.0 h.1 r)
 
--- a term more that is defined
+-- an additional defined term
 term_defined : (w : ScopeParts) (name : List ℕ) (d : Definition) (t a : ℕ) → DefinedInRange w t a → IsInRange t a d.tree → DefinedInRange (defined w name d) t a
 term_defined w name d t a old new i x e = ⊎_elim (λ p. old i x p) (λ q. subst (λ (y : Definition). IsInRange t a y.tree) q.1 new) (slice_get_last w.terms d i x e)
 
--- so many nodes more, and a program, a hypothesis or a goal more
+-- additional nodes, and an additional program, hypothesis or goal
 prog_ranged : (s : State) (n : ℕ) (name : List ℕ) (tree : ProgTree) (levels : ℕ) → IsUndeclared s.world name → IsProgInRange s.tests s.actions s.vars tree → Ranged s → Ranged (add_prog (grown s n) name tree levels)
 prog_ranged s n name tree levels new h r =
     let m = Prog (length s.progs) in
@@ -352,7 +352,7 @@ goal_ranged s n g h r = record {
   goals = goals_last s.tests s.actions s.vars s.goals g r.goals h;
 }
 
--- ---- what stands in a state
+-- ---- the goals and statements of a state
 
 module _ (s : State) (r : Ranged s) where
   term_ranged : (p : Phrase term) (e : Term) (h : IsSide s p (term_side e)) → IsInRange s.tests s.actions e
@@ -449,7 +449,7 @@ all_ranged : (is : List Item) (s t : State) → MakeAll s is t → Ranged s → 
 all_ranged [] s t h r = subst Ranged (sym h) r
 all_ranged (i ∷ is) s t h r = all_ranged is h.0 t h.2 (body_ranged i.body s h.0 h.1 r)
 
--- and so in the file, with any of the goals
+-- the numbers in the file are below the bounds, with any of the goals
 file_numbered : (s : State) (g : GoalTree) → IsGoalInRange s.tests s.actions s.vars g → Ranged s → IsNumbered (file_of s g)
 file_numbered s g goal r = record {
   tests = r.tests;

@@ -1,4 +1,4 @@
--- The numbers that names stand for, as names are declared.
+-- The numbers that names stand for, as declarations are added.
 use Rattle.std.proofs.Common.{◌≡◌, ◌<◌, ◌≤◌, ◌+◌, ℕ, List, [], ◌∷◌, ◌++◌, ⊎_elim, ◌⊎◌, inl, inr, sym, ap, subst, ◌∙◌, length, length-append, arith}
 use Rattle.std.specs.Ordering.{nat_cmp}
 use Rattle.std.specs.Cmp.Lexicographic.{slice_cmp}
@@ -10,7 +10,7 @@ use Rattle.text_scopes.specs.ScopeParts.{Definition, ScopeParts, Means, empty_sc
 use Rattle.text_scopes.proofs.Inverse.{insert_extends}
 use Rattle.problem_file.specs.Working.Numbers.{AreNumbered}
 
--- a name of the world with one more stands for what was declared, or it was there
+-- after a declaration, a name stands for the new meaning or for its earlier meaning
 pub new_or_old : (w : ScopeParts) (name : List ℕ) (m : Meaning) (a : List ℕ) (x : Meaning) → Means (declared w name m) a x → (m ≡ x) ⊎ Means w a x
 new_or_old w name m a x e =
     let more = insert_extends w.meanings name m in
@@ -43,7 +43,8 @@ empty_numbered = record {
 }
 
 module _ (w : ScopeParts) (t a v p : ℕ) (numbered : AreNumbered w t a v p) where
-  -- the world with the name of a meaning more, where the numbers of each kind are below these
+  -- an additional name keeps the numbers below the bounds, if the bounds do not shrink and the new number is below its
+  -- bound
   still_numbered : (u : ScopeParts) (name : List ℕ) (m : Meaning) (s b x q : ℕ) → u ≡ declared w name m → t ≤ s → a ≤ b → v ≤ x → p ≤ q →
       ((k : ℕ) → m ≡ Test k → k < s) → ((k : ℕ) → m ≡ Action k → k < b) → ((k : ℕ) → m ≡ Var k → k < x) → ((k : ℕ) → m ≡ Prog k → k < q) → AreNumbered u s b x q
   still_numbered u name m s b x q same mt ma mv mp test action var prog = rw same (record {
@@ -77,7 +78,7 @@ module _ (w : ScopeParts) (t a v p : ℕ) (numbered : AreNumbered w t a v p) whe
     named_progs = λ n k e. ⊎_elim (λ h. absurd cc) (λ old. numbered.named_progs n k old) (new_or_old w name (Term (length w.terms)) n (Prog k) e);
   })
 
--- with one program more in the list, under the next number
+-- an additional program at the end of the list, under the next number
 pub added_numbered : {X : Type 0} (w u : ScopeParts) (t a v n : ℕ) (name : List ℕ) (old new : List X) (x : X) → AreNumbered w t a v (length old) → u ≡ declared w name (Prog n) → n ≡ length old → new ≡ old ++ x ∷ [] → AreNumbered u t a v (length new)
 added_numbered w u t a v n name old new x numbered same count more =
     let e : u ≡ declared w name (Prog (length old)) = rw (← count) same in

@@ -1,4 +1,4 @@
--- Bytes say one file or have one first fault, and not both.
+-- Bytes denote exactly one file or have exactly one first fault, and never both.
 use Rattle.std.proofs.Common.{◌≡◌, ℕ, List, [], map, drop, Ok, Option, Some, None, slice_get, arith, refl, sym, ap, ap₂, ◌∙◌}
 use Rattle.std.proofs.lemmas.Option.{slice_get_past, none-some}
 use Rattle.text_tokens.specs.TokenParts.{TokenParts}
@@ -21,7 +21,7 @@ use Rattle.problem_file.proofs.WalkedItems.{items_are_walked}
 use Rattle.problem_file.proofs.NamedTexts.{tested_named}
 use Rattle.problem_file.proofs.TextAnswers.{Tells, one_answer}
 
--- ---- what the tests of tokens tell
+-- ---- the result of the token checks
 
 -- the first state has no program
 no_prog : (i : ℕ) (p : ProgParts) → slice_get [] i ≡ Some p → ⊥
@@ -30,7 +30,7 @@ no_prog i p e = let none : slice_get [] i ≡ None = slice_get_past [] i (omega 
 start_limited : (limit : GoalLimit) → AreLimited (start limit).progs
 start_limited limit i p e = absurd (no_prog i p e)
 
--- the file that is said, and the goals after its first
+-- the file that the bytes denote, and the goals after its first
 abbrev pub said : {limit : GoalLimit} {bytes : List ℕ} → Says limit bytes → FileParts × List GoalTree
 said x = (file_of x.state x.goal, drop 1 (x.state).goals)
 

@@ -1,4 +1,4 @@
--- The tokens of a phrase: there is one at least, and the first is no keyword. Of a block there are two at least.
+-- The tokens of a phrase: there is at least one, and the first is not a keyword. A block has at least two.
 use Rattle.std.proofs.Common.{◌≡◌, ◌≤◌, ◌<◌, List, [], ◌∷◌, length, drop, ℕ, true, false, Option, Some, None, refl, arith}
 use Rattle.std.specs.Option.{option_map}
 use Rattle.text_grammar.specs.declared.terminal.Terminal.TheVariants.{Keyword, Separator, Zero, Dot, Plus, Star, Or, And, Compares, RoundClose, SquareClose}
@@ -48,12 +48,12 @@ no_triple (wide_fac l) ts = refl
 no_triple (name_fac l) ts = refl
 no_triple (round_fac l e r) ts = refl
 
--- ---- a term that is one name
+-- ---- a term that is a single name
 
 abbrev pub text_of : Option Leaf → Option (List ℕ)
 text_of o = option_map (λ l. l.text) o
 
--- no name is alone where a term goes on after it
+-- a name is not a lone name if the term continues after it
 
 unit_goes_on : (u : Phrase unit) (ts : List Lexeme) → heads (goes_on term) ts ≡ true → lone_name (yield_before u ts) ≡ None
 unit_goes_on (zero_unit l) ts h = refl
@@ -91,7 +91,7 @@ pub lone_term : (p : Phrase term) (ts : List Lexeme) → Ends term ts → lone_n
 lone_term (one_prod p) ts h = lone_prod p ts h
 lone_term (more_prods p l t) ts h = prod_goes_on p (cons_token Plus l (yield_before t ts)) refl
 
--- and its tokens are that name and those that follow
+-- its tokens are that name and the tokens that follow
 
 unit_rest : (u : Phrase unit) (ts : List Lexeme) (l : Leaf) → lone_leaf u ≡ Some l → drop 1 (yield_before u ts) ≡ ts
 unit_rest (zero_unit k) ts l h = absurd cc
@@ -113,7 +113,7 @@ pub lone_rest : (p : Phrase term) (ts : List Lexeme) (l : Leaf) → lone_leaf p 
 lone_rest (one_prod p) ts l h = prod_rest p ts l h
 lone_rest (more_prods p k t) ts l h = absurd cc
 
--- ---- the tokens that follow a phrase are fewer than those with it
+-- ---- the tokens after a phrase are fewer than those from its start
 
 pub phrase_long : {x : Symbol} (p : Phrase x) (ts : List Lexeme) → length ts < length (yield_before p ts)
 phrase_long (one_prod p) ts = phrase_long p ts

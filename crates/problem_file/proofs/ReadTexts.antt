@@ -1,4 +1,4 @@
--- What the tests of tokens tell is the answer to a text.
+-- The result of the token checks is the answer to a text.
 use Rattle.std.proofs.Common.{◌≡◌, ◌⊎◌, ℕ, List, map, length, slice_get, get_or, Some, Result, Ok, Err, IfErr, MatchResult, Vec, ap, subst, ◌∙◌}
 use Rattle.std.specs.Option.{option_map}
 use Rattle.std.proofs.lemmas.Option.{slice_get-map, slice_get_within, get_or_from_slice_get}
@@ -22,7 +22,7 @@ use Rattle.problem_file.specs.Working.Files.{AreSaid, AnswersFor}
 use Rattle.problem_file.proofs.TextAnswers.{no_fault as none_told}
 use Rattle.problem_file.proofs.OneAnswer.{said, tested_says, says_told}
 
--- each token of a text is a token of its kind
+-- each token of a text is valid for its kind
 pub lexed_tokens : (text : List ℕ) (ts : List Token) → Lexes text (parts_of_tokens ts) → AreTokens ts
 lexed_tokens text ts lexes i t e =
     let ms = parts_of_tokens ts in
@@ -31,7 +31,7 @@ lexed_tokens text ts lexes i t e =
     let same : get_or ms i (parts_of_token t) ≡ parts_of_token t = get_or_from_slice_get ms i (parts_of_token t) (parts_of_token t) there in
     (subst (IsSlice text) same slice).is_token
 
--- a file and the goals behind it, as trees
+-- a file and the goals after it, as trees
 abbrev pub with_trees : FileParts × Vec Goal Global → FileParts × List GoalTree
 with_trees x = (x.0, map goal_tree x.1.items)
 
@@ -41,7 +41,7 @@ module _ (limit : GoalLimit) (text : List ℕ) where
       let s = tested_says limit text (parts_of_tokens ts) lexes (with_trees x) h in
       record { says = s.0; file = ap (λ y. y.0) s.1; goals = ap (λ y. y.1) s.1 }
 
-  -- bytes that say something have no first fault
+  -- bytes that denote a file have no first fault
   pub no_fault : Says limit text → (e : TextFault) → (e ≡ NoMemory) ⊎ HasFirstFault limit text e → e ≡ NoMemory
   no_fault says e h = none_told (tested limit) text (said says) e (says_told limit text says) h
 

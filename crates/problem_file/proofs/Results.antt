@@ -1,4 +1,4 @@
--- What follows of a result that is given.
+-- Consequences of a known result.
 use Rattle.std.proofs.Common.{◌≡◌, Bool, true, false, cond as if_true, Result, Ok, Err, refl, ap, subst}
 use Rattle.text_tokens.specs.declared.fault.TextFault.{TextFault}
 use Rattle.text_grammar.specs.Parsed.{◌>>=◌}
@@ -15,11 +15,11 @@ same_ok {A} x y e = ap (value_or x) e where
   value_or z (Ok v) = v
   value_or z (Err f) = z
 
--- a step that is known, and what it goes on with
+-- after a step with a known value, the computation continues with that value
 pub known : {A B : Type 0} (m : Result A TextFault) (v : A) (k : A → Result B TextFault) (y : Result B TextFault) → m ≡ Ok v → (m >>= k) ≡ y → k v ≡ y
 known m v k y e h = subst (λ r. (r >>= k) ≡ y) e h
 
--- a test that was passed
+-- a check that passed
 pub passed : {A : Type 0} (b : Bool) (x : TextFault) (v w : A) → if_true b (Err x) (Ok v) ≡ Ok w → (b ≡ false) × (v ≡ w)
 passed true x v w e = absurd cc
 passed false x v w e = (refl, same_ok v w e)

@@ -1,4 +1,4 @@
--- The test of the syntax takes just the files of the grammar in which nothing is too deep or too wide.
+-- The syntax check accepts exactly the files of the grammar in which nothing is too deep or too wide.
 use Rattle.std.proofs.Common.{◌≡◌, ℕ, List, [], ◌∷◌, Bool, true, false, Result, Ok, Err, Option, Some, None, refl, ap, sym, ◌∙◌}
 use Rattle.std.specs.Option.{option_and_then}
 use Rattle.text_tokens.specs.declared.fault.TextFault.{TextFault}
@@ -25,12 +25,12 @@ use Rattle.problem_file.specs.Laws.{FilesAreScanned}
 use Rattle.problem_file.proofs.FoundItems.{items_found}
 use Rattle.problem_file.proofs.FoldedItems.{items_folded}
 
--- no name is refused
+-- every name passes
 names_pass : (what : Declared) (ns : Names) → fold_names (checking.declare what) tt ns ≡ Ok tt
 names_pass what (one_name l) = refl
 names_pass what (more_names l c ns) = names_pass what ns
 
--- nor is a phrase or an item in which nothing is too deep or too wide
+-- so does each phrase or item in which nothing is too deep or too wide
 
 term_passes : (p : Phrase term) → IsWithinLimits 0 p → fold scanning (context 0 false false) p (λ t. tt) ≡ Ok tt
 term_passes p fits = scanned p (context 0 false false) fits (λ t. tt)
@@ -50,7 +50,7 @@ block_passes b ts obeys fits = of_rest (fold_block scanning_blocks 0 b tt) (sym 
   of_rest (Ok u) e = refl
   of_rest (Err x) e = absurd cc
 
--- no name of a side is a program's
+-- the syntax check knows no programs
 no_program : (o : Option Leaf) → option_and_then (λ l. checking.program tt l.text) o ≡ None
 no_program None = refl
 no_program (Some l) = refl

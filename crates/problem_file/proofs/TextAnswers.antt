@@ -1,4 +1,4 @@
--- Bytes say one thing or have one first fault, and not both, whatever is tested of their tokens.
+-- Bytes have exactly one answer or exactly one first fault, and never both, whatever checks their tokens must pass.
 use Rattle.std.proofs.Common.{◌≡◌, ◌≤◌, ◌<◌, ◌⊎◌, inl, inr, ⊎_elim, ℕ, List, length, map, Bool, true, false, Result, Ok, Err, nat_lt, arith, refl, sym, ap, subst, ◌∙◌, take_all}
 use Rattle.std.specs.Str.{IsUtf8, IsValidUpTo, is_utf8}
 use Rattle.std.proofs.lemmas.Str.{IsUtf8-from_is_utf8, utf8_valid_len-IsValidUpTo}
@@ -17,7 +17,7 @@ use Rattle.problem_file.specs.Laws.{HaveOneAnswer}
 use Rattle.problem_file.proofs.Results.{ok_of, err_of, same_ok}
 use Rattle.problem_file.proofs.TextFronts.{some_front}
 
--- a text is no longer than it may be, and UTF-8
+-- a text is valid UTF-8, so no proper prefix is its longest valid prefix
 no_front : (bytes : List ℕ) (at : ℕ) → IsText bytes → IsValidUpTo bytes at → ⊥
 no_front bytes at text front = front.longest (length bytes) front.short (subst IsUtf8 (sym (take_all (length bytes) bytes (omega arith))) text.utf8)
 
@@ -36,7 +36,7 @@ module _ {X : Type 0} (tested : List Lexeme → Result X TextFault) (bytes : Lis
   abbrev test : List TokenParts → Result X TextFault
   test ms = tested (map lexeme_of ms)
 
-  -- the bytes have tokens of which this is told
+  -- the bytes have tokens that pass the checks with this result
   pub record Tells (x : X) : Type 0 where
     pub parts_of_tokens : List TokenParts
     pub lexes : Lexes bytes parts_of_tokens
@@ -45,7 +45,7 @@ module _ {X : Type 0} (tested : List Lexeme → Result X TextFault) (bytes : Lis
   abbrev SaysOrFails : Type 0
   SaysOrFails = ((x : X) × Tells x) ⊎ ((e : TextFault) × IsFirstFault tested bytes e)
 
-  -- ---- bytes say something or have a first fault
+  -- ---- bytes have an answer or a first fault
 
   tested_says : (ms : List TokenParts) → Lexes bytes ms → (m : Result X TextFault) → test ms ≡ m → SaysOrFails
   tested_says ms lexes (Ok x) t = inl (x, record { parts_of_tokens = ms; lexes = lexes; tests_pass = t })
@@ -66,7 +66,7 @@ module _ {X : Type 0} (tested : List Lexeme → Result X TextFault) (bytes : Lis
   bytes_say true p = inr (TooLong, no_text (too_long refl (ltb-true MAX_LEN (length bytes) p)))
   bytes_say false p = short_says (ltb-false MAX_LEN (length bytes) p) (is_utf8 bytes) refl
 
-  -- ---- and not both
+  -- ---- never both
 
   pub not_both_ways : (x : X) (e : TextFault) → Tells x → IsFirstFault tested bytes e → ⊥
   not_both_ways x e t (no_text (too_long told past)) = let within = t.lexes.is_text.within in omega (arith, past, within)
@@ -83,7 +83,7 @@ module _ {X : Type 0} (tested : List Lexeme → Result X TextFault) (bytes : Lis
       let same : t.parts_of_tokens ≡ u.parts_of_tokens = one_lexing bytes t.parts_of_tokens u.parts_of_tokens t.lexes u.lexes in
       same_ok x y (sym t.tests_pass ∙ (ap (λ ms. test ms) same ∙ u.tests_pass))
 
-  -- ---- of a text of which this is known there is one first fault
+  -- ---- there is at most one first fault
 
   past_fault : (e : TextFault) → MAX_LEN < length bytes → IsFirstFault tested bytes e → e ≡ TooLong
   past_fault e past (no_text (too_long told h)) = told
@@ -118,7 +118,7 @@ module _ {X : Type 0} (tested : List Lexeme → Result X TextFault) (bytes : Lis
   one_fault d e (bad_token at told bad) y = told ∙ sym (bad_fault at e bad y)
   one_fault d e (refused r) y = sym (token_fault d e r y)
 
-  -- ---- it is never want of memory
+  -- ---- the first fault is never `NoMemory`
 
   fault_is_named : ((ts : List Lexeme) → IsNamed (tested ts)) → IsFirstFault tested bytes NoMemory → ⊥
   fault_is_named h (no_text (too_long told past)) = cc
@@ -126,23 +126,23 @@ module _ {X : Type 0} (tested : List Lexeme → Result X TextFault) (bytes : Lis
   fault_is_named h (bad_token at told bad) = cc
   fault_is_named h (refused r) = subst IsNamed r.tests_fail (placing_named (length bytes) (test r.parts_of_tokens) (h (map lexeme_of r.parts_of_tokens)))
 
-  -- ---- what the program tells
+  -- ---- the results of the program
 
   pub bad_told : (e : TextFault) → IsFault bytes e → (e ≡ NoMemory) ⊎ IsFirstFault tested bytes e
   bad_told NoMemory h = inl refl
   bad_told (BadToken at) h = inr (bad_token at refl h)
   bad_told e h = absurd h
 
-  -- where memory runs out in the tests nothing is said of them
+  -- out of memory, the checks imply nothing; any other fault is the first fault
   pub fault_told : {Y : Type 0} (f : Y → X) (ms : List TokenParts) (e : TextFault) → Lexes bytes ms → Makes (Unit {0}) f (Err e) (test ms) → (placed (length bytes) e ≡ NoMemory) ⊎ IsFirstFault tested bytes (placed (length bytes) e)
   fault_told f ms NoMemory lexes h = inl refl
   fault_told f ms e lexes h = inr (refused (record { parts_of_tokens = ms; lexes = lexes; tests_fail = ap (placing (length bytes)) h }))
 
-  -- bytes that say something have no first fault
+  -- bytes with an answer have no first fault
   pub no_fault : (x : X) (e : TextFault) → Tells x → (e ≡ NoMemory) ⊎ IsFirstFault tested bytes e → e ≡ NoMemory
   no_fault x e t h = ⊎_elim (λ none. none) (λ first. absurd (not_both_ways x e t first)) h
 
--- what bytes say is what is told of their tokens, in a form of its own
+-- what bytes denote is the result of the checks of their tokens, in another form
 pub record AreTold {X Y : Type 0} (tested : List Lexeme → Result X TextFault) (Says : List ℕ → Y → Type 0) (said : X → Y) : Type 0 where
   pub told : (bytes : List ℕ) (x : X) → Tells tested bytes x → Says bytes (said x)
   pub pass : (bytes : List ℕ) (y : Y) → Says bytes y → (x : X) × Tells tested bytes x × (y ≡ said x)

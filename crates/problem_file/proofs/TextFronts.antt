@@ -1,14 +1,14 @@
--- The longest front of bytes that is UTF-8.
+-- The longest prefix of bytes that is valid UTF-8.
 use Rattle.std.proofs.Common.{◌≡◌, ◌≤◌, ◌<◌, ℕ, zero, suc, List, length, take, Bool, true, false, eqb, arith, refl, sym, subst, ◌∙◌, take_all}
 use Rattle.std.specs.Str.{IsUtf8, IsValidUpTo, is_utf8}
 use Rattle.std.proofs.lemmas.Str.{IsUtf8-nil, IsUtf8-from_is_utf8, is_utf8-from_IsUtf8}
 use Rattle.std.proofs.lemmas.Bool.{false≢true, eqb-true, eqb-false}
 
--- the front of k bytes is UTF-8, k is at most n, and no longer front is
+-- the prefix of k bytes is UTF-8, k is at most n, and no longer prefix is UTF-8
 abbrev IsLongestFront : List ℕ → ℕ → ℕ → Type 0
 IsLongestFront bs n k = (k ≤ n) × IsUtf8 (take k bs) × ((m : ℕ) → k < m → IsUtf8 (take m bs) → ⊥)
 
--- past n no front is UTF-8
+-- no prefix of more than n bytes is UTF-8
 abbrev NonePast : List ℕ → ℕ → Type 0
 NonePast bs n = (m : ℕ) → n < m → IsUtf8 (take m bs) → ⊥
 
@@ -29,7 +29,7 @@ longest_front : (bs : List ℕ) (n : ℕ) → NonePast bs n → (k : ℕ) × IsL
 longest_front bs zero none = (0, (omega arith, IsUtf8-nil, none))
 longest_front bs (suc n) none = pick bs n (is_utf8 (take (suc n) bs)) refl none (longest_front bs n)
 
--- bytes that are no UTF-8 have a longest front that is
+-- bytes that are not UTF-8 have a longest prefix that is
 pub some_front : (bs : List ℕ) → is_utf8 bs ≡ false → (k : ℕ) × IsValidUpTo bs k
 some_front bs e =
     let bad = λ (u : IsUtf8 bs). false≢true (sym e ∙ is_utf8-from_IsUtf8 bs u) in

@@ -1,4 +1,4 @@
--- The tests of an item: what each gives where it is passed, and what is known where it is.
+-- The checks of an item: the result of each check that passes, and what it implies.
 use Rattle.std.proofs.Common.{◌≡◌, ℕ, ◌+◌, ◌≤◌, ◌<◌, List, [], ◌∷◌, length, Bool, true, false, nat_lt, cond as if_true, Option, Some, None, is_some, Ok, Err, refl, sym, arith}
 use Rattle.std.proofs.lemmas.Bool.{ltb-true, ltb-false, lt-ltb, le-ltb}
 use Rattle.text_tokens.specs.declared.fault.TextFault.{TextFault}
@@ -43,7 +43,7 @@ action_there s l t (new, few, made) = rw (new, le-ltb 47 s.actions (omega (arith
 pub var_there : (s : State) (l : Leaf) (t : State) → DeclaresVar s l t → declare_var s l.at l.text ≡ Ok t
 var_there s l t (new, few, made) = rw (new, le-ltb 63 s.vars (omega (arith, few)), made) refl
 
--- two tests that were passed
+-- two checks that passed
 both_passed : {A : Type 0} (a b : Bool) (x y : TextFault) (v w : A) → if_true a (Err x) (if_true b (Err y) (Ok v)) ≡ Ok w → (a ≡ false) × (b ≡ false) × (w ≡ v)
 both_passed true b x y v w e = absurd cc
 both_passed false true x y v w e = absurd cc
@@ -106,7 +106,7 @@ width_taken : (s : State) (at : ℕ) (w : Option Width) (t : State) → take_wid
 width_taken s at None t e = absurd cc
 width_taken s at (Some v) t e = (v, refl, sym (same_ok (with_width s v) t e))
 
--- both tests of a `width` were passed
+-- both checks of a `width` passed
 width_begun : (s : State) (at : ℕ) (u : Unit {0}) → begin_width s at ≡ Ok u → (s.width ≡ None) × (has_begun s ≡ false)
 width_begun s at u e =
     let h = both_passed (is_some s.width) (has_begun s) (DoubleName at) (Sort at) tt u e in

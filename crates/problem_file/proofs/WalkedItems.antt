@@ -1,4 +1,4 @@
--- Where the syntax is right, an item passes its tests exactly where it makes what it is to make, and gives that.
+-- If the syntax is correct, an item passes its checks exactly when it makes some state, and the result is that state.
 use Rattle.std.proofs.Common.{◌≡◌, ℕ, ◌+◌, ◌≤◌, ◌<◌, List, [], ◌∷◌, ◌++◌, length, ⊎_elim, true, false, Ok, refl, sym, ap, subst, ◌∙◌, arith}
 use Rattle.kat_model.specs.Expressions.{CondTree}
 use Rattle.kat_model.proofs.Places.{slice_get_last}
@@ -87,7 +87,7 @@ sides_walked c s t at p l q e ts obey fits h =
       made = sym (same_ok _ t f) ∙ ap (λ z. state_goal (grown s z) (compared c u.0 v.0)) count;
     }
 
--- where the phrases of a triple are, with these measures, of which the middle one is whole
+-- the phrases of a triple with these measures and their tokens; the middle measure has its tokens already
 abbrev goal_at : TriplePhrase → List Lexeme → Extent → Measurement Extent → Extent → TripleMeasurement Extent
 goal_at x ts m n o = record {
   pre = record { measure = m; tokens = yield_before (x.pre).inner (cons_token (Separator CurlyClose) (x.pre).right (yield_before x.body (braced_onto x.post ts))) };
@@ -95,7 +95,7 @@ goal_at x ts m n o = record {
   post = record { measure = o; tokens = yield_before (x.post).inner (cons_token (Separator CurlyClose) (x.post).right ts) };
 }
 
--- the goal of three phrases that are built
+-- the goal built from its three phrases
 goal_built : (s : State) (m : TripleMeasurement Extent) (x : CondTree × List Lexeme) (y : SideTree) (z : CondTree × List Lexeme) → built_cond s true (m.pre).tokens ≡ Ok x → built_side s (m.body).tokens ≡ Ok y → built_cond s true (m.post).tokens ≡ Ok z → built_goal s m ≡ Ok (triple x.0 y z.0)
 goal_built s m x y z e f g =
     ap (λ r. r >>= λ x. built_side s (m.body).tokens >>= λ y. built_cond s true (m.post).tokens >>= λ z. Ok (triple x.0 y z.0)) e
@@ -118,7 +118,7 @@ triple_asked s t at x e ts obeys fits h =
     let last = cond_tree_there (grown s sum) true (x.post).inner (cons_token (Separator CurlyClose) (x.post).right us) h.post refl obeys.2 (o.1).built in
     rw (goal_there s at h.few, (m.1).measured, (n.1).measured, (o.1).measured, numbers_there (width_of s) own h.numbers, parts_there s at parts (omega (arith, (m.1).nodes, (m.1).small)) (omega (arith, (n.1).nodes, (n.1).small)) (omega (arith, (o.1).nodes, (o.1).small)) room, first, (n.1).built sum, last, count, h.made) refl
 
--- a triple whose phrases are measured so, and which is asked
+-- a triple with these measures, stated as a goal
 triple_measured : (s t : State) (at : ℕ) (x : TriplePhrase) (e : Leaf) (us : List Lexeme) → TripleObeys x us → TripleFits x → (p : Extent) (q : Measurement Extent) (r : Extent) →
     fold (extents s.world) (context 1 false true) (x.pre).inner (λ m. m) ≡ Ok p → fold_side making s x.body (braced_onto x.post us) ≡ Ok q → fold (extents s.world) (context 1 false true) (x.post).inner (λ m. m) ≡ Ok r →
     length s.goals < most_goals s.limit → AreNarrow (width_of s) (triple_onto x (ended e [])) → ask_triple s at (goal_at x us p q r) ≡ Ok t → AsksTriple s x e t
@@ -173,7 +173,7 @@ names_limited : (each : State → Leaf → State → Type 0) → ((s : State) (l
 names_limited each same (one_name l) s t h = same s l t h
 names_limited each same (more_names l c ns) s t h = names_limited each same ns h.0 t h.2 ∙ same s l h.0 h.1
 
--- one program more
+-- an additional program
 prog_limited : (ps : List ProgParts) (d : ProgParts) → AreLimited ps → largest_in d.tree ≤ 1000 → AreLimited (ps ++ d ∷ [])
 prog_limited ps d old new i p e = ⊎_elim (λ h. old i p h) (λ h. subst (λ (q : ProgParts). largest_in q.tree ≤ 1000) h.1 new) (slice_get_last ps d i p e)
 

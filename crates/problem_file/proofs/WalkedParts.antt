@@ -1,5 +1,5 @@
--- Where the syntax is right, a definition, a program or a hypothesis passes its tests exactly where it makes what it is to
--- make, and gives that.
+-- If the syntax is correct, a definition, a program or a hypothesis passes its checks exactly when it makes some state,
+-- and the result is that state.
 use Rattle.std.proofs.Common.{◌≡◌, ℕ, ◌+◌, ◌≤◌, List, [], false, Result, Ok, refl, sym, ap, subst, ◌∙◌, arith}
 use Rattle.kat_model.specs.Trees.{Term, test_size, term_size}
 use Rattle.kat_model.specs.Expressions.{CondTree, test_without_comparisons}
@@ -139,7 +139,7 @@ zero_walked s t at p ts ends obeys fits h =
 
 -- ---- triples
 
--- where the phrases of a triple are, with these measures
+-- the phrases of a triple with these measures and their tokens
 abbrev pub triple_at : TriplePhrase → List Lexeme → Extent → Extent → Extent → TripleMeasurement Extent
 triple_at x ts m n o = record {
   pre = record { measure = m; tokens = yield_before (x.pre).inner (cons_token (Separator CurlyClose) (x.pre).right (yield_before x.body (braced_onto x.post ts))) };
@@ -147,7 +147,7 @@ triple_at x ts m n o = record {
   post = record { measure = o; tokens = yield_before (x.post).inner (cons_token (Separator CurlyClose) (x.post).right ts) };
 }
 
--- the three phrases of a stated triple, as they are walked
+-- the measured and built phrases of a stated triple
 pub record TripleWalk (s : State) (x : TriplePhrase) (m n o : Extent) (pre : CondTree) (body : Term) (post : CondTree) : Type 0 where
   pub is_pre : CondWalk s.world false (x.pre).inner m pre
   pub is_body : TermWalk s.world x.body n body
@@ -173,7 +173,7 @@ module _ (s : State) where
       let c = after_cond s false (x.post).inner (cons_token (Separator CurlyClose) (x.post).right ts) _ z.0 b.2 in
       (a.0, b.0, c.0, a.1, b.1, c.1, subst (λ v. k v ≡ Ok y) (sym (same_ok (triple_at x ts a.0 b.0 c.0) z.0 c.2)) z.2)
 
--- the nodes of a stated triple are those of its term
+-- the size of a stated triple is the size of its term
 triple_size : (pre : CondTree) (body : Term) (post : CondTree) → test_size (test_without_comparisons pre) ≡ cond_size pre → test_size (test_without_comparisons post) ≡ cond_size post → term_size (triple_term pre body post) ≡ cond_size pre + term_size body + cond_size post + 5
 triple_size pre body post e f = omega (arith, e, f)
 

@@ -1,4 +1,4 @@
--- What a problem file says, and what its items have declared, defined and stated so far.
+-- The parts of a problem file, and the state that its items have declared, defined and stated so far.
 use Rattle.std.specs.Prelude.{ℕ, ◌+◌, List, [], ◌∷◌, ◌++◌, length, slice_get, Bool, ◌||◌, if◌then◌else◌, nat_lt, nat_eq, Result, Ok, Err, Option, Some, None, unwrap_or}
 use Rattle.std.specs.Option.{is_some}
 use Rattle.kat_model.specs.Trees.{Term}
@@ -16,14 +16,14 @@ use Rattle.while_lang.specs.NamedProgs.{ProgParts}
 use Rattle.problem_file.specs.declared.goal_limit.GoalLimit.{GoalLimit}
 use Rattle.problem_file.specs.declared.goal_limit.GoalLimit.TheVariants.{One, Batch}
 
--- ---- what is asked
+-- ---- goals
 
 -- a side of a goal
 pub data SideTree : Type 0 where
   term_side : (e : Term) → SideTree
   prog_side : (p : ProgTree) → SideTree
 
--- what is asked of two sides, or of a side between two conditions
+-- a goal of two sides, or of a side between two conditions
 pub data GoalTree : Type 0 where
   equal : (l r : SideTree) → GoalTree
   below : (l r : SideTree) → GoalTree
@@ -31,8 +31,8 @@ pub data GoalTree : Type 0 where
 
 -- ---- files
 
--- what a file says: its names, how many tests, actions, variables and terms it declares, its programs and their names,
--- the terms that it states to be 0, its rounds, its goal and its width
+-- the parts of a file: its names, the numbers of tests, actions, variables and terms, its programs and their names, the
+-- terms that it states to be 0, its rounds, its goal and its width
 pub record FileParts : Type 0 where
   pub scope : ScopeParts
   pub tests : ℕ
@@ -46,7 +46,7 @@ pub record FileParts : Type 0 where
   pub goal : GoalTree
   pub width : Width
 
--- the program that is meant, of those by their numbers
+-- the program of a meaning; programs are listed by their numbers
 abbrev pub prog_meant : List ProgParts → Option Meaning → Option ProgParts
 prog_meant ps (Some (Prog i)) = slice_get ps i
 prog_meant ps m = None
@@ -57,17 +57,17 @@ prog_named w ps name = prog_meant ps (meaning w name)
 
 -- ---- states
 
--- how many goals there may be
+-- the maximum number of goals
 abbrev pub most_goals : GoalLimit → ℕ
 most_goals One = 1
 most_goals Batch = 64
 
--- what one goal more is refused with, at its keyword
+-- the fault of a goal past the maximum, at its keyword
 abbrev pub goal_fault : GoalLimit → ℕ → TextFault
 goal_fault One at = TwoGoals at
 goal_fault Batch at = TooMany at
 
--- how many goals there may be, what the items so far have made, and how many nodes they have together
+-- the limit of goals, what the items so far have made, and their total number of nodes
 pub record State : Type 0 where
   pub limit : GoalLimit
   pub world : ScopeParts
@@ -98,14 +98,14 @@ start limit = record {
   size = 0;
 }
 
--- a text without a `rounds` has 1, and one without a `width` has 64
+-- the defaults: 1 for `rounds`, 64 for `width`
 abbrev pub rounds_of : State → ℕ
 rounds_of s = unwrap_or s.rounds 1
 
 abbrev pub width_of : State → Width
 width_of s = unwrap_or s.width W64
 
--- the file that they make with a goal
+-- the file that the items make, with this goal
 abbrev pub file_of : State → GoalTree → FileParts
 file_of s goal = record {
   scope = s.world;
@@ -127,7 +127,7 @@ file_of s goal = record {
 abbrev pub is_known : State → List ℕ → Bool
 is_known s name = is_some (meaning s.world name)
 
--- a test or an action more, of which there may be 48, or a variable more, of which there may be 64
+-- an additional test or action (at most 48 of each), or an additional variable (at most 64)
 abbrev pub declare_test : State → ℕ → List ℕ → Result State TextFault
 declare_test s at name =
     if is_known s name then Err (DoubleName at)
@@ -146,17 +146,17 @@ declare_var s at name =
     else if nat_lt 63 s.vars then Err (TooMany at)
     else Ok (record s { world = declared s.world name (Var s.vars); vars = s.vars + 1 })
 
--- a name that is to be defined must be new
+-- a name that is defined must be new
 abbrev pub check_new : State → ℕ → List ℕ → Result (Unit {0}) TextFault
 check_new s at name = if is_known s name then Err (DoubleName at) else Ok tt
 
 -- ---- rounds and width
 
--- whether a `var`, a `prog` or a `goal` stood, before which the width stands
+-- whether a `var`, a `prog` or a `goal` precedes; `width` must come before these
 abbrev pub has_begun : State → Bool
 has_begun s = nat_lt 0 s.vars || (nat_lt 0 (length s.progs) || nat_lt 0 (length s.goals))
 
--- each may stand once
+-- each may occur once
 abbrev pub begin_rounds : State → ℕ → Result (Unit {0}) TextFault
 begin_rounds s at = if is_some s.rounds then Err (DoubleName at) else Ok tt
 
@@ -169,11 +169,11 @@ with_rounds s n = record s { rounds = Some n }
 abbrev pub with_width : State → Width → State
 with_width s w = record s { width = Some w }
 
--- there may be 16 rounds; the number stands at this place
+-- at most 16 rounds; the number is at this place
 abbrev pub set_rounds : State → ℕ → ℕ → Result State TextFault
 set_rounds s at n = if nat_lt 16 n then Err (TooMany at) else Ok (with_rounds s n)
 
--- the width of so many bits
+-- the width of that many bits
 abbrev pub width_with : ℕ → Option Width
 width_with n =
     if nat_eq n 8 then Some W8
@@ -191,20 +191,20 @@ set_width s at n = take_width s at (width_with n)
 
 -- ---- nodes
 
--- adds nodes to the total of the file, in an item that begins at this place
+-- adds nodes to the total of the file, for an item that begins at this place
 abbrev pub grow : State → ℕ → ℕ → Result State TextFault
 grow s at nodes = if nat_lt 1000000 (s.size + nodes) then Err (TooLarge at) else Ok (record s { size = s.size + nodes })
 
--- an item of its own, or one part of a goal, may have 100,000 nodes
+-- a separate item, or one part of a goal, has at most 100,000 nodes
 abbrev pub check_size : ℕ → ℕ → Result (Unit {0}) TextFault
 check_size at nodes = if nat_lt 100000 nodes then Err (TooLarge at) else Ok tt
 
--- ---- what is made
+-- ---- definitions, hypotheses and goals
 
 abbrev pub define : State → List ℕ → Term → ℕ → State
 define s name tree nesting = record s { world = defined s.world name (record { tree = tree; nesting = nesting }) }
 
--- a program more, with the next number
+-- an additional program, with the next number
 abbrev pub add_prog : State → List ℕ → ProgTree → ℕ → State
 add_prog s name tree nesting = record s {
   world = declared s.world name (Prog (length s.progs));

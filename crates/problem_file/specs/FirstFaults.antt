@@ -1,4 +1,4 @@
--- The first fault of the bytes of a text, whatever is tested of its tokens.
+-- The first fault of the bytes of a text, for any checks of its tokens.
 use Rattle.std.specs.Prelude.{◌≡◌, ◌≤◌, ◌<◌, ℕ, min, List, length, map, Result, Ok, Err}
 use Rattle.std.specs.Str.{IsValidUpTo}
 use Rattle.text_tokens.specs.declared.lexer.TheConstants.{MAX_LEN}
@@ -8,7 +8,7 @@ use Rattle.text_tokens.specs.TokenParts.{TokenParts}
 use Rattle.text_tokens.specs.Lex.{Lexes, FirstBad}
 use Rattle.text_grammar.specs.Lexemes.{Lexeme, lexeme_of}
 
--- a fault past the last token is at the text's length
+-- a fault after the last token is placed at the length of the text
 abbrev pub placed : ℕ → TextFault → TextFault
 placed len (Syntax at) = Syntax (min at len)
 placed len e = e
@@ -17,13 +17,13 @@ abbrev pub placing : {X : Type 0} → ℕ → Result X TextFault → Result X Te
 placing len (Ok x) = Ok x
 placing len (Err e) = Err (placed len e)
 
--- the bytes have tokens, and this is the first fault that the tests find in them
+-- the bytes have tokens, and this is the first fault that the checks find in them
 pub record Refuses {X : Type 0} (tested : List Lexeme → Result X TextFault) (bytes : List ℕ) (e : TextFault) : Type 0 where
   pub parts_of_tokens : List TokenParts
   pub lexes : Lexes bytes parts_of_tokens
   pub tests_fail : placing (length bytes) (tested (map lexeme_of parts_of_tokens)) ≡ Err e
 
--- the bytes are no text, for this first fault
+-- the bytes are not a text, and this is their first fault
 pub data IsNoText (bytes : List ℕ) (e : TextFault) : Type 0 where
   too_long : (told : e ≡ TooLong) → (past : MAX_LEN < length bytes) → IsNoText bytes e
   not_utf8 : (at : ℕ) → (told : e ≡ NotUtf8 at) → (within : length bytes ≤ MAX_LEN) → (front : IsValidUpTo bytes at) → IsNoText bytes e

@@ -1,4 +1,5 @@
--- What actions make of items, from left to right, or the first fault. Measurements name the tokens that follow a phrase.
+-- The results of actions on items, from left to right, or the first fault. A measurement includes the tokens after its
+-- phrase, so the folds take these too.
 use Rattle.std.specs.Prelude.{ℕ, List, [], ◌∷◌, Bool, true, false, if◌then◌else◌, Result, Ok, Err, Option, Some, None, option_and_then}
 use Rattle.text_tokens.specs.declared.fault.TextFault.{TextFault}
 use Rattle.text_tokens.specs.declared.fault.TextFault.TheVariants.{NumberTooWide}
@@ -25,7 +26,7 @@ abbrev pub fold_names : {S : Type 0} → (S → ℕ → List ℕ → Result S Te
 fold_names f s (one_name l) = f s l.at l.text
 fold_names f s (more_names l c ns) = f s l.at l.text >>= λ u. fold_names f u ns
 
--- the place of a number, and the number, which is below 2^64
+-- the place of a number, and the number if it is below 2^64
 abbrev pub numeral_leaf : Numeral → Leaf
 numeral_leaf (zero_number l) = l
 numeral_leaf (one_number l) = l
@@ -52,7 +53,7 @@ fold_cond g s compares p ts =
 abbrev pub fold_prog : {S X : Type 0} → ItemActions S X → S → BlockPhrase block → List Lexeme → Result (Measurement X) TextFault
 fold_prog g s b ts = fold_block (g.blocks s) 0 b (g.blocks s).none >>= λ m. Ok (record { measure = m; tokens = block_before b ts })
 
--- a side is the program that it names, or its term
+-- the measure of the program that a side names, if it names one
 abbrev pub lone_program : {S X : Type 0} → ItemActions S X → S → Phrase term → Option X
 lone_program g s p = option_and_then (λ l. g.program s l.text) (lone_leaf p)
 
@@ -78,7 +79,7 @@ abbrev pub fold_sides : {S X : Type 0} → ItemActions S X → S → Phrase term
 fold_sides g s p c q ts =
     fold_side g s p (cons_token (Separator Comma) c (yield_before q ts)) >>= λ m. fold_side g s q ts >>= λ n. Ok (record { left = m; right = n })
 
--- a goal, and the tokens of its own after the word that says what is asked
+-- a goal, and its own tokens after the keyword of the question
 abbrev pub fold_comparison : {S X : Type 0} → ItemActions S X → Comparison → S → ℕ → Phrase term → Leaf → Phrase term → Leaf → List Lexeme → Result S TextFault
 fold_comparison g what s at p c q e ts =
     g.begin_goal s at >>= λ u. fold_sides g s p c q (ended e ts) >>= λ m. g.check_numbers s (sides_onto p c q (ended e [])) >>= λ v. g.ask_sides what s at m
@@ -87,12 +88,12 @@ abbrev pub fold_triple_goal : {S X : Type 0} → ItemActions S X → S → ℕ �
 fold_triple_goal g s at x e ts =
     g.begin_goal s at >>= λ u. fold_triple g s true x (ended e ts) >>= λ m. g.check_numbers s (triple_onto x (ended e [])) >>= λ v. g.ask_triple s at m
 
--- a program, and the tokens of its own
+-- a program, and its own tokens
 abbrev pub fold_program : {S X : Type 0} → ItemActions S X → S → ℕ → Leaf → BlockPhrase block → List Lexeme → Result S TextFault
 fold_program g s at name b ts =
     g.check_new s name.at name.text >>= λ u. fold_prog g s b ts >>= λ m. g.check_numbers s (prog_onto name b []) >>= λ v. g.define_prog s at name.text m
 
--- an item whose keyword stands at the place, before these tokens
+-- an item whose keyword is at the place, before these tokens
 abbrev pub fold_body : {S X : Type 0} → ItemActions S X → S → ℕ → Body → List Lexeme → Result S TextFault
 fold_body g s at (tests ns e) ts = fold_names (g.declare what.Test) s ns
 fold_body g s at (actions ns e) ts = fold_names (g.declare what.Action) s ns

@@ -1,5 +1,5 @@
--- What is done with the parts of an item while it is read. Actions may refuse a part; all else that can be wrong with an
--- item is its syntax.
+-- The actions on the parts of an item during reading. An action may refuse a part; every other error in an item is an
+-- error of syntax.
 use Rattle.std.specs.Prelude.{ℕ, List, Result, Option}
 use Rattle.text_tokens.specs.declared.fault.TextFault.{TextFault}
 use Rattle.text_grammar.specs.Lexemes.{Lexeme}
@@ -9,24 +9,25 @@ use Rattle.problem_file.specs.declared.item_reading.Declared.{Declared}
 use Rattle.problem_file.specs.declared.item_reading.Setting.{Setting}
 use Rattle.problem_file.specs.declared.item_reading.Comparison.{Comparison}
 
--- the measure of a phrase, and the tokens with which it begins
+-- the measure of a phrase, and the tokens from its start
 pub record Measurement (X : Type 0) : Type 0 where
   pub measure : X
   pub tokens : List Lexeme
 
--- those of the sides of a goal
+-- the measurements of the sides of a goal
 pub record SidesMeasurement (X : Type 0) : Type 0 where
   pub left : Measurement X
   pub right : Measurement X
 
--- those of the phrases of a triple
+-- the measurements of the phrases of a triple
 pub record TripleMeasurement (X : Type 0) : Type 0 where
   pub pre : Measurement X
   pub body : Measurement X
   pub post : Measurement X
 
--- S is what the items so far have made, X is what is told of a phrase. A number is the place of a name that is declared or
--- defined, or of the number that is set, and otherwise that of the keyword of the item; the number that is set comes last.
+-- S is the state that the items so far have made, X is the measure of a phrase. A number argument is the place of the
+-- name that is declared or defined, or of the number that is set, and otherwise of the keyword of the item. The number
+-- that is set is the last argument.
 pub record ItemActions (S X : Type 0) : Type 0 where
   pub phrases : S → Actions X X X X X
   pub blocks : S → BlockActions X X X X X X

@@ -1,4 +1,4 @@
--- The items of a problem file, read one after the other by any actions.
+-- The items of a problem file, read one after the other with any actions.
 use Rattle.std.specs.Prelude.{ℕ, zero, suc, List, [], ◌∷◌, length, drop, Bool, true, false, if◌then◌else◌, Result, Ok, Err, Option, Some, None, option_and_then}
 use Rattle.text_tokens.specs.declared.fault.TextFault.{TextFault}
 use Rattle.text_tokens.specs.declared.fault.TextFault.TheVariants.{NoMemory, Syntax, NumberTooWide}
@@ -23,13 +23,13 @@ use Rattle.problem_file.specs.ItemActions.{Measurement, SidesMeasurement, Triple
 
 -- ---- names and numbers
 
--- the name that comes first
+-- the first token, which must be a name
 abbrev pub name_at : List Lexeme → Result Leaf TextFault
 name_at [] = Err (Syntax at_end)
 name_at (lexeme Name at text ∷ ts) = Ok (record { at = at; text = text })
 name_at (lexeme _ at text ∷ ts) = Err (Syntax at)
 
--- what is done at the name that comes first
+-- runs the action on the name that comes first
 abbrev pub at_name : {S : Type 0} → (ℕ → List ℕ → Result S TextFault) → List Lexeme → Parsed S
 at_name f ts = name_at ts >>= λ l. before (drop 1 ts) (f l.at l.text)
 
@@ -41,7 +41,7 @@ names_within (suc n) f s ts = at_name (f s) ts >>= λ x. if heads (is_terminal (
 abbrev pub over_names : {S : Type 0} → (S → ℕ → List ℕ → Result S TextFault) → S → List Lexeme → Parsed S
 over_names f s ts = names_within (suc (length ts)) f s ts
 
--- the number that comes first, which is below 2^64
+-- the first token, which must be a number below 2^64
 abbrev pub number_at : List Lexeme → Result ℕ TextFault
 number_at [] = Err (Syntax at_end)
 number_at (lexeme Zero at text ∷ ts) = Ok 0
@@ -50,11 +50,11 @@ number_at (lexeme (Number n) at text ∷ ts) = Ok n
 number_at (lexeme WideNumber at text ∷ ts) = Err (NumberTooWide at)
 number_at (lexeme _ at text ∷ ts) = Err (Syntax at)
 
--- what is done at the number that comes first
+-- runs the action on the number that comes first
 abbrev pub at_number : {S : Type 0} → (ℕ → ℕ → Result S TextFault) → List Lexeme → Parsed S
 at_number f ts = number_at ts >>= λ n. before (drop 1 ts) (f (place_of ts) n)
 
--- the name that comes first, where it is a whole term
+-- the first name, if it is a whole term
 abbrev pub lone_name : List Lexeme → Option (List ℕ)
 lone_name [] = None
 lone_name (lexeme Name at text ∷ ts) = if heads (goes_on term) ts then None else Some text
@@ -62,15 +62,15 @@ lone_name (lexeme _ at text ∷ ts) = None
 
 -- ---- phrases by actions
 
--- what is told of the term that the tokens begin with
+-- the measure of the term at the start of the tokens
 abbrev pub measure_term : {S X : Type 0} → ItemActions S X → S → List Lexeme → Parsed X
 measure_term g s ts = parse_term (g.phrases s) choice (context 0 false false) ts
 
--- the same of a condition in braces, which are one level
+-- the same for a condition in braces, which count as one level
 abbrev pub measure_cond : {S X : Type 0} → ItemActions S X → S → Bool → List Lexeme → Parsed X
 measure_cond g s compares ts = parse_cond (g.phrases s).conds disjunction (context 1 false compares) ts
 
--- and of a block
+-- the same for a block
 abbrev pub measure_block : {S X : Type 0} → ItemActions S X → S → List Lexeme → Parsed X
 measure_block g s ts = parse_block (g.blocks s) block 0 ts
 
@@ -83,7 +83,7 @@ cond_by g s compares ts = change (λ m. record { measure = m; tokens = ts }) (me
 abbrev pub block_by : {S X : Type 0} → ItemActions S X → S → List Lexeme → Parsed (Measurement X)
 block_by g s ts = change (λ m. record { measure = m; tokens = ts }) (measure_block g s ts)
 
--- what is told of the program that a side names, where it is the name of one and nothing else
+-- the measure of the program that a side names, if the side is only a program's name
 abbrev pub program_by : {S X : Type 0} → ItemActions S X → S → List Lexeme → Option X
 program_by g s ts = option_and_then (g.program s) (lone_name ts)
 
@@ -99,11 +99,11 @@ side_by g s ts = named_or ts (program_by g s ts) (term_by g s ts)
 abbrev pub braced_by : {S X : Type 0} → ItemActions S X → S → Bool → List Lexeme → Parsed (Measurement X)
 braced_by g s compares ts = wants (is_terminal (Separator CurlyOpen)) ts >>= λ a. then_wants (is_terminal (Separator CurlyClose)) (cond_by g s compares a)
 
--- what stands between the conditions: a side of a goal, or the term of a hypothesis
+-- the middle part of a triple: a side of a goal, or the term of a hypothesis
 abbrev pub middle_by : {S X : Type 0} → ItemActions S X → S → Bool → List Lexeme → Parsed (Measurement X)
 middle_by g s in_goal ts = if in_goal then side_by g s ts else term_by g s ts
 
--- "{" cond "}" term "{" cond "}"; in a goal the conditions may compare, and a program may stand between them
+-- "{" cond "}" term "{" cond "}"; in a goal the conditions may compare, and the middle part may be a program
 abbrev pub triple_by : {S X : Type 0} → ItemActions S X → S → Bool → List Lexeme → Parsed (TripleMeasurement X)
 triple_by g s in_goal ts =
     braced_by g s in_goal ts >>= λ x. middle_by g s in_goal x.1 >>= λ y. braced_by g s in_goal y.1 >>= λ z.
@@ -111,11 +111,11 @@ triple_by g s in_goal ts =
 
 -- ---- items by actions
 
--- what is done with a phrase, or phrases, once the semicolon after them is read
+-- runs the action on one or more phrases after the semicolon that follows them is read
 abbrev pub then_do : {S M : Type 0} → (M → Result S TextFault) → Parsed M → Parsed S
 then_do f m = then_wants (is_terminal (Separator Semicolon)) m >>= λ x. before x.1 (f x.0)
 
--- so where the numbers among all tokens of the item, which are these up to what is left, are looked at before
+-- the same, after a check of the numbers among all tokens of the item, which are `ts` up to the rest
 abbrev pub then_ask : {S X M : Type 0} → ItemActions S X → S → List Lexeme → (M → Result S TextFault) → Parsed M → Parsed S
 then_ask g s ts f m =
     then_wants (is_terminal (Separator Semicolon)) m >>= λ x. g.check_numbers s (until ts x.1) >>= λ u. before x.1 (f x.0)
@@ -128,7 +128,7 @@ declaration_by f s ts = then_wants (is_terminal (Separator Semicolon)) (over_nam
 abbrev pub meaning_by : {S X : Type 0} → ItemActions S X → S → List Lexeme → Parsed (Measurement X)
 meaning_by g s ts = wants (is_terminal (Separator Equals)) ts >>= λ a. then_wants (is_terminal (Separator Semicolon)) (term_by g s a)
 
--- "term" NAME "=" term ";", the name of which must be new before its term is looked at
+-- "term" NAME "=" term ";", whose name must be new before the term is read
 abbrev pub definition_by : {S X : Type 0} → ItemActions S X → S → ℕ → List Lexeme → Parsed S
 definition_by g s at ts =
     name_at ts >>= λ l. g.check_new s l.at l.text >>= λ u. meaning_by g s (drop 1 ts) >>= λ x.
@@ -167,7 +167,7 @@ comparison_by g c s at ts = then_ask g s ts (g.ask_sides c s at) (sides_by g s t
 abbrev pub triple_goal_by : {S X : Type 0} → ItemActions S X → S → ℕ → List Lexeme → Parsed S
 triple_goal_by g s at ts = then_ask g s ts (g.ask_triple s at) (triple_by g s true ts)
 
--- what is asked, by the keyword after "goal"
+-- the question of a goal, by the keyword after "goal"
 abbrev pub asked_by : {S X : Type 0} → ItemActions S X → S → ℕ → List Lexeme → Parsed S
 asked_by g s at [] = Err (Syntax at_end)
 asked_by g s at (lexeme (Keyword word.Equal) place text ∷ ts) = comparison_by g Equal s at ts

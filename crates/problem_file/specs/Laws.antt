@@ -1,4 +1,4 @@
--- The laws of problem files. Each stands on a function of the crate that does nothing.
+-- The laws of problem files. Each is the contract of a function of the crate that does nothing.
 use Rattle.std.specs.Prelude.{◌≡◌, ◌↔◌, ◌⊎◌, ℕ, List, Ok}
 use Rattle.kat_model.specs.Members.{Has}
 use Rattle.text_tokens.specs.declared.fault.TextFault.{TextFault}
@@ -21,18 +21,18 @@ IsSomeFile ts = (items : List Item) × AreSpelledBy items ts
 abbrev pub FilesAreScanned : Type 0
 FilesAreScanned = (ts : List Lexeme) → (scan_file ts ≡ Ok tt) ↔ IsSomeFile ts
 
--- from a state without programs, as the first, or with programs that items made
+-- from the first state, or from a state with programs within the limit
 abbrev pub ItemsAreWalked : Type 0
 ItemsAreWalked =
     (s t : State) (items : List Item) (ts : List Lexeme) → AreLimited s.progs → AreSpelledBy items ts →
     (walk s ts ≡ Ok t) ↔ MakeAll s items t
 
--- what both passes answer of the tokens of a file, a fault too, is what their actions make of the items
+-- for the tokens of a file, the result of both passes, including a fault, is the fold of their actions over the items
 pub record ItemsAreFolded : Type 0 where
   pub scanned : (items : List Item) (ts : List Lexeme) → IsFile items ts → scan_file ts ≡ fold_items checking tt items
   pub walked : (s : State) (items : List Item) (ts : List Lexeme) → IsFile items ts → walk s ts ≡ fold_items making s items
 
--- bytes say one thing or have one first fault, which is never want of memory
+-- bytes have exactly one answer or exactly one first fault, which is never `NoMemory`
 pub record HaveOneAnswer {X : Type 0} (Says : List ℕ → X → Type 0) (Fails : List ℕ → TextFault → Type 0) : Type 0 where
   pub some : (bytes : List ℕ) → ((x : X) × Says bytes x) ⊎ ((e : TextFault) × Fails bytes e)
   pub either : (bytes : List ℕ) (x : X) (e : TextFault) → Says bytes x → Fails bytes e → ⊥
@@ -47,7 +47,7 @@ ReadsBoth bytes x = ReadsAll bytes x.0 x.1
 abbrev pub AreInRanges : Type 0
 AreInRanges = (bytes : List ℕ) (f : FileParts) → Reads bytes f → IsNumbered f
 
--- so it is with each goal of a text
+-- the same for each goal of a text
 pub record AreAllInRanges : Type 0 where
   pub file : (bytes : List ℕ) (f : FileParts) (more : List GoalTree) → ReadsAll bytes f more → IsNumbered f
   pub goals : (bytes : List ℕ) (f : FileParts) (more : List GoalTree) → ReadsAll bytes f more → (g : GoalTree) → Has more g → IsGoalInRange f.tests f.actions f.vars g

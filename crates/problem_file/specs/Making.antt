@@ -1,4 +1,4 @@
--- What each item of a problem file makes of what the items before it have made.
+-- The state that each item of a problem file makes from the state before it.
 use Rattle.std.specs.Prelude.{ℕ, ◌+◌, List, length, Bool, true, false, if◌then◌else◌, nat_lt, Result, Ok, Err, Option, Some, None, option_map, option_and_then}
 use Rattle.kat_model.specs.Trees.{Term}
 use Rattle.kat_model.specs.Expressions.{CondTree}
@@ -64,7 +64,7 @@ program_or None m = m >>= λ x. Ok (term_side x.0)
 abbrev pub built_side : State → List Lexeme → Result SideTree TextFault
 built_side s ts = program_or (option_and_then (prog_named s.world s.progs) (lone_name ts)) (built_term s ts)
 
--- the phrases of a stated triple, and of one that is asked
+-- the phrases of a stated triple, and of a triple that is a goal
 abbrev pub built_triple : State → TripleMeasurement Extent → Result (CondTree × Term × CondTree) TextFault
 built_triple s m =
     built_cond s false (m.pre).tokens >>= λ x. built_term s (m.body).tokens >>= λ y. built_cond s false (m.post).tokens >>= λ z.
@@ -77,18 +77,18 @@ built_goal s m =
 
 -- ---- nodes
 
--- a program counts its nodes where it is a side
+-- a program as a side counts its nodes
 abbrev pub program_extent : ProgParts → Extent
 program_extent p = extent (prog_size p.tree) p.nesting
 
--- so many nodes of an item of its own
+-- counts the nodes of a separate item
 abbrev pub count : State → ℕ → ℕ → Result State TextFault
 count s at nodes = check_size at nodes >>= λ u. grow s at nodes
 
 abbrev pub triple_nodes : TripleMeasurement Extent → ℕ
 triple_nodes m = ((m.pre).measure).nodes + ((m.body).measure).nodes + ((m.post).measure).nodes
 
--- those of a goal, each part of which has a limit
+-- counts the nodes of a goal, each part of which has a limit
 abbrev pub count_sides : State → ℕ → SidesMeasurement Extent → Result State TextFault
 count_sides s at m =
     check_size at ((m.left).measure).nodes >>= λ u. check_size at ((m.right).measure).nodes >>= λ v.
@@ -109,7 +109,7 @@ abbrev pub define_prog : State → ℕ → List ℕ → Measurement Extent → R
 define_prog s at name m =
     count s at (m.measure).nodes >>= λ t. built_block t m.tokens >>= λ x. Ok (add_prog t name x.0 (m.measure).nesting)
 
--- there may be 8,192 hypotheses
+-- at most 8,192 hypotheses
 abbrev pub begin_hyp : State → ℕ → Result (Unit {0}) TextFault
 begin_hyp s at = if nat_lt 8191 (length s.hyps) then Err (TooMany at) else Ok tt
 
@@ -155,6 +155,6 @@ making = record {
   ask_triple = ask_triple;
 }
 
--- what all items have made, or the first fault of the first item that has one
+-- the state that all items make, or the first fault of the first item that has one
 abbrev pub walk : State → List Lexeme → Result State TextFault
 walk s ts = items_by making s ts

@@ -8,11 +8,11 @@ use Rattle.text_grammar.specs.declared.terminal.Terminal.TheVariants.{Number, Wi
 use Rattle.text_grammar.specs.Lexemes.{Lexeme, lexeme}
 use Rattle.text_grammar.specs.Parsed.{◌>>=◌}
 
--- the tokens before those that are left
+-- the tokens before `rest`
 abbrev pub until : List Lexeme → List Lexeme → List Lexeme
 until ts rest = take (length ts - length rest) ts
 
--- the token is no number of 2 to the width or more; `0` and `1` never are
+-- the token is not a number of 2 to the width or more; `0` and `1` always satisfy this
 abbrev pub IsNarrow : Width → Lexeme → Type 0
 IsNarrow w (lexeme (Number n) at text) = n < modulus w
 IsNarrow w (lexeme WideNumber at text) = ⊥
@@ -28,7 +28,7 @@ check_number w (lexeme (Number n) at text) = if nat_lt n (modulus w) then Ok tt 
 check_number w (lexeme WideNumber at text) = Err (NumberTooWide at)
 check_number w (lexeme s at text) = Ok tt
 
--- and of the first that is one
+-- the fault of the first such token
 abbrev pub check_numbers : Width → List Lexeme → Result (Unit {0}) TextFault
 check_numbers w [] = Ok tt
 check_numbers w (t ∷ ts) = check_number w t >>= λ u. check_numbers w ts

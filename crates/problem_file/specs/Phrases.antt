@@ -69,7 +69,7 @@ word_of (goal_equal l p c q e) = word.Goal
 word_of (goal_below l p c q e) = word.Goal
 word_of (goal_triple l x e) = word.Goal
 
--- the name that a phrase consists of, where it is one name alone
+-- the name that a phrase consists of, if it is a single name
 abbrev pub lone_leaf : {x : Symbol} → Phrase x → Option Leaf
 lone_leaf (one_prod p) = lone_leaf p
 lone_leaf (one_star s) = lone_leaf s
@@ -158,7 +158,7 @@ ItemsObey (i ∷ is) = BodyObeys i.body (spelled is) × ItemsObey is
 
 -- ---- nothing is too deep, and no number is too wide; braces are one level
 
--- below 2^64
+-- the number is below 2^64
 abbrev pub NumeralFits : Numeral → Type 0
 NumeralFits (wide_number l) = ⊥
 NumeralFits n = Unit {0}
@@ -184,12 +184,12 @@ abbrev pub ItemsFit : List Item → Type 0
 ItemsFit [] = Unit {0}
 ItemsFit (i ∷ is) = BodyFits i.body × ItemsFit is
 
--- the tokens are the phrase `file` of these items
+-- the tokens are the phrase `file` with these items
 pub record IsFile (items : List Item) (ts : List Lexeme) : Type 0 where
   pub spells : ts ≡ spelled items
   pub obey : ItemsObey items
 
--- and nothing in them is too deep or too wide
+-- the same, and nothing in the items is too deep or too wide
 pub record AreSpelledBy (items : List Item) (ts : List Lexeme) : Type 0 where
   pub file : IsFile items ts
   pub fit : ItemsFit items

@@ -1,4 +1,4 @@
--- The numbers of tests, actions and variables in what a text says.
+-- The ranges of the numbers of tests, actions and variables in a text.
 use Rattle.std.specs.Prelude.{◌≡◌, ◌≤◌, ◌<◌, ℕ, List, [], ◌∷◌, length, slice_get, Some}
 use Rattle.kat_model.specs.Expressions.{ExprTree, number, variable, plus, minus, times, CondTree, always, never, named, compared, negation, both, either}
 use Rattle.kat_model.specs.Problems.{IsInRange, AreInRange}
@@ -17,7 +17,7 @@ IsExprInRange vars (plus e f) = IsExprInRange vars e × IsExprInRange vars f
 IsExprInRange vars (minus e f) = IsExprInRange vars e × IsExprInRange vars f
 IsExprInRange vars (times e f) = IsExprInRange vars e × IsExprInRange vars f
 
--- and each test of the condition below the number of tests
+-- the same, and each test of the condition is below the number of tests
 abbrev pub IsCondInRange : ℕ → ℕ → CondTree → Type 0
 IsCondInRange tests vars always = Unit {0}
 IsCondInRange tests vars never = Unit {0}
@@ -27,7 +27,7 @@ IsCondInRange tests vars (negation b) = IsCondInRange tests vars b
 IsCondInRange tests vars (both b c) = IsCondInRange tests vars b × IsCondInRange tests vars c
 IsCondInRange tests vars (either b c) = IsCondInRange tests vars b × IsCondInRange tests vars c
 
--- and each action of the program below the number of actions
+-- the same, and each action of the program is below the number of actions
 abbrev pub IsProgInRange : ℕ → ℕ → ℕ → ProgTree → Type 0
 IsProgInRange tests actions vars empty = Unit {0}
 IsProgInRange tests actions vars (skip_then rest) = IsProgInRange tests actions vars rest
@@ -56,12 +56,12 @@ IsGoalInRange tests actions vars (triple pre body post) = IsCondInRange tests va
 abbrev pub AreNamed : ScopeParts → (ℕ → Meaning) → ℕ → Type 0
 AreNamed w kind n = (k : ℕ) → k < n → (name : List ℕ) × Means w name (kind k)
 
--- and the names of the programs, by their numbers, are these
+-- the names of the programs, by their numbers, are these
 abbrev pub AreNamesOfProgs : ScopeParts → List (List ℕ) → Type 0
 AreNamesOfProgs w names = (i : ℕ) (name : List ℕ) → slice_get names i ≡ Some name → Means w name (Prog i)
 
--- at most 48 tests, 48 actions and 64 variables are declared, each has a name, as each program has, and no others stand in hypotheses, programs
--- and the goal
+-- at most 48 tests, 48 actions and 64 variables are declared, each of these and each program has a name, and
+-- hypotheses, programs and the goal use no others
 pub record IsNumbered (f : FileParts) : Type 0 where
   pub tests : f.tests ≤ 48
   pub actions : f.actions ≤ 48

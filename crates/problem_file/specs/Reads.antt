@@ -1,4 +1,4 @@
--- Which bytes say which file, and the first fault of those that say none.
+-- The file that bytes denote, and the first fault of bytes that denote no file.
 use Rattle.std.specs.Prelude.{◌≡◌, ◌⊎◌, ℕ, List, map, drop, slice_get, Result, Ok, Err, Option, Some, None}
 use Rattle.text_tokens.specs.declared.fault.TextFault.{TextFault}
 use Rattle.text_tokens.specs.declared.fault.TextFault.TheVariants.{NoMemory, NoGoal}
@@ -15,12 +15,12 @@ use Rattle.problem_file.specs.Making.{walk}
 use Rattle.problem_file.specs.Phrases.{Item, AreSpelledBy}
 use Rattle.problem_file.specs.Sound.{MakeAll}
 
--- before the first item of a text of one goal
+-- the state before the first item of a text with one goal
 abbrev pub start_one : State
 start_one = start One
 
--- What bytes say that are a file in which so many goals may stand: they are the tokens of a file, nothing in them is too
--- deep or too wide, each item makes what it is to make, and one is a goal.
+-- The bytes denote a file with at most the allowed number of goals: they are the tokens of a file, nothing in them is
+-- too deep or too wide, each item makes the next state, and at least one item is a goal.
 pub record Says (limit : GoalLimit) (bytes : List ℕ) : Type 0 where
   pub parts_of_tokens : List TokenParts
   pub lexes : Lexes bytes parts_of_tokens
@@ -31,12 +31,12 @@ pub record Says (limit : GoalLimit) (bytes : List ℕ) : Type 0 where
   pub goal : GoalTree
   pub has_goal : slice_get state.goals 0 ≡ Some goal
 
--- the bytes say this file, which has one goal
+-- the bytes denote this file, which has one goal
 pub record Reads (bytes : List ℕ) (f : FileParts) : Type 0 where
   pub says : Says One bytes
   pub file : f ≡ file_of says.state says.goal
 
--- the bytes say this file with its first goal, and the goals after it
+-- the bytes denote this file with its first goal, and the goals after it
 pub record ReadsAll (bytes : List ℕ) (f : FileParts) (more : List GoalTree) : Type 0 where
   pub says : Says Batch bytes
   pub file : f ≡ file_of says.state says.goal
@@ -44,7 +44,7 @@ pub record ReadsAll (bytes : List ℕ) (f : FileParts) (more : List GoalTree) : 
 
 -- ---- the first fault
 
--- the file and the goals after its first, where a goal is asked
+-- the file and the goals after its first, if there is a goal
 abbrev pub files_with : State → Option GoalTree → Result (FileParts × List GoalTree) TextFault
 files_with s None = Err NoGoal
 files_with s (Some goal) = Ok (file_of s goal, drop 1 s.goals)
@@ -52,22 +52,22 @@ files_with s (Some goal) = Ok (file_of s goal, drop 1 s.goals)
 abbrev pub check_goal : State → Result (FileParts × List GoalTree) TextFault
 check_goal s = files_with s (slice_get s.goals 0)
 
--- the tests of tokens one after the other: of their syntax, and then of their items
+-- the checks of tokens in order: first their syntax, then their items
 abbrev pub tested : GoalLimit → List Lexeme → Result (FileParts × List GoalTree) TextFault
 tested limit ts = scan_file ts >>= λ u. walk (start limit) ts >>= check_goal
 
--- the first fault of the bytes, where so many goals may stand
+-- the first fault of the bytes under this limit of goals
 abbrev pub HasFirstFault : GoalLimit → List ℕ → TextFault → Type 0
 HasFirstFault limit bytes e = IsFirstFault (tested limit) bytes e
 
--- of a text with one goal, and of one with up to 64
+-- the first fault of a text with one goal, and of a text with up to 64
 abbrev pub FirstFault : List ℕ → TextFault → Type 0
 FirstFault bytes e = HasFirstFault One bytes e
 
 abbrev pub FirstFaultOfAll : List ℕ → TextFault → Type 0
 FirstFaultOfAll bytes e = HasFirstFault Batch bytes e
 
--- what is answered to bytes: the file that they say, or out of memory, or their first fault
+-- the answer to bytes: the file that they denote, or out of memory, or their first fault
 abbrev pub Answers : List ℕ → Result FileParts TextFault → Type 0
 Answers bytes (Ok f) = Reads bytes f
 Answers bytes (Err e) = (e ≡ NoMemory) ⊎ FirstFault bytes e

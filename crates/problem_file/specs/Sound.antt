@@ -1,4 +1,4 @@
--- What the items of a text make, one after the other, where all that is asked of them holds.
+-- The states that the items of a text make, one after the other, if every requirement holds.
 use Rattle.std.specs.Prelude.{◌≡◌, ◌≤◌, ◌<◌, ℕ, ◌+◌, List, [], ◌∷◌, length, Bool, true, false, Ok, Option, Some, None, option_and_then}
 use Rattle.kat_model.specs.Trees.{Term, term_size}
 use Rattle.kat_model.specs.Expressions.{CondTree}
@@ -28,15 +28,15 @@ use Rattle.problem_file.specs.Folds.{numeral_value}
 
 -- ---- names
 
--- a test more, with the next number
+-- an additional test, with the next number
 abbrev pub with_test : State → List ℕ → State
 with_test s name = record s { world = declared s.world name (Test s.tests); tests = s.tests + 1 }
 
--- an action more, with the next number
+-- an additional action, with the next number
 abbrev pub with_action : State → List ℕ → State
 with_action s name = record s { world = declared s.world name (Action s.actions); actions = s.actions + 1 }
 
--- a variable more, with the next number
+-- an additional variable, with the next number
 abbrev pub with_var : State → List ℕ → State
 with_var s name = record s { world = declared s.world name (Var s.vars); vars = s.vars + 1 }
 
@@ -44,11 +44,11 @@ with_var s name = record s { world = declared s.world name (Var s.vars); vars = 
 abbrev pub DeclaresTest : State → Leaf → State → Type 0
 DeclaresTest s l t = IsUndeclared s.world l.text × (s.tests < 48) × (t ≡ with_test s l.text)
 
--- or 48 actions
+-- the name is new, and there are fewer than 48 actions
 abbrev pub DeclaresAction : State → Leaf → State → Type 0
 DeclaresAction s l t = IsUndeclared s.world l.text × (s.actions < 48) × (t ≡ with_action s l.text)
 
--- or 64 variables
+-- the name is new, and there are fewer than 64 variables
 abbrev pub DeclaresVar : State → Leaf → State → Type 0
 DeclaresVar s l t = IsUndeclared s.world l.text × (s.vars < 64) × (t ≡ with_var s l.text)
 
@@ -59,31 +59,31 @@ EachName {S} each s (more_names l c ns) t = (u : S) × each s l u × EachName ea
 
 -- ---- phrases
 
--- the phrase is of this term, which is not too large
+-- the phrase denotes this term, which is not too large
 pub record IsTerm (w : ScopeParts) (p : Phrase term) (tree : Term) : Type 0 where
   pub sound : IsSound w (context 0 false false) p
   pub built : fold (trees w) (context 0 false false) p (λ e. e ∷ []) ≡ Ok tree
   pub small : term_size tree ≤ 100000
 
--- the phrase, which stands in braces, is of this condition, which is not too large
+-- the phrase, which is in braces, denotes this condition, which is not too large
 pub record IsCond (w : ScopeParts) (compares : Bool) (p : Phrase cond) (tree : CondTree) : Type 0 where
   pub sound : IsSound w (context 1 false compares) p
   pub built : fold (trees w) (context 1 false compares) p (λ b. b ∷ []) ≡ Ok tree
   pub narrow : largest_expr tree ≤ 1000
   pub small : cond_size tree ≤ 100000
 
--- the block is of this program, with earlier programs spliced in, and it is not too large
+-- the block denotes this program, with earlier programs spliced in, and it is not too large
 pub record IsBlock (w : ScopeParts) (ps : List ProgParts) (p : BlockPhrase block) (tree : ProgTree) : Type 0 where
   pub sound : BlockIsSound w ps 0 p
   pub built : (fold_block (block_trees w ps) 0 p [] >>= λ ss. Ok (prog_with ss)) ≡ Ok tree
   pub narrow : largest_in tree ≤ 1000
   pub small : prog_size tree ≤ 100000
 
--- the program that a phrase names, where it is the name of one and nothing else
+-- the program that a phrase names, if the phrase is only a program's name
 abbrev pub named_by : State → Phrase term → Option ProgParts
 named_by s p = option_and_then (λ l. prog_named s.world s.progs l.text) (lone_leaf p)
 
--- the phrase names this program and nothing else
+-- the phrase is only the name of this program
 pub record NamesProg (s : State) (p : Phrase term) (tree : ProgTree) : Type 0 where
   pub parts : ProgParts
   pub named : named_by s p ≡ Some parts
@@ -101,11 +101,11 @@ side_size (prog_side p) = prog_size p
 
 -- ---- nodes
 
--- so many nodes more
+-- the state with this number of additional nodes
 abbrev pub grown : State → ℕ → State
 grown s nodes = record s { size = s.size + nodes }
 
--- all items together may have 1,000,000 nodes
+-- all items together have at most 1,000,000 nodes
 abbrev pub HasRoom : State → ℕ → Type 0
 HasRoom s nodes = s.size + nodes ≤ 1000000
 
@@ -118,7 +118,7 @@ pub record Defines (s : State) (name : Leaf) (p : Phrase term) (t : State) : Typ
   pub room : HasRoom s (term_size tree)
   pub made : t ≡ define (grown s (term_size tree)) name.text tree (nesting s.world p)
 
--- a program, whose item has no number of 2 to the width or more
+-- a program whose item has no number of 2 to the width or more
 pub record DefinesProg (s : State) (name : Leaf) (p : BlockPhrase block) (t : State) : Type 0 where
   pub new : IsUndeclared s.world name.text
   pub tree : ProgTree
@@ -129,7 +129,7 @@ pub record DefinesProg (s : State) (name : Leaf) (p : BlockPhrase block) (t : St
 
 -- ---- hypotheses
 
--- one of 8,192 hypotheses
+-- a hypothesis, of at most 8,192
 pub record States (s : State) (p : Phrase term) (t : State) : Type 0 where
   pub few : length s.hyps < 8192
   pub tree : Term
@@ -137,7 +137,7 @@ pub record States (s : State) (p : Phrase term) (t : State) : Type 0 where
   pub room : HasRoom s (term_size tree)
   pub made : t ≡ state_hyp (grown s (term_size tree)) tree
 
--- a hypothesis that is a triple, without comparisons and without a program, counts the nodes of its term
+-- a hypothesis that is a triple, without comparisons and without a program; its size is the size of its term
 pub record StatesTriple (s : State) (x : TriplePhrase) (t : State) : Type 0 where
   pub few : length s.hyps < 8192
   pub pre : CondTree
@@ -152,7 +152,7 @@ pub record StatesTriple (s : State) (x : TriplePhrase) (t : State) : Type 0 wher
 
 -- ---- rounds and width
 
--- the one `rounds`, of at most 16
+-- the only `rounds`, at most 16
 pub record SetsRounds (s : State) (x : Numeral) (t : State) : Type 0 where
   pub first : s.rounds ≡ None
   pub number : ℕ
@@ -160,7 +160,7 @@ pub record SetsRounds (s : State) (x : Numeral) (t : State) : Type 0 where
   pub few : number ≤ 16
   pub made : t ≡ with_rounds s number
 
--- the one `width`, before the first `var`, `prog` and `goal`
+-- the only `width`, before the first `var`, `prog` and `goal`
 pub record SetsWidth (s : State) (x : Numeral) (t : State) : Type 0 where
   pub first : s.width ≡ None
   pub early : has_begun s ≡ false
@@ -172,7 +172,7 @@ pub record SetsWidth (s : State) (x : Numeral) (t : State) : Type 0 where
 
 -- ---- goals
 
--- a goal, of which there may be so many, of two sides; its item has no number of 2 to the width or more
+-- a goal of two sides, within the limit of goals; its item has no number of 2 to the width or more
 pub record AsksSides (f : SideTree → SideTree → GoalTree) (s : State) (p : Phrase term) (comma : Leaf) (q : Phrase term) (end : Leaf) (t : State) : Type 0 where
   pub few : length s.goals < most_goals s.limit
   pub left : SideTree
@@ -183,7 +183,7 @@ pub record AsksSides (f : SideTree → SideTree → GoalTree) (s : State) (p : P
   pub room : HasRoom s (side_size left + side_size right)
   pub made : t ≡ state_goal (grown s (side_size left + side_size right)) (f left right)
 
--- or of a side between two conditions, which may compare
+-- a goal of a side between two conditions, which may compare
 pub record AsksTriple (s : State) (x : TriplePhrase) (end : Leaf) (t : State) : Type 0 where
   pub few : length s.goals < most_goals s.limit
   pub pre : CondTree
@@ -198,7 +198,7 @@ pub record AsksTriple (s : State) (x : TriplePhrase) (end : Leaf) (t : State) : 
 
 -- ---- items
 
--- what an item makes of a state
+-- the item leads from state `s` to state `t`
 abbrev pub Makes : State → Body → State → Type 0
 Makes s (tests ns e) t = EachName DeclaresTest s ns t
 Makes s (actions ns e) t = EachName DeclaresAction s ns t
@@ -213,7 +213,7 @@ Makes s (goal_equal l p c q e) t = AsksSides equal s p c q e t
 Makes s (goal_below l p c q e) t = AsksSides below s p c q e t
 Makes s (goal_triple l x e) t = AsksTriple s x e t
 
--- and what they all make
+-- the items lead from state `s` to state `t`, one after the other
 abbrev pub MakeAll : State → List Item → State → Type 0
 MakeAll s [] t = t ≡ s
 MakeAll s (i ∷ is) t = (u : State) × Makes s i.body u × MakeAll u is t

@@ -1,4 +1,4 @@
--- The test of the syntax of a whole file.
+-- The syntax check of a whole file.
 use Rattle.std.specs.Prelude.{List, Result, Ok, None}
 use Rattle.text_tokens.specs.declared.fault.TextFault.{TextFault}
 use Rattle.text_grammar.specs.Lexemes.{Lexeme}
@@ -7,7 +7,7 @@ use Rattle.while_lang.specs.BlockScans.{scanning_blocks}
 use Rattle.problem_file.specs.ItemActions.{ItemActions}
 use Rattle.problem_file.specs.Items.{items_by}
 
--- nothing is made, and no part is refused; a side is a term, whatever its name stands for
+-- the actions make nothing and refuse nothing; a side is a term, whatever its name stands for
 abbrev pub checking : ItemActions (Unit {0}) (Unit {0})
 checking = record {
   phrases = λ s. scanning;

@@ -1,4 +1,4 @@
-//! What a problem file says.
+//! The parts of a problem file.
 ghost use Rattle.std.specs.Prelude.{◌≡◌, ◌↔◌, IsTrue, option_map};
 ghost use Rattle.while_lang.specs.NamedProgs.{prog_parts, parts_of_progs};
 ghost use Rattle.problem_file.specs.Files.{prog_meant, prog_named};
@@ -10,15 +10,15 @@ use std::marker::Model;
 use text_scopes::{Meaning, Scope};
 use while_lang::{NamedProg, Prog};
 
-/// A side of a goal. It is a program exactly where the text has the one name of a program in its place.
+/// A side of a goal. It is a program exactly when the text has only the name of a program in its place.
 #[derive(Drop)]
 pub enum Side {
     Term(Kat),
     Prog(Prog),
 }
 
-/// What is asked: whether two sides denote one relation, whether the first is below the second, or whether the
-/// Hoare triple of two conditions around a side holds (partial correctness).
+/// A goal: both sides denote one relation, the first side is below the second, or the Hoare triple of two conditions
+/// around a side holds (partial correctness).
 #[derive(Drop)]
 pub enum Goal {
     Equal(Side, Side),
@@ -26,27 +26,28 @@ pub enum Goal {
     Triple(Cond, Side, Cond),
 }
 
-/// What a text says. Tests, actions, variables, terms and programs are numbered from 0 in the order of their declaration.
+/// The contents of a text. Tests, actions, variables, terms and programs are numbered from 0 in the order of their
+/// declaration.
 #[derive(Drop)]
 pub struct File {
-    /// What each name stands for.
+    /// The meaning of each name.
     pub scope: Scope,
-    /// How many tests are declared, at most 48.
+    /// The number of declared tests, at most 48.
     pub tests: usize,
-    /// How many actions are declared, at most 48.
+    /// The number of declared actions, at most 48.
     pub actions: usize,
-    /// How many variables are declared, at most 64.
+    /// The number of declared variables, at most 64.
     pub vars: usize,
-    /// How many terms are defined.
+    /// The number of defined terms.
     pub terms: usize,
-    /// The programs, those that they name spliced in.
+    /// The programs, with the programs that they name spliced in.
     pub progs: Vec<NamedProg>,
     /// The terms that are stated to be 0, at most 8,192.
     pub hyps: Vec<Kat>,
-    /// The number of `rounds`, at most 16; 1 where the text has none.
+    /// The number of `rounds`, at most 16; 1 if the text has none.
     pub rounds: u64,
     pub goal: Goal,
-    /// The width of the numbers in programs; 64 bits where the text has none.
+    /// The width of the numbers in programs; 64 bits if the text has none.
     pub width: Width,
 }
 
@@ -82,7 +83,7 @@ impl Model for File {
     } };
 }
 
-// The program that is meant, of those by their numbers.
+// Returns the program of a meaning; `progs` is indexed by program number.
 pub(crate) fn prog_meant(progs: &[NamedProg], meaning: Option<Meaning>) -> Option<&NamedProg>
     ensures { option_map (λ n. prog_parts n.now) result ≡ prog_meant (parts_of_progs progs.now) meaning }
 {
@@ -102,8 +103,8 @@ fn asks_of_progs(goal: &Goal) -> bool
 }
 
 impl File {
-    /// Whether the file declares only variables and programs, states no hypothesis, and equates two programs or asks for a
-    /// triple of one, so that its goal speaks of runs on stores. It takes no memory.
+    /// Whether the file declares only variables and programs, states no hypothesis, and has a goal that equates two
+    /// programs or is a triple of a program, so that the goal is about runs on stores. Allocates no memory.
     pub fn concrete(&self) -> bool
         ensures { IsTrue result ↔ IsConcrete self.now }
     {
@@ -114,7 +115,7 @@ impl File {
             && asks_of_progs(&self.goal)
     }
 
-    /// The program of that name; `None` exactly where no program has it. It takes no memory.
+    /// Returns the program with that name, or `None` if no program has it. Allocates no memory.
     pub fn prog(&self, name: &str) -> Option<&Prog>
         ensures { option_map (λ p. p.now) result ≡ option_map (λ p. p.tree) (prog_named self.now.scope self.now.progs name.now) }
     {

@@ -1,12 +1,12 @@
-//! How many goals a text may have.
+//! The limit on the number of goals of a text.
 use text_tokens::TextFault;
 
-// How many goals a text may have.
+// The limit on the number of goals of a text.
 #[derive(Clone, Copy, Debug, PartialEq, Eq)]
 pub(crate) enum GoalLimit {
-    // A second is `TwoGoals`.
+    // One goal; a second is `TwoGoals`.
     One,
-    // 64; one more is `TooMany`.
+    // 64 goals; another one is `TooMany`.
     Batch,
 }
 
@@ -23,7 +23,7 @@ impl GoalLimit {
         }
     }
 
-    // What one goal too many is refused with, whose keyword stands at `at`.
+    // Returns the fault of the first goal past the limit, whose keyword is at `at`.
     pub(crate) fn fault(self, at: usize) -> TextFault
         ensures { result ≡ goal_fault self at }
     {

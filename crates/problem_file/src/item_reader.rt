@@ -1,4 +1,4 @@
-//! What the items of a text so far have made.
+//! The state that the items of a text so far have made.
 ghost use Rattle.std.specs.Prelude.{length, map};
 ghost use Rattle.problem_file.specs.Trees.{goal_tree};
 ghost use Rattle.problem_file.specs.Working.Numbers.{AreNumbered};
@@ -11,10 +11,10 @@ use text_scopes::{Meaning, Scope};
 use text_tokens::{TextFault, Token};
 use while_lang::NamedProg;
 
-// The most variables of a text.
+// The maximum number of variables of a text.
 const MAX_VARS: usize = 64;
 
-// Reads items whose syntax was tested.
+// Reads items whose syntax was checked before.
 #[derive(Drop)]
 pub(crate) struct ItemReader {
     pub(crate) alloc: Global,
@@ -60,7 +60,7 @@ impl ItemReader {
         }
     }
 
-    // That a name is not declared yet.
+    // Checks that a name is not declared yet.
     pub(crate) fn check_undeclared(&self, name: &Token) -> Result<(), TextFault>
         ensures { result ≡ check_new (state_of self.now) name.now.at name.now.text.now }
     {
@@ -129,7 +129,7 @@ impl ItemReader {
         Ok(())
     }
 
-    // Adds `nodes` to the file's total; `TooLarge` at `at` past the limit.
+    // Adds `nodes` to the total of the file; `TooLarge` at `at` past the limit.
     pub(crate) fn grow(&mut self, at: usize, nodes: u64) -> Result<(), TextFault>
         ensures scope { self.new.scope ≡ self.old.scope }
         ensures value { Leaves result self.new (grow (state_of self.old) at nodes) }
@@ -142,14 +142,14 @@ impl ItemReader {
         Ok(())
     }
 
-    // The width of the text: 64 where no item sets it.
+    // Returns the width of the text: 64 if no item sets it.
     pub(crate) fn width(&self) -> Width
         ensures { result ≡ width_of (state_of self.now) }
     {
         self.width.unwrap_or(Width::W64)
     }
 
-    // What the items have made, with the first goal, and the goals after it.
+    // Returns the file with its first goal, and the goals after it.
     pub(crate) fn files(self) -> Result<(File, Vec<Goal>), TextFault>
         ensures { Makes ⊥ (λ x. (x.0, map goal_tree x.1.items)) result (check_goal (state_of self)) }
     {

@@ -1,4 +1,4 @@
-//! What is done with the parts of an item while it is read.
+//! The actions on the parts of an item during reading.
 ghost use Rattle.std.specs.Prelude.{◌≡◌, ◌≤◌, length, drop, Ok};
 ghost use Rattle.text_grammar.specs.Lexemes.{lexemes};
 ghost use Rattle.text_grammar.specs.Parsed.{Makes, Goes};
@@ -11,7 +11,7 @@ ghost use Rattle.problem_file.specs.Working.Walks.{measured_of, sides_of, triple
 use crate::phrase::{Measured, Sides, Triple};
 use text_tokens::{TextFault, Token};
 
-// What names may be declared for.
+// The kinds of names that an item may declare.
 #[derive(Clone, Copy, Debug, PartialEq, Eq)]
 pub(crate) enum Declared {
     Test,
@@ -19,7 +19,7 @@ pub(crate) enum Declared {
     Var,
 }
 
-// What may be set once in a text, to a number.
+// The settings, each of which a text sets at most once, to a number.
 #[derive(Clone, Copy, Debug, PartialEq, Eq)]
 pub(crate) enum Setting {
     Rounds,
@@ -33,14 +33,14 @@ pub(crate) enum Comparison {
     Below,
 }
 
-// What is done with the parts of an item while it is read: the methods are called for the parts in text order, and at the
-// end of each item with what was told of its phrases. A part that is refused ends the reading with that fault. `at` is the
-// place of the item's keyword.
+// The actions on the parts of an item during reading. The reader calls the methods for the parts in text order, and at
+// the end of each item with the measures of its phrases. A part that is refused ends the reading with that fault. `at`
+// is the place of the item's keyword.
 //
-// Contracts see what the items so far have made as `state`, and the methods as `actions`. `memory` is what may be said
-// where a method answers `NoMemory`: `⊥` where none does.
+// Contracts see what the items so far have made as `state`, and the methods as `actions`. `memory` is what holds after
+// a method returns `NoMemory`: `⊥` if none does.
 pub(crate) trait ItemReading {
-    // What is told of a phrase.
+    // The measure of a phrase.
     type Measure: Copy;
 
     ghost S: { Type 0 };
@@ -51,12 +51,12 @@ pub(crate) trait ItemReading {
 
     ghost actions: { ItemActions S Self.Measure };
 
-    // What is told of the term that begins at `from`, and the index after it, or its first fault.
+    // Returns the measure of the term that begins at `from` and the index after it, or its first fault.
     fn measure_term(&self, toks: &[Token], from: usize) -> Result<(Self::Measure, usize), TextFault>
         ensures value { Tells (λ ts m. m) toks.now from result (measure_term actions (state self.now)) }
         ensures goes { Goes from (length toks.now) result };
 
-    // The same of a condition in braces, which may compare expressions or may not.
+    // The same for a condition in braces; `compares` is whether it may compare expressions.
     fn measure_cond(
         &self,
         toks: &[Token],
@@ -66,7 +66,7 @@ pub(crate) trait ItemReading {
         ensures value { Tells (λ ts m. m) toks.now from result (measure_cond actions (state self.now) compares) }
         ensures goes { Goes from (length toks.now) result };
 
-    // The same of a block of statements.
+    // The same for a block of statements.
     fn measure_block(
         &self,
         toks: &[Token],
@@ -75,7 +75,7 @@ pub(crate) trait ItemReading {
         ensures value { Tells (λ ts m. m) toks.now from result (measure_block actions (state self.now)) }
         ensures goes { Goes from (length toks.now) result };
 
-    // What is told of the program of that name, where a side of a goal may be one.
+    // Returns the measure of the program with that name, if a side of a goal may be a program.
     fn measure_program(&self, name: &str) -> Option<Self::Measure>
         ensures { result ≡ (actions).program (state self.now) name.now };
 
@@ -86,13 +86,13 @@ pub(crate) trait ItemReading {
             (actions).declare what (state self.old) name.now.at name.now.text.now
             ) };
 
-    // That a name that is to be defined is not declared yet.
+    // Checks that a name is not declared yet and so may be defined.
     fn check_new(&self, name: &Token) -> Result<(), TextFault>
         ensures { Makes ⊥ (λ u. u) result (
             (actions).check_new (state self.now) name.now.at name.now.text.now
             ) };
 
-    // Defines a name, which stands for a term from here on. `check_new` passes it.
+    // Defines a name as a term. `check_new` must accept the name.
     fn define(
         &mut self,
         toks: &[Token],
@@ -107,7 +107,7 @@ pub(crate) trait ItemReading {
             (measured_of (lexemes toks.now) term)
             ) };
 
-    // Defines a name, which stands for a program from here on. `check_new` passes it.
+    // Defines a name as a program. `check_new` must accept the name.
     fn define_prog(
         &mut self,
         toks: &[Token],
@@ -122,7 +122,7 @@ pub(crate) trait ItemReading {
             (measured_of (lexemes toks.now) block)
             ) };
 
-    // That one hypothesis more may be stated.
+    // Checks that an additional hypothesis may be stated.
     fn begin_hyp(&self, at: usize) -> Result<(), TextFault>
         ensures { Makes ⊥ (λ u. u) result ((actions).begin_hyp (state self.now) at) };
 
@@ -148,15 +148,15 @@ pub(crate) trait ItemReading {
             (actions).state_triple (state self.old) at (triple_of (lexemes toks.now) triple)
             ) };
 
-    // That it may be set.
+    // Checks that the setting may be set.
     fn begin_setting(&self, what: Setting, at: usize) -> Result<(), TextFault>
         ensures { Makes ⊥ (λ u. u) result ((actions).begin_setting what (state self.now) at) };
 
-    // Sets it to a number, which stands at the place.
+    // Sets the setting to a number, which is at `place`.
     fn set(&mut self, what: Setting, place: usize, number: u64) -> Result<(), TextFault>
         ensures { Does memory result (state self.new) ((actions).set what (state self.old) place number) };
 
-    // That no number is too wide among the tokens of an item from one index up to another.
+    // Checks that no number among the tokens of an item, from one index up to another, is too wide.
     fn check_numbers(&self, toks: &[Token], from: usize, end: usize) -> Result<(), TextFault>
         requires ordered { from ≤ end }
         requires within { end ≤ length toks.now }
@@ -165,11 +165,11 @@ pub(crate) trait ItemReading {
             (until (drop from (lexemes toks.now)) (drop end (lexemes toks.now)))
             ) };
 
-    // That a goal may be asked.
+    // Checks that a goal may be stated.
     fn begin_goal(&self, at: usize) -> Result<(), TextFault>
         ensures { Makes ⊥ (λ u. u) result ((actions).begin_goal (state self.now) at) };
 
-    // Asks how two sides compare.
+    // States the goal that compares two sides.
     fn ask_sides(
         &mut self,
         toks: &[Token],
@@ -182,7 +182,7 @@ pub(crate) trait ItemReading {
             (sides_of (lexemes toks.now) sides)
             ) };
 
-    // Asks whether a triple holds.
+    // States the goal that a triple holds.
     fn ask_triple(
         &mut self,
         toks: &[Token],

@@ -1,4 +1,4 @@
-//! The items of a problem file, gone through once for any reading.
+//! The items of a problem file, read once by any reading.
 ghost use Rattle.std.specs.Prelude.{◌≡◌, ◌+◌, ◌<◌, ◌≤◌, length, drop, IfOk, IfSome};
 ghost use Rattle.text_grammar.specs.Lexemes.{lexemes};
 ghost use Rattle.problem_file.specs.Tokens.{AreTokens};
@@ -17,7 +17,7 @@ use text_grammar::{
 };
 use text_tokens::{TextFault, Token};
 
-// Declares the name at an index, and gives the index after it.
+// Declares the name at an index, and returns the index after it.
 #[tactic(auto, using(text_grammar::proofs::Tokens::next_drop))]
 fn read_name<R: ItemReading>(
     reading: &mut R,
@@ -36,7 +36,7 @@ fn read_name<R: ItemReading>(
     Ok(from + 1)
 }
 
-// Declares names with commas between.
+// Declares names separated by commas, and returns the index after them.
 #[tactic(auto, using(text_grammar::proofs::Tokens::next_drop))]
 fn read_names<R: ItemReading>(
     reading: &mut R,
@@ -88,7 +88,7 @@ fn term_at<R: ItemReading>(
     Ok((Measured { measure, from }, end))
 }
 
-// A condition in braces, and the index after the closing one.
+// Measures a condition in braces, and returns the index after the closing brace.
 fn braced_at<R: ItemReading>(
     reading: &R,
     toks: &[Token],
@@ -104,7 +104,7 @@ fn braced_at<R: ItemReading>(
     Ok((Measured { measure, from }, end))
 }
 
-// What is told of the program that a side names, where it is the name of one and nothing else.
+// Returns the measure of the program that a side names, if the side is only a program's name.
 fn program_at<R: ItemReading>(reading: &R, toks: &[Token], from: usize) -> Option<R::Measure>
     ensures value { result ≡ program_by R.actions (R.state reading.now) (drop from (lexemes toks.now)) }
     ensures within { IfSome result (λ m. from < length toks.now) }
@@ -115,7 +115,7 @@ fn program_at<R: ItemReading>(reading: &R, toks: &[Token], from: usize) -> Optio
     }
 }
 
-// A side of a goal: the name of a program, or a term.
+// Measures a side of a goal: the name of a program, or a term.
 #[tactic(auto, using(text_grammar::proofs::Tokens::next_drop))]
 fn side_at<R: ItemReading>(
     reading: &R,
@@ -131,7 +131,7 @@ fn side_at<R: ItemReading>(
     }
 }
 
-// What stands between the conditions of a triple: a side of a goal, or the term of a hypothesis.
+// Measures the middle part of a triple: a side of a goal, or the term of a hypothesis.
 fn middle_at<R: ItemReading>(
     reading: &R,
     toks: &[Token],
@@ -189,7 +189,7 @@ fn block_at<R: ItemReading>(
     Ok((Measured { measure, from }, end))
 }
 
-// A term between `=` and a semicolon.
+// Measures a term between `=` and a semicolon.
 fn meaning_at<R: ItemReading>(
     reading: &R,
     toks: &[Token],
@@ -286,7 +286,7 @@ fn read_hyp<R: ItemReading>(
     Ok(end)
 }
 
-// Sets what is set to the number at an index, and gives the index after it.
+// Sets a setting to the number at an index, and returns the index after it.
 #[tactic(auto, using(text_grammar::proofs::Tokens::next_drop))]
 fn read_number<R: ItemReading>(
     reading: &mut R,
@@ -420,7 +420,7 @@ fn read_item<R: ItemReading>(
     }
 }
 
-// Reads all items, or up to the first that has a fault. A `Syntax` after the last token has the place `usize::MAX`.
+// Reads all items, or up to the first item with a fault. A `Syntax` after the last token has the place `usize::MAX`.
 pub(crate) fn read_items<R: ItemReading>(reading: &mut R, toks: &[Token]) -> Result<(), TextFault>
     requires tokens { AreTokens toks.now }
     ensures { Does R.memory result (R.state reading.new) (

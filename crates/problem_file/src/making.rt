@@ -1,4 +1,4 @@
-//! What each item of a text makes, once the syntax of the whole text was tested.
+//! The state that each item of a text makes, after the syntax of the whole text was checked.
 ghost use Rattle.std.specs.Prelude.{◌≡◌, ◌+◌, min, ◌^◌, ◌-◌, ◌≤◌, length, drop, nat_lt, Ok, IfOk, None, option_map, option_and_then};
 ghost use Rattle.kat_model.specs.Stores.{modulus};
 ghost use Rattle.text_grammar.specs.Lexemes.{lexemes};
@@ -30,10 +30,10 @@ use text_scopes::{Extent, build_cond, build_term, measure_cond, measure_term};
 use text_tokens::{TextFault, Token};
 use while_lang::{NamedProg, build_block, measure_block};
 
-// The most rounds of a text.
+// The maximum number of rounds of a text.
 const MAX_ROUNDS: u64 = 16;
 
-// That an item or a part of a goal has no more nodes than it may have; `TooLarge` at `at` past that.
+// Checks that an item, or a part of a goal, is within the limit of nodes; `TooLarge` at `at` past it.
 fn check_size(at: usize, nodes: u64) -> Result<(), TextFault>
     ensures { result ≡ check_size at nodes }
 {
@@ -43,7 +43,7 @@ fn check_size(at: usize, nodes: u64) -> Result<(), TextFault>
     Ok(())
 }
 
-// The nodes of the three phrases.
+// Returns the total number of nodes of the three phrases, saturated at 2^64 - 1.
 fn nodes_of(triple: Triple<Extent>) -> u64
     ensures { let pre = triple.pre.measure.nodes in
         let body = triple.body.measure.nodes in
@@ -63,7 +63,7 @@ fn name_bytes(alloc: Global, name: &Token) -> Result<Items<u8>, NoMemory>
     Ok(Items::of(name.text.as_bytes().to_vec(alloc)?))
 }
 
-// How large and how deep a program is as a side.
+// Returns the size and the depth of a program as a side.
 fn program_extent(named: &NamedProg) -> Extent
     ensures { result ≡ program_extent (prog_parts named.now) }
 {
@@ -98,7 +98,7 @@ fn is_narrow(width: Width, n: u64) -> bool
     }
 }
 
-// That the token at an index is no number of 2 to the width or more.
+// Checks that the token at an index is not a number of 2 to the width or more.
 fn check_number(width: Width, toks: &[Token], i: usize) -> Result<(), TextFault>
     ensures { Makes ⊥ (λ u. u) result (check_first width (drop i (lexemes toks.now))) }
 {
@@ -117,7 +117,7 @@ fn check_number(width: Width, toks: &[Token], i: usize) -> Result<(), TextFault>
     }
 }
 
-// That none is among the tokens from one index up to another.
+// Checks that no token from one index up to another is such a number.
 fn check_numbers(width: Width, toks: &[Token], from: usize, end: usize) -> Result<(), TextFault>
     requires ordered { from ≤ end }
     requires within { end ≤ length toks.now }
@@ -143,7 +143,7 @@ fn comparison_goal(comparison: Comparison, left: Side, right: Side) -> Goal
 }
 
 impl ItemReader {
-    // The program that a name stands for.
+    // Returns the program that a name stands for.
     fn prog_named(&self, name: &str) -> Option<&NamedProg>
         ensures { option_map (λ n. prog_parts n.now) result
             ≡ prog_named (state_of self.now).world (state_of self.now).progs name.now }
@@ -151,7 +151,7 @@ impl ItemReader {
         prog_meant(&self.progs, self.scope.find(name))
     }
 
-    // Counts an item of `nodes` nodes; `TooLarge` at `at` past its limit or that of the file.
+    // Counts an item of `nodes` nodes; `TooLarge` at `at` past the limit of the item or of the file.
     fn count(&mut self, at: usize, nodes: u64) -> Result<(), TextFault>
         ensures scope { self.new.scope ≡ self.old.scope }
         ensures value { Leaves result self.new (count (state_of self.old) at nodes) }
@@ -160,7 +160,7 @@ impl ItemReader {
         self.grow(at, nodes)
     }
 
-    // Counts the sides of a goal.
+    // Counts the nodes of the sides of a goal.
     fn count_sides(
         &mut self,
         toks: &[Token],
@@ -178,7 +178,7 @@ impl ItemReader {
         self.grow(at, left.saturating_add(right))
     }
 
-    // Counts the conditions and the side of a goal that is a triple.
+    // Counts the nodes of the conditions and the side of a goal that is a triple.
     fn count_parts(
         &mut self,
         toks: &[Token],
@@ -195,7 +195,7 @@ impl ItemReader {
         self.grow(at, nodes_of(triple))
     }
 
-    // The program that a side names, where it is the name of one and nothing else.
+    // Returns the program that a side names, if the side is only a program's name.
     fn lone_prog(&self, toks: &[Token], from: usize) -> Option<&NamedProg>
         ensures { option_map (λ n. prog_parts n.now) result
             ≡ option_and_then (prog_named (state_of self.now).world (state_of self.now).progs) (lone_name (drop from (lexemes toks.now))) }
@@ -213,7 +213,7 @@ impl ItemReader {
         Ok(Side::Term(term))
     }
 
-    // The side that begins at `from`: the program that it names, or its term.
+    // Builds the side that begins at `from`: the program that it names, or its term.
     fn build_side(&self, toks: &[Token], from: usize) -> Result<Side, TextFault>
         ensures { Makes (Unit {0}) side_tree result (built_side (state_of self.now) (drop from (lexemes toks.now))) }
     {
@@ -223,7 +223,7 @@ impl ItemReader {
         }
     }
 
-    // The trees of the phrases of a stated triple.
+    // Builds the trees of the phrases of a stated triple.
     fn build_triple(
         &self,
         toks: &[Token],
@@ -239,7 +239,7 @@ impl ItemReader {
         Ok((pre, body, post))
     }
 
-    // The goal that is a triple.
+    // Builds the goal that is a triple.
     fn build_goal(&self, toks: &[Token], triple: Triple<Extent>) -> Result<Goal, TextFault>
         ensures { Makes (Unit {0}) goal_tree result (
             built_goal (state_of self.now) (triple_of (lexemes toks.now) triple)
@@ -251,7 +251,7 @@ impl ItemReader {
         Ok(Goal::Triple(pre, body, post))
     }
 
-    // Whether a `var`, a `prog` or a `goal` stood.
+    // Whether a `var`, a `prog` or a `goal` precedes.
     fn has_begun(&self) -> bool
         ensures { result ≡ has_begun (state_of self.now) }
     {

@@ -10,7 +10,8 @@ ghost use Rattle.problem_file.specs.Tokens.{AreTokens};
 use text_grammar::{Terminal, syntax_fault_at, terminal_at, terminal_of, text_at};
 use text_tokens::{TextFault, Token};
 
-/// The token at an index, which has to be a name: otherwise `Syntax` at its place, or at `usize::MAX` after the last token.
+/// Returns the token at an index if it is a name. Otherwise fails with `Syntax` at its place, or at `usize::MAX` after
+/// the last token.
 pub fn name_at<'a, 'b>(toks: &'b [Token<'a>], i: usize) -> Result<&'b Token<'a>, TextFault>
     requires tokens { AreTokens toks.now }
     ensures found { IfOk result (λ name. name_at (drop i (lexemes toks.now)) ≡ Ok (record { at = name.now.at; text = name.now.text.now })) }
@@ -27,8 +28,8 @@ pub fn name_at<'a, 'b>(toks: &'b [Token<'a>], i: usize) -> Result<&'b Token<'a>,
     }
 }
 
-/// The number at an index: otherwise `NumberTooWide` at one of 2^64 or more, `Syntax` at any other token, and `Syntax` at
-/// `usize::MAX` after the last token.
+/// Returns the number at an index. Otherwise fails with `NumberTooWide` for a number of 2^64 or more, `Syntax` for any
+/// other token, and `Syntax` at `usize::MAX` after the last token.
 pub fn number_at(toks: &[Token], i: usize) -> Result<u64, TextFault>
     ensures value { result ≡ number_at (drop i (lexemes toks.now)) }
     ensures within { IfOk result (λ n. i < length toks.now) }
@@ -43,7 +44,7 @@ pub fn number_at(toks: &[Token], i: usize) -> Result<u64, TextFault>
     }
 }
 
-// Whether the token at an index goes on with the term before it.
+// Whether the token at an index continues the term before it.
 fn goes_on(toks: &[Token], i: usize) -> bool
     ensures { result ≡ heads (goes_on term) (drop i (lexemes toks.now)) }
 {
@@ -53,7 +54,7 @@ fn goes_on(toks: &[Token], i: usize) -> bool
     )
 }
 
-// The name at an index, where it is a whole term.
+// Returns the name at an index, if it is a whole term.
 pub(crate) fn lone_name<'a>(toks: &[Token<'a>], i: usize) -> Option<&'a str>
     ensures value { option_map (λ text. text.now) result ≡ lone_name (drop i (lexemes toks.now)) }
     ensures within { IfSome result (λ text. i < length toks.now) }

@@ -1,6 +1,6 @@
-//! Phrases of an item that were measured.
+//! Measured phrases of an item.
 
-// What is told of a phrase, and the index at which it begins.
+// The measure of a phrase, and the index at which the phrase begins.
 #[derive(Clone, Copy, Debug)]
 pub(crate) struct Measured<M> {
     pub(crate) measure: M,

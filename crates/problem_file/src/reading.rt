@@ -1,4 +1,4 @@
-//! The text of a problem file, read.
+//! Reads the text of a problem file.
 ghost use Rattle.std.specs.Prelude.{◌≡◌, ◌≤◌, ◌⊎◌, List, map, length, IfOk, IfErr, MatchResult};
 ghost use Rattle.text_tokens.specs.declared.fault.TextFault.TheVariants.{NoMemory as NoRoom};
 ghost use Rattle.text_grammar.specs.Lexemes.{lexemes};
@@ -21,8 +21,8 @@ use crate::syntax::test_syntax;
 use std::alloc::Global;
 use text_tokens::{MAX_LEN, TextFault, Token, tokens};
 
-/// The bytes as a text: otherwise `TooLong` past 1,048,576 bytes, or `NotUtf8` with the length of their longest front that is
-/// UTF-8.
+/// Returns the bytes as a text. Fails with `TooLong` past 1,048,576 bytes, or with `NotUtf8` and the length of the
+/// longest prefix that is valid UTF-8.
 pub fn text_of(bytes: &[u8]) -> Result<&str, TextFault>
     ensures text { IfOk result (λ text. text.now ≡ bytes.now) }
     ensures within { IfOk result (λ text. length text.now ≤ MOST) }
@@ -37,7 +37,8 @@ pub fn text_of(bytes: &[u8]) -> Result<&str, TextFault>
     }
 }
 
-/// The fault as it is told of a text of that length: a `Syntax` past the last token is at the text's end.
+/// Returns the fault as reported for a text of length `len`: a `Syntax` after the last token is placed at the end of
+/// the text.
 pub fn fault_in_text(fault: TextFault, len: usize) -> TextFault
     ensures { result ≡ placed len fault }
 {
@@ -56,7 +57,7 @@ fn walk(alloc: Global, toks: &[Token], limit: GoalLimit) -> Result<ItemReader, T
     Ok(reader)
 }
 
-// The file and the goals after its first, or the first fault of the tokens.
+// Returns the file and the goals after its first, or the first fault of the tokens.
 fn test(alloc: Global, toks: &[Token], limit: GoalLimit) -> Result<(File, Vec<Goal>), TextFault>
     requires tokens { AreTokens toks.now }
     ensures { Makes (Unit {0}) (λ x. (x.0, map goal_tree x.1.items)) result (tested limit (lexemes toks.now)) }
@@ -83,17 +84,17 @@ fn read_files(alloc: Global, bytes: &[u8], limit: GoalLimit) -> Result<(File, Ve
     read_text(alloc, text, limit)
 }
 
-/// What the text of a problem file says. A text that says nothing is refused for its first fault, in this order:
-/// `TooLong` past 1,048,576 bytes; `NotUtf8`; `BadToken`; the first in text order of `Syntax`, of `TooDeep` where more than
-/// 200 are open, and of `NumberTooWide` from 2^64 on; the first fault of the first item that has one (at its keyword
-/// `TwoGoals`, `DoubleName`, `Sort` of a late `width`, `TooMany`; at its tokens `DoubleName`, `UnknownName`, `Sort`,
-/// `TooDeep` through a defined name, `TooMany`; in a program or a goal `NumberTooWide` from 2 to the width on; and last
+/// Reads the text of a problem file. An invalid text is refused with its first fault, in this order: `TooLong` past
+/// 1,048,576 bytes; `NotUtf8`; `BadToken`; the first in text order of `Syntax`, of `TooDeep` if more than 200 are open,
+/// and of `NumberTooWide` from 2^64 on; the first fault of the first item that has one (at its keyword `TwoGoals`,
+/// `DoubleName`, `Sort` of a late `width`, `TooMany`; at its tokens `DoubleName`, `UnknownName`, `Sort`, `TooDeep`
+/// through a defined name, `TooMany`; in a program or a goal `NumberTooWide` from 2 to the width on; and last
 /// `TooLarge`); `NoGoal`.
 pub fn read(alloc: Global, bytes: &[u8]) -> Result<File, TextFault>
-    // The file is what the bytes say; a refusal is `NoMemory` or the first fault of the bytes.
+    // The bytes denote the file; a fault is `NoMemory` or the first fault of the bytes.
     ensures answers { Answers bytes.now result }
 
-    // Bytes that say something fail only when out of memory.
+    // Bytes that denote a file fail only when out of memory.
     ensures only { (f : FileParts) → Reads bytes.now f → IfErr result (λ e. e ≡ NoRoom) }
 {
     match read_files(alloc, bytes, GoalLimit::One) {
@@ -102,14 +103,14 @@ pub fn read(alloc: Global, bytes: &[u8]) -> Result<File, TextFault>
     }
 }
 
-/// What a text says in which `goal` stands one to 64 times: the file with its first goal, and the goals after it in text
-/// order. The other fields of the file are those of the whole text, and all goals count in its total size. It is refused
-/// as `read` refuses, but for `TwoGoals`: a 65th goal is `TooMany` at its keyword.
+/// Reads a text with one to 64 goals: returns the file with its first goal, and the goals after it in text order. The
+/// other fields of the file are those of the whole text, and the total size counts all goals. Refuses as `read` does,
+/// except for `TwoGoals`: a 65th goal is `TooMany` at its keyword.
 pub fn read_all(alloc: Global, bytes: &[u8]) -> Result<(File, Vec<Goal>), TextFault>
-    // What is read is what the bytes say; a refusal is `NoMemory` or the first fault of the bytes.
+    // The bytes denote the file and the goals; a fault is `NoMemory` or the first fault of the bytes.
     ensures answers { MatchResult result (λ x. ReadsAll bytes.now x.0 (map goal_tree x.1.items)) (λ e. (e ≡ NoRoom) ⊎ FirstFaultOfAll bytes.now e) }
 
-    // Bytes that say something fail only when out of memory.
+    // Bytes that denote a file fail only when out of memory.
     ensures only { (f : FileParts) (more : List GoalTree) → ReadsAll bytes.now f more → IfErr result (λ e. e ≡ NoRoom) }
 {
     read_files(alloc, bytes, GoalLimit::Batch)

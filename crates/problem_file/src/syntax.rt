@@ -1,4 +1,4 @@
-//! The test of the syntax of a whole file, which takes no memory.
+//! The syntax check of a whole file, which allocates no memory.
 ghost use Rattle.std.specs.Prelude.{◌≡◌, length, Ok};
 ghost use Rattle.text_grammar.specs.Lexemes.{lexemes};
 ghost use Rattle.text_grammar.specs.Parsed.{Goes};
@@ -14,7 +14,7 @@ use text_grammar::{Context, Scan, read_cond, read_term};
 use text_tokens::{TextFault, Token};
 use while_lang::block_end;
 
-// That a block stands there, and the index after it.
+// Checks that a block begins at an index, and returns the index after it.
 fn measure_block(toks: &[Token], from: usize) -> Result<((), usize), TextFault>
     ensures value { Tells (λ ts m. m) toks.now from result (measure_block checking tt) }
     ensures goes { Goes from (length toks.now) result }
@@ -25,7 +25,7 @@ fn measure_block(toks: &[Token], from: usize) -> Result<((), usize), TextFault>
     }
 }
 
-// Makes nothing of items, and refuses none.
+// Makes nothing from items, and refuses none.
 #[derive(Drop)]
 struct Syntax;
 
@@ -138,8 +138,8 @@ impl ItemReading for Syntax {
     }
 }
 
-// Whether the tokens are items, or the first of `Syntax`, `TooDeep` and `NumberTooWide` in text order. A `Syntax` after
-// the last token has the place `usize::MAX`.
+// Checks that the tokens are items; otherwise fails with the first of `Syntax`, `TooDeep` and `NumberTooWide` in text
+// order. A `Syntax` after the last token has the place `usize::MAX`.
 pub(crate) fn test_syntax(toks: &[Token]) -> Result<(), TextFault>
     requires tokens { AreTokens toks.now }
     ensures { result ≡ scan_file (lexemes toks.now) }

@@ -8,7 +8,8 @@ use goal_forms::failing_run;
 use kat_model::{Cond, Kat, NoMemory, test_without_comparisons};
 use std::alloc::Global;
 
-// That no run of the body from the first condition ends outside the second, as a term that is to be 0.
+// Builds the term of the runs of the body that start where `pre` holds and end where `post` does not. The triple holds
+// if the term is 0.
 pub(crate) fn triple_term(alloc: Global, pre: Cond, body: Kat, post: Cond) -> Result<Kat, NoMemory>
     ensures { IfOk result (λ e. kat_tree e ≡ triple_term (cond_tree pre) (kat_tree body) (cond_tree post)) }
 {

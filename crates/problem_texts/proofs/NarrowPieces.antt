@@ -1,4 +1,4 @@
--- Pieces of narrow programs have no token that is a number of 2 to the width or more.
+-- The pieces of narrow programs have no number token of 2 to the width or more.
 use Rattle.std.proofs.Common.{◌≡◌, ◌<◌, ◌+◌, ℕ, List, [], ◌∷◌, ◌++◌, length, inl, inr, sym, ap, ◌∙◌, subst}
 use Rattle.std.proofs.lemmas.Bool.{cases_eq}
 use Rattle.std.specs.Prelude.{codes}
@@ -25,11 +25,11 @@ use Rattle.problem_texts.specs.ProgramNumbers.{ExprIsNarrow, CondIsNarrow, ProgI
 use Rattle.problem_texts.proofs.ProgramScopes.{below_64}
 
 module _ (v : Width) where
-  -- the tokens of the pieces are narrow, wherever they stand
+  -- the tokens of the pieces are narrow, at any place
   abbrev pub PiecesAreNarrow : List Piece → Type 0
   PiecesAreNarrow ps = (at : ℕ) → AreNarrow v (lexemes_from at ps)
 
-  -- so are those of pieces before such pieces
+  -- these pieces before narrow pieces are narrow
   abbrev pub Keeps : (List Piece → List Piece) → Type 0
   Keeps pieces = (ps : List Piece) → PiecesAreNarrow ps → PiecesAreNarrow (pieces ps)
 

@@ -1,4 +1,4 @@
--- The pieces of a plain text are items, which make what they are to make.
+-- The pieces of a plain text are items with the intended result.
 use Rattle.std.proofs.Common.{◌≡◌, ◌≤◌, ◌<◌, ◌+◌, ℕ, zero, suc, List, [], ◌∷◌, ◌++◌, length, false, refl, sym, ap, ◌∙◌, subst, arith, append_assoc, length-append}
 use Rattle.std.proofs.lemmas.List.{append-nil}
 use Rattle.std.specs.Prelude.{codes}
@@ -28,7 +28,7 @@ use Rattle.problem_texts.specs.Working.Scopes.{IsPlain}
 use Rattle.problem_texts.proofs.PlainScopes.{test_is_new, test_plain, action_is_new, action_plain}
 use Rattle.problem_texts.proofs.PlainPieces.{names_pieces, declaration_pieces, zero_pieces, hyps_pieces, end_pieces, right_pieces, goal_pieces, test_names, action_names, AreIdentifiers}
 
--- the pieces at a place are items that make of this state another, of which P holds
+-- the pieces at place `at` are items that lead from state `s` to a state that satisfies `P`
 pub record AreItems (s : State) (at : ℕ) (ps : List Piece) (P : State → Type 0) : Type 0 where
   pub items : List Item
   pub spells : lexemes_from at ps ≡ spelled items
@@ -50,7 +50,7 @@ abbrev pub AreWritable : ScopeParts → List Term → Type 0
 AreWritable w [] = Unit {0}
 AreWritable w (e ∷ es) = IsWritable w e × AreWritable w es
 
--- these hypotheses more are stated, and this goal
+-- `t` adds the hypotheses `more` and this goal to `s`
 pub record Asks (s : State) (more : List Term) (left right : Term) (t : State) : Type 0 where
   pub tests : t.tests ≡ s.tests
   pub actions : t.actions ≡ s.actions
@@ -123,12 +123,12 @@ hyps_items (e ∷ es) s at left right h l r few room first =
 
 -- ---- declarations
 
--- the names from this place on
+-- the names of a declaration from place `at` on
 abbrev pub names_at : List ℕ → List (List ℕ) → ℕ → Names
 names_at x [] at = one_name (leaf at x)
 names_at x (y ∷ ys) at = more_names (leaf at x) (leaf (at + length x) (codes ",")) (names_at y ys (at + length x + 1 + 1))
 
--- the place of the semicolon after them
+-- the place of the semicolon after the names
 abbrev pub names_stop : List ℕ → List (List ℕ) → ℕ → ℕ
 names_stop x [] at = at + length x
 names_stop x (y ∷ ys) at = names_stop y ys (at + length x + 1 + 1)
@@ -149,7 +149,7 @@ pub actions_are_identifiers : (n k : ℕ) → k + n ≤ 48 → AreIdentifiers (a
 actions_are_identifiers zero k few = tt
 actions_are_identifiers (suc n) k few = (action_identifier k (omega arith), actions_are_identifiers n (k + 1) (omega arith))
 
--- so many tests and actions are declared by their names, and all else is as in a state
+-- `t` declares `n` tests and `m` actions by their names and otherwise equals `s`
 pub record Declares (s : State) (n m : ℕ) (t : State) : Type 0 where
   pub tests : t.tests ≡ n
   pub actions : t.actions ≡ m
@@ -159,7 +159,7 @@ pub record Declares (s : State) (n m : ℕ) (t : State) : Type 0 where
   pub size : t.size ≡ s.size
   pub plain : IsPlain t.world n m
 
--- n tests after the next one
+-- the next test and `n` further tests
 each_test : (n : ℕ) (s : State) (at : ℕ) → s.tests + suc n ≤ 48 → s.actions ≤ 48 → IsPlain s.world s.tests s.actions
     → (t : State) × EachName DeclaresTest s (names_at (plain_name (Test s.tests)) (test_names (s.tests + 1) n) at) t × Declares s (s.tests + suc n) s.actions t
 each_test zero s at few small plain =
@@ -228,7 +228,7 @@ each_action (suc n) s at few small plain =
       },
     )
 
--- what follows the declarations is items, wherever it stands and whatever declares these tests and actions
+-- the pieces after the declarations are items, at any place and in any state that declares these tests and actions
 abbrev Follow : State → ℕ → ℕ → List Piece → (State → Type 0) → Type 0
 Follow s n m ps P = (t : State) (at : ℕ) → Declares s n m t → AreItems t at ps P
 

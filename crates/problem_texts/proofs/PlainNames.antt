@@ -1,4 +1,4 @@
--- The names of tests, actions and variables are identifiers, and tell their numbers.
+-- The names of tests, actions and variables are identifiers and determine their numbers.
 use Rattle.std.proofs.Common.{◌≡◌, ◌<◌, ◌^◌, ◌==◌, ℕ, List, [], ◌∷◌, true, false, get_or, drop, sym, ap, ◌∙◌, refl, arith}
 use Rattle.std.proofs.lemmas.Bool.{and_parts, ne_eqb, true≢false}
 use Rattle.std.proofs.lemmas.Bool.Decides.{nat_tests}
@@ -24,7 +24,7 @@ digits_continue (b ∷ bs) all =
     let parts = and_parts (is_ascii_digit b) (list_all is_ascii_digit bs) all in
     both_true (digit_continues b parts.0) (digits_continue bs parts.1)
 
--- a digit is no such letter
+-- a digit differs from a letter
 no_letter : (b letter : ℕ) → is_ascii_digit b ≡ true → is_ascii_digit letter ≡ false → b ≡ letter → ⊥
 no_letter b letter digit none same = true≢false (sym digit ∙ ap is_ascii_digit same ∙ none)
 
@@ -45,11 +45,11 @@ no_keyword_of_a (b ∷ bs) all =
     let s = ne_eqb b 115 (no_letter b 115 digit refl) in
     rw (c, d, s) refl
 
--- no keyword begins with this letter
+-- no keyword begins with `x`
 no_keyword_of_x : (bs : List ℕ) → list_all is_ascii_digit bs ≡ true → is_keyword (120 ∷ bs) ≡ false
 no_keyword_of_x bs all = refl
 
--- a letter before a number
+-- a letter followed by a number is an identifier
 numbered_identifier : (letter n : ℕ) → begins_word letter ≡ true → ((bs : List ℕ) → list_all is_ascii_digit bs ≡ true → is_keyword (letter ∷ bs) ≡ false) → n < 2 ^ 64 → IsIdentifier (letter ∷ decimal n)
 numbered_identifier letter n begins none small =
     let digits = number_digits (decimal n) (decimal_is_number n small) in
@@ -79,6 +79,6 @@ test_no_action k a e = true≢false (ap (λ (l : List ℕ). get_or l 0 0 == 116)
 pub same_var_number : (j k : ℕ) → j < 2 ^ 64 → k < 2 ^ 64 → var_name (Var j) ≡ var_name (Var k) → j ≡ k
 same_var_number j k small few e = decimal_injective j k small few (ap (drop 1) e)
 
--- no variable is named by another letter alone
+-- no variable has another single letter as its name
 pub var_no_letter : (k letter : ℕ) → (letter == 120) ≡ false → var_name (Var k) ≡ letter ∷ [] → ⊥
 var_no_letter k letter other e = true≢false (ap (λ (l : List ℕ). get_or l 0 0 == 120) e ∙ other)

@@ -1,4 +1,4 @@
--- A phrase in which nothing may compare has no number but 0 and 1.
+-- A phrase in which comparisons are not allowed has no number except 0 and 1.
 use Rattle.std.proofs.Common.{◌≡◌, List, true, false, sym, ◌∙◌}
 use Rattle.std.proofs.lemmas.Bool.{false≢true}
 use Rattle.kat_model.specs.declared.expression.Width.{Width}

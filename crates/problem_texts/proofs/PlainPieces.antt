@@ -1,4 +1,4 @@
--- The pieces of a plain text: they spell it, and none goes on in the next.
+-- The pieces of a plain text spell it, and no piece extends the one before it.
 use Rattle.std.proofs.Common.{◌≡◌, ℕ, List, [], ◌∷◌, ◌++◌, map, refl, sym, ap, ◌∙◌, append_assoc}
 use Rattle.std.specs.Prelude.{codes, flat_map}
 use Rattle.std.specs.List.{range_with_len}
@@ -15,7 +15,7 @@ use Rattle.text_print.proofs.PieceTexts.{term_spells}
 use Rattle.text_print.proofs.Separate.{EndsWords, term_separate}
 use Rattle.problem_texts.specs.Questions.{plain_name, declaration_text, tests_text, actions_text, hyp_text, goal_text, question_text}
 
--- the other names of a declaration, and its end
+-- the further names of a declaration, and its end
 abbrev pub names_pieces : List (List ℕ) → List Piece → List Piece
 names_pieces [] ps = symbol (codes ";") ∷ gap 10 ∷ ps
 names_pieces (name ∷ names) ps = symbol (codes ",") ∷ gap 32 ∷ word name ∷ names_pieces names ps
@@ -24,7 +24,7 @@ abbrev pub declaration_pieces : List ℕ → List (List ℕ) → List Piece → 
 declaration_pieces keyword [] ps = ps
 declaration_pieces keyword (name ∷ names) ps = word keyword ∷ gap 32 ∷ word name ∷ names_pieces names ps
 
--- what follows the term of a hypothesis
+-- the pieces after the term of a hypothesis
 abbrev pub zero_pieces : List Piece → List Piece
 zero_pieces ps = gap 32 ∷ symbol (codes "=") ∷ gap 32 ∷ number (codes "0") ∷ symbol (codes ";") ∷ gap 10 ∷ ps
 
@@ -35,7 +35,7 @@ abbrev pub hyps_pieces : List Term → List Piece → List Piece
 hyps_pieces [] ps = ps
 hyps_pieces (e ∷ es) ps = hyp_pieces e (hyps_pieces es ps)
 
--- what follows the left side of a goal, and its right side
+-- the pieces after the right side of a goal, and those after its left side
 abbrev pub end_pieces : List Piece
 end_pieces = symbol (codes ";") ∷ gap 10 ∷ []
 
@@ -45,7 +45,7 @@ right_pieces right = symbol (codes ",") ∷ gap 32 ∷ term_pieces plain_name ri
 abbrev pub goal_pieces : Term → Term → List Piece
 goal_pieces left right = word (codes "goal") ∷ gap 32 ∷ word (codes "equal") ∷ gap 32 ∷ term_pieces plain_name left (right_pieces right)
 
--- the names of n tests from number k on, and of n actions
+-- the names of `n` tests from number `k` on, and of `n` actions
 abbrev pub test_names : ℕ → ℕ → List (List ℕ)
 test_names k n = map (λ j. plain_name (Test j)) (range_with_len k n)
 
@@ -58,7 +58,7 @@ asked_pieces q = hyps_pieces q.hyps (goal_pieces q.left q.right)
 abbrev pub question_pieces : ProblemParts → List Piece
 question_pieces q = declaration_pieces (codes "test") (test_names 0 q.tests) (declaration_pieces (codes "action") (action_names 0 q.actions) (asked_pieces q))
 
--- ---- what they spell
+-- ---- the texts of the pieces
 
 names_spell : (names : List (List ℕ)) (ps : List Piece) → spelled (names_pieces names ps) ≡ flat_map (λ y. codes ", " ++ y) names ++ (59 ∷ 10 ∷ spelled ps)
 names_spell [] ps = refl
@@ -114,7 +114,7 @@ question_spells q =
     ∙ ap (λ (l : List ℕ). actions_text q.actions ++ l) (hyps_spell q.hyps goal ∙ ap (λ (l : List ℕ). flat_map (hyp_text plain_name) q.hyps ++ l) (goal_spells q.left q.right)))
     ∙ sym (question_regrouped (tests_text q.tests) (actions_text q.actions) (flat_map (hyp_text plain_name) q.hyps) (goal_text plain_name q.left q.right))
 
--- ---- they are separate
+-- ---- the pieces are separate
 
 abbrev pub AreIdentifiers : List (List ℕ) → Type 0
 AreIdentifiers [] = Unit {0}

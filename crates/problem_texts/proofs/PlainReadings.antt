@@ -1,4 +1,4 @@
--- A plain text is read as the question that it is printed from.
+-- A plain text reads as the question that it was printed from.
 use Rattle.std.proofs.Common.{◌≡◌, ◌≤◌, ◌+◌, ℕ, List, [], ◌∷◌, ◌++◌, length, refl, sym, ap, ◌∙◌, subst, arith}
 use Rattle.std.proofs.lemmas.List.Elements.{All-head, All-tail}
 use Rattle.std.specs.Prelude.{codes, All}
@@ -20,7 +20,7 @@ use Rattle.problem_texts.proofs.PlainScopes.{empty_plain, plain_as, term_named}
 use Rattle.problem_texts.proofs.PlainPieces.{declaration_pieces, test_names, action_names, asked_pieces, goal_pieces, question_pieces, question_spells, AreNamed, declaration_separate, hyps_separate, goal_separate}
 use Rattle.problem_texts.proofs.PlainItems.{AreItems, IsWritable, AreWritable, hyps_items, Declares, tests_items, actions_items, tests_are_identifiers, actions_are_identifiers}
 
--- the text of the term is not too deep
+-- the text of the term is within the limit on nesting
 abbrev IsShallow : Term → Type 0
 IsShallow e = term_nesting e ≤ 200
 
@@ -40,13 +40,13 @@ all_named w (e ∷ es) h = (h.0.named, all_named w es h.1)
 same_parts : (q : ProblemParts) (tests actions : ℕ) (hyps : List Term) → tests ≡ q.tests → actions ≡ q.actions → hyps ≡ q.hyps → q ≡ record { tests = tests; actions = actions; hyps = hyps; left = q.left; right = q.right }
 same_parts q tests actions hyps e f g = rw (e, f, g) refl
 
--- the state asks the question, and the pieces after the declarations are separate
+-- the state has the question, and the pieces after the declarations are separate
 record IsAsked (q : ProblemParts) (t : State) : Type 0 where
   goals : t.goals ≡ equal (term_side q.left) (term_side q.right) ∷ []
   question : q ≡ record { tests = t.tests; actions = t.actions; hyps = t.hyps; left = q.left; right = q.right }
   separate : AreSeparate (asked_pieces q)
 
--- what follows the declarations
+-- the pieces after the declarations are items
 asked_items : (q : ProblemParts) → IsPrintable q → (u : State) (at : ℕ) → Declares start_one q.tests q.actions u → AreItems u at (asked_pieces q) (IsAsked q)
 asked_items q printable u at d =
     let problem = printable.problem in

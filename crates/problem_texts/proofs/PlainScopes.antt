@@ -1,4 +1,4 @@
--- The scope that declares the names of tests and actions, and the terms that are printed with them.
+-- The scope that declares the names of tests and actions, and the terms printed with these names.
 use Rattle.std.proofs.Common.{◌≡◌, ◌<◌, ◌≤◌, ◌+◌, ◌^◌, ℕ, List, [], ◌∷◌, ◌++◌, cond, ⊎_elim, inl, inr, Option, Some, None, refl, sym, ap, ◌∙◌, subst, arith}
 use Rattle.std.proofs.lemmas.Bool.{cases_lt}
 use Rattle.std.proofs.lemmas.Option.{none-some, same_Some}
@@ -33,7 +33,7 @@ none_from None h = refl
 none_from (Some m) h = absurd (h m refl)
 
 module _ (w : ScopeParts) (tests actions : ℕ) (few : tests < 2 ^ 64) (small : actions < 2 ^ 64) (plain : IsPlain w tests actions) where
-  -- ---- one test more
+  -- ---- an additional test
 
   test_taken : (m : Meaning) → plain_name (Test tests) ≡ plain_name m → IsOneOf tests actions m → ⊥
   test_taken (Test k) e below = let same : tests ≡ k = same_test_number tests k (omega arith) (omega arith) e in omega arith
@@ -77,7 +77,7 @@ module _ (w : ScopeParts) (tests actions : ℕ) (few : tests < 2 ^ 64) (small : 
             (more.others name');
       }
 
-  -- ---- one action more
+  -- ---- an additional action
 
   action_taken : (m : Meaning) → plain_name (Action actions) ≡ plain_name m → IsOneOf tests actions m → ⊥
   action_taken (Test k) e below = test_no_action k actions (sym e)
@@ -122,7 +122,7 @@ module _ (w : ScopeParts) (tests actions : ℕ) (few : tests < 2 ^ 64) (small : 
       }
 
 module _ (w : ScopeParts) (tests actions : ℕ) (few : tests ≤ 48) (small : actions ≤ 48) (plain : IsPlain w tests actions) where
-  -- ---- what is printed with these names
+  -- ---- terms printed with these names
 
   pub test_named : (k : ℕ) → k < tests → IsNameOf w (plain_name (Test k)) (Test k)
   test_named k below = record { means = plain.tests_mean k below; identifier = test_identifier k (omega arith); only = λ other e. (plain.names other (Test k) e).0 }
@@ -147,7 +147,7 @@ module _ (w : ScopeParts) (tests actions : ℕ) (few : tests ≤ 48) (small : ac
   term_named (product e f) h = (term_named e h.0, term_named f h.1)
   term_named (star e) h = term_named e h
 
-  -- ---- the names that the scope tells are these
+  -- ---- the scope finds these names
 
   test_name_is : (k : ℕ) → k < tests → name_of w (Test k) ≡ plain_name (Test k)
   test_name_is k below = sym (name_is w (Test k) (plain_name (Test k)) (test_named k below))

@@ -1,4 +1,4 @@
--- What is written is the plain text.
+-- The written text is the plain text.
 use Rattle.std.proofs.Common.{◌≡◌, ◌≤◌, ◌+◌, ◌-◌, ℕ, suc, List, [], ◌∷◌, ◌++◌, map, refl, ◌∙◌, arith, append_assoc}
 use Rattle.std.proofs.lemmas.List.{flat_map_more, append-nil}
 use Rattle.std.proofs.lemmas.List.FromFn.{map-range_with_len_more}
@@ -15,14 +15,14 @@ use Rattle.problem_texts.specs.Questions.{declaration_text, hyp_text, goal_text,
 use Rattle.problem_texts.specs.Working.Scopes.{IsPlain}
 use Rattle.problem_texts.proofs.PlainScopes.{plain_as, term_same, hyps_same}
 
--- the text of a term, as the printer writes it
+-- the text of a term as the printer writes it
 pub printed_text : (names : Meaning → List ℕ) (e : Term) (text : List ℕ) → text ≡ spelled (term_pieces names e []) → text ≡ term_text names e
 printed_text names e text h = h ∙ term_spells names e [] ∙ append-nil (term_text names e)
 
 abbrev pub later_names : (ℕ → List ℕ) → ℕ → List ℕ
 later_names f n = flat_map (λ y. codes ", " ++ y) (map f (range_with_len 1 n))
 
--- one name more, after the first
+-- another name after the first
 pub name_more : (f : ℕ → List ℕ) (front out comma new : List ℕ) (k : ℕ) → 1 ≤ k → out ≡ front ++ later_names f (k - 1) → comma ≡ out ++ codes ", " → new ≡ comma ++ f k → new ≡ front ++ later_names f (k + 1 - 1)
 name_more f front out comma new k some so_far with_comma with_name =
     let n = k - 1 in

@@ -1,4 +1,4 @@
--- Pieces of a printable program begin with its block, and those of a printable condition with its phrase.
+-- The pieces of a printable program begin with its block; those of a printable condition begin with its phrase.
 use Rattle.std.proofs.Common.{◌≡◌, ◌≤◌, ◌+◌, ℕ, true, false, List, [], ◌∷◌, refl, ap, subst, arith}
 use Rattle.std.specs.Prelude.{codes}
 use Rattle.kat_model.specs.Expressions.{CondTree}
@@ -27,7 +27,7 @@ use Rattle.problem_file.proofs.Appends.{block_append}
 use Rattle.problem_texts.specs.ProgramTexts.{IsProgPrintable, IsCondPrintable}
 use Rattle.problem_texts.proofs.NarrowPieces.{PiecesAreNarrow, narrow_front, block_narrow}
 
--- the pieces begin with a block of the program, and go on with others
+-- the pieces begin with a block of the program and continue with `ps`
 pub record BeginsBlock (names : Meaning → List ℕ) (w : ScopeParts) (progs : List ProgParts) (v : Width) (p : ProgTree) (at : ℕ) (ps : List Piece) : Type 0 where
   pub phrase : BlockPhrase block
   pub end : ℕ
@@ -63,7 +63,7 @@ block_begins names w progs v vars p named h at ps after =
       deep = ap (λ (k : ℕ). k + 1) a.holds.deep;
     }
 
--- likewise with a phrase of the condition, in braces
+-- likewise for a phrase of the condition, in braces
 pub record BeginsCond (names : Meaning → List ℕ) (w : ScopeParts) (b : CondTree) (at : ℕ) (ps : List Piece) : Type 0 where
   pub phrase : Phrase cond
   pub end : ℕ

@@ -1,4 +1,4 @@
--- Worked examples of texts of programs, written by hand, and what they are read as.
+-- Worked examples of texts of programs, written by hand, and their readings.
 use Rattle.std.proofs.Common.{◌≡◌, ◌≤◌, ◌<◌, ◌==◌, if◌then◌else◌, List, [], ℕ, zero, suc, length, refl, sym, subst, arith}
 use Rattle.std.specs.Prelude.{codes}
 use Rattle.kat_model.specs.declared.limits.TheConstants.{MAX_TEXT_BYTES}
@@ -61,7 +61,7 @@ two_asked = subst (λ (l : List ℕ). AsksOfPrograms l W8 2 two_goal) two_spelle
 
 -- ---- a triple
 
--- a loop that sets a variable to 1, and that the variable is 1
+-- a loop that sets variable 0 to 1, and the condition that the variable is 1
 abbrev sets : ProgTree
 sets = loop_then (compared Lt (variable 0) (number 1)) (assign_then 0 (number 1) empty) empty
 
@@ -113,7 +113,7 @@ abbrev two_names : Meaning → List ℕ
 two_names (Var k) = if k == 0 then codes "n" else codes "pc"
 two_names m = []
 
--- a counter is set, and a loop sets it to 0
+-- a program that sets a counter and then sets it to 0 in a loop
 abbrev stops : ProgTree
 stops = assign_then 1 (plus (variable 0) (number 1)) (loop_then (compared Ne (variable 1) (number 0)) (assign_then 1 (number 0) empty) empty)
 

@@ -1,4 +1,4 @@
--- The pieces of a text of programs are items, which make what they are to make.
+-- The pieces of a text of programs are items with the intended result.
 use Rattle.std.proofs.Common.{◌≡◌, ◌≤◌, ◌<◌, ◌+◌, ℕ, zero, suc, List, [], ◌∷◌, length, slice_get, Some, refl, sym, ap, ◌∙◌, subst, arith}
 use Rattle.std.specs.Prelude.{codes}
 use Rattle.kat_model.specs.Expressions.{CondTree}
@@ -36,7 +36,7 @@ use Rattle.problem_texts.proofs.NarrowPieces.{PiecesAreNarrow, word_narrow, cond
 use Rattle.problem_texts.proofs.ProgramPieces.{var_names, vars_pieces, width_pieces, prog_pieces, equal_pieces, post_end, pre_end, braces_pieces, triple_goal_pieces}
 use Rattle.problem_texts.proofs.ProgramBlocks.{block_begins, cond_begins}
 
--- what follows is items, wherever it stands
+-- the pieces are items at any place
 abbrev Follow : State → List Piece → (State → Type 0) → Type 0
 Follow s ps P = (at : ℕ) → AreItems s at ps P
 
@@ -68,7 +68,7 @@ width_items W64 at ps P follow = width_number_items W64 64 (codes "64") refl ref
 -- ---- variables
 
 module _ (names : Meaning → List ℕ) where
-  -- after the width and so many variables
+  -- the state after the width and `k` variables
   abbrev pub vars_state : Width → ℕ → State
   vars_state w k = record (with_width start_one w) { world = vars_scope names k; vars = k }
 
@@ -79,7 +79,7 @@ module _ (names : Meaning → List ℕ) where
   vars_are_identifiers zero k v e are = tt
   vars_are_identifiers (suc n) k v e are = (are.identifiers k (omega arith), vars_are_identifiers n (k + 1) v (omega arith) are)
 
-  -- n variables after the next one, m in all
+  -- the next variable and `n` further ones, `m` in all
   each_var : (n : ℕ) (w : Width) (k m at : ℕ) → k + suc n ≡ m → m ≤ 64 → AreVarNames names m → EachName DeclaresVar (vars_state w k) (names_at (names (Var k)) (var_names names (k + 1) n) at) (vars_state w m)
   each_var zero w k m at e few are = (next_is_new names k (fewer_names names m (suc k) (omega arith) are), omega arith, next_vars w k m (omega arith))
   each_var (suc n) w k m at e few are =
@@ -108,7 +108,7 @@ module _ (names : Meaning → List ℕ) where
 
 -- ---- programs
 
--- after one program more
+-- the state after an additional program
 abbrev pub prog_state : State → List ℕ → ProgTree → State
 prog_state s name p = add_prog (grown s (prog_size p)) name p (block_levels p)
 
@@ -141,7 +141,7 @@ prog_items names s v vars name p same identifier new named h room at ps P narrow
       holds = rest.holds;
     }
 
--- the phrase that is a name alone
+-- the phrase that consists of a name
 abbrev name_phrase : ℕ → List ℕ → Phrase term
 name_phrase at name = one_prod (one_star (bare (name_unit (leaf at name))))
 

@@ -1,4 +1,4 @@
--- The pieces of texts of programs: they spell them, and none goes on in the next.
+-- The pieces of a text of programs spell it, and no piece extends the one before it.
 use Rattle.std.proofs.Common.{◌≡◌, ℕ, List, [], ◌∷◌, ◌++◌, map, refl, sym, ap, ◌∙◌, append_assoc}
 use Rattle.std.specs.Prelude.{codes}
 use Rattle.std.specs.List.{range_with_len}
@@ -21,14 +21,14 @@ use Rattle.while_lang.proofs.SeparatePrograms.{open_alone, semicolon_ends, block
 use Rattle.problem_texts.specs.ProgramTexts.{width_text, vars_text, prog_text, equal_text, one_program_text, var_name, programs_text, triple_text}
 use Rattle.problem_texts.proofs.PlainPieces.{declaration_pieces, declaration_spells, declaration_separate, AreIdentifiers}
 
--- the names of n variables from number k on
+-- the names of `n` variables from number `k` on
 abbrev pub var_names : (Meaning → List ℕ) → ℕ → ℕ → List (List ℕ)
 var_names names k n = map (λ j. names (Var j)) (range_with_len k n)
 
 abbrev pub vars_pieces : (Meaning → List ℕ) → ℕ → List Piece → List Piece
 vars_pieces names n ps = declaration_pieces (codes "var") (var_names names 0 n) ps
 
--- the number of bits, as it is written
+-- the number of bits in decimal
 abbrev pub bits_text : Width → List ℕ
 bits_text W8 = codes "8"
 bits_text W16 = codes "16"
@@ -41,12 +41,12 @@ width_pieces w ps = word (codes "width") ∷ gap 32 ∷ number (bits_text w) ∷
 abbrev pub prog_pieces : (Meaning → List ℕ) → List ℕ → ProgTree → List Piece → List Piece
 prog_pieces names name p ps = word (codes "prog") ∷ gap 32 ∷ word name ∷ gap 32 ∷ block_pieces names p (gap 10 ∷ ps)
 
--- the goal that the programs of two names are equal
+-- the goal that two named programs are equal
 abbrev pub equal_pieces : List ℕ → List ℕ → List Piece
 equal_pieces left right =
     word (codes "goal") ∷ gap 32 ∷ word (codes "equal") ∷ gap 32 ∷ word left ∷ symbol (codes ",") ∷ gap 32 ∷ word right ∷ symbol (codes ";") ∷ gap 10 ∷ []
 
--- what follows the second condition of a triple, what follows the first, and the triple
+-- the pieces after the second condition of a triple, those after the first, and the triple
 abbrev pub post_end : List Piece
 post_end = symbol (codes "}") ∷ symbol (codes ";") ∷ gap 10 ∷ []
 
@@ -59,7 +59,7 @@ braces_pieces b c = symbol (codes "{") ∷ cond_pieces var_name b (pre_end c)
 abbrev pub triple_goal_pieces : CondTree → CondTree → List Piece
 triple_goal_pieces b c = word (codes "goal") ∷ gap 32 ∷ word (codes "triple") ∷ gap 32 ∷ braces_pieces b c
 
--- the items of a text up to its programs
+-- the items of a text before its programs
 abbrev pub header_pieces : (Meaning → List ℕ) → Width → ℕ → List Piece → List Piece
 header_pieces names w v ps = width_pieces w (vars_pieces names v ps)
 
@@ -72,7 +72,7 @@ programs_pieces w v p q = header_pieces var_name w v (prog_pieces var_name (code
 abbrev pub triple_pieces : Width → ℕ → CondTree → ProgTree → CondTree → List Piece
 triple_pieces w v b p c = header_pieces var_name w v (prog_pieces var_name (codes "P") p (triple_goal_pieces b c))
 
--- ---- what they spell
+-- ---- the texts of the pieces
 
 width_spells : (w : Width) (ps : List Piece) → spelled (width_pieces w ps) ≡ width_text w ++ spelled ps
 width_spells W8 ps = refl
@@ -80,7 +80,7 @@ width_spells W16 ps = refl
 width_spells W32 ps = refl
 width_spells W64 ps = refl
 
--- the header is before what follows it
+-- the header precedes the rest of the text
 header_spells : (names : Meaning → List ℕ) (w : Width) (v : ℕ) (ps : List Piece) (text : List ℕ) → spelled ps ≡ text → spelled (header_pieces names w v ps) ≡ width_text w ++ (vars_text names v ++ text)
 header_spells names w v ps text e =
     width_spells w (vars_pieces names v ps)
@@ -149,7 +149,7 @@ triple_spells w v b p c =
     header_spells var_name w v first (prog_text var_name (codes "P") p ++ asked) (prog_spells var_name (codes "P") p goal asked (goal_spells b c))
     ∙ sym (triple_regrouped (width_text w) (vars_text var_name v) (prog_text var_name (codes "P") p) (cond_text var_name b) (cond_text var_name c))
 
--- ---- they are separate
+-- ---- the pieces are separate
 
 close_ends : (ps : List Piece) → EndsWords (symbol (codes "}") ∷ ps)
 close_ends ps = record { name = λ b. refl; number = λ b. refl }

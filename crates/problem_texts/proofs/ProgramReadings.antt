@@ -1,4 +1,4 @@
--- A text of programs is read as the goal that it is printed from.
+-- A text of programs reads as the goal that it was printed from.
 use Rattle.std.proofs.Common.{◌≡◌, ◌≤◌, ◌+◌, ◌==◌, false, ℕ, List, [], ◌∷◌, length, get_or, slice_get, Some, refl, sym, ap, ◌∙◌, subst, arith}
 use Rattle.std.specs.Prelude.{codes}
 use Rattle.std.specs.Option.{option_map}
@@ -28,7 +28,7 @@ use Rattle.problem_texts.proofs.NarrowPieces.{PiecesAreNarrow, block_narrow}
 use Rattle.problem_texts.proofs.ProgramPieces.{vars_pieces, prog_pieces, equal_pieces, triple_goal_pieces, one_program_pieces, programs_pieces, triple_pieces, one_program_spells, programs_spell, triple_spells, header_separate, p_identifier, q_identifier, equal_separate, prog_separate, triple_separate}
 use Rattle.problem_texts.proofs.ProgramItems.{width_items, vars_state, vars_are_identifiers, vars_items, prog_state, prog_items, HasProg, equal_state, equal_items, equal_narrow, triple_narrow, triple_state, triple_items}
 
--- what is read of pieces that are items
+-- the reading of pieces that are items
 read_as : (pieces : List Piece) (text : List ℕ) (w : Width) (v : ℕ) (final : State) (goal : GoalTree) → spelled pieces ≡ text → AreSeparate pieces → length text ≤ MAX_LEN → AreItems start_one 0 pieces (λ t. t ≡ final)
     → slice_get final.goals 0 ≡ Some goal → width_of final ≡ w → final.vars ≡ v → rounds_of final ≡ 1 → IsConcrete (file_of final goal) → AsksOfPrograms text w v goal
 read_as pieces text w v final goal is separate short made asked width vars rounds concrete = record {
@@ -55,7 +55,7 @@ read_as pieces text w v final goal is separate short made asked width vars round
 
 -- ---- the scopes
 
--- with one program
+-- the scope with one program
 abbrev with_prog : (Meaning → List ℕ) → ℕ → List ℕ → ScopeParts
 with_prog names v name = declared (vars_scope names v) name (Prog 0)
 
@@ -109,14 +109,14 @@ module _ (names : Meaning → List ℕ) (w : Width) (v : ℕ) (name : List ℕ) 
 
 -- ---- the plainest names
 
--- with one program, and with two
+-- the scopes with one program and with two
 abbrev p_scope : ℕ → ScopeParts
 p_scope v = with_prog var_name v (codes "P")
 
 abbrev pq_scope : ℕ → ScopeParts
 pq_scope v = declared (p_scope v) (codes "Q") (Prog 1)
 
--- a letter is no other
+-- different letters are different names
 letters_apart : (a b : ℕ) → (a ≡ b → ⊥) → a ∷ [] ≡ b ∷ [] → ⊥
 letters_apart a b other e = other (ap (λ (l : List ℕ). get_or l 0 0) e)
 
@@ -126,7 +126,7 @@ q_no_p e = letters_apart 81 80 (λ same. omega arith) e
 p_no_q : codes "P" ≡ codes "Q" → ⊥
 p_no_q e = letters_apart 80 81 (λ same. omega arith) e
 
--- a letter that is no x is no variable
+-- a letter other than `x` is not a variable
 letter_is_new : (v letter : ℕ) → v ≤ 64 → (letter == 120) ≡ false → IsUndeclared (vars_scope var_name v) (letter ∷ [])
 letter_is_new v letter few other = name_is_new var_name (vars_scope var_name v) v (letter ∷ []) (vars_known var_name v (plain_names v few)) (λ k below. var_no_letter k letter other)
 

@@ -1,4 +1,4 @@
--- The scopes of texts of programs, and the programs that are printed with their names.
+-- The scopes of texts of programs, and the programs printed with their names.
 use Rattle.std.proofs.Common.{◌≡◌, ◌<◌, ◌≤◌, ◌^◌, ℕ, zero, suc, List, [], Bool, true, false, ⊎_elim, inl, inr, refl, sym, ap, ◌∙◌, subst, arith}
 use Rattle.std.proofs.lemmas.Bool.{cases_lt, true≢false}
 use Rattle.std.proofs.lemmas.Option.{none-some, same_Some}
@@ -24,14 +24,14 @@ use Rattle.problem_texts.proofs.PlainScopes.{none_from}
 
 -- ---- variables
 
--- fewer variables have such names too
+-- the names of fewer variables are such names too
 pub fewer_names : (names : Meaning → List ℕ) (v u : ℕ) → u ≤ v → AreVarNames names v → AreVarNames names u
 fewer_names names v u le h = record {
   identifiers = λ k lt. h.identifiers k (omega (arith, lt, le));
   apart = λ j k lj lk e. h.apart j k (omega (arith, lj, le)) (omega (arith, lk, le)) e;
 }
 
--- the names x0, x1, .. are such
+-- x0, x1, .. are such names
 pub plain_names : (v : ℕ) → v ≤ 64 → AreVarNames var_name v
 plain_names v few = record {
   identifiers = λ k lt. var_identifier k (omega (arith, lt, few));
@@ -39,7 +39,7 @@ plain_names v few = record {
 }
 
 module _ (names : Meaning → List ℕ) where
-  -- the scope of so many variables
+  -- the scope of a number of variables
   abbrev pub vars_scope : ℕ → ScopeParts
   vars_scope zero = empty_scope
   vars_scope (suc n) = declared (vars_scope n) (names (Var n)) (Var n)
@@ -48,7 +48,7 @@ module _ (names : Meaning → List ℕ) where
   no_terms zero = refl
   no_terms (suc n) = no_terms n
 
-  -- the scope declares the names of so many variables, and no others
+  -- the scope declares the names of `v` variables and no others
   pub record IsOfVars (w : ScopeParts) (v : ℕ) : Type 0 where
     pub means : (k : ℕ) → k < v → Means w (names (Var k)) (Var k)
     pub names_only : (name : List ℕ) (m : Meaning) → Means w name m → (k : ℕ) × (k < v) × (name ≡ names (Var k)) × (m ≡ Var k)
@@ -59,14 +59,14 @@ module _ (names : Meaning → List ℕ) where
     names_only = λ name m e. absurd (none-some m (sym (get-empty (slice_cmp nat_cmp) name) ∙ e));
   }
 
-  -- no name of the variables is there
+  -- a name that is not a variable's is undeclared
   pub name_is_new : (w : ScopeParts) (v : ℕ) (name : List ℕ) → IsOfVars w v → ((k : ℕ) → k < v → names (Var k) ≡ name → ⊥) → IsUndeclared w name
   name_is_new w v name h none = none_from (meaning w name) (λ m e. let old = h.names_only name m e in none old.0 old.1 (sym old.2))
 
   var_is_new : (w : ScopeParts) (v : ℕ) → AreVarNames names (suc v) → IsOfVars w v → IsUndeclared w (names (Var v))
   var_is_new w v are h = name_is_new w v (names (Var v)) h (λ k below e. let same : k ≡ v = are.apart k v (omega arith) (omega arith) e in omega arith)
 
-  -- one variable more
+  -- an additional variable
   more_vars : (w : ScopeParts) (v : ℕ) → AreVarNames names (suc v) → IsOfVars w v → IsOfVars (declared w (names (Var v)) (Var v)) (suc v)
   more_vars w v are h =
       let name = names (Var v) in
@@ -95,7 +95,7 @@ module _ (names : Meaning → List ℕ) where
   pub next_is_new : (v : ℕ) → AreVarNames names (suc v) → IsUndeclared (vars_scope v) (names (Var v))
   next_is_new v are = var_is_new (vars_scope v) v are (vars_known v (fewer_names names (suc v) v (omega arith) are))
 
-  -- each of the variables has its name
+  -- each of the first `v` variables has its only name
   abbrev pub VarsNamed : ScopeParts → ℕ → Type 0
   VarsNamed w v = (k : ℕ) → k < v → IsNameOf w (names (Var k)) (Var k)
 
@@ -116,7 +116,7 @@ prog_no_var : (i k : ℕ) → Prog i ≡ Var k → ⊥
 unfolding is_prog
 prog_no_var i k e = true≢false (ap is_prog e)
 
--- one name more changes no other
+-- an additional name does not change the meaning of another
 pub kept : (w : ScopeParts) (name other : List ℕ) (m : Meaning) → (other ≡ name → ⊥) → meaning (declared w name m) other ≡ meaning w other
 kept w name other m apart =
     ⊎_elim
@@ -127,7 +127,7 @@ kept w name other m apart =
 pub declared_means : (w : ScopeParts) (name : List ℕ) (m : Meaning) → Means (declared w name m) name m
 declared_means w name m = (insert_extends w.meanings name m).here
 
--- variables have their names beside one program more
+-- variables keep their names when a program is added
 pub still_named : (names : Meaning → List ℕ) (w : ScopeParts) (v : ℕ) (name : List ℕ) (i : ℕ) → IsUndeclared w name → VarsNamed names w v → VarsNamed names (declared w name (Prog i)) v
 still_named names w v name i new h k below =
     let more = insert_extends w.meanings name (Prog i) in
@@ -142,7 +142,7 @@ still_named names w v name i new h k below =
           (more.others other);
     }
 
--- ---- what is printed with these names
+-- ---- programs printed with these names
 
 pub below_64 : (v : Width) (n : ℕ) → n < modulus v → n < 2 ^ 64
 below_64 W8 n lt = let h : n < 256 = lt in omega arith

@@ -1,4 +1,4 @@
--- The scopes of plain names are plain, and each is that of one name more.
+-- The scopes of plain names are plain, and each adds one name to the previous one.
 use Rattle.std.proofs.Common.{◌≡◌, ◌<◌, ◌≤◌, ◌+◌, ◌^◌, ℕ, zero, suc, Result, Ok, Err, IfOk, refl, sym, ap, subst, arith}
 use Rattle.text_scopes.specs.declared.meaning.Meaning.TheVariants.{Test, Action}
 use Rattle.text_scopes.specs.ScopeParts.{ScopeParts, declared}
@@ -20,7 +20,7 @@ pub plain_from : {E : Type 0} (tests actions : ℕ) → tests ≤ 48 → actions
 plain_from tests actions few small (Ok w) e = subst (λ (v : ScopeParts). IsPlain v tests actions) (sym e) (numbered_plain tests actions (omega arith) (omega arith))
 plain_from tests actions few small (Err e) h = tt
 
--- one test more, and one action more
+-- an additional test, and an additional action
 pub tests_scope-more : (k : ℕ) → declared (tests_scope k) (plain_name (Test k)) (Test k) ≡ tests_scope (k + 1)
 tests_scope-more k = let e : suc k ≡ k + 1 = omega arith in ap tests_scope e
 

@@ -1,4 +1,5 @@
--- Worked examples of what a text says: its items with the places of their tokens, and the state that they make, written by hand.
+-- Worked examples of readings, written by hand: the items of a text with the places of their tokens, and the resulting
+-- state.
 use Rattle.std.proofs.Common.{ℕ, List, [], ◌∷◌, None, true, false, refl, sym, ◌∙◌, subst, arith}
 use Rattle.std.specs.Prelude.{codes}
 use Rattle.std.specs.Ordering.{nat_cmp}

@@ -1,4 +1,4 @@
--- What a plain text is read as.
+-- The reading of a plain text.
 use Rattle.std.specs.Prelude.{◌≡◌, ◌<◌, ℕ, List, Some}
 use Rattle.std.specs.Option.{option_map}
 use Rattle.kat_model.specs.Problems.{ProblemParts}
@@ -11,14 +11,15 @@ use Rattle.problem_file.specs.Concrete.{IsConcrete}
 use Rattle.problem_file.specs.Files.{term_side, prog_side, GoalTree, equal, FileParts, prog_named}
 use Rattle.problem_file.specs.Reads.{Reads}
 
--- the text says a goal `equal`, and the question is of its two sides, over what the text declares and states
+-- the text reads as a file with a goal `equal`; `q` is the question about its two sides, with the file's declarations
+-- and hypotheses
 pub record AsksEqual (text : List ℕ) (q : ProblemParts) : Type 0 where
   pub file : FileParts
   pub reads : Reads text file
   pub goal : file.goal ≡ equal (term_side q.left) (term_side q.right)
   pub question : q ≡ record { tests = file.tests; actions = file.actions; hyps = file.hyps; left = q.left; right = q.right }
 
--- the text says this goal about programs, over so many variables of a width and nothing else
+-- the text reads as a file with this goal about programs, over `v` variables of width `w`, and nothing else
 pub record AsksOfPrograms (text : List ℕ) (w : Width) (v : ℕ) (asked : GoalTree) : Type 0 where
   pub file : FileParts
   pub reads : Reads text file
@@ -28,7 +29,8 @@ pub record AsksOfPrograms (text : List ℕ) (w : Width) (v : ℕ) (asked : GoalT
   pub concrete : IsConcrete file
   pub goal : file.goal ≡ asked
 
--- the text says this program, of a width and over variables with these names, and equates it with itself
+-- the text reads as a file with this program, of width `w` over variables with these names, and the goal that it equals
+-- itself
 pub record SaysProgram (text : List ℕ) (names : Meaning → List ℕ) (w : Width) (v : ℕ) (name : List ℕ) (p : ProgTree) : Type 0 where
   pub asks : AsksOfPrograms text w v (equal (prog_side p) (prog_side p))
   pub variables : (k : ℕ) → k < v → Means asks.file.scope (names (Var k)) (Var k)

@@ -1,4 +1,4 @@
--- The numbers in programs of a width.
+-- Programs whose numbers fit a width.
 use Rattle.std.specs.Prelude.{◌<◌}
 use Rattle.kat_model.specs.Expressions.{ExprTree, number, variable, plus, minus, times, CondTree, always, never, named, compared, negation, both, either}
 use Rattle.kat_model.specs.declared.expression.Width.{Width}
@@ -13,7 +13,7 @@ ExprIsNarrow w (plus e f) = ExprIsNarrow w e × ExprIsNarrow w f
 ExprIsNarrow w (minus e f) = ExprIsNarrow w e × ExprIsNarrow w f
 ExprIsNarrow w (times e f) = ExprIsNarrow w e × ExprIsNarrow w f
 
--- of the condition
+-- likewise for a condition
 abbrev pub CondIsNarrow : Width → CondTree → Type 0
 CondIsNarrow w always = Unit {0}
 CondIsNarrow w never = Unit {0}
@@ -23,7 +23,7 @@ CondIsNarrow w (negation b) = CondIsNarrow w b
 CondIsNarrow w (both b c) = CondIsNarrow w b × CondIsNarrow w c
 CondIsNarrow w (either b c) = CondIsNarrow w b × CondIsNarrow w c
 
--- and of the program
+-- likewise for a program
 abbrev pub ProgIsNarrow : Width → ProgTree → Type 0
 ProgIsNarrow w empty = Unit {0}
 ProgIsNarrow w (skip_then rest) = ProgIsNarrow w rest

@@ -1,5 +1,5 @@
--- The plainest texts of a goal about two programs over variables, and of a triple of one, as
--- `width 8; var x0; prog P { x0 := 1; } prog Q { skip; } goal equal P, Q;`, an item a line; and the text of one program over
+-- The plainest texts of a goal about two programs over variables, and of a triple of one program, such as `width 8; var
+-- x0; prog P { x0 := 1; } prog Q { skip; } goal equal P, Q;`, with one item a line; and the text of one program over
 -- variables of any names.
 use Rattle.std.specs.Prelude.{◌≡◌, ◌≤◌, ◌<◌, ◌+◌, ℕ, List, [], ◌++◌, length, map, codes}
 use Rattle.std.specs.List.{range_with_len}
@@ -29,7 +29,7 @@ width_text W16 = codes "width 16;\n"
 width_text W32 = codes "width 32;\n"
 width_text W64 = codes "width 64;\n"
 
--- `var x0, x1;`, so many variables; nothing where there is none
+-- `var x0, x1;` for `n` variables, or empty if there are none
 abbrev pub vars_text : (Meaning → List ℕ) → ℕ → List ℕ
 vars_text names n = declaration_text (codes "var") (map (λ k. names (Var k)) (range_with_len 0 n))
 
@@ -41,7 +41,7 @@ prog_text names name p = codes "prog " ++ name ++ codes " " ++ spelled (block_pi
 abbrev pub equal_text : List ℕ → List ℕ → List ℕ
 equal_text left right = codes "goal equal " ++ left ++ codes ", " ++ right ++ codes ";\n"
 
--- the text of one program of a width and of so many variables, which it equates with itself
+-- the text of one program of width `w` over `v` variables, with the goal that it equals itself
 abbrev pub one_program_text : (Meaning → List ℕ) → Width → ℕ → List ℕ → ProgTree → List ℕ
 one_program_text names w v name p = width_text w ++ vars_text names v ++ prog_text names name p ++ equal_text name name
 
@@ -52,20 +52,20 @@ abbrev pub var_name : Meaning → List ℕ
 var_name (Var k) = codes "x" ++ decimal k
 var_name _ = []
 
--- the text that asks whether two programs of a width and of so many variables are equal
+-- the text with the goal that two programs of width `w` over `v` variables are equal
 abbrev pub programs_text : Width → ℕ → ProgTree → ProgTree → List ℕ
 programs_text w v p q =
     width_text w ++ vars_text var_name v ++ prog_text var_name (codes "P") p ++ prog_text var_name (codes "Q") q ++ codes "goal equal P, Q;\n"
 
--- and the text that asks for a triple of one program
+-- the text with a triple of one program as its goal
 abbrev pub triple_text : Width → ℕ → CondTree → ProgTree → CondTree → List ℕ
 triple_text w v b p c =
     width_text w ++ vars_text var_name v ++ prog_text var_name (codes "P") p ++ codes "goal triple {" ++ cond_text var_name b ++ codes "} P {" ++ cond_text var_name c ++ codes "};\n"
 
 -- ---- limits
 
--- the program has no named test, no action and only the first v variables, its numbers are below 2 to the width, and it is
--- within the limits of a text: of nodes in an expression, of nodes, and of constructs that are open at one place
+-- the program has no named test, no action and only the first `v` variables; its numbers are below 2 to the width; and
+-- it is within the limits of a text on nodes in an expression, on nodes, and on open constructs
 pub record IsProgPrintable (w : Width) (v : ℕ) (p : ProgTree) : Type 0 where
   pub in_range : IsProgInRange 0 0 v p
   pub narrow : ProgIsNarrow w p
@@ -73,7 +73,7 @@ pub record IsProgPrintable (w : Width) (v : ℕ) (p : ProgTree) : Type 0 where
   pub small : prog_size p ≤ MAX_TERM_NODES
   pub shallow : block_levels p ≤ MAX_OPEN
 
--- likewise the condition, which stands in braces
+-- likewise for a condition, which is in braces
 pub record IsCondPrintable (w : Width) (v : ℕ) (b : CondTree) : Type 0 where
   pub in_range : IsCondInRange 0 v b
   pub narrow : CondIsNarrow w b
@@ -81,13 +81,13 @@ pub record IsCondPrintable (w : Width) (v : ℕ) (b : CondTree) : Type 0 where
   pub small : cond_size b ≤ MAX_TERM_NODES
   pub shallow : 1 + cond_nesting b ≤ MAX_OPEN
 
--- each of so many variables has an identifier as its name, and no two have one name
+-- each of the `v` variables has an identifier as its name, and no two have the same name
 pub record AreVarNames (names : Meaning → List ℕ) (v : ℕ) : Type 0 where
   pub identifiers : (k : ℕ) → k < v → IsIdentifier (names (Var k))
   pub apart : (j k : ℕ) → j < v → k < v → names (Var j) ≡ names (Var k) → j ≡ k
 
--- a program of at most 64 variables that have such names, under a name that none of them has, and its text, of which the
--- bytes have a limit too
+-- a program of at most 64 variables with such names, under a name that differs from theirs; its text is within the
+-- limit on bytes
 pub record IsOnePrintable (names : Meaning → List ℕ) (w : Width) (v : ℕ) (name : List ℕ) (p : ProgTree) : Type 0 where
   pub vars : v ≤ 64
   pub var_names : AreVarNames names v
@@ -96,14 +96,14 @@ pub record IsOnePrintable (names : Meaning → List ℕ) (w : Width) (v : ℕ) (
   pub program : IsProgPrintable w v p
   pub short : length (one_program_text names w v name p) ≤ MAX_TEXT_BYTES
 
--- two programs of at most 64 variables, and their plainest text
+-- two programs of at most 64 variables, with a plainest text within the limit on bytes
 pub record ArePrintable (w : Width) (v : ℕ) (p q : ProgTree) : Type 0 where
   pub vars : v ≤ 64
   pub left : IsProgPrintable w v p
   pub right : IsProgPrintable w v q
   pub short : length (programs_text w v p q) ≤ MAX_TEXT_BYTES
 
--- and a triple of one
+-- likewise for a triple of one program
 pub record IsTriplePrintable (w : Width) (v : ℕ) (b : CondTree) (p : ProgTree) (c : CondTree) : Type 0 where
   pub vars : v ≤ 64
   pub pre : IsCondPrintable w v b

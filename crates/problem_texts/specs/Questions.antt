@@ -1,4 +1,5 @@
--- The plainest text that asks a question, as `test t0; action a0; hyp t0 = 0; goal equal (t0.a0), a0;`, an item a line.
+-- The plainest text that asks a question, such as `test t0; action a0; hyp t0 = 0; goal equal (t0.a0), a0;`, with one
+-- item a line.
 use Rattle.std.specs.Prelude.{◌≤◌, ℕ, List, [], ◌∷◌, ◌++◌, length, map, codes, All, flat_map}
 use Rattle.std.specs.List.{join_by, range_with_len}
 use Rattle.std.specs.Fmt.{decimal}
@@ -15,12 +16,12 @@ plain_name (Test k) = codes "t" ++ decimal k
 plain_name (Action a) = codes "a" ++ decimal a
 plain_name _ = []
 
--- the keyword and the names with commas between, as `test t0, t1;`; nothing where there is no name
+-- the keyword and the names, separated by commas, such as `test t0, t1;`; empty without names
 abbrev pub declaration_text : List ℕ → List (List ℕ) → List ℕ
 declaration_text keyword [] = []
 declaration_text keyword (name ∷ names) = keyword ++ codes " " ++ join_by (λ x. x) (codes ", ") (name ∷ names) ++ codes ";\n"
 
--- so many tests, and so many actions
+-- the declarations of `n` tests and of `n` actions
 abbrev pub tests_text : ℕ → List ℕ
 tests_text n = declaration_text (codes "test") (map (λ k. plain_name (Test k)) (range_with_len 0 n))
 
@@ -39,8 +40,7 @@ goal_text names left right = codes "goal equal " ++ term_text names left ++ code
 abbrev pub question_text : ProblemParts → List ℕ
 question_text q = tests_text q.tests ++ actions_text q.actions ++ flat_map (hyp_text plain_name) q.hyps ++ goal_text plain_name q.left q.right
 
--- the question is a problem, and its text is within the limits of a text: of hypotheses, of constructs that are open at
--- one place, and of bytes
+-- the question is a problem, and its text is within the limits on hypotheses, on open constructs, and on bytes
 pub record IsPrintable (q : ProblemParts) : Type 0 where
   pub problem : IsProblem q
   pub hyps : length q.hyps ≤ MAX_HYPS

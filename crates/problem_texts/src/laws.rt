@@ -10,24 +10,24 @@ ghost use Rattle.problem_texts.specs.Questions.{question_text, IsPrintable};
 ghost use Rattle.problem_texts.specs.ProgramTexts.{one_program_text, programs_text, triple_text, IsOnePrintable, ArePrintable, IsTriplePrintable};
 ghost use Rattle.problem_texts.specs.Laws.{AsksEqual, AsksOfPrograms, SaysProgram};
 
-/// The plain text of a question that is within the limits of a text is read as exactly that question.
+/// The plain text of a question reads back as exactly that question, if it is within the limits of a text.
 pub fn plain_texts_read_back()
     ensures { (q : ProblemParts) → IsPrintable q → AsksEqual (question_text q) q }
 {}
 
-/// The plain text of two programs that are within the limits of a text is read as the goal that they are equal, in a file
-/// of that width and so many variables, without tests, actions, terms and hypotheses.
+/// The plain text of two programs reads back as the goal that they are equal, if it is within the limits of a text. The
+/// file has that width and number of variables, and no tests, actions, terms or hypotheses.
 pub fn plain_programs_read_back()
     ensures { (w : Width) (v : ℕ) (p q : ProgTree) → ArePrintable w v p q → AsksOfPrograms (programs_text w v p q) w v (equal (prog_side p) (prog_side q)) }
 {}
 
-/// The plain text of a triple of a program is likewise read as the goal of that triple.
+/// The plain text of a triple of a program reads back likewise as the goal of that triple.
 pub fn plain_triples_read_back()
     ensures { (w : Width) (v : ℕ) (b : CondTree) (p : ProgTree) (c : CondTree) → IsTriplePrintable w v b p c → AsksOfPrograms (triple_text w v b p c) w v (triple b (prog_side p) c) }
 {}
 
-/// The text of one program over variables of any names, which is within the limits of a text, is read as a file of that
-/// width and of those variables that has that program under its name, and nothing else.
+/// The text of one program over variables of any names reads back as a file of that width and those variables, with
+/// that program under its name and nothing else, if it is within the limits of a text.
 pub fn named_programs_read_back()
     ensures { (names : Meaning → List ℕ) (w : Width) (v : ℕ) (name : List ℕ) (p : ProgTree) → IsOnePrintable names w v name p
         → SaysProgram (one_program_text names w v name p) names w v name p }

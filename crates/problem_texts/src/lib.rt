@@ -1,6 +1,6 @@
-//! The plainest text that asks a question: tests `t0`, `t1`, .., actions `a0`, `a1`, .., hypotheses, and a goal `equal`; the
-//! plainest texts of goals about programs over variables `x0`, `x1` and so on; and the text of one program over variables of
-//! any names.
+//! The plainest text that asks a question, with tests `t0`, `t1`, .., actions `a0`, `a1`, .., hypotheses, and a goal
+//! `equal`; the plainest texts of goals about programs over variables `x0`, `x1`, ..; and the text of one program over
+//! variables of any names.
 #![tactic(auto)]
 
 mod laws;

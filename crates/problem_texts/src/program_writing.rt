@@ -1,5 +1,5 @@
-//! The text of one program, with the names of a scope. Each function fails only when out of memory, and may then have
-//! written a part.
+//! Writes the text of one program with the names of a scope. Each function fails only when out of memory; a part may
+//! then be written.
 ghost use Rattle.std.specs.Prelude.{◌≡◌, ◌++◌, OnOk, IfOk};
 ghost use Rattle.text_print.specs.Printing.{name_of};
 ghost use Rattle.problem_texts.specs.ProgramTexts.{width_text, vars_text, prog_text, equal_text, one_program_text};
@@ -22,7 +22,7 @@ fn put_width(out: &mut Vec<u8>, width: Width) -> Result<(), NoMemory>
     }
 }
 
-// The declaration of so many variables; nothing where there are none.
+// Appends the declaration of `count` variables, or nothing if there are none.
 fn put_vars(out: &mut Vec<u8>, scope: &Scope, count: usize) -> Result<(), NoMemory>
     ensures { OnOk result (out.new.items ≡ out.old.items ++ vars_text (name_of scope.now) count) }
 {
@@ -57,7 +57,7 @@ fn put_prog(
     put(out, b"\n")
 }
 
-// The goal that equates the program of that name with itself.
+// Appends the goal that equates the program of that name with itself.
 fn put_equal(out: &mut Vec<u8>, name: &str) -> Result<(), NoMemory>
     ensures { OnOk result (out.new.items ≡ out.old.items ++ equal_text name.now name.now) }
 {
@@ -68,8 +68,8 @@ fn put_equal(out: &mut Vec<u8>, name: &str) -> Result<(), NoMemory>
     put(out, b";\n")
 }
 
-/// The text of one program over the first so many variables of the scope, which equates it with itself:
-/// `width W; var NAMES; prog NAME BLOCK goal equal NAME, NAME;`, an item a line.
+/// Returns the text of one program over the first `vars` variables of the scope, with the goal that it equals itself:
+/// `width W; var NAMES; prog NAME BLOCK goal equal NAME, NAME;`, with one item a line.
 pub fn one_program_text(
     alloc: Global,
     scope: &Scope,

@@ -1,4 +1,4 @@
-//! The scopes of plain names.
+//! Scopes of plain names.
 ghost use Rattle.std.specs.Prelude.{◌≡◌, ◌≤◌, false, OnOk, IfOk};
 ghost use Rattle.text_scopes.specs.ScopeParts.{IsIdentifier, IsUnnamed, IsUndeclared, is_term, declared};
 ghost use Rattle.problem_texts.specs.NumberedScopes.{numbered_scope};
@@ -9,7 +9,8 @@ use std::alloc::Global;
 use text_scopes::{Meaning, Scope};
 use text_tokens::{Kind, TextFault, Token};
 
-/// Declares one name more, which is an identifier and not there yet. It fails only when out of memory.
+/// Declares a name, which must be an identifier and undeclared. The meaning must not be a term and must have no name.
+/// Fails only when out of memory.
 pub fn declare(scope: &mut Scope, name: &str, meaning: Meaning) -> Result<(), NoMemory>
     requires identifier { IsIdentifier name.now }
     requires undeclared { IsUndeclared scope.old name.now }
@@ -29,8 +30,8 @@ pub fn declare(scope: &mut Scope, name: &str, meaning: Meaning) -> Result<(), No
     }
 }
 
-/// The scope that names so many tests `t0`, `t1`, .. and so many actions `a0`, `a1`, .., and nothing else. It fails only
-/// when out of memory.
+/// Returns the scope with `tests` tests named `t0`, `t1`, .. and `actions` actions named `a0`, `a1`, .., and nothing
+/// else. Fails only when out of memory.
 pub fn numbered_scope(alloc: Global, tests: usize, actions: usize) -> Result<Scope, NoMemory>
     ensures { IfOk result (λ scope. scope ≡ numbered_scope tests actions) }
 {
@@ -46,8 +47,8 @@ pub fn numbered_scope(alloc: Global, tests: usize, actions: usize) -> Result<Sco
     Ok(scope)
 }
 
-/// The scope that names so many tests `t0`, `t1`, .. and so many actions `a0`, `a1`, .., at most 48 of each, and nothing
-/// else. It fails only when out of memory.
+/// Returns the scope with `tests` tests named `t0`, `t1`, .. and `actions` actions named `a0`, `a1`, .., at most 48 of
+/// each, and nothing else. Fails only when out of memory.
 pub fn plain_scope(alloc: Global, tests: usize, actions: usize) -> Result<Scope, NoMemory>
     requires tests { tests ≤ 48 }
     requires actions { actions ≤ 48 }

@@ -1,5 +1,5 @@
-//! The parts of a plain text, each at the end of a text. Each function fails only when out of memory, and may then have
-//! written a part.
+//! Writes the parts of a plain text. Each function appends to a text and fails only when out of memory; a part may then
+//! be written.
 ghost use Rattle.std.specs.Prelude.{◌≡◌, ◌∷◌, ◌++◌, map, OnOk};
 ghost use Rattle.std.specs.List.{range_with_len};
 ghost use Rattle.std.specs.Fmt.{decimal};
@@ -20,7 +20,7 @@ pub(crate) fn put(out: &mut Vec<u8>, text: &[u8]) -> Result<(), NoMemory>
     Ok(())
 }
 
-// A letter and a number.
+// Appends a letter and a number.
 fn put_name(alloc: Global, out: &mut Vec<u8>, letter: u8, number: usize) -> Result<(), NoMemory>
     ensures { OnOk result (out.new.items ≡ out.old.items ++ (letter ∷ decimal number)) }
 {
@@ -28,21 +28,21 @@ fn put_name(alloc: Global, out: &mut Vec<u8>, letter: u8, number: usize) -> Resu
     put(out, format!(in alloc; "{number}")?.as_bytes())
 }
 
-/// The name of a test: `t` and its number.
+/// Appends the name of test `k`: `t` and its number.
 pub fn put_test_name(alloc: Global, out: &mut Vec<u8>, k: usize) -> Result<(), NoMemory>
     ensures { OnOk result (out.new.items ≡ out.old.items ++ plain_name (Test k)) }
 {
     put_name(alloc, out, b't', k)
 }
 
-/// The name of an action: `a` and its number.
+/// Appends the name of action `a`: `a` and its number.
 pub fn put_action_name(alloc: Global, out: &mut Vec<u8>, a: usize) -> Result<(), NoMemory>
     ensures { OnOk result (out.new.items ≡ out.old.items ++ plain_name (Action a)) }
 {
     put_name(alloc, out, b'a', a)
 }
 
-// The declaration of so many names that begin with the letter; nothing where there are none.
+// Appends the declaration of `count` names that begin with the letter, or nothing if there are none.
 fn put_declaration(
     alloc: Global,
     out: &mut Vec<u8>,
@@ -66,14 +66,14 @@ fn put_declaration(
     Ok(())
 }
 
-/// The line `test t0, t1;` of so many tests; nothing where there are none.
+/// Appends the line `test t0, t1;` for `count` tests, or nothing if there are none.
 pub fn put_tests(alloc: Global, out: &mut Vec<u8>, count: usize) -> Result<(), NoMemory>
     ensures { OnOk result (out.new.items ≡ out.old.items ++ tests_text count) }
 {
     put_declaration(alloc, out, b"test", b't', count)
 }
 
-/// The line `action a0, a1;` of so many actions; nothing where there are none.
+/// Appends the line `action a0, a1;` for `count` actions, or nothing if there are none.
 pub fn put_actions(alloc: Global, out: &mut Vec<u8>, count: usize) -> Result<(), NoMemory>
     ensures { OnOk result (out.new.items ≡ out.old.items ++ actions_text count) }
 {
@@ -88,7 +88,7 @@ fn put_term(alloc: Global, out: &mut Vec<u8>, term: &Kat, scope: &Scope) -> Resu
     put(out, &text)
 }
 
-/// The line `hyp TERM = 0;`, with the names of the scope.
+/// Appends the line `hyp TERM = 0;`, with the names of the scope.
 pub fn put_hyp(alloc: Global, out: &mut Vec<u8>, hyp: &Kat, scope: &Scope) -> Result<(), NoMemory>
     ensures { OnOk result (out.new.items ≡ out.old.items ++ hyp_text (name_of scope.now) (kat_tree hyp.now)) }
 {
@@ -97,7 +97,7 @@ pub fn put_hyp(alloc: Global, out: &mut Vec<u8>, hyp: &Kat, scope: &Scope) -> Re
     put(out, b" = 0;\n")
 }
 
-/// The line `goal equal LEFT, RIGHT;`, with the names of the scope.
+/// Appends the line `goal equal LEFT, RIGHT;`, with the names of the scope.
 pub fn put_goal(
     alloc: Global,
     out: &mut Vec<u8>,

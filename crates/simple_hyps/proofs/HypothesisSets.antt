@@ -1,4 +1,4 @@
--- The diagrams of hypotheses, one more hypothesis at a time.
+-- The diagrams of hypotheses, extended by one hypothesis at a time.
 use Rattle.std.proofs.Common.{◌≡◌, ℕ, ◌+◌, ◌<◌, ◌≤◌, List, [], ◌∷◌, ◌++◌, map, length, take, get_or, Bool, true, false, not, ◌&&◌, ◌||◌, refl, sym, ap, ◌∙◌}
 use mathlib.Core.Path.{ap₂}
 use Rattle.std.specs.List.{list_all, list_any}
@@ -35,7 +35,7 @@ all : (hyps : List Kat) (i : ℕ) → length hyps ≤ i → map kat_tree (take i
 all hyps i le = ap (map kat_tree) (take_all i hyps le)
 
 module _ (mid new : StepDiagramsParts) (kept : KeepsSteps mid new) (hyps : List Kat) (i : ℕ) (h : Kat) (lt : i < length hyps) (is : h ≡ get_or hyps i h) where
-  -- one more hypothesis, where it is a test term
+  -- adding a hypothesis, which restricts the allowed atoms if it is a test term
   pub allowed_more : (moment : Moment) (set with_one : ℕ) → IsStepDiagram mid set (λ x y. allows (map kat_tree (take i hyps)) (atom_at_moment moment x y))
       → IsStepDiagram new with_one (λ x y. step_value mid set x y && not (is_test_term (kat_tree h) && out (kat_tree h) (atom_at_moment moment x y)))
       → IsStepDiagram new with_one (λ x y. allows (map kat_tree (take (i + 1) hyps)) (atom_at_moment moment x y))
@@ -45,7 +45,7 @@ module _ (mid new : StepDiagramsParts) (kept : KeepsSteps mid new) (hyps : List 
       ap (λ b. b && not (is_test_term (kat_tree h) && out (kat_tree h) (atom_at_moment moment x y))) (was.value x y (lx ∙ kept.tests) (ly ∙ kept.tests))
       ∙ sym (ap (λ (l : List Term). allows l (atom_at_moment moment x y)) (more hyps i h lt is) ∙ allows-push (map kat_tree (take i hyps)) (kat_tree h) (atom_at_moment moment x y)))
 
--- one more hypothesis that may rule out steps
+-- adding a hypothesis that may rule out steps
 pub ruled_out_more : (first mid new : StepDiagramsParts) (hyps : List Kat) (i : ℕ) (h : Kat) (a steps one with_one : ℕ) → KeepsSteps first mid → KeepsSteps mid new → i < length hyps → h ≡ get_or hyps i h
     → IsStepDiagram first steps (some_rules_out (map kat_tree (take i hyps)) a) → IsStepDiagram mid one (rules_out (kat_tree h) a)
     → IsStepDiagram new with_one (λ x y. step_value mid steps x y || step_value mid one x y)
@@ -58,7 +58,7 @@ ruled_out_more first mid new hyps i h a steps one with_one k1 k2 lt is was own n
     (own.value x y (lx ∙ k2.tests) (ly ∙ k2.tests))
     ∙ sym (ap (λ (l : List Term). some_rules_out l a x y) (more hyps i h lt is) ∙ some_rules_out-push (map kat_tree (take i hyps)) (kat_tree h) a x y))
 
--- when all were gone through
+-- after all hypotheses
 pub allowed_all : (d : StepDiagramsParts) (hyps : List Kat) (i set : ℕ) (moment : Moment) → length hyps ≤ i → IsStepDiagram d set (λ x y. allows (map kat_tree (take i hyps)) (atom_at_moment moment x y)) → IsStepDiagram d set (λ x y. allows (map kat_tree hyps) (atom_at_moment moment x y))
 allowed_all d hyps i set moment le is = IsStepDiagram-same d set _ _ is (λ x y lx ly. ap (λ (l : List Term). allows l (atom_at_moment moment x y)) (all hyps i le))
 

@@ -1,4 +1,4 @@
--- The least hypothesis that is not simple, by the search for it.
+-- The search finds the least hypothesis that is not simple.
 use Rattle.std.proofs.Common.{◌≡◌, ℕ, ◌<◌, List, map, Bool, true, false, not, Option, Some, None, slice_get, get_or, position, refl, sym, ap, ◌∙◌, subst, arith}
 use Rattle.std.specs.Option.{option_map, IfSome, IfNone}
 use Rattle.std.proofs.lemmas.Option.{slice_get-map, slice_get-get_or, slice_get_within}

@@ -1,4 +1,4 @@
--- Simple hypotheses by their factors, by the tests that compute, and what they rule out.
+-- Simple hypotheses by their factors and by computable tests, and what they rule out.
 use Rattle.std.proofs.Common.{◌≡◌, ℕ, ◌⊎◌, inl, inr, ⊎_elim, ◌↔◌, List, [], ◌∷◌, ◌++◌, Bool, true, false, not, ◌&&◌, ◌||◌, eqb, refl, sym, ap, ◌∙◌, subst, append_assoc, eqb-true, eq-eqb}
 use Rattle.std.specs.Bool.{IsTrue}
 use Rattle.std.specs.List.{list_all, list_any}
@@ -13,7 +13,7 @@ use Rattle.simple_hyps.specs.HypothesisForms.{is_step, is_simple, allows, rules_
 
 -- ---- factors
 
--- the factors of a test term are test terms, and only those of a test term
+-- the factors of a term are test terms exactly when the term is a test term
 pub test_factors : (e : Term) → is_test_term e ≡ true → are_test_terms (factors e) ≡ true
 test_factors zero h = refl
 test_factors one h = refl
@@ -40,7 +40,7 @@ and_true : (b : Bool) → (b && true) ≡ b
 and_true true = refl
 and_true false = refl
 
--- a term accepts an atom where its factors all do
+-- a term accepts an atom exactly when all its factors do
 pub out_factors : (e : Term) (x : Atom) → all_true (factors e) x ≡ out e x
 out_factors zero x = refl
 out_factors one x = refl
@@ -50,7 +50,7 @@ out_factors (sum e f) x = and_true (out (sum e f) x)
 out_factors (product e f) x = rw (list_all-append (λ g. out g x) (factors e) (factors f), out_factors e x, out_factors f x) refl
 out_factors (star e) x = refl
 
--- a list with a member in the middle, as two lists
+-- a member of two concatenated lists is in the first or in the second
 pub split_at_member : {X : Type 0} (xs ys b c : List X) (z : X) → xs ++ ys ≡ b ++ z ∷ c → ((m : List X) × (xs ≡ b ++ z ∷ m) × (c ≡ m ++ ys)) ⊎ ((m : List X) × (b ≡ xs ++ m) × (ys ≡ m ++ z ∷ c))
 split_at_member [] ys b c z e = inr (b, refl, e)
 split_at_member (x ∷ xs) ys [] c z e = let first : x ≡ z = cc in let rest : xs ++ ys ≡ c = cc in inl (xs, ap (λ y. y ∷ xs) first, sym rest)
@@ -62,13 +62,13 @@ split_at_member (x ∷ xs) ys (w ∷ b) c z e =
     (λ p. inr (p.0, (rw first (ap (λ l. w ∷ l) p.1)), p.2))
     (split_at_member xs ys b c z rest)
 
--- one factor is no list with an action in it, unless it is that action
+-- a list of one factor has an action in it only if it is that action
 lone_factor : (e : Term) (b c : List Term) (a : ℕ) → e ∷ [] ≡ b ++ act a ∷ c → (e ≡ act a) × ((b ≡ []) × (c ≡ []))
 lone_factor e [] c a h = (cc, (refl, cc))
 lone_factor e (x ∷ []) c a h = cc
 lone_factor e (x ∷ y ∷ b) c a h = cc
 
--- tests with an action among them are not all test terms
+-- a list with an action in it is not a list of test terms
 not_all_tests : (b c : List Term) (a : ℕ) → are_test_terms (b ++ act a ∷ c) ≡ true → ⊥
 not_all_tests b c a h =
     let p = and_parts (are_test_terms b) (are_test_terms (act a ∷ c)) (sym (list_all-append is_test_term b (act a ∷ c)) ∙ h) in
@@ -78,7 +78,7 @@ pub false_from : (b : Bool) → (b ≡ true → ⊥) → b ≡ false
 false_from true f = absurd (f refl)
 false_from false f = refl
 
--- the parts of the form of a product: its action is in the first factor or in the second
+-- the action of a product is in the first factor or in the second
 pub product_forms : (e f : Term) (s : StepForm) → HasStepForm (product e f) s →
     ((m : List Term) × HasStepForm e (record { befores = s.befores; act = s.act; afters = m }) × (s.afters ≡ m ++ factors f) × (is_test_term f ≡ true) × (is_test_term e ≡ false))
     ⊎ ((m : List Term) × HasStepForm f (record { befores = m; act = s.act; afters = s.afters }) × (s.befores ≡ factors e ++ m) × (is_test_term e ≡ true))

@@ -1,4 +1,5 @@
--- What simple hypotheses relate in a frame: test terms single states, and one action between test terms the steps by it.
+-- What simple hypotheses relate in a frame: a test term relates states to themselves, one action between test terms
+-- relates the ends of its steps.
 use Rattle.std.proofs.Common.{◌≡◌, ℕ, inl, inr, ⊎_elim, List, [], ◌∷◌, ◌++◌, Bool, true, false, ◌&&◌, refl, sym, ap, subst}
 use Rattle.std.specs.Bool.{IsTrue}
 use Rattle.std.specs.List.{list_all}
@@ -25,7 +26,7 @@ module _ {S : Type 0} (frame : Frame S) where
       (i, s, test_term_relates e i s tests.0 both.0, test_term_relates f i s tests.1 both.1)
   test_term_relates (star e) i s is_test h = cc
 
-  -- and so do several, one after the other
+  -- and so do several test terms in sequence
   test_terms_relate : (es : List Term) (i : S) → frame.IsState i → are_test_terms es ≡ true → all_true es (frame.atom i) ≡ true → RelateInTurn frame es i i
   test_terms_relate [] i s tests h = refl
   test_terms_relate (e ∷ es) i s tests h =
@@ -33,7 +34,7 @@ module _ {S : Type 0} (frame : Frame S) where
       let b = and_parts (out e (frame.atom i)) (all_true es (frame.atom i)) h in
       (i, s, test_term_relates e i s t.0 b.0, test_terms_relate es i s t.1 b.1)
 
-  -- what the factors of a term relate one after the other, the term does
+  -- a term relates what its factors relate in sequence
   factors_relate : (e : Term) (i j : S) → frame.IsState i → frame.IsState j → RelateInTurn frame (factors e) i j → RelatesIn frame e i j
   factors_relate zero i j si sj r = absurd r.2
   factors_relate one i j si sj r = subst (λ k. i ≡ k) r.3 r.2
@@ -45,7 +46,7 @@ module _ {S : Type 0} (frame : Frame S) where
       (m.0, m.1, factors_relate e i m.0 si m.1 m.2, factors_relate f m.0 j m.1 sj m.3)
   factors_relate (star e) i j si sj r = subst (λ k. RelatesIn frame (star e) i k) r.3 r.2
 
-  -- a hypothesis that rules out a step relates what the action does
+  -- a hypothesis that rules out a step relates the states of the step
   pub ruled_out_relates : (h : Term) (a : ℕ) (i j : S) → frame.IsState i → frame.IsState j → RulesOut h a (frame.atom i) (frame.atom j) → frame.Acts a i j → RelatesIn frame h i j
   ruled_out_relates h a i j si sj r step =
       let s = r.form in

@@ -1,11 +1,11 @@
--- The forms of hypotheses as tests that compute, and what hypotheses rule out.
+-- The forms of hypotheses as computable tests, and what hypotheses rule out.
 use Rattle.std.specs.Prelude.{ℕ, Bool, true, false, not, ◌&&◌, ◌||◌, eqb, if◌then◌else◌, List}
 use Rattle.std.specs.List.{list_all, list_any}
 use Rattle.kat_model.specs.Trees.{Term, zero, one, test, act, sum, product, star}
 use Rattle.kat_model.specs.Steps.{Atom, out}
 use Rattle.simple_hyps.specs.TestTerms.{is_test_term}
 
--- whether the factors of a term are test terms and one action
+-- whether the factors of a term are test terms and exactly one action
 abbrev pub is_step : Term → Bool
 is_step zero = false
 is_step one = false
@@ -22,7 +22,7 @@ is_simple h = is_test_term h || is_step h
 abbrev pub allows : List Term → Atom → Bool
 allows hyps atom = list_all (λ h. not (is_test_term h && out h atom)) hyps
 
--- whether a hypothesis of one action rules out the step from one atom to another
+-- whether a hypothesis with one action rules out the step by action a from one atom to another
 abbrev pub rules_out : Term → ℕ → Atom → Atom → Bool
 rules_out zero a before after = false
 rules_out one a before after = false

@@ -5,7 +5,7 @@ use Rattle.kat_model.specs.Trees.{Term, zero, one, test, act, sum, product, star
 use Rattle.kat_model.specs.Members.{Has}
 use Rattle.kat_model.specs.Steps.{Atom, out}
 
--- a term without actions and stars is a test: it is true at an atom where it accepts the atom
+-- a term without actions and stars is a test term: it is true at the atoms that it accepts
 abbrev pub is_test_term : Term → Bool
 is_test_term zero = true
 is_test_term one = true
@@ -31,7 +31,7 @@ factors (sum e f) = sum e f ∷ []
 factors (product e f) = factors e ++ factors f
 factors (star e) = star e ∷ []
 
--- one action between test terms: its befores and its afters
+-- the factors of one action between test terms: those before the action and those after it
 pub record StepForm : Type 0 where
   pub befores : List Term
   pub act : ℕ
@@ -60,7 +60,7 @@ pub record IsNotSimple (hyps : List Term) (k : ℕ) : Type 0 where
 abbrev pub IsAllowed : List Term → Atom → Type 0
 IsAllowed hyps atom = (h : Term) → Has hyps h → is_test_term h ≡ true → out h atom ≡ false
 
--- the hypothesis says that its action does not lead from the one atom to the other
+-- the hypothesis says that action a does not lead from the one atom to the other
 pub record RulesOut (h : Term) (a : ℕ) (from to : Atom) : Type 0 where
   pub form : StepForm
   pub is_form : HasStepForm h form
@@ -68,6 +68,6 @@ pub record RulesOut (h : Term) (a : ℕ) (from to : Atom) : Type 0 where
   pub before : IsTrue (all_true form.befores from)
   pub after : IsTrue (all_true form.afters to)
 
--- some hypothesis does
+-- some hypothesis rules out the step
 abbrev pub IsRuledOut : List Term → ℕ → Atom → Atom → Type 0
 IsRuledOut hyps a from to = (h : Term) × Has hyps h × RulesOut h a from to

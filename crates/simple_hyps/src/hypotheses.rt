@@ -1,4 +1,4 @@
-//! What hypotheses say of single atoms and of single steps: the diagrams that the finder and the rule checker share.
+//! The atoms and steps that hypotheses rule out, as diagrams that the finder and the rule checker share.
 ghost use Rattle.std.specs.Prelude.{◌≡◌, ◌&&◌, not, All, map, position, IfOk, IfSome, IfNone};
 ghost use Rattle.kat_model.specs.Trees.{kat_tree};
 ghost use Rattle.kat_model.specs.Problems.{HasTestsBelow};
@@ -22,7 +22,7 @@ fn is_test_term(term: &Kat) -> bool
     }
 }
 
-// Whether the factors of a term are test terms and one action.
+// Whether the factors of a term are test terms and exactly one action.
 fn is_step(term: &Kat) -> bool
     ensures { result ≡ is_step (kat_tree term.now) }
 {
@@ -39,8 +39,9 @@ fn is_simple(term: &Kat) -> bool
     is_test_term(term) || is_step(term)
 }
 
-/// The least hypothesis of the problem that is not simple: it is neither a test term, which has no actions and no stars,
-/// nor a product of test terms and exactly one action. `None` where all are simple. It takes no memory.
+/// Returns the index of the first hypothesis of the problem that is not simple, `None` if all are simple. A simple
+/// hypothesis is a test term, which has no actions and no stars, or a product of test terms and exactly one action.
+/// Allocates nothing.
 pub fn not_simple(problem: &Problem) -> Option<usize>
     ensures least { IfSome result (IsNotSimple problem.now.hyps) }
     ensures none { IfNone result (AreSimple problem.now.hyps) }
@@ -54,7 +55,7 @@ fn first_not_simple(hyps: &[Kat]) -> Option<usize>
     hyps.iter().position(|hyp| !is_simple(hyp))
 }
 
-// The atoms at a moment that a term accepts.
+// Returns the set of the atoms at a moment that a term accepts.
 fn accepted_atoms(
     diagrams: &mut StepDiagrams,
     term: &Kat,
@@ -83,7 +84,7 @@ fn accepted_atoms(
     }
 }
 
-// The atoms at a moment at which no hypothesis that is a test term is true.
+// Returns the set of the atoms at a moment at which no hypothesis that is a test term is true.
 pub fn allowed_atoms(
     diagrams: &mut StepDiagrams,
     hyps: &[Kat],
@@ -102,7 +103,7 @@ pub fn allowed_atoms(
     Ok(set)
 }
 
-// The atoms of a set at which a hypothesis, if it is a test term, is not true.
+// Returns the atoms of a set at which the hypothesis is not a true test term.
 fn atoms_left_by(
     diagrams: &mut StepDiagrams,
     set: DiagramId,
@@ -125,7 +126,7 @@ fn atoms_left_by(
     diagrams.and(set, left)
 }
 
-// The steps by an action that a hypothesis rules out.
+// Returns the steps by an action that a hypothesis rules out.
 fn steps_ruled_out_by(
     diagrams: &mut StepDiagrams,
     hyp: &Kat,
@@ -154,7 +155,7 @@ fn steps_ruled_out_by(
     }
 }
 
-// The steps by an action that some hypothesis rules out.
+// Returns the steps by an action that some hypothesis rules out.
 pub fn ruled_out_steps(
     diagrams: &mut StepDiagrams,
     hyps: &[Kat],

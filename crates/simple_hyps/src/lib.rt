@@ -1,4 +1,4 @@
-//! Simple hypotheses, each a test or one action between tests: which there are, the atoms that they allow, and the steps
+//! Simple hypotheses, each a test or one action between tests: their forms, the atoms that they allow, and the steps
 //! that they rule out.
 #![tactic(auto)]
 

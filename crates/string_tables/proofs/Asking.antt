@@ -1,4 +1,4 @@
--- The hypotheses and sides of a problem may be asked of the table of a string that fits it.
+-- The hypotheses and sides of a problem can be evaluated in the table of a string that fits it.
 use Rattle.std.proofs.Common.{◌≡◌, ℕ, zero, suc, ◌<◌, ◌≤◌, List, [], ◌∷◌, All, length, get_or, sym, subst, arith, None}
 use Rattle.kat_model.specs.Trees.{Term, term_height}
 use Rattle.kat_model.specs.Problems.{ProblemParts, IsProblem, HasTestsBelow, IsInRange, AreInRange}

@@ -1,5 +1,5 @@
--- Elimination of hypotheses: the closed sides differ on a string exactly where its table keeps the
--- hypotheses and the sides differ.
+-- Elimination of hypotheses: the closed sides differ on a string exactly when its table keeps the hypotheses and the
+-- sides differ.
 use Rattle.std.proofs.Common.{◌≢◌, ℕ, ◌↔◌, inl, inr, ⊎_elim, List, [], ◌∷◌, length, refl, sym, ◌∙◌, arith, Bool, true, false, ◌||◌}
 use Rattle.std.specs.Bool.{IsTrue}
 use Rattle.std.proofs.Math.Bool.{or-true, or-false}
@@ -18,7 +18,7 @@ use Rattle.string_tables.specs.Tables.{table_of, ExactlyOne, Refutes}
 use Rattle.string_tables.specs.Laws.{ClosedDiffer}
 use Rattle.string_tables.proofs.Parts.{ends_by_acceptance, relates_within}
 
--- one of two tests is true exactly where they differ
+-- exactly one of two Boolean values is true if and only if they differ
 
 differ_exactly : (a b : Bool) → a ≢ b → ExactlyOne (IsTrue a) (IsTrue b)
 differ_exactly true true ne = absurd (ne refl)
@@ -39,7 +39,7 @@ DifferOn e f x = accepts e x.first x.rest ≢ accepts f x.first x.rest
 abbrev pub ClosedDifferOn : ℕ → List Term → Term → Term → GuardedString → Type 0
 ClosedDifferOn actions hyps left right x = DifferOn (closed_under actions hyps left right).left (closed_under actions hyps left right).right x
 
--- what is added to both hides a difference exactly where it is true
+-- a disjunct of both values hides a difference exactly when it is true
 
 or_differ : (a b c : Bool) → (a || c) ≢ (b || c) → (IsTrue c → ⊥) × (a ≢ b)
 or_differ a b true ne = absurd (ne (or-true a ∙ sym (or-true b)))
@@ -50,7 +50,7 @@ differ_or a b true ne not = absurd (not refl)
 differ_or a b false ne not = λ e. ne (sym (or-false a) ∙ e ∙ or-false b)
 
 module _ (tests actions : ℕ) (hyps : List Term) (x : GuardedString) where
-  -- some hypothesis with anything around it accepts the string
+  -- the sum of the hypotheses, between two universal terms, accepts the string
   abbrev pub IsAround : Type 0
   IsAround = IsTrue (accepts (inside (universal_of actions) (sum_of hyps)) x.first x.rest)
 
@@ -65,7 +65,7 @@ module _ (tests actions : ℕ) (hyps : List Term) (x : GuardedString) where
       let w = relates_within x (sum_of hyps) i j (omega arith) (omega arith) s in
       not (inside_universal_accepts tests actions (sum_of hyps) x.first x.rest are w)
 
--- where there are no hypotheses, the closed sides are the sides
+-- without hypotheses, the closed sides are the sides
 
 closed_differ : (tests actions : ℕ) (hyps : List Term) (left right : Term) (x : GuardedString) → AreMoves tests actions x.rest → ClosedDifferOn actions hyps left right x → Keeps (table_of x) hyps × DifferOn left right x
 closed_differ tests actions [] left right x are ne = ((λ h has. absurd has), ne)

@@ -1,4 +1,4 @@
--- What is found in the table of a string is what the string shows.
+-- The finding in the table of a string is what the string shows.
 use Rattle.std.proofs.Common.{◌≡◌, ℕ, suc, ◌-◌, ◌↔◌, inl, inr, ⊎_elim, length, Bool, true, false, refl, subst, arith}
 use Rattle.std.specs.Bool.{IsTrue}
 use Rattle.kat_model.specs.Trees.{Term}
@@ -13,7 +13,7 @@ use Rattle.string_tables.specs.Working.Breaks.{BreaksFirst}
 use Rattle.string_tables.proofs.Fitting.{no_misfit_is_string, string_has_no_misfit}
 use Rattle.kat_model.proofs.Places.{has_at}
 
--- the first state of a string's table and the last are its ends
+-- the first and last states of a string's table are the ends of the string
 pub last_state : (x : GuardedString) (t : Table) (e : Term) (b : Bool) → t ≡ table_of x → IsTrue b ↔ Relates t e 0 (t.states - 1) → IsTrue b ↔ RelatesEnds x e
 last_state x t e b same h =
     let last : suc (length x.rest) - 1 ≡ length x.rest = omega arith in
@@ -31,13 +31,13 @@ module _ (q : ProblemParts) (x : GuardedString) where
             first = λ g k l before c. f.first g k l before (record { term = c.hyp; is = c.is; from = c.from; to = c.to; relates = c.relates });
           }
 
-  -- a finding of a refutation shows one, and no other finding does
+  -- the finding `Refutes` shows a refutation, and no other finding does
 
   pub refuted_by : (b : Bool) → IsFinding q x (RefutesBy b) → Refutes q x
   refuted_by true f = record { fits = no_misfit_is_string q x f.0.0; keeps = f.0.1; differs = inl (f.1, f.2) }
   refuted_by false f = record { fits = no_misfit_is_string q x f.0.0; keeps = f.0.1; differs = inr (f.1, f.2) }
 
-  -- a table that keeps the hypotheses has none broken
+  -- a table that keeps the hypotheses breaks no hypothesis
   pub keeps_unbroken : (h i j : ℕ) → Keeps (table_of x) q.hyps → IsBroken q x h i j → ⊥
   keeps_unbroken h i j keeps b = keeps b.hyp (has_at q.hyps h b.hyp b.is) i j b.from b.to b.relates
 

@@ -1,4 +1,4 @@
--- The first term of a list that relates states of a table, found by going through the list.
+-- The first term of a list that relates states of a table, found by a traversal of the list.
 use Rattle.std.proofs.Common.{◌≡◌, ℕ, ◌+◌, ◌<◌, ◌≤◌, ◌⊎◌, ⊎_elim, List, length, get_or, slice_get, Some, sym, ap, ◌∙◌, subst, arith, false}
 use Rattle.std.proofs.lemmas.Bool.{both_ways}
 use Rattle.std.proofs.lemmas.Option.{get_or_from_slice_get, slice_get_within}
@@ -11,7 +11,7 @@ use Rattle.string_tables.specs.Working.Matrices.{Square, entry, Tells}
 use Rattle.string_tables.specs.Working.Breaks.{IsFirstEntry, Breaks, BreaksFirst}
 use Rattle.string_tables.specs.Findings.{IsBefore}
 
--- at a false entry a term's matrix shows that the term does not relate the states
+-- if an entry of a term's matrix is false, the term does not relate the states
 false_unrelated : (t : Table) (e : Term) (m : Square) → Tells t.states m (computes_relation t e) → (i j : ℕ) → i < t.states → j < t.states → entry m i j ≡ false → Relates t e i j → ⊥
 false_unrelated t e m told i j li lj no_entry r =
     both_ways (entry m i j) no_entry (told i j li lj ∙ (relates_now_decides t e i j li lj).1 r)
@@ -21,7 +21,7 @@ module _ (t : Table) (terms : List Term) where
   abbrev pub NoneBreaks : ℕ → Type 0
   NoneBreaks h = (g k l : ℕ) → g < h → Breaks t terms g k l → ⊥
 
-  -- what breaks at the place of a term is that term
+  -- if the term at an index breaks, this term relates the states
   term_here : (h g k l : ℕ) (e : Term) → slice_get terms h ≡ Some e → g ≡ h → (b : Breaks t terms g k l) → Relates t e k l
   term_here h g k l e is same b =
       let e_is : b.term ≡ e = sym (get_or_from_slice_get terms g b.term e b.is) ∙ ap (λ n. get_or terms n e) same ∙ get_or_from_slice_get terms h e e is in

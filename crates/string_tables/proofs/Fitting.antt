@@ -1,11 +1,11 @@
--- A string has no misfit exactly where it is a string of the problem.
+-- A string has no misfit exactly when it is a string of the problem.
 use Rattle.std.proofs.Common.{◌≡◌, ◌<◌, ℕ, suc, ◌↔◌, inl, inr, ⊎_elim, List, [], ◌∷◌, length, Option, Some, None, Bool, true, false, cond, refl, subst}
 use Rattle.std.proofs.lemmas.Bool.{and_parts, and_from, ltb-true, lt-ltb, eqb-true, eq-eqb}
 use Rattle.kat_model.specs.Problems.{ProblemParts}
 use Rattle.kat_model.specs.Strings.{Move, GuardedString, IsString, AreMoves}
 use Rattle.string_tables.specs.Findings.{misfit_from, misfit}
 
--- where a test fails there is something, and else what comes next
+-- a chain of tests gives `None` exactly when each test holds
 module _ {X : Type 0} where
   passed : (b : Bool) (o : Option X) (x : X) → cond b o (Some x) ≡ None → (b ≡ true) × (o ≡ None)
   passed true o x h = (refl, h)

@@ -43,7 +43,7 @@ or_exchange false true true d = refl
 or_exchange false true false d = refl
 or_exchange false false c d = refl
 
--- some number below n: none, a union, a part that does not name it, and two such numbers in either order
+-- laws of `some_below`: the constant `false`, a disjunction, a constant factor, and two nested searches in either order
 
 none_below : (n : ℕ) → some_below (λ k. false) n ≡ false
 none_below zero = refl
@@ -62,7 +62,7 @@ some_below_swap p m zero = sym (none_below m)
 some_below_swap p m (suc n) =
     ap (λ b. some_below (λ i. p i n) m || b) (some_below_swap p m n) ∙ sym (some_below_or (λ i. p i n) (λ i. some_below (p i) n) m)
 
--- some number below n that is j
+-- a search for the number j
 
 past_all : (p : ℕ → Bool) (n j : ℕ) → n ≤ j → some_below (λ i. eqb i j && p i) n ≡ false
 past_all p zero j le = refl
@@ -117,7 +117,7 @@ module _ (n : ℕ) (row : List Bool) where
   in_union r q j =
       some_below_same _ (λ i. (in_set i && r i j) || (in_set i && q i j)) n (λ i li. and_over_or (in_set i) (r i j) (q i j)) ∙ some_below_or (λ i. in_set i && r i j) (λ i. in_set i && q i j) n
 
-  -- under an action: a move that goes from the set by the action to j
+  -- under an action: the move leads from the set by the action to j
   abbrev pub goes : ℕ → ℕ → Step → Bool
   goes act j m = in_set m.from && (eqb act m.act && eqb j m.to)
 
@@ -142,16 +142,16 @@ module _ (n : ℕ) (row : List Bool) where
       let again = some_below_same _ (λ i. in_set i && q i j) n (λ i li. ap (λ b. b && q i j) (same i li)) in
       joined j lj ∙ ap₂ ◌||◌ (left j lj) (right j lj ∙ again) ∙ sym (in_union r q j)
 
-  -- under the relation that a matrix tells
+  -- under the relation that a matrix represents
   pub image_told : (r : ℕ → ℕ → Bool) (m : Square) (to : List Bool) → Tells n m r → IsImage n row (entry m) to → IsImage n row r to
   image_told r m to told image j lj = image j lj ∙ some_below_same _ _ n (λ k lk. ap (λ b. in_set k && b) (told k j lk lj))
 
-  -- of one number alone
+  -- of one number
   pub image_of_one : (r : ℕ → ℕ → Bool) (to : List Bool) (i : ℕ) → i < n → ((k : ℕ) → k < n → slice_index_or row k false ≡ eqb k i) → IsImage n row r to → (j : ℕ) → j < n → slice_index_or to j false ≡ r i j
   image_of_one r to i li one image j lj =
       image j lj ∙ some_below_same _ (λ k. eqb k i && r k j) n (λ k lk. ap (λ b. b && r k j) (one k lk)) ∙ some_below_is (λ k. r k j) n i li
 
--- a cleared row in which one entry is marked
+-- a cleared row with one entry marked
 pub marked_alone : (n i : ℕ) (cleared row : List Bool) → i < length cleared → ((k : ℕ) → k < n → slice_index_or cleared k false ≡ false) → row ≡ slice_set cleared i true → (k : ℕ) → k < n → slice_index_or row k false ≡ eqb k i
 marked_alone n i cleared row room empty is k lk =
     ⊎_elim
@@ -159,7 +159,7 @@ marked_alone n i cleared row room empty is k lk =
     (λ d. let elsewhere : eqb k i ≡ false = ne_eqb k i d in rw (is, elsewhere) (get_or-set_other cleared i k true false d ∙ empty k lk))
     (cases_eq k i)
 
--- an entry of the image of one state decides whether the term relates that state to the entry's
+-- an entry of the image of one state decides whether the term relates that state to the state of the entry
 pub image_decides : (t : Table) (e : Term) (row to : List Bool) (i j : ℕ) → i < t.states → j < t.states → ((k : ℕ) → k < t.states → slice_index_or row k false ≡ eqb k i) → IsImage t.states row (computes_relation t e) to → (b : Bool) → b ≡ slice_index_or to j false → IsTrue b ↔ Relates t e i j
 image_decides t e row to i j li lj one image b is =
     let told = image_of_one t.states row (computes_relation t e) to i li one image j lj in

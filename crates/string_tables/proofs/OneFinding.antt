@@ -1,4 +1,4 @@
--- A string has one finding: the first of the cases that holds, with its least numbers.
+-- A string has only one finding: the first of the cases that holds, with its least numbers.
 use Rattle.std.proofs.Common.{◌≡◌, ℕ, ◌⊎◌, ⊎_elim, Some, None, Bool, true, false, refl, sym, ◌∙◌, arith}
 use Rattle.std.proofs.lemmas.Bool.{false_from_ne_true}
 use Rattle.kat_model.specs.Trees.{Term}
@@ -11,7 +11,7 @@ use Rattle.string_tables.specs.Findings.{misfit, IsBefore, IsFirstBroken, Counts
 use Rattle.string_tables.proofs.Parts.{ends_by_acceptance}
 use Rattle.string_tables.proofs.Ends.{keeps_unbroken}
 
--- two least triples are one
+-- two least triples are equal
 
 cases_before : (g h i k j l : ℕ) → ((g ≡ h) × (i ≡ k) × (j ≡ l)) ⊎ (IsBefore g h i k j l ⊎ IsBefore h g k i l j)
 cases_before g h i k j l = grind arith
@@ -23,7 +23,7 @@ one_broken q x h i j g k l a b =
     (λ d. absurd (⊎_elim (λ p. b.first h i j p a.broken) (λ p. a.first g k l p b.broken) d))
     (cases_before h g i k j l)
 
--- what it is that the sides do not agree on, or agree on
+-- the finding that the sides give, if they differ or agree
 
 abbrev pub ends_of : Bool → Bool → Finding
 ends_of true true = EndsAgree true

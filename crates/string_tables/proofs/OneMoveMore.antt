@@ -1,4 +1,4 @@
--- The table of a string with one move more at its end.
+-- The table of a string with an additional move at its end.
 use Rattle.std.proofs.Common.{◌≡◌, ℕ, suc, ◌+◌, ◌<◌, List, [], ◌∷◌, ◌++◌, take, map, length, refl, sym, ap, ◌∙◌, arith, get_or}
 use Rattle.std.proofs.lemmas.List.{take_more, length-take-le, map-append}
 use Rattle.kat_model.specs.Relations.{Step}
@@ -13,7 +13,7 @@ steps_from-append k (n ∷ ms) m =
     let e : suc k + length ms ≡ k + suc (length ms) = omega arith in
     ap (λ l. step_at k n ∷ l) (steps_from-append (suc k) ms m ∙ ap (λ i. steps_from (suc k) ms ++ step_at i m ∷ []) e)
 
--- what a loop over the moves has made, after the move at i
+-- the result of a loop over the moves, after the move at i
 
 pub steps_from_pushed : (ms : List Move) (i : ℕ) (m : Move) (steps more : List Step) → i < length ms → m ≡ get_or ms i m → steps ≡ steps_from 0 (take i ms) → more ≡ steps ++ (record { from = i; act = m.act; to = i + 1 }) ∷ [] → more ≡ steps_from 0 (take (i + 1) ms)
 steps_from_pushed ms i m steps more lt is was pushed =

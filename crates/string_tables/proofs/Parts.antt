@@ -1,4 +1,4 @@
--- In the table of a string a term relates two positions exactly where it accepts the part between them.
+-- In the table of a string a term relates two positions exactly when it accepts the part between them.
 use Rattle.std.proofs.Common.{◌≡◌, ℕ, ◌+◌, ◌-◌, ◌≤◌, ◌↔◌, List, ◌++◌, take, drop, length, sym, ap, ◌∙◌, subst, arith, append_assoc}
 use Rattle.std.specs.Bool.{IsTrue}
 use Rattle.std.proofs.lemmas.List.{take-append-drop, length-take, length-drop, take_at, take_all}
@@ -37,7 +37,7 @@ part_relates x e i j li lj a =
 pub relates_by_part : (x : GuardedString) (e : Term) (i j : ℕ) → i ≤ length x.rest → j ≤ length x.rest → Relates (table_of x) e i j ↔ AcceptsPart x e i j
 relates_by_part x e i j li lj = (relates_part x e i j li lj, part_relates x e i j li lj)
 
--- a term relates the ends exactly where it accepts the string
+-- a term relates the ends exactly when it accepts the string
 pub ends_by_acceptance : (x : GuardedString) (e : Term) → RelatesEnds x e ↔ IsTrue (accepts e x.first x.rest)
 ends_by_acceptance x e =
     let n = length x.rest in
@@ -48,7 +48,7 @@ ends_by_acceptance x e =
       (λ a. part_relates x e 0 n (omega arith) (omega arith) (record { order = omega arith; accepted = rw part a })),
     )
 
--- a term accepts the part between two positions that it relates
+-- a term that relates two positions accepts a part of the string
 pub relates_within : (x : GuardedString) (e : Term) (i j : ℕ) → i ≤ length x.rest → j ≤ length x.rest → Relates (table_of x) e i j → IsWithin e x.first x.rest
 relates_within x e i j li lj r =
     let behind = drop i x.rest in

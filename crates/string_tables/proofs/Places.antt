@@ -1,4 +1,4 @@
--- What reading a place of a list gives, at the list's image.
+-- An element read at an index of a list, and its image in the mapped list.
 use Rattle.std.proofs.Common.{◌≡◌, ℕ, ◌<◌, List, map, length, get_or, All, slice_get, Some, refl, sym, ap, ◌∙◌, subst}
 use Rattle.std.specs.Option.{option_map}
 use Rattle.std.proofs.lemmas.List.{get_or-map, length-map}

@@ -14,7 +14,7 @@ use Rattle.string_tables.specs.Tables.{steps_from, table_of}
 abbrev pub step_at : ℕ → Move → Step
 step_at k m = record { from = k; act = m.act; to = suc k }
 
--- the move after a position, and what comes after it
+-- the move after a position, and the moves after that move
 abbrev pub IsMoveAt : List Move → ℕ → Move → List Move → Type 0
 IsMoveAt ms i m after = drop i ms ≡ m ∷ after
 
@@ -76,7 +76,7 @@ has_steps_from k (m ∷ ms) s h = ⊎_elim first (λ q. later (has_steps_from (s
 -- paths of the table
 
 module _ (x : GuardedString) where
-  -- a path from a position goes along what comes after it
+  -- a path from a position follows the moves after it
   pub record IsAlong (i : ℕ) (hops : List (Hop ℕ)) (j : ℕ) : Type 0 where
     pub after : List Move
     pub whole : drop i x.rest ≡ spelled (frame_of (table_of x)) hops ++ after
@@ -96,7 +96,7 @@ module _ (x : GuardedString) where
       let r = path_along h.to hops j p.2 in
       record { after = r.after; whole = place ∙ ap₂ (λ (m : Move) l. m ∷ l) move (sym behind ∙ r.whole); end = omega (arith, r.end, to) }
 
-  -- and there is one along each part
+  -- and there is a path along each part of the moves
   pub record IsLed (i : ℕ) (ms : List Move) : Type 0 where
     pub hops : List (Hop ℕ)
     pub path : IsPath (frame_of (table_of x)) i hops (i + length ms)

@@ -1,4 +1,4 @@
--- What reading a table gives: the atom at a state, and a move from a state to a state.
+-- Reading a table: the atom at a state, and the states of a move.
 use Rattle.std.proofs.Common.{◌≡◌, ℕ, ◌<◌, List, [], length, get_or, refl, sym, ap, ◌∙◌, subst, Bool, arith}
 use Rattle.std.proofs.lemmas.List.{get_or_read}
 use Rattle.std.proofs.lemmas.Option.{slice_get_read}

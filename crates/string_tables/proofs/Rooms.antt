@@ -1,4 +1,4 @@
--- The matrices or rows that an evaluation has room in: their sizes, and those of a front and the rest.
+-- The matrices or rows of an evaluation: their sizes, and the sizes of a prefix and the rest.
 use Rattle.std.proofs.Common.{◌≡◌, ℕ, ◌+◌, ◌<◌, ◌≤◌, List, ◌++◌, map, All, length, get_or, sym, ap, ◌∙◌, arith}
 use Rattle.std.proofs.lemmas.List.{map-append, get_or-map, get_or-append-add, get_or_append_left, length-map, length-append}
 use Rattle.kat_model.specs.Trees.{Term, zero, one, test, act, sum, product, star, term_height}

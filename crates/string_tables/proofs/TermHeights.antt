@@ -1,4 +1,4 @@
--- Heights of terms: they are bounded by sizes, and the greatest is found by going through a list.
+-- Heights of terms: they are bounded by sizes, and a traversal of a list finds the greatest.
 use Rattle.std.proofs.Common.{◌≡◌, ℕ, zero as nought, suc, ◌+◌, ◌<◌, ◌≤◌, max, List, [], ◌∷◌, length, get_or, map, drop, sym, ap, ◌∙◌, arith}
 use Rattle.std.proofs.lemmas.List.{at_drop_more}
 use Rattle.kat_model.specs.declared.tree.Kat.{Kat}

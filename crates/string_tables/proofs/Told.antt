@@ -1,4 +1,4 @@
--- Products and closures of relations that matrices tell.
+-- Products and closures of relations that matrices represent.
 use Rattle.std.proofs.Common.{◌≡◌, ℕ, zero, suc, ◌<◌, ◌≤◌, Bool, ◌&&◌, ◌||◌, eqb, refl, ap, ◌∙◌, arith}
 use mathlib.Core.Path.{ap₂}
 use Rattle.kat_model.specs.Working.Decided.{some_below, warshall}

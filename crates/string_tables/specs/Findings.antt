@@ -8,7 +8,7 @@ use Rattle.string_tables.specs.Tables.{table_of, RelatesEnds}
 use Rattle.string_tables.specs.declared.finding.Finding.{Finding}
 use Rattle.string_tables.specs.declared.finding.Finding.TheVariants.{Refutes as RefutesBy, Shape, HypBroken, EndsAgree}
 
--- the least position from k on whose atom has not a value for each test, or whose action is out of range
+-- the least position from k on whose atom does not assign every test, or whose action is out of range
 abbrev pub misfit_from : ℕ → ℕ → ℕ → List Move → Option ℕ
 misfit_from tests actions k [] = None
 misfit_from tests actions k (m ∷ ms) = if nat_lt m.act actions && (length m.atom == tests) then misfit_from tests actions (suc k) ms else Some k
@@ -24,7 +24,7 @@ pub record IsBroken (q : ProblemParts) (x : GuardedString) (h i j : ℕ) : Type 
   pub to : j < suc (length x.rest)
   pub relates : Relates (table_of x) hyp i j
 
--- the first numbers decide, then the second, then the third
+-- triples are ordered by the first number, then by the second, then by the third
 abbrev pub IsBefore : ℕ → ℕ → ℕ → ℕ → ℕ → ℕ → Type 0
 IsBefore g h i k j l = (g < h) ⊎ ((g ≡ h) × ((i < k) ⊎ ((i ≡ k) × (j < l))))
 

@@ -1,4 +1,4 @@
--- The laws of strings and their tables. Each stands on a function of the crate that does nothing.
+-- The laws of strings and their tables. Each is the contract of a function of the crate that does nothing.
 use Rattle.std.specs.Prelude.{◌≡◌, ◌≢◌, ◌↔◌, ◌-◌, ◌≤◌, ℕ, length, take, drop, IsTrue}
 use Rattle.kat_model.specs.Trees.{Term}
 use Rattle.kat_model.specs.Problems.{ProblemParts}
@@ -14,22 +14,22 @@ pub record AcceptsPart (x : GuardedString) (e : Term) (i j : ℕ) : Type 0 where
   pub order : i ≤ j
   pub accepted : IsTrue (accepts e (last_atom x.first (take i x.rest)) (take (j - i) (drop i x.rest)))
 
--- a term relates two positions exactly where it accepts the part between them
+-- a term relates two positions exactly when it accepts the part between them
 abbrev pub RelatesByParts : Type 0
 RelatesByParts = (x : GuardedString) (e : Term) (i j : ℕ) → i ≤ length x.rest → j ≤ length x.rest → Relates (table_of x) e i j ↔ AcceptsPart x e i j
 
--- whether the closed sides accept the string alike
+-- exactly one of the closed sides accepts the string
 abbrev pub ClosedDiffer : ProblemParts → GuardedString → Type 0
 ClosedDiffer q x = accepts (closed q).left x.first x.rest ≢ accepts (closed q).right x.first x.rest
 
--- a string refutes a question exactly where it fits and exactly one closed side accepts it
+-- a string refutes a question exactly when it fits and exactly one closed side accepts it
 abbrev pub RefutesByClosed : Type 0
 RefutesByClosed = (q : ProblemParts) (x : GuardedString) → Refutes q x ↔ (IsString q.tests q.actions x × ClosedDiffer q x)
 
--- a question that a string refutes is not same
+-- the sides of a question that a string refutes are not the same
 abbrev pub RefutedAreNotSame : Type 0
 RefutedAreNotSame = (q : ProblemParts) (x : GuardedString) → Refutes q x → Same q → ⊥
 
--- a string has one finding
+-- a string has only one finding
 abbrev pub HasOneFinding : Type 0
 HasOneFinding = (q : ProblemParts) (x : GuardedString) (f g : Finding) → IsFinding q x f → IsFinding q x g → f ≡ g

@@ -6,7 +6,7 @@ use Rattle.kat_model.specs.Problems.{ProblemParts, HasTestsBelow}
 use Rattle.kat_model.specs.Relations.{Step, Table, atom_at, Relates, Keeps}
 use Rattle.kat_model.specs.Strings.{Move, GuardedString, IsString}
 
--- each position leads to the next, from position k on
+-- the steps from each position to the next, from position k on
 abbrev pub steps_from : ℕ → List Move → List Step
 steps_from k [] = []
 steps_from k (m ∷ ms) = record { from = k; act = m.act; to = suc k } ∷ steps_from (suc k) ms
@@ -19,7 +19,7 @@ table_of x = record { states = suc (length x.rest); truths = x.first ∷ map (λ
 abbrev pub RelatesEnds : GuardedString → Term → Type 0
 RelatesEnds x e = Relates (table_of x) e 0 (length x.rest)
 
--- one of two facts, and not the other
+-- exactly one of two facts holds
 abbrev pub ExactlyOne : Type 0 → Type 0 → Type 0
 ExactlyOne A B = (A × (B → ⊥)) ⊎ ((A → ⊥) × B)
 
@@ -29,17 +29,17 @@ pub record Refutes (q : ProblemParts) (x : GuardedString) : Type 0 where
   pub keeps : Keeps (table_of x) q.hyps
   pub differs : ExactlyOne (RelatesEnds x q.left) (RelatesEnds x q.right)
 
--- a table of which terms may be asked: one list of truth values for each state, and moves between states
+-- a table in which terms can be evaluated: one list of truth values for each state, and moves between states
 pub record IsWhole (t : Table) : Type 0 where
   pub rows : length t.truths ≡ t.states
   pub moves : (m : Step) → Has t.moves m → (m.from < t.states) × (m.to < t.states)
 
--- how high terms and how many states a bench has room for
+-- the height of terms and the number of states that a bench has room for
 pub record Room : Type 0 where
   pub depth : ℕ
   pub states : ℕ
 
--- the term may be asked of the table on a bench with this room
+-- the term can be evaluated in the table on a bench with this room
 pub record MayBeAsked (room : Room) (t : Table) (e : Term) : Type 0 where
   pub whole : IsWhole t
   pub states : t.states ≤ room.states

@@ -1,4 +1,4 @@
-//! Evaluation of terms over small tables, in memory that is taken before.
+//! Evaluation of terms over small tables, in memory that is allocated in advance.
 ghost use Rattle.std.specs.Prelude.{◌≡◌, ◌<◌, ◌↔◌, IfOk, IsTrue};
 ghost use Rattle.kat_model.specs.Trees.{kat_tree};
 ghost use Rattle.kat_model.specs.Relations.{Relates};
@@ -30,7 +30,8 @@ impl Model for Bench {
 }
 
 impl Bench {
-    /// Takes all memory that terms of that height over tables of that many states need.
+    /// Takes all memory for terms of at most height `depth` over tables of at most `states` states. Fails only when out
+    /// of memory.
     pub fn new(alloc: Global, depth: usize, states: usize) -> Result<Bench, NoMemory>
         ensures { IfOk result (λ b. b ≡ record { depth = depth; states = states }) }
     {
@@ -42,7 +43,7 @@ impl Bench {
         })
     }
 
-    /// Whether the term relates state i of the table to state j. It takes no memory and cannot be refused.
+    /// Returns whether the term relates state i of the table to state j. Takes no memory and cannot fail.
     pub fn relates(&mut self, table: &Table, term: &Kat, i: usize, j: usize) -> bool
         requires asked { MayBeAsked self.old table.now (kat_tree term.now) }
         requires from { i < table.now.states }

@@ -1,4 +1,4 @@
-//! Which hypotheses a table breaks.
+//! The hypotheses that a table breaks.
 ghost use Rattle.std.specs.Prelude.{◌≡◌, ◌≤◌, All, map, false, MatchOption};
 ghost use Rattle.kat_model.specs.Trees.{kat_tree};
 ghost use Rattle.kat_model.specs.Relations.{Keeps};
@@ -10,7 +10,7 @@ use crate::levels::Levels;
 use crate::table::Table;
 use kat_model::Kat;
 
-// The first two states that the term that was filled in relates.
+// Returns the first two states that the term in the top matrix relates.
 fn related_pair(levels: &Levels, n: usize) -> Option<(usize, usize)>
     requires { n ≤ levels.now.room.states }
     ensures { MatchOption result (Tells n levels.now.top (λ i j. false)) (λ pair. IsFirstEntry n levels.now.top pair.0 pair.1) }
@@ -25,7 +25,7 @@ fn related_pair(levels: &Levels, n: usize) -> Option<(usize, usize)>
     None
 }
 
-/// The first hypothesis that relates some states, and the first two states that it relates.
+/// Returns the first hypothesis that relates some states, and the first two states that it relates.
 pub(crate) fn first_broken(
     levels: &mut Levels,
     table: &Table,

@@ -1,4 +1,4 @@
-//! Evaluation of a term over a table, from its parts upwards.
+//! Evaluation of a term over a table, from its parts to the whole.
 ghost use Rattle.std.specs.Prelude.{◌≡◌, ◌+◌, ◌<◌, ◌≤◌, ℕ, All, length};
 ghost use Rattle.kat_model.specs.Trees.{kat_tree, term_height};
 ghost use Rattle.kat_model.specs.Relations.{atom_at};
@@ -13,8 +13,8 @@ use crate::operations::{close, join, multiply, put_identity};
 use crate::table::Table;
 use kat_model::Kat;
 
-/// Makes the matrix that of the term. The matrices below are for parts of the term: with this one there are
-/// as many as it is high.
+/// Sets the matrix to that of the term. The matrices below are for parts of the term; with this matrix there are at
+/// least as many as the height of the term.
 pub(crate) fn evaluate(
     table: &Table,
     term: &Kat,

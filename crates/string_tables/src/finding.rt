@@ -17,17 +17,17 @@ use std::alloc::Global;
 /// What a string shows of a problem. Positions, hypotheses and states are numbered from 0.
 #[derive(Clone, Copy, Debug, PartialEq, Eq)]
 pub enum Finding {
-    /// It refutes the problem. The flag tells that the left side is the one that relates its ends.
+    /// The string refutes the problem. The flag is true if the left side relates the ends.
     Refutes(bool),
-    /// At this position the atom has not a value for each test, or the action into it is out of range.
+    /// At this position the atom does not assign every test, or the action into it is out of range.
     Shape(usize),
-    /// This hypothesis relates the first position named to the second.
+    /// This hypothesis relates the first of these positions to the second.
     HypBroken(usize, usize, usize),
     /// Both sides relate the ends, or neither does.
     EndsAgree(bool),
 }
 
-// The height of the highest of the hypotheses and the sides.
+// Returns the greatest height of the hypotheses and the sides.
 fn height_of(problem: &Problem) -> usize
     ensures { result ≡ question_height problem.now }
 {
@@ -38,7 +38,7 @@ fn height_of(problem: &Problem) -> usize
     height
 }
 
-// Whether the term relates the first state of the table to the last.
+// Returns whether the term relates the first state of the table to the last.
 fn relates_ends(levels: &mut Levels, table: &Table, term: &Kat) -> bool
     requires asked { MayBeAsked levels.old.room table.now (kat_tree term.now) }
     requires some { 0 < table.now.states }
@@ -48,7 +48,7 @@ fn relates_ends(levels: &mut Levels, table: &Table, term: &Kat) -> bool
     levels.relates(table, term, 0, table.states - 1)
 }
 
-// What the string shows, by its table, in memory that is enough.
+// Returns what the string shows, computed from its table in sufficient memory.
 fn finding_of(levels: &mut Levels, table: &Table, problem: &Problem, string: &GString) -> Finding
     requires table { table.now ≡ string_table string.now }
     requires depth { question_height problem.now ≤ levels.old.room.depth }
@@ -70,16 +70,15 @@ fn finding_of(levels: &mut Levels, table: &Table, problem: &Problem, string: &GS
     }
 }
 
-/// What the string shows of the problem: the first of these cases that holds, with its least numbers.
+/// Returns what the string shows of the problem: the first of these cases that holds, with its least numbers.
 ///
-/// 1. `Shape(k)`: k is the least position whose atom has not a value for each test, or whose incoming action
-///    is out of range.
+/// 1. `Shape(k)`: k is the least position whose atom does not assign every test, or whose action into it is out of
+///    range.
 /// 2. `HypBroken(h, i, j)`: the least triple such that hypothesis h relates i to j in the string's table.
-/// 3. `EndsAgree(true)` where both sides relate the first position to the last, and `EndsAgree(false)` where
-///    neither does.
-/// 4. `Refutes(b)`, where b tells that the left side is the one that relates them.
+/// 3. `EndsAgree(true)` if both sides relate the first position to the last, and `EndsAgree(false)` if neither does.
+/// 4. `Refutes(b)`: exactly one side relates them, the left side if b is true.
 ///
-/// Memory is taken first, and its want is the only refusal.
+/// Memory is taken first. Fails only when out of memory.
 pub fn verdict(alloc: Global, problem: &Problem, string: &GString) -> Result<Finding, NoMemory>
     ensures { IfOk result (λ finding. IsFinding problem.now string.now finding) }
 {
@@ -88,7 +87,7 @@ pub fn verdict(alloc: Global, problem: &Problem, string: &GString) -> Result<Fin
     Ok(finding_of(&mut levels, &table, problem, string))
 }
 
-/// Whether the string refutes the problem: it fits, its table keeps the hypotheses, and exactly one side
+/// Returns whether the string refutes the problem: it fits, its table keeps the hypotheses, and exactly one side
 /// relates its ends. Fails only when out of memory.
 pub fn refutes(alloc: Global, problem: &Problem, string: &GString) -> Result<bool, NoMemory>
     ensures { IfOk result (λ shown. IsTrue shown ↔ Refutes problem.now string.now) }

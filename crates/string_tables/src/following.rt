@@ -1,4 +1,4 @@
-//! The states that a term leads to from a set of states, found from one row and not from a whole matrix.
+//! The states that a term leads to from a set of states, computed from one row and not from a whole matrix.
 ghost use Rattle.std.specs.Prelude.{◌≡◌, ◌+◌, ◌<◌, ◌≤◌, ℕ, All, length};
 ghost use Rattle.kat_model.specs.Trees.{kat_tree, term_height};
 ghost use Rattle.kat_model.specs.Relations.{atom_at};
@@ -14,8 +14,8 @@ use crate::operations::{close, row_product};
 use crate::table::Table;
 use kat_model::Kat;
 
-/// Makes the row, as a set of states, its image under the term. The rows and the matrices are for parts of the
-/// term: only a star is evaluated whole, so that each other node takes one pass over the states or the moves.
+/// Sets the row, a set of states, to its image under the term. The rows and the matrices are for parts of the term.
+/// Only a star is evaluated as a whole matrix, so each other node takes one pass over the states or the moves.
 pub(crate) fn follow(
     table: &Table,
     term: &Kat,

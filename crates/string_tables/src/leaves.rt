@@ -1,4 +1,4 @@
-//! Tests and actions in a table: their matrices, and the images of sets of states under them.
+//! Tests and actions in a table: their matrices, and the images of sets of states under tests and actions.
 ghost use Rattle.std.specs.Prelude.{◌≡◌, ◌<◌, ◌≤◌, ◌&&◌, eqb, ℕ, false, length, slice_index_or};
 ghost use Rattle.std.specs.List.{list_any};
 ghost use Rattle.kat_model.specs.Trees.{test_tree};
@@ -13,7 +13,7 @@ use crate::matrix::{Matrix, Row};
 use crate::table::Table;
 use kat_model::Test;
 
-/// Each state at which the test is true, and itself.
+/// Sets the matrix to the relation of the test: each state at which the test is true, and itself.
 pub(crate) fn put_test(m: &mut Matrix, table: &Table, test: &Test)
     requires whole { IsWhole table.now }
     requires tests { (i : ℕ) → i < table.now.states → IsTestInRange (length (atom_at table.now i)) (test_tree test.now) }
@@ -30,7 +30,7 @@ pub(crate) fn put_test(m: &mut Matrix, table: &Table, test: &Test)
     }
 }
 
-/// The moves by the action.
+/// Sets the matrix to the relation of the action: the moves by it.
 pub(crate) fn put_action(m: &mut Matrix, table: &Table, act: usize)
     requires whole { IsWhole table.now }
     requires own { table.now.states ≤ m.old.size }
@@ -45,7 +45,7 @@ pub(crate) fn put_action(m: &mut Matrix, table: &Table, act: usize)
     }
 }
 
-/// Those states of the row at which the test is true.
+/// Keeps the states of the row at which the test is true.
 pub(crate) fn keep_true(row: &mut Row, table: &Table, test: &Test)
     requires whole { IsWhole table.now }
     requires tests { (i : ℕ) → i < table.now.states → IsTestInRange (length (atom_at table.now i)) (test_tree test.now) }
@@ -61,7 +61,7 @@ pub(crate) fn keep_true(row: &mut Row, table: &Table, test: &Test)
     }
 }
 
-/// The states that the action leads to from those of the row.
+/// Sets `to` to the states that the action leads to from the states of the row.
 pub(crate) fn follow_action(row: &Row, table: &Table, act: usize, to: &mut Row)
     requires whole { IsWhole table.now }
     requires row { table.now.states ≤ length row.now }

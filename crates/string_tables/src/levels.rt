@@ -1,4 +1,4 @@
-//! The memory that terms are evaluated in.
+//! The memory in which terms are evaluated.
 ghost use Rattle.std.specs.Prelude.{◌≡◌, ◌↔◌, ◌<◌, ◌≤◌, IfOk, IsTrue};
 ghost use Rattle.kat_model.specs.Trees.{kat_tree};
 ghost use Rattle.kat_model.specs.Relations.{Relates};
@@ -14,8 +14,7 @@ use kat_model::{Kat, NoMemory};
 use std::alloc::Global;
 use std::marker::Model;
 
-/// A matrix for the term that is evaluated and a row for the set that is followed, one of each for each level
-/// below, and a spare row.
+/// A matrix for the evaluated term and a row for the followed set, one of each for each level below, and a spare row.
 #[derive(Drop)]
 pub(crate) struct Levels {
     top: Matrix,
@@ -36,7 +35,7 @@ impl Model for Levels {
 }
 
 impl Levels {
-    /// Takes memory for terms that are at most so high, over tables of at most so many states.
+    /// Takes memory for terms of at most height `depth`, over tables of at most `states` states.
     pub(crate) fn new(alloc: Global, depth: usize, states: usize) -> Result<Levels, NoMemory>
         ensures depth { IfOk result (λ l. depth ≤ l.room.depth) }
         ensures states { IfOk result (λ l. l.room.states ≡ states) }
@@ -59,7 +58,7 @@ impl Levels {
         })
     }
 
-    /// Evaluates a term at all states, into the top matrix.
+    /// Evaluates a term at all states, in the top matrix.
     pub(crate) fn fill(&mut self, table: &Table, term: &Kat)
         requires { MayBeAsked self.old.room table.now (kat_tree term.now) }
         ensures told { Tells table.now.states self.new.top (computes_relation table.now (kat_tree term.now)) }
@@ -68,7 +67,7 @@ impl Levels {
         evaluate(table, term, &mut self.top, &mut self.below, &mut self.spare);
     }
 
-    /// An entry of the top matrix.
+    /// Returns an entry of the top matrix.
     pub(crate) fn at(&self, i: usize, j: usize) -> bool
         requires from { i < self.now.room.states }
         requires to { j < self.now.room.states }
@@ -77,7 +76,7 @@ impl Levels {
         self.top.at(i, j)
     }
 
-    /// Whether the term relates i to j, found from i alone. The top matrix may change.
+    /// Returns whether the term relates i to j, computed only from i. The top matrix may change.
     pub(crate) fn relates(&mut self, table: &Table, term: &Kat, i: usize, j: usize) -> bool
         requires asked { MayBeAsked self.old.room table.now (kat_tree term.now) }
         requires from { i < table.now.states }

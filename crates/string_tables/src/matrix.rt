@@ -21,7 +21,7 @@ impl Model for Row {
 }
 
 impl Row {
-    /// A row of n entries that are false.
+    /// Returns a row of n entries that are false.
     pub(crate) fn new(alloc: Global, n: usize) -> Result<Row, NoMemory>
         ensures { IfOk result (λ r. r ≡ replicate n false) }
     {
@@ -62,7 +62,7 @@ impl Row {
         }
     }
 
-    /// Makes the first n entries those of the other row.
+    /// Copies the first n entries of the other row.
     pub(crate) fn copy_from(&mut self, other: &Row, n: usize)
         requires own { n ≤ length self.old }
         requires others { n ≤ length other.now }
@@ -72,7 +72,7 @@ impl Row {
         copy_values(&mut self.values, &other.values, n);
     }
 
-    /// Makes those of the first n entries true that are true in the other row.
+    /// Makes each of the first n entries true that is true in the other row.
     pub(crate) fn join(&mut self, other: &Row, n: usize)
         requires own { n ≤ length self.old }
         requires others { n ≤ length other.now }
@@ -83,7 +83,7 @@ impl Row {
     }
 }
 
-// Makes the first n values those of the other list.
+// Copies the first n values of the other list.
 fn copy_values(own: &mut [bool], other: &[bool], n: usize)
     requires own { n ≤ length own.old }
     requires others { n ≤ length other.now }
@@ -93,7 +93,7 @@ fn copy_values(own: &mut [bool], other: &[bool], n: usize)
     own[..n].copy_from_slice(&other[..n]);
 }
 
-// Makes those of the first n values true that are true in the other list.
+// Makes each of the first n values true that is true in the other list.
 fn join_values(own: &mut [bool], other: &[bool], n: usize)
     requires own { n ≤ length own.old }
     requires others { n ≤ length other.now }
@@ -105,7 +105,7 @@ fn join_values(own: &mut [bool], other: &[bool], n: usize)
     }
 }
 
-/// A matrix with as many rows as columns.
+/// A square matrix.
 #[derive(Drop)]
 pub(crate) struct Matrix {
     size: usize,
@@ -172,7 +172,7 @@ impl Matrix {
         }
     }
 
-    /// Makes the first n entries of a row those of the other row.
+    /// Copies the first n entries of the other row to row i.
     pub(crate) fn put_row(&mut self, i: usize, other: &Row, n: usize)
         requires row { i < self.old.size }
         requires own { n ≤ self.old.size }
@@ -185,7 +185,7 @@ impl Matrix {
         row.copy_from(other, n);
     }
 
-    /// Makes those of the first n entries of a row true that are true in the other row.
+    /// Makes each of the first n entries of row i true that is true in the other row.
     pub(crate) fn join_row(&mut self, i: usize, other: &Row, n: usize)
         requires row { i < self.old.size }
         requires own { n ≤ self.old.size }

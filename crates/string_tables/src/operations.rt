@@ -1,11 +1,11 @@
-//! Matrices of relations: those of the constants, and sums, products and closures.
+//! Matrices of relations: the identity, and unions, products and closures.
 ghost use Rattle.std.specs.Prelude.{◌≡◌, ◌<◌, ◌≤◌, ◌&&◌, ◌||◌, eqb, ℕ, false, length, slice_index_or};
 ghost use Rattle.kat_model.specs.Working.Decided.{some_below, warshall};
 ghost use Rattle.string_tables.specs.Working.Matrices.{row_at, entry, Tells};
 
 use crate::matrix::{Matrix, Row};
 
-/// Makes the entry of each number and itself true.
+/// Makes the diagonal entries true.
 fn mark_diagonal(m: &mut Matrix, n: usize)
     requires { n ≤ m.old.size }
     ensures marked { Tells n m.new (λ i j. eqb i j || entry m.old i j) }
@@ -16,7 +16,7 @@ fn mark_diagonal(m: &mut Matrix, n: usize)
     }
 }
 
-/// The identity relation.
+/// Sets the matrix to the identity relation.
 pub(crate) fn put_identity(m: &mut Matrix, n: usize)
     requires { n ≤ m.old.size }
     ensures told { Tells n m.new (λ i j. eqb i j) }
@@ -26,7 +26,7 @@ pub(crate) fn put_identity(m: &mut Matrix, n: usize)
     mark_diagonal(m, n);
 }
 
-/// The union with another relation.
+/// Joins another relation to the matrix.
 pub(crate) fn join(m: &mut Matrix, other: &Matrix, n: usize)
     requires own { n ≤ m.old.size }
     requires others { n ≤ other.now.size }
@@ -38,7 +38,7 @@ pub(crate) fn join(m: &mut Matrix, other: &Matrix, n: usize)
     }
 }
 
-/// One row of a product: the union of the rows that the row names.
+/// Sets `to` to one row of a product: the union of the rows of `right` that `row` names.
 pub(crate) fn row_product(row: &Row, right: &Matrix, to: &mut Row, n: usize)
     requires row { n ≤ length row.now }
     requires right { n ≤ right.now.size }
@@ -54,7 +54,7 @@ pub(crate) fn row_product(row: &Row, right: &Matrix, to: &mut Row, n: usize)
     }
 }
 
-/// The product with another relation.
+/// Multiplies the matrix by another relation.
 pub(crate) fn multiply(m: &mut Matrix, other: &Matrix, spare: &mut Row, n: usize)
     requires own { n ≤ m.old.size }
     requires others { n ≤ other.now.size }
@@ -86,7 +86,7 @@ fn join_through(m: &mut Matrix, k: usize, spare: &mut Row, n: usize)
     }
 }
 
-/// The reflexive and transitive closure, by Warshall's steps.
+/// Sets the matrix to its reflexive and transitive closure, by Warshall's steps.
 pub(crate) fn close(m: &mut Matrix, spare: &mut Row, n: usize)
     requires own { n ≤ m.old.size }
     requires spare { n ≤ length spare.old }

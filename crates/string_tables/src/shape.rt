@@ -5,7 +5,7 @@ ghost use Rattle.string_tables.specs.Findings.{misfit as string_misfit};
 use crate::string::GString;
 use kat_model::Problem;
 
-/// The least position whose atom has not a value for each test, or whose incoming action is out of range.
+/// Returns the least position whose atom does not assign every test, or whose action into it is out of range.
 pub(crate) fn misfit(problem: &Problem, string: &GString) -> Option<usize>
     ensures { result ≡ string_misfit problem.now string.now }
 {

@@ -2,8 +2,7 @@
 use kat_model::Items;
 use std::marker::Model;
 
-/// An action, and the truth values after it. The action is a number from 0, and the values are those of the
-/// tests in order, test 0 first.
+/// An action, numbered from 0, and the truth values of the tests after it, test 0 first.
 #[derive(Drop)]
 pub struct Move {
     pub act: usize,
@@ -18,7 +17,7 @@ impl Model for Move {
     ghost view = { λ m. record { act = m.act; atom = m.atom } };
 }
 
-/// A guarded string: the truth values at first, and moves (Kaplan 1969; Kozen and Smith 1996).
+/// A guarded string: the first truth values, and moves (Kaplan 1969; Kozen and Smith 1996).
 #[derive(Drop)]
 pub struct GString {
     pub first: Items<bool>,

@@ -41,7 +41,7 @@ impl Model for Table {
     ghost view = { λ t. record { states = t.states; truths = t.truths; moves = t.moves } };
 }
 
-// The same truth values again.
+// Returns a copy of the truth values.
 fn copy_of(alloc: Global, atom: &Items<bool>) -> Result<Items<bool>, NoMemory>
     ensures { IfOk result (λ a. a ≡ atom.now) }
 {
@@ -49,7 +49,7 @@ fn copy_of(alloc: Global, atom: &Items<bool>) -> Result<Items<bool>, NoMemory>
     Ok(Items::of(values))
 }
 
-/// The table of a string: its positions are the states, the truth values at each are its atom, and the only
+/// Returns the table of a string: its positions are the states, the truth values at each are its atom, and the only
 /// moves are from each position to the next. Fails only when out of memory.
 pub fn table_of(alloc: Global, string: &GString) -> Result<Table, NoMemory>
     ensures { IfOk result (λ t. t ≡ string_table string.now) }

@@ -1,4 +1,4 @@
--- Lists of nodes that grow: older numbers keep their trees.
+-- Growing lists of nodes: older numbers keep their trees.
 use Rattle.std.proofs.Common.{◌≡◌, ℕ, [], ◌∷◌, refl, sym, ap, subst, ◌∙◌, append-nil, inl, inr, length, Result, Ok, Err, IfOk, Some, slice_get}
 use Rattle.term_nodes.specs.declared.TestNode.{TestNode}
 use Rattle.term_nodes.specs.declared.TermNode.{TermNode}
@@ -32,7 +32,7 @@ Grows-trans a b c first second = record {
   trees = λ i h. second.trees i (first.term_numbers i h) ∙ first.trees i h;
 }
 
--- it is enough that the old nodes are a prefix
+-- it suffices that the old nodes are a prefix
 prefixes_grow : (old new : NodeParts) → AreNodes old → AreNodes new → IsPrefix old.tests new.tests → IsPrefix old.terms new.terms → Grows old new
 prefixes_grow old new is becomes tests terms = record {
   tests = tests;
@@ -58,7 +58,7 @@ AddsTerm-grows old new node is becomes adds =
       | inr more ↦ prefixes_grow old new is becomes ([], ap (λ s. s.tests) more ∙ sym (append-nil old.tests)) (node ∷ [], ap (λ s. s.terms) more)
     ]
 
--- the number that a call gives to a node has the tree of the node
+-- the number that a call returns for a node has the tree of the node
 pub test_interned : {E : Type 0} (r : Result ℕ E) (old new : NodeParts) (node : TestNode ℕ) → Grows old new → AreNodes new → IsTestOver (length old.tests) node
     → IfOk r (λ i. slice_get new.tests i ≡ Some node) → IfOk r (λ i. test_tree_at new i ≡ test_tree_in old node)
 test_interned (Ok i) old new node kept is over p = test_tree_at-node new is i node p ∙ test_tree_in-kept old new kept.test_trees node over

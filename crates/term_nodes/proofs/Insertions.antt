@@ -1,4 +1,4 @@
--- Lists to which a node is added: what an insert leaves, and that the rules of lists of nodes are kept.
+-- Lists to which a node is added: the result of an insertion, and that it keeps the rules of lists of nodes.
 use Rattle.std.proofs.Common.{◌≡◌, ◌⊎◌, ◌≤◌, inl, inr, ⊎_elim, ℕ, List, [], ◌∷◌, ◌++◌, length, Bool, true, false, if◌then◌else◌, Some, slice_get, refl, sym, subst, arith, length-append, Result, Ok, Err, IfOk, OnErr}
 use Rattle.std.specs.List.{list_any, IsDistinct}
 use Rattle.indexmap.specs.IndexSet.{insert_key}
@@ -11,7 +11,7 @@ use Rattle.term_nodes.specs.Nodes.{IsTestOver, IsOver}
 use Rattle.term_nodes.proofs.Parts.{IsOver-more}
 use Rattle.term_nodes.specs.NodeLists.{NodeParts, AreNodes}
 
--- the list stayed, or x is new and stands last
+-- the list is unchanged, or x is new and appended
 abbrev pub AddsLast : {X : Type 0} → List X → List X → X → Type 0
 AddsLast old new x = (new ≡ old) ⊎ (new ≡ old ++ x ∷ [])
 
@@ -19,12 +19,12 @@ insert_key_adds : {X : Type 0} (eq : X → X → Bool) (xs : List X) (x : X) →
 insert_key_adds eq xs x =
     elim (list_any (eq x) xs) as (λ v. AddsLast xs (if v then xs else (xs ++ x ∷ [])) x) [ true ↦ inl refl | false ↦ inr refl ]
 
--- what an insert does to the list, refused or not
+-- the effect of an insertion on the list, whether it succeeds or fails
 pub insert_adds : {X T E : Type 0} (eq : X → X → Bool) (r : Result T E) (old new : List X) (x : X) → IfOk r (λ _. new ≡ insert_key eq old x) → OnErr r (new ≡ old) → AddsLast old new x
 insert_adds eq (Ok t) old new x e same = subst (λ l. AddsLast old l x) (sym e) (insert_key_adds eq old x)
 insert_adds eq (Err t) old new x e same = inl same
 
--- the node at each place of a list with one more, where the older ones and the new one have the property
+-- a property of the older nodes and of the new one holds for the node at each place
 added_each : {X : Type 0} (P : ℕ → X → Type 0) (old new : List X) (x : X) → AddsLast old new x → ((i : ℕ) (y : X) → slice_get old i ≡ Some y → P i y) → P (length old) x → (i : ℕ) (y : X) → slice_get new i ≡ Some y → P i y
 added_each {X} P old new x adds each last i y e =
     elim adds [
@@ -35,7 +35,7 @@ added_each {X} P old new x adds each last i y e =
       ]
     ]
 
--- the members of a list with one more, and none of them twice
+-- the members of a list with an additional one, and that no member occurs twice
 pub has_pushed : {X : Type 0} (xs : List X) (x y : X) → Has (xs ++ x ∷ []) y → Has xs y ⊎ (x ≡ y)
 has_pushed xs x y h = ⊎_elim inl (λ k. ⊎_elim inr absurd k) (has_append xs (x ∷ []) y h)
 
@@ -63,7 +63,7 @@ added_members {X} P old new x adds each last y h =
 pushed_longer : {X : Type 0} (old : List X) (x : X) → length old ≤ length (old ++ x ∷ [])
 pushed_longer old x = omega (arith, length-append old (x ∷ []))
 
--- a new node behind those that it names
+-- a new node after those that it names
 pub test_pushed : (nodes : NodeParts) (node : TestNode ℕ) → AreNodes nodes → IsTestOver (length nodes.tests) node → (Has nodes.tests node → ⊥) → AreNodes (record { tests = nodes.tests ++ node ∷ []; terms = nodes.terms })
 test_pushed nodes node is over new = record {
   tests_ordered = added_each IsTestOver nodes.tests (nodes.tests ++ node ∷ []) node (inr refl) is.tests_ordered over;
@@ -80,7 +80,7 @@ term_pushed nodes node is over new = record {
   terms_once = no_doubles_pushed nodes.terms node is.terms_once new;
 }
 
--- the nodes after an insert of a node of a test that names only tests of them, refused or not
+-- the nodes after the insertion of a test node that names only their tests, whether it succeeds or fails
 pub test_inserted : {T E : Type 0} (eq : TestNode ℕ → TestNode ℕ → Bool) → ((x : TestNode ℕ) → eq x x ≡ true) → (r : Result T E) (nodes : NodeParts) (tests : List (TestNode ℕ)) (node : TestNode ℕ) → AreNodes nodes → IsTestOver (length nodes.tests) node → IsDistinct eq tests → IfOk r (λ _. tests ≡ insert_key eq nodes.tests node) → OnErr r (tests ≡ nodes.tests) → AreNodes (record { tests = tests; terms = nodes.terms })
 test_inserted eq own r nodes tests node is over unique e same =
     let adds = insert_adds eq r nodes.tests tests node e same in
@@ -91,7 +91,7 @@ test_inserted eq own r nodes tests node is over unique e same =
       terms_once = is.terms_once;
     }
 
--- and after an insert of a node of a term
+-- and after the insertion of a term node
 pub term_inserted : {T E : Type 0} (eq : TermNode ℕ ℕ → TermNode ℕ ℕ → Bool) → ((x : TermNode ℕ ℕ) → eq x x ≡ true) → (r : Result T E) (nodes : NodeParts) (terms : List (TermNode ℕ ℕ)) (node : TermNode ℕ ℕ) → AreNodes nodes → IsOver (length nodes.tests) (length nodes.terms) node → IsDistinct eq terms → IfOk r (λ _. terms ≡ insert_key eq nodes.terms node) → OnErr r (terms ≡ nodes.terms) → AreNodes (record { tests = nodes.tests; terms = terms })
 term_inserted eq own r nodes terms node is over unique e same =
     let adds = insert_adds eq r nodes.terms terms node e same in

@@ -9,7 +9,7 @@ use Rattle.term_nodes.specs.declared.TermNode.TheVariants.{Zero, One, Test, Act,
 use Rattle.term_nodes.specs.Nodes.{IsTestOver, IsOver, test_parts, term_parts, tests_of_term}
 use Rattle.term_nodes.specs.NumberSets.{are_below}
 
--- ---- more nodes may be named
+-- ---- a larger bound
 
 pub IsTestOver-more : (k n : ℕ) (node : TestNode ℕ) → k ≤ n → IsTestOver k node → IsTestOver n node
 IsTestOver-more k n False le over = tt
@@ -62,7 +62,7 @@ IsOver-test m n (Sum x y) over k h = absurd h
 IsOver-test m n (Seq x y) over k h = absurd h
 IsOver-test m n (Star x) over k h = absurd h
 
--- where each part is below, the node is over
+-- if each part is below n, the node is over n
 pub parts-IsTestOver : (n : ℕ) (node : TestNode ℕ) → ((k : ℕ) → Has (test_parts node) k → k < n) → IsTestOver n node
 parts-IsTestOver n False each = tt
 parts-IsTestOver n True each = tt

@@ -1,4 +1,4 @@
--- The trees of term ids: that of the node, one id for each, and kept where nodes are added.
+-- The trees of term ids: the tree of an id is that of its node, each tree has one id, and added nodes change no trees.
 use Rattle.std.proofs.Common.{◌≡◌, ◌<◌, ℕ, zero, suc, List, length, get_or, Some, slice_get, Contains, refl, sym, ap, ◌∙◌, arith}
 use Rattle.std.proofs.lemmas.Option.{slice_get-get_or, slice_get_within}
 use Rattle.kat_model.specs.CourseOfValues.{course_of_values}
@@ -13,7 +13,7 @@ use Rattle.term_nodes.specs.NodeTrees.{test_tree_at, test_trees, tree_over, tree
 use Rattle.term_nodes.specs.Growth.{IsPrefix}
 use Rattle.term_nodes.proofs.TestTrees.{one_id_a_test, test_tree_at-kept}
 
--- the tree of a node is that of the trees of the numbers that it names
+-- the tree of a node depends only on the trees of the numbers that it names
 tree_over-same : (tests more_tests : List TestTree) (terms more_terms : List Term) (m n : ℕ) (node : TermNode ℕ ℕ)
     → ((i : ℕ) → i < m → get_or tests i bottom ≡ get_or more_tests i bottom) → ((i : ℕ) → i < n → get_or terms i no_term ≡ get_or more_terms i no_term)
     → IsOver m n node → tree_over tests terms node ≡ tree_over more_tests more_terms node
@@ -36,15 +36,15 @@ pub length-trees : (nodes : NodeParts) → length (trees nodes) ≡ length nodes
 unfolding trees
 length-trees nodes = length-course_of_values (tree_over (test_trees nodes)) nodes.terms
 
--- and it stands at the number's place
+-- and it is the element at the place of the number
 pub tree_stands : (nodes : NodeParts) → AreNodes nodes → (i : ℕ) (node : TermNode ℕ ℕ) → slice_get nodes.terms i ≡ Some node → slice_get (trees nodes) i ≡ Some (tree_in nodes node)
 unfolding trees
 tree_stands nodes is i node e =
     slice_get-get_or (trees nodes) i no_term (rw length-course_of_values (slice_get_within nodes.terms i node e)) ∙ ap Some (tree_at-node nodes is i node e)
 
--- ---- kept
+-- ---- added nodes keep the trees
 
--- the trees of the older tests are all that a node of the older terms wants
+-- the tree of a node over older terms depends only on the trees of the older tests
 tests_suffice : (tests more_tests : List TestTree) (terms : List Term) (m n : ℕ) (node : TermNode ℕ ℕ) → ((i : ℕ) → i < m → get_or tests i bottom ≡ get_or more_tests i bottom) → IsOver m n node
     → tree_over tests terms node ≡ tree_over more_tests terms node
 tests_suffice tests more_tests terms m n node same over = tree_over-same tests more_tests terms terms m n node same (λ i h. refl) over
@@ -65,7 +65,7 @@ tree_in-kept old new tests terms node over = tree_over-same (test_trees new) (te
 -- ---- one id for each tree
 
 module _ (nodes : NodeParts) where
-  -- nodes with one tree are one node, where the numbers that they name are told apart by their trees
+  -- nodes with the same tree are equal, if the numbers that they name have different trees
   same_node : (m n tests : ℕ) (a b : TermNode ℕ ℕ) → ((i j : ℕ) → i < tests → j < tests → test_tree_at nodes i ≡ test_tree_at nodes j → i ≡ j)
       → ((i j : ℕ) → i < m → j < n → tree_at nodes i ≡ tree_at nodes j → i ≡ j) → IsOver tests m a → IsOver tests n b → tree_in nodes a ≡ tree_in nodes b → a ≡ b
   same_node m n tests Zero Zero first second p q e = refl
@@ -102,7 +102,7 @@ module _ (nodes : NodeParts) where
   pub one_id_a_tree : AreNodes nodes → (i j : ℕ) → IsTerm nodes i → IsTerm nodes j → tree_at nodes i ≡ tree_at nodes j → i ≡ j
   one_id_a_tree is i j h k e = same_id is (suc i) i j (omega arith) h k e
 
-  -- the node of a tree that some id has stands already
+  -- a node whose tree some id has is in the list
   pub node_stands : AreNodes nodes → (node : TermNode ℕ ℕ) → IsOver (length nodes.tests) (length nodes.terms) node → HasTree nodes (tree_in nodes node) → Contains nodes.terms node
   node_stands is node over (i, h, e) =
       let m = node_of i h in

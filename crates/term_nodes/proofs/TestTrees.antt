@@ -1,4 +1,4 @@
--- The trees of test ids: that of the node, one id for each, and kept where nodes are added.
+-- The trees of test ids: the tree of an id is that of its node, each tree has one id, and added nodes change no trees.
 use Rattle.std.proofs.Common.{◌≡◌, ◌<◌, ℕ, zero, suc, List, length, get_or, Some, slice_get, Contains, refl, sym, ap, ◌∙◌, arith}
 use Rattle.std.proofs.lemmas.Option.{slice_get-get_or, slice_get_within}
 use Rattle.kat_model.specs.CourseOfValues.{course_of_values}
@@ -12,7 +12,7 @@ use Rattle.term_nodes.specs.NodeLists.{NodeParts, IsTest, AreNodes}
 use Rattle.term_nodes.specs.NodeTrees.{test_tree_over, test_trees, test_tree_at, test_tree_in, HasTestTree}
 use Rattle.term_nodes.specs.Growth.{IsPrefix}
 
--- the tree of a node is that of the trees of the numbers that it names
+-- the tree of a node depends only on the trees of the numbers that it names
 test_tree_over-same : (first second : List TestTree) (n : ℕ) (node : TestNode ℕ) → ((i : ℕ) → i < n → get_or first i bottom ≡ get_or second i bottom) → IsTestOver n node → test_tree_over first node ≡ test_tree_over second node
 test_tree_over-same first second n False same over = refl
 test_tree_over-same first second n True same over = refl
@@ -28,13 +28,13 @@ test_tree_at-node nodes is i node e =
     let at = course_of_values-at test_tree_over bottom nodes.tests i node e in
     at.here ∙ test_tree_over-same at.front (test_trees nodes) i node at.before (is.tests_ordered i node e)
 
--- and it stands at the number's place
+-- and it is the element at the place of the number
 pub test_tree_stands : (nodes : NodeParts) → AreNodes nodes → (i : ℕ) (node : TestNode ℕ) → slice_get nodes.tests i ≡ Some node → slice_get (test_trees nodes) i ≡ Some (test_tree_in nodes node)
 unfolding test_trees
 test_tree_stands nodes is i node e =
     slice_get-get_or (test_trees nodes) i bottom (rw length-course_of_values (slice_get_within nodes.tests i node e)) ∙ ap Some (test_tree_at-node nodes is i node e)
 
--- ---- kept
+-- ---- added nodes keep the trees
 
 pub test_tree_at-kept : (old new : NodeParts) → IsPrefix old.tests new.tests → (i : ℕ) → IsTest old i → test_tree_at new i ≡ test_tree_at old i
 unfolding test_trees
@@ -47,7 +47,7 @@ test_tree_in-kept old new kept node over = test_tree_over-same (test_trees new) 
 -- ---- one id for each tree
 
 module _ (nodes : NodeParts) where
-  -- nodes with one tree are one node, where the numbers that they name are told apart by their trees
+  -- nodes with the same tree are equal, if the numbers that they name have different trees
   same_test_node : (m n : ℕ) (a b : TestNode ℕ) → ((i j : ℕ) → i < m → j < n → test_tree_at nodes i ≡ test_tree_at nodes j → i ≡ j) → IsTestOver m a → IsTestOver n b → test_tree_in nodes a ≡ test_tree_in nodes b → a ≡ b
   same_test_node m n False False one p q e = refl
   same_test_node m n True True one p q e = refl
@@ -80,7 +80,7 @@ module _ (nodes : NodeParts) where
   pub one_id_a_test : AreNodes nodes → (i j : ℕ) → IsTest nodes i → IsTest nodes j → test_tree_at nodes i ≡ test_tree_at nodes j → i ≡ j
   one_id_a_test is i j h k e = same_test_id is (suc i) i j (omega arith) h k e
 
-  -- the node of a tree that some id has stands already
+  -- a node whose tree some id has is in the list
   pub test_node_stands : AreNodes nodes → (node : TestNode ℕ) → IsTestOver (length nodes.tests) node → HasTestTree nodes (test_tree_in nodes node) → Contains nodes.tests node
   test_node_stands is node over (i, h, e) =
       let m = test_node_of i h in

@@ -1,4 +1,4 @@
--- Where a tree has a number, its parts have numbers.
+-- If a tree has a number, its parts have numbers.
 use Rattle.std.proofs.Common.{◌≡◌, ◌<◌, ℕ, Contains, refl, sym, subst, ◌∙◌, arith, length, Result, IsOk}
 use Rattle.kat_model.specs.Trees.{TestTree, Term}
 use Rattle.term_nodes.specs.declared.TestNode.{TestNode}
@@ -29,7 +29,7 @@ node_has_parts nodes n (Sum i j) within over = ((i, within i over.0, refl), (j, 
 node_has_parts nodes n (Seq i j) within over = ((i, within i over.0, refl), (j, within j over.1, refl))
 node_has_parts nodes n (Star i) within over = (i, within i over, refl)
 
--- where an id has a tree, ids have its parts
+-- if some id has a tree, some ids have its parts
 pub test_has_parts : (nodes : NodeParts) → AreNodes nodes → (b : TestTree) → HasTestTree nodes b → HasTestParts nodes b
 test_has_parts nodes is b (i, h, e) =
     let m = test_node_of nodes i h in

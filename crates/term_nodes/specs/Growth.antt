@@ -1,4 +1,4 @@
--- How lists of nodes grow: nodes are added behind the older ones.
+-- How lists of nodes grow: nodes are appended to the older ones.
 use Rattle.std.specs.Prelude.{◌≡◌, ◌⊎◌, ℕ, List, [], ◌∷◌, ◌++◌}
 use Rattle.term_nodes.specs.declared.TestNode.{TestNode}
 use Rattle.term_nodes.specs.declared.TermNode.{TermNode}
@@ -19,7 +19,7 @@ pub record Grows (old new : NodeParts) : Type 0 where
   pub test_trees : (i : ℕ) → IsTest old i → test_tree_at new i ≡ test_tree_at old i
   pub trees : (i : ℕ) → IsTerm old i → tree_at new i ≡ tree_at old i
 
--- at most this node is new
+-- the node is the only possible addition
 abbrev pub AddsTest : NodeParts → NodeParts → TestNode ℕ → Type 0
 AddsTest old new node = (new ≡ old) ⊎ (new ≡ record old { tests = old.tests ++ node ∷ [] })
 

@@ -1,4 +1,4 @@
--- The trees of nodes, by recursion down the numbers that they name.
+-- The trees of nodes, by recursion on the numbers that they name.
 use Rattle.std.specs.Prelude.{◌≡◌, ℕ, List, slice_index_or}
 use Rattle.kat_model.specs.CourseOfValues.{course_of_values}
 use Rattle.kat_model.specs.Trees.{TestTree, bottom, top, prim, complement, meet, join, Term, zero, one, test, act, sum, product, star}
@@ -8,7 +8,7 @@ use Rattle.term_nodes.specs.declared.TermNode.{TermNode}
 use Rattle.term_nodes.specs.declared.TermNode.TheVariants.{Zero, One, Test, Act, Sum, Seq, Star}
 use Rattle.term_nodes.specs.NodeLists.{NodeParts, IsTest, IsTerm}
 
--- the tree of a node of a test, over the trees of the tests that it may name
+-- the tree of a test node, over the trees of the tests that it may name
 abbrev pub test_tree_over : List TestTree → TestNode ℕ → TestTree
 test_tree_over tests False = bottom
 test_tree_over tests True = top
@@ -17,7 +17,7 @@ test_tree_over tests (Not i) = complement (slice_index_or tests i bottom)
 test_tree_over tests (And i j) = meet (slice_index_or tests i bottom) (slice_index_or tests j bottom)
 test_tree_over tests (Or i j) = join (slice_index_or tests i bottom) (slice_index_or tests j bottom)
 
--- the tree of a node of a term, over the trees of the tests and terms that it may name
+-- the tree of a term node, over the trees of the tests and terms that it may name
 abbrev pub tree_over : List TestTree → List Term → TermNode ℕ ℕ → Term
 tree_over tests terms Zero = zero
 tree_over tests terms One = one
@@ -27,7 +27,7 @@ tree_over tests terms (Sum i j) = sum (slice_index_or terms i zero) (slice_index
 tree_over tests terms (Seq i j) = product (slice_index_or terms i zero) (slice_index_or terms j zero)
 tree_over tests terms (Star i) = star (slice_index_or terms i zero)
 
--- the trees of all tests, and of all terms, each over those of the nodes before it
+-- the trees of all tests, and of all terms, each over the trees of the earlier nodes
 unfoldable pub test_trees : NodeParts → List TestTree
 test_trees nodes = course_of_values test_tree_over nodes.tests
 

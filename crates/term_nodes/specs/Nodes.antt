@@ -24,7 +24,7 @@ IsOver m n (Sum i j) = (i < n) × (j < n)
 IsOver m n (Seq i j) = (i < n) × (j < n)
 IsOver m n (Star i) = i < n
 
--- the tests that a node of a test names
+-- the tests that a test node names
 abbrev pub test_parts : TestNode ℕ → List ℕ
 test_parts False = []
 test_parts True = []
@@ -33,7 +33,7 @@ test_parts (Not i) = i ∷ []
 test_parts (And i j) = i ∷ j ∷ []
 test_parts (Or i j) = i ∷ j ∷ []
 
--- the terms that a node of a term names, and the tests
+-- the terms that a term node names, and the tests that it names
 abbrev pub term_parts : TermNode ℕ ℕ → List ℕ
 term_parts Zero = []
 term_parts One = []

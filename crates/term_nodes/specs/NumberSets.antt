@@ -1,4 +1,4 @@
--- Sets of terms by their numbers: lists of numbers in ascending order, and pairs of them.
+-- Sets of terms by their numbers: ascending lists of numbers, and pairs of such lists.
 use Rattle.std.specs.Prelude.{ℕ, Bool, true, ◌&&◌, nat_lt, IsTrue, List, [], ◌∷◌, map}
 use Rattle.std.specs.List.{list_all}
 use Rattle.kat_model.specs.Trees.{Term}
@@ -16,7 +16,7 @@ are_ascending [] = true
 are_ascending (x ∷ []) = true
 are_ascending (x ∷ y ∷ ks) = nat_lt x y && are_ascending (y ∷ ks)
 
--- the numbers are those of a set of nodes below n, in ascending order
+-- the numbers are a set of nodes below n, in ascending order
 pub record IsNumberSet (n : ℕ) (ks : List ℕ) : Type 0 where
   pub there : IsTrue (are_below n ks)
   pub ascending : IsTrue (are_ascending ks)
@@ -26,7 +26,7 @@ pub record NumberPair : Type 0 where
   pub left : List ℕ
   pub right : List ℕ
 
--- the terms of numbers, and the pairs of sets of terms
+-- the terms with these numbers, and the pairs of sets of terms
 abbrev pub terms_of : NodeParts → List ℕ → List Term
 terms_of nodes ks = map (tree_at nodes) ks
 

@@ -1,4 +1,4 @@
--- Trees whose parts are found in a list of nodes.
+-- Trees whose parts have numbers in a list of nodes.
 use Rattle.kat_model.specs.Trees.{TestTree, bottom, top, prim, complement, meet, join, Term, zero, one, test, act, sum, product, star}
 use Rattle.term_nodes.specs.NodeLists.{NodeParts}
 use Rattle.term_nodes.specs.NodeTrees.{HasTestTree, HasTree}

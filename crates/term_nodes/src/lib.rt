@@ -1,9 +1,9 @@
-//! Terms and tests as numbered nodes: each node names the earlier nodes that are its parts. A store of a
-//! prover, a certificate and the tables of its checker are lists of them. The crate has the definitions and
-//! the lemmas that these share, and no code of a prover or of a checker.
+//! Terms and tests as numbered nodes: each node names the earlier nodes that are its parts. The store of a prover, a
+//! certificate and the tables of its checker are lists of nodes. The crate has the definitions and lemmas that these
+//! share, and no code of a prover or of a checker.
 #![tactic(auto)]
 
-/// A node of a test, over the numbers `T` of its parts.
+/// A test node, over the numbers `T` of its parts.
 #[derive(Clone, Copy, Debug, PartialEq, Eq, PartialOrd, Ord, Hash)]
 pub enum TestNode<T> {
     False,
@@ -14,7 +14,7 @@ pub enum TestNode<T> {
     Or(T, T),
 }
 
-/// A node of a term, over the numbers `T` of tests and `E` of terms.
+/// A term node, over the numbers `T` of tests and `E` of terms.
 #[derive(Clone, Copy, Debug, PartialEq, Eq, PartialOrd, Ord, Hash)]
 pub enum TermNode<T, E> {
     Zero,

@@ -1,4 +1,4 @@
--- A tree that some id has is found part by part.
+-- If some id has a tree, interning the tree part by part finds it.
 use Rattle.std.proofs.Common.{◌≡◌, ℕ, Contains, sym, subst, ◌∙◌, length, Result, IsOk}
 use Rattle.kat_model.specs.Trees.{TestTree, Term}
 use Rattle.term_nodes.specs.declared.TestNode.{TestNode}
@@ -12,7 +12,7 @@ use Rattle.term_nodes.proofs.TestTrees.{test_node_stands}
 use Rattle.term_nodes.proofs.TermTrees.{node_stands}
 use Rattle.term_nodes.proofs.TreeParts.{test_has_parts, has_parts}
 
--- where the parts of a tree that some id has are found, so is its node
+-- if the parts of a tree that some id has are found, its node is found too
 pub test_found : {E : Type 0} (r : Result ℕ E) (old last new : NodeParts) (shape : TestNode ℕ) (b : TestTree) → AreNodes old → AreNodes last → IsTestOver (length last.tests) shape → test_tree_in last shape ≡ b
     → (HasTestParts old b → last ≡ old) → (Contains last.tests shape → IsOk r × (new ≡ last)) → HasTestTree old b → IsOk r × (new ≡ old)
 test_found r old last new shape b was is over same parts node h =

@@ -1,5 +1,4 @@
-//! Terms and tests as numbers of one store, in which no node stands twice, so that equal numbers are equal
-//! trees.
+//! Terms and tests as ids of a hash-consed store: no node occurs twice, so equal ids mean equal trees.
 #![tactic(auto)]
 
 mod laws;

@@ -37,7 +37,7 @@ impl Model for TermId {
 }
 
 impl TermId {
-    /// The number. Ids of a store are numbered from 0, in the order in which their nodes came.
+    /// Returns the number of the id. A store numbers its nodes from 0 in the order in which they were added.
     pub fn number(self) -> usize
         ensures { result ≡ self }
     {

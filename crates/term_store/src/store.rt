@@ -1,4 +1,4 @@
-//! The store.
+//! The term store.
 ghost use Rattle.std.specs.Prelude.{◌≡◌, ◌≢◌, [], length, Contains, IfOk, IsOk, OnErr, slice_get};
 ghost use Rattle.kat_model.specs.Trees.{one, test_tree, kat_tree};
 ghost use Rattle.kat_model.specs.Steps.{dot};
@@ -13,7 +13,7 @@ use kat_model::{Kat, NoMemory, Test};
 use std::alloc::Global;
 use std::marker::Model;
 
-/// The nodes of tests and terms. Each names only earlier ones, and none stands twice.
+/// The nodes of tests and terms. Each names only earlier nodes, and none occurs twice.
 #[derive(Drop)]
 pub struct Store {
     tests: IndexSet<TestShape>,
@@ -34,7 +34,7 @@ impl Store {
     ghost use Rattle.term_nodes.specs.Nodes.{IsTestOver, IsOver};
     ghost use Rattle.term_nodes.specs.NodeLists.{IsTest, IsTerm, AreNodes};
 
-    /// A store with no nodes. It takes no memory.
+    /// Creates a store without nodes. Allocates nothing.
     pub fn new(alloc: Global) -> Store
         ensures tests { result.tests ≡ [] }
         ensures terms { result.terms ≡ [] }
@@ -46,15 +46,14 @@ impl Store {
         }
     }
 
-    /// The id of the node of a test, which is added where it does not stand yet. The only refusal is want
-    /// of memory.
+    /// Returns the id of the test node, adding the node if the store lacks it. Fails only when out of memory.
     pub fn intern_test(&mut self, shape: TestShape) -> Result<TestId, NoMemory>
         requires { IsTestOver (length self.old.tests) shape }
         ensures id { IfOk result (λ id. slice_get self.new.tests id ≡ Some shape) }
         ensures tree { IfOk result (λ id. test_tree_at self.new id ≡ test_tree_in self.old shape) }
         ensures is_id { IfOk result (IsTest self.new) }
 
-        // Where the node stands already, it is not refused, and nothing changes.
+        // Never fails and changes nothing if the node exists.
         ensures found { Contains self.old.tests shape → IsOk result × (self.new ≡ self.old) }
         ensures refused { OnErr result (self.new ≡ self.old) }
 
@@ -68,14 +67,14 @@ impl Store {
         }
     }
 
-    /// The id of the node of a term, likewise.
+    /// Returns the id of the term node, adding the node if the store lacks it. Fails only when out of memory.
     pub fn intern(&mut self, shape: Shape) -> Result<TermId, NoMemory>
         requires { IsOver (length self.old.tests) (length self.old.terms) shape }
         ensures id { IfOk result (λ id. slice_get self.new.terms id ≡ Some shape) }
         ensures tree { IfOk result (λ id. tree_at self.new id ≡ tree_in self.old shape) }
         ensures is_id { IfOk result (IsTerm self.new) }
 
-        // Where the node stands already, it is not refused, and nothing changes.
+        // Never fails and changes nothing if the node exists.
         ensures found { Contains self.old.terms shape → IsOk result × (self.new ≡ self.old) }
         ensures refused { OnErr result (self.new ≡ self.old) }
 
@@ -89,7 +88,7 @@ impl Store {
         }
     }
 
-    /// The node of a test.
+    /// Returns the node of a test.
     pub fn test_shape(&self, id: TestId) -> TestShape
         requires { IsTest self.now id }
         ensures value { slice_get self.now.tests id ≡ Some result }
@@ -100,7 +99,7 @@ impl Store {
         *self.tests.get_index(id.index).unwrap()
     }
 
-    /// The node of a term.
+    /// Returns the node of a term.
     pub fn shape(&self, id: TermId) -> Shape
         requires { IsTerm self.now id }
         ensures value { slice_get self.now.terms id ≡ Some result }
@@ -111,7 +110,7 @@ impl Store {
         *self.terms.get_index(id.index).unwrap()
     }
 
-    /// The number of nodes of terms. Those of tests are not counted.
+    /// Returns the number of term nodes; test nodes are not counted.
     pub fn count(&self) -> usize
         ensures value { result ≡ length self.now.terms }
         ensures store { AreNodes self.now }
@@ -119,12 +118,12 @@ impl Store {
         self.terms.len()
     }
 
-    /// An id of one term and then another, whose tree is `dot` of their trees. The only refusal is want of
+    /// Returns an id of `first` followed by `second`, whose tree is `dot` of their trees. Fails only when out of
     /// memory.
     pub fn dot(&mut self, first: TermId, second: TermId) -> Result<TermId, NoMemory>
         requires first_id { IsTerm self.old first }
         requires second_id { IsTerm self.old second }
-        // `second` where the first tree is `one`, and then nothing changes; else the node of the product.
+        // Returns `second` and changes nothing if the first tree is `one`; otherwise returns the node of the product.
         ensures of_one { tree_at self.old first ≡ one → (result ≡ Ok second) × (self.new ≡ self.old) }
         ensures of_other { tree_at self.old first ≢ one →
             IfOk result (λ id. slice_get self.new.terms id ≡ Some (Seq first second)) }
@@ -133,7 +132,7 @@ impl Store {
             tree_at self.new id ≡ dot (tree_at self.old first) (tree_at self.old second)) }
         ensures is_id { IfOk result (IsTerm self.new) }
 
-        // Where the node of the product stands already, it is not refused, and nothing changes.
+        // Never fails and changes nothing if the node of the product exists.
         ensures found { Contains self.old.terms (Seq first second) →
             IsOk result × (self.new ≡ self.old) }
         ensures refused { OnErr result (self.new ≡ self.old) }
@@ -148,7 +147,7 @@ impl Store {
         }
     }
 
-    // An id whose tree is this test. A refusal may leave further nodes.
+    // Returns an id whose tree is this test. On failure, extra nodes may remain.
     #[cycle(of_test)]
     fn of_test(&mut self, test: &Test) -> Result<TestId, NoMemory>
         ensures tree { IfOk result (λ id. test_tree_at self.new id ≡ test_tree test.now) }
@@ -162,7 +161,7 @@ impl Store {
         self.intern_test(shape)
     }
 
-    // The node of this test, over ids of its parts.
+    // Returns the node of this test, over ids of its parts.
     #[cycle(of_test)]
     fn shape_of_test(&mut self, test: &Test) -> Result<TestShape, NoMemory>
         ensures tree { IfOk result (λ shape. test_tree_in self.new shape ≡ test_tree test.now) }
@@ -185,13 +184,13 @@ impl Store {
         }
     }
 
-    /// An id whose tree is this term. Fails only when out of memory, and it may leave further nodes.
+    /// Returns an id whose tree is this term. Fails only when out of memory; extra nodes may remain then.
     #[cycle(of_tree)]
     pub fn of_tree(&mut self, term: &Kat) -> Result<TermId, NoMemory>
         ensures tree { IfOk result (λ id. tree_at self.new id ≡ kat_tree term.now) }
         ensures is_id { IfOk result (IsTerm self.new) }
 
-        // Where some id has the tree already, it is not refused, and nothing changes.
+        // Never fails and changes nothing if some id has the tree already.
         ensures found { HasTree self.old (kat_tree term.now) →
             IsOk result × (self.new ≡ self.old) }
 
@@ -202,7 +201,7 @@ impl Store {
         self.intern(shape)
     }
 
-    // The node of this term, over ids of its parts.
+    // Returns the node of this term, over ids of its parts.
     #[cycle(of_tree)]
     fn shape_of_tree(&mut self, term: &Kat) -> Result<Shape, NoMemory>
         ensures tree { IfOk result (λ shape. tree_in self.new shape ≡ kat_tree term.now) }

@@ -1,4 +1,4 @@
--- Different ids differ at some atom.
+-- Different ids have different values at some atom.
 use Rattle.std.proofs.Common.{◌≡◌, ◌≢◌, ℕ, zero, suc, max, ◌<◌, ◌⊎◌, inl, inr, ⊎_elim, length, Bool, true, false, Some, slice_get, set, replicate, refl, sym, ap, ◌∙◌, arith, length-set}
 use Rattle.std.proofs.lemmas.Bool.{false≢true, true≢false, cases_order, cases_eq}
 use Rattle.std.proofs.lemmas.List.{length-replicate}
@@ -12,7 +12,7 @@ use Rattle.test_diagrams.specs.Reduced.{level_of, IsReduced}
 use Rattle.test_diagrams.proofs.Values.{value_of-constant}
 use Rattle.test_diagrams.proofs.Levels.{node_of_id, level_of-constant, level_of-branch, value_of-set_above, value_of-set_own}
 
--- a third truth value is not both of two that differ
+-- a truth value differs from at least one of two different ones
 one_differs : (a b c : Bool) → a ≢ b → (a ≢ c) ⊎ (b ≢ c)
 one_differs false false c apart = absurd (apart refl)
 one_differs true true c apart = absurd (apart refl)
@@ -28,7 +28,7 @@ module _ (d : DiagramsParts) (r : IsReduced d) where
   apart_sym : (i j : ℕ) → IsApart d i j → IsApart d j i
   apart_sym i j a = record { atom = a.atom; fits = a.fits; apart = λ e. a.apart (sym e) }
 
-  -- where two ids have these values under a value of a test, and the values differ
+  -- two ids are apart if they have different values when a test is set to the same value
   apart_set : (i j test : ℕ) (atom : Atom) (value a b : Bool) → IsAtomOf d atom → value_of d i (set atom test value) ≡ a → value_of d j (set atom test value) ≡ b → a ≢ b → IsApart d i j
   apart_set i j test atom value a b fits left right ne = record {
     atom = set atom test value;
@@ -45,7 +45,7 @@ module _ (d : DiagramsParts) (r : IsReduced d) where
         ne (one_place d.nodes r.once i j (Constant b) (e ∙ ap (λ v. Some (Constant v)) equal) f);
   }
 
-  -- a branch whose parts differ at an atom, and an id that does not depend on its test
+  -- a branch whose parts are apart, and an id that does not depend on its test, are apart
   branch_apart : (i j test low high : ℕ) → slice_get d.nodes i ≡ Some (Branch test low high) → IsDiagramId d j → test < level_of d j → IsApart d low high → IsApart d i j
   branch_apart i j test low high e there above parts =
       ⊎_elim
@@ -53,7 +53,7 @@ module _ (d : DiagramsParts) (r : IsReduced d) where
       (λ ne. apart_set i j test parts.atom true _ _ parts.fits (value_of-set_own d r i test low high parts.atom true e parts.fits) (value_of-set_above d r j test parts.atom true there above) ne)
       (one_differs (value_of d low parts.atom) (value_of d high parts.atom) (value_of d j parts.atom) parts.apart)
 
-  -- two branches on one test, where parts differ
+  -- two branches on one test are apart if their low parts or their high parts are apart
   branches_apart : (i j test low high first second : ℕ) → slice_get d.nodes i ≡ Some (Branch test low high) → slice_get d.nodes j ≡ Some (Branch test first second)
       → IsApart d low first ⊎ IsApart d high second → IsApart d i j
   branches_apart i j test low high first second e f parts =
@@ -62,7 +62,7 @@ module _ (d : DiagramsParts) (r : IsReduced d) where
       (λ a. apart_set i j test a.atom true _ _ a.fits (value_of-set_own d r i test low high a.atom true e a.fits) (value_of-set_own d r j test first second a.atom true f a.fits) a.apart)
       parts
 
-  -- ids below the bound are apart where they differ
+  -- different ids below the bound are apart
   AreApartBelow : ℕ → Type 0
   AreApartBelow bound = (i j : ℕ) → i < bound → j < bound → IsDiagramId d i → IsDiagramId d j → i ≢ j → IsApart d i j
 
@@ -73,7 +73,7 @@ module _ (d : DiagramsParts) (r : IsReduced d) where
       let there : i < length d.nodes = slice_get_within d.nodes i _ e in
       below low high (omega (arith, b.low_earlier)) (omega (arith, b.high_earlier)) (omega (arith, b.low_earlier)) (omega (arith, b.high_earlier)) b.different
 
-  -- of two different branches on one test, both low parts or both high parts differ
+  -- two different branches on one test have low parts or high parts that are apart
   either_part_apart : (bound i j test low high first second : ℕ) → i < suc bound → j < suc bound → slice_get d.nodes i ≡ Some (Branch test low high) → slice_get d.nodes j ≡ Some (Branch test first second)
       → i ≢ j → AreApartBelow bound → IsApart d low first ⊎ IsApart d high second
   unfolding AreApartBelow
@@ -90,7 +90,7 @@ module _ (d : DiagramsParts) (r : IsReduced d) where
       (λ (low_apart : low ≢ first). inl (below low first (omega (arith, p.low_earlier)) (omega (arith, q.low_earlier)) (omega (arith, p.low_earlier)) (omega (arith, q.low_earlier)) low_apart))
       (cases_eq low first)
 
-  -- one node deeper
+  -- the induction step: ids of the next node are apart
   apart_step : (bound i j : ℕ) (m n : Node) → i < suc bound → j < suc bound → slice_get d.nodes i ≡ Some m → slice_get d.nodes j ≡ Some n → i ≢ j → AreApartBelow bound → IsApart d i j
   apart_step bound i j (Constant a) (Constant b) i_within j_within e f ne below = constants_apart i j a b e f ne
   apart_step bound i j (Branch test low high) (Constant b) i_within j_within e f ne below =
@@ -124,7 +124,7 @@ module _ (d : DiagramsParts) (r : IsReduced d) where
   unfolding AreApartBelow
   different_apart i j i_there j_there ne = apart_below (suc (max i j)) i j (omega arith) (omega arith) i_there j_there ne
 
-  -- ids with one function are one id
+  -- ids with the same function are equal
   pub same_function_same_id : (i j : ℕ) → IsDiagramId d i → IsDiagramId d j → SameFunction d i j → i ≡ j
   same_function_same_id i j i_there j_there same =
       ⊎_elim

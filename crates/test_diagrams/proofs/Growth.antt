@@ -1,4 +1,4 @@
--- What stays where nodes are added.
+-- What stays unchanged when nodes are added.
 use Rattle.std.proofs.Common.{◌≡◌, ℕ, ◌+◌, ◌<◌, ⊎_elim, List, [], ◌∷◌, ◌++◌, length, Some, slice_get, get_or, refl, sym, ap, ◌∙◌, subst, arith, length-append, Bool, true, false, if◌then◌else◌}
 use Rattle.std.proofs.lemmas.Option.{slice_get_within}
 use Rattle.kat_model.specs.Members.{HasNoDoubles}
@@ -12,7 +12,7 @@ use Rattle.test_diagrams.specs.Working.Operations.{choice_of}
 use Rattle.test_diagrams.proofs.Values.{value_of-branch}
 use Rattle.test_diagrams.proofs.Kept.{KeepsFunctions-itself}
 
--- the same collection, with these nodes
+-- the collection with its nodes replaced by the given ones
 abbrev pub with_nodes : DiagramsParts → List Node → DiagramsParts
 with_nodes d nodes = record { tests = d.tests; nodes = nodes }
 
@@ -40,7 +40,7 @@ module _ (d : DiagramsParts) (more : List Node) where
         different = b.different;
       }
 
--- a branch stays one under equal names
+-- a branch stays a branch when equal names replace its names
 branch_renamed : (d : DiagramsParts) (id place test own low first high second : ℕ) → id ≡ place → Branch test low high ≡ Branch own first second → IsBranch d place test low high → IsBranch d id own first second
 branch_renamed d id place test own low first high second same nodes b =
     let tests : test ≡ own = cc in
@@ -48,7 +48,7 @@ branch_renamed d id place test own low first high second same nodes b =
     let highs : high ≡ second = cc in
     subst (λ i. IsBranch d i own first second) (sym same) (subst (λ t. IsBranch d place t first second) tests (subst (λ l. IsBranch d place test l second) lows (subst (λ h. IsBranch d place test low h) highs b)))
 
--- the collection stays reduced where a branch is added that is such
+-- adding a node that is a branch keeps the collection reduced
 pub reduced_push : (d : DiagramsParts) (test low high : ℕ) → IsReduced d → IsBranch d (length d.nodes) test low high
     → HasNoDoubles (d.nodes ++ Branch test low high ∷ []) → IsReduced (with_nodes d (d.nodes ++ Branch test low high ∷ []))
 reduced_push d test low high r b once = record {
@@ -62,13 +62,13 @@ reduced_push d test low high r b once = record {
   once = once;
 }
 
--- what a collection is after a branch was added, or was there
+-- the collection after a branch was added or found
 pub record HasBranch (old new : DiagramsParts) (test low high id : ℕ) : Type 0 where
   pub kept : KeepsFunctions old new
   pub reduced : IsReduced new
   pub function : IsDiagramOf new id (choice_of old test low high)
 
--- the value of the branch in the new collection
+-- the id of the branch has the function of the choice in the new collection
 branch_has_choice : (old new : DiagramsParts) (test low high id : ℕ) → KeepsFunctions old new → IsReduced new → IsDiagramId old low → IsDiagramId old high → slice_get new.nodes id ≡ Some (Branch test low high)
     → HasBranch old new test low high id
 branch_has_choice old new test low high id kept reduced low_there high_there e =

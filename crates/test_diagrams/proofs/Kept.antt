@@ -14,7 +14,7 @@ KeepsFunctions-trans a b c first second = record {
 }
 
 module _ (old new : DiagramsParts) (kept : KeepsFunctions old new) where
-  -- a diagram for a function stays one
+  -- a diagram of a function stays one
   pub IsDiagramOf-kept : (id : ℕ) (function : Atom → Bool) → IsDiagramOf old id function → IsDiagramOf new id function
   IsDiagramOf-kept id function d = record {
     in_range = kept.ids id d.in_range;

@@ -18,7 +18,7 @@ module _ (d : DiagramsParts) where
   pub level_of-branch : (id test low high : ℕ) → slice_get d.nodes id ≡ Some (Branch test low high) → level_of d id ≡ test
   level_of-branch id test low high e = ap (level_at d.tests) e
 
-  -- one node deeper
+  -- the induction step for one node
   independent_step : IsReduced d → (id test : ℕ) (node : Node) (atom : Atom) (value : Bool) → slice_get d.nodes id ≡ Some node → test < level_of d id
       → ((part : ℕ) → part < id → test < level_of d part → value_of d part (set atom test value) ≡ value_of d part atom)
       → value_of d id (set atom test value) ≡ value_of d id atom
@@ -45,7 +45,7 @@ module _ (d : DiagramsParts) where
   pub value_of-set_above : IsReduced d → (id test : ℕ) (atom : Atom) (value : Bool) → IsDiagramId d id → test < level_of d id → value_of d id (set atom test value) ≡ value_of d id atom
   value_of-set_above r id test atom value there above = independent_within r (suc id) id test atom value (omega arith) there above
 
-  -- under the value of its test a branch is one of its parts
+  -- with its test set to a value, a branch equals one of its parts
   pub value_of-set_own : IsReduced d → (id test low high : ℕ) (atom : Atom) (value : Bool) → slice_get d.nodes id ≡ Some (Branch test low high) → IsAtomOf d atom
       → value_of d id (set atom test value) ≡ (if value then value_of d high atom else value_of d low atom)
   value_of-set_own r id test low high atom value e fits =
@@ -58,7 +58,7 @@ module _ (d : DiagramsParts) where
       value_of-branch d id test low high (set atom test value) e b.low_earlier b.high_earlier
       ∙ (λ k. if chosen k then second k else first k)
 
-  -- the value of a branch at an atom that chooses the part
+  -- the value of a branch at an atom is that of the part that the atom selects
   pub value_of-low : IsReduced d → (id test low high : ℕ) (atom : Atom) → slice_get d.nodes id ≡ Some (Branch test low high) → get_or atom test false ≡ false → value_of d low atom ≡ value_of d id atom
   value_of-low r id test low high atom e chosen =
       let b = r.branches id test low high e in

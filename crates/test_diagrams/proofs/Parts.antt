@@ -1,4 +1,4 @@
--- What is left of diagrams and of operations where a test has a value.
+-- Cofactors of diagrams and of operations for a value of a test.
 use Rattle.std.proofs.Common.{◌≡◌, ◌≢◌, ℕ, ◌+◌, ◌<◌, ◌≤◌, min, ⊎_elim, Bool, true, false, if◌then◌else◌, not, ◌&&◌, ◌||◌, Some, slice_get, set, length, sym, ap, ◌∙◌, arith, length-set}
 use Rattle.std.proofs.lemmas.Bool.{cases_eq}
 use Rattle.std.proofs.lemmas.List.{set_comm}
@@ -12,7 +12,7 @@ use Rattle.test_diagrams.specs.Working.Operations.{IsPart, IsCofactor}
 use Rattle.test_diagrams.proofs.Levels.{level_of-constant, level_of-branch, value_of-set_above, value_of-set_own}
 
 module _ (d : DiagramsParts) (r : IsReduced d) where
-  -- a diagram whose top is below the test stays
+  -- a diagram with its top below the test is unchanged
   pub part_same : (id test : ℕ) (value : Bool) → IsDiagramId d id → test < level_of d id → IsPart d id test value id
   part_same id test value there above = record {
     in_range = there;
@@ -22,7 +22,7 @@ module _ (d : DiagramsParts) (r : IsReduced d) where
     earlier = λ e. absurd (omega arith);
   }
 
-  -- a branch on another test stays, and so does a constant
+  -- a branch on another test is unchanged, and so is a constant
   pub part_other : (id own low high test : ℕ) (value : Bool) → slice_get d.nodes id ≡ Some (Branch own low high) → own ≢ test → test ≤ level_of d id → IsPart d id test value id
   part_other id own low high test value e other above =
       let level : level_of d id ≡ own = level_of-branch d id own low high e in
@@ -33,7 +33,7 @@ module _ (d : DiagramsParts) (r : IsReduced d) where
       let level : level_of d id ≡ d.tests = level_of-constant d id constant e in
       part_same id test value (slice_get_within d.nodes id _ e) (omega arith)
 
-  -- a branch on the test is one of its parts
+  -- a branch on the test becomes one of its parts
   pub part_low : (id own low high test : ℕ) (value : Bool) → slice_get d.nodes id ≡ Some (Branch own low high) → own ≡ test → value ≡ false → IsPart d id test value low
   part_low id own low high test value e same chosen =
       let here : slice_get d.nodes id ≡ Some (Branch test low high) = e ∙ ap (λ t. Some (Branch t low high)) same in
@@ -60,7 +60,7 @@ module _ (d : DiagramsParts) (r : IsReduced d) where
         earlier = λ level. b.high_earlier;
       }
 
-  -- a part does not depend on the tests up to this one
+  -- a cofactor depends on no test up to this one
   part_independent : (id test : ℕ) (value : Bool) (part other : ℕ) (atom : Atom) (v : Bool) → IsPart d id test value part → other ≤ test → value_of d part (set atom other v) ≡ value_of d part atom
   part_independent id test value part other atom v p le = value_of-set_above d r part other atom v p.in_range (omega (arith, p.below))
 

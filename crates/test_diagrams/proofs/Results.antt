@@ -1,4 +1,4 @@
--- Results of operations stay right where nodes are added, and so does a table of them.
+-- Results of operations, and tables of results, stay correct when nodes are added.
 use Rattle.std.proofs.Common.{◌≡◌, ℕ, ◌<◌, List, [], ◌∷◌, Bool, true, false, cond, not, ◌&&◌, ◌||◌, Option, Some, None, IfSome, set, refl, sym, ap, ◌∙◌, subst}
 use Rattle.std.specs.Map.{lookup}
 use Rattle.indexmap.specs.IndexMap.{insert_entry}
@@ -22,7 +22,7 @@ module _ (old new : DiagramsParts) (kept : KeepsFunctions old new) where
   function_of-kept (Not a) h atom = ap not (kept.values a h atom)
   function_of-kept (Fix a test value) h atom = kept.values a h.0 (set atom test value)
 
-  -- a result for operands of the old collection is one for the new
+  -- a result for operands of the old collection is a result in the new one
   pub result_from_old : (operation : Operation) (id : ℕ) → HasOperands old operation → IsDiagramOf new id (function_of old operation) → IsResult new operation id
   result_from_old operation id h d = (
     operands_kept operation h,
@@ -46,13 +46,13 @@ module _ (d : DiagramsParts) (eq : Operation → Operation → Bool) where
           subst (λ o. IsResult d o id) (sym (same operation entry.0 p)) (subst (λ i. IsResult d entry.0 i) found h.0)
       by false p f later = later f
 
-  -- what a table of results has at an operation
+  -- a lookup in a table of results returns a result of the operation
   pub results_give : (entries : List (Operation × ℕ)) (operation : Operation) (found : Option ℕ) → AreResults d entries → found ≡ lookup (eq operation) entries
       → ((x y : Operation) → eq x y ≡ true → x ≡ y) → IfSome found (IsResult d operation)
   results_give entries operation None h e same = tt
   results_give entries operation (Some id) h e same = result_looked_up entries operation id h (sym e) same
 
-  -- a table of results with one more
+  -- a table of results stays correct after an insert
   pub results_insert : (entries after : List (Operation × ℕ)) (operation : Operation) (id : ℕ) → AreResults d entries → IsResult d operation id → after ≡ insert_entry eq entries operation id
       → ((x y : Operation) → eq x y ≡ true → x ≡ y) → AreResults d after
   results_insert entries after operation id h r e same = subst (AreResults d) (sym e) (more entries h)

@@ -1,4 +1,4 @@
--- Results that need no further step.
+-- Results that need no recursion.
 use Rattle.std.proofs.Common.{◌≡◌, ◌≢◌, ℕ, ◌<◌, ◌⊎◌, inl, inr, ⊎_elim, Bool, true, false, not, ◌&&◌, ◌||◌, Option, None, Some, IfSome, IfNone, slice_get, refl, sym, ap, subst, ◌∙◌, arith}
 use Rattle.std.proofs.lemmas.Option.{slice_get_within}
 use Rattle.kat_model.specs.Steps.{Atom}
@@ -48,7 +48,7 @@ module _ (d : DiagramsParts) (r : IsReduced d) where
   pub always_is : (value : Bool) → value ≡ true → IsDiagramOf d 1 (λ atom. value)
   always_is value e = record { in_range = slice_get_within d.nodes 1 _ r.always; value = λ atom fits. value_of-always atom ∙ sym e }
 
-  -- an id that is no constant is that of a branch
+  -- an id that is not a constant is the id of a branch
   pub level_of-other : (id : ℕ) → IsDiagramId d id → id ≢ 0 → id ≢ 1 → level_of d id < d.tests
   level_of-other id there no_never no_always = let n = node_of_id d id there in by n.0 n.1
     where
@@ -108,7 +108,7 @@ module _ (d : DiagramsParts) (r : IsReduced d) where
       ))
       why
 
-  -- the same of what a call finds
+  -- the same fact about the value that a call returns
   pub and_found : (operation : Operation) (a b : ℕ) → operation ≡ And a b → HasOperands d operation → (found : Option ℕ) → IfSome found (IsAbsorbed a b 0 1) → IfSome found (IsResult d operation)
   and_found operation a b is operands None why = tt
   and_found operation a b is operands (Some id) why =

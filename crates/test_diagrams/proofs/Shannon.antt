@@ -1,4 +1,4 @@
--- A function is a choice between what is left of it under the two values of a test (Shannon's expansion).
+-- A function is a choice between its cofactors for the two values of a test (Shannon's expansion).
 use Rattle.std.proofs.Common.{◌≡◌, ℕ, ◌<◌, ◌≤◌, arith, Bool, true, false, if◌then◌else◌, get_or, set, refl, sym, ap, ◌∙◌, length-set}
 use Rattle.std.proofs.lemmas.List.{set-get_or}
 use Rattle.kat_model.specs.Steps.{Atom}
@@ -12,18 +12,18 @@ use Rattle.test_diagrams.proofs.Tops.{level_above}
 use Rattle.test_diagrams.proofs.Kept.{IsDiagramOf-kept}
 use Rattle.test_diagrams.proofs.Results.{function_of-kept}
 
--- a diagram for a function that depends on none of the tests up to this one has a later test at its top
+-- a diagram of a function that depends on no test up to this one has only later tests
 pub level_above_function : (d : DiagramsParts) → IsReduced d → (id test : ℕ) (function : Atom → Bool) → test < d.tests → IsDiagramOf d id function
     → ((other : ℕ) → other ≤ test → (atom : Atom) → IsAtomOf d atom → (value : Bool) → function (set atom other value) ≡ function atom) → test < level_of d id
 level_above_function d r id test function within is independent =
     level_above d r id test is.in_range within
     (λ other le atom fits value. is.value (set atom other value) (length-set atom other value ∙ fits) ∙ independent other le atom fits value ∙ sym (is.value atom fits))
 
--- a constant function has no test at its top
+-- no test is at the top of a diagram of a constant function
 pub level_above_constant : (d : DiagramsParts) → IsReduced d → (id test : ℕ) (constant : Bool) → test < d.tests → IsDiagramOf d id (λ atom. constant) → test < level_of d id
 level_above_constant d r id test constant within is = level_above_function d r id test (λ atom. constant) within is (λ other le atom fits value. refl)
 
--- the choice between two functions by a test
+-- the choice between the two cofactors of a function is the function
 pub choice_of_halves : (test : ℕ) (low high whole : Atom → Bool) (atom : Atom) → low atom ≡ whole (set atom test false) → high atom ≡ whole (set atom test true)
     → (if get_or atom test false then high atom else low atom) ≡ whole atom
 choice_of_halves test low high whole atom first second = by (get_or atom test false) ∙ ap whole (set-get_or atom test false)
@@ -32,14 +32,14 @@ choice_of_halves test low high whole atom first second = by (get_or atom test fa
     by true = second
     by false = first
 
--- the test at the top of the operands is one of the collection
+-- the top test of the operands is a test of the collection
 open_within : (d : DiagramsParts) (operation : Operation) → HasOperands d operation → IsOpen d operation → top_of d operation < d.tests
 open_within d (And a b) operands is_open = is_open
 open_within d (Or a b) operands is_open = is_open
 open_within d (Not a) operands is_open = is_open
 open_within d (Fix a test value) operands is_open = let within : test < d.tests = operands.1 in omega arith
 
--- the results for both cofactors of an operation, the second made after the first
+-- the results for both cofactors of an operation, the second computed after the first
 module _ (start middle end : DiagramsParts) (first_kept : KeepsFunctions start middle) (second_kept : KeepsFunctions middle end) (r : IsReduced end)
     (operation : Operation) (operands : HasOperands start operation) (is_open : IsOpen start operation) (low_part high_part : Operation) (test low high : ℕ) (top : test ≡ top_of start operation)
     (low_is : IsCofactor start operation test false low_part) (high_is : IsCofactor start operation test true high_part)
@@ -69,7 +69,7 @@ module _ (start middle end : DiagramsParts) (first_kept : KeepsFunctions start m
       level_above_function end r high test (function_of start high_part) end_within high_end
       (λ other le atom fits value. high_is.independent other le atom (fits_start atom fits) value)
 
-  -- the branch on them is the result of the operation
+  -- the branch with these results is the result of the operation
   pub branch_is_result : (last : DiagramsParts) (id : ℕ) → KeepsFunctions end last
       → IsDiagramOf last id (choice_of end test low high) → IsDiagramOf last id (function_of start operation)
   branch_is_result last id kept made = record {

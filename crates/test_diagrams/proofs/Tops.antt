@@ -1,4 +1,4 @@
--- The test at the top of a diagram is the least on which it depends.
+-- The test at the top of a diagram is the least test on which it depends.
 use Rattle.std.proofs.Common.{◌≡◌, ℕ, ◌<◌, ◌≤◌, ⊎_elim, Bool, Some, slice_get, sym, ◌∙◌, arith, length-set}
 use Rattle.std.proofs.lemmas.Bool.{cases_lt}
 use Rattle.std.proofs.lemmas.Option.{slice_get_within}
@@ -19,7 +19,7 @@ module _ (d : DiagramsParts) where
   constant_or_not id test depends constant =
       depends.changes (constant.value _ (length-set depends.atom test _ ∙ depends.fits) ∙ sym (constant.value _ (length-set depends.atom test _ ∙ depends.fits)))
 
-  -- a diagram that depends on none of the tests up to this one has a later one at its top
+  -- a diagram that depends on no test up to this one has a later test, or none, at its top
   pub level_above : IsReduced d → (id test : ℕ) → IsDiagramId d id → test < d.tests → ((other : ℕ) → other ≤ test → IsIndependent d id other) → test < level_of d id
   level_above r id test there within independent = let n = node_of_id d id there in by n.0 n.1
     where

@@ -9,7 +9,7 @@ module _ (d : DiagramsParts) where
   pub value_of-constant : (id : ℕ) (value : Bool) (atom : Atom) → slice_get d.nodes id ≡ Some (Constant value) → value_of d id atom ≡ value
   value_of-constant id value atom e = (course_of_values-at (node_value atom) false d.nodes id (Constant value) e).here
 
-  -- the value of a branch is that of the part which the atom chooses
+  -- the value of a branch is that of the part that the atom selects
   pub value_of-branch : (id test low high : ℕ) (atom : Atom) → slice_get d.nodes id ≡ Some (Branch test low high) → low < id → high < id
       → value_of d id atom ≡ (if get_or atom test false then value_of d high atom else value_of d low atom)
   value_of-branch id test low high atom e l h =

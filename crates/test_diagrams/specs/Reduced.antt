@@ -10,11 +10,11 @@ level_at tests None = tests
 level_at tests (Some (Constant value)) = tests
 level_at tests (Some (Branch test low high)) = test
 
--- the test of the node, or the number of tests where it is a constant
+-- the test of the node, or the number of tests if the node is a constant
 abbrev pub level_of : DiagramsParts → ℕ → ℕ
 level_of d id = level_at d.tests (slice_get d.nodes id)
 
--- a branch has two different parts, which are earlier and test later tests
+-- the branch has two different parts, which are earlier nodes and test only later tests
 pub record IsBranch (d : DiagramsParts) (id test low high : ℕ) : Type 0 where
   pub in_range : test < d.tests
   pub low_earlier : low < id
@@ -23,7 +23,7 @@ pub record IsBranch (d : DiagramsParts) (id test low high : ℕ) : Type 0 where
   pub high_below : test < level_of d high
   pub different : low ≢ high
 
--- the first two ids are the constants, all branches are such, and no node stands twice
+-- the first two ids are the constants, all branches are well formed, and no node occurs twice
 pub record IsReduced (d : DiagramsParts) : Type 0 where
   pub never : slice_get d.nodes 0 ≡ Some (Constant false)
   pub always : slice_get d.nodes 1 ≡ Some (Constant true)

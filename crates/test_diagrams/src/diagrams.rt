@@ -1,4 +1,4 @@
-//! A collection of diagrams, in which each function of its tests has one id.
+//! A collection of diagrams, in which each function of the tests has one id.
 ghost use Rattle.std.specs.Prelude.{◌≡◌, ◌≢◌, ◌<◌, ◌≤◌, ◌&&◌, ◌||◌, ◌↔◌, not, Some, slice_get, slice_set, IfOk, IfSome, IfNone, IsNone};
 ghost use Rattle.kat_model.specs.Trees.{test_tree};
 ghost use Rattle.kat_model.specs.Steps.{truth};
@@ -26,12 +26,12 @@ impl Model for DiagramId {
     ghost inverse = { λ n. record { index = n } };
 }
 
-// The ids of the two constants, in every collection.
+// The ids of the two constants in every collection.
 const NEVER: DiagramId = DiagramId { index: 0 };
 
 const ALWAYS: DiagramId = DiagramId { index: 1 };
 
-// A constant, or a choice by a test: `low` where the test is false, `high` where it is true.
+// A constant, or a choice by a test: `low` if the test is false, `high` if it is true.
 #[derive(Clone, Copy, Debug, PartialEq, Eq, Hash)]
 enum Node {
     Constant(bool),
@@ -51,9 +51,9 @@ enum Operation {
     Fix(DiagramId, usize, bool),
 }
 
-/// Boolean functions of tests, which are numbered from 0, as diagrams with test 0 at the top.
+/// Boolean functions of tests as decision diagrams. Tests are numbered from 0, and test 0 is at the top.
 ///
-/// Each function has one id. The results of operations are kept, and are never dropped.
+/// Each function has one id. Results of operations are stored and never dropped.
 #[derive(Drop)]
 pub struct Diagrams {
     tests: usize,
@@ -79,7 +79,7 @@ impl Diagrams {
     ghost use Rattle.test_diagrams.specs.Operations.{HasOperands, function_of, IsResult};
     ghost use Rattle.test_diagrams.specs.Working.Operations.{choice_of, top_of, IsOpen, IsPart, IsCofactor};
 
-    /// A collection for functions of this many tests. It holds the two constants.
+    /// Creates a collection for functions of `tests` tests, with the two constants.
     pub fn new(alloc: Global, tests: usize) -> Result<Diagrams, NoMemory>
         ensures tests { IfOk result (λ d. d.tests ≡ tests) }
         ensures reduced { IfOk result IsReduced }
@@ -94,7 +94,7 @@ impl Diagrams {
         })
     }
 
-    /// The number of tests.
+    /// Returns the number of tests.
     pub fn tests(&self) -> usize
         ensures tests { result ≡ self.now.tests }
         ensures reduced { IsReduced self.now }
@@ -102,17 +102,17 @@ impl Diagrams {
         self.tests
     }
 
-    /// The constant of this value.
+    /// Returns the diagram of the constant function.
     pub fn constant(&self, value: bool) -> DiagramId
         ensures function { IsDiagramOf self.now result (λ atom. value) }
         ensures reduced { IsReduced self.now }
     {
-        // The proof needs the type's invariant: the collection holds both.
+        // The proof needs the type's invariant: the collection has both constants.
         let _ = &self.nodes;
         if value { ALWAYS } else { NEVER }
     }
 
-    /// The diagram of the test. A refusal may leave further diagrams.
+    /// Returns the diagram of the test. On failure, extra diagrams may remain.
     pub fn of_test(&mut self, test: &Test) -> Result<DiagramId, NoMemory>
         requires in_range { IsTestInRange self.old.tests (test_tree test.now) }
         ensures function { IfOk result (λ id. IsDiagramOf self.new id (truth (test_tree test.now))) }
@@ -144,7 +144,7 @@ impl Diagrams {
         }
     }
 
-    /// The diagram that is true where both are. A refusal may leave further diagrams.
+    /// Returns the diagram of the conjunction of `a` and `b`. On failure, extra diagrams may remain.
     pub fn and(&mut self, a: DiagramId, b: DiagramId) -> Result<DiagramId, NoMemory>
         requires left { IsDiagramId self.old a }
         requires right { IsDiagramId self.old b }
@@ -156,7 +156,7 @@ impl Diagrams {
         self.apply(Operation::And(a, b))
     }
 
-    /// The diagram that is true where at least one of both is. A refusal may leave further diagrams.
+    /// Returns the diagram of the disjunction of `a` and `b`. On failure, extra diagrams may remain.
     pub fn or(&mut self, a: DiagramId, b: DiagramId) -> Result<DiagramId, NoMemory>
         requires left { IsDiagramId self.old a }
         requires right { IsDiagramId self.old b }
@@ -168,7 +168,7 @@ impl Diagrams {
         self.apply(Operation::Or(a, b))
     }
 
-    /// The diagram that is true where this one is false. A refusal may leave further diagrams.
+    /// Returns the diagram of the negation of `a`. On failure, extra diagrams may remain.
     pub fn not(&mut self, a: DiagramId) -> Result<DiagramId, NoMemory>
         requires { IsDiagramId self.old a }
         ensures function { IfOk result (λ id. IsDiagramOf self.new id (λ atom.
@@ -179,7 +179,7 @@ impl Diagrams {
         self.apply(Operation::Not(a))
     }
 
-    /// The diagram with the test set to the value. A refusal may leave further diagrams.
+    /// Returns the diagram of `a` with the test fixed to the value. On failure, extra diagrams may remain.
     pub fn fix(&mut self, a: DiagramId, test: usize, value: bool) -> Result<DiagramId, NoMemory>
         requires id { IsDiagramId self.old a }
         requires in_range { test < self.old.tests }
@@ -191,7 +191,7 @@ impl Diagrams {
         self.apply(Operation::Fix(a, test, value))
     }
 
-    /// The least test on which the function depends, or `None` for a constant function.
+    /// Returns the least test on which the function depends, or `None` for a constant function.
     pub fn top(&self, a: DiagramId) -> Option<usize>
         requires { IsDiagramId self.now a }
         ensures least { IfSome result (IsLeastTest self.now a) }
@@ -204,7 +204,7 @@ impl Diagrams {
         }
     }
 
-    /// The value of the function at the atom.
+    /// Returns the value of the function at the atom.
     pub fn value_at(&self, a: DiagramId, atom: &[bool]) -> bool
         requires id { IsDiagramId self.now a }
         requires atom { IsAtomOf self.now atom.now }
@@ -223,7 +223,7 @@ impl Diagrams {
         }
     }
 
-    // The node of the diagram.
+    // Returns the node of the diagram.
     fn node(&self, id: DiagramId) -> Node
         requires { IsDiagramId self.now id }
         ensures node { slice_get self.now.nodes id ≡ Some result }
@@ -232,7 +232,7 @@ impl Diagrams {
         *self.nodes.get_index(id.index).unwrap()
     }
 
-    // The test at the top of the diagram, or the number of tests for a constant.
+    // Returns the test at the top of the diagram, or the number of tests for a constant.
     fn level(&self, id: DiagramId) -> usize
         requires { IsDiagramId self.now id }
         ensures level { result ≡ level_of self.now id }
@@ -244,7 +244,7 @@ impl Diagrams {
         }
     }
 
-    // The choice between two diagrams by a test above both.
+    // Returns the diagram of the choice between two diagrams by a test above both.
     fn branch(
         &mut self,
         test: usize,
@@ -270,7 +270,7 @@ impl Diagrams {
         Ok(DiagramId { index })
     }
 
-    // What is left of the diagram where the test, which is at its top or above it, has the value.
+    // Returns the cofactor of the diagram for the value of the test, which is at its top or above it.
     fn part(&self, id: DiagramId, test: usize, value: bool) -> DiagramId
         requires id { IsDiagramId self.now id }
         requires test { test < self.now.tests }
@@ -288,9 +288,9 @@ impl Diagrams {
         }
     }
 
-    // The result of the operation. Unless it is at hand, it is the choice between the results for both values
-    // of the test at the top (Shannon's expansion). Since results are kept, two diagrams cost at most a step for
-    // each pair of their nodes, and the recursion is no deeper than the tests are many.
+    // Returns the result of the operation. Unless it is known already, it is the choice between the results for both
+    // values of the top test (Shannon's expansion). Since results are stored, an operation on two diagrams takes at
+    // most one step for each pair of their nodes. The depth of recursion is at most the number of tests.
     fn apply(&mut self, operation: Operation) -> Result<DiagramId, NoMemory>
         requires operands { HasOperands self.old operation }
         ensures function { IfOk result (λ id.
@@ -314,7 +314,7 @@ impl Diagrams {
         Ok(id)
     }
 
-    // The result, where it needs no further step.
+    // Returns the result if it needs no recursion.
     fn trivial_result(&self, operation: &Operation) -> Option<DiagramId>
         requires operands { HasOperands self.now operation.now }
         ensures result { IfSome result (IsResult self.now operation.now) }
@@ -344,7 +344,7 @@ impl Diagrams {
         }
     }
 
-    // The result, where it was computed before.
+    // Returns the result if it was computed before.
     fn find_result(&self, operation: &Operation) -> Option<DiagramId>
         ensures result { IfSome result (IsResult self.now operation.now) }
         ensures reduced { IsReduced self.now }
@@ -352,7 +352,7 @@ impl Diagrams {
         self.results.get(operation).copied()
     }
 
-    // The result.
+    // Stores the result of an operation.
     fn note(&mut self, operation: Operation, id: DiagramId) -> Result<(), NoMemory>
         requires { IsResult self.old operation id }
         ensures { self.new ≡ self.old }
@@ -361,7 +361,7 @@ impl Diagrams {
         Ok(())
     }
 
-    // The test at the top of the operands.
+    // Returns the test at the top of the operands.
     fn top_test(&self, operation: &Operation) -> usize
         requires operands { HasOperands self.now operation.now }
         ensures top { result ≡ top_of self.now operation.now }
@@ -373,7 +373,7 @@ impl Diagrams {
         }
     }
 
-    // What is left of the operation where the test at the top of its operands has the value.
+    // Returns the cofactor of the operation for the value of its top test.
     fn cofactor(&self, operation: &Operation, test: usize, value: bool) -> Operation
         requires operands { HasOperands self.now operation.now }
         requires open { IsOpen self.now operation.now }
@@ -395,7 +395,7 @@ impl Diagrams {
     }
 }
 
-// The one of two operands that is the result by itself, where the operation has these two values.
+// Returns the operand that is already the result of an operation with these absorbing and neutral values, if one is.
 fn absorbing_operand(
     a: DiagramId,
     b: DiagramId,

@@ -1,10 +1,10 @@
-//! Which problems have a bound of guarded pairs.
+//! Which problems have a bound on guarded pairs.
 use gkat_front::pair_bound;
 use kat_model::{Kat, NoMemory, Problem, Test};
 use std::alloc::Global;
 use std::test::Fail;
 
-// `t0.a0 + c.a1`, where c is the complement of the other test.
+// `t0.a0 + c.a1`, where `c` is the complement of the test `other`.
 fn choice(alloc: Global, other: usize) -> Result<Kat, NoMemory> {
     let first = Kat::new_seq(alloc, Kat::Test(Test::Prim(0)), Kat::Act(0))?;
     let fails = Test::new_not(alloc, Test::Prim(other))?;
@@ -12,7 +12,7 @@ fn choice(alloc: Global, other: usize) -> Result<Kat, NoMemory> {
     Kat::new_sum(alloc, first, second)
 }
 
-// `(t0.a1)*.c`, likewise.
+// `(t0.a1)*.c`, where `c` is the complement of the test `other`.
 fn repetition(alloc: Global, other: usize) -> Result<Kat, NoMemory> {
     let turn = Kat::new_seq(alloc, Kat::Test(Test::Prim(0)), Kat::Act(1))?;
     let turns = Kat::new_star(alloc, turn)?;
@@ -20,7 +20,7 @@ fn repetition(alloc: Global, other: usize) -> Result<Kat, NoMemory> {
     Kat::new_seq(alloc, turns, Kat::Test(fails))
 }
 
-// Whether a problem over two tests and two actions, with the action 0 on the right, has this bound.
+// Whether a problem over two tests and two actions, with the action 0 on the right, has the bound `want`.
 fn is_bound(hyps: Vec<Kat>, left: Kat, want: Option<u64>) -> bool {
     match Problem::new(2, 2, hyps, left, Kat::Act(0)) {
         Ok(problem) => pair_bound(&problem) == want,
@@ -40,7 +40,7 @@ fn star_has_none(alloc: Global) -> Result<bool, NoMemory> {
     Ok(is_bound(Vec::new(alloc), Kat::new_star(alloc, Kat::Act(1))?, None))
 }
 
-// Where it is stated that the action 1 is 0.
+// Whether the hypothesis that the action 1 is 0 leaves a problem without a bound.
 fn hypothesis_has_none(alloc: Global) -> Result<bool, NoMemory> {
     let mut hyps = Vec::new(alloc);
     hyps.push(Kat::Act(1))?;

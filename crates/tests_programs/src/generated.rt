@@ -1,4 +1,4 @@
-//! The generated problems.
+//! Generated problems.
 ghost use Rattle.std.specs.Prelude.{◌<◌};
 
 use gkat_front::{bench_problem, pair_bound};
@@ -6,7 +6,7 @@ use kat_model::NoMemory;
 use std::alloc::Global;
 use std::test::Fail;
 
-// Whether the left side of problem k has so many nodes, and the right side.
+// Whether the sides of problem `k` have `left` and `right` nodes.
 fn has_sizes(alloc: Global, k: u64, left: u64, right: u64) -> Result<bool, NoMemory>
     requires { k < 10000 }
 {

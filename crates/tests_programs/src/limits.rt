@@ -1,11 +1,11 @@
-//! The limits of the texts of GKAT.
+//! Limits of the texts of GKAT.
 use gkat_front::read_gkat;
 use kat_model::NoMemory;
 use std::alloc::Global;
 use std::test::Fail;
 use text_tokens::TextFault;
 
-// The fault for which the text is refused.
+// Returns the fault of the text.
 fn fault(alloc: Global, text: &[u8]) -> Option<TextFault> {
     match read_gkat(alloc, text) {
         Ok(_) => None,
@@ -20,7 +20,7 @@ fn put(out: &mut Vec<u8>, text: &[u8], times: usize) -> Result<(), NoMemory> {
     Ok(())
 }
 
-// `0 . 0 . 0 ..` beside `0`: three nodes for each dot, and two.
+// `0.0.0` .. with this number of dots as the left side, and `0` as the right; the left side has `3 * dots + 2` nodes.
 fn product(alloc: Global, dots: usize) -> Result<Vec<u8>, NoMemory> {
     let mut out = Vec::new(alloc);
     put(&mut out, b"equal 0", 1)?;
@@ -29,7 +29,7 @@ fn product(alloc: Global, dots: usize) -> Result<Vec<u8>, NoMemory> {
     Ok(out)
 }
 
-// `0` in so many parentheses beside `0`.
+// `0` in `depth` pairs of parentheses as the left side, and `0` as the right.
 fn nested(alloc: Global, depth: usize) -> Result<Vec<u8>, NoMemory> {
     let mut out = Vec::new(alloc);
     put(&mut out, b"equal ", 1)?;
@@ -40,7 +40,7 @@ fn nested(alloc: Global, depth: usize) -> Result<Vec<u8>, NoMemory> {
     Ok(out)
 }
 
-// So many tests, whose names are as many letters as there are tests so far.
+// Declarations of tests. The names have 1, 2, .. letters.
 fn declarations(alloc: Global, tests: usize) -> Result<Vec<u8>, NoMemory> {
     let mut out = Vec::new(alloc);
     for k in 0..tests {

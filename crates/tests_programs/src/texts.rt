@@ -1,4 +1,4 @@
-//! The texts of GKAT, read and printed.
+//! Reading and printing texts of GKAT.
 use gkat_front::{GkatFile, kat_of, print_gkat, read_gkat};
 use kat_model::NoMemory;
 use std::alloc::Global;
@@ -13,7 +13,7 @@ fn is_refused(alloc: Global, text: &[u8], want: TextFault) -> bool {
     }
 }
 
-// The terms of both sides, with a line feed between.
+// Prints the terms of both sides, separated by a line feed.
 fn terms(alloc: Global, file: &GkatFile) -> Result<Vec<u8>, NoMemory> {
     let left = kat_of(alloc, &file.left)?;
     let right = kat_of(alloc, &file.right)?;
@@ -30,7 +30,7 @@ fn has_terms(alloc: Global, text: &[u8], want: &[u8]) -> Result<bool, TextFault>
     Ok(made.as_slice() == want)
 }
 
-// Both sides as they are printed, with a line feed between.
+// Prints both sides, separated by a line feed.
 fn sides(alloc: Global, file: &GkatFile) -> Result<Vec<u8>, NoMemory> {
     let mut out = print_gkat(alloc, &file.left, &file.scope)?;
     out.push(b'\n')?;

@@ -1,4 +1,4 @@
-//! Proofs of one line, from one side of a goal to the other, and what the check answers.
+//! Checks proofs of one line, from one side of a goal to the other.
 ghost use Rattle.std.specs.Prelude.{IfOk};
 ghost use Rattle.chain_rules.specs.Chained.{HasTermsInRange};
 
@@ -9,7 +9,7 @@ use std::alloc::Global;
 use std::test::Fail;
 use text_tokens::TextFault;
 
-// The proof from the left side to the right side by one line.
+// Returns the proof of one line from the left side to the right side.
 fn one_line(alloc: Global, problem: &Problem, rule: Axiom, path: &[u64]) -> Result<Chain, NoMemory>
     ensures { IfOk result (HasTermsInRange problem.now.tests problem.now.actions) }
 {
@@ -34,7 +34,7 @@ fn answer(
     check_chain(alloc, problem, &chain)
 }
 
-// A text, the axiom and the place of the one line, and what is answered.
+// A text, the axiom and the path of the line, and the expected answer.
 type Row = (&'static str, Axiom, &'static [u64], ChainAnswer);
 
 const FAILS: ChainAnswer = ChainAnswer::Rejected(ChainReason::Step(0));

@@ -1,4 +1,4 @@
-//! Problems with known answers: how many pairs a certificate has, or how many moves a string.
+//! Problems with known answers: the number of pairs of the certificate, or the number of moves of the string.
 use bisim_worklist::{decide, decide_in};
 use certificate::{Evidence, Style};
 use kat_model::{Kat, NoMemory, Problem};
@@ -8,7 +8,7 @@ use std::test::Fail;
 use term_store::Store;
 use text_tokens::TextFault;
 
-// The term of a side; none of these texts has a program there.
+// Returns the term of a side. No text here has a program as a side.
 fn term(side: Side) -> Kat {
     match side {
         Side::Term(term) => term,
@@ -16,7 +16,7 @@ fn term(side: Side) -> Kat {
     }
 }
 
-// The sides of the goal `equal`.
+// Returns the sides of a goal `equal`.
 fn sides(goal: Goal) -> Option<(Kat, Kat)> {
     match goal {
         Goal::Equal(left, right) => Some((term(left), term(right))),
@@ -24,7 +24,7 @@ fn sides(goal: Goal) -> Option<(Kat, Kat)> {
     }
 }
 
-// The problem of the sides, where there are any and it is within the limits.
+// Returns the problem of the sides, if there are sides and they are within the limits.
 fn problem_of(
     tests: usize,
     actions: usize,
@@ -35,7 +35,7 @@ fn problem_of(
     Problem::new(tests, actions, hyps, left, right).ok()
 }
 
-// The problem of a file whose goal is `equal`.
+// Returns the problem of a file with the goal `equal`.
 fn file_problem(file: File) -> Option<Problem> {
     problem_of(file.tests, file.actions, file.hyps, sides(file.goal))
 }
@@ -44,7 +44,7 @@ pub(crate) fn problem(alloc: Global, text: &str) -> Result<Option<Problem>, Text
     Ok(file_problem(read(alloc, text.as_bytes())?))
 }
 
-// A certificate of so many pairs, or a string of so many moves.
+// A certificate with this number of pairs, or a string with this number of moves.
 #[derive(Clone, Copy, Debug, PartialEq, Eq)]
 enum Answer {
     Pairs(usize, Style),
@@ -68,7 +68,7 @@ fn answer_in(alloc: Global, store: &mut Store, problem: &Problem) -> Result<Answ
     Ok(answer_of(&evidence))
 }
 
-// Whether this is the answer, in a store of its own and in this one.
+// Whether the problem has this answer, both in a new store and in `store`.
 fn is_answer(
     alloc: Global,
     store: &mut Store,
@@ -122,7 +122,7 @@ fn put_kept(text: &mut String, tests: usize) -> Result<(), NoMemory> {
     Ok(())
 }
 
-// A text in which the action leaves so many tests as they are.
+// Returns a text with this goal, whose hypotheses say that action p keeps the values of `tests` tests.
 fn kept_tests(alloc: Global, tests: usize, goal: &str) -> Result<String, NoMemory> {
     let mut text = String::from_str(alloc, "test b0")?;
     put_kept(&mut text, tests)?;
@@ -140,7 +140,8 @@ fn holds_of_kept(
     holds(alloc, store, text.as_str(), want)
 }
 
-// Without tests there is a pair for each atom, and one more: of ten tests 1,025, of eleven more than 2,000.
+// Without tests in the certificate, there is a pair for each atom and an additional one: 1,025 for ten tests, more than
+// 2,000 for eleven.
 const KEPT: &[(usize, &str, Answer)] = &[
     (
         10,
@@ -151,7 +152,7 @@ const KEPT: &[(usize, &str, Answer)] = &[
     (11, "goal equal p*, 1 + p;", Answer::Moves(2)),
 ];
 
-// A store serves many problems.
+// One store serves many problems.
 #[test]
 fn answers_are_short(rt: HostRuntime) -> Result<(), Fail> {
     let mut store = Store::new(rt.alloc());

@@ -1,4 +1,4 @@
-//! Steps of a set of terms, found by hand.
+//! Steps of a set of terms, computed by hand.
 ghost use Rattle.std.specs.Prelude.{◌≡◌, All, IfOk};
 ghost use Rattle.partial_derivs.specs.Moves.{IsTermOf};
 
@@ -9,7 +9,7 @@ use std::test::Fail;
 use term_store::{Shape, Store, TermId, TestShape};
 use test_diagrams::Diagrams;
 
-// An action after a test, and the action alone.
+// Returns an action with a test before it, and the action without it.
 fn guarded_and_free(store: &mut Store) -> Result<[TermId; 2], NoMemory>
     ensures { IfOk result (All (IsTermOf store.new 1)) }
 {
@@ -20,7 +20,7 @@ fn guarded_and_free(store: &mut Store) -> Result<[TermId; 2], NoMemory>
     Ok([guarded, action])
 }
 
-// Whether the one move is by the action 0 to this term under each atom, and no atom is accepted.
+// Whether there is exactly one move, by action 0 to `to` at each atom, and no atom is accepted.
 fn has_one_move(diagrams: &Diagrams, steps: &Steps, to: TermId) -> bool {
     let guard = diagrams.constant(true);
     let only = [Guarded { guard, act: 0, to }];
@@ -40,7 +40,7 @@ fn moves_are_joined(
     Ok(has_one_move(diagrams, &steps, to))
 }
 
-// In a store of its own.
+// Runs the check in a new store.
 fn moves_are_joined_in(alloc: Global, diagrams: &mut Diagrams) -> Result<bool, NoMemory>
     requires { diagrams.old.tests ≡ 1 }
 {

@@ -1,4 +1,4 @@
-//! The parity of forty tests, whose diagram is small.
+//! The parity of forty tests, which has a small diagram.
 ghost use Rattle.std.specs.Prelude.{◌≡◌, ◌<◌, IfOk};
 ghost use Rattle.test_diagrams.specs.Functions.{IsDiagramId};
 
@@ -6,7 +6,7 @@ use kat_model::{NoMemory, Test};
 use std::test::Fail;
 use test_diagrams::{DiagramId, Diagrams};
 
-// True where exactly one of the diagram and the test of this number is.
+// Returns the exclusive or of `parity` and the test with this number.
 fn either_test(
     diagrams: &mut Diagrams,
     parity: DiagramId,
@@ -25,7 +25,7 @@ fn either_test(
     diagrams.or(first, second)
 }
 
-// True where an odd number of forty tests is.
+// Returns the diagram that is true if an odd number of the forty tests is.
 fn parity_of_all(diagrams: &mut Diagrams) -> Result<DiagramId, NoMemory>
     requires { diagrams.old.tests ≡ 40 }
     ensures parity { IfOk result (IsDiagramId diagrams.new) }
@@ -38,7 +38,7 @@ fn parity_of_all(diagrams: &mut Diagrams) -> Result<DiagramId, NoMemory>
     Ok(parity)
 }
 
-// The first test of the parity, and the first once that test is fixed.
+// Returns the first test of the parity, and the first test after that one is fixed.
 fn first_tests(diagrams: &mut Diagrams) -> Result<(Option<usize>, Option<usize>), NoMemory>
     requires { diagrams.old.tests ≡ 40 }
 {
@@ -48,7 +48,7 @@ fn first_tests(diagrams: &mut Diagrams) -> Result<(Option<usize>, Option<usize>)
     Ok((first, diagrams.top(rest)))
 }
 
-// Where results are not kept, this takes 2 to the power of 40 steps.
+// Takes 2 to the power of 40 steps if results are not stored.
 #[test]
 fn the_parity_of_forty_tests_is_found(rt: HostRuntime) -> Result<(), Fail> {
     let mut diagrams = Diagrams::new(rt.alloc(), 40)?;

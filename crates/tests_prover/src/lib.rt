@@ -1,5 +1,5 @@
-//! Tests of the prover and of what it stands on: stores of terms, diagrams of tests, and derivatives; and of equational
-//! proofs.
+//! Tests of the prover and of the crates below it: stores of terms, diagrams of tests, and derivatives; and of
+//! equational proofs.
 #![tactic(auto)]
 
 #[cfg(test)]

@@ -1,4 +1,4 @@
-//! Texts of proofs: what is read of them, and what the check answers.
+//! Reads and checks texts of proofs.
 use crate::deciding::problem;
 use chain_proofs::read_chain;
 use chain_rules::{ChainAnswer, ChainReason, check_chain};
@@ -7,7 +7,7 @@ use std::alloc::Global;
 use std::test::Fail;
 use text_tokens::TextFault;
 
-// What comes of a proof: why its text is refused, or the answer of the check.
+// The outcome for a proof: why the text is refused, or the answer of the check.
 #[derive(Clone, Copy, Debug, PartialEq, Eq)]
 enum Outcome {
     Refused(TextFault),
@@ -83,7 +83,7 @@ a0.(a1.a0)*
 };
 ";
 
-// A problem, a proof and what comes of it.
+// A problem, a proof and its outcome.
 const ROWS: &[(&str, &str, Outcome)] = &[
     (
         "action p; hyp p = 0; goal equal p.p, 0;",
@@ -100,7 +100,7 @@ const ROWS: &[(&str, &str, Outcome)] = &[
         "1.1* + 1 = 1 by rfp { (1 + 1.1) + 1 = (1 + 1) + 1 by oneleft at 0.1; = 1 + 1 by idem at 0; = 1 by idem; };",
         Outcome::Accepted,
     ),
-    // The line is read from right to left.
+    // The line is applied from right to left.
     (
         "goal equal 1, 1*.1 + 1;",
         "1 = 1*.1 + 1 by lfp { (1 + 1.1) + 1 = (1 + 1) + 1 by oneleft at 0.1; = 1 + 1 by idem at 0; = 1 by idem; };",
@@ -118,7 +118,7 @@ const ROWS: &[(&str, &str, Outcome)] = &[
         "1*.1 + 1 = 1 by lfp { (1 + 1.1) + 1 = (1 + 1) + 1 by oneleft at 0.1; };",
         Outcome::Rejected(ChainReason::Step(0)),
     ),
-    // The term r is left out of its start.
+    // The start lacks the term r.
     (
         FIXED,
         "1*.1 + 1 = 1 by lfp { 1 + 1.1 = 1 + 1 by oneleft at 1; = 1 by idem; };",
@@ -136,7 +136,7 @@ const ROWS: &[(&str, &str, Outcome)] = &[
         "1*.1 + 1 = 1 by lfp { (1 + 1.1) + 1 = (1 + 1) + 1 by oneleft at 0.1; = 1 + 1 by idem at 0; = 1 by idem; }; = 0 by idem;",
         Outcome::Rejected(ChainReason::Step(4)),
     ),
-    // Where the outer line and an inner one fail, the outer is told.
+    // If the outer line and an inner one fail, the outer line is reported.
     (
         "goal equal 1*.1 + 1, 0;",
         "1*.1 + 1 = 0 by lfp { (1 + 1.1) + 1 = 1 by idem; };",
@@ -234,7 +234,7 @@ const ROWS: &[(&str, &str, Outcome)] = &[
         "[a0 == 1] = a0 by comm;",
         Outcome::Refused(TextFault::Sort(1)),
     ),
-    // A rule is looked at before the terms behind it.
+    // A rule is checked before the terms that follow it.
     (
         SUM,
         "a0 = a0 by nosuch; = a9 by comm;",

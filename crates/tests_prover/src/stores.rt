@@ -1,4 +1,4 @@
-//! Ids and nodes, counted by hand.
+//! Ids and nodes of a store, counted by hand.
 ghost use Rattle.term_nodes.specs.NodeLists.{IsTerm};
 
 use kat_model::{Kat, NoMemory};
@@ -6,7 +6,7 @@ use std::alloc::Global;
 use std::test::Fail;
 use term_store::{Shape, Store, TermId, TestShape};
 
-// Whether an action that is interned twice has one id and is one node, in an empty store.
+// Whether an action that is interned twice in an empty store has one id and one node.
 fn actions_are_one(store: &mut Store) -> Result<bool, NoMemory> {
     let first = store.intern(Shape::Act(0))?;
     let second = store.intern(Shape::Act(0))?;
@@ -26,14 +26,15 @@ fn sequence(store: &mut Store, first: usize, second: usize) -> Result<TermId, No
     sequence_of(store, e, f)
 }
 
-// Whether the sequences of two actions in both orders have two ids, by age, and are four nodes with the actions.
+// Whether the sequences of two actions in both orders have different ids, the older one smaller, and the store has four
+// nodes, two of them the actions.
 fn orders_are_two(store: &mut Store) -> Result<bool, NoMemory> {
     let forth = sequence(store, 0, 1)?;
     let back = sequence(store, 1, 0)?;
     Ok(forth < back && store.count() == 4)
 }
 
-// Whether 1 and then an action is the action.
+// Whether the product of 1 and an action is the action.
 fn one_is_left_out(store: &mut Store) -> Result<bool, NoMemory> {
     let one = store.intern(Shape::One)?;
     let f = store.intern(Shape::Act(1))?;
@@ -46,12 +47,12 @@ fn product(store: &mut Store, first: usize, second: usize) -> Result<TermId, NoM
     store.dot(e, f)
 }
 
-// Whether one action and then another is their sequence.
+// Whether the product of two actions is their sequence.
 fn products_are_sequences(store: &mut Store) -> Result<bool, NoMemory> {
     Ok(product(store, 0, 1)? == sequence(store, 0, 1)?)
 }
 
-// Whether a test has its node back, of which a store with five terms has six.
+// Whether a test that is interned in a store with five terms is the sixth, and its node is returned.
 fn test_is_sixth(store: &mut Store) -> Result<bool, NoMemory> {
     let prim = store.intern_test(TestShape::Prim(0))?;
     let test = store.intern(Shape::Test(prim))?;
@@ -73,7 +74,7 @@ fn id_of(store: &mut Store, tree: &Kat) -> Result<TermId, NoMemory> {
     store.of_tree(tree)
 }
 
-// Whether a tree of three nodes has one id, in an empty store.
+// Whether a tree of three nodes that is interned twice in an empty store has one id.
 fn tree_is_one(store: &mut Store, tree: &Kat) -> Result<bool, NoMemory> {
     let first = id_of(store, tree)?;
     let second = id_of(store, tree)?;

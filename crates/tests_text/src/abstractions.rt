@@ -1,4 +1,4 @@
-//! The abstraction of a goal about programs, and what its rows make of a program and of a condition.
+//! The abstraction of a goal about programs, and the terms that its rows give for a program and a condition.
 ghost use Rattle.std.specs.Prelude.{IfOk};
 ghost use Rattle.abstraction.specs.Abstracts.{HasNumbersInRange};
 
@@ -13,7 +13,7 @@ use text_scopes::Scope;
 use text_tokens::TextFault;
 use while_lang::{Prog, encode};
 
-// What a text says; its numbers are in range.
+// Reads a file. The numbers of the file are in range.
 fn file_of(alloc: Global, bytes: &[u8]) -> Result<File, TextFault>
     ensures { IfOk result (λ file. HasNumbersInRange file) }
 {
@@ -46,7 +46,7 @@ fn put_cond(
     put_term(alloc, out, &test, scope)
 }
 
-// The first condition of a triple, and its program.
+// Appends the first condition of a triple and its program.
 fn put_triple(
     alloc: Global,
     out: &mut Vec<u8>,
@@ -64,7 +64,7 @@ fn put_triple(
     }
 }
 
-// The left side of the problem, and then the triple.
+// Appends the left side of the problem, then the triple.
 fn put_all(
     alloc: Global,
     out: &mut Vec<u8>,
@@ -99,7 +99,7 @@ fn is_abstracted(alloc: Global, text: &str, want: &str) -> Result<bool, TextFaul
     })
 }
 
-// Of this file t0 is b, t1 is x == 3, and t2 is x + 1 == 3; a0 is p, and a1 is x := x + 1.
+// In this file t0 is b, t1 is x == 3, and t2 is x + 1 == 3; a0 is p, and a1 is x := x + 1.
 #[test]
 fn goals_are_abstracted(rt: HostRuntime) -> Result<(), Fail> {
     let text =

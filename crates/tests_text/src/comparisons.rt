@@ -1,4 +1,4 @@
-//! Comparisons of expressions in normal form, where `v0` is x and `v1` is y, and sums and copies of forms.
+//! Normal forms of comparisons of expressions, where `v0` is x and `v1` is y, and sums and copies of forms.
 use crate::fixtures::{cut, sample};
 use kat_model::{Cond, Expr, NoMemory, Rel, Width};
 use linear_forms::{
@@ -77,7 +77,7 @@ fn cond(alloc: Global, text: &str, scope: &Scope) -> Result<Cond, TextFault> {
     Ok(cond)
 }
 
-// The normal form of a comparison.
+// Returns the text of a comparison's normal form.
 fn compared(alloc: Global, text: &str, scope: &Scope) -> Result<String, TextFault> {
     let cond = cond(alloc, text, scope)?;
     normal_text(alloc, &cond)
@@ -112,7 +112,7 @@ fn expr(alloc: Global, text: &str, scope: &Scope) -> Result<Expr, TextFault> {
     Ok(expr)
 }
 
-// The form of an expression at eight bits.
+// Returns the form of an expression at eight bits.
 fn form(alloc: Global, text: &str, scope: &Scope) -> Result<Form, TextFault> {
     let expr = expr(alloc, text, scope)?;
     Ok(normal(alloc, Width::W8, &expr)?)
@@ -128,7 +128,7 @@ fn put_canonical(alloc: Global, out: &mut String, form: &Form) -> Result<(), NoM
     put_form(out, &canonical)
 }
 
-// A form and its canonical form.
+// Appends a form and its canonical form.
 fn put_both(alloc: Global, out: &mut String, form: &Form) -> Result<(), NoMemory> {
     put_copy(alloc, out, form)?;
     out.push_str("; ")?;
@@ -145,7 +145,7 @@ fn put_difference(
     put_both(alloc, out, &less)
 }
 
-// The sum, and by how much the right side is less than it.
+// Appends the sum, and the right side minus the sum.
 fn put_sum(alloc: Global, out: &mut String, total: &Form, right: &Form) -> Result<(), NoMemory> {
     put_form(out, total)?;
     out.push_str("; ")?;
@@ -200,7 +200,7 @@ fn copy_substituted_text(alloc: Global, atomic: &Atomic, by: &Form) -> Result<St
     substituted_text(alloc, &copy, by)
 }
 
-// The comparison `x < y + 7` with `x + y` in place of x.
+// Substitutes `x + y` for x in the comparison `x < y + 7`.
 fn replaced_text(alloc: Global, scope: &Scope) -> Result<String, TextFault> {
     let atomic = less(alloc, "x", "y + 7", scope)?;
     let by = form(alloc, "x + y", scope)?;
@@ -218,7 +218,7 @@ fn a_form_takes_the_place_of_x(rt: HostRuntime) -> Result<(), Fail> {
     Ok(())
 }
 
-// A product of x with itself, so many factors nested to the right.
+// Returns the form of a product of `count` factors x, nested to the right.
 fn power(alloc: Global, count: u64) -> Result<Form, NoMemory> {
     let mut expr = Expr::Var(0);
     for _ in 1..count {
@@ -227,7 +227,7 @@ fn power(alloc: Global, count: u64) -> Result<Form, NoMemory> {
     normal(alloc, Width::W64, &expr)
 }
 
-// The nodes of a comparison with 0, or 0 for any other.
+// Returns the number of nodes of a comparison with 0, or 0 for any other condition.
 fn zero_size(cond: CondForm) -> u64 {
     match cond {
         CondForm::Pos(atomic) => atomic_size(&atomic),
@@ -240,7 +240,8 @@ fn squared_size(alloc: Global, by: &Form) -> Result<u64, NoMemory> {
     Ok(zero_size(subst(alloc, Width::W64, &atomic, 0, by)?))
 }
 
-// The nodes of an expression of 999 nodes, and those of its square: a million nodes, 998 products deep.
+// Returns the number of nodes of the form of an expression of 999 nodes, and that of the form substituted into itself:
+// a million nodes, 998 products deep.
 fn largest_sizes(alloc: Global) -> Result<(u64, u64), NoMemory> {
     let by = power(alloc, 500)?;
     let size = form_size(&by);

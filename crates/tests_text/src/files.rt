@@ -1,4 +1,4 @@
-//! Problem files, and where they stop.
+//! Problem files and their faults.
 use crate::fixtures::{is_so, put, put_around, put_term, text_around};
 use kat_model::{Cond, Kat, NoMemory};
 use problem_file::{File, Goal, Side, read};
@@ -56,7 +56,7 @@ fn put_hyps(alloc: Global, out: &mut Vec<u8>, hyps: &[Kat], scope: &Scope) -> Re
     Ok(())
 }
 
-// How many tests, actions and terms a text declares, its hypotheses, and its goal.
+// Appends the numbers of tests, actions and terms of a file, its hypotheses, and its goal.
 fn put_file(alloc: Global, out: &mut Vec<u8>, file: &File) -> Result<(), NoMemory> {
     let counts = format!(in alloc; "{} {} {}: ", file.tests, file.actions, file.terms)?;
     put(out, counts.as_bytes())?;
@@ -74,7 +74,7 @@ fn said(alloc: Global, file: &File) -> Result<Vec<u8>, TextFault> {
     Ok(file_text(alloc, file)?)
 }
 
-// What the text says. The file is dropped at one exit.
+// Reads and prints a text. The file is dropped at one exit.
 fn shown(alloc: Global, text: &str) -> Result<Vec<u8>, TextFault> {
     match read(alloc, text.as_bytes()) {
         Ok(file) => said(alloc, &file),
@@ -146,7 +146,7 @@ fn files_are_read(rt: HostRuntime) {
     }
 }
 
-// A term of 150 levels, and the goal that it is 1 in so many parentheses.
+// Appends a term of 150 levels, and a goal that equates it with 1, in `times` parentheses.
 fn put_nested(out: &mut String, times: usize) -> Result<(), NoMemory> {
     out.push_str("action p; term d = ")?;
     put_around(out, "(p + ", "p", ")", 150)?;
@@ -156,7 +156,7 @@ fn put_nested(out: &mut String, times: usize) -> Result<(), NoMemory> {
     Ok(())
 }
 
-// The terms `a0` to `a14`, each the square of the one before it, so that the last has 65,535 nodes; and a goal.
+// Returns the terms `a0` to `a14`, each the square of the previous one, so that the last has 65,535 nodes; and a goal.
 fn squares(alloc: Global, side: &str) -> Result<String, NoMemory> {
     let mut text = String::from_str(alloc, "test b; action p; term a0 = p.p; ")?;
     for k in 0..14 {
@@ -166,7 +166,7 @@ fn squares(alloc: Global, side: &str) -> Result<String, NoMemory> {
     Ok(text)
 }
 
-// Why the text is refused, where it is.
+// Returns the fault of the text, or `None` if it is read.
 fn fault_of(alloc: Global, text: &str) -> Option<TextFault> {
     match read(alloc, text.as_bytes()) {
         Ok(_) => None,
@@ -205,7 +205,7 @@ fn definitions_count_in_full(rt: HostRuntime) -> Result<(), Fail> {
     Ok(())
 }
 
-// A goal and so many hypotheses of 65,535 nodes, beside definitions of 131,053.
+// Returns the fault of a text with a goal and `times` hypotheses of 65,535 nodes, after definitions of 131,053 nodes.
 fn hyps_fault(alloc: Global, times: usize) -> Result<Option<TextFault>, NoMemory> {
     let side = text_around(alloc, "", "1", "; hyp a14 = 0", times)?;
     squares_fault(alloc, side.as_str())

@@ -1,7 +1,7 @@
-//! The tokens of texts, and names to read phrases with.
+//! The tokens of texts, and names for reading phrases.
 //!
-//! A function that makes values with trees in them or drops them is proved the faster the fewer its exits are at which
-//! one must be dropped. So each helper of these tests has one such value, and lends it to the next.
+//! A function that makes or drops values with trees is proved faster if it has fewer exits where such a value must be
+//! dropped. So each helper of these tests has one such value and lends it to the next.
 ghost use Rattle.std.specs.Prelude.{◌≡◌, false, IfOk};
 ghost use Rattle.text_tokens.specs.declared.token.Kind.TheVariants.{Name};
 ghost use Rattle.text_tokens.specs.Kinds.{IsToken};
@@ -15,7 +15,7 @@ use text_print::print_term;
 use text_scopes::{Meaning, Scope};
 use text_tokens::{Kind, MAX_LEN, TextFault, Token, is_keyword, tokens};
 
-// The tokens of a text of any length.
+// Returns the tokens of a text of any length.
 pub(crate) fn cut<'a>(alloc: Global, text: &'a str) -> Result<Vec<Token<'a>>, TextFault> {
     if text.len() > MAX_LEN {
         return Err(TextFault::TooLong);
@@ -23,7 +23,7 @@ pub(crate) fn cut<'a>(alloc: Global, text: &'a str) -> Result<Vec<Token<'a>>, Te
     tokens(alloc, text)
 }
 
-// The token at the beginning of the text, where it is an identifier.
+// Returns the first token of the text if it is an identifier.
 fn identifier<'a>(alloc: Global, text: &'a str) -> Result<Token<'a>, TextFault>
     ensures name { IfOk result (λ token. IsToken Name token.text.now) }
     ensures no_keyword { IfOk result (λ token. is_keyword token.text.now ≡ false) }
@@ -38,7 +38,7 @@ fn identifier<'a>(alloc: Global, text: &'a str) -> Result<Token<'a>, TextFault>
     }
 }
 
-// Declares a name, unless what it is to mean has one.
+// Declares a name, unless the meaning has a name already.
 pub(crate) fn declare(
     alloc: Global,
     scope: &mut Scope,
@@ -63,7 +63,7 @@ fn declare_variables(alloc: Global, scope: &mut Scope) -> Result<(), TextFault> 
     declare(alloc, scope, "y", Meaning::Var(1))
 }
 
-// Two tests, two actions, two variables, a term that is a test, and one that is none.
+// Returns a scope with two tests, two actions, two variables, a term that is a test, and a term that is not.
 pub(crate) fn sample(alloc: Global) -> Result<Scope, TextFault> {
     let text = "test b, c; action p, q; term t = !(b + c); term e = p.b; goal equal 1, 1;";
     let mut scope = scope_of(read(alloc, text.as_bytes())?);
@@ -71,7 +71,7 @@ pub(crate) fn sample(alloc: Global) -> Result<Scope, TextFault> {
     Ok(scope)
 }
 
-// Whether this was found, or the text was refused so.
+// Whether the result is as expected, either a text or a fault.
 pub(crate) fn is_so(found: Result<Vec<u8>, TextFault>, want: Result<&str, TextFault>) -> bool {
     match (found, want) {
         (Ok(found), Ok(want)) => found.as_slice() == want.as_bytes(),
@@ -94,7 +94,7 @@ pub(crate) fn put_term(
     put(out, &text)
 }
 
-// Adds the middle with so many pieces before it and after it.
+// Appends `middle` with `times` copies of `before` and of `after` around it.
 pub(crate) fn put_around(
     out: &mut String,
     before: &str,

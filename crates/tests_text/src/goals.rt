@@ -1,4 +1,4 @@
-//! The closed sides of what problem files ask, as they are printed.
+//! The closed sides of the goals of problem files, as printed.
 use crate::fixtures::{put, put_term};
 use goal_forms::{Closed, Sides, below, eliminate, triple};
 use kat_model::{Cond, Kat, NoMemory, Problem, Test, test_without_comparisons};
@@ -8,7 +8,7 @@ use std::test::Fail;
 use text_scopes::Scope;
 use text_tokens::TextFault;
 
-// The term of a side; none of these texts has a program there.
+// Returns the term of a side. No text here has a program as a side.
 fn term(side: Side) -> Kat {
     match side {
         Side::Term(term) => term,
@@ -48,7 +48,7 @@ fn put_sides(
     put_term(alloc, out, &closed.right, scope)
 }
 
-// The closed sides, and whether there is a universal term.
+// Returns the text of the closed sides, and whether there is a universal term.
 fn closed_text(alloc: Global, closed: &Closed, scope: &Scope) -> Result<Vec<u8>, NoMemory> {
     let universal: &[u8] = if closed.universal.is_some() {
         b" true"
@@ -66,7 +66,7 @@ fn problem_text(alloc: Global, problem: &Problem, scope: &Scope) -> Result<Vec<u
     closed_text(alloc, &closed, scope)
 }
 
-// The problem of the sides, where it is within the limits.
+// Returns the problem of the sides if it is within the limits.
 fn problem(tests: usize, actions: usize, hyps: Vec<Kat>, sides: Sides) -> Option<Problem> {
     Problem::new(tests, actions, hyps, sides.left, sides.right).ok()
 }

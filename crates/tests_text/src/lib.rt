@@ -1,4 +1,4 @@
-//! Tests from text to text: tokens, phrases, programs, problem files, goals, abstractions, and comparisons of expressions.
+//! Tests on texts: tokens, phrases, programs, problem files, goals, abstractions, and comparisons of expressions.
 #![tactic(auto)]
 
 #[cfg(test)]

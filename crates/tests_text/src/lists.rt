@@ -1,4 +1,4 @@
-//! Balanced trees of lists, as they are printed.
+//! Balanced trees of lists, as printed.
 use crate::fixtures::sample;
 use kat_model::{Cond, Kat, NoMemory, all_of, any_of, seq_of, sum_of};
 use std::alloc::Global;
@@ -14,7 +14,7 @@ fn letter_term(letter: char) -> Kat {
     }
 }
 
-// A term for each digit and letter.
+// Returns a term for each digit and letter.
 fn terms(alloc: Global, text: &str) -> Result<Vec<Kat>, NoMemory> {
     let mut list = Vec::new(alloc);
     for letter in text.chars() {
@@ -65,7 +65,7 @@ fn cond_text(alloc: Global, joint: &str, text: &str, scope: &Scope) -> Result<Ve
     print_cond(alloc, &cond, scope)
 }
 
-// The tree of the list as it is printed.
+// Returns the text of the tree of the list.
 fn printed(alloc: Global, joint: &str, text: &str, scope: &Scope) -> Result<Vec<u8>, NoMemory> {
     match joint {
         "sum" | "seq" => term_text(alloc, joint, text, scope),

@@ -1,4 +1,4 @@
-//! Where phrases end, and what they say.
+//! Where phrases end, and their trees.
 use crate::fixtures::{cut, is_so, sample, text_around};
 use kat_model::{Cond, Expr, Kat, NoMemory};
 use std::alloc::Global;
@@ -8,7 +8,7 @@ use text_print::{print_cond, print_expr, print_term};
 use text_scopes::{Scope, read_cond, read_expr, read_term};
 use text_tokens::{TextFault, Token};
 
-// The index after the phrase at the beginning of the text, with so many constructs open around it.
+// Returns the index after the phrase at the start of the text, with `depth` open constructs around it.
 fn end(alloc: Global, sort: &str, text: &str, depth: usize) -> Result<usize, TextFault> {
     let found = cut(alloc, text)?;
     match sort {
@@ -73,7 +73,7 @@ fn phrases_end(rt: HostRuntime) {
     }
 }
 
-// The printed text, the nesting, and how many tokens are left.
+// Appends the nesting and the number of remaining tokens to the printed text.
 fn line(
     alloc: Global,
     mut printed: Vec<u8>,
@@ -85,7 +85,7 @@ fn line(
     Ok(printed)
 }
 
-// A copy of the term as it is printed.
+// Prints a copy of the term.
 fn term_text(alloc: Global, term: &Kat, scope: &Scope) -> Result<Vec<u8>, NoMemory> {
     let copy = term.copy(alloc)?;
     print_term(alloc, &copy, scope)
@@ -101,7 +101,7 @@ fn expr_text(alloc: Global, expr: &Expr, scope: &Scope) -> Result<Vec<u8>, NoMem
     print_expr(alloc, &copy, scope)
 }
 
-// The tree of the phrase, its nesting, and how many tokens are left.
+// Returns the tree of the phrase, its nesting, and the number of remaining tokens.
 fn term(alloc: Global, found: &[Token], scope: &Scope) -> Result<(Kat, usize, usize), TextFault> {
     let (term, end, levels) = read_term(alloc, found, 0, 0, scope)?;
     Ok((term, levels, found.len() - end))
@@ -145,7 +145,7 @@ fn expr_line(alloc: Global, found: &[Token], scope: &Scope) -> Result<Vec<u8>, T
     Ok(line(alloc, printed, levels, left)?)
 }
 
-// A copy of the phrase as it is printed, its nesting, and how many tokens are left.
+// Prints a copy of the phrase, its nesting, and the number of remaining tokens.
 fn shown(alloc: Global, sort: &str, text: &str, scope: &Scope) -> Result<Vec<u8>, TextFault> {
     let found = cut(alloc, text)?;
     match sort {
@@ -223,7 +223,7 @@ fn expr_fault(alloc: Global, text: &str, scope: &Scope) -> Result<(), TextFault>
     Ok(())
 }
 
-// Whether a sum of this many pluses is a condition and an expression, or is refused as each.
+// Whether a sum of this many pluses is accepted as a condition and as an expression, or rejected as both, as expected.
 fn sum_reads(
     alloc: Global,
     pluses: usize,

@@ -1,11 +1,11 @@
-//! Problem files with programs and variables, and where they stop.
+//! Problem files with programs and variables, and their faults.
 use kat_model::{NoMemory, Width};
 use problem_file::{File, read};
 use std::alloc::Global;
 use std::test::Fail;
 use text_tokens::TextFault;
 
-// Why a text is refused, where it is.
+// Returns the fault of a text, or `None` if it is read.
 fn fault(alloc: Global, text: &str) -> Option<TextFault> {
     match read(alloc, text.as_bytes()) {
         Ok(_) => None,
@@ -80,7 +80,7 @@ fn files_of_programs_are_read(rt: HostRuntime) {
     }
 }
 
-// So many variables.
+// Returns a text with `count` variables.
 fn variables(alloc: Global, count: usize) -> Result<String, NoMemory> {
     let mut text = String::from_str(alloc, "var x0")?;
     for k in 1..count {
@@ -90,7 +90,7 @@ fn variables(alloc: Global, count: usize) -> Result<String, NoMemory> {
     Ok(text)
 }
 
-// So many programs, each of which names the one before it.
+// Returns a text with `count` programs, each of which names the previous one.
 fn chain(alloc: Global, count: usize) -> Result<String, NoMemory> {
     let mut text = String::from_str(alloc, "prog P0 { } ")?;
     for k in 1..count {
@@ -119,7 +119,7 @@ fn programs_are_within_limits(rt: HostRuntime) -> Result<(), Fail> {
     Ok(())
 }
 
-// Variables, rounds and programs of a file at width 16.
+// Returns the numbers of variables, rounds and programs of a file of width 16.
 fn counts(file: &File) -> Option<(usize, u64, usize)> {
     match file.width {
         Width::W16 => Some((file.vars, file.rounds, file.progs.len())),

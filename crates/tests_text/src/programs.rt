@@ -1,4 +1,4 @@
-//! Programs: how they are read and printed, how they run, and their terms.
+//! Programs: how they are read, printed and run, and their terms.
 ghost use Rattle.std.specs.Prelude.{IfOk};
 ghost use Rattle.kat_model.specs.Stores.{IsStore};
 ghost use Rattle.kat_model.specs.declared.expression.Width.{Width};
@@ -60,7 +60,7 @@ fn end_closed(alloc: Global, mut text: String) -> Result<usize, TextFault> {
     end(alloc, &text, 0)
 }
 
-// Where a chain of so many `else if` ends, alone in its block.
+// Returns the index after a block that consists of one `if` with `times` `else if` parts.
 fn chain_end(alloc: Global, times: usize) -> Result<usize, TextFault> {
     let text = text_around(alloc, "", "{ if true { }", " else if true { }", times)?;
     end_closed(alloc, text)
@@ -72,7 +72,7 @@ fn chains_are_deep(rt: HostRuntime) {
     assert!(rt; chain_end(rt.alloc(), 199) == Err(TextFault::TooDeep(3393)));
 }
 
-// The program as it is printed, whether it has runs, and how deep it is.
+// Appends to the printed program whether it has runs, and its nesting.
 fn put_counts(
     alloc: Global,
     mut printed: Vec<u8>,
@@ -84,7 +84,7 @@ fn put_counts(
     Ok(printed)
 }
 
-// A copy of the program as it is printed, where the copy is the same.
+// Prints a copy of the program if the copy is the same.
 fn prog_text(alloc: Global, prog: &Prog, scope: &Scope) -> Result<Vec<u8>, NoMemory> {
     let copy = prog.copy(alloc)?;
     if !copy.same(prog) {
@@ -149,13 +149,13 @@ fn name(alloc: Global) -> Result<Items<u8>, NoMemory> {
     Ok(Items::of(b"P".to_vec(alloc)?))
 }
 
-// The program `{ p; }` under the name P, as if its block were so deep.
+// Returns the program `{ p; }` under the name P, with `nesting` as the nesting of its block.
 fn named_prog(alloc: Global, nesting: usize, scope: &Scope) -> Result<NamedProg, TextFault> {
     let prog = prog_of(alloc, "{ p; }", scope)?;
     Ok(NamedProg::new(name(alloc)?, prog, nesting))
 }
 
-// The size of the program of the text where P is that program, or its fault.
+// Returns the size of the program of the text plus that of P, or its fault, where P names `named`.
 fn spliced_size(
     alloc: Global,
     text: &str,
@@ -191,7 +191,7 @@ fn named_programs_are_spliced_in(rt: HostRuntime) {
     }
 }
 
-// Two variables that are 0.
+// Returns a store of two variables that are 0.
 fn zeros(alloc: Global) -> Result<Store, NoMemory>
     ensures { IfOk result (λ s. (w : Width) → IsStore w s) }
 {
@@ -201,7 +201,7 @@ fn zeros(alloc: Global) -> Result<Store, NoMemory>
     Ok(Store { values })
 }
 
-// How the program ends, and the first variable then; one without runs does not end.
+// Returns how the program ends, and the first variable then. A program without runs gives `More`.
 fn run_end(
     alloc: Global,
     prog: &Prog,
@@ -276,7 +276,7 @@ fn programs_run(rt: HostRuntime) -> Result<(), Fail> {
     Ok(())
 }
 
-// `if t0 { a0 } else { }`, after a `skip`.
+// Returns the flow `if t0 { a0 } else { }` after a `skip`.
 fn branches(alloc: Global) -> Result<Flows, NoMemory> {
     let mut first = Vec::new(alloc);
     first.push(Flow::Act(0))?;

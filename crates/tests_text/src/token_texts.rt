@@ -4,7 +4,7 @@ use kat_model::NoMemory;
 use std::alloc::Global;
 use text_tokens::{TextFault, Token};
 
-// The kind, the text and the place of each token.
+// Appends the kind, the text and the place of each token.
 fn put_tokens(out: &mut String, found: &[Token]) -> Result<(), NoMemory> {
     for token in found {
         write!(out, "{:?} {} {};", token.kind, token.text, token.at)?;

@@ -38,7 +38,7 @@ fn each_goal_is_answered(rt: HostRuntime) -> Result<(), Fail> {
     Ok(())
 }
 
-// A text of so many goals.
+// Returns a text with `count` goals.
 fn goals_text(alloc: Global, count: usize) -> Result<Vec<u8>, NoMemory> {
     let mut text = b"test b;".to_vec(alloc)?;
     for _ in 0..count {
@@ -69,7 +69,7 @@ fn the_goal_behind_64_is_refused(rt: HostRuntime) -> Result<(), Fail> {
     Ok(())
 }
 
-// Two goals, of which the second has 49 comparisons.
+// Returns a text with two goals, the second of which has 49 comparisons.
 fn wide_text(alloc: Global) -> Result<Vec<u8>, NoMemory> {
     let mut text = b"var x; prog P { ".to_vec(alloc)?;
     for k in 0..49 {

@@ -5,7 +5,7 @@ use std::test::Fail;
 
 const SUM: &str = "action p, q; goal equal p + q, p;";
 
-// A text, a proof, and what is told.
+// A text, a proof, and the reply.
 const CHAINS: &[(&str, &str, &str)] = &[
     (
         "action p; hyp p = 0; goal equal p.p, 0;",
@@ -26,13 +26,13 @@ const CHAINS: &[(&str, &str, &str)] = &[
         "a0 = a0 by nosuch;",
         "2 refused: chain UnknownName 11\n",
     ),
-    // A hypothesis that is derived for an assignment: after `x := 0` the test `x == 0` is not false.
+    // A derived hypothesis for an assignment: after `x := 0` the test `x == 0` is not false.
     (
         "var x; prog P { x := 0; } goal triple {true} P {x == 0};",
         "[true].(a0.[!t0]) = 0 by hyp 0;",
         "0 accepted chain\n",
     ),
-    // The sides of the problem, and not the closed ones.
+    // A chain is between the sides of the problem, not between the closed sides.
     (
         "action p; hyp p = 0; goal equal p, p;",
         "a0 + a0*.(a0.a0*) = a0 + a0*.(a0.a0*) by comm;",

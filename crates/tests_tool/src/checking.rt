@@ -17,7 +17,7 @@ const TRIPLE: &str = "test b, c; action p; hyp b.p.!c = 0; goal triple {b} p {c}
 
 const TRIPLE_FAILS: &str = "test b; action p; goal triple {b} p {b};";
 
-// A text, evidence, and what is told.
+// A text, evidence, and the reply.
 type Row = (&'static str, &'static str, &'static str);
 
 const ACCEPTED: &[Row] = &[
@@ -235,7 +235,7 @@ fn other_texts_are_refused(rt: HostRuntime) -> Result<(), Fail> {
     Ok(())
 }
 
-// Whether this is told of evidence for the identity of denesting.
+// Whether `check` gives this reply for evidence of the denesting identity.
 fn denesting_is(alloc: Global, evidence: &[u8], want: &str) -> Result<bool, NoMemory> {
     replies(alloc, "check f e", DENESTING.as_bytes(), evidence, want)
 }
@@ -257,7 +257,7 @@ fn prefixes_are_truncated(rt: HostRuntime) -> Result<(), Fail> {
     Ok(())
 }
 
-// Stars of stars up to this node, of which each pair but the last is right.
+// Nested stars up to node `last`, with pairs that are all correct except the last.
 fn long_chain(alloc: Global, last: usize) -> Result<String, NoMemory> {
     let mut text = String::from_str(alloc, "kat 1 equal\nE act 0\nE star 0\nE seq 1 1\n")?;
     for i in 2..last {
@@ -267,7 +267,7 @@ fn long_chain(alloc: Global, last: usize) -> Result<String, NoMemory> {
     Ok(text)
 }
 
-// Sums of a node and itself up to this node, whose tree has more than 2^100 nodes.
+// Sums of a node with itself up to node `last`, whose tree has more than 2^100 nodes.
 fn shared_nodes(alloc: Global, last: usize) -> Result<String, NoMemory> {
     let mut text = String::from_str(alloc, "kat 1 equal\nE act 0\n")?;
     for i in 0..last {
@@ -277,7 +277,7 @@ fn shared_nodes(alloc: Global, last: usize) -> Result<String, NoMemory> {
     Ok(text)
 }
 
-// Whether this is told of evidence for `p*` and its square.
+// Whether `check` gives this reply for evidence for `p*` and its square.
 fn star_twice_is(alloc: Global, evidence: &str, want: &str) -> Result<bool, NoMemory> {
     replies(
         alloc,

@@ -22,7 +22,7 @@ const EQUAL: &[&str] = &[
     ORDINARY_USE,
 ];
 
-// How a reply with a certificate begins, without tests and under tests.
+// The first line of a reply with a certificate, without tests and under tests.
 const UP_TO: &str = "0 kat 2 equal\n";
 
 const UNDER: &str = "0 kat 1 equal under\n";
@@ -31,7 +31,7 @@ fn is_equal(told: &[u8], head: &str) -> bool {
     told.starts_with(head.as_bytes()) && told.ends_with(b"end\n")
 }
 
-// Whether `decide` tells of a certificate that begins so, and `check` accepts it.
+// Whether the reply of `decide` is a certificate with this first line, and `check` accepts it.
 fn holds(alloc: Global, text: &str, head: &str) -> Result<bool, NoMemory> {
     let told = reply(alloc, "decide f", text.as_bytes(), b"")?;
     if !is_equal(&told, head) {
@@ -63,7 +63,7 @@ fn put_forty(text: &mut String) -> Result<(), NoMemory> {
     Ok(())
 }
 
-// The sum of forty tests in order, and in reverse order. A walk over all atoms would not end.
+// The sum of forty tests in order and in reverse order. A walk over all atoms would not end.
 fn forty_tests(alloc: Global) -> Result<String, NoMemory> {
     let mut text = String::from_str(alloc, "test t0")?;
     put_forty(&mut text)?;
@@ -87,7 +87,7 @@ fn put_kept(text: &mut String) -> Result<(), NoMemory> {
     Ok(())
 }
 
-// Eleven tests that the action leaves as they are. Without tests there would be a pair for each atom.
+// Eleven tests that the action does not change. Without tests there would be a pair for each atom.
 fn kept_tests(alloc: Global) -> Result<String, NoMemory> {
     let mut text = String::from_str(alloc, "test t0")?;
     put_kept(&mut text)?;
@@ -148,7 +148,7 @@ const DIFFERENT: &[(&str, &str)] = &[
     ),
 ];
 
-// Whether `decide` tells this, and `check` accepts it.
+// Whether `decide` gives this reply, and `check` accepts its evidence.
 fn string_is(alloc: Global, text: &str, want: &str) -> Result<bool, NoMemory> {
     let told = reply(alloc, "decide f", text.as_bytes(), b"")?;
     if told.as_slice() != want.as_bytes() {
@@ -164,7 +164,7 @@ fn string_is(alloc: Global, text: &str, want: &str) -> Result<bool, NoMemory> {
     )
 }
 
-// Whether the evidence is a string of these lines.
+// Whether the evidence is a string with these lines.
 fn differs(alloc: Global, text: &str, lines: &str) -> Result<bool, NoMemory> {
     let want = format!(in alloc; "1 kat 1 different\n{lines}end\n")?;
     string_is(alloc, text, want.as_str())

@@ -4,7 +4,7 @@ use std::alloc::Global;
 use std::fs;
 use std::test::Fail;
 
-// Whether the shelf has these bytes under the name, where it gives no more than so many.
+// Whether the shelf gives exactly these bytes for the name, with a limit of `most` bytes.
 fn gives<S: Shelf>(alloc: Global, shelf: &mut S, name: &str, most: u64, want: &[u8]) -> bool {
     match shelf.get(alloc, name, Some(most)) {
         Ok(bytes) => bytes.as_slice() == want,

@@ -5,7 +5,7 @@ use kat_model::NoMemory;
 use std::alloc::Global;
 use std::test::Fail;
 
-// The words, the names of the two files, the call that fails, and what is told.
+// The words, the names of the two files, the call that fails, and the reply.
 type ShelfRow = (&'static str, &'static str, &'static str, u64, &'static str);
 
 const SHELVES: &[ShelfRow] = &[
@@ -46,7 +46,7 @@ fn a_shelf_fails(rt: HostRuntime) -> Result<(), Fail> {
     Ok(())
 }
 
-// The call that fails.
+// The call that fails, and the reply.
 const SINKS: &[(u64, &str)] = &[
     (0, "5 "),
     (1, "5 kat 1 diff"),

@@ -1,10 +1,10 @@
-//! The top call over a shelf and a sink in memory.
+//! Calls of `run` with a shelf and a sink in memory.
 use kat_io::{MemShelf, MemSink};
 use kat_model::NoMemory;
 use kat_tool::{Reply, Words, run};
 use std::alloc::Global;
 
-// Adds the words between single spaces, and none of an empty line.
+// Appends the words between single spaces. An empty line has no words.
 fn push_words(words: &mut Words, line: &str) -> Result<(), NoMemory> {
     if line.is_empty() {
         return Ok(());
@@ -21,7 +21,7 @@ fn words_of(alloc: Global, line: &str) -> Result<Words, NoMemory> {
     Ok(words)
 }
 
-// A shelf with these two files.
+// Returns a shelf with these two files.
 pub(crate) fn shelf_of(
     alloc: Global,
     first: (&str, &[u8]),
@@ -33,26 +33,26 @@ pub(crate) fn shelf_of(
     Ok(shelf)
 }
 
-// The status, a space, and what is printed.
+// Returns the status, a space, and the output of a reply.
 fn line_of(alloc: Global, reply: &Reply) -> Result<Vec<u8>, NoMemory> {
     let mut out = format!(in alloc; "{} ", reply.status)?.into_bytes();
     out.extend_from_slice(&reply.output)?;
     Ok(out)
 }
 
-// Whether this is what the reply has, in a line of the status, a space, and what is printed.
+// Whether this is the status, a space, and the output of the reply.
 pub(crate) fn is_line(alloc: Global, reply: &Reply, want: &str) -> Result<bool, NoMemory> {
     Ok(line_of(alloc, reply)?.as_slice() == want.as_bytes())
 }
 
-// The status, a space, and what the sink has taken.
+// Returns the status, a space, and the bytes that the sink has taken.
 fn taken_line(alloc: Global, status: u8, sink: &MemSink) -> Result<Vec<u8>, NoMemory> {
     let mut out = format!(in alloc; "{status} ")?.into_bytes();
     out.extend_from_slice(sink.taken())?;
     Ok(out)
 }
 
-// What is told of the words of a line: the status, a space, and what the sink has taken.
+// Runs the words of a line. Returns the status, a space, and the bytes that the sink has taken.
 fn told(
     alloc: Global,
     line: &str,
@@ -64,7 +64,7 @@ fn told(
     taken_line(alloc, status, sink)
 }
 
-// Whether this is told.
+// Whether `told` returns these bytes.
 pub(crate) fn tells(
     alloc: Global,
     line: &str,
@@ -75,13 +75,13 @@ pub(crate) fn tells(
     Ok(told(alloc, line, shelf, sink)?.as_slice() == want.as_bytes())
 }
 
-// What is told where the sink never fails.
+// Returns the reply to a line, with a sink that never fails.
 fn told_in_full(alloc: Global, line: &str, shelf: &mut MemShelf) -> Result<Vec<u8>, NoMemory> {
     let mut sink = MemSink::new(alloc, 100_000, 10_000)?;
     told(alloc, line, shelf, &mut sink)
 }
 
-// What is told where `f` and `e` are these files, and nothing fails.
+// Returns the reply to a line, with the files `f` and `e`, when nothing fails.
 pub(crate) fn reply(
     alloc: Global,
     line: &str,
@@ -92,7 +92,7 @@ pub(crate) fn reply(
     told_in_full(alloc, line, &mut shelf)
 }
 
-// Whether this is told of these files.
+// Whether this is the reply with these files.
 pub(crate) fn replies(
     alloc: Global,
     line: &str,
@@ -103,7 +103,7 @@ pub(crate) fn replies(
     Ok(reply(alloc, line, text, evidence)?.as_slice() == want.as_bytes())
 }
 
-// The evidence in what `decide` tells, after the status and the space.
+// Returns the evidence in a reply of `decide`, after the status and the space.
 pub(crate) fn evidence_in(told: &[u8]) -> &[u8] {
     match told {
         [_, _, evidence @ ..] => evidence,
@@ -116,7 +116,7 @@ pub(crate) const DENESTING: &str = "action p, q; goal equal (p+q)*, (p*.q)*.p*;"
 pub(crate) const DENESTING_EVIDENCE: &str =
     "kat 1 equal\nE act 0\nE act 1\nE sum 0 1\nE star 2\nE star 0\nE seq 4 1\nE star 5\nE seq 6 4\nE seq 5 6\nE seq 8 4\nP 3 | 7\nP 3 | 4 9\nend\n";
 
-// Unswitching, and removal of dead branches.
+// Loop unswitching, and removal of dead branches.
 pub(crate) const ORDINARY_USE: &str = "var i, n, mode, acc, step, debug;
 prog before { acc := 0; i := 0; step := 3; if n > 1000 { n := 1000; }
   while i < n { if mode == 0 { acc := acc + i; } else { acc := acc + 2 * i; } i := i + 1; }

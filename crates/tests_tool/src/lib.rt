@@ -1,4 +1,4 @@
-//! Tests of the top call, by its words, its files and what it prints, and of the two real ends of the program.
+//! Tests of `run` by its words, its files and its output, and of the real shelf and sink of the program.
 #![tactic(auto)]
 
 #[cfg(test)]

@@ -1,4 +1,4 @@
-//! `oneloop`: forms of programs, each run beside its program.
+//! `oneloop`: runs of one-loop forms compared with runs of their programs.
 use crate::fixtures::{ORDINARY_USE, evidence_in, replies, reply};
 use kat_model::NoMemory;
 use std::alloc::Global;
@@ -23,7 +23,7 @@ const TWO_LOOPS: &str =
 const STOPPED: &str =
     "var x; prog E { } prog A { abort; } prog F { while x < 3 { x := x + 1; } assert x == 4; x := 9; } prog I { if x == 1 { abort; } skip; } goal equal E, E;";
 
-// A text, a program of it, its form's counter, and the store from which both are run.
+// A text, a program of it, the counter of its form, and the store from which both run.
 type Row = (&'static str, &'static str, &'static str, &'static str);
 
 const FORMS: &[Row] = &[
@@ -50,7 +50,7 @@ const FORMS: &[Row] = &[
     (ORDINARY_USE, "after", "pc", "n=5,debug=1,acc=3"),
 ];
 
-// The line of a run that ended, with the counter at its end.
+// Returns the reply of a run that ended, with the counter added at its end.
 fn with_counter(alloc: Global, line: &[u8], counter: &str) -> Result<Vec<u8>, NoMemory> {
     let ended = match line {
         [ended @ .., _] => ended,
@@ -63,7 +63,7 @@ fn with_counter(alloc: Global, line: &[u8], counter: &str) -> Result<Vec<u8>, No
     Ok(out)
 }
 
-// Whether a form ended as its program did; one that does not end at an `abort` or an `assert` has status 1.
+// Whether a form ended as its program did. If the program is stuck at an `abort` or `assert`, the form has status 1.
 fn ends_alike(alloc: Global, program: &[u8], form: &[u8], counter: &str) -> Result<bool, NoMemory> {
     if program.starts_with(b"0 ") {
         Ok(form == with_counter(alloc, program, counter)?.as_slice())
@@ -72,7 +72,7 @@ fn ends_alike(alloc: Global, program: &[u8], form: &[u8], counter: &str) -> Resu
     }
 }
 
-// Whether the program of a text and its form end alike from the store.
+// Whether a program of the text and its form end alike from the store.
 fn form_agrees(
     alloc: Global,
     text: &[u8],
@@ -108,13 +108,13 @@ fn a_form_is_printed(rt: HostRuntime) -> Result<(), Fail> {
     Ok(())
 }
 
-// Whether this is told of the form of the counting program.
+// Whether this is the reply for the form of the counting program.
 fn form_replies(alloc: Global, line: &str, want: &str) -> Result<bool, NoMemory> {
     let told = reply(alloc, "oneloop f P", COUNTING.as_bytes(), b"")?;
     replies(alloc, line, evidence_in(&told), b"", want)
 }
 
-// Whether the form of a form, with another counter, ends as it.
+// Whether the form of a form, with another counter, ends as the form does.
 fn form_of_form_agrees(alloc: Global) -> Result<bool, NoMemory> {
     let told = reply(alloc, "oneloop f P", COUNTING.as_bytes(), b"")?;
     form_agrees(alloc, evidence_in(&told), "P", "pc_", "x=1,pc=8")
@@ -128,7 +128,7 @@ fn a_form_is_asked_about(rt: HostRuntime) -> Result<(), Fail> {
     Ok(())
 }
 
-// The text of a program of so many statements.
+// Returns the text of a program with `count` statements.
 fn with_statements(
     alloc: Global,
     head: &str,
@@ -144,7 +144,7 @@ fn with_statements(
     Ok(text)
 }
 
-// The text of programs over so many variables.
+// Returns a text of programs over `count` variables.
 fn with_variables(alloc: Global, count: usize) -> Result<Vec<u8>, NoMemory> {
     let mut text = b"width 8; test b; var v0".to_vec(alloc)?;
     for k in 1..count {
@@ -186,7 +186,7 @@ fn statements_are_counted(rt: HostRuntime) -> Result<(), Fail> {
     Ok(())
 }
 
-// Blocks' statements count: 128 branches of one each.
+// Statements in blocks count: 128 branches with one statement each.
 fn inner_statements_count(alloc: Global) -> Result<bool, NoMemory> {
     let text = with_statements(alloc, "width 8; var x;", "if x < 3 { skip; }", 128)?;
     replies(
@@ -209,7 +209,7 @@ fn most_variables_agree(alloc: Global) -> Result<bool, NoMemory> {
     form_agrees(alloc, &text, "P", "pc", "v0=255,v62=8")
 }
 
-// Of 64 variables and too many statements the variables are told.
+// With 64 variables and too many statements, the variables are refused.
 fn variables_come_first(alloc: Global) -> Result<bool, NoMemory> {
     let mut head = b"width 8; var v0".to_vec(alloc)?;
     for k in 1..64 {
@@ -236,7 +236,7 @@ fn some_programs_have_no_form(rt: HostRuntime) -> Result<(), Fail> {
     Ok(())
 }
 
-// Words, and what is told of them with the counting text.
+// Words, and the reply with the counting text.
 const WORDS: &[(&str, &str)] = &[
     ("oneloop f", "7 refused: words\n"),
     ("oneloop f P P", "7 refused: words\n"),

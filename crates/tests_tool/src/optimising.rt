@@ -6,7 +6,7 @@ use std::test::Fail;
 const IF_AFTER_LOOP: &str =
     "test b; action p, q; prog L { while b { p; } if b { q; } } prog R { while b { p; } } goal equal L, R;";
 
-// Words, a text, and what is told.
+// Words, a text, and the reply.
 const LOGS: &[(&str, &str, &str)] = &[
     (
         "optimise f L",
@@ -56,7 +56,7 @@ fn programs_are_optimised(rt: HostRuntime) -> Result<(), Fail> {
     Ok(())
 }
 
-// The log of the steps is told before the program.
+// The log of the steps precedes the program.
 #[test]
 fn dead_branches_go(rt: HostRuntime) -> Result<(), Fail> {
     let reply = optimised_reply(rt.alloc(), ORDINARY_USE.as_bytes(), "before", 1000)?;

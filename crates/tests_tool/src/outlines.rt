@@ -61,7 +61,7 @@ fn a_triple_that_fails_is_refuted(rt: HostRuntime) -> Result<(), Fail> {
     Ok(())
 }
 
-// Texts of which there are no outlines. The notes are not got.
+// Texts without outlines, and the reply. The file of the notes is not read.
 const REFUSALS: &[(&str, &str)] = &[
     (
         "test b; action p; goal triple {b} p {b};",
@@ -108,7 +108,7 @@ fn other_goals_are_refused(rt: HostRuntime) -> Result<(), Fail> {
     Ok(())
 }
 
-// A text, notes, and what is told.
+// A text, notes, and the reply.
 const NOTES: &[(&str, &str, &str)] = &[
     (
         PASSED_ON,
@@ -150,7 +150,7 @@ const NOTES: &[(&str, &str, &str)] = &[
         "kat 1 outline\nD false\nC 0\nC 0\nend\n",
         "0 accepted outline\n",
     ),
-    // Notes are checked where the triple does not hold.
+    // Notes are checked even if the triple does not hold.
     (
         FAILING,
         "kat 1 outline\nD true\nC 0\nC 0\nend\n",
@@ -210,8 +210,8 @@ fn notes_are_checked(rt: HostRuntime) -> Result<(), Fail> {
     Ok(())
 }
 
-// A pre-condition, a block, a post-condition, the node that is noted at each place, and what is told. Node 0 holds nowhere,
-// node 1 everywhere, node 2 where b is true, and node 3 where it is false.
+// A pre-condition, a block, a post-condition, the node of the note at each place, and the reply. Node 0 holds nowhere,
+// node 1 everywhere, node 2 if `b` is true, and node 3 if it is false.
 type RuleRow = (
     &'static str,
     &'static str,

@@ -11,9 +11,9 @@ const WRAP_AROUND: &str =
 const WITHOUT_ROUNDS: &str =
     "var x; prog P { x := 18446744073709551615; x := x + 1; } rounds 0; goal triple {true} P {x == 0};";
 
-// A text, and how what `decide` tells of it begins.
+// A text, and a prefix of the reply of `decide`.
 const DECISIONS: &[(&str, &str)] = &[
-    // Nested loops, and as one loop.
+    // Nested loops, and the same as one loop.
     (
         "test b, c; action p, q; prog L { while b { p; while c { q; } } } prog R { if b { p; while b || c { if c { q; } else { p; } } } } goal equal L, R;",
         "0 kat 2 equal\n",
@@ -22,14 +22,14 @@ const DECISIONS: &[(&str, &str)] = &[
         "test b; action p, q; prog L { while b { p; } if b { q; } } prog R { while b { p; } } goal equal L, R;",
         "0 kat 2 equal\n",
     ),
-    // What an assignment makes of the condition behind it is a derived hypothesis.
+    // The value of a condition after an assignment is a derived hypothesis.
     (
         "var x, y; prog L { x := 0; if x == 0 { y := 1; } else { y := 2; } } prog R { x := 0; y := 1; } goal equal L, R;",
         "0 kat 2 equal\n",
     ),
     (WRAP_AROUND, "0 kat 2 equal\n"),
     (WITHOUT_ROUNDS, "1 kat 1 different\n"),
-    // The order of assignments is not abstracted from.
+    // The abstraction keeps the order of assignments.
     (
         "var x, y; prog L { x := 1; y := 2; } prog R { y := 2; x := 1; } goal equal L, R;",
         "1 kat 1 different\n",
@@ -62,14 +62,14 @@ fn programs_are_decided(rt: HostRuntime) -> Result<(), Fail> {
     Ok(())
 }
 
-// Whether `check` rejects what `decide` prints of the first text against the second one.
+// Whether `check` rejects, for the second text, the evidence that `decide` prints for the first.
 fn is_rejected(alloc: Global, text: &str, other: &str) -> Result<bool, NoMemory> {
     let told = reply(alloc, "decide f", text.as_bytes(), b"")?;
     let found = reply(alloc, "check f e", other.as_bytes(), evidence_in(&told))?;
     Ok(found.starts_with(b"3 rejected: "))
 }
 
-// The hypotheses of a file are derived from that file alone.
+// The hypotheses of a file are derived only from that file.
 #[test]
 fn evidence_of_other_rounds_is_rejected(rt: HostRuntime) -> Result<(), Fail> {
     assert!(rt; is_rejected(rt.alloc(), WRAP_AROUND, WITHOUT_ROUNDS)?);
@@ -79,7 +79,7 @@ fn evidence_of_other_rounds_is_rejected(rt: HostRuntime) -> Result<(), Fail> {
 const SHOWN: &str =
     "0 # t0 is x == 0\n# t1 is x + 1 == 0\ntest t0, t1;\n# a0 is x := 18446744073709551615\n# a1 is x := x + 1\naction a0, a1;\n# assign a0 t0\nhyp ([false].(a0.[!t0])) = 0;\nhyp ([!false].(a0.t0)) = 0;\n# assign a0 t1\nhyp ([true].(a0.[!t1])) = 0;\nhyp ([!true].(a0.t1)) = 0;\n# assign a1 t0\nhyp (t1.(a1.[!t0])) = 0;\nhyp ([!t1].(a1.t0)) = 0;\n# F1 t0 t1\nhyp (t0.t1) = 0;\ngoal equal ([true].((a0.a1).[!t0])), 0;\n";
 
-// A text, and what is shown of it.
+// A text, and the reply of `show`.
 const SHOWS: &[(&str, &str)] = &[
     (WRAP_AROUND, SHOWN),
     ("goal equal b, b;", "2 refused: UnknownName 11\n"),

@@ -1,4 +1,4 @@
-//! Texts and words that are refused.
+//! Refused texts and words.
 use crate::fixtures::replies;
 use kat_model::NoMemory;
 use std::alloc::Global;
@@ -26,7 +26,7 @@ const TEXTS: &[(&str, &str)] = &[
     ),
 ];
 
-// The problem is refused before its evidence.
+// The problem is refused before its evidence is read.
 #[test]
 fn texts_are_refused(rt: HostRuntime) -> Result<(), Fail> {
     for line in [
@@ -46,7 +46,7 @@ fn texts_are_refused(rt: HostRuntime) -> Result<(), Fail> {
     Ok(())
 }
 
-// So many tests, and a goal over the first.
+// Returns a text with `count` tests and a goal over the first.
 fn tests_below(alloc: Global, count: usize) -> Result<String, NoMemory> {
     let mut text = String::from_str(alloc, "test t0")?;
     for i in 1..count {
@@ -56,7 +56,7 @@ fn tests_below(alloc: Global, count: usize) -> Result<String, NoMemory> {
     Ok(text)
 }
 
-// A test in so many parentheses.
+// Returns a text with a test in `depth` parentheses.
 fn enclosed(alloc: Global, depth: usize) -> Result<String, NoMemory> {
     let mut text = String::from_str(alloc, "test b; goal equal ")?;
     for _ in 0..depth {
@@ -70,8 +70,8 @@ fn enclosed(alloc: Global, depth: usize) -> Result<String, NoMemory> {
     Ok(text)
 }
 
-// Terms up to this one, each the product of the one before it with itself, and a goal over a14. The term a14 has
-// 65,535 nodes.
+// Returns a text with the terms up to number `last`, each the product of the previous term with itself, and a goal over
+// a14, which has 65,535 nodes.
 fn squares(alloc: Global, last: usize) -> Result<String, NoMemory> {
     let mut text = String::from_str(alloc, "action p;term a0 = p.p;")?;
     for i in 0..last {
@@ -81,7 +81,7 @@ fn squares(alloc: Global, last: usize) -> Result<String, NoMemory> {
     Ok(text)
 }
 
-// A program of so many statements, each with a number of its own at its end.
+// Returns a text with a program of `count` statements, each with a different number at its end.
 fn numbered(alloc: Global, statement: &str, count: usize) -> Result<String, NoMemory> {
     let mut text = String::from_str(alloc, "var x; prog P {")?;
     for k in 0..count {

@@ -17,7 +17,7 @@ const SIXTEEN: &str =
 const MIXED: &str =
     "test b; action a; var x, y; prog P { } prog R { a; } prog T { assert b; } goal equal P, P;";
 
-// A text, the words after the file's, and what is told.
+// A text, the words after the file, and the reply.
 type Row = (&'static str, &'static str, &'static str);
 
 const RUNS: &[Row] = &[
@@ -72,7 +72,7 @@ fn programs_are_run(rt: HostRuntime) -> Result<(), Fail> {
     Ok(())
 }
 
-// Words of a store of the two variables, and what is told of the program that does nothing.
+// The word of a store of two variables, and the reply for a program that does nothing.
 const STORES: &[(&str, &str)] = &[
     ("zero", "0 done x=0 y=0\n"),
     ("x=3,y=4", "0 done x=3 y=4\n"),

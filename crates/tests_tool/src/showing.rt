@@ -1,4 +1,4 @@
-//! `show`, and the facts that are derived.
+//! `show`, and the derived facts.
 use crate::fixtures::replies;
 use std::test::Fail;
 

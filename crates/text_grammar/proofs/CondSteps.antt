@@ -1,4 +1,4 @@
--- The equation of the reading of conditions, in which no number of steps stands.
+-- The equation of the condition parser, without a number of steps.
 use Rattle.std.proofs.Common.{◌≡◌, ℕ, zero, suc, ◌+◌, ◌*◌, ◌<◌, ◌≤◌, List, [], ◌∷◌, length, Ok, refl, ap, arith, drop, length-drop}
 use Rattle.text_grammar.specs.declared.terminal.Terminal.TheVariants.{RoundOpen, RoundClose, Bang, And, Or, Compares, Zero, One, Number, WideNumber, True, False, Name}
 use Rattle.text_grammar.specs.declared.reading.Context.{Context}
@@ -10,7 +10,7 @@ use Rattle.text_grammar.specs.Conds.{after_close, begins_expr, CondAim, disjunct
 use Rattle.text_grammar.proofs.Within.{Within, bind_within, if_within, weaken, before_within, enter_within, change_within, then_wants_within, headed, bind_same, if_same, else_same, enter_same}
 use Rattle.text_grammar.proofs.ExprSteps.{expr_read_short}
 
--- how far an aim may stand still
+-- 1 if the aim may consume no token, else 0
 abbrev pub slack : {L : Type 0} → CondAim L → ℕ
 slack (disjunction_after l) = 1
 slack (conjunction_after l) = 1
@@ -50,7 +50,7 @@ literal_short g f s c (lexeme (Number n) at text ∷ ts) = comparison_short g c 
 literal_short g f s c (lexeme WideNumber at text ∷ ts) = comparison_short g c (lexeme WideNumber at text ∷ ts)
 literal_short g f s c (lexeme _ at text ∷ ts) = tt
 
--- a list is its first part and what is left after it
+-- a part and the rest of its list consume at least one token
 after_short : {B L : Type 0} (f : CondParser B L) → IsShort f → (x : CondAim L) (y : B → CondAim L) → slack x ≡ 0 → ((b : B) → slack (y b) ≡ 1) → (c : Context) (ts : List Lexeme) → Within (length ts) (f x c ts >>= λ v. f (y v.0) c v.1)
 after_short f s x y still one c ts = bind_within (length ts + slack x) (length ts) (f x c ts) (λ v. f (y v.0) c v.1) (s x c ts)
     (λ v lt. weaken (length v.1 + slack (y v.0)) (length ts) (f (y v.0) c v.1) (omega (arith, still, one v.0)) (s (y v.0) c v.1))
@@ -112,7 +112,7 @@ pub cond_step : {E B L : Type 0} (g : CondActions E B L) (x : CondAim L) (c : Co
 unfolding parse_cond cond_within
 cond_step g x c ts = cond_same g (cond_within g (steps x ts)) (parse_cond g) (within_short g (steps x ts)) x c ts (λ y d us lt. enough g (steps x ts) (suc (steps y us)) y d us lt (omega arith))
 
--- what is read leaves fewer tokens
+-- the parser consumes at least one token, or none for the rest of a list
 pub cond_read_short : {E B L : Type 0} (g : CondActions E B L) → IsShort (parse_cond g)
 unfolding parse_cond
 cond_read_short g x c ts = within_short g (suc (steps x ts)) x c ts

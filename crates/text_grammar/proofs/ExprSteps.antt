@@ -1,4 +1,4 @@
--- The equation of the reading of expressions, in which no number of steps stands.
+-- The equation of the expression parser, without a number of steps.
 use Rattle.std.proofs.Common.{◌≡◌, ℕ, zero, suc, ◌+◌, ◌*◌, ◌<◌, ◌≤◌, List, [], ◌∷◌, length, Ok, refl, ap, arith, drop, length-drop}
 use Rattle.text_grammar.specs.declared.terminal.Terminal.TheVariants.{RoundOpen, RoundClose, Star, Zero, One, Number, Name}
 use Rattle.text_grammar.specs.declared.reading.Context.{Context}
@@ -9,7 +9,7 @@ use Rattle.text_grammar.specs.Actions.{ExprActions, enter}
 use Rattle.text_grammar.specs.Exprs.{operator_at, ExprAim, sums, sums_after, products, products_after, factor, ExprParser, factor_by, expr_by, rank, steps, expr_within, parse_expr}
 use Rattle.text_grammar.proofs.Within.{Within, bind_within, if_within, weaken, before_within, enter_within, change_within, then_wants_within, headed, bind_same, if_same, enter_same}
 
--- how far an aim may stand still
+-- 1 if the aim may consume no token, else 0
 abbrev pub slack : {E : Type 0} → ExprAim E → ℕ
 slack (sums_after e) = 1
 slack (products_after e) = 1
@@ -28,7 +28,7 @@ factor_short g f s c (lexeme RoundOpen at text ∷ ts) = enter_within (suc (leng
     (λ d. change_within (suc (length ts)) g.enclosed (then_wants (is_terminal RoundClose) (f sums d ts)) (then_wants_within (is_terminal RoundClose) (suc (length ts)) (f sums d ts) (weaken (length ts + 0) (suc (length ts)) (f sums d ts) (omega arith) (s sums d ts))))
 factor_short g f s c (lexeme _ at text ∷ ts) = tt
 
--- a list is its first part and what is left after it
+-- a part and the rest of its list consume at least one token
 after_short : {E : Type 0} (f : ExprParser E) → IsShort f → (x : ExprAim E) (y : E → ExprAim E) → slack x ≡ 0 → ((e : E) → slack (y e) ≡ 1) → (c : Context) (ts : List Lexeme) → Within (length ts) (f x c ts >>= λ v. f (y v.0) c v.1)
 after_short f s x y still one c ts = bind_within (length ts + slack x) (length ts) (f x c ts) (λ v. f (y v.0) c v.1) (s x c ts)
     (λ v lt. weaken (length v.1 + slack (y v.0)) (length ts) (f (y v.0) c v.1) (omega (arith, still, one v.0)) (s (y v.0) c v.1))
@@ -83,7 +83,7 @@ pub expr_step : {E : Type 0} (g : ExprActions E) (x : ExprAim E) (c : Context) (
 unfolding parse_expr expr_within
 expr_step g x c ts = expr_same g (expr_within g (steps x ts)) (parse_expr g) (within_short g (steps x ts)) x c ts (λ y d us lt. enough g (steps x ts) (suc (steps y us)) y d us lt (omega arith))
 
--- what is read leaves fewer tokens
+-- the parser consumes at least one token, or none for the rest of a list
 pub expr_read_short : {E : Type 0} (g : ExprActions E) → IsShort (parse_expr g)
 unfolding parse_expr
 expr_read_short g x c ts = within_short g (suc (steps x ts)) x c ts

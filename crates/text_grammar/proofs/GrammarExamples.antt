@@ -1,5 +1,5 @@
--- Worked examples: small texts, their phrases, and what is read of them. Each is computed by the definitions, and its
--- value is found by hand.
+-- Worked examples: small texts, their phrases and their readings. The definitions compute each; the expected values are
+-- found by hand.
 use Rattle.std.proofs.Common.{◌≡◌, ℕ, ◌+◌, List, [], ◌∷◌, ◌++◌, map, false, true, Ok, Err, refl}
 use Rattle.std.specs.Prelude.{codes}
 use Rattle.text_tokens.specs.declared.fault.TextFault.TheVariants.{Syntax, TooDeep, NumberTooWide}
@@ -21,7 +21,7 @@ lexemes_of ps = map lexeme_of (parts_from 0 ps)
 abbrev leaf : ℕ → List ℕ → Leaf
 leaf at text = record { at = at; text = text }
 
--- `!b*.p`: the star is over `!b`
+-- `!b*.p`: the star applies to `!b`
 
 abbrev starred_text : List Piece
 starred_text = symbol (codes "!") ∷ word (codes "b") ∷ symbol (codes "*") ∷ symbol (codes ".") ∷ word (codes "p") ∷ []
@@ -36,7 +36,7 @@ starred_scanned : scan_term 0 (lexemes_of starred_text) ≡ Ok []
 unfolding parse_term term_within
 starred_scanned = refl
 
--- `(b && c) + 1 == 2`: the parenthesis begins an expression, in which no `&&` can stand
+-- `(b && c) + 1 == 2`: the parenthesis begins an expression, in which `&&` cannot occur
 compared_scanned : scan_cond 0 (lexemes_of (symbol (codes "(") ∷ word (codes "b") ∷ gap 32 ∷ symbol (codes "&&") ∷ gap 32 ∷ word (codes "c") ∷ symbol (codes ")") ∷ gap 32 ∷ symbol (codes "+") ∷ gap 32 ∷ number (codes "1") ∷ gap 32 ∷ symbol (codes "==") ∷ gap 32 ∷ number (codes "2") ∷ [])) ≡ Err (Syntax 3)
 unfolding parse_cond cond_within parse_expr expr_within
 compared_scanned = refl
@@ -46,7 +46,7 @@ joined_scanned : scan_cond 0 (lexemes_of (symbol (codes "(") ∷ word (codes "b"
 unfolding parse_cond cond_within parse_expr expr_within
 joined_scanned = refl
 
--- `(p)` with 199 and with 200 constructs open around it
+-- `(p)` within 199 and within 200 open constructs
 
 abbrev enclosed_text : List Piece
 enclosed_text = symbol (codes "(") ∷ word (codes "p") ∷ symbol (codes ")") ∷ []
@@ -69,8 +69,8 @@ wide_scanned : scan_expr 0 (lexemes_of (gap 32 ∷ number (codes "18446744073709
 unfolding parse_expr expr_within
 wide_scanned = refl
 
--- `x-y-2*z`, read by actions that write each operation in parentheses: it groups to the left. Numbers
--- have one digit here.
+-- `x-y-2*z`, read by actions that write each operation in parentheses: the operations group to the left. Numbers have
+-- one digit here.
 
 abbrev operator_text : Operator → List ℕ
 operator_text Add = codes "+"

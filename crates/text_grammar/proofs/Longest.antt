@@ -1,4 +1,4 @@
--- A phrase is the longest where the token that follows goes on with none.
+-- A phrase is the longest if the token that follows cannot continue it.
 use Rattle.std.proofs.Common.{◌≡◌, ℕ, List, [], ◌∷◌, Bool, true, false, ◌||◌, Result, refl}
 use Rattle.text_tokens.specs.declared.fault.TextFault.{TextFault}
 use Rattle.text_grammar.specs.declared.terminal.Terminal.{Terminal}
@@ -8,7 +8,7 @@ use Rattle.text_grammar.specs.Phrases.{Symbol, prod, star, conj, lit, mul, Leaf,
 use Rattle.text_grammar.specs.Ends.{goes_on, Ends, TakesGrammar}
 use Rattle.text_grammar.specs.Scans.{TakesPhrases}
 
--- a terminal that is of neither kind
+-- if a disjunction is false, both disjuncts are false
 neither : (a b : Bool) → (a || b) ≡ false → (a ≡ false) × (b ≡ false)
 neither true b e = absurd cc
 neither false b e = (refl, e)
@@ -18,17 +18,17 @@ none : (p q : Terminal → Bool) (ts : List Lexeme) → heads (λ s. p s || q s)
 none p q [] e = (refl, refl)
 none p q (lexeme s at text ∷ ts) e = neither (p s) (q s) e
 
--- a `+` or a `-` goes on with no product
+-- a `+` or a `-` cannot continue a product
 sum_ends : (minus : Bool) (l : Leaf) (ts : List Lexeme) → Ends mul (cons_token (sum_terminal minus) l ts)
 sum_ends true l ts = refl
 sum_ends false l ts = refl
 
--- nothing goes on with a unit or a factor
+-- no token continues a unit or a factor
 ends_none : (ts : List Lexeme) → heads (λ s. false) ts ≡ false
 ends_none [] = refl
 ends_none (lexeme s at text ∷ ts) = refl
 
--- by the form of the phrase: within it the token after a part is known
+-- by the form of the phrase: the token after each inner part is known
 pub longest : {x : Symbol} (p : Phrase x) (ts : List Lexeme) → Ends x ts → IsLongest p ts
 longest (one_prod p) ts e = let h = none (is_terminal Plus) (goes_on prod) ts e in (h.0, longest p ts h.1)
 longest (more_prods p l t) ts e = (longest p (cons_token Plus l (yield_before t ts)) refl, longest t ts e)

@@ -1,4 +1,4 @@
--- A fault is never want of memory: each parser takes fewer steps than it has.
+-- A fault is never `NoMemory`: each parser needs fewer steps than it has.
 use Rattle.std.proofs.Common.{◌≡◌, ℕ, zero, suc, ◌+◌, ◌*◌, ◌<◌, ◌≤◌, List, [], ◌∷◌, length, Bool, true, false, cond, nat_lt, Result, Ok, Err, refl, arith, drop}
 use Rattle.text_tokens.specs.declared.fault.TextFault.{TextFault}
 use Rattle.text_tokens.specs.declared.fault.TextFault.TheVariants.{NoMemory, Syntax, TooDeep}
@@ -20,12 +20,12 @@ use Rattle.text_grammar.proofs.ExprSteps as expr_steps
 use Rattle.text_grammar.proofs.CondSteps as cond_steps
 use Rattle.text_grammar.proofs.TermSteps as term_steps
 
--- any fault but want of memory
+-- any fault except `NoMemory`
 abbrev pub IsNamedFault : TextFault → Type 0
 IsNamedFault NoMemory = ⊥
 IsNamedFault e = Unit {0}
 
--- a value, or any fault but want of memory
+-- a value, or any fault except `NoMemory`
 abbrev pub IsNamed : {V : Type 0} → Result V TextFault → Type 0
 IsNamed (Ok v) = Unit {0}
 IsNamed (Err e) = IsNamedFault e
@@ -34,7 +34,7 @@ pub then_named : {A B : Type 0} (s : Result A TextFault) (k : A → Result B Tex
 then_named (Ok x) k h g = g x
 then_named (Err e) k h g = h
 
--- likewise where fewer than n tokens are left
+-- likewise if the first parser leaves fewer than `n` tokens
 pub bind_named : {V B : Type 0} (n : ℕ) (s : Parsed V) (k : V × List Lexeme → Result B TextFault) → IsNamed s → Within n s → ((x : V × List Lexeme) → length x.1 < n → IsNamed (k x)) → IsNamed (s >>= k)
 bind_named n (Ok x) k h w g = g x w
 bind_named n (Err e) k h w g = h
@@ -66,7 +66,7 @@ enter_not_named c at = if_named (nat_lt c.depth 200) (Ok (context (c.depth + 1) 
 
 -- ---- expressions
 
--- no action refuses a part for want of memory
+-- no action fails with `NoMemory`
 pub record NameExprs {E : Type 0} (g : ExprActions E) : Type 0 where
   pub number : (c : Context) (at n : ℕ) → IsNamed (g.number c at n)
   pub variable : (c : Context) (at : ℕ) (text : List ℕ) → IsNamed (g.variable c at text)

@@ -1,4 +1,4 @@
--- A parenthesis is told by its kind and text alone, and the search for the matching one goes a token at a time.
+-- Kind and text decide whether a token is a parenthesis; the search for the matching one moves by one token.
 use Rattle.std.proofs.Common.{◌≡◌, ℕ, zero, suc, ◌+◌, ◌-◌, List, [], ◌∷◌, map, drop, Bool, true, false, cond, Option, Some, None, refl, add-one, sub-one}
 use Rattle.std.proofs.lemmas.Slice.Eq.{bytes_eq-Decides}
 use Rattle.std.specs.Prelude.{codes, bytes_eq}
@@ -35,7 +35,7 @@ number_closes : (n : Option ℕ) → is_terminal RoundClose (numbered n) ≡ fal
 number_closes None = refl
 number_closes (Some n) = refl
 
--- no text is both
+-- no text is both `(` and `)`
 one_of_both : (b : Bool) (text : List ℕ) → bytes_eq text (codes "(") ≡ b → cond b false (bytes_eq text (codes ")")) ≡ bytes_eq text (codes ")")
 one_of_both true text e = let same : text ≡ codes "(" = (bytes_eq-Decides text (codes "(")).0 e in rw same refl
 one_of_both false text e = refl

@@ -1,4 +1,4 @@
--- Reading the tokens of a phrase is its fold.
+-- Parsing the tokens of a phrase gives the fold of the phrase.
 use Rattle.std.proofs.Common.{◌≡◌, List, Bool, true, false, Result, Ok, Err, refl, ap, ◌∙◌}
 use Rattle.text_tokens.specs.declared.fault.TextFault.{TextFault}
 use Rattle.text_grammar.specs.declared.terminal.Terminal.{Terminal}
@@ -17,7 +17,7 @@ use Rattle.text_grammar.proofs.ExprSteps.{expr_step}
 use Rattle.text_grammar.proofs.CondSteps.{cond_step}
 use Rattle.text_grammar.proofs.TermSteps.{term_step}
 
--- the value of a part, and then the rest
+-- the value of a part, then the rest
 pub then_rest : {V W : Type 0} (ts us : List Lexeme) (v : Result V TextFault) (k : V × List Lexeme → Parsed W) (l : V → Result W TextFault) → ((x : V) → k (x, ts) ≡ before us (l x)) → (before ts v >>= k) ≡ before us (v >>= l)
 then_rest ts us (Ok v) k l h = h v
 then_rest ts us (Err e) k l h = refl
@@ -26,7 +26,7 @@ regroup : {X Y Z : Type 0} (r : Result X TextFault) (k : X → Result Y TextFaul
 regroup (Ok x) k l = refl
 regroup (Err e) k l = refl
 
--- a test, and then the rest
+-- a check, then the rest
 pub checked : {A W : Type 0} (ts : List Lexeme) (r : Result A TextFault) (k : A → Parsed W) (l : A → Result W TextFault) → ((x : A) → k x ≡ before ts (l x)) → (r >>= k) ≡ before ts (r >>= l)
 checked ts (Ok x) k l h = h x
 checked ts (Err e) k l h = refl
@@ -35,7 +35,7 @@ pub changed : {V W : Type 0} (ts : List Lexeme) (f : V → W) (v : Result V Text
 changed ts f (Ok v) = refl
 changed ts f (Err e) = refl
 
--- a value, and the token that has to follow it
+-- a value, then the token that must follow it
 pub closed : {V : Type 0} (s : Terminal) (l : Leaf) (ts : List Lexeme) (v : Result V TextFault) → is_terminal s s ≡ true → then_wants (is_terminal s) (before (cons_token s l ts) v) ≡ before ts v
 closed s l ts (Ok v) same = rw same refl
 closed s l ts (Err e) same = refl
@@ -89,7 +89,7 @@ module _ {E B L T M : Type 0} (g : Actions E B L T M) where
   unstarred_kept c ts (Ok v) e = unstarred c v ts e
   unstarred_kept c ts (Err x) e = refl
 
-  -- after a star's phrase a list goes on or ends
+  -- after a unit with its star, the rest of the list continues or ends
   sequences_go : (c : Context) (k : T → M) (ms ts : List Lexeme) (v : Result T TextFault) → starred_unit c ms ≡ before ts v → from_units c k ms ≡ (before ts v >>= λ y. parse_term g (sequence_after (k y.0)) c y.1)
   sequences_go c k ms ts v h = regroup (parse_term g unit_aim c ms) (λ x. star_or_not g c x.0 x.1) (λ y. parse_term g (sequence_after (k y.0)) c y.1) ∙ ap (λ (m : Parsed T). m >>= λ y. parse_term g (sequence_after (k y.0)) c y.1) h
 
@@ -108,7 +108,7 @@ module _ {E B L T M : Type 0} (g : Actions E B L T M) where
   pub sums_is : (c : Context) (ms ts : List Lexeme) (v : (E → E) → Result E TextFault) → ((k : E → E) → from_products c k ms ≡ before ts (v k)) → parse_expr g.conds.exprs sums c ms ≡ before ts (v (λ e. e))
   sums_is c ms ts v h = expr_step g.conds.exprs sums c ms ∙ h (λ e. e)
 
-  -- an expression in a condition is compared
+  -- an expression at the start of a condition is read as a comparison
   factor_compared : (q : Phrase fac) (c : Context) (ts : List Lexeme) → BeginsExpr (yield_before q ts) → literal_by g.conds (parse_cond g.conds) c (yield_before q ts) ≡ comparison g.conds c (yield_before q ts)
   factor_compared (zero_fac l) c ts h = refl
   factor_compared (one_fac_number l) c ts h = refl

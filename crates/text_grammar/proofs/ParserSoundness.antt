@@ -1,4 +1,4 @@
--- What is read from the front of the tokens is a phrase.
+-- The tokens that a parser reads are a phrase.
 use Rattle.std.proofs.Common.{◌≡◌, ℕ, zero, suc, ◌+◌, ◌<◌, List, [], ◌∷◌, Bool, true, false, cond as if_true, nat_lt, Result, Ok, Err, refl, ap, sym, subst, ◌∙◌, inl, inr, ◌⊎◌, drop}
 use Rattle.std.proofs.lemmas.Bool.{ltb-true}
 use Rattle.kat_model.specs.declared.expression.Rel.{Rel}
@@ -23,7 +23,7 @@ pub bind_ok : {A B : Type 0} (s : Result A TextFault) (k : A → Result B TextFa
 bind_ok (Ok r) k q e = (r, refl, e)
 bind_ok (Err x) k q e = absurd cc
 
--- which of two ways was gone
+-- cases of which branch gave the result
 pub chosen : {V : Type 0} {X : Type 0} (b : Bool) (s t : Parsed V) (q : V × List Lexeme) → (b ≡ true → s ≡ Ok q → X) → (b ≡ false → t ≡ Ok q → X) → if_true b s t ≡ Ok q → X
 chosen true s t q f g e = f refl e
 chosen false s t q f g e = g refl e
@@ -52,7 +52,7 @@ pub before_ok : {V : Type 0} (ts : List Lexeme) (m : Result V TextFault) (v : V)
 before_ok ts (Ok x) v rest e = ap rest_of e
 before_ok ts (Err x) v rest e = absurd cc
 
--- a value, and then one token of that terminal
+-- a value was read, then one token of terminal `s`
 pub wanted_ok : {V : Type 0} (s : Terminal) (m : Parsed V) (y : V × List Lexeme) → then_wants (is_terminal s) m ≡ Ok y → (l : Leaf) × (m ≡ Ok (y.0, cons_token s l y.1))
 wanted_ok {V} s (Ok x) y e =
     let a = bind_ok (wants (is_terminal s) x.1) (λ r. Ok (x.0, r)) y e in
@@ -65,7 +65,7 @@ wanted_ok {V} s (Ok x) y e =
     value_or z (Err f) = z
 wanted_ok s (Err x) y e = absurd cc
 
--- a value inside, and then the token that closes it
+-- a value was read inside, then the token that closes it
 closed_ok : {V W : Type 0} (s : Terminal) (f : V → W) (m : Parsed V) (w : W) (rest : List Lexeme) → change f (then_wants (is_terminal s) m) ≡ Ok (w, rest)
     → (v : V) × (l : Leaf) × (m ≡ Ok (v, cons_token s l rest))
 closed_ok s f m w rest e =
@@ -73,11 +73,11 @@ closed_ok s f m w rest e =
     let b = wanted_ok s m (a.0, rest) a.1 in
     (a.0, b.0, b.1)
 
--- a phrase one level further in
+-- a phrase one level deeper
 inner : (x : Symbol) (d e : ℕ) (ts rest : List Lexeme) → e ≡ d + 1 → IsPhrase x e ts rest → IsPhrase x (d + 1) ts rest
 inner x d e ts rest same p = subst (λ (n : ℕ). IsPhrase x n ts rest) same p
 
--- the first part of a list, and what is left of it
+-- the rest of a list after its first part: either nothing, or a terminal of `p` and a phrase of `x`
 abbrev pub Tail : Symbol → (Terminal → Bool) → ℕ → List Lexeme → List Lexeme → Type 0
 Tail x p d ts rest = ((ts ≡ rest) × (heads p rest ≡ false)) ⊎ ((s : Terminal) × (l : Leaf) × (us : List Lexeme) × (ts ≡ cons_token s l us) × (p s ≡ true) × IsPhrase x d us rest)
 
@@ -85,7 +85,7 @@ headed : (p : Terminal → Bool) (ts : List Lexeme) → heads p ts ≡ true → 
 headed p [] e = absurd cc
 headed p (lexeme s at text ∷ ts) e = (s, leaf at text, refl, e)
 
--- a token of that terminal at the front
+-- the first token is of terminal `s`
 pub terminal_headed : (s : Terminal) (ts : List Lexeme) → heads (is_terminal s) ts ≡ true → (l : Leaf) × (ts ≡ cons_token s l (drop 1 ts))
 terminal_headed s [] e = absurd cc
 terminal_headed s (lexeme x at text ∷ ts) e = (leaf at text, rw (terminal_is s x e) refl)
@@ -130,7 +130,7 @@ not_lit_found d at text ts rest lt p = record { phrase = not_lit (leaf at text) 
 not_unit_found : (d at : ℕ) (text : List ℕ) (ts rest : List Lexeme) → d < 200 → IsPhrase unit (d + 1) ts rest → IsPhrase unit d (lexeme Bang at text ∷ ts) rest
 not_unit_found d at text ts rest lt p = record { phrase = not_unit (leaf at text) p.phrase; spelled = ap (λ (x : List Lexeme). lexeme Bang at text ∷ x) p.spelled; obeys = p.obeys; longest = p.longest; fits = (lt, p.fits) }
 
--- ---- a part and what is left of its list
+-- ---- a part and the rest of its list
 
 mul_tailed : (d : ℕ) (ts mid rest : List Lexeme) → IsPhrase fac d ts mid → Tail mul (is_terminal Star) d mid rest → IsPhrase mul d ts rest
 mul_tailed d ts mid rest q (inl h) = let k : IsPhrase fac d ts rest = subst (IsPhrase fac d ts) h.0 q in
@@ -244,7 +244,7 @@ relation_ok (lexeme (Compares r) at text ∷ ts) y e =
       first_of (Err x) = r
 relation_ok (lexeme _ at text ∷ ts) y e = absurd cc
 
--- an expression, a relation and an expression are a literal
+-- an expression, a relation and an expression form a literal
 relation_lit_found : (d : ℕ) (ts mid us rest : List Lexeme) (l : Leaf) (r : Rel) → BeginsExpr ts → IsPhrase expr d ts mid → mid ≡ cons_token (Compares r) l us → IsPhrase expr d us rest → IsPhrase lit d ts rest
 relation_lit_found d ts mid us rest l r begins p e q =
     let moved : mid ≡ cons_token (Compares r) l (yield_before q.phrase rest) = put_is (Compares r) (Compares r) l mid us (yield_before q.phrase rest) e refl q.spelled in
@@ -389,7 +389,7 @@ module _ {E B L T M : Type 0} (g : Actions E B L T M) where
       record { phrase = bare p.phrase; spelled = p.spelled; obeys = p.obeys; longest = (subst (λ (us : List Lexeme). heads (is_terminal Star) us ≡ false) same h, p.longest); fits = p.fits })
       e
 
-  -- a unit with its star, and what is left of its list
+  -- a unit with its star, then the rest of its list
   sequence_finds : (f : TermParser T M) → TermFinds f → (k : T → M) (c : Context) (ts : List Lexeme) (y : T × List Lexeme) → (f unit_aim c ts >>= λ x. star_or_not g c x.0 x.1 >>= λ z. f (sequence_after (k z.0)) c z.1) ≡ Ok y → IsPhrase prod c.depth ts y.1
   sequence_finds f s k c ts y e =
       let a = bind_ok (f unit_aim c ts) (λ x. star_or_not g c x.0 x.1 >>= λ z. f (sequence_after (k z.0)) c z.1) y e in

@@ -1,4 +1,4 @@
--- The test of the syntax answers faults of the syntax alone, each at a token or after the last.
+-- The syntax check reports only syntax faults, each at a token or after the last.
 use Rattle.std.proofs.Common.{◌≡◌, ℕ, zero, suc, ◌+◌, ◌*◌, ◌<◌, ◌≤◌, List, [], ◌∷◌, length, Bool, true, false, cond, nat_lt, Result, Ok, Err, inl, inr, refl, ap, subst, ◌∙◌, arith, drop}
 use Rattle.std.specs.Prelude.{IfErr}
 use Rattle.std.proofs.lemmas.List.{drop-drop}
@@ -20,7 +20,7 @@ use Rattle.text_grammar.proofs.ExprSteps as exprs
 use Rattle.text_grammar.proofs.CondSteps as conds
 use Rattle.text_grammar.proofs.TermSteps as terms
 
--- the rest are the last tokens, or the fault is one of the syntax
+-- the remaining tokens are a suffix of `ts`, or the fault is a syntax fault of `ts`
 abbrev Sound : {V : Type 0} → List Lexeme → Parsed V → Type 0
 Sound ts (Ok x) = (n : ℕ) × (x.1 ≡ drop n ts)
 Sound ts (Err e) = IsSyntaxFault ts e
@@ -37,7 +37,7 @@ lift_fault n ts (TooDeep at) h = lift_place opens at n ts h
 lift_fault n ts (NumberTooWide at) h = lift_place is_wide at n ts h
 lift_fault n ts _ h = h
 
--- what is read from the last tokens
+-- what is sound for a suffix is sound for all tokens
 lift : {V : Type 0} (n : ℕ) (ts us : List Lexeme) → us ≡ drop n ts → (s : Parsed V) → Sound us s → Sound ts s
 lift n ts us e (Ok y) h = (n + h.0, h.1 ∙ ap (drop h.0) e ∙ drop-drop h.0 n ts)
 lift n ts us e (Err x) h = lift_fault n ts x (subst (λ (v : List Lexeme). IsSyntaxFault v x) e h)
@@ -84,7 +84,7 @@ factor_sound f c (lexeme RoundOpen at text ∷ ts) a = enter_sound (lexeme Round
     (λ d. lift 1 (lexeme RoundOpen at text ∷ ts) ts refl (change scanning_exprs.enclosed (then_wants (is_terminal RoundClose) (f sums d ts))) (change_sound ts scanning_exprs.enclosed (then_wants (is_terminal RoundClose) (f sums d ts)) (then_wants_sound (is_terminal RoundClose) ts (f sums d ts) (a sums d ts (omega arith)))))
 factor_sound f c (lexeme _ at text ∷ ts) a = inr (inl (refl, refl))
 
--- a part and what is left of its list
+-- a part and the rest of its list
 expr_list_sound : (f : ExprParser (Unit {0})) → exprs.IsShort f → (x y : ExprAim (Unit {0})) → exprs.slack x ≡ 0 → expr_steps y [] ≤ 3 → (c : Context) (ts : List Lexeme) → Sound ts (f x c ts) → ExprBelow f (8 * length ts) → Sound ts (f x c ts >>= λ v. f y c v.1)
 expr_list_sound f s x y still three c ts first a = bind_sound (length ts + exprs.slack x) ts (f x c ts) (λ v. f y c v.1) (s x c ts) first (λ v lt. a y c v.1 (omega (arith, still, three)))
 
@@ -143,7 +143,7 @@ literal_sound f c (lexeme (Number n) at text ∷ ts) a = comparison_sound c (lex
 literal_sound f c (lexeme WideNumber at text ∷ ts) a = comparison_sound c (lexeme WideNumber at text ∷ ts)
 literal_sound f c (lexeme _ at text ∷ ts) a = inr (inl (refl, refl))
 
--- a part and what is left of its list
+-- a part and the rest of its list
 cond_list_sound : (f : CondParser (Unit {0}) (Unit {0})) → conds.IsShort f → (x y : CondAim (Unit {0})) → conds.slack x ≡ 0 → cond_steps y [] ≤ 3 → (c : Context) (ts : List Lexeme) → Sound ts (f x c ts) → CondBelow f (8 * length ts) → Sound ts (f x c ts >>= λ v. f y c v.1)
 cond_list_sound f s x y still three c ts first a = bind_sound (length ts + conds.slack x) ts (f x c ts) (λ v. f y c v.1) (s x c ts) first (λ v lt. a y c v.1 (omega (arith, still, three)))
 
@@ -191,11 +191,11 @@ unit_sound f c (lexeme _ at text ∷ ts) a = inr (inl (refl, refl))
 star_sound : (c : Context) (t : Unit {0}) (ts : List Lexeme) → Sound ts (star_or_not scanning c t ts)
 star_sound c t ts = if_sound ts (heads (is_terminal Star) ts) (Ok (tt, drop 1 ts)) (Ok (t, ts)) (λ k. (1, refl)) (λ k. (0, refl))
 
--- a product and what is left of its list
+-- a product and the rest of its list
 choice_list_sound : (f : TermParser (Unit {0}) (Unit {0})) → terms.IsShort f → (c : Context) (ts : List Lexeme) → Sound ts (f sequence c ts) → TermBelow f (8 * length ts) → Sound ts (f sequence c ts >>= λ v. f (choice_after tt) c v.1)
 choice_list_sound f s c ts first a = bind_sound (length ts + 0) ts (f sequence c ts) (λ v. f (choice_after tt) c v.1) (s sequence c ts) first (λ v lt. a (choice_after tt) c v.1 (omega arith))
 
--- a unit with its star and what is left of its list
+-- a unit with its star and the rest of its list
 sequence_list_sound : (f : TermParser (Unit {0}) (Unit {0})) → terms.IsShort f → (c : Context) (ts : List Lexeme) → Sound ts (f unit c ts) → TermBelow f (8 * length ts) → Sound ts (f unit c ts >>= λ x. star_or_not scanning c x.0 x.1 >>= λ v. f (sequence_after tt) c v.1)
 sequence_list_sound f s c ts first a = bind_sound (length ts + 0) ts (f unit c ts) (λ x. star_or_not scanning c x.0 x.1 >>= λ v. f (sequence_after tt) c v.1) (s unit c ts) first
     (λ x lt. bind_sound (length ts) x.1 (star_or_not scanning c x.0 x.1) (λ v. f (sequence_after tt) c v.1) (terms.star_short scanning c x.0 x.1 (length ts) (omega arith)) (star_sound c x.0 x.1) (λ v le. a (sequence_after tt) c v.1 (omega arith)))
@@ -220,7 +220,7 @@ term_scan_sound : (x : TermAim (Unit {0})) (c : Context) (ts : List Lexeme) → 
 unfolding parse_term
 term_scan_sound x c ts = term_within_sound (suc (term_steps x ts)) x c ts (omega arith)
 
--- the fault of a reading that has no value
+-- the fault of a parse that fails
 fault_of : {V : Type 0} (ts : List Lexeme) (s : Parsed V) (e : TextFault) → Sound ts s → (s >>= λ x. Ok x.1) ≡ Err e → IsSyntaxFault ts e
 fault_of ts (Ok x) e h same = absurd cc
 fault_of ts (Err f) e h same = let is : f ≡ e = cc in subst (IsSyntaxFault ts) is h
@@ -234,7 +234,7 @@ cond_faults d ts e same = let c = context d false true in fault_of ts (parse_con
 pub expr_faults : AnswersFaults scan_expr
 expr_faults d ts e same = let c = context d false true in fault_of ts (parse_expr scanning_exprs sums c ts) e (expr_scan_sound sums c ts) same
 
--- so does a call that answers as the test does
+-- a call with the result of the syntax check reports only syntax faults
 pub answers_fault : (scan : ℕ → List Lexeme → Result (List Lexeme) TextFault) → AnswersFaults scan → (d : ℕ) (all ts : List Lexeme) (r : Result ℕ TextFault) → Wants all r (scan d ts) → IfErr r (λ e. IsSyntaxFault ts e)
 answers_fault scan faults d all ts (Ok i) h = tt
 answers_fault scan faults d all ts (Err e) h = faults d ts e h

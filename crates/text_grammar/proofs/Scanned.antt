@@ -1,4 +1,4 @@
--- The test of the syntax takes just the phrases of the grammar.
+-- The syntax check accepts exactly the phrases of the grammar.
 use Rattle.std.proofs.Common.{◌≡◌, ℕ, ◌+◌, ◌<◌, List, [], true, false, Result, Ok, Err, refl, ap, ◌∙◌}
 use Rattle.std.proofs.lemmas.Bool.{lt-ltb}
 use Rattle.text_tokens.specs.declared.fault.TextFault.{TextFault}
@@ -33,7 +33,7 @@ enters c at lt = rw (lt-ltb c.depth 200 lt) refl
 enters_not : (c : Context) (at : ℕ) → c.depth < 200 → enter_not c at ≡ Ok (context (c.depth + 1) true c.compares)
 enters_not c at lt = rw (lt-ltb c.depth 200 lt) refl
 
--- nothing is refused where nothing is too deep or too wide
+-- a phrase within the limits on depth and numbers has no fault
 pub scanned : {x : Symbol} (p : Phrase x) (c : Context) → IsWithinLimits c.depth p → Scans x (fold scanning c p)
 scanned (one_prod p) c f = λ k. rw (scanned p c f (λ t. tt)) refl
 scanned (more_prods p l t) c f = λ k. rw (scanned p c f.0 (λ t. tt)) (scanned t c f.1 (λ t. tt))

@@ -1,4 +1,4 @@
--- What stands at an index among the tokens.
+-- The token at an index.
 use Rattle.std.proofs.Common.{◌≡◌, ℕ, zero, suc, ◌+◌, ◌<◌, List, [], ◌∷◌, length, drop, get_or, Some, refl, ap, sym, subst, arith}
 use Rattle.text_tokens.specs.declared.token.Token.{Token}
 use Rattle.text_grammar.specs.declared.terminal.Terminal.{Terminal}

@@ -1,4 +1,4 @@
--- The equation of the reading of terms, in which no number of steps stands.
+-- The equation of the term parser, without a number of steps.
 use Rattle.std.proofs.Common.{◌≡◌, ℕ, zero, suc, ◌+◌, ◌*◌, ◌<◌, ◌≤◌, List, [], ◌∷◌, length, Ok, refl, ap, arith, drop, length-drop}
 use Rattle.text_grammar.specs.declared.terminal.Terminal.TheVariants.{RoundOpen, RoundClose, SquareOpen, SquareClose, Bang, Star, Plus, Dot, Zero, One, Name}
 use Rattle.text_grammar.specs.declared.reading.Context.{Context}
@@ -10,7 +10,7 @@ use Rattle.text_grammar.specs.Terms.{TermAim, choice, choice_after, sequence, se
 use Rattle.text_grammar.proofs.Within.{Within, bind_within, if_within, weaken, before_within, enter_within, change_within, then_wants_within, headed, bind_same, if_same, enter_same}
 use Rattle.text_grammar.proofs.CondSteps.{cond_read_short}
 
--- how far an aim may stand still
+-- 1 if the aim may consume no token, else 0
 abbrev pub slack : {M : Type 0} → TermAim M → ℕ
 slack (choice_after m) = 1
 slack (sequence_after m) = 1
@@ -44,7 +44,7 @@ unit_short g f s c (lexeme _ at text ∷ ts) = tt
 pub star_short : {E B L T M : Type 0} (g : Actions E B L T M) (c : Context) (t : T) (ts : List Lexeme) (n : ℕ) → length ts < n → Within n (star_or_not g c t ts)
 star_short g c t ts n lt = if_within n (heads (is_terminal Star) ts) (before (drop 1 ts) (g.starred c (place_of ts) t)) (Ok (t, ts)) (λ e. before_within n (drop 1 ts) (g.starred c (place_of ts) t) (omega (arith, length-drop 1 ts))) (λ e. lt)
 
--- a list is its first part and what is left after it
+-- a part and the rest of its list consume at least one token
 choice_short : {T M : Type 0} (f : TermParser T M) → IsShort f → (y : T → TermAim M) → ((t : T) → slack (y t) ≡ 1) → (c : Context) (ts : List Lexeme) → Within (length ts) (f sequence c ts >>= λ v. f (y v.0) c v.1)
 choice_short f s y one c ts = bind_within (length ts + 0) (length ts) (f sequence c ts) (λ v. f (y v.0) c v.1) (s sequence c ts)
     (λ v lt. weaken (length v.1 + slack (y v.0)) (length ts) (f (y v.0) c v.1) (omega (arith, one v.0)) (s (y v.0) c v.1))
@@ -109,7 +109,7 @@ pub term_step : {E B L T M : Type 0} (g : Actions E B L T M) (x : TermAim M) (c 
 unfolding parse_term term_within
 term_step g x c ts = term_same g (term_within g (steps x ts)) (parse_term g) (within_short g (steps x ts)) x c ts (λ y d us lt. enough g (steps x ts) (suc (steps y us)) y d us lt (omega arith))
 
--- what is read leaves fewer tokens
+-- the parser consumes at least one token, or none for the rest of a list
 pub term_read_short : {E B L T M : Type 0} (g : Actions E B L T M) → IsShort (parse_term g)
 unfolding parse_term
 term_read_short g x c ts = within_short g (suc (steps x ts)) x c ts

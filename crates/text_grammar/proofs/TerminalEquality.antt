@@ -1,4 +1,4 @@
--- A terminal that passes the test is the one that is wanted.
+-- A terminal that passes the check is the expected terminal.
 use Rattle.std.proofs.Common.{◌≡◌, List, [], ◌∷◌, Bool, true, false, cond, Ok, Err, refl, ap, sym, rules}
 use Rattle.std.proofs.lemmas.Bool.{eqb-true}
 use denote.Enum.Bare.{same_true}
@@ -13,7 +13,7 @@ use Rattle.text_grammar.specs.Lexemes.{Lexeme, lexeme, is_terminal}
 use Rattle.text_grammar.specs.Parsed.{wants}
 use Rattle.text_grammar.specs.Phrases.{Leaf, cons_token}
 
--- the test is the comparison of two terminals in the program
+-- the check agrees with the program's comparison of terminals
 pub same_terminal : (x s : Terminal) → ghosts.eq x s ≡ is_terminal x s
 same_terminal RoundOpen RoundOpen = refl
 same_terminal RoundClose RoundClose = refl

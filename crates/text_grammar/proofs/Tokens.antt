@@ -1,4 +1,4 @@
--- Indices among the tokens, and one token that has to follow.
+-- Indices of tokens, and a token that must follow.
 use Rattle.std.proofs.Common.{◌≡◌, ℕ, ◌+◌, List, [], ◌∷◌, Bool, true, false, Ok, Err, drop, refl}
 use Rattle.std.proofs.lemmas.List.{drop-drop}
 use Rattle.text_tokens.specs.declared.fault.TextFault.TheVariants.{Syntax}

@@ -1,4 +1,4 @@
--- Tokens begin with one phrase of a symbol.
+-- Tokens begin with at most one phrase of a symbol.
 use Rattle.std.proofs.Common.{◌≡◌, ℕ, List, [], ◌∷◌, Bool, true, false, refl, ap, sym, subst, ◌∙◌}
 use Rattle.kat_model.specs.declared.expression.Rel.{Rel}
 use Rattle.text_grammar.specs.declared.terminal.Terminal.{Terminal}
@@ -19,7 +19,7 @@ abbrev tokens_after : List Lexeme → List Lexeme
 tokens_after [] = []
 tokens_after (lexeme s at text ∷ ts) = ts
 
--- two lists that begin with a token
+-- equal lists begin with the same terminal
 same_terminal : (s t : Terminal) (l m : Leaf) (us vs : List Lexeme) → cons_token s l us ≡ cons_token t m vs → s ≡ t
 same_terminal s t l m us vs e = ap terminal_at_front e
 
@@ -29,7 +29,7 @@ same_leaf s t l m us vs e = ap (leaf_at_front l) e
 same_rest : (s t : Terminal) (l m : Leaf) (us vs : List Lexeme) → cons_token s l us ≡ cons_token t m vs → us ≡ vs
 same_rest s t l m us vs e = ap tokens_after e
 
--- a token is of the kind, and is not
+-- a token cannot be both of a kind and not of it
 clash : {X : Type 0} (p : Terminal → Bool) (us vs : List Lexeme) → us ≡ vs → heads p us ≡ false → heads p vs ≡ true → X
 clash p us vs e f t = absurd (no (f' ∙ t)) where
   f' : false ≡ heads p vs
@@ -38,7 +38,7 @@ clash p us vs e f t = absurd (no (f' ∙ t)) where
   no : false ≡ true → ⊥
   no h = cc
 
--- what an expression begins with
+-- the terminals that begin an expression
 abbrev begins_factor : Terminal → Bool
 begins_factor Zero = true
 begins_factor One = true
@@ -64,11 +64,11 @@ expr_begins : (e : Phrase expr) (ts : List Lexeme) → heads begins_factor (yiel
 expr_begins (one_mul m) ts = product_begins m ts
 expr_begins (more_muls m l minus e) ts = product_begins m (cons_token (sum_terminal minus) l (yield_before e ts))
 
--- a literal that is no comparison does not begin as one
+-- the tokens of a literal that is not a comparison do not begin an expression
 no_comparison : {X : Type 0} (s : Terminal) (l : Leaf) (us ts : List Lexeme) (e : Phrase expr) → cons_token s l us ≡ yield_before e ts → begins_factor s ≡ false → X
 no_comparison s l us ts e same f = clash begins_factor (cons_token s l us) (yield_before e ts) same f (expr_begins e ts)
 
--- what begins an expression begins no name and no condition in parentheses
+-- a token that begins an expression does not begin a name or a condition in parentheses
 not_both : {X : Type 0} (b : Bool) → b ≡ false → b ≡ true → X
 not_both true f t = absurd cc
 not_both false f t = absurd cc
@@ -93,7 +93,7 @@ sum_joins : (minus : Bool) (l : Leaf) (ts : List Lexeme) → heads is_sum (cons_
 sum_joins true l ts = refl
 sum_joins false l ts = refl
 
--- by the forms of both phrases: those of two forms differ in their first token, or in what follows a part
+-- by the forms of both phrases: phrases of different forms differ in their first token or in the token after a part
 pub one_phrase : {x : Symbol} (p q : Phrase x) (r s : List Lexeme) → yield_before p r ≡ yield_before q s → MeetsLookahead p r → MeetsLookahead q s → IsLongest p r → IsLongest q s → (p ≡ q) × (r ≡ s)
 one_phrase (one_prod p) (one_prod q) r s e o u h k = let i = one_phrase p q r s e o u h.1 k.1 in (ap one_prod i.0, i.1)
 one_phrase (one_prod p) (more_prods q m w) r s e o u h k = let us = cons_token Plus m (yield_before w s) in clash (is_terminal Plus) r us (one_phrase p q r us e o u.0 h.1 k.0).1 h.0 refl

@@ -1,4 +1,4 @@
--- What is read leaves fewer tokens, and what reads alike on fewer tokens reads alike.
+-- Parsers consume tokens, and parsers that agree on fewer tokens agree.
 use Rattle.std.proofs.Common.{◌≡◌, ℕ, ◌<◌, ◌≤◌, List, [], ◌∷◌, length, Bool, true, false, cond, Result, Ok, Err, refl, ap, ◌∙◌, arith, drop}
 use Rattle.text_tokens.specs.declared.fault.TextFault.{TextFault}
 use Rattle.text_tokens.specs.declared.fault.TextFault.TheVariants.{Syntax}
@@ -6,7 +6,7 @@ use Rattle.text_grammar.specs.declared.terminal.Terminal.{Terminal}
 use Rattle.text_grammar.specs.Lexemes.{Lexeme, lexeme, heads}
 use Rattle.text_grammar.specs.Parsed.{Parsed, ◌>>=◌, before, change, wants, then_wants}
 
--- fewer than n tokens are left
+-- fewer than `n` tokens remain
 abbrev pub Within : {V : Type 0} → ℕ → Parsed V → Type 0
 Within n (Ok x) = length x.1 < n
 Within n (Err e) = Unit {0}

@@ -1,5 +1,5 @@
--- What is made of the parts of a phrase while it is read. Actions may refuse a part; all else that can be wrong
--- with a phrase is its syntax, its depth, or a number that is too wide.
+-- The semantic actions of the parser. Actions may reject a part; the other faults of a phrase are its syntax, its depth
+-- and numbers that are too wide.
 use Rattle.std.specs.Prelude.{ℕ, ◌+◌, List, Bool, true, if◌then◌else◌, nat_lt, Result, Ok, Err}
 use Rattle.kat_model.specs.declared.expression.Rel.{Rel}
 use Rattle.text_tokens.specs.declared.fault.TextFault.{TextFault}
@@ -7,26 +7,26 @@ use Rattle.text_tokens.specs.declared.fault.TextFault.TheVariants.{TooDeep}
 use Rattle.text_grammar.specs.declared.reading.Context.{Context}
 use Rattle.text_grammar.specs.declared.reading.Operator.{Operator}
 
--- what is known of a place
+-- the context of a place
 abbrev pub context : ℕ → Bool → Bool → Context
 context depth negated compares = record { depth = depth; negated = negated; compares = compares }
 
--- one construct more is open
+-- the context after one more construct opens at place `at`
 abbrev pub enter : Context → ℕ → Result Context TextFault
 enter c at = if nat_lt c.depth 200 then Ok (context (c.depth + 1) c.negated c.compares) else Err (TooDeep at)
 
--- a `!` more is open
+-- the context of the operand of a `!` at place `at`
 abbrev pub enter_not : Context → ℕ → Result Context TextFault
 enter_not c at = if nat_lt c.depth 200 then Ok (context (c.depth + 1) true c.compares) else Err (TooDeep at)
 
--- of an expression
+-- the actions of expressions
 pub record ExprActions (E : Type 0) : Type 0 where
   pub number : Context → ℕ → ℕ → Result E TextFault
   pub variable : Context → ℕ → List ℕ → Result E TextFault
   pub join : Operator → E → E → E
   pub enclosed : E → E
 
--- of a condition, and of a list of conditions so far
+-- the actions of conditions and of lists of conditions
 pub record CondActions (E B L : Type 0) : Type 0 where
   pub exprs : ExprActions E
   pub always : B
@@ -40,7 +40,7 @@ pub record CondActions (E B L : Type 0) : Type 0 where
   pub all : L → B
   pub any : L → B
 
--- of a term, and of a list of terms so far
+-- the actions of terms and of lists of terms
 pub record Actions (E B L T M : Type 0) : Type 0 where
   pub conds : CondActions E B L
   pub zero : T

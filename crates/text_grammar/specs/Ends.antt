@@ -6,7 +6,7 @@ use Rattle.text_grammar.specs.declared.terminal.Terminal.TheVariants.{Star, Plus
 use Rattle.text_grammar.specs.Lexemes.{Lexeme, heads, is_sum, is_terminal}
 use Rattle.text_grammar.specs.Phrases.{Symbol, term, prod, star, unit, cond, conj, lit, expr, mul, fac, Phrase, yield_before, MeetsLookahead, IsWithinLimits}
 
--- whether a token of this terminal goes on with some phrase at the end of a phrase of the symbol
+-- whether terminal `s` can continue a phrase at the end of a phrase of `x`
 abbrev pub goes_on : Symbol → Terminal → Bool
 goes_on term s = is_terminal Plus s || (is_terminal Dot s || is_terminal Star s)
 goes_on prod s = is_terminal Dot s || is_terminal Star s
@@ -19,17 +19,17 @@ goes_on expr s = is_sum s || is_terminal Star s
 goes_on mul s = is_terminal Star s
 goes_on fac s = false
 
--- the token that follows a phrase of the symbol goes on with none
+-- the token after a phrase of `x` cannot continue it
 abbrev pub Ends : Symbol → List Lexeme → Type 0
 Ends x ts = heads (goes_on x) ts ≡ false
 
--- the tokens begin with a phrase of the symbol, of any length, and go on with the rest
+-- the tokens are a phrase of `x`, of any length, followed by `rest`
 pub record BeginsWith (x : Symbol) (d : ℕ) (ts rest : List Lexeme) : Type 0 where
   pub phrase : Phrase x
   pub spelled : ts ≡ yield_before phrase rest
   pub obeys : MeetsLookahead phrase rest
   pub fits : IsWithinLimits d phrase
 
--- the test takes what the grammar has, and no other tokens, where the token that follows goes on with no phrase
+-- the check accepts exactly the phrases of the grammar if the token that follows cannot continue them
 abbrev pub TakesGrammar : Symbol → (ℕ → List Lexeme → Result (List Lexeme) TextFault) → Type 0
 TakesGrammar x scan = (d : ℕ) (ts rest : List Lexeme) → Ends x rest → (scan d ts ≡ Ok rest) ↔ BeginsWith x d ts rest

@@ -1,4 +1,4 @@
--- Which faults the test of the syntax answers.
+-- The faults that the syntax check reports.
 use Rattle.std.specs.Prelude.{◌≡◌, ◌⊎◌, ℕ, List, [], ◌∷◌, Bool, true, false, Result, Err}
 use Rattle.text_tokens.specs.declared.fault.TextFault.{TextFault}
 use Rattle.text_tokens.specs.declared.fault.TextFault.TheVariants.{Syntax, TooDeep, NumberTooWide}
@@ -7,30 +7,30 @@ use Rattle.text_grammar.specs.declared.terminal.Terminal.TheVariants.{RoundOpen,
 use Rattle.text_grammar.specs.Lexemes.{Lexeme, lexeme}
 use Rattle.text_grammar.specs.Parsed.{at_end}
 
--- what opens a construct of a phrase
+-- whether a terminal opens a construct
 abbrev pub opens : Terminal → Bool
 opens RoundOpen = true
 opens SquareOpen = true
 opens Bang = true
 opens _ = false
 
--- a number that is too wide
+-- whether a terminal is a number that is too wide
 abbrev pub is_wide : Terminal → Bool
 is_wide WideNumber = true
 is_wide _ = false
 
--- a token of such a terminal stands at the place
+-- a token of such a terminal is at the place
 abbrev pub StandsAt : (Terminal → Bool) → ℕ → List Lexeme → Type 0
 StandsAt p place [] = ⊥
 StandsAt p place (lexeme s at text ∷ ts) = ((p s ≡ true) × (at ≡ place)) ⊎ StandsAt p place ts
 
--- a fault of the syntax: at a token, or after the last
+-- a syntax fault: at a token, or after the last
 abbrev pub IsSyntaxFault : List Lexeme → TextFault → Type 0
 IsSyntaxFault ts (Syntax at) = (at ≡ at_end) ⊎ StandsAt (λ s. true) at ts
 IsSyntaxFault ts (TooDeep at) = StandsAt opens at ts
 IsSyntaxFault ts (NumberTooWide at) = StandsAt is_wide at ts
 IsSyntaxFault ts other = ⊥
 
--- the test answers no other fault
+-- the check reports only syntax faults
 abbrev pub AnswersFaults : (ℕ → List Lexeme → Result (List Lexeme) TextFault) → Type 0
 AnswersFaults scan = (d : ℕ) (ts : List Lexeme) (e : TextFault) → scan d ts ≡ Err e → IsSyntaxFault ts e

@@ -1,4 +1,4 @@
--- What the actions make of a phrase, from left to right, or the first fault.
+-- The fold of the actions over a phrase, from left to right, or the first fault.
 use Rattle.std.specs.Prelude.{Bool, if◌then◌else◌, Result, Ok, Err}
 use Rattle.text_tokens.specs.declared.fault.TextFault.{TextFault}
 use Rattle.text_tokens.specs.declared.fault.TextFault.TheVariants.{NumberTooWide}
@@ -9,11 +9,11 @@ use Rattle.text_grammar.specs.Parsed.{◌>>=◌}
 use Rattle.text_grammar.specs.Actions.{Actions, enter, enter_not}
 use Rattle.text_grammar.specs.Phrases.{Symbol, term, prod, star, unit, cond, conj, lit, expr, mul, fac, Phrase, one_prod, more_prods, one_star, more_stars, bare, starred, zero_unit, one_unit, name_unit, not_unit, square_unit, round_unit, one_conj, more_conjs, one_lit, more_lits, true_lit, false_lit, name_lit, not_lit, round_lit, relation_lit, one_mul, more_muls, one_fac, more_facs, zero_fac, one_fac_number, number_fac, wide_fac, name_fac, round_fac}
 
--- the operation of a `-` or a `+`
+-- the operator of a `-` or a `+`
 abbrev pub operator_of : Bool → Operator
 operator_of minus = if minus then Subtract else Add
 
--- what is made: of a list, given how its first part joins what was before it
+-- the result for a phrase of a symbol; for a list, a function of how its first part joins what precedes it
 abbrev pub Folded : (E B L T M : Type 0) → Symbol → Type 0
 Folded E B L T M term = (T → M) → Result T TextFault
 Folded E B L T M prod = (T → M) → Result T TextFault

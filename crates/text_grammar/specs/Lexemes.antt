@@ -1,4 +1,4 @@
--- The tokens as the grammar sees them.
+-- Tokens as the grammar sees them.
 use Rattle.std.specs.Prelude.{◌≡◌, ℕ, ◌+◌, ◌<◌, ◌≤◌, List, [], ◌∷◌, length, map, drop, Bool, true, false, Option, Some, None, slice_get, ◌==◌}
 use Rattle.text_tokens.specs.declared.token.Token.{Token}
 use Rattle.text_tokens.specs.TokenParts.{TokenParts, token_parts, parts_of_tokens}
@@ -9,11 +9,11 @@ use Rattle.text_grammar.specs.contracts.terminal.SeparatorPartialEq.TheImpl.{gho
 use Rattle.text_grammar.specs.declared.terminal.Terminal.TheVariants.{RoundOpen, RoundClose, SquareOpen, SquareClose, Bang, Star, Plus, Minus, Dot, And, Or, Compares, Zero, One, Number, WideNumber, True, False, Name, Keyword, Separator, Other}
 use Rattle.text_grammar.specs.Terminals.{terminal_of}
 
--- what a token is to the grammar, its place, and its text
+-- the terminal of a token, its place and its text
 pub data Lexeme : Type 0 where
   lexeme : (terminal : Terminal) → (at : ℕ) → (text : List ℕ) → Lexeme
 
--- the lexeme of a mark
+-- the lexeme of a token
 abbrev pub lexeme_of : TokenParts → Lexeme
 lexeme_of (token_parts kind at text) = lexeme (terminal_of kind text) at text
 
@@ -21,24 +21,24 @@ lexeme_of (token_parts kind at text) = lexeme (terminal_of kind text) at text
 abbrev pub lexemes : List Token → List Lexeme
 lexemes ts = map lexeme_of (parts_of_tokens ts)
 
--- the text of the token at an index, empty where there is none
+-- the text of the token at an index, or empty if there is no token
 abbrev pub text_at : List Token → ℕ → List ℕ
 text_at ts i = text_of (slice_get ts i) where
   text_of : Option Token → List ℕ
   text_of None = []
   text_of (Some t) = t.text.now
 
--- the terminal and the place are those of the token at an index, or there is none
+-- the result is the terminal and the place of the token at index `i`, or `None` if there is no token
 abbrev pub Sees : Option (Terminal × ℕ) → List Token → ℕ → Type 0
 Sees None ts i = (drop i (lexemes ts) ≡ []) × (length ts ≤ i)
 Sees (Some x) ts i = (drop i (lexemes ts) ≡ lexeme x.0 x.1 (text_at ts i) ∷ drop (i + 1) (lexemes ts)) × (i < length ts)
 
--- whether the first token is such a terminal
+-- whether the first token's terminal passes `p`
 abbrev pub heads : (Terminal → Bool) → List Lexeme → Bool
 heads p [] = false
 heads p (lexeme s at text ∷ ts) = p s
 
--- whether a terminal is the one that is wanted
+-- whether two terminals are equal
 abbrev pub is_terminal : Terminal → Terminal → Bool
 is_terminal RoundOpen RoundOpen = true
 is_terminal RoundClose RoundClose = true
@@ -64,13 +64,13 @@ is_terminal (Separator p) (Separator q) = separator.eq p q
 is_terminal Other Other = true
 is_terminal _ _ = false
 
--- whether the terminal joins the products of an expression
+-- whether the terminal joins two products of an expression
 abbrev pub is_sum : Terminal → Bool
 is_sum Plus = true
 is_sum Minus = true
 is_sum _ = false
 
--- what makes an expression of a name or a parenthesis before it
+-- whether the terminal makes an expression of the name or parenthesis before it
 abbrev pub makes_expr : Terminal → Bool
 makes_expr Plus = true
 makes_expr Minus = true

@@ -6,11 +6,11 @@ use Rattle.text_grammar.specs.declared.terminal.Terminal.TheVariants.{RoundOpen,
 use Rattle.text_grammar.specs.Lexemes.{Lexeme, lexeme, heads, is_sum, is_terminal}
 use Rattle.text_grammar.specs.Conds.{after_close, begins_expr}
 
--- the symbols of the grammar
+-- the nonterminals of the grammar
 pub data Symbol : Type 0 where
   term prod star unit cond conj lit expr mul fac : Symbol
 
--- where a token stands, and its text
+-- the place of a token and its text
 pub record Leaf : Type 0 where
   pub at : ℕ
   pub text : List ℕ
@@ -54,7 +54,7 @@ pub data Phrase : Symbol → Type 0 where
   name_fac : (l : Leaf) → Phrase fac
   round_fac : (l : Leaf) → (e : Phrase expr) → (r : Leaf) → Phrase fac
 
--- a token before others
+-- a token of terminal `s` before the tokens `ts`
 abbrev pub cons_token : Terminal → Leaf → List Lexeme → List Lexeme
 cons_token s l ts = lexeme s l.at l.text ∷ ts
 
@@ -62,7 +62,7 @@ cons_token s l ts = lexeme s l.at l.text ∷ ts
 abbrev pub sum_terminal : Bool → Terminal
 sum_terminal minus = if minus then Minus else Plus
 
--- the tokens of a phrase, and then those that follow it
+-- the tokens of a phrase, followed by `ts`
 abbrev pub yield_before : {x : Symbol} → Phrase x → List Lexeme → List Lexeme
 yield_before (one_prod p) ts = yield_before p ts
 yield_before (more_prods p l t) ts = yield_before p (cons_token Plus l (yield_before t ts))
@@ -97,7 +97,7 @@ yield_before (wide_fac l) ts = cons_token WideNumber l ts
 yield_before (name_fac l) ts = cons_token Name l ts
 yield_before (round_fac l e r) ts = cons_token RoundOpen l (yield_before e (cons_token RoundClose r ts))
 
--- a literal that begins like this is an expression: by the token after a name or after the matching parenthesis
+-- a literal that begins with these tokens is a comparison, by the token after a name or after the matching parenthesis
 abbrev pub BeginsExpr : List Lexeme → Type 0
 BeginsExpr [] = Unit {0}
 BeginsExpr (lexeme Name at text ∷ ts) = begins_expr ts ≡ true
@@ -130,7 +130,7 @@ MeetsLookahead (more_facs x l m) ts = MeetsLookahead x (cons_token Star l (yield
 MeetsLookahead (round_fac l e r) ts = MeetsLookahead e (cons_token RoundClose r ts)
 MeetsLookahead _ ts = Unit {0}
 
--- each list is as long as it can be
+-- each list in the phrase is as long as possible
 abbrev pub IsLongest : {x : Symbol} → Phrase x → List Lexeme → Type 0
 IsLongest (one_prod p) ts = (heads (is_terminal Plus) ts ≡ false) × IsLongest p ts
 IsLongest (more_prods p l t) ts = IsLongest p (cons_token Plus l (yield_before t ts)) × IsLongest t ts
@@ -155,7 +155,7 @@ IsLongest (more_facs x l m) ts = IsLongest x (cons_token Star l (yield_before m 
 IsLongest (round_fac l e r) ts = IsLongest e (cons_token RoundClose r ts)
 IsLongest _ ts = Unit {0}
 
--- with so many levels open around it nothing is too deep, and no number is too wide
+-- with `d` levels open, no construct is too deep and no number is too wide
 abbrev pub IsWithinLimits : {x : Symbol} → ℕ → Phrase x → Type 0
 IsWithinLimits d (one_prod p) = IsWithinLimits d p
 IsWithinLimits d (more_prods p l t) = IsWithinLimits d p × IsWithinLimits d t
@@ -181,7 +181,7 @@ IsWithinLimits d (wide_fac l) = ⊥
 IsWithinLimits d (round_fac l e r) = (d < 200) × IsWithinLimits (d + 1) e
 IsWithinLimits d _ = Unit {0}
 
--- the tokens begin with a phrase of that symbol, and go on with the rest
+-- the tokens are a phrase of `x`, followed by `rest`
 pub record IsPhrase (x : Symbol) (d : ℕ) (ts rest : List Lexeme) : Type 0 where
   pub phrase : Phrase x
   pub spelled : ts ≡ yield_before phrase rest

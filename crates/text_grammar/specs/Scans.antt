@@ -1,4 +1,4 @@
--- The test of the syntax: where a phrase at the front of the tokens ends, or its first fault.
+-- The syntax check: finds the end of a phrase, or its first fault.
 use Rattle.std.specs.Prelude.{◌≡◌, ◌↔◌, ℕ, List, true, false, Result, Ok}
 use Rattle.text_tokens.specs.declared.fault.TextFault.{TextFault}
 use Rattle.text_grammar.specs.Lexemes.{Lexeme}
@@ -9,7 +9,7 @@ use Rattle.text_grammar.specs.Conds.{parse_cond, disjunction}
 use Rattle.text_grammar.specs.Terms.{parse_term, choice}
 use Rattle.text_grammar.specs.Phrases.{Symbol, IsPhrase}
 
--- nothing is made, and no part is refused
+-- actions on expressions that make nothing and accept every part
 abbrev pub scanning_exprs : ExprActions (Unit {0})
 scanning_exprs = record {
   number = λ c at n. Ok tt;
@@ -18,7 +18,7 @@ scanning_exprs = record {
   enclosed = λ e. tt;
 }
 
--- likewise of conditions
+-- likewise for conditions
 abbrev pub scanning_conds : CondActions (Unit {0}) (Unit {0}) (Unit {0})
 scanning_conds = record {
   exprs = scanning_exprs;
@@ -34,7 +34,7 @@ scanning_conds = record {
   any = λ l. tt;
 }
 
--- and of terms
+-- likewise for terms
 abbrev pub scanning : Actions (Unit {0}) (Unit {0}) (Unit {0}) (Unit {0}) (Unit {0})
 scanning = record {
   conds = scanning_conds;
@@ -51,18 +51,18 @@ scanning = record {
   product = λ m. tt;
 }
 
--- where the term at the front ends, with so many constructs open around it
+-- the tokens after the term at the start, with `d` constructs open
 abbrev pub scan_term : ℕ → List Lexeme → Result (List Lexeme) TextFault
 scan_term d ts = parse_term scanning choice (context d false true) ts >>= λ x. Ok x.1
 
--- likewise of a condition
+-- likewise for a condition
 abbrev pub scan_cond : ℕ → List Lexeme → Result (List Lexeme) TextFault
 scan_cond d ts = parse_cond scanning_conds disjunction (context d false true) ts >>= λ x. Ok x.1
 
--- and of an expression
+-- likewise for an expression
 abbrev pub scan_expr : ℕ → List Lexeme → Result (List Lexeme) TextFault
 scan_expr d ts = parse_expr scanning_exprs sums (context d false true) ts >>= λ x. Ok x.1
 
--- the test takes the phrases of the symbol, and no other tokens
+-- the check accepts exactly the phrases of `x`
 abbrev pub TakesPhrases : Symbol → (ℕ → List Lexeme → Result (List Lexeme) TextFault) → Type 0
 TakesPhrases x scan = (d : ℕ) (ts rest : List Lexeme) → (scan d ts ≡ Ok rest) ↔ IsPhrase x d ts rest

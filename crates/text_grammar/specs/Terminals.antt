@@ -1,4 +1,4 @@
--- What a token is to the grammar.
+-- The terminals of the grammar that tokens are.
 use Rattle.std.specs.Prelude.{ℕ, ◌+◌, ◌-◌, ◌*◌, ◌^◌, List, [], ◌∷◌, length, Bool, false, not, ◌&&◌, if◌then◌else◌, nat_lt, codes, Option, Some, None}
 use Rattle.std.specs.Str.{bytes_eq}
 use Rattle.std.specs.List.{list_all}
@@ -41,7 +41,7 @@ symbol_terminal text =
     else if bytes_eq text (codes "^") then Separator Caret
     else Other
 
--- a keyword, or a name
+-- the terminal of a keyword or a name
 abbrev pub keyword_terminal : List ℕ → Terminal
 keyword_terminal text =
     if bytes_eq text (codes "true") then True
@@ -66,25 +66,25 @@ keyword_terminal text =
     else if bytes_eq text (codes "while") then Keyword word.While
     else Name
 
--- the value of decimal digits after the value so far
+-- the value of decimal digits that follow digits of value `n`
 abbrev pub value_from : ℕ → List ℕ → ℕ
 value_from n [] = n
 value_from n (c ∷ cs) = value_from (10 * n + (c - 48)) cs
 
--- ASCII digits, and at least one
+-- whether the text is a non-empty run of ASCII digits
 abbrev pub is_digits : List ℕ → Bool
 is_digits text = list_all is_ascii_digit text && nat_lt 0 (length text)
 
--- the value, where it is below 2^64
+-- the value if it is below 2^64
 abbrev pub small_number : List ℕ → Option ℕ
 small_number text = if nat_lt (value_from 0 text) (2 ^ 64) then Some (value_from 0 text) else None
 
--- the terminal of a number of this value
+-- the terminal of a number with this value
 abbrev pub numbered : Option ℕ → Terminal
 numbered None = WideNumber
 numbered (Some n) = Number n
 
--- the terminal of a number, by its text: `0` and `1` are told by their spelling
+-- the terminal of a number, by its text: only the spellings `0` and `1` give `Zero` and `One`
 abbrev pub number_terminal : List ℕ → Terminal
 number_terminal text =
     if bytes_eq text (codes "0") then Zero
@@ -98,12 +98,12 @@ terminal_of kind.Name text = keyword_terminal text
 terminal_of kind.Number text = number_terminal text
 terminal_of kind.Symbol text = symbol_terminal text
 
--- whether a token is this symbol
+-- whether a token is the symbol `symbol`
 abbrev pub is_symbol : List ℕ → Kind → List ℕ → Bool
 is_symbol symbol kind.Symbol text = bytes_eq text symbol
 is_symbol symbol _ text = false
 
--- whether the first token is this symbol
+-- whether the first token is the symbol `symbol`
 abbrev pub heads_symbol : List ℕ → List TokenParts → Bool
 heads_symbol symbol [] = false
 heads_symbol symbol (token_parts kind at text ∷ ms) = is_symbol symbol kind text

@@ -1,9 +1,9 @@
-//! Conditions.
+//! The condition parser.
 //!
-//! A `(` begins an expression or a condition, by the token after the parenthesis that matches it. It is found by a search
-//! ahead that counts parentheses and takes no memory. Only a `(` that may begin a condition is searched from, and none
-//! within an expression, so a token is passed over at most once for each `(` that is open there: at most 201 times, by
-//! the limit of depth.
+//! A `(` begins an expression or a condition; the token after the matching parenthesis decides. A forward search counts
+//! parentheses to find it, and takes no memory. The search begins only at a `(` that may begin a condition, never
+//! within an expression. So it passes a token at most once for each `(` that is open there, which is at most 201 times
+//! by the depth limit.
 ghost use Rattle.std.specs.Prelude.{◌≡◌, ℕ, ◌+◌, ◌<◌, ◌≤◌, length, drop, IfOk};
 ghost use Rattle.text_grammar.specs.Lexemes.{lexemes};
 ghost use Rattle.text_grammar.specs.Parsed.{Reads, Goes};
@@ -18,7 +18,8 @@ use crate::terminal::{
 use kat_model::Rel;
 use text_tokens::{TextFault, Token};
 
-// The index after the parenthesis that matches one just before `from`, or the number of tokens where there is none.
+// Returns the index after the parenthesis that matches one just before `from`, or the number of tokens if there is
+// none.
 #[tactic(auto, using(crate::proofs::Parentheses::match_closed, crate::proofs::Tokens::next_drop))]
 fn after_close(toks: &[Token], from: usize) -> usize
     ensures { drop result (lexemes toks.now) ≡ after_close 0 (drop from (lexemes toks.now)) }
@@ -74,7 +75,7 @@ fn comparison<R: Reading>(
     Ok((reading.compare(relation, left, right), end))
 }
 
-/// Reads the condition that begins at `from`, as [`crate::read_term`] reads a term.
+/// Reads the condition that begins at `from`, in the way that [`crate::read_term`] reads a term.
 pub fn read_cond<R: Reading>(
     reading: &R,
     toks: &[Token],

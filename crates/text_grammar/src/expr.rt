@@ -1,4 +1,4 @@
-//! Expressions.
+//! The expression parser.
 ghost use Rattle.std.specs.Prelude.{◌≡◌, ℕ, ◌+◌, ◌<◌, ◌≤◌, length, drop, IfOk};
 ghost use Rattle.text_grammar.specs.Lexemes.{lexemes};
 ghost use Rattle.text_grammar.specs.Parsed.{Reads, Goes};
@@ -17,7 +17,7 @@ fn operator_at(toks: &[Token], i: usize) -> Operator
     }
 }
 
-/// Reads the expression that begins at `from`, as [`crate::read_term`] reads a term.
+/// Reads the expression that begins at `from`, in the way that [`crate::read_term`] reads a term.
 pub fn read_expr<R: Reading>(
     reading: &R,
     toks: &[Token],

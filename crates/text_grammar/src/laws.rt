@@ -5,7 +5,7 @@ ghost use Rattle.text_grammar.specs.Phrases.{Symbol, term, cond, expr, Phrase, y
 ghost use Rattle.text_grammar.specs.Scans.{scan_term, scan_cond, scan_expr, TakesPhrases};
 ghost use Rattle.text_grammar.specs.Ends.{Ends, TakesGrammar};
 
-/// The test of the syntax takes just the phrases of the grammar that are as long as they can be, nest at most 200
+/// The syntax check accepts exactly the phrases of the grammar that are as long as possible, nest at most 200
 /// constructs and have no number of 2^64 or more.
 pub fn grammar_is_scanned()
     ensures terms { TakesPhrases term scan_term }
@@ -13,8 +13,8 @@ pub fn grammar_is_scanned()
     ensures exprs { TakesPhrases expr scan_expr }
 {}
 
-/// Where the token that follows goes on with no phrase of the symbol, each phrase before it is as long as it can be,
-/// and the test takes just the phrases of the grammar with its two rules on conditions.
+/// If the token that follows cannot continue a phrase of the symbol, each phrase before it is as long as possible, and
+/// the syntax check accepts exactly the phrases of the grammar that obey its two rules on conditions and its limits.
 pub fn phrases_end()
     ensures longest { (x : Symbol) (p : Phrase x) (ts : List Lexeme) → Ends x ts → IsLongest p ts }
     ensures terms { TakesGrammar term scan_term }
@@ -22,7 +22,7 @@ pub fn phrases_end()
     ensures exprs { TakesGrammar expr scan_expr }
 {}
 
-/// Tokens begin with one phrase of a symbol at most that is as long as it can be: the grammar is not ambiguous.
+/// The grammar is unambiguous: tokens begin with at most one phrase of a symbol that is as long as possible.
 pub fn phrases_are_unique()
     ensures { (x : Symbol) (p q : Phrase x) (r s : List Lexeme) → yield_before p r ≡ yield_before q s → MeetsLookahead p r → MeetsLookahead q s → IsLongest p r → IsLongest q s → (p ≡ q) × (r ≡ s) }
 {}

@@ -1,5 +1,5 @@
-//! The grammar of terms, conditions and expressions: what a token is to it, where a phrase ends, and one way to read
-//! phrases that callers make into whatever they need ([`Reading`]).
+//! The grammar of terms, conditions and expressions: the terminals of tokens, where a phrase ends, and a parser whose
+//! callers supply the semantic actions ([`Reading`]).
 #![tactic(auto)]
 
 mod cond;

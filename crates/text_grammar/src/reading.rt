@@ -1,4 +1,4 @@
-//! What is made of the parts of a phrase while it is read.
+//! The semantic actions of the parser.
 ghost use Rattle.std.specs.Prelude.{◌≡◌, ℕ, Ok, false};
 ghost use Rattle.text_grammar.specs.Parsed.{Makes};
 ghost use Rattle.text_grammar.specs.Actions.{Actions, context, enter, enter_not};
@@ -6,7 +6,7 @@ ghost use Rattle.text_grammar.specs.Actions.{Actions, context, enter, enter_not}
 use kat_model::{MAX_OPEN, Rel};
 use text_tokens::TextFault;
 
-/// An operation on numbers. Lists of operations group to the left.
+/// An operation on numbers. A list of operations groups to the left.
 #[derive(Clone, Copy, Debug, PartialEq, Eq)]
 pub enum Operator {
     /// `+`
@@ -17,19 +17,19 @@ pub enum Operator {
     Multiply,
 }
 
-/// What is known of a place from what is around it.
+/// The context of a place in the text.
 #[derive(Clone, Copy, Debug, PartialEq, Eq)]
 pub struct Context {
-    /// How many constructs are open: each `(`, `[` or `{` that is not closed yet, and each `!` whose operand is read.
+    /// The number of open constructs: each unclosed `(`, `[` or `{`, and each `!` whose operand is being read.
     pub depth: usize,
     /// Whether the place is in the operand of a `!`.
     pub negated: bool,
-    /// Whether comparisons may stand here. The reading of syntax does not ask; actions may.
+    /// Whether comparisons are allowed here. The parser ignores this; actions may use it.
     pub compares: bool,
 }
 
 impl Context {
-    /// What is known outside of a `!`, with `depth` constructs open.
+    /// Returns the context outside of every `!`, with `depth` open constructs.
     pub fn outermost(depth: usize, compares: bool) -> Context
         ensures { result ≡ context depth false compares }
     {
@@ -40,8 +40,8 @@ impl Context {
         }
     }
 
-    /// What is known inside a parenthesis or bracket that opens at the place `at`. `TooDeep` with that place comes
-    /// exactly where 200 or more constructs are open already.
+    /// Returns the context inside a parenthesis or bracket that opens at place `at`. Fails with `TooDeep` at that place
+    /// if and only if 200 or more constructs are open already.
     pub fn enter(self, at: usize) -> Result<Context, TextFault>
         ensures { result ≡ enter self at }
     {
@@ -55,7 +55,7 @@ impl Context {
         })
     }
 
-    /// What is known in the operand of a `!` at the place `at`, with `TooDeep` as for a bracket.
+    /// Returns the context of the operand of a `!` at place `at`. Fails like [`Context::enter`].
     pub fn enter_not(self, at: usize) -> Result<Context, TextFault>
         ensures { result ≡ enter_not self at }
     {
@@ -67,22 +67,22 @@ impl Context {
     }
 }
 
-/// What is made of the parts of a phrase while it is read: the methods are called for the parts in text order, each
-/// with what was made of the parts within it. A part that is refused ends the reading with that fault; only numbers,
-/// names and stars can be refused. Places are in bytes of the text.
+/// The semantic actions of the parser. It calls the methods for the parts of a phrase in text order, each with the
+/// results for its inner parts. A part that a method rejects ends the parse with that fault; only numbers, names and
+/// stars can be rejected. Places are in bytes of the text.
 ///
-/// Contracts see what is made through `expr`, `cond`, `conds`, `term` and `terms`, and the methods as `actions`.
-/// `memory` is what may be said where a method answers `NoMemory`: `⊥` where none does.
+/// Contracts describe results through `expr`, `cond`, `conds`, `term` and `terms`, and the methods through `actions`.
+/// `memory` is what holds when a method returns `NoMemory`: `⊥` if none does.
 pub trait Reading {
-    /// What is made of an expression.
+    /// The result for an expression.
     type Expr: Drop;
-    /// What is made of a condition.
+    /// The result for a condition.
     type Cond: Drop;
-    /// What is made of a list of conditions.
+    /// The result for a list of conditions.
     type Conds: Drop;
-    /// What is made of a term.
+    /// The result for a term.
     type Term: Drop;
-    /// What is made of a list of terms.
+    /// The result for a list of terms.
     type Terms: Drop;
 
     ghost E: { Type 0 };
@@ -109,15 +109,15 @@ pub trait Reading {
 
     ghost actions: { Self → Actions E B L T M };
 
-    /// The number `n` in an expression.
+    /// Makes the expression of the number `n`.
     fn number(&self, context: Context, at: usize, n: u64) -> Result<Self::Expr, TextFault>
         ensures { Makes memory expr result ((actions self.now).conds.exprs.number context at n) };
 
-    /// A name in an expression.
+    /// Makes the expression of a name.
     fn variable(&self, context: Context, at: usize, name: &str) -> Result<Self::Expr, TextFault>
         ensures { Makes memory expr result ((actions self.now).conds.exprs.variable context at name.now) };
 
-    /// Two expressions with an operator between them.
+    /// Joins two expressions by the operator between them.
     fn join(
         &self,
         operator: Operator,
@@ -126,75 +126,75 @@ pub trait Reading {
     ) -> Result<Self::Expr, TextFault>
         ensures { Makes memory expr result (Ok ((actions self.now).conds.exprs.join operator (expr left) (expr right))) };
 
-    /// An expression in parentheses.
+    /// Encloses an expression in parentheses.
     fn enclosed_expr(&self, inside: Self::Expr) -> Self::Expr
         ensures { expr result ≡ (actions self.now).conds.exprs.enclosed (expr inside) };
 
-    /// The condition `true`.
+    /// Makes the condition `true`.
     fn always(&self) -> Self::Cond
         ensures { cond result ≡ (actions self.now).conds.always };
 
-    /// The condition `false`.
+    /// Makes the condition `false`.
     fn never(&self) -> Self::Cond
         ensures { cond result ≡ (actions self.now).conds.never };
 
-    /// A name that is a condition by itself.
+    /// Makes the condition of a name that is a condition by itself.
     fn named_cond(&self, context: Context, at: usize, name: &str) -> Result<Self::Cond, TextFault>
         ensures { Makes memory cond result ((actions self.now).conds.named context at name.now) };
 
-    /// Two expressions with a relation between them.
+    /// Compares two expressions by the relation between them.
     fn compare(&self, relation: Rel, left: Self::Expr, right: Self::Expr) -> Self::Cond
         ensures { cond result ≡ (actions self.now).conds.compare relation (expr left) (expr right) };
 
-    /// The complement of a condition.
+    /// Complements a condition.
     fn negated_cond(&self, operand: Self::Cond) -> Result<Self::Cond, TextFault>
         ensures { Makes memory cond result (Ok ((actions self.now).conds.negated (cond operand))) };
 
-    /// A condition in parentheses.
+    /// Encloses a condition in parentheses.
     fn enclosed_cond(&self, inside: Self::Cond) -> Self::Cond
         ensures { cond result ≡ (actions self.now).conds.enclosed (cond inside) };
 
-    /// A list of one condition.
+    /// Makes a list of one condition.
     fn one_cond(&self, first: Self::Cond) -> Result<Self::Conds, TextFault>
         ensures { Makes memory conds result (Ok ((actions self.now).conds.one_of (cond first))) };
 
-    /// A list and one condition more.
+    /// Appends a condition to a list.
     fn more_conds(&self, list: Self::Conds, next: Self::Cond) -> Result<Self::Conds, TextFault>
         ensures { Makes memory conds result (Ok ((actions self.now).conds.more (conds list) (cond next))) };
 
-    /// The conjunction of a list.
+    /// Makes the conjunction of a list.
     fn all(&self, list: Self::Conds) -> Result<Self::Cond, TextFault>
         ensures { Makes memory cond result (Ok ((actions self.now).conds.all (conds list))) };
 
-    /// The disjunction of a list.
+    /// Makes the disjunction of a list.
     fn any(&self, list: Self::Conds) -> Result<Self::Cond, TextFault>
         ensures { Makes memory cond result (Ok ((actions self.now).conds.any (conds list))) };
 
-    /// The term `0`.
+    /// Makes the term `0`.
     fn zero(&self) -> Self::Term
         ensures { term result ≡ (actions self.now).zero };
 
-    /// The term `1`.
+    /// Makes the term `1`.
     fn one(&self) -> Self::Term
         ensures { term result ≡ (actions self.now).one };
 
-    /// A name in a term.
+    /// Makes the term of a name.
     fn named_term(&self, context: Context, at: usize, name: &str) -> Result<Self::Term, TextFault>
         ensures { Makes memory term result ((actions self.now).named context at name.now) };
 
-    /// The complement of a term.
+    /// Complements a term.
     fn negated_term(&self, operand: Self::Term) -> Result<Self::Term, TextFault>
         ensures { Makes memory term result (Ok ((actions self.now).negated (term operand))) };
 
-    /// A condition in brackets, which is a term.
+    /// Makes the term of a condition in brackets.
     fn tested(&self, inside: Self::Cond) -> Result<Self::Term, TextFault>
         ensures { Makes memory term result (Ok ((actions self.now).tested (cond inside))) };
 
-    /// A term in parentheses.
+    /// Encloses a term in parentheses.
     fn enclosed_term(&self, inside: Self::Term) -> Self::Term
         ensures { term result ≡ (actions self.now).enclosed (term inside) };
 
-    /// The star of a term, with the place of its `*`.
+    /// Makes the star of a term. The place is that of the `*`.
     fn starred(
         &self,
         context: Context,
@@ -203,19 +203,19 @@ pub trait Reading {
     ) -> Result<Self::Term, TextFault>
         ensures { Makes memory term result ((actions self.now).starred context at (term operand)) };
 
-    /// A list of one term.
+    /// Makes a list of one term.
     fn one_term(&self, first: Self::Term) -> Result<Self::Terms, TextFault>
         ensures { Makes memory terms result (Ok ((actions self.now).one_of (term first))) };
 
-    /// A list and one term more.
+    /// Appends a term to a list.
     fn more_terms(&self, list: Self::Terms, next: Self::Term) -> Result<Self::Terms, TextFault>
         ensures { Makes memory terms result (Ok ((actions self.now).more (terms list) (term next))) };
 
-    /// The sum of a list.
+    /// Makes the sum of a list.
     fn sum(&self, list: Self::Terms) -> Result<Self::Term, TextFault>
         ensures { Makes memory term result (Ok ((actions self.now).sum (terms list))) };
 
-    /// The product of a list.
+    /// Makes the product of a list.
     fn product(&self, list: Self::Terms) -> Result<Self::Term, TextFault>
         ensures { Makes memory term result (Ok ((actions self.now).product (terms list))) };
 }

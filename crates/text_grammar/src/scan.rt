@@ -1,4 +1,4 @@
-//! The test of the syntax, which takes no memory.
+//! The syntax check, which takes no memory.
 ghost use Rattle.std.specs.Prelude.{◌≡◌, ℕ, ◌+◌, ◌<◌, ◌≤◌, length, drop, IfOk, IfErr, false, true};
 ghost use Rattle.text_grammar.specs.Lexemes.{lexemes};
 ghost use Rattle.text_grammar.specs.Parsed.{Wants};
@@ -12,7 +12,7 @@ use crate::term::read_term;
 use kat_model::Rel;
 use text_tokens::{TextFault, Token};
 
-/// The reading that makes nothing and refuses no part: what is read by it tells only whether the syntax is right.
+/// The actions that make nothing and accept every part. A parse with them only checks the syntax.
 pub struct Scan;
 
 impl Reading for Scan {
@@ -135,9 +135,10 @@ impl Reading for Scan {
     }
 }
 
-/// The index after the term that begins at `from`, with `depth` constructs open around it; or `Syntax`, `TooDeep` or
-/// `NumberTooWide`, whichever is met first, with the place in bytes of its token. A `Syntax` after the last token has the
-/// place `usize::MAX`. It takes no memory, and time in proportion to the number of tokens.
+/// Returns the index after the term that begins at `from`, with `depth` open constructs around it. Otherwise returns
+/// the first fault, which is `Syntax`, `TooDeep` or `NumberTooWide`, with the place of its token in bytes. A `Syntax`
+/// fault after the last token has the place `usize::MAX`. Takes no memory, and time proportional to the number of
+/// tokens.
 pub fn term_end(toks: &[Token], from: usize, depth: usize) -> Result<usize, TextFault>
     ensures value { Wants (lexemes toks.now) result (scan_term depth (drop from (lexemes toks.now))) }
     ensures goes { IfOk result (λ end. (from < end) × (end ≤ length toks.now)) }
@@ -147,7 +148,7 @@ pub fn term_end(toks: &[Token], from: usize, depth: usize) -> Result<usize, Text
     Ok(end)
 }
 
-/// The index after the condition that begins at `from`, as `term_end` for a term.
+/// Returns the index after the condition that begins at `from`, like `term_end` for a term.
 pub fn cond_end(toks: &[Token], from: usize, depth: usize) -> Result<usize, TextFault>
     ensures value { Wants (lexemes toks.now) result (scan_cond depth (drop from (lexemes toks.now))) }
     ensures goes { IfOk result (λ end. (from < end) × (end ≤ length toks.now)) }
@@ -157,7 +158,7 @@ pub fn cond_end(toks: &[Token], from: usize, depth: usize) -> Result<usize, Text
     Ok(end)
 }
 
-/// The index after the expression that begins at `from`, as `term_end` for a term.
+/// Returns the index after the expression that begins at `from`, like `term_end` for a term.
 pub fn expr_end(toks: &[Token], from: usize, depth: usize) -> Result<usize, TextFault>
     ensures value { Wants (lexemes toks.now) result (scan_expr depth (drop from (lexemes toks.now))) }
     ensures goes { IfOk result (λ end. (from < end) × (end ≤ length toks.now)) }

@@ -1,4 +1,4 @@
-//! Terms.
+//! The term parser.
 ghost use Rattle.std.specs.Prelude.{◌≡◌, ℕ, ◌+◌, ◌<◌, ◌≤◌, length, drop, IfOk};
 ghost use Rattle.text_grammar.specs.Lexemes.{lexemes};
 ghost use Rattle.text_grammar.specs.Parsed.{Reads, Goes};
@@ -9,10 +9,10 @@ use crate::reading::{Context, Reading};
 use crate::terminal::{Terminal, expect, is_at, syntax_fault_at, terminal_at, text_at};
 use text_tokens::{TextFault, Token};
 
-/// Reads the term that begins at `from`: what the reading makes of it, and the index after it. Otherwise the fault that
-/// comes first in the text: `Syntax` at the token that cannot stand there (the place `usize::MAX` after the last token),
-/// `TooDeep` at the token with which more than 200 constructs are open, `NumberTooWide` at a number of 2^64 or more, or
-/// that with which the reading refuses a part. `NoMemory` comes from the reading alone.
+/// Reads the term that begins at `from`. Returns the result of the actions and the index after the term, or the first
+/// fault in the text: `Syntax` at a token that is not allowed there (with the place `usize::MAX` after the last token),
+/// `TooDeep` at a token that takes the number of open constructs beyond 200, `NumberTooWide` at a number of 2^64 or
+/// more, or the fault with which an action rejects a part. Only an action fails with `NoMemory`.
 pub fn read_term<R: Reading>(
     reading: &R,
     toks: &[Token],

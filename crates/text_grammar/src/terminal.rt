@@ -1,4 +1,4 @@
-//! What a token is to the grammar.
+//! The terminals of the grammar that tokens are.
 ghost use Rattle.std.specs.Prelude.{◌≡◌, ℕ, ◌+◌, ◌<◌, [], ◌∷◌, length, drop, slice_get, IsTrue, IfOk, true};
 ghost use Rattle.std.specs.List.{list_all};
 ghost use Rattle.std.specs.Char.{is_ascii_digit};
@@ -11,7 +11,7 @@ ghost use Rattle.text_grammar.specs.Parsed.{place_of, Wants, wants};
 use kat_model::Rel;
 use text_tokens::{Kind, TextFault, Token};
 
-/// A word that names nothing, spelled as its variant in lower case. `true` and `false` are [`Terminal::True`] and [`Terminal::False`].
+/// A keyword, spelled as its variant in lower case. `true` and `false` are [`Terminal::True`] and [`Terminal::False`].
 #[derive(Clone, Copy, Debug, PartialEq, Eq)]
 pub enum Keyword {
     Test,
@@ -34,7 +34,7 @@ pub enum Keyword {
     While,
 }
 
-/// A symbol that stands between phrases and in none.
+/// A symbol that occurs between phrases, never in one.
 #[derive(Clone, Copy, Debug, PartialEq, Eq)]
 pub enum Separator {
     /// `,`
@@ -53,7 +53,7 @@ pub enum Separator {
     Caret,
 }
 
-/// What a token is to the grammar. Numbers are told apart by what the grammar asks of them.
+/// The terminal of a token. Numbers have several terminals, as far as the grammar distinguishes them.
 #[derive(Clone, Copy, Debug, PartialEq, Eq)]
 pub enum Terminal {
     /// `(`
@@ -80,11 +80,11 @@ pub enum Terminal {
     Or,
     /// `==`, `!=`, `<`, `<=`, `>` or `>=`.
     Compares(Rel),
-    /// The number `0`, spelled so: in a term, the term 0.
+    /// The spelling `0` of a number; in a term, the term 0.
     Zero,
-    /// The number `1`, spelled so: in a term, the term 1.
+    /// The spelling `1` of a number; in a term, the term 1.
     One,
-    /// Any other number below 2^64, `00` and `01` among them.
+    /// Any other number below 2^64, including the spellings `00` and `01`.
     Number(u64),
     /// A number of 2^64 or more.
     WideNumber,
@@ -92,17 +92,17 @@ pub enum Terminal {
     True,
     /// The keyword `false`.
     False,
-    /// A name that is no keyword.
+    /// A name that is not a keyword.
     Name,
     /// Any other keyword.
     Keyword(Keyword),
-    /// A symbol that stands in no phrase.
+    /// A symbol that occurs in no phrase.
     Separator(Separator),
-    /// No token of the format: texts cut by [`text_tokens::tokens`] have none.
+    /// Not a token of the format; never occurs in texts cut by [`text_tokens::tokens`].
     Other,
 }
 
-// A text is matched by its bytes, here and below, since a match on strings compares it with each of them in turn.
+// Matches the bytes of the text, here and below: a match on strings would compare the text with each string in turn.
 fn symbol_terminal(text: &str) -> Terminal
     ensures { result ≡ symbol_terminal text.now }
 {
@@ -199,7 +199,7 @@ fn number_terminal(text: &str) -> Terminal
     }
 }
 
-/// What the token is to the grammar, by its kind and text.
+/// Returns the terminal of the token, by its kind and text.
 pub fn terminal_of(token: &Token) -> Terminal
     ensures { result ≡ terminal_of token.now.kind token.now.text.now }
 {
@@ -210,7 +210,7 @@ pub fn terminal_of(token: &Token) -> Terminal
     }
 }
 
-/// The terminal and the place in bytes of the token at an index, where there is one.
+/// Returns the terminal and the place in bytes of the token at index `i`, or `None` if there is no token.
 pub fn terminal_at(toks: &[Token], i: usize) -> Option<(Terminal, usize)>
     ensures { Sees result toks.now i }
 {
@@ -220,7 +220,7 @@ pub fn terminal_at(toks: &[Token], i: usize) -> Option<(Terminal, usize)>
     }
 }
 
-/// The place in bytes of the token at an index, or `usize::MAX` after the last.
+/// Returns the place in bytes of the token at index `i`, or `usize::MAX` after the last token.
 pub fn place_at(toks: &[Token], i: usize) -> usize
     ensures { result ≡ place_of (drop i (lexemes toks.now)) }
 {
@@ -230,7 +230,8 @@ pub fn place_at(toks: &[Token], i: usize) -> usize
     }
 }
 
-/// The fault of a token at an index that cannot be there: `Syntax` with its place, or `usize::MAX` after the last.
+/// Returns the fault of a token at index `i` that is not allowed there: `Syntax` with its place, or with `usize::MAX`
+/// after the last token.
 pub fn syntax_fault_at(toks: &[Token], i: usize) -> TextFault
     ensures { result ≡ Syntax (place_of (drop i (lexemes toks.now))) }
 {
@@ -243,8 +244,8 @@ fn is_symbol(token: &Token, symbol: u8) -> bool
     matches!(token.kind, Kind::Symbol) && matches!(token.text.as_bytes(), [byte] if *byte == symbol)
 }
 
-// Whether the token at an index is this symbol of one byte. It is told by that byte alone, since the search for a
-// parenthesis asks it of a token once for each level.
+// Whether the token at index `i` is this symbol of one byte. Compares only that byte, since the search for a
+// parenthesis checks a token once for each level.
 fn is_symbol_at(toks: &[Token], i: usize, symbol: u8) -> bool
     ensures { result ≡ heads_symbol (symbol ∷ []) (drop i (parts_of_tokens toks.now)) }
 {
@@ -272,7 +273,7 @@ fn is_terminal(wanted: Terminal, terminal: Terminal) -> bool
     wanted == terminal
 }
 
-/// Whether the token at an index is this terminal.
+/// Whether the token at index `i` is this terminal.
 pub fn is_at(toks: &[Token], i: usize, terminal: Terminal) -> bool
     ensures value { result ≡ heads (is_terminal terminal) (drop i (lexemes toks.now)) }
     ensures within { IsTrue result → i < length toks.now }
@@ -280,7 +281,7 @@ pub fn is_at(toks: &[Token], i: usize, terminal: Terminal) -> bool
     matches!(terminal_at(toks, i), Some((found, _)) if is_terminal(terminal, found))
 }
 
-/// Whether the token at an index is `+` or `-`.
+/// Whether the token at index `i` is `+` or `-`.
 pub fn is_sum_at(toks: &[Token], i: usize) -> bool
     ensures value { result ≡ heads is_sum (drop i (lexemes toks.now)) }
     ensures within { IsTrue result → i < length toks.now }
@@ -291,8 +292,8 @@ pub fn is_sum_at(toks: &[Token], i: usize) -> bool
     )
 }
 
-/// The index after a token at `i` that has to be this terminal. `Syntax` comes exactly where it is not, with the place of
-/// the token that is there, or `usize::MAX` after the last.
+/// Returns the index after the token at `i`, which must be this terminal. Otherwise fails with `Syntax` at the place of
+/// that token, or at `usize::MAX` after the last token.
 #[tactic(auto, using(crate::proofs::Tokens::heads_wants, crate::proofs::Tokens::other_wants, crate::proofs::Tokens::next_drop))]
 pub fn expect(toks: &[Token], i: usize, terminal: Terminal) -> Result<usize, TextFault>
     ensures value { Wants (lexemes toks.now) result (wants (is_terminal terminal) (drop i (lexemes toks.now))) }
@@ -304,7 +305,7 @@ pub fn expect(toks: &[Token], i: usize, terminal: Terminal) -> Result<usize, Tex
     Ok(i + 1)
 }
 
-/// The text of the token at an index, empty where there is no token.
+/// Returns the text of the token at index `i`, or an empty text if there is no token.
 pub fn text_at<'a>(toks: &[Token<'a>], i: usize) -> &'a str
     ensures { result.now ≡ text_at toks.now i }
 {

@@ -1,4 +1,4 @@
--- The parentheses of a phrase match within it.
+-- The parentheses of a phrase are balanced.
 use Rattle.std.proofs.Common.{◌≡◌, ◌+◌, ◌-◌, ℕ, List, Bool, true, false, refl, ap, ◌∙◌, arith}
 use Rattle.kat_model.specs.declared.expression.Rel.{Rel}
 use Rattle.text_grammar.specs.declared.terminal.Terminal.{Terminal}
@@ -23,7 +23,7 @@ sum_passed : (n : ℕ) (minus : Bool) (l : Leaf) (ts : List Lexeme) → after_cl
 sum_passed n true l ts = other n Minus l ts refl refl
 sum_passed n false l ts = other n Plus l ts refl refl
 
--- the search for a parenthesis passes a phrase
+-- the search for a matching parenthesis skips a phrase
 pub passed : {x : Symbol} (p : Phrase x) (n : ℕ) (ts : List Lexeme) → after_close n (yield_before p ts) ≡ after_close n ts
 passed (one_prod p) n ts = passed p n ts
 passed (more_prods p l t) n ts = passed p n (cons_token Plus l (yield_before t ts)) ∙ other n Plus l (yield_before t ts) refl refl ∙ passed t n ts

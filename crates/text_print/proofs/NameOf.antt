@@ -1,4 +1,4 @@
--- The name that a world has for a meaning.
+-- The name of a meaning in a scope.
 use Rattle.std.proofs.Common.{◌≡◌, ℕ, List, [], ◌∷◌, map, Bool, true, false, cond, Option, Some, None, refl, sym, ap, ◌∙◌, subst, inl, inr}
 use Rattle.std.proofs.lemmas.Bool.{cases_Bool, both_ways}
 use Rattle.std.proofs.lemmas.Option.{none-some}
@@ -31,7 +31,7 @@ module _ (w : ScopeParts) (m : Meaning) where
   chosen true x y f g = f refl
   chosen false x y f g = g refl
 
-  -- an entry that is passed over is not the one that is sought
+  -- an entry with another meaning is not the entry of a name of `m`
   later : (name : List ℕ) (x : List ℕ × Meaning) (es : List (List ℕ × Meaning)) → find (slice_cmp nat_cmp) name (x ∷ es) ≡ Some m → Means w name m → is_meant m (meaning w x.0) ≡ false → find (slice_cmp nat_cmp) name es ≡ Some m
   later name x es e h f =
       elim (cases_Bool (eq_by_cmp (slice_cmp nat_cmp) name x.0)) [
@@ -41,7 +41,7 @@ module _ (w : ScopeParts) (m : Meaning) where
         | inr q ↦ subst (λ (b : Bool). cond b (Some x.1) (find (slice_cmp nat_cmp) name es) ≡ Some m) q e
       ]
 
-  -- where some name stands for it, the one that is found does
+  -- if some name denotes `m`, the first name found denotes it
   found : (name : List ℕ) (es : List (List ℕ × Meaning)) → find (slice_cmp nat_cmp) name es ≡ Some m → Means w name m → Means w (first_name w m (map (λ e. e.0) es)) m
   found name [] e h = absurd (none-some m e)
   found name (x ∷ es) e h =
@@ -60,7 +60,7 @@ module _ (w : ScopeParts) (m : Meaning) where
   pub name_stands : (name : List ℕ) → Means w name m → Means w (name_of w m) m
   name_stands name h = found name (entries w.meanings) (sym (get-entries w.meanings name) ∙ h) h
 
-  -- the one name is the one that is found
+  -- the only name of a meaning is the one found
   pub name_is : (name : List ℕ) → IsNameOf w name m → name ≡ name_of w m
   name_is name h = sym (h.only (name_of w m) (name_stands name h.means))
 

@@ -8,7 +8,7 @@ use Rattle.text_tokens.specs.Pieces.{Piece, symbol, gap, spelled}
 use Rattle.text_scopes.specs.declared.meaning.Meaning.{Meaning}
 use Rattle.text_print.specs.Printing.{relation_text, cond_of, is_star, expr_text, cond_text, test_text, term_text, in_round, spaced, expr_pieces, cond_pieces, test_pieces, term_pieces}
 
--- the pieces spell a text, and go on
+-- the pieces spell `text` before the pieces that follow
 abbrev Spell : (List Piece → List Piece) → List ℕ → Type 0
 Spell pieces text = (ps : List Piece) → spelled (pieces ps) ≡ text ++ spelled ps
 
@@ -18,7 +18,7 @@ spaced_spell between left right x y f g ps =
     (f (gap 32 ∷ symbol between ∷ gap 32 ∷ right (symbol (codes ")") ∷ ps))
     ∙ ap (λ (l : List ℕ). x ++ (32 ∷ (between ++ (32 ∷ l)))) (g (symbol (codes ")") ∷ ps)))
 
--- the text with its parts from the right
+-- the text, grouped to the right
 regrouped : (x m y r : List ℕ) → codes "(" ++ x ++ m ++ y ++ codes ")" ++ r ≡ 40 ∷ (x ++ (m ++ (y ++ (41 ∷ r))))
 regrouped x m y r = simp append_assoc
 
@@ -71,7 +71,7 @@ module _ (names : Meaning → List ℕ) where
       ∙ sym (regrouped (term_text names e) (codes ".") (term_text names f) (spelled ps))
   term_spells (star e) ps = star_spells (is_star e) (term_pieces names e) (term_text names e) (term_spells e) ps
 
-  -- what is written onto nothing
+  -- a text written to an empty buffer is spelled by the pieces
   pub term_printed : (e : Term) (old new : List ℕ) → old ≡ [] → new ≡ old ++ term_text names e → new ≡ spelled (term_pieces names e [])
   term_printed e old new h k = k ∙ ap (λ (l : List ℕ). l ++ term_text names e) h ∙ sym (term_spells e [] ∙ append-nil (term_text names e))
 

@@ -1,4 +1,4 @@
--- A printed condition begins with a literal of its tree.
+-- A printed condition is a literal with the same tree.
 use Rattle.std.proofs.Common.{◌≡◌, ◌<◌, ◌≤◌, ◌+◌, ℕ, List, ◌∷◌, length, true, false, Ok, refl, sym, ap, ◌∙◌, subst, arith}
 use Rattle.std.proofs.lemmas.Bool.{or_left, or_right}
 use Rattle.std.specs.Prelude.{codes}
@@ -30,7 +30,7 @@ module _ (w : ScopeParts) where
     pub fits : (d : ℕ) → d + cond_nesting b ≤ 200 → IsWithinLimits d p
     pub deep : nesting w p ≡ cond_nesting b
 
-  -- the token that follows makes no expression of what is before it
+  -- the next token does not make an expression of what precedes it
   abbrev pub EndsCond : List Piece → Type 0
   EndsCond ps = (at : ℕ) → begins_expr (lexemes_from at ps) ≡ false
 

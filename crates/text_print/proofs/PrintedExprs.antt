@@ -1,4 +1,4 @@
--- A printed expression begins with a factor of its tree.
+-- A printed expression is a factor with the same tree.
 use Rattle.std.proofs.Common.{◌≡◌, ◌<◌, ◌≤◌, ◌+◌, ◌^◌, ℕ, max, List, ◌∷◌, length, Bool, true, false, Ok, refl, sym, ap, ◌∙◌, subst, inl, inr, arith}
 use Rattle.std.proofs.lemmas.Bool.{cases_eq}
 use Rattle.std.specs.Prelude.{codes}
@@ -22,7 +22,7 @@ use Rattle.text_print.proofs.WordTerminals.{name_terminal, zero_written, one_wri
 use Rattle.text_print.proofs.PrintedPhrases.{lexemes_from, leaf, Begins, enters, after_left, spaced_spelled, spaced_obeys}
 
 module _ (w : ScopeParts) where
-  -- the phrase has that tree, and is as deep
+  -- the phrase has tree `e` and the nesting of its text
   pub record IsExprOf (e : ExprTree) (p : Phrase fac) : Type 0 where
     pub tree : (c : Context) → c.depth + expr_nesting e ≤ 200 → fold (trees w) c p ≡ Ok e
     pub sound : (c : Context) → c.compares ≡ true → IsSound w c p
@@ -87,7 +87,7 @@ module _ (w : ScopeParts) where
   }
 
   module _ (names : Meaning → List ℕ) where
-    -- each piece list begins with a phrase of the tree that it prints
+    -- the pieces of an expression begin with a phrase of its tree
     pub expr_back : (e : ExprTree) → ExprIsNamed w names e → (at : ℕ) (ps : List Piece) → Begins fac (IsExprOf e) at (expr_pieces names e ps) ps
     expr_back (number n) is at ps = number_back n at ps is
     expr_back (variable k) is at ps = variable_back (names (Var k)) k at ps is

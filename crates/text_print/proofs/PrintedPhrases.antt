@@ -1,4 +1,4 @@
--- Pieces begin with a phrase, and go on with others.
+-- Pieces that begin with a phrase and continue with others.
 use Rattle.std.proofs.Common.{◌≡◌, ◌<◌, ◌+◌, ℕ, List, ◌∷◌, length, map, Ok, refl, ap, ◌∙◌, subst}
 use Rattle.std.proofs.lemmas.Bool.{lt-ltb}
 use Rattle.std.specs.Prelude.{codes}
@@ -19,7 +19,7 @@ lexemes_from at ps = map lexeme_of (parts_from at ps)
 abbrev pub leaf : ℕ → List ℕ → Leaf
 leaf at text = record { at = at; text = text }
 
--- the pieces begin with a phrase of which P holds, and go on with others
+-- the pieces `qs` begin with a phrase that satisfies `P` and continue with `ps`
 pub record Begins (x : Symbol) (P : Phrase x → Type 0) (at : ℕ) (qs ps : List Piece) : Type 0 where
   pub phrase : Phrase x
   pub end : ℕ

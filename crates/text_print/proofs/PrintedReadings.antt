@@ -1,4 +1,4 @@
--- What is printed within the limits reads back.
+-- A text printed within the limits reads back as the same tree.
 use Rattle.std.proofs.Common.{◌≡◌, ◌≤◌, ◌+◌, ℕ, List, [], ◌∷◌, length, Bool, true, false, Result, Ok, Err, IsOk, refl, sym, ap, ◌∙◌, arith}
 use Rattle.std.proofs.lemmas.Bool.{le-ltb}
 use Rattle.kat_model.specs.Trees.{Term, term_size}

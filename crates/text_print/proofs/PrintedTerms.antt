@@ -1,4 +1,4 @@
--- A printed term begins with a phrase of its tree.
+-- A printed term is a phrase with the same tree.
 use Rattle.std.proofs.Common.{◌≡◌, ◌<◌, ◌≤◌, ◌+◌, ℕ, max, List, ◌∷◌, length, false, cond, Some, Ok, refl, sym, ap, ◌∙◌, subst, arith}
 use Rattle.std.proofs.lemmas.Bool.{both_ways, or_from}
 use Rattle.std.specs.Prelude.{codes}
@@ -40,7 +40,7 @@ no_comparison (meet b c) = or_from (has_comparison (cond_of b)) (has_comparison 
 no_comparison (join b c) = or_from (has_comparison (cond_of b)) (has_comparison (cond_of c)) (no_comparison b) (no_comparison c)
 
 module _ (w : ScopeParts) where
-  -- the phrase has that tree, and is so deep
+  -- the phrase has tree `e` and nesting `n`
   pub record IsTermOf (e : Term) (n : ℕ) (p : Phrase star) : Type 0 where
     pub tree : (c : Context) → c.depth + n ≤ 200 → fold (trees w) c p ≡ Ok e
     pub sound : (c : Context) → c.negated ≡ false → IsSound w c p
@@ -196,7 +196,7 @@ module _ (w : ScopeParts) where
           holds = product_holds e f n k a.phrase b.phrase _ _ _ a.holds b.holds;
         }
 
-    -- the operand of a star, which is in parentheses where it is one
+    -- the operand of a star, in parentheses if it is a star itself
     abbrev operand_pieces : Term → List Piece → List Piece
     operand_pieces e ps = cond (is_star e) (in_round (term_pieces names e) ps) (term_pieces names e ps)
 

@@ -1,4 +1,4 @@
--- The pieces of a printed phrase are tokens that do not go on in the next.
+-- The pieces of a printed phrase are tokens that the following pieces do not extend.
 use Rattle.std.proofs.Common.{◌≡◌, ◌<◌, ◌≤◌, ℕ, List, [], ◌∷◌, ◌++◌, length, Bool, true, false, cond, refl, sym, ap, ◌∙◌, subst, inl, inr, arith}
 use Rattle.std.proofs.lemmas.Bool.{cases_lt, ne_eqb}
 use Rattle.std.proofs.lemmas.Str.{encode_ascii}
@@ -19,12 +19,12 @@ use Rattle.text_scopes.specs.declared.meaning.Meaning.TheVariants.{Test, Action,
 use Rattle.text_scopes.specs.ScopeParts.{ScopeParts, IsNameOf}
 use Rattle.text_print.specs.Printing.{relation_text, cond_of, is_star, in_round, spaced, expr_pieces, cond_pieces, test_pieces, term_pieces, ExprIsNamed, CondIsNamed, TermIsNamed}
 
--- no name and no number goes on in what is spelled
+-- the spelled text does not extend a name or a number before it
 pub record EndsWords (ps : List Piece) : Type 0 where
   pub name : (bytes : List ℕ) → EndsBefore Name bytes (spelled ps)
   pub number : (bytes : List ℕ) → EndsBefore Number bytes (spelled ps)
 
--- the pieces are separate where those that follow are, and end words
+-- the pieces are separate if the pieces that follow are separate and end words
 abbrev pub Separate : (List Piece → List Piece) → Type 0
 Separate pieces = (ps : List Piece) → EndsWords ps → AreSeparate ps → AreSeparate (pieces ps)
 
@@ -46,7 +46,7 @@ dot_ends ps = record { name = λ b. refl; number = λ b. refl }
 star_ends : (ps : List Piece) → EndsWords (symbol (codes "*") ∷ ps)
 star_ends ps = record { name = λ b. refl; number = λ b. refl }
 
--- ---- symbols that go on in nothing
+-- ---- symbols that no byte extends
 
 pub open_alone : (rest : List ℕ) → EndsBefore Symbol (codes "(") rest
 open_alone [] = tt
@@ -72,7 +72,7 @@ star_alone : (rest : List ℕ) → EndsBefore Symbol (codes "*") rest
 star_alone [] = tt
 star_alone (b ∷ bs) = refl
 
--- a symbol with a blank after it
+-- a symbol that a blank may follow
 pub record IsSpaced (between : List ℕ) : Type 0 where
   pub symbol : IsToken Symbol between
   pub ends : (rest : List ℕ) → EndsBefore Symbol between (32 ∷ rest)
@@ -100,14 +100,14 @@ product_separate left right f g ps after =
     let middle : AreSeparate (symbol (codes ".") ∷ right (symbol (codes ")") ∷ ps)) = (refl, dot_alone _, second) in
     (refl, open_alone _, f (symbol (codes ".") ∷ right (symbol (codes ")") ∷ ps)) (dot_ends _) middle)
 
--- a phrase that may stand in parentheses
+-- a phrase with or without parentheses
 pub rounded_separate : (rounded : Bool) (inside : List Piece → List Piece) → Separate inside → (ps : List Piece) → EndsWords ps → AreSeparate ps → AreSeparate (cond rounded (in_round inside ps) (inside ps))
 rounded_separate true inside f ps ends after =
     let closed : AreSeparate (symbol (codes ")") ∷ ps) = (refl, close_alone (spelled ps), after) in
     (refl, open_alone (spelled (inside (symbol (codes ")") ∷ ps))), f (symbol (codes ")") ∷ ps) (round_ends ps) closed)
 rounded_separate false inside f ps ends after = f ps ends after
 
--- ---- a `!` before what does not begin with `=`
+-- ---- a `!` before a byte other than `=`
 
 abbrev AllHigh : List ℕ → Type 0
 AllHigh [] = Unit {0}

@@ -1,4 +1,4 @@
--- What names and decimal numbers are to the grammar.
+-- The terminals of names and decimal numbers.
 use Rattle.std.proofs.Common.{◌≡◌, ◌<◌, ◌^◌, ℕ, List, length, true, false, nat_lt, refl, sym, ◌∙◌, rules, lit<}
 use Rattle.std.proofs.lemmas.Bool.{or_parts, lt-ltb, false_from_ne_true, and_from}
 use Rattle.std.proofs.lemmas.Fmt.{digits_decimal, digits_value-decimal, decimal_nonempty, decimal_injective, decimal_digit}
@@ -23,7 +23,7 @@ relation_terminal Le = refl
 relation_terminal Gt = refl
 relation_terminal Ge = refl
 
--- a name that is no keyword
+-- a name that is not a keyword has the terminal `Name`
 pub name_terminal : (name : List ℕ) → is_keyword name ≡ false → keyword_terminal name ≡ Name
 name_terminal name e =
     let a = or_parts (bytes_eq name (codes "test")) _ e in
@@ -51,7 +51,7 @@ name_terminal name e =
 own : IsNumeralModel (λ ds. list_all is_ascii_digit ds ≡ true) (value_from 0)
 own = numerals_by_fold _ (search rules) value_from (search rules)
 
--- numbers are told apart by what they are written as
+-- different numbers have different decimal forms
 written_apart : (n m : ℕ) (text : List ℕ) → n < 2 ^ 64 → m < 2 ^ 64 → decimal m ≡ text → (n ≡ m → ⊥) → bytes_eq (decimal n) text ≡ false
 written_apart n m text lt mt e other = false_from_ne_true _ (λ t. other (decimal_injective n m lt mt ((bytes_eq-Decides (decimal n) text).0 t ∙ sym e)))
 
@@ -64,7 +64,7 @@ one_written = decimal_digit 1 (lit< tt)
 terminal_by : (text : List ℕ) (n : ℕ) → bytes_eq text (codes "0") ≡ false → bytes_eq text (codes "1") ≡ false → is_digits text ≡ true → value_from 0 text ≡ n → nat_lt n (2 ^ 64) ≡ true → number_terminal text ≡ Number n
 terminal_by text n e f g h k = rw (e, f, g, h, k) refl
 
--- a number that is neither 0 nor 1
+-- a number other than 0 and 1 has the terminal `Number`
 pub number_is : (n : ℕ) → n < 2 ^ 64 → (n ≡ 0 → ⊥) → (n ≡ 1 → ⊥) → number_terminal (decimal n) ≡ Number n
 number_is n lt some more =
     terminal_by (decimal n) n

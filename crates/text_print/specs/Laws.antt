@@ -1,4 +1,4 @@
--- What a printed text reads as.
+-- The reading of a printed text.
 use Rattle.std.specs.Prelude.{◌≡◌, ℕ, List, [], map, Result, Ok}
 use Rattle.text_tokens.specs.declared.fault.TextFault.{TextFault}
 use Rattle.text_tokens.specs.Lex.{Lexes}
@@ -6,7 +6,7 @@ use Rattle.text_tokens.specs.Pieces.{Piece, spelled, parts_from}
 use Rattle.text_grammar.specs.Lexemes.{Lexeme, lexeme_of}
 use Rattle.text_scopes.specs.Readings.{Phrased}
 
--- the text of the pieces has tokens, which read as the tree, with nothing left
+-- the text of the pieces has tokens, which read as `tree` with no tokens left
 pub record ReadsBack {V : Type 0} (ps : List Piece) (read : List Lexeme → Result (Phrased V) TextFault) (tree : V) (levels : ℕ) : Type 0 where
   pub lexes : Lexes (spelled ps) (parts_from 0 ps)
   pub reads : read (map lexeme_of (parts_from 0 ps)) ≡ Ok (record { tree = tree; nesting = levels; rest = [] })

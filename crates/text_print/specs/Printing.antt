@@ -1,4 +1,4 @@
--- Terms, conditions and expressions as they are printed: their texts, and the pieces that spell them.
+-- Printed terms, conditions and expressions: their texts and the pieces that spell them.
 use Rattle.std.specs.Prelude.{◌+◌, ◌<◌, ◌^◌, max, ℕ, List, [], ◌∷◌, ◌++◌, codes, Bool, true, false, if◌then◌else◌, Option, Some, None}
 use Rattle.std.specs.Fmt.{decimal}
 use Rattle.std.specs.Ordering.{eq_by_cmp}
@@ -13,17 +13,17 @@ use Rattle.text_scopes.specs.declared.meaning.Meaning.TheVariants.{Test, Action,
 use Rattle.text_scopes.specs.contracts.meaning.MeaningOrd.TheImpl.{ghosts}
 use Rattle.text_scopes.specs.ScopeParts.{ScopeParts, meaning, IsNameOf}
 
--- whether this is what is meant
+-- whether the meaning exists and equals `m`
 abbrev pub is_meant : Meaning → Option Meaning → Bool
 is_meant m None = false
 is_meant m (Some n) = eq_by_cmp ghosts.cmp m n
 
--- the first of the names that stands for it, empty where none does
+-- the first name in the list that denotes `m`, or empty
 abbrev pub first_name : ScopeParts → Meaning → List (List ℕ) → List ℕ
 first_name w m [] = []
 first_name w m (name ∷ names) = if is_meant m (meaning w name) then name else first_name w m names
 
--- the name that stands for it, empty where none does
+-- the name that denotes `m`, or empty
 abbrev pub name_of : ScopeParts → Meaning → List ℕ
 name_of w m = first_name w m (keys w.meanings)
 
@@ -85,13 +85,13 @@ term_text names (sum e f) = codes "(" ++ term_text names e ++ codes " + " ++ ter
 term_text names (product e f) = codes "(" ++ term_text names e ++ codes "." ++ term_text names f ++ codes ")"
 term_text names (star e) = if is_star e then codes "(" ++ term_text names e ++ codes ")*" else term_text names e ++ codes "*"
 
--- ---- the same, piece by piece, and then the pieces that follow
+-- ---- the same as pieces, followed by the pieces `ps`
 
--- what is written between parentheses
+-- the pieces in parentheses
 abbrev pub in_round : (List Piece → List Piece) → List Piece → List Piece
 in_round inside ps = symbol (codes "(") ∷ inside (symbol (codes ")") ∷ ps)
 
--- two phrases in parentheses, and a symbol between them with a blank on each side
+-- two phrases in parentheses, with a symbol between them and a blank on each side of it
 abbrev pub spaced : List ℕ → (List Piece → List Piece) → (List Piece → List Piece) → List Piece → List Piece
 spaced between left right ps = symbol (codes "(") ∷ left (gap 32 ∷ symbol between ∷ gap 32 ∷ right (symbol (codes ")") ∷ ps))
 
@@ -128,9 +128,9 @@ term_pieces names (sum e f) ps = spaced (codes "+") (term_pieces names e) (term_
 term_pieces names (product e f) ps = symbol (codes "(") ∷ term_pieces names e (symbol (codes ".") ∷ term_pieces names f (symbol (codes ")") ∷ ps))
 term_pieces names (star e) ps = if is_star e then in_round (term_pieces names e) (symbol (codes "*") ∷ ps) else term_pieces names e (symbol (codes "*") ∷ ps)
 
--- ---- what reads back
+-- ---- terms, conditions and expressions that read back
 
--- each number of the expression has that name, and none is of 2^64 or more
+-- each variable of the expression has its only name, and each number is below 2^64
 abbrev pub ExprIsNamed : ScopeParts → (Meaning → List ℕ) → ExprTree → Type 0
 ExprIsNamed w names (number n) = n < 2 ^ 64
 ExprIsNamed w names (variable k) = IsNameOf w (names (Var k)) (Var k)
@@ -138,7 +138,7 @@ ExprIsNamed w names (plus e f) = ExprIsNamed w names e × ExprIsNamed w names f
 ExprIsNamed w names (minus e f) = ExprIsNamed w names e × ExprIsNamed w names f
 ExprIsNamed w names (times e f) = ExprIsNamed w names e × ExprIsNamed w names f
 
--- so with a condition
+-- likewise for a condition
 abbrev pub CondIsNamed : ScopeParts → (Meaning → List ℕ) → CondTree → Type 0
 CondIsNamed w names always = Unit {0}
 CondIsNamed w names never = Unit {0}
@@ -148,7 +148,7 @@ CondIsNamed w names (negation b) = CondIsNamed w names b
 CondIsNamed w names (both b c) = CondIsNamed w names b × CondIsNamed w names c
 CondIsNamed w names (either b c) = CondIsNamed w names b × CondIsNamed w names c
 
--- and with a term
+-- likewise for a term
 abbrev pub TermIsNamed : ScopeParts → (Meaning → List ℕ) → Term → Type 0
 TermIsNamed w names zero = Unit {0}
 TermIsNamed w names one = Unit {0}
@@ -158,7 +158,7 @@ TermIsNamed w names (sum e f) = TermIsNamed w names e × TermIsNamed w names f
 TermIsNamed w names (product e f) = TermIsNamed w names e × TermIsNamed w names f
 TermIsNamed w names (star e) = TermIsNamed w names e
 
--- how many constructs are open at one place at most in the printed text of an expression
+-- the maximum number of constructs open at one place in the printed text of an expression
 abbrev pub expr_nesting : ExprTree → ℕ
 expr_nesting (number n) = 0
 expr_nesting (variable k) = 0
@@ -166,7 +166,7 @@ expr_nesting (plus e f) = max (expr_nesting e) (expr_nesting f) + 1
 expr_nesting (minus e f) = max (expr_nesting e) (expr_nesting f) + 1
 expr_nesting (times e f) = max (expr_nesting e) (expr_nesting f) + 1
 
--- of a condition
+-- likewise for a condition
 abbrev pub cond_nesting : CondTree → ℕ
 cond_nesting always = 0
 cond_nesting never = 0
@@ -176,12 +176,12 @@ cond_nesting (negation b) = cond_nesting b + 1
 cond_nesting (both b c) = max (cond_nesting b) (cond_nesting c) + 1
 cond_nesting (either b c) = max (cond_nesting b) (cond_nesting c) + 1
 
--- of a test as a term
+-- likewise for a test as a term
 abbrev pub test_nesting : TestTree → ℕ
 test_nesting (prim k) = 0
 test_nesting b = cond_nesting (cond_of b) + 1
 
--- of a term
+-- likewise for a term
 abbrev pub term_nesting : Term → ℕ
 term_nesting zero = 0
 term_nesting one = 0

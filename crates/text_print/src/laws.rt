@@ -11,7 +11,7 @@ ghost use Rattle.text_scopes.specs.Readings.{term_at, cond_at, expr_at};
 ghost use Rattle.text_print.specs.Printing.{name_of, expr_pieces, cond_pieces, term_pieces, ExprIsNamed, CondIsNamed, TermIsNamed, expr_nesting, cond_nesting, term_nesting};
 ghost use Rattle.text_print.specs.Laws.{ReadsBack};
 
-/// What is printed with the one name of each number reads back to the same tree with nothing left, where the text, the
+/// A text printed with the only name of each meaning reads back as the same tree with no tokens left, if the text, the
 /// size of the tree and the nesting of the text are within the limits.
 pub fn printed_reads_back()
     ensures terms { (w : ScopeParts) (names : Meaning → List ℕ) (e : Term) (d : ℕ) → TermIsNamed w names e → length (spelled (term_pieces names e [])) ≤ MAX_LEN → term_size e ≤ 100000 → d + term_nesting e ≤ 200 → ReadsBack (term_pieces names e []) (term_at w d) e (term_nesting e) }

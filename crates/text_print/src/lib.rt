@@ -1,4 +1,4 @@
-//! The text of terms, conditions and expressions, printed.
+//! Prints terms, conditions and expressions.
 #![tactic(auto)]
 
 mod laws;

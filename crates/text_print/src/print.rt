@@ -1,4 +1,4 @@
-//! Terms, conditions and expressions as text.
+//! Prints terms, conditions and expressions as text.
 ghost use Rattle.std.specs.Prelude.{◌≡◌, [], ◌++◌, OnOk, IfOk};
 ghost use Rattle.std.specs.Fmt.{decimal};
 ghost use Rattle.kat_model.specs.Trees.{test_tree, kat_tree};
@@ -10,7 +10,7 @@ use kat_model::{Cond, Expr, Kat, NoMemory, Rel, Test};
 use std::alloc::Global;
 use text_scopes::{Meaning, Scope};
 
-/// The name that stands for it in the scope, or the empty text where none does.
+/// Returns the name that denotes the meaning in the scope, or an empty text if it has no name.
 pub fn name_of(scope: &Scope, meaning: Meaning) -> &str
     ensures { result.now ≡ name_of scope.now meaning }
 {
@@ -20,7 +20,7 @@ pub fn name_of(scope: &Scope, meaning: Meaning) -> &str
     }
 }
 
-/// Adds to the end of `out` the name that stands for it in the scope, or nothing where none does.
+/// Appends to `out` the name that denotes the meaning in the scope, or nothing if it has no name.
 pub fn put_name(out: &mut Vec<u8>, scope: &Scope, meaning: Meaning) -> Result<(), NoMemory>
     ensures { OnOk result (out.new.items ≡ out.old.items ++ name_of scope.now meaning) }
 {
@@ -131,8 +131,8 @@ fn put_cond(alloc: Global, out: &mut Vec<u8>, cond: &Cond, scope: &Scope) -> Res
     Ok(())
 }
 
-/// Adds to the end of `out` the text of the test as a condition, as [`print_cond`] writes one. It fails only when out of
-/// memory, and may then have written a part.
+/// Appends to `out` the text of the test as a condition, as [`print_cond`] writes it. Fails only when out of memory;
+/// `out` may then have a part of the text.
 pub fn put_test(out: &mut Vec<u8>, test: &Test, scope: &Scope) -> Result<(), NoMemory>
     ensures { OnOk result (out.new.items ≡ out.old.items ++ cond_text (name_of scope.now) (cond_of (test_tree test.now))) }
 {
@@ -162,7 +162,7 @@ pub fn put_test(out: &mut Vec<u8>, test: &Test, scope: &Scope) -> Result<(), NoM
     Ok(())
 }
 
-// The test as a term: its name, or its condition in brackets.
+// Appends the text of the test as a term: its name, or its condition in brackets.
 fn put_tested(out: &mut Vec<u8>, test: &Test, scope: &Scope) -> Result<(), NoMemory>
     ensures { OnOk result (out.new.items ≡ out.old.items ++ test_text (name_of scope.now) (test_tree test.now)) }
 {
@@ -217,8 +217,8 @@ fn put_term(out: &mut Vec<u8>, term: &Kat, scope: &Scope) -> Result<(), NoMemory
     Ok(())
 }
 
-/// The text of a term: `0`, `1`, names of actions and of primitive tests, `[c]` for another test, `(x + y)`, `(x.y)`,
-/// and `x*` with a star in parentheses under a star. A number that no name of the scope stands for is left out.
+/// Returns the text of a term: `0`, `1`, names of actions and of primitive tests, `[c]` for another test, `(x + y)`,
+/// `(x.y)`, and `x*`, where `x` is in parentheses if it is a star. Omits a number that has no name in the scope.
 #[tactic(auto, using(crate::proofs::PieceTexts::term_printed))]
 pub fn print_term(alloc: Global, term: &Kat, scope: &Scope) -> Result<Vec<u8>, NoMemory>
     ensures { IfOk result (λ v. v.items ≡ spelled (term_pieces (name_of scope.now) (kat_tree term.now) [])) }
@@ -228,8 +228,8 @@ pub fn print_term(alloc: Global, term: &Kat, scope: &Scope) -> Result<Vec<u8>, N
     Ok(out)
 }
 
-/// The text of a condition: `true`, `false`, names of tests, `!x`, `(x && y)`, `(x || y)`, and comparisons in
-/// parentheses, as `(e == f)`. Names are as in [`print_term`].
+/// Returns the text of a condition: `true`, `false`, names of tests, `!x`, `(x && y)`, `(x || y)`, and comparisons in
+/// parentheses, such as `(e == f)`. Names are as in [`print_term`].
 #[tactic(auto, using(crate::proofs::PieceTexts::cond_printed))]
 pub fn print_cond(alloc: Global, cond: &Cond, scope: &Scope) -> Result<Vec<u8>, NoMemory>
     ensures { IfOk result (λ v. v.items ≡ spelled (cond_pieces (name_of scope.now) (cond_tree cond.now) [])) }
@@ -239,8 +239,8 @@ pub fn print_cond(alloc: Global, cond: &Cond, scope: &Scope) -> Result<Vec<u8>, 
     Ok(out)
 }
 
-/// The text of an expression: decimal numbers, names of variables, `(e + f)`, `(e - f)`, `(e * f)`. Names are as in
-/// [`print_term`].
+/// Returns the text of an expression: decimal numbers, names of variables, `(e + f)`, `(e - f)`, `(e * f)`. Names are
+/// as in [`print_term`].
 #[tactic(auto, using(crate::proofs::PieceTexts::expr_printed))]
 pub fn print_expr(alloc: Global, expr: &Expr, scope: &Scope) -> Result<Vec<u8>, NoMemory>
     ensures { IfOk result (λ v. v.items ≡ spelled (expr_pieces (name_of scope.now) (expr_tree expr.now) [])) }

@@ -1,9 +1,9 @@
--- What is counted of a balanced tree grows with its list.
+-- Measures of a balanced tree as its list grows.
 use Rattle.std.proofs.Common.{◌≡◌, ℕ, zero, suc, ◌+◌, ◌/◌, ◌<◌, ◌≤◌, max, Bool, true, ◌&&◌, List, [], ◌∷◌, ◌++◌, length, take, drop, refl, sym, ap, ◌∙◌, arith, length-append}
 use Rattle.std.proofs.lemmas.List.{take-append-drop, length-take, length-drop}
 use Rattle.kat_model.specs.Balanced.{balanced_within, balanced}
 
--- a value of a node made of those of its parts, by an operation that groups
+-- a measure of a node is computed from those of its children by an associative operation
 module _ {X V : Type 0} (unit : X) (node : X → X → X) (f : X → V) (op : V → V → V) (groups : (u v w : V) → op (op u v) w ≡ op u (op v w)) (at_node : (x y : X) → f (node x y) ≡ op (f x) (f y)) where
   abbrev run : V → List X → V
   run v [] = v

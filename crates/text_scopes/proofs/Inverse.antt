@@ -1,4 +1,4 @@
--- Two maps that are inverse to each other, and stay so as both get one more key.
+-- Two maps that are inverse to each other remain so when each gets an additional entry.
 use Rattle.std.proofs.Common.{◌≡◌, ℕ, List, [], Option, Some, None, Bool, true, false, cond, refl, sym, ap, ◌∙◌, subst, String, string_bytes, ◌⊎◌, inl, inr, ⊎_elim}
 use Rattle.std.specs.Option.{option_map}
 use Rattle.std.specs.Ordering.{nat_cmp, eq_by_cmp}
@@ -18,7 +18,7 @@ use Rattle.text_scopes.specs.Working.Names.{text_of, AreInverse}
 use Rattle.text_scopes.proofs.MeaningOrder.{same_meaning}
 use Rattle.text_scopes.proofs.MeaningEntries.{get-insert_name}
 
--- a map with a value at a key, and at each other key what it had
+-- `new` maps `k` to `v` and agrees with `old` on every other key
 pub record Extends {K V : Type 0} (old new : K → Option V) (k : K) (v : V) : Type 0 where
   pub here : new k ≡ Some v
   pub others : (q : K) → (q ≡ k) ⊎ (new q ≡ old q)
@@ -32,7 +32,7 @@ there_more f f' g g' k v there none more back q x e =
     (λ kept. let old : g x ≡ Some q = there q x (sym kept ∙ e) in ⊎_elim (λ p. cc) (λ kept_back. kept_back ∙ old) (back.others x))
     (more.others q)
 
--- with one more key on either side, they stay inverse
+-- the maps remain inverse if one gets `k` to `v` and the other `v` to `k`
 pub inverse_more : {K V : Type 0} (f f' : K → Option V) (g g' : V → Option K) (k : K) (v : V) → AreInverse f g → f k ≡ None → g v ≡ None → Extends f f' k v → Extends g g' v k → AreInverse f' g'
 inverse_more f f' g g' k v inverse new_key new_value more back = record {
   there = there_more f f' g g' k v inverse.there new_value more back;
@@ -49,7 +49,7 @@ none_from : {A : Type 0} (o : Option A) → ((x : A) → o ≡ Some x → ⊥) �
 none_from None h = refl
 none_from (Some x) h = absurd (h x refl)
 
--- what no key has, has no key
+-- a value that `f` gives for no key has no key in `g`
 pub inverse_none : {K V : Type 0} (f : K → Option V) (g : V → Option K) (v : V) → AreInverse f g → ((k : K) → f k ≡ Some v → ⊥) → g v ≡ None
 inverse_none f g v inverse none = none_from (g v) (λ k e. none k (inverse.back v k e))
 
@@ -83,7 +83,7 @@ text_extends old new v text name named updates = record {
   others = λ q. ⊎_elim (λ e. inl (sym (same_meaning v q e))) (λ e. inr (ap (option_map string_bytes) (updates.2 q e))) (cases_Bool (eq_by_cmp ghosts.cmp v q));
 }
 
--- a text that was set where none was, and then taken out
+-- setting a text where none was and removing it again restores the map
 pub text_of-removed : (old set new : BTreeMap Meaning (String Global)) (v : Meaning) (text : String Global) → text_of old v ≡ None → Updates ghosts.cmp old set v (Some text) → Updates ghosts.cmp set new v None → (q : Meaning) → text_of new q ≡ text_of old q
 text_of-removed old set new v text none cons_token taken q =
     ⊎_elim

@@ -1,4 +1,4 @@
--- Meanings by name, and the entries of the map that holds them.
+-- Meanings by name, and the entries of the map that stores them.
 use Rattle.std.proofs.Common.{◌≡◌, ℕ, List, [], ◌∷◌, map as mapped, Some, cond, refl, sym, ap, ◌∙◌, String, string_bytes}
 use Rattle.std.specs.Ordering.{nat_cmp, eq_by_cmp}
 use Rattle.std.specs.Cmp.{eq_by_cmp_equiv}
@@ -13,7 +13,7 @@ use Rattle.std.proofs.lemmas.Map.Text.{btree_map_updates_text, is_eq-slice_cmp}
 use Rattle.text_scopes.specs.declared.meaning.Meaning.{Meaning}
 use Rattle.text_scopes.specs.ScopeParts.{Meanings, meanings_of}
 
--- a text is found among the entries as their texts are
+-- looking up a text among the entries agrees with looking up its bytes
 find-entries : (es : List (String Global × Meaning)) (q : List ℕ) → find (slice_cmp nat_cmp) q (mapped (λ e. (string_bytes e.0, e.1)) es) ≡ lookup (is_at (λ k. slice_cmp nat_cmp q (string_bytes k))) es
 find-entries [] q = refl
 find-entries (e ∷ es) q = ap (cond (eq_by_cmp (slice_cmp nat_cmp) q (string_bytes e.0)) (Some e.1)) (find-entries es q)
@@ -21,15 +21,15 @@ find-entries (e ∷ es) q = ap (cond (eq_by_cmp (slice_cmp nat_cmp) q (string_by
 pub get-meanings_of : (m : BTreeMap (String Global) Meaning) (q : List ℕ) → get (meanings_of m.entries) q ≡ get_by_text m q
 get-meanings_of m q = get-from_entries nat_list_cmp_total _ q ∙ find-entries m.entries q
 
--- names compare equal where they are read as equal
+-- two names compare as equal exactly when their bytes are equal
 pub ties-bytes_eq : (q name : List ℕ) → eq_by_cmp (slice_cmp nat_cmp) q name ≡ bytes_eq name q
 ties-bytes_eq q name = (eq_by_cmp_equiv nat_list_cmp_total).symm q name ∙ is_eq-slice_cmp name q
 
--- what is inserted stands at its name, and the other names keep theirs
+-- an insertion changes the meaning of its own name only
 pub get-insert_name : (m : Meanings) (name : List ℕ) (v : Meaning) (q : List ℕ) → get (insert m name v) q ≡ cond (bytes_eq name q) (Some v) (get m q)
 get-insert_name m name v q = get-insert nat_list_cmp_total m name v q ∙ ap (λ b. cond b (Some v) (get m q)) (ties-bytes_eq q name)
 
--- a map in which one text was set holds the meanings with that name set
+-- setting one text of the map inserts its name into the meanings
 pub meanings_of-insert : (m n : BTreeMap (String Global) Meaning) (key : String Global) (v : Meaning) (name : List ℕ) → string_bytes key ≡ name → UpdatesBy string_cmp (string_cmp key) m n (Some v) → meanings_of n.entries ≡ insert (meanings_of m.entries) name v
 meanings_of-insert m n key v name named updates =
     rw (← named)

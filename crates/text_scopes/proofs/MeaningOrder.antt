@@ -1,4 +1,4 @@
--- The order of meanings ties only equal ones.
+-- Only equal meanings compare as equal.
 use Rattle.std.proofs.Common.{◌≡◌, ℕ, true, ap}
 use Rattle.std.specs.Ordering.{nat_cmp, eq_by_cmp}
 use Rattle.std.specs.FinMap.{nat_cmp-IsAntisymmetric}

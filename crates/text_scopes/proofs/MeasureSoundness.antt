@@ -1,4 +1,5 @@
--- A phrase is measured exactly where it is sound and fits, and then its nesting is told.
+-- Measuring a phrase succeeds exactly when the phrase is sound and within the limits; then it gives the nesting of the
+-- phrase.
 use Rattle.std.proofs.Common.{◌≡◌, ◌≤◌, ◌<◌, ◌+◌, ℕ, max, min, Bool, true, false, cond, nat_lt, slice_get, Option, Some, None, Result, Ok, Err, refl, ap, ◌∙◌, arith}
 use Rattle.std.proofs.lemmas.Bool.{both_ways, ltb-true, ltb-false}
 use Rattle.kat_model.specs.Trees.{term_size, test_size}
@@ -16,7 +17,7 @@ use Rattle.text_scopes.specs.ScopeParts.{Definition, ScopeParts, meaning}
 use Rattle.text_scopes.specs.Measuring.{limited, deeper, linked, topped, compare, negated, tested, starred as star_extent, variable_extent, condition_extent, defined_extent, name_extent, extents}
 use Rattle.text_scopes.specs.Sound.{inside, inside_not, IsUsable, IsTermName, IsCondName, IsExprName, IsSound, defined_nesting, name_nesting, nesting}
 
--- it is made exactly where P holds, and then its nesting is n
+-- the result is an extent exactly when `P` holds, and its nesting is then `n`, capped at 201
 abbrev pub Judged : Result Extent TextFault → Type 0 → ℕ → Type 0
 Judged (Ok m) P n = P × (m.nesting ≡ min n 201)
 Judged (Err e) P n = P → ⊥
@@ -25,11 +26,11 @@ settled : (r : Result Extent TextFault) (P Q : Type 0) (n k : ℕ) → (P → Q)
 settled (Ok m) P Q n k f g e h = (f h.0, h.1 ∙ ap (λ (i : ℕ). min i 201) e)
 settled (Err x) P Q n k f g e h = λ q. h (g q)
 
--- the same with nothing before it
+-- the first part of a list, with nothing before it
 pub first : (r : Result Extent TextFault) (P : Type 0) (n : ℕ) → Judged r P (max 0 n) → Judged r P n
 first r P n h = settled r P P (max 0 n) n (λ p. p) (λ p. p) (omega arith) h
 
--- what is added to a list that is a deep
+-- `k` joins a part to a list of nesting `a`
 abbrev pub Adds : (Extent → Extent) → ℕ → Type 0
 Adds k a = (v : Extent) (n : ℕ) → v.nesting ≡ min n 201 → (k v).nesting ≡ min (max a n) 201
 
@@ -43,7 +44,7 @@ prefixed : (s : Result Extent TextFault) (P Q : Type 0) (n : ℕ) → P → Judg
 prefixed (Ok m) P Q n p h = ((p, h.0), h.1)
 prefixed (Err e) P Q n p h = λ x. h x.1
 
--- one part, and then another
+-- a part, then another part
 then_judged : (r : Result Extent TextFault) (next : Extent → Result Extent TextFault) (P Q : Type 0) (n k : ℕ) → Judged r P n → ((m : Extent) → m.nesting ≡ min n 201 → Judged (next m) Q k) → Judged (r >>= next) (P × Q) k
 then_judged (Ok m) next P Q n k h g = prefixed (next m) P Q k h.0 (g m h.1)
 then_judged (Err e) next P Q n k h g = λ x. h x.0
@@ -56,7 +57,7 @@ changed (Err e) f P n k g h = h
 last : (r : Result Extent TextFault) (k : Extent → Extent) (a n : ℕ) (P : Type 0) → Adds k a → Judged r P n → Judged (r >>= λ v. Ok (k v)) P (max a n)
 last r k a n P d h = changed r k P n (max a n) (λ m e. d m n e) h
 
--- a part of a list, and what is left of it
+-- a part of a list, then the rest of the list
 more : (r : Result Extent TextFault) (next : Extent → Result Extent TextFault) (k : Extent → Extent) (a n i : ℕ) (S F S' F' : Type 0)
     → Adds k a → Judged r (S × F) n → ((x : Extent) (b : ℕ) → x.nesting ≡ min b 201 → Judged (next x) (S' × F') (max b i))
     → Judged (r >>= λ v. next (k v)) ((S × S') × (F × F')) (max a (max n i))
@@ -65,7 +66,7 @@ more r next k a n i S F S' F' d h g =
     (λ x. ((x.0.0, x.1.0), (x.0.1, x.1.1))) (λ x. ((x.0.0, x.1.0), (x.0.1, x.1.1))) (omega arith)
     (then_judged r (λ v. next (k v)) (S × F) (S' × F') n (max (max a n) i) h (λ m e. g (k m) (max a n) (d m n e)))
 
--- what is inside a construct
+-- the inside of a construct
 entered : (c d : Context) (at : ℕ) (f : Context → Result Extent TextFault) (S F : Type 0) (n : ℕ) → Judged (f d) (S × F) n → Judged (cond (nat_lt c.depth 200) (Ok d) (Err (TooDeep at)) >>= f) (S × ((c.depth < 200) × F)) n
 entered c d at f S F n h = by_depth (nat_lt c.depth 200) refl where
   by_depth : (b : Bool) → nat_lt c.depth 200 ≡ b → Judged (cond b (Ok d) (Err (TooDeep at)) >>= f) (S × ((c.depth < 200) × F)) n

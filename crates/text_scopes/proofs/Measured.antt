@@ -25,7 +25,7 @@ use Rattle.text_scopes.proofs.BalancedMeasures.{size_grown, most_grown, test_gro
 use Rattle.text_scopes.proofs.MeasureSoundness.{Judged, judged, adds_none, first, extent_of}
 use Rattle.text_scopes.proofs.Related.{Both, AreRelated, related}
 
--- ---- counted nodes
+-- ---- node counts
 
 told_sum : (a b s t : ℕ) → capped (told_nodes a s + told_nodes b t + 1) ≡ told_nodes (max a b) (s + t + 1)
 told_sum a b s t = by_sizes (nat_lt 1000 a) refl (nat_lt 1000 b) refl (nat_lt 1000 (max a b)) refl where
@@ -54,7 +54,7 @@ told_compared m a e = by_sizes (nat_lt 1000 m) refl (nat_lt 1000 a) refl where
   by_sizes false f true g = let p : m ≤ 1000 = ltb-false 1000 m f in let q : 1000 < a = ltb-true 1000 a g in absurd (omega arith)
   by_sizes false f false g = e
 
--- two parts, and a node that joins them
+-- the nodes of a node that joins two parts
 joined_told : (m n a s b t large size : ℕ) → m ≡ told_nodes a s → n ≡ told_nodes b t → large ≡ max a b → size ≡ s + t + 1 → capped (m + n + 1) ≡ told_nodes large size
 joined_told m n a s b t large size e f g h =
     ap (λ (k : ℕ). capped (k + n + 1)) e
@@ -66,7 +66,7 @@ joined_told m n a s b t large size e f g h =
 joined_capped : (m n a b size : ℕ) → m ≡ capped a → n ≡ capped b → size ≡ a + b + 1 → capped (m + n + 1) ≡ capped size
 joined_capped m n a b size e f g = omega arith
 
--- ---- what a measure tells of a tree at a place
+-- ---- how measures relate to trees in a context
 
 abbrev IsExprMeasure : Context → Extent → ExprTree → Type 0
 IsExprMeasure c m e = (m.nodes ≡ capped (expr_size e)) × (c.compares ≡ true)
@@ -74,11 +74,11 @@ IsExprMeasure c m e = (m.nodes ≡ capped (expr_size e)) × (c.compares ≡ true
 abbrev IsCondMeasure : Context → Extent → CondTree → Type 0
 IsCondMeasure c m b = (m.nodes ≡ cond_nodes b) × (c.compares ≡ false → m.nodes ≡ capped (test_size (test_without_comparisons b)))
 
--- of a list, however it is joined
+-- the measure of a list, both as a disjunction and as a conjunction
 abbrev IsCondsMeasure : Context → Extent → List CondTree → Type 0
 IsCondsMeasure c m bs = (0 < length bs) × IsCondMeasure c m (balanced never either bs) × IsCondMeasure c m (balanced always both bs)
 
--- under a `!` the term is a test
+-- the measure of a term, which is a test if a `!` encloses it
 abbrev IsTermMeasure : Context → Extent → Term → Type 0
 IsTermMeasure c m e = c.compares ≡ false → (m.nodes ≡ capped (term_size e)) × (c.negated ≡ true → (is_test e ≡ true) × (m.test_nodes ≡ capped (test_size (as_test e))))
 
@@ -119,7 +119,7 @@ compare_measured c r x y e f h k =
     joined_told (compared_nodes x.nodes) (compared_nodes y.nodes) (expr_size e) (expr_size e) (expr_size f) (expr_size f) (max (expr_size e) (expr_size f)) (expr_size e + expr_size f + 1)
     (told_compared x.nodes (expr_size e) h.0) (told_compared y.nodes (expr_size f) k.0) refl refl
 
--- a list with one more, by the node that joins it
+-- the measure of a list after an appended condition
 more_measured : (c : Context) (unit : CondTree) (node : CondTree → CondTree → CondTree) → ((x y : CondTree) → cond_size (node x y) ≡ cond_size x + cond_size y + 1) → ((x y : CondTree) → largest_expr (node x y) ≡ max (largest_expr x) (largest_expr y)) → ((x y : CondTree) → test_size (test_without_comparisons (node x y)) ≡ test_size (test_without_comparisons x) + test_size (test_without_comparisons y) + 1)
     → (m n : Extent) (bs : List CondTree) (b : CondTree) → 0 < length bs → IsCondMeasure c m (balanced unit node bs) → IsCondMeasure c n b → IsCondMeasure c (linked m n) (balanced unit node (bs ++ b ∷ []))
 more_measured c unit node sizes largest tests m n bs b some h k = (

@@ -1,4 +1,4 @@
--- A pass with any actions makes of phrases what the actions make of their parts.
+-- A pass with any actions gives the fold of the actions over the phrase.
 use Rattle.text_grammar.specs.Actions.{Actions}
 use Rattle.text_grammar.specs.Exprs.{sums}
 use Rattle.text_grammar.specs.Conds.{disjunction}

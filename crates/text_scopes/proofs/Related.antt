@@ -1,4 +1,4 @@
--- Two sets of actions that are related part by part make related values of each phrase.
+-- Two sets of actions that are related part by part give related results for each phrase.
 use Rattle.std.proofs.Common.{ℕ, List, true, false, cond, nat_lt, Result, Ok, Err}
 use Rattle.kat_model.specs.declared.expression.Rel.{Rel}
 use Rattle.text_tokens.specs.declared.fault.TextFault.{TextFault}
@@ -12,7 +12,7 @@ use Rattle.text_grammar.specs.Phrases.{Symbol, term, prod, star, unit, cond as c
 use Rattle.text_grammar.specs.Folds.{operator_of, Folded, fold}
 use Rattle.text_scopes.specs.Sound.{inside, inside_not}
 
--- where the first is made, so is the second, and they are related
+-- if the first result is a value, so is the second, and the values are related
 abbrev pub Both : {A B : Type 0} → (A → B → Type 0) → Result A TextFault → Result B TextFault → Type 0
 Both R (Ok x) (Ok y) = R x y
 Both R (Ok x) (Err e) = ⊥
@@ -55,7 +55,7 @@ module _ {E B L T M E' B' L' T' M' : Type 0} (RE : Context → E → E' → Type
     pub sum : (c : Context) (m : M) (m' : M') → RM c m m' → RT c (g.sum m) (h.sum m')
     pub product : (c : Context) (m : M) (m' : M') → RM c m m' → RT c (g.product m) (h.product m')
 
-  -- how a part joins what was before it, on both sides
+  -- related functions that join a part to what precedes it
   abbrev JoinE : Context → (E → E) → (E' → E') → Type 0
   JoinE c k l = (x : E) (x' : E') → RE c x x' → RE c (k x) (l x')
 

@@ -1,4 +1,4 @@
--- What a name that is declared leaves of a world.
+-- What a new name changes in a scope.
 use Rattle.std.proofs.Common.{◌≡◌, ◌<◌, ◌≤◌, ◌+◌, ℕ, List, [], ◌∷◌, ◌++◌, length, map, Some, false, sym, ap, ◌∙◌, subst, ◌⊎◌, inl, inr, ⊎_elim, arith, length-append}
 use Rattle.std.specs.Ordering.{nat_cmp}
 use Rattle.std.specs.Cmp.Lexicographic.{slice_cmp}
@@ -20,9 +20,9 @@ world_empty = record {
   one_name = λ name other m e h. absurd (none-some m (sym (get-empty (slice_cmp nat_cmp) name) ∙ e));
 }
 
--- one more name, for what had none
+-- a scope with an additional name and the terms `terms`
 module _ (w : ScopeParts) (name : List ℕ) (m : Meaning) (terms : List Definition) where
-  -- a name of the new world is the new one, with its meaning, or an old one
+  -- a name of the new scope is the new name with its meaning, or a name of the old scope
   abbrev new : ScopeParts
   new = record { meanings = insert w.meanings name m; terms = terms }
 
@@ -49,7 +49,7 @@ pub world_declared : (w : ScopeParts) (name : List ℕ) (m : Meaning) → IsWell
 world_declared w name m old identifier no_term unnamed =
     world_more w name m w.terms old identifier unnamed (omega arith) (λ i e. absurd (true≢false (ap is_term (sym e) ∙ no_term)))
 
--- no name stands for the next term
+-- no name denotes the next term
 pub next_unnamed : (w : ScopeParts) → IsWellFormed w → IsUnnamed w (Term (length w.terms))
 next_unnamed w world name e = let below : length w.terms < length w.terms = world.in_range name (length w.terms) e in omega arith
 
@@ -62,7 +62,7 @@ world_defined w name d old identifier =
     world_more w name (Term (length w.terms)) (w.terms ++ d ∷ []) old identifier (next_unnamed w old) (omega arith)
     (λ i e. let same : length w.terms ≡ i = term_number (length w.terms) i e in omega arith)
 
--- the same of the definitions that the code keeps
+-- the same for the definitions that the program stores
 pub world_pushed : (names : Meanings) (ds : List Defined) (name : List ℕ) (d : Defined) (n : ℕ) → n ≡ length ds → IsWellFormed (record { meanings = names; terms = map definition_of ds }) → IsIdentifier name
     → IsWellFormed (record { meanings = insert names name (Term n); terms = map definition_of (ds ++ d ∷ []) })
 world_pushed names ds name d n count old identifier =

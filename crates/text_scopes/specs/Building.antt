@@ -1,4 +1,4 @@
--- The tree of a phrase in a world.
+-- The tree of a phrase in a scope.
 use Rattle.std.specs.Prelude.{List, [], ◌∷◌, ◌++◌, slice_get, Ok, Option, Some, None}
 use Rattle.kat_model.specs.Trees.{prim, Term, zero, one, test, act, star}
 use Rattle.kat_model.specs.Trees.{complement}
@@ -17,7 +17,8 @@ joined Add e f = plus e f
 joined Subtract e f = minus e f
 joined Multiply e f = times e f
 
--- a name that is none of its sort has no tree of its own: it is refused before trees are built
+-- the tree of a name in an expression; a name of another sort gets an arbitrary tree, since measuring rejects it
+-- earlier
 abbrev pub variable_tree : Option Meaning → ExprTree
 variable_tree (Some (Var k)) = variable k
 variable_tree _ = number 0

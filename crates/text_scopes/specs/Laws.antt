@@ -1,4 +1,4 @@
--- What the passes over tokens make of phrases, and what the measures of a phrase tell of its tree.
+-- What the passes over tokens make of a phrase, and how the measures of a phrase relate to its tree.
 use Rattle.std.specs.Prelude.{◌≡◌, ℕ, List, [], ◌∷◌, min, nat_lt, if◌then◌else◌, false, Ok}
 use Rattle.kat_model.specs.Trees.{Term, test_size, term_size}
 use Rattle.kat_model.specs.Expressions.{ExprTree, CondTree, test_without_comparisons}
@@ -17,8 +17,8 @@ use Rattle.text_scopes.specs.ScopeParts.{ScopeParts}
 use Rattle.text_scopes.specs.Building.{trees}
 use Rattle.text_scopes.specs.Sound.{nesting}
 
--- What a pass with these actions makes of a phrase is what they make of its parts, in text order; and what it reads is a
--- phrase that is as long as it can be.
+-- A pass with these actions gives the fold of the actions over the phrase, in text order. It reads only phrases that
+-- are as long as possible.
 pub record PassesPhrases {E B L T M : Type 0} (g : Actions E B L T M) : Type 0 where
   pub terms : (c : Context) (p : Phrase term) (ts : List Lexeme) → MeetsLookahead p ts → IsLongest p ts → parse_term g choice c (yield_before p ts) ≡ before ts (fold g c p g.one_of)
   pub conds : (c : Context) (p : Phrase cond) (ts : List Lexeme) → MeetsLookahead p ts → IsLongest p ts → parse_cond g.conds disjunction c (yield_before p ts) ≡ before ts (fold g c p g.conds.one_of)
@@ -27,22 +27,22 @@ pub record PassesPhrases {E B L T M : Type 0} (g : Actions E B L T M) : Type 0 w
   pub read_conds : (c : Context) (ts rest : List Lexeme) (b : B) → parse_cond g.conds disjunction c ts ≡ Ok (b, rest) → IsPhrase cond c.depth ts rest
   pub read_exprs : (c : Context) (ts rest : List Lexeme) (e : E) → parse_expr g.conds.exprs sums c ts ≡ Ok (e, rest) → IsPhrase expr c.depth ts rest
 
--- the nodes that are told, given the largest expression: one past the most where it has more than 1,000
+-- the reported number of nodes: capped, and 100,001 if the largest expression has more than 1,000 nodes
 abbrev pub told_nodes : ℕ → ℕ → ℕ
 told_nodes largest size = if nat_lt 1000 largest then 100001 else capped size
 
--- the nodes that are told of a condition
+-- the reported number of nodes of a condition
 abbrev pub cond_nodes : CondTree → ℕ
 cond_nodes b = told_nodes (largest_expr b) (cond_size b)
 
--- the term has a tree, and the measures are those of the tree and of the term
+-- the term has a tree; the measures are the size of the tree and the nesting of the term, both capped
 pub record MeasuresTerm (w : ScopeParts) (c : Context) (p : Phrase term) (m : Extent) : Type 0 where
   pub tree : Term
   pub built : fold (trees w) c p (λ e. e ∷ []) ≡ Ok tree
   pub nodes : m.nodes ≡ capped (term_size tree)
   pub levels : m.nesting ≡ min (nesting w p) 201
 
--- likewise of a condition; one without comparisons has as many nodes as its test
+-- likewise for a condition; without comparisons, its nodes are those of its test
 pub record MeasuresCond (w : ScopeParts) (c : Context) (p : Phrase cond) (m : Extent) : Type 0 where
   pub tree : CondTree
   pub built : fold (trees w) c p (λ b. b ∷ []) ≡ Ok tree
@@ -50,7 +50,7 @@ pub record MeasuresCond (w : ScopeParts) (c : Context) (p : Phrase cond) (m : Ex
   pub as_test : c.compares ≡ false → m.nodes ≡ capped (test_size (test_without_comparisons tree))
   pub levels : m.nesting ≡ min (nesting w p) 201
 
--- and of an expression
+-- likewise for an expression
 pub record MeasuresExpr (w : ScopeParts) (c : Context) (p : Phrase expr) (m : Extent) : Type 0 where
   pub tree : ExprTree
   pub built : fold (trees w) c p (λ e. e) ≡ Ok tree

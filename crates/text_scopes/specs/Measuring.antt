@@ -1,4 +1,4 @@
--- The faults of the names of a phrase, and how large and how deep it is.
+-- The faults of the names of a phrase, and the size and nesting of the phrase.
 use Rattle.std.specs.Prelude.{ℕ, ◌+◌, max, min, if◌then◌else◌, nat_lt, slice_get, Result, Ok, Err, Option, Some, None}
 use Rattle.kat_model.specs.Trees.{term_size, test_size}
 use Rattle.text_tokens.specs.declared.fault.TextFault.{TextFault}
@@ -11,23 +11,23 @@ use Rattle.text_scopes.specs.declared.extent.Extent.{Extent}
 use Rattle.text_scopes.specs.Sizes.{is_test, as_test, capped}
 use Rattle.text_scopes.specs.ScopeParts.{Definition, ScopeParts, meaning}
 
--- nodes as it stands and as a test, and levels of nesting; all stop past their limits
+-- the extent of nodes, nodes as a test, and nesting, each capped at its limit plus one
 abbrev pub limited : ℕ → ℕ → ℕ → Extent
 limited nodes test_nodes nesting = record { nodes = capped nodes; test_nodes = capped test_nodes; nesting = min nesting 201 }
 
--- a phrase in parentheses is one level deeper
+-- the extent of a phrase in parentheses, which is one level deeper
 abbrev pub deeper : Extent → Extent
 deeper m = limited m.nodes m.test_nodes (m.nesting + 1)
 
--- two phrases with a node that joins them
+-- the extent of two phrases and a node that joins them
 abbrev pub linked : Extent → Extent → Extent
 linked m n = limited (m.nodes + n.nodes + 1) (m.test_nodes + n.test_nodes + 1) (max m.nesting n.nesting)
 
--- with one node on top
+-- the extent of a phrase with an additional node on top
 abbrev pub topped : Extent → Extent
 topped m = limited (m.nodes + 1) (m.test_nodes + 1) m.nesting
 
--- an expression of more than 1,000 nodes is too large wherever it stands
+-- the nodes of an expression in a comparison: more than 1,000 count as 100,001, which is too large
 abbrev pub compared_nodes : ℕ → ℕ
 compared_nodes n = if nat_lt 1000 n then 100001 else n
 
@@ -70,7 +70,7 @@ cond_extents w = record {
   any = λ m. m;
 }
 
--- a defined term, where it may stand
+-- the extent of a defined term, or the fault if the term is not allowed here
 abbrev pub defined_extent : Context → ℕ → Option Definition → Result Extent TextFault
 defined_extent c at None = Ok (limited 1 1 0)
 defined_extent c at (Some d) =
@@ -87,11 +87,11 @@ name_extent w c at (Some (Action a)) = if c.negated then Err (Sort at) else Ok (
 name_extent w c at (Some (TermName i)) = defined_extent c at (slice_get w.terms i)
 name_extent w c at (Some m) = Err (Sort at)
 
--- `!` makes a test of what it negates
+-- the extent of a `!`, which makes a test of its operand
 abbrev pub negated : Extent → Extent
 negated m = limited (m.test_nodes + 2) (m.test_nodes + 1) (m.nesting + 1)
 
--- brackets make a term of a condition
+-- the extent of a condition in brackets, which is a term
 abbrev pub tested : Extent → Extent
 tested m = limited (m.nodes + 1) m.nodes (m.nesting + 1)
 

@@ -1,4 +1,4 @@
--- What the names of a scope stand for.
+-- The meanings of the names of a scope.
 use Rattle.std.specs.Prelude.{◌≡◌, ◌<◌, ℕ, List, [], ◌∷◌, ◌++◌, length, Bool, true, false, Option, Some, None, IsSome, map as mapped, String, string_bytes}
 use Rattle.std.specs.Ordering.{nat_cmp}
 use Rattle.std.specs.Cmp.Lexicographic.{slice_cmp}
@@ -23,70 +23,71 @@ pub record Definition : Type 0 where
 abbrev pub Meanings : Type 0
 Meanings = FinMap (slice_cmp nat_cmp) Meaning
 
--- what each name stands for, and the defined terms by their numbers
+-- the meaning of each name, and the defined terms by number
 pub record ScopeParts : Type 0 where
   pub meanings : Meanings
   pub terms : List Definition
 
--- what the name stands for, where it is there
+-- the meaning of a name, or `None` if the name is undeclared
 abbrev pub meaning : ScopeParts → List ℕ → Option Meaning
 meaning w name = get w.meanings name
 
--- the meanings that entries of texts hold
+-- the meanings in a list of entries
 abbrev pub meanings_of : List (String Global × Meaning) → Meanings
 meanings_of entries = from_entries (mapped (λ e. (string_bytes e.0, e.1)) entries)
 
--- the name stands for this
+-- `name` denotes `m`
 abbrev pub Means : ScopeParts → List ℕ → Meaning → Type 0
 Means w name m = meaning w name ≡ Some m
 
--- no name stands for it
+-- no name denotes `m`
 abbrev pub IsUnnamed : ScopeParts → Meaning → Type 0
 IsUnnamed w m = (name : List ℕ) → Means w name m → ⊥
 
--- the name is there
+-- the name is declared
 abbrev pub IsDeclared : ScopeParts → List ℕ → Type 0
 IsDeclared w name = IsSome (meaning w name)
 
--- the name is not there
+-- the name is undeclared
 abbrev pub IsUndeclared : ScopeParts → List ℕ → Type 0
 IsUndeclared w name = meaning w name ≡ None
 
--- an identifier: a name that is no keyword
+-- an identifier: a name that is not a keyword
 pub record IsIdentifier (bytes : List ℕ) : Type 0 where
   pub name : IsToken Name bytes
   pub no_keyword : is_keyword bytes ≡ false
 
--- each name is an identifier, each term that is named is defined, and no two names stand for the same
+-- each name is an identifier, each named term is defined, and no two names denote the same
 pub record IsWellFormed (w : ScopeParts) : Type 0 where
   pub identifiers : (name : List ℕ) (m : Meaning) → Means w name m → IsIdentifier name
   pub in_range : (name : List ℕ) (i : ℕ) → Means w name (TermName i) → i < length w.terms
   pub one_name : (name other : List ℕ) (m : Meaning) → Means w name m → Means w other m → other ≡ name
 
--- the identifier is the one name that stands for it
+-- `name` is an identifier and the only name that denotes `m`
 pub record IsNameOf (w : ScopeParts) (name : List ℕ) (m : Meaning) : Type 0 where
   pub means : Means w name m
   pub identifier : IsIdentifier name
   pub only : (other : List ℕ) → Means w other m → other ≡ name
 
--- the world with no name and no term
+-- the scope without names and terms
 abbrev pub empty_scope : ScopeParts
 empty_scope = record { meanings = empty; terms = [] }
 
--- whether a defined term is meant
+-- whether the meaning is a defined term
 abbrev pub is_term : Meaning → Bool
 is_term (TermName i) = true
 is_term m = false
 
--- the world with one more name
+-- the scope with an additional name
 abbrev pub declared : ScopeParts → List ℕ → Meaning → ScopeParts
 declared w name m = record { meanings = insert w.meanings name m; terms = w.terms }
 
--- the world with one more defined term, which has the next number, and its name
+-- the scope with an additional defined term, which gets the next number, and its name
 abbrev pub defined : ScopeParts → List ℕ → Definition → ScopeParts
 defined w name d = record { meanings = insert w.meanings name (TermName (length w.terms)); terms = w.terms ++ d ∷ [] }
 
--- why a name is refused: it is there, which is told with the token's place, or it is not and memory is wanted
+-- why a declaration fails: `DoubleName` at the token's place if the name is declared; `NoMemory` only if it is
+-- undeclared
 abbrev pub IsRefusal : ScopeParts → Token → TextFault → Type 0
 IsRefusal w name NoMemory = IsUndeclared w name.text.now
 IsRefusal w name (DoubleName at) = (at ≡ name.at) × IsDeclared w name.text.now

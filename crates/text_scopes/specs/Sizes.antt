@@ -11,7 +11,7 @@ expr_size (plus e f) = expr_size e + expr_size f + 1
 expr_size (minus e f) = expr_size e + expr_size f + 1
 expr_size (times e f) = expr_size e + expr_size f + 1
 
--- the number of nodes, those of expressions among them
+-- the number of nodes, including those of expressions
 abbrev pub cond_size : CondTree → ℕ
 cond_size always = 1
 cond_size never = 1
@@ -21,7 +21,7 @@ cond_size (negation b) = cond_size b + 1
 cond_size (both b c) = cond_size b + cond_size c + 1
 cond_size (either b c) = cond_size b + cond_size c + 1
 
--- the size of the largest expression that is compared
+-- the size of the largest expression in a comparison, or 0
 abbrev pub largest_expr : CondTree → ℕ
 largest_expr always = 0
 largest_expr never = 0
@@ -31,7 +31,7 @@ largest_expr (negation b) = largest_expr b
 largest_expr (both b c) = max (largest_expr b) (largest_expr c)
 largest_expr (either b c) = max (largest_expr b) (largest_expr c)
 
--- whether no action and no star stands in the term
+-- whether the term has no action and no star
 abbrev pub is_test : Term → Bool
 is_test zero = true
 is_test one = true
@@ -41,7 +41,7 @@ is_test (sum e f) = is_test e && is_test f
 is_test (product e f) = is_test e && is_test f
 is_test (star e) = false
 
--- the term as a test; what is none counts as false
+-- the term as a test; an action or a star counts as false
 abbrev pub as_test : Term → TestTree
 as_test zero = bottom
 as_test one = top
@@ -51,6 +51,6 @@ as_test (sum e f) = join (as_test e) (as_test f)
 as_test (product e f) = meet (as_test e) (as_test f)
 as_test (star e) = bottom
 
--- the most nodes of a phrase, and one more
+-- `n`, capped at the maximum number of nodes plus one
 abbrev pub capped : ℕ → ℕ
 capped n = min n 100001

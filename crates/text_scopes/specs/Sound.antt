@@ -1,4 +1,4 @@
--- Which phrases may stand in a world, and how deep they are with their names expanded.
+-- The phrases that are allowed in a scope, and their nesting with defined names expanded.
 use Rattle.std.specs.Prelude.{◌≡◌, ◌≤◌, ◌+◌, ℕ, max, true, false, slice_get, Option, Some, None}
 use Rattle.text_grammar.specs.declared.reading.Context.{Context}
 use Rattle.text_grammar.specs.Actions.{context}
@@ -8,38 +8,38 @@ use Rattle.text_scopes.specs.declared.meaning.Meaning.TheVariants.{Test, Action,
 use Rattle.text_scopes.specs.Sizes.{is_test}
 use Rattle.text_scopes.specs.ScopeParts.{Definition, ScopeParts, meaning}
 
--- what is known inside a parenthesis or a bracket
+-- the context inside a parenthesis or a bracket
 abbrev pub inside : Context → Context
 inside c = context (c.depth + 1) c.negated c.compares
 
--- and in the operand of a `!`
+-- the context in the operand of a `!`
 abbrev pub inside_not : Context → Context
 inside_not c = context (c.depth + 1) true c.compares
 
--- a defined term may stand here: it is a test where a `!` negates it, and it is not too deep
+-- a defined term is allowed here: it is a test if a `!` encloses it, and it is not too deep
 abbrev pub IsUsable : Context → Option Definition → Type 0
 IsUsable c None = Unit {0}
 IsUsable c (Some d) = (c.negated ≡ true → is_test d.tree ≡ true) × (c.depth + d.nesting ≤ 200)
 
--- a name in a term stands for a test, for an action that no `!` negates, or for a term that may stand here
+-- a name in a term denotes a test, an action outside of every `!`, or a term that is allowed here
 abbrev pub IsTermName : ScopeParts → Context → Option Meaning → Type 0
 IsTermName w c (Some (Test k)) = Unit {0}
 IsTermName w c (Some (Action a)) = c.negated ≡ false
 IsTermName w c (Some (TermName i)) = IsUsable c (slice_get w.terms i)
 IsTermName w c _ = ⊥
 
--- a lone name in a condition stands for a test
+-- a name that is a condition denotes a test
 abbrev pub IsCondName : Option Meaning → Type 0
 IsCondName (Some (Test k)) = Unit {0}
 IsCondName _ = ⊥
 
--- a name in an expression stands for a variable
+-- a name in an expression denotes a variable
 abbrev pub IsExprName : Option Meaning → Type 0
 IsExprName (Some (Var k)) = Unit {0}
 IsExprName _ = ⊥
 
--- each name is declared, is of its sort and is not too deep, each number stands where comparisons may, and no `!`
--- negates a star
+-- each name is declared, of the right sort and not too deep, each number is where comparisons are allowed, and no star
+-- is under a `!`
 abbrev pub IsSound : ScopeParts → Context → {x : Symbol} → Phrase x → Type 0
 IsSound w c (one_prod p) = IsSound w c p
 IsSound w c (more_prods p l t) = IsSound w c p × IsSound w c t
@@ -70,17 +70,17 @@ IsSound w c (name_fac l) = (c.compares ≡ true) × IsExprName (meaning w l.text
 IsSound w c (round_fac l e r) = IsSound w (inside c) e
 IsSound w c _ = Unit {0}
 
--- how deep a defined term is
+-- the nesting of a defined term
 abbrev pub defined_nesting : Option Definition → ℕ
 defined_nesting None = 0
 defined_nesting (Some d) = d.nesting
 
--- how deep a name is
+-- the nesting of a name
 abbrev pub name_nesting : ScopeParts → Option Meaning → ℕ
 name_nesting w (Some (TermName i)) = defined_nesting (slice_get w.terms i)
 name_nesting w _ = 0
 
--- how many constructs are open at one place at most, defined names expanded
+-- the maximum number of constructs open at one place, with defined names expanded
 abbrev pub nesting : ScopeParts → {x : Symbol} → Phrase x → ℕ
 nesting w (one_prod p) = nesting w p
 nesting w (more_prods p l t) = max (nesting w p) (nesting w t)

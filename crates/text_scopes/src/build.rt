@@ -1,4 +1,4 @@
-//! The tree of a phrase.
+//! Builds the tree of a phrase.
 ghost use Rattle.std.specs.Prelude.{◌≡◌, IfOk, map, slice_get};
 ghost use Rattle.kat_model.specs.Trees.{kat_tree, test};
 ghost use Rattle.kat_model.specs.Expressions.{expr_tree, cond_tree};
@@ -15,7 +15,7 @@ use std::alloc::Global;
 use text_grammar::{Context, Operator, Reading};
 use text_tokens::TextFault;
 
-// Builds the tree of a phrase that was measured before.
+// The actions that build the tree of a phrase. The phrase was measured before.
 #[derive(Clone, Copy)]
 pub(crate) struct Build<'a> {
     pub(crate) alloc: Global,

@@ -1,4 +1,4 @@
-//! Terms turned into tests.
+//! Converts terms to tests.
 ghost use Rattle.std.specs.Prelude.{◌≡◌, IfOk};
 ghost use Rattle.kat_model.specs.Trees.{complement, test, test_tree, kat_tree};
 ghost use Rattle.text_scopes.specs.Sizes.{as_test};
@@ -6,7 +6,7 @@ ghost use Rattle.text_scopes.specs.Sizes.{as_test};
 use kat_model::{Kat, NoMemory, Test};
 use std::alloc::Global;
 
-// The term as a test; what is none counts as false.
+// Converts a term to a test. An action or a star becomes false.
 fn as_test(alloc: Global, term: Kat) -> Result<Test, NoMemory>
     ensures { IfOk result (λ t. test_tree t ≡ as_test (kat_tree term)) }
 {
@@ -27,7 +27,7 @@ fn as_test(alloc: Global, term: Kat) -> Result<Test, NoMemory>
     }
 }
 
-// The opposite of the term as a test.
+// Returns the complement of the term as a test.
 pub(crate) fn negated(alloc: Global, term: Kat) -> Result<Kat, NoMemory>
     ensures { IfOk result (λ e. kat_tree e ≡ test (complement (as_test (kat_tree term)))) }
 {

@@ -1,4 +1,4 @@
-//! A defined term.
+//! Defined terms.
 ghost use Rattle.std.specs.Prelude.{◌≡◌};
 ghost use Rattle.kat_model.specs.Trees.{kat_tree, term_size, test_size};
 ghost use Rattle.kat_model.specs.Problems.{counted};
@@ -8,7 +8,7 @@ ghost use Rattle.text_scopes.specs.Measuring.{limited};
 use crate::extent::{Extent, cut_extent};
 use kat_model::Kat;
 
-// A defined term, how large and how deep the phrase is, and whether it is a test.
+// A defined term with the size and nesting of its phrase, and whether it is a test.
 #[derive(Drop)]
 pub(crate) struct Definition {
     pub(crate) tree: Kat,
@@ -19,7 +19,7 @@ pub(crate) struct Definition {
     pub(crate) ghost told: { testable ≡ is_test (kat_tree tree) },
 }
 
-// Whether no action and no star stands in the term.
+// Whether the term has no action and no star.
 fn is_test(term: &Kat) -> bool
     ensures { result ≡ is_test (kat_tree term.now) }
 {
@@ -30,7 +30,7 @@ fn is_test(term: &Kat) -> bool
     }
 }
 
-// The number of nodes of the term as a test, which stops at `u64::MAX`.
+// Returns the number of nodes of the term as a test, at most `u64::MAX`.
 fn test_size(term: &Kat) -> u64
     ensures { result ≡ counted (test_size (as_test (kat_tree term.now))) }
 {
@@ -46,7 +46,7 @@ fn test_size(term: &Kat) -> u64
 impl Definition {
     ghost use Rattle.text_scopes.specs.Definitions.{definition_of};
 
-    // The term with its measures.
+    // Makes the definition of a term and computes its measures.
     pub(crate) fn new(tree: Kat, nesting: usize) -> Definition
         ensures { definition_of result ≡ record { tree = kat_tree tree; nesting = nesting } }
     {

@@ -1,17 +1,18 @@
-//! How large and how deep a phrase is.
+//! The size and the nesting of a phrase.
 ghost use Rattle.std.specs.Prelude.{◌≡◌};
 ghost use Rattle.text_scopes.specs.Measuring.{limited, deeper, linked, topped, negated, tested, compared_nodes, compare};
 
 use kat_model::{MAX_EXPR_NODES, MAX_OPEN, MAX_TERM_NODES};
 
-/// How large and how deep a phrase is. Each number stops one past its limit.
+/// The size and the nesting of a phrase. Each number is capped at its limit plus one.
 #[derive(Clone, Copy, Debug, PartialEq, Eq)]
 pub struct Extent {
-    /// The nodes of its tree, at most 100,001; an expression of more than 1,000 nodes in it makes them 100,001.
+    /// The number of nodes of its tree, at most 100,001. It is 100,001 if an expression in it has more than 1,000
+    /// nodes.
     pub nodes: u64,
-    /// The nodes of its tree as a test, at most 100,001, where it is one.
+    /// The number of nodes of its tree as a test, at most 100,001. Meaningful only if the phrase is a test.
     pub test_nodes: u64,
-    /// How many constructs are open in it at one place at most, defined names expanded; at most 201.
+    /// The maximum number of constructs open at one place, with defined names expanded; at most 201.
     pub nesting: usize,
 }
 

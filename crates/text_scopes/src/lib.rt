@@ -1,4 +1,4 @@
-//! Terms, conditions and expressions, read from their text in a scope.
+//! Reads terms, conditions and expressions from their text in a scope.
 #![tactic(auto)]
 
 mod build;

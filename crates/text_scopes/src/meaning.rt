@@ -1,6 +1,6 @@
-//! What a name can stand for.
+//! Meanings of names.
 
-/// What a name stands for, by its number among those of its kind.
+/// What a name denotes, by its number within its kind.
 #[derive(Clone, Copy, Debug, PartialEq, Eq, PartialOrd, Ord)]
 pub enum Meaning {
     /// A primitive test.

@@ -1,4 +1,4 @@
-//! The faults of the names of a phrase, and how large and how deep it is.
+//! The faults of the names of a phrase, and the size and nesting of the phrase.
 ghost use Rattle.std.specs.Prelude.{◌≡◌, slice_get};
 ghost use Rattle.text_grammar.specs.Parsed.{Makes};
 ghost use Rattle.text_scopes.specs.ScopeParts.{meaning};
@@ -11,7 +11,7 @@ use kat_model::{MAX_OPEN, Rel};
 use text_grammar::{Context, Operator, Reading};
 use text_tokens::TextFault;
 
-// Measures a phrase, and refuses what may not stand in it.
+// The actions that measure a phrase and reject what is not allowed in it.
 #[derive(Clone, Copy)]
 pub(crate) struct Measure<'a> {
     pub(crate) scope: &'a Scope,

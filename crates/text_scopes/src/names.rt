@@ -1,4 +1,4 @@
-//! Names and what they stand for, found either way.
+//! A table of names and their meanings, with lookup in both directions.
 ghost use Rattle.std.specs.Prelude.{◌≡◌, IsSome, IfSome, IfNone, IfErr, OnOk, OnErr, ℕ, List};
 ghost use Rattle.std.specs.FinMap as map;
 
@@ -9,7 +9,7 @@ use std::collections::BTreeMap;
 use std::marker::Model;
 use text_tokens::{TextFault, Token};
 
-// A one-to-one table: each name stands for one meaning, and each meaning has at most one name.
+// A one-to-one table: each name denotes one meaning, and each meaning has at most one name.
 #[derive(Drop)]
 pub(crate) struct Names {
     alloc: Global,
@@ -43,14 +43,14 @@ impl Names {
         }
     }
 
-    // What the name stands for.
+    // Returns the meaning of the name.
     pub(crate) fn meaning(&self, name: &str) -> Option<Meaning>
         ensures { result ≡ map.get self.now name.now }
     {
         self.meanings.get(name).copied()
     }
 
-    // The name that stands for it.
+    // Returns the name that denotes the meaning.
     pub(crate) fn name(&self, meaning: Meaning) -> Option<&str>
         ensures means { IfSome result (λ name. map.get self.now name.now ≡ Some meaning) }
         ensures only { IfSome result (λ name. (other : List ℕ) → map.get self.now other ≡ Some meaning → other ≡ name.now) }
@@ -60,7 +60,7 @@ impl Names {
         Some(name.as_str())
     }
 
-    // Refuses a name that is there, at its place.
+    // Fails with `DoubleName` at the token's place if the name is in the table.
     pub(crate) fn check_new(&self, name: &Token) -> Result<(), TextFault>
         ensures new { OnOk result (map.get self.now name.now.text.now ≡ None) }
         ensures double { IfErr result (λ fault. (fault ≡ TextFault.DoubleName name.now.at) × IsSome (map.get self.now name.now.text.now)) }
@@ -71,7 +71,7 @@ impl Names {
         }
     }
 
-    // Has a name stand for a meaning, both of which are new.
+    // Inserts a name with its meaning, both of which must be new.
     pub(crate) fn insert(&mut self, name: &str, meaning: Meaning) -> Result<(), NoMemory>
         requires new_name { map.get self.old name.now ≡ None }
         requires unnamed { (other : List ℕ) → map.get self.old other ≡ Some meaning → ⊥ }

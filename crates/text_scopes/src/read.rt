@@ -1,4 +1,4 @@
-//! Terms, conditions and expressions read in a scope.
+//! Reads terms, conditions and expressions in a scope.
 ghost use Rattle.std.specs.Prelude.{◌≡◌, ◌<◌, ◌≤◌, length, drop, IfOk, IfErr, nat_lt, false, true};
 ghost use Rattle.kat_model.specs.Trees.{kat_tree};
 ghost use Rattle.kat_model.specs.Expressions.{cond_tree, expr_tree};
@@ -21,8 +21,8 @@ use std::alloc::Global;
 use text_grammar::{Context, place_at};
 use text_tokens::{TextFault, Token};
 
-/// How large and how deep the term that begins at `from` is, with `depth` constructs open around it, and the index
-/// after it; or the first fault of its syntax or its names in text order. It takes no memory.
+/// Returns the size and nesting of the term that begins at `from`, with `depth` open constructs around it, and the
+/// index after the term; or the first fault in its syntax or its names in text order. Takes no memory.
 pub fn measure_term(
     toks: &[Token],
     from: usize,
@@ -40,8 +40,8 @@ pub fn measure_term(
     )
 }
 
-/// How large and how deep the condition that begins at `from` is, as `measure_term` for a term. Where `compares` is
-/// false, variables and numbers in it are `Sort`.
+/// Measures the condition that begins at `from`, like `measure_term` for a term. If `compares` is false, variables and
+/// numbers in it are `Sort` faults.
 pub fn measure_cond(
     toks: &[Token],
     from: usize,
@@ -60,7 +60,7 @@ pub fn measure_cond(
     )
 }
 
-/// How large and how deep the expression that begins at `from` is, as `measure_term` for a term.
+/// Measures the expression that begins at `from`, like `measure_term` for a term.
 pub fn measure_expr(
     toks: &[Token],
     from: usize,
@@ -78,8 +78,8 @@ pub fn measure_expr(
     )
 }
 
-/// The tree of the term that begins at `from`, with `depth` constructs open around it, and the index after it. What
-/// `measure_term` refuses need not be refused; the size of the tree is what it told.
+/// Returns the tree of the term that begins at `from`, with `depth` open constructs around it, and the index after the
+/// term. May accept a term that `measure_term` rejects; a term that it accepts has a tree of the measured size.
 pub fn build_term(
     alloc: Global,
     toks: &[Token],
@@ -98,7 +98,7 @@ pub fn build_term(
     )
 }
 
-/// The tree of the condition that begins at `from`, as `build_term` for a term.
+/// Builds the condition that begins at `from`, like `build_term` for a term.
 pub fn build_cond(
     alloc: Global,
     toks: &[Token],
@@ -118,7 +118,7 @@ pub fn build_cond(
     )
 }
 
-/// The tree of the expression that begins at `from`, as `build_term` for a term.
+/// Builds the expression that begins at `from`, like `build_term` for a term.
 pub fn build_expr(
     alloc: Global,
     toks: &[Token],
@@ -147,10 +147,10 @@ fn within(extent: Extent, limit: u64, at: usize) -> Result<(), TextFault>
     Ok(())
 }
 
-/// The term that begins at `from`, with `depth` constructs open around it: its tree, the index after it, and its
-/// nesting, counted from the term itself. Or the first fault of its syntax or its names in text order (`UnknownName`,
-/// `Sort`, or `TooDeep` through a defined name, each at its token), or, where no token has one, `TooLarge` past 100,000
-/// nodes, at the first token.
+/// Reads the term that begins at `from`, with `depth` open constructs around it. Returns its tree, the index after it,
+/// and its nesting, counted from the term itself. Otherwise fails with the first fault in its syntax or its names in
+/// text order (`UnknownName`, `Sort`, or `TooDeep` through a defined name, each at its token). If no token has a fault,
+/// fails with `TooLarge` at the first token if the term has more than 100,000 nodes, or when out of memory.
 pub fn read_term(
     alloc: Global,
     toks: &[Token],
@@ -167,8 +167,8 @@ pub fn read_term(
     Ok((term, end, extent.nesting))
 }
 
-/// The condition that begins at `from`, as `read_term` for a term. Where `compares` is false, variables and numbers
-/// in it are `Sort`. An expression of more than 1,000 nodes is `TooLarge` too.
+/// Reads the condition that begins at `from`, like `read_term` for a term. If `compares` is false, variables and
+/// numbers in it are `Sort` faults. An expression of more than 1,000 nodes is a `TooLarge` fault too.
 pub fn read_cond(
     alloc: Global,
     toks: &[Token],
@@ -186,7 +186,7 @@ pub fn read_cond(
     Ok((cond, end, extent.nesting))
 }
 
-/// The expression that begins at `from`, as `read_term` for a term, with `TooLarge` past 1,000 nodes.
+/// Reads the expression that begins at `from`, like `read_term` for a term; `TooLarge` if it has more than 1,000 nodes.
 pub fn read_expr(
     alloc: Global,
     toks: &[Token],

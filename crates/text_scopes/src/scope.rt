@@ -1,4 +1,4 @@
-//! What names stand for.
+//! Scopes: the meanings of names.
 ghost use Rattle.std.specs.Prelude.{◌≡◌, length, slice_get, false, IfSome, IfNone, OnOk, OnErr, IfErr};
 ghost use Rattle.std.specs.Option.{option_map};
 ghost use Rattle.kat_model.specs.Trees.{kat_tree};
@@ -16,7 +16,7 @@ use std::alloc::Global;
 use std::marker::Model;
 use text_tokens::{TextFault, Token};
 
-/// The names that are declared, what each stands for, and the defined terms. All kinds share one name space.
+/// The declared names with their meanings, and the defined terms. All kinds share one name space.
 #[derive(Drop)]
 pub struct Scope {
     names: Names,
@@ -40,7 +40,7 @@ impl Model for Scope {
 }
 
 impl Scope {
-    /// The scope that declares nothing.
+    /// Creates a scope without names.
     pub fn new(alloc: Global) -> Scope
         ensures { result ≡ empty_scope }
     {
@@ -50,7 +50,7 @@ impl Scope {
         }
     }
 
-    /// What the name stands for; `None` exactly where no such name is declared.
+    /// Returns the meaning of the name, or `None` if and only if the name is not declared.
     pub fn find(&self, text: &str) -> Option<Meaning>
         ensures value { result ≡ meaning self.now text.now }
         ensures well_formed { IsWellFormed self.now }
@@ -58,7 +58,7 @@ impl Scope {
         self.names.meaning(text)
     }
 
-    /// The one name that stands for it; `None` exactly where no name does.
+    /// Returns the one name that denotes the meaning, or `None` if and only if no name does.
     pub fn name(&self, meaning: Meaning) -> Option<&str>
         ensures named { IfSome result (λ text. IsNameOf self.now text.now meaning) }
         ensures unnamed { IfNone result (IsUnnamed self.now meaning) }
@@ -66,9 +66,10 @@ impl Scope {
         self.names.name(meaning)
     }
 
-    /// Declares a name. The token is a name, as [`text_tokens::tokens`] gives them, and no keyword. The meaning is no term,
-    /// and no name stands for it yet, as [`Scope::name`] tells. `DoubleName` comes with the token's place exactly where
-    /// the name is there, whatever it stands for. Otherwise it fails only when out of memory. Both leave the scope as it was.
+    /// Declares a name. The token must be a name, as from [`text_tokens::tokens`], and not a keyword. The meaning must
+    /// not be a term, and no name may denote it yet (see [`Scope::name`]). Fails with `DoubleName` at the token's place
+    /// if and only if the name is declared, whatever it denotes. Otherwise fails only when out of memory. On failure
+    /// the scope is unchanged.
     pub fn declare(&mut self, name: &Token, meaning: Meaning) -> Result<(), TextFault>
         requires name { IsToken Name name.now.text.now }
         requires no_keyword { is_keyword name.now.text.now ≡ false }
@@ -84,9 +85,9 @@ impl Scope {
         Ok(())
     }
 
-    /// Declares a name that stands for a term, which is numbered by how many were defined before it. The nesting is
-    /// that of the phrase that defines the term. The token is as for [`Scope::declare`], and the refusals are the same;
-    /// they drop the tree.
+    /// Defines a term and its name. The term's number is the number of terms defined before it. `nesting` is that of
+    /// the phrase that defines the term. Requirements on the token and failures are those of [`Scope::declare`]; a
+    /// failure drops the tree.
     pub fn define_term(&mut self, name: &Token, tree: Kat, nesting: usize) -> Result<(), TextFault>
         requires name { IsToken Name name.now.text.now }
         requires no_keyword { is_keyword name.now.text.now ≡ false }
@@ -106,14 +107,14 @@ impl Scope {
         Ok(())
     }
 
-    /// How many terms are defined.
+    /// Returns the number of defined terms.
     pub fn terms(&self) -> usize
         ensures { result ≡ length self.now.terms }
     {
         self.definitions.len()
     }
 
-    // The defined term of a number.
+    // Returns the defined term with number `i`.
     pub(crate) fn definition(&self, i: usize) -> Option<&Definition>
         ensures { option_map (λ d. definition_of d.now) result ≡ slice_get self.now.terms i }
     {

@@ -1,4 +1,4 @@
--- With what a token begins.
+-- The first byte or character of a token.
 use Rattle.std.proofs.Common.{◌≡◌, ◌⊎◌, ◌<◌, ℕ, List, [], ◌∷◌, ◌++◌, length, Bool, true, false, not, ◌&&◌, ◌||◌, ◌==◌, refl, sym, subst, inl, inr, arith, nat_lt, lit<}
 use Rattle.std.proofs.lemmas.Bool.{and_parts, eqb-true}
 use Rattle.std.proofs.lemmas.Bool.Decides.{nat_tests}
@@ -18,7 +18,7 @@ either : (a b : Bool) → (a || b) ≡ true → (a ≡ true) ⊎ (b ≡ true)
 either true b e = inl refl
 either false b e = inr e
 
--- one of the texts of a list all of whose texts pass
+-- a text of a list passes if all texts of the list pass
 pub passes_all : (q : List ℕ → Bool) (bytes : List ℕ) (xs : List (List ℕ)) → list_any (bytes_eq bytes) xs ≡ true → list_all q xs ≡ true → q bytes ≡ true
 passes_all q bytes [] any all = cc
 passes_all q bytes (x ∷ xs) any all =
@@ -30,11 +30,11 @@ passes_all q bytes (x ∷ xs) any all =
 
 -- ---- symbols
 
--- an ASCII byte that is no letter, no digit, no underscore, no separator and no `#`
+-- an ASCII byte that is not a letter, a digit, an underscore, a separator or `#`
 abbrev pub is_mark : ℕ → Bool
 is_mark a = nat_lt a 128 && (not (is_ascii_alphabetic a) && (not (is_ascii_digit a) && (not (a == 95) && (not (is_separator a) && not (a == 35)))))
 
--- one or two such bytes
+-- one or two marks
 abbrev pub is_marks : List ℕ → Bool
 is_marks [] = false
 is_marks (a ∷ []) = is_mark a
@@ -82,14 +82,14 @@ name_chars bytes (c ∷ ds) e named = let parts = and_parts _ _ named in (c, ds,
 pub name_begins : (bytes : List ℕ) → IsToken Name bytes → (c : ℕ) × (ds : List ℕ) × (bytes ≡ encode_utf8 c ++ encode_utf8_all ds) × (begins_name c ≡ true) × (list_all is_xid_continue ds ≡ true)
 name_begins bytes name = let parts = name_parts bytes name in name_chars bytes (chars bytes) (encodes-chars bytes parts.0) parts.1
 
--- what begins a name continues one
+-- a character that begins a name also continues one
 pub begins_continues : (c : ℕ) → begins_name c ≡ true → is_xid_continue c ≡ true
 begins_continues c e = elim (either _ _ e) [
   | inl starts ↦ is_xid_start-is_xid_continue c starts
   | inr underscore ↦ let same : c ≡ 95 = eqb-true c 95 underscore in subst (λ v. is_xid_continue v ≡ true) (sym same) (is_xid_continue-ascii 95 (lit< tt))
 ]
 
--- ---- a byte begins tokens of one kind
+-- ---- a byte begins tokens of only one kind
 
 -- an ASCII character that begins a name is a letter or an underscore
 pub begins_letter : (c : ℕ) → c < 128 → begins_name c ≡ true → (is_ascii_alphabetic c || (c == 95)) ≡ true
@@ -114,7 +114,7 @@ begins_no_mark c e token_parts = digit_or_mark_no_letter c (begins_letter c (mar
 pub digit_no_mark : (c : ℕ) → is_ascii_digit c ≡ true → is_mark c ≡ true → ⊥
 digit_no_mark c digit token_parts = grind (arith, nat_tests)
 
--- ---- a token has a byte
+-- ---- a character has at least one byte
 
 pub char_some : (c : ℕ) → 0 < length (encode_utf8 c)
 char_some c = omega (arith, length-encode c, (len_utf8_bounds c).0)

@@ -1,4 +1,4 @@
--- The token at the front, by its first character.
+-- The first token of a text, by its first character.
 use Rattle.std.proofs.Common.{◌≡◌, ◌≤◌, ◌<◌, ◌+◌, ℕ, List, [], ◌∷◌, ◌++◌, length, drop, take, Bool, true, false, refl, sym, ap, ◌∙◌, arith, subst, length-append, length-take-le, length-drop, take-append-drop, append_assoc, get_or, zero, suc, cond, add-one, if◌then◌else◌}
 use Rattle.std.proofs.lemmas.Bool.{not-false, and_parts}
 use Rattle.std.proofs.lemmas.List.{length-take}
@@ -19,11 +19,11 @@ use Rattle.text_tokens.proofs.NameRuns.{ends_run}
 use Rattle.text_tokens.proofs.Beginnings.{is_mark, symbol_marks, symbol_begins, number_begins, number_digits, digits_number, name_begins, name_from_parts, begins_continues, begins_no_digit, begins_no_mark, digit_no_mark, digit_small, mark_small, char_some}
 use Rattle.text_tokens.proofs.Runs.{run_longest, digits_longest, digits_all, symbol_longest}
 
--- the text begins with this character
+-- the text begins with character `c`
 abbrev pub Begins : List ℕ → ℕ → Type 0
 Begins text c = (rest : List ℕ) × (text ≡ encode_utf8 c ++ rest)
 
--- the first character of a token at the front is the text's
+-- a token at the start of a text has the text's first character
 pub same_first : (text : List ℕ) (c d : ℕ) (token tail more : List ℕ) → Begins text c → token ≡ encode_utf8 d ++ tail → text ≡ token ++ more → d ≡ c
 same_first text c d token tail more (rest, e) opens front =
     (encode_same d c (tail ++ more) rest (sym (append_assoc (encode_utf8 d) tail more) ∙ ap (λ l. l ++ more) (sym opens) ∙ sym front ∙ e)).0
@@ -35,7 +35,7 @@ same_byte text c a token tail more small (rest, e) opens front =
     let some : 0 < length text = omega (arith, ap length whole) in
     char_from_byte text rest c e (omega (arith, first, small)) some ∙ first
 
--- what the first character says of a token at the front
+-- the kind of a token at the start of a text restricts the text's first character
 first_begins : (text : List ℕ) (c : ℕ) (token more : List ℕ) → Begins text c → IsToken Name token → text ≡ token ++ more → begins_name c ≡ true
 first_begins text c token more begins named front =
     let name = name_begins token named in
@@ -57,14 +57,14 @@ continues_all : (cs : List ℕ) → NonePass ends_run cs → list_all is_xid_con
 continues_all [] none = refl
 continues_all (c ∷ cs) (here, none) = both_true (not-false (is_xid_continue c) here) (continues_all cs none)
 
--- the run at the front has a character, and is a name
+-- a non-empty run that begins with a character that begins a name is a name
 run_is_name : (text : List ℕ) (n c : ℕ) (cs : List ℕ) → Begins text c → begins_name c ≡ true → encode_utf8_all cs ≡ take n text → list_all is_xid_continue cs ≡ true → 0 < n → n ≤ length text → is_name cs ≡ true
 run_is_name text n c [] begins starts e all some within = absurd (omega (arith, ap length e, length-take-le n text within))
 run_is_name text n c (d ∷ ds) begins starts e all some within =
     let same : d ≡ c = same_first text c d (take n text) (encode_utf8_all ds) (drop n text) begins (sym e) (sym (take-append-drop n text)) in
     both_true (subst (λ v. begins_name v ≡ true) (sym same) starts) (and_parts (is_xid_continue d) (list_all is_xid_continue ds) all).1
 
--- at a character that begins a name the run is not empty
+-- the run is not empty if the first character begins a name
 run_some : (text : List ℕ) (n c : ℕ) → Begins text c → begins_name c ≡ true → IsNameLen text n → 0 < n
 run_some text zero c begins starts run =
     let some : 0 < length text = omega (arith, ap length begins.1, length-append (encode_utf8 c) begins.0, char_some c) in
@@ -75,7 +75,7 @@ run_some text zero c begins starts run =
     cc
 run_some text (suc n) c begins starts run = omega arith
 
--- no token is longer than the run
+-- no token at the start is longer than the run
 run_no_longer : (text : List ℕ) (n c : ℕ) (cs : List ℕ) → Begins text c → begins_name c ≡ true → encode_utf8_all cs ≡ take n text → IsNameLen text n
     → (other : Kind) (longer rest : List ℕ) → IsToken other longer → text ≡ longer ++ rest → length longer ≤ length (take n text)
 run_no_longer text n c cs begins starts spelled run Name longer rest named front =
@@ -90,7 +90,7 @@ run_no_longer text n c cs begins starts spelled run Number longer rest digits fr
 run_no_longer text n c cs begins starts spelled run Symbol longer rest symbol front =
     absurd (begins_no_mark c starts (first_mark text c longer rest begins symbol front))
 
--- at a character that begins a name, the run from it on is the longest token
+-- if the first character begins a name, the run is the longest token
 pub name_first : (text : List ℕ) (n c : ℕ) → IsUtf8 text → Begins text c → begins_name c ≡ true → IsNameLen text n → IsFirst Name n text
 name_first text n c utf8 begins starts run =
     let cs = run.run.0 in
@@ -111,7 +111,7 @@ name_first text n c utf8 begins starts run =
 
 -- ---- numbers
 
--- after ASCII the text may be cut
+-- a text may be cut after a prefix of ASCII bytes
 ascii_cut : (text : List ℕ) (n : ℕ) → IsUtf8 text → n ≤ length text → ((i : ℕ) → i < n → get_or text i 0 < 128) → IsCharBoundary text n
 ascii_cut text zero utf8 within small = IsCharBoundary-start text utf8
 ascii_cut text (suc n) utf8 within small = subst (IsCharBoundary text) (add-one n) (IsCharBoundary-after_ascii text n utf8 (omega (arith, within)) (small n (omega arith)))
@@ -128,7 +128,7 @@ digits_small (b ∷ bs) i below = small_step b bs (take_while is_ascii_digit bs)
 digits_within : (bytes : List ℕ) → length (take_while is_ascii_digit bytes) ≤ length bytes
 digits_within bytes = simp length-take (omega arith)
 
--- a run of digits is the front that it counts
+-- the prefix as long as the leading run of digits is that run
 digits_front : (bytes : List ℕ) → take (length (take_while is_ascii_digit bytes)) bytes ≡ take_while is_ascii_digit bytes
 digits_front bytes = same_take (prefix_len is_ascii_digit bytes) bytes
   where
@@ -146,7 +146,7 @@ digits_no_longer text c begins starts digit Number longer rest digits front =
 digits_no_longer text c begins starts digit Symbol longer rest symbol front =
     absurd (digit_no_mark c digit (first_mark text c longer rest begins symbol front))
 
--- at a digit the run of digits is the longest token
+-- if the first character is a digit, the run of digits is the longest token
 pub number_first : (text : List ℕ) (c : ℕ) → IsUtf8 text → Begins text c → begins_name c ≡ false → is_ascii_digit c ≡ true → IsFirst Number (length (take_while is_ascii_digit text)) text
 number_first text c utf8 begins starts digit =
     let n = length (take_while is_ascii_digit text) in
@@ -167,7 +167,7 @@ number_first text c utf8 begins starts digit =
 
 -- ---- symbols
 
--- the longest symbol at the front
+-- the first `n` bytes are a symbol of ASCII bytes
 record SymbolParts (text : List ℕ) (n : ℕ) : Type 0 where
   within : n ≤ length text
   symbol : IsToken Symbol (take n text)
@@ -204,7 +204,7 @@ symbol_no_longer text c begins starts digit within Number longer rest digits fro
 symbol_no_longer text c begins starts digit within Symbol longer rest symbol front =
     omega (arith, symbol_longest longer rest text front symbol, length-take-le (symbol_len text) text within)
 
--- at any other character the longest symbol is the longest token
+-- if any other character comes first, the longest symbol is the longest token
 pub symbol_first : (text : List ℕ) (c : ℕ) → IsUtf8 text → Begins text c → begins_name c ≡ false → is_ascii_digit c ≡ false → 0 < symbol_len text → IsFirst Symbol (symbol_len text) text
 symbol_first text c utf8 begins starts digit some =
     let parts = symbol_parts text some in
@@ -220,7 +220,7 @@ symbol_first text c utf8 begins starts digit some =
       };
     }
 
--- ---- nothing
+-- ---- no token
 
 pub none_first : (text : List ℕ) (c : ℕ) → Begins text c → begins_name c ≡ false → is_ascii_digit c ≡ false → symbol_len text ≡ 0 → BeginsNone text
 none_first text c begins starts digit none Name token rest named front =

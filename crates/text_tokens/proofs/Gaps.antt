@@ -10,7 +10,7 @@ use Rattle.text_tokens.specs.Kinds.{is_separator}
 use Rattle.text_tokens.specs.Lex.{gap_len}
 use Rattle.text_tokens.proofs.Beginnings.{char_some}
 
--- ---- how long a gap is
+-- ---- the length of a gap
 
 one_more : (n : ℕ) (b : ℕ) (bs : List ℕ) → drop (1 + n) (b ∷ bs) ≡ drop n bs
 one_more n b bs = grind arith
@@ -25,9 +25,9 @@ gap_within false (b ∷ bs) = step (b == 35) (is_separator b) (gap_len true bs) 
     step false true x y n p q = omega (arith, q)
     step false false x y n p q = omega arith
 
--- ---- where it ends
+-- ---- the end of a gap
 
--- each byte is past ASCII
+-- every byte is 128 or more
 abbrev AllHigh : List ℕ → Type 0
 AllHigh [] = Unit {0}
 AllHigh (b ∷ bs) = (128 ≤ b) × AllHigh bs
@@ -50,11 +50,11 @@ high_not b v small high = grind (arith, nat_tests)
 high_no_separator : (b : ℕ) → 128 ≤ b → is_separator b ≡ false
 high_no_separator b high = grind (arith, nat_tests)
 
--- what a gap leaves of the bytes
+-- the bytes after a gap
 abbrev pub after_gap : Bool → List ℕ → List ℕ
 after_gap c bytes = drop (gap_len c bytes) bytes
 
--- a comment goes on over such bytes
+-- bytes of 128 or more do not end a comment
 comment_high : (bs rest : List ℕ) → AllHigh bs → after_gap true (bs ++ rest) ≡ after_gap true rest
 comment_high [] rest high = refl
 comment_high (b ∷ bs) rest high =
@@ -66,16 +66,16 @@ no_gap false false x y e f = refl
 no_gap false true x y e f = cc
 no_gap true t x y e f = cc
 
--- a byte that separates nothing begins no gap
+-- a byte that is neither `#` nor a separator does not begin a gap
 pub no_gap_at : (b : ℕ) (bs : List ℕ) → (b == 35) ≡ false → is_separator b ≡ false → gap_len false (b ∷ bs) ≡ 0
 no_gap_at b bs = no_gap (b == 35) (is_separator b) (1 + gap_len true bs) (1 + gap_len false bs)
 
--- nor do bytes past ASCII
+-- a byte of 128 or more does not begin a gap
 pub no_gap_high : (bs rest : List ℕ) → 0 < length bs → AllHigh bs → gap_len false (bs ++ rest) ≡ 0
 no_gap_high [] rest some high = absurd (omega (arith, some))
 no_gap_high (b ∷ bs) rest some high = no_gap_at b (bs ++ rest) (high_not b 35 (lit< tt) high.0) (high_no_separator b high.0)
 
--- the cases of a first byte
+-- cases of the first byte
 gap_step : (b : ℕ) (bs : List ℕ) (c : Bool) → IsUtf8 (b ∷ bs) → ((n : Bool) → IsUtf8 (after_gap n bs)) → IsUtf8 (after_gap c (b ∷ bs))
 gap_step b bs true whole more = subst IsUtf8 (sym (one_more (gap_len (not (b == 10)) bs) b bs)) (more (not (b == 10)))
 gap_step b bs false whole more = step (b == 35) (is_separator b)
@@ -85,7 +85,7 @@ gap_step b bs false whole more = step (b == 35) (is_separator b)
     step false true = subst IsUtf8 (sym (one_more (gap_len false bs) b bs)) (more false)
     step false false = whole
 
--- the cases of a first character
+-- cases of the first character
 char_step : (c : ℕ) (cs : List ℕ) (m t : Bool) → nat_lt c 128 ≡ t → scalars (c ∷ cs) ≡ true → ((n : Bool) → IsUtf8 (after_gap n (encode_utf8_all cs))) → IsUtf8 (after_gap m (encode_utf8 c ++ encode_utf8_all cs))
 char_step c cs m true e valid more =
     let byte = encode_ascii c (ltb-true c 128 e) in
@@ -101,7 +101,7 @@ gap_utf8 : (cs : List ℕ) (m : Bool) → scalars cs ≡ true → IsUtf8 (after_
 gap_utf8 [] m valid = IsUtf8-nil
 gap_utf8 (c ∷ cs) m valid = char_step c cs m (nat_lt c 128) refl valid (λ n. gap_utf8 cs n (and_parts _ _ valid).1)
 
--- so a gap ends where the text may be cut
+-- a text may be cut where a gap ends
 pub gap_cut : (text : List ℕ) → IsUtf8 text → IsCharBoundary text (gap_len false text)
 gap_cut text (cs, (valid, spelled)) =
     IsCharBoundary-from_drop text (gap_len false text) (gap_within false text) (subst (λ l. IsUtf8 (after_gap false l)) spelled (gap_utf8 cs false valid))

@@ -11,12 +11,12 @@ use Rattle.text_tokens.specs.Working.Fronts.{IsNameLen}
 abbrev pub ends_run : ℕ → Bool
 ends_run c = not (is_xid_continue c)
 
--- the run ends where the search found a character
+-- the run ends at the first character that the search found
 pub run_to : (bytes : List ℕ) (n to : ℕ) → n ≤ length bytes → IsCharBoundary bytes n → NoCharPasses ends_run (take n bytes) × ((c : ℕ) × (ends_run c ≡ true) × HasCharAt c bytes n to) → IsNameLen bytes n
 run_to bytes n to within cut (run, (c, ends, here)) =
     record { within = within; cut = cut; run = run; ends = λ _. (c, drop to bytes, here.split, not-true _ ends) }
 
--- all of the text is one run
+-- without such a character the whole text is the run
 pub run_whole : (bytes : List ℕ) → NoCharPasses ends_run bytes → IsNameLen bytes (length bytes)
 run_whole bytes run = record {
   within = omega arith;

@@ -1,4 +1,4 @@
--- A text that is spelled by pieces has the tokens of its pieces.
+-- A text spelled by separate pieces has the tokens of its pieces.
 use Rattle.std.proofs.Common.{◌≡◌, ◌≤◌, ◌<◌, ℕ, ◌+◌, List, [], ◌∷◌, ◌++◌, length, drop, Bool, true, false, not, nat_lt, ◌&&◌, ◌||◌, ◌==◌, if◌then◌else◌, refl, sym, ap, ◌∙◌, arith, subst, inl, inr, append_assoc, length-append, cond}
 use Rattle.std.proofs.lemmas.List.{take_at, drop_at}
 use Rattle.std.proofs.lemmas.List.Sums.{take_while-cons}
@@ -33,7 +33,7 @@ not_both : (b : Bool) → (b ≡ true → ⊥) → b ≡ false
 not_both true h = absurd (h refl)
 not_both false h = refl
 
--- ---- a name that does not go on
+-- ---- a name before bytes that do not extend it
 
 none_passes : (cs : List ℕ) → list_all is_xid_continue cs ≡ true → NonePass ends_run cs
 none_passes [] all = tt
@@ -66,7 +66,7 @@ name_piece name rest whole utf8 named ends =
     let begins : Begins (name ++ rest) n.0 = (encode_utf8_all n.1 ++ rest, ap (λ l. l ++ rest) n.2 ∙ append_assoc (encode_utf8 n.0) (encode_utf8_all n.1) rest) in
     name_first (name ++ rest) (length name) n.0 whole begins n.3 (name_run name rest named ends utf8)
 
--- ---- a number that does not go on
+-- ---- a number before bytes that do not extend it
 
 digits_stop : (rest number : List ℕ) → EndsBefore Number number rest → take_while is_ascii_digit rest ≡ []
 digits_stop [] number ends = refl
@@ -79,7 +79,7 @@ digits_run (d ∷ ds) rest all stop =
     subst (λ t. take_while is_ascii_digit (d ∷ (ds ++ rest)) ≡ cond t (d ∷ take_while is_ascii_digit (ds ++ rest)) []) parts.0 (take_while-cons is_ascii_digit d (ds ++ rest))
     ∙ ap (λ l. d ∷ l) (digits_run ds rest parts.1 stop)
 
--- a byte of ASCII at the front is its first character
+-- an ASCII byte at the start of a text is its first character
 byte_begins : (bytes more rest : List ℕ) (a : ℕ) → bytes ≡ a ∷ more → a < 128 → Begins (bytes ++ rest) a
 byte_begins bytes more rest a e small = (more ++ rest, ap (λ l. l ++ rest) e ∙ ap (λ l. l ++ (more ++ rest)) (sym (encode_ascii a small)))
 
@@ -90,7 +90,7 @@ number_piece number rest whole digits ends =
     subst (λ l. IsFirst Number (length l) (number ++ rest)) run
     (number_first (number ++ rest) n.0 whole (byte_begins number n.1 rest n.0 n.2 (digit_small n.0 n.3)) (not_both (begins_name n.0) (λ s. begins_no_digit n.0 s n.3)) n.3)
 
--- ---- a symbol that does not go on
+-- ---- a symbol before bytes that do not extend it
 
 choose_first : (s : Bool) (m n : ℕ) → s ≡ true → (if s then m else n) ≡ m
 choose_first true m n e = refl
@@ -126,7 +126,7 @@ piece_longest kind token rest whole utf8 is ends = subst (λ l. IsLongest kind l
     first Number is ends = number_piece token rest whole is ends
     first Symbol is ends = symbol_piece token rest whole is ends
 
--- a token begins no gap
+-- a character that begins a token does not begin a gap
 letter_apart : (c : ℕ) → (is_ascii_alphabetic c || (c == 95)) ≡ true → (not (c == 35) && not (is_separator c)) ≡ true
 letter_apart c letter = grind (arith, nat_tests)
 
@@ -187,9 +187,9 @@ spelled_utf8 [] good = IsUtf8-nil
 spelled_utf8 (lexeme kind token ∷ ps) good = IsUtf8-append token (spelled ps) (token_utf8 kind token good.0) (spelled_utf8 ps good.2)
 spelled_utf8 (gap b ∷ ps) good = IsUtf8-append (b ∷ []) (spelled ps) (byte_utf8 b (separator_small b good.0)) (spelled_utf8 ps good.1)
 
--- ---- its tokens
+-- ---- the tokens of pieces
 
--- a token that stands after what came before goes before the tokens that follow it
+-- a token, followed by the tokens of the rest, lexes at the place where it begins
 token_lexes : (before token rest : List ℕ) (kind : Kind) (ms : List TokenParts) (end : ℕ) → IsToken kind token → IsLongest kind token (token ++ rest)
     → LexesFrom (before ++ (token ++ rest)) (length before + length token) ms end → LexesFrom (before ++ (token ++ rest)) (length before) (token_parts kind (length before) token ∷ ms) end
 token_lexes before token rest kind ms end is longest more =
@@ -203,7 +203,7 @@ separator_no_comment b e = grind (arith, nat_tests)
 separator_len : (b : ℕ) (bs : List ℕ) → is_separator b ≡ true → gap_len false (b ∷ bs) ≡ 1 + gap_len false bs
 separator_len b bs e = choose_second (b == 35) (is_separator b) (1 + gap_len true bs) (1 + gap_len false bs) 0 (separator_no_comment b e) e
 
--- so does a separator
+-- a separator does not change where the gap ends
 gap_moves : (before rest : List ℕ) (b : ℕ) → is_separator b ≡ true → gap_end (before ++ (b ∷ rest)) (length before + 1) ≡ gap_end (before ++ (b ∷ rest)) (length before)
 gap_moves before rest b e =
     let here : gap_len false (drop (length before) (before ++ (b ∷ rest))) ≡ 1 + gap_len false rest = ap (gap_len false) (drop_at before (b ∷ rest) (length before) refl) ∙ separator_len b rest e in
@@ -216,7 +216,7 @@ gap_lexes : (before rest : List ℕ) (b : ℕ) (ms : List TokenParts) (end : ℕ
 gap_lexes before rest b [] end e more = sym (gap_moves before rest b e) ∙ more
 gap_lexes before rest b (token_parts kind place token ∷ ms) end e (here, longest, more) = (sym (gap_moves before rest b e) ∙ here, longest, more)
 
--- the place after a front, as the length of the front
+-- the place after a prefix, in terms of the prefix's length
 moved : (before front rest : List ℕ) (n : ℕ) (ps : List Piece) (end : ℕ) → length front ≡ n → LexesFrom ((before ++ front) ++ rest) (length (before ++ front)) (parts_from (length (before ++ front)) ps) end
     → LexesFrom (before ++ (front ++ rest)) (length before + n) (parts_from (length before + n) ps) end
 moved before front rest n ps end len more =

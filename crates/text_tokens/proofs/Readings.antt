@@ -14,9 +14,9 @@ use Rattle.text_tokens.proofs.Beginnings.{is_mark, name_begins, number_begins, s
 use Rattle.text_tokens.proofs.Fronts.{same_byte, token_some, none_empty}
 use Rattle.text_tokens.proofs.Gaps.{gap_within}
 
--- ---- one token at most
+-- ---- at most one token
 
--- two fronts of one length
+-- prefixes of equal length of the same list are equal
 pub same_front : (a b x y : List ℕ) → length a ≡ length b → a ++ x ≡ b ++ y → (a ≡ b) × (x ≡ y)
 same_front [] [] x y len e = (refl, e)
 same_front [] (b ∷ bs) x y len e = absurd (omega (arith, len))
@@ -27,7 +27,7 @@ same_front (a ∷ rest) (b ∷ bs) x y len e =
     let heads : a ≡ b = cc in
     let fronts : rest ≡ bs = more.0 in (cc, more.1)
 
--- a token has one kind
+-- a token has one kind only
 name_number : (w : List ℕ) → IsToken Name w → IsToken Number w → ⊥
 name_number w named digits =
     let name = name_begins w named in
@@ -68,9 +68,9 @@ one_longest k j v w bytes a b =
     let same = same_front v w a.front.0 b.front.0 (omega (arith, le, ge)) (sym a.front.1 ∙ b.front.1) in
     (one_kind k j w (subst (IsToken k) same.0 a.is_token) b.is_token, same.0)
 
--- ---- one list of tokens at most
+-- ---- at most one list of tokens
 
--- two lists of tokens that end where nothing begins are one
+-- two lists of tokens from one place are equal if no token begins where each ends
 pub lexes_once : (text : List ℕ) (at : ℕ) (ms ns : List TokenParts) (m n : ℕ) → BeginsNone (drop m text) → BeginsNone (drop n text) → LexesFrom text at ms m → LexesFrom text at ns n → (ms ≡ ns) × (m ≡ n)
 lexes_once text at [] [] m n sm sn a b = (refl, sym a ∙ b)
 lexes_once text at [] (token_parts j q u ∷ ns) m n sm sn a (place, longest, more) =
@@ -86,7 +86,7 @@ lexes_once text at (token_parts k p t ∷ ms) (token_parts j q u ∷ ns) m n sm 
     let texts : t ≡ u = same.1 in
     let rests : ms ≡ ns = after.0 in (cc, after.1)
 
--- nothing begins at the end of a text
+-- no token begins at the end of a text
 pub none_at_end : (text : List ℕ) → BeginsNone (drop (length text) text)
 none_at_end text = subst BeginsNone (sym (drop-length text)) none_empty
 
@@ -101,12 +101,12 @@ not_both text ms n a b =
     let same = lexes_once text 0 ms b.before.0 (length text) n (none_at_end text) b.none a.tokens b.before.1 in
     omega (arith, same.1, b.inside)
 
--- ---- one reading at least
+-- ---- at least one reading
 
 abbrev Front : List ℕ → Type 0
 Front bytes = (kind : Kind) × (token : List ℕ) × IsLongest kind token bytes
 
--- no token at the front has more bytes
+-- no token at the start has more than `n` bytes
 abbrev NoLonger : List ℕ → ℕ → Type 0
 NoLonger bytes n = (kind : Kind) (token rest : List ℕ) → IsToken kind token → bytes ≡ token ++ rest → length token ≤ n
 
@@ -150,11 +150,11 @@ front_within bytes zero within no_longer = inr (λ kind token rest is front. ome
 front_within bytes (suc n) within no_longer =
     front_step bytes n _ _ _ within no_longer refl refl refl (front_within bytes n (omega (arith, within)))
 
--- the longest token at the front, or none
+-- the bytes begin with a longest token or with no token
 pub front_or_none : (bytes : List ℕ) → Front bytes ⊎ BeginsNone bytes
 front_or_none bytes = front_within bytes (length bytes) (omega arith) (λ kind token rest is front. omega (arith, ap length front, length-append token rest))
 
--- tokens up to the end, or up to a place that begins none
+-- tokens up to the end of the text, or up to a place where no token begins
 abbrev Outcome : List ℕ → ℕ → Type 0
 Outcome text at = ((ms : List TokenParts) × LexesFrom text at ms (length text)) ⊎ ((n : ℕ) × (ms : List TokenParts) × LexesFrom text at ms n × (n < length text) × BeginsNone (drop n text))
 

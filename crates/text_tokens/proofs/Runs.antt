@@ -1,4 +1,4 @@
--- The longest run at the front of a text.
+-- The longest run at the start of a text.
 use Rattle.std.proofs.Common.{◌≡◌, ◌≤◌, ◌<◌, ℕ, List, [], ◌∷◌, ◌++◌, length, Bool, true, false, ◌&&◌, refl, sym, ap, ◌∙◌, arith, subst, length-append, append_assoc, cond, if◌then◌else◌}
 use Rattle.std.proofs.lemmas.Bool.{and_parts}
 use Rattle.std.proofs.lemmas.List.Sums.{take_while-cons}
@@ -11,7 +11,7 @@ use Rattle.text_tokens.specs.Kinds.{is_symbol, IsToken}
 use Rattle.text_tokens.specs.Working.Fronts.{symbol_len}
 use Rattle.text_tokens.proofs.Beginnings.{is_marks, symbol_marks}
 
--- A run of characters that pass is no longer than one that ends at the end, or where one fails.
+-- A run of passing characters is no longer than a run that is followed by the end or by a failing character.
 pub run_longest : (p : ℕ → Bool) (cs ds more rest : List ℕ) → encode_utf8_all cs ++ more ≡ encode_utf8_all ds ++ rest → list_all p cs ≡ true
     → (0 < length rest → (e : ℕ) × (past : List ℕ) × (rest ≡ encode_utf8 e ++ past) × (p e ≡ false)) → length (encode_utf8_all cs) ≤ length (encode_utf8_all ds)
 run_longest p [] ds more rest same pass ends = omega arith
@@ -27,7 +27,7 @@ run_longest p (c ∷ cs) (d ∷ ds) more rest same pass ends =
     let shorter = run_longest p cs ds more rest parts.1 (and_parts (p c) (list_all p cs) pass).1 ends in
     omega (arith, length-append (encode_utf8 c) (encode_utf8_all cs), length-append (encode_utf8 d) (encode_utf8_all ds), shorter, ap (λ v. length (encode_utf8 v)) parts.0)
 
--- a run of digits is no longer than the longest
+-- a run of digits at the start is no longer than the longest one
 pub digits_longest : (xs more bytes : List ℕ) → bytes ≡ xs ++ more → list_all is_ascii_digit xs ≡ true → length xs ≤ length (take_while is_ascii_digit bytes)
 digits_longest [] more bytes e all = omega arith
 digits_longest (x ∷ xs) more [] e all = cc
@@ -48,7 +48,7 @@ pub digits_all : (bytes : List ℕ) → list_all is_ascii_digit (take_while is_a
 digits_all [] = refl
 digits_all (b ∷ bs) = subst (λ l. list_all is_ascii_digit l ≡ true) (sym (take_while-cons is_ascii_digit b bs)) (all_step is_ascii_digit b (take_while is_ascii_digit bs) (is_ascii_digit b) refl (digits_all bs))
 
--- a symbol at the front is no longer than the longest
+-- a symbol at the start is no longer than the longest one
 one_long : (t s : Bool) → s ≡ true → 1 ≤ (if t then 2 else (if s then 1 else 0))
 one_long true s e = omega arith
 one_long false true e = omega arith

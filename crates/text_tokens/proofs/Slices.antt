@@ -24,7 +24,7 @@ slices_from text at [] end lexed k d below = absurd (omega (arith, below))
 slices_from text at (token_parts kind place token ∷ ms) end (gap, longest, more) zero d below = slice_at text kind place token longest
 slices_from text at (token_parts kind place token ∷ ms) end (gap, longest, more) (suc k) d below = slices_from text (place + length token) ms end more k d (omega (arith, below))
 
--- the first of the tokens from a place on does not stand before it
+-- the first token from a place on does not begin before that place
 first_place : (text : List ℕ) (at : ℕ) (ms : List TokenParts) (end : ℕ) → LexesFrom text at ms end → 0 < length (map place_of ms) → at ≤ get_or (map place_of ms) 0 0
 first_place text at [] end lexed some = absurd (omega (arith, some))
 first_place text at (token_parts kind place token ∷ ms) end (gap, longest, more) some = omega (arith, gap)

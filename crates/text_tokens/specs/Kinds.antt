@@ -1,4 +1,4 @@
--- What separates tokens, and which bytes are a token of each kind.
+-- Separators, and the byte sequences that are tokens of each kind.
 use Rattle.std.specs.Prelude.{◌≡◌, ℕ, List, [], ◌∷◌, Bool, true, false, ◌&&◌, ◌||◌, ◌==◌, codes, bytes_eq}
 use Rattle.std.specs.List.{list_any, list_all}
 use Rattle.std.specs.Char.{is_ascii_digit}
@@ -11,27 +11,27 @@ use Rattle.text_tokens.specs.declared.token.Kind.TheVariants.{Name, Number, Symb
 abbrev pub is_separator : ℕ → Bool
 is_separator b = (b == 32) || ((b == 9) || ((b == 13) || (b == 10)))
 
--- the symbols, those of two characters first
+-- the symbols, those with two characters first
 abbrev pub symbols : List (List ℕ)
 symbols =
     codes ":=" ∷ codes "==" ∷ codes "!=" ∷ codes "<=" ∷ codes ">=" ∷ codes "&&" ∷ codes "||"
     ∷ codes ";" ∷ codes "," ∷ codes "{" ∷ codes "}" ∷ codes "(" ∷ codes ")" ∷ codes "[" ∷ codes "]"
     ∷ codes "=" ∷ codes "<" ∷ codes ">" ∷ codes "+" ∷ codes "-" ∷ codes "*" ∷ codes "." ∷ codes "!" ∷ codes "^" ∷ []
 
--- whether the bytes are one of the symbols
+-- whether the bytes are a symbol
 abbrev pub is_symbol : List ℕ → Bool
 is_symbol bytes = list_any (bytes_eq bytes) symbols
 
--- a run of digits, which is not empty
+-- whether the bytes are a non-empty run of ASCII digits
 abbrev pub is_number : List ℕ → Bool
 is_number [] = false
 is_number (b ∷ bs) = is_ascii_digit b && list_all is_ascii_digit bs
 
--- a character with which a name begins
+-- whether a name may begin with character `c`
 abbrev pub begins_name : ℕ → Bool
 begins_name c = is_xid_start c || (c == 95)
 
--- the characters of a name: one that begins it, and then those that continue it
+-- whether the characters are a name: one that begins a name, then any that continue one
 abbrev pub is_name : List ℕ → Bool
 is_name [] = false
 is_name (c ∷ cs) = begins_name c && list_all is_xid_continue cs

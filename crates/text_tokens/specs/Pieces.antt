@@ -1,4 +1,4 @@
--- A text that is written piece by piece: tokens, and a separator here and there.
+-- A text written in pieces: tokens and single separators.
 use Rattle.std.specs.Prelude.{◌≡◌, ◌+◌, ℕ, List, [], ◌∷◌, ◌++◌, length, Bool, true, false, not, ◌&&◌, ◌||◌, ◌==◌, nat_lt}
 use Rattle.std.specs.Char.{is_ascii_digit, is_ascii_alphanumeric}
 use Rattle.text_tokens.specs.declared.token.Kind.{Kind}
@@ -6,12 +6,12 @@ use Rattle.text_tokens.specs.declared.token.Kind.TheVariants.{Name, Number, Symb
 use Rattle.text_tokens.specs.Kinds.{is_separator, is_symbol, IsToken}
 use Rattle.text_tokens.specs.TokenParts.{TokenParts, token_parts}
 
--- the bytes of a token, or one separator
+-- a piece: the bytes of a token, or one separator
 pub data Piece : Type 0 where
   lexeme : (kind : Kind) → (bytes : List ℕ) → Piece
   gap : (b : ℕ) → Piece
 
--- a name, a number, a symbol
+-- a name, a number or a symbol
 abbrev pub word : List ℕ → Piece
 word bytes = lexeme Name bytes
 
@@ -27,24 +27,24 @@ spelled [] = []
 spelled (lexeme kind bytes ∷ ps) = bytes ++ spelled ps
 spelled (gap b ∷ ps) = b ∷ spelled ps
 
--- the tokens of the pieces, the first of which stands at this place
+-- the tokens of the pieces if the first piece begins at place `at`
 abbrev pub parts_from : ℕ → List Piece → List TokenParts
 parts_from at [] = []
 parts_from at (lexeme kind bytes ∷ ps) = token_parts kind at bytes ∷ parts_from (at + length bytes) ps
 parts_from at (gap b ∷ ps) = parts_from (at + 1) ps
 
--- an ASCII byte with which a name does not go on
+-- whether `b` is an ASCII byte that does not continue a name
 abbrev pub ends_name : ℕ → Bool
 ends_name b = nat_lt b 128 && not (is_ascii_alphanumeric b || (b == 95))
 
--- the token does not go on in the bytes that follow
+-- the following bytes do not extend the token
 abbrev pub EndsBefore : Kind → List ℕ → List ℕ → Type 0
 EndsBefore kind bytes [] = Unit {0}
 EndsBefore Name bytes (b ∷ bs) = ends_name b ≡ true
 EndsBefore Number bytes (b ∷ bs) = is_ascii_digit b ≡ false
 EndsBefore Symbol bytes (b ∷ bs) = is_symbol (bytes ++ b ∷ []) ≡ false
 
--- each piece is a token that does not go on in the next, or a separator
+-- each piece is a separator or a token that the following pieces do not extend
 abbrev pub AreSeparate : List Piece → Type 0
 AreSeparate [] = Unit {0}
 AreSeparate (lexeme kind bytes ∷ ps) = IsToken kind bytes × EndsBefore kind bytes (spelled ps) × AreSeparate ps

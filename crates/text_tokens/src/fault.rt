@@ -1,40 +1,40 @@
-//! Why a text is refused.
+//! Faults of texts.
 ghost use Rattle.std.specs.Prelude.{◌≡◌};
 ghost use Rattle.text_tokens.specs.declared.fault.TextFault.TheVariants as fault;
 
 use kat_model::NoMemory;
 use std::alloc::AllocFailed;
 
-/// Why a text is refused. A number is a place: how many bytes of the text stand before the cause.
+/// Why a reader rejects a text. A number is a place: the offset of the cause in bytes.
 #[derive(Clone, Copy, Debug, PartialEq, Eq)]
 pub enum TextFault {
-    /// Memory was wanted and could not be had.
+    /// Out of memory.
     NoMemory,
     /// The text has more than 1,048,576 bytes ([`crate::MAX_LEN`]).
     TooLong,
-    /// The bytes are no UTF-8. The place is the length of the longest prefix that is UTF-8.
+    /// The bytes are not UTF-8. The place is the length of the longest prefix that is UTF-8.
     NotUtf8(usize),
-    /// The place is the first that begins no token.
+    /// The place is the first where no token begins.
     BadToken(usize),
-    /// The token at the place cannot stand there; at the end of the text the place is the text's length.
+    /// The token at the place is not allowed there. At the end of the text the place is the text's length.
     Syntax(usize),
-    /// At the token at the place more than 200 levels of nesting are open.
+    /// More than 200 levels of nesting are open at the token at the place.
     TooDeep(usize),
     /// The number at the place does not fit: it is 2^64 or more, or 2^w or more in an item of width w.
     NumberTooWide(usize),
-    /// The name at the place was not declared before.
+    /// The name at the place is not declared before it.
     UnknownName(usize),
-    /// The name or item at the place was there before.
+    /// The name or item at the place repeats an earlier one.
     DoubleName(usize),
-    /// What the token at the place stands for cannot stand there.
+    /// The token at the place denotes something of a sort that is not allowed there.
     Sort(usize),
     /// The item or phrase at the place has too many nodes.
     TooLarge(usize),
-    /// The name, item or number at the place is more than the format allows.
+    /// The name, item or number at the place exceeds a limit of the format.
     TooMany(usize),
-    /// No item is a goal.
+    /// No item of the text is a goal.
     NoGoal,
-    /// The goal at the place is the second.
+    /// The goal at the place is the second one.
     TwoGoals(usize),
 }
 

@@ -1,8 +1,8 @@
-//! The names that name nothing.
+//! Keywords.
 ghost use Rattle.std.specs.Prelude.{◌≡◌};
 ghost use Rattle.text_tokens.specs.Keywords.{is_keyword};
 
-/// Whether the text is one of the words of the format, which can be declared as no name.
+/// Whether `text` is a keyword of the format, which cannot be declared as a name.
 pub fn is_keyword(text: &str) -> bool
     ensures { result ≡ is_keyword text.now }
 {

@@ -9,7 +9,7 @@ ghost use Rattle.text_tokens.specs.declared.lexer.TheConstants.{MAX_LEN};
 ghost use Rattle.text_tokens.specs.Lex.{IsText, Lexes, FirstBad, IsSlice};
 ghost use Rattle.text_tokens.specs.Pieces.{Piece, AreSeparate, spelled, parts_from};
 
-/// A text either is one list of tokens or has one first place that begins no token, and never both.
+/// A text has either exactly one list of tokens or exactly one first place where no token begins, never both.
 pub fn one_reading()
     ensures tokens { (text : List ℕ) (ms ns : List TokenParts) → Lexes text ms → Lexes text ns → ms ≡ ns }
     ensures places { (text : List ℕ) (m n : ℕ) → FirstBad text m → FirstBad text n → m ≡ n }
@@ -17,18 +17,18 @@ pub fn one_reading()
     ensures some { (text : List ℕ) → IsText text → ((ms : List TokenParts) × Lexes text ms) ⊎ ((n : ℕ) × FirstBad text n) }
 {}
 
-/// The tokens of a text are slices of it, each of its kind, and their places ascend.
+/// The tokens of a text are slices of the text, each of its kind, in ascending order of place.
 pub fn tokens_are_slices()
     ensures slices { (text : List ℕ) (ms : List TokenParts) → Lexes text ms → All (IsSlice text) ms }
     ensures ascend { (text : List ℕ) (ms : List TokenParts) → Lexes text ms → IsStrictlyIncreasing (map place_of ms) }
 {}
 
-/// A text that is spelled by pieces, of which none goes on with the one before, has the tokens of its pieces.
+/// A text spelled by separate pieces, none of which extends the piece before it, has the tokens of its pieces.
 pub fn pieces_lex()
     ensures { (ps : List Piece) → AreSeparate ps → length (spelled ps) ≤ MAX_LEN → Lexes (spelled ps) (parts_from 0 ps) }
 {}
 
-/// A keyword is a name, and what a number is written as in decimal is a number.
+/// A keyword is a name, and the decimal form of a number below 2^64 is a number.
 pub fn words_are_tokens()
     ensures keywords { (bytes : List ℕ) → is_keyword bytes ≡ true → IsToken Name bytes }
     ensures decimals { (n : ℕ) → n < 2 ^ 64 → IsToken Number (decimal n) }

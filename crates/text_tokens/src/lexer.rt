@@ -1,4 +1,4 @@
-//! A text cut into its longest tokens.
+//! The lexer: cuts a text into its longest tokens.
 ghost use Rattle.std.specs.Prelude.{◌≡◌, ◌≤◌, length, take_while, false, IfOk, IfErr, IfSome, IfNone};
 ghost use Rattle.std.specs.Char.{is_ascii_digit};
 ghost use Rattle.text_tokens.specs.TokenParts.{parts_of_tokens};
@@ -11,7 +11,7 @@ use kat_model::MAX_TEXT_BYTES;
 use std::alloc::Global;
 use unicode_ident::{is_xid_continue, is_xid_start};
 
-/// How many bytes a text may have.
+/// The maximum length of a text in bytes.
 pub const MAX_LEN: usize = MAX_TEXT_BYTES;
 
 fn is_separator(b: u8) -> bool
@@ -20,7 +20,7 @@ fn is_separator(b: u8) -> bool
     matches!(b, b' ' | b'\t' | b'\r' | b'\n')
 }
 
-// How many bytes the separators and comments at the front have.
+// Returns the number of bytes of the leading separators and comments.
 fn gap_len(bytes: &[u8]) -> usize
     ensures { result ≡ gap_len false bytes.now }
 {
@@ -43,7 +43,7 @@ fn begins_name(c: char) -> bool
     is_xid_start(c) || c == '_'
 }
 
-// How many bytes at the front are of characters that continue a name.
+// Returns the number of bytes of the leading characters that continue a name.
 fn name_len(text: &str) -> usize
     ensures { IsNameLen text.now result }
 {
@@ -53,7 +53,7 @@ fn name_len(text: &str) -> usize
     }
 }
 
-// How many bytes at the front are digits.
+// Returns the number of leading digits.
 fn number_len(text: &str) -> usize
     ensures { result ≡ length (take_while is_ascii_digit text.now) }
 {
@@ -92,7 +92,7 @@ fn is_symbol(bytes: &[u8]) -> bool
     )
 }
 
-// How many bytes the longest symbol at the front has, or 0.
+// Returns the number of bytes of the longest symbol at the start, or 0.
 fn symbol_len(bytes: &[u8]) -> usize
     ensures { result ≡ symbol_len bytes.now }
 {
@@ -103,7 +103,7 @@ fn symbol_len(bytes: &[u8]) -> usize
     }
 }
 
-// The token at the front: its kind, and how many bytes it has.
+// Returns the kind and the number of bytes of the token at the start, or `None` if no token begins there.
 fn first_token(text: &str) -> Option<(Kind, usize)>
     ensures token { IfSome result (λ found. IsFirst found.0 found.1 text.now) }
     ensures none { IfNone result (BeginsNone text.now) }
@@ -119,9 +119,9 @@ fn first_token(text: &str) -> Option<(Kind, usize)>
     if n > 0 { Some((Kind::Symbol, n)) } else { None }
 }
 
-/// The tokens of a text of at most [`MAX_LEN`] bytes: each is the longest at its place, and between them
-/// stand separators (space, tab, carriage return, line feed) and comments, from a `#` to the next line feed
-/// or the end. `BadToken` comes exactly where some place begins no token, with the first such place.
+/// Returns the tokens of `text`, which has at most [`MAX_LEN`] bytes. Each token is the longest at its place.
+/// Separators (space, tab, carriage return, line feed) and comments, from a `#` to the next line feed or the end, may
+/// occur between tokens. Fails with `BadToken` at the first place where no token begins, or when out of memory.
 pub fn tokens<'a>(alloc: Global, text: &'a str) -> Result<Vec<Token<'a>>, TextFault>
     requires { length text.now ≤ MAX_LEN }
     ensures read { IfOk result (λ found. Lexes text.now (parts_of_tokens found.items)) }

@@ -1,6 +1,6 @@
-//! A token of a text.
+//! Tokens of a text.
 
-/// What a token is.
+/// The kind of a token.
 #[derive(Clone, Copy, Debug, PartialEq, Eq)]
 pub enum Kind {
     /// An identifier by Unicode Standard Annex 31 (`XID_Start` or `_`, then `XID_Continue`). Keywords are names.
@@ -11,11 +11,11 @@ pub enum Kind {
     Symbol,
 }
 
-/// A token, whose text is the slice of the source at its place.
+/// A token. Its text is the slice of the source at its place.
 #[derive(Clone, Copy, Debug)]
 pub struct Token<'a> {
     pub kind: Kind,
     pub text: &'a str,
-    /// How many bytes of the source stand before it.
+    /// The offset of the token in the source, in bytes.
     pub at: usize,
 }

@@ -1,4 +1,4 @@
--- The store that a word gives is one of the file: it has as many numbers as the file has variables, each of the width.
+-- The store of a word is a store of the file: it has a number of the width for each variable of the file.
 use Rattle.std.proofs.Common.{◌≡◌, ◌<◌, ◌⊎◌, ℕ, zero, suc, List, [], ◌∷◌, length, map, set, replicate, slice_get, codes, Bool, true, false, ◌&&◌, ◌==◌, cond, nat_lt, Option, None, Some, unwrap_or, refl, sym, ap, ◌∙◌, subst, inl, inr, ⊎_elim, lit<, ltb-true}
 use Rattle.std.specs.Option.{option_map, option_and_then}
 use Rattle.std.specs.List.{slice_split, before_first, after_first}
@@ -18,7 +18,7 @@ use Rattle.problem_file.specs.Concrete.{IsStoreOf}
 use Rattle.tool_commands.specs.Numbers.{is_number, number_below}
 use Rattle.tool_commands.specs.StoreWords.{Values, is_free, variable_meant, setting_of, with_setting, with_item, with_items, values_of, store_of}
 
--- ---- what gave something
+-- ---- options with a value
 
 and_then_some : {A B : Type 0} (f : A → Option B) (o : Option A) (y : B) → option_and_then f o ≡ Some y → (x : A) × (o ≡ Some x) × (f x ≡ Some y)
 and_then_some f None y e = absurd (none-some y e)
@@ -65,7 +65,7 @@ set_has (x ∷ vs) zero v u (inr h) = inr (inr h)
 set_has (x ∷ vs) (suc k) v u (inl e) = inr (inl e)
 set_has (x ∷ vs) (suc k) v u (inr h) = ⊎_elim {C = (v ≡ u) ⊎ Has (x ∷ vs) u} (λ e. inl e) (λ m. inr (inr m)) (set_has vs k v u h)
 
--- the values are as many as before, and each is below the bound where those before were
+-- the number of values is unchanged, and each value is below the bound if the values before were
 record Follows (m : ℕ) (vs us : Values) : Type 0 where
   count : length us ≡ length vs
   below : AreBelow m vs → AreBelow m us
@@ -121,6 +121,6 @@ store_is f word s e =
       filled_below (modulus f.width) made.0 (some_numbers f.width) (follows.below (none_below (modulus f.width) f.vars)),
     )
 
--- the store of the values that the word gives is one of the file
+-- the store with the values of the word is a store of the file
 pub numbers_are : (f : FileParts) (word : List ℕ) (vs : Values) (s : Store) → values_of f word ≡ Some vs → s ≡ map (λ v. unwrap_or v 0) vs → IsStoreOf f s
 numbers_are f word vs s values numbers = store_is f word s (ap (option_map (λ us. map (λ v. unwrap_or v 0) us)) values ∙ ap Some (sym numbers))

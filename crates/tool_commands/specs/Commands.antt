@@ -1,4 +1,4 @@
--- The table of words: the lists of words that have a command.
+-- The table of words: the lists of words that form a command.
 use Rattle.std.specs.Prelude.{ℕ, ◌^◌, List, [], ◌∷◌, Option, None, Some, Bool, false, ◌&&◌, ◌==◌, not, if◌then◌else◌, codes}
 use Rattle.std.specs.Option.{option_map}
 use Rattle.std.specs.Str.{bytes_eq}
@@ -6,8 +6,8 @@ use Rattle.tool_commands.specs.declared.words.Command.{Command as Chosen}
 use Rattle.tool_commands.specs.declared.words.Command.TheVariants.{Decide, Report, Show, Batch, Check, Replay, Chain, Run, OneLoop, Bench, Optimise, Gkat, Outline, CheckNotes}
 use Rattle.tool_commands.specs.Numbers.{number_below, count_of}
 
--- a command and its words: the file of the problem or of several goals, and that of the evidence, the proof or the notes;
--- or a program of the file, and with it the word of a store and a number of turns; or a number of problems
+-- a command and its words: the file of the problem or of several goals, and the file of the evidence, the proof or the
+-- notes; or a program of the file, with the word of a store and a number of turns; or a number of problems
 pub data Command : Type 0 where
   decide : (file : List ℕ) → Command
   report : (file : List ℕ) → Command
@@ -24,7 +24,7 @@ pub data Command : Type 0 where
   bench : (count : ℕ) → Command
   optimise : (file prog : List ℕ) → (turns : ℕ) → Command
 
--- a command of the program without the addresses that its words have
+-- a command of the code, without the addresses of its words
 abbrev pub command_seen : Chosen → Command
 command_seen (Decide file) = decide file.now
 command_seen (Report file) = report file.now
@@ -46,8 +46,8 @@ abbrev pub is_value : List ℕ → Bool
 is_value [] = false
 is_value (b ∷ bs) = not (b == 45)
 
--- the commands of one file or of a number, of a file and an option, of a file and its evidence, a proof, notes or a
--- program, of a file, a program, a store and turns, and of a file, a program, an option and its number
+-- the commands by the words after the name: a file or a number; a file and an option; a file and its evidence, proof,
+-- notes or program; a file, a program, a store and turns; a file, a program, an option and its number
 unfoldable pub with_file : List ℕ → List ℕ → Option Command
 with_file name file =
     if bytes_eq name (codes "decide") then Some (decide file)
@@ -78,7 +78,7 @@ unfoldable pub with_limit : List ℕ → List ℕ → List ℕ → List ℕ → 
 with_limit name file prog option turns =
     if bytes_eq name (codes "optimise") && bytes_eq option (codes "--turns") then option_map (λ n. optimise file prog n) (number_below (2 ^ 64) turns) else None
 
--- the command of a list of words, by its place in the table
+-- the command of a list of words, from the table
 abbrev pub command_of : List (List ℕ) → Option Command
 command_of (name ∷ file ∷ []) = if is_value file then with_file name file else None
 command_of (name ∷ file ∷ last ∷ []) = if is_value file then (if is_value last then with_value name file last else with_option name file last) else None

@@ -6,11 +6,11 @@ use Rattle.text_grammar.specs.Terminals.{value_from, is_digits}
 abbrev pub is_number : List ℕ → Bool
 is_number word = is_digits word && nat_lt (length word) 21
 
--- the number that the word is, where it is one below the bound
+-- the value of the word, if it is a number below the bound
 abbrev pub number_below : ℕ → List ℕ → Option ℕ
 number_below bound word = if is_number word && nat_lt (value_from 0 word) bound then Some (value_from 0 word) else None
 
--- the number of problems that the word is: from 1 to 10,000
+-- the word as a number of problems: from 1 to 10,000
 abbrev pub where_positive : Option ℕ → Option ℕ
 where_positive None = None
 where_positive (Some zero) = None

@@ -4,12 +4,12 @@ use Rattle.std.specs.Option.{option_map}
 use Rattle.while_lang.specs.Programs.{ProgTree, is_concrete}
 use Rattle.problem_file.specs.Files.{FileParts, prog_named}
 
--- the program, where it is concrete
+-- the program, if it is concrete
 abbrev pub where_concrete : Option ProgTree → Option ProgTree
 where_concrete None = None
 where_concrete (Some p) = if is_concrete p then Some p else None
 
--- the concrete program of the file that has the name
+-- the concrete program of the file with this name
 abbrev pub program_of : FileParts → List ℕ → Option ProgTree
 program_of f name = where_concrete (option_map (λ p. p.tree) (prog_named f.scope f.progs name))
 

@@ -1,4 +1,4 @@
--- The store that a word gives: `zero`, or items `NAME=NUMBER` with a comma between two of them.
+-- The store that a word gives: `zero`, or items `NAME=NUMBER` separated by commas.
 use Rattle.std.specs.Prelude.{ℕ, List, [], ◌∷◌, map, set, replicate, slice_get, codes, Bool, true, false, ◌==◌, if◌then◌else◌, Option, None, Some, unwrap_or}
 use Rattle.std.specs.Option.{option_map, option_and_then}
 use Rattle.std.specs.List.{slice_split, before_first, after_first}
@@ -11,28 +11,28 @@ use Rattle.text_scopes.specs.ScopeParts.{ScopeParts, meaning}
 use Rattle.problem_file.specs.Files.{FileParts}
 use Rattle.tool_commands.specs.Numbers.{number_below}
 
--- the variable that is meant
+-- the variable with this meaning, if it is a variable
 abbrev pub variable_meant : Option Meaning → Option ℕ
 variable_meant (Some (Var k)) = Some k
 variable_meant m = None
 
--- an item: the variable whose name stands before its first `=`, and the number of the width after it
+-- an item: the variable named before its first `=`, and the number of the width after it
 abbrev pub setting_of : ScopeParts → Width → List ℕ → Option (ℕ × ℕ)
 setting_of w width item =
     option_and_then
     (λ k. option_map (λ n. (k, n)) (number_below (modulus width) (after_first (λ b. b == 61) item)))
     (variable_meant (meaning w (before_first (λ b. b == 61) item)))
 
--- for each variable, variable 0 first, the value that an item gave it
+-- for each variable, from variable 0 on, the value from an item, if any
 abbrev pub Values : Type 0
 Values = List (Option ℕ)
 
--- whether the variable is there and has no value yet
+-- whether the variable exists and has no value yet
 abbrev pub is_free : Option (Option ℕ) → Bool
 is_free (Some None) = true
 is_free _ = false
 
--- an item gives a variable its value, which no earlier item gave one
+-- an item gives a value to a variable without one
 abbrev pub with_setting : Values → ℕ × ℕ → Option Values
 with_setting vs x = if is_free (slice_get vs x.0) then Some (set vs x.0 (Some x.1)) else None
 

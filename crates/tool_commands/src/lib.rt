@@ -1,4 +1,4 @@
-//! The words of a command line: the command that they ask for, and what the words of a command stand for in a file.
+//! The words of a command line: the command that they form, and their meaning in a file.
 #![tactic(auto)]
 
 mod numbers;

@@ -20,7 +20,7 @@ fn is_number(word: &str) -> bool
     all_digits(word) && word.len() > 0 && word.len() < 21
 }
 
-/// The number that the word is: 1 to 20 ASCII digits with a value below 2^64.
+/// Returns the value of a word that is a number: 1 to 20 ASCII digits with a value below 2^64.
 pub(crate) fn number_of(word: &str) -> Option<u64>
     ensures { result ≡ number_below (2 ^ 64) word.now }
 {
@@ -33,7 +33,7 @@ pub(crate) fn number_of(word: &str) -> Option<u64>
     }
 }
 
-/// The number of the width that the word is.
+/// Returns the value of a word that is a number of the width.
 pub(crate) fn number_within(width: Width, word: &str) -> Option<u64>
     ensures { result ≡ number_below (modulus width) word.now }
 {
@@ -43,14 +43,14 @@ pub(crate) fn number_within(width: Width, word: &str) -> Option<u64>
     }
 }
 
-/// A number of generated problems, of which there are 10,000.
+/// A number of generated problems, at most 10,000.
 #[derive(Clone, Copy)]
 pub struct ProblemCount {
     pub number: u64,
     ghost within: { number ≤ 10000 },
 }
 
-/// The number of problems that the word is: from 1 to 10,000.
+/// Returns the word as a number of problems: from 1 to 10,000.
 pub(crate) fn count_of(word: &str) -> Option<ProblemCount>
     ensures { option_map (λ c. c.number) result ≡ count_of word.now }
 {

@@ -6,8 +6,8 @@ ghost use Rattle.tool_commands.specs.ProgramWords.{program_of};
 use problem_file::File;
 use while_lang::Prog;
 
-/// The program of the file that has the name, where it is concrete: no named test and no action occurs in it. `None` where there
-/// is no such program.
+/// Returns the program of the file with this name, if it is concrete: no named test and no action occurs in it. `None`
+/// if there is no such program.
 pub fn program_of<'a>(file: &'a File, name: &str) -> Option<&'a Prog>
     ensures { option_map (λ p. p.now) result ≡ program_of file.now name.now }
 {

@@ -13,7 +13,7 @@ use std::alloc::Global;
 use text_scopes::{Meaning, Scope};
 use while_lang::Store;
 
-// The variable of that name.
+// Returns the variable with this name, if any.
 fn variable_of(scope: &Scope, name: &str) -> Option<usize>
     ensures { result ≡ variable_meant (meaning scope.now name.now) }
 {
@@ -23,7 +23,7 @@ fn variable_of(scope: &Scope, name: &str) -> Option<usize>
     }
 }
 
-// The variable and the number of an item.
+// Returns the variable and the number of an item.
 fn setting_of(scope: &Scope, width: Width, item: &str) -> Option<(usize, u64)>
     ensures { result ≡ setting_of scope.now width item.now }
 {
@@ -33,7 +33,7 @@ fn setting_of(scope: &Scope, width: Width, item: &str) -> Option<(usize, u64)>
     Some((var, value))
 }
 
-// Gives a variable its value, unless it has one.
+// Sets the value of a variable. `false` if the variable is undefined or has a value already.
 fn set_value(values: &mut Vec<Option<u64>>, setting: (usize, u64)) -> bool
     ensures { (if result then Some values.new.items else None) ≡ with_setting values.old.items setting }
 {
@@ -47,7 +47,7 @@ fn set_value(values: &mut Vec<Option<u64>>, setting: (usize, u64)) -> bool
     }
 }
 
-// Gives a variable the value of an item, unless the item is none or the variable has a value.
+// Sets the variable of an item. `false` if the item is invalid or its variable has a value already.
 fn set_item(scope: &Scope, width: Width, item: &str, values: &mut Vec<Option<u64>>) -> bool
     ensures { (if result then Some values.new.items else None) ≡ with_item scope.now width values.old.items item.now }
 {
@@ -57,7 +57,7 @@ fn set_item(scope: &Scope, width: Width, item: &str, values: &mut Vec<Option<u64
     }
 }
 
-// The same of items, one after the other, up to the first of which it cannot be done.
+// Sets the variables of items in order. `false` at the first item that fails.
 fn set_items(scope: &Scope, width: Width, items: &[&str], values: &mut Vec<Option<u64>>) -> bool
     ensures { (if result then Some values.new.items else None) ≡ with_items scope.now width values.old.items (map (λ i. i.now) items.now) }
 {
@@ -75,7 +75,7 @@ fn items_of<'a>(alloc: Global, word: &'a str) -> Result<Vec<&'a str>, NoMemory>
     Ok(word.split(',').collect(alloc)?)
 }
 
-// The values that the word gives.
+// Returns the values that the word gives, if any.
 fn values_of(alloc: Global, file: &File, word: &str) -> Result<Option<Vec<Option<u64>>>, NoMemory>
     ensures { IfOk result (λ vs. option_map (λ v. v.items) vs ≡ values_of file.now word.now) }
 {
@@ -91,7 +91,7 @@ fn values_of(alloc: Global, file: &File, word: &str) -> Result<Option<Vec<Option
     }
 }
 
-// The numbers of the variables; one without a value is 0.
+// Returns the numbers of the variables, 0 for a variable without a value.
 fn numbers_of(alloc: Global, values: &[Option<u64>]) -> Result<Vec<u64>, NoMemory>
     ensures { IfOk result (λ v. v.items ≡ map (λ v. unwrap_or v 0) values.now) }
 {
@@ -103,8 +103,8 @@ fn numbers_of(alloc: Global, values: &[Option<u64>]) -> Result<Vec<u64>, NoMemor
     )
 }
 
-/// The store of the file that the word gives: `zero`, or items `NAME=NUMBER` with a comma between two of them, in which a
-/// variable without an item is 0. `None` exactly where it gives none. It fails only when out of memory.
+/// Returns the store of the file that the word gives: `zero`, or items `NAME=NUMBER` separated by commas; a variable
+/// without an item is 0. `None` if and only if the word gives no store. Fails only when out of memory.
 pub fn store_of(alloc: Global, file: &File, word: &str) -> Result<Option<Store>, NoMemory>
     ensures value { IfOk result (λ s. s ≡ store_of file.now word.now) }
     ensures within { IfOk result (λ s. IfSome s (IsStore file.now.width)) }

@@ -1,4 +1,4 @@
-//! The words of a command line, and the table of those that have a command.
+//! The words of a command line, and the table of the words that form a command.
 ghost use Rattle.std.specs.Prelude.{◌≡◌, ◌++◌, ◌∷◌, [], List, ℕ, OnOk, OnErr, Option, if◌then◌else◌};
 ghost use Rattle.std.specs.Option.{option_map};
 ghost use Rattle.tool_commands.specs.Commands.{command_of, command_seen, is_value, with_file, with_option, with_value, with_turns, with_limit};
@@ -8,7 +8,7 @@ use kat_model::NoMemory;
 use std::alloc::Global;
 use std::marker::Model;
 
-/// The words of a command line, without the program's name.
+/// The words of a command line, without the name of the program.
 #[derive(Drop)]
 pub struct Words {
     alloc: Global,
@@ -23,7 +23,7 @@ impl Model for Words {
     ghost view = { λ w. map string_bytes w.texts.items };
 }
 
-/// What a list of words asks for.
+/// The command that a list of words forms.
 #[derive(Clone, Copy)]
 pub enum Command<'a> {
     /// `decide` FILE
@@ -66,7 +66,7 @@ pub enum Command<'a> {
 }
 
 impl Words {
-    /// No words. It takes no memory.
+    /// Returns an empty list of words. Allocates nothing.
     pub fn new(alloc: Global) -> Words
         ensures { result ≡ [] }
     {
@@ -76,7 +76,7 @@ impl Words {
         }
     }
 
-    /// Adds a word at the end. Out of memory leaves the list as it was.
+    /// Appends a word. Leaves the list unchanged when out of memory.
     pub fn push(&mut self, word: &str) -> Result<(), NoMemory>
         ensures ok { OnOk result (self.new ≡ self.old ++ word.now ∷ []) }
         ensures err { OnErr result (self.new ≡ self.old) }
@@ -86,7 +86,7 @@ impl Words {
         Ok(())
     }
 
-    /// The command that the table has for the words; `None` where it has none.
+    /// Returns the command of the words from the table, if any.
     pub fn command(&self) -> Option<Command<'_>>
         ensures { option_map command_seen result ≡ command_of self.now }
     {
@@ -105,7 +105,7 @@ impl Words {
     }
 }
 
-// The command of two words, of three and of five.
+// The commands of two, three and five words.
 fn of_two<'a>(name: &str, file: &'a str) -> Option<Command<'a>>
     ensures { option_map command_seen result ≡ command_of (name.now ∷ file.now ∷ []) }
 {

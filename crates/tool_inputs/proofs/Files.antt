@@ -1,4 +1,4 @@
--- The parts of a reply to files, put together.
+-- The parts of a reply to files, combined.
 use Rattle.std.proofs.Common.{◌≡◌, ℕ, List, Option, Some, Result, Ok, Err, inl, inr, sym, subst}
 use Rattle.kat_model.specs.declared.limits.TheConstants.{MAX_TEXT_BYTES}
 use Rattle.kat_model.specs.Problems.{ProblemParts}
@@ -15,12 +15,12 @@ use Rattle.tool_inputs.specs.Steps.{ShelfUse, Replying, IsRefusal, GetsFile, Get
 use Rattle.tool_inputs.specs.Outcomes.{IsOutcome, IsReplied, IsUngiven, IsQuestionOf, IsPosedBy}
 use Rattle.tool_inputs.proofs.Outcomes.{IsStop-weaker, IsReplied-weaker}
 
--- the question of what a text says is the problem that it poses
+-- the question of the file of a text is the problem that the text poses
 pub file_poses : (text : List ℕ) (f : FileParts) → Reads text f → (result : Result ProblemParts Stop) → IsOutcome (IsQuestionOf f) (IsRefusal (AsksNone f)) result → IsPosedBy text result
 file_poses text f reads (Ok q) h = record { file = f; reads = reads; abstract = h.0; is_abstract = h.1; question = h.2 }
 file_poses text f reads (Err stop) h = IsStop-weaker (IsRefusal (AsksNone f)) (IsRefusal (PosesNone text)) (λ status output r. (r.0, inr (f, reads, r.1))) stop h
 
--- a text that poses no problem is refused, and to one that does the reply is that to its problem
+-- a text that poses no problem is refused; for any other text, the reply is that to its problem
 module _ (text : List ℕ) (GoesOn : ProblemParts → Replying) where
   pub text_refused : (status : ℕ) (output : List ℕ) → IsRefusal (PosesNone text) status output → AsksText text GoesOn status output
   text_refused status output (two, inl f) = inl (two, f)
@@ -35,7 +35,7 @@ module _ (text : List ℕ) (GoesOn : ProblemParts → Replying) where
   pub posed_replied : (q : ProblemParts) → Asks text q → (result : Result Reply Stop) → IsReplied (GoesOn q) result → IsReplied (AsksText text GoesOn) result
   posed_replied q asks result r = IsReplied-weaker (GoesOn q) (AsksText text GoesOn) (λ status output h. text_posed status output q asks h) result r
 
--- the same of the text of a file
+-- the same for the text of a file
 module _ (s : ShelfUse) (file text items : List ℕ) (GoesOn : ProblemParts → Replying) (same : text ≡ items) (given : IsGiven (s.content file) (Some MAX_TEXT_BYTES) items) (result : Result Reply Stop) where
   given_text : IsGiven (s.content file) (Some MAX_TEXT_BYTES) text
   given_text = subst (IsGiven (s.content file) (Some MAX_TEXT_BYTES)) (sym same) given
@@ -50,7 +50,7 @@ module _ (s : ShelfUse) (file text items : List ℕ) (GoesOn : ProblemParts → 
       result
       r
 
--- a second file is got of a shelf that has not failed and holds what it held
+-- a second file is read from a shelf that has not failed and whose content is unchanged
 module _ (s : ShelfUse) (content : List ℕ → Told) (before : ℕ) (other : List ℕ) (limit : Option ℕ) (line : List ℕ) (GoesOn : List ℕ → Replying) (holds : content other ≡ s.content other) (stands : before ≡ s.before) (result : Result Reply Stop) where
   pub ungiven_replied : IsReplied (IsUngiven (shelf_use content before s.now s.last) other limit line) result → IsReplied (GetsFile s other limit line GoesOn) result
   ungiven_replied r = IsReplied-weaker (IsUngiven (shelf_use content before s.now s.last) other limit line) (GetsFile s other limit line GoesOn) weaker result r

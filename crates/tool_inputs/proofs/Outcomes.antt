@@ -1,4 +1,4 @@
--- Outcomes of steps, put together.
+-- Outcomes of steps, combined.
 use Rattle.std.proofs.Common.{◌≡◌, ℕ, List, Option, Err, Vec, Result, Ok}
 use Rattle.std.specs.declared.alloc.Global.{Global}
 use Rattle.kat_io.specs.Gets.{IsCounted}
@@ -14,7 +14,7 @@ pub IsStop-weaker : (IsSo IsToo : Replying) → ((status : ℕ) (output : List �
 IsStop-weaker IsSo IsToo so NoMemory s = tt
 IsStop-weaker IsSo IsToo so (Replied r) s = so r.status r.output.items s
 
--- where there is no value to go on with
+-- if there is no value to continue with
 pub IsOutcome-refused : {T : Type 0} (IsValue : T → Type 0) (IsSo IsToo : Replying) → ((status : ℕ) (output : List ℕ) → IsSo status output → IsToo status output) → (result : Result T Stop) → IsOutcome (λ x. ⊥) IsSo result → IsOutcome IsValue IsToo result
 IsOutcome-refused IsValue IsSo IsToo so (Ok x) s = absurd s
 IsOutcome-refused IsValue IsSo IsToo so (Err stop) s = IsStop-weaker IsSo IsToo so stop s
@@ -23,6 +23,6 @@ pub IsReplied-weaker : (IsSo IsToo : Replying) → ((status : ℕ) (output : Lis
 IsReplied-weaker IsSo IsToo so (Ok r) s = so r.status r.output.items s
 IsReplied-weaker IsSo IsToo so (Err stop) s = IsStop-weaker IsSo IsToo so stop s
 
--- a get that is refused for its length leaves the count, and one that fails raises it and leaves the name
+-- a get that is refused for its length does not change the count; a get that fails increases it and records the name
 pub counted_past : (fault : GetFault) (file : List ℕ) (before now : ℕ) (last next : Option (List ℕ)) → fault ≡ TooLong → IsCounted {T = Vec ℕ Global} (Err fault) file before now last next → now ≡ before
 counted_past fault file before now last next e c = let counted : IsCounted {T = Vec ℕ Global} (Err TooLong) file before now last next = rw e at c in counted.0

@@ -1,4 +1,4 @@
--- The plainest text of a goal about programs says a concrete file, of which the goal is a sentence on stores.
+-- The plainest text of a goal about programs is read as a concrete file, whose goal is a statement about stores.
 use Rattle.std.proofs.Common.{◌≡◌, ℕ, List, sym, subst}
 use Rattle.kat_model.specs.declared.expression.Width.{Width}
 use Rattle.kat_model.specs.Expressions.{CondTree}

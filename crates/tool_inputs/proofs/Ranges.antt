@@ -1,4 +1,4 @@
--- What a text says has its numbers in range.
+-- The file that a text is read as has its numbers in range.
 use Rattle.std.proofs.Common.{ℕ, List}
 use Rattle.problem_file.specs.Files.{FileParts}
 use Rattle.problem_file.specs.Reads.{Reads}

@@ -1,4 +1,4 @@
--- Each step of a reply has one outcome: where it may go on with something, it goes on with that alone or stops with one reply.
+-- Each step of a reply has one outcome: it continues only with its one value, or stops with one reply.
 use Rattle.std.proofs.Common.{◌≡◌, ◌⊎◌, ◌<◌, ℕ, List, [], length, Option, None, Some, Result, Ok, Err, inl, inr, ⊎_elim, refl, sym, subst, ap, ◌∙◌}
 use Rattle.kat_model.specs.declared.limits.TheConstants.{MAX_TEXT_BYTES}
 use Rattle.kat_model.specs.Problems.{ProblemParts}
@@ -25,11 +25,11 @@ use Rattle.tool_inputs.specs.Showing.{Spells}
 use Rattle.tool_inputs.specs.Steps.{ShelfUse, Replying, FailsOn, HasFailedOn, GetsFile, GetsText, ReadsAs, ReadsText, AbstractsFile, AsksQuestion, AsksText, ReadsEvidence}
 use Rattle.tool_inputs.proofs.Contents.{past_within, held_same, held_past, told_bytes, told_past}
 
--- two such replies have one status
+-- any two such replies have the same status
 abbrev pub OneStatus : Replying → Type 0
 OneStatus IsSo = (a b : ℕ) (o p : List ℕ) → IsSo a o → IsSo b p → a ≡ b
 
--- ---- a file is got
+-- ---- a file is read from the shelf
 
 module _ (s : ShelfUse) (file : List ℕ) (limit : Option ℕ) (line : List ℕ) (GoesOn : List ℕ → Replying) where
   pub gets_told : (bytes : List ℕ) (status : ℕ) (output : List ℕ) → s.content file ≡ Holds bytes → (FailsOn s file → ⊥) → GetsFile s file limit line GoesOn status output
@@ -61,7 +61,7 @@ gets_bytes s file GoesOn bytes status output is unfailed r = ⊎_elim (λ h. abs
 
 -- ---- a text is read
 
--- in any way in which a text says one thing or has one first fault
+-- for every kind of reading in which a text has one value or one first fault
 module _ {X : Type 0} (Says : List ℕ → X → Type 0) (Fails : List ℕ → TextFault → Type 0) (one : HaveOneAnswer Says Fails) (text : List ℕ) (GoesOn : X → Replying) where
   abbrev ReadsOne : Replying
   ReadsOne = ReadsAs (Fails text) (Says text) GoesOn
@@ -79,7 +79,7 @@ module _ {X : Type 0} (Says : List ℕ → X → Type 0) (Fails : List ℕ → T
   read_once once a b o p (inl r) y = r.0 ∙ sym (faulty_one b p o r.1 y).0
   read_once once a b o p (inr g) y = once g.0 a b o p g.2 (said_one b p g.0 g.1 y)
 
--- a file with one goal
+-- a text of a file with one goal
 module _ (text : List ℕ) (GoesOn : FileParts → Replying) (status : ℕ) (output : List ℕ) where
   pub reads_said : (f : FileParts) → Reads text f → ReadsText text GoesOn status output → GoesOn f status output
   reads_said = said_one Reads FirstFault have_one_answer text GoesOn status output
@@ -90,7 +90,7 @@ module _ (text : List ℕ) (GoesOn : FileParts → Replying) (status : ℕ) (out
 pub reads_once : (text : List ℕ) (GoesOn : FileParts → Replying) → ((s : FileParts) → OneStatus (GoesOn s)) → OneStatus (ReadsText text GoesOn)
 reads_once = read_once Reads FirstFault have_one_answer
 
--- ---- what was read is abstracted
+-- ---- a file is abstracted
 
 -- a result is one value or one error
 module _ {X Y : Type 0} (r : Result X Y) where
@@ -120,15 +120,15 @@ pub abstracts_once : (f : FileParts) (GoesOn : AbstractParts → Replying) → (
 abstracts_once f GoesOn once a b o p (inl r) y = r.0 ∙ sym (abstracts_none f GoesOn b p o r.1 y).0
 abstracts_once f GoesOn once a b o p (inr g) y = once g.0 a b o p g.2 (abstracts_as f GoesOn b p g.0 g.1 y)
 
--- ---- both
+-- ---- a text and its question
 
--- the question of a text is that of its one file
+-- the question of a text is the question of its one file
 pub text_asks : (text : List ℕ) (GoesOn : ProblemParts → Replying) (status : ℕ) (output : List ℕ) (q : ProblemParts) → Asks text q → AsksText text GoesOn status output → GoesOn q status output
 text_asks text GoesOn status output q x r =
     subst (λ p. GoesOn p status output) (sym x.question)
     (abstracts_as x.file (λ a. GoesOn a.problem) status output x.abstract x.is_abstract (reads_said text (λ f. AsksQuestion f GoesOn) status output x.file x.reads r))
 
--- a text that poses no problem, in any step that abstracts it
+-- a step that abstracts a text that poses no problem
 pub abstracted_none : (text : List ℕ) (GoesOn : FileParts → AbstractParts → Replying) (status : ℕ) (output line : List ℕ) → PosesNone text line → ReadsText text (λ f. AbstractsFile f (GoesOn f)) status output → (status ≡ 2) × (output ≡ line)
 abstracted_none text GoesOn status output line (inl fault) r = reads_faulty text (λ f. AbstractsFile f (GoesOn f)) status output line fault r
 abstracted_none text GoesOn status output line (inr h) r =
@@ -137,11 +137,11 @@ abstracted_none text GoesOn status output line (inr h) r =
 pub text_once : (text : List ℕ) (GoesOn : ProblemParts → Replying) → ((q : ProblemParts) → OneStatus (GoesOn q)) → OneStatus (AsksText text GoesOn)
 text_once text GoesOn once = reads_once text (λ f. AsksQuestion f GoesOn) (λ f. abstracts_once f (λ a. GoesOn a.problem) (λ a. once a.problem))
 
--- a text that is too long is faulty
+-- a text that is too long has a fault
 abbrev IsLongFault : (List ℕ → TextFault → Type 0) → Type 0
 IsLongFault Fails = (text : List ℕ) → MAX_TEXT_BYTES < length text → Fails text TooLong
 
--- and what is told of it is what is told of any that is faulty
+-- and its reply is that of any text with a fault
 module _ {X : Type 0} (Says : List ℕ → X → Type 0) (Fails : List ℕ → TextFault → Type 0) (long : IsLongFault Fails) (s : ShelfUse) (file : List ℕ) (GoesOn : X → Replying) (status : ℕ) (output : List ℕ) (text : List ℕ) where
   read_as : (IsPast (length text) (Some MAX_TEXT_BYTES) × (status ≡ 2) × (output ≡ too_long_line)) ⊎ (IsWithin (length text) (Some MAX_TEXT_BYTES) × ReadsAs (Fails text) (Says text) GoesOn status output) → ReadsAs (Fails text) (Says text) GoesOn status output
   read_as (inl h) = inl (h.1, subst (IsFaultOf (Fails text)) (sym h.2) (record { fault = TooLong; first = long text h.0; printed = refl }))
@@ -151,7 +151,7 @@ module _ {X : Type 0} (Says : List ℕ → X → Type 0) (Fails : List ℕ → T
   gets_as is unfailed r = read_as (gets_told s file (Some MAX_TEXT_BYTES) too_long_line (λ t. ReadsAs (Fails t) (Says t) GoesOn) text status output is unfailed r)
 
 module _ (s : ShelfUse) (file : List ℕ) (GoesOn : FileParts → Replying) (status : ℕ) (output : List ℕ) where
-  -- the reply to a file, by what the text that it may hold says
+  -- the reply to a file, by the reading of the text that it may hold
   pub gets_read : GetsText s file (λ text. ReadsText text GoesOn) status output
       → HasFailedOn s file status output ⊎ (((status ≡ 2) × MaySayNone (s.content file) output) ⊎ ((f : FileParts) × MaySay (s.content file) f × GoesOn f status output))
   gets_read (inl f) = inl f
@@ -170,7 +170,7 @@ module _ (s : ShelfUse) (file : List ℕ) (GoesOn : FileParts → Replying) (sta
     gets_faulty line fault = reads_faulty text GoesOn status output line fault gets_text
 
 module _ (s : ShelfUse) (file : List ℕ) (GoesOn : ProblemParts → Replying) (status : ℕ) (output : List ℕ) where
-  -- the reply to a file, by what the text that it may hold asks
+  -- the reply to a file, by the problem of the text that it may hold
   pub gets_posed : GetsText s file (λ text. AsksText text GoesOn) status output
       → HasFailedOn s file status output ⊎ (((status ≡ 2) × IsRefused (s.content file) output) ⊎ ((q : ProblemParts) × Poses (s.content file) q × GoesOn q status output))
   gets_posed (inl f) = inl f

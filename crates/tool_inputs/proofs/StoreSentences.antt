@@ -1,4 +1,4 @@
--- Where both sides of a text's question are the same, the goal of a concrete file holds of all its stores.
+-- If both sides of the question of a text are the same, the goal of a concrete file holds for all its stores.
 use Rattle.std.proofs.Common.{◌≡◌, ℕ, List, subst}
 use Rattle.kat_model.specs.Problems.{ProblemParts}
 use Rattle.kat_model.specs.Relations.{Same}
@@ -14,18 +14,18 @@ use Rattle.tool_inputs.specs.Posing.{Poses}
 use Rattle.tool_inputs.proofs.Ranges.{numbers_in_range}
 use Rattle.tool_inputs.proofs.Contents.{held_same}
 
--- the file that asks
+-- the goal of the file of the question holds
 pub asked_agrees : (text : List ℕ) (q : ProblemParts) (asks : Asks text q) → Same q → IsConcrete asks.file → Agrees asks.file
 asked_agrees text q asks same concrete =
     let range = numbers_in_range text asks.file asks.reads in
     same_agrees asks.file asks.abstract range asks.is_abstract (derived_hold asks.file asks.abstract range asks.is_abstract) concrete (subst Same asks.question same)
 
--- which is the one that the text says
+-- the file of the question is the one that the text is read as
 pub read_agrees : (text : List ℕ) (q : ProblemParts) → Asks text q → Same q → (f : FileParts) → Reads text f → IsConcrete f → Agrees f
 read_agrees text q asks same f reads concrete =
     subst (λ g. IsConcrete g → Agrees g) (have_one_answer.values text asks.file f asks.reads reads) (asked_agrees text q asks same) concrete
 
--- and that of a file that the shelf tells
+-- the same for a file with known content
 pub told_agrees : (told : Told) (q : ProblemParts) → Poses told q → Same q → (text : List ℕ) (f : FileParts) → told ≡ Holds text → Reads text f → IsConcrete f → Agrees f
 told_agrees told q poses same text f is reads concrete =
     read_agrees text q (subst (λ t. Asks t q) (held_same told text poses.text is poses.given.0) poses.asks) same f reads concrete

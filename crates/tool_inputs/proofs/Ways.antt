@@ -1,4 +1,4 @@
--- A reply with its cause: the statuses that replies have, each with what it comes with.
+-- A reply with its cause: the possible statuses, each with what it implies.
 use Rattle.std.proofs.Common.{◌≡◌, ◌⊎◌, ℕ, inl, inr, arith}
 
 abbrev pub Ways : ℕ → (P0 P1 P2 P3 P4 : Type 0) → Type 0
@@ -40,7 +40,7 @@ module _ (status : ℕ) (P0 P1 P2 P3 P4 : Type 0) where
   at_four (inr (inr (inr (inl h)))) e = absurd (omega (arith, h.0, e))
   at_four (inr (inr (inr (inr h)))) e = h.1
 
--- or the status of words that are refused
+-- or the status of refused words
 module _ (status : ℕ) (P0 P1 P2 P3 P4 P7 : Type 0) where
   small : Ways status P0 P1 P2 P3 P4 → status ≡ 7 → ⊥
   small (inl h) e = omega (arith, h.0, e)

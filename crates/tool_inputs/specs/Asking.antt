@@ -1,11 +1,11 @@
--- The problem that a text asks.
+-- The problem that is the question of a text.
 use Rattle.std.specs.Prelude.{◌≡◌, ℕ, List, Ok}
 use Rattle.kat_model.specs.Problems.{ProblemParts}
 use Rattle.problem_file.specs.Files.{FileParts}
 use Rattle.problem_file.specs.Reads.{Reads}
 use Rattle.abstraction.specs.Abstracts.{AbstractParts, abstract_of}
 
--- the text asks this question: it is that of the abstraction of what the text says
+-- the question of the text is the problem of the abstraction of its file
 pub record Asks (text : List ℕ) (q : ProblemParts) : Type 0 where
   pub file : FileParts
   pub reads : Reads text file

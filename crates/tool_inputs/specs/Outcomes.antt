@@ -1,4 +1,4 @@
--- What the steps of a reply give, or the reply with which they stop.
+-- The values of the steps of a reply, or the reply with which they stop.
 use Rattle.std.specs.Prelude.{◌≡◌, ◌⊎◌, ℕ, List, Option, Result, Ok, Err}
 use Rattle.kat_model.specs.Problems.{ProblemParts}
 use Rattle.problem_file.specs.Files.{FileParts}
@@ -10,25 +10,25 @@ use Rattle.tool_inputs.specs.Asking.{Asks}
 use Rattle.tool_inputs.specs.Posing.{PosesNone, IsTooLong}
 use Rattle.tool_inputs.specs.Steps.{ShelfUse, Replying, IsRefusal, HasFailedOn}
 
--- memory ran out, or the reply is such
+-- memory ran out, or the reply satisfies `IsSo`
 abbrev pub IsStop : Replying → Stop → Type 0
 IsStop IsSo NoMemory = Unit {0}
 IsStop IsSo (Replied r) = IsSo r.status r.output.items
 
--- the value is such, or there is such a reply
+-- the value satisfies `IsValue`, or the command stops with such a reply
 abbrev pub IsOutcome : {T : Type 0} → (T → Type 0) → Replying → Result T Stop → Type 0
 IsOutcome IsValue IsSo (Ok x) = IsValue x
 IsOutcome IsValue IsSo (Err stop) = IsStop IsSo stop
 
--- the reply is such, whether there was something to stop for or not
+-- the reply satisfies `IsSo`, whether or not the command stopped early
 abbrev pub IsReplied : Replying → Result Reply Stop → Type 0
 IsReplied IsSo result = IsOutcome (λ r. IsSo r.status r.output.items) IsSo result
 
--- what the shelf gave was not got: it failed on the file, or there is too much
+-- the file was not read: the shelf failed on it, or it is too long
 abbrev pub IsUngiven : ShelfUse → List ℕ → Option ℕ → List ℕ → Replying
 IsUngiven s file limit line status output = HasFailedOn s file status output ⊎ IsRefusal (IsTooLong (s.content file) limit line) status output
 
--- the count of faults stands, unless the reply says that there was one
+-- the count of faults is unchanged, unless the reply reports a fault
 abbrev pub Counts : {T : Type 0} → ℕ → ℕ → Result T Stop → Type 0
 Counts before now result = IsOutcome (λ x. now ≡ before) (λ status output. (status ≡ 4) ⊎ (now ≡ before)) result
 

@@ -13,42 +13,42 @@ use Rattle.abstract_texts.specs.Refusals.{abstract_fault_line}
 use Rattle.tool_inputs.specs.Held.{MayPass, IsGiven}
 use Rattle.tool_inputs.specs.Asking.{Asks}
 
--- this is a first fault, and it is printed
+-- there is a first fault, and its line is printed
 pub record IsFaultOf (Fails : TextFault → Type 0) (output : List ℕ) : Type 0 where
   pub fault : TextFault
   pub first : Fails fault
   pub printed : output ≡ text_fault_line fault
 
--- the text says nothing, and its first fault is printed
+-- the text is not a file, and its first fault is printed
 abbrev pub IsFaulty : List ℕ → List ℕ → Type 0
 IsFaulty text output = IsFaultOf (FirstFault text) output
 
--- what was read has no abstraction, and so asks no question, and the line that is printed says why
+-- the file has no abstraction and therefore no question; the printed line gives the reason
 pub record AsksNone (f : FileParts) (output : List ℕ) : Type 0 where
   pub fault : AbstractFault
   pub has_none : abstract_of f ≡ Err fault
   pub printed : output ≡ abstract_fault_line fault
 
--- the text poses no problem, and the line that is printed says why
+-- the text poses no problem; the printed line gives the reason
 abbrev pub PosesNone : List ℕ → List ℕ → Type 0
 PosesNone text output = IsFaulty text output ⊎ ((f : FileParts) × Reads text f × AsksNone f output)
 
--- there may be more bytes than the limit, and this line is printed
+-- the file may have more bytes than the limit, and this line is printed
 pub record IsTooLong (told : Told) (limit : Option ℕ) (line output : List ℕ) : Type 0 where
   pub past : MayPass told limit
   pub printed : output ≡ line
 
--- the line of a problem's file that has more bytes than the limit
+-- the line for a problem file that has more bytes than the limit
 abbrev pub too_long_line : List ℕ
 too_long_line = codes "refused: TooLong\n"
 
--- the shelf may hold a text that says this file
+-- the shelf may hold a text that is read as this file
 pub record MaySay (told : Told) (f : FileParts) : Type 0 where
   pub text : List ℕ
   pub given : IsGiven told (Some MAX_TEXT_BYTES) text
   pub reads : Reads text f
 
--- or one that says nothing: it is too long, or has a first fault
+-- the shelf may hold a text that is not a file: it is too long, or has a first fault
 abbrev pub MaySayNone : Told → List ℕ → Type 0
 MaySayNone told output = IsTooLong told (Some MAX_TEXT_BYTES) too_long_line output ⊎ ((text : List ℕ) × IsGiven told (Some MAX_TEXT_BYTES) text × IsFaulty text output)
 

@@ -1,4 +1,4 @@
-//! The problem that a file asks: that of its abstraction.
+//! The problem of a file, which is that of its abstraction.
 ghost use Rattle.std.specs.Prelude.{◌≡◌, ◌≢◌, Ok};
 ghost use Rattle.abstraction.specs.declared.fault.AbstractFault.TheVariants.{NoMemory as NoRoom};
 ghost use Rattle.problem_file.specs.Trees.{goal_tree};
@@ -15,7 +15,7 @@ use kat_model::{NoMemory, Problem};
 use problem_file::{File, Goal};
 use std::alloc::Global;
 
-// The reply to a file that has no abstraction for this reason, which is a refusal unless memory ran out.
+// Returns the reply to a file that has no abstraction for this reason: a refusal, unless memory ran out.
 fn fault_stop(alloc: Global, fault: AbstractFault) -> Stop
     ensures { IsStop (λ status output. (status ≡ 2) × ((fault ≢ NoRoom) × (output ≡ abstract_fault_line fault))) result }
 {
@@ -28,7 +28,7 @@ fn fault_stop(alloc: Global, fault: AbstractFault) -> Stop
     }
 }
 
-/// The abstraction of a file. A file that has none is refused with the line that says why.
+/// Returns the abstraction of a file. A file without an abstraction is refused with the line that gives the reason.
 pub fn abstract_in(alloc: Global, file: &File) -> Result<Abstract, Stop>
     requires { HasNumbersInRange file.now }
     ensures { IsOutcome (λ a. abstract_of file.now ≡ Ok a) (IsRefusal (AsksNone file.now)) result }
@@ -39,7 +39,8 @@ pub fn abstract_in(alloc: Global, file: &File) -> Result<Abstract, Stop>
     }
 }
 
-/// The abstraction of a file with this goal alone. One that has none is refused with the line that says why.
+/// Returns the abstraction of a file with only this goal. A file without an abstraction is refused with the line that
+/// gives the reason.
 pub fn abstract_for(alloc: Global, file: &File, goal: &Goal) -> Result<Abstract, Stop>
     requires { HasNumbersInRange (with_goal file.now (goal_tree goal.now)) }
     ensures { IsOutcome (λ a. abstract_of (with_goal file.now (goal_tree goal.now)) ≡ Ok a) (IsRefusal (AsksNone (with_goal file.now (goal_tree goal.now)))) result }
@@ -50,7 +51,7 @@ pub fn abstract_for(alloc: Global, file: &File, goal: &Goal) -> Result<Abstract,
     }
 }
 
-/// The problem of a file, which is that of its abstraction.
+/// Returns the problem of a file, which is that of its abstraction.
 pub(crate) fn problem_of(alloc: Global, file: &File) -> Result<Problem, Stop>
     requires { HasNumbersInRange file.now }
     ensures { IsOutcome (IsQuestionOf file.now) (IsRefusal (AsksNone file.now)) result }

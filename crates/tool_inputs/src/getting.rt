@@ -1,4 +1,4 @@
-//! What the shelf gives.
+//! Reading files from the shelf.
 ghost use Rattle.std.specs.Prelude.{◌≡◌, ◌++◌, ◌∷◌, [], ℕ, List, Some, IfOk, codes};
 ghost use Rattle.kat_model.specs.declared.limits.TheConstants.{MAX_TEXT_BYTES};
 ghost use Rattle.tool_inputs.specs.Held.{IsGiven};
@@ -11,7 +11,7 @@ use kat_io::{GetFault, Shelf};
 use kat_model::{MAX_TEXT_BYTES, NoMemory};
 use std::alloc::Global;
 
-// The line that names the file.
+// Returns the line that names the file.
 fn unread_line(alloc: Global, file: &str) -> Result<Vec<u8>, NoMemory>
     ensures { IfOk result (λ v. v.items ≡ codes "cannot read " ++ file.now ++ 10 ∷ []) }
 {
@@ -30,8 +30,8 @@ fn unread_stop(alloc: Global, file: &str) -> Stop
     }
 }
 
-/// The bytes of the file, of which there may be so many; with more, this line refuses them. A file on which the shelf fails has
-/// the reply that names it, whose status is 4. What the shelf holds stays.
+/// Returns the bytes of the file, at most `limit`. A longer file is refused with the line `too_long`. If the shelf
+/// fails on the file, the reply has status 4 and names the file. The content of the shelf is unchanged.
 pub fn file_bytes<S: Shelf>(
     alloc: Global,
     file: &str,
@@ -52,7 +52,7 @@ pub fn file_bytes<S: Shelf>(
     }
 }
 
-/// The text of a problem's file, which may have as many bytes as a text. Otherwise as `file_bytes`.
+/// Returns the text of a problem file, at most `MAX_TEXT_BYTES` bytes. Otherwise as `file_bytes`.
 pub fn file_text<S: Shelf>(alloc: Global, file: &str, shelf: &mut S) -> Result<Vec<u8>, Stop>
     ensures got { IsOutcome (λ v. IsGiven (S.content shelf.old file.now) (Some MAX_TEXT_BYTES) v.items)
         (IsUngiven (shelf_use (S.content shelf.old) (S.faults shelf.old) (S.faults shelf.new) (S.last_failed shelf.new)) file.now (Some MAX_TEXT_BYTES) too_long_line) result }

@@ -1,5 +1,5 @@
-//! The steps that the replies of commands have in common: a file is got, its text is read and abstracted, and where there
-//! is nothing to go on with, a step stops with the reply.
+//! The common steps of the replies of commands: reading a file, reading its text, and abstracting it. A step that
+//! cannot continue stops with a reply.
 #![tactic(auto)]
 
 mod asking;

@@ -15,7 +15,7 @@ use problem_file::{File, read};
 use std::alloc::Global;
 use text_tokens::TextFault;
 
-/// The reply to a text with this fault, which is a refusal unless memory ran out.
+/// Returns the reply to a text with this fault: a refusal, unless memory ran out.
 pub fn text_fault_stop(alloc: Global, fault: TextFault) -> Stop
     ensures { IsStop (λ status output. (status ≡ 2) × ((fault ≢ NoRoom) × (output ≡ text_fault_line fault))) result }
 {
@@ -28,7 +28,7 @@ pub fn text_fault_stop(alloc: Global, fault: TextFault) -> Stop
     }
 }
 
-/// What the text of a problem file says. One with a first fault is refused with its line.
+/// Reads the text of a problem file. A text with a first fault is refused with the line of the fault.
 pub fn file_of(alloc: Global, text: &[u8]) -> Result<File, Stop>
     ensures { IsOutcome (Reads text.now) (IsRefusal (IsFaulty text.now)) result }
 {
@@ -38,7 +38,7 @@ pub fn file_of(alloc: Global, text: &[u8]) -> Result<File, Stop>
     }
 }
 
-/// The problem that a text poses. A text that poses none is refused with the line that says why.
+/// Returns the problem that a text poses. A text that poses none is refused with the line that gives the reason.
 pub fn problem_in(alloc: Global, text: &[u8]) -> Result<Problem, Stop>
     ensures { IsPosedBy text.now result }
 {

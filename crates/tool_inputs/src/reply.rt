@@ -1,4 +1,4 @@
-//! Replies: a status, and what is printed with it.
+//! Replies: a status and the output.
 ghost use Rattle.std.specs.Prelude.{◌≡◌, IfOk, codes};
 ghost use Rattle.tool_inputs.specs.declared.reply.Stop.TheVariants.{NoMemory as NoRoom};
 ghost use Rattle.tool_inputs.specs.Steps.{IsRefusal};
@@ -7,21 +7,21 @@ ghost use Rattle.tool_inputs.specs.Outcomes.{IsStop};
 use kat_model::NoMemory;
 use std::alloc::{AllocError, Global};
 
-/// What a command answers.
+/// The reply of a command.
 #[derive(Drop)]
 pub struct Reply {
     /// The exit status.
     pub status: u8,
-    /// What is printed with it.
+    /// The bytes that are printed.
     pub output: Vec<u8>,
 }
 
-/// Why there is nothing to go on with.
+/// Why a command ends early.
 #[derive(Drop)]
 pub enum Stop {
     /// Memory ran out.
     NoMemory,
-    /// This is the reply already.
+    /// The final reply.
     Replied(Reply),
 }
 
@@ -41,7 +41,7 @@ impl From<AllocError> for Stop {
     }
 }
 
-/// A reply of this status and this text. It fails only when out of memory.
+/// Returns a reply with this status and this text. Fails only when out of memory.
 pub fn line(alloc: Global, status: u8, text: &[u8]) -> Result<Reply, NoMemory>
     ensures { IfOk result (λ r. (r.status ≡ status) × (r.output.items ≡ text.now)) }
 {
@@ -51,7 +51,7 @@ pub fn line(alloc: Global, status: u8, text: &[u8]) -> Result<Reply, NoMemory>
     })
 }
 
-/// The refusal with this text, whose status is 2.
+/// Returns the refusal with this text, whose status is 2.
 pub fn refusal(alloc: Global, text: &[u8]) -> Stop
     ensures { IsStop (IsRefusal (λ l. l ≡ text.now)) result }
 {
@@ -61,7 +61,7 @@ pub fn refusal(alloc: Global, text: &[u8]) -> Stop
     }
 }
 
-/// The refusal of words that do not fit a file, whose status is 7.
+/// Returns the refusal of words that do not fit a file, whose status is 7.
 pub fn unfit_stop(alloc: Global) -> Stop
     ensures { IsStop (λ status output. (status ≡ 7) × (output ≡ codes "refused: words\n")) result }
 {

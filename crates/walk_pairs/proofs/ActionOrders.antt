@@ -1,4 +1,4 @@
--- Lists of all actions, each after a number.
+-- Lists of all actions, each paired with a count.
 use Rattle.std.proofs.Common.{◌≡◌, ◌<◌, ◌+◌, ◌↔◌, ◌⊎◌, inl, inr, ⊎_elim, ℕ, true, nat_eq, List, [], ◌∷◌, ◌++◌, map, sym, ◌∙◌, subst, arith}
 use Rattle.std.specs.List.{list_any}
 use Rattle.std.specs.List.Sorted.{IsPermutation}
@@ -15,7 +15,7 @@ acts_of ps = map (λ p. p.1) ps
 acts_append : (ps : List (ℕ × ℕ)) (p : ℕ × ℕ) → acts_of (ps ++ p ∷ []) ≡ acts_of ps ++ p.1 ∷ []
 acts_append ps p = map-append (λ q. q.1) ps (p ∷ [])
 
--- one action more
+-- appending the next action
 pub counted_next : (ps : List (ℕ × ℕ)) (n k : ℕ) → ((a : ℕ) → Has (acts_of ps) a ↔ (a < k)) → (a : ℕ) → Has (acts_of (ps ++ (n, k) ∷ [])) a ↔ (a < k + 1)
 counted_next ps n k before a = (
   (λ h. ⊎_elim
@@ -31,7 +31,7 @@ counted_next ps n k before a = (
     there : (a < k) ⊎ (k ≡ a) → Has (acts_of ps ++ k ∷ []) a
     there s = ⊎_elim (λ l. has_left (acts_of ps) (k ∷ []) a ((before a).1 l)) (λ e. has_right (acts_of ps) (k ∷ []) a (inl e)) s
 
--- an action is one of the list exactly where some pair has it
+-- an action is in the list exactly when some pair has it
 any_acts : (a : ℕ) (ps : List (ℕ × ℕ)) → (list_any (λ q. nat_eq q.1 a) ps ≡ true) ↔ Has (acts_of ps) a
 any_acts a [] = ((λ e. absurd cc), absurd)
 any_acts a (p ∷ ps) =
@@ -41,7 +41,7 @@ any_acts a (p ∷ ps) =
       (λ h. ⊎_elim (λ s. or_left (nat_eq p.1 a) here (grind (arith, s))) (λ r. or_right (nat_eq p.1 a) here (rest.1 r)) h),
     )
 
--- sorting keeps the actions
+-- sorting keeps the set of actions
 pub sorted_acts : (ps qs : List (ℕ × ℕ)) (n : ℕ) (acts : List ℕ) → IsPermutation ps qs → acts ≡ acts_of qs → ((a : ℕ) → Has (acts_of ps) a ↔ (a < n)) → (a : ℕ) → Has acts a ↔ (a < n)
 sorted_acts ps qs n acts moved is all a =
     let same : list_any (λ q. nat_eq q.1 a) ps ≡ list_any (λ q. nat_eq q.1 a) qs = list_any-IsPermutation (λ q. nat_eq q.1 a) ps qs moved in (

@@ -1,4 +1,4 @@
--- The tests and actions of a certificate are in the range of those of the terms of the pairs.
+-- The tests and actions of a certificate are in range if those of the terms of its pairs are.
 use Rattle.std.proofs.Common.{◌≡◌, ◌<◌, ⊎_elim, ℕ, List, get_or, slice_get, Some, refl, subst}
 use Rattle.kat_model.specs.Trees.{TestTree, bottom, Term, zero as nothing}
 use Rattle.kat_model.specs.Members.{Has}
@@ -21,14 +21,14 @@ use Rattle.walk_pairs.specs.Numbering.{test_node_of, term_node_of, test_nodes_of
 use Rattle.walk_pairs.proofs.StoreCerts.{numbered_cert, AreNeeded, test_at, term_at, test_there, term_there}
 use Rattle.walk_pairs.proofs.CertTrees.{pairs_numbered, trees_have_ids}
 
--- what holds of ids and goes from nodes to what they name holds of all parts
+-- a property of the given ids that passes from each node to the ids that it names holds of all parts
 module _ (N : Type 0) (nodes : List N) (named : N → List ℕ) (from : List ℕ) (P : ℕ → Type 0) (first : (i : ℕ) → Has from i → P i) (down : (i j : ℕ) (node : N) → slice_get nodes j ≡ Some node → P j → Has (named node) i → P i) where
   part_holds : {i : ℕ} → IsPart N nodes named from i → P i
   part_holds (own i h) = first i h
   part_holds (part i j node p at m) = down i j node at (part_holds p) m
 
 module _ (tests actions : ℕ) where
-  -- what a node names is in range where the node is
+  -- the parts that a node names are in range if the node is
   named_in_range : (guards : List TestTree) (below : List Term) (s : TermNode ℕ ℕ) → IsInRange tests actions (tree_over guards below s) → (i : ℕ) → Has (term_parts s) i → IsInRange tests actions (get_or below i nothing)
   named_in_range guards below Zero r i h = absurd h
   named_in_range guards below One r i h = absurd h
@@ -111,7 +111,7 @@ module _ (store : NodeParts) (es : List PairParts) (terms named ids : List ℕ) 
         let r = has_map (λ i. term_node_of ids terms (term_at store i)) terms (Act a) h in
         act_in_range tests actions ids terms (test_trees store) (trees store) (term_at store r.0) a r.2 (node_range r.0 (term_at store r.0) (term_there store es terms named ids needed r.0 r.1) (term_range r.0 r.1))
 
-  -- the certificate is that of the pairs
+  -- the numbered certificate is a certificate of the pairs
   pub numbered_is : (style : Style) (n : ℕ) → AreStoredPairs store style n es → IsCertOf store style es (numbered_cert style store ids terms es)
   numbered_is style n sets = record {
     style_is = refl;

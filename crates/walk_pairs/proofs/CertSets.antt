@@ -1,4 +1,4 @@
--- The sets of the pairs of a certificate are those of its pairs under tests.
+-- The pairs of sets of a certificate are its pairs under tests, without the tests.
 use Rattle.std.proofs.Common.{◌≡◌, List, [], ◌∷◌, map, refl, ap}
 use Rattle.kat_model.specs.Pairs.{SetPair}
 use Rattle.kat_model.specs.TestedPairs.{sets_of}

@@ -1,4 +1,4 @@
--- The trees of the numbers of a certificate are those of the ids of the store.
+-- The numbers of a certificate have the same trees as the ids of the store.
 use Rattle.std.proofs.Common.{◌≡◌, ◌<◌, inl, inr, ℕ, zero, suc, List, [], ◌∷◌, length, get_or, map, slice_get, Option, Some, None, refl, sym, ap, ◌∙◌, subst, arith}
 use Rattle.std.proofs.lemmas.Option.{get_or_from_slice_get, slice_get_within, slice_get-get_or}
 use Rattle.std.proofs.lemmas.List.{length-map}
@@ -86,17 +86,17 @@ module _ (store : NodeParts) (es : List PairParts) (terms named tests : List ℕ
   term_tree_kept : (i : ℕ) → Has terms i → HasTermAt i
   term_tree_kept i h = term_below (suc i) i (omega arith) h
 
-  -- the sets of pairs
+  -- the numbers of a set of ids have the same trees as the ids
   set_numbered : (set : List ℕ) → IsSubset set terms → terms_of cert_nodes (numbers_of terms set) ≡ terms_of store set
   set_numbered [] within = refl
   set_numbered (i ∷ set) within = λ v. term_tree_kept i (within i (inl refl)) v ∷ set_numbered set (λ j h. within j (inr h)) v
 
-  -- the test of a pair
+  -- the number of the test of a pair has the same tree as its id
   test_numbered : (t : Option ℕ) → ((k : ℕ) → Has (option_to_list t) k → Has tests k) → test_of cert_nodes (option_map (number_of tests) t) ≡ test_of store t
   test_numbered None within = refl
   test_numbered (Some k) within = test_tree_kept k (within k (inl refl))
 
-  -- what the pairs name is there
+  -- the ids that the pair names are among the ids of the certificate
   abbrev HasPair : PairParts → Type 0
   HasPair p = IsSubset p.left terms × IsSubset p.right terms × ((k : ℕ) → Has (option_to_list p.test) k → Has tests k)
 
@@ -116,7 +116,7 @@ module _ (store : NodeParts) (es : List PairParts) (terms named tests : List ℕ
       let sets_there = members_there store es terms named tests needed p h in
       (sets_there.0, sets_there.1, (λ k m. pair_tests_there store es terms named tests needed k (pair_test_of es p h k m))))
 
-  -- each tree is that of an id
+  -- each tree of the certificate is the tree of some id of the store
   pub trees_have_ids : (t : Term) → Has (trees cert_nodes) t → HasTree store t
   trees_have_ids t h =
       let place = place_of_member (trees cert_nodes) t h in

@@ -1,4 +1,4 @@
--- The ids of the closed sides of a problem, where the store grows, and which of them are ids of terms in range.
+-- The ids of the closed sides of a problem while the store grows, and which of the ids belong to terms in range.
 use Rattle.std.proofs.Common.{◌≡◌, ℕ, List, [], ◌∷◌, Option, Some, None, refl, sym, ap, ◌∙◌, subst}
 use Rattle.std.specs.Option.{option_map}
 use Rattle.kat_model.specs.Problems.{ProblemParts, IsProblem}

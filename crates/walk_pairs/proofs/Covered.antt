@@ -1,4 +1,4 @@
--- Where sure terms cover the open ones, sets between them are congruent, and where all terms are sure, only there.
+-- If sure terms cover the open ones, sets between them are congruent; if all terms are sure, this is also necessary.
 use Rattle.std.proofs.Common.{◌⊎◌, inl, inr, ⊎_elim, List, Option, Some, None}
 use Rattle.kat_model.specs.Trees.{Term}
 use Rattle.kat_model.specs.Members.{Has, IsSubset, SameMembers}
@@ -21,11 +21,12 @@ each_universal None es fs h = absurd h
 each_universal (Some u) es fs h = h
 
 module _ (universal : Option Term) (pairs : List SetPair) where
-  -- the pairs make of a set all that they make of a part of it
+  -- saturation by the pairs is monotone: a subset saturates to a subset
   pub sat_part : (es fs : List Term) → IsSubset es fs → IsSubset (sat pairs es) (sat pairs fs)
   sat_part es fs s = sat_grows pairs es fs (λ x h. sat_keeps pairs fs x (s x h))
 
-  -- of a set of which each term is in another, or is brought to a part of it, they make no more than of the other
+  -- if each term of one set is in another set or in the saturation of a subset of it, the first saturates to no more
+  -- than the second
   one_side : (es fs sure opened : List Term) → IsSubset sure fs → ((x : Term) → Has es x → Has fs x ⊎ Has opened x) → IsSubset opened (sat pairs sure) → IsSubset (sat pairs es) (sat pairs fs)
   one_side es fs sure opened s only made =
       sat_grows pairs es fs
@@ -78,7 +79,7 @@ module _ (universal : Option Term) (pairs : List SetPair) where
         })
         c
 
-  -- congruence depends on the members of the sets alone
+  -- congruence depends only on the members of the sets
   pub congruent_same : (es fs gs hs : List Term) → SameMembers es gs → SameMembers fs hs → IsCongruent universal pairs es fs → IsCongruent universal pairs gs hs
   congruent_same es fs gs hs s t c =
       let lefts = sat_same pairs es gs s in
@@ -90,6 +91,6 @@ module _ (universal : Option Term) (pairs : List SetPair) where
       inr (both_universal universal (sat pairs gs) (sat pairs hs) (universal_within universal (sat pairs es) (sat pairs gs) (λ x. (lefts x).0) each.0) (universal_within universal (sat pairs fs) (sat pairs hs) (λ x. (rights x).0) each.1)))
       c
 
-  -- sets with the members of a listed pair are congruent
+  -- two sets with the members of a listed pair are congruent
   pub listed_congruent : (p : SetPair) (es fs : List Term) → Has pairs p → SameMembers es p.left → SameMembers fs p.right → IsCongruent universal pairs es fs
   listed_congruent p es fs h s t = inl (listed_same pairs es fs (record { pair = p; listed = h; lefts = s; rights = t }))

@@ -1,4 +1,4 @@
--- Diagrams with a test set to a value.
+-- Diagrams with a test fixed to a value.
 use Rattle.std.proofs.Common.{◌≡◌, ◌⊎◌, ⊎_elim, ℕ, zero, suc, Bool, true, false, nat_eq, [], ◌∷◌, set, refl, sym, ap, ◌∙◌, subst, length-set}
 use Rattle.std.proofs.lemmas.Bool.{eqb-true, eqb-false}
 use Rattle.kat_model.specs.Steps.{Atom}
@@ -16,11 +16,11 @@ set_apart (x ∷ xs) zero (suc k) a b apart = refl
 set_apart (x ∷ xs) (suc j) zero a b apart = refl
 set_apart (x ∷ xs) (suc j) (suc k) a b apart = ap (λ l. x ∷ l) (set_apart xs j k a b (λ e. apart (ap suc e)))
 
--- the id is that of the older one's function with the test set
+-- the id has the function of the older id with the test fixed to the value
 abbrev pub IsFixedTo : DiagramsParts → DiagramsParts → ℕ → Bool → ℕ → ℕ → Type 0
 IsFixedTo c d test value old id = IsDiagramOf d id (λ atom. value_of c old (set atom test value))
 
--- it does not depend on that test, nor on what the older one does not depend on
+-- the fixed diagram depends neither on that test nor on any test on which the older diagram does not depend
 pub fixed_independent : (c d : DiagramsParts) (test : ℕ) (value : Bool) (old id k : ℕ) → d.tests ≡ c.tests → IsFixedTo c d test value old id → IsIndependent c old k ⊎ (k ≡ test) → IsIndependent d id k
 fixed_independent c d test value old id k tests is free atom fits b =
     is.value (set atom k b) (length-set atom k b ∙ fits) ∙ middle (nat_eq k test) refl ∙ sym (is.value atom fits)

@@ -1,4 +1,4 @@
--- The items of an action: the table of the moves of both sides.
+-- The items of an action: the table of moves of both sides.
 use Rattle.std.proofs.Common.{◌≡◌, ℕ, true, false, List, [], sym, ap, ◌∙◌, subst}
 use Rattle.std.specs.List.Sorted.{IsStrictlySortedBy}
 use Rattle.std.specs.Map.{keys_of}
@@ -20,14 +20,14 @@ use Rattle.walk_pairs.proofs.LastGuards.{last_guard_all, led_last}
 
 module _ (d : DiagramsParts) (left right : List Guarded) (act never : ℕ) (mid es : List (ℕ × Item)) (nowhere : IsDiagramOf d never (λ atom. false)) (first : AddsMoves never Left Right [] mid left act) (second : AddsMoves never Right Left mid es right act)
     (keyed : AreKeyed es) (sorted : IsStrictlySortedBy nat_cmp (keys_of es)) where
-  -- the guards are those of the last moves
+  -- the guards of an item are those of the last moves to its target
   left_guard : (t : ℕ) → guard_of Left (item_in never es t) ≡ last_guard left act t never
   left_guard t = second.kept t ∙ first.there t
 
   right_guard : (t : ℕ) → guard_of Right (item_in never es t) ≡ last_guard right act t never
   right_guard t = second.there t ∙ ap (last_guard right act t) (first.kept t)
 
-  -- an item of the table is that of its target
+  -- an item of the table is the item of its target
   item_found : (i : Item) → Has (items_in es) i → item_in never es i.target ≡ i
   item_found i h =
       let entry = has_map (λ (z : ℕ × Item). z.1) es i h in

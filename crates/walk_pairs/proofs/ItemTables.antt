@@ -1,4 +1,4 @@
--- Tables of items by their targets.
+-- Tables from targets to items.
 use Rattle.std.proofs.Common.{◌≡◌, ◌↔◌, ◌⊎◌, inl, inr, ⊎_elim, ℕ, Bool, true, false, cond, List, [], ◌∷◌, Option, Some, None, refl, sym, ap, ◌∙◌, subst, arith}
 use Rattle.std.proofs.lemmas.Bool.{false≢true}
 use Rattle.std.proofs.lemmas.Cmp.{nat_cmp_total}
@@ -23,7 +23,7 @@ use Rattle.walk_pairs.specs.declared.items.Side.{Side}
 use Rattle.walk_pairs.specs.declared.items.Side.TheVariants.{Left, Right}
 use Rattle.walk_pairs.specs.Items.{guard_of, targets_of, chosen, items_in, AreKeyed, found_item, item_in, led_to, AddsTargets, AreLedTo}
 
--- what is found is an entry
+-- a lookup returns an entry of the table
 pub found_entry : (es : List (ℕ × Item)) (k : ℕ) (i : Item) → lookup (is_at (nat_cmp k)) es ≡ Some i → Has es (k, i)
 found_entry es k i e = lookup_has (λ q. is_at (nat_cmp q)) (tells_apart exact_unsigned) k es i e
 
@@ -35,7 +35,7 @@ item_target never es k keyed = go (lookup (is_at (nat_cmp k)) es) refl
     go None e = refl
     go (Some i) e = keyed (k, i) (found_entry es k i e)
 
--- a table stays keyed
+-- an insert keeps the table keyed by target
 pub keyed_insert : (k : ℕ) (v : Item) → v.target ≡ k → (es : List (ℕ × Item)) → AreKeyed es → AreKeyed (insert_entry nat_cmp es k v)
 keyed_insert k v own [] keyed x h = ⊎_elim (λ s. subst (λ (z : ℕ × Item). z.1.target ≡ z.0) s own) absurd h
 keyed_insert k v own (y ∷ es) keyed x h = go (nat_cmp k y.0) refl (keyed_insert k v own es (λ z m. keyed z (inr m)) x) h
@@ -48,7 +48,7 @@ keyed_insert k v own (y ∷ es) keyed x h = go (nat_cmp k y.0) refl (keyed_inser
         ⊎_elim (λ s. subst (λ (z : ℕ × Item). z.1.target ≡ z.0) s (own ∙ same)) (λ r. keyed x (inr r)) m
     go Greater e rest m = ⊎_elim (λ s. keyed x (inl s)) rest m
 
--- a key of a table with an entry put in is its key, or was there
+-- a key of a table after an insert is the inserted key or was a key before
 key_put : (k : ℕ) (v : Item) (es : List (ℕ × Item)) (j : ℕ) → Has (keys_of (insert_entry nat_cmp es k v)) j → (k ≡ j) ⊎ Has (keys_of es) j
 key_put k v [] j h = h
 key_put k v (y ∷ es) j h = go (nat_cmp k y.0) (key_put k v es j) h
@@ -59,7 +59,7 @@ key_put k v (y ∷ es) j h = go (nat_cmp k y.0) (key_put k v es j) h
     go Equal rest m = inr m
     go Greater rest m = ⊎_elim (λ s. inr (inl s)) (λ r. ⊎_elim (λ s. inl s) (λ t. inr (inr t)) (rest r)) m
 
--- so a table with one move more has its target beside those of before
+-- so inserting an additional move adds at most the target of that move
 pub target_put : (moves : List Guarded) (m : Guarded) → Has moves m → (old es new : List (ℕ × Item)) (v : Item) → new ≡ insert_entry nat_cmp es m.to v → AddsTargets old es moves → AddsTargets old new moves
 target_put moves m member old es new v is before k h =
     ⊎_elim
@@ -73,7 +73,7 @@ all_less : (k : ℕ) (ks : List ℕ) → AllByRecursion (λ y. nat_cmp k y ≡ L
 all_less k [] all y h = absurd h
 all_less k (j ∷ ks) all y h = ⊎_elim (λ s. subst (λ z. nat_cmp k z ≡ Less) s all.0) (λ r. all_less k ks all.1 y r) h
 
--- each entry is found
+-- a lookup finds each entry
 pub sorted_finds : (es : List (ℕ × Item)) → IsStrictlySortedBy nat_cmp (keys_of es) → (x : ℕ × Item) → Has es x → lookup (is_at (nat_cmp x.0)) es ≡ Some x.1
 unfolding IsStrictlySortedBy
 sorted_finds [] s x h = absurd h
@@ -86,12 +86,12 @@ sorted_finds (e ∷ es) s x h =
     ap (λ b. cond b (Some e.1) (lookup (is_at (nat_cmp x.0)) es)) other ∙ sorted_finds es s.1 x r)
     h
 
--- the targets are the keys
+-- the targets of the items are the keys of the table
 pub targets_are_keys : (es : List (ℕ × Item)) → AreKeyed es → targets_of (items_in es) ≡ keys_of es
 targets_are_keys [] keyed = refl
 targets_are_keys (e ∷ es) keyed = ap (λ t. t ∷ targets_of (items_in es)) (keyed e (inl refl)) ∙ ap (λ ts. e.0 ∷ ts) (targets_are_keys es (λ z m. keyed z (inr m)))
 
--- each is that of a move of one side
+-- each item has the target of a move of one side
 pub are_led_to : (left right : List Guarded) (mid es : List (ℕ × Item)) → AddsTargets [] mid left → AddsTargets mid es right → AreKeyed es → AreLedTo left right (items_in es)
 are_led_to left right mid es first second keyed i h =
     let key : Has (keys_of es) i.target = subst (λ ts. Has ts i.target) (targets_are_keys es keyed) (map_has (λ (z : Item). z.target) (items_in es) i h) in
@@ -117,7 +117,7 @@ module _ (d : DiagramsParts) (side : Side) (atom : Atom) where
       go later true e m = ⊎_elim (λ s. (j, inl refl, s, e)) later m
       go later false e m = later m
 
-  -- a target of a table is there where the guard of its item is true
+  -- a target is chosen at an atom if and only if the guard of its item is true there
   pub chosen_item : (never : ℕ) (es : List (ℕ × Item)) → AreKeyed es → IsStrictlySortedBy nat_cmp (keys_of es) → value_of d never atom ≡ false → (t : ℕ)
       → Has (chosen d side (items_in es) atom) t ↔ (value_of d (guard_of side (item_in never es t)) atom ≡ true)
   chosen_item never es keyed sorted nowhere t = (there, back)

@@ -1,4 +1,4 @@
--- The targets of items that are chosen by a truth value of the item.
+-- The targets of items that satisfy a predicate on items.
 use Rattle.std.proofs.Common.{◌≡◌, ◌<◌, ℕ, inl, inr, ⊎_elim, List, [], ◌∷◌, refl, sym, ap, subst, Bool, true, false, cond, nat_lt, nat_eq}
 use Rattle.std.proofs.lemmas.Bool.{and_from, lt-ltb}
 use Rattle.kat_model.specs.Members.{Has}
@@ -11,7 +11,7 @@ use Rattle.walk_pairs.specs.Items.{guard_of, targets_of, targets_under, is_open,
 use Rattle.walk_pairs.specs.declared.items.Item.{Item}
 use Rattle.walk_pairs.specs.declared.items.Side.{Side}
 
--- the targets of the items that pass
+-- the targets of the items that satisfy the predicate
 abbrev pub targets_where : (Item → Bool) → List Item → List ℕ
 targets_where p [] = []
 targets_where p (i ∷ is) = cond (p i) (i.target ∷ targets_where p is) (targets_where p is)
@@ -52,7 +52,7 @@ module _ (p : Item → Bool) where
       go rest true s m = ⊎_elim (λ same. (j, inl refl, s, same)) (λ r. let f = rest r in (f.0, inr f.1, f.2, f.3)) m
       go rest false s m = let f = rest m in (f.0, inr f.1, f.2, f.3)
 
--- ---- they ascend as all do
+-- ---- selected targets ascend if all do
 
 above_ascending : (x : ℕ) (ks : List ℕ) → ((k : ℕ) → Has ks k → x < k) → are_ascending ks ≡ true → are_ascending (x ∷ ks) ≡ true
 above_ascending x [] above e = refl

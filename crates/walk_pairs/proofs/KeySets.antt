@@ -1,4 +1,4 @@
--- Members of sets that are kept as keys in order.
+-- Members of sets that are stored as sorted keys.
 use Rattle.std.proofs.Common.{◌≡◌, ◌<◌, ◌≤◌, ◌+◌, length, get_or, take, ◌⊎◌, inl, inr, ⊎_elim, ℕ, true, nat_eq, List, [], ◌∷◌, ◌++◌, refl, sym, subst}
 use Rattle.std.specs.List.{list_any}
 use Rattle.std.specs.Ordering.{nat_cmp}
@@ -12,7 +12,7 @@ use Rattle.kat_model.proofs.SetKeys.{inserted_has}
 use Rattle.partial_derivs.proofs.Items.{take_item}
 use Rattle.walk_pairs.specs.Needed.{AddsAll}
 
--- one more of some keys is added
+-- inserting the next of the keys to add
 pub adds_next : (old ks new terms : List ℕ) (i k : ℕ) → i < length terms → k ≡ get_or terms i k → new ≡ insert_key nat_cmp ks k → AddsAll old ks (take i terms) → AddsAll old new (take (i + 1) terms)
 adds_next old ks new terms i k lt is e a =
     subst (λ ns. AddsAll old ns (take (i + 1) terms)) (sym e) (subst (AddsAll old (insert_key nat_cmp ks k)) (sym (take_item terms i k lt is)) next)

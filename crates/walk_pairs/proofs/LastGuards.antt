@@ -1,4 +1,4 @@
--- The guards of the last moves to targets, and the tables to which moves are added.
+-- The guards of the last moves to targets, and tables after moves are added.
 use Rattle.std.proofs.Common.{◌≡◌, ◌<◌, ◌+◌, ◌↔◌, inl, inr, ⊎_elim, ℕ, Bool, true, false, cond, ◌&&◌, nat_eq, List, [], ◌∷◌, ◌++◌, length, get_or, take, Some, refl, sym, ap, ◌∙◌, subst}
 use Rattle.std.proofs.lemmas.Bool.{and_parts, false≢true, eqb-true, eq-eqb, ne_eqb, and_from, and_right}
 use Rattle.std.proofs.lemmas.Cmp.{nat_cmp_total}
@@ -18,7 +18,7 @@ use Rattle.walk_pairs.specs.declared.items.Item.{Item}
 use Rattle.walk_pairs.specs.declared.items.Side.{Side}
 use Rattle.walk_pairs.specs.Items.{guard_of, led, last_guard, found_item, item_in, AddsMoves}
 
--- a move by the action to the target
+-- whether the move has the action and leads to the target
 abbrev pub is_hit : ℕ → ℕ → Guarded → Bool
 is_hit act t m = nat_eq m.act act && nat_eq m.to t
 
@@ -36,7 +36,7 @@ last_guard-append : (ms : List Guarded) (m : Guarded) (act t before : ℕ) → l
 last_guard-append [] m act t before = refl
 last_guard-append (n ∷ ms) m act t before = last_guard-append ms m act t (cond (is_hit act t n) n.guard before)
 
--- a last guard is one of the guards, or the one before
+-- a last guard is the guard of some move, or the given earlier one
 pub last_guard_all : (P : ℕ → Type 0) (ms : List Guarded) (act t before : ℕ) → ((m : Guarded) → Has ms m → P m.guard) → P before → P (last_guard ms act t before)
 last_guard_all P [] act t before all p = p
 last_guard_all P (m ∷ ms) act t before all p = last_guard_all P ms act t (cond (is_hit act t m) m.guard before) (λ n h. all n (inr h)) (go (is_hit act t m))
@@ -66,7 +66,7 @@ module _ (d : DiagramsParts) (act : ℕ) (atom : Atom) (t : ℕ) where
       go rest true e false k = rest k
       go rest false e b k = rest k
 
-  -- the moves lead to a target where its last guard is true
+  -- the moves lead to a target exactly when the last guard of the target is true
   pub led_last : (ms : List Guarded) (before : ℕ) → AreMerged ms → value_of d before atom ≡ false → Has (led d ms act atom) t ↔ (value_of d (last_guard ms act t before) atom ≡ true)
   led_last [] before merged nowhere = (absurd, (λ v. false≢true (sym nowhere ∙ v)))
   led_last (m ∷ ms) before merged nowhere = go (led_last ms before merged.1 nowhere) (nat_eq m.act act) refl (nat_eq m.to t) refl
@@ -91,7 +91,7 @@ module _ (d : DiagramsParts) (act : ℕ) (atom : Atom) (t : ℕ) where
           at false = other
       go other false e b f = other
 
--- ---- moves that are added to a table
+-- ---- adding moves to a table
 
 module _ (never : ℕ) (side other : Side) (act : ℕ) (old es : List (ℕ × Item)) where
   module _ (moves : List Guarded) (i : ℕ) where
@@ -102,14 +102,14 @@ module _ (never : ℕ) (side other : Side) (act : ℕ) (old es : List (ℕ × It
       last_front : (t before : ℕ) → last_guard (take (i + 1) moves) act t before ≡ cond (is_hit act t m) m.guard (last_guard (take i moves) act t before)
       last_front t before = ap (λ ms. last_guard ms act t before) front ∙ last_guard-append (take i moves) m act t before
 
-      -- a move by another action
+      -- skipping a move by another action
       pub adds_skipped : nat_eq m.act act ≡ false → AddsMoves never side other old es (take i moves) act → AddsMoves never side other old es (take (i + 1) moves) act
       adds_skipped e a = record {
         there = λ t. a.there t ∙ sym (last_front t (guard_of side (item_in never old t)) ∙ ap (λ b. cond (b && nat_eq m.to t) m.guard (last_guard (take i moves) act t (guard_of side (item_in never old t)))) e);
         kept = a.kept;
       }
 
-      -- a move by this one
+      -- adding a move by the action
       pub adds_move : (new : List (ℕ × Item)) (item : Item) → nat_eq m.act act ≡ true → guard_of side item ≡ m.guard → guard_of other item ≡ guard_of other (item_in never es m.to)
           → ((q : ℕ) → lookup (is_at (nat_cmp q)) new ≡ cond (is_at (nat_cmp m.to) q) (Some item) (lookup (is_at (nat_cmp q)) es))
           → AddsMoves never side other old es (take i moves) act → AddsMoves never side other old new (take (i + 1) moves) act

@@ -1,4 +1,4 @@
--- The tests that terms name, gathered a term at a time, and sets of keys that are listed in order.
+-- The tests that terms name, collected term by term, and sets of keys listed in order.
 use Rattle.std.proofs.Common.{◌≡◌, ◌≤◌, ◌<◌, ◌+◌, inl, inr, ⊎_elim, ℕ, Bool, true, false, cond, nat_eq, List, [], ◌∷◌, ◌++◌, length, get_or, take, drop, map, slice_get, Some, refl, sym, ap, ◌∙◌, subst, append_assoc, append-nil}
 use Rattle.std.proofs.lemmas.Bool.{eqb-true, or_cases}
 use Rattle.std.proofs.lemmas.List.{take_all, drop_more, drop_all}
@@ -53,7 +53,7 @@ none_there k ks f = go (list_any (nat_eq k) ks) refl
     go true e = absurd (f (there ks e))
     go false e = refl
 
--- a key behind those that are there, where all ascend
+-- if the whole list ascends, inserting the next key appends it
 pub listed_next : (all ks rest new : List ℕ) (k : ℕ) → are_ascending all ≡ true → ks ++ k ∷ rest ≡ all → new ≡ insert_key nat_eq ks k → new ++ rest ≡ all
 listed_next all ks rest new k up before inserted =
     let ascends : are_ascending (ks ++ k ∷ rest) ≡ true = subst (λ l. are_ascending l ≡ true) (sym before) up in
@@ -61,7 +61,7 @@ listed_next all ks rest new k up before inserted =
     let behind : new ≡ ks ++ k ∷ [] = inserted ∙ ap (λ b. cond b ks (ks ++ k ∷ [])) absent in
     ap (λ l. l ++ rest) behind ∙ append_assoc ks (k ∷ []) rest ∙ before
 
--- ---- lists that are mapped an item at a time
+-- ---- lists mapped element by element
 
 pub mapped_next : {Y : Type 0} (f : ℕ → Y) (ids : List ℕ) (i x : ℕ) (y : Y) (ys new all : List Y) → i < length ids → x ≡ get_or ids i x → y ≡ f x → new ≡ ys ++ y ∷ [] → ys ++ map f (drop i ids) ≡ all → new ++ map f (drop (i + 1) ids) ≡ all
 mapped_next f ids i x y ys new all lt is own pushed before =

@@ -1,4 +1,4 @@
--- The targets of the moves of a set by an action are its next set.
+-- The targets of the moves of a set by an action form its next set.
 use Rattle.std.proofs.Common.{◌≡◌, ℕ, inl, inr, ⊎_elim, List, [], ◌∷◌, Bool, true, false, ◌&&◌, cond, nat_eq, refl, sym, ap, ◌∙◌, subst}
 use Rattle.std.proofs.lemmas.Bool.{false≢true, eqb-true, eq-eqb}
 use Rattle.kat_model.specs.Trees.{Term}
@@ -14,7 +14,7 @@ use Rattle.partial_derivs.specs.declared.moves.Steps.{Steps}
 use Rattle.partial_derivs.specs.Moves.{IsTermOf, AreTargets, LeadsTo, IsStepsOf}
 use Rattle.walk_pairs.specs.Items.{led, led_to}
 
--- moves lead to just the terms of their targets
+-- moves lead exactly to the terms of their targets
 module _ (store : NodeParts) (d : DiagramsParts) (act : ℕ) (atom : Atom) where
   led_leads : (moves : List Guarded) (t : ℕ) → Has (led d moves act atom) t → LeadsTo store d moves atom act (tree_at store t)
   led_leads [] t h = absurd h
@@ -39,7 +39,7 @@ module _ (store : NodeParts) (d : DiagramsParts) (act : ℕ) (atom : Atom) where
       go rest true e false f k = ⊎_elim (λ s. absurd (false≢true (sym f ∙ subst (λ (z : Guarded). value_of d z.guard atom ≡ true) (sym s) v))) rest k
       go rest false e y f k = ⊎_elim (λ s. absurd (false≢true (sym e ∙ eq-eqb n.act act (ap (λ (z : Guarded). z.act) s ∙ a)))) rest k
 
-  -- so ids with just the targets of the moves have the next set
+  -- so ids with the same members as these targets denote the next set
   pub next_of_ids : (es : List Term) (steps : Steps) (ids : List ℕ) → IsStepsOf store d es steps → IsAtomOf d atom → SameMembers ids (led d steps.moves.items act atom) → SameMembers (set_next es atom act) (terms_of store ids)
   next_of_ids es steps ids is fits same x = (
     (λ h.

@@ -1,4 +1,4 @@
--- How ids are gathered with all their parts, the greatest first.
+-- Collecting ids with all their parts, the greatest id first.
 use Rattle.std.proofs.Common.{◌≡◌, ◌<◌, ◌≤◌, ◌+◌, ℕ, ◌⊎◌, inl, inr, ⊎_elim, List, [], ◌∷◌, ◌++◌, length, get_or, drop, ◌↔◌, slice_get, Some, refl, sym, ap, ◌∙◌, subst, arith, true}
 use Rattle.std.specs.List.{All}
 use Rattle.std.specs.Ordering.{nat_cmp}
@@ -15,10 +15,10 @@ use Rattle.term_nodes.specs.NumberSets.{are_ascending}
 use Rattle.walk_pairs.specs.Needed.{IsPart, own, part, AreParts, AddsAll, members_of}
 use Rattle.certificate.specs.PairParts.{PairParts}
 
--- ---- gathering
+-- ---- collecting
 
 module _ (N : Type 0) (nodes : List N) (named : N → List ℕ) (from : List ℕ) where
-  -- some ids are pending, and the rest is gathered, all of greater ids
+  -- some ids are pending; the others are collected, and each of these is greater than all pending ids
   pub record IsGathering (pending all : List ℕ) : Type 0 where
     pub pending_there : (i : ℕ) → Has pending i → i < length nodes
     pub there : (i : ℕ) → Has all i → i < length nodes
@@ -62,7 +62,7 @@ module _ (N : Type 0) (nodes : List N) (named : N → List ℕ) (from : List ℕ
     into : (i : ℕ) → Has all i → Has (insert_key nat_cmp all k) i
     into i h = (inserted_has exact_unsigned k all i).1 (inl h)
 
-    -- what was pending is so still, or was taken
+    -- a pending id stays pending or is the one that was taken
     moved : (i : ℕ) → Has pending i → Has next i ⊎ Has (insert_key nat_cmp all k) i
     moved i h =
         ⊎_elim
@@ -80,7 +80,7 @@ module _ (N : Type 0) (nodes : List N) (named : N → List ℕ) (from : List ℕ
         (λ s. let same : node ≡ n = same_Some node n (sym at ∙ ap (slice_get nodes) s ∙ f) in inl ((adds j).1 (inr (subst (λ x. Has (named x) j) (sym same) m))))
         ((inserted_has exact_unsigned k all i).0 h)
 
-    -- the greatest id is taken, and its parts are added, which are less
+    -- the step takes the greatest pending id and adds its parts, which are smaller
     pub gathering_goes_on : (new : List ℕ) → new ≡ insert_key nat_cmp all k → IsGathering next new
     gathering_goes_on new inserted = subst (IsGathering next) (sym inserted) (record {
       pending_there = λ i h. let b = under i h in let c = g.pending_there k taken in omega (arith, b, c);
@@ -92,7 +92,7 @@ module _ (N : Type 0) (nodes : List N) (named : N → List ℕ) (from : List ℕ
       only = λ i h. ⊎_elim (λ o. g.only i o) (λ s. subst (IsPart N nodes named from) s (g.pending_only k taken)) ((inserted_has exact_unsigned k all i).0 h);
     })
 
-    -- and what is pending is bounded by it
+    -- and lowers the bound of the pending ids
     pub gathering_falls : bound_of next < bound_of pending
     gathering_falls =
         let l = bound_least next k under in

@@ -1,4 +1,4 @@
--- The numbers of ids in a list that ascends: their places.
+-- The number of an id in an ascending list is its place.
 use Rattle.std.proofs.Common.{◌≡◌, ◌<◌, ◌+◌, inl, inr, ⊎_elim, ℕ, zero, suc, Bool, true, false, cond, not, nat_eq, nat_lt, List, [], ◌∷◌, length, map, slice_get, Some, None, unwrap_or, refl, sym, ap, ◌∙◌, subst, arith}
 use Rattle.std.proofs.lemmas.Bool.{eqb-true, eqb-false, and_from, lt-ltb, ltb-true, ltb-false}
 use Rattle.std.proofs.lemmas.Option.{slice_get_within, same_Some}
@@ -29,18 +29,18 @@ number_is ids i h =
     let yes : nat_lt (place_of i ids) (length ids) ≡ true = lt-ltb (place_of i ids) (length ids) low in
     ap (λ b. unwrap_or (cond b (Some (place_of i ids)) None) 0) yes
 
--- at the number of an id the id stands
+-- the id is at the place that its number gives
 pub number_at : (ids : List ℕ) (i : ℕ) → Has ids i → slice_get ids (number_of ids i) ≡ Some i
 number_at ids i h = ap (slice_get ids) (number_is ids i h) ∙ place_at ids i h
 
 pub number_within : (ids : List ℕ) (i : ℕ) → Has ids i → number_of ids i < length ids
 number_within ids i h = slice_get_within ids (number_of ids i) i (number_at ids i h)
 
--- where no id stands twice, its place is its number
+-- in a list without duplicates the place of an id is its number
 pub number_of_place : (ids : List ℕ) → HasNoDoubles ids → (k i : ℕ) → slice_get ids k ≡ Some i → number_of ids i ≡ k
 number_of_place ids once k i e = one_place ids once (number_of ids i) k i (number_at ids i (has_at ids k i e)) e
 
--- one number is one id
+-- ids with equal numbers are equal
 pub number_once : (ids : List ℕ) (i j : ℕ) → Has ids i → Has ids j → number_of ids i ≡ number_of ids j → i ≡ j
 number_once ids i j h k e = same_Some i j (sym (number_at ids i h) ∙ ap (slice_get ids) e ∙ number_at ids j k)
 
@@ -51,7 +51,7 @@ places_ascend (x ∷ ids) up zero (suc b) i j e f lt = subst (λ z. z < j) (same
 places_ascend (x ∷ ids) up (suc a) zero i j e f lt = absurd (omega (arith, lt))
 places_ascend (x ∷ ids) up (suc a) (suc b) i j e f lt = places_ascend ids (ascending_tail x ids up) a b i j e f (omega (arith, lt))
 
--- the numbers ascend with the ids
+-- numbers ascend with the ids
 pub number_less : (ids : List ℕ) → are_ascending ids ≡ true → (i j : ℕ) → Has ids i → Has ids j → i < j → number_of ids i < number_of ids j
 number_less ids up i j h k low = go (nat_lt (number_of ids i) (number_of ids j)) refl
   where
@@ -70,7 +70,7 @@ number_less ids up i j h k low = go (nat_lt (number_of ids i) (number_of ids j))
     go true e = ltb-true (number_of ids i) (number_of ids j) e
     go false e = other e (nat_lt (number_of ids j) (number_of ids i)) refl
 
--- ---- numbers of many ids
+-- ---- numbers of lists of ids
 
 pub are_below_all : (n : ℕ) (ks : List ℕ) → ((k : ℕ) → Has ks k → k < n) → are_below n ks ≡ true
 are_below_all n [] low = refl
@@ -87,7 +87,7 @@ numbers_ascend ids up (i ∷ j ∷ set) e within =
     and_from (nat_lt (number_of ids i) (number_of ids j)) (are_ascending (numbers_of ids (j ∷ set))) (lt-ltb (number_of ids i) (number_of ids j) low)
     (numbers_ascend ids up (j ∷ set) (ascending_tail i (j ∷ set) e) (λ k h. within k (inr h)))
 
--- ---- lists that are mapped
+-- ---- mapped lists
 
 pub once_mapped : {X Y : Type 0} (f : X → Y) (xs : List X) → HasNoDoubles xs → ((x y : X) → Has xs x → Has xs y → f x ≡ f y → x ≡ y) → HasNoDoubles (map f xs)
 once_mapped f [] once one = tt
@@ -96,7 +96,7 @@ once_mapped f (x ∷ xs) once one = (
   once_mapped f xs once.1 (λ y z h k. one y z (inr h) (inr k)),
 )
 
--- what stands at a place of a list that is mapped
+-- the element at a place of a mapped list
 pub mapped_at : {X Y : Type 0} (f : X → Y) (xs : List X) (k : ℕ) (y : Y) → slice_get (map f xs) k ≡ Some y → (x : X) × (slice_get xs k ≡ Some x) × (f x ≡ y)
 mapped_at f [] k y e = absurd cc
 mapped_at f (x ∷ xs) zero y e = (x, refl, cc)

@@ -23,25 +23,25 @@ module _ (N : Type 0) (nodes : List N) (named : N → List ℕ) (from other : Li
     only = λ i h. part_same (p.only i h);
   })
 
--- the tests that nodes name are there
+-- the tests that nodes name are ids of the store
 pub named_there : (store : NodeParts) → AreNodes store → (terms named : List ℕ) → NamesTests store terms named → (i : ℕ) → Has named i → i < length store.tests
 named_there store rules terms named names i h =
     let r = (names i).0 h in
     IsOver-test (length store.tests) r.term r.shape (rules.terms_ordered r.term r.shape r.at) i r.names
 
--- and so are those with the tests of pairs
+-- so are the tests that terms or pairs name
 pub all_there : (store : NodeParts) → AreNodes store → (terms : List ℕ) (ps : List PairParts) (named : List ℕ) → NamesAllTests store terms ps named → ((i : ℕ) → Has (tests_of_pairs ps) i → i < length store.tests) → (i : ℕ) → Has named i → i < length store.tests
 all_there store rules terms ps named names of_pairs i h =
     ⊎_elim (λ r. IsOver-test (length store.tests) r.term r.shape (rules.terms_ordered r.term r.shape r.at) i r.names) (of_pairs i) ((names i).0 h)
 
--- the tests of pairs are added to those that terms name
+-- adding the tests of pairs to the tests that terms name
 pub names_all : (store : NodeParts) (terms : List ℕ) (ps : List PairParts) (by_terms named : List ℕ) → NamesTests store terms by_terms → AddsAll by_terms named (tests_of_pairs ps) → NamesAllTests store terms ps named
 names_all store terms ps by_terms named names adds i = (
   (λ h. ⊎_elim (λ o. inl ((names i).0 o)) inr ((adds i).0 h)),
   (λ r. (adds i).1 (⊎_elim (λ n. inl ((names i).1 n)) inr r)),
 )
 
--- ---- the tests of pairs, gathered a pair at a time
+-- ---- the tests of pairs, collected pair by pair
 
 pair_tests-append : (ps : List PairParts) (p : PairParts) → tests_of_pairs (ps ++ p ∷ []) ≡ tests_of_pairs ps ++ option_to_list p.test
 pair_tests-append [] p = append-nil (option_to_list p.test)

@@ -1,4 +1,4 @@
--- The terms of a problem's closed sides, and all that steps lead to, are in the problem's range.
+-- The terms of the closed sides of a problem, and all terms that they reach, are in the range of the problem.
 use Rattle.std.proofs.Common.{◌≤◌, ⊎_elim, ℕ, zero as nought, suc, List, [], ◌∷◌, map, subst, arith}
 use Rattle.kat_model.specs.Trees.{Term, zero, one, test, act, sum, product, star}
 use Rattle.kat_model.specs.Members.{Has}
@@ -47,6 +47,6 @@ module _ (t a : ℕ) where
 pub sides_in_range : (q : ProblemParts) → IsProblem q → IsInRange q.tests q.actions (closed q).left × IsInRange q.tests q.actions (closed q).right
 sides_in_range q p = closed_in_range q.tests q.actions q.hyps q.left q.right p.hyps p.left p.right
 
--- a side, or a term that steps lead to from it
+-- a side, and each term that it reaches, is in range
 pub within_side : (q : ProblemParts) (side x : Term) → IsInRange q.tests q.actions side → Has (side ∷ reach side) x → IsInRange q.tests q.actions x
 within_side q side x range h = ⊎_elim (λ s. subst (IsInRange q.tests q.actions) s range) (λ k. reach_in_range q.tests q.actions side x range k) h

@@ -1,4 +1,4 @@
--- The certificate of ids of a store, with all their parts, keeps the rules of certificates.
+-- The certificate built from ids of a store with all their parts satisfies the rules of certificates.
 use Rattle.std.proofs.Common.{◌≡◌, ◌<◌, inl, inr, ⊎_elim, ℕ, true, List, ◌++◌, length, get_or, map, slice_get, Option, Some, [], ◌∷◌, refl, sym, ap, ◌∙◌, subst}
 use Rattle.std.proofs.lemmas.List.{length-map}
 use Rattle.std.proofs.lemmas.Option.{slice_get-get_or}
@@ -25,11 +25,11 @@ use Rattle.term_nodes.proofs.Parts.{IsOver-part, IsTestOver-part}
 use Rattle.walk_pairs.proofs.PartSets.{member_of}
 use Rattle.walk_pairs.proofs.PlaceNumbers.{number_within, number_of_place, number_once, number_less, numbers_below, numbers_ascend, once_mapped, mapped_at}
 
--- the certificate
+-- the certificate of pairs, with the numbered nodes of the given tests and terms
 abbrev pub numbered_cert : Style → NodeParts → List ℕ → List ℕ → List PairParts → CertParts
 numbered_cert style store tests terms es = cert_of style (test_nodes_of store tests tests) (term_nodes_of store tests terms terms) (map (number_pair_of tests terms) es)
 
--- a node names the numbers of what the node of the store names
+-- a numbered node names earlier numbers if the numbers of the parts of its store node are smaller
 test_over_numbered : (tests : List ℕ) (n : ℕ) (s : TestNode ℕ) → ((j : ℕ) → Has (test_parts s) j → number_of tests j < n) → IsTestOver n (test_node_of tests s)
 test_over_numbered tests n test.False each = tt
 test_over_numbered tests n test.True each = tt
@@ -47,7 +47,7 @@ over_numbered tests terms m n (Sum i j) guards each = (each i (inl refl), each j
 over_numbered tests terms m n (Seq i j) guards each = (each i (inl refl), each j (inr (inl refl)))
 over_numbered tests terms m n (Star i) guards each = each i (inl refl)
 
--- nodes with one numbered node are one, where what they name is numbered
+-- two nodes with the same numbered node are equal if everything that they name has a number
 module _ (tests : List ℕ) where
   one_test : (i j : ℕ) → Has tests i → Has tests j → number_of tests i ≡ number_of tests j → i ≡ j
   one_test i j h k e = number_once tests i j h k e
@@ -93,33 +93,33 @@ module _ (tests : List ℕ) where
         ap Star (one_term i j (p i (inl refl)) (q j (inl refl)) inner)
     same_shape _ _ m n p q e = cc
 
--- the ids of pairs with all their parts, and the tests that they name with all theirs
+-- the terms of the pairs with all their parts, and the tests that terms and pairs name with all their parts
 pub record AreNeeded (store : NodeParts) (es : List PairParts) (terms named tests : List ℕ) : Type 0 where
   pub rules : AreNodes store
   pub of_terms : AreParts (TermNode ℕ ℕ) store.terms term_parts (members_of es) terms
   pub names : NamesAllTests store terms es named
   pub of_tests : AreParts (TestNode ℕ) store.tests test_parts named tests
 
--- the members of pairs are ids
+-- the members of pairs are ids of terms
 pub members_are_ids : (store : NodeParts) (style : Style) (n : ℕ) (es : List PairParts) → AreStoredPairs store style n es → (i : ℕ) → Has (members_of es) i → i < length store.terms
 members_are_ids store style n es sets i h =
     let r = has_flat_map (λ (e : PairParts). e.left ++ e.right) es i h in
     let set = sets r.0 r.1 in
     ⊎_elim (λ l. (set.left.there i l).is_id) (λ m. (set.right.there i m).is_id) (has_append r.0.left r.0.right i r.2)
 
--- a test that a style has is one of the store
+-- a test that the style requires is a test of the store
 its_test : (style : Style) (n : ℕ) (t : Option ℕ) → HasItsTest style n t → (k : ℕ) → Has (option_to_list t) k → k < n
 its_test Plain n t is k h = absurd (subst (λ o. Has (option_to_list o) k) is h)
 its_test UpTo n t is k h = absurd (subst (λ o. Has (option_to_list o) k) is h)
 its_test Under n t is k h = ⊎_elim (λ s. subst (λ z. z < n) s is.2) absurd (subst (λ o. Has (option_to_list o) k) is.1 h)
 
--- the tests of pairs are ids
+-- the tests of pairs are ids of tests
 pub pair_tests_are_ids : (store : NodeParts) (style : Style) (n : ℕ) (es : List PairParts) → AreStoredPairs store style n es → (i : ℕ) → Has (tests_of_pairs es) i → i < length store.tests
 pair_tests_are_ids store style n es sets i h =
     let r = has_flat_map (λ (e : PairParts). option_to_list e.test) es i h in
     its_test style (length store.tests) r.0.test (sets r.0 r.1).test i r.2
 
--- the test of a pair of a list is one of those of the list
+-- the test of a listed pair is among the tests of the list
 pub pair_test_of : (ps : List PairParts) (p : PairParts) → Has ps p → (k : ℕ) → Has (option_to_list p.test) k → Has (tests_of_pairs ps) k
 pair_test_of [] p h k m = absurd h
 pair_test_of (q ∷ ps) p h k m =
@@ -128,13 +128,13 @@ pair_test_of (q ∷ ps) p h k m =
     (λ r. has_right (option_to_list q.test) (tests_of_pairs ps) k (pair_test_of ps p r k m))
     h
 
--- the number of a test stands for it in a certificate of the same style
+-- a test mapped to its number fits a certificate of the same style
 its_number : (tests : List ℕ) (style : Style) (n m : ℕ) (t : Option ℕ) → HasItsTest style n t → ((k : ℕ) → Has (option_to_list t) k → number_of tests k < m) → HasItsTest style m (option_map (number_of tests) t)
 its_number tests Plain n m t is low = ap (option_map (number_of tests)) is
 its_number tests UpTo n m t is low = ap (option_map (number_of tests)) is
 its_number tests Under n m t is low = (number_of tests is.0, ap (option_map (number_of tests)) is.1, low is.0 (subst (λ o. Has (option_to_list o) is.0) (sym is.1) (inl refl)))
 
--- the nodes of ids
+-- the node of an id
 abbrev pub test_at : NodeParts → ℕ → TestNode ℕ
 test_at store i = get_or store.tests i test.False
 
@@ -154,7 +154,7 @@ module _ (store : NodeParts) (es : List PairParts) (terms named tests : List ℕ
   pub terms_there : (i : ℕ) → Has terms i → IsSubset (term_parts (term_at store i)) terms
   terms_there i h = needed.of_terms.parts i (term_at store i) h (term_there i h)
 
-  -- the tests that a node of these terms names are there
+  -- the certificate has the tests that a node of its terms names
   pub tests_there_in : (i : ℕ) (shape : TermNode ℕ ℕ) → Has terms i → slice_get store.terms i ≡ Some shape → IsSubset (tests_of_term shape) tests
   tests_there_in i shape h e j k = needed.of_tests.holds j ((needed.names j).1 (inl (record { term = i; shape = shape; member = h; at = e; names = k })))
 
@@ -170,7 +170,7 @@ module _ (store : NodeParts) (es : List PairParts) (terms named tests : List ℕ
   pub pair_tests_there : IsSubset (tests_of_pairs es) tests
   pair_tests_there j h = needed.of_tests.holds j ((needed.names j).1 (inr h))
 
-  -- each node of a test names earlier ones
+  -- each node of a test names earlier nodes
   test_rule : (k : ℕ) (n : TestNode ℕ) → slice_get (test_nodes_of store tests tests) k ≡ Some n → IsTestOver k n
   test_rule k n e =
       let r = mapped_at (λ i. test_node_of tests (test_at store i)) tests k n e in
@@ -180,7 +180,7 @@ module _ (store : NodeParts) (es : List PairParts) (terms named tests : List ℕ
       subst (IsTestOver k) r.2
       (test_over_numbered tests k (test_at store r.0) (λ j p. subst (λ z. number_of tests j < z) own (number_less tests needed.of_tests.ascending j r.0 (test_parts_there r.0 h j p) h (less j p))))
 
-  -- and so does each node of a term, which names tests that are there
+  -- each node of a term names earlier nodes, and tests that the certificate has
   term_rule : (k : ℕ) (n : TermNode ℕ ℕ) → slice_get (term_nodes_of store tests terms terms) k ≡ Some n → IsOver (length (test_nodes_of store tests tests)) k n
   term_rule k n e =
       let r = mapped_at (λ i. term_node_of tests terms (term_at store i)) terms k n e in

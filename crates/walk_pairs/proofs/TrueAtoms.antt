@@ -1,4 +1,4 @@
--- How an atom is found at which a diagram is true, test by test.
+-- Finding an atom at which a diagram is true, test by test.
 use Rattle.std.proofs.Common.{◌≡◌, ◌≢◌, ◌<◌, ◌+◌, ℕ, Bool, true, false, nat_eq, [], ◌∷◌, ◌++◌, length, get_or, set, drop, refl, sym, ap, ◌∙◌, arith, append_assoc, append-nil, ◌≤◌}
 use Rattle.std.specs.Bool.{IsTrue}
 use Rattle.std.proofs.lemmas.Bool.{true_from_ne_false, false≢true}
@@ -11,7 +11,7 @@ use Rattle.test_diagrams.proofs.Apart.{different_apart}
 use Rattle.walk_pairs.specs.Outputs.{one_of, IsSomewhereTrue, IsFirstValue}
 
 module _ (d e : DiagramsParts) (id low never test : ℕ) (tests : e.tests ≡ d.tests) (is_low : IsDiagramOf e low (λ atom. value_of d id (set atom test false))) (is_never : IsDiagramOf e never (λ atom. false)) where
-  -- where nothing is true with the value false, something is with the other
+  -- if the diagram is false everywhere with the test false, it is true somewhere with the test true
   other_value : low ≡ never → IsSomewhereTrue d id → IsFirstValue d id test true
   other_value same s = go (get_or s.atom test false) refl
     where
@@ -37,7 +37,7 @@ module _ (d e : DiagramsParts) (id low never test : ℕ) (tests : e.tests ≡ d.
 
 -- ---- test by test
 
--- the rest is true somewhere, and has the values of the diagram where the first tests have those of the atom
+-- the rest is true somewhere, and equals the diagram with the first tests fixed to the values of the atom
 pub record IsRest (d : DiagramsParts) (id : ℕ) (e : DiagramsParts) (rest : ℕ) (atom : Atom) (k : ℕ) : Type 0 where
   pub kept : KeepsFunctions d e
   pub is_id : IsDiagramId e rest

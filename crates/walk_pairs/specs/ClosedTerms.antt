@@ -1,4 +1,4 @@
--- The closed sides of a problem by the ids of a store.
+-- The closed sides of a problem as ids of a store.
 use Rattle.std.specs.Prelude.{◌≡◌, ℕ, Some}
 use Rattle.std.specs.Option.{option_map}
 use Rattle.kat_model.specs.Closed.{Closed}
@@ -6,7 +6,7 @@ use Rattle.term_nodes.specs.NodeLists.{NodeParts, IsTerm}
 use Rattle.term_nodes.specs.NodeTrees.{tree_at}
 use Rattle.walk_pairs.specs.declared.closed.ClosedIds.{ClosedIds}
 
--- the ids are those of both terms, and of the universal term where there is one
+-- the ids are those of both sides, and of the universal term if there is one
 pub record AreIdsOf (store : NodeParts) (c : Closed) (ids : ClosedIds) : Type 0 where
   pub left_id : IsTerm store ids.left
   pub left : tree_at store ids.left ≡ c.left

@@ -1,4 +1,4 @@
--- The targets of an action on both sides of a pair, each with its guards, and what they come to at an atom.
+-- The targets of an action on both sides of a pair, with their guards, and the targets reached at an atom.
 use Rattle.std.specs.Prelude.{◌≡◌, ◌⊎◌, ℕ, Bool, false, true, not, ◌&&◌, nat_eq, if◌then◌else◌, List, [], ◌∷◌, map, IsTrue, Option, Some, None}
 use Rattle.std.specs.Map.{lookup, keys_of}
 use Rattle.std.specs.BTreeMap.{is_at}
@@ -13,7 +13,7 @@ use Rattle.walk_pairs.specs.declared.items.Ends.{Ends}
 use Rattle.walk_pairs.specs.declared.items.Side.{Side}
 use Rattle.walk_pairs.specs.declared.items.Side.TheVariants.{Left, Right}
 
--- the guard of an item on one side, and on the other
+-- the guard of an item on the given side, and on the opposite side
 abbrev pub guard_of : Side → Item → ℕ
 guard_of Left item = item.left
 guard_of Right item = item.right
@@ -26,26 +26,26 @@ guard_beyond Right item = item.left
 abbrev pub targets_of : List Item → List ℕ
 targets_of items = map (λ i. i.target) items
 
--- the targets whose guard on the side is this one
+-- the targets whose guard on the side is the given one
 abbrev pub targets_under : ℕ → Side → List Item → List ℕ
 targets_under guard side [] = []
 targets_under guard side (i ∷ is) = if nat_eq (guard_of side i) guard then i.target ∷ targets_under guard side is else targets_under guard side is
 
--- whether the target may be on the side at an atom at which it is not on the other
+-- whether the target may be on the side at an atom at which it is not on the other side
 abbrev pub is_open : ℕ → ℕ → Side → Item → Bool
 is_open never always side i = not (nat_eq i.left i.right) && (not (nat_eq (guard_of side i) never) && not (nat_eq (guard_beyond side i) always))
 
--- the targets that may be
+-- the open targets of the side
 abbrev pub open_targets : ℕ → ℕ → Side → List Item → List ℕ
 open_targets never always side [] = []
 open_targets never always side (i ∷ is) = if is_open never always side i then i.target ∷ open_targets never always side is else open_targets never always side is
 
--- the targets on the side at an atom
+-- the targets on the side at the atom
 abbrev pub chosen : DiagramsParts → Side → List Item → Atom → List ℕ
 chosen d side [] atom = []
 chosen d side (i ∷ is) atom = if value_of d (guard_of side i) atom then i.target ∷ chosen d side is atom else chosen d side is atom
 
--- the targets of the moves by an action at an atom
+-- the targets of the moves by the action at the atom
 abbrev pub led : DiagramsParts → List Guarded → ℕ → Atom → List ℕ
 led d [] act atom = []
 led d (m ∷ ms) act atom = if nat_eq m.act act && value_of d m.guard atom then m.to ∷ led d ms act atom else led d ms act atom
@@ -54,7 +54,7 @@ led d (m ∷ ms) act atom = if nat_eq m.act act && value_of d m.guard atom then 
 abbrev pub items_in : List (ℕ × Item) → List Item
 items_in es = map (λ e. e.1) es
 
--- each stands under its target
+-- each key is the target of its item
 abbrev pub AreKeyed : List (ℕ × Item) → Type 0
 AreKeyed es = (e : ℕ × Item) → Has es e → e.1.target ≡ e.0
 
@@ -62,16 +62,16 @@ abbrev pub found_item : ℕ → ℕ → Option Item → Item
 found_item never target None = record { target = target; left = never; right = never }
 found_item never target (Some item) = item
 
--- the item of a target, or one that is never reached
+-- the item of a target, or an item that is never reached
 abbrev pub item_in : ℕ → List (ℕ × Item) → ℕ → Item
 item_in never es target = found_item never target (lookup (is_at (nat_cmp target)) es)
 
--- the guard of the last move by the action to the target, or the one before
+-- the guard of the last move by the action to the target, or the given earlier guard
 abbrev pub last_guard : List Guarded → ℕ → ℕ → ℕ → ℕ
 last_guard [] act target before = before
 last_guard (m ∷ ms) act target before = last_guard ms act target (if nat_eq m.act act && nat_eq m.to target then m.guard else before)
 
--- the new table is the old one with the moves by the action as guards of one side
+-- the new table is the old one after setting the guards of one side from the moves by the action
 pub record AddsMoves (never : ℕ) (side other : Side) (old new : List (ℕ × Item)) (moves : List Guarded) (act : ℕ) : Type 0 where
   pub there : (target : ℕ) → guard_of side (item_in never new target) ≡ last_guard moves act target (guard_of side (item_in never old target))
   pub kept : (target : ℕ) → guard_of other (item_in never new target) ≡ guard_of other (item_in never old target)
@@ -80,7 +80,7 @@ pub record AddsMoves (never : ℕ) (side other : Side) (old new : List (ℕ × I
 abbrev pub led_to : List Guarded → List ℕ
 led_to moves = map (λ m. m.to) moves
 
--- each key of the new table is one of the old table, or the target of a move
+-- each key of the new table is a key of the old table or the target of a move
 abbrev pub AddsTargets : List (ℕ × Item) → List (ℕ × Item) → List Guarded → Type 0
 AddsTargets old new moves = (k : ℕ) → Has (keys_of new) k → Has (keys_of old) k ⊎ Has (led_to moves) k
 
@@ -94,13 +94,13 @@ pub record AreItems (d : DiagramsParts) (items : List Item) : Type 0 where
   pub rights : (i : Item) → Has items i → IsDiagramId d i.right
   pub ascending : IsTrue (are_ascending (targets_of items))
 
--- at each atom the items have the targets of the moves by the action
+-- at each atom the items have exactly the targets of the moves by the action
 pub record AreItemsOf (d : DiagramsParts) (left right : List Guarded) (act : ℕ) (items : List Item) : Type 0 where
   pub are : AreItems d items
   pub lefts : (atom : Atom) → IsAtomOf d atom → SameMembers (chosen d Left items atom) (led d left act atom)
   pub rights : (atom : Atom) → IsAtomOf d atom → SameMembers (chosen d Right items atom) (led d right act atom)
 
--- the ids are those of the constants
+-- the ids are those of the two constants
 pub record AreEnds (d : DiagramsParts) (ends : Ends) : Type 0 where
   pub never : IsDiagramOf d ends.never (λ atom. false)
   pub always : IsDiagramOf d ends.always (λ atom. true)

@@ -1,4 +1,4 @@
--- The nodes of a certificate, numbered in the order of a list of ids.
+-- The nodes of a certificate, numbered by their place in a list of ids.
 use Rattle.std.specs.Prelude.{◌≡◌, ◌<◌, ℕ, nat_eq, List, map, slice_index_or}
 use Rattle.std.specs.Option.{unwrap_or, option_map}
 use Rattle.std.specs.List.{position}
@@ -24,11 +24,11 @@ number_of ids i = unwrap_or (position (nat_eq i) ids) 0
 abbrev pub numbers_of : List ℕ → List ℕ → List ℕ
 numbers_of ids set = map (number_of ids) set
 
--- the pair by the numbers of its test and its terms
+-- the pair with its tests and terms replaced by their numbers
 abbrev pub number_pair_of : List ℕ → List ℕ → PairParts → PairParts
 number_pair_of tests terms p = record { left = numbers_of terms p.left; right = numbers_of terms p.right; test = option_map (number_of tests) p.test }
 
--- the node of a certificate for a node of a store
+-- the certificate node for a store node
 abbrev pub test_node_of : List ℕ → TestNode ℕ → TestNode ℕ
 test_node_of tests False = False
 test_node_of tests True = True
@@ -46,7 +46,7 @@ term_node_of tests terms (term.Sum i j) = term.Sum (number_of terms i) (number_o
 term_node_of tests terms (term.Seq i j) = term.Seq (number_of terms i) (number_of terms j)
 term_node_of tests terms (term.Star i) = term.Star (number_of terms i)
 
--- the nodes of these ids of a store
+-- the certificate nodes of the given ids of a store
 abbrev pub test_nodes_of : NodeParts → List ℕ → List ℕ → List (TestNode ℕ)
 test_nodes_of store tests ids = map (λ i. test_node_of tests (slice_index_or store.tests i False)) ids
 
@@ -58,7 +58,8 @@ pub record ArePairsWithin (store : NodeParts) (tests actions : ℕ) (ps : List P
   pub terms : (i : ℕ) → Has (members_of ps) i → IsInRange tests actions (tree_at store i)
   pub guards : (i : ℕ) → Has (tests_of_pairs ps) i → IsTestInRange tests (test_tree_at store i)
 
--- the certificate is that of the pairs, and has nodes only for terms and tests of the store that stand in them as parts
+-- the certificate has the style and the pairs; its nodes are for terms of the store, and their tests and actions are in
+-- each range that has those of the pairs
 pub record IsCertOf (store : NodeParts) (style : Style) (ps : List PairParts) (c : CertParts) : Type 0 where
   pub style_is : c.style ≡ style
   pub pairs : tested_pairs c ≡ map (tested_pair_of store) ps

@@ -3,7 +3,7 @@ use Rattle.std.specs.Prelude.{ℕ, Bool, not, ◌&&◌, ◌||◌, IsTrue, slice_
 use Rattle.kat_model.specs.Steps.{Atom}
 use Rattle.test_diagrams.specs.Functions.{DiagramsParts, value_of, IsAtomOf}
 
--- whether just one of both
+-- exclusive or
 abbrev pub one_of : Bool → Bool → Bool
 one_of b c = (b && not c) || (c && not b)
 

@@ -1,4 +1,4 @@
--- Pairs of sets of terms by the ids of a store, as the pairs of a certificate of a style.
+-- Pairs of sets of terms as ids of a store, fit for a certificate of a given style.
 use Rattle.std.specs.Prelude.{ℕ, List, length}
 use Rattle.kat_model.specs.Members.{Has}
 use Rattle.term_nodes.specs.NodeLists.{NodeParts}
@@ -7,7 +7,7 @@ use Rattle.certificate.specs.PairParts.{PairParts}
 use Rattle.certificate.specs.Certs.{HasItsTest}
 use Rattle.walk_pairs.specs.IdSets.{IsIdSet}
 
--- both sets are sets of ids of terms whose tests are below n, and the test is as the style has it
+-- both sets consist of ids of terms over tests below n, and the style allows the test
 pub record IsStoredPair (store : NodeParts) (style : Style) (n : ℕ) (p : PairParts) : Type 0 where
   pub left : IsIdSet store n p.left
   pub right : IsIdSet store n p.right

@@ -1,4 +1,4 @@
-//! The certificate of listed pairs.
+//! Building the certificate of listed pairs.
 ghost use Rattle.std.specs.Prelude.{◌≡◌, ◌<◌, ℕ, Some, IfOk, length, map, slice_get};
 ghost use Rattle.kat_model.specs.Members.{Has, IsSubset};
 ghost use Rattle.std.specs.Option.{option_map};
@@ -16,7 +16,7 @@ use kat_model::{Items, NoMemory};
 use std::alloc::Global;
 use term_store::{Shape, Store, TermId, TestId, TestShape};
 
-// The number of a test, which is one of them.
+// Returns the number of a test of `tests`.
 fn test_number(tests: &Tests, test: TestId) -> usize
     requires { Has tests.now.keys test }
     ensures { result ≡ number_of tests.now.keys test }
@@ -24,7 +24,7 @@ fn test_number(tests: &Tests, test: TestId) -> usize
     tests.get_index_of(&test).unwrap()
 }
 
-// The number of a term, which is one of them.
+// Returns the number of a term of `terms`.
 fn term_number(terms: &Terms, term: TermId) -> usize
     requires { Has terms.now.keys term }
     ensures { result ≡ number_of terms.now.keys term }
@@ -32,7 +32,7 @@ fn term_number(terms: &Terms, term: TermId) -> usize
     terms.get_index_of(&term).unwrap()
 }
 
-// The node of a certificate for a node of a test.
+// Returns the certificate node for a test node of the store.
 fn test_node(tests: &Tests, shape: TestShape) -> TestNode
     requires { IsSubset (test_parts shape) tests.now.keys }
     ensures { result ≡ test_node_of tests.now.keys shape }
@@ -47,7 +47,7 @@ fn test_node(tests: &Tests, shape: TestShape) -> TestNode
     }
 }
 
-// The node of a certificate for a node of a term.
+// Returns the certificate node for a term node of the store.
 fn term_node(tests: &Tests, terms: &Terms, shape: Shape) -> TermNode
     requires tests { IsSubset (tests_of_term shape) tests.now.keys }
     requires terms { IsSubset (term_parts shape) terms.now.keys }
@@ -96,7 +96,7 @@ fn term_nodes(
     Ok(nodes)
 }
 
-// The numbers of the terms of a set, which ascend where its ids do.
+// Returns the numbers of the terms of a set; they ascend if the ids do.
 fn numbers(alloc: Global, terms: &Terms, set: &[TermId]) -> Result<Items<usize>, NoMemory>
     requires { IsSubset set.now terms.now.keys }
     ensures { IfOk result (λ ns. ns ≡ numbers_of terms.now.keys set.now) }
@@ -108,7 +108,7 @@ fn numbers(alloc: Global, terms: &Terms, set: &[TermId]) -> Result<Items<usize>,
     Ok(Items::of(list))
 }
 
-// The number of the test of a pair, where it has one.
+// Returns the number of the test of a pair, if it has one.
 fn pair_test_number(tests: &Tests, test: Option<TestId>) -> Option<usize>
     requires { (k : ℕ) → test ≡ Some k → Has tests.now.keys k }
     ensures { result ≡ option_map (number_of tests.now.keys) test }
@@ -139,7 +139,8 @@ fn number_pairs(
     Ok(list)
 }
 
-/// The certificate of the pairs in this style, with just the nodes that they need. Fails only when out of memory.
+/// Builds the certificate of the pairs in this style, with only the nodes that they need. Fails only when out of
+/// memory.
 pub fn cert_of(
     alloc: Global,
     store: &Store,

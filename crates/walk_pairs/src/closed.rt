@@ -11,7 +11,7 @@ use goal_forms::Closed;
 use kat_model::NoMemory;
 use term_store::{Store, TermId};
 
-/// The ids of the closed sides, and that of the universal term, where there is one.
+/// The ids of the closed sides, and of the universal term if there is one.
 #[derive(Clone, Copy, Debug)]
 pub struct ClosedIds {
     pub left: TermId,
@@ -19,7 +19,7 @@ pub struct ClosedIds {
     pub universal: Option<TermId>,
 }
 
-// The id of the universal term, where there is one.
+// Returns the id of the universal term, if there is one.
 fn universal_id(store: &mut Store, closed: &Closed) -> Result<Option<TermId>, NoMemory>
     ensures tree { IfOk result (λ u. option_map (tree_at store.new) u ≡ (closed_trees closed.now).universal) }
     ensures is_id { IfOk result (λ u. IfSome u (IsTerm store.new)) }
@@ -32,7 +32,8 @@ fn universal_id(store: &mut Store, closed: &Closed) -> Result<Option<TermId>, No
     }
 }
 
-/// The ids of these terms. Fails only when out of memory; it may leave further nodes.
+/// Returns the ids of the closed sides and of the universal term. Fails only when out of memory; extra nodes may remain
+/// then.
 pub fn closed_ids(store: &mut Store, closed: &Closed) -> Result<ClosedIds, NoMemory>
     ensures ids { IfOk result (AreIdsOf store.new (closed_trees closed.now)) }
     ensures kept { Grows store.old store.new }
@@ -43,7 +44,7 @@ pub fn closed_ids(store: &mut Store, closed: &Closed) -> Result<ClosedIds, NoMem
     let left = store.of_tree(&closed.left)?;
     let right = store.of_tree(&closed.right)?;
     let universal = universal_id(store, closed)?;
-    // And again, where a universal term was not added.
+    // It needs them again if no universal term was added.
     let _ = store.count();
     Ok(ClosedIds {
         left,

@@ -1,4 +1,4 @@
-//! What a step of a pair by one action may lead to: the targets on both sides, with their guards.
+//! The possible results of a step of a pair by one action: the targets on both sides, with their guards.
 ghost use Rattle.std.specs.Prelude.{◌≡◌, IfOk, OnOk};
 ghost use Rattle.std.specs.Ordering.{nat_cmp};
 ghost use Rattle.std.specs.BTreeMap.{IsOrdered};
@@ -15,7 +15,7 @@ use std::collections::BTreeMap;
 use term_store::TermId;
 use test_diagrams::{DiagramId, Diagrams};
 
-/// A term, and the atoms at which the step leads to it, on the left and on the right.
+/// A target term, and the atoms at which the step leads to it on the left and on the right.
 #[derive(Clone, Copy, Debug, PartialEq, Eq)]
 pub struct Item {
     pub target: TermId,
@@ -30,14 +30,14 @@ pub enum Side {
     Right,
 }
 
-/// The diagrams of the constants.
+/// The diagrams of the two constants.
 #[derive(Clone, Copy, Debug)]
 pub struct Ends {
     pub never: DiagramId,
     pub always: DiagramId,
 }
 
-/// The constants of the collection.
+/// Returns the diagrams of the two constants.
 pub fn ends_of(diagrams: &Diagrams) -> Ends
     ensures ends { AreEnds diagrams.now result }
     ensures reduced { IsReduced diagrams.now }
@@ -48,7 +48,7 @@ pub fn ends_of(diagrams: &Diagrams) -> Ends
     }
 }
 
-/// The guard of the item on this side.
+/// Returns the guard of the item on this side.
 pub fn guard_on(item: &Item, side: Side) -> DiagramId
     ensures { result ≡ guard_of side item.now }
 {
@@ -58,7 +58,7 @@ pub fn guard_on(item: &Item, side: Side) -> DiagramId
     }
 }
 
-/// The guard of the item on the other side.
+/// Returns the guard of the item on the opposite side.
 pub fn guard_across(item: &Item, side: Side) -> DiagramId
     ensures { result ≡ guard_beyond side item.now }
 {
@@ -71,7 +71,7 @@ pub fn guard_across(item: &Item, side: Side) -> DiagramId
 // Items by their targets.
 type ByTarget = BTreeMap<TermId, Item>;
 
-// The item of the target so far.
+// Returns the item of the target, or one with the guards `never` if the table has none.
 fn item_at(items: &ByTarget, target: TermId, never: DiagramId) -> Item
     ensures { result ≡ item_in never items.now.entries target }
 {
@@ -85,7 +85,7 @@ fn item_at(items: &ByTarget, target: TermId, never: DiagramId) -> Item
     }
 }
 
-// Adds the moves of the action as those of the left side.
+// Adds the moves by the action to the left side.
 fn add_left(
     items: &mut ByTarget,
     moves: &[Guarded],
@@ -107,7 +107,7 @@ fn add_left(
     Ok(())
 }
 
-// Adds the moves of the action as those of the right side.
+// Adds the moves by the action to the right side.
 fn add_right(
     items: &mut ByTarget,
     moves: &[Guarded],
@@ -129,7 +129,7 @@ fn add_right(
     Ok(())
 }
 
-// The items in ascending order of their targets.
+// Returns the items in ascending order of their targets.
 fn item_list(alloc: Global, items: &ByTarget) -> Result<Vec<Item>, NoMemory>
     ensures items { IfOk result (λ v. v.items ≡ items_in items.now.entries) }
     ensures ordered { IsOrdered nat_cmp items.now }
@@ -141,7 +141,7 @@ fn item_list(alloc: Global, items: &ByTarget) -> Result<Vec<Item>, NoMemory>
     Ok(list)
 }
 
-/// The items of the action, in ascending order of their targets.
+/// Returns the items of the action, in ascending order of their targets.
 pub fn items_of(
     alloc: Global,
     diagrams: &Diagrams,

@@ -1,4 +1,4 @@
-//! What walks over pairs of sets of terms of a store have in common: the moves of both sets side by side, atoms at which
+//! What algorithms over pairs of sets of stored terms share: the moves of both sets side by side, atoms at which
 //! diagrams are true, and the certificate of listed pairs.
 #![tactic(auto)]
 

@@ -1,5 +1,4 @@
-//! The nodes of the terms and tests of pairs, and of all their parts, in the order of their ids, which has parts before
-//! wholes.
+//! The nodes of the terms and tests of pairs with all their parts, in order of ids. Parts precede wholes in this order.
 ghost use Rattle.std.specs.Prelude.{◌≡◌, ◌<◌, ℕ, List, length, IfOk, OnOk};
 ghost use Rattle.std.specs.Option.{option_to_list};
 ghost use Rattle.kat_model.specs.Members.{Has, IsSubset, SameMembers};
@@ -15,13 +14,13 @@ use std::alloc::Global;
 use std::collections::BTreeSet;
 use term_store::{Shape, Store, TermId, TestId, TestShape};
 
-/// Ids of terms that are numbered from 0 in ascending order.
+/// Ids of terms, numbered from 0 in ascending order.
 pub(crate) type Terms = IndexSet<TermId>;
 
-/// Ids of tests, likewise.
+/// Ids of tests, numbered from 0 in ascending order.
 pub(crate) type Tests = IndexSet<TestId>;
 
-/// Adds the terms.
+/// Adds the terms to the set.
 pub fn add_all(set: &mut BTreeSet<TermId>, terms: &[TermId]) -> Result<(), NoMemory>
     ensures added { OnOk result (AddsAll set.old.keys set.new.keys terms.now) }
     ensures kept { IsSubset set.old.keys set.new.keys }
@@ -32,7 +31,7 @@ pub fn add_all(set: &mut BTreeSet<TermId>, terms: &[TermId]) -> Result<(), NoMem
     Ok(())
 }
 
-// The terms of the pairs.
+// Returns the terms of the pairs.
 fn members(alloc: Global, pairs: &[StoredPair]) -> Result<BTreeSet<TermId>, NoMemory>
     ensures { IfOk result (λ s. SameMembers s.keys (members_of pairs.now)) }
 {
@@ -62,7 +61,8 @@ fn add_parts(set: &mut BTreeSet<TermId>, shape: Shape) -> Result<(), NoMemory>
     }
 }
 
-// The terms of the set with all their parts. Parts have lesser ids, so the greatest comes first and only once.
+// Returns the terms of the set with all their parts. Parts have smaller ids, so taking the greatest id first visits
+// each once.
 fn with_parts(
     alloc: Global,
     store: &Store,
@@ -79,7 +79,7 @@ fn with_parts(
     Ok(all)
 }
 
-// The terms of the set, numbered in order.
+// Numbers the terms of the set in order.
 fn terms_in_order(alloc: Global, all: &BTreeSet<TermId>) -> Result<Terms, NoMemory>
     ensures { IfOk result (λ s. s.keys ≡ all.now.keys) }
 {
@@ -90,7 +90,7 @@ fn terms_in_order(alloc: Global, all: &BTreeSet<TermId>) -> Result<Terms, NoMemo
     Ok(terms)
 }
 
-/// The terms of the pairs with all their parts.
+/// Returns the terms of the pairs with all their parts.
 pub(crate) fn needed_terms(
     alloc: Global,
     store: &Store,
@@ -118,7 +118,7 @@ fn add_tests(set: &mut BTreeSet<TestId>, shape: Shape) -> Result<(), NoMemory>
     }
 }
 
-// The tests that the terms name.
+// Returns the tests that the terms name.
 fn tests_of(alloc: Global, store: &Store, terms: &Terms) -> Result<BTreeSet<TestId>, NoMemory>
     requires { (i : ℕ) → Has terms.now.keys i → i < length store.now.terms }
     ensures { IfOk result (λ s. NamesTests store.now terms.now.keys s.keys) }
@@ -131,7 +131,7 @@ fn tests_of(alloc: Global, store: &Store, terms: &Terms) -> Result<BTreeSet<Test
     Ok(set)
 }
 
-// Adds the test of the pair, where it has one.
+// Adds the test of the pair, if it has one.
 fn add_pair_test(set: &mut BTreeSet<TestId>, pair: &StoredPair) -> Result<(), NoMemory>
     ensures { OnOk result (AddsAll set.old.keys set.new.keys (option_to_list pair.now.test)) }
 {
@@ -172,7 +172,7 @@ fn add_test_parts(set: &mut BTreeSet<TestId>, shape: TestShape) -> Result<(), No
     }
 }
 
-// The tests of the set with all their parts, likewise.
+// Returns the tests of the set with all their parts.
 fn with_test_parts(
     alloc: Global,
     store: &Store,
@@ -189,7 +189,7 @@ fn with_test_parts(
     Ok(all)
 }
 
-// The tests of the set, numbered in order.
+// Numbers the tests of the set in order.
 fn tests_in_order(alloc: Global, all: &BTreeSet<TestId>) -> Result<Tests, NoMemory>
     ensures { IfOk result (λ s. s.keys ≡ all.now.keys) }
 {
@@ -200,7 +200,7 @@ fn tests_in_order(alloc: Global, all: &BTreeSet<TestId>) -> Result<Tests, NoMemo
     Ok(tests)
 }
 
-/// The tests that the terms and the pairs name, with all their parts.
+/// Returns the tests that the terms and the pairs name, with all their parts.
 pub(crate) fn needed_tests(
     alloc: Global,
     store: &Store,

@@ -1,5 +1,5 @@
-//! The order in which the actions of a pair are taken: those with fewer moves first, since pairs of small sets
-//! make pairs of larger sets congruent, and not the other way round.
+//! The order in which to process the actions of a pair: those with fewer moves first. Pairs of small sets make pairs of
+//! larger sets congruent, but not conversely.
 ghost use Rattle.std.specs.Prelude.{◌≡◌, ◌<◌, ◌↔◌, ℕ, IfOk, map};
 ghost use Rattle.kat_model.specs.Members.{Has};
 
@@ -7,12 +7,12 @@ use kat_model::NoMemory;
 use partial_derivs::Guarded;
 use std::alloc::Global;
 
-// How many of the moves have the action.
+// Returns the number of moves by the action.
 fn count_of(moves: &[Guarded], act: usize) -> usize {
     moves.iter().filter(|guarded| guarded.act == act).count()
 }
 
-// Each action below the count, after the number of its moves.
+// Returns each action below `actions`, preceded by the number of its moves.
 fn action_counts(
     alloc: Global,
     left: &[Guarded],
@@ -29,7 +29,7 @@ fn action_counts(
     Ok(list)
 }
 
-/// The actions below the count, those with fewer moves first.
+/// Returns the actions below `actions`, those with fewer moves first.
 pub fn actions_in_order(
     alloc: Global,
     left: &[Guarded],

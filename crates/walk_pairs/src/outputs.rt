@@ -1,4 +1,4 @@
-//! An atom at which two diagrams differ.
+//! Finding an atom at which two diagrams differ.
 ghost use Rattle.std.specs.Prelude.{◌≡◌, ◌≢◌, ◌<◌, ◌&&◌, not, true, false, IsTrue, IfOk, slice_set};
 ghost use Rattle.test_diagrams.specs.Functions.{value_of, IsDiagramId, IsDiagramOf, IsAtomOf, KeepsFunctions};
 ghost use Rattle.test_diagrams.specs.Reduced.{IsReduced};
@@ -8,7 +8,7 @@ use kat_model::NoMemory;
 use std::alloc::Global;
 use test_diagrams::{DiagramId, Diagrams};
 
-/// The diagram that is true where the first is and the second is not. A refusal may leave further diagrams.
+/// Returns the diagram that is true where `a` is true and `b` is false. On failure, extra diagrams may remain.
 pub fn and_not(diagrams: &mut Diagrams, a: DiagramId, b: DiagramId) -> Result<DiagramId, NoMemory>
     requires first { IsDiagramId diagrams.old a }
     requires second { IsDiagramId diagrams.old b }
@@ -20,7 +20,7 @@ pub fn and_not(diagrams: &mut Diagrams, a: DiagramId, b: DiagramId) -> Result<Di
     diagrams.and(a, not_b)
 }
 
-// The diagram that is true where just one of both is.
+// Returns the diagram of the exclusive or of `a` and `b`.
 fn difference(diagrams: &mut Diagrams, a: DiagramId, b: DiagramId) -> Result<DiagramId, NoMemory>
     requires first { IsDiagramId diagrams.old a }
     requires second { IsDiagramId diagrams.old b }
@@ -33,7 +33,7 @@ fn difference(diagrams: &mut Diagrams, a: DiagramId, b: DiagramId) -> Result<Dia
     diagrams.or(only_a, only_b)
 }
 
-// A value of the test with which the diagram is true somewhere, which it is.
+// Returns a value of the test with which the diagram is true at some atom. The diagram must be true somewhere.
 fn value_for(diagrams: &mut Diagrams, id: DiagramId, test: usize) -> Result<bool, NoMemory>
     requires id { IsDiagramId diagrams.old id }
     requires in_range { test < diagrams.old.tests }
@@ -45,7 +45,7 @@ fn value_for(diagrams: &mut Diagrams, id: DiagramId, test: usize) -> Result<bool
     Ok(low == diagrams.constant(false))
 }
 
-/// An atom at which the diagram is true, which it is somewhere.
+/// Returns an atom at which the diagram is true. The diagram must be true somewhere.
 pub fn true_atom(
     alloc: Global,
     diagrams: &mut Diagrams,
@@ -67,7 +67,7 @@ pub fn true_atom(
     Ok(atom)
 }
 
-/// An atom at which the diagrams differ. They are two.
+/// Returns an atom at which the diagrams differ. Their ids must be different.
 pub fn differing_atom(
     alloc: Global,
     diagrams: &mut Diagrams,

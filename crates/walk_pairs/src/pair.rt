@@ -1,10 +1,10 @@
-//! Pairs of sets of terms by the ids of a store.
+//! Pairs of sets of terms as ids of a store.
 use kat_model::Items;
 use std::marker::Model;
 use term_store::{TermId, TestId};
 
-/// A pair of sets of terms, each by its ids in ascending order, and the test at whose atoms it is to hold. A pair without
-/// a test is to hold everywhere.
+/// A pair of sets of terms, each as ids in ascending order, and the test at whose atoms the pair must hold. A pair
+/// without a test must hold at all atoms.
 #[derive(Drop)]
 pub struct StoredPair {
     pub left: Items<TermId>,

@@ -1,4 +1,4 @@
--- What short hypotheses allow, action by action, and where diagrams are added.
+-- The moves that short hypotheses allow, one action after the other, and in later collections of diagrams.
 use Rattle.std.proofs.Common.{◌≡◌, ⊎_elim, ℕ, not, List, [], ◌∷◌, ◌++◌, length, slice_get, Some, sym, ap, ◌∙◌, subst}
 use Rattle.kat_model.specs.Trees.{Term}
 use Rattle.kat_model.specs.Steps.{set_out, set_next}
@@ -19,7 +19,7 @@ use Rattle.walk_under.proofs.ImageTables.{sound_bars_kept}
 use Rattle.walk_under.proofs.BarLists.{bars_of_kept}
 use Rattle.walk_under.proofs.ToldMoves.{told_moves}
 
--- the bars at each place are those of the moves by the action of that number
+-- the bars at each place are those of the moves by the action with that number
 abbrev pub AreActionBars : NodeParts → DiagramsParts → List Guarded → List Bars → Type 0
 AreActionBars store d moves list = (a : ℕ) (b : Bars) → slice_get list a ≡ Some b → AreSoundBars d b × AreBarsOf store d moves a b.bars.items
 
@@ -50,7 +50,7 @@ module _ (s : NodeParts) (c : DiagramsParts) (shorts : List Term) (steps : Steps
     moves = λ a x at. let o = bars a x at in record { sound = o.0; told = λ p q of_p of_q. told_moves t d shorts steps steps_there a x.bars.items o.1 p q of_p of_q };
   }
 
--- ---- where diagrams are added
+-- ---- when diagrams are added
 
 pub allowance_kept : (c d : DiagramsParts) → KeepsFunctions c d → (shorts : List Term) (actions : ℕ) (m : AllowedMoves) → IsAllowance c shorts actions m → IsAllowance d shorts actions m
 allowance_kept c d kept shorts actions m all = record {

@@ -1,4 +1,4 @@
--- The allowed atoms that allowed moves lead to, and those that they start from.
+-- The allowed atoms to which allowed moves lead, and the atoms from which the moves start.
 use Rattle.std.proofs.Common.{◌≡◌, ◌↔◌, ◌<◌, ⊎_elim, ℕ, not, ◌&&◌, List, [], ◌∷◌, length, take, get_or, set, slice_get, Some, sym, ap, ◌∙◌, subst, arith}
 use Rattle.std.specs.Bool.{IsTrue}
 use Rattle.std.proofs.lemmas.Bool.{and_parts, and_from, not-true, false_from_ne_true, both_ways}
@@ -18,7 +18,7 @@ use Rattle.walk_under.specs.Working.Bars.{IsBarred, IsImageOf, AreSources, AreSo
 use Rattle.walk_under.specs.Working.Allowance.{TellMoves, IsAllowance, IsWithin, IsAllowedSource, HasAllowedSource, IsAllowedImage}
 
 module _ (d : DiagramsParts) (shorts : List Term) (actions : ℕ) (m : AllowedMoves) (all : IsAllowance d shorts actions m) where
-  -- the diagram of allowed atoms is true at just these
+  -- the diagram of allowed atoms is true exactly at the allowed atoms
   pub atom_allowed : (a : Atom) → IsAtomOf d a → IsTrue (value_of d m.allowed a) → IsAllowedAtom shorts a
   atom_allowed a fits h = not-true (set_out shorts a) (sym (all.allowed.value a fits) ∙ h)
 
@@ -36,7 +36,7 @@ module _ (d : DiagramsParts) (shorts : List Term) (actions : ℕ) (m : AllowedMo
     pub move_free : (x y : Atom) → IsAtomOf d x → IsAtomOf d y → IsAllowedMove shorts x (record { act = act; atom = y }) → IsBarred d b.bars.items x y → ⊥
     move_free x y of_x of_y allowed k = both_ways _ allowed.move (((all.moves act b at).told x y of_x of_y).1 k)
 
-    -- where one leads from some atom of the region, there is a source
+    -- if an allowed move leads from the region to the atom, the diagram of sources has an atom
     pub sources_somewhere : (region : ℕ) (y : Atom) → IsAtomOf d y → (id : ℕ) → AreSources d b.bars.items region y (length b.bars.items) id → HasAllowedSource d shorts region act y → IsSomewhereTrue d id
     sources_somewhere region y fits id sources h = record {
       atom = h.0;
@@ -45,7 +45,7 @@ module _ (d : DiagramsParts) (shorts : List Term) (actions : ℕ) (m : AllowedMo
     }
 
     module _ (region : ℕ) (within : IsWithin d region m.allowed) where
-      -- what is led to and allowed
+      -- the part of the image at allowed atoms is the allowed image
       pub allowed_image : (led id : ℕ) → IsImageOf d b.bars.items region led → IsDiagramOf d id (λ a. value_of d led a && value_of d m.allowed a) → IsAllowedImage d shorts region act id
       allowed_image led id image is = record {
         is_id = is.in_range;
@@ -80,7 +80,7 @@ module _ (d : DiagramsParts) (shorts : List Term) (actions : ℕ) (m : AllowedMo
               allowed = move_allowed x y of_x fits (atom_allowed x of_x (within x of_x r.0)) to (λ k. r.1 (subst (λ l. IsBarred d l x y) (sym same) k));
             }
 
-    -- other images may have been kept for the action
+    -- the allowance holds with other stored images for the action
     pub allowance_set : (new : Bars) (n : AllowedMoves) → new.bars ≡ b.bars → AreSoundBars d new → n.allowed ≡ m.allowed → n.actions.items ≡ set m.actions.items act new → IsAllowance d shorts actions n
     allowance_set new n same sound allowed items = record {
       allowed = subst (λ id. IsDiagramOf d id (λ a. not (set_out shorts a))) (sym allowed) all.allowed;
@@ -99,7 +99,7 @@ module _ (d : DiagramsParts) (shorts : List Term) (actions : ℕ) (m : AllowedMo
           (slice_get-set_cases m.actions.items act j new x here);
     }
 
--- a region within another stays so
+-- a region within another is within it in later collections
 pub within_kept : (c d : DiagramsParts) → KeepsFunctions c d → (region whole : ℕ) → IsDiagramId c region → IsDiagramId c whole → IsWithin c region whole → IsWithin d region whole
 within_kept c d kept region whole is_region is_whole within a fits h = kept.values whole is_whole a ∙ within a (fits ∙ kept.tests) (sym (kept.values region is_region a) ∙ h)
 
@@ -109,6 +109,6 @@ source_kept c d kept shorts region act y is h = (h.0, record { fits = h.1.fits �
 pub source_was : (c d : DiagramsParts) → KeepsFunctions c d → (shorts : List Term) (region act : ℕ) (y x : Atom) → IsDiagramId c region → IsAllowedSource d shorts region act y x → IsAllowedSource c shorts region act y x
 source_was c d kept shorts region act y x is s = record { fits = s.fits ∙ kept.tests; there = sym (kept.values region is x) ∙ s.there; allowed = s.allowed }
 
--- the bars that are read at a place
+-- bars read at an index are those at that place
 pub bars_at : (m : AllowedMoves) (act : ℕ) (b : Bars) → act < length m.actions.items → b ≡ get_or m.actions.items act b → slice_get m.actions.items act ≡ Some b
 bars_at m act b lt is = slice_get-get_or m.actions.items act b lt ∙ ap Some (sym is)

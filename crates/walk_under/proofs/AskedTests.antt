@@ -1,4 +1,4 @@
--- Tests are asked one after the other.
+-- Tests on which diagrams depend, checked one after the other.
 use Rattle.std.proofs.Common.{◌≡◌, ◌+◌, ◌<◌, ◌⊎◌, ⊎_elim, ℕ, Bool, true, List, [], ◌∷◌, ◌++◌, sym, subst, arith}
 use Rattle.kat_model.proofs.Lists.{has_append}
 use Rattle.test_diagrams.specs.Functions.{DiagramsParts, IsDiagramId, IsIndependent, KeepsFunctions}

@@ -1,4 +1,4 @@
--- The string that leads to a difference, from its end: one step back over ids.
+-- The string that leads to a difference, built from its end: one backward step over ids.
 use Rattle.std.proofs.Common.{◌≡◌, ◌<◌, ℕ, suc, List, [], ◌∷◌, ◌++◌, length, reverse, slice_get, Option, Some, None, sym, ap, ◌∙◌, subst, arith}
 use mathlib.Core.Path.{ap₂}
 use Rattle.std.specs.Bool.{IsTrue}
@@ -31,11 +31,11 @@ use Rattle.walk_under.proofs.JoinedAt.{entry_at}
 use Rattle.walk_under.proofs.Standing.{level_atom}
 use Rattle.walk_under.proofs.Shortest.{IsSuffix, origin_at, suffix_step, suffix_start, suffix_end}
 
--- the atoms and moves so far, of which the last was made first
+-- the string of the first atom and the moves; the list has the last move first
 abbrev pub string_of : Atom → List Move → GuardedString
 string_of first moves = record { first = first; rest = reverse moves }
 
--- they are the end of a string that tells the sides of the walk apart
+-- the atom and the moves are the end of a string that distinguishes the sides of the walk
 abbrev pub IsSoFar : Setting → Walk → ℕ → ℕ → Atom → List Move → Type 0
 IsSoFar s w n k first moves = IsSuffix s.shorts s.problem (entries_of s.store w.diagrams w.listing.entries.items) n k (string_of first moves)
 
@@ -45,7 +45,7 @@ so_far_start s w place atom u d =
     suffix_start s.shorts s.problem (entries_of s.store w.diagrams w.listing.entries.items) place u.walk (entry_of s.store w.diagrams d.from) atom (entry_at s.store w.diagrams w.listing.entries.items place d.from d.at) (d.fits ∙ u.tests) d.there
     (atom_allowed w.diagrams s.shorts s.problem.actions w.moves u.allowance atom d.fits (is.within atom d.fits d.there)) d.differ
 
--- the level of an entry, and of that at a place
+-- the level of an entry, and of the entry at a place
 abbrev pub level_of : Option EntryParts → ℕ
 level_of None = 0
 level_of (Some e) = e.level
@@ -57,7 +57,7 @@ module _ (s : Setting) (w : Walk) (done : ℕ) (u : IsUnderWay s w done) (n k : 
   abbrev es : List TestedEntry
   es = entries_of s.store w.diagrams w.listing.entries.items
 
-  -- the place is one of the list
+  -- the place is in the list
   pub so_far_within : k < length w.listing.entries.items
   so_far_within = subst (λ m. k < m) (length-map w.listing.entries.items (entry_of s.store w.diagrams)) (slice_get_within es k f.entry f.at)
 
@@ -65,7 +65,7 @@ module _ (s : Setting) (w : Walk) (done : ℕ) (u : IsUnderWay s w done) (n k : 
     entry_is : entry_of s.store w.diagrams e ≡ f.entry
     entry_is = same_Some (entry_of s.store w.diagrams e) f.entry (sym (entry_at s.store w.diagrams w.listing.entries.items k e at) ∙ f.at)
 
-    -- at the first entry the string is whole
+    -- at the first entry the string is complete
     pub so_far_ended : e.origin ≡ None → f.entry.origin ≡ None
     so_far_ended none = ap (λ (x : TestedEntry). x.origin) (sym entry_is) ∙ ap (option_map (origin_of w.diagrams)) none
 
@@ -107,7 +107,7 @@ module _ (s : Setting) (w : Walk) (done : ℕ) (u : IsUnderWay s w done) (n k : 
           same_Some comes.from (entry_of s.store w.diagrams b)
           (sym (subst (λ (t : TestedOrigin). slice_get es t.place ≡ Some comes.from) same comes.at) ∙ entry_at s.store w.diagrams w.listing.entries.items o.place b here)
 
-      -- the entry before is one of the list, and one move less leads to it
+      -- the previous entry is in the list, and its level is smaller
       pub origin_listed : o.place < length w.listing.entries.items
       origin_listed =
           subst (λ m. o.place < m) (length-map w.listing.entries.items (entry_of s.store w.diagrams))
@@ -126,14 +126,14 @@ module _ (s : Setting) (w : Walk) (done : ℕ) (u : IsUnderWay s w done) (n k : 
       first_allowed = allowed_first s.shorts first (reverse moves) f.allowed
 
       module _ (b : EntryParts) (here : slice_get w.listing.entries.items o.place ≡ Some b) (atom : Atom) (source : IsAllowedSource w.diagrams s.shorts o.region o.act first atom) where
-        -- at each atom of the region the sets of the entry before were reached by as many moves
+        -- at each source atom, some entry has the sets and the level of the previous one
         pub source_listed : IsLevelAtom w.diagrams w.listing.entries.items b atom
         source_listed =
             level_atom s w done u b (has_at w.listing.entries.items o.place b here) atom
             (subst (λ (x : TestedEntry). IsListedAt es x atom) (before_is b here)
             (comes.region.within atom (source.fits ∙ u.tests) (subst (λ (t : TestedOrigin). IsTrue (t.region atom)) (sym same) source.there)))
 
-        -- the string from there on
+        -- the string after the backward step
         pub origin_step : (place : ℕ) → IsPlaceWith w.diagrams w.listing.entries.items b atom place → IsSoFar s w n place atom (moves ++ record { act = o.act; atom = first } ∷ [])
         origin_step place p =
             subst (λ ms. IsSuffix s.shorts s.problem es n place (record { first = atom; rest = ms })) (sym (reverse-append moves (record { act = o.act; atom = first } ∷ [])))
@@ -144,7 +144,7 @@ module _ (s : Setting) (w : Walk) (done : ℕ) (u : IsUnderWay s w done) (n k : 
             both_of : List ℕ → List ℕ → SetPair
             both_of x y = record { left = terms_of s.store x; right = terms_of s.store y }
 
--- the string of the first entry refutes, and none is shorter
+-- the string at the first entry refutes the problem, and no shorter string does
 pub so_far_shortest : (whole : ProblemParts) (shorts longs : List Term) → AreSplit whole.hyps shorts longs → (store : NodeParts) (w : Walk) (done : ℕ) (u : IsUnderWay (about shorts (with_hyps whole longs) store) w done) (last : EntryParts) → slice_get w.listing.entries.items done ≡ Some last
     → (k : ℕ) (first : Atom) (moves : List Move) → IsSoFar (about shorts (with_hyps whole longs) store) w last.level k first moves → (e : EntryParts) → slice_get w.listing.entries.items k ≡ Some e → e.origin ≡ None → IsShortest whole (string_of first moves)
 so_far_shortest whole shorts longs split store w done u last here k first moves f e at none =

@@ -1,4 +1,4 @@
--- The bars of the moves by an action, gathered a move at a time.
+-- The bars of the moves by an action, collected one move at a time.
 use Rattle.std.proofs.Common.{◌≡◌, ◌+◌, ◌<◌, ◌≤◌, ◌⊎◌, inl, ⊎_elim, ℕ, Bool, true, List, [], ◌∷◌, ◌++◌, length, take, get_or, eqb, slice_get, Some, refl, sym, ap, ◌∙◌, subst, arith}
 use Rattle.std.specs.List.{filter, All}
 use Rattle.std.specs.Prelude.{IsPermutation}
@@ -31,7 +31,7 @@ bar_of_kept s t c d kept m r n term b = record {
   to = subst (λ e. IsDiagramOf d r.to (set_out (e ∷ []))) (sym (kept.trees.trees m.to term.is_id)) (IsDiagramOf-kept c d kept.functions r.to (set_out (tree_at s m.to ∷ [])) b.to);
 }
 
--- a test that is unasked is one of the tests
+-- an unasked test is in range
 unasked_within : (asked : List Bool) (t : ℕ) → IsUnaskedTest asked t → t < length asked
 unasked_within asked t u = ⊎_elim (λ l. l) (λ l. absurd (false≢true (sym u ∙ get_or_past asked t true l))) (cases t (length asked))
   where
@@ -61,11 +61,11 @@ module _ (s t : NodeParts) (c d : DiagramsParts) (kept : Keeps s t c d) (moves :
     within : (k : ℕ) → IsUnaskedTest asked k → k < d.tests
     within k u = subst (λ x. k < x) (so_far.tests ∙ sym kept.functions.tests) (unasked_within asked k u)
 
-    -- of the bars with the new one
+    -- what holds for all bars and for the new one holds for the extended list
     each_of : (P : Bar → Type 0) → ((q : Bar) → Has bars q → P q) → P r → (q : Bar) → Has (bars ++ r ∷ []) q → P q
     each_of P old last q h = ⊎_elim (old q) (λ k. ⊎_elim (λ e. subst P e last) (λ x. absurd x) k) (has_append bars (r ∷ []) q h)
 
-    -- what the bars of a front do not ask
+    -- the fresh tests of a bar are in range, and no bar of a prefix depends on them
     abbrev Unasked : Bar → List Bar → Type 0
     Unasked q front = (k : ℕ) → Has q.fresh.items k → (k < d.tests) × ((p : Bar) → Has front p → IsIndependent d p.from k)
 
@@ -100,7 +100,7 @@ module _ (s t : NodeParts) (c d : DiagramsParts) (kept : Keeps s t c d) (moves :
           (asks.free k (unasked_within asked k (asks.still k u)) u);
     }
 
--- all moves were looked at
+-- after all moves
 module _ (store : NodeParts) (d : DiagramsParts) (moves : List Guarded) (i : ℕ) (bars : List Bar) (asked : List Bool) (so_far : AreBarsSoFar store d moves i bars asked) where
   pub so_far_all : (all : List Guarded) (act : ℕ) → SameMembers moves (filter (λ (m : Guarded). eqb m.act act) all) → length moves ≤ i → AreBarsOf store d all act bars
   so_far_all all act are past = record {
@@ -121,14 +121,14 @@ module _ (store : NodeParts) (d : DiagramsParts) (moves : List Guarded) (i : ℕ
     images = λ e h. absurd (subst (λ l. Has l e) none h);
   }
 
--- the order of the moves does not matter
+-- a permutation has the same members
 has_shuffled : (xs ys : List Guarded) → IsPermutation xs ys → (m : Guarded) → Has xs m → Has ys m
 has_shuffled xs ys s m h =
     let k = place_of_member xs m h in
     let own : All (Has ys) ys = λ i d lt. has_at ys i (get_or ys i d) (slice_get-get_or ys i d lt) in
     subst (Has ys) (get_or_from_slice_get xs k.0 m m k.1) (All-permutation (Has ys) ys xs (IsPermutation-sym xs ys s) own k.0 m (slice_get_within xs k.0 m k.1))
 
--- the moves by an action, in another order
+-- a permutation of the moves by an action has the same members
 pub moves_shuffled : (all own other read : List Guarded) (act : ℕ) → own ≡ filter (λ (m : Guarded). eqb m.act act) all → IsPermutation own other → read ≡ other → SameMembers read (filter (λ (m : Guarded). eqb m.act act) all)
 moves_shuffled all own other read act is s same m = (
   (λ h. subst (λ l. Has l m) is (has_shuffled other own (IsPermutation-sym own other s) m (subst (λ l. Has l m) same h))),
@@ -145,7 +145,7 @@ module _ (all read : List Guarded) (act : ℕ) (are : SameMembers read (filter (
   pub guards_by : (s t : NodeParts) (c d : DiagramsParts) → Keeps s t c d → AreGuards c all → AreGuards d read
   guards_by s t c d kept guards m h = AreGuards-kept s t c d kept all guards m (of_all m h)
 
--- they stay the bars of the moves where nodes and diagrams are added
+-- the bars remain those of the moves when nodes and diagrams are added
 pub bars_of_kept : (s t : NodeParts) (c d : DiagramsParts) → Keeps s t c d → (n : ℕ) (moves : List Guarded) (act : ℕ) (bars : List Bar) → AreTargets s n moves → AreBarsOf s c moves act bars → AreBarsOf t d moves act bars
 bars_of_kept s t c d kept n moves act bars targets are = record {
   there = λ m h a. let r = are.there m h a in (r.0, r.1, bar_of_kept s t c d kept m r.0 n (targets m h) r.2);

@@ -1,4 +1,4 @@
--- The atoms from which a move is kept out by no bar, bar by bar; and tests on which a diagram does not depend.
+-- The atoms from which no bar blocks a move, one bar after the other; and tests on which a diagram does not depend.
 use Rattle.std.proofs.Common.{◌≡◌, ◌+◌, ◌<◌, ◌≤◌, inl, ⊎_elim, ℕ, Bool, true, false, not, ◌&&◌, List, [], ◌∷◌, ◌++◌, length, take, get_or, set, refl, sym, ap, ◌∙◌, subst, arith}
 use Rattle.std.specs.Bool.{IsTrue}
 use Rattle.std.proofs.lemmas.Bool.{and_parts, and_from, both_ways}
@@ -88,7 +88,7 @@ module _ (b c d : DiagramsParts) (first : KeepsFunctions b c) (kept : KeepsFunct
 
 -- ---- tests that do not matter
 
--- where both values of the test give one diagram, it does not depend on the test
+-- if both values of the test give the same diagram, the diagram does not depend on the test
 pub independent_of_equal : (b c d : DiagramsParts) (id t low high : ℕ) → KeepsFunctions b c → KeepsFunctions c d → IsDiagramId b id → IsDiagramOf c low (λ a. value_of b id (set a t false)) → IsDiagramOf d high (λ a. value_of c id (set a t true)) → low ≡ high → IsIndependent d id t
 independent_of_equal b c d id t low high first second is is_low is_high same a fits v = alike v (get_or a t false) ∙ ap (value_of d id) (set-get_or a t false)
   where
@@ -109,7 +109,7 @@ independent_of_equal b c d id t low high first second is is_low is_high same a f
     alike false true = both
     alike false false = refl
 
--- the bars are all of them from their number on
+-- if n is at least their number, the first n bars are all bars
 pub sources_all : (d : DiagramsParts) (bars : List Bar) (region : ℕ) (after : Atom) (n id : ℕ) → length bars ≤ n → AreSources d bars region after n id → AreSources d bars region after (length bars) id
 sources_all d bars region after n id le s =
     let same : take n bars ≡ take (length bars) bars = take_all n bars le ∙ sym (take_all (length bars) bars (omega arith)) in

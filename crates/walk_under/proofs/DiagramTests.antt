@@ -1,4 +1,4 @@
--- The test of a diagram by its least test, and tables of tests as more are added.
+-- The test of a diagram, by its least test, and tables of tests as they grow.
 use Rattle.std.proofs.Common.{◌≡◌, ◌≤◌, ◌+◌, ◌⊎◌, inl, inr, ⊎_elim, ℕ, Bool, true, false, cond, nat_eq, nat_lt, List, length, get_or, set, Some, refl, sym, ap, ◌∙◌, subst, arith}
 use Rattle.std.specs.Map.{lookup}
 use Rattle.indexmap.specs.IndexMap.{insert_entry}
@@ -20,7 +20,7 @@ use Rattle.walk_under.specs.Working.StoredTests.{IsTestFor, IsFree, AreTestsFor}
 
 -- ---- constants
 
--- the one value of a constant is whether it is the diagram that is always true
+-- the value of a constant diagram is whether it is the diagram that is always true
 pub constant_value : (d : DiagramsParts) (id always : ℕ) (value : Bool) → IsReduced d → IsDiagramId d id → IsDiagramOf d always (λ atom. true) → IsConstant d id → value ≡ nat_eq id always → (atom : Atom) → IsAtomOf d atom → value ≡ value_of d id atom
 constant_value d id always true reduced is all c e atom fits =
     sym (ap (λ i. value_of d i atom) (eqb-true id always (sym e)) ∙ all.value atom fits)
@@ -31,7 +31,7 @@ constant_value d id always false reduced is all c e atom fits =
 
 -- ---- by the least test
 
--- a test on which the diagram depends is none of those that it is free of
+-- a diagram that is free of the tests below `from` depends only on tests from `from` on
 pub least_past : (d : DiagramsParts) (id from test : ℕ) → IsFree d id from → DependsOn d id test → from ≤ test
 least_past d id from test free dep = go (nat_lt test from) refl
   where
@@ -41,7 +41,7 @@ least_past d id from test free dep = go (nat_lt test from) refl
         absurd (dep.changes (same false ∙ sym (same true)))
     go false e = ltb-false test from e
 
--- with the least test set the diagram is free of it too
+-- a diagram with its least test fixed is free of that test too
 pub fixed_free : (c d : DiagramsParts) (id low test : ℕ) (value : Bool) → d.tests ≡ c.tests → IsLeastTest c id test → IsFixedTo c d test value id low → IsFree d low (test + 1)
 fixed_free c d id low test value tests least is t lt =
     fixed_independent c d test value id low t tests is (go (nat_eq t test) refl)
@@ -50,11 +50,11 @@ fixed_free c d id low test value tests least is t lt =
     go true e = inr (eqb-true t test e)
     go false e = let other = eqb-false t test e in inl (least.least t (omega (arith, lt, other)))
 
--- freedom stays where diagrams are added
+-- a diagram remains free of the tests when diagrams are added
 pub free_kept : (c d : DiagramsParts) (id from : ℕ) → KeepsFunctions c d → IsDiagramId c id → IsFree c id from → IsFree d id from
 free_kept c d id from kept is free t lt atom fits b = kept.values id is (set atom t b) ∙ free t lt atom (fits ∙ kept.tests) b ∙ sym (kept.values id is atom)
 
--- the diagram by the values of the least test
+-- the value of the diagram, by the value of its least test
 module _ (c d e g : DiagramsParts) (id test low high : ℕ) (first : KeepsFunctions c d) (second : KeepsFunctions d e) (rest : KeepsFunctions e g) (is : IsDiagramId c id)
     (is_low : IsFixedTo c d test false id low) (is_high : IsFixedTo d e test true id high) where
   pub chosen_value : (atom : Atom) → length atom ≡ g.tests → cond (get_or atom test false) (value_of g high atom) (value_of g low atom) ≡ value_of g id atom

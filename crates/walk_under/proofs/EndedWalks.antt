@@ -1,4 +1,4 @@
--- Where a walk has taken all its entries, the merged pairs are a bisimulation under tests.
+-- If a walk has processed all its entries, the merged pairs are a bisimulation under tests.
 use Rattle.std.proofs.Common.{◌≡◌, ℕ, List, length, refl, ◌∙◌, subst}
 use Rattle.std.proofs.lemmas.Option.{slice_get_within}
 use Rattle.kat_model.specs.Trees.{Term}
@@ -19,7 +19,7 @@ module _ (shorts : List Term) (q : ProblemParts) (es : List TestedEntry) (walk :
   taken : (e : TestedEntry) → Has es e → IsTaken shorts q es e
   taken e h = let k = place_of_member es e h in walk.taken k.0 e (slice_get_within es k.0 e k.1) k.1
 
-  -- the pairs that join two sets are among those of the atom
+  -- the pairs that join two sets are among the merged pairs at the atom
   among : (level : ℕ) (atom : Atom) (lefts rights : List Term) → length atom ≡ q.tests → (j : AreJoined q es level atom lefts rights) → IsSubset j.pairs (pairs_at pairs atom)
   among level atom lefts rights wide j s h =
       let r = j.reached s h in

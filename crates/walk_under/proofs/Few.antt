@@ -1,4 +1,4 @@
--- The entries of a walk are no more than there are pairs of sets and atoms.
+-- A bound on the number of entries of a walk, by the number of pairs of sets and of atoms.
 use Rattle.std.proofs.Common.{◌≡◌, ◌+◌, ◌*◌, ◌^◌, ◌≤◌, ◌<◌, inl, inr, ⊎_elim, ℕ, zero, suc, Bool, List, [], ◌∷◌, map, length, slice_get, Some, refl, sym, ◌∙◌, subst, arith}
 use Rattle.std.specs.Bool.{IsTrue}
 use Rattle.std.proofs.lemmas.List.{length-map}
@@ -17,7 +17,7 @@ use Rattle.kat_model.proofs.Counting.{AreToldApart, told_apart_within, all_bits,
 use Rattle.walk_under.specs.TestedWalks.{TestedEntry, AreApart, IsTestedWalk}
 use Rattle.walk_under.proofs.WalkSteps.{first_entry}
 
--- a set is told by which of these terms it has
+-- a set is determined by the terms of `us` that it contains
 module _ (us : List Term) where
   abbrev IsToldBy : List Bool → List Term → Type 0
   IsToldBy bits es = IsSubset es us × (map (holds es) us ≡ bits)
@@ -39,7 +39,7 @@ module _ (us : List Term) where
   told : (es : List Term) → IsSubset es us → (bits : List Bool) × Has (all_bits (length us)) bits × IsToldBy bits es
   told es within = (map (holds es) us, subst (λ n. Has (all_bits n) (map (holds es) us)) (length-map us (holds es)) (all_bits_has (map (holds es) us)), (within, refl))
 
--- what tells an entry: two sets and an atom
+-- the key of an entry: two sets and an atom
 abbrev Key : Type 0
 Key = (List Bool × List Bool) × Atom
 
@@ -60,7 +60,7 @@ module _ (q : ProblemParts) where
     told_apart es all.1,
   )
 
-  -- the members of the sets are among what steps lead to
+  -- the members of the sets are among the closed sides and the terms that steps reach
   pub record IsReachedEntry (e : TestedEntry) : Type 0 where
     pub left : IsSubset e.pair.left lefts
     pub right : IsSubset e.pair.right rights
@@ -76,7 +76,7 @@ module _ (q : ProblemParts) where
       let all = subst (λ n. Has (all_bits n) atom) wide (all_bits_has atom) in
       (((l.0, s.0), atom), all_pairs_has (all_pairs (all_bits (length lefts)) (all_bits (length rights))) (all_bits q.tests) (l.0, s.0) atom sets all, (l.2, s.2, wide, there))
 
-  -- how many entries there can be beside the first
+  -- a bound on the number of entries after the first
   abbrev pub entry_limit : ℕ
   entry_limit = 2 ^ (acts (closed q).left + 1) * 2 ^ (acts (closed q).right + 1) * 2 ^ q.tests
 
@@ -87,7 +87,7 @@ module _ (q : ProblemParts) where
       rw (length-all_pairs (all_pairs (all_bits (length lefts)) (all_bits (length rights))) (all_bits q.tests), length-all_pairs (all_bits (length lefts)) (all_bits (length rights)), length-all_bits (length lefts), length-all_bits (length rights), length-all_bits q.tests, m, n) refl
 
 module _ (shorts : List Term) (q : ProblemParts) (es : List TestedEntry) (done : ℕ) (walk : IsTestedWalk shorts q es done) where
-  -- by the order of the list
+  -- by induction on the place in the list
   reached_below : (n k : ℕ) (e : TestedEntry) → k < n → slice_get es k ≡ Some e → IsReachedEntry q e
   reached_below zero k e l at = absurd (omega arith)
   reached_below (suc n) zero e l at =
@@ -106,7 +106,7 @@ module _ (shorts : List Term) (q : ProblemParts) (es : List TestedEntry) (done :
   pub entry_reached : (e : TestedEntry) → Has es e → IsReachedEntry q e
   entry_reached e h = let k = place_of_member es e h in reached_below (suc k.0) k.0 e (omega arith) k.1
 
--- the entries after the first are told by different keys
+-- the entries after the first have different keys
 pub walk_few : (shorts : List Term) (q : ProblemParts) (es : List TestedEntry) (done : ℕ) → IsTestedWalk shorts q es done → length es ≤ 1 + entry_limit q
 walk_few shorts q [] done walk = omega arith
 walk_few shorts q (first ∷ es) done walk =

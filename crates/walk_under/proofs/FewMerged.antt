@@ -1,4 +1,4 @@
--- The merged pairs of a walk have sets that steps from the closed sides lead to, and so are few.
+-- The sets of the merged pairs of a walk are reached by steps from the closed sides, so the pairs are few.
 use Rattle.std.proofs.Common.{◌≡◌, ◌<◌, inl, inr, ⊎_elim, ℕ, zero, suc, List, ◌∷◌, length, slice_get, Some, refl, sym, ap, ◌∙◌, subst, arith}
 use Rattle.std.specs.Bool.{IsTrue}
 use Rattle.std.proofs.lemmas.Option.{same_Some}
@@ -21,7 +21,7 @@ use Rattle.walk_under.proofs.Few.{entry_reached}
 
 module _ (shorts : List Term) (q : ProblemParts) (es : List TestedEntry) (done : ℕ) (walk : IsTestedWalk shorts q es done) where
   module _ (left : IsGuarded (closed q).left) (right : IsGuarded (closed q).right) where
-    -- by the order of the list
+    -- by induction on the place in the list
     single_below : (n k : ℕ) (e : TestedEntry) → k < n → slice_get es k ≡ Some e → IsSingle (closed q).left e.pair.left × IsSingle (closed q).right e.pair.right
     single_below zero k e l at = absurd (omega arith)
     single_below (suc n) zero e l at =
@@ -37,7 +37,7 @@ module _ (shorts : List Term) (q : ProblemParts) (es : List TestedEntry) (done :
         )
 
   module _ (pairs : List TestedPair) (m : AreMergedPairs q es pairs) (differ : AllDiffer (sets_of pairs)) (somewhere : (p : TestedPair) → Has m.rest p → (atom : Atom) × (length atom ≡ q.tests) × IsTrue (truth p.test atom)) where
-    -- the entry of a pair
+    -- each merged pair has the sets of an entry
     of_entry : (s : SetPair) → Has (sets_of pairs) s → (e : TestedEntry) × Has es e × (e.pair ≡ s)
     of_entry s h =
         let p = has_map (λ (x : TestedPair). x.sets) pairs s h in

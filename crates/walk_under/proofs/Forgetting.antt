@@ -1,4 +1,4 @@
--- Tests of a diagram are forgotten one after the other.
+-- Tests of a diagram, forgotten one after the other.
 use Rattle.std.proofs.Common.{◌≡◌, ⊎_elim, ℕ, Bool, true, false, ◌||◌, List, get_or, set, refl, sym, ap, ◌∙◌}
 use mathlib.Core.Path.{ap₂}
 use Rattle.std.specs.Bool.{IsTrue}
@@ -10,7 +10,7 @@ use Rattle.kat_model.specs.Steps.{Atom}
 use Rattle.test_diagrams.specs.Functions.{DiagramsParts, value_of, IsDiagramId, IsAtomOf, IsDiagramOf, IsIndependent, KeepsFunctions}
 use Rattle.walk_under.specs.Working.Bars.{IsReset, unchanged, reset, IsForgotten}
 
--- what does not depend on the tests is the same at both atoms
+-- a diagram that does not depend on the tests has the same value at both atoms
 pub reset_same : (d : DiagramsParts) (tests : List ℕ) (id : ℕ) → ((t : ℕ) → Has tests t → IsIndependent d id t) → {a b : Atom} → IsReset tests a b → IsAtomOf d a → value_of d id b ≡ value_of d id a
 reset_same d tests id free (unchanged a) fits = refl
 reset_same d tests id free (reset a b t v h r) fits = reset_same d tests id free r (length-set a t v ∙ fits) ∙ free t h a fits v
@@ -27,7 +27,7 @@ forgotten_kept c d kept whole tests id is f = record {
   back = λ a fits h. kept.values id f.is_id a ∙ f.back a (fits ∙ kept.tests) (sym (kept.values whole is a) ∙ h);
 }
 
--- one test more
+-- an additional test
 module _ (c d e f : DiagramsParts) (id t low high next : ℕ) (first : KeepsFunctions c d) (second : KeepsFunctions d e) (third : KeepsFunctions e f) (is : IsDiagramId c id)
     (is_low : IsDiagramOf d low (λ a. value_of c id (set a t false))) (is_high : IsDiagramOf e high (λ a. value_of d id (set a t true))) (is_next : IsDiagramOf f next (λ a. value_of e low a || value_of e high a)) where
   either_value : (a : Atom) → IsAtomOf f a → value_of f next a ≡ (value_of f id (set a t false) || value_of f id (set a t true))

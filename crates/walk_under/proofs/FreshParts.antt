@@ -1,4 +1,4 @@
--- The atoms at which no listed pair has the sets: one pair after the other is taken away.
+-- The atoms at which no listed pair has the sets, computed by removing the atoms of one pair after the other.
 use Rattle.std.proofs.Common.{◌≡◌, ◌⊎◌, inl, inr, ⊎_elim, ℕ, Bool, true, false, not, ◌&&◌, List, [], ◌∷◌, ◌++◌, refl, sym, ◌∙◌, subst}
 use Rattle.std.specs.Bool.{IsTrue}
 use Rattle.std.proofs.lemmas.Bool.{and_parts, both_ways, not-true}
@@ -32,7 +32,7 @@ without_same c d e left right old id same is = record {
 pub fresh_none : (d : DiagramsParts) (left right : List ℕ) (id : ℕ) → IsDiagramId d id → IsFreshPart d [] left right id id
 fresh_none d left right id is = record { is_id = is; within = λ a fits h. h; apart = λ e h. absurd h; rest = λ atom fits h none. absurd (none h) }
 
--- whether or not a truth value is true
+-- a truth value is true or is not true
 is_it : (b : Bool) → (b ≡ true) ⊎ (b ≡ true → ⊥)
 is_it true = inl refl
 is_it false = inr (λ e. both_ways false refl e)

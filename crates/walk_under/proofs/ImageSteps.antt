@@ -1,4 +1,4 @@
--- An image is made of those of both parts of the region, while diagrams are added.
+-- An image is built from the images of both parts of the region, while diagrams are added.
 use Rattle.std.proofs.Common.{◌≡◌, ◌+◌, ◌<◌, ℕ, not, ◌&&◌, ◌||◌, List, length, take, get_or, slice_get, Some, sym, ap, ◌∙◌, subst}
 use Rattle.std.proofs.lemmas.Option.{slice_get-get_or}
 use Rattle.kat_model.specs.Members.{Has}
@@ -14,7 +14,7 @@ use Rattle.walk_under.proofs.KeptValues.{of_two_kept}
 use Rattle.walk_under.proofs.Images.{image_more}
 use Rattle.walk_under.proofs.ImageTables.{bars_kept, image_kept, taken_bars}
 
--- what is read at a place
+-- a bar read in range is the one at that place
 pub bar_at : (bars : List Bar) (i : ℕ) (r : Bar) → i < length bars → r ≡ get_or bars i r → slice_get bars i ≡ Some r
 bar_at bars i r lt is = slice_get-get_or bars i r lt ∙ ap Some (sym is)
 
@@ -56,7 +56,7 @@ module _ (a b e f g h : DiagramsParts) (ab : KeepsFunctions a b) (be : KeepsFunc
         subst (λ l. IsImageOf h l region id) (sym (ap (λ m. take m bars) n ∙ take_item bars last r lt is))
         (image_more h (take last bars) r region p own (λ t m q j. (later t m).1 q j) within kept free id inside outside is_kept is_id)
 
--- a bar that is read in a loop
+-- a bar read in a loop is the one at that place of the list
 pub read_bar : (bars read : List Bar) (i : ℕ) (r : Bar) → read ≡ bars → i < length read → r ≡ get_or read i r → (i < length bars) × (r ≡ get_or bars i r) × Has bars r
 read_bar bars read i r same lt is =
     let within = subst (λ (l : List Bar). i < length l) same lt in

@@ -1,4 +1,4 @@
--- Images that were found before: what is looked up is right, and stays so.
+-- The table of images: an image that is found is correct, and remains correct.
 use Rattle.std.proofs.Common.{◌≡◌, ◌<◌, ⊎_elim, ℕ, true, eqb, List, length, take, Some, sym, ◌∙◌, subst}
 use Rattle.std.specs.Map.{lookup}
 use Rattle.indexmap.specs.IndexMap.{insert_entry}
@@ -28,7 +28,7 @@ image_noted d bars images new state id is all region own e h =
     (λ s. subst (λ (x : State × ℕ). IsDiagramId d x.0.region × IsImageOf d (take x.0.count bars) x.0.region x.1) (sym s) (region, own))
     (insert_entry_has same_state same_state_is state id images e (subst (λ l. Has l e) is h))
 
--- ---- where diagrams are added
+-- ---- when diagrams are added
 
 module _ (c d : DiagramsParts) (kept : KeepsFunctions c d) where
   pub independent_kept : (id t : ℕ) → IsDiagramId c id → IsIndependent c id t → IsIndependent d id t
@@ -79,7 +79,7 @@ module _ (c d : DiagramsParts) (kept : KeepsFunctions c d) where
     images = images_kept b.bars.items b.images.entries s.bars s.images;
   }
 
--- with other images, which are right
+-- the bars with another table of correct images
 pub sound_bars_with : (d : DiagramsParts) (b new : Bars) → new.bars ≡ b.bars → new.unasked ≡ b.unasked → AreImages d new.bars.items new.images.entries → AreSoundBars d b → AreSoundBars d new
 sound_bars_with d b new same unasked images s = record {
   bars = subst (λ l. AreBars d l.items) (sym same) s.bars;

@@ -1,4 +1,4 @@
--- The image of a region under bars, by the last of them.
+-- The image of a region under bars, computed from the last bar.
 use Rattle.std.proofs.Common.{◌≡◌, ◌≢◌, inl, ⊎_elim, ℕ, Bool, true, false, not, ◌&&◌, ◌||◌, List, [], ◌∷◌, ◌++◌, refl, sym, ap, ◌∙◌, subst}
 use Rattle.std.specs.Bool.{IsTrue}
 use Rattle.std.proofs.lemmas.Bool.{or_cases, or_left, or_right, and_parts, and_from, both_ways}
@@ -14,7 +14,7 @@ use Rattle.walk_under.specs.Working.Bars.{IsReset, IsForgotten, IsSplit, IsBarre
 use Rattle.walk_under.proofs.Forgetting.{reset_same}
 
 module _ (d : DiagramsParts) where
-  -- where nothing is left to start from, nothing is led to; and where no bar is left, all is
+  -- the image of an empty region is empty; without bars, the image of any other region has all atoms
   pub image_never : (bars : List Bar) (region : ℕ) → IsDiagramOf d region (λ a. false) → IsImageOf d bars region region
   image_never bars region is = record {
     is_id = is.in_range;
@@ -40,10 +40,10 @@ module _ (d : DiagramsParts) where
       not_false true ne = refl
       not_false false ne = absurd (ne refl)
 
-  -- ---- one bar more
+  -- ---- an additional bar
 
   module _ (rest : List Bar) (r : Bar) (region : ℕ) (p : Parts) (s : IsSplit d r region p) (fresh : (t : ℕ) → Has r.fresh.items t → (q : Bar) → Has rest q → IsIndependent d q.from t) where
-    -- a bar before starts at both of two atoms that differ in the fresh tests
+    -- an earlier bar that blocks a move from one of two atoms that differ only in the fresh tests blocks it from both
     barred_same : {a b : Atom} → IsReset r.fresh.items a b → IsAtomOf d a → (after : Atom) → IsBarred d rest b after → IsBarred d rest a after
     barred_same same fits after k = (k.0, k.1, sym (reset_same d r.fresh.items k.0.from (λ t h. fresh t h k.0 k.1) same fits) ∙ k.2, k.3)
 
@@ -92,7 +92,7 @@ module _ (d : DiagramsParts) where
           false_of true e = sym e
           false_of false e = refl
 
-      -- what is led to is in one of the two
+      -- an atom to which a move leads is in one of the two images
       reached : (b : Atom) → IsAtomOf d b → (l : IsLedTo d (rest ++ r ∷ []) region b) → (v : Bool) → value_of d r.from l.before ≡ v → (value_of d kept b || value_of d free b) ≡ true
       reached b fits l true e =
           or_left _ _
@@ -121,7 +121,7 @@ module _ (d : DiagramsParts) where
         back = λ b fits l. is.value b fits ∙ reached b fits l (value_of d r.from l.before) refl;
       }
 
-  -- tests that no bar asks do not matter
+  -- tests on which no bar depends do not change the image
   pub image_forgotten : (bars : List Bar) (tests : List ℕ) (region rest id : ℕ) → ((t : ℕ) → Has tests t → (q : Bar) → Has bars q → IsIndependent d q.from t) → IsForgotten d region tests rest → IsImageOf d bars rest id → IsImageOf d bars region id
   image_forgotten bars tests region rest id free f im = record {
     is_id = im.is_id;

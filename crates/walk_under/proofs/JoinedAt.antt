@@ -1,4 +1,5 @@
--- What pairs bring to sets of ids at an atom joins the sets of their terms there.
+-- If the closure of each of two sets of ids at an atom contains the other set, the sets of their terms are joined
+-- there.
 use Rattle.std.proofs.Common.{◌≡◌, ◌≤◌, inl, inr, ⊎_elim, ℕ, zero, suc, Bool, true, false, cond, List, [], ◌∷◌, ◌++◌, slice_get, Option, Some, refl, sym, ap, ◌∙◌, subst}
 use Rattle.std.specs.Bool.{IsTrue}
 use Rattle.std.specs.Option.{option_map}
@@ -60,7 +61,7 @@ joined_by q es level atom lefts rights low c = record {
   congruent = c;
 }
 
--- what is joined depends on the members of the sets alone
+-- whether sets are joined depends only on their members
 pub joined_same : (q : ProblemParts) (es : List TestedEntry) (level : ℕ) (atom : Atom) (es₁ fs₁ es₂ fs₂ : List Term) → SameMembers es₁ es₂ → SameMembers fs₁ fs₂ → AreJoined q es level atom es₁ fs₁ → AreJoined q es level atom es₂ fs₂
 joined_same q es level atom es₁ fs₁ es₂ fs₂ s t j = record {
   pairs = j.pairs;
@@ -78,7 +79,7 @@ module _ (q : ProblemParts) (store : NodeParts) (d : DiagramsParts) (es : List E
     abbrev made : List Term
     made = sat listed (terms_of store set)
 
-    -- the terms of these ids are made
+    -- whether the closure has the term of the id
     abbrev is_made : ℕ → Bool
     is_made i = holds made (tree_at store i)
 
@@ -105,14 +106,14 @@ module _ (q : ProblemParts) (store : NodeParts) (d : DiagramsParts) (es : List E
   itself_between : (xs ys : List Term) → IsBetween xs xs xs ys
   itself_between xs ys = record { has = λ x h. h; only = λ x h. inr h }
 
-  -- sets of which each is brought to the other are congruent
+  -- sets are congruent if the closure of each contains the other
   pub brought_congruent : (left right : List ℕ) → BringsAt d es universal right left atom → BringsAt d es universal left right atom → IsCongruent (closed q).universal listed (terms_of store left) (terms_of store right)
   brought_congruent left right lefts rights =
       let l = terms_of store left in
       let r = terms_of store right in
       covered_congruent (closed q).universal listed l r l r l r (itself_between l r) (itself_between r l) (record { lefts = brought right left lefts; rights = brought left right rights })
 
-  -- and so are those of an entry that was reached there
+  -- the sets of an entry that was reached at the atom are congruent
   pub entry_congruent : (e : EntryParts) → Has es e → IsTrue (value_of d e.test atom) → IsCongruent (closed q).universal listed (terms_of store e.left) (terms_of store e.right)
   entry_congruent e h t =
       listed_congruent (closed q).universal listed (pair_of store e) (terms_of store e.left) (terms_of store e.right) (pairs_true_has (entries_of store d es) atom (entry_of store d e) (map_has (entry_of store d) es e h) t) (λ x. ((λ m. m), (λ m. m))) (λ x. ((λ m. m), (λ m. m)))

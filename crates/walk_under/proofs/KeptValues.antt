@@ -1,4 +1,4 @@
--- Diagrams that were made of two others, once more diagrams are added.
+-- Diagrams that were built from two others, after diagrams are added.
 use Rattle.std.proofs.Common.{ℕ, Bool, sym, ◌∙◌}
 use mathlib.Core.Path.{ap₂}
 use Rattle.test_diagrams.specs.Functions.{DiagramsParts, value_of, IsDiagramId, IsDiagramOf, KeepsFunctions}

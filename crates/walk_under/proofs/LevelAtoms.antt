@@ -1,4 +1,4 @@
--- The atoms at which as many moves reached the sets of an entry: one entry after the other.
+-- The atoms at which the sets of an entry were reached by equally many moves, computed one entry after the other.
 use Rattle.std.proofs.Common.{◌<◌, ◌||◌, inl, ⊎_elim, ℕ, false, List, [], ◌∷◌, ◌++◌, refl, sym, ◌∙◌, subst, arith}
 use Rattle.std.specs.Bool.{IsTrue}
 use Rattle.std.proofs.lemmas.Bool.{both_ways, or_cases, or_left, or_right}
@@ -19,7 +19,7 @@ level_none d other never is = record {
   back = λ atom fits l. absurd l.member;
 }
 
--- one with other sets or another level adds none
+-- an entry with other sets or another level adds no atoms
 pub level_other : (d : DiagramsParts) (es : List EntryParts) (new other : EntryParts) (id : ℕ) → (IsWith new other → ⊥) → AreLevelAtoms d es other id → AreLevelAtoms d (es ++ new ∷ []) other id
 level_other d es new other id apart a = record {
   is_id = a.is_id;
@@ -34,7 +34,7 @@ level_other d es new other id apart a = record {
 pub level_past : (d : DiagramsParts) (es : List EntryParts) (new other : EntryParts) (id : ℕ) → other.level < new.level → AreLevelAtoms d es other id → AreLevelAtoms d (es ++ new ∷ []) other id
 level_past d es new other id past a = level_other d es new other id (λ is. let e = is.level in absurd (omega arith)) a
 
--- one of these adds its own
+-- an entry with these sets and this level adds its atoms
 pub level_more : (c d : DiagramsParts) → KeepsFunctions c d → (es : List EntryParts) → ((e : EntryParts) → Has es e → IsDiagramId c e.test) → (new other : EntryParts) (old id : ℕ) → IsDiagramId c new.test → IsWith new other → IsDiagramOf d id (λ atom. value_of c old atom || value_of c new.test atom)
     → AreLevelAtoms c es other old → AreLevelAtoms d (es ++ new ∷ []) other id
 level_more c d kept es tests new other old id own alike is a = record {
@@ -57,7 +57,7 @@ level_more c d kept es tests new other old id own alike is a = record {
       (has_append es (new ∷ []) l.entry l.member);
 }
 
--- ---- where diagrams are added
+-- ---- when diagrams are added
 
 module _ (c d : DiagramsParts) (kept : KeepsFunctions c d) (es : List EntryParts) (tests : (e : EntryParts) → Has es e → IsDiagramId c e.test) (other : EntryParts) where
   pub level_atom_kept : (atom : Atom) → IsLevelAtom c es other atom → IsLevelAtom d es other atom
@@ -73,6 +73,6 @@ module _ (c d : DiagramsParts) (kept : KeepsFunctions c d) (es : List EntryParts
     back = λ atom fits l. kept.values id a.is_id atom ∙ a.back atom (fits ∙ kept.tests) (level_atom_was atom l);
   }
 
--- they lie within any diagram that is true at the atoms of all entries
+-- the atoms lie within any diagram that is true at the atoms of all entries
 pub level_atoms_within : (d : DiagramsParts) (es : List EntryParts) (other : EntryParts) (id whole : ℕ) → ((e : EntryParts) → Has es e → IsWithin d e.test whole) → AreLevelAtoms d es other id → IsWithin d id whole
 level_atoms_within d es other id whole each a atom fits h = let l = a.there atom fits h in each l.entry l.member atom fits l.holds

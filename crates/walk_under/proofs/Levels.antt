@@ -1,4 +1,4 @@
--- Entries of smaller level agree on the allowed strings from their atoms that are short enough.
+-- Entries of smaller level agree on all sufficiently short allowed strings from their atoms.
 use Rattle.std.proofs.Common.{◌≡◌, ◌+◌, ◌≤◌, ◌<◌, ◌⊎◌, inl, inr, ⊎_elim, ℕ, List, [], ◌∷◌, length, slice_get, Some, refl, sym, ◌∙◌, subst, arith}
 use Rattle.std.specs.Bool.{IsTrue}
 use Rattle.kat_model.specs.Trees.{Term}
@@ -14,7 +14,7 @@ use Rattle.kat_model.proofs.Soundness.{AllAgree, closed_universal, congruent_acc
 use Rattle.walk_under.specs.TestedWalks.{TestedEntry, IsTestedWalk}
 
 module _ (shorts : List Term) (q : ProblemParts) (es : List TestedEntry) (done : ℕ) (walk : IsTestedWalk shorts q es done) (last : TestedEntry) (here : slice_get es done ≡ Some last) where
-  -- an entry of smaller level than the one that is being taken has been taken
+  -- an entry of smaller level than the entry being processed has been processed
   is_taken : (k : ℕ) (e : TestedEntry) → slice_get es k ≡ Some e → e.level < last.level → k < done
   is_taken k e at l = ⊎_elim (λ h. h) (λ h. absurd (let later = walk.in_order done k last e h here at in omega arith)) (cases k)
     where

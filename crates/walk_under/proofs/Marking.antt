@@ -1,4 +1,4 @@
--- Marks of terms, as they grow by rounds over the pairs.
+-- Marks of terms, as rounds over the pairs extend them.
 use Rattle.std.proofs.Common.{◌≡◌, ◌⊎◌, ◌+◌, ◌<◌, ◌≤◌, inl, inr, ⊎_elim, ℕ, Bool, true, false, not, ◌&&◌, ◌||◌, List, [], ◌∷◌, length, get_or, replicate, set as put, slice_get, Option, Some, refl, sym, ap, ◌∙◌, subst, arith}
 use Rattle.std.specs.Bool.{IsTrue, IsFalse}
 use Rattle.std.proofs.lemmas.Bool.{or_cases, and_parts, both_ways}
@@ -12,11 +12,11 @@ use Rattle.test_diagrams.specs.Functions.{DiagramsParts, value_of, IsDiagramId, 
 use Rattle.walk_under.specs.Working.Entries.{EntryParts}
 use Rattle.walk_under.specs.Working.Reaching.{AllHold, IsClosedUnder, Brings, AreMarks, BringsAt, IsPartOf, BringsFirst, IsReachedAt, IsOpenPart}
 
--- what is read at a place
+-- a number read in range is the one at that place
 pub read_number : (xs : List ℕ) (i x : ℕ) → i < length xs → x ≡ get_or xs i x → slice_get xs i ≡ Some x
 read_number xs i x lt is = slice_get-get_or xs i x lt ∙ ap Some (sym is)
 
--- ---- where diagrams are added
+-- ---- when diagrams are added
 
 module _ (c d : DiagramsParts) (kept : KeepsFunctions c d) (es : List EntryParts) (tests : (e : EntryParts) → Has es e → IsDiagramId c e.test) where
   pub closed_was : (atom : Atom) (p : ℕ → Bool) → IsClosedUnder d es atom p → IsClosedUnder c es atom p
@@ -37,7 +37,7 @@ marks_kept c d kept es all marks m = record {
 
 -- ---- one mark
 
--- what either diagram brings, the diagram of both does
+-- targets that are in the closure at the atoms of both diagrams are in it at the atoms of their disjunction
 brings_or : (c d : DiagramsParts) (kept : KeepsFunctions c d) (es : List EntryParts) (tests : (e : EntryParts) → Has es e → IsDiagramId c e.test) (all targets : List ℕ) (a b id : ℕ) → IsDiagramOf d id (λ x. value_of c a x || value_of c b x) → Brings c es all a targets → Brings c es all b targets → Brings d es all id targets
 brings_or c d kept es tests all targets a b id is first second atom fits p closed own h =
     let there = fits ∙ kept.tests in
@@ -76,15 +76,15 @@ brings_part d es all targets part id s b atom fits p closed own h = λ t here. b
 pub alone : (targets : List ℕ) (t : ℕ) → Has targets t → IsSubset (t ∷ []) targets
 alone targets t h x e = ⊎_elim (λ same. subst (Has targets) same h) absurd e
 
--- where no atom is, all is brought
+-- for a diagram without atoms, any targets are in the closure
 pub brings_never : (d : DiagramsParts) (es : List EntryParts) (all targets : List ℕ) (id : ℕ) → ((atom : Atom) → IsAtomOf d atom → value_of d id atom ≡ false) → Brings d es all id targets
 brings_never d es all targets id never atom fits p closed own h = absurd (both_ways (value_of d id atom) (never atom fits) h)
 
--- a set's own terms are brought at each atom
+-- a set is in its own closure at each atom
 pub brings_own : (d : DiagramsParts) (es : List EntryParts) (all : List ℕ) (id : ℕ) → Brings d es all id all
 brings_own d es all id atom fits p closed own h = own
 
--- where one side of a pair is brought within its test, the other is too
+-- within the test of a pair, a closure that contains one side contains the other
 pub brings_right : (d : DiagramsParts) (es : List EntryParts) (all : List ℕ) (e : EntryParts) (id : ℕ) → Has es e → IsPartOf d e.test id → Brings d es all id e.left → Brings d es all id e.right
 brings_right d es all e id h part b atom fits p closed own t = (closed e h (part.within atom fits t)).0 (b atom fits p closed own t)
 
@@ -97,7 +97,7 @@ less_or_last : (k n : ℕ) → k < n + 1 → (k < n) ⊎ (k ≡ n)
 less_or_last k n lt = grind arith
 
 module _ (c d : DiagramsParts) (kept : KeepsFunctions c d) (es : List EntryParts) (tests : (e : EntryParts) → Has es e → IsDiagramId c e.test) (all terms : List ℕ) (n a b id t : ℕ) where
-  -- at the atoms of both diagrams the terms of both are brought
+  -- at the atoms that both diagrams share, the closure contains the terms of both
   pub brings_next : slice_get terms n ≡ Some t → IsDiagramOf d id (λ x. value_of c a x && value_of c b x) → BringsFirst c es all a terms n → Brings c es all b (t ∷ []) → BringsFirst d es all id terms (n + 1)
   brings_next at is first own k x lt there atom fits p closed holds h =
       let fits_before = fits ∙ kept.tests in
@@ -122,7 +122,7 @@ part_of_both c d kept whole a b id is whole_is part = record {
 
 -- ---- one pair
 
--- each side is marked where the other is brought
+-- each side is marked at the atoms at which the closure contains the other
 module _ (c₀ c₁ c₂ c₃ c₄ : DiagramsParts) (first : KeepsFunctions c₀ c₁) (third : KeepsFunctions c₂ c₃) (es : List EntryParts) (all before between after : List ℕ) (e : EntryParts) (listed : Has es e) (lefts rights : List ℕ) (left_is : lefts ≡ e.left) (right_is : rights ≡ e.right) (left right : ℕ) where
   pub pair_marked :
       IsPartOf c₁ e.test left → (AreMarks c₀ es all before → Brings c₁ es all left lefts) → (AreMarks c₁ es all before → Brings c₁ es all left rights → AreMarks c₂ es all between)
@@ -197,6 +197,6 @@ module _ (c₀ c₁ c₂ d : DiagramsParts) (first : KeepsFunctions c₀ c₁) (
         brings_at_kept c₂ d third es tests₂ universal sure_left open_right atom (rights.at atom (fits ∙ third.tests) (covered atom fits w none));
   }
     where
-      -- what is not left was covered
+      -- an atom that is not left is covered
       covered : (atom : Atom) → IsAtomOf d atom → IsTrue (value_of d whole atom) → IsFalse (value_of d id atom) → IsTrue (value_of c₂ both atom)
       covered atom fits w none = rest_covered (value_of c₂ whole atom) (value_of c₂ both atom) (sym (third.values whole (second.ids whole (first.ids whole whole_is)) atom) ∙ w) (sym (is.value atom fits) ∙ none)

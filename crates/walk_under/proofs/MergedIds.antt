@@ -1,4 +1,4 @@
--- How the entries of a walk are made one pair for each two sets.
+-- Merging of the entries of a walk into one pair for each two sets.
 use Rattle.std.proofs.Common.{◌≡◌, ◌<◌, ◌+◌, ◌||◌, inl, ⊎_elim, ℕ, Bool, true, false, nat_eq, List, [], ◌∷◌, ◌++◌, slice_get, Some, refl, sym, ap, ◌∙◌, subst, arith, append_assoc, append-nil}
 use Rattle.std.specs.Bool.{IsTrue}
 use Rattle.std.proofs.lemmas.Bool.{both_ways, eqb-true, eqb-false, or_cases, or_left, or_right}
@@ -30,7 +30,7 @@ atoms_none c d left right never is = record {
   back = λ atom fits r. absurd r.member;
 }
 
--- an entry with other sets adds none
+-- an entry with other sets adds no atoms
 pub atoms_same : (c d : DiagramsParts) (es : List EntryParts) (e : EntryParts) (left right : List ℕ) (id : ℕ) → ((e.left ≡ left) × (e.right ≡ right) → ⊥) → AreAtomsOf c d es left right id → AreAtomsOf c d (es ++ e ∷ []) left right id
 atoms_same c d es e left right id apart a = record {
   is_id = a.is_id;
@@ -42,7 +42,7 @@ atoms_same c d es e left right id apart a = record {
       (has_append es (e ∷ []) r.entry r.member);
 }
 
--- one with these sets adds its own
+-- an entry with these sets adds its atoms
 pub atoms_more : (c d f : DiagramsParts) (es : List EntryParts) (e : EntryParts) (left right : List ℕ) (id new : ℕ) → KeepsFunctions c d → KeepsFunctions d f → IsDiagramId c e.test → (e.left ≡ left) × (e.right ≡ right)
     → IsDiagramOf f new (λ atom. value_of d id atom || value_of d e.test atom) → AreAtomsOf c d es left right id → AreAtomsOf c f (es ++ e ∷ []) left right new
 atoms_more c d f es e left right id new kept later own same is a = record {
@@ -72,7 +72,7 @@ module _ (c d : DiagramsParts) (kept : KeepsFunctions c d) (es : List EntryParts
   pub reached_is : (left right : List ℕ) (atom : Atom) → IsReachedThere c es left right atom → IsReachedThere d es left right atom
   reached_is left right atom r = record { entry = r.entry; member = r.member; left_is = r.left_is; right_is = r.right_is; holds = kept.values r.entry.test (tests r.entry r.member) atom ∙ r.holds }
 
-  -- by the functions of an earlier collection
+  -- a merged pair is one by the functions of an earlier collection
   pub pair_was : (s : NodeParts) (p : PairParts) → IsMergedPair s d es p → IsMergedPair s c es p
   pair_was s p m = record {
     test = m.test;
@@ -93,7 +93,7 @@ pair_kept s t d es p grows m = record {
   back = λ atom fits r. ap (λ (b : TestTree). truth b atom) (grows.test_trees m.test m.is_id) ∙ m.back atom fits r;
 }
 
--- the test of the diagram of its atoms
+-- a pair with the test of the diagram of its atoms is a merged pair
 pub pair_of_atoms : (s : NodeParts) (c d f : DiagramsParts) (es : List EntryParts) (p : PairParts) (atoms test : ℕ) → KeepsFunctions c d → KeepsFunctions d f → p.test ≡ Some test → AreAtomsOf c d es p.left p.right atoms
     → IsTestFor s f.tests test (value_of f atoms) → IsMergedPair s c es p
 pair_of_atoms s c d f es p atoms test kept later has a is = record {

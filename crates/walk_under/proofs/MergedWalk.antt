@@ -1,4 +1,4 @@
--- The merged pairs of a walk that has ended: they are those of its entries, differ, and are reached along allowed moves.
+-- The merged pairs of an ended walk: they have the sets of its entries, differ, and are reached along allowed moves.
 use Rattle.std.proofs.Common.{◌≡◌, ◌≤◌, inl, inr, ⊎_elim, ℕ, zero, suc, List, [], ◌∷◌, ◌++◌, length, map, slice_get, Option, Some, refl, sym, ap, ◌∙◌, subst, arith}
 use Rattle.std.specs.Bool.{IsTrue}
 use Rattle.std.proofs.lemmas.List.{map-append}
@@ -35,7 +35,7 @@ use Rattle.walk_under.proofs.MergedIds.{has_pair_more}
 
 -- ---- the first pair
 
--- the first pair is that of the first entry
+-- the first pair has the sets of the first entry
 pub record StartsWith (es : List EntryParts) (ps : List PairParts) : Type 0 where
   pub entry : EntryParts
   pub at : slice_get es 0 ≡ Some entry
@@ -58,7 +58,7 @@ starts_with es (p ∷ ps) e at firsts h = go firsts.0.place refl
         record { entry = e; at = at; pair = p; rest = ps; is = refl; left_is = ap (λ (x : EntryParts). x.left) same ∙ firsts.0.left_is; right_is = ap (λ (x : EntryParts). x.right) same ∙ firsts.0.right_is }
     go (suc k) z = absurd (none_there e (firsts.0.earlier 0 e (omega (arith, z)) at))
 
--- each pair is that of an entry
+-- each pair has the sets of an entry
 pub of_entry : (es : List EntryParts) (before ps : List PairParts) → AreFirst es before ps → (p : PairParts) → Has ps p → (e : EntryParts) × Has es e × (e.left ≡ p.left) × (e.right ≡ p.right)
 of_entry es before [] firsts p h = absurd h
 of_entry es before (q ∷ ps) firsts p h =
@@ -69,7 +69,7 @@ of_entry es before (q ∷ ps) firsts p h =
     (of_entry es (before ++ q ∷ []) ps firsts.1 p)
     h
 
--- a later pair has other ids than one before it
+-- a later pair has other ids than an earlier one
 later_differs : (es : List EntryParts) (before ps : List PairParts) → AreFirst es before ps → (r p : PairParts) → Has before r → Has ps p → r.left ≡ p.left → r.right ≡ p.right → ⊥
 later_differs es before [] firsts r p m h l s = absurd h
 later_differs es before (q ∷ ps) firsts r p m h l s =
@@ -85,7 +85,7 @@ later_differs es before (q ∷ ps) firsts r p m h l s =
     (λ k. later_differs es (before ++ q ∷ []) ps firsts.1 r p (has_left before (q ∷ []) r m) k l s)
     h
 
--- ---- of a walk
+-- ---- the pairs of a walk
 
 module _ (s : Setting) (t : NodeParts) (grows : Grows s.store t) (sound : AreNodes t) (w : Walk) (done : ℕ) (u : IsUnderWay s w done) where
   abbrev pub d : DiagramsParts
@@ -106,7 +106,7 @@ module _ (s : Setting) (t : NodeParts) (grows : Grows s.store t) (sound : AreNod
   fits_of : (atom : Atom) → length atom ≡ s.problem.tests → IsAtomOf d atom
   fits_of atom wide = wide ∙ sym u.tests
 
-  -- the sets of a pair of an entry are those of the entry
+  -- a pair with the ids of an entry has the sets of the entry
   pair_sets : (e : EntryParts) (p : PairParts) → Has ids e → e.left ≡ p.left → e.right ≡ p.right → (tested p).sets ≡ pair_of s.store e
   pair_sets e p h l r = λ i. record { left = lefts i; right = rights i }
     where
@@ -117,7 +117,7 @@ module _ (s : Setting) (t : NodeParts) (grows : Grows s.store t) (sound : AreNod
       rights = ap (terms_of t) (sym r) ∙ terms_kept s.store t d d keeps e.right (u.entries e h).right
 
   module _ (ps : List PairParts) (m : AreMergedIds t d ids ps) where
-    -- the truth of the test of a pair
+    -- the test of a pair has the truth of the tree of its id
     pair_truth : (p : PairParts) (h : Has ps p) (atom : Atom) → truth (tested p).test atom ≡ truth (test_tree_at t (m.each p h).test) atom
     pair_truth p h atom = ap (λ (o : Option ℕ). truth (test_of t o) atom) (m.each p h).has_test
 
@@ -169,7 +169,7 @@ module _ (s : Setting) (t : NodeParts) (grows : Grows s.store t) (sound : AreNod
           );
     }
 
-    -- ---- they differ
+    -- ---- the pairs differ
 
     pub pair_set_ids : (p : PairParts) → Has ps p → IsIdSet t d.tests p.left × IsIdSet t d.tests p.right
     pair_set_ids p h =
@@ -197,10 +197,10 @@ module _ (s : Setting) (t : NodeParts) (grows : Grows s.store t) (sound : AreNod
     pub differ : AllDiffer (sets_of (map tested ps))
     differ = differ_after [] ps m.firsts (λ p h. h)
 
-    -- ---- they are reached
+    -- ---- the pairs are reached
 
     module _ (before : List PairParts) (within : (p : PairParts) → Has before p → Has ps p) (p : PairParts) (member : Has ps p) (f : IsFirst ids before p) (start : HasPairOf before starts.entry) where
-      -- by an entry after the first
+      -- a pair of an entry after the first is reached
       from_later : (k : ℕ) → slice_get ids (suc k) ≡ Some f.entry → ((j : ℕ) (e : EntryParts) → j ≤ k → slice_get ids j ≡ Some e → HasPairOf before e) → IsReachedPair s.shorts s.problem.tests s.problem.actions (map tested before) (tested p)
       from_later k at earlier =
           let own : Has ids f.entry = has_at ids (suc k) f.entry at in

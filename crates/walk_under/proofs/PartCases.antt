@@ -1,4 +1,4 @@
--- How a region is split by the guards of items, one item after the other.
+-- Splitting of a region by the guards of items, one item after the other.
 use Rattle.std.proofs.Common.{◌≡◌, ◌≢◌, ◌⊎◌, ◌+◌, ◌<◌, inl, inr, ⊎_elim, ℕ, zero, suc, Bool, true, false, not, ◌&&◌, ◌||◌, cond, List, [], ◌∷◌, ◌++◌, length, take, get_or, Some, Result, Ok, Err, OnOk, refl, sym, ap, ◌∙◌, subst}
 use Rattle.std.specs.Bool.{IsTrue, IsFalse}
 use Rattle.std.proofs.lemmas.Bool.{and_parts, and_from, not-true, or_left, or_right, both_ways, false_from_ne_true, true_from_ne_false, true≢false}
@@ -67,7 +67,7 @@ module _ (c d : DiagramsParts) (kept : KeepsFunctions c d) where
       ap (λ b. cond b (i.target ∷ chosen d side is atom) (chosen d side is atom)) (guard_value side i (ids i (inl refl)) atom)
       ∙ ap (λ ts. cond (value_of c (guard_of side i) atom) (i.target ∷ ts) ts) (chosen_kept side is (λ j h. ids j (inr h)) atom)
 
-  -- ---- where diagrams are added
+  -- ---- when diagrams are added
 
   pub part_kept : (items : List Item) (whole : ℕ) (p : Part) → IsPart c items whole p → IsPart d items whole p
   part_kept items whole p part = record {
@@ -149,7 +149,7 @@ module _ (c₀ c₁ c₂ : DiagramsParts) (first : KeepsFunctions c₀ c₁) (se
           ∙ sym (chosen_kept c₀ c₂ both_kept Right (items ++ i ∷ []) all_guards atom);
     }
 
--- ---- one part more in a list
+-- ---- an additional part in a list
 
 pub parts_pushed : (d : DiagramsParts) (items : List Item) (whole : ℕ) (ps new : List Part) (p : Part) → new ≡ ps ++ p ∷ [] → AreParts d items whole ps → IsPart d items whole p → IsSomewhereTrue d p.region → AreParts d items whole new
 parts_pushed d items whole ps new p e parts part some x h =
@@ -173,17 +173,17 @@ part_at_last d ps p atom h =
     (λ l. ⊎_elim (λ s. inr (subst (λ (y : Part). IsTrue (value_of d y.region atom)) (sym s) h.holds)) (λ a. absurd a) l)
     (has_append ps (p ∷ []) h.part h.member)
 
--- no atom is one of the empty part
+-- the empty part has no atom
 pub none_there : (d : DiagramsParts) (never id : ℕ) (atom : Atom) → IsDiagramOf d never (λ a. false) → id ≡ never → IsAtomOf d atom → IsTrue (value_of d id atom) → ⊥
 none_there d never id atom is e fits h = true≢false (sym h ∙ ap (λ i. value_of d i atom) e ∙ is.value atom fits)
 
--- a region that is not the empty one has an atom
+-- a region other than the empty one has an atom
 pub region_somewhere : (d : DiagramsParts) → IsReduced d → (never id : ℕ) → IsDiagramOf d never (λ a. false) → IsDiagramId d id → id ≢ never → IsSomewhereTrue d id
 region_somewhere d reduced never id is own ne =
     let a = different_apart d reduced id never own is.in_range ne in
     record { atom = a.atom; fits = a.fits; holds = true_from_ne_false (value_of d id a.atom) (λ f. a.apart (f ∙ sym (is.value a.atom a.fits))) }
 
--- one value of a guard and then the other
+-- the case of one value of a guard, and then of the other
 pub both_values : {H₀ H₁ H₂ P₀ P₁ : Type 0} (g₀ g₁ : Bool) → g₁ ≡ g₀ → (P₀ → P₁) → (H₀ ⊎ (P₀ × (g₀ ≡ false)) → H₁) → (H₁ ⊎ (P₁ × (g₁ ≡ true)) → H₂) → H₀ ⊎ P₀ → H₂
 both_values true g₁ e more first second h = ⊎_elim (λ old. second (inl (first (inl old)))) (λ p. second (inr (more p, e))) h
 both_values false g₁ e more first second h = ⊎_elim (λ old. second (inl (first (inl old)))) (λ p. second (inl (first (inr (p, refl))))) h
@@ -219,25 +219,25 @@ alike_chosen d (i ∷ is) atom same =
     ap (λ b. cond b (i.target ∷ chosen d Left is atom) (chosen d Left is atom)) (same i (inl refl))
     ∙ ap (λ ts. cond (value_of d i.right atom) (i.target ∷ ts) ts) (alike_chosen d is atom (λ j h. same j (inr h)))
 
--- an item that is read at a place
+-- an item read in range is in the list
 pub read_item : {X : Type 0} (xs : List X) (k : ℕ) (x : X) → k < length xs → x ≡ get_or xs k x → Has xs x
 read_item xs k x lt is = has_at xs k x (slice_get-get_or xs k x lt ∙ ap Some (sym is))
 
--- the first so many, and one more
+-- what holds for the first k items and the next one holds for the first k + 1 items
 pub front_more : {X : Type 0} (P : List X → Type 0) (xs : List X) (k : ℕ) (x : X) → k < length xs → x ≡ get_or xs k x → P (take k xs ++ x ∷ []) → P (take (k + 1) xs)
 front_more P xs k x lt is h = subst P (sym (take_item xs k x lt is)) h
 
--- a fact that holds in any case
+-- a fact that holds for any result
 pub always_ok : {T E P : Type 0} (r : Result T E) → P → OnOk r P
 always_ok (Ok v) p = p
 always_ok (Err e) p = tt
 
--- two facts of one answer
+-- two facts about one result
 pub both_ok : {T E : Type 0} (P Q : Type 0) (r : Result T E) → OnOk r P → OnOk r Q → OnOk r (P × Q)
 both_ok P Q (Ok v) p q = (p, q)
 both_ok P Q (Err e) p q = tt
 
--- the whole region, before any item
+-- without items, the whole region is a part
 pub first_part : (d : DiagramsParts) (region : ℕ) (p : Part) → p.region ≡ region → p.left.items ≡ [] → p.right.items ≡ [] → IsDiagramId d region → IsPart d [] region p
 first_part d region p same lefts rights is = record {
   is_id = subst (IsDiagramId d) (sym same) is;
@@ -254,7 +254,7 @@ first_parts d region p ps none pushed empty same lefts rights is some = (
   (λ atom h. part_at_pushed d none ps p atom pushed (inr (subst (λ r. IsTrue (value_of d r atom)) (sym same) h))),
 )
 
--- ---- items whose guards are alike where a diagram is false
+-- ---- items whose guards are equal if a diagram is false
 
 abbrev pub AreAlike : DiagramsParts → DiagramsParts → ℕ → List Item → Type 0
 AreAlike c d id items = (atom : Atom) → IsAtomOf d atom → IsFalse (value_of d id atom) → (i : Item) → Has items i → value_of c i.left atom ≡ value_of c i.right atom
@@ -287,7 +287,7 @@ region_part d e kept region apart id region_is is = record {
   within = λ atom fits h. kept.values region region_is atom ∙ (and_parts (value_of d region atom) (value_of d apart atom) (sym (is.value atom fits) ∙ h)).0;
 }
 
--- a member of the first so many is one of all
+-- a member of the first k is a member of the list
 pub front_has : {X : Type 0} (xs : List X) (k : ℕ) (x : X) → Has (take k xs) x → Has xs x
 front_has [] zero x h = absurd h
 front_has [] (suc k) x h = absurd h

@@ -1,5 +1,5 @@
--- A string refutes exactly where its moves are allowed and the closed sides of the hypotheses that do not count as short
--- differ on it.
+-- A string refutes the problem if and only if its moves are allowed and the closed sides of the problem with only the
+-- hypotheses that do not count as short differ on it.
 use Rattle.std.proofs.Common.{◌↔◌, List}
 use Rattle.kat_model.specs.Trees.{Term}
 use Rattle.kat_model.specs.Problems.{ProblemParts}

@@ -1,4 +1,4 @@
--- How a walk over ids begins and ends, and how many entries it can list.
+-- The start and the end of a walk over ids, and a bound on the number of its entries.
 use Rattle.std.proofs.Common.{◌≡◌, ◌≤◌, ◌+◌, ⊎_elim, ℕ, List, [], ◌∷◌, length, None, refl, sym, ap, ◌∙◌, subst, arith}
 use mathlib.Core.Path.{ap₂}
 use Rattle.std.specs.Option.{option_map}
@@ -28,7 +28,7 @@ use Rattle.walk_under.proofs.AllowedImages.{allowed_atom}
 use Rattle.walk_under.proofs.Taking.{universal_kept}
 use Rattle.partial_derivs.proofs.Kept.{IsTermOf-kept}
 
--- ---- how many
+-- ---- the number of entries
 
 limit_of : (s : Setting) (d : DiagramsParts) (es : List EntryParts) (done : ℕ) → d.tests ≡ s.problem.tests → IsTestedWalk s.shorts s.problem (entries_of s.store d es) done → walk_limit s.store d.tests es ≡ 1 + entry_limit s.problem
 limit_of s d [] done tests walk = absurd (let e = walk.first in cc)
@@ -48,7 +48,7 @@ few_entries s w done u =
 
 -- ---- the end
 
--- where no entry is left, all are taken
+-- if no entry is left, all are processed
 walk_ended : (shorts : List Term) (q : ProblemParts) (es : List TestedEntry) (done : ℕ) → IsTestedWalk shorts q es done → length es ≤ done → IsTestedWalk shorts q es (length es)
 walk_ended shorts q es done walk past = record {
   start = walk.start;

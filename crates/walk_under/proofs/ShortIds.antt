@@ -1,4 +1,4 @@
--- The ids of the short hypotheses of a problem: one hypothesis after the other.
+-- The ids of the short hypotheses of a problem, one hypothesis after the other.
 use Rattle.std.proofs.Common.{◌≡◌, ◌<◌, ◌+◌, inl, inr, ⊎_elim, ℕ, suc, Bool, true, false, cond, List, [], ◌∷◌, ◌++◌, length, map, drop, get_or, sym, ap, ◌∙◌, subst, arith, append_assoc, refl}
 use mathlib.Core.Path.{ap₂}
 use Rattle.std.specs.List.{filter}
@@ -14,12 +14,12 @@ use Rattle.term_nodes.specs.NodeTrees.{tree_at}
 use Rattle.term_nodes.specs.Growth.{Grows}
 use Rattle.partial_derivs.specs.Moves.{IsTermOf}
 
--- each of terms in range is
+-- each of a list of terms in range is in range
 pub in_range_each : (tests actions : ℕ) (es : List Term) → AreInRange tests actions es → (e : Term) → Has es e → IsInRange tests actions e
 in_range_each tests actions [] all e h = absurd h
 in_range_each tests actions (x ∷ es) all e h = ⊎_elim (λ s. subst (IsInRange tests actions) s all.0) (in_range_each tests actions es all.1 e) h
 
--- ---- the short ones among the rest
+-- ---- the short hypotheses among the rest
 
 module _ {X : Type 0} (f : X → Term) (xs : List X) (k : ℕ) (x : X) (lt : k < length xs) (is : x ≡ get_or xs k x) (done : List Term) (all : done ++ filter is_short (map f (drop k xs)) ≡ filter is_short (map f xs)) where
   abbrev rest : List Term
@@ -39,7 +39,7 @@ module _ {X : Type 0} (f : X → Term) (xs : List X) (k : ℕ) (x : X) (lt : k <
   pub short_past : is_short (f x) ≡ false → done ++ rest ≡ filter is_short (map f xs)
   short_past e = split false e
 
--- ---- where the store grows
+-- ---- when the store grows
 
 module _ (s t : NodeParts) (grows : Grows s t) (n : ℕ) where
   pub id_kept : (i : ℕ) → IsTermOf s n i → IsTermOf t n i

@@ -1,4 +1,5 @@
--- The string of steps that lead to a pair that does not accept alike refutes, and none is shorter. It is made from its end.
+-- The string of the steps to a pair whose sets accept different atoms refutes the problem, and no shorter string does.
+-- It is built from its end.
 use Rattle.std.proofs.Common.{◌≡◌, ◌≢◌, ◌+◌, ◌≤◌, ◌<◌, ◌⊎◌, ⊎_elim, ℕ, zero, suc, List, [], ◌∷◌, length, slice_get, Some, None, sym, ap, ◌∙◌, subst, arith}
 use Rattle.std.specs.Bool.{IsTrue}
 use Rattle.std.proofs.lemmas.Option.{same_Some}
@@ -23,12 +24,12 @@ use Rattle.walk_under.proofs.RefutedByAllowed.{refuted_by_allowed}
 abbrev pub SetsDiffer : SetPair → GuardedString → Type 0
 SetsDiffer p x = set_accepts p.left x.first x.rest ≢ set_accepts p.right x.first x.rest
 
--- the string from this atom on, by the action to the first atom of the string
+-- the string with this atom and this action before it
 abbrev pub preceded : Atom → ℕ → GuardedString → GuardedString
 preceded atom act x = record { first = atom; rest = record { act = act; atom = x.first } ∷ x.rest }
 
--- The entry at place k does not accept the string alike, which is allowed and begins at one of its atoms. With as many
--- moves as lead to the entry before it, it has n.
+-- Exactly one set of the entry at place k accepts the string, which is allowed and begins at one of the entry's atoms.
+-- The string has n moves together with the moves that lead to the entry.
 pub record IsSuffix (shorts : List Term) (q : ProblemParts) (es : List TestedEntry) (n k : ℕ) (x : GuardedString) : Type 0 where
   pub entry : TestedEntry
   pub at : slice_get es k ≡ Some entry
@@ -39,7 +40,7 @@ pub record IsSuffix (shorts : List Term) (q : ProblemParts) (es : List TestedEnt
   pub differ : SetsDiffer entry.pair x
 
 module _ (shorts : List Term) (q : ProblemParts) (es : List TestedEntry) (done : ℕ) (walk : IsTestedWalk shorts q es done) where
-  -- an entry with an origin
+  -- an entry with an origin comes from a listed entry
   pub origin_at : (k : ℕ) (e : TestedEntry) (o : TestedOrigin) → slice_get es k ≡ Some e → e.origin ≡ Some o → ComesFrom shorts q es k e
   origin_at zero e o at is =
       let same : first_entry q walk.start ≡ e = same_Some (first_entry q walk.start) e (sym walk.first ∙ at) in
@@ -49,12 +50,12 @@ module _ (shorts : List Term) (q : ProblemParts) (es : List TestedEntry) (done :
       let c = walk.origins k e at in
       record { origin = c.origin; is = c.is; from = c.from; at = c.at; earlier = let l = c.earlier in omega arith; of_actions = c.of_actions; level = c.level; region = c.region; sources = c.sources; somewhere = c.somewhere }
 
-  -- an entry without one is the first
+  -- an entry without an origin is the first
   pub no_origin : (k : ℕ) (e : TestedEntry) → slice_get es k ≡ Some e → e.origin ≡ None → first_entry q walk.start ≡ e
   no_origin zero e at is = same_Some (first_entry q walk.start) e (sym walk.first ∙ at)
   no_origin (suc k) e at is = let c = walk.origins k e at in let none : None ≡ Some c.origin = sym is ∙ c.is in absurd cc
 
-  -- one step back, from an atom of the region to an entry with the sets and the level of the one before
+  -- one backward step: from an atom of the region to an entry with the sets and the level of the previous one
   pub suffix_step : (n k : ℕ) (x : GuardedString) (s : IsSuffix shorts q es n k x) (o : TestedOrigin) → s.entry.origin ≡ Some o → (from : TestedEntry) → slice_get es o.place ≡ Some from → (atom : Atom) → length atom ≡ q.tests → IsTrue (o.region atom)
       → IsAllowedMove shorts atom (record { act = o.act; atom = x.first }) → (place : ℕ) (e : TestedEntry) → slice_get es place ≡ Some e → e.pair ≡ from.pair → e.level ≡ from.level → IsTrue (e.test atom) → IsSuffix shorts q es n place (preceded atom o.act x)
   suffix_step n k x s o is from here atom wide there allowed place e at sets level holds =
@@ -82,7 +83,7 @@ module _ (shorts : List Term) (q : ProblemParts) (es : List TestedEntry) (done :
             ∙ set_accepts_same (set_next c.from.pair.right atom o.act) s.entry.pair.right x.first x.rest (region.rights atom wide there)));
       }
 
-  -- an atom of the test of the entry that is being taken, at which it does not accept alike
+  -- the string of one atom, at which exactly one set of the entry being processed accepts
   pub suffix_start : (e : TestedEntry) (atom : Atom) → slice_get es done ≡ Some e → length atom ≡ q.tests → IsTrue (e.test atom) → IsAllowedAtom shorts atom → set_out e.pair.left atom ≢ set_out e.pair.right atom
       → IsSuffix shorts q es e.level done (record { first = atom; rest = [] })
   suffix_start e atom at wide there allowed ne = record {
@@ -95,7 +96,7 @@ module _ (shorts : List Term) (q : ProblemParts) (es : List TestedEntry) (done :
     differ = ne;
   }
 
--- at the first entry the string is whole
+-- at the first entry the string is complete
 module _ (whole : ProblemParts) (shorts longs : List Term) (split : AreSplit whole.hyps shorts longs) (es : List TestedEntry) (done : ℕ) (walk : IsTestedWalk shorts (with_hyps whole longs) es done) (last : TestedEntry) (here : slice_get es done ≡ Some last) where
   pub suffix_end : (k : ℕ) (x : GuardedString) (s : IsSuffix shorts (with_hyps whole longs) es last.level k x) → s.entry.origin ≡ None → IsShortest whole x
   suffix_end k x s none = record {

@@ -1,4 +1,4 @@
--- A walk that is under way stays so where diagrams are added, and lists entries.
+-- A walk remains under way when diagrams are added; and its entries by terms and by ids.
 use Rattle.std.proofs.Common.{◌≡◌, inl, inr, ⊎_elim, ℕ, Bool, true, List, [], ◌∷◌, slice_get, Option, Some, None, refl, sym, ap, ◌∙◌, subst, arith}
 use mathlib.Core.Path.{ap₂}
 use Rattle.std.specs.Option.{option_map}
@@ -87,7 +87,7 @@ module _ (store : NodeParts) (c d : DiagramsParts) (kept : KeepsFunctions c d) w
 
 -- ---- by terms
 
--- where as many moves reached the sets of an entry
+-- the sets of the entry were reached at the atom by equally many moves, by terms
 pub listed_at : (store : NodeParts) (d : DiagramsParts) (es : List EntryParts) (other : EntryParts) (atom : Atom) → IsLevelAtom d es other atom → IsListedAt (entries_of store d es) (entry_of store d other) atom
 listed_at store d es other atom l = record {
   entry = entry_of store d l.entry;
@@ -161,7 +161,7 @@ module _ (store : NodeParts) (sound : AreNodes store) (n : ℕ) where
   one_id_set xs ys first second same =
       one_list xs ys first.ascending second.ascending (same_has xs ys first.there second.there same) (same_has ys xs second.there first.there (λ e. ((same e).1, (same e).0)))
 
--- where diagrams alone are added
+-- when only diagrams are added
 pub under_way_later : (s : Setting) (done : ℕ) (w : Walk) (d : DiagramsParts) → KeepsFunctions w.diagrams d → IsUnderWay s w done → IsUnderWay s (record w { diagrams = d }) done
 under_way_later s done w d kept u = under_way_kept s done w (record w { diagrams = d }) kept refl refl refl (allowance_kept w.diagrams d kept s.shorts s.problem.actions w.moves u.allowance) u
 
@@ -180,7 +180,7 @@ module _ (s : Setting) (w : Walk) (done : ℕ) (u : IsUnderWay s w done) where
   abbrev ids : List EntryParts
   ids = w.listing.entries.items
 
-  -- have the same ids
+  -- entries with the same sets have the same ids
   pub same_ids : (e f : EntryParts) → Has ids e → Has ids f → pair_of s.store e ≡ pair_of s.store f → (e.left ≡ f.left) × (e.right ≡ f.right)
   same_ids e f h k same = (
     one_id_set s.store u.sound w.diagrams.tests e.left f.left (u.entries e h).left (u.entries f k).left (members (ap (λ (x : SetPair). x.left) same)),
@@ -190,7 +190,7 @@ module _ (s : Setting) (w : Walk) (done : ℕ) (u : IsUnderWay s w done) where
       members : {xs ys : List Term} → xs ≡ ys → SameMembers xs ys
       members {xs} {ys} e x = (subst (λ l. Has l x) e, subst (λ l. Has l x) (sym e))
 
-  -- what is listed by terms is so by ids
+  -- what is listed by terms is listed by ids
   pub level_atom : (e : EntryParts) → Has ids e → (atom : Atom) → IsListedAt (entries_of s.store w.diagrams ids) (entry_of s.store w.diagrams e) atom → IsLevelAtom w.diagrams ids e atom
   level_atom e h atom l =
       let f = has_map (entry_of s.store w.diagrams) ids l.entry l.member in

@@ -1,4 +1,4 @@
--- Tests of a store that stand for functions: of one node, of two tests, and by a primitive test.
+-- Tests of a store that represent functions of atoms: for one node, for two tests, and by a primitive test.
 use Rattle.std.proofs.Common.{◌≡◌, ℕ, Bool, true, false, cond, not, ◌&&◌, ◌||◌, length, get_or, refl, sym, ap, ◌∙◌, subst, Result, Ok, Err, IfOk}
 use Rattle.kat_model.specs.Trees.{TestTree, complement, meet, join}
 use Rattle.kat_model.specs.Steps.{Atom, truth}
@@ -9,13 +9,13 @@ use Rattle.term_nodes.specs.NodeTrees.{test_tree_at, test_tree_in}
 use Rattle.term_nodes.specs.Growth.{Grows}
 use Rattle.walk_under.specs.Working.StoredTests.{IsTestFor, IsConstantTest}
 
--- what is told of a node that was added
+-- what holds for each id with the tree of a node holds for the id of an interned node
 pub interned : {E : Type 0} (s t : NodeParts) (node : TestNode ℕ) (r : Result ℕ E) (P : ℕ → Type 0) → ((id : ℕ) → IsTest t id → test_tree_at t id ≡ test_tree_in s node → P id)
     → IfOk r (λ id. test_tree_at t id ≡ test_tree_in s node) → IfOk r (IsTest t) → IfOk r P
 interned s t node (Ok id) P f tree is = f id is tree
 interned s t node (Err e) P f tree is = tt
 
--- where the store grows
+-- when the store grows
 pub test_kept : (s t : NodeParts) (n id : ℕ) (f : Atom → Bool) → Grows s t → IsTestFor s n id f → IsTestFor t n id f
 test_kept s t n id f grows is = record {
   is_id = grows.test_numbers id is.is_id;
@@ -27,7 +27,7 @@ test_kept s t n id f grows is = record {
 pub test_same : (s : NodeParts) (n id : ℕ) (f g : Atom → Bool) → ((atom : Atom) → length atom ≡ n → f atom ≡ g atom) → IsTestFor s n id f → IsTestFor s n id g
 test_same s n id f g same is = record { is_id = is.is_id; in_range = is.in_range; value = λ atom wide. is.value atom wide ∙ same atom wide }
 
--- by its tree
+-- a test, by its tree
 pub test_by_tree : (s : NodeParts) (n id : ℕ) (b : TestTree) (f : Atom → Bool) → IsTest s id → test_tree_at s id ≡ b → IsTestInRange n b → ((atom : Atom) → length atom ≡ n → truth b atom ≡ f atom) → IsTestFor s n id f
 test_by_tree s n id b f is tree range value = record {
   is_id = is;
@@ -35,7 +35,7 @@ test_by_tree s n id b f is tree range value = record {
   value = λ atom wide. ap (λ (c : TestTree). truth c atom) tree ∙ value atom wide;
 }
 
--- ---- of two tests
+-- ---- two tests
 
 and-true : (x : Bool) → x ≡ (x && true)
 and-true true = refl
@@ -85,7 +85,7 @@ module _ (s : NodeParts) (n a b : ℕ) (f g : Atom → Bool) (first : IsTestFor 
   pub either_second_false : IsConstantTest s b false → IsTestFor s n a (λ atom. f atom || g atom)
   either_second_false c = test_same s n a f (λ atom. f atom || g atom) (λ atom wide. or-false (f atom) ∙ ap (λ x. f atom || x) (sym (second_constant false c atom wide))) first
 
-  -- a node of both
+  -- a node of the conjunction
   pub both_node : (t : NodeParts) (id : ℕ) → IsTest t id → test_tree_at t id ≡ meet (test_tree_at s a) (test_tree_at s b) → IsTestFor t n id (λ atom. f atom && g atom)
   both_node t id is tree =
       test_by_tree t n id (meet (test_tree_at s a) (test_tree_at s b)) (λ atom. f atom && g atom) is tree (first.in_range, second.in_range)
@@ -100,7 +100,7 @@ pub not_node : (s t : NodeParts) (n a id : ℕ) (f : Atom → Bool) → IsTestFo
 not_node s t n a id f own is tree =
     test_by_tree t n id (complement (test_tree_at s a)) (λ atom. not (f atom)) is tree own.in_range (λ atom wide. ap not (own.value atom wide))
 
--- ---- by a primitive test
+-- ---- a choice by a primitive test
 
 choice_high : (p f g : Bool) → g ≡ true → (p || f) ≡ cond p g f
 choice_high true f g e = sym e
@@ -132,6 +132,6 @@ chosen_both t n test id f g is =
     test_same t n id (λ atom. (get_or atom test false && g atom) || (not (get_or atom test false) && f atom)) (λ atom. cond (get_or atom test false) (g atom) (f atom))
     (λ atom wide. choice_both (get_or atom test false) (f atom) (g atom)) is
 
--- constants where the store grows
+-- a test that is constant in a grown store was constant before
 pub constant_kept : (s t : NodeParts) (id : ℕ) (v : Bool) → Grows s t → IsTest s id → IsConstantTest t id v → IsConstantTest s id v
 constant_kept s t id v grows is c atom = ap (λ (b : TestTree). truth b atom) (sym (grows.test_trees id is)) ∙ c atom

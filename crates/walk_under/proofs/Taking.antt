@@ -1,4 +1,5 @@
--- A pair is taken: the steps of its sets, an atom at which they do not accept alike, and the actions one after the other.
+-- Processing of a pair: the steps of its sets, an atom at which exactly one set accepts, and one action after the
+-- other.
 use Rattle.std.proofs.Common.{◌≡◌, ◌≢◌, ◌≤◌, ◌<◌, ◌+◌, inl, inr, ⊎_elim, ℕ, zero, suc, Bool, true, false, ◌&&◌, List, [], ◌∷◌, ◌++◌, get_or, slice_get, All, Option, Some, None, refl, sym, ap, ◌∙◌, subst, arith}
 use mathlib.Core.Path.{ap₂}
 use Rattle.std.specs.Bool.{IsTrue}
@@ -42,7 +43,7 @@ use Rattle.walk_under.proofs.Visiting.{joined_grown}
 
 -- ---- levels
 
--- no more moves lead to an entry than there are entries before it
+-- the level of an entry is at most its place
 level_below : (shorts : List Term) (q : ProblemParts) (es : List TestedEntry) (done : ℕ) → IsTestedWalk shorts q es done → (n k : ℕ) (e : TestedEntry) → k < n → slice_get es k ≡ Some e → e.level ≤ k
 level_below shorts q es done walk zero k e l at = absurd (omega arith)
 level_below shorts q es done walk (suc n) zero e l at =
@@ -206,7 +207,7 @@ module _ (s : Setting) (old mid : Walk) (turn : Turn) (from : EntryParts) (acts 
       own : AreJoinedAfter s.shorts s.problem (entries_of s.store new.diagrams new.listing.entries.items) (suc from.level) (pair_of s.store from) (value_of old.diagrams turn.test) act
       own atom wide there after wide' allowed = v.joined atom wide (m.kept.values turn.test test_is atom ∙ there) after wide' allowed
 
--- ---- one pair more is taken
+-- ---- an additional pair is processed
 
 pub pair_taken : (s : Setting) (old new : Walk) (turn : Turn) (from : EntryParts) (steps : BothSteps) (acts : List ℕ) (test : ℕ) → IsTaking s old turn.place from steps → IsTurn old turn from → test ≡ from.test → AcceptAlike old.diagrams test steps → ((a : ℕ) → a < s.problem.actions → Has acts a) → HasStepped s old new turn from acts → IsUnderWay s new (turn.place + 1)
 pair_taken s old new turn from steps acts test t is_turn same alike all h = record {
@@ -231,7 +232,7 @@ pair_taken s old new turn from steps acts test t is_turn same alike all h = reco
     test_is : IsDiagramId old.diagrams from.test
     test_is = (t.under_way.entries from member).test
 
-    -- the entry was reached at some of the atoms of the turn
+    -- the atoms of the entry are atoms of the turn
     in_turn : (atom : Atom) → IsAtomOf old.diagrams atom → IsTrue (value_of old.diagrams from.test atom) → IsTrue (value_of old.diagrams turn.test atom)
     in_turn atom fits there = is_turn.atoms.back atom fits (record { entry = from; member = member; is = record { left = refl; right = refl; level = refl }; holds = there })
 
@@ -246,7 +247,7 @@ pair_taken s old new turn from steps acts test t is_turn same alike all h = reco
       steps = λ a l atom wide there after wide' allowed. h.joined a (all a l) atom wide (in_turn atom (wide ∙ sym t.under_way.tests) (was atom there)) after wide' allowed;
     }
 
--- ---- where diagrams alone are added
+-- ---- when only diagrams are added
 
 module _ (s : Setting) (w x : Walk) (place : ℕ) (e : EntryParts) (steps : BothSteps) (kept : KeepsFunctions w.diagrams x.diagrams) (t : IsTaking s w place e steps) where
   pub taking_later : x.listing ≡ w.listing → x.moves ≡ w.moves → x.derivatives ≡ w.derivatives → IsTaking s x place e steps

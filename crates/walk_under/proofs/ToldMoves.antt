@@ -1,4 +1,4 @@
--- The bars of the moves of short hypotheses tell which moves they accept.
+-- The bars of the moves of short hypotheses determine which moves the hypotheses accept.
 use Rattle.std.proofs.Common.{◌≡◌, ◌↔◌, ℕ, true, false, List, [], ◌∷◌, refl, ⊎_elim, sym, ap, ◌∙◌}
 use Rattle.std.specs.Bool.{IsTrue}
 use Rattle.std.proofs.lemmas.Bool.{or_left, or_cases, false≢true}
@@ -16,7 +16,7 @@ use Rattle.walk_under.specs.declared.bars.Bar.{Bar}
 use Rattle.walk_under.specs.Working.Bars.{IsBarred}
 use Rattle.walk_under.specs.Working.Asking.{AreBarsOf}
 
--- a set of one term accepts what the term does
+-- a set of one term accepts what the term accepts
 single_out : (e : Term) (a : Atom) → set_out (e ∷ []) a ≡ true → out e a ≡ true
 single_out e a h = ⊎_elim (λ t. t) (λ f. absurd (false≢true f)) (or_cases (out e a) false h)
 

@@ -1,4 +1,4 @@
--- The certificate of the merged pairs of a walk that has ended decides the question, and so does the string to a difference.
+-- The certificate of the merged pairs of an ended walk decides the problem, and so does the string to a difference.
 use Rattle.std.proofs.Common.{◌≡◌, ◌≤◌, ◌+◌, ◌*◌, ◌^◌, ⊎_elim, ℕ, List, [], ◌∷◌, ◌++◌, length, map, sym, ap, ◌∙◌, subst}
 use Rattle.std.specs.Bool.{IsTrue}
 use Rattle.std.specs.Option.{option_to_list}
@@ -50,7 +50,7 @@ use Rattle.walk_under.proofs.Few.{entry_reached}
 use Rattle.walk_under.proofs.FewMerged.{merged_few}
 use Rattle.walk_under.proofs.MergedWalk.{es_of, tested, of_entry, pair_set_ids, merged, differ, reached}
 
--- each of the pairs that are reached is somewhere
+-- the test of each reached pair is true at some atom
 reached_somewhere : (shorts : List Term) (tests actions : ℕ) (before ps : List TestedPair) → AreReachedPairs shorts tests actions before ps → (p : TestedPair) → Has ps p → (atom : Atom) × (length atom ≡ tests) × IsTrue (truth p.test atom)
 reached_somewhere shorts tests actions before [] r p h = absurd h
 reached_somewhere shorts tests actions before (q ∷ ps) r p h =
@@ -170,7 +170,7 @@ module _ (whole : ProblemParts) (problem : IsProblem whole) (start t : NodeParts
       pub certified : IsDecisionUnder whole (Equal c)
       certified = (accepted_under_same whole (short_hyps whole) (long_hyps whole) pairs (split_by_degree whole) accepted, is_concise)
 
--- the ids of the closed sides in a store that has grown
+-- the ids of the closed sides, in a grown store
 pub closed_known : (s t : NodeParts) (q : ProblemParts) → IsProblem q → (ids : ClosedIds) → Grows s t → AreNodes t → AreIdsOf s (closed q) ids → AreClosedIds q t ids
 closed_known s t q problem ids grows sound are =
     let later = ids_kept s t (closed q) ids grows are in

@@ -1,4 +1,4 @@
--- A step of the pair that is taken: what is opened of a part, the pair that is listed, and the parts of a region.
+-- A step of the pair that is processed: the open atoms of a part, the pair that is listed, and the parts of a region.
 use Rattle.std.proofs.Common.{◌≡◌, ◌≢◌, ◌≤◌, ◌+◌, ◌⊎◌, inl, ⊎_elim, ℕ, suc, Bool, true, false, List, [], ◌∷◌, ◌++◌, length, slice_get, Some, refl, sym, ap, ◌∙◌, subst, arith, append-nil, append_assoc}
 use Rattle.std.specs.Bool.{IsTrue, IsFalse}
 use Rattle.std.specs.Option.{option_map}
@@ -57,7 +57,7 @@ pub region_within : (s : Setting) (w : Walk) (stride : Stride) (from : EntryPart
 region_within s w stride from p stands next a fits h =
     level_atoms_within w.diagrams w.listing.entries.items from stride.test w.moves.allowed (λ e m. (stands.under_way.entries e m).within) stands.atoms a fits (next.within a fits h)
 
--- ---- what is opened of a part
+-- ---- the open atoms of a part
 
 module _ (s : Setting) (w x : Walk) (stride : Stride) (from : EntryParts) (p : Part) (stands : IsAtStride s w stride from) (next : IsNextPart s.store w.diagrams from stride.test stride.act p) (c₁ c₂ : DiagramsParts) (k₁ : KeepsFunctions w.diagrams c₁) (k₂ : KeepsFunctions c₁ c₂) (k₃ : KeepsFunctions c₂ x.diagrams) where
   module _ (listing : x.listing ≡ w.listing) (derivatives : x.derivatives ≡ w.derivatives) (allowed : x.moves.allowed ≡ w.moves.allowed) (moves : IsAllowance c₁ s.shorts s.problem.actions x.moves) (image fresh id : ℕ) (is_image : IsAllowedImage c₁ s.shorts p.region stride.act image) (is_fresh : IsFreshPart c₂ w.listing.entries.items p.left.items p.right.items image fresh) (is_open : IsOpenPart x.diagrams w.listing.entries.items w.listing.universal p.left.items p.right.items p.left.items p.right.items fresh id) where
@@ -73,7 +73,7 @@ module _ (s : Setting) (w x : Walk) (stride : Stride) (from : EntryParts) (p : P
     later : IsAtStride s x stride from
     later = at_stride_kept s stride from w x kept listing derivatives allowed allowance stands
 
-    -- the entries by the new walk
+    -- the entries of the new walk
     abbrev es : List EntryParts
     es = x.listing.entries.items
 
@@ -140,7 +140,7 @@ module _ (s : Setting) (w x : Walk) (stride : Stride) (from : EntryParts) (p : P
   abbrev right_terms : List Term
   right_terms = terms_of s.store p.right.items
 
-  -- the start of an allowed move from the part
+  -- an atom from which an allowed move leads to the atom after it
   start : (atom : Atom) → length atom ≡ s.problem.tests → IsTrue (value_of w.diagrams p.region atom) → (after : Atom) → IsAllowedMove s.shorts atom (record { act = stride.act; atom = after }) → HasAllowedSource d s.shorts p.region stride.act after
   start atom wide there after allowed = (atom, record { fits = wide ∙ sym o.stands.under_way.tests; there = o.kept.values p.region before.region atom ∙ there; allowed = allowed })
 
@@ -154,7 +154,7 @@ module _ (s : Setting) (w x : Walk) (stride : Stride) (from : EntryParts) (p : P
         (same_members_sym (set_next (terms_of s.store from.left) atom stride.act) left_terms (o.next.lefts atom fits now))
         (same_members_sym (set_next (terms_of s.store from.right) atom stride.act) right_terms (o.next.rights atom fits now)) j
 
-  -- nothing is open
+  -- without an open atom, nothing is listed
   pub visited_none : (never : ℕ) → id ≡ never → IsDiagramOf d never (λ a. false) → IsVisited s w x stride from (λ atom. IsTrue (value_of w.diagrams p.region atom))
   visited_none never same is = record {
     stands = o.stands;
@@ -166,7 +166,7 @@ module _ (s : Setting) (w x : Walk) (stride : Stride) (from : EntryParts) (p : P
         to_next (entries_of s.store d x.listing.entries.items) atom wide there after (o.joined after fits (start atom wide there after allowed) (ap (λ i. value_of d i after) same ∙ is.value after fits));
   }
 
-  -- the pair is listed
+  -- with an open atom, the pair is listed
   module _ (never : ℕ) (differs : id ≢ never) (is_never : IsDiagramOf d never (λ a. false)) (reduced : IsReduced d) (l : Listing) (items : l.entries.items ≡ x.listing.entries.items ++ new_ids stride p id ∷ []) (universal : l.universal ≡ x.listing.universal) where
     abbrev y : Walk
     y = record x { listing = l }
@@ -293,7 +293,7 @@ module _ (s : Setting) (w x : Walk) (stride : Stride) (from : EntryParts) (p : P
 -- ---- one visit after another
 
 module _ (s : Setting) (stride : Stride) (from : EntryParts) where
-  -- what is joined stays so
+  -- joined sets remain joined
   pub joined_grown : (v w : Walk) (P : Atom → Type 0) → IsAtStride s v stride from → IsVisited s v w stride from P → (after : Atom) (lefts rights : List Term)
       → AreJoined s.problem (entries_of s.store v.diagrams v.listing.entries.items) (suc from.level) after lefts rights → AreJoined s.problem (entries_of s.store w.diagrams w.listing.entries.items) (suc from.level) after lefts rights
   joined_grown v w P stands visited after lefts rights j =
@@ -316,7 +316,7 @@ module _ (s : Setting) (stride : Stride) (from : EntryParts) where
         there;
   }
 
-  -- fewer atoms, and other walks that differ in diagrams alone
+  -- fewer atoms, and other walks that differ only in diagrams
   pub visited_part : (u w : Walk) (P Q : Atom → Type 0) → ((atom : Atom) → length atom ≡ s.problem.tests → Q atom → P atom) → IsVisited s u w stride from P → IsVisited s u w stride from Q
   visited_part u w P Q part v = record { stands = v.stands; kept = v.kept; more = v.more; grows = v.grows; joined = λ atom wide h. v.joined atom wide (part atom wide h) }
 
@@ -336,7 +336,7 @@ module _ (s : Setting) (stride : Stride) (from : EntryParts) where
         (inl (sat_same pairs lefts rights (same atom wide h)));
   }
 
-  -- what is joined from some atoms, where the next sets are the same from the others
+  -- sets that are joined after moves from some atoms, if from all others the next sets are the same
   pub visited_from : (u v w : Walk) → KeepsFunctions u.diagrams v.diagrams → v.listing ≡ u.listing → (P Q : Atom → Type 0) → IsVisited s v w stride from P
       → ((atom : Atom) → length atom ≡ s.problem.tests → Q atom → P atom ⊎ SameMembers (set_next (terms_of s.store from.left) atom stride.act) (set_next (terms_of s.store from.right) atom stride.act))
       → IsVisited s u w stride from Q
@@ -371,7 +371,7 @@ next_items_kept s v w kept stride from items n = record {
     guards : (i : Item) → Has items i → IsDiagramId v.diagrams i.left × IsDiagramId v.diagrams i.right
     guards i h = (n.are.lefts i h, n.are.rights i h)
 
--- where the items lead to the same terms, the next sets are the same
+-- if the items lead to the same terms on both sides, the next sets are the same
 pub next_same : (s : Setting) (w : Walk) (stride : Stride) (from : EntryParts) (items : List Item) → AreNextItems s w stride from items → (atom : Atom) → IsAtomOf w.diagrams atom → chosen w.diagrams Left items atom ≡ chosen w.diagrams Right items atom
     → SameMembers (set_next (terms_of s.store from.left) atom stride.act) (set_next (terms_of s.store from.right) atom stride.act)
 next_same s w stride from items n atom fits e =

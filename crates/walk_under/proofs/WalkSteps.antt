@@ -1,4 +1,4 @@
--- A walk under tests begins with the closed sides, lists one pair more, or has taken one more.
+-- A walk under tests begins with the closed sides, lists an additional pair, or processes an additional one.
 use Rattle.std.proofs.Common.{◌≡◌, ◌≤◌, ◌<◌, ◌⊎◌, inl, inr, ⊎_elim, ℕ, suc, Bool, List, [], ◌∷◌, ◌++◌, length, slice_get, Some, None, refl, sym, ap, ◌∙◌, subst, arith}
 use Rattle.std.specs.Bool.{IsTrue}
 use Rattle.std.proofs.lemmas.Option.{slice_get_within, same_Some}
@@ -33,7 +33,7 @@ walk_starts shorts q start all = record {
 
 -- ---- more entries
 
--- what is joined stays so
+-- joined sets remain joined
 pub joined_more : (q : ProblemParts) (es more : List TestedEntry) (level : ℕ) (atom : Atom) (lefts rights : List Term) → AreJoined q es level atom lefts rights → AreJoined q (es ++ more) level atom lefts rights
 joined_more q es more level atom lefts rights j = record {
   pairs = j.pairs;
@@ -62,7 +62,7 @@ apart_more tests (e ∷ es) new all each = (
 )
 
 module _ (shorts : List Term) (q : ProblemParts) (es : List TestedEntry) (done : ℕ) (walk : IsTestedWalk shorts q es done) where
-  -- the pair that is being taken leads to a pair at further atoms
+  -- the pair being processed leads to a pair at additional atoms
   module _ (from : TestedEntry) (here : slice_get es done ≡ Some from) (p : SetPair) (test : Atom → Bool) (o : TestedOrigin) (at : o.place ≡ done) (act : o.act < q.actions) (region : IsRegion q.tests es from o p)
       (sources : (atom : Atom) → length atom ≡ q.tests → IsTrue (test atom) → HasSource shorts q.tests o atom)
       (somewhere : (atom : Atom) × (length atom ≡ q.tests) × IsTrue (test atom)) where
@@ -130,7 +130,7 @@ module _ (shorts : List Term) (q : ProblemParts) (es : List TestedEntry) (done :
           (λ last. absurd (let m = slice_get_within es done from here in let n = last.0 in omega arith))
           (slice_get_last es new_entry k e h)
 
-      -- it is listed at the end
+      -- with the new entry at the end
       pub walk_lists : IsTestedWalk shorts q (es ++ new_entry ∷ []) done
       walk_lists = record {
         start = walk.start;
@@ -143,7 +143,7 @@ module _ (shorts : List Term) (q : ProblemParts) (es : List TestedEntry) (done :
         taken = new_taken;
       }
 
-  -- ---- one pair more is taken
+  -- ---- an additional pair is processed
 
   module _ (e : TestedEntry) (here : slice_get es done ≡ Some e) (own : IsTaken shorts q es e) where
     pub walk_takes : IsTestedWalk shorts q es (suc done)

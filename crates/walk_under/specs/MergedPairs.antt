@@ -1,4 +1,4 @@
--- The pairs of a walk that has ended, where those with the same sets are made one.
+-- The pairs of an ended walk, with those of the same sets merged into one.
 use Rattle.std.specs.Prelude.{◌≡◌, List, ◌∷◌, length, IsTrue}
 use Rattle.kat_model.specs.Trees.{TestTree}
 use Rattle.kat_model.specs.Members.{Has}
@@ -7,7 +7,8 @@ use Rattle.kat_model.specs.Problems.{ProblemParts}
 use Rattle.kat_model.specs.TestedPairs.{TestedPair}
 use Rattle.walk_under.specs.TestedWalks.{TestedEntry, closed_sides}
 
--- The pairs begin with the closed sides. Each has the sets of entries of the walk, and is true where one of these is.
+-- The pairs begin with the closed sides. Each pair is true only at atoms of entries with its sets. At each atom of an
+-- entry, a pair with its sets is true; for the closed sides, this is the first pair.
 pub record AreMergedPairs (q : ProblemParts) (es : List TestedEntry) (pairs : List TestedPair) : Type 0 where
   pub test : TestTree
   pub rest : List TestedPair

@@ -1,4 +1,4 @@
-//! Which atoms and moves are allowed where short hypotheses are zero.
+//! The atoms and moves that are allowed if short hypotheses are zero.
 ghost use Rattle.std.specs.Prelude.{◌≡◌, ◌<◌, ℕ, List, All, map, length, IfOk, OnOk};
 ghost use Rattle.kat_model.specs.Trees.{Term};
 ghost use Rattle.kat_model.specs.AllowedMoves.{IsAllowedAtom};
@@ -17,7 +17,7 @@ use term_store::{Store, TermId};
 use test_diagrams::{DiagramId, Diagrams};
 use walk_pairs::true_atom;
 
-/// The allowed atoms, and for each action the bars that keep moves out.
+/// The allowed atoms, and for each action the bars that block moves.
 #[derive(Drop)]
 pub(crate) struct AllowedMoves {
     allowed: DiagramId,
@@ -25,7 +25,8 @@ pub(crate) struct AllowedMoves {
 }
 
 impl AllowedMoves {
-    /// What short hypotheses allow. Fails only when out of memory; it may leave further nodes, diagrams and derivatives.
+    /// Returns what the short hypotheses `shorts` allow. Fails only when out of memory; on failure, extra nodes,
+    /// diagrams and derivatives may remain.
     pub(crate) fn of_hyps(
         alloc: Global,
         store: &mut Store,
@@ -53,14 +54,14 @@ impl AllowedMoves {
         })
     }
 
-    /// The allowed atoms.
+    /// Returns the diagram of the allowed atoms.
     pub(crate) fn allowed(&self) -> DiagramId
         ensures { result ≡ self.now.allowed }
     {
         self.allowed
     }
 
-    /// The atoms to which an allowed move by the action leads from an atom of the region.
+    /// Returns the atoms to which an allowed move by `act` leads from an atom of `region`.
     pub(crate) fn image(
         &mut self,
         diagrams: &mut Diagrams,
@@ -80,7 +81,8 @@ impl AllowedMoves {
         diagrams.and(led_to, self.allowed)
     }
 
-    /// An atom of the region from which an allowed move by the action leads to this atom. There is one.
+    /// Returns an atom of `region` from which an allowed move by `act` leads to `after`. The contract requires that one
+    /// exists.
     pub(crate) fn source(
         &self,
         alloc: Global,

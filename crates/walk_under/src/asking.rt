@@ -14,7 +14,7 @@ use std::alloc::Global;
 use term_store::Store;
 use test_diagrams::{DiagramId, Diagrams};
 
-// Whether the diagram is the first to ask the test, which is then asked.
+// Returns whether the diagram `id` is the first to depend on `test`. If it is, sets the flag of `test` in `asked`.
 fn asks_first(
     diagrams: &mut Diagrams,
     id: DiagramId,
@@ -37,7 +37,7 @@ fn asks_first(
     Ok(asks)
 }
 
-// The tests that the diagram is the first to ask. They are asked then.
+// Returns the tests that the diagram `id` is the first to depend on, and sets their flags in `asked`.
 fn fresh_tests(
     alloc: Global,
     diagrams: &mut Diagrams,
@@ -58,7 +58,8 @@ fn fresh_tests(
     Ok(fresh)
 }
 
-// The bar of a move: what is left of a short hypothesis after it accepts the atoms to which no move may lead.
+// Returns the bar of a move of a short hypothesis: the atoms from which the move starts, and the atoms that its target
+// accepts, to which no move may lead.
 fn bar_of(
     alloc: Global,
     store: &mut Store,
@@ -86,7 +87,7 @@ fn bar_of(
     })
 }
 
-// The tests that were not asked.
+// Returns the tests without a flag in `asked`.
 fn unasked_tests(alloc: Global, asked: &[bool]) -> Result<Vec<usize>, NoMemory>
     ensures { IfOk result (λ v. (t : ℕ) → Has v.items t → IsUnaskedTest asked.now t) }
 {
@@ -99,7 +100,7 @@ fn unasked_tests(alloc: Global, asked: &[bool]) -> Result<Vec<usize>, NoMemory>
     Ok(unasked)
 }
 
-// The moves by the action.
+// Returns the moves by `act`.
 fn moves_by(alloc: Global, moves: &[Guarded], act: usize) -> Result<Vec<Guarded>, NoMemory>
     ensures { IfOk result (λ v. v.items ≡ filter (λ m. m.act == act) moves.now) }
 {
@@ -111,8 +112,8 @@ fn moves_by(alloc: Global, moves: &[Guarded], act: usize) -> Result<Vec<Guarded>
     Ok(own)
 }
 
-/// The bars of an action, one for each move by it of the short hypotheses. Fails only when out of memory; it may leave
-/// further nodes, diagrams and derivatives.
+/// Returns the bars of `act`, one for each move of the short hypotheses by it. Fails only when out of memory; on
+/// failure, extra nodes, diagrams and derivatives may remain.
 pub(crate) fn bars_of(
     alloc: Global,
     store: &mut Store,
@@ -130,8 +131,8 @@ pub(crate) fn bars_of(
     ensures kept { Keeps store.old store.new diagrams.old diagrams.new }
 {
     let mut own = moves_by(alloc, moves, act)?;
-    // The last bars are taken first. Since hypotheses mostly stand in the order of the tests that they ask, these ask the tests
-    // that diagrams ask first.
+    // `image_under` processes the last bar first. Hypotheses are mostly in the order of the tests on which they depend,
+    // so the last bars now depend on the topmost tests of diagrams.
     own.reverse();
     let mut marks = vec![in alloc; false; diagrams.tests()]?;
     let asked = marks.as_mut_slice();

@@ -1,4 +1,4 @@
-//! The atoms that the allowed moves by an action lead to.
+//! The atoms to which the allowed moves by an action lead.
 ghost use Rattle.std.specs.Prelude.{◌≡◌, ◌≤◌, ◌<◌, false, [], length, take, ℕ, IfOk, OnOk, IfSome};
 ghost use Rattle.kat_model.specs.Members.{Has};
 ghost use Rattle.test_diagrams.specs.Functions.{DiagramsParts, IsDiagramId, IsAtomOf, IsIndependent, KeepsFunctions};
@@ -10,23 +10,23 @@ use std::alloc::Global;
 use test_diagrams::{DiagramId, Diagrams};
 use walk_pairs::and_not;
 
-/// No move leads from an atom of the one test to an atom of the other.
+/// A bar: no move leads from an atom of `from` to an atom of `to`.
 #[derive(Drop)]
 pub(crate) struct Bar {
     pub from: DiagramId,
     pub to: DiagramId,
-    // The tests that `from` asks and no bar before it does.
+    // The tests on which `from` depends and no earlier bar does.
     pub fresh: Vec<usize>,
 }
 
-// A region, and how many bars count.
+// A region, and the number of bars that apply.
 #[derive(Clone, Copy, Debug, PartialEq, Eq, Hash)]
 struct State {
     region: DiagramId,
     count: usize,
 }
 
-/// The bars of an action, the tests that none of them asks, and the images that were found.
+/// The bars of an action, the tests on which no bar depends, and a table of computed images.
 #[derive(Drop)]
 pub(crate) struct Bars {
     bars: Vec<Bar>,
@@ -34,7 +34,7 @@ pub(crate) struct Bars {
     images: IndexMap<State, DiagramId>,
 }
 
-// The diagram that is true where the other becomes so with some of the tests set anew.
+// Returns the diagram that is true at an atom if `whole` is true there or after some of `tests` are set to new values.
 fn forget(diagrams: &mut Diagrams, whole: DiagramId, tests: &[usize]) -> Result<DiagramId, NoMemory>
     requires whole { IsDiagramId diagrams.old whole }
     requires tests { (t : ℕ) → Has tests.now t → t < diagrams.old.tests }
@@ -50,7 +50,7 @@ fn forget(diagrams: &mut Diagrams, whole: DiagramId, tests: &[usize]) -> Result<
     Ok(id)
 }
 
-// The atoms of the region from which the bar does not keep a move to this atom out.
+// Returns the atoms of `region` from which the bar does not block a move to `after`.
 fn atoms_past(
     diagrams: &mut Diagrams,
     bar: &Bar,
@@ -70,14 +70,14 @@ fn atoms_past(
     Ok(region)
 }
 
-// The parts of a region at which a bar starts, and at which it does not.
+// The parts of a region: the atoms at which a bar starts, and those at which it does not.
 #[derive(Clone, Copy, Debug)]
 struct Parts {
     inside: DiagramId,
     outside: DiagramId,
 }
 
-// The region in two, by whether the bar starts there. The tests that no bar before it asks are forgotten.
+// Splits the region by whether the bar starts at an atom, and forgets the tests on which no earlier bar depends.
 fn split(diagrams: &mut Diagrams, bar: &Bar, region: DiagramId) -> Result<Parts, NoMemory>
     requires region { IsDiagramId diagrams.old region }
     requires from { IsDiagramId diagrams.old bar.now.from }
@@ -93,7 +93,7 @@ fn split(diagrams: &mut Diagrams, bar: &Bar, region: DiagramId) -> Result<Parts,
 }
 
 impl Bars {
-    /// The bars, with the tests that none of them asks.
+    /// Returns the bars with an empty table of images. No bar depends on the tests in `unasked`.
     pub(crate) fn new(alloc: Global, bars: Vec<Bar>, unasked: Vec<usize>) -> Bars
         ensures bars { result.bars ≡ bars }
         ensures unasked { result.unasked ≡ unasked }
@@ -106,7 +106,7 @@ impl Bars {
         }
     }
 
-    // The image that was found before.
+    // Returns the image in the table, if there is one.
     fn find_image(&self, region: DiagramId, count: usize) -> Option<DiagramId>
         ensures { IfSome result (λ id. (d : DiagramsParts) → AreImages d self.now.bars.items self.now.images.entries
             → IsImageOf d (take count self.now.bars.items) region id) }
@@ -114,7 +114,7 @@ impl Bars {
         self.images.get(&State { region, count }).copied()
     }
 
-    // Keeps an image for later.
+    // Stores an image in the table.
     fn note_image(&mut self, region: DiagramId, count: usize, id: DiagramId) -> Result<(), NoMemory>
         ensures images { (d : DiagramsParts) → AreImages d self.old.bars.items self.old.images.entries → IsDiagramId d region
             → IsImageOf d (take count self.old.bars.items) region id → AreImages d self.new.bars.items self.new.images.entries }
@@ -125,8 +125,9 @@ impl Bars {
         Ok(())
     }
 
-    // The atoms to which a move leads from an atom of the region, where the first so many bars count. Either the last of
-    // them starts at the atom before the move, and does not end at that after it, or it does not start there.
+    // Returns the atoms to which a move leads from an atom of `region`, if only the first `count` bars apply. The last
+    // of these bars either starts at the atom before the move and does not end at the atom after it, or does not start
+    // at the atom before it.
     fn image_under(
         &mut self,
         diagrams: &mut Diagrams,
@@ -164,7 +165,7 @@ impl Bars {
 }
 
 impl Bars {
-    /// The atoms to which a move that no bar keeps out leads from an atom of the region.
+    /// Returns the atoms to which a move that no bar blocks leads from an atom of `region`.
     pub(crate) fn image(
         &mut self,
         diagrams: &mut Diagrams,
@@ -182,7 +183,7 @@ impl Bars {
         self.image_under(diagrams, rest, count)
     }
 
-    /// The atoms of the region from which a move to the atom is kept out by no bar.
+    /// Returns the atoms of `region` from which no bar blocks a move to `after`.
     pub(crate) fn sources(
         &self,
         diagrams: &mut Diagrams,
@@ -203,7 +204,7 @@ impl Bars {
     }
 }
 
-/// Whether the value of the diagram may change with that of the test.
+/// Whether the value of the diagram `id` may depend on that of `test`.
 pub(crate) fn depends_on(
     diagrams: &mut Diagrams,
     id: DiagramId,

@@ -1,4 +1,4 @@
-//! The answer to a problem by a walk under tests.
+//! Decides a problem by a walk under tests.
 ghost use Rattle.std.specs.Prelude.{◌≡◌, ℕ, All, map, length, IfOk};
 ghost use Rattle.kat_model.specs.Members.{Has};
 ghost use Rattle.kat_model.specs.Trees.{Term};
@@ -23,7 +23,7 @@ use std::alloc::Global;
 use term_store::{Store, TermId};
 use walk_pairs::{ClosedIds, cert_of, closed_ids};
 
-// The ids of the short hypotheses.
+// Returns the ids of the short hypotheses.
 fn short_ids(alloc: Global, store: &mut Store, problem: &Problem) -> Result<Vec<TermId>, NoMemory>
     ensures trees { IfOk result (λ v. map (tree_at store.new) v.items ≡ short_hyps problem.now) }
     ensures terms { IfOk result (λ v. (i : ℕ) → Has v.items i → IsTermOf store.new problem.now.tests i) }
@@ -40,7 +40,7 @@ fn short_ids(alloc: Global, store: &mut Store, problem: &Problem) -> Result<Vec<
     Ok(shorts)
 }
 
-// The ids of the closed sides of the problem with its long hypotheses alone.
+// Returns the ids of the closed sides of the problem with only its long hypotheses.
 fn side_ids(alloc: Global, store: &mut Store, problem: &Problem) -> Result<ClosedIds, NoMemory>
     ensures ids { IfOk result (AreIdsOf store.new (closed (with_hyps problem.now (long_hyps problem.now)))) }
     ensures kept { Grows store.old store.new }
@@ -50,7 +50,8 @@ fn side_ids(alloc: Global, store: &mut Store, problem: &Problem) -> Result<Close
     closed_ids(store, &closed)
 }
 
-// The walk of a problem over the store, which has listed the pair of the closed sides of its long hypotheses.
+// Returns a walk over the store that has listed the pair of the closed sides of the problem with only its long
+// hypotheses.
 fn walk_of(alloc: Global, store: &mut Store, problem: &Problem) -> Result<Walk, NoMemory>
     ensures within { IfOk result (λ w. IsProblem problem.now) }
     ensures under_way { IfOk result (λ w. IsUnderWay (about (short_hyps problem.now) (with_hyps problem.now (long_hyps problem.now)) store.new) w 0) }
@@ -58,14 +59,14 @@ fn walk_of(alloc: Global, store: &mut Store, problem: &Problem) -> Result<Walk, 
 {
     let sides = side_ids(alloc, store, problem)?;
     let shorts = short_ids(alloc, store, problem)?;
-    // The proof needs the rules of the store.
+    // The proof needs the invariants of the store.
     let _ = store.count();
     let tests = problem.tests();
     let actions = problem.actions();
     Walk::new(alloc, store, tests, actions, &shorts, &sides)
 }
 
-// The evidence that the walk of the problem ends with.
+// Runs the walk of the problem and returns its evidence.
 fn evidence_of(
     alloc: Global,
     store: &mut Store,
@@ -85,7 +86,7 @@ fn evidence_of(
         }
         None => {
             let pairs = walk.merge(alloc, store)?;
-            // The proof needs the rules of the store.
+            // The proof needs the invariants of the store.
             let _ = store.count();
             let cert = cert_of(alloc, store, Style::Under, &pairs)?;
             Ok(Evidence::Equal(cert))
@@ -93,10 +94,10 @@ fn evidence_of(
     }
 }
 
-/// Whether both sides of a problem denote one relation in each table that keeps the hypotheses, with evidence: a
-/// certificate of pairs under tests, or a string that refutes the problem, than which none has fewer moves. Short
-/// hypotheses are not eliminated. The store has ids of the terms of a certificate's nodes afterwards, and all older ids
-/// keep their trees. Fails only when out of memory; it may leave further nodes.
+/// Decides whether both sides of `problem` denote the same relation in each table that satisfies the hypotheses.
+/// Returns evidence: a certificate of pairs under tests, or a string that refutes the problem and has the fewest moves.
+/// Short hypotheses are not eliminated. On success the store has ids of the terms of a certificate's nodes. All older
+/// ids keep their trees. Fails only when out of memory; on failure, extra nodes may remain.
 pub fn decide_under(
     alloc: Global,
     store: &mut Store,

@@ -12,8 +12,8 @@ pub(crate) struct Origin {
     pub region: DiagramId,
 }
 
-/// A pair of sets of terms, each by its ids in ascending order, the atoms at which it was reached, how many moves lead to
-/// it, and the step that did. The first pair of a walk has no origin.
+/// A pair of sets of terms, the atoms at which it was reached, the number of moves that lead to it, and the last step
+/// to it. The ids of each set are in ascending order. The first pair of a walk has no origin.
 #[derive(Drop)]
 pub(crate) struct Entry {
     pub left: Items<TermId>,

@@ -14,7 +14,8 @@ use term_store::TermId;
 use test_diagrams::{DiagramId, Diagrams};
 use walk_pairs::and_not;
 
-/// The pairs that a walk listed, the id of the universal term if the store has it, and how many ids the pairs are among.
+/// The pairs that a walk has listed, the id of the universal term if the store has it, and the number of ids in the
+/// store; the ids of the pairs are below it.
 #[derive(Drop)]
 pub(crate) struct Listing {
     pub entries: Vec<Entry>,
@@ -22,7 +23,7 @@ pub(crate) struct Listing {
     pub count: usize,
 }
 
-/// Terms that two next sets surely have, and those that each may have beside the terms of the other.
+/// Terms that the two next sets surely contain, and those that each may contain in addition to the terms of the other.
 #[derive(Clone, Copy)]
 pub(crate) struct Sides<'a> {
     pub left: &'a [TermId],
@@ -31,14 +32,14 @@ pub(crate) struct Sides<'a> {
     pub open_right: &'a [TermId],
 }
 
-// Whether the ids are the same.
+// Whether `ids` equals `others`.
 fn are_same(ids: &[TermId], others: &[TermId]) -> bool
     ensures { IsTrue result ↔ (ids.now ≡ others.now) }
 {
     ids == others
 }
 
-/// Whether the pair has these sets.
+/// Whether `entry` has the sets `left` and `right`.
 pub(crate) fn has_sets(entry: &Entry, left: &[TermId], right: &[TermId]) -> bool
     ensures { IsTrue result ↔ ((entry.now.left ≡ left.now) × (entry.now.right ≡ right.now)) }
 {
@@ -49,7 +50,7 @@ pub(crate) fn has_sets(entry: &Entry, left: &[TermId], right: &[TermId]) -> bool
     same_left && same_right
 }
 
-// The atoms of the diagram, without those of the pair where it has these sets.
+// Returns the atoms of the diagram `id`, without those of `entry` if it has these sets.
 fn without_pair(
     diagrams: &mut Diagrams,
     id: DiagramId,
@@ -69,7 +70,7 @@ fn without_pair(
     Ok(id)
 }
 
-/// The atoms within the test at which none of the pairs has these sets.
+/// Returns the atoms of `within` at which no entry has these sets.
 pub(crate) fn fresh_part(
     diagrams: &mut Diagrams,
     entries: &[Entry],
@@ -89,7 +90,7 @@ pub(crate) fn fresh_part(
     Ok(id)
 }
 
-// Whether both have the same sets and level.
+// Whether `entry` has the sets and the level of `pair`.
 fn is_with(entry: &Entry, pair: &Entry) -> bool
     ensures { IsTrue result ↔ IsWith entry.now pair.now }
 {
@@ -97,7 +98,7 @@ fn is_with(entry: &Entry, pair: &Entry) -> bool
     same_level && has_sets(entry, pair.left.as_slice(), pair.right.as_slice())
 }
 
-// The atoms of the diagram, and those of the entry where it has the same sets and level as the pair.
+// Returns the atoms of the diagram `id`, together with those of `entry` if it has the sets and the level of `pair`.
 fn with_entry(
     diagrams: &mut Diagrams,
     id: DiagramId,
@@ -117,7 +118,7 @@ fn with_entry(
     Ok(id)
 }
 
-/// The atoms at which some entry has the sets and the level of the pair.
+/// Returns the atoms at which some entry has the sets and the level of `pair`.
 pub(crate) fn level_atoms(
     diagrams: &mut Diagrams,
     entries: &[Entry],
@@ -134,7 +135,7 @@ pub(crate) fn level_atoms(
     Ok(id)
 }
 
-// Whether the entry has the sets and the level of the pair, and was reached at the atom.
+// Whether `entry` has the sets and the level of `pair`, and was reached at `atom`.
 fn is_reached_with(diagrams: &Diagrams, entry: &Entry, pair: &Entry, atom: &[bool]) -> bool
     requires test { IsDiagramId diagrams.now entry.now.test }
     requires atom { IsAtomOf diagrams.now atom.now }
@@ -144,7 +145,8 @@ fn is_reached_with(diagrams: &Diagrams, entry: &Entry, pair: &Entry, atom: &[boo
     same && diagrams.value_at(entry.test, atom)
 }
 
-/// The place of an entry that has the sets and the level of the pair, and was reached at the atom. There is one.
+/// Returns the place of an entry that has the sets and the level of `pair` and was reached at `atom`. The contract
+/// requires that one exists.
 pub(crate) fn place_with(
     diagrams: &Diagrams,
     entries: &[Entry],
@@ -165,7 +167,8 @@ pub(crate) fn place_with(
 }
 
 impl Listing {
-    // Atoms within the test at which the pairs bring the targets, or the universal term, to the set.
+    // Returns atoms of `within` at which the closure of `set` under the pairs contains the targets or the universal
+    // term.
     fn reached(
         &self,
         alloc: Global,
@@ -194,7 +197,8 @@ impl Listing {
         reached_at(diagrams, marks, self.universal, targets, within)
     }
 
-    /// The atoms within the test at which the pairs do not bring the open terms of each side to the sure ones of the other.
+    /// Returns the atoms of `within` at which the closure of one side's sure terms under the pairs lacks open terms of
+    /// the other side.
     pub(crate) fn open_part(
         &self,
         alloc: Global,

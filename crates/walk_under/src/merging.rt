@@ -1,4 +1,4 @@
-//! The pairs that a walk listed, where those with the same sets are made one.
+//! Merges the listed pairs with the same sets.
 ghost use Rattle.std.specs.Prelude.{◌≡◌, ◌↔◌, ◌++◌, ◌∷◌, [], ℕ, List, IfOk, OnOk, IsTrue};
 ghost use Rattle.kat_model.specs.Members.{Has};
 ghost use Rattle.term_nodes.specs.Growth.{Grows};
@@ -16,7 +16,7 @@ use term_store::{Store, TermId};
 use test_diagrams::{DiagramId, Diagrams};
 use walk_pairs::StoredPair;
 
-// The atoms of the diagram, and those of the entry where it has these sets.
+// Returns the atoms of the diagram `id`, together with those of `entry` if it has these sets.
 fn with_atoms(
     diagrams: &mut Diagrams,
     id: DiagramId,
@@ -37,7 +37,7 @@ fn with_atoms(
     Ok(id)
 }
 
-// The atoms at which some entry has these sets.
+// Returns the atoms at which some entry has these sets.
 fn atoms_of(
     diagrams: &mut Diagrams,
     entries: &[Entry],
@@ -55,7 +55,7 @@ fn atoms_of(
     Ok(id)
 }
 
-// Whether the pair has the sets of the entry.
+// Whether `pair` has the sets of `entry`.
 fn is_pair_of(pair: &StoredPair, entry: &Entry) -> bool
     ensures { IsTrue result ↔ ((entry.now.left ≡ pair.now.left) × (entry.now.right ≡ pair.now.right)) }
 {
@@ -74,7 +74,7 @@ fn has_pair_of(pairs: &[StoredPair], entry: &Entry) -> bool
     false
 }
 
-// The pair of the entry's sets, at all atoms at which some entry has them.
+// Returns the pair of the sets of `entry`, at all atoms at which some entry has them.
 fn merged_pair(
     alloc: Global,
     store: &mut Store,
@@ -103,8 +103,8 @@ fn merged_pair(
     })
 }
 
-/// The pairs of the entries, each once, at all atoms at which it was reached. Fails only when out of memory; it may leave
-/// further nodes and diagrams.
+/// Returns the pairs of the entries, each once, at all atoms at which it was reached. Fails only when out of memory; on
+/// failure, extra nodes and diagrams may remain.
 pub(crate) fn merged_pairs(
     alloc: Global,
     store: &mut Store,

@@ -1,4 +1,4 @@
-//! The parts of a region at each of which an action leads to the same terms.
+//! Splits a region into parts; from all atoms of a part an action leads to the same terms.
 ghost use Rattle.std.specs.Prelude.{◌≡◌, ◌⊎◌, ◌++◌, ◌∷◌, [], ℕ, List, IfOk, OnOk, IsTrue, IsFalse};
 ghost use Rattle.std.specs.List.Sorted.{IsPermutation};
 ghost use Rattle.kat_model.specs.Members.{Has};
@@ -17,7 +17,8 @@ use term_store::TermId;
 use test_diagrams::{DiagramId, Diagrams};
 use walk_pairs::{Item, and_not};
 
-/// Some atoms, and the terms to which an action leads from each of them on the left and on the right, in ascending order.
+/// Some atoms, and the terms to which an action leads from each of them, on the left and on the right. The terms are in
+/// ascending order.
 #[derive(Drop)]
 pub(crate) struct Part {
     pub region: DiagramId,
@@ -25,7 +26,7 @@ pub(crate) struct Part {
     pub right: Vec<TermId>,
 }
 
-// The atoms of the region at which the guard has the value.
+// Returns the atoms of `region` at which `guard` has the value `value`.
 fn region_where(
     diagrams: &mut Diagrams,
     region: DiagramId,
@@ -43,7 +44,7 @@ fn region_where(
     and_not(diagrams, region, guard)
 }
 
-// The terms, and the target where the value is true.
+// Returns the terms, with `target` appended if `value` is true.
 fn with_target(
     alloc: Global,
     terms: &[TermId],
@@ -60,7 +61,7 @@ fn with_target(
     Ok(list)
 }
 
-// The atoms of the part at which the guards of the item have these values.
+// Returns the part of `part` at which the guards of the item have these values.
 fn part_where(
     alloc: Global,
     diagrams: &mut Diagrams,
@@ -86,7 +87,7 @@ fn part_where(
     })
 }
 
-// Adds the atoms of the part at which the guards of the item have these values, where there are some.
+// Appends the part of `part` at which the guards of the item have these values, unless it is empty.
 fn add_case(
     alloc: Global,
     diagrams: &mut Diagrams,
@@ -115,7 +116,7 @@ fn add_case(
     Ok(())
 }
 
-// Adds the parts of the part by the guards of the item, of which the left one has this value.
+// Appends the parts of `part` at which the left guard of the item has the value `left`.
 fn add_cases(
     alloc: Global,
     diagrams: &mut Diagrams,
@@ -139,7 +140,7 @@ fn add_cases(
     add_case(alloc, diagrams, parts, part, item, left, true)
 }
 
-// Adds the parts of the part by the guards of the item.
+// Appends the parts into which the guards of the item split `part`.
 fn split_part(
     alloc: Global,
     diagrams: &mut Diagrams,
@@ -162,7 +163,7 @@ fn split_part(
     add_cases(alloc, diagrams, parts, part, item, true)
 }
 
-// The parts of all parts by the guards of the item.
+// Returns the parts into which the guards of the item split all `parts`.
 fn split_parts(
     alloc: Global,
     diagrams: &mut Diagrams,
@@ -184,7 +185,8 @@ fn split_parts(
     Ok(list)
 }
 
-// Those with small sets first: their pairs join larger sets, and not the other way round.
+// Sorts the parts by the size of their sets, the smallest first: pairs of small sets join larger sets, but not
+// conversely.
 fn order_parts(parts: &mut Vec<Part>) -> Result<(), NoMemory>
     ensures { IsPermutation parts.old.items parts.new.items }
 {
@@ -192,7 +194,8 @@ fn order_parts(parts: &mut Vec<Part>) -> Result<(), NoMemory>
     Ok(())
 }
 
-/// The parts of the region, which is not empty, by the terms to which the items lead. No part is empty. Those with small sets come first.
+/// Splits the region, which must not be empty, by the terms to which the items lead. No part is empty. Parts with small
+/// sets come first.
 pub(crate) fn parts_of(
     alloc: Global,
     diagrams: &mut Diagrams,
@@ -220,7 +223,7 @@ pub(crate) fn parts_of(
     Ok(parts)
 }
 
-// The atoms of the diagram, and those at which the guards of the item differ.
+// Returns the atoms of the diagram `id`, together with those at which the guards of the item differ.
 fn with_difference(
     diagrams: &mut Diagrams,
     id: DiagramId,
@@ -238,7 +241,7 @@ fn with_difference(
     diagrams.or(id, apart)
 }
 
-/// The atoms of the region at which the items do not lead to the same terms on both sides.
+/// Returns the atoms of `region` at which the items lead to different terms on the two sides.
 pub(crate) fn differing_part(
     diagrams: &mut Diagrams,
     items: &[Item],

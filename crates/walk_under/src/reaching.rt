@@ -1,5 +1,5 @@
-//! Saturation of a set of terms by pairs under tests, at all atoms at once (congruence closure: Bonchi and Pous 2013). The
-//! mark of a term is the diagram of atoms at which it is known to be reached.
+//! Saturation of a set of terms by pairs under tests, at all atoms at once (congruence closure: Bonchi and Pous 2013).
+//! The mark of a term is the diagram of the atoms at which the term is known to be in the closure.
 ghost use Rattle.std.specs.Prelude.{◌≡◌, ℕ, List, [], ◌∷◌, Some, slice_get, IfOk, OnOk, IsTrue};
 ghost use Rattle.kat_model.specs.Members.{Has};
 ghost use Rattle.test_diagrams.specs.Functions.{IsDiagramId, KeepsFunctions};
@@ -11,7 +11,7 @@ use kat_model::NoMemory;
 use term_store::TermId;
 use test_diagrams::{DiagramId, Diagrams};
 
-// Marks the term at the atoms of the test, where it has a mark. Answers whether the mark grew.
+// Adds the atoms of `test` to the mark of `term`, if it has a mark. Returns whether the mark grew.
 fn mark(
     diagrams: &mut Diagrams,
     marks: &mut [DiagramId],
@@ -34,7 +34,7 @@ fn mark(
     Ok(new != old)
 }
 
-/// Marks each of the terms at the atoms of the test, where it has a mark. Answers whether a mark grew.
+/// Adds the atoms of `test` to the mark of each of the terms that has one. Returns whether a mark grew.
 pub(crate) fn mark_all(
     diagrams: &mut Diagrams,
     marks: &mut [DiagramId],
@@ -59,8 +59,8 @@ pub(crate) fn mark_all(
     Ok(grew)
 }
 
-// Whether some of the terms is marked at no atom. Only a matter of speed. The last terms come first: sets that are listed one
-// after the other often begin alike.
+// Whether some term is marked at no atom. Affects only speed. Checks the last terms first, because sets that are listed
+// one after the other often have a common prefix.
 fn has_unmarked(marks: &[DiagramId], terms: &[TermId], never: DiagramId) -> bool {
     terms
         .iter()
@@ -68,7 +68,7 @@ fn has_unmarked(marks: &[DiagramId], terms: &[TermId], never: DiagramId) -> bool
         .any(|term| marks.get(term.number()).copied() == Some(never))
 }
 
-// The atoms within the test at which the marks bring all of the terms.
+// Returns the atoms of `within` at which all of the terms are marked.
 fn marked_at(
     diagrams: &mut Diagrams,
     marks: &[DiagramId],
@@ -95,7 +95,7 @@ fn marked_at(
     Ok(id)
 }
 
-// Marks each side of the pair where the marks bring the other within the pair's test. Answers whether a mark grew.
+// Marks each side of the pair at the atoms of its test at which the other side is marked. Returns whether a mark grew.
 fn add_pair(
     diagrams: &mut Diagrams,
     marks: &mut [DiagramId],
@@ -116,7 +116,7 @@ fn add_pair(
     Ok(grew_left || grew_right)
 }
 
-// Takes each pair once. Answers whether a mark grew.
+// Applies each pair once. Returns whether a mark grew.
 fn add_pairs(
     diagrams: &mut Diagrams,
     marks: &mut [DiagramId],
@@ -137,7 +137,7 @@ fn add_pairs(
     Ok(grew)
 }
 
-/// Takes the pairs in rounds, until no mark grows or each of them was taken as often as there are pairs.
+/// Applies all pairs in rounds, until no mark grows or there were as many rounds as pairs.
 pub(crate) fn saturate(
     diagrams: &mut Diagrams,
     marks: &mut [DiagramId],
@@ -157,7 +157,7 @@ pub(crate) fn saturate(
     Ok(())
 }
 
-/// The atoms within the test at which the marks bring all of the terms, or the universal one.
+/// Returns the atoms of `within` at which all of the terms are marked, or the universal term is.
 pub(crate) fn reached_at(
     diagrams: &mut Diagrams,
     marks: &[DiagramId],

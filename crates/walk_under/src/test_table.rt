@@ -1,4 +1,4 @@
-//! Tests of a store for diagrams.
+//! Computes tests of a store that represent diagrams.
 ghost use Rattle.std.specs.Prelude.{◌≡◌, ◌<◌, ◌≤◌, ◌&&◌, ◌||◌, not, true, false, if◌then◌else◌, slice_index_or, [], ℕ, Bool, IfOk, OnOk, IfSome, IsTrue};
 ghost use Rattle.kat_model.specs.Steps.{Atom};
 ghost use Rattle.term_nodes.specs.NodeLists.{NodeParts, IsTest};
@@ -12,7 +12,7 @@ use std::alloc::Global;
 use term_store::{Store, TestId, TestShape};
 use test_diagrams::{DiagramId, Diagrams};
 
-// The truth of the test, where its node is a constant.
+// Returns the value of the test if its node is a constant.
 fn constant_of(store: &Store, test: TestId) -> Option<bool>
     requires { IsTest store.now test }
     ensures { IfSome result (IsConstantTest store.now test) }
@@ -24,7 +24,7 @@ fn constant_of(store: &Store, test: TestId) -> Option<bool>
     }
 }
 
-// Whether the node of the test is the constant that is true.
+// Whether the node of the test is the constant true.
 fn is_always(store: &Store, test: TestId) -> bool
     requires { IsTest store.now test }
     ensures { IsTrue result → IsConstantTest store.now test true }
@@ -39,7 +39,7 @@ fn is_always(store: &Store, test: TestId) -> bool
     }
 }
 
-// The test that has this truth everywhere.
+// Returns the test that has this value at all atoms.
 fn constant(store: &mut Store, value: bool) -> Result<TestId, NoMemory>
     ensures test { IfOk result (λ id. (n : ℕ) → IsTestFor store.new n id (λ atom. value)) }
     ensures grows { Grows store.old store.new }
@@ -50,7 +50,7 @@ fn constant(store: &mut Store, value: bool) -> Result<TestId, NoMemory>
     store.intern_test(TestShape::False)
 }
 
-// The primitive test of this number.
+// Returns the primitive test with this number.
 fn primitive(store: &mut Store, test: usize) -> Result<TestId, NoMemory>
     ensures test { IfOk result (λ id. (n : ℕ) → test < n → IsTestFor store.new n id (λ atom. slice_index_or atom test false)) }
     ensures is_id { IfOk result (IsTest store.new) }
@@ -59,7 +59,7 @@ fn primitive(store: &mut Store, test: usize) -> Result<TestId, NoMemory>
     store.intern_test(TestShape::Prim(test))
 }
 
-// The test that is true where the other is false.
+// Returns the negation of the test.
 fn negation(store: &mut Store, a: TestId) -> Result<TestId, NoMemory>
     requires { IsTest store.old a }
     ensures test { IfOk result (λ id. (n : ℕ) (f : Atom → Bool) → IsTestFor store.old n a f → IsTestFor store.new n id (λ atom. not (f atom))) }
@@ -69,7 +69,7 @@ fn negation(store: &mut Store, a: TestId) -> Result<TestId, NoMemory>
     store.intern_test(TestShape::Not(a))
 }
 
-// The test that is true where both are.
+// Returns the conjunction of both tests.
 fn both(store: &mut Store, a: TestId, b: TestId) -> Result<TestId, NoMemory>
     requires first { IsTest store.old a }
     requires second { IsTest store.old b }
@@ -92,7 +92,7 @@ fn both(store: &mut Store, a: TestId, b: TestId) -> Result<TestId, NoMemory>
     store.intern_test(TestShape::And(a, b))
 }
 
-// The test that is true where one of both is.
+// Returns the disjunction of both tests.
 fn either(store: &mut Store, a: TestId, b: TestId) -> Result<TestId, NoMemory>
     requires first { IsTest store.old a }
     requires second { IsTest store.old b }
@@ -115,7 +115,7 @@ fn either(store: &mut Store, a: TestId, b: TestId) -> Result<TestId, NoMemory>
     store.intern_test(TestShape::Or(a, b))
 }
 
-// The test that is the one where the primitive test is false, and the other where it is true.
+// Returns the test that is `low` if the primitive test is false and `high` if it is true.
 fn choice(store: &mut Store, test: usize, low: TestId, high: TestId) -> Result<TestId, NoMemory>
     requires low { IsTest store.old low }
     requires high { IsTest store.old high }
@@ -138,14 +138,14 @@ fn choice(store: &mut Store, test: usize, low: TestId, high: TestId) -> Result<T
     either(store, on_high, on_low)
 }
 
-/// Tests of a store for diagrams, as they were found.
+/// A table of diagrams and the tests of a store that represent them.
 #[derive(Drop)]
 pub(crate) struct TestTable {
     tests: IndexMap<DiagramId, TestId>,
 }
 
 impl TestTable {
-    /// An empty table. It takes no memory.
+    /// Returns an empty table. It allocates no memory.
     pub(crate) fn new(alloc: Global) -> TestTable
         ensures { result.tests.entries ≡ [] }
     {
@@ -154,14 +154,14 @@ impl TestTable {
         }
     }
 
-    // The test that was found before.
+    // Returns the test in the table, if there is one.
     fn find(&self, id: DiagramId) -> Option<TestId>
         ensures { IfSome result (λ test. (store : NodeParts) (d : DiagramsParts) → AreTestsFor store d self.now.tests.entries → IsTestFor store d.tests test (value_of d id)) }
     {
         self.tests.get(&id).copied()
     }
 
-    // Keeps a test for later.
+    // Stores a test in the table.
     fn note(&mut self, id: DiagramId, test: TestId) -> Result<(), NoMemory>
         ensures { (store : NodeParts) (d : DiagramsParts) → AreTestsFor store d self.old.tests.entries → IsDiagramId d id → IsTestFor store d.tests test (value_of d id) → AreTestsFor store d self.new.tests.entries }
     {
@@ -169,7 +169,7 @@ impl TestTable {
         Ok(())
     }
 
-    // The test for the diagram, which does not depend on the first so many tests.
+    // Returns the test for the diagram `id`, which must not depend on the tests below `from`.
     fn test_from(
         &mut self,
         store: &mut Store,
@@ -185,7 +185,7 @@ impl TestTable {
         ensures grows { Grows store.old store.new }
         ensures kept { KeepsFunctions diagrams.old diagrams.new }
     {
-        // The proof needs the limit of tests.
+        // The proof needs the bound on the number of tests.
         let _count = diagrams.tests();
         let Some(test) = diagrams.top(id) else {
             let value = id == diagrams.constant(true);
@@ -205,7 +205,8 @@ impl TestTable {
 }
 
 impl TestTable {
-    /// The test for the diagram. Fails only when out of memory; it may leave further nodes and diagrams.
+    /// Returns the test for the diagram `id`. Fails only when out of memory; on failure, extra nodes and diagrams may
+    /// remain.
     pub(crate) fn test_of(
         &mut self,
         store: &mut Store,

@@ -29,7 +29,7 @@ use term_store::{Store, TermId};
 use test_diagrams::{DiagramId, Diagrams};
 use walk_pairs::{ClosedIds, Item, StoredPair, actions_in_order, differing_atom, items_of};
 
-/// What a walk keeps: the listed pairs, the allowed moves, and the derivatives of terms with their diagrams.
+/// The state of a walk: the listed pairs, the allowed moves, and the derivatives of terms with their diagrams.
 #[derive(Drop)]
 pub(crate) struct Walk {
     listing: Listing,
@@ -38,7 +38,7 @@ pub(crate) struct Walk {
     derivatives: Derivatives,
 }
 
-/// The step by the action from these atoms of the listed pair at this place, to which so many moves lead.
+/// A step by the action `act` from the atoms `test` of the listed pair at `place`, to which `level` moves lead.
 #[derive(Clone, Copy, Debug)]
 pub(crate) struct Stride {
     pub place: usize,
@@ -47,8 +47,8 @@ pub(crate) struct Stride {
     pub act: usize,
 }
 
-/// The listed pair that is taken: its place, how many moves lead to it, and the atoms at which as many moves reached its
-/// sets.
+/// The listed pair that is processed: its place, the number of moves that lead to it, and the atoms at which that
+/// number of moves reached its sets.
 #[derive(Clone, Copy, Debug)]
 pub(crate) struct Turn {
     pub place: usize,
@@ -56,7 +56,7 @@ pub(crate) struct Turn {
     pub test: DiagramId,
 }
 
-/// An atom of the listed pair at this place at which just one of its sets accepts.
+/// An atom of the listed pair at `place` that exactly one of its sets accepts.
 #[derive(Drop)]
 pub(crate) struct Difference {
     pub place: usize,
@@ -70,7 +70,7 @@ pub(crate) struct BothSteps {
     pub right: Steps,
 }
 
-// The pair of the closed sides, at the atoms of the test.
+// Returns the pair of the closed sides, at the atoms of `test`.
 fn first_entry(alloc: Global, sides: &ClosedIds, test: DiagramId) -> Result<Entry, NoMemory>
     ensures { IfOk result (λ e. e ≡ first_ids sides.now test) }
 {
@@ -85,7 +85,7 @@ fn first_entry(alloc: Global, sides: &ClosedIds, test: DiagramId) -> Result<Entr
     })
 }
 
-// The pair of the part, at the atoms of the test.
+// Returns the pair of the part, at the atoms of `test`.
 fn entry_of(alloc: Global, stride: &Stride, part: &Part, test: DiagramId) -> Result<Entry, NoMemory>
     requires { stride.now.level + 1 < 2 ^ 64 }
     ensures { IfOk result (λ e. e ≡ new_ids stride.now part.now test) }
@@ -107,8 +107,8 @@ fn entry_of(alloc: Global, stride: &Stride, part: &Part, test: DiagramId) -> Res
 }
 
 impl Walk {
-    /// A walk that has listed the pair of the closed sides at all allowed atoms. Fails only when out of memory; it may leave
-    /// further nodes.
+    /// Returns a walk that has listed the pair of the closed sides at all allowed atoms. Fails only when out of memory;
+    /// on failure, extra nodes may remain.
     pub(crate) fn new(
         alloc: Global,
         store: &mut Store,
@@ -148,7 +148,7 @@ impl Walk {
         })
     }
 
-    // The atoms to which the step leads from the part, and at which the listed pairs do not join its sets.
+    // Returns the atoms to which the step leads from the part and at which the listed pairs do not join its sets.
     fn open_atoms(
         &mut self,
         alloc: Global,
@@ -174,7 +174,8 @@ impl Walk {
             .open_part(alloc, &mut self.diagrams, &sides, fresh)
     }
 
-    // Lists the pair of the part at the atoms to which the step leads from it, as far as the listed pairs do not join it.
+    // Lists the pair of the part, at the atoms to which the step leads from it and at which the listed pairs do not
+    // join its sets.
     fn visit_part(&mut self, alloc: Global, stride: &Stride, part: &Part) -> Result<(), NoMemory>
         requires level { stride.now.level + 1 < 2 ^ 64 }
         requires stands { (s : Setting) × (from : EntryParts) × IsAtStride s self.old stride.now from × IsNextPart s.store self.old.diagrams from stride.now.test stride.now.act part.now }
@@ -190,7 +191,7 @@ impl Walk {
         Ok(())
     }
 
-    // Lists pairs until behind the allowed moves of the step the next sets are joined.
+    // Lists pairs until, after the allowed moves of the step, the next sets are joined.
     fn visit(&mut self, alloc: Global, stride: &Stride, items: &[Item]) -> Result<(), NoMemory>
         requires level { stride.now.level + 1 < 2 ^ 64 }
         requires stands { (s : Setting) × (from : EntryParts) × IsAtStride s self.old stride.now from × AreNextItems s self.old stride.now from items.now }
@@ -208,7 +209,7 @@ impl Walk {
         Ok(())
     }
 
-    // The pair at the place, with all atoms at which as many moves reached its sets.
+    // Returns the pair at `place`, with all atoms at which the same number of moves reached its sets.
     fn turn_at(&mut self, place: usize) -> Result<Turn, NoMemory>
         requires place { place < length self.old.listing.entries.items }
         requires tests { (e : EntryParts) → Has self.old.listing.entries.items e → IsDiagramId self.old.diagrams e.test }
@@ -228,7 +229,7 @@ impl Walk {
         })
     }
 
-    // The steps of both sets of the pair at the place.
+    // Returns the steps of both sets of the pair at `place`.
     fn steps_at(
         &mut self,
         alloc: Global,
@@ -253,7 +254,7 @@ impl Walk {
         Ok(BothSteps { left, right })
     }
 
-    // The atoms at which the pair at the place was reached.
+    // Returns the atoms at which the pair at `place` was reached.
     fn test_at(&self, place: usize) -> DiagramId
         requires { place < length self.now.listing.entries.items }
         ensures { (e : EntryParts) → slice_get self.now.listing.entries.items place ≡ Some e → result ≡ e.test }
@@ -262,7 +263,7 @@ impl Walk {
         entry.test
     }
 
-    // An atom of the test at which just one of the steps accepts, where there is one.
+    // Returns an atom of `test` at which exactly one of the two steps accepts, if there is one.
     fn difference(
         &mut self,
         alloc: Global,
@@ -287,7 +288,7 @@ impl Walk {
         Ok(Some(atom))
     }
 
-    // Lists pairs until, behind the allowed moves by each action from the atoms of the pair, its next sets are joined.
+    // Lists pairs until, after the allowed moves by each action from the atoms of the pair, its next sets are joined.
     fn expand(
         &mut self,
         alloc: Global,
@@ -315,7 +316,7 @@ impl Walk {
         Ok(())
     }
 
-    // Takes the pair at the place. Answers an atom of its test at which just one of its sets accepts, where there is one.
+    // Processes the pair at `place`. Returns an atom of its test that exactly one of its sets accepts, if there is one.
     fn take(
         &mut self,
         alloc: Global,
@@ -341,8 +342,8 @@ impl Walk {
         Ok(None)
     }
 
-    /// Takes the listed pairs in order, those that are listed meanwhile among them. Answers the first difference, or none
-    /// where the pairs are a bisimulation under tests.
+    /// Processes the listed pairs in order, including those that are listed meanwhile. Returns the first difference, or
+    /// `None` if the pairs are a bisimulation under tests.
     pub(crate) fn run(
         &mut self,
         alloc: Global,
@@ -365,7 +366,7 @@ impl Walk {
         Ok(None)
     }
 
-    // The step that led to the pair at the place, unless it is the first.
+    // Returns the step that led to the pair at `place`, unless it is the first.
     fn origin_at(&self, place: usize) -> Option<Origin>
         requires { place < length self.now.listing.entries.items }
         ensures { (e : EntryParts) → slice_get self.now.listing.entries.items place ≡ Some e → result ≡ e.origin }
@@ -374,7 +375,8 @@ impl Walk {
         entry.origin
     }
 
-    // The place of a pair with the sets and the level of that at this place, which was reached at the atom. There is one.
+    // Returns the place of a pair that has the sets and the level of the pair at `place` and was reached at `atom`. The
+    // contract requires that one exists.
     fn place_at(&self, place: usize, atom: &[bool]) -> usize
         requires place { place < length self.now.listing.entries.items }
         requires tests { (e : EntryParts) → Has self.now.listing.entries.items e → IsDiagramId self.now.diagrams e.test }
@@ -386,7 +388,8 @@ impl Walk {
         place_with(&self.diagrams, &self.listing.entries, pair, atom)
     }
 
-    /// The string of the steps that lead to the pair at the place, with the atom at which it does not accept alike at its end.
+    /// Returns the string of the steps that lead to the pair at `place`. The string ends with `last`, an atom that
+    /// exactly one set of the pair accepts.
     pub(crate) fn string_to(
         &mut self,
         alloc: Global,
@@ -423,8 +426,8 @@ impl Walk {
         })
     }
 
-    /// The listed pairs, each once, at all atoms at which it was reached. Fails only when out of memory; it may leave
-    /// further nodes.
+    /// Returns the listed pairs, each once, at all atoms at which it was reached. Fails only when out of memory; on
+    /// failure, extra nodes may remain.
     pub(crate) fn merge(
         &mut self,
         alloc: Global,

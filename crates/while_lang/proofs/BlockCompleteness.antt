@@ -1,4 +1,4 @@
--- Reading the tokens of a block is its fold.
+-- Parsing the tokens of a block gives the fold of the block.
 use Rattle.std.proofs.Common.{◌≡◌, ℕ, List, true, false, Result, Ok, Err, refl, ap, ◌∙◌}
 use Rattle.text_tokens.specs.declared.fault.TextFault.{TextFault}
 use Rattle.text_grammar.specs.declared.terminal.Terminal.TheVariants.{Keyword, Separator}
@@ -22,18 +22,18 @@ use Rattle.while_lang.proofs.BlockSteps.{block_step}
 abbrev pub NoElse : List Lexeme → Type 0
 NoElse ts = heads (is_terminal (Keyword word.Else)) ts ≡ false
 
--- a closing brace, and then the tokens that follow
+-- a closing brace, then the tokens that follow
 abbrev pub close : Leaf → List Lexeme → List Lexeme
 close r ts = cons_token (Separator CurlyClose) r ts
 
--- a block begins with a brace
+-- a block begins with a brace, which cannot continue a condition
 block_ends : (p : BlockPhrase block) (ts : List Lexeme) → Ends cond (block_before p ts)
 block_ends (braced l ss r) ts = refl
 
 block_no_if : (p : BlockPhrase block) (ts : List Lexeme) → heads (is_terminal (Keyword word.If)) (block_before p ts) ≡ false
 block_no_if (braced l ss r) ts = refl
 
--- a statement begins with no brace and no `else`
+-- a statement does not begin with a closing brace or `else`
 stmt_opens : (s : BlockPhrase stmt) (ts : List Lexeme) → heads (is_terminal (Separator CurlyClose)) (block_before s ts) ≡ false
 stmt_opens (skip_stmt l end) ts = refl
 stmt_opens (abort_stmt l end) ts = refl
@@ -56,7 +56,7 @@ stmts_no_else : (ss : BlockPhrase stmts) (r : Leaf) (ts : List Lexeme) → NoEls
 stmts_no_else no_stmts r ts = refl
 stmts_no_else (more_stmts s ss) r ts = stmt_no_else s (block_before ss (close r ts))
 
--- a value changed after a test, or changed twice
+-- a value changed after a check, or changed twice
 entered : {V W : Type 0} (ts : List Lexeme) (m : Result ℕ TextFault) (f : V → W) (k : ℕ → Parsed V) (l : ℕ → Result W TextFault) → ((e : ℕ) → change f (k e) ≡ before ts (l e)) → change f (m >>= k) ≡ before ts (m >>= l)
 entered ts (Ok e) f k l h = h e
 entered ts (Err x) f k l h = refl
@@ -78,7 +78,7 @@ module _ {E B L T M S : Type 0} (g : BlockActions E B L T M S) where
   Reads stmt p = (d : ℕ) (v : S) (ts : List Lexeme) → BlockObeys p ts → NoElse ts → parse_block g (stmt_after v) d (block_before p ts) ≡ before ts (fold_block g d p v)
   Reads branch p = (d : ℕ) (v : S) (ts : List Lexeme) → BlockObeys p ts → NoElse ts → parse_block g (branch_after v) d (block_before p ts) ≡ before ts (fold_block g d p v)
 
-  -- what follows the condition and the first block of an `if`
+  -- the parser after the condition and the first block of an `if`
   abbrev second : ℕ → S → B → S × List Lexeme → Parsed S
   second d v b p = change (g.branch v b p.0) (else_by g (parse_block g) d p.1)
 
@@ -88,7 +88,7 @@ module _ {E B L T M S : Type 0} (g : BlockActions E B L T M S) where
   abbrev turned : ℕ → S → B × List Lexeme → Parsed S
   turned d v b = change (g.turn v b.0) (parse_block g block_aim d b.1)
 
-  -- an `if` with its condition and its first block, where the rest is read so
+  -- an `if` with its condition and first block, given the reading of the rest
   branch_read : (b : Phrase cond) (p : BlockPhrase block) (d : ℕ) (v : S) (us ts : List Lexeme) (l : B → S → Result S TextFault) →
       MeetsLookahead b (block_before p us) → (parse_block g block_aim d (block_before p us) ≡ before us (fold_block g d p v)) →
       ((x : B) (w : S) → second d v x (w, us) ≡ before ts (l x w)) →

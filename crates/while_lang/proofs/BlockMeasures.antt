@@ -30,7 +30,7 @@ use Rattle.while_lang.specs.BlockSound.{BlockIsSound, block_nesting}
 use Rattle.while_lang.specs.BlockLaws.{AreLimited, MeasuresBlock, MeasuresAreOfTrees}
 use Rattle.while_lang.proofs.BlockNestings.{block_judged, told_of}
 
--- ---- counted nodes
+-- ---- node counts
 
 told_beside : (a b s t : ℕ) → capped (told_nodes a s + told_nodes b t) ≡ told_nodes (max a b) (s + t)
 told_beside a b s t = by_sizes (nat_lt 1000 a) refl (nat_lt 1000 b) refl (nat_lt 1000 (max a b)) refl where
@@ -66,7 +66,7 @@ told_kept a s = elim (nat_lt 1000 a) as (λ b. capped (cond b 100001 (capped s))
 told_same : (a b s t : ℕ) → a ≡ b → s ≡ t → told_nodes a s ≡ told_nodes b t
 told_same a b s t e f = ap (λ (x : ℕ). told_nodes x s) e ∙ ap (λ (x : ℕ). told_nodes b x) f
 
--- something of these nodes
+-- the extent has the reported number of nodes
 abbrev Tells : Extent → ℕ → ℕ → Type 0
 Tells m a s = m.nodes ≡ told_nodes a s
 
@@ -116,19 +116,19 @@ prog_of-stmts_of (assign_then x e rest) = ap (assign_then x e) (prog_of-stmts_of
 prog_of-stmts_of (branch_then b p q rest) = ap (branch_then b p q) (prog_of-stmts_of rest)
 prog_of-stmts_of (loop_then b p rest) = ap (loop_then b p) (prog_of-stmts_of rest)
 
--- ---- what a measure tells of statements
+-- ---- how measures relate to statements
 
 abbrev IsMeasure : Extent → List StmtTree → Type 0
 IsMeasure m ss = m.nodes ≡ told_nodes (largest_in (prog_of ss)) (prog_size (prog_of ss))
 
--- statements, and one more with something below it
+-- the measure of statements after an appended statement
 one_measured : (m v : Extent) (ss : List StmtTree) (x : StmtTree) (b t : ℕ) → IsMeasure m ss → Tells v b t → largest_in (with_stmt x empty) ≡ b → prog_size (with_stmt x empty) ≡ t + 1 → IsMeasure (with_node m v) (ss ++ x ∷ [])
 one_measured m v ss x b t h k large size =
     tells_node m v (largest_in (prog_of ss)) b (prog_size (prog_of ss)) t h k
     ∙ told_same (max (largest_in (prog_of ss)) b) (largest_in (prog_of (ss ++ x ∷ []))) (prog_size (prog_of ss) + t + 1) (prog_size (prog_of (ss ++ x ∷ [])))
     (omega (arith, largest_append ss (x ∷ []), large)) (omega (arith, size_append ss (x ∷ []), size))
 
--- statements, and others after them
+-- the measure of two lists of statements, one after the other
 others_measured : (m v : Extent) (ss ts : List StmtTree) → IsMeasure m ss → IsMeasure v ts → IsMeasure (beside m v) (ss ++ ts)
 others_measured m v ss ts h k =
     tells_beside m v (largest_in (prog_of ss)) (largest_in (prog_of ts)) (prog_size (prog_of ss)) (prog_size (prog_of ts)) h k
@@ -138,7 +138,7 @@ others_measured m v ss ts h k =
 deeper_measured : (m : Extent) (ss : List StmtTree) → IsMeasure m ss → IsMeasure (deeper m) ss
 deeper_measured m ss h = ap capped h ∙ told_kept (largest_in (prog_of ss)) (prog_size (prog_of ss))
 
--- ---- two readings at once
+-- ---- two passes side by side
 
 both_then : {A B A' B' : Type 0} (R : A → A' → Type 0) (S : B → B' → Type 0) (r : Result A TextFault) (s : Result A' TextFault) (f : A → Result B TextFault) (g : A' → Result B' TextFault) → Both R r s → ((x : A) (y : A') → R x y → Both S (f x) (g y)) → Both S (r >>= f) (s >>= g)
 both_then R S (Ok x) (Ok y) f g h k = k x y h
@@ -202,7 +202,7 @@ module _ (w : ScopeParts) (ps : List ProgParts) (limited : AreLimited ps) where
   target_both at (Some (TermName i)) r s h = tt
   target_both at (Some (Prog i)) r s h = tt
 
-  -- ---- statements with something below them
+  -- ---- statements with parts
 
   branch_measured : (m v u y : Extent) (ss us vs : List StmtTree) (b : CondTree) → IsMeasure m ss → CondTells v b → IsMeasure u us → IsMeasure y vs → IsMeasure (with_node m (beside v (beside u y))) (ss ++ branch_stmt b (prog_of us) (prog_of vs) ∷ [])
   branch_measured m v u y ss us vs b h c i j =

@@ -1,4 +1,5 @@
--- A block is measured exactly where it is sound and fits, and then its nesting is told.
+-- Measuring a block succeeds exactly when the block is sound and within the limits; then it gives the nesting of the
+-- block.
 use Rattle.std.proofs.Common.{◌≡◌, ◌≤◌, ◌<◌, ◌+◌, ◌↔◌, ℕ, max, min, Bool, true, false, cond, nat_lt, slice_get, List, Option, Some, None, Result, Ok, Err, IsOk, refl, ap, subst, ◌∙◌, arith}
 use Rattle.std.proofs.lemmas.Bool.{ltb-true, ltb-false}
 use Rattle.text_tokens.specs.declared.fault.TextFault.{TextFault}
@@ -24,9 +25,9 @@ use Rattle.while_lang.specs.BlockMeasuring.{extent, with_node, beside, deeper, s
 use Rattle.while_lang.specs.BlockSound.{IsShallow, IsStmtName, BlockIsSound, prog_nesting, name_nesting, block_nesting}
 use Rattle.while_lang.specs.BlockLaws.{SoundAreMeasured}
 
--- ---- results that are judged
+-- ---- results and their nestings
 
--- something of this nesting, up to one past the limit
+-- the extent has nesting `n`, capped at 201
 abbrev pub Nests : Extent → ℕ → Type 0
 Nests m n = m.nesting ≡ min n 201
 
@@ -38,7 +39,7 @@ prefixed : (s : Result Extent TextFault) (P Q : Type 0) (n : ℕ) → P → Judg
 prefixed (Ok m) P Q n p h = ((p, h.0), h.1)
 prefixed (Err e) P Q n p h = λ x. h x.1
 
--- one part, and then another
+-- a part, then another part
 then_judged : (r : Result Extent TextFault) (next : Extent → Result Extent TextFault) (P Q : Type 0) (n k : ℕ) → Judged r P n → ((m : Extent) → Nests m n → Judged (next m) Q k) → Judged (r >>= next) (P × Q) k
 then_judged (Ok m) next P Q n k h g = prefixed (next m) P Q k h.0 (g m h.1)
 then_judged (Err e) next P Q n k h g = λ x. h x.0
@@ -60,7 +61,7 @@ decided (Err e) P n h = (λ t. absurd cc, λ p. absurd (h p))
 pub told_of : (r : Result Extent TextFault) (P : Type 0) (n : ℕ) (m : Extent) → Judged r P n → r ≡ Ok m → Nests m n
 told_of r P n m h e = let k : Judged (Ok m) P n = subst (λ (s : Result Extent TextFault). Judged s P n) e h in k.1
 
--- ---- the nesting of what is put together
+-- ---- the nesting of combined parts
 
 nests_none : Nests (extent 0 0) 0
 nests_none = omega arith
@@ -117,7 +118,7 @@ module _ (w : ScopeParts) (ps : List ProgParts) where
   condition_judged : (d : ℕ) (b : Phrase cond_symbol) → Judged (fold_cond (block_extents w ps) d b) (Sound d b × IsWithinLimits d b) (nesting w b)
   condition_judged d b = cond_judged w (context d false true) b
 
-  -- what is added to statements that nest so deep
+  -- what a phrase adds to statements of nesting `n`
   abbrev Judges : (x : BlockSymbol) → BlockPhrase x → Type 0
   Judges block p = (d : ℕ) (m : Extent) → Judged (fold_block (block_extents w ps) d p m) (BlockIsSound w ps d p × BlockFits d p) (block_nesting w ps p)
   Judges stmts p = (d : ℕ) (m : Extent) (n : ℕ) → Nests m n → Judged (fold_block (block_extents w ps) d p m) (BlockIsSound w ps d p × BlockFits d p) (max n (block_nesting w ps p))

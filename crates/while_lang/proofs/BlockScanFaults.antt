@@ -1,4 +1,4 @@
--- The test of the syntax of blocks answers faults of the syntax alone, each at a token or after the last.
+-- The syntax check of blocks reports only syntax faults, each at a token or after the last.
 use Rattle.std.proofs.Common.{◌≡◌, ℕ, zero, suc, ◌+◌, ◌*◌, ◌<◌, List, [], ◌∷◌, length, Bool, true, false, cond as if_true, nat_lt, ◌||◌, Result, Ok, Err, inl, inr, refl, sym, ap, subst, arith, drop, length-drop}
 use Rattle.std.specs.Prelude.{IfErr}
 use Rattle.std.proofs.lemmas.Bool.{or_right}
@@ -26,9 +26,9 @@ use Rattle.while_lang.specs.BlockScans.{scanning_blocks, scan_block}
 use Rattle.while_lang.specs.BlockFaults.{opens_block, IsBlockFault, AnswersBlockFaults}
 use Rattle.while_lang.proofs.BlockSteps.{IsShort, cond_short, within_short}
 
--- ---- what stands in the last tokens
+-- ---- tokens that occur in others
 
--- what stands in the second stands in the first
+-- each token of `us` occurs in `ts`
 abbrev Holds : List Lexeme → List Lexeme → Type 0
 Holds ts us = (p : Terminal → Bool) (at : ℕ) → StandsAt p at us → StandsAt p at ts
 
@@ -70,7 +70,7 @@ holds_yield (wide_fac l) ts p at h = inr h
 holds_yield (name_fac l) ts p at h = inr h
 holds_yield (round_fac l f r) ts p at h = inr (holds_yield f (cons_token RoundClose r ts) p at (inr h))
 
--- a phrase at the front, and then others
+-- the tokens after a phrase occur among all tokens
 holds_before : {x : Symbol} (f : Phrase x) (ts us : List Lexeme) → ts ≡ yield_before f us → Holds ts us
 holds_before f ts us e p at h = subst (StandsAt p at) (sym e) (holds_yield f us p at h)
 
@@ -82,7 +82,7 @@ stands_wider (lexeme s place text ∷ ts) at (inl h) =
     inl (or_right (is_terminal (Separator CurlyOpen) s) (is_terminal (Keyword word.If) s || opens s) (or_right (is_terminal (Keyword word.If) s) (opens s) h.0), h.1)
 stands_wider (lexeme s place text ∷ ts) at (inr h) = inr (stands_wider ts at h)
 
--- a fault of a condition or an expression is one of the block
+-- a syntax fault of a condition or an expression is one of the block
 widened : (ts : List Lexeme) (e : TextFault) → IsSyntaxFault ts e → IsBlockFault ts e
 widened ts (Syntax at) h = h
 widened ts (TooDeep at) h = stands_wider ts at h
@@ -96,12 +96,12 @@ lift_fault ts us k (TooDeep at) h = k opens_block at h
 lift_fault ts us k (NumberTooWide at) h = k is_wide at h
 lift_fault ts us k _ h = h
 
--- the rest are among the tokens, or the fault is one of the syntax
+-- the remaining tokens occur in `ts`, or the fault is a syntax fault of `ts`
 abbrev Sound : {V : Type 0} → List Lexeme → Parsed V → Type 0
 Sound ts (Ok x) = Holds ts x.1
 Sound ts (Err e) = IsBlockFault ts e
 
--- what is read from tokens that stand among others
+-- what is sound for some of the tokens is sound for all tokens
 lift : {V : Type 0} (ts us : List Lexeme) → Holds ts us → (s : Parsed V) → Sound us s → Sound ts s
 lift ts us k (Ok x) h = λ p at i. k p at (h p at i)
 lift ts us k (Err e) h = lift_fault ts us k e h
@@ -118,7 +118,7 @@ change_sound : {V W : Type 0} (ts : List Lexeme) (f : V → W) (s : Parsed V) �
 change_sound ts f (Ok x) h = h
 change_sound ts f (Err e) h = h
 
--- one token, and then what is read after it
+-- one token, then the rest
 wanted_then : {V : Type 0} (s : Terminal) (ts : List Lexeme) (k : List Lexeme → Parsed V) → ((l : Leaf) (us : List Lexeme) → ts ≡ cons_token s l us → Sound ts (k us)) → Sound ts (wants (is_terminal s) ts >>= k)
 wanted_then s [] k h = inl refl
 wanted_then {V} s (lexeme x at text ∷ ts) k h = by_terminal (is_terminal s x) refl where
@@ -182,7 +182,7 @@ loop_sound f v d ts a =
     bind_sound (length ts) ts (cond_by scanning_blocks d ts) (λ b. change (scanning_blocks.turn v b.0) (f block d b.1)) (cond_short scanning_blocks d ts) (cond_sound d ts)
     (λ b lt. change_sound b.1 (scanning_blocks.turn v b.0) (f block d b.1) (a block d b.1 (omega arith)))
 
--- what follows the first token of a statement
+-- the rest after the first token of a statement
 next_sound : (s : Terminal) (at : ℕ) (text : List ℕ) (ts : List Lexeme) (r : Parsed (Unit {0})) → Sound ts r → Sound (lexeme s at text ∷ ts) r
 next_sound s at text ts r h = lift (lexeme s at text ∷ ts) ts (λ p place i. inr i) r h
 
@@ -247,7 +247,7 @@ fault_of ts (Err f) e h same = let is : f ≡ e = cc in subst (IsBlockFault ts) 
 block_faults : AnswersBlockFaults
 block_faults d ts e same = fault_of ts (parse_block scanning_blocks block d ts) e (scan_sound block d ts) same
 
--- so does a call that answers as the test does
+-- a call with the result of the syntax check reports only syntax faults
 pub answers_block_fault : (d : ℕ) (all ts : List Lexeme) (r : Result ℕ TextFault) → Wants all r (scan_block d ts) → IfErr r (λ e. IsBlockFault ts e)
 answers_block_fault d all ts (Ok i) h = tt
 answers_block_fault d all ts (Err e) h = block_faults d ts e h

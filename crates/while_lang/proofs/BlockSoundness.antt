@@ -1,4 +1,4 @@
--- What is read as a block from the front of the tokens is a block.
+-- The tokens that the block parser reads are a block.
 use Rattle.std.proofs.Common.{◌≡◌, ℕ, zero, suc, ◌+◌, ◌<◌, List, [], ◌∷◌, Bool, true, false, cond as if_true, nat_lt, Result, Ok, Err, refl, ap, sym, subst, ◌∙◌, drop}
 use Rattle.std.proofs.lemmas.Bool.{ltb-true}
 use Rattle.text_tokens.specs.declared.fault.TextFault.{TextFault}
@@ -35,18 +35,18 @@ abbrev pub rest_of : {V : Type 0} → Parsed V → List Lexeme
 rest_of (Ok x) = x.1
 rest_of (Err e) = []
 
--- a value, and then the semicolon
+-- a value, then the semicolon
 semicolon_ok : {V W : Type 0} (f : V → W) (m : Parsed V) (w : W) (rest : List Lexeme) → change f (then_semicolon m) ≡ Ok (w, rest) → (v : V) × (l : Leaf) × (m ≡ Ok (v, cons_token (Separator Semicolon) l rest))
 semicolon_ok f m w rest e =
     let a = changed_ok f (then_semicolon m) w rest e in
     let b = wanted_ok (Separator Semicolon) m (a.0, rest) a.1 in
     (a.0, b.0, b.1)
 
--- a phrase one level further in
+-- a phrase one level deeper
 inner : (x : BlockSymbol) (d e : ℕ) (ts rest : List Lexeme) → e ≡ d + 1 → IsBlockPhrase x e ts rest → IsBlockPhrase x (d + 1) ts rest
 inner x d e ts rest same p = subst (λ (n : ℕ). IsBlockPhrase x n ts rest) same p
 
--- statements begin with one, and go on with others
+-- a statement followed by statements is a list of statements
 more_found : (d : ℕ) (ts mid rest : List Lexeme) → IsBlockPhrase stmt d ts mid → IsBlockPhrase stmts d mid rest → IsBlockPhrase stmts d ts rest
 more_found d ts mid rest p q =
     let k : IsBlockPhrase stmt d ts (block_before q.phrase rest) = subst (IsBlockPhrase stmt d ts) q.spelled p in
@@ -59,7 +59,7 @@ CondBefore d ts us = (b : Phrase cond) × (ts ≡ yield_before b us) × MeetsLoo
 cond_before : (d : ℕ) (ts mid us : List Lexeme) → mid ≡ us → IsPhrase cond d ts mid → CondBefore d ts us
 cond_before d ts mid us same p = let k : IsPhrase cond d ts us = subst (IsPhrase cond d ts) same p in (k.phrase, k.spelled, k.obeys, k.fits)
 
--- what follows the first block of an `if`
+-- the rest of an `if` after its first block
 pub data Second (d : ℕ) (ts rest : List Lexeme) : Type 0 where
   none_there : (same : ts ≡ rest) → Second d ts rest
   block_there : (l : Leaf) → (us : List Lexeme) → (spelled : ts ≡ cons_token (Keyword word.Else) l us) → (q : IsBlockPhrase block d us rest) → Second d ts rest

@@ -1,4 +1,4 @@
--- The equation of the reading of blocks, in which no number of steps stands.
+-- The equation of the block parser, without a number of steps.
 use Rattle.std.proofs.Common.{◌≡◌, ℕ, zero, suc, ◌+◌, ◌*◌, ◌<◌, ◌≤◌, List, [], ◌∷◌, length, Bool, true, false, cond, Ok, Err, refl, ap, ◌∙◌, arith, drop, length-drop}
 use Rattle.text_tokens.specs.declared.fault.TextFault.TheVariants.{Syntax}
 use Rattle.text_grammar.specs.declared.terminal.Terminal.{Terminal}
@@ -17,7 +17,7 @@ use Rattle.while_lang.specs.BlockActions.{BlockActions}
 use Rattle.while_lang.specs.Blocks.{enter, BlockAim, block, stmts_after, stmt_after, branch_after, BlockParser, cond_by, expr_by, then_semicolon, block_by, stmts_by, assign_by, named_by, loop_by, stmt_by, else_by, branch_by}
 use Rattle.while_lang.specs.Blocks.{blocks_by, steps, block_within, parse_block}
 
--- ---- what is read leaves fewer tokens
+-- ---- parsers consume tokens
 
 abbrev pub IsShort : {S : Type 0} → BlockParser S → Type 0
 IsShort {S} f = (x : BlockAim S) (d : ℕ) (ts : List Lexeme) → Within (length ts) (f x d ts)
@@ -28,7 +28,7 @@ cond_short g d ts = weaken (length ts + 0) (length ts) (cond_by g d ts) (omega a
 pub expr_short : {E B L T M S : Type 0} (g : BlockActions E B L T M S) (d : ℕ) (ts : List Lexeme) → Within (length ts) (expr_by g d ts)
 expr_short g d ts = weaken (length ts + 0) (length ts) (expr_by g d ts) (omega arith) (expr_read_short g.phrases.conds.exprs sums (context d false true) ts)
 
--- one token, and then what is read after it
+-- one token, then the rest
 pub wanted_within : {V : Type 0} (p : Terminal → Bool) (n : ℕ) (ts : List Lexeme) (k : List Lexeme → Parsed V) → ((us : List Lexeme) → length us < length ts → Within n (k us)) → Within n (wants p ts >>= k)
 wanted_within p n [] k h = tt
 wanted_within p n (lexeme s at text ∷ ts) k h = elim (p s) as (λ b. Within n (cond b (Ok ts) (Err (Syntax at)) >>= k)) [ true ↦ h ts (omega arith) | false ↦ tt ]
@@ -74,7 +74,7 @@ stmt_short g f s v d (lexeme (Keyword word.While) at text ∷ ts) = loop_short g
 stmt_short g f s v d (lexeme Name at text ∷ ts) = named_short g v d at text ts
 stmt_short g f s v d (lexeme _ at text ∷ ts) = tt
 
--- no second block leaves all tokens
+-- without a second block all tokens remain
 else_short : {E B L T M S : Type 0} (g : BlockActions E B L T M S) (f : BlockParser S) → IsShort f → (d : ℕ) (ts : List Lexeme) → Within (length ts + 1) (else_by g f d ts)
 else_short g f s d ts =
     if_within (length ts + 1) (heads (is_terminal (Keyword word.Else)) ts) _ (Ok (g.none, ts))
@@ -102,7 +102,7 @@ unfolding block_within
 within_short g zero x d ts = tt
 within_short g (suc n) x d ts = blocks_short g (block_within g n) (within_short g n) x d ts
 
--- ---- what reads alike on fewer tokens reads alike
+-- ---- parsers that agree on fewer tokens agree
 
 abbrev Same : {S : Type 0} → BlockParser S → BlockParser S → ℕ → Type 0
 Same {S} f h n = (x : BlockAim S) (d : ℕ) (ts : List Lexeme) → steps x ts < n → f x d ts ≡ h x d ts
@@ -167,7 +167,7 @@ pub block_step : {E B L T M S : Type 0} (g : BlockActions E B L T M S) (x : Bloc
 unfolding parse_block block_within
 block_step g x d ts = blocks_same g (block_within g (steps x ts)) (parse_block g) (within_short g (steps x ts)) x d ts (λ y e us lt. enough g (steps x ts) (suc (steps y us)) y e us lt (omega arith))
 
--- what is read leaves fewer tokens
+-- the parser consumes at least one token
 pub block_read_short : {E B L T M S : Type 0} (g : BlockActions E B L T M S) → IsShort (parse_block g)
 unfolding parse_block
 block_read_short g x d ts = within_short g (suc (steps x ts)) x d ts

@@ -1,4 +1,4 @@
--- A loop is left at once, or enters its body and is run again.
+-- A loop is left at once, or its body is entered and the loop runs again.
 use Rattle.std.proofs.Common.{◌≡◌, ℕ, zero, suc, ◌+◌, false, ◌⊎◌, inl, inr, refl, subst, arith}
 use Rattle.kat_model.specs.Expressions.{CondTree}
 use Rattle.kat_model.specs.Stores.{Store}

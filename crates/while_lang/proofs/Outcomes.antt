@@ -1,4 +1,4 @@
--- What the run of a program ends with is a run by the relations, and the only one.
+-- The end of a program's run is an outcome by the run relations, and the only one.
 use Rattle.std.proofs.Common.{◌≡◌, ℕ, zero, suc, ◌+◌, ◌-◌, ◌<◌, ◌≤◌, ◌↔◌, nat_eq, Bool, true, false, ◌&&◌, if◌then◌else◌, refl, sym, subst, ◌∙◌, ap}
 use Rattle.std.proofs.Common.{◌⊎◌, inl, inr, ⊎_elim, arith}
 use Rattle.std.proofs.lemmas.Bool.{cases_eq}
@@ -16,7 +16,7 @@ both_true : (x y : Bool) → (x && y) ≡ true → (x ≡ true) × (y ≡ true)
 both_true true y e = (refl, e)
 both_true false y e = absurd cc
 
--- how a run that ends so came about
+-- a run with this end from `n` turns satisfies the relation of its outcome: `G`, `S` or `W`
 abbrev By : (ℕ → Store → Type 0) → (ℕ → Store → Type 0) → (ℕ → Store → Type 0) → ℕ → Outcome → Store → ℕ → Type 0
 By G S W n Done t l = (k : ℕ) × G k t × (n ≡ k + l)
 By G S W n Stuck t l = (k : ℕ) × S k t × (n ≡ k + l)
@@ -39,7 +39,7 @@ by_map G S W H T V n f g h Done t r (k, x, d) = (k, f k t x, d)
 by_map G S W H T V n f g h Stuck t r (k, x, d) = (k, g k t x, d)
 by_map G S W H T V n f g h More t r (x, d) = (h n t x, d)
 
--- a run, and what follows it
+-- a run, then the run that follows it
 by_then : (G S W H T V : Run) → (s : Store) (n : ℕ) (next : Store → ℕ → End) →
     ((u : Store) (l : ℕ) → By (H u) (T u) (V u) l (next u l).outcome (next u l).store (next u l).left) →
     (o : Outcome) (u : Store) (l : ℕ) → By (G s) (S s) (W s) n o u l →
@@ -89,7 +89,7 @@ turning_came b G S W body came (suc fuel) s n h = by_truth (b s) refl (cases_eq 
         rw (q) (one_turn b G S W s n (turning fuel b body) e (omega (arith, d)) (λ u l less. later u l (omega (arith, less, h)))
         (body s (n - 1)).outcome (body s (n - 1)).store (body s (n - 1)).left (came s (n - 1)))
 
--- a concrete program ends by one of its runs
+-- the end of a concrete program's run satisfies the relation of its outcome
 run_came : (w : Width) (p : ProgTree) → is_concrete p ≡ true → (s : Store) (n : ℕ) → Came w p s n (run_end w p s n)
 run_came w empty c s n = (0, (refl, refl), omega arith)
 run_came w (skip_then rest) c s n = run_came w rest c s n
@@ -161,7 +161,7 @@ outcome_came w p s n More t g =
     let all : n ≡ n + 0 = omega arith in
     (0, ap (run_end w p s) all ∙ waits_more w p s n t g)
 
--- the run of a concrete program tells its one outcome
+-- the run of a concrete program decides its only outcome
 pub decided : (w : Width) (p : ProgTree) (s : Store) (n : ℕ) (o : Outcome) (t : Store) (l : ℕ) → is_concrete p ≡ true → ended o t l ≡ run_end w p s n →
     (r : Outcome) (u : Store) → ((o ≡ r) × (t ≡ u)) ↔ HasOutcome w p s n r u
 decided w p s n o t l c e r u = (there, back)

@@ -1,4 +1,4 @@
--- A printed program begins with a block of its tree, and reads back.
+-- A printed program is a block with the same tree, and reads back.
 use Rattle.std.proofs.Common.{◌≡◌, ◌<◌, ◌≤◌, ◌+◌, ℕ, max, true, false, List, [], ◌∷◌, ◌++◌, length, Result, Ok, Err, IsOk, refl, sym, ap, ◌∙◌, subst, arith, append_assoc}
 use Rattle.std.proofs.lemmas.Bool.{le-ltb}
 use Rattle.std.proofs.lemmas.List.{append-nil}
@@ -47,21 +47,21 @@ use Rattle.while_lang.proofs.BlockMeasures.{block_measured, prog_of-stmts_of}
 use Rattle.while_lang.proofs.SeparatePrograms.{block_separate}
 
 module _ (w : ScopeParts) (progs : List ProgParts) where
-  -- a phrase adds such statements, and nests so deep
+  -- the phrase adds the statements `xs` and has nesting `levels`
   pub record Adds (x : BlockSymbol) (xs : List StmtTree) (levels : ℕ) (p : BlockPhrase x) : Type 0 where
     pub tree : (d : ℕ) → d + levels ≤ 200 → (ss : List StmtTree) → fold_block (block_trees w progs) d p ss ≡ Ok (ss ++ xs)
     pub sound : (d : ℕ) → d + levels ≤ 200 → BlockIsSound w progs d p
     pub fits : (d : ℕ) → d + levels ≤ 200 → BlockFits d p
     pub deep : block_nesting w progs p ≡ levels
 
-  -- a block has such statements, whatever is before it
+  -- the block has the statements `xs`, whatever precedes it
   pub record Makes (xs : List StmtTree) (levels : ℕ) (p : BlockPhrase block) : Type 0 where
     pub tree : (d : ℕ) → d + levels ≤ 200 → (ss : List StmtTree) → fold_block (block_trees w progs) d p ss ≡ Ok xs
     pub sound : (d : ℕ) → d + levels ≤ 200 → BlockIsSound w progs d p
     pub fits : (d : ℕ) → d + levels ≤ 200 → BlockFits d p
     pub deep : block_nesting w progs p ≡ levels
 
-  -- the pieces begin with a phrase of which P holds, and go on with others
+  -- the pieces `qs` begin with a phrase that satisfies `P` and continue with `ps`
   pub record Begins (x : BlockSymbol) (P : BlockPhrase x → Type 0) (at : ℕ) (qs ps : List Piece) : Type 0 where
     pub phrase : BlockPhrase x
     pub end : ℕ
@@ -252,7 +252,7 @@ module _ (w : ScopeParts) (progs : List ProgParts) where
         } in
         more_begins (loop b p) (stmts_of rest) (max (cond_nesting b) (stmts_nesting p + 1)) (stmts_nesting rest) at _ mid ps a (stmts_begin rest is.2 a.end ps)
 
-  -- ---- what is read
+  -- ---- the reading of a printed block
 
   ok_value : (r : Result Extent TextFault) → IsOk r → (m : Extent) × (r ≡ Ok m)
   ok_value (Ok m) h = (m, refl)

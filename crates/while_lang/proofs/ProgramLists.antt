@@ -1,4 +1,4 @@
--- Programs as lists of statements, gone through one by one.
+-- Programs as lists of statements.
 use Rattle.std.proofs.Common.{arith, append-nil, ◌≡◌, ℕ, ◌+◌, ◌<◌, ◌≤◌, List, [], ◌∷◌, ◌++◌, map, length, take, get_or, refl, sym, ap, ◌∙◌}
 use Rattle.std.proofs.lemmas.List.{take_all, map_more, length-map, get_or-map}
 use Rattle.while_lang.specs.Programs.{ProgTree, StmtTree, skip, abort, assert, act, assign, branch, loop, with_stmt, prog_of, stmts_of}
@@ -14,16 +14,16 @@ stmts_of-with_stmt (assign x e) rest = refl
 stmts_of-with_stmt (branch b p q) rest = refl
 stmts_of-with_stmt (loop b p) rest = refl
 
--- a program is known by its statements
+-- the program of a list of statements has these statements
 pub stmts_of-prog_of : (ss : List StmtTree) → stmts_of (prog_of ss) ≡ ss
 stmts_of-prog_of [] = refl
 stmts_of-prog_of (s ∷ ss) = stmts_of-with_stmt s (prog_of ss) ∙ ap (λ (xs : List StmtTree). s ∷ xs) (stmts_of-prog_of ss)
 
--- so is a list of statements of the program
+-- so does the tree of a list of statements of the program
 pub listed_stmts : (ss : List Stmt) → stmts_of (list_tree ss) ≡ map stmt_tree ss
 listed_stmts ss = stmts_of-prog_of (map stmt_tree ss)
 
--- where no statement is left to be moved, all are at the end
+-- if no statement remains to be moved, the list has all statements
 pub moved_all : (list rest : List Stmt) (all : List StmtTree) → map stmt_tree list ++ map stmt_tree rest ≡ all → length rest ≡ 0 → map stmt_tree list ≡ all
 moved_all list [] all h e = sym (append-nil (map stmt_tree list)) ∙ h
 moved_all list (s ∷ rest) all h e = absurd (omega (arith, e))
@@ -40,7 +40,7 @@ copied_all list items i le before = ap prog_of (before ∙ ap (map stmt_tree) (t
 
 -- ---- equal programs
 
--- two equal programs have as many statements, and the same at each place
+-- equal programs have equal lists of statements
 same_stmts : (xs ys : List Stmt) → list_tree xs ≡ list_tree ys → map stmt_tree xs ≡ map stmt_tree ys
 same_stmts xs ys e = sym (stmts_of-prog_of (map stmt_tree xs)) ∙ ap stmts_of e ∙ stmts_of-prog_of (map stmt_tree ys)
 

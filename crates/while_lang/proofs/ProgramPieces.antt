@@ -12,11 +12,11 @@ use Rattle.while_lang.specs.Programs.{ProgTree, empty, skip_then, abort_then, as
 use Rattle.while_lang.specs.ProgramPrinting.{keyword_pieces, in_curly, stmts_pieces, block_pieces}
 use Rattle.while_lang.specs.Working.ProgramTexts.{stmts_text}
 
--- the pieces spell a text, and go on
+-- the pieces spell `text` before the pieces that follow
 abbrev Spell : (List Piece → List Piece) → List ℕ → Type 0
 Spell pieces text = (ps : List Piece) → spelled (pieces ps) ≡ text ++ spelled ps
 
--- the pieces of a whole phrase
+-- the pieces of a whole phrase spell its text
 pub cond_whole : (names : Meaning → List ℕ) (b : CondTree) → spelled (cond_pieces names b []) ≡ cond_text names b
 cond_whole names b = cond_spells names b [] ∙ append-nil (cond_text names b)
 
@@ -24,7 +24,7 @@ pub expr_whole : (names : Meaning → List ℕ) (e : ExprTree) → spelled (expr
 expr_whole names e = expr_spells names e [] ∙ append-nil (expr_text names e)
 
 module _ (names : Meaning → List ℕ) where
-  -- a condition, and what is spelled after it
+  -- a condition, then the text after it
   cond_then : (b : CondTree) (ps : List Piece) (text : List ℕ) → spelled ps ≡ text → spelled (cond_pieces names b ps) ≡ cond_text names b ++ text
   cond_then b ps text e = cond_spells names b ps ∙ ap (λ (l : List ℕ). cond_text names b ++ l) e
 
@@ -58,7 +58,7 @@ module _ (names : Meaning → List ℕ) where
       (codes " {" ++ (stmts_text names p ++ (codes " }" ++ (stmts_text names rest ++ spelled ps)))) (ap (λ (l : List ℕ). codes " {" ++ l) body))
       ∙ sym (simp append_assoc)
 
-  -- what is written onto nothing
+  -- a block written to an empty buffer is spelled by its pieces
   pub block_printed : (p : ProgTree) (old opened inside new : List ℕ) → old ≡ [] → opened ≡ old ++ codes "{" → inside ≡ opened ++ stmts_text names p → new ≡ inside ++ codes " }" → new ≡ spelled (block_pieces names p [])
   block_printed p old opened inside new e f g h =
       let text : spelled (block_pieces names p []) ≡ codes "{" ++ (stmts_text names p ++ codes " }") = ap (λ (l : List ℕ). codes "{" ++ l) (stmts_spell p (gap 32 ∷ symbol (codes "}") ∷ [])) in

@@ -1,4 +1,4 @@
--- The run of a program ends as the relations of its runs say.
+-- The run of a program ends as the run relations state.
 use Rattle.std.proofs.Common.{◌≡◌, ℕ, zero, suc, ◌+◌, ◌-◌, Bool, true, false, if◌then◌else◌, refl, sym, ◌∙◌, ap, inl, inr, arith}
 use Rattle.kat_model.specs.Expressions.{CondTree}
 use Rattle.kat_model.specs.Stores.{Store}
@@ -22,7 +22,7 @@ then_stuck e next u n h = rw (h) refl
 then_more : (e : End) (next : Store → ℕ → End) (u : Store) (n : ℕ) → e ≡ ended More u n → then_run e next ≡ ended More u n
 then_more e next u n h = rw (h) refl
 
--- turns that are done, and then an end
+-- a number of completed turns, then an end
 turns_to : (w : Width) (b : Store → Bool) (p : ProgTree) (R : Run) (r : ℕ) (res : Store → End) →
     ((s : Store) (k : ℕ) (t : Store) → Goes w p s k t → (r : ℕ) → run_end w p s (k + r) ≡ ended Done t r) →
     ((s : Store) (k : ℕ) (t : Store) → R s k t → loop_end b (run_end w p) s (k + r) ≡ res t) →

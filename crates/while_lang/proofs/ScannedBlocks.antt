@@ -1,4 +1,4 @@
--- The test of the syntax takes just the blocks.
+-- The syntax check accepts exactly the blocks of the grammar.
 use Rattle.std.proofs.Common.{◌≡◌, ℕ, ◌+◌, ◌<◌, List, [], true, false, Result, Ok, Err, refl, ap, ◌∙◌}
 use Rattle.std.proofs.lemmas.Bool.{lt-ltb}
 use Rattle.text_tokens.specs.declared.fault.TextFault.{TextFault}
@@ -16,7 +16,7 @@ use Rattle.while_lang.proofs.BlockSoundness.{block_found}
 pub enters : (d at : ℕ) → d < 200 → enter d at ≡ Ok (d + 1)
 enters d at lt = rw (lt-ltb d 200 lt) refl
 
--- nothing is refused where nothing is too deep or too wide
+-- a phrase within the limits on depth and numbers has no fault
 block_scanned : {x : BlockSymbol} (p : BlockPhrase x) (d : ℕ) → BlockFits d p → (s : Unit {0}) → fold_block scanning_blocks d p s ≡ Ok tt
 block_scanned (braced l ss r) d f s = rw (enters d l.at f.0, block_scanned ss (d + 1) f.1 tt) refl
 block_scanned no_stmts d f s = refl

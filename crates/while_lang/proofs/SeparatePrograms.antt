@@ -1,4 +1,4 @@
--- The pieces of a printed program are tokens that do not go on in the next.
+-- The pieces of a printed program are tokens that the following pieces do not extend.
 use Rattle.std.proofs.Common.{ℕ, List, [], ◌∷◌, refl}
 use Rattle.std.specs.Prelude.{codes}
 use Rattle.text_tokens.specs.declared.token.Kind.TheVariants.{Symbol}
@@ -11,7 +11,7 @@ use Rattle.text_print.proofs.Separate.{EndsWords, blank_ends, expr_separate, con
 use Rattle.while_lang.specs.Programs.{ProgTree, empty, skip_then, abort_then, assert_then, act_then, assign_then, branch_then, loop_then}
 use Rattle.while_lang.specs.ProgramPrinting.{keyword_pieces, in_curly, stmts_pieces, block_pieces, ProgIsNamed}
 
--- ---- symbols that go on in nothing
+-- ---- symbols that no byte extends
 
 semicolon_alone : (rest : List ℕ) → EndsBefore Symbol (codes ";") rest
 semicolon_alone [] = tt

@@ -1,4 +1,4 @@
--- Stores after a variable is set.
+-- Stores after an assignment to a variable.
 use Rattle.std.proofs.Common.{◌≡◌, ℕ, zero, suc, ◌<◌, ◌⊎◌, inl, inr, ⊎_elim, [], ◌∷◌, set, subst}
 use Rattle.kat_model.specs.Members.{Has}
 use Rattle.kat_model.specs.Stores.{modulus, Store, IsStore}

@@ -1,4 +1,4 @@
--- How runs of lists and of loops go on.
+-- How runs of lists and loops continue.
 use Rattle.std.proofs.Common.{◌≡◌, ℕ, zero, suc, ◌-◌, ◌<◌, ◌≤◌, nat_eq, Bool, true, false, if◌then◌else◌, refl, ap, ◌⊎◌, inl, inr, arith}
 use Rattle.std.proofs.lemmas.Bool.{cases_eq}
 use Rattle.std.proofs.lemmas.Bool.Decides.{nat_tests}
@@ -10,7 +10,7 @@ use Rattle.while_lang.specs.Working.Running.{End, ended, by_outcome, then_run, t
 use Rattle.while_lang.specs.declared.outcome.Outcome.{Outcome}
 use Rattle.while_lang.specs.declared.outcome.Outcome.TheVariants.{Done, Stuck, More}
 
--- no run gives turns back
+-- a run never increases the turns left
 pub then_less : (e : End) (next : Store → ℕ → End) (n : ℕ) → e.left ≤ n → ((s : Store) (k : ℕ) → (next s k).left ≤ k) → (then_run e next).left ≤ n
 then_less e next n h less = by_cases e.outcome
   where
@@ -55,7 +55,7 @@ run_less w (loop_then b p rest) s n = then_less (loop_end (condition w b) (run_e
 pub then_same : (e : End) (f g : Store → ℕ → End) → f e.store e.left ≡ g e.store e.left → then_run e f ≡ then_run e g
 then_same e f g h = ap (by_outcome e.outcome e) h
 
--- more fuel than turns changes nothing
+-- fuel beyond the number of turns changes nothing
 pub turning_more : (f g : ℕ) (b : Store → Bool) (body : Store → ℕ → End) → ((s : Store) (k : ℕ) → (body s k).left ≤ k) → (s : Store) (n : ℕ) → n ≤ f → n ≤ g → turning f b body s n ≡ turning g b body s n
 turning_more zero zero b body less s n p q = refl
 turning_more zero (suc g) b body less s n p q = rw (none) refl
@@ -75,7 +75,7 @@ turning_more (suc f) (suc g) b body less s n p q =
     by_cases (inl e) h = rw (e) refl
     by_cases (inr d) h = rw (h d) refl
 
--- a loop that turns once more
+-- if the condition holds and the body is done, the loop continues after the body
 pub turned : (b : Store → Bool) (body : Store → ℕ → End) → ((s : Store) (k : ℕ) → (body s k).left ≤ k) →
     (s : Store) (n : ℕ) (o : Outcome) (t : Store) (k : ℕ) → b s ≡ true → 0 < n → ended o t k ≡ body s (n - 1) → o ≡ Done → loop_end b body s n ≡ loop_end b body t k
 turned b body less s zero o t k h p e d = absurd (omega (arith, p))
@@ -85,7 +85,7 @@ turned b body less s (suc n) o t k h p e d =
     last : nat_eq (suc n) 0 ≡ false
     last = grind (arith, nat_tests)
 
--- a loop whose body isn't done
+-- if the body is not done, the loop ends as the body does
 pub stopped : (b : Store → Bool) (body : Store → ℕ → End) (s : Store) (n : ℕ) (o : Outcome) (t : Store) (k : ℕ) →
     b s ≡ true → 0 < n → ended o t k ≡ body s (n - 1) → (o ≡ Done → ⊥) → loop_end b body s n ≡ ended o t k
 stopped b body s zero o t k h p e d = absurd (omega (arith, p))
@@ -93,7 +93,7 @@ stopped b body s (suc n) Done t k h p e d = absurd (d refl)
 stopped b body s (suc n) Stuck t k h p e d = let l : nat_eq (suc n) 0 ≡ false = grind (arith, nat_tests) in rw (h, l, ← e) refl
 stopped b body s (suc n) More t k h p e d = let l : nat_eq (suc n) 0 ≡ false = grind (arith, nat_tests) in rw (h, l, ← e) refl
 
--- a loop that is left
+-- if the condition fails, the loop is done
 pub passed : (b : Store → Bool) (body : Store → ℕ → End) (s : Store) (n : ℕ) → b s ≡ false → loop_end b body s n ≡ ended Done s n
 passed b body s zero h = rw (h) refl
 passed b body s (suc n) h = rw (h) refl

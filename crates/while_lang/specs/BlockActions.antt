@@ -1,11 +1,11 @@
--- What is made of the parts of a block while it is read. Actions may refuse a part; all else that can be wrong with a
--- block is its syntax, its depth, or a number that is too wide.
+-- The semantic actions of the block parser. Actions may reject a part; the other faults of a block are its syntax, its
+-- depth and numbers that are too wide.
 use Rattle.std.specs.Prelude.{ℕ, List, Result}
 use Rattle.text_tokens.specs.declared.fault.TextFault.{TextFault}
 use Rattle.text_grammar.specs.Actions.{Actions}
 
--- S is what is made of the statements of a block so far, and each action on statements takes that. A number is first how
--- many constructs are open, and then the place of a name.
+-- `S` is the result for the statements of a block so far, which each action on statements takes. The numbers of `named`
+-- are the number of open constructs and the place of the name; the number of `target` is the place of the name.
 pub record BlockActions (E B L T M S : Type 0) : Type 0 where
   pub phrases : Actions E B L T M
   pub none : S

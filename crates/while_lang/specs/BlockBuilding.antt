@@ -1,4 +1,4 @@
--- The tree of a block in a scope, with the programs that it names spliced in.
+-- The tree of a block in a scope. The programs that it names are spliced in.
 use Rattle.std.specs.Prelude.{List, [], ◌∷◌, ◌++◌, slice_get, Ok, Option, Some, None, ℕ}
 use Rattle.kat_model.specs.Trees.{Term}
 use Rattle.kat_model.specs.Expressions.{ExprTree, CondTree}
@@ -10,23 +10,23 @@ use Rattle.while_lang.specs.Programs.{StmtTree, skip, abort, assert, act, assign
 use Rattle.while_lang.specs.NamedProgs.{ProgParts}
 use Rattle.while_lang.specs.BlockActions.{BlockActions}
 
--- the statements of a program of the file
+-- the statements of a program of the file, or none
 abbrev pub spliced : Option ProgParts → List StmtTree
 spliced None = []
 spliced (Some p) = stmts_of p.tree
 
--- the statements that a name stands for; a name that is no action and no program is refused before trees are built
+-- the statements of a name; measuring rejects a name that is neither an action nor a program before trees are built
 abbrev pub named_stmts : List ProgParts → Option Meaning → List StmtTree
 named_stmts ps (Some (Action a)) = act a ∷ []
 named_stmts ps (Some (Prog i)) = spliced (slice_get ps i)
 named_stmts ps _ = []
 
--- the variable that a name stands for; a name that is none is refused before trees are built
+-- the variable of a name; measuring rejects a name that is not a variable before trees are built
 abbrev pub target_var : Option Meaning → ℕ
 target_var (Some (Var k)) = k
 target_var _ = 0
 
--- statements are added at the end
+-- the actions that build trees; they append statements
 abbrev pub block_trees : ScopeParts → List ProgParts → BlockActions ExprTree CondTree (List CondTree) Term (List Term) (List StmtTree)
 block_trees w ps = record {
   phrases = trees w;

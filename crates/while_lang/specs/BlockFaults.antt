@@ -1,4 +1,4 @@
--- Which faults the test of the syntax of blocks answers.
+-- The faults that the syntax check of blocks reports.
 use Rattle.std.specs.Prelude.{◌≡◌, ◌⊎◌, ℕ, List, Bool, true, ◌||◌, Err}
 use Rattle.text_tokens.specs.declared.fault.TextFault.{TextFault}
 use Rattle.text_tokens.specs.declared.fault.TextFault.TheVariants.{Syntax, TooDeep, NumberTooWide}
@@ -11,17 +11,18 @@ use Rattle.text_grammar.specs.Parsed.{at_end}
 use Rattle.text_grammar.specs.Faults.{opens, is_wide, StandsAt}
 use Rattle.while_lang.specs.BlockScans.{scan_block}
 
--- what opens a construct of a block: a brace, the `if` of an `else if`, and what opens one of a condition or an expression
+-- whether a terminal opens a construct of a block: a brace, the `if` of an `else if`, or what opens a construct of a
+-- condition or an expression
 abbrev pub opens_block : Terminal → Bool
 opens_block s = is_terminal (Separator CurlyOpen) s || (is_terminal (Keyword word.If) s || opens s)
 
--- a fault of the syntax: at a token, or after the last
+-- a syntax fault: at a token, or after the last
 abbrev pub IsBlockFault : List Lexeme → TextFault → Type 0
 IsBlockFault ts (Syntax at) = (at ≡ at_end) ⊎ StandsAt (λ s. true) at ts
 IsBlockFault ts (TooDeep at) = StandsAt opens_block at ts
 IsBlockFault ts (NumberTooWide at) = StandsAt is_wide at ts
 IsBlockFault ts other = ⊥
 
--- the test answers no other fault
+-- the check reports only syntax faults
 abbrev pub AnswersBlockFaults : Type 0
 AnswersBlockFaults = (d : ℕ) (ts : List Lexeme) (e : TextFault) → scan_block d ts ≡ Err e → IsBlockFault ts e

@@ -1,4 +1,4 @@
--- What the actions make of a block, from left to right, or the first fault.
+-- The fold of the actions over a block, from left to right, or the first fault.
 use Rattle.std.specs.Prelude.{ℕ, true, false, Result, Ok}
 use Rattle.text_tokens.specs.declared.fault.TextFault.{TextFault}
 use Rattle.text_grammar.specs.Parsed.{◌>>=◌}
@@ -9,14 +9,14 @@ use Rattle.while_lang.specs.BlockActions.{BlockActions}
 use Rattle.while_lang.specs.Blocks.{enter}
 use Rattle.while_lang.specs.BlockPhrases.{BlockSymbol, BlockPhrase, braced, no_stmts, more_stmts, skip_stmt, abort_stmt, assert_stmt, name_stmt, assign_stmt, if_stmt, while_stmt, no_else, else_block, else_if}
 
--- of a condition or an expression of a program
+-- the fold over a condition or an expression of a program
 abbrev pub fold_cond : {E B L T M S : Type 0} → BlockActions E B L T M S → ℕ → Phrase cond → Result B TextFault
 fold_cond g d b = fold g.phrases (context d false true) b g.phrases.conds.one_of
 
 abbrev pub fold_expr : {E B L T M S : Type 0} → BlockActions E B L T M S → ℕ → Phrase expr → Result E TextFault
 fold_expr g d e = fold g.phrases (context d false true) e (λ v. v)
 
--- by the form of the phrase; statements are added to those so far, and a block begins with none
+-- by the form of the phrase; statements are added to the statements so far, and a block starts without statements
 abbrev pub fold_block : {E B L T M S : Type 0} → BlockActions E B L T M S → ℕ → {x : BlockSymbol} → BlockPhrase x → S → Result S TextFault
 fold_block g d (braced l ss r) s = enter d l.at >>= λ e. fold_block g e ss g.none >>= λ v. Ok (g.braced v)
 fold_block g d no_stmts s = Ok s

@@ -1,4 +1,4 @@
--- What is made of a block, and what its measures tell of its tree.
+-- The folds over blocks, and how the measures of a block relate to its tree.
 use Rattle.std.specs.Prelude.{◌≡◌, ◌↔◌, ◌≤◌, ◌+◌, ℕ, min, List, [], length, slice_get, Some, IsOk, Ok}
 use Rattle.text_tokens.specs.declared.lexer.TheConstants.{MAX_LEN}
 use Rattle.text_tokens.specs.Pieces.{spelled}
@@ -21,14 +21,15 @@ use Rattle.while_lang.specs.BlockSound.{BlockIsSound, block_nesting}
 use Rattle.while_lang.specs.BlockReadings.{block_at}
 use Rattle.while_lang.specs.ProgramPrinting.{block_pieces, ProgIsNamed, block_levels}
 
--- what a pass makes of the tokens of a block is what its actions make of the parts, in text order
+-- a pass over the tokens of a block gives the fold of its actions, in text order
 abbrev pub BlocksAreFolded : Type 0
 BlocksAreFolded =
     (w : ScopeParts) (ps : List ProgParts) (d : ℕ) (p : BlockPhrase block_symbol) (ts : List Lexeme) → BlockObeys p ts →
     (parse_block (block_extents w ps) block d (block_before p ts) ≡ before ts (fold_block (block_extents w ps) d p (extent 0 0)))
     × (parse_block (block_trees w ps) block d (block_before p ts) ≡ before ts (fold_block (block_trees w ps) d p []))
 
--- a block is measured exactly where it is sound, nests at most 200 constructs and has no number of 2^64 or more
+-- measuring a block succeeds if and only if the block is sound, nests at most 200 constructs and has no number of 2^64
+-- or more
 abbrev pub SoundAreMeasured : Type 0
 SoundAreMeasured =
     (w : ScopeParts) (ps : List ProgParts) (d : ℕ) (p : BlockPhrase block_symbol) →
@@ -38,7 +39,7 @@ SoundAreMeasured =
 abbrev pub AreLimited : List ProgParts → Type 0
 AreLimited ps = (i : ℕ) (p : ProgParts) → slice_get ps i ≡ Some p → largest_in p.tree ≤ 1000
 
--- the block has a tree, and the measures are those of the tree and of the block
+-- the block has a tree; the measures are the size of the tree and the nesting of the block, both capped
 pub record MeasuresBlock (w : ScopeParts) (ps : List ProgParts) (d : ℕ) (p : BlockPhrase block_symbol) (m : Extent) : Type 0 where
   pub tree : ProgTree
   pub built : (fold_block (block_trees w ps) d p [] >>= λ ss. Ok (prog_of ss)) ≡ Ok tree
@@ -50,8 +51,8 @@ MeasuresAreOfTrees =
     (w : ScopeParts) (ps : List ProgParts) (d : ℕ) (p : BlockPhrase block_symbol) (m : Extent) → AreLimited ps →
     fold_block (block_extents w ps) d p (extent 0 0) ≡ Ok m → MeasuresBlock w ps d p m
 
--- what is printed with the one name of each number reads back to the same program with nothing left, where the text, the
--- sizes of the program and the nesting of the text are within the limits
+-- a program printed with the only name of each meaning reads back as the same program with no tokens left, if the text,
+-- the sizes of the program and the nesting of the text are within the limits
 abbrev pub PrintedReadsBack : Type 0
 PrintedReadsBack =
     (w : ScopeParts) (ps : List ProgParts) (names : Meaning → List ℕ) (p : ProgTree) (d : ℕ) → AreLimited ps → ProgIsNamed w names p →

@@ -1,4 +1,4 @@
--- The faults of the names of a block, and how large and how deep it is.
+-- The faults of the names of a block, and the size and nesting of the block.
 use Rattle.std.specs.Prelude.{ℕ, ◌+◌, max, if◌then◌else◌, nat_lt, List, slice_get, Result, Ok, Err, Option, Some, None}
 use Rattle.text_tokens.specs.declared.fault.TextFault.{TextFault}
 use Rattle.text_tokens.specs.declared.fault.TextFault.TheVariants.{UnknownName, Sort, TooDeep}
@@ -11,35 +11,35 @@ use Rattle.while_lang.specs.ProgramSizes.{prog_size}
 use Rattle.while_lang.specs.NamedProgs.{ProgParts}
 use Rattle.while_lang.specs.BlockActions.{BlockActions}
 
--- nodes and levels of nesting of statements, which are no test; both stop past their limits
+-- the extent of statements, which are not a test: nodes and nesting, each capped at its limit plus one
 abbrev pub extent : ℕ → ℕ → Extent
 extent nodes nesting = limited nodes 0 nesting
 
--- statements so far, and then one node with something below it
+-- the extent of statements `m` and another statement, with `n` below its node
 abbrev pub with_node : Extent → Extent → Extent
 with_node m n = extent (m.nodes + n.nodes + 1) (max m.nesting n.nesting)
 
--- two parts side by side
+-- the extent of two parts next to each other
 abbrev pub beside : Extent → Extent → Extent
 beside m n = extent (m.nodes + n.nodes) (max m.nesting n.nesting)
 
--- one level deeper
+-- the extent one level deeper
 abbrev pub deeper : Extent → Extent
 deeper m = extent m.nodes (m.nesting + 1)
 
--- a program of the file as a statement, where it may stand
+-- the extent after a program of the file as a statement, or a fault if it is too deep
 abbrev pub spliced_extent : ℕ → ℕ → Option ProgParts → Extent → Result Extent TextFault
 spliced_extent d at None m = Ok m
 spliced_extent d at (Some p) m = if nat_lt 200 (d + p.nesting) then Err (TooDeep at) else Ok (beside m (extent (prog_size p.tree) p.nesting))
 
--- a name as a statement
+-- the extent after a name as a statement
 abbrev pub named_extent : List ProgParts → ℕ → ℕ → Option Meaning → Extent → Result Extent TextFault
 named_extent ps d at None m = Err (UnknownName at)
 named_extent ps d at (Some (Action a)) m = Ok (with_node m (extent 0 0))
 named_extent ps d at (Some (Prog i)) m = spliced_extent d at (slice_get ps i) m
 named_extent ps d at (Some n) m = Err (Sort at)
 
--- a name before `:=`
+-- checks a name before `:=`
 abbrev pub check_target : ℕ → Option Meaning → Result (Unit {0}) TextFault
 check_target at None = Err (UnknownName at)
 check_target at (Some (Var k)) = Ok tt

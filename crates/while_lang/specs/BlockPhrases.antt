@@ -6,7 +6,7 @@ use Rattle.text_grammar.specs.declared.terminal.Separator.TheVariants.{Semicolon
 use Rattle.text_grammar.specs.Lexemes.{Lexeme}
 use Rattle.text_grammar.specs.Phrases.{cond, expr, Leaf, Phrase, cons_token, yield_before, MeetsLookahead, IsWithinLimits}
 
--- the symbols of the grammar; `branch` is what follows the keyword `if`
+-- the nonterminals of the grammar; `branch` follows the keyword `if`
 pub data BlockSymbol : Type 0 where
   block stmts stmt branch : BlockSymbol
 
@@ -28,7 +28,7 @@ pub data BlockPhrase : BlockSymbol → Type 0 where
   else_block : (b : Phrase cond) → (p : BlockPhrase block) → (l : Leaf) → (q : BlockPhrase block) → BlockPhrase branch
   else_if : (b : Phrase cond) → (p : BlockPhrase block) → (l i : Leaf) → (r : BlockPhrase branch) → BlockPhrase branch
 
--- the tokens of a phrase, and then those that follow it
+-- the tokens of a phrase, followed by `ts`
 abbrev pub block_before : {x : BlockSymbol} → BlockPhrase x → List Lexeme → List Lexeme
 block_before (braced l ss r) ts = cons_token (Separator CurlyOpen) l (block_before ss (cons_token (Separator CurlyClose) r ts))
 block_before no_stmts ts = ts
@@ -64,8 +64,8 @@ BlockObeys (else_if b p l i r) ts =
     × BlockObeys p (cons_token (Keyword word.Else) l (cons_token (Keyword word.If) i (block_before r ts)))
     × BlockObeys r ts
 
--- with so many levels open around it nothing is too deep, and no number is too wide; each `else if` is one level until
--- its chain ends
+-- with `d` levels open, no construct is too deep and no number is too wide; each `else if` is one level until its chain
+-- ends
 abbrev pub BlockFits : {x : BlockSymbol} → ℕ → BlockPhrase x → Type 0
 BlockFits d (braced l ss r) = (d < 200) × BlockFits (d + 1) ss
 BlockFits d no_stmts = Unit {0}
@@ -81,7 +81,7 @@ BlockFits d (no_else b p) = IsWithinLimits d b × BlockFits d p
 BlockFits d (else_block b p l q) = IsWithinLimits d b × BlockFits d p × BlockFits d q
 BlockFits d (else_if b p l i r) = IsWithinLimits d b × BlockFits d p × (d < 200) × BlockFits (d + 1) r
 
--- the tokens begin with a phrase of that symbol, and go on with the rest
+-- the tokens are a phrase of `x`, followed by `rest`
 pub record IsBlockPhrase (x : BlockSymbol) (d : ℕ) (ts rest : List Lexeme) : Type 0 where
   pub phrase : BlockPhrase x
   pub spelled : ts ≡ block_before phrase rest

@@ -1,4 +1,4 @@
--- What is read of a block: its tree and its nesting, or its first fault.
+-- The reading of a block: its tree and its nesting, or its first fault.
 use Rattle.std.specs.Prelude.{ℕ, List, Result}
 use Rattle.text_tokens.specs.declared.fault.TextFault.{TextFault}
 use Rattle.text_grammar.specs.Lexemes.{Lexeme}
@@ -12,13 +12,13 @@ use Rattle.while_lang.specs.Blocks.{block, parse_block}
 use Rattle.while_lang.specs.BlockBuilding.{block_trees}
 use Rattle.while_lang.specs.BlockMeasuring.{block_extents}
 
--- how large and how deep the block at the front is, and its tree, with so many constructs open around it
+-- the extent of the block at the start of the tokens, and its tree, with `d` constructs open around it
 abbrev pub measured_block : ScopeParts → List ProgParts → ℕ → List Lexeme → Parsed Extent
 measured_block w ps d ts = parse_block (block_extents w ps) block d ts
 
 abbrev pub built_block : ScopeParts → List ProgParts → ℕ → List Lexeme → Parsed ProgTree
 built_block w ps d ts = change prog_of (parse_block (block_trees w ps) block d ts)
 
--- the block at the front
+-- the reading of the block at the start of the tokens
 abbrev pub block_at : ScopeParts → List ProgParts → ℕ → List Lexeme → Result (Phrased ProgTree) TextFault
 block_at w ps d ts = phrased (within 100000 (place_of ts) (measured_block w ps d ts)) (built_block w ps d ts)

@@ -1,4 +1,4 @@
--- The test of the syntax of a block: where it ends, or its first fault.
+-- The syntax check of a block: finds its end, or its first fault.
 use Rattle.std.specs.Prelude.{◌≡◌, ◌↔◌, ℕ, List, Result, Ok}
 use Rattle.text_tokens.specs.declared.fault.TextFault.{TextFault}
 use Rattle.text_grammar.specs.Lexemes.{Lexeme}
@@ -8,7 +8,7 @@ use Rattle.while_lang.specs.BlockActions.{BlockActions}
 use Rattle.while_lang.specs.Blocks.{block, parse_block}
 use Rattle.while_lang.specs.BlockPhrases.{block as block_symbol, IsBlockPhrase}
 
--- nothing is made, and no part is refused
+-- actions that make nothing and accept every part
 abbrev pub scanning_blocks : BlockActions (Unit {0}) (Unit {0}) (Unit {0}) (Unit {0}) (Unit {0}) (Unit {0})
 scanning_blocks = record {
   phrases = scanning;
@@ -25,10 +25,10 @@ scanning_blocks = record {
   chained = λ s. tt;
 }
 
--- where the block at the front ends, with so many constructs open around it
+-- the tokens after the block at the start, with `d` constructs open
 abbrev pub scan_block : ℕ → List Lexeme → Result (List Lexeme) TextFault
 scan_block d ts = parse_block scanning_blocks block d ts >>= λ x. Ok x.1
 
--- the test takes blocks, and no other tokens
+-- the check accepts exactly the blocks
 abbrev pub TakesBlocks : Type 0
 TakesBlocks = (d : ℕ) (ts rest : List Lexeme) → (scan_block d ts ≡ Ok rest) ↔ IsBlockPhrase block_symbol d ts rest

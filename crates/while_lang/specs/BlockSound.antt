@@ -1,4 +1,4 @@
--- Which blocks may stand in a scope, and how deep they are with the programs that they name expanded.
+-- The blocks that are allowed in a scope, and their nesting with the named programs expanded.
 use Rattle.std.specs.Prelude.{◌≤◌, ◌+◌, ℕ, max, true, false, List, slice_get, Option, Some, None}
 use Rattle.text_grammar.specs.Actions.{context}
 use Rattle.text_scopes.specs.declared.meaning.Meaning.{Meaning}
@@ -8,18 +8,18 @@ use Rattle.text_scopes.specs.Sound.{IsSound, IsExprName, nesting}
 use Rattle.while_lang.specs.NamedProgs.{ProgParts}
 use Rattle.while_lang.specs.BlockPhrases.{BlockSymbol, BlockPhrase, braced, no_stmts, more_stmts, skip_stmt, abort_stmt, assert_stmt, name_stmt, assign_stmt, if_stmt, while_stmt, no_else, else_block, else_if}
 
--- a program of the file may stand here: it is not too deep
+-- a program of the file is allowed here: it is not too deep
 abbrev pub IsShallow : ℕ → Option ProgParts → Type 0
 IsShallow d None = Unit {0}
 IsShallow d (Some p) = d + p.nesting ≤ 200
 
--- a name as a statement stands for an action, or for a program that may stand here
+-- a name as a statement denotes an action, or a program that is allowed here
 abbrev pub IsStmtName : List ProgParts → ℕ → Option Meaning → Type 0
 IsStmtName ps d (Some (Action a)) = Unit {0}
 IsStmtName ps d (Some (Prog i)) = IsShallow d (slice_get ps i)
 IsStmtName ps d _ = ⊥
 
--- each name is declared, is of its sort and is not too deep
+-- each name is declared, of the right sort and not too deep
 abbrev pub BlockIsSound : ScopeParts → List ProgParts → ℕ → {x : BlockSymbol} → BlockPhrase x → Type 0
 BlockIsSound w ps d (braced l ss r) = BlockIsSound w ps (d + 1) ss
 BlockIsSound w ps d no_stmts = Unit {0}
@@ -35,7 +35,7 @@ BlockIsSound w ps d (no_else b p) = IsSound w (context d false true) b × BlockI
 BlockIsSound w ps d (else_block b p l q) = IsSound w (context d false true) b × BlockIsSound w ps d p × BlockIsSound w ps d q
 BlockIsSound w ps d (else_if b p l i r) = IsSound w (context d false true) b × BlockIsSound w ps d p × BlockIsSound w ps (d + 1) r
 
--- the levels of the program that a name stands for
+-- the nesting of the program that a name denotes
 abbrev pub prog_nesting : Option ProgParts → ℕ
 prog_nesting None = 0
 prog_nesting (Some p) = p.nesting
@@ -44,7 +44,7 @@ abbrev pub name_nesting : List ProgParts → Option Meaning → ℕ
 name_nesting ps (Some (Prog i)) = prog_nesting (slice_get ps i)
 name_nesting ps _ = 0
 
--- how many constructs are open at one place at most; each `else if` is one until its chain ends
+-- the maximum number of constructs open at one place; each `else if` is one until its chain ends
 abbrev pub block_nesting : ScopeParts → List ProgParts → {x : BlockSymbol} → BlockPhrase x → ℕ
 block_nesting w ps (braced l ss r) = block_nesting w ps ss + 1
 block_nesting w ps no_stmts = 0

@@ -1,4 +1,4 @@
--- Flows as trees of numbers, by which the logic tells the values of a model apart.
+-- A code of flows as trees of numbers. The logic distinguishes the values of a model by their codes.
 use Rattle.std.specs.Prelude.{◌≡◌, refl}
 use Rattle.std.proofs.Common.{ap}
 use mathlib.Core.Path.{ap₂}

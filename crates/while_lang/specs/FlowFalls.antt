@@ -1,4 +1,4 @@
--- A flow has more statements than the flows in it.
+-- A flow has more statements than each flow nested in it.
 use Rattle.std.specs.Prelude.{◌≤◌, List, [], ◌∷◌}
 use Rattle.std.proofs.Common.{arith}
 use denote.Param.Weighed.{most}

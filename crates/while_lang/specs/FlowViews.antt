@@ -1,4 +1,4 @@
--- Statements of flows of the program as trees.
+-- The trees of the program's flow statements.
 use Rattle.std.specs.Prelude.{List, map}
 use Rattle.kat_model.specs.Trees.{test_tree}
 use Rattle.while_lang.specs.Flows.{FlowTree, FlowStmt, skip, abort, assert, act, branch, loop, flow_of}

@@ -2,7 +2,7 @@
 use Rattle.std.specs.Prelude.{ℕ, ◌+◌, List, [], ◌∷◌}
 use Rattle.kat_model.specs.Trees.{TestTree}
 
--- a list of statements: none, or the first statement before the others
+-- a list of statements: empty, or a first statement and the rest
 pub data FlowTree : Type 0 where
   empty : FlowTree
   skip_then : (rest : FlowTree) → FlowTree
@@ -21,7 +21,7 @@ pub data FlowStmt : Type 0 where
   branch : (b : TestTree) (f g : FlowTree) → FlowStmt
   loop : (b : TestTree) (f : FlowTree) → FlowStmt
 
--- a statement before others
+-- a statement followed by the rest
 abbrev pub with_stmt : FlowStmt → FlowTree → FlowTree
 with_stmt skip rest = skip_then rest
 with_stmt abort rest = abort_then rest
@@ -35,7 +35,7 @@ abbrev pub flow_of : List FlowStmt → FlowTree
 flow_of [] = empty
 flow_of (s ∷ ss) = with_stmt s (flow_of ss)
 
--- how many statements there are, those of blocks among them
+-- the number of statements, including those of nested blocks
 abbrev pub statements : FlowTree → ℕ
 statements empty = 0
 statements (skip_then rest) = statements rest + 1

@@ -1,4 +1,4 @@
--- The laws of programs. Each stands on a function of the crate that does nothing.
+-- The laws of programs, each stated by a function of the crate that does nothing.
 use Rattle.std.specs.Prelude.{◌≡◌, ◌⊎◌, ◌↔◌, ℕ, false}
 use Rattle.kat_model.specs.Expressions.{CondTree}
 use Rattle.kat_model.specs.Stores.{Store}
@@ -6,7 +6,7 @@ use Rattle.kat_model.specs.declared.expression.Width.{Width}
 use Rattle.while_lang.specs.Programs.{ProgTree, loop_then}
 use Rattle.while_lang.specs.Runs.{condition, Then, Enters, Goes}
 
--- a loop that ends is left at once where its condition fails, and else enters its body and is run again
+-- a loop is left at once if its condition fails; otherwise its body is entered and the loop runs again
 abbrev pub LoopsAgain : Width → CondTree → ProgTree → ProgTree → Store → ℕ → Store → Type 0
 LoopsAgain w b p rest s k t =
     Goes w (loop_then b p rest) s k t

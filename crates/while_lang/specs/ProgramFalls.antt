@@ -1,4 +1,4 @@
--- A program has more statements than the programs in it.
+-- A program has more statements than each program nested in it.
 use Rattle.std.specs.Prelude.{◌≤◌, List, [], ◌∷◌}
 use Rattle.std.proofs.Common.{arith}
 use denote.Param.Weighed.{most}

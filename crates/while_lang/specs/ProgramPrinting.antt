@@ -1,4 +1,4 @@
--- Programs as they are printed.
+-- Printed programs: the pieces that spell them.
 use Rattle.std.specs.Prelude.{◌+◌, max, ℕ, List, ◌∷◌, codes}
 use Rattle.text_tokens.specs.Pieces.{Piece, word, symbol, gap}
 use Rattle.text_scopes.specs.declared.meaning.Meaning.{Meaning}
@@ -7,7 +7,7 @@ use Rattle.text_scopes.specs.ScopeParts.{ScopeParts, IsNameOf}
 use Rattle.text_print.specs.Printing.{expr_pieces, cond_pieces, ExprIsNamed, CondIsNamed, expr_nesting, cond_nesting}
 use Rattle.while_lang.specs.Programs.{ProgTree, empty, skip_then, abort_then, assert_then, act_then, assign_then, branch_then, loop_then}
 
--- a statement that is a word, after a blank
+-- a statement of one word, after a blank
 abbrev pub word_pieces : List ℕ → List Piece → List Piece
 word_pieces name ps = gap 32 ∷ word name ∷ symbol (codes ";") ∷ ps
 
@@ -15,11 +15,11 @@ word_pieces name ps = gap 32 ∷ word name ∷ symbol (codes ";") ∷ ps
 abbrev pub keyword_pieces : List ℕ → List Piece → List Piece
 keyword_pieces name ps = gap 32 ∷ word name ∷ gap 32 ∷ ps
 
--- what is written between braces, and a blank before the closing one
+-- the pieces in braces, with a blank before the closing brace
 abbrev pub in_curly : (List Piece → List Piece) → List Piece → List Piece
 in_curly inside ps = symbol (codes "{") ∷ inside (gap 32 ∷ symbol (codes "}") ∷ ps)
 
--- the pieces of statements, each after a blank, and then the pieces that follow; the second block is always written
+-- the pieces of statements, each after a blank, followed by `ps`; the second block of an `if` is always written
 abbrev pub stmts_pieces : (Meaning → List ℕ) → ProgTree → List Piece → List Piece
 stmts_pieces names empty ps = ps
 stmts_pieces names (skip_then rest) ps = word_pieces (codes "skip") (stmts_pieces names rest ps)
@@ -38,7 +38,7 @@ stmts_pieces names (loop_then b p rest) ps =
 abbrev pub block_pieces : (Meaning → List ℕ) → ProgTree → List Piece → List Piece
 block_pieces names p ps = in_curly (stmts_pieces names p) ps
 
--- each number of the program has that name, and none is of 2^64 or more
+-- each action, variable and test of the program has its only name, and each number is below 2^64
 abbrev pub ProgIsNamed : ScopeParts → (Meaning → List ℕ) → ProgTree → Type 0
 ProgIsNamed w names empty = Unit {0}
 ProgIsNamed w names (skip_then rest) = ProgIsNamed w names rest
@@ -49,7 +49,7 @@ ProgIsNamed w names (assign_then x e rest) = IsNameOf w (names (Var x)) (Var x) 
 ProgIsNamed w names (branch_then b p q rest) = CondIsNamed w names b × ProgIsNamed w names p × ProgIsNamed w names q × ProgIsNamed w names rest
 ProgIsNamed w names (loop_then b p rest) = CondIsNamed w names b × ProgIsNamed w names p × ProgIsNamed w names rest
 
--- how many constructs are open at one place at most among the printed statements, and in the printed block
+-- the maximum number of constructs open at one place, in the printed statements and in the printed block
 abbrev pub stmts_nesting : ProgTree → ℕ
 stmts_nesting empty = 0
 stmts_nesting (skip_then rest) = stmts_nesting rest

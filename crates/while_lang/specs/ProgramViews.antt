@@ -1,4 +1,4 @@
--- Statements of the program as trees.
+-- The trees of the program's statements.
 use Rattle.std.specs.Prelude.{List, map}
 use Rattle.kat_model.specs.Expressions.{expr_tree, cond_tree}
 use Rattle.while_lang.specs.Programs.{ProgTree, StmtTree, skip, abort, assert, act, assign, branch, loop, prog_of}

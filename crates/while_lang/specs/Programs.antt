@@ -2,7 +2,7 @@
 use Rattle.std.specs.Prelude.{ℕ, ◌+◌, List, [], ◌∷◌, Bool, true, false, ◌&&◌}
 use Rattle.kat_model.specs.Expressions.{ExprTree, CondTree, always, never, named, compared, negation, both, either}
 
--- a list of statements: none, or the first statement before the others
+-- a list of statements: empty, or a first statement and the rest
 pub data ProgTree : Type 0 where
   empty : ProgTree
   skip_then : (rest : ProgTree) → ProgTree
@@ -13,7 +13,7 @@ pub data ProgTree : Type 0 where
   branch_then : (b : CondTree) (p q rest : ProgTree) → ProgTree
   loop_then : (b : CondTree) (p rest : ProgTree) → ProgTree
 
--- a statement; a branch is an `if`, with two blocks, and a loop a `while`
+-- a statement; `branch` is an `if` with two blocks, and `loop` is a `while`
 pub data StmtTree : Type 0 where
   skip : StmtTree
   abort : StmtTree
@@ -23,7 +23,7 @@ pub data StmtTree : Type 0 where
   branch : (b : CondTree) (p q : ProgTree) → StmtTree
   loop : (b : CondTree) (p : ProgTree) → StmtTree
 
--- a statement before others
+-- a statement followed by the rest
 abbrev pub with_stmt : StmtTree → ProgTree → ProgTree
 with_stmt skip rest = skip_then rest
 with_stmt abort rest = abort_then rest
@@ -33,7 +33,7 @@ with_stmt (assign x e) rest = assign_then x e rest
 with_stmt (branch b p q) rest = branch_then b p q rest
 with_stmt (loop b p) rest = loop_then b p rest
 
--- the program of a list of statements, and its statements again
+-- the program of a list of statements, and the list of statements of a program
 abbrev pub prog_of : List StmtTree → ProgTree
 prog_of [] = empty
 prog_of (s ∷ ss) = with_stmt s (prog_of ss)
@@ -48,7 +48,7 @@ stmts_of (assign_then x e rest) = assign x e ∷ stmts_of rest
 stmts_of (branch_then b p q rest) = branch b p q ∷ stmts_of rest
 stmts_of (loop_then b p rest) = loop b p ∷ stmts_of rest
 
--- how many statements there are, those of blocks among them
+-- the number of statements, including those of nested blocks
 abbrev pub statements : ProgTree → ℕ
 statements empty = 0
 statements (skip_then rest) = statements rest + 1
@@ -59,7 +59,7 @@ statements (assign_then x e rest) = statements rest + 1
 statements (branch_then b p q rest) = statements p + statements q + statements rest + 1
 statements (loop_then b p rest) = statements p + statements rest + 1
 
--- whether no named test occurs in the condition
+-- whether the condition has no named test
 abbrev pub is_concrete_cond : CondTree → Bool
 is_concrete_cond always = true
 is_concrete_cond never = true
@@ -69,7 +69,7 @@ is_concrete_cond (negation b) = is_concrete_cond b
 is_concrete_cond (both b c) = is_concrete_cond b && is_concrete_cond c
 is_concrete_cond (either b c) = is_concrete_cond b && is_concrete_cond c
 
--- whether no named test and no named action occurs in the program
+-- whether the program has no named test and no named action
 abbrev pub is_concrete : ProgTree → Bool
 is_concrete empty = true
 is_concrete (skip_then rest) = is_concrete rest

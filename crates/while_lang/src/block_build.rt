@@ -1,4 +1,4 @@
-//! The tree of a block.
+//! Builds the tree of a block.
 ghost use Rattle.std.specs.Prelude.{◌≡◌, ◌++◌, map, length, drop, slice_get, OnOk, IfOk};
 ghost use Rattle.text_grammar.specs.Lexemes.{lexemes};
 ghost use Rattle.text_grammar.specs.Parsed.{Reads, Goes};
@@ -17,7 +17,7 @@ use std::alloc::Global;
 use text_scopes::{Meaning, Scope};
 use text_tokens::{TextFault, Token};
 
-// Builds the tree of a block that was measured before.
+// The actions that build the tree of a block. The block was measured before.
 #[derive(Clone, Copy)]
 struct BlockBuild<'a> {
     alloc: Global,
@@ -25,7 +25,7 @@ struct BlockBuild<'a> {
     progs: &'a [NamedProg],
 }
 
-// Statements moved to the end of a list.
+// Moves the statements of `more` to the end of `list`.
 fn append(list: &mut Vec<Stmt>, more: Vec<Stmt>) -> Result<(), NoMemory>
     ensures { OnOk result (map stmt_tree list.new.items ≡ map stmt_tree list.old.items ++ map stmt_tree more.items) }
 {
@@ -35,7 +35,7 @@ fn append(list: &mut Vec<Stmt>, more: Vec<Stmt>) -> Result<(), NoMemory>
     Ok(())
 }
 
-// Copies of the statements of a program.
+// Copies the statements of a program.
 #[tactic(auto, using(crate::proofs::ProgramLists::listed_stmts))]
 fn copy_stmts(alloc: Global, prog: &Prog) -> Result<Vec<Stmt>, NoMemory>
     ensures { IfOk result (λ list. map stmt_tree list.items ≡ stmts_of prog.now) }
@@ -44,7 +44,7 @@ fn copy_stmts(alloc: Global, prog: &Prog) -> Result<Vec<Stmt>, NoMemory>
     Ok(list)
 }
 
-// So with a program by its number; none where there is no such program.
+// Copies the statements of program `i`, or returns an empty list if there is no such program.
 fn copy_numbered(alloc: Global, progs: &[NamedProg], i: usize) -> Result<Vec<Stmt>, NoMemory>
     ensures { IfOk result (λ list. map stmt_tree list.items ≡ spliced (slice_get (parts_of_progs progs.now) i)) }
 {
@@ -202,9 +202,9 @@ impl BlockReading for BlockBuild<'_> {
     }
 }
 
-/// The program of the block that begins at `from`, with `depth` constructs open around it and the programs that it names
-/// spliced in, and the index after it. What [`crate::measure_block`] refuses need not be refused; the size of the tree is
-/// what it told.
+/// Returns the program of the block that begins at `from`, with `depth` open constructs around it, and the index after
+/// the block. The programs that it names are spliced in. May accept a block that [`crate::measure_block`] rejects; a
+/// block that it accepts has a tree of the measured size.
 pub fn build_block(
     alloc: Global,
     toks: &[Token],

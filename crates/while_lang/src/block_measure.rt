@@ -1,4 +1,4 @@
-//! The faults of the names of a block, and how large and how deep it is.
+//! The faults of the names of a block, and the size and nesting of the block.
 ghost use Rattle.std.specs.Prelude.{◌≡◌, length, drop, slice_get};
 ghost use Rattle.text_grammar.specs.Lexemes.{lexemes};
 ghost use Rattle.text_grammar.specs.Parsed.{Reads, Goes};
@@ -14,7 +14,7 @@ use kat_model::{MAX_EXPR_NODES, MAX_OPEN, MAX_TERM_NODES};
 use text_scopes::{Extent, Meaning, Scope};
 use text_tokens::{TextFault, Token};
 
-// Measures a block, and refuses what may not stand in it.
+// The actions that measure a block and reject what is not allowed in it.
 #[derive(Clone, Copy)]
 struct BlockMeasure<'a> {
     scope: &'a Scope,
@@ -31,7 +31,7 @@ fn extent(nodes: u64, nesting: usize) -> Extent
     }
 }
 
-// One node more, with something below it.
+// Returns the extent after a statement is appended to `list`, with `below` below its node.
 fn with_node(list: Extent, below: Extent) -> Extent
     ensures { result ≡ with_node list below }
 {
@@ -56,7 +56,7 @@ fn deeper(inside: Extent) -> Extent
     extent(inside.nodes, inside.nesting.saturating_add(1))
 }
 
-// An expression of more than 1,000 nodes is too large wherever it stands.
+// Returns the nodes of an expression; more than 1,000 count as 100,001, which is too large.
 fn compared_nodes(nodes: u64) -> u64
     ensures { result ≡ compared_nodes nodes }
 {
@@ -217,9 +217,9 @@ impl BlockReading for BlockMeasure<'_> {
     }
 }
 
-/// How large and how deep the block that begins at `from` is, with `depth` constructs open around it and the programs
-/// that it names spliced in, and the index after it; or the first fault of its syntax or its names in text order. Program i
-/// of the scope is `progs[i]`. It takes no memory, and a use of a program is one look-up.
+/// Returns the size and nesting of the block that begins at `from`, with `depth` open constructs around it and the
+/// programs that it names spliced in, and the index after the block; or the first fault in its syntax or its names in
+/// text order. Program i of the scope is `progs[i]`. Takes no memory; each use of a program costs one look-up.
 pub fn measure_block(
     toks: &[Token],
     from: usize,

@@ -1,4 +1,4 @@
-//! Blocks read in a scope.
+//! Reads blocks in a scope.
 ghost use Rattle.std.specs.Prelude.{◌≡◌, ◌<◌, ◌≤◌, length, drop, IfOk};
 ghost use Rattle.text_grammar.specs.Lexemes.{lexemes};
 ghost use Rattle.text_scopes.specs.Readings.{Answers};
@@ -15,10 +15,11 @@ use text_grammar::place_at;
 use text_scopes::Scope;
 use text_tokens::{TextFault, Token};
 
-/// The block that begins at `from`, with nothing open around it: its program, with the programs that it names spliced in,
-/// the index after it, and its nesting. Or the first fault of its syntax or its names in text order (`UnknownName`, `Sort`,
-/// or `TooDeep` through the name of a program, each at its token), or, where no token has one, `TooLarge` past 100,000
-/// nodes or for an expression of more than 1,000, at the first token. Program i of the scope is `progs[i]`.
+/// Reads the block that begins at `from`, with no open construct around it. Returns its program, with the programs that
+/// it names spliced in, the index after it, and its nesting. Otherwise fails with the first fault in its syntax or its
+/// names in text order (`UnknownName`, `Sort`, or `TooDeep` through the name of a program, each at its token). If no
+/// token has a fault, fails with `TooLarge` at the first token if there are more than 100,000 nodes or an expression
+/// has more than 1,000, or when out of memory. Program i of the scope is `progs[i]`.
 pub fn read_block(
     alloc: Global,
     toks: &[Token],

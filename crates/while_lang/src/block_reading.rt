@@ -1,4 +1,4 @@
-//! What is made of the parts of a block while it is read.
+//! The semantic actions of the block parser.
 ghost use Rattle.std.specs.Prelude.{◌≡◌, length, drop, Ok};
 ghost use Rattle.text_grammar.specs.Lexemes.{lexemes};
 ghost use Rattle.text_grammar.specs.Parsed.{Makes, Reads, Goes};
@@ -7,18 +7,18 @@ ghost use Rattle.while_lang.specs.Blocks.{cond_by, expr_by};
 
 use text_tokens::{TextFault, Token};
 
-// What is made of the parts of a block while it is read: the methods are called for the parts in text order, and each
-// method on statements takes those of the block so far. A part that is refused ends the reading with that fault. Places
-// are in bytes of the text.
+// The semantic actions of the block parser. It calls the methods for the parts of a block in text order; each method on
+// statements takes the statements of the block so far. A part that a method rejects ends the parse with that fault.
+// Places are in bytes of the text.
 //
-// Contracts see what is made through `expr`, `cond` and `stmts`, and the methods as `actions`. `memory` is what may be
-// said where a method answers `NoMemory`: `⊥` where none does.
+// Contracts describe results through `expr`, `cond` and `stmts`, and the methods through `actions`. `memory` is what
+// holds when a method returns `NoMemory`: `⊥` if none does.
 pub(crate) trait BlockReading {
-    // What is made of an expression.
+    // The result for an expression.
     type Expr: Drop;
-    // What is made of a condition.
+    // The result for a condition.
     type Cond: Drop;
-    // What is made of the statements of a block so far.
+    // The result for the statements of a block so far.
     type Stmts: Drop;
 
     ghost E: { Type 0 };
@@ -43,7 +43,8 @@ pub(crate) trait BlockReading {
 
     ghost actions: { Self → BlockActions E B L T M S };
 
-    // The expression that begins at `from`, with `depth` constructs open around it, and the index after it.
+    // Reads the expression that begins at `from`, with `depth` open constructs around it. Returns its result and the
+    // index after it.
     fn read_expr(
         &self,
         toks: &[Token],
@@ -53,7 +54,7 @@ pub(crate) trait BlockReading {
         ensures value { Reads memory expr (lexemes toks.now) result (expr_by (actions self.now) depth (drop from (lexemes toks.now))) }
         ensures goes { Goes from (length toks.now) result };
 
-    // The condition that begins at `from`, which may hold comparisons.
+    // Reads the condition that begins at `from`, which may have comparisons.
     fn read_cond(
         &self,
         toks: &[Token],
@@ -63,23 +64,23 @@ pub(crate) trait BlockReading {
         ensures value { Reads memory cond (lexemes toks.now) result (cond_by (actions self.now) depth (drop from (lexemes toks.now))) }
         ensures goes { Goes from (length toks.now) result };
 
-    // No statement.
+    // Makes an empty list of statements.
     fn none(&self) -> Self::Stmts
         ensures { stmts result ≡ (actions self.now).none };
 
-    // One `skip` more.
+    // Appends a `skip`.
     fn skip(&self, list: Self::Stmts) -> Result<Self::Stmts, TextFault>
         ensures { Makes memory stmts result (Ok ((actions self.now).skip (stmts list))) };
 
-    // One `abort` more.
+    // Appends an `abort`.
     fn abort(&self, list: Self::Stmts) -> Result<Self::Stmts, TextFault>
         ensures { Makes memory stmts result (Ok ((actions self.now).abort (stmts list))) };
 
-    // One `assert` more.
+    // Appends an `assert`.
     fn assert(&self, list: Self::Stmts, condition: Self::Cond) -> Result<Self::Stmts, TextFault>
         ensures { Makes memory stmts result (Ok ((actions self.now).assert (stmts list) (cond condition))) };
 
-    // What a name stands for as a statement, with `depth` constructs open around it.
+    // Appends the statements of a name, with `depth` open constructs around it.
     fn named(
         &self,
         depth: usize,
@@ -89,11 +90,11 @@ pub(crate) trait BlockReading {
     ) -> Result<Self::Stmts, TextFault>
         ensures { Makes memory stmts result ((actions self.now).named depth at name.now (stmts list)) };
 
-    // That a name may stand before `:=`.
+    // Checks that a name is allowed before `:=`.
     fn check_target(&self, at: usize, name: &str) -> Result<(), TextFault>
         ensures { Makes memory (λ u. u) result ((actions self.now).target at name.now) };
 
-    // One assignment more, to the variable of that name.
+    // Appends an assignment to the variable of that name.
     fn assign(
         &self,
         list: Self::Stmts,
@@ -102,7 +103,7 @@ pub(crate) trait BlockReading {
     ) -> Result<Self::Stmts, TextFault>
         ensures { Makes memory stmts result (Ok ((actions self.now).assign (stmts list) name.now (expr value))) };
 
-    // One `if` more.
+    // Appends an `if`.
     fn branch(
         &self,
         list: Self::Stmts,
@@ -112,7 +113,7 @@ pub(crate) trait BlockReading {
     ) -> Result<Self::Stmts, TextFault>
         ensures { Makes memory stmts result (Ok ((actions self.now).branch (stmts list) (cond condition) (stmts first) (stmts second))) };
 
-    // One `while` more.
+    // Appends a `while`.
     fn turn(
         &self,
         list: Self::Stmts,
@@ -121,11 +122,11 @@ pub(crate) trait BlockReading {
     ) -> Result<Self::Stmts, TextFault>
         ensures { Makes memory stmts result (Ok ((actions self.now).turn (stmts list) (cond condition) (stmts body))) };
 
-    // The statements of a block, in its braces.
+    // Encloses the statements of a block in braces.
     fn braced(&self, list: Self::Stmts) -> Self::Stmts
         ensures { stmts result ≡ (actions self.now).braced (stmts list) };
 
-    // The statement after `else`, which is the second block.
+    // Makes a second block from the `if` statement after `else`.
     fn chained(&self, list: Self::Stmts) -> Self::Stmts
         ensures { stmts result ≡ (actions self.now).chained (stmts list) };
 }

@@ -1,4 +1,4 @@
-//! The test of the syntax of blocks, which takes no memory.
+//! The syntax check of blocks, which takes no memory.
 ghost use Rattle.std.specs.Prelude.{◌≡◌, ◌<◌, ◌≤◌, length, drop, IfOk, IfErr};
 ghost use Rattle.text_grammar.specs.Lexemes.{lexemes};
 ghost use Rattle.text_grammar.specs.Parsed.{Wants};
@@ -10,7 +10,7 @@ use crate::blocks::read_block;
 use text_grammar::{Context, Scan};
 use text_tokens::{TextFault, Token};
 
-// Makes nothing of a block, and refuses no part.
+// The actions that make nothing and accept every part.
 struct BlockScan;
 
 impl BlockReading for BlockScan {
@@ -99,10 +99,10 @@ impl BlockReading for BlockScan {
     fn chained(&self, _: ()) {}
 }
 
-/// The index after the block that begins at `from`, with `depth` constructs open around it; or `Syntax`, `TooDeep` or
-/// `NumberTooWide`, whichever is met first, with the place in bytes of its token. A `Syntax` after the last token has the
-/// place `usize::MAX`. Each `else if` is one construct until its chain ends, and its `if` is the token of a `TooDeep`. It
-/// takes no memory.
+/// Returns the index after the block that begins at `from`, with `depth` open constructs around it. Otherwise returns
+/// the first fault, which is `Syntax`, `TooDeep` or `NumberTooWide`, with the place of its token in bytes. A `Syntax`
+/// fault after the last token has the place `usize::MAX`. Each `else if` is one construct until its chain ends, and its
+/// `if` is the token of a `TooDeep` fault. Takes no memory.
 pub fn block_end(toks: &[Token], from: usize, depth: usize) -> Result<usize, TextFault>
     ensures value { Wants (lexemes toks.now) result (scan_block depth (drop from (lexemes toks.now))) }
     ensures goes { IfOk result (λ end. (from < end) × (end ≤ length toks.now)) }

@@ -1,4 +1,4 @@
-//! Blocks of statements, gone through once for any reading.
+//! The block parser, for any semantic actions.
 ghost use Rattle.std.specs.Prelude.{◌≡◌, ℕ, ◌+◌, ◌<◌, ◌≤◌, length, drop, IfOk};
 ghost use Rattle.text_grammar.specs.Lexemes.{lexemes, text_at, is_terminal};
 ghost use Rattle.text_grammar.specs.Parsed.{Reads, Goes, Wants, wants};
@@ -12,8 +12,8 @@ use text_grammar::{
 };
 use text_tokens::{TextFault, Token};
 
-/// How many constructs are open once one more is, which begins at the place; `TooDeep` at that place where 200 or more are
-/// open before it.
+/// Returns the number of open constructs after one more opens at place `at`. Fails with `TooDeep` at that place if 200
+/// or more are open already.
 pub fn enter(depth: usize, at: usize) -> Result<usize, TextFault>
     ensures { result ≡ enter depth at }
 {
@@ -23,10 +23,10 @@ pub fn enter(depth: usize, at: usize) -> Result<usize, TextFault>
     Ok(depth + 1)
 }
 
-// Reads the block that begins at `from`, with `depth` constructs open around it: what the reading makes of it, and the
-// index after it. Otherwise the fault that comes first in the text: `Syntax` at the token that cannot stand there (the
-// place `usize::MAX` after the last token), `TooDeep` at the token with which more than 200 constructs are open,
-// `NumberTooWide` at a number of 2^64 or more, or that with which the reading refuses a part.
+// Reads the block that begins at `from`, with `depth` open constructs around it. Returns the result of the actions and
+// the index after the block, or the first fault in the text: `Syntax` at a token that is not allowed there (with the
+// place `usize::MAX` after the last token), `TooDeep` at a token that takes the number of open constructs beyond 200,
+// `NumberTooWide` at a number of 2^64 or more, or the fault with which an action rejects a part.
 #[cycle(blocks)]
 #[tactic(auto, using(crate::proofs::BlockSteps::block_step, text_grammar::proofs::Tokens::next_drop))]
 pub(crate) fn read_block<R: BlockReading>(
@@ -44,7 +44,7 @@ pub(crate) fn read_block<R: BlockReading>(
     Ok((reading.braced(list), end))
 }
 
-// Statements up to a closing brace, and the index after it.
+// Reads statements up to a closing brace. Also returns the index after the brace.
 #[cycle(blocks)]
 #[tactic(auto, using(crate::proofs::BlockSteps::block_step, text_grammar::proofs::Tokens::next_drop))]
 fn stmts<R: BlockReading>(
@@ -66,7 +66,7 @@ fn stmts<R: BlockReading>(
     Ok((list, at + 1))
 }
 
-// A statement after those of a list.
+// Reads a statement and appends it to the list.
 #[cycle(blocks)]
 #[tactic(auto, using(crate::proofs::BlockSteps::block_step, text_grammar::proofs::Tokens::next_drop))]
 fn stmt<R: BlockReading>(
@@ -122,7 +122,7 @@ fn semicolon(toks: &[Token], i: usize) -> Result<usize, TextFault>
     expect(toks, i, Terminal::Separator(Separator::Semicolon))
 }
 
-// A statement that begins with a name, from the token after it on.
+// Reads a statement that begins with a name, from the token after the name.
 #[tactic(auto, using(text_grammar::proofs::Tokens::next_drop))]
 fn name_statement<R: BlockReading>(
     reading: &R,
@@ -143,7 +143,7 @@ fn name_statement<R: BlockReading>(
     Ok((list, semicolon(toks, from)?))
 }
 
-// An assignment to the name, from the token after `:=` on.
+// Reads an assignment to the name, from the token after `:=`.
 fn assignment<R: BlockReading>(
     reading: &R,
     toks: &[Token],
@@ -162,7 +162,7 @@ fn assignment<R: BlockReading>(
     Ok((reading.assign(list, name, expr)?, end))
 }
 
-// A statement from its `if` on, after those of a list.
+// Reads a statement from the token after its `if`, and appends it to the list.
 #[cycle(blocks)]
 #[tactic(auto, using(crate::proofs::BlockSteps::block_step, text_grammar::proofs::Tokens::next_drop))]
 fn branch<R: BlockReading>(
@@ -181,7 +181,7 @@ fn branch<R: BlockReading>(
     Ok((reading.branch(list, cond, first, second)?, end))
 }
 
-// The second block of an `if`, and the index after it.
+// Reads the second block of an `if`. Also returns the index after it.
 #[cycle(blocks)]
 #[tactic(auto, using(text_grammar::proofs::Tokens::next_drop))]
 fn otherwise<R: BlockReading>(

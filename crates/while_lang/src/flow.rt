@@ -9,7 +9,7 @@ use kat_model::{Kat, NoMemory, Test, seq_of};
 use std::alloc::Global;
 use std::marker::Model;
 
-/// A list of statements over tests and actions, one after the other.
+/// A list of statements over tests and actions, executed in order.
 #[cycle(flow)]
 #[derive(Drop)]
 pub struct Flows {
@@ -24,9 +24,9 @@ pub enum Flow {
     Abort,
     Assert(Test),
     Act(usize),
-    /// The first block where the test holds, and otherwise the second.
+    /// Runs the first block if the test holds, else the second.
     If(Test, Flows, Flows),
-    /// The block again and again, as long as the test holds.
+    /// Repeats the block while the test holds.
     While(Test, Flows),
 }
 
@@ -57,7 +57,8 @@ fn opposite(alloc: Global, guard: &Test) -> Result<Kat, NoMemory>
     Ok(Kat::Test(Test::new_not(alloc, copy)?))
 }
 
-/// The term of a branch `if b {e} else {f}`, of the terms of its blocks: `b.e + !b.f`. It fails only when out of memory.
+/// Makes the term of a branch `if b {e} else {f}` from the terms of its blocks: `b.e + !b.f`. Fails only when out of
+/// memory.
 pub fn branch_term(alloc: Global, guard: &Test, first: Kat, second: Kat) -> Result<Kat, NoMemory>
     ensures { IfOk result (λ e. kat_tree e ≡ branch_term (test_tree guard.now) (kat_tree first) (kat_tree second)) }
 {
@@ -68,7 +69,7 @@ pub fn branch_term(alloc: Global, guard: &Test, first: Kat, second: Kat) -> Resu
     Kat::new_sum(alloc, left, right)
 }
 
-/// The term of a loop `while b {e}`, of the term of its body: `(b.e)*.!b`. It fails only when out of memory.
+/// Makes the term of a loop `while b {e}` from the term of its body: `(b.e)*.!b`. Fails only when out of memory.
 pub fn loop_term(alloc: Global, guard: &Test, body: Kat) -> Result<Kat, NoMemory>
     ensures { IfOk result (λ e. kat_tree e ≡ loop_term (test_tree guard.now) (kat_tree body)) }
 {
@@ -79,7 +80,7 @@ pub fn loop_term(alloc: Global, guard: &Test, body: Kat) -> Result<Kat, NoMemory
     Kat::new_seq(alloc, turns, fails)
 }
 
-// One more term at the end.
+// Appends a term.
 fn push_term(terms: &mut Vec<Kat>, term: Kat) -> Result<(), NoMemory>
     ensures { OnOk result (map kat_tree terms.new.items ≡ map kat_tree terms.old.items ++ kat_tree term ∷ []) }
 {
@@ -107,9 +108,9 @@ fn encode_stmt(alloc: Global, flow: &Flow) -> Result<Kat, NoMemory>
     }
 }
 
-/// The term of a flow (Kozen, *Kleene algebra with tests*, 1997): the balanced product of its statements, where `skip`
-/// is 1, `abort` is 0, a test or an action is itself, `if b {e} else {f}` is `b.e + !b.f`, and `while b {e}` is
-/// `(b.e)*.!b`. It fails only when out of memory.
+/// Returns the term of a flow (Kozen, *Kleene algebra with tests*, 1997): the balanced product of its statements, where
+/// `skip` is 1, `abort` is 0, a test or an action is itself, `if b {e} else {f}` is `b.e + !b.f`, and `while b {e}` is
+/// `(b.e)*.!b`. Fails only when out of memory.
 #[cycle(encodings)]
 pub fn encode(alloc: Global, flow: &Flows) -> Result<Kat, NoMemory>
     ensures { IfOk result (λ e. kat_tree e ≡ encoded flow.now) }

@@ -10,18 +10,18 @@ ghost use Rattle.while_lang.specs.Flows.{FlowTree};
 ghost use Rattle.while_lang.specs.Encoding.{encoded};
 ghost use Rattle.while_lang.specs.Laws.{LoopsAgain};
 
-/// Of each concrete program, store and number of turns just one holds: it ends, it comes to an `abort` or to an `assert`
-/// that fails, or it stands before a loop body when the turns are used up; and each in one store alone.
+/// For each concrete program, store and number of turns, exactly one of these holds, with exactly one store: the
+/// program ends, it reaches an `abort` or an `assert` that fails, or it reaches a loop body with no turn left.
 pub fn runs_have_one_end()
     ensures { (w : Width) (p : ProgTree) (s : Store) (n : ℕ) → is_concrete p ≡ true → HasOneOutcome w p s n }
 {}
 
-/// A loop is its body and the loop again where its condition holds, and nothing where it fails.
+/// A loop whose condition holds runs its body and then the loop again; a loop whose condition fails does nothing.
 pub fn loops_unfold()
     ensures { (w : Width) (b : CondTree) (p rest : ProgTree) (s : Store) (k : ℕ) (t : Store) → LoopsAgain w b p rest s k t }
 {}
 
-/// The term of a flow is guarded, so that the bound of pairs for guarded terms speaks of programs.
+/// The term of a flow is guarded, so the bound on pairs of guarded terms applies to programs.
 pub fn flows_are_guarded()
     ensures { (f : FlowTree) → IsGuarded (encoded f) }
 {}

@@ -1,4 +1,4 @@
-//! Programs that have a name, which later programs may use.
+//! Named programs, which later programs may use.
 ghost use Rattle.std.specs.Prelude.{◌≡◌};
 ghost use Rattle.text_scopes.specs.Sizes.{capped};
 ghost use Rattle.while_lang.specs.ProgramSizes.{prog_size};
@@ -7,8 +7,8 @@ use crate::prog::Prog;
 use crate::size::prog_size;
 use kat_model::{Items, MAX_TERM_NODES};
 
-/// A program of a file, its name, and the nesting of the block that defines it, its own braces included. Its size is
-/// counted once, when it is made.
+/// A program of a file, its name, and the nesting of the block that defines it, including its own braces. Its size is
+/// computed once, on construction.
 #[derive(Drop)]
 pub struct NamedProg {
     pub name: Items<u8>,
@@ -19,7 +19,7 @@ pub struct NamedProg {
 }
 
 impl NamedProg {
-    /// The program of that name.
+    /// Makes a named program and computes its size.
     pub fn new(name: Items<u8>, prog: Prog, nesting: usize) -> NamedProg
         ensures name { result.name ≡ name }
         ensures prog { result.prog ≡ prog }
@@ -34,7 +34,7 @@ impl NamedProg {
         }
     }
 
-    /// The number of nodes of the program, which stops one past 100,000.
+    /// Returns the number of nodes of the program, at most 100,001.
     pub fn size(&self) -> u64
         ensures { result ≡ capped (prog_size self.now.prog) }
     {

@@ -1,12 +1,12 @@
-//! How runs end.
+//! Outcomes of runs.
 
 /// How a run ends.
 #[derive(Clone, Copy, Debug, PartialEq, Eq)]
 pub enum Outcome {
-    /// After the last statement.
+    /// The run ended after the last statement.
     Done,
-    /// At an `abort`, or at an `assert` whose condition fails.
+    /// The run reached an `abort`, or an `assert` whose condition fails.
     Stuck,
-    /// Before a loop body that is to be entered, where no turn is left.
+    /// The run reached a loop body that it must enter, with no turn left.
     More,
 }

@@ -1,4 +1,4 @@
-//! The text of programs.
+//! Prints programs as text.
 ghost use Rattle.std.specs.Prelude.{◌≡◌, [], ◌++◌, OnOk, IfOk};
 ghost use Rattle.kat_model.specs.Expressions.{expr_tree, cond_tree};
 ghost use Rattle.text_tokens.specs.Pieces.{spelled};
@@ -36,7 +36,7 @@ fn put_expr(alloc: Global, out: &mut Vec<u8>, expr: &Expr, scope: &Scope) -> Res
     put(out, &text)
 }
 
-// A statement after a blank.
+// Appends a blank and the statement.
 #[cycle(prints)]
 fn put_stmt(alloc: Global, out: &mut Vec<u8>, stmt: &Stmt, scope: &Scope) -> Result<(), NoMemory>
     ensures { OnOk result (out.new.items ≡ out.old.items ++ stmt_text (name_of scope.now) (stmt_tree stmt.now)) }
@@ -80,7 +80,7 @@ fn put_stmt(alloc: Global, out: &mut Vec<u8>, stmt: &Stmt, scope: &Scope) -> Res
     }
 }
 
-// The statements of a program, each after a blank.
+// Appends the statements of a program, each after a blank.
 #[cycle(prints)]
 fn put_stmts(alloc: Global, out: &mut Vec<u8>, prog: &Prog, scope: &Scope) -> Result<(), NoMemory>
     ensures { OnOk result (out.new.items ≡ out.old.items ++ stmts_text (name_of scope.now) prog.now) }
@@ -91,9 +91,9 @@ fn put_stmts(alloc: Global, out: &mut Vec<u8>, prog: &Prog, scope: &Scope) -> Re
     Ok(())
 }
 
-/// The text of a program as a block: `{`, each statement after a blank, and ` }`. Statements are `skip;`, `abort;`,
-/// `assert c;`, the name of an action, `x := e;`, `if c BLOCK else BLOCK` and `while c BLOCK`; the second block is always
-/// written. A number that no name of the scope stands for is left out.
+/// Returns the text of a program as a block: `{`, each statement after a blank, and ` }`. Statements are `skip;`,
+/// `abort;`, `assert c;`, the name of an action, `x := e;`, `if c BLOCK else BLOCK` and `while c BLOCK`; the second
+/// block is always written. Omits a number that has no name in the scope.
 #[tactic(auto, using(crate::proofs::ProgramPieces::block_printed))]
 pub fn print_prog(alloc: Global, prog: &Prog, scope: &Scope) -> Result<Vec<u8>, NoMemory>
     ensures { IfOk result (λ v. v.items ≡ spelled (block_pieces (name_of scope.now) prog.now [])) }

@@ -1,4 +1,4 @@
-//! While programs: their copies, their equality, and which of them have runs on stores.
+//! While programs: copies, equality, and which programs have runs on stores.
 ghost use Rattle.std.specs.Prelude.{◌≡◌, ◌↔◌, [], ◌∷◌, ◌++◌, IsTrue, IfOk, OnOk, map};
 ghost use Rattle.kat_model.specs.Expressions.{cond_tree};
 ghost use Rattle.while_lang.specs.Programs.{is_concrete_cond, is_concrete, with_stmt, empty};
@@ -9,7 +9,7 @@ use kat_model::{Cond, Expr, NoMemory};
 use std::alloc::Global;
 use std::marker::Model;
 
-/// A list of statements, one after the other.
+/// A list of statements, executed in order.
 #[cycle(prog)]
 #[derive(Drop)]
 pub struct Prog {
@@ -21,17 +21,17 @@ pub struct Prog {
 #[derive(Drop)]
 pub enum Stmt {
     Skip,
-    /// No run goes past it.
+    /// Stops every run.
     Abort,
-    /// No run goes past it where the condition fails.
+    /// Stops the run if the condition fails.
     Assert(Cond),
     /// A named action.
     Act(usize),
-    /// The variable is set to the value of the expression.
+    /// Sets the variable to the value of the expression.
     Assign(usize, Expr),
-    /// The first block where the condition holds, and otherwise the second.
+    /// Runs the first block if the condition holds, else the second.
     If(Cond, Prog, Prog),
-    /// The block again and again, as long as the condition holds.
+    /// Repeats the block while the condition holds.
     While(Cond, Prog),
 }
 
@@ -55,14 +55,14 @@ impl Model for Prog {
     ghost size_decreases = { λ a h. Prim.omega (arith, stmts_fall a.list.items) };
 }
 
-/// Adds a statement at the end. It fails only when out of memory.
+/// Appends a statement. Fails only when out of memory.
 pub fn push_stmt(list: &mut Vec<Stmt>, stmt: Stmt) -> Result<(), NoMemory>
     ensures { OnOk result (map stmt_tree list.new.items ≡ map stmt_tree list.old.items ++ stmt_tree stmt ∷ []) }
 {
     Ok(list.push(stmt)?)
 }
 
-/// The same statement again. It fails only when out of memory.
+/// Copies a statement. Fails only when out of memory.
 #[cycle(copies)]
 pub fn copy_stmt(alloc: Global, stmt: &Stmt) -> Result<Stmt, NoMemory>
     ensures { IfOk result (λ s. stmt_tree s ≡ stmt_tree stmt.now) }
@@ -127,7 +127,7 @@ fn is_concrete_stmt(stmt: &Stmt) -> bool
 }
 
 impl Prog {
-    /// The same program again. It fails only when out of memory.
+    /// Copies a program. Fails only when out of memory.
     #[cycle(copies)]
     pub fn copy(&self, alloc: Global) -> Result<Prog, NoMemory>
         ensures { IfOk result (λ p. p ≡ self.now) }
@@ -139,7 +139,7 @@ impl Prog {
         Ok(Prog { list })
     }
 
-    /// Whether both are one tree. It takes no memory.
+    /// Whether both programs have the same tree. Takes no memory.
     #[cycle(equals)]
     pub fn same(&self, other: &Prog) -> bool
         ensures { IsTrue result ↔ (self.now ≡ other.now) }
@@ -155,7 +155,7 @@ impl Prog {
         true
     }
 
-    /// Whether no named test and no named action occurs, so that the program has runs on stores. It takes no memory.
+    /// Whether the program has no named test and no named action, so that it has runs on stores. Takes no memory.
     #[cycle(concretes)]
     pub fn concrete(&self) -> bool
         ensures { result ≡ is_concrete self.now }

@@ -11,7 +11,7 @@ use crate::prog::{Prog, Stmt};
 use crate::store::{Store, holds, value};
 use kat_model::Width;
 
-// The run of statements, one after the other. It uses up turns.
+// Runs statements in order. Deducts the turns used.
 #[cycle(runs)]
 fn run_list(list: &[Stmt], width: Width, store: &mut Store, turns: &mut u64) -> Outcome
     requires { IsStore width store.old }
@@ -74,10 +74,10 @@ fn run_stmt(stmt: &Stmt, width: Width, store: &mut Store, turns: &mut u64) -> Ou
     }
 }
 
-/// Runs a concrete program on a store of the width, and may enter loop bodies for at most so many turns: entering a
-/// body uses one turn, and nothing else does. `Done`, `Stuck` and `More` come exactly where the program ends, comes to
-/// an `abort` or an `assert` that fails, or stands before a body with no turn left; the store then holds the values
-/// reached. A variable that the store does not have is 0, and is not set. It takes no memory.
+/// Runs a concrete program on a store of width `width`. Enters at most `turns` loop bodies; only entering a body uses a
+/// turn. Returns `Done`, `Stuck` or `More` if and only if the program ends, reaches an `abort` or an `assert` that
+/// fails, or reaches a loop body with no turn left. The store then has the values reached. A variable that the store
+/// does not have is 0, and is not set. Takes no memory.
 pub fn run(prog: &Prog, width: Width, store: &mut Store, turns: u64) -> Outcome
     requires concrete { is_concrete prog.now ≡ true }
     requires within { IsStore width store.old }

@@ -50,7 +50,7 @@ fn stmt_size(stmt: &Stmt) -> u64
     }
 }
 
-/// The number of nodes of a program, which stops at `u64::MAX`.
+/// Returns the number of nodes of a program, at most `u64::MAX`.
 #[cycle(sizes)]
 pub(crate) fn prog_size(prog: &Prog) -> u64
     ensures { result ≡ counted (prog_size prog.now) }

@@ -1,4 +1,4 @@
-//! Stores, and the values of expressions and the truth of conditions in them.
+//! Stores, the values of expressions in a store, and whether conditions hold in it.
 ghost use Rattle.std.specs.Prelude.{◌≡◌, ◌<◌, set};
 ghost use Rattle.kat_model.specs.Expressions.{expr_tree, cond_tree};
 ghost use Rattle.kat_model.specs.Stores.{modulus, IsStore, value, compares, holds};
@@ -24,7 +24,7 @@ impl Model for Store {
 }
 
 impl Store {
-    // Sets a variable; one that the store does not have stays away.
+    // Sets a variable. Does nothing if the store does not have it.
     pub(crate) fn set(&mut self, var: usize, value: u64)
         ensures { self.new ≡ set self.old var value }
     {
@@ -34,7 +34,7 @@ impl Store {
     }
 }
 
-// The value of an expression; a variable that the store does not have is 0.
+// Returns the value of an expression. A variable that the store does not have is 0.
 pub(crate) fn value(width: Width, expr: &Expr, store: &[u64]) -> u64
     requires { IsStore width store.now }
     ensures value { result ≡ value width store.now (expr_tree expr.now) }
@@ -62,7 +62,7 @@ fn compares(rel: Rel, left: u64, right: u64) -> bool
     }
 }
 
-// Whether a condition holds; a named test is false.
+// Whether a condition holds in the store. A named test is false.
 pub(crate) fn holds(width: Width, cond: &Cond, store: &[u64]) -> bool
     requires { IsStore width store.now }
     ensures { result ≡ holds width store.now (cond_tree cond.now) }

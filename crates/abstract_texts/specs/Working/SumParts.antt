@@ -1,4 +1,4 @@
--- The parts of a form's text that are printed one by one.
+-- The parts of the text of a form that are printed separately.
 use Rattle.std.specs.Prelude.{ℕ, List, [], ◌++◌, codes, Bool, ◌&&◌, not, nat_eq, if◌then◌else◌}
 use Rattle.std.specs.Fmt.{decimal}
 use Rattle.text_scopes.specs.declared.meaning.Meaning.{Meaning}
@@ -6,12 +6,12 @@ use Rattle.text_scopes.specs.declared.meaning.Meaning.TheVariants.{Var}
 use Rattle.linear_forms.specs.Forms.{MonoTree, var, product, TermTree}
 use Rattle.abstract_texts.specs.Shows.{plus_text, times_text, form_text}
 
--- a variable's name, or the factors of a product in parentheses
+-- the name of a variable, or the factors of a product in parentheses
 abbrev pub mono_text : (Meaning → List ℕ) → MonoTree → List ℕ
 mono_text names (var k) = names (Var k)
 mono_text names (product f g) = codes "(" ++ form_text names f ++ codes ")*(" ++ form_text names g ++ codes ")"
 
--- a term, whose coefficient stands before its monomial
+-- a term: its coefficient, then its monomial
 abbrev pub term_text : (Meaning → List ℕ) → Bool → TermTree → List ℕ
 term_text names first x = plus_text first ++ times_text x.1 ++ mono_text names x.0
 

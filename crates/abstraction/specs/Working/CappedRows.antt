@@ -1,9 +1,8 @@
--- Tables in which rows are sought in turn, and to which they are appended where they are new, until there is one row more
--- than there may be.
+-- Tables that receive each new row in turn, until they exceed the limit by one row.
 use Rattle.std.specs.Prelude.{ℕ, List, [], ◌∷◌, ◌++◌, length, Bool, ◌||◌, nat_lt, if◌then◌else◌}
 use Rattle.std.specs.List.{list_any}
 
--- the list with x at its end, where it has at most n members and not x
+-- the list with x at its end, if it has at most n members and x is not one of them
 abbrev pub with_new_within : {X : Type 0} → ℕ → (X → X → Bool) → List X → X → List X
 with_new_within n same xs x = if nat_lt n (length xs) || list_any (same x) xs then xs else xs ++ x ∷ []
 

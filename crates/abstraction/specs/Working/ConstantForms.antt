@@ -2,7 +2,7 @@
 use Rattle.std.specs.Prelude.{ℕ, Option, Some, None}
 use Rattle.linear_forms.specs.Forms.{FormTree, constant, var_term, product_term}
 
--- the number that a constant form is
+-- the number of a constant form
 abbrev pub constant_value : FormTree → Option ℕ
 constant_value (constant c) = Some c
 constant_value (var_term k t rest) = None

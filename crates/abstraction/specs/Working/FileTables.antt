@@ -1,4 +1,4 @@
--- What is answered to a file of its tables, and of the problem over them.
+-- The tables of a file, and the problem over them, as results of functions.
 use Rattle.std.specs.Prelude.{◌≡◌, ◌≤◌, ◌<◌, ◌+◌, List, length, map, None, Result, Ok, Err, Vec}
 use Rattle.std.specs.declared.alloc.Global.{Global}
 use Rattle.kat_model.specs.declared.limits.TheConstants.{MAX_TESTS, MAX_ACTIONS, MAX_TERM_NODES}
@@ -14,7 +14,7 @@ use Rattle.abstraction.specs.Rounds.{tables_of}
 use Rattle.abstraction.specs.Facts.{Hypothesis}
 use Rattle.abstraction.specs.Abstracts.{AbstractParts, test_rows_of, action_rows_of, IsAbstraction}
 
--- the comparisons of the goal, or that there are too many
+-- the comparisons of the goal, or the fault that there are too many
 abbrev pub IsTestTable : FileParts → Result (Vec Atomic Global) AbstractFault → Type 0
 IsTestTable f (Ok v) = (v.items ≡ first_comparisons f) × (f.tests + length v.items ≤ MAX_TESTS)
 IsTestTable f (Err NoMemory) = Unit {0}
@@ -22,7 +22,7 @@ IsTestTable f (Err TooManyTests) = MAX_TESTS < f.tests + length (first_compariso
 IsTestTable f (Err TooManyActions) = ⊥
 IsTestTable f (Err ProblemTooLarge) = ⊥
 
--- the assignments of the goal, or that there are too many
+-- the assignments of the goal, or the fault that there are too many
 abbrev pub IsActionTable : FileParts → Result (Vec Assignment Global) AbstractFault → Type 0
 IsActionTable f (Ok v) = (v.items ≡ file_assignments f) × (f.actions + length v.items ≤ MAX_ACTIONS)
 IsActionTable f (Err NoMemory) = Unit {0}
@@ -30,7 +30,7 @@ IsActionTable f (Err TooManyTests) = ⊥
 IsActionTable f (Err TooManyActions) = MAX_ACTIONS < f.actions + length (file_assignments f)
 IsActionTable f (Err ProblemTooLarge) = ⊥
 
--- the tables, of which there are not too many rows, or why there is no abstraction
+-- the tables, whose rows are within the limits, or the reason why there is no abstraction
 abbrev pub IsTables : FileParts → Result Tables AbstractFault → Type 0
 IsTables f (Ok t) = (t ≡ tables_of f) × (f.tests + length (first_comparisons f) ≤ MAX_TESTS) × (f.actions + length (file_assignments f) ≤ MAX_ACTIONS)
 IsTables f (Err fault) = IsAbstraction f (Err fault)
@@ -51,7 +51,7 @@ parts_with t s hyps = record {
   width = t.width;
 }
 
--- it is within the limits of a problem, or it has some fault
+-- the problem is within the limits, or it has a fault
 abbrev pub IsWithinLimits : AbstractParts → Result AbstractParts AbstractFault → Type 0
 IsWithinLimits a (Ok b) = (b ≡ a) × (problem_size a.problem ≤ MAX_TERM_NODES)
 IsWithinLimits a (Err NoMemory) = Unit {0}

@@ -1,4 +1,4 @@
--- The facts of two comparisons, and all hypotheses that are derived of some assignments and comparisons.
+-- The facts of two comparisons, and all hypotheses that follow from some assignments and comparisons.
 use Rattle.std.specs.Prelude.{ℕ, List, ◌++◌, flat_map}
 use Rattle.kat_model.specs.Stores.{modulus}
 use Rattle.abstraction.specs.declared.hypotheses.PairFact.{PairFact}

@@ -1,4 +1,4 @@
--- One statement over the rows of tables.
+-- The flow of one statement over the rows of tables.
 use Rattle.kat_model.specs.Stores.{modulus}
 use Rattle.linear_forms.specs.Arithmetic.{normal_form}
 use Rattle.while_lang.specs.Programs.{StmtTree, skip, abort, assert, act, assign, branch, loop}

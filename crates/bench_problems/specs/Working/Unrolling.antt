@@ -1,4 +1,4 @@
--- Loops unrolled once, statement by statement.
+-- Unrolling each loop once, statement by statement.
 use Rattle.while_lang.specs.Flows.{FlowStmt, skip, abort, assert, act, branch, loop, empty, loop_then}
 use Rattle.bench_problems.specs.Generator.{followed_by, unrolled}
 

@@ -1,4 +1,4 @@
--- Whether sets of targets are congruent as far as the decided tests tell.
+-- Whether sets of targets are congruent by what the decided tests determine.
 use Rattle.std.specs.Prelude.{◌&&◌, Bool, List}
 use Rattle.walk_pairs.specs.declared.items.Item.{Item}
 use Rattle.walk_pairs.specs.declared.items.Ends.{Ends}
@@ -7,7 +7,7 @@ use Rattle.walk_pairs.specs.declared.items.Side.TheVariants.{Left, Right}
 use Rattle.walk_pairs.specs.Items.{targets_under, open_targets}
 use Rattle.bisim_worklist.specs.Working.Marks.{RuleParts, reaches_targets}
 
--- whether what may be on one side alone is brought to the other by what surely is there
+-- whether the other side's sure targets reach all targets that may be only on this side
 abbrev pub covers_on : RuleParts → Ends → List Item → Side → Side → Bool
 covers_on r ends items side other = reaches_targets r (targets_under ends.always other items) (open_targets ends.never ends.always side items)
 

@@ -1,4 +1,4 @@
--- Indices of listed pairs: each of their sets stands under one of its members.
+-- Indices of listed pairs. Each nonempty set of a pair is indexed under one of its members.
 use Rattle.std.specs.Prelude.{◌≡◌, ◌⊎◌, ◌≤◌, ℕ, List, [], length, slice_get, slice_index_or, Option, Some, None}
 use Rattle.walk_pairs.specs.declared.items.Side.{Side}
 use Rattle.walk_pairs.specs.declared.items.Side.TheVariants.{Left, Right}
@@ -6,37 +6,37 @@ use Rattle.kat_model.specs.Members.{Has}
 use Rattle.bisim_worklist.specs.declared.pair.Spot.{Spot}
 use Rattle.bisim_worklist.specs.Working.Listings.{IdEntry}
 
--- the empty sets, and for each term the sets that stand under it
+-- the empty sets, and for each term the sets that are indexed under it
 pub record IndexParts : Type 0 where
   pub apart : List Spot
   pub under : List (List Spot)
 
--- one set of the pair at the place, and a member of it
+-- one set of the pair at the place, and the witness
 abbrev pub spot_at : ℕ → Side → Option ℕ → Spot
 spot_at k side w = record { place = k; side = side; witness = w }
 
--- the witness is a member, where there is one
+-- the witness, if there is one, is a member
 abbrev pub IsWitness : Option ℕ → List ℕ → Type 0
 IsWitness None ids = Unit {0}
 IsWitness (Some w) ids = Has ids w
 
--- the set on this side of the pair at the place, which has these members, stands under one of them with a witness, or it is
--- empty and stands apart
+-- the set with these members, on this side of the pair at the place, is indexed under one of them with a member as
+-- witness; an empty set is in `apart`
 abbrev pub StandsUnder : IndexParts → List ℕ → ℕ → Side → Type 0
 StandsUnder x ids k side =
     ((ids ≡ []) × Has x.apart (spot_at k side None))
     ⊎ ((t : ℕ) × (w : ℕ) × Has ids t × Has ids w × Has (slice_index_or x.under t []) (spot_at k side (Some w)))
 
--- lists with all that stands in these
+-- the new lists have all members of the old ones
 pub record KeepsLists (old new : List (List Spot)) : Type 0 where
   pub longer : length old ≤ length new
   pub members : (t : ℕ) (s : Spot) → Has (slice_index_or old t []) s → Has (slice_index_or new t []) s
 
--- an index with all that stands in this one
+-- the new index has all sets of the old one
 pub record KeepsPlaces (old new : IndexParts) : Type 0 where
   pub apart : (s : Spot) → Has old.apart s → Has new.apart s
   pub under : (t : ℕ) (s : Spot) → Has (slice_index_or old.under t []) s → Has (slice_index_or new.under t []) s
 
--- both sets of each pair stand under a member
+-- both sets of each pair are in the index
 abbrev pub AreIndexed : IndexParts → List IdEntry → Type 0
 AreIndexed x es = (k : ℕ) (e : IdEntry) → slice_get es k ≡ Some e → StandsUnder x e.left k Left × StandsUnder x e.right k Right

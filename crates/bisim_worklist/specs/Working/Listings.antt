@@ -1,4 +1,4 @@
--- The pairs of a walk as the program keeps them, by the ids of their terms.
+-- The pairs of a walk as the program stores them, as ids of their terms.
 use Rattle.std.specs.Prelude.{◌≡◌, ◌<◌, ℕ, List, [], ◌∷◌, map, slice_get, Option, Some, None}
 use Rattle.kat_model.specs.Members.{Has}
 use Rattle.kat_model.specs.Pairs.{SetPair}
@@ -15,7 +15,7 @@ pub record IdEntry : Type 0 where
   pub right : List ℕ
   pub origin : Option Origin
 
--- the set of the pair on one side, and on the other
+-- the set of the pair on this side, and on the other side
 abbrev pub set_on : Side → IdEntry → List ℕ
 set_on Left e = e.left
 set_on Right e = e.right
@@ -33,7 +33,7 @@ entry_of store e = record { pair = pair_of store e; origin = e.origin }
 abbrev pub entries_of : NodeParts → List IdEntry → List Entry
 entries_of store es = map (entry_of store) es
 
--- both sets of each pair are such sets
+-- both sets of each pair are sets of ids
 abbrev pub AreIdSets : NodeParts → ℕ → List IdEntry → Type 0
 AreIdSets store n es = (e : IdEntry) → Has es e → IsIdSet store n e.left × IsIdSet store n e.right
 

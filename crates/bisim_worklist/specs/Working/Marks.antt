@@ -8,29 +8,29 @@ use Rattle.bisim_worklist.specs.declared.pair.Spot.{Spot}
 use Rattle.bisim_worklist.specs.Working.Listings.{IdEntry, set_on, set_across}
 use Rattle.bisim_worklist.specs.Working.Indices.{IndexParts, IsWitness}
 
--- each of the ids is marked
+-- whether each of the ids is marked
 abbrev pub are_marked : List Bool → List ℕ → Bool
 are_marked marks ids = list_all (λ i. slice_index_or marks i false) ids
 
--- the marks, and those of the ids
+-- the marks, with those of the ids set
 abbrev pub with_marks : List Bool → List ℕ → List Bool
 with_marks marks [] = marks
 with_marks marks (i ∷ ids) = with_marks (slice_set marks i true) ids
 
--- the marks without those of the ids
+-- the marks, with those of the ids removed
 abbrev pub without_marks : List Bool → List ℕ → List Bool
 without_marks marks [] = marks
 without_marks marks (i ∷ ids) = without_marks (slice_set marks i false) ids
 
--- the marks, and those of the other set of a pair where this one is marked
+-- the marks, with those of the pair's other set added if this set is marked
 abbrev pub with_side_marked : Side → List Bool → IdEntry → List Bool
 with_side_marked side marks e = if are_marked marks (set_on side e) then with_marks marks (set_across side e) else marks
 
--- the marks, and those of both sides of a pair where one side is marked
+-- the marks, with those of both sides of the pair added if one side is marked
 abbrev pub with_pair_marked : List Bool → IdEntry → List Bool
 with_pair_marked marks e = if are_marked marks e.left then with_marks marks e.right else (if are_marked marks e.right then with_marks marks e.left else marks)
 
--- after one round over the pairs, and after n rounds
+-- the marks after one round over the pairs, and after n rounds
 abbrev pub round_marked : List IdEntry → List Bool → List Bool
 round_marked [] marks = marks
 round_marked (e ∷ es) marks = round_marked es (with_pair_marked marks e)
@@ -39,7 +39,7 @@ abbrev pub rounds_marked : ℕ → List IdEntry → List Bool → List Bool
 rounds_marked zero es marks = marks
 rounds_marked (suc n) es marks = rounds_marked n es (round_marked es marks)
 
--- the marks of these ids alone, of n terms, saturated
+-- the saturation of the marks of only these ids, for n terms
 abbrev pub saturated_marks : ℕ → List IdEntry → List ℕ → List Bool
 saturated_marks n es ids = rounds_marked (length es) es (with_marks (replicate n false) ids)
 
@@ -49,7 +49,7 @@ are_reached universal targets marks = option_map_or (λ u. slice_index_or marks 
 
 -- ---- sets that grow pair by pair
 
--- what is marked stays so with more marks
+-- each mark remains in `more`
 abbrev pub Stays : List Bool → List Bool → Type 0
 Stays marks more = (j : ℕ) → slice_index_or marks j false ≡ true → slice_index_or more j false ≡ true
 
@@ -57,17 +57,17 @@ Stays marks more = (j : ℕ) → slice_index_or marks j false ≡ true → slice
 abbrev pub AreClosed : List IdEntry → List Bool → Type 0
 AreClosed es marks = (e : IdEntry) → Has es e → with_pair_marked marks e ≡ marks
 
--- nor does this set of a pair
+-- this set of a pair adds no mark
 abbrev pub IsClosedAt : List IdEntry → List Bool → Spot → Type 0
 IsClosedAt es marks s = (e : IdEntry) → slice_get es s.place ≡ Some e → IsWitness s.witness (set_on s.side e) → with_side_marked s.side marks e ≡ marks
 
--- the pairs bring the new marks to the old ones
+-- the new marks contain the old ones and are within their closure under the pairs
 pub record IsMade (es : List IdEntry) (old new : List Bool) : Type 0 where
   pub long : length new ≡ length old
   pub keeps : Stays old new
   pub least : (marks : List Bool) → length marks ≡ length old → AreClosed es marks → Stays old marks → Stays new marks
 
--- how many ids are not marked
+-- the number of unmarked ids
 abbrev pub unmarked : List Bool → ℕ
 unmarked [] = 0
 unmarked (b ∷ marks) = (if b then 0 else 1) + unmarked marks
@@ -85,7 +85,7 @@ AllMarked marks ids = (k : ℕ) → Has ids k → slice_index_or marks k false �
 abbrev pub AreAmong : List Bool → List ℕ → Type 0
 AreAmong marks ids = (k : ℕ) → slice_index_or marks k false ≡ true → Has ids k
 
--- the same set, or where it grew one with more marks
+-- the set has not changed, or it grew and has more marks
 pub record IsMore (old new : MarkedParts) (grew : Bool) : Type 0 where
   pub longer : length old.terms ≤ length new.terms
   pub same : grew ≡ false → new ≡ old
@@ -93,8 +93,8 @@ pub record IsMore (old new : MarkedParts) (grew : Bool) : Type 0 where
 
 -- ---- rules
 
--- the listed pairs, which are rules of congruence, a mark for each term that stands in them, and their index, the universal
--- term, how many ids there are, and how many pairs may be listed, where there is a limit
+-- the listed pairs, which are the rules of congruence, a mark for each of their members, their index, the universal
+-- term, the number of ids, and the limit on the number of pairs; the universal term and the limit are optional
 pub record RuleParts : Type 0 where
   pub pairs : List IdEntry
   pub members : List Bool
@@ -103,11 +103,11 @@ pub record RuleParts : Type 0 where
   pub count : ℕ
   pub limit : Option ℕ
 
--- whether no more pairs may be listed
+-- whether no further pair may be listed
 abbrev pub is_full : RuleParts → Bool
 is_full r = option_map_or (λ m. nat_le m (length r.pairs)) r.limit false
 
--- so many pairs may be listed
+-- n pairs may be listed
 abbrev pub IsWithinLimit : Option ℕ → ℕ → Type 0
 IsWithinLimit None n = Unit {0}
 IsWithinLimit (Some m) n = n ≤ m
@@ -116,6 +116,6 @@ IsWithinLimit (Some m) n = n ≤ m
 abbrev pub AreMembers : RuleParts → Type 0
 AreMembers r = (e : IdEntry) → Has r.pairs e → AllMarked r.members e.left × AllMarked r.members e.right
 
--- whether the pairs bring the targets to the set, or the universal term
+-- whether the closure of the set under the pairs contains the targets or the universal term
 abbrev pub reaches_targets : RuleParts → List ℕ → List ℕ → Bool
 reaches_targets r ids targets = are_reached r.universal targets (saturated_marks r.count r.pairs ids)

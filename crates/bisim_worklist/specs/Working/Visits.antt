@@ -1,4 +1,4 @@
--- What the cases of one action do to a walk.
+-- The effect of the cases of one action on a walk.
 use Rattle.std.specs.Prelude.{◌≡◌, ℕ, List, ◌++◌, length}
 use Rattle.kat_model.specs.Steps.{Atom, set_next}
 use Rattle.kat_model.specs.Problems.{ProblemParts}
@@ -6,12 +6,12 @@ use Rattle.kat_model.specs.Closed.{closed}
 use Rattle.kat_model.specs.Pairs.{SetPair, IsCongruent}
 use Rattle.bisim_worklist.specs.Walks.{Entry, pairs_of, IsWalk}
 
--- further entries are listed after the old ones
+-- additional entries are listed after the old ones
 pub record AddsEntries (old new : List Entry) : Type 0 where
   pub more : List Entry
   pub is : new ≡ old ++ more
 
--- the walk has listed pairs, so that the next sets of the pair by the action are congruent at all atoms of a case
+-- the walk has listed pairs such that the next sets of the pair by the action are congruent at all atoms of a case
 pub record IsVisited (q : ProblemParts) (old new : List Entry) (done : ℕ) (p : SetPair) (a : ℕ) (IsCase : Atom → Type 0) : Type 0 where
   pub grows : AddsEntries old new
   pub walk : IsWalk q new done

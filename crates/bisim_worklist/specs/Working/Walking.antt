@@ -1,4 +1,4 @@
--- What a walk keeps between the pairs that it takes.
+-- The invariants of a walk between the pairs that it processes.
 use Rattle.std.specs.Prelude.{◌≡◌, ◌≢◌, ◌<◌, ℕ, length, slice_get, Some}
 use Rattle.kat_model.specs.Steps.{Atom, set_out}
 use Rattle.kat_model.specs.Problems.{ProblemParts}
@@ -12,7 +12,7 @@ use Rattle.bisim_worklist.specs.Working.IdWalks.{AreRulesOf}
 use Rattle.bisim_worklist.specs.declared.walk.Walk.{Walk}
 use Rattle.bisim_worklist.specs.declared.walk.BothSteps.{BothSteps}
 
--- the walk is over the store, and has processed the first so many of its pairs
+-- the walk is over the store, and has processed the first `done` of its pairs
 pub record IsUnderWay (q : ProblemParts) (store : NodeParts) (w : Walk) (done : ℕ) : Type 0 where
   pub tests : w.diagrams.tests ≡ q.tests
   pub rules : AreRulesOf q store w.rules done
@@ -23,14 +23,14 @@ pub record AreStepsAt (store : NodeParts) (w : Walk) (e : IdEntry) (steps : Both
   pub left : IsStepsOf store w.diagrams (terms_of store e.left) steps.left
   pub right : IsStepsOf store w.diagrams (terms_of store e.right) steps.right
 
--- the guards of the moves are ids of diagrams, and moves are joined
+-- the guards of the moves are ids of diagrams, and no two moves of a side have the same action and target
 pub record HasStepIds (w : Walk) (steps : BothSteps) : Type 0 where
   pub left : AreGuards w.diagrams steps.left.moves.items
   pub right : AreGuards w.diagrams steps.right.moves.items
   pub left_merged : AreMerged steps.left.moves.items
   pub right_merged : AreMerged steps.right.moves.items
 
--- the walk goes on, and lists pairs under which the next sets of the pair at the place are congruent
+-- the walk remains under way, and has listed pairs under which the next sets of the pair at the place are congruent
 abbrev pub IsExpanded : ProblemParts → NodeParts → Walk → Walk → ℕ → BothSteps → Type 0
 IsExpanded q store old new place steps =
     (e : IdEntry) → IsUnderWay q store old place → slice_get old.rules.pairs place ≡ Some e → AreStepsAt store old e steps
@@ -38,7 +38,7 @@ IsExpanded q store old new place steps =
     × ((a : ℕ) → a < q.actions → AreCongruentAfter q (pairs_of (entries_of store new.rules.pairs)) (pair_of store e) a)
     × (slice_get new.rules.pairs place ≡ Some e)
 
--- just one of the sets of the pair at the place accepts the atom
+-- exactly one set of the pair at the place accepts the atom
 pub record IsDifference (q : ProblemParts) (store : NodeParts) (w : Walk) (place : ℕ) (atom : Atom) : Type 0 where
   pub entry : Entry
   pub at : slice_get (entries_of store w.rules.pairs) place ≡ Some entry

@@ -1,4 +1,4 @@
--- Cases on tests: some tests are decided, and what is known of a test where they are.
+-- Cases on tests: some tests are decided, and what is then known of a test.
 use Rattle.std.specs.Prelude.{◌≡◌, ◌+◌, ℕ, Bool, true, false, not, List, [], ◌∷◌, slice_get, slice_index_or, replicate, map, take, Option, Some, None, unwrap_or}
 use Rattle.kat_model.specs.Members.{Has, IsSubset}
 use Rattle.kat_model.specs.Steps.{Atom}
@@ -14,7 +14,7 @@ use Rattle.cert_checker.specs.declared.known.Known.TheVariants.{Value, Waits}
 abbrev pub undecided : ℕ → List (Option Bool)
 undecided n = replicate n None
 
--- the atom has the values of the tests that are decided
+-- the atom extends the decided tests: it has their values
 abbrev pub Extends : List (Option Bool) → Atom → Type 0
 Extends [] [] = Unit {0}
 Extends [] (b ∷ bs) = ⊥
@@ -22,17 +22,17 @@ Extends (d ∷ ds) [] = ⊥
 Extends (None ∷ ds) (b ∷ bs) = Extends ds bs
 Extends (Some c ∷ ds) (b ∷ bs) = (c ≡ b) × Extends ds bs
 
--- the test is one that is not decided
+-- the test is not decided
 abbrev pub IsOpen : List (Option Bool) → ℕ → Type 0
 IsOpen decided k = slice_get decided k ≡ Some None
 
--- what is known is so at each atom with the decided tests, and what it waits for is not decided; the numbers of the tests
--- begin at the first one
+-- a known value is the value at each atom that extends the decided tests, and a test that it waits for is open; the
+-- numbers of the primitive tests begin at `first`
 abbrev pub IsKnown : ℕ → List (Option Bool) → (Atom → Bool) → Known → Type 0
 IsKnown first decided value (Value b) = (atom : Atom) → Extends decided atom → value atom ≡ b
 IsKnown first decided value (Waits j) = (k : ℕ) × (j ≡ first + k) × IsOpen decided k
 
--- what is known of tests that are put together (three-valued logic, Kleene 1938)
+-- what is known of combined tests (three-valued logic, Kleene 1938)
 abbrev pub known_not : Known → Known
 known_not (Value b) = Value (not b)
 known_not (Waits k) = Waits k
@@ -51,7 +51,7 @@ abbrev pub known_at : ℕ → Option Bool → ℕ → Known
 known_at first (Some b) k = Value b
 known_at first None k = Waits (first + k)
 
--- what is known of a test, and of that of a pair, which is true where there is none
+-- what is known of a test, and of the test of a pair, which is true if the pair has none
 abbrev pub known_of : List Known → ℕ → Known
 known_of known g = slice_index_or known g (Value false)
 
@@ -59,7 +59,7 @@ abbrev pub known_test : List Known → Option ℕ → Known
 known_test known None = Value true
 known_test known (Some k) = known_of known k
 
--- what is known of a node, over what is known of the nodes that it names
+-- what is known of a node, given what is known of the nodes that it names
 abbrev pub known_node : ℕ → List (Option Bool) → List Known → TestNode ℕ → Known
 known_node first decided known False = Value false
 known_node first decided known True = Value true
@@ -76,41 +76,41 @@ abbrev pub falsely : Known → Bool
 falsely (Value b) = not b
 falsely (Waits k) = false
 
--- the numbers are those of tests of the tables, and those of which a test is made stand before it
+-- the numbers are tests of the tables, and the parts of each test come before it
 abbrev pub AreAsked : TableParts → List ℕ → Type 0
 AreAsked t asked =
     (i k : ℕ) → slice_get asked i ≡ Some k → IsTest t k × ((node : TestNode ℕ) → slice_get t.tests k ≡ Some node → IsSubset (test_parts node) (take i asked))
 
--- the list tells what is known of each of these tests of the tables
+-- the list has what is known of each of these tests of the tables
 abbrev pub AreKnown : ℕ → TableParts → List (Option Bool) → List ℕ → List Known → Type 0
 AreKnown first t decided asked known = (k : ℕ) → Has asked k → IsKnown first decided (holds_at t k) (known_of known k)
 
--- how many tests are not decided
+-- the number of open tests
 abbrev pub open_count : List (Option Bool) → ℕ
 open_count [] = 0
 open_count (None ∷ ds) = 1 + open_count ds
 open_count (Some b ∷ ds) = open_count ds
 
--- the least atom with the decided tests
+-- the least atom that extends the decided tests
 abbrev pub least_of : List (Option Bool) → Atom
 least_of ds = map (λ d. unwrap_or d false) ds
 
--- the atom is less than the bound, where there is one
+-- the atom is less than the bound, if there is one
 abbrev pub IsBelow : Option Atom → Atom → Type 0
 IsBelow None atom = Unit {0}
 IsBelow (Some bound) atom = IsLess atom bound
 
--- at each atom with the decided tests the property holds
+-- the property holds at each atom that extends the decided tests
 abbrev pub HoldsThroughout : (Atom → Type 0) → List (Option Bool) → Type 0
 HoldsThroughout P decided = (atom : Atom) → Extends decided atom → P atom
 
--- the atom is the least with the decided tests at which the property fails
+-- the atom is the least that extends the decided tests and at which the property fails
 pub record IsLeastFailure (P : Atom → Type 0) (decided : List (Option Bool)) (atom : Atom) : Type 0 where
   pub within : Extends decided atom
   pub fails : P atom → ⊥
   pub least : (other : Atom) → Extends decided other → IsLess other atom → P other
 
--- the least failure, where there is one
+-- the least failure, or none if the property holds throughout
 abbrev pub IsFirstFailure : (Atom → Type 0) → List (Option Bool) → Option Atom → Type 0
 IsFirstFailure P decided None = HoldsThroughout P decided
 IsFirstFailure P decided (Some atom) = IsLeastFailure P decided atom

@@ -1,4 +1,4 @@
--- Indices of listed pairs: the place of a pair stands under the last member of each of its sets.
+-- Indices of listed pairs: the place of a pair is listed under the last member of each of its sets.
 use Rattle.std.specs.Prelude.{◌≡◌, ◌<◌, ◌-◌, ℕ, List, [], length, slice_get, Option, Some, unwrap_or}
 use Rattle.std.specs.Option.{option_map_or}
 use Rattle.std.specs.Map.{lookup}
@@ -7,7 +7,7 @@ use Rattle.std.specs.Ordering.{nat_cmp}
 use Rattle.kat_model.specs.Members.{Has}
 use Rattle.certificate.specs.PairParts.{PairParts}
 
--- the places of pairs with an empty set, and those under terms
+-- the places of pairs with an empty set, and the places under terms
 pub record IndexParts : Type 0 where
   pub apart : List ℕ
   pub under : List (ℕ × List ℕ)
@@ -16,20 +16,20 @@ pub record IndexParts : Type 0 where
 abbrev pub places_under : IndexParts → ℕ → List ℕ
 places_under x k = unwrap_or (lookup (is_at (nat_cmp k)) x.under) []
 
--- and without a term those of pairs with an empty set
+-- the places under the term, or without a term the places of pairs with an empty set
 abbrev pub places_at : IndexParts → Option ℕ → List ℕ
 places_at x last = option_map_or (places_under x) last x.apart
 
--- the places among which are those of pairs with this set
+-- a list of places that contains those of all pairs with this set
 abbrev pub places_by : IndexParts → List ℕ → List ℕ
 places_by x ks = places_at x (slice_get ks (length ks - 1))
 
--- an index with all that stands in this one
+-- the new index contains all places of the old one
 pub record KeepsPlaces (old new : IndexParts) : Type 0 where
   pub apart : (k : ℕ) → Has old.apart k → Has new.apart k
   pub under : (term k : ℕ) → Has (places_under old term) k → Has (places_under new term) k
 
--- the first n pairs, and all, stand where both their sets say
+-- the first n pairs, and all pairs, are listed under both their sets
 abbrev pub AreIndexedTo : ℕ → IndexParts → List PairParts → Type 0
 AreIndexedTo n x ps = (k : ℕ) (p : PairParts) → k < n → slice_get ps k ≡ Some p → Has (places_by x p.left) k × Has (places_by x p.right) k
 

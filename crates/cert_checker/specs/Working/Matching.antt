@@ -1,4 +1,4 @@
--- Whether pairs by the numbers of terms match two sets of terms, as far as it is known.
+-- Whether pairs, by the numbers of terms, match two sets of terms, as far as is known.
 use Rattle.std.specs.Prelude.{◌≡◌, ◌⊎◌, ◌∷◌, [], ℕ, Bool, IsTrue, true, false, ◌&&◌, ◌||◌, nat_eq, if◌then◌else◌, List, Option, Some, None}
 use Rattle.std.specs.Option.{option_map_or, MatchOption}
 use Rattle.std.specs.List.{list_any}
@@ -32,17 +32,18 @@ sure_targets known (e ∷ es) = if truly (known_of known e.1) then e.0 ∷ sure_
 abbrev pub is_sure : List Known → List (ℕ × ℕ) → ℕ → Bool
 is_sure known es k = option_map_or (λ g. truly (known_of known g)) (guard_of es k) false
 
--- and whether it is where this guard is true: under the same one, or by what is known of its own
+-- whether the term is surely among the targets wherever the given guard is true: it has the same guard, or its guard is
+-- known to be true
 abbrev pub has_too : List Known → List (ℕ × ℕ) → ℕ → ℕ → Bool
 has_too known es k g = option_map_or (λ h. nat_eq h g || truly (known_of known h)) (guard_of es k) false
 
--- the terms that may be among the targets at an atom at which they are not among the others
+-- the open terms: those that may be among the targets at an atom at which they are not among the others
 abbrev pub open_targets : List Known → List (ℕ × ℕ) → List (ℕ × ℕ) → List ℕ
 open_targets known others [] = []
 open_targets known others (e ∷ es) =
     if falsely (known_of known e.1) || has_too known others e.0 e.1 then open_targets known others es else e.0 ∷ open_targets known others es
 
--- whether what is known is true, or may be
+-- whether a value is known to be true, or may be
 abbrev pub may_be : Bool → Known → Bool
 may_be also (Value b) = b
 may_be also (WaitsFor k) = also
@@ -55,11 +56,11 @@ abbrev pub counting : Bool → List Known → List PairParts → List NumberPair
 counting also known [] = []
 counting also known (p ∷ ps) = if does_count also known p then sets_of p ∷ counting also known ps else counting also known ps
 
--- whether some pair has just these numbers
+-- whether some pair has exactly these numbers
 abbrev pub lists : List NumberPair → List ℕ → List ℕ → Bool
 lists pairs ks ls = list_any (λ p. pointwise nat_eq p.left ks && pointwise nat_eq p.right ls) pairs
 
--- each guard has a value that is known, and that of each of these terms
+-- each guard has a known value, and the guard of each of these terms has one
 abbrev pub AreSettled : List Known → List (ℕ × ℕ) → Type 0
 AreSettled known es = (e : ℕ × ℕ) → Has es e → (b : Bool) × (known_of known e.1 ≡ Value b)
 
@@ -70,12 +71,13 @@ AreSettledAmong known es terms = (k g : ℕ) → Has terms k → guard_of es k �
 abbrev pub IsWaitedBy : List Known → List (ℕ × ℕ) → ℕ → Type 0
 IsWaitedBy known es k = (e : ℕ × ℕ) × Has es e × (known_of known e.1 ≡ WaitsFor k)
 
--- a guard of one of two lists of targets does
+-- a guard of one of two lists of targets waits for the test
 abbrev pub IsWaitedByOne : List Known → List (ℕ × ℕ) → List (ℕ × ℕ) → ℕ → Type 0
 IsWaitedByOne known left right k = IsWaitedBy known left k ⊎ IsWaitedBy known right k
 
--- what is known of the targets of one side, beside those of the other: the numbers of the terms ascend, the lists are those of
--- terms that surely are there and of those that may be there alone, and where no test is given, no guard of these waits
+-- what is known of the targets of one side, given those of the other: the numbers of the terms ascend; the lists are
+-- the surely present terms and the open terms; without a given test, no guard of the open terms, or of all targets,
+-- waits
 pub record IsSide (known : List Known) (others es : List (ℕ × ℕ)) (s : Side) : Type 0 where
   pub ascends : IsStrictlySortedBy nat_cmp (keys_of es)
   pub sure : s.sure.items ≡ sure_targets known es
@@ -87,24 +89,25 @@ pub record AreSides (known : List Known) (es fs : List (ℕ × ℕ)) (s : Sides)
   pub left : IsSide known fs es s.left
   pub right : IsSide known es fs s.right
 
--- these pairs bring what may be in one set alone to what surely is in the other, or the universal term to both
+-- these pairs make each open term reachable from the surely present terms of the other set, or the universal term from
+-- both sets
 abbrev pub AreCovered : List NumberPair → Option ℕ → Sides → Type 0
 AreCovered ps universal s =
     (AreReached ps s.right.sure.items s.left.alone.items × AreReached ps s.left.sure.items s.right.alone.items) ⊎ IsReachedByBoth ps universal s.left.sure.items s.right.sure.items
 
--- the pairs surely match the sets: where no guard waits these are listed, or covered where none of a term does that may be in
--- one set alone
+-- the pairs surely match the sets: the sets are listed and no guard waits, or they are covered and no guard of an open
+-- term waits
 abbrev pub AreSurelyMatched : Style → List NumberPair → Option ℕ → Sides → Type 0
 AreSurelyMatched Plain ps universal s = ((s.left.waits ≡ None) × (s.right.waits ≡ None)) × IsTrue (lists ps s.left.sure.items s.right.sure.items)
 AreSurelyMatched UpTo ps universal s = ((s.left.alone_waits ≡ None) × (s.right.alone_waits ≡ None)) × AreCovered ps universal s
 AreSurelyMatched Under ps universal s = ((s.left.alone_waits ≡ None) × (s.right.alone_waits ≡ None)) × AreCovered ps universal s
 
--- what is known of the test of each pair is its value
+-- the test of each pair has a known value
 abbrev pub AreTestsSettled : List Known → List PairParts → Type 0
 AreTestsSettled known ps = (p : PairParts) → Has ps p → (b : Bool) × (known_test known p.test ≡ Value b)
 
--- a move is excluded where the pair's test is false, or both of a forbidden pair of tests are true; it counts where the
--- pair's test is true, and no forbidden pair of tests is
+-- a move is excluded if the pair's test is false, or if both tests of a forbidden pair are true; it counts if the
+-- pair's test is true and each forbidden pair has a false test
 abbrev pub is_excluded : QuestionParts → Case → Bool
 is_excluded q c =
     falsely (known_test c.begin.items q.own) || list_any (λ f. truly (known_of c.begin.items f.0) && truly (known_of c.end.items f.1)) q.turn.forbidden

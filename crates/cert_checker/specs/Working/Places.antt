@@ -1,5 +1,5 @@
--- The first place at which the pairs of a certificate fail: at a pair and an atom, outputs come at turn 0 and
--- each action at the turn after its number.
+-- The first place at which the pairs of a certificate fail. At a pair and an atom, outputs have turn 0, and each action
+-- has its number plus 1.
 use Rattle.std.specs.Prelude.{◌≡◌, ◌↔◌, ◌<◌, ◌≤◌, ◌+◌, ◌⊎◌, ℕ, Bool, IsTrue, false, ◌&&◌, List, [], length, take, drop, slice_get, Option, Some, None}
 use Rattle.std.specs.Option.{option_map_or}
 use Rattle.kat_model.specs.Trees.{Term}
@@ -26,8 +26,8 @@ use Rattle.cert_checker.specs.Working.Indices.{IndexParts, AreIndexed}
 use Rattle.cert_checker.specs.Working.Roots.{AreRoots, counted_short}
 use Rattle.cert_checker.specs.Working.Questions.{TurnParts}
 
--- the reason that stands at a pair and an atom, of outputs or of an action; the atom that this leads to is told in the style of
--- tests
+-- the reason at a pair and an atom, for outputs or for an action; only the style of tests gives the atom after the
+-- action
 abbrev pub reason_at : Style → ℕ → List Bool → Option ℕ → List Bool → Reason
 reason_at s k atom None to = Output k atom
 reason_at Plain k atom (Some a) to = Missing k atom a
@@ -42,11 +42,11 @@ abbrev pub turn_number : Option ℕ → ℕ
 turn_number None = 0
 turn_number (Some a) = a + 1
 
--- where a place stands in the order
+-- the position of a place in the order
 abbrev pub turn_at : Place → Turn
 turn_at p = record { stage = 3; number = p.pair; atom = p.atom.items; action = turn_number p.action; to = p.to.items }
 
--- the place is the one that is there or, of two, one before which the other does not stand
+-- the result is the only place or, of two, one that the other does not precede
 abbrev pub IsLeastOf : Option Place → Option Place → Option Place → Type 0
 IsLeastOf None o r = r ≡ o
 IsLeastOf (Some x) None r = r ≡ Some x
@@ -54,9 +54,9 @@ IsLeastOf (Some x) (Some y) r =
     ((r ≡ Some x) × (IsEarlier (turn_at y) (turn_at x) → ⊥))
     ⊎ ((r ≡ Some y) × (IsEarlier (turn_at x) (turn_at y) → ⊥))
 
--- what a certificate is gone through with: its problem, the index of its pairs and the tables of its nodes; the numbers of the
--- closed sides that are compared, of their universal term, and of the hypotheses that count as short; the tests that are true
--- where terms accept and where a short hypothesis does; and marks of the terms of which steps are made
+-- what a pass over a certificate has: its problem, the index of its pairs and the tables of its nodes; the numbers of
+-- the compared closed sides, of their universal term, and of the hypotheses that count as short; the tests that are
+-- true where terms accept and where a short hypothesis does; and marks of the terms whose steps are computed
 pub record PassParts : Type 0 where
   pub problem : ProblemParts
   pub cert : CertParts
@@ -70,15 +70,15 @@ pub record PassParts : Type 0 where
   pub banned : ℕ
   pub needed : List Bool
 
--- the members of listed pairs and the short hypotheses are marked, and with them their parts
+-- the members of listed pairs and the short hypotheses are marked, and so are their parts
 pub record AreNeeded (t : TableParts) (c : CertParts) (numbers : List ℕ) (marks : List Bool) : Type 0 where
   pub closed : AreClosed t marks
   pub left : (p : PairParts) (k : ℕ) → Has c.pairs p → Has p.left k → IsMarked marks k
   pub right : (p : PairParts) (k : ℕ) → Has c.pairs p → Has p.right k → IsMarked marks k
   pub shorts : (k : ℕ) → Has numbers k → IsMarked marks k
 
--- the tables have the nodes of the certificate and the terms on which its pairs rest, the tests tell where these accept,
--- and the index is that of the pairs
+-- the tables contain the nodes of the certificate and the root terms of the problem, the tests are the acceptance tests
+-- of the terms, and the index is that of the pairs
 pub record IsPass (p : PassParts) : Type 0 where
   pub problem : IsProblem p.problem
   pub cert : IsCert p.cert
@@ -93,12 +93,12 @@ pub record IsPass (p : PassParts) : Type 0 where
   pub marks : length p.needed ≡ length p.accepting
   pub needed : AreNeeded p.tables p.cert p.shorts p.needed
 
--- nodes were added to its tables, and nothing else changed
+-- nodes were added to the tables, and nothing else changed
 pub record PassGrows (old new : PassParts) : Type 0 where
   pub tables : TablesGrow old.tables new.tables
   pub same : new ≡ record old { tables = new.tables }
 
--- the targets of the marked terms stand for what these lead to
+-- the targets of each marked term stand for what the term leads to
 pub record StepsOf (t : TableParts) (action : Option ℕ) (marks : List Bool) (list : List (List (ℕ × ℕ))) : Type 0 where
   pub steps : AreSteps t action (IsMarked marks) list
   pub count : length list ≡ length marks
@@ -108,14 +108,14 @@ abbrev pub IsAllowed : List Term → Option ℕ → Atom → Atom → Type 0
 IsAllowed shorts None atom to = IsAllowedAtom shorts atom
 IsAllowed shorts (Some a) atom to = IsAllowedMove shorts atom (record { act = a; atom = to })
 
--- no pair of these tests has the first true at the one atom and the second at the other exactly where the move is
--- allowed
+-- the move is allowed if and only if no pair of tests has the first true at the first atom and the second true at the
+-- second atom
 pub record AreForbidden (t : TableParts) (c : CertParts) (q : ProblemParts) (action : Option ℕ) (forbidden : List (ℕ × ℕ)) : Type 0 where
   pub tests : (f : ℕ × ℕ) → Has forbidden f → IsTest t f.0 × IsTest t f.1
   pub mean : (atom to : Atom) → ((f : ℕ × ℕ) → Has forbidden f → (holds_at t f.0 atom && holds_at t f.1 to) ≡ false) ↔ IsAllowed (counted_short c.style q) action atom to
 
--- what is asked of each pair by its outputs or by an action: by steps, and the pairs that match; of outputs it is whether they
--- are the same
+-- what must hold of each pair, for its outputs or for an action: the targets, and the pairs that match; without an
+-- action, the outputs must be the same
 pub record IsTurn (p : PassParts) (turn : TurnParts) : Type 0 where
   pub steps : StepsOf p.tables turn.action p.needed turn.steps
   pub style : turn.style ≡ option_map_or (λ a. p.cert.style) turn.action UpTo
@@ -128,22 +128,22 @@ pub record IsTurn (p : PassParts) (turn : TurnParts) : Type 0 where
   pub by_moves : (f : ℕ × ℕ) → Has turn.forbidden f → Has turn.begin f.0 × Has turn.end f.1
   pub by_pairs : (r : PairParts) (g : ℕ) → Has turn.pairs r → r.test ≡ Some g → Has turn.end g
 
--- what has to hold of a pair at two atoms, of its outputs or of an action
+-- what must hold of a pair at two atoms, for its outputs or for an action
 abbrev pub TurnHolds : Style → ProblemParts → CertParts → TestedPair → Option ℕ → Atom → Atom → Type 0
 TurnHolds s q c p None atom to = OutputsHold s q p atom
 TurnHolds Plain q c p (Some a) atom to = StepHolds Plain q c p atom a
 TurnHolds UpTo q c p (Some a) atom to = StepHolds UpTo q c p atom a
 TurnHolds Under q c p (Some a) atom to = MoveHolds Under q c p atom (record { act = a; atom = to })
 
--- it holds of the pair at two atoms that stand side by side
+-- the condition of a turn holds for the pair at two concatenated atoms
 abbrev pub PairHolds : ProblemParts → CertParts → Option ℕ → PairParts → Atom → Type 0
 PairHolds q c action p x = TurnHolds c.style q c (tested_pair_of (nodes_of c) p) action (take q.tests x) (drop q.tests x)
 
--- the reason stands at a pair, and at one of these turns
+-- the reason is that of a pair, at one of these turns
 abbrev pub IsAmong : (ℕ → Type 0) → Reason → Type 0
 IsAmong T r = ((turn_of r).stage ≡ 3) × T (turn_of r).action
 
--- the pairs do not fail so
+-- the pairs do not fail by the reason
 abbrev pub Passes : ProblemParts → CertParts → Reason → Type 0
 Passes q c (Output k atom) = (p : TestedPair) → slice_get (tested_pairs c) k ≡ Some p → length atom ≡ q.tests → OutputsHold c.style q p atom
 Passes q c (Missing k atom a) = (p : TestedPair) → slice_get (tested_pairs c) k ≡ Some p → length atom ≡ q.tests → a < q.actions → StepHolds c.style q c p atom a
@@ -157,7 +157,7 @@ Passes q c EndsAgree = Unit {0}
 Passes q c (TestNode k) = Unit {0}
 Passes q c (TermNode k) = Unit {0}
 
--- the first reason of these turns for which the certificate fails, where there is one
+-- the first reason of these turns by which the certificate fails, or none if it fails by no such reason
 abbrev pub IsFirstOf : ProblemParts → CertParts → (ℕ → Type 0) → Option Reason → Type 0
 IsFirstOf q c T None = (s : Reason) → IsAmong T s → Passes q c s
 IsFirstOf q c T (Some r) = IsAmong T r × FailsBy q c r × ((s : Reason) → IsAmong T s → IsEarlier (turn_of s) (turn_of r) → FailsBy q c s → ⊥)

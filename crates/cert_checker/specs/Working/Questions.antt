@@ -1,4 +1,4 @@
--- What is asked of a pair at two atoms, and what is known of the tests that it names.
+-- The question about a pair at two atoms, and what is known of the tests that it names.
 use Rattle.std.specs.Prelude.{◌≡◌, ◌⊎◌, ℕ, Bool, false, ◌&&◌, IsTrue, List, take, drop, map, length, Option, Some, None}
 use Rattle.std.specs.Option.{option_map}
 use Rattle.kat_model.specs.Trees.{Term}
@@ -21,9 +21,10 @@ use Rattle.cert_checker.specs.declared.known.Known.TheVariants.{Waits as WaitsFo
 use Rattle.cert_checker.specs.declared.matching.State.{State}
 use Rattle.cert_checker.specs.declared.matching.State.TheVariants.{Holds, Fails, Waits}
 
--- What is asked of pairs by an action, or without one of their outputs: the targets of terms; the style, the listed pairs with
--- their index, and the universal term by which sets are matched; pairs of tests of which no move has the first true at its begin
--- and the second at its end; and the tests that these name at the first atom, and they and the listed pairs at the second.
+-- What must hold of pairs for an action or, without one, for their outputs: the targets of terms; the style, the listed
+-- pairs with their index, and the universal term for matching sets; pairs of tests that forbid a move if the first is
+-- true at its beginning and the second at its end; and the tests that the forbidden pairs name at the first atom, and
+-- those that they and the listed pairs name at the second.
 pub record TurnParts : Type 0 where
   pub action : Option ℕ
   pub steps : List (List (ℕ × ℕ))
@@ -35,7 +36,8 @@ pub record TurnParts : Type 0 where
   pub begin : List ℕ
   pub end : List ℕ
 
--- What is asked of a pair in a turn, over these tables: its test, what its sets lead to, and the tests that these name.
+-- A question about a pair in a turn, over these tables: the pair's test, the targets of its sets, and the tests that
+-- these name.
 pub record QuestionParts : Type 0 where
   pub tables : TableParts
   pub turn : TurnParts
@@ -44,7 +46,8 @@ pub record QuestionParts : Type 0 where
   pub right : List (ℕ × ℕ)
   pub asked : List ℕ
 
--- the tests that the question names at the first atom by the pair and the targets, and by moves; and at the second
+-- the tests that the question names at the first atom, by the pair and the targets, and by moves; and those at the
+-- second atom
 abbrev pub NamesByTargets : QuestionParts → ℕ → Type 0
 NamesByTargets q g = (q.own ≡ Some g) ⊎ ((e : ℕ × ℕ) × (Has q.left e ⊎ Has q.right e) × (e.1 ≡ g))
 
@@ -54,8 +57,7 @@ NamesByMoves q g = (f : ℕ × ℕ) × Has q.turn.forbidden f × (f.0 ≡ g)
 abbrev pub NamesAtEnd : QuestionParts → ℕ → Type 0
 NamesAtEnd q g = ((f : ℕ × ℕ) × Has q.turn.forbidden f × (f.1 ≡ g)) ⊎ ((p : PairParts) × Has q.turn.pairs p × (p.test ≡ Some g))
 
--- the numbers are those of terms and tests of the tables, the tests that are named are asked, and pairs of the plain style
--- have none
+-- the numbers are terms and tests of the tables, the named tests are listed, and pairs of the plain style have no test
 pub record IsQuestion (t : TableParts) (q : QuestionParts) : Type 0 where
   pub pairs : (p : PairParts) → Has q.turn.pairs p → IsNumberSet (length t.terms) p.left × IsNumberSet (length t.terms) p.right
   pub untested : q.turn.style ≡ Plain → (p : PairParts) → Has q.turn.pairs p → p.test ≡ None
@@ -69,12 +71,12 @@ pub record IsQuestion (t : TableParts) (q : QuestionParts) : Type 0 where
   pub by_moves : (g : ℕ) → NamesByMoves q g → Has q.turn.begin g
   pub at_end : (g : ℕ) → NamesAtEnd q g → Has q.turn.end g
 
--- these are the tests that it names by the pair and the targets
+-- `tests` contains the tests that the question names by the pair and the targets
 pub record AreNamed (t : TableParts) (q : QuestionParts) (tests : List ℕ) : Type 0 where
   pub asked : AreAsked t tests
   pub named : (g : ℕ) → NamesByTargets q g → Has tests g
 
--- a question over tables that are sound, with the tests that it names
+-- a question over sound tables, with the tests that it names
 pub record IsPosed (q : QuestionParts) : Type 0 where
   pub tables : AreTables q.tables
   pub question : IsQuestion q.tables q
@@ -84,30 +86,31 @@ pub record IsPosed (q : QuestionParts) : Type 0 where
 abbrev pub IsAskedOf : TableParts → TurnParts → Option ℕ → List (ℕ × ℕ) → List (ℕ × ℕ) → QuestionParts → Type 0
 IsAskedOf t turn own left right q = q ≡ record { tables = t; turn = turn; own = own; left = left; right = right; asked = q.asked }
 
--- what is known of the tests that are asked where some primitive tests of both atoms are decided
+-- what is known of the listed tests when some primitive tests of both atoms are decided
 pub record IsCase (t : TableParts) (q : QuestionParts) (asked : List ℕ) (decided : List (Option Bool)) (c : Case) : Type 0 where
   pub targets : AreKnown 0 t (take t.width decided) asked c.begin.items
   pub begin : AreKnown 0 t (take t.width decided) q.turn.begin c.begin.items
   pub end : AreKnown t.width t (drop t.width decided) q.turn.end c.end.items
 
--- The values of two atoms stand side by side: those of the atom at which a move begins, and then those of the one at
--- which it ends.
+-- The values of two atoms are concatenated: first those of the atom at the beginning of a move, then those of the atom
+-- at its end.
 abbrev pub first_half : TableParts → Atom → Atom
 first_half t x = take t.width x
 
 abbrev pub second_half : TableParts → Atom → Atom
 second_half t x = drop t.width x
 
--- the truth of the test of a pair
+-- whether the atom satisfies the test of a pair
 abbrev pub test_holds : TableParts → Option ℕ → Atom → Bool
 test_holds t test atom = truth (test_of (nodes_in t) test) atom
 
--- the pair's test is true at the first atom, and the move from it to the second is not forbidden
+-- the pair's test is true at the first atom, and the move to the second atom is not forbidden
 pub record Counts (t : TableParts) (q : QuestionParts) (atom to : Atom) : Type 0 where
   pub own : IsTrue (test_holds t q.own atom)
   pub free : (f : ℕ × ℕ) → Has q.turn.forbidden f → (holds_at t f.0 atom && holds_at t f.1 to) ≡ false
 
--- in a style these pairs match two sets of terms, in those up to congruence by the pairs whose test is true at the atom
+-- these pairs match two sets of terms in a style; in the styles up to congruence only the pairs whose test is true at
+-- the atom count
 abbrev pub AreMatchedIn : NodeParts → Style → Option Term → List PairParts → List Term → List Term → Atom → Type 0
 AreMatchedIn nodes Plain u ps es fs to = AreMatched plain u (set_pairs_of nodes (map sets_of ps)) es fs
 AreMatchedIn nodes UpTo u ps es fs to = IsCongruent u (pairs_at (map (tested_pair_of nodes) ps) to) es fs
@@ -117,19 +120,19 @@ AreMatchedIn nodes Under u ps es fs to = IsCongruent u (pairs_at (map (tested_pa
 abbrev pub AreMatchedBy : TableParts → QuestionParts → List Term → List Term → Atom → Type 0
 AreMatchedBy t q es fs to = AreMatchedIn (nodes_in t) q.turn.style (option_map (term_at t) q.turn.universal) q.turn.pairs es fs to
 
--- where the move counts, the pairs match what the targets stand for: the question holds at the two atoms
+-- the question holds at the two atoms: if the move counts, the pairs match the terms that the targets stand for
 abbrev pub MatchAt : TableParts → QuestionParts → Atom → Type 0
 MatchAt t q x =
     Counts t q (first_half t x) (second_half t x)
     → AreMatchedBy t q (chosen t q.left (first_half t x)) (chosen t q.right (first_half t x)) (second_half t x)
 
--- what is known of a property of two atoms with the decided tests
+-- what is known of a property at all values that extend the decided tests
 abbrev pub IsState : (Atom → Type 0) → List (Option Bool) → State → Type 0
 IsState P decided Holds = HoldsThroughout P decided
 IsState P decided Fails = (atom : Atom) → Extends decided atom → P atom → ⊥
 IsState P decided (Waits k) = IsOpen decided k
 
--- something that the question names waits for the test
+-- a test that the question names waits for the test
 abbrev pub IsWaited : QuestionParts → Case → ℕ → Type 0
 IsWaited q c k =
     (g : ℕ) × (((NamesByTargets q g ⊎ NamesByMoves q g) × (known_of c.begin.items g ≡ WaitsFor k)) ⊎ (NamesAtEnd q g × (known_of c.end.items g ≡ WaitsFor k)))

@@ -1,7 +1,7 @@
 -- Nodes out of range.
 use Rattle.std.specs.Prelude.{◌≡◌, ◌<◌, ◌≤◌, ℕ, List, slice_get, Some}
 
--- the node at this place has a number that is not below n, and no earlier one has
+-- the node at this place has a number that is not below n, and no earlier node has
 pub record IsFirstOut {N : Type 0} (make : ℕ → N) (n : ℕ) (nodes : List N) (k : ℕ) : Type 0 where
   pub number : ℕ
   pub is : slice_get nodes k ≡ Some (make number)

@@ -1,4 +1,4 @@
--- The terms of a problem on which the pairs rest, by their numbers.
+-- The terms of a problem that the pairs need, by their numbers.
 use Rattle.std.specs.Prelude.{◌≡◌, ℕ, IsTrue, List, [], length, Option, Some}
 use Rattle.std.specs.Option.{option_map}
 use Rattle.kat_model.specs.Trees.{Term}
@@ -10,25 +10,25 @@ use Rattle.certificate.specs.declared.nodes.Style.{Style}
 use Rattle.certificate.specs.declared.nodes.Style.TheVariants.{Plain, UpTo, Under}
 use Rattle.cert_steps.specs.NodeTables.{TableParts, IsTerm, term_at, nodes_in}
 
--- the closed sides that a style compares: in the style of tests those of the long hypotheses
+-- the closed sides that a style compares: in the style of tests, those for the long hypotheses
 abbrev pub compared : Style → ProblemParts → Closed
 compared Plain q = closed q
 compared UpTo q = closed q
 compared Under q = closed_long q
 
--- the hypotheses that count as short in a style: in that of tests all that are so
+-- the hypotheses that count as short in a style: all short ones in the style of tests, and none in the others
 abbrev pub counted_short : Style → ProblemParts → List Term
 counted_short Plain q = []
 counted_short UpTo q = []
 counted_short Under q = short_hyps q
 
--- the primitive tests of closed sides, and of their universal term, are below n
+-- the primitive tests of the closed sides and of their universal term are below n
 pub record AreClosedBelow (n : ℕ) (c : Closed) : Type 0 where
   pub left : HasTestsBelow n c.left
   pub right : HasTestsBelow n c.right
   pub universal : (u : Term) → c.universal ≡ Some u → HasTestsBelow n u
 
--- the numbers are those of the closed sides, and of the universal term where there is one
+-- the numbers of the closed sides, and of the universal term if there is one
 pub record AreSideNumbers (s : Style) (q : ProblemParts) (t : TableParts) (l r : ℕ) (u : Option ℕ) : Type 0 where
   pub left : term_at t l ≡ (compared s q).left
   pub left_there : IsTerm t l
@@ -37,7 +37,7 @@ pub record AreSideNumbers (s : Style) (q : ProblemParts) (t : TableParts) (l r :
   pub universal : option_map (term_at t) u ≡ (compared s q).universal
   pub universal_there : (k : ℕ) → u ≡ Some k → IsTerm t k
 
--- and those of the short hypotheses
+-- and the numbers of the short hypotheses
 pub record AreRoots (s : Style) (q : ProblemParts) (t : TableParts) (l r : ℕ) (u : Option ℕ) (ks : List ℕ) : Type 0 where
   pub sides : AreSideNumbers s q t l r u
   pub shorts : terms_of (nodes_in t) ks ≡ counted_short s q

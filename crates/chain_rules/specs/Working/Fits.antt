@@ -41,7 +41,7 @@ abbrev pub FitsUnfoldRight : Term → Term → Type 0
 FitsUnfoldRight (star x) f = f ≡ sum one (product (star x) x)
 FitsUnfoldRight e f = ⊥
 
--- the equations of the axioms that need no premise, of `Bool` and of `Hyp` apart
+-- the instances of the axioms without a premise, except `Bool` and `Hyp`
 abbrev pub Fits : Axiom → Term → Term → Type 0
 Fits Assoc e f = FitsAssoc e f
 Fits Comm e f = FitsComm e f
@@ -61,7 +61,7 @@ Fits (Hyp k) e f = ⊥
 Fits Lfp e f = ⊥
 Fits Rfp e f = ⊥
 
--- the premises that make `p*.q + r` into `r`, and `q.p* + r`
+-- the premise under which `p*.q + r` equals `r`, and the one for `q.p* + r`
 abbrev pub FitsLfp : Option Equation → Term → Term → Type 0
 FitsLfp premise (sum (product (star p) q) r) f = (f ≡ r) × (premise ≡ Some (equation (sum (sum q (product p r)) r) r))
 FitsLfp premise e f = ⊥

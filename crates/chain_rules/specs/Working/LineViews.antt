@@ -1,4 +1,4 @@
--- What the check sees of a line of the program.
+-- The lines of the program as the check sees them.
 use Rattle.std.specs.Prelude.{List, [], ◌∷◌, Option, None, Some}
 use Rattle.std.specs.Option.{option_map}
 use Rattle.kat_model.specs.Trees.{Term, kat_tree}
@@ -7,11 +7,11 @@ use Rattle.chain_rules.specs.ChainViews.{unboxed}
 use Rattle.chain_rules.specs.declared.chain.Line.{Line}
 use Rattle.chain_rules.specs.declared.fixed_points.Ends.{Ends}
 
--- the equation of two terms of the program
+-- the equation between two terms of the program
 abbrev pub equation_of : Ends → Equation
 equation_of ends = equation (kat_tree ends.first.now) (kat_tree ends.last.now)
 
--- the line, behind this term
+-- the line after this term
 abbrev pub line_parts : Term → Line → LineParts
 line_parts before l =
     record {
@@ -26,6 +26,6 @@ abbrev pub inner_lines : Option ChainTree → List LineParts
 inner_lines None = []
 inner_lines (Some c) = lines_of c
 
--- the line, behind this term, and those of its inner chain
+-- the line after this term, and the lines of its inner chain
 abbrev pub lines_at : Term → Line → List LineParts
 lines_at before l = line_parts before l ∷ inner_lines (unboxed l.inner)

@@ -1,4 +1,4 @@
--- What a name is declared for.
+-- The declaration of a name, by its kind.
 use Rattle.std.specs.Prelude.{ℕ, List, Result}
 use Rattle.text_tokens.specs.declared.fault.TextFault.{TextFault}
 use Rattle.gkat_front.specs.declared.item_reading.Declared.{Declared}

@@ -1,4 +1,4 @@
--- What the items so far have made, as a state.
+-- The state of the reader in the terms of the specification.
 use Rattle.std.specs.Prelude.{Option, Some, None}
 use Rattle.gkat_terms.specs.declared.gkat.Gkat.{Gkat}
 use Rattle.gkat_terms.specs.Expressions.{GkatTree, gkat_tree}

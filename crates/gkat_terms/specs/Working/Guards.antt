@@ -3,7 +3,7 @@ use Rattle.std.specs.Prelude.{Bool, true, false, ◌&&◌}
 use Rattle.kat_model.specs.Trees.{complement, Term, zero, one, test, act, sum, product, star}
 use Rattle.kat_model.specs.Pairs.{same_test}
 
--- whether they are a test and its complement
+-- whether the terms are a test and its complement
 abbrev pub are_opposite : Term → Term → Bool
 are_opposite (test b) (test (complement c)) = same_test b c
 are_opposite e f = false

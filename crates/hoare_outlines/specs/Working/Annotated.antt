@@ -7,20 +7,21 @@ use Rattle.simple_hyps.specs.TestTerms.{IsAllowed, IsRuledOut}
 use Rattle.while_lang.specs.Flows.{FlowTree, FlowStmt, empty, skip_then, abort_then, assert_then, act_then, branch_then, loop_then, skip, abort, assert, act, branch, loop}
 use Rattle.hoare_outlines.specs.Working.AtomSets.{AtomSet}
 
--- at every allowed atom the first set and the test imply the second set
+-- every allowed atom of the first set at which the test is true is in the second set
 abbrev pub ImpliesUnder : ProblemParts → AtomSet → TestTree → AtomSet → Type 0
 ImpliesUnder q X b Y = (atom : Atom) → length atom ≡ q.tests → IsAllowed q.hyps atom → IsTrue (X atom) → IsTrue (truth b atom) → IsTrue (Y atom)
 
--- the action leads from the first set to the second alone
+-- the action leads from the first set only to the second
 abbrev pub LeadsInto : ProblemParts → AtomSet → ℕ → AtomSet → Type 0
 LeadsInto q X a Y =
     (before after : Atom) → length before ≡ q.tests → length after ≡ q.tests → IsAllowed q.hyps before → IsAllowed q.hyps after → IsTrue (X before) → Y after ≡ false → IsRuledOut q.hyps a before after
 
--- what holds of the set before a piece of a program, of those at the places within it in order, and of the last
+-- a relation between the set before a part of a program, the sets at the places within it in order, and the set after
+-- it
 abbrev pub Annotation : Type 1
 Annotation = AtomSet → List AtomSet → AtomSet → Type 0
 
--- nothing within, where the set after it is told
+-- there are no places within, and the rule relates the sets before and after
 abbrev pub Plain : (AtomSet → AtomSet → Type 0) → Annotation
 Plain Rule X inner Z = (inner ≡ []) × Rule X Z
 
@@ -51,7 +52,7 @@ pub record LoopSets (q : ProblemParts) (b : TestTree) (Body : Annotation) (X : A
   pub returns : ImpliesUnder q body_end top invariant
   pub leaves : ImpliesUnder q invariant (complement b) Z
 
--- a statement, and then the others
+-- a statement, then the other statements
 pub record ThenSets (Stmt Rest : Annotation) (X : AtomSet) (sets : List AtomSet) (Y : AtomSet) : Type 0 where
   pub inner : List AtomSet
   pub next : AtomSet
@@ -60,7 +61,7 @@ pub record ThenSets (Stmt Rest : Annotation) (X : AtomSet) (sets : List AtomSet)
   pub stmt : Stmt X inner next
   pub rest : Rest next more Y
 
--- the sets at the places of a list of statements after its first place
+-- the sets at the places of a list of statements, except its first place
 abbrev pub Annotated : ProblemParts → FlowTree → Annotation
 Annotated q empty X sets Y = (sets ≡ []) × (X ≡ Y)
 Annotated q (skip_then rest) X sets Y = ThenSets (Plain (λ V W. ImpliesUnder q V top W)) (Annotated q rest) X sets Y

@@ -1,4 +1,4 @@
--- Sets of atoms, and the diagrams that stand for them.
+-- Sets of atoms, and the diagrams that denote them.
 use Rattle.std.specs.Prelude.{◌≡◌, ℕ, Bool, List, [], ◌∷◌, length, IsTrue}
 use Rattle.kat_model.specs.Problems.{ProblemParts}
 use Rattle.kat_model.specs.Steps.{Atom}
@@ -8,11 +8,11 @@ use Rattle.outline_diagrams.specs.StepFunctions.{StepDiagramsParts, IsStepDiagra
 abbrev pub AtomSet : Type 0
 AtomSet = Atom → Bool
 
--- the id is that of the set of atoms before a step, whatever follows
+-- the id is the set of atoms before a step, for every atom after it
 abbrev pub IsSetId : StepDiagramsParts → ℕ → AtomSet → Type 0
 IsSetId d id X = IsStepDiagram d id (λ before after. X before)
 
--- the ids are those of the sets, in order
+-- the ids are the sets, in order
 abbrev pub AreSetIds : StepDiagramsParts → List ℕ → List AtomSet → Type 0
 AreSetIds d [] [] = Unit {0}
 AreSetIds d [] (X ∷ Xs) = ⊥

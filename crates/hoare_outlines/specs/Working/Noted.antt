@@ -9,11 +9,11 @@ use Rattle.outline_rules.specs.Follows.{HasTests}
 use Rattle.hoare_outlines.specs.Working.AtomSets.{AtomSet, IsSetId}
 use Rattle.hoare_outlines.specs.declared.noting.NodeWriter.{NodeWriter}
 
--- whether the atom is in the set does not depend on its first so many values
+-- whether the atom is in the set does not depend on its first k values
 abbrev pub DependsFrom : ℕ → ℕ → AtomSet → Type 0
 DependsFrom tests k X = (atom other : Atom) → length atom ≡ tests → length other ≡ tests → drop k atom ≡ drop k other → X atom ≡ X other
 
--- the id is that of such a set
+-- the id is such a set
 pub record IsSetFrom (d : StepDiagramsParts) (k id : ℕ) : Type 0 where
   pub set : AtomSet
   pub is_set : IsSetId d id set
@@ -31,7 +31,7 @@ pub record AreNoteNodes (tests : ℕ) (nodes : List NoteNode) : Type 0 where
   pub once : HasNoDoubles nodes
   pub in_range : HasTests tests nodes
 
--- each node that is found holds where its diagram is true
+-- each stored node holds where its diagram is true
 abbrev pub AreKnown : StepDiagramsParts → List NoteNode → List (ℕ × ℕ) → Type 0
 AreKnown d nodes [] = Unit {0}
 AreKnown d nodes (entry ∷ known) = IsNodeFor d nodes entry.0 entry.1 × AreKnown d nodes known
@@ -40,15 +40,15 @@ pub record IsNodeWriter (d : StepDiagramsParts) (w : NodeWriter) : Type 0 where
   pub nodes : AreNoteNodes d.tests w.nodes.keys
   pub known : AreKnown d w.nodes.keys w.known.entries
 
--- the nodes stayed, or the node was added behind the others
+-- the nodes are unchanged, or the node was appended
 abbrev pub AddsNode : List NoteNode → List NoteNode → NoteNode → Type 0
 AddsNode old new node = (new ≡ old) ⊎ (new ≡ old ++ node ∷ [])
 
--- nodes were added behind the others
+-- nodes were appended
 abbrev pub AddsNodes : List NoteNode → List NoteNode → Type 0
 AddsNodes old new = (more : List NoteNode) × (new ≡ old ++ more)
 
--- the ids are those of sets
+-- the ids are sets
 abbrev pub AreSets : StepDiagramsParts → List ℕ → Type 0
 AreSets d ids = (id : ℕ) → Has ids id → (X : AtomSet) × IsSetId d id X
 
@@ -59,7 +59,7 @@ AreNodesFor d nodes [] (n ∷ ns) = ⊥
 AreNodesFor d nodes (id ∷ ids) [] = ⊥
 AreNodesFor d nodes (id ∷ ids) (n ∷ ns) = IsNodeFor d nodes id n × AreNodesFor d nodes ids ns
 
--- the notes are those of the sets, in order
+-- the notes are the sets, in order
 pub record NotesSets (d : StepDiagramsParts) (ids : List ℕ) (ns : NotesParts) : Type 0 where
   pub tests : HasTests d.tests ns.nodes
   pub count : length ns.notes ≡ length ids

@@ -1,4 +1,4 @@
--- Sets of which each atom is reached along a program.
+-- Sets whose atoms are all reached along a program.
 use Rattle.std.specs.Prelude.{◌≡◌, ◌<◌, length, List, IsTrue}
 use Rattle.kat_model.specs.Trees.{Term, zero, one, test, act}
 use Rattle.kat_model.specs.Problems.{ProblemParts, IsTestInRange}
@@ -9,7 +9,7 @@ use Rattle.while_lang.specs.Flows.{FlowTree, FlowStmt, empty, skip_then, abort_t
 use Rattle.while_lang.specs.Encoding.{branch_term, loop_term, encoded}
 use Rattle.hoare_outlines.specs.Working.AtomSets.{AtomSet}
 
--- the atoms that hypotheses allow, and the steps between them that they do not rule out, as a Kripke frame
+-- the allowed atoms, and the steps between them that no hypothesis rules out, as a Kripke frame
 abbrev pub atom_frame : ProblemParts → Frame Atom
 atom_frame q =
     record {
@@ -18,11 +18,11 @@ atom_frame q =
       Acts = λ a before after. (a < q.actions) × (IsRuledOut q.hyps a before after → ⊥);
     }
 
--- each atom of the second set is reached along the term from one of the first
+-- each atom of the second set is reached along the term from an atom of the first
 abbrev pub Reached : ProblemParts → Term → AtomSet → AtomSet → Type 0
 Reached q e X Y = (to : Atom) → length to ≡ q.tests → IsTrue (Y to) → (from : Atom) × (atom_frame q).IsState from × IsTrue (X from) × RelatesIn (atom_frame q) e from to
 
--- each atom of the second set is reached along the terms, one after the other
+-- each atom of the second set is reached along the terms in sequence from an atom of the first
 abbrev pub ReachedInTurn : ProblemParts → List Term → AtomSet → AtomSet → Type 0
 ReachedInTurn q es X Y = (to : Atom) → length to ≡ q.tests → IsTrue (Y to) → (from : Atom) × (atom_frame q).IsState from × IsTrue (X from) × RelateInTurn (atom_frame q) es from to
 

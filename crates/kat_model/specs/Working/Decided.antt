@@ -1,5 +1,5 @@
--- Whether a term relates two states of a table, computed by the plainest search: a product tries each state
--- in between, and a star takes Warshall's steps (Warshall 1962).
+-- Whether a term relates two states of a table, computed by direct search: a product tries each state in between, and a
+-- star uses Warshall's steps (Warshall 1962).
 use Rattle.std.specs.Prelude.{ℕ, zero as nought, suc, Bool, false, ◌&&◌, ◌||◌, eqb}
 use Rattle.std.specs.List.{list_any}
 use Rattle.kat_model.specs.Trees.{Term, zero, one, test, act, sum, product, star}
@@ -14,7 +14,7 @@ abbrev pub some_below : (ℕ → Bool) → ℕ → Bool
 some_below p nought = false
 some_below p (suc n) = p n || some_below p n
 
--- some list of numbers leads from i to j, of which those between are below k
+-- some list of numbers leads from i to j, and the numbers between them are below k
 abbrev pub warshall : (ℕ → ℕ → Bool) → ℕ → ℕ → ℕ → Bool
 warshall r nought i j = eqb i j || r i j
 warshall r (suc k) i j = warshall r k i j || (warshall r k i k && warshall r k k j)

@@ -11,7 +11,7 @@ first_order [] ys = Equal
 first_order (x ∷ xs) [] = Equal
 first_order (x ∷ xs) (y ∷ ys) = mono_cmp x.0 y.0
 
--- the first terms of two lists, which have one monomial, as one term, or none where its coefficient is 0
+-- the first terms of two lists, which have the same monomial, as one term, or no term if its coefficient is 0
 abbrev pub first_joined : ℕ → List TermTree → List TermTree → List TermTree
 first_joined m [] ys = []
 first_joined m (x ∷ xs) [] = []

@@ -1,12 +1,12 @@
--- The machine of a program: its statements as numbered points. Point 0 is the end. The points of a block are numbered from
--- its last statement to its first, and those of a statement's blocks behind the statement itself.
+-- The machine of a program: its statements as numbered points. Point 0 is the end. The points of a block are numbered
+-- from its last statement to its first, and the points of the blocks in a statement come after the statement itself.
 use Rattle.std.specs.Prelude.{◌≡◌, ℕ, zero, suc, ◌+◌, List, [], ◌∷◌, ◌++◌, slice_get, Some, true, if◌then◌else◌, set}
 use Rattle.kat_model.specs.Expressions.{ExprTree, CondTree}
 use Rattle.kat_model.specs.Stores.{Store, value, holds}
 use Rattle.kat_model.specs.declared.expression.Width.{Width}
 use Rattle.while_lang.specs.Programs.{ProgTree, empty, skip_then, abort_then, assert_then, act_then, assign_then, branch_then, loop_then, StmtTree, skip, abort, assert, act, assign, branch, loop, statements}
 
--- what is done at a point, and the number of the point that follows
+-- the action at a point, and the number of the point that follows
 pub data Point : Type 0 where
   passes : (next : ℕ) → Point
   stops : Point
@@ -22,18 +22,19 @@ Steps w (checks b next) s k t = (holds w s b ≡ true) × (k ≡ next) × (t ≡
 Steps w (sets x e next) s k t = (k ≡ next) × (t ≡ set s x (value w s e))
 Steps w (chooses b met unmet) s k t = (k ≡ (if holds w s b then met else unmet)) × (t ≡ s)
 
--- the point of a number, of points that are numbered from 1
+-- the point with a number; points are numbered from 1
 abbrev pub IsPointAt : List Point → ℕ → Point → Type 0
 IsPointAt points zero point = ⊥
 IsPointAt points (suc k) point = slice_get points k ≡ Some point
 
--- so many steps lead from the point k and the store s to the end and the store t
+-- n steps lead from the point k and the store s to the end and the store t
 abbrev pub Halts : Width → List Point → ℕ → ℕ → Store → Store → Type 0
 Halts w points zero k s t = (k ≡ 0) × (t ≡ s)
 Halts w points (suc n) k s t =
     (point : Point) × (next : ℕ) × (u : Store) × IsPointAt points k point × Steps w point s next u × Halts w points n next u t
 
--- the number of the first statement of a program behind so many points, or of the point that follows the program
+-- the number of the first statement of a program whose points follow `before` others, or of the point after the program
+-- if it is empty
 unfoldable pub start_of : ProgTree → ℕ → ℕ → ℕ
 start_of empty before next = next
 start_of (skip_then rest) before next = before + statements rest + 1
@@ -44,7 +45,7 @@ start_of (assign_then x e rest) before next = before + statements rest + 1
 start_of (branch_then b p q rest) before next = before + statements rest + 1
 start_of (loop_then b p rest) before next = before + statements rest + 1
 
--- the points of a program behind so many others, in order, with the point that follows it; a named action stops
+-- the points of a program after `before` others, in order; `next` is the point after the program. A named action stops
 unfoldable pub points_of : ProgTree → ℕ → ℕ → List Point
 points_of empty before next = []
 points_of (skip_then rest) before next = points_of rest before next ++ passes (start_of rest before next) ∷ []
@@ -64,7 +65,7 @@ points_of (loop_then b p rest) before next =
     ++ chooses b (start_of p (before + statements rest + 1) (before + statements rest + 1)) (start_of rest before next)
     ∷ points_of p (before + statements rest + 1) (before + statements rest + 1)
 
--- the points of a statement behind so many others
+-- the points of a statement after `before` others
 abbrev pub stmt_points : StmtTree → ℕ → ℕ → List Point
 stmt_points skip before next = passes next ∷ []
 stmt_points abort before next = stops ∷ []

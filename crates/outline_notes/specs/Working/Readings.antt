@@ -1,4 +1,4 @@
--- What only the code and the proofs need: what the parts of the reader answer. Memory may run out.
+-- Results of the parts of the reader, for private contracts and proofs. Memory may run out.
 use Rattle.std.specs.Prelude.{◌≡◌, ℕ, true, false, Option, Some, None, Result, Ok, Err}
 use Rattle.std.specs.declared.cmp.Ordering.{Ordering}
 use Rattle.std.specs.declared.cmp.Ordering.TheVariants.{Equal}
@@ -12,42 +12,42 @@ use Rattle.outline_notes.specs.declared.fault.NotesFault.TheVariants.{NoMemory}
 use Rattle.outline_notes.specs.NoteLists.{NotesParts, notes_of, AreNotes}
 use Rattle.outline_notes.specs.Faults.{Answer, is_wide, section_of, may_stand, names_earlier, line_fault_of, with_line, line_fault_after}
 
--- this answer is given, unless memory ran out
+-- the result is this answer, unless memory ran out
 abbrev pub Answers : Answer → Answer → Type 0
 Answers told (Ok ns) = told ≡ Ok ns
 Answers told (Err NoMemory) = Unit {0}
 Answers told (Err fault) = told ≡ Err fault
 
--- what a line is read as, where it is to say this or nothing
+-- the result of reading a line whose content, if any, is `o`
 abbrev pub ReadsLine : Option NoteLine → Result NoteLine LineFault → Type 0
 ReadsLine o (Ok l) = (o ≡ Some l) × (is_wide l ≡ false)
 ReadsLine o (Err NoRoom) = Unit {0}
 ReadsLine o (Err Form) = o ≡ None
 ReadsLine o (Err (Wide section)) = (l : NoteLine) × (o ≡ Some l) × (is_wide l ≡ true) × (section_of l ≡ section)
 
--- only equal members are equal in the order, and each is equal to itself
+-- only equal members compare as equal, and each member compares as equal to itself
 abbrev pub TellsApart : {K : Type 0} → (K → K → Ordering) → Type 0
 TellsApart {K} R = (x y : K) → R x y ≡ Equal → x ≡ y
 
 abbrev pub IsReflexive : {K : Type 0} → (K → K → Ordering) → Type 0
 IsReflexive {K} R = (x : K) → R x x ≡ Equal
 
--- the lines that a draft holds
+-- the notes with the lines of a draft
 abbrev pub draft_parts : Draft → NotesParts
 draft_parts d = notes_of d.nodes.items d.notes.items
 
--- a draft keeps the rules, and knows its nodes
+-- the lines of a draft keep the rules, and `known` has its nodes
 pub record IsDraft (d : Draft) : Type 0 where
   pub notes : AreNotes (draft_parts d)
   pub nodes : SameMembers d.known.keys d.nodes.items
 
--- line n passes the first three tests
+-- the line passes the first three tests
 pub record MayBeAdded (d : Draft) (l : NoteLine) : Type 0 where
   pub stands : may_stand (draft_parts d) (section_of l) ≡ true
   pub narrow : is_wide l ≡ false
   pub earlier : names_earlier (draft_parts d) l ≡ true
 
--- a line is added to a draft, or line n is at fault
+-- the line is added to the draft, or line n has a fault
 abbrev pub AddsLine : Draft → ℕ → Option NoteLine → Draft → Result (Unit {0}) NotesFault → Type 0
 AddsLine old n o new (Ok x) = IsDraft new × ((l : NoteLine) × (o ≡ Some l) × (line_fault_of (draft_parts old) n l ≡ None) × (draft_parts new ≡ with_line (draft_parts old) l))
 AddsLine old n o new (Err NoMemory) = Unit {0}

@@ -1,4 +1,4 @@
--- Parts of texts, as the writer appends them.
+-- Parts of texts that the writer appends.
 use Rattle.std.specs.Prelude.{ℕ, List}
 use Rattle.std.specs.List.{flat_map}
 use Rattle.line_format.specs.Lines.{line_of, with_feed}

@@ -1,4 +1,4 @@
--- The checks of the program as conditions, and the places and conditions of single statements.
+-- The checks of the code as conditions, and the places and conditions of single statements.
 use Rattle.std.specs.Prelude.{ℕ, suc, List, [], ◌∷◌, ◌++◌}
 use Rattle.kat_model.specs.Trees.{TestTree, top, complement, test_tree}
 use Rattle.while_lang.specs.Flows.{FlowStmt, skip, abort, assert, act, branch, loop}
@@ -18,7 +18,7 @@ abbrev pub condition_of : Check → Condition
 condition_of (Implies from guard to) = implies from (guard_tree guard) to
 condition_of (Leads from a to) = leads from a to
 
--- the place after a statement before which place n stands
+-- the place after a statement that begins at place n
 abbrev pub place_after : FlowStmt → ℕ → ℕ
 place_after skip n = suc n
 place_after abort n = suc n
@@ -27,7 +27,7 @@ place_after (act a) n = suc n
 place_after (branch b f g) n = suc (last_place g (suc (last_place f (suc n))))
 place_after (loop b f) n = suc (last_place f (suc (suc n)))
 
--- the conditions of a statement before which place n stands
+-- the conditions of a statement that begins at place n
 abbrev pub conditions_of_stmt : FlowStmt → ℕ → List Condition
 conditions_of_stmt skip n = implies n top (suc n) ∷ []
 conditions_of_stmt abort n = []

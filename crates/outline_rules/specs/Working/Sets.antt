@@ -1,4 +1,4 @@
--- Sets of atoms as diagrams, and what checks of them tell.
+-- Sets of atoms as diagrams, and what checks of the sets show.
 use Rattle.std.specs.Prelude.{◌≡◌, ◌<◌, ◌&&◌, ℕ, Bool, false, not, nat_lt, All, List, map, length, min, Option, Some, None, IsTrue}
 use Rattle.kat_model.specs.Trees.{Term}
 use Rattle.kat_model.specs.Members.{Has}
@@ -19,25 +19,25 @@ use Rattle.outline_rules.specs.declared.checks.Guard.{Guard}
 use Rattle.outline_rules.specs.declared.checks.Check.{Check}
 use Rattle.outline_rules.specs.declared.checking.MomentSets.{MomentSets}
 
--- the ids are those of nodes at a moment
+-- the ids are the sets of the nodes at a moment, in order
 pub record AreNodeSets (d : StepDiagramsParts) (moment : Moment) (nodes : List NoteNode) (ids : List ℕ) : Type 0 where
   pub count : length ids ≡ length nodes
   pub in_range : All (IsStepId d) ids
   pub values : (before after : Atom) → length before ≡ d.tests → length after ≡ d.tests
       → map (λ id. step_value d id before after) ids ≡ course_of_values (node_holds (atom_at_moment moment before after)) nodes
 
--- the sets at a moment are that of the allowed atoms and those of the nodes of the notes
+-- the sets at a moment are the set of the allowed atoms and the sets of the nodes of the notes
 pub record AreMomentSets (d : StepDiagramsParts) (moment : Moment) (hyps : List Term) (ns : NotesParts) (s : MomentSets) : Type 0 where
   pub allowed : IsStepDiagram d s.allowed (λ before after. allows hyps (atom_at_moment moment before after))
   pub nodes : AreNodeSets d moment ns.nodes s.nodes.items
 
--- the second set is true at every allowed atom of the first at which the guard holds
+-- the second set has every allowed atom of the first at which the guard holds
 abbrev pub EntailsUnder : StepDiagramsParts → ℕ → ℕ → ℕ → ℕ → Type 0
 EntailsUnder d allowed from guard to =
     (before after : Atom) → length before ≡ d.tests → length after ≡ d.tests
     → IsTrue (step_value d allowed before after) → IsTrue (step_value d from before after) → IsTrue (step_value d guard before after) → IsTrue (step_value d to before after)
 
--- whether a node tests none of so many tests
+-- whether the node is a branch on a test that is `tests` or more
 abbrev pub tests_out : ℕ → NoteNode → Bool
 tests_out tests False = false
 tests_out tests True = false
@@ -49,7 +49,7 @@ HasPartsInRange tests count False = Unit {0}
 HasPartsInRange tests count True = Unit {0}
 HasPartsInRange tests count (Branch test low high) = (test < tests) × (low < count) × (high < count)
 
--- the lesser of two numbers, where there are any
+-- the lesser of two numbers, or the only one, if any
 abbrev pub lesser_of : Option ℕ → Option ℕ → Option ℕ
 lesser_of None second = second
 lesser_of (Some k) None = Some k
@@ -68,7 +68,7 @@ HasGuardInRange n guard = IsTestInRange n (guard_tree guard)
 abbrev pub HasCheckInRange : ℕ → Check → Type 0
 HasCheckInRange n check = IsConditionInRange n (condition_of check)
 
--- no condition of the list is unmet, or the least target of one that is
+-- `None` if all conditions of the list are met, else the least target of an unmet one
 abbrev pub TellsLeastUnmet : ProblemParts → (ℕ → Atom → Bool) → List Condition → Option ℕ → Type 0
 TellsLeastUnmet q note cs None = (c : Condition) → Has cs c → IsMet q note c
 TellsLeastUnmet q note cs (Some k) = IsLeastUnmet q note cs k
@@ -77,7 +77,7 @@ TellsLeastUnmet q note cs (Some k) = IsLeastUnmet q note cs k
 abbrev pub free_step : List Term → ℕ → (Atom → Bool) → (Atom → Bool) → Atom → Atom → Bool
 free_step hyps a f g before after = (f before && g before) && not (some_rules_out hyps a before after)
 
--- the diagram is true, whatever follows, exactly at the atoms that the relation leads to
+-- the diagram is true, for every atom after the step, exactly at the atoms that the relation reaches
 pub record AreEnds (tests : ℕ) (relation : Atom → Atom → Bool) (d : StepDiagramsParts) (id : ℕ) : Type 0 where
   pub in_range : IsStepId d id
   pub reached : (from to after : Atom) → length from ≡ tests → length to ≡ tests → length after ≡ tests → IsTrue (relation from to) → IsTrue (step_value d id to after)

@@ -1,4 +1,4 @@
--- What is answered to bytes, for each number of goals.
+-- The answer to bytes, for each limit of goals.
 use Rattle.std.specs.Prelude.{◌≡◌, ◌⊎◌, ℕ, List, map, drop, Vec, Result, MatchResult}
 use Rattle.std.specs.declared.alloc.Global.{Global}
 use Rattle.text_tokens.specs.declared.fault.TextFault.{TextFault}
@@ -9,12 +9,12 @@ use Rattle.problem_file.specs.Files.{FileParts, file_of}
 use Rattle.problem_file.specs.Trees.{goal_tree}
 use Rattle.problem_file.specs.Reads.{Says, HasFirstFault}
 
--- the file and the goals are what the bytes say
+-- the bytes denote this file and these goals
 pub record AreSaid (limit : GoalLimit) (bytes : List ℕ) (x : FileParts × Vec Goal Global) : Type 0 where
   pub says : Says limit bytes
   pub file : x.0 ≡ file_of says.state says.goal
   pub goals : map goal_tree x.1.items ≡ drop 1 (says.state).goals
 
--- the file that they say, or out of memory, or their first fault
+-- the file that the bytes denote, or out of memory, or their first fault
 abbrev pub AnswersFor : GoalLimit → List ℕ → Result (FileParts × Vec Goal Global) TextFault → Type 0
 AnswersFor limit bytes result = MatchResult result (AreSaid limit bytes) (λ e. (e ≡ NoMemory) ⊎ HasFirstFault limit bytes e)

@@ -3,7 +3,7 @@ use Rattle.std.specs.Prelude.{◌<◌, ℕ, List}
 use Rattle.text_scopes.specs.declared.meaning.Meaning.TheVariants.{Test, Action, Var, Prog}
 use Rattle.text_scopes.specs.ScopeParts.{ScopeParts, Means}
 
--- tests, actions, variables and programs that are named are below these numbers
+-- the numbers of named tests, actions, variables and programs are below these bounds
 pub record AreNumbered (w : ScopeParts) (tests actions vars progs : ℕ) : Type 0 where
   pub named_tests : (name : List ℕ) (k : ℕ) → Means w name (Test k) → k < tests
   pub named_actions : (name : List ℕ) (a : ℕ) → Means w name (Action a) → a < actions

@@ -24,6 +24,6 @@ state_of r = record {
   size = r.size;
 }
 
--- a step answers nothing or a fault, and leaves a reader; where memory runs out nothing is said
+-- a step returns nothing or a fault, and leaves a reader; out of memory, it implies nothing
 abbrev pub Leaves : Result (Unit {0}) TextFault → ItemReader → Result State TextFault → Type 0
 Leaves result r m = Does (Unit {0}) result (state_of r) m

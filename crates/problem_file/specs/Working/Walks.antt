@@ -1,4 +1,4 @@
--- What the program's functions answer, as steps of the items.
+-- The results of the program's functions as steps of the items.
 use Rattle.std.specs.Prelude.{◌≡◌, ℕ, List, drop, Result, Ok, Err}
 use Rattle.kat_model.specs.declared.tree.Kat.{Kat}
 use Rattle.kat_model.specs.declared.expression.Cond.{Cond}
@@ -24,21 +24,21 @@ sides_of ts m = record { left = measured_of ts m.left; right = measured_of ts m.
 abbrev pub triple_of : {X : Type 0} → List Lexeme → Triple X → TripleMeasurement X
 triple_of ts m = record { pre = measured_of ts m.pre; body = measured_of ts m.body; post = measured_of ts m.post }
 
--- what is told of a part that begins at an index is what the part is, or its fault
+-- the result for the part at an index is the measure of that part, or its fault
 abbrev pub Tells : {X Y : Type 0} → (List Lexeme → X → Y) → List Token → ℕ → Result (X × ℕ) TextFault → (List Lexeme → Parsed Y) → Type 0
 Tells means toks from result f = Reads ⊥ (means (lexemes toks)) (lexemes toks) result (f (drop from (lexemes toks)))
 
--- a step answers an index and leaves a state, or answers a fault; `memory` is what may be said where memory runs out
+-- a step returns an index and leaves a state, or returns a fault; `memory` is what holds when memory runs out
 abbrev pub StepEnds : {S : Type 0} → Type 0 → List Lexeme → Result ℕ TextFault → S → Parsed S → Type 0
 StepEnds memory ts (Ok end) s m = m ≡ Ok (s, drop end ts)
 StepEnds memory ts (Err NoMemory) s m = memory
 StepEnds memory ts (Err e) s m = m ≡ Err e
 
--- so with the step that begins at an index
+-- the same for the step that begins at an index
 abbrev pub Steps : {S : Type 0} → Type 0 → List Token → ℕ → Result ℕ TextFault → S → (List Lexeme → Parsed S) → Type 0
 Steps memory toks from result s f = StepEnds memory (lexemes toks) result s (f (drop from (lexemes toks)))
 
--- the same of a step that takes no tokens
+-- the same for a step that takes no tokens
 abbrev pub Does : {S X : Type 0} → Type 0 → Result X TextFault → S → Result S TextFault → Type 0
 Does memory (Ok x) s m = m ≡ Ok s
 Does memory (Err NoMemory) s m = memory

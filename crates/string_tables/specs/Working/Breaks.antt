@@ -1,4 +1,4 @@
--- Which terms of a list relate states of a table, and which is the first.
+-- The terms of a list that relate states of a table, and the first of them.
 use Rattle.std.specs.Prelude.{◌≡◌, ◌<◌, ℕ, List, slice_get, Some, true, false}
 use Rattle.kat_model.specs.Trees.{Term}
 use Rattle.kat_model.specs.Relations.{Table, Relates}
@@ -13,7 +13,7 @@ pub record IsFirstEntry (n : ℕ) (m : Square) (i j : ℕ) : Type 0 where
   pub above : (k l : ℕ) → k < i → l < n → entry m k l ≡ false
   pub before : (l : ℕ) → l < j → entry m i l ≡ false
 
--- the term at place h relates state i to state j
+-- the term at index h relates state i to state j
 pub record Breaks (t : Table) (terms : List Term) (h i j : ℕ) : Type 0 where
   pub term : Term
   pub is : slice_get terms h ≡ Some term
@@ -21,7 +21,7 @@ pub record Breaks (t : Table) (terms : List Term) (h i j : ℕ) : Type 0 where
   pub to : j < t.states
   pub relates : Relates t term i j
 
--- and no earlier three numbers do
+-- and no earlier triple does
 pub record BreaksFirst (t : Table) (terms : List Term) (h i j : ℕ) : Type 0 where
   pub breaks : Breaks t terms h i j
   pub first : (g k l : ℕ) → IsBefore g h k i l j → Breaks t terms g k l → ⊥

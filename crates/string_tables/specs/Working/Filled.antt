@@ -1,9 +1,9 @@
--- The matrices and rows that a term is evaluated in.
+-- The matrices and rows in which a term is evaluated.
 use Rattle.std.specs.Prelude.{◌≡◌, ◌+◌, List, Bool, length, replicate}
 use Rattle.string_tables.specs.Tables.{Room}
 use Rattle.string_tables.specs.Working.Matrices.{Square, sizes, widths}
 
--- the room that there is, and the matrix that a term is filled in
+-- the available room, and the matrix of the evaluated term
 pub record Filled : Type 0 where
   pub room : Room
   pub top : Square
@@ -11,7 +11,7 @@ pub record Filled : Type 0 where
 abbrev pub filled : Square → List Square → Filled
 filled top below = record { room = record { depth = length below + 1; states = top.size }; top = top }
 
--- all matrices have one size, which is also the length of each row, and there is a row for each matrix below
+-- all matrices have the same size, which is also the length of each row, and there is a row for each matrix below
 pub record IsEven (top : Square) (below : List Square) (spare set : List Bool) (rows : List (List Bool)) : Type 0 where
   pub sizes_below : sizes below ≡ replicate (length below) top.size
   pub width : length spare ≡ top.size

@@ -1,4 +1,4 @@
--- The height of the highest term of a question.
+-- The greatest height of the terms of a question.
 use Rattle.std.specs.Prelude.{ℕ, max, List, [], ◌∷◌}
 use Rattle.kat_model.specs.Trees.{Term, term_height}
 use Rattle.kat_model.specs.Problems.{ProblemParts}

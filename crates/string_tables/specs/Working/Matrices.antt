@@ -12,16 +12,16 @@ row_at rows i = slice_index_or rows i []
 abbrev pub entry : Square → ℕ → ℕ → Bool
 entry m i j = slice_index_or (row_at m.rows i) j false
 
--- there are as many rows as the size says, and each has as many entries
+-- the numbers of rows and of entries in each row are the size
 pub record IsSquare (m : Square) : Type 0 where
   pub height : length m.rows ≡ m.size
   pub width : (i : ℕ) → i < m.size → length (row_at m.rows i) ≡ m.size
 
--- the entries of the first n rows and columns are those of the test
+-- the entries of the first n rows and columns are the values of the function
 abbrev pub Tells : ℕ → Square → (ℕ → ℕ → Bool) → Type 0
 Tells n m r = (i j : ℕ) → i < n → j < n → entry m i j ≡ r i j
 
--- the matrix at a place of a list
+-- the matrix at an index of a list
 abbrev pub level : List Square → ℕ → Square
 level ms k = slice_index_or ms k (record { size = 0; rows = [] })
 
@@ -31,10 +31,10 @@ sizes ms = map (λ m. m.size) ms
 abbrev pub widths : List (List Bool) → List ℕ
 widths rows = map length rows
 
--- whether the relation leads from some number below n that the row has to j
+-- whether the relation leads from some number below n in the row to j
 abbrev pub in_image : ℕ → List Bool → (ℕ → ℕ → Bool) → ℕ → Bool
 in_image n row r j = some_below (λ i. slice_index_or row i false && r i j) n
 
--- the first n entries of the second row are the image of those of the first under the relation
+-- in the first n entries, the second row is the image of the first row under the relation
 abbrev pub IsImage : ℕ → List Bool → (ℕ → ℕ → Bool) → List Bool → Type 0
 IsImage n row r to = (j : ℕ) → j < n → slice_index_or to j false ≡ in_image n row r j

@@ -1,4 +1,4 @@
--- Listed pairs by the ids of terms and diagrams.
+-- Listed pairs, as ids of terms and diagrams.
 use Rattle.std.specs.Prelude.{ℕ, List, Option}
 use Rattle.walk_under.specs.declared.entry.Origin.{Origin}
 

@@ -1,4 +1,4 @@
--- The pairs of a walk as the program keeps them, by the ids of terms and diagrams.
+-- The pairs of a walk as the program stores them, as ids of terms and diagrams.
 use Rattle.std.specs.Prelude.{◌≡◌, ℕ, List, map, slice_get, Some, IsTrue}
 use Rattle.std.specs.Option.{option_map}
 use Rattle.term_nodes.specs.NodeLists.{NodeParts}
@@ -26,7 +26,7 @@ entry_of store d e = record { pair = pair_of store e; test = value_of d e.test; 
 abbrev pub entries_of : NodeParts → DiagramsParts → List EntryParts → List TestedEntry
 entries_of store d es = map (entry_of store d) es
 
--- the ids of an entry are such sets, and diagrams; its test is true at allowed atoms alone
+-- the sets of the entry are sets of ids, its diagrams are ids, and its test is true only at allowed atoms
 pub record IsIdEntry (store : NodeParts) (d : DiagramsParts) (allowed : ℕ) (e : EntryParts) : Type 0 where
   pub left : IsIdSet store d.tests e.left
   pub right : IsIdSet store d.tests e.right
@@ -34,7 +34,7 @@ pub record IsIdEntry (store : NodeParts) (d : DiagramsParts) (allowed : ℕ) (e 
   pub within : IsWithin d e.test allowed
   pub region : (o : Origin) → e.origin ≡ Some o → IsDiagramId d o.region
 
--- the atoms of the old diagram, without those of the entry where it has these sets
+-- the atoms of the old diagram, without those of the entry if it has these sets
 pub record IsWithoutPair (c d : DiagramsParts) (e : EntryParts) (left right : List ℕ) (old id : ℕ) : Type 0 where
   pub is_id : IsDiagramId d id
   pub within : (atom : Atom) → IsAtomOf d atom → IsTrue (value_of d id atom) → IsTrue (value_of c old atom)
@@ -62,20 +62,20 @@ pub record IsLevelAtom (d : DiagramsParts) (es : List EntryParts) (other : Entry
   pub is : IsWith entry other
   pub holds : IsTrue (value_of d entry.test atom)
 
--- the diagram is true at just these atoms
+-- the diagram is true exactly at the atoms at which some entry has the sets and the level of the other
 pub record AreLevelAtoms (d : DiagramsParts) (es : List EntryParts) (other : EntryParts) (id : ℕ) : Type 0 where
   pub is_id : IsDiagramId d id
   pub there : (atom : Atom) → IsAtomOf d atom → IsTrue (value_of d id atom) → IsLevelAtom d es other atom
   pub back : (atom : Atom) → IsAtomOf d atom → IsLevelAtom d es other atom → IsTrue (value_of d id atom)
 
--- the entry at the place is such a one
+-- the entry at the place has the sets and the level of the other, and was reached at the atom
 pub record IsPlaceWith (d : DiagramsParts) (es : List EntryParts) (other : EntryParts) (atom : Atom) (place : ℕ) : Type 0 where
   pub entry : EntryParts
   pub at : slice_get es place ≡ Some entry
   pub is : IsWith entry other
   pub holds : IsTrue (value_of d entry.test atom)
 
--- from each atom of the part, which are some of the whole, the action leads from the entry's sets to the part's terms
+-- the part lies within the whole, and from each of its atoms the action leads from the entry's sets to the part's terms
 pub record IsNextPart (store : NodeParts) (d : DiagramsParts) (from : EntryParts) (whole act : ℕ) (p : Part) : Type 0 where
   pub region : IsDiagramId d p.region
   pub within : IsWithin d p.region whole

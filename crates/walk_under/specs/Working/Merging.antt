@@ -1,4 +1,4 @@
--- The entries of a walk by ids, where those with the same sets are made one pair.
+-- The entries of a walk, as ids, with those of the same sets merged into one pair.
 use Rattle.std.specs.Prelude.{◌≡◌, ◌<◌, ℕ, List, [], ◌∷◌, ◌++◌, slice_get, Some, IsTrue}
 use Rattle.kat_model.specs.Members.{Has}
 use Rattle.kat_model.specs.Steps.{Atom, truth}
@@ -9,7 +9,7 @@ use Rattle.certificate.specs.PairParts.{PairParts}
 use Rattle.test_diagrams.specs.Functions.{DiagramsParts, value_of, IsDiagramId, IsAtomOf}
 use Rattle.walk_under.specs.Working.Entries.{EntryParts}
 
--- the entry is one of these, has these sets, and was reached at the atom
+-- an entry of the list has these sets and was reached at the atom
 pub record IsReachedThere (d : DiagramsParts) (es : List EntryParts) (left right : List ℕ) (atom : Atom) : Type 0 where
   pub entry : EntryParts
   pub member : Has es entry
@@ -17,13 +17,14 @@ pub record IsReachedThere (d : DiagramsParts) (es : List EntryParts) (left right
   pub right_is : entry.right ≡ right
   pub holds : IsTrue (value_of d entry.test atom)
 
--- the second diagram is true at just the atoms at which some entry has these sets, by the first collection
+-- the diagram is true, by the second collection, exactly at the atoms at which some entry has these sets, by the first
+-- collection
 pub record AreAtomsOf (c d : DiagramsParts) (es : List EntryParts) (left right : List ℕ) (id : ℕ) : Type 0 where
   pub is_id : IsDiagramId d id
   pub there : (atom : Atom) → IsAtomOf d atom → IsTrue (value_of d id atom) → IsReachedThere c es left right atom
   pub back : (atom : Atom) → IsAtomOf d atom → IsReachedThere c es left right atom → IsTrue (value_of d id atom)
 
--- the pair has a test, which is true at just these atoms for its sets
+-- the pair has a test, which is true exactly at the atoms at which some entry has its sets
 pub record IsMergedPair (store : NodeParts) (d : DiagramsParts) (es : List EntryParts) (p : PairParts) : Type 0 where
   pub test : ℕ
   pub has_test : p.test ≡ Some test
@@ -39,7 +40,7 @@ pub record HasPairOf (ps : List PairParts) (e : EntryParts) : Type 0 where
   pub left_is : e.left ≡ pair.left
   pub right_is : e.right ≡ pair.right
 
--- the pair has the sets of an entry that none of the pairs before it has, as they have those of all entries before that one
+-- the pair has the sets of an entry, no pair before it has these sets, and all earlier entries have a pair before it
 pub record IsFirst (es : List EntryParts) (before : List PairParts) (p : PairParts) : Type 0 where
   pub place : ℕ
   pub entry : EntryParts
@@ -49,12 +50,12 @@ pub record IsFirst (es : List EntryParts) (before : List PairParts) (p : PairPar
   pub earlier : (k : ℕ) (e : EntryParts) → k < place → slice_get es k ≡ Some e → HasPairOf before e
   pub fresh : HasPairOf before entry → ⊥
 
--- so it is with each of the pairs after those before it
+-- each of the pairs is the first with its sets, after those before it
 abbrev pub AreFirst : List EntryParts → List PairParts → List PairParts → Type 0
 AreFirst es before [] = Unit {0}
 AreFirst es before (p ∷ ps) = IsFirst es before p × AreFirst es (before ++ p ∷ []) ps
 
--- the pairs are those of the entries, each once
+-- the pairs have exactly the sets of the entries, each once
 pub record AreMergedIds (store : NodeParts) (d : DiagramsParts) (es : List EntryParts) (ps : List PairParts) : Type 0 where
   pub firsts : AreFirst es [] ps
   pub covers : (e : EntryParts) → Has es e → HasPairOf ps e

@@ -1,4 +1,4 @@
--- Parts of a region at each of which an action leads to the same terms.
+-- Parts of a region; from all atoms of a part an action leads to the same terms.
 use Rattle.std.specs.Prelude.{◌≡◌, ◌↔◌, ℕ, Bool, if◌then◌else◌, List, [], ◌∷◌, ◌++◌, IsTrue, IsFalse}
 use Rattle.kat_model.specs.Members.{Has}
 use Rattle.kat_model.specs.Steps.{Atom}
@@ -10,16 +10,16 @@ use Rattle.walk_pairs.specs.declared.items.Side.TheVariants.{Left, Right}
 use Rattle.walk_under.specs.declared.parts.Part.{Part}
 use Rattle.walk_under.specs.Working.Allowance.{IsWithin}
 
--- the terms, and the target where the value is true
+-- the terms, with the target appended if the value is true
 abbrev pub with_if : Bool → List ℕ → ℕ → List ℕ
 with_if value terms target = if value then terms ++ target ∷ [] else terms
 
--- the diagram is true at just the atoms of the region at which the guard has the value
+-- the diagram is true exactly at the atoms of the region at which the guard has the value
 pub record IsRegionWhere (c d : DiagramsParts) (region guard : ℕ) (value : Bool) (id : ℕ) : Type 0 where
   pub is_id : IsDiagramId d id
   pub told : (atom : Atom) → IsAtomOf d atom → IsTrue (value_of d id atom) ↔ (IsTrue (value_of c region atom) × (value_of c guard atom ≡ value))
 
--- From each atom of the part, which are some of those of the whole, these items lead to just the part's terms.
+-- The part lies within the whole, and from each of its atoms the items lead to exactly the part's terms.
 pub record IsPart (d : DiagramsParts) (items : List Item) (whole : ℕ) (p : Part) : Type 0 where
   pub is_id : IsDiagramId d p.region
   pub is_whole : IsDiagramId d whole
@@ -28,26 +28,26 @@ pub record IsPart (d : DiagramsParts) (items : List Item) (whole : ℕ) (p : Par
   pub lefts : (atom : Atom) → IsAtomOf d atom → IsTrue (value_of d p.region atom) → p.left.items ≡ chosen d Left items atom
   pub rights : (atom : Atom) → IsAtomOf d atom → IsTrue (value_of d p.region atom) → p.right.items ≡ chosen d Right items atom
 
--- no part is empty
+-- the parts are parts of the whole, and none is empty
 abbrev pub AreParts : DiagramsParts → List Item → ℕ → List Part → Type 0
 AreParts d items whole parts = (p : Part) → Has parts p → IsPart d items whole p × IsSomewhereTrue d p.region
 
 abbrev pub HavePartIds : DiagramsParts → List Part → Type 0
 HavePartIds d parts = (p : Part) → Has parts p → IsDiagramId d p.region
 
--- some part has the atom
+-- some part contains the atom
 pub record HasPartAt (d : DiagramsParts) (parts : List Part) (atom : Atom) : Type 0 where
   pub part : Part
   pub member : Has parts part
   pub holds : IsTrue (value_of d part.region atom)
 
--- the atom is one of the part, and the guards of the item have these values at it
+-- the part contains the atom, and the guards of the item have these values there
 pub record IsCase (d : DiagramsParts) (p : Part) (i : Item) (left right : Bool) (atom : Atom) : Type 0 where
   pub there : IsTrue (value_of d p.region atom)
   pub on_left : value_of d i.left atom ≡ left
   pub on_right : value_of d i.right atom ≡ right
 
--- where the new diagram is false, the old one is, and the guards of the item are alike
+-- at each atom at which the new diagram is false, the old one is false and the guards of the item are equal
 pub record TellsApart (c d : DiagramsParts) (old : ℕ) (i : Item) (id : ℕ) : Type 0 where
   pub is_id : IsDiagramId d id
   pub was : (atom : Atom) → IsAtomOf d atom → IsFalse (value_of d id atom) → IsFalse (value_of c old atom)

@@ -1,4 +1,4 @@
--- What a walk keeps while it takes its pairs.
+-- The invariants of a walk while it processes its pairs.
 use Rattle.std.specs.Prelude.{◌≡◌, ◌≢◌, ◌<◌, ◌+◌, ◌*◌, ◌^◌, ℕ, suc, List, [], ◌∷◌, ◌++◌, length, slice_get, Some, None, IsTrue, IsFalse}
 use Rattle.std.specs.Option.{option_map}
 use Rattle.kat_model.specs.Trees.{Term, acts}
@@ -27,13 +27,14 @@ use Rattle.walk_under.specs.declared.walk.Turn.{Turn}
 use Rattle.walk_pairs.specs.declared.closed.ClosedIds.{ClosedIds}
 use Rattle.walk_under.specs.declared.walk.BothSteps.{BothSteps}
 
--- what a walk is about: hypotheses that count as short, the problem with the others alone, and the store of terms
+-- the setting of a walk: the hypotheses that count as short, the problem with only the other hypotheses, and the store
+-- of terms
 pub record Setting : Type 0 where
   pub shorts : List Term
   pub problem : ProblemParts
   pub store : NodeParts
 
--- the walk is over the store, and has taken the first so many of its pairs
+-- the walk is over the store, and has processed the first `done` of its pairs
 pub record IsUnderWay (s : Setting) (w : Walk) (done : ℕ) : Type 0 where
   pub sound : AreNodes s.store
   pub tests : w.diagrams.tests ≡ s.problem.tests
@@ -44,7 +45,7 @@ pub record IsUnderWay (s : Setting) (w : Walk) (done : ℕ) : Type 0 where
   pub universal_id : (u : ℕ) → w.listing.universal ≡ Some u → IsTerm s.store u
   pub walk : IsTestedWalk s.shorts s.problem (entries_of s.store w.diagrams w.listing.entries.items) done
 
--- it takes the entry by the action, from all atoms at which the sets were reached by as many moves
+-- the walk processes the entry by the action, from all atoms at which the sets were reached by the same number of moves
 pub record IsAtStride (s : Setting) (w : Walk) (stride : Stride) (from : EntryParts) : Type 0 where
   pub under_way : IsUnderWay s w stride.place
   pub at : slice_get w.listing.entries.items stride.place ≡ Some from
@@ -52,8 +53,8 @@ pub record IsAtStride (s : Setting) (w : Walk) (stride : Stride) (from : EntryPa
   pub atoms : AreLevelAtoms w.diagrams w.listing.entries.items from stride.test
   pub of_actions : stride.act < s.problem.actions
 
--- The walk has listed entries, so that behind the allowed moves from some atoms the next sets of the entry by the action
--- are joined.
+-- The walk has listed entries such that, after the allowed moves by the action from the start atoms, the next sets of
+-- the entry are joined.
 pub record IsVisited (s : Setting) (old new : Walk) (stride : Stride) (from : EntryParts) (IsStart : Atom → Type 0) : Type 0 where
   pub stands : IsAtStride s new stride from
   pub kept : KeepsFunctions old.diagrams new.diagrams
@@ -62,8 +63,8 @@ pub record IsVisited (s : Setting) (old new : Walk) (stride : Stride) (from : En
   pub joined : (atom : Atom) → length atom ≡ s.problem.tests → IsStart atom → (after : Atom) → length after ≡ s.problem.tests → IsAllowedMove s.shorts atom (record { act = stride.act; atom = after })
       → AreJoined s.problem (entries_of s.store new.diagrams new.listing.entries.items) (suc from.level) after (set_next (terms_of s.store from.left) atom stride.act) (set_next (terms_of s.store from.right) atom stride.act)
 
--- Of the atoms to which the step leads from the part, these are the ones at which the entries do not join the part's sets;
--- none of them has an entry with these sets.
+-- The atoms to which the step leads from the part and at which the entries do not join the part's sets. No entry has
+-- these sets at any of these atoms.
 pub record IsOpenAt (s : Setting) (old new : Walk) (stride : Stride) (from : EntryParts) (p : Part) (id : ℕ) : Type 0 where
   pub stands : IsAtStride s new stride from
   pub next : IsNextPart s.store new.diagrams from stride.test stride.act p
@@ -83,7 +84,7 @@ pub record AreNextItems (s : Setting) (w : Walk) (stride : Stride) (from : Entry
   pub lefts : (atom : Atom) → IsAtomOf w.diagrams atom → SameMembers (set_next (terms_of s.store from.left) atom stride.act) (terms_of s.store (chosen w.diagrams Left items atom))
   pub rights : (atom : Atom) → IsAtomOf w.diagrams atom → SameMembers (set_next (terms_of s.store from.right) atom stride.act) (terms_of s.store (chosen w.diagrams Right items atom))
 
--- the entry of the part's pair, at the atoms of the test
+-- the entry of the part's sets, at the atoms of the test
 abbrev pub new_ids : Stride → Part → ℕ → EntryParts
 new_ids stride p test = record {
   left = p.left.items;
@@ -93,23 +94,23 @@ new_ids stride p test = record {
   origin = Some (record { place = stride.place; act = stride.act; region = p.region });
 }
 
--- what a walk over the store is about
+-- the setting of a walk over the store
 abbrev pub about : List Term → ProblemParts → NodeParts → Setting
 about shorts q store = record { shorts = shorts; problem = q; store = store }
 
--- the walk takes the entry at the place, and these are the steps of its sets
+-- the walk processes the entry at the place, and these are the steps of its sets
 pub record IsTaking (s : Setting) (w : Walk) (place : ℕ) (from : EntryParts) (steps : BothSteps) : Type 0 where
   pub under_way : IsUnderWay s w place
   pub at : slice_get w.listing.entries.items place ≡ Some from
   pub left : IsStepsOf s.store w.diagrams (terms_of s.store from.left) steps.left
   pub right : IsStepsOf s.store w.diagrams (terms_of s.store from.right) steps.right
 
--- the entry that is taken has this level, and these are the atoms at which its sets were reached by as many moves
+-- the level of the entry that is processed, and the atoms at which its sets were reached by that number of moves
 pub record IsTurn (w : Walk) (t : Turn) (from : EntryParts) : Type 0 where
   pub level : t.level ≡ from.level
   pub atoms : AreLevelAtoms w.diagrams w.listing.entries.items from t.test
 
--- the walk has listed entries, so that behind the allowed moves by the actions the next sets of the entry are joined
+-- the walk has listed entries such that, after the allowed moves by the actions, the next sets of the entry are joined
 pub record HasStepped (s : Setting) (old new : Walk) (t : Turn) (from : EntryParts) (acts : List ℕ) : Type 0 where
   pub under_way : IsUnderWay s new t.place
   pub at : slice_get new.listing.entries.items t.place ≡ Some from
@@ -117,7 +118,7 @@ pub record HasStepped (s : Setting) (old new : Walk) (t : Turn) (from : EntryPar
   pub kept : KeepsFunctions old.diagrams new.diagrams
   pub joined : (a : ℕ) → Has acts a → AreJoinedAfter s.shorts s.problem (entries_of s.store new.diagrams new.listing.entries.items) (suc from.level) (pair_of s.store from) (value_of old.diagrams t.test) a
 
--- at an atom of its test the entry at the place does not accept alike
+-- at an atom of its test, exactly one set of the entry at the place accepts
 pub record IsDifference (s : Setting) (w : Walk) (place : ℕ) (atom : Atom) : Type 0 where
   pub from : EntryParts
   pub at : slice_get w.listing.entries.items place ≡ Some from
@@ -125,22 +126,22 @@ pub record IsDifference (s : Setting) (w : Walk) (place : ℕ) (atom : Atom) : T
   pub there : IsTrue (value_of w.diagrams from.test atom)
   pub differ : set_out (terms_of s.store from.left) atom ≢ set_out (terms_of s.store from.right) atom
 
--- at the atom of the test the steps do not accept alike
+-- at an atom of the test, exactly one of the steps accepts
 pub record TellApart (d : DiagramsParts) (test : ℕ) (steps : BothSteps) (atom : Atom) : Type 0 where
   pub fits : IsAtomOf d atom
   pub there : IsTrue (value_of d test atom)
   pub differ : value_of d steps.left.accepts atom ≢ value_of d steps.right.accepts atom
 
--- at all atoms of the test they do
+-- at each atom of the test, both steps accept or neither does
 abbrev pub AcceptAlike : DiagramsParts → ℕ → BothSteps → Type 0
 AcceptAlike d test steps = (atom : Atom) → IsAtomOf d atom → IsTrue (value_of d test atom) → value_of d steps.left.accepts atom ≡ value_of d steps.right.accepts atom
 
--- how many actions the first of the terms has
+-- the number of actions of the first term
 abbrev pub first_acts : List Term → ℕ
 first_acts [] = 0
 first_acts (e ∷ es) = acts e
 
--- how many entries a walk can list that begins with these, over so many tests
+-- a bound on the number of entries of a walk that begins with these, over this number of tests
 abbrev pub walk_limit : NodeParts → ℕ → List EntryParts → ℕ
 walk_limit store tests [] = 0
 walk_limit store tests (e ∷ es) = 1 + 2 ^ (first_acts (terms_of store e.left) + 1) * 2 ^ (first_acts (terms_of store e.right) + 1) * 2 ^ tests
@@ -149,7 +150,7 @@ walk_limit store tests (e ∷ es) = 1 + 2 ^ (first_acts (terms_of store e.left) 
 abbrev pub first_ids : ClosedIds → ℕ → EntryParts
 first_ids sides test = record { left = sides.left ∷ []; right = sides.right ∷ []; test = test; level = 0; origin = None }
 
--- the ids are those of the closed sides of the problem, and of its universal term
+-- the ids of the closed sides of the problem and of its universal term
 pub record AreClosedIds (q : ProblemParts) (store : NodeParts) (sides : ClosedIds) : Type 0 where
   pub sound : AreNodes store
   pub left_id : IsTermOf store q.tests sides.left

@@ -1,4 +1,4 @@
--- The texts of statements, as the program writes them.
+-- The texts of statements as the program writes them.
 use Rattle.std.specs.Prelude.{ℕ, List, [], ◌++◌, codes}
 use Rattle.kat_model.specs.Expressions.{ExprTree, CondTree}
 use Rattle.text_scopes.specs.declared.meaning.Meaning.{Meaning}
@@ -16,7 +16,7 @@ act_text name = codes " " ++ name ++ codes ";"
 abbrev pub assign_text : (Meaning → List ℕ) → List ℕ → ExprTree → List ℕ
 assign_text names name e = codes " " ++ name ++ codes " := " ++ expr_text names e ++ codes ";"
 
--- with the texts of the statements of the blocks
+-- `first` and `second` are the texts of the statements of the blocks
 abbrev pub branch_text : (Meaning → List ℕ) → CondTree → List ℕ → List ℕ → List ℕ
 branch_text names b first second = codes " if " ++ cond_text names b ++ codes " {" ++ first ++ codes " } else {" ++ second ++ codes " }"
 
@@ -34,7 +34,7 @@ stmts_text names (assign_then x e rest) = assign_text names (names (Var x)) e ++
 stmts_text names (branch_then b p q rest) = branch_text names b (stmts_text names p) (stmts_text names q) ++ stmts_text names rest
 stmts_text names (loop_then b p rest) = loop_text names b (stmts_text names p) ++ stmts_text names rest
 
--- one of them
+-- a statement after a blank
 abbrev pub stmt_text : (Meaning → List ℕ) → StmtTree → List ℕ
 stmt_text names skip = codes " skip;"
 stmt_text names abort = codes " abort;"

@@ -1,4 +1,4 @@
--- The run of a program as a function of the store and the turns that are left, as the program computes it.
+-- The run of a program as a function of the store and the turns left, as the program computes it.
 use Rattle.std.specs.Prelude.{ℕ, zero, suc, ◌-◌, nat_eq, Bool, if◌then◌else◌, set}
 use Rattle.kat_model.specs.Stores.{Store, value, holds}
 use Rattle.kat_model.specs.declared.expression.Width.{Width}
@@ -7,7 +7,7 @@ use Rattle.while_lang.specs.Runs.{condition}
 use Rattle.while_lang.specs.declared.outcome.Outcome.{Outcome}
 use Rattle.while_lang.specs.declared.outcome.Outcome.TheVariants.{Done, Stuck, More}
 
--- how a run ends, in which store, and the turns that are left
+-- the outcome of a run, its last store and the turns left
 pub record End : Type 0 where
   pub outcome : Outcome
   pub store : Store
@@ -21,11 +21,11 @@ by_outcome Done e x = x
 by_outcome Stuck e x = e
 by_outcome More e x = e
 
--- what follows, where a part is done
+-- continues with `next` if the part is done
 abbrev pub then_run : End → (Store → ℕ → End) → End
 then_run e next = by_outcome e.outcome e (next e.store e.left)
 
--- the body of a loop again and again, in at most so many turns as the first number
+-- repeats the body of a loop; the first number bounds the repetitions
 abbrev pub turning : ℕ → (Store → Bool) → (Store → ℕ → End) → Store → ℕ → End
 turning zero b body s n = if b s then ended More s n else ended Done s n
 turning (suc fuel) b body s n =
@@ -34,7 +34,7 @@ turning (suc fuel) b body s n =
 abbrev pub loop_end : (Store → Bool) → (Store → ℕ → End) → Store → ℕ → End
 loop_end b body s n = turning n b body s n
 
--- the run of a program; a named action sticks
+-- the end of the run of a program; a named action is stuck
 abbrev pub run_end : Width → ProgTree → Store → ℕ → End
 run_end w empty s n = ended Done s n
 run_end w (skip_then rest) s n = run_end w rest s n

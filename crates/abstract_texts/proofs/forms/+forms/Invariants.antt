@@ -4,7 +4,7 @@ use Rattle.text_print.specs.Printing.{name_of}
 use Rattle.abstract_texts.specs.Shows.{sum_text}
 use Rattle.abstract_texts.proofs.forms.+forms.Given as goal
 
--- what is written, and the text of the terms that are left
+-- the text written so far, and the text of the remaining terms
 abbrev pub invariant-put_form-loop-term : goal.invariant-put_form-loop-term
 invariant-put_form-loop-term l =
     l.out.items ++ sum_text (name_of l.scope) l.first (form_of (drop l.term-index l.term-items) l.form-inside.constant)

@@ -5,7 +5,7 @@ use Rattle.kat_model.specs.Problems.{AreInRange}
 use Rattle.abstract_texts.specs.Shows.{hyps_text}
 use Rattle.abstract_texts.proofs.hyps.put_hyps.Given as goal
 
--- what is written, and the text of the hypotheses that are left
+-- the text written so far, and the text of the remaining hypotheses
 abbrev pub invariant-loop-rule : goal.invariant-loop-rule
 invariant-loop-rule l = record {
   text : l.out.items ++ hyps_text l.before (zip l.rule-iterator.a.rest.now (map kat_tree l.rule-iterator.b.rest.now)) ≡ l.initial.out.items ++ hyps_text None (zip l.rules l.problem.hyps);

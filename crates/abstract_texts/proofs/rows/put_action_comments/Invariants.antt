@@ -5,7 +5,7 @@ use Rattle.text_print.specs.Printing.{name_of}
 use Rattle.abstract_texts.specs.Shows.{action_comment}
 use Rattle.abstract_texts.proofs.rows.put_action_comments.Given as goal
 
--- what is written, and the comments that are left
+-- the text written so far, and the remaining comments
 abbrev pub invariant-loop-k : goal.invariant-loop-k
 invariant-loop-k l =
     l.out.items ++ flat_map (action_comment (name_of l.scope)) (enumerate_from l.k (drop l.k l.rows))

@@ -6,7 +6,7 @@ use Rattle.abstraction.specs.Tables.{is_same_comparison}
 use Rattle.abstraction.specs.Working.CappedRows.{with_all_new_within}
 use Rattle.abstraction.proofs.comparisons.+comparisons.Given as goal
 
--- the comparisons that are left to the statements that are left
+-- the remaining statements add the remaining comparisons
 abbrev pub invariant-add_prog-loop-stmt : goal.invariant-add_prog-loop-stmt
 invariant-add_prog-loop-stmt l =
     with_all_new_within l.most is_same_comparison l.rows.items (prog_comparisons (modulus l.width) (list_tree (drop l.stmt-index l.stmt-items)))

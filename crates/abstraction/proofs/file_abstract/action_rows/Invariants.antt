@@ -7,6 +7,6 @@ use Rattle.abstraction.proofs.file_abstract.action_rows.Given as goal
 abbrev assign_row : Assignment → ActionRow
 assign_row a = Assign a.var a.form
 
--- the rows so far, and those that are left
+-- the rows so far, and the remaining ones
 abbrev pub invariant-loop-assigned : goal.invariant-loop-assigned
 invariant-loop-assigned l = l.rows.items ++ map assign_row l.assigned-iterator.rest.items ≡ l.initial.rows.items ++ map assign_row l.fn.assignments.items

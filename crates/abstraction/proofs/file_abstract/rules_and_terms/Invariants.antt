@@ -10,7 +10,7 @@ rules_of hs = map (λ h. h.rule) hs
 abbrev terms_of : List Hypothesis → List Term
 terms_of hs = map (λ h. h.term) hs
 
--- those so far, and those that are left
+-- the rules and terms so far, and the remaining ones
 abbrev pub invariant-loop-hyp : goal.invariant-loop-hyp
 invariant-loop-hyp l =
     (l.rules.items ++ rules_of l.hyp-iterator.rest.items ≡ rules_of l.fn.hyps.items) × (map kat_tree l.terms.items ++ terms_of l.hyp-iterator.rest.items ≡ terms_of l.fn.hyps.items)

@@ -6,7 +6,7 @@ use Rattle.abstraction.specs.Comparisons.{atomics}
 use Rattle.abstraction.specs.Rounds.{append_all}
 use Rattle.abstraction.proofs.rounds.append_all_substituted.Given as goal
 
--- what is left to the comparisons that are left
+-- the remaining comparisons lead to the final rows
 abbrev pub invariant-loop-atomic : goal.invariant-loop-atomic
 invariant-loop-atomic l =
     append_all l.most l.rows.items (flat_map (λ phi. atomics (substituted (modulus l.width) l.assigned.var l.assigned.form phi)) (drop l.atomic-index l.fresh))

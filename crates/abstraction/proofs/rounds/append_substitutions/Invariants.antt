@@ -3,7 +3,7 @@ use Rattle.kat_model.specs.Stores.{modulus}
 use Rattle.abstraction.specs.Rounds.{append_all, substitutions}
 use Rattle.abstraction.proofs.rounds.append_substitutions.Given as goal
 
--- what is left to the assignments that are left
+-- the remaining assignments lead to the final rows
 abbrev pub invariant-loop-assigned : goal.invariant-loop-assigned
 invariant-loop-assigned l =
     append_all l.most l.rows.items (substitutions (modulus l.width) (drop l.assigned-index l.assignments) l.fresh)

@@ -3,7 +3,7 @@ use Rattle.bisim_worklist.specs.declared.pair.Spot.{Spot}
 use Rattle.bisim_worklist.specs.Working.Marks.{IsClosedAt, IsMade, IsMore}
 use Rattle.bisim_worklist.proofs.saturation.add_spots.Given as goal
 
--- where no term is new, the sets taken so far add none
+-- if no term was added, the sets so far add none
 abbrev pub invariant-loop-spot : goal.invariant-loop-spot
 invariant-loop-spot l = record {
   made : IsMade l.rules.pairs l.initial.marked.marks l.marked.marks;

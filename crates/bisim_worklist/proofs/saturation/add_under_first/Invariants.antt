@@ -5,7 +5,7 @@ use Rattle.bisim_worklist.specs.declared.pair.Spot.{Spot}
 use Rattle.bisim_worklist.specs.Working.Marks.{IsClosedAt, IsMade, IsMore}
 use Rattle.bisim_worklist.proofs.saturation.add_under_first.Given as goal
 
--- where no term is new, the sets under the terms taken so far add none
+-- if no term was added, the sets under the terms so far add none
 abbrev pub invariant-loop-index : goal.invariant-loop-index
 invariant-loop-index l = record {
   made : IsMade l.rules.pairs l.initial.marked.marks l.marked.marks;

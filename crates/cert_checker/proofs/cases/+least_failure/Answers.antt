@@ -10,7 +10,7 @@ use Rattle.cert_checker.proofs.cases.+least_failure.Goals.{In_ok-state_of, In-Wa
 
 -- ---- what several goals need
 
--- nothing more is decided by the evaluation
+-- the evaluation decides no tests
 kept : (t : ℕ) (c : In_ok-state_of t) → c.evaluate.new.self.decided.items ≡ c.args.case.now.decided.items
 kept t c = ap (λ (v : Vec (Option Bool) Global). v.items) c.evaluate.ensures.decided
 
@@ -24,18 +24,18 @@ is_open t c =
     waits_open (MatchAt c.args.question.now.tables c.args.question.now) c.args.case.now.decided.items c.evaluate.new.self.decided.items c.in_ok-state_of.field-0 c.in-Waits.test (ap (λ (v : Vec (Option Bool) Global). v.items) c.evaluate.ensures.decided) c.in-Waits.is
     c.in_ok-state_of.ensures
 
--- in the first half it is false
+-- in the first half the test is false
 then_false : (t : ℕ) (c : In-Waits t) → slice_set c.evaluate.new.self.decided.items c.in-Waits.test (Some false) ≡ slice_set c.args.case.now.decided.items c.in-Waits.test (Some false)
 then_false t c = ap (λ (v : Vec (Option Bool) Global). slice_set v.items c.in-Waits.test (Some false)) c.evaluate.ensures.decided
 
 still_false : (t : ℕ) (c : In_ok-low t) → c.least_failure.new.case.decided.items ≡ slice_set c.args.case.now.decided.items c.in-Waits.test (Some false)
 still_false t c = c.in_ok-low.ensures.decided ∙ ap (λ (v : Vec (Option Bool) Global). slice_set v.items c.in-Waits.test (Some false)) c.evaluate.ensures.decided
 
--- and in the second it is true
+-- and in the second half it is true
 then_true : (t : ℕ) (c : In_ok-low t) → slice_set c.least_failure.new.case.decided.items c.in-Waits.test (Some true) ≡ slice_set c.args.case.now.decided.items c.in-Waits.test (Some true)
 then_true t c = ap (λ l. slice_set l c.in-Waits.test (Some true)) (still_false t c) ∙ set-set c.args.case.now.decided.items c.in-Waits.test (Some false) (Some true)
 
--- what the first half gives
+-- the result of the first half
 found_low : (t : ℕ) (c : In_ok-low t) → IsFirstFailure (Below (MatchAt c.args.question.now.tables c.args.question.now) (option_map (λ (b : Bor (Vec Bool Global)). b.now.items) c.args.bound)) (slice_set c.args.case.now.decided.items c.in-Waits.test (Some false)) (option_map (λ (v : Vec Bool Global). v.items) c.in_ok-low.low)
 found_low t c =
     subst (λ (v : Vec (Option Bool) Global). IsFirstFailure (Below (MatchAt c.args.question.now.tables c.args.question.now) (option_map (λ (b : Bor (Vec Bool Global)). b.now.items) c.args.bound)) (slice_set v.items c.in-Waits.test (Some false)) (option_map (λ (v : Vec Bool Global). v.items) c.in_ok-low.low))

@@ -14,11 +14,11 @@ use Rattle.cert_checker.proofs.StepStates.{waits_open, guard_open, excluded_hold
 use Rattle.cert_checker.proofs.matching.state_of.Goals as goal
 use Rattle.cert_checker.proofs.matching.state_of.Goals.{then-are_universal-via-then-are_universal, then-are_universal-via-else-are_universal+in_ok-are_matched+then-branch, then-branch-2+in_default-waiting_pair, else-branch-2, in-Tied-the_move, in-Tied-the_move-2}
 
--- what is told of the universal term, by what is equal
+-- the result for the universal term, by equal arguments
 sure_as : (q : QuestionParts) (k l : List Known) (a b : Bool) → k ≡ l → a ≡ option_map_or (λ u. is_sure k q.left u && is_sure k q.right u) q.turn.universal false → a ≡ b → option_map_or (λ u. is_sure l q.left u && is_sure l q.right u) q.turn.universal false ≡ b
 sure_as q k l a b same told is = subst (λ (m : List Known). option_map_or (λ u. is_sure m q.left u && is_sure m q.right u) q.turn.universal false ≡ b) same (sym told ∙ is)
 
--- both sides, by what is equal
+-- both sides, by equal arguments
 sides_as : (p q : QuestionParts) (k l : List Known) (x y : Side) → p ≡ q → k ≡ l → IsSide k p.right p.left x → IsSide k p.left p.right y → AreSides l q.left q.right (record { left = x; right = y })
 sides_as p q k l x y e f left right = record {
   left = subst (λ (m : List Known). IsSide m q.right q.left x) f (subst (λ (z : QuestionParts). IsSide k z.right z.left x) e left);

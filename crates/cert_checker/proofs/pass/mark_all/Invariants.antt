@@ -2,7 +2,7 @@ use Rattle.std.proofs.Common.{◌≡◌, ◌<◌, ℕ, length, get_or}
 use Rattle.cert_steps.specs.Marks.{IsMarked}
 use Rattle.cert_checker.proofs.pass.mark_all.Given as goal
 
--- the old marks stay, and the numbers gone through are marked
+-- the old marks remain, and the processed numbers are marked
 abbrev pub invariant-loop-number : goal.invariant-loop-number
 invariant-loop-number l = record {
   count : length l.marks ≡ length l.initial.marks;

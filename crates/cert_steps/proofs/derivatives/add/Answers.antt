@@ -18,7 +18,7 @@ either-requires-clause-first c =
 pub test_node-requires : goal.test_node-requires
 test_node-requires c = (c.requires (c.args.term, c.args.guard) (inl refl)).1
 
--- the test is true where the one that was found is, if any, or the guard
+-- the test is the disjunction of the guard and the test that was found, if any
 abbrev IsJoined : (old new : TableParts) (found : Option ℕ) (guard joined : ℕ) → Type 0
 IsJoined old new found guard joined = TestsGrow old new × IsTest new joined × ((atom : Atom) → holds_at new joined atom ≡ (option_map_or (λ o. holds_at old o atom) found false || holds_at old guard atom))
 

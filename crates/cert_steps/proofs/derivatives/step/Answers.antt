@@ -17,7 +17,7 @@ use Rattle.cert_steps.proofs.StepLists.{read_map, accept_at, nothing_stands, sti
 use Rattle.cert_steps.proofs.GrowingTables.{grows_trans}
 use Rattle.cert_steps.proofs.derivatives.step.Goals as goal
 
--- what stands for steps of an action that there is
+-- targets that stand for the steps of an action, if the action is given
 led : {o : Option ℕ} {a : ℕ} {t : TableParts} {es : List (ℕ × ℕ)} (e : Term) → o ≡ Some a → StandFor t es (λ atom. next e atom a) → StandFor t es (leads_to o e)
 led {t = t} {es = es} e is s = subst (λ o. StandFor t es (leads_to o e)) (sym is) s
 
@@ -129,7 +129,7 @@ returns-in-Star-clause-targets c =
     (λ made s. led _ c.in-Some.is (star_stands t c.continued-in-Star.new.tables c.in-Star.x (length earlier) c.in-Some.act c.index-earlier-x-in-Star.result.entries made.entries tree first s))
     c.continued-in-Star.ensures.targets
 
--- ---- the action that is taken
+-- ---- the action of the step
 
 pub returns-in_ok-always-in-Act-clause-grows : goal.returns-in_ok-always-in-Act-clause-grows
 returns-in_ok-always-in-Act-clause-grows c = grows_trans c.args.tables.now c.constant.new.self c.empty_product-in-Act.new.tables c.constant.ensures.grows.grows c.empty_product-in-Act.ensures.grows

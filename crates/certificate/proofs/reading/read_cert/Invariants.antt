@@ -4,7 +4,7 @@ use Rattle.certificate.specs.Faults.{cert_from, no_entries}
 use Rattle.certificate.specs.Working.Readings.{draft_parts, IsDraft}
 use Rattle.certificate.proofs.reading.read_cert.Given as goal
 
--- the lines that are left say after the entries so far what all lines say
+-- after the entries so far, the remaining lines give the answer of all lines
 abbrev pub invariant-loop-line : goal.invariant-loop-line
 invariant-loop-line l = record {
   same : cert_from (draft_parts l.draft) l.number (parts_of l.rest) ≡ cert_from (no_entries l.fn.style) 2 (parts_of l.bytes);

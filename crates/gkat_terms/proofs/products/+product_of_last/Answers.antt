@@ -5,7 +5,7 @@ use Rattle.kat_model.proofs.BalancedTrees.{balanced-parts}
 use Rattle.gkat_terms.specs.Expressions.{test, product, gkat_tree}
 use Rattle.gkat_terms.proofs.products.+product_of_last.Goals as goal
 
--- The product of both parts is that of the last members, since the second part is taken first.
+-- The product of both parts is the product of the last members of the list. The second part is removed first.
 pub returns-clause-tree : goal.returns-clause-tree
 returns-clause-tree t c =
     let two : 2 ≤ c.args.count = omega arith in

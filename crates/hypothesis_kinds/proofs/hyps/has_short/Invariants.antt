@@ -4,6 +4,6 @@ use Rattle.kat_model.specs.Trees.{kat_tree}
 use Rattle.kat_model.specs.Degrees.{is_short}
 use Rattle.hypothesis_kinds.proofs.hyps.has_short.Given as goal
 
--- none so far is short
+-- no hypothesis so far is short
 abbrev pub invariant-loop-hyp : goal.invariant-loop-hyp
 invariant-loop-hyp l = list_any is_short (map kat_tree (drop l.hyp-index l.hyp-items)) ≡ list_any is_short (map kat_tree l.hyp-items)

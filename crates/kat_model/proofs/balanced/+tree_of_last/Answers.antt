@@ -1,4 +1,4 @@
--- The tree of both parts is that of the last members, since the second part is taken first.
+-- The node over both trees is the tree of the last members, since the second part is taken from the list first.
 use Rattle.std.proofs.Common.{◌≤◌, ◌∙◌, arith}
 use Rattle.std.proofs.lemmas.Result.{IfOk-weaker}
 use Rattle.kat_model.proofs.BalancedTrees.{balanced-parts}

@@ -3,7 +3,7 @@ use Rattle.kat_model.specs.Stores.{modulus}
 use Rattle.linear_forms.specs.Arithmetic.{merge}
 use Rattle.linear_forms.proofs.arithmetic.merge_of.Given as goal
 
--- what is written, and what is left merged, is all merged
+-- the terms written, and the merging of the remaining terms, are the whole merging
 abbrev pub invariant-loop-right : goal.invariant-loop-right
 invariant-loop-right l = l.to.items ++ merge (modulus l.width) (reverse l.left.items) (reverse l.right.items) ≡ merge (modulus l.width) l.fn.left.items l.fn.right.items
 

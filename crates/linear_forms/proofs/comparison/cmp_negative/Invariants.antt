@@ -4,7 +4,7 @@ use Rattle.linear_forms.specs.Forms.{form_of}
 use Rattle.linear_forms.proofs.Signs.{sign_cmp}
 use Rattle.linear_forms.proofs.comparison.cmp_negative.Given as goal
 
--- what is left decides
+-- the remaining terms decide
 abbrev pub invariant-loop-term : goal.invariant-loop-term
 invariant-loop-term l =
     sign_cmp (modulus l.width) (form_of l.form-inside.terms.items l.form-inside.constant)

@@ -4,7 +4,7 @@ use Rattle.linear_forms.specs.Values.{polynomial}
 use Rattle.linear_forms.proofs.Polynomials.{terms_polynomial}
 use Rattle.linear_forms.proofs.expression.+values.Given as goal
 
--- the total with the value of what is left is the value of all
+-- the total plus the value of the remaining terms is the value of all terms
 abbrev pub invariant-value-loop-term : goal.invariant-value-loop-term
 invariant-value-loop-term l = record {
   cut : l.total % modulus l.width ≡ l.total;

@@ -2,7 +2,7 @@ use Rattle.std.proofs.Common.{◌≡◌, ◌+◌, ◌-◌, ◌^◌, ◌<◌, min
 use Rattle.linear_forms.proofs.Counting.{terms_nodes}
 use Rattle.linear_forms.proofs.form.+sizes.Given as goal
 
--- the total with the nodes that are left is all that there are
+-- the total plus the nodes of the remaining terms is the number of all nodes
 abbrev pub invariant-form_size-loop-term : goal.invariant-form_size-loop-term
 invariant-form_size-loop-term l = record {
   fits : l.total < 2 ^ 64;

@@ -4,7 +4,7 @@ use Rattle.linear_forms.specs.Forms.{form_of}
 use Rattle.linear_forms.specs.Substitution.{replaced}
 use Rattle.linear_forms.proofs.substitution.+replaced.Given as goal
 
--- the total is that of the terms from i on
+-- the total is the form of the terms from i on, with the variable replaced
 abbrev pub invariant-replace-loop-i : goal.invariant-replace-loop-i
 invariant-replace-loop-i l = record {
   within : l.i ≤ length l.form-inside.terms.items;

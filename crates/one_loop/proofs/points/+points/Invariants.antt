@@ -4,7 +4,7 @@ use Rattle.one_loop.specs.Working.Machine.{points_of, start_of}
 use Rattle.one_loop.specs.Working.Blocks.{block_of}
 use Rattle.one_loop.proofs.points.+points.Given as goal
 
--- the points of the statements from this one on
+-- the blocks so far are those of the points of the statements from this one on
 abbrev pub invariant-add_points-loop-i : goal.invariant-add_points-loop-i
 invariant-add_points-loop-i l = record {
   start : l.follow ≡ start_of (list_tree (drop l.i l.prog-inside.list.items)) (vec_len l.initial.blocks) l.next;

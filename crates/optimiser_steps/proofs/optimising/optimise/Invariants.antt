@@ -3,7 +3,7 @@ use Rattle.optimiser_theory.specs.Logs.{IsLog}
 use Rattle.optimiser_theory.specs.Meanings.{HasProgInRange}
 use Rattle.optimiser_steps.proofs.optimising.optimise.Given as goal
 
--- the log leads from the program to the one at hand, and its lines are the turns that were made
+-- the log leads from the initial program to the current one, and its length is the number of turns used
 abbrev pub invariant-loop-log : goal.invariant-loop-log
 invariant-loop-log l = record {
   chain : IsLog l.file l.prog l.log.items l.current;

@@ -4,7 +4,7 @@ use Rattle.outline_notes.specs.Faults.{notes_from, no_lines}
 use Rattle.outline_notes.specs.Working.Readings.{draft_parts, IsDraft}
 use Rattle.outline_notes.proofs.reading.notes_after_header.Given as goal
 
--- the lines that are left say after those so far what all lines say
+-- the remaining lines, read after those so far, give the same answer as all lines
 abbrev pub invariant-loop-line : goal.invariant-loop-line
 invariant-loop-line l = record {
   same : notes_from (draft_parts l.draft) l.number (parts_of l.rest) ≡ notes_from no_lines 2 (parts_of l.bytes);

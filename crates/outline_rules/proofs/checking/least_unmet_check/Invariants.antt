@@ -6,7 +6,7 @@ use Rattle.outline_rules.specs.Working.Checks.{condition_of}
 use Rattle.outline_rules.specs.Working.Sets.{AreMomentSets, TellsLeastUnmet}
 use Rattle.outline_rules.proofs.checking.least_unmet_check.Given as goal
 
--- the least target so far
+-- the least target of the unmet checks so far
 abbrev pub invariant-loop-check : goal.invariant-loop-check
 invariant-loop-check l = record {
   least : TellsLeastUnmet l.problem (note_holds l.notes) (map condition_of (take l.check-index l.checks)) l.least;

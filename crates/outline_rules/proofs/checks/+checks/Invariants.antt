@@ -5,7 +5,7 @@ use Rattle.outline_rules.specs.Follows.{conditions_from}
 use Rattle.outline_rules.specs.Working.Checks.{condition_of}
 use Rattle.outline_rules.proofs.checks.+checks.Given as goal
 
--- the statements that are left end at the last place, and their checks are those that are missing
+-- the remaining statements end at the last place, and their checks are the missing ones
 abbrev pub invariant-push_checks-loop-stmt : goal.invariant-push_checks-loop-stmt
 invariant-push_checks-loop-stmt l = record {
   place : last_place (flows_tree (drop l.stmt-index l.stmt-items)) l.at ≡ last_place (flows_tree l.stmt-items) l.fn.place;

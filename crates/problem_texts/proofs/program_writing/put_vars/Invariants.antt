@@ -4,6 +4,6 @@ use Rattle.text_print.specs.Printing.{name_of}
 use Rattle.problem_texts.proofs.PlainWritten.{later_names}
 use Rattle.problem_texts.proofs.program_writing.put_vars.Given as goal
 
--- the names so far, but for the first
+-- the names so far, except the first
 abbrev pub invariant-loop-k : goal.invariant-loop-k
 invariant-loop-k l = l.out.items ≡ l.initial.out.items ++ later_names (λ k. name_of l.scope (Var k)) (l.k - 1)

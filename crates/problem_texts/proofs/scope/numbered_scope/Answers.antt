@@ -1,4 +1,4 @@
--- Each name is new, and the scope has it after that.
+-- Each name is new, and the scope declares it afterwards.
 use Rattle.std.proofs.Common.{◌≡◌, ◌<◌, List, ℕ, sym, ap, ◌∙◌, subst, arith}
 use Rattle.text_scopes.specs.declared.meaning.Meaning.TheVariants.{Test, Action}
 use Rattle.text_scopes.specs.ScopeParts.{ScopeParts, Means, IsIdentifier, IsUndeclared, declared}

@@ -5,7 +5,7 @@ use Rattle.outline_diagrams.specs.StepFunctions.{IsStepDiagram, KeepsSteps, AreS
 use Rattle.simple_hyps.specs.HypothesisForms.{allows}
 use Rattle.simple_hyps.proofs.hypotheses.allowed_atoms.Given as goal
 
--- the set by the hypotheses so far
+-- the set of the atoms that the hypotheses so far allow
 abbrev pub invariant-loop-hyp : goal.invariant-loop-hyp
 invariant-loop-hyp l = record {
   function : IsStepDiagram l.diagrams l.set (λ before after. allows (map kat_tree (take l.hyp-index l.hyps)) (atom_at_moment l.moment before after));

@@ -4,7 +4,7 @@ use Rattle.outline_diagrams.specs.StepFunctions.{IsStepDiagram, KeepsSteps, AreS
 use Rattle.simple_hyps.specs.HypothesisForms.{some_rules_out}
 use Rattle.simple_hyps.proofs.hypotheses.ruled_out_steps.Given as goal
 
--- the steps by the hypotheses so far
+-- the steps that the hypotheses so far rule out
 abbrev pub invariant-loop-hyp : goal.invariant-loop-hyp
 invariant-loop-hyp l = record {
   function : IsStepDiagram l.diagrams l.steps (some_rules_out (map kat_tree (take l.hyp-index l.hyps)) l.action);

@@ -1,4 +1,4 @@
--- The text is the word whose bytes were read in it. `search` tells so itself at words of up to four bytes.
+-- The text is the word whose bytes were matched. `search` proves this itself for words of up to four bytes.
 use Rattle.std.proofs.Common.{◌≡◌, ℕ, List, length, sym, ap, ◌∙◌, arith, rules}
 use Rattle.std.proofs.lemmas.Slice.Eq.{HasBytesAt, text_from_reads}
 use Rattle.std.specs.Prelude.{codes}

@@ -5,7 +5,7 @@ use Rattle.text_tokens.specs.Lex.{LexesFrom}
 use Rattle.text_tokens.specs.TokenParts.{TokenParts, parts_of_tokens}
 use Rattle.text_tokens.proofs.lexer.tokens.Given as goal
 
--- the rest is what stands from the place on, and its tokens are those that follow the ones found
+-- `rest` is the text from `at` on, and its tokens continue those found so far
 abbrev pub invariant-loop-rest : goal.invariant-loop-rest
 invariant-loop-rest l = record {
   utf8 : shadow (Utf8 l.rest);

@@ -13,6 +13,6 @@ invariant-loop-term l = record {
   ordered : IsStrictlySortedBy nat_cmp l.all.keys;
 }
 
--- the greatest id that is pending falls
+-- the greatest pending id decreases
 abbrev pub decreases-loop-term : goal.decreases-loop-term
 decreases-loop-term l = bound_of l.pending.keys

@@ -13,6 +13,6 @@ invariant-loop-test l = record {
   ordered : IsStrictlySortedBy nat_cmp l.all.keys;
 }
 
--- the greatest id that is pending falls
+-- the greatest pending id decreases
 abbrev pub decreases-loop-test : goal.decreases-loop-test
 decreases-loop-test l = bound_of l.pending.keys

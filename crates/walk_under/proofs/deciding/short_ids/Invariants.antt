@@ -8,7 +8,7 @@ use Rattle.term_nodes.specs.Growth.{Grows}
 use Rattle.partial_derivs.specs.Moves.{IsTermOf}
 use Rattle.walk_under.proofs.deciding.short_ids.Given as goal
 
--- the short ones so far, and those among the rest
+-- the short hypotheses so far and those among the rest are all short hypotheses
 abbrev pub invariant-loop-hyp : goal.invariant-loop-hyp
 invariant-loop-hyp l = record {
   kept : Grows l.initial.store l.store;

@@ -8,7 +8,7 @@ use Rattle.walk_under.specs.Working.Merging.{IsMergedPair, AreFirst}
 use Rattle.walk_under.proofs.MergedIds.{AreCovered}
 use Rattle.walk_under.proofs.merging.merged_pairs.Given as goal
 
--- the entries so far have their pairs
+-- each entry so far has its pair
 abbrev pub invariant-loop-entry : goal.invariant-loop-entry
 invariant-loop-entry l = record {
   grows : Grows l.initial.store l.store;

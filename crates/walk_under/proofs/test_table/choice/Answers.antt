@@ -7,7 +7,7 @@ use Rattle.term_nodes.proofs.Growing.{Grows-trans}
 use Rattle.walk_under.proofs.StoredTests.{test_kept, chosen_high, chosen_low, chosen_both}
 use Rattle.walk_under.proofs.test_table.choice.Goals as goal
 
--- the store after the primitive test and its negation
+-- the store grows over three steps
 grows_twice : (s t u v : NodeParts) → Grows s t → Grows t u → Grows u v → Grows s v
 grows_twice s t u v first second third = Grows-trans s t v first (Grows-trans t u v second third)
 

@@ -4,7 +4,7 @@ use Rattle.while_lang.specs.ProgramViews.{list_tree}
 use Rattle.while_lang.specs.Working.ProgramTexts.{stmts_text}
 use Rattle.while_lang.proofs.print.+prints.Given as goal
 
--- what is written, and the text of the statements that are left
+-- the text so far and that of the remaining statements are the whole text
 abbrev pub invariant-put_stmts-loop-stmt : goal.invariant-put_stmts-loop-stmt
 invariant-put_stmts-loop-stmt l =
     l.out.items ++ stmts_text (name_of l.scope) (list_tree (drop l.stmt-index l.stmt-items)) ≡ l.initial.out.items ++ stmts_text (name_of l.scope) (list_tree l.stmt-items)

@@ -6,7 +6,7 @@ use Rattle.while_lang.specs.Runs.{condition}
 use Rattle.while_lang.specs.Working.Running.{run_end, loop_end}
 use Rattle.while_lang.proofs.runs.+runs.Given as goal
 
--- the run of all is the run of what is left
+-- the run of all statements is the run of the remaining ones from here
 abbrev pub invariant-run_list-loop-stmt : goal.invariant-run_list-loop-stmt
 invariant-run_list-loop-stmt l = record {
   fewer : l.turns ≤ l.initial.turns;
@@ -15,7 +15,7 @@ invariant-run_list-loop-stmt l = record {
   within : IsStore l.width l.store;
 }
 
--- the loop goes on as it began
+-- the loop from the start is the loop from here
 abbrev pub invariant-run_stmt-turns : goal.invariant-run_stmt-turns
 invariant-run_stmt-turns l = record {
   fewer : l.turns ≤ l.initial.turns;

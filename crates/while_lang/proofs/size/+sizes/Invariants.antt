@@ -4,7 +4,7 @@ use Rattle.while_lang.specs.ProgramSizes.{prog_size}
 use Rattle.while_lang.specs.ProgramViews.{list_tree}
 use Rattle.while_lang.proofs.size.+sizes.Given as goal
 
--- the total and the sizes that are left
+-- the total so far and the sizes of the remaining statements are the whole size
 abbrev pub invariant-prog_size-loop-stmt : goal.invariant-prog_size-loop-stmt
 invariant-prog_size-loop-stmt l = record {
   fits : l.total < 2 ^ 64;

@@ -3,7 +3,7 @@ use Rattle.test_diagrams.specs.Functions.{KeepsFunctions}
 use Rattle.bisim_worklist.proofs.Expanding.{StepsBy}
 use Rattle.bisim_worklist.proofs.walk.Walk.expand.Given as goal
 
--- the actions so far are gone through
+-- the actions so far are processed
 abbrev pub invariant-loop-act : goal.invariant-loop-act
 invariant-loop-act l = record {
   kept : KeepsFunctions l.initial.self.diagrams l.self.diagrams;

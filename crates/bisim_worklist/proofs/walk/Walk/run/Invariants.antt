@@ -11,6 +11,6 @@ invariant-loop-place l = record {
   limit : l.self.rules.limit ≡ l.initial.self.rules.limit;
 }
 
--- there are not many pairs
+-- the number of pairs is bounded
 abbrev pub decreases-loop-place : goal.decreases-loop-place
 decreases-loop-place l = pair_limit l.problem - l.place

@@ -4,7 +4,7 @@ use Rattle.cert_checker.specs.Working.Places.{IsPass, PassGrows}
 use Rattle.cert_checker.proofs.PairPlaces.{HoldsAtEach}
 use Rattle.cert_checker.proofs.pass.Pass.first_failure.Given as goal
 
--- the pairs gone through hold
+-- the processed pairs hold
 abbrev pub invariant-loop-pair : goal.invariant-loop-pair
 invariant-loop-pair l = record {
   pass : IsPass l.self;

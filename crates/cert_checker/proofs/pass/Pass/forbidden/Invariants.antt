@@ -3,7 +3,7 @@ use Rattle.kat_model.specs.Members.{Has}
 use Rattle.cert_checker.proofs.ForbiddenMoves.{forbidden_of}
 use Rattle.cert_checker.proofs.pass.Pass.forbidden.Given as goal
 
--- the targets that are left add their pairs, and their terms are those of which it is known where they accept
+-- the remaining targets add their pairs, and the acceptance tests of their terms are known
 abbrev pub invariant-loop-term : goal.invariant-loop-term
 invariant-loop-term l = record {
   pairs : l.forbidden.items ++ map (forbidden_of l.outputs.items) l.term-iterator ≡ l.initial.forbidden.items ++ map (forbidden_of l.outputs.items) l.initial.term-iterator;

@@ -3,7 +3,7 @@ use Rattle.cert_steps.specs.NodeTables.{AreTables}
 use Rattle.cert_steps.proofs.CertTables.{front_tests, front_terms}
 use Rattle.cert_steps.proofs.tables.Tables.of.Given as goal
 
--- the first nodes of the certificate
+-- the tables have the first nodes of the certificate
 abbrev pub invariant-loop-node : goal.invariant-loop-node
 invariant-loop-node l = record { tables : AreTables l.tables; nodes : l.tables ≡ front_tests l.width l.cert l.node-index }
 

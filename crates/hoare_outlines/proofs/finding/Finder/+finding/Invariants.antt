@@ -10,7 +10,7 @@ use Rattle.hoare_outlines.specs.Working.FoundLoops.{turn_term, stmt_turns, Grows
 use Rattle.hoare_outlines.proofs.LoopSteps.{outside_id}
 use Rattle.hoare_outlines.proofs.finding.Finder.+finding.Given as goal
 
--- the statements so far are found
+-- the statements so far are done
 abbrev pub invariant-after_flow-loop-stmt : goal.invariant-after_flow-loop-stmt
 invariant-after_flow-loop-stmt l = record {
   finder : IsFinder l.problem l.self;
@@ -20,7 +20,7 @@ invariant-after_flow-loop-stmt l = record {
   loops : LoopsSoFar l.problem l.stmt-items l.stmt-index l.initial.self l.self;
 }
 
--- the invariant holds the entry of the loop, and is reached from it along turns
+-- the invariant contains the entry of the loop, and is reached from it along turns
 abbrev pub invariant-after_loop-grows : goal.invariant-after_loop-grows
 invariant-after_loop-grows l = record {
   finder : IsFinder l.problem l.self;
@@ -30,6 +30,6 @@ invariant-after_loop-grows l = record {
   loops : KeepsLoops l.problem (stmt_turns (loop (test_tree l.guard) l.body)) l.fn.self l.self;
 }
 
--- it grows each time, so fewer atoms are outside
+-- the invariant grows in each round, so fewer atoms are outside
 abbrev pub decreases-after_loop-grows : goal.decreases-after_loop-grows
 decreases-after_loop-grows l = outside_id l.self.diagrams l.invariant'

@@ -2,7 +2,7 @@ use Rattle.std.proofs.Common.{◌+◌, ◌*◌, max}
 use Rattle.kat_model.proofs.tree.Kat.TheLaws.{the_size}
 use Rattle.kat_model.proofs.tree.Kat.+copies.Given as goal
 
--- The call for both parts lies between the call for the whole and those for each part.
+-- The measure of the call for both parts lies between the measures of the calls for the whole and for each part.
 abbrev pub decreases-copy : goal.decreases-copy
 decreases-copy l = 2 * the_size l.self.now
 

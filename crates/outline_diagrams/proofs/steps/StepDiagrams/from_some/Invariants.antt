@@ -2,7 +2,7 @@ use Rattle.outline_diagrams.specs.StepFunctions.{step_value, IsStepDiagram, Keep
 use Rattle.outline_diagrams.specs.Working.Quantified.{some_first}
 use Rattle.outline_diagrams.proofs.steps.StepDiagrams.from_some.Given as goal
 
--- some values of the tests so far
+-- the relation holds for some values of the tests so far
 abbrev pub invariant-loop-test : goal.invariant-loop-test
 invariant-loop-test l = record {
   function : IsStepDiagram l.self l.set (λ before after. some_first l.test (λ from. step_value l.fn.self l.fn.relation from after) before);

@@ -2,7 +2,7 @@ use Rattle.outline_diagrams.specs.StepFunctions.{step_value, IsStepDiagram, Keep
 use Rattle.outline_diagrams.specs.Working.Quantified.{with_first}
 use Rattle.outline_diagrams.proofs.steps.StepDiagrams.moved_before.Given as goal
 
--- the tests so far before the step in place of those after it
+-- after the step, the tests so far have their values from before the step
 abbrev pub invariant-loop-test : goal.invariant-loop-test
 invariant-loop-test l = record {
   function : IsStepDiagram l.self l.moved (λ before after. step_value l.fn.self l.fn.set before (with_first l.test before after));

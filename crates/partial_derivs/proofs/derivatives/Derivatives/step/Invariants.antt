@@ -6,7 +6,7 @@ use Rattle.partial_derivs.specs.Working.Unions.{IsUnionBy}
 use Rattle.partial_derivs.specs.Tables.{AreRight}
 use Rattle.partial_derivs.proofs.derivatives.Derivatives.step.Given as goal
 
--- the union of the terms so far
+-- the union has the steps of the terms so far
 abbrev pub invariant-loop-term : goal.invariant-loop-term
 invariant-loop-term l = record {
   union : IsUnionBy l.store l.diagrams (set_out (map (tree_at l.initial.store) (take l.term-index l.terms))) (set_next (map (tree_at l.initial.store) (take l.term-index l.terms))) l.whole;

@@ -8,7 +8,7 @@ use Rattle.test_diagrams.proofs.Results.{results_kept}
 use Rattle.test_diagrams.proofs.Growth.{HasBranch, has_branch}
 use Rattle.test_diagrams.proofs.diagrams.Diagrams.branch.Goals as goal
 
--- the branch is there, whether it was or was added
+-- the new collection has the branch, whether it was added or found
 grown : (c : goal.In_ok-index) → HasBranch (record { tests = c.self.inside.tests; nodes = c.self.inside.nodes.keys }) (record { tests = c.self.inside.tests; nodes = c.insert_full.new.self.keys }) c.args.test c.args.low c.args.high c.in_ok-index.index
 grown c =
     let fits : IsBranch c.args.self.now (length c.args.self.now.nodes) c.args.test c.args.low c.args.high = record {

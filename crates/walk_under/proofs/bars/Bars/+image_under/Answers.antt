@@ -55,7 +55,7 @@ image_under-requires-2 t c =
       ),
     )
 
--- functions are kept through each step
+-- functions are kept over all steps
 all_kept : (a b e f : DiagramsParts) → KeepsFunctions a b → KeepsFunctions b e → KeepsFunctions e f → KeepsFunctions a f
 all_kept a b e f ab be ef = KeepsFunctions-trans a b f ab (KeepsFunctions-trans b e f be ef)
 

@@ -12,14 +12,14 @@ use Rattle.walk_under.proofs.StoredTests.{test_same}
 use Rattle.walk_under.proofs.DiagramTests.{constant_value, least_past, fixed_free, free_kept, chosen_value, test_later, table_later}
 use Rattle.walk_under.proofs.test_table.TestTable.+test_from.Goals as goal
 
--- what is kept through each step
+-- functions are kept over all steps
 all_kept : (a b d e : DiagramsParts) → KeepsFunctions a b → KeepsFunctions b d → KeepsFunctions d e → KeepsFunctions a e
 all_kept a b d e ab bd de = KeepsFunctions-trans a b e ab (KeepsFunctions-trans b d e bd de)
 
 all_grow : (a b d e : NodeParts) → Grows a b → Grows b d → Grows d e → Grows a e
 all_grow a b d e ab bd de = Grows-trans a b e ab (Grows-trans b d e bd de)
 
--- with the least test set in a later collection
+-- a diagram with its least test fixed, in a later collection
 later_free : (b c d : DiagramsParts) (id high test : ℕ) (value : Bool) → KeepsFunctions b c → KeepsFunctions c d → IsDiagramId b id → IsLeastTest b id test → IsFixedTo c d test value id high → IsFree d high (test + 1)
 later_free b c d id high test value first second own least fixed =
     fixed_free b d id high test value (second.tests ∙ first.tests) least

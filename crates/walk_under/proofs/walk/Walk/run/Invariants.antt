@@ -12,6 +12,6 @@ invariant-loop-place l = record {
   kept : Grows l.initial.store l.store;
 }
 
--- there are not many pairs
+-- the number of pairs is bounded
 abbrev pub decreases-loop-place : goal.decreases-loop-place
 decreases-loop-place l = walk_limit l.store l.self.diagrams.tests l.self.listing.entries.items - l.place

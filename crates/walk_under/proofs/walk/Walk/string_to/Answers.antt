@@ -226,7 +226,7 @@ place_at-place-requires-clause-listed c x here =
     c.source.new.diagrams (KeepsFunctions-trans w.diagrams v.diagrams c.source.new.diagrams b.kept c.in_ok-before.ensures.kept) c.as_slice.result.now (c.as_slice.ensures.value ∙ ap (λ x. x.items) c.replace.ensures.after)
     x (ap (λ (l : Listing). slice_get l.entries.items o.place) (sym b.listing) ∙ here))
 
--- the place is found for the walk as it began
+-- the place that is found is one for the walk at the start
 placed_by : (w v : Walk) (d : DiagramsParts) (from place : ℕ) (atom first' : Atom) → atom ≡ first' → v.listing ≡ w.listing → ((e : EntryParts) → slice_get v.listing.entries.items from ≡ Some e → IsPlaceWith d v.listing.entries.items e atom place)
     → (e : EntryParts) → slice_get w.listing.entries.items from ≡ Some e → IsPlaceWith d w.listing.entries.items e first' place
 placed_by w v d from place atom first' same listing placed e at =

@@ -13,6 +13,6 @@ invariant-loop-origin l = record {
   each : (s : Setting) → IsUnderWay s l.initial.self l.fn.place → (d : IsDifference s l.initial.self l.fn.place l.fn.last.items) → IsSoFar s l.initial.self d.from.level l.place l.first.items l.moves.items;
 }
 
--- one move less leads to the pair before
+-- the level of the previous pair is smaller
 abbrev pub decreases-loop-origin : goal.decreases-loop-origin
 decreases-loop-origin l = level_at l.initial.self.listing.entries.items l.place
