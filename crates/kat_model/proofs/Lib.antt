@@ -1,3 +1,5 @@
+pub mod Numbers
+pub mod Options
 pub mod Lists
 pub mod Filters
 pub mod Places

@@ -3,7 +3,7 @@ use Rattle.std.proofs.Common.{◌≡◌, ℕ, ◌⊎◌, inl, inr, ⊎_elim, Lis
 use Rattle.std.specs.List.{list_any, flat_map}
 use Rattle.std.proofs.lemmas.Bool.{false≢true, eqb-true, eq-eqb, or_cases, or_left, or_right}
 use Rattle.kat_model.specs.Trees.{Term, one, act, product}
-use Rattle.kat_model.specs.Members.{Has, SameMembers}
+use Rattle.kat_model.specs.Members.{Has, SameMembers, HasNoDoubles}
 use Rattle.kat_model.specs.Steps.{Atom, dot, out, next}
 
 module _ {X : Type 0} where
@@ -29,6 +29,25 @@ module _ {X : Type 0} where
   any_has p [] x h t = absurd h
   any_has p (y ∷ xs) x h t =
       ⊎_elim (λ e. or_left (p y) (list_any p xs) (ap p e ∙ t)) (λ k. or_right (p y) (list_any p xs) (any_has p xs x k t)) h
+
+  pub has_at : (xs : List X) (y : X) (ys : List X) → Has (xs ++ y ∷ ys) y
+  has_at xs y ys = has_right xs (y ∷ ys) y (inl refl)
+
+  pub has_pushed : (xs : List X) (x y : X) → Has (xs ++ x ∷ []) y → Has xs y ⊎ (x ≡ y)
+  has_pushed xs x y h = ⊎_elim inl (λ k. ⊎_elim inr absurd k) (has_append xs (x ∷ []) y h)
+
+  pub no_doubles_pushed : (xs : List X) (x : X) → HasNoDoubles xs → (Has xs x → ⊥) → HasNoDoubles (xs ++ x ∷ [])
+  no_doubles_pushed [] x none lacks = ((λ h. h), tt)
+  no_doubles_pushed (y ∷ xs) x none lacks = (
+    (λ h. ⊎_elim none.0 (λ e. lacks (inl (sym e))) (has_pushed xs x y h)),
+    no_doubles_pushed xs x none.1 (λ h. lacks (inr h)),
+  )
+
+  -- in a list without doubles a member does not occur earlier
+  pub no_earlier : (xs : List X) (y : X) (ys : List X) → HasNoDoubles (xs ++ y ∷ ys) → Has xs y → ⊥
+  no_earlier [] y ys none h = h
+  no_earlier (x ∷ xs) y ys none h =
+      ⊎_elim (λ e. none.0 (subst (λ z. Has (xs ++ y ∷ ys) z) (sym e) (has_at xs y ys))) (no_earlier xs y ys none.1) h
 
   pub same_members_sym : (xs ys : List X) → SameMembers xs ys → SameMembers ys xs
   same_members_sym xs ys s x = ((s x).1, (s x).0)

@@ -1,5 +1,5 @@
 -- Tests and terms of Kleene algebra with tests as trees (Kozen 1997), without the addresses of the boxes.
-use Rattle.std.specs.Prelude.{ℕ, ◌+◌, max}
+use Rattle.std.specs.Prelude.{ℕ, ◌+◌, max, Bool, true, false, ◌&&◌}
 use Rattle.kat_model.specs.declared.tree.Test.{Test}
 use Rattle.kat_model.specs.declared.tree.Test.TheVariants.{False, True, Prim, Not', And', Or'}
 use Rattle.kat_model.specs.declared.tree.Kat.{Kat}
@@ -42,6 +42,16 @@ kat_tree (Act a) = act a
 kat_tree (Sum' p e q f) = sum (kat_tree e) (kat_tree f)
 kat_tree (Seq' p e q f) = product (kat_tree e) (kat_tree f)
 kat_tree (Star' p e) = star (kat_tree e)
+
+-- whether the term is a test: it has neither an action nor a star
+abbrev pub is_test : Term → Bool
+is_test zero = true
+is_test one = true
+is_test (test b) = true
+is_test (act a) = false
+is_test (sum e f) = is_test e && is_test f
+is_test (product e f) = is_test e && is_test f
+is_test (star e) = false
 
 -- the number of nodes
 abbrev pub test_size : TestTree → ℕ

@@ -20,8 +20,8 @@ pub use laws::{
     tested_pairs_are_bounded, universal_accepts, untested_are_accepted,
 };
 pub use limits::{
-    MAX_ACTIONS, MAX_EXPR_NODES, MAX_HYPS, MAX_OPEN, MAX_TERM_NODES, MAX_TESTS, MAX_TEXT_BYTES,
-    MAX_TEXT_NODES,
+    MAX_ACTIONS, MAX_EXPR_NODES, MAX_GOALS, MAX_HYPS, MAX_OPEN, MAX_ROUNDS, MAX_TERM_NODES,
+    MAX_TESTS, MAX_TEXT_BYTES, MAX_TEXT_NODES, MAX_VARS,
 };
 pub use problem::{BadProblem, Problem};
 pub use tree::{Kat, NoMemory, Test};

@@ -6,6 +6,15 @@ pub const MAX_TESTS: usize = 48;
 /// The maximum number of actions of a problem.
 pub const MAX_ACTIONS: usize = 48;
 
+/// The maximum number of variables of a text.
+pub const MAX_VARS: usize = 64;
+
+/// The maximum number of rounds that a text may ask for.
+pub const MAX_ROUNDS: u64 = 16;
+
+/// The maximum number of goals of a text.
+pub const MAX_GOALS: usize = 64;
+
 /// The maximum number of nodes of a problem, hypotheses and sides together; in a text, also of an item and of a part of
 /// a goal.
 pub const MAX_TERM_NODES: u64 = 100_000;

@@ -1,6 +1,6 @@
 //! Tests and terms.
 ghost use Rattle.std.specs.Prelude.{◌≡◌, ◌<◌, length, IfOk};
-ghost use Rattle.kat_model.specs.Trees.{complement, meet, join, sum, product, star, test_tree, kat_tree, test_size, term_size, term_height, acts};
+ghost use Rattle.kat_model.specs.Trees.{complement, meet, join, sum, product, star, test_tree, kat_tree, test_size, term_size, term_height, acts, is_test as is_test'};
 ghost use Rattle.kat_model.specs.Steps.{truth};
 ghost use Rattle.kat_model.specs.Problems.{counted, IsTestInRange};
 
@@ -146,6 +146,17 @@ impl Kat {
         ensures { IfOk result (λ e. kat_tree e ≡ star (kat_tree inner)) }
     {
         Ok(Kat::Star(Box::new(alloc, inner)?))
+    }
+
+    /// Returns whether the term is a test: it has neither an action nor a star.
+    pub fn is_test(&self) -> bool
+        ensures { result ≡ is_test' (kat_tree self.now) }
+    {
+        match self {
+            Kat::Zero | Kat::One | Kat::Test(_) => true,
+            Kat::Act(_) | Kat::Star(_) => false,
+            Kat::Sum(e, f) | Kat::Seq(e, f) => e.is_test() && f.is_test(),
+        }
     }
 
     /// Returns a copy of the tree. Fails only when out of memory.
