@@ -1,12 +1,11 @@
 #!/usr/bin/env python3
-"""Writes the list of definitions in docs/definitions.md from the comments in the crates' specs/.
+"""Prints the definitions of the crates' specs/, or checks the names on docs/definitions.md.
 
-    docs/definitions.py [--check]
+    docs/definitions.py [CRATE..]    for each crate (all, without a name) and each file of its specs/: the first comment
+                                     of the file, and each public definition with the comment over it
+    docs/definitions.py --check      ends with 1 if docs/definitions.md names what no file of specs/ defines
 
-The list stands between two marker lines of the page: for each file its first comment, and each public definition with
-the comment over it; one without a comment is left out. The rest of the page is written by hand. With --check nothing
-is written; the status is 1 where the list is not what the sources give, or where a name in the rest of the page is in
-no file of specs/.
+A definition without a comment is left out, and so are laws, which docs/proofs.md lists.
 """
 
 import re
@@ -15,10 +14,6 @@ from pathlib import Path
 
 TOP = Path(__file__).resolve().parent.parent
 PAGE = TOP / "docs/definitions.md"
-BEGIN, END = "<!-- The list begins. docs/definitions.py writes it. -->\n", "<!-- The list ends. -->\n"
-# The crates and files that are listed. The laws are in docs/proofs.md.
-LISTED = ["kat_model", "goal_forms", "problem_file", "linear_forms", "while_lang", "one_loop", "abstraction", "abstract_texts", "chain_rules", "chain_proofs", "bench_problems/Generator", "simple_hyps/TestTerms", "outline_notes", "outline_rules", "gkat_terms", "gkat_front", "optimiser_theory", "term_nodes", "string_tables", "certificate",
-          "cert_checker/Answers", "bisim_worklist/StoredTerms", "kat_report", "problem_texts", "kat_io/Outside", "tool_commands", "tool_inputs", "tool_decide", "tool_check", "tool_outline", "tool_programs", "kat_tool"]
 DEFINITION = re.compile(r"(?:abbrev|opaque|unfoldable) pub (\S+)|pub (?:abbrev|opaque|record|data) (\S+)")
 
 
@@ -38,23 +33,15 @@ def definitions(text):
     return first or "", found
 
 
-def escaped(comment):
-    """A comment as text of the page, in which nothing is markup but what it has in backquotes."""
-    parts = comment.split("`")
-    return "`".join(part if at % 2 else re.sub(r"([\\*_<>|\[\]])", r"\\\1", part) for at, part in enumerate(parts))
-
-
-def listed():
-    lines = []
-    for name in LISTED:
-        crate, _, one = name.partition("/")
-        lines += [f"### `{crate}`", ""]
-        for path in sorted((TOP / "crates" / crate / "specs").glob(f"{one or '*'}.antt")):
-            first, found = definitions(path.read_text())
-            if found and path.stem not in ("Laws", "Lib"):
-                lines += [f"`{path.stem}`: {escaped(first)}", ""]
-                lines += [f"- `{it}`: {escaped(comment)}" for it, comment in found] + [""]
-    return "\n".join(lines) + "\n"
+def listed(crate):
+    """The lines of a crate."""
+    lines = [f"## {crate}", ""]
+    for path in sorted((TOP / "crates" / crate / "specs").glob("*.antt")):
+        first, found = definitions(path.read_text())
+        if found and path.stem not in ("Laws", "Lib"):
+            lines += [f"{path.stem}: {first}", ""]
+            lines += [f"- {it}: {comment}" for it, comment in found] + [""]
+    return lines
 
 
 def lost(page):
@@ -66,23 +53,20 @@ def lost(page):
     return sorted(set(re.findall(r"`([A-Za-z_]\w*)`", page)) - known)
 
 
-def main():
-    page = PAGE.read_text()
-    before, begin, rest = page.partition(BEGIN)
-    _, end, after = rest.partition(END)
-    if not begin or not end:
-        sys.exit("docs/definitions.py: docs/definitions.md lacks a marker line")
-    wanted = before + BEGIN + "\n" + listed() + END + after
-    names = lost(before + after)
-    if "--check" not in sys.argv[1:]:
-        PAGE.write_text(wanted)
-    elif page != wanted:
-        print("docs/definitions.md is not what the sources give: run docs/definitions.py", file=sys.stderr)
-        return 1
-    if names:
-        print(f"docs/definitions.md names what no file of specs/ has: {', '.join(names)}", file=sys.stderr)
-    return int(bool(names))
+def main(words):
+    if words == ["--check"]:
+        names = lost(PAGE.read_text())
+        if names:
+            print(f"docs/definitions.md names what no file of specs/ has: {', '.join(names)}", file=sys.stderr)
+        return int(bool(names))
+    crates = words or sorted(path.name for path in (TOP / "crates").iterdir() if (path / "specs").is_dir())
+    unknown = [it for it in crates if not (TOP / "crates" / it).is_dir()]
+    if unknown:
+        print(f"docs/definitions.py: no such crate: {', '.join(unknown)}", file=sys.stderr)
+        return 2
+    print("\n".join(line for crate in crates for line in listed(crate)))
+    return 0
 
 
 if __name__ == "__main__":
-    sys.exit(main())
+    sys.exit(main(sys.argv[1:]))

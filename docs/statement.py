@@ -1,12 +1,13 @@
 #!/usr/bin/env python3
-"""Writes docs/statement.md: the clauses that carry the claim, with every definition that they stand on.
+"""Writes docs/statement.md: the clauses that carry the claim, with every definition behind them.
 
-    docs/statement.py [--check]
+    docs/statement.py            writes the page, which has the first three parts
+    docs/statement.py --part N   prints part N of PARTS, without the definitions of earlier parts
+    docs/statement.py --check    ends with 1 if the page is not what the sources give, if README.md does not have the
+                                 count of the first part, or if that part is longer than a few pages
 
 It follows definitions by name through the `use` lines of the crates' specs/, from the clauses named in PARTS. Each
-definition stands once, after those that it needs, with its file and line; the counts stand at the end of each part.
-With --check nothing is written; the status is 1 where the page is not what the sources give, where README.md does not
-have the count of the first part, or where that part is longer than a few pages.
+definition occurs once, after those that it needs, with its file and line. Each part ends with its counts.
 """
 
 import re
@@ -16,6 +17,7 @@ from pathlib import Path
 
 TOP = Path(__file__).resolve().parent.parent
 PAGE = TOP / "docs/statement.md"
+ON_PAGE = 3
 MOST_LINES = 350
 
 
@@ -236,43 +238,66 @@ def roots_of(part, specs, lines):
     return roots
 
 
-def page():
-    """The page, and the lines of definitions of its first part."""
-    specs, placed, first = Specs(), set(), None
-    lines = ["# The statement", "",
-             "The clauses that carry the claim of `kat`, and behind each all definitions that it stands on, each once and "
-             "after those that it needs. `docs/statement.py` writes this page from the sources, and the gate compares it "
-             "with them. README.md says in words what the first part says.", ""]
+def parts(specs):
+    """Each part as lines, with the number of its lines of definitions."""
+    placed = set()
     for number, part in enumerate(PARTS, 1):
-        lines += [f"## {number}. {part.title}", "", part.about, ""]
+        lines = [f"## {number}. {part.title}", "", part.about, ""]
         gathered = specs.gather(roots_of(part, specs, lines), part.later, placed)
         lines += shown(gathered)
         total, bare = counted(gathered)
-        first = total if first is None else first
         lines += [f"{total} lines of definitions, {bare} without comments, in {len({it.path for it in gathered})} files.", ""]
+        yield lines, total
+
+
+def page():
+    """The page, and the lines of definitions of its first part."""
+    specs = Specs()
+    found = [part for part, _ in zip(parts(specs), range(ON_PAGE))]
+    lines = ["# The statement", "",
+             "The clauses that carry the claim of `kat`, and all definitions behind them, each once and after those that it "
+             "needs. Part 1 is what a sceptic should read first; README.md says in words what it says. "
+             "`docs/statement.py` writes this page from the sources, and the gate compares it with them.", "",
+             "Other clauses with their definitions: " + "; ".join(
+                 f"`docs/statement.py --part {number}`: {part.title.lower()}"
+                 for number, part in enumerate(PARTS[ON_PAGE:], ON_PAGE + 1)) + ".", ""]
+    lines += [line for part, _ in found for line in part]
     modules = sorted({module.removeprefix("Rattle.") for module, _ in specs.kit if ".declared." not in module})
     lines += ["## Not counted", "",
-              "Types of the program, which clauses see as records and variants, stand in the sources. Of the standard "
-              "library these modules are behind the definitions: " + ", ".join(f"`{it}`" for it in modules) + ". Names in "
-              "texts are those of Unicode's tables of `XID_Start` and `XID_Continue`, by the kit's `unicode_ident`; the first "
-              "part needs none of them.", ""]
-    return "\n".join(lines), first
+              "The program's types, which clauses see as records and variants, are in the sources. The definitions use these "
+              "modules of the standard library: " + ", ".join(f"`{it}`" for it in modules) + ". Names in texts are those of "
+              "Unicode's tables of `XID_Start` and `XID_Continue`, by the kit's `unicode_ident`; the first part needs none of "
+              "them.", ""]
+    return "\n".join(lines), found[0][1]
 
 
-def main():
+def print_part(word):
+    if not word.isdecimal() or not 1 <= int(word) <= len(PARTS):
+        sys.exit(f"docs/statement.py: the parts are 1 to {len(PARTS)}")
+    *_, (lines, _) = (part for part, _ in zip(parts(Specs()), range(int(word))))
+    print("\n".join(lines))
+
+
+def check():
     text, first = page()
-    if sys.argv[1:] == ["--check"]:
-        if first > MOST_LINES:
-            sys.exit(f"docs/statement.md: the first part has {first} lines of definitions, more than {MOST_LINES}")
-        if f"{first} lines of definitions" not in (TOP / "README.md").read_text():
-            sys.exit(f"README.md does not say that the first part of docs/statement.md has {first} lines of definitions")
-        if PAGE.read_text() != text:
-            sys.exit("docs/statement.md is not what the sources give; docs/statement.py writes it")
-    elif sys.argv[1:]:
+    if first > MOST_LINES:
+        sys.exit(f"docs/statement.md: the first part has {first} lines of definitions, more than {MOST_LINES}")
+    if f"{first} lines of definitions" not in (TOP / "README.md").read_text():
+        sys.exit(f"README.md does not say that the first part of docs/statement.md has {first} lines of definitions")
+    if PAGE.read_text() != text:
+        sys.exit("docs/statement.md is not what the sources give: run docs/statement.py")
+
+
+def main(words):
+    if words == ["--check"]:
+        check()
+    elif len(words) == 2 and words[0] == "--part":
+        print_part(words[1])
+    elif words:
         sys.exit(__doc__)
     else:
-        PAGE.write_text(text)
+        PAGE.write_text(page()[0])
 
 
 if __name__ == "__main__":
-    main()
+    main(sys.argv[1:])
