@@ -1,6 +1,6 @@
 -- The comparisons that rounds append. A comparison that was not appended once is not appended later, so only new
 -- comparisons need substitution.
-use Rattle.std.proofs.Common.{◌≡◌, ℕ, zero, suc, ◌+◌, ◌-◌, ◌<◌, ◌≤◌, Bool, true, false, not, cond, nat_lt, List, [], ◌∷◌, ◌++◌, length, take, drop, get_or, ◌⊎◌, inl, inr, ⊎_elim, refl, sym, ap, subst, ◌∙◌, arith}
+use Rattle.std.proofs.Common.{◌≡◌, ℕ, zero, suc, ◌+◌, ◌-◌, ◌<◌, ◌≤◌, Bool, true, false, not, cond, nat_lt, List, [], ◌∷◌, ◌++◌, length, take, drop, get_or, ◌⊎◌, inl, inr, ⊎_elim, refl, sym, ap, subst, ◌∙◌, arith, nat_le}
 use Rattle.std.specs.List.{list_any, flat_map}
 use Rattle.std.proofs.lemmas.List.{length-append, append-nil, append_assoc, take-append-drop, drop_more, drop_all, take_at}
 use Rattle.std.proofs.lemmas.List.Concat.{flat_map-append}
@@ -11,6 +11,7 @@ use Rattle.abstraction.specs.Comparisons.{Assignment, atomics}
 use Rattle.abstraction.specs.Tables.{is_same_comparison}
 use Rattle.abstraction.specs.Rounds.{is_appended, append_all, substitutions, round, rounds}
 use Rattle.abstraction.proofs.SameRows.{is_same_comparison-same}
+use Rattle.abstraction.specs.declared.rounds.TheConstants.{MAX_APPENDED_NODES}
 
 list_any-append : {X : Type 0} (p : X → Bool) (xs ys : List X) → list_any p xs ≡ true → list_any p (xs ++ ys) ≡ true
 list_any-append p [] ys h = absurd (true≢false (sym h))
@@ -28,7 +29,7 @@ module _ (most : ℕ) where
 
   -- the reasons why a comparison is not appended
   abbrev Refused : List Atomic → Atomic → Type 0
-  Refused table a = (list_any (is_same_comparison a) table ≡ true) ⊎ ((nat_lt (atomic_nodes a) 1001 ≡ false) ⊎ (most ≤ length table))
+  Refused table a = (list_any (is_same_comparison a) table ≡ true) ⊎ ((nat_le (atomic_nodes a) MAX_APPENDED_NODES ≡ false) ⊎ (most ≤ length table))
 
   refused : (table : List Atomic) (a : Atomic) → is_appended most table a ≡ false → Refused table a
   refused table a h = by_there (list_any (is_same_comparison a) table) refl
@@ -37,13 +38,13 @@ module _ (most : ℕ) where
       by_there true e = inl e
       by_there false e =
           ⊎_elim (λ k. inr (inl k)) (λ k. inr (inr (ltb-false (length table) most k)))
-          (and_cases (nat_lt (atomic_nodes a) 1001) (nat_lt (length table) most) (rw (e) at h))
+          (and_cases (nat_le (atomic_nodes a) MAX_APPENDED_NODES) (nat_lt (length table) most) (rw (e) at h))
 
   not_appended : (table : List Atomic) (a : Atomic) → Refused table a → is_appended most table a ≡ false
   not_appended table a (inl h) = rw (h) refl
-  not_appended table a (inr (inl h)) = and_right (not (list_any (is_same_comparison a) table)) _ (and_left (nat_lt (atomic_nodes a) 1001) (nat_lt (length table) most) h)
+  not_appended table a (inr (inl h)) = and_right (not (list_any (is_same_comparison a) table)) _ (and_left (nat_le (atomic_nodes a) MAX_APPENDED_NODES) (nat_lt (length table) most) h)
   not_appended table a (inr (inr h)) =
-      and_right (not (list_any (is_same_comparison a) table)) _ (and_right (nat_lt (atomic_nodes a) 1001) (nat_lt (length table) most) (le-ltb (length table) most h))
+      and_right (not (list_any (is_same_comparison a) table)) _ (and_right (nat_le (atomic_nodes a) MAX_APPENDED_NODES) (nat_lt (length table) most) (le-ltb (length table) most h))
 
   refused_later : (table more : List Atomic) (a : Atomic) → Refused table a → Refused (table ++ more) a
   refused_later table more a (inl h) = inl (list_any-append (is_same_comparison a) table more h)
@@ -189,7 +190,7 @@ module _ (most : ℕ) where
   one_more : (table : List Atomic) (x : Atomic) (b : Bool) → is_appended most table x ≡ b → length table ≤ most → length (cond b (table ++ x ∷ []) table) ≤ most
   one_more table x true e le =
       let p = and_parts (not (list_any (is_same_comparison x) table)) _ e in
-      let q = and_parts (nat_lt (atomic_nodes x) 1001) (nat_lt (length table) most) p.1 in
+      let q = and_parts (nat_le (atomic_nodes x) MAX_APPENDED_NODES) (nat_lt (length table) most) p.1 in
       omega (arith, length-append table (x ∷ []), ltb-true (length table) most q.1)
   one_more table x false e le = le
 
@@ -200,3 +201,8 @@ module _ (most : ℕ) where
   pub rounds_length : (m : ℕ) (assigned : List Assignment) (n : ℕ) (table : List Atomic) → length table ≤ most → length (rounds n m most assigned table) ≤ most
   rounds_length m assigned zero table h = h
   rounds_length m assigned (suc n) table h = rounds_length m assigned n (round m most assigned table) (append_all_length table (substitutions m assigned table) h)
+
+-- rounds without assignments and comparisons append nothing
+pub no_rounds : (n m most : ℕ) → rounds n m most [] [] ≡ []
+no_rounds zero m most = refl
+no_rounds (suc n) m most = no_rounds n m most

@@ -1,5 +1,5 @@
 -- Rows with their numbers, and an additional row at the end.
-use Rattle.std.proofs.Common.{◌≡◌, ℕ, ◌+◌, ◌<◌, List, [], ◌∷◌, ◌++◌, length, take, map, get_or, sym, ap, ◌∙◌, arith}
+use Rattle.std.proofs.Common.{◌≡◌, ℕ, ◌+◌, ◌<◌, List, [], ◌∷◌, ◌++◌, length, take, map, get_or, refl, sym, ap, ◌∙◌, arith}
 use Rattle.std.proofs.lemmas.List.{take_more, map_more, length-map, length-take-le}
 use Rattle.std.specs.List.{enumerate_from}
 use Rattle.kat_model.specs.Trees.{Term, kat_tree}
@@ -36,3 +36,8 @@ stated_from-more hs i h e lt at same =
     let place : i ≡ 0 + length front = omega arith in
     ap (λ k. stated_from 0 front ++ record { rule = Stated k; term = e } ∷ []) place ∙ sym (stated_from-push 0 front e)
     ∙ ap (λ x. stated_from 0 (front ++ x ∷ [])) (same ∙ ap kat_tree at) ∙ ap (stated_from 0) (sym (map_more kat_tree hs i h lt))
+
+-- the terms of the stated hypotheses are the hypotheses
+pub stated_terms : (k : ℕ) (hs : List Term) → map (λ h. h.term) (stated_from k hs) ≡ hs
+stated_terms k [] = refl
+stated_terms k (h ∷ hs) = ap (λ (l : List Term). h ∷ l) (stated_terms (k + 1) hs)

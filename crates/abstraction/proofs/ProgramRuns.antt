@@ -1,6 +1,6 @@
 -- A program ends in the stores that its term relates, in a frame of stores whose tests and actions represent its
 -- conditions and assignments.
-use Rattle.std.proofs.Common.{◌≡◌, ℕ, zero, suc, ◌+◌, ◌⊎◌, inl, inr, ⊎_elim, ◌↔◌, List, [], ◌∷◌, refl, sym, ap, ◌∙◌, subst, Bool, true, false, set}
+use Rattle.std.proofs.Common.{◌≡◌, ℕ, zero, suc, ◌+◌, ◌⊎◌, inl, inr, ⊎_elim, ◌↔◌, List, [], ◌∷◌, refl, sym, ap, ◌∙◌, subst, true, false, set}
 use Rattle.std.proofs.lemmas.Bool.{not-true, not_from_false}
 use Rattle.kat_model.specs.Trees.{TestTree, complement, Term, test, product}
 use Rattle.kat_model.specs.Steps.{truth}
@@ -11,21 +11,11 @@ use Rattle.kat_model.specs.declared.expression.Width.{Width}
 use Rattle.kat_model.proofs.ProductRelations.{product_of_relations}
 use Rattle.linear_forms.specs.Arithmetic.{normal_form}
 use Rattle.while_lang.specs.Programs.{ProgTree, empty, skip_then, abort_then, assert_then, act_then, assign_then, branch_then, loop_then}
-use Rattle.while_lang.specs.Runs.{condition, Chosen, Leaves, Turns, Goes, Ends}
+use Rattle.while_lang.specs.Runs.{condition, Leaves, Turns, Goes, Ends}
 use Rattle.while_lang.specs.Encoding.{stmt_terms, encoded}
+use Rattle.while_lang.proofs.Choices.{chosen_parts, parts_chosen}
 use Rattle.abstraction.specs.Tables.{Tables}
 use Rattle.abstraction.specs.Tests.{cond_test, assignment_action, prog_flow}
-
--- the chosen part, by cases
-pub chosen_parts : {A B : Type 0} (b : Bool) → Chosen b A B → ((b ≡ true) × A) ⊎ ((b ≡ false) × B)
-chosen_parts true h = inl (refl, h)
-chosen_parts false h = inr (refl, h)
-
-pub parts_chosen : {A B : Type 0} (b : Bool) → ((b ≡ true) × A) ⊎ ((b ≡ false) × B) → Chosen b A B
-parts_chosen true (inl h) = h.1
-parts_chosen true (inr h) = absurd cc
-parts_chosen false (inl h) = absurd cc
-parts_chosen false (inr h) = h.1
 
 -- a test before a term: the test holds and the term relates
 module _ {S : Type 0} (frame : Frame S) where

@@ -1,5 +1,5 @@
 -- The functions that compare rows decide equality.
-use Rattle.std.proofs.Common.{arith, ◌≡◌, true, nat_eq, Decides, Ordering, Less, Equal, Greater, refl, ap}
+use Rattle.std.proofs.Common.{arith, ◌≡◌, true, nat_eq, Decides, refl, ap}
 use Rattle.std.specs.Ordering.{is_eq}
 use Rattle.std.proofs.lemmas.Bool.{false≢true, and_parts, and_from}
 use Rattle.std.proofs.lemmas.Bool.Decides.{nat_tests}
@@ -7,18 +7,13 @@ use Rattle.linear_forms.specs.Forms.{FormTree}
 use Rattle.linear_forms.specs.Order.{form_cmp}
 use Rattle.linear_forms.specs.declared.comparison.Atomic.{Atomic}
 use Rattle.linear_forms.specs.declared.comparison.Atomic.TheVariants.{Zero, Less as LessThan}
-use Rattle.linear_forms.proofs.SameOrder.{same_tree}
+use Rattle.linear_forms.proofs.SameOrder.{same_tree, is_eq-true}
 use Rattle.linear_forms.proofs.TotalOrder.{form_itself}
 use Rattle.abstraction.specs.Comparisons.{Assignment}
 use Rattle.abstraction.specs.Tables.{is_same_form, is_same_comparison, is_same_assignment}
 
-equal_order : (o : Ordering) → is_eq o ≡ true → o ≡ Equal
-equal_order Less h = absurd (false≢true h)
-equal_order Equal h = refl
-equal_order Greater h = absurd (false≢true h)
-
 pub is_same_form-true : (f g : FormTree) → is_same_form f g ≡ true → f ≡ g
-is_same_form-true f g h = same_tree f g (equal_order (form_cmp f g) h)
+is_same_form-true f g h = same_tree f g (is_eq-true (form_cmp f g) h)
 
 pub is_same_form-same : (f : FormTree) → is_same_form f f ≡ true
 is_same_form-same f = ap is_eq (form_itself f)

@@ -1,6 +1,7 @@
 -- The comparisons of a table are well formed, and its assignments set declared variables to well-formed forms.
 use Rattle.std.proofs.Common.{ℕ, zero, suc, ◌-◌, ◌<◌, List, [], ◌++◌, All, flat_map}
 use Rattle.std.proofs.lemmas.List.Elements.{All-nil, All-cons, All-append, All-weaker}
+use Rattle.kat_model.specs.declared.limits.TheConstants.{MAX_TESTS}
 use Rattle.kat_model.specs.Stores.{modulus}
 use Rattle.kat_model.specs.Expressions.{CondTree, always, never, named, compared, negation, both, either}
 use Rattle.linear_forms.specs.NormalForms.{IsForm}
@@ -122,7 +123,7 @@ assignments_in_range f r =
 
 pub comparisons_atomic : (f : FileParts) → IsGoalInRange f.tests f.actions f.vars f.goal → All (IsAtomic (modulus f.width)) (file_comparisons f)
 comparisons_atomic f r =
-    rounds_atomic (modulus f.width) (modulus_above_one f.width) f.vars f.rounds (48 - f.tests) (file_assignments f) (first_comparisons f)
+    rounds_atomic (modulus f.width) (modulus_above_one f.width) f.vars f.rounds (MAX_TESTS - f.tests) (file_assignments f) (first_comparisons f)
     (assignments_in_range f r)
     (All-with_all_new (IsAtomic (modulus f.width)) is_same_comparison [] (goal_comparisons (modulus f.width) f.goal)
     (All-nil (IsAtomic (modulus f.width)))

@@ -1,9 +1,9 @@
 -- The tests of conditions and the flows of programs, over tables, use only the numbers of the rows.
-use Rattle.std.proofs.Common.{◌≡◌, ℕ, ◌+◌, ◌<◌, ◌≤◌, Bool, true, false, cond, nat_lt, List, ◌++◌, length, Option, Some, None, option_map, unwrap_or, refl, arith}
+use Rattle.std.proofs.Common.{◌≡◌, ℕ, ◌+◌, ◌<◌, Bool, true, false, cond, nat_lt, List, ◌++◌, length, Option, Some, None, option_map, unwrap_or, refl, arith}
 use Rattle.std.specs.List.{position, position_or_len}
 use Rattle.std.proofs.lemmas.List.{length-append}
 use Rattle.std.proofs.lemmas.Bool.{ltb-true}
-use Rattle.kat_model.specs.Trees.{TestTree, bottom, top, prim, complement, meet, join, Term, zero, one, test, act, sum, product, star}
+use Rattle.kat_model.specs.Trees.{TestTree, bottom, prim, complement, Term, one, product}
 use Rattle.kat_model.specs.Balanced.{product_of}
 use Rattle.kat_model.specs.Problems.{IsTestInRange, IsInRange, AreInRange}
 use Rattle.kat_model.specs.Expressions.{CondTree, always, never, named, compared, negation, both, either}
@@ -20,26 +20,6 @@ use Rattle.problem_file.specs.Ranges.{IsCondInRange, IsProgInRange}
 use Rattle.abstraction.specs.Comparisons.{Assignment, prog_assignments}
 use Rattle.abstraction.specs.Tables.{Tables, is_same_comparison, is_same_assignment}
 use Rattle.abstraction.specs.Tests.{test_number, action_number, form_test, cond_test, assignment_action, prog_flow}
-
--- ---- additional tests and actions
-
-module _ (t a u b : ℕ) (tests : t ≤ u) (actions : a ≤ b) where
-  IsTestInRange-more : (e : TestTree) → IsTestInRange t e → IsTestInRange u e
-  IsTestInRange-more bottom h = tt
-  IsTestInRange-more top h = tt
-  IsTestInRange-more (prim k) h = omega arith
-  IsTestInRange-more (complement e) h = IsTestInRange-more e h
-  IsTestInRange-more (meet e f) h = (IsTestInRange-more e h.0, IsTestInRange-more f h.1)
-  IsTestInRange-more (join e f) h = (IsTestInRange-more e h.0, IsTestInRange-more f h.1)
-
-  pub IsInRange-more : (e : Term) → IsInRange t a e → IsInRange u b e
-  IsInRange-more zero h = tt
-  IsInRange-more one h = tt
-  IsInRange-more (test e) h = IsTestInRange-more e h
-  IsInRange-more (act k) h = omega arith
-  IsInRange-more (sum e f) h = (IsInRange-more e h.0, IsInRange-more f h.1)
-  IsInRange-more (product e f) h = (IsInRange-more e h.0, IsInRange-more f h.1)
-  IsInRange-more (star e) h = IsInRange-more e h
 
 product_of_in : (t a : ℕ) (es : List Term) → AreInRange t a es → IsInRange t a (product_of es)
 product_of_in t a =

@@ -10,6 +10,7 @@ use Rattle.kat_model.specs.declared.limits.TheConstants.{MAX_TESTS, MAX_ACTIONS,
 use Rattle.kat_model.proofs.Faults.{problem_has_no_fault}
 use Rattle.problem_file.specs.Files.{FileParts, SideTree, term_side, prog_side, GoalTree, equal, below, triple}
 use Rattle.problem_file.specs.Ranges.{IsSideInRange, IsGoalInRange}
+use Rattle.problem_file.proofs.NumberedStates.{IsInRange-more}
 use Rattle.abstraction.specs.declared.fault.AbstractFault.{AbstractFault}
 use Rattle.abstraction.specs.declared.fault.AbstractFault.TheVariants.{NoMemory, TooManyTests, TooManyActions, ProblemTooLarge}
 use Rattle.abstraction.specs.Comparisons.{side_assignments, goal_assignments}
@@ -20,7 +21,7 @@ use Rattle.abstraction.specs.Abstracts.{AbstractParts, abstract_of, abstract_par
 use Rattle.abstraction.specs.Working.FileTables.{IsWithinLimits}
 use Rattle.abstraction.proofs.CappedTables.{first_rows_some}
 use Rattle.abstraction.proofs.AppendedRows.{rounds_length}
-use Rattle.abstraction.proofs.TestRanges.{IsInRange-more, all_tests, all_actions, cond_test_in, encoded_in}
+use Rattle.abstraction.proofs.TestRanges.{all_tests, all_actions, cond_test_in, encoded_in}
 use Rattle.abstraction.proofs.HypothesisRanges.{hypotheses_in}
 
 module _ (t : Tables) (vars : ℕ) where
@@ -46,7 +47,7 @@ module _ (f : FileParts) (numbers : HasNumbersInRange f) (tests : f.tests + leng
       let t = tables_of f in
       let sides = sides_in t f.vars f.goal numbers.goal (first_rows_some is_same_assignment (goal_assignments (modulus f.width) f.goal)) in
       record {
-        tests = omega (arith, rounds_length (48 - f.tests) (modulus f.width) (file_assignments f) f.rounds (first_comparisons f) (omega arith));
+        tests = omega (arith, rounds_length (MAX_TESTS - f.tests) (modulus f.width) (file_assignments f) f.rounds (first_comparisons f) (omega arith));
         actions = actions;
         hyps = hypotheses_in t f.hyps numbers.hyps;
         left = sides.0;

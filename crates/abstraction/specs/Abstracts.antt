@@ -52,8 +52,8 @@ abstract_parts f = record {
   width = f.width;
 }
 
--- the abstraction of a file, or the reason for its absence: there are more than 48 tests before the rounds, or there
--- are more than 48 actions, or the problem has more than 100,000 nodes
+-- the abstraction of a file, or the reason for its absence: there are more than `MAX_TESTS` tests before the rounds, or
+-- there are more than `MAX_ACTIONS` actions, or the problem has more than `MAX_TERM_NODES` nodes
 abbrev pub abstract_of : FileParts → Result AbstractParts AbstractFault
 abstract_of f =
     if nat_lt MAX_TESTS (f.tests + length (first_comparisons f)) then Err TooManyTests

@@ -28,7 +28,8 @@ form_test t False = Some bottom
 form_test t (Pos a) = option_map prim (test_number t a)
 form_test t (Neg a) = option_map (λ k. complement (prim k)) (test_number t a)
 
--- the test of a condition; a comparison that is not in the table counts as false
+-- the test of a condition. Total: a comparison without a row is false, and an assignment without a row is action 0
+-- (`prog_flow`). The comparisons and assignments of the goal all have rows.
 abbrev pub cond_test : Tables → CondTree → TestTree
 cond_test t always = top
 cond_test t never = bottom

@@ -10,11 +10,11 @@ use std::alloc::AllocError;
 pub enum AbstractFault {
     /// Out of memory.
     NoMemory,
-    /// There are more than 48 tests: the declared ones and the comparisons of the goal.
+    /// There are more than `MAX_TESTS` tests: the declared ones and the comparisons of the goal.
     TooManyTests,
-    /// There are more than 48 actions: the declared ones and the assignments of the goal.
+    /// There are more than `MAX_ACTIONS` actions: the declared ones and the assignments of the goal.
     TooManyActions,
-    /// The problem has more than 100,000 nodes, including the derived hypotheses.
+    /// The problem has more than `MAX_TERM_NODES` nodes, including the derived hypotheses.
     ProblemTooLarge,
 }
 

@@ -147,10 +147,10 @@ fn make_abstract(alloc: Global, file: &File, goal: &Goal) -> Result<Abstract, Ab
 /// goal, then those that rounds of substitution add; its actions are the declared ones, then the assignments of the
 /// goal. Its hypotheses are the stated ones, then that a comparison holds after an assignment exactly when the
 /// substituted one holds before it, then facts of arithmetic. Fails when out of memory; with `TooManyTests` exactly
-/// when there are more than 48 tests before the rounds; otherwise with `TooManyActions` exactly when there are more
-/// than 48 actions; and otherwise with `ProblemTooLarge` exactly when the problem has more than 100,000 nodes. No
-/// derived hypothesis relates two stores of the file, and if both sides of the problem of a concrete file are the same,
-/// its goal holds for all its stores.
+/// when there are more than `MAX_TESTS` tests before the rounds; otherwise with `TooManyActions` exactly when there are
+/// more than `MAX_ACTIONS` actions; and otherwise with `ProblemTooLarge` exactly when the problem has more than
+/// `MAX_TERM_NODES` nodes. No derived hypothesis relates two stores of the file, and if both sides of the problem of a
+/// concrete file are the same, its goal holds for all its stores.
 pub fn abstracted_for(alloc: Global, file: &File, goal: &Goal) -> Result<Abstract, AbstractFault>
     requires numbers { HasNumbersInRange (with_goal file.now (goal_tree goal.now)) }
     ensures exact { IsAbstraction (with_goal file.now (goal_tree goal.now)) result }

@@ -48,7 +48,8 @@ fn action_table(alloc: Global, file: &File, goal: &Goal) -> Result<Vec<AssignedF
     Ok(rows)
 }
 
-/// Builds the tables of a file with this goal.
+/// Builds the tables of a file with this goal. Traverses the goal twice, for comparisons and for assignments, each time
+/// up to the limit: too many tests are reported before too many actions.
 pub(crate) fn file_tables(
     alloc: Global,
     file: &File,

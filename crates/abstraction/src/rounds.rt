@@ -96,8 +96,9 @@ fn copies(alloc: Global, atomics: &[Atomic]) -> Result<Vec<Atomic>, NoMemory>
     Ok(list)
 }
 
-/// Runs the rounds. Substitutes only in comparisons that are new since the previous round, because the others give no
-/// new rows, and stops when further rounds would append nothing.
+/// Runs the rounds. Substitutes only in comparisons that are new since the previous round, and stops when a round
+/// appends nothing: what was tried once is a row, too large, or past the limit, and stays so. The definition has all
+/// rounds.
 pub(crate) fn add_rounds(
     alloc: Global,
     width: Width,

@@ -1,4 +1,2 @@
 pub mod StoredTerms
-pub mod Walks
-pub mod Laws
 pub mod Working

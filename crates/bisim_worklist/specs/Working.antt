@@ -1,9 +1,1 @@
-pub mod Visits
-pub mod Listings
-pub mod Indices
-pub mod Marks
-pub mod Covers
-pub mod Cases
-pub mod IdWalks
-pub mod Walking
 pub mod Limits

@@ -1,29 +1,20 @@
 //! Decides a problem.
-ghost use Rattle.std.specs.Prelude.{◌≡◌, Err, IfOk, OnErr, IsTrue};
-ghost use Rattle.kat_model.specs.Problems.{IsProblem};
-ghost use Rattle.kat_model.specs.Closed.{closed};
+ghost use Rattle.std.specs.Prelude.{◌≡◌, ◌↔◌, IfOk, IsTrue};
+ghost use Rattle.kat_model.specs.Relations.{Same};
 ghost use Rattle.term_nodes.specs.NodeLists.{AreNodes};
-ghost use Rattle.term_nodes.specs.NodeTrees.{HasTree};
 ghost use Rattle.term_nodes.specs.Growth.{Grows};
-ghost use Rattle.certificate.specs.Decisions.{has_short as has_short', HasManyPairs, IsDecision};
+ghost use Rattle.certificate.specs.Decisions.{IsDecision};
+ghost use Rattle.walk_up_to.specs.Decisions.{IsWithinLimit};
 ghost use Rattle.bisim_worklist.specs.StoredTerms.{HasIdsOf};
 ghost use Rattle.bisim_worklist.specs.Working.Limits.{limit_of as limit_of'};
-ghost use Rattle.bisim_worklist.specs.Working.Marks.{IsWithinLimit};
-ghost use Rattle.bisim_worklist.specs.Working.Walking.{IsUnderWay};
-ghost use Rattle.bisim_worklist.specs.declared.halt.Halt.TheVariants.{PairLimit};
 
-use crate::halt::Halt;
-use crate::pair::stored_pairs_of;
-use crate::string::string_to;
-use crate::walk::Walk;
-use certificate::{Evidence, Style};
-use goal_forms::eliminate;
+use certificate::Evidence;
 use hypothesis_kinds::has_short;
 use kat_model::{NoMemory, Problem};
 use std::alloc::Global;
 use term_store::Store;
-use walk_pairs::{cert_of, closed_ids};
-use walk_under::decide_under;
+use walk_under::{decide_under, is_same_under};
+use walk_up_to::{EarlyStop, decide_up_to, is_same_up_to};
 
 // The maximal number of pairs of a certificate without tests, if tests can replace hypotheses.
 const UNTESTED_LIMIT: usize = 2_000;
@@ -39,66 +30,6 @@ fn limit_of(problem: &Problem) -> Option<usize>
     None
 }
 
-// Returns a walk of the problem over the store that has listed the pair of the closed sides.
-fn walk_of(alloc: Global, store: &mut Store, problem: &Problem) -> Result<Walk, NoMemory>
-    ensures under_way { IfOk result (λ w. IsProblem problem.now × IsUnderWay problem.now store.new w 0) }
-    ensures limit { IfOk result (λ w. w.rules.limit ≡ limit_of' problem.now) }
-    ensures left { IfOk result (λ w. HasTree store.new (closed problem.now).left) }
-    ensures right { IfOk result (λ w. HasTree store.new (closed problem.now).right) }
-    ensures kept { Grows store.old store.new }
-    ensures store { AreNodes store.new }
-{
-    // The proof needs the invariants of the store.
-    let _ = store.count();
-    let closed = eliminate(alloc, problem)?;
-    let sides = closed_ids(store, &closed)?;
-    let tests = problem.tests();
-    let count = store.count();
-    let limit = limit_of(problem);
-    Walk::new(
-        alloc,
-        tests,
-        sides.left,
-        sides.right,
-        sides.universal,
-        count,
-        limit,
-    )
-}
-
-// Runs the walk and returns its evidence, unless it needs more pairs than it may list.
-fn evidence_of(
-    alloc: Global,
-    store: &mut Store,
-    problem: &Problem,
-    walk: &mut Walk,
-) -> Result<Evidence, Halt>
-    requires within { IsProblem problem.now }
-    requires under_way { IsUnderWay problem.now store.old walk.old 0 }
-    requires limit { walk.old.rules.limit ≡ limit_of' problem.now }
-    ensures decision { IfOk result (IsDecision problem.now) }
-    ensures ids { IfOk result (HasIdsOf store.new problem.now) }
-    ensures short { result ≡ Err PairLimit → IsTrue (has_short' problem.now) }
-    ensures many { result ≡ Err PairLimit → HasManyPairs problem.now }
-    ensures kept { Grows store.old store.new }
-    ensures store { AreNodes store.new }
-{
-    let found = walk.run(alloc, store, problem);
-    // The proof needs the invariants of the store, also when out of memory.
-    let _ = store.count();
-    match found? {
-        Some(difference) => {
-            let string = string_to(alloc, walk.pairs(), difference.place, difference.atom)?;
-            Ok(Evidence::Different(string))
-        }
-        None => {
-            let pairs = stored_pairs_of(alloc, walk.pairs())?;
-            let cert = cert_of(alloc, store, Style::UpTo, &pairs)?;
-            Ok(Evidence::Equal(cert))
-        }
-    }
-}
-
 /// Decides a problem like `decide`, over a store that may have nodes already. On success the store has ids of both
 /// closed sides and of the terms of a certificate's nodes. All older ids keep their trees. Fails only when out of
 /// memory; on failure, extra nodes may remain.
@@ -108,15 +39,11 @@ pub fn decide_in(alloc: Global, store: &mut Store, problem: &Problem) -> Result<
     ensures kept { Grows store.old store.new }
     ensures store { AreNodes store.new }
 {
-    let mut walk = walk_of(alloc, store, problem)?;
-    match evidence_of(alloc, store, problem, &mut walk) {
+    let limit = limit_of(problem);
+    match decide_up_to(alloc, store, problem, limit) {
         Ok(evidence) => Ok(evidence),
-        Err(Halt::NoMemory) => Err(NoMemory),
-        Err(Halt::PairLimit) => {
-            // The second walk may need the memory of the first.
-            drop(walk);
-            decide_under(alloc, store, problem)
-        }
+        Err(EarlyStop::NoMemory) => Err(NoMemory),
+        Err(EarlyStop::PairLimit) => decide_under(alloc, store, problem),
     }
 }
 
@@ -129,4 +56,18 @@ pub fn decide(alloc: Global, problem: &Problem) -> Result<Evidence, NoMemory>
 {
     let mut store = Store::new(alloc);
     decide_in(alloc, &mut store, problem)
+}
+
+/// Returns whether both sides of `problem` denote the same relation in each table that satisfies the hypotheses. Walks
+/// as `decide` does, but makes no evidence. Fails only when out of memory.
+pub fn is_same(alloc: Global, problem: &Problem) -> Result<bool, NoMemory>
+    ensures { IfOk result (λ same. IsTrue same ↔ Same problem.now) }
+{
+    let mut store = Store::new(alloc);
+    let limit = limit_of(problem);
+    match is_same_up_to(alloc, &mut store, problem, limit) {
+        Ok(same) => Ok(same),
+        Err(EarlyStop::NoMemory) => Err(NoMemory),
+        Err(EarlyStop::PairLimit) => is_same_under(alloc, &mut store, problem),
+    }
 }

@@ -3,27 +3,27 @@ use Rattle.std.proofs.Common.{◌≡◌, ◌↔◌, ℕ, inl, inr, ⊎_elim, Lis
 use Rattle.kat_model.specs.Members.{Has}
 use Rattle.term_nodes.specs.NumberSets.{NumberPair, are_below}
 use Rattle.certificate.specs.PairParts.{PairParts, sets_of}
-use Rattle.cert_checker.specs.declared.known.Known.{Known}
+use Rattle.cert_checker.specs.declared.known.Truth.{Truth}
 use Rattle.cert_checker.specs.declared.saturation.Counted.{Counted}
 use Rattle.cert_checker.specs.Working.Reaching.{ArePairsBelow}
 use Rattle.cert_checker.specs.Working.Matching.{may_be, does_count, counting}
 use Rattle.cert_checker.specs.Working.Cases.{known_test}
-use Rattle.cert_checker.specs.Working.Questions.{TurnParts}
+use Rattle.cert_checker.specs.Working.Questions.{ActionPassParts}
 use Rattle.cert_checker.specs.Working.Rounds.{counting_in}
 
 -- equal arguments give equal lists of counting pairs
-counting_as : (a b : Bool) (known other : List Known) (ps qs : List PairParts) → a ≡ b → known ≡ other → ps ≡ qs → counting a known ps ≡ counting b other qs
-counting_as a b known other ps qs e f g = ap (λ (x : Bool). counting x known ps) e ∙ ap (λ (k : List Known). counting b k ps) f ∙ ap (counting b other) g
+counting_as : (a b : Bool) (known other : List Truth) (ps qs : List PairParts) → a ≡ b → known ≡ other → ps ≡ qs → counting a known ps ≡ counting b other qs
+counting_as a b known other ps qs e f g = ap (λ (x : Bool). counting x known ps) e ∙ ap (λ (k : List Truth). counting b k ps) f ∙ ap (counting b other) g
 
 -- a property holds for the counting pairs of `counted` if and only if it holds for those of its parts
-pub counted_as : (P : TurnParts → List NumberPair → Type 0) (counted : Counted) (turn : TurnParts) (known : List Known) (also : Bool) → counted.turn.now ≡ turn → counted.known.now ≡ known → counted.also_open ≡ also → P counted.turn.now (counting_in counted) ↔ P turn (counting also known turn.pairs)
-counted_as P counted turn known also e f g =
-    let same : counting_in counted ≡ counting also known turn.pairs = counting_as counted.also_open also counted.known.now known counted.turn.now.pairs turn.pairs g f (ap (λ (t : TurnParts). t.pairs) e) in (
-      (λ h. subst (λ (t : TurnParts). P t (counting also known turn.pairs)) e (subst (P counted.turn.now) same h)),
-      (λ h. subst (P counted.turn.now) (sym same) (subst (λ (t : TurnParts). P t (counting also known turn.pairs)) (sym e) h)),
+pub counted_as : (P : ActionPassParts → List NumberPair → Type 0) (counted : Counted) (action_pass : ActionPassParts) (known : List Truth) (also : Bool) → counted.action_pass.now ≡ action_pass → counted.known.now ≡ known → counted.also_open ≡ also → P counted.action_pass.now (counting_in counted) ↔ P action_pass (counting also known action_pass.pairs)
+counted_as P counted action_pass known also e f g =
+    let same : counting_in counted ≡ counting also known action_pass.pairs = counting_as counted.also_open also counted.known.now known counted.action_pass.now.pairs action_pass.pairs g f (ap (λ (t : ActionPassParts). t.pairs) e) in (
+      (λ h. subst (λ (t : ActionPassParts). P t (counting also known action_pass.pairs)) e (subst (P counted.action_pass.now) same h)),
+      (λ h. subst (P counted.action_pass.now) (sym same) (subst (λ (t : ActionPassParts). P t (counting also known action_pass.pairs)) (sym e) h)),
     )
 
-module _ (also : Bool) (known : List Known) where
+module _ (also : Bool) (known : List Truth) where
   pub counting_has : (ps : List PairParts) (n : NumberPair) → Has (counting also known ps) n → (p : PairParts) × Has ps p × (does_count also known p ≡ true) × (sets_of p ≡ n)
   counting_has [] n h = absurd h
   counting_has (p ∷ ps) n h = go (does_count also known p) refl (λ k. let f = counting_has ps n k in (f.0, inr f.1, f.2, f.3)) h

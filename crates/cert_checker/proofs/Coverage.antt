@@ -5,7 +5,7 @@ use Rattle.std.proofs.lemmas.Bool.{and_parts, false≢true}
 use Rattle.kat_model.specs.Members.{IsSubset}
 use Rattle.kat_model.proofs.Lists.{has_any}
 use Rattle.term_nodes.specs.NumberSets.{NumberPair}
-use Rattle.cert_checker.specs.declared.matching.Sides.{Sides}
+use Rattle.cert_checker.specs.declared.matching.TargetSides.{TargetSides}
 use Rattle.cert_checker.specs.Working.Reaching.{HoldsAll, IsReached, AreReached, IsReachedByBoth}
 use Rattle.cert_checker.specs.Working.Matching.{lists, AreCovered}
 use Rattle.cert_checker.proofs.ListedPairs.{same_pointwise}
@@ -21,7 +21,7 @@ module _ (ps : List NumberPair) where
   reached_one : (ks : List ℕ) (u : ℕ) → IsReached ps ks u → AreReached ps ks (u ∷ [])
   reached_one ks u h k m = ⊎_elim (λ e. subst (IsReached ps ks) e h) absurd m
 
-  module _ (universal : Option ℕ) (s : Sides) where
+  module _ (universal : Option ℕ) (s : TargetSides) where
     -- a listed pair with exactly these sets covers the sides
     pub covered_listed : lists ps s.left.sure.items s.right.sure.items ≡ true → IsSubset s.left.alone.items s.left.sure.items → IsSubset s.right.alone.items s.right.sure.items → AreCovered ps universal s
     covered_listed e left right =

@@ -10,21 +10,21 @@ use Rattle.kat_model.proofs.Lists.{has_right}
 use Rattle.kat_model.proofs.Saturation.{sat_keeps}
 use Rattle.kat_model.proofs.Congruence.{sat_grows}
 use Rattle.term_nodes.specs.NumberSets.{NumberPair, are_below, set_pairs_of, terms_of}
-use Rattle.cert_checker.specs.declared.known.Known.{Known}
-use Rattle.cert_checker.specs.declared.known.Known.TheVariants.{Value}
-use Rattle.cert_checker.specs.declared.matching.Sides.{Sides}
+use Rattle.cert_checker.specs.declared.known.Truth.{Truth}
+use Rattle.cert_checker.specs.declared.known.Truth.TheVariants.{Known}
+use Rattle.cert_checker.specs.declared.matching.TargetSides.{TargetSides}
 use Rattle.cert_steps.specs.NodeTables.{TableParts, AreTables, IsTerm, term_at, holds_at, nodes_in}
 use Rattle.cert_steps.specs.Targets.{chosen, AreEntries}
 use Rattle.cert_steps.proofs.ChosenTargets.{chosen_has, has_chosen}
 use Rattle.cert_checker.specs.Working.Cases.{known_of, truly, falsely}
 use Rattle.cert_checker.specs.Working.Reaching.{ArePairsBelow, IsReached, AreReached, IsReachedByBoth}
-use Rattle.cert_checker.specs.Working.Matching.{sure_targets, has_too, open_targets, AreSides, AreCovered, AreSettled}
+use Rattle.cert_checker.specs.Working.Matching.{sure_targets, has_too, open_targets, AreTargetSides, AreCovered, AreSettled}
 use Rattle.cert_checker.proofs.ReachedTerms.{reached_has, has_reached, are_reached}
 use Rattle.cert_checker.proofs.Covering.{AreRight, sure_chosen, chosen_reached}
 
 -- ---- numbers of targets are those of terms
 
-pub sure_below : (t : TableParts) (known : List Known) (es : List (ℕ × ℕ)) → AreEntries t es → are_below (length t.terms) (sure_targets known es) ≡ true
+pub sure_below : (t : TableParts) (known : List Truth) (es : List (ℕ × ℕ)) → AreEntries t es → are_below (length t.terms) (sure_targets known es) ≡ true
 sure_below t known [] own = refl
 sure_below t known (d ∷ es) own = go (truly (known_of known d.1)) (sure_below t known es (λ e m. own e (inr m)))
   where
@@ -32,7 +32,7 @@ sure_below t known (d ∷ es) own = go (truly (known_of known d.1)) (sure_below 
     go true rest = and_from (nat_lt d.0 (length t.terms)) (are_below (length t.terms) (sure_targets known es)) (lt-ltb d.0 (length t.terms) (own d (inl refl)).0) rest
     go false rest = rest
 
-open_below : (t : TableParts) (known : List Known) (os es : List (ℕ × ℕ)) → AreEntries t es → are_below (length t.terms) (open_targets known os es) ≡ true
+open_below : (t : TableParts) (known : List Truth) (os es : List (ℕ × ℕ)) → AreEntries t es → are_below (length t.terms) (open_targets known os es) ≡ true
 open_below t known os [] own = refl
 open_below t known os (d ∷ es) own = go (falsely (known_of known d.1) || has_too known os d.0 d.1) (open_below t known os es (λ e m. own e (inr m)))
   where
@@ -43,7 +43,7 @@ open_below t known os (d ∷ es) own = go (falsely (known_of known d.1) || has_t
 -- ---- the sides of two lists of targets
 
 -- `AreCovered` for the targets
-abbrev Covers : List NumberPair → Option ℕ → List Known → List (ℕ × ℕ) → List (ℕ × ℕ) → Type 0
+abbrev Covers : List NumberPair → Option ℕ → List Truth → List (ℕ × ℕ) → List (ℕ × ℕ) → Type 0
 Covers ps universal known left right =
     (AreReached ps (sure_targets known right) (open_targets known right left) × AreReached ps (sure_targets known left) (open_targets known left right))
     ⊎ IsReachedByBoth ps universal (sure_targets known left) (sure_targets known right)
@@ -59,7 +59,7 @@ covered_as ps universal a b c d e f g h p q r s m =
     (subst (λ (l : List ℕ). CoveredBy ps universal a b l h) r
     (subst (λ (l : List ℕ). CoveredBy ps universal a b c l) s m)))
 
-module _ (ps : List NumberPair) (universal : Option ℕ) (known : List Known) (left right : List (ℕ × ℕ)) (s : Sides) (sides : AreSides known left right s) where
+module _ (ps : List NumberPair) (universal : Option ℕ) (known : List Truth) (left right : List (ℕ × ℕ)) (s : TargetSides) (sides : AreTargetSides known left right s) where
   covered_covers : AreCovered ps universal s → Covers ps universal known left right
   covered_covers m =
       covered_as ps universal s.left.sure.items s.right.sure.items s.left.alone.items s.right.alone.items (sure_targets known left) (sure_targets known right) (open_targets known right left) (open_targets known left right)
@@ -70,7 +70,7 @@ module _ (ps : List NumberPair) (universal : Option ℕ) (known : List Known) (l
       covered_as ps universal (sure_targets known left) (sure_targets known right) (open_targets known right left) (open_targets known left right) s.left.sure.items s.right.sure.items s.left.alone.items s.right.alone.items
       (sym sides.left.sure) (sym sides.right.sure) (sym sides.left.alone) (sym sides.right.alone) m
 
-module _ (t : TableParts) (are : AreTables t) (known : List Known) (atom : Atom) (ps : List NumberPair) (pairs_below : ArePairsBelow (length t.terms) ps) where
+module _ (t : TableParts) (are : AreTables t) (known : List Truth) (atom : Atom) (ps : List NumberPair) (pairs_below : ArePairsBelow (length t.terms) ps) where
   sure_within : (es : List (ℕ × ℕ)) → AreRight t known atom es → IsSubset (sat (set_pairs_of (nodes_in t) ps) (terms_of (nodes_in t) (sure_targets known es))) (sat (set_pairs_of (nodes_in t) ps) (chosen t es atom))
   sure_within es right = sat_grows (set_pairs_of (nodes_in t) ps) _ _ (λ x h. sat_keeps (set_pairs_of (nodes_in t) ps) (chosen t es atom) x (sure_chosen t known atom es right x h))
 
@@ -97,10 +97,10 @@ module _ (t : TableParts) (are : AreTables t) (known : List Known) (atom : Atom)
       let f = has_chosen t es atom x h in
       let s = settled f.0 f.1 in
       let value : holds_at t f.0.1 atom ≡ s.0 = right f.0 f.1 s.0 s.1 in
-      let sure : known_of known f.0.1 ≡ Value true = s.1 ∙ ap Value (sym value ∙ f.2) in
+      let sure : known_of known f.0.1 ≡ Known true = s.1 ∙ ap Known (sym value ∙ f.2) in
       subst (Has (terms_of (nodes_in t) (sure_targets known es))) f.3 (sure_has es f.0 f.1 sure)
     where
-      sure_has : (es : List (ℕ × ℕ)) (e : ℕ × ℕ) → Has es e → known_of known e.1 ≡ Value true → Has (terms_of (nodes_in t) (sure_targets known es)) (term_at t e.0)
+      sure_has : (es : List (ℕ × ℕ)) (e : ℕ × ℕ) → Has es e → known_of known e.1 ≡ Known true → Has (terms_of (nodes_in t) (sure_targets known es)) (term_at t e.0)
       sure_has [] e h k = absurd h
       sure_has (d ∷ es) e h k = ⊎_elim (λ same. here same) (λ r. later (truly (known_of known d.1)) (sure_has es e r k)) h
         where
@@ -121,7 +121,7 @@ module _ (t : TableParts) (are : AreTables t) (known : List Known) (atom : Atom)
       truth_of : falsely (known_of known d.1) ≡ false → holds_at t d.1 atom ≡ true
       truth_of e = by_value (settled d (inl refl)).0 (settled d (inl refl)).1
         where
-          by_value : (b : Bool) → known_of known d.1 ≡ Value b → holds_at t d.1 atom ≡ true
+          by_value : (b : Bool) → known_of known d.1 ≡ Known b → holds_at t d.1 atom ≡ true
           by_value true s = right d (inl refl) true s
           by_value false s = let f : true ≡ false = sym (ap falsely s) ∙ e in absurd cc
 
@@ -147,7 +147,7 @@ module _ (t : TableParts) (are : AreTables t) (known : List Known) (atom : Atom)
       one : (es : List (ℕ × ℕ)) → AreEntries t es → AreRight t known atom es → AreSettled known es → Has (sat (set_pairs_of (nodes_in t) ps) (chosen t es atom)) (term_at t k) → IsReached ps (sure_targets known es) k
       one es has right_here settled m = has_reached t are ps pairs_below (sure_targets known es) (sure_below t known es has) k (within k refl) (settled_within es right_here settled (term_at t k) m)
 
-  module _ (universal : Option ℕ) (left right : List (ℕ × ℕ)) (own : AreEntries t left) (other : AreEntries t right) (lefts : AreRight t known atom left) (rights : AreRight t known atom right) (s : Sides) (sides : AreSides known left right s) where
+  module _ (universal : Option ℕ) (left right : List (ℕ × ℕ)) (own : AreEntries t left) (other : AreEntries t right) (lefts : AreRight t known atom left) (rights : AreRight t known atom right) (s : TargetSides) (sides : AreTargetSides known left right s) where
     pub covered_congruent : AreCovered ps universal s → IsCongruent (option_map (term_at t) universal) (set_pairs_of (nodes_in t) ps) (chosen t left atom) (chosen t right atom)
     covered_congruent m =
         ⊎_elim

@@ -9,25 +9,25 @@ use Rattle.term_nodes.specs.NumberSets.{terms_of}
 use Rattle.cert_steps.specs.NodeTables.{TableParts, term_at, holds_at, nodes_in}
 use Rattle.cert_steps.specs.Targets.{chosen, guard_of}
 use Rattle.cert_steps.proofs.ChosenTargets.{chosen_has, guard_member, any_value}
-use Rattle.cert_checker.specs.declared.known.Known.{Known}
-use Rattle.cert_checker.specs.declared.known.Known.TheVariants.{Value, Waits}
+use Rattle.cert_checker.specs.declared.known.Truth.{Truth}
+use Rattle.cert_checker.specs.declared.known.Truth.TheVariants.{Known, Undecided}
 use Rattle.cert_checker.specs.Working.Cases.{known_of, truly, falsely}
 use Rattle.cert_checker.specs.Working.Matching.{sure_targets, has_too, open_targets}
 
-pub truly_value : (x : Known) → truly x ≡ true → x ≡ Value true
-truly_value (Value true) e = refl
-truly_value (Value false) e = absurd cc
-truly_value (Waits k) e = absurd cc
+pub truly_value : (x : Truth) → truly x ≡ true → x ≡ Known true
+truly_value (Known true) e = refl
+truly_value (Known false) e = absurd cc
+truly_value (Undecided k) e = absurd cc
 
-pub falsely_value : (x : Known) → falsely x ≡ true → x ≡ Value false
-falsely_value (Value true) e = absurd cc
-falsely_value (Value false) e = refl
-falsely_value (Waits k) e = absurd cc
+pub falsely_value : (x : Truth) → falsely x ≡ true → x ≡ Known false
+falsely_value (Known true) e = absurd cc
+falsely_value (Known false) e = refl
+falsely_value (Undecided k) e = absurd cc
 
-module _ (t : TableParts) (known : List Known) (atom : Atom) where
+module _ (t : TableParts) (known : List Truth) (atom : Atom) where
   -- the known values of the guards are their values at the atom
   abbrev pub AreRight : List (ℕ × ℕ) → Type 0
-  AreRight es = (e : ℕ × ℕ) → Has es e → (b : Bool) → known_of known e.1 ≡ Value b → holds_at t e.1 atom ≡ b
+  AreRight es = (e : ℕ × ℕ) → Has es e → (b : Bool) → known_of known e.1 ≡ Known b → holds_at t e.1 atom ≡ b
 
   -- every term that is surely among the targets is chosen
   pub sure_chosen : (es : List (ℕ × ℕ)) → AreRight es → IsSubset (terms_of (nodes_in t) (sure_targets known es)) (chosen t es atom)

@@ -31,8 +31,8 @@ use Rattle.cert_steps.proofs.TargetSets.{holds_kept}
 use Rattle.cert_checker.specs.Answers.{Begins}
 use Rattle.cert_checker.specs.Working.Cases.{Extends, IsFirstFailure, undecided}
 use Rattle.cert_checker.specs.Working.Roots.{compared, counted_short}
-use Rattle.cert_checker.specs.Working.Questions.{TurnParts, QuestionParts, IsPosed, IsAskedOf, AreNamed, Counts, AreMatchedIn, AreMatchedBy, MatchAt}
-use Rattle.cert_checker.specs.Working.Places.{PassParts, IsPass, PassGrows, IsTurn, IsAllowed}
+use Rattle.cert_checker.specs.Working.Questions.{ActionPassParts, QuestionParts, IsPosed, IsAskedOf, AreNamed, Counts, AreMatchedIn, AreMatchedBy, MatchAt}
+use Rattle.cert_checker.specs.Working.Places.{PassParts, IsPass, PassGrows, IsActionPass, IsAllowed}
 use Rattle.cert_checker.proofs.Passes.{pass_with, turn_with}
 use Rattle.cert_checker.proofs.PairPlaces.{undecided_extends, undecided_length}
 use Rattle.cert_checker.proofs.PairTurns.{set_kept, test_kept, test_there, outputs_told, both_trans, by_path, question_of, matched_in_turn, question_posed}
@@ -47,20 +47,20 @@ condition_stands t es f g same s =
 
 -- The question is whether the sets under two conditions are the same at each allowed atom, and the second condition is
 -- always true. It has no failure if and only if the first condition is true at each allowed atom.
-module _ (p : PassParts) (pass : IsPass p) (turn : TurnParts) (is : IsTurn p turn) (none : turn.action ≡ None) (left right : List (ℕ × ℕ)) (asked : List ℕ) (f g : Atom → Bool)
+module _ (p : PassParts) (pass : IsPass p) (action_pass : ActionPassParts) (is : IsActionPass p action_pass) (none : action_pass.action ≡ None) (left right : List (ℕ × ℕ)) (asked : List ℕ) (f g : Atom → Bool)
     (own : StandFor p.tables left (λ atom. cond (f atom) (one ∷ []) [])) (other : StandFor p.tables right (λ atom. cond (g atom) (one ∷ []) [])) (sure : (atom : Atom) → g atom ≡ true) where
   abbrev HoldsAllowedly : Type 0
   HoldsAllowedly = (atom : Atom) → length atom ≡ p.tables.width → IsAllowedAtom (counted_short p.cert.style p.problem) atom → IsTrue (f atom)
 
   abbrev the_question : QuestionParts
-  the_question = question_of p.tables turn None left right asked
+  the_question = question_of p.tables action_pass None left right asked
 
-  mean : (atom to : Atom) → ((h : ℕ × ℕ) → Has turn.forbidden h → (holds_at p.tables h.0 atom && holds_at p.tables h.1 to) ≡ false) ↔ IsAllowed (counted_short p.cert.style p.problem) None atom to
-  mean = subst (λ o. (atom to : Atom) → ((h : ℕ × ℕ) → Has turn.forbidden h → (holds_at p.tables h.0 atom && holds_at p.tables h.1 to) ≡ false) ↔ IsAllowed (counted_short p.cert.style p.problem) o atom to) none is.forbidden.mean
+  mean : (atom to : Atom) → ((h : ℕ × ℕ) → Has action_pass.forbidden h → (holds_at p.tables h.0 atom && holds_at p.tables h.1 to) ≡ false) ↔ IsAllowed (counted_short p.cert.style p.problem) None atom to
+  mean = subst (λ o. (atom to : Atom) → ((h : ℕ × ℕ) → Has action_pass.forbidden h → (holds_at p.tables h.0 atom && holds_at p.tables h.1 to) ≡ false) ↔ IsAllowed (counted_short p.cert.style p.problem) o atom to) none is.forbidden.mean
 
   told : (atom to : Atom) → AreMatchedBy p.tables the_question (chosen p.tables left atom) (chosen p.tables right atom) to ↔ (f atom ≡ g atom)
   told atom to =
-      both_trans (by_path (matched_in_turn p pass turn is (chosen p.tables left atom) (chosen p.tables right atom) to))
+      both_trans (by_path (matched_in_turn p pass action_pass is (chosen p.tables left atom) (chosen p.tables right atom) to))
       (subst (λ o. AreMatchedIn (nodes_in p.tables) (option_map_or (λ a. p.cert.style) o UpTo) (option_map (term_at p.tables) (option_map_or (λ a. p.universal) o None)) (option_map_or (λ a. p.cert.pairs) o []) (chosen p.tables left atom) (chosen p.tables right atom) to ↔ (f atom ≡ g atom)) (sym none)
       (outputs_told p.tables left right f g own other atom to))
 
@@ -69,7 +69,7 @@ module _ (p : PassParts) (pass : IsPass p) (turn : TurnParts) (is : IsTurn p tur
     (λ e atom l allowed.
         let front : take p.tables.width (atom ++ atom) ≡ atom = ap (λ n. take n (atom ++ atom)) (sym l) ∙ take-append_seam atom atom in
         let counts : Counts p.tables the_question (take p.tables.width (atom ++ atom)) (drop p.tables.width (atom ++ atom)) =
-        record { own = refl; free = (mean (take p.tables.width (atom ++ atom)) (drop p.tables.width (atom ++ atom))).1 (subst (IsAllowedAtom (counted_short p.cert.style p.problem)) (sym front) allowed) } in
+        record { pair_test = refl; free = (mean (take p.tables.width (atom ++ atom)) (drop p.tables.width (atom ++ atom))).1 (subst (IsAllowedAtom (counted_short p.cert.style p.problem)) (sym front) allowed) } in
         let there : Extends (undecided (p.tables.width + p.tables.width)) (atom ++ atom) = undecided_extends (p.tables.width + p.tables.width) (atom ++ atom) (omega (arith, l, length-append atom atom)) in
         ap f (sym front) ∙ (told (take p.tables.width (atom ++ atom)) (drop p.tables.width (atom ++ atom))).0 (h (atom ++ atom) there counts) ∙ sure (take p.tables.width (atom ++ atom))),
     (λ all. refl),
@@ -88,9 +88,9 @@ module _ (p : PassParts) (pass : IsPass p) (turn : TurnParts) (is : IsTurn p tur
   throughout v (Some x) true e h = absurd cc
   throughout v (Some x) false e h = ((λ s. absurd cc), (λ all. let none : Some (v x) ≡ None = (found (Some (v x)) h).1 all in absurd cc))
 
--- a turn and the two sets add nodes to the tables
-module _ (old p : PassParts) (grows : PassGrows old p) (begun : IsPass p) (second third last : TableParts) (to_second : TablesGrow p.tables second) (to_third : TablesGrow second third) (to_last : TablesGrow third last) (turn : TurnParts) (is : IsTurn p turn)
-    (none : turn.action ≡ None) (test always : ℕ) (there : IsTest old.tables test) (sure : HasValues second (λ atom. true) always) (left right : List (ℕ × ℕ))
+-- an action's pass and the two sets add nodes to the tables
+module _ (old p : PassParts) (grows : PassGrows old p) (begun : IsPass p) (second third last : TableParts) (to_second : TablesGrow p.tables second) (to_third : TablesGrow second third) (to_last : TablesGrow third last) (action_pass : ActionPassParts) (is : IsActionPass p action_pass)
+    (none : action_pass.action ≡ None) (test always : ℕ) (there : IsTest old.tables test) (sure : HasValues second (λ atom. true) always) (left right : List (ℕ × ℕ))
     (own : StandFor third left (λ atom. cond (holds_at second test atom) (one ∷ []) [])) (other : StandFor last right (λ atom. cond (holds_at third always atom) (one ∷ []) [])) where
   to_end : TablesGrow p.tables last
   to_end = grows_trans p.tables second last to_second (grows_trans second third last to_third to_last)
@@ -98,8 +98,8 @@ module _ (old p : PassParts) (grows : PassGrows old p) (begun : IsPass p) (secon
   ended : IsPass (record p { tables = last })
   ended = pass_with p last to_end begun
 
-  turns : IsTurn (record p { tables = last }) turn
-  turns = turn_with p last to_end turn begun is
+  turns : IsActionPass (record p { tables = last }) action_pass
+  turns = turn_with p last to_end action_pass begun is
 
   lefts : StandFor last left (λ atom. cond (holds_at old.tables test atom) (one ∷ []) [])
   lefts =
@@ -109,15 +109,15 @@ module _ (old p : PassParts) (grows : PassGrows old p) (begun : IsPass p) (secon
   pub throughout_entries : AreEntries last left
   throughout_entries = lefts.entries
 
-  pub throughout_posed : (q : QuestionParts) → IsAskedOf last turn None left right q → AreNamed last q q.asked → IsPosed q
-  throughout_posed q e named = question_posed (record p { tables = last }) ended turn turns q None left right e named (λ k s. absurd cc) lefts.entries other.entries
+  pub throughout_posed : (q : QuestionParts) → IsAskedOf last action_pass None left right q → AreNamed last q q.asked → IsPosed q
+  throughout_posed q e named = question_posed (record p { tables = last }) ended action_pass turns q None left right e named (λ k s. absurd cc) lefts.entries other.entries
 
-  pub throughout_told : (q : QuestionParts) → IsAskedOf last turn None left right q → {X : Type 0} (v : X → Atom) (o : Option X) (b : Bool) → is_some o ≡ not b → IsFirstFailure (MatchAt q.tables q) (undecided (last.width + last.width)) (option_map v o)
+  pub throughout_told : (q : QuestionParts) → IsAskedOf last action_pass None left right q → {X : Type 0} (v : X → Atom) (o : Option X) (b : Bool) → is_some o ≡ not b → IsFirstFailure (MatchAt q.tables q) (undecided (last.width + last.width)) (option_map v o)
       → IsTrue b ↔ ((atom : Atom) → length atom ≡ old.problem.tests → IsAllowedAtom (counted_short old.cert.style old.problem) atom → IsTrue (holds_at old.tables test atom))
   throughout_told q e v o b same found =
       subst (λ (z : PassParts). IsTrue b ↔ ((atom : Atom) → length atom ≡ z.problem.tests → IsAllowedAtom (counted_short z.cert.style z.problem) atom → IsTrue (holds_at old.tables test atom))) grows.same
       (subst (λ n. IsTrue b ↔ ((atom : Atom) → length atom ≡ n → IsAllowedAtom (counted_short p.cert.style p.problem) atom → IsTrue (holds_at old.tables test atom))) ended.nodes.width
-      (throughout (record p { tables = last }) ended turn turns none left right q.asked (holds_at old.tables test) (holds_at third always) lefts other (λ atom. holds_kept second third to_third.was to_third always atom sure.0 ∙ sure.1 atom) v o b same
+      (throughout (record p { tables = last }) ended action_pass turns none left right q.asked (holds_at old.tables test) (holds_at third always) lefts other (λ atom. holds_kept second third to_third.was to_third always atom sure.0 ∙ sure.1 atom) v o b same
       (subst (λ (z : QuestionParts). IsFirstFailure (MatchAt z.tables z) (undecided (last.width + last.width)) (option_map v o)) e found)))
 
 -- ---- sets of one term

@@ -1,5 +1,5 @@
 -- Growing indices of pairs, and how they find listed pairs.
-use Rattle.std.proofs.Common.{◌≡◌, ℕ, ◌+◌, ◌-◌, ◌<◌, ◌⊎◌, inl, inr, ⊎_elim, List, [], ◌∷◌, ◌++◌, map, length, get_or, take, slice_get, refl, sym, ap, ◌∙◌, subst, arith, Bool, true, false, cond, nat_eq, ◌&&◌, Option, Some, None}
+use Rattle.std.proofs.Common.{◌≡◌, ℕ, ◌+◌, ◌-◌, ◌<◌, inl, ⊎_elim, List, [], ◌∷◌, ◌++◌, map, length, get_or, take, slice_get, refl, sym, ap, ◌∙◌, subst, Bool, true, false, cond, nat_eq, ◌&&◌, Option, Some, None}
 use Rattle.std.specs.Prelude.{unwrap_or}
 use Rattle.std.specs.Option.{option_map, option_map_or, MatchOption}
 use Rattle.std.specs.List.{ItemBy}
@@ -7,24 +7,22 @@ use Rattle.std.specs.Map.{lookup}
 use Rattle.std.specs.BTreeMap.{is_at}
 use Rattle.std.specs.Ordering.{nat_cmp}
 use Rattle.std.specs.Cmp.Lexicographic.{pointwise}
-use Rattle.std.proofs.lemmas.Bool.{true≢false, false_from_ne_true, and_parts, and_from, cases_lt, cases_eq}
+use Rattle.std.proofs.lemmas.Bool.{true≢false, false_from_ne_true, and_parts, and_from, cases_eq}
 use Rattle.std.proofs.lemmas.List.{take_more}
 use Rattle.std.proofs.lemmas.Map.Lookups.{exact_unsigned}
 use Rattle.std.proofs.lemmas.Map.Views.{tells_apart}
 use Rattle.std.proofs.lemmas.Option.{same_Some, slice_get_past, slice_get_read}
 use Rattle.kat_model.specs.Members.{Has}
+use Rattle.kat_model.proofs.Numbers.{below_next}
 use Rattle.kat_model.proofs.Lists.{has_left, has_right, has_append, has_any, any_has}
 use Rattle.kat_model.proofs.Places.{has_at, place_of_member}
 use Rattle.term_nodes.specs.NumberSets.{NumberPair}
 use Rattle.certificate.specs.PairParts.{PairParts, sets_of}
-use Rattle.cert_checker.specs.declared.known.Known.{Known}
+use Rattle.cert_checker.specs.declared.known.Truth.{Truth}
 use Rattle.cert_checker.specs.Working.Indices.{IndexParts, places_under, places_by, KeepsPlaces, AreIndexedTo, AreIndexed}
 use Rattle.cert_checker.specs.Working.Matching.{does_count, counting, lists}
 use Rattle.cert_checker.proofs.CountedPairs.{counting_has, has_counting}
 use Rattle.cert_checker.proofs.ListedPairs.{same_pointwise}
-
-pub below_next : (j i : ℕ) → j < i + 1 → (j < i) ⊎ (j ≡ i)
-below_next j i h = ⊎_elim inl (λ g. inr (omega (arith, h, g))) (cases_lt j i)
 
 -- an element borrowed from a list is the element at that place
 pub item_read : {R X : Type 0} (now : R → X) (xs : List X) (i : ℕ) (r : Option R) → ItemBy now xs i i r → MatchOption r (slice_get xs i ≡ None) (λ x. slice_get xs i ≡ Some (now x))
@@ -115,7 +113,7 @@ indexed_more x y z ps i p at before left to_y right to_z k q low read =
 pub compared_as : (r : Bool) (a b c d : List ℕ) → r ≡ pointwise nat_eq a b → a ≡ c → b ≡ d → pointwise nat_eq c d ≡ r
 compared_as r a b c d is e f = sym (is ∙ ap (λ (l : List ℕ). pointwise nat_eq l b) e ∙ ap (pointwise nat_eq c) f)
 
-module _ (ps : List PairParts) (also : Bool) (known : List Known) (ks ls : List ℕ) where
+module _ (ps : List PairParts) (also : Bool) (known : List Truth) (ks ls : List ℕ) where
   -- the pair at the place does not count, or has other sets
   abbrev pub IsOther : ℕ → Type 0
   IsOther j = (p : PairParts) → slice_get ps j ≡ Some p → (does_count also known p && (pointwise nat_eq p.left ks && pointwise nat_eq p.right ls)) ≡ false

@@ -14,11 +14,11 @@ use Rattle.term_nodes.specs.NodeTrees.{test_tree_in}
 use Rattle.term_nodes.proofs.Parts.{IsTestOver-more}
 use Rattle.term_nodes.proofs.TestTrees.{test_tree_at-node}
 use Rattle.cert_steps.specs.NodeTables.{TableParts, AreTables, IsWithin, holds_at, nodes_in}
-use Rattle.cert_checker.specs.declared.known.Case.{Case}
-use Rattle.cert_checker.specs.declared.known.Known.{Known}
-use Rattle.cert_checker.specs.declared.known.Known.TheVariants.{Value, Waits}
+use Rattle.cert_checker.specs.declared.known.TestCase.{TestCase}
+use Rattle.cert_checker.specs.declared.known.Truth.{Truth}
+use Rattle.cert_checker.specs.declared.known.Truth.TheVariants.{Known, Undecided}
 use Rattle.cert_checker.specs.Working.Cases.{Extends, IsKnown, AreAsked, AreKnown, known_of, known_not, known_and, known_or, known_at, known_node}
-use Rattle.cert_checker.specs.Working.Questions.{QuestionParts, IsCase}
+use Rattle.cert_checker.specs.Working.Questions.{QuestionParts, IsTestCase}
 
 -- ---- combined values
 
@@ -28,24 +28,24 @@ de_morgan false true = refl
 de_morgan false false = refl
 
 module _ (first : ℕ) (decided : List (Option Bool)) where
-  not_known : (v : Atom → Bool) (x : Known) → IsKnown first decided v x → IsKnown first decided (λ atom. not (v atom)) (known_not x)
-  not_known v (Value b) h = λ atom k. ap not (h atom k)
-  not_known v (Waits k) h = h
+  not_known : (v : Atom → Bool) (x : Truth) → IsKnown first decided v x → IsKnown first decided (λ atom. not (v atom)) (known_not x)
+  not_known v (Known b) h = λ atom k. ap not (h atom k)
+  not_known v (Undecided k) h = h
 
-  and_known : (v w : Atom → Bool) (x y : Known) → IsKnown first decided v x → IsKnown first decided w y → IsKnown first decided (λ atom. v atom && w atom) (known_and x y)
-  and_known v w (Value false) y h k = λ atom e. ap (λ b. b && w atom) (h atom e)
-  and_known v w (Value true) (Value c) h k = λ atom e. ap (λ b. b && w atom) (h atom e) ∙ k atom e
-  and_known v w (Value true) (Waits l) h k = k
-  and_known v w (Waits l) (Value false) h k = λ atom e. and_right (v atom) (w atom) (k atom e)
-  and_known v w (Waits l) (Value true) h k = h
-  and_known v w (Waits l) (Waits m) h k = h
+  and_known : (v w : Atom → Bool) (x y : Truth) → IsKnown first decided v x → IsKnown first decided w y → IsKnown first decided (λ atom. v atom && w atom) (known_and x y)
+  and_known v w (Known false) y h k = λ atom e. ap (λ b. b && w atom) (h atom e)
+  and_known v w (Known true) (Known c) h k = λ atom e. ap (λ b. b && w atom) (h atom e) ∙ k atom e
+  and_known v w (Known true) (Undecided l) h k = k
+  and_known v w (Undecided l) (Known false) h k = λ atom e. and_right (v atom) (w atom) (k atom e)
+  and_known v w (Undecided l) (Known true) h k = h
+  and_known v w (Undecided l) (Undecided m) h k = h
 
   -- functions with equal values have the same known value
-  same_known : (v w : Atom → Bool) (x : Known) → ((atom : Atom) → w atom ≡ v atom) → IsKnown first decided v x → IsKnown first decided w x
-  same_known v w (Value b) same h = λ atom e. same atom ∙ h atom e
-  same_known v w (Waits k) same h = h
+  same_known : (v w : Atom → Bool) (x : Truth) → ((atom : Atom) → w atom ≡ v atom) → IsKnown first decided v x → IsKnown first decided w x
+  same_known v w (Known b) same h = λ atom e. same atom ∙ h atom e
+  same_known v w (Undecided k) same h = h
 
-  or_known : (v w : Atom → Bool) (x y : Known) → IsKnown first decided v x → IsKnown first decided w y → IsKnown first decided (λ atom. v atom || w atom) (known_or x y)
+  or_known : (v w : Atom → Bool) (x y : Truth) → IsKnown first decided v x → IsKnown first decided w y → IsKnown first decided (λ atom. v atom || w atom) (known_or x y)
   or_known v w x y h k =
       same_known (λ atom. not (not (v atom) && not (w atom))) (λ atom. v atom || w atom) (known_or x y) (λ atom. de_morgan (v atom) (w atom))
       (not_known (λ atom. not (v atom) && not (w atom)) (known_and (known_not x) (known_not y))
@@ -80,7 +80,7 @@ parts_within t are k m n le e = IsTestOver-more k m n le (are.rules.tests_ordere
 
 module _ (first : ℕ) (t : TableParts) (are : AreTables t) (decided : List (Option Bool)) (width : length decided ≡ t.width) where
   -- what is known of a node, given what is known of the tests that it names
-  node_known : (known : List Known) (j : ℕ) (n : TestNode ℕ) → slice_get t.tests j ≡ Some n
+  node_known : (known : List Truth) (j : ℕ) (n : TestNode ℕ) → slice_get t.tests j ≡ Some n
       → ((x : ℕ) → Has (test_parts n) x → IsKnown first decided (holds_at t x) (known_of known x)) → IsKnown first decided (holds_at t j) (known_node first decided known n)
   node_known known j n e part =
       same_known first decided (λ atom. truth (test_tree_in (nodes_in t) n) atom) (holds_at t j) (known_node first decided known n) (λ atom. ap (λ b. truth b atom) (test_tree_at-node (nodes_in t) are.rules j n e)) (by_node n e part)
@@ -99,15 +99,15 @@ module _ (first : ℕ) (t : TableParts) (are : AreTables t) (decided : List (Opt
 -- ---- evaluating the listed tests in order
 
 -- the values of the first `i` tests are known
-pub record IsEvaluating (first : ℕ) (t : TableParts) (decided : List (Option Bool)) (asked : List ℕ) (i : ℕ) (old new : List Known) : Type 0 where
+pub record IsEvaluating (first : ℕ) (t : TableParts) (decided : List (Option Bool)) (asked : List ℕ) (i : ℕ) (old new : List Truth) : Type 0 where
   pub done : AreKnown first t decided (take i asked) new
   pub others : (k : ℕ) → (Has asked k → ⊥) → known_of new k ≡ known_of old k
   pub room : length new ≡ length old
 
-pub evaluating_starts : (first : ℕ) (t : TableParts) (decided : List (Option Bool)) (asked : List ℕ) (known : List Known) → IsEvaluating first t decided asked 0 known known
+pub evaluating_starts : (first : ℕ) (t : TableParts) (decided : List (Option Bool)) (asked : List ℕ) (known : List Truth) → IsEvaluating first t decided asked 0 known known
 evaluating_starts first t decided asked known = record { done = λ k h. absurd h; others = λ k h. refl; room = refl }
 
-module _ (first : ℕ) (t : TableParts) (decided : List (Option Bool)) (asked : List ℕ) (i k : ℕ) (is : slice_get asked i ≡ Some k) (old now : List Known) (are : AreTables t) (closed : AreAsked t asked) (width : length decided ≡ t.width)
+module _ (first : ℕ) (t : TableParts) (decided : List (Option Bool)) (asked : List ℕ) (i k : ℕ) (is : slice_get asked i ≡ Some k) (old now : List Truth) (are : AreTables t) (closed : AreAsked t asked) (width : length decided ≡ t.width)
     (node : TestNode ℕ) (at : slice_get t.tests k ≡ Some node) (e : IsEvaluating first t decided asked i old now) where
   -- the parts of the next test come before it
   part : (x : ℕ) → Has (test_parts node) x → IsKnown first decided (holds_at t x) (known_of now x)
@@ -117,24 +117,24 @@ module _ (first : ℕ) (t : TableParts) (decided : List (Option Bool)) (asked : 
   taken : take (i + 1) asked ≡ take i asked ++ k ∷ []
   taken = take_more asked i k (slice_get_within asked i k is) ∙ ap (λ x. take i asked ++ x ∷ []) (get_or_from_slice_get asked i k k is)
 
-  module _ (x : Known) (told : x ≡ known_node first decided now node) (low : k < length now) where
+  module _ (x : Truth) (told : x ≡ known_node first decided now node) (low : k < length now) where
     abbrev Told : ℕ → Type 0
     Told j = IsKnown first decided (holds_at t j) (known_of (set now k x) j)
 
     here : Told k
-    here = subst (IsKnown first decided (holds_at t k)) (sym (get_or-set_same now k x (Value false) low ∙ told)) (node_known first t are decided width now k node at part)
+    here = subst (IsKnown first decided (holds_at t k)) (sym (get_or-set_same now k x (Known false) low ∙ told)) (node_known first t are decided width now k node at part)
 
     kept : (j : ℕ) → IsKnown first decided (holds_at t j) (known_of now j) → Told j
-    kept j known = ⊎_elim (λ s. subst Told (sym s) here) (λ same. subst (IsKnown first decided (holds_at t j)) same known) (get_or-set_cases now k j x (known_of (set now k x) j) (Value false) refl)
+    kept j known = ⊎_elim (λ s. subst Told (sym s) here) (λ same. subst (IsKnown first decided (holds_at t j)) same known) (get_or-set_cases now k j x (known_of (set now k x) j) (Known false) refl)
 
     pub evaluating_more : IsEvaluating first t decided asked (i + 1) old (set now k x)
     evaluating_more = record {
       done = λ j h. ⊎_elim (λ r. kept j (e.done j r)) (λ s. ⊎_elim (λ same. subst Told same here) absurd s) (has_append (take i asked) (k ∷ []) j (subst (λ l. Has l j) taken h));
-      others = λ j h. ⊎_elim (λ s. absurd (h (subst (Has asked) (sym s) (has_at asked i k is)))) (λ same. sym same ∙ e.others j h) (get_or-set_cases now k j x (known_of (set now k x) j) (Value false) refl);
+      others = λ j h. ⊎_elim (λ s. absurd (h (subst (Has asked) (sym s) (has_at asked i k is)))) (λ same. sym same ∙ e.others j h) (get_or-set_cases now k j x (known_of (set now k x) j) (Known false) refl);
       room = length-set now k x ∙ e.room;
     }
 
-pub evaluating_ends : (first : ℕ) (t : TableParts) (decided : List (Option Bool)) (asked : List ℕ) (i : ℕ) (old new : List Known) → length asked ≤ i → IsEvaluating first t decided asked i old new → AreKnown first t decided asked new
+pub evaluating_ends : (first : ℕ) (t : TableParts) (decided : List (Option Bool)) (asked : List ℕ) (i : ℕ) (old new : List Truth) → length asked ≤ i → IsEvaluating first t decided asked i old new → AreKnown first t decided asked new
 evaluating_ends first t decided asked i old new past e = subst (λ l. AreKnown first t decided l new) (take_all i asked past) e.done
 
 -- ---- two lists of tests
@@ -144,22 +144,22 @@ has_or_not [] k = inr (λ h. h)
 has_or_not (j ∷ ks) k = ⊎_elim (λ e. inl (inl e)) (λ n. ⊎_elim (λ r. inl (inr r)) (λ m. inr (λ h. ⊎_elim n m h)) (has_or_not ks k)) (cases_eq j k)
 
 -- known values remain known when the values of more tests are added
-known_both : (first : ℕ) (t : TableParts) (decided : List (Option Bool)) (asked more : List ℕ) (old new : List Known) → AreKnown first t decided asked old → AreKnown first t decided more new
+known_both : (first : ℕ) (t : TableParts) (decided : List (Option Bool)) (asked more : List ℕ) (old new : List Truth) → AreKnown first t decided asked old → AreKnown first t decided more new
     → ((k : ℕ) → (Has more k → ⊥) → known_of new k ≡ known_of old k) → AreKnown first t decided asked new
 known_both first t decided asked more old new was told others k h = ⊎_elim (told k) (λ n. subst (IsKnown first decided (holds_at t k)) (sym (others k n)) (was k h)) (has_or_not more k)
 
 -- the same for equal arguments
-known_along : (first : ℕ) (t t2 : TableParts) (ds ds2 : List (Option Bool)) (asked asked2 : List ℕ) (known known2 : List Known) → t ≡ t2 → ds ≡ ds2 → asked ≡ asked2 → known ≡ known2 → AreKnown first t ds asked known → AreKnown first t2 ds2 asked2 known2
+known_along : (first : ℕ) (t t2 : TableParts) (ds ds2 : List (Option Bool)) (asked asked2 : List ℕ) (known known2 : List Truth) → t ≡ t2 → ds ≡ ds2 → asked ≡ asked2 → known ≡ known2 → AreKnown first t ds asked known → AreKnown first t2 ds2 asked2 known2
 known_along first t t2 ds ds2 asked asked2 known known2 e f g h told =
     subst (λ u. AreKnown first u ds2 asked2 known2) e (subst (λ l. AreKnown first t l asked2 known2) f (subst (λ ks. AreKnown first t ds ks known2) g (subst (AreKnown first t ds asked) h told)))
 
 -- a case of a question is known after its tests are evaluated: first those that the targets and the pair name, then, in
 -- the same list, those that moves name
-pub case_told : (q : QuestionParts) (t : TableParts) (asked begin end : List ℕ) (ds first second : List (Option Bool)) (n : ℕ) (one two three : List Known) (c : Case) → t ≡ q.tables → asked ≡ q.asked → begin ≡ q.turn.begin → end ≡ q.turn.end
+pub case_told : (q : QuestionParts) (t : TableParts) (asked begin end : List ℕ) (ds first second : List (Option Bool)) (n : ℕ) (one two three : List Truth) (c : TestCase) → t ≡ q.tables → asked ≡ q.asked → begin ≡ q.action_pass.begin → end ≡ q.action_pass.end
     → first ≡ take q.tables.width ds → second ≡ drop q.tables.width ds → n ≡ q.tables.width → AreKnown 0 t first asked one → AreKnown 0 t first begin two → ((k : ℕ) → (Has begin k → ⊥) → known_of two k ≡ known_of one k) → AreKnown n t second end three
-    → two ≡ c.begin.items → three ≡ c.end.items → IsCase q.tables q q.asked ds c
+    → two ≡ c.begin.items → three ≡ c.end.items → IsTestCase q.tables q q.asked ds c
 case_told q t asked begin end ds first second n one two three c e ask at_begin at_end front back width targets moves others ends begun ended = record {
   targets = known_along 0 t q.tables first (take q.tables.width ds) asked q.asked two c.begin.items e front ask begun (known_both 0 t first asked begin one two targets moves others);
-  begin = known_along 0 t q.tables first (take q.tables.width ds) begin q.turn.begin two c.begin.items e front at_begin begun moves;
-  end = subst (λ m. AreKnown m q.tables (drop q.tables.width ds) q.turn.end c.end.items) width (known_along n t q.tables second (drop q.tables.width ds) end q.turn.end three c.end.items e back at_end ended ends);
+  begin = known_along 0 t q.tables first (take q.tables.width ds) begin q.action_pass.begin two c.begin.items e front at_begin begun moves;
+  end = subst (λ m. AreKnown m q.tables (drop q.tables.width ds) q.action_pass.end c.end.items) width (known_along n t q.tables second (drop q.tables.width ds) end q.action_pass.end three c.end.items e back at_end ended ends);
 }

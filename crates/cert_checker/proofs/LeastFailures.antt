@@ -7,9 +7,9 @@ use Rattle.std.specs.Cmp.Lexicographic.{slice_partial_cmp}
 use Rattle.kat_model.specs.Steps.{Atom}
 use Rattle.cert_checker.specs.Answers.{IsLess}
 use Rattle.cert_checker.specs.Working.Cases.{Extends, IsOpen, open_count, least_of, IsBelow, IsFirstFailure}
-use Rattle.cert_checker.specs.Working.Questions.{IsState}
-use Rattle.cert_checker.specs.declared.matching.State.{State}
-use Rattle.cert_checker.specs.declared.matching.State.TheVariants.{Waits}
+use Rattle.cert_checker.specs.Working.Questions.{IsOutcome}
+use Rattle.cert_checker.specs.declared.matching.Outcome.{Outcome}
+use Rattle.cert_checker.specs.declared.matching.Outcome.TheVariants.{Undecided}
 
 -- ---- the order of atoms
 
@@ -194,9 +194,9 @@ pub restored : (ds low high : List (Option Bool)) (k : ℕ) → IsOpen ds k → 
 restored ds low high k undecided e f =
     ap (λ l. slice_set l k None) (f ∙ ap (λ l. slice_set l k (Some true)) e ∙ set-set ds k (Some false) (Some true)) ∙ set-set ds k (Some true) None ∙ open_again ds k undecided
 
--- the test for which the state waits is open
-pub waits_open : (P : Atom → Type 0) (ds now : List (Option Bool)) (s : State) (k : ℕ) → now ≡ ds → s ≡ Waits k → IsState P now s → IsOpen ds k
-waits_open P ds now s k e w told = subst (IsState P ds) w (subst (λ l. IsState P l s) e told)
+-- the undecided test of the outcome is open
+pub waits_open : (P : Atom → Type 0) (ds now : List (Option Bool)) (s : Outcome) (k : ℕ) → now ≡ ds → s ≡ Undecided k → IsOutcome P now s → IsOpen ds k
+waits_open P ds now s k e w told = subst (IsOutcome P ds) w (subst (λ l. IsOutcome P l s) e told)
 
 -- ---- the result of both halves of a search
 

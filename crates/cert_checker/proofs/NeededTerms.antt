@@ -1,8 +1,9 @@
 -- Marks of the terms whose steps are computed, and the sets of tests that forbidden moves name.
-use Rattle.std.proofs.Common.{◌≡◌, ◌⊎◌, ◌<◌, ◌≤◌, ◌+◌, ℕ, ⊎_elim, List, ◌++◌, take, drop, length, slice_get, get_or, Bool, Some, arith, subst, sym, ap, ◌∙◌}
+use Rattle.std.proofs.Common.{◌≡◌, ◌<◌, ◌≤◌, ◌+◌, ℕ, ⊎_elim, List, ◌++◌, take, drop, length, slice_get, get_or, Bool, Some, arith, subst, sym, ap, ◌∙◌}
 use Rattle.std.proofs.Math.Seq.{take-append_seam}
 use Rattle.std.proofs.lemmas.Option.{slice_get_within, slice_get-get_or, get_or_from_slice_get}
 use Rattle.kat_model.specs.Members.{Has}
+use Rattle.kat_model.proofs.Numbers.{below_next}
 use Rattle.kat_model.proofs.Places.{has_at, place_of_member}
 use Rattle.certificate.specs.PairParts.{PairParts}
 use Rattle.certificate.specs.Certs.{CertParts}
@@ -16,15 +17,12 @@ pub record AreGathered (numbers : List ℕ) (ps : List PairParts) (n : ℕ) (mar
   pub left : (j : ℕ) (p : PairParts) (k : ℕ) → j < n → slice_get ps j ≡ Some p → Has p.left k → IsMarked marks k
   pub right : (j : ℕ) (p : PairParts) (k : ℕ) → j < n → slice_get ps j ≡ Some p → Has p.right k → IsMarked marks k
 
-below_or_last : (j n : ℕ) → j < n + 1 → (j < n) ⊎ (j ≡ n)
-below_or_last j n h = grind arith
-
 pub gathered_more : (shorts : List ℕ) (ps : List PairParts) (n : ℕ) (marks mid new : List Bool) (p : PairParts) → slice_get ps n ≡ Some p → AreGathered shorts ps n marks → ((k : ℕ) → IsMarked marks k → IsMarked mid k) → ((k : ℕ) → Has p.left k → IsMarked mid k)
     → ((k : ℕ) → IsMarked mid k → IsMarked new k) → ((k : ℕ) → Has p.right k → IsMarked new k) → AreGathered shorts ps (n + 1) new
 gathered_more shorts ps n marks mid new p is g keep lefts keeps rights = record {
   shorts = λ k h. keeps k (keep k (g.shorts k h));
-  left = λ j r k low at h. ⊎_elim (λ l. keeps k (keep k (g.left j r k l at h))) (λ e. keeps k (lefts k (subst (λ (z : PairParts). Has z.left k) (same j r at e) h))) (below_or_last j n low);
-  right = λ j r k low at h. ⊎_elim (λ l. keeps k (keep k (g.right j r k l at h))) (λ e. rights k (subst (λ (z : PairParts). Has z.right k) (same j r at e) h)) (below_or_last j n low);
+  left = λ j r k low at h. ⊎_elim (λ l. keeps k (keep k (g.left j r k l at h))) (λ e. keeps k (lefts k (subst (λ (z : PairParts). Has z.left k) (same j r at e) h))) (below_next j n low);
+  right = λ j r k low at h. ⊎_elim (λ l. keeps k (keep k (g.right j r k l at h))) (λ e. rights k (subst (λ (z : PairParts). Has z.right k) (same j r at e) h)) (below_next j n low);
 }
   where
     same : (j : ℕ) (r : PairParts) → slice_get ps j ≡ Some r → j ≡ n → r ≡ p

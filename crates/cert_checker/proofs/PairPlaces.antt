@@ -86,11 +86,11 @@ module _ (q : ProblemParts) (c : CertParts) (action : Option ℕ) where
   step_of UpTo (Some a) m p atom to e h = let same : a ≡ m = omega (arith, e) in subst (λ z. StepHolds UpTo q c p atom z) same h
   step_of Under (Some a) m p atom to e h = tt
 
-  move_of : (s : Style) (o : Option ℕ) (m : ℕ) (p : TestedPair) (atom to : Atom) → turn_number o ≡ suc m → TurnHolds s q c p o atom to → MoveHolds s q c p atom (record { act = m; atom = to })
-  move_of s None m p atom to e h = absurd (omega (arith, e))
-  move_of Plain (Some a) m p atom to e h = tt
-  move_of UpTo (Some a) m p atom to e h = tt
-  move_of Under (Some a) m p atom to e h = let same : a ≡ m = omega (arith, e) in subst (λ z. MoveHolds Under q c p atom (record { act = z; atom = to })) same h
+  move_status : (s : Style) (o : Option ℕ) (m : ℕ) (p : TestedPair) (atom to : Atom) → turn_number o ≡ suc m → TurnHolds s q c p o atom to → MoveHolds s q c p atom (record { act = m; atom = to })
+  move_status s None m p atom to e h = absurd (omega (arith, e))
+  move_status Plain (Some a) m p atom to e h = tt
+  move_status UpTo (Some a) m p atom to e h = tt
+  move_status Under (Some a) m p atom to e h = let same : a ≡ m = omega (arith, e) in subst (λ z. MoveHolds Under q c p atom (record { act = z; atom = to })) same h
 
   within_pairs : (k : ℕ) (p : TestedPair) → slice_get (tested_pairs c) k ≡ Some p → k < length c.pairs
   within_pairs k p e = subst (λ n. k < n) (length-map c.pairs _) (slice_get_within (tested_pairs c) k p e)
@@ -98,7 +98,7 @@ module _ (q : ProblemParts) (c : CertParts) (action : Option ℕ) where
   pub none_fails : ((k : ℕ) → k < length c.pairs → HoldsAtEach k) → IsFirstOf q c (λ n. n ≡ turn_number action) None
   none_fails all (Output k atom) a = λ p e l. outputs_of c.style action p atom atom (sym a.1) (all k (within_pairs k p e) p e atom atom l l)
   none_fails all (Missing k atom m) a = λ p e l low. step_of c.style action m p atom atom (sym a.1) (all k (within_pairs k p e) p e atom atom l l)
-  none_fails all (MissingTo k atom m to) a = λ p e l low wide. move_of c.style action m p atom to (sym a.1) (all k (within_pairs k p e) p e atom to l wide)
+  none_fails all (MissingTo k atom m to) a = λ p e l low wide. move_status c.style action m p atom to (sym a.1) (all k (within_pairs k p e) p e atom to l wide)
   none_fails all FirstPair a = tt
   none_fails all (Shape k) a = tt
   none_fails all (HypBroken h i j) a = tt
@@ -126,8 +126,8 @@ module _ (q : ProblemParts) (c : CertParts) (action : Option ℕ) where
     abbrev reason : Reason
     reason = reason_at c.style k front action back
 
-    turn : ((turn_of reason).stage ≡ 3) × ((turn_of reason).number ≡ k) × ((turn_of reason).atom ≡ front) × ((turn_of reason).action ≡ turn_number action)
-    turn = place_turn c.style k front action back
+    action_pass : ((turn_of reason).stage ≡ 3) × ((turn_of reason).number ≡ k) × ((turn_of reason).atom ≡ front) × ((turn_of reason).action ≡ turn_number action)
+    action_pass = place_turn c.style k front action back
 
     -- the certificate fails by the reason
     turn_from_step : (s : Style) (a : ℕ) → (s ≡ Under → ⊥) → StepHolds s q c p front a → TurnHolds s q c p (Some a) front back
@@ -165,9 +165,9 @@ module _ (q : ProblemParts) (c : CertParts) (action : Option ℕ) where
         → ((turn_of s).number < k) ⊎ (((turn_of s).number ≡ k) × IsLess ((turn_of s).atom ++ to) x)
     ordered s a e to behind =
         ⊎_elim
-        (λ l. inl (omega (arith, l, turn.1)))
-        (λ r. inr (r.0 ∙ turn.1, ⊎_elim (λ l. less_first (turn_of s).atom to (subst (IsLess (turn_of s).atom) turn.2 l)) (λ m. less_second (turn_of s).atom to (m.0 ∙ turn.2) (behind m.1)) r.1))
-        (earlier_parts (turn_of s) (turn_of reason) (a.0 ∙ sym turn.0) (a.1 ∙ sym turn.3) e)
+        (λ l. inl (omega (arith, l, action_pass.1)))
+        (λ r. inr (r.0 ∙ action_pass.1, ⊎_elim (λ l. less_first (turn_of s).atom to (subst (IsLess (turn_of s).atom) action_pass.2 l)) (λ m. less_second (turn_of s).atom to (m.0 ∙ action_pass.2) (behind m.1)) r.1))
+        (earlier_parts (turn_of s) (turn_of reason) (a.0 ∙ sym action_pass.0) (a.1 ∙ sym action_pass.3) e)
 
     never_before : (j : ℕ) (g : TestedPair) → slice_get (tested_pairs c) j ≡ Some g → (atom to : Atom) → length atom ≡ q.tests → length to ≡ q.tests → (TurnHolds c.style q c g action atom to → ⊥) → (j < k) ⊎ ((j ≡ k) × IsLess (atom ++ to) x) → ⊥
     never_before j g e atom to l m never h =
@@ -186,7 +186,7 @@ module _ (q : ProblemParts) (c : CertParts) (action : Option ℕ) where
     none (Output j atom) a e g = never_before j g.0 g.1 atom back g.2 back_wide (λ h. g.3 (outputs_of c.style action g.0 atom back (sym a.1) h)) (ordered (Output j atom) a e back absurd)
     none (Missing j atom m) a e g = never_before j g.0 g.1 atom back g.2 back_wide (λ h. g.4 (step_of c.style action m g.0 atom back (sym a.1) h)) (ordered (Missing j atom m) a e back absurd)
     none (MissingTo j atom m to) a e g =
-        never_before j g.0 g.1 atom to g.2 g.4 (λ h. g.5 (move_of c.style action m g.0 atom to (sym a.1) h))
+        never_before j g.0 g.1 atom to g.2 g.4 (λ h. g.5 (move_status c.style action m g.0 atom to (sym a.1) h))
         (ordered (MissingTo j atom m to) a e to (λ l. subst (IsLess to) (to_of c.style action m g.0 atom to (sym a.1) g.5) l))
     none FirstPair a e g = absurd (omega (arith, a.0))
     none (Shape j) a e g = g
@@ -196,7 +196,7 @@ module _ (q : ProblemParts) (c : CertParts) (action : Option ℕ) where
     none (TermNode j) a e g = absurd (omega (arith, a.0))
 
     pub first_fails : IsFirstOf q c (λ n. n ≡ turn_number action) (Some (reason_at c.style k (take q.tests x) action (drop q.tests x)))
-    first_fails = ((turn.0, turn.3), place_fails c.style refl action low f.fails, none)
+    first_fails = ((action_pass.0, action_pass.3), place_fails c.style refl action low f.fails, none)
 
 -- the pair that the loop visits
 pub pair_at : (ps items : List PairParts) (k : ℕ) (p : PairParts) → items ≡ ps → k < length items → p ≡ get_or items k p → slice_get ps k ≡ Some p

@@ -28,8 +28,8 @@ use Rattle.cert_steps.proofs.StepSets.{stand_kept}
 use Rattle.cert_checker.specs.Working.Cases.{IsFirstFailure, undecided}
 use Rattle.cert_checker.specs.Working.Indices.{IndexParts, AreIndexed}
 use Rattle.cert_checker.specs.Working.Roots.{compared, counted_short}
-use Rattle.cert_checker.specs.Working.Questions.{TurnParts, QuestionParts, IsQuestion, AreNamed, IsPosed, IsAskedOf, Counts, AreMatchedIn, MatchAt, test_holds}
-use Rattle.cert_checker.specs.Working.Places.{PassParts, IsPass, IsTurn, IsAllowed, TurnHolds, PairHolds}
+use Rattle.cert_checker.specs.Working.Questions.{ActionPassParts, QuestionParts, IsQuestion, AreNamed, IsPosed, IsAskedOf, Counts, AreMatchedIn, MatchAt, test_holds}
+use Rattle.cert_checker.specs.Working.Places.{PassParts, IsPass, IsActionPass, IsAllowed, TurnHolds, PairHolds}
 use Rattle.cert_checker.proofs.RootRanges.{terms_stay}
 use Rattle.cert_checker.proofs.Passes.{pass_with, turn_with}
 use Rattle.cert_checker.proofs.SetQuestions.{matched_same}
@@ -124,9 +124,9 @@ both_trans x y = ((λ a. y.0 (x.0 a)), (λ c. x.1 (y.1 c)))
 pub by_path : {A B : Type 0} → A ≡ B → A ↔ B
 by_path e = ((λ h. subst (λ (P : Type 0). P) e h), (λ h. subst (λ (P : Type 0). P) (sym e) h))
 
--- the question of a turn about the targets of two sets
-abbrev pub question_of : TableParts → TurnParts → Option ℕ → List (ℕ × ℕ) → List (ℕ × ℕ) → List ℕ → QuestionParts
-question_of t turn own left right asked = record { tables = t; turn = turn; own = own; left = left; right = right; asked = asked }
+-- the question of an action's pass about the targets of two sets
+abbrev pub question_of : TableParts → ActionPassParts → Option ℕ → List (ℕ × ℕ) → List (ℕ × ℕ) → List ℕ → QuestionParts
+question_of t action_pass own left right asked = record { tables = t; action_pass = action_pass; pair_test = own; left = left; right = right; asked = asked }
 
 module _ (p : PassParts) (pass : IsPass p) where
   -- the condition on two sets at an atom and at the atom that an action leads to
@@ -144,11 +144,11 @@ module _ (p : PassParts) (pass : IsPass p) where
         (same_members_sym (chosen p.tables left atom) (set_next es atom a) (own.same atom)) (same_members_sym (chosen p.tables right atom) (set_next fs atom a) (other.same atom)) m),
   )
 
-  -- the same in a turn
-  pub matched_in_turn : (turn : TurnParts) → IsTurn p turn → (es fs : List Term) (to : Atom)
-      → AreMatchedIn (nodes_in p.tables) turn.style (option_map (term_at p.tables) turn.universal) turn.pairs es fs to
-      ≡ AreMatchedIn (nodes_in p.tables) (option_map_or (λ a. p.cert.style) turn.action UpTo) (option_map (term_at p.tables) (option_map_or (λ a. p.universal) turn.action None)) (option_map_or (λ a. p.cert.pairs) turn.action []) es fs to
-  matched_in_turn turn is es fs to = λ i. AreMatchedIn (nodes_in p.tables) (is.style i) (option_map (term_at p.tables) (is.universal i)) (is.pairs i) es fs to
+  -- the same in an action's pass
+  pub matched_in_turn : (action_pass : ActionPassParts) → IsActionPass p action_pass → (es fs : List Term) (to : Atom)
+      → AreMatchedIn (nodes_in p.tables) action_pass.style (option_map (term_at p.tables) action_pass.universal) action_pass.pairs es fs to
+      ≡ AreMatchedIn (nodes_in p.tables) (option_map_or (λ a. p.cert.style) action_pass.action UpTo) (option_map (term_at p.tables) (option_map_or (λ a. p.universal) action_pass.action None)) (option_map_or (λ a. p.cert.pairs) action_pass.action []) es fs to
+  matched_in_turn action_pass is es fs to = λ i. AreMatchedIn (nodes_in p.tables) (is.style i) (option_map (term_at p.tables) (is.universal i)) (is.pairs i) es fs to
 
   -- in a style without tests no pair has a test
   none_plain : p.cert.style ≡ Plain → (r : PairParts) → Has p.cert.pairs r → r.test ≡ None
@@ -198,28 +198,28 @@ module _ (p : PassParts) (pass : IsPass p) where
         let same = by_path (matched_under (set_next (terms_of (nodes_of p.cert) r.left) atom a) (set_next (terms_of (nodes_of p.cert) r.right) atom a) to e) in
         ((λ h test allowed. same.0 (h (test, allowed))), (λ h both. same.1 (h both.0 both.1)))
 
-    module _ (turn : TurnParts) (is : IsTurn p turn) (left right : List (ℕ × ℕ)) (asked : List ℕ) where
+    module _ (action_pass : ActionPassParts) (is : IsActionPass p action_pass) (left right : List (ℕ × ℕ)) (asked : List ℕ) where
       -- the question about the pair counts if and only if the pair's test is true and the move is allowed
-      counts_told : (atom to : Atom) → Counts p.tables (question_of p.tables turn r.test left right asked) atom to ↔ (IsTrue (truth (test_of (nodes_of p.cert) r.test) atom) × IsAllowed (counted_short p.cert.style p.problem) turn.action atom to)
+      counts_told : (atom to : Atom) → Counts p.tables (question_of p.tables action_pass r.test left right asked) atom to ↔ (IsTrue (truth (test_of (nodes_of p.cert) r.test) atom) × IsAllowed (counted_short p.cert.style p.problem) action_pass.action atom to)
       counts_told atom to = (
-        (λ h. (sym (same atom) ∙ h.own, (is.forbidden.mean atom to).0 h.free)),
-        (λ h. record { own = same atom ∙ h.0; free = (is.forbidden.mean atom to).1 h.1 }),
+        (λ h. (sym (same atom) ∙ h.pair_test, (is.forbidden.mean atom to).0 h.free)),
+        (λ h. record { pair_test = same atom ∙ h.0; free = (is.forbidden.mean atom to).1 h.1 }),
       )
         where
           same : (atom : Atom) → test_holds p.tables r.test atom ≡ truth (test_of (nodes_of p.cert) r.test) atom
           same atom = ap (λ b. truth b atom) (test_kept p.problem p.cert pass.cert p.tables pass.nodes r.test (test_there p.problem p.cert pass.cert p.tables pass.nodes p.cert.style (length p.cert.test_nodes) r.test (pass.cert.pairs r listed).test))
 
       -- the question holds if and only if the pair does
-      pub turn_told : StandFor p.tables left (set_leads_to turn.action (terms_of (nodes_of p.cert) r.left)) → StandFor p.tables right (set_leads_to turn.action (terms_of (nodes_of p.cert) r.right)) → (x : Atom)
-          → MatchAt p.tables (question_of p.tables turn r.test left right asked) x ↔ TurnHolds p.cert.style p.problem p.cert (tested_pair_of (nodes_of p.cert) r) turn.action (take p.tables.width x) (drop p.tables.width x)
+      pub turn_told : StandFor p.tables left (set_leads_to action_pass.action (terms_of (nodes_of p.cert) r.left)) → StandFor p.tables right (set_leads_to action_pass.action (terms_of (nodes_of p.cert) r.right)) → (x : Atom)
+          → MatchAt p.tables (question_of p.tables action_pass r.test left right asked) x ↔ TurnHolds p.cert.style p.problem p.cert (tested_pair_of (nodes_of p.cert) r) action_pass.action (take p.tables.width x) (drop p.tables.width x)
       turn_told own other x =
           both_trans
           (both_or (counts_told (take p.tables.width x) (drop p.tables.width x))
-          (both_trans (by_path (matched_in_turn turn is (chosen p.tables left (take p.tables.width x)) (chosen p.tables right (take p.tables.width x)) (drop p.tables.width x)))
-          (matched_told turn.action left right (terms_of (nodes_of p.cert) r.left) (terms_of (nodes_of p.cert) r.right) own other (take p.tables.width x) (drop p.tables.width x))))
-          (asked_told p.cert.style refl turn.action (take p.tables.width x) (drop p.tables.width x))
+          (both_trans (by_path (matched_in_turn action_pass is (chosen p.tables left (take p.tables.width x)) (chosen p.tables right (take p.tables.width x)) (drop p.tables.width x)))
+          (matched_told action_pass.action left right (terms_of (nodes_of p.cert) r.left) (terms_of (nodes_of p.cert) r.right) own other (take p.tables.width x) (drop p.tables.width x))))
+          (asked_told p.cert.style refl action_pass.action (take p.tables.width x) (drop p.tables.width x))
 
-  -- ---- the question of a turn
+  -- ---- the question of an action's pass
 
   set_in_tables : (ks : List ℕ) → IsNumberSet (length p.cert.term_nodes) ks → IsNumberSet (length p.tables.terms) ks
   set_in_tables ks s = record { there = below_more (length p.cert.term_nodes) (length p.tables.terms) ks (omega (arith, pass.count, pass.there)) s.there; ascending = s.ascending }
@@ -240,26 +240,26 @@ module _ (p : PassParts) (pass : IsPass p) where
   untested_in None e r h = absurd h
   untested_in (Some a) e r h = none_plain e r h
 
-  module _ (turn : TurnParts) (is : IsTurn p turn) where
-    of_turn : (r : PairParts) → Has turn.pairs r → Has (option_map_or (λ a. p.cert.pairs) turn.action []) r
+  module _ (action_pass : ActionPassParts) (is : IsActionPass p action_pass) where
+    of_turn : (r : PairParts) → Has action_pass.pairs r → Has (option_map_or (λ a. p.cert.pairs) action_pass.action []) r
     of_turn r h = subst (λ (ps : List PairParts). Has ps r) is.pairs h
 
-    question_asked : (own : Option ℕ) (left right : List (ℕ × ℕ)) (asked : List ℕ) → ((k : ℕ) → own ≡ Some k → IsTest p.tables k) → AreEntries p.tables left → AreEntries p.tables right → IsQuestion p.tables (question_of p.tables turn own left right asked)
+    question_asked : (own : Option ℕ) (left right : List (ℕ × ℕ)) (asked : List ℕ) → ((k : ℕ) → own ≡ Some k → IsTest p.tables k) → AreEntries p.tables left → AreEntries p.tables right → IsQuestion p.tables (question_of p.tables action_pass own left right asked)
     question_asked own left right asked test first second = record {
-      pairs = λ r h. let of = pass.cert.pairs r (listed_in turn.action r (of_turn r h)) in (set_in_tables r.left of.left, set_in_tables r.right of.right);
-      untested = λ e r h. untested_in turn.action (sym is.style ∙ e) r (of_turn r h);
-      indexed = subst (λ (x : IndexParts). AreIndexed x turn.pairs) (sym is.index) (subst (AreIndexed p.index) (sym is.pairs) (indexed_in turn.action));
-      universal = λ u e. universal_there turn.action u (sym is.universal ∙ e);
-      own = test;
+      pairs = λ r h. let of = pass.cert.pairs r (listed_in action_pass.action r (of_turn r h)) in (set_in_tables r.left of.left, set_in_tables r.right of.right);
+      untested = λ e r h. untested_in action_pass.action (sym is.style ∙ e) r (of_turn r h);
+      indexed = subst (λ (x : IndexParts). AreIndexed x action_pass.pairs) (sym is.index) (subst (AreIndexed p.index) (sym is.pairs) (indexed_in action_pass.action));
+      universal = λ u e. universal_there action_pass.action u (sym is.universal ∙ e);
+      pair_test = test;
       left = first;
       right = second;
       begin = is.begin;
       end = is.end;
-      by_moves = λ g n. subst (Has turn.begin) n.2 (is.by_moves n.0 n.1).0;
-      at_end = λ g n. ⊎_elim (λ m. subst (Has turn.end) m.2 (is.by_moves m.0 m.1).1) (λ m. is.by_pairs m.0 g m.1 m.2) n;
+      by_moves = λ g n. subst (Has action_pass.begin) n.2 (is.by_moves n.0 n.1).0;
+      at_end = λ g n. ⊎_elim (λ m. subst (Has action_pass.end) m.2 (is.by_moves m.0 m.1).1) (λ m. is.by_pairs m.0 g m.1 m.2) n;
     }
 
-    pub question_posed : (q : QuestionParts) (own : Option ℕ) (left right : List (ℕ × ℕ)) → IsAskedOf p.tables turn own left right q → AreNamed p.tables q q.asked → ((k : ℕ) → own ≡ Some k → IsTest p.tables k) → AreEntries p.tables left → AreEntries p.tables right → IsPosed q
+    pub question_posed : (q : QuestionParts) (own : Option ℕ) (left right : List (ℕ × ℕ)) → IsAskedOf p.tables action_pass own left right q → AreNamed p.tables q q.asked → ((k : ℕ) → own ≡ Some k → IsTest p.tables k) → AreEntries p.tables left → AreEntries p.tables right → IsPosed q
     question_posed q own left right e named test first second = subst IsPosed (sym e) (record {
       tables = pass.nodes.sound;
       question = question_asked own left right q.asked test first second;
@@ -273,42 +273,42 @@ module _ (p : PassParts) (pass : IsPass p) where
 -- ---- the pair that the loop visits
 
 module _ (p : PassParts) (begun : IsPass p) where
-  module _ (turn : TurnParts) (is : IsTurn p turn) (r : PairParts) (listed : Has p.cert.pairs r) where
+  module _ (action_pass : ActionPassParts) (is : IsActionPass p action_pass) (r : PairParts) (listed : Has p.cert.pairs r) where
     -- the terms of its sets have targets
-    pub left_steps : AreSteps p.tables turn.action (Has r.left) turn.steps
-    left_steps = λ k es h at. is.steps.steps k es (begun.needed.left r k listed h) at
+    pub left_steps : AreSteps p.tables action_pass.action (Has r.left) action_pass.steps
+    left_steps = λ k es h at. is.steps.steps k es (begun.needed_terms.left r k listed h) at
 
-    pub right_steps : (mid : TableParts) → TablesGrow p.tables mid → AreSteps mid turn.action (Has r.right) turn.steps
-    right_steps mid to_mid = λ k es h at. (turn_with p mid to_mid turn begun is).steps.steps k es (begun.needed.right r k listed h) at
+    pub right_steps : (mid : TableParts) → TablesGrow p.tables mid → AreSteps mid action_pass.action (Has r.right) action_pass.steps
+    right_steps mid to_mid = λ k es h at. (turn_with p mid to_mid action_pass begun is).steps.steps k es (begun.needed_terms.right r k listed h) at
 
-    pub left_numbers : are_below (length turn.steps) r.left ≡ true
-    left_numbers = below_more (length p.cert.term_nodes) (length turn.steps) r.left (omega (arith, begun.count, begun.marks, is.steps.count)) (begun.cert.pairs r listed).left.there
+    pub left_numbers : are_below (length action_pass.steps) r.left ≡ true
+    left_numbers = below_more (length p.cert.term_nodes) (length action_pass.steps) r.left (omega (arith, begun.count, begun.marks, is.steps.count)) (begun.cert.pairs r listed).left.there
 
-    pub right_numbers : are_below (length turn.steps) r.right ≡ true
-    right_numbers = below_more (length p.cert.term_nodes) (length turn.steps) r.right (omega (arith, begun.count, begun.marks, is.steps.count)) (begun.cert.pairs r listed).right.there
+    pub right_numbers : are_below (length action_pass.steps) r.right ≡ true
+    right_numbers = below_more (length p.cert.term_nodes) (length action_pass.steps) r.right (omega (arith, begun.count, begun.marks, is.steps.count)) (begun.cert.pairs r listed).right.there
 
   module _ (r : PairParts) (listed : Has p.cert.pairs r) (mid last : TableParts) (to_mid : TablesGrow p.tables mid) (to_last : TablesGrow mid last) where
     pub own_test : (k : ℕ) → r.test ≡ Some k → IsTest last k
     own_test = test_in_tables (record p { tables = last }) (pass_with p last (grows_trans p.tables mid last to_mid to_last) begun) r listed
 
-module _ (p : PassParts) (mid last : TableParts) (begun : IsPass p) (to_mid : TablesGrow p.tables mid) (to_last : TablesGrow mid last) (turn : TurnParts) (is : IsTurn p turn) (r : PairParts) (listed : Has p.cert.pairs r)
-    (left right : List (ℕ × ℕ)) (own : StandFor mid left (set_leads_to turn.action (terms_of (nodes_in p.tables) r.left))) (other : StandFor last right (set_leads_to turn.action (terms_of (nodes_in mid) r.right))) where
+module _ (p : PassParts) (mid last : TableParts) (begun : IsPass p) (to_mid : TablesGrow p.tables mid) (to_last : TablesGrow mid last) (action_pass : ActionPassParts) (is : IsActionPass p action_pass) (r : PairParts) (listed : Has p.cert.pairs r)
+    (left right : List (ℕ × ℕ)) (own : StandFor mid left (set_leads_to action_pass.action (terms_of (nodes_in p.tables) r.left))) (other : StandFor last right (set_leads_to action_pass.action (terms_of (nodes_in mid) r.right))) where
   half : IsPass (record p { tables = mid })
   half = pass_with p mid to_mid begun
 
   whole : IsPass (record p { tables = last })
   whole = pass_with (record p { tables = mid }) last to_last half
 
-  turns : IsTurn (record p { tables = last }) turn
-  turns = turn_with (record p { tables = mid }) last to_last turn half (turn_with p mid to_mid turn begun is)
+  turns : IsActionPass (record p { tables = last }) action_pass
+  turns = turn_with (record p { tables = mid }) last to_last action_pass half (turn_with p mid to_mid action_pass begun is)
 
-  lefts : StandFor last left (set_leads_to turn.action (terms_of (nodes_of p.cert) r.left))
+  lefts : StandFor last left (set_leads_to action_pass.action (terms_of (nodes_of p.cert) r.left))
   lefts =
-      stand_kept mid last to_last.was to_last left (set_leads_to turn.action (terms_of (nodes_of p.cert) r.left))
-      (subst (λ es. StandFor mid left (set_leads_to turn.action es)) (set_kept p.problem p.cert begun.cert p.tables begun.nodes r.left (begun.cert.pairs r listed).left.there) own)
+      stand_kept mid last to_last.was to_last left (set_leads_to action_pass.action (terms_of (nodes_of p.cert) r.left))
+      (subst (λ es. StandFor mid left (set_leads_to action_pass.action es)) (set_kept p.problem p.cert begun.cert p.tables begun.nodes r.left (begun.cert.pairs r listed).left.there) own)
 
-  rights : StandFor last right (set_leads_to turn.action (terms_of (nodes_of p.cert) r.right))
-  rights = subst (λ es. StandFor last right (set_leads_to turn.action es)) (set_kept p.problem p.cert begun.cert mid half.nodes r.right (begun.cert.pairs r listed).right.there) other
+  rights : StandFor last right (set_leads_to action_pass.action (terms_of (nodes_of p.cert) r.right))
+  rights = subst (λ es. StandFor last right (set_leads_to action_pass.action es)) (set_kept p.problem p.cert begun.cert mid half.nodes r.right (begun.cert.pairs r listed).right.there) other
 
   pub left_entries : AreEntries last left
   left_entries = lefts.entries
@@ -316,17 +316,17 @@ module _ (p : PassParts) (mid last : TableParts) (begun : IsPass p) (to_mid : Ta
   pub right_entries : AreEntries last right
   right_entries = rights.entries
 
-  pub pair_posed : (q : QuestionParts) → IsAskedOf last turn r.test left right q → AreNamed last q q.asked → IsPosed q
-  pair_posed q e named = question_posed (record p { tables = last }) whole turn turns q r.test left right e named (own_test p begun r listed mid last to_mid to_last) lefts.entries rights.entries
+  pub pair_posed : (q : QuestionParts) → IsAskedOf last action_pass r.test left right q → AreNamed last q q.asked → IsPosed q
+  pair_posed q e named = question_posed (record p { tables = last }) whole action_pass turns q r.test left right e named (own_test p begun r listed mid last to_mid to_last) lefts.entries rights.entries
 
   -- the least values at which the question about the pair fails are the least at which the pair fails
-  pub pair_told : (q : QuestionParts) (o : Option Atom) → IsAskedOf last turn r.test left right q → IsFirstFailure (MatchAt q.tables q) (undecided (p.tables.width + p.tables.width)) o → IsFirstFailure (PairHolds p.problem p.cert turn.action r) (undecided (p.problem.tests + p.problem.tests)) o
+  pub pair_told : (q : QuestionParts) (o : Option Atom) → IsAskedOf last action_pass r.test left right q → IsFirstFailure (MatchAt q.tables q) (undecided (p.tables.width + p.tables.width)) o → IsFirstFailure (PairHolds p.problem p.cert action_pass.action r) (undecided (p.problem.tests + p.problem.tests)) o
   pair_told q o e f =
-      subst (λ n. IsFirstFailure (PairHolds p.problem p.cert turn.action r) (undecided (n + n)) o) begun.nodes.width
-      (same_failure (MatchAt q.tables q) (PairHolds p.problem p.cert turn.action r) (undecided (p.tables.width + p.tables.width)) o same f)
+      subst (λ n. IsFirstFailure (PairHolds p.problem p.cert action_pass.action r) (undecided (n + n)) o) begun.nodes.width
+      (same_failure (MatchAt q.tables q) (PairHolds p.problem p.cert action_pass.action r) (undecided (p.tables.width + p.tables.width)) o same f)
     where
-      same : (x : Atom) → MatchAt q.tables q x ↔ PairHolds p.problem p.cert turn.action r x
+      same : (x : Atom) → MatchAt q.tables q x ↔ PairHolds p.problem p.cert action_pass.action r x
       same x =
-          subst (λ (z : QuestionParts). MatchAt z.tables z x ↔ PairHolds p.problem p.cert turn.action r x) (sym e)
-          (subst (λ n. MatchAt last (question_of last turn r.test left right q.asked) x ↔ TurnHolds p.cert.style p.problem p.cert (tested_pair_of (nodes_of p.cert) r) turn.action (take n x) (drop n x)) whole.nodes.width
-          (turn_told (record p { tables = last }) whole r listed turn turns left right q.asked lefts rights x))
+          subst (λ (z : QuestionParts). MatchAt z.tables z x ↔ PairHolds p.problem p.cert action_pass.action r x) (sym e)
+          (subst (λ n. MatchAt last (question_of last action_pass r.test left right q.asked) x ↔ TurnHolds p.cert.style p.problem p.cert (tested_pair_of (nodes_of p.cert) r) action_pass.action (take n x) (drop n x)) whole.nodes.width
+          (turn_told (record p { tables = last }) whole r listed action_pass turns left right q.asked lefts rights x))

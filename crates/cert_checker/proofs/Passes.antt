@@ -1,4 +1,4 @@
--- What is known in a pass over the pairs, and in a turn of it, remains true when its tables grow.
+-- What is known in a pass over the pairs, and in that of an action, remains true when its tables grow.
 use Rattle.std.proofs.Common.{◌≡◌, ℕ, ◌≤◌, List, length, slice_get, refl, sym, ap, ◌∙◌, subst, arith, Bool, ◌&&◌, Option, Some}
 use mathlib.Core.Path.{ap₂}
 use Rattle.std.specs.Bool.{IsTrue}
@@ -19,8 +19,8 @@ use Rattle.cert_steps.proofs.TargetSets.{test_within, holds_kept}
 use Rattle.cert_checker.specs.Working.Cases.{AreAsked}
 use Rattle.cert_checker.specs.Working.Indices.{AreIndexed}
 use Rattle.cert_checker.specs.Working.Roots.{AreRoots, counted_short}
-use Rattle.cert_checker.specs.Working.Questions.{TurnParts}
-use Rattle.cert_checker.specs.Working.Places.{PassParts, AreNeeded, IsPass, PassGrows, StepsOf, AreForbidden, IsTurn}
+use Rattle.cert_checker.specs.Working.Questions.{ActionPassParts}
+use Rattle.cert_checker.specs.Working.Places.{PassParts, AreNeeded, IsPass, PassGrows, StepsOf, AreForbidden, IsActionPass}
 use Rattle.cert_checker.proofs.RootRanges.{roots_stay}
 
 module _ (t new : TableParts) (grows : TablesGrow t new) where
@@ -69,25 +69,25 @@ module _ (p : PassParts) (new : TableParts) (grows : TablesGrow p.tables new) wh
     nodes = grows_trans (tables_of p.problem.tests p.cert) p.tables new pass.nodes grows;
     indexed = pass.indexed;
     roots = roots_stay p.cert.style p.problem p.tables new p.left p.right p.universal p.shorts grows pass.roots;
-    accepting = all_accept p.tables new grows.was grows p.accepting pass.there pass.accepting;
+    acceptance_tests = all_accept p.tables new grows.was grows p.acceptance_tests pass.there pass.acceptance_tests;
     count = pass.count;
     there = omega (arith, pass.there, grows_longer p.tables new grows);
     shorts = pass.shorts;
-    banned = values_stay p.tables new grows (set_out (counted_short p.cert.style p.problem)) p.banned pass.banned;
+    forbidden_atoms = values_stay p.tables new grows (set_out (counted_short p.cert.style p.problem)) p.forbidden_atoms pass.forbidden_atoms;
     marks = pass.marks;
-    needed = needed_stay p.tables new grows p.cert p.shorts p.needed (omega (arith, pass.marks, pass.there)) pass.needed;
+    needed_terms = needed_stay p.tables new grows p.cert p.shorts p.needed_terms (omega (arith, pass.marks, pass.there)) pass.needed_terms;
   }
 
-  pub turn_with : (turn : TurnParts) → IsPass p → IsTurn p turn → IsTurn (record p { tables = new }) turn
-  turn_with turn pass is = record {
-    steps = steps_stay p.tables new grows turn.action p.needed turn.steps (omega (arith, pass.marks, pass.there)) is.steps;
+  pub turn_with : (action_pass : ActionPassParts) → IsPass p → IsActionPass p action_pass → IsActionPass (record p { tables = new }) action_pass
+  turn_with action_pass pass is = record {
+    steps = steps_stay p.tables new grows action_pass.action p.needed_terms action_pass.steps (omega (arith, pass.marks, pass.there)) is.steps;
     style = is.style;
     pairs = is.pairs;
     index = is.index;
     universal = is.universal;
-    forbidden = forbidden_stays p.tables new grows p.problem p.cert turn.action turn.forbidden is.forbidden;
-    begin = asked_stay p.tables new grows turn.begin is.begin;
-    end = asked_stay p.tables new grows turn.end is.end;
+    forbidden = forbidden_stays p.tables new grows p.problem p.cert action_pass.action action_pass.forbidden is.forbidden;
+    begin = asked_stay p.tables new grows action_pass.begin is.begin;
+    end = asked_stay p.tables new grows action_pass.end is.end;
     by_moves = is.by_moves;
     by_pairs = is.by_pairs;
   }
@@ -100,8 +100,8 @@ module _ (p new : PassParts) (grows : PassGrows p new) where
   pub pass_kept : IsPass p → IsPass new
   pass_kept pass = subst IsPass (sym grows.same) (pass_with p new.tables grows.tables pass)
 
-  pub turn_kept : (turn : TurnParts) → IsPass p → IsTurn p turn → IsTurn new turn
-  turn_kept turn pass is = subst (λ (z : PassParts). IsTurn z turn) (sym grows.same) (turn_with p new.tables grows.tables turn pass is)
+  pub turn_kept : (action_pass : ActionPassParts) → IsPass p → IsActionPass p action_pass → IsActionPass new action_pass
+  turn_kept action_pass pass is = subst (λ (z : PassParts). IsActionPass z action_pass) (sym grows.same) (turn_with p new.tables grows.tables action_pass pass is)
 
 pub passes_trans : (p q r : PassParts) → PassGrows p q → PassGrows q r → PassGrows p r
 passes_trans p q r g h = record {
@@ -115,31 +115,31 @@ passes_itself p pass = record { tables = grows_itself p.tables pass.nodes.sound;
 -- ---- the start of the passes
 
 module _ (p : PassParts) (first second third : TableParts) (start : first ≡ tables_of p.problem.tests p.cert) (to_second : TablesGrow first second) (to_third : TestsGrow second third) (to_last : TestsGrow third p.tables) (roots : AreRoots p.cert.style p.problem second p.left p.right p.universal p.shorts)
-    (count : length p.accepting ≡ length second.terms) where
-  pub all_there : length p.accepting ≤ length p.tables.terms
+    (count : length p.acceptance_tests ≡ length second.terms) where
+  pub all_there : length p.acceptance_tests ≤ length p.tables.terms
   all_there = omega (arith, count, ap length to_third.terms, ap length to_last.terms)
 
-  pub nodes_there : length p.cert.term_nodes ≤ length p.accepting
+  pub nodes_there : length p.cert.term_nodes ≤ length p.acceptance_tests
   nodes_there = omega (arith, count, grows_longer first second to_second, ap (λ (z : TableParts). length z.terms) start)
 
-  pub shorts_there : IsTrue (are_below (length p.accepting) p.shorts)
+  pub shorts_there : IsTrue (are_below (length p.acceptance_tests) p.shorts)
   shorts_there = ap (λ n. are_below n p.shorts) count ∙ roots.shorts_there
 
-  pub pass_made : IsProblem p.problem → IsCert p.cert → AreIndexed p.index p.cert.pairs → AreAcceptances third p.accepting → HasValues p.tables (set_out (terms_of (nodes_in third) p.shorts)) p.banned → length p.needed ≡ length p.accepting
-      → AreNeeded p.tables p.cert p.shorts p.needed → IsPass p
-  pass_made is rules indexed accepting banned marks needed = record {
+  pub pass_made : IsProblem p.problem → IsCert p.cert → AreIndexed p.index p.cert.pairs → AreAcceptances third p.acceptance_tests → HasValues p.tables (set_out (terms_of (nodes_in third) p.shorts)) p.forbidden_atoms → length p.needed_terms ≡ length p.acceptance_tests
+      → AreNeeded p.tables p.cert p.shorts p.needed_terms → IsPass p
+  pass_made is rules indexed acceptance_tests forbidden_atoms marks needed_terms = record {
     problem = is;
     cert = rules;
     nodes = subst (λ z. TablesGrow z p.tables) start (grows_trans first second p.tables to_second rest);
     indexed = indexed;
     roots = roots_stay p.cert.style p.problem second p.tables p.left p.right p.universal p.shorts rest roots;
-    accepting = all_accept third p.tables to_last.grows.was to_last.grows p.accepting (omega (arith, count, ap length to_third.terms)) accepting;
+    acceptance_tests = all_accept third p.tables to_last.grows.was to_last.grows p.acceptance_tests (omega (arith, count, ap length to_third.terms)) acceptance_tests;
     count = nodes_there;
     there = all_there;
     shorts = shorts_there;
-    banned = subst (λ es. HasValues p.tables (set_out es) p.banned) (roots_stay p.cert.style p.problem second third p.left p.right p.universal p.shorts to_third.grows roots).shorts banned;
+    forbidden_atoms = subst (λ es. HasValues p.tables (set_out es) p.forbidden_atoms) (roots_stay p.cert.style p.problem second third p.left p.right p.universal p.shorts to_third.grows roots).shorts forbidden_atoms;
     marks = marks;
-    needed = needed;
+    needed_terms = needed_terms;
   }
     where
       rest : TablesGrow second p.tables

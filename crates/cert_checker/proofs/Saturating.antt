@@ -11,13 +11,13 @@ use Rattle.kat_model.proofs.Lists.{has_left, has_right, has_append, has_any, any
 use Rattle.kat_model.proofs.Places.{has_at, place_of_member, element_at, slice_get-append_some}
 use Rattle.term_nodes.specs.NumberSets.{NumberPair}
 use Rattle.certificate.specs.PairParts.{PairParts, sets_of}
-use Rattle.cert_checker.specs.declared.known.Known.{Known}
+use Rattle.cert_checker.specs.declared.known.Truth.{Truth}
 use Rattle.cert_checker.specs.Working.Indices.{IndexParts, places_under, places_by, AreIndexed}
 use Rattle.cert_checker.specs.Working.Reaching.{HoldsAll, IsClosed, AreReached}
 use Rattle.cert_checker.specs.Working.Matching.{does_count, counting}
 use Rattle.cert_checker.specs.Working.Rounds.{StayInPlace, AreAdded, IsBrought, GoesOn, IsTended, AreTendedAt}
 use Rattle.cert_checker.proofs.CountedPairs.{counting_has, has_counting}
-use Rattle.cert_checker.proofs.Indexed.{below_next}
+use Rattle.kat_model.proofs.Numbers.{below_next}
 
 -- ---- lists of numbers as sets
 
@@ -137,7 +137,7 @@ module _ (ps : List NumberPair) where
 
 -- ---- processed pairs
 
-module _ (ps : List PairParts) (also : Bool) (known : List Known) where
+module _ (ps : List PairParts) (also : Bool) (known : List Truth) where
   -- a pair that is processed between two states is processed over a wider span
   tended_wider : (a b c d : List ℕ) (p : PairParts) → StayInPlace a b → IsTended also known b c p → StayInPlace c d → IsTended also known a d p
   tended_wider a b c d p first tended last on = (

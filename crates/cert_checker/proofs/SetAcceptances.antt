@@ -26,19 +26,19 @@ accepting_begins first now guard set grows values = record {
   same = λ atom. ap (λ b. b || set_out (terms_of (nodes_in first) set) atom) (values.1 atom);
 }
 
-pub accepting_more : (first now new : TableParts) (guard next_guard k : ℕ) (rest all accepting : List ℕ) → IsAccepting first now guard (k ∷ rest) all → AreAcceptances first accepting → k < length accepting → TestsGrow now new
-    → HasValues new (λ atom. holds_at now guard atom || holds_at now (get_or accepting k 0) atom) next_guard → IsAccepting first new next_guard rest all
-accepting_more first now new guard next_guard k rest all accepting a accepts low grows values = record {
+pub accepting_more : (first now new : TableParts) (guard next_guard k : ℕ) (rest all acceptance_tests : List ℕ) → IsAccepting first now guard (k ∷ rest) all → AreAcceptances first acceptance_tests → k < length acceptance_tests → TestsGrow now new
+    → HasValues new (λ atom. holds_at now guard atom || holds_at now (get_or acceptance_tests k 0) atom) next_guard → IsAccepting first new next_guard rest all
+accepting_more first now new guard next_guard k rest all acceptance_tests a accepts low grows values = record {
   grows = tests_trans first now new a.grows grows;
   test = values.0;
   same = λ atom.
-      ap (λ b. b || set_out (terms_of (nodes_in first) rest) atom) (values.1 atom ∙ ap (λ b. holds_at now guard atom || b) (holds_kept first now a.grows.grows.was a.grows.grows (get_or accepting k 0) atom here.0 ∙ here.1 atom))
+      ap (λ b. b || set_out (terms_of (nodes_in first) rest) atom) (values.1 atom ∙ ap (λ b. holds_at now guard atom || b) (holds_kept first now a.grows.grows.was a.grows.grows (get_or acceptance_tests k 0) atom here.0 ∙ here.1 atom))
       ∙ or_assoc (holds_at now guard atom) (out (term_at first k) atom) (set_out (terms_of (nodes_in first) rest) atom)
       ∙ a.same atom;
 }
   where
-    here : IsTest first (get_or accepting k 0) × ((atom : Atom) → holds_at first (get_or accepting k 0) atom ≡ out (term_at first k) atom)
-    here = accept_at first accepting k accepts low
+    here : IsTest first (get_or acceptance_tests k 0) × ((atom : Atom) → holds_at first (get_or acceptance_tests k 0) atom ≡ out (term_at first k) atom)
+    here = accept_at first acceptance_tests k accepts low
 
 -- once no member is left, the guard is true where some member accepts
 pub accepting_ends : (first now : TableParts) (guard : ℕ) (rest all : List ℕ) → rest ≡ [] → IsAccepting first now guard rest all → HasValues now (set_out (terms_of (nodes_in first) all)) guard

@@ -27,12 +27,12 @@ use Rattle.term_nodes.proofs.TermTrees.{one_id_a_tree}
 use Rattle.cert_steps.specs.NodeTables.{TableParts, AreTables, IsTerm, term_at, holds_at, nodes_in}
 use Rattle.cert_steps.specs.Targets.{chosen, guard_of, AreEntries}
 use Rattle.cert_steps.proofs.ChosenTargets.{chosen_has, has_chosen, guard_member, any_value}
-use Rattle.cert_checker.specs.declared.known.Known.{Known}
-use Rattle.cert_checker.specs.declared.known.Known.TheVariants.{Value, Waits as WaitsFor}
-use Rattle.cert_checker.specs.declared.matching.Side.{Side}
+use Rattle.cert_checker.specs.declared.known.Truth.{Truth}
+use Rattle.cert_checker.specs.declared.known.Truth.TheVariants.{Known, Undecided as UndecidedBy}
+use Rattle.cert_checker.specs.declared.matching.TargetSide.{TargetSide}
 use Rattle.cert_checker.specs.Working.Cases.{known_of, truly, falsely}
 use Rattle.cert_checker.specs.Working.Questions.{AreMatchedIn}
-use Rattle.cert_checker.specs.Working.Matching.{sure_targets, open_targets, has_too, is_sure, lists, AreSettled, AreSettledAmong, IsWaitedBy, IsSide}
+use Rattle.cert_checker.specs.Working.Matching.{sure_targets, open_targets, has_too, is_sure, lists, AreSettled, AreSettledAmong, IsWaitedBy, IsTargetSide}
 use Rattle.cert_checker.proofs.Covering.{AreRight, truly_value, sure_chosen}
 use Rattle.cert_checker.proofs.Covered.{sure_below, settled_sure}
 use Rattle.cert_checker.proofs.ListedPairs.{same_numbers, same_pointwise, pointwise_itself}
@@ -48,7 +48,7 @@ less_lt x y = go (nat_lt x y) (nat_eq x y)
     go false false e = absurd cc
 
 -- a number below the keys is below the surely present targets
-sure_above : (known : List Known) (x : ℕ) (es : List (ℕ × ℕ)) → AllByRecursion (λ y. nat_cmp x y ≡ Less) (keys_of es) → are_ascending (sure_targets known es) ≡ true → are_ascending (x ∷ sure_targets known es) ≡ true
+sure_above : (known : List Truth) (x : ℕ) (es : List (ℕ × ℕ)) → AllByRecursion (λ y. nat_cmp x y ≡ Less) (keys_of es) → are_ascending (sure_targets known es) ≡ true → are_ascending (x ∷ sure_targets known es) ≡ true
 sure_above known x [] above a = refl
 sure_above known x (e ∷ es) above a = go (truly (known_of known e.1)) (sure_above known x es above.1) a
   where
@@ -56,7 +56,7 @@ sure_above known x (e ∷ es) above a = go (truly (known_of known e.1)) (sure_ab
     go true rest h = and_from (nat_lt x e.0) _ (less_lt x e.0 above.0) h
     go false rest h = rest h
 
-sure_ascending : (known : List Known) (es : List (ℕ × ℕ)) → IsStrictlySortedBy nat_cmp (keys_of es) → are_ascending (sure_targets known es) ≡ true
+sure_ascending : (known : List Truth) (es : List (ℕ × ℕ)) → IsStrictlySortedBy nat_cmp (keys_of es) → are_ascending (sure_targets known es) ≡ true
 sure_ascending known [] sorted = refl
 sure_ascending known (e ∷ es) sorted = go (truly (known_of known e.1)) (sure_ascending known es (sorted_tail nat_cmp e.0 (keys_of es) sorted))
   where
@@ -105,7 +105,7 @@ guard_found (d ∷ es) e sorted h = ⊎_elim same (λ r. later (is_at (nat_cmp e
 
 -- ---- open terms
 
-sure_in : (known : List Known) (es : List (ℕ × ℕ)) (e : ℕ × ℕ) → Has es e → truly (known_of known e.1) ≡ true → Has (sure_targets known es) e.0
+sure_in : (known : List Truth) (es : List (ℕ × ℕ)) (e : ℕ × ℕ) → Has es e → truly (known_of known e.1) ≡ true → Has (sure_targets known es) e.0
 sure_in known [] e h on = absurd h
 sure_in known (d ∷ es) e h on = ⊎_elim (λ same. here same) (λ r. later (truly (known_of known d.1)) (sure_in known es e r on)) h
   where
@@ -117,7 +117,7 @@ sure_in known (d ∷ es) e h on = ⊎_elim (λ same. here same) (λ r. later (tr
     here same = subst (λ (z : ℕ × ℕ). Has (cond (truly (known_of known z.1)) (z.0 ∷ sure_targets known es) (sure_targets known es)) e.0) (sym same) (rw on (inl refl))
 
 -- a term that may be only in one set has a target with its guard
-pub open_entry : (known : List Known) (os es : List (ℕ × ℕ)) (k : ℕ) → Has (open_targets known os es) k → (e : ℕ × ℕ) × Has es e × (e.0 ≡ k) × ((falsely (known_of known e.1) || has_too known os e.0 e.1) ≡ false)
+pub open_entry : (known : List Truth) (os es : List (ℕ × ℕ)) (k : ℕ) → Has (open_targets known os es) k → (e : ℕ × ℕ) × Has es e × (e.0 ≡ k) × ((falsely (known_of known e.1) || has_too known os e.0 e.1) ≡ false)
 open_entry known os [] k h = absurd h
 open_entry known os (d ∷ es) k h = go (falsely (known_of known d.1) || has_too known os d.0 d.1) refl (λ r. let f = open_entry known os es k r in (f.0, inr f.1, f.2, f.3)) h
   where
@@ -125,12 +125,12 @@ open_entry known os (d ∷ es) k h = go (falsely (known_of known d.1) || has_too
     go true off rest m = rest m
     go false off rest m = ⊎_elim (λ same. (d, inl refl, same, off)) rest m
 
-may_true : (x : Known) (b : Bool) → x ≡ Value b → falsely x ≡ false → truly x ≡ true
+may_true : (x : Truth) (b : Bool) → x ≡ Known b → falsely x ≡ false → truly x ≡ true
 may_true x true is off = ap truly is
 may_true x false is off = absurd (true≢false (sym (ap falsely is) ∙ off))
 
 -- if the guard of no open term waits, the open terms are sure
-open_sure : (known : List Known) (os es : List (ℕ × ℕ)) → IsStrictlySortedBy nat_cmp (keys_of es) → AreSettledAmong known es (open_targets known os es) → IsSubset (open_targets known os es) (sure_targets known es)
+open_sure : (known : List Truth) (os es : List (ℕ × ℕ)) → IsStrictlySortedBy nat_cmp (keys_of es) → AreSettledAmong known es (open_targets known os es) → IsSubset (open_targets known os es) (sure_targets known es)
 open_sure known os es sorted settled k h =
     let f = open_entry known os es k h in
     let s = settled k f.0.1 h (ap (guard_of es) (sym f.2) ∙ guard_found es f.0 sorted f.1) in
@@ -139,27 +139,27 @@ open_sure known os es sorted settled k h =
 -- ---- what is known of one side
 
 -- if no such guard waits, every term that may be only in one set is surely in it
-pub side_sure : (known : List Known) (os es : List (ℕ × ℕ)) (s : Side) → IsSide known os es s → s.alone_waits ≡ None → IsSubset s.alone.items s.sure.items
+pub side_sure : (known : List Truth) (os es : List (ℕ × ℕ)) (s : TargetSide) → IsTargetSide known os es s → s.alone_waits ≡ None → IsSubset s.alone.items s.sure.items
 side_sure known os es s side none k h =
     subst (λ (l : List ℕ). Has l k) (sym side.sure)
     (open_sure known os es side.ascends (MatchOption-at_none (AreSettledAmong known es (open_targets known os es)) (IsWaitedBy known es) none side.alone_waits) k (subst (λ (l : List ℕ). Has l k) side.alone h))
 
-pub side_settled : (known : List Known) (os es : List (ℕ × ℕ)) (s : Side) → IsSide known os es s → s.waits ≡ None → AreSettled known es
+pub side_settled : (known : List Truth) (os es : List (ℕ × ℕ)) (s : TargetSide) → IsTargetSide known os es s → s.waits ≡ None → AreSettled known es
 side_settled known os es s side none = MatchOption-at_none (AreSettled known es) (IsWaitedBy known es) none side.waits
 
-pub none_alone : (known : List Known) (os es : List (ℕ × ℕ)) (s : Side) → IsSide known os es s → s.waits ≡ None → s.alone_waits ≡ None
+pub none_alone : (known : List Truth) (os es : List (ℕ × ℕ)) (s : TargetSide) → IsTargetSide known os es s → s.waits ≡ None → s.alone_waits ≡ None
 none_alone known os es s side none = go s.alone_waits side.alone_waits
   where
     go : (o : Option ℕ) → MatchOption o (AreSettledAmong known es (open_targets known os es)) (IsWaitedBy known es) → o ≡ None
     go None h = refl
     go (Some k) h =
         let v = side_settled known os es s side none h.0 h.1 in
-        let f : WaitsFor k ≡ Value v.0 = sym h.2 ∙ v.1 in
+        let f : UndecidedBy k ≡ Known v.0 = sym h.2 ∙ v.1 in
         absurd cc
 
 -- ---- the results of the tests
 
-module _ (t : TableParts) (are : AreTables t) (known : List Known) (atom : Atom) (universal : Option ℕ) (left right : List (ℕ × ℕ)) (own : AreEntries t left) (other : AreEntries t right) (at_left : AreRight t known atom left) (at_right : AreRight t known atom right) where
+module _ (t : TableParts) (are : AreTables t) (known : List Truth) (atom : Atom) (universal : Option ℕ) (left right : List (ℕ × ℕ)) (own : AreEntries t left) (other : AreEntries t right) (at_left : AreRight t known atom left) (at_right : AreRight t known atom right) where
   -- every term that is surely among the targets is chosen
   sure_has : (u : ℕ) (es : List (ℕ × ℕ)) → AreRight t known atom es → is_sure known es u ≡ true → Has (chosen t es atom) (term_at t u)
   sure_has u es right_here s =
@@ -208,7 +208,7 @@ module _ (t : TableParts) (are : AreTables t) (known : List Known) (atom : Atom)
           let one : f.0.0 ≡ u = one_id_a_tree (nodes_in t) are.rules f.0.0 u (entries f.0 f.1).0 is_term f.3 in
           let s = all_settled f.0 f.1 in
           let value : holds_at t f.0.1 atom ≡ s.0 = right_here f.0 f.1 s.0 s.1 in
-          let sure : known_of known f.0.1 ≡ Value true = s.1 ∙ ap Value (sym value ∙ f.2) in
+          let sure : known_of known f.0.1 ≡ Known true = s.1 ∙ ap Known (sym value ∙ f.2) in
           let found : guard_of es u ≡ Some f.0.1 = ap (guard_of es) (sym one) ∙ guard_found es f.0 keys f.1 in
           ap (λ o. option_map_or (λ g. truly (known_of known g)) o false) found ∙ ap truly sure
 

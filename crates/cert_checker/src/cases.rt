@@ -4,8 +4,8 @@ ghost use Rattle.std.specs.Option.{option_map};
 ghost use Rattle.cert_checker.specs.Working.Cases.{least_of, IsBelow, IsFirstFailure};
 ghost use Rattle.cert_checker.specs.Working.Questions.{IsPosed, MatchAt};
 
-use crate::known::Case;
-use crate::matching::{State, state_of};
+use crate::known::TestCase;
+use crate::matching::{Outcome, outcome_of};
 use crate::question::Question;
 use kat_model::NoMemory;
 use std::alloc::Global;
@@ -22,7 +22,7 @@ fn least_values(alloc: Global, decided: &[Option<bool>]) -> Result<Vec<bool>, No
 /// decided tests, are below the bound, and at which the question fails.
 pub(crate) fn least_failure(
     question: &Question,
-    case: &mut Case,
+    case: &mut TestCase,
     bound: Option<&Vec<bool>>,
 ) -> Result<Option<Vec<bool>>, NoMemory>
     requires question { IsPosed question.now }
@@ -38,10 +38,10 @@ pub(crate) fn least_failure(
         }
     }
     case.evaluate(question)?;
-    let test = match state_of(question, case)? {
-        State::Holds => return Ok(None),
-        State::Fails => return Ok(Some(least_values(alloc, &case.decided)?)),
-        State::Waits(test) => test,
+    let test = match outcome_of(question, case)? {
+        Outcome::Holds => return Ok(None),
+        Outcome::Fails => return Ok(Some(least_values(alloc, &case.decided)?)),
+        Outcome::Undecided(test) => test,
     };
     case.decided[test] = Some(false);
     let low = least_failure(question, case, bound)?;

@@ -14,78 +14,78 @@ use std::alloc::Global;
 
 /// What is known of a truth value.
 #[derive(Clone, Copy, Debug, PartialEq, Eq)]
-pub(crate) enum Known {
+pub(crate) enum Truth {
     /// It has this value for all values of the open tests.
-    Value(bool),
+    Known(bool),
     /// It may depend on this test, which is not decided.
-    Waits(usize),
+    Undecided(usize),
 }
 
 /// Which primitive tests of two atoms are decided, and what is known of tests, by their numbers: at the first atom,
 /// where a move begins, and at the second, where it ends. It is correct for the tests in the lists of the question.
 #[derive(Drop)]
-pub(crate) struct Case {
+pub(crate) struct TestCase {
     pub decided: Vec<Option<bool>>,
-    pub begin: Vec<Known>,
-    pub end: Vec<Known>,
+    pub begin: Vec<Truth>,
+    pub end: Vec<Truth>,
 }
 
 /// Returns what is known of the test.
-pub(crate) fn value_of(known: &[Known], test: usize) -> Known
+pub(crate) fn value_of(known: &[Truth], test: usize) -> Truth
     ensures { result ≡ known_of known.now test }
 {
-    known.get(test).copied().unwrap_or(Known::Value(false))
+    known.get(test).copied().unwrap_or(Truth::Known(false))
 }
 
 /// Returns what is known of the test of a pair. Without a test the value is true.
-pub(crate) fn test_value(known: &[Known], test: Option<usize>) -> Known
+pub(crate) fn test_value(known: &[Truth], test: Option<usize>) -> Truth
     ensures { result ≡ known_test known.now test }
 {
     match test {
         Some(test) => value_of(known, test),
-        None => Known::Value(true),
+        None => Truth::Known(true),
     }
 }
 
-pub(crate) fn is_true(known: Known) -> bool
+pub(crate) fn is_true(known: Truth) -> bool
     ensures { result ≡ truly known }
 {
-    matches!(known, Known::Value(true))
+    matches!(known, Truth::Known(true))
 }
 
-fn negation(x: Known) -> Known
+fn negation(x: Truth) -> Truth
     ensures { result ≡ known_not x }
 {
     match x {
-        Known::Value(value) => Known::Value(!value),
-        Known::Waits(test) => Known::Waits(test),
+        Truth::Known(value) => Truth::Known(!value),
+        Truth::Undecided(test) => Truth::Undecided(test),
     }
 }
 
-pub(crate) fn conjunction(x: Known, y: Known) -> Known
+pub(crate) fn conjunction(x: Truth, y: Truth) -> Truth
     ensures { result ≡ known_and x y }
 {
     match (x, y) {
-        (Known::Value(false), _) | (_, Known::Value(false)) => Known::Value(false),
-        (Known::Value(true), other) | (other, Known::Value(true)) => other,
-        (Known::Waits(test), Known::Waits(_)) => Known::Waits(test),
+        (Truth::Known(false), _) | (_, Truth::Known(false)) => Truth::Known(false),
+        (Truth::Known(true), other) | (other, Truth::Known(true)) => other,
+        (Truth::Undecided(test), Truth::Undecided(_)) => Truth::Undecided(test),
     }
 }
 
 // Returns what is known of a node, given what is known of the nodes that it names. The numbers of primitive tests begin
 // at `first`.
-fn known_in(node: TestNode, known: &[Known], decided: &[Option<bool>], first: usize) -> Known
+fn known_in(node: TestNode, known: &[Truth], decided: &[Option<bool>], first: usize) -> Truth
     requires parts { IsTestOver (length known.now) node }
     requires within { IsWithin (length decided.now) node }
     requires narrow { first ≤ length decided.now }
     ensures { result ≡ known_node first decided.now known.now node }
 {
     match node {
-        TestNode::False => Known::Value(false),
-        TestNode::True => Known::Value(true),
+        TestNode::False => Truth::Known(false),
+        TestNode::True => Truth::Known(true),
         TestNode::Prim(k) => match decided[k] {
-            Some(value) => Known::Value(value),
-            None => Known::Waits(first + k),
+            Some(value) => Truth::Known(value),
+            None => Truth::Undecided(first + k),
         },
         TestNode::Not(x) => negation(known[x]),
         TestNode::And(x, y) => conjunction(known[x], known[y]),
@@ -96,7 +96,7 @@ fn known_in(node: TestNode, known: &[Known], decided: &[Option<bool>], first: us
 // Computes what is known of these tests at an atom. The list must contain their parts. The numbers of the primitive
 // tests begin at `first`.
 fn evaluate(
-    known: &mut [Known],
+    known: &mut [Truth],
     tables: &Tables,
     asked: &[usize],
     decided: &[Option<bool>],
@@ -115,16 +115,16 @@ fn evaluate(
     }
 }
 
-impl Case {
+impl TestCase {
     ghost use Rattle.kat_model.specs.declared.limits.TheConstants.{MAX_TESTS};
-    ghost use Rattle.cert_checker.specs.Working.Questions.{IsPosed, IsCase};
+    ghost use Rattle.cert_checker.specs.Working.Questions.{IsPosed, IsTestCase};
 
     /// Creates a case in which no test is decided.
-    pub(crate) fn new(alloc: Global, width: usize) -> Result<Case, NoMemory>
+    pub(crate) fn new(alloc: Global, width: usize) -> Result<TestCase, NoMemory>
         requires { width ≤ MAX_TESTS }
         ensures { IfOk result (λ c. c.decided.items ≡ undecided (width + width)) }
     {
-        Ok(Case {
+        Ok(TestCase {
             decided: vec![in alloc; None; width + width]?,
             begin: Vec::new(alloc),
             end: Vec::new(alloc),
@@ -135,16 +135,16 @@ impl Case {
     pub(crate) fn evaluate(&mut self, question: &Question) -> Result<(), NoMemory>
         requires question { IsPosed question.now }
         requires decided { length self.old.decided.items ≡ question.now.tables.width + question.now.tables.width }
-        ensures known { OnOk result (IsCase question.now.tables question.now question.now.asked self.new.decided.items self.new) }
+        ensures known { OnOk result (IsTestCase question.now.tables question.now question.now.asked self.new.decided.items self.new) }
         ensures decided { self.new.decided ≡ self.old.decided }
     {
-        let (tables, turn) = (question.tables, question.turn);
-        self.begin.resize(tables.test_count(), Known::Value(false))?;
-        self.end.resize(tables.test_count(), Known::Value(false))?;
+        let (tables, pass) = (question.tables, question.action_pass);
+        self.begin.resize(tables.test_count(), Truth::Known(false))?;
+        self.end.resize(tables.test_count(), Truth::Known(false))?;
         let (first, second) = self.decided.split_at(tables.width());
         evaluate(&mut self.begin, tables, &question.asked, first, 0);
-        evaluate(&mut self.begin, tables, &turn.begin, first, 0);
-        evaluate(&mut self.end, tables, &turn.end, second, tables.width());
+        evaluate(&mut self.begin, tables, &pass.begin, first, 0);
+        evaluate(&mut self.end, tables, &pass.end, second, tables.width());
         Ok(())
     }
 }

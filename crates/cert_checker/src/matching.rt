@@ -2,11 +2,11 @@
 ghost use Rattle.std.specs.Prelude.{◌≡◌, ◌↔◌, ◌&&◌, false, None, IsTrue, MatchOption, IfSome, IfOk};
 ghost use Rattle.std.specs.Option.{option_map_or};
 ghost use Rattle.kat_model.specs.Members.{IsSubset};
-ghost use Rattle.cert_checker.specs.Working.Questions.{IsPosed, IsCase, MatchAt, IsState, IsWaited};
-ghost use Rattle.cert_checker.specs.Working.Matching.{has_too as has_too', IsSide, AreSides, lists, IsWaitedBy, IsWaitedByOne, AreTestsSettled, is_excluded, IsMove, AreCovered, AreSurelyMatched, is_sure as is_sure'};
+ghost use Rattle.cert_checker.specs.Working.Questions.{IsPosed, IsTestCase, MatchAt, IsOutcome, IsWaited};
+ghost use Rattle.cert_checker.specs.Working.Matching.{has_too as has_too', IsTargetSide, AreTargetSides, lists, IsWaitedBy, IsWaitedByOne, AreTestsSettled, is_excluded, IsMoveStatus, AreCovered, AreSurelyMatched, is_sure as is_sure'};
 ghost use Rattle.cert_checker.specs.Working.Rounds.{counting_in, IsIndexed};
 
-use crate::known::{Case, Known, conjunction, is_true, test_value, value_of};
+use crate::known::{TestCase, Truth, conjunction, is_true, test_value, value_of};
 use crate::question::Question;
 use crate::saturation::{Counted, counts, reaches};
 use cert_steps::Targets;
@@ -15,32 +15,31 @@ use kat_model::NoMemory;
 use std::alloc::Global;
 
 /// What is known of a question at all values of two atoms that extend the decided tests.
-#[derive(Clone, Copy)]
-pub(crate) enum State {
+pub(crate) enum Outcome {
     /// It holds at all of these values.
     Holds,
     /// It fails at all of these values.
     Fails,
     /// It may depend on this test, which is not decided.
-    Waits(usize),
+    Undecided(usize),
 }
 
 /// What is known of a move that may count.
 #[derive(Clone, Copy)]
-pub(crate) enum Move {
+pub(crate) enum MoveStatus {
     /// It counts.
     Counts,
     /// Only this test decides whether some pair of tests forbids the move.
     Tied(usize),
     /// Whether it counts may depend on this test.
-    Waits(usize),
+    Undecided(usize),
 }
 
 /// What is known of the targets of one side of a question: the terms that are surely in its set, in ascending order;
 /// the open terms, which may be in it at an atom at which they are not in the other set; a test that the guard of an
-/// open term waits for; and a test that the guard of some target waits for.
+/// open term depends on; and a test that the guard of some target depends on.
 #[derive(Drop)]
-pub(crate) struct Side {
+pub(crate) struct TargetSide {
     pub sure: Vec<usize>,
     pub alone: Vec<usize>,
     pub alone_waits: Option<usize>,
@@ -49,30 +48,30 @@ pub(crate) struct Side {
 
 /// Both sides of a question.
 #[derive(Drop)]
-pub(crate) struct Sides {
-    pub left: Side,
-    pub right: Side,
+pub(crate) struct TargetSides {
+    pub left: TargetSide,
+    pub right: TargetSide,
 }
 
 // Returns what is known of the move, or `None` if it does not count: the test of the pair is false at its beginning, or
 // the move is forbidden.
-fn move_of(question: &Question, case: &Case) -> Option<Move>
-    ensures { MatchOption result (IsTrue (is_excluded question.now case.now)) (IsMove question.now case.now) }
+fn move_status(question: &Question, case: &TestCase) -> Option<MoveStatus>
+    ensures { MatchOption result (IsTrue (is_excluded question.now case.now)) (IsMoveStatus question.now case.now) }
 {
-    let turn = question.turn;
+    let action_pass = question.action_pass;
     let (begin, end) = (case.begin.as_slice(), case.end.as_slice());
-    let mut waiting = match test_value(begin, question.own) {
-        Known::Value(true) => None,
-        Known::Value(false) => return None,
-        Known::Waits(test) => Some(test),
+    let mut waiting = match test_value(begin, question.pair_test) {
+        Truth::Known(true) => None,
+        Truth::Known(false) => return None,
+        Truth::Undecided(test) => Some(test),
     };
     let mut tied = None;
-    for (from, to) in &turn.forbidden {
+    for (from, to) in &action_pass.forbidden {
         let (first, second) = (value_of(begin, *from), value_of(end, *to));
         match conjunction(first, second) {
-            Known::Value(true) => return None,
-            Known::Value(false) => {}
-            Known::Waits(test) => {
+            Truth::Known(true) => return None,
+            Truth::Known(false) => {}
+            Truth::Undecided(test) => {
                 if is_true(first) || is_true(second) {
                     tied = tied.or(Some(test));
                 } else {
@@ -82,14 +81,14 @@ fn move_of(question: &Question, case: &Case) -> Option<Move>
         }
     }
     match (tied, waiting) {
-        (Some(test), _) => Some(Move::Tied(test)),
-        (None, Some(test)) => Some(Move::Waits(test)),
-        (None, None) => Some(Move::Counts),
+        (Some(test), _) => Some(MoveStatus::Tied(test)),
+        (None, Some(test)) => Some(MoveStatus::Undecided(test)),
+        (None, None) => Some(MoveStatus::Counts),
     }
 }
 
 // Whether `term` is surely among the targets wherever `guard` is true.
-fn has_too(targets: &Targets, term: usize, guard: usize, known: &[Known]) -> bool
+fn has_too(targets: &Targets, term: usize, guard: usize, known: &[Truth]) -> bool
     ensures { result ≡ has_too' known.now targets.now.entries term guard }
 {
     match targets.get(&term) {
@@ -102,11 +101,11 @@ fn side_of(
     alloc: Global,
     targets: &Targets,
     others: &Targets,
-    known: &[Known],
-) -> Result<Side, NoMemory>
-    ensures { IfOk result (IsSide known.now others.now.entries targets.now.entries) }
+    known: &[Truth],
+) -> Result<TargetSide, NoMemory>
+    ensures { IfOk result (IsTargetSide known.now others.now.entries targets.now.entries) }
 {
-    let mut side = Side {
+    let mut side = TargetSide {
         sure: Vec::new(alloc),
         alone: Vec::new(alloc),
         alone_waits: None,
@@ -114,12 +113,12 @@ fn side_of(
     };
     for (term, guard) in targets.iter() {
         let waits = match value_of(known, *guard) {
-            Known::Value(false) => continue,
-            Known::Value(true) => {
+            Truth::Known(false) => continue,
+            Truth::Known(true) => {
                 side.sure.push(*term)?;
                 None
             }
-            Known::Waits(test) => Some(test),
+            Truth::Undecided(test) => Some(test),
         };
         side.waits = side.waits.or(waits);
         if !has_too(others, *term, *guard, known) {
@@ -130,22 +129,23 @@ fn side_of(
     Ok(side)
 }
 
-// Whether some pair that counts has exactly the surely present terms as its sets.
-fn are_listed(counted: &Counted, sides: &Sides) -> bool
+// Whether some pair that counts has exactly the surely present terms as its sets. Looks only at pairs that the index
+// has under the last member of a set, of the two sets the one with fewer pairs, and compares these whole.
+fn are_listed(counted: &Counted, sides: &TargetSides) -> bool
     requires { IsIndexed counted.now }
     ensures { result ≡ lists (counting_in counted.now) sides.now.left.sure.items sides.now.right.sure.items }
 {
-    let turn = counted.turn;
+    let action_pass = counted.action_pass;
     let (left, right) = (sides.left.sure.as_slice(), sides.right.sure.as_slice());
-    let lefts = turn.index.places(left.last().copied());
-    let rights = turn.index.places(right.last().copied());
+    let lefts = action_pass.index.places(left.last().copied());
+    let rights = action_pass.index.places(right.last().copied());
     let places = if rights.len() < lefts.len() {
         rights
     } else {
         lefts
     };
     for place in places {
-        if let Some(pair) = turn.pairs.get(*place) {
+        if let Some(pair) = action_pass.pairs.get(*place) {
             if counts(counted, pair)
                 && pair.left.as_slice() == left
                 && pair.right.as_slice() == right
@@ -159,11 +159,11 @@ fn are_listed(counted: &Counted, sides: &Sides) -> bool
 
 // Whether the pairs that count make each open term reachable from the surely present terms of the other set, or the
 // universal term from both sets. Open terms must be surely present in their own set.
-fn are_covered(counted: &Counted, sides: &Sides) -> Result<bool, NoMemory>
+fn are_covered(counted: &Counted, sides: &TargetSides) -> Result<bool, NoMemory>
     requires indexed { IsIndexed counted.now }
     requires left { IsSubset sides.now.left.alone.items sides.now.left.sure.items }
     requires right { IsSubset sides.now.right.alone.items sides.now.right.sure.items }
-    ensures { IfOk result (λ b. IsTrue b ↔ AreCovered (counting_in counted.now) counted.now.turn.now.universal sides.now) }
+    ensures { IfOk result (λ b. IsTrue b ↔ AreCovered (counting_in counted.now) counted.now.action_pass.now.universal sides.now) }
 {
     if are_listed(counted, sides) {
         return Ok(true);
@@ -173,8 +173,8 @@ fn are_covered(counted: &Counted, sides: &Sides) -> Result<bool, NoMemory>
     {
         return Ok(true);
     }
-    let turn = counted.turn;
-    let Some(term) = turn.universal else {
+    let action_pass = counted.action_pass;
+    let Some(term) = action_pass.universal else {
         return Ok(false);
     };
     Ok(
@@ -184,14 +184,14 @@ fn are_covered(counted: &Counted, sides: &Sides) -> Result<bool, NoMemory>
 }
 
 // Whether the pairs that count surely match the sets.
-fn are_matched(counted: &Counted, sides: &Sides) -> Result<bool, NoMemory>
+fn are_matched(counted: &Counted, sides: &TargetSides) -> Result<bool, NoMemory>
     requires indexed { IsIndexed counted.now }
     requires left { sides.now.left.alone_waits ≡ None → IsSubset sides.now.left.alone.items sides.now.left.sure.items }
     requires right { sides.now.right.alone_waits ≡ None → IsSubset sides.now.right.alone.items sides.now.right.sure.items }
-    ensures { IfOk result (λ b. IsTrue b ↔ AreSurelyMatched counted.now.turn.now.style (counting_in counted.now) counted.now.turn.now.universal sides.now) }
+    ensures { IfOk result (λ b. IsTrue b ↔ AreSurelyMatched counted.now.action_pass.now.style (counting_in counted.now) counted.now.action_pass.now.universal sides.now) }
 {
-    let (turn, left, right) = (counted.turn, &sides.left, &sides.right);
-    match turn.style {
+    let (action_pass, left, right) = (counted.action_pass, &sides.left, &sides.right);
+    match action_pass.style {
         Style::Plain => Ok(left.waits.or(right.waits).is_none() && are_listed(counted, sides)),
         Style::UpTo | Style::Under => {
             let waits = left.alone_waits.or(right.alone_waits);
@@ -201,7 +201,7 @@ fn are_matched(counted: &Counted, sides: &Sides) -> Result<bool, NoMemory>
 }
 
 // Whether the term is surely among the targets.
-fn is_sure(targets: &Targets, term: usize, known: &[Known]) -> bool
+fn is_sure(targets: &Targets, term: usize, known: &[Truth]) -> bool
     ensures { result ≡ is_sure' known.now targets.now.entries term }
 {
     targets
@@ -210,27 +210,27 @@ fn is_sure(targets: &Targets, term: usize, known: &[Known]) -> bool
 }
 
 // Whether both sets surely contain the universal term.
-fn are_universal(question: &Question, known: &[Known]) -> bool
-    ensures { result ≡ option_map_or (λ u. is_sure' known.now question.now.left u && is_sure' known.now question.now.right u) question.now.turn.universal false }
+fn are_universal(question: &Question, known: &[Truth]) -> bool
+    ensures { result ≡ option_map_or (λ u. is_sure' known.now question.now.left u && is_sure' known.now question.now.right u) question.now.action_pass.universal false }
 {
-    let turn = question.turn;
-    let Some(term) = turn.universal else {
+    let action_pass = question.action_pass;
+    let Some(term) = action_pass.universal else {
         return false;
     };
     is_sure(&question.left, term, known) && is_sure(&question.right, term, known)
 }
 
-fn has_surely_all(targets: &Targets, terms: &[usize], known: &[Known]) -> bool {
+fn has_surely_all(targets: &Targets, terms: &[usize], known: &[Truth]) -> bool {
     terms.iter().all(|term| is_sure(targets, *term, known))
 }
 
-// Returns a test that a listed pair waits for, preferably of a pair whose sets are surely subsets of the two sets.
-fn waiting_pair(question: &Question, case: &Case) -> Option<usize>
-    ensures { MatchOption result (AreTestsSettled case.now.end.items question.now.turn.pairs) (IsWaited question.now case.now) }
+// Returns an undecided test that a listed pair depends on, preferably of a pair whose sets are surely subsets of the two sets.
+fn waiting_pair(question: &Question, case: &TestCase) -> Option<usize>
+    ensures { MatchOption result (AreTestsSettled case.now.end.items question.now.action_pass.pairs) (IsWaited question.now case.now) }
 {
-    let (turn, mut waiting) = (question.turn, None);
-    for pair in turn.pairs {
-        if let Known::Waits(test) = test_value(&case.end, pair.test) {
+    let (action_pass, mut waiting) = (question.action_pass, None);
+    for pair in action_pass.pairs {
+        if let Truth::Undecided(test) = test_value(&case.end, pair.test) {
             if has_surely_all(&question.left, pair.left.as_slice(), &case.begin)
                 && has_surely_all(&question.right, pair.right.as_slice(), &case.begin)
             {
@@ -242,24 +242,24 @@ fn waiting_pair(question: &Question, case: &Case) -> Option<usize>
     waiting
 }
 
-// Returns a test that the guard of the universal term waits for.
-fn waiting_universal(targets: &Targets, universal: Option<usize>, known: &[Known]) -> Option<usize>
+// Returns an undecided test that the guard of the universal term depends on.
+fn waiting_universal(targets: &Targets, universal: Option<usize>, known: &[Truth]) -> Option<usize>
     ensures { IfSome result (IsWaitedBy known.now targets.now.entries) }
 {
     match value_of(known, *targets.get(&universal?)?) {
-        Known::Value(_) => None,
-        Known::Waits(test) => Some(test),
+        Truth::Known(_) => None,
+        Truth::Undecided(test) => Some(test),
     }
 }
 
-// Returns a test that some guard waits for: preferably that of the universal term, then that of an open term.
-fn waiting_guard(question: &Question, known: &[Known], sides: &Sides) -> Option<usize>
-    requires { AreSides known.now question.now.left question.now.right sides.now }
+// Returns an undecided test that some guard depends on: preferably that of the universal term, then that of an open term.
+fn waiting_guard(question: &Question, known: &[Truth], sides: &TargetSides) -> Option<usize>
+    requires { AreTargetSides known.now question.now.left question.now.right sides.now }
     ensures { MatchOption result ((sides.now.left.waits ≡ None) × (sides.now.right.waits ≡ None)) (IsWaitedByOne known.now question.now.left question.now.right) }
 {
-    let turn = question.turn;
-    waiting_universal(&question.left, turn.universal, known)
-        .or(waiting_universal(&question.right, turn.universal, known))
+    let action_pass = question.action_pass;
+    waiting_universal(&question.left, action_pass.universal, known)
+        .or(waiting_universal(&question.right, action_pass.universal, known))
         .or(sides.left.alone_waits)
         .or(sides.right.alone_waits)
         .or(sides.left.waits)
@@ -269,36 +269,37 @@ fn waiting_guard(question: &Question, known: &[Known], sides: &Sides) -> Option<
 /// Returns what is known of the question in this case. If it is not known, the returned test is chosen to keep the
 /// number of cases low: first a test that is tied to decided ones; then a test of a guard, preferably of one where the
 /// sides differ; then a test of a pair, if the pairs that may count cover the sets; then a test that decides whether
-/// the move counts.
-pub(crate) fn state_of(question: &Question, case: &Case) -> Result<State, NoMemory>
+/// the move counts. A branch ends as soon as three-valued truth settles the answer, or both sets certainly have the
+/// universal term. Exact dependence would end some branches earlier; the least place is the same.
+pub(crate) fn outcome_of(question: &Question, case: &TestCase) -> Result<Outcome, NoMemory>
     requires question { IsPosed question.now }
-    requires case { IsCase question.now.tables question.now question.now.asked case.now.decided.items case.now }
-    ensures { IfOk result (IsState (MatchAt question.now.tables question.now) case.now.decided.items) }
+    requires case { IsTestCase question.now.tables question.now question.now.asked case.now.decided.items case.now }
+    ensures { IfOk result (IsOutcome (MatchAt question.now.tables question.now) case.now.decided.items) }
 {
     let (alloc, known) = (question.tables.alloc(), case.begin.as_slice());
-    let Some(the_move) = move_of(question, case) else {
-        return Ok(State::Holds);
+    let Some(the_move) = move_status(question, case) else {
+        return Ok(Outcome::Holds);
     };
-    let sides = Sides {
+    let sides = TargetSides {
         left: side_of(alloc, &question.left, &question.right, known)?,
         right: side_of(alloc, &question.right, &question.left, known)?,
     };
     if are_universal(question, known) || are_matched(&Counted::of(question, case, false), &sides)? {
-        return Ok(State::Holds);
+        return Ok(Outcome::Holds);
     }
-    if let Move::Tied(test) = the_move {
-        return Ok(State::Waits(test));
+    if let MoveStatus::Tied(test) = the_move {
+        return Ok(Outcome::Undecided(test));
     }
     if let Some(test) = waiting_guard(question, known, &sides) {
-        return Ok(State::Waits(test));
+        return Ok(Outcome::Undecided(test));
     }
     if are_covered(&Counted::of(question, case, true), &sides)? {
         if let Some(test) = waiting_pair(question, case) {
-            return Ok(State::Waits(test));
+            return Ok(Outcome::Undecided(test));
         }
     }
     match the_move {
-        Move::Counts => Ok(State::Fails),
-        Move::Tied(test) | Move::Waits(test) => Ok(State::Waits(test)),
+        MoveStatus::Counts => Ok(Outcome::Fails),
+        MoveStatus::Tied(test) | MoveStatus::Undecided(test) => Ok(Outcome::Undecided(test)),
     }
 }

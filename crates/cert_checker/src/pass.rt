@@ -14,8 +14,8 @@ ghost use Rattle.cert_checker.specs.Working.Places.{AreNeeded, IsLeastOf};
 use crate::asked::with_parts;
 use crate::cases::least_failure;
 use crate::index::PairIndex;
-use crate::known::Case;
-use crate::question::{Question, Turn};
+use crate::known::TestCase;
+use crate::question::{ActionPass, Question};
 use cert_steps::{Tables, Targets, acceptances, close_marks, empty_product, of_set, steps};
 use certificate::{Cert, Pair, Style};
 use goal_forms::{Closed, eliminate};
@@ -27,7 +27,8 @@ use std::marker::Model;
 
 /// A pair and an atom at which the pair fails: without an action, its sets do not accept alike; with an action, the
 /// sets that the action leads to are not matched at the atom after it. Places are ordered by pair, atom, action and the
-/// atom after it.
+/// atom after it. The order is the derived one. No clause needs equal places to be one place. Every style has the atom
+/// that the move leads to; `Reason` omits it in styles that do not show it.
 #[derive(PartialEq, Eq, PartialOrd, Ord, Drop)]
 pub(crate) struct Place {
     pub pair: usize,
@@ -50,9 +51,9 @@ pub(crate) struct Pass<'a> {
     right: usize,
     universal: Option<usize>,
     shorts: Vec<usize>,
-    accepting: Vec<usize>,
-    banned: usize,
-    needed: Vec<bool>,
+    acceptance_tests: Vec<usize>,
+    forbidden_atoms: usize,
+    needed_terms: Vec<bool>,
 }
 
 impl<'a> Model for Pass<'a> {
@@ -64,7 +65,7 @@ impl<'a> Model for Pass<'a> {
 
     ghost coded = { Prim.hlevel (codes, coded_term) };
 
-    ghost view = { λ p. record { problem = p.problem.now; cert = p.cert.now; index = p.index.now; tables = p.tables; left = p.left; right = p.right; universal = p.universal; shorts = p.shorts.items; accepting = p.accepting.items; banned = p.banned; needed = p.needed.items } };
+    ghost view = { λ p. record { problem = p.problem.now; cert = p.cert.now; index = p.index.now; tables = p.tables; left = p.left; right = p.right; universal = p.universal; shorts = p.shorts.items; acceptance_tests = p.acceptance_tests.items; forbidden_atoms = p.forbidden_atoms; needed_terms = p.needed_terms.items } };
 }
 
 // Returns the closed sides that the style compares.
@@ -77,7 +78,8 @@ fn closed_sides(alloc: Global, problem: &Problem, style: Style) -> Result<Closed
     }
 }
 
-// Returns the numbers of these sides, and of the universal term if there is one.
+// Returns the numbers of these sides, and of the universal term if there is one. The tables have one number for each
+// tree of the certificate, so a side is found part by part, and no tree is compared with nodes.
 fn side_numbers(
     tables: &mut Tables,
     problem: &Problem,
@@ -123,16 +125,16 @@ fn short_numbers(
 }
 
 // Returns the test that is true where some member of the set accepts.
-fn acceptance(tables: &mut Tables, accepting: &[usize], set: &[usize]) -> Result<usize, NoMemory>
-    requires accepting { AreAcceptances tables.old accepting.now }
-    requires set { IsTrue (are_below (length accepting.now) set.now) }
-    requires there { length accepting.now ≤ length tables.old.terms }
+fn acceptance(tables: &mut Tables, tests: &[usize], set: &[usize]) -> Result<usize, NoMemory>
+    requires tests { AreAcceptances tables.old tests.now }
+    requires set { IsTrue (are_below (length tests.now) set.now) }
+    requires there { length tests.now ≤ length tables.old.terms }
     ensures values { IfOk result (HasValues tables.new (set_out (terms_of (nodes_in tables.old) set.now))) }
     ensures grows { TestsGrow tables.old tables.new }
 {
     let mut guard = tables.constant(false)?;
     for number in set {
-        guard = tables.either(guard, accepting[*number])?;
+        guard = tables.either(guard, tests[*number])?;
     }
     Ok(guard)
 }
@@ -177,7 +179,7 @@ impl<'a> Pass<'a> {
     ghost use Rattle.cert_checker.specs.Working.Cases.{IsFirstFailure, undecided};
     ghost use Rattle.cert_checker.specs.Working.Indices.{AreIndexed};
     ghost use Rattle.cert_checker.specs.Working.Roots.{counted_short};
-    ghost use Rattle.cert_checker.specs.Working.Places.{IsFirstOf, IsPass, PassGrows, IsTurn, AreForbidden, StepsOf, PairHolds, place_reason, turn_number};
+    ghost use Rattle.cert_checker.specs.Working.Places.{IsFirstOf, IsPass, PassGrows, IsActionPass, AreForbidden, StepsOf, PairHolds, place_reason, turn_number};
 
     /// Prepares the pass over this certificate, with the index of its pairs.
     pub(crate) fn of(
@@ -194,9 +196,9 @@ impl<'a> Pass<'a> {
         let mut tables = Tables::of(alloc, cert, problem.tests())?;
         let (left, right, universal) = side_numbers(&mut tables, problem, cert.style())?;
         let shorts = short_numbers(&mut tables, problem, cert.style())?;
-        let accepting = acceptances(&mut tables)?;
-        let banned = acceptance(&mut tables, &accepting, &shorts)?;
-        let needed = needed_terms(&tables, cert, &shorts)?;
+        let acceptance_tests = acceptances(&mut tables)?;
+        let forbidden_atoms = acceptance(&mut tables, &acceptance_tests, &shorts)?;
+        let needed_terms = needed_terms(&tables, cert, &shorts)?;
         Ok(Pass {
             problem,
             cert,
@@ -206,9 +208,9 @@ impl<'a> Pass<'a> {
             right,
             universal,
             shorts,
-            accepting,
-            banned,
-            needed,
+            acceptance_tests,
+            forbidden_atoms,
+            needed_terms,
         })
     }
 
@@ -220,7 +222,7 @@ impl<'a> Pass<'a> {
         action: Option<usize>,
     ) -> Result<Vec<(usize, usize)>, NoMemory>
         requires pass { IsPass self.old }
-        requires steps { StepsOf self.old.tables action self.old.needed (map (λ t. t.entries) steps.now) }
+        requires steps { StepsOf self.old.tables action self.old.needed_terms (map (λ t. t.entries) steps.now) }
         ensures forbidden { IfOk result (λ v. AreForbidden self.new.tables self.old.cert self.old.problem action v.items) }
         ensures grows { PassGrows self.old self.new }
     {
@@ -229,9 +231,9 @@ impl<'a> Pass<'a> {
             return Ok(forbidden);
         }
         let always = self.tables.constant(true)?;
-        forbidden.push((self.banned, always))?;
+        forbidden.push((self.forbidden_atoms, always))?;
         if action.is_some() {
-            forbidden.push((always, self.banned))?;
+            forbidden.push((always, self.forbidden_atoms))?;
             let targets = of_set(&mut self.tables, steps, &self.shorts, action)?;
             let outputs = acceptances(&mut self.tables)?;
             for (term, guard) in targets.iter() {
@@ -241,10 +243,12 @@ impl<'a> Pass<'a> {
         Ok(forbidden)
     }
 
-    // Returns the condition on each pair: on its outputs, or for the action.
-    fn turn(&mut self, action: Option<usize>) -> Result<Turn<'a>, NoMemory>
+    // Returns the condition on each pair: on its outputs, or for the action. Outputs are a question of the same kind as
+    // steps: without an action a term leads to the empty product if it accepts, there are no pairs and no universal
+    // term, and the style is up to congruence.
+    fn action_pass(&mut self, action: Option<usize>) -> Result<ActionPass<'a>, NoMemory>
         requires { IsPass self.old }
-        ensures turn { IfOk result (IsTurn self.new) }
+        ensures action_pass { IfOk result (IsActionPass self.new) }
         ensures action { IfOk result (λ t. t.action ≡ action) }
         ensures grows { PassGrows self.old self.new }
     {
@@ -254,14 +258,15 @@ impl<'a> Pass<'a> {
             None => (Style::UpTo, no_pairs, None),
             Some(_) => (cert.style(), cert.pairs(), self.universal),
         };
-        let steps = steps(&mut self.tables, &self.accepting, &self.needed, action)?;
+        let tables = &mut self.tables;
+        let steps = steps(tables, &self.acceptance_tests, &self.needed_terms, action)?;
         let forbidden = self.forbidden(&steps, action)?;
         let mut begin = BTreeSet::new(self.tables.alloc());
         let mut end = BTreeSet::new(self.tables.alloc());
         begin.extend(forbidden.iter().map(|tests| tests.0))?;
         end.extend(forbidden.iter().map(|tests| tests.1))?;
         end.extend(pairs.iter().filter_map(|pair| pair.test))?;
-        Ok(Turn {
+        Ok(ActionPass {
             action,
             steps,
             style,
@@ -277,22 +282,22 @@ impl<'a> Pass<'a> {
     // Returns the least values of two atoms at which the pair fails.
     fn pair_failure(
         &mut self,
-        turn: &Turn,
-        case: &mut Case,
+        pass: &ActionPass,
+        case: &mut TestCase,
         pair: &Pair,
     ) -> Result<Option<Vec<bool>>, NoMemory>
         requires pass { IsPass self.old }
-        requires turn { IsTurn self.old turn.now }
+        requires action_pass { IsActionPass self.old pass.now }
         requires pair { Has self.old.cert.pairs pair.now }
         requires undecided { case.old.decided.items ≡ undecided (self.old.tables.width + self.old.tables.width) }
-        ensures failure { IfOk result (λ o. IsFirstFailure (PairHolds self.old.problem self.old.cert turn.now.action pair.now) (undecided (self.old.problem.tests + self.old.problem.tests)) (option_map (λ v. v.items) o)) }
+        ensures failure { IfOk result (λ o. IsFirstFailure (PairHolds self.old.problem self.old.cert pass.now.action pair.now) (undecided (self.old.problem.tests + self.old.problem.tests)) (option_map (λ v. v.items) o)) }
         ensures undecided { OnOk result (case.new.decided.items ≡ case.old.decided.items) }
         ensures grows { PassGrows self.old self.new }
     {
         let tables = &mut self.tables;
-        let left = of_set(tables, &turn.steps, pair.left.as_slice(), turn.action)?;
-        let right = of_set(tables, &turn.steps, pair.right.as_slice(), turn.action)?;
-        let question = Question::of(&self.tables, turn, pair.test, left, right)?;
+        let left = of_set(tables, &pass.steps, pair.left.as_slice(), pass.action)?;
+        let right = of_set(tables, &pass.steps, pair.right.as_slice(), pass.action)?;
+        let question = Question::of(&self.tables, pass, pair.test, left, right)?;
         least_failure(&question, case, None)
     }
 
@@ -305,10 +310,10 @@ impl<'a> Pass<'a> {
     {
         let (alloc, width) = (self.tables.alloc(), self.tables.width());
         let cert = self.cert;
-        let turn = self.turn(action)?;
-        let mut case = Case::new(alloc, width)?;
+        let action_pass = self.action_pass(action)?;
+        let mut case = TestCase::new(alloc, width)?;
         for (pair, sets) in cert.pairs().iter().enumerate() {
-            if let Some(values) = self.pair_failure(&turn, &mut case, sets)? {
+            if let Some(values) = self.pair_failure(&action_pass, &mut case, sets)? {
                 let (first, second) = values.split_at(width);
                 return Ok(Some(Place {
                     pair,
@@ -340,12 +345,12 @@ impl<'a> Pass<'a> {
         ensures holds { IfOk result (λ b. IsTrue b ↔ ((atom : Atom) → length atom ≡ self.old.problem.tests → IsAllowedAtom (counted_short self.old.cert.style self.old.problem) atom → IsTrue (holds_at self.old.tables test atom))) }
         ensures grows { PassGrows self.old self.new }
     {
-        let turn = self.turn(None)?;
+        let action_pass = self.action_pass(None)?;
         let always = self.tables.constant(true)?;
         let left = empty_product(&mut self.tables, test)?;
         let right = empty_product(&mut self.tables, always)?;
-        let mut case = Case::new(self.tables.alloc(), self.tables.width())?;
-        let question = Question::of(&self.tables, &turn, None, left, right)?;
+        let mut case = TestCase::new(self.tables.alloc(), self.tables.width())?;
+        let question = Question::of(&self.tables, &action_pass, None, left, right)?;
         Ok(least_failure(&question, &mut case, None)?.is_none())
     }
 
@@ -372,7 +377,8 @@ impl<'a> Pass<'a> {
     }
 }
 
-// Returns the lesser of the given places.
+// Returns the lesser of the given places. `Option::min` would return `None` for one missing place, where the checker
+// needs the place that exists.
 fn least_place(first: Option<Place>, second: Option<Place>) -> Option<Place>
     ensures { IsLeastOf first second result }
 {

@@ -7,10 +7,10 @@ use kat_model::NoMemory;
 use std::collections::BTreeSet;
 use std::marker::Model;
 
-/// The condition on each pair: on its outputs or, if there is an action, on the sets that it leads to; with the steps
+/// One pass over the pairs: the condition on each pair, on its outputs or, if there is an action, on the sets that it leads to; with the steps
 /// by the action, and the style, the pairs and the universal term for matching sets. The outputs must be the same.
 #[derive(Drop)]
-pub(crate) struct Turn<'a> {
+pub(crate) struct ActionPass<'a> {
     pub action: Option<usize>,
     pub steps: Vec<Targets>,
     pub style: Style,
@@ -25,11 +25,11 @@ pub(crate) struct Turn<'a> {
     pub end: Vec<usize>,
 }
 
-impl<'a> Model for Turn<'a> {
+impl<'a> Model for ActionPass<'a> {
     ghost use Rattle.std.specs.Prelude.{map};
-    ghost use Rattle.cert_checker.specs.Working.Questions.{TurnParts};
+    ghost use Rattle.cert_checker.specs.Working.Questions.{ActionPassParts};
 
-    ghost Value = { TurnParts };
+    ghost Value = { ActionPassParts };
 
     ghost view = { λ t. record { action = t.action; steps = map (λ x. x.entries) t.steps.items; style = t.style; pairs = t.pairs.now; index = t.index.now; universal = t.universal; forbidden = t.forbidden.items; begin = t.begin.items; end = t.end.items } };
 }
@@ -42,8 +42,8 @@ impl<'a> Model for Turn<'a> {
 #[derive(Drop)]
 pub(crate) struct Question<'a> {
     pub tables: &'a Tables,
-    pub turn: &'a Turn<'a>,
-    pub own: Option<usize>,
+    pub action_pass: &'a ActionPass<'a>,
+    pub pair_test: Option<usize>,
     pub left: Targets,
     pub right: Targets,
     /// The tests that the targets and the pair name, with their parts.
@@ -55,7 +55,7 @@ impl<'a> Model for Question<'a> {
 
     ghost Value = { QuestionParts };
 
-    ghost view = { λ q. record { tables = q.tables.now; turn = q.turn.now; own = q.own; left = q.left.entries; right = q.right.entries; asked = q.asked.items } };
+    ghost view = { λ q. record { tables = q.tables.now; action_pass = q.action_pass.now; pair_test = q.pair_test; left = q.left.entries; right = q.right.entries; asked = q.asked.items } };
 }
 
 impl<'a> Question<'a> {
@@ -64,28 +64,28 @@ impl<'a> Question<'a> {
     ghost use Rattle.cert_steps.specs.Targets.{AreEntries};
     ghost use Rattle.cert_checker.specs.Working.Questions.{AreNamed, IsAskedOf};
 
-    /// Builds the question of the turn about two sets with these targets, under a test.
+    /// Builds the question of the pass about two sets with these targets, under a test.
     pub(crate) fn of(
         tables: &'a Tables,
-        turn: &'a Turn<'a>,
-        own: Option<usize>,
+        action_pass: &'a ActionPass<'a>,
+        pair_test: Option<usize>,
         left: Targets,
         right: Targets,
     ) -> Result<Question<'a>, NoMemory>
-        requires own { (k : ℕ) → own ≡ Some k → IsTest tables.now k }
+        requires pair_test { (k : ℕ) → pair_test ≡ Some k → IsTest tables.now k }
         requires left { AreEntries tables.now left.entries }
         requires right { AreEntries tables.now right.entries }
-        ensures question { IfOk result (IsAskedOf tables.now turn.now own left.entries right.entries) }
+        ensures question { IfOk result (IsAskedOf tables.now action_pass.now pair_test left.entries right.entries) }
         ensures named { IfOk result (λ q. AreNamed tables.now q q.asked) }
     {
         let mut named = BTreeSet::new(tables.alloc());
-        named.extend(own)?;
+        named.extend(pair_test)?;
         named.extend(left.values())?;
         named.extend(right.values())?;
         Ok(Question {
             tables,
-            turn,
-            own,
+            action_pass,
+            pair_test,
             left,
             right,
             asked: with_parts(tables, named)?,

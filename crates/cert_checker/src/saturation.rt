@@ -7,20 +7,20 @@ ghost use Rattle.cert_checker.specs.Working.Reaching.{AreReached};
 ghost use Rattle.cert_checker.specs.Working.Matching.{does_count};
 ghost use Rattle.cert_checker.specs.Working.Rounds.{AreAdded, IsBrought, GoesOn, AreTendedAt, counting_in, IsIndexed};
 
-use crate::known::{Case, Known, test_value};
-use crate::question::{Question, Turn};
+use crate::known::{TestCase, Truth, test_value};
+use crate::question::{ActionPass, Question};
 use certificate::Pair;
 use indexmap::IndexSet;
 use kat_model::NoMemory;
 use std::alloc::Global;
 
-/// The listed pairs of a turn that count: by what is known of tests at the end of a move, their test is true or, if
+/// The listed pairs of a pass that count: by what is known of tests at the end of a move, their test is true or, if
 /// `also_open`, may be true.
 #[derive(Drop)]
 pub(crate) struct Counted<'a> {
     pub alloc: Global,
-    pub turn: &'a Turn<'a>,
-    pub known: &'a [Known],
+    pub action_pass: &'a ActionPass<'a>,
+    pub known: &'a [Truth],
     pub also_open: bool,
 }
 
@@ -28,14 +28,14 @@ impl<'a> Counted<'a> {
     ghost use Rattle.std.specs.Prelude.{◌≡◌};
 
     /// Returns the pairs of the question that count in the case.
-    pub(crate) fn of(question: &'a Question<'a>, case: &'a Case, also_open: bool) -> Counted<'a>
-        ensures turn { result.turn.now ≡ question.now.turn }
+    pub(crate) fn of(question: &'a Question<'a>, case: &'a TestCase, also_open: bool) -> Counted<'a>
+        ensures action_pass { result.action_pass.now ≡ question.now.action_pass }
         ensures known { result.known.now ≡ case.now.end.items }
         ensures also_open { result.also_open ≡ also_open }
     {
         Counted {
             alloc: question.tables.alloc(),
-            turn: question.turn,
+            action_pass: question.action_pass,
             known: &case.end,
             also_open,
         }
@@ -47,8 +47,8 @@ pub(crate) fn counts(counted: &Counted, pair: &Pair) -> bool
     ensures { result ≡ does_count counted.now.also_open counted.now.known.now pair.now }
 {
     match test_value(counted.known, pair.test) {
-        Known::Value(value) => value,
-        Known::Waits(_) => counted.also_open,
+        Truth::Known(value) => value,
+        Truth::Undecided(_) => counted.also_open,
     }
 }
 
@@ -85,11 +85,11 @@ fn add_pairs(
     last: Option<usize>,
 ) -> Result<(), NoMemory>
     ensures goes_on { OnOk result (GoesOn (counting_in counted.now) reached.old.keys reached.new.keys) }
-    ensures tended { OnOk result (AreTendedAt counted.now.turn.now.pairs counted.now.also_open counted.now.known.now reached.old.keys reached.new.keys (places_at counted.now.turn.now.index last)) }
+    ensures tended { OnOk result (AreTendedAt counted.now.action_pass.now.pairs counted.now.also_open counted.now.known.now reached.old.keys reached.new.keys (places_at counted.now.action_pass.now.index last)) }
 {
-    let turn = counted.turn;
-    for place in turn.index.places(last) {
-        if let Some(pair) = turn.pairs.get(*place) {
+    let action_pass = counted.action_pass;
+    for place in action_pass.index.places(last) {
+        if let Some(pair) = action_pass.pairs.get(*place) {
             if counts(counted, pair) {
                 bring(reached, pair.left.as_slice(), pair.right.as_slice())?;
                 bring(reached, pair.right.as_slice(), pair.left.as_slice())?;
@@ -121,7 +121,7 @@ fn add_round(
     wanted: &[usize],
 ) -> Result<(), NoMemory>
     ensures goes_on { OnOk result (GoesOn (counting_in counted.now) reached.old.keys reached.new.keys) }
-    ensures tended { OnOk result (IsSubset wanted.now reached.new.keys ⊎ ((term : ℕ) → Has reached.new.keys term → AreTendedAt counted.now.turn.now.pairs counted.now.also_open counted.now.known.now reached.old.keys reached.new.keys (places_under counted.now.turn.now.index term))) }
+    ensures tended { OnOk result (IsSubset wanted.now reached.new.keys ⊎ ((term : ℕ) → Has reached.new.keys term → AreTendedAt counted.now.action_pass.now.pairs counted.now.also_open counted.now.known.now reached.old.keys reached.new.keys (places_under counted.now.action_pass.now.index term))) }
 {
     let mut place = 0;
     while place < reached.len() {
@@ -136,7 +136,8 @@ fn add_round(
 }
 
 /// Whether the pairs that count make each wanted term reachable from `from`. Visits the pairs under the wanted terms
-/// first, because usually one of those suffices.
+/// first, because usually one of those suffices. Rounds take only pairs that the index has under reached terms, and
+/// stop when the answer is known; contracts speak of rounds over all pairs.
 pub(crate) fn reaches(counted: &Counted, from: &[usize], wanted: &[usize]) -> Result<bool, NoMemory>
     requires { IsIndexed counted.now }
     ensures { IfOk result (λ b. IsTrue b ↔ AreReached (counting_in counted.now) from.now wanted.now) }

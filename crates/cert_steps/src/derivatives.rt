@@ -194,7 +194,10 @@ fn step(
 }
 
 /// Returns, for each marked term, its targets by the action or, without one, the empty product where it accepts; other
-/// terms have no targets. The marks must be closed (`close_marks`), one for each of the tests in `accepting`.
+/// terms have no targets. The marks must be closed (`close_marks`), one for each of the tests in `accepting`. Steps are
+/// computed whole for each marked term. A certificate with a long chain of `E seq n n` has exponentially many, and one
+/// of random sums and products thousands for each node; in what `decide` writes, a node has at most as many as the
+/// closed sides have actions.
 pub fn steps(
     tables: &mut Tables,
     accepting: &[usize],

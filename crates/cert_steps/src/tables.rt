@@ -177,7 +177,8 @@ impl Tables {
     }
 
     /// Returns a test that is true if and only if both tests are. For a test and its negation, returns the test that is
-    /// always false, which saves cases.
+    /// always false, since three-valued truth does not see that `b + !b` is true; without this rule each `if` before
+    /// and after a loop would double the cases.
     pub fn both(&mut self, x: usize, y: usize) -> Result<usize, NoMemory>
         requires first { IsTest self.old x }
         requires second { IsTest self.old y }
@@ -195,7 +196,8 @@ impl Tables {
     }
 
     /// Returns a test that is true if and only if at least one of the tests is. For a test and its negation, returns
-    /// the test that is always true, which saves cases.
+    /// the test that is always true, since three-valued truth does not see that `b + !b` is true; without this rule
+    /// each `if` before and after a loop would double the cases.
     pub fn either(&mut self, x: usize, y: usize) -> Result<usize, NoMemory>
         requires first { IsTest self.old x }
         requires second { IsTest self.old y }

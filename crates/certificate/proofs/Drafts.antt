@@ -1,11 +1,6 @@
 -- Drafts with an additional entry.
-use Rattle.std.proofs.Common.{◌≡◌, ℕ, inl, inr, ⊎_elim, List, [], ◌∷◌, ◌++◌, true, Some, None, refl, sym, subst}
-use Rattle.std.specs.declared.cmp.Ordering.{Ordering}
-use Rattle.std.specs.BTreeSet.{insert_key}
-use Rattle.std.proofs.lemmas.Map.Lookups.{CmpEqualImpliesEq}
+use Rattle.std.proofs.Common.{◌≡◌, ℕ, true, Some, None, refl, sym, subst}
 use Rattle.kat_model.specs.Members.{Has, SameMembers}
-use Rattle.kat_model.proofs.Lists.{has_left, has_right}
-use Rattle.kat_model.proofs.SetKeys.{inserted_has}
 use Rattle.term_nodes.specs.declared.TestNode.{TestNode}
 use Rattle.term_nodes.specs.declared.TermNode.{TermNode}
 use Rattle.certificate.specs.declared.entry.Entry.{Entry}
@@ -13,62 +8,56 @@ use Rattle.certificate.specs.declared.entry.Entry.TheVariants.{TestLine, TermLin
 use Rattle.certificate.specs.declared.draft.Draft.{Draft}
 use Rattle.certificate.specs.declared.evidence.EvidenceFault.TheVariants.{DoubleNode}
 use Rattle.certificate.specs.Certs.{IsCert}
-use Rattle.certificate.specs.Faults.{entry_fault, with_entry}
+use Rattle.line_format.specs.NumberedLines.{fault_of}
+use Rattle.line_format.proofs.KnownLines.{any_same, any_lacks}
+use Rattle.line_format.proofs.LineTests.{Passes, passes_faultless, double_fault}
+use Rattle.certificate.specs.Faults.{with_entry, entry_format}
 use Rattle.term_nodes.specs.Nodes.{same_test_node, same_term_node}
 use Rattle.term_nodes.specs.NumberSets.{are_ascending}
 use Rattle.certificate.specs.PairParts.{PairParts}
 use Rattle.certificate.specs.Working.Readings.{draft_parts, IsDraft, MayBeAdded}
-use Rattle.certificate.proofs.Growth.{Passes, passes_faultless, double_fault, cert_grown, any_same, any_lacks, same_test_equal, test_same_itself, same_term_equal, term_same_itself}
-use Rattle.term_nodes.proofs.Insertions.{has_pushed}
-
--- a set with an additional key has the members of the list with this node appended
-pub known_pushed : {X : Type 0} {R : X → X → Ordering} → CmpEqualImpliesEq R → (olds xs : List X) (x : X) → SameMembers olds xs → SameMembers (insert_key R olds x) (xs ++ x ∷ [])
-known_pushed exact olds xs x was y =
-    let keys = inserted_has exact x olds y in (
-      (λ h. ⊎_elim (λ k. has_left xs (x ∷ []) y ((was y).0 k)) (λ e. has_right xs (x ∷ []) y (inl e)) (keys.0 h)),
-      (λ h. keys.1 (⊎_elim (λ k. inl ((was y).1 k)) inr (has_pushed xs x y h))),
-    )
+use Rattle.certificate.proofs.Growth.{cert_grown, same_test_equal, test_same_itself, same_term_equal, term_same_itself}
 
 module _ (d : Draft) (n : ℕ) where
   -- a known node is a duplicate
-  pub test_double : (node : TestNode ℕ) → IsDraft d → MayBeAdded d (TestLine node) → Has d.known_tests.keys node → entry_fault (draft_parts d) n (TestLine node) ≡ Some (DoubleNode n)
+  pub test_double : (node : TestNode ℕ) → IsDraft d → MayBeAdded d (TestLine node) → Has d.known_tests.keys node → fault_of entry_format (draft_parts d) n (TestLine node) ≡ Some (DoubleNode n)
   test_double node draft may known =
-      double_fault (draft_parts d) n (TestLine node) may.stands may.narrow may.earlier (any_same same_test_node same_test_equal test_same_itself d.test_nodes.items node ((draft.tests node).0 known))
+      double_fault entry_format (draft_parts d) n (TestLine node) may.stands may.narrow may.earlier (any_same same_test_node same_test_equal test_same_itself d.test_nodes.items node ((draft.tests node).0 known))
 
-  pub term_double : (node : TermNode ℕ ℕ) → IsDraft d → MayBeAdded d (TermLine node) → Has d.known_terms.keys node → entry_fault (draft_parts d) n (TermLine node) ≡ Some (DoubleNode n)
+  pub term_double : (node : TermNode ℕ ℕ) → IsDraft d → MayBeAdded d (TermLine node) → Has d.known_terms.keys node → fault_of entry_format (draft_parts d) n (TermLine node) ≡ Some (DoubleNode n)
   term_double node draft may known =
-      double_fault (draft_parts d) n (TermLine node) may.stands may.narrow may.earlier (any_same same_term_node same_term_equal term_same_itself d.term_nodes.items node ((draft.terms node).0 known))
+      double_fault entry_format (draft_parts d) n (TermLine node) may.stands may.narrow may.earlier (any_same same_term_node same_term_equal term_same_itself d.term_nodes.items node ((draft.terms node).0 known))
 
   -- a new node passes
-  pub test_passes : (node : TestNode ℕ) → IsDraft d → MayBeAdded d (TestLine node) → (Has d.known_tests.keys node → ⊥) → Passes (draft_parts d) (TestLine node)
+  pub test_passes : (node : TestNode ℕ) → IsDraft d → MayBeAdded d (TestLine node) → (Has d.known_tests.keys node → ⊥) → Passes entry_format (draft_parts d) (TestLine node)
   test_passes node draft may new =
       record {
-        stands = may.stands;
+        allowed = may.stands;
         narrow = may.narrow;
         earlier = may.earlier;
         new = any_lacks same_test_node same_test_equal test_same_itself d.test_nodes.items node (λ h. new ((draft.tests node).1 h));
-        ordered = refl;
+        last = refl;
       }
 
-  pub term_passes : (node : TermNode ℕ ℕ) → IsDraft d → MayBeAdded d (TermLine node) → (Has d.known_terms.keys node → ⊥) → Passes (draft_parts d) (TermLine node)
+  pub term_passes : (node : TermNode ℕ ℕ) → IsDraft d → MayBeAdded d (TermLine node) → (Has d.known_terms.keys node → ⊥) → Passes entry_format (draft_parts d) (TermLine node)
   term_passes node draft may new =
       record {
-        stands = may.stands;
+        allowed = may.stands;
         narrow = may.narrow;
         earlier = may.earlier;
         new = any_lacks same_term_node same_term_equal term_same_itself d.term_nodes.items node (λ h. new ((draft.terms node).1 h));
-        ordered = refl;
+        last = refl;
       }
 
   -- adding a passing entry to a draft gives a draft
-  pub added : (e : Entry) (new : Draft) → IsDraft d → Passes (draft_parts d) e → draft_parts new ≡ with_entry (draft_parts d) e → SameMembers new.known_tests.keys new.test_nodes.items → SameMembers new.known_terms.keys new.term_nodes.items
-      → IsDraft new × ((f : Entry) × (◌≡◌ {A = _} (Some e) (Some f)) × (entry_fault (draft_parts d) n f ≡ None) × (draft_parts new ≡ with_entry (draft_parts d) f))
+  pub added : (e : Entry) (new : Draft) → IsDraft d → Passes entry_format (draft_parts d) e → draft_parts new ≡ with_entry (draft_parts d) e → SameMembers new.known_tests.keys new.test_nodes.items → SameMembers new.known_terms.keys new.term_nodes.items
+      → IsDraft new × ((f : Entry) × (◌≡◌ {A = _} (Some e) (Some f)) × (fault_of entry_format (draft_parts d) n f ≡ None) × (draft_parts new ≡ with_entry (draft_parts d) f))
   added e new draft passes is tests terms = (
     record { cert = subst IsCert (sym is) (cert_grown (draft_parts d) e draft.cert passes); tests = tests; terms = terms },
-    (e, refl, passes_faultless (draft_parts d) n e passes, is),
+    (e, refl, passes_faultless entry_format (draft_parts d) n e passes, is),
   )
 
   -- a pair of ascending sets passes
-  pub pair_passes : (p : PairParts) → MayBeAdded d (PairLine p) → are_ascending p.left ≡ true → are_ascending p.right ≡ true → Passes (draft_parts d) (PairLine p)
+  pub pair_passes : (p : PairParts) → MayBeAdded d (PairLine p) → are_ascending p.left ≡ true → are_ascending p.right ≡ true → Passes entry_format (draft_parts d) (PairLine p)
   pair_passes p may left right =
-      record { stands = may.stands; narrow = may.narrow; earlier = may.earlier; new = refl; ordered = rw (left, right) refl }
+      record { allowed = may.stands; narrow = may.narrow; earlier = may.earlier; new = refl; last = rw (left, right) refl }

@@ -1,28 +1,24 @@
 -- The forms of the nodes of a certificate, and how they depend on the numbers in them.
-use Rattle.std.proofs.Common.{◌≡◌, ℕ, ◌⊎◌, inl, inr, ⊎_elim, List, [], ◌∷◌, map, length, Bool, true, false, cond, Option, Some, None, refl, sym, ap, ◌∙◌, arith, codes}
-use Rattle.std.specs.List.{list_all, list_any}
+use Rattle.std.proofs.Common.{◌≡◌, ℕ, ◌⊎◌, inl, inr, ⊎_elim, List, [], ◌∷◌, map, length, Bool, true, false, cond, Some, None, refl, sym, ap, ◌∙◌, arith, codes}
+use Rattle.std.specs.List.{list_all}
 use Rattle.std.specs.Option.{option_map, option_and_then}
 use Rattle.std.specs.Str.{bytes_eq}
-use Rattle.std.proofs.lemmas.Slice.Eq.{bytes_eq-Decides}
+use Rattle.kat_model.proofs.Options.{some_of_conds}
+use Rattle.line_format.proofs.LineSteps.{named}
+use Rattle.line_format.proofs.NumberForms.{wide_form}
 use Rattle.term_nodes.specs.declared.TestNode.{TestNode}
 use Rattle.term_nodes.specs.declared.TestNode.TheVariants.{False, True, Prim, Not, And, Or}
 use Rattle.term_nodes.specs.declared.TermNode.{TermNode}
 use Rattle.term_nodes.specs.declared.TermNode.TheVariants.{Zero, One, Test, Act, Sum, Seq, Star}
-use Rattle.line_format.specs.Numerals.{is_numeral, value_of, numbers_of, too_wide}
+use Rattle.line_format.specs.Numerals.{is_numeral, value_of, numbers_of}
 use Rattle.line_format.specs.Readings.{HasNumbers}
 use Rattle.line_format.specs.declared.numerals.Numbers.{Numbers}
 use Rattle.certificate.specs.declared.entry.Entry.{Entry}
 use Rattle.certificate.specs.declared.entry.Entry.TheVariants.{TestLine, TermLine}
-use Rattle.certificate.specs.declared.entry.Section.{Section}
 use Rattle.certificate.specs.declared.entry.Section.TheVariants.{Tests, Terms}
 use Rattle.certificate.specs.Texts.{test_name, test_numbers, term_name, term_numbers, entry_numbers}
 use Rattle.certificate.specs.Forms.{test_node_of, term_node_of}
 use Rattle.certificate.specs.Faults.{is_wide, section_of}
-
-two_forms : {N : Type 0} (b c : Bool) (x y n : N) → cond b (Some x) (cond c (Some y) None) ≡ Some n → ((b ≡ true) × (x ≡ n)) ⊎ ((c ≡ true) × (y ≡ n))
-two_forms true c x y n e = inl (refl, cc)
-two_forms false true x y n e = inr (refl, cc)
-two_forms false false x y n e = cc
 
 three_forms : {N : Type 0} (b c d : Bool) (x y z n : N) → cond b (Some x) (cond c (Some y) (cond d (Some z) None)) ≡ Some n → ((b ≡ true) × (x ≡ n)) ⊎ (((c ≡ true) × (y ≡ n)) ⊎ ((d ≡ true) × (z ≡ n)))
 three_forms true c d x y z n e = inl (refl, cc)
@@ -41,17 +37,13 @@ some_of_three false true d x y z h = (y, refl)
 some_of_three false false true x y z h = (z, refl)
 some_of_three false false false x y z h = ⊎_elim (λ p. cc) (λ q. ⊎_elim (λ p. cc) (λ p. cc) q) h
 
--- a name that compares equal to a word is that word
-pub named : (name word : List ℕ) → bytes_eq name word ≡ true → name ≡ word
-named name word e = (bytes_eq-Decides name word).0 e
-
 -- a node has the name and the numbers from which it was read
 test_two : (name v w : List ℕ) (ks : List ℕ) (x y n : TestNode ℕ) → test_name x ≡ v → test_name y ≡ w → ks ≡ test_numbers x → ks ≡ test_numbers y → cond (bytes_eq name v) (Some x) (cond (bytes_eq name w) (Some y) None) ≡ Some n → (name ≡ test_name n) × (ks ≡ test_numbers n)
 test_two name v w ks x y n nx ny kx ky e =
     ⊎_elim
     (λ p. (named name v p.0 ∙ sym nx ∙ ap test_name p.1, kx ∙ ap test_numbers p.1))
     (λ p. (named name w p.0 ∙ sym ny ∙ ap test_name p.1, ky ∙ ap test_numbers p.1))
-    (two_forms (bytes_eq name v) (bytes_eq name w) x y n e)
+    (some_of_conds (bytes_eq name v) (bytes_eq name w) x y n e)
 
 pub test_node_told : (name ks : List ℕ) (n : TestNode ℕ) → test_node_of name ks ≡ Some n → (name ≡ test_name n) × (ks ≡ test_numbers n)
 test_node_told name [] n e = test_two name _ _ [] False True n refl refl refl refl e
@@ -72,7 +64,7 @@ term_two name v w ks x y n nx ny kx ky e =
     ⊎_elim
     (λ p. (named name v p.0 ∙ sym nx ∙ ap term_name p.1, kx ∙ ap term_numbers p.1))
     (λ p. (named name w p.0 ∙ sym ny ∙ ap term_name p.1, ky ∙ ap term_numbers p.1))
-    (two_forms (bytes_eq name v) (bytes_eq name w) x y n e)
+    (some_of_conds (bytes_eq name v) (bytes_eq name w) x y n e)
 
 term_three : (name u v w : List ℕ) (ks : List ℕ) (x y z n : TermNode ℕ ℕ) → term_name x ≡ u → term_name y ≡ v → term_name z ≡ w → ks ≡ term_numbers x → ks ≡ term_numbers y → ks ≡ term_numbers z → cond (bytes_eq name u) (Some x) (cond (bytes_eq name v) (Some y) (cond (bytes_eq name w) (Some z) None)) ≡ Some n → (name ≡ term_name n) × (ks ≡ term_numbers n)
 term_three name u v w ks x y z n nx ny nz kx ky kz e =
@@ -101,7 +93,7 @@ term_node_made (Star x) = refl
 
 -- whether a name and numbers form a node depends only on the name and the number of numbers
 of_two : {N : Type 0} (b c : Bool) (w x y z n : N) → cond b (Some w) (cond c (Some x) None) ≡ Some n → (m : N) × (cond b (Some y) (cond c (Some z) None) ≡ Some m)
-of_two b c w x y z n e = some_of_two b c y z (⊎_elim (λ p. inl p.0) (λ p. inr p.0) (two_forms b c w x n e))
+of_two b c w x y z n e = some_of_two b c y z (⊎_elim (λ p. inl p.0) (λ p. inr p.0) (some_of_conds b c w x n e))
 
 of_three : {N : Type 0} (b c d : Bool) (u v w x y z n : N) → cond b (Some u) (cond c (Some v) (cond d (Some w) None)) ≡ Some n → (m : N) × (cond b (Some x) (cond c (Some y) (cond d (Some z) None)) ≡ Some m)
 of_three b c d u v w x y z n e =
@@ -130,48 +122,14 @@ term_node_same name (w ∷ x ∷ []) (y ∷ z ∷ []) n h e = of_two (bytes_eq n
 term_node_same name (w ∷ x ∷ []) (y ∷ z ∷ k ∷ ys) n h e = absurd (omega arith)
 term_node_same name (w ∷ x ∷ k ∷ xs) ys n h e = cc
 
--- words that are numerals spell their values
-pub numbers_of_all : (ws : List (List ℕ)) → list_all is_numeral ws ≡ true → numbers_of ws ≡ Some (map value_of ws)
-numbers_of_all ws e = rw e refl
+pub test_line_told : (name : List ℕ) (ks : List ℕ) (n : TestNode ℕ) → test_node_of name ks ≡ Some n → (ks ≡ entry_numbers (TestLine n)) × (section_of (TestLine n) ≡ Tests)
+test_line_told name ks n e = ((test_node_told name ks n e).1, refl)
 
-pub numbers_of_none : (ws : List (List ℕ)) → list_all is_numeral ws ≡ false → numbers_of ws ≡ None
-numbers_of_none ws e = rw e refl
-
--- the entry of a test node or a term node
-module _ {N : Type 0} (node_of : List ℕ → Option N) (made : N → Entry) (numbers : N → List ℕ) (section : Section)
-    (same : (xs ys : List ℕ) (n : N) → length xs ≡ length ys → node_of xs ≡ Some n → (m : N) × (node_of ys ≡ Some m))
-    (told : (ks : List ℕ) (n : N) → node_of ks ≡ Some n → ks ≡ numbers n)
-    (of_numbers : (n : N) → entry_numbers (made n) ≡ numbers n) (of_section : (n : N) → section_of (made n) ≡ section) where
-  abbrev pub read_node : List (List ℕ) → Option Entry
-  read_node ws = option_map made (option_and_then node_of (numbers_of ws))
-
-  pub no_numerals : (ws : List (List ℕ)) → list_all is_numeral ws ≡ false → read_node ws ≡ None
-  no_numerals ws e = rw (numbers_of_none ws e) refl
-
-  node_at : (ws : List (List ℕ)) (o : Option N) → list_all is_numeral ws ≡ true → node_of (map value_of ws) ≡ o → read_node ws ≡ option_map made o
-  node_at ws o e f = rw (numbers_of_all ws e, f) refl
-
-  pub no_node : (ws : List (List ℕ)) (v : Numbers) → list_all is_numeral ws ≡ true → HasNumbers (map value_of ws) v → node_of v.values.items ≡ None → read_node ws ≡ None
-  no_node ws v e has none = node_at ws None e (by_cases (node_of (map value_of ws)) refl)
-    where
-      by_cases : (o : Option N) → node_of (map value_of ws) ≡ o → node_of (map value_of ws) ≡ None
-      by_cases None is = is
-      by_cases (Some n) is = let other = same (map value_of ws) v.values.items n (sym has.count) is in let clash : None ≡ Some other.0 = sym none ∙ other.1 in cc
-
-  pub wide_node : (ws : List (List ℕ)) (v : Numbers) (n : N) → list_all is_numeral ws ≡ true → HasNumbers (map value_of ws) v → node_of v.values.items ≡ Some n → v.wide ≡ true → (e : Entry) × (read_node ws ≡ Some e) × (is_wide e ≡ true) × (section_of e ≡ section)
-  wide_node ws v n e has is wide =
-      let other = same v.values.items (map value_of ws) n has.count is in
-      let ks : map value_of ws ≡ entry_numbers (made other.0) = told (map value_of ws) other.0 other.1 ∙ sym (of_numbers other.0) in
-      (made other.0, node_at ws (Some other.0) e other.1, ap (λ l. list_any too_wide l) (sym ks) ∙ sym has.wide ∙ wide, of_section other.0)
-
-  pub narrow_node : (ws : List (List ℕ)) (v : Numbers) (n : N) → list_all is_numeral ws ≡ true → HasNumbers (map value_of ws) v → node_of v.values.items ≡ Some n → v.wide ≡ false → (read_node ws ≡ Some (made n)) × (is_wide (made n) ≡ false)
-  narrow_node ws v n e has is narrow =
-      let there : node_of (map value_of ws) ≡ Some n = ap node_of (sym (has.values narrow)) ∙ is in
-      let ks : map value_of ws ≡ entry_numbers (made n) = told (map value_of ws) n there ∙ sym (of_numbers n) in
-      (node_at ws (Some n) e there, ap (λ l. list_any too_wide l) (sym ks) ∙ sym has.wide ∙ narrow)
+pub term_line_told : (name : List ℕ) (ks : List ℕ) (n : TermNode ℕ ℕ) → term_node_of name ks ≡ Some n → (ks ≡ entry_numbers (TermLine n)) × (section_of (TermLine n) ≡ Terms)
+term_line_told name ks n e = ((term_node_told name ks n e).1, refl)
 
 pub wide_test : (name : List ℕ) (ws : List (List ℕ)) (v : Numbers) (n : TestNode ℕ) → list_all is_numeral ws ≡ true → HasNumbers (map value_of ws) v → test_node_of name v.values.items ≡ Some n → v.wide ≡ true → (e : Entry) × (option_map TestLine (option_and_then (test_node_of name) (numbers_of ws)) ≡ Some e) × (is_wide e ≡ true) × (section_of e ≡ Tests)
-wide_test name = wide_node (test_node_of name) TestLine test_numbers Tests (test_node_same name) (λ ks n e. (test_node_told name ks n e).1) (λ n. refl) (λ n. refl)
+wide_test name = wide_form entry_numbers section_of (test_node_of name) TestLine Tests (test_node_same name) (test_line_told name)
 
 pub wide_term : (name : List ℕ) (ws : List (List ℕ)) (v : Numbers) (n : TermNode ℕ ℕ) → list_all is_numeral ws ≡ true → HasNumbers (map value_of ws) v → term_node_of name v.values.items ≡ Some n → v.wide ≡ true → (e : Entry) × (option_map TermLine (option_and_then (term_node_of name) (numbers_of ws)) ≡ Some e) × (is_wide e ≡ true) × (section_of e ≡ Terms)
-wide_term name = wide_node (term_node_of name) TermLine term_numbers Terms (term_node_same name) (λ ks n e. (term_node_told name ks n e).1) (λ n. refl) (λ n. refl)
+wide_term name = wide_form entry_numbers section_of (term_node_of name) TermLine Terms (term_node_same name) (term_line_told name)

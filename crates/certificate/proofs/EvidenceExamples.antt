@@ -22,7 +22,8 @@ use Rattle.certificate.specs.Certs.{CertParts}
 use Rattle.certificate.specs.Texts.{text_of}
 use Rattle.certificate.specs.Faults.{answer_of, line_fault}
 use Rattle.certificate.specs.Accepted.{set_pairs, tested_pairs, IsAccepted}
-use Rattle.certificate.proofs.ReadTexts.{read_told}
+use Rattle.line_format.proofs.WholeTexts.{read_told}
+use Rattle.certificate.proofs.EvidenceTexts.{text_laws}
 
 -- b = b
 
@@ -33,7 +34,7 @@ one_test_read : answer_of (codes "kat 1 equal\nT prim 0\nE test 0\nP 0 | 0\nend\
 one_test_read = refl
 
 one_test_text : codes "kat 1 equal\nT prim 0\nE test 0\nP 0 | 0\nend\n" ≡ text_of (Equal one_test)
-one_test_text = (read_told _ (Equal one_test) one_test_read).1
+one_test_text = (read_told text_laws _ (Equal one_test) one_test_read).1
 
 one_test_pairs : set_pairs one_test ≡ record { left = test (prim 0) ∷ []; right = test (prim 0) ∷ [] } ∷ []
 unfolding test_trees trees
@@ -81,7 +82,7 @@ lasting_read : answer_of (codes "kat 1 equal under\nT true\nT prim 0\nE act 0\nE
 lasting_read = refl
 
 lasting_text : codes "kat 1 equal under\nT true\nT prim 0\nE act 0\nE test 1\nE seq 0 1\nE one\nP 0 | 2 | 0\nP 3 | 1 | 1\nend\n" ≡ text_of (Equal lasting)
-lasting_text = (read_told _ (Equal lasting) lasting_read).1
+lasting_text = (read_told text_laws _ (Equal lasting) lasting_read).1
 
 abbrev first : TestedPair
 first = record { sets = record { left = p ∷ []; right = product p (test b) ∷ [] }; test = top }

@@ -1,73 +1,29 @@
 -- A certificate with an additional entry that has no fault keeps the rules.
-use Rattle.std.proofs.Common.{◌≡◌, ℕ, ◌≤◌, ◌<◌, inl, ⊎_elim, List, [], ◌∷◌, ◌++◌, length, Bool, true, false, not, ◌&&◌, eqb, nat_lt, Option, Some, None, refl, sym, ap, ◌∙◌, subst, arith, length-append, eqb-true, eq-eqb}
+use Rattle.std.proofs.Common.{◌≡◌, ℕ, ◌≤◌, ◌<◌, inl, ⊎_elim, List, [], ◌∷◌, ◌++◌, length, true, not, ◌&&◌, eqb, nat_lt, Option, Some, None, refl, sym, ap, ◌∙◌, subst, arith, eqb-true, eq-eqb}
 use mathlib.Core.Path.{ap₂}
-use Rattle.std.specs.List.{list_any}
-use Rattle.std.specs.Option.{option_or}
-use Rattle.std.proofs.lemmas.Bool.{and_parts, not-false}
+use Rattle.std.proofs.lemmas.Bool.{and_parts}
 use Rattle.std.proofs.lemmas.List.Folds.{list_all-append}
 use Rattle.kat_model.specs.Members.{Has}
-use Rattle.kat_model.proofs.Lists.{has_any, any_has}
+use Rattle.std.proofs.lemmas.List.{length_push}
+use Rattle.kat_model.proofs.Lists.{has_pushed}
+use Rattle.line_format.proofs.KnownLines.{lacks_any}
+use Rattle.line_format.proofs.LineTests.{Passes}
 use Rattle.term_nodes.specs.declared.TestNode.{TestNode}
 use Rattle.term_nodes.specs.declared.TestNode.TheVariants.{False, True, Prim, Not, And, Or}
 use Rattle.term_nodes.specs.declared.TermNode.{TermNode}
 use Rattle.term_nodes.specs.declared.TermNode.TheVariants.{Zero, One, Test, Act, Sum, Seq, Star}
 use Rattle.certificate.specs.declared.entry.Entry.{Entry}
 use Rattle.certificate.specs.declared.entry.Entry.TheVariants.{TestLine, TermLine, PairLine}
-use Rattle.certificate.specs.declared.evidence.EvidenceFault.{EvidenceFault}
-use Rattle.certificate.specs.declared.evidence.EvidenceFault.TheVariants.{Line, NodeOrder, DoubleNode, SetOrder, NumberTooWide}
 use Rattle.term_nodes.specs.Nodes.{test_parts, term_parts, tests_of_term, same_test_node, same_term_node}
 use Rattle.term_nodes.specs.NumberSets.{are_below, are_ascending, IsNumberSet}
 use Rattle.term_nodes.proofs.Parts.{parts-IsTestOver, parts-IsOver, below_has, has_below, below_more}
-use Rattle.term_nodes.proofs.Insertions.{has_pushed, test_pushed, term_pushed}
+use Rattle.term_nodes.proofs.Insertions.{test_pushed, term_pushed}
 use Rattle.certificate.specs.declared.nodes.Style.{Style}
 use Rattle.certificate.specs.declared.nodes.Style.TheVariants.{Plain, UpTo, Under}
 use Rattle.certificate.specs.PairParts.{PairParts}
 use Rattle.certificate.specs.Certs.{CertParts, HasItsTest, IsPairOf, IsCert, nodes_of}
 use Rattle.certificate.specs.Texts.{maybe_one}
-use Rattle.certificate.specs.Faults.{is_wide, pair_section, section_of, has_tests, may_stand, names_earlier, stands_already, has_order, fault_where, entry_fault, with_entry}
-
--- an entry passes every test
-pub record Passes (c : CertParts) (e : Entry) : Type 0 where
-  pub stands : may_stand c (section_of e) ≡ true
-  pub narrow : is_wide e ≡ false
-  pub earlier : names_earlier c e ≡ true
-  pub new : stands_already c e ≡ false
-  pub ordered : has_order e ≡ true
-
--- ---- the tests in their order
-
-none_parts : {X : Type 0} (o p : Option X) → option_or o p ≡ None → (o ≡ None) × (p ≡ None)
-none_parts None p e = (refl, e)
-none_parts (Some x) p e = cc
-
-right_where : (b : Bool) (fault : EvidenceFault) → fault_where b fault ≡ None → b ≡ false
-right_where true fault e = cc
-right_where false fault e = refl
-
-pub faultless_passes : (c : CertParts) (n : ℕ) (e : Entry) → entry_fault c n e ≡ None → Passes c e
-faultless_passes c n e h =
-    let one = none_parts (fault_where (not (may_stand c (section_of e))) (Line n)) _ h in
-    let two = none_parts (fault_where (is_wide e) (NumberTooWide n)) _ one.1 in
-    let three = none_parts (fault_where (not (names_earlier c e)) (NodeOrder n)) _ two.1 in
-    let four = none_parts (fault_where (stands_already c e) (DoubleNode n)) _ three.1 in
-    record {
-      stands = not-false _ (right_where _ _ one.0);
-      narrow = right_where _ _ two.0;
-      earlier = not-false _ (right_where _ _ three.0);
-      new = right_where _ _ four.0;
-      ordered = not-false _ (right_where _ _ four.1);
-    }
-
--- the first fault of an entry that passes the tests before it
-module _ (c : CertParts) (n : ℕ) (e : Entry) where
-  pub passes_faultless : Passes c e → entry_fault c n e ≡ None
-  passes_faultless p = rw (p.stands, p.narrow, p.earlier, p.new, p.ordered) refl
-
-  pub double_fault : may_stand c (section_of e) ≡ true → is_wide e ≡ false → names_earlier c e ≡ true → stands_already c e ≡ true → entry_fault c n e ≡ Some (DoubleNode n)
-  double_fault stands narrow earlier double = rw (stands, narrow, earlier, double) refl
-
-  pub order_fault : may_stand c (section_of e) ≡ true → is_wide e ≡ false → names_earlier c e ≡ true → stands_already c e ≡ false → has_order e ≡ false → entry_fault c n e ≡ Some (SetOrder n)
-  order_fault stands narrow earlier new wrong = rw (stands, narrow, earlier, new, wrong) refl
+use Rattle.certificate.specs.Faults.{pair_section, has_tests, may_stand, with_entry, entry_format}
 
 -- ---- equal nodes
 
@@ -113,31 +69,10 @@ term_same_itself (Sum x y) = two_equal x y
 term_same_itself (Seq x y) = two_equal x y
 term_same_itself (Star x) = eq-eqb x x refl
 
--- an equality test finds a member
-module _ {X : Type 0} (same : X → X → Bool) (equal : (x y : X) → same x y ≡ true → x ≡ y) (itself : (x : X) → same x x ≡ true) where
-  pub any_same : (xs : List X) (x : X) → Has xs x → list_any (same x) xs ≡ true
-  any_same xs x h = any_has (same x) xs x h (itself x)
-
-  pub same_any : (xs : List X) (x : X) → list_any (same x) xs ≡ true → Has xs x
-  same_any xs x e = let found = has_any (same x) xs e in subst (Has xs) (sym (equal x found.0 found.2)) found.1
-
-  pub lacks_any : (xs : List X) (x : X) → list_any (same x) xs ≡ false → Has xs x → ⊥
-  lacks_any xs x e h = let there = any_same xs x h in cc
-
-  pub any_lacks : (xs : List X) (x : X) → (Has xs x → ⊥) → list_any (same x) xs ≡ false
-  any_lacks xs x lacks = by_cases (list_any (same x) xs) refl
-    where
-      by_cases : (b : Bool) → list_any (same x) xs ≡ b → list_any (same x) xs ≡ false
-      by_cases true e = absurd (lacks (same_any xs x e))
-      by_cases false e = e
-
 -- ---- an additional entry
 
 pub set_more : (m n : ℕ) (ks : List ℕ) → m ≤ n → IsNumberSet m ks → IsNumberSet n ks
 set_more m n ks le s = record { there = below_more m n ks le s.there; ascending = s.ascending }
-
-longer : {X : Type 0} (xs : List X) (x : X) → length xs ≤ length (xs ++ x ∷ [])
-longer xs x = omega (arith, length-append xs (x ∷ []))
 
 -- ---- the test of a pair
 
@@ -182,14 +117,15 @@ its_test_more Plain m n t le its = its
 its_test_more UpTo m n t le its = its
 its_test_more Under m n t le its = (its.0, its.1, (let low = its.2 in omega (arith, le, low)))
 
-pub cert_grown : (c : CertParts) (e : Entry) → IsCert c → Passes c e → IsCert (with_entry c e)
+pub cert_grown : (c : CertParts) (e : Entry) → IsCert c → Passes entry_format c e → IsCert (with_entry c e)
 cert_grown c (TestLine n) cert p =
     let earlier = (and_parts (are_below (length c.test_nodes) (test_parts n)) _ p.earlier).0 in
     record {
       nodes = test_pushed (nodes_of c) n cert.nodes (parts-IsTestOver (length c.test_nodes) n (below_has (length c.test_nodes) (test_parts n) earlier)) (lacks_any same_test_node same_test_equal test_same_itself c.test_nodes n p.new);
       pairs = λ q h.
           let old = cert.pairs q h in
-          record { left = old.left; right = old.right; test = its_test_more c.style _ _ q.test (longer c.test_nodes n) old.test };
+          let more : length c.test_nodes ≤ length (c.test_nodes ++ n ∷ []) = omega (arith, length_push c.test_nodes n) in
+          record { left = old.left; right = old.right; test = its_test_more c.style _ _ q.test more old.test };
     }
 cert_grown c (TermLine n) cert p =
     let earlier = and_parts (are_below (length c.test_nodes) (tests_of_term n)) (are_below (length c.term_nodes) (term_parts n)) p.earlier in
@@ -198,17 +134,18 @@ cert_grown c (TermLine n) cert p =
       nodes = term_pushed (nodes_of c) n cert.nodes over (lacks_any same_term_node same_term_equal term_same_itself c.term_nodes n p.new);
       pairs = λ q h.
           let old = cert.pairs q h in
-          record { left = set_more _ _ q.left (longer c.term_nodes n) old.left; right = set_more _ _ q.right (longer c.term_nodes n) old.right; test = old.test };
+          let more : length c.term_nodes ≤ length (c.term_nodes ++ n ∷ []) = omega (arith, length_push c.term_nodes n) in
+          record { left = set_more _ _ q.left more old.left; right = set_more _ _ q.right more old.right; test = old.test };
     }
 cert_grown c (PairLine q) cert p =
     let earlier = and_parts (are_below (length c.test_nodes) (maybe_one q.test)) (are_below (length c.term_nodes) (q.left ++ q.right)) p.earlier in
     let there = and_parts (are_below (length c.term_nodes) q.left) (are_below (length c.term_nodes) q.right) (sym (list_all-append (λ k. nat_lt k (length c.term_nodes)) q.left q.right) ∙ earlier.1) in
-    let ascend = and_parts (are_ascending q.left) (are_ascending q.right) p.ordered in
+    let ascend = and_parts (are_ascending q.left) (are_ascending q.right) p.last in
     let pair : IsPairOf (with_entry c (PairLine q)) q =
     record {
       left = record { there = there.0; ascending = ascend.0 };
       right = record { there = there.1; ascending = ascend.1 };
-      test = its_test c (length c.test_nodes) q.test p.stands earlier.0;
+      test = its_test c (length c.test_nodes) q.test p.allowed earlier.0;
     } in
     let olds : (r : PairParts) → Has c.pairs r → IsPairOf (with_entry c (PairLine q)) r = λ r h. let old = cert.pairs r h in record { left = old.left; right = old.right; test = old.test } in
     record {

@@ -1,12 +1,11 @@
 -- Lines as their first word and the other words after blanks, and texts as their lines.
-use Rattle.std.proofs.Common.{◌≡◌, ℕ, List, [], ◌∷◌, ◌++◌, map, Option, refl, sym, ap, ◌∙◌, append_assoc, append-nil, codes}
-use Rattle.std.specs.List.{flat_map}
+use Rattle.std.proofs.Common.{◌≡◌, ℕ, List, [], ◌∷◌, ◌++◌, map, Option, sym, ap, ◌∙◌, append_assoc, codes}
 use Rattle.std.specs.Fmt.{decimal}
 use Rattle.std.proofs.lemmas.Grind.{flat_map-append}
 use Rattle.kat_model.specs.Steps.{Atom}
 use Rattle.kat_model.specs.Strings.{Move, GuardedString}
-use Rattle.line_format.specs.Lines.{line_of, text_of_lines, with_feed, after_blanks}
-use Rattle.line_format.proofs.LineForms.{line_of-cons, flat_map-map}
+use Rattle.line_format.specs.Lines.{line_of, with_feed, after_blanks}
+use Rattle.line_format.proofs.LineForms.{line_of-cons, lines_then_end}
 use Rattle.certificate.specs.declared.entry.Entry.TheVariants.{PairLine}
 use Rattle.certificate.specs.declared.evidence.Evidence.{Evidence}
 use Rattle.certificate.specs.declared.evidence.Evidence.TheVariants.{Equal, Different}
@@ -25,14 +24,10 @@ pair_line p =
 -- all lines but the last, and then the last
 pub text_of-body : (e : Evidence) → text_of e ≡ body_of e ++ with_feed (codes "end")
 text_of-body (Equal c) =
-    let rest : text_of_lines (map (λ e. line_of (entry_words e)) (entries_of c) ++ codes "end" ∷ []) ≡ entry_lines (entries_of c) ++ with_feed (codes "end") =
-    flat_map-append with_feed (map (λ e. line_of (entry_words e)) (entries_of c)) (codes "end" ∷ []) ∙ ap (λ l. l ++ with_feed (codes "end")) (flat_map-map (λ e. line_of (entry_words e)) with_feed (entries_of c)) in
-    ap (λ l. with_feed (heading c.style) ++ l) rest ∙ sym (append_assoc (with_feed (heading c.style)) (entry_lines (entries_of c)) (with_feed (codes "end")))
+    ap (λ l. with_feed (heading c.style) ++ l) (lines_then_end (λ e. line_of (entry_words e)) (entries_of c)) ∙ sym (append_assoc (with_feed (heading c.style)) (entry_lines (entries_of c)) (with_feed (codes "end")))
 text_of-body (Different x) =
     let first : List ℕ = with_feed (line_of (atom_words x.first)) in
-    let rest : text_of_lines (map (λ m. line_of (move_words m)) x.rest ++ codes "end" ∷ []) ≡ move_lines x.rest ++ with_feed (codes "end") =
-    flat_map-append with_feed (map (λ m. line_of (move_words m)) x.rest) (codes "end" ∷ []) ∙ ap (λ l. l ++ with_feed (codes "end")) (flat_map-map (λ m. line_of (move_words m)) with_feed x.rest) in
-    ap (λ l. with_feed string_heading ++ (first ++ l)) rest
+    ap (λ l. with_feed string_heading ++ (first ++ l)) (lines_then_end (λ m. line_of (move_words m)) x.rest)
     ∙ ap (λ l. with_feed string_heading ++ l) (sym (append_assoc first (move_lines x.rest) (with_feed (codes "end"))))
     ∙ sym (append_assoc (with_feed string_heading) (first ++ move_lines x.rest) (with_feed (codes "end")))
 
@@ -42,7 +37,7 @@ three_written out first second third a b c ea eb ec =
     ec ∙ ap (λ l. l ++ c) (eb ∙ ap (λ l. l ++ b) ea) ∙ append_assoc (out ++ a) b c ∙ append_assoc out a (b ++ c)
 
 -- the output after an additional step
-then_written : (out before after a b : List ℕ) → before ≡ out ++ a → after ≡ before ++ b → after ≡ out ++ (a ++ b)
+pub then_written : (out before after a b : List ℕ) → before ≡ out ++ a → after ≡ before ++ b → after ≡ out ++ (a ++ b)
 then_written out before after a b ea eb = eb ∙ ap (λ l. l ++ b) ea ∙ append_assoc out a b
 
 pub pair_written : (out kind lefts bar rights all left right : List ℕ) (last : Option ℕ) (p : PairParts) → left ≡ p.left → right ≡ p.right → last ≡ p.test → kind ≡ out ++ codes "P" → lefts ≡ kind ++ after_blanks (map decimal left) → bar ≡ lefts ++ codes " |" → rights ≡ bar ++ after_blanks (map decimal right) → all ≡ rights ++ with_feed (after_blanks (last_words last)) → all ≡ out ++ with_feed (line_of (entry_words (PairLine p)))

@@ -21,7 +21,8 @@ use Rattle.certificate.specs.Forms.{is_bar, pair_with}
 use Rattle.certificate.specs.Faults.{is_wide, section_of}
 use Rattle.certificate.specs.Working.Readings.{single_of, ReadsEntry}
 use Rattle.line_format.proofs.Splits.{split_some}
-use Rattle.certificate.proofs.EntryForms.{named, numbers_of_all, numbers_of_none}
+use Rattle.line_format.proofs.LineSteps.{named}
+use Rattle.line_format.proofs.Words.{numbers_of_all, numbers_of_none}
 
 -- ---- words between bars
 

@@ -1,13 +1,12 @@
 -- The text of evidence consists of letters, digits, blanks, bars and line feeds.
-use Rattle.std.proofs.Common.{◌≡◌, ◌<◌, ◌+◌, ◌/◌, ◌%◌, ℕ, zero, suc, List, [], ◌∷◌, ◌++◌, map, Bool, true, false, if◌then◌else◌, ◌&&◌, ◌||◌, ◌==◌, Option, None, Some, refl, sym, subst, ◌∙◌, codes, arith}
-use Rattle.std.specs.List.{list_all, join_with_byte}
-use Rattle.std.specs.Char.{is_ascii_alphanumeric}
+use Rattle.std.proofs.Common.{◌≡◌, ◌<◌, ◌/◌, ◌%◌, ℕ, zero, suc, List, [], ◌∷◌, ◌++◌, map, Bool, true, false, if◌then◌else◌, ◌==◌, Option, None, Some, refl, sym, subst, ◌∙◌, codes, arith}
+use Rattle.std.specs.List.{join_with_byte}
 use Rattle.std.specs.Fmt.{digits_onto, digits, digit_glyph, decimal}
 use Rattle.std.specs.Cmp.Derive.{both_true}
 use Rattle.std.proofs.lemmas.List.Folds.{list_all-append}
 use Rattle.std.proofs.lemmas.Bool.Decides.{nat_tests}
 use Rattle.kat_model.specs.Steps.{Atom}
-use Rattle.kat_model.specs.Strings.{Move, GuardedString}
+use Rattle.kat_model.specs.Strings.{Move}
 use Rattle.term_nodes.specs.declared.TestNode.{TestNode}
 use Rattle.term_nodes.specs.declared.TestNode.TheVariants.{False, True, Prim, Not, And, Or}
 use Rattle.term_nodes.specs.declared.TermNode.{TermNode}
@@ -18,8 +17,7 @@ use Rattle.certificate.specs.declared.entry.Entry.{Entry}
 use Rattle.certificate.specs.declared.entry.Entry.TheVariants.{TestLine, TermLine, PairLine}
 use Rattle.certificate.specs.declared.evidence.Evidence.{Evidence}
 use Rattle.certificate.specs.declared.evidence.Evidence.TheVariants.{Equal, Different}
-use Rattle.certificate.specs.PairParts.{PairParts}
-use Rattle.certificate.specs.Texts.{test_name, test_numbers, term_name, term_numbers, last_words, entry_words, bits, bit_words, atom_words, move_words, heading, string_heading, entries_of, lines_before_end, lines_of, text_of}
+use Rattle.certificate.specs.Texts.{test_name, test_numbers, term_name, term_numbers, last_words, entry_words, bits, bit_words, atom_words, move_words, heading, entries_of, lines_before_end, lines_of, text_of}
 use Rattle.certificate.specs.Laws.{is_plain, IsPlain}
 use Rattle.line_format.specs.Lines.{line_of, text_of_lines}
 use Rattle.line_format.proofs.TextParts.{text-cons}

@@ -1,16 +1,10 @@
 -- The lines of entries: each spelling is read, and each line that is read is a spelling.
-use Rattle.std.proofs.Common.{◌≡◌, ℕ, ◌^◌, ◌<◌, ◌≤◌, ◌⊎◌, inl, inr, ⊎_elim, List, [], ◌∷◌, ◌++◌, map, Bool, true, false, cond, ◌==◌, nat_lt, Option, Some, None, refl, sym, ap, ◌∙◌, subst, arith, codes, append-nil}
+use Rattle.std.proofs.Common.{◌≡◌, ℕ, ◌^◌, ◌<◌, ◌⊎◌, inl, inr, ⊎_elim, List, [], ◌∷◌, ◌++◌, map, Bool, true, false, cond, Option, Some, None, refl, sym, ap, ◌∙◌, subst, codes, append-nil}
 use mathlib.Core.Path.{ap₂}
-use Rattle.std.specs.List.{slice_split, list_all, list_any}
+use Rattle.std.specs.List.{slice_split, list_any}
 use Rattle.std.specs.Option.{option_map, option_and_then}
-use Rattle.std.specs.Char.{is_ascii_digit}
 use Rattle.std.specs.Fmt.{decimal}
 use Rattle.std.specs.Str.{bytes_eq}
-use Rattle.std.proofs.lemmas.Bool.{or_parts, and_parts}
-use Rattle.std.proofs.lemmas.Bool.Decides.{nat_tests}
-use Rattle.std.proofs.lemmas.Fmt.{digits_decimal}
-use Rattle.std.proofs.lemmas.List.Splits.{join_with_byte-slice_split}
-use Rattle.kat_model.specs.Members.{Has}
 use Rattle.kat_model.proofs.Lists.{has_left, has_right}
 use Rattle.term_nodes.specs.declared.TestNode.{TestNode}
 use Rattle.term_nodes.specs.declared.TestNode.TheVariants.{False, True, Prim, Not, And, Or}
@@ -18,16 +12,21 @@ use Rattle.term_nodes.specs.declared.TermNode.{TermNode}
 use Rattle.term_nodes.specs.declared.TermNode.TheVariants.{Zero, One, Test, Act, Sum, Seq, Star}
 use Rattle.line_format.proofs.LineForms.{line_of-cons}
 use Rattle.line_format.specs.Lines.{line_of, words_of}
-use Rattle.line_format.specs.Numerals.{is_numeral, value_of, numbers_of, too_wide}
-use Rattle.line_format.proofs.Words.{AreNarrow, numbers_back, IsWord, AreWords, decimals_words, words_append, words_back, line_back, line_lacks, numbers_told}
+use Rattle.line_format.specs.Numerals.{is_numeral, numbers_of}
+use Rattle.line_format.proofs.Words.{AreNarrow, numbers_back, IsWord, AreWords, AreLineWords, decimals_words, words_append, words_back, line_back, line_lacks, numbers_told}
 use Rattle.certificate.specs.declared.entry.Entry.{Entry}
 use Rattle.certificate.specs.declared.entry.Entry.TheVariants.{TestLine, TermLine, PairLine}
 use Rattle.certificate.specs.PairParts.{PairParts}
 use Rattle.certificate.specs.Texts.{test_name, test_numbers, term_name, term_numbers, maybe_one, last_words, entry_words, entry_numbers, IsNarrow}
 use Rattle.certificate.specs.Forms.{test_node_of, term_node_of, is_bar, pair_with, pair_of, entry_of_words, entry_of}
-use Rattle.line_format.proofs.Splits.{LacksByte, split_none, split_first, split_lacking, split_at}
-use Rattle.line_format.proofs.NumeralValues.{own, numeral_decimal, decimal_numeral}
-use Rattle.certificate.proofs.EntryForms.{named, test_node_told, test_node_made, term_node_told, term_node_made}
+use Rattle.line_format.proofs.Splits.{LacksByte, split_none, split_first}
+use Rattle.line_format.proofs.NumeralValues.{decimal_numeral}
+use Rattle.certificate.proofs.EntryForms.{test_node_told, test_node_made, test_node_same, test_line_told, term_node_told, term_node_made, term_node_same, term_line_told}
+use Rattle.line_format.proofs.LineSteps.{named}
+use Rattle.line_format.proofs.NumberForms.{form_told}
+use Rattle.kat_model.proofs.Options.{some_of_map}
+use Rattle.certificate.specs.declared.entry.Section.TheVariants.{Tests, Terms}
+use Rattle.certificate.specs.Faults.{section_of}
 use Rattle.certificate.proofs.PairForms.{with_bars, bars_back, part_numbers, pair_made, pair_with_told}
 
 -- ---- the words of an entry
@@ -64,7 +63,7 @@ last_are_words : (t : Option ℕ) → AreNarrow (maybe_one t) → AreWords (last
 last_are_words None narrow = tt
 last_are_words (Some k) narrow = (refl, decimals_words (k ∷ []) narrow)
 
-pub entry_are_words : (e : Entry) → IsNarrow e → AreWords (entry_words e)
+entry_are_words : (e : Entry) → IsNarrow e → AreLineWords (entry_words e)
 entry_are_words (TestLine n) narrow = (refl, (test_name_word n, decimals_words (test_numbers n) narrow))
 entry_are_words (TermLine n) narrow = (refl, (term_name_word n, decimals_words (term_numbers n) narrow))
 entry_are_words (PairLine p) narrow = (
@@ -120,22 +119,11 @@ entry_of_its_words (TermLine n) narrow = ap (λ o. option_map TermLine (option_a
 entry_of_its_words (PairLine p) narrow =
     pair_words (map decimal p.left) (map decimal p.right ++ last_words p.test) ∙ ap (option_map PairLine) (pair_back p narrow)
 
-first_of_entry : (e : Entry) → (w : List ℕ) × (ws : List (List ℕ)) × (entry_words e ≡ w ∷ ws)
-first_of_entry (TestLine n) = (_, _, refl)
-first_of_entry (TermLine n) = (_, _, refl)
-first_of_entry (PairLine p) = (_, _, refl)
-
 pub entry_back : (e : Entry) → IsNarrow e → entry_of (line_of (entry_words e)) ≡ Some e
-entry_back e narrow =
-    let first = first_of_entry e in
-    let words = subst AreWords first.2 (entry_are_words e narrow) in
-    ap (λ ws. entry_of (line_of ws)) first.2 ∙ ap entry_of_words (words_back first.0 first.1 words) ∙ ap entry_of_words (sym first.2) ∙ entry_of_its_words e narrow
+entry_back e narrow = ap entry_of_words (words_back (entry_words e) (entry_are_words e narrow)) ∙ entry_of_its_words e narrow
 
 pub entry_lacks : (e : Entry) → IsNarrow e → LacksByte 10 (line_of (entry_words e))
-entry_lacks e narrow =
-    let first = first_of_entry e in
-    let words = subst AreWords first.2 (entry_are_words e narrow) in
-    subst (λ ws. LacksByte 10 (line_of ws)) (sym first.2) (line_lacks first.0 first.1 words)
+entry_lacks e narrow = line_lacks (entry_words e) (entry_are_words e narrow)
 
 -- no entry is the line `end`
 pub entry_not_end : (e : Entry) → bytes_eq (line_of (entry_words e)) (codes "end") ≡ false
@@ -144,14 +132,6 @@ entry_not_end (TermLine n) = refl
 entry_not_end (PairLine p) = ap (λ l. bytes_eq l (codes "end")) (line_of-cons (codes "P") (map decimal p.left ++ codes "|" ∷ (map decimal p.right ++ last_words p.test)))
 
 -- ---- a line that is read is a spelling
-
-some_of_map : {X Y : Type 0} (f : X → Y) (o : Option X) (y : Y) → option_map f o ≡ Some y → (x : X) × (o ≡ Some x) × (f x ≡ y)
-some_of_map f None y e = cc
-some_of_map f (Some x) y e = (x, refl, cc)
-
-some_of_then : {X Y : Type 0} (f : X → Option Y) (o : Option X) (y : Y) → option_and_then f o ≡ Some y → (x : X) × (o ≡ Some x) × (f x ≡ Some y)
-some_of_then f None y e = cc
-some_of_then f (Some x) y e = (x, refl, e)
 
 cons_parts : {X : Type 0} (x y : X) (xs ys : List X) → x ∷ xs ≡ y ∷ ys → (x ≡ y) × (xs ≡ ys)
 cons_parts x y xs ys e = (cc, cc)
@@ -190,19 +170,13 @@ three_kinds false false false x y z e h = cc
 
 test_told : (kind name : List ℕ) (ws : List (List ℕ)) (e : Entry) → IsNarrow e → kind ≡ codes "T" → option_map TestLine (option_and_then (test_node_of name) (numbers_of ws)) ≡ Some e → kind ∷ name ∷ ws ≡ entry_words e
 test_told kind name ws e narrow is h =
-    let made = some_of_map TestLine (option_and_then (test_node_of name) (numbers_of ws)) e h in
-    let read = some_of_then (test_node_of name) (numbers_of ws) made.0 made.1 in
-    let told = test_node_told name read.0 made.0 read.2 in
-    let small = subst AreNarrow (sym told.1) (subst (λ f. AreNarrow (entry_numbers f)) (sym made.2) narrow) in
-    ap₂ (λ k l. k ∷ l) is (ap₂ (λ n l. n ∷ l) told.0 (numbers_told ws read.0 read.1 small ∙ ap (map decimal) told.1)) ∙ ap entry_words made.2
+    let told = form_told entry_numbers section_of (test_node_of name) TestLine Tests (test_node_same name) (test_line_told name) ws e narrow h in
+    ap₂ (λ k l. k ∷ l) is (ap₂ (λ n l. n ∷ l) (test_node_told name told.1 told.0 told.2).0 told.3) ∙ ap entry_words told.4
 
 term_told : (kind name : List ℕ) (ws : List (List ℕ)) (e : Entry) → IsNarrow e → kind ≡ codes "E" → option_map TermLine (option_and_then (term_node_of name) (numbers_of ws)) ≡ Some e → kind ∷ name ∷ ws ≡ entry_words e
 term_told kind name ws e narrow is h =
-    let made = some_of_map TermLine (option_and_then (term_node_of name) (numbers_of ws)) e h in
-    let read = some_of_then (term_node_of name) (numbers_of ws) made.0 made.1 in
-    let told = term_node_told name read.0 made.0 read.2 in
-    let small = subst AreNarrow (sym told.1) (subst (λ f. AreNarrow (entry_numbers f)) (sym made.2) narrow) in
-    ap₂ (λ k l. k ∷ l) is (ap₂ (λ n l. n ∷ l) told.0 (numbers_told ws read.0 read.1 small ∙ ap (map decimal) told.1)) ∙ ap entry_words made.2
+    let told = form_told entry_numbers section_of (term_node_of name) TermLine Terms (term_node_same name) (term_line_told name) ws e narrow h in
+    ap₂ (λ k l. k ∷ l) is (ap₂ (λ n l. n ∷ l) (term_node_told name told.1 told.0 told.2).0 told.3) ∙ ap entry_words told.4
 
 set_told : (kind : List ℕ) (ws : List (List ℕ)) (e : Entry) → IsNarrow e → kind ≡ codes "P" → option_map PairLine (pair_of ws) ≡ Some e → kind ∷ ws ≡ entry_words e
 set_told kind ws e narrow is h =

@@ -9,14 +9,14 @@ use Rattle.std.specs.Str.{bytes_eq}
 use Rattle.std.proofs.lemmas.Bool.Decides.{nat_tests}
 use Rattle.kat_model.specs.Steps.{Atom}
 use Rattle.kat_model.specs.Strings.{Move}
-use Rattle.line_format.proofs.Words.{IsWord, AreWords, words_back, line_back, line_lacks, decimals_words}
+use Rattle.line_format.proofs.Words.{IsWord, AreWords, AreLineWords, words_back, line_back, line_lacks, decimals_words}
 use Rattle.line_format.specs.Lines.{line_of, words_of}
 use Rattle.line_format.specs.Numerals.{is_numeral, value_of}
 use Rattle.certificate.specs.Texts.{bits, bit_words, atom_words, move_words}
 use Rattle.certificate.specs.Forms.{is_bit, bits_of, atom_of_words, first_of_words, first_of, move_after, move_of_words, move_of}
 use Rattle.line_format.proofs.Splits.{LacksByte}
 use Rattle.line_format.proofs.NumeralValues.{numeral_decimal, decimal_numeral}
-use Rattle.certificate.proofs.EntryForms.{named}
+use Rattle.line_format.proofs.LineSteps.{named}
 
 bits_word : (atom : Atom) → IsWord (bits atom)
 bits_word [] = refl
@@ -77,14 +77,14 @@ atom_told (w ∷ v ∷ ws) atom e = cc
 
 -- ---- the first atom
 
-first_are_words : (atom : Atom) → AreWords (atom_words atom)
+first_are_words : (atom : Atom) → AreLineWords (atom_words atom)
 first_are_words atom = (refl, bit_are_words atom)
 
 pub first_back : (atom : Atom) → first_of (line_of (atom_words atom)) ≡ Some atom
-first_back atom = ap first_of_words (words_back (codes "A") (bit_words atom) (first_are_words atom)) ∙ atom_read atom
+first_back atom = ap first_of_words (words_back (atom_words atom) (first_are_words atom)) ∙ atom_read atom
 
 pub first_lacks : (atom : Atom) → LacksByte 10 (line_of (atom_words atom))
-first_lacks atom = line_lacks (codes "A") (bit_words atom) (first_are_words atom)
+first_lacks atom = line_lacks (atom_words atom) (first_are_words atom)
 
 first_words_told : (ws : List (List ℕ)) (atom : Atom) → first_of_words ws ≡ Some atom → ws ≡ atom_words atom
 first_words_told [] atom e = cc
@@ -99,7 +99,7 @@ first_told line atom e = sym (line_back line) ∙ ap line_of (first_words_told (
 
 -- ---- moves
 
-move_are_words : (m : Move) → m.act < 2 ^ 64 → AreWords (move_words m)
+move_are_words : (m : Move) → m.act < 2 ^ 64 → AreLineWords (move_words m)
 move_are_words m small =
     let act = decimals_words (m.act ∷ []) (λ k h. ⊎_elim (λ p. subst (λ n. n < 2 ^ 64) p small) absurd h) in
     (refl, (act.0, bit_are_words m.atom))
@@ -109,10 +109,10 @@ move_back m small =
     let numeral = decimal_numeral m.act small in
     let after : move_after (decimal m.act) (bit_words m.atom) ≡ Some m =
     rw (numeral.0, atom_read m.atom) (ap (λ (k : ℕ). Some (record { act = k; atom = m.atom })) numeral.1) in
-    ap move_of_words (words_back (codes "M") (decimal m.act ∷ bit_words m.atom) (move_are_words m small)) ∙ after
+    ap move_of_words (words_back (move_words m) (move_are_words m small)) ∙ after
 
 pub move_lacks : (m : Move) → m.act < 2 ^ 64 → LacksByte 10 (line_of (move_words m))
-move_lacks m small = line_lacks (codes "M") (decimal m.act ∷ bit_words m.atom) (move_are_words m small)
+move_lacks m small = line_lacks (move_words m) (move_are_words m small)
 
 pub move_not_end : (m : Move) → bytes_eq (line_of (move_words m)) (codes "end") ≡ false
 move_not_end m = refl

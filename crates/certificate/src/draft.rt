@@ -2,16 +2,19 @@
 ghost use Rattle.std.specs.Prelude.{◌≡◌, ◌&&◌, ◌++◌, false, Some};
 ghost use Rattle.term_nodes.specs.Nodes.{test_parts, term_parts, tests_of_term};
 ghost use Rattle.term_nodes.specs.NumberSets.{are_below, are_ascending};
-ghost use Rattle.certificate.specs.Forms.{entry_of};
+ghost use Rattle.certificate.specs.Certs.{CertParts};
 ghost use Rattle.certificate.specs.Texts.{maybe_one};
-ghost use Rattle.certificate.specs.Faults.{no_entries, has_tests, may_stand, is_wide, names_earlier};
-ghost use Rattle.certificate.specs.Working.Readings.{TellsApart, IsReflexive, draft_parts, IsDraft, MayBeAdded, AddsEntry};
+ghost use Rattle.certificate.specs.Faults.{no_entries, has_tests, may_stand, is_wide, names_earlier, entry_format};
+ghost use Rattle.line_format.specs.KnownLines.{TellsApart, IsReflexive};
+ghost use Rattle.certificate.specs.Working.Readings.{draft_parts, IsDraft, MayBeAdded, AddsEntry, unless_memory, is_told, is_passed_on};
+ghost use Rattle.certificate.specs.declared.entry.Entry.{Entry};
 ghost use Rattle.certificate.specs.declared.entry.Entry.TheVariants.{TestLine, TermLine, PairLine};
 
 use crate::cert::Cert;
 use crate::entry::{Entry, LineFault, Section, read_entry};
-use crate::evidence::EvidenceFault;
+use crate::evidence::{Evidence, EvidenceFault};
 use crate::nodes::{Pair, Style, TermNode, TestNode};
+use line_format::LineDraft;
 use std::alloc::Global;
 use std::collections::BTreeSet;
 
@@ -102,22 +105,6 @@ impl Draft {
         }
     }
 
-    // Returns the certificate of the entries.
-    pub(crate) fn into_cert(self) -> Cert
-        requires { IsDraft self }
-        ensures { result ≡ draft_parts self }
-    {
-        let Draft {
-            style,
-            test_nodes,
-            term_nodes,
-            pairs,
-            known_tests: _,
-            known_terms: _,
-        } = self;
-        Cert::of_parts(style, test_nodes, term_nodes, pairs)
-    }
-
     fn may_stand(&self, section: Section) -> bool
         ensures { result ≡ may_stand (draft_parts self.now) section }
     {
@@ -205,17 +192,26 @@ impl Draft {
             Entry::PairLine(pair) => self.add_pair(pair, number),
         }
     }
+}
 
-    // Adds the entry on the line with this number. After a fault the draft must not be used.
-    pub(crate) fn add(
-        &mut self,
-        alloc: Global,
-        line: &[u8],
-        number: u64,
-    ) -> Result<(), EvidenceFault>
-        requires { IsDraft self.old }
-        ensures { AddsEntry self.old number (entry_of line.now) self.new result }
-    {
+impl LineDraft for Draft {
+    type Value = Evidence;
+
+    type Fault = EvidenceFault;
+
+    ghost L = { Entry };
+
+    ghost D = { CertParts };
+
+    ghost format = { entry_format };
+
+    ghost unless = { unless_memory };
+
+    ghost parts = { draft_parts };
+
+    ghost Keeps = { IsDraft };
+
+    fn add(&mut self, alloc: Global, line: &[u8], number: u64) -> Result<(), EvidenceFault> {
         match read_entry(alloc, line) {
             Ok(entry) => self.add_entry(entry, number),
             Err(LineFault::NoMemory) => Err(EvidenceFault::NoMemory),
@@ -228,4 +224,28 @@ impl Draft {
             }
         }
     }
+
+    fn finish(self) -> Evidence {
+        let Draft {
+            style,
+            test_nodes,
+            term_nodes,
+            pairs,
+            known_tests: _,
+            known_terms: _,
+        } = self;
+        Evidence::Equal(Cert::of_parts(style, test_nodes, term_nodes, pairs))
+    }
+
+    fn truncated() -> EvidenceFault {
+        EvidenceFault::Truncated
+    }
+
+    fn trailing(number: u64) -> EvidenceFault {
+        EvidenceFault::Trailing(number)
+    }
+
+    ghost is_told = { is_told };
+
+    ghost is_passed_on = { is_passed_on };
 }

@@ -9,6 +9,7 @@ mod laws;
 mod moves;
 mod nodes;
 mod reading;
+mod string_draft;
 mod writing;
 
 pub use cert::Cert;

@@ -4,6 +4,7 @@ use Rattle.std.specs.Option.{is_some}
 use Rattle.std.specs.Str.{bytes_eq}
 use Rattle.std.specs.Prelude.{codes}
 use Rattle.std.proofs.lemmas.List.{drop-drop}
+use Rattle.kat_model.specs.declared.limits.TheConstants.{MAX_OPEN}
 use Rattle.text_tokens.specs.declared.fault.TextFault.{TextFault}
 use Rattle.text_tokens.specs.declared.fault.TextFault.TheVariants.{Syntax}
 use Rattle.text_grammar.specs.declared.terminal.Terminal.TheVariants.{Name, Keyword, Separator, Dot}
@@ -167,7 +168,7 @@ pub record AreLines (d : ℕ) (ts rest : List Lexeme) : Type 0 where
 -- an inner chain in braces after a rule, or nothing
 pub data Inner (d : ℕ) (inner : Bool) (ts rest : List Lexeme) : Type 0 where
   nothing_there : (told : inner ≡ false) → (same : ts ≡ rest) → Inner d inner ts rest
-  chain_there : (told : inner ≡ true) → (opening closing : Leaf) → (us : List Lexeme) → (spelled : ts ≡ cons_token (Separator CurlyOpen) opening us) → (lt : d < 200) → (c : IsChainPhrase (d + 1) us (cons_token (Separator CurlyClose) closing rest)) → Inner d inner ts rest
+  chain_there : (told : inner ≡ true) → (opening closing : Leaf) → (us : List Lexeme) → (spelled : ts ≡ cons_token (Separator CurlyOpen) opening us) → (lt : d < MAX_OPEN) → (c : IsChainPhrase (d + 1) us (cons_token (Separator CurlyClose) closing rest)) → Inner d inner ts rest
 
 -- a chain is a term followed by lines
 chain_found : (d : ℕ) (ts mid rest : List Lexeme) → IsPhrase term d ts mid → AreLines d mid rest → IsChainPhrase d ts rest
@@ -221,7 +222,7 @@ module _ {Z T R P V : Type 0} (g : ChainActions Z T R P V) (term_is : (d : ℕ) 
   Finds f = (x : ChainAim Z V) (d : ℕ) (ts : List Lexeme) (y : (V × Z) × List Lexeme) → f x d ts ≡ Ok y → Found x d ts y.1
 
   braces_find : (f : ChainParser Z V) → Finds f → (z : Z) (d : ℕ) (ts : List Lexeme) (y : (V × Z) × List Lexeme) → braces_by f z d ts ≡ Ok y →
-      (opening closing : Leaf) × (us : List Lexeme) × (ts ≡ cons_token (Separator CurlyOpen) opening us) × (d < 200) × IsChainPhrase (d + 1) us (cons_token (Separator CurlyClose) closing y.1)
+      (opening closing : Leaf) × (us : List Lexeme) × (ts ≡ cons_token (Separator CurlyOpen) opening us) × (d < MAX_OPEN) × IsChainPhrase (d + 1) us (cons_token (Separator CurlyClose) closing y.1)
   braces_find f s z d ts y e =
       let a = bind_ok (wants (is_terminal (Separator CurlyOpen)) ts) _ y e in
       let w = wants_ok (Separator CurlyOpen) ts a.0 a.1 in

@@ -1,5 +1,6 @@
 -- The tests of tokens never fail with out of memory: reading takes fewer steps than its bound.
 use Rattle.std.proofs.Common.{◌≡◌, refl, ℕ, zero, suc, ◌+◌, ◌<◌, List, [], ◌∷◌, length, drop, Bool, true, false, cond, nat_lt, ◌||◌, Option, Some, None, Ok, Err, arith}
+use Rattle.kat_model.specs.declared.limits.TheConstants.{MAX_TERM_NODES, MAX_TEXT_NODES}
 use Rattle.text_tokens.specs.declared.fault.TextFault.TheVariants.{Syntax, TooLarge}
 use Rattle.text_grammar.specs.declared.terminal.Terminal.TheVariants.{Name, Keyword, Separator, Dot}
 use Rattle.text_grammar.specs.declared.terminal.Keyword.TheVariants as word
@@ -116,7 +117,7 @@ axiom_known at None = tt
 axiom_known at (Some rule) = tt
 
 total_named : (at total nodes : ℕ) → IsNamed (total_with at total nodes)
-total_named at total nodes = if_named (nat_lt 100000 nodes || nat_lt 1000000 (total + nodes)) (Err (TooLarge at)) (Ok (total + nodes)) (λ e. tt) (λ e. tt)
+total_named at total nodes = if_named (nat_lt MAX_TERM_NODES nodes || nat_lt MAX_TEXT_NODES (total + nodes)) (Err (TooLarge at)) (Ok (total + nodes)) (λ e. tt) (λ e. tt)
 
 -- ---- texts
 

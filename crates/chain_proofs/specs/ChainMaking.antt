@@ -2,6 +2,7 @@
 use Rattle.std.specs.Prelude.{ℕ, ◌+◌, List, [], ◌∷◌, ◌++◌, length, false, ◌||◌, if◌then◌else◌, nat_lt, codes, Option, None, Some, Result, Ok, Err}
 use Rattle.std.specs.Str.{bytes_eq}
 use Rattle.std.proofs.Common.{arith}
+use Rattle.kat_model.specs.declared.limits.TheConstants.{MAX_TERM_NODES, MAX_TEXT_NODES}
 use Rattle.kat_model.specs.Trees.{Term}
 use Rattle.text_tokens.specs.declared.fault.TextFault.{TextFault}
 use Rattle.text_tokens.specs.declared.fault.TextFault.TheVariants.{UnknownName, TooLarge}
@@ -49,9 +50,10 @@ abbrev pub known_axiom : ℕ → Option Axiom → Result Axiom TextFault
 known_axiom at None = Err (UnknownName at)
 known_axiom at (Some rule) = Ok rule
 
--- the number of nodes of all terms so far; a term may have 100,000 nodes, and all terms together 1,000,000
+-- the number of nodes of all terms so far; a term may have `MAX_TERM_NODES` nodes, and all terms together
+-- `MAX_TEXT_NODES`
 abbrev pub total_with : ℕ → ℕ → ℕ → Result ℕ TextFault
-total_with at total nodes = if nat_lt 100000 nodes || nat_lt 1000000 (total + nodes) then Err (TooLarge at) else Ok (total + nodes)
+total_with at total nodes = if nat_lt MAX_TERM_NODES nodes || nat_lt MAX_TEXT_NODES (total + nodes) then Err (TooLarge at) else Ok (total + nodes)
 
 -- the term at the start, and the number of nodes of all terms so far
 abbrev pub sized_term : ScopeParts → ℕ → ℕ → List Lexeme → Parsed (Term × ℕ)

@@ -2,6 +2,7 @@
 use Rattle.std.specs.Prelude.{◌≡◌, ◌<◌, ◌+◌, ℕ, List, Bool, true, false, codes, Option, None, Some}
 use Rattle.std.specs.Option.{is_some}
 use Rattle.std.specs.Str.{bytes_eq}
+use Rattle.kat_model.specs.declared.limits.TheConstants.{MAX_OPEN}
 use Rattle.text_grammar.specs.declared.terminal.Terminal.TheVariants.{Name, Keyword, Separator, Dot}
 use Rattle.text_grammar.specs.declared.terminal.Keyword.TheVariants as word
 use Rattle.text_grammar.specs.declared.terminal.Separator.TheVariants.{Semicolon, CurlyOpen, CurlyClose, Equals}
@@ -127,7 +128,7 @@ abbrev pub LinesFit : ℕ → Lines → Type 0
 LinesFit d no_lines = Unit {0}
 LinesFit d (plain_line equals t by r end rest) = IsWithinLimits d t × RuleFits r × LinesFit d rest
 LinesFit d (line_around equals t by r opening first inner closing end rest) =
-    IsWithinLimits d t × RuleFits r × (d < 200) × IsWithinLimits (d + 1) first × LinesFit (d + 1) inner × LinesFit d rest
+    IsWithinLimits d t × RuleFits r × (d < MAX_OPEN) × IsWithinLimits (d + 1) first × LinesFit (d + 1) inner × LinesFit d rest
 
 -- the tokens are a chain followed by the rest
 pub record IsChainPhrase (d : ℕ) (ts rest : List Lexeme) : Type 0 where

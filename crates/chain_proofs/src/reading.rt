@@ -40,10 +40,10 @@ fn read_text(alloc: Global, text: &str, tests: usize, actions: usize) -> Result<
 
 /// Returns the chain that the text of a proof spells. Its terms name `tests` tests `t0`, `t1`, .. and `actions` actions
 /// `a0`, `a1`, .., as the abstract problem shows them. Otherwise fails with the first fault, in this order: `TooLong`
-/// for more than 1,048,576 bytes; `NotUtf8`; `BadToken`; the first in text order of `Syntax`, of `TooDeep` if more than
-/// 200 constructs are open, including the braces of inner chains, and of `NumberTooWide` for 2^64 or more; the first in
-/// text order of `UnknownName` at an undefined name or rule, of `Sort`, and of `TooLarge` at the first byte of a term
-/// if it has more than 100,000 nodes or all terms so far have more than 1,000,000.
+/// for more than `MAX_LEN` bytes; `NotUtf8`; `BadToken`; the first in text order of `Syntax`, of `TooDeep` if more than
+/// `MAX_OPEN` constructs are open, including the braces of inner chains, and of `NumberTooWide` for 2^64 or more; the
+/// first in text order of `UnknownName` at an undefined name or rule, of `Sort`, and of `TooLarge` at the first byte of
+/// a term if it has more than `MAX_TERM_NODES` nodes or all terms so far have more than `MAX_TEXT_NODES`.
 pub fn read_chain(
     alloc: Global,
     bytes: &[u8],

@@ -98,8 +98,8 @@ fn rule_and_place<R: ChainReading>(
 // Reads the chain that begins at `from`, with `depth` open constructs around it and the state `known` after the terms
 // before it. Returns the value of the chain, the state after all terms, and the index after it. Otherwise returns the
 // first fault in the text: `Syntax` at the token that cannot occur there (the place `usize::MAX` after the last token),
-// `TooDeep` at the token that exceeds 200 open constructs, `NumberTooWide` at a number of 2^64 or more, or the fault
-// with which the reading refuses a part.
+// `TooDeep` at the token that exceeds `MAX_OPEN` open constructs, `NumberTooWide` at a number of 2^64 or more, or the
+// fault with which the reading refuses a part.
 #[cycle(chains)]
 #[tactic(auto, using(crate::proofs::ChainSteps::chain_step, text_grammar::proofs::Tokens::next_drop))]
 pub(crate) fn read_chain<R: ChainReading>(

@@ -1,13 +1,11 @@
 -- Each axiom holds in every frame; the two fixed-point axioms hold if their premise does.
 use Rattle.std.proofs.Common.{◌≡◌, ℕ, inl, inr, ⊎_elim, List, [], ◌∷◌, ◌++◌, length, Option, Some, refl, sym, subst, MatchOption}
-use Rattle.std.specs.Bool.{IsTrue}
-use Rattle.std.proofs.lemmas.Bool.{false≢true, and_parts, and_from, or_cases, or_left, or_right}
-use Rattle.kat_model.specs.Trees.{Term, zero, one, test, act, sum, product, star}
-use Rattle.kat_model.specs.Steps.{out}
+use Rattle.kat_model.specs.Trees.{Term, zero, one, sum, product, star}
 use Rattle.kat_model.specs.Relations.{Frame, Along, RelatesIn}
 use Rattle.kat_model.proofs.Closure.{along_append}
+use Rattle.hypothesis_kinds.proofs.StepForms.{test_relates, test_related}
 use Rattle.chain_rules.specs.Chains.{Equation, equation}
-use Rattle.chain_rules.specs.Axioms.{axiom_equation, axiom_premise, IsTestTerm, AreEqualTests}
+use Rattle.chain_rules.specs.Axioms.{axiom_equation, axiom_premise, AreEqualTests}
 use Rattle.chain_rules.specs.declared.chain.Axiom.{Axiom}
 use Rattle.chain_rules.specs.declared.chain.Axiom.TheVariants.{Assoc, Comm, Idem, Zero, SeqAssoc, OneLeft, OneRight, ZeroLeft, ZeroRight, DistLeft, DistRight, UnfoldLeft, UnfoldRight, Bool, Hyp, Lfp, Rfp}
 use Rattle.chain_rules.proofs.Agreement.{Agree}
@@ -139,39 +137,10 @@ module _ {S : Type 0} (frame : Frame S) where
   axiom_holds Bool x y z s e p = absurd cc
   axiom_holds (Hyp k) x y z s e p = absurd cc
 
-  -- a term without actions and stars relates a state only to itself, if the atom of the state satisfies the term
-  test_relates : (e : Term) → IsTestTerm e → (i j : S) → frame.IsState i → RelatesIn frame e i j → (i ≡ j) × IsTrue (out e (frame.atom i))
-  test_relates zero t i j si h = absurd h
-  test_relates one t i j si h = (h, refl)
-  test_relates (test b) t i j si h = h
-  test_relates (act a) t i j si h = absurd t
-  test_relates (sum e f) t i j si h =
-      ⊎_elim
-      (λ p. let r = test_relates e t.0 i j si p in (r.0, or_left (out e (frame.atom i)) _ r.1))
-      (λ q. let r = test_relates f t.1 i j si q in (r.0, or_right (out e (frame.atom i)) _ r.1))
-      h
-  test_relates (product e f) t i j si h =
-      let p = test_relates e t.0 i h.0 si h.2 in
-      let q = test_relates f t.1 h.0 j h.1 h.3 in
-      (rw p.0 q.0, and_from (out e (frame.atom i)) (out f (frame.atom i)) p.1 (rw p.0 q.1))
-  test_relates (star e) t i j si h = absurd t
-
-  relates_test : (e : Term) → IsTestTerm e → (i : S) → frame.IsState i → IsTrue (out e (frame.atom i)) → RelatesIn frame e i i
-  relates_test zero t i si h = absurd (false≢true h)
-  relates_test one t i si h = refl
-  relates_test (test b) t i si h = (refl, h)
-  relates_test (act a) t i si h = absurd t
-  relates_test (sum e f) t i si h =
-      ⊎_elim (λ p. inl (relates_test e t.0 i si p)) (λ q. inr (relates_test f t.1 i si q)) (or_cases (out e (frame.atom i)) (out f (frame.atom i)) h)
-  relates_test (product e f) t i si h =
-      let p = and_parts (out e (frame.atom i)) (out f (frame.atom i)) h in
-      (i, si, relates_test e t.0 i si p.0, relates_test f t.1 i si p.1)
-  relates_test (star e) t i si h = absurd t
-
   test_passes : (tests : ℕ) → ((i : S) → frame.IsState i → length (frame.atom i) ≡ tests) → (e f : Term) → AreEqualTests tests (equation e f) → (i j : S) → frame.IsState i → RelatesIn frame e i j → RelatesIn frame f i j
   test_passes tests wide e f t i j si h =
-      let p = test_relates e t.left i j si h in
-      subst (λ k. RelatesIn frame f i k) p.0 (relates_test f t.right i si (rw (t.same (frame.atom i) (wide i si)) at p.1))
+      let p = test_related frame e i j t.left h in
+      subst (λ k. RelatesIn frame f i k) p.0 (test_relates frame f i si t.right (rw (t.same (frame.atom i) (wide i si)) at p.1))
 
   pub equal_tests_agree : (tests : ℕ) → ((i : S) → frame.IsState i → length (frame.atom i) ≡ tests) → (s : Equation) → AreEqualTests tests s → Agree frame s.left s.right
   equal_tests_agree tests wide s t i j si sj =

@@ -1,7 +1,7 @@
 -- What the results of the check mean.
 use Rattle.std.proofs.Common.{arith, ◌≡◌, ◌≢◌, ℕ, ◌↔◌, Bool, true, false, nat_eq, refl, sym, ◌∙◌}
 use Rattle.std.specs.Bool.{IsTrue}
-use Rattle.kat_model.specs.Trees.{Term}
+use Rattle.kat_model.specs.Trees.{Term, is_test}
 use Rattle.kat_model.specs.Steps.{out}
 use Rattle.kat_model.specs.Problems.{ProblemParts}
 use Rattle.kat_model.specs.Relations.{Same}
@@ -9,7 +9,7 @@ use Rattle.test_diagrams.specs.Functions.{DiagramsParts, IsDiagramOf}
 use Rattle.test_diagrams.specs.Reduced.{IsReduced}
 use Rattle.test_diagrams.proofs.Apart.{same_id_same_function, same_function_same_id}
 use Rattle.chain_rules.specs.Chains.{ChainTree, equation}
-use Rattle.chain_rules.specs.Axioms.{IsTestTerm, AreEqualTests}
+use Rattle.chain_rules.specs.Axioms.{AreEqualTests}
 use Rattle.chain_rules.specs.Chained.{Answers}
 use Rattle.chain_rules.specs.declared.answer.ChainAnswer.{ChainAnswer}
 use Rattle.chain_rules.specs.declared.answer.ChainAnswer.TheVariants.{Accepted, Rejected}
@@ -20,8 +20,8 @@ pub sound_answer : (q : ProblemParts) (c : ChainTree) (answer : ChainAnswer) →
 sound_answer q c Accepted h e = chained_same q c h
 sound_answer q c (Rejected reason) h e = absurd cc
 
--- two terms without actions and stars are true at the same atoms if and only if their diagrams have the same id
-pub equal_ids : (tests : ℕ) (d : DiagramsParts) (i j : ℕ) (e f : Term) → d.tests ≡ tests → IsReduced d → IsDiagramOf d i (out e) → IsDiagramOf d j (out f) → IsTestTerm e → IsTestTerm f → (i ≡ j) ↔ AreEqualTests tests (equation e f)
+-- two tests are true at the same atoms if and only if their diagrams have the same id
+pub equal_ids : (tests : ℕ) (d : DiagramsParts) (i j : ℕ) (e f : Term) → d.tests ≡ tests → IsReduced d → IsDiagramOf d i (out e) → IsDiagramOf d j (out f) → IsTrue (is_test e) → IsTrue (is_test f) → (i ≡ j) ↔ AreEqualTests tests (equation e f)
 equal_ids tests d i j e f same reduced of_e of_f is_e is_f = (
   (λ one. record {
     left = is_e;

@@ -9,7 +9,7 @@ use Rattle.chain_rules.specs.Axioms.{AreEqualTests, IsInstance}
 use Rattle.chain_rules.specs.Working.LineViews.{equation_of}
 use Rattle.chain_rules.specs.declared.chain.Axiom.{Axiom}
 use Rattle.chain_rules.specs.declared.chain.Axiom.TheVariants.{Bool as by_tests}
-use Rattle.chain_rules.specs.declared.fixed_points.Ends.{Ends}
+use Rattle.chain_rules.specs.declared.fixed_points.ChainEnds.{ChainEnds}
 
 -- instances of `Bool`, by the diagrams of both sides
 pub bool_instances : {E : Type 0} (q : ProblemParts) (rule : Axiom) (tests : ℕ) (s : Equation) (r : Result Bool E) → rule ≡ by_tests → tests ≡ q.tests → IfOk r (λ same. IsTrue same ↔ AreEqualTests tests s) → IfOk r (λ same. IsTrue same ↔ IsInstance q rule None s)
@@ -21,7 +21,7 @@ bool_instances q rule tests s (Ok same) is own h =
 bool_instances q rule tests s (Err e) is own h = tt
 
 -- there is no premise
-pub no_premise : (premise : Option Ends) (some : Bool) → some ≡ is_some premise → some ≡ false → option_map equation_of premise ≡ None
+pub no_premise : (premise : Option ChainEnds) (some : Bool) → some ≡ is_some premise → some ≡ false → option_map equation_of premise ≡ None
 no_premise None some own none = refl
 no_premise (Some ends) some own none = absurd cc
 

@@ -1,10 +1,10 @@
 -- The lines of a chain, traversed one by one.
-use Rattle.std.proofs.Common.{arith, ◌≡◌, ℕ, ◌+◌, ◌-◌, ◌≤◌, List, [], ◌∷◌, ◌++◌, length, take, drop, Option, None, Some, MatchOption, refl, sym, ap, subst, ◌∙◌, append_assoc, append-nil, zero-add, ◌<◌, get_or, length-append, zero as nought, suc, Bool, ◌↔◌, Box, Global}
+use Rattle.std.proofs.Common.{arith, ◌≡◌, ℕ, ◌+◌, ◌-◌, ◌≤◌, List, [], ◌∷◌, ◌++◌, length, take, drop, Option, None, Some, MatchOption, refl, sym, ap, subst, ◌∙◌, append_assoc, append-nil, ◌<◌, get_or, length-append, zero as nought, suc, Bool, ◌↔◌, Box, Global}
 use Rattle.std.specs.Bool.{IsTrue}
 use Rattle.std.specs.List.{All, slice_get}
 use Rattle.std.specs.Option.{option_map}
-use Rattle.std.proofs.lemmas.List.{take-append-le, drop_more, drop_all}
-use Rattle.std.proofs.lemmas.Option.{slice_get_within}
+use Rattle.std.proofs.lemmas.List.{take-append-le, drop_more, drop_all, get_or-append-add}
+use Rattle.std.proofs.lemmas.Option.{slice_get_within, slice_get_read, get_or_from_slice_get}
 use Rattle.std.proofs.Math.Seq.{take-append-add}
 use Rattle.kat_model.proofs.Places.{slice_get-append_some}
 use Rattle.std.proofs.lemmas.List.Elements.{All-nil, All-cons, All-append, All-same}
@@ -121,12 +121,6 @@ line_in_range tests actions e l ls r = by_inner (unboxed l.inner) refl r where
 
 -- ---- results of the check
 
-slice_get-append_right : {X : Type 0} (xs ys : List X) (n : ℕ) → slice_get (xs ++ ys) (length xs + n) ≡ slice_get ys n
-slice_get-append_right [] ys n = ap (slice_get ys) (zero-add n)
-slice_get-append_right (x ∷ xs) ys n =
-    let e : length (x ∷ xs) + n ≡ suc (length xs + n) = omega arith in
-    rw e (slice_get-append_right xs ys n)
-
 -- a line that fails is the first failing line of any list that it begins
 pub fails_at_once : (q : ProblemParts) (line : LineParts) (lines : List LineParts) → (Holds q line → ⊥) → IsLineCheck q (line ∷ lines) (FirstFailing 0)
 fails_at_once q line lines f =
@@ -137,7 +131,8 @@ later_failing : (q : ProblemParts) (done lines : List LineParts) (n : ℕ) → A
 later_failing q done lines n h f =
     record {
       line = f.line;
-      here = slice_get-append_right done lines n ∙ f.here;
+      here = slice_get_read (done ++ lines) _ (length done + n) f.line refl (omega (arith, length-append done lines, slice_get_within lines n f.line f.here))
+          (sym (get_or-append-add done lines n f.line ∙ get_or_from_slice_get lines n f.line f.line f.here));
       fails = f.fails;
       earlier = All-same (Holds q) _ _ (take-append-add done lines n) (All-append (Holds q) done (take n lines) h f.earlier);
     }

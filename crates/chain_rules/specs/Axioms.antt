@@ -1,6 +1,6 @@
 -- The axioms of Kleene algebra with tests (Kozen 1994, 1997), and the equations that are instances of each.
-use Rattle.std.specs.Prelude.{◌≡◌, ℕ, length, Option, Some, None, slice_get}
-use Rattle.kat_model.specs.Trees.{Term, zero, one, test, act, sum, product, star}
+use Rattle.std.specs.Prelude.{◌≡◌, ℕ, length, Option, Some, None, slice_get, IsTrue}
+use Rattle.kat_model.specs.Trees.{Term, zero, one, sum, product, star, is_test}
 use Rattle.kat_model.specs.Steps.{Atom, out}
 use Rattle.kat_model.specs.Problems.{ProblemParts}
 use Rattle.chain_rules.specs.Chains.{Equation, equation}
@@ -33,20 +33,10 @@ axiom_premise Lfp p q r = Some (equation (sum (sum q (product p r)) r) r)
 axiom_premise Rfp p q r = Some (equation (sum (sum q (product r p)) r) r)
 axiom_premise rule x y z = None
 
--- the term has no action and no star
-abbrev pub IsTestTerm : Term → Type 0
-IsTestTerm zero = Unit {0}
-IsTestTerm one = Unit {0}
-IsTestTerm (test b) = Unit {0}
-IsTestTerm (act a) = ⊥
-IsTestTerm (sum e f) = IsTestTerm e × IsTestTerm f
-IsTestTerm (product e f) = IsTestTerm e × IsTestTerm f
-IsTestTerm (star e) = ⊥
-
--- both sides have no action and no star, and are true at the same atoms of `tests` tests
+-- both sides are tests, without actions and stars, and are true at the same atoms of `tests` tests
 pub record AreEqualTests (tests : ℕ) (s : Equation) : Type 0 where
-  pub left : IsTestTerm s.left
-  pub right : IsTestTerm s.right
+  pub left : IsTrue (is_test s.left)
+  pub right : IsTrue (is_test s.right)
   pub same : (atom : Atom) → length atom ≡ tests → out s.left atom ≡ out s.right atom
 
 -- the equation and the premise are those of the axiom for some three terms

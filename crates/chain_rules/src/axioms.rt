@@ -155,7 +155,8 @@ fn fits_unfold_right(left: &Kat, right: &Kat) -> bool
 }
 
 /// Whether the terms, from left to right, are an instance of the axiom, for axioms without a premise. False for `Bool`
-/// and `Hyp`.
+/// and `Hyp`. Matches the form of the left side (`Fits`). The definition has an instance as three terms and the
+/// equation over them; lemmas connect both.
 pub(crate) fn fits(rule: Axiom, left: &Kat, right: &Kat) -> bool
     ensures { IsTrue result ↔ Fits rule (kat_tree left.now) (kat_tree right.now) }
 {

@@ -11,13 +11,13 @@ use kat_model::Kat;
 
 /// The first and the last term of a chain.
 #[derive(Clone, Copy)]
-pub(crate) struct Ends<'a> {
+pub(crate) struct ChainEnds<'a> {
     pub(crate) first: &'a Kat,
     pub(crate) last: &'a Kat,
 }
 
 // Whether the premise is `(w + x.y) + z = z`.
-fn is_premise(premise: Option<Ends>, w: &Kat, x: &Kat, y: &Kat, z: &Kat) -> bool
+fn is_premise(premise: Option<ChainEnds>, w: &Kat, x: &Kat, y: &Kat, z: &Kat) -> bool
     ensures { IsTrue result ↔ (option_map equation_of premise.entry ≡ Some (equation (sum (sum (kat_tree w.now) (product (kat_tree x.now) (kat_tree y.now))) (kat_tree z.now)) (kat_tree z.now))) }
 {
     match premise {
@@ -27,7 +27,7 @@ fn is_premise(premise: Option<Ends>, w: &Kat, x: &Kat, y: &Kat, z: &Kat) -> bool
 }
 
 // Checks an instance of `lfp` with the left side `before + r`, where `before` must be `p*.q`.
-fn fits_star_product(premise: Option<Ends>, before: &Kat, r: &Kat, right: &Kat) -> bool
+fn fits_star_product(premise: Option<ChainEnds>, before: &Kat, r: &Kat, right: &Kat) -> bool
     ensures { IsTrue result ↔ FitsLfp (option_map equation_of premise.entry) (sum (kat_tree before.now) (kat_tree r.now)) (kat_tree right.now) }
 {
     match before {
@@ -36,7 +36,7 @@ fn fits_star_product(premise: Option<Ends>, before: &Kat, r: &Kat, right: &Kat) 
     }
 }
 
-fn fits_star_then(premise: Option<Ends>, s: &Kat, q: &Kat, r: &Kat, right: &Kat) -> bool
+fn fits_star_then(premise: Option<ChainEnds>, s: &Kat, q: &Kat, r: &Kat, right: &Kat) -> bool
     ensures { IsTrue result ↔ FitsLfp (option_map equation_of premise.entry) (sum (product (kat_tree s.now) (kat_tree q.now)) (kat_tree r.now)) (kat_tree right.now) }
 {
     match s {
@@ -46,7 +46,7 @@ fn fits_star_then(premise: Option<Ends>, s: &Kat, q: &Kat, r: &Kat, right: &Kat)
 }
 
 /// Whether the terms, from left to right, are an instance of `lfp` with this premise.
-pub(crate) fn fits_lfp(premise: Option<Ends>, left: &Kat, right: &Kat) -> bool
+pub(crate) fn fits_lfp(premise: Option<ChainEnds>, left: &Kat, right: &Kat) -> bool
     ensures { IsTrue result ↔ FitsLfp (option_map equation_of premise.entry) (kat_tree left.now) (kat_tree right.now) }
 {
     match left {
@@ -56,7 +56,7 @@ pub(crate) fn fits_lfp(premise: Option<Ends>, left: &Kat, right: &Kat) -> bool
 }
 
 // Checks an instance of `rfp` with the left side `before + r`, where `before` must be `q.p*`.
-fn fits_product_star(premise: Option<Ends>, before: &Kat, r: &Kat, right: &Kat) -> bool
+fn fits_product_star(premise: Option<ChainEnds>, before: &Kat, r: &Kat, right: &Kat) -> bool
     ensures { IsTrue result ↔ FitsRfp (option_map equation_of premise.entry) (sum (kat_tree before.now) (kat_tree r.now)) (kat_tree right.now) }
 {
     match before {
@@ -65,7 +65,7 @@ fn fits_product_star(premise: Option<Ends>, before: &Kat, r: &Kat, right: &Kat) 
     }
 }
 
-fn fits_then_star(premise: Option<Ends>, q: &Kat, s: &Kat, r: &Kat, right: &Kat) -> bool
+fn fits_then_star(premise: Option<ChainEnds>, q: &Kat, s: &Kat, r: &Kat, right: &Kat) -> bool
     ensures { IsTrue result ↔ FitsRfp (option_map equation_of premise.entry) (sum (product (kat_tree q.now) (kat_tree s.now)) (kat_tree r.now)) (kat_tree right.now) }
 {
     match s {
@@ -75,7 +75,7 @@ fn fits_then_star(premise: Option<Ends>, q: &Kat, s: &Kat, r: &Kat, right: &Kat)
 }
 
 /// Whether the terms, from left to right, are an instance of `rfp` with this premise.
-pub(crate) fn fits_rfp(premise: Option<Ends>, left: &Kat, right: &Kat) -> bool
+pub(crate) fn fits_rfp(premise: Option<ChainEnds>, left: &Kat, right: &Kat) -> bool
     ensures { IsTrue result ↔ FitsRfp (option_map equation_of premise.entry) (kat_tree left.now) (kat_tree right.now) }
 {
     match left {

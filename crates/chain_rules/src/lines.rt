@@ -12,7 +12,7 @@ ghost use Rattle.chain_rules.specs.Working.LineViews.{equation_of, line_parts};
 use crate::axioms::fits;
 use crate::chain::{Axiom, Chain, Line};
 use crate::equality::{is_zero, same_term};
-use crate::fixed_points::{Ends, fits_lfp, fits_rfp};
+use crate::fixed_points::{ChainEnds, fits_lfp, fits_rfp};
 use crate::place::{are_equal_outside, subterm};
 use crate::test_terms::are_equal_tests;
 use kat_model::{Kat, NoMemory, Problem};
@@ -28,16 +28,16 @@ pub(crate) fn last_term(chain: &Chain) -> &Kat
     }
 }
 
-fn ends(chain: &Chain) -> Ends<'_>
+fn ends(chain: &Chain) -> ChainEnds<'_>
     ensures { equation_of result ≡ ends_of chain.now }
 {
-    Ends {
+    ChainEnds {
         first: &chain.first,
         last: last_term(chain),
     }
 }
 
-fn premise_of(inner: &Option<Box<Chain>>) -> Option<Ends<'_>>
+fn premise_of(inner: &Option<Box<Chain>>) -> Option<ChainEnds<'_>>
     ensures { option_map equation_of result ≡ option_map ends_of (unboxed inner.now) }
 {
     match inner {
@@ -80,7 +80,7 @@ fn is_instance(
     alloc: Global,
     problem: &Problem,
     rule: Axiom,
-    premise: Option<Ends>,
+    premise: Option<ChainEnds>,
     left: &Kat,
     right: &Kat,
 ) -> Result<bool, NoMemory>
@@ -101,7 +101,7 @@ fn is_instance_either_way(
     alloc: Global,
     problem: &Problem,
     rule: Axiom,
-    premise: Option<Ends>,
+    premise: Option<ChainEnds>,
     x: &Kat,
     y: &Kat,
 ) -> Result<bool, NoMemory>

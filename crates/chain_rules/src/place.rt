@@ -28,7 +28,8 @@ pub(crate) fn subterm<'a>(term: &'a Kat, path: &[u64]) -> Option<&'a Kat>
     }
 }
 
-/// Whether the path is a place of both terms, and they are equal outside it.
+/// Whether the path is a place of both terms, and they are equal outside it. Recursion along the path through both
+/// terms: no term is built.
 pub(crate) fn are_equal_outside(left: &Kat, right: &Kat, path: &[u64]) -> bool
     ensures { IsTrue result ↔ AreEqualOutside path.now (kat_tree left.now) (kat_tree right.now) }
 {

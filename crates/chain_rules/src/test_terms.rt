@@ -1,26 +1,16 @@
-//! Terms without actions and stars, and a check whether two are true at the same atoms.
+//! A check whether two terms are tests that are true at the same atoms.
 ghost use Rattle.std.specs.Prelude.{◌≡◌, ◌↔◌, IsTrue, IfOk};
-ghost use Rattle.kat_model.specs.Trees.{kat_tree};
+ghost use Rattle.kat_model.specs.Trees.{kat_tree, is_test};
 ghost use Rattle.kat_model.specs.Steps.{out};
 ghost use Rattle.kat_model.specs.Problems.{HasTestsBelow};
 ghost use Rattle.test_diagrams.specs.Functions.{IsDiagramOf, KeepsFunctions};
 ghost use Rattle.test_diagrams.specs.Reduced.{IsReduced};
 ghost use Rattle.chain_rules.specs.Chains.{equation};
-ghost use Rattle.chain_rules.specs.Axioms.{IsTestTerm, AreEqualTests};
+ghost use Rattle.chain_rules.specs.Axioms.{AreEqualTests};
 
 use kat_model::{Kat, NoMemory};
 use std::alloc::Global;
 use test_diagrams::{DiagramId, Diagrams};
-
-fn is_test_term(term: &Kat) -> bool
-    ensures { IsTrue result ↔ IsTestTerm (kat_tree term.now) }
-{
-    match term {
-        Kat::Zero | Kat::One | Kat::Test(_) => true,
-        Kat::Act(_) | Kat::Star(_) => false,
-        Kat::Sum(e, f) | Kat::Seq(e, f) => is_test_term(e) && is_test_term(f),
-    }
-}
 
 // Returns the diagram of the atoms that the term accepts.
 fn diagram_of(diagrams: &mut Diagrams, term: &Kat) -> Result<DiagramId, NoMemory>
@@ -46,10 +36,10 @@ fn diagram_of(diagrams: &mut Diagrams, term: &Kat) -> Result<DiagramId, NoMemory
     }
 }
 
-// Whether the terms are true at the same atoms. They must have no action and no star.
+// Whether the terms are true at the same atoms. They must be tests.
 fn have_one_diagram(diagrams: &mut Diagrams, left: &Kat, right: &Kat) -> Result<bool, NoMemory>
-    requires is_left { IsTestTerm (kat_tree left.now) }
-    requires is_right { IsTestTerm (kat_tree right.now) }
+    requires is_left { IsTrue (is_test (kat_tree left.now)) }
+    requires is_right { IsTrue (is_test (kat_tree right.now)) }
     requires left { HasTestsBelow diagrams.old.tests (kat_tree left.now) }
     requires right { HasTestsBelow diagrams.old.tests (kat_tree right.now) }
     ensures { IfOk result (λ same. IsTrue same ↔ AreEqualTests diagrams.old.tests (equation (kat_tree left.now) (kat_tree right.now))) }
@@ -59,7 +49,7 @@ fn have_one_diagram(diagrams: &mut Diagrams, left: &Kat, right: &Kat) -> Result<
     Ok(first == second)
 }
 
-/// Whether the terms have no action and no star, and are true at the same atoms of `tests` tests.
+/// Whether the terms are tests, without actions and stars, and are true at the same atoms of `tests` tests.
 pub(crate) fn are_equal_tests(
     alloc: Global,
     tests: usize,
@@ -70,7 +60,7 @@ pub(crate) fn are_equal_tests(
     requires right { HasTestsBelow tests (kat_tree right.now) }
     ensures { IfOk result (λ same. IsTrue same ↔ AreEqualTests tests (equation (kat_tree left.now) (kat_tree right.now))) }
 {
-    if !is_test_term(left) || !is_test_term(right) {
+    if !left.is_test() || !right.is_test() {
         return Ok(false);
     }
     let mut diagrams = Diagrams::new(alloc, tests)?;

@@ -1,6 +1,7 @@
 -- The tests of tokens never fail with out of memory: reading takes fewer steps than its bound.
-use Rattle.std.proofs.Common.{ℕ, zero, suc, ◌<◌, List, [], ◌∷◌, length, drop, true, false, nat_lt, Option, Some, None, Ok, Err, arith}
+use Rattle.std.proofs.Common.{ℕ, zero, suc, ◌<◌, List, [], ◌∷◌, length, drop, true, false, nat_lt, Option, Some, None, Ok, Err, arith, nat_le}
 use Rattle.std.specs.Option.{is_some}
+use Rattle.kat_model.specs.declared.limits.TheConstants.{MAX_TESTS, MAX_ACTIONS, MAX_TERM_NODES}
 use Rattle.text_tokens.specs.declared.fault.TextFault.TheVariants.{TooLarge, TooMany, TwoGoals, DoubleName}
 use Rattle.text_grammar.specs.declared.terminal.Terminal.TheVariants.{RoundOpen, RoundClose, SquareOpen, SquareClose, Plus, Dot, Zero, One, Name, Keyword, Separator}
 use Rattle.text_grammar.specs.declared.terminal.Keyword.TheVariants as word
@@ -184,10 +185,10 @@ making_named : NameFiles making
 making_named = record {
   exprs = λ s ts. gkat_named (making_expr s.world) (guard_at_named s.world) (λ at text. named_by_named at (meaning s.world text)) whole 0 ts;
   shorter = λ s ts. gkat_read_short (making_expr s.world) whole 0 ts;
-  tests = λ s at text. then_named (check_new s.world at text) _ (check_named s.world at text) (λ u. if_named (nat_lt 47 s.tests) (Err (TooMany at)) _ (λ e. tt) (λ e. tt));
-  actions = λ s at text. then_named (check_new s.world at text) _ (check_named s.world at text) (λ u. if_named (nat_lt 47 s.actions) (Err (TooMany at)) _ (λ e. tt) (λ e. tt));
+  tests = λ s at text. then_named (check_new s.world at text) _ (check_named s.world at text) (λ u. if_named (nat_le MAX_TESTS s.tests) (Err (TooMany at)) _ (λ e. tt) (λ e. tt));
+  actions = λ s at text. then_named (check_new s.world at text) _ (check_named s.world at text) (λ u. if_named (nat_le MAX_ACTIONS s.actions) (Err (TooMany at)) _ (λ e. tt) (λ e. tt));
   begins = λ s at. if_named (is_some s.sides) (Err (TwoGoals at)) (Ok tt) (λ e. tt) (λ e. tt);
-  asks = λ s at l r. if_named (nat_lt 100000 (gkat_size l)) (Err (TooLarge at)) _ (λ e. tt) (λ e. if_named (nat_lt 100000 (gkat_size r)) (Err (TooLarge at)) _ (λ k. tt) (λ k. tt));
+  asks = λ s at l r. if_named (nat_lt MAX_TERM_NODES (gkat_size l)) (Err (TooLarge at)) _ (λ e. tt) (λ e. if_named (nat_lt MAX_TERM_NODES (gkat_size r)) (Err (TooLarge at)) _ (λ k. tt) (λ k. tt));
 }
 
 file_named : (s : State) (o : Option (GkatTree × GkatTree)) → IsNamed (file_with s o)

@@ -1,7 +1,8 @@
 -- A printed expression begins with a phrase of its tree, and reads back.
-use Rattle.std.proofs.Common.{◌≡◌, ◌<◌, ◌≤◌, ◌+◌, ℕ, max, List, [], ◌∷◌, length, false, cond, Some, Result, Ok, Err, IsOk, refl, ap, ◌∙◌, subst, arith}
+use Rattle.std.proofs.Common.{◌≡◌, ◌<◌, ◌≤◌, ◌+◌, ℕ, max, List, [], ◌∷◌, length, false, cond, Some, Result, Ok, refl, ap, ◌∙◌, subst, arith}
 use Rattle.std.proofs.lemmas.Bool.{both_ways}
 use Rattle.std.specs.Prelude.{codes}
+use Rattle.kat_model.specs.declared.limits.TheConstants.{MAX_OPEN}
 use Rattle.kat_model.specs.Trees.{TestTree, bottom, top, prim, complement, meet, join}
 use Rattle.kat_model.specs.Expressions.{CondTree, has_comparison, test_without_comparisons}
 use Rattle.text_tokens.specs.declared.fault.TextFault.{TextFault}
@@ -22,7 +23,7 @@ use Rattle.text_scopes.specs.declared.meaning.Meaning.TheVariants.{Test, Action}
 use Rattle.text_scopes.specs.ScopeParts.{ScopeParts, IsNameOf}
 use Rattle.text_scopes.specs.Measuring.{extents}
 use Rattle.text_scopes.specs.Building.{trees}
-use Rattle.text_scopes.proofs.Measured.{cond_decided}
+use Rattle.text_scopes.proofs.Measured.{cond_decided, ok_value}
 use Rattle.text_print.specs.Printing.{cond_of, in_round, CondIsNamed, cond_nesting}
 use Rattle.text_print.proofs.WordTerminals.{name_terminal}
 use Rattle.text_print.proofs.Separate.{nothing_ends}
@@ -39,33 +40,29 @@ use Rattle.gkat_front.specs.Printing.{is_loop, guard_pieces, gkat_pieces, GkatIs
 use Rattle.gkat_front.specs.Laws.{ReadsBack}
 use Rattle.gkat_front.proofs.SeparateGkat.{gkat_separate}
 
-ok_value : (r : Result Extent TextFault) → IsOk r → (m : Extent) × (r ≡ Ok m)
-ok_value (Ok m) h = (m, refl)
-ok_value (Err e) h = absurd cc
-
 -- measuring and then building
 measured_built : (m : Result Extent TextFault) (r : Result CondTree TextFault) (x : Extent) (b : CondTree) → m ≡ Ok x → r ≡ Ok b → (m >>= λ y. r >>= λ z. Ok (test_without_comparisons z)) ≡ Ok (test_without_comparisons b)
 measured_built m r x b e f = rw (e, f) refl
 
-entered : {V : Type 0} (d at : ℕ) (f : ℕ → Result V TextFault) → d < 200 → (enter d at >>= f) ≡ f (d + 1)
+entered : {V : Type 0} (d at : ℕ) (f : ℕ → Result V TextFault) → d < MAX_OPEN → (enter d at >>= f) ≡ f (d + 1)
 entered d at f lt = ap (λ m. m >>= f) (enters d at lt)
 
 module _ (w : ScopeParts) where
   -- ---- the phrase has the tree, and at most this depth
 
   record IsGuardOf (b : TestTree) (p : Guard) : Type 0 where
-    tree : (d : ℕ) → d + (cond_nesting (cond_of b) + 1) ≤ 200 → fold_guard (cond_fold w) d p ≡ Ok b
-    fits : (d : ℕ) → d + (cond_nesting (cond_of b) + 1) ≤ 200 → GuardFits d p
+    tree : (d : ℕ) → d + (cond_nesting (cond_of b) + 1) ≤ MAX_OPEN → fold_guard (cond_fold w) d p ≡ Ok b
+    fits : (d : ℕ) → d + (cond_nesting (cond_of b) + 1) ≤ MAX_OPEN → GuardFits d p
 
   record IsFactorOf (e : GkatTree) (n : ℕ) (p : GkatPhrase factor) : Type 0 where
-    tree : (d : ℕ) → d + n ≤ 200 → fold_gkat (making_expr w) (cond_fold w) d p ≡ Ok e
-    fits : (d : ℕ) → d + n ≤ 200 → GkatFits d p
+    tree : (d : ℕ) → d + n ≤ MAX_OPEN → fold_gkat (making_expr w) (cond_fold w) d p ≡ Ok e
+    fits : (d : ℕ) → d + n ≤ MAX_OPEN → GkatFits d p
 
   record IsUnitOf (e : GkatTree) (n : ℕ) (p : GkatPhrase unit) : Type 0 where
-    tree : (d : ℕ) → d + n ≤ 200 → fold_gkat (making_expr w) (cond_fold w) d p ≡ Ok e
-    fits : (d : ℕ) → d + n ≤ 200 → GkatFits d p
+    tree : (d : ℕ) → d + n ≤ MAX_OPEN → fold_gkat (making_expr w) (cond_fold w) d p ≡ Ok e
+    fits : (d : ℕ) → d + n ≤ MAX_OPEN → GkatFits d p
 
-  cond_folds : (b : TestTree) (p : Phrase lit) (d : ℕ) → IsCondOf w (cond_of b) p → d + cond_nesting (cond_of b) ≤ 200 → cond_fold w d (one_conj (one_lit p)) ≡ Ok b
+  cond_folds : (b : TestTree) (p : Phrase lit) (d : ℕ) → IsCondOf w (cond_of b) p → d + cond_nesting (cond_of b) ≤ MAX_OPEN → cond_fold w d (one_conj (one_lit p)) ≡ Ok b
   cond_folds b p d h le =
       let c = context d false false in
       let inner : Phrase condition = one_conj (one_lit p) in
@@ -89,7 +86,7 @@ module _ (w : ScopeParts) where
   round_holds : (e : GkatTree) (n : ℕ) (p : GkatPhrase factor) (l r : Leaf) → IsFactorOf e n p → IsUnitOf e (n + 1) (round_unit l (one_product (one_factor p)) r)
   round_holds e n p l r h = record {
     tree = λ d le.
-        let lt : d < 200 = omega arith in
+        let lt : d < MAX_OPEN = omega arith in
         let inner = h.tree (d + 1) (omega arith) in
         rw (enters d l.at lt, inner) refl;
     fits = λ d le. (omega arith, h.fits (d + 1) (omega arith));
@@ -98,7 +95,7 @@ module _ (w : ScopeParts) where
   product_holds : (e f : GkatTree) (n k : ℕ) (p q : GkatPhrase factor) (l m r : Leaf) → IsFactorOf e n p → IsFactorOf f k q → IsUnitOf (product e f) (max n k + 1) (round_unit l (one_product (more_factors p m (one_factor q))) r)
   product_holds e f n k p q l m r h g = record {
     tree = λ d le.
-        let lt : d < 200 = omega arith in
+        let lt : d < MAX_OPEN = omega arith in
         let left = h.tree (d + 1) (omega arith) in
         let right = g.tree (d + 1) (omega arith) in
         rw (enters d l.at lt, left, right) refl;
@@ -109,7 +106,7 @@ module _ (w : ScopeParts) where
       IsUnitOf (choice b e f) (max (max n k) (cond_nesting (cond_of b) + 1) + 1) (round_unit l (two_products (one_factor p) m g (one_factor q)) r)
   choice_holds b e f n k g p q l m r i h j = record {
     tree = λ d le.
-        let lt : d < 200 = omega arith in
+        let lt : d < MAX_OPEN = omega arith in
         let left = h.tree (d + 1) (omega arith) in
         let guard = i.tree (d + 1) (omega arith) in
         let right = j.tree (d + 1) (omega arith) in
@@ -273,10 +270,10 @@ module _ (w : ScopeParts) where
 
     -- ---- text printed within the limits reads back
 
-    pub printed_back : (e : GkatTree) → GkatIsNamed w names e → length (spelled (gkat_pieces names e [])) ≤ MAX_LEN → gkat_nesting e ≤ 200 → ReadsBack w (gkat_pieces names e []) e
+    pub printed_back : (e : GkatTree) → GkatIsNamed w names e → length (spelled (gkat_pieces names e [])) ≤ MAX_LEN → gkat_nesting e ≤ MAX_OPEN → ReadsBack w (gkat_pieces names e []) e
     printed_back e is len depth =
         let s = (gkat_back e is).0 0 [] in
-        let within : 0 + gkat_nesting e ≤ 200 = omega (arith, depth) in
+        let within : 0 + gkat_nesting e ≤ MAX_OPEN = omega (arith, depth) in
         let tree = s.holds.tree 0 within in
         record {
           lexes = printed (gkat_pieces names e []) (gkat_separate w names e is [] nothing_ends tt) len;

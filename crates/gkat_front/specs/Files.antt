@@ -1,6 +1,7 @@
 -- The contents of a text, and the state after its items so far.
-use Rattle.std.specs.Prelude.{ℕ, ◌+◌, if◌then◌else◌, nat_lt, Result, Ok, Err, List, Option, Some, None}
+use Rattle.std.specs.Prelude.{ℕ, ◌+◌, if◌then◌else◌, nat_lt, Result, Ok, Err, List, Option, Some, None, nat_le}
 use Rattle.std.specs.Option.{is_some}
+use Rattle.kat_model.specs.declared.limits.TheConstants.{MAX_TESTS, MAX_ACTIONS, MAX_TERM_NODES}
 use Rattle.text_tokens.specs.declared.fault.TextFault.{TextFault}
 use Rattle.text_tokens.specs.declared.fault.TextFault.TheVariants.{DoubleName, TooMany, TooLarge, TwoGoals, NoGoal}
 use Rattle.text_grammar.specs.Parsed.{◌>>=◌}
@@ -30,26 +31,26 @@ start = record { world = empty_scope; tests = 0; actions = 0; sides = None }
 abbrev pub check_new : ScopeParts → ℕ → List ℕ → Result (Unit {0}) TextFault
 check_new w at name = if is_some (meaning w name) then Err (DoubleName at) else Ok tt
 
--- declares a further test; there may be 48 tests. The same for actions
+-- declares a further test; there may be `MAX_TESTS` tests. The same for actions
 abbrev pub declare_test : State → ℕ → List ℕ → Result State TextFault
 declare_test s at name =
     check_new s.world at name >>= λ u.
-    if nat_lt 47 s.tests then Err (TooMany at) else Ok (record s { world = declared s.world name (Test s.tests); tests = s.tests + 1 })
+    if nat_le MAX_TESTS s.tests then Err (TooMany at) else Ok (record s { world = declared s.world name (Test s.tests); tests = s.tests + 1 })
 
 abbrev pub declare_action : State → ℕ → List ℕ → Result State TextFault
 declare_action s at name =
     check_new s.world at name >>= λ u.
-    if nat_lt 47 s.actions then Err (TooMany at) else Ok (record s { world = declared s.world name (Action s.actions); actions = s.actions + 1 })
+    if nat_le MAX_ACTIONS s.actions then Err (TooMany at) else Ok (record s { world = declared s.world name (Action s.actions); actions = s.actions + 1 })
 
 -- `equal` may occur once
 abbrev pub begin_equal : State → ℕ → Result (Unit {0}) TextFault
 begin_equal s at = if is_some s.sides then Err (TwoGoals at) else Ok tt
 
--- stores the two sides of an item that begins at the place; each may have 100,000 nodes
+-- stores the two sides of an item that begins at the place; each may have `MAX_TERM_NODES` nodes
 abbrev pub ask : State → ℕ → GkatTree → GkatTree → Result State TextFault
 ask s at l r =
-    if nat_lt 100000 (gkat_size l) then Err (TooLarge at)
-    else if nat_lt 100000 (gkat_size r) then Err (TooLarge at)
+    if nat_lt MAX_TERM_NODES (gkat_size l) then Err (TooLarge at)
+    else if nat_lt MAX_TERM_NODES (gkat_size r) then Err (TooLarge at)
     else Ok (record s { sides = Some (l, r) })
 
 -- the file of a text that has an `equal`

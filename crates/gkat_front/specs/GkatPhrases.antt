@@ -1,5 +1,6 @@
 -- The phrases of expressions, case by case, and the tokens that spell them.
 use Rattle.std.specs.Prelude.{◌≡◌, ◌<◌, ◌+◌, ℕ, List}
+use Rattle.kat_model.specs.declared.limits.TheConstants.{MAX_OPEN}
 use Rattle.text_grammar.specs.declared.terminal.Terminal.TheVariants.{RoundOpen, RoundClose, SquareOpen, SquareClose, Plus, Dot, Zero, One, Name, Separator}
 use Rattle.text_grammar.specs.declared.terminal.Separator.TheVariants.{Caret}
 use Rattle.text_grammar.specs.Lexemes.{Lexeme}
@@ -67,7 +68,7 @@ GkatObeys _ ts = Unit {0}
 -- ---- with this number of open constructs around the phrase, nothing is too deep, and no number is too wide
 
 abbrev pub GuardFits : ℕ → Guard → Type 0
-GuardFits d b = (d < 200) × IsWithinLimits (d + 1) b.inner
+GuardFits d b = (d < MAX_OPEN) × IsWithinLimits (d + 1) b.inner
 
 abbrev pub GkatFits : ℕ → {x : GkatSymbol} → GkatPhrase x → Type 0
 GkatFits d (one_product p) = GkatFits d p
@@ -77,7 +78,7 @@ GkatFits d (more_factors x dot p) = GkatFits d x × GkatFits d p
 GkatFits d (once u) = GkatFits d u
 GkatFits d (repeated u caret b) = GkatFits d u × GuardFits d b
 GkatFits d (guard_unit b) = GuardFits d b
-GkatFits d (round_unit opening e closing) = (d < 200) × GkatFits (d + 1) e
+GkatFits d (round_unit opening e closing) = (d < MAX_OPEN) × GkatFits (d + 1) e
 GkatFits d _ = Unit {0}
 
 -- the tokens are a phrase of the symbol followed by the rest

@@ -1,5 +1,6 @@
 -- The laws of texts. Each is the contract of a function that does nothing.
 use Rattle.std.specs.Prelude.{◌≡◌, ◌↔◌, ◌≤◌, ℕ, List, [], length, map, Ok}
+use Rattle.kat_model.specs.declared.limits.TheConstants.{MAX_OPEN}
 use Rattle.text_tokens.specs.declared.lexer.TheConstants.{MAX_LEN}
 use Rattle.text_tokens.specs.Lex.{Lexes}
 use Rattle.text_tokens.specs.Pieces.{Piece, spelled as bytes_of, parts_from}
@@ -35,4 +36,4 @@ pub record ReadsBack (w : ScopeParts) (ps : List Piece) (e : GkatTree) : Type 0 
 abbrev pub PrintedReadsBack : Type 0
 PrintedReadsBack =
     (w : ScopeParts) (names : Meaning → List ℕ) (e : GkatTree) → GkatIsNamed w names e →
-    length (bytes_of (gkat_pieces names e [])) ≤ MAX_LEN → gkat_nesting e ≤ 200 → ReadsBack w (gkat_pieces names e []) e
+    length (bytes_of (gkat_pieces names e [])) ≤ MAX_LEN → gkat_nesting e ≤ MAX_OPEN → ReadsBack w (gkat_pieces names e []) e

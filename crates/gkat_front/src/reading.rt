@@ -49,10 +49,10 @@ fn read_text(alloc: Global, text: &str) -> Result<GkatFile, TextFault>
 }
 
 /// Returns the contents of a text of GKAT. Otherwise fails with the first fault, in this order: `TooLong` for more than
-/// 1,048,576 bytes; `NotUtf8`; `BadToken`; the first in text order of `Syntax`, of `TooDeep` if more than 200
+/// `MAX_LEN` bytes; `NotUtf8`; `BadToken`; the first in text order of `Syntax`, of `TooDeep` if more than `MAX_OPEN`
 /// constructs are open, and of `NumberTooWide` for 2^64 or more; the first fault of the first item that has one (at its
 /// keyword `TwoGoals` for a second `equal`; at its tokens `DoubleName`, `TooMany`, `UnknownName`, `Sort`; and last, at
-/// its keyword, `TooLarge` if a side has more than 100,000 nodes); `NoGoal` if no item is an `equal`.
+/// its keyword, `TooLarge` if a side has more than `MAX_TERM_NODES` nodes); `NoGoal` if no item is an `equal`.
 pub fn read_gkat(alloc: Global, bytes: &[u8]) -> Result<GkatFile, TextFault>
     // The file is the one that the bytes denote; a failure is `NoMemory` or the first fault of the bytes.
     ensures answers { Answers bytes.now result }

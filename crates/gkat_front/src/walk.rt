@@ -130,8 +130,8 @@ fn product<R: GkatReading>(
 
 // Reads the expression that begins at `from`, with `depth` open constructs around it. Returns its value and the index
 // after it. Otherwise returns the first fault in the text: `Syntax` at the token that cannot occur there (the place
-// `usize::MAX` after the last token), `TooDeep` at the token that exceeds 200 open constructs, or the fault with which
-// the reading refuses a part.
+// `usize::MAX` after the last token), `TooDeep` at the token that exceeds `MAX_OPEN` open constructs, or the fault with
+// which the reading refuses a part.
 #[cycle(exprs)]
 #[tactic(auto, using(crate::proofs::GkatSteps::gkat_step, text_grammar::proofs::Tokens::next_drop))]
 pub(crate) fn read_expr<R: GkatReading>(

@@ -52,6 +52,9 @@ impl Gkat {
     }
 
     /// Returns the number of nodes, including those of tests, or `u64::MAX` if it is larger.
+    ///
+    /// Readers count a tree after it is built: no name is a term here, so a tree has at most two nodes for each token
+    /// of its text.
     pub fn size(&self) -> u64
         ensures { result ≡ counted (gkat_size (gkat_tree self.now)) }
     {

@@ -5,22 +5,17 @@ use Rattle.std.proofs.lemmas.Bool.{and_parts, and_from, not-true}
 use Rattle.kat_model.specs.Problems.{ProblemParts}
 use Rattle.kat_model.specs.Steps.{Atom}
 use Rattle.kat_model.specs.Trees.{act}
+use Rattle.kat_model.proofs.Options.{same_bool}
 use Rattle.while_lang.specs.Flows.{act as act_stmt}
 use Rattle.outline_diagrams.specs.StepFunctions.{StepDiagramsParts, step_value, IsStepDiagram, KeepsSteps, IsImage}
 use Rattle.outline_diagrams.proofs.StepSets.{KeepsSteps-trans, IsStepDiagram-kept}
-use Rattle.simple_hyps.specs.TestTerms.{AreSimple, IsRuledOut}
-use Rattle.simple_hyps.specs.HypothesisForms.{allows, some_rules_out}
-use Rattle.simple_hyps.proofs.SimpleForms.{allows_told, allowed_allows, ruled_out_told, told_ruled_out}
+use Rattle.hypothesis_kinds.specs.TestTerms.{AreSimple, IsRuledOut}
+use Rattle.hypothesis_kinds.specs.HypothesisForms.{allows, some_rules_out}
+use Rattle.hypothesis_kinds.proofs.SimpleForms.{allows_told, allowed_allows, ruled_out_told, told_ruled_out}
 use Rattle.hoare_outlines.specs.Working.AtomSets.{AtomSet, IsSetId, IsAllowedSet}
 use Rattle.hoare_outlines.specs.Working.Annotated.{LeadsInto}
 use Rattle.hoare_outlines.specs.Working.Reached.{Reached}
 use Rattle.hoare_outlines.specs.Working.Found.{StmtFound}
-
--- two Boolean values that imply each other are equal
-both_ways : (a b : Bool) → (a ≡ true → b ≡ true) → (b ≡ true → a ≡ true) → a ≡ b
-both_ways true b f g = sym (f refl)
-both_ways false true f g = g refl
-both_ways false false f g = refl
 
 -- the atoms before a step at which a diagram is true, if the diagram does not depend on the atom after it
 abbrev pub set_of : StepDiagramsParts → ℕ → AtomSet
@@ -31,7 +26,7 @@ pub image_set : (old new : StepDiagramsParts) (relation image : ℕ) → new.tes
 image_set old new relation image tests is =
     record {
       in_range = is.in_range;
-      value = λ x y lx ly. both_ways (step_value new image x y) (step_value new image x x) (moved x y x lx ly lx) (moved x x y lx lx ly);
+      value = λ x y lx ly. same_bool (step_value new image x y) (step_value new image x x) (moved x y x lx ly lx) (moved x x y lx lx ly);
     }
   where
     moved : (x y z : Atom) → length x ≡ new.tests → length y ≡ new.tests → length z ≡ new.tests → step_value new image x y ≡ true → step_value new image x z ≡ true

@@ -1,6 +1,6 @@
 -- The result of the finder for a loop: the sets through which its invariant grows, until its body keeps it.
-use Rattle.std.proofs.Common.{◌≡◌, ℕ, zero, suc, ◌+◌, ◌<◌, ◌≤◌, ◌⊎◌, ⊎_elim, List, [], ◌∷◌, length, Bool, true, false, not, cond, if◌then◌else◌, ◌&&◌, ◌||◌, refl, sym, ap, ◌∙◌, arith}
-use Rattle.std.proofs.lemmas.Bool.{and_from, or_cases, or_left, or_right}
+use Rattle.std.proofs.Common.{◌≡◌, ℕ, zero, suc, ◌+◌, ◌<◌, ◌≤◌, ⊎_elim, List, [], ◌∷◌, length, Bool, true, false, not, cond, if◌then◌else◌, ◌&&◌, ◌||◌, refl, sym, ap, ◌∙◌, arith}
+use Rattle.std.proofs.lemmas.Bool.{and_from, cases_lt, or_cases, or_left, or_right}
 use Rattle.kat_model.specs.Trees.{TestTree, Term}
 use Rattle.kat_model.specs.Problems.{ProblemParts}
 use Rattle.kat_model.specs.Steps.{Atom, truth}
@@ -69,10 +69,7 @@ pub fewer_left : (old new : StepDiagramsParts) (invariant again grown : ℕ) (I 
 fewer_left old new invariant again grown I A kept is_invariant is_again more is_grown = by_order (outside_id new grown) (outside_id old invariant) as_many
   where
     by_order : (m n : ℕ) → (n ≤ m → ⊥) → m < n
-    by_order m n f = ⊎_elim (λ lt. lt) (λ le. absurd (f le)) (orders m n)
-      where
-        orders : (m n : ℕ) → (m < n) ⊎ (n ≤ m)
-        orders m n = grind arith
+    by_order m n f = ⊎_elim (λ lt. lt) (λ le. absurd (f le)) (cases_lt m n)
 
     value_in : (atom : Atom) → length atom ≡ old.tests → step_value old invariant atom atom ≡ I atom
     value_in atom wide = is_invariant.value atom atom wide wide

@@ -15,9 +15,9 @@ use Rattle.while_lang.specs.Encoding.{stmt_terms, encoded}
 use Rattle.outline_diagrams.specs.StepFunctions.{StepDiagramsParts, step_value, IsStepId, IsStepDiagram, KeepsSteps, Entails}
 use Rattle.outline_diagrams.proofs.StepSets.{step_value-kept}
 use Rattle.outline_notes.specs.NoteLists.{NotesParts, note_holds}
-use Rattle.simple_hyps.specs.TestTerms.{AreSimple}
-use Rattle.simple_hyps.specs.HypothesisForms.{allows}
-use Rattle.simple_hyps.proofs.SimpleForms.{allows_told, allowed_allows}
+use Rattle.hypothesis_kinds.specs.TestTerms.{AreSimple}
+use Rattle.hypothesis_kinds.specs.HypothesisForms.{allows}
+use Rattle.hypothesis_kinds.proofs.SimpleForms.{allows_told, allowed_allows}
 use Rattle.outline_rules.specs.Tasks.{TaskParts, IsTripleOf}
 use Rattle.outline_rules.specs.Places.{last_place, places}
 use Rattle.outline_rules.specs.Follows.{Condition, starts, ends, conditions_from, conditions, IsMet, Follows}

@@ -10,8 +10,8 @@ ghost use Rattle.kat_model.specs.Steps.{truth};
 ghost use Rattle.while_lang.specs.Flows.{act, loop};
 ghost use Rattle.while_lang.specs.FlowViews.{flow_stmt};
 ghost use Rattle.outline_diagrams.specs.StepFunctions.{StepDiagramsParts, IsStepId, IsStepDiagram, KeepsSteps, AreStepDiagrams};
-ghost use Rattle.simple_hyps.specs.TestTerms.{AreSimple};
-ghost use Rattle.simple_hyps.specs.HypothesisForms.{allows};
+ghost use Rattle.hypothesis_kinds.specs.TestTerms.{AreSimple};
+ghost use Rattle.hypothesis_kinds.specs.HypothesisForms.{allows};
 ghost use Rattle.outline_rules.specs.Tasks.{task_parts, IsTripleOf};
 ghost use Rattle.outline_rules.specs.Follows.{Follows};
 ghost use Rattle.hoare_outlines.specs.Working.AtomSets.{AtomSet, IsSetId, IsAllowedSet};
@@ -22,10 +22,9 @@ ghost use Rattle.hoare_outlines.specs.Working.FoundLoops.{stmt_turns, flow_turns
 use crate::noting::notes_of_sets;
 use indexmap::IndexMap;
 use kat_model::{NoMemory, Problem, Test};
-use outline_diagrams::{DiagramId, Moment, StepDiagrams};
+use outline_diagrams::{DiagramId, Moment, StepDiagrams, allowed_atoms, ruled_out_steps};
 use outline_notes::Notes;
 use outline_rules::Task;
-use simple_hyps::{allowed_atoms, ruled_out_steps};
 use std::alloc::Global;
 use while_lang::{Flow, Flows};
 
@@ -48,7 +47,7 @@ struct FoundLoop {
 
 // The atoms of a set at which a test is true, and the atoms at which it is false.
 #[derive(Clone, Copy)]
-struct Parts {
+struct TestSplit {
     holds: DiagramId,
     fails: DiagramId,
 }
@@ -107,7 +106,7 @@ impl Finder {
     }
 }
 
-fn parts_by(diagrams: &mut StepDiagrams, set: DiagramId, test: &Test) -> Result<Parts, NoMemory>
+fn parts_by(diagrams: &mut StepDiagrams, set: DiagramId, test: &Test) -> Result<TestSplit, NoMemory>
     requires id { IsStepId diagrams.old set }
     requires in_range { IsTestInRange diagrams.old.tests (test_tree test.now) }
     ensures holds { IfOk result (λ p. (X : AtomSet) → IsSetId diagrams.old set X → IsSetId diagrams.new p.holds (λ atom. X atom && truth (test_tree test.now) atom)) }
@@ -119,11 +118,13 @@ fn parts_by(diagrams: &mut StepDiagrams, set: DiagramId, test: &Test) -> Result<
     let elsewhere = diagrams.not(there)?;
     let holds = diagrams.and(set, there)?;
     let fails = diagrams.and(set, elsewhere)?;
-    Ok(Parts { holds, fails })
+    Ok(TestSplit { holds, fails })
 }
 
 // Returns the atoms that the action may reach from the set. Only the image is restricted to allowed atoms: a diagram of
-// the allowed atoms before and after a step can be as large as the square of the diagram of the allowed atoms.
+// the allowed atoms before and after a step can be as large as the square of the diagram of the allowed atoms. With ten
+// random hypotheses over three of 48 tests the diagram of allowed atoms before and after a step had 854,274 nodes, that
+// of the allowed atoms 1,575.
 fn after_action(
     diagrams: &mut StepDiagrams,
     problem: &Problem,
@@ -148,7 +149,9 @@ fn after_action(
 }
 
 // Returns the set from which the invariant of a loop grows: its entry, with the earlier invariant if that grew from a
-// subset of the entry.
+// subset of the entry. The earlier entry always lies within the new one, but no lemma says so, so it is checked.
+// Without kept invariants the whole program would be traversed as long as one grows: no memory, but successive loops as
+// often as all of them together have turns.
 fn first_invariant(
     diagrams: &mut StepDiagrams,
     earlier: Option<FoundLoop>,

@@ -1,1 +1,4 @@
 pub mod LongProblems
+pub mod SimpleForms
+pub mod LeastHypotheses
+pub mod StepForms

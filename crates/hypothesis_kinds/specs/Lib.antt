@@ -1,1 +1,3 @@
 pub mod Capped
+pub mod TestTerms
+pub mod HypothesisForms

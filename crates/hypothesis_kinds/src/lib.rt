@@ -1,6 +1,9 @@
-//! The short hypotheses of a problem, which concern single atoms and single moves, and the long ones.
+//! Kinds of hypotheses: the short ones of a problem, which concern single atoms and single moves, and the long ones; and
+//! the simple ones, each a test or one action between tests.
 #![tactic(auto)]
 
 mod hyps;
+mod simple;
 
 pub use hyps::{has_short, is_short, long_problem};
+pub use simple::not_simple;

@@ -8,7 +8,7 @@ use std::process::ExitCode;
 use std::rt::Env;
 use std::{env, io};
 
-// Why there are no words.
+// Why the words cannot be read.
 enum NoWords {
     Memory,
     System,
@@ -30,7 +30,7 @@ impl From<NoMemory> for NoWords {
     }
 }
 
-// The words without the program's name.
+// Returns the words without the program's name.
 fn words(rt: &(impl Env + AllocGlobal)) -> Result<Words, NoWords> {
     let mut words = Words::new(rt.alloc());
     for word in env::args(rt)?.skip(1) {
@@ -39,8 +39,8 @@ fn words(rt: &(impl Env + AllocGlobal)) -> Result<Words, NoWords> {
     Ok(words)
 }
 
-// Ends with the status of the top call. Without words nothing is printed: the status is 6 where memory for
-// them was refused, and 8 where the system does not give them.
+// Ends with the status of `run`. If the words cannot be read, nothing is printed; the status is 6 when out of memory,
+// and 8 if the system does not give the words.
 fn main(rt: HostRuntime) -> ExitCode {
     let words = match words(&rt) {
         Ok(words) => words,

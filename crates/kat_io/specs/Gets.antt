@@ -3,12 +3,12 @@ use Rattle.std.specs.Prelude.{◌≡◌, ◌≤◌, ◌<◌, ℕ, List, length, 
 use Rattle.std.specs.declared.alloc.Global.{Global}
 use Rattle.kat_io.specs.declared.outside.GetFault.{GetFault}
 use Rattle.kat_io.specs.declared.outside.GetFault.TheVariants.{NoMemory, Failed, TooLong}
-use Rattle.kat_io.specs.Outside.{Rose}
-use Rattle.kat_io.specs.Told.{Told, Untold, Missing, Holds}
+use Rattle.kat_io.specs.Outside.{FaultCounted}
+use Rattle.kat_io.specs.KnownContent.{KnownContent, Unknown, Missing, Known}
 
 -- a fault raises the count and sets the last failed name, and no other result changes either
 abbrev pub IsCounted : {T : Type 0} → Result T GetFault → List ℕ → ℕ → ℕ → Option (List ℕ) → Option (List ℕ) → Type 0
-IsCounted (Err Failed) name before now last next = (before ≤ now) × Rose before now × (next ≡ Some name)
+IsCounted (Err Failed) name before now last next = (before ≤ now) × FaultCounted before now × (next ≡ Some name)
 IsCounted (Err NoMemory) name before now last next = (now ≡ before) × (next ≡ last)
 IsCounted (Err TooLong) name before now last next = (now ≡ before) × (next ≡ last)
 IsCounted (Ok x) name before now last next = (now ≡ before) × (next ≡ last)
@@ -24,12 +24,12 @@ IsPast n (Some limit) = limit < n
 
 -- a returned content is within the limit and, if known, the whole content; a known content that is too long is past the
 -- limit
-abbrev pub GetsFrom : Told → Result (Vec ℕ Global) GetFault → Option ℕ → Type 0
+abbrev pub GetsFrom : KnownContent → Result (Vec ℕ Global) GetFault → Option ℕ → Type 0
 GetsFrom told (Err NoMemory) limit = Unit {0}
 GetsFrom told (Err Failed) limit = Unit {0}
-GetsFrom Untold (Ok v) limit = IsWithin (length v.items) limit
+GetsFrom Unknown (Ok v) limit = IsWithin (length v.items) limit
 GetsFrom Missing (Ok v) limit = ⊥
-GetsFrom (Holds bytes) (Ok v) limit = (v.items ≡ bytes) × IsWithin (length bytes) limit
-GetsFrom Untold (Err TooLong) limit = IsSome limit
+GetsFrom (Known bytes) (Ok v) limit = (v.items ≡ bytes) × IsWithin (length bytes) limit
+GetsFrom Unknown (Err TooLong) limit = IsSome limit
 GetsFrom Missing (Err TooLong) limit = ⊥
-GetsFrom (Holds bytes) (Err TooLong) limit = IsPast (length bytes) limit
+GetsFrom (Known bytes) (Err TooLong) limit = IsPast (length bytes) limit

@@ -1,4 +1,4 @@
-pub mod Told
+pub mod KnownContent
 pub mod Outside
 pub mod Gets
 pub mod Sinks

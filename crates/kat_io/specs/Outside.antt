@@ -7,14 +7,14 @@ abbrev pub one_more : ℕ → ℕ
 one_more n = min (n + 1) (2 ^ 64 - 1)
 
 -- the count rose in a call, or is saturated
-abbrev pub Rose : ℕ → ℕ → Type 0
-Rose before now = one_more before ≤ now
+abbrev pub FaultCounted : ℕ → ℕ → Type 0
+FaultCounted before now = one_more before ≤ now
 
 -- if a call returns an error, the count rose; otherwise the count is unchanged
 pub record HasCause {T E : Type 0} (before now : ℕ) (result : Result T E) : Type 0 where
   pub later : before ≤ now
   pub stands : OnOk result (now ≡ before)
-  pub failed : OnErr result (Rose before now)
+  pub failed : OnErr result (FaultCounted before now)
 
 -- the count after a call that counts each fault once
 abbrev pub faults_after : {T E : Type 0} → Result T E → ℕ → ℕ
@@ -22,8 +22,8 @@ faults_after (Ok x) before = before
 faults_after (Err e) before = one_more before
 
 -- the bytes taken, if known, grew by a proper prefix of these bytes
-abbrev pub AppendsFront : Option (List ℕ) → Option (List ℕ) → List ℕ → Type 0
-AppendsFront old now bytes = (n : ℕ) × (n < length bytes) × Appends old now (take n bytes)
+abbrev pub AppendsPrefix : Option (List ℕ) → Option (List ℕ) → List ℕ → Type 0
+AppendsPrefix old now bytes = (n : ℕ) × (n < length bytes) × Appends old now (take n bytes)
 
 -- a put takes a prefix of the piece, at least one byte unless it is empty; a fault takes nothing
 abbrev pub Puts : {E : Type 0} → Option (List ℕ) → Option (List ℕ) → Result ℕ E → List ℕ → Type 0

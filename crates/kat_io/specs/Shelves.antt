@@ -8,7 +8,7 @@ use Rattle.std.specs.declared.alloc.Global.{Global}
 use Rattle.kat_io.specs.declared.outside.GetFault.{GetFault}
 use Rattle.kat_io.specs.declared.outside.GetFault.TheVariants.{NoMemory, Failed, TooLong}
 use Rattle.kat_io.specs.Outside.{one_more}
-use Rattle.kat_io.specs.Told.{Told, Missing, Holds}
+use Rattle.kat_io.specs.KnownContent.{KnownContent, Missing, Known}
 use Rattle.kat_io.specs.Sinks.{is_due}
 
 -- contents by name
@@ -29,12 +29,12 @@ pub record ShelfState : Type 0 where
 abbrev pub contents_of : List (String Global × Vec ℕ Global) → Contents
 contents_of entries = from_entries (mapped (λ e. (string_bytes e.0, e.1.items)) entries)
 
-abbrev pub told_of : Option (List ℕ) → Told
+abbrev pub told_of : Option (List ℕ) → KnownContent
 told_of None = Missing
-told_of (Some bytes) = Holds bytes
+told_of (Some bytes) = Known bytes
 
 -- what is known about a name: its content, or that it is missing
-abbrev pub tells : ShelfState → List ℕ → Told
+abbrev pub tells : ShelfState → List ℕ → KnownContent
 tells s name = told_of (get s.files name)
 
 -- the state after a call without a fault; `after_fault`: after a fault

@@ -1,8 +1,8 @@
 //! Input and output of the program as traits, and sending of bytes.
 ghost use Rattle.std.specs.Prelude.{◌≡◌, ◌<◌, ◌^◌, ℕ, List, Option, OnOk, OnErr};
 ghost use Rattle.std.specs.Io.KnownBytes.{Appends};
-ghost use Rattle.kat_io.specs.Outside.{HasCause, AppendsFront, Puts};
-ghost use Rattle.kat_io.specs.Told.{Told};
+ghost use Rattle.kat_io.specs.Outside.{HasCause, AppendsPrefix, Puts};
+ghost use Rattle.kat_io.specs.KnownContent.{KnownContent};
 ghost use Rattle.kat_io.specs.Gets.{IsCounted, GetsFrom};
 ghost use Rattle.kat_io.specs.declared.outside.GetFault.TheVariants.{NoMemory};
 
@@ -34,7 +34,7 @@ impl From<AllocError> for GetFault {
 /// A shelf of contents by name.
 pub trait Shelf {
     /// What is known about the content under a name.
-    ghost content: { Self → List ℕ → Told };
+    ghost content: { Self → List ℕ → KnownContent };
 
     /// The number of failures, saturated at 2^64 - 1.
     ghost faults: { Self → ℕ };
@@ -68,7 +68,7 @@ pub trait Sink {
 /// Puts until all bytes are taken. After a fault, a proper prefix of `bytes` was taken. Takes no memory.
 pub fn send<K: Sink>(sink: &mut K, bytes: &[u8]) -> Result<(), Failed>
     ensures sent { OnOk result (Appends (K.taken sink.old) (K.taken sink.new) bytes.now) }
-    ensures front { OnErr result (AppendsFront (K.taken sink.old) (K.taken sink.new) bytes.now) }
+    ensures front { OnErr result (AppendsPrefix (K.taken sink.old) (K.taken sink.new) bytes.now) }
     ensures cause { HasCause (K.faults sink.old) (K.faults sink.new) result }
 {
     let mut rest = bytes;

@@ -3,7 +3,7 @@
 //! those two the bytes are not proved.
 ghost use Rattle.std.specs.Prelude.{◌≡◌, ℕ, List, None, IfOk, string_bytes};
 ghost use Rattle.std.specs.Option.{option_map};
-ghost use Rattle.kat_io.specs.Told.{Told, Untold, told_left};
+ghost use Rattle.kat_io.specs.KnownContent.{KnownContent, Unknown, known_left};
 ghost use Rattle.kat_io.specs.Gets.{GetsFrom, IsCounted};
 ghost use Rattle.kat_io.specs.Outside.{Puts, HasCause, faults_after};
 ghost use Rattle.kat_io.specs.Folder.{Opens, count_after};
@@ -22,7 +22,7 @@ pub trait Opener {
     type File: Read + Drop;
 
     /// What is known about the content under a name.
-    ghost content: { Self → List ℕ → Told };
+    ghost content: { Self → List ℕ → KnownContent };
 
     /// Opens the file of the name. If the content is known, the file has this content.
     fn open(&self, name: &str) -> io::Result<Self::File>
@@ -38,10 +38,10 @@ pub struct Folder<'a, R: Files> {
 impl<'a, R: Files> Opener for Folder<'a, R> {
     type File = R::File;
 
-    ghost content = { λ folder name. Untold };
+    ghost content = { λ folder name. Unknown };
 
     fn open(&self, name: &str) -> io::Result<R::File>
-        ensures { IfOk result (λ file. Opens Untold (R.File.remaining file)) }
+        ensures { IfOk result (λ file. Opens Unknown (R.File.remaining file)) }
     {
         fs::open(self.rt, name)
     }
@@ -80,7 +80,7 @@ fn read_within<R: Read>(
     alloc: Global,
     limit: Option<u64>,
 ) -> Result<Vec<u8>, GetFault>
-    ensures { GetsFrom (told_left (R.remaining reader.old)) result limit }
+    ensures { GetsFrom (known_left (R.remaining reader.old)) result limit }
 {
     let mut bytes = Vec::new(alloc);
     let mut piece = [0u8; 4096];

@@ -1,2 +1,4 @@
 mod Appending
 mod JsonTexts
+pub mod WrittenParts
+mod ShowExamples

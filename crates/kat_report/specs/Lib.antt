@@ -1,5 +1,12 @@
 pub mod Refusals
+pub mod AbstractRefusals
+pub mod FormRefusals
 pub mod Reasons
+pub mod Acceptances
+pub mod InputLines
+pub mod OutlineLines
 pub mod Replays
 pub mod Reports
+pub mod RunTexts
+pub mod Shows
 pub mod Working

@@ -30,6 +30,10 @@ reason_text (TermNode k) = codes "TermNode " ++ decimal k
 abbrev pub reason_line : Reason → List ℕ
 reason_line r = codes "rejected: " ++ reason_text r ++ 10 ∷ []
 
+-- for a certificate where a string is required
+abbrev pub no_string_line : List ℕ
+no_string_line = codes "rejected: NotAString\n"
+
 -- for an equational proof: the word of the reason, and the number of the line that does not hold
 abbrev pub chain_reason_text : ChainReason → List ℕ
 chain_reason_text Start = codes "Start"

@@ -1,1 +1,2 @@
 pub mod JsonValues
+pub mod SumParts

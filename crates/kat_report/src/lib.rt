@@ -1,17 +1,34 @@
-//! The lines that the program prints.
+//! The lines and texts that the program prints.
 #![tactic(auto)]
 
+mod abstract_refusal;
+mod accepted;
 mod answer;
 mod chain_reason;
 mod evidence;
+mod form_refusal;
+mod forms;
+mod hyps;
+mod input_lines;
+mod outline_lines;
 mod reason;
 mod refusal;
 mod replay;
+mod rows;
+mod run_text;
+mod show;
 mod writing;
 
+pub use abstract_refusal::abstract_fault_line;
+pub use accepted::{accepted_chain_line, accepted_line, accepted_outline_line};
 pub use answer::json_report;
 pub use chain_reason::chain_reason_line;
 pub use evidence::evidence_fault_line;
-pub use reason::reason_line;
+pub use form_refusal::form_fault_line;
+pub use input_lines::{long_proof_line, too_long_line, unread_line, words_line};
+pub use outline_lines::{not_a_triple_line, not_simple_line, note_reason_line, notes_fault_line};
+pub use reason::{no_string_line, reason_line};
 pub use refusal::{chain_fault_line, text_fault_line};
 pub use replay::replay_text;
+pub use run_text::outcome_line;
+pub use show::show_text;

@@ -2,7 +2,7 @@
 ghost use Rattle.std.specs.Prelude.{◌≡◌, ◌++◌, codes, if◌then◌else◌, IfOk, OnOk};
 ghost use Rattle.std.specs.Fmt.{decimal};
 ghost use Rattle.certificate.specs.Texts.{bits};
-ghost use Rattle.kat_report.specs.Reasons.{atom_text, reason_text, reason_line};
+ghost use Rattle.kat_report.specs.Reasons.{atom_text, reason_text, reason_line, no_string_line};
 
 use crate::writing::{put_numbered, put_word};
 use cert_checker::Reason;
@@ -120,4 +120,11 @@ pub fn reason_line(alloc: Global, reason: &Reason) -> Result<Vec<u8>, NoMemory>
     put_reason(alloc, &mut line, reason)?;
     line.push(b'\n')?;
     Ok(line)
+}
+
+/// Returns the line `rejected: NotAString`: `replay` replays strings, and the evidence is a certificate.
+pub fn no_string_line() -> &'static [u8]
+    ensures { result.now ≡ no_string_line }
+{
+    b"rejected: NotAString\n"
 }

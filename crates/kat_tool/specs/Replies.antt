@@ -1,38 +1,41 @@
--- What the top call replies to words.
+-- The replies of the top call to words.
 use Rattle.std.specs.Prelude.{◌≡◌, ◌⊎◌, ℕ, List, None, Some, codes}
-use Rattle.tool_commands.specs.Commands.{Command, decide, report, show, gkat, batch, check, replay, outline, check_notes, chain, run, oneloop, bench, optimise, command_of}
-use Rattle.tool_inputs.specs.Steps.{ShelfUse, Replying}
-use Rattle.tool_decide.specs.Decide.{Decides}
-use Rattle.tool_decide.specs.Report.{Reports}
-use Rattle.tool_check.specs.Show.{Shows}
-use Rattle.tool_programs.specs.Gkat.{Translates}
-use Rattle.tool_decide.specs.Batch.{Batches}
-use Rattle.tool_check.specs.Check.{Checks}
-use Rattle.tool_check.specs.Replay.{Replays}
-use Rattle.tool_outline.specs.Outline.{Outlines}
-use Rattle.tool_outline.specs.OutlineCheck.{ChecksNoteFiles}
-use Rattle.tool_check.specs.Chain.{Proves}
-use Rattle.tool_programs.specs.Running.{Runs}
-use Rattle.tool_programs.specs.OneLoop.{Forms}
-use Rattle.tool_decide.specs.Bench.{Tallies}
-use Rattle.tool_programs.specs.Optimise.{Optimises}
+use Rattle.tool_commands.specs.Commands.{Command, decide, decide_json, show, gkat, batch, check, replay, outline, outline_check, chain, run, oneloop, bench, optimise, command_of}
+use Rattle.tool_inputs.specs.FileProblem.{HasProblem}
+use Rattle.tool_inputs.specs.Steps.{ShelfUse, ReplySpec}
+use Rattle.tool_inputs.specs.FileReplies.{OfFile, OfTwoFiles}
+use Rattle.tool_decide.specs.Decide.{DecideReply}
+use Rattle.tool_decide.specs.DecideJson.{DecideJsonReply}
+use Rattle.tool_decide.specs.Batch.{BatchReply}
+use Rattle.tool_decide.specs.Bench.{BenchReply}
+use Rattle.tool_check.specs.Check.{CheckReply}
+use Rattle.tool_check.specs.Replay.{ReplayReply}
+use Rattle.tool_check.specs.Chain.{ChainReply}
+use Rattle.tool_outline.specs.Triples.{PosesSomeTask}
+use Rattle.tool_outline.specs.Outline.{OutlineReply}
+use Rattle.tool_outline.specs.OutlineCheck.{OutlineCheckReply}
+use Rattle.tool_programs.specs.Show.{ShowReply}
+use Rattle.tool_programs.specs.Gkat.{GkatReply}
+use Rattle.tool_programs.specs.Running.{RunReply}
+use Rattle.tool_programs.specs.OneLoop.{OneLoopReply}
+use Rattle.tool_optimise.specs.Optimise.{OptimiseReply}
 
 -- the reply to a command
-abbrev pub RepliesTo : ShelfUse → Command → Replying
-RepliesTo s (decide file) = Decides s file
-RepliesTo s (report file) = Reports s file
-RepliesTo s (show file) = Shows s file
-RepliesTo s (gkat file) = Translates s file
-RepliesTo s (batch file) = Batches s file
-RepliesTo s (check file evidence) = Checks s file evidence
-RepliesTo s (replay file evidence) = Replays s file evidence
-RepliesTo s (outline file) = Outlines s file
-RepliesTo s (check_notes file notes) = ChecksNoteFiles s file notes
-RepliesTo s (chain file proof) = Proves s file proof
-RepliesTo s (run file prog store turns) = Runs s file prog store turns
-RepliesTo s (oneloop file prog) = Forms s file prog
-RepliesTo s (bench count) = Tallies count
-RepliesTo s (optimise file prog turns) = Optimises s file prog turns
+abbrev pub RepliesTo : ShelfUse → Command → ReplySpec
+RepliesTo s (decide file) = OfFile s file DecideReply
+RepliesTo s (decide_json file) = OfFile s file DecideJsonReply
+RepliesTo s (show file) = OfFile s file ShowReply
+RepliesTo s (gkat file) = OfFile s file GkatReply
+RepliesTo s (batch file) = OfFile s file BatchReply
+RepliesTo s (check file evidence) = OfTwoFiles s file evidence HasProblem CheckReply
+RepliesTo s (replay file evidence) = OfTwoFiles s file evidence HasProblem ReplayReply
+RepliesTo s (outline file) = OfFile s file OutlineReply
+RepliesTo s (outline_check file notes) = OfTwoFiles s file notes PosesSomeTask OutlineCheckReply
+RepliesTo s (chain file proof) = OfTwoFiles s file proof HasProblem ChainReply
+RepliesTo s (run file prog store turns) = OfFile s file (λ text. RunReply text prog store turns)
+RepliesTo s (oneloop file prog) = OfFile s file (λ text. OneLoopReply text prog)
+RepliesTo s (bench count) = BenchReply count
+RepliesTo s (optimise file prog turns) = OfFile s file (λ text. OptimiseReply text prog turns)
 
 -- the words have no command
 pub record HasNoCommand (words : List (List ℕ)) (status : ℕ) (output : List ℕ) : Type 0 where
@@ -40,11 +43,11 @@ pub record HasNoCommand (words : List (List ℕ)) (status : ℕ) (output : List 
   pub has_status : status ≡ 7
   pub printed : output ≡ codes "refused: words\n"
 
--- the shelf's count of faults stands, unless the status says that it failed
-abbrev pub CountStands : ShelfUse → ℕ → Type 0
-CountStands s status = (status ≡ 4) ⊎ (s.now ≡ s.before)
+-- the shelf's count of faults is unchanged, unless the status reports that the shelf failed
+abbrev pub KeepsCount : ShelfUse → ℕ → Type 0
+KeepsCount s status = (status ≡ 4) ⊎ (s.now ≡ s.before)
 
 -- the reply to words
 pub record Replies (s : ShelfUse) (words : List (List ℕ)) (status : ℕ) (output : List ℕ) : Type 0 where
-  pub counts : CountStands s status
+  pub counts : KeepsCount s status
   pub cause : HasNoCommand words status output ⊎ ((command : Command) × (command_of words ≡ Some command) × RepliesTo s command status output)

@@ -1,13 +1,23 @@
 //! Laws of the top call. Each function does nothing: its contract is the law.
-ghost use Rattle.kat_tool.specs.Laws.{CausesExclude, WordsGiveStores};
+ghost use Rattle.kat_tool.specs.Laws.{CausesExclude, WordsGiveStores, CheckAgrees, NotesFollow};
 
-/// Where the shelf tells what the files hold and did not fail, two replies to the same words have one
-/// status, so that each status comes exactly where its cause holds.
+/// If the content of each file is known and the shelf did not fail, two replies to the same words have one status, so
+/// each status occurs exactly when its cause holds.
 pub fn causes_exclude()
     ensures { CausesExclude }
 {}
 
-/// The store that a word gives is one of the file: it has as many numbers as the file has variables, each of the width.
+/// The store that a word gives is a store of the file: it has a number of the width for each variable of the file.
 pub fn words_give_stores()
     ensures { WordsGiveStores }
+{}
+
+/// If `decide` replies with 0 or 1, `check` of the same text and the printed evidence replies with the same status.
+pub fn check_agrees()
+    ensures { CheckAgrees }
+{}
+
+/// If `outline` replies with 0, `outline` of the same text and the printed notes accepts them.
+pub fn notes_follow()
+    ensures { NotesFollow }
 {}

@@ -4,3 +4,11 @@ pub mod ReadNumbers
 pub mod LineForms
 pub mod Words
 pub mod TextParts
+pub mod KnownLines
+pub mod LineSteps
+pub mod LineTests
+pub mod FormatLaws
+pub mod LinesScanned
+pub mod LinesTold
+pub mod WholeTexts
+pub mod NumberForms

@@ -45,6 +45,13 @@ values_back : (ks : List ℕ) → AreNarrow ks → map value_of (map decimal ks)
 values_back [] narrow = refl
 values_back (k ∷ ks) narrow = ap₂ (λ x l. x ∷ l) (decimal_numeral k (narrow k (inl refl))).1 (values_back ks (λ l h. narrow l (inr h)))
 
+-- words that are numerals spell their values
+pub numbers_of_all : (ws : List (List ℕ)) → list_all is_numeral ws ≡ true → numbers_of ws ≡ Some (map value_of ws)
+numbers_of_all ws e = rw e refl
+
+pub numbers_of_none : (ws : List (List ℕ)) → list_all is_numeral ws ≡ false → numbers_of ws ≡ None
+numbers_of_none ws e = rw e refl
+
 pub numbers_back : (ks : List ℕ) → AreNarrow ks → numbers_of (map decimal ks) ≡ Some ks
 numbers_back ks narrow = rw (all_numerals ks narrow) (ap (λ (l : List ℕ). Some l) (values_back ks narrow))
 
@@ -98,11 +105,17 @@ pub words_append : (vs ws : List (List ℕ)) → AreWords vs → AreWords ws →
 words_append [] ws a b = b
 words_append (v ∷ vs) ws a b = (a.0, words_append vs ws a.1 b)
 
+-- words of a line, of which there is at least one
+abbrev pub AreLineWords : List (List ℕ) → Type 0
+AreLineWords [] = ⊥
+AreLineWords (w ∷ ws) = AreWords (w ∷ ws)
+
 -- a line built from words has these words
-pub words_back : (w : List ℕ) (ws : List (List ℕ)) → AreWords (w ∷ ws) → words_of (line_of (w ∷ ws)) ≡ w ∷ ws
-words_back w [] words = split_lacking 32 w (word_lacks 32 w (omega arith) words.0)
-words_back w (v ∷ ws) words =
-    split_at 32 w (line_of (v ∷ ws)) (word_lacks 32 w (omega arith) words.0) ∙ ap (λ l. w ∷ l) (words_back v ws words.1)
+pub words_back : (ws : List (List ℕ)) → AreLineWords ws → words_of (line_of ws) ≡ ws
+words_back [] words = absurd words
+words_back (w ∷ []) words = split_lacking 32 w (word_lacks 32 w (omega arith) words.0)
+words_back (w ∷ v ∷ ws) words =
+    split_at 32 w (line_of (v ∷ ws)) (word_lacks 32 w (omega arith) words.0) ∙ ap (λ l. w ∷ l) (words_back (v ∷ ws) words.1)
 
 -- a line is the line built from its words
 pub line_back : (line : List ℕ) → line_of (words_of line) ≡ line
@@ -115,6 +128,7 @@ lacks_append mark (x ∷ xs) ys a b =
     rw (parts.0, lacks_append mark xs ys parts.1 b) refl
 
 -- a line of words has no line feed
-pub line_lacks : (w : List ℕ) (ws : List (List ℕ)) → AreWords (w ∷ ws) → LacksByte 10 (line_of (w ∷ ws))
-line_lacks w [] words = word_lacks 10 w (omega arith) words.0
-line_lacks w (v ∷ ws) words = lacks_append 10 w (32 ∷ line_of (v ∷ ws)) (word_lacks 10 w (omega arith) words.0) (line_lacks v ws words.1)
+pub line_lacks : (ws : List (List ℕ)) → AreLineWords ws → LacksByte 10 (line_of ws)
+line_lacks [] words = absurd words
+line_lacks (w ∷ []) words = word_lacks 10 w (omega arith) words.0
+line_lacks (w ∷ v ∷ ws) words = lacks_append 10 w (32 ∷ line_of (v ∷ ws)) (word_lacks 10 w (omega arith) words.0) (line_lacks (v ∷ ws) words.1)

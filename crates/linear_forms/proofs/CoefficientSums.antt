@@ -10,7 +10,7 @@ use Rattle.linear_forms.specs.Arithmetic.{by_order, put_nonzero, merge_onto, mer
 use Rattle.linear_forms.specs.NormalForms.{IsForm}
 use Rattle.linear_forms.specs.Coefficients.{coefficient}
 use Rattle.linear_forms.proofs.Terms.{terms_of-form_of, constant_of-form_of}
-use Rattle.linear_forms.proofs.SameOrder.{same_mono}
+use Rattle.linear_forms.proofs.SameOrder.{same_mono, is_eq-true}
 use Rattle.linear_forms.proofs.TotalOrder.{mono_itself, mono_turned}
 use Rattle.linear_forms.proofs.Ascending.{IsBeforeAll, AreTerms, before_all_less, before_all_merge, before_all_scale, terms_of_form}
 
@@ -29,12 +29,7 @@ coefficient-form_of p xs c = coefficient_by_terms p (form_of xs c) ∙ ap (coeff
 
 -- monomials that compare as equal are the same
 same_of_test : (p q : MonoTree) → is_eq (mono_cmp p q) ≡ true → p ≡ q
-same_of_test p q h = same_mono p q (by_order_of (mono_cmp p q) h)
-  where
-    by_order_of : (o : Ordering) → is_eq o ≡ true → o ≡ Equal
-    by_order_of Less e = absurd cc
-    by_order_of Equal e = refl
-    by_order_of Greater e = absurd cc
+same_of_test p q h = same_mono p q (is_eq-true (mono_cmp p q) h)
 
 -- the coefficient is 0 if all monomials of the list come after this one
 coefficient_before : (p : MonoTree) (xs : List TermTree) → IsBeforeAll p xs → coefficient_in p xs ≡ 0

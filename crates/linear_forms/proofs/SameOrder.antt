@@ -1,9 +1,9 @@
 -- Forms that compare as equal are equal.
-use Rattle.std.proofs.Common.{ℕ, ◌≡◌, refl, ap, arith, Bool, IsTrue}
+use Rattle.std.proofs.Common.{ℕ, ◌≡◌, refl, ap, arith, Bool, true, IsTrue}
 use Rattle.std.proofs.lemmas.Bool.{false≢true}
 use Rattle.std.proofs.lemmas.Bool.Decides.{nat_tests}
 use Rattle.std.proofs.Common.{Ordering, Less, Equal, Greater, nat_cmp}
-use Rattle.std.specs.Ordering.{ordering_then, ordering_index}
+use Rattle.std.specs.Ordering.{ordering_then, ordering_index, is_eq}
 use Rattle.std.specs.Bool.{◌==◌}
 use Rattle.linear_forms.specs.Forms.{FormTree, constant, var_term, product_term, MonoTree, var, product}
 use Rattle.linear_forms.specs.Order.{form_cmp, mono_cmp}
@@ -40,3 +40,8 @@ pub equal_order : (o : Ordering) (b : Bool) → b ≡ (ordering_index o == 1) �
 equal_order Less b e h = absurd (false≢true (rw (← e) h))
 equal_order Equal b e h = refl
 equal_order Greater b e h = absurd (false≢true (rw (← e) h))
+
+pub is_eq-true : (o : Ordering) → is_eq o ≡ true → o ≡ Equal
+is_eq-true Less h = absurd cc
+is_eq-true Equal h = refl
+is_eq-true Greater h = absurd cc

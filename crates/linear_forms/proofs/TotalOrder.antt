@@ -6,17 +6,15 @@ use Rattle.std.specs.Ordering.{ordering_then, ordering_reverse}
 use Rattle.linear_forms.specs.Forms.{FormTree, constant, var_term, product_term, MonoTree, var, product}
 use Rattle.linear_forms.specs.Order.{form_cmp, mono_cmp}
 use Rattle.linear_forms.proofs.SameOrder.{same_number}
-
-pub number_itself : (n : ℕ) → nat_cmp n n ≡ Equal
-number_itself n = grind (arith, nat_tests)
+use Rattle.kat_model.proofs.Numbers.{nat_cmp-own}
 
 pub form_itself : (f : FormTree) → form_cmp f f ≡ Equal
-form_itself (constant c) = number_itself c
-form_itself (var_term k t r) = rw (number_itself k, number_itself t) (form_itself r)
-form_itself (product_term f g t r) = rw (form_itself f, form_itself g, number_itself t) (form_itself r)
+form_itself (constant c) = nat_cmp-own c
+form_itself (var_term k t r) = rw (nat_cmp-own k, nat_cmp-own t) (form_itself r)
+form_itself (product_term f g t r) = rw (form_itself f, form_itself g, nat_cmp-own t) (form_itself r)
 
 pub mono_itself : (p : MonoTree) → mono_cmp p p ≡ Equal
-mono_itself (var k) = number_itself k
+mono_itself (var k) = nat_cmp-own k
 mono_itself (product f g) = rw (form_itself f, form_itself g) refl
 
 pub number_turned : (j k : ℕ) → nat_cmp j k ≡ ordering_reverse (nat_cmp k j)

@@ -23,7 +23,7 @@ use Rattle.linear_forms.specs.declared.comparison.CondForm.{CondForm}
 use Rattle.linear_forms.specs.declared.comparison.CondForm.TheVariants.{True, False, Pos, Neg}
 use Rattle.linear_forms.proofs.Terms.{constant_of-form_of}
 use Rattle.linear_forms.proofs.Modulo.{cong_add}
-use Rattle.linear_forms.proofs.SameOrder.{same_tree}
+use Rattle.linear_forms.proofs.SameOrder.{same_tree, is_eq-true}
 use Rattle.linear_forms.proofs.Polynomials.{polynomial-negative, form_value-form_difference}
 use Rattle.linear_forms.proofs.StoredValues.{modulus_above_one, form_value-normal_form, polynomial-replaced}
 use Rattle.linear_forms.proofs.Ascending.{constant_of_form}
@@ -81,14 +81,9 @@ picked : (m : ℕ) (s : Store) (b : Bool) (x y : CondForm) (v : Bool) → (b ≡
 picked m s true x y v p q = p refl
 picked m s false x y v p q = q refl
 
-equal_order : (o : Ordering) → is_eq o ≡ true → o ≡ Equal
-equal_order Less h = absurd cc
-equal_order Equal h = refl
-equal_order Greater h = absurd cc
-
 varying_less_form_holds : (m : ℕ) (s : Store) (e f : FormTree) → 1 < m → cond_form_holds m s (varying_less_form m e f) ≡ nat_lt (form_value m s e) (form_value m s f)
 varying_less_form_holds m s e f h =
-    picked m s (is_eq (form_cmp e f)) _ _ _ (λ p. rw (same_tree e f (equal_order _ p)) (grind (arith, nat_tests)))
+    picked m s (is_eq (form_cmp e f)) _ _ _ (λ p. rw (same_tree e f (is_eq-true _ p)) (grind (arith, nat_tests)))
     (λ _. picked m s (is_constant f 0) _ _ _ (λ p. rw (constant_value m s f 0 (omega (arith, h)) p) (grind (arith, nat_tests)))
     (λ _. picked m s (is_constant e (m - 1)) _ _ _ (λ p. rw (constant_value m s e (m - 1) (omega (arith, h)) p) (let b = mod_below (polynomial s f) m (omega (arith, h)) in grind (arith, nat_tests, b)))
     (λ _. picked m s (is_constant f 1) _ _ _ (λ p. rw (constant_value m s f 1 h p, zero-canonical m s e h) (grind (arith, nat_tests)))

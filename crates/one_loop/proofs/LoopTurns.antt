@@ -1,5 +1,5 @@
 -- A turn of the loop of a form is a step of the machine.
-use Rattle.std.proofs.Common.{◌≡◌, ℕ, zero, suc, ◌+◌, ◌-◌, ◌<◌, ◌≤◌, ◌↔◌, ◌⊎◌, inl, inr, List, [], ◌∷◌, ◌++◌, length, map, take, drop, set, get_or, Bool, true, false, not, nat_eq, nat_lt, if◌then◌else◌, Option, Some, None, refl, sym, ap, ◌∙◌, subst, arith}
+use Rattle.std.proofs.Common.{◌≡◌, ℕ, zero, suc, ◌+◌, ◌-◌, ◌<◌, ◌≤◌, ◌↔◌, List, [], ◌∷◌, length, map, take, drop, set, get_or, Bool, true, false, not, nat_eq, nat_lt, if◌then◌else◌, Some, refl, sym, ap, ◌∙◌, subst, arith}
 use Rattle.std.specs.List.{All, slice_get}
 use Rattle.std.specs.Option.{option_map}
 use Rattle.std.proofs.lemmas.Bool.Decides.{nat_tests}
@@ -8,21 +8,16 @@ use Rattle.std.proofs.lemmas.Option.{same_Some, slice_get-map, slice_get_within,
 use Rattle.std.proofs.lemmas.List.Elements.{All-get_or}
 use Rattle.std.proofs.Math.Nat.{mod-eq_of_lt}
 use mathlib.Core.Path.{ap₂}
-use Rattle.kat_model.specs.Expressions.{CondTree, number, variable, compared}
+use Rattle.kat_model.specs.Expressions.{CondTree, number, variable}
 use Rattle.kat_model.specs.Stores.{modulus, Store, value, holds}
 use Rattle.kat_model.specs.declared.expression.Width.{Width}
-use Rattle.while_lang.specs.Programs.{ProgTree, empty, assign_then, branch_then, loop_then}
-use Rattle.while_lang.specs.Runs.{condition, Stays, Chosen, Leaves, Turns, Goes}
+use Rattle.while_lang.specs.Programs.{ProgTree, empty, branch_then}
+use Rattle.while_lang.specs.Runs.{condition, Chosen, Leaves, Turns, Goes}
 use Rattle.one_loop.specs.Forms.{with_counter}
-use Rattle.one_loop.specs.Working.Machine.{Point, passes, stops, checks, sets, chooses, Steps, IsPointAt, Halts}
+use Rattle.one_loop.specs.Working.Machine.{Point, passes, stops, checks, sets, chooses, Steps, Halts}
 use Rattle.one_loop.specs.Working.Blocks.{jump, block_of, is_below, Chooses, no_block, one_block, two_parts, is_going}
 use Rattle.one_loop.proofs.Counters.{counter_value, counter_set, point_number, value_kept, holds_kept, set_kept}
 use Rattle.one_loop.proofs.TurnShapes.{IsPointWithin}
-
--- the cases of a choice
-branch_parts : {A B : Type 0} (x : Bool) → Chosen x A B → ((x ≡ true) × A) ⊎ ((x ≡ false) × B)
-branch_parts true h = inl (refl, h)
-branch_parts false h = inr (refl, h)
 
 -- ---- stores of v variables and a counter
 

@@ -9,7 +9,7 @@ use kat_model::NoMemory;
 pub enum OneLoopFault {
     /// Out of memory.
     NoMemory,
-    /// There are 64 variables, which leaves no room for the counter.
+    /// There are `MAX_VARS` variables, which leaves no room for the counter.
     TooManyVars,
     /// There are more statements than the greatest number of the width, including nested ones. Holds their number, or
     /// `u64::MAX` if it is larger.

@@ -1,5 +1,6 @@
 //! The form of a program with one loop.
 ghost use Rattle.std.specs.Prelude.{◌≡◌, ◌≤◌, ◌<◌, ◌↔◌, ℕ, true, IfOk, Err};
+ghost use Rattle.kat_model.specs.declared.limits.TheConstants.{MAX_VARS};
 ghost use Rattle.while_lang.specs.Programs.{is_concrete};
 ghost use Rattle.one_loop.specs.Variables.{HasVarsBelow};
 ghost use Rattle.one_loop.specs.Statements.{HasTooManyStatements};
@@ -11,12 +12,9 @@ use crate::choice::choice_of_last;
 use crate::fault::OneLoopFault;
 use crate::points::add_points;
 use crate::statements::statement_count;
-use kat_model::{Cond, Expr, NoMemory, Rel, Width};
+use kat_model::{Cond, Expr, MAX_VARS, NoMemory, Rel, Width};
 use std::alloc::Global;
 use while_lang::{Prog, Stmt};
-
-/// The maximum number of variables of a program.
-const MAX_VARS: usize = 64;
 
 // Builds the loop that starts at a point and stops at the end.
 fn loop_over(alloc: Global, counter: usize, start: u64, body: Prog) -> Result<Prog, NoMemory>
@@ -37,19 +35,21 @@ fn point_loop(alloc: Global, prog: &Prog, counter: usize) -> Result<Prog, NoMemo
     loop_over(alloc, counter, start, body)
 }
 
-/// Builds the form of a concrete program over `vars` variables, at most 64: a program with exactly one loop and one
-/// additional variable, its counter, which ends in the same stores followed by the counter (Harel 1980; Kozen 1997).
-/// The counter is variable number `vars`; its initial value does not matter, and it is 0 at the end. Fails with
-/// `TooManyVars` if there are 64 variables, and otherwise with `TooManyStatements` if there are more statements than
-/// the greatest number of the width, including statements of blocks. Otherwise fails only when out of memory.
+/// Builds the form of a concrete program over `vars` variables, at most [`MAX_VARS`]: a program with exactly one loop
+/// and one additional variable, its counter, which ends in the same stores followed by the counter (Harel 1980; Kozen
+/// 1997). The counter is variable number `vars`; its initial value does not matter, and it is 0 at the end. Fails with
+/// `TooManyVars` if there are that many variables, and otherwise with `TooManyStatements` if there are more statements
+/// than the greatest number of the width, including statements of blocks. Otherwise fails only when out of memory.
+///
+/// The loop body does one statement a turn. Statements without a choice could share a turn; `IsOneForm` allows both.
 pub fn one_loop(alloc: Global, prog: &Prog, vars: usize, width: Width) -> Result<Prog, OneLoopFault>
     requires concrete { is_concrete prog.now ≡ true }
     requires variables { HasVarsBelow vars prog.now }
-    requires within { vars ≤ 64 }
+    requires within { vars ≤ MAX_VARS }
     ensures form { IfOk result (λ q. IsOneForm width prog.now q vars) }
-    ensures too_many_vars { (result ≡ Err OneLoopFault.TooManyVars) ↔ (vars ≡ 64) }
+    ensures too_many_vars { (result ≡ Err OneLoopFault.TooManyVars) ↔ (vars ≡ MAX_VARS) }
     ensures too_many_statements { (n : ℕ) → (result ≡ Err (OneLoopFault.TooManyStatements n))
-        ↔ ((vars < 64) × HasTooManyStatements width prog.now n) }
+        ↔ ((vars < MAX_VARS) × HasTooManyStatements width prog.now n) }
 {
     if vars == MAX_VARS {
         return Err(OneLoopFault::TooManyVars);

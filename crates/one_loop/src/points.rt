@@ -66,6 +66,9 @@ fn add_stmt(
 }
 
 // Appends the points of a program, its last statement first, and returns the number of the point at which it starts.
+// Points are numbered from the last statement to the first, with 0 as the end, so that the next point is known before a
+// statement is, and every number up to the greatest of the width serves. The point of a loop stays free until its block
+// is done.
 #[cycle(points)]
 pub(crate) fn add_points(
     alloc: Global,

@@ -19,7 +19,8 @@ fn stmt_count(stmt: &Stmt) -> Option<u64>
     }
 }
 
-// Returns the number of statements, including those of blocks, or `None` if it exceeds `u64::MAX`.
+// Returns the number of statements, including those of blocks, or `None` if it exceeds `u64::MAX`. Tests for overflow
+// and not for a limit: with width 64 a program of exactly 2^64 - 1 statements has a form, and a longer one does not.
 #[cycle(counts)]
 pub(crate) fn statement_count(prog: &Prog) -> Option<u64>
     ensures { SomeIff result (statements prog.now < 2 ^ 64) (statements prog.now) }

@@ -7,7 +7,7 @@ use Rattle.while_lang.proofs.ProgramLists.{stmts_of-prog_of}
 use Rattle.optimiser_theory.specs.Paths.{NoStep, IsFirstStep}
 use Rattle.optimiser_theory.specs.Logs.{LogLineParts, FirstStep, IsLog, IsFinished, HasStep}
 use Rattle.optimiser_steps.specs.Working.Found.{IsFirst}
-use Rattle.optimiser_steps.specs.declared.within.Found.{Found}
+use Rattle.optimiser_steps.specs.declared.paths.Found.{Found}
 use Rattle.optimiser_steps.specs.declared.optimising.Ended.{Ended}
 use Rattle.optimiser_steps.specs.declared.optimising.Ended.TheVariants.{Done, TurnLimit}
 

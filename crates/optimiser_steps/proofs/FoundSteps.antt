@@ -12,8 +12,8 @@ use Rattle.optimiser_theory.specs.Paths.{NoStep, NoStepBefore, IsFirstStep}
 use Rattle.optimiser_theory.proofs.FirstSteps.{first_inside, none_inside, none_in_statement, first_here, none_here}
 use Rattle.optimiser_theory.proofs.RangesKept.{drop_in}
 use Rattle.optimiser_steps.specs.Working.Found.{NoStepFrom, IsLeastFrom, IsFirst}
-use Rattle.optimiser_steps.specs.declared.made.Made.{Made}
-use Rattle.optimiser_steps.specs.declared.within.Found.{Found}
+use Rattle.optimiser_steps.specs.declared.rewriting.Made.{Made}
+use Rattle.optimiser_steps.specs.declared.paths.Found.{Found}
 use Rattle.optimiser_steps.proofs.ListedPrograms.{listed}
 
 -- the statement at a position is the head of the suffix from there

@@ -11,7 +11,7 @@ use Rattle.optimiser_theory.specs.Validity.{IsValid, HoldsAlways, HoldsNever}
 use Rattle.optimiser_theory.specs.Statements.{single}
 use Rattle.optimiser_theory.specs.Steps.{Step}
 use Rattle.optimiser_steps.specs.Working.Found.{NoStepFrom, IsLeastFrom, FindsLeast, EndAlike}
-use Rattle.optimiser_steps.specs.declared.made.Made.{Made}
+use Rattle.optimiser_steps.specs.declared.rewriting.Made.{Made}
 
 module _ (f : FileParts) (ss : List StmtTree) where
   -- no step has a number in an empty range; a range without a step can be extended by a number without one

@@ -10,7 +10,7 @@ use Rattle.optimiser_theory.specs.Validity.{IsValid, HoldsAlways, HoldsNever}
 use Rattle.optimiser_theory.specs.Statements.{single}
 use Rattle.optimiser_theory.proofs.FirstSteps.{none_at_first, none_at_end}
 use Rattle.optimiser_steps.specs.Working.Found.{NoStepFrom, IsLeastFrom, FindsLeast, EndAlike}
-use Rattle.optimiser_steps.specs.declared.made.Made.{Made}
+use Rattle.optimiser_steps.specs.declared.rewriting.Made.{Made}
 use Rattle.optimiser_steps.proofs.LeastSteps.{is_least, finds_after, finds_before, none_at_last_abort, none_below_abort, none_below_assert, none_below_first, none_below_second, none_below_either, none_below_shared, none_below_loop, none_yet, none_below_ten, none_below_left_loop, none_below_flattened, none_below_loops, IsNested, nested_is_one}
 
 -- ---- one statement

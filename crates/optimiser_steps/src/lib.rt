@@ -1,15 +1,15 @@
 //! The optimiser: rewrites a program by steps whose conditions the prover decides.
 #![tactic(auto)]
 
-mod after;
-mod alone;
-mod doubles;
-mod here;
-mod made;
-mod nested;
+mod copies;
+mod first_at;
+mod loop_steps;
 mod optimising;
+mod paths;
+mod rewriting;
 mod search;
+mod sequence_steps;
+mod statement_steps;
 mod validity;
-mod within;
 
 pub use optimising::{Ended, LogLine, Optimised, optimise};

@@ -3,8 +3,8 @@ ghost use Rattle.std.specs.Prelude.{◌≡◌, ◌≤◌, ◌↔◌, length, IfO
 ghost use Rattle.optimiser_theory.specs.Logs.{IsLog, IsFinished, HasStep};
 ghost use Rattle.optimiser_theory.specs.Meanings.{HasProgInRange, KeepsInTables, KeepsFromStores};
 
+use crate::paths::Found;
 use crate::search::first_step_in;
-use crate::within::Found;
 use kat_model::NoMemory;
 use problem_file::File;
 use std::alloc::Global;

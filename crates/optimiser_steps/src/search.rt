@@ -6,8 +6,8 @@ ghost use Rattle.optimiser_theory.specs.Statements.{IsStmtInRange, AreStmtsInRan
 ghost use Rattle.optimiser_theory.specs.Paths.{NoStepBefore};
 ghost use Rattle.optimiser_steps.specs.Working.Found.{FindsFirst, FindsFirstBefore};
 
-use crate::here::step_here;
-use crate::within::{Found, found_here, found_inside};
+use crate::first_at::step_here;
+use crate::paths::{Found, found_here, found_inside};
 use kat_model::NoMemory;
 use problem_file::File;
 use std::alloc::Global;

@@ -1,6 +1,5 @@
 //! Decides the conditions of the steps.
 ghost use Rattle.std.specs.Prelude.{◌≡◌, ◌↔◌, IsTrue, IfOk};
-ghost use Rattle.kat_model.specs.Relations.{Same};
 ghost use Rattle.kat_model.specs.Problems.{AreInRange};
 ghost use Rattle.kat_model.specs.Expressions.{always, negation, cond_tree};
 ghost use Rattle.problem_file.specs.Trees.{goal_tree};
@@ -11,23 +10,13 @@ ghost use Rattle.optimiser_theory.specs.Statements.{single, IsStmtInRange};
 ghost use Rattle.while_lang.specs.ProgramViews.{stmt_tree};
 ghost use Rattle.optimiser_steps.specs.Working.Goals.{GoalIsSame};
 
-use crate::doubles::single;
+use crate::copies::single;
 use abstraction::{AbstractFault, abstracted_for};
-use bisim_worklist::decide;
-use certificate::Evidence;
-use kat_model::{Cond, NoMemory, Problem};
+use bisim_worklist::is_same;
+use kat_model::{Cond, NoMemory};
 use problem_file::{File, Goal, Side};
 use std::alloc::Global;
 use while_lang::{Prog, Stmt, copy_stmt};
-
-fn is_same(alloc: Global, problem: &Problem) -> Result<bool, NoMemory>
-    ensures { IfOk result (λ same. IsTrue same ↔ Same problem.now) }
-{
-    match decide(alloc, problem)? {
-        Evidence::Equal(_) => Ok(true),
-        Evidence::Different(_) => Ok(false),
-    }
-}
 
 // Whether the goal is within the limits of an abstraction, and the two sides of its problem are the same.
 fn is_goal_same(alloc: Global, file: &File, goal: &Goal) -> Result<bool, NoMemory>

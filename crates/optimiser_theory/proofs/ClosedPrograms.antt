@@ -1,7 +1,7 @@
 -- Without variables, comparisons are constant, and there are no assignments.
-use Rattle.std.proofs.Common.{◌≡◌, ◌<◌, ◌+◌, ◌-◌, ◌*◌, ◌%◌, ℕ, zero, suc, List, [], ◌∷◌, map, Bool, true, false, nat_eq, nat_lt, refl, ap, ◌∙◌, subst, arith}
+use Rattle.std.proofs.Common.{◌≡◌, ◌<◌, ◌+◌, ◌-◌, ◌*◌, ◌%◌, ℕ, List, [], map, Bool, true, false, nat_eq, nat_lt, refl, ap, ◌∙◌, subst, arith}
 use Rattle.std.proofs.lemmas.List.{append-nil}
-use Rattle.kat_model.specs.Trees.{Term}
+use Rattle.kat_model.specs.declared.limits.TheConstants.{MAX_TESTS}
 use Rattle.kat_model.specs.Expressions.{ExprTree, number, variable, plus, minus, times, CondTree, always, never, named, compared, negation, both, either}
 use Rattle.kat_model.specs.Stores.{modulus}
 use Rattle.kat_model.specs.declared.expression.Rel.{Rel}
@@ -18,6 +18,8 @@ use Rattle.abstraction.specs.Rounds.{rounds, tables_of}
 use Rattle.abstraction.specs.Facts.{Hypothesis}
 use Rattle.abstraction.specs.Derived.{stated_from, hypotheses}
 use Rattle.abstraction.specs.Abstracts.{with_goal, file_problem}
+use Rattle.abstraction.proofs.AppendedRows.{no_rounds}
+use Rattle.abstraction.proofs.NumberedRows.{stated_terms}
 use Rattle.optimiser_theory.specs.Meanings.{declared_tables}
 
 -- ---- expressions and comparisons
@@ -93,15 +95,6 @@ unassigned m tests actions (loop_then b p rest) h = rw (unassigned m tests actio
 
 -- ---- files
 
--- rounds with no assignments and no comparisons append nothing
-no_rounds : (n m most : ℕ) → rounds n m most [] [] ≡ []
-no_rounds zero m most = refl
-no_rounds (suc n) m most = no_rounds n m most
-
-stated_terms : (k : ℕ) (hs : List Term) → map (λ h. h.term) (stated_from k hs) ≡ hs
-stated_terms k [] = refl
-stated_terms k (h ∷ hs) = ap (λ (l : List Term). h ∷ l) (stated_terms (k + 1) hs)
-
 module _ (f : FileParts) (none : f.vars ≡ 0) (b : CondTree) (p : ProgTree) (c : CondTree)
     (in_b : IsCondInRange f.tests f.vars b) (in_p : IsProgInRange f.tests f.actions f.vars p) (in_c : IsCondInRange f.tests f.vars c) where
   abbrev Asked : FileParts
@@ -120,7 +113,7 @@ module _ (f : FileParts) (none : f.vars ≡ 0) (b : CondTree) (p : ProgTree) (c 
 
   -- the tables of a triple have only the tests and actions of the file
   pub triple_tables : tables_of Asked ≡ declared_tables f
-  triple_tables = rw (no_comparisons, no_assignments, no_rounds f.rounds (modulus f.width) (48 - f.tests)) refl
+  triple_tables = rw (no_comparisons, no_assignments, no_rounds f.rounds (modulus f.width) (MAX_TESTS - f.tests)) refl
 
   pub triple_hyps : (file_problem Asked).hyps ≡ f.hyps
   triple_hyps =

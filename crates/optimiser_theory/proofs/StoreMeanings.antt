@@ -13,7 +13,7 @@ use Rattle.while_lang.specs.Programs.{ProgTree, empty, skip_then, abort_then, as
 use Rattle.while_lang.specs.Runs.{condition, Leaves, Turns, Goes, Ends}
 use Rattle.while_lang.proofs.StoreValues.{set_is_store}
 use Rattle.abstraction.specs.Abstracts.{with_goal, HasNumbersInRange}
-use Rattle.abstraction.proofs.ProgramRuns.{chosen_parts, parts_chosen}
+use Rattle.while_lang.proofs.Choices.{chosen_parts, parts_chosen}
 use Rattle.abstraction.proofs.Agreement.{same_agrees}
 use Rattle.abstraction.proofs.DerivedHypotheses.{derived_hold}
 use Rattle.optimiser_theory.specs.Logs.{LogLineParts, FirstStep}

@@ -3,9 +3,6 @@ pub mod NoteForms
 pub mod Spellings
 pub mod Growth
 pub mod Drafts
-pub mod LineSteps
-pub mod Completeness
-pub mod ReadTexts
+pub mod LineFormats
 pub mod Exactness
-pub mod FirstFaults
 pub mod Written

@@ -1,34 +1,22 @@
 -- The forms of the lines of notes, and how the numbers of a line relate to its form.
-use Rattle.std.proofs.Common.{◌≡◌, ℕ, ◌⊎◌, inl, inr, ⊎_elim, List, [], ◌∷◌, map, length, Bool, true, false, cond, Option, Some, None, refl, sym, ap, ◌∙◌, arith, codes}
-use Rattle.std.specs.List.{list_all, list_any}
+use Rattle.std.proofs.Common.{◌≡◌, ℕ, ⊎_elim, List, [], ◌∷◌, map, length, Bool, true, false, cond, Option, Some, None, refl, sym, ap, ◌∙◌, arith, codes}
+use Rattle.std.specs.List.{list_all}
 use Rattle.std.specs.Option.{option_map, option_and_then}
 use Rattle.std.specs.Str.{bytes_eq}
-use Rattle.std.proofs.lemmas.Slice.Eq.{bytes_eq-Decides}
-use Rattle.line_format.specs.Numerals.{is_numeral, value_of, numbers_of, too_wide}
+use Rattle.kat_model.proofs.Options.{some_of_cond, some_of_conds}
+use Rattle.line_format.proofs.LineSteps.{named}
+use Rattle.line_format.proofs.NumberForms.{wide_form, narrow_form, no_form}
+use Rattle.line_format.specs.Numerals.{is_numeral, value_of, numbers_of}
 use Rattle.line_format.specs.Readings.{HasNumbers}
 use Rattle.line_format.specs.declared.numerals.Numbers.{Numbers}
 use Rattle.outline_notes.specs.declared.notes.NoteNode.{NoteNode}
 use Rattle.outline_notes.specs.declared.notes.NoteNode.TheVariants.{False, True, Branch}
 use Rattle.outline_notes.specs.declared.line.NoteLine.{NoteLine}
 use Rattle.outline_notes.specs.declared.line.NoteLine.TheVariants.{Node, Note}
-use Rattle.outline_notes.specs.declared.line.Section.{Section}
 use Rattle.outline_notes.specs.declared.line.Section.TheVariants.{Nodes, Notes}
 use Rattle.outline_notes.specs.Texts.{node_name, node_numbers, line_numbers}
 use Rattle.outline_notes.specs.Forms.{node_of, note_of}
 use Rattle.outline_notes.specs.Faults.{is_wide, section_of}
-
--- a name that compares equal to a word is that word
-pub named : (name word : List ℕ) → bytes_eq name word ≡ true → name ≡ word
-named name word e = (bytes_eq-Decides name word).0 e
-
-two_forms : {N : Type 0} (b c : Bool) (x y n : N) → cond b (Some x) (cond c (Some y) None) ≡ Some n → ((b ≡ true) × (x ≡ n)) ⊎ ((c ≡ true) × (y ≡ n))
-two_forms true c x y n e = inl (refl, cc)
-two_forms false true x y n e = inr (refl, cc)
-two_forms false false x y n e = cc
-
-one_form : {N : Type 0} (b : Bool) (x n : N) → cond b (Some x) None ≡ Some n → (b ≡ true) × (x ≡ n)
-one_form true x n e = (refl, cc)
-one_form false x n e = cc
 
 -- a node is read only from its own name and numbers
 pub node_told : (name ks : List ℕ) (n : NoteNode) → node_of name ks ≡ Some n → (name ≡ node_name n) × (ks ≡ node_numbers n)
@@ -36,11 +24,11 @@ node_told name [] n e =
     ⊎_elim
     (λ p. (named name (codes "false") p.0 ∙ ap node_name p.1, ap node_numbers p.1))
     (λ p. (named name (codes "true") p.0 ∙ ap node_name p.1, ap node_numbers p.1))
-    (two_forms (bytes_eq name (codes "false")) (bytes_eq name (codes "true")) False True n e)
+    (some_of_conds (bytes_eq name (codes "false")) (bytes_eq name (codes "true")) False True n e)
 node_told name (x ∷ []) n e = cc
 node_told name (x ∷ y ∷ []) n e = cc
 node_told name (x ∷ y ∷ z ∷ []) n e =
-    let p = one_form (bytes_eq name (codes "test")) (Branch x y z) n e in
+    let p = some_of_cond (bytes_eq name (codes "test")) (Branch x y z) n e in
     (named name (codes "test") p.0 ∙ ap node_name p.1, ap node_numbers p.1)
 node_told name (x ∷ y ∷ z ∷ w ∷ ks) n e = cc
 
@@ -68,7 +56,7 @@ node_same name (x ∷ w ∷ v ∷ []) [] n h e = absurd (omega arith)
 node_same name (x ∷ w ∷ v ∷ []) (y ∷ []) n h e = absurd (omega arith)
 node_same name (x ∷ w ∷ v ∷ []) (y ∷ z ∷ []) n h e = absurd (omega arith)
 node_same name (x ∷ w ∷ v ∷ []) (y ∷ z ∷ t ∷ []) n h e =
-    some_of_one (bytes_eq name (codes "test")) (Branch y z t) (one_form (bytes_eq name (codes "test")) (Branch x w v) n e).0
+    some_of_one (bytes_eq name (codes "test")) (Branch y z t) (some_of_cond (bytes_eq name (codes "test")) (Branch x w v) n e).0
 node_same name (x ∷ w ∷ v ∷ []) (y ∷ z ∷ t ∷ s ∷ ys) n h e = absurd (omega arith)
 node_same name (x ∷ w ∷ v ∷ u ∷ xs) ys n h e = cc
 
@@ -79,50 +67,17 @@ note_same (x ∷ []) (y ∷ []) l h e = (Note y, refl)
 note_same (x ∷ []) (y ∷ z ∷ ys) l h e = absurd (omega arith)
 note_same (x ∷ w ∷ xs) ys l h e = cc
 
--- words that are numerals spell their values
-numbers_of_all : (ws : List (List ℕ)) → list_all is_numeral ws ≡ true → numbers_of ws ≡ Some (map value_of ws)
-numbers_of_all ws e = rw e refl
-
--- the content of a line of numbers
-module _ {N : Type 0} (form_of : List ℕ → Option N) (made : N → NoteLine) (section : Section)
-    (same : (xs ys : List ℕ) (n : N) → length xs ≡ length ys → form_of xs ≡ Some n → (m : N) × (form_of ys ≡ Some m))
-    (told : (ks : List ℕ) (n : N) → form_of ks ≡ Some n → (ks ≡ line_numbers (made n)) × (section_of (made n) ≡ section)) where
-  abbrev pub read_form : List (List ℕ) → Option NoteLine
-  read_form ws = option_map made (option_and_then form_of (numbers_of ws))
-
-  form_at : (ws : List (List ℕ)) (o : Option N) → list_all is_numeral ws ≡ true → form_of (map value_of ws) ≡ o → read_form ws ≡ option_map made o
-  form_at ws o e f = rw (numbers_of_all ws e, f) refl
-
-  pub no_form : (ws : List (List ℕ)) (v : Numbers) → list_all is_numeral ws ≡ true → HasNumbers (map value_of ws) v → form_of v.values.items ≡ None → read_form ws ≡ None
-  no_form ws v e has none = form_at ws None e (by_cases (form_of (map value_of ws)) refl)
-    where
-      by_cases : (o : Option N) → form_of (map value_of ws) ≡ o → form_of (map value_of ws) ≡ None
-      by_cases None is = is
-      by_cases (Some n) is = let other = same (map value_of ws) v.values.items n (sym has.count) is in let clash : None ≡ Some other.0 = sym none ∙ other.1 in cc
-
-  pub wide_form : (ws : List (List ℕ)) (v : Numbers) (n : N) → list_all is_numeral ws ≡ true → HasNumbers (map value_of ws) v → form_of v.values.items ≡ Some n → v.wide ≡ true → (l : NoteLine) × (read_form ws ≡ Some l) × (is_wide l ≡ true) × (section_of l ≡ section)
-  wide_form ws v n e has is wide =
-      let other = same v.values.items (map value_of ws) n has.count is in
-      let both = told (map value_of ws) other.0 other.1 in
-      (made other.0, form_at ws (Some other.0) e other.1, ap (λ l. list_any too_wide l) (sym both.0) ∙ sym has.wide ∙ wide, both.1)
-
-  pub narrow_form : (ws : List (List ℕ)) (v : Numbers) (n : N) → list_all is_numeral ws ≡ true → HasNumbers (map value_of ws) v → form_of v.values.items ≡ Some n → v.wide ≡ false → (read_form ws ≡ Some (made n)) × (is_wide (made n) ≡ false)
-  narrow_form ws v n e has is narrow =
-      let there : form_of (map value_of ws) ≡ Some n = ap form_of (sym (has.values narrow)) ∙ is in
-      let ks = (told (map value_of ws) n there).0 in
-      (form_at ws (Some n) e there, ap (λ l. list_any too_wide l) (sym ks) ∙ sym has.wide ∙ narrow)
-
-node_told_line : (name : List ℕ) (ks : List ℕ) (n : NoteNode) → node_of name ks ≡ Some n → (ks ≡ line_numbers (Node n)) × (section_of (Node n) ≡ Nodes)
+pub node_told_line : (name : List ℕ) (ks : List ℕ) (n : NoteNode) → node_of name ks ≡ Some n → (ks ≡ line_numbers (Node n)) × (section_of (Node n) ≡ Nodes)
 node_told_line name ks n e = ((node_told name ks n e).1, refl)
 
 pub wide_node : (name : List ℕ) (ws : List (List ℕ)) (v : Numbers) (n : NoteNode) → list_all is_numeral ws ≡ true → HasNumbers (map value_of ws) v → node_of name v.values.items ≡ Some n → v.wide ≡ true → (l : NoteLine) × (option_map Node (option_and_then (node_of name) (numbers_of ws)) ≡ Some l) × (is_wide l ≡ true) × (section_of l ≡ Nodes)
-wide_node name = wide_form (node_of name) Node Nodes (node_same name) (node_told_line name)
+wide_node name = wide_form line_numbers section_of (node_of name) Node Nodes (node_same name) (node_told_line name)
 
 pub narrow_node : (name : List ℕ) (ws : List (List ℕ)) (v : Numbers) (n : NoteNode) → list_all is_numeral ws ≡ true → HasNumbers (map value_of ws) v → node_of name v.values.items ≡ Some n → v.wide ≡ false → (option_map Node (option_and_then (node_of name) (numbers_of ws)) ≡ Some (Node n)) × (is_wide (Node n) ≡ false)
-narrow_node name = narrow_form (node_of name) Node Nodes (node_same name) (node_told_line name)
+narrow_node name = narrow_form line_numbers section_of (node_of name) Node Nodes (node_same name) (node_told_line name)
 
 pub no_node : (name : List ℕ) (ws : List (List ℕ)) (v : Numbers) → list_all is_numeral ws ≡ true → HasNumbers (map value_of ws) v → node_of name v.values.items ≡ None → option_map Node (option_and_then (node_of name) (numbers_of ws)) ≡ None
-no_node name = no_form (node_of name) Node Nodes (node_same name) (node_told_line name)
+no_node name = no_form line_numbers section_of (node_of name) Node Nodes (node_same name) (node_told_line name)
 
 -- the same for notes
 own_line : (o : Option NoteLine) → option_map (λ (l : NoteLine). l) o ≡ o
@@ -131,13 +86,13 @@ own_line (Some l) = refl
 
 pub wide_note : (ws : List (List ℕ)) (v : Numbers) (l : NoteLine) → list_all is_numeral ws ≡ true → HasNumbers (map value_of ws) v → note_of v.values.items ≡ Some l → v.wide ≡ true → (m : NoteLine) × (option_and_then note_of (numbers_of ws) ≡ Some m) × (is_wide m ≡ true) × (section_of m ≡ Notes)
 wide_note ws v l e has is wide =
-    let t = wide_form note_of (λ (m : NoteLine). m) Notes note_same note_told ws v l e has is wide in
+    let t = wide_form line_numbers section_of note_of (λ (m : NoteLine). m) Notes note_same note_told ws v l e has is wide in
     (t.0, sym (own_line (option_and_then note_of (numbers_of ws))) ∙ t.1, t.2, t.3)
 
 pub narrow_note : (ws : List (List ℕ)) (v : Numbers) (l : NoteLine) → list_all is_numeral ws ≡ true → HasNumbers (map value_of ws) v → note_of v.values.items ≡ Some l → v.wide ≡ false → (option_and_then note_of (numbers_of ws) ≡ Some l) × (is_wide l ≡ false)
 narrow_note ws v l e has is narrow =
-    let t = narrow_form note_of (λ (m : NoteLine). m) Notes note_same note_told ws v l e has is narrow in
+    let t = narrow_form line_numbers section_of note_of (λ (m : NoteLine). m) Notes note_same note_told ws v l e has is narrow in
     (sym (own_line (option_and_then note_of (numbers_of ws))) ∙ t.0, t.1)
 
 pub no_note : (ws : List (List ℕ)) (v : Numbers) → list_all is_numeral ws ≡ true → HasNumbers (map value_of ws) v → note_of v.values.items ≡ None → option_and_then note_of (numbers_of ws) ≡ None
-no_note ws v e has none = sym (own_line (option_and_then note_of (numbers_of ws))) ∙ no_form note_of (λ (m : NoteLine). m) Notes note_same note_told ws v e has none
+no_note ws v e has none = sym (own_line (option_and_then note_of (numbers_of ws))) ∙ no_form line_numbers section_of note_of (λ (m : NoteLine). m) Notes note_same note_told ws v e has none

@@ -7,21 +7,26 @@ use Rattle.std.specs.Str.{bytes_eq}
 use Rattle.line_format.specs.Lines.{words_of, line_of}
 use Rattle.line_format.specs.Numerals.{numbers_of}
 use Rattle.line_format.proofs.Splits.{LacksByte}
-use Rattle.line_format.proofs.Words.{AreNarrow, numbers_back, numbers_told, IsWord, AreWords, decimals_words, words_back, line_back, line_lacks}
+use Rattle.line_format.proofs.Words.{AreNarrow, numbers_back, numbers_told, IsWord, AreLineWords, decimals_words, words_back, line_back, line_lacks}
 use Rattle.outline_notes.specs.declared.notes.NoteNode.{NoteNode}
 use Rattle.outline_notes.specs.declared.notes.NoteNode.TheVariants.{False, True, Branch}
 use Rattle.outline_notes.specs.declared.line.NoteLine.{NoteLine}
 use Rattle.outline_notes.specs.declared.line.NoteLine.TheVariants.{Node, Note}
 use Rattle.outline_notes.specs.Texts.{node_name, node_numbers, line_words, line_numbers, IsNarrow}
 use Rattle.outline_notes.specs.Forms.{node_of, note_of, node_of_words, line_of_words, read_line}
-use Rattle.outline_notes.proofs.NoteForms.{named, node_told, node_made, note_told}
+use Rattle.line_format.proofs.LineSteps.{named}
+use Rattle.kat_model.proofs.Options.{some_of_then}
+use Rattle.line_format.proofs.NumberForms.{form_told}
+use Rattle.outline_notes.specs.declared.line.Section.TheVariants.{Nodes}
+use Rattle.outline_notes.specs.Faults.{section_of}
+use Rattle.outline_notes.proofs.NoteForms.{node_told, node_same, node_told_line, node_made, note_told}
 
 node_name_word : (n : NoteNode) → IsWord (node_name n)
 node_name_word False = refl
 node_name_word True = refl
 node_name_word (Branch k x y) = refl
 
-line_are_words : (l : NoteLine) → IsNarrow l → AreWords (line_words l)
+line_are_words : (l : NoteLine) → IsNarrow l → AreLineWords (line_words l)
 line_are_words (Node n) narrow = (refl, (node_name_word n, decimals_words (node_numbers n) narrow))
 line_are_words (Note k) narrow = (refl, decimals_words (k ∷ []) narrow)
 
@@ -29,22 +34,12 @@ line_of_its_words : (l : NoteLine) → IsNarrow l → line_of_words (line_words 
 line_of_its_words (Node n) narrow = ap (λ o. option_map Node (option_and_then (node_of (node_name n)) o)) (numbers_back (node_numbers n) narrow) ∙ ap (option_map Node) (node_made n)
 line_of_its_words (Note k) narrow = ap (option_and_then note_of) (numbers_back (k ∷ []) narrow)
 
-first_of_line : (l : NoteLine) → (w : List ℕ) × (ws : List (List ℕ)) × (line_words l ≡ w ∷ ws)
-first_of_line (Node n) = (_, _, refl)
-first_of_line (Note k) = (_, _, refl)
-
 -- reading the words of a line, or the line, gives its content
 pub line_read : (l : NoteLine) → IsNarrow l → read_line (line_of (line_words l)) ≡ Some l
-line_read l narrow =
-    let first = first_of_line l in
-    let words = subst AreWords first.2 (line_are_words l narrow) in
-    ap (λ ws. read_line (line_of ws)) first.2 ∙ ap line_of_words (words_back first.0 first.1 words) ∙ ap line_of_words (sym first.2) ∙ line_of_its_words l narrow
+line_read l narrow = ap line_of_words (words_back (line_words l) (line_are_words l narrow)) ∙ line_of_its_words l narrow
 
 pub line_lacks_feed : (l : NoteLine) → IsNarrow l → LacksByte 10 (line_of (line_words l))
-line_lacks_feed l narrow =
-    let first = first_of_line l in
-    let words = subst AreWords first.2 (line_are_words l narrow) in
-    subst (λ ws. LacksByte 10 (line_of ws)) (sym first.2) (line_lacks first.0 first.1 words)
+line_lacks_feed l narrow = line_lacks (line_words l) (line_are_words l narrow)
 
 -- no line of a node or a note is the line `end`
 pub line_not_end : (l : NoteLine) → bytes_eq (line_of (line_words l)) (codes "end") ≡ false
@@ -52,14 +47,6 @@ line_not_end (Node n) = refl
 line_not_end (Note k) = refl
 
 -- ---- a line that is read has its spelling
-
-some_of_map : {X Y : Type 0} (f : X → Y) (o : Option X) (y : Y) → option_map f o ≡ Some y → (x : X) × (o ≡ Some x) × (f x ≡ y)
-some_of_map f None y e = cc
-some_of_map f (Some x) y e = (x, refl, cc)
-
-some_of_then : {X Y : Type 0} (f : X → Option Y) (o : Option X) (y : Y) → option_and_then f o ≡ Some y → (x : X) × (o ≡ Some x) × (f x ≡ Some y)
-some_of_then f None y e = cc
-some_of_then f (Some x) y e = (x, refl, e)
 
 -- the two cases of a line, by its first word
 two_kinds : (a b : Bool) (x y : Option NoteLine) (l : NoteLine) → cond a x (cond b y None) ≡ Some l → ((a ≡ true) × (x ≡ Some l)) ⊎ ((b ≡ true) × (y ≡ Some l))
@@ -70,11 +57,8 @@ two_kinds false false x y l h = cc
 node_line_told : (kind : List ℕ) (ws : List (List ℕ)) (l : NoteLine) → IsNarrow l → kind ≡ codes "D" → node_of_words ws ≡ Some l → kind ∷ ws ≡ line_words l
 node_line_told kind [] l narrow is h = cc
 node_line_told kind (name ∷ ws) l narrow is h =
-    let made = some_of_map Node (option_and_then (node_of name) (numbers_of ws)) l h in
-    let read = some_of_then (node_of name) (numbers_of ws) made.0 made.1 in
-    let told = node_told name read.0 made.0 read.2 in
-    let small = subst AreNarrow (sym told.1) (subst (λ m. AreNarrow (line_numbers m)) (sym made.2) narrow) in
-    ap₂ (λ k ls. k ∷ ls) is (ap₂ (λ n ls. n ∷ ls) told.0 (numbers_told ws read.0 read.1 small ∙ ap (map decimal) told.1)) ∙ ap line_words made.2
+    let told = form_told line_numbers section_of (node_of name) Node Nodes (node_same name) (node_told_line name) ws l narrow h in
+    ap₂ (λ k ls. k ∷ ls) is (ap₂ (λ n ls. n ∷ ls) (node_told name told.1 told.0 told.2).0 told.3) ∙ ap line_words told.4
 
 note_words : (ks : List ℕ) (l : NoteLine) → note_of ks ≡ Some l → codes "C" ∷ map decimal ks ≡ line_words l
 note_words [] l e = cc

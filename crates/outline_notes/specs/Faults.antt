@@ -1,11 +1,11 @@
 -- The first fault of a text that is not the text of notes.
-use Rattle.std.specs.Prelude.{ℕ, ◌+◌, Bool, true, false, not, ◌&&◌, ◌==◌, nat_lt, if◌then◌else◌, List, [], ◌∷◌, ◌++◌, length, codes, Option, Some, None, unwrap_or, Result, Ok, Err}
+use Rattle.std.specs.Prelude.{ℕ, Bool, true, false, ◌&&◌, ◌==◌, nat_lt, if◌then◌else◌, List, [], ◌∷◌, ◌++◌, length, Option, Result, Err}
 use Rattle.std.specs.List.{list_any, list_all}
-use Rattle.std.specs.Option.{option_or, option_map}
 use Rattle.std.specs.Result.{result_err}
 use Rattle.std.specs.Str.{bytes_eq}
 use Rattle.line_format.specs.Lines.{parts_of}
 use Rattle.line_format.specs.Numerals.{too_wide}
+use Rattle.line_format.specs.NumberedLines.{FaultNames, LineFormat, fault_after, lines_from, first_then}
 use Rattle.outline_notes.specs.declared.notes.NoteNode.{NoteNode}
 use Rattle.outline_notes.specs.declared.notes.NoteNode.TheVariants.{False, True, Branch}
 use Rattle.outline_notes.specs.declared.line.NoteLine.{NoteLine}
@@ -15,7 +15,7 @@ use Rattle.outline_notes.specs.declared.line.Section.TheVariants.{Nodes, Notes}
 use Rattle.outline_notes.specs.declared.fault.NotesFault.{NotesFault}
 use Rattle.outline_notes.specs.declared.fault.NotesFault.TheVariants.{Header, Line, NodeOrder, DoubleNode, NumberTooWide, Truncated, Trailing}
 use Rattle.outline_notes.specs.NoteLists.{NotesParts, notes_of, node_parts}
-use Rattle.outline_notes.specs.Texts.{line_numbers, heading}
+use Rattle.outline_notes.specs.Texts.{line_words, line_numbers, heading, note_lines}
 use Rattle.outline_notes.specs.Forms.{read_line}
 
 abbrev pub is_wide : NoteLine → Bool
@@ -55,62 +55,52 @@ abbrev pub stands_already : NotesParts → NoteLine → Bool
 stands_already ns (Node n) = list_any (same_node n) ns.nodes
 stands_already ns (Note k) = false
 
-abbrev pub fault_where : Bool → NotesFault → Option NotesFault
-fault_where wrong fault = if wrong then Some fault else None
-
--- the fault of line n, which has content `l`, after the lines of ns
-abbrev pub line_fault_of : NotesParts → ℕ → NoteLine → Option NotesFault
-line_fault_of ns n l =
-    option_or (fault_where (not (may_stand ns (section_of l))) (Line n))
-    (option_or (fault_where (is_wide l) (NumberTooWide n))
-    (option_or (fault_where (not (names_earlier ns l)) (NodeOrder n))
-    (fault_where (stands_already ns l) (DoubleNode n))))
-
 -- the notes with an additional line
 abbrev pub with_line : NotesParts → NoteLine → NotesParts
 with_line ns (Node n) = notes_of (ns.nodes ++ n ∷ []) ns.notes
 with_line ns (Note k) = notes_of ns.nodes (ns.notes ++ k ∷ [])
 
+-- the faults of a text by their names; no line has a fault besides them
+abbrev pub fault_names : FaultNames NotesFault
+fault_names = record { header = Header; line = Line; wide = NumberTooWide; order = NodeOrder; double = DoubleNode; last = Line; truncated = Truncated; trailing = Trailing }
+
+-- the lines of nodes and notes as a format of numbered lines
+abbrev pub note_format : LineFormat NoteLine NotesParts NotesParts NotesFault
+note_format = record {
+  faults = fault_names;
+  words = line_words;
+  read = read_line;
+  numbers = line_numbers;
+  is_allowed = λ ns l. may_stand ns (section_of l);
+  names_earlier = names_earlier;
+  occurs_already = stands_already;
+  last_test = λ l. true;
+  with_line = with_line;
+  lines = note_lines;
+  value = λ ns. ns;
+}
+
+-- the fault of line n after the lines of ns: it has no form, or its content has a fault
+abbrev pub line_fault_after : NotesParts → ℕ → Option NoteLine → Option NotesFault
+line_fault_after ns n o = fault_after note_format ns n o
+
 -- notes, or the first fault of a text
 abbrev pub Answer : Type 0
 Answer = Result NotesParts NotesFault
 
--- A text is the list of its parts between line feeds. Each part but the last is a complete line. If no part follows,
--- the text ends too early.
-abbrev pub or_truncated : List (List ℕ) → Answer → Answer
-or_truncated [] answer = Err Truncated
-or_truncated (part ∷ parts) answer = answer
-
--- the answer after the line `end`: the text must end where line n would begin
-abbrev pub ended : NotesParts → ℕ → List (List ℕ) → Answer
-ended ns n [] = Err (Trailing n)
-ended ns n ([] ∷ []) = Ok ns
-ended ns n ([] ∷ part ∷ parts) = Err (Trailing n)
-ended ns n ((b ∷ bs) ∷ parts) = Err (Trailing n)
-
--- the fault of line n after the lines of ns: it has no form, or its content has a fault
-abbrev pub line_fault_after : NotesParts → ℕ → Option NoteLine → Option NotesFault
-line_fault_after ns n None = Some (Line n)
-line_fault_after ns n (Some l) = line_fault_of ns n l
-
--- the fault of a line, or the answer for the lines after it
-abbrev pub after_line : NotesParts → ℕ → Option NoteLine → (NotesParts → Answer) → Answer
-after_line ns n None more = Err (Line n)
-after_line ns n (Some l) more = unwrap_or (option_map Err (line_fault_of ns n l)) (more (with_line ns l))
-
--- the answer for the lines from line n on, after the lines of ns
-abbrev pub notes_from : NotesParts → ℕ → List (List ℕ) → Answer
-notes_from ns n [] = Err Truncated
-notes_from ns n (line ∷ parts) =
-    or_truncated parts (if bytes_eq line (codes "end") then ended ns (n + 1) parts else after_line ns n (read_line line) (λ more. notes_from more (n + 1) parts))
-
 abbrev pub no_lines : NotesParts
 no_lines = notes_of [] []
 
--- the answer for all lines: line 1 must be the heading
+-- the answer for the lines from line n on, after the lines of ns
+abbrev pub notes_from : NotesParts → ℕ → List (List ℕ) → Answer
+notes_from ns n parts = lines_from note_format ns n parts
+
+-- the answer for a first line, which must be the heading, and the parts after it
+abbrev pub after_heading : List ℕ → List (List ℕ) → Answer
+after_heading line parts = if bytes_eq line heading then notes_from no_lines 2 parts else Err Header
+
 abbrev pub all_from : List (List ℕ) → Answer
-all_from [] = Err Truncated
-all_from (line ∷ parts) = or_truncated parts (if bytes_eq line heading then notes_from no_lines 2 parts else Err Header)
+all_from parts = first_then fault_names after_heading parts
 
 -- the answer for a text
 abbrev pub answer_of : List ℕ → Answer

@@ -1,14 +1,16 @@
 //! Notes during reading.
 ghost use Rattle.std.specs.Prelude.{◌≡◌, ◌&&◌, Some, false};
-ghost use Rattle.outline_notes.specs.NoteLists.{node_parts};
-ghost use Rattle.outline_notes.specs.Forms.{read_line};
-ghost use Rattle.outline_notes.specs.Faults.{are_below, no_lines, may_stand, is_wide, names_earlier};
-ghost use Rattle.outline_notes.specs.Working.Readings.{TellsApart, IsReflexive, draft_parts, IsDraft, MayBeAdded, AddsLine};
+ghost use Rattle.outline_notes.specs.NoteLists.{NotesParts, node_parts};
+ghost use Rattle.outline_notes.specs.Faults.{are_below, no_lines, may_stand, is_wide, names_earlier, note_format};
+ghost use Rattle.line_format.specs.KnownLines.{TellsApart, IsReflexive};
+ghost use Rattle.outline_notes.specs.Working.Readings.{draft_parts, IsDraft, MayBeAdded, AddsLine, unless_memory, is_told, is_passed_on};
+ghost use Rattle.outline_notes.specs.declared.line.NoteLine.{NoteLine};
 ghost use Rattle.outline_notes.specs.declared.line.NoteLine.TheVariants.{Node, Note};
 
 use crate::fault::NotesFault;
 use crate::line::{LineFault, NoteLine, Section, read_line};
 use crate::notes::{NoteNode, Notes};
+use line_format::LineDraft;
 use std::alloc::Global;
 use std::collections::BTreeSet;
 
@@ -45,19 +47,6 @@ impl Draft {
             notes: Vec::new(alloc),
             known: BTreeSet::new(alloc),
         }
-    }
-
-    // Returns the notes with these lines.
-    pub(crate) fn into_notes(self) -> Notes
-        requires { IsDraft self }
-        ensures { result ≡ draft_parts self }
-    {
-        let Draft {
-            nodes,
-            notes,
-            known: _,
-        } = self;
-        Notes::of_parts(nodes, notes)
     }
 
     fn may_stand(&self, section: Section) -> bool
@@ -118,12 +107,26 @@ impl Draft {
             NoteLine::Note(node) => self.add_note(node, number),
         }
     }
+}
 
-    // Adds the content of line `number`. After a fault the draft is of no use.
-    pub(crate) fn add(&mut self, alloc: Global, line: &[u8], number: u64) -> Result<(), NotesFault>
-        requires { IsDraft self.old }
-        ensures { AddsLine self.old number (read_line line.now) self.new result }
-    {
+impl LineDraft for Draft {
+    type Value = Notes;
+
+    type Fault = NotesFault;
+
+    ghost L = { NoteLine };
+
+    ghost D = { NotesParts };
+
+    ghost format = { note_format };
+
+    ghost unless = { unless_memory };
+
+    ghost parts = { draft_parts };
+
+    ghost Keeps = { IsDraft };
+
+    fn add(&mut self, alloc: Global, line: &[u8], number: u64) -> Result<(), NotesFault> {
         match read_line(alloc, line) {
             Ok(line) => self.add_line(line, number),
             Err(LineFault::NoMemory) => Err(NotesFault::NoMemory),
@@ -136,4 +139,25 @@ impl Draft {
             }
         }
     }
+
+    fn finish(self) -> Notes {
+        let Draft {
+            nodes,
+            notes,
+            known: _,
+        } = self;
+        Notes::of_parts(nodes, notes)
+    }
+
+    fn truncated() -> NotesFault {
+        NotesFault::Truncated
+    }
+
+    fn trailing(number: u64) -> NotesFault {
+        NotesFault::Trailing(number)
+    }
+
+    ghost is_told = { is_told };
+
+    ghost is_passed_on = { is_passed_on };
 }

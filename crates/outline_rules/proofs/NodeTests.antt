@@ -1,7 +1,7 @@
 -- The search finds the least node whose test is out of range.
-use Rattle.std.proofs.Common.{◌≡◌, ℕ, ◌<◌, ◌≤◌, List, Bool, true, false, not, nat_lt, Option, Some, None, get_or, position, refl, sym, ap, ◌∙◌}
+use Rattle.std.proofs.Common.{◌≡◌, ℕ, ◌<◌, ◌≤◌, List, Bool, true, false, nat_lt, Option, Some, None, get_or, position, refl, sym, ap, ◌∙◌}
 use Rattle.std.specs.Option.{IfSome, IfNone}
-use Rattle.std.proofs.lemmas.Bool.{ltb-true, ltb-false}
+use Rattle.std.proofs.lemmas.Bool.{ltb-true, ltb-false, not-true, not-false}
 use Rattle.std.proofs.lemmas.Option.{slice_get-get_or, get_or_from_slice_get}
 use Rattle.std.proofs.lemmas.List.Quantifiers.{position-Some}
 use Rattle.kat_model.proofs.Lists.{any_has}
@@ -16,19 +16,11 @@ use Rattle.outline_rules.specs.Working.Sets.{tests_out}
 branch_out : (tests : ℕ) (node : NoteNode) → tests_out tests node ≡ true → (test : ℕ) × (low : ℕ) × (high : ℕ) × (node ≡ Branch test low high) × (tests ≤ test)
 branch_out tests False e = cc
 branch_out tests True e = cc
-branch_out tests (Branch test low high) e = (test, low, high, refl, ltb-false test tests (was_false (nat_lt test tests) e))
-  where
-    was_false : (b : Bool) → not b ≡ true → b ≡ false
-    was_false true e = cc
-    was_false false e = refl
+branch_out tests (Branch test low high) e = (test, low, high, refl, ltb-false test tests (not-true (nat_lt test tests) e))
 
 -- a branch that is not out of range is on a test of the problem
 not_out : (tests test low high : ℕ) → tests_out tests (Branch test low high) ≡ false → test < tests
-not_out tests test low high e = ltb-true test tests (was_true (nat_lt test tests) e)
-  where
-    was_true : (b : Bool) → not b ≡ false → b ≡ true
-    was_true true e = refl
-    was_true false e = cc
+not_out tests test low high e = ltb-true test tests (not-false (nat_lt test tests) e)
 
 pub out_least : (tests : ℕ) (nodes : List NoteNode) (k : ℕ) → position (tests_out tests) nodes ≡ Some k → IsOutOfRange tests nodes k
 out_least tests nodes k e =

@@ -14,11 +14,11 @@ use Rattle.goal_forms.specs.Sides.{SideTrees, failing_run}
 use Rattle.while_lang.specs.Flows.{FlowTree, empty, skip_then, abort_then, assert_then, act_then, branch_then, loop_then}
 use Rattle.while_lang.specs.Encoding.{stmt_terms, encoded}
 use Rattle.outline_notes.specs.NoteLists.{NotesParts, note_holds}
-use Rattle.simple_hyps.specs.TestTerms.{IsAllowed, IsRuledOut}
+use Rattle.hypothesis_kinds.specs.TestTerms.{IsAllowed, IsRuledOut}
 use Rattle.outline_rules.specs.Tasks.{TaskParts, IsTripleOf}
 use Rattle.outline_rules.specs.Places.{last_place}
 use Rattle.outline_rules.specs.Follows.{Condition, starts, implies, leads, ends, conditions_from, conditions, IsMet, Follows}
-use Rattle.simple_hyps.proofs.StepForms.{test_term_relates, ruled_out_relates}
+use Rattle.hypothesis_kinds.proofs.StepForms.{test_relates, ruled_out_relates}
 
 module _ (q : ProblemParts) (note : ℕ → Atom → Bool) (t : Table) (is_table : IsTable q.tests q.actions t) (keeps : Keeps t q.hyps) where
   abbrev AllMet : List Condition → Type 0
@@ -35,7 +35,7 @@ module _ (q : ProblemParts) (note : ℕ → Atom → Bool) (t : Table) (is_table
   allowed i lt h has is_test = by_value (out h (atom_at t i)) refl
     where
       by_value : (b : Bool) → out h (atom_at t i) ≡ b → out h (atom_at t i) ≡ false
-      by_value true e = absurd (keeps h has i i lt lt (test_term_relates (frame_of t) h i lt is_test e))
+      by_value true e = absurd (keeps h has i i lt lt (test_relates (frame_of t) h i lt is_test e))
       by_value false e = e
 
   -- no move of the table is ruled out

@@ -9,7 +9,7 @@ ghost use Rattle.outline_diagrams.specs.declared.moments.Moment.{Moment};
 ghost use Rattle.outline_diagrams.specs.declared.moments.Moment.TheVariants.{Before};
 ghost use Rattle.outline_diagrams.specs.StepFunctions.{step_value, IsStepId, IsStepDiagram, KeepsSteps, AreStepDiagrams};
 ghost use Rattle.outline_notes.specs.NoteLists.{AreNotes, node_holds, note_holds};
-ghost use Rattle.simple_hyps.specs.TestTerms.{AreSimple};
+ghost use Rattle.hypothesis_kinds.specs.TestTerms.{AreSimple};
 ghost use Rattle.outline_rules.specs.Tasks.{task_parts, IsTripleOf};
 ghost use Rattle.outline_rules.specs.Places.{last_place};
 ghost use Rattle.outline_rules.specs.Follows.{starts, ends, conditions, target, IsMet, HasTests};
@@ -21,9 +21,8 @@ use crate::answer::{NoteAnswer, NoteReason};
 use crate::checks::{Check, Guard, next_place, push_checks};
 use crate::task::Task;
 use kat_model::{NoMemory, Problem, Test};
-use outline_diagrams::{DiagramId, Moment, StepDiagrams};
+use outline_diagrams::{DiagramId, Moment, StepDiagrams, allowed_atoms, ruled_out_steps};
 use outline_notes::{NoteNode, Notes};
-use simple_hyps::{allowed_atoms, ruled_out_steps};
 use std::alloc::Global;
 
 // The set of the allowed atoms at a moment, and the set of each node of the notes there.

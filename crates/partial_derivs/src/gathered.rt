@@ -56,7 +56,8 @@ impl Gathered {
         }
     }
 
-    // Adds a move, unless its guard is always false.
+    // Adds a move, unless its guard is always false. No clause requires the omission; without it each product has all
+    // moves of its second factor, most of which are never taken.
     fn add(
         &mut self,
         diagrams: &mut Diagrams,

@@ -7,7 +7,7 @@ use Rattle.text_grammar.specs.Parsed.{Parsed, ◌>>=◌, Reads, Wants}
 use Rattle.while_lang.specs.Blocks.{block, parse_block}
 use Rattle.while_lang.specs.BlockScans.{scanning_blocks, scan_block}
 use Rattle.while_lang.specs.BlockFaults.{IsBlockFault}
-use Rattle.while_lang.proofs.ScannedBlocks.{ended}
+use Rattle.text_grammar.proofs.Scanned.{ended}
 
 abbrev fault_of : Result (List Lexeme) TextFault → TextFault
 fault_of (Ok ts) = NoMemory

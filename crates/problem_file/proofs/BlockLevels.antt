@@ -1,5 +1,6 @@
 -- A block that is well scoped and within the depth limit is not too deep after the programs that it names are expanded.
 use Rattle.std.proofs.Common.{ℕ, ◌+◌, ◌≤◌, max, true, false, List, slice_get, Option, Some, None, arith}
+use Rattle.kat_model.specs.declared.limits.TheConstants.{MAX_OPEN}
 use Rattle.text_grammar.specs.Actions.{context}
 use Rattle.text_scopes.specs.declared.meaning.Meaning.{Meaning}
 use Rattle.text_scopes.specs.declared.meaning.Meaning.TheVariants.{Test, Action, Var, Term, Prog}
@@ -10,11 +11,11 @@ use Rattle.while_lang.specs.BlockPhrases.{BlockSymbol, BlockPhrase, braced, no_s
 use Rattle.while_lang.specs.BlockSound.{IsShallow, IsStmtName, BlockIsSound, prog_nesting, name_nesting, block_nesting}
 use Rattle.problem_file.proofs.Nestings.{nesting_fits, most, deeper, flat, next}
 
-prog_fits : (d : ℕ) (o : Option ProgParts) → IsShallow d o → d ≤ 200 → d + prog_nesting o ≤ 200
+prog_fits : (d : ℕ) (o : Option ProgParts) → IsShallow d o → d ≤ MAX_OPEN → d + prog_nesting o ≤ MAX_OPEN
 prog_fits d None sound le = omega (arith, le)
 prog_fits d (Some p) sound le = sound
 
-stmt_fits : (ps : List ProgParts) (d : ℕ) (o : Option Meaning) → IsStmtName ps d o → d ≤ 200 → d + name_nesting ps o ≤ 200
+stmt_fits : (ps : List ProgParts) (d : ℕ) (o : Option Meaning) → IsStmtName ps d o → d ≤ MAX_OPEN → d + name_nesting ps o ≤ MAX_OPEN
 stmt_fits ps d None sound le = absurd sound
 stmt_fits ps d (Some (Test k)) sound le = absurd sound
 stmt_fits ps d (Some (Action a)) sound le = omega (arith, le)
@@ -23,7 +24,7 @@ stmt_fits ps d (Some (Term i)) sound le = absurd sound
 stmt_fits ps d (Some (Prog i)) sound le = prog_fits d (slice_get ps i) sound le
 
 module _ (w : ScopeParts) (ps : List ProgParts) where
-  pub block_fits : (d : ℕ) {x : BlockSymbol} (p : BlockPhrase x) → BlockIsSound w ps d p → BlockFits d p → d ≤ 200 → d + block_nesting w ps p ≤ 200
+  pub block_fits : (d : ℕ) {x : BlockSymbol} (p : BlockPhrase x) → BlockIsSound w ps d p → BlockFits d p → d ≤ MAX_OPEN → d + block_nesting w ps p ≤ MAX_OPEN
   block_fits d (braced l ss r) s f le = deeper d (block_nesting w ps ss) (block_fits (d + 1) ss s f.1 (next d f.0))
   block_fits d no_stmts s f le = flat d le
   block_fits d (more_stmts t ss) s f le = most d (block_nesting w ps t) (block_nesting w ps ss) (block_fits d t s.0 f.0 le) (block_fits d ss s.1 f.1 le)

@@ -1,5 +1,6 @@
 -- The programs of blocks use only declared tests, actions and variables.
 use Rattle.std.proofs.Common.{◌≡◌, ℕ, ◌+◌, ◌<◌, List, [], ◌∷◌, ◌++◌, Bool, true, false, nat_lt, cond as if_true, slice_get, Option, Some, None, Ok, Err, refl, subst}
+use Rattle.kat_model.specs.declared.limits.TheConstants.{MAX_OPEN}
 use Rattle.text_tokens.specs.declared.fault.TextFault.TheVariants.{TooDeep}
 use Rattle.text_grammar.specs.Parsed.{◌>>=◌}
 use Rattle.text_grammar.specs.Actions.{context}
@@ -26,7 +27,7 @@ abbrev pub ProgsInRange : List ProgParts → ℕ → ℕ → ℕ → Type 0
 ProgsInRange ps t a v = (i : ℕ) (p : ProgParts) → slice_get ps i ≡ Some p → IsProgInRange t a v p.tree
 
 entered : (d e at : ℕ) → enter d at ≡ Ok e → d + 1 ≡ e
-entered d e at h = by_depth (nat_lt d 200) h where
+entered d e at h = by_depth (nat_lt d MAX_OPEN) h where
   by_depth : (b : Bool) → if_true b (Ok (d + 1)) (Err (TooDeep at)) ≡ Ok e → d + 1 ≡ e
   by_depth true k = same_ok (d + 1) e k
   by_depth false k = absurd cc

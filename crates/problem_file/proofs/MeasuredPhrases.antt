@@ -1,6 +1,7 @@
 -- The measures and trees of phrases whose syntax is correct.
-use Rattle.std.proofs.Common.{◌≡◌, ℕ, ◌≤◌, List, [], ◌∷◌, Bool, true, false, nat_lt, cond as if_true, Result, Ok, Err, IsOk, refl, sym, ap, subst, ◌∙◌, arith}
+use Rattle.std.proofs.Common.{◌≡◌, ℕ, ◌≤◌, List, [], ◌∷◌, Bool, true, false, nat_lt, cond as if_true, Result, Ok, Err, IsOk, refl, sym, ap, subst, ◌∙◌, arith, ◌+◌}
 use Rattle.std.proofs.lemmas.Bool.{ltb-true, ltb-false}
+use Rattle.kat_model.specs.declared.limits.TheConstants.{MAX_TERM_NODES, MAX_EXPR_NODES}
 use Rattle.kat_model.specs.Trees.{Term, test_size, term_size}
 use Rattle.kat_model.specs.Expressions.{CondTree, test_without_comparisons}
 use Rattle.text_tokens.specs.declared.fault.TextFault.{TextFault}
@@ -46,13 +47,13 @@ pub record TermWalk (w : ScopeParts) (p : Phrase term) (m : Extent) (tree : Term
   pub built : fold (trees w) (context 0 false false) p (λ e. e ∷ []) ≡ Ok tree
   pub sound : IsSound w (context 0 false false) p
   pub nodes : m.nodes ≡ term_size tree
-  pub small : term_size tree ≤ 100000
+  pub small : term_size tree ≤ MAX_TERM_NODES
   pub deep : m.nesting ≡ nesting w p
 
 pub term_is : (w : ScopeParts) (p : Phrase term) (m : Extent) (tree : Term) → TermWalk w p m tree → IsTerm w p tree
 term_is w p m tree x = record { sound = x.sound; built = x.built; small = x.small }
 
-pub term_walked : (w : ScopeParts) (p : Phrase term) (m : Extent) → IsWithinLimits 0 p → fold (extents w) (context 0 false false) p (λ m. m) ≡ Ok m → m.nodes ≤ 100000 → (tree : Term) × TermWalk w p m tree
+pub term_walked : (w : ScopeParts) (p : Phrase term) (m : Extent) → IsWithinLimits 0 p → fold (extents w) (context 0 false false) p (λ m. m) ≡ Ok m → m.nodes ≤ MAX_TERM_NODES → (tree : Term) × TermWalk w p m tree
 term_walked w p m fits e few =
     let x = term_measured w (context 0 false false) p m refl e in
     let sound = ((term_decided w (context 0 false false) p).0 (is_ok_of (fold (extents w) (context 0 false false) p (λ m. m)) m e)).0 in (
@@ -92,8 +93,8 @@ pub record CondWalk (w : ScopeParts) (compares : Bool) (p : Phrase cond) (m : Ex
   pub built : fold (trees w) (context 1 false compares) p (λ b. b ∷ []) ≡ Ok tree
   pub sound : IsSound w (context 1 false compares) p
   pub nodes : m.nodes ≡ cond_size tree
-  pub narrow : largest_expr tree ≤ 1000
-  pub small : cond_size tree ≤ 100000
+  pub narrow : largest_expr tree ≤ MAX_EXPR_NODES
+  pub small : cond_size tree ≤ MAX_TERM_NODES
   pub as_test : compares ≡ false → test_size (test_without_comparisons tree) ≡ cond_size tree
 
 pub cond_is : (w : ScopeParts) (compares : Bool) (p : Phrase cond) (m : Extent) (tree : CondTree) → CondWalk w compares p m tree → IsCond w compares p tree
@@ -101,19 +102,19 @@ cond_is w compares p m tree x = record { sound = x.sound; built = x.built; narro
 
 -- if the reported count of nodes is within the limit, then the condition and its expressions are, and the count is
 -- exact
-pub told_few : (largest size n : ℕ) → n ≡ told_nodes largest size → n ≤ 100000 → (largest ≤ 1000) × (size ≤ 100000) × (n ≡ size)
-told_few largest size n e few = by_width (nat_lt 1000 largest) refl e where
-  by_width : (b : Bool) → nat_lt 1000 largest ≡ b → n ≡ if_true b 100001 (capped size) → (largest ≤ 1000) × (size ≤ 100000) × (n ≡ size)
+pub told_few : (largest size n : ℕ) → n ≡ told_nodes largest size → n ≤ MAX_TERM_NODES → (largest ≤ MAX_EXPR_NODES) × (size ≤ MAX_TERM_NODES) × (n ≡ size)
+told_few largest size n e few = by_width (nat_lt MAX_EXPR_NODES largest) refl e where
+  by_width : (b : Bool) → nat_lt MAX_EXPR_NODES largest ≡ b → n ≡ if_true b (MAX_TERM_NODES + 1) (capped size) → (largest ≤ MAX_EXPR_NODES) × (size ≤ MAX_TERM_NODES) × (n ≡ size)
   by_width true h k = absurd (omega (arith, k, few))
-  by_width false h k = (ltb-false 1000 largest h, omega (arith, k, few), omega (arith, k, few))
+  by_width false h k = (ltb-false MAX_EXPR_NODES largest h, omega (arith, k, few), omega (arith, k, few))
 
-pub few_told : (largest size n : ℕ) → n ≡ told_nodes largest size → largest ≤ 1000 → size ≤ 100000 → n ≡ size
-few_told largest size n e narrow small = by_width (nat_lt 1000 largest) refl e where
-  by_width : (b : Bool) → nat_lt 1000 largest ≡ b → n ≡ if_true b 100001 (capped size) → n ≡ size
-  by_width true h k = absurd (omega (arith, ltb-true 1000 largest h, narrow))
+pub few_told : (largest size n : ℕ) → n ≡ told_nodes largest size → largest ≤ MAX_EXPR_NODES → size ≤ MAX_TERM_NODES → n ≡ size
+few_told largest size n e narrow small = by_width (nat_lt MAX_EXPR_NODES largest) refl e where
+  by_width : (b : Bool) → nat_lt MAX_EXPR_NODES largest ≡ b → n ≡ if_true b (MAX_TERM_NODES + 1) (capped size) → n ≡ size
+  by_width true h k = absurd (omega (arith, ltb-true MAX_EXPR_NODES largest h, narrow))
   by_width false h k = omega (arith, k, small)
 
-pub cond_walked : (w : ScopeParts) (compares : Bool) (p : Phrase cond) (m : Extent) → fold (extents w) (context 1 false compares) p (λ m. m) ≡ Ok m → m.nodes ≤ 100000 → (tree : CondTree) × CondWalk w compares p m tree
+pub cond_walked : (w : ScopeParts) (compares : Bool) (p : Phrase cond) (m : Extent) → fold (extents w) (context 1 false compares) p (λ m. m) ≡ Ok m → m.nodes ≤ MAX_TERM_NODES → (tree : CondTree) × CondWalk w compares p m tree
 cond_walked w compares p m e few =
     let c = context 1 false compares in
     let x = cond_measured w c p m e in

@@ -1,6 +1,7 @@
 -- The measures and trees of blocks and of the sides of goals whose syntax is correct.
 use Rattle.std.proofs.Common.{◌≡◌, ℕ, ◌≤◌, List, [], false, Result, Ok, Err, Option, Some, None, refl, sym, ap, subst, ◌∙◌, arith}
 use Rattle.std.specs.Option.{option_map, option_and_then}
+use Rattle.kat_model.specs.declared.limits.TheConstants.{MAX_TERM_NODES, MAX_EXPR_NODES}
 use Rattle.kat_model.specs.Trees.{Term}
 use Rattle.text_tokens.specs.declared.fault.TextFault.{TextFault}
 use Rattle.text_grammar.specs.Lexemes.{Lexeme}
@@ -51,7 +52,7 @@ pub record BlockWalk (w : ScopeParts) (ps : List ProgParts) (p : BlockPhrase blo
 abbrev built_prog : ScopeParts → List ProgParts → BlockPhrase block → Result ProgTree TextFault
 built_prog w ps p = fold_block (block_trees w ps) 0 p [] >>= λ ss. Ok (prog_with ss)
 
-pub block_walked : (w : ScopeParts) (ps : List ProgParts) (p : BlockPhrase block) (m : Extent) → AreLimited ps → BlockFits 0 p → fold_block (block_extents w ps) 0 p (extent 0 0) ≡ Ok m → m.nodes ≤ 100000 → (tree : ProgTree) × BlockWalk w ps p m tree
+pub block_walked : (w : ScopeParts) (ps : List ProgParts) (p : BlockPhrase block) (m : Extent) → AreLimited ps → BlockFits 0 p → fold_block (block_extents w ps) 0 p (extent 0 0) ≡ Ok m → m.nodes ≤ MAX_TERM_NODES → (tree : ProgTree) × BlockWalk w ps p m tree
 block_walked w ps p m limited fits e few =
     let x = measures_of_trees w ps 0 p m limited e in
     let sound = ((sound_measured w ps 0 p).0 (is_ok_of (fold_block (block_extents w ps) 0 p (extent 0 0)) m e)).0 in
@@ -70,8 +71,8 @@ block_walks w ps p tree limited fits h =
     let m = ok_value (fold_block (block_extents w ps) 0 p (extent 0 0)) ((sound_measured w ps 0 p).1 (h.sound, fits)) in
     let x = measures_of_trees w ps 0 p m.0 limited m.1 in
     let same : x.tree ≡ tree = one_ok (built_prog w ps p) x.tree tree x.built h.built in
-    let narrow : largest_in x.tree ≤ 1000 = subst (λ q. largest_in q ≤ 1000) (sym same) h.narrow in
-    let small : prog_size x.tree ≤ 100000 = subst (λ q. prog_size q ≤ 100000) (sym same) h.small in (
+    let narrow : largest_in x.tree ≤ MAX_EXPR_NODES = subst (λ q. largest_in q ≤ MAX_EXPR_NODES) (sym same) h.narrow in
+    let small : prog_size x.tree ≤ MAX_TERM_NODES = subst (λ q. prog_size q ≤ MAX_TERM_NODES) (sym same) h.small in (
       m.0,
       record {
         measured = m.1;
@@ -148,7 +149,7 @@ pub record SideWalk (s : State) (p : Phrase term) (ts : List Lexeme) (m : Extent
   pub measured : fold_side making s p ts ≡ Ok (record { measure = m; tokens = yield_before p ts })
   pub is_side : IsSide s p side
   pub nodes : m.nodes ≡ side_size side
-  pub small : side_size side ≤ 100000
+  pub small : side_size side ≤ MAX_TERM_NODES
   pub built : (k : ℕ) → built_side (grown s k) (yield_before p ts) ≡ Ok side
 
 module _ (s : State) (p : Phrase term) (ts : List Lexeme) (ends : Ends term ts) (obeys : MeetsLookahead p ts) (fits : IsWithinLimits 0 p) where
@@ -159,7 +160,7 @@ module _ (s : State) (p : Phrase term) (ts : List Lexeme) (ends : Ends term ts) 
   built_as : (k : ℕ) (o : Option ProgParts) → named_by s p ≡ o → built_side (grown s k) (yield_before p ts) ≡ program_or o (built_term (grown s k) (yield_before p ts))
   built_as k o e = ap (λ x. program_or x (built_term (grown s k) (yield_before p ts))) (ap (option_and_then (prog_named s.world s.progs)) (lone_term p ts ends) ∙ read_name s (lone_leaf p) ∙ e)
 
-  prog_walk : (d : ProgParts) → named_by s p ≡ Some d → prog_size d.tree ≤ 100000 → SideWalk s p ts (program_extent d) (prog_side d.tree)
+  prog_walk : (d : ProgParts) → named_by s p ≡ Some d → prog_size d.tree ≤ MAX_TERM_NODES → SideWalk s p ts (program_extent d) (prog_side d.tree)
   prog_walk d e small = record {
     measured = measured_as (Some d) e;
     is_side = record { parts = d; named = e; same = refl; small = small };
@@ -179,22 +180,22 @@ module _ (s : State) (p : Phrase term) (ts : List Lexeme) (ends : Ends term ts) 
 
   pub side_walks : (side : SideTree) → IsSide s p side → (m : Extent) × SideWalk s p ts m side
   side_walks (term_side e) h = let w = term_walks s.world p e fits h in (w.0, term_walk w.0 e (term_names_none s p (lone_leaf p) refl h.sound) w.1)
-  side_walks (prog_side q) h = (program_extent h.parts, subst (λ t. SideWalk s p ts (program_extent h.parts) (prog_side t)) (sym h.same) (prog_walk h.parts h.named (subst (λ t. prog_size t ≤ 100000) h.same h.small)))
+  side_walks (prog_side q) h = (program_extent h.parts, subst (λ t. SideWalk s p ts (program_extent h.parts) (prog_side t)) (sym h.same) (prog_walk h.parts h.named (subst (λ t. prog_size t ≤ MAX_TERM_NODES) h.same h.small)))
 
-  by_name : (o : Option ProgParts) → named_by s p ≡ o → (x : Measurement Extent) → fold_side making s p ts ≡ Ok x → (x.measure).nodes ≤ 100000 → (side : SideTree) × SideWalk s p ts x.measure side
+  by_name : (o : Option ProgParts) → named_by s p ≡ o → (x : Measurement Extent) → fold_side making s p ts ≡ Ok x → (x.measure).nodes ≤ MAX_TERM_NODES → (side : SideTree) × SideWalk s p ts x.measure side
   by_name (Some d) e x h few =
       let told : ok_of (record { measure = program_extent d; tokens = yield_before p ts }) ≡ Ok x = sym (measured_as (Some d) e) ∙ h in
       let same = same_ok (record { measure = program_extent d; tokens = yield_before p ts }) x told in
-      let n : (program_extent d).nodes ≤ 100000 = subst (λ (y : Measurement Extent). (y.measure).nodes ≤ 100000) (sym same) few in
+      let n : (program_extent d).nodes ≤ MAX_TERM_NODES = subst (λ (y : Measurement Extent). (y.measure).nodes ≤ MAX_TERM_NODES) (sym same) few in
       (prog_side d.tree, subst (λ (y : Measurement Extent). SideWalk s p ts y.measure (prog_side d.tree)) same (prog_walk d e (omega (arith, n))))
   by_name None e x h few =
       let a = bind_ok (fold (extents s.world) (context 0 false false) p (λ m. m)) (λ m. Ok (record { measure = m; tokens = yield_before p ts })) x (sym (measured_as None e) ∙ h) in
       let same = same_ok (record { measure = a.0; tokens = yield_before p ts }) x a.2 in
-      let n : (a.0).nodes ≤ 100000 = subst (λ (y : Measurement Extent). (y.measure).nodes ≤ 100000) (sym same) few in
+      let n : (a.0).nodes ≤ MAX_TERM_NODES = subst (λ (y : Measurement Extent). (y.measure).nodes ≤ MAX_TERM_NODES) (sym same) few in
       let w = term_walked s.world p a.0 fits a.1 n in
       (term_side w.0, subst (λ (y : Measurement Extent). SideWalk s p ts y.measure (term_side w.0)) same (term_walk a.0 w.0 e w.1))
 
-  pub side_walked : (x : Measurement Extent) → fold_side making s p ts ≡ Ok x → (x.measure).nodes ≤ 100000 → (side : SideTree) × SideWalk s p ts x.measure side
+  pub side_walked : (x : Measurement Extent) → fold_side making s p ts ≡ Ok x → (x.measure).nodes ≤ MAX_TERM_NODES → (side : SideTree) × SideWalk s p ts x.measure side
   side_walked x h few = by_name (named_by s p) refl x h few
 
   -- the side built at the tokens of its measure

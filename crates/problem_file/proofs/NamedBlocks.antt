@@ -1,5 +1,6 @@
 -- A fault of a block is never `NoMemory` if its actions give no such fault, because the steps suffice.
 use Rattle.std.proofs.Common.{ℕ, zero, suc, ◌+◌, ◌*◌, ◌<◌, List, [], ◌∷◌, length, Bool, true, false, cond as if_true, nat_lt, Ok, Err, arith, drop, length-drop}
+use Rattle.kat_model.specs.declared.limits.TheConstants.{MAX_OPEN}
 use Rattle.text_tokens.specs.declared.fault.TextFault.TheVariants.{Syntax, TooDeep}
 use Rattle.text_grammar.specs.declared.terminal.Terminal.{Terminal}
 use Rattle.text_grammar.specs.declared.terminal.Terminal.TheVariants.{Name, Keyword, Separator}
@@ -27,7 +28,7 @@ wanted_named p [] k h = tt
 wanted_named p (lexeme s at text ∷ ts) k h = elim (p s) as (λ b. IsNamed (if_true b (Ok ts) (Err (Syntax at)) >>= k)) [ true ↦ h ts (omega arith) | false ↦ tt ]
 
 pub enter_named : (d at : ℕ) → IsNamed (enter d at)
-enter_named d at = if_named (nat_lt d 200) (Ok (d + 1)) (Err (TooDeep at)) (λ e. tt) (λ e. tt)
+enter_named d at = if_named (nat_lt d MAX_OPEN) (Ok (d + 1)) (Err (TooDeep at)) (λ e. tt) (λ e. tt)
 
 module _ {E B L T M S : Type 0} (g : BlockActions E B L T M S) (names : NameBlocks g) where
   abbrev NamesBelow : BlockParser S → ℕ → Type 0

@@ -1,6 +1,7 @@
 -- The checks of tokens never fail with `NoMemory`.
-use Rattle.std.proofs.Common.{ℕ, ◌+◌, List, length, nat_lt, Bool, true, false, Ok, Err, Option, Some, None, is_some, slice_get, ◌∷◌, []}
+use Rattle.std.proofs.Common.{ℕ, ◌+◌, List, length, nat_lt, Bool, true, false, Ok, Err, Option, Some, None, is_some, slice_get, ◌∷◌, [], nat_le}
 use Rattle.std.specs.Option.{option_and_then}
+use Rattle.kat_model.specs.declared.limits.TheConstants.{MAX_TESTS, MAX_ACTIONS, MAX_VARS, MAX_ROUNDS, MAX_TERM_NODES, MAX_TEXT_NODES, MAX_HYPS, MAX_OPEN}
 use Rattle.text_tokens.specs.declared.fault.TextFault.TheVariants.{Sort, TooDeep, DoubleName, TooMany, TooLarge, NumberTooWide}
 use Rattle.text_grammar.specs.declared.reading.Context.{Context}
 use Rattle.text_grammar.specs.declared.terminal.Terminal.TheVariants.{Number, WideNumber}
@@ -14,11 +15,10 @@ use Rattle.text_grammar.proofs.NamedFaults.{IsNamedFault, IsNamed, then_named, i
 use Rattle.text_scopes.specs.declared.meaning.Meaning.{Meaning}
 use Rattle.text_scopes.specs.declared.meaning.Meaning.TheVariants.{Test, Action, Var, Term as TermName, Prog}
 use Rattle.text_scopes.specs.declared.extent.Extent.{Extent}
-use Rattle.text_scopes.specs.Sizes.{is_test}
 use Rattle.text_scopes.specs.ScopeParts.{Definition, ScopeParts, meaning}
 use Rattle.text_scopes.specs.Building.{cond_trees, trees}
 use Rattle.text_scopes.specs.Measuring.{number_extent, variable_extent, condition_extent, defined_extent, name_extent, extents}
-use Rattle.kat_model.specs.Trees.{Term}
+use Rattle.kat_model.specs.Trees.{Term, is_test}
 use Rattle.kat_model.specs.Stores.{modulus}
 use Rattle.kat_model.specs.declared.expression.Width.{Width}
 use Rattle.while_lang.specs.NamedProgs.{ProgParts}
@@ -63,8 +63,8 @@ defined_named : (c : Context) (at : ℕ) (o : Option Definition) → IsNamed (de
 defined_named c at None = tt
 defined_named c at (Some d) =
     if_named c.negated _ _
-    (λ e. if_named (is_test d.tree) _ (Err (Sort at)) (λ f. if_named (nat_lt 200 (c.depth + d.nesting)) (Err (TooDeep at)) _ (λ h. tt) (λ h. tt)) (λ f. tt))
-    (λ e. if_named (nat_lt 200 (c.depth + d.nesting)) (Err (TooDeep at)) _ (λ h. tt) (λ h. tt))
+    (λ e. if_named (is_test d.tree) _ (Err (Sort at)) (λ f. if_named (nat_lt MAX_OPEN (c.depth + d.nesting)) (Err (TooDeep at)) _ (λ h. tt) (λ h. tt)) (λ f. tt))
+    (λ e. if_named (nat_lt MAX_OPEN (c.depth + d.nesting)) (Err (TooDeep at)) _ (λ h. tt) (λ h. tt))
 
 name_named : (w : ScopeParts) (c : Context) (at : ℕ) (o : Option Meaning) → IsNamed (name_extent w c at o)
 name_named w c at None = tt
@@ -101,7 +101,7 @@ scanning_named = record {
 
 spliced_named : (d at : ℕ) (o : Option ProgParts) (m : Extent) → IsNamed (spliced_extent d at o m)
 spliced_named d at None m = tt
-spliced_named d at (Some p) m = if_named (nat_lt 200 (d + p.nesting)) (Err (TooDeep at)) _ (λ e. tt) (λ e. tt)
+spliced_named d at (Some p) m = if_named (nat_lt MAX_OPEN (d + p.nesting)) (Err (TooDeep at)) _ (λ e. tt) (λ e. tt)
 
 stmt_named : (ps : List ProgParts) (d at : ℕ) (o : Option Meaning) (m : Extent) → IsNamed (named_extent ps d at o m)
 stmt_named ps d at None m = tt
@@ -145,9 +145,9 @@ checking_named = record {
 }
 
 declared_named : (d : Declared) (s : State) (at : ℕ) (name : List ℕ) → IsNamed (declare d s at name)
-declared_named what.Test s at name = if_named (is_known s name) (Err (DoubleName at)) _ (λ e. tt) (λ e. if_named (nat_lt 47 s.tests) (Err (TooMany at)) _ (λ f. tt) (λ f. tt))
-declared_named what.Action s at name = if_named (is_known s name) (Err (DoubleName at)) _ (λ e. tt) (λ e. if_named (nat_lt 47 s.actions) (Err (TooMany at)) _ (λ f. tt) (λ f. tt))
-declared_named what.Var s at name = if_named (is_known s name) (Err (DoubleName at)) _ (λ e. tt) (λ e. if_named (nat_lt 63 s.vars) (Err (TooMany at)) _ (λ f. tt) (λ f. tt))
+declared_named what.Test s at name = if_named (is_known s name) (Err (DoubleName at)) _ (λ e. tt) (λ e. if_named (nat_le MAX_TESTS s.tests) (Err (TooMany at)) _ (λ f. tt) (λ f. tt))
+declared_named what.Action s at name = if_named (is_known s name) (Err (DoubleName at)) _ (λ e. tt) (λ e. if_named (nat_le MAX_ACTIONS s.actions) (Err (TooMany at)) _ (λ f. tt) (λ f. tt))
+declared_named what.Var s at name = if_named (is_known s name) (Err (DoubleName at)) _ (λ e. tt) (λ e. if_named (nat_le MAX_VARS s.vars) (Err (TooMany at)) _ (λ f. tt) (λ f. tt))
 
 begin_named : (x : Setting) (s : State) (at : ℕ) → IsNamed (begin_setting x s at)
 begin_named setting.Rounds s at = if_named (is_some s.rounds) (Err (DoubleName at)) (Ok tt) (λ e. tt) (λ e. tt)
@@ -158,7 +158,7 @@ width_named s at None = tt
 width_named s at (Some w) = tt
 
 set_named : (x : Setting) (s : State) (at n : ℕ) → IsNamed (set x s at n)
-set_named setting.Rounds s at n = if_named (nat_lt 16 n) (Err (TooMany at)) (Ok (with_rounds s n)) (λ e. tt) (λ e. tt)
+set_named setting.Rounds s at n = if_named (nat_lt MAX_ROUNDS n) (Err (TooMany at)) (Ok (with_rounds s n)) (λ e. tt) (λ e. tt)
 set_named setting.Width s at n = width_named s at (width_with n)
 
 number_checked : (w : Width) (t : Lexeme) → IsNamed (check_number w t)
@@ -175,10 +175,10 @@ goal_fault_named One at = tt
 goal_fault_named Batch at = tt
 
 size_named : (at nodes : ℕ) → IsNamed (check_size at nodes)
-size_named at nodes = if_named (nat_lt 100000 nodes) (Err (TooLarge at)) _ (λ e. tt) (λ e. tt)
+size_named at nodes = if_named (nat_lt MAX_TERM_NODES nodes) (Err (TooLarge at)) _ (λ e. tt) (λ e. tt)
 
 grow_named : (s : State) (at nodes : ℕ) → IsNamed (grow s at nodes)
-grow_named s at nodes = if_named (nat_lt 1000000 (s.size + nodes)) (Err (TooLarge at)) _ (λ e. tt) (λ e. tt)
+grow_named s at nodes = if_named (nat_lt MAX_TEXT_NODES (s.size + nodes)) (Err (TooLarge at)) _ (λ e. tt) (λ e. tt)
 
 count_named : (s : State) (at nodes : ℕ) → IsNamed (count s at nodes)
 count_named s at nodes = then_named (check_size at nodes) _ (size_named at nodes) (λ u. grow_named s at nodes)
@@ -230,7 +230,7 @@ making_named = record {
   check_new = λ s at text. if_named (is_known s text) (Err (DoubleName at)) _ (λ e. tt) (λ e. tt);
   define = λ s at text m. then_named (count s at (m.measure).nodes) _ (count_named s at (m.measure).nodes) (λ t. then_named (built_term t m.tokens) _ (built_named t m.tokens) (λ x. tt));
   define_prog = λ s at text m. then_named (count s at (m.measure).nodes) _ (count_named s at (m.measure).nodes) (λ t. then_named (built_block t m.tokens) _ (built_block_named t m.tokens) (λ x. tt));
-  begin_hyp = λ s at. if_named (nat_lt 8191 (length s.hyps)) (Err (TooMany at)) _ (λ e. tt) (λ e. tt);
+  begin_hyp = λ s at. if_named (nat_le MAX_HYPS (length s.hyps)) (Err (TooMany at)) _ (λ e. tt) (λ e. tt);
   state_zero = λ s at m. then_named (count s at (m.measure).nodes) _ (count_named s at (m.measure).nodes) (λ t. then_named (built_term t m.tokens) _ (built_named t m.tokens) (λ x. tt));
   state_triple = λ s at m. then_named (count s at (triple_nodes m + 5)) _ (count_named s at (triple_nodes m + 5)) (λ t. then_named (built_triple t m) _ (built_triple_named t m) (λ x. tt));
   begin_setting = begin_named;

@@ -1,5 +1,6 @@
 -- A phrase that is well scoped and within the depth limit is not too deep after its names are expanded.
 use Rattle.std.proofs.Common.{ℕ, ◌+◌, ◌<◌, ◌≤◌, max, slice_get, Option, Some, None, arith}
+use Rattle.kat_model.specs.declared.limits.TheConstants.{MAX_OPEN}
 use Rattle.text_grammar.specs.declared.reading.Context.{Context}
 use Rattle.text_grammar.specs.Phrases.{Symbol, Phrase, one_prod, more_prods, one_star, more_stars, bare, starred, zero_unit, one_unit, name_unit, not_unit, square_unit, round_unit, one_conj, more_conjs, one_lit, more_lits, true_lit, false_lit, name_lit, not_lit, round_lit, relation_lit, one_mul, more_muls, one_fac, more_facs, zero_fac, one_fac_number, number_fac, wide_fac, name_fac, round_fac, IsWithinLimits}
 use Rattle.text_scopes.specs.declared.meaning.Meaning.{Meaning}
@@ -7,11 +8,11 @@ use Rattle.text_scopes.specs.declared.meaning.Meaning.TheVariants.{Test, Action,
 use Rattle.text_scopes.specs.ScopeParts.{Definition, ScopeParts, meaning}
 use Rattle.text_scopes.specs.Sound.{inside, inside_not, IsUsable, IsTermName, IsSound, defined_nesting, name_nesting, nesting}
 
-used_fits : (c : Context) (o : Option Definition) → IsUsable c o → c.depth ≤ 200 → c.depth + defined_nesting o ≤ 200
+used_fits : (c : Context) (o : Option Definition) → IsUsable c o → c.depth ≤ MAX_OPEN → c.depth + defined_nesting o ≤ MAX_OPEN
 used_fits c None sound le = omega (arith, le)
 used_fits c (Some d) sound le = sound.1
 
-name_fits : (w : ScopeParts) (c : Context) (o : Option Meaning) → IsTermName w c o → c.depth ≤ 200 → c.depth + name_nesting w o ≤ 200
+name_fits : (w : ScopeParts) (c : Context) (o : Option Meaning) → IsTermName w c o → c.depth ≤ MAX_OPEN → c.depth + name_nesting w o ≤ MAX_OPEN
 name_fits w c None sound le = absurd sound
 name_fits w c (Some (Test k)) sound le = omega (arith, le)
 name_fits w c (Some (Action a)) sound le = omega (arith, le)
@@ -19,19 +20,19 @@ name_fits w c (Some (Var k)) sound le = absurd sound
 name_fits w c (Some (TermName i)) sound le = used_fits c (slice_get w.terms i) sound le
 name_fits w c (Some (Prog i)) sound le = absurd sound
 
-pub most : (d m n : ℕ) → d + m ≤ 200 → d + n ≤ 200 → d + max m n ≤ 200
+pub most : (d m n : ℕ) → d + m ≤ MAX_OPEN → d + n ≤ MAX_OPEN → d + max m n ≤ MAX_OPEN
 most d m n h k = omega (arith, h, k)
 
-pub deeper : (d n : ℕ) → d + 1 + n ≤ 200 → d + (n + 1) ≤ 200
+pub deeper : (d n : ℕ) → d + 1 + n ≤ MAX_OPEN → d + (n + 1) ≤ MAX_OPEN
 deeper d n h = omega (arith, h)
 
-pub flat : (d : ℕ) → d ≤ 200 → d + 0 ≤ 200
+pub flat : (d : ℕ) → d ≤ MAX_OPEN → d + 0 ≤ MAX_OPEN
 flat d le = omega (arith, le)
 
-pub next : (d : ℕ) → d < 200 → d + 1 ≤ 200
+pub next : (d : ℕ) → d < MAX_OPEN → d + 1 ≤ MAX_OPEN
 next d lt = omega (arith, lt)
 
-pub nesting_fits : (w : ScopeParts) (c : Context) {x : Symbol} (p : Phrase x) → IsSound w c p → IsWithinLimits c.depth p → c.depth ≤ 200 → c.depth + nesting w p ≤ 200
+pub nesting_fits : (w : ScopeParts) (c : Context) {x : Symbol} (p : Phrase x) → IsSound w c p → IsWithinLimits c.depth p → c.depth ≤ MAX_OPEN → c.depth + nesting w p ≤ MAX_OPEN
 nesting_fits w c (one_prod p) s f le = nesting_fits w c p s f le
 nesting_fits w c (more_prods p l t) s f le = most c.depth (nesting w p) (nesting w t) (nesting_fits w c p s.0 f.0 le) (nesting_fits w c t s.1 f.1 le)
 nesting_fits w c (one_star p) s f le = nesting_fits w c p s f le

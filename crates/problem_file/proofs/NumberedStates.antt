@@ -4,6 +4,7 @@ use Rattle.std.proofs.Common.{◌≡◌, ◌≤◌, ◌<◌, ◌+◌, ⊎_elim, 
 use Rattle.std.proofs.lemmas.Bool.{ltb-true, ltb-false}
 use Rattle.std.proofs.lemmas.Option.{slice_get_past, none-some}
 use Rattle.std.specs.FinMap.{get, insert}
+use Rattle.kat_model.specs.declared.limits.TheConstants.{MAX_TESTS, MAX_ACTIONS, MAX_VARS}
 use Rattle.kat_model.specs.Trees.{TestTree, bottom, top, prim, complement, meet, join, Term, zero as nothing, one, test, act, sum, product, star, term_size}
 use Rattle.kat_model.specs.Expressions.{ExprTree, number, variable, plus, minus, times, CondTree, always, never, named, compared, negation, both, either}
 use Rattle.kat_model.specs.Problems.{IsTestInRange, IsInRange, AreInRange}
@@ -37,14 +38,23 @@ use Rattle.problem_file.proofs.BlockRanges.{ProgsInRange, block_in}
 
 -- ---- additional tests, actions and variables
 
-module _ (t u : ℕ) (more : t ≤ u) where
-  test_more : (b : TestTree) → IsTestInRange t b → IsTestInRange u b
-  test_more bottom h = tt
-  test_more top h = tt
-  test_more (prim k) h = omega (arith, h, more)
-  test_more (complement b) h = test_more b h
-  test_more (meet b c) h = (test_more b h.0, test_more c h.1)
-  test_more (join b c) h = (test_more b h.0, test_more c h.1)
+module _ (t a u b : ℕ) (tests : t ≤ u) (actions : a ≤ b) where
+  pub IsTestInRange-more : (e : TestTree) → IsTestInRange t e → IsTestInRange u e
+  IsTestInRange-more bottom h = tt
+  IsTestInRange-more top h = tt
+  IsTestInRange-more (prim k) h = omega arith
+  IsTestInRange-more (complement e) h = IsTestInRange-more e h
+  IsTestInRange-more (meet e f) h = (IsTestInRange-more e h.0, IsTestInRange-more f h.1)
+  IsTestInRange-more (join e f) h = (IsTestInRange-more e h.0, IsTestInRange-more f h.1)
+
+  pub IsInRange-more : (e : Term) → IsInRange t a e → IsInRange u b e
+  IsInRange-more nothing h = tt
+  IsInRange-more one h = tt
+  IsInRange-more (test e) h = IsTestInRange-more e h
+  IsInRange-more (act k) h = omega arith
+  IsInRange-more (sum e f) h = (IsInRange-more e h.0, IsInRange-more f h.1)
+  IsInRange-more (product e f) h = (IsInRange-more e h.0, IsInRange-more f h.1)
+  IsInRange-more (star e) h = IsInRange-more e h
 
 expr_more : (v x : ℕ) → v ≤ x → (e : ExprTree) → IsExprInRange v e → IsExprInRange x e
 expr_more v x more (number n) h = tt
@@ -63,18 +73,9 @@ module _ (t a v u b x : ℕ) (more_tests : t ≤ u) (more_actions : a ≤ b) (mo
   cond_more (both c d) h = (cond_more c h.0, cond_more d h.1)
   cond_more (either c d) h = (cond_more c h.0, cond_more d h.1)
 
-  term_more : (e : Term) → IsInRange t a e → IsInRange u b e
-  term_more nothing h = tt
-  term_more one h = tt
-  term_more (test c) h = test_more t u more_tests c h
-  term_more (act k) h = omega (arith, h, more_actions)
-  term_more (sum e f) h = (term_more e h.0, term_more f h.1)
-  term_more (product e f) h = (term_more e h.0, term_more f h.1)
-  term_more (star e) h = term_more e h
-
   terms_more : (es : List Term) → AreInRange t a es → AreInRange u b es
   terms_more [] h = tt
-  terms_more (e ∷ es) h = (term_more e h.0, terms_more es h.1)
+  terms_more (e ∷ es) h = (IsInRange-more t a u b more_tests more_actions e h.0, terms_more es h.1)
 
   prog_more : (p : ProgTree) → IsProgInRange t a v p → IsProgInRange u b x p
   prog_more empty h = tt
@@ -91,7 +92,7 @@ module _ (t a v u b x : ℕ) (more_tests : t ≤ u) (more_actions : a ≤ b) (mo
   progs_more (p ∷ ps) h = (prog_more p.tree h.0, progs_more ps h.1)
 
   side_more : (s : SideTree) → IsSideInRange t a v s → IsSideInRange u b x s
-  side_more (term_side e) h = term_more e h
+  side_more (term_side e) h = IsInRange-more t a u b more_tests more_actions e h
   side_more (prog_side p) h = prog_more p h
 
   goal_more : (g : GoalTree) → IsGoalInRange t a v g → IsGoalInRange u b x g
@@ -100,7 +101,7 @@ module _ (t a v u b x : ℕ) (more_tests : t ≤ u) (more_actions : a ≤ b) (mo
   goal_more (triple pre body post) h = (cond_more pre h.0, side_more body h.1, cond_more post h.2)
 
   defined_more : (w : ScopeParts) → DefinedInRange w t a → DefinedInRange w u b
-  defined_more w h i d e = term_more d.tree (h i d e)
+  defined_more w h i d e = IsInRange-more t a u b more_tests more_actions d.tree (h i d e)
 
 -- the numbers in all goals are below the bounds
 abbrev GoalsInRange : ℕ → ℕ → ℕ → List GoalTree → Type 0
@@ -188,9 +189,9 @@ next_name w name ps names new counted h i n e =
 pub record Ranged (s : State) : Type 0 where
   pub numbers : AreNumbered s.world s.tests s.actions s.vars (length s.progs)
   pub defined : DefinedInRange s.world s.tests s.actions
-  pub tests : s.tests ≤ 48
-  pub actions : s.actions ≤ 48
-  pub vars : s.vars ≤ 64
+  pub tests : s.tests ≤ MAX_TESTS
+  pub actions : s.actions ≤ MAX_ACTIONS
+  pub vars : s.vars ≤ MAX_VARS
   pub named_tests : AreNamed s.world Test s.tests
   pub named_actions : AreNamed s.world Action s.actions
   pub named_vars : AreNamed s.world Var s.vars

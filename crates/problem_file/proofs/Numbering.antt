@@ -25,7 +25,7 @@ same_test i k e = cc
 same_action : (i k : ℕ) → Action i ≡ Action k → i ≡ k
 same_action i k e = cc
 
-same_var : (i k : ℕ) → Var i ≡ Var k → i ≡ k
+pub same_var : (i k : ℕ) → Var i ≡ Var k → i ≡ k
 same_var i k e = cc
 
 same_prog : (i k : ℕ) → Prog i ≡ Prog k → i ≡ k

@@ -72,7 +72,7 @@ module _ (limit : GoalLimit) (bytes : List ℕ) where
   pub says_told : (s : Says limit bytes) → Tells (tested limit) bytes (said s)
   says_told s = record { parts_of_tokens = s.parts_of_tokens; lexes = s.lexes; tests_pass = said_tested s }
 
--- ---- texts of one goal, and of up to 64
+-- ---- texts of one goal, and of up to `MAX_GOALS`
 
 pub have_one_answer : HaveOneAnswer Reads FirstFault
 have_one_answer = one_answer (tested One) Reads (λ x. x.0) (record {

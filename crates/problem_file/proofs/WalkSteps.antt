@@ -1,6 +1,7 @@
 -- The checks of an item: the result of each check that passes, and what it implies.
-use Rattle.std.proofs.Common.{◌≡◌, ℕ, ◌+◌, ◌≤◌, ◌<◌, List, [], ◌∷◌, length, Bool, true, false, nat_lt, cond as if_true, Option, Some, None, is_some, Ok, Err, refl, sym, arith}
-use Rattle.std.proofs.lemmas.Bool.{ltb-true, ltb-false, lt-ltb, le-ltb}
+use Rattle.std.proofs.Common.{◌≡◌, ℕ, ◌+◌, ◌≤◌, ◌<◌, List, [], ◌∷◌, length, Bool, true, false, nat_lt, cond as if_true, Option, Some, None, is_some, Ok, Err, refl, sym, nat_le}
+use Rattle.std.proofs.lemmas.Bool.{ltb-true, ltb-false, lt-ltb, le-ltb, lt-leb, leb-false}
+use Rattle.kat_model.specs.declared.limits.TheConstants.{MAX_TESTS, MAX_ACTIONS, MAX_VARS, MAX_ROUNDS, MAX_TERM_NODES, MAX_TEXT_NODES, MAX_HYPS}
 use Rattle.text_tokens.specs.declared.fault.TextFault.{TextFault}
 use Rattle.text_tokens.specs.declared.fault.TextFault.TheVariants.{DoubleName, TooMany, TooLarge, Sort, NumberTooWide}
 use Rattle.kat_model.specs.Stores.{modulus}
@@ -35,13 +36,13 @@ pub new_passed : (s : State) (at : ℕ) (name : List ℕ) (u : Unit {0}) → che
 new_passed s at name u e = none_of (meaning s.world name) (passed (is_some (meaning s.world name)) (DoubleName at) tt u e).0
 
 pub test_there : (s : State) (l : Leaf) (t : State) → DeclaresTest s l t → declare_test s l.at l.text ≡ Ok t
-test_there s l t (new, few, made) = rw (new, le-ltb 47 s.tests (omega (arith, few)), made) refl
+test_there s l t (new, few, made) = rw (new, lt-leb MAX_TESTS s.tests few, made) refl
 
 pub action_there : (s : State) (l : Leaf) (t : State) → DeclaresAction s l t → declare_action s l.at l.text ≡ Ok t
-action_there s l t (new, few, made) = rw (new, le-ltb 47 s.actions (omega (arith, few)), made) refl
+action_there s l t (new, few, made) = rw (new, lt-leb MAX_ACTIONS s.actions few, made) refl
 
 pub var_there : (s : State) (l : Leaf) (t : State) → DeclaresVar s l t → declare_var s l.at l.text ≡ Ok t
-var_there s l t (new, few, made) = rw (new, le-ltb 63 s.vars (omega (arith, few)), made) refl
+var_there s l t (new, few, made) = rw (new, lt-leb MAX_VARS s.vars few, made) refl
 
 -- two checks that passed
 both_passed : {A : Type 0} (a b : Bool) (x y : TextFault) (v w : A) → if_true a (Err x) (if_true b (Err y) (Ok v)) ≡ Ok w → (a ≡ false) × (b ≡ false) × (w ≡ v)
@@ -51,26 +52,26 @@ both_passed false false x y v w e = (refl, refl, cc)
 
 pub test_declared : (s : State) (l : Leaf) (t : State) → declare_test s l.at l.text ≡ Ok t → DeclaresTest s l t
 test_declared s l t e =
-    let h = both_passed (is_some (meaning s.world l.text)) (nat_lt 47 s.tests) (DoubleName l.at) (TooMany l.at) (with_test s l.text) t e in
-    (none_of (meaning s.world l.text) h.0, omega (arith, ltb-false 47 s.tests h.1), h.2)
+    let h = both_passed (is_some (meaning s.world l.text)) (nat_le MAX_TESTS s.tests) (DoubleName l.at) (TooMany l.at) (with_test s l.text) t e in
+    (none_of (meaning s.world l.text) h.0, leb-false MAX_TESTS s.tests h.1, h.2)
 
 pub action_declared : (s : State) (l : Leaf) (t : State) → declare_action s l.at l.text ≡ Ok t → DeclaresAction s l t
 action_declared s l t e =
-    let h = both_passed (is_some (meaning s.world l.text)) (nat_lt 47 s.actions) (DoubleName l.at) (TooMany l.at) (with_action s l.text) t e in
-    (none_of (meaning s.world l.text) h.0, omega (arith, ltb-false 47 s.actions h.1), h.2)
+    let h = both_passed (is_some (meaning s.world l.text)) (nat_le MAX_ACTIONS s.actions) (DoubleName l.at) (TooMany l.at) (with_action s l.text) t e in
+    (none_of (meaning s.world l.text) h.0, leb-false MAX_ACTIONS s.actions h.1, h.2)
 
 pub var_declared : (s : State) (l : Leaf) (t : State) → declare_var s l.at l.text ≡ Ok t → DeclaresVar s l t
 var_declared s l t e =
-    let h = both_passed (is_some (meaning s.world l.text)) (nat_lt 63 s.vars) (DoubleName l.at) (TooMany l.at) (with_var s l.text) t e in
-    (none_of (meaning s.world l.text) h.0, omega (arith, ltb-false 63 s.vars h.1), h.2)
+    let h = both_passed (is_some (meaning s.world l.text)) (nat_le MAX_VARS s.vars) (DoubleName l.at) (TooMany l.at) (with_var s l.text) t e in
+    (none_of (meaning s.world l.text) h.0, leb-false MAX_VARS s.vars h.1, h.2)
 
 -- ---- the beginning of an item
 
-pub hyp_there : (s : State) (at : ℕ) → length s.hyps < 8192 → begin_hyp s at ≡ Ok tt
-hyp_there s at few = rw (le-ltb 8191 (length s.hyps) (omega (arith, few))) refl
+pub hyp_there : (s : State) (at : ℕ) → length s.hyps < MAX_HYPS → begin_hyp s at ≡ Ok tt
+hyp_there s at few = rw (lt-leb MAX_HYPS (length s.hyps) few) refl
 
-pub hyp_passed : (s : State) (at : ℕ) (u : Unit {0}) → begin_hyp s at ≡ Ok u → length s.hyps < 8192
-hyp_passed s at u e = omega (arith, ltb-false 8191 (length s.hyps) (passed (nat_lt 8191 (length s.hyps)) (TooMany at) tt u e).0)
+pub hyp_passed : (s : State) (at : ℕ) (u : Unit {0}) → begin_hyp s at ≡ Ok u → length s.hyps < MAX_HYPS
+hyp_passed s at u e = leb-false MAX_HYPS (length s.hyps) (passed (nat_le MAX_HYPS (length s.hyps)) (TooMany at) tt u e).0
 
 pub goal_there : (s : State) (at : ℕ) → length s.goals < most_goals s.limit → begin_goal s at ≡ Ok tt
 goal_there s at few = rw (lt-ltb (length s.goals) (most_goals s.limit) few) refl
@@ -84,18 +85,18 @@ goal_passed s at u e = by_count (nat_lt (length s.goals) (most_goals s.limit)) r
 -- ---- rounds and width
 
 pub rounds_there : (s : State) (at : ℕ) (x : Numeral) (t : State) → SetsRounds s x t → fold_setting making setting.Rounds s at x ≡ Ok t
-rounds_there s at x t h = rw (h.first, h.is_number, le-ltb 16 h.number h.few, h.made) refl
+rounds_there s at x t h = rw (h.first, h.is_number, le-ltb MAX_ROUNDS h.number h.few, h.made) refl
 
 pub rounds_set : (s : State) (at : ℕ) (x : Numeral) (t : State) → fold_setting making setting.Rounds s at x ≡ Ok t → SetsRounds s x t
 rounds_set s at x t e =
     let a = bind_ok (begin_rounds s at) (λ u. numeral_value x >>= λ n. set_rounds s (numeral_leaf x).at n) t e in
     let b = bind_ok (numeral_value x) (λ n. set_rounds s (numeral_leaf x).at n) t a.2 in
-    let c = passed (nat_lt 16 b.0) (TooMany (numeral_leaf x).at) (with_rounds s b.0) t b.2 in
+    let c = passed (nat_lt MAX_ROUNDS b.0) (TooMany (numeral_leaf x).at) (with_rounds s b.0) t b.2 in
     record {
       first = none_of s.rounds (passed (is_some s.rounds) (DoubleName at) tt a.0 a.1).0;
       number = b.0;
       is_number = b.1;
-      few = ltb-false 16 b.0 c.0;
+      few = ltb-false MAX_ROUNDS b.0 c.0;
       made = sym c.1;
     }
 
@@ -147,45 +148,45 @@ numbers_passed w (t ∷ ts) u e =
 
 -- ---- nodes
 
-size_there : (at nodes : ℕ) → nodes ≤ 100000 → check_size at nodes ≡ Ok tt
-size_there at nodes few = rw (le-ltb 100000 nodes few) refl
+size_there : (at nodes : ℕ) → nodes ≤ MAX_TERM_NODES → check_size at nodes ≡ Ok tt
+size_there at nodes few = rw (le-ltb MAX_TERM_NODES nodes few) refl
 
-size_passed : (at nodes : ℕ) (u : Unit {0}) → check_size at nodes ≡ Ok u → nodes ≤ 100000
-size_passed at nodes u e = ltb-false 100000 nodes (passed (nat_lt 100000 nodes) (TooLarge at) tt u e).0
+size_passed : (at nodes : ℕ) (u : Unit {0}) → check_size at nodes ≡ Ok u → nodes ≤ MAX_TERM_NODES
+size_passed at nodes u e = ltb-false MAX_TERM_NODES nodes (passed (nat_lt MAX_TERM_NODES nodes) (TooLarge at) tt u e).0
 
 room_there : (s : State) (at nodes : ℕ) → HasRoom s nodes → grow s at nodes ≡ Ok (grown s nodes)
-room_there s at nodes room = rw (le-ltb 1000000 (s.size + nodes) room) refl
+room_there s at nodes room = rw (le-ltb MAX_TEXT_NODES (s.size + nodes) room) refl
 
 room_passed : (s t : State) (at nodes : ℕ) → grow s at nodes ≡ Ok t → HasRoom s nodes × (grown s nodes ≡ t)
-room_passed s t at nodes e = let h = passed (nat_lt 1000000 (s.size + nodes)) (TooLarge at) (grown s nodes) t e in (ltb-false 1000000 (s.size + nodes) h.0, h.1)
+room_passed s t at nodes e = let h = passed (nat_lt MAX_TEXT_NODES (s.size + nodes)) (TooLarge at) (grown s nodes) t e in (ltb-false MAX_TEXT_NODES (s.size + nodes) h.0, h.1)
 
-pub count_there : (s : State) (at nodes : ℕ) → nodes ≤ 100000 → HasRoom s nodes → count s at nodes ≡ Ok (grown s nodes)
+pub count_there : (s : State) (at nodes : ℕ) → nodes ≤ MAX_TERM_NODES → HasRoom s nodes → count s at nodes ≡ Ok (grown s nodes)
 count_there s at nodes few room = rw (size_there at nodes few) (room_there s at nodes room)
 
-pub count_passed : (s t : State) (at nodes : ℕ) → count s at nodes ≡ Ok t → (nodes ≤ 100000) × HasRoom s nodes × (grown s nodes ≡ t)
+pub count_passed : (s t : State) (at nodes : ℕ) → count s at nodes ≡ Ok t → (nodes ≤ MAX_TERM_NODES) × HasRoom s nodes × (grown s nodes ≡ t)
 count_passed s t at nodes e =
     let a = bind_ok (check_size at nodes) (λ u. grow s at nodes) t e in
     let b = room_passed s t at nodes a.2 in
     (size_passed at nodes a.0 a.1, b.0, b.1)
 
-pub sides_there : (s : State) (at : ℕ) (m : SidesMeasurement Extent) → ((m.left).measure).nodes ≤ 100000 → ((m.right).measure).nodes ≤ 100000 → HasRoom s (((m.left).measure).nodes + ((m.right).measure).nodes)
+pub sides_there : (s : State) (at : ℕ) (m : SidesMeasurement Extent) → ((m.left).measure).nodes ≤ MAX_TERM_NODES → ((m.right).measure).nodes ≤ MAX_TERM_NODES → HasRoom s (((m.left).measure).nodes + ((m.right).measure).nodes)
     → count_sides s at m ≡ Ok (grown s (((m.left).measure).nodes + ((m.right).measure).nodes))
 sides_there s at m left right room = rw (size_there at ((m.left).measure).nodes left, size_there at ((m.right).measure).nodes right) (room_there s at (((m.left).measure).nodes + ((m.right).measure).nodes) room)
 
 pub sides_passed : (s t : State) (at : ℕ) (m : SidesMeasurement Extent) → count_sides s at m ≡ Ok t
-    → (((m.left).measure).nodes ≤ 100000) × (((m.right).measure).nodes ≤ 100000) × HasRoom s (((m.left).measure).nodes + ((m.right).measure).nodes) × (grown s (((m.left).measure).nodes + ((m.right).measure).nodes) ≡ t)
+    → (((m.left).measure).nodes ≤ MAX_TERM_NODES) × (((m.right).measure).nodes ≤ MAX_TERM_NODES) × HasRoom s (((m.left).measure).nodes + ((m.right).measure).nodes) × (grown s (((m.left).measure).nodes + ((m.right).measure).nodes) ≡ t)
 sides_passed s t at m e =
     let a = bind_ok (check_size at ((m.left).measure).nodes) _ t e in
     let b = bind_ok (check_size at ((m.right).measure).nodes) _ t a.2 in
     let c = room_passed s t at (((m.left).measure).nodes + ((m.right).measure).nodes) b.2 in
     (size_passed at ((m.left).measure).nodes a.0 a.1, size_passed at ((m.right).measure).nodes b.0 b.1, c.0, c.1)
 
-pub parts_there : (s : State) (at : ℕ) (m : TripleMeasurement Extent) → ((m.pre).measure).nodes ≤ 100000 → ((m.body).measure).nodes ≤ 100000 → ((m.post).measure).nodes ≤ 100000 → HasRoom s (triple_nodes m)
+pub parts_there : (s : State) (at : ℕ) (m : TripleMeasurement Extent) → ((m.pre).measure).nodes ≤ MAX_TERM_NODES → ((m.body).measure).nodes ≤ MAX_TERM_NODES → ((m.post).measure).nodes ≤ MAX_TERM_NODES → HasRoom s (triple_nodes m)
     → count_parts s at m ≡ Ok (grown s (triple_nodes m))
 parts_there s at m pre body post room = rw (size_there at ((m.pre).measure).nodes pre, size_there at ((m.body).measure).nodes body, size_there at ((m.post).measure).nodes post) (room_there s at (triple_nodes m) room)
 
 pub parts_passed : (s t : State) (at : ℕ) (m : TripleMeasurement Extent) → count_parts s at m ≡ Ok t
-    → (((m.pre).measure).nodes ≤ 100000) × (((m.body).measure).nodes ≤ 100000) × (((m.post).measure).nodes ≤ 100000) × HasRoom s (triple_nodes m) × (grown s (triple_nodes m) ≡ t)
+    → (((m.pre).measure).nodes ≤ MAX_TERM_NODES) × (((m.body).measure).nodes ≤ MAX_TERM_NODES) × (((m.post).measure).nodes ≤ MAX_TERM_NODES) × HasRoom s (triple_nodes m) × (grown s (triple_nodes m) ≡ t)
 parts_passed s t at m e =
     let a = bind_ok (check_size at ((m.pre).measure).nodes) _ t e in
     let b = bind_ok (check_size at ((m.body).measure).nodes) _ t a.2 in

@@ -1,5 +1,6 @@
 -- If the syntax is correct, an item passes its checks exactly when it makes some state, and the result is that state.
 use Rattle.std.proofs.Common.{◌≡◌, ℕ, ◌+◌, ◌≤◌, ◌<◌, List, [], ◌∷◌, ◌++◌, length, ⊎_elim, true, false, Ok, refl, sym, ap, subst, ◌∙◌, arith}
+use Rattle.kat_model.specs.declared.limits.TheConstants.{MAX_EXPR_NODES}
 use Rattle.kat_model.specs.Expressions.{CondTree}
 use Rattle.kat_model.proofs.Places.{slice_get_last}
 use Rattle.text_grammar.specs.declared.terminal.Terminal.TheVariants.{Separator, Zero}
@@ -174,8 +175,8 @@ names_limited each same (one_name l) s t h = same s l t h
 names_limited each same (more_names l c ns) s t h = names_limited each same ns h.0 t h.2 ∙ same s l h.0 h.1
 
 -- an additional program
-prog_limited : (ps : List ProgParts) (d : ProgParts) → AreLimited ps → largest_in d.tree ≤ 1000 → AreLimited (ps ++ d ∷ [])
-prog_limited ps d old new i p e = ⊎_elim (λ h. old i p h) (λ h. subst (λ (q : ProgParts). largest_in q.tree ≤ 1000) h.1 new) (slice_get_last ps d i p e)
+prog_limited : (ps : List ProgParts) (d : ProgParts) → AreLimited ps → largest_in d.tree ≤ MAX_EXPR_NODES → AreLimited (ps ++ d ∷ [])
+prog_limited ps d old new i p e = ⊎_elim (λ h. old i p h) (λ h. subst (λ (q : ProgParts). largest_in q.tree ≤ MAX_EXPR_NODES) h.1 new) (slice_get_last ps d i p e)
 
 abbrev progs_of : State → List ProgParts
 progs_of s = s.progs

@@ -1,6 +1,7 @@
 -- If the syntax is correct, a definition, a program or a hypothesis passes its checks exactly when it makes some state,
 -- and the result is that state.
 use Rattle.std.proofs.Common.{◌≡◌, ℕ, ◌+◌, ◌≤◌, List, [], false, Result, Ok, refl, sym, ap, subst, ◌∙◌, arith}
+use Rattle.kat_model.specs.declared.limits.TheConstants.{MAX_TERM_NODES}
 use Rattle.kat_model.specs.Trees.{Term, test_size, term_size}
 use Rattle.kat_model.specs.Expressions.{CondTree, test_without_comparisons}
 use Rattle.text_tokens.specs.declared.fault.TextFault.{TextFault}
@@ -50,7 +51,7 @@ pub definition_there : (s t : State) (at : ℕ) (name : Leaf) (p : Phrase term) 
 definition_there s t at name p ts ends obeys fits h =
     let x = term_walks s.world p h.tree fits h.is_term in
     let w = x.1 in
-    let few : (x.0).nodes ≤ 100000 = omega (arith, w.nodes, w.small) in
+    let few : (x.0).nodes ≤ MAX_TERM_NODES = omega (arith, w.nodes, w.small) in
     let room : HasRoom s (x.0).nodes = subst (HasRoom s) (sym w.nodes) h.room in
     rw (new_there s name.at name.text h.new, w.measured, count_there s at (x.0).nodes few room, tree_there (grown s (x.0).nodes) p ts h.tree ends obeys w.built, w.nodes, w.deep, h.made) refl
 
@@ -80,7 +81,7 @@ pub program_there : (s t : State) (at : ℕ) (name : Leaf) (p : BlockPhrase bloc
 program_there s t at name p ts limited obeys fits h =
     let x = block_walks s.world s.progs p h.tree limited fits h.is_block in
     let w = x.1 in
-    let few : (x.0).nodes ≤ 100000 = omega (arith, w.nodes, h.is_block.small) in
+    let few : (x.0).nodes ≤ MAX_TERM_NODES = omega (arith, w.nodes, h.is_block.small) in
     let room : HasRoom s (x.0).nodes = subst (HasRoom s) (sym w.nodes) h.room in
     rw (new_there s name.at name.text h.new, w.measured, numbers_there (width_of s) (prog_onto name p []) h.numbers, count_there s at (x.0).nodes few room, block_tree_there (grown s (x.0).nodes) p ts h.tree obeys h.is_block.built, w.nodes, w.deep, h.made) refl
 
@@ -113,7 +114,7 @@ pub zero_there : (s t : State) (at : ℕ) (p : Phrase term) (ts : List Lexeme) �
 zero_there s t at p ts ends obeys fits h =
     let x = term_walks s.world p h.tree fits h.is_term in
     let w = x.1 in
-    let few : (x.0).nodes ≤ 100000 = omega (arith, w.nodes, w.small) in
+    let few : (x.0).nodes ≤ MAX_TERM_NODES = omega (arith, w.nodes, w.small) in
     let room : HasRoom s (x.0).nodes = subst (HasRoom s) (sym w.nodes) h.room in
     rw (hyp_there s at h.few, w.measured, count_there s at (x.0).nodes few room, tree_there (grown s (x.0).nodes) p ts h.tree ends obeys w.built, w.nodes, h.made) refl
 
@@ -186,7 +187,7 @@ triple_hyp_there s t at x ts obeys fits h =
     let size = triple_size h.pre h.body h.post ((m.1).as_test refl) ((o.1).as_test refl) in
     let sum = (m.0).nodes + (n.0).nodes + (o.0).nodes + 5 in
     let count : (m.0).nodes + (n.0).nodes + (o.0).nodes + 5 ≡ term_size (triple_term h.pre h.body h.post) = omega (arith, size, (m.1).nodes, (n.1).nodes, (o.1).nodes) in
-    let few : (m.0).nodes + (n.0).nodes + (o.0).nodes + 5 ≤ 100000 = omega (arith, count, h.small) in
+    let few : (m.0).nodes + (n.0).nodes + (o.0).nodes + 5 ≤ MAX_TERM_NODES = omega (arith, count, h.small) in
     let room : HasRoom s ((m.0).nodes + (n.0).nodes + (o.0).nodes + 5) = subst (HasRoom s) (sym count) h.room in
     rw (hyp_there s at h.few, triple_there s x ts m.0 n.0 o.0 h.pre h.body h.post w, count_there s at sum few room, triple_built s sum x ts m.0 n.0 o.0 h.pre h.body h.post obeys w, count, h.made) refl
 

@@ -1,6 +1,7 @@
 -- The parts of a problem file, and the state that its items have declared, defined and stated so far.
-use Rattle.std.specs.Prelude.{ℕ, ◌+◌, List, [], ◌∷◌, ◌++◌, length, slice_get, Bool, ◌||◌, if◌then◌else◌, nat_lt, nat_eq, Result, Ok, Err, Option, Some, None, unwrap_or}
+use Rattle.std.specs.Prelude.{ℕ, ◌+◌, List, [], ◌∷◌, ◌++◌, length, slice_get, Bool, ◌||◌, if◌then◌else◌, nat_lt, nat_eq, Result, Ok, Err, Option, Some, None, unwrap_or, nat_le}
 use Rattle.std.specs.Option.{is_some}
+use Rattle.kat_model.specs.declared.limits.TheConstants.{MAX_TESTS, MAX_ACTIONS, MAX_VARS, MAX_ROUNDS, MAX_GOALS, MAX_TERM_NODES, MAX_TEXT_NODES}
 use Rattle.kat_model.specs.Trees.{Term}
 use Rattle.kat_model.specs.Expressions.{CondTree, test_without_comparisons}
 use Rattle.kat_model.specs.declared.expression.Width.{Width}
@@ -60,7 +61,7 @@ prog_named w ps name = prog_meant ps (meaning w name)
 -- the maximum number of goals
 abbrev pub most_goals : GoalLimit → ℕ
 most_goals One = 1
-most_goals Batch = 64
+most_goals Batch = MAX_GOALS
 
 -- the fault of a goal past the maximum, at its keyword
 abbrev pub goal_fault : GoalLimit → ℕ → TextFault
@@ -127,23 +128,23 @@ file_of s goal = record {
 abbrev pub is_known : State → List ℕ → Bool
 is_known s name = is_some (meaning s.world name)
 
--- an additional test or action (at most 48 of each), or an additional variable (at most 64)
+-- an additional test, action or variable, within the limits
 abbrev pub declare_test : State → ℕ → List ℕ → Result State TextFault
 declare_test s at name =
     if is_known s name then Err (DoubleName at)
-    else if nat_lt 47 s.tests then Err (TooMany at)
+    else if nat_le MAX_TESTS s.tests then Err (TooMany at)
     else Ok (record s { world = declared s.world name (Test s.tests); tests = s.tests + 1 })
 
 abbrev pub declare_action : State → ℕ → List ℕ → Result State TextFault
 declare_action s at name =
     if is_known s name then Err (DoubleName at)
-    else if nat_lt 47 s.actions then Err (TooMany at)
+    else if nat_le MAX_ACTIONS s.actions then Err (TooMany at)
     else Ok (record s { world = declared s.world name (Action s.actions); actions = s.actions + 1 })
 
 abbrev pub declare_var : State → ℕ → List ℕ → Result State TextFault
 declare_var s at name =
     if is_known s name then Err (DoubleName at)
-    else if nat_lt 63 s.vars then Err (TooMany at)
+    else if nat_le MAX_VARS s.vars then Err (TooMany at)
     else Ok (record s { world = declared s.world name (Var s.vars); vars = s.vars + 1 })
 
 -- a name that is defined must be new
@@ -169,9 +170,9 @@ with_rounds s n = record s { rounds = Some n }
 abbrev pub with_width : State → Width → State
 with_width s w = record s { width = Some w }
 
--- at most 16 rounds; the number is at this place
+-- at most `MAX_ROUNDS` rounds; the number is at this place
 abbrev pub set_rounds : State → ℕ → ℕ → Result State TextFault
-set_rounds s at n = if nat_lt 16 n then Err (TooMany at) else Ok (with_rounds s n)
+set_rounds s at n = if nat_lt MAX_ROUNDS n then Err (TooMany at) else Ok (with_rounds s n)
 
 -- the width of that many bits
 abbrev pub width_with : ℕ → Option Width
@@ -193,11 +194,11 @@ set_width s at n = take_width s at (width_with n)
 
 -- adds nodes to the total of the file, for an item that begins at this place
 abbrev pub grow : State → ℕ → ℕ → Result State TextFault
-grow s at nodes = if nat_lt 1000000 (s.size + nodes) then Err (TooLarge at) else Ok (record s { size = s.size + nodes })
+grow s at nodes = if nat_lt MAX_TEXT_NODES (s.size + nodes) then Err (TooLarge at) else Ok (record s { size = s.size + nodes })
 
--- a separate item, or one part of a goal, has at most 100,000 nodes
+-- a separate item, or one part of a goal, has at most `MAX_TERM_NODES` nodes
 abbrev pub check_size : ℕ → ℕ → Result (Unit {0}) TextFault
-check_size at nodes = if nat_lt 100000 nodes then Err (TooLarge at) else Ok tt
+check_size at nodes = if nat_lt MAX_TERM_NODES nodes then Err (TooLarge at) else Ok tt
 
 -- ---- definitions, hypotheses and goals
 

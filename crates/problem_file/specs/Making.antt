@@ -1,5 +1,6 @@
 -- The state that each item of a problem file makes from the state before it.
-use Rattle.std.specs.Prelude.{ℕ, ◌+◌, List, length, Bool, true, false, if◌then◌else◌, nat_lt, Result, Ok, Err, Option, Some, None, option_map, option_and_then}
+use Rattle.std.specs.Prelude.{ℕ, ◌+◌, List, length, Bool, true, false, if◌then◌else◌, nat_lt, Result, Ok, Err, Option, Some, None, option_map, option_and_then, nat_le}
+use Rattle.kat_model.specs.declared.limits.TheConstants.{MAX_HYPS}
 use Rattle.kat_model.specs.Trees.{Term}
 use Rattle.kat_model.specs.Expressions.{CondTree}
 use Rattle.text_tokens.specs.declared.fault.TextFault.{TextFault}
@@ -109,9 +110,9 @@ abbrev pub define_prog : State → ℕ → List ℕ → Measurement Extent → R
 define_prog s at name m =
     count s at (m.measure).nodes >>= λ t. built_block t m.tokens >>= λ x. Ok (add_prog t name x.0 (m.measure).nesting)
 
--- at most 8,192 hypotheses
+-- at most `MAX_HYPS` hypotheses
 abbrev pub begin_hyp : State → ℕ → Result (Unit {0}) TextFault
-begin_hyp s at = if nat_lt 8191 (length s.hyps) then Err (TooMany at) else Ok tt
+begin_hyp s at = if nat_le MAX_HYPS (length s.hyps) then Err (TooMany at) else Ok tt
 
 abbrev pub state_zero : State → ℕ → Measurement Extent → Result State TextFault
 state_zero s at m = count s at (m.measure).nodes >>= λ t. built_term t m.tokens >>= λ x. Ok (state_hyp t x.0)

@@ -60,7 +60,7 @@ tested limit ts = scan_file ts >>= λ u. walk (start limit) ts >>= check_goal
 abbrev pub HasFirstFault : GoalLimit → List ℕ → TextFault → Type 0
 HasFirstFault limit bytes e = IsFirstFault (tested limit) bytes e
 
--- the first fault of a text with one goal, and of a text with up to 64
+-- the first fault of a text with one goal, and of a text with up to `MAX_GOALS`
 abbrev pub FirstFault : List ℕ → TextFault → Type 0
 FirstFault bytes e = HasFirstFault One bytes e
 

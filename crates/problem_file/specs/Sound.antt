@@ -1,5 +1,6 @@
 -- The states that the items of a text make, one after the other, if every requirement holds.
 use Rattle.std.specs.Prelude.{◌≡◌, ◌≤◌, ◌<◌, ℕ, ◌+◌, List, [], ◌∷◌, length, Bool, true, false, Ok, Option, Some, None, option_and_then}
+use Rattle.kat_model.specs.declared.limits.TheConstants.{MAX_TESTS, MAX_ACTIONS, MAX_VARS, MAX_ROUNDS, MAX_TERM_NODES, MAX_EXPR_NODES, MAX_TEXT_NODES, MAX_HYPS}
 use Rattle.kat_model.specs.Trees.{Term, term_size}
 use Rattle.kat_model.specs.Expressions.{CondTree}
 use Rattle.kat_model.specs.declared.expression.Width.{Width}
@@ -40,17 +41,17 @@ with_action s name = record s { world = declared s.world name (Action s.actions)
 abbrev pub with_var : State → List ℕ → State
 with_var s name = record s { world = declared s.world name (Var s.vars); vars = s.vars + 1 }
 
--- the name is new, and there are fewer than 48 tests
+-- the name is new, and there are fewer than `MAX_TESTS` tests
 abbrev pub DeclaresTest : State → Leaf → State → Type 0
-DeclaresTest s l t = IsUndeclared s.world l.text × (s.tests < 48) × (t ≡ with_test s l.text)
+DeclaresTest s l t = IsUndeclared s.world l.text × (s.tests < MAX_TESTS) × (t ≡ with_test s l.text)
 
--- the name is new, and there are fewer than 48 actions
+-- the name is new, and there are fewer than `MAX_ACTIONS` actions
 abbrev pub DeclaresAction : State → Leaf → State → Type 0
-DeclaresAction s l t = IsUndeclared s.world l.text × (s.actions < 48) × (t ≡ with_action s l.text)
+DeclaresAction s l t = IsUndeclared s.world l.text × (s.actions < MAX_ACTIONS) × (t ≡ with_action s l.text)
 
--- the name is new, and there are fewer than 64 variables
+-- the name is new, and there are fewer than `MAX_VARS` variables
 abbrev pub DeclaresVar : State → Leaf → State → Type 0
-DeclaresVar s l t = IsUndeclared s.world l.text × (s.vars < 64) × (t ≡ with_var s l.text)
+DeclaresVar s l t = IsUndeclared s.world l.text × (s.vars < MAX_VARS) × (t ≡ with_var s l.text)
 
 -- each of the names in turn
 abbrev pub EachName : {S : Type 0} → (S → Leaf → S → Type 0) → S → Names → S → Type 0
@@ -63,21 +64,21 @@ EachName {S} each s (more_names l c ns) t = (u : S) × each s l u × EachName ea
 pub record IsTerm (w : ScopeParts) (p : Phrase term) (tree : Term) : Type 0 where
   pub sound : IsSound w (context 0 false false) p
   pub built : fold (trees w) (context 0 false false) p (λ e. e ∷ []) ≡ Ok tree
-  pub small : term_size tree ≤ 100000
+  pub small : term_size tree ≤ MAX_TERM_NODES
 
 -- the phrase, which is in braces, denotes this condition, which is not too large
 pub record IsCond (w : ScopeParts) (compares : Bool) (p : Phrase cond) (tree : CondTree) : Type 0 where
   pub sound : IsSound w (context 1 false compares) p
   pub built : fold (trees w) (context 1 false compares) p (λ b. b ∷ []) ≡ Ok tree
-  pub narrow : largest_expr tree ≤ 1000
-  pub small : cond_size tree ≤ 100000
+  pub narrow : largest_expr tree ≤ MAX_EXPR_NODES
+  pub small : cond_size tree ≤ MAX_TERM_NODES
 
 -- the block denotes this program, with earlier programs spliced in, and it is not too large
 pub record IsBlock (w : ScopeParts) (ps : List ProgParts) (p : BlockPhrase block) (tree : ProgTree) : Type 0 where
   pub sound : BlockIsSound w ps 0 p
   pub built : (fold_block (block_trees w ps) 0 p [] >>= λ ss. Ok (prog_with ss)) ≡ Ok tree
-  pub narrow : largest_in tree ≤ 1000
-  pub small : prog_size tree ≤ 100000
+  pub narrow : largest_in tree ≤ MAX_EXPR_NODES
+  pub small : prog_size tree ≤ MAX_TERM_NODES
 
 -- the program that a phrase names, if the phrase is only a program's name
 abbrev pub named_by : State → Phrase term → Option ProgParts
@@ -88,7 +89,7 @@ pub record NamesProg (s : State) (p : Phrase term) (tree : ProgTree) : Type 0 wh
   pub parts : ProgParts
   pub named : named_by s p ≡ Some parts
   pub same : tree ≡ parts.tree
-  pub small : prog_size tree ≤ 100000
+  pub small : prog_size tree ≤ MAX_TERM_NODES
 
 -- a side of a goal
 abbrev pub IsSide : State → Phrase term → SideTree → Type 0
@@ -105,9 +106,9 @@ side_size (prog_side p) = prog_size p
 abbrev pub grown : State → ℕ → State
 grown s nodes = record s { size = s.size + nodes }
 
--- all items together have at most 1,000,000 nodes
+-- all items together have at most `MAX_TEXT_NODES` nodes
 abbrev pub HasRoom : State → ℕ → Type 0
-HasRoom s nodes = s.size + nodes ≤ 1000000
+HasRoom s nodes = s.size + nodes ≤ MAX_TEXT_NODES
 
 -- ---- definitions
 
@@ -129,9 +130,9 @@ pub record DefinesProg (s : State) (name : Leaf) (p : BlockPhrase block) (t : St
 
 -- ---- hypotheses
 
--- a hypothesis, of at most 8,192
+-- a hypothesis, of at most `MAX_HYPS`
 pub record States (s : State) (p : Phrase term) (t : State) : Type 0 where
-  pub few : length s.hyps < 8192
+  pub few : length s.hyps < MAX_HYPS
   pub tree : Term
   pub is_term : IsTerm s.world p tree
   pub room : HasRoom s (term_size tree)
@@ -139,25 +140,25 @@ pub record States (s : State) (p : Phrase term) (t : State) : Type 0 where
 
 -- a hypothesis that is a triple, without comparisons and without a program; its size is the size of its term
 pub record StatesTriple (s : State) (x : TriplePhrase) (t : State) : Type 0 where
-  pub few : length s.hyps < 8192
+  pub few : length s.hyps < MAX_HYPS
   pub pre : CondTree
   pub body : Term
   pub post : CondTree
   pub is_pre : IsCond s.world false x.pre.inner pre
   pub is_body : IsTerm s.world x.body body
   pub is_post : IsCond s.world false x.post.inner post
-  pub small : term_size (triple_term pre body post) ≤ 100000
+  pub small : term_size (triple_term pre body post) ≤ MAX_TERM_NODES
   pub room : HasRoom s (term_size (triple_term pre body post))
   pub made : t ≡ state_hyp (grown s (term_size (triple_term pre body post))) (triple_term pre body post)
 
 -- ---- rounds and width
 
--- the only `rounds`, at most 16
+-- the only `rounds`, at most `MAX_ROUNDS`
 pub record SetsRounds (s : State) (x : Numeral) (t : State) : Type 0 where
   pub first : s.rounds ≡ None
   pub number : ℕ
   pub is_number : numeral_value x ≡ Ok number
-  pub few : number ≤ 16
+  pub few : number ≤ MAX_ROUNDS
   pub made : t ≡ with_rounds s number
 
 -- the only `width`, before the first `var`, `prog` and `goal`

@@ -32,19 +32,19 @@ pub enum Goal {
 pub struct File {
     /// The meaning of each name.
     pub scope: Scope,
-    /// The number of declared tests, at most 48.
+    /// The number of declared tests, at most `MAX_TESTS`.
     pub tests: usize,
-    /// The number of declared actions, at most 48.
+    /// The number of declared actions, at most `MAX_ACTIONS`.
     pub actions: usize,
-    /// The number of declared variables, at most 64.
+    /// The number of declared variables, at most `MAX_VARS`.
     pub vars: usize,
     /// The number of defined terms.
     pub terms: usize,
     /// The programs, with the programs that they name spliced in.
     pub progs: Vec<NamedProg>,
-    /// The terms that are stated to be 0, at most 8,192.
+    /// The terms that are stated to be 0, at most `MAX_HYPS`.
     pub hyps: Vec<Kat>,
-    /// The number of `rounds`, at most 16; 1 if the text has none.
+    /// The number of `rounds`, at most `MAX_ROUNDS`; 1 if the text has none.
     pub rounds: u64,
     pub goal: Goal,
     /// The width of the numbers in programs; 64 bits if the text has none.

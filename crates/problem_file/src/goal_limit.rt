@@ -1,12 +1,14 @@
 //! The limit on the number of goals of a text.
+use kat_model::MAX_GOALS;
 use text_tokens::TextFault;
 
-// The limit on the number of goals of a text.
+// The limit on the number of goals of a text. One walk reads texts with one goal and texts with up to `MAX_GOALS`. What
+// bytes say, their first fault and the law that they have one answer are stated for each limit.
 #[derive(Clone, Copy, Debug, PartialEq, Eq)]
 pub(crate) enum GoalLimit {
     // One goal; a second is `TwoGoals`.
     One,
-    // 64 goals; another one is `TooMany`.
+    // `MAX_GOALS` goals; another one is `TooMany`.
     Batch,
 }
 
@@ -19,7 +21,7 @@ impl GoalLimit {
     {
         match self {
             GoalLimit::One => 1,
-            GoalLimit::Batch => 64,
+            GoalLimit::Batch => MAX_GOALS,
         }
     }
 

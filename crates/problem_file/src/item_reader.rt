@@ -5,14 +5,11 @@ ghost use Rattle.problem_file.specs.Working.Numbers.{AreNumbered};
 
 use crate::file::{File, Goal};
 use crate::goal_limit::GoalLimit;
-use kat_model::{Kat, MAX_ACTIONS, MAX_TESTS, MAX_TEXT_NODES, Width};
+use kat_model::{Kat, MAX_ACTIONS, MAX_TESTS, MAX_TEXT_NODES, MAX_VARS, Width};
 use std::alloc::Global;
 use text_scopes::{Meaning, Scope};
 use text_tokens::{TextFault, Token};
 use while_lang::NamedProg;
-
-// The maximum number of variables of a text.
-const MAX_VARS: usize = 64;
 
 // Reads items whose syntax was checked before.
 #[derive(Drop)]

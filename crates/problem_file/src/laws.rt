@@ -16,8 +16,8 @@ pub fn items_are_folded()
 {}
 
 /// If the syntax is correct, the walk over the items succeeds exactly when each item makes a next state, and it returns
-/// the state that they make. This requires that the expressions of earlier programs have at most 1,000 nodes, as those
-/// of programs that were read have.
+/// the state that they make. This requires that the expressions of earlier programs have at most `MAX_EXPR_NODES`
+/// nodes, as those of programs that were read have.
 pub fn items_are_walked()
     ensures { ItemsAreWalked }
 {}
@@ -28,8 +28,8 @@ pub fn have_one_answer()
     ensures all { HaveOneAnswer ReadsBoth FirstFaultOfAll }
 {}
 
-/// At most 48 tests, 48 actions and 64 variables are declared, each has a name, and hypotheses, programs and the goals
-/// use no others.
+/// At most `MAX_TESTS` tests, `MAX_ACTIONS` actions and `MAX_VARS` variables are declared, each has a name, and
+/// hypotheses, programs and the goals use no others.
 pub fn are_in_ranges()
     ensures one { AreInRanges }
     ensures all { AreAllInRanges }

@@ -23,15 +23,14 @@ use crate::item_reading::{Comparison, Declared, ItemReading, Setting};
 use crate::names::lone_name;
 use crate::phrase::{Measured, Sides, Triple};
 use crate::triple::triple_term;
-use kat_model::{Cond, Items, Kat, MAX_HYPS, MAX_OPEN, MAX_TERM_NODES, NoMemory, Width};
+use kat_model::{
+    Cond, Items, Kat, MAX_HYPS, MAX_OPEN, MAX_ROUNDS, MAX_TERM_NODES, NoMemory, Width,
+};
 use std::alloc::Global;
 use text_grammar::{Terminal, terminal_at};
 use text_scopes::{Extent, build_cond, build_term, measure_cond, measure_term};
 use text_tokens::{TextFault, Token};
 use while_lang::{NamedProg, build_block, measure_block};
-
-// The maximum number of rounds of a text.
-const MAX_ROUNDS: u64 = 16;
 
 // Checks that an item, or a part of a goal, is within the limit of nodes; `TooLarge` at `at` past it.
 fn check_size(at: usize, nodes: u64) -> Result<(), TextFault>
@@ -251,7 +250,8 @@ impl ItemReader {
         Ok(Goal::Triple(pre, body, post))
     }
 
-    // Whether a `var`, a `prog` or a `goal` precedes.
+    // Whether a `var`, a `prog` or a `goal` precedes, after which `width` is refused (`Sort`). Each leaves a variable,
+    // a program or a goal, so nothing else needs to be remembered.
     fn has_begun(&self) -> bool
         ensures { result ≡ has_begun (state_of self.now) }
     {

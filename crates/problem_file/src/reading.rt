@@ -21,7 +21,7 @@ use crate::syntax::test_syntax;
 use std::alloc::Global;
 use text_tokens::{MAX_LEN, TextFault, Token, tokens};
 
-/// Returns the bytes as a text. Fails with `TooLong` past 1,048,576 bytes, or with `NotUtf8` and the length of the
+/// Returns the bytes as a text. Fails with `TooLong` past `MAX_LEN` bytes, or with `NotUtf8` and the length of the
 /// longest prefix that is valid UTF-8.
 pub fn text_of(bytes: &[u8]) -> Result<&str, TextFault>
     ensures text { IfOk result (λ text. text.now ≡ bytes.now) }
@@ -85,10 +85,10 @@ fn read_files(alloc: Global, bytes: &[u8], limit: GoalLimit) -> Result<(File, Ve
 }
 
 /// Reads the text of a problem file. An invalid text is refused with its first fault, in this order: `TooLong` past
-/// 1,048,576 bytes; `NotUtf8`; `BadToken`; the first in text order of `Syntax`, of `TooDeep` if more than 200 are open,
-/// and of `NumberTooWide` from 2^64 on; the first fault of the first item that has one (at its keyword `TwoGoals`,
-/// `DoubleName`, `Sort` of a late `width`, `TooMany`; at its tokens `DoubleName`, `UnknownName`, `Sort`, `TooDeep`
-/// through a defined name, `TooMany`; in a program or a goal `NumberTooWide` from 2 to the width on; and last
+/// `MAX_LEN` bytes; `NotUtf8`; `BadToken`; the first in text order of `Syntax`, of `TooDeep` if more than `MAX_OPEN`
+/// are open, and of `NumberTooWide` from 2^64 on; the first fault of the first item that has one (at its keyword
+/// `TwoGoals`, `DoubleName`, `Sort` of a late `width`, `TooMany`; at its tokens `DoubleName`, `UnknownName`, `Sort`,
+/// `TooDeep` through a defined name, `TooMany`; in a program or a goal `NumberTooWide` from 2 to the width on; and last
 /// `TooLarge`); `NoGoal`.
 pub fn read(alloc: Global, bytes: &[u8]) -> Result<File, TextFault>
     // The bytes denote the file; a fault is `NoMemory` or the first fault of the bytes.
@@ -103,9 +103,9 @@ pub fn read(alloc: Global, bytes: &[u8]) -> Result<File, TextFault>
     }
 }
 
-/// Reads a text with one to 64 goals: returns the file with its first goal, and the goals after it in text order. The
-/// other fields of the file are those of the whole text, and the total size counts all goals. Refuses as `read` does,
-/// except for `TwoGoals`: a 65th goal is `TooMany` at its keyword.
+/// Reads a text with one to `MAX_GOALS` goals: returns the file with its first goal, and the goals after it in text
+/// order. The other fields of the file are those of the whole text, and the total size counts all goals. Refuses as
+/// `read` does, except for `TwoGoals`: a 65th goal is `TooMany` at its keyword.
 pub fn read_all(alloc: Global, bytes: &[u8]) -> Result<(File, Vec<Goal>), TextFault>
     // The bytes denote the file and the goals; a fault is `NoMemory` or the first fault of the bytes.
     ensures answers { MatchResult result (λ x. ReadsAll bytes.now x.0 (map goal_tree x.1.items)) (λ e. (e ≡ NoRoom) ⊎ FirstFaultOfAll bytes.now e) }

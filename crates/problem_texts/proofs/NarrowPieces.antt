@@ -94,13 +94,13 @@ module _ (v : Width) where
     )
     stmts_narrow (act_then a rest) is narrow ps h at = (
       word_narrow (names (Action a)) is.0.identifier (at + 1),
-      (tt, stmts_narrow rest is.1 narrow ps h (at + 1 + length (names (Action a)) + 1)),
+      (tt, stmts_narrow rest is.1 narrow.1 ps h (at + 1 + length (names (Action a)) + 1)),
     )
     stmts_narrow (assign_then x e rest) is narrow ps h at = (
       word_narrow (names (Var x)) is.0.identifier (at + 1),
       (
         tt,
-        expr_narrow e is.1 narrow.0 (symbol (codes ";") ∷ stmts_pieces names rest ps) (λ n. (tt, stmts_narrow rest is.2 narrow.1 ps h (n + 1))) (at + 1 + length (names (Var x)) + 1 + 2 + 1),
+        expr_narrow e is.1 narrow.1 (symbol (codes ";") ∷ stmts_pieces names rest ps) (λ n. (tt, stmts_narrow rest is.2 narrow.2 ps h (n + 1))) (at + 1 + length (names (Var x)) + 1 + 2 + 1),
       ),
     )
     stmts_narrow (branch_then b p q rest) is narrow ps h at =

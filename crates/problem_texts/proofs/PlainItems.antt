@@ -2,6 +2,7 @@
 use Rattle.std.proofs.Common.{◌≡◌, ◌≤◌, ◌<◌, ◌+◌, ℕ, zero, suc, List, [], ◌∷◌, ◌++◌, length, false, refl, sym, ap, ◌∙◌, subst, arith, append_assoc, length-append}
 use Rattle.std.proofs.lemmas.List.{append-nil}
 use Rattle.std.specs.Prelude.{codes}
+use Rattle.kat_model.specs.declared.limits.TheConstants.{MAX_TESTS, MAX_ACTIONS, MAX_TERM_NODES, MAX_TEXT_NODES, MAX_HYPS, MAX_OPEN}
 use Rattle.kat_model.specs.Trees.{Term, term_size}
 use Rattle.kat_model.specs.Problems.{terms_size}
 use Rattle.text_tokens.specs.Pieces.{Piece, word}
@@ -43,8 +44,8 @@ pub record AreItems (s : State) (at : ℕ) (ps : List Piece) (P : State → Type
 -- the term is within the limits of a text, and each number in it has its name
 pub record IsWritable (w : ScopeParts) (e : Term) : Type 0 where
   pub named : TermIsNamed w plain_name e
-  pub shallow : term_nesting e ≤ 200
-  pub small : term_size e ≤ 100000
+  pub shallow : term_nesting e ≤ MAX_OPEN
+  pub small : term_size e ≤ MAX_TERM_NODES
 
 abbrev pub AreWritable : ScopeParts → List Term → Type 0
 AreWritable w [] = Unit {0}
@@ -64,7 +65,7 @@ is_term w e p h writable = record {
   small = writable.small;
 }
 
-goal_items : (s : State) (at : ℕ) (left right : Term) → IsWritable s.world left → IsWritable s.world right → s.size + (term_size left + term_size right) ≤ 1000000 → length s.goals < most_goals s.limit → AreItems s at (goal_pieces left right) (Asks s [] left right)
+goal_items : (s : State) (at : ℕ) (left right : Term) → IsWritable s.world left → IsWritable s.world right → s.size + (term_size left + term_size right) ≤ MAX_TEXT_NODES → length s.goals < most_goals s.limit → AreItems s at (goal_pieces left right) (Asks s [] left right)
 goal_items s at left right l r room first =
     let a = (term_back s.world plain_name left l.named).0 (at + 4 + 1 + 5 + 1) (right_pieces right) in
     let b = (term_back s.world plain_name right r.named).0 (a.end + 1 + 1) end_pieces in
@@ -91,7 +92,7 @@ goal_items s at left right l r room first =
       holds = record { tests = refl; actions = refl; hyps = sym (append-nil s.hyps); goals = refl };
     }
 
-pub hyps_items : (hyps : List Term) (s : State) (at : ℕ) (left right : Term) → AreWritable s.world hyps → IsWritable s.world left → IsWritable s.world right → length s.hyps + length hyps ≤ 8192 → s.size + (terms_size hyps + (term_size left + term_size right)) ≤ 1000000 → length s.goals < most_goals s.limit → AreItems s at (hyps_pieces hyps (goal_pieces left right)) (Asks s hyps left right)
+pub hyps_items : (hyps : List Term) (s : State) (at : ℕ) (left right : Term) → AreWritable s.world hyps → IsWritable s.world left → IsWritable s.world right → length s.hyps + length hyps ≤ MAX_HYPS → s.size + (terms_size hyps + (term_size left + term_size right)) ≤ MAX_TEXT_NODES → length s.goals < most_goals s.limit → AreItems s at (hyps_pieces hyps (goal_pieces left right)) (Asks s hyps left right)
 hyps_items [] s at left right h l r few room first = goal_items s at left right l r (omega arith) first
 hyps_items (e ∷ es) s at left right h l r few room first =
     let a = (term_back s.world plain_name e h.0.named).0 (at + 3 + 1) (zero_pieces (hyps_pieces es (goal_pieces left right))) in
@@ -141,11 +142,11 @@ names_spelled x (y ∷ ys) at ps is =
     ap (λ (s : Terminal). lexeme s at x ∷ lexeme (Separator Comma) (at + length x) (codes ",") ∷ lexemes_from next (word y ∷ names_pieces ys ps)) (name_terminal x is.0.no_keyword)
     ∙ ap (λ (ts : List Lexeme). lexeme Name at x ∷ lexeme (Separator Comma) (at + length x) (codes ",") ∷ ts) (names_spelled y ys next ps is.1)
 
-pub tests_are_identifiers : (n k : ℕ) → k + n ≤ 48 → AreIdentifiers (test_names k n)
+pub tests_are_identifiers : (n k : ℕ) → k + n ≤ MAX_TESTS → AreIdentifiers (test_names k n)
 tests_are_identifiers zero k few = tt
 tests_are_identifiers (suc n) k few = (test_identifier k (omega arith), tests_are_identifiers n (k + 1) (omega arith))
 
-pub actions_are_identifiers : (n k : ℕ) → k + n ≤ 48 → AreIdentifiers (action_names k n)
+pub actions_are_identifiers : (n k : ℕ) → k + n ≤ MAX_ACTIONS → AreIdentifiers (action_names k n)
 actions_are_identifiers zero k few = tt
 actions_are_identifiers (suc n) k few = (action_identifier k (omega arith), actions_are_identifiers n (k + 1) (omega arith))
 
@@ -160,7 +161,7 @@ pub record Declares (s : State) (n m : ℕ) (t : State) : Type 0 where
   pub plain : IsPlain t.world n m
 
 -- the next test and `n` further tests
-each_test : (n : ℕ) (s : State) (at : ℕ) → s.tests + suc n ≤ 48 → s.actions ≤ 48 → IsPlain s.world s.tests s.actions
+each_test : (n : ℕ) (s : State) (at : ℕ) → s.tests + suc n ≤ MAX_TESTS → s.actions ≤ MAX_ACTIONS → IsPlain s.world s.tests s.actions
     → (t : State) × EachName DeclaresTest s (names_at (plain_name (Test s.tests)) (test_names (s.tests + 1) n) at) t × Declares s (s.tests + suc n) s.actions t
 each_test zero s at few small plain =
     let name = plain_name (Test s.tests) in
@@ -194,7 +195,7 @@ each_test (suc n) s at few small plain =
       },
     )
 
-each_action : (n : ℕ) (s : State) (at : ℕ) → s.actions + suc n ≤ 48 → s.tests ≤ 48 → IsPlain s.world s.tests s.actions
+each_action : (n : ℕ) (s : State) (at : ℕ) → s.actions + suc n ≤ MAX_ACTIONS → s.tests ≤ MAX_TESTS → IsPlain s.world s.tests s.actions
     → (t : State) × EachName DeclaresAction s (names_at (plain_name (Action s.actions)) (action_names (s.actions + 1) n) at) t × Declares s s.tests (s.actions + suc n) t
 each_action zero s at few small plain =
     let name = plain_name (Action s.actions) in
@@ -232,7 +233,7 @@ each_action (suc n) s at few small plain =
 abbrev Follow : State → ℕ → ℕ → List Piece → (State → Type 0) → Type 0
 Follow s n m ps P = (t : State) (at : ℕ) → Declares s n m t → AreItems t at ps P
 
-pub tests_items : (n : ℕ) (s : State) (at : ℕ) (ps : List Piece) (P : State → Type 0) → s.tests + n ≤ 48 → s.actions ≤ 48 → IsPlain s.world s.tests s.actions → Follow s (s.tests + n) s.actions ps P → AreItems s at (declaration_pieces (codes "test") (test_names s.tests n) ps) P
+pub tests_items : (n : ℕ) (s : State) (at : ℕ) (ps : List Piece) (P : State → Type 0) → s.tests + n ≤ MAX_TESTS → s.actions ≤ MAX_ACTIONS → IsPlain s.world s.tests s.actions → Follow s (s.tests + n) s.actions ps P → AreItems s at (declaration_pieces (codes "test") (test_names s.tests n) ps) P
 tests_items zero s at ps P few small plain follow =
     follow s at (record { tests = omega arith; actions = refl; hyps = refl; limit = refl; goals = refl; size = refl; plain = subst (λ (k : ℕ). IsPlain s.world k s.actions) (omega arith) plain })
 tests_items (suc n) s at ps P few small plain follow =
@@ -254,7 +255,7 @@ tests_items (suc n) s at ps P few small plain follow =
       holds = rest.holds;
     }
 
-pub actions_items : (n : ℕ) (s : State) (at : ℕ) (ps : List Piece) (P : State → Type 0) → s.actions + n ≤ 48 → s.tests ≤ 48 → IsPlain s.world s.tests s.actions → Follow s s.tests (s.actions + n) ps P → AreItems s at (declaration_pieces (codes "action") (action_names s.actions n) ps) P
+pub actions_items : (n : ℕ) (s : State) (at : ℕ) (ps : List Piece) (P : State → Type 0) → s.actions + n ≤ MAX_ACTIONS → s.tests ≤ MAX_TESTS → IsPlain s.world s.tests s.actions → Follow s s.tests (s.actions + n) ps P → AreItems s at (declaration_pieces (codes "action") (action_names s.actions n) ps) P
 actions_items zero s at ps P few small plain follow =
     follow s at (record { tests = refl; actions = omega arith; hyps = refl; limit = refl; goals = refl; size = refl; plain = subst (λ (k : ℕ). IsPlain s.world s.tests k) (omega arith) plain })
 actions_items (suc n) s at ps P few small plain follow =

@@ -2,6 +2,7 @@
 use Rattle.std.proofs.Common.{◌≡◌, ◌≤◌, ◌+◌, ℕ, List, [], ◌∷◌, ◌++◌, length, refl, sym, ap, ◌∙◌, subst, arith}
 use Rattle.std.proofs.lemmas.List.Elements.{All-head, All-tail}
 use Rattle.std.specs.Prelude.{codes, All}
+use Rattle.kat_model.specs.declared.limits.TheConstants.{MAX_TESTS, MAX_ACTIONS, MAX_TERM_NODES, MAX_OPEN}
 use Rattle.kat_model.specs.Trees.{Term, term_size}
 use Rattle.kat_model.specs.Problems.{ProblemParts, IsInRange, AreInRange, terms_size}
 use Rattle.text_tokens.specs.declared.lexer.TheConstants.{MAX_LEN}
@@ -22,13 +23,13 @@ use Rattle.problem_texts.proofs.PlainItems.{AreItems, IsWritable, AreWritable, h
 
 -- the text of the term is within the limit on nesting
 abbrev IsShallow : Term → Type 0
-IsShallow e = term_nesting e ≤ 200
+IsShallow e = term_nesting e ≤ MAX_OPEN
 
-module _ (w : ScopeParts) (tests actions : ℕ) (few : tests ≤ 48) (small : actions ≤ 48) (plain : IsPlain w tests actions) where
-  writable : (e : Term) → IsInRange tests actions e → IsShallow e → term_size e ≤ 100000 → IsWritable w e
+module _ (w : ScopeParts) (tests actions : ℕ) (few : tests ≤ MAX_TESTS) (small : actions ≤ MAX_ACTIONS) (plain : IsPlain w tests actions) where
+  writable : (e : Term) → IsInRange tests actions e → IsShallow e → term_size e ≤ MAX_TERM_NODES → IsWritable w e
   writable e inside shallow size = record { named = term_named w tests actions few small plain e inside; shallow = shallow; small = size }
 
-  all_writable : (es : List Term) → AreInRange tests actions es → All IsShallow es → terms_size es ≤ 100000 → AreWritable w es
+  all_writable : (es : List Term) → AreInRange tests actions es → All IsShallow es → terms_size es ≤ MAX_TERM_NODES → AreWritable w es
   all_writable [] inside shallow size = tt
   all_writable (e ∷ es) inside shallow size =
       (writable e inside.0 (All-head IsShallow e es shallow) (omega arith), all_writable es inside.1 (All-tail IsShallow e es shallow) (omega arith))

@@ -6,6 +6,7 @@ use Rattle.std.specs.Prelude.{codes, flat_map}
 use Rattle.std.specs.Ordering.{nat_cmp}
 use Rattle.std.specs.Cmp.Lexicographic.{slice_cmp}
 use Rattle.std.specs.FinMap.{get-empty}
+use Rattle.kat_model.specs.declared.limits.TheConstants.{MAX_TESTS, MAX_ACTIONS}
 use Rattle.kat_model.specs.Trees.{TestTree, bottom, top, prim, complement, meet, join, Term, zero, one, test, act, sum, product, star}
 use Rattle.kat_model.specs.Problems.{IsTestInRange, IsInRange, AreInRange}
 use Rattle.text_scopes.specs.declared.meaning.Meaning.{Meaning}
@@ -121,7 +122,7 @@ module _ (w : ScopeParts) (tests actions : ℕ) (few : tests < 2 ^ 64) (small : 
             (more.others name');
       }
 
-module _ (w : ScopeParts) (tests actions : ℕ) (few : tests ≤ 48) (small : actions ≤ 48) (plain : IsPlain w tests actions) where
+module _ (w : ScopeParts) (tests actions : ℕ) (few : tests ≤ MAX_TESTS) (small : actions ≤ MAX_ACTIONS) (plain : IsPlain w tests actions) where
   -- ---- terms printed with these names
 
   pub test_named : (k : ℕ) → k < tests → IsNameOf w (plain_name (Test k)) (Test k)

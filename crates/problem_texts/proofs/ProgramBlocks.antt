@@ -1,6 +1,7 @@
 -- The pieces of a printable program begin with its block; those of a printable condition begin with its phrase.
 use Rattle.std.proofs.Common.{◌≡◌, ◌≤◌, ◌+◌, ℕ, true, false, List, [], ◌∷◌, refl, ap, subst, arith}
 use Rattle.std.specs.Prelude.{codes}
+use Rattle.kat_model.specs.declared.limits.TheConstants.{MAX_OPEN}
 use Rattle.kat_model.specs.Expressions.{CondTree}
 use Rattle.kat_model.specs.declared.expression.Width.{Width}
 use Rattle.text_tokens.specs.Pieces.{Piece, symbol, gap}
@@ -40,7 +41,7 @@ pub record BeginsBlock (names : Meaning → List ℕ) (w : ScopeParts) (progs : 
 
 pub block_begins : (names : Meaning → List ℕ) (w : ScopeParts) (progs : List ProgParts) (v : Width) (vars : ℕ) (p : ProgTree) → ProgIsNamed w names p → IsProgPrintable v vars p → (at : ℕ) (ps : List Piece) → PiecesAreNarrow v ps → BeginsBlock names w progs v p at ps
 block_begins names w progs v vars p named h at ps after =
-    let levels : block_levels p ≤ 200 = h.shallow in
+    let levels : block_levels p ≤ MAX_OPEN = h.shallow in
     let a = stmts_begin w progs names p named (at + 1) (gap 32 ∷ symbol (codes "}") ∷ ps) in
     let phrase = braced (leaf at (codes "{")) a.phrase (leaf (a.end + 1) (codes "}")) in
     let rest = lexemes_from (a.end + 1 + 1) ps in

@@ -41,7 +41,7 @@ two_printable = record {
   vars = omega arith;
   left = record {
     in_range = (omega arith, (omega arith, tt), tt);
-    narrow = ((tt, omega arith), tt);
+    narrow = (tt, (tt, omega arith), tt);
     small_exprs = let three : 3 ≤ 1000 = omega arith in three;
     small = let four : 4 ≤ 100000 = omega arith in four;
     shallow = let two : 2 ≤ 200 = omega arith in two;
@@ -89,7 +89,7 @@ loop_printable = record {
   };
   body = record {
     in_range = ((omega arith, tt), (omega arith, tt, tt), tt);
-    narrow = ((tt, omega arith), (omega arith, tt), tt);
+    narrow = ((tt, omega arith), (tt, omega arith, tt), tt);
     small_exprs = let one : 1 ≤ 1000 = omega arith in one;
     small = let six : 6 ≤ 100000 = omega arith in six;
     shallow = let two : 2 ≤ 200 = omega arith in two;
@@ -152,7 +152,7 @@ stops_printable = record {
   no_var = no_main;
   program = record {
     in_range = (omega arith, (omega arith, tt), ((omega arith, tt), (omega arith, tt, tt), tt));
-    narrow = ((tt, omega arith), ((tt, omega arith), (omega arith, tt), tt));
+    narrow = (tt, (tt, omega arith), ((tt, omega arith), (tt, omega arith, tt), tt));
     small_exprs = let three : 3 ≤ 1000 = omega arith in three;
     small = let ten : 10 ≤ 100000 = omega arith in ten;
     shallow = let two : 2 ≤ 200 = omega arith in two;

@@ -1,6 +1,7 @@
 -- The pieces of a text of programs are items with the intended result.
 use Rattle.std.proofs.Common.{◌≡◌, ◌≤◌, ◌<◌, ◌+◌, ℕ, zero, suc, List, [], ◌∷◌, length, slice_get, Some, refl, sym, ap, ◌∙◌, subst, arith}
 use Rattle.std.specs.Prelude.{codes}
+use Rattle.kat_model.specs.declared.limits.TheConstants.{MAX_VARS, MAX_TERM_NODES, MAX_TEXT_NODES}
 use Rattle.kat_model.specs.Expressions.{CondTree}
 use Rattle.kat_model.specs.declared.expression.Width.{Width}
 use Rattle.kat_model.specs.declared.expression.Width.TheVariants.{W8, W16, W32, W64}
@@ -80,13 +81,13 @@ module _ (names : Meaning → List ℕ) where
   vars_are_identifiers (suc n) k v e are = (are.identifiers k (omega arith), vars_are_identifiers n (k + 1) v (omega arith) are)
 
   -- the next variable and `n` further ones, `m` in all
-  each_var : (n : ℕ) (w : Width) (k m at : ℕ) → k + suc n ≡ m → m ≤ 64 → AreVarNames names m → EachName DeclaresVar (vars_state w k) (names_at (names (Var k)) (var_names names (k + 1) n) at) (vars_state w m)
+  each_var : (n : ℕ) (w : Width) (k m at : ℕ) → k + suc n ≡ m → m ≤ MAX_VARS → AreVarNames names m → EachName DeclaresVar (vars_state w k) (names_at (names (Var k)) (var_names names (k + 1) n) at) (vars_state w m)
   each_var zero w k m at e few are = (next_is_new names k (fewer_names names m (suc k) (omega arith) are), omega arith, next_vars w k m (omega arith))
   each_var (suc n) w k m at e few are =
       let next = at + length (names (Var k)) + 1 + 1 in
       (vars_state w (k + 1), (next_is_new names k (fewer_names names m (suc k) (omega arith) are), omega arith, next_vars w k (k + 1) (omega arith)), each_var n w (k + 1) m next (omega arith) few are)
 
-  pub vars_items : (v : ℕ) → v ≤ 64 → AreVarNames names v → (w : Width) (at : ℕ) (ps : List Piece) (P : State → Type 0) → Follow (vars_state w v) ps P → AreItems (with_width start_one w) at (vars_pieces names v ps) P
+  pub vars_items : (v : ℕ) → v ≤ MAX_VARS → AreVarNames names v → (w : Width) (at : ℕ) (ps : List Piece) (P : State → Type 0) → Follow (vars_state w v) ps P → AreItems (with_width start_one w) at (vars_pieces names v ps) P
   vars_items zero few are w at ps P follow = follow at
   vars_items (suc n) few are w at ps P follow =
       let first = names (Var 0) in
@@ -112,7 +113,7 @@ module _ (names : Meaning → List ℕ) where
 abbrev pub prog_state : State → List ℕ → ProgTree → State
 prog_state s name p = add_prog (grown s (prog_size p)) name p (block_levels p)
 
-pub prog_items : (names : Meaning → List ℕ) (s : State) (v : Width) (vars : ℕ) (name : List ℕ) (p : ProgTree) → width_of s ≡ v → IsIdentifier name → IsUndeclared s.world name → ProgIsNamed s.world names p → IsProgPrintable v vars p → s.size + prog_size p ≤ 1000000
+pub prog_items : (names : Meaning → List ℕ) (s : State) (v : Width) (vars : ℕ) (name : List ℕ) (p : ProgTree) → width_of s ≡ v → IsIdentifier name → IsUndeclared s.world name → ProgIsNamed s.world names p → IsProgPrintable v vars p → s.size + prog_size p ≤ MAX_TEXT_NODES
     → (at : ℕ) (ps : List Piece) (P : State → Type 0) → PiecesAreNarrow v ps → Follow (prog_state s name p) ps P → AreItems s at (prog_pieces names name p ps) P
 prog_items names s v vars name p same identifier new named h room at ps P narrow follow =
     let place = at + 4 + 1 + length name + 1 in
@@ -152,7 +153,7 @@ pub record HasProg (s : State) (name : List ℕ) (p : ProgTree) : Type 0 where
   pub index : ℕ
   pub means : Means s.world name (Prog index)
   pub is : slice_get s.progs index ≡ Some (record { tree = p; nesting = block_levels p })
-  pub small : prog_size p ≤ 100000
+  pub small : prog_size p ≤ MAX_TERM_NODES
 
 named_side : (s : State) (at : ℕ) (name : List ℕ) (p : ProgTree) → HasProg s name p → NamesProg s (name_phrase at name) p
 named_side s at name p h = record { parts = record { tree = p; nesting = block_levels p }; named = ap (prog_meant s.progs) h.means ∙ h.is; same = refl; small = h.small }
@@ -160,7 +161,7 @@ named_side s at name p h = record { parts = record { tree = p; nesting = block_l
 abbrev pub equal_state : State → ProgTree → ProgTree → State
 equal_state s p q = state_goal (grown s (prog_size p + prog_size q)) (equal (prog_side p) (prog_side q))
 
-pub equal_items : (s : State) (x y : List ℕ) (p q : ProgTree) → IsIdentifier x → IsIdentifier y → HasProg s x p → HasProg s y q → s.size + (prog_size p + prog_size q) ≤ 1000000 → length s.goals < most_goals s.limit → (at : ℕ) → AreItems s at (equal_pieces x y) (λ t. t ≡ equal_state s p q)
+pub equal_items : (s : State) (x y : List ℕ) (p q : ProgTree) → IsIdentifier x → IsIdentifier y → HasProg s x p → HasProg s y q → s.size + (prog_size p + prog_size q) ≤ MAX_TEXT_NODES → length s.goals < most_goals s.limit → (at : ℕ) → AreItems s at (equal_pieces x y) (λ t. t ≡ equal_state s p q)
 equal_items s x y p q is_x is_y has_p has_q room first at =
     let left = at + 4 + 1 + 5 + 1 in
     let comma = left + length x in
@@ -201,7 +202,7 @@ abbrev pub triple_state : State → CondTree → ProgTree → CondTree → State
 triple_state s b p c = state_goal (grown s (cond_size b + prog_size p + cond_size c)) (triple b (prog_side p) c)
 
 pub triple_items : (s : State) (v : Width) (vars : ℕ) (b : CondTree) (p : ProgTree) (c : CondTree) → width_of s ≡ v → CondIsNamed s.world var_name b → CondIsNamed s.world var_name c → IsCondPrintable v vars b → IsCondPrintable v vars c → HasProg s (codes "P") p
-    → s.size + (cond_size b + prog_size p + cond_size c) ≤ 1000000 → length s.goals < most_goals s.limit → (at : ℕ) → AreItems s at (triple_goal_pieces b c) (λ t. t ≡ triple_state s b p c)
+    → s.size + (cond_size b + prog_size p + cond_size c) ≤ MAX_TEXT_NODES → length s.goals < most_goals s.limit → (at : ℕ) → AreItems s at (triple_goal_pieces b c) (λ t. t ≡ triple_state s b p c)
 triple_items s v vars b p c same pre post h k has_p room first at =
     let opening = at + 4 + 1 + 6 + 1 in
     let x = cond_begins var_name s.world v vars b pre h (opening + 1) (pre_end c) (λ n. refl) in

@@ -2,6 +2,7 @@
 use Rattle.std.proofs.Common.{◌≡◌, ◌≤◌, ◌+◌, ◌==◌, false, ℕ, List, [], ◌∷◌, length, get_or, slice_get, Some, refl, sym, ap, ◌∙◌, subst, arith}
 use Rattle.std.specs.Prelude.{codes}
 use Rattle.std.specs.Option.{option_map}
+use Rattle.kat_model.specs.declared.limits.TheConstants.{MAX_VARS, MAX_TERM_NODES}
 use Rattle.kat_model.specs.Expressions.{CondTree}
 use Rattle.kat_model.specs.declared.expression.Width.{Width}
 use Rattle.text_tokens.specs.declared.lexer.TheConstants.{MAX_LEN}
@@ -81,7 +82,7 @@ module _ (names : Meaning → List ℕ) (w : Width) (v : ℕ) (name : List ℕ) 
   one_items =
       let P : State → Type 0 = λ t. t ≡ equal_state after_prog p p in
       let goal = equal_pieces name name in
-      let size : prog_size p ≤ 100000 = h.program.small in
+      let size : prog_size p ≤ MAX_TERM_NODES = h.program.small in
       width_items w 0 (vars_pieces names v (prog_pieces names name p goal)) P
       (λ i. vars_items names v h.vars h.var_names w i (prog_pieces names name p goal) P
       (λ j. prog_items names (vars_state names w v) w v name p refl h.identifier name_new all_named h.program (omega arith) j goal P (equal_narrow w name name h.identifier h.identifier)
@@ -127,10 +128,10 @@ p_no_q : codes "P" ≡ codes "Q" → ⊥
 p_no_q e = letters_apart 80 81 (λ same. omega arith) e
 
 -- a letter other than `x` is not a variable
-letter_is_new : (v letter : ℕ) → v ≤ 64 → (letter == 120) ≡ false → IsUndeclared (vars_scope var_name v) (letter ∷ [])
+letter_is_new : (v letter : ℕ) → v ≤ MAX_VARS → (letter == 120) ≡ false → IsUndeclared (vars_scope var_name v) (letter ∷ [])
 letter_is_new v letter few other = name_is_new var_name (vars_scope var_name v) v (letter ∷ []) (vars_known var_name v (plain_names v few)) (λ k below. var_no_letter k letter other)
 
-module _ (v : ℕ) (few : v ≤ 64) where
+module _ (v : ℕ) (few : v ≤ MAX_VARS) where
   p_is_new : IsUndeclared (vars_scope var_name v) (codes "P")
   p_is_new = letter_is_new v 80 few refl
 
@@ -172,8 +173,8 @@ module _ (v : ℕ) (few : v ≤ 64) where
         let P : State → Type 0 = λ t. t ≡ equal_state after_q p q in
         let second = prog_pieces var_name (codes "Q") q (equal_pieces (codes "P") (codes "Q")) in
         let first = prog_pieces var_name (codes "P") p second in
-        let left : prog_size p ≤ 100000 = h.left.small in
-        let right : prog_size q ≤ 100000 = h.right.small in
+        let left : prog_size p ≤ MAX_TERM_NODES = h.left.small in
+        let right : prog_size q ≤ MAX_TERM_NODES = h.right.small in
         width_items w 0 (vars_pieces var_name v first) P
         (λ i. vars_items var_name v few (plain_names v few) w i first P
         (λ j. prog_items var_name (vars_state var_name w v) w v (codes "P") p refl p_identifier p_is_new left_named h.left (omega arith) j second P after_p_narrow
@@ -212,7 +213,7 @@ module _ (v : ℕ) (few : v ≤ 64) where
         let P : State → Type 0 = λ t. t ≡ triple_state after_body b p c in
         let goal = triple_goal_pieces b c in
         let first = prog_pieces var_name (codes "P") p goal in
-        let size : prog_size p ≤ 100000 = h.body.small in
+        let size : prog_size p ≤ MAX_TERM_NODES = h.body.small in
         let pre = h.pre.small in
         let post = h.post.small in
         width_items w 0 (vars_pieces var_name v first) P

@@ -5,6 +5,7 @@ use Rattle.std.proofs.lemmas.Option.{none-some, same_Some}
 use Rattle.std.specs.Ordering.{nat_cmp}
 use Rattle.std.specs.Cmp.Lexicographic.{slice_cmp}
 use Rattle.std.specs.FinMap.{get-empty}
+use Rattle.kat_model.specs.declared.limits.TheConstants.{MAX_VARS}
 use Rattle.kat_model.specs.declared.expression.Width.{Width}
 use Rattle.kat_model.specs.declared.expression.Width.TheVariants.{W8, W16, W32, W64}
 use Rattle.kat_model.specs.Stores.{modulus}
@@ -32,7 +33,7 @@ fewer_names names v u le h = record {
 }
 
 -- x0, x1, .. are such names
-pub plain_names : (v : ℕ) → v ≤ 64 → AreVarNames var_name v
+pub plain_names : (v : ℕ) → v ≤ MAX_VARS → AreVarNames var_name v
 plain_names v few = record {
   identifiers = λ k lt. var_identifier k (omega (arith, lt, few));
   apart = λ j k lj lk e. same_var_number j k (omega (arith, lj, few)) (omega (arith, lk, few)) e;
@@ -173,6 +174,6 @@ module _ (names : Meaning → List ℕ) (w : ScopeParts) (vars : ℕ) (known : V
   prog_named (abort_then rest) inside narrow = prog_named rest inside narrow
   prog_named (assert_then b rest) inside narrow = (cond_named b inside.0 narrow.0, prog_named rest inside.1 narrow.1)
   prog_named (act_then a rest) inside narrow = let none = inside.0 in absurd (omega arith)
-  prog_named (assign_then x e rest) inside narrow = (known x inside.0, expr_named e inside.1 narrow.0, prog_named rest inside.2 narrow.1)
+  prog_named (assign_then x e rest) inside narrow = (known x inside.0, expr_named e inside.1 narrow.1, prog_named rest inside.2 narrow.2)
   prog_named (branch_then b p q rest) inside narrow = (cond_named b inside.0 narrow.0, prog_named p inside.1 narrow.1, prog_named q inside.2 narrow.2, prog_named rest inside.3 narrow.3)
   prog_named (loop_then b p rest) inside narrow = (cond_named b inside.0 narrow.0, prog_named p inside.1 narrow.1, prog_named rest inside.2 narrow.2)

@@ -1,5 +1,6 @@
 -- The scopes of plain names are plain, and each adds one name to the previous one.
 use Rattle.std.proofs.Common.{◌≡◌, ◌<◌, ◌≤◌, ◌+◌, ◌^◌, ℕ, zero, suc, Result, Ok, Err, IfOk, refl, sym, ap, subst, arith}
+use Rattle.kat_model.specs.declared.limits.TheConstants.{MAX_TESTS, MAX_ACTIONS}
 use Rattle.text_scopes.specs.declared.meaning.Meaning.TheVariants.{Test, Action}
 use Rattle.text_scopes.specs.ScopeParts.{ScopeParts, declared}
 use Rattle.problem_texts.specs.Questions.{plain_name}
@@ -16,7 +17,7 @@ numbered_plain tests zero few small = tests_plain tests few
 numbered_plain tests (suc a) few small =
     plain_as (numbered_scope tests (suc a)) tests tests (a + 1) (suc a) refl (omega arith) (action_plain (numbered_scope tests a) tests a few (omega arith) (numbered_plain tests a few (omega arith)))
 
-pub plain_from : {E : Type 0} (tests actions : ℕ) → tests ≤ 48 → actions ≤ 48 → (r : Result ScopeParts E) → IfOk r (λ w. w ≡ numbered_scope tests actions) → IfOk r (λ w. IsPlain w tests actions)
+pub plain_from : {E : Type 0} (tests actions : ℕ) → tests ≤ MAX_TESTS → actions ≤ MAX_ACTIONS → (r : Result ScopeParts E) → IfOk r (λ w. w ≡ numbered_scope tests actions) → IfOk r (λ w. IsPlain w tests actions)
 plain_from tests actions few small (Ok w) e = subst (λ (v : ScopeParts). IsPlain v tests actions) (sym e) (numbered_plain tests actions (omega arith) (omega arith))
 plain_from tests actions few small (Err e) h = tt
 

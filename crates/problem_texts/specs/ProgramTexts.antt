@@ -4,7 +4,7 @@
 use Rattle.std.specs.Prelude.{◌≡◌, ◌≤◌, ◌<◌, ◌+◌, ℕ, List, [], ◌++◌, length, map, codes}
 use Rattle.std.specs.List.{range_with_len}
 use Rattle.std.specs.Fmt.{decimal}
-use Rattle.kat_model.specs.declared.limits.TheConstants.{MAX_EXPR_NODES, MAX_TERM_NODES, MAX_OPEN, MAX_TEXT_BYTES}
+use Rattle.kat_model.specs.declared.limits.TheConstants.{MAX_EXPR_NODES, MAX_TERM_NODES, MAX_OPEN, MAX_TEXT_BYTES, MAX_VARS}
 use Rattle.kat_model.specs.declared.expression.Width.{Width}
 use Rattle.kat_model.specs.declared.expression.Width.TheVariants.{W8, W16, W32, W64}
 use Rattle.kat_model.specs.Expressions.{CondTree}
@@ -86,26 +86,26 @@ pub record AreVarNames (names : Meaning → List ℕ) (v : ℕ) : Type 0 where
   pub identifiers : (k : ℕ) → k < v → IsIdentifier (names (Var k))
   pub apart : (j k : ℕ) → j < v → k < v → names (Var j) ≡ names (Var k) → j ≡ k
 
--- a program of at most 64 variables with such names, under a name that differs from theirs; its text is within the
--- limit on bytes
+-- a program of at most `MAX_VARS` variables with such names, under a name that differs from theirs; its text is within
+-- the limit on bytes
 pub record IsOnePrintable (names : Meaning → List ℕ) (w : Width) (v : ℕ) (name : List ℕ) (p : ProgTree) : Type 0 where
-  pub vars : v ≤ 64
+  pub vars : v ≤ MAX_VARS
   pub var_names : AreVarNames names v
   pub identifier : IsIdentifier name
   pub no_var : (k : ℕ) → k < v → names (Var k) ≡ name → ⊥
   pub program : IsProgPrintable w v p
   pub short : length (one_program_text names w v name p) ≤ MAX_TEXT_BYTES
 
--- two programs of at most 64 variables, with a plainest text within the limit on bytes
+-- two programs of at most `MAX_VARS` variables, with a plainest text within the limit on bytes
 pub record ArePrintable (w : Width) (v : ℕ) (p q : ProgTree) : Type 0 where
-  pub vars : v ≤ 64
+  pub vars : v ≤ MAX_VARS
   pub left : IsProgPrintable w v p
   pub right : IsProgPrintable w v q
   pub short : length (programs_text w v p q) ≤ MAX_TEXT_BYTES
 
 -- likewise for a triple of one program
 pub record IsTriplePrintable (w : Width) (v : ℕ) (b : CondTree) (p : ProgTree) (c : CondTree) : Type 0 where
-  pub vars : v ≤ 64
+  pub vars : v ≤ MAX_VARS
   pub pre : IsCondPrintable w v b
   pub body : IsProgPrintable w v p
   pub post : IsCondPrintable w v c

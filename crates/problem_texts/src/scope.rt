@@ -1,5 +1,6 @@
 //! Scopes of plain names.
 ghost use Rattle.std.specs.Prelude.{◌≡◌, ◌≤◌, false, OnOk, IfOk};
+ghost use Rattle.kat_model.specs.declared.limits.TheConstants.{MAX_TESTS, MAX_ACTIONS};
 ghost use Rattle.text_scopes.specs.ScopeParts.{IsIdentifier, IsUnnamed, IsUndeclared, is_term, declared};
 ghost use Rattle.problem_texts.specs.NumberedScopes.{numbered_scope};
 ghost use Rattle.problem_texts.specs.Working.Scopes.{IsPlain};
@@ -47,11 +48,11 @@ pub fn numbered_scope(alloc: Global, tests: usize, actions: usize) -> Result<Sco
     Ok(scope)
 }
 
-/// Returns the scope with `tests` tests named `t0`, `t1`, .. and `actions` actions named `a0`, `a1`, .., at most 48 of
-/// each, and nothing else. Fails only when out of memory.
+/// Returns the scope with `tests` tests named `t0`, `t1`, .. and `actions` actions named `a0`, `a1`, .., at most
+/// [`MAX_TESTS`] and [`MAX_ACTIONS`], and nothing else. Fails only when out of memory.
 pub fn plain_scope(alloc: Global, tests: usize, actions: usize) -> Result<Scope, NoMemory>
-    requires tests { tests ≤ 48 }
-    requires actions { actions ≤ 48 }
+    requires tests { tests ≤ MAX_TESTS }
+    requires actions { actions ≤ MAX_ACTIONS }
     ensures { IfOk result (λ scope. IsPlain scope tests actions) }
 {
     numbered_scope(alloc, tests, actions)

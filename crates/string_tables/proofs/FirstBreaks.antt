@@ -1,11 +1,12 @@
 -- The first term of a list that relates states of a table, found by a traversal of the list.
-use Rattle.std.proofs.Common.{◌≡◌, ℕ, ◌+◌, ◌<◌, ◌≤◌, ◌⊎◌, ⊎_elim, List, length, get_or, slice_get, Some, sym, ap, ◌∙◌, subst, arith, false}
+use Rattle.std.proofs.Common.{◌≡◌, ℕ, ◌+◌, ◌<◌, ◌≤◌, ⊎_elim, List, length, get_or, slice_get, Some, sym, ap, ◌∙◌, subst, arith, false}
 use Rattle.std.proofs.lemmas.Bool.{both_ways}
 use Rattle.std.proofs.lemmas.Option.{get_or_from_slice_get, slice_get_within}
 use Rattle.kat_model.specs.Trees.{Term}
 use Rattle.kat_model.specs.Relations.{Table, Relates, Keeps}
 use Rattle.kat_model.specs.Working.Decided.{computes_relation}
 use Rattle.kat_model.proofs.Decided.{relates_now_decides}
+use Rattle.kat_model.proofs.Numbers.{below_next}
 use Rattle.kat_model.proofs.Places.{place_of_member}
 use Rattle.string_tables.specs.Working.Matrices.{Square, entry, Tells}
 use Rattle.string_tables.specs.Working.Breaks.{IsFirstEntry, Breaks, BreaksFirst}
@@ -32,10 +33,7 @@ module _ (t : Table) (terms : List Term) where
       ⊎_elim
       (λ less. before g k l less b)
       (λ same. false_unrelated t e m told k l b.from b.to (none k l b.from b.to) (term_here h g k l e is same b))
-      (cases g h lt)
-    where
-      cases : (g h : ℕ) → g < h + 1 → (g < h) ⊎ (g ≡ h)
-      cases g h lt = grind arith
+      (below_next g h lt)
 
   pub none_keeps : (h : ℕ) → length terms ≤ h → NoneBreaks h → Keeps t terms
   none_keeps h le none e has i j li lj r =

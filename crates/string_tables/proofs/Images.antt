@@ -4,6 +4,7 @@ use Rattle.std.proofs.Common.{◌≡◌, ℕ, zero, suc, ◌<◌, ◌≤◌, ◌
 use mathlib.Core.Path.{ap₂}
 use Rattle.std.specs.Bool.{IsTrue}
 use Rattle.std.specs.List.{list_any}
+use Rattle.std.proofs.Math.Bool.{or-false}
 use Rattle.std.proofs.lemmas.Bool.{and_right, eq-eqb, ne_eqb, cases_lt, cases_eq}
 use Rattle.kat_model.specs.Members.{Has}
 use Rattle.kat_model.specs.Trees.{Term}
@@ -32,10 +33,6 @@ and_comm false false = refl
 
 and_rotate : (a b c : Bool) → (a && (b && c)) ≡ (b && (c && a))
 and_rotate a b c = and_swap a b c ∙ ap (λ d. b && d) (and_comm a c)
-
-or_none : (a : Bool) → (a || false) ≡ a
-or_none true = refl
-or_none false = refl
 
 or_exchange : (a b c d : Bool) → ((a || b) || (c || d)) ≡ ((a || c) || (b || d))
 or_exchange true b c d = refl
@@ -85,7 +82,7 @@ some_below_is p (suc n) j lt = ⊎_elim (λ l. before l (some_below_is p n j l))
         let is : n ≡ j = omega arith in
         let same : eqb n j ≡ true = eq-eqb n j is in
         let rest : some_below (λ i. eqb i j && p i) n ≡ false = past_all p n j g in
-        rw (same, rest) (or_none (p n) ∙ ap p is)
+        rw (same, rest) (or-false (p n) ∙ ap p is)
 
 some_below_kept : (p q : ℕ → Bool) (n j : ℕ) → j < n → some_below (λ i. p i && (eqb i j && q i)) n ≡ (p j && q j)
 some_below_kept p q n j lt =

@@ -1,6 +1,7 @@
 -- Heights of terms: they are bounded by sizes, and a traversal of a list finds the greatest.
 use Rattle.std.proofs.Common.{◌≡◌, ℕ, zero as nought, suc, ◌+◌, ◌<◌, ◌≤◌, max, List, [], ◌∷◌, length, get_or, map, drop, sym, ap, ◌∙◌, arith}
 use Rattle.std.proofs.lemmas.List.{at_drop_more}
+use Rattle.kat_model.specs.declared.limits.TheConstants.{MAX_TERM_NODES}
 use Rattle.kat_model.specs.declared.tree.Kat.{Kat}
 use Rattle.kat_model.specs.Trees.{TestTree, bottom, top, prim, complement, meet, join, test_size, Term, zero, one, test, act, sum, product, star, term_size, term_height, kat_tree}
 use Rattle.kat_model.specs.Problems.{ProblemParts, IsProblem, terms_size, problem_size, counted}
@@ -36,7 +37,7 @@ height_at (e ∷ es) nought d lt = omega arith
 height_at (e ∷ es) (suc k) d lt = omega (arith, height_at es k d (omega arith))
 
 module _ (q : ProblemParts) (within : IsProblem q) where
-  low : question_height q ≤ 100000
+  low : question_height q ≤ MAX_TERM_NODES
   low = omega (arith, question_height_size q, within.size)
 
   pub highest_begins : (hyps : List Term) (l r most : ℕ) → l ≡ counted (term_height q.left) → r ≡ counted (term_height q.right) → hyps ≡ q.hyps → most ≡ max l r → max most (terms_height hyps) ≡ question_height q

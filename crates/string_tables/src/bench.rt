@@ -10,7 +10,9 @@ use kat_model::{Kat, NoMemory};
 use std::alloc::Global;
 use std::marker::Model;
 
-/// Room to evaluate terms of at most a given height over tables of at most a given number of states.
+/// Room to evaluate terms of at most a given height over tables of at most a given number of states. Has one matrix and
+/// one row for each level of a term's height, so that evaluation takes no memory. Only stars need the matrices, but a
+/// bench does not know its terms in advance.
 #[derive(Drop)]
 pub struct Bench {
     depth: usize,

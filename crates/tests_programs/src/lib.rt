@@ -1,4 +1,4 @@
-//! Tests of guarded terms, of the texts of GKAT and of the generated problems.
+//! Tests of guarded terms, of the texts of GKAT, of the generated problems and of the optimiser.
 #![tactic(auto)]
 
 #[cfg(test)]
@@ -6,6 +6,6 @@ mod bounds;
 #[cfg(test)]
 mod generated;
 #[cfg(test)]
-mod limits;
+mod optimising;
 #[cfg(test)]
 mod texts;

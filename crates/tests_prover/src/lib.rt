@@ -1,5 +1,4 @@
-//! Tests of the prover and of the crates below it: stores of terms, diagrams of tests, and derivatives; and of
-//! equational proofs.
+//! Tests of the prover and the crates below it, of evidence and what strings show, and of proofs by axioms.
 #![tactic(auto)]
 
 #[cfg(test)]
@@ -11,6 +10,8 @@ mod derivatives;
 #[cfg(test)]
 mod diagrams;
 #[cfg(test)]
-mod proof_texts;
+mod evidence_texts;
 #[cfg(test)]
 mod stores;
+#[cfg(test)]
+mod strings;

@@ -39,12 +39,7 @@ fn identifier<'a>(alloc: Global, text: &'a str) -> Result<Token<'a>, TextFault>
 }
 
 // Declares a name, unless the meaning has a name already.
-pub(crate) fn declare(
-    alloc: Global,
-    scope: &mut Scope,
-    text: &str,
-    meaning: Meaning,
-) -> Result<(), TextFault>
+fn declare(alloc: Global, scope: &mut Scope, text: &str, meaning: Meaning) -> Result<(), TextFault>
     requires { is_term meaning ≡ false }
 {
     let name = identifier(alloc, text)?;
@@ -92,34 +87,4 @@ pub(crate) fn put_term(
 ) -> Result<(), NoMemory> {
     let text = print_term(alloc, term, scope)?;
     put(out, &text)
-}
-
-// Appends `middle` with `times` copies of `before` and of `after` around it.
-pub(crate) fn put_around(
-    out: &mut String,
-    before: &str,
-    middle: &str,
-    after: &str,
-    times: usize,
-) -> Result<(), NoMemory> {
-    for _ in 0..times {
-        out.push_str(before)?;
-    }
-    out.push_str(middle)?;
-    for _ in 0..times {
-        out.push_str(after)?;
-    }
-    Ok(())
-}
-
-pub(crate) fn text_around(
-    alloc: Global,
-    before: &str,
-    middle: &str,
-    after: &str,
-    times: usize,
-) -> Result<String, NoMemory> {
-    let mut out = String::new(alloc);
-    put_around(&mut out, before, middle, after, times)?;
-    Ok(out)
 }

@@ -1,133 +1,61 @@
-//! The closed sides of the goals of problem files, as printed.
-use crate::fixtures::{put, put_term};
+//! The closed sides of goals, as printed.
+use crate::fixtures::{put, put_term, sample};
 use goal_forms::{Closed, Sides, below, eliminate, triple};
-use kat_model::{Cond, Kat, NoMemory, Problem, Test, test_without_comparisons};
-use problem_file::{File, Goal, Side, read};
+use kat_model::{Kat, NoMemory, Problem, Test};
 use std::alloc::Global;
 use std::test::Fail;
 use text_scopes::Scope;
-use text_tokens::TextFault;
 
-// Returns the term of a side. No text here has a program as a side.
-fn term(side: Side) -> Kat {
-    match side {
-        Side::Term(term) => term,
-        Side::Prog(_) => Kat::Zero,
-    }
-}
-
-fn test(alloc: Global, cond: Cond) -> Result<Test, NoMemory> {
-    test_without_comparisons(alloc, cond)
-}
-
-fn triple_sides(alloc: Global, pre: Cond, body: Kat, post: Cond) -> Result<Sides, NoMemory> {
-    let pre = test(alloc, pre)?;
-    let post = test(alloc, post)?;
-    triple(alloc, pre, body, post)
-}
-
-fn sides(alloc: Global, goal: Goal) -> Result<Sides, NoMemory> {
-    match goal {
-        Goal::Equal(left, right) => Ok(Sides {
-            left: term(left),
-            right: term(right),
-        }),
-        Goal::Below(small, large) => below(alloc, term(small), term(large)),
-        Goal::Triple(pre, body, post) => triple_sides(alloc, pre, term(body), post),
-    }
-}
-
-fn put_sides(
-    alloc: Global,
-    out: &mut Vec<u8>,
-    closed: &Closed,
-    scope: &Scope,
-) -> Result<(), NoMemory> {
-    put_term(alloc, out, &closed.left, scope)?;
-    put(out, b" = ")?;
-    put_term(alloc, out, &closed.right, scope)
-}
-
-// Returns the text of the closed sides, and whether there is a universal term.
 fn closed_text(alloc: Global, closed: &Closed, scope: &Scope) -> Result<Vec<u8>, NoMemory> {
-    let universal: &[u8] = if closed.universal.is_some() {
-        b" true"
-    } else {
-        b" false"
-    };
     let mut out = Vec::new(alloc);
-    put_sides(alloc, &mut out, closed, scope)?;
-    put(&mut out, universal)?;
+    put_term(alloc, &mut out, &closed.left, scope)?;
+    put(&mut out, b" = ")?;
+    put_term(alloc, &mut out, &closed.right, scope)?;
     Ok(out)
 }
 
+// Returns the text of the closed sides if there is a universal term exactly if there are hypotheses.
 fn problem_text(alloc: Global, problem: &Problem, scope: &Scope) -> Result<Vec<u8>, NoMemory> {
     let closed = eliminate(alloc, problem)?;
+    if closed.universal.is_some() == problem.hyps().is_empty() {
+        return Ok(Vec::new(alloc));
+    }
     closed_text(alloc, &closed, scope)
 }
 
-// Returns the problem of the sides if it is within the limits.
-fn problem(tests: usize, actions: usize, hyps: Vec<Kat>, sides: Sides) -> Option<Problem> {
-    Problem::new(tests, actions, hyps, sides.left, sides.right).ok()
-}
-
-fn goal_problem(
+// Returns the text of the closed sides of a problem over two tests and two actions.
+fn closed_sides(
     alloc: Global,
-    tests: usize,
-    actions: usize,
     hyps: Vec<Kat>,
-    goal: Goal,
-) -> Result<Option<Problem>, NoMemory> {
-    let sides = sides(alloc, goal)?;
-    Ok(problem(tests, actions, hyps, sides))
-}
-
-fn asked_text(alloc: Global, problem: Option<Problem>, scope: &Scope) -> Result<Vec<u8>, NoMemory> {
-    match problem {
-        Some(problem) => problem_text(alloc, &problem, scope),
-        None => Ok(Vec::new(alloc)),
+    sides: Sides,
+    scope: &Scope,
+) -> Result<Vec<u8>, NoMemory> {
+    match Problem::new(2, 2, hyps, sides.left, sides.right) {
+        Ok(problem) => problem_text(alloc, &problem, scope),
+        Err(_) => Ok(Vec::new(alloc)),
     }
 }
 
-fn file_text(alloc: Global, file: File) -> Result<Vec<u8>, NoMemory> {
-    let File {
-        scope,
-        tests,
-        actions,
-        hyps,
-        goal,
-        ..
-    } = file;
-    let problem = goal_problem(alloc, tests, actions, hyps, goal)?;
-    asked_text(alloc, problem, &scope)
+// The hypothesis that q relates nothing, and the goal that p is below q.
+fn below_text(alloc: Global, scope: &Scope) -> Result<Vec<u8>, NoMemory> {
+    let sides = below(alloc, Kat::Act(0), Kat::Act(1))?;
+    let mut hyps = Vec::new(alloc);
+    hyps.push(Kat::Act(1))?;
+    closed_sides(alloc, hyps, sides, scope)
 }
 
-fn holds(alloc: Global, text: &str, want: &str) -> Result<bool, TextFault> {
-    let file = read(alloc, text.as_bytes())?;
-    Ok(file_text(alloc, file)?.as_slice() == want.as_bytes())
+fn triple_text(alloc: Global, scope: &Scope) -> Result<Vec<u8>, NoMemory> {
+    let sides = triple(alloc, Test::True, Kat::Act(0), Test::Prim(0))?;
+    closed_sides(alloc, Vec::new(alloc), sides, scope)
 }
-
-const ROWS: &[(&str, &str)] = &[
-    ("action p, q; goal equal p, 1;", "p = 1 false"),
-    ("action p, q; goal below p, q;", "(p + q) = q false"),
-    (
-        "test b; action p; goal triple {true} p {b};",
-        "([true].(p.[!b])) = 0 false",
-    ),
-    (
-        "action p, q; hyp q = 0; goal equal p, 1;",
-        "(p + ((p + q)*.(q.(p + q)*))) = (1 + ((p + q)*.(q.(p + q)*))) true",
-    ),
-    (
-        "test b, c; goal triple {b && !c || false} 1 {true};",
-        "([((b && !c) || false)].(1.[!true])) = 0 false",
-    ),
-];
 
 #[test]
 fn hypotheses_are_eliminated(rt: HostRuntime) -> Result<(), Fail> {
-    for (text, want) in ROWS {
-        assert!(rt; holds(rt.alloc(), text, want)?, "on {text}");
-    }
+    let scope = sample(rt.alloc())?;
+    let text = below_text(rt.alloc(), &scope)?;
+    let want = b"((p + q) + ((p + q)*.(q.(p + q)*))) = (q + ((p + q)*.(q.(p + q)*)))".as_slice();
+    assert_eq!(rt; text.as_slice(), want);
+    let text = triple_text(rt.alloc(), &scope)?;
+    assert_eq!(rt; text.as_slice(), b"([true].(p.[!b])) = 0".as_slice());
     Ok(())
 }

@@ -16,8 +16,6 @@ mod lists;
 #[cfg(test)]
 mod phrases;
 #[cfg(test)]
-mod program_files;
-#[cfg(test)]
 mod programs;
 #[cfg(test)]
 mod token_texts;

@@ -3,85 +3,39 @@ ghost use Rattle.std.specs.Prelude.{IfOk};
 ghost use Rattle.kat_model.specs.Stores.{IsStore};
 ghost use Rattle.kat_model.specs.declared.expression.Width.{Width};
 
-use crate::fixtures::{cut, declare, is_so, sample, text_around};
-use kat_model::{Items, Kat, NoMemory, Test, Width};
+use crate::fixtures::{cut, is_so, sample};
+use kat_model::{Kat, NoMemory, Test, Width};
 use std::alloc::Global;
-use std::slice;
 use std::test::Fail;
 use text_print::print_term;
-use text_scopes::{Meaning, Scope};
-use text_tokens::{TextFault, Token};
+use text_scopes::Scope;
+use text_tokens::TextFault;
 use while_lang::{
-    Flow, Flows, NamedProg, Outcome, Prog, Store, block_end, encode, measure_block, print_prog,
-    read_block, run,
+    Flow, Flows, Outcome, Prog, Store, block_end, encode, print_prog, read_block, run,
 };
-
-const ENDS: &[(usize, &str, Result<usize, TextFault>)] = &[
-    (0, "{ } x", Ok(2)),
-    (0, "{ skip; x := y * 2; p; }", Ok(12)),
-    (
-        0,
-        "{ if b { } else if c { } else { } while x < 3 { } }",
-        Ok(20),
-    ),
-    (0, "{ skip }", Err(TextFault::Syntax(7))),
-    (0, "{ x := 1; ", Err(TextFault::Syntax(usize::MAX))),
-    (0, "{ else { } }", Err(TextFault::Syntax(2))),
-    (
-        0,
-        "{ x := 18446744073709551616; }",
-        Err(TextFault::NumberTooWide(7)),
-    ),
-    (198, "{ if b { } }", Ok(6)),
-    (199, "{ if b { } }", Err(TextFault::TooDeep(7))),
-    (
-        198,
-        "{ if b { } else if c { } }",
-        Err(TextFault::TooDeep(21)),
-    ),
-];
 
 fn end(alloc: Global, text: &str, depth: usize) -> Result<usize, TextFault> {
     let found = cut(alloc, text)?;
     block_end(&found, 0, depth)
 }
 
+const ENDS: &[(usize, &str, Result<usize, TextFault>)] = &[
+    (0, "{ skip; x := y * 2; p; } x", Ok(12)),
+    (0, "{ skip }", Err(TextFault::Syntax(7))),
+    (199, "{ if b { } }", Err(TextFault::TooDeep(7))),
+];
+
 #[test]
 fn blocks_end(rt: HostRuntime) {
     for (depth, text, want) in ENDS {
-        assert!(rt; end(rt.alloc(), text, *depth) == *want, "in {text:?}");
+        assert!(rt; end(rt.alloc(), text, *depth) == *want, "in {text}");
     }
 }
 
-fn end_closed(alloc: Global, mut text: String) -> Result<usize, TextFault> {
-    if text.push_str(" }").is_err() {
-        return Err(TextFault::NoMemory);
-    }
-    end(alloc, &text, 0)
-}
-
-// Returns the index after a block that consists of one `if` with `times` `else if` parts.
-fn chain_end(alloc: Global, times: usize) -> Result<usize, TextFault> {
-    let text = text_around(alloc, "", "{ if true { }", " else if true { }", times)?;
-    end_closed(alloc, text)
-}
-
-#[test]
-fn chains_are_deep(rt: HostRuntime) {
-    assert!(rt; chain_end(rt.alloc(), 198) == Ok(996));
-    assert!(rt; chain_end(rt.alloc(), 199) == Err(TextFault::TooDeep(3393)));
-}
-
-// Appends to the printed program whether it has runs, and its nesting.
-fn put_counts(
-    alloc: Global,
-    mut printed: Vec<u8>,
-    concrete: bool,
-    levels: usize,
-) -> Result<Vec<u8>, NoMemory> {
-    let counts = format!(in alloc; " {concrete} {levels}")?;
-    printed.extend_from_slice(counts.as_bytes())?;
-    Ok(printed)
+fn prog_of(alloc: Global, text: &str, scope: &Scope) -> Result<Prog, TextFault> {
+    let found = cut(alloc, text)?;
+    let (prog, _, _) = read_block(alloc, &found, 0, scope, &[])?;
+    Ok(prog)
 }
 
 // Prints a copy of the program if the copy is the same.
@@ -93,102 +47,29 @@ fn prog_text(alloc: Global, prog: &Prog, scope: &Scope) -> Result<Vec<u8>, NoMem
     print_prog(alloc, &copy, scope)
 }
 
-fn block_text(alloc: Global, found: &[Token], scope: &Scope) -> Result<Vec<u8>, TextFault> {
-    let (prog, _, levels) = read_block(alloc, found, 0, scope, &[])?;
-    let printed = prog_text(alloc, &prog, scope)?;
-    Ok(put_counts(alloc, printed, prog.concrete(), levels)?)
-}
-
 fn text_read(alloc: Global, text: &str, scope: &Scope) -> Result<Vec<u8>, TextFault> {
-    let found = cut(alloc, text)?;
-    block_text(alloc, &found, scope)
-}
-
-fn is_read(alloc: Global, text: &str, want: Result<&str, TextFault>, scope: &Scope) -> bool {
-    is_so(text_read(alloc, text, scope), want)
+    let prog = prog_of(alloc, text, scope)?;
+    Ok(prog_text(alloc, &prog, scope)?)
 }
 
 const BLOCKS: &[(&str, Result<&str, TextFault>)] = &[
-    ("{ }", Ok("{ } true 1")),
     (
-        "{ skip; abort; p; assert b; }",
-        Ok("{ skip; abort; p; assert b; } false 1"),
+        "{ if b { abort; } else if c { p; } while !(x < y) { x := y + 1; } }",
+        Ok("{ if b { abort; } else { if c { p; } else { } } while !(x < y) { x := (y + 1); } }"),
     ),
-    (
-        "{ if x == 0 { x := y + 1; } while !(x < y) { skip; } }",
-        Ok("{ if (x == 0) { x := (y + 1); } else { } while !(x < y) { skip; } } true 3"),
-    ),
-    (
-        "{ if b { } else if c { } else { p; } }",
-        Ok("{ if b { } else { if c { } else { p; } } } false 3"),
-    ),
-    ("{ z; }", Err(TextFault::UnknownName(2))),
-    ("{ b; }", Err(TextFault::Sort(2))),
-    ("{ e; }", Err(TextFault::Sort(2))),
-    ("{ p := 1; }", Err(TextFault::Sort(2))),
-    ("{ while p { } }", Err(TextFault::Sort(8))),
-    ("{ x := b; }", Err(TextFault::Sort(7))),
+    ("{ skip; b; }", Err(TextFault::Sort(8))),
 ];
 
 #[test]
 fn programs_are_read_and_printed(rt: HostRuntime) -> Result<(), Fail> {
     let scope = sample(rt.alloc())?;
     for (text, want) in BLOCKS {
-        assert!(rt; is_read(rt.alloc(), text, *want, &scope), "of {text:?}");
-    }
-    Ok(())
-}
-
-fn prog_of(alloc: Global, text: &str, scope: &Scope) -> Result<Prog, TextFault> {
-    let found = cut(alloc, text)?;
-    let (prog, _, _) = read_block(alloc, &found, 0, scope, &[])?;
-    Ok(prog)
-}
-
-fn name(alloc: Global) -> Result<Items<u8>, NoMemory> {
-    Ok(Items::of(b"P".to_vec(alloc)?))
-}
-
-// Returns the program `{ p; }` under the name P, with `nesting` as the nesting of its block.
-fn named_prog(alloc: Global, nesting: usize, scope: &Scope) -> Result<NamedProg, TextFault> {
-    let prog = prog_of(alloc, "{ p; }", scope)?;
-    Ok(NamedProg::new(name(alloc)?, prog, nesting))
-}
-
-// Returns the size of the program of the text plus that of P, or its fault, where P names `named`.
-fn spliced_size(
-    alloc: Global,
-    text: &str,
-    scope: &Scope,
-    named: &NamedProg,
-) -> Result<u64, TextFault> {
-    let found = cut(alloc, text)?;
-    let (extent, _) = measure_block(&found, 0, 0, scope, slice::from_ref(named))?;
-    Ok(extent.nodes.saturating_add(named.size()))
-}
-
-fn size_with(alloc: Global, text: &str, nesting: usize) -> Result<u64, TextFault> {
-    let mut scope = sample(alloc)?;
-    declare(alloc, &mut scope, "P", Meaning::Prog(0))?;
-    let named = named_prog(alloc, nesting, &scope)?;
-    spliced_size(alloc, text, &scope, &named)
-}
-
-const SPLICED: &[(&str, usize, Result<u64, TextFault>)] = &[
-    ("{ P; P; }", 1, Ok(3)),
-    ("{ while b { P; } }", 1, Ok(4)),
-    ("{ P; }", 199, Ok(2)),
-    ("{ skip; P; }", 200, Err(TextFault::TooDeep(8))),
-];
-
-#[test]
-fn named_programs_are_spliced_in(rt: HostRuntime) {
-    for (text, nesting, want) in SPLICED {
         assert!(rt;
-            size_with(rt.alloc(), text, *nesting) == *want,
-            "in {text:?}"
+            is_so(text_read(rt.alloc(), text, &scope), *want),
+            "of {text}"
         );
     }
+    Ok(())
 }
 
 // Returns a store of two variables that are 0.
@@ -229,10 +110,10 @@ fn text_end(
 
 const RUNS: &[(&str, Width, u64, (Outcome, u64))] = &[
     (
-        "{ while x < 3 { x := x + 1; } }",
-        Width::W64,
+        "{ while x < 3 { x := x + 1; } x := x + 255; }",
+        Width::W8,
         3,
-        (Outcome::Done, 3),
+        (Outcome::Done, 2),
     ),
     (
         "{ while x < 3 { x := x + 1; } }",
@@ -246,24 +127,6 @@ const RUNS: &[(&str, Width, u64, (Outcome, u64))] = &[
         5,
         (Outcome::Stuck, 8),
     ),
-    (
-        "{ x := 255; x := x + 1; }",
-        Width::W8,
-        0,
-        (Outcome::Done, 0),
-    ),
-    (
-        "{ x := 255; x := x + 1; }",
-        Width::W16,
-        0,
-        (Outcome::Done, 256),
-    ),
-    (
-        "{ if y == 0 { x := 5; } else { abort; } skip; }",
-        Width::W8,
-        0,
-        (Outcome::Done, 5),
-    ),
 ];
 
 #[test]
@@ -271,7 +134,7 @@ fn programs_run(rt: HostRuntime) -> Result<(), Fail> {
     let scope = sample(rt.alloc())?;
     for (text, width, turns, want) in RUNS {
         let end = text_end(rt.alloc(), text, *width, *turns, &scope)?;
-        assert!(rt; end == *want, "of {text:?}");
+        assert!(rt; end == *want, "of {text}");
     }
     Ok(())
 }

@@ -3,19 +3,14 @@ use crate::fixtures::replies;
 use std::test::Fail;
 
 const BENCHES: &[(&str, &str)] = &[
-    ("bench 1", "0 problems 1 equal 1 different 0 moves 0\n"),
     ("bench 2", "0 problems 2 equal 1 different 1 moves 0\n"),
     ("bench 008", "0 problems 8 equal 4 different 4 moves 1\n"),
     (
-        "bench 100",
-        "0 problems 100 equal 50 different 50 moves 37\n",
+        "bench 1000",
+        "0 problems 1000 equal 500 different 500 moves 374\n",
     ),
     ("bench 0", "7 refused: words\n"),
     ("bench 10001", "7 refused: words\n"),
-    ("bench -1", "7 refused: words\n"),
-    ("bench f", "7 refused: words\n"),
-    ("bench", "7 refused: words\n"),
-    ("bench 1 1", "7 refused: words\n"),
 ];
 
 #[test]

@@ -82,12 +82,7 @@ fn told_in_full(alloc: Global, line: &str, shelf: &mut MemShelf) -> Result<Vec<u
 }
 
 // Returns the reply to a line, with the files `f` and `e`, when nothing fails.
-pub(crate) fn reply(
-    alloc: Global,
-    line: &str,
-    text: &[u8],
-    evidence: &[u8],
-) -> Result<Vec<u8>, NoMemory> {
+fn reply(alloc: Global, line: &str, text: &[u8], evidence: &[u8]) -> Result<Vec<u8>, NoMemory> {
     let mut shelf = shelf_of(alloc, ("f", text), ("e", evidence))?;
     told_in_full(alloc, line, &mut shelf)
 }
@@ -101,14 +96,6 @@ pub(crate) fn replies(
     want: &str,
 ) -> Result<bool, NoMemory> {
     Ok(reply(alloc, line, text, evidence)?.as_slice() == want.as_bytes())
-}
-
-// Returns the evidence in a reply of `decide`, after the status and the space.
-pub(crate) fn evidence_in(told: &[u8]) -> &[u8] {
-    match told {
-        [_, _, evidence @ ..] => evidence,
-        other => other,
-    }
 }
 
 pub(crate) const DENESTING: &str = "action p, q; goal equal (p+q)*, (p*.q)*.p*;";

@@ -33,5 +33,3 @@ mod refusals;
 mod reports;
 #[cfg(test)]
 mod running;
-#[cfg(test)]
-mod showing;

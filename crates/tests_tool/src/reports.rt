@@ -2,21 +2,10 @@
 use crate::fixtures::replies;
 use std::test::Fail;
 
-const REPORTS: &[(&str, &str)] = &[
-    (
-        "test b; action p; goal triple {b} p {b};",
-        "1 {\"answer\":\"different\",\"evidence\":\"kat 1 different\\nA 1\\nM 0 0\\nend\\n\",\"hypotheses\":0,\"size\":1}\n",
-    ),
-    (
-        "test b; goal equal b, b;",
-        "0 {\"answer\":\"equal\",\"evidence\":\"kat 2 equal\\nT prim 0\\nE test 0\\nP 0 | 0\\nend\\n\",\"hypotheses\":0,\"size\":1}\n",
-    ),
-    (
-        "test b, c, d; hyp !b = 0; hyp c.d = 0; goal below c, 0;",
-        "1 {\"answer\":\"different\",\"evidence\":\"kat 1 different\\nA 110\\nend\\n\",\"hypotheses\":2,\"size\":0}\n",
-    ),
-    ("goal equal b, b;", "2 refused: UnknownName 11\n"),
-];
+const REPORTS: &[(&str, &str)] = &[(
+    "test b; action p; goal triple {b} p {b};",
+    "1 {\"answer\":\"different\",\"evidence\":\"kat 1 different\\nA 1\\nM 0 0\\nend\\n\",\"hypotheses\":0,\"size\":1}\n",
+)];
 
 #[test]
 fn answers_are_reported(rt: HostRuntime) -> Result<(), Fail> {

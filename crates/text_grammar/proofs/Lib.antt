@@ -1,4 +1,5 @@
 mod Seen
+pub mod Numerals
 pub mod Parentheses
 pub mod Tokens
 pub mod TerminalEquality

@@ -1,5 +1,6 @@
 -- A fault is never `NoMemory`: each parser needs fewer steps than it has.
 use Rattle.std.proofs.Common.{◌≡◌, ℕ, zero, suc, ◌+◌, ◌*◌, ◌<◌, ◌≤◌, List, [], ◌∷◌, length, Bool, true, false, cond, nat_lt, Result, Ok, Err, refl, arith, drop}
+use Rattle.kat_model.specs.declared.limits.TheConstants.{MAX_OPEN}
 use Rattle.text_tokens.specs.declared.fault.TextFault.{TextFault}
 use Rattle.text_tokens.specs.declared.fault.TextFault.TheVariants.{NoMemory, Syntax, TooDeep}
 use Rattle.text_grammar.specs.declared.terminal.Terminal.{Terminal}
@@ -59,10 +60,10 @@ pub then_wants_named : {V : Type 0} (p : Terminal → Bool) (m : Parsed V) → I
 then_wants_named p m h = then_named m (λ x. wants p x.1 >>= λ r. Ok (x.0, r)) h (λ x. then_named (wants p x.1) (λ r. Ok (x.0, r)) (wants_named p x.1) (λ r. tt))
 
 enter_named : (c : Context) (at : ℕ) → IsNamed (enter c at)
-enter_named c at = if_named (nat_lt c.depth 200) (Ok (context (c.depth + 1) c.negated c.compares)) (Err (TooDeep at)) (λ e. tt) (λ e. tt)
+enter_named c at = if_named (nat_lt c.depth MAX_OPEN) (Ok (context (c.depth + 1) c.negated c.compares)) (Err (TooDeep at)) (λ e. tt) (λ e. tt)
 
 enter_not_named : (c : Context) (at : ℕ) → IsNamed (enter_not c at)
-enter_not_named c at = if_named (nat_lt c.depth 200) (Ok (context (c.depth + 1) true c.compares)) (Err (TooDeep at)) (λ e. tt) (λ e. tt)
+enter_not_named c at = if_named (nat_lt c.depth MAX_OPEN) (Ok (context (c.depth + 1) true c.compares)) (Err (TooDeep at)) (λ e. tt) (λ e. tt)
 
 -- ---- expressions
 

@@ -1,6 +1,7 @@
 -- The tokens that a parser reads are a phrase.
 use Rattle.std.proofs.Common.{◌≡◌, ℕ, zero, suc, ◌+◌, ◌<◌, List, [], ◌∷◌, Bool, true, false, cond as if_true, nat_lt, Result, Ok, Err, refl, ap, sym, subst, ◌∙◌, inl, inr, ◌⊎◌, drop}
 use Rattle.std.proofs.lemmas.Bool.{ltb-true}
+use Rattle.kat_model.specs.declared.limits.TheConstants.{MAX_OPEN}
 use Rattle.kat_model.specs.declared.expression.Rel.{Rel}
 use Rattle.text_tokens.specs.declared.fault.TextFault.{TextFault}
 use Rattle.text_tokens.specs.declared.fault.TextFault.TheVariants.{TooDeep}
@@ -28,16 +29,16 @@ pub chosen : {V : Type 0} {X : Type 0} (b : Bool) (s t : Parsed V) (q : V × Lis
 chosen true s t q f g e = f refl e
 chosen false s t q f g e = g refl e
 
-entered : (d : ℕ) (x y : Context) (at : ℕ) → if_true (nat_lt d 200) (Ok x) (Err (TooDeep at)) ≡ Ok y → (d < 200) × (x ≡ y)
-entered d x y at e = by_depth (nat_lt d 200) refl e where
-  by_depth : (b : Bool) → nat_lt d 200 ≡ b → if_true b (Ok x) (Err (TooDeep at)) ≡ Ok y → (d < 200) × (x ≡ y)
-  by_depth true lt h = (ltb-true d 200 lt, cc)
+entered : (d : ℕ) (x y : Context) (at : ℕ) → if_true (nat_lt d MAX_OPEN) (Ok x) (Err (TooDeep at)) ≡ Ok y → (d < MAX_OPEN) × (x ≡ y)
+entered d x y at e = by_depth (nat_lt d MAX_OPEN) refl e where
+  by_depth : (b : Bool) → nat_lt d MAX_OPEN ≡ b → if_true b (Ok x) (Err (TooDeep at)) ≡ Ok y → (d < MAX_OPEN) × (x ≡ y)
+  by_depth true lt h = (ltb-true d MAX_OPEN lt, cc)
   by_depth false lt h = absurd cc
 
-enter_ok : (c d : Context) (at : ℕ) → enter c at ≡ Ok d → (c.depth < 200) × (d.depth ≡ c.depth + 1)
+enter_ok : (c d : Context) (at : ℕ) → enter c at ≡ Ok d → (c.depth < MAX_OPEN) × (d.depth ≡ c.depth + 1)
 enter_ok c d at e = let h = entered c.depth (context (c.depth + 1) c.negated c.compares) d at e in (h.0, sym (ap (λ (x : Context). x.depth) h.1))
 
-enter_not_ok : (c d : Context) (at : ℕ) → enter_not c at ≡ Ok d → (c.depth < 200) × (d.depth ≡ c.depth + 1)
+enter_not_ok : (c d : Context) (at : ℕ) → enter_not c at ≡ Ok d → (c.depth < MAX_OPEN) × (d.depth ≡ c.depth + 1)
 enter_not_ok c d at e = let h = entered c.depth (context (c.depth + 1) true c.compares) d at e in (h.0, sym (ap (λ (x : Context). x.depth) h.1))
 
 abbrev rest_of : {V : Type 0} → Parsed V → List Lexeme
@@ -106,10 +107,10 @@ put_is s s0 l ts us vs e f g = rw (e, f, g) refl
 
 -- ---- a phrase between parentheses or brackets, and under a `!`
 
-round_fac_found : (d at : ℕ) (text : List ℕ) (ts rest : List Lexeme) (l : Leaf) → d < 200 → IsPhrase expr (d + 1) ts (cons_token RoundClose l rest) → IsPhrase fac d (lexeme RoundOpen at text ∷ ts) rest
+round_fac_found : (d at : ℕ) (text : List ℕ) (ts rest : List Lexeme) (l : Leaf) → d < MAX_OPEN → IsPhrase expr (d + 1) ts (cons_token RoundClose l rest) → IsPhrase fac d (lexeme RoundOpen at text ∷ ts) rest
 round_fac_found d at text ts rest l lt p = record { phrase = round_fac (leaf at text) p.phrase l; spelled = ap (λ (x : List Lexeme). lexeme RoundOpen at text ∷ x) p.spelled; obeys = p.obeys; longest = p.longest; fits = (lt, p.fits) }
 
-round_lit_found : (d at : ℕ) (text : List ℕ) (ts rest : List Lexeme) (l : Leaf) → d < 200 → begins_expr (after_close 0 ts) ≡ false → IsPhrase cond (d + 1) ts (cons_token RoundClose l rest) → IsPhrase lit d (lexeme RoundOpen at text ∷ ts) rest
+round_lit_found : (d at : ℕ) (text : List ℕ) (ts rest : List Lexeme) (l : Leaf) → d < MAX_OPEN → begins_expr (after_close 0 ts) ≡ false → IsPhrase cond (d + 1) ts (cons_token RoundClose l rest) → IsPhrase lit d (lexeme RoundOpen at text ∷ ts) rest
 round_lit_found d at text ts rest l lt no_expr p = record {
   phrase = round_lit (leaf at text) p.phrase l;
   spelled = ap (λ (x : List Lexeme). lexeme RoundOpen at text ∷ x) p.spelled;
@@ -118,16 +119,16 @@ round_lit_found d at text ts rest l lt no_expr p = record {
   fits = (lt, p.fits);
 }
 
-round_unit_found : (d at : ℕ) (text : List ℕ) (ts rest : List Lexeme) (l : Leaf) → d < 200 → IsPhrase term (d + 1) ts (cons_token RoundClose l rest) → IsPhrase unit d (lexeme RoundOpen at text ∷ ts) rest
+round_unit_found : (d at : ℕ) (text : List ℕ) (ts rest : List Lexeme) (l : Leaf) → d < MAX_OPEN → IsPhrase term (d + 1) ts (cons_token RoundClose l rest) → IsPhrase unit d (lexeme RoundOpen at text ∷ ts) rest
 round_unit_found d at text ts rest l lt p = record { phrase = round_unit (leaf at text) p.phrase l; spelled = ap (λ (x : List Lexeme). lexeme RoundOpen at text ∷ x) p.spelled; obeys = p.obeys; longest = p.longest; fits = (lt, p.fits) }
 
-square_unit_found : (d at : ℕ) (text : List ℕ) (ts rest : List Lexeme) (l : Leaf) → d < 200 → IsPhrase cond (d + 1) ts (cons_token SquareClose l rest) → IsPhrase unit d (lexeme SquareOpen at text ∷ ts) rest
+square_unit_found : (d at : ℕ) (text : List ℕ) (ts rest : List Lexeme) (l : Leaf) → d < MAX_OPEN → IsPhrase cond (d + 1) ts (cons_token SquareClose l rest) → IsPhrase unit d (lexeme SquareOpen at text ∷ ts) rest
 square_unit_found d at text ts rest l lt p = record { phrase = square_unit (leaf at text) p.phrase l; spelled = ap (λ (x : List Lexeme). lexeme SquareOpen at text ∷ x) p.spelled; obeys = p.obeys; longest = p.longest; fits = (lt, p.fits) }
 
-not_lit_found : (d at : ℕ) (text : List ℕ) (ts rest : List Lexeme) → d < 200 → IsPhrase lit (d + 1) ts rest → IsPhrase lit d (lexeme Bang at text ∷ ts) rest
+not_lit_found : (d at : ℕ) (text : List ℕ) (ts rest : List Lexeme) → d < MAX_OPEN → IsPhrase lit (d + 1) ts rest → IsPhrase lit d (lexeme Bang at text ∷ ts) rest
 not_lit_found d at text ts rest lt p = record { phrase = not_lit (leaf at text) p.phrase; spelled = ap (λ (x : List Lexeme). lexeme Bang at text ∷ x) p.spelled; obeys = p.obeys; longest = p.longest; fits = (lt, p.fits) }
 
-not_unit_found : (d at : ℕ) (text : List ℕ) (ts rest : List Lexeme) → d < 200 → IsPhrase unit (d + 1) ts rest → IsPhrase unit d (lexeme Bang at text ∷ ts) rest
+not_unit_found : (d at : ℕ) (text : List ℕ) (ts rest : List Lexeme) → d < MAX_OPEN → IsPhrase unit (d + 1) ts rest → IsPhrase unit d (lexeme Bang at text ∷ ts) rest
 not_unit_found d at text ts rest lt p = record { phrase = not_unit (leaf at text) p.phrase; spelled = ap (λ (x : List Lexeme). lexeme Bang at text ∷ x) p.spelled; obeys = p.obeys; longest = p.longest; fits = (lt, p.fits) }
 
 -- ---- a part and the rest of its list

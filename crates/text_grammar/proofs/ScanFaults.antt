@@ -2,6 +2,7 @@
 use Rattle.std.proofs.Common.{◌≡◌, ℕ, zero, suc, ◌+◌, ◌*◌, ◌<◌, ◌≤◌, List, [], ◌∷◌, length, Bool, true, false, cond, nat_lt, Result, Ok, Err, inl, inr, refl, ap, subst, ◌∙◌, arith, drop}
 use Rattle.std.specs.Prelude.{IfErr}
 use Rattle.std.proofs.lemmas.List.{drop-drop}
+use Rattle.kat_model.specs.declared.limits.TheConstants.{MAX_OPEN}
 use Rattle.text_tokens.specs.declared.fault.TextFault.{TextFault}
 use Rattle.text_tokens.specs.declared.fault.TextFault.TheVariants.{Syntax, TooDeep, NumberTooWide}
 use Rattle.text_grammar.specs.declared.terminal.Terminal.{Terminal}
@@ -63,10 +64,10 @@ then_wants_sound p ts (Ok x) h = lift h.0 ts x.1 h.1 (wants p x.1 >>= λ r. Ok (
 then_wants_sound p ts (Err e) h = h
 
 enter_sound : {V : Type 0} (ts : List Lexeme) (c : Context) (at : ℕ) (k : Context → Parsed V) → StandsAt opens at ts → ((d : Context) → Sound ts (k d)) → Sound ts (enter c at >>= k)
-enter_sound ts c at k h g = elim (nat_lt c.depth 200) as (λ b. Sound ts (cond b (Ok (context (c.depth + 1) c.negated c.compares)) (Err (TooDeep at)) >>= k)) [ true ↦ g _ | false ↦ h ]
+enter_sound ts c at k h g = elim (nat_lt c.depth MAX_OPEN) as (λ b. Sound ts (cond b (Ok (context (c.depth + 1) c.negated c.compares)) (Err (TooDeep at)) >>= k)) [ true ↦ g _ | false ↦ h ]
 
 enter_not_sound : {V : Type 0} (ts : List Lexeme) (c : Context) (at : ℕ) (k : Context → Parsed V) → StandsAt opens at ts → ((d : Context) → Sound ts (k d)) → Sound ts (enter_not c at >>= k)
-enter_not_sound ts c at k h g = elim (nat_lt c.depth 200) as (λ b. Sound ts (cond b (Ok (context (c.depth + 1) true c.compares)) (Err (TooDeep at)) >>= k)) [ true ↦ g _ | false ↦ h ]
+enter_not_sound ts c at k h g = elim (nat_lt c.depth MAX_OPEN) as (λ b. Sound ts (cond b (Ok (context (c.depth + 1) true c.compares)) (Err (TooDeep at)) >>= k)) [ true ↦ g _ | false ↦ h ]
 
 -- ---- expressions
 

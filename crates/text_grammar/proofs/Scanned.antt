@@ -1,6 +1,7 @@
 -- The syntax check accepts exactly the phrases of the grammar.
 use Rattle.std.proofs.Common.{◌≡◌, ℕ, ◌+◌, ◌<◌, List, [], true, false, Result, Ok, Err, refl, ap, ◌∙◌}
 use Rattle.std.proofs.lemmas.Bool.{lt-ltb}
+use Rattle.kat_model.specs.declared.limits.TheConstants.{MAX_OPEN}
 use Rattle.text_tokens.specs.declared.fault.TextFault.{TextFault}
 use Rattle.text_grammar.specs.declared.reading.Context.{Context}
 use Rattle.text_grammar.specs.Lexemes.{Lexeme}
@@ -27,11 +28,11 @@ Scans expr v = (k : Unit {0} → Unit {0}) → v k ≡ Ok tt
 Scans mul v = (k : Unit {0} → Unit {0}) → v k ≡ Ok tt
 Scans fac v = v ≡ Ok tt
 
-enters : (c : Context) (at : ℕ) → c.depth < 200 → enter c at ≡ Ok (context (c.depth + 1) c.negated c.compares)
-enters c at lt = rw (lt-ltb c.depth 200 lt) refl
+enters : (c : Context) (at : ℕ) → c.depth < MAX_OPEN → enter c at ≡ Ok (context (c.depth + 1) c.negated c.compares)
+enters c at lt = rw (lt-ltb c.depth MAX_OPEN lt) refl
 
-enters_not : (c : Context) (at : ℕ) → c.depth < 200 → enter_not c at ≡ Ok (context (c.depth + 1) true c.compares)
-enters_not c at lt = rw (lt-ltb c.depth 200 lt) refl
+enters_not : (c : Context) (at : ℕ) → c.depth < MAX_OPEN → enter_not c at ≡ Ok (context (c.depth + 1) true c.compares)
+enters_not c at lt = rw (lt-ltb c.depth MAX_OPEN lt) refl
 
 -- a phrase within the limits on depth and numbers has no fault
 pub scanned : {x : Symbol} (p : Phrase x) (c : Context) → IsWithinLimits c.depth p → Scans x (fold scanning c p)
@@ -72,7 +73,7 @@ abbrev end_of : Result (List Lexeme) TextFault → List Lexeme
 end_of (Ok ts) = ts
 end_of (Err e) = []
 
-ended : (m : Parsed (Unit {0})) (rest : List Lexeme) → (m >>= λ x. Ok x.1) ≡ Ok rest → m ≡ Ok (tt, rest)
+pub ended : (m : Parsed (Unit {0})) (rest : List Lexeme) → (m >>= λ x. Ok x.1) ≡ Ok rest → m ≡ Ok (tt, rest)
 ended (Ok x) rest e = let same : x.1 ≡ rest = ap end_of e in ap (λ t. Ok (tt, t)) same
 ended (Err f) rest e = absurd cc
 

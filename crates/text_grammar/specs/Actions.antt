@@ -1,6 +1,7 @@
 -- The semantic actions of the parser. Actions may reject a part; the other faults of a phrase are its syntax, its depth
 -- and numbers that are too wide.
 use Rattle.std.specs.Prelude.{ℕ, ◌+◌, List, Bool, true, if◌then◌else◌, nat_lt, Result, Ok, Err}
+use Rattle.kat_model.specs.declared.limits.TheConstants.{MAX_OPEN}
 use Rattle.kat_model.specs.declared.expression.Rel.{Rel}
 use Rattle.text_tokens.specs.declared.fault.TextFault.{TextFault}
 use Rattle.text_tokens.specs.declared.fault.TextFault.TheVariants.{TooDeep}
@@ -13,11 +14,11 @@ context depth negated compares = record { depth = depth; negated = negated; comp
 
 -- the context after one more construct opens at place `at`
 abbrev pub enter : Context → ℕ → Result Context TextFault
-enter c at = if nat_lt c.depth 200 then Ok (context (c.depth + 1) c.negated c.compares) else Err (TooDeep at)
+enter c at = if nat_lt c.depth MAX_OPEN then Ok (context (c.depth + 1) c.negated c.compares) else Err (TooDeep at)
 
 -- the context of the operand of a `!` at place `at`
 abbrev pub enter_not : Context → ℕ → Result Context TextFault
-enter_not c at = if nat_lt c.depth 200 then Ok (context (c.depth + 1) true c.compares) else Err (TooDeep at)
+enter_not c at = if nat_lt c.depth MAX_OPEN then Ok (context (c.depth + 1) true c.compares) else Err (TooDeep at)
 
 -- the actions of expressions
 pub record ExprActions (E : Type 0) : Type 0 where

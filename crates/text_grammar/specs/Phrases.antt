@@ -1,5 +1,6 @@
 -- The phrases of the grammar, case by case, and the tokens that spell them.
 use Rattle.std.specs.Prelude.{◌≡◌, ℕ, ◌+◌, ◌<◌, List, [], ◌∷◌, Bool, true, false, if◌then◌else◌}
+use Rattle.kat_model.specs.declared.limits.TheConstants.{MAX_OPEN}
 use Rattle.kat_model.specs.declared.expression.Rel.{Rel}
 use Rattle.text_grammar.specs.declared.terminal.Terminal.{Terminal}
 use Rattle.text_grammar.specs.declared.terminal.Terminal.TheVariants.{RoundOpen, RoundClose, SquareOpen, SquareClose, Bang, Star, Plus, Minus, Dot, And, Or, Compares, Zero, One, Number, WideNumber, True, False, Name}
@@ -163,22 +164,22 @@ IsWithinLimits d (one_star s) = IsWithinLimits d s
 IsWithinLimits d (more_stars s l p) = IsWithinLimits d s × IsWithinLimits d p
 IsWithinLimits d (bare u) = IsWithinLimits d u
 IsWithinLimits d (starred u l) = IsWithinLimits d u
-IsWithinLimits d (not_unit l u) = (d < 200) × IsWithinLimits (d + 1) u
-IsWithinLimits d (square_unit l c r) = (d < 200) × IsWithinLimits (d + 1) c
-IsWithinLimits d (round_unit l t r) = (d < 200) × IsWithinLimits (d + 1) t
+IsWithinLimits d (not_unit l u) = (d < MAX_OPEN) × IsWithinLimits (d + 1) u
+IsWithinLimits d (square_unit l c r) = (d < MAX_OPEN) × IsWithinLimits (d + 1) c
+IsWithinLimits d (round_unit l t r) = (d < MAX_OPEN) × IsWithinLimits (d + 1) t
 IsWithinLimits d (one_conj c) = IsWithinLimits d c
 IsWithinLimits d (more_conjs c l e) = IsWithinLimits d c × IsWithinLimits d e
 IsWithinLimits d (one_lit x) = IsWithinLimits d x
 IsWithinLimits d (more_lits x l c) = IsWithinLimits d x × IsWithinLimits d c
-IsWithinLimits d (not_lit l x) = (d < 200) × IsWithinLimits (d + 1) x
-IsWithinLimits d (round_lit l c r) = (d < 200) × IsWithinLimits (d + 1) c
+IsWithinLimits d (not_lit l x) = (d < MAX_OPEN) × IsWithinLimits (d + 1) x
+IsWithinLimits d (round_lit l c r) = (d < MAX_OPEN) × IsWithinLimits (d + 1) c
 IsWithinLimits d (relation_lit e l r f) = IsWithinLimits d e × IsWithinLimits d f
 IsWithinLimits d (one_mul m) = IsWithinLimits d m
 IsWithinLimits d (more_muls m l minus e) = IsWithinLimits d m × IsWithinLimits d e
 IsWithinLimits d (one_fac x) = IsWithinLimits d x
 IsWithinLimits d (more_facs x l m) = IsWithinLimits d x × IsWithinLimits d m
 IsWithinLimits d (wide_fac l) = ⊥
-IsWithinLimits d (round_fac l e r) = (d < 200) × IsWithinLimits (d + 1) e
+IsWithinLimits d (round_fac l e r) = (d < MAX_OPEN) × IsWithinLimits (d + 1) e
 IsWithinLimits d _ = Unit {0}
 
 -- the tokens are a phrase of `x`, followed by `rest`

@@ -2,8 +2,8 @@
 //!
 //! A `(` begins an expression or a condition; the token after the matching parenthesis decides. A forward search counts
 //! parentheses to find it, and takes no memory. The search begins only at a `(` that may begin a condition, never
-//! within an expression. So it passes a token at most once for each `(` that is open there, which is at most 201 times
-//! by the depth limit.
+//! within an expression. So it passes a token at most once for each `(` that is open there, which is at most `MAX_OPEN
+//! + 1` times by the depth limit.
 ghost use Rattle.std.specs.Prelude.{◌≡◌, ℕ, ◌+◌, ◌<◌, ◌≤◌, length, drop, IfOk};
 ghost use Rattle.text_grammar.specs.Lexemes.{lexemes};
 ghost use Rattle.text_grammar.specs.Parsed.{Reads, Goes};
@@ -19,7 +19,8 @@ use kat_model::Rel;
 use text_tokens::{TextFault, Token};
 
 // Returns the index after the parenthesis that matches one just before `from`, or the number of tokens if there is
-// none.
+// none. Compares the text of a token with one symbol: `terminal_at`, which distinguishes all terminals, took four to
+// ten times as long.
 #[tactic(auto, using(crate::proofs::Parentheses::match_closed, crate::proofs::Tokens::next_drop))]
 fn after_close(toks: &[Token], from: usize) -> usize
     ensures { drop result (lexemes toks.now) ≡ after_close 0 (drop from (lexemes toks.now)) }

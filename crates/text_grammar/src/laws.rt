@@ -5,7 +5,7 @@ ghost use Rattle.text_grammar.specs.Phrases.{Symbol, term, cond, expr, Phrase, y
 ghost use Rattle.text_grammar.specs.Scans.{scan_term, scan_cond, scan_expr, TakesPhrases};
 ghost use Rattle.text_grammar.specs.Ends.{Ends, TakesGrammar};
 
-/// The syntax check accepts exactly the phrases of the grammar that are as long as possible, nest at most 200
+/// The syntax check accepts exactly the phrases of the grammar that are as long as possible, nest at most `MAX_OPEN`
 /// constructs and have no number of 2^64 or more.
 pub fn grammar_is_scanned()
     ensures terms { TakesPhrases term scan_term }

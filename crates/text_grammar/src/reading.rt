@@ -41,7 +41,7 @@ impl Context {
     }
 
     /// Returns the context inside a parenthesis or bracket that opens at place `at`. Fails with `TooDeep` at that place
-    /// if and only if 200 or more constructs are open already.
+    /// if and only if [`MAX_OPEN`] or more constructs are open already.
     pub fn enter(self, at: usize) -> Result<Context, TextFault>
         ensures { result ≡ enter self at }
     {

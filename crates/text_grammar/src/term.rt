@@ -11,8 +11,8 @@ use text_tokens::{TextFault, Token};
 
 /// Reads the term that begins at `from`. Returns the result of the actions and the index after the term, or the first
 /// fault in the text: `Syntax` at a token that is not allowed there (with the place `usize::MAX` after the last token),
-/// `TooDeep` at a token that takes the number of open constructs beyond 200, `NumberTooWide` at a number of 2^64 or
-/// more, or the fault with which an action rejects a part. Only an action fails with `NoMemory`.
+/// `TooDeep` at a token that takes the number of open constructs beyond `MAX_OPEN`, `NumberTooWide` at a number of 2^64
+/// or more, or the fault with which an action rejects a part. Only an action fails with `NoMemory`.
 pub fn read_term<R: Reading>(
     reading: &R,
     toks: &[Token],

@@ -220,7 +220,8 @@ pub fn terminal_at(toks: &[Token], i: usize) -> Option<(Terminal, usize)>
     }
 }
 
-/// Returns the place in bytes of the token at index `i`, or `usize::MAX` after the last token.
+/// Returns the place in bytes of the token at index `i`, or `usize::MAX` after the last token. Readers see tokens and
+/// not bytes; `problem_file` puts the length of the text in place of `usize::MAX`.
 pub fn place_at(toks: &[Token], i: usize) -> usize
     ensures { result ≡ place_of (drop i (lexemes toks.now)) }
 {

@@ -2,6 +2,7 @@
 use Rattle.std.proofs.Common.{◌≡◌, ◌<◌, ◌≤◌, ◌+◌, ℕ, List, ◌∷◌, length, true, false, Ok, refl, sym, ap, ◌∙◌, subst, arith}
 use Rattle.std.proofs.lemmas.Bool.{or_left, or_right}
 use Rattle.std.specs.Prelude.{codes}
+use Rattle.kat_model.specs.declared.limits.TheConstants.{MAX_OPEN}
 use Rattle.kat_model.specs.declared.expression.Rel.{Rel}
 use Rattle.kat_model.specs.Expressions.{ExprTree, CondTree, always, never, named, compared, negation, both, either, has_comparison}
 use Rattle.text_tokens.specs.Pieces.{Piece, symbol}
@@ -25,9 +26,9 @@ use Rattle.text_print.proofs.PrintedExprs.{IsExprOf, expr_back}
 
 module _ (w : ScopeParts) where
   pub record IsCondOf (b : CondTree) (p : Phrase lit) : Type 0 where
-    pub tree : (c : Context) → c.depth + cond_nesting b ≤ 200 → fold (trees w) c p ≡ Ok b
+    pub tree : (c : Context) → c.depth + cond_nesting b ≤ MAX_OPEN → fold (trees w) c p ≡ Ok b
     pub sound : (c : Context) → (has_comparison b ≡ true → c.compares ≡ true) → IsSound w c p
-    pub fits : (d : ℕ) → d + cond_nesting b ≤ 200 → IsWithinLimits d p
+    pub fits : (d : ℕ) → d + cond_nesting b ≤ MAX_OPEN → IsWithinLimits d p
     pub deep : nesting w p ≡ cond_nesting b
 
   -- the next token does not make an expression of what precedes it
@@ -45,7 +46,7 @@ module _ (w : ScopeParts) where
   compare_holds : (s : Rel) (e f : ExprTree) (p q : Phrase fac) (l m r : Leaf) → IsExprOf w e p → IsExprOf w f q → IsCondOf (compared s e f) (round_lit l (one_conj (one_lit (relation_lit (one_mul (one_fac p)) m s (one_mul (one_fac q))))) r)
   compare_holds s e f p q l m r h k = record {
     tree = λ c le.
-        let lt : c.depth < 200 = omega arith in
+        let lt : c.depth < MAX_OPEN = omega arith in
         let left = h.tree (inside c) (omega arith) in
         let right = k.tree (inside c) (omega arith) in
         rw (enters c l.at lt, left, right) refl;
@@ -57,7 +58,7 @@ module _ (w : ScopeParts) where
   not_holds : (b : CondTree) (p : Phrase lit) (l : Leaf) → IsCondOf b p → IsCondOf (negation b) (not_lit l p)
   not_holds b p l h = record {
     tree = λ c le.
-        let lt : c.depth < 200 = omega arith in
+        let lt : c.depth < MAX_OPEN = omega arith in
         let operand = h.tree (inside_not c) (omega arith) in
         rw (enters_not c l.at lt, operand) refl;
     sound = λ c g. h.sound (inside_not c) g;
@@ -68,7 +69,7 @@ module _ (w : ScopeParts) where
   both_holds : (b d : CondTree) (p q : Phrase lit) (l m r : Leaf) → IsCondOf b p → IsCondOf d q → IsCondOf (both b d) (round_lit l (one_conj (more_lits p m (one_lit q))) r)
   both_holds b d p q l m r h k = record {
     tree = λ c le.
-        let lt : c.depth < 200 = omega arith in
+        let lt : c.depth < MAX_OPEN = omega arith in
         let left = h.tree (inside c) (omega arith) in
         let right = k.tree (inside c) (omega arith) in
         rw (enters c l.at lt, left, right) refl;
@@ -80,7 +81,7 @@ module _ (w : ScopeParts) where
   either_holds : (b d : CondTree) (p q : Phrase lit) (l m r : Leaf) → IsCondOf b p → IsCondOf d q → IsCondOf (either b d) (round_lit l (more_conjs (one_lit p) m (one_conj (one_lit q))) r)
   either_holds b d p q l m r h k = record {
     tree = λ c le.
-        let lt : c.depth < 200 = omega arith in
+        let lt : c.depth < MAX_OPEN = omega arith in
         let left = h.tree (inside c) (omega arith) in
         let right = k.tree (inside c) (omega arith) in
         rw (enters c l.at lt, left, right) refl;

@@ -3,6 +3,7 @@ use Rattle.std.proofs.Common.{◌≡◌, ◌<◌, ◌≤◌, ◌+◌, ◌^◌, �
 use Rattle.std.proofs.lemmas.Bool.{cases_eq}
 use Rattle.std.specs.Prelude.{codes}
 use Rattle.std.specs.Fmt.{decimal}
+use Rattle.kat_model.specs.declared.limits.TheConstants.{MAX_OPEN}
 use Rattle.kat_model.specs.Expressions.{ExprTree, number, variable, plus, minus, times}
 use Rattle.text_tokens.specs.Pieces.{Piece, word, number as numeral, symbol}
 use Rattle.text_grammar.specs.declared.terminal.Terminal.{Terminal}
@@ -24,9 +25,9 @@ use Rattle.text_print.proofs.PrintedPhrases.{lexemes_from, leaf, Begins, enters,
 module _ (w : ScopeParts) where
   -- the phrase has tree `e` and the nesting of its text
   pub record IsExprOf (e : ExprTree) (p : Phrase fac) : Type 0 where
-    pub tree : (c : Context) → c.depth + expr_nesting e ≤ 200 → fold (trees w) c p ≡ Ok e
+    pub tree : (c : Context) → c.depth + expr_nesting e ≤ MAX_OPEN → fold (trees w) c p ≡ Ok e
     pub sound : (c : Context) → c.compares ≡ true → IsSound w c p
-    pub fits : (d : ℕ) → d + expr_nesting e ≤ 200 → IsWithinLimits d p
+    pub fits : (d : ℕ) → d + expr_nesting e ≤ MAX_OPEN → IsWithinLimits d p
     pub deep : nesting w p ≡ expr_nesting e
 
   number_phrase : (n at : ℕ) (text : List ℕ) (ps : List Piece) (s : Terminal) (p : Phrase fac) → number_terminal text ≡ s → ((ts : List Lexeme) → yield_before p ts ≡ lexeme s at text ∷ ts) → ((ts : List Lexeme) → MeetsLookahead p ts) → IsExprOf (number n) p → Begins fac (IsExprOf (number n)) at (numeral text ∷ ps) ps
@@ -65,7 +66,7 @@ module _ (w : ScopeParts) where
   sum_holds : (negative : Bool) (e f s : ExprTree) (p q : Phrase fac) (l m r : Leaf) → joined (operator_of negative) e f ≡ s → expr_nesting s ≡ max (expr_nesting e) (expr_nesting f) + 1 → IsExprOf e p → IsExprOf f q → IsExprOf s (round_fac l (more_muls (one_fac p) m negative (one_mul (one_fac q))) r)
   sum_holds negative e f s p q l m r same deep h k = record {
     tree = λ c le.
-        let lt : c.depth < 200 = omega arith in
+        let lt : c.depth < MAX_OPEN = omega arith in
         let left = h.tree (inside c) (omega arith) in
         let right = k.tree (inside c) (omega arith) in
         rw (enters c l.at lt, left, right) (ap Ok same);
@@ -77,7 +78,7 @@ module _ (w : ScopeParts) where
   times_holds : (e f : ExprTree) (p q : Phrase fac) (l m r : Leaf) → IsExprOf e p → IsExprOf f q → IsExprOf (times e f) (round_fac l (one_mul (more_facs p m (one_fac q))) r)
   times_holds e f p q l m r h k = record {
     tree = λ c le.
-        let lt : c.depth < 200 = omega arith in
+        let lt : c.depth < MAX_OPEN = omega arith in
         let left = h.tree (inside c) (omega arith) in
         let right = k.tree (inside c) (omega arith) in
         rw (enters c l.at lt, left, right) refl;

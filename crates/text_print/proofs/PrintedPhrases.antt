@@ -2,6 +2,7 @@
 use Rattle.std.proofs.Common.{◌≡◌, ◌<◌, ◌+◌, ℕ, List, ◌∷◌, length, map, Ok, refl, ap, ◌∙◌, subst}
 use Rattle.std.proofs.lemmas.Bool.{lt-ltb}
 use Rattle.std.specs.Prelude.{codes}
+use Rattle.kat_model.specs.declared.limits.TheConstants.{MAX_OPEN}
 use Rattle.text_tokens.specs.Pieces.{Piece, symbol, gap, parts_from}
 use Rattle.text_grammar.specs.declared.terminal.Terminal.TheVariants.{RoundOpen, RoundClose}
 use Rattle.text_grammar.specs.declared.reading.Context.{Context}
@@ -27,11 +28,11 @@ pub record Begins (x : Symbol) (P : Phrase x → Type 0) (at : ℕ) (qs ps : Lis
   pub obeys : MeetsLookahead phrase (lexemes_from end ps)
   pub holds : P phrase
 
-pub enters : (c : Context) (at : ℕ) → c.depth < 200 → enter c at ≡ Ok (inside c)
-enters c at lt = rw (lt-ltb c.depth 200 lt) refl
+pub enters : (c : Context) (at : ℕ) → c.depth < MAX_OPEN → enter c at ≡ Ok (inside c)
+enters c at lt = rw (lt-ltb c.depth MAX_OPEN lt) refl
 
-pub enters_not : (c : Context) (at : ℕ) → c.depth < 200 → enter_not c at ≡ Ok (inside_not c)
-enters_not c at lt = rw (lt-ltb c.depth 200 lt) refl
+pub enters_not : (c : Context) (at : ℕ) → c.depth < MAX_OPEN → enter_not c at ≡ Ok (inside_not c)
+enters_not c at lt = rw (lt-ltb c.depth MAX_OPEN lt) refl
 
 -- ---- two phrases with a symbol between them
 

@@ -2,6 +2,7 @@
 use Rattle.std.proofs.Common.{◌≡◌, ◌<◌, ◌≤◌, ◌+◌, ℕ, max, List, ◌∷◌, length, false, cond, Some, Ok, refl, sym, ap, ◌∙◌, subst, arith}
 use Rattle.std.proofs.lemmas.Bool.{both_ways, or_from}
 use Rattle.std.specs.Prelude.{codes}
+use Rattle.kat_model.specs.declared.limits.TheConstants.{MAX_OPEN}
 use Rattle.kat_model.specs.Expressions.{has_comparison, test_without_comparisons}
 use Rattle.kat_model.specs.Trees.{TestTree, bottom, top, prim, complement, meet, join, Term, zero, one, test, act, sum, product, star as star_term}
 use Rattle.text_tokens.specs.Pieces.{Piece, word, number as numeral, symbol}
@@ -42,15 +43,15 @@ no_comparison (join b c) = or_from (has_comparison (cond_of b)) (has_comparison 
 module _ (w : ScopeParts) where
   -- the phrase has tree `e` and nesting `n`
   pub record IsTermOf (e : Term) (n : ℕ) (p : Phrase star) : Type 0 where
-    pub tree : (c : Context) → c.depth + n ≤ 200 → fold (trees w) c p ≡ Ok e
+    pub tree : (c : Context) → c.depth + n ≤ MAX_OPEN → fold (trees w) c p ≡ Ok e
     pub sound : (c : Context) → c.negated ≡ false → IsSound w c p
-    pub fits : (d : ℕ) → d + n ≤ 200 → IsWithinLimits d p
+    pub fits : (d : ℕ) → d + n ≤ MAX_OPEN → IsWithinLimits d p
     pub deep : nesting w p ≡ n
 
   pub record IsUnitOf (e : Term) (n : ℕ) (p : Phrase unit) : Type 0 where
-    pub tree : (c : Context) → c.depth + n ≤ 200 → fold (trees w) c p ≡ Ok e
+    pub tree : (c : Context) → c.depth + n ≤ MAX_OPEN → fold (trees w) c p ≡ Ok e
     pub sound : (c : Context) → c.negated ≡ false → IsSound w c p
-    pub fits : (d : ℕ) → d + n ≤ 200 → IsWithinLimits d p
+    pub fits : (d : ℕ) → d + n ≤ MAX_OPEN → IsWithinLimits d p
     pub deep : nesting w p ≡ n
 
   bare_holds : (e : Term) (n : ℕ) (p : Phrase unit) → IsUnitOf e n p → IsTermOf e n (bare p)
@@ -67,7 +68,7 @@ module _ (w : ScopeParts) where
   round_holds : (e : Term) (n : ℕ) (p : Phrase star) (l r : Leaf) → IsTermOf e n p → IsUnitOf e (n + 1) (round_unit l (one_prod (one_star p)) r)
   round_holds e n p l r h = record {
     tree = λ c le.
-        let lt : c.depth < 200 = omega arith in
+        let lt : c.depth < MAX_OPEN = omega arith in
         let inner = h.tree (inside c) (omega arith) in
         rw (enters c l.at lt, inner) refl;
     sound = λ c g. h.sound (inside c) g;
@@ -78,7 +79,7 @@ module _ (w : ScopeParts) where
   sum_of_holds : (e f : Term) (n k : ℕ) (p q : Phrase star) (l m r : Leaf) → IsTermOf e n p → IsTermOf f k q → IsUnitOf (sum e f) (max n k + 1) (round_unit l (more_prods (one_star p) m (one_prod (one_star q))) r)
   sum_of_holds e f n k p q l m r h g = record {
     tree = λ c le.
-        let lt : c.depth < 200 = omega arith in
+        let lt : c.depth < MAX_OPEN = omega arith in
         let left = h.tree (inside c) (omega arith) in
         let right = g.tree (inside c) (omega arith) in
         rw (enters c l.at lt, left, right) refl;
@@ -90,7 +91,7 @@ module _ (w : ScopeParts) where
   product_holds : (e f : Term) (n k : ℕ) (p q : Phrase star) (l m r : Leaf) → IsTermOf e n p → IsTermOf f k q → IsUnitOf (product e f) (max n k + 1) (round_unit l (one_prod (more_stars p m (one_star q))) r)
   product_holds e f n k p q l m r h g = record {
     tree = λ c le.
-        let lt : c.depth < 200 = omega arith in
+        let lt : c.depth < MAX_OPEN = omega arith in
         let left = h.tree (inside c) (omega arith) in
         let right = g.tree (inside c) (omega arith) in
         rw (enters c l.at lt, left, right) refl;
@@ -110,7 +111,7 @@ module _ (w : ScopeParts) where
   square_holds : (b : TestTree) (p : Phrase lit) (l r : Leaf) → IsCondOf w (cond_of b) p → IsUnitOf (test b) (cond_nesting (cond_of b) + 1) (square_unit l (one_conj (one_lit p)) r)
   square_holds b p l r h = record {
     tree = λ c le.
-        let lt : c.depth < 200 = omega arith in
+        let lt : c.depth < MAX_OPEN = omega arith in
         let inner = h.tree (inside c) (omega arith) in
         rw (enters c l.at lt, inner) (ap (λ (v : TestTree). Ok (test v)) (test_of_cond b));
     sound = λ c g. h.sound (inside c) (λ t. absurd (both_ways (has_comparison (cond_of b)) (no_comparison b) t));

@@ -1,9 +1,8 @@
 -- The terminals of names and decimal numbers.
-use Rattle.std.proofs.Common.{◌≡◌, ◌<◌, ◌^◌, ℕ, List, length, true, false, nat_lt, refl, sym, ◌∙◌, rules, lit<}
+use Rattle.std.proofs.Common.{◌≡◌, ◌<◌, ◌^◌, ℕ, List, length, true, false, nat_lt, refl, sym, ◌∙◌, lit<}
 use Rattle.std.proofs.lemmas.Bool.{or_parts, lt-ltb, false_from_ne_true, and_from}
 use Rattle.std.proofs.lemmas.Fmt.{digits_decimal, digits_value-decimal, decimal_nonempty, decimal_injective, decimal_digit}
 use Rattle.std.proofs.lemmas.Slice.Eq.{bytes_eq-Decides}
-use Rattle.std.proofs.lemmas.Str.Parse.{IsNumeralModel, numerals_by_fold}
 use Rattle.std.specs.Prelude.{codes, bytes_eq}
 use Rattle.std.specs.Fmt.{decimal}
 use Rattle.std.specs.List.{list_all}
@@ -13,6 +12,7 @@ use Rattle.kat_model.specs.declared.expression.Rel.TheVariants.{Eq, Ne, Lt, Le, 
 use Rattle.text_tokens.specs.Keywords.{is_keyword}
 use Rattle.text_grammar.specs.declared.terminal.Terminal.TheVariants.{Compares, Number, Name}
 use Rattle.text_grammar.specs.Terminals.{symbol_terminal, keyword_terminal, value_from, is_digits, number_terminal}
+use Rattle.text_grammar.proofs.Numerals.{digits_are_numerals}
 use Rattle.text_print.specs.Printing.{relation_text}
 
 pub relation_terminal : (r : Rel) → symbol_terminal (relation_text r) ≡ Compares r
@@ -48,9 +48,6 @@ name_terminal name e =
     let u = or_parts (bytes_eq name (codes "false")) _ t.1 in
     rw (t.0, u.0, a.0, b.0, c.0, d.0, f.0, g.0, h.0, i.0, j.0, k.0, l.0, m.0, n.0, o.0, p.0, q.0, r.0, s.0) refl
 
-own : IsNumeralModel (λ ds. list_all is_ascii_digit ds ≡ true) (value_from 0)
-own = numerals_by_fold _ (search rules) value_from (search rules)
-
 -- different numbers have different decimal forms
 written_apart : (n m : ℕ) (text : List ℕ) → n < 2 ^ 64 → m < 2 ^ 64 → decimal m ≡ text → (n ≡ m → ⊥) → bytes_eq (decimal n) text ≡ false
 written_apart n m text lt mt e other = false_from_ne_true _ (λ t. other (decimal_injective n m lt mt ((bytes_eq-Decides (decimal n) text).0 t ∙ sym e)))
@@ -70,6 +67,6 @@ number_is n lt some more =
     terminal_by (decimal n) n
     (written_apart n 0 (codes "0") lt (lit< tt) zero_written some)
     (written_apart n 1 (codes "1") lt (lit< tt) one_written more)
-    (and_from (list_all is_ascii_digit (decimal n)) (nat_lt 0 (length (decimal n))) (digits_decimal own n lt) (lt-ltb 0 (length (decimal n)) (decimal_nonempty n lt)))
-    (digits_value-decimal own n lt)
+    (and_from (list_all is_ascii_digit (decimal n)) (nat_lt 0 (length (decimal n))) (digits_decimal digits_are_numerals n lt) (lt-ltb 0 (length (decimal n)) (decimal_nonempty n lt)))
+    (digits_value-decimal digits_are_numerals n lt)
     (lt-ltb n (2 ^ 64) lt)

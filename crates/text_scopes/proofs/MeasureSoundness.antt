@@ -2,7 +2,8 @@
 -- phrase.
 use Rattle.std.proofs.Common.{◌≡◌, ◌≤◌, ◌<◌, ◌+◌, ℕ, max, min, Bool, true, false, cond, nat_lt, slice_get, Option, Some, None, Result, Ok, Err, refl, ap, ◌∙◌, arith}
 use Rattle.std.proofs.lemmas.Bool.{both_ways, ltb-true, ltb-false}
-use Rattle.kat_model.specs.Trees.{term_size, test_size}
+use Rattle.kat_model.specs.declared.limits.TheConstants.{MAX_OPEN}
+use Rattle.kat_model.specs.Trees.{term_size, test_size, is_test}
 use Rattle.text_tokens.specs.declared.fault.TextFault.{TextFault}
 use Rattle.text_tokens.specs.declared.fault.TextFault.TheVariants.{Sort, TooDeep}
 use Rattle.text_grammar.specs.declared.reading.Context.{Context}
@@ -12,18 +13,18 @@ use Rattle.text_grammar.specs.Folds.{Folded, fold}
 use Rattle.text_scopes.specs.declared.meaning.Meaning.{Meaning}
 use Rattle.text_scopes.specs.declared.meaning.Meaning.TheVariants.{Test, Action, Var, Term as TermName, Prog}
 use Rattle.text_scopes.specs.declared.extent.Extent.{Extent}
-use Rattle.text_scopes.specs.Sizes.{is_test, as_test}
+use Rattle.text_scopes.specs.Sizes.{as_test}
 use Rattle.text_scopes.specs.ScopeParts.{Definition, ScopeParts, meaning}
 use Rattle.text_scopes.specs.Measuring.{limited, deeper, linked, topped, compare, negated, tested, starred as star_extent, variable_extent, condition_extent, defined_extent, name_extent, extents}
 use Rattle.text_scopes.specs.Sound.{inside, inside_not, IsUsable, IsTermName, IsCondName, IsExprName, IsSound, defined_nesting, name_nesting, nesting}
 
--- the result is an extent exactly when `P` holds, and its nesting is then `n`, capped at 201
+-- the result is an extent exactly when `P` holds, and its nesting is then `n`, capped at `MAX_OPEN + 1`
 abbrev pub Judged : Result Extent TextFault → Type 0 → ℕ → Type 0
-Judged (Ok m) P n = P × (m.nesting ≡ min n 201)
+Judged (Ok m) P n = P × (m.nesting ≡ min n (MAX_OPEN + 1))
 Judged (Err e) P n = P → ⊥
 
-settled : (r : Result Extent TextFault) (P Q : Type 0) (n k : ℕ) → (P → Q) → (Q → P) → n ≡ k → Judged r P n → Judged r Q k
-settled (Ok m) P Q n k f g e h = (f h.0, h.1 ∙ ap (λ (i : ℕ). min i 201) e)
+pub settled : (r : Result Extent TextFault) (P Q : Type 0) (n k : ℕ) → (P → Q) → (Q → P) → n ≡ k → Judged r P n → Judged r Q k
+settled (Ok m) P Q n k f g e h = (f h.0, h.1 ∙ ap (λ (i : ℕ). min i (MAX_OPEN + 1)) e)
 settled (Err x) P Q n k f g e h = λ q. h (g q)
 
 -- the first part of a list, with nothing before it
@@ -32,24 +33,24 @@ first r P n h = settled r P P (max 0 n) n (λ p. p) (λ p. p) (omega arith) h
 
 -- `k` joins a part to a list of nesting `a`
 abbrev pub Adds : (Extent → Extent) → ℕ → Type 0
-Adds k a = (v : Extent) (n : ℕ) → v.nesting ≡ min n 201 → (k v).nesting ≡ min (max a n) 201
+Adds k a = (v : Extent) (n : ℕ) → v.nesting ≡ min n (MAX_OPEN + 1) → (k v).nesting ≡ min (max a n) (MAX_OPEN + 1)
 
 pub adds_none : Adds (λ m. m) 0
 adds_none v n e = omega arith
 
-adds_linked : (x : Extent) (a : ℕ) → x.nesting ≡ min a 201 → Adds (linked x) a
+adds_linked : (x : Extent) (a : ℕ) → x.nesting ≡ min a (MAX_OPEN + 1) → Adds (linked x) a
 adds_linked x a e v n f = omega arith
 
-prefixed : (s : Result Extent TextFault) (P Q : Type 0) (n : ℕ) → P → Judged s Q n → Judged s (P × Q) n
+pub prefixed : (s : Result Extent TextFault) (P Q : Type 0) (n : ℕ) → P → Judged s Q n → Judged s (P × Q) n
 prefixed (Ok m) P Q n p h = ((p, h.0), h.1)
 prefixed (Err e) P Q n p h = λ x. h x.1
 
 -- a part, then another part
-then_judged : (r : Result Extent TextFault) (next : Extent → Result Extent TextFault) (P Q : Type 0) (n k : ℕ) → Judged r P n → ((m : Extent) → m.nesting ≡ min n 201 → Judged (next m) Q k) → Judged (r >>= next) (P × Q) k
+pub then_judged : (r : Result Extent TextFault) (next : Extent → Result Extent TextFault) (P Q : Type 0) (n k : ℕ) → Judged r P n → ((m : Extent) → m.nesting ≡ min n (MAX_OPEN + 1) → Judged (next m) Q k) → Judged (r >>= next) (P × Q) k
 then_judged (Ok m) next P Q n k h g = prefixed (next m) P Q k h.0 (g m h.1)
 then_judged (Err e) next P Q n k h g = λ x. h x.0
 
-changed : (r : Result Extent TextFault) (f : Extent → Extent) (P : Type 0) (n k : ℕ) → ((m : Extent) → m.nesting ≡ min n 201 → (f m).nesting ≡ min k 201) → Judged r P n → Judged (r >>= λ v. Ok (f v)) P k
+pub changed : (r : Result Extent TextFault) (f : Extent → Extent) (P : Type 0) (n k : ℕ) → ((m : Extent) → m.nesting ≡ min n (MAX_OPEN + 1) → (f m).nesting ≡ min k (MAX_OPEN + 1)) → Judged r P n → Judged (r >>= λ v. Ok (f v)) P k
 changed (Ok m) f P n k g h = (h.0, g m h.1)
 changed (Err e) f P n k g h = h
 
@@ -59,7 +60,7 @@ last r k a n P d h = changed r k P n (max a n) (λ m e. d m n e) h
 
 -- a part of a list, then the rest of the list
 more : (r : Result Extent TextFault) (next : Extent → Result Extent TextFault) (k : Extent → Extent) (a n i : ℕ) (S F S' F' : Type 0)
-    → Adds k a → Judged r (S × F) n → ((x : Extent) (b : ℕ) → x.nesting ≡ min b 201 → Judged (next x) (S' × F') (max b i))
+    → Adds k a → Judged r (S × F) n → ((x : Extent) (b : ℕ) → x.nesting ≡ min b (MAX_OPEN + 1) → Judged (next x) (S' × F') (max b i))
     → Judged (r >>= λ v. next (k v)) ((S × S') × (F × F')) (max a (max n i))
 more r next k a n i S F S' F' d h g =
     settled (r >>= λ v. next (k v)) ((S × F) × (S' × F')) ((S × S') × (F × F')) (max (max a n) i) (max a (max n i))
@@ -67,11 +68,11 @@ more r next k a n i S F S' F' d h g =
     (then_judged r (λ v. next (k v)) (S × F) (S' × F') n (max (max a n) i) h (λ m e. g (k m) (max a n) (d m n e)))
 
 -- the inside of a construct
-entered : (c d : Context) (at : ℕ) (f : Context → Result Extent TextFault) (S F : Type 0) (n : ℕ) → Judged (f d) (S × F) n → Judged (cond (nat_lt c.depth 200) (Ok d) (Err (TooDeep at)) >>= f) (S × ((c.depth < 200) × F)) n
-entered c d at f S F n h = by_depth (nat_lt c.depth 200) refl where
-  by_depth : (b : Bool) → nat_lt c.depth 200 ≡ b → Judged (cond b (Ok d) (Err (TooDeep at)) >>= f) (S × ((c.depth < 200) × F)) n
-  by_depth true e = settled (f d) (S × F) (S × ((c.depth < 200) × F)) n n (λ x. (x.0, (ltb-true c.depth 200 e, x.1))) (λ x. (x.0, x.1.1)) refl h
-  by_depth false e = λ x. let lt : c.depth < 200 = x.1.0 in let le : 200 ≤ c.depth = ltb-false c.depth 200 e in absurd (omega arith)
+entered : (c d : Context) (at : ℕ) (f : Context → Result Extent TextFault) (S F : Type 0) (n : ℕ) → Judged (f d) (S × F) n → Judged (cond (nat_lt c.depth MAX_OPEN) (Ok d) (Err (TooDeep at)) >>= f) (S × ((c.depth < MAX_OPEN) × F)) n
+entered c d at f S F n h = by_depth (nat_lt c.depth MAX_OPEN) refl where
+  by_depth : (b : Bool) → nat_lt c.depth MAX_OPEN ≡ b → Judged (cond b (Ok d) (Err (TooDeep at)) >>= f) (S × ((c.depth < MAX_OPEN) × F)) n
+  by_depth true e = settled (f d) (S × F) (S × ((c.depth < MAX_OPEN) × F)) n n (λ x. (x.0, (ltb-true c.depth MAX_OPEN e, x.1))) (λ x. (x.0, x.1.1)) refl h
+  by_depth false e = λ x. let lt : c.depth < MAX_OPEN = x.1.0 in let le : MAX_OPEN ≤ c.depth = ltb-false c.depth MAX_OPEN e in absurd (omega arith)
 
 -- ---- names, numbers and stars
 
@@ -100,28 +101,28 @@ condition_judged at (Some (Var k)) = λ x. x.0
 condition_judged at (Some (TermName i)) = λ x. x.0
 condition_judged at (Some (Prog i)) = λ x. x.0
 
-deep_judged : (c : Context) (at : ℕ) (m : Extent) (n : ℕ) → m.nesting ≡ min n 201 → Judged (cond (nat_lt 200 (c.depth + n)) (Err (TooDeep at)) (Ok m)) (c.depth + n ≤ 200) n
-deep_judged c at m n told = by_depth (nat_lt 200 (c.depth + n)) refl where
-  by_depth : (b : Bool) → nat_lt 200 (c.depth + n) ≡ b → Judged (cond b (Err (TooDeep at)) (Ok m)) (c.depth + n ≤ 200) n
-  by_depth true e = λ le. let lt : 200 < c.depth + n = ltb-true 200 (c.depth + n) e in absurd (omega arith)
-  by_depth false e = (ltb-false 200 (c.depth + n) e, told)
+deep_judged : (c : Context) (at : ℕ) (m : Extent) (n : ℕ) → m.nesting ≡ min n (MAX_OPEN + 1) → Judged (cond (nat_lt MAX_OPEN (c.depth + n)) (Err (TooDeep at)) (Ok m)) (c.depth + n ≤ MAX_OPEN) n
+deep_judged c at m n told = by_depth (nat_lt MAX_OPEN (c.depth + n)) refl where
+  by_depth : (b : Bool) → nat_lt MAX_OPEN (c.depth + n) ≡ b → Judged (cond b (Err (TooDeep at)) (Ok m)) (c.depth + n ≤ MAX_OPEN) n
+  by_depth true e = λ le. let lt : MAX_OPEN < c.depth + n = ltb-true MAX_OPEN (c.depth + n) e in absurd (omega arith)
+  by_depth false e = (ltb-false MAX_OPEN (c.depth + n) e, told)
 
 abbrev Suits : Context → Definition → Type 0
-Suits c d = ((c.negated ≡ true → is_test d.tree ≡ true) × (c.depth + d.nesting ≤ 200)) × Unit {0}
+Suits c d = ((c.negated ≡ true → is_test d.tree ≡ true) × (c.depth + d.nesting ≤ MAX_OPEN)) × Unit {0}
 
-usable_judged : (c : Context) (at : ℕ) (d : Definition) (r : Result Extent TextFault) → Judged r (c.depth + d.nesting ≤ 200) d.nesting → Judged (cond c.negated (cond (is_test d.tree) r (Err (Sort at))) r) (Suits c d) d.nesting
+usable_judged : (c : Context) (at : ℕ) (d : Definition) (r : Result Extent TextFault) → Judged r (c.depth + d.nesting ≤ MAX_OPEN) d.nesting → Judged (cond c.negated (cond (is_test d.tree) r (Err (Sort at))) r) (Suits c d) d.nesting
 usable_judged c at d r h = by_sort c.negated refl (is_test d.tree) refl where
   by_sort : (b : Bool) → c.negated ≡ b → (t : Bool) → is_test d.tree ≡ t → Judged (cond b (cond t r (Err (Sort at))) r) (Suits c d) d.nesting
-  by_sort true e true f = settled r (c.depth + d.nesting ≤ 200) (Suits c d) d.nesting d.nesting (λ le. (((λ n. f), le), tt)) (λ x. x.0.1) refl h
+  by_sort true e true f = settled r (c.depth + d.nesting ≤ MAX_OPEN) (Suits c d) d.nesting d.nesting (λ le. (((λ n. f), le), tt)) (λ x. x.0.1) refl h
   by_sort true e false f = λ x. both_ways (is_test d.tree) f (x.0.0 e)
-  by_sort false e t f = settled r (c.depth + d.nesting ≤ 200) (Suits c d) d.nesting d.nesting (λ le. (((λ n. absurd (both_ways c.negated e n)), le), tt)) (λ x. x.0.1) refl h
+  by_sort false e t f = settled r (c.depth + d.nesting ≤ MAX_OPEN) (Suits c d) d.nesting d.nesting (λ le. (((λ n. absurd (both_ways c.negated e n)), le), tt)) (λ x. x.0.1) refl h
 
 abbrev pub extent_of : Definition → Extent
 extent_of d = limited (term_size d.tree) (test_size (as_test d.tree)) d.nesting
 
 defined_judged : (c : Context) (at : ℕ) (o : Option Definition) → Judged (defined_extent c at o) (IsUsable c o × Unit {0}) (defined_nesting o)
 defined_judged c at None = ((tt, tt), refl)
-defined_judged c at (Some d) = usable_judged c at d (cond (nat_lt 200 (c.depth + d.nesting)) (Err (TooDeep at)) (Ok (extent_of d))) (deep_judged c at (extent_of d) d.nesting refl)
+defined_judged c at (Some d) = usable_judged c at d (cond (nat_lt MAX_OPEN (c.depth + d.nesting)) (Err (TooDeep at)) (Ok (extent_of d))) (deep_judged c at (extent_of d) d.nesting refl)
 
 action_judged : (c : Context) (at : ℕ) → Judged (cond c.negated (Err (Sort at)) (Ok (limited 1 1 0))) ((c.negated ≡ false) × Unit {0}) 0
 action_judged c at = by_place c.negated refl where

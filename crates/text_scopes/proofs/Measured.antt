@@ -1,8 +1,9 @@
 -- The measures of a phrase are those of its tree.
 use Rattle.std.proofs.Common.{◌≡◌, ◌<◌, ◌≤◌, ◌+◌, ◌↔◌, ℕ, max, min, Bool, true, false, ◌&&◌, cond, nat_lt, List, [], ◌∷◌, ◌++◌, length, slice_get, Option, Some, None, Result, Ok, Err, IsOk, refl, sym, ap, ◌∙◌, subst, arith, length-append}
 use Rattle.std.proofs.lemmas.Bool.{both_ways, ltb-true, ltb-false, and_from}
+use Rattle.kat_model.specs.declared.limits.TheConstants.{MAX_TERM_NODES, MAX_EXPR_NODES, MAX_OPEN}
 use Rattle.kat_model.specs.declared.expression.Rel.{Rel}
-use Rattle.kat_model.specs.Trees.{Term, zero, one, sum, product, term_size, test_size}
+use Rattle.kat_model.specs.Trees.{Term, zero, one, sum, product, term_size, test_size, is_test}
 use Rattle.kat_model.specs.Balanced.{balanced}
 use Rattle.kat_model.specs.Expressions.{ExprTree, number, CondTree, always, never, both, either, test_without_comparisons}
 use Rattle.text_tokens.specs.declared.fault.TextFault.{TextFault}
@@ -15,7 +16,7 @@ use Rattle.text_grammar.specs.Folds.{fold}
 use Rattle.text_scopes.specs.declared.meaning.Meaning.{Meaning}
 use Rattle.text_scopes.specs.declared.meaning.Meaning.TheVariants.{Test, Action, Var, Term as TermName, Prog}
 use Rattle.text_scopes.specs.declared.extent.Extent.{Extent}
-use Rattle.text_scopes.specs.Sizes.{expr_size, cond_size, largest_expr, is_test, as_test, capped}
+use Rattle.text_scopes.specs.Sizes.{expr_size, cond_size, largest_expr, as_test, capped}
 use Rattle.text_scopes.specs.ScopeParts.{Definition, ScopeParts, meaning}
 use Rattle.text_scopes.specs.Building.{joined, variable_tree, condition_tree, defined_tree, name_tree, trees}
 use Rattle.text_scopes.specs.Measuring.{limited, linked, topped, compared_nodes, variable_extent, condition_extent, defined_extent, name_extent, starred as star_extent, extents}
@@ -28,30 +29,30 @@ use Rattle.text_scopes.proofs.Related.{Both, AreRelated, related}
 -- ---- node counts
 
 told_sum : (a b s t : ℕ) → capped (told_nodes a s + told_nodes b t + 1) ≡ told_nodes (max a b) (s + t + 1)
-told_sum a b s t = by_sizes (nat_lt 1000 a) refl (nat_lt 1000 b) refl (nat_lt 1000 (max a b)) refl where
-  by_sizes : (x : Bool) → nat_lt 1000 a ≡ x → (y : Bool) → nat_lt 1000 b ≡ y → (z : Bool) → nat_lt 1000 (max a b) ≡ z → capped (cond x 100001 (capped s) + cond y 100001 (capped t) + 1) ≡ cond z 100001 (capped (s + t + 1))
+told_sum a b s t = by_sizes (nat_lt MAX_EXPR_NODES a) refl (nat_lt MAX_EXPR_NODES b) refl (nat_lt MAX_EXPR_NODES (max a b)) refl where
+  by_sizes : (x : Bool) → nat_lt MAX_EXPR_NODES a ≡ x → (y : Bool) → nat_lt MAX_EXPR_NODES b ≡ y → (z : Bool) → nat_lt MAX_EXPR_NODES (max a b) ≡ z → capped (cond x (MAX_TERM_NODES + 1) (capped s) + cond y (MAX_TERM_NODES + 1) (capped t) + 1) ≡ cond z (MAX_TERM_NODES + 1) (capped (s + t + 1))
   by_sizes true e true f true g = omega arith
-  by_sizes true e true f false g = let p : 1000 < a = ltb-true 1000 a e in let q : max a b ≤ 1000 = ltb-false 1000 (max a b) g in absurd (omega arith)
+  by_sizes true e true f false g = let p : MAX_EXPR_NODES < a = ltb-true MAX_EXPR_NODES a e in let q : max a b ≤ MAX_EXPR_NODES = ltb-false MAX_EXPR_NODES (max a b) g in absurd (omega arith)
   by_sizes true e false f true g = omega arith
-  by_sizes true e false f false g = let p : 1000 < a = ltb-true 1000 a e in let q : max a b ≤ 1000 = ltb-false 1000 (max a b) g in absurd (omega arith)
+  by_sizes true e false f false g = let p : MAX_EXPR_NODES < a = ltb-true MAX_EXPR_NODES a e in let q : max a b ≤ MAX_EXPR_NODES = ltb-false MAX_EXPR_NODES (max a b) g in absurd (omega arith)
   by_sizes false e true f true g = omega arith
-  by_sizes false e true f false g = let p : 1000 < b = ltb-true 1000 b f in let q : max a b ≤ 1000 = ltb-false 1000 (max a b) g in absurd (omega arith)
+  by_sizes false e true f false g = let p : MAX_EXPR_NODES < b = ltb-true MAX_EXPR_NODES b f in let q : max a b ≤ MAX_EXPR_NODES = ltb-false MAX_EXPR_NODES (max a b) g in absurd (omega arith)
   by_sizes false e false f true g =
-      let p : a ≤ 1000 = ltb-false 1000 a e in let r : b ≤ 1000 = ltb-false 1000 b f in let q : 1000 < max a b = ltb-true 1000 (max a b) g in absurd (omega arith)
+      let p : a ≤ MAX_EXPR_NODES = ltb-false MAX_EXPR_NODES a e in let r : b ≤ MAX_EXPR_NODES = ltb-false MAX_EXPR_NODES b f in let q : MAX_EXPR_NODES < max a b = ltb-true MAX_EXPR_NODES (max a b) g in absurd (omega arith)
   by_sizes false e false f false g = omega arith
 
 told_next : (a s : ℕ) → capped (capped (told_nodes a s + 1)) ≡ told_nodes a (s + 1)
-told_next a s = elim (nat_lt 1000 a) as (λ b. capped (capped (cond b 100001 (capped s) + 1)) ≡ cond b 100001 (capped (s + 1))) [ true ↦ omega arith | false ↦ omega arith ]
+told_next a s = elim (nat_lt MAX_EXPR_NODES a) as (λ b. capped (capped (cond b (MAX_TERM_NODES + 1) (capped s) + 1)) ≡ cond b (MAX_TERM_NODES + 1) (capped (s + 1))) [ true ↦ omega arith | false ↦ omega arith ]
 
-told_kept : (a s : ℕ) → capped (told_nodes a s) ≡ told_nodes a s
-told_kept a s = elim (nat_lt 1000 a) as (λ b. capped (cond b 100001 (capped s)) ≡ cond b 100001 (capped s)) [ true ↦ omega arith | false ↦ omega arith ]
+pub told_kept : (a s : ℕ) → capped (told_nodes a s) ≡ told_nodes a s
+told_kept a s = elim (nat_lt MAX_EXPR_NODES a) as (λ b. capped (cond b (MAX_TERM_NODES + 1) (capped s)) ≡ cond b (MAX_TERM_NODES + 1) (capped s)) [ true ↦ omega arith | false ↦ omega arith ]
 
-told_compared : (m a : ℕ) → m ≡ capped a → compared_nodes m ≡ told_nodes a a
-told_compared m a e = by_sizes (nat_lt 1000 m) refl (nat_lt 1000 a) refl where
-  by_sizes : (x : Bool) → nat_lt 1000 m ≡ x → (y : Bool) → nat_lt 1000 a ≡ y → cond x 100001 m ≡ cond y 100001 (capped a)
+pub told_compared : (m a : ℕ) → m ≡ capped a → compared_nodes m ≡ told_nodes a a
+told_compared m a e = by_sizes (nat_lt MAX_EXPR_NODES m) refl (nat_lt MAX_EXPR_NODES a) refl where
+  by_sizes : (x : Bool) → nat_lt MAX_EXPR_NODES m ≡ x → (y : Bool) → nat_lt MAX_EXPR_NODES a ≡ y → cond x (MAX_TERM_NODES + 1) m ≡ cond y (MAX_TERM_NODES + 1) (capped a)
   by_sizes true f true g = refl
-  by_sizes true f false g = let p : 1000 < m = ltb-true 1000 m f in let q : a ≤ 1000 = ltb-false 1000 a g in absurd (omega arith)
-  by_sizes false f true g = let p : m ≤ 1000 = ltb-false 1000 m f in let q : 1000 < a = ltb-true 1000 a g in absurd (omega arith)
+  by_sizes true f false g = let p : MAX_EXPR_NODES < m = ltb-true MAX_EXPR_NODES m f in let q : a ≤ MAX_EXPR_NODES = ltb-false MAX_EXPR_NODES a g in absurd (omega arith)
+  by_sizes false f true g = let p : m ≤ MAX_EXPR_NODES = ltb-false MAX_EXPR_NODES m f in let q : MAX_EXPR_NODES < a = ltb-true MAX_EXPR_NODES a g in absurd (omega arith)
   by_sizes false f false g = e
 
 -- the nodes of a node that joins two parts
@@ -140,7 +141,7 @@ action_measured c at e one_node = by_place c.negated refl where
 
 defined_measured : (c : Context) (at : ℕ) (o : Option Definition) → Both (IsTermMeasure c) (defined_extent c at o) (Ok (defined_tree o))
 defined_measured c at None = λ n. (refl, λ t. (refl, refl))
-defined_measured c at (Some d) = by_sort c.negated refl (is_test d.tree) refl (nat_lt 200 (c.depth + d.nesting)) where
+defined_measured c at (Some d) = by_sort c.negated refl (is_test d.tree) refl (nat_lt MAX_OPEN (c.depth + d.nesting)) where
   by_sort : (b : Bool) → c.negated ≡ b → (t : Bool) → is_test d.tree ≡ t → (z : Bool) → Both (IsTermMeasure c) (cond b (cond t (cond z (Err (TooDeep at)) (Ok (extent_of d))) (Err (Sort at))) (cond z (Err (TooDeep at)) (Ok (extent_of d)))) (Ok d.tree)
   by_sort true e true f true = tt
   by_sort true e true f false = λ n. (refl, λ t. (f, refl))
@@ -216,15 +217,19 @@ module _ (w : ScopeParts) where
     product = λ c m es h. h.2;
   }
 
-made : {A B : Type 0} (R : A → B → Type 0) (r : Result A TextFault) (s : Result B TextFault) (x : A) → r ≡ Ok x → Both R r s → (y : B) × (s ≡ Ok y) × R x y
+pub made : {A B : Type 0} (R : A → B → Type 0) (r : Result A TextFault) (s : Result B TextFault) (x : A) → r ≡ Ok x → Both R r s → (y : B) × (s ≡ Ok y) × R x y
 made R (Ok z) (Ok y) x e h = let same : z ≡ x = cc in (y, refl, subst (λ u. R u y) same h)
 made R (Ok z) (Err f) x e h = absurd h
 made R (Err f) s x e h = absurd cc
 
-told_of : (r : Result Extent TextFault) (P : Type 0) (n : ℕ) (m : Extent) → Judged r P n → r ≡ Ok m → m.nesting ≡ min n 201
+pub ok_value : (r : Result Extent TextFault) → IsOk r → (m : Extent) × (r ≡ Ok m)
+ok_value (Ok m) h = (m, refl)
+ok_value (Err e) h = absurd cc
+
+pub told_of : (r : Result Extent TextFault) (P : Type 0) (n : ℕ) (m : Extent) → Judged r P n → r ≡ Ok m → m.nesting ≡ min n (MAX_OPEN + 1)
 told_of r P n m h e = let k : Judged (Ok m) P n = subst (λ (s : Result Extent TextFault). Judged s P n) e h in k.1
 
-decided : (r : Result Extent TextFault) (P : Type 0) (n : ℕ) → Judged r P n → IsOk r ↔ P
+pub decided : (r : Result Extent TextFault) (P : Type 0) (n : ℕ) → Judged r P n → IsOk r ↔ P
 decided (Ok m) P n h = (λ t. h.0, λ p. refl)
 decided (Err e) P n h = (λ t. absurd cc, λ p. absurd (h p))
 

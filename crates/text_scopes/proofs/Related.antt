@@ -1,5 +1,6 @@
 -- Two sets of actions that are related part by part give related results for each phrase.
 use Rattle.std.proofs.Common.{ℕ, List, true, false, cond, nat_lt, Result, Ok, Err}
+use Rattle.kat_model.specs.declared.limits.TheConstants.{MAX_OPEN}
 use Rattle.kat_model.specs.declared.expression.Rel.{Rel}
 use Rattle.text_tokens.specs.declared.fault.TextFault.{TextFault}
 use Rattle.text_tokens.specs.declared.fault.TextFault.TheVariants.{TooDeep}
@@ -18,13 +19,13 @@ Both R (Ok x) (Ok y) = R x y
 Both R (Ok x) (Err e) = ⊥
 Both R (Err e) s = Unit {0}
 
-both_then : {A B A' B' : Type 0} (R : A → A' → Type 0) (S : B → B' → Type 0) (r : Result A TextFault) (s : Result A' TextFault) (f : A → Result B TextFault) (g : A' → Result B' TextFault) → Both R r s → ((x : A) (y : A') → R x y → Both S (f x) (g y)) → Both S (r >>= f) (s >>= g)
+pub both_then : {A B A' B' : Type 0} (R : A → A' → Type 0) (S : B → B' → Type 0) (r : Result A TextFault) (s : Result A' TextFault) (f : A → Result B TextFault) (g : A' → Result B' TextFault) → Both R r s → ((x : A) (y : A') → R x y → Both S (f x) (g y)) → Both S (r >>= f) (s >>= g)
 both_then R S (Ok x) (Ok y) f g h k = k x y h
 both_then R S (Ok x) (Err e) f g h k = absurd h
 both_then R S (Err e) s f g h k = tt
 
-both_inside : {A B : Type 0} (S : A → B → Type 0) (c d : Context) (at : ℕ) (f : Context → Result A TextFault) (g : Context → Result B TextFault) → Both S (f d) (g d) → Both S (cond (nat_lt c.depth 200) (Ok d) (Err (TooDeep at)) >>= f) (cond (nat_lt c.depth 200) (Ok d) (Err (TooDeep at)) >>= g)
-both_inside S c d at f g h = elim (nat_lt c.depth 200) as (λ b. Both S (cond b (Ok d) (Err (TooDeep at)) >>= f) (cond b (Ok d) (Err (TooDeep at)) >>= g)) [ true ↦ h | false ↦ tt ]
+both_inside : {A B : Type 0} (S : A → B → Type 0) (c d : Context) (at : ℕ) (f : Context → Result A TextFault) (g : Context → Result B TextFault) → Both S (f d) (g d) → Both S (cond (nat_lt c.depth MAX_OPEN) (Ok d) (Err (TooDeep at)) >>= f) (cond (nat_lt c.depth MAX_OPEN) (Ok d) (Err (TooDeep at)) >>= g)
+both_inside S c d at f g h = elim (nat_lt c.depth MAX_OPEN) as (λ b. Both S (cond b (Ok d) (Err (TooDeep at)) >>= f) (cond b (Ok d) (Err (TooDeep at)) >>= g)) [ true ↦ h | false ↦ tt ]
 
 module _ {E B L T M E' B' L' T' M' : Type 0} (RE : Context → E → E' → Type 0) (RB : Context → B → B' → Type 0) (RL : Context → L → L' → Type 0) (RT : Context → T → T' → Type 0) (RM : Context → M → M' → Type 0) (g : Actions E B L T M) (h : Actions E' B' L' T' M') where
   -- the actions are related at each part

@@ -1,5 +1,6 @@
 -- What the passes over tokens make of a phrase, and how the measures of a phrase relate to its tree.
-use Rattle.std.specs.Prelude.{◌≡◌, ℕ, List, [], ◌∷◌, min, nat_lt, if◌then◌else◌, false, Ok}
+use Rattle.std.specs.Prelude.{◌≡◌, ℕ, List, [], ◌∷◌, min, nat_lt, if◌then◌else◌, false, Ok, ◌+◌}
+use Rattle.kat_model.specs.declared.limits.TheConstants.{MAX_TERM_NODES, MAX_EXPR_NODES, MAX_OPEN}
 use Rattle.kat_model.specs.Trees.{Term, test_size, term_size}
 use Rattle.kat_model.specs.Expressions.{ExprTree, CondTree, test_without_comparisons}
 use Rattle.text_grammar.specs.declared.reading.Context.{Context}
@@ -27,9 +28,10 @@ pub record PassesPhrases {E B L T M : Type 0} (g : Actions E B L T M) : Type 0 w
   pub read_conds : (c : Context) (ts rest : List Lexeme) (b : B) → parse_cond g.conds disjunction c ts ≡ Ok (b, rest) → IsPhrase cond c.depth ts rest
   pub read_exprs : (c : Context) (ts rest : List Lexeme) (e : E) → parse_expr g.conds.exprs sums c ts ≡ Ok (e, rest) → IsPhrase expr c.depth ts rest
 
--- the reported number of nodes: capped, and 100,001 if the largest expression has more than 1,000 nodes
+-- the reported number of nodes: capped, and `MAX_TERM_NODES + 1` if the largest expression has more than
+-- `MAX_EXPR_NODES` nodes
 abbrev pub told_nodes : ℕ → ℕ → ℕ
-told_nodes largest size = if nat_lt 1000 largest then 100001 else capped size
+told_nodes largest size = if nat_lt MAX_EXPR_NODES largest then MAX_TERM_NODES + 1 else capped size
 
 -- the reported number of nodes of a condition
 abbrev pub cond_nodes : CondTree → ℕ
@@ -40,7 +42,7 @@ pub record MeasuresTerm (w : ScopeParts) (c : Context) (p : Phrase term) (m : Ex
   pub tree : Term
   pub built : fold (trees w) c p (λ e. e ∷ []) ≡ Ok tree
   pub nodes : m.nodes ≡ capped (term_size tree)
-  pub levels : m.nesting ≡ min (nesting w p) 201
+  pub levels : m.nesting ≡ min (nesting w p) (MAX_OPEN + 1)
 
 -- likewise for a condition; without comparisons, its nodes are those of its test
 pub record MeasuresCond (w : ScopeParts) (c : Context) (p : Phrase cond) (m : Extent) : Type 0 where
@@ -48,11 +50,11 @@ pub record MeasuresCond (w : ScopeParts) (c : Context) (p : Phrase cond) (m : Ex
   pub built : fold (trees w) c p (λ b. b ∷ []) ≡ Ok tree
   pub nodes : m.nodes ≡ cond_nodes tree
   pub as_test : c.compares ≡ false → m.nodes ≡ capped (test_size (test_without_comparisons tree))
-  pub levels : m.nesting ≡ min (nesting w p) 201
+  pub levels : m.nesting ≡ min (nesting w p) (MAX_OPEN + 1)
 
 -- likewise for an expression
 pub record MeasuresExpr (w : ScopeParts) (c : Context) (p : Phrase expr) (m : Extent) : Type 0 where
   pub tree : ExprTree
   pub built : fold (trees w) c p (λ e. e) ≡ Ok tree
   pub nodes : m.nodes ≡ capped (expr_size tree)
-  pub levels : m.nesting ≡ min (nesting w p) 201
+  pub levels : m.nesting ≡ min (nesting w p) (MAX_OPEN + 1)

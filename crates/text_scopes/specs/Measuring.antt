@@ -1,6 +1,7 @@
 -- The faults of the names of a phrase, and the size and nesting of the phrase.
 use Rattle.std.specs.Prelude.{ℕ, ◌+◌, max, min, if◌then◌else◌, nat_lt, slice_get, Result, Ok, Err, Option, Some, None}
-use Rattle.kat_model.specs.Trees.{term_size, test_size}
+use Rattle.kat_model.specs.declared.limits.TheConstants.{MAX_TERM_NODES, MAX_EXPR_NODES, MAX_OPEN}
+use Rattle.kat_model.specs.Trees.{term_size, test_size, is_test}
 use Rattle.text_tokens.specs.declared.fault.TextFault.{TextFault}
 use Rattle.text_tokens.specs.declared.fault.TextFault.TheVariants.{UnknownName, Sort, TooDeep}
 use Rattle.text_grammar.specs.declared.reading.Context.{Context}
@@ -8,12 +9,12 @@ use Rattle.text_grammar.specs.Actions.{ExprActions, CondActions, Actions}
 use Rattle.text_scopes.specs.declared.meaning.Meaning.{Meaning}
 use Rattle.text_scopes.specs.declared.meaning.Meaning.TheVariants.{Test, Action, Var, Term as TermName}
 use Rattle.text_scopes.specs.declared.extent.Extent.{Extent}
-use Rattle.text_scopes.specs.Sizes.{is_test, as_test, capped}
+use Rattle.text_scopes.specs.Sizes.{as_test, capped}
 use Rattle.text_scopes.specs.ScopeParts.{Definition, ScopeParts, meaning}
 
 -- the extent of nodes, nodes as a test, and nesting, each capped at its limit plus one
 abbrev pub limited : ℕ → ℕ → ℕ → Extent
-limited nodes test_nodes nesting = record { nodes = capped nodes; test_nodes = capped test_nodes; nesting = min nesting 201 }
+limited nodes test_nodes nesting = record { nodes = capped nodes; test_nodes = capped test_nodes; nesting = min nesting (MAX_OPEN + 1) }
 
 -- the extent of a phrase in parentheses, which is one level deeper
 abbrev pub deeper : Extent → Extent
@@ -27,9 +28,10 @@ linked m n = limited (m.nodes + n.nodes + 1) (m.test_nodes + n.test_nodes + 1) (
 abbrev pub topped : Extent → Extent
 topped m = limited (m.nodes + 1) (m.test_nodes + 1) m.nesting
 
--- the nodes of an expression in a comparison: more than 1,000 count as 100,001, which is too large
+-- the nodes of an expression in a comparison: more than `MAX_EXPR_NODES` count as `MAX_TERM_NODES + 1`, which is too
+-- large
 abbrev pub compared_nodes : ℕ → ℕ
-compared_nodes n = if nat_lt 1000 n then 100001 else n
+compared_nodes n = if nat_lt MAX_EXPR_NODES n then MAX_TERM_NODES + 1 else n
 
 abbrev pub compare : Extent → Extent → Extent
 compare m n = limited (compared_nodes m.nodes + compared_nodes n.nodes + 1) 0 (max m.nesting n.nesting)
@@ -76,9 +78,9 @@ defined_extent c at None = Ok (limited 1 1 0)
 defined_extent c at (Some d) =
     if c.negated then
     (if is_test d.tree then
-    (if nat_lt 200 (c.depth + d.nesting) then Err (TooDeep at) else Ok (limited (term_size d.tree) (test_size (as_test d.tree)) d.nesting))
+    (if nat_lt MAX_OPEN (c.depth + d.nesting) then Err (TooDeep at) else Ok (limited (term_size d.tree) (test_size (as_test d.tree)) d.nesting))
     else Err (Sort at))
-    else (if nat_lt 200 (c.depth + d.nesting) then Err (TooDeep at) else Ok (limited (term_size d.tree) (test_size (as_test d.tree)) d.nesting))
+    else (if nat_lt MAX_OPEN (c.depth + d.nesting) then Err (TooDeep at) else Ok (limited (term_size d.tree) (test_size (as_test d.tree)) d.nesting))
 
 abbrev pub name_extent : ScopeParts → Context → ℕ → Option Meaning → Result Extent TextFault
 name_extent w c at None = Err (UnknownName at)

@@ -1,5 +1,6 @@
 -- The reading of a phrase: its tree and its nesting, or its first fault.
 use Rattle.std.specs.Prelude.{◌≡◌, ℕ, List, drop, Bool, true, false, if◌then◌else◌, nat_lt, Result, Ok, Err}
+use Rattle.kat_model.specs.declared.limits.TheConstants.{MAX_TERM_NODES, MAX_EXPR_NODES}
 use Rattle.kat_model.specs.Trees.{Term}
 use Rattle.kat_model.specs.Expressions.{ExprTree, CondTree}
 use Rattle.text_tokens.specs.declared.fault.TextFault.{TextFault}
@@ -30,13 +31,13 @@ phrased m t = m >>= λ x. t >>= λ y. Ok (record { tree = y.0; nesting = (x.0).n
 
 -- the term, condition or expression at the start of the tokens, with `d` constructs open around it
 abbrev pub term_at : ScopeParts → ℕ → List Lexeme → Result (Phrased Term) TextFault
-term_at w d ts = phrased (within 100000 (place_of ts) (parse_term (extents w) choice (context d false false) ts)) (parse_term (trees w) choice (context d false false) ts)
+term_at w d ts = phrased (within MAX_TERM_NODES (place_of ts) (parse_term (extents w) choice (context d false false) ts)) (parse_term (trees w) choice (context d false false) ts)
 
 abbrev pub cond_at : ScopeParts → ℕ → Bool → List Lexeme → Result (Phrased CondTree) TextFault
-cond_at w d compares ts = phrased (within 100000 (place_of ts) (parse_cond (cond_extents w) disjunction (context d false compares) ts)) (parse_cond (cond_trees w) disjunction (context d false compares) ts)
+cond_at w d compares ts = phrased (within MAX_TERM_NODES (place_of ts) (parse_cond (cond_extents w) disjunction (context d false compares) ts)) (parse_cond (cond_trees w) disjunction (context d false compares) ts)
 
 abbrev pub expr_at : ScopeParts → ℕ → List Lexeme → Result (Phrased ExprTree) TextFault
-expr_at w d ts = phrased (within 1000 (place_of ts) (parse_expr (expr_extents w) sums (context d false true) ts)) (parse_expr (expr_trees w) sums (context d false true) ts)
+expr_at w d ts = phrased (within MAX_EXPR_NODES (place_of ts) (parse_expr (expr_extents w) sums (context d false true) ts)) (parse_expr (expr_trees w) sums (context d false true) ts)
 
 -- the program's result agrees with the reading `m`, or is `NoMemory`
 abbrev pub Answers : {V W : Type 0} → (V → W) → List Lexeme → Result (V × ℕ × ℕ) TextFault → Result (Phrased W) TextFault → Type 0

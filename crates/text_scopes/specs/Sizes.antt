@@ -1,5 +1,6 @@
 -- The sizes of trees, and terms as tests.
-use Rattle.std.specs.Prelude.{ℕ, ◌+◌, max, min, Bool, true, false, ◌&&◌}
+use Rattle.std.specs.Prelude.{ℕ, ◌+◌, max, min}
+use Rattle.kat_model.specs.declared.limits.TheConstants.{MAX_TERM_NODES}
 use Rattle.kat_model.specs.Trees.{TestTree, bottom, top, meet, join, Term, zero, one, test, act, sum, product, star}
 use Rattle.kat_model.specs.Expressions.{ExprTree, number, variable, plus, minus, times, CondTree, always, never, named, compared, negation, both, either}
 
@@ -31,16 +32,6 @@ largest_expr (negation b) = largest_expr b
 largest_expr (both b c) = max (largest_expr b) (largest_expr c)
 largest_expr (either b c) = max (largest_expr b) (largest_expr c)
 
--- whether the term has no action and no star
-abbrev pub is_test : Term → Bool
-is_test zero = true
-is_test one = true
-is_test (test b) = true
-is_test (act a) = false
-is_test (sum e f) = is_test e && is_test f
-is_test (product e f) = is_test e && is_test f
-is_test (star e) = false
-
 -- the term as a test; an action or a star counts as false
 abbrev pub as_test : Term → TestTree
 as_test zero = bottom
@@ -53,4 +44,4 @@ as_test (star e) = bottom
 
 -- `n`, capped at the maximum number of nodes plus one
 abbrev pub capped : ℕ → ℕ
-capped n = min n 100001
+capped n = min n (MAX_TERM_NODES + 1)

@@ -1,11 +1,12 @@
 -- The phrases that are allowed in a scope, and their nesting with defined names expanded.
 use Rattle.std.specs.Prelude.{◌≡◌, ◌≤◌, ◌+◌, ℕ, max, true, false, slice_get, Option, Some, None}
+use Rattle.kat_model.specs.declared.limits.TheConstants.{MAX_OPEN}
+use Rattle.kat_model.specs.Trees.{is_test}
 use Rattle.text_grammar.specs.declared.reading.Context.{Context}
 use Rattle.text_grammar.specs.Actions.{context}
 use Rattle.text_grammar.specs.Phrases.{Symbol, Phrase, one_prod, more_prods, one_star, more_stars, bare, starred, name_unit, not_unit, square_unit, round_unit, one_conj, more_conjs, one_lit, more_lits, name_lit, not_lit, round_lit, relation_lit, one_mul, more_muls, one_fac, more_facs, zero_fac, one_fac_number, number_fac, name_fac, round_fac}
 use Rattle.text_scopes.specs.declared.meaning.Meaning.{Meaning}
 use Rattle.text_scopes.specs.declared.meaning.Meaning.TheVariants.{Test, Action, Var, Term as TermName}
-use Rattle.text_scopes.specs.Sizes.{is_test}
 use Rattle.text_scopes.specs.ScopeParts.{Definition, ScopeParts, meaning}
 
 -- the context inside a parenthesis or a bracket
@@ -19,7 +20,7 @@ inside_not c = context (c.depth + 1) true c.compares
 -- a defined term is allowed here: it is a test if a `!` encloses it, and it is not too deep
 abbrev pub IsUsable : Context → Option Definition → Type 0
 IsUsable c None = Unit {0}
-IsUsable c (Some d) = (c.negated ≡ true → is_test d.tree ≡ true) × (c.depth + d.nesting ≤ 200)
+IsUsable c (Some d) = (c.negated ≡ true → is_test d.tree ≡ true) × (c.depth + d.nesting ≤ MAX_OPEN)
 
 -- a name in a term denotes a test, an action outside of every `!`, or a term that is allowed here
 abbrev pub IsTermName : ScopeParts → Context → Option Meaning → Type 0

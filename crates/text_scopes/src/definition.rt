@@ -1,8 +1,8 @@
 //! Defined terms.
 ghost use Rattle.std.specs.Prelude.{◌≡◌};
-ghost use Rattle.kat_model.specs.Trees.{kat_tree, term_size, test_size};
+ghost use Rattle.kat_model.specs.Trees.{kat_tree, term_size, test_size, is_test};
 ghost use Rattle.kat_model.specs.Problems.{counted};
-ghost use Rattle.text_scopes.specs.Sizes.{is_test, as_test};
+ghost use Rattle.text_scopes.specs.Sizes.{as_test};
 ghost use Rattle.text_scopes.specs.Measuring.{limited};
 
 use crate::extent::{Extent, cut_extent};
@@ -17,17 +17,6 @@ pub(crate) struct Definition {
     pub(crate) testable: bool,
     pub(crate) ghost measured: { extent ≡ limited (term_size (kat_tree tree)) (test_size (as_test (kat_tree tree))) nesting },
     pub(crate) ghost told: { testable ≡ is_test (kat_tree tree) },
-}
-
-// Whether the term has no action and no star.
-fn is_test(term: &Kat) -> bool
-    ensures { result ≡ is_test (kat_tree term.now) }
-{
-    match term {
-        Kat::Zero | Kat::One | Kat::Test(_) => true,
-        Kat::Act(_) | Kat::Star(_) => false,
-        Kat::Sum(e, f) | Kat::Seq(e, f) => is_test(e) && is_test(f),
-    }
 }
 
 // Returns the number of nodes of the term as a test, at most `u64::MAX`.
@@ -51,7 +40,7 @@ impl Definition {
         ensures { definition_of result ≡ record { tree = kat_tree tree; nesting = nesting } }
     {
         let extent = cut_extent(tree.size(), test_size(&tree), nesting);
-        let testable = is_test(&tree);
+        let testable = tree.is_test();
         Definition {
             tree,
             nesting,

@@ -7,12 +7,12 @@ use kat_model::{MAX_EXPR_NODES, MAX_OPEN, MAX_TERM_NODES};
 /// The size and the nesting of a phrase. Each number is capped at its limit plus one.
 #[derive(Clone, Copy, Debug, PartialEq, Eq)]
 pub struct Extent {
-    /// The number of nodes of its tree, at most 100,001. It is 100,001 if an expression in it has more than 1,000
-    /// nodes.
+    /// The number of nodes of its tree, at most `MAX_TERM_NODES + 1`, and that if an expression in it has more than
+    /// `MAX_EXPR_NODES` nodes.
     pub nodes: u64,
     /// The number of nodes of its tree as a test, at most 100,001. Meaningful only if the phrase is a test.
     pub test_nodes: u64,
-    /// The maximum number of constructs open at one place, with defined names expanded; at most 201.
+    /// The maximum number of constructs open at one place, with defined names expanded; at most `MAX_OPEN + 1`.
     pub nesting: usize,
 }
 

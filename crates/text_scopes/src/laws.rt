@@ -17,8 +17,8 @@ pub fn phrases_are_passed()
     ensures trees { (w : ScopeParts) → PassesPhrases (trees w) }
 {}
 
-/// Measuring a phrase succeeds if and only if the phrase is sound, nests at most 200 constructs and has no number of
-/// 2^64 or more.
+/// Measuring a phrase succeeds if and only if the phrase is sound, nests at most `MAX_OPEN` constructs and has no
+/// number of 2^64 or more.
 pub fn sound_phrases_are_measured()
     ensures terms { (w : ScopeParts) (c : Context) (p : Phrase term) → IsOk (fold (extents w) c p (λ m. m)) ↔ (IsSound w c p × IsWithinLimits c.depth p) }
     ensures conds { (w : ScopeParts) (c : Context) (p : Phrase cond) → IsOk (fold (extents w) c p (λ m. m)) ↔ (IsSound w c p × IsWithinLimits c.depth p) }

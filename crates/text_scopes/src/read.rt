@@ -150,7 +150,7 @@ fn within(extent: Extent, limit: u64, at: usize) -> Result<(), TextFault>
 /// Reads the term that begins at `from`, with `depth` open constructs around it. Returns its tree, the index after it,
 /// and its nesting, counted from the term itself. Otherwise fails with the first fault in its syntax or its names in
 /// text order (`UnknownName`, `Sort`, or `TooDeep` through a defined name, each at its token). If no token has a fault,
-/// fails with `TooLarge` at the first token if the term has more than 100,000 nodes, or when out of memory.
+/// fails with `TooLarge` at the first token if the term has more than `MAX_TERM_NODES` nodes, or when out of memory.
 pub fn read_term(
     alloc: Global,
     toks: &[Token],
@@ -168,7 +168,7 @@ pub fn read_term(
 }
 
 /// Reads the condition that begins at `from`, like `read_term` for a term. If `compares` is false, variables and
-/// numbers in it are `Sort` faults. An expression of more than 1,000 nodes is a `TooLarge` fault too.
+/// numbers in it are `Sort` faults. An expression of more than `MAX_EXPR_NODES` nodes is `TooLarge` too.
 pub fn read_cond(
     alloc: Global,
     toks: &[Token],
@@ -186,7 +186,8 @@ pub fn read_cond(
     Ok((cond, end, extent.nesting))
 }
 
-/// Reads the expression that begins at `from`, like `read_term` for a term; `TooLarge` if it has more than 1,000 nodes.
+/// Reads the expression that begins at `from`, like `read_term` for a term; `TooLarge` if it has more than
+/// `MAX_EXPR_NODES` nodes.
 pub fn read_expr(
     alloc: Global,
     toks: &[Token],

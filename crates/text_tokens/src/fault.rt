@@ -10,7 +10,7 @@ use std::alloc::AllocFailed;
 pub enum TextFault {
     /// Out of memory.
     NoMemory,
-    /// The text has more than 1,048,576 bytes ([`crate::MAX_LEN`]).
+    /// The text has more than [`crate::MAX_LEN`] bytes.
     TooLong,
     /// The bytes are not UTF-8. The place is the length of the longest prefix that is UTF-8.
     NotUtf8(usize),
@@ -18,7 +18,7 @@ pub enum TextFault {
     BadToken(usize),
     /// The token at the place is not allowed there. At the end of the text the place is the text's length.
     Syntax(usize),
-    /// More than 200 levels of nesting are open at the token at the place.
+    /// More than `MAX_OPEN` levels of nesting are open at the token at the place.
     TooDeep(usize),
     /// The number at the place does not fit: it is 2^64 or more, or 2^w or more in an item of width w.
     NumberTooWide(usize),

@@ -1,5 +1,6 @@
--- The reply of `check` is the statement on the evidence, and has its cause.
-use Rattle.std.proofs.Common.{◌≡◌, ◌⊎◌, ℕ, List, [], None, inl, inr, refl, sym, ◌∙◌, arith}
+-- The reply of `check` satisfies the statement on the evidence.
+use Rattle.std.proofs.Common.{◌≡◌, ◌⊎◌, ◌<◌, ℕ, List, length, inl, inr, refl, sym, ◌∙◌, arith}
+use Rattle.kat_model.specs.declared.limits.TheConstants.{MAX_TEXT_BYTES}
 use Rattle.kat_model.specs.Problems.{ProblemParts}
 use Rattle.kat_model.specs.Relations.{Same}
 use Rattle.kat_model.specs.Strings.{GuardedString}
@@ -12,19 +13,20 @@ use Rattle.cert_checker.specs.Answers.{Shows}
 use Rattle.problem_file.specs.Files.{FileParts}
 use Rattle.problem_file.specs.Reads.{Reads}
 use Rattle.problem_file.specs.Concrete.{IsConcrete, Agrees}
-use Rattle.tool_inputs.specs.Asking.{Asks}
-use Rattle.tool_inputs.specs.Posing.{IsRefused, Poses}
-use Rattle.tool_inputs.specs.Showing.{Spells, IsNoEvidence, Holds, HoldsNone}
-use Rattle.tool_inputs.specs.Steps.{ShelfUse, HasFailedOn, GetsFile, AsksQuestion}
-use Rattle.tool_check.specs.Check.{IsChecked, IsRejecting, ChecksBytes, ChecksTexts, Checks, CheckHeadline, AcceptsEqual, AcceptsDifferent, CheckCauses}
-use Rattle.tool_inputs.proofs.Contents.{never_past}
-use Rattle.tool_inputs.proofs.Steps.{OneStatus, reads_said, text_asks, gets_posed, gets_asked, gets_none, gets_bytes, reads_spelled, reads_no_evidence, reads_evidence_once}
-use Rattle.tool_inputs.proofs.StoreSentences.{asked_agrees, told_agrees}
-use Rattle.tool_inputs.proofs.Ways.{Ways, at_zero, at_one, at_two, at_three, at_four}
+use Rattle.tool_inputs.specs.FileProblem.{Asks, HasProblem}
+use Rattle.kat_report.specs.InputLines.{too_long_line}
+use Rattle.tool_inputs.specs.TextProblem.{HasNoProblem}
+use Rattle.tool_inputs.specs.EvidenceBytes.{Spells, IsNoEvidence}
+use Rattle.tool_inputs.specs.Steps.{IsRefusal, AsksQuestion}
+use Rattle.tool_check.specs.Check.{IsChecked, IsRejecting, ChecksBytes, ChecksTexts, CheckHeadline, CheckReply}
+use Rattle.tool_inputs.proofs.Steps.{OneStatus, reads_said, text_asks, abstracted_none, text_small, text_once, reads_spelled, reads_no_evidence, reads_evidence_once}
+use Rattle.tool_inputs.proofs.FileReplies.{HasOneReply, unposed, long_unposed, posed}
+use Rattle.tool_inputs.proofs.StoreSentences.{asked_agrees}
+use Rattle.tool_inputs.proofs.Ways.{Ways, at_zero, at_one, at_two, at_three}
 
 -- ---- the reply to bytes
 
--- the ways in which it comes
+-- the possible statuses, each with its cause
 abbrev BytesWays : ProblemParts → List ℕ → ℕ → List ℕ → Type 0
 BytesWays q bytes status output =
     Ways status
@@ -82,7 +84,7 @@ module _ (q : ProblemParts) (bytes : List ℕ) (status : ℕ) (output : List ℕ
 pub texts_headline : (text bytes : List ℕ) (status : ℕ) (output : List ℕ) (q : ProblemParts) → Asks text q → ChecksTexts text bytes status output → CheckHeadline bytes q status
 texts_headline text bytes status output q asks r = checked_headline q bytes status output (text_asks text (λ p. ChecksBytes p bytes) status output q asks r)
 
--- the goal of a concrete file holds of all its stores where the status is 0
+-- if the status is 0, the goal of a concrete file holds for all its stores
 pub texts_stores : (text bytes : List ℕ) (status : ℕ) (output : List ℕ) (f : FileParts) → Reads text f → IsConcrete f → ChecksTexts text bytes status output → status ≡ 0 → Agrees f
 texts_stores text bytes status output f reads concrete r zero = stores (reads_said text (λ g. AsksQuestion g (λ p. ChecksBytes p bytes)) status output f reads r)
   where
@@ -101,57 +103,35 @@ checked_once q e a b o p (inr x) (inr y) = x.has_status ∙ sym y.has_status
 pub bytes_once : (q : ProblemParts) (bytes : List ℕ) → OneStatus (ChecksBytes q bytes)
 bytes_once q bytes = reads_evidence_once bytes (IsChecked q) (checked_once q)
 
--- ---- the reply to files
+-- ---- what the reply says
 
-abbrev GoesOn : ShelfUse → List ℕ → ProblemParts → ℕ → List ℕ → Type 0
-GoesOn s other q status output = GetsFile s other None [] (ChecksBytes q) status output
+pub check_reply : (text bytes : List ℕ) (status : ℕ) (output : List ℕ) → ChecksTexts text bytes status output → CheckReply text bytes status output
+check_reply text bytes status output r = record {
+  replies = r;
+  headline = λ q asks. texts_headline text bytes status output q asks r;
+  stores = λ f reads concrete zero. texts_stores text bytes status output f reads concrete r zero;
+  declined = λ line none. abstracted_none text (λ f a. ChecksBytes a.problem bytes) status output line none r;
+}
 
-abbrev CheckWays : ShelfUse → List ℕ → List ℕ → ℕ → List ℕ → Type 0
-CheckWays s file other status output =
-    Ways status
-    (AcceptsEqual s file other output)
-    (AcceptsDifferent s file other output)
-    (IsRefused (s.content file) output ⊎ HoldsNone (s.content file) (s.content other) output)
-    ((q : ProblemParts) × (e : Evidence) × Holds (s.content file) (s.content other) q e × IsRejecting q e 3 output)
-    (HasFailedOn s file status output ⊎ ((q : ProblemParts) × Poses (s.content file) q × HasFailedOn s other status output))
+-- the reply to a text without a question, and any bytes
+pub check_long : (text : List ℕ) → MAX_TEXT_BYTES < length text → (HasProblem text → ⊥) × ((bytes : List ℕ) → CheckReply text bytes 2 too_long_line)
+check_long text = long_unposed text (λ bytes q. ChecksBytes q bytes) CheckReply (check_reply text)
 
-module _ (s : ShelfUse) (file other : List ℕ) (status : ℕ) (output : List ℕ) where
-  shown_ways : (q : ProblemParts) → Poses (s.content file) q → GoesOn s other q status output → CheckWays s file other status output
-  shown_ways q poses (inl f) = inr (inr (inr (inr (f.has_status, inr (q, poses, f)))))
-  shown_ways q poses (inr (inl r)) = absurd (never_past (s.content other) r.1.past)
-  shown_ways q poses (inr (inr (bytes, given, inl n))) = inr (inr (inl (n.0, inr (q, poses, (bytes, given.0, n.1)))))
-  shown_ways q poses (inr (inr (bytes, given, inr (Equal c, sp, inl a)))) =
-      inl (a.has_status, record { question = q; cert = c; holds = record { poses = poses; bytes = bytes; held = given.0; spells = sp }; accepted = a.shows; same = a.says; stores = asked_agrees poses.text q poses.asks a.says; printed = a.printed })
-  shown_ways q poses (inr (inr (bytes, given, inr (Different x, sp, inl a)))) =
-      inr (inl (a.has_status, record { question = q; string = x; holds = record { poses = poses; bytes = bytes; held = given.0; spells = sp }; refutes = a.shows; differ = a.says; printed = a.printed }))
-  shown_ways q poses (inr (inr (bytes, given, inr (e, sp, inr r)))) =
-      inr (inr (inr (inl (r.has_status, (q, e, record { poses = poses; bytes = bytes; held = given.0; spells = sp }, record { fails = r.fails; reason = r.reason; first = r.first; has_status = refl; printed = r.printed })))))
+pub check_unposed : (text : List ℕ) (status : ℕ) (output : List ℕ) → IsRefusal (HasNoProblem text) status output → (HasProblem text → ⊥) × ((bytes : List ℕ) → CheckReply text bytes status output)
+check_unposed text = unposed text (λ bytes q. ChecksBytes q bytes) CheckReply (check_reply text)
 
-  posed_ways : HasFailedOn s file status output ⊎ (((status ≡ 2) × IsRefused (s.content file) output) ⊎ ((q : ProblemParts) × Poses (s.content file) q × GoesOn s other q status output)) → CheckWays s file other status output
-  posed_ways (inl f) = inr (inr (inr (inr (f.has_status, inl f))))
-  posed_ways (inr (inl h)) = inr (inr (inl (h.0, inl h.1)))
-  posed_ways (inr (inr (q, poses, g))) = shown_ways q poses g
+-- the reply to the question of a text, and bytes
+pub check_posed : (text : List ℕ) (q : ProblemParts) → Asks text q → (bytes : List ℕ) (status : ℕ) (output : List ℕ) → ChecksBytes q bytes status output → CheckReply text bytes status output
+check_posed text = posed text (λ bytes q. ChecksBytes q bytes) CheckReply (check_reply text)
 
-  answers : CheckWays s file other status output → (status ≡ 0) ⊎ ((status ≡ 1) ⊎ ((status ≡ 2) ⊎ ((status ≡ 3) ⊎ (status ≡ 4))))
-  answers (inl h) = inl h.0
-  answers (inr (inl h)) = inr (inl h.0)
-  answers (inr (inr (inl h))) = inr (inr (inl h.0))
-  answers (inr (inr (inr (inl h)))) = inr (inr (inr (inl h.0)))
-  answers (inr (inr (inr (inr h)))) = inr (inr (inr (inr h.0)))
+small : (q : ProblemParts) (bytes : List ℕ) (status : ℕ) (output : List ℕ) → ChecksBytes q bytes status output → status < 4
+small q bytes status output r = below (checked_headline q bytes status output r).answers.answers
+  where
+    below : (status ≡ 0) ⊎ ((status ≡ 1) ⊎ ((status ≡ 2) ⊎ (status ≡ 3))) → status < 4
+    below h = grind (arith, h)
 
-  pub check_causes : Checks s file other status output → CheckCauses s file other status output
-  check_causes r =
-      let ways : CheckWays s file other status output = posed_ways (gets_posed s file (GoesOn s other) status output r) in
-      record {
-        headline = λ text bytes q is holds unfailed asks.
-            checked_headline q bytes status output
-            (gets_bytes s other (ChecksBytes q) bytes status output holds (λ f. unfailed f.0) (gets_asked s file (GoesOn s other) status output text is (λ f. unfailed f.0) r q asks));
-        same_stores = λ text f is unfailed reads concrete zero. let t = at_zero status _ _ _ _ _ ways zero in told_agrees (s.content file) t.question t.holds.poses t.same text f is reads concrete;
-        declined = λ text line is unfailed none. gets_none s file (GoesOn s other) status output text is unfailed r line none;
-        accepted_equal = at_zero status _ _ _ _ _ ways;
-        accepted_different = at_one status _ _ _ _ _ ways;
-        refused = at_two status _ _ _ _ _ ways;
-        rejected = at_three status _ _ _ _ _ ways;
-        failed = at_four status _ _ _ _ _ ways;
-        answers = answers ways;
-      }
+pub check_one : (text bytes : List ℕ) → HasOneReply (CheckReply text bytes) ⊥
+check_one text bytes = record {
+  small = λ status output r. inl (text_small text (λ q. ChecksBytes q bytes) (λ q. small q bytes) status output r.replies);
+  once = λ a b o p x y. text_once text (λ q. ChecksBytes q bytes) (λ q. bytes_once q bytes) a b o p x.replies y.replies;
+}

@@ -1,4 +1,4 @@
--- Where `check` accepts a certificate of the plainest text of a goal about programs, the goal is so of stores.
+-- If `check` accepts a certificate for the plainest text of a goal about programs, the goal holds for stores.
 use Rattle.std.proofs.Common.{◌≡◌, ℕ, List}
 use Rattle.kat_model.specs.declared.expression.Width.{Width}
 use Rattle.kat_model.specs.Expressions.{CondTree}

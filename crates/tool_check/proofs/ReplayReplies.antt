@@ -1,5 +1,6 @@
--- The reply of `replay` is the statement on the evidence, and has its cause.
-use Rattle.std.proofs.Common.{◌≡◌, ◌⊎◌, ℕ, true, false, List, [], None, Some, inl, inr, ⊎_elim, refl, sym, subst, ◌∙◌}
+-- The reply of `replay` satisfies the statement on the evidence.
+use Rattle.std.proofs.Common.{◌≡◌, ◌⊎◌, ◌<◌, ℕ, true, false, List, length, None, Some, inl, inr, ⊎_elim, sym, ◌∙◌, arith}
+use Rattle.kat_model.specs.declared.limits.TheConstants.{MAX_TEXT_BYTES}
 use Rattle.kat_model.specs.Problems.{ProblemParts}
 use Rattle.kat_model.specs.Strings.{GuardedString, IsString}
 use Rattle.string_tables.specs.Findings.{IsFinding}
@@ -9,18 +10,19 @@ use Rattle.string_tables.proofs.Fitting.{no_misfit_is_string, string_has_no_misf
 use Rattle.certificate.specs.declared.evidence.Evidence.{Evidence}
 use Rattle.certificate.specs.declared.evidence.Evidence.TheVariants.{Equal, Different}
 use Rattle.kat_report.specs.Replays.{replay_text, Fits}
-use Rattle.tool_inputs.specs.Asking.{Asks}
-use Rattle.tool_inputs.specs.Posing.{IsRefused, Poses}
-use Rattle.tool_inputs.specs.Showing.{Spells, IsNoEvidence, Holds, HoldsNone}
-use Rattle.tool_inputs.specs.Steps.{ShelfUse, HasFailedOn, GetsFile}
-use Rattle.tool_check.specs.Replay.{IsTold, IsReplayed, ReplaysBytes, ReplaysTexts, Replays, SpellsNoString, ReplayHeadline, TellsString, ReplayCauses}
-use Rattle.tool_inputs.proofs.Contents.{never_past}
-use Rattle.tool_inputs.proofs.Steps.{OneStatus, text_asks, gets_posed, gets_asked, gets_none, gets_bytes, reads_spelled, reads_no_evidence, reads_evidence_once}
-use Rattle.tool_inputs.proofs.Ways.{Ways, at_zero, at_two, at_three, at_four}
+use Rattle.tool_inputs.specs.FileProblem.{Asks, HasProblem}
+use Rattle.kat_report.specs.InputLines.{too_long_line}
+use Rattle.tool_inputs.specs.TextProblem.{HasNoProblem}
+use Rattle.tool_inputs.specs.EvidenceBytes.{Spells, IsNoEvidence}
+use Rattle.tool_inputs.specs.Steps.{IsRefusal}
+use Rattle.tool_check.specs.Replay.{IsTold, IsReplayed, ReplaysBytes, ReplaysTexts, SpellsNoString, ReplayHeadline, ReplayReply}
+use Rattle.tool_inputs.proofs.Steps.{OneStatus, text_asks, abstracted_none, text_small, text_once, reads_spelled, reads_no_evidence, reads_evidence_once}
+use Rattle.tool_inputs.proofs.FileReplies.{HasOneReply, unposed, long_unposed, posed}
+use Rattle.tool_inputs.proofs.Ways.{Ways, at_zero, at_two, at_three}
 
--- ---- a string that is told fits, or does not
+-- ---- whether a string fits
 
--- what is told of a string that fits
+-- the string fits, and is printed with its finding
 abbrev Told : ProblemParts → GuardedString → List ℕ → Type 0
 Told q x output = IsString q.tests q.actions x × ((f : Finding) × IsFinding q x f × Fits f × (output ≡ replay_text x f))
 
@@ -92,57 +94,34 @@ replayed_once q (Different x) a b o p (f, found, t) y =
 pub bytes_once : (q : ProblemParts) (bytes : List ℕ) → OneStatus (ReplaysBytes q bytes)
 bytes_once q bytes = reads_evidence_once bytes (IsReplayed q) (replayed_once q)
 
--- ---- the reply to files
+-- ---- what the reply says
 
-abbrev GoesOn : ShelfUse → List ℕ → ProblemParts → ℕ → List ℕ → Type 0
-GoesOn s other q status output = GetsFile s other None [] (ReplaysBytes q) status output
+pub replay_reply : (text bytes : List ℕ) (status : ℕ) (output : List ℕ) → ReplaysTexts text bytes status output → ReplayReply text bytes status output
+replay_reply text bytes status output r = record {
+  replies = r;
+  headline = λ q asks. texts_headline text bytes status output q asks r;
+  declined = λ line none. abstracted_none text (λ f a. ReplaysBytes a.problem bytes) status output line none r;
+}
 
-abbrev ReplayWays : ShelfUse → List ℕ → List ℕ → ℕ → List ℕ → Type 0
-ReplayWays s file other status output =
-    Ways status
-    (TellsString s file other output)
-    ⊥
-    (IsRefused (s.content file) output ⊎ HoldsNone (s.content file) (s.content other) output)
-    ((q : ProblemParts) × (e : Evidence) × Holds (s.content file) (s.content other) q e × IsReplayed q e 3 output)
-    (HasFailedOn s file status output ⊎ ((q : ProblemParts) × Poses (s.content file) q × HasFailedOn s other status output))
+-- the reply to a text without a question, and any bytes
+pub replay_long : (text : List ℕ) → MAX_TEXT_BYTES < length text → (HasProblem text → ⊥) × ((bytes : List ℕ) → ReplayReply text bytes 2 too_long_line)
+replay_long text = long_unposed text (λ bytes q. ReplaysBytes q bytes) ReplayReply (replay_reply text)
 
-module _ (s : ShelfUse) (file other : List ℕ) (status : ℕ) (output : List ℕ) where
-  string_shown : (q : ProblemParts) (x : GuardedString) → Holds (s.content file) (s.content other) q (Different x) → IsReplayed q (Different x) status output → ((status ≡ 0) × Told q x output) ⊎ ((status ≡ 3) × (IsString q.tests q.actions x → ⊥)) → ReplayWays s file other status output
-  string_shown q x holds t (inl h) = inl (h.0, record { question = q; string = x; holds = holds; finding = h.1.1.0; found = h.1.1.1; fits = h.1.1.2; printed = h.1.1.3 })
-  string_shown q x holds t (inr h) = inr (inr (inr (inl (h.0, (q, Different x, holds, subst (λ k. IsReplayed q (Different x) k output) h.0 t)))))
+pub replay_unposed : (text : List ℕ) (status : ℕ) (output : List ℕ) → IsRefusal (HasNoProblem text) status output → (HasProblem text → ⊥) × ((bytes : List ℕ) → ReplayReply text bytes status output)
+replay_unposed text = unposed text (λ bytes q. ReplaysBytes q bytes) ReplayReply (replay_reply text)
 
-  shown_ways : (q : ProblemParts) → Poses (s.content file) q → GoesOn s other q status output → ReplayWays s file other status output
-  shown_ways q poses (inl f) = inr (inr (inr (inr (f.has_status, inr (q, poses, f)))))
-  shown_ways q poses (inr (inl r)) = absurd (never_past (s.content other) r.1.past)
-  shown_ways q poses (inr (inr (bytes, given, inl n))) = inr (inr (inl (n.0, inr (q, poses, (bytes, given.0, n.1)))))
-  shown_ways q poses (inr (inr (bytes, given, inr (Equal c, sp, t)))) =
-      inr (inr (inr (inl (t.0, (q, Equal c, record { poses = poses; bytes = bytes; held = given.0; spells = sp }, (refl, t.1))))))
-  shown_ways q poses (inr (inr (bytes, given, inr (Different x, sp, t)))) =
-      string_shown q x (record { poses = poses; bytes = bytes; held = given.0; spells = sp }) t (told_ways q x status output t.0 t.1 t.2)
+-- the reply to the question of a text, and bytes
+pub replay_posed : (text : List ℕ) (q : ProblemParts) → Asks text q → (bytes : List ℕ) (status : ℕ) (output : List ℕ) → ReplaysBytes q bytes status output → ReplayReply text bytes status output
+replay_posed text = posed text (λ bytes q. ReplaysBytes q bytes) ReplayReply (replay_reply text)
 
-  posed_ways : HasFailedOn s file status output ⊎ (((status ≡ 2) × IsRefused (s.content file) output) ⊎ ((q : ProblemParts) × Poses (s.content file) q × GoesOn s other q status output)) → ReplayWays s file other status output
-  posed_ways (inl f) = inr (inr (inr (inr (f.has_status, inl f))))
-  posed_ways (inr (inl h)) = inr (inr (inl (h.0, inl h.1)))
-  posed_ways (inr (inr (q, poses, g))) = shown_ways q poses g
+small : (q : ProblemParts) (bytes : List ℕ) (status : ℕ) (output : List ℕ) → ReplaysBytes q bytes status output → status < 4
+small q bytes status output r = below (replayed_headline q bytes status output r).answers.answers
+  where
+    below : (status ≡ 0) ⊎ ((status ≡ 2) ⊎ (status ≡ 3)) → status < 4
+    below h = grind (arith, h)
 
-  answers : ReplayWays s file other status output → (status ≡ 0) ⊎ ((status ≡ 2) ⊎ ((status ≡ 3) ⊎ (status ≡ 4)))
-  answers (inl h) = inl h.0
-  answers (inr (inl h)) = absurd h.1
-  answers (inr (inr (inl h))) = inr (inl h.0)
-  answers (inr (inr (inr (inl h)))) = inr (inr (inl h.0))
-  answers (inr (inr (inr (inr h)))) = inr (inr (inr h.0))
-
-  pub replay_causes : Replays s file other status output → ReplayCauses s file other status output
-  replay_causes r =
-      let ways : ReplayWays s file other status output = posed_ways (gets_posed s file (GoesOn s other) status output r) in
-      record {
-        headline = λ text bytes q is holds unfailed asks.
-            replayed_headline q bytes status output
-            (gets_bytes s other (ReplaysBytes q) bytes status output holds (λ f. unfailed f.0) (gets_asked s file (GoesOn s other) status output text is (λ f. unfailed f.0) r q asks));
-        declined = λ text line is unfailed none. gets_none s file (GoesOn s other) status output text is unfailed r line none;
-        replayed = at_zero status _ _ _ _ _ ways;
-        refused = at_two status _ _ _ _ _ ways;
-        no_string = at_three status _ _ _ _ _ ways;
-        failed = at_four status _ _ _ _ _ ways;
-        answers = answers ways;
-      }
+pub replay_one : (text bytes : List ℕ) → HasOneReply (ReplayReply text bytes) ⊥
+replay_one text bytes = record {
+  small = λ status output r. inl (text_small text (λ q. ReplaysBytes q bytes) (λ q. small q bytes) status output r.replies);
+  once = λ a b o p x y. text_once text (λ q. ReplaysBytes q bytes) (λ q. bytes_once q bytes) a b o p x.replies y.replies;
+}

@@ -1,4 +1,3 @@
 pub mod Check
 pub mod Replay
 pub mod Chain
-pub mod Show

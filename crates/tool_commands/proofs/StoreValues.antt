@@ -39,7 +39,7 @@ number_is_below bound word n e =
     let made = where_some (is_number word && nat_lt (value_from 0 word) bound) (value_from 0 word) n e in
     subst (λ m. m < bound) made.1 (ltb-true (value_from 0 word) bound (and_parts (is_number word) (nat_lt (value_from 0 word) bound) made.0).1)
 
-some_numbers : (w : Width) → 0 < modulus w
+pub some_numbers : (w : Width) → 0 < modulus w
 some_numbers W8 = lit< tt
 some_numbers W16 = lit< tt
 some_numbers W32 = lit< tt

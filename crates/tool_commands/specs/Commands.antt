@@ -3,21 +3,21 @@ use Rattle.std.specs.Prelude.{ℕ, ◌^◌, List, [], ◌∷◌, Option, None, S
 use Rattle.std.specs.Option.{option_map}
 use Rattle.std.specs.Str.{bytes_eq}
 use Rattle.tool_commands.specs.declared.words.Command.{Command as Chosen}
-use Rattle.tool_commands.specs.declared.words.Command.TheVariants.{Decide, Report, Show, Batch, Check, Replay, Chain, Run, OneLoop, Bench, Optimise, Gkat, Outline, CheckNotes}
+use Rattle.tool_commands.specs.declared.words.Command.TheVariants.{Decide, DecideJson, Show, Batch, Check, Replay, Chain, Run, OneLoop, Bench, Optimise, Gkat, Outline, OutlineCheck}
 use Rattle.tool_commands.specs.Numbers.{number_below, count_of}
 
 -- a command and its words: the file of the problem or of several goals, and the file of the evidence, the proof or the
 -- notes; or a program of the file, with the word of a store and a number of turns; or a number of problems
 pub data Command : Type 0 where
   decide : (file : List ℕ) → Command
-  report : (file : List ℕ) → Command
+  decide_json : (file : List ℕ) → Command
   show : (file : List ℕ) → Command
   gkat : (file : List ℕ) → Command
   batch : (file : List ℕ) → Command
   check : (file evidence : List ℕ) → Command
   replay : (file evidence : List ℕ) → Command
   outline : (file : List ℕ) → Command
-  check_notes : (file notes : List ℕ) → Command
+  outline_check : (file notes : List ℕ) → Command
   chain : (file proof : List ℕ) → Command
   run : (file prog store : List ℕ) → (turns : ℕ) → Command
   oneloop : (file prog : List ℕ) → Command
@@ -27,14 +27,14 @@ pub data Command : Type 0 where
 -- a command of the code, without the addresses of its words
 abbrev pub command_seen : Chosen → Command
 command_seen (Decide file) = decide file.now
-command_seen (Report file) = report file.now
+command_seen (DecideJson file) = decide_json file.now
 command_seen (Show file) = show file.now
 command_seen (Gkat file) = gkat file.now
 command_seen (Batch file) = batch file.now
 command_seen (Check file evidence) = check file.now evidence.now
 command_seen (Replay file evidence) = replay file.now evidence.now
 command_seen (Outline file) = outline file.now
-command_seen (CheckNotes file notes) = check_notes file.now notes.now
+command_seen (OutlineCheck file notes) = outline_check file.now notes.now
 command_seen (Chain file proof) = chain file.now proof.now
 command_seen (Run file prog store turns) = run file.now prog.now store.now turns
 command_seen (OneLoop file prog) = oneloop file.now prog.now
@@ -59,14 +59,14 @@ with_file name file =
     else None
 
 unfoldable pub with_option : List ℕ → List ℕ → List ℕ → Option Command
-with_option name file option = if bytes_eq name (codes "decide") && bytes_eq option (codes "--json") then Some (report file) else None
+with_option name file option = if bytes_eq name (codes "decide") && bytes_eq option (codes "--json") then Some (decide_json file) else None
 
 unfoldable pub with_value : List ℕ → List ℕ → List ℕ → Option Command
 with_value name file value =
     if bytes_eq name (codes "check") then Some (check file value)
     else if bytes_eq name (codes "replay") then Some (replay file value)
     else if bytes_eq name (codes "chain") then Some (chain file value)
-    else if bytes_eq name (codes "outline") then Some (check_notes file value)
+    else if bytes_eq name (codes "outline") then Some (outline_check file value)
     else if bytes_eq name (codes "oneloop") then Some (oneloop file value)
     else if bytes_eq name (codes "optimise") then Some (optimise file value 1000)
     else None
@@ -89,14 +89,14 @@ command_of words = None
 -- the files of a command
 abbrev pub files_of : Command → List (List ℕ)
 files_of (decide file) = file ∷ []
-files_of (report file) = file ∷ []
+files_of (decide_json file) = file ∷ []
 files_of (show file) = file ∷ []
 files_of (gkat file) = file ∷ []
 files_of (batch file) = file ∷ []
 files_of (check file evidence) = file ∷ evidence ∷ []
 files_of (replay file evidence) = file ∷ evidence ∷ []
 files_of (outline file) = file ∷ []
-files_of (check_notes file notes) = file ∷ notes ∷ []
+files_of (outline_check file notes) = file ∷ notes ∷ []
 files_of (chain file proof) = file ∷ proof ∷ []
 files_of (run file prog store turns) = file ∷ []
 files_of (oneloop file prog) = file ∷ []

@@ -20,7 +20,8 @@ fn is_number(word: &str) -> bool
     all_digits(word) && word.len() > 0 && word.len() < 21
 }
 
-/// Returns the value of a word that is a number: 1 to 20 ASCII digits with a value below 2^64.
+/// Returns the value of a word that is a number: 1 to 20 ASCII digits with a value below 2^64. Leading zeros do not matter:
+/// `bench 008` prints `problems 8`, and `--turns 001` allows one step.
 pub(crate) fn number_of(word: &str) -> Option<u64>
     ensures { result ≡ number_below (2 ^ 64) word.now }
 {

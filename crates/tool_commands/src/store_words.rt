@@ -104,7 +104,8 @@ fn numbers_of(alloc: Global, values: &[Option<u64>]) -> Result<Vec<u64>, NoMemor
 }
 
 /// Returns the store of the file that the word gives: `zero`, or items `NAME=NUMBER` separated by commas; a variable
-/// without an item is 0. `None` if and only if the word gives no store. Fails only when out of memory.
+/// without an item is 0. `None` if and only if the word gives no store. Fails only when out of memory. An item is split at
+/// its first `=`, so `zero=5` is an item. Numbers have 1 to 20 digits, leading zeros included, and no spaces are allowed.
 pub fn store_of(alloc: Global, file: &File, word: &str) -> Result<Option<Store>, NoMemory>
     ensures value { IfOk result (λ s. s ≡ store_of file.now word.now) }
     ensures within { IfOk result (λ s. IfSome s (IsStore file.now.width)) }

@@ -29,7 +29,7 @@ pub enum Command<'a> {
     /// `decide` FILE
     Decide(&'a str),
     /// `decide` FILE `--json`
-    Report(&'a str),
+    DecideJson(&'a str),
     /// `show` FILE
     Show(&'a str),
     /// `gkat` FILE
@@ -43,7 +43,7 @@ pub enum Command<'a> {
     /// `outline` FILE
     Outline(&'a str),
     /// `outline` FILE NOTES
-    CheckNotes(&'a str, &'a str),
+    OutlineCheck(&'a str, &'a str),
     /// `chain` FILE PROOF
     Chain(&'a str, &'a str),
     /// `run` FILE PROG STORE TURNS
@@ -178,7 +178,7 @@ fn with_option<'a>(name: &str, file: &'a str, option: &str) -> Option<Command<'a
     ensures { option_map command_seen result ≡ with_option name.now file.now option.now }
 {
     match (name, option) {
-        ("decide", "--json") => Some(Command::Report(file)),
+        ("decide", "--json") => Some(Command::DecideJson(file)),
         _ => None,
     }
 }
@@ -192,7 +192,7 @@ fn with_value<'a>(name: &str, file: &'a str, value: &'a str) -> Option<Command<'
         "check" => Some(Command::Check(file, value)),
         "replay" => Some(Command::Replay(file, value)),
         "chain" => Some(Command::Chain(file, value)),
-        "outline" => Some(Command::CheckNotes(file, value)),
+        "outline" => Some(Command::OutlineCheck(file, value)),
         "oneloop" => Some(Command::OneLoop(file, value)),
         "optimise" => Some(Command::Optimise {
             file,

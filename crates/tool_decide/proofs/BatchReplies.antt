@@ -1,5 +1,5 @@
--- The reply of `batch` is the statement on the goals, and has its cause.
-use Rattle.std.proofs.Common.{◌≡◌, ◌⊎◌, ℕ, ◌+◌, max, List, [], ◌∷◌, ◌++◌, length, map, slice_get, Some, inl, inr, ⊎_elim, refl, sym, subst, ap, ◌∙◌, arith, append_assoc, append-nil}
+-- The reply of `batch` satisfies the statement on the goals.
+use Rattle.std.proofs.Common.{◌≡◌, ◌⊎◌, ◌<◌, ℕ, ◌+◌, max, List, [], ◌∷◌, ◌++◌, length, map, slice_get, Some, inl, inr, ⊎_elim, refl, sym, subst, ap, ◌∙◌, arith, append_assoc, append-nil}
 use Rattle.kat_model.specs.Members.{Has}
 use Rattle.kat_model.specs.Problems.{ProblemParts}
 use Rattle.kat_model.specs.Relations.{Same}
@@ -13,12 +13,13 @@ use Rattle.problem_file.proofs.NumberedStates.{all_are_in_ranges}
 use Rattle.abstraction.specs.Abstracts.{AbstractParts, HasNumbersInRange, abstract_of, with_goal}
 use Rattle.abstraction.proofs.DerivedHypotheses.{derived_hold}
 use Rattle.abstraction.proofs.Agreement.{same_agrees}
-use Rattle.tool_inputs.specs.Steps.{ShelfUse, HasFailedOn}
+use Rattle.kat_report.specs.InputLines.{too_long_line}
 use Rattle.tool_decide.specs.Decide.{IsDecided}
-use Rattle.tool_decide.specs.Batch.{with_each, AsksSome, AsksSame, goal_line, IsGoalAnswer, AnswersFrom, IsFirstRefused, AnswersAll, AnswersText, Batches, BatchHeadline, MaySayAll, IsBatchRefused, TellsAnswers, BatchCauses}
+use Rattle.tool_decide.specs.Batch.{with_each, AsksSome, AsksSame, goal_line, IsGoalAnswer, AnswersFrom, IsFirstRefused, AnswersAll, AnswersText, BatchHeadline, BatchReply}
 use Rattle.tool_decide.specs.Working.Goals.{AreInRange}
-use Rattle.tool_inputs.specs.Outcomes.{IsQuestionOf}
-use Rattle.tool_inputs.proofs.Steps.{OneStatus, one_value, not_both as not_both_results, one_line, said_one, faulty_one, read_once, gets_as}
+use Rattle.tool_inputs.specs.ReplySpecs.{IsQuestionOf}
+use Rattle.tool_inputs.proofs.Steps.{OneStatus, one_value, not_both as not_both_results, one_line, said_one, faulty_one, read_once, reads_small, reads_long}
+use Rattle.tool_inputs.proofs.FileReplies.{RefusesLong, HasOneReply}
 use Rattle.tool_decide.proofs.DecideReplies.{not_both, decided_headline}
 use Rattle.tool_decide.proofs.GoalLists.{with_first, first_next, length_first}
 
@@ -73,7 +74,7 @@ either_status : (k : ℕ) (fs : List FileParts) (status : ℕ) (output : List �
 either_status k [] status output r = inl r.0
 either_status k (f ∷ fs) status output r = one_of_both status r.first r.later r.has_status (goal_either f r.first r.text r.answer) (either_status (k + 1) fs r.later r.others r.goes_on)
 
--- a goal more is answered behind the others
+-- an additional goal is answered after the others
 pub answered_last : (k : ℕ) (fs : List FileParts) (status : ℕ) (output : List ℕ) → AnswersFrom k fs status output → (f : FileParts) (last : ℕ) (text : List ℕ) → IsGoalAnswer f last text
     → AnswersFrom k (fs ++ f ∷ []) (max status last) (output ++ (goal_line (k + length fs) ++ text))
 answered_last k [] status output r f last text a = record {
@@ -112,7 +113,7 @@ answered_last k (g ∷ fs) status output r f last text a = record {
     regrouped : (s m n l : ℕ) → s ≡ max m n → max s l ≡ max m (max n l)
     regrouped s m n l e = omega (arith, e)
 
--- ---- a goal that is refused
+-- ---- a refused goal
 
 refused_some : (fs : List FileParts) (line : List ℕ) → IsFirstRefused fs line → ((g : FileParts) → Has fs g → AsksSome g) → ⊥
 refused_some [] line first some = elim first [ ]
@@ -128,7 +129,7 @@ one_refused (f ∷ fs) a b (inr x) (inr y) = one_refused fs a b x.1 y.1
 
 -- ---- what was read
 
--- the numbers of each goal are in range
+-- the numbers of the file with each goal are in range
 goals_in : (f : FileParts) (gs : List GoalTree) → ((g : GoalTree) → Has gs g → HasNumbersInRange (with_goal f g)) → (x : FileParts) → Has (map (with_goal f) gs) x → HasNumbersInRange x
 goals_in f [] in_range x has = elim has [ ]
 goals_in f (g ∷ gs) in_range x (inl is) = subst HasNumbersInRange is (in_range g (inl refl))
@@ -212,59 +213,32 @@ text_headline text status output f more reads r =
     goals_headline f more status output (numbers_of_goals text f more reads)
     (said_one ReadsBoth FirstFaultOfAll all_have_one_answer text (λ x. AnswersAll x.0 x.1) status output (f, more) reads r)
 
-pub batches_once : (text : List ℕ) → OneStatus (AnswersText text)
+batches_once : (text : List ℕ) → OneStatus (AnswersText text)
 batches_once text = read_once ReadsBoth FirstFaultOfAll all_have_one_answer text (λ x. AnswersAll x.0 x.1) (λ x. goals_once x.0 x.1)
 
--- ---- the reply to a file
+-- ---- what the reply says
 
-module _ (s : ShelfUse) (file : List ℕ) (status : ℕ) (output : List ℕ) where
-  -- the ways in which it comes
-  abbrev BatchWays : Type 0
-  BatchWays =
-      HasFailedOn s file status output ⊎ (((status ≡ 2) × IsBatchRefused (s.content file) output) ⊎ (((status ≡ 0) ⊎ (status ≡ 1)) × TellsAnswers (s.content file) status output))
+pub batch_reply : (text : List ℕ) (status : ℕ) (output : List ℕ) → AnswersText text status output → BatchReply text status output
+batch_reply text status output r = record {
+  replies = r;
+  headline = λ f more reads. text_headline text status output f more reads r;
+  declined = λ line fault. faulty_one ReadsBoth FirstFaultOfAll all_have_one_answer text (λ x. AnswersAll x.0 x.1) status output line fault r;
+}
 
-  told : (f : FileParts) (more : List GoalTree) → MaySayAll (s.content file) f more → AnswersFrom 0 (with_each f more) status output → BatchWays
-  told f more says r =
-      inr (inr (either_status 0 (with_each f more) status output r, (f, more, says, goals_headline f more status output (numbers_of_goals says.text f more says.reads) (inr r))))
+pub batch_long : RefusesLong BatchReply
+batch_long text past = batch_reply text 2 too_long_line (reads_long ReadsBoth FirstFaultOfAll (λ t longer. no_text (too_long refl longer)) text (λ x. AnswersAll x.0 x.1) past)
 
-  batch_ways : Batches s file status output → BatchWays
-  batch_ways (inl f) = inl f
-  batch_ways (inr (inl r)) = inr (inl (r.0, inl r.1))
-  batch_ways (inr (inr (text, given, inl r))) = inr (inl (r.0, inr (inl (text, given, r.1))))
-  batch_ways (inr (inr (text, given, inr (x, reads, inl r)))) = inr (inl (r.0, inr (inr (x.0, x.1, record { text = text; given = given; reads = reads }, r.1))))
-  batch_ways (inr (inr (text, given, inr (x, reads, inr r)))) = told x.0 x.1 (record { text = text; given = given; reads = reads }) r
+goals_small : (f : FileParts) (more : List GoalTree) (status : ℕ) (output : List ℕ) → AnswersAll f more status output → status < 4
+goals_small f more status output r = below (three f more status output r)
+  where
+    below : (status ≡ 0) ⊎ ((status ≡ 1) ⊎ (status ≡ 2)) → status < 4
+    below h = grind (arith, h)
 
-  answers : BatchWays → (status ≡ 0) ⊎ ((status ≡ 1) ⊎ ((status ≡ 2) ⊎ (status ≡ 4)))
-  answers (inl f) = inr (inr (inr f.has_status))
-  answers (inr (inl h)) = inr (inr (inl h.0))
-  answers (inr (inr h)) = ⊎_elim (λ e. inl e) (λ e. inr (inl e)) h.0
-
-  at_answered : BatchWays → (status ≡ 0) ⊎ (status ≡ 1) → TellsAnswers (s.content file) status output
-  at_answered (inl f) e = absurd (⊎_elim (λ zero. omega (arith, zero, f.has_status)) (λ one. omega (arith, one, f.has_status)) e)
-  at_answered (inr (inl h)) e = absurd (⊎_elim (λ zero. omega (arith, zero, h.0)) (λ one. omega (arith, one, h.0)) e)
-  at_answered (inr (inr h)) e = h.1
-
-  at_refused : BatchWays → status ≡ 2 → IsBatchRefused (s.content file) output
-  at_refused (inl f) e = absurd (omega (arith, e, f.has_status))
-  at_refused (inr (inl h)) e = h.1
-  at_refused (inr (inr h)) e = absurd (⊎_elim (λ zero. omega (arith, zero, e)) (λ one. omega (arith, one, e)) h.0)
-
-  at_failed : BatchWays → status ≡ 4 → HasFailedOn s file status output
-  at_failed (inl f) e = f
-  at_failed (inr (inl h)) e = absurd (omega (arith, e, h.0))
-  at_failed (inr (inr h)) e = absurd (⊎_elim (λ zero. omega (arith, zero, e)) (λ one. omega (arith, one, e)) h.0)
-
-  pub batch_causes : Batches s file status output → BatchCauses s file status output
-  batch_causes r =
-      let ways : BatchWays = batch_ways r in
-      record {
-        headline = λ text f more is unfailed reads. text_headline text status output f more reads (gets_as ReadsBoth FirstFaultOfAll (λ t past. no_text (too_long refl past)) s file (λ x. AnswersAll x.0 x.1) status output text is (λ h. unfailed h.0) r);
-        declined = λ text line is unfailed fault. faulty_one ReadsBoth FirstFaultOfAll all_have_one_answer text (λ x. AnswersAll x.0 x.1) status output line fault (gets_as ReadsBoth FirstFaultOfAll (λ t past. no_text (too_long refl past)) s file (λ x. AnswersAll x.0 x.1) status output text is unfailed r);
-        answered = at_answered ways;
-        refused = at_refused ways;
-        failed = at_failed ways;
-        answers = answers ways;
-      }
+pub batch_one : (text : List ℕ) → HasOneReply (BatchReply text) ⊥
+batch_one text = record {
+  small = λ status output r. inl (reads_small (ReadsBoth text) (FirstFaultOfAll text) (λ x. AnswersAll x.0 x.1) (λ x k o reads. goals_small x.0 x.1 k o) status output r.replies);
+  once = λ a b o p x y. batches_once text a b o p x.replies y.replies;
+}
 
 -- ---- the parts of the code
 
@@ -272,7 +246,7 @@ module _ (s : ShelfUse) (file : List ℕ) (status : ℕ) (output : List ℕ) whe
 pub question_answered : (f : FileParts) (q : ProblemParts) → IsQuestionOf f q → (status : ℕ) (output : List ℕ) → IsDecided q status output → IsGoalAnswer f status output
 question_answered f q (a, is, same) status output d = (a, is, subst (λ p. IsDecided p status output) same d)
 
--- the first answer, and one answer more
+-- the reply with the first answer, and the reply with an additional answer
 pub first_answered : (f : FileParts) (first : ℕ) (text : List ℕ) → IsGoalAnswer f first text → (status : ℕ) (output : List ℕ) → status ≡ max 0 first → output ≡ [] ++ (goal_line 0 ++ text) → AnswersFrom 0 (f ∷ []) status output
 first_answered f first text a status output is_status is_output =
     subst (λ s. AnswersFrom 0 (f ∷ []) s output) (sym is_status) (subst (λ o. AnswersFrom 0 (f ∷ []) (max 0 first) o) (sym is_output) (answered_last 0 [] 0 [] (refl, refl) f first text a))

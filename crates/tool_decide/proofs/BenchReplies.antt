@@ -1,5 +1,5 @@
--- The reply of `bench` is the line of its numbers, of which there are no others.
-use Rattle.std.proofs.Common.{◌≡◌, ◌<◌, ℕ, zero, suc, ◌+◌, List, ◌++◌, length, inl, inr, refl, sym, ap, subst, ◌∙◌, arith}
+-- The reply of `bench` is the line of its numbers, which are unique.
+use Rattle.std.proofs.Common.{◌≡◌, ◌<◌, ℕ, zero, suc, ◌+◌, List, [], length, inl, inr, refl, sym, ap, subst, ◌∙◌, arith}
 use Rattle.kat_model.specs.Problems.{ProblemParts}
 use Rattle.kat_model.specs.Strings.{GuardedString}
 use Rattle.kat_model.specs.Relations.{Same}
@@ -8,13 +8,15 @@ use Rattle.certificate.specs.declared.evidence.Evidence.{Evidence}
 use Rattle.certificate.specs.declared.evidence.Evidence.TheVariants.{Equal, Different}
 use Rattle.certificate.specs.Decisions.{IsShortest, IsDecision}
 use Rattle.bench_problems.specs.Generator.{bench_problem}
-use Rattle.tool_decide.specs.Bench.{IsTally, tally_line, PrintsTally, Tallies, BenchCauses}
+use Rattle.tool_decide.specs.Bench.{IsTally, tally_line, PrintsTally, BenchReply}
 use Rattle.tool_decide.specs.Working.Tallies.{IsTallied, HasFewest}
-use Rattle.tool_inputs.proofs.Steps.{OneStatus}
+use Rattle.tool_inputs.specs.Steps.{ShelfUse}
+use Rattle.tool_inputs.proofs.Steps.{small_status}
+use Rattle.tool_inputs.proofs.FileReplies.{HasOneFileReply}
 
--- ---- one problem more
+-- ---- an additional problem
 
--- what the prover decides of a problem
+-- a decision of a problem: both sides are the same, or a shortest string refutes it
 pub decided_same : (q p : ProblemParts) (e : Evidence) (c : CertParts) → IsDecision q e → q ≡ p → e ≡ Equal c → Same p
 decided_same q p e c decision is told = subst Same is (subst (IsDecision q) told decision).0
 
@@ -54,13 +56,13 @@ module _ (k e d m : ℕ) (before : IsTallied k e d m) where
         few_moves = omega (arith, few_m, small);
       }
 
--- ---- there is one tally
+-- ---- the tally is unique
 
--- two shortest strings have as many moves
+-- two shortest strings have equally many moves
 same_moves : (q : ProblemParts) (x y : GuardedString) → IsShortest q x → IsShortest q y → length x.rest ≡ length y.rest
 same_moves q x y s t = let less = s.fewest y t.refutes in let more = t.fewest x s.refutes in omega (arith, less, more)
 
--- the numbers of so many problems are these alone
+-- the numbers for the first `k` problems are unique
 one_tally : (k e d m f c n : ℕ) → IsTally k e d m → IsTally k f c n → (e ≡ f) × (d ≡ c) × (m ≡ n)
 one_tally zero e d m f c n x y = (x.0 ∙ sym y.0, x.1 ∙ sym y.1, x.2 ∙ sym y.2)
 one_tally (suc k) e d m f c n (inl (b, x, same, is)) (inl (a, y, other, was)) =
@@ -75,16 +77,17 @@ one_tally (suc k) e d m f c n (inr (b, v, s, x, differ, shortest, is, so)) (inr 
     let so_far = one.2 in
     (one.0, omega (arith, is, was, before), omega (arith, so, made, so_far, moves))
 
-pub bench_causes : (count status : ℕ) (output : List ℕ) → Tallies count status output → BenchCauses count status output
-bench_causes count status output r =
-    let prints : PrintsTally count output = r.1 in
-    record {
-      answers = r.0;
-      prints = prints;
-      only = λ equal different moves is.
-          let one = one_tally count prints.equal prints.different prints.moves equal different moves prints.is_tally is in
-          prints.printed ∙ ap (λ e. tally_line count e prints.different prints.moves) one.0 ∙ ap (λ d. tally_line count equal d prints.moves) one.1 ∙ ap (λ m. tally_line count equal different m) one.2;
-    }
+pub bench_reply : (count : ℕ) (output : List ℕ) → PrintsTally count output → BenchReply count 0 output
+bench_reply count output prints = record {
+  answers = refl;
+  prints = prints;
+  only = λ equal different moves is.
+      let one = one_tally count prints.equal prints.different prints.moves equal different moves prints.is_tally is in
+      prints.printed ∙ ap (λ e. tally_line count e prints.different prints.moves) one.0 ∙ ap (λ d. tally_line count equal d prints.moves) one.1 ∙ ap (λ m. tally_line count equal different m) one.2;
+}
 
-pub tallies_once : (count : ℕ) → OneStatus (Tallies count)
-tallies_once count a b o p x y = x.0 ∙ sym y.0
+pub bench_one : (s : ShelfUse) (count : ℕ) → HasOneFileReply s [] (BenchReply count) ⊥
+bench_one s count = record {
+  small = λ status output r. inl (small_status status (inl r.answers));
+  once = λ unfailed told a b o p x y. x.answers ∙ sym y.answers;
+}

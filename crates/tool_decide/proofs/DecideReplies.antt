@@ -1,18 +1,18 @@
--- The reply of `decide` is the statement on the question, and has its cause.
-use Rattle.std.proofs.Common.{◌≡◌, ◌⊎◌, ℕ, List, Ok, inl, inr, ⊎_elim, refl, sym, ◌∙◌, arith}
+-- The reply of `decide` satisfies the statement on the question.
+use Rattle.std.proofs.Common.{◌≡◌, ◌<◌, ℕ, List, Ok, inl, inr, ⊎_elim, refl, sym, ◌∙◌, arith}
 use Rattle.kat_model.specs.Problems.{ProblemParts}
 use Rattle.bisim_worklist.proofs.AnswerCerts.{answer_accepted}
 use Rattle.problem_file.specs.Files.{FileParts}
 use Rattle.problem_file.specs.Reads.{Reads}
 use Rattle.problem_file.specs.Concrete.{IsConcrete, Agrees}
 use Rattle.abstraction.specs.Abstracts.{AbstractParts, abstract_of}
-use Rattle.tool_inputs.specs.Asking.{Asks}
-use Rattle.tool_inputs.specs.Posing.{IsRefused, Poses}
-use Rattle.tool_inputs.specs.Steps.{ShelfUse, HasFailedOn, AsksQuestion}
-use Rattle.tool_decide.specs.Decide.{TellsEqual, IsDifferent, IsDecided, DecidesText, Decides, Headline, DecideCauses}
-use Rattle.tool_inputs.proofs.Steps.{OneStatus, reads_said, text_asks, gets_posed, gets_asked, gets_none}
-use Rattle.tool_inputs.proofs.StoreSentences.{asked_agrees, told_agrees}
-use Rattle.tool_inputs.proofs.Ways.{Ways, at_zero, at_one, at_two, at_four}
+use Rattle.tool_inputs.specs.FileProblem.{Asks}
+use Rattle.kat_report.specs.InputLines.{too_long_line}
+use Rattle.tool_inputs.specs.Steps.{AsksQuestion}
+use Rattle.tool_decide.specs.Decide.{IsDecided, DecidesText, Headline, DecideReply}
+use Rattle.tool_inputs.proofs.Steps.{OneStatus, reads_said, text_asks, abstracted_none, small_status, text_small, text_long, text_once}
+use Rattle.tool_inputs.proofs.FileReplies.{RefusesLong, HasOneReply}
+use Rattle.tool_inputs.proofs.StoreSentences.{asked_agrees}
 
 pub not_both : (status : ℕ) → status ≡ 0 → status ≡ 1 → ⊥
 not_both status zero one = omega (arith, zero, one)
@@ -36,7 +36,7 @@ decided_headline q status output (inr h) = record {
 pub text_headline : (text : List ℕ) (status : ℕ) (output : List ℕ) (q : ProblemParts) → Asks text q → DecidesText text status output → Headline q status output
 text_headline text status output q asks r = decided_headline q status output (text_asks text IsDecided status output q asks r)
 
--- the goal of a concrete file holds of all its stores where the status is 0
+-- if the status is 0, the goal of a concrete file holds for all its stores
 pub question_stores : (text : List ℕ) (f : FileParts) → Reads text f → IsConcrete f → (a : AbstractParts) → abstract_of f ≡ Ok a → (status : ℕ) (output : List ℕ) → IsDecided a.problem status output → status ≡ 0 → Agrees f
 question_stores text f reads concrete a is status output d zero =
     let asks : Asks text a.problem = record { file = f; reads = reads; abstract = a; is_abstract = is; question = refl } in
@@ -53,35 +53,25 @@ pub decided_once : (q : ProblemParts) → OneStatus (IsDecided q)
 decided_once q a b o p (inl h) y = h.0 ∙ sym ((decided_headline q b p y).equal.1 h.1.same)
 decided_once q a b o p (inr h) y = h.0 ∙ sym ((decided_headline q b p y).different.1 h.1.differ)
 
--- the ways in which a reply to a file comes
-abbrev DecideWays : ShelfUse → List ℕ → ℕ → List ℕ → Type 0
-DecideWays s file status output =
-    Ways status (TellsEqual (s.content file) output) ((q : ProblemParts) × Poses (s.content file) q × IsDifferent q output) (IsRefused (s.content file) output) ⊥ (HasFailedOn s file status output)
+-- ---- what the reply says
 
-module _ (s : ShelfUse) (file : List ℕ) (status : ℕ) (output : List ℕ) where
-  posed_ways : HasFailedOn s file status output ⊎ (((status ≡ 2) × IsRefused (s.content file) output) ⊎ ((q : ProblemParts) × Poses (s.content file) q × IsDecided q status output)) → DecideWays s file status output
-  posed_ways (inl f) = inr (inr (inr (inr (f.has_status, f))))
-  posed_ways (inr (inl h)) = inr (inr (inl h))
-  posed_ways (inr (inr (q, poses, inl h))) = inl (h.0, record { question = q; poses = poses; is_equal = h.1; stores = asked_agrees poses.text q poses.asks h.1.same })
-  posed_ways (inr (inr (q, poses, inr h))) = inr (inl (h.0, (q, poses, h.1)))
+pub decide_reply : (text : List ℕ) (status : ℕ) (output : List ℕ) → DecidesText text status output → DecideReply text status output
+decide_reply text status output r = record {
+  replies = r;
+  headline = λ q asks. text_headline text status output q asks r;
+  stores = λ f reads concrete zero. text_stores text status output f reads concrete r zero;
+  declined = λ line none. abstracted_none text (λ f a. IsDecided a.problem) status output line none r;
+}
 
-  answers : DecideWays s file status output → (status ≡ 0) ⊎ ((status ≡ 1) ⊎ ((status ≡ 2) ⊎ (status ≡ 4)))
-  answers (inl h) = inl h.0
-  answers (inr (inl h)) = inr (inl h.0)
-  answers (inr (inr (inl h))) = inr (inr (inl h.0))
-  answers (inr (inr (inr (inl h)))) = absurd h.1
-  answers (inr (inr (inr (inr h)))) = inr (inr (inr h.0))
+pub decide_long : RefusesLong DecideReply
+decide_long text past = decide_reply text 2 too_long_line (text_long text (λ f. AsksQuestion f IsDecided) past)
 
-  pub decide_causes : Decides s file status output → DecideCauses s file status output
-  decide_causes r =
-      let ways : DecideWays s file status output = posed_ways (gets_posed s file IsDecided status output r) in
-      record {
-        headline = λ text q is unfailed asks. decided_headline q status output (gets_asked s file IsDecided status output text is (λ f. unfailed f.0) r q asks);
-        same_stores = λ text f is unfailed reads concrete zero. let t = at_zero status _ _ _ _ _ ways zero in told_agrees (s.content file) t.question t.poses t.is_equal.same text f is reads concrete;
-        declined = λ text line is unfailed none. gets_none s file IsDecided status output text is unfailed r line none;
-        equal = at_zero status _ _ _ _ _ ways;
-        different = at_one status _ _ _ _ _ ways;
-        refused = at_two status _ _ _ _ _ ways;
-        failed = at_four status _ _ _ _ _ ways;
-        answers = answers ways;
-      }
+pub decided_small : (q : ProblemParts) (status : ℕ) (output : List ℕ) → IsDecided q status output → status < 4
+decided_small q status output (inl h) = small_status status (inl h.0)
+decided_small q status output (inr h) = small_status status (inr (inl h.0))
+
+pub decide_one : (text : List ℕ) → HasOneReply (DecideReply text) ⊥
+decide_one text = record {
+  small = λ status output r. inl (text_small text IsDecided decided_small status output r.replies);
+  once = λ a b o p x y. text_once text IsDecided decided_once a b o p x.replies y.replies;
+}

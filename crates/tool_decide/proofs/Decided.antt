@@ -1,5 +1,6 @@
--- What `decide` answers is evidence, so its text is read as it again, and it is the cause of the status.
+-- The answer of `decide` is evidence, so its text reads back, and it determines the status.
 use Rattle.std.proofs.Common.{◌≡◌, ◌<◌, ◌≤◌, ◌^◌, ℕ, inl, inr, List, length, refl, sym, subst, arith, ltb-true}
+use Rattle.kat_model.specs.declared.limits.TheConstants.{MAX_TESTS, MAX_ACTIONS}
 use Rattle.kat_model.specs.Problems.{ProblemParts, IsProblem}
 use Rattle.kat_model.specs.Strings.{GuardedString}
 use Rattle.string_tables.specs.Tables.{Refutes}
@@ -12,21 +13,27 @@ use Rattle.kat_report.specs.Reports.{json_report}
 use Rattle.certificate.proofs.Written.{cert_is_evidence}
 use Rattle.certificate.specs.Decisions.{IsDecision}
 use Rattle.bisim_worklist.proofs.AnswerCerts.{answer_accepted, answer_few}
-use Rattle.tool_inputs.specs.Showing.{evidence_status, Spells}
+use Rattle.tool_inputs.specs.EvidenceBytes.{evidence_status, Spells}
 use Rattle.tool_decide.specs.Decide.{IsDecided}
-use Rattle.tool_decide.specs.Report.{IsReported}
+use Rattle.tool_decide.specs.DecideJson.{IsReported}
 
--- what is below a count of a problem is a number of the program
-pub small : (k n : ℕ) → k < n → n ≤ 48 → k < 2 ^ 64
-small k n lt le = let wide : 48 < 2 ^ 64 = ltb-true 48 (2 ^ 64) refl in omega (arith, lt, le, wide)
+-- a number below a count of a problem is below 2^64
+pub small : (most k n : ℕ) → most < 2 ^ 64 → k < n → n ≤ most → k < 2 ^ 64
+small most k n wide lt le = omega (arith, lt, le, wide)
+
+pub few_tests : MAX_TESTS < 2 ^ 64
+few_tests = ltb-true MAX_TESTS (2 ^ 64) refl
+
+few_actions : MAX_ACTIONS < 2 ^ 64
+few_actions = ltb-true MAX_ACTIONS (2 ^ 64) refl
 
 module _ (q : ProblemParts) (problem : IsProblem q) where
   accepted_evidence : (c : CertParts) → IsCert c → IsAccepted q c → length c.test_nodes < 2 ^ 64 → length c.term_nodes < 2 ^ 64 → IsEvidence (Equal c)
   accepted_evidence c cert accepted tests terms =
-      cert_is_evidence c cert (λ k h. small k q.tests (accepted.tests k h) problem.tests) (λ a h. small a q.actions (accepted.actions a h) problem.actions) tests terms
+      cert_is_evidence c cert (λ k h. small MAX_TESTS k q.tests few_tests (accepted.tests k h) problem.tests) (λ a h. small MAX_ACTIONS a q.actions few_actions (accepted.actions a h) problem.actions) tests terms
 
   string_evidence : (x : GuardedString) → Refutes q x → IsEvidence (Different x)
-  string_evidence x r m h = small m.act q.actions (r.fits.rest m h).0 problem.actions
+  string_evidence x r m h = small MAX_ACTIONS m.act q.actions few_actions (r.fits.rest m h).0 problem.actions
 
   module _ (e : Evidence) (d : IsDecision q e) where
     pub equal_evidence : (c : CertParts) → e ≡ Equal c → IsCert c → length c.test_nodes < 2 ^ 64 → length c.term_nodes < 2 ^ 64 → IsEvidence e
@@ -39,7 +46,7 @@ pub decided : (q : ProblemParts) (e : Evidence) (output : List ℕ) → IsDecisi
 decided q (Equal c) output d s = inl (refl, record { same = d.0; cert = c; answer = d.1; few = answer_few q c d.1; printed = s })
 decided q (Different x) output d s = inr (refl, record { differ = d.0; string = x; shortest = d.1; printed = s })
 
--- the report of a decision is that of the text that `decide` may print
+-- the report of a decision is the report of a text that `decide` may print
 pub reported : (q : ProblemParts) (e : Evidence) (output : List ℕ) → IsDecision q e → IsEvidence e → output ≡ json_report q e → IsReported q (evidence_status e) output
 reported q e output d evidence printed =
     let spells : Spells (text_of e) e = record { evidence = evidence; text = refl } in

@@ -1,4 +1,4 @@
--- The goals of a text one after the other, each with its file.
+-- The goals of a text in order, each with its file.
 use Rattle.std.proofs.Common.{◌≡◌, ◌<◌, ◌≤◌, ℕ, zero, suc, ◌+◌, List, [], ◌∷◌, ◌++◌, map, length, take, drop, get_or, slice_get, Some, None, inl, inr, refl, sym, ap, subst, ◌∙◌, arith, take_all}
 use Rattle.std.specs.Option.{option_map}
 use Rattle.std.proofs.lemmas.Option.{slice_get_past, none-some, slice_get_read, slice_get-map}
@@ -9,21 +9,21 @@ use Rattle.problem_file.specs.Files.{GoalTree, FileParts}
 use Rattle.problem_file.specs.Trees.{goal_tree}
 use Rattle.abstraction.specs.Abstracts.{with_goal}
 use Rattle.tool_decide.specs.Batch.{with_each, AsksSome, IsFirstRefused}
-use Rattle.tool_inputs.specs.Posing.{AsksNone}
+use Rattle.tool_inputs.specs.TextProblem.{HasNoAbstraction}
 
 no_goal : (k : ℕ) (g : GoalTree) → slice_get [] k ≡ Some g → ⊥
 no_goal k g e = let none : slice_get [] k ≡ None = slice_get_past [] k (omega arith) in none-some g (sym none ∙ e)
 
--- a goal of the program at its place
+-- the tree of the goal at an index
 pub goal_at : (gs : List Goal) (i : ℕ) (g : Goal) → i < length gs → g ≡ get_or gs i g → slice_get (map goal_tree gs) i ≡ Some (goal_tree g)
 goal_at gs i g lt is = slice_get-map goal_tree gs i ∙ ap (option_map goal_tree) (slice_get_read gs (length gs) i g refl lt is)
 
--- a file with its own goal
+-- a file with its own goal is the file
 pub own_goal : (f v : FileParts) → v ≡ f → with_goal f v.goal ≡ f
 own_goal f v e = ap (λ (x : FileParts). with_goal f x.goal) e
 
 module _ (f : FileParts) where
-  -- the file with its first goal, and with so many of the others
+  -- the file with its first goal, and with each of the first `k` other goals
   abbrev pub with_first : ℕ → List GoalTree → List FileParts
   with_first k more = f ∷ map (with_goal f) (take k more)
 
@@ -37,7 +37,7 @@ module _ (f : FileParts) where
   others_next (x ∷ xs) zero g e = let same : x ≡ g = cc in ap (λ y. with_goal f y ∷ []) same
   others_next (x ∷ xs) (suc k) g e = ap (λ ys. with_goal f x ∷ ys) (others_next xs k g e)
 
-  -- all of them are those before a goal, its own, and those behind it
+  -- the files of all goals are those before a goal, its own file, and those after it
   each_split : (more : List GoalTree) (k : ℕ) (g : GoalTree) → slice_get more k ≡ Some g → with_each f more ≡ with_first k more ++ with_goal f g ∷ map (with_goal f) (drop (suc k) more)
   each_split more k g e = ap (λ ys. f ∷ ys) (others_split more k g e)
 
@@ -54,17 +54,17 @@ module _ (f : FileParts) where
   pub length_first : (more : List GoalTree) (k : ℕ) (g : GoalTree) → slice_get more k ≡ Some g → 0 + length (with_first k more) ≡ k + 1
   length_first more k g e = let all : suc (length (map (with_goal f) (take k more))) ≡ suc k = ap suc (others_length more k g e) in omega (arith, all)
 
-  -- the file with a goal is one of all
+  -- the file with a goal of the list is one of the files
   pub other_has : (more : List GoalTree) (k : ℕ) (g : GoalTree) → slice_get more k ≡ Some g → Has (map (with_goal f) more) (with_goal f g)
   other_has [] k g e = absurd (no_goal k g e)
   other_has (x ∷ xs) zero g e = let same : x ≡ g = cc in inl (ap (with_goal f) same)
   other_has (x ∷ xs) (suc k) g e = inr (other_has xs k g e)
 
-  -- where all are taken, none is left out
+  -- if the index is not below the number of goals, no goal is left out
   pub all_first : (gs : List Goal) (i : ℕ) → length gs ≤ i → with_first i (map goal_tree gs) ≡ with_each f (map goal_tree gs)
   all_first gs i past = ap (λ ys. f ∷ map (with_goal f) ys) (take_all i (map goal_tree gs) (subst (λ n. n ≤ i) (sym (length-map gs goal_tree)) past))
 
-  -- one goal more asks a question
+  -- if each file of a list asks a question, and an additional file does, so does each file of the longer list
   has_last : (xs : List FileParts) (x g : FileParts) → Has (xs ++ x ∷ []) g → ((h : FileParts) → Has xs h → AsksSome h) → AsksSome x → AsksSome g
   has_last [] x g (inl is) some one = subst AsksSome is one
   has_last [] x g (inr has) some one = elim has [ ]
@@ -74,10 +74,10 @@ module _ (f : FileParts) where
   pub some_next : (more : List GoalTree) (k : ℕ) (g : GoalTree) → slice_get more k ≡ Some g → ((h : FileParts) → Has (with_first k more) h → AsksSome h) → AsksSome (with_goal f g) → (h : FileParts) → Has (with_first (k + 1) more) h → AsksSome h
   some_next more k g e some one h has = has_last (with_first k more) (with_goal f g) h (subst (λ xs. Has xs h) (first_next more k g e) has) some one
 
-  -- the first refusal stands behind goals that ask
-  refused_behind : (before after : List FileParts) (x : FileParts) (line : List ℕ) → ((g : FileParts) → Has before g → AsksSome g) → AsksNone x line → IsFirstRefused (before ++ x ∷ after) line
+  -- the first refused file follows files that ask a question
+  refused_behind : (before after : List FileParts) (x : FileParts) (line : List ℕ) → ((g : FileParts) → Has before g → AsksSome g) → HasNoAbstraction x line → IsFirstRefused (before ++ x ∷ after) line
   refused_behind [] after x line some none = inl none
   refused_behind (g ∷ before) after x line some none = inr (some g (inl refl), refused_behind before after x line (λ h has. some h (inr has)) none)
 
-  pub refused_at : (more : List GoalTree) (k : ℕ) (g : GoalTree) (line : List ℕ) → slice_get more k ≡ Some g → ((h : FileParts) → Has (with_first k more) h → AsksSome h) → AsksNone (with_goal f g) line → IsFirstRefused (with_each f more) line
+  pub refused_at : (more : List GoalTree) (k : ℕ) (g : GoalTree) (line : List ℕ) → slice_get more k ≡ Some g → ((h : FileParts) → Has (with_first k more) h → AsksSome h) → HasNoAbstraction (with_goal f g) line → IsFirstRefused (with_each f more) line
   refused_at more k g line e some none = subst (λ xs. IsFirstRefused xs line) (sym (each_split more k g e)) (refused_behind (with_first k more) (map (with_goal f) (drop (suc k) more)) (with_goal f g) line some none)

@@ -1,4 +1,4 @@
--- What `decide` answers to the plainest texts of goals about programs is so of stores.
+-- What the answer of `decide` to the plainest text of a goal about programs means for stores.
 use Rattle.std.proofs.Common.{◌≡◌, ◌+◌, ℕ, List, length, Bool, true, false, nat_lt, if◌then◌else◌, Ok, Err, inl, inr, sym, ap, subst, arith}
 use Rattle.kat_model.specs.declared.limits.TheConstants.{MAX_TESTS, MAX_ACTIONS, MAX_TERM_NODES}
 use Rattle.kat_model.specs.declared.expression.Width.{Width}
@@ -11,10 +11,10 @@ use Rattle.abstraction.specs.declared.fault.AbstractFault.{AbstractFault}
 use Rattle.abstraction.specs.declared.fault.AbstractFault.TheVariants.{TooManyTests, TooManyActions, ProblemTooLarge}
 use Rattle.abstraction.specs.Tables.{first_comparisons, file_assignments}
 use Rattle.abstraction.specs.Abstracts.{file_problem, abstract_parts}
-use Rattle.abstract_texts.specs.Refusals.{abstract_fault_line}
+use Rattle.kat_report.specs.AbstractRefusals.{abstract_fault_line}
 use Rattle.problem_texts.specs.ProgramTexts.{programs_text, triple_text, ArePrintable, IsTriplePrintable}
 use Rattle.problem_texts.specs.Laws.{AsksOfPrograms}
-use Rattle.tool_inputs.specs.Posing.{AsksNone}
+use Rattle.tool_inputs.specs.TextProblem.{HasNoAbstraction}
 use Rattle.tool_inputs.specs.Steps.{AsksQuestion}
 use Rattle.tool_inputs.specs.StoreAnswers.{AlwaysEndAlike, AlwaysMeets, IsTooLarge, StoreHeadline}
 use Rattle.tool_inputs.proofs.Steps.{reads_said}
@@ -22,22 +22,22 @@ use Rattle.tool_inputs.proofs.ProgramSentences.{asks_equal, always_alike, asks_t
 use Rattle.tool_decide.specs.Decide.{IsDecided, DecidesText}
 use Rattle.tool_decide.proofs.DecideReplies.{text_stores}
 
--- ---- what has no abstraction is too large
+-- ---- a file without an abstraction is too large
 
--- the first of three tests that holds tells the error
+-- the error is that of the first exceeded limit, so the goal is too large
 first_error : {X : Type 0} (b c d : Bool) (x : X) (fault : AbstractFault) → (if b then Err TooManyTests else if c then Err TooManyActions else if d then Err ProblemTooLarge else Ok x) ≡ Err fault → IsTooLarge (abstract_fault_line fault)
 first_error true c d x fault e = let same : TooManyTests ≡ fault = cc in inl (ap abstract_fault_line (sym same))
 first_error false true d x fault e = let same : TooManyActions ≡ fault = cc in inr (inl (ap abstract_fault_line (sym same)))
 first_error false false true x fault e = let same : ProblemTooLarge ≡ fault = cc in inr (inr (ap abstract_fault_line (sym same)))
 first_error false false false x fault e = absurd cc
 
-too_large : (f : FileParts) (output : List ℕ) → AsksNone f output → IsTooLarge output
+too_large : (f : FileParts) (output : List ℕ) → HasNoAbstraction f output → IsTooLarge output
 too_large f output none =
     subst IsTooLarge (sym none.printed)
     (first_error (nat_lt MAX_TESTS (f.tests + length (first_comparisons f))) (nat_lt MAX_ACTIONS (f.actions + length (file_assignments f)))
     (nat_lt MAX_TERM_NODES (problem_size (file_problem f))) (abstract_parts f) none.fault none.has_none)
 
--- ---- what is answered to a text that asks of programs
+-- ---- the reply to a text of a goal about programs
 
 module _ (text : List ℕ) (w : Width) (v : ℕ) (goal : GoalTree) (asks : AsksOfPrograms text w v goal) (status : ℕ) (output : List ℕ) where
   headline : (Sentence : Type 0) → (Agrees asks.file → Sentence) → DecidesText text status output → StoreHeadline Sentence status output

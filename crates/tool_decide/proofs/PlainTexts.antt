@@ -1,5 +1,6 @@
--- The plainest text of a question asks it: its goal has no program, so nothing is added to what it declares and states.
-use Rattle.std.proofs.Common.{◌≡◌, ◌≤◌, ◌+◌, ◌-◌, ℕ, suc, zero, List, [], ◌∷◌, map, length, Bool, false, nat_lt, if◌then◌else◌, Ok, Err, refl, sym, ap, subst, ◌∙◌, append-nil, arith}
+-- The plainest text of a question asks that question: its goal has no program, so nothing is added to its declarations
+-- and hypotheses.
+use Rattle.std.proofs.Common.{◌≡◌, ◌≤◌, ◌+◌, ◌-◌, ℕ, List, [], map, length, Bool, false, nat_lt, if◌then◌else◌, Ok, Err, refl, sym, ap, subst, ◌∙◌, append-nil, arith}
 use Rattle.std.proofs.lemmas.Bool.{le-ltb}
 use Rattle.kat_model.specs.declared.limits.TheConstants.{MAX_TESTS, MAX_ACTIONS, MAX_TERM_NODES}
 use Rattle.kat_model.specs.Trees.{Term}
@@ -13,24 +14,21 @@ use Rattle.abstraction.specs.Rounds.{rounds, tables_of}
 use Rattle.abstraction.specs.Goals.{goal_sides}
 use Rattle.abstraction.specs.Derived.{stated_from, hypotheses}
 use Rattle.abstraction.specs.Abstracts.{file_problem, abstract_parts, abstract_of}
+use Rattle.abstraction.proofs.AppendedRows.{no_rounds}
+use Rattle.abstraction.proofs.NumberedRows.{stated_terms}
 use Rattle.problem_texts.specs.Questions.{question_text, IsPrintable}
 use Rattle.problem_texts.proofs.PlainReadings.{reads_back}
-use Rattle.tool_inputs.specs.Asking.{Asks}
+use Rattle.tool_inputs.specs.FileProblem.{Asks}
 use Rattle.tool_decide.specs.Decide.{DecidesText, Headline}
 use Rattle.tool_decide.proofs.DecideReplies.{text_headline}
 
 -- ---- the abstraction of a goal of two terms
 
--- no round adds to no comparisons
-no_rounds : (n m most : ℕ) → rounds n m most [] [] ≡ []
-no_rounds zero m most = refl
-no_rounds (suc n) m most = no_rounds n m most
-
 -- tables without comparisons and assignments
 abbrev bare : FileParts → Tables
 bare f = record { tests = f.tests; actions = f.actions; comparisons = []; assignments = []; width = f.width }
 
--- a goal without programs has none
+-- a goal of two terms has no comparisons and no assignments
 module _ (f : FileParts) (l r : Term) (e : f.goal ≡ equal (term_side l) (term_side r)) where
   no_comparisons : first_comparisons f ≡ []
   no_comparisons = ap (λ g. with_all_new is_same_comparison [] (goal_comparisons (modulus f.width) g)) e
@@ -42,15 +40,10 @@ module _ (f : FileParts) (l r : Term) (e : f.goal ≡ equal (term_side l) (term_
   bare_tables =
       let n = f.rounds in
       let m = modulus f.width in
-      let most = 48 - f.tests in
+      let most = MAX_TESTS - f.tests in
       subst (λ xs. bare f ≡ record { tests = f.tests; actions = f.actions; comparisons = rounds n m most xs (first_comparisons f); assignments = xs; width = f.width }) (sym no_assignments)
       (subst (λ cs. bare f ≡ record { tests = f.tests; actions = f.actions; comparisons = rounds n m most [] cs; assignments = []; width = f.width }) (sym no_comparisons)
       (subst (λ cs. bare f ≡ record { tests = f.tests; actions = f.actions; comparisons = cs; assignments = []; width = f.width }) (sym (no_rounds n m most)) refl))
-
--- the stated terms are the hypotheses
-stated_terms : (k : ℕ) (hs : List Term) → map (λ h. h.term) (stated_from k hs) ≡ hs
-stated_terms k [] = refl
-stated_terms k (h ∷ hs) = ap (λ t. h ∷ t) (stated_terms (k + 1) hs)
 
 bare_hyps : (f : FileParts) → map (λ h. h.term) (hypotheses (bare f) f.hyps) ≡ f.hyps
 bare_hyps f = ap (map (λ h. h.term)) (append-nil (stated_from 0 f.hyps)) ∙ stated_terms 0 f.hyps
@@ -65,7 +58,7 @@ problem_with f t g = record {
   right = (goal_sides t g).right;
 }
 
--- the question of two terms over what a file declares and states
+-- the question of two terms, with the declarations and hypotheses of a file
 abbrev question_of : FileParts → Term → Term → ProblemParts
 question_of f l r = record { tests = f.tests; actions = f.actions; hyps = f.hyps; left = l; right = r }
 
@@ -78,11 +71,11 @@ bare_problem f l r e =
     ∙ ap (λ g. problem_with f (bare f) g) e
     ∙ same_parts f l r (f.tests + 0) (f.actions + 0) (map (λ h. h.term) (hypotheses (bare f) f.hyps)) (omega arith) (omega arith) (bare_hyps f)
 
--- what passes the three limits is not refused
+-- if no limit is exceeded, there is no error
 no_refusal : {X Y : Type 0} (x : X) (i j k : Y) (b c d : Bool) → b ≡ false → c ≡ false → d ≡ false → (if b then Err i else if c then Err j else if d then Err k else Ok x) ≡ Ok x
 no_refusal x i j k b c d p q r = rw (p, q, r) refl
 
--- a problem is within the limits of an abstraction
+-- if the question is a problem, the file has an abstraction
 bare_abstract : (f : FileParts) (l r : Term) → f.goal ≡ equal (term_side l) (term_side r) → IsProblem (question_of f l r) → abstract_of f ≡ Ok (abstract_parts f)
 bare_abstract f l r e problem =
     no_refusal (abstract_parts f) TooManyTests TooManyActions ProblemTooLarge
@@ -91,10 +84,10 @@ bare_abstract f l r e problem =
     (nat_lt MAX_TERM_NODES (problem_size (file_problem f)))
     (few f.tests (first_comparisons f) (no_comparisons f l r e) problem.tests)
     (few f.actions (file_assignments f) (no_assignments f l r e) problem.actions)
-    (le-ltb 100000 (problem_size (file_problem f)) (subst (λ q. problem_size q ≤ 100000) (sym (bare_problem f l r e)) problem.size))
+    (le-ltb MAX_TERM_NODES (problem_size (file_problem f)) (subst (λ q. problem_size q ≤ MAX_TERM_NODES) (sym (bare_problem f l r e)) problem.size))
   where
-    few : {X : Type 0} (n : ℕ) (xs : List X) → xs ≡ [] → n ≤ 48 → nat_lt 48 (n + length xs) ≡ false
-    few n xs none le = let empty : length xs ≡ 0 = ap length none in le-ltb 48 (n + length xs) (omega (arith, empty, le))
+    few : {X : Type 0} (n : ℕ) (xs : List X) → xs ≡ [] → n ≤ MAX_TESTS → nat_lt MAX_TESTS (n + length xs) ≡ false
+    few n xs none le = let empty : length xs ≡ 0 = ap length none in le-ltb MAX_TESTS (n + length xs) (omega (arith, empty, le))
 
 -- ---- the plainest text
 

@@ -1,23 +1,19 @@
--- `batch`: each goal of a text is answered as `decide` answers the file with that goal alone. The reply, what it says of the
--- goals, and the cause of each status.
-use Rattle.std.specs.Prelude.{◌≡◌, ◌⊎◌, ◌↔◌, ℕ, ◌+◌, max, List, [], ◌∷◌, ◌++◌, map, Ok, Some, codes}
+-- `batch`: each goal of a text is answered as `decide` answers the file with only that goal. Its reply, and what it
+-- says about the goals.
+use Rattle.std.specs.Prelude.{◌≡◌, ◌⊎◌, ◌↔◌, ℕ, ◌+◌, max, List, [], ◌∷◌, ◌++◌, map, Ok, codes}
 use Rattle.std.specs.Fmt.{decimal}
 use Rattle.kat_model.specs.Members.{Has}
-use Rattle.kat_model.specs.declared.limits.TheConstants.{MAX_TEXT_BYTES}
 use Rattle.kat_model.specs.Relations.{Same}
-use Rattle.kat_io.specs.Told.{Told, Holds}
-use Rattle.kat_io.specs.Outside.{Rose}
 use Rattle.problem_file.specs.Files.{GoalTree, FileParts}
 use Rattle.problem_file.specs.Reads.{ReadsAll, FirstFaultOfAll}
 use Rattle.problem_file.specs.Laws.{ReadsBoth}
 use Rattle.problem_file.specs.Concrete.{IsConcrete, Agrees}
 use Rattle.abstraction.specs.Abstracts.{AbstractParts, abstract_of, with_goal}
-use Rattle.tool_inputs.specs.Held.{IsGiven}
-use Rattle.tool_inputs.specs.Posing.{IsFaultOf, AsksNone, IsTooLong, too_long_line}
-use Rattle.tool_inputs.specs.Steps.{ShelfUse, Replying, IsRefusal, FailsOn, HasFailedOn, GetsText, ReadsAs}
+use Rattle.tool_inputs.specs.TextProblem.{IsFaultOf, HasNoAbstraction}
+use Rattle.tool_inputs.specs.Steps.{ReplySpec, IsRefusal, ReadsAs}
 use Rattle.tool_decide.specs.Decide.{IsDecided}
 
--- the file with each goal of the text alone
+-- the file with only one goal, for each goal of the text
 abbrev pub with_each : FileParts → List GoalTree → List FileParts
 with_each f more = f ∷ map (with_goal f) more
 
@@ -25,21 +21,21 @@ with_each f more = f ∷ map (with_goal f) more
 abbrev pub AsksSome : FileParts → Type 0
 AsksSome f = (a : AbstractParts) × (abstract_of f ≡ Ok a)
 
--- and both sides of it are the same
+-- the file asks a question, and both sides of it are the same
 abbrev pub AsksSame : FileParts → Type 0
 AsksSame f = (a : AbstractParts) × (abstract_of f ≡ Ok a) × Same a.problem
 
--- the line before the answer to the goal of that number
+-- the line before the answer to goal `k`
 abbrev pub goal_line : ℕ → List ℕ
 goal_line k = codes "goal " ++ decimal k ++ codes "\n"
 
--- what `decide` may reply to a file with that goal alone
-abbrev pub IsGoalAnswer : FileParts → Replying
+-- a possible reply of `decide` to a file with only this goal
+abbrev pub IsGoalAnswer : FileParts → ReplySpec
 IsGoalAnswer f status output = (a : AbstractParts) × (abstract_of f ≡ Ok a) × IsDecided a.problem status output
 
--- The goal of the file, which has that number, is answered, and the goals after it are gone on with. The status is 1 where one
--- is.
-pub record AnswersGoal (k : ℕ) (f : FileParts) (GoesOn : Replying) (status : ℕ) (output : List ℕ) : Type 0 where
+-- The goal of the file has the number `k` and is answered, and the reply to the later goals satisfies `GoesOn`. The
+-- status is the maximum of both.
+pub record AnswersGoal (k : ℕ) (f : FileParts) (GoesOn : ReplySpec) (status : ℕ) (output : List ℕ) : Type 0 where
   pub first : ℕ
   pub text : List ℕ
   pub answer : IsGoalAnswer f first text
@@ -49,30 +45,27 @@ pub record AnswersGoal (k : ℕ) (f : FileParts) (GoesOn : Replying) (status : �
   pub has_status : status ≡ max first later
   pub printed : output ≡ goal_line k ++ text ++ others
 
--- the goals of these files are answered, whose numbers begin with this one
-abbrev pub AnswersFrom : ℕ → List FileParts → Replying
+-- the goals of these files are answered; the first has the number `k`
+abbrev pub AnswersFrom : ℕ → List FileParts → ReplySpec
 AnswersFrom k [] status output = (status ≡ 0) × (output ≡ [])
 AnswersFrom k (f ∷ fs) status output = AnswersGoal k f (AnswersFrom (k + 1) fs) status output
 
--- the first of the files that asks no question tells why
+-- this line refuses the first of the files that asks no question
 abbrev pub IsFirstRefused : List FileParts → List ℕ → Type 0
 IsFirstRefused [] output = ⊥
-IsFirstRefused (f ∷ fs) output = AsksNone f output ⊎ (AsksSome f × IsFirstRefused fs output)
+IsFirstRefused (f ∷ fs) output = HasNoAbstraction f output ⊎ (AsksSome f × IsFirstRefused fs output)
 
--- the reply to all goals of a text: the line of the first that is refused, alone, or an answer to each
-abbrev pub AnswersAll : FileParts → List GoalTree → Replying
+-- the reply to all goals of a text: only the line of the first refused goal, or an answer to each goal
+abbrev pub AnswersAll : FileParts → List GoalTree → ReplySpec
 AnswersAll f more status output = IsRefusal (IsFirstRefused (with_each f more)) status output ⊎ AnswersFrom 0 (with_each f more) status output
 
--- the reply to a text, and to a file
-abbrev pub AnswersText : List ℕ → Replying
+-- the steps of the reply to a text
+abbrev pub AnswersText : List ℕ → ReplySpec
 AnswersText text = ReadsAs (FirstFaultOfAll text) (ReadsBoth text) (λ x. AnswersAll x.0 x.1)
 
-abbrev pub Batches : ShelfUse → List ℕ → Replying
-Batches s file = GetsText s file AnswersText
-
--- The status is 0 exactly where both sides of each goal denote one relation, 1 exactly where each goal asks a question and
--- those of one do not, and 2 exactly where a goal asks none. With 0 and 1 each goal has its answer. The goals of a concrete
--- file hold of all its stores where the status is 0.
+-- The status is 0 exactly when both sides of each goal denote one relation, 1 exactly when each goal asks a question
+-- and the sides of some goal do not denote one relation, and 2 exactly when some goal asks no question. With 0 and 1,
+-- each goal has its answer. If the status is 0, the goals of a concrete file hold for all its stores.
 pub record BatchHeadline (f : FileParts) (more : List GoalTree) (status : ℕ) (output : List ℕ) : Type 0 where
   pub answers : (status ≡ 0) ⊎ ((status ≡ 1) ⊎ (status ≡ 2))
   pub equal : (status ≡ 0) ↔ ((g : FileParts) → Has (with_each f more) g → AsksSame g)
@@ -82,29 +75,9 @@ pub record BatchHeadline (f : FileParts) (more : List GoalTree) (status : ℕ) (
   pub answered : (status ≡ 0) ⊎ (status ≡ 1) → AnswersFrom 0 (with_each f more) status output
   pub stores : status ≡ 0 → (g : FileParts) → Has (with_each f more) g → IsConcrete g → Agrees g
 
--- the shelf may hold a text that says this file and the goals after its first
-pub record MaySayAll (told : Told) (f : FileParts) (more : List GoalTree) : Type 0 where
-  pub text : List ℕ
-  pub given : IsGiven told (Some MAX_TEXT_BYTES) text
-  pub reads : ReadsAll text f more
-
--- the file is refused: it is too long, its text has a first fault, or one of its goals asks no question
-abbrev pub IsBatchRefused : Told → List ℕ → Type 0
-IsBatchRefused told output =
-    IsTooLong told (Some MAX_TEXT_BYTES) too_long_line output
-    ⊎ (((text : List ℕ) × IsGiven told (Some MAX_TEXT_BYTES) text × IsFaultOf (FirstFaultOfAll text) output)
-    ⊎ ((f : FileParts) × (more : List GoalTree) × MaySayAll told f more × IsFirstRefused (with_each f more) output))
-
--- a text that the shelf may hold says goals, which are answered
-abbrev pub TellsAnswers : Told → Replying
-TellsAnswers told status output = (f : FileParts) × (more : List GoalTree) × MaySayAll told f more × BatchHeadline f more status output
-
--- What a reply of `batch` says of its file. Where the shelf tells the text and did not fail, the headline holds of the goals
--- that the text says. A text that says none is refused with its line.
-pub record BatchCauses (s : ShelfUse) (file : List ℕ) (status : ℕ) (output : List ℕ) : Type 0 where
-  pub headline : (text : List ℕ) (f : FileParts) (more : List GoalTree) → s.content file ≡ Holds text → (Rose s.before s.now → ⊥) → ReadsAll text f more → BatchHeadline f more status output
-  pub declined : (text line : List ℕ) → s.content file ≡ Holds text → (FailsOn s file → ⊥) → IsFaultOf (FirstFaultOfAll text) line → (status ≡ 2) × (output ≡ line)
-  pub answered : (status ≡ 0) ⊎ (status ≡ 1) → TellsAnswers (s.content file) status output
-  pub refused : status ≡ 2 → IsBatchRefused (s.content file) output
-  pub failed : status ≡ 4 → HasFailedOn s file status output
-  pub answers : (status ≡ 0) ⊎ ((status ≡ 1) ⊎ ((status ≡ 2) ⊎ (status ≡ 4)))
+-- What a reply of `batch` says about its text. The headline holds for its goals. A text with a first fault is refused
+-- with the line of the fault.
+pub record BatchReply (text : List ℕ) (status : ℕ) (output : List ℕ) : Type 0 where
+  pub replies : AnswersText text status output
+  pub headline : (f : FileParts) (more : List GoalTree) → ReadsAll text f more → BatchHeadline f more status output
+  pub declined : (line : List ℕ) → IsFaultOf (FirstFaultOfAll text) line → (status ≡ 2) × (output ≡ line)

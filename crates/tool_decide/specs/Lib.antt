@@ -1,5 +1,5 @@
 pub mod Decide
-pub mod Report
+pub mod DecideJson
 pub mod Batch
 pub mod Bench
 pub mod Working

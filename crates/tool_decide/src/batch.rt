@@ -1,4 +1,4 @@
-//! `batch`: the reply to a text is the decision of each of its goals, over one growing store.
+//! `batch`: replies to a text with the decision of each of its goals. All goals share one store.
 ghost use Rattle.std.specs.Prelude.{◌≡◌, ◌++◌, ℕ, max, List, map, IfOk, OnOk};
 ghost use Rattle.std.specs.Fmt.{decimal};
 ghost use Rattle.kat_model.specs.Members.{Has};
@@ -7,11 +7,11 @@ ghost use Rattle.problem_file.specs.Files.{FileParts};
 ghost use Rattle.problem_file.specs.Reads.{FirstFaultOfAll};
 ghost use Rattle.problem_file.specs.Laws.{ReadsBoth};
 ghost use Rattle.problem_file.specs.Trees.{goal_tree};
-ghost use Rattle.tool_inputs.specs.Posing.{IsFaultOf, AsksNone};
+ghost use Rattle.tool_inputs.specs.TextProblem.{IsFaultOf, HasNoAbstraction};
 ghost use Rattle.tool_inputs.specs.Steps.{IsRefusal};
 ghost use Rattle.tool_decide.specs.Decide.{IsDecided};
 ghost use Rattle.tool_decide.specs.Batch.{with_each, AsksSome, IsFirstRefused, goal_line, IsGoalAnswer, AnswersFrom, AnswersAll, AnswersText};
-ghost use Rattle.tool_inputs.specs.Outcomes.{IsOutcome, IsReplied, IsQuestionOf};
+ghost use Rattle.tool_inputs.specs.ReplySpecs.{Yields, RepliesWith, IsQuestionOf};
 ghost use Rattle.tool_decide.specs.Working.Goals.{AreInRange};
 
 use crate::decide::{evidence_status, text};
@@ -21,11 +21,11 @@ use kat_model::{NoMemory, Problem};
 use problem_file::{File, Goal, read_all};
 use std::alloc::Global;
 use term_store::Store;
-use tool_inputs::{Reply, Stop, abstract_for, text_fault_stop};
+use tool_inputs::{EarlyEnd, Reply, abstract_for, text_fault_stop};
 
-// The file with its first goal, and the goals after it.
-fn goals_of(alloc: Global, text: &[u8]) -> Result<(File, Vec<Goal>), Stop>
-    ensures { IsOutcome (λ x. ReadsBoth text.now (x.0, map goal_tree x.1.items)) (IsRefusal (IsFaultOf (FirstFaultOfAll text.now))) result }
+// Reads a text. Returns the file with its first goal, and the goals after it.
+fn goals_of(alloc: Global, text: &[u8]) -> Result<(File, Vec<Goal>), EarlyEnd>
+    ensures { Yields (λ x. ReadsBoth text.now (x.0, map goal_tree x.1.items)) (IsRefusal (IsFaultOf (FirstFaultOfAll text.now))) result }
 {
     match read_all(alloc, text) {
         Ok(goals) => Ok(goals),
@@ -33,10 +33,10 @@ fn goals_of(alloc: Global, text: &[u8]) -> Result<(File, Vec<Goal>), Stop>
     }
 }
 
-// That a goal asks a question, which is not kept.
-fn test_goal(alloc: Global, file: &File, goal: &Goal) -> Result<(), Stop>
+// Checks that a goal asks a question. Does not keep the question.
+fn test_goal(alloc: Global, file: &File, goal: &Goal) -> Result<(), EarlyEnd>
     requires { HasNumbersInRange (with_goal file.now (goal_tree goal.now)) }
-    ensures { IsOutcome (λ u. AsksSome (with_goal file.now (goal_tree goal.now))) (IsRefusal (AsksNone (with_goal file.now (goal_tree goal.now)))) result }
+    ensures { Yields (λ u. AsksSome (with_goal file.now (goal_tree goal.now))) (IsRefusal (HasNoAbstraction (with_goal file.now (goal_tree goal.now)))) result }
 {
     match abstract_for(alloc, file, goal) {
         Ok(_) => Ok(()),
@@ -44,10 +44,10 @@ fn test_goal(alloc: Global, file: &File, goal: &Goal) -> Result<(), Stop>
     }
 }
 
-// That each goal asks a question. None is kept, since all hypotheses together can be millions of nodes.
-fn test_goals(alloc: Global, file: &File, more: &[Goal]) -> Result<(), Stop>
+// Checks that each goal asks a question. Keeps no question, since all hypotheses together can have millions of nodes.
+fn test_goals(alloc: Global, file: &File, more: &[Goal]) -> Result<(), EarlyEnd>
     requires { AreInRange file.now (map goal_tree more.now) }
-    ensures { IsOutcome (λ u. (f : FileParts) → Has (with_each file.now (map goal_tree more.now)) f → AsksSome f) (IsRefusal (IsFirstRefused (with_each file.now (map goal_tree more.now)))) result }
+    ensures { Yields (λ u. (f : FileParts) → Has (with_each file.now (map goal_tree more.now)) f → AsksSome f) (IsRefusal (IsFirstRefused (with_each file.now (map goal_tree more.now)))) result }
 {
     test_goal(alloc, file, &file.goal)?;
     for goal in more {
@@ -56,7 +56,7 @@ fn test_goals(alloc: Global, file: &File, more: &[Goal]) -> Result<(), Stop>
     Ok(())
 }
 
-// The question of a goal that asks one: only memory may be wanting.
+// Returns the question of a goal that asks one. Fails only when out of memory.
 fn question_of(alloc: Global, file: &File, goal: &Goal) -> Result<Problem, NoMemory>
     requires numbers { HasNumbersInRange (with_goal file.now (goal_tree goal.now)) }
     requires asks { AsksSome (with_goal file.now (goal_tree goal.now)) }
@@ -69,7 +69,7 @@ fn question_of(alloc: Global, file: &File, goal: &Goal) -> Result<Problem, NoMem
     }
 }
 
-// The answer to a goal.
+// Returns the answer to a goal.
 fn goal_reply(alloc: Global, store: &mut Store, file: &File, goal: &Goal) -> Result<Reply, NoMemory>
     requires numbers { HasNumbersInRange (with_goal file.now (goal_tree goal.now)) }
     requires asks { AsksSome (with_goal file.now (goal_tree goal.now)) }
@@ -83,7 +83,7 @@ fn goal_reply(alloc: Global, store: &mut Store, file: &File, goal: &Goal) -> Res
     })
 }
 
-// Adds the answer to the goal of that number.
+// Appends the answer to goal `k`.
 fn put_answer(alloc: Global, all: &mut Reply, k: usize, answer: &Reply) -> Result<(), NoMemory>
     ensures { OnOk result (
         (all.new.status ≡ max all.old.status answer.now.status) × (all.new.output.items ≡ all.old.output.items ++ (goal_line k ++ answer.now.output.items))
@@ -96,7 +96,7 @@ fn put_answer(alloc: Global, all: &mut Reply, k: usize, answer: &Reply) -> Resul
     Ok(())
 }
 
-// The answers to all goals.
+// Returns the answers to all goals.
 fn answers(alloc: Global, file: &File, more: &[Goal]) -> Result<Reply, NoMemory>
     requires numbers { AreInRange file.now (map goal_tree more.now) }
     requires asks { (f : FileParts) → Has (with_each file.now (map goal_tree more.now)) f → AsksSome f }
@@ -116,18 +116,20 @@ fn answers(alloc: Global, file: &File, more: &[Goal]) -> Result<Reply, NoMemory>
     Ok(all)
 }
 
-// The reply to what was read. Each goal is tested before the first is decided, so that a refusal is printed alone.
-fn goals_reply(alloc: Global, file: &File, more: &[Goal]) -> Result<Reply, Stop>
+// Returns the reply to a file and the goals after its first. Each goal is abstracted twice: all goals are checked
+// before the first is decided, so that a refusal is printed without answers; and no abstraction is kept, since the
+// hypotheses of 64 problems can have millions of nodes.
+fn goals_reply(alloc: Global, file: &File, more: &[Goal]) -> Result<Reply, EarlyEnd>
     requires { AreInRange file.now (map goal_tree more.now) }
-    ensures { IsReplied (AnswersAll file.now (map goal_tree more.now)) result }
+    ensures { RepliesWith (AnswersAll file.now (map goal_tree more.now)) result }
 {
     test_goals(alloc, file, more)?;
     Ok(answers(alloc, file, more)?)
 }
 
-/// The reply to a text.
-pub(crate) fn text_reply(alloc: Global, text: &[u8]) -> Result<Reply, Stop>
-    ensures { IsReplied (AnswersText text.now) result }
+/// Returns the reply to a text.
+pub(crate) fn text_reply(alloc: Global, text: &[u8]) -> Result<Reply, EarlyEnd>
+    ensures { RepliesWith (AnswersText text.now) result }
 {
     let (file, more) = goals_of(alloc, text)?;
     goals_reply(alloc, &file, &more)

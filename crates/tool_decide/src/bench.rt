@@ -1,9 +1,9 @@
-//! `bench`: generated problems are decided, and the answers are counted.
+//! `bench`: decides generated problems and counts the answers.
 ghost use Rattle.std.specs.Prelude.{◌≡◌, ◌≤◌, ◌<◌, ◌+◌, ◌++◌, IfOk, OnOk, MatchOption};
 ghost use Rattle.std.specs.Fmt.{decimal};
 ghost use Rattle.kat_model.specs.Relations.{Same};
 ghost use Rattle.bench_problems.specs.Generator.{bench_problem};
-ghost use Rattle.tool_decide.specs.Bench.{IsTally, tally_line, Tallies};
+ghost use Rattle.tool_decide.specs.Bench.{IsTally, tally_line, BenchReply};
 ghost use Rattle.tool_decide.specs.Working.Tallies.{IsTallied, HasFewest};
 
 use bench_problems::bench_problem;
@@ -15,15 +15,18 @@ use std::fmt::Write;
 use tool_commands::ProblemCount;
 use tool_inputs::Reply;
 
-// How many problems are the same, how many are not, and how many moves the strings that show it have together.
+// The numbers of problems that are the same and that are not, and the total number of moves of strings that refute the
+// latter.
 #[derive(Clone, Copy)]
 struct Tally {
     equal: u64,
     different: u64,
+    // 128 bits: the number of moves of a string in memory is below 2^64, so the sum of ten thousand is below 2^78. No
+    // contract bounds the moves of a shortest string.
     moves: u128,
 }
 
-// The moves of a shortest string that refutes problem k, where there is one.
+// Returns the number of moves of a shortest string that refutes problem `k`, or `None` if both sides are the same.
 fn moves_of(alloc: Global, k: u64) -> Result<Option<usize>, NoMemory>
     requires { k < 10000 }
     ensures { IfOk result (λ r. MatchOption r (Same (bench_problem k)) (HasFewest (bench_problem k))) }
@@ -35,7 +38,7 @@ fn moves_of(alloc: Global, k: u64) -> Result<Option<usize>, NoMemory>
     }
 }
 
-// The tally with problem k, which is behind k others.
+// Adds problem `k` to the tally of the `k` problems before it.
 fn one_more(tally: Tally, k: u64, moves: Option<usize>) -> Tally
     requires before { IsTallied k tally.equal tally.different tally.moves }
     requires within { k < 10000 }
@@ -70,7 +73,7 @@ fn tally_of(alloc: Global, count: u64) -> Result<Tally, NoMemory>
     Ok(tally)
 }
 
-// A word, and a number in decimal right after it.
+// Appends a word and a number in decimal.
 fn put_number(alloc: Global, out: &mut Vec<u8>, word: &[u8], number: u128) -> Result<(), NoMemory>
     ensures { OnOk result (out.new.items ≡ out.old.items ++ (word.now ++ decimal number)) }
 {
@@ -91,10 +94,10 @@ fn tally_line(alloc: Global, count: u64, tally: Tally) -> Result<Vec<u8>, NoMemo
     Ok(line)
 }
 
-/// The reply of `bench` to a number of problems: how many of the first generated ones are the same, how many are not, and the
-/// moves of shortest strings that refute these, together. It fails only when out of memory.
-pub fn tally_reply(alloc: Global, count: ProblemCount) -> Result<Reply, NoMemory>
-    ensures { IfOk result (λ r. Tallies count.number r.status r.output.items) }
+/// Returns the reply of `bench` to a number of generated problems: how many are the same, how many are not, and the
+/// total number of moves of shortest strings that refute the latter. Fails only when out of memory.
+pub fn bench_reply(alloc: Global, count: ProblemCount) -> Result<Reply, NoMemory>
+    ensures { IfOk result (λ r. BenchReply count.number r.status r.output.items) }
 {
     let ProblemCount { number } = count;
     let tally = tally_of(alloc, number)?;

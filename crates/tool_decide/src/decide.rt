@@ -1,30 +1,31 @@
-//! `decide`: the reply to a text is the decision of the problem that it poses.
+//! `decide`: replies to a text with the decision of the problem that it poses.
 ghost use Rattle.std.specs.Prelude.{◌≡◌, length, IfOk};
 ghost use Rattle.certificate.specs.Decisions.{IsDecision};
 ghost use Rattle.certificate.specs.Texts.{IsEvidence};
-ghost use Rattle.tool_inputs.specs.Showing.{Spells, evidence_status};
+ghost use Rattle.tool_inputs.specs.EvidenceBytes.{Spells, evidence_status};
 ghost use Rattle.tool_decide.specs.Decide.{IsDecided, DecidesText};
-ghost use Rattle.tool_inputs.specs.Outcomes.{IsReplied};
+ghost use Rattle.tool_inputs.specs.ReplySpecs.{RepliesWith};
 
 use bisim_worklist::decide;
 use certificate::{Evidence, write};
 use kat_model::{NoMemory, Problem};
 use std::alloc::Global;
-use tool_inputs::{Reply, Stop, problem_in};
+use tool_inputs::{EarlyEnd, Reply, problem_in};
 
-/// How many nodes there are.
+/// Returns the number of nodes.
 pub fn count<T>(nodes: &[T]) -> usize
     ensures { result ≡ length nodes.now }
 {
     nodes.len()
 }
 
-// A decision is evidence of the program: its numbers are those of nodes, tests and actions.
+// Shows that the evidence of a decision reads back: its numbers are below counts of the problem or of nodes, so they
+// fit in 64 bits.
 pub(crate) fn know_numbers(problem: &Problem, evidence: &Evidence)
     requires { IsDecision problem.now evidence.now }
     ensures { IsEvidence evidence.now }
 {
-    // The proof needs the limits of a problem, and of a certificate its rules and how many nodes it has.
+    // The proof needs the limits of a problem and, for a certificate, its rules and its numbers of nodes.
     let _ = problem.tests();
     match evidence {
         Evidence::Equal(cert) => {
@@ -35,7 +36,7 @@ pub(crate) fn know_numbers(problem: &Problem, evidence: &Evidence)
     }
 }
 
-/// The text of a decision, which is read as that decision again.
+/// Returns the text of a decision, which reads back as the same decision.
 pub(crate) fn text(
     alloc: Global,
     problem: &Problem,
@@ -57,9 +58,9 @@ pub(crate) fn evidence_status(evidence: &Evidence) -> u8
     }
 }
 
-/// The reply of `decide` to a problem: the status 0 with the text of a certificate where both sides denote one relation in every
-/// table that keeps the hypotheses, and otherwise 1 with the text of a shortest string that refutes it. It fails only when out
-/// of memory.
+/// Returns the reply of `decide` to a problem. If both sides denote one relation in every table that satisfies the
+/// hypotheses, the status is 0 with the text of a certificate; otherwise it is 1 with the text of a shortest string
+/// that refutes the problem. Fails only when out of memory.
 pub fn decide_reply(alloc: Global, problem: &Problem) -> Result<Reply, NoMemory>
     ensures { IfOk result (λ r. IsDecided problem.now r.status r.output.items) }
 {
@@ -70,9 +71,9 @@ pub fn decide_reply(alloc: Global, problem: &Problem) -> Result<Reply, NoMemory>
     })
 }
 
-/// The reply to a text.
-pub(crate) fn text_reply(alloc: Global, text: &[u8]) -> Result<Reply, Stop>
-    ensures { IsReplied (DecidesText text.now) result }
+/// Returns the reply to a text.
+pub(crate) fn text_reply(alloc: Global, text: &[u8]) -> Result<Reply, EarlyEnd>
+    ensures { RepliesWith (DecidesText text.now) result }
 {
     let problem = problem_in(alloc, text)?;
     Ok(decide_reply(alloc, &problem)?)

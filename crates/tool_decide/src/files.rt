@@ -1,45 +1,48 @@
 //! `decide` and `batch` on the files of a shelf.
 ghost use Rattle.std.specs.Prelude.{◌≡◌, ℕ, List};
 ghost use Rattle.tool_inputs.specs.Steps.{shelf_use};
-ghost use Rattle.tool_inputs.specs.Outcomes.{IsReplied, Counts};
-ghost use Rattle.tool_decide.specs.Decide.{Decides};
-ghost use Rattle.tool_decide.specs.Report.{Reports};
-ghost use Rattle.tool_decide.specs.Batch.{Batches};
+ghost use Rattle.tool_inputs.specs.FileReplies.{OfFile};
+ghost use Rattle.tool_inputs.specs.ReplySpecs.{RepliesWith, KeepsFaultCount};
+ghost use Rattle.tool_decide.specs.Decide.{DecideReply};
+ghost use Rattle.tool_decide.specs.DecideJson.{DecideJsonReply};
+ghost use Rattle.tool_decide.specs.Batch.{BatchReply};
 
-use crate::text::{batch_reply, decided_text, reported_text};
+use crate::text::{batch_bytes, decide_bytes, decide_json_bytes};
 use kat_io::Shelf;
 use std::alloc::Global;
-use tool_inputs::{Reply, Stop, file_text};
+use tool_inputs::{EarlyEnd, Reply, file_text};
 
-/// The reply of `decide` to a file of the shelf, which is that of `decided_text` to its bytes. A file that cannot be
-/// got is replied to in a `Stop`.
-pub fn decide_file<S: Shelf>(alloc: Global, file: &str, shelf: &mut S) -> Result<Reply, Stop>
-    ensures replied { IsReplied (Decides (shelf_use (S.content shelf.old) (S.faults shelf.old) (S.faults shelf.new) (S.last_failed shelf.new)) file.now) result }
-    ensures counts { Counts (S.faults shelf.old) (S.faults shelf.new) result }
+/// Replies to a file of the shelf as `decide_bytes` does to its bytes. If the file cannot be read, the error reply is
+/// returned as an `EarlyEnd`.
+pub fn decide_file<S: Shelf>(alloc: Global, file: &str, shelf: &mut S) -> Result<Reply, EarlyEnd>
+    ensures replied { RepliesWith (OfFile (shelf_use (S.content shelf.old) (S.faults shelf.old) (S.faults shelf.new) (S.last_failed shelf.new)) file.now DecideReply) result }
+    ensures counts { KeepsFaultCount (S.faults shelf.old) (S.faults shelf.new) result }
     ensures kept { (name : List ℕ) → S.content shelf.new name ≡ S.content shelf.old name }
 {
     let text = file_text(alloc, file, shelf)?;
-    Ok(decided_text(alloc, &text)?)
+    Ok(decide_bytes(alloc, &text)?)
 }
 
-/// The reply of `decide` with `--json` to a file of the shelf, which is that of `reported_text` to its bytes. A file
-/// that cannot be got is replied to in a `Stop`.
-pub fn report_file<S: Shelf>(alloc: Global, file: &str, shelf: &mut S) -> Result<Reply, Stop>
-    ensures replied { IsReplied (Reports (shelf_use (S.content shelf.old) (S.faults shelf.old) (S.faults shelf.new) (S.last_failed shelf.new)) file.now) result }
-    ensures counts { Counts (S.faults shelf.old) (S.faults shelf.new) result }
+/// Replies to a file of the shelf as `decide_json_bytes` does to its bytes. Otherwise as `decide_file`.
+pub fn decide_json_file<S: Shelf>(
+    alloc: Global,
+    file: &str,
+    shelf: &mut S,
+) -> Result<Reply, EarlyEnd>
+    ensures replied { RepliesWith (OfFile (shelf_use (S.content shelf.old) (S.faults shelf.old) (S.faults shelf.new) (S.last_failed shelf.new)) file.now DecideJsonReply) result }
+    ensures counts { KeepsFaultCount (S.faults shelf.old) (S.faults shelf.new) result }
     ensures kept { (name : List ℕ) → S.content shelf.new name ≡ S.content shelf.old name }
 {
     let text = file_text(alloc, file, shelf)?;
-    Ok(reported_text(alloc, &text)?)
+    Ok(decide_json_bytes(alloc, &text)?)
 }
 
-/// The reply of `batch` to a file of the shelf, which is that of `batch_reply` to its bytes. A file that cannot be got
-/// is replied to in a `Stop`.
-pub fn batch_file<S: Shelf>(alloc: Global, file: &str, shelf: &mut S) -> Result<Reply, Stop>
-    ensures replied { IsReplied (Batches (shelf_use (S.content shelf.old) (S.faults shelf.old) (S.faults shelf.new) (S.last_failed shelf.new)) file.now) result }
-    ensures counts { Counts (S.faults shelf.old) (S.faults shelf.new) result }
+/// Replies to a file of the shelf as `batch_bytes` does to its bytes. Otherwise as `decide_file`.
+pub fn batch_file<S: Shelf>(alloc: Global, file: &str, shelf: &mut S) -> Result<Reply, EarlyEnd>
+    ensures replied { RepliesWith (OfFile (shelf_use (S.content shelf.old) (S.faults shelf.old) (S.faults shelf.new) (S.last_failed shelf.new)) file.now BatchReply) result }
+    ensures counts { KeepsFaultCount (S.faults shelf.old) (S.faults shelf.new) result }
     ensures kept { (name : List ℕ) → S.content shelf.new name ≡ S.content shelf.old name }
 {
     let text = file_text(alloc, file, shelf)?;
-    Ok(batch_reply(alloc, &text)?)
+    Ok(batch_bytes(alloc, &text)?)
 }

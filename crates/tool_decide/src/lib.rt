@@ -1,4 +1,4 @@
-//! The replies of the commands that decide problems: `decide`, with a report or without, `batch` and `bench`.
+//! The replies of the commands that decide problems: `decide`, with or without a report, `batch` and `bench`.
 #![tactic(auto)]
 
 mod batch;
@@ -8,7 +8,7 @@ mod files;
 mod report;
 mod text;
 
-pub use bench::tally_reply;
+pub use bench::bench_reply;
 pub use decide::{count, decide_reply};
-pub use files::{batch_file, decide_file, report_file};
-pub use text::{batch_reply, decided_text, reported_text};
+pub use files::{batch_file, decide_file, decide_json_file};
+pub use text::{batch_bytes, decide_bytes, decide_json_bytes};

@@ -1,4 +1,4 @@
-//! `decide` and `batch` on the bytes of texts, with no outside.
+//! `decide` and `batch` on the bytes of texts, without files or output.
 ghost use Rattle.std.specs.Prelude.{◌≡◌, ℕ, List, IfOk};
 ghost use Rattle.kat_model.specs.Problems.{ProblemParts};
 ghost use Rattle.kat_model.specs.Expressions.{CondTree};
@@ -9,74 +9,63 @@ ghost use Rattle.problem_texts.specs.ProgramTexts.{programs_text, triple_text, A
 ghost use Rattle.problem_file.specs.Files.{GoalTree, FileParts};
 ghost use Rattle.problem_file.specs.Reads.{Reads, ReadsAll};
 ghost use Rattle.problem_file.specs.Concrete.{IsConcrete, Agrees};
-ghost use Rattle.tool_inputs.specs.Asking.{Asks};
+ghost use Rattle.tool_inputs.specs.FileProblem.{Asks};
 ghost use Rattle.tool_inputs.specs.StoreAnswers.{AlwaysEndAlike, AlwaysMeets, StoreHeadline};
-ghost use Rattle.tool_decide.specs.Decide.{DecidesText, Headline};
-ghost use Rattle.tool_decide.specs.Report.{ReportsText, ReportHeadline};
-ghost use Rattle.tool_decide.specs.Batch.{AnswersText, BatchHeadline};
+ghost use Rattle.tool_decide.specs.Decide.{Headline, DecideReply};
+ghost use Rattle.tool_decide.specs.DecideJson.{ReportHeadline, DecideJsonReply};
+ghost use Rattle.tool_decide.specs.Batch.{BatchHeadline, BatchReply};
 
 use crate::{batch, decide, report};
 use kat_model::NoMemory;
 use std::alloc::Global;
-use tool_inputs::{Reply, Stop};
+use tool_inputs::{Reply, into_reply};
 
-/// What `decide` answers to the bytes of a text, without a file or an output. Where the text asks a question, the
-/// status is 0 or 1: 0 exactly where both sides denote one relation in every finite table that keeps the
-/// hypotheses, with the text of a certificate that is accepted, and 1 exactly where they do not, with the text of a
-/// string that refutes the question, than which none that does has fewer moves. Otherwise it is 2, with the line
-/// that says why. Where the text says a concrete file and the status is 0, the file's goal holds of all its stores:
-/// both programs end in the same stores from each, or the triple holds of every run that ends. It fails only when
+/// Returns the reply of `decide` to the bytes of a text. If the text asks a question, the status is 0 or 1: 0 exactly
+/// when both sides denote one relation in every finite table that satisfies the hypotheses, with the text of an
+/// accepted certificate; 1 exactly when they do not, with the text of a shortest string that refutes the question.
+/// Otherwise it is 2, with the line that gives the reason. If the text is a concrete file and the status is 0, its goal
+/// holds for all its stores: both programs end in the same stores from each store, or the triple holds for every run
+/// that ends. Status 1 says that the question over tests and actions fails, and nothing about stores. Fails only when
 /// out of memory.
-pub fn decided_text(alloc: Global, text: &[u8]) -> Result<Reply, NoMemory>
-    // Of the plainest text of a question, whose meaning needs no grammar.
+pub fn decide_bytes(alloc: Global, text: &[u8]) -> Result<Reply, NoMemory>
+    // For the plainest text of a question, whose meaning needs no grammar.
     ensures plain { (q : ProblemParts) → IsPrintable q → text.now ≡ question_text q
         → IfOk result (λ r. Headline q r.status r.output.items) }
-    // Of the plainest texts of two programs, and of a triple of one, over so many variables of a width.
+    // For the plainest texts of two programs, and of a triple of one program, over `v` variables of the width `w`.
     ensures programs { (w : Width) (v : ℕ) (p q : ProgTree) → ArePrintable w v p q → text.now ≡ programs_text w v p q
         → IfOk result (λ r. StoreHeadline (AlwaysEndAlike w v p q) r.status r.output.items) }
     ensures triples { (w : Width) (v : ℕ) (b : CondTree) (p : ProgTree) (c : CondTree) → IsTriplePrintable w v b p c → text.now ≡ triple_text w v b p c
         → IfOk result (λ r. StoreHeadline (AlwaysMeets w v b p c) r.status r.output.items) }
-    // Of every text.
+    // For every text.
     ensures headline { (q : ProblemParts) → Asks text.now q
         → IfOk result (λ r. Headline q r.status r.output.items) }
     ensures stores { (f : FileParts) → Reads text.now f → IsConcrete f → IfOk result (λ r. r.status ≡ 0 → Agrees f) }
-    ensures replies { IfOk result (λ r. DecidesText text.now r.status r.output.items) }
+    ensures reply { IfOk result (λ r. DecideReply text.now r.status r.output.items) }
 {
-    match decide::text_reply(alloc, text) {
-        Ok(reply) => Ok(reply),
-        Err(Stop::Replied(reply)) => Ok(reply),
-        Err(Stop::NoMemory) => Err(NoMemory),
-    }
+    into_reply(decide::text_reply(alloc, text))
 }
 
-/// What `decide` with `--json` answers to the bytes of a text: the same as `decided_text`, with one line of JSON that
-/// holds the text of the evidence in its place. It fails only when out of memory.
-pub fn reported_text(alloc: Global, text: &[u8]) -> Result<Reply, NoMemory>
+/// Returns the reply of `decide` with `--json` to the bytes of a text: that of `decide_bytes`, with one line of JSON
+/// that contains the text of the evidence instead of this text. Fails only when out of memory.
+pub fn decide_json_bytes(alloc: Global, text: &[u8]) -> Result<Reply, NoMemory>
     ensures headline { (q : ProblemParts) → Asks text.now q
         → IfOk result (λ r. ReportHeadline q r.status r.output.items) }
     ensures stores { (f : FileParts) → Reads text.now f → IsConcrete f → IfOk result (λ r. r.status ≡ 0 → Agrees f) }
-    ensures replies { IfOk result (λ r. ReportsText text.now r.status r.output.items) }
+    ensures reply { IfOk result (λ r. DecideJsonReply text.now r.status r.output.items) }
 {
-    match report::text_reply(alloc, text) {
-        Ok(reply) => Ok(reply),
-        Err(Stop::Replied(reply)) => Ok(reply),
-        Err(Stop::NoMemory) => Err(NoMemory),
-    }
+    into_reply(report::text_reply(alloc, text))
 }
 
-/// What `batch` answers to the bytes of a text with one to 64 goals. Each goal is answered as `decide` answers the file with
-/// that goal alone, behind a line with its number. The status is 0 exactly where both sides of each goal denote one relation
-/// in every finite table that keeps its hypotheses, and 1 exactly where each goal asks a question and both sides of one do
-/// not. It is 2 where the text is not read or a goal is refused, with the line of the first that is, alone. The goals of a
-/// concrete file hold of all its stores where the status is 0. It fails only when out of memory.
-pub fn batch_reply(alloc: Global, text: &[u8]) -> Result<Reply, NoMemory>
+/// Returns the reply of `batch` to the bytes of a text with 1 to 64 goals. Each goal is answered as `decide` answers
+/// the file with only that goal, after a line with its number. The status is 0 exactly when both sides of each goal
+/// denote one relation in every finite table that satisfies its hypotheses, and 1 exactly when each goal asks a
+/// question and the sides of some goal do not. It is 2 if the text is not read or a goal is refused, with only the line
+/// of the first refusal. If the status is 0, the goals of a concrete file hold for all its stores. Fails only when out
+/// of memory.
+pub fn batch_bytes(alloc: Global, text: &[u8]) -> Result<Reply, NoMemory>
     ensures headline { (f : FileParts) (more : List GoalTree) → ReadsAll text.now f more
         → IfOk result (λ r. BatchHeadline f more r.status r.output.items) }
-    ensures replies { IfOk result (λ r. AnswersText text.now r.status r.output.items) }
+    ensures reply { IfOk result (λ r. BatchReply text.now r.status r.output.items) }
 {
-    match batch::text_reply(alloc, text) {
-        Ok(reply) => Ok(reply),
-        Err(Stop::Replied(reply)) => Ok(reply),
-        Err(Stop::NoMemory) => Err(NoMemory),
-    }
+    into_reply(batch::text_reply(alloc, text))
 }

@@ -1,8 +1,9 @@
 pub mod Contents
-pub mod Outcomes
+pub mod ReplySpecs
 pub mod Ranges
 pub mod Steps
-pub mod Files
+pub mod TextReplies
+pub mod FileReplies
 pub mod StoreSentences
 pub mod ProgramSentences
 pub mod Ways

@@ -1,18 +1,15 @@
 -- If both sides of the question of a text are the same, the goal of a concrete file holds for all its stores.
-use Rattle.std.proofs.Common.{◌≡◌, ℕ, List, subst}
+use Rattle.std.proofs.Common.{ℕ, List, subst}
 use Rattle.kat_model.specs.Problems.{ProblemParts}
 use Rattle.kat_model.specs.Relations.{Same}
-use Rattle.kat_io.specs.Told.{Told, Holds}
 use Rattle.problem_file.specs.Files.{FileParts}
 use Rattle.problem_file.specs.Reads.{Reads}
 use Rattle.problem_file.specs.Concrete.{IsConcrete, Agrees}
 use Rattle.problem_file.proofs.OneAnswer.{have_one_answer}
 use Rattle.abstraction.proofs.DerivedHypotheses.{derived_hold}
 use Rattle.abstraction.proofs.Agreement.{same_agrees}
-use Rattle.tool_inputs.specs.Asking.{Asks}
-use Rattle.tool_inputs.specs.Posing.{Poses}
+use Rattle.tool_inputs.specs.FileProblem.{Asks}
 use Rattle.tool_inputs.proofs.Ranges.{numbers_in_range}
-use Rattle.tool_inputs.proofs.Contents.{held_same}
 
 -- the goal of the file of the question holds
 pub asked_agrees : (text : List ℕ) (q : ProblemParts) (asks : Asks text q) → Same q → IsConcrete asks.file → Agrees asks.file
@@ -24,8 +21,3 @@ asked_agrees text q asks same concrete =
 pub read_agrees : (text : List ℕ) (q : ProblemParts) → Asks text q → Same q → (f : FileParts) → Reads text f → IsConcrete f → Agrees f
 read_agrees text q asks same f reads concrete =
     subst (λ g. IsConcrete g → Agrees g) (have_one_answer.values text asks.file f asks.reads reads) (asked_agrees text q asks same) concrete
-
--- the same for a file with known content
-pub told_agrees : (told : Told) (q : ProblemParts) → Poses told q → Same q → (text : List ℕ) (f : FileParts) → told ≡ Holds text → Reads text f → IsConcrete f → Agrees f
-told_agrees told q poses same text f is reads concrete =
-    read_agrees text q (subst (λ t. Asks t q) (held_same told text poses.text is poses.given.0) poses.asks) same f reads concrete

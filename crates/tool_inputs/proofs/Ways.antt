@@ -32,27 +32,3 @@ module _ (status : ℕ) (P0 P1 P2 P3 P4 : Type 0) where
   at_three (inr (inr (inl h))) e = absurd (omega (arith, h.0, e))
   at_three (inr (inr (inr (inl h)))) e = h.1
   at_three (inr (inr (inr (inr h)))) e = absurd (omega (arith, h.0, e))
-
-  pub at_four : Ways status P0 P1 P2 P3 P4 → status ≡ 4 → P4
-  at_four (inl h) e = absurd (omega (arith, h.0, e))
-  at_four (inr (inl h)) e = absurd (omega (arith, h.0, e))
-  at_four (inr (inr (inl h))) e = absurd (omega (arith, h.0, e))
-  at_four (inr (inr (inr (inl h)))) e = absurd (omega (arith, h.0, e))
-  at_four (inr (inr (inr (inr h)))) e = h.1
-
--- or the status of refused words
-module _ (status : ℕ) (P0 P1 P2 P3 P4 P7 : Type 0) where
-  small : Ways status P0 P1 P2 P3 P4 → status ≡ 7 → ⊥
-  small (inl h) e = omega (arith, h.0, e)
-  small (inr (inl h)) e = omega (arith, h.0, e)
-  small (inr (inr (inl h))) e = omega (arith, h.0, e)
-  small (inr (inr (inr (inl h)))) e = omega (arith, h.0, e)
-  small (inr (inr (inr (inr h)))) e = omega (arith, h.0, e)
-
-  pub at_seven : Ways status P0 P1 P2 P3 P4 ⊎ ((status ≡ 7) × P7) → status ≡ 7 → P7
-  at_seven (inl w) e = absurd (small w e)
-  at_seven (inr h) e = h.1
-
-  pub below_seven : Ways status P0 P1 P2 P3 P4 ⊎ ((status ≡ 7) × P7) → (status ≡ 7 → ⊥) → Ways status P0 P1 P2 P3 P4
-  below_seven (inl w) other = w
-  below_seven (inr h) other = absurd (other h.0)

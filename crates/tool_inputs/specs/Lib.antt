@@ -1,7 +1,8 @@
-pub mod Held
-pub mod Asking
-pub mod Posing
-pub mod Showing
+pub mod Contents
+pub mod FileProblem
+pub mod TextProblem
+pub mod EvidenceBytes
 pub mod Steps
+pub mod FileReplies
 pub mod StoreAnswers
-pub mod Outcomes
+pub mod ReplySpecs

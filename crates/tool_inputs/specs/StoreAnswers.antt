@@ -6,7 +6,7 @@ use Rattle.kat_model.specs.Stores.{Store, IsStore, holds}
 use Rattle.while_lang.specs.Programs.{ProgTree}
 use Rattle.while_lang.specs.Runs.{Ends}
 use Rattle.abstraction.specs.declared.fault.AbstractFault.TheVariants.{TooManyTests, TooManyActions, ProblemTooLarge}
-use Rattle.abstract_texts.specs.Refusals.{abstract_fault_line}
+use Rattle.kat_report.specs.AbstractRefusals.{abstract_fault_line}
 
 -- a store of v numbers of the width
 abbrev pub IsStoreWith : Width → ℕ → Store → Type 0

@@ -2,12 +2,12 @@
 //! cannot continue stops with a reply.
 #![tactic(auto)]
 
-mod asking;
+mod file_problem;
 mod getting;
-mod posing;
 mod reply;
+mod text_problem;
 
-pub use asking::{abstract_for, abstract_in};
+pub use file_problem::{abstract_for, abstract_in};
 pub use getting::{file_bytes, file_text};
-pub use posing::{file_of, problem_in, text_fault_stop};
-pub use reply::{Reply, Stop, line, refusal, unfit_stop};
+pub use reply::{EarlyEnd, Reply, into_reply, line, refusal, unfit_stop};
+pub use text_problem::{file_of, problem_in, text_fault_stop};

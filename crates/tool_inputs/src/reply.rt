@@ -1,10 +1,12 @@
 //! Replies: a status and the output.
-ghost use Rattle.std.specs.Prelude.{◌≡◌, IfOk, codes};
-ghost use Rattle.tool_inputs.specs.declared.reply.Stop.TheVariants.{NoMemory as NoRoom};
+ghost use Rattle.std.specs.Prelude.{◌≡◌, IfOk};
+ghost use Rattle.kat_report.specs.InputLines.{words_line};
+ghost use Rattle.tool_inputs.specs.declared.reply.EarlyEnd.TheVariants.{NoMemory as NoRoom};
 ghost use Rattle.tool_inputs.specs.Steps.{IsRefusal};
-ghost use Rattle.tool_inputs.specs.Outcomes.{IsStop};
+ghost use Rattle.tool_inputs.specs.ReplySpecs.{EndsWith, settled};
 
 use kat_model::NoMemory;
+use kat_report::words_line;
 use std::alloc::{AllocError, Global};
 
 /// The reply of a command.
@@ -18,26 +20,37 @@ pub struct Reply {
 
 /// Why a command ends early.
 #[derive(Drop)]
-pub enum Stop {
+pub enum EarlyEnd {
     /// Memory ran out.
     NoMemory,
     /// The final reply.
     Replied(Reply),
 }
 
-impl From<NoMemory> for Stop {
+impl From<NoMemory> for EarlyEnd {
     ghost from_gives = { λ _ stop. stop ≡ NoRoom };
 
     fn from(_: NoMemory) -> Self {
-        Stop::NoMemory
+        EarlyEnd::NoMemory
     }
 }
 
-impl From<AllocError> for Stop {
+impl From<AllocError> for EarlyEnd {
     ghost from_gives = { λ _ stop. stop ≡ NoRoom };
 
     fn from(_: AllocError) -> Self {
-        Stop::NoMemory
+        EarlyEnd::NoMemory
+    }
+}
+
+/// Returns the reply of a command, whether or not it ended early. Fails only when out of memory.
+pub fn into_reply(ended: Result<Reply, EarlyEnd>) -> Result<Reply, NoMemory>
+    ensures { result ≡ settled ended }
+{
+    match ended {
+        Ok(reply) => Ok(reply),
+        Err(EarlyEnd::Replied(reply)) => Ok(reply),
+        Err(EarlyEnd::NoMemory) => Err(NoMemory),
     }
 }
 
@@ -52,21 +65,21 @@ pub fn line(alloc: Global, status: u8, text: &[u8]) -> Result<Reply, NoMemory>
 }
 
 /// Returns the refusal with this text, whose status is 2.
-pub fn refusal(alloc: Global, text: &[u8]) -> Stop
-    ensures { IsStop (IsRefusal (λ l. l ≡ text.now)) result }
+pub fn refusal(alloc: Global, text: &[u8]) -> EarlyEnd
+    ensures { EndsWith (IsRefusal (λ l. l ≡ text.now)) result }
 {
     match line(alloc, 2, text) {
-        Ok(reply) => Stop::Replied(reply),
-        Err(NoMemory) => Stop::NoMemory,
+        Ok(reply) => EarlyEnd::Replied(reply),
+        Err(NoMemory) => EarlyEnd::NoMemory,
     }
 }
 
 /// Returns the refusal of words that do not fit a file, whose status is 7.
-pub fn unfit_stop(alloc: Global) -> Stop
-    ensures { IsStop (λ status output. (status ≡ 7) × (output ≡ codes "refused: words\n")) result }
+pub fn unfit_stop(alloc: Global) -> EarlyEnd
+    ensures { EndsWith (λ status output. (status ≡ 7) × (output ≡ words_line)) result }
 {
-    match line(alloc, 7, b"refused: words\n") {
-        Ok(reply) => Stop::Replied(reply),
-        Err(NoMemory) => Stop::NoMemory,
+    match line(alloc, 7, words_line()) {
+        Ok(reply) => EarlyEnd::Replied(reply),
+        Err(NoMemory) => EarlyEnd::NoMemory,
     }
 }

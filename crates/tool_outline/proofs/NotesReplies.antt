@@ -1,8 +1,8 @@
--- The reply of `outline` to a file and notes is the statement on the notes, and has its cause.
-use Rattle.std.proofs.Common.{◌≡◌, ◌≢◌, ◌⊎◌, ℕ, List, Some, inl, inr, ⊎_elim, refl, sym, ap, subst, ◌∙◌, codes, arith}
+-- The reply of `outline` to a text and notes is the statement on the notes.
+use Rattle.std.proofs.Common.{◌≡◌, ◌≢◌, ◌⊎◌, ◌<◌, ℕ, List, length, Some, inl, inr, ⊎_elim, refl, sym, ap, subst, ◌∙◌, arith}
 use Rattle.std.proofs.lemmas.Option.{same_Some}
+use Rattle.kat_model.specs.declared.limits.TheConstants.{MAX_TEXT_BYTES}
 use Rattle.kat_model.specs.Problems.{ProblemParts}
-use Rattle.kat_io.specs.Told.{Holds}
 use Rattle.problem_file.specs.Files.{FileParts}
 use Rattle.problem_file.specs.Reads.{Reads}
 use Rattle.problem_file.specs.Concrete.{IsConcrete, Agrees}
@@ -18,20 +18,22 @@ use Rattle.outline_rules.specs.Reasons.{IsFirstReason}
 use Rattle.outline_rules.specs.declared.answer.NoteReason.{NoteReason}
 use Rattle.outline_rules.proofs.Soundness.{follows_same}
 use Rattle.outline_rules.proofs.Against.{reasons_against}
-use Rattle.tool_inputs.specs.Asking.{Asks}
-use Rattle.tool_outline.specs.OutlineLines.{notes_fault_line, note_reason_line}
-use Rattle.tool_inputs.specs.Steps.{ShelfUse, Replying, FailsOn, HasFailedOn, AbstractsFile}
-use Rattle.tool_outline.specs.Triples.{HasTask, TakesTask, TellsTask, TellsNoTask}
-use Rattle.tool_outline.specs.OutlineCheck.{SpellsNotes, IsNoNotes, ReadsNotes, AreAccepted, AreRejected, AreChecked, ChecksNotes, ChecksNoteTexts, GetsNotes, ChecksNoteFiles, HasNoNotes, NotesHeadline, HoldsNotes, HoldsNoNotes, AcceptsNotes, NotesCauses}
-use Rattle.tool_inputs.proofs.Contents.{never_past}
-use Rattle.tool_inputs.proofs.Steps.{OneStatus, reads_said, gets_text, gets_bytes}
-use Rattle.tool_inputs.proofs.StoreSentences.{asked_agrees, told_agrees}
-use Rattle.tool_outline.proofs.Triples.{takes_task, takes_none, asks_takes, asks_none, gets_task}
-use Rattle.tool_inputs.proofs.Ways.{Ways, at_zero, at_two, at_three, at_four}
+use Rattle.tool_inputs.specs.FileProblem.{Asks}
+use Rattle.kat_report.specs.InputLines.{too_long_line}
+use Rattle.kat_report.specs.Acceptances.{accepted_outline_line}
+use Rattle.kat_report.specs.OutlineLines.{notes_fault_line, note_reason_line}
+use Rattle.tool_inputs.specs.Steps.{ReplySpec, IsRefusal, AbstractsFile}
+use Rattle.tool_outline.specs.Triples.{HasTask, TakesTask, PosesTask, PosesNoTask, PosesSomeTask}
+use Rattle.tool_outline.specs.OutlineCheck.{SpellsNotes, IsNoNotes, ReadsNotes, AreAccepted, AreRejected, AreChecked, ChecksNotes, ChecksNoteTexts, HasNoNotes, NotesHeadline, OutlineCheckReply}
+use Rattle.tool_inputs.proofs.Steps.{OneStatus, reads_said, small_status, long_problem}
+use Rattle.tool_inputs.proofs.FileReplies.{HasOneReply}
+use Rattle.tool_inputs.proofs.StoreSentences.{asked_agrees}
+use Rattle.tool_outline.proofs.Triples.{takes_task, takes_none, asks_once, asks_takes, asks_none, no_task, posed_task, task_small, task_or_no_task}
+use Rattle.tool_inputs.proofs.Ways.{Ways, at_zero, at_two, at_three}
 
 -- ---- notes are read
 
--- a fault that is told is the first, unless memory ran out
+-- a reported fault is the first, unless memory ran out
 pub fault_is : (bytes : List ℕ) (fault : NotesFault) → fault ≢ NoMemory → IsFault bytes fault → notes_fault bytes ≡ Some fault
 fault_is bytes NoMemory other is = absurd (other refl)
 fault_is bytes fault other is = is
@@ -43,7 +45,7 @@ module _ (bytes : List ℕ) where
   spelled_faultless : (ns : NotesParts) (fault : NotesFault) → SpellsNotes bytes ns → notes_fault bytes ≡ Some fault → ⊥
   spelled_faultless ns fault s f = ⊎_elim (λ h. h.1 (fault, f)) (λ h. h.0 (ns, s.narrow, s.text)) (is_text_or_faulty_lem bytes)
 
-  module _ (GoesOn : NotesParts → Replying) (status : ℕ) (output : List ℕ) where
+  module _ (GoesOn : NotesParts → ReplySpec) (status : ℕ) (output : List ℕ) where
     reads_notes : (ns : NotesParts) → SpellsNotes bytes ns → ReadsNotes bytes GoesOn status output → GoesOn ns status output
     reads_notes ns s (inl r) = absurd (spelled_faultless ns r.1.fault s r.1.first)
     reads_notes ns s (inr g) = subst (λ m. GoesOn m status output) (spelled_same g.0 ns g.1 s) g.2
@@ -52,7 +54,7 @@ module _ (bytes : List ℕ) where
     reads_none line n (inl r) = (r.0, r.1.printed ∙ ap notes_fault_line (same_Some r.1.fault n.fault (sym r.1.first ∙ n.first)) ∙ sym n.printed)
     reads_none line n (inr g) = absurd (spelled_faultless g.0 n.fault g.1 n.first)
 
-  reads_notes_once : (GoesOn : NotesParts → Replying) → ((ns : NotesParts) → OneStatus (GoesOn ns)) → OneStatus (ReadsNotes bytes GoesOn)
+  reads_notes_once : (GoesOn : NotesParts → ReplySpec) → ((ns : NotesParts) → OneStatus (GoesOn ns)) → OneStatus (ReadsNotes bytes GoesOn)
   reads_notes_once GoesOn once a b o p (inl r) y = r.0 ∙ sym (reads_none GoesOn b p o r.1 y).0
   reads_notes_once GoesOn once a b o p (inr g) y = once g.0 a b o p g.2 (reads_notes GoesOn b p g.0 g.1 y)
 
@@ -60,7 +62,7 @@ module _ (bytes : List ℕ) where
 
 module _ (q : ProblemParts) (t : TaskParts) (ns : NotesParts) (status : ℕ) (output : List ℕ) where
   -- what the parts of the program reply
-  pub notes_accepted : IsTripleOf q t → Follows q t ns → (status ≡ 0) × (output ≡ codes "accepted outline\n") → AreChecked q t ns status output
+  pub notes_accepted : IsTripleOf q t → Follows q t ns → (status ≡ 0) × (output ≡ accepted_outline_line) → AreChecked q t ns status output
   notes_accepted triple follows e = inl (record { follows = follows; same = follows_same q t ns triple follows; has_status = e.0; printed = e.1 })
 
   pub notes_rejected : (reason : NoteReason) → IsFirstReason q t ns reason → (status ≡ 3) × (output ≡ note_reason_line reason) → AreChecked q t ns status output
@@ -83,7 +85,7 @@ notes_once bytes q t = reads_notes_once bytes (AreChecked q t) (checked_once q t
 
 -- ---- the reply to bytes
 
--- the ways in which it comes
+-- the possible statuses, each with its cause
 abbrev TakenWays : List ℕ → FileParts → ProblemParts → ℕ → List ℕ → Type 0
 TakenWays bytes f q status output =
     Ways status
@@ -134,7 +136,7 @@ module _ (bytes : List ℕ) (f : FileParts) (q : ProblemParts) (status : ℕ) (o
 pub texts_headline : (text bytes : List ℕ) (status : ℕ) (output : List ℕ) (q : ProblemParts) (asks : Asks text q) → ChecksNoteTexts text bytes status output → NotesHeadline bytes asks.file q status output
 texts_headline text bytes status output q asks r = notes_headline bytes asks.file q status output (asks_takes text (ChecksNotes bytes) status output q asks r)
 
--- the goal of a concrete file holds of all its stores where the status is 0
+-- if the status is 0, the goal of a concrete file holds for all its stores
 pub texts_stores : (text bytes : List ℕ) (status : ℕ) (output : List ℕ) (f : FileParts) → Reads text f → IsConcrete f → ChecksNoteTexts text bytes status output → status ≡ 0 → Agrees f
 texts_stores text bytes status output f reads concrete r zero = stores (reads_said text (λ g. AbstractsFile g (λ a. TakesTask (ChecksNotes bytes) g a.problem)) status output f reads r)
   where
@@ -144,57 +146,34 @@ texts_stores text bytes status output f reads concrete r zero = stores (reads_sa
         let asks : Asks text a.problem = record { file = f; reads = reads; abstract = a; is_abstract = is; question = refl } in
         asked_agrees text a.problem asks ((notes_headline bytes f a.problem status output taken).same zero) concrete
 
--- ---- the reply to files
+-- ---- what the reply says
 
--- the ways in which it comes
-abbrev NotesWays : ShelfUse → List ℕ → List ℕ → ℕ → List ℕ → Type 0
-NotesWays s file other status output =
-    Ways status
-    (AcceptsNotes s file other output)
-    ⊥
-    (TellsNoTask (s.content file) output ⊎ HoldsNoNotes (s.content file) (s.content other) output)
-    ((q : ProblemParts) × (t : TaskParts) × (ns : NotesParts) × HoldsNotes (s.content file) (s.content other) q t ns × AreRejected q t ns 3 output)
-    (HasFailedOn s file status output ⊎ ((q : ProblemParts) × (t : TaskParts) × TellsTask (s.content file) q t × HasFailedOn s other status output))
+pub outline_check_reply : (text bytes : List ℕ) (status : ℕ) (output : List ℕ) → ChecksNoteTexts text bytes status output → OutlineCheckReply text bytes status output
+outline_check_reply text bytes status output r = record {
+  replies = r;
+  headline = λ q asks. texts_headline text bytes status output q asks r;
+  stores = λ f reads concrete zero. texts_stores text bytes status output f reads concrete r zero;
+  declined = λ line none. asks_none text (ChecksNotes bytes) status output line none r;
+}
 
-module _ (s : ShelfUse) (file other : List ℕ) (status : ℕ) (output : List ℕ) where
-  got_ways : (q : ProblemParts) (t : TaskParts) → TellsTask (s.content file) q t → GetsNotes s other q t status output → NotesWays s file other status output
-  got_ways q t tells (inl f) = inr (inr (inr (inr (f.has_status, inr (q, t, tells, f)))))
-  got_ways q t tells (inr (inl r)) = absurd (never_past (s.content other) r.1.past)
-  got_ways q t tells (inr (inr (bytes, given, inl n))) = inr (inr (inl (n.0, inr (q, t, tells, (bytes, given.0, n.1)))))
-  got_ways q t tells (inr (inr (bytes, given, inr (ns, spells, inl a)))) =
-      inl (a.has_status, record { question = q; task = t; notes = ns; holds = record { tells = tells; bytes = bytes; held = given.0; spells = spells }; follows = a.follows; same = a.same; stores = asked_agrees tells.poses.text q tells.poses.asks a.same; printed = a.printed })
-  got_ways q t tells (inr (inr (bytes, given, inr (ns, spells, inr r)))) =
-      inr (inr (inr (inl (r.has_status, (q, t, ns, record { tells = tells; bytes = bytes; held = given.0; spells = spells }, record { fails = r.fails; reason = r.reason; first = r.first; has_status = refl; printed = r.printed })))))
+-- the reply to a text that asks no triple, and any bytes
+pub notes_unposed : (text : List ℕ) (status : ℕ) (output : List ℕ) → IsRefusal (PosesNoTask text) status output → (PosesSomeTask text → ⊥) × ((bytes : List ℕ) → OutlineCheckReply text bytes status output)
+notes_unposed text status output r = (task_or_no_task text output r.1, (λ bytes. outline_check_reply text bytes status output (no_task text (ChecksNotes bytes) status output r)))
 
-  told_ways : HasFailedOn s file status output ⊎ (((status ≡ 2) × TellsNoTask (s.content file) output) ⊎ ((q : ProblemParts) × (t : TaskParts) × TellsTask (s.content file) q t × GetsNotes s other q t status output)) → NotesWays s file other status output
-  told_ways (inl f) = inr (inr (inr (inr (f.has_status, inl f))))
-  told_ways (inr (inl h)) = inr (inr (inl (h.0, inl h.1)))
-  told_ways (inr (inr (q, t, tells, g))) = got_ways q t tells g
+pub notes_long : (text : List ℕ) → MAX_TEXT_BYTES < length text → (PosesSomeTask text → ⊥) × ((bytes : List ℕ) → OutlineCheckReply text bytes 2 too_long_line)
+notes_long text past = notes_unposed text 2 too_long_line (refl, inl (long_problem text past))
 
-  answers : NotesWays s file other status output → (status ≡ 0) ⊎ ((status ≡ 2) ⊎ ((status ≡ 3) ⊎ (status ≡ 4)))
-  answers (inl h) = inl h.0
-  answers (inr (inl h)) = absurd h.1
-  answers (inr (inr (inl h))) = inr (inl h.0)
-  answers (inr (inr (inr (inl h)))) = inr (inr (inl h.0))
-  answers (inr (inr (inr (inr h)))) = inr (inr (inr h.0))
+-- the reply to the triple of a text, and bytes
+pub notes_posed : (text : List ℕ) (q : ProblemParts) (t : TaskParts) → PosesTask text q t → (bytes : List ℕ) (status : ℕ) (output : List ℕ) → ChecksNotes bytes q t status output → OutlineCheckReply text bytes status output
+notes_posed text q t poses bytes status output r = outline_check_reply text bytes status output (posed_task text (ChecksNotes bytes) status output q t poses r)
 
-  -- what is taken of files that the shelf tells
-  taken_bytes : (bytes : List ℕ) → s.content other ≡ Holds bytes → (FailsOn s other → ⊥) → (f : FileParts) (q : ProblemParts) → TakesTask (GetsNotes s other) f q status output → TakesTask (ChecksNotes bytes) f q status output
-  taken_bytes bytes is unfailed f q (inl r) = inl r
-  taken_bytes bytes is unfailed f q (inr (t, has, g)) = inr (t, has, gets_bytes s other (λ b. ChecksNotes b q t) bytes status output is unfailed g)
+small_checked : (bytes : List ℕ) (q : ProblemParts) (t : TaskParts) (status : ℕ) (output : List ℕ) → ChecksNotes bytes q t status output → status < 4
+small_checked bytes q t status output (inl r) = small_status status (inr (inr (inl r.0)))
+small_checked bytes q t status output (inr (ns, s, inl a)) = small_status status (inl a.has_status)
+small_checked bytes q t status output (inr (ns, s, inr r)) = small_status status (inr (inr (inr r.has_status)))
 
-  pub notes_causes : ChecksNoteFiles s file other status output → NotesCauses s file other status output
-  notes_causes r =
-      let ways : NotesWays s file other status output = told_ways (gets_task s file (GetsNotes s other) status output r) in
-      record {
-        headline = λ text bytes q is holds unfailed asks.
-            let got = gets_text s file (λ f. AbstractsFile f (λ a. TakesTask (GetsNotes s other) f a.problem)) status output text is (λ f. unfailed f.0) r in
-            notes_headline bytes asks.file q status output (taken_bytes bytes holds (λ f. unfailed f.0) asks.file q (asks_takes text (GetsNotes s other) status output q asks got));
-        same_stores = λ text f is unfailed reads concrete zero. let t = at_zero status _ _ _ _ _ ways zero in told_agrees (s.content file) t.question t.holds.tells.poses t.same text f is reads concrete;
-        declined = λ text line is unfailed none. asks_none text (GetsNotes s other) status output line none (gets_text s file (λ f. AbstractsFile f (λ a. TakesTask (GetsNotes s other) f a.problem)) status output text is unfailed r);
-        accepted = at_zero status _ _ _ _ _ ways;
-        refused = at_two status _ _ _ _ _ ways;
-        rejected = at_three status _ _ _ _ _ ways;
-        failed = at_four status _ _ _ _ _ ways;
-        answers = answers ways;
-      }
+pub outline_check_one : (text bytes : List ℕ) → HasOneReply (OutlineCheckReply text bytes) ⊥
+outline_check_one text bytes = record {
+  small = λ status output r. inl (task_small text (ChecksNotes bytes) (small_checked bytes) status output r.replies);
+  once = λ a b o p x y. asks_once text (ChecksNotes bytes) (notes_once bytes) a b o p x.replies y.replies;
+}

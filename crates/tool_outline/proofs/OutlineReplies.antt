@@ -1,6 +1,7 @@
--- The reply of `outline` to a file is the statement on the question, and has its cause.
+-- The reply of `outline` to a text satisfies the statement on the question.
 use Rattle.std.proofs.Common.{◌≡◌, ◌⊎◌, ◌<◌, ◌^◌, ℕ, List, [], ◌∷◌, ◌++◌, map, length, Option, None, Some, MatchOption, inl, inr, ⊎_elim, refl, sym, subst, ◌∙◌, arith}
 use Rattle.std.proofs.lemmas.Option.{slice_get_within}
+use Rattle.kat_model.specs.declared.limits.TheConstants.{MAX_TESTS}
 use Rattle.kat_model.specs.Members.{Has}
 use Rattle.kat_model.specs.Problems.{ProblemParts, IsProblem}
 use Rattle.kat_model.specs.Relations.{Same}
@@ -15,20 +16,22 @@ use Rattle.outline_notes.specs.NoteLists.{NotesParts, AreNotes}
 use Rattle.outline_notes.specs.Texts.{node_numbers, IsNarrow, AreNarrowNotes}
 use Rattle.outline_rules.specs.Tasks.{TaskParts}
 use Rattle.outline_rules.specs.Follows.{Follows, HasTests}
-use Rattle.tool_inputs.specs.Asking.{Asks}
-use Rattle.tool_inputs.specs.Steps.{ShelfUse, HasFailedOn, AbstractsFile}
+use Rattle.tool_inputs.specs.FileProblem.{Asks}
+use Rattle.kat_report.specs.InputLines.{too_long_line}
+use Rattle.tool_inputs.specs.Steps.{AbstractsFile}
 use Rattle.tool_decide.specs.Decide.{IsDifferent, IsDecided}
-use Rattle.tool_outline.specs.Triples.{HasTask, HasNoTask, TakesTask, TellsTask, TellsNoTask}
-use Rattle.tool_outline.specs.Outline.{IsNoted, IsOutlined, OutlinesText, Outlines, OutlineHeadline, TellsNoted, OutlineCauses}
-use Rattle.tool_decide.proofs.Decided.{small}
-use Rattle.tool_inputs.proofs.Steps.{OneStatus, reads_said, gets_text}
-use Rattle.tool_inputs.proofs.StoreSentences.{asked_agrees, told_agrees}
-use Rattle.tool_outline.proofs.Triples.{takes_task, takes_none, asks_once, asks_takes, asks_none, gets_task}
-use Rattle.tool_inputs.proofs.Ways.{Ways, at_zero, at_one, at_two, at_four}
+use Rattle.tool_outline.specs.Triples.{HasTask, HasNoTask, TakesTask}
+use Rattle.tool_outline.specs.Outline.{IsNoted, IsOutlined, OutlinesText, OutlineHeadline, OutlineReply}
+use Rattle.tool_decide.proofs.Decided.{small, few_tests}
+use Rattle.tool_inputs.proofs.Steps.{OneStatus, reads_said, small_status, text_long}
+use Rattle.tool_inputs.proofs.FileReplies.{RefusesLong, HasOneReply}
+use Rattle.tool_inputs.proofs.StoreSentences.{asked_agrees}
+use Rattle.tool_outline.proofs.Triples.{takes_task, takes_none, asks_once, asks_takes, asks_none, task_small}
+use Rattle.tool_inputs.proofs.Ways.{Ways, at_zero, at_one, at_two}
 
--- ---- notes over the tests of a problem are notes of the program
+-- ---- the numbers in notes fit in 64 bits
 
--- what is so of the line of each node and of each note is so of all lines
+-- a property of the line of each node and of each note holds for all lines
 each_line : {L : Type 0} (P : L → Type 0) (f : NoteNode → L) (g : ℕ → L) (nodes : List NoteNode) (notes : List ℕ) → ((node : NoteNode) → Has nodes node → P (f node)) → ((n : ℕ) → Has notes n → P (g n)) → (l : L) → Has (map f nodes ++ map g notes) l → P l
 each_line P f g nodes notes node note l h =
     ⊎_elim (λ m. let x = has_map f nodes l m in subst P x.2 (node x.0 x.1)) (λ m. let x = has_map g notes l m in subst P x.2 (note x.0 x.1)) (has_append (map f nodes) (map g notes) l h)
@@ -39,7 +42,7 @@ module _ (q : ProblemParts) (problem : IsProblem q) (ns : NotesParts) (has : Has
   narrow_node True h k m = absurd m
   narrow_node (Branch test low high) h k m =
       ⊎_elim
-      (λ e. subst (λ n. n < 2 ^ 64) e (small test q.tests (has test low high h) problem.tests))
+      (λ e. subst (λ n. n < 2 ^ 64) e (small MAX_TESTS test q.tests few_tests (has test low high h) problem.tests))
       (λ part.
       let place = place_of_member ns.nodes (Branch test low high) h in
       let before = are.ordered place.0 (Branch test low high) place.1 k part in
@@ -55,7 +58,7 @@ module _ (q : ProblemParts) (problem : IsProblem q) (ns : NotesParts) (has : Has
 
 -- ---- the reply to a problem and its triple
 
--- what a call of `outline` says of its answer
+-- what the contract of `outline` says about its answer
 module _ (q : ProblemParts) (t : TaskParts) (o : Option NotesParts) (told : MatchOption o (Same q → ⊥) (λ notes. Same q × Follows q t notes)) where
   abbrev IsTold : Option NotesParts → Type 0
   IsTold x = MatchOption x (Same q → ⊥) (λ notes. Same q × Follows q t notes)
@@ -66,12 +69,12 @@ module _ (q : ProblemParts) (t : TaskParts) (o : Option NotesParts) (told : Matc
   pub none_at : o ≡ None → Same q → ⊥
   none_at is = subst IsTold is told
 
--- where the triple does not hold, the decision is a string
+-- if the triple does not hold, the decision is a string
 pub fails_decided : (q : ProblemParts) (status : ℕ) (output : List ℕ) → (Same q → ⊥) → IsDecided q status output → (status ≡ 1) × IsDifferent q output
 fails_decided q status output fails (inl h) = absurd (fails h.1.same)
 fails_decided q status output fails (inr h) = h
 
--- the ways in which it comes
+-- the possible statuses, each with its cause
 abbrev TakenWays : FileParts → ProblemParts → ℕ → List ℕ → Type 0
 TakenWays f q status output =
     Ways status ((t : TaskParts) × HasTask f q t × IsNoted q t output) ((t : TaskParts) × HasTask f q t × IsDifferent q output) (HasNoTask f q output) ⊥ ⊥
@@ -120,13 +123,10 @@ outlined_once q t a b o p (inr x) (inr y) = x.0 ∙ sym y.0
 
 -- ---- the reply to a text
 
-pub outlines_once : (text : List ℕ) → OneStatus (OutlinesText text)
-outlines_once text = asks_once text IsOutlined outlined_once
-
 pub text_headline : (text : List ℕ) (status : ℕ) (output : List ℕ) (q : ProblemParts) (asks : Asks text q) → OutlinesText text status output → OutlineHeadline asks.file q status output
 text_headline text status output q asks r = outlined_headline asks.file q status output (asks_takes text IsOutlined status output q asks r)
 
--- the goal of a concrete file holds of all its stores where the status is 0
+-- if the status is 0, the goal of a concrete file holds for all its stores
 pub text_stores : (text : List ℕ) (status : ℕ) (output : List ℕ) (f : FileParts) → Reads text f → IsConcrete f → OutlinesText text status output → status ≡ 0 → Agrees f
 text_stores text status output f reads concrete r zero = stores (reads_said text (λ g. AbstractsFile g (λ a. TakesTask IsOutlined g a.problem)) status output f reads r)
   where
@@ -136,43 +136,25 @@ text_stores text status output f reads concrete r zero = stores (reads_said text
         let asks : Asks text a.problem = record { file = f; reads = reads; abstract = a; is_abstract = is; question = refl } in
         asked_agrees text a.problem asks ((outlined_headline f a.problem status output taken).noted.0 zero).2 concrete
 
--- ---- the reply to a file
+-- ---- what the reply says
 
--- the ways in which it comes
-abbrev OutlineWays : ShelfUse → List ℕ → ℕ → List ℕ → Type 0
-OutlineWays s file status output =
-    Ways status
-    (TellsNoted (s.content file) output)
-    ((q : ProblemParts) × (t : TaskParts) × TellsTask (s.content file) q t × IsDifferent q output)
-    (TellsNoTask (s.content file) output)
-    ⊥
-    (HasFailedOn s file status output)
+pub outline_reply : (text : List ℕ) (status : ℕ) (output : List ℕ) → OutlinesText text status output → OutlineReply text status output
+outline_reply text status output r = record {
+  replies = r;
+  headline = λ q asks. text_headline text status output q asks r;
+  stores = λ f reads concrete zero. text_stores text status output f reads concrete r zero;
+  declined = λ line none. asks_none text IsOutlined status output line none r;
+}
 
-module _ (s : ShelfUse) (file : List ℕ) (status : ℕ) (output : List ℕ) where
-  told_ways : HasFailedOn s file status output ⊎ (((status ≡ 2) × TellsNoTask (s.content file) output) ⊎ ((q : ProblemParts) × (t : TaskParts) × TellsTask (s.content file) q t × IsOutlined q t status output)) → OutlineWays s file status output
-  told_ways (inl f) = inr (inr (inr (inr (f.has_status, f))))
-  told_ways (inr (inl h)) = inr (inr (inl h))
-  told_ways (inr (inr (q, t, tells, inl h))) =
-      inl (h.0, record { question = q; task = t; tells = tells; is_noted = h.1; stores = asked_agrees tells.poses.text q tells.poses.asks h.1.same })
-  told_ways (inr (inr (q, t, tells, inr h))) = inr (inl (h.0, (q, t, tells, h.1)))
+pub outline_long : RefusesLong OutlineReply
+outline_long text past = outline_reply text 2 too_long_line (text_long text (λ f. AbstractsFile f (λ a. TakesTask IsOutlined f a.problem)) past)
 
-  answers : OutlineWays s file status output → (status ≡ 0) ⊎ ((status ≡ 1) ⊎ ((status ≡ 2) ⊎ (status ≡ 4)))
-  answers (inl h) = inl h.0
-  answers (inr (inl h)) = inr (inl h.0)
-  answers (inr (inr (inl h))) = inr (inr (inl h.0))
-  answers (inr (inr (inr (inl h)))) = absurd h.1
-  answers (inr (inr (inr (inr h)))) = inr (inr (inr h.0))
+small_outlined : (q : ProblemParts) (t : TaskParts) (status : ℕ) (output : List ℕ) → IsOutlined q t status output → status < 4
+small_outlined q t status output (inl h) = small_status status (inl h.0)
+small_outlined q t status output (inr h) = small_status status (inr (inl h.0))
 
-  pub outline_causes : Outlines s file status output → OutlineCauses s file status output
-  outline_causes r =
-      let ways : OutlineWays s file status output = told_ways (gets_task s file IsOutlined status output r) in
-      record {
-        headline = λ text q is unfailed asks. text_headline text status output q asks (gets_text s file (λ f. AbstractsFile f (λ a. TakesTask IsOutlined f a.problem)) status output text is (λ f. unfailed f.0) r);
-        same_stores = λ text f is unfailed reads concrete zero. let t = at_zero status _ _ _ _ _ ways zero in told_agrees (s.content file) t.question t.tells.poses t.is_noted.same text f is reads concrete;
-        declined = λ text line is unfailed none. asks_none text IsOutlined status output line none (gets_text s file (λ f. AbstractsFile f (λ a. TakesTask IsOutlined f a.problem)) status output text is unfailed r);
-        noted = at_zero status _ _ _ _ _ ways;
-        fails = at_one status _ _ _ _ _ ways;
-        refused = at_two status _ _ _ _ _ ways;
-        failed = at_four status _ _ _ _ _ ways;
-        answers = answers ways;
-      }
+pub outline_one : (text : List ℕ) → HasOneReply (OutlineReply text) ⊥
+outline_one text = record {
+  small = λ status output r. inl (task_small text IsOutlined small_outlined status output r.replies);
+  once = λ a b o p x y. asks_once text IsOutlined outlined_once a b o p x.replies y.replies;
+}

@@ -1,15 +1,14 @@
 -- A text asks one triple or has one reason why it asks none.
-use Rattle.std.proofs.Common.{◌≡◌, ◌⊎◌, ℕ, List, None, Some, Result, Ok, Err, inl, inr, ⊎_elim, refl, sym, ap, subst, ◌∙◌, arith}
+use Rattle.std.proofs.Common.{◌≡◌, ◌<◌, ℕ, List, None, Some, Result, Ok, Err, inl, inr, ⊎_elim, refl, sym, ap, subst, ◌∙◌, arith}
 use Rattle.std.proofs.lemmas.Bool.{cases_lt}
 use Rattle.std.proofs.lemmas.Option.{same_Some, none-some}
-use Rattle.kat_model.specs.declared.limits.TheConstants.{MAX_TEXT_BYTES}
 use Rattle.kat_model.specs.Trees.{Term}
 use Rattle.kat_model.specs.Problems.{ProblemParts}
 use Rattle.kat_model.proofs.Places.{has_at}
 use Rattle.goal_forms.specs.Sides.{triple_sides}
 use Rattle.while_lang.specs.Encoding.{encoded}
 use Rattle.problem_file.specs.Files.{term_side, prog_side, GoalTree, equal, below, triple, FileParts}
-use Rattle.problem_file.specs.Reads.{Reads}
+use Rattle.problem_file.specs.Reads.{Reads, FirstFault}
 use Rattle.abstraction.specs.Tables.{Tables}
 use Rattle.abstraction.specs.Rounds.{tables_of}
 use Rattle.abstraction.specs.Goals.{goal_sides}
@@ -17,22 +16,21 @@ use Rattle.abstraction.specs.Abstracts.{AbstractParts, abstract_of}
 use Rattle.abstraction.specs.ShownTables.{shown_tables}
 use Rattle.abstraction.proofs.DerivedHypotheses.{abstract_parts_of}
 use Rattle.abstraction.proofs.ShownRows.{shown_tables-abstract_of}
-use Rattle.simple_hyps.specs.TestTerms.{IsNotSimple}
+use Rattle.hypothesis_kinds.specs.TestTerms.{IsNotSimple}
 use Rattle.outline_rules.specs.Tasks.{TaskParts, task_parts, IsTripleOf}
 use Rattle.outline_rules.specs.declared.task.Task.{Task}
 use Rattle.tool_inputs.specs.declared.reply.Reply.{Reply}
-use Rattle.tool_inputs.specs.declared.reply.Stop.{Stop}
+use Rattle.tool_inputs.specs.declared.reply.EarlyEnd.{EarlyEnd}
 use Rattle.tool_outline.specs.declared.triple.Triple.{Triple}
-use Rattle.tool_inputs.specs.Asking.{Asks}
-use Rattle.tool_inputs.specs.Held.{IsGiven}
-use Rattle.tool_inputs.specs.Posing.{IsFaulty, AsksNone}
-use Rattle.tool_outline.specs.OutlineLines.{not_a_triple_line, not_simple_line}
-use Rattle.tool_outline.specs.Triples.{goal_task, file_task, HasTask, TellsNotSimple, HasNoTask, TakesTask, AsksTask, PosesTask, PosesNoTask, TellsTask, TellsNoTask}
-use Rattle.tool_inputs.specs.Steps.{ShelfUse, Replying, IsRefusal, HasFailedOn, GetsText, AbstractsFile}
-use Rattle.tool_inputs.specs.Outcomes.{IsOutcome, IsReplied}
+use Rattle.tool_inputs.specs.FileProblem.{Asks}
+use Rattle.tool_inputs.specs.TextProblem.{IsFaulty, HasNoAbstraction}
+use Rattle.kat_report.specs.OutlineLines.{not_a_triple_line, not_simple_line}
+use Rattle.tool_outline.specs.Triples.{goal_task, file_task, HasTask, TellsNotSimple, HasNoTask, TakesTask, AsksTask, PosesTask, PosesNoTask, PosesSomeTask}
+use Rattle.tool_inputs.specs.Steps.{ReplySpec, IsRefusal, AbstractsFile}
+use Rattle.tool_inputs.specs.ReplySpecs.{Yields, RepliesWith}
 use Rattle.tool_outline.specs.Working.FileTriples.{IsSimpleTriple, IsTripleOfFile, AsksNoTask}
-use Rattle.tool_inputs.proofs.Outcomes.{IsStop-weaker, IsOutcome-refused, IsReplied-weaker}
-use Rattle.tool_inputs.proofs.Steps.{OneStatus, reads_said, reads_once, abstracts_as, abstracts_once, abstracted_none}
+use Rattle.tool_inputs.proofs.ReplySpecs.{EndsWith-weaker, Yields-refused, RepliesWith-weaker}
+use Rattle.tool_inputs.proofs.Steps.{OneStatus, reads_said, reads_once, abstracts_as, abstracts_once, abstracted_none, small_status, reads_small, abstracts_small}
 
 -- ---- the triple of a file
 
@@ -48,13 +46,13 @@ task_is_triple f a task made is =
     let P : AbstractParts → Type 0 = λ b. IsTripleOf b.problem task in
     subst P (abstract_parts_of f a made) (task_sides (tables_of f) f.goal task is)
 
--- by the rows that an abstraction shows the goal has the file's task
+-- the rows that an abstraction shows give the goal the task of the file
 pub shown_task : (f : FileParts) (a : AbstractParts) (g : GoalTree) → abstract_of f ≡ Ok a → g ≡ f.goal → goal_task (shown_tables a) g ≡ file_task f
 shown_task f a g made same = ap (λ t. goal_task t g) (shown_tables-abstract_of f a made) ∙ ap (λ h. goal_task (tables_of f) h) same
 
--- ---- what the parts of the program find
+-- ---- the results of the parts of the program
 
--- of a file
+-- the triple of a file, or why it has none
 module _ (f : FileParts) (a : AbstractParts) (made : abstract_of f ≡ Ok a) where
   pub no_triple : (status : ℕ) (output : List ℕ) → file_task f ≡ None → (status ≡ 2) × (output ≡ not_a_triple_line) → IsRefusal (AsksNoTask f) status output
   no_triple status output none h = (h.0, inr (a, made, inl (record { none = none; printed = h.1 })))
@@ -63,29 +61,29 @@ module _ (f : FileParts) (a : AbstractParts) (made : abstract_of f ≡ Ok a) whe
     not_simple : (status : ℕ) (output : List ℕ) → IsRefusal (TellsNotSimple a.problem.hyps) status output → IsRefusal (AsksNoTask f) status output
     not_simple status output h = (h.0, inr (a, made, inr (task_parts task, is, h.1)))
 
-    pub simple_of_file : (result : Result Triple Stop) → IsOutcome (IsSimpleTriple a task) (IsRefusal (TellsNotSimple a.problem.hyps)) result → IsOutcome (IsTripleOfFile f) (IsRefusal (AsksNoTask f)) result
+    pub simple_of_file : (result : Result Triple EarlyEnd) → Yields (IsSimpleTriple a task) (IsRefusal (TellsNotSimple a.problem.hyps)) result → Yields (IsTripleOfFile f) (IsRefusal (AsksNoTask f)) result
     simple_of_file (Ok t) s =
         let P : Task → Type 0 = λ u. HasTask f a.problem (task_parts u) in
         record { abstract = a; is_abstract = made; problem = s.problem; task = subst P (sym s.task) (record { is_task = is; simple = s.simple }) }
-    simple_of_file (Err stop) s = IsStop-weaker (IsRefusal (TellsNotSimple a.problem.hyps)) (IsRefusal (AsksNoTask f)) not_simple stop s
+    simple_of_file (Err stop) s = EndsWith-weaker (IsRefusal (TellsNotSimple a.problem.hyps)) (IsRefusal (AsksNoTask f)) not_simple stop s
 
-pub no_abstract : (f : FileParts) (result : Result Triple Stop) → IsOutcome (λ t. ⊥) (IsRefusal (AsksNone f)) result → IsOutcome (IsTripleOfFile f) (IsRefusal (AsksNoTask f)) result
-no_abstract f result r = IsOutcome-refused (IsTripleOfFile f) (IsRefusal (AsksNone f)) (IsRefusal (AsksNoTask f)) (λ status output h. (h.0, inl h.1)) result r
+pub no_abstract : (f : FileParts) (result : Result Triple EarlyEnd) → Yields (λ t. ⊥) (IsRefusal (HasNoAbstraction f)) result → Yields (IsTripleOfFile f) (IsRefusal (AsksNoTask f)) result
+no_abstract f result r = Yields-refused (IsTripleOfFile f) (IsRefusal (HasNoAbstraction f)) (IsRefusal (AsksNoTask f)) (λ status output h. (h.0, inl h.1)) result r
 
--- of a text
+-- the triple of a text, or why it has none
 module _ (text : List ℕ) where
   abbrev IsPosed : Triple → Type 0
   IsPosed t = PosesTask text t.problem (task_parts t.task)
 
-  pub no_file : (result : Result Triple Stop) → IsOutcome (λ t. ⊥) (IsRefusal (IsFaulty text)) result → IsOutcome IsPosed (IsRefusal (PosesNoTask text)) result
-  no_file result r = IsOutcome-refused IsPosed (IsRefusal (IsFaulty text)) (IsRefusal (PosesNoTask text)) (λ status output h. (h.0, inl (inl h.1))) result r
+  pub no_file : (result : Result Triple EarlyEnd) → Yields (λ t. ⊥) (IsRefusal (IsFaulty text)) result → Yields IsPosed (IsRefusal (PosesNoTask text)) result
+  no_file result r = Yields-refused IsPosed (IsRefusal (IsFaulty text)) (IsRefusal (PosesNoTask text)) (λ status output h. (h.0, inl (inl h.1))) result r
 
   module _ (f : FileParts) (reads : Reads text f) where
     none_posed : (status : ℕ) (output : List ℕ) → IsRefusal (AsksNoTask f) status output → IsRefusal (PosesNoTask text) status output
     none_posed status output (two, inl none) = (two, inl (inr (f, reads, none)))
     none_posed status output (two, inr (a, made, none)) = (two, inr (a.problem, record { file = f; reads = reads; abstract = a; is_abstract = made; question = refl }, none))
 
-    pub file_posed : (result : Result Triple Stop) → IsOutcome (IsTripleOfFile f) (IsRefusal (AsksNoTask f)) result → IsOutcome IsPosed (IsRefusal (PosesNoTask text)) result
+    pub file_posed : (result : Result Triple EarlyEnd) → Yields (IsTripleOfFile f) (IsRefusal (AsksNoTask f)) result → Yields IsPosed (IsRefusal (PosesNoTask text)) result
     file_posed (Ok t) h =
         let task : TaskParts = task_parts t.task in
         let P : ProblemParts → Type 0 = λ p. HasTask f p task in
@@ -95,7 +93,7 @@ module _ (text : List ℕ) where
           task = subst P (sym h.problem) h.task;
           sides = subst S (sym h.problem) (task_is_triple f h.abstract task h.is_abstract h.task.is_task);
         }
-    file_posed (Err stop) h = IsStop-weaker (IsRefusal (AsksNoTask f)) (IsRefusal (PosesNoTask text)) none_posed stop h
+    file_posed (Err stop) h = EndsWith-weaker (IsRefusal (AsksNoTask f)) (IsRefusal (PosesNoTask text)) none_posed stop h
 
 -- ---- one triple, or one reason
 
@@ -116,7 +114,7 @@ module _ (f : FileParts) (q : ProblemParts) where
   task_or_none t line has (inl n) = none-some t (sym n.none ∙ has.is_task)
   task_or_none t line has (inr n) = let l = n.2.least in l.not_simple (has.simple l.hyp (has_at q.hyps n.2.hyp l.hyp l.place))
 
-  module _ (GoesOn : ProblemParts → TaskParts → Replying) where
+  module _ (GoesOn : ProblemParts → TaskParts → ReplySpec) where
     module _ (status : ℕ) (output : List ℕ) where
       pub takes_task : (t : TaskParts) → HasTask f q t → TakesTask GoesOn f q status output → GoesOn q t status output
       takes_task t has (inl r) = absurd (task_or_none t output has r.1)
@@ -132,14 +130,14 @@ module _ (f : FileParts) (q : ProblemParts) where
 
 -- ---- the triple of a text
 
-module _ (text : List ℕ) (GoesOn : ProblemParts → TaskParts → Replying) where
+module _ (text : List ℕ) (GoesOn : ProblemParts → TaskParts → ReplySpec) where
   pub asks_once : ((q : ProblemParts) (t : TaskParts) → OneStatus (GoesOn q t)) → OneStatus (AsksTask text GoesOn)
   asks_once once =
       reads_once text (λ f. AbstractsFile f (λ a. TakesTask GoesOn f a.problem))
       (λ f. abstracts_once f (λ a. TakesTask GoesOn f a.problem) (λ a. takes_once f a.problem GoesOn (once a.problem)))
 
   module _ (status : ℕ) (output : List ℕ) where
-    -- the question of the text is taken
+    -- the reply to a text with a question is the reply to this question
     pub asks_takes : (q : ProblemParts) (asks : Asks text q) → AsksTask text GoesOn status output → TakesTask GoesOn asks.file q status output
     asks_takes q asks r =
         subst (λ p. TakesTask GoesOn asks.file p status output) (sym asks.question)
@@ -149,7 +147,7 @@ module _ (text : List ℕ) (GoesOn : ProblemParts → TaskParts → Replying) wh
     asks_none line (inl none) r = abstracted_none text (λ f a. TakesTask GoesOn f a.problem) status output line none r
     asks_none line (inr n) r = takes_none n.1.file n.0 GoesOn status output line n.2 (asks_takes n.0 n.1 r)
 
-    -- what the parts of the program reply
+    -- the reply to a text that asks no triple, and to one that asks a triple
     pub no_task : IsRefusal (PosesNoTask text) status output → AsksTask text GoesOn status output
     no_task (two, inl (inl faulty)) = inl (two, faulty)
     no_task (two, inl (inr (f, says, n))) = inr (f, says, inl (two, n))
@@ -164,37 +162,25 @@ module _ (text : List ℕ) (GoesOn : ProblemParts → TaskParts → Replying) wh
         let P : ProblemParts → Type 0 = λ p. TakesTask GoesOn asks.file p status output in
         inr (asks.file, asks.reads, inr (asks.abstract, asks.is_abstract, subst P asks.question (inr (t, poses.task, g))))
 
-  pub no_task_replied : (result : Result Reply Stop) → IsReplied (IsRefusal (PosesNoTask text)) result → IsReplied (AsksTask text GoesOn) result
-  no_task_replied result r = IsReplied-weaker (IsRefusal (PosesNoTask text)) (AsksTask text GoesOn) no_task result r
+  pub no_task_replied : (result : Result Reply EarlyEnd) → RepliesWith (IsRefusal (PosesNoTask text)) result → RepliesWith (AsksTask text GoesOn) result
+  no_task_replied result r = RepliesWith-weaker (IsRefusal (PosesNoTask text)) (AsksTask text GoesOn) no_task result r
 
-  pub task_replied : (q : ProblemParts) (t : TaskParts) → PosesTask text q t → (result : Result Reply Stop) → IsReplied (GoesOn q t) result → IsReplied (AsksTask text GoesOn) result
-  task_replied q t poses result r = IsReplied-weaker (GoesOn q t) (AsksTask text GoesOn) (λ status output h. posed_task status output q t poses h) result r
+  pub task_replied : (q : ProblemParts) (t : TaskParts) → PosesTask text q t → (result : Result Reply EarlyEnd) → RepliesWith (GoesOn q t) result → RepliesWith (AsksTask text GoesOn) result
+  task_replied q t poses result r = RepliesWith-weaker (GoesOn q t) (AsksTask text GoesOn) (λ status output h. posed_task status output q t poses h) result r
 
--- ---- the triple of a file's text
+-- the status is below 4 if the status of the reply to a triple is
+pub task_small : (text : List ℕ) (GoesOn : ProblemParts → TaskParts → ReplySpec) → ((q : ProblemParts) (t : TaskParts) (status : ℕ) (output : List ℕ) → GoesOn q t status output → status < 4) → (status : ℕ) (output : List ℕ) → AsksTask text GoesOn status output → status < 4
+task_small text GoesOn small =
+    reads_small (Reads text) (FirstFault text) (λ f. AbstractsFile f (λ a. TakesTask GoesOn f a.problem))
+    (λ f status output reads r. abstracts_small f (λ a. TakesTask GoesOn f a.problem) (λ a. takes_small f a.problem) status output r)
+  where
+    takes_small : (f : FileParts) (q : ProblemParts) (status : ℕ) (output : List ℕ) → TakesTask GoesOn f q status output → status < 4
+    takes_small f q status output (inl r) = small_status status (inr (inr (inl r.0)))
+    takes_small f q status output (inr (t, has, g)) = small q t status output g
 
-module _ (s : ShelfUse) (file : List ℕ) (GoesOn : ProblemParts → TaskParts → Replying) (status : ℕ) (output : List ℕ) where
-  -- the reply to a file, by what the text that it may hold asks
-  pub gets_task : GetsText s file (λ text. AsksTask text GoesOn) status output
-      → HasFailedOn s file status output ⊎ (((status ≡ 2) × TellsNoTask (s.content file) output) ⊎ ((q : ProblemParts) × (t : TaskParts) × TellsTask (s.content file) q t × GoesOn q t status output))
-  gets_task (inl f) = inl f
-  gets_task (inr (inl r)) = inr (inl (r.0, inl (inl r.1)))
-  gets_task (inr (inr (text, given, inl r))) = inr (inl (r.0, inl (inr (text, given, inl r.1))))
-  gets_task (inr (inr (text, given, inr (f, says, inl r)))) = inr (inl (r.0, inl (inr (text, given, inr (f, says, r.1)))))
-  gets_task (inr (inr (text, given, inr (f, says, inr (a, is, inl r))))) =
-      inr (inl (r.0, inr (a.problem, record { text = text; given = given; asks = record { file = f; reads = says; abstract = a; is_abstract = is; question = refl } }, r.1)))
-  gets_task (inr (inr (text, given, inr (f, says, inr (a, is, inr g))))) =
-      inr (inr (a.problem, g.0, record { poses = record { text = text; given = given; asks = record { file = f; reads = says; abstract = a; is_abstract = is; question = refl } }; task = g.1; sides = task_is_triple f a g.0 is g.1.is_task }, g.2))
-
--- the parts of a reply to files, put together
-module _ (s : ShelfUse) (file text items : List ℕ) (GoesOn : ProblemParts → TaskParts → Replying) (same : text ≡ items) (given : IsGiven (s.content file) (Some MAX_TEXT_BYTES) items) (result : Result Reply Stop) where
-  given_text : IsGiven (s.content file) (Some MAX_TEXT_BYTES) text
-  given_text = subst (IsGiven (s.content file) (Some MAX_TEXT_BYTES)) (sym same) given
-
-  replied_task : IsReplied (AsksTask text GoesOn) result → IsReplied (GetsText s file (λ t. AsksTask t GoesOn)) result
-  replied_task r = IsReplied-weaker (AsksTask text GoesOn) (GetsText s file (λ t. AsksTask t GoesOn)) (λ status output h. inr (inr (text, given_text, h))) result r
-
-  pub none_got : IsReplied (IsRefusal (PosesNoTask text)) result → IsReplied (GetsText s file (λ t. AsksTask t GoesOn)) result
-  none_got r = replied_task (no_task_replied text GoesOn result r)
-
-  pub task_got : (q : ProblemParts) (t : TaskParts) → PosesTask text q t → IsReplied (GoesOn q t) result → IsReplied (GetsText s file (λ t. AsksTask t GoesOn)) result
-  task_got q t poses r = replied_task (task_replied text GoesOn q t poses result r)
+-- no text both asks a triple and has a reason why it asks none
+pub task_or_no_task : (text : List ℕ) (line : List ℕ) → PosesNoTask text line → PosesSomeTask text → ⊥
+task_or_no_task text line none (q, t, poses) =
+    let AnyReply : ProblemParts → TaskParts → ReplySpec = λ p u status output. Unit {0} in
+    let r = asks_none text AnyReply 0 line line none (posed_task text AnyReply 0 line q t poses tt) in
+    absurd (omega (arith, r.0))

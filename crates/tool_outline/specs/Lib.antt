@@ -1,4 +1,3 @@
-pub mod OutlineLines
 pub mod Triples
 pub mod OutlineCheck
 pub mod Outline

@@ -4,9 +4,8 @@
 mod files;
 mod outline;
 mod outline_check;
-mod outline_lines;
 mod text;
 mod triple;
 
-pub use files::{notes_files, outline_file};
-pub use text::{notes_reply, outline_reply};
+pub use files::{outline_check_files, outline_file};
+pub use text::{outline_bytes, outline_check_bytes};

@@ -1,31 +1,32 @@
-//! `outline` of a file: the reply to a text is notes that prove the triple that it asks, or evidence that it fails.
+//! `outline` of a file: replies to a text with notes that prove the triple that it asks, or with evidence that it
+//! fails.
 ghost use Rattle.std.specs.Prelude.{IfOk};
-ghost use Rattle.simple_hyps.specs.TestTerms.{AreSimple};
+ghost use Rattle.hypothesis_kinds.specs.TestTerms.{AreSimple};
 ghost use Rattle.outline_notes.specs.Texts.{AreNarrowNotes};
 ghost use Rattle.outline_rules.specs.Tasks.{task_parts, IsTripleOf};
 ghost use Rattle.outline_rules.specs.Follows.{HasTests};
 ghost use Rattle.tool_outline.specs.OutlineCheck.{SpellsNotes};
 ghost use Rattle.tool_outline.specs.Outline.{IsOutlined, OutlinesText};
-ghost use Rattle.tool_inputs.specs.Outcomes.{IsReplied};
+ghost use Rattle.tool_inputs.specs.ReplySpecs.{RepliesWith};
 
 use crate::triple::triple_in;
 use hoare_outlines::{Notes, Task, outline, write_notes};
 use kat_model::{NoMemory, Problem};
 use std::alloc::Global;
 use tool_decide::{count, decide_reply};
-use tool_inputs::{Reply, Stop};
+use tool_inputs::{EarlyEnd, Reply};
 
-// Notes over the tests of a problem are notes of the program: their numbers are those of nodes and tests.
+// Shows that the numbers in notes over the tests of a problem fit in 64 bits: they are those of nodes and tests.
 fn know_numbers(problem: &Problem, notes: &Notes)
     requires { HasTests problem.now.tests notes.now.nodes }
     ensures { AreNarrowNotes notes.now }
 {
-    // The proof needs the limits of a problem, the rules of notes, and how many nodes there are.
+    // The proof needs the limits of a problem, the rules of notes, and the number of nodes.
     let _ = problem.tests();
     let _ = count(notes.nodes());
 }
 
-// The text of notes over the tests of a problem, which is read as these notes again.
+// Returns the text of notes over the tests of a problem, which reads back as the same notes.
 fn notes_text(alloc: Global, problem: &Problem, notes: &Notes) -> Result<Vec<u8>, NoMemory>
     requires { HasTests problem.now.tests notes.now.nodes }
     ensures { IfOk result (λ v. SpellsNotes v.items notes.now) }
@@ -34,7 +35,7 @@ fn notes_text(alloc: Global, problem: &Problem, notes: &Notes) -> Result<Vec<u8>
     write_notes(alloc, notes)
 }
 
-// The reply to a problem and its triple.
+// Returns the reply to a problem and its triple.
 fn outline_reply(alloc: Global, problem: &Problem, task: &Task) -> Result<Reply, NoMemory>
     requires simple { AreSimple problem.now.hyps }
     requires triple { IsTripleOf problem.now (task_parts task.now) }
@@ -49,9 +50,9 @@ fn outline_reply(alloc: Global, problem: &Problem, task: &Task) -> Result<Reply,
     }
 }
 
-/// The reply to a text.
-pub(crate) fn text_reply(alloc: Global, text: &[u8]) -> Result<Reply, Stop>
-    ensures { IsReplied (OutlinesText text.now) result }
+/// Returns the reply to a text.
+pub(crate) fn text_reply(alloc: Global, text: &[u8]) -> Result<Reply, EarlyEnd>
+    ensures { RepliesWith (OutlinesText text.now) result }
 {
     let triple = triple_in(alloc, text)?;
     Ok(outline_reply(alloc, &triple.problem, &triple.task)?)

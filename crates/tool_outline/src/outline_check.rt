@@ -1,37 +1,36 @@
-//! `outline` of a file and notes: the reply to a text and to bytes is whether they are notes that prove the triple that the
-//! text asks.
+//! `outline` of a file and notes: checks whether bytes are notes that prove the triple that a text asks.
 ghost use Rattle.std.specs.Prelude.{◌≡◌, ◌≢◌, IfOk};
-ghost use Rattle.simple_hyps.specs.TestTerms.{AreSimple};
+ghost use Rattle.hypothesis_kinds.specs.TestTerms.{AreSimple};
 ghost use Rattle.outline_notes.specs.declared.fault.NotesFault.TheVariants.{NoMemory as NoRoom};
 ghost use Rattle.outline_rules.specs.Tasks.{task_parts, IsTripleOf};
-ghost use Rattle.tool_outline.specs.OutlineLines.{notes_fault_line, note_reason_line};
+ghost use Rattle.kat_report.specs.OutlineLines.{notes_fault_line, note_reason_line};
 ghost use Rattle.tool_outline.specs.OutlineCheck.{SpellsNotes, IsNoNotes, AreChecked, ChecksNotes, ChecksNoteTexts};
 ghost use Rattle.tool_inputs.specs.Steps.{IsRefusal};
-ghost use Rattle.tool_inputs.specs.Outcomes.{IsStop, IsOutcome, IsReplied};
+ghost use Rattle.tool_inputs.specs.ReplySpecs.{EndsWith, Yields, RepliesWith};
 
-use crate::outline_lines::{note_reason_line, notes_fault_line};
 use crate::triple::triple_in;
 use hoare_outlines::{NoteAnswer, NoteReason, Notes, NotesFault, Task, check_notes, read_notes};
 use kat_model::{NoMemory, Problem};
+use kat_report::{accepted_outline_line, note_reason_line, notes_fault_line};
 use std::alloc::Global;
-use tool_inputs::{Reply, Stop, line};
+use tool_inputs::{EarlyEnd, Reply, line};
 
-// The reply to bytes with this fault, which is a refusal unless memory ran out.
-fn fault_stop(alloc: Global, fault: NotesFault) -> Stop
-    ensures { IsStop (λ status output. (status ≡ 2) × ((fault ≢ NoRoom) × (output ≡ notes_fault_line fault))) result }
+// Returns the reply to bytes with this fault: a refusal, unless memory ran out.
+fn fault_stop(alloc: Global, fault: NotesFault) -> EarlyEnd
+    ensures { EndsWith (λ status output. (status ≡ 2) × ((fault ≢ NoRoom) × (output ≡ notes_fault_line fault))) result }
 {
     match fault {
-        NotesFault::NoMemory => Stop::NoMemory,
+        NotesFault::NoMemory => EarlyEnd::NoMemory,
         _ => match notes_fault_line(alloc, fault) {
-            Ok(output) => Stop::Replied(Reply { status: 2, output }),
-            Err(NoMemory) => Stop::NoMemory,
+            Ok(output) => EarlyEnd::Replied(Reply { status: 2, output }),
+            Err(NoMemory) => EarlyEnd::NoMemory,
         },
     }
 }
 
-// The notes of which these bytes are the text.
-fn notes_in(alloc: Global, bytes: &[u8]) -> Result<Notes, Stop>
-    ensures { IsOutcome (SpellsNotes bytes.now) (IsRefusal (IsNoNotes bytes.now)) result }
+// Returns the notes whose text is these bytes. Other bytes are refused.
+fn notes_in(alloc: Global, bytes: &[u8]) -> Result<Notes, EarlyEnd>
+    ensures { Yields (SpellsNotes bytes.now) (IsRefusal (IsNoNotes bytes.now)) result }
 {
     match read_notes(alloc, bytes) {
         Ok(notes) => Ok(notes),
@@ -39,7 +38,7 @@ fn notes_in(alloc: Global, bytes: &[u8]) -> Result<Notes, Stop>
     }
 }
 
-// A rejection for this reason.
+// Returns a rejection for this reason.
 fn rejection(alloc: Global, reason: NoteReason) -> Result<Reply, NoMemory>
     ensures { IfOk result (λ r. (r.status ≡ 3) × (r.output.items ≡ note_reason_line reason)) }
 {
@@ -49,7 +48,7 @@ fn rejection(alloc: Global, reason: NoteReason) -> Result<Reply, NoMemory>
     })
 }
 
-// The reply to a problem, its triple and notes.
+// Returns the reply to a problem, its triple and notes.
 fn check_reply(
     alloc: Global,
     problem: &Problem,
@@ -61,29 +60,29 @@ fn check_reply(
     ensures { IfOk result (λ r. AreChecked problem.now (task_parts task.now) notes.now r.status r.output.items) }
 {
     match check_notes(alloc, problem, task, notes)? {
-        NoteAnswer::Accepted => line(alloc, 0, b"accepted outline\n"),
+        NoteAnswer::Accepted => line(alloc, 0, accepted_outline_line()),
         NoteAnswer::Rejected(reason) => rejection(alloc, reason),
     }
 }
 
-/// The reply to a problem, its triple and bytes.
+/// Returns the reply to a problem, its triple and bytes.
 pub(crate) fn bytes_reply(
     alloc: Global,
     problem: &Problem,
     task: &Task,
     bytes: &[u8],
-) -> Result<Reply, Stop>
+) -> Result<Reply, EarlyEnd>
     requires simple { AreSimple problem.now.hyps }
     requires triple { IsTripleOf problem.now (task_parts task.now) }
-    ensures { IsReplied (ChecksNotes bytes.now problem.now (task_parts task.now)) result }
+    ensures { RepliesWith (ChecksNotes bytes.now problem.now (task_parts task.now)) result }
 {
     let notes = notes_in(alloc, bytes)?;
     Ok(check_reply(alloc, problem, task, &notes)?)
 }
 
-/// The reply to a text and bytes.
-pub(crate) fn texts_reply(alloc: Global, text: &[u8], bytes: &[u8]) -> Result<Reply, Stop>
-    ensures { IsReplied (ChecksNoteTexts text.now bytes.now) result }
+/// Returns the reply to a text and bytes.
+pub(crate) fn texts_reply(alloc: Global, text: &[u8], bytes: &[u8]) -> Result<Reply, EarlyEnd>
+    ensures { RepliesWith (ChecksNoteTexts text.now bytes.now) result }
 {
     let triple = triple_in(alloc, text)?;
     bytes_reply(alloc, &triple.problem, &triple.task, bytes)

@@ -1,4 +1,4 @@
--- The counter's name: it is an identifier, and its search ends.
+-- The counter's name is an identifier, and the search for it ends.
 use Rattle.std.proofs.Common.{◌≡◌, ◌≤◌, ◌<◌, ◌+◌, ◌-◌, ℕ, zero, suc, List, [], ◌∷◌, ◌++◌, length, Bool, true, false, cond, Option, Some, None, refl, sym, ap, ◌∙◌, subst, inl, inr, arith, append_assoc, length-append, below_more}
 use Rattle.std.proofs.lemmas.Bool.{cases_Bool, true≢false, false≢true}
 use Rattle.std.proofs.lemmas.List.{replicate-append-replicate}
@@ -29,18 +29,18 @@ pc_identifier n = record { name = word_is_name (pc_name n) (both_true refl (both
 pub counter_identifier : (w : ScopeParts) (name : List ℕ) → IsCounterName w name → IsIdentifier name
 counter_identifier w name h = subst IsIdentifier (sym h.spelled) (pc_identifier h.bars)
 
--- ---- one `_` more
+-- ---- an additional `_`
 
 pub pc_more : (n : ℕ) (name longer : List ℕ) → name ≡ pc_name n → longer ≡ name ++ codes "_" → longer ≡ pc_name (n + 1)
 pc_more n name longer e more = more ∙ ap (λ (l : List ℕ). l ++ codes "_") e ∙ append_assoc (codes "pc") (replicate n 95) (codes "_") ∙ ap (λ (l : List ℕ). codes "pc" ++ l) (replicate-append-replicate n 1 95)
 
 -- ---- the search ends
 
--- the lengths of all names together
+-- the sum of the lengths of all names
 abbrev pub all_lengths : ScopeParts → ℕ
 all_lengths w = sum_by (λ e. length e.0) (entries w.meanings)
 
--- a name that is found is no longer
+-- a name that is found is not longer than this sum
 module _ (name : List ℕ) (m : Meaning) where
   found_within : (es : List (List ℕ × Meaning)) → find (slice_cmp nat_cmp) name es ≡ Some m → length name ≤ sum_by (λ e. length e.0) es
   found_within [] e = absurd (none-some m e)
@@ -61,7 +61,7 @@ module _ (name : List ℕ) (m : Meaning) where
 pub declared_within : (w : ScopeParts) (name : List ℕ) (m : Meaning) → Means w name m → length name ≤ all_lengths w
 declared_within w name m h = found_within name m (entries w.meanings) (sym (get-entries w.meanings name) ∙ h)
 
--- ---- a name that is tried
+-- ---- the lookup of a name
 
 some_of : (o : Option Meaning) → is_some o ≡ true → (m : Meaning) × (o ≡ Some m)
 some_of None e = absurd (false≢true e)
@@ -71,7 +71,7 @@ none_of : (o : Option Meaning) → is_some o ≡ false → o ≡ None
 none_of None e = refl
 none_of (Some m) e = absurd (true≢false e)
 
--- what was found of its text, and whether that is something
+-- the result of looking up the text of a name, and whether there is one
 module _ (w : ScopeParts) (name text : List ℕ) (found : Option Meaning) (there : Bool) (same : text ≡ name) (is_found : found ≡ meaning w text) (is_there : there ≡ is_some found) where
   tested : is_some (meaning w name) ≡ there
   tested = ap (λ (x : List ℕ). is_some (meaning w x)) (sym same) ∙ ap is_some (sym is_found) ∙ sym is_there
@@ -85,7 +85,7 @@ module _ (w : ScopeParts) (name text : List ℕ) (found : Option Meaning) (there
 pub declared_more : (w : ScopeParts) (n : ℕ) → ((k : ℕ) → k < n → IsDeclared w (pc_name k)) → IsDeclared w (pc_name n) → (k : ℕ) → k < n + 1 → IsDeclared w (pc_name k)
 declared_more w n below here = below_more (λ k. IsDeclared w (pc_name k)) n below here
 
--- a declared name with one `_` more leaves less to try
+-- if a name is declared, an additional `_` leaves fewer names to try
 pub tries_fall : (w : ScopeParts) (name longer : List ℕ) → IsDeclared w name → longer ≡ name ++ codes "_" → suc (all_lengths w) - length longer < suc (all_lengths w) - length name
 tries_fall w name longer there more =
     let some = some_of (meaning w name) there in

@@ -1,4 +1,4 @@
--- In what a text says no name stands for the variable behind the last one.
+-- In a file that is read, no name means the variable after the last one.
 use Rattle.std.proofs.Common.{◌≡◌, ◌<◌, ◌≤◌, ℕ, List, [], ◌∷◌, length, ⊎_elim, sym, subst, ◌∙◌, arith}
 use Rattle.std.proofs.lemmas.Option.{none-some}
 use Rattle.std.specs.Ordering.{nat_cmp}
@@ -14,11 +14,11 @@ use Rattle.problem_file.specs.Sound.{with_var, EachName, DeclaresTest, DeclaresA
 use Rattle.problem_file.specs.Reads.{Reads, start_one}
 use Rattle.problem_file.proofs.Numbering.{new_or_old}
 
--- the variables that are named are among those that are declared
+-- each variable with a name is declared
 abbrev HasVarsBelow : State → Type 0
 HasVarsBelow s = (name : List ℕ) (k : ℕ) → Means s.world name (Var k) → k < s.vars
 
--- one name more
+-- an additional name keeps the variables below the bound
 more_below : (s : State) (name : List ℕ) (m : Meaning) (v : ℕ) → HasVarsBelow s → s.vars ≤ v → ((k : ℕ) → m ≡ Var k → k < v) → (other : List ℕ) (k : ℕ) → Means (declared s.world name m) other (Var k) → k < v
 more_below s name m v h le new other k e = ⊎_elim (λ p. new k p) (λ old. let below : k < s.vars = h other k old in omega (arith, below, le)) (new_or_old s.world name m other (Var k) e)
 

@@ -1,4 +1,4 @@
--- The names with which a form is printed: each variable has one of its own, and no variable has that of the program.
+-- The names in a printed form: each variable has its own name, and no variable has the name of the program.
 use Rattle.std.proofs.Common.{◌≡◌, ◌<◌, ◌+◌, ℕ, List, Option, Some, None, inl, inr, ⊎_elim, refl, sym, ap, ◌∙◌, subst, arith}
 use Rattle.std.proofs.lemmas.Bool.{cases_lt}
 use Rattle.std.proofs.lemmas.Option.{none-some, same_Some}
@@ -12,16 +12,13 @@ use Rattle.while_lang.specs.Programs.{ProgTree}
 use Rattle.while_lang.specs.NamedProgs.{ProgParts}
 use Rattle.problem_file.specs.Files.{FileParts, prog_meant, prog_named}
 use Rattle.problem_file.specs.Ranges.{IsNumbered}
-use Rattle.problem_file.proofs.Numbering.{new_or_old}
+use Rattle.problem_file.proofs.Numbering.{new_or_old, same_var}
 use Rattle.problem_texts.specs.ProgramTexts.{AreVarNames}
 use Rattle.tool_commands.specs.ProgramWords.{where_concrete, program_of}
 use Rattle.tool_programs.specs.OneLoop.{IsCounterName, names_with}
 use Rattle.tool_programs.proofs.Counters.{counter_identifier}
 
-same_var : (j k : ℕ) → Var j ≡ Var k → j ≡ k
-same_var j k e = cc
-
--- a name with a program has a meaning that is no variable's
+-- a name of a program means the program, so it does not mean a variable
 module _ (ps : List ProgParts) where
   prog_is_meant : (o : Option Meaning) (d : ProgParts) → prog_meant ps o ≡ Some d → (i : ℕ) × (o ≡ Some (Prog i))
   prog_is_meant None d e = absurd (none-some d e)
@@ -83,7 +80,7 @@ module _ (f : FileParts) (numbered : IsNumbered f) (unnamed : IsUnnamed f.scope 
         | inr last ↦ let same : f.vars ≡ k = omega (arith, last, below) in (counter, subst (λ (j : ℕ). IsNameOf with_counter counter (Var j)) same counter_named)
       ]
 
-  -- the name that is printed is the variable's
+  -- the printed name means the variable
   var_named : (k : ℕ) → k < f.vars + 1 → IsNameOf with_counter (names_with f counter (Var k)) (Var k)
   var_named k below =
       let some = some_named k below in

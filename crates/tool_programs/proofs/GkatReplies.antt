@@ -1,14 +1,14 @@
--- The reply of `gkat` is the statement on the text, and has its cause.
-use Rattle.std.proofs.Common.{◌≡◌, ◌⊎◌, ℕ, List, inl, inr, refl, sym, ◌∙◌, arith}
+-- The reply of `gkat` satisfies the statement on the text.
+use Rattle.std.proofs.Common.{◌≡◌, ◌⊎◌, ◌<◌, ℕ, List, inl, inr, refl, sym, ◌∙◌, arith}
 use Rattle.problem_file.specs.FirstFaults.{too_long, no_text}
 use Rattle.gkat_front.specs.Files.{GkatFileParts}
 use Rattle.gkat_front.specs.Reads.{Reads, FirstFault}
 use Rattle.gkat_front.proofs.OneAnswer.{have_one_answer}
-use Rattle.tool_inputs.specs.Posing.{IsFaultOf}
-use Rattle.tool_inputs.specs.Steps.{ShelfUse, HasFailedOn}
-use Rattle.tool_programs.specs.Gkat.{IsTranslated, TranslatesText, Translates, GkatHeadline, TellsTranslation, MayBeFaulty, GkatCauses}
-use Rattle.tool_inputs.proofs.Steps.{OneStatus, said_one, faulty_one, read_once, gets_as}
-use Rattle.tool_inputs.proofs.Ways.{Ways, at_zero, at_two, at_four}
+use Rattle.kat_report.specs.InputLines.{too_long_line}
+use Rattle.tool_inputs.specs.TextProblem.{IsFaultOf}
+use Rattle.tool_programs.specs.Gkat.{IsTranslated, TranslatesText, GkatHeadline, GkatReply}
+use Rattle.tool_inputs.proofs.Steps.{OneStatus, said_one, faulty_one, read_once, reads_long}
+use Rattle.tool_inputs.proofs.FileReplies.{RefusesLong, HasOneReply}
 
 -- ---- the reply to a text
 
@@ -19,7 +19,7 @@ module _ (text : List ℕ) (status : ℕ) (output : List ℕ) where
   is_refused : (line : List ℕ) → IsFaultOf (FirstFault text) line → TranslatesText text status output → (status ≡ 2) × (output ≡ line)
   is_refused = faulty_one Reads FirstFault have_one_answer text IsTranslated status output
 
-  -- the ways in which it comes
+  -- the possible statuses, each with its cause
   abbrev TextWays : Type 0
   TextWays = ((status ≡ 0) × ((f : GkatFileParts) × Reads text f)) ⊎ ((status ≡ 2) × IsFaultOf (FirstFault text) output)
 
@@ -50,36 +50,19 @@ module _ (text : List ℕ) (status : ℕ) (output : List ℕ) where
         refused_line = λ line fault. (is_refused line fault r).1;
       }
 
-pub translates_once : (text : List ℕ) → OneStatus (TranslatesText text)
+translates_once : (text : List ℕ) → OneStatus (TranslatesText text)
 translates_once text = read_once Reads FirstFault have_one_answer text IsTranslated (λ f a b o p x y. x.0 ∙ sym y.0)
 
--- ---- the reply to a file
+-- ---- what the reply says
 
-abbrev GkatWays : ShelfUse → List ℕ → ℕ → List ℕ → Type 0
-GkatWays s file status output = Ways status (TellsTranslation (s.content file) output) ⊥ (MayBeFaulty (s.content file) output) ⊥ (HasFailedOn s file status output)
+pub gkat_reply : (text : List ℕ) (status : ℕ) (output : List ℕ) → TranslatesText text status output → GkatReply text status output
+gkat_reply text status output r = record { replies = r; headline = text_headline text status output r }
 
-module _ (s : ShelfUse) (file : List ℕ) (status : ℕ) (output : List ℕ) where
-  read_ways : Translates s file status output → GkatWays s file status output
-  read_ways (inl f) = inr (inr (inr (inr (f.has_status, f))))
-  read_ways (inr (inl r)) = inr (inr (inl (r.0, inl r.1)))
-  read_ways (inr (inr (text, given, inl r))) = inr (inr (inl (r.0, inr (text, given, r.1))))
-  read_ways (inr (inr (text, given, inr (f, reads, t)))) = inl (t.0, record { text = text; given = given; file = f; reads = reads; printed = t.1 })
+pub gkat_long : RefusesLong GkatReply
+gkat_long text past = gkat_reply text 2 too_long_line (reads_long Reads FirstFault (λ t longer. no_text (too_long refl longer)) text IsTranslated past)
 
-  answers : GkatWays s file status output → (status ≡ 0) ⊎ ((status ≡ 2) ⊎ (status ≡ 4))
-  answers (inl h) = inl h.0
-  answers (inr (inl h)) = absurd h.1
-  answers (inr (inr (inl h))) = inr (inl h.0)
-  answers (inr (inr (inr (inl h)))) = absurd h.1
-  answers (inr (inr (inr (inr h)))) = inr (inr h.0)
-
-  pub gkat_causes : Translates s file status output → GkatCauses s file status output
-  gkat_causes r =
-      let ways : GkatWays s file status output = read_ways r in
-      record {
-        headline = λ text is unfailed. text_headline text status output (gets_as Reads FirstFault (λ t past. no_text (too_long refl past)) s file IsTranslated status output text is (λ f. unfailed f.0) r);
-        declined = λ text line is unfailed fault. is_refused text status output line fault (gets_as Reads FirstFault (λ t past. no_text (too_long refl past)) s file IsTranslated status output text is unfailed r);
-        translated = at_zero status _ _ _ _ _ ways;
-        refused = at_two status _ _ _ _ _ ways;
-        failed = at_four status _ _ _ _ _ ways;
-        answers = answers ways;
-      }
+pub gkat_one : (text : List ℕ) → HasOneReply (GkatReply text) ⊥
+gkat_one text = record { small = λ status output r. inl (below status r.headline.answers); once = λ a b o p x y. translates_once text a b o p x.replies y.replies }
+  where
+    below : (status : ℕ) → (status ≡ 0) ⊎ (status ≡ 2) → status < 4
+    below status h = grind (arith, h)

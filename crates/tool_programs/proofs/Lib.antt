@@ -6,4 +6,4 @@ pub mod FileVariables
 pub mod Counters
 pub mod FormNames
 pub mod OneLoopReplies
-pub mod OptimiseReplies
+pub mod ShowReplies

@@ -1,15 +1,15 @@
--- The program that a word names is concrete, and has the variables of its file alone.
+-- The program that a word names is concrete, and has only the variables of its file.
 use Rattle.std.proofs.Common.{◌≡◌, ℕ, List, Bool, true, false, cond, Option, None, Some, refl, subst}
 use Rattle.std.proofs.lemmas.Option.{same_Some, none-some}
 use Rattle.std.specs.Option.{option_map}
-use Rattle.kat_model.specs.Expressions.{ExprTree, number, variable, plus, minus, times, CondTree, always, never, named, compared, negation, both, either}
+use Rattle.kat_model.specs.Expressions.{CondTree, always, never, named, compared, negation, both, either}
 use Rattle.text_scopes.specs.declared.meaning.Meaning.{Meaning}
 use Rattle.text_scopes.specs.ScopeParts.{meaning}
 use Rattle.while_lang.specs.Programs.{ProgTree, empty, skip_then, abort_then, assert_then, act_then, assign_then, branch_then, loop_then, is_concrete}
 use Rattle.while_lang.specs.NamedProgs.{ProgParts}
-use Rattle.one_loop.specs.Variables.{ExprHasVarsBelow, CondHasVarsBelow, HasVarsBelow}
+use Rattle.one_loop.specs.Variables.{CondHasVarsBelow, HasVarsBelow}
 use Rattle.problem_file.specs.Files.{FileParts, prog_meant, prog_named}
-use Rattle.problem_file.specs.Ranges.{IsExprInRange, IsCondInRange, IsProgInRange, AreProgsInRange, IsNumbered}
+use Rattle.problem_file.specs.Ranges.{IsCondInRange, IsProgInRange, AreProgsInRange, IsNumbered}
 use Rattle.problem_file.proofs.NumberedStates.{meant_in}
 use Rattle.tool_commands.specs.ProgramWords.{where_concrete, program_of}
 
@@ -29,19 +29,12 @@ fit_concrete f prog p e = concrete_where (option_map (λ p. p.tree) (prog_named 
 -- ---- its variables
 
 module _ (v : ℕ) where
-  expr_below : (e : ExprTree) → IsExprInRange v e → ExprHasVarsBelow v e
-  expr_below (number n) h = tt
-  expr_below (variable k) h = h
-  expr_below (plus e f) h = (expr_below e h.0, expr_below f h.1)
-  expr_below (minus e f) h = (expr_below e h.0, expr_below f h.1)
-  expr_below (times e f) h = (expr_below e h.0, expr_below f h.1)
-
   module _ (t a : ℕ) where
     cond_below : (b : CondTree) → IsCondInRange t v b → CondHasVarsBelow v b
     cond_below always h = tt
     cond_below never h = tt
     cond_below (named k) h = tt
-    cond_below (compared r e f) h = (expr_below e h.0, expr_below f h.1)
+    cond_below (compared r e f) h = h
     cond_below (negation b) h = cond_below b h
     cond_below (both b c) h = (cond_below b h.0, cond_below c h.1)
     cond_below (either b c) h = (cond_below b h.0, cond_below c h.1)
@@ -51,8 +44,8 @@ module _ (v : ℕ) where
     prog_below (skip_then rest) h = prog_below rest h
     prog_below (abort_then rest) h = prog_below rest h
     prog_below (assert_then b rest) h = (cond_below b h.0, prog_below rest h.1)
-    prog_below (act_then a rest) h = prog_below rest h.1
-    prog_below (assign_then x e rest) h = (h.0, expr_below e h.1, prog_below rest h.2)
+    prog_below (act_then a rest) h = (tt, prog_below rest h.1)
+    prog_below (assign_then x e rest) h = (h.0, h.1, prog_below rest h.2)
     prog_below (branch_then b p q rest) h = (cond_below b h.0, prog_below p h.1, prog_below q h.2, prog_below rest h.3)
     prog_below (loop_then b p rest) h = (cond_below b h.0, prog_below p h.1, prog_below rest h.2)
 

@@ -1,11 +1,10 @@
--- The reply of `oneloop` is the statement on the program, and has its cause.
+-- The reply of `oneloop` satisfies the statement on the program.
 use Rattle.std.proofs.Common.{◌≡◌, ◌≢◌, ◌⊎◌, ◌↔◌, ◌≤◌, ◌<◌, ◌+◌, ◌-◌, ℕ, List, true, ◌&&◌, length, None, Some, Result, Ok, Err, inl, inr, refl, sym, ap, subst, ◌∙◌, codes, arith}
 use Rattle.std.proofs.lemmas.Bool.{cases_lt, and_parts, false≢true}
 use Rattle.std.proofs.lemmas.Option.{same_Some, none-some}
-use Rattle.kat_model.specs.declared.limits.TheConstants.{MAX_TEXT_BYTES}
+use Rattle.kat_model.specs.declared.limits.TheConstants.{MAX_TEXT_BYTES, MAX_VARS}
 use Rattle.kat_model.specs.declared.expression.Width.{Width}
-use Rattle.kat_model.specs.declared.expression.Width.TheVariants.{W8, W16, W32, W64}
-use Rattle.kat_model.specs.Expressions.{ExprTree, number, variable, plus, minus, times, CondTree, always, never, named as tested, compared, negation, both, either}
+use Rattle.kat_model.specs.Expressions.{CondTree, always, never, named as tested, compared, negation, both, either}
 use Rattle.kat_model.specs.Problems.{counted}
 use Rattle.kat_model.specs.Stores.{modulus}
 use Rattle.text_scopes.specs.declared.meaning.Meaning.TheVariants.{Var}
@@ -14,35 +13,31 @@ use Rattle.text_print.specs.Printing.{name_of}
 use Rattle.while_lang.specs.Programs.{ProgTree, empty, skip_then, abort_then, assert_then, act_then, assign_then, branch_then, loop_then, is_concrete_cond, is_concrete, statements}
 use Rattle.one_loop.specs.declared.fault.OneLoopFault.{OneLoopFault}
 use Rattle.one_loop.specs.declared.fault.OneLoopFault.TheVariants.{NoMemory, TooManyVars, TooManyStatements}
-use Rattle.one_loop.specs.Variables.{ExprHasVarsBelow, CondHasVarsBelow, HasVarsBelow}
+use Rattle.one_loop.specs.Variables.{CondHasVarsBelow, HasVarsBelow}
 use Rattle.one_loop.specs.Statements.{HasTooManyStatements}
 use Rattle.one_loop.specs.Forms.{IsOneForm}
 use Rattle.problem_file.specs.Files.{FileParts}
-use Rattle.problem_file.specs.Ranges.{IsExprInRange, IsCondInRange, IsProgInRange, IsNumbered}
+use Rattle.problem_file.specs.Ranges.{IsCondInRange, IsProgInRange, IsNumbered}
 use Rattle.problem_file.specs.Reads.{Reads}
 use Rattle.problem_file.proofs.NumberedStates.{are_in_ranges}
 use Rattle.problem_texts.specs.ProgramTexts.{one_program_text, IsOnePrintable}
 use Rattle.problem_texts.specs.Laws.{SaysProgram}
 use Rattle.problem_texts.proofs.ProgramReadings.{program_reads_back}
-use Rattle.tool_inputs.specs.declared.reply.Stop.{Stop}
-use Rattle.tool_inputs.specs.Posing.{MaySay, MaySayNone}
+use Rattle.tool_inputs.specs.declared.reply.EarlyEnd.{EarlyEnd}
+use Rattle.kat_report.specs.InputLines.{too_long_line}
 use Rattle.tool_commands.specs.ProgramWords.{where_concrete, program_of, HasUnfitWords}
-use Rattle.tool_inputs.specs.Steps.{ShelfUse, IsRefusal, HasFailedOn}
-use Rattle.tool_programs.specs.OneLoop.{IsCounterName, names_with, IsFormFault, form_fault_line, HasNoForm, HasForm, PrintsForm, FormsProgram, FormsFile, FormsText, Forms, IsWithinText, TellsForm, OneLoopHeadline, TellsOneLoop, MayLackForm, MayLackProgram, OneLoopCauses}
-use Rattle.tool_inputs.specs.Outcomes.{IsStop}
-use Rattle.tool_inputs.proofs.Outcomes.{IsStop-weaker}
-use Rattle.tool_inputs.proofs.Steps.{OneStatus, reads_said, reads_once, gets_read, gets_said, gets_faulty}
-use Rattle.tool_inputs.proofs.Ways.{Ways, at_zero, at_two, at_four, at_seven, below_seven}
+use Rattle.tool_inputs.specs.Steps.{IsRefusal}
+use Rattle.tool_commands.proofs.StoreValues.{some_numbers}
+use Rattle.kat_report.specs.FormRefusals.{form_fault_line}
+use Rattle.tool_programs.specs.OneLoop.{IsCounterName, names_with, IsFormFault, HasNoForm, HasForm, PrintsForm, FormsProgram, FormsFile, FormsText, IsWithinText, TellsForm, OneLoopHeadline, LacksProgram, OneLoopReply}
+use Rattle.tool_inputs.specs.ReplySpecs.{EndsWith}
+use Rattle.tool_inputs.proofs.ReplySpecs.{EndsWith-weaker}
+use Rattle.tool_inputs.proofs.Steps.{OneStatus, reads_said, reads_faulty, reads_once, small_status, text_long}
+use Rattle.tool_inputs.proofs.FileReplies.{RefusesLong, HasOneReply}
 use Rattle.tool_programs.proofs.FileVariables.{next_unnamed}
 use Rattle.tool_programs.proofs.FormNames.{names_are, name_identifier, name_no_var}
 
 -- ---- programs without a form
-
-modulus_some : (w : Width) → 0 < modulus w
-modulus_some W8 = let some : 0 < 256 = omega arith in some
-modulus_some W16 = let some : 0 < 65536 = omega arith in some
-modulus_some W32 = let some : 0 < 4294967296 = omega arith in some
-modulus_some W64 = let some : 0 < 18446744073709551616 = omega arith in some
 
 module _ (f : FileParts) (p : ProgTree) where
   form_or_fault : (fault : OneLoopFault) → HasForm f p → IsFormFault f p fault → ⊥
@@ -62,11 +57,11 @@ module _ (f : FileParts) (p : ProgTree) where
   one_line : (line other : List ℕ) → HasNoForm f p line → HasNoForm f p other → line ≡ other
   one_line line other x y = x.printed ∙ ap form_fault_line (one_fault x.fault y.fault x.is_fault y.is_fault) ∙ sym y.printed
 
-  -- what a call of `one_loop` says of its answer
-  module _ {T : Type 0} (r : Result T OneLoopFault) (full : (r ≡ Err TooManyVars) ↔ (f.vars ≡ 64)) (many : (n : ℕ) → (r ≡ Err (TooManyStatements n)) ↔ ((f.vars < 64) × HasTooManyStatements f.width p n)) where
-    pub has_form : (form : T) → r ≡ Ok form → f.vars ≤ 64 → HasForm f p
+  -- what the contract of `one_loop` says about its answer
+  module _ {T : Type 0} (r : Result T OneLoopFault) (full : (r ≡ Err TooManyVars) ↔ (f.vars ≡ MAX_VARS)) (many : (n : ℕ) → (r ≡ Err (TooManyStatements n)) ↔ ((f.vars < MAX_VARS) × HasTooManyStatements f.width p n)) where
+    pub has_form : (form : T) → r ≡ Ok form → f.vars ≤ MAX_VARS → HasForm f p
     has_form form is within =
-        let place : f.vars ≢ 64 = λ e. let refused : r ≡ Err TooManyVars = full.1 e in absurd cc in
+        let place : f.vars ≢ MAX_VARS = λ e. let refused : r ≡ Err TooManyVars = full.1 e in absurd cc in
         record {
           place = place;
           few = elim (cases_lt (statements p) (modulus f.width)) [
@@ -77,30 +72,30 @@ module _ (f : FileParts) (p : ProgTree) where
           ];
         }
       where
-        free : f.vars ≢ 64 → f.vars < 64
-        free other = elim (cases_lt f.vars 64) [ inl lt ↦ lt | inr le ↦ absurd (other (omega (arith, le, within))) ]
+        free : f.vars ≢ MAX_VARS → f.vars < MAX_VARS
+        free other = elim (cases_lt f.vars MAX_VARS) [ inl lt ↦ lt | inr le ↦ absurd (other (omega (arith, le, within))) ]
 
         past : modulus f.width ≤ statements p → modulus f.width - 1 < statements p
-        past le = let some = modulus_some f.width in omega (arith, le, some)
+        past le = let some = some_numbers f.width in omega (arith, le, some)
 
     fault_is : (fault : OneLoopFault) → r ≡ Err fault → fault ≢ NoMemory → IsFormFault f p fault
     fault_is NoMemory is other = other refl
     fault_is TooManyVars is other = full.0 is
     fault_is (TooManyStatements n) is other = (many n).0 is
 
-    pub fault_refused : (fault : OneLoopFault) (stop : Stop) → r ≡ Err fault → IsStop (λ status output. (status ≡ 2) × ((fault ≢ NoMemory) × (output ≡ form_fault_line fault))) stop → IsStop (IsRefusal (HasNoForm f p)) stop
+    pub fault_refused : (fault : OneLoopFault) (stop : EarlyEnd) → r ≡ Err fault → EndsWith (λ status output. (status ≡ 2) × ((fault ≢ NoMemory) × (output ≡ form_fault_line fault))) stop → EndsWith (IsRefusal (HasNoForm f p)) stop
     fault_refused fault stop is h =
-        IsStop-weaker (λ status output. (status ≡ 2) × ((fault ≢ NoMemory) × (output ≡ form_fault_line fault))) (IsRefusal (HasNoForm f p))
+        EndsWith-weaker (λ status output. (status ≡ 2) × ((fault ≢ NoMemory) × (output ≡ form_fault_line fault))) (IsRefusal (HasNoForm f p))
         (λ status output x. (x.0, record { fault = fault; is_fault = fault_is fault is x.1.0; printed = x.1.1 }))
         stop
         h
 
-pub place_free : (f : FileParts) (p : ProgTree) → HasForm f p → f.vars ≤ 64 → f.vars < 64
-place_free f p has within = elim (cases_lt f.vars 64) [ inl lt ↦ lt | inr le ↦ absurd (has.place (omega (arith, le, within))) ]
+pub place_free : (f : FileParts) (p : ProgTree) → HasForm f p → f.vars ≤ MAX_VARS → f.vars < MAX_VARS
+place_free f p has within = elim (cases_lt f.vars MAX_VARS) [ inl lt ↦ lt | inr le ↦ absurd (has.place (omega (arith, le, within))) ]
 
 -- ---- what is printed
 
--- a form that is printed with parts of the file
+-- a form that is printed with the parts of the file
 pub form_printed : (f : FileParts) (w : ScopeParts) (v : ℕ) (u : Width) (name : List ℕ) (p form : ProgTree) (output : List ℕ) → w ≡ f.scope → v ≡ f.vars → u ≡ f.width → IsOneForm f.width p form f.vars →
     ((counter : List ℕ) × IsCounterName w counter × IsWellFormed w × (output ≡ one_program_text (name_of (declared w counter (Var v))) u (v + 1) name form)) → PrintsForm f name p output
 form_printed f w v u name p form output scope vars width is h = record {
@@ -115,21 +110,14 @@ form_printed f w v u name p form output scope vars width is h = record {
       ∙ ap (λ (x : Width). one_program_text (names_with f h.0) x (f.vars + 1) name form) width;
 }
 
--- ---- and reads back
+-- ---- the output reads back
 
 module _ (v : ℕ) where
-  expr_in_range : (e : ExprTree) → ExprHasVarsBelow v e → IsExprInRange v e
-  expr_in_range (number n) h = tt
-  expr_in_range (variable k) h = h
-  expr_in_range (plus e f) h = (expr_in_range e h.0, expr_in_range f h.1)
-  expr_in_range (minus e f) h = (expr_in_range e h.0, expr_in_range f h.1)
-  expr_in_range (times e f) h = (expr_in_range e h.0, expr_in_range f h.1)
-
   cond_in_range : (b : CondTree) → is_concrete_cond b ≡ true → CondHasVarsBelow v b → IsCondInRange 0 v b
   cond_in_range always is h = tt
   cond_in_range never is h = tt
   cond_in_range (tested k) is h = absurd (false≢true is)
-  cond_in_range (compared r e f) is h = (expr_in_range e h.0, expr_in_range f h.1)
+  cond_in_range (compared r e f) is h = h
   cond_in_range (negation b) is h = cond_in_range b is h
   cond_in_range (both b c) is h = let parts = and_parts (is_concrete_cond b) (is_concrete_cond c) is in (cond_in_range b parts.0 h.0, cond_in_range c parts.1 h.1)
   cond_in_range (either b c) is h = let parts = and_parts (is_concrete_cond b) (is_concrete_cond c) is in (cond_in_range b parts.0 h.0, cond_in_range c parts.1 h.1)
@@ -143,7 +131,7 @@ module _ (v : ℕ) where
       let parts = and_parts (is_concrete_cond b) (is_concrete rest) is in
       (cond_in_range b parts.0 h.0, concrete_in_range rest parts.1 h.1)
   concrete_in_range (act_then a rest) is h = absurd (false≢true is)
-  concrete_in_range (assign_then x e rest) is h = (h.0, expr_in_range e h.1, concrete_in_range rest is h.2)
+  concrete_in_range (assign_then x e rest) is h = (h.0, h.1, concrete_in_range rest is h.2)
   concrete_in_range (branch_then b p q rest) is h =
       let parts = and_parts (is_concrete_cond b && (is_concrete p && is_concrete q)) (is_concrete rest) is in
       let front = and_parts (is_concrete_cond b) (is_concrete p && is_concrete q) parts.0 in
@@ -161,8 +149,8 @@ module _ (text : List ℕ) (f : FileParts) (reads : Reads text f) (name : List �
   numbered : IsNumbered f
   numbered = are_in_ranges text f reads
 
-  room : (v : ℕ) → v ≤ 64 → v ≢ 64 → v + 1 ≤ 64
-  room v within other = elim (cases_lt v 64) [ inl lt ↦ omega (arith, lt) | inr le ↦ absurd (other (omega (arith, le, within))) ]
+  room : (v : ℕ) → v ≤ MAX_VARS → v ≢ MAX_VARS → v + 1 ≤ MAX_VARS
+  room v within other = elim (cases_lt v MAX_VARS) [ inl lt ↦ omega (arith, lt) | inr le ↦ absurd (other (omega (arith, le, within))) ]
 
   form_printable : IsWithinText f.width h.form output → IsOnePrintable (names_with f h.counter) f.width (f.vars + 1) name h.form
   form_printable limits =
@@ -216,7 +204,7 @@ module _ (f : FileParts) (name : List ℕ) where
     says_fault p line none (inl r) = (r.0, one_line f p output line r.1 none)
     says_fault p line none (inr g) = absurd (form_or_fault f p none.fault g.1 none.is_fault)
 
--- the ways in which it comes
+-- the possible statuses, each with its cause
 abbrev FileWays : FileParts → List ℕ → ℕ → List ℕ → Type 0
 FileWays f name status output =
     ((status ≡ 0) × ((p : ProgTree) × (program_of f name ≡ Some p) × HasForm f p × PrintsForm f name p output))
@@ -275,59 +263,35 @@ file_once f name a b o p x y = once (file_ways f name a o x)
     once (inr (inl h)) = h.0 ∙ sym (says_fault f name b p h.1.0 o h.1.2 (takes_named f name b p h.1.0 h.1.1 y)).0
     once (inr (inr h)) = h.0 ∙ sym (takes_none f name b p h.1.0 y).has_status
 
-pub forms_once : (text name : List ℕ) → OneStatus (FormsText text name)
+forms_once : (text name : List ℕ) → OneStatus (FormsText text name)
 forms_once text name = reads_once text (λ f. FormsFile f name) (λ f. file_once f name)
 
--- ---- the reply to files
+-- ---- what the reply says
 
-abbrev OneLoopWays : ShelfUse → List ℕ → List ℕ → ℕ → List ℕ → Type 0
-OneLoopWays s file name status output =
-    Ways status
-    (TellsOneLoop (s.content file) name output)
-    ⊥
-    (MaySayNone (s.content file) output ⊎ MayLackForm (s.content file) name output)
-    ⊥
-    (HasFailedOn s file status output)
-    ⊎ ((status ≡ 7) × (MayLackProgram (s.content file) name × (output ≡ codes "refused: words\n")))
+pub one_loop_reply : (text name : List ℕ) (status : ℕ) (output : List ℕ) → FormsText text name status output → OneLoopReply text name status output
+one_loop_reply text name status output r = record {
+  replies = r;
+  headline = λ f reads. text_headline text name status output f reads r;
+  declined = λ line fault. reads_faulty text (λ f. FormsFile f name) status output line fault r;
+}
 
-module _ (s : ShelfUse) (file name : List ℕ) (status : ℕ) (output : List ℕ) where
-  said_ways : (f : FileParts) → MaySay (s.content file) f → FileWays f name status output → OneLoopWays s file name status output
-  said_ways f says (inl h) = inl (inl (
-    h.0,
-    record {
-      file = f;
-      says = says;
-      program = h.1.0;
-      named = h.1.1;
-      has_form = h.1.2;
-      tells = tells_form says.text f says.reads name h.1.0 h.1.1 h.1.2 output h.1.3;
-    },
-  ))
-  said_ways f says (inr (inl h)) = inl (inr (inr (inl (h.0, inr (record { file = f; says = says; program = h.1.0; named = h.1.1; none = h.1.2 })))))
-  said_ways f says (inr (inr h)) = inr (h.0, (record { file = f; says = says; none = h.1.0 }, h.1.1))
+pub one_loop_long : (name : List ℕ) → RefusesLong (λ text. OneLoopReply text name)
+one_loop_long name text past = one_loop_reply text name 2 too_long_line (text_long text (λ f. FormsFile f name) past)
 
-  read_ways : HasFailedOn s file status output ⊎ (((status ≡ 2) × MaySayNone (s.content file) output) ⊎ ((f : FileParts) × MaySay (s.content file) f × FormsFile f name status output)) → OneLoopWays s file name status output
-  read_ways (inl f) = inl (inr (inr (inr (inr (f.has_status, f)))))
-  read_ways (inr (inl h)) = inl (inr (inr (inl (h.0, inl h.1))))
-  read_ways (inr (inr (f, says, r))) = said_ways f says (file_ways f name status output r)
+pub one_loop_one : (text name : List ℕ) → HasOneReply (OneLoopReply text name) (LacksProgram text name)
+one_loop_one text name = record {
+  small = λ status output r. small status output r.replies;
+  once = λ a b o p x y. forms_once text name a b o p x.replies y.replies;
+}
+  where
+    Small : ℕ → List ℕ → Type 0
+    Small status output = (status < 4) ⊎ ((status ≡ 7) × (LacksProgram text name × (output ≡ codes "refused: words\n")))
 
-  answers : OneLoopWays s file name status output → (status ≡ 0) ⊎ ((status ≡ 2) ⊎ ((status ≡ 4) ⊎ (status ≡ 7)))
-  answers (inl (inl h)) = inl h.0
-  answers (inl (inr (inl h))) = absurd h.1
-  answers (inl (inr (inr (inl h)))) = inr (inl h.0)
-  answers (inl (inr (inr (inr (inl h))))) = absurd h.1
-  answers (inl (inr (inr (inr (inr h))))) = inr (inr (inl h.0))
-  answers (inr h) = inr (inr (inr h.0))
+    of_file : (status : ℕ) (output : List ℕ) (f : FileParts) → Reads text f → FileWays f name status output → Small status output
+    of_file status output f reads (inl h) = inl (small_status status (inl h.0))
+    of_file status output f reads (inr (inl h)) = inl (small_status status (inr (inr (inl h.0))))
+    of_file status output f reads (inr (inr h)) = inr (h.0, ((f, reads, h.1.0), h.1.1))
 
-  pub one_loop_causes : Forms s file name status output → OneLoopCauses s file name status output
-  one_loop_causes r =
-      let ways : OneLoopWays s file name status output = read_ways (gets_read s file (λ f. FormsFile f name) status output r) in
-      record {
-        headline = λ text f is unfailed reads. one_loop_headline f name status output text reads (gets_said s file (λ g. FormsFile g name) status output text is (λ x. unfailed x.0) r f reads);
-        declined = λ text line is unfailed fault. gets_faulty s file (λ g. FormsFile g name) status output text is unfailed r line fault;
-        formed = λ e. at_zero status _ _ _ _ _ (below_seven status _ _ _ _ _ _ ways (λ seven. omega (arith, e, seven))) e;
-        refused = λ e. at_two status _ _ _ _ _ (below_seven status _ _ _ _ _ _ ways (λ seven. omega (arith, e, seven))) e;
-        failed = λ e. at_four status _ _ _ _ _ (below_seven status _ _ _ _ _ _ ways (λ seven. omega (arith, e, seven))) e;
-        unfit = at_seven status _ _ _ _ _ _ ways;
-        answers = answers ways;
-      }
+    small : (status : ℕ) (output : List ℕ) → FormsText text name status output → Small status output
+    small status output (inl r) = inl (small_status status (inr (inr (inl r.0))))
+    small status output (inr (f, reads, r)) = of_file status output f reads (file_ways f name status output r)

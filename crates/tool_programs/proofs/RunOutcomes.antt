@@ -1,4 +1,4 @@
--- The outcome that a run gives is the program's.
+-- The outcome that a run returns is the program's.
 use Rattle.std.proofs.Common.{◌≡◌, ◌↔◌, ℕ, refl}
 use Rattle.kat_model.specs.Stores.{Store}
 use Rattle.kat_model.specs.declared.expression.Width.{Width}
@@ -8,7 +8,7 @@ use Rattle.while_lang.specs.declared.outcome.Outcome.{Outcome}
 use Rattle.while_lang.specs.declared.outcome.Outcome.TheVariants.{Done, Stuck, More}
 
 module _ (w : Width) (p : ProgTree) (s : Store) (n : ℕ) where
-  -- the call that gave it says this of each outcome
+  -- what the contract of the run says about each outcome
   abbrev pub IsGiven : Outcome → Store → Outcome → Type 0
   IsGiven o t q = (u : Store) → ((o ≡ q) × (t ≡ u)) ↔ HasOutcome w p s n q u
 

@@ -1,5 +1,5 @@
--- The reply of `run` is the statement on the program, and has its cause.
-use Rattle.std.proofs.Common.{◌≡◌, ◌⊎◌, ℕ, List, inl, inr, ⊎_elim, sym, ap, subst, ◌∙◌, codes, arith}
+-- The reply of `run` satisfies the statement on the program.
+use Rattle.std.proofs.Common.{◌≡◌, ◌⊎◌, ◌<◌, ℕ, List, inl, inr, ⊎_elim, sym, ap, subst, ◌∙◌, codes, arith}
 use Rattle.std.proofs.lemmas.Option.{same_Some, none-some}
 use Rattle.kat_model.specs.Stores.{Store}
 use Rattle.while_lang.specs.Programs.{ProgTree}
@@ -9,14 +9,14 @@ use Rattle.while_lang.specs.declared.outcome.Outcome.TheVariants.{Done, Stuck, M
 use Rattle.while_lang.proofs.Outcomes.{one_outcome}
 use Rattle.problem_file.specs.Files.{FileParts}
 use Rattle.problem_file.specs.Reads.{Reads}
-use Rattle.tool_inputs.specs.Posing.{MaySay, MaySayNone}
+use Rattle.kat_report.specs.InputLines.{too_long_line}
 use Rattle.tool_commands.specs.ProgramWords.{HasUnfitWords}
-use Rattle.tool_programs.specs.RunTexts.{outcome_line, outcome_status}
-use Rattle.tool_inputs.specs.Steps.{ShelfUse, Replying, HasFailedOn}
-use Rattle.tool_programs.specs.Running.{Fits, IsUnfit, TakesWords, HasRun, RunsFile, RunsText, Runs, RunsTo, RunHeadline, TellsRun, MayMisfit, RunCauses}
-use Rattle.tool_inputs.proofs.Steps.{OneStatus, reads_said, reads_once, gets_read, gets_said, gets_faulty}
+use Rattle.kat_report.specs.RunTexts.{outcome_line}
+use Rattle.tool_inputs.specs.Steps.{ReplySpec}
+use Rattle.tool_programs.specs.Running.{outcome_status, Fits, IsUnfit, TakesWords, HasRun, RunsFile, RunsText, RunsTo, RunHeadline, DoesNotFit, RunReply}
+use Rattle.tool_inputs.proofs.Steps.{OneStatus, reads_said, reads_faulty, reads_once, small_status, text_long}
+use Rattle.tool_inputs.proofs.FileReplies.{RefusesLong, HasOneReply}
 use Rattle.tool_programs.proofs.NamedPrograms.{fit_concrete}
-use Rattle.tool_inputs.proofs.Ways.{Ways, at_zero, at_one, at_two, at_four, at_seven, below_seven}
 
 -- ---- the words and the file
 
@@ -31,7 +31,7 @@ module _ (f : FileParts) (prog store : List ℕ) where
   same_start : (p q : ProgTree) (s t : Store) → Fits f prog store p s → Fits f prog store q t → s ≡ t
   same_start p q s t x y = same_Some s t (sym x.values ∙ y.values)
 
-  module _ (GoesOn : ProgTree → Store → Replying) (status : ℕ) (output : List ℕ) where
+  module _ (GoesOn : ProgTree → Store → ReplySpec) (status : ℕ) (output : List ℕ) where
     takes_fit : (p : ProgTree) (s : Store) → Fits f prog store p s → TakesWords f prog store GoesOn status output → GoesOn p s status output
     takes_fit p s fits (inl r) = absurd (fit_or_not p s fits r.unfit)
     takes_fit p s fits (inr (q, t, other, g)) =
@@ -43,7 +43,7 @@ module _ (f : FileParts) (prog store : List ℕ) where
 
 -- ---- outcomes
 
--- a program that fits has one outcome
+-- if the words fit, the program has one outcome
 module _ (f : FileParts) (prog store : List ℕ) (turns : ℕ) (p : ProgTree) (s : Store) (fits : Fits f prog store p s) where
   one : HasOneOutcome f.width p s turns
   one = one_outcome f.width p s turns (fit_concrete f prog p fits.program)
@@ -55,7 +55,7 @@ module _ (f : FileParts) (prog store : List ℕ) (turns : ℕ) (p : ProgTree) (s
     same_end : t ≡ u
     same_end = (one.only o t x).1 ∙ sym (one.only q u y).1
 
--- what a run was told is its one outcome
+-- the printed outcome is the one outcome of the program
 module _ (f : FileParts) (prog store : List ℕ) (turns : ℕ) (status : ℕ) (output : List ℕ) (r : RunsFile f prog store turns status output) where
   run_told : (o : Outcome) (t : Store) → RunsTo f prog store turns o t → (status ≡ outcome_status o) × (output ≡ outcome_line f.scope o t)
   run_told o t to =
@@ -66,7 +66,7 @@ module _ (f : FileParts) (prog store : List ℕ) (turns : ℕ) (status : ℕ) (o
 
 -- ---- the reply to a file
 
--- the ways in which it comes
+-- the possible statuses, each with its cause
 abbrev FileWays : FileParts → List ℕ → List ℕ → ℕ → ℕ → List ℕ → Type 0
 FileWays f prog store turns status output =
     ((status ≡ 0) × ((t : Store) × RunsTo f prog store turns Done t × (output ≡ outcome_line f.scope Done t)))
@@ -99,7 +99,7 @@ module _ (f : FileParts) (prog store : List ℕ) (turns status : ℕ) (output : 
   at_done (inr (inr (inl h))) e = absurd (omega (arith, h.0, e))
   at_done (inr (inr (inr h))) e = absurd (omega (arith, h.0, e))
 
-  -- a run that has status 1 is stuck or wants more turns
+  -- a run with status 1 is stuck or needs more turns
   abbrev Undone : Type 0
   Undone = ((t : Store) × RunsTo f prog store turns Stuck t × (output ≡ codes "stuck\n")) ⊎ ((t : Store) × RunsTo f prog store turns More t × (output ≡ codes "more\n"))
 
@@ -151,51 +151,36 @@ file_once f prog store turns a b o p x y = once (file_ways f prog store turns a 
     once (inr (inr (inl h))) = h.0 ∙ sym (run_told f prog store turns b p y More h.1.0 h.1.1).0
     once (inr (inr (inr h))) = h.0 ∙ sym (takes_unfit f prog store (HasRun f turns) b p h.1 y).has_status
 
-pub runs_once : (text prog store : List ℕ) (turns : ℕ) → OneStatus (RunsText text prog store turns)
+runs_once : (text prog store : List ℕ) (turns : ℕ) → OneStatus (RunsText text prog store turns)
 runs_once text prog store turns = reads_once text (λ f. RunsFile f prog store turns) (λ f. file_once f prog store turns)
 
--- ---- the reply to files
+-- ---- what the reply says
 
-abbrev RunWays : ShelfUse → List ℕ → List ℕ → List ℕ → ℕ → ℕ → List ℕ → Type 0
-RunWays s file prog store turns status output =
-    Ways status
-    (TellsRun (s.content file) prog store turns Done output)
-    (TellsRun (s.content file) prog store turns Stuck output ⊎ TellsRun (s.content file) prog store turns More output)
-    (MaySayNone (s.content file) output)
-    ⊥
-    (HasFailedOn s file status output)
-    ⊎ ((status ≡ 7) × (MayMisfit (s.content file) prog store × (output ≡ codes "refused: words\n")))
+pub run_reply : (text prog store : List ℕ) (turns status : ℕ) (output : List ℕ) → RunsText text prog store turns status output → RunReply text prog store turns status output
+run_reply text prog store turns status output r = record {
+  replies = r;
+  headline = λ f reads. text_headline text prog store turns status output f reads r;
+  declined = λ line fault. reads_faulty text (λ f. RunsFile f prog store turns) status output line fault r;
+}
 
-module _ (s : ShelfUse) (file prog store : List ℕ) (turns status : ℕ) (output : List ℕ) where
-  said_ways : (f : FileParts) → MaySay (s.content file) f → FileWays f prog store turns status output → RunWays s file prog store turns status output
-  said_ways f says (inl h) = inl (inl (h.0, record { file = f; says = says; end = h.1.0; runs = h.1.1; printed = h.1.2 }))
-  said_ways f says (inr (inl h)) = inl (inr (inl (h.0, inl (record { file = f; says = says; end = h.1.0; runs = h.1.1; printed = h.1.2 }))))
-  said_ways f says (inr (inr (inl h))) = inl (inr (inl (h.0, inr (record { file = f; says = says; end = h.1.0; runs = h.1.1; printed = h.1.2 }))))
-  said_ways f says (inr (inr (inr h))) = inr (h.0, (record { file = f; says = says; unfit = h.1 }, h.2))
+pub run_long : (prog store : List ℕ) (turns : ℕ) → RefusesLong (λ text. RunReply text prog store turns)
+run_long prog store turns text past = run_reply text prog store turns 2 too_long_line (text_long text (λ f. RunsFile f prog store turns) past)
 
-  read_ways : HasFailedOn s file status output ⊎ (((status ≡ 2) × MaySayNone (s.content file) output) ⊎ ((f : FileParts) × MaySay (s.content file) f × RunsFile f prog store turns status output)) → RunWays s file prog store turns status output
-  read_ways (inl f) = inl (inr (inr (inr (inr (f.has_status, f)))))
-  read_ways (inr (inl h)) = inl (inr (inr (inl h)))
-  read_ways (inr (inr (f, says, r))) = said_ways f says (file_ways f prog store turns status output r)
+pub run_one : (text prog store : List ℕ) (turns : ℕ) → HasOneReply (RunReply text prog store turns) (DoesNotFit text prog store)
+run_one text prog store turns = record {
+  small = λ status output r. small status output r.replies;
+  once = λ a b o p x y. runs_once text prog store turns a b o p x.replies y.replies;
+}
+  where
+    Small : ℕ → List ℕ → Type 0
+    Small status output = (status < 4) ⊎ ((status ≡ 7) × (DoesNotFit text prog store × (output ≡ codes "refused: words\n")))
 
-  answers : RunWays s file prog store turns status output → (status ≡ 0) ⊎ ((status ≡ 1) ⊎ ((status ≡ 2) ⊎ ((status ≡ 4) ⊎ (status ≡ 7))))
-  answers (inl (inl h)) = inl h.0
-  answers (inl (inr (inl h))) = inr (inl h.0)
-  answers (inl (inr (inr (inl h)))) = inr (inr (inl h.0))
-  answers (inl (inr (inr (inr (inl h))))) = absurd h.1
-  answers (inl (inr (inr (inr (inr h))))) = inr (inr (inr (inl h.0)))
-  answers (inr h) = inr (inr (inr (inr h.0)))
+    of_file : (status : ℕ) (output : List ℕ) (f : FileParts) → Reads text f → FileWays f prog store turns status output → Small status output
+    of_file status output f reads (inl h) = inl (small_status status (inl h.0))
+    of_file status output f reads (inr (inl h)) = inl (small_status status (inr (inl h.0)))
+    of_file status output f reads (inr (inr (inl h))) = inl (small_status status (inr (inl h.0)))
+    of_file status output f reads (inr (inr (inr h))) = inr (h.0, ((f, reads, h.1), h.2))
 
-  pub run_causes : Runs s file prog store turns status output → RunCauses s file prog store turns status output
-  run_causes r =
-      let ways : RunWays s file prog store turns status output = read_ways (gets_read s file (λ f. RunsFile f prog store turns) status output r) in
-      record {
-        headline = λ text f is unfailed reads. run_headline f prog store turns status output (gets_said s file (λ g. RunsFile g prog store turns) status output text is (λ x. unfailed x.0) r f reads);
-        declined = λ text line is unfailed fault. gets_faulty s file (λ g. RunsFile g prog store turns) status output text is unfailed r line fault;
-        done = λ e. at_zero status _ _ _ _ _ (below_seven status _ _ _ _ _ _ ways (λ seven. omega (arith, e, seven))) e;
-        undone = λ e. at_one status _ _ _ _ _ (below_seven status _ _ _ _ _ _ ways (λ seven. omega (arith, e, seven))) e;
-        refused = λ e. at_two status _ _ _ _ _ (below_seven status _ _ _ _ _ _ ways (λ seven. omega (arith, e, seven))) e;
-        failed = λ e. at_four status _ _ _ _ _ (below_seven status _ _ _ _ _ _ ways (λ seven. omega (arith, e, seven))) e;
-        unfit = at_seven status _ _ _ _ _ _ ways;
-        answers = answers ways;
-      }
+    small : (status : ℕ) (output : List ℕ) → RunsText text prog store turns status output → Small status output
+    small status output (inl r) = inl (small_status status (inr (inr (inl r.0))))
+    small status output (inr (f, reads, r)) = of_file status output f reads (file_ways f prog store turns status output r)

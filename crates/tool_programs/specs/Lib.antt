@@ -1,7 +1,5 @@
 pub mod Gkat
-pub mod RunTexts
 pub mod Running
 pub mod OneLoop
-pub mod LogTexts
-pub mod Optimise
+pub mod Show
 pub mod Working

@@ -1,11 +1,8 @@
--- `oneloop`: its reply, what that says of the program, and the cause of each status.
-use Rattle.std.specs.Prelude.{◌≡◌, ◌≢◌, ◌⊎◌, ◌↔◌, ◌<◌, ◌≤◌, ◌+◌, ℕ, List, [], ◌++◌, length, None, Some, codes, replicate}
-use Rattle.std.specs.Fmt.{decimal}
-use Rattle.kat_model.specs.declared.limits.TheConstants.{MAX_EXPR_NODES, MAX_TERM_NODES, MAX_OPEN, MAX_TEXT_BYTES}
+-- `oneloop`: its reply to a text and a name, and what that says of the program.
+use Rattle.std.specs.Prelude.{◌≡◌, ◌≢◌, ◌⊎◌, ◌↔◌, ◌<◌, ◌≤◌, ◌+◌, ℕ, List, ◌++◌, length, None, Some, codes, replicate}
+use Rattle.kat_model.specs.declared.limits.TheConstants.{MAX_EXPR_NODES, MAX_TERM_NODES, MAX_OPEN, MAX_TEXT_BYTES, MAX_VARS}
 use Rattle.kat_model.specs.declared.expression.Width.{Width}
 use Rattle.kat_model.specs.Stores.{modulus}
-use Rattle.kat_io.specs.Told.{Told, Holds}
-use Rattle.kat_io.specs.Outside.{Rose}
 use Rattle.text_scopes.specs.declared.meaning.Meaning.{Meaning}
 use Rattle.text_scopes.specs.declared.meaning.Meaning.TheVariants.{Var}
 use Rattle.text_scopes.specs.ScopeParts.{ScopeParts, IsDeclared, IsUndeclared, IsWellFormed, declared}
@@ -15,6 +12,7 @@ use Rattle.while_lang.specs.ProgramSizes.{prog_size, largest_in}
 use Rattle.while_lang.specs.ProgramPrinting.{block_levels}
 use Rattle.one_loop.specs.declared.fault.OneLoopFault.{OneLoopFault}
 use Rattle.one_loop.specs.declared.fault.OneLoopFault.TheVariants.{NoMemory, TooManyVars, TooManyStatements}
+use Rattle.kat_report.specs.FormRefusals.{form_fault_line}
 use Rattle.one_loop.specs.Statements.{HasTooManyStatements}
 use Rattle.one_loop.specs.Forms.{IsOneForm}
 use Rattle.problem_file.specs.Files.{FileParts}
@@ -22,40 +20,35 @@ use Rattle.problem_file.specs.Reads.{Reads}
 use Rattle.problem_texts.specs.ProgramNumbers.{ProgIsNarrow}
 use Rattle.problem_texts.specs.ProgramTexts.{one_program_text}
 use Rattle.problem_texts.specs.Laws.{SaysProgram}
-use Rattle.tool_inputs.specs.Posing.{IsFaulty, MaySay, MaySayNone}
+use Rattle.tool_inputs.specs.TextProblem.{IsFaulty}
 use Rattle.tool_commands.specs.ProgramWords.{program_of, HasUnfitWords}
-use Rattle.tool_inputs.specs.Steps.{ShelfUse, Replying, IsRefusal, FailsOn, HasFailedOn, GetsText, ReadsText}
+use Rattle.tool_inputs.specs.Steps.{ReplySpec, IsRefusal, ReadsText}
 
 -- ---- the counter
 
--- `pc` and so many `_`
+-- `pc` and `n` times `_`
 abbrev pub pc_name : ℕ → List ℕ
 pc_name n = codes "pc" ++ replicate n 95
 
--- the name is `pc` and the fewest `_` such that no such name is declared
+-- the name is `pc` and the fewest `_` such that this name is not declared
 pub record IsCounterName (w : ScopeParts) (name : List ℕ) : Type 0 where
   pub bars : ℕ
   pub spelled : name ≡ pc_name bars
   pub is_new : IsUndeclared w name
   pub fewest : (k : ℕ) → k < bars → IsDeclared w (pc_name k)
 
--- the names of the file with the counter as the variable behind the file's
+-- the names of the file, with the counter as the variable after those of the file
 abbrev pub names_with : FileParts → List ℕ → Meaning → List ℕ
 names_with f counter = name_of (declared f.scope counter (Var f.vars))
 
 -- ---- programs without a form
 
--- why a program of the file has no form: there are 64 variables, or there are fewer and it has too many statements
+-- why a program of the file has no form: there are `MAX_VARS` variables, or there are fewer and the program has too
+-- many statements
 abbrev pub IsFormFault : FileParts → ProgTree → OneLoopFault → Type 0
 IsFormFault f p NoMemory = ⊥
-IsFormFault f p TooManyVars = f.vars ≡ 64
-IsFormFault f p (TooManyStatements n) = (f.vars < 64) × HasTooManyStatements f.width p n
-
--- the line that says so
-abbrev pub form_fault_line : OneLoopFault → List ℕ
-form_fault_line NoMemory = []
-form_fault_line TooManyVars = codes "refused: TooManyVars\n"
-form_fault_line (TooManyStatements n) = codes "refused: TooManyStatements " ++ decimal n ++ codes "\n"
+IsFormFault f p TooManyVars = f.vars ≡ MAX_VARS
+IsFormFault f p (TooManyStatements n) = (f.vars < MAX_VARS) × HasTooManyStatements f.width p n
 
 -- the program has no form, and the line that is printed says why
 pub record HasNoForm (f : FileParts) (p : ProgTree) (output : List ℕ) : Type 0 where
@@ -63,15 +56,16 @@ pub record HasNoForm (f : FileParts) (p : ProgTree) (output : List ℕ) : Type 0
   pub is_fault : IsFormFault f p fault
   pub printed : output ≡ form_fault_line fault
 
--- it has one: there is a place for a counter, which has a number for each statement and one more
+-- the program has a form: a counter can be added to the variables, and the width has more numbers than the program has
+-- statements
 pub record HasForm (f : FileParts) (p : ProgTree) : Type 0 where
-  pub place : f.vars ≢ 64
+  pub place : f.vars ≢ MAX_VARS
   pub few : statements p < modulus f.width
 
 -- ---- the reply
 
--- a form of the program is printed as a problem of its own, under the program's name; the names of the file are identifiers,
--- each with a meaning of its own
+-- a form of the program is printed as a separate problem, under the program's name; the names of the file are
+-- identifiers with different meanings
 pub record PrintsForm (f : FileParts) (name : List ℕ) (p : ProgTree) (output : List ℕ) : Type 0 where
   pub form : ProgTree
   pub is_form : IsOneForm f.width p form f.vars
@@ -80,25 +74,22 @@ pub record PrintsForm (f : FileParts) (name : List ℕ) (p : ProgTree) (output :
   pub well_formed : IsWellFormed f.scope
   pub printed : output ≡ one_program_text (names_with f counter) f.width (f.vars + 1) name form
 
--- the reply to a program of that name: it has no form, or a form is printed
-abbrev pub FormsProgram : FileParts → List ℕ → ProgTree → Replying
+-- the reply to a program with this name: it has no form, or a form is printed
+abbrev pub FormsProgram : FileParts → List ℕ → ProgTree → ReplySpec
 FormsProgram f name p status output = IsRefusal (HasNoForm f p) status output ⊎ ((status ≡ 0) × HasForm f p × PrintsForm f name p output)
 
--- the reply to what was read, to a text, and to a file
-abbrev pub FormsFile : FileParts → List ℕ → Replying
+-- the steps of the reply to a file, and to a text
+abbrev pub FormsFile : FileParts → List ℕ → ReplySpec
 FormsFile f name status output =
     HasUnfitWords (program_of f name ≡ None) status output ⊎ ((p : ProgTree) × (program_of f name ≡ Some p) × FormsProgram f name p status output)
 
-abbrev pub FormsText : List ℕ → List ℕ → Replying
+abbrev pub FormsText : List ℕ → List ℕ → ReplySpec
 FormsText text name = ReadsText text (λ f. FormsFile f name)
-
-abbrev pub Forms : ShelfUse → List ℕ → List ℕ → Replying
-Forms s file name = GetsText s file (λ text. FormsText text name)
 
 -- ---- what it says
 
--- the program and the text are within the limits of a text: of numbers, of nodes in an expression, of nodes, of constructs
--- that are open at one place, and of bytes
+-- the program and the text are within the limits of a text: on numbers, nodes in an expression, nodes, open constructs
+-- at one place, and bytes
 pub record IsWithinText (w : Width) (p : ProgTree) (text : List ℕ) : Type 0 where
   pub narrow : ProgIsNarrow w p
   pub small_exprs : largest_in p ≤ MAX_EXPR_NODES
@@ -106,16 +97,16 @@ pub record IsWithinText (w : Width) (p : ProgTree) (text : List ℕ) : Type 0 wh
   pub shallow : block_levels p ≤ MAX_OPEN
   pub short : length text ≤ MAX_TEXT_BYTES
 
--- a form of the program is printed, and within the limits what is printed is read as a file of the same width that has just
+-- a form of the program is printed; within the limits, the output is read as a file of the same width that has exactly
 -- this form under the program's name
 pub record TellsForm (f : FileParts) (name : List ℕ) (p : ProgTree) (output : List ℕ) : Type 0 where
   pub prints : PrintsForm f name p output
   pub reads_back : IsWithinText f.width prints.form output →
       (says : SaysProgram output (names_with f prints.counter) f.width (f.vars + 1) name prints.form) × (program_of says.asks.file name ≡ Some prints.form)
 
--- The status is 0 exactly where the name is that of a concrete program of the file that has a form, and then a form is
--- printed. It is 2 exactly where the program has none, with the line that says why, and 7 exactly where there is no such
--- program.
+-- The status is 0 exactly when the name is that of a concrete program of the file that has a form; then a form is
+-- printed. It is 2 exactly when the program has no form, with the line that gives the reason, and 7 exactly when there
+-- is no such program.
 pub record OneLoopHeadline (f : FileParts) (name : List ℕ) (status : ℕ) (output : List ℕ) : Type 0 where
   pub answers : (status ≡ 0) ⊎ ((status ≡ 2) ⊎ (status ≡ 7))
   pub formed : (status ≡ 0) ↔ ((p : ProgTree) × (program_of f name ≡ Some p) × HasForm f p)
@@ -125,36 +116,13 @@ pub record OneLoopHeadline (f : FileParts) (name : List ℕ) (status : ℕ) (out
   pub unfit : (status ≡ 7) ↔ (program_of f name ≡ None)
   pub unfit_line : status ≡ 7 → output ≡ codes "refused: words\n"
 
--- a text that the shelf may hold says a file in which the name has a program, of which a form is told
-pub record TellsOneLoop (told : Told) (name output : List ℕ) : Type 0 where
-  pub file : FileParts
-  pub says : MaySay told file
-  pub program : ProgTree
-  pub named : program_of file name ≡ Some program
-  pub has_form : HasForm file program
-  pub tells : TellsForm file name program output
+-- the text is read as a file in which no concrete program has the name
+abbrev pub LacksProgram : List ℕ → List ℕ → Type 0
+LacksProgram text name = (f : FileParts) × Reads text f × (program_of f name ≡ None)
 
--- it says one in which the name has a program without a form
-pub record MayLackForm (told : Told) (name output : List ℕ) : Type 0 where
-  pub file : FileParts
-  pub says : MaySay told file
-  pub program : ProgTree
-  pub named : program_of file name ≡ Some program
-  pub none : HasNoForm file program output
-
--- or one in which it has no concrete program
-pub record MayLackProgram (told : Told) (name : List ℕ) : Type 0 where
-  pub file : FileParts
-  pub says : MaySay told file
-  pub none : program_of file name ≡ None
-
--- What a reply of `oneloop` says of its file. Where the shelf tells the text and did not fail, the headline holds of what
--- the text says. A text that says nothing is refused with its line.
-pub record OneLoopCauses (s : ShelfUse) (file name : List ℕ) (status : ℕ) (output : List ℕ) : Type 0 where
-  pub headline : (text : List ℕ) (f : FileParts) → s.content file ≡ Holds text → (Rose s.before s.now → ⊥) → Reads text f → OneLoopHeadline f name status output
-  pub declined : (text line : List ℕ) → s.content file ≡ Holds text → (FailsOn s file → ⊥) → IsFaulty text line → (status ≡ 2) × (output ≡ line)
-  pub formed : status ≡ 0 → TellsOneLoop (s.content file) name output
-  pub refused : status ≡ 2 → MaySayNone (s.content file) output ⊎ MayLackForm (s.content file) name output
-  pub failed : status ≡ 4 → HasFailedOn s file status output
-  pub unfit : status ≡ 7 → MayLackProgram (s.content file) name × (output ≡ codes "refused: words\n")
-  pub answers : (status ≡ 0) ⊎ ((status ≡ 2) ⊎ ((status ≡ 4) ⊎ (status ≡ 7)))
+-- What a reply of `oneloop` says about its text. The headline holds for the file that is read. A text that is not a
+-- file is refused with its line.
+pub record OneLoopReply (text name : List ℕ) (status : ℕ) (output : List ℕ) : Type 0 where
+  pub replies : FormsText text name status output
+  pub headline : (f : FileParts) → Reads text f → OneLoopHeadline f name status output
+  pub declined : (line : List ℕ) → IsFaulty text line → (status ≡ 2) × (output ≡ line)

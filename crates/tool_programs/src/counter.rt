@@ -7,7 +7,7 @@ use kat_model::NoMemory;
 use std::alloc::Global;
 use text_scopes::Scope;
 
-/// `pc` and the fewest `_` behind it such that the scope declares no such name.
+/// Returns `pc` and the fewest `_` such that the scope does not declare this name.
 pub(crate) fn counter_name(alloc: Global, scope: &Scope) -> Result<String, NoMemory>
     ensures name { IfOk result (λ name. IsCounterName scope.now (string_bytes name)) }
     ensures well_formed { OnOk result (IsWellFormed scope.now) }

@@ -1,19 +1,20 @@
-//! `run`, `oneloop`, `optimise` and `gkat` on the files of a shelf.
+//! `run`, `oneloop`, `gkat` and `show` on the files of a shelf.
 ghost use Rattle.std.specs.Prelude.{◌≡◌, ℕ, List};
 ghost use Rattle.tool_inputs.specs.Steps.{shelf_use};
-ghost use Rattle.tool_inputs.specs.Outcomes.{IsReplied, Counts};
-ghost use Rattle.tool_programs.specs.Running.{Runs};
-ghost use Rattle.tool_programs.specs.OneLoop.{Forms};
-ghost use Rattle.tool_programs.specs.Optimise.{Optimises};
-ghost use Rattle.tool_programs.specs.Gkat.{Translates};
+ghost use Rattle.tool_inputs.specs.FileReplies.{OfFile};
+ghost use Rattle.tool_inputs.specs.ReplySpecs.{RepliesWith, KeepsFaultCount};
+ghost use Rattle.tool_programs.specs.Running.{RunReply};
+ghost use Rattle.tool_programs.specs.OneLoop.{OneLoopReply};
+ghost use Rattle.tool_programs.specs.Show.{ShowReply};
+ghost use Rattle.tool_programs.specs.Gkat.{GkatReply};
 
-use crate::text::{one_loop_reply, optimised_reply, run_reply, translated_text};
+use crate::text::{gkat_bytes, one_loop_bytes, run_bytes, show_bytes};
 use kat_io::Shelf;
 use std::alloc::Global;
-use tool_inputs::{Reply, Stop, file_text};
+use tool_inputs::{EarlyEnd, Reply, file_text};
 
-/// The reply of `run` to a file of the shelf and words, which is that of `run_reply` to its bytes. A file that cannot
-/// be got is replied to in a `Stop`.
+/// Replies to a file of the shelf and words as `run_bytes` does to its bytes. If the file cannot be read, the error reply is
+/// returned as an `EarlyEnd`.
 pub fn run_file<S: Shelf>(
     alloc: Global,
     file: &str,
@@ -21,55 +22,46 @@ pub fn run_file<S: Shelf>(
     store: &str,
     turns: u64,
     shelf: &mut S,
-) -> Result<Reply, Stop>
-    ensures replied { IsReplied (Runs (shelf_use (S.content shelf.old) (S.faults shelf.old) (S.faults shelf.new) (S.last_failed shelf.new)) file.now prog.now store.now turns) result }
-    ensures counts { Counts (S.faults shelf.old) (S.faults shelf.new) result }
+) -> Result<Reply, EarlyEnd>
+    ensures replied { RepliesWith (OfFile (shelf_use (S.content shelf.old) (S.faults shelf.old) (S.faults shelf.new) (S.last_failed shelf.new)) file.now (λ text. RunReply text prog.now store.now turns)) result }
+    ensures counts { KeepsFaultCount (S.faults shelf.old) (S.faults shelf.new) result }
     ensures kept { (name : List ℕ) → S.content shelf.new name ≡ S.content shelf.old name }
 {
     let text = file_text(alloc, file, shelf)?;
-    Ok(run_reply(alloc, &text, prog, store, turns)?)
+    Ok(run_bytes(alloc, &text, prog, store, turns)?)
 }
 
-/// The reply of `oneloop` to a file of the shelf and a name, which is that of `one_loop_reply` to its bytes. A file
-/// that cannot be got is replied to in a `Stop`.
+/// Replies to a file of the shelf and a name as `one_loop_bytes` does to its bytes. Otherwise as `run_file`.
 pub fn one_loop_file<S: Shelf>(
     alloc: Global,
     file: &str,
     prog: &str,
     shelf: &mut S,
-) -> Result<Reply, Stop>
-    ensures replied { IsReplied (Forms (shelf_use (S.content shelf.old) (S.faults shelf.old) (S.faults shelf.new) (S.last_failed shelf.new)) file.now prog.now) result }
-    ensures counts { Counts (S.faults shelf.old) (S.faults shelf.new) result }
+) -> Result<Reply, EarlyEnd>
+    ensures replied { RepliesWith (OfFile (shelf_use (S.content shelf.old) (S.faults shelf.old) (S.faults shelf.new) (S.last_failed shelf.new)) file.now (λ text. OneLoopReply text prog.now)) result }
+    ensures counts { KeepsFaultCount (S.faults shelf.old) (S.faults shelf.new) result }
     ensures kept { (name : List ℕ) → S.content shelf.new name ≡ S.content shelf.old name }
 {
     let text = file_text(alloc, file, shelf)?;
-    Ok(one_loop_reply(alloc, &text, prog)?)
+    Ok(one_loop_bytes(alloc, &text, prog)?)
 }
 
-/// The reply of `optimise` to a file of the shelf, a name and a number of steps, which is that of `optimised_reply` to
-/// its bytes. A file that cannot be got is replied to in a `Stop`.
-pub fn optimise_file<S: Shelf>(
-    alloc: Global,
-    file: &str,
-    prog: &str,
-    turns: u64,
-    shelf: &mut S,
-) -> Result<Reply, Stop>
-    ensures replied { IsReplied (Optimises (shelf_use (S.content shelf.old) (S.faults shelf.old) (S.faults shelf.new) (S.last_failed shelf.new)) file.now prog.now turns) result }
-    ensures counts { Counts (S.faults shelf.old) (S.faults shelf.new) result }
+/// Replies to a file of the shelf as `gkat_bytes` does to its bytes. Otherwise as `run_file`.
+pub fn gkat_file<S: Shelf>(alloc: Global, file: &str, shelf: &mut S) -> Result<Reply, EarlyEnd>
+    ensures replied { RepliesWith (OfFile (shelf_use (S.content shelf.old) (S.faults shelf.old) (S.faults shelf.new) (S.last_failed shelf.new)) file.now GkatReply) result }
+    ensures counts { KeepsFaultCount (S.faults shelf.old) (S.faults shelf.new) result }
     ensures kept { (name : List ℕ) → S.content shelf.new name ≡ S.content shelf.old name }
 {
     let text = file_text(alloc, file, shelf)?;
-    Ok(optimised_reply(alloc, &text, prog, turns)?)
+    Ok(gkat_bytes(alloc, &text)?)
 }
 
-/// The reply of `gkat` to a file of the shelf, which is that of `translated_text` to its bytes. A file that cannot be
-/// got is replied to in a `Stop`.
-pub fn gkat_file<S: Shelf>(alloc: Global, file: &str, shelf: &mut S) -> Result<Reply, Stop>
-    ensures replied { IsReplied (Translates (shelf_use (S.content shelf.old) (S.faults shelf.old) (S.faults shelf.new) (S.last_failed shelf.new)) file.now) result }
-    ensures counts { Counts (S.faults shelf.old) (S.faults shelf.new) result }
+/// Replies to a file of the shelf as `show_bytes` does to its bytes. Otherwise as `run_file`.
+pub fn show_file<S: Shelf>(alloc: Global, file: &str, shelf: &mut S) -> Result<Reply, EarlyEnd>
+    ensures replied { RepliesWith (OfFile (shelf_use (S.content shelf.old) (S.faults shelf.old) (S.faults shelf.new) (S.last_failed shelf.new)) file.now ShowReply) result }
+    ensures counts { KeepsFaultCount (S.faults shelf.old) (S.faults shelf.new) result }
     ensures kept { (name : List ℕ) → S.content shelf.new name ≡ S.content shelf.old name }
 {
     let text = file_text(alloc, file, shelf)?;
-    Ok(translated_text(alloc, &text)?)
+    Ok(show_bytes(alloc, &text)?)
 }

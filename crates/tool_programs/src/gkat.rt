@@ -1,4 +1,4 @@
-//! `gkat`: the reply to a text of GKAT is the problem that it asks, as the text of a problem file.
+//! `gkat`: replies to a text of GKAT with the problem that it asks, as the text of a problem file.
 ghost use Rattle.std.specs.Prelude.{◌≡◌, ◌++◌, ℕ, List, map, IfOk, OnOk, codes};
 ghost use Rattle.std.specs.List.{range_with_len};
 ghost use Rattle.text_scopes.specs.declared.meaning.Meaning.{Meaning};
@@ -7,10 +7,10 @@ ghost use Rattle.problem_texts.specs.Questions.{declaration_text};
 ghost use Rattle.gkat_front.specs.FileViews.{file_parts};
 ghost use Rattle.gkat_front.specs.Reads.{Reads, FirstFault};
 ghost use Rattle.tool_programs.specs.Gkat.{names_line, gkat_text, TranslatesText};
-ghost use Rattle.tool_inputs.specs.Posing.{IsFaultOf};
+ghost use Rattle.tool_inputs.specs.TextProblem.{IsFaultOf};
 ghost use Rattle.tool_inputs.specs.Steps.{IsRefusal};
 ghost use Rattle.tool_programs.specs.Working.Kinds.{kind_word, kind_meaning};
-ghost use Rattle.tool_inputs.specs.Outcomes.{IsOutcome, IsReplied};
+ghost use Rattle.tool_inputs.specs.ReplySpecs.{Yields, RepliesWith};
 
 use gkat_front::{GkatFile, kat_of, read_gkat};
 use kat_model::NoMemory;
@@ -18,9 +18,9 @@ use problem_texts::put_goal;
 use std::alloc::Global;
 use text_print::put_name;
 use text_scopes::{Meaning, Scope};
-use tool_inputs::{Reply, Stop, text_fault_stop};
+use tool_inputs::{EarlyEnd, Reply, text_fault_stop};
 
-// What a text of GKAT declares.
+// The kinds of names that a text of GKAT declares.
 #[derive(Clone, Copy)]
 enum Kind {
     Test,
@@ -54,7 +54,7 @@ fn put(out: &mut Vec<u8>, text: &[u8]) -> Result<(), NoMemory>
     Ok(())
 }
 
-// The declaration of so many names of a kind; nothing where there are none.
+// Appends the declaration of the first `count` names of a kind, or nothing if `count` is 0.
 fn put_names(out: &mut Vec<u8>, scope: &Scope, kind: Kind, count: usize) -> Result<(), NoMemory>
     ensures { OnOk result (out.new.items ≡ out.old.items ++ names_line (kind_word kind) (name_of scope.now) (kind_meaning kind) count) }
 {
@@ -84,9 +84,9 @@ fn translation(alloc: Global, file: &GkatFile) -> Result<Vec<u8>, NoMemory>
     Ok(out)
 }
 
-// What a text says.
-fn file_of(alloc: Global, text: &[u8]) -> Result<GkatFile, Stop>
-    ensures { IsOutcome (λ f. Reads text.now (file_parts f)) (IsRefusal (IsFaultOf (FirstFault text.now))) result }
+// Reads a text of GKAT. A text with a first fault is refused with the line of the fault.
+fn file_of(alloc: Global, text: &[u8]) -> Result<GkatFile, EarlyEnd>
+    ensures { Yields (λ f. Reads text.now (file_parts f)) (IsRefusal (IsFaultOf (FirstFault text.now))) result }
 {
     match read_gkat(alloc, text) {
         Ok(file) => Ok(file),
@@ -94,9 +94,9 @@ fn file_of(alloc: Global, text: &[u8]) -> Result<GkatFile, Stop>
     }
 }
 
-/// The reply to a text.
-pub(crate) fn text_reply(alloc: Global, text: &[u8]) -> Result<Reply, Stop>
-    ensures { IsReplied (TranslatesText text.now) result }
+/// Returns the reply to a text.
+pub(crate) fn text_reply(alloc: Global, text: &[u8]) -> Result<Reply, EarlyEnd>
+    ensures { RepliesWith (TranslatesText text.now) result }
 {
     let file = file_of(alloc, text)?;
     Ok(Reply {

@@ -1,5 +1,6 @@
-//! `oneloop`: the reply to a text and the name of a program is a form of that program with one loop.
+//! `oneloop`: replies to a text and the name of a program with a form of that program with one loop.
 ghost use Rattle.std.specs.Prelude.{◌≡◌, ◌≢◌, ◌<◌, ◌≤◌, ◌+◌, ℕ, List, Some, true, IfOk};
+ghost use Rattle.kat_model.specs.declared.limits.TheConstants.{MAX_VARS};
 ghost use Rattle.text_scopes.specs.declared.meaning.Meaning.TheVariants.{Var};
 ghost use Rattle.text_scopes.specs.ScopeParts.{declared, IsUnnamed, IsWellFormed};
 ghost use Rattle.text_print.specs.Printing.{name_of};
@@ -10,53 +11,42 @@ ghost use Rattle.one_loop.specs.Variables.{HasVarsBelow};
 ghost use Rattle.problem_texts.specs.ProgramTexts.{one_program_text};
 ghost use Rattle.problem_file.specs.Ranges.{IsNumbered};
 ghost use Rattle.tool_commands.specs.ProgramWords.{program_of};
-ghost use Rattle.tool_programs.specs.OneLoop.{form_fault_line, HasForm, HasNoForm, IsCounterName, FormsFile, FormsText};
+ghost use Rattle.kat_report.specs.FormRefusals.{form_fault_line};
+ghost use Rattle.tool_programs.specs.OneLoop.{HasForm, HasNoForm, IsCounterName, FormsFile, FormsText};
 ghost use Rattle.tool_inputs.specs.Steps.{IsRefusal};
-ghost use Rattle.tool_inputs.specs.Outcomes.{IsStop, IsOutcome, IsReplied};
+ghost use Rattle.tool_inputs.specs.ReplySpecs.{EndsWith, Yields, RepliesWith};
 
 use crate::counter::counter_name;
 use kat_model::{NoMemory, Width};
+use kat_report::form_fault_line;
 use one_loop::{OneLoopFault, one_loop};
 use problem_file::File;
 use problem_texts::{declare, one_program_text};
 use std::alloc::Global;
 use text_scopes::{Meaning, Scope};
 use tool_commands::program_of;
-use tool_inputs::{Reply, Stop, file_of, unfit_stop};
+use tool_inputs::{EarlyEnd, Reply, file_of, unfit_stop};
 use while_lang::Prog;
 
-fn form_fault_line(alloc: Global, fault: OneLoopFault) -> Result<Vec<u8>, NoMemory>
-    ensures { IfOk result (λ line. line.items ≡ form_fault_line fault) }
-{
-    match fault {
-        OneLoopFault::NoMemory => Ok(Vec::new(alloc)),
-        OneLoopFault::TooManyVars => Ok(b"refused: TooManyVars\n".to_vec(alloc)?),
-        OneLoopFault::TooManyStatements(n) => {
-            let line = format!(in alloc; "refused: TooManyStatements {n}\n")?;
-            Ok(line.as_bytes().to_vec(alloc)?)
-        }
-    }
-}
-
 // The reply to a program with this fault, which is a refusal unless memory ran out.
-fn fault_stop(alloc: Global, fault: OneLoopFault) -> Stop
-    ensures { IsStop (λ status output. (status ≡ 2) × ((fault ≢ NoRoom) × (output ≡ form_fault_line fault))) result }
+fn fault_stop(alloc: Global, fault: OneLoopFault) -> EarlyEnd
+    ensures { EndsWith (λ status output. (status ≡ 2) × ((fault ≢ NoRoom) × (output ≡ form_fault_line fault))) result }
 {
     match fault {
-        OneLoopFault::NoMemory => Stop::NoMemory,
+        OneLoopFault::NoMemory => EarlyEnd::NoMemory,
         _ => match form_fault_line(alloc, fault) {
-            Ok(output) => Stop::Replied(Reply { status: 2, output }),
-            Err(NoMemory) => Stop::NoMemory,
+            Ok(output) => EarlyEnd::Replied(Reply { status: 2, output }),
+            Err(NoMemory) => EarlyEnd::NoMemory,
         },
     }
 }
 
-// A form of a program of the file.
-fn form_of(alloc: Global, file: &File, prog: &Prog) -> Result<Prog, Stop>
+// Returns a form of a program of the file. A program without a form is refused.
+fn form_of(alloc: Global, file: &File, prog: &Prog) -> Result<Prog, EarlyEnd>
     requires concrete { is_concrete prog.now ≡ true }
     requires variables { HasVarsBelow file.now.vars prog.now }
-    requires within { file.now.vars ≤ 64 }
-    ensures { IsOutcome (λ form. HasForm file.now prog.now × IsOneForm file.now.width prog.now form file.now.vars) (IsRefusal (HasNoForm file.now prog.now)) result }
+    requires within { file.now.vars ≤ MAX_VARS }
+    ensures { Yields (λ form. HasForm file.now prog.now × IsOneForm file.now.width prog.now form file.now.vars) (IsRefusal (HasNoForm file.now prog.now)) result }
 {
     match one_loop(alloc, prog, file.vars, file.width) {
         Ok(form) => Ok(form),
@@ -64,7 +54,7 @@ fn form_of(alloc: Global, file: &File, prog: &Prog) -> Result<Prog, Stop>
     }
 }
 
-// The text of a form, with its counter as one variable more in the scope.
+// Returns the text of a form. Declares the counter in the file's scope, which then has all names of the form.
 fn form_text(
     alloc: Global,
     scope: &mut Scope,
@@ -74,7 +64,7 @@ fn form_text(
     form: &Prog,
 ) -> Result<Vec<u8>, NoMemory>
     requires unnamed { IsUnnamed scope.old (Var vars) }
-    requires place { vars < 64 }
+    requires place { vars < MAX_VARS }
     ensures { IfOk result (λ text. (counter : List ℕ) × IsCounterName scope.old counter × IsWellFormed scope.old
         × (text.items ≡ one_program_text (name_of (declared scope.old counter (Var vars))) width (vars + 1) name.now form.now)) }
 {
@@ -83,11 +73,11 @@ fn form_text(
     one_program_text(alloc, scope, width, vars + 1, name, form)
 }
 
-// The reply to a file and a name.
-fn file_reply(alloc: Global, mut file: File, name: &str) -> Result<Reply, Stop>
+// Returns the reply to a file and a name.
+fn file_reply(alloc: Global, mut file: File, name: &str) -> Result<Reply, EarlyEnd>
     requires numbered { IsNumbered file }
     requires unnamed { IsUnnamed file.scope (Var file.vars) }
-    ensures { IsReplied (FormsFile file name.now) result }
+    ensures { RepliesWith (FormsFile file name.now) result }
 {
     let Some(prog) = program_of(&file, name) else {
         return Err(unfit_stop(alloc));
@@ -101,9 +91,9 @@ fn file_reply(alloc: Global, mut file: File, name: &str) -> Result<Reply, Stop>
     })
 }
 
-/// The reply to a text and a name.
-pub(crate) fn text_reply(alloc: Global, text: &[u8], name: &str) -> Result<Reply, Stop>
-    ensures { IsReplied (FormsText text.now name.now) result }
+/// Returns the reply to a text and a name.
+pub(crate) fn text_reply(alloc: Global, text: &[u8], name: &str) -> Result<Reply, EarlyEnd>
+    ensures { RepliesWith (FormsText text.now name.now) result }
 {
     let file = file_of(alloc, text)?;
     file_reply(alloc, file, name)

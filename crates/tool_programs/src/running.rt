@@ -1,17 +1,16 @@
-//! `run`: the reply to a text and words is how the program ends that they name.
+//! `run`: runs the program that words name, and replies with how it ends.
 ghost use Rattle.std.specs.Prelude.{◌≡◌, true, IfOk};
 ghost use Rattle.kat_model.specs.Stores.{IsStore};
 ghost use Rattle.while_lang.specs.Programs.{is_concrete};
-ghost use Rattle.tool_programs.specs.RunTexts.{outcome_status};
-ghost use Rattle.tool_programs.specs.Running.{HasRun, RunsFile, RunsText};
-ghost use Rattle.tool_inputs.specs.Outcomes.{IsReplied};
+ghost use Rattle.tool_programs.specs.Running.{outcome_status, HasRun, RunsFile, RunsText};
+ghost use Rattle.tool_inputs.specs.ReplySpecs.{RepliesWith};
 
-use crate::run_text::outcome_line;
 use kat_model::NoMemory;
+use kat_report::outcome_line;
 use problem_file::File;
 use std::alloc::Global;
 use tool_commands::{program_of, store_of};
-use tool_inputs::{Reply, Stop, file_of, unfit_stop};
+use tool_inputs::{EarlyEnd, Reply, file_of, unfit_stop};
 use while_lang::{Outcome, Prog, Store, run};
 
 fn outcome_status(outcome: Outcome) -> u8
@@ -23,7 +22,7 @@ fn outcome_status(outcome: Outcome) -> u8
     }
 }
 
-// The reply to a program and a store of the file.
+// Runs a program on a store of the file, and returns the reply.
 fn outcome_reply(
     alloc: Global,
     file: &File,
@@ -42,15 +41,15 @@ fn outcome_reply(
     })
 }
 
-// The reply to a file and words.
+// Returns the reply to a file and words.
 fn file_reply(
     alloc: Global,
     file: &File,
     prog: &str,
     store: &str,
     turns: u64,
-) -> Result<Reply, Stop>
-    ensures { IsReplied (RunsFile file.now prog.now store.now turns) result }
+) -> Result<Reply, EarlyEnd>
+    ensures { RepliesWith (RunsFile file.now prog.now store.now turns) result }
 {
     let Some(prog) = program_of(file, prog) else {
         return Err(unfit_stop(alloc));
@@ -61,15 +60,15 @@ fn file_reply(
     Ok(outcome_reply(alloc, file, prog, store, turns)?)
 }
 
-/// The reply to a text and words.
+/// Returns the reply to a text and words.
 pub(crate) fn text_reply(
     alloc: Global,
     text: &[u8],
     prog: &str,
     store: &str,
     turns: u64,
-) -> Result<Reply, Stop>
-    ensures { IsReplied (RunsText text.now prog.now store.now turns) result }
+) -> Result<Reply, EarlyEnd>
+    ensures { RepliesWith (RunsText text.now prog.now store.now turns) result }
 {
     let file = file_of(alloc, text)?;
     file_reply(alloc, &file, prog, store, turns)

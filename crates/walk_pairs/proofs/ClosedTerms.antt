@@ -13,6 +13,11 @@ use Rattle.walk_pairs.specs.ClosedTerms.{AreIdsOf}
 use Rattle.walk_pairs.specs.declared.closed.ClosedIds.{ClosedIds}
 use Rattle.walk_pairs.proofs.SideRanges.{sides_in_range}
 
+-- the universal term keeps its tree
+pub universal_kept : (s t : NodeParts) → Grows s t → (o : Option ℕ) → ((u : ℕ) → o ≡ Some u → IsTerm s u) → option_map (tree_at t) o ≡ option_map (tree_at s) o
+universal_kept s t grows None there = refl
+universal_kept s t grows (Some u) there = ap Some (grows.trees u (there u refl))
+
 pub ids_kept : (s t : NodeParts) (c : Closed) (ids : ClosedIds) → Grows s t → AreIdsOf s c ids → AreIdsOf t c ids
 ids_kept s t c ids grows are = record {
   left_id = grows.term_numbers ids.left are.left_id;
@@ -20,12 +25,8 @@ ids_kept s t c ids grows are = record {
   right_id = grows.term_numbers ids.right are.right_id;
   right = grows.trees ids.right are.right_id ∙ are.right;
   universal_id = λ u e. grows.term_numbers u (are.universal_id u e);
-  universal = same ids.universal are.universal_id ∙ are.universal;
+  universal = universal_kept s t grows ids.universal are.universal_id ∙ are.universal;
 }
-  where
-    same : (o : Option ℕ) → ((u : ℕ) → o ≡ Some u → IsTerm s u) → option_map (tree_at t) o ≡ option_map (tree_at s) o
-    same None there = refl
-    same (Some u) there = ap Some (grows.trees u (there u refl))
 
 module _ (store : NodeParts) (q : ProblemParts) (problem : IsProblem q) (ids : ClosedIds) (are : AreIdsOf store (closed q) ids) where
   pub left_term : IsTermOf store q.tests ids.left

@@ -21,7 +21,20 @@ use Rattle.partial_derivs.proofs.Entries.{lookup_has}
 use Rattle.walk_pairs.specs.declared.items.Item.{Item}
 use Rattle.walk_pairs.specs.declared.items.Side.{Side}
 use Rattle.walk_pairs.specs.declared.items.Side.TheVariants.{Left, Right}
-use Rattle.walk_pairs.specs.Items.{guard_of, targets_of, chosen, items_in, AreKeyed, found_item, item_in, led_to, AddsTargets, AreLedTo}
+use Rattle.walk_pairs.specs.Items.{guard_of, opposite_of, with_guard, targets_of, chosen, items_in, AreKeyed, found_item, item_in, led_to, AddsTargets, AreLedTo}
+
+-- the parts of an item with another guard on a side
+pub with_guard_target : (side : Side) (i : Item) (guard : ℕ) → (with_guard side i guard).target ≡ i.target
+with_guard_target Left i guard = refl
+with_guard_target Right i guard = refl
+
+pub with_guard_own : (side : Side) (i : Item) (guard : ℕ) → guard_of side (with_guard side i guard) ≡ guard
+with_guard_own Left i guard = refl
+with_guard_own Right i guard = refl
+
+pub with_guard_other : (side : Side) (i : Item) (guard : ℕ) → guard_of (opposite_of side) (with_guard side i guard) ≡ guard_of (opposite_of side) i
+with_guard_other Left i guard = refl
+with_guard_other Right i guard = refl
 
 -- a lookup returns an entry of the table
 pub found_entry : (es : List (ℕ × Item)) (k : ℕ) (i : Item) → lookup (is_at (nat_cmp k)) es ≡ Some i → Has es (k, i)

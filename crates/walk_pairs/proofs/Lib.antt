@@ -19,3 +19,4 @@ pub mod FixedDiagrams
 pub mod SideRanges
 pub mod ClosedTerms
 pub mod CertSets
+pub mod IdSets

@@ -7,6 +7,7 @@ use Rattle.kat_model.specs.Members.{Has, HasNoDoubles}
 use Rattle.kat_model.proofs.Lists.{has_map}
 use Rattle.kat_model.proofs.Places.{has_at, one_place}
 use Rattle.term_nodes.specs.NumberSets.{are_below, are_ascending}
+use Rattle.term_nodes.proofs.Parts.{has_below}
 use Rattle.walk_pairs.specs.Numbering.{number_of, numbers_of}
 use Rattle.certificate.proofs.Ascending.{ascending_first, ascending_tail}
 
@@ -72,12 +73,8 @@ number_less ids up i j h k low = go (nat_lt (number_of ids i) (number_of ids j))
 
 -- ---- numbers of lists of ids
 
-pub are_below_all : (n : ℕ) (ks : List ℕ) → ((k : ℕ) → Has ks k → k < n) → are_below n ks ≡ true
-are_below_all n [] low = refl
-are_below_all n (k ∷ ks) low = and_from (nat_lt k n) (are_below n ks) (lt-ltb k n (low k (inl refl))) (are_below_all n ks (λ j h. low j (inr h)))
-
 pub numbers_below : (ids set : List ℕ) (n : ℕ) → ((i : ℕ) → Has set i → number_of ids i < n) → are_below n (numbers_of ids set) ≡ true
-numbers_below ids set n low = are_below_all n (numbers_of ids set) (λ k h. let r = has_map (number_of ids) set k h in subst (λ z. z < n) r.2 (low r.0 r.1))
+numbers_below ids set n low = has_below n (numbers_of ids set) (λ k h. let r = has_map (number_of ids) set k h in subst (λ z. z < n) r.2 (low r.0 r.1))
 
 pub numbers_ascend : (ids : List ℕ) → are_ascending ids ≡ true → (set : List ℕ) → are_ascending set ≡ true → ((i : ℕ) → Has set i → Has ids i) → are_ascending (numbers_of ids set) ≡ true
 numbers_ascend ids up [] e within = refl

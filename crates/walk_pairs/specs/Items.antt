@@ -22,6 +22,15 @@ abbrev pub guard_beyond : Side → Item → ℕ
 guard_beyond Left item = item.right
 guard_beyond Right item = item.left
 
+abbrev pub opposite_of : Side → Side
+opposite_of Left = Right
+opposite_of Right = Left
+
+-- the item with another guard on the side
+abbrev pub with_guard : Side → Item → ℕ → Item
+with_guard Left item guard = record { target = item.target; left = guard; right = item.right }
+with_guard Right item guard = record { target = item.target; left = item.left; right = guard }
+
 -- the targets
 abbrev pub targets_of : List Item → List ℕ
 targets_of items = map (λ i. i.target) items

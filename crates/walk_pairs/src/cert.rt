@@ -139,8 +139,8 @@ fn number_pairs(
     Ok(list)
 }
 
-/// Builds the certificate of the pairs in this style, with only the nodes that they need. Fails only when out of
-/// memory.
+/// Builds the certificate of the pairs in this style, with only the nodes that they need. Nodes are in the order of
+/// their ids in the store, so each follows its parts. Fails only when out of memory.
 pub fn cert_of(
     alloc: Global,
     store: &Store,

@@ -4,9 +4,8 @@ ghost use Rattle.std.specs.Ordering.{nat_cmp};
 ghost use Rattle.std.specs.BTreeMap.{IsOrdered};
 ghost use Rattle.partial_derivs.specs.Moves.{AreGuards, AreMerged};
 ghost use Rattle.test_diagrams.specs.Reduced.{IsReduced};
-ghost use Rattle.walk_pairs.specs.Items.{guard_of, guard_beyond, item_in, AddsMoves, AddsTargets, AreKeyed, items_in, AreItemsOf, AreLedTo};
+ghost use Rattle.walk_pairs.specs.Items.{guard_of, guard_beyond, with_guard as with_guard', opposite_of, item_in, AddsMoves, AddsTargets, AreKeyed, items_in, AreItemsOf, AreLedTo};
 ghost use Rattle.walk_pairs.specs.Items.{AreEnds};
-ghost use Rattle.walk_pairs.specs.declared.items.Side.TheVariants.{Left as OnLeft, Right as OnRight};
 
 use kat_model::NoMemory;
 use partial_derivs::Guarded;
@@ -85,45 +84,39 @@ fn item_at(items: &ByTarget, target: TermId, never: DiagramId) -> Item
     }
 }
 
-// Adds the moves by the action to the left side.
-fn add_left(
-    items: &mut ByTarget,
-    moves: &[Guarded],
-    act: usize,
-    never: DiagramId,
-) -> Result<(), NoMemory>
-    requires keyed { AreKeyed items.old.entries }
-    ensures added { OnOk result (AddsMoves never OnLeft OnRight items.old.entries items.new.entries moves.now act) }
-    ensures targets { OnOk result (AddsTargets items.old.entries items.new.entries moves.now) }
-    ensures keyed { OnOk result (AreKeyed items.new.entries) }
+// Returns the item with another guard on this side.
+fn with_guard(item: Item, side: Side, guard: DiagramId) -> Item
+    ensures { result ≡ with_guard' side item guard }
 {
-    for guarded in moves {
-        if guarded.act == act {
-            let item = item_at(items, guarded.to, never);
-            let left = guarded.guard;
-            items.insert(guarded.to, Item { left, ..item })?;
-        }
+    match side {
+        Side::Left => Item {
+            left: guard,
+            ..item
+        },
+        Side::Right => Item {
+            right: guard,
+            ..item
+        },
     }
-    Ok(())
 }
 
-// Adds the moves by the action to the right side.
-fn add_right(
+// Adds the moves by the action to this side.
+fn add_moves(
     items: &mut ByTarget,
     moves: &[Guarded],
     act: usize,
     never: DiagramId,
+    side: Side,
 ) -> Result<(), NoMemory>
     requires keyed { AreKeyed items.old.entries }
-    ensures added { OnOk result (AddsMoves never OnRight OnLeft items.old.entries items.new.entries moves.now act) }
+    ensures added { OnOk result (AddsMoves never side (opposite_of side) items.old.entries items.new.entries moves.now act) }
     ensures targets { OnOk result (AddsTargets items.old.entries items.new.entries moves.now) }
     ensures keyed { OnOk result (AreKeyed items.new.entries) }
 {
     for guarded in moves {
         if guarded.act == act {
             let item = item_at(items, guarded.to, never);
-            let right = guarded.guard;
-            items.insert(guarded.to, Item { right, ..item })?;
+            items.insert(guarded.to, with_guard(item, side, guarded.guard))?;
         }
     }
     Ok(())
@@ -158,7 +151,7 @@ pub fn items_of(
 {
     let never = diagrams.constant(false);
     let mut items = BTreeMap::new(alloc);
-    add_left(&mut items, left, act, never)?;
-    add_right(&mut items, right, act, never)?;
+    add_moves(&mut items, left, act, never, Side::Left)?;
+    add_moves(&mut items, right, act, never, Side::Right)?;
     item_list(alloc, &items)
 }

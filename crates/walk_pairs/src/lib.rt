@@ -4,6 +4,7 @@
 
 mod cert;
 mod closed;
+mod found;
 mod items;
 mod needed;
 mod order;
@@ -12,6 +13,7 @@ mod pair;
 
 pub use cert::cert_of;
 pub use closed::{ClosedIds, closed_ids};
+pub use found::{BothSteps, Difference};
 pub use items::{Ends, Item, Side, ends_of, guard_across, guard_on, items_of};
 pub use needed::add_all;
 pub use order::actions_in_order;

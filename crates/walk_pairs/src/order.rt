@@ -29,7 +29,7 @@ fn action_counts(
     Ok(list)
 }
 
-/// Returns the actions below `actions`, those with fewer moves first.
+/// Returns the actions below `actions`, those with fewer moves first. No clause depends on the order.
 pub fn actions_in_order(
     alloc: Global,
     left: &[Guarded],

@@ -23,9 +23,9 @@ use Rattle.walk_under.specs.TestedWalks.{TestedOrigin, TestedEntry, IsListedAt, 
 use Rattle.walk_under.specs.Working.Entries.{EntryParts}
 use Rattle.walk_under.specs.Working.Allowance.{IsWithin, IsAllowedSource, HasAllowedSource}
 use Rattle.walk_under.specs.Working.Listings.{origin_of, entry_of, entries_of, IsLevelAtom, IsPlaceWith}
-use Rattle.walk_under.specs.Working.Walking.{Setting, about, IsUnderWay, IsDifference}
-use Rattle.walk_under.specs.declared.entry.Origin.{Origin}
-use Rattle.walk_under.specs.declared.walk.Walk.{Walk}
+use Rattle.walk_under.specs.Working.Walking.{WalkContext, walk_context, IsUnderWay, IsDifference}
+use Rattle.walk_under.specs.declared.entry.StepOrigin.{StepOrigin}
+use Rattle.walk_under.specs.declared.walk.TestedWorklist.{TestedWorklist}
 use Rattle.walk_under.proofs.AllowedImages.{atom_allowed}
 use Rattle.walk_under.proofs.JoinedAt.{entry_at}
 use Rattle.walk_under.proofs.Standing.{level_atom}
@@ -36,10 +36,10 @@ abbrev pub string_of : Atom → List Move → GuardedString
 string_of first moves = record { first = first; rest = reverse moves }
 
 -- the atom and the moves are the end of a string that distinguishes the sides of the walk
-abbrev pub IsSoFar : Setting → Walk → ℕ → ℕ → Atom → List Move → Type 0
+abbrev pub IsSoFar : WalkContext → TestedWorklist → ℕ → ℕ → Atom → List Move → Type 0
 IsSoFar s w n k first moves = IsSuffix s.shorts s.problem (entries_of s.store w.diagrams w.listing.entries.items) n k (string_of first moves)
 
-pub so_far_start : (s : Setting) (w : Walk) (place : ℕ) (atom : Atom) → IsUnderWay s w place → (d : IsDifference s w place atom) → IsSoFar s w d.from.level place atom []
+pub so_far_start : (s : WalkContext) (w : TestedWorklist) (place : ℕ) (atom : Atom) → IsUnderWay s w place → (d : IsDifference s w place atom) → IsSoFar s w d.from.level place atom []
 so_far_start s w place atom u d =
     let is = u.entries d.from (has_at w.listing.entries.items place d.from d.at) in
     suffix_start s.shorts s.problem (entries_of s.store w.diagrams w.listing.entries.items) place u.walk (entry_of s.store w.diagrams d.from) atom (entry_at s.store w.diagrams w.listing.entries.items place d.from d.at) (d.fits ∙ u.tests) d.there
@@ -53,7 +53,7 @@ level_of (Some e) = e.level
 abbrev pub level_at : List EntryParts → ℕ → ℕ
 level_at es k = level_of (slice_get es k)
 
-module _ (s : Setting) (w : Walk) (done : ℕ) (u : IsUnderWay s w done) (n k : ℕ) (first : Atom) (moves : List Move) (f : IsSoFar s w n k first moves) where
+module _ (s : WalkContext) (w : TestedWorklist) (done : ℕ) (u : IsUnderWay s w done) (n k : ℕ) (first : Atom) (moves : List Move) (f : IsSoFar s w n k first moves) where
   abbrev es : List TestedEntry
   es = entries_of s.store w.diagrams w.listing.entries.items
 
@@ -69,7 +69,7 @@ module _ (s : Setting) (w : Walk) (done : ℕ) (u : IsUnderWay s w done) (n k : 
     pub so_far_ended : e.origin ≡ None → f.entry.origin ≡ None
     so_far_ended none = ap (λ (x : TestedEntry). x.origin) (sym entry_is) ∙ ap (option_map (origin_of w.diagrams)) none
 
-    module _ (o : Origin) (is : e.origin ≡ Some o) where
+    module _ (o : StepOrigin) (is : e.origin ≡ Some o) where
       origin_is : f.entry.origin ≡ Some (origin_of w.diagrams o)
       origin_is = ap (λ (x : TestedEntry). x.origin) (sym entry_is) ∙ ap (option_map (origin_of w.diagrams)) is
 
@@ -145,9 +145,9 @@ module _ (s : Setting) (w : Walk) (done : ℕ) (u : IsUnderWay s w done) (n k : 
             both_of x y = record { left = terms_of s.store x; right = terms_of s.store y }
 
 -- the string at the first entry refutes the problem, and no shorter string does
-pub so_far_shortest : (whole : ProblemParts) (shorts longs : List Term) → AreSplit whole.hyps shorts longs → (store : NodeParts) (w : Walk) (done : ℕ) (u : IsUnderWay (about shorts (with_hyps whole longs) store) w done) (last : EntryParts) → slice_get w.listing.entries.items done ≡ Some last
-    → (k : ℕ) (first : Atom) (moves : List Move) → IsSoFar (about shorts (with_hyps whole longs) store) w last.level k first moves → (e : EntryParts) → slice_get w.listing.entries.items k ≡ Some e → e.origin ≡ None → IsShortest whole (string_of first moves)
+pub so_far_shortest : (whole : ProblemParts) (shorts longs : List Term) → AreSplit whole.hyps shorts longs → (store : NodeParts) (w : TestedWorklist) (done : ℕ) (u : IsUnderWay (walk_context shorts (with_hyps whole longs) store) w done) (last : EntryParts) → slice_get w.listing.entries.items done ≡ Some last
+    → (k : ℕ) (first : Atom) (moves : List Move) → IsSoFar (walk_context shorts (with_hyps whole longs) store) w last.level k first moves → (e : EntryParts) → slice_get w.listing.entries.items k ≡ Some e → e.origin ≡ None → IsShortest whole (string_of first moves)
 so_far_shortest whole shorts longs split store w done u last here k first moves f e at none =
-    let s = about shorts (with_hyps whole longs) store in
+    let s = walk_context shorts (with_hyps whole longs) store in
     suffix_end whole shorts longs split (entries_of store w.diagrams w.listing.entries.items) done u.walk (entry_of store w.diagrams last) (entry_at store w.diagrams w.listing.entries.items done last here) k (string_of first moves) f
     (so_far_ended s w done u last.level k first moves f e at none)

@@ -1,8 +1,8 @@
 -- The bars of the moves by an action, collected one move at a time.
-use Rattle.std.proofs.Common.{◌≡◌, ◌+◌, ◌<◌, ◌≤◌, ◌⊎◌, inl, ⊎_elim, ℕ, Bool, true, List, [], ◌∷◌, ◌++◌, length, take, get_or, eqb, slice_get, Some, refl, sym, ap, ◌∙◌, subst, arith}
+use Rattle.std.proofs.Common.{◌≡◌, ◌+◌, ◌<◌, ◌≤◌, inl, ⊎_elim, ℕ, Bool, true, List, [], ◌∷◌, ◌++◌, length, take, get_or, eqb, slice_get, Some, refl, sym, ap, ◌∙◌, subst, arith}
 use Rattle.std.specs.List.{filter, All}
 use Rattle.std.specs.Prelude.{IsPermutation}
-use Rattle.std.proofs.lemmas.Bool.{false≢true, eqb-true, eq-eqb}
+use Rattle.std.proofs.lemmas.Bool.{false≢true, eqb-true, eq-eqb, cases_lt}
 use Rattle.std.proofs.lemmas.List.{get_or_past, take_all, take-append-le}
 use Rattle.std.proofs.lemmas.List.Sorted.{All-permutation, IsPermutation-sym}
 use Rattle.std.proofs.lemmas.Option.{slice_get_within, slice_get-get_or, get_or_from_slice_get}
@@ -33,10 +33,7 @@ bar_of_kept s t c d kept m r n term b = record {
 
 -- an unasked test is in range
 unasked_within : (asked : List Bool) (t : ℕ) → IsUnaskedTest asked t → t < length asked
-unasked_within asked t u = ⊎_elim (λ l. l) (λ l. absurd (false≢true (sym u ∙ get_or_past asked t true l))) (cases t (length asked))
-  where
-    cases : (m n : ℕ) → (m < n) ⊎ (n ≤ m)
-    cases m n = grind arith
+unasked_within asked t u = ⊎_elim (λ l. l) (λ l. absurd (false≢true (sym u ∙ get_or_past asked t true l))) (cases_lt t (length asked))
 
 pub so_far_none : (store : NodeParts) (d : DiagramsParts) (moves : List Guarded) (asked : List Bool) → length asked ≡ d.tests → AreBarsSoFar store d moves 0 [] asked
 so_far_none store d moves asked tests = record {

@@ -1,7 +1,7 @@
 -- The atoms from which no bar blocks a move, one bar after the other; and tests on which a diagram does not depend.
 use Rattle.std.proofs.Common.{◌≡◌, ◌+◌, ◌<◌, ◌≤◌, inl, ⊎_elim, ℕ, Bool, true, false, not, ◌&&◌, List, [], ◌∷◌, ◌++◌, length, take, get_or, set, refl, sym, ap, ◌∙◌, subst, arith}
 use Rattle.std.specs.Bool.{IsTrue}
-use Rattle.std.proofs.lemmas.Bool.{and_parts, and_from, both_ways}
+use Rattle.std.proofs.lemmas.Bool.{and_parts, and_from, both_ways, not-true}
 use Rattle.std.proofs.lemmas.List.{set-get_or, take_all}
 use Rattle.kat_model.specs.Members.{Has}
 use Rattle.kat_model.specs.Steps.{Atom}
@@ -26,14 +26,10 @@ module _ (c d : DiagramsParts) (r : Bar) (region : ℕ) (after : Atom) where
   pub past_some : (id : ℕ) → value_of c r.to after ≡ true → IsDiagramOf d id (λ a. value_of c region a && not (value_of c r.from a)) → AreAtomsPast c d r region after id
   past_some id ends is = record {
     is_id = is.in_range;
-    there = λ a fits h. let both = and_parts (value_of c region a) (not (value_of c r.from a)) (sym (is.value a fits) ∙ h) in (both.0, (λ from to. both_ways (value_of c r.from a) (false_of (value_of c r.from a) both.1) from));
+    there = λ a fits h. let both = and_parts (value_of c region a) (not (value_of c r.from a)) (sym (is.value a fits) ∙ h) in (both.0, (λ from to. both_ways (value_of c r.from a) (not-true (value_of c r.from a) both.1) from));
     back = λ a fits h free. is.value a fits ∙ and_from _ _ h (true_of (value_of c r.from a) (λ from. free from ends));
   }
     where
-      false_of : (v : Bool) → not v ≡ true → v ≡ false
-      false_of true e = sym e
-      false_of false e = refl
-
       true_of : (v : Bool) → (IsTrue v → ⊥) → not v ≡ true
       true_of true n = absurd (n refl)
       true_of false n = refl

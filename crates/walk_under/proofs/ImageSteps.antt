@@ -7,7 +7,7 @@ use Rattle.test_diagrams.specs.Functions.{DiagramsParts, value_of, IsDiagramId, 
 use Rattle.test_diagrams.proofs.Kept.{KeepsFunctions-itself, KeepsFunctions-trans}
 use Rattle.partial_derivs.proofs.Items.{take_item}
 use Rattle.walk_under.specs.declared.bars.Bar.{Bar}
-use Rattle.walk_under.specs.declared.bars.Parts.{Parts}
+use Rattle.walk_under.specs.declared.bars.RegionParts.{RegionParts}
 use Rattle.walk_under.specs.Working.Bars.{IsSplit, IsImageOf, AreBars}
 use Rattle.walk_under.proofs.Forgetting.{forgotten_kept}
 use Rattle.walk_under.proofs.KeptValues.{of_two_kept}
@@ -18,7 +18,7 @@ use Rattle.walk_under.proofs.ImageTables.{bars_kept, image_kept, taken_bars}
 pub bar_at : (bars : List Bar) (i : ℕ) (r : Bar) → i < length bars → r ≡ get_or bars i r → slice_get bars i ≡ Some r
 bar_at bars i r lt is = slice_get-get_or bars i r lt ∙ ap Some (sym is)
 
-split_kept : (c d : DiagramsParts) → KeepsFunctions c d → (r : Bar) (region : ℕ) (p : Parts) → IsDiagramId c r.from → IsDiagramId c region → IsSplit c r region p → IsSplit d r region p
+split_kept : (c d : DiagramsParts) → KeepsFunctions c d → (r : Bar) (region : ℕ) (p : RegionParts) → IsDiagramId c r.from → IsDiagramId c region → IsSplit c r region p → IsSplit d r region p
 split_kept c d kept r region p from is s = record {
   start = s.start;
   other = s.other;
@@ -38,7 +38,7 @@ module _ (a b e f g h : DiagramsParts) (ab : KeepsFunctions a b) (be : KeepsFunc
   abbrev pub ah : KeepsFunctions a h
   ah = KeepsFunctions-trans a b h ab bh
 
-  module _ (bars : List Bar) (all : AreBars a bars) (last : ℕ) (r : Bar) (lt : last < length bars) (is : r ≡ get_or bars last r) (region : ℕ) (in_region : IsDiagramId a region) (p : Parts) where
+  module _ (bars : List Bar) (all : AreBars a bars) (last : ℕ) (r : Bar) (lt : last < length bars) (is : r ≡ get_or bars last r) (region : ℕ) (in_region : IsDiagramId a region) (p : RegionParts) where
     here : Has bars r
     here = has_at bars last r (bar_at bars last r lt is)
 

@@ -10,23 +10,23 @@ use Rattle.partial_derivs.proofs.Items.{has_take}
 use Rattle.kat_model.specs.Steps.{Atom}
 use Rattle.walk_under.specs.declared.bars.Bar.{Bar}
 use Rattle.walk_under.specs.declared.bars.Bars.{Bars}
-use Rattle.walk_under.specs.declared.bars.State.{State}
-use Rattle.walk_under.specs.Working.Bars.{IsBarred, IsImageOf, AreUnasked, AreBars, AreImages, AreSoundBars, same_state}
+use Rattle.walk_under.specs.declared.bars.ImageKey.{ImageKey}
+use Rattle.walk_under.specs.Working.Bars.{IsBarred, IsImageOf, AreUnasked, AreBars, AreImages, AreSoundBars, same_key}
 
-pub same_state_is : (x y : State) → same_state x y ≡ true → x ≡ y
-same_state_is x y e =
+pub same_key_is : (x y : ImageKey) → same_key x y ≡ true → x ≡ y
+same_key_is x y e =
     let p = and_parts (eqb x.region y.region) (eqb x.count y.count) e in
     λ i. record { region = eqb-true x.region y.region p.0 i; count = eqb-true x.count y.count p.1 i }
 
-pub image_found : (d : DiagramsParts) (bars : List Bar) (images : List (State × ℕ)) (state : State) (id : ℕ) → lookup (same_state state) images ≡ Some id → AreImages d bars images → IsImageOf d (take state.count bars) state.region id
-image_found d bars images state id e all = (all (state, id) (lookup_has same_state same_state_is state images id e)).1
+pub image_found : (d : DiagramsParts) (bars : List Bar) (images : List (ImageKey × ℕ)) (key : ImageKey) (id : ℕ) → lookup (same_key key) images ≡ Some id → AreImages d bars images → IsImageOf d (take key.count bars) key.region id
+image_found d bars images key id e all = (all (key, id) (lookup_has same_key same_key_is key images id e)).1
 
-pub image_noted : (d : DiagramsParts) (bars : List Bar) (images new : List (State × ℕ)) (state : State) (id : ℕ) → new ≡ insert_entry same_state images state id → AreImages d bars images → IsDiagramId d state.region → IsImageOf d (take state.count bars) state.region id → AreImages d bars new
-image_noted d bars images new state id is all region own e h =
+pub image_noted : (d : DiagramsParts) (bars : List Bar) (images new : List (ImageKey × ℕ)) (key : ImageKey) (id : ℕ) → new ≡ insert_entry same_key images key id → AreImages d bars images → IsDiagramId d key.region → IsImageOf d (take key.count bars) key.region id → AreImages d bars new
+image_noted d bars images new key id is all region own e h =
     ⊎_elim
     (λ old. all e old)
-    (λ s. subst (λ (x : State × ℕ). IsDiagramId d x.0.region × IsImageOf d (take x.0.count bars) x.0.region x.1) (sym s) (region, own))
-    (insert_entry_has same_state same_state_is state id images e (subst (λ l. Has l e) is h))
+    (λ s. subst (λ (x : ImageKey × ℕ). IsDiagramId d x.0.region × IsImageOf d (take x.0.count bars) x.0.region x.1) (sym s) (region, own))
+    (insert_entry_has same_key same_key_is key id images e (subst (λ l. Has l e) is h))
 
 -- ---- when diagrams are added
 
@@ -67,7 +67,7 @@ module _ (c d : DiagramsParts) (kept : KeepsFunctions c d) where
           ∙ im.back b (fits ∙ kept.tests) (record { before = l.before; fits = l.fits ∙ kept.tests; there = sym (kept.values region is l.before) ∙ l.there; free = λ k. l.free (some_kept l.before b k) });
     }
 
-  pub images_kept : (bars : List Bar) (images : List (State × ℕ)) → AreBars c bars → AreImages c bars images → AreImages d bars images
+  pub images_kept : (bars : List Bar) (images : List (ImageKey × ℕ)) → AreBars c bars → AreImages c bars images → AreImages d bars images
   images_kept bars images all each e h =
       let own = each e h in
       (kept.ids e.0.region own.0, image_kept bars (take e.0.count bars) all (taken_bars bars e.0.count all) e.0.region e.1 own.0 own.1)

@@ -1,7 +1,7 @@
 -- The image of a region under bars, computed from the last bar.
 use Rattle.std.proofs.Common.{◌≡◌, ◌≢◌, inl, ⊎_elim, ℕ, Bool, true, false, not, ◌&&◌, ◌||◌, List, [], ◌∷◌, ◌++◌, refl, sym, ap, ◌∙◌, subst}
 use Rattle.std.specs.Bool.{IsTrue}
-use Rattle.std.proofs.lemmas.Bool.{or_cases, or_left, or_right, and_parts, and_from, both_ways}
+use Rattle.std.proofs.lemmas.Bool.{or_cases, or_left, or_right, and_parts, and_from, both_ways, not-true}
 use Rattle.kat_model.specs.Members.{Has}
 use Rattle.kat_model.specs.Steps.{Atom}
 use Rattle.kat_model.proofs.Lists.{has_left, has_right, has_append}
@@ -9,7 +9,7 @@ use Rattle.test_diagrams.specs.Functions.{DiagramsParts, value_of, IsDiagramId, 
 use Rattle.test_diagrams.specs.Reduced.{IsReduced}
 use Rattle.test_diagrams.proofs.Apart.{different_apart}
 use Rattle.walk_under.specs.declared.bars.Bar.{Bar}
-use Rattle.walk_under.specs.declared.bars.Parts.{Parts}
+use Rattle.walk_under.specs.declared.bars.RegionParts.{RegionParts}
 use Rattle.walk_under.specs.Working.Bars.{IsReset, IsForgotten, IsSplit, IsBarred, IsLedTo, IsImageOf}
 use Rattle.walk_under.proofs.Forgetting.{reset_same}
 
@@ -42,7 +42,7 @@ module _ (d : DiagramsParts) where
 
   -- ---- an additional bar
 
-  module _ (rest : List Bar) (r : Bar) (region : ℕ) (p : Parts) (s : IsSplit d r region p) (fresh : (t : ℕ) → Has r.fresh.items t → (q : Bar) → Has rest q → IsIndependent d q.from t) where
+  module _ (rest : List Bar) (r : Bar) (region : ℕ) (p : RegionParts) (s : IsSplit d r region p) (fresh : (t : ℕ) → Has r.fresh.items t → (q : Bar) → Has rest q → IsIndependent d q.from t) where
     -- an earlier bar that blocks a move from one of two atoms that differ only in the fresh tests blocks it from both
     barred_same : {a b : Atom} → IsReset r.fresh.items a b → IsAtomOf d a → (after : Atom) → IsBarred d rest b after → IsBarred d rest a after
     barred_same same fits after k = (k.0, k.1, sym (reset_same d r.fresh.items k.0.from (λ t h. fresh t h k.0 k.1) same fits) ∙ k.2, k.3)
@@ -69,12 +69,8 @@ module _ (d : DiagramsParts) where
             before = a.0;
             fits = a.2;
             there = there.0;
-            free = either a.0 b (λ k. l.free (barred_same a.1 l.fits b k)) (λ from to. both_ways (value_of d r.to b) (false_of (value_of d r.to b) both.1) to);
+            free = either a.0 b (λ k. l.free (barred_same a.1 l.fits b k)) (λ from to. both_ways (value_of d r.to b) (not-true (value_of d r.to b) both.1) to);
           }
-        where
-          false_of : (v : Bool) → not v ≡ true → v ≡ false
-          false_of true e = sym e
-          false_of false e = refl
 
       from_outside : (b : Atom) → IsAtomOf d b → IsTrue (value_of d free b) → IsLedTo d (rest ++ r ∷ []) region b
       from_outside b fits h =
@@ -85,12 +81,8 @@ module _ (d : DiagramsParts) where
             before = a.0;
             fits = a.2;
             there = there.0;
-            free = either a.0 b (λ k. l.free (barred_same a.1 l.fits b k)) (λ from to. both_ways (value_of d r.from a.0) (false_of (value_of d r.from a.0) there.1) from);
+            free = either a.0 b (λ k. l.free (barred_same a.1 l.fits b k)) (λ from to. both_ways (value_of d r.from a.0) (not-true (value_of d r.from a.0) there.1) from);
           }
-        where
-          false_of : (v : Bool) → not v ≡ true → v ≡ false
-          false_of true e = sym e
-          false_of false e = refl
 
       -- an atom to which a move leads is in one of the two images
       reached : (b : Atom) → IsAtomOf d b → (l : IsLedTo d (rest ++ r ∷ []) region b) → (v : Bool) → value_of d r.from l.before ≡ v → (value_of d kept b || value_of d free b) ≡ true

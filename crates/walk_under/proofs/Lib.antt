@@ -32,3 +32,4 @@ pub mod MergedIds
 pub mod MergedWalk
 pub mod UnderDecisions
 pub mod ShortIds
+pub mod EndedSame

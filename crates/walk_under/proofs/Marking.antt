@@ -1,5 +1,5 @@
 -- Marks of terms, as rounds over the pairs extend them.
-use Rattle.std.proofs.Common.{◌≡◌, ◌⊎◌, ◌+◌, ◌<◌, ◌≤◌, inl, inr, ⊎_elim, ℕ, Bool, true, false, not, ◌&&◌, ◌||◌, List, [], ◌∷◌, length, get_or, replicate, set as put, slice_get, Option, Some, refl, sym, ap, ◌∙◌, subst, arith}
+use Rattle.std.proofs.Common.{◌≡◌, ◌+◌, ◌<◌, ◌≤◌, inl, inr, ⊎_elim, ℕ, Bool, true, false, not, ◌&&◌, ◌||◌, List, [], ◌∷◌, length, get_or, replicate, set as put, slice_get, Option, Some, refl, sym, ap, ◌∙◌, subst, arith}
 use Rattle.std.specs.Bool.{IsTrue, IsFalse}
 use Rattle.std.proofs.lemmas.Bool.{or_cases, and_parts, both_ways}
 use Rattle.std.proofs.lemmas.Option.{same_Some, slice_get_within, slice_get-get_or, get_or_from_slice_get}
@@ -11,6 +11,7 @@ use Rattle.kat_model.proofs.Places.{has_at, place_of_member, slice_get-set_cases
 use Rattle.test_diagrams.specs.Functions.{DiagramsParts, value_of, IsDiagramId, IsAtomOf, IsDiagramOf, KeepsFunctions}
 use Rattle.walk_under.specs.Working.Entries.{EntryParts}
 use Rattle.walk_under.specs.Working.Reaching.{AllHold, IsClosedUnder, Brings, AreMarks, BringsAt, IsPartOf, BringsFirst, IsReachedAt, IsOpenPart}
+use Rattle.kat_model.proofs.Numbers.{below_next}
 
 -- a number read in range is the one at that place
 pub read_number : (xs : List ℕ) (i x : ℕ) → i < length xs → x ≡ get_or xs i x → slice_get xs i ≡ Some x
@@ -93,9 +94,6 @@ brings_left d es all e id h part b atom fits p closed own t = (closed e h (part.
 
 -- ---- terms one after the other
 
-less_or_last : (k n : ℕ) → k < n + 1 → (k < n) ⊎ (k ≡ n)
-less_or_last k n lt = grind arith
-
 module _ (c d : DiagramsParts) (kept : KeepsFunctions c d) (es : List EntryParts) (tests : (e : EntryParts) → Has es e → IsDiagramId c e.test) (all terms : List ℕ) (n a b id t : ℕ) where
   -- at the atoms that both diagrams share, the closure contains the terms of both
   pub brings_next : slice_get terms n ≡ Some t → IsDiagramOf d id (λ x. value_of c a x && value_of c b x) → BringsFirst c es all a terms n → Brings c es all b (t ∷ []) → BringsFirst d es all id terms (n + 1)
@@ -106,7 +104,7 @@ module _ (c d : DiagramsParts) (kept : KeepsFunctions c d) (es : List EntryParts
       ⊎_elim
       (λ less. first k x less there atom fits_before p was holds both.0)
       (λ e. subst (λ y. AllHold p (y ∷ [])) (same_Some t x (sym at ∙ ap (slice_get terms) (sym e) ∙ there)) (own atom fits_before p was holds both.1))
-      (less_or_last k n lt)
+      (below_next k n lt)
 
 pub brings_first_all : (d : DiagramsParts) (es : List EntryParts) (all terms : List ℕ) (id n : ℕ) → length terms ≤ n → BringsFirst d es all id terms n → Brings d es all id terms
 brings_first_all d es all terms id n le first atom fits p closed own h = λ t here.

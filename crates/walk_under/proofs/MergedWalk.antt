@@ -25,9 +25,9 @@ use Rattle.walk_under.specs.TestedWalks.{TestedEntry, closed_sides, IsListedAt}
 use Rattle.walk_under.specs.MergedPairs.{AreMergedPairs}
 use Rattle.walk_under.specs.Working.Entries.{EntryParts}
 use Rattle.walk_under.specs.Working.Listings.{pair_of, entry_of, entries_of, IsLevelAtom}
-use Rattle.walk_under.specs.Working.Walking.{Setting, IsUnderWay}
+use Rattle.walk_under.specs.Working.Walking.{WalkContext, IsUnderWay}
 use Rattle.walk_under.specs.Working.Merging.{IsReachedThere, HasPairOf, IsFirst, AreFirst, AreMergedIds}
-use Rattle.walk_under.specs.declared.walk.Walk.{Walk}
+use Rattle.walk_under.specs.declared.walk.TestedWorklist.{TestedWorklist}
 use Rattle.walk_under.proofs.WalkSteps.{first_entry}
 use Rattle.walk_under.proofs.Standing.{one_id_set, same_ids, level_atom}
 use Rattle.walk_under.proofs.Taking.{terms_kept, set_kept}
@@ -87,7 +87,7 @@ later_differs es before (q ∷ ps) firsts r p m h l s =
 
 -- ---- the pairs of a walk
 
-module _ (s : Setting) (t : NodeParts) (grows : Grows s.store t) (sound : AreNodes t) (w : Walk) (done : ℕ) (u : IsUnderWay s w done) where
+module _ (s : WalkContext) (t : NodeParts) (grows : Grows s.store t) (sound : AreNodes t) (w : TestedWorklist) (done : ℕ) (u : IsUnderWay s w done) where
   abbrev pub d : DiagramsParts
   d = w.diagrams
 

@@ -19,18 +19,18 @@ use Rattle.walk_under.specs.Working.Entries.{EntryParts}
 use Rattle.walk_under.specs.Working.Allowance.{IsAllowance}
 use Rattle.walk_under.specs.Working.Listings.{entry_of, entries_of, IsIdEntry}
 use Rattle.walk_pairs.specs.IdSets.{IsIdSet}
-use Rattle.walk_under.specs.Working.Walking.{Setting, about, IsUnderWay, first_ids, AreClosedIds, first_acts, walk_limit}
-use Rattle.walk_under.specs.declared.walk.Walk.{Walk}
+use Rattle.walk_under.specs.Working.Walking.{WalkContext, walk_context, IsUnderWay, first_ids, AreClosedIds, first_acts, walk_limit}
+use Rattle.walk_under.specs.declared.walk.TestedWorklist.{TestedWorklist}
 use Rattle.walk_pairs.specs.declared.closed.ClosedIds.{ClosedIds}
 use Rattle.walk_under.proofs.WalkSteps.{first_entry, walk_starts}
 use Rattle.walk_under.proofs.Few.{entry_limit, walk_few}
 use Rattle.walk_under.proofs.AllowedImages.{allowed_atom}
-use Rattle.walk_under.proofs.Taking.{universal_kept}
+use Rattle.walk_pairs.proofs.ClosedTerms.{universal_kept}
 use Rattle.partial_derivs.proofs.Kept.{IsTermOf-kept}
 
 -- ---- the number of entries
 
-limit_of : (s : Setting) (d : DiagramsParts) (es : List EntryParts) (done : ℕ) → d.tests ≡ s.problem.tests → IsTestedWalk s.shorts s.problem (entries_of s.store d es) done → walk_limit s.store d.tests es ≡ 1 + entry_limit s.problem
+limit_of : (s : WalkContext) (d : DiagramsParts) (es : List EntryParts) (done : ℕ) → d.tests ≡ s.problem.tests → IsTestedWalk s.shorts s.problem (entries_of s.store d es) done → walk_limit s.store d.tests es ≡ 1 + entry_limit s.problem
 limit_of s d [] done tests walk = absurd (let e = walk.first in cc)
 limit_of s d (e ∷ es) done tests walk =
     let same : entry_of s.store d e ≡ first_entry s.problem walk.start = same_Some (entry_of s.store d e) (first_entry s.problem walk.start) walk.first in
@@ -38,10 +38,10 @@ limit_of s d (e ∷ es) done tests walk =
     let right : first_acts (terms_of s.store e.right) ≡ acts (closed s.problem).right = ap (λ (x : TestedEntry). first_acts x.pair.right) same in
     rw (left, right, tests) refl
 
-pub limit_is : (s : Setting) (w : Walk) (done : ℕ) → IsUnderWay s w done → walk_limit s.store w.diagrams.tests w.listing.entries.items ≡ 1 + entry_limit s.problem
+pub limit_is : (s : WalkContext) (w : TestedWorklist) (done : ℕ) → IsUnderWay s w done → walk_limit s.store w.diagrams.tests w.listing.entries.items ≡ 1 + entry_limit s.problem
 limit_is s w done u = limit_of s w.diagrams w.listing.entries.items done u.tests u.walk
 
-pub few_entries : (s : Setting) (w : Walk) (done : ℕ) → IsUnderWay s w done → length w.listing.entries.items ≤ 1 + entry_limit s.problem
+pub few_entries : (s : WalkContext) (w : TestedWorklist) (done : ℕ) → IsUnderWay s w done → length w.listing.entries.items ≤ 1 + entry_limit s.problem
 few_entries s w done u =
     let few = walk_few s.shorts s.problem (entries_of s.store w.diagrams w.listing.entries.items) done u.walk in
     subst (λ n. n ≤ 1 + entry_limit s.problem) (length-map w.listing.entries.items (entry_of s.store w.diagrams)) few
@@ -61,7 +61,7 @@ walk_ended shorts q es done walk past = record {
   taken = λ k e l at. walk.taken k e (omega arith) at;
 }
 
-pub all_taken : (s : Setting) (w : Walk) (place : ℕ) → IsUnderWay s w place → length w.listing.entries.items ≤ place → IsUnderWay s w (length w.listing.entries.items)
+pub all_taken : (s : WalkContext) (w : TestedWorklist) (place : ℕ) → IsUnderWay s w place → length w.listing.entries.items ≤ place → IsUnderWay s w (length w.listing.entries.items)
 all_taken s w place u past = record {
   sound = u.sound;
   tests = u.tests;
@@ -78,21 +78,21 @@ all_taken s w place u past = record {
 
 -- ---- the start
 
-module _ (shorts : List Term) (q : ProblemParts) (s t : NodeParts) (c : DiagramsParts) (w : Walk) (sides : ClosedIds) (kept : Keeps s t c w.diagrams) (tests : c.tests ≡ q.tests) (ids : AreClosedIds q s sides) where
+module _ (shorts : List Term) (q : ProblemParts) (s t : NodeParts) (c : DiagramsParts) (w : TestedWorklist) (sides : ClosedIds) (kept : Keeps s t c w.diagrams) (tests : c.tests ≡ q.tests) (ids : AreClosedIds q s sides) where
   own_set : (i : ℕ) → IsTermOf s q.tests i → IsIdSet t w.diagrams.tests (i ∷ [])
   own_set i is = record {
     there = λ j h. ⊎_elim (λ e. subst (IsTermOf t w.diagrams.tests) e (IsTermOf-kept s t c w.diagrams kept i (subst (λ n. IsTermOf s n i) (sym tests) is))) (λ a. absurd a) h;
     ascending = refl;
   }
 
-  pub walk_begun : IsAllowance w.diagrams shorts q.actions w.moves → AreRight t w.diagrams w.derivatives → AreNodes t → w.listing.entries.items ≡ first_ids sides w.moves.allowed ∷ [] → w.listing.universal ≡ sides.universal → IsUnderWay (about shorts q t) w 0
+  pub walk_begun : IsAllowance w.diagrams shorts q.actions w.moves → AreRight t w.diagrams w.derivatives → AreNodes t → w.listing.entries.items ≡ first_ids sides w.moves.allowed ∷ [] → w.listing.universal ≡ sides.universal → IsUnderWay (walk_context shorts q t) w 0
   walk_begun allowance right sound entries universal = record {
     sound = sound;
     tests = kept.functions.tests ∙ tests;
     allowance = allowance;
     right = right;
     entries = λ e h. ⊎_elim (λ m. subst (IsIdEntry t w.diagrams w.moves.allowed) m own) (λ a. absurd a) (subst (λ (l : List EntryParts). Has l e) entries h);
-    universal = ap (option_map (tree_at t)) universal ∙ universal_kept s t c w.diagrams kept sides.universal ids.universal_id ∙ ids.universal;
+    universal = ap (option_map (tree_at t)) universal ∙ universal_kept s t kept.trees sides.universal ids.universal_id ∙ ids.universal;
     universal_id = λ i e. kept.trees.term_numbers i (ids.universal_id i (sym universal ∙ e));
     walk =
         subst (λ (l : List EntryParts). IsTestedWalk shorts q (entries_of t w.diagrams l) 0) (sym entries)

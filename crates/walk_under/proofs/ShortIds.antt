@@ -13,6 +13,7 @@ use Rattle.term_nodes.specs.NodeLists.{NodeParts, IsTerm}
 use Rattle.term_nodes.specs.NodeTrees.{tree_at}
 use Rattle.term_nodes.specs.Growth.{Grows}
 use Rattle.partial_derivs.specs.Moves.{IsTermOf}
+use Rattle.partial_derivs.proofs.Kept.{IsTermOf-trees}
 
 -- each of a list of terms in range is in range
 pub in_range_each : (tests actions : ℕ) (es : List Term) → AreInRange tests actions es → (e : Term) → Has es e → IsInRange tests actions e
@@ -42,9 +43,6 @@ module _ {X : Type 0} (f : X → Term) (xs : List X) (k : ℕ) (x : X) (lt : k <
 -- ---- when the store grows
 
 module _ (s t : NodeParts) (grows : Grows s t) (n : ℕ) where
-  pub id_kept : (i : ℕ) → IsTermOf s n i → IsTermOf t n i
-  id_kept i is = record { is_id = grows.term_numbers i is.is_id; in_range = subst (HasTestsBelow n) (sym (grows.trees i is.is_id)) is.in_range }
-
   trees_kept : (ids : List ℕ) → ((i : ℕ) → Has ids i → IsTermOf s n i) → map (tree_at t) ids ≡ map (tree_at s) ids
   trees_kept [] are = refl
   trees_kept (i ∷ ids) are = ap₂ (λ (x : Term) (xs : List Term). x ∷ xs) (grows.trees i (are i (inl refl)).is_id) (trees_kept ids (λ j h. are j (inr h)))
@@ -56,6 +54,6 @@ module _ (s t : NodeParts) (grows : Grows s t) (n : ℕ) where
     pub ids_more : IsTerm t new → HasTestsBelow n tree → (i : ℕ) → Has (ids ++ new ∷ []) i → IsTermOf t n i
     ids_more own range i h =
         ⊎_elim
-        (λ old. id_kept i (are i old))
+        (λ old. IsTermOf-trees s t grows n i (are i old))
         (λ last. ⊎_elim (λ e. subst (IsTermOf t n) e (record { is_id = own; in_range = subst (HasTestsBelow n) (sym is) range })) (λ a. absurd a) last)
         (has_append ids (new ∷ []) i h)

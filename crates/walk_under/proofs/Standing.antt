@@ -22,11 +22,11 @@ use Rattle.walk_under.specs.Working.Entries.{EntryParts}
 use Rattle.walk_under.specs.Working.Allowance.{IsAllowance}
 use Rattle.walk_under.specs.Working.Listings.{origin_of, pair_of, entry_of, entries_of, IsIdEntry, IsFreshPart, IsLevelAtom, AreLevelAtoms, IsNextPart}
 use Rattle.walk_pairs.specs.IdSets.{IsIdSet}
-use Rattle.walk_under.specs.Working.Walking.{Setting, IsUnderWay, IsAtStride}
-use Rattle.walk_under.specs.declared.entry.Origin.{Origin}
+use Rattle.walk_under.specs.Working.Walking.{WalkContext, IsUnderWay, IsAtSource}
+use Rattle.walk_under.specs.declared.entry.StepOrigin.{StepOrigin}
 use Rattle.walk_under.specs.declared.parts.Part.{Part}
-use Rattle.walk_under.specs.declared.walk.Walk.{Walk}
-use Rattle.walk_under.specs.declared.walk.Stride.{Stride}
+use Rattle.walk_under.specs.declared.walk.TestedWorklist.{TestedWorklist}
+use Rattle.walk_under.specs.declared.walk.StepSource.{StepSource}
 use Rattle.walk_under.proofs.Allowances.{allowance_kept}
 use Rattle.walk_under.proofs.AllowedImages.{within_kept}
 use Rattle.walk_under.proofs.LevelAtoms.{level_atoms_kept}
@@ -36,7 +36,7 @@ module _ (store : NodeParts) (c d : DiagramsParts) (kept : KeepsFunctions c d) w
   values_same : (id : ℕ) → IsDiagramId c id → value_of d id ≡ value_of c id
   values_same id is = λ k. λ atom. kept.values id is atom k
 
-  origins_same : (o : Option Origin) → ((x : Origin) → o ≡ Some x → IsDiagramId c x.region) → option_map (origin_of d) o ≡ option_map (origin_of c) o
+  origins_same : (o : Option StepOrigin) → ((x : StepOrigin) → o ≡ Some x → IsDiagramId c x.region) → option_map (origin_of d) o ≡ option_map (origin_of c) o
   origins_same None ids = refl
   origins_same (Some x) ids = ap (λ f. some_origin f) (values_same x.region (ids x refl))
     where
@@ -102,7 +102,7 @@ listed_at store d es other atom l = record {
 
 -- ---- a walk that has other diagrams
 
-pub under_way_kept : (s : Setting) (done : ℕ) (w x : Walk) → KeepsFunctions w.diagrams x.diagrams → x.listing ≡ w.listing → x.derivatives ≡ w.derivatives → x.moves.allowed ≡ w.moves.allowed → IsAllowance x.diagrams s.shorts s.problem.actions x.moves → IsUnderWay s w done → IsUnderWay s x done
+pub under_way_kept : (s : WalkContext) (done : ℕ) (w x : TestedWorklist) → KeepsFunctions w.diagrams x.diagrams → x.listing ≡ w.listing → x.derivatives ≡ w.derivatives → x.moves.allowed ≡ w.moves.allowed → IsAllowance x.diagrams s.shorts s.problem.actions x.moves → IsUnderWay s w done → IsUnderWay s x done
 under_way_kept s done w x kept listing derivatives allowed allowance u = record {
   sound = u.sound;
   tests = kept.tests ∙ u.tests;
@@ -119,14 +119,14 @@ under_way_kept s done w x kept listing derivatives allowed allowance u = record 
       u.walk;
 }
 
-pub at_stride_kept : (s : Setting) (stride : Stride) (from : EntryParts) (w x : Walk) → KeepsFunctions w.diagrams x.diagrams → x.listing ≡ w.listing → x.derivatives ≡ w.derivatives → x.moves.allowed ≡ w.moves.allowed → IsAllowance x.diagrams s.shorts s.problem.actions x.moves → IsAtStride s w stride from → IsAtStride s x stride from
-at_stride_kept s stride from w x kept listing derivatives allowed allowance a = record {
-  under_way = under_way_kept s stride.place w x kept listing derivatives allowed allowance a.under_way;
-  at = ap (λ l. slice_get l.entries.items stride.place) listing ∙ a.at;
+pub at_source_kept : (s : WalkContext) (source : StepSource) (from : EntryParts) (w x : TestedWorklist) → KeepsFunctions w.diagrams x.diagrams → x.listing ≡ w.listing → x.derivatives ≡ w.derivatives → x.moves.allowed ≡ w.moves.allowed → IsAllowance x.diagrams s.shorts s.problem.actions x.moves → IsAtSource s w source from → IsAtSource s x source from
+at_source_kept s source from w x kept listing derivatives allowed allowance a = record {
+  under_way = under_way_kept s source.place w x kept listing derivatives allowed allowance a.under_way;
+  at = ap (λ l. slice_get l.entries.items source.place) listing ∙ a.at;
   level = a.level;
   atoms =
-      subst (λ l. AreLevelAtoms x.diagrams l.entries.items from stride.test) (sym listing)
-      (level_atoms_kept w.diagrams x.diagrams kept w.listing.entries.items (λ e h. (a.under_way.entries e h).test) from stride.test a.atoms);
+      subst (λ l. AreLevelAtoms x.diagrams l.entries.items from source.test) (sym listing)
+      (level_atoms_kept w.diagrams x.diagrams kept w.listing.entries.items (λ e h. (a.under_way.entries e h).test) from source.test a.atoms);
   of_actions = a.of_actions;
 }
 
@@ -162,21 +162,21 @@ module _ (store : NodeParts) (sound : AreNodes store) (n : ℕ) where
       one_list xs ys first.ascending second.ascending (same_has xs ys first.there second.there same) (same_has ys xs second.there first.there (λ e. ((same e).1, (same e).0)))
 
 -- when only diagrams are added
-pub under_way_later : (s : Setting) (done : ℕ) (w : Walk) (d : DiagramsParts) → KeepsFunctions w.diagrams d → IsUnderWay s w done → IsUnderWay s (record w { diagrams = d }) done
+pub under_way_later : (s : WalkContext) (done : ℕ) (w : TestedWorklist) (d : DiagramsParts) → KeepsFunctions w.diagrams d → IsUnderWay s w done → IsUnderWay s (record w { diagrams = d }) done
 under_way_later s done w d kept u = under_way_kept s done w (record w { diagrams = d }) kept refl refl refl (allowance_kept w.diagrams d kept s.shorts s.problem.actions w.moves u.allowance) u
 
-pub stride_later : (s : Setting) (stride : Stride) (from : EntryParts) (w : Walk) (d : DiagramsParts) → KeepsFunctions w.diagrams d → IsAtStride s w stride from → IsAtStride s (record w { diagrams = d }) stride from
-stride_later s stride from w d kept a = record {
-  under_way = under_way_later s stride.place w d kept a.under_way;
+pub source_later : (s : WalkContext) (source : StepSource) (from : EntryParts) (w : TestedWorklist) (d : DiagramsParts) → KeepsFunctions w.diagrams d → IsAtSource s w source from → IsAtSource s (record w { diagrams = d }) source from
+source_later s source from w d kept a = record {
+  under_way = under_way_later s source.place w d kept a.under_way;
   at = a.at;
   level = a.level;
-  atoms = level_atoms_kept w.diagrams d kept w.listing.entries.items (λ e h. (a.under_way.entries e h).test) from stride.test a.atoms;
+  atoms = level_atoms_kept w.diagrams d kept w.listing.entries.items (λ e h. (a.under_way.entries e h).test) from source.test a.atoms;
   of_actions = a.of_actions;
 }
 
 -- ---- entries with the same terms
 
-module _ (s : Setting) (w : Walk) (done : ℕ) (u : IsUnderWay s w done) where
+module _ (s : WalkContext) (w : TestedWorklist) (done : ℕ) (u : IsUnderWay s w done) where
   abbrev ids : List EntryParts
   ids = w.listing.entries.items
 

@@ -1,17 +1,17 @@
 -- Processing of a pair: the steps of its sets, an atom at which exactly one set accepts, and one action after the
 -- other.
-use Rattle.std.proofs.Common.{◌≡◌, ◌≢◌, ◌≤◌, ◌<◌, ◌+◌, inl, inr, ⊎_elim, ℕ, zero, suc, Bool, true, false, ◌&&◌, List, [], ◌∷◌, ◌++◌, get_or, slice_get, All, Option, Some, None, refl, sym, ap, ◌∙◌, subst, arith}
+use Rattle.std.proofs.Common.{◌≡◌, ◌≢◌, ◌≤◌, ◌<◌, ◌+◌, inl, inr, ⊎_elim, ℕ, zero, suc, Bool, true, false, ◌&&◌, List, [], ◌∷◌, ◌++◌, slice_get, Some, refl, sym, ap, ◌∙◌, subst, arith}
 use mathlib.Core.Path.{ap₂}
 use Rattle.std.specs.Bool.{IsTrue}
 use Rattle.std.specs.Option.{option_map}
-use Rattle.std.proofs.lemmas.Option.{same_Some, slice_get-get_or}
+use Rattle.std.proofs.lemmas.Option.{same_Some}
 use Rattle.kat_model.specs.Trees.{Term}
 use Rattle.kat_model.specs.Members.{Has}
 use Rattle.kat_model.specs.Steps.{Atom, set_out, set_next}
 use Rattle.kat_model.specs.Problems.{ProblemParts}
 use Rattle.kat_model.proofs.Places.{has_at}
 use Rattle.kat_model.proofs.Lists.{has_append}
-use Rattle.term_nodes.specs.NodeLists.{NodeParts, IsTerm, AreNodes}
+use Rattle.term_nodes.specs.NodeLists.{NodeParts, AreNodes}
 use Rattle.term_nodes.specs.NodeTrees.{tree_at}
 use Rattle.term_nodes.specs.NumberSets.{terms_of}
 use Rattle.test_diagrams.specs.Functions.{DiagramsParts, value_of, IsDiagramId, IsAtomOf, IsDiagramOf, KeepsFunctions}
@@ -29,17 +29,18 @@ use Rattle.walk_under.specs.Working.Allowance.{IsAllowance}
 use Rattle.walk_under.specs.declared.allowed.AllowedMoves.{AllowedMoves}
 use Rattle.walk_under.specs.Working.Listings.{pair_of, entry_of, entries_of, IsIdEntry}
 use Rattle.walk_pairs.specs.IdSets.{IsIdSet}
-use Rattle.walk_under.specs.Working.Walking.{Setting, about, IsUnderWay, IsAtStride, IsVisited, AreNextItems, IsTaking, IsTurn, HasStepped, IsDifference, TellApart, AcceptAlike}
+use Rattle.walk_under.specs.Working.Walking.{WalkContext, walk_context, IsUnderWay, IsAtSource, IsVisited, AreNextItems, IsTaking, IsTakenPair, HasStepped, IsDifference, TellApart, AcceptAlike}
 use Rattle.walk_under.specs.declared.listing.Listing.{Listing}
-use Rattle.walk_under.specs.declared.walk.Walk.{Walk}
-use Rattle.walk_under.specs.declared.walk.Stride.{Stride}
-use Rattle.walk_under.specs.declared.walk.Turn.{Turn}
-use Rattle.walk_under.specs.declared.walk.BothSteps.{BothSteps}
+use Rattle.walk_under.specs.declared.walk.TestedWorklist.{TestedWorklist}
+use Rattle.walk_under.specs.declared.walk.StepSource.{StepSource}
+use Rattle.walk_under.specs.declared.walk.TakenPair.{TakenPair}
+use Rattle.walk_pairs.specs.declared.found.BothSteps.{BothSteps}
 use Rattle.walk_under.proofs.WalkSteps.{first_entry, walk_takes}
 use Rattle.walk_under.proofs.Allowances.{allowance_kept}
 use Rattle.walk_under.proofs.JoinedAt.{entry_at}
 use Rattle.walk_under.proofs.Standing.{entries_same, id_entry_kept, under_way_kept}
 use Rattle.walk_under.proofs.Visiting.{joined_grown}
+use Rattle.walk_pairs.proofs.ClosedTerms.{universal_kept}
 
 -- ---- levels
 
@@ -55,7 +56,7 @@ level_below shorts q es done walk (suc n) (suc k) e l at =
     let s = c.level in
     omega arith
 
-pub level_within : (s : Setting) (w : Walk) (place : ℕ) (from : EntryParts) → IsUnderWay s w place → slice_get w.listing.entries.items place ≡ Some from → from.level ≤ place
+pub level_within : (s : WalkContext) (w : TestedWorklist) (place : ℕ) (from : EntryParts) → IsUnderWay s w place → slice_get w.listing.entries.items place ≡ Some from → from.level ≤ place
 level_within s w place from u at =
     level_below s.shorts s.problem (entries_of s.store w.diagrams w.listing.entries.items) place u.walk (suc place) place (entry_of s.store w.diagrams from) (omega arith) (entry_at s.store w.diagrams w.listing.entries.items place from at)
 
@@ -82,12 +83,8 @@ module _ (s t : NodeParts) (c d : DiagramsParts) (kept : Keeps s t c d) where
   stored_all allowed [] are = refl
   stored_all allowed (e ∷ es) are = ap₂ (λ (x : TestedEntry) (xs : List TestedEntry). x ∷ xs) (stored_same allowed e (are e (inl refl))) (stored_all allowed es (λ f h. are f (inr h)))
 
-  pub universal_kept : (u : Option ℕ) → ((i : ℕ) → u ≡ Some i → IsTerm s i) → option_map (tree_at t) u ≡ option_map (tree_at s) u
-  universal_kept None ids = refl
-  universal_kept (Some i) ids = ap Some (kept.trees.trees i (ids i refl))
-
-pub under_way_stored : (shorts : List Term) (q : ProblemParts) (s t : NodeParts) (done : ℕ) (w x : Walk) → Keeps s t w.diagrams x.diagrams → AreNodes t → AreRight t x.diagrams x.derivatives → x.listing.entries.items ≡ w.listing.entries.items → x.listing.universal ≡ w.listing.universal → x.moves ≡ w.moves
-    → IsUnderWay (about shorts q s) w done → IsUnderWay (about shorts q t) x done
+pub under_way_stored : (shorts : List Term) (q : ProblemParts) (s t : NodeParts) (done : ℕ) (w x : TestedWorklist) → Keeps s t w.diagrams x.diagrams → AreNodes t → AreRight t x.diagrams x.derivatives → x.listing.entries.items ≡ w.listing.entries.items → x.listing.universal ≡ w.listing.universal → x.moves ≡ w.moves
+    → IsUnderWay (walk_context shorts q s) w done → IsUnderWay (walk_context shorts q t) x done
 under_way_stored shorts q s t done w x kept sound right entries universal moves u = record {
   sound = sound;
   tests = kept.functions.tests ∙ u.tests;
@@ -98,7 +95,7 @@ under_way_stored shorts q s t done w x kept sound right entries universal moves 
       let later = id_entry_kept s w.diagrams x.diagrams kept.functions w.moves.allowed e u.allowance.allowed.in_range own in
       subst (λ (m : AllowedMoves). IsIdEntry t x.diagrams m.allowed e) (sym moves)
       (record { left = set_kept s t w.diagrams x.diagrams kept e.left own.left; right = set_kept s t w.diagrams x.diagrams kept e.right own.right; test = later.test; within = later.within; region = later.region });
-  universal = ap (option_map (tree_at t)) universal ∙ universal_kept s t w.diagrams x.diagrams kept w.listing.universal u.universal_id ∙ u.universal;
+  universal = ap (option_map (tree_at t)) universal ∙ universal_kept s t kept.trees w.listing.universal u.universal_id ∙ u.universal;
   universal_id = λ i e. kept.trees.term_numbers i (u.universal_id i (sym universal ∙ e));
   walk =
       subst (λ es. IsTestedWalk shorts q es done)
@@ -108,12 +105,9 @@ under_way_stored shorts q s t done w x kept sound right entries universal moves 
       u.walk;
 }
 
-pub all_terms : (store : NodeParts) (n : ℕ) (ids : List ℕ) → IsIdSet store n ids → All (IsTermOf store n) ids
-all_terms store n ids set k i within = set.there (get_or ids k i) (has_at ids k (get_or ids k i) (slice_get-get_or ids k i within))
-
 -- the steps of both sets, one after the other
-pub steps_taken : (shorts : List Term) (q : ProblemParts) (s t u : NodeParts) (place : ℕ) (w x : Walk) (c : DiagramsParts) (e : EntryParts) (steps : BothSteps) → IsUnderWay (about shorts q s) w place → slice_get w.listing.entries.items place ≡ Some e → Keeps s t w.diagrams c → Keeps t u c x.diagrams
-    → IsUnderWay (about shorts q u) x place → x.listing.entries.items ≡ w.listing.entries.items → IsStepsOf t c (terms_of s e.left) steps.left → IsStepsOf u x.diagrams (terms_of t e.right) steps.right → IsTaking (about shorts q u) x place e steps
+pub steps_taken : (shorts : List Term) (q : ProblemParts) (s t u : NodeParts) (place : ℕ) (w x : TestedWorklist) (c : DiagramsParts) (e : EntryParts) (steps : BothSteps) → IsUnderWay (walk_context shorts q s) w place → slice_get w.listing.entries.items place ≡ Some e → Keeps s t w.diagrams c → Keeps t u c x.diagrams
+    → IsUnderWay (walk_context shorts q u) x place → x.listing.entries.items ≡ w.listing.entries.items → IsStepsOf t c (terms_of s e.left) steps.left → IsStepsOf u x.diagrams (terms_of t e.right) steps.right → IsTaking (walk_context shorts q u) x place e steps
 steps_taken shorts q s t u place w x c e steps way at first second later entries left right =
     let own = way.entries e (has_at w.listing.entries.items place e at) in
     let left_set = set_kept s t w.diagrams c first e.left own.left in
@@ -157,7 +151,7 @@ module _ (c₀ c₁ c₂ : DiagramsParts) (k₀ : KeepsFunctions c₀ c₁) (k�
       let both = both_parts (value_of c₀ test atom) (value_of c₀ steps.left.accepts atom) (value_of c₀ steps.right.accepts atom) (λ e. ne (left_value atom fits ∙ e ∙ sym (right_value atom fits))) in
       record { fits = fits; there = both.0; differ = both.1 }
 
-pub is_difference : (s : Setting) (w x : Walk) (place : ℕ) (e : EntryParts) (steps : BothSteps) (test : ℕ) (atom : Atom) → KeepsFunctions w.diagrams x.diagrams → x.listing ≡ w.listing → IsTaking s w place e steps → test ≡ e.test → TellApart w.diagrams test steps atom → IsDifference s x place atom
+pub is_difference : (s : WalkContext) (w x : TestedWorklist) (place : ℕ) (e : EntryParts) (steps : BothSteps) (test : ℕ) (atom : Atom) → KeepsFunctions w.diagrams x.diagrams → x.listing ≡ w.listing → IsTaking s w place e steps → test ≡ e.test → TellApart w.diagrams test steps atom → IsDifference s x place atom
 is_difference s w x place e steps test atom kept listing taking same apart = record {
   from = e;
   at = ap (λ (l : Listing). slice_get l.entries.items place) listing ∙ taking.at;
@@ -168,49 +162,49 @@ is_difference s w x place e steps test atom kept listing taking same apart = rec
 
 -- ---- the actions
 
-pub items_next : (s : Setting) (w : Walk) (stride : Stride) (from : EntryParts) (left right : Steps) (items : List Item) → IsStepsOf s.store w.diagrams (terms_of s.store from.left) left → IsStepsOf s.store w.diagrams (terms_of s.store from.right) right
-    → AreItemsOf w.diagrams left.moves.items right.moves.items stride.act items → AreLedTo left.moves.items right.moves.items items → AreNextItems s w stride from items
-items_next s w stride from left right items on_left on_right are led_items = record {
+pub items_next : (s : WalkContext) (w : TestedWorklist) (source : StepSource) (from : EntryParts) (left right : Steps) (items : List Item) → IsStepsOf s.store w.diagrams (terms_of s.store from.left) left → IsStepsOf s.store w.diagrams (terms_of s.store from.right) right
+    → AreItemsOf w.diagrams left.moves.items right.moves.items source.act items → AreLedTo left.moves.items right.moves.items items → AreNextItems s w source from items
+items_next s w source from left right items on_left on_right are led_items = record {
   are = are.are;
   targets = λ i h. ⊎_elim (target_term s.store w.diagrams.tests left.moves.items on_left.targets i.target) (target_term s.store w.diagrams.tests right.moves.items on_right.targets i.target) (led_items i h);
-  lefts = λ atom fits. next_of_ids s.store w.diagrams stride.act atom (terms_of s.store from.left) left _ on_left fits (are.lefts atom fits);
-  rights = λ atom fits. next_of_ids s.store w.diagrams stride.act atom (terms_of s.store from.right) right _ on_right fits (are.rights atom fits);
+  lefts = λ atom fits. next_of_ids s.store w.diagrams source.act atom (terms_of s.store from.left) left _ on_left fits (are.lefts atom fits);
+  rights = λ atom fits. next_of_ids s.store w.diagrams source.act atom (terms_of s.store from.right) right _ on_right fits (are.rights atom fits);
 }
 
-pub stepped_none : (s : Setting) (w : Walk) (turn : Turn) (from : EntryParts) (steps : BothSteps) → IsTaking s w turn.place from steps → IsTurn w turn from → HasStepped s w w turn from []
-stepped_none s w turn from steps t own = record { under_way = t.under_way; at = t.at; turn = own; kept = KeepsFunctions-itself w.diagrams; joined = λ a h. absurd h }
+pub stepped_none : (s : WalkContext) (w : TestedWorklist) (taken_pair : TakenPair) (from : EntryParts) (steps : BothSteps) → IsTaking s w taken_pair.place from steps → IsTakenPair w taken_pair from → HasStepped s w w taken_pair from []
+stepped_none s w taken_pair from steps t own = record { under_way = t.under_way; at = t.at; taken_pair = own; kept = KeepsFunctions-itself w.diagrams; joined = λ a h. absurd h }
 
-module _ (s : Setting) (old mid : Walk) (turn : Turn) (from : EntryParts) (acts : List ℕ) (m : HasStepped s old mid turn from acts) (act : ℕ) (of_actions : act < s.problem.actions) where
-  abbrev pub own_stride : Stride
-  own_stride = record { place = turn.place; level = turn.level; test = turn.test; act = act }
+module _ (s : WalkContext) (old mid : TestedWorklist) (taken_pair : TakenPair) (from : EntryParts) (acts : List ℕ) (m : HasStepped s old mid taken_pair from acts) (act : ℕ) (of_actions : act < s.problem.actions) where
+  abbrev pub own_source : StepSource
+  own_source = record { place = taken_pair.place; level = taken_pair.level; test = taken_pair.test; act = act }
 
-  pub stepped_stands : IsAtStride s mid own_stride from
-  stepped_stands = record { under_way = m.under_way; at = m.at; level = m.turn.level; atoms = m.turn.atoms; of_actions = of_actions }
+  pub stepped_stands : IsAtSource s mid own_source from
+  stepped_stands = record { under_way = m.under_way; at = m.at; level = m.taken_pair.level; atoms = m.taken_pair.atoms; of_actions = of_actions }
 
-  pub stepped_more : (new : Walk) → IsDiagramId old.diagrams turn.test → IsVisited s mid new own_stride from (λ atom. IsTrue (value_of mid.diagrams turn.test atom)) → HasStepped s old new turn from (acts ++ act ∷ [])
+  pub stepped_more : (new : TestedWorklist) → IsDiagramId old.diagrams taken_pair.test → IsVisited s mid new own_source from (λ atom. IsTrue (value_of mid.diagrams taken_pair.test atom)) → HasStepped s old new taken_pair from (acts ++ act ∷ [])
   stepped_more new test_is v = record {
     under_way = v.stands.under_way;
     at = v.stands.at;
-    turn = record { level = v.stands.level; atoms = v.stands.atoms };
+    taken_pair = record { level = v.stands.level; atoms = v.stands.atoms };
     kept = KeepsFunctions-trans old.diagrams mid.diagrams new.diagrams m.kept v.kept;
     joined = λ a h.
         ⊎_elim
         (λ o atom wide there after wide' allowed.
-        joined_grown s own_stride from mid new _ stepped_stands v after (set_next (terms_of s.store from.left) atom a) (set_next (terms_of s.store from.right) atom a) (m.joined a o atom wide there after wide' allowed))
+        joined_grown s own_source from mid new _ stepped_stands v after (set_next (terms_of s.store from.left) atom a) (set_next (terms_of s.store from.right) atom a) (m.joined a o atom wide there after wide' allowed))
         (λ l. ⊎_elim (λ e. subst (JoinedBy) e own) (λ x. absurd x) l)
         (has_append acts (act ∷ []) a h);
   }
     where
       JoinedBy : ℕ → Type 0
-      JoinedBy a = AreJoinedAfter s.shorts s.problem (entries_of s.store new.diagrams new.listing.entries.items) (suc from.level) (pair_of s.store from) (value_of old.diagrams turn.test) a
+      JoinedBy a = AreJoinedAfter s.shorts s.problem (entries_of s.store new.diagrams new.listing.entries.items) (suc from.level) (pair_of s.store from) (value_of old.diagrams taken_pair.test) a
 
-      own : AreJoinedAfter s.shorts s.problem (entries_of s.store new.diagrams new.listing.entries.items) (suc from.level) (pair_of s.store from) (value_of old.diagrams turn.test) act
-      own atom wide there after wide' allowed = v.joined atom wide (m.kept.values turn.test test_is atom ∙ there) after wide' allowed
+      own : AreJoinedAfter s.shorts s.problem (entries_of s.store new.diagrams new.listing.entries.items) (suc from.level) (pair_of s.store from) (value_of old.diagrams taken_pair.test) act
+      own atom wide there after wide' allowed = v.joined atom wide (m.kept.values taken_pair.test test_is atom ∙ there) after wide' allowed
 
 -- ---- an additional pair is processed
 
-pub pair_taken : (s : Setting) (old new : Walk) (turn : Turn) (from : EntryParts) (steps : BothSteps) (acts : List ℕ) (test : ℕ) → IsTaking s old turn.place from steps → IsTurn old turn from → test ≡ from.test → AcceptAlike old.diagrams test steps → ((a : ℕ) → a < s.problem.actions → Has acts a) → HasStepped s old new turn from acts → IsUnderWay s new (turn.place + 1)
-pair_taken s old new turn from steps acts test t is_turn same alike all h = record {
+pub pair_taken : (s : WalkContext) (old new : TestedWorklist) (taken_pair : TakenPair) (from : EntryParts) (steps : BothSteps) (acts : List ℕ) (test : ℕ) → IsTaking s old taken_pair.place from steps → IsTakenPair old taken_pair from → test ≡ from.test → AcceptAlike old.diagrams test steps → ((a : ℕ) → a < s.problem.actions → Has acts a) → HasStepped s old new taken_pair from acts → IsUnderWay s new (taken_pair.place + 1)
+pair_taken s old new taken_pair from steps acts test t is_taken_pair same alike all h = record {
   sound = h.under_way.sound;
   tests = h.under_way.tests;
   allowance = h.under_way.allowance;
@@ -220,21 +214,21 @@ pair_taken s old new turn from steps acts test t is_turn same alike all h = reco
   universal_id = h.under_way.universal_id;
   walk =
       subst (IsTestedWalk s.shorts s.problem (entries_of s.store new.diagrams new.listing.entries.items)) one_more
-      (walk_takes s.shorts s.problem (entries_of s.store new.diagrams new.listing.entries.items) turn.place h.under_way.walk (entry_of s.store new.diagrams from) (entry_at s.store new.diagrams new.listing.entries.items turn.place from h.at) own);
+      (walk_takes s.shorts s.problem (entries_of s.store new.diagrams new.listing.entries.items) taken_pair.place h.under_way.walk (entry_of s.store new.diagrams from) (entry_at s.store new.diagrams new.listing.entries.items taken_pair.place from h.at) own);
 }
   where
-    one_more : suc turn.place ≡ turn.place + 1
+    one_more : suc taken_pair.place ≡ taken_pair.place + 1
     one_more = omega arith
 
     member : Has old.listing.entries.items from
-    member = has_at old.listing.entries.items turn.place from t.at
+    member = has_at old.listing.entries.items taken_pair.place from t.at
 
     test_is : IsDiagramId old.diagrams from.test
     test_is = (t.under_way.entries from member).test
 
-    -- the atoms of the entry are atoms of the turn
-    in_turn : (atom : Atom) → IsAtomOf old.diagrams atom → IsTrue (value_of old.diagrams from.test atom) → IsTrue (value_of old.diagrams turn.test atom)
-    in_turn atom fits there = is_turn.atoms.back atom fits (record { entry = from; member = member; is = record { left = refl; right = refl; level = refl }; holds = there })
+    -- the atoms of the entry are atoms of the pair that is processed
+    in_taken_pair : (atom : Atom) → IsAtomOf old.diagrams atom → IsTrue (value_of old.diagrams from.test atom) → IsTrue (value_of old.diagrams taken_pair.test atom)
+    in_taken_pair atom fits there = is_taken_pair.atoms.back atom fits (record { entry = from; member = member; is = record { left = refl; right = refl; level = refl }; holds = there })
 
     was : (atom : Atom) → IsTrue (value_of new.diagrams from.test atom) → IsTrue (value_of old.diagrams from.test atom)
     was atom there = sym (h.kept.values from.test test_is atom) ∙ there
@@ -244,12 +238,12 @@ pair_taken s old new turn from steps acts test t is_turn same alike all h = reco
       outputs = λ atom wide there.
           let fits : IsAtomOf old.diagrams atom = wide ∙ sym t.under_way.tests in
           sym (t.left.accepts.value atom fits) ∙ alike atom fits (subst (λ i. IsTrue (value_of old.diagrams i atom)) (sym same) (was atom there)) ∙ t.right.accepts.value atom fits;
-      steps = λ a l atom wide there after wide' allowed. h.joined a (all a l) atom wide (in_turn atom (wide ∙ sym t.under_way.tests) (was atom there)) after wide' allowed;
+      steps = λ a l atom wide there after wide' allowed. h.joined a (all a l) atom wide (in_taken_pair atom (wide ∙ sym t.under_way.tests) (was atom there)) after wide' allowed;
     }
 
 -- ---- when only diagrams are added
 
-module _ (s : Setting) (w x : Walk) (place : ℕ) (e : EntryParts) (steps : BothSteps) (kept : KeepsFunctions w.diagrams x.diagrams) (t : IsTaking s w place e steps) where
+module _ (s : WalkContext) (w x : TestedWorklist) (place : ℕ) (e : EntryParts) (steps : BothSteps) (kept : KeepsFunctions w.diagrams x.diagrams) (t : IsTaking s w place e steps) where
   pub taking_later : x.listing ≡ w.listing → x.moves ≡ w.moves → x.derivatives ≡ w.derivatives → IsTaking s x place e steps
   taking_later listing moves derivatives = record {
     under_way =

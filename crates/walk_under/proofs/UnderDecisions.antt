@@ -42,9 +42,9 @@ use Rattle.walk_under.specs.Decisions.{IsDecisionUnder}
 use Rattle.walk_under.specs.Laws.{AreFewPairs}
 use Rattle.walk_under.specs.Working.Entries.{EntryParts}
 use Rattle.walk_under.specs.Working.Listings.{entry_of}
-use Rattle.walk_under.specs.Working.Walking.{Setting, about, IsUnderWay, AreClosedIds}
+use Rattle.walk_under.specs.Working.Walking.{WalkContext, walk_context, IsUnderWay, AreClosedIds}
 use Rattle.walk_under.specs.Working.Merging.{AreMergedIds}
-use Rattle.walk_under.specs.declared.walk.Walk.{Walk}
+use Rattle.walk_under.specs.declared.walk.TestedWorklist.{TestedWorklist}
 use Rattle.walk_under.proofs.EndedWalks.{ended_accepted}
 use Rattle.walk_under.proofs.Few.{entry_reached}
 use Rattle.walk_under.proofs.FewMerged.{merged_few}
@@ -59,12 +59,12 @@ reached_somewhere shorts tests actions before (q ∷ ps) r p h =
     (reached_somewhere shorts tests actions _ ps r.1 p)
     h
 
-module _ (whole : ProblemParts) (problem : IsProblem whole) (start t : NodeParts) (grows : Grows start t) (sound : AreNodes t) (w : Walk) where
+module _ (whole : ProblemParts) (problem : IsProblem whole) (start t : NodeParts) (grows : Grows start t) (sound : AreNodes t) (w : TestedWorklist) where
   abbrev longs : ProblemParts
   longs = with_hyps whole (long_hyps whole)
 
-  abbrev s : Setting
-  s = about (short_hyps whole) longs start
+  abbrev s : WalkContext
+  s = walk_context (short_hyps whole) longs start
 
   abbrev ids : List EntryParts
   ids = w.listing.entries.items

@@ -31,18 +31,18 @@ use Rattle.walk_under.specs.Working.Reaching.{IsOpenPart}
 use Rattle.walk_under.specs.Working.Parts.{IsPart}
 use Rattle.walk_under.specs.Working.Listings.{entry_of, entries_of, IsIdEntry, IsFreshPart, AreLevelAtoms, IsNextPart}
 use Rattle.walk_pairs.specs.IdSets.{IsIdSet}
-use Rattle.walk_under.specs.Working.Walking.{Setting, new_ids, IsAtStride, IsVisited, IsOpenAt, AreNextItems}
-use Rattle.walk_under.specs.declared.entry.Origin.{Origin}
+use Rattle.walk_under.specs.Working.Walking.{WalkContext, new_ids, IsAtSource, IsVisited, IsOpenAt, AreNextItems}
+use Rattle.walk_under.specs.declared.entry.StepOrigin.{StepOrigin}
 use Rattle.walk_under.specs.declared.listing.Listing.{Listing}
 use Rattle.walk_under.specs.declared.parts.Part.{Part}
-use Rattle.walk_under.specs.declared.walk.Walk.{Walk}
-use Rattle.walk_under.specs.declared.walk.Stride.{Stride}
+use Rattle.walk_under.specs.declared.walk.TestedWorklist.{TestedWorklist}
+use Rattle.walk_under.specs.declared.walk.StepSource.{StepSource}
 use Rattle.walk_under.proofs.WalkSteps.{joined_more, walk_lists}
 use Rattle.walk_under.proofs.Allowances.{allowance_kept}
 use Rattle.walk_under.proofs.AllowedImages.{allowed_atom, source_kept, source_was}
 use Rattle.walk_under.proofs.PartCases.{chosen_kept}
 use Rattle.walk_under.proofs.JoinedAt.{pairs_true, joined_by, joined_same, brought_congruent, entry_congruent, entries-append, entry_at}
-use Rattle.walk_under.proofs.Standing.{entries_same, next_part_kept, fresh_part_kept, listed_at, at_stride_kept, one_id_set}
+use Rattle.walk_under.proofs.Standing.{entries_same, next_part_kept, fresh_part_kept, listed_at, at_source_kept, one_id_set}
 use Rattle.walk_under.proofs.LevelAtoms.{level_past, level_atoms_within}
 
 pub allowed_image_kept : (c d : DiagramsParts) → KeepsFunctions c d → (shorts : List Term) (region act id : ℕ) → IsDiagramId c region → IsAllowedImage c shorts region act id → IsAllowedImage d shorts region act id
@@ -53,14 +53,14 @@ allowed_image_kept c d kept shorts region act id is image = record {
 }
 
 -- the part lies within the allowed atoms
-pub region_within : (s : Setting) (w : Walk) (stride : Stride) (from : EntryParts) (p : Part) → IsAtStride s w stride from → IsNextPart s.store w.diagrams from stride.test stride.act p → IsWithin w.diagrams p.region w.moves.allowed
-region_within s w stride from p stands next a fits h =
-    level_atoms_within w.diagrams w.listing.entries.items from stride.test w.moves.allowed (λ e m. (stands.under_way.entries e m).within) stands.atoms a fits (next.within a fits h)
+pub region_within : (s : WalkContext) (w : TestedWorklist) (source : StepSource) (from : EntryParts) (p : Part) → IsAtSource s w source from → IsNextPart s.store w.diagrams from source.test source.act p → IsWithin w.diagrams p.region w.moves.allowed
+region_within s w source from p stands next a fits h =
+    level_atoms_within w.diagrams w.listing.entries.items from source.test w.moves.allowed (λ e m. (stands.under_way.entries e m).within) stands.atoms a fits (next.within a fits h)
 
 -- ---- the open atoms of a part
 
-module _ (s : Setting) (w x : Walk) (stride : Stride) (from : EntryParts) (p : Part) (stands : IsAtStride s w stride from) (next : IsNextPart s.store w.diagrams from stride.test stride.act p) (c₁ c₂ : DiagramsParts) (k₁ : KeepsFunctions w.diagrams c₁) (k₂ : KeepsFunctions c₁ c₂) (k₃ : KeepsFunctions c₂ x.diagrams) where
-  module _ (listing : x.listing ≡ w.listing) (derivatives : x.derivatives ≡ w.derivatives) (allowed : x.moves.allowed ≡ w.moves.allowed) (moves : IsAllowance c₁ s.shorts s.problem.actions x.moves) (image fresh id : ℕ) (is_image : IsAllowedImage c₁ s.shorts p.region stride.act image) (is_fresh : IsFreshPart c₂ w.listing.entries.items p.left.items p.right.items image fresh) (is_open : IsOpenPart x.diagrams w.listing.entries.items w.listing.universal p.left.items p.right.items p.left.items p.right.items fresh id) where
+module _ (s : WalkContext) (w x : TestedWorklist) (source : StepSource) (from : EntryParts) (p : Part) (stands : IsAtSource s w source from) (next : IsNextPart s.store w.diagrams from source.test source.act p) (c₁ c₂ : DiagramsParts) (k₁ : KeepsFunctions w.diagrams c₁) (k₂ : KeepsFunctions c₁ c₂) (k₃ : KeepsFunctions c₂ x.diagrams) where
+  module _ (listing : x.listing ≡ w.listing) (derivatives : x.derivatives ≡ w.derivatives) (allowed : x.moves.allowed ≡ w.moves.allowed) (moves : IsAllowance c₁ s.shorts s.problem.actions x.moves) (image fresh id : ℕ) (is_image : IsAllowedImage c₁ s.shorts p.region source.act image) (is_fresh : IsFreshPart c₂ w.listing.entries.items p.left.items p.right.items image fresh) (is_open : IsOpenPart x.diagrams w.listing.entries.items w.listing.universal p.left.items p.right.items p.left.items p.right.items fresh id) where
     kept₁₃ : KeepsFunctions c₁ x.diagrams
     kept₁₃ = KeepsFunctions-trans c₁ c₂ x.diagrams k₂ k₃
 
@@ -70,15 +70,15 @@ module _ (s : Setting) (w x : Walk) (stride : Stride) (from : EntryParts) (p : P
     allowance : IsAllowance x.diagrams s.shorts s.problem.actions x.moves
     allowance = allowance_kept c₁ x.diagrams kept₁₃ s.shorts s.problem.actions x.moves moves
 
-    later : IsAtStride s x stride from
-    later = at_stride_kept s stride from w x kept listing derivatives allowed allowance stands
+    later : IsAtSource s x source from
+    later = at_source_kept s source from w x kept listing derivatives allowed allowance stands
 
     -- the entries of the new walk
     abbrev es : List EntryParts
     es = x.listing.entries.items
 
-    img : IsAllowedImage x.diagrams s.shorts p.region stride.act image
-    img = allowed_image_kept c₁ x.diagrams kept₁₃ s.shorts p.region stride.act image (k₁.ids p.region next.region) is_image
+    img : IsAllowedImage x.diagrams s.shorts p.region source.act image
+    img = allowed_image_kept c₁ x.diagrams kept₁₃ s.shorts p.region source.act image (k₁.ids p.region next.region) is_image
 
     tests₂ : (e : EntryParts) → Has w.listing.entries.items e → IsDiagramId c₂ e.test
     tests₂ e h = k₂.ids e.test (k₁.ids e.test (stands.under_way.entries e h).test)
@@ -92,17 +92,17 @@ module _ (s : Setting) (w x : Walk) (stride : Stride) (from : EntryParts) (p : P
     opened = subst (λ (l : Listing). IsOpenPart x.diagrams l.entries.items l.universal p.left.items p.right.items p.left.items p.right.items fresh id) (sym listing) is_open
 
     low : (e : TestedEntry) → Has (entries_of s.store x.diagrams es) e → e.level ≤ suc from.level
-    low e h = later.under_way.walk.so_far e (entry_of s.store x.diagrams from) h (entry_at s.store x.diagrams es stride.place from later.at)
+    low e h = later.under_way.walk.so_far e (entry_of s.store x.diagrams from) h (entry_at s.store x.diagrams es source.place from later.at)
 
-    source_of : (atom : Atom) → IsAtomOf x.diagrams atom → IsTrue (value_of x.diagrams id atom) → HasAllowedSource x.diagrams s.shorts p.region stride.act atom
+    source_of : (atom : Atom) → IsAtomOf x.diagrams atom → IsTrue (value_of x.diagrams id atom) → HasAllowedSource x.diagrams s.shorts p.region source.act atom
     source_of atom fits h = img.there atom fits (fr.within atom fits (opened.part.within atom fits h))
 
-    joined_rest : (atom : Atom) → IsAtomOf x.diagrams atom → HasAllowedSource x.diagrams s.shorts p.region stride.act atom → IsFalse (value_of x.diagrams id atom)
+    joined_rest : (atom : Atom) → IsAtomOf x.diagrams atom → HasAllowedSource x.diagrams s.shorts p.region source.act atom → IsFalse (value_of x.diagrams id atom)
         → AreJoined s.problem (entries_of s.store x.diagrams es) (suc from.level) atom (terms_of s.store p.left.items) (terms_of s.store p.right.items)
-    joined_rest atom fits source none = go (value_of x.diagrams fresh atom) refl
+    joined_rest atom fits has_source none = go (value_of x.diagrams fresh atom) refl
       where
         there : IsTrue (value_of x.diagrams image atom)
-        there = img.back atom fits source
+        there = img.back atom fits has_source
 
         go : (b : Bool) → value_of x.diagrams fresh atom ≡ b → AreJoined s.problem (entries_of s.store x.diagrams es) (suc from.level) atom (terms_of s.store p.left.items) (terms_of s.store p.right.items)
         go true t =
@@ -115,10 +115,10 @@ module _ (s : Setting) (w x : Walk) (stride : Stride) (from : EntryParts) (p : P
             (subst (λ ks. AreJoined s.problem (entries_of s.store x.diagrams es) (suc from.level) atom (terms_of s.store r.0.left) (terms_of s.store ks)) r.3
             (joined_by s.problem (entries_of s.store x.diagrams es) (suc from.level) atom (terms_of s.store r.0.left) (terms_of s.store r.0.right) low c))
 
-    pub open_at : IsOpenAt s w x stride from p id
+    pub open_at : IsOpenAt s w x source from p id
     open_at = record {
       stands = later;
-      next = next_part_kept s.store w.diagrams x.diagrams kept from stride.test stride.act p stands.atoms.is_id next;
+      next = next_part_kept s.store w.diagrams x.diagrams kept from source.test source.act p stands.atoms.is_id next;
       kept = kept;
       listing = listing;
       is_id = opened.part.is_id;
@@ -130,7 +130,7 @@ module _ (s : Setting) (w x : Walk) (stride : Stride) (from : EntryParts) (p : P
 
 -- ---- a part is visited
 
-module _ (s : Setting) (w x : Walk) (stride : Stride) (from : EntryParts) (p : Part) (id : ℕ) (before : IsNextPart s.store w.diagrams from stride.test stride.act p) (o : IsOpenAt s w x stride from p id) where
+module _ (s : WalkContext) (w x : TestedWorklist) (source : StepSource) (from : EntryParts) (p : Part) (id : ℕ) (before : IsNextPart s.store w.diagrams from source.test source.act p) (o : IsOpenAt s w x source from p id) where
   abbrev d : DiagramsParts
   d = x.diagrams
 
@@ -141,21 +141,21 @@ module _ (s : Setting) (w x : Walk) (stride : Stride) (from : EntryParts) (p : P
   right_terms = terms_of s.store p.right.items
 
   -- an atom from which an allowed move leads to the atom after it
-  start : (atom : Atom) → length atom ≡ s.problem.tests → IsTrue (value_of w.diagrams p.region atom) → (after : Atom) → IsAllowedMove s.shorts atom (record { act = stride.act; atom = after }) → HasAllowedSource d s.shorts p.region stride.act after
+  start : (atom : Atom) → length atom ≡ s.problem.tests → IsTrue (value_of w.diagrams p.region atom) → (after : Atom) → IsAllowedMove s.shorts atom (record { act = source.act; atom = after }) → HasAllowedSource d s.shorts p.region source.act after
   start atom wide there after allowed = (atom, record { fits = wide ∙ sym o.stands.under_way.tests; there = o.kept.values p.region before.region atom ∙ there; allowed = allowed })
 
   module _ (es : List TestedEntry) where
     to_next : (atom : Atom) → length atom ≡ s.problem.tests → IsTrue (value_of w.diagrams p.region atom) → (after : Atom) → AreJoined s.problem es (suc from.level) after left_terms right_terms
-        → AreJoined s.problem es (suc from.level) after (set_next (terms_of s.store from.left) atom stride.act) (set_next (terms_of s.store from.right) atom stride.act)
+        → AreJoined s.problem es (suc from.level) after (set_next (terms_of s.store from.left) atom source.act) (set_next (terms_of s.store from.right) atom source.act)
     to_next atom wide there after j =
         let fits : IsAtomOf d atom = wide ∙ sym o.stands.under_way.tests in
         let now = o.kept.values p.region before.region atom ∙ there in
-        joined_same s.problem es (suc from.level) after left_terms right_terms (set_next (terms_of s.store from.left) atom stride.act) (set_next (terms_of s.store from.right) atom stride.act)
-        (same_members_sym (set_next (terms_of s.store from.left) atom stride.act) left_terms (o.next.lefts atom fits now))
-        (same_members_sym (set_next (terms_of s.store from.right) atom stride.act) right_terms (o.next.rights atom fits now)) j
+        joined_same s.problem es (suc from.level) after left_terms right_terms (set_next (terms_of s.store from.left) atom source.act) (set_next (terms_of s.store from.right) atom source.act)
+        (same_members_sym (set_next (terms_of s.store from.left) atom source.act) left_terms (o.next.lefts atom fits now))
+        (same_members_sym (set_next (terms_of s.store from.right) atom source.act) right_terms (o.next.rights atom fits now)) j
 
   -- without an open atom, nothing is listed
-  pub visited_none : (never : ℕ) → id ≡ never → IsDiagramOf d never (λ a. false) → IsVisited s w x stride from (λ atom. IsTrue (value_of w.diagrams p.region atom))
+  pub visited_none : (never : ℕ) → id ≡ never → IsDiagramOf d never (λ a. false) → IsVisited s w x source from (λ atom. IsTrue (value_of w.diagrams p.region atom))
   visited_none never same is = record {
     stands = o.stands;
     kept = o.kept;
@@ -167,8 +167,8 @@ module _ (s : Setting) (w x : Walk) (stride : Stride) (from : EntryParts) (p : P
   }
 
   -- with an open atom, the pair is listed
-  module _ (never : ℕ) (differs : id ≢ never) (is_never : IsDiagramOf d never (λ a. false)) (reduced : IsReduced d) (l : Listing) (items : l.entries.items ≡ x.listing.entries.items ++ new_ids stride p id ∷ []) (universal : l.universal ≡ x.listing.universal) where
-    abbrev y : Walk
+  module _ (never : ℕ) (differs : id ≢ never) (is_never : IsDiagramOf d never (λ a. false)) (reduced : IsReduced d) (l : Listing) (items : l.entries.items ≡ x.listing.entries.items ++ new_ids source p id ∷ []) (universal : l.universal ≡ x.listing.universal) where
+    abbrev y : TestedWorklist
     y = record x { listing = l }
 
     abbrev olds : List TestedEntry
@@ -181,10 +181,10 @@ module _ (s : Setting) (w x : Walk) (stride : Stride) (from : EntryParts) (p : P
     sets = record { left = left_terms; right = right_terms }
 
     abbrev step : TestedOrigin
-    step = record { place = stride.place; act = stride.act; region = value_of d p.region }
+    step = record { place = source.place; act = source.act; region = value_of d p.region }
 
-    here : slice_get olds stride.place ≡ Some from_entry
-    here = entry_at s.store d x.listing.entries.items stride.place from o.stands.at
+    here : slice_get olds source.place ≡ Some from_entry
+    here = entry_at s.store d x.listing.entries.items source.place from o.stands.at
 
     is_region : IsRegion s.problem.tests olds from_entry step sets
     is_region = record {
@@ -215,34 +215,34 @@ module _ (s : Setting) (w x : Walk) (stride : Stride) (from : EntryParts) (p : P
         (one_id_set s.store o.stands.under_way.sound d.tests f.0.right p.right.items own.right o.next.right_set (subst (λ (z : TestedEntry). SameMembers z.pair.right right_terms) (sym is) rights))
         atom (wide ∙ sym o.stands.under_way.tests) u (subst (λ (z : TestedEntry). IsTrue (z.test atom)) (sym is) t)
 
-    listed_walk : IsTestedWalk s.shorts s.problem (olds ++ record { pair = sets; test = value_of d id; level = suc from.level; origin = Some step } ∷ []) stride.place
-    listed_walk = walk_lists s.shorts s.problem olds stride.place o.stands.under_way.walk from_entry here sets (value_of d id) step refl o.stands.of_actions is_region have_sources somewhere is_fresh
+    listed_walk : IsTestedWalk s.shorts s.problem (olds ++ record { pair = sets; test = value_of d id; level = suc from.level; origin = Some step } ∷ []) source.place
+    listed_walk = walk_lists s.shorts s.problem olds source.place o.stands.under_way.walk from_entry here sets (value_of d id) step refl o.stands.of_actions is_region have_sources somewhere is_fresh
 
-    level_is : stride.level + 1 ≡ suc from.level
+    level_is : source.level + 1 ≡ suc from.level
     level_is = let e = o.stands.level in omega arith
 
     new_entries : entries_of s.store d l.entries.items ≡ olds ++ record { pair = sets; test = value_of d id; level = suc from.level; origin = Some step } ∷ []
     new_entries =
         ap (entries_of s.store d) items
-        ∙ entries-append s.store d x.listing.entries.items (new_ids stride p id ∷ [])
+        ∙ entries-append s.store d x.listing.entries.items (new_ids source p id ∷ [])
         ∙ ap (λ n. olds ++ at_level n ∷ []) level_is
       where
         at_level : ℕ → TestedEntry
         at_level n = record { pair = sets; test = value_of d id; level = n; origin = Some step }
 
-    new_listed : Has l.entries.items (new_ids stride p id)
-    new_listed = subst (λ (xs : List EntryParts). Has xs (new_ids stride p id)) (sym items) (has_right x.listing.entries.items (new_ids stride p id ∷ []) (new_ids stride p id) (inl refl))
+    new_listed : Has l.entries.items (new_ids source p id)
+    new_listed = subst (λ (xs : List EntryParts). Has xs (new_ids source p id)) (sym items) (has_right x.listing.entries.items (new_ids source p id ∷ []) (new_ids source p id) (inl refl))
 
-    region_id : (q : Origin) → Some (record { place = stride.place; act = stride.act; region = p.region }) ≡ Some q → IsDiagramId d q.region
+    region_id : (q : StepOrigin) → Some (record { place = source.place; act = source.act; region = p.region }) ≡ Some q → IsDiagramId d q.region
     region_id q e =
-        let r : Origin = record { place = stride.place; act = stride.act; region = p.region } in
+        let r : StepOrigin = record { place = source.place; act = source.act; region = p.region } in
         let same : r ≡ q = cc in
-        subst (λ (z : Origin). IsDiagramId d z.region) same o.next.region
+        subst (λ (z : StepOrigin). IsDiagramId d z.region) same o.next.region
 
-    new_is : IsIdEntry s.store d x.moves.allowed (new_ids stride p id)
+    new_is : IsIdEntry s.store d x.moves.allowed (new_ids source p id)
     new_is = record { left = o.next.left_set; right = o.next.right_set; test = o.is_id; within = o.within; region = region_id }
 
-    new_stands : IsAtStride s y stride from
+    new_stands : IsAtSource s y source from
     new_stands = record {
       under_way = record {
         sound = o.stands.under_way.sound;
@@ -253,48 +253,48 @@ module _ (s : Setting) (w x : Walk) (stride : Stride) (from : EntryParts) (p : P
             ⊎_elim
             (o.stands.under_way.entries e)
             (λ m. ⊎_elim (λ q. subst (IsIdEntry s.store d x.moves.allowed) q new_is) (λ a. absurd a) m)
-            (has_append x.listing.entries.items (new_ids stride p id ∷ []) e (subst (λ (xs : List EntryParts). Has xs e) items h));
+            (has_append x.listing.entries.items (new_ids source p id ∷ []) e (subst (λ (xs : List EntryParts). Has xs e) items h));
         universal = ap (option_map (tree_at s.store)) universal ∙ o.stands.under_way.universal;
         universal_id = λ u e. o.stands.under_way.universal_id u (sym universal ∙ e);
-        walk = subst (λ es. IsTestedWalk s.shorts s.problem es stride.place) (sym new_entries) listed_walk;
+        walk = subst (λ es. IsTestedWalk s.shorts s.problem es source.place) (sym new_entries) listed_walk;
       };
-      at = subst (λ (xs : List EntryParts). slice_get xs stride.place ≡ Some from) (sym items) (slice_get-append_some x.listing.entries.items (new_ids stride p id ∷ []) stride.place from o.stands.at);
+      at = subst (λ (xs : List EntryParts). slice_get xs source.place ≡ Some from) (sym items) (slice_get-append_some x.listing.entries.items (new_ids source p id ∷ []) source.place from o.stands.at);
       level = o.stands.level;
       atoms =
-          subst (λ (xs : List EntryParts). AreLevelAtoms d xs from stride.test) (sym items)
-          (level_past d x.listing.entries.items (new_ids stride p id) from stride.test (let e = level_is in omega arith) o.stands.atoms);
+          subst (λ (xs : List EntryParts). AreLevelAtoms d xs from source.test) (sym items)
+          (level_past d x.listing.entries.items (new_ids source p id) from source.test (let e = level_is in omega arith) o.stands.atoms);
       of_actions = o.stands.of_actions;
     }
 
     new_low : (e : TestedEntry) → Has (entries_of s.store d l.entries.items) e → e.level ≤ suc from.level
-    new_low e h = new_stands.under_way.walk.so_far e from_entry h (entry_at s.store d l.entries.items stride.place from new_stands.at)
+    new_low e h = new_stands.under_way.walk.so_far e from_entry h (entry_at s.store d l.entries.items source.place from new_stands.at)
 
-    joined_there : (after : Atom) → IsAtomOf d after → HasAllowedSource d s.shorts p.region stride.act after → AreJoined s.problem (entries_of s.store d l.entries.items) (suc from.level) after left_terms right_terms
-    joined_there after fits source = go (value_of d id after) refl
+    joined_there : (after : Atom) → IsAtomOf d after → HasAllowedSource d s.shorts p.region source.act after → AreJoined s.problem (entries_of s.store d l.entries.items) (suc from.level) after left_terms right_terms
+    joined_there after fits has_source = go (value_of d id after) refl
       where
         go : (b : Bool) → value_of d id after ≡ b → AreJoined s.problem (entries_of s.store d l.entries.items) (suc from.level) after left_terms right_terms
         go true t =
             joined_by s.problem (entries_of s.store d l.entries.items) (suc from.level) after left_terms right_terms new_low
-            (entry_congruent s.problem s.store d l.entries.items l.universal new_stands.under_way.universal after (new_ids stride p id) new_listed t)
+            (entry_congruent s.problem s.store d l.entries.items l.universal new_stands.under_way.universal after (new_ids source p id) new_listed t)
         go false f =
             subst (λ es. AreJoined s.problem es (suc from.level) after left_terms right_terms) (sym new_entries)
-            (joined_more s.problem olds (record { pair = sets; test = value_of d id; level = suc from.level; origin = Some step } ∷ []) (suc from.level) after left_terms right_terms (o.joined after fits source f))
+            (joined_more s.problem olds (record { pair = sets; test = value_of d id; level = suc from.level; origin = Some step } ∷ []) (suc from.level) after left_terms right_terms (o.joined after fits has_source f))
 
-    pub visited_listed : IsVisited s w y stride from (λ atom. IsTrue (value_of w.diagrams p.region atom))
+    pub visited_listed : IsVisited s w y source from (λ atom. IsTrue (value_of w.diagrams p.region atom))
     visited_listed = record {
       stands = new_stands;
       kept = o.kept;
-      more = new_ids stride p id ∷ [];
-      grows = items ∙ ap (λ (k : Listing). k.entries.items ++ new_ids stride p id ∷ []) o.listing;
+      more = new_ids source p id ∷ [];
+      grows = items ∙ ap (λ (k : Listing). k.entries.items ++ new_ids source p id ∷ []) o.listing;
       joined = λ atom wide there after wide' allowed.
           to_next (entries_of s.store d l.entries.items) atom wide there after (joined_there after (wide' ∙ sym o.stands.under_way.tests) (start atom wide there after allowed));
     }
 
 -- ---- one visit after another
 
-module _ (s : Setting) (stride : Stride) (from : EntryParts) where
+module _ (s : WalkContext) (source : StepSource) (from : EntryParts) where
   -- joined sets remain joined
-  pub joined_grown : (v w : Walk) (P : Atom → Type 0) → IsAtStride s v stride from → IsVisited s v w stride from P → (after : Atom) (lefts rights : List Term)
+  pub joined_grown : (v w : TestedWorklist) (P : Atom → Type 0) → IsAtSource s v source from → IsVisited s v w source from P → (after : Atom) (lefts rights : List Term)
       → AreJoined s.problem (entries_of s.store v.diagrams v.listing.entries.items) (suc from.level) after lefts rights → AreJoined s.problem (entries_of s.store w.diagrams w.listing.entries.items) (suc from.level) after lefts rights
   joined_grown v w P stands visited after lefts rights j =
       subst (λ es. AreJoined s.problem es (suc from.level) after lefts rights)
@@ -303,7 +303,7 @@ module _ (s : Setting) (stride : Stride) (from : EntryParts) where
       ∙ ap (λ es. es ++ entries_of s.store w.diagrams visited.more) (entries_same s.store v.diagrams w.diagrams visited.kept v.moves.allowed v.listing.entries.items stands.under_way.entries)))
       (joined_more s.problem (entries_of s.store v.diagrams v.listing.entries.items) (entries_of s.store w.diagrams visited.more) (suc from.level) after lefts rights j)
 
-  pub visited_then : (u v w : Walk) (P Q : Atom → Type 0) → IsVisited s u v stride from P → IsVisited s v w stride from Q → IsVisited s u w stride from (λ atom. P atom ⊎ Q atom)
+  pub visited_then : (u v w : TestedWorklist) (P Q : Atom → Type 0) → IsVisited s u v source from P → IsVisited s v w source from Q → IsVisited s u w source from (λ atom. P atom ⊎ Q atom)
   visited_then u v w P Q first second = record {
     stands = second.stands;
     kept = KeepsFunctions-trans u.diagrams v.diagrams w.diagrams first.kept second.kept;
@@ -311,16 +311,16 @@ module _ (s : Setting) (stride : Stride) (from : EntryParts) where
     grows = second.grows ∙ ap (λ es. es ++ second.more) first.grows ∙ append_assoc u.listing.entries.items first.more second.more;
     joined = λ atom wide there after wide' allowed.
         ⊎_elim
-        (λ h. joined_grown v w Q first.stands second after (set_next (terms_of s.store from.left) atom stride.act) (set_next (terms_of s.store from.right) atom stride.act) (first.joined atom wide h after wide' allowed))
+        (λ h. joined_grown v w Q first.stands second after (set_next (terms_of s.store from.left) atom source.act) (set_next (terms_of s.store from.right) atom source.act) (first.joined atom wide h after wide' allowed))
         (λ h. second.joined atom wide h after wide' allowed)
         there;
   }
 
   -- fewer atoms, and other walks that differ only in diagrams
-  pub visited_part : (u w : Walk) (P Q : Atom → Type 0) → ((atom : Atom) → length atom ≡ s.problem.tests → Q atom → P atom) → IsVisited s u w stride from P → IsVisited s u w stride from Q
+  pub visited_part : (u w : TestedWorklist) (P Q : Atom → Type 0) → ((atom : Atom) → length atom ≡ s.problem.tests → Q atom → P atom) → IsVisited s u w source from P → IsVisited s u w source from Q
   visited_part u w P Q part v = record { stands = v.stands; kept = v.kept; more = v.more; grows = v.grows; joined = λ atom wide h. v.joined atom wide (part atom wide h) }
 
-  pub visited_nowhere : (u w : Walk) (P : Atom → Type 0) → IsAtStride s w stride from → KeepsFunctions u.diagrams w.diagrams → w.listing ≡ u.listing → ((atom : Atom) → length atom ≡ s.problem.tests → P atom → SameMembers (set_next (terms_of s.store from.left) atom stride.act) (set_next (terms_of s.store from.right) atom stride.act)) → IsVisited s u w stride from P
+  pub visited_nowhere : (u w : TestedWorklist) (P : Atom → Type 0) → IsAtSource s w source from → KeepsFunctions u.diagrams w.diagrams → w.listing ≡ u.listing → ((atom : Atom) → length atom ≡ s.problem.tests → P atom → SameMembers (set_next (terms_of s.store from.left) atom source.act) (set_next (terms_of s.store from.right) atom source.act)) → IsVisited s u w source from P
   visited_nowhere u w P stands kept listing same = record {
     stands = stands;
     kept = kept;
@@ -329,17 +329,17 @@ module _ (s : Setting) (stride : Stride) (from : EntryParts) where
     joined = λ atom wide h after wide' allowed.
         let es = entries_of s.store w.diagrams w.listing.entries.items in
         let pairs = pairs_true es after in
-        let lefts = set_next (terms_of s.store from.left) atom stride.act in
-        let rights = set_next (terms_of s.store from.right) atom stride.act in
+        let lefts = set_next (terms_of s.store from.left) atom source.act in
+        let rights = set_next (terms_of s.store from.right) atom source.act in
         joined_by s.problem es (suc from.level) after lefts rights
-        (λ e m. stands.under_way.walk.so_far e (entry_of s.store w.diagrams from) m (entry_at s.store w.diagrams w.listing.entries.items stride.place from stands.at))
+        (λ e m. stands.under_way.walk.so_far e (entry_of s.store w.diagrams from) m (entry_at s.store w.diagrams w.listing.entries.items source.place from stands.at))
         (inl (sat_same pairs lefts rights (same atom wide h)));
   }
 
   -- sets that are joined after moves from some atoms, if from all others the next sets are the same
-  pub visited_from : (u v w : Walk) → KeepsFunctions u.diagrams v.diagrams → v.listing ≡ u.listing → (P Q : Atom → Type 0) → IsVisited s v w stride from P
-      → ((atom : Atom) → length atom ≡ s.problem.tests → Q atom → P atom ⊎ SameMembers (set_next (terms_of s.store from.left) atom stride.act) (set_next (terms_of s.store from.right) atom stride.act))
-      → IsVisited s u w stride from Q
+  pub visited_from : (u v w : TestedWorklist) → KeepsFunctions u.diagrams v.diagrams → v.listing ≡ u.listing → (P Q : Atom → Type 0) → IsVisited s v w source from P
+      → ((atom : Atom) → length atom ≡ s.problem.tests → Q atom → P atom ⊎ SameMembers (set_next (terms_of s.store from.left) atom source.act) (set_next (terms_of s.store from.right) atom source.act))
+      → IsVisited s u w source from Q
   visited_from u v w kept listing P Q visited split = record {
     stands = visited.stands;
     kept = KeepsFunctions-trans u.diagrams v.diagrams w.diagrams kept visited.kept;
@@ -347,42 +347,42 @@ module _ (s : Setting) (stride : Stride) (from : EntryParts) where
     grows = visited.grows ∙ ap (λ (l : Listing). l.entries.items ++ visited.more) listing;
     joined = λ atom wide h after wide' allowed.
         let es = entries_of s.store w.diagrams w.listing.entries.items in
-        let lefts = set_next (terms_of s.store from.left) atom stride.act in
-        let rights = set_next (terms_of s.store from.right) atom stride.act in
+        let lefts = set_next (terms_of s.store from.left) atom source.act in
+        let rights = set_next (terms_of s.store from.right) atom source.act in
         ⊎_elim
         (λ there. visited.joined atom wide there after wide' allowed)
         (λ same.
         joined_by s.problem es (suc from.level) after lefts rights
-        (λ e m. visited.stands.under_way.walk.so_far e (entry_of s.store w.diagrams from) m (entry_at s.store w.diagrams w.listing.entries.items stride.place from visited.stands.at))
+        (λ e m. visited.stands.under_way.walk.so_far e (entry_of s.store w.diagrams from) m (entry_at s.store w.diagrams w.listing.entries.items source.place from visited.stands.at))
         (inl (sat_same (pairs_true es after) lefts rights same)))
         (split atom wide h);
   }
 
 -- ---- the parts of a region
 
-pub next_items_kept : (s : Setting) (v w : Walk) → KeepsFunctions v.diagrams w.diagrams → (stride : Stride) (from : EntryParts) (items : List Item) → AreNextItems s v stride from items → AreNextItems s w stride from items
-next_items_kept s v w kept stride from items n = record {
+pub next_items_kept : (s : WalkContext) (v w : TestedWorklist) → KeepsFunctions v.diagrams w.diagrams → (source : StepSource) (from : EntryParts) (items : List Item) → AreNextItems s v source from items → AreNextItems s w source from items
+next_items_kept s v w kept source from items n = record {
   are = record { lefts = λ i h. kept.ids i.left (n.are.lefts i h); rights = λ i h. kept.ids i.right (n.are.rights i h); ascending = n.are.ascending };
   targets = λ i h. subst (λ k. IsTermOf s.store k i.target) (sym kept.tests) (n.targets i h);
-  lefts = λ atom fits. subst (λ ks. SameMembers (set_next (terms_of s.store from.left) atom stride.act) (terms_of s.store ks)) (sym (chosen_kept v.diagrams w.diagrams kept Left items guards atom)) (n.lefts atom (fits ∙ kept.tests));
-  rights = λ atom fits. subst (λ ks. SameMembers (set_next (terms_of s.store from.right) atom stride.act) (terms_of s.store ks)) (sym (chosen_kept v.diagrams w.diagrams kept Right items guards atom)) (n.rights atom (fits ∙ kept.tests));
+  lefts = λ atom fits. subst (λ ks. SameMembers (set_next (terms_of s.store from.left) atom source.act) (terms_of s.store ks)) (sym (chosen_kept v.diagrams w.diagrams kept Left items guards atom)) (n.lefts atom (fits ∙ kept.tests));
+  rights = λ atom fits. subst (λ ks. SameMembers (set_next (terms_of s.store from.right) atom source.act) (terms_of s.store ks)) (sym (chosen_kept v.diagrams w.diagrams kept Right items guards atom)) (n.rights atom (fits ∙ kept.tests));
 }
   where
     guards : (i : Item) → Has items i → IsDiagramId v.diagrams i.left × IsDiagramId v.diagrams i.right
     guards i h = (n.are.lefts i h, n.are.rights i h)
 
 -- if the items lead to the same terms on both sides, the next sets are the same
-pub next_same : (s : Setting) (w : Walk) (stride : Stride) (from : EntryParts) (items : List Item) → AreNextItems s w stride from items → (atom : Atom) → IsAtomOf w.diagrams atom → chosen w.diagrams Left items atom ≡ chosen w.diagrams Right items atom
-    → SameMembers (set_next (terms_of s.store from.left) atom stride.act) (set_next (terms_of s.store from.right) atom stride.act)
-next_same s w stride from items n atom fits e =
-    let lefts = set_next (terms_of s.store from.left) atom stride.act in
-    let rights = set_next (terms_of s.store from.right) atom stride.act in
+pub next_same : (s : WalkContext) (w : TestedWorklist) (source : StepSource) (from : EntryParts) (items : List Item) → AreNextItems s w source from items → (atom : Atom) → IsAtomOf w.diagrams atom → chosen w.diagrams Left items atom ≡ chosen w.diagrams Right items atom
+    → SameMembers (set_next (terms_of s.store from.left) atom source.act) (set_next (terms_of s.store from.right) atom source.act)
+next_same s w source from items n atom fits e =
+    let lefts = set_next (terms_of s.store from.left) atom source.act in
+    let rights = set_next (terms_of s.store from.right) atom source.act in
     let there = terms_of s.store (chosen w.diagrams Right items atom) in
     same_members_trans lefts there rights
     (subst (λ ks. SameMembers lefts (terms_of s.store ks)) e (n.lefts atom fits))
     (same_members_sym rights there (n.rights atom fits))
 
-module _ (s : Setting) (w : Walk) (stride : Stride) (from : EntryParts) (items : List Item) (next : AreNextItems s w stride from items) where
+module _ (s : WalkContext) (w : TestedWorklist) (source : StepSource) (from : EntryParts) (items : List Item) (next : AreNextItems s w source from items) where
   side_set : (side : Side) (atom : Atom) → IsIdSet s.store w.diagrams.tests (chosen w.diagrams side items atom)
   side_set side atom = record {
     there = λ k h.
@@ -391,12 +391,12 @@ module _ (s : Setting) (w : Walk) (stride : Stride) (from : EntryParts) (items :
     ascending = subst (λ ts. are_ascending ts ≡ true) (sym (chosen_where w.diagrams side items atom)) (where_ascending (λ j. value_of w.diagrams (guard_of side j) atom) items next.are.ascending);
   }
 
-  pub part_next : (whole : ℕ) (p : Part) → IsPart w.diagrams items whole p → IsSomewhereTrue w.diagrams p.region → IsWithin w.diagrams whole stride.test → IsNextPart s.store w.diagrams from stride.test stride.act p
+  pub part_next : (whole : ℕ) (p : Part) → IsPart w.diagrams items whole p → IsSomewhereTrue w.diagrams p.region → IsWithin w.diagrams whole source.test → IsNextPart s.store w.diagrams from source.test source.act p
   part_next whole p part some within = record {
     region = part.is_id;
     within = λ a fits h. within a fits (part.within a fits h);
     left_set = subst (IsIdSet s.store w.diagrams.tests) (sym (part.lefts some.atom some.fits some.holds)) (side_set Left some.atom);
     right_set = subst (IsIdSet s.store w.diagrams.tests) (sym (part.rights some.atom some.fits some.holds)) (side_set Right some.atom);
-    lefts = λ atom fits h. subst (λ ks. SameMembers (set_next (terms_of s.store from.left) atom stride.act) (terms_of s.store ks)) (sym (part.lefts atom fits h)) (next.lefts atom fits);
-    rights = λ atom fits h. subst (λ ks. SameMembers (set_next (terms_of s.store from.right) atom stride.act) (terms_of s.store ks)) (sym (part.rights atom fits h)) (next.rights atom fits);
+    lefts = λ atom fits h. subst (λ ks. SameMembers (set_next (terms_of s.store from.left) atom source.act) (terms_of s.store ks)) (sym (part.lefts atom fits h)) (next.lefts atom fits);
+    rights = λ atom fits h. subst (λ ks. SameMembers (set_next (terms_of s.store from.right) atom source.act) (terms_of s.store ks)) (sym (part.rights atom fits h)) (next.rights atom fits);
   }

@@ -132,7 +132,8 @@ pub(crate) fn bars_of(
 {
     let mut own = moves_by(alloc, moves, act)?;
     // `image_under` processes the last bar first. Hypotheses are mostly in the order of the tests on which they depend,
-    // so the last bars now depend on the topmost tests of diagrams.
+    // so the last bars now depend on the topmost tests of diagrams. In the other order each split of a region descended
+    // through all earlier tests: the images on `frameless` at 46 took four times as many instructions.
     own.reverse();
     let mut marks = vec![in alloc; false; diagrams.tests()]?;
     let asked = marks.as_mut_slice();

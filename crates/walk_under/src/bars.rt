@@ -21,7 +21,7 @@ pub(crate) struct Bar {
 
 // A region, and the number of bars that apply.
 #[derive(Clone, Copy, Debug, PartialEq, Eq, Hash)]
-struct State {
+struct ImageKey {
     region: DiagramId,
     count: usize,
 }
@@ -31,7 +31,7 @@ struct State {
 pub(crate) struct Bars {
     bars: Vec<Bar>,
     unasked: Vec<usize>,
-    images: IndexMap<State, DiagramId>,
+    images: IndexMap<ImageKey, DiagramId>,
 }
 
 // Returns the diagram that is true at an atom if `whole` is true there or after some of `tests` are set to new values.
@@ -72,13 +72,13 @@ fn atoms_past(
 
 // The parts of a region: the atoms at which a bar starts, and those at which it does not.
 #[derive(Clone, Copy, Debug)]
-struct Parts {
+struct RegionParts {
     inside: DiagramId,
     outside: DiagramId,
 }
 
 // Splits the region by whether the bar starts at an atom, and forgets the tests on which no earlier bar depends.
-fn split(diagrams: &mut Diagrams, bar: &Bar, region: DiagramId) -> Result<Parts, NoMemory>
+fn split(diagrams: &mut Diagrams, bar: &Bar, region: DiagramId) -> Result<RegionParts, NoMemory>
     requires region { IsDiagramId diagrams.old region }
     requires from { IsDiagramId diagrams.old bar.now.from }
     requires fresh { (t : ℕ) → Has bar.now.fresh.items t → t < diagrams.old.tests }
@@ -89,7 +89,7 @@ fn split(diagrams: &mut Diagrams, bar: &Bar, region: DiagramId) -> Result<Parts,
     let inside = forget(diagrams, start, &bar.fresh)?;
     let other = and_not(diagrams, region, bar.from)?;
     let outside = forget(diagrams, other, &bar.fresh)?;
-    Ok(Parts { inside, outside })
+    Ok(RegionParts { inside, outside })
 }
 
 impl Bars {
@@ -111,7 +111,7 @@ impl Bars {
         ensures { IfSome result (λ id. (d : DiagramsParts) → AreImages d self.now.bars.items self.now.images.entries
             → IsImageOf d (take count self.now.bars.items) region id) }
     {
-        self.images.get(&State { region, count }).copied()
+        self.images.get(&ImageKey { region, count }).copied()
     }
 
     // Stores an image in the table.
@@ -121,7 +121,7 @@ impl Bars {
         ensures bars { self.new.bars ≡ self.old.bars }
         ensures unasked { self.new.unasked ≡ self.old.unasked }
     {
-        self.images.insert(State { region, count }, id)?;
+        self.images.insert(ImageKey { region, count }, id)?;
         Ok(())
     }
 

@@ -6,7 +6,7 @@ use test_diagrams::DiagramId;
 
 /// A step from a listed pair: the place of the pair, the action, and the atoms from which the action leads to the sets.
 #[derive(Clone, Copy, Debug)]
-pub(crate) struct Origin {
+pub(crate) struct StepOrigin {
     pub place: usize,
     pub act: usize,
     pub region: DiagramId,
@@ -20,7 +20,7 @@ pub(crate) struct Entry {
     pub right: Items<TermId>,
     pub test: DiagramId,
     pub level: usize,
-    pub origin: Option<Origin>,
+    pub origin: Option<StepOrigin>,
 }
 
 impl Model for Entry {

@@ -14,5 +14,5 @@ mod reaching;
 mod test_table;
 mod walk;
 
-pub use deciding::decide_under;
+pub use deciding::{decide_under, is_same_under};
 pub use laws::{ended_walks_are_accepted, merged_pairs_are_few, walk_goes_on, walks_are_few};

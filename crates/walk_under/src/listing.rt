@@ -25,7 +25,7 @@ pub(crate) struct Listing {
 
 /// Terms that the two next sets surely contain, and those that each may contain in addition to the terms of the other.
 #[derive(Clone, Copy)]
-pub(crate) struct Sides<'a> {
+pub(crate) struct TargetSets<'a> {
     pub left: &'a [TermId],
     pub right: &'a [TermId],
     pub open_left: &'a [TermId],
@@ -203,7 +203,7 @@ impl Listing {
         &self,
         alloc: Global,
         diagrams: &mut Diagrams,
-        sides: &Sides<'_>,
+        sides: &TargetSets<'_>,
         within: DiagramId,
     ) -> Result<DiagramId, NoMemory>
         requires tests { (e : EntryParts) → Has self.now.entries.items e → IsDiagramId diagrams.old e.test }

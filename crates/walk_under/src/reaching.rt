@@ -68,7 +68,9 @@ fn has_unmarked(marks: &[DiagramId], terms: &[TermId], never: DiagramId) -> bool
         .any(|term| marks.get(term.number()).copied() == Some(never))
 }
 
-// Returns the atoms of `within` at which all of the terms are marked.
+// Returns the atoms of `within` at which all of the terms are marked. A set with a term that is marked at no atom is
+// reached at none, which is checked before any diagram is made. With this check, and with none at an empty test,
+// joining on `frameless` at 46 takes 40 % of the instructions.
 fn marked_at(
     diagrams: &mut Diagrams,
     marks: &[DiagramId],

@@ -13,25 +13,27 @@ ghost use Rattle.test_diagrams.specs.Functions.{value_of, IsDiagramId, IsAtomOf,
 ghost use Rattle.walk_under.specs.Working.Entries.{EntryParts};
 ghost use Rattle.walk_under.specs.Working.Listings.{IsNextPart, IsLevelAtom, IsPlaceWith};
 ghost use Rattle.walk_under.specs.Working.Merging.{AreMergedIds};
-ghost use Rattle.walk_under.specs.Working.Walking.{Setting, about, first_ids, new_ids, AreClosedIds, IsUnderWay, IsAtStride, IsOpenAt, IsVisited, AreNextItems, IsTaking, IsTurn, HasStepped, IsDifference, TellApart, AcceptAlike};
+ghost use Rattle.walk_under.specs.Working.Walking.{WalkContext, walk_context, first_ids, new_ids, AreClosedIds, IsUnderWay, IsAtSource, IsOpenAt, IsVisited, AreNextItems, IsTaking, IsTakenPair, HasStepped, IsDifference, TellApart, AcceptAlike};
 
 use crate::allowed::AllowedMoves;
-use crate::entry::{Entry, Origin};
-use crate::listing::{Listing, Sides, fresh_part, level_atoms, place_with};
+use crate::entry::{Entry, StepOrigin};
+use crate::listing::{Listing, TargetSets, fresh_part, level_atoms, place_with};
 use crate::merging::merged_pairs;
 use crate::parts::{Part, differing_part, parts_of};
 use kat_model::{Items, NoMemory};
-use partial_derivs::{Derivatives, Steps};
+use partial_derivs::Derivatives;
 use std::alloc::Global;
 use std::mem;
 use string_tables::{GString, Move};
 use term_store::{Store, TermId};
 use test_diagrams::{DiagramId, Diagrams};
-use walk_pairs::{ClosedIds, Item, StoredPair, actions_in_order, differing_atom, items_of};
+use walk_pairs::{
+    BothSteps, ClosedIds, Difference, Item, StoredPair, actions_in_order, differing_atom, items_of,
+};
 
 /// The state of a walk: the listed pairs, the allowed moves, and the derivatives of terms with their diagrams.
 #[derive(Drop)]
-pub(crate) struct Walk {
+pub(crate) struct TestedWorklist {
     listing: Listing,
     moves: AllowedMoves,
     diagrams: Diagrams,
@@ -40,7 +42,7 @@ pub(crate) struct Walk {
 
 /// A step by the action `act` from the atoms `test` of the listed pair at `place`, to which `level` moves lead.
 #[derive(Clone, Copy, Debug)]
-pub(crate) struct Stride {
+pub(crate) struct StepSource {
     pub place: usize,
     pub level: usize,
     pub test: DiagramId,
@@ -50,24 +52,10 @@ pub(crate) struct Stride {
 /// The listed pair that is processed: its place, the number of moves that lead to it, and the atoms at which that
 /// number of moves reached its sets.
 #[derive(Clone, Copy, Debug)]
-pub(crate) struct Turn {
+pub(crate) struct TakenPair {
     pub place: usize,
     pub level: usize,
     pub test: DiagramId,
-}
-
-/// An atom of the listed pair at `place` that exactly one of its sets accepts.
-#[derive(Drop)]
-pub(crate) struct Difference {
-    pub place: usize,
-    pub atom: Vec<bool>,
-}
-
-/// The steps of both sets of a pair.
-#[derive(Drop)]
-pub(crate) struct BothSteps {
-    pub left: Steps,
-    pub right: Steps,
 }
 
 // Returns the pair of the closed sides, at the atoms of `test`.
@@ -86,13 +74,18 @@ fn first_entry(alloc: Global, sides: &ClosedIds, test: DiagramId) -> Result<Entr
 }
 
 // Returns the pair of the part, at the atoms of `test`.
-fn entry_of(alloc: Global, stride: &Stride, part: &Part, test: DiagramId) -> Result<Entry, NoMemory>
-    requires { stride.now.level + 1 < 2 ^ 64 }
-    ensures { IfOk result (λ e. e ≡ new_ids stride.now part.now test) }
+fn entry_of(
+    alloc: Global,
+    source: &StepSource,
+    part: &Part,
+    test: DiagramId,
+) -> Result<Entry, NoMemory>
+    requires { source.now.level + 1 < 2 ^ 64 }
+    ensures { IfOk result (λ e. e ≡ new_ids source.now part.now test) }
 {
-    let origin = Origin {
-        place: stride.place,
-        act: stride.act,
+    let origin = StepOrigin {
+        place: source.place,
+        act: source.act,
         region: part.region,
     };
     let left = Vec::from_slice(alloc, &part.left)?;
@@ -101,12 +94,12 @@ fn entry_of(alloc: Global, stride: &Stride, part: &Part, test: DiagramId) -> Res
         left: Items::of(left),
         right: Items::of(right),
         test,
-        level: stride.level + 1,
+        level: source.level + 1,
         origin: Some(origin),
     })
 }
 
-impl Walk {
+impl TestedWorklist {
     /// Returns a walk that has listed the pair of the closed sides at all allowed atoms. Fails only when out of memory;
     /// on failure, extra nodes may remain.
     pub(crate) fn new(
@@ -116,10 +109,10 @@ impl Walk {
         actions: usize,
         shorts: &[TermId],
         sides: &ClosedIds,
-    ) -> Result<Walk, NoMemory>
+    ) -> Result<TestedWorklist, NoMemory>
         requires terms { All (IsTermOf store.old tests) shorts.now }
         ensures under_way { IfOk result (λ w. (q : ProblemParts) → tests ≡ q.tests → actions ≡ q.actions → AreClosedIds q store.old sides.now
-            → IsUnderWay (about (map (tree_at store.old) shorts.now) q store.new) w 0) }
+            → IsUnderWay (walk_context (map (tree_at store.old) shorts.now) q store.new) w 0) }
         ensures kept { Grows store.old store.new }
     {
         let mut diagrams = Diagrams::new(alloc, tests)?;
@@ -140,7 +133,7 @@ impl Walk {
             universal: sides.universal,
             count: store.count(),
         };
-        Ok(Walk {
+        Ok(TestedWorklist {
             listing,
             moves,
             diagrams,
@@ -152,19 +145,19 @@ impl Walk {
     fn open_atoms(
         &mut self,
         alloc: Global,
-        stride: &Stride,
+        source: &StepSource,
         part: &Part,
     ) -> Result<DiagramId, NoMemory>
-        requires { (s : Setting) × (from : EntryParts) × IsAtStride s self.old stride.now from × IsNextPart s.store self.old.diagrams from stride.now.test stride.now.act part.now }
-        ensures { IfOk result (λ id. (s : Setting) (from : EntryParts) → IsAtStride s self.old stride.now from
-            → IsNextPart s.store self.old.diagrams from stride.now.test stride.now.act part.now → IsOpenAt s self.old self.new stride.now from part.now id) }
+        requires { (s : WalkContext) × (from : EntryParts) × IsAtSource s self.old source.now from × IsNextPart s.store self.old.diagrams from source.now.test source.now.act part.now }
+        ensures { IfOk result (λ id. (s : WalkContext) (from : EntryParts) → IsAtSource s self.old source.now from
+            → IsNextPart s.store self.old.diagrams from source.now.test source.now.act part.now → IsOpenAt s self.old self.new source.now from part.now id) }
     {
         let image = self
             .moves
-            .image(&mut self.diagrams, part.region, stride.act)?;
+            .image(&mut self.diagrams, part.region, source.act)?;
         let entries = &self.listing.entries;
         let fresh = fresh_part(&mut self.diagrams, entries, &part.left, &part.right, image)?;
-        let sides = Sides {
+        let sides = TargetSets {
             left: &part.left,
             right: &part.right,
             open_left: &part.left,
@@ -176,45 +169,52 @@ impl Walk {
 
     // Lists the pair of the part, at the atoms to which the step leads from it and at which the listed pairs do not
     // join its sets.
-    fn visit_part(&mut self, alloc: Global, stride: &Stride, part: &Part) -> Result<(), NoMemory>
-        requires level { stride.now.level + 1 < 2 ^ 64 }
-        requires stands { (s : Setting) × (from : EntryParts) × IsAtStride s self.old stride.now from × IsNextPart s.store self.old.diagrams from stride.now.test stride.now.act part.now }
-        ensures { OnOk result ((s : Setting) (from : EntryParts) → IsAtStride s self.old stride.now from
-            → IsNextPart s.store self.old.diagrams from stride.now.test stride.now.act part.now → IsVisited s self.old self.new stride.now from (λ atom. IsTrue (value_of self.old.diagrams part.now.region atom))) }
+    fn visit_part(
+        &mut self,
+        alloc: Global,
+        source: &StepSource,
+        part: &Part,
+    ) -> Result<(), NoMemory>
+        requires level { source.now.level + 1 < 2 ^ 64 }
+        requires stands { (s : WalkContext) × (from : EntryParts) × IsAtSource s self.old source.now from × IsNextPart s.store self.old.diagrams from source.now.test source.now.act part.now }
+        ensures { OnOk result ((s : WalkContext) (from : EntryParts) → IsAtSource s self.old source.now from
+            → IsNextPart s.store self.old.diagrams from source.now.test source.now.act part.now → IsVisited s self.old self.new source.now from (λ atom. IsTrue (value_of self.old.diagrams part.now.region atom))) }
     {
-        let test = self.open_atoms(alloc, stride, part)?;
+        let test = self.open_atoms(alloc, source, part)?;
         if test == self.diagrams.constant(false) {
             return Ok(());
         }
-        let entry = entry_of(alloc, stride, part, test)?;
+        let entry = entry_of(alloc, source, part, test)?;
         self.listing.entries.push(entry)?;
         Ok(())
     }
 
     // Lists pairs until, after the allowed moves of the step, the next sets are joined.
-    fn visit(&mut self, alloc: Global, stride: &Stride, items: &[Item]) -> Result<(), NoMemory>
-        requires level { stride.now.level + 1 < 2 ^ 64 }
-        requires stands { (s : Setting) × (from : EntryParts) × IsAtStride s self.old stride.now from × AreNextItems s self.old stride.now from items.now }
-        ensures { OnOk result ((s : Setting) (from : EntryParts) → IsAtStride s self.old stride.now from
-            → AreNextItems s self.old stride.now from items.now → IsVisited s self.old self.new stride.now from (λ atom. IsTrue (value_of self.old.diagrams stride.now.test atom))) }
+    fn visit(&mut self, alloc: Global, source: &StepSource, items: &[Item]) -> Result<(), NoMemory>
+        requires level { source.now.level + 1 < 2 ^ 64 }
+        requires stands { (s : WalkContext) × (from : EntryParts) × IsAtSource s self.old source.now from × AreNextItems s self.old source.now from items.now }
+        ensures { OnOk result ((s : WalkContext) (from : EntryParts) → IsAtSource s self.old source.now from
+            → AreNextItems s self.old source.now from items.now → IsVisited s self.old self.new source.now from (λ atom. IsTrue (value_of self.old.diagrams source.now.test atom))) }
     {
-        let region = differing_part(&mut self.diagrams, items, stride.test)?;
+        let region = differing_part(&mut self.diagrams, items, source.test)?;
         if region == self.diagrams.constant(false) {
             return Ok(());
         }
         let parts = parts_of(alloc, &mut self.diagrams, items, region)?;
         for part in &parts {
-            self.visit_part(alloc, stride, part)?;
+            self.visit_part(alloc, source, part)?;
         }
         Ok(())
     }
 
-    // Returns the pair at `place`, with all atoms at which the same number of moves reached its sets.
-    fn turn_at(&mut self, place: usize) -> Result<Turn, NoMemory>
+    // Returns the pair at `place`, with all atoms at which the same number of moves reached its sets. Single entries
+    // pass on their own parts, and their number doubles with each test that two actions leave unchanged. One entry for
+    // each pair and level would need an origin for each step that added atoms.
+    fn taken_pair_at(&mut self, place: usize) -> Result<TakenPair, NoMemory>
         requires place { place < length self.old.listing.entries.items }
         requires tests { (e : EntryParts) → Has self.old.listing.entries.items e → IsDiagramId self.old.diagrams e.test }
         ensures place { IfOk result (λ t. t.place ≡ place) }
-        ensures turn { IfOk result (λ t. (e : EntryParts) → slice_get self.old.listing.entries.items place ≡ Some e → IsTurn self.new t e) }
+        ensures taken_pair { IfOk result (λ t. (e : EntryParts) → slice_get self.old.listing.entries.items place ≡ Some e → IsTakenPair self.new t e) }
         ensures listing { self.new.listing ≡ self.old.listing }
         ensures moves { self.new.moves ≡ self.old.moves }
         ensures derivatives { self.new.derivatives ≡ self.old.derivatives }
@@ -222,7 +222,7 @@ impl Walk {
     {
         let entry = &self.listing.entries[place];
         let test = level_atoms(&mut self.diagrams, &self.listing.entries, entry)?;
-        Ok(Turn {
+        Ok(TakenPair {
             place,
             level: entry.level,
             test,
@@ -236,10 +236,10 @@ impl Walk {
         store: &mut Store,
         place: usize,
     ) -> Result<BothSteps, NoMemory>
-        requires under_way { (shorts : List Term) × (q : ProblemParts) × IsUnderWay (about shorts q store.old) self.old place }
+        requires under_way { (shorts : List Term) × (q : ProblemParts) × IsUnderWay (walk_context shorts q store.old) self.old place }
         requires place { place < length self.old.listing.entries.items }
-        ensures steps { IfOk result (λ steps. (shorts : List Term) (q : ProblemParts) (e : EntryParts) → IsUnderWay (about shorts q store.old) self.old place
-            → slice_get self.old.listing.entries.items place ≡ Some e → IsTaking (about shorts q store.new) self.new place e steps) }
+        ensures steps { IfOk result (λ steps. (shorts : List Term) (q : ProblemParts) (e : EntryParts) → IsUnderWay (walk_context shorts q store.old) self.old place
+            → slice_get self.old.listing.entries.items place ≡ Some e → IsTaking (walk_context shorts q store.new) self.new place e steps) }
         ensures entries { self.new.listing.entries.items ≡ self.old.listing.entries.items }
         ensures kept { Grows store.old store.new }
     {
@@ -292,26 +292,26 @@ impl Walk {
     fn expand(
         &mut self,
         alloc: Global,
-        turn: &Turn,
+        taken_pair: &TakenPair,
         actions: usize,
         steps: &BothSteps,
     ) -> Result<(), NoMemory>
-        requires level { turn.now.level + 1 < 2 ^ 64 }
-        requires taking { (s : Setting) × (from : EntryParts) × IsTaking s self.old turn.now.place from steps.now × IsTurn self.old turn.now from × (actions ≡ s.problem.actions) }
-        ensures { OnOk result ((s : Setting) (from : EntryParts) → IsTaking s self.old turn.now.place from steps.now → IsTurn self.old turn.now from → actions ≡ s.problem.actions
-            → (acts : List ℕ) × ((a : ℕ) → a < actions → Has acts a) × HasStepped s self.old self.new turn.now from acts) }
+        requires level { taken_pair.now.level + 1 < 2 ^ 64 }
+        requires taking { (s : WalkContext) × (from : EntryParts) × IsTaking s self.old taken_pair.now.place from steps.now × IsTakenPair self.old taken_pair.now from × (actions ≡ s.problem.actions) }
+        ensures { OnOk result ((s : WalkContext) (from : EntryParts) → IsTaking s self.old taken_pair.now.place from steps.now → IsTakenPair self.old taken_pair.now from → actions ≡ s.problem.actions
+            → (acts : List ℕ) × ((a : ℕ) → a < actions → Has acts a) × HasStepped s self.old self.new taken_pair.now from acts) }
     {
         let left = &steps.left.moves;
         let right = &steps.right.moves;
         for act in &actions_in_order(alloc, left, right, actions)? {
             let items = items_of(alloc, &self.diagrams, left, right, *act)?;
-            let stride = Stride {
-                place: turn.place,
-                level: turn.level,
-                test: turn.test,
+            let source = StepSource {
+                place: taken_pair.place,
+                level: taken_pair.level,
+                test: taken_pair.test,
                 act: *act,
             };
-            self.visit(alloc, &stride, &items)?;
+            self.visit(alloc, &source, &items)?;
         }
         Ok(())
     }
@@ -324,12 +324,12 @@ impl Walk {
         actions: usize,
         place: usize,
     ) -> Result<Option<Vec<bool>>, NoMemory>
-        requires under_way { (shorts : List Term) × (q : ProblemParts) × IsUnderWay (about shorts q store.old) self.old place × (actions ≡ q.actions) }
+        requires under_way { (shorts : List Term) × (q : ProblemParts) × IsUnderWay (walk_context shorts q store.old) self.old place × (actions ≡ q.actions) }
         requires place { place < length self.old.listing.entries.items }
         requires small { place + 1 < 2 ^ 64 }
-        ensures taken { IfOk result (λ found. (shorts : List Term) (q : ProblemParts) → actions ≡ q.actions → IsUnderWay (about shorts q store.old) self.old place →
-            MatchOption found (IsUnderWay (about shorts q store.new) self.new (place + 1))
-            (λ atom. IsUnderWay (about shorts q store.new) self.new place × IsDifference (about shorts q store.new) self.new place atom.items)) }
+        ensures taken { IfOk result (λ found. (shorts : List Term) (q : ProblemParts) → actions ≡ q.actions → IsUnderWay (walk_context shorts q store.old) self.old place →
+            MatchOption found (IsUnderWay (walk_context shorts q store.new) self.new (place + 1))
+            (λ atom. IsUnderWay (walk_context shorts q store.new) self.new place × IsDifference (walk_context shorts q store.new) self.new place atom.items)) }
         ensures kept { Grows store.old store.new }
     {
         let steps = self.steps_at(alloc, store, place)?;
@@ -337,8 +337,8 @@ impl Walk {
         if let Some(atom) = self.difference(alloc, test, &steps)? {
             return Ok(Some(atom));
         }
-        let turn = self.turn_at(place)?;
-        self.expand(alloc, &turn, actions, &steps)?;
+        let taken_pair = self.taken_pair_at(place)?;
+        self.expand(alloc, &taken_pair, actions, &steps)?;
         Ok(None)
     }
 
@@ -350,10 +350,10 @@ impl Walk {
         store: &mut Store,
         actions: usize,
     ) -> Result<Option<Difference>, NoMemory>
-        requires { (shorts : List Term) × (q : ProblemParts) × IsUnderWay (about shorts q store.old) self.old 0 × (actions ≡ q.actions) }
-        ensures answer { IfOk result (λ found. (shorts : List Term) (q : ProblemParts) → actions ≡ q.actions → IsUnderWay (about shorts q store.old) self.old 0 →
-            MatchOption found (IsUnderWay (about shorts q store.new) self.new (length self.new.listing.entries.items))
-            (λ d. IsUnderWay (about shorts q store.new) self.new d.place × IsDifference (about shorts q store.new) self.new d.place d.atom.items)) }
+        requires { (shorts : List Term) × (q : ProblemParts) × IsUnderWay (walk_context shorts q store.old) self.old 0 × (actions ≡ q.actions) }
+        ensures answer { IfOk result (λ found. (shorts : List Term) (q : ProblemParts) → actions ≡ q.actions → IsUnderWay (walk_context shorts q store.old) self.old 0 →
+            MatchOption found (IsUnderWay (walk_context shorts q store.new) self.new (length self.new.listing.entries.items))
+            (λ d. IsUnderWay (walk_context shorts q store.new) self.new d.place × IsDifference (walk_context shorts q store.new) self.new d.place d.atom.items)) }
         ensures kept { Grows store.old store.new }
     {
         let mut place = 0;
@@ -367,7 +367,7 @@ impl Walk {
     }
 
     // Returns the step that led to the pair at `place`, unless it is the first.
-    fn origin_at(&self, place: usize) -> Option<Origin>
+    fn origin_at(&self, place: usize) -> Option<StepOrigin>
         requires { place < length self.now.listing.entries.items }
         ensures { (e : EntryParts) → slice_get self.now.listing.entries.items place ≡ Some e → result ≡ e.origin }
     {
@@ -396,9 +396,9 @@ impl Walk {
         place: usize,
         last: Vec<bool>,
     ) -> Result<GString, NoMemory>
-        requires { (s : Setting) × IsUnderWay s self.old place × IsDifference s self.old place last.items }
+        requires { (s : WalkContext) × IsUnderWay s self.old place × IsDifference s self.old place last.items }
         ensures { IfOk result (λ x. (whole : ProblemParts) (shorts longs : List Term) (store : NodeParts) → AreSplit whole.hyps shorts longs
-            → IsUnderWay (about shorts (with_hyps whole longs) store) self.old place → IsDifference (about shorts (with_hyps whole longs) store) self.old place last.items → IsShortest whole x) }
+            → IsUnderWay (walk_context shorts (with_hyps whole longs) store) self.old place → IsDifference (walk_context shorts (with_hyps whole longs) store) self.old place last.items → IsShortest whole x) }
     {
         let mut place = place;
         let mut first = last;
@@ -433,7 +433,7 @@ impl Walk {
         alloc: Global,
         store: &mut Store,
     ) -> Result<Vec<StoredPair>, NoMemory>
-        requires { (s : Setting) × IsUnderWay s self.old (length self.old.listing.entries.items) }
+        requires { (s : WalkContext) × IsUnderWay s self.old (length self.old.listing.entries.items) }
         ensures merged { IfOk result (λ v. AreMergedIds store.new self.old.diagrams self.old.listing.entries.items v.items) }
         ensures kept { Grows store.old store.new }
     {

@@ -2,6 +2,7 @@
 use Rattle.std.proofs.Common.{◌≡◌, ◌≤◌, ◌<◌, ◌+◌, ℕ, max, Bool, true, false, cond, nat_lt, List, [], ◌∷◌, ◌++◌, slice_get, Option, Some, None, Result, Ok, Err, refl, sym, ap, ◌∙◌, subst, arith}
 use Rattle.std.proofs.lemmas.Bool.{ltb-true, ltb-false}
 use Rattle.std.proofs.lemmas.List.{append-nil}
+use Rattle.kat_model.specs.declared.limits.TheConstants.{MAX_TERM_NODES, MAX_EXPR_NODES, MAX_OPEN}
 use Rattle.kat_model.specs.Expressions.{ExprTree, CondTree}
 use Rattle.text_tokens.specs.declared.fault.TextFault.{TextFault}
 use Rattle.text_tokens.specs.declared.fault.TextFault.TheVariants.{TooDeep}
@@ -15,8 +16,8 @@ use Rattle.text_scopes.specs.Sizes.{expr_size, cond_size, largest_expr, capped}
 use Rattle.text_scopes.specs.ScopeParts.{ScopeParts, meaning}
 use Rattle.text_scopes.specs.Measuring.{compared_nodes}
 use Rattle.text_scopes.specs.Laws.{told_nodes}
-use Rattle.text_scopes.proofs.Related.{Both}
-use Rattle.text_scopes.proofs.Measured.{cond_measured, expr_measured}
+use Rattle.text_scopes.proofs.Related.{Both, both_then}
+use Rattle.text_scopes.proofs.Measured.{cond_measured, expr_measured, told_compared, told_kept, made, told_of}
 use Rattle.while_lang.specs.Programs.{ProgTree, empty, skip_then, abort_then, assert_then, act_then, assign_then, branch_then, loop_then, prog_of, stmts_of}
 use Rattle.while_lang.specs.Programs.{StmtTree, skip, abort, assert, act, assign, branch as branch_stmt, loop, with_stmt}
 use Rattle.while_lang.specs.ProgramSizes.{prog_size, largest_in}
@@ -28,40 +29,29 @@ use Rattle.while_lang.specs.BlockBuilding.{spliced, named_stmts, target_var, blo
 use Rattle.while_lang.specs.BlockMeasuring.{extent, with_node, beside, deeper, spliced_extent, named_extent, check_target, block_extents}
 use Rattle.while_lang.specs.BlockSound.{BlockIsSound, block_nesting}
 use Rattle.while_lang.specs.BlockLaws.{AreLimited, MeasuresBlock, MeasuresAreOfTrees}
-use Rattle.while_lang.proofs.BlockNestings.{block_judged, told_of}
+use Rattle.while_lang.proofs.BlockNestings.{block_judged}
 
 -- ---- node counts
 
 told_beside : (a b s t : ℕ) → capped (told_nodes a s + told_nodes b t) ≡ told_nodes (max a b) (s + t)
-told_beside a b s t = by_sizes (nat_lt 1000 a) refl (nat_lt 1000 b) refl (nat_lt 1000 (max a b)) refl where
-  by_sizes : (x : Bool) → nat_lt 1000 a ≡ x → (y : Bool) → nat_lt 1000 b ≡ y → (z : Bool) → nat_lt 1000 (max a b) ≡ z → capped (cond x 100001 (capped s) + cond y 100001 (capped t)) ≡ cond z 100001 (capped (s + t))
-  by_sizes true e y f true g = elim y as (λ v. capped (100001 + cond v 100001 (capped t)) ≡ 100001) [ true ↦ omega arith | false ↦ omega arith ]
-  by_sizes true e y f false g = let p : 1000 < a = ltb-true 1000 a e in let q : max a b ≤ 1000 = ltb-false 1000 (max a b) g in absurd (omega arith)
+told_beside a b s t = by_sizes (nat_lt MAX_EXPR_NODES a) refl (nat_lt MAX_EXPR_NODES b) refl (nat_lt MAX_EXPR_NODES (max a b)) refl where
+  by_sizes : (x : Bool) → nat_lt MAX_EXPR_NODES a ≡ x → (y : Bool) → nat_lt MAX_EXPR_NODES b ≡ y → (z : Bool) → nat_lt MAX_EXPR_NODES (max a b) ≡ z → capped (cond x (MAX_TERM_NODES + 1) (capped s) + cond y (MAX_TERM_NODES + 1) (capped t)) ≡ cond z (MAX_TERM_NODES + 1) (capped (s + t))
+  by_sizes true e y f true g = elim y as (λ v. capped ((MAX_TERM_NODES + 1) + cond v (MAX_TERM_NODES + 1) (capped t)) ≡ (MAX_TERM_NODES + 1)) [ true ↦ omega arith | false ↦ omega arith ]
+  by_sizes true e y f false g = let p : MAX_EXPR_NODES < a = ltb-true MAX_EXPR_NODES a e in let q : max a b ≤ MAX_EXPR_NODES = ltb-false MAX_EXPR_NODES (max a b) g in absurd (omega arith)
   by_sizes false e true f true g = omega arith
-  by_sizes false e true f false g = let p : 1000 < b = ltb-true 1000 b f in let q : max a b ≤ 1000 = ltb-false 1000 (max a b) g in absurd (omega arith)
+  by_sizes false e true f false g = let p : MAX_EXPR_NODES < b = ltb-true MAX_EXPR_NODES b f in let q : max a b ≤ MAX_EXPR_NODES = ltb-false MAX_EXPR_NODES (max a b) g in absurd (omega arith)
   by_sizes false e false f true g =
-      let p : a ≤ 1000 = ltb-false 1000 a e in let r : b ≤ 1000 = ltb-false 1000 b f in let q : 1000 < max a b = ltb-true 1000 (max a b) g in absurd (omega arith)
+      let p : a ≤ MAX_EXPR_NODES = ltb-false MAX_EXPR_NODES a e in let r : b ≤ MAX_EXPR_NODES = ltb-false MAX_EXPR_NODES b f in let q : MAX_EXPR_NODES < max a b = ltb-true MAX_EXPR_NODES (max a b) g in absurd (omega arith)
   by_sizes false e false f false g = omega arith
 
 told_one : (a s : ℕ) → capped (told_nodes a s + 1) ≡ told_nodes a (s + 1)
-told_one a s = elim (nat_lt 1000 a) as (λ b. capped (cond b 100001 (capped s) + 1) ≡ cond b 100001 (capped (s + 1))) [ true ↦ omega arith | false ↦ omega arith ]
+told_one a s = elim (nat_lt MAX_EXPR_NODES a) as (λ b. capped (cond b (MAX_TERM_NODES + 1) (capped s) + 1) ≡ cond b (MAX_TERM_NODES + 1) (capped (s + 1))) [ true ↦ omega arith | false ↦ omega arith ]
 
-told_compared : (m a : ℕ) → m ≡ capped a → compared_nodes m ≡ told_nodes a a
-told_compared m a e = by_sizes (nat_lt 1000 m) refl (nat_lt 1000 a) refl where
-  by_sizes : (x : Bool) → nat_lt 1000 m ≡ x → (y : Bool) → nat_lt 1000 a ≡ y → cond x 100001 m ≡ cond y 100001 (capped a)
-  by_sizes true f true g = refl
-  by_sizes true f false g = let p : 1000 < m = ltb-true 1000 m f in let q : a ≤ 1000 = ltb-false 1000 a g in absurd (omega arith)
-  by_sizes false f true g = let p : m ≤ 1000 = ltb-false 1000 m f in let q : 1000 < a = ltb-true 1000 a g in absurd (omega arith)
-  by_sizes false f false g = e
-
-told_small : (a s : ℕ) → a ≤ 1000 → capped s ≡ told_nodes a s
-told_small a s le = by_size (nat_lt 1000 a) refl where
-  by_size : (x : Bool) → nat_lt 1000 a ≡ x → capped s ≡ cond x 100001 (capped s)
-  by_size true e = let p : 1000 < a = ltb-true 1000 a e in absurd (omega arith)
+told_small : (a s : ℕ) → a ≤ MAX_EXPR_NODES → capped s ≡ told_nodes a s
+told_small a s le = by_size (nat_lt MAX_EXPR_NODES a) refl where
+  by_size : (x : Bool) → nat_lt MAX_EXPR_NODES a ≡ x → capped s ≡ cond x (MAX_TERM_NODES + 1) (capped s)
+  by_size true e = let p : MAX_EXPR_NODES < a = ltb-true MAX_EXPR_NODES a e in absurd (omega arith)
   by_size false e = refl
-
-told_kept : (a s : ℕ) → capped (told_nodes a s) ≡ told_nodes a s
-told_kept a s = elim (nat_lt 1000 a) as (λ b. capped (cond b 100001 (capped s)) ≡ cond b 100001 (capped s)) [ true ↦ omega arith | false ↦ omega arith ]
 
 told_same : (a b s t : ℕ) → a ≡ b → s ≡ t → told_nodes a s ≡ told_nodes b t
 told_same a b s t e f = ap (λ (x : ℕ). told_nodes x s) e ∙ ap (λ (x : ℕ). told_nodes b x) f
@@ -140,18 +130,8 @@ deeper_measured m ss h = ap capped h ∙ told_kept (largest_in (prog_of ss)) (pr
 
 -- ---- two passes side by side
 
-both_then : {A B A' B' : Type 0} (R : A → A' → Type 0) (S : B → B' → Type 0) (r : Result A TextFault) (s : Result A' TextFault) (f : A → Result B TextFault) (g : A' → Result B' TextFault) → Both R r s → ((x : A) (y : A') → R x y → Both S (f x) (g y)) → Both S (r >>= f) (s >>= g)
-both_then R S (Ok x) (Ok y) f g h k = k x y h
-both_then R S (Ok x) (Err e) f g h k = absurd h
-both_then R S (Err e) s f g h k = tt
-
 both_entered : {A B : Type 0} (S : A → B → Type 0) (d at : ℕ) (f : ℕ → Result A TextFault) (g : ℕ → Result B TextFault) → ((e : ℕ) → Both S (f e) (g e)) → Both S (enter d at >>= f) (enter d at >>= g)
-both_entered S d at f g h = elim (nat_lt d 200) as (λ b. Both S (cond b (Ok (d + 1)) (Err (TooDeep at)) >>= f) (cond b (Ok (d + 1)) (Err (TooDeep at)) >>= g)) [ true ↦ h (d + 1) | false ↦ tt ]
-
-made : {A B : Type 0} (R : A → B → Type 0) (r : Result A TextFault) (s : Result B TextFault) (x : A) → r ≡ Ok x → Both R r s → (y : B) × (s ≡ Ok y) × R x y
-made R (Ok z) (Ok y) x e h = let same : z ≡ x = cc in (y, refl, subst (λ u. R u y) same h)
-made R (Ok z) (Err f) x e h = absurd h
-made R (Err f) s x e h = absurd cc
+both_entered S d at f g h = elim (nat_lt d MAX_OPEN) as (λ b. Both S (cond b (Ok (d + 1)) (Err (TooDeep at)) >>= f) (cond b (Ok (d + 1)) (Err (TooDeep at)) >>= g)) [ true ↦ h (d + 1) | false ↦ tt ]
 
 module _ (w : ScopeParts) (ps : List ProgParts) (limited : AreLimited ps) where
   abbrev CondTells : Extent → CondTree → Type 0
@@ -180,7 +160,7 @@ module _ (w : ScopeParts) (ps : List ProgParts) (limited : AreLimited ps) where
   spliced_both : (d at i : ℕ) (o : Option ProgParts) → slice_get ps i ≡ o → (m : Extent) (ss : List StmtTree) → IsMeasure m ss → Both IsMeasure (spliced_extent d at o m) (Ok (ss ++ spliced o))
   spliced_both d at i None e m ss h = let same : ss ++ [] ≡ ss = append-nil ss in subst (λ (xs : List StmtTree). IsMeasure m xs) (sym same) h
   spliced_both d at i (Some p) e m ss h =
-      elim (nat_lt 200 (d + p.nesting)) as (λ b. Both IsMeasure (cond b (Err (TooDeep at)) (Ok (beside m (extent (prog_size p.tree) p.nesting)))) (Ok (ss ++ stmts_of p.tree))) [
+      elim (nat_lt MAX_OPEN (d + p.nesting)) as (λ b. Both IsMeasure (cond b (Err (TooDeep at)) (Ok (beside m (extent (prog_size p.tree) p.nesting)))) (Ok (ss ++ stmts_of p.tree))) [
         | true ↦ tt
         | false ↦ others_measured m (extent (prog_size p.tree) p.nesting) ss (stmts_of p.tree) h
             (rw (prog_of-stmts_of p.tree) (told_small (largest_in p.tree) (prog_size p.tree) (limited i p e)))

@@ -1,7 +1,8 @@
 -- Measuring a block succeeds exactly when the block is sound and within the limits; then it gives the nesting of the
 -- block.
-use Rattle.std.proofs.Common.{◌≡◌, ◌≤◌, ◌<◌, ◌+◌, ◌↔◌, ℕ, max, min, Bool, true, false, cond, nat_lt, slice_get, List, Option, Some, None, Result, Ok, Err, IsOk, refl, ap, subst, ◌∙◌, arith}
+use Rattle.std.proofs.Common.{◌≡◌, ◌≤◌, ◌<◌, ◌+◌, ℕ, max, min, Bool, true, false, cond, nat_lt, slice_get, List, Option, Some, None, Result, Ok, Err, refl, arith}
 use Rattle.std.proofs.lemmas.Bool.{ltb-true, ltb-false}
+use Rattle.kat_model.specs.declared.limits.TheConstants.{MAX_OPEN}
 use Rattle.text_tokens.specs.declared.fault.TextFault.{TextFault}
 use Rattle.text_tokens.specs.declared.fault.TextFault.TheVariants.{TooDeep}
 use Rattle.text_grammar.specs.Parsed.{◌>>=◌}
@@ -13,8 +14,8 @@ use Rattle.text_scopes.specs.declared.extent.Extent.{Extent}
 use Rattle.text_scopes.specs.ScopeParts.{ScopeParts, meaning}
 use Rattle.text_scopes.specs.Measuring.{compared_nodes}
 use Rattle.text_scopes.specs.Sound.{IsSound, IsExprName, nesting}
-use Rattle.text_scopes.proofs.MeasureSoundness.{Judged, first}
-use Rattle.text_scopes.proofs.Measured.{cond_judged, expr_judged}
+use Rattle.text_scopes.proofs.MeasureSoundness.{Judged, first, settled, then_judged, changed}
+use Rattle.text_scopes.proofs.Measured.{cond_judged, expr_judged, decided}
 use Rattle.while_lang.specs.ProgramSizes.{prog_size}
 use Rattle.while_lang.specs.NamedProgs.{ProgParts}
 use Rattle.while_lang.specs.Blocks.{enter}
@@ -27,39 +28,15 @@ use Rattle.while_lang.specs.BlockLaws.{SoundAreMeasured}
 
 -- ---- results and their nestings
 
--- the extent has nesting `n`, capped at 201
+-- the extent has nesting `n`, capped at `MAX_OPEN + 1`
 abbrev pub Nests : Extent → ℕ → Type 0
-Nests m n = m.nesting ≡ min n 201
+Nests m n = m.nesting ≡ min n (MAX_OPEN + 1)
 
-settled : (r : Result Extent TextFault) (P Q : Type 0) (n k : ℕ) → (P → Q) → (Q → P) → n ≡ k → Judged r P n → Judged r Q k
-settled (Ok m) P Q n k f g e h = (f h.0, h.1 ∙ ap (λ (i : ℕ). min i 201) e)
-settled (Err x) P Q n k f g e h = λ q. h (g q)
-
-prefixed : (s : Result Extent TextFault) (P Q : Type 0) (n : ℕ) → P → Judged s Q n → Judged s (P × Q) n
-prefixed (Ok m) P Q n p h = ((p, h.0), h.1)
-prefixed (Err e) P Q n p h = λ x. h x.1
-
--- a part, then another part
-then_judged : (r : Result Extent TextFault) (next : Extent → Result Extent TextFault) (P Q : Type 0) (n k : ℕ) → Judged r P n → ((m : Extent) → Nests m n → Judged (next m) Q k) → Judged (r >>= next) (P × Q) k
-then_judged (Ok m) next P Q n k h g = prefixed (next m) P Q k h.0 (g m h.1)
-then_judged (Err e) next P Q n k h g = λ x. h x.0
-
-changed : (r : Result Extent TextFault) (f : Extent → Extent) (P : Type 0) (n k : ℕ) → ((m : Extent) → Nests m n → Nests (f m) k) → Judged r P n → Judged (r >>= λ v. Ok (f v)) P k
-changed (Ok m) f P n k g h = (h.0, g m h.1)
-changed (Err e) f P n k g h = h
-
-entered : (d at : ℕ) (f : ℕ → Result Extent TextFault) (S F : Type 0) (n : ℕ) → Judged (f (d + 1)) (S × F) n → Judged (enter d at >>= f) (S × ((d < 200) × F)) n
-entered d at f S F n h = by_depth (nat_lt d 200) refl where
-  by_depth : (b : Bool) → nat_lt d 200 ≡ b → Judged (cond b (Ok (d + 1)) (Err (TooDeep at)) >>= f) (S × ((d < 200) × F)) n
-  by_depth true e = settled (f (d + 1)) (S × F) (S × ((d < 200) × F)) n n (λ x. (x.0, (ltb-true d 200 e, x.1))) (λ x. (x.0, x.1.1)) refl h
-  by_depth false e = λ x. let lt : d < 200 = x.1.0 in let le : 200 ≤ d = ltb-false d 200 e in absurd (omega arith)
-
-decided : (r : Result Extent TextFault) (P : Type 0) (n : ℕ) → Judged r P n → IsOk r ↔ P
-decided (Ok m) P n h = (λ t. h.0, λ p. refl)
-decided (Err e) P n h = (λ t. absurd cc, λ p. absurd (h p))
-
-pub told_of : (r : Result Extent TextFault) (P : Type 0) (n : ℕ) (m : Extent) → Judged r P n → r ≡ Ok m → Nests m n
-told_of r P n m h e = let k : Judged (Ok m) P n = subst (λ (s : Result Extent TextFault). Judged s P n) e h in k.1
+entered : (d at : ℕ) (f : ℕ → Result Extent TextFault) (S F : Type 0) (n : ℕ) → Judged (f (d + 1)) (S × F) n → Judged (enter d at >>= f) (S × ((d < MAX_OPEN) × F)) n
+entered d at f S F n h = by_depth (nat_lt d MAX_OPEN) refl where
+  by_depth : (b : Bool) → nat_lt d MAX_OPEN ≡ b → Judged (cond b (Ok (d + 1)) (Err (TooDeep at)) >>= f) (S × ((d < MAX_OPEN) × F)) n
+  by_depth true e = settled (f (d + 1)) (S × F) (S × ((d < MAX_OPEN) × F)) n n (λ x. (x.0, (ltb-true d MAX_OPEN e, x.1))) (λ x. (x.0, x.1.1)) refl h
+  by_depth false e = λ x. let lt : d < MAX_OPEN = x.1.0 in let le : MAX_OPEN ≤ d = ltb-false d MAX_OPEN e in absurd (omega arith)
 
 -- ---- the nesting of combined parts
 
@@ -84,11 +61,11 @@ nests_limited nodes v n e = omega arith
 module _ (w : ScopeParts) (ps : List ProgParts) where
   -- ---- names
 
-  shallow_judged : (d at : ℕ) (p : ProgParts) (m : Extent) (n : ℕ) → Nests m n → Judged (spliced_extent d at (Some p) m) ((d + p.nesting ≤ 200) × Unit {0}) (max n p.nesting)
-  shallow_judged d at p m n e = by_depth (nat_lt 200 (d + p.nesting)) refl where
-    by_depth : (b : Bool) → nat_lt 200 (d + p.nesting) ≡ b → Judged (cond b (Err (TooDeep at)) (Ok (beside m (extent (prog_size p.tree) p.nesting)))) ((d + p.nesting ≤ 200) × Unit {0}) (max n p.nesting)
-    by_depth true lt = λ x. let past : 200 < d + p.nesting = ltb-true 200 (d + p.nesting) lt in let le : d + p.nesting ≤ 200 = x.0 in absurd (omega arith)
-    by_depth false le = ((ltb-false 200 (d + p.nesting) le, tt), nests_beside m (extent (prog_size p.tree) p.nesting) n p.nesting e (nests_extent (prog_size p.tree) p.nesting))
+  shallow_judged : (d at : ℕ) (p : ProgParts) (m : Extent) (n : ℕ) → Nests m n → Judged (spliced_extent d at (Some p) m) ((d + p.nesting ≤ MAX_OPEN) × Unit {0}) (max n p.nesting)
+  shallow_judged d at p m n e = by_depth (nat_lt MAX_OPEN (d + p.nesting)) refl where
+    by_depth : (b : Bool) → nat_lt MAX_OPEN (d + p.nesting) ≡ b → Judged (cond b (Err (TooDeep at)) (Ok (beside m (extent (prog_size p.tree) p.nesting)))) ((d + p.nesting ≤ MAX_OPEN) × Unit {0}) (max n p.nesting)
+    by_depth true lt = λ x. let past : MAX_OPEN < d + p.nesting = ltb-true MAX_OPEN (d + p.nesting) lt in let le : d + p.nesting ≤ MAX_OPEN = x.0 in absurd (omega arith)
+    by_depth false le = ((ltb-false MAX_OPEN (d + p.nesting) le, tt), nests_beside m (extent (prog_size p.tree) p.nesting) n p.nesting e (nests_extent (prog_size p.tree) p.nesting))
 
   spliced_judged : (d at : ℕ) (o : Option ProgParts) (m : Extent) (n : ℕ) → Nests m n → Judged (spliced_extent d at o m) (IsShallow d o × Unit {0}) (max n (prog_nesting o))
   spliced_judged d at None m n e = ((tt, tt), omega (arith, e))
@@ -207,10 +184,10 @@ module _ (w : ScopeParts) (ps : List ProgParts) where
       let chain = λ (v u : Extent) (c : ℕ). fold_block (block_extents w ps) c r (extent 0 0) >>= λ y. Ok (with_node m (beside v (beside u (deeper y)))) in
       let rest = λ (v u : Extent). enter d i.at >>= chain v u in
       settled (fold_cond (block_extents w ps) d b >>= λ v. fold_block (block_extents w ps) d p m >>= rest v)
-      ((Sound d b × IsWithinLimits d b) × ((T × G) × (U × ((d < 200) × H)))) ((Sound d b × T × U) × (IsWithinLimits d b × G × (d < 200) × H)) (max n (max a (max k (j + 1)))) (max n (max a (max k (j + 1))))
+      ((Sound d b × IsWithinLimits d b) × ((T × G) × (U × ((d < MAX_OPEN) × H)))) ((Sound d b × T × U) × (IsWithinLimits d b × G × (d < MAX_OPEN) × H)) (max n (max a (max k (j + 1)))) (max n (max a (max k (j + 1))))
       (λ x. ((x.0.0, x.1.0.0, x.1.1.0), (x.0.1, x.1.0.1, x.1.1.1.0, x.1.1.1.1))) (λ x. ((x.0.0, x.1.0), ((x.0.1, x.1.1), (x.0.2, (x.1.2, x.1.3))))) refl
-      (then_judged (fold_cond (block_extents w ps) d b) (λ v. fold_block (block_extents w ps) d p m >>= rest v) (Sound d b × IsWithinLimits d b) ((T × G) × (U × ((d < 200) × H))) a (max n (max a (max k (j + 1)))) (condition_judged d b)
-      (λ v f. then_judged (fold_block (block_extents w ps) d p m) (rest v) (T × G) (U × ((d < 200) × H)) k (max n (max a (max k (j + 1)))) (block_judged p d m)
+      (then_judged (fold_cond (block_extents w ps) d b) (λ v. fold_block (block_extents w ps) d p m >>= rest v) (Sound d b × IsWithinLimits d b) ((T × G) × (U × ((d < MAX_OPEN) × H))) a (max n (max a (max k (j + 1)))) (condition_judged d b)
+      (λ v f. then_judged (fold_block (block_extents w ps) d p m) (rest v) (T × G) (U × ((d < MAX_OPEN) × H)) k (max n (max a (max k (j + 1)))) (block_judged p d m)
       (λ u h. entered d i.at (chain v u) U H (max n (max a (max k (j + 1))))
       (changed (fold_block (block_extents w ps) (d + 1) r (extent 0 0)) (λ y. with_node m (beside v (beside u (deeper y)))) (U × H) j (max n (max a (max k (j + 1))))
       (λ y t. nests_node m (beside v (beside u (deeper y))) n (max a (max k (j + 1))) e (nests_beside v (beside u (deeper y)) a (max k (j + 1)) f (nests_beside u (deeper y) k (j + 1) h (nests_deeper y j t))))

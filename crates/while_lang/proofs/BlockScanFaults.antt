@@ -2,6 +2,7 @@
 use Rattle.std.proofs.Common.{◌≡◌, ℕ, zero, suc, ◌+◌, ◌*◌, ◌<◌, List, [], ◌∷◌, length, Bool, true, false, cond as if_true, nat_lt, ◌||◌, Result, Ok, Err, inl, inr, refl, sym, ap, subst, arith, drop, length-drop}
 use Rattle.std.specs.Prelude.{IfErr}
 use Rattle.std.proofs.lemmas.Bool.{or_right}
+use Rattle.kat_model.specs.declared.limits.TheConstants.{MAX_OPEN}
 use Rattle.text_tokens.specs.declared.fault.TextFault.{TextFault}
 use Rattle.text_tokens.specs.declared.fault.TextFault.TheVariants.{Syntax, TooDeep, NumberTooWide}
 use Rattle.text_grammar.specs.declared.terminal.Terminal.{Terminal}
@@ -133,7 +134,7 @@ semicolon_sound ts (Ok x) h =
 semicolon_sound ts (Err e) h = h
 
 entered_sound : {V : Type 0} (ts : List Lexeme) (d at : ℕ) (k : ℕ → Parsed V) → StandsAt opens_block at ts → ((e : ℕ) → Sound ts (k e)) → Sound ts (enter d at >>= k)
-entered_sound ts d at k h g = elim (nat_lt d 200) as (λ b. Sound ts (if_true b (Ok (d + 1)) (Err (TooDeep at)) >>= k)) [ true ↦ g (d + 1) | false ↦ h ]
+entered_sound ts d at k h g = elim (nat_lt d MAX_OPEN) as (λ b. Sound ts (if_true b (Ok (d + 1)) (Err (TooDeep at)) >>= k)) [ true ↦ g (d + 1) | false ↦ h ]
 
 -- ---- parts of statements
 

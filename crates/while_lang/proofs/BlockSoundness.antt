@@ -1,6 +1,7 @@
 -- The tokens that the block parser reads are a block.
 use Rattle.std.proofs.Common.{◌≡◌, ℕ, zero, suc, ◌+◌, ◌<◌, List, [], ◌∷◌, Bool, true, false, cond as if_true, nat_lt, Result, Ok, Err, refl, ap, sym, subst, ◌∙◌, drop}
 use Rattle.std.proofs.lemmas.Bool.{ltb-true}
+use Rattle.kat_model.specs.declared.limits.TheConstants.{MAX_OPEN}
 use Rattle.text_tokens.specs.declared.fault.TextFault.{TextFault}
 use Rattle.text_tokens.specs.declared.fault.TextFault.TheVariants.{TooDeep}
 use Rattle.text_grammar.specs.declared.terminal.Terminal.TheVariants.{Name, Keyword, Separator}
@@ -21,14 +22,14 @@ use Rattle.while_lang.specs.BlockPhrases.{BlockSymbol, block, stmts, stmt, branc
 use Rattle.while_lang.specs.BlockPhrases.{no_else, else_block, else_if, block_before, IsBlockPhrase}
 use Rattle.while_lang.proofs.BlockCompleteness.{close}
 
-pub enter_ok : (d e at : ℕ) → enter d at ≡ Ok e → (d < 200) × (e ≡ d + 1)
-enter_ok d e at h = by_depth (nat_lt d 200) refl h where
+pub enter_ok : (d e at : ℕ) → enter d at ≡ Ok e → (d < MAX_OPEN) × (e ≡ d + 1)
+enter_ok d e at h = by_depth (nat_lt d MAX_OPEN) refl h where
   number_of : Result ℕ TextFault → ℕ
   number_of (Ok n) = n
   number_of (Err x) = 0
 
-  by_depth : (b : Bool) → nat_lt d 200 ≡ b → if_true b (Ok (d + 1)) (Err (TooDeep at)) ≡ Ok e → (d < 200) × (e ≡ d + 1)
-  by_depth true lt k = (ltb-true d 200 lt, sym (ap number_of k))
+  by_depth : (b : Bool) → nat_lt d MAX_OPEN ≡ b → if_true b (Ok (d + 1)) (Err (TooDeep at)) ≡ Ok e → (d < MAX_OPEN) × (e ≡ d + 1)
+  by_depth true lt k = (ltb-true d MAX_OPEN lt, sym (ap number_of k))
   by_depth false lt k = absurd cc
 
 abbrev pub rest_of : {V : Type 0} → Parsed V → List Lexeme
@@ -63,7 +64,7 @@ cond_before d ts mid us same p = let k : IsPhrase cond d ts us = subst (IsPhrase
 pub data Second (d : ℕ) (ts rest : List Lexeme) : Type 0 where
   none_there : (same : ts ≡ rest) → Second d ts rest
   block_there : (l : Leaf) → (us : List Lexeme) → (spelled : ts ≡ cons_token (Keyword word.Else) l us) → (q : IsBlockPhrase block d us rest) → Second d ts rest
-  if_there : (l i : Leaf) → (us : List Lexeme) → (spelled : ts ≡ cons_token (Keyword word.Else) l (cons_token (Keyword word.If) i us)) → (lt : d < 200) → (r : IsBlockPhrase branch (d + 1) us rest) → Second d ts rest
+  if_there : (l i : Leaf) → (us : List Lexeme) → (spelled : ts ≡ cons_token (Keyword word.Else) l (cons_token (Keyword word.If) i us)) → (lt : d < MAX_OPEN) → (r : IsBlockPhrase branch (d + 1) us rest) → Second d ts rest
 
 branch_found : (d : ℕ) (ts mid us rest : List Lexeme) → IsPhrase cond d ts mid → IsBlockPhrase block d mid us → Second d us rest → IsBlockPhrase branch d ts rest
 branch_found d ts mid us rest b p (none_there same) =

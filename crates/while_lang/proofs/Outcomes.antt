@@ -1,7 +1,7 @@
 -- The end of a program's run is an outcome by the run relations, and the only one.
 use Rattle.std.proofs.Common.{◌≡◌, ℕ, zero, suc, ◌+◌, ◌-◌, ◌<◌, ◌≤◌, ◌↔◌, nat_eq, Bool, true, false, ◌&&◌, if◌then◌else◌, refl, sym, subst, ◌∙◌, ap}
 use Rattle.std.proofs.Common.{◌⊎◌, inl, inr, ⊎_elim, arith}
-use Rattle.std.proofs.lemmas.Bool.{cases_eq}
+use Rattle.std.proofs.lemmas.Bool.{cases_eq, and_parts}
 use Rattle.std.proofs.lemmas.Bool.Decides.{nat_tests}
 use Rattle.kat_model.specs.Stores.{Store}
 use Rattle.kat_model.specs.declared.expression.Width.{Width}
@@ -11,10 +11,6 @@ use Rattle.while_lang.specs.Working.Running.{End, ended, then_run, turning, loop
 use Rattle.while_lang.specs.declared.outcome.Outcome.{Outcome}
 use Rattle.while_lang.specs.declared.outcome.Outcome.TheVariants.{Done, Stuck, More}
 use Rattle.while_lang.proofs.Reached.{goes_done, sticks_stuck, waits_more}
-
-both_true : (x y : Bool) → (x && y) ≡ true → (x ≡ true) × (y ≡ true)
-both_true true y e = (refl, e)
-both_true false y e = absurd cc
 
 -- a run with this end from `n` turns satisfies the relation of its outcome: `G`, `S` or `W`
 abbrev By : (ℕ → Store → Type 0) → (ℕ → Store → Type 0) → (ℕ → Store → Type 0) → ℕ → Outcome → Store → ℕ → Type 0
@@ -94,7 +90,7 @@ run_came : (w : Width) (p : ProgTree) → is_concrete p ≡ true → (s : Store)
 run_came w empty c s n = (0, (refl, refl), omega arith)
 run_came w (skip_then rest) c s n = run_came w rest c s n
 run_came w (abort_then rest) c s n = (0, (refl, refl), omega arith)
-run_came w (assert_then b rest) c s n = by_truth (condition w b s) refl (run_came w rest (both_true (is_concrete_cond b) (is_concrete rest) c).1 s n)
+run_came w (assert_then b rest) c s n = by_truth (condition w b s) refl (run_came w rest (and_parts (is_concrete_cond b) (is_concrete rest) c).1 s n)
   where
     by_truth : (x : Bool) → condition w b s ≡ x → Came w rest s n (run_end w rest s n) →
         By (λ k t. (condition w b s ≡ true) × Goes w rest s k t) (λ k t. Chosen x (Sticks w rest s k t) (Stays s k t)) (λ k t. (condition w b s ≡ true) × Waits w rest s k t) n
@@ -108,8 +104,8 @@ run_came w (assert_then b rest) c s n = by_truth (condition w b s) refl (run_cam
 run_came w (act_then a rest) c s n = absurd cc
 run_came w (assign_then x e rest) c s n = run_came w rest c _ n
 run_came w (branch_then b p q rest) c s n =
-    let d = both_true (is_concrete_cond b && (is_concrete p && is_concrete q)) (is_concrete rest) c in
-    let parts = both_true (is_concrete p) (is_concrete q) (both_true (is_concrete_cond b) (is_concrete p && is_concrete q) d.0).1 in
+    let d = and_parts (is_concrete_cond b && (is_concrete p && is_concrete q)) (is_concrete rest) c in
+    let parts = and_parts (is_concrete p) (is_concrete q) (and_parts (is_concrete_cond b) (is_concrete p && is_concrete q) d.0).1 in
     let e = if condition w b s then run_end w p s n else run_end w q s n in
     by_then (λ u i v. Chosen (condition w b u) (Goes w p u i v) (Goes w q u i v)) (λ u i v. Chosen (condition w b u) (Sticks w p u i v) (Sticks w q u i v))
     (λ u i v. Chosen (condition w b u) (Waits w p u i v) (Waits w q u i v))
@@ -123,8 +119,8 @@ run_came w (branch_then b p q rest) c s n =
     by_truth true g h = g
     by_truth false g h = h
 run_came w (loop_then b p rest) c s n =
-    let d = both_true (is_concrete_cond b && is_concrete p) (is_concrete rest) c in
-    let body = (both_true (is_concrete_cond b) (is_concrete p) d.0).1 in
+    let d = and_parts (is_concrete_cond b && is_concrete p) (is_concrete rest) c in
+    let body = (and_parts (is_concrete_cond b) (is_concrete p) d.0).1 in
     let e = loop_end (condition w b) (run_end w p) s n in
     let f = then_run e (run_end w rest) in
     by_map (Goes w (loop_then b p rest) s) (Sticks w (loop_then b p rest) s)

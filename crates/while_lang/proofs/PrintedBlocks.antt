@@ -1,10 +1,10 @@
 -- A printed program is a block with the same tree, and reads back.
-use Rattle.std.proofs.Common.{◌≡◌, ◌<◌, ◌≤◌, ◌+◌, ℕ, max, true, false, List, [], ◌∷◌, ◌++◌, length, Result, Ok, Err, IsOk, refl, sym, ap, ◌∙◌, subst, arith, append_assoc}
+use Rattle.std.proofs.Common.{◌≡◌, ◌<◌, ◌≤◌, ◌+◌, ℕ, max, true, false, List, [], ◌∷◌, ◌++◌, length, Ok, refl, sym, ap, ◌∙◌, subst, arith, append_assoc}
 use Rattle.std.proofs.lemmas.Bool.{le-ltb}
 use Rattle.std.proofs.lemmas.List.{append-nil}
 use Rattle.std.specs.Prelude.{codes}
+use Rattle.kat_model.specs.declared.limits.TheConstants.{MAX_TERM_NODES, MAX_EXPR_NODES, MAX_OPEN}
 use Rattle.kat_model.specs.Expressions.{ExprTree, CondTree}
-use Rattle.text_tokens.specs.declared.fault.TextFault.{TextFault}
 use Rattle.text_tokens.specs.Pieces.{Piece, word, symbol, gap}
 use Rattle.text_tokens.proofs.Printed.{printed}
 use Rattle.text_grammar.specs.declared.terminal.Terminal.{Terminal}
@@ -12,21 +12,21 @@ use Rattle.text_grammar.specs.declared.terminal.Terminal.TheVariants.{Name, Keyw
 use Rattle.text_grammar.specs.declared.terminal.Keyword.TheVariants as keyword
 use Rattle.text_grammar.specs.declared.terminal.Separator.TheVariants.{Semicolon, CurlyOpen, Becomes}
 use Rattle.text_grammar.specs.Lexemes.{Lexeme, lexeme}
-use Rattle.text_grammar.specs.Parsed.{Parsed, ◌>>=◌, before, change, place_of}
+use Rattle.text_grammar.specs.Parsed.{◌>>=◌, before, change, place_of}
 use Rattle.text_grammar.specs.Actions.{context}
 use Rattle.text_grammar.specs.Phrases.{one_conj, one_lit, one_mul, one_fac, yield_before, MeetsLookahead}
 use Rattle.text_scopes.specs.declared.meaning.Meaning.{Meaning}
 use Rattle.text_scopes.specs.declared.meaning.Meaning.TheVariants.{Action, Var}
-use Rattle.text_scopes.specs.declared.extent.Extent.{Extent}
 use Rattle.text_scopes.specs.ScopeParts.{ScopeParts, IsNameOf}
-use Rattle.text_scopes.specs.Readings.{within, phrased}
 use Rattle.text_scopes.specs.Laws.{told_nodes}
 use Rattle.text_scopes.specs.Sound.{IsExprName}
+use Rattle.text_scopes.proofs.Measured.{ok_value}
 use Rattle.text_print.specs.Printing.{expr_pieces, cond_pieces, CondIsNamed, ExprIsNamed, expr_nesting, cond_nesting}
 use Rattle.text_print.proofs.WordTerminals.{name_terminal}
 use Rattle.text_print.proofs.PrintedPhrases.{lexemes_from, leaf}
 use Rattle.text_print.proofs.PrintedExprs.{expr_back}
 use Rattle.text_print.proofs.PrintedConds.{cond_back}
+use Rattle.text_print.proofs.PrintedReadings.{read_as, inside_ok}
 use Rattle.while_lang.specs.Programs.{ProgTree, empty, skip_then, abort_then, assert_then, act_then, assign_then, branch_then, loop_then, prog_of, stmts_of}
 use Rattle.while_lang.specs.Programs.{StmtTree, skip, abort, assert, act, assign, branch as branch_stmt, loop}
 use Rattle.while_lang.specs.ProgramSizes.{prog_size, largest_in}
@@ -49,16 +49,16 @@ use Rattle.while_lang.proofs.SeparatePrograms.{block_separate}
 module _ (w : ScopeParts) (progs : List ProgParts) where
   -- the phrase adds the statements `xs` and has nesting `levels`
   pub record Adds (x : BlockSymbol) (xs : List StmtTree) (levels : ℕ) (p : BlockPhrase x) : Type 0 where
-    pub tree : (d : ℕ) → d + levels ≤ 200 → (ss : List StmtTree) → fold_block (block_trees w progs) d p ss ≡ Ok (ss ++ xs)
-    pub sound : (d : ℕ) → d + levels ≤ 200 → BlockIsSound w progs d p
-    pub fits : (d : ℕ) → d + levels ≤ 200 → BlockFits d p
+    pub tree : (d : ℕ) → d + levels ≤ MAX_OPEN → (ss : List StmtTree) → fold_block (block_trees w progs) d p ss ≡ Ok (ss ++ xs)
+    pub sound : (d : ℕ) → d + levels ≤ MAX_OPEN → BlockIsSound w progs d p
+    pub fits : (d : ℕ) → d + levels ≤ MAX_OPEN → BlockFits d p
     pub deep : block_nesting w progs p ≡ levels
 
   -- the block has the statements `xs`, whatever precedes it
   pub record Makes (xs : List StmtTree) (levels : ℕ) (p : BlockPhrase block) : Type 0 where
-    pub tree : (d : ℕ) → d + levels ≤ 200 → (ss : List StmtTree) → fold_block (block_trees w progs) d p ss ≡ Ok xs
-    pub sound : (d : ℕ) → d + levels ≤ 200 → BlockIsSound w progs d p
-    pub fits : (d : ℕ) → d + levels ≤ 200 → BlockFits d p
+    pub tree : (d : ℕ) → d + levels ≤ MAX_OPEN → (ss : List StmtTree) → fold_block (block_trees w progs) d p ss ≡ Ok xs
+    pub sound : (d : ℕ) → d + levels ≤ MAX_OPEN → BlockIsSound w progs d p
+    pub fits : (d : ℕ) → d + levels ≤ MAX_OPEN → BlockFits d p
     pub deep : block_nesting w progs p ≡ levels
 
   -- the pieces `qs` begin with a phrase that satisfies `P` and continue with `ps`
@@ -101,7 +101,7 @@ module _ (w : ScopeParts) (progs : List ProgParts) where
     spelled = ap (λ (l : List Lexeme). lexeme (Separator CurlyOpen) at (codes "{") ∷ l) a.spelled;
     obeys = a.obeys;
     holds = record {
-      tree = λ d le ss. let lt : d < 200 = omega arith in rw (enters d at lt, a.holds.tree (d + 1) (omega arith) []) refl;
+      tree = λ d le ss. let lt : d < MAX_OPEN = omega arith in rw (enters d at lt, a.holds.tree (d + 1) (omega arith) []) refl;
       sound = λ d le. a.holds.sound (d + 1) (omega arith);
       fits = λ d le. (omega arith, a.holds.fits (d + 1) (omega arith));
       deep = ap (λ (k : ℕ). k + 1) a.holds.deep;
@@ -254,30 +254,17 @@ module _ (w : ScopeParts) (progs : List ProgParts) where
 
   -- ---- the reading of a printed block
 
-  ok_value : (r : Result Extent TextFault) → IsOk r → (m : Extent) × (r ≡ Ok m)
-  ok_value (Ok m) h = (m, refl)
-  ok_value (Err e) h = absurd cc
+  few : (p : ProgTree) → largest_in p ≤ MAX_EXPR_NODES → prog_size p ≤ MAX_TERM_NODES → told_nodes (largest_in p) (prog_size p) ≤ MAX_TERM_NODES
+  few p large size = rw (le-ltb MAX_EXPR_NODES (largest_in p) large) (omega arith)
 
-  finished : (at : ℕ) (a : Parsed Extent) (b : Parsed ProgTree) (m : Extent) (t : ProgTree) (n : ℕ) → a ≡ Ok (m, []) → b ≡ Ok (t, []) → m.nodes ≤ 100000 → m.nesting ≡ n → phrased (within 100000 at a) b ≡ Ok (record { tree = t; nesting = n; rest = [] })
-  finished at a b m t n e f le g =
-      ap (λ (s : Parsed Extent). phrased (within 100000 at s) b) e
-      ∙ ap (λ (s : Parsed ProgTree). phrased (within 100000 at (Ok (m, []))) s) f
-      ∙ rw (le-ltb 100000 m.nodes le, g) refl
-
-  few : (p : ProgTree) → largest_in p ≤ 1000 → prog_size p ≤ 100000 → told_nodes (largest_in p) (prog_size p) ≤ 100000
-  few p large size = rw (le-ltb 1000 (largest_in p) large) (omega arith)
-
-  inside_ok : (x y : ProgTree) (r : Result ProgTree TextFault) → r ≡ Ok x → r ≡ Ok y → x ≡ y
-  inside_ok x y r e f = let same : ◌≡◌ {A = Result ProgTree TextFault} (Ok x) (Ok y) = sym e ∙ f in cc
-
-  read_back : (limited : AreLimited progs) (t : ProgTree) (d n : ℕ) (p : BlockPhrase block) → BlockObeys p [] → Makes (stmts_of t) n p → d + n ≤ 200 → largest_in t ≤ 1000 → prog_size t ≤ 100000 → block_at w progs d (block_before p []) ≡ Ok (record { tree = t; nesting = n; rest = [] })
+  read_back : (limited : AreLimited progs) (t : ProgTree) (d n : ℕ) (p : BlockPhrase block) → BlockObeys p [] → Makes (stmts_of t) n p → d + n ≤ MAX_OPEN → largest_in t ≤ MAX_EXPR_NODES → prog_size t ≤ MAX_TERM_NODES → block_at w progs d (block_before p []) ≡ Ok (record { tree = t; nesting = n; rest = [] })
   read_back limited t d n p obeys h le large size =
       let m = ok_value (fold_block (block_extents w progs) d p (extent 0 0)) ((sound_measured w progs d p).1 (h.sound d le, h.fits d le)) in
       let k = block_measured w progs limited d p m.0 m.1 in
       let made : (fold_block (block_trees w progs) d p [] >>= λ ss. Ok (prog_of ss)) ≡ Ok t = rw (h.tree d le [], prog_of-stmts_of t) refl in
       let same : k.tree ≡ t = inside_ok k.tree t (fold_block (block_trees w progs) d p [] >>= λ ss. Ok (prog_of ss)) k.built made in
       let told : (m.0).nodes ≡ told_nodes (largest_in t) (prog_size t) = k.nodes ∙ ap (λ (x : ProgTree). told_nodes (largest_in x) (prog_size x)) same in
-      finished (place_of (block_before p [])) (measured_block w progs d (block_before p [])) (built_block w progs d (block_before p [])) m.0 t n
+      read_as MAX_TERM_NODES (place_of (block_before p [])) (measured_block w progs d (block_before p [])) (built_block w progs d (block_before p [])) m.0 t n
       (parsed (block_extents w progs) p d (extent 0 0) [] obeys ∙ ap (before []) m.1)
       (ap (change prog_of) (parsed (block_trees w progs) p d [] [] obeys) ∙ rw (h.tree d le [], prog_of-stmts_of t) refl)
       (omega (arith, told, few t large size))

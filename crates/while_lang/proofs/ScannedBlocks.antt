@@ -1,11 +1,9 @@
 -- The syntax check accepts exactly the blocks of the grammar.
-use Rattle.std.proofs.Common.{◌≡◌, ℕ, ◌+◌, ◌<◌, List, [], true, false, Result, Ok, Err, refl, ap, ◌∙◌}
+use Rattle.std.proofs.Common.{◌≡◌, ℕ, ◌+◌, ◌<◌, true, false, Ok, refl, ap, ◌∙◌}
 use Rattle.std.proofs.lemmas.Bool.{lt-ltb}
-use Rattle.text_tokens.specs.declared.fault.TextFault.{TextFault}
-use Rattle.text_grammar.specs.Lexemes.{Lexeme}
-use Rattle.text_grammar.specs.Parsed.{Parsed, ◌>>=◌}
+use Rattle.kat_model.specs.declared.limits.TheConstants.{MAX_OPEN}
 use Rattle.text_grammar.specs.Actions.{context}
-use Rattle.text_grammar.proofs.Scanned.{scanned}
+use Rattle.text_grammar.proofs.Scanned.{scanned, ended}
 use Rattle.while_lang.specs.Blocks.{enter, block as block_aim, parse_block}
 use Rattle.while_lang.specs.BlockPhrases.{BlockSymbol, BlockPhrase, braced, no_stmts, more_stmts, skip_stmt, abort_stmt, assert_stmt, name_stmt, assign_stmt, if_stmt, while_stmt, no_else, else_block, else_if, BlockFits}
 use Rattle.while_lang.specs.BlockFolds.{fold_block}
@@ -13,8 +11,8 @@ use Rattle.while_lang.specs.BlockScans.{scanning_blocks, TakesBlocks}
 use Rattle.while_lang.proofs.BlockCompleteness.{parsed}
 use Rattle.while_lang.proofs.BlockSoundness.{block_found}
 
-pub enters : (d at : ℕ) → d < 200 → enter d at ≡ Ok (d + 1)
-enters d at lt = rw (lt-ltb d 200 lt) refl
+pub enters : (d at : ℕ) → d < MAX_OPEN → enter d at ≡ Ok (d + 1)
+enters d at lt = rw (lt-ltb d MAX_OPEN lt) refl
 
 -- a phrase within the limits on depth and numbers has no fault
 block_scanned : {x : BlockSymbol} (p : BlockPhrase x) (d : ℕ) → BlockFits d p → (s : Unit {0}) → fold_block scanning_blocks d p s ≡ Ok tt
@@ -31,14 +29,6 @@ block_scanned (while_stmt l b p) d f s = rw (scanned b (context d false true) f.
 block_scanned (no_else b p) d f s = rw (scanned b (context d false true) f.0 (λ t. tt), block_scanned p d f.1 s) refl
 block_scanned (else_block b p l q) d f s = rw (scanned b (context d false true) f.0 (λ t. tt), block_scanned p d f.1 s, block_scanned q d f.2 s) refl
 block_scanned (else_if b p l i r) d f s = rw (scanned b (context d false true) f.0 (λ t. tt), block_scanned p d f.1 s, enters d i.at f.2, block_scanned r (d + 1) f.3 tt) refl
-
-abbrev end_of : Result (List Lexeme) TextFault → List Lexeme
-end_of (Ok ts) = ts
-end_of (Err e) = []
-
-pub ended : (m : Parsed (Unit {0})) (rest : List Lexeme) → (m >>= λ x. Ok x.1) ≡ Ok rest → m ≡ Ok (tt, rest)
-ended (Ok x) rest e = let same : x.1 ≡ rest = ap end_of e in ap (λ t. Ok (tt, t)) same
-ended (Err f) rest e = absurd cc
 
 pub blocks_taken : TakesBlocks
 blocks_taken d ts rest = (

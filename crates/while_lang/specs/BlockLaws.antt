@@ -1,5 +1,6 @@
 -- The folds over blocks, and how the measures of a block relate to its tree.
 use Rattle.std.specs.Prelude.{◌≡◌, ◌↔◌, ◌≤◌, ◌+◌, ℕ, min, List, [], length, slice_get, Some, IsOk, Ok}
+use Rattle.kat_model.specs.declared.limits.TheConstants.{MAX_TERM_NODES, MAX_EXPR_NODES, MAX_OPEN}
 use Rattle.text_tokens.specs.declared.lexer.TheConstants.{MAX_LEN}
 use Rattle.text_tokens.specs.Pieces.{spelled}
 use Rattle.text_grammar.specs.Lexemes.{Lexeme}
@@ -28,23 +29,23 @@ BlocksAreFolded =
     (parse_block (block_extents w ps) block d (block_before p ts) ≡ before ts (fold_block (block_extents w ps) d p (extent 0 0)))
     × (parse_block (block_trees w ps) block d (block_before p ts) ≡ before ts (fold_block (block_trees w ps) d p []))
 
--- measuring a block succeeds if and only if the block is sound, nests at most 200 constructs and has no number of 2^64
--- or more
+-- measuring a block succeeds if and only if the block is sound, nests at most `MAX_OPEN` constructs and has no number
+-- of 2^64 or more
 abbrev pub SoundAreMeasured : Type 0
 SoundAreMeasured =
     (w : ScopeParts) (ps : List ProgParts) (d : ℕ) (p : BlockPhrase block_symbol) →
     IsOk (fold_block (block_extents w ps) d p (extent 0 0)) ↔ (BlockIsSound w ps d p × BlockFits d p)
 
--- no expression in the programs has more than 1,000 nodes
+-- no expression in the programs has more than `MAX_EXPR_NODES` nodes
 abbrev pub AreLimited : List ProgParts → Type 0
-AreLimited ps = (i : ℕ) (p : ProgParts) → slice_get ps i ≡ Some p → largest_in p.tree ≤ 1000
+AreLimited ps = (i : ℕ) (p : ProgParts) → slice_get ps i ≡ Some p → largest_in p.tree ≤ MAX_EXPR_NODES
 
 -- the block has a tree; the measures are the size of the tree and the nesting of the block, both capped
 pub record MeasuresBlock (w : ScopeParts) (ps : List ProgParts) (d : ℕ) (p : BlockPhrase block_symbol) (m : Extent) : Type 0 where
   pub tree : ProgTree
   pub built : (fold_block (block_trees w ps) d p [] >>= λ ss. Ok (prog_of ss)) ≡ Ok tree
   pub nodes : m.nodes ≡ told_nodes (largest_in tree) (prog_size tree)
-  pub levels : m.nesting ≡ min (block_nesting w ps p) 201
+  pub levels : m.nesting ≡ min (block_nesting w ps p) (MAX_OPEN + 1)
 
 abbrev pub MeasuresAreOfTrees : Type 0
 MeasuresAreOfTrees =
@@ -56,5 +57,5 @@ MeasuresAreOfTrees =
 abbrev pub PrintedReadsBack : Type 0
 PrintedReadsBack =
     (w : ScopeParts) (ps : List ProgParts) (names : Meaning → List ℕ) (p : ProgTree) (d : ℕ) → AreLimited ps → ProgIsNamed w names p →
-    length (spelled (block_pieces names p [])) ≤ MAX_LEN → largest_in p ≤ 1000 → prog_size p ≤ 100000 → d + block_levels p ≤ 200 →
+    length (spelled (block_pieces names p [])) ≤ MAX_LEN → largest_in p ≤ MAX_EXPR_NODES → prog_size p ≤ MAX_TERM_NODES → d + block_levels p ≤ MAX_OPEN →
     ReadsBack (block_pieces names p []) (block_at w ps d) p (block_levels p)

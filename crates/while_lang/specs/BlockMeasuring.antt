@@ -1,5 +1,6 @@
 -- The faults of the names of a block, and the size and nesting of the block.
 use Rattle.std.specs.Prelude.{ℕ, ◌+◌, max, if◌then◌else◌, nat_lt, List, slice_get, Result, Ok, Err, Option, Some, None}
+use Rattle.kat_model.specs.declared.limits.TheConstants.{MAX_OPEN}
 use Rattle.text_tokens.specs.declared.fault.TextFault.{TextFault}
 use Rattle.text_tokens.specs.declared.fault.TextFault.TheVariants.{UnknownName, Sort, TooDeep}
 use Rattle.text_scopes.specs.declared.meaning.Meaning.{Meaning}
@@ -30,7 +31,7 @@ deeper m = extent m.nodes (m.nesting + 1)
 -- the extent after a program of the file as a statement, or a fault if it is too deep
 abbrev pub spliced_extent : ℕ → ℕ → Option ProgParts → Extent → Result Extent TextFault
 spliced_extent d at None m = Ok m
-spliced_extent d at (Some p) m = if nat_lt 200 (d + p.nesting) then Err (TooDeep at) else Ok (beside m (extent (prog_size p.tree) p.nesting))
+spliced_extent d at (Some p) m = if nat_lt MAX_OPEN (d + p.nesting) then Err (TooDeep at) else Ok (beside m (extent (prog_size p.tree) p.nesting))
 
 -- the extent after a name as a statement
 abbrev pub named_extent : List ProgParts → ℕ → ℕ → Option Meaning → Extent → Result Extent TextFault

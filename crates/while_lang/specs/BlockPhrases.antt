@@ -1,5 +1,6 @@
 -- The phrases of blocks, case by case, and the tokens that spell them.
 use Rattle.std.specs.Prelude.{◌≡◌, ◌<◌, ◌+◌, ℕ, List}
+use Rattle.kat_model.specs.declared.limits.TheConstants.{MAX_OPEN}
 use Rattle.text_grammar.specs.declared.terminal.Terminal.TheVariants.{Name, Keyword, Separator}
 use Rattle.text_grammar.specs.declared.terminal.Keyword.TheVariants as word
 use Rattle.text_grammar.specs.declared.terminal.Separator.TheVariants.{Semicolon, CurlyOpen, CurlyClose, Becomes}
@@ -11,8 +12,8 @@ pub data BlockSymbol : Type 0 where
   block stmts stmt branch : BlockSymbol
 
 -- block = "{" stmts "}", stmts = { stmt },
--- stmt = "skip" ";" | "abort" ";" | "assert" cond ";" | NAME ";" | NAME ":=" expr ";" | "if" branch | "while" cond block,
--- branch = cond block [ "else" block | "else" "if" branch ]
+-- stmt = "skip" ";" | "abort" ";" | "assert" cond ";" | NAME ";" | NAME ":=" expr ";" | "if" branch | "while" cond
+-- block, branch = cond block [ "else" block | "else" "if" branch ]
 pub data BlockPhrase : BlockSymbol → Type 0 where
   braced : (l : Leaf) → (ss : BlockPhrase stmts) → (r : Leaf) → BlockPhrase block
   no_stmts : BlockPhrase stmts
@@ -67,7 +68,7 @@ BlockObeys (else_if b p l i r) ts =
 -- with `d` levels open, no construct is too deep and no number is too wide; each `else if` is one level until its chain
 -- ends
 abbrev pub BlockFits : {x : BlockSymbol} → ℕ → BlockPhrase x → Type 0
-BlockFits d (braced l ss r) = (d < 200) × BlockFits (d + 1) ss
+BlockFits d (braced l ss r) = (d < MAX_OPEN) × BlockFits (d + 1) ss
 BlockFits d no_stmts = Unit {0}
 BlockFits d (more_stmts s ss) = BlockFits d s × BlockFits d ss
 BlockFits d (skip_stmt l end) = Unit {0}
@@ -79,7 +80,7 @@ BlockFits d (if_stmt l r) = BlockFits d r
 BlockFits d (while_stmt l b p) = IsWithinLimits d b × BlockFits d p
 BlockFits d (no_else b p) = IsWithinLimits d b × BlockFits d p
 BlockFits d (else_block b p l q) = IsWithinLimits d b × BlockFits d p × BlockFits d q
-BlockFits d (else_if b p l i r) = IsWithinLimits d b × BlockFits d p × (d < 200) × BlockFits (d + 1) r
+BlockFits d (else_if b p l i r) = IsWithinLimits d b × BlockFits d p × (d < MAX_OPEN) × BlockFits (d + 1) r
 
 -- the tokens are a phrase of `x`, followed by `rest`
 pub record IsBlockPhrase (x : BlockSymbol) (d : ℕ) (ts rest : List Lexeme) : Type 0 where

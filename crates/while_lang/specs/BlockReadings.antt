@@ -1,5 +1,6 @@
 -- The reading of a block: its tree and its nesting, or its first fault.
 use Rattle.std.specs.Prelude.{ℕ, List, Result}
+use Rattle.kat_model.specs.declared.limits.TheConstants.{MAX_TERM_NODES}
 use Rattle.text_tokens.specs.declared.fault.TextFault.{TextFault}
 use Rattle.text_grammar.specs.Lexemes.{Lexeme}
 use Rattle.text_grammar.specs.Parsed.{Parsed, change, place_of}
@@ -21,4 +22,4 @@ built_block w ps d ts = change prog_of (parse_block (block_trees w ps) block d t
 
 -- the reading of the block at the start of the tokens
 abbrev pub block_at : ScopeParts → List ProgParts → ℕ → List Lexeme → Result (Phrased ProgTree) TextFault
-block_at w ps d ts = phrased (within 100000 (place_of ts) (measured_block w ps d ts)) (built_block w ps d ts)
+block_at w ps d ts = phrased (within MAX_TERM_NODES (place_of ts) (measured_block w ps d ts)) (built_block w ps d ts)

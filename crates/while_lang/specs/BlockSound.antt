@@ -1,5 +1,6 @@
 -- The blocks that are allowed in a scope, and their nesting with the named programs expanded.
 use Rattle.std.specs.Prelude.{◌≤◌, ◌+◌, ℕ, max, true, false, List, slice_get, Option, Some, None}
+use Rattle.kat_model.specs.declared.limits.TheConstants.{MAX_OPEN}
 use Rattle.text_grammar.specs.Actions.{context}
 use Rattle.text_scopes.specs.declared.meaning.Meaning.{Meaning}
 use Rattle.text_scopes.specs.declared.meaning.Meaning.TheVariants.{Action, Prog}
@@ -11,7 +12,7 @@ use Rattle.while_lang.specs.BlockPhrases.{BlockSymbol, BlockPhrase, braced, no_s
 -- a program of the file is allowed here: it is not too deep
 abbrev pub IsShallow : ℕ → Option ProgParts → Type 0
 IsShallow d None = Unit {0}
-IsShallow d (Some p) = d + p.nesting ≤ 200
+IsShallow d (Some p) = d + p.nesting ≤ MAX_OPEN
 
 -- a name as a statement denotes an action, or a program that is allowed here
 abbrev pub IsStmtName : List ProgParts → ℕ → Option Meaning → Type 0

@@ -1,5 +1,6 @@
 -- The block parser.
 use Rattle.std.specs.Prelude.{ℕ, zero, suc, ◌+◌, ◌*◌, List, [], ◌∷◌, length, drop, true, false, if◌then◌else◌, nat_lt, Result, Ok, Err}
+use Rattle.kat_model.specs.declared.limits.TheConstants.{MAX_OPEN}
 use Rattle.text_tokens.specs.declared.fault.TextFault.{TextFault}
 use Rattle.text_tokens.specs.declared.fault.TextFault.TheVariants.{NoMemory, Syntax, TooDeep}
 use Rattle.text_grammar.specs.declared.terminal.Terminal.TheVariants.{Name, Keyword, Separator}
@@ -14,7 +15,7 @@ use Rattle.while_lang.specs.BlockActions.{BlockActions}
 
 -- the number of open constructs after one more opens at place `at`
 abbrev pub enter : ℕ → ℕ → Result ℕ TextFault
-enter d at = if nat_lt d 200 then Ok (d + 1) else Err (TooDeep at)
+enter d at = if nat_lt d MAX_OPEN then Ok (d + 1) else Err (TooDeep at)
 
 -- what to parse: a block, the rest of a block after its brace and the statements so far, another statement, or the rest
 -- of a statement after its `if`

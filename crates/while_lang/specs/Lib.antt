@@ -1,4 +1,5 @@
 pub mod Programs
+pub mod Leaves
 pub mod ProgramCodes
 pub mod ProgramViews
 pub mod ProgramFalls

@@ -2,8 +2,8 @@
 ghost use Rattle.while_lang.specs.BlockScans.{TakesBlocks};
 ghost use Rattle.while_lang.specs.BlockLaws.{BlocksAreFolded, SoundAreMeasured, MeasuresAreOfTrees, PrintedReadsBack};
 
-/// The syntax check accepts exactly the blocks of the grammar that nest at most 200 constructs and have no number of
-/// 2^64 or more.
+/// The syntax check accepts exactly the blocks of the grammar that nest at most `MAX_OPEN` constructs and have no
+/// number of 2^64 or more.
 pub fn blocks_are_scanned()
     ensures { TakesBlocks }
 {}
@@ -13,8 +13,8 @@ pub fn blocks_are_folded()
     ensures { BlocksAreFolded }
 {}
 
-/// Measuring a block succeeds if and only if the block is sound, nests at most 200 constructs and has no number of 2^64
-/// or more.
+/// Measuring a block succeeds if and only if the block is sound, nests at most `MAX_OPEN` constructs and has no number
+/// of 2^64 or more.
 pub fn sound_blocks_are_measured()
     ensures { SoundAreMeasured }
 {}

@@ -56,7 +56,8 @@ fn deeper(inside: Extent) -> Extent
     extent(inside.nodes, inside.nesting.saturating_add(1))
 }
 
-// Returns the nodes of an expression; more than 1,000 count as 100,001, which is too large.
+// Returns the nodes of an expression; more than `MAX_EXPR_NODES` count as `MAX_TERM_NODES + 1`, which is too
+// large.
 fn compared_nodes(nodes: u64) -> u64
     ensures { result ≡ compared_nodes nodes }
 {

@@ -18,8 +18,8 @@ use text_tokens::{TextFault, Token};
 /// Reads the block that begins at `from`, with no open construct around it. Returns its program, with the programs that
 /// it names spliced in, the index after it, and its nesting. Otherwise fails with the first fault in its syntax or its
 /// names in text order (`UnknownName`, `Sort`, or `TooDeep` through the name of a program, each at its token). If no
-/// token has a fault, fails with `TooLarge` at the first token if there are more than 100,000 nodes or an expression
-/// has more than 1,000, or when out of memory. Program i of the scope is `progs[i]`.
+/// token has a fault, fails with `TooLarge` at the first token if there are more than `MAX_TERM_NODES` nodes or an
+/// expression has more than `MAX_EXPR_NODES`, or when out of memory. Program i of the scope is `progs[i]`.
 pub fn read_block(
     alloc: Global,
     toks: &[Token],

@@ -12,8 +12,8 @@ use text_grammar::{
 };
 use text_tokens::{TextFault, Token};
 
-/// Returns the number of open constructs after one more opens at place `at`. Fails with `TooDeep` at that place if 200
-/// or more are open already.
+/// Returns the number of open constructs after one more opens at place `at`. Fails with `TooDeep` at that place if
+/// `MAX_OPEN` or more are open already.
 pub fn enter(depth: usize, at: usize) -> Result<usize, TextFault>
     ensures { result ≡ enter depth at }
 {
@@ -25,8 +25,8 @@ pub fn enter(depth: usize, at: usize) -> Result<usize, TextFault>
 
 // Reads the block that begins at `from`, with `depth` open constructs around it. Returns the result of the actions and
 // the index after the block, or the first fault in the text: `Syntax` at a token that is not allowed there (with the
-// place `usize::MAX` after the last token), `TooDeep` at a token that takes the number of open constructs beyond 200,
-// `NumberTooWide` at a number of 2^64 or more, or the fault with which an action rejects a part.
+// place `usize::MAX` after the last token), `TooDeep` at a token that takes the number of open constructs beyond
+// `MAX_OPEN`, `NumberTooWide` at a number of 2^64 or more, or the fault with which an action rejects a part.
 #[cycle(blocks)]
 #[tactic(auto, using(crate::proofs::BlockSteps::block_step, text_grammar::proofs::Tokens::next_drop))]
 pub(crate) fn read_block<R: BlockReading>(

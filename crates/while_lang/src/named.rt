@@ -19,7 +19,7 @@ pub struct NamedProg {
 }
 
 impl NamedProg {
-    /// Makes a named program and computes its size.
+    /// Makes a named program and computes its size, once, so that each use of the program in a block takes one look-up.
     pub fn new(name: Items<u8>, prog: Prog, nesting: usize) -> NamedProg
         ensures name { result.name ≡ name }
         ensures prog { result.prog ≡ prog }

@@ -24,7 +24,7 @@ use Rattle.cert_checker.specs.Answers.{Turn, turn_of, IsEarlier, FailsBy, Output
 use Rattle.cert_checker.specs.Working.Cases.{AreAsked}
 use Rattle.cert_checker.specs.Working.Indices.{IndexParts, AreIndexed}
 use Rattle.cert_checker.specs.Working.Roots.{AreRoots, counted_short}
-use Rattle.cert_checker.specs.Working.Questions.{TurnParts}
+use Rattle.cert_checker.specs.Working.Questions.{ActionPassParts}
 
 -- the reason at a pair and an atom, for outputs or for an action; only the style of tests gives the atom after the
 -- action
@@ -66,9 +66,9 @@ pub record PassParts : Type 0 where
   pub right : ℕ
   pub universal : Option ℕ
   pub shorts : List ℕ
-  pub accepting : List ℕ
-  pub banned : ℕ
-  pub needed : List Bool
+  pub acceptance_tests : List ℕ
+  pub forbidden_atoms : ℕ
+  pub needed_terms : List Bool
 
 -- the members of listed pairs and the short hypotheses are marked, and so are their parts
 pub record AreNeeded (t : TableParts) (c : CertParts) (numbers : List ℕ) (marks : List Bool) : Type 0 where
@@ -85,13 +85,13 @@ pub record IsPass (p : PassParts) : Type 0 where
   pub nodes : TablesGrow (tables_of p.problem.tests p.cert) p.tables
   pub indexed : AreIndexed p.index p.cert.pairs
   pub roots : AreRoots p.cert.style p.problem p.tables p.left p.right p.universal p.shorts
-  pub accepting : AreAcceptances p.tables p.accepting
-  pub count : length p.cert.term_nodes ≤ length p.accepting
-  pub there : length p.accepting ≤ length p.tables.terms
-  pub shorts : IsTrue (are_below (length p.accepting) p.shorts)
-  pub banned : HasValues p.tables (set_out (counted_short p.cert.style p.problem)) p.banned
-  pub marks : length p.needed ≡ length p.accepting
-  pub needed : AreNeeded p.tables p.cert p.shorts p.needed
+  pub acceptance_tests : AreAcceptances p.tables p.acceptance_tests
+  pub count : length p.cert.term_nodes ≤ length p.acceptance_tests
+  pub there : length p.acceptance_tests ≤ length p.tables.terms
+  pub shorts : IsTrue (are_below (length p.acceptance_tests) p.shorts)
+  pub forbidden_atoms : HasValues p.tables (set_out (counted_short p.cert.style p.problem)) p.forbidden_atoms
+  pub marks : length p.needed_terms ≡ length p.acceptance_tests
+  pub needed_terms : AreNeeded p.tables p.cert p.shorts p.needed_terms
 
 -- nodes were added to the tables, and nothing else changed
 pub record PassGrows (old new : PassParts) : Type 0 where
@@ -116,17 +116,17 @@ pub record AreForbidden (t : TableParts) (c : CertParts) (q : ProblemParts) (act
 
 -- what must hold of each pair, for its outputs or for an action: the targets, and the pairs that match; without an
 -- action, the outputs must be the same
-pub record IsTurn (p : PassParts) (turn : TurnParts) : Type 0 where
-  pub steps : StepsOf p.tables turn.action p.needed turn.steps
-  pub style : turn.style ≡ option_map_or (λ a. p.cert.style) turn.action UpTo
-  pub pairs : turn.pairs ≡ option_map_or (λ a. p.cert.pairs) turn.action []
-  pub index : turn.index ≡ p.index
-  pub universal : turn.universal ≡ option_map_or (λ a. p.universal) turn.action None
-  pub forbidden : AreForbidden p.tables p.cert p.problem turn.action turn.forbidden
-  pub begin : AreAsked p.tables turn.begin
-  pub end : AreAsked p.tables turn.end
-  pub by_moves : (f : ℕ × ℕ) → Has turn.forbidden f → Has turn.begin f.0 × Has turn.end f.1
-  pub by_pairs : (r : PairParts) (g : ℕ) → Has turn.pairs r → r.test ≡ Some g → Has turn.end g
+pub record IsActionPass (p : PassParts) (action_pass : ActionPassParts) : Type 0 where
+  pub steps : StepsOf p.tables action_pass.action p.needed_terms action_pass.steps
+  pub style : action_pass.style ≡ option_map_or (λ a. p.cert.style) action_pass.action UpTo
+  pub pairs : action_pass.pairs ≡ option_map_or (λ a. p.cert.pairs) action_pass.action []
+  pub index : action_pass.index ≡ p.index
+  pub universal : action_pass.universal ≡ option_map_or (λ a. p.universal) action_pass.action None
+  pub forbidden : AreForbidden p.tables p.cert p.problem action_pass.action action_pass.forbidden
+  pub begin : AreAsked p.tables action_pass.begin
+  pub end : AreAsked p.tables action_pass.end
+  pub by_moves : (f : ℕ × ℕ) → Has action_pass.forbidden f → Has action_pass.begin f.0 × Has action_pass.end f.1
+  pub by_pairs : (r : PairParts) (g : ℕ) → Has action_pass.pairs r → r.test ≡ Some g → Has action_pass.end g
 
 -- what must hold of a pair at two atoms, for its outputs or for an action
 abbrev pub TurnHolds : Style → ProblemParts → CertParts → TestedPair → Option ℕ → Atom → Atom → Type 0

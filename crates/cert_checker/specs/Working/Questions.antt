@@ -16,16 +16,16 @@ use Rattle.cert_steps.specs.NodeTables.{TableParts, AreTables, IsTest, IsTerm, t
 use Rattle.cert_steps.specs.Targets.{AreEntries, chosen}
 use Rattle.cert_checker.specs.Working.Cases.{IsOpen, HoldsThroughout, Extends, AreAsked, AreKnown, known_of}
 use Rattle.cert_checker.specs.Working.Indices.{IndexParts, AreIndexed}
-use Rattle.cert_checker.specs.declared.known.Case.{Case}
-use Rattle.cert_checker.specs.declared.known.Known.TheVariants.{Waits as WaitsFor}
-use Rattle.cert_checker.specs.declared.matching.State.{State}
-use Rattle.cert_checker.specs.declared.matching.State.TheVariants.{Holds, Fails, Waits}
+use Rattle.cert_checker.specs.declared.known.TestCase.{TestCase}
+use Rattle.cert_checker.specs.declared.known.Truth.TheVariants.{Undecided as UndecidedBy}
+use Rattle.cert_checker.specs.declared.matching.Outcome.{Outcome}
+use Rattle.cert_checker.specs.declared.matching.Outcome.TheVariants.{Holds, Fails, Undecided}
 
 -- What must hold of pairs for an action or, without one, for their outputs: the targets of terms; the style, the listed
 -- pairs with their index, and the universal term for matching sets; pairs of tests that forbid a move if the first is
 -- true at its beginning and the second at its end; and the tests that the forbidden pairs name at the first atom, and
 -- those that they and the listed pairs name at the second.
-pub record TurnParts : Type 0 where
+pub record ActionPassParts : Type 0 where
   pub action : Option ℕ
   pub steps : List (List (ℕ × ℕ))
   pub style : Style
@@ -36,12 +36,12 @@ pub record TurnParts : Type 0 where
   pub begin : List ℕ
   pub end : List ℕ
 
--- A question about a pair in a turn, over these tables: the pair's test, the targets of its sets, and the tests that
--- these name.
+-- A question about a pair in an action's pass, over these tables: the pair's test, the targets of its sets, and the
+-- tests that these name.
 pub record QuestionParts : Type 0 where
   pub tables : TableParts
-  pub turn : TurnParts
-  pub own : Option ℕ
+  pub action_pass : ActionPassParts
+  pub pair_test : Option ℕ
   pub left : List (ℕ × ℕ)
   pub right : List (ℕ × ℕ)
   pub asked : List ℕ
@@ -49,27 +49,27 @@ pub record QuestionParts : Type 0 where
 -- the tests that the question names at the first atom, by the pair and the targets, and by moves; and those at the
 -- second atom
 abbrev pub NamesByTargets : QuestionParts → ℕ → Type 0
-NamesByTargets q g = (q.own ≡ Some g) ⊎ ((e : ℕ × ℕ) × (Has q.left e ⊎ Has q.right e) × (e.1 ≡ g))
+NamesByTargets q g = (q.pair_test ≡ Some g) ⊎ ((e : ℕ × ℕ) × (Has q.left e ⊎ Has q.right e) × (e.1 ≡ g))
 
 abbrev pub NamesByMoves : QuestionParts → ℕ → Type 0
-NamesByMoves q g = (f : ℕ × ℕ) × Has q.turn.forbidden f × (f.0 ≡ g)
+NamesByMoves q g = (f : ℕ × ℕ) × Has q.action_pass.forbidden f × (f.0 ≡ g)
 
 abbrev pub NamesAtEnd : QuestionParts → ℕ → Type 0
-NamesAtEnd q g = ((f : ℕ × ℕ) × Has q.turn.forbidden f × (f.1 ≡ g)) ⊎ ((p : PairParts) × Has q.turn.pairs p × (p.test ≡ Some g))
+NamesAtEnd q g = ((f : ℕ × ℕ) × Has q.action_pass.forbidden f × (f.1 ≡ g)) ⊎ ((p : PairParts) × Has q.action_pass.pairs p × (p.test ≡ Some g))
 
 -- the numbers are terms and tests of the tables, the named tests are listed, and pairs of the plain style have no test
 pub record IsQuestion (t : TableParts) (q : QuestionParts) : Type 0 where
-  pub pairs : (p : PairParts) → Has q.turn.pairs p → IsNumberSet (length t.terms) p.left × IsNumberSet (length t.terms) p.right
-  pub untested : q.turn.style ≡ Plain → (p : PairParts) → Has q.turn.pairs p → p.test ≡ None
-  pub indexed : AreIndexed q.turn.index q.turn.pairs
-  pub universal : (u : ℕ) → q.turn.universal ≡ Some u → IsTerm t u
-  pub own : (k : ℕ) → q.own ≡ Some k → IsTest t k
+  pub pairs : (p : PairParts) → Has q.action_pass.pairs p → IsNumberSet (length t.terms) p.left × IsNumberSet (length t.terms) p.right
+  pub untested : q.action_pass.style ≡ Plain → (p : PairParts) → Has q.action_pass.pairs p → p.test ≡ None
+  pub indexed : AreIndexed q.action_pass.index q.action_pass.pairs
+  pub universal : (u : ℕ) → q.action_pass.universal ≡ Some u → IsTerm t u
+  pub pair_test : (k : ℕ) → q.pair_test ≡ Some k → IsTest t k
   pub left : AreEntries t q.left
   pub right : AreEntries t q.right
-  pub begin : AreAsked t q.turn.begin
-  pub end : AreAsked t q.turn.end
-  pub by_moves : (g : ℕ) → NamesByMoves q g → Has q.turn.begin g
-  pub at_end : (g : ℕ) → NamesAtEnd q g → Has q.turn.end g
+  pub begin : AreAsked t q.action_pass.begin
+  pub end : AreAsked t q.action_pass.end
+  pub by_moves : (g : ℕ) → NamesByMoves q g → Has q.action_pass.begin g
+  pub at_end : (g : ℕ) → NamesAtEnd q g → Has q.action_pass.end g
 
 -- `tests` contains the tests that the question names by the pair and the targets
 pub record AreNamed (t : TableParts) (q : QuestionParts) (tests : List ℕ) : Type 0 where
@@ -82,15 +82,15 @@ pub record IsPosed (q : QuestionParts) : Type 0 where
   pub question : IsQuestion q.tables q
   pub named : AreNamed q.tables q q.asked
 
--- the question of a turn about a pair with this test and these targets
-abbrev pub IsAskedOf : TableParts → TurnParts → Option ℕ → List (ℕ × ℕ) → List (ℕ × ℕ) → QuestionParts → Type 0
-IsAskedOf t turn own left right q = q ≡ record { tables = t; turn = turn; own = own; left = left; right = right; asked = q.asked }
+-- the question of an action's pass about a pair with this test and these targets
+abbrev pub IsAskedOf : TableParts → ActionPassParts → Option ℕ → List (ℕ × ℕ) → List (ℕ × ℕ) → QuestionParts → Type 0
+IsAskedOf t action_pass own left right q = q ≡ record { tables = t; action_pass = action_pass; pair_test = own; left = left; right = right; asked = q.asked }
 
 -- what is known of the listed tests when some primitive tests of both atoms are decided
-pub record IsCase (t : TableParts) (q : QuestionParts) (asked : List ℕ) (decided : List (Option Bool)) (c : Case) : Type 0 where
+pub record IsTestCase (t : TableParts) (q : QuestionParts) (asked : List ℕ) (decided : List (Option Bool)) (c : TestCase) : Type 0 where
   pub targets : AreKnown 0 t (take t.width decided) asked c.begin.items
-  pub begin : AreKnown 0 t (take t.width decided) q.turn.begin c.begin.items
-  pub end : AreKnown t.width t (drop t.width decided) q.turn.end c.end.items
+  pub begin : AreKnown 0 t (take t.width decided) q.action_pass.begin c.begin.items
+  pub end : AreKnown t.width t (drop t.width decided) q.action_pass.end c.end.items
 
 -- The values of two atoms are concatenated: first those of the atom at the beginning of a move, then those of the atom
 -- at its end.
@@ -106,8 +106,8 @@ test_holds t test atom = truth (test_of (nodes_in t) test) atom
 
 -- the pair's test is true at the first atom, and the move to the second atom is not forbidden
 pub record Counts (t : TableParts) (q : QuestionParts) (atom to : Atom) : Type 0 where
-  pub own : IsTrue (test_holds t q.own atom)
-  pub free : (f : ℕ × ℕ) → Has q.turn.forbidden f → (holds_at t f.0 atom && holds_at t f.1 to) ≡ false
+  pub pair_test : IsTrue (test_holds t q.pair_test atom)
+  pub free : (f : ℕ × ℕ) → Has q.action_pass.forbidden f → (holds_at t f.0 atom && holds_at t f.1 to) ≡ false
 
 -- these pairs match two sets of terms in a style; in the styles up to congruence only the pairs whose test is true at
 -- the atom count
@@ -118,7 +118,7 @@ AreMatchedIn nodes Under u ps es fs to = IsCongruent u (pairs_at (map (tested_pa
 
 -- the pairs of the question match two sets of terms
 abbrev pub AreMatchedBy : TableParts → QuestionParts → List Term → List Term → Atom → Type 0
-AreMatchedBy t q es fs to = AreMatchedIn (nodes_in t) q.turn.style (option_map (term_at t) q.turn.universal) q.turn.pairs es fs to
+AreMatchedBy t q es fs to = AreMatchedIn (nodes_in t) q.action_pass.style (option_map (term_at t) q.action_pass.universal) q.action_pass.pairs es fs to
 
 -- the question holds at the two atoms: if the move counts, the pairs match the terms that the targets stand for
 abbrev pub MatchAt : TableParts → QuestionParts → Atom → Type 0
@@ -127,12 +127,12 @@ MatchAt t q x =
     → AreMatchedBy t q (chosen t q.left (first_half t x)) (chosen t q.right (first_half t x)) (second_half t x)
 
 -- what is known of a property at all values that extend the decided tests
-abbrev pub IsState : (Atom → Type 0) → List (Option Bool) → State → Type 0
-IsState P decided Holds = HoldsThroughout P decided
-IsState P decided Fails = (atom : Atom) → Extends decided atom → P atom → ⊥
-IsState P decided (Waits k) = IsOpen decided k
+abbrev pub IsOutcome : (Atom → Type 0) → List (Option Bool) → Outcome → Type 0
+IsOutcome P decided Holds = HoldsThroughout P decided
+IsOutcome P decided Fails = (atom : Atom) → Extends decided atom → P atom → ⊥
+IsOutcome P decided (Undecided k) = IsOpen decided k
 
--- a test that the question names waits for the test
-abbrev pub IsWaited : QuestionParts → Case → ℕ → Type 0
+-- a test that the question names depends on this undecided test
+abbrev pub IsWaited : QuestionParts → TestCase → ℕ → Type 0
 IsWaited q c k =
-    (g : ℕ) × (((NamesByTargets q g ⊎ NamesByMoves q g) × (known_of c.begin.items g ≡ WaitsFor k)) ⊎ (NamesAtEnd q g × (known_of c.end.items g ≡ WaitsFor k)))
+    (g : ℕ) × (((NamesByTargets q g ⊎ NamesByMoves q g) × (known_of c.begin.items g ≡ UndecidedBy k)) ⊎ (NamesAtEnd q g × (known_of c.end.items g ≡ UndecidedBy k)))

@@ -3,7 +3,7 @@ use Rattle.std.specs.Prelude.{◌≡◌, ◌⊎◌, ℕ, Bool, true, List, slice
 use Rattle.kat_model.specs.Members.{Has, IsSubset}
 use Rattle.term_nodes.specs.NumberSets.{NumberPair}
 use Rattle.certificate.specs.PairParts.{PairParts}
-use Rattle.cert_checker.specs.declared.known.Known.{Known}
+use Rattle.cert_checker.specs.declared.known.Truth.{Truth}
 use Rattle.cert_checker.specs.declared.saturation.Counted.{Counted}
 use Rattle.cert_checker.specs.Working.Indices.{AreIndexed}
 use Rattle.cert_checker.specs.Working.Matching.{does_count, counting}
@@ -31,17 +31,17 @@ pub record GoesOn (ps : List NumberPair) (old new : List ℕ) : Type 0 where
   pub made : (set : ℕ → Bool) → IsClosed ps set → HoldsAll set old → HoldsAll set new
 
 -- if the pair counts and all of one of its sets was present, all of the other is
-abbrev pub IsTended : Bool → List Known → List ℕ → List ℕ → PairParts → Type 0
+abbrev pub IsTended : Bool → List Truth → List ℕ → List ℕ → PairParts → Type 0
 IsTended also known old new p =
     does_count also known p ≡ true → (IsSubset p.left old → IsSubset p.right new) × (IsSubset p.right old → IsSubset p.left new)
 
 -- the same for the pairs at these places
-abbrev pub AreTendedAt : List PairParts → Bool → List Known → List ℕ → List ℕ → List ℕ → Type 0
+abbrev pub AreTendedAt : List PairParts → Bool → List Truth → List ℕ → List ℕ → List ℕ → Type 0
 AreTendedAt ps also known old new places = (k : ℕ) (p : PairParts) → Has places k → slice_get ps k ≡ Some p → IsTended also known old new p
 
 -- the sets of the pairs that count; these pairs have an index
 abbrev pub counting_in : Counted → List NumberPair
-counting_in c = counting c.also_open c.known.now c.turn.now.pairs
+counting_in c = counting c.also_open c.known.now c.action_pass.now.pairs
 
 abbrev pub IsIndexed : Counted → Type 0
-IsIndexed c = AreIndexed c.turn.now.index c.turn.now.pairs
+IsIndexed c = AreIndexed c.action_pass.now.index c.action_pass.now.pairs

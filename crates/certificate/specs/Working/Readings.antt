@@ -1,29 +1,38 @@
 -- The answers of the parts of the reader, for the code and the proofs. Memory may run out.
-use Rattle.std.specs.Prelude.{◌≡◌, ◌+◌, ℕ, true, false, List, [], ◌∷◌, length, map, Option, Some, None, Result, Ok, Err}
-use Rattle.std.specs.Borrow.{Bor}
-use Rattle.std.specs.List.{list_all, list_any}
-use Rattle.std.specs.declared.cmp.Ordering.{Ordering}
-use Rattle.std.specs.declared.cmp.Ordering.TheVariants.{Equal}
+use Rattle.std.specs.Prelude.{◌≡◌, ℕ, true, false, List, [], ◌∷◌, Option, Some, None, Result, Ok, Err}
 use Rattle.kat_model.specs.Members.{SameMembers}
-use Rattle.kat_model.specs.Strings.{Move}
-use Rattle.line_format.specs.Lines.{parts_of}
-use Rattle.line_format.specs.Numerals.{is_numeral, value_of, too_wide}
+use Rattle.kat_model.specs.Strings.{Move, GuardedString}
+use Rattle.line_format.specs.Numerals.{too_wide}
+use Rattle.line_format.specs.NumberedLines.{Answers, AddsTo}
 use Rattle.certificate.specs.declared.entry.Entry.{Entry}
 use Rattle.certificate.specs.declared.entry.LineFault.{LineFault}
 use Rattle.certificate.specs.declared.entry.LineFault.TheVariants.{NoMemory as NoRoom, Form, Wide}
 use Rattle.certificate.specs.declared.moves.MoveFault.{MoveFault}
 use Rattle.certificate.specs.declared.moves.MoveFault.TheVariants.{NoMemory as NoSpace, Form as Formless, Wide as TooWide}
 use Rattle.certificate.specs.declared.draft.Draft.{Draft}
+use Rattle.certificate.specs.declared.string_draft.StringDraft.{StringDraft}
 use Rattle.certificate.specs.declared.evidence.EvidenceFault.{EvidenceFault}
 use Rattle.certificate.specs.declared.evidence.EvidenceFault.TheVariants.{NoMemory}
 use Rattle.certificate.specs.Certs.{CertParts, cert_of, IsCert}
-use Rattle.certificate.specs.Faults.{Answer, is_wide, section_of, may_stand, names_earlier, entry_fault, with_entry, line_fault_after}
+use Rattle.certificate.specs.Faults.{Answer, is_wide, section_of, may_stand, names_earlier, entry_format}
 
--- the answer is the given one, unless memory ran out
-abbrev pub Answers : Answer → Answer → Type 0
-Answers told (Ok e) = told ≡ Ok e
-Answers told (Err NoMemory) = Unit {0}
-Answers told (Err fault) = told ≡ Err fault
+-- P, unless the fault is that memory ran out
+abbrev pub unless_memory : EvidenceFault → Type 0 → Type 0
+unless_memory NoMemory P = Unit {0}
+unless_memory fault P = P
+
+-- a fact gives itself unless memory ran out, and so does a fact that follows from one
+pub is_told : (fault : EvidenceFault) (told : Answer) → told ≡ Err fault → unless_memory fault (told ≡ Err fault)
+is_told NoMemory told e = tt
+is_told fault told e = e
+
+pub is_passed_on : (fault : EvidenceFault) (o : Option EvidenceFault) (told : Answer) → unless_memory fault (o ≡ Some fault) → (o ≡ Some fault → told ≡ Err fault) → unless_memory fault (told ≡ Err fault)
+is_passed_on NoMemory o told e f = tt
+is_passed_on fault o told e f = f e
+
+-- the result is this answer, unless memory ran out
+abbrev pub Reads : Answer → Answer → Type 0
+Reads told result = Answers unless_memory told result
 
 -- the one number of a list
 abbrev pub single_of : List ℕ → Option ℕ
@@ -36,13 +45,6 @@ ReadsEntry o (Ok e) = (o ≡ Some e) × (is_wide e ≡ false)
 ReadsEntry o (Err NoRoom) = Unit {0}
 ReadsEntry o (Err Form) = o ≡ None
 ReadsEntry o (Err (Wide section)) = (e : Entry) × (o ≡ Some e) × (is_wide e ≡ true) × (section_of e ≡ section)
-
--- only equal members compare as equal, and each compares as equal to itself
-abbrev pub TellsApart : {K : Type 0} → (K → K → Ordering) → Type 0
-TellsApart {K} R = (x y : K) → R x y ≡ Equal → x ≡ y
-
-abbrev pub IsReflexive : {K : Type 0} → (K → K → Ordering) → Type 0
-IsReflexive {K} R = (x : K) → R x x ≡ Equal
 
 -- the entries that a draft holds
 abbrev pub draft_parts : Draft → CertParts
@@ -62,9 +64,11 @@ pub record MayBeAdded (d : Draft) (e : Entry) : Type 0 where
 
 -- an entry is added to a draft, or line n has a fault
 abbrev pub AddsEntry : Draft → ℕ → Option Entry → Draft → Result (Unit {0}) EvidenceFault → Type 0
-AddsEntry old n o new (Ok x) = IsDraft new × ((e : Entry) × (o ≡ Some e) × (entry_fault (draft_parts old) n e ≡ None) × (draft_parts new ≡ with_entry (draft_parts old) e))
-AddsEntry old n o new (Err NoMemory) = Unit {0}
-AddsEntry old n o new (Err fault) = line_fault_after (draft_parts old) n o ≡ Some fault
+AddsEntry old n o new result = AddsTo entry_format unless_memory IsDraft draft_parts old n o new result
+
+-- the string that a draft holds
+abbrev pub string_parts : StringDraft → GuardedString
+string_parts d = record { first = d.first; rest = d.moves.items }
 
 -- the result of reading a line that is this move, or is not a move
 abbrev pub ReadsMove : Option Move → Result Move MoveFault → Type 0

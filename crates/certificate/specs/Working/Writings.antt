@@ -1,5 +1,5 @@
 -- Parts of texts, as the writer appends them.
-use Rattle.std.specs.Prelude.{ℕ, List, [], ◌∷◌, ◌++◌}
+use Rattle.std.specs.Prelude.{ℕ, List, ◌++◌}
 use Rattle.std.specs.List.{flat_map}
 use Rattle.kat_model.specs.Strings.{Move, GuardedString}
 use Rattle.line_format.specs.Lines.{line_of, with_feed}

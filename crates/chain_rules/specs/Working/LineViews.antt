@@ -5,10 +5,10 @@ use Rattle.kat_model.specs.Trees.{Term, kat_tree}
 use Rattle.chain_rules.specs.Chains.{Equation, equation, ChainTree, ends_of, LineParts, lines_of}
 use Rattle.chain_rules.specs.ChainViews.{unboxed}
 use Rattle.chain_rules.specs.declared.chain.Line.{Line}
-use Rattle.chain_rules.specs.declared.fixed_points.Ends.{Ends}
+use Rattle.chain_rules.specs.declared.fixed_points.ChainEnds.{ChainEnds}
 
 -- the equation between two terms of the program
-abbrev pub equation_of : Ends → Equation
+abbrev pub equation_of : ChainEnds → Equation
 equation_of ends = equation (kat_tree ends.first.now) (kat_tree ends.last.now)
 
 -- the line after this term

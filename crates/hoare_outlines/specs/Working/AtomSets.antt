@@ -2,7 +2,7 @@
 use Rattle.std.specs.Prelude.{◌≡◌, ℕ, Bool, List, [], ◌∷◌, length, IsTrue}
 use Rattle.kat_model.specs.Problems.{ProblemParts}
 use Rattle.kat_model.specs.Steps.{Atom}
-use Rattle.simple_hyps.specs.TestTerms.{IsAllowed}
+use Rattle.hypothesis_kinds.specs.TestTerms.{IsAllowed}
 use Rattle.outline_diagrams.specs.StepFunctions.{StepDiagramsParts, IsStepDiagram}
 
 abbrev pub AtomSet : Type 0

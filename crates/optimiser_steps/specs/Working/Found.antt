@@ -5,9 +5,9 @@ use Rattle.while_lang.specs.Programs.{ProgTree, StmtTree, stmts_of}
 use Rattle.while_lang.specs.ProgramViews.{stmt_tree}
 use Rattle.optimiser_theory.specs.Steps.{Step}
 use Rattle.optimiser_theory.specs.Paths.{NoStep, NoStepBefore, IsFirstStep}
-use Rattle.optimiser_steps.specs.declared.made.Made.{Made}
-use Rattle.optimiser_steps.specs.declared.alone.SharedEnd.{SharedEnd}
-use Rattle.optimiser_steps.specs.declared.within.Found.{Found}
+use Rattle.optimiser_steps.specs.declared.rewriting.Made.{Made}
+use Rattle.optimiser_steps.specs.declared.statement_steps.SharedEnd.{SharedEnd}
+use Rattle.optimiser_steps.specs.declared.paths.Found.{Found}
 
 -- no step with a number from low to below high is possible on the list
 abbrev pub NoStepFrom : FileParts → List StmtTree → ℕ → ℕ → Type 0

@@ -1,7 +1,5 @@
 -- Results of the parts of the reader, for private contracts and proofs. Memory may run out.
 use Rattle.std.specs.Prelude.{◌≡◌, ℕ, true, false, Option, Some, None, Result, Ok, Err}
-use Rattle.std.specs.declared.cmp.Ordering.{Ordering}
-use Rattle.std.specs.declared.cmp.Ordering.TheVariants.{Equal}
 use Rattle.kat_model.specs.Members.{SameMembers}
 use Rattle.outline_notes.specs.declared.line.NoteLine.{NoteLine}
 use Rattle.outline_notes.specs.declared.line.LineFault.{LineFault}
@@ -10,13 +8,26 @@ use Rattle.outline_notes.specs.declared.draft.Draft.{Draft}
 use Rattle.outline_notes.specs.declared.fault.NotesFault.{NotesFault}
 use Rattle.outline_notes.specs.declared.fault.NotesFault.TheVariants.{NoMemory}
 use Rattle.outline_notes.specs.NoteLists.{NotesParts, notes_of, AreNotes}
-use Rattle.outline_notes.specs.Faults.{Answer, is_wide, section_of, may_stand, names_earlier, line_fault_of, with_line, line_fault_after}
+use Rattle.line_format.specs.NumberedLines.{Answers, AddsTo}
+use Rattle.outline_notes.specs.Faults.{Answer, is_wide, section_of, may_stand, names_earlier, note_format}
+
+-- P, unless the fault is that memory ran out
+abbrev pub unless_memory : NotesFault → Type 0 → Type 0
+unless_memory NoMemory P = Unit {0}
+unless_memory fault P = P
+
+-- a fact gives itself unless memory ran out, and so does a fact that follows from one
+pub is_told : (fault : NotesFault) (told : Answer) → told ≡ Err fault → unless_memory fault (told ≡ Err fault)
+is_told NoMemory told e = tt
+is_told fault told e = e
+
+pub is_passed_on : (fault : NotesFault) (o : Option NotesFault) (told : Answer) → unless_memory fault (o ≡ Some fault) → (o ≡ Some fault → told ≡ Err fault) → unless_memory fault (told ≡ Err fault)
+is_passed_on NoMemory o told e f = tt
+is_passed_on fault o told e f = f e
 
 -- the result is this answer, unless memory ran out
-abbrev pub Answers : Answer → Answer → Type 0
-Answers told (Ok ns) = told ≡ Ok ns
-Answers told (Err NoMemory) = Unit {0}
-Answers told (Err fault) = told ≡ Err fault
+abbrev pub Reads : Answer → Answer → Type 0
+Reads told result = Answers unless_memory told result
 
 -- the result of reading a line whose content, if any, is `o`
 abbrev pub ReadsLine : Option NoteLine → Result NoteLine LineFault → Type 0
@@ -24,13 +35,6 @@ ReadsLine o (Ok l) = (o ≡ Some l) × (is_wide l ≡ false)
 ReadsLine o (Err NoRoom) = Unit {0}
 ReadsLine o (Err Form) = o ≡ None
 ReadsLine o (Err (Wide section)) = (l : NoteLine) × (o ≡ Some l) × (is_wide l ≡ true) × (section_of l ≡ section)
-
--- only equal members compare as equal, and each member compares as equal to itself
-abbrev pub TellsApart : {K : Type 0} → (K → K → Ordering) → Type 0
-TellsApart {K} R = (x y : K) → R x y ≡ Equal → x ≡ y
-
-abbrev pub IsReflexive : {K : Type 0} → (K → K → Ordering) → Type 0
-IsReflexive {K} R = (x : K) → R x x ≡ Equal
 
 -- the notes with the lines of a draft
 abbrev pub draft_parts : Draft → NotesParts
@@ -49,6 +53,4 @@ pub record MayBeAdded (d : Draft) (l : NoteLine) : Type 0 where
 
 -- the line is added to the draft, or line n has a fault
 abbrev pub AddsLine : Draft → ℕ → Option NoteLine → Draft → Result (Unit {0}) NotesFault → Type 0
-AddsLine old n o new (Ok x) = IsDraft new × ((l : NoteLine) × (o ≡ Some l) × (line_fault_of (draft_parts old) n l ≡ None) × (draft_parts new ≡ with_line (draft_parts old) l))
-AddsLine old n o new (Err NoMemory) = Unit {0}
-AddsLine old n o new (Err fault) = line_fault_after (draft_parts old) n o ≡ Some fault
+AddsLine old n o new result = AddsTo note_format unless_memory IsDraft draft_parts old n o new result

@@ -5,6 +5,6 @@ use Rattle.problem_file.specs.Files.{GoalTree, FileParts}
 use Rattle.abstraction.specs.Abstracts.{HasNumbersInRange}
 use Rattle.tool_decide.specs.Batch.{with_each}
 
--- those of each goal are in range
+-- the numbers of the file with each goal are in range
 abbrev pub AreInRange : FileParts → List GoalTree → Type 0
 AreInRange f more = (g : FileParts) → Has (with_each f more) g → HasNumbersInRange g

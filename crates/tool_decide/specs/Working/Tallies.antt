@@ -6,11 +6,11 @@ use Rattle.kat_model.specs.Strings.{GuardedString}
 use Rattle.certificate.specs.Decisions.{IsShortest}
 use Rattle.tool_decide.specs.Bench.{IsTally}
 
--- both sides are not the same, and a shortest string that refutes the problem has so many moves
+-- both sides are not the same, and a shortest string that refutes the problem has `moves` moves
 abbrev pub HasFewest : ProblemParts → ℕ → Type 0
 HasFewest q moves = (Same q → ⊥) × ((x : GuardedString) × IsShortest q x × (moves ≡ length x.rest))
 
--- the numbers of the first k problems, each of whose strings has fewer than 2^64 moves
+-- the numbers for the first `k` problems, whose strings have fewer than 2^64 moves each
 pub record IsTallied (k equal different moves : ℕ) : Type 0 where
   pub is_tally : IsTally k equal different moves
   pub few_equal : equal ≤ k

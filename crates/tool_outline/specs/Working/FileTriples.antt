@@ -2,14 +2,14 @@
 use Rattle.std.specs.Prelude.{◌≡◌, ◌⊎◌, ℕ, List, Ok}
 use Rattle.problem_file.specs.Files.{FileParts}
 use Rattle.abstraction.specs.Abstracts.{AbstractParts, abstract_of}
-use Rattle.simple_hyps.specs.TestTerms.{AreSimple}
+use Rattle.hypothesis_kinds.specs.TestTerms.{AreSimple}
 use Rattle.outline_rules.specs.Tasks.{task_parts}
 use Rattle.outline_rules.specs.declared.task.Task.{Task}
 use Rattle.tool_outline.specs.declared.triple.Triple.{Triple}
-use Rattle.tool_inputs.specs.Posing.{AsksNone}
+use Rattle.tool_inputs.specs.TextProblem.{HasNoAbstraction}
 use Rattle.tool_outline.specs.Triples.{HasTask, HasNoTask}
 
--- the problem of the abstraction and the task, where all hypotheses are simple
+-- the problem of the abstraction with this task; all hypotheses are simple
 pub record IsSimpleTriple (a : AbstractParts) (own : Task) (t : Triple) : Type 0 where
   pub problem : t.problem ≡ a.problem
   pub task : t.task ≡ own
@@ -22,6 +22,6 @@ pub record IsTripleOfFile (f : FileParts) (t : Triple) : Type 0 where
   pub problem : t.problem ≡ abstract.problem
   pub task : HasTask f abstract.problem (task_parts t.task)
 
--- or none: it has no abstraction, or its question is none of which there are outlines
+-- the file has no triple: it has no abstraction, or its question has no outlines
 abbrev pub AsksNoTask : FileParts → List ℕ → Type 0
-AsksNoTask f output = AsksNone f output ⊎ ((a : AbstractParts) × (abstract_of f ≡ Ok a) × HasNoTask f a.problem output)
+AsksNoTask f output = HasNoAbstraction f output ⊎ ((a : AbstractParts) × (abstract_of f ≡ Ok a) × HasNoTask f a.problem output)

@@ -1,4 +1,4 @@
--- What a text of GKAT declares.
+-- The kinds of names that a text of GKAT declares.
 use Rattle.std.specs.Prelude.{ℕ, List, codes}
 use Rattle.text_scopes.specs.declared.meaning.Meaning.{Meaning}
 use Rattle.text_scopes.specs.declared.meaning.Meaning.TheVariants.{Test as TestMeaning, Action as ActionMeaning}

@@ -6,8 +6,8 @@ use Rattle.kat_model.specs.Steps.{Atom}
 use Rattle.test_diagrams.specs.Functions.{DiagramsParts, value_of, IsDiagramId, IsAtomOf, IsDiagramOf, IsIndependent}
 use Rattle.walk_under.specs.declared.bars.Bar.{Bar}
 use Rattle.walk_under.specs.declared.bars.Bars.{Bars}
-use Rattle.walk_under.specs.declared.bars.State.{State}
-use Rattle.walk_under.specs.declared.bars.Parts.{Parts}
+use Rattle.walk_under.specs.declared.bars.ImageKey.{ImageKey}
+use Rattle.walk_under.specs.declared.bars.RegionParts.{RegionParts}
 
 -- the second atom is the first with some of the tests set to new values
 pub data IsReset (tests : List ℕ) : Atom → Atom → Type 0 where
@@ -23,7 +23,7 @@ pub record IsForgotten (d : DiagramsParts) (whole : ℕ) (tests : List ℕ) (id 
 
 -- The region in two parts: the atoms at which the bar starts and those at which it does not, each with the fresh tests
 -- of the bar forgotten.
-pub record IsSplit (d : DiagramsParts) (r : Bar) (region : ℕ) (p : Parts) : Type 0 where
+pub record IsSplit (d : DiagramsParts) (r : Bar) (region : ℕ) (p : RegionParts) : Type 0 where
   pub start : ℕ
   pub other : ℕ
   pub is_start : IsDiagramOf d start (λ a. value_of d region a && value_of d r.from a)
@@ -72,8 +72,8 @@ pub record AreBars (d : DiagramsParts) (bars : List Bar) : Type 0 where
   pub fresh : (i : ℕ) (r : Bar) → slice_get bars i ≡ Some r → AreUnasked d bars i r.fresh.items
 
 -- each image in the table is correct
-abbrev pub AreImages : DiagramsParts → List Bar → List (State × ℕ) → Type 0
-AreImages d bars images = (e : State × ℕ) → Has images e → IsDiagramId d e.0.region × IsImageOf d (take e.0.count bars) e.0.region e.1
+abbrev pub AreImages : DiagramsParts → List Bar → List (ImageKey × ℕ) → Type 0
+AreImages d bars images = (e : ImageKey × ℕ) → Has images e → IsDiagramId d e.0.region × IsImageOf d (take e.0.count bars) e.0.region e.1
 
 -- the bars of an action are valid, no bar depends on the unasked tests, and the stored images are correct
 pub record AreSoundBars (d : DiagramsParts) (b : Bars) : Type 0 where
@@ -82,5 +82,5 @@ pub record AreSoundBars (d : DiagramsParts) (b : Bars) : Type 0 where
   pub images : AreImages d b.bars.items b.images.entries
 
 -- whether two states are equal
-abbrev pub same_state : State → State → Bool
-same_state s t = nat_eq s.region t.region && nat_eq s.count t.count
+abbrev pub same_key : ImageKey → ImageKey → Bool
+same_key s t = nat_eq s.region t.region && nat_eq s.count t.count

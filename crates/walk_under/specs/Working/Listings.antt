@@ -10,11 +10,11 @@ use Rattle.test_diagrams.specs.Functions.{DiagramsParts, value_of, IsDiagramId, 
 use Rattle.walk_under.specs.TestedWalks.{TestedOrigin, TestedEntry}
 use Rattle.walk_under.specs.Working.Entries.{EntryParts}
 use Rattle.walk_under.specs.Working.Allowance.{IsWithin}
-use Rattle.walk_under.specs.declared.entry.Origin.{Origin}
+use Rattle.walk_under.specs.declared.entry.StepOrigin.{StepOrigin}
 use Rattle.walk_under.specs.declared.parts.Part.{Part}
 use Rattle.walk_pairs.specs.IdSets.{IsIdSet}
 
-abbrev pub origin_of : DiagramsParts → Origin → TestedOrigin
+abbrev pub origin_of : DiagramsParts → StepOrigin → TestedOrigin
 origin_of d o = record { place = o.place; act = o.act; region = value_of d o.region }
 
 abbrev pub pair_of : NodeParts → EntryParts → SetPair
@@ -32,7 +32,7 @@ pub record IsIdEntry (store : NodeParts) (d : DiagramsParts) (allowed : ℕ) (e 
   pub right : IsIdSet store d.tests e.right
   pub test : IsDiagramId d e.test
   pub within : IsWithin d e.test allowed
-  pub region : (o : Origin) → e.origin ≡ Some o → IsDiagramId d o.region
+  pub region : (o : StepOrigin) → e.origin ≡ Some o → IsDiagramId d o.region
 
 -- the atoms of the old diagram, without those of the entry if it has these sets
 pub record IsWithoutPair (c d : DiagramsParts) (e : EntryParts) (left right : List ℕ) (old id : ℕ) : Type 0 where

@@ -21,21 +21,21 @@ use Rattle.walk_under.specs.Working.Entries.{EntryParts}
 use Rattle.walk_under.specs.Working.Allowance.{IsAllowance, IsWithin, HasAllowedSource}
 use Rattle.walk_under.specs.Working.Listings.{pair_of, entries_of, IsIdEntry, AreLevelAtoms, IsNextPart}
 use Rattle.walk_under.specs.declared.parts.Part.{Part}
-use Rattle.walk_under.specs.declared.walk.Walk.{Walk}
-use Rattle.walk_under.specs.declared.walk.Stride.{Stride}
-use Rattle.walk_under.specs.declared.walk.Turn.{Turn}
+use Rattle.walk_under.specs.declared.walk.TestedWorklist.{TestedWorklist}
+use Rattle.walk_under.specs.declared.walk.StepSource.{StepSource}
+use Rattle.walk_under.specs.declared.walk.TakenPair.{TakenPair}
 use Rattle.walk_pairs.specs.declared.closed.ClosedIds.{ClosedIds}
-use Rattle.walk_under.specs.declared.walk.BothSteps.{BothSteps}
+use Rattle.walk_pairs.specs.declared.found.BothSteps.{BothSteps}
 
--- the setting of a walk: the hypotheses that count as short, the problem with only the other hypotheses, and the store
+-- the context of a walk: the hypotheses that count as short, the problem with only the other hypotheses, and the store
 -- of terms
-pub record Setting : Type 0 where
+pub record WalkContext : Type 0 where
   pub shorts : List Term
   pub problem : ProblemParts
   pub store : NodeParts
 
 -- the walk is over the store, and has processed the first `done` of its pairs
-pub record IsUnderWay (s : Setting) (w : Walk) (done : ℕ) : Type 0 where
+pub record IsUnderWay (s : WalkContext) (w : TestedWorklist) (done : ℕ) : Type 0 where
   pub sound : AreNodes s.store
   pub tests : w.diagrams.tests ≡ s.problem.tests
   pub allowance : IsAllowance w.diagrams s.shorts s.problem.actions w.moves
@@ -46,80 +46,80 @@ pub record IsUnderWay (s : Setting) (w : Walk) (done : ℕ) : Type 0 where
   pub walk : IsTestedWalk s.shorts s.problem (entries_of s.store w.diagrams w.listing.entries.items) done
 
 -- the walk processes the entry by the action, from all atoms at which the sets were reached by the same number of moves
-pub record IsAtStride (s : Setting) (w : Walk) (stride : Stride) (from : EntryParts) : Type 0 where
-  pub under_way : IsUnderWay s w stride.place
-  pub at : slice_get w.listing.entries.items stride.place ≡ Some from
-  pub level : stride.level ≡ from.level
-  pub atoms : AreLevelAtoms w.diagrams w.listing.entries.items from stride.test
-  pub of_actions : stride.act < s.problem.actions
+pub record IsAtSource (s : WalkContext) (w : TestedWorklist) (source : StepSource) (from : EntryParts) : Type 0 where
+  pub under_way : IsUnderWay s w source.place
+  pub at : slice_get w.listing.entries.items source.place ≡ Some from
+  pub level : source.level ≡ from.level
+  pub atoms : AreLevelAtoms w.diagrams w.listing.entries.items from source.test
+  pub of_actions : source.act < s.problem.actions
 
 -- The walk has listed entries such that, after the allowed moves by the action from the start atoms, the next sets of
 -- the entry are joined.
-pub record IsVisited (s : Setting) (old new : Walk) (stride : Stride) (from : EntryParts) (IsStart : Atom → Type 0) : Type 0 where
-  pub stands : IsAtStride s new stride from
+pub record IsVisited (s : WalkContext) (old new : TestedWorklist) (source : StepSource) (from : EntryParts) (IsStart : Atom → Type 0) : Type 0 where
+  pub stands : IsAtSource s new source from
   pub kept : KeepsFunctions old.diagrams new.diagrams
   pub more : List EntryParts
   pub grows : new.listing.entries.items ≡ old.listing.entries.items ++ more
-  pub joined : (atom : Atom) → length atom ≡ s.problem.tests → IsStart atom → (after : Atom) → length after ≡ s.problem.tests → IsAllowedMove s.shorts atom (record { act = stride.act; atom = after })
-      → AreJoined s.problem (entries_of s.store new.diagrams new.listing.entries.items) (suc from.level) after (set_next (terms_of s.store from.left) atom stride.act) (set_next (terms_of s.store from.right) atom stride.act)
+  pub joined : (atom : Atom) → length atom ≡ s.problem.tests → IsStart atom → (after : Atom) → length after ≡ s.problem.tests → IsAllowedMove s.shorts atom (record { act = source.act; atom = after })
+      → AreJoined s.problem (entries_of s.store new.diagrams new.listing.entries.items) (suc from.level) after (set_next (terms_of s.store from.left) atom source.act) (set_next (terms_of s.store from.right) atom source.act)
 
 -- The atoms to which the step leads from the part and at which the entries do not join the part's sets. No entry has
 -- these sets at any of these atoms.
-pub record IsOpenAt (s : Setting) (old new : Walk) (stride : Stride) (from : EntryParts) (p : Part) (id : ℕ) : Type 0 where
-  pub stands : IsAtStride s new stride from
-  pub next : IsNextPart s.store new.diagrams from stride.test stride.act p
+pub record IsOpenAt (s : WalkContext) (old new : TestedWorklist) (source : StepSource) (from : EntryParts) (p : Part) (id : ℕ) : Type 0 where
+  pub stands : IsAtSource s new source from
+  pub next : IsNextPart s.store new.diagrams from source.test source.act p
   pub kept : KeepsFunctions old.diagrams new.diagrams
   pub listing : new.listing ≡ old.listing
   pub is_id : IsDiagramId new.diagrams id
   pub within : IsWithin new.diagrams id new.moves.allowed
   pub apart : (e : EntryParts) → Has new.listing.entries.items e → e.left ≡ p.left.items → e.right ≡ p.right.items → (atom : Atom) → IsAtomOf new.diagrams atom → IsTrue (value_of new.diagrams id atom) → IsTrue (value_of new.diagrams e.test atom) → ⊥
-  pub sources : (atom : Atom) → IsAtomOf new.diagrams atom → IsTrue (value_of new.diagrams id atom) → HasAllowedSource new.diagrams s.shorts p.region stride.act atom
-  pub joined : (atom : Atom) → IsAtomOf new.diagrams atom → HasAllowedSource new.diagrams s.shorts p.region stride.act atom → IsFalse (value_of new.diagrams id atom)
+  pub sources : (atom : Atom) → IsAtomOf new.diagrams atom → IsTrue (value_of new.diagrams id atom) → HasAllowedSource new.diagrams s.shorts p.region source.act atom
+  pub joined : (atom : Atom) → IsAtomOf new.diagrams atom → HasAllowedSource new.diagrams s.shorts p.region source.act atom → IsFalse (value_of new.diagrams id atom)
       → AreJoined s.problem (entries_of s.store new.diagrams new.listing.entries.items) (suc from.level) atom (terms_of s.store p.left.items) (terms_of s.store p.right.items)
 
 -- at each atom the items lead to the next sets by the action
-pub record AreNextItems (s : Setting) (w : Walk) (stride : Stride) (from : EntryParts) (items : List Item) : Type 0 where
+pub record AreNextItems (s : WalkContext) (w : TestedWorklist) (source : StepSource) (from : EntryParts) (items : List Item) : Type 0 where
   pub are : AreItems w.diagrams items
   pub targets : (i : Item) → Has items i → IsTermOf s.store w.diagrams.tests i.target
-  pub lefts : (atom : Atom) → IsAtomOf w.diagrams atom → SameMembers (set_next (terms_of s.store from.left) atom stride.act) (terms_of s.store (chosen w.diagrams Left items atom))
-  pub rights : (atom : Atom) → IsAtomOf w.diagrams atom → SameMembers (set_next (terms_of s.store from.right) atom stride.act) (terms_of s.store (chosen w.diagrams Right items atom))
+  pub lefts : (atom : Atom) → IsAtomOf w.diagrams atom → SameMembers (set_next (terms_of s.store from.left) atom source.act) (terms_of s.store (chosen w.diagrams Left items atom))
+  pub rights : (atom : Atom) → IsAtomOf w.diagrams atom → SameMembers (set_next (terms_of s.store from.right) atom source.act) (terms_of s.store (chosen w.diagrams Right items atom))
 
 -- the entry of the part's sets, at the atoms of the test
-abbrev pub new_ids : Stride → Part → ℕ → EntryParts
-new_ids stride p test = record {
+abbrev pub new_ids : StepSource → Part → ℕ → EntryParts
+new_ids source p test = record {
   left = p.left.items;
   right = p.right.items;
   test = test;
-  level = stride.level + 1;
-  origin = Some (record { place = stride.place; act = stride.act; region = p.region });
+  level = source.level + 1;
+  origin = Some (record { place = source.place; act = source.act; region = p.region });
 }
 
--- the setting of a walk over the store
-abbrev pub about : List Term → ProblemParts → NodeParts → Setting
-about shorts q store = record { shorts = shorts; problem = q; store = store }
+-- the context of a walk over the store
+abbrev pub walk_context : List Term → ProblemParts → NodeParts → WalkContext
+walk_context shorts q store = record { shorts = shorts; problem = q; store = store }
 
 -- the walk processes the entry at the place, and these are the steps of its sets
-pub record IsTaking (s : Setting) (w : Walk) (place : ℕ) (from : EntryParts) (steps : BothSteps) : Type 0 where
+pub record IsTaking (s : WalkContext) (w : TestedWorklist) (place : ℕ) (from : EntryParts) (steps : BothSteps) : Type 0 where
   pub under_way : IsUnderWay s w place
   pub at : slice_get w.listing.entries.items place ≡ Some from
   pub left : IsStepsOf s.store w.diagrams (terms_of s.store from.left) steps.left
   pub right : IsStepsOf s.store w.diagrams (terms_of s.store from.right) steps.right
 
 -- the level of the entry that is processed, and the atoms at which its sets were reached by that number of moves
-pub record IsTurn (w : Walk) (t : Turn) (from : EntryParts) : Type 0 where
+pub record IsTakenPair (w : TestedWorklist) (t : TakenPair) (from : EntryParts) : Type 0 where
   pub level : t.level ≡ from.level
   pub atoms : AreLevelAtoms w.diagrams w.listing.entries.items from t.test
 
 -- the walk has listed entries such that, after the allowed moves by the actions, the next sets of the entry are joined
-pub record HasStepped (s : Setting) (old new : Walk) (t : Turn) (from : EntryParts) (acts : List ℕ) : Type 0 where
+pub record HasStepped (s : WalkContext) (old new : TestedWorklist) (t : TakenPair) (from : EntryParts) (acts : List ℕ) : Type 0 where
   pub under_way : IsUnderWay s new t.place
   pub at : slice_get new.listing.entries.items t.place ≡ Some from
-  pub turn : IsTurn new t from
+  pub taken_pair : IsTakenPair new t from
   pub kept : KeepsFunctions old.diagrams new.diagrams
   pub joined : (a : ℕ) → Has acts a → AreJoinedAfter s.shorts s.problem (entries_of s.store new.diagrams new.listing.entries.items) (suc from.level) (pair_of s.store from) (value_of old.diagrams t.test) a
 
 -- at an atom of its test, exactly one set of the entry at the place accepts
-pub record IsDifference (s : Setting) (w : Walk) (place : ℕ) (atom : Atom) : Type 0 where
+pub record IsDifference (s : WalkContext) (w : TestedWorklist) (place : ℕ) (atom : Atom) : Type 0 where
   pub from : EntryParts
   pub at : slice_get w.listing.entries.items place ≡ Some from
   pub fits : IsAtomOf w.diagrams atom

@@ -1,4 +1,5 @@
 use Rattle.std.proofs.Common.{◌≡◌, ◌-◌, ◌∙◌, length, arith}
+use Rattle.kat_model.specs.declared.limits.TheConstants.{MAX_ACTIONS}
 use Rattle.kat_model.specs.Stores.{modulus}
 use Rattle.problem_file.specs.Trees.{goal_tree}
 use Rattle.abstraction.specs.Comparisons.{goal_assignments}
@@ -10,12 +11,12 @@ pub returns-then-len-most : goal.returns-then-len-most
 returns-then-len-most c =
     let rows = goal_assignments (modulus c.file.inside.width) (goal_tree c.args.goal.now) in
     let len : c.len.result ≡ length c.in_ok-rows.rows.items = c.len.ensures ∙ c.in_ok-rows.rows.ok.0 in
-    let k = too_many_rows (48 - c.file.inside.actions) is_same_assignment rows c.in_ok-rows.rows.items c.in_ok-rows.ensures (omega (arith, len, c.if-len-most.true)) in
+    let k = too_many_rows (MAX_ACTIONS - c.file.inside.actions) is_same_assignment rows c.in_ok-rows.rows.items c.in_ok-rows.ensures (omega (arith, len, c.if-len-most.true)) in
     rw (← c.file.view_is) (omega (arith, k, c.if-file-gt-MAX_ACTIONS.false))
 
 pub returns : goal.returns
 returns c =
     let rows = goal_assignments (modulus c.file.inside.width) (goal_tree c.args.goal.now) in
     let len : c.len.result ≡ length c.in_ok-rows.rows.items = c.len.ensures ∙ c.in_ok-rows.rows.ok.0 in
-    let k = first_rows (48 - c.file.inside.actions) is_same_assignment rows c.in_ok-rows.rows.items c.in_ok-rows.ensures (omega (arith, len, c.if-len-most.false)) in
+    let k = first_rows (MAX_ACTIONS - c.file.inside.actions) is_same_assignment rows c.in_ok-rows.rows.items c.in_ok-rows.ensures (omega (arith, len, c.if-len-most.false)) in
     rw (← c.file.view_is) (k, omega (arith, len, c.if-len-most.false, c.if-file-gt-MAX_ACTIONS.false))

@@ -1,6 +1,6 @@
 use Rattle.std.proofs.Common.{◌≡◌, [], ◌∷◌, Some, refl, sym, ap, ◌∙◌}
 use Rattle.std.proofs.lemmas.Bool.{false≢true}
-use Rattle.cert_checker.specs.Working.Questions.{TurnParts}
+use Rattle.cert_checker.specs.Working.Questions.{ActionPassParts}
 use Rattle.cert_checker.specs.Working.Reaching.{AreReached}
 use Rattle.cert_checker.specs.Working.Rounds.{counting_in}
 use Rattle.cert_checker.proofs.Coverage.{reached_as, covered_listed, covered_brought, covered_none, covered_first, covered_second}
@@ -10,7 +10,7 @@ use Rattle.cert_checker.proofs.matching.are_covered.Goals.{else-branch-via-then-
 pub returns-then-are_listed : goal.returns-then-are_listed
 returns-then-are_listed c =
     let counted = c.args.counted.now in
-    ((λ _. covered_listed (counting_in counted) counted.turn.now.universal c.args.sides.now (sym c.are_listed.ensures ∙ c.if-are_listed.true) c.requires.left c.requires.right), (λ _. refl))
+    ((λ _. covered_listed (counting_in counted) counted.action_pass.now.universal c.args.sides.now (sym c.are_listed.ensures ∙ c.if-are_listed.true) c.requires.left c.requires.right), (λ _. refl))
 
 pub returns-then-branch-2 : goal.returns-then-branch-2
 returns-then-branch-2 c =
@@ -19,7 +19,7 @@ returns-then-branch-2 c =
     let ps = counting_in counted in
     let left = reached_as ps c.in_ok-reaches.field-0 _ s.right.sure.items _ s.left.alone.items c.deref.ensures.value c.deref-2.ensures.value c.in_ok-reaches.ensures in
     let right = reached_as ps c.in_ok-reaches-2.field-0 _ s.left.sure.items _ s.right.alone.items c.deref-then-branch.ensures.value c.deref-then-branch-2.ensures.value c.in_ok-reaches-2.ensures in
-    ((λ _. covered_brought ps counted.turn.now.universal s (left.0 c.if-branch.true) (right.0 c.if-branch-2.true)), (λ _. refl))
+    ((λ _. covered_brought ps counted.action_pass.now.universal s (left.0 c.if-branch.true) (right.0 c.if-branch-2.true)), (λ _. refl))
 
 pub returns-in_default : goal.returns-in_default
 returns-in_default c =
@@ -34,7 +34,7 @@ returns-in_default c =
           false≢true (sym w.if-branch-2.false ∙ right.1 m.1)
       | else-branch-via-else-branch w ↦ false≢true (sym w.if-branch.false ∙ left.1 m.0)
     ] in
-    covered_none ps counted.turn.now.universal s never (λ u e. c.in_default.not-Some u (ap (λ (t : TurnParts). t.universal) c.turn.view_is ∙ e))
+    covered_none ps counted.action_pass.now.universal s never (λ u e. c.in_default.not-Some u (ap (λ (t : ActionPassParts). t.universal) c.action_pass.view_is ∙ e))
 
 pub returns-in_ok-reaches-4 : goal.returns-in_ok-reaches-4
 returns-in_ok-reaches-4 c =
@@ -49,10 +49,10 @@ returns-in_ok-reaches-4 c =
           false≢true (sym w.if-branch-2.false ∙ right.1 m.1)
       | else-branch-via-else-branch w ↦ false≢true (sym w.if-branch.false ∙ left.1 m.0)
     ] in
-    let is : counted.turn.now.universal ≡ Some c.in-Some.term = sym (ap (λ (t : TurnParts). t.universal) c.turn.view_is) ∙ c.in-Some.is in
+    let is : counted.action_pass.now.universal ≡ Some c.in-Some.term = sym (ap (λ (t : ActionPassParts). t.universal) c.action_pass.view_is) ∙ c.in-Some.is in
     let first = reached_as ps c.in_ok-reaches-3.field-0 _ s.left.sure.items _ (c.in-Some.term ∷ []) c.deref-3.ensures.value refl c.in_ok-reaches-3.ensures in
     let second = reached_as ps c.in_ok-reaches-4.field-0 _ s.right.sure.items _ (c.in-Some.term ∷ []) c.deref-then-branch-3.ensures.value refl c.in_ok-reaches-4.ensures in
-    covered_second ps counted.turn.now.universal s never c.in-Some.term c.in_ok-reaches-3.field-0 c.in_ok-reaches-4.field-0 is first c.if-branch-3.true second
+    covered_second ps counted.action_pass.now.universal s never c.in-Some.term c.in_ok-reaches-3.field-0 c.in_ok-reaches-4.field-0 is first c.if-branch-3.true second
 
 pub returns-else-branch-3 : goal.returns-else-branch-3
 returns-else-branch-3 c =
@@ -67,6 +67,6 @@ returns-else-branch-3 c =
           false≢true (sym w.if-branch-2.false ∙ right.1 m.1)
       | else-branch-via-else-branch w ↦ false≢true (sym w.if-branch.false ∙ left.1 m.0)
     ] in
-    let is : counted.turn.now.universal ≡ Some c.in-Some.term = sym (ap (λ (t : TurnParts). t.universal) c.turn.view_is) ∙ c.in-Some.is in
+    let is : counted.action_pass.now.universal ≡ Some c.in-Some.term = sym (ap (λ (t : ActionPassParts). t.universal) c.action_pass.view_is) ∙ c.in-Some.is in
     let first = reached_as ps c.in_ok-reaches-3.field-0 _ s.left.sure.items _ (c.in-Some.term ∷ []) c.deref-3.ensures.value refl c.in_ok-reaches-3.ensures in
-    covered_first ps counted.turn.now.universal s never c.in-Some.term c.in_ok-reaches-3.field-0 is first c.if-branch-3.false
+    covered_first ps counted.action_pass.now.universal s never c.in-Some.term c.in_ok-reaches-3.field-0 is first c.if-branch-3.false

@@ -6,4 +6,4 @@ use Rattle.cert_checker.proofs.matching.waiting_pair.Given as goal
 
 -- a test that an earlier pair waits for, or the tests of all earlier pairs are settled
 abbrev pub invariant-loop-pair : goal.invariant-loop-pair
-invariant-loop-pair l = MatchOption l.waiting (AreTestsSettled l.case.end.items (take l.pair-index l.question.turn.pairs)) (IsWaited l.question l.case)
+invariant-loop-pair l = MatchOption l.waiting (AreTestsSettled l.case.end.items (take l.pair-index l.question.action_pass.pairs)) (IsWaited l.question l.case)

@@ -14,8 +14,8 @@ either-requires-clause-second c =
     let now = c.loop-number.invariant in
     let set = c.args.set.now in
     let k = get_or set c.loop-number.number-index 0 in
-    let low : k < length c.args.accepting.now = below_at (length c.args.accepting.now) set c.loop-number.number-index 0 c.requires.set (omega arith) in
-    test_within c.args.tables.now c.loop-number.tables now.grows.grows.was now.grows.grows _ (accept_at c.args.tables.now c.args.accepting.now k c.requires.accepting low).0
+    let low : k < length c.args.tests.now = below_at (length c.args.tests.now) set c.loop-number.number-index 0 c.requires.set (omega arith) in
+    test_within c.args.tables.now c.loop-number.tables now.grows.grows.was now.grows.grows _ (accept_at c.args.tables.now c.args.tests.now k c.requires.tests low).0
 
 pub loop-number-preserved : goal.loop-number-preserved
 loop-number-preserved c =
@@ -23,11 +23,11 @@ loop-number-preserved c =
     let set = c.args.set.now in
     let i = c.loop-number.number-index in
     let k = get_or set i 0 in
-    let low : k < length c.args.accepting.now = below_at (length c.args.accepting.now) set i 0 c.requires.set (omega arith) in
+    let low : k < length c.args.tests.now = below_at (length c.args.tests.now) set i 0 c.requires.set (omega arith) in
     let cut : drop i set ≡ k ∷ drop (i + 1) set = drop_more set i 0 (omega arith) in
-    accepting_more c.args.tables.now c.loop-number.tables c.either.new.self c.loop-number.guard c.in_ok-guard-2.guard k (drop (i + 1) set) set c.args.accepting.now
+    accepting_more c.args.tables.now c.loop-number.tables c.either.new.self c.loop-number.guard c.in_ok-guard-2.guard k (drop (i + 1) set) set c.args.tests.now
     (subst (λ (l : List ℕ). IsAccepting c.args.tables.now c.loop-number.tables c.loop-number.guard l set) cut now)
-    c.requires.accepting low c.either.ensures.grows c.in_ok-guard-2.ensures.values
+    c.requires.tests low c.either.ensures.grows c.in_ok-guard-2.ensures.values
 
 pub returns-in_err-guard-2-clause-grows : goal.returns-in_err-guard-2-clause-grows
 returns-in_err-guard-2-clause-grows c = tests_trans c.args.tables.now c.loop-number.tables c.either.new.self c.loop-number.invariant.grows c.either.ensures.grows

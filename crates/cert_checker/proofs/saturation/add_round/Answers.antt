@@ -13,11 +13,11 @@ loop-place-preserved c =
     let goes = c.in_ok-add_pairs.ensures.goes_on in
     record {
       goes = goes_then (counting_in counted) old mid new c.loop-place.invariant.goes goes;
-      tended = round_more counted.turn.now.pairs counted.also_open counted.known.now counted.turn.now.index old mid new c.loop-place.place _ (sym c.get_index.ensures.key ∙ ap option_copied c.unwrap-term.ensures) c.loop-place.invariant.goes.kept goes.kept c.in_ok-add_pairs.ensures.tended
+      tended = round_more counted.action_pass.now.pairs counted.also_open counted.known.now counted.action_pass.now.index old mid new c.loop-place.place _ (sym c.get_index.ensures.key ∙ ap option_copied c.unwrap-term.ensures) c.loop-place.invariant.goes.kept goes.kept c.in_ok-add_pairs.ensures.tended
           c.loop-place.invariant.tended;
     }
 
 pub returns-clause-tended : goal.returns-clause-tended
 returns-clause-tended c =
     let counted = c.args.counted.now in
-    inr (round_all counted.turn.now.pairs counted.also_open counted.known.now counted.turn.now.index c.args.reached.now.keys c.loop-place.reached.keys c.loop-place.place (omega arith) c.loop-place.invariant.tended)
+    inr (round_all counted.action_pass.now.pairs counted.also_open counted.known.now counted.action_pass.now.index c.args.reached.now.keys c.loop-place.reached.keys c.loop-place.place (omega arith) c.loop-place.invariant.tended)

@@ -6,7 +6,7 @@ use Rattle.cert_checker.proofs.saturation.add_round.Given as goal
 abbrev pub invariant-loop-place : goal.invariant-loop-place
 invariant-loop-place l = record {
   goes : GoesOn (counting_in l.counted) l.initial.reached.keys l.reached.keys;
-  tended : AreTendedTo l.counted.turn.now.pairs l.counted.also_open l.counted.known.now l.counted.turn.now.index l.place l.initial.reached.keys l.reached.keys;
+  tended : AreTendedTo l.counted.action_pass.now.pairs l.counted.also_open l.counted.known.now l.counted.action_pass.now.index l.place l.initial.reached.keys l.reached.keys;
 }
 
 abbrev pub decreases-loop-place : goal.decreases-loop-place

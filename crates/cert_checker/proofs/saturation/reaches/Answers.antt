@@ -37,7 +37,7 @@ returns-then-len-count c =
       (λ reached.
           absurd (⊎_elim
           (λ there. never (λ k h. no_more a d (λ j m e. last.kept j m (first.kept j m e)) same k (there k h)))
-          (λ under. unreached counted.turn.now.pairs counted.also_open counted.known.now counted.turn.now.index c.requires a b d first.kept last.kept same c.in_ok-add_pairs.ensures.tended under c.args.from.now c.args.wanted.now brought never reached)
+          (λ under. unreached counted.action_pass.now.pairs counted.also_open counted.known.now counted.action_pass.now.index c.requires a b d first.kept last.kept same c.in_ok-add_pairs.ensures.tended under c.args.from.now c.args.wanted.now brought never reached)
           c.in_ok-add_round.ensures.tended)),
     )
 

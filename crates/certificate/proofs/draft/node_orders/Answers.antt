@@ -2,7 +2,8 @@ use Rattle.std.proofs.Common.{refl, ap}
 use Rattle.std.proofs.lemmas.Map.Lookups.{exact_unsigned}
 use Rattle.term_nodes.specs.declared.TestNode.TheVariants.{False, True, Prim, Not, And, Or}
 use Rattle.term_nodes.specs.declared.TermNode.TheVariants.{Zero, One, Test, Act, Sum, Seq, Star}
-use Rattle.certificate.proofs.KnownNodes.{two_exact, cmp_own, two_own}
+use Rattle.kat_model.proofs.Numbers.{nat_cmp-own}
+use Rattle.certificate.proofs.KnownNodes.{two_exact, two_own}
 use Rattle.certificate.proofs.draft.node_orders.Goals as goal
 
 pub returns-clause-tests : goal.returns-clause-tests
@@ -17,8 +18,8 @@ returns-clause-tests c x y e = cc
 pub returns-clause-tests_own : goal.returns-clause-tests_own
 returns-clause-tests_own c False = refl
 returns-clause-tests_own c True = refl
-returns-clause-tests_own c (Prim k) = cmp_own k
-returns-clause-tests_own c (Not x) = cmp_own x
+returns-clause-tests_own c (Prim k) = nat_cmp-own k
+returns-clause-tests_own c (Not x) = nat_cmp-own x
 returns-clause-tests_own c (And x y) = two_own x y
 returns-clause-tests_own c (Or x y) = two_own x y
 
@@ -35,8 +36,8 @@ returns-clause-terms c x y e = cc
 pub returns-clause-terms_own : goal.returns-clause-terms_own
 returns-clause-terms_own c Zero = refl
 returns-clause-terms_own c One = refl
-returns-clause-terms_own c (Test x) = cmp_own x
-returns-clause-terms_own c (Act a) = cmp_own a
+returns-clause-terms_own c (Test x) = nat_cmp-own x
+returns-clause-terms_own c (Act a) = nat_cmp-own a
 returns-clause-terms_own c (Sum x y) = two_own x y
 returns-clause-terms_own c (Seq x y) = two_own x y
-returns-clause-terms_own c (Star x) = cmp_own x
+returns-clause-terms_own c (Star x) = nat_cmp-own x

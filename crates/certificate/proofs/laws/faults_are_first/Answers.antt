@@ -1,4 +1,4 @@
-use Rattle.certificate.proofs.FirstFaults.{faults_are_first_lem}
+use Rattle.certificate.proofs.Exactness.{faults_are_first_lem}
 use Rattle.certificate.proofs.laws.faults_are_first.Goals as goal
 
 pub returns : goal.returns

@@ -1,7 +1,8 @@
 use Rattle.std.proofs.Common.{◌++◌, List, ℕ, codes}
 use Rattle.std.proofs.lemmas.Result.{on_ok_weaker}
 use Rattle.std.specs.Fmt.{decimal}
-use Rattle.kat_report.proofs.Appending.{more_put, two_put}
+use Rattle.certificate.proofs.Lines.{then_written}
+use Rattle.kat_report.proofs.Appending.{two_put}
 use Rattle.kat_report.proofs.replay.put_broken.Goals as goal
 
 pub returns : goal.returns
@@ -15,4 +16,4 @@ returns c =
     let to : List ℕ = from ++ codes " to " ++ decimal c.args.to in
     let two = two_put out first second hyp (codes " relates ") (decimal c.args.from) c.in_ok-put_numbered.ensures c.in_ok-put_numbered-2.ensures in
     let three = two_put out second third from (codes " to ") (decimal c.args.to) two c.in_ok-put_numbered-3.ensures in
-    on_ok_weaker c.put_word.result (more_put out third c.put_word.new.out.items to (codes "\n") three) c.put_word.ensures
+    on_ok_weaker c.put_word.result (then_written out third c.put_word.new.out.items to (codes "\n") three) c.put_word.ensures

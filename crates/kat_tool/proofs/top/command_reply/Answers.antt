@@ -18,5 +18,8 @@ returns-in-Chain-clause-replied g c = rw c.in-Chain.is c.chain_files.ensures.rep
 pub returns-in-Optimise-clause-replied : goal.returns-in-Optimise-clause-replied
 returns-in-Optimise-clause-replied g c = rw c.in-Optimise.is c.optimise_file.ensures.replied
 
-pub returns-in-CheckNotes-clause-replied : goal.returns-in-CheckNotes-clause-replied
-returns-in-CheckNotes-clause-replied g c = rw c.in-CheckNotes.is c.notes_files.ensures.replied
+pub returns-in-OutlineCheck-clause-replied : goal.returns-in-OutlineCheck-clause-replied
+returns-in-OutlineCheck-clause-replied g c = rw c.in-OutlineCheck.is c.outline_check_files.ensures.replied
+
+pub returns-in_ok-bench_reply-in-Bench-clause-replied : goal.returns-in_ok-bench_reply-in-Bench-clause-replied
+returns-in_ok-bench_reply-in-Bench-clause-replied g c = rw c.in-Bench.is c.in_ok-bench_reply-in-Bench.ensures

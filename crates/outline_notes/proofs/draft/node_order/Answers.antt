@@ -1,6 +1,7 @@
 use Rattle.std.proofs.Common.{refl}
+use Rattle.kat_model.proofs.Numbers.{nat_cmp-own}
 use Rattle.outline_notes.specs.declared.notes.NoteNode.TheVariants.{False, True, Branch}
-use Rattle.outline_notes.proofs.KnownNodes.{branch_exact, cmp_own}
+use Rattle.outline_notes.proofs.KnownNodes.{branch_exact}
 use Rattle.outline_notes.proofs.draft.node_order.Goals as goal
 
 pub returns-clause-apart : goal.returns-clause-apart
@@ -12,4 +13,4 @@ returns-clause-apart c x y e = cc
 pub returns-clause-own : goal.returns-clause-own
 returns-clause-own c False = refl
 returns-clause-own c True = refl
-returns-clause-own c (Branch k x y) = rw (cmp_own k, cmp_own x) (cmp_own y)
+returns-clause-own c (Branch k x y) = rw (nat_cmp-own k, nat_cmp-own x) (nat_cmp-own y)

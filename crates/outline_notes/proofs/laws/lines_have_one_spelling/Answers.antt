@@ -1,4 +1,4 @@
-use Rattle.outline_notes.proofs.FirstFaults.{lines_have_one_spelling_lem}
+use Rattle.outline_notes.proofs.Exactness.{lines_have_one_spelling_lem}
 use Rattle.outline_notes.proofs.laws.lines_have_one_spelling.Goals as goal
 
 pub returns : goal.returns

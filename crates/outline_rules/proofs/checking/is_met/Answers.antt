@@ -3,7 +3,7 @@ use Rattle.kat_model.specs.Steps.{Atom, truth}
 use Rattle.outline_diagrams.specs.declared.moments.Moment.TheVariants.{Before}
 use Rattle.outline_diagrams.proofs.StepSets.{IsStepDiagram-kept}
 use Rattle.outline_notes.specs.NoteLists.{note_holds}
-use Rattle.simple_hyps.specs.HypothesisForms.{allows}
+use Rattle.hypothesis_kinds.specs.HypothesisForms.{allows}
 use Rattle.outline_rules.specs.Working.Checks.{guard_tree}
 use Rattle.outline_rules.proofs.NodeSets.{sets_kept}
 use Rattle.outline_rules.proofs.Entailments.{entails_implied, implied_tests, implies_implied, leads_met, told_same, then_same}

@@ -1,16 +1,14 @@
-use Rattle.std.proofs.Common.{◌≡◌, ℕ, ◌^◌, ◌<◌, List, length, Bool, true, ◌&&◌, cond, nat_lt, Option, Some, None, Result, Ok, Err, refl, ap, sym, rules, inl, inr, ◌∙◌}
+use Rattle.std.proofs.Common.{◌≡◌, ℕ, ◌^◌, ◌<◌, List, length, Bool, true, ◌&&◌, cond, nat_lt, Option, Some, None, Result, Ok, Err, refl, ap, sym, inl, inr, ◌∙◌}
 use Rattle.std.specs.Result.{OkIff}
 use Rattle.std.specs.Str.Parse.{ParsesUnsigned}
 use Rattle.std.specs.List.{list_all}
 use Rattle.std.specs.Char.{is_ascii_digit}
 use Rattle.std.proofs.lemmas.Bool.{and_parts, lt-ltb, le-ltb, ltb-true, cases_lt}
-use Rattle.std.proofs.lemmas.Str.Parse.{IsNumeralModel, numerals_by_fold, parse_digits}
+use Rattle.std.proofs.lemmas.Str.Parse.{parse_digits}
 use Rattle.text_grammar.specs.Terminals.{value_from, is_digits}
+use Rattle.text_grammar.proofs.Numerals.{digits_are_numerals}
 use Rattle.tool_commands.specs.Numbers.{is_number, number_below}
 use Rattle.tool_commands.proofs.numbers.number_of.Goals as goal
-
-own : IsNumeralModel (λ ds. list_all is_ascii_digit ds ≡ true) (value_from 0)
-own = numerals_by_fold _ (search rules) value_from (search rules)
 
 abbrev kept : {E : Type 0} → Result ℕ E → Option ℕ
 kept (Ok x) = Some x
@@ -24,7 +22,7 @@ known : {E : Type 0} (word : List ℕ) (r : Result ℕ E) → is_number word ≡
 known word r e parsed =
     let digits = (and_parts (is_digits word) (nat_lt (length word) 21) e).0 in
     let parts = and_parts (list_all is_ascii_digit word) (nat_lt 0 (length word)) digits in
-    told r (is_number word) (length word) (value_from 0 word) e (ltb-true 0 (length word) parts.1) (parse_digits own 64 word r parsed parts.0)
+    told r (is_number word) (length word) (value_from 0 word) e (ltb-true 0 (length word) parts.1) (parse_digits digits_are_numerals 64 word r parsed parts.0)
 
 pub returns-in-Ok : goal.returns-in-Ok
 returns-in-Ok c = ap kept (sym c.in-Ok.is) ∙ known c.args.word.now c.parse.result (sym c.is_number.ensures ∙ c.if-not-is_number.false) c.parse.ensures.value.0

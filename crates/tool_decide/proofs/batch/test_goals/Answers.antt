@@ -2,11 +2,11 @@ use Rattle.std.proofs.Common.{map, inl, inr, refl, sym, subst, arith, rules}
 use Rattle.kat_model.specs.Members.{Has}
 use Rattle.abstraction.specs.Abstracts.{HasNumbersInRange, with_goal}
 use Rattle.problem_file.specs.Trees.{goal_tree}
-use Rattle.tool_inputs.specs.Posing.{AsksNone}
+use Rattle.tool_inputs.specs.TextProblem.{HasNoAbstraction}
 use Rattle.tool_inputs.specs.Steps.{IsRefusal}
 use Rattle.tool_decide.specs.Batch.{with_each, AsksSome, IsFirstRefused}
-use Rattle.tool_inputs.specs.Outcomes.{IsOutcome}
-use Rattle.tool_inputs.proofs.Outcomes.{IsOutcome-refused}
+use Rattle.tool_inputs.specs.ReplySpecs.{Yields}
+use Rattle.tool_inputs.proofs.ReplySpecs.{Yields-refused}
 use Rattle.tool_decide.proofs.GoalLists.{own_goal, goal_at, other_has, all_first, some_next, refused_at}
 use Rattle.tool_decide.proofs.batch.test_goals.Goals as goal
 
@@ -29,8 +29,8 @@ returns-in_err-test_goal-2 c =
     let gs = map goal_tree c.args.more.now in
     let x = with_goal f (goal_tree c.goal-item.result) in
     let e = goal_at c.args.more.now c.loop-goal.goal-index c.goal-item.result c.loop-goal-test.true c.goal-item.is in
-    let r : IsOutcome {T = Unit {0}} (λ u. ⊥) (IsRefusal (AsksNone x)) c.from_residual-in_err-test_goal-2.result = search rules in
-    IsOutcome-refused _ (IsRefusal (AsksNone x)) (IsRefusal (IsFirstRefused (with_each f gs)))
+    let r : Yields {T = Unit {0}} (λ u. ⊥) (IsRefusal (HasNoAbstraction x)) c.from_residual-in_err-test_goal-2.result = search rules in
+    Yields-refused _ (IsRefusal (HasNoAbstraction x)) (IsRefusal (IsFirstRefused (with_each f gs)))
     (λ status output h. (h.0, refused_at f gs c.loop-goal.goal-index (goal_tree c.goal-item.result) output e c.loop-goal.invariant h.1))
     c.from_residual-in_err-test_goal-2.result r
 

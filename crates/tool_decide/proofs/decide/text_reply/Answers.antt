@@ -1,14 +1,14 @@
 use Rattle.std.proofs.Common.{rules}
-use Rattle.tool_inputs.specs.Posing.{PosesNone}
+use Rattle.tool_inputs.specs.TextProblem.{HasNoProblem}
 use Rattle.tool_inputs.specs.Steps.{IsRefusal}
 use Rattle.tool_decide.specs.Decide.{IsDecided}
-use Rattle.tool_inputs.specs.Outcomes.{IsReplied}
-use Rattle.tool_inputs.proofs.Files.{refused_replied, text_posed}
+use Rattle.tool_inputs.specs.ReplySpecs.{RepliesWith}
+use Rattle.tool_inputs.proofs.TextReplies.{refused_replied, text_posed}
 use Rattle.tool_decide.proofs.decide.text_reply.Goals as goal
 
 pub returns-in_err-problem : goal.returns-in_err-problem
 returns-in_err-problem c =
-    let r : IsReplied (IsRefusal (PosesNone c.args.text.now)) c.from_residual.result = search rules in
+    let r : RepliesWith (IsRefusal (HasNoProblem c.args.text.now)) c.from_residual.result = search rules in
     refused_replied c.args.text.now IsDecided c.from_residual.result r
 
 pub returns : goal.returns

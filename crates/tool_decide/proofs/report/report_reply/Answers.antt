@@ -1,5 +1,5 @@
 use Rattle.std.proofs.Common.{sym, subst}
-use Rattle.tool_decide.specs.Report.{IsReported}
+use Rattle.tool_decide.specs.DecideJson.{IsReported}
 use Rattle.tool_decide.proofs.Decided.{reported}
 use Rattle.tool_decide.proofs.report.report_reply.Goals as goal
 

@@ -1,4 +1,4 @@
-use Rattle.std.proofs.Common.{subst}
+use Rattle.std.proofs.Common.{subst, ◌∙◌}
 use Rattle.std.proofs.lemmas.Result.{IfOk-weaker}
 use Rattle.outline_rules.specs.Tasks.{task_parts}
 use Rattle.outline_rules.specs.Reasons.{IsNoteAnswer}
@@ -11,7 +11,7 @@ returns-in-Accepted c =
     let t = task_parts c.args.task.now in
     let ns = c.args.notes.now in
     let follows = subst (IsNoteAnswer q t ns) c.in-Accepted.is c.in_ok-check_notes.ensures in
-    IfOk-weaker c.line.result _ _ (λ r e. notes_accepted q t ns r.status r.output.items c.requires.triple follows e) c.line.ensures
+    IfOk-weaker c.line.result _ _ (λ r e. notes_accepted q t ns r.status r.output.items c.requires.triple follows (e.0, e.1 ∙ c.accepted_outline_line.ensures)) c.line.ensures
 
 pub returns-in-Rejected : goal.returns-in-Rejected
 returns-in-Rejected c =

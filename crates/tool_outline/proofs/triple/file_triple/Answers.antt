@@ -1,12 +1,12 @@
 use Rattle.std.proofs.Common.{rules}
 use Rattle.tool_outline.specs.declared.triple.Triple.{Triple}
-use Rattle.tool_inputs.specs.Posing.{AsksNone}
+use Rattle.tool_inputs.specs.TextProblem.{HasNoAbstraction}
 use Rattle.tool_inputs.specs.Steps.{IsRefusal}
-use Rattle.tool_inputs.specs.Outcomes.{IsOutcome}
+use Rattle.tool_inputs.specs.ReplySpecs.{Yields}
 use Rattle.tool_outline.proofs.Triples.{no_abstract}
 use Rattle.tool_outline.proofs.triple.file_triple.Goals as goal
 
 pub returns-in_err-shown : goal.returns-in_err-shown
 returns-in_err-shown c =
-    let r : IsOutcome {T = Triple} (λ t. ⊥) (IsRefusal (AsksNone c.args.file.now)) c.from_residual.result = search rules in
+    let r : Yields {T = Triple} (λ t. ⊥) (IsRefusal (HasNoAbstraction c.args.file.now)) c.from_residual.result = search rules in
     no_abstract c.args.file.now c.from_residual.result r

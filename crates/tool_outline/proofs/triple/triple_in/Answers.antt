@@ -1,8 +1,8 @@
 use Rattle.std.proofs.Common.{rules}
 use Rattle.tool_outline.specs.declared.triple.Triple.{Triple}
-use Rattle.tool_inputs.specs.Posing.{IsFaulty}
+use Rattle.tool_inputs.specs.TextProblem.{IsFaulty}
 use Rattle.tool_inputs.specs.Steps.{IsRefusal}
-use Rattle.tool_inputs.specs.Outcomes.{IsOutcome}
+use Rattle.tool_inputs.specs.ReplySpecs.{Yields}
 use Rattle.tool_inputs.proofs.Ranges.{numbers_in_range}
 use Rattle.tool_outline.proofs.Triples.{no_file, file_posed}
 use Rattle.tool_outline.proofs.triple.triple_in.Goals as goal
@@ -12,7 +12,7 @@ file_triple-requires c = numbers_in_range c.args.text.now c.in_ok-file.file c.in
 
 pub returns-in_err-file : goal.returns-in_err-file
 returns-in_err-file c =
-    let r : IsOutcome {T = Triple} (λ t. ⊥) (IsRefusal (IsFaulty c.args.text.now)) c.from_residual.result = search rules in
+    let r : Yields {T = Triple} (λ t. ⊥) (IsRefusal (IsFaulty c.args.text.now)) c.from_residual.result = search rules in
     no_file c.args.text.now c.from_residual.result r
 
 pub returns : goal.returns

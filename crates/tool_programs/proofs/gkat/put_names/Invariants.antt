@@ -4,6 +4,6 @@ use Rattle.problem_texts.proofs.PlainWritten.{later_names}
 use Rattle.tool_programs.specs.Working.Kinds.{kind_meaning}
 use Rattle.tool_programs.proofs.gkat.put_names.Given as goal
 
--- the names so far, but for the first
+-- the names so far, except the first
 abbrev pub invariant-loop-k : goal.invariant-loop-k
 invariant-loop-k l = l.out.items ≡ l.initial.out.items ++ later_names (λ k. name_of l.scope (kind_meaning l.kind k)) (l.k - 1)

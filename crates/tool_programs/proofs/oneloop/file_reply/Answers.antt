@@ -1,11 +1,12 @@
 use Rattle.std.proofs.Common.{◌<◌, inl, inr, refl, sym, ap, subst, rules}
+use Rattle.kat_model.specs.declared.limits.TheConstants.{MAX_VARS}
 use Rattle.text_scopes.specs.declared.meaning.Meaning.TheVariants.{Var}
 use Rattle.text_scopes.specs.ScopeParts.{IsUnnamed}
 use Rattle.problem_file.specs.Files.{FileParts}
 use Rattle.tool_programs.specs.OneLoop.{HasNoForm, FormsFile}
 use Rattle.tool_inputs.specs.Steps.{IsRefusal}
-use Rattle.tool_inputs.specs.Outcomes.{IsReplied}
-use Rattle.tool_inputs.proofs.Outcomes.{IsReplied-weaker}
+use Rattle.tool_inputs.specs.ReplySpecs.{RepliesWith}
+use Rattle.tool_inputs.proofs.ReplySpecs.{RepliesWith-weaker}
 use Rattle.tool_programs.proofs.NamedPrograms.{fit_concrete, named_below}
 use Rattle.tool_programs.proofs.OneLoopReplies.{place_free, form_printed}
 use Rattle.tool_programs.proofs.oneloop.file_reply.Goals as goal
@@ -25,13 +26,13 @@ form_text-requires-clause-unnamed c = subst (λ (f : FileParts). IsUnnamed f.sco
 pub form_text-requires-clause-place : goal.form_text-requires-clause-place
 form_text-requires-clause-place c =
     let place = place_free c.args.file c.in-Some.prog.now c.in_ok-form.ensures.0 c.requires.numbered.vars in
-    subst (λ (f : FileParts). f.vars < 64) (sym c.file.view_is) place
+    subst (λ (f : FileParts). f.vars < MAX_VARS) (sym c.file.view_is) place
 
 pub returns-in_err-form : goal.returns-in_err-form
 returns-in_err-form c =
     let p = c.in-Some.prog.now in
-    let r : IsReplied (IsRefusal (HasNoForm c.args.file p)) c.from_residual.result = search rules in
-    IsReplied-weaker (IsRefusal (HasNoForm c.args.file p)) (FormsFile c.args.file c.args.name.now) (λ status output h. inr (p, sym c.in-Some.ensures, inl h)) c.from_residual.result r
+    let r : RepliesWith (IsRefusal (HasNoForm c.args.file p)) c.from_residual.result = search rules in
+    RepliesWith-weaker (IsRefusal (HasNoForm c.args.file p)) (FormsFile c.args.file c.args.name.now) (λ status output h. inr (p, sym c.in-Some.ensures, inl h)) c.from_residual.result r
 
 pub returns : goal.returns
 returns c =

@@ -1,7 +1,7 @@
 use Rattle.std.proofs.Common.{inr}
 use Rattle.problem_file.proofs.NumberedStates.{are_in_ranges}
 use Rattle.tool_programs.specs.OneLoop.{FormsFile, FormsText}
-use Rattle.tool_inputs.proofs.Outcomes.{IsReplied-weaker}
+use Rattle.tool_inputs.proofs.ReplySpecs.{RepliesWith-weaker}
 use Rattle.tool_programs.proofs.FileVariables.{next_unnamed}
 use Rattle.tool_programs.proofs.oneloop.text_reply.Goals as goal
 
@@ -14,4 +14,4 @@ file_reply-requires-clause-unnamed c = next_unnamed c.args.text.now c.in_ok-file
 pub returns : goal.returns
 returns c =
     let file = c.in_ok-file.file in
-    IsReplied-weaker (FormsFile file c.args.name.now) (FormsText c.args.text.now c.args.name.now) (λ status output h. inr (file, c.in_ok-file.ensures, h)) c.file_reply.result c.file_reply.ensures
+    RepliesWith-weaker (FormsFile file c.args.name.now) (FormsText c.args.text.now c.args.name.now) (λ status output h. inr (file, c.in_ok-file.ensures, h)) c.file_reply.result c.file_reply.ensures

@@ -13,10 +13,10 @@ returns-clause-items c =
     let left = c.args.left.now in
     let right = c.args.right.now in
     let never = c.constant-never.result in
-    let mid = c.add_left.new.items.entries in
-    let all = c.add_right.new.items.entries in
-    let first = subst (λ (l : List (ℕ × Item)). AddsMoves never Left Right l mid left c.args.act) c.new-items.ensures.empty c.in_ok-add_left.ensures.added in
-    let are = items_of_moves d left right c.args.act never mid all c.constant-never.ensures.function first c.in_ok-add_right.ensures.added c.in_ok-add_right.ensures.keyed c.item_list.ensures.ordered
+    let mid = c.add_moves.new.items.entries in
+    let all = c.add_moves-2.new.items.entries in
+    let first = subst (λ (l : List (ℕ × Item)). AddsMoves never Left Right l mid left c.args.act) c.new-items.ensures.empty c.in_ok-add_moves.ensures.added in
+    let are = items_of_moves d left right c.args.act never mid all c.constant-never.ensures.function first c.in_ok-add_moves-2.ensures.added c.in_ok-add_moves-2.ensures.keyed c.item_list.ensures.ordered
     c.requires.left c.requires.right c.requires.left_merged c.requires.right_merged in
     IfOk-weaker c.item_list.result _ _ (λ v e. subst (AreItemsOf d left right c.args.act) (sym e) are) c.item_list.ensures.items
 
@@ -24,7 +24,7 @@ pub returns-clause-targets : goal.returns-clause-targets
 returns-clause-targets c =
     let left = c.args.left.now in
     let right = c.args.right.now in
-    let mid = c.add_left.new.items.entries in
-    let first = subst (λ (l : List (ℕ × Item)). AddsTargets l mid left) c.new-items.ensures.empty c.in_ok-add_left.ensures.targets in
-    let led = are_led_to left right mid c.add_right.new.items.entries first c.in_ok-add_right.ensures.targets c.in_ok-add_right.ensures.keyed in
+    let mid = c.add_moves.new.items.entries in
+    let first = subst (λ (l : List (ℕ × Item)). AddsTargets l mid left) c.new-items.ensures.empty c.in_ok-add_moves.ensures.targets in
+    let led = are_led_to left right mid c.add_moves-2.new.items.entries first c.in_ok-add_moves-2.ensures.targets c.in_ok-add_moves-2.ensures.keyed in
     IfOk-weaker c.item_list.result _ _ (λ v e. subst (AreLedTo left right) (sym e) led) c.item_list.ensures.items

@@ -6,7 +6,7 @@ use Rattle.certificate.specs.PairParts.{PairParts}
 use Rattle.certificate.specs.declared.nodes.Style.TheVariants.{Under}
 use Rattle.walk_pairs.specs.Numbering.{IsCertOf}
 use Rattle.walk_pairs.specs.StoredPairs.{AreStoredPairs}
-use Rattle.walk_under.specs.Working.Walking.{about}
+use Rattle.walk_under.specs.Working.Walking.{walk_context}
 use Rattle.walk_under.proofs.UnderDecisions.{stored, certified, refuted}
 use Rattle.walk_under.proofs.deciding.evidence_of.Goals as goal
 
@@ -18,7 +18,7 @@ string_to-requires c =
     let p = c.args.problem.now in
     let found = rw c.in-Some.is at c.in_ok-difference.ensures.answer in
     let f = found (short_hyps p) (with_hyps p (long_hyps p)) c.actions.ensures.value c.requires.under_way in
-    (about (short_hyps p) (with_hyps p (long_hyps p)) c.run.new.store, f.0, f.1)
+    (walk_context (short_hyps p) (with_hyps p (long_hyps p)) c.run.new.store, f.0, f.1)
 
 pub returns-in_ok-string-in-Some-clause-decision : goal.returns-in_ok-string-in-Some-clause-decision
 returns-in_ok-string-in-Some-clause-decision c =
@@ -31,7 +31,7 @@ pub merge-requires : goal.merge-requires
 merge-requires c =
     let p = c.args.problem.now in
     let done = rw c.in-None.is at c.in_ok-difference.ensures.answer in
-    (about (short_hyps p) (with_hyps p (long_hyps p)) c.run.new.store, done (short_hyps p) (with_hyps p (long_hyps p)) c.actions.ensures.value c.requires.under_way)
+    (walk_context (short_hyps p) (with_hyps p (long_hyps p)) c.run.new.store, done (short_hyps p) (with_hyps p (long_hyps p)) c.actions.ensures.value c.requires.under_way)
 
 pub cert_of-requires : goal.cert_of-requires
 cert_of-requires c =

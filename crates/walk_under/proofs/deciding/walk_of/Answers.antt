@@ -9,7 +9,7 @@ use Rattle.term_nodes.specs.NodeTrees.{tree_at}
 use Rattle.term_nodes.proofs.Growing.{Grows-trans}
 use Rattle.partial_derivs.specs.Moves.{IsTermOf}
 use Rattle.hypothesis_kinds.proofs.LongProblems.{long_is_problem}
-use Rattle.walk_under.specs.Working.Walking.{about, IsUnderWay}
+use Rattle.walk_under.specs.Working.Walking.{walk_context, IsUnderWay}
 use Rattle.walk_under.proofs.UnderDecisions.{closed_known}
 use Rattle.walk_under.proofs.deciding.walk_of.Goals as goal
 
@@ -41,7 +41,7 @@ returns-clause-under_way c =
     let ids = closed_known s t q (long_is_problem p c.tests-tests.ensures.within) sides c.in_ok-shorts.ensures.kept c.count.ensures.store c.in_ok-sides.ensures.ids in
     IfOk-weaker c.new.result _ _
     (λ w started.
-    subst (λ (hs : List Term). IsUnderWay (about hs q c.new.new.store) w 0) (ap (map (tree_at t)) c.deref.ensures.value ∙ c.in_ok-shorts.ensures.trees)
+    subst (λ (hs : List Term). IsUnderWay (walk_context hs q c.new.new.store) w 0) (ap (map (tree_at t)) c.deref.ensures.value ∙ c.in_ok-shorts.ensures.trees)
     (started q c.tests-tests.ensures.value c.actions-actions.ensures.value ids))
     c.new.ensures.under_way
 

@@ -9,6 +9,6 @@ with_sets e left right = record { left = left; right = right; test = e.test; lev
 
 pub returns : goal.returns
 returns c =
-    ap₂ (λ l r. with_sets (new_ids c.args.stride.now c.args.part.now c.args.test) l r)
+    ap₂ (λ l r. with_sets (new_ids c.args.source.now c.args.part.now c.args.test) l r)
     (c.of.ensures ∙ c.in_ok-left.ensures.items ∙ c.deref.ensures.value)
     (c.of-2.ensures ∙ c.in_ok-right.ensures.items ∙ c.deref-2.ensures.value)

@@ -19,8 +19,8 @@ new-requires c =
 pub loop-pair-init : goal.loop-pair-init
 loop-pair-init c =
     let p = c.args.self.now in
-    let new = c.turn.new.self in
-    let grows = c.turn.ensures.grows in
+    let new = c.action_pass.new.self in
+    let grows = c.action_pass.ensures.grows in
     let width : c.width-width.result ≡ new.tables.width = c.width-width.ensures ∙ ap (λ (z : PassParts). z.tables.width) c.self.view_is ∙ sym grows.tables.width in
     record {
       pass = pass_kept p new grows c.requires.pass;
@@ -36,10 +36,10 @@ pair_failure-requires-clause-pass c = c.loop-pair.invariant.pass
 pub pair_failure-requires-clause-undecided : goal.pair_failure-requires-clause-undecided
 pair_failure-requires-clause-undecided c = c.loop-pair.invariant.undecided
 
-pub pair_failure-requires-clause-turn : goal.pair_failure-requires-clause-turn
-pair_failure-requires-clause-turn c =
-    let begun = pass_kept c.args.self.now c.turn.new.self c.turn.ensures.grows c.requires.pass in
-    turn_kept c.turn.new.self c.loop-pair.self c.loop-pair.invariant.since c.in_ok-turn.turn begun c.in_ok-turn.ensures.turn
+pub pair_failure-requires-clause-action_pass : goal.pair_failure-requires-clause-action_pass
+pair_failure-requires-clause-action_pass c =
+    let begun = pass_kept c.args.self.now c.action_pass.new.self c.action_pass.ensures.grows c.requires.pass in
+    turn_kept c.action_pass.new.self c.loop-pair.self c.loop-pair.invariant.since c.in_ok-action_pass.action_pass begun c.in_ok-action_pass.ensures.action_pass
 
 pub pair_failure-requires-clause-pair : goal.pair_failure-requires-clause-pair
 pair_failure-requires-clause-pair c =
@@ -52,7 +52,7 @@ pub split_at-requires : goal.split_at-requires
 split_at-requires c =
     let now = c.loop-pair.invariant in
     let q = c.loop-pair.self.problem in
-    let f = subst (λ o. IsFirstFailure (PairHolds q c.loop-pair.self.cert c.in_ok-turn.turn.action c.sets-item.result) (undecided (q.tests + q.tests)) (option_map (λ v. v.items) o)) c.in-Some.is c.in_ok-values.ensures.failure in
+    let f = subst (λ o. IsFirstFailure (PairHolds q c.loop-pair.self.cert c.in_ok-action_pass.action_pass.action c.sets-item.result) (undecided (q.tests + q.tests)) (option_map (λ v. v.items) o)) c.in-Some.is c.in_ok-values.ensures.failure in
     let wide : length c.in-Some.values.items ≡ q.tests + q.tests = undecided_length (q.tests + q.tests) c.in-Some.values.items f.within in
     let width : c.width-width.result ≡ q.tests = c.width-width.ensures ∙ ap (λ (z : PassParts). z.tables.width) c.self.view_is ∙ sym now.grows.tables.width ∙ now.pass.nodes.width in
     omega (arith, wide, width, ap length c.deref.ensures.value)
@@ -66,9 +66,9 @@ returns-in-Some-clause-first c =
     let now = c.loop-pair.invariant in
     let at = pair_at cert.pairs c.pairs-sets-items.result.now k p (c.pairs-sets-items.ensures.value ∙ ap (λ (z : PassParts). z.cert.pairs) c.self.view_is) (omega (arith, c.loop-pair-test.true)) c.sets-item.is in
     let x = c.in-Some.values.items in
-    let failed = subst (λ o. IsFirstFailure (PairHolds c.loop-pair.self.problem c.loop-pair.self.cert c.in_ok-turn.turn.action p) (undecided (c.loop-pair.self.problem.tests + c.loop-pair.self.problem.tests)) (option_map (λ v. v.items) o)) c.in-Some.is c.in_ok-values.ensures.failure in
-    let f = subst (λ (z : PassParts). IsFirstFailure (PairHolds z.problem z.cert c.in_ok-turn.turn.action p) (undecided (z.problem.tests + z.problem.tests)) (Some x)) now.grows.same failed in
-    let found = subst (λ a. IsFirstFailure (PairHolds q cert a p) (undecided (q.tests + q.tests)) (Some x)) c.in_ok-turn.ensures.action f in
+    let failed = subst (λ o. IsFirstFailure (PairHolds c.loop-pair.self.problem c.loop-pair.self.cert c.in_ok-action_pass.action_pass.action p) (undecided (c.loop-pair.self.problem.tests + c.loop-pair.self.problem.tests)) (option_map (λ v. v.items) o)) c.in-Some.is c.in_ok-values.ensures.failure in
+    let f = subst (λ (z : PassParts). IsFirstFailure (PairHolds z.problem z.cert c.in_ok-action_pass.action_pass.action p) (undecided (z.problem.tests + z.problem.tests)) (Some x)) now.grows.same failed in
+    let found = subst (λ a. IsFirstFailure (PairHolds q cert a p) (undecided (q.tests + q.tests)) (Some x)) c.in_ok-action_pass.ensures.action f in
     let width : c.width-width.result ≡ q.tests = c.width-width.ensures ∙ ap (λ (z : PassParts). z.tables.width) c.self.view_is ∙ c.requires.pass.nodes.width in
     let values : c.deref.result.now ≡ x = c.deref.ensures.value in
     let front : c.in_ok-to_vec.field-0.items ≡ take q.tests x = c.in_ok-to_vec.ensures.items_if_clones_equal (λ a b e. e) ∙ c.split_at.ensures.front ∙ (λ i. take (width i) (values i)) in
@@ -90,16 +90,16 @@ loop-pair-preserved c =
     let new = c.pair_failure.new.self in
     let grows = c.pair_failure.ensures.grows in
     let at = pair_at cert.pairs c.pairs-sets-items.result.now k p (c.pairs-sets-items.ensures.value ∙ ap (λ (z : PassParts). z.cert.pairs) c.self.view_is) (omega (arith, c.loop-pair-test.true)) c.sets-item.is in
-    let failed = subst (λ o. IsFirstFailure (PairHolds old.problem old.cert c.in_ok-turn.turn.action p) (undecided (old.problem.tests + old.problem.tests)) (option_map (λ v. v.items) o)) c.in_default.is c.in_ok-values.ensures.failure in
-    let f = subst (λ (z : PassParts). IsFirstFailure (PairHolds z.problem z.cert c.in_ok-turn.turn.action p) (undecided (z.problem.tests + z.problem.tests)) None) now.grows.same failed in
+    let failed = subst (λ o. IsFirstFailure (PairHolds old.problem old.cert c.in_ok-action_pass.action_pass.action p) (undecided (old.problem.tests + old.problem.tests)) (option_map (λ v. v.items) o)) c.in_default.is c.in_ok-values.ensures.failure in
+    let f = subst (λ (z : PassParts). IsFirstFailure (PairHolds z.problem z.cert c.in_ok-action_pass.action_pass.action p) (undecided (z.problem.tests + z.problem.tests)) None) now.grows.same failed in
     record {
       pass = pass_kept old new grows now.pass;
       grows = passes_trans c.args.self.now old new now.grows grows;
-      since = passes_trans c.turn.new.self old new now.since grows;
+      since = passes_trans c.action_pass.new.self old new now.since grows;
       undecided = c.in_ok-values.ensures.undecided ∙ now.undecided ∙ ap (λ n. undecided (n + n)) (sym grows.tables.width);
       passed = below_more _ _ now.passed
           (pair_holds q cert c.args.action k (tested_pair_of (nodes_of cert) p) (tested_at cert k p at)
-          (subst (λ a. IsFirstFailure (PairHolds q cert a p) (undecided (q.tests + q.tests)) None) c.in_ok-turn.ensures.action f));
+          (subst (λ a. IsFirstFailure (PairHolds q cert a p) (undecided (q.tests + q.tests)) None) c.in_ok-action_pass.ensures.action f));
     }
 
 pub returns-clause-first : goal.returns-clause-first

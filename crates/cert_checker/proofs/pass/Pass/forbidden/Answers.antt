@@ -29,11 +29,11 @@ of_set-requires-clause-steps c =
     let pass = subst IsPass (sym c.self.view_is) c.requires.pass in
     let t = c.self.inside.tables in
     let list = map (λ e. e.entries) c.args.steps.now in
-    let steps = subst (λ (z : PassParts). AreSteps z.tables c.args.action (IsMarked z.needed) list) (sym c.self.view_is) c.requires.steps.steps in
-    let count : length list ≡ length c.self.inside.needed.items = c.requires.steps.count ∙ sym (ap (λ (z : PassParts). length z.needed) c.self.view_is) in
+    let steps = subst (λ (z : PassParts). AreSteps z.tables c.args.action (IsMarked z.needed_terms) list) (sym c.self.view_is) c.requires.steps.steps in
+    let count : length list ≡ length c.self.inside.needed_terms.items = c.requires.steps.count ∙ sym (ap (λ (z : PassParts). length z.needed_terms) c.self.view_is) in
     let low : length list ≤ length t.terms = omega (arith, count, pass.marks, pass.there) in
-    let grown_steps = all_step t c.constant.new.self c.constant.ensures.grows.grows.was c.constant.ensures.grows.grows c.args.action (IsMarked c.self.inside.needed.items) list low steps in
-    λ k es h at. grown_steps k es (pass.needed.shorts k (subst (λ (l : List ℕ). Has l k) c.deref.ensures.value h)) at
+    let grown_steps = all_step t c.constant.new.self c.constant.ensures.grows.grows.was c.constant.ensures.grows.grows c.args.action (IsMarked c.self.inside.needed_terms.items) list low steps in
+    λ k es h at. grown_steps k es (pass.needed_terms.shorts k (subst (λ (l : List ℕ). Has l k) c.deref.ensures.value h)) at
 
 pub loop-term-init : goal.loop-term-init
 loop-term-init c =
@@ -79,7 +79,7 @@ returns-then-is_empty-clause-forbidden c =
 pub returns-clause-forbidden : goal.returns-clause-forbidden
 returns-clause-forbidden c =
     let pass = subst IsPass (sym c.self.view_is) c.requires.pass in
-    let old : PassParts = record { problem = c.self.inside.problem.now; cert = c.self.inside.cert.now; index = c.self.inside.index.now; tables = c.self.inside.tables; left = c.self.inside.left; right = c.self.inside.right; universal = c.self.inside.universal; shorts = c.self.inside.shorts.items; accepting = c.self.inside.accepting.items; banned = c.self.inside.banned; needed = c.self.inside.needed.items } in
+    let old : PassParts = record { problem = c.self.inside.problem.now; cert = c.self.inside.cert.now; index = c.self.inside.index.now; tables = c.self.inside.tables; left = c.self.inside.left; right = c.self.inside.right; universal = c.self.inside.universal; shorts = c.self.inside.shorts.items; acceptance_tests = c.self.inside.acceptance_tests.items; forbidden_atoms = c.self.inside.forbidden_atoms; needed_terms = c.self.inside.needed_terms.items } in
     let t = c.self.inside.tables in
     let first = c.constant.new.self in
     let begun = c.constant.ensures.grows.grows in
@@ -96,21 +96,21 @@ returns-clause-forbidden c =
           let stand = stand_kept mid last w.acceptances.ensures.grows.grows.was w.acceptances.ensures.grows.grows entries (set_leads_to c.args.action es) (subst (λ (ts : List Term). StandFor mid entries (set_leads_to c.args.action ts)) shorts w.in_ok-targets.ensures.targets) in
           let ended : w.loop-term.term-iterator ≡ [] = rest_all deref_pair _ _ _ w.in-None.is w.next.ensures.steps in
           let iterated : w.into_iter-term-iterator.result ≡ entries = w.into_iter-term-iterator.ensures.into_iter_gives ∙ w.iter-term-items.ensures.rest in
-          let begins : w.push-then-is_some.new.self.items ≡ (old.banned, always) ∷ (always, old.banned) ∷ [] =
-          w.in_ok-push-2.ensures.items ∙ ap (λ (l : List (ℕ × ℕ)). l ++ (always, old.banned) ∷ []) (c.in_ok-push.ensures.items ∙ ap (λ (l : List (ℕ × ℕ)). l ++ (old.banned, always) ∷ []) c.new-forbidden.ensures.items) in
-          let list : w.loop-term.forbidden.items ≡ (old.banned, always) ∷ (always, old.banned) ∷ map (forbidden_of outputs) entries =
+          let begins : w.push-then-is_some.new.self.items ≡ (old.forbidden_atoms, always) ∷ (always, old.forbidden_atoms) ∷ [] =
+          w.in_ok-push-2.ensures.items ∙ ap (λ (l : List (ℕ × ℕ)). l ++ (always, old.forbidden_atoms) ∷ []) (c.in_ok-push.ensures.items ∙ ap (λ (l : List (ℕ × ℕ)). l ++ (old.forbidden_atoms, always) ∷ []) c.new-forbidden.ensures.items) in
+          let list : w.loop-term.forbidden.items ≡ (old.forbidden_atoms, always) ∷ (always, old.forbidden_atoms) ∷ map (forbidden_of outputs) entries =
           sym (append-nil w.loop-term.forbidden.items)
           ∙ ap (λ (l : List (ℕ × ℕ)). w.loop-term.forbidden.items ++ map (forbidden_of outputs) l) (sym ended)
           ∙ w.loop-term.invariant.pairs
           ∙ ap (λ (l : List (ℕ × ℕ)). l ++ map (forbidden_of outputs) w.into_iter-term-iterator.result) begins
-          ∙ ap (λ (l : List (ℕ × ℕ)). (old.banned, always) ∷ (always, old.banned) ∷ map (forbidden_of outputs) l) iterated in
+          ∙ ap (λ (l : List (ℕ × ℕ)). (old.forbidden_atoms, always) ∷ (always, old.forbidden_atoms) ∷ map (forbidden_of outputs) l) iterated in
           let there : (e : ℕ × ℕ) → Has entries e → e.0 < length outputs = λ e h. let own : e.0 < length mid.terms = (w.in_ok-targets.ensures.targets.entries e h).0 in omega (arith, own, w.in_ok-outputs.ensures.count) in
           rw (w.self-is, w.forbidden-is, list)
-          (forbidden_by last old.cert old.problem old.banned always (values_stay t last (grows_trans t first last begun more) (set_out es) old.banned pass.banned) (values_stay first last more (λ atom. true) always c.in_ok-always.ensures.values) c.args.action (sym c.is_some.ensures ∙ w.if-is_some.true) entries stand outputs w.in_ok-outputs.ensures.values there)
+          (forbidden_by last old.cert old.problem old.forbidden_atoms always (values_stay t last (grows_trans t first last begun more) (set_out es) old.forbidden_atoms pass.forbidden_atoms) (values_stay first last more (λ atom. true) always c.in_ok-always.ensures.values) c.args.action (sym c.is_some.ensures ∙ w.if-is_some.true) entries stand outputs w.in_ok-outputs.ensures.values there)
       | else-is_some w ↦
-          let list : c.push.new.self.items ≡ (old.banned, always) ∷ [] = c.in_ok-push.ensures.items ∙ ap (λ (l : List (ℕ × ℕ)). l ++ (old.banned, always) ∷ []) c.new-forbidden.ensures.items in
+          let list : c.push.new.self.items ≡ (old.forbidden_atoms, always) ∷ [] = c.in_ok-push.ensures.items ∙ ap (λ (l : List (ℕ × ℕ)). l ++ (old.forbidden_atoms, always) ∷ []) c.new-forbidden.ensures.items in
           rw (w.self-is, w.forbidden-is, list)
-          (forbidden_without first old.cert old.problem old.banned always (values_stay t first begun (set_out es) old.banned pass.banned) c.in_ok-always.ensures.values c.args.action (sym c.is_some.ensures ∙ w.if-is_some.false))
+          (forbidden_without first old.cert old.problem old.forbidden_atoms always (values_stay t first begun (set_out es) old.forbidden_atoms pass.forbidden_atoms) c.in_ok-always.ensures.values c.args.action (sym c.is_some.ensures ∙ w.if-is_some.false))
     ] in
     subst (λ (z : PassParts). AreForbidden c.if-is_some.self.tables z.cert z.problem c.args.action c.if-is_some.forbidden.items) c.self.view_is made
 

@@ -30,16 +30,16 @@ short_numbers-requires-clause-tables c = c.side_numbers.ensures.grows.sound
 pub short_numbers-requires-clause-width : goal.short_numbers-requires-clause-width
 short_numbers-requires-clause-width c = sym (c.side_numbers.ensures.grows.width ∙ ap (λ (z : TableParts). z.width) c.in_ok-tables.ensures.nodes ∙ c.tests.ensures.value)
 
-pub acceptance-requires-clause-accepting : goal.acceptance-requires-clause-accepting
-acceptance-requires-clause-accepting c = subst (AreAcceptances c.acceptances.new.tables) (sym c.deref.ensures.value) c.in_ok-accepting.ensures.values
+pub acceptance-requires-clause-tests : goal.acceptance-requires-clause-tests
+acceptance-requires-clause-tests c = subst (AreAcceptances c.acceptances.new.tables) (sym c.deref.ensures.value) c.in_ok-acceptance_tests.ensures.values
 
 pub acceptance-requires-clause-set : goal.acceptance-requires-clause-set
 acceptance-requires-clause-set c =
-    let count : length c.deref.result.now ≡ length c.short_numbers.new.tables.terms = ap length c.deref.ensures.value ∙ c.in_ok-accepting.ensures.count in
+    let count : length c.deref.result.now ≡ length c.short_numbers.new.tables.terms = ap length c.deref.ensures.value ∙ c.in_ok-acceptance_tests.ensures.count in
     ap₂ are_below count c.deref-2.ensures.value ∙ c.in_ok-shorts.ensures.there
 
 pub acceptance-requires-clause-there : goal.acceptance-requires-clause-there
-acceptance-requires-clause-there c = omega (arith, ap length c.deref.ensures.value, c.in_ok-accepting.ensures.count, ap length c.acceptances.ensures.grows.terms)
+acceptance-requires-clause-there c = omega (arith, ap length c.deref.ensures.value, c.in_ok-acceptance_tests.ensures.count, ap length c.acceptances.ensures.grows.terms)
 
 pub needed_terms-requires-clause-shorts : goal.needed_terms-requires-clause-shorts
 needed_terms-requires-clause-shorts c =
@@ -65,14 +65,14 @@ returns-clause-pass c =
     let last = c.acceptance.new.tables in
     let n = c.in_ok-left in
     let ks = c.in_ok-shorts.shorts.items in
-    let p : PassParts = record { problem = q; cert = cert; index = c.args.index.now; tables = last; left = n.left; right = n.right; universal = n.universal; shorts = ks; accepting = c.in_ok-accepting.accepting.items; banned = c.in_ok-banned.banned; needed = c.in_ok-needed.needed.items } in
+    let p : PassParts = record { problem = q; cert = cert; index = c.args.index.now; tables = last; left = n.left; right = n.right; universal = n.universal; shorts = ks; acceptance_tests = c.in_ok-acceptance_tests.acceptance_tests.items; forbidden_atoms = c.in_ok-forbidden_atoms.forbidden_atoms; needed_terms = c.in_ok-needed_terms.needed_terms.items } in
     let whole = grows_trans first d second c.side_numbers.ensures.grows c.short_numbers.ensures.grows in
     let start = c.in_ok-tables.ensures.nodes ∙ ap (λ k. tables_of k cert) c.tests.ensures.value in
     let sides = subst (λ z. AreSideNumbers z q d n.left n.right n.universal) c.style.ensures.value n.ensures.sides in
     let shorts = c.in_ok-shorts.ensures.terms ∙ ap (λ z. counted_short z q) c.style-2.ensures.value in
     let roots = roots_made cert.style q d second n.left n.right n.universal ks c.short_numbers.ensures.grows sides shorts c.in_ok-shorts.ensures.there in
-    let banned = subst (λ (l : List ℕ). HasValues last (set_out (terms_of (nodes_in third) l)) c.in_ok-banned.banned) c.deref-2.ensures.value c.in_ok-banned.ensures.values in
-    let needed = subst (λ (l : List ℕ). AreNeeded last cert l c.in_ok-needed.needed.items) c.deref-3.ensures.value c.in_ok-needed.ensures.needed in
-    let marks : length c.in_ok-needed.needed.items ≡ length c.in_ok-accepting.accepting.items = omega (arith, c.in_ok-needed.ensures.count, c.in_ok-accepting.ensures.count, ap length c.acceptances.ensures.grows.terms, ap length c.acceptance.ensures.grows.terms) in
-    pass_made p first second third start whole c.acceptances.ensures.grows c.acceptance.ensures.grows roots c.in_ok-accepting.ensures.count
-    c.tests.ensures.within c.style.ensures.rules c.requires.index c.in_ok-accepting.ensures.values banned marks needed
+    let forbidden_atoms = subst (λ (l : List ℕ). HasValues last (set_out (terms_of (nodes_in third) l)) c.in_ok-forbidden_atoms.forbidden_atoms) c.deref-2.ensures.value c.in_ok-forbidden_atoms.ensures.values in
+    let needed_terms = subst (λ (l : List ℕ). AreNeeded last cert l c.in_ok-needed_terms.needed_terms.items) c.deref-3.ensures.value c.in_ok-needed_terms.ensures.needed in
+    let marks : length c.in_ok-needed_terms.needed_terms.items ≡ length c.in_ok-acceptance_tests.acceptance_tests.items = omega (arith, c.in_ok-needed_terms.ensures.count, c.in_ok-acceptance_tests.ensures.count, ap length c.acceptances.ensures.grows.terms, ap length c.acceptance.ensures.grows.terms) in
+    pass_made p first second third start whole c.acceptances.ensures.grows c.acceptance.ensures.grows roots c.in_ok-acceptance_tests.ensures.count
+    c.tests.ensures.within c.style.ensures.rules c.requires.index c.in_ok-acceptance_tests.ensures.values forbidden_atoms marks needed_terms

@@ -10,7 +10,7 @@ use Rattle.cert_steps.specs.NodeTables.{TablesGrow, nodes_in}
 use Rattle.cert_steps.specs.Targets.{AreSteps, StandFor, set_leads_to}
 use Rattle.cert_steps.proofs.GrowingTables.{grows_trans}
 use Rattle.cert_checker.specs.Working.Cases.{IsFirstFailure, undecided}
-use Rattle.cert_checker.specs.Working.Questions.{TurnParts, QuestionParts, IsAskedOf, MatchAt}
+use Rattle.cert_checker.specs.Working.Questions.{ActionPassParts, QuestionParts, IsAskedOf, MatchAt}
 use Rattle.cert_checker.specs.Working.Places.{PassParts}
 use Rattle.cert_checker.proofs.LeastFailures.{Below, unbounded}
 use Rattle.cert_checker.proofs.Passes.{grown}
@@ -20,53 +20,53 @@ use Rattle.cert_checker.proofs.pass.Pass.pair_failure.Goals as goal
 pub of_set-requires-clause-steps : goal.of_set-requires-clause-steps
 of_set-requires-clause-steps c =
     let p = c.args.self.now in
-    let turn = c.args.turn.now in
+    let action_pass = c.args.pass.now in
     let r = c.args.pair.now in
     let t : c.self.inside.tables ≡ p.tables = ap (λ (z : PassParts). z.tables) c.self.view_is in
-    let a : c.turn.inside.action ≡ turn.action = ap (λ (z : TurnParts). z.action) c.turn.view_is in
-    let s : map (λ e. e.entries) c.deref.result.now ≡ turn.steps = ap (map (λ e. e.entries)) c.deref.ensures.value ∙ ap (λ (z : TurnParts). z.steps) c.turn.view_is in
+    let a : c.pass.inside.action ≡ action_pass.action = ap (λ (z : ActionPassParts). z.action) c.pass.view_is in
+    let s : map (λ e. e.entries) c.deref.result.now ≡ action_pass.steps = ap (map (λ e. e.entries)) c.deref.ensures.value ∙ ap (λ (z : ActionPassParts). z.steps) c.pass.view_is in
     let l : c.as_slice.result.now ≡ r.left = c.as_slice.ensures ∙ ap (λ (z : PairParts). z.left) c.pair.view_is in
-    (by_path (λ i. AreSteps (t i) (a i) (Has (l i)) (s i))).1 (left_steps p c.requires.pass turn c.requires.turn r c.requires.pair)
+    (by_path (λ i. AreSteps (t i) (a i) (Has (l i)) (s i))).1 (left_steps p c.requires.pass action_pass c.requires.action_pass r c.requires.pair)
 
 pub of_set-requires-clause-numbers : goal.of_set-requires-clause-numbers
 of_set-requires-clause-numbers c =
     let p = c.args.self.now in
-    let turn = c.args.turn.now in
+    let action_pass = c.args.pass.now in
     let r = c.args.pair.now in
     let t : c.self.inside.tables ≡ p.tables = ap (λ (z : PassParts). z.tables) c.self.view_is in
-    let a : c.turn.inside.action ≡ turn.action = ap (λ (z : TurnParts). z.action) c.turn.view_is in
-    let s : map (λ e. e.entries) c.deref.result.now ≡ turn.steps = ap (map (λ e. e.entries)) c.deref.ensures.value ∙ ap (λ (z : TurnParts). z.steps) c.turn.view_is in
+    let a : c.pass.inside.action ≡ action_pass.action = ap (λ (z : ActionPassParts). z.action) c.pass.view_is in
+    let s : map (λ e. e.entries) c.deref.result.now ≡ action_pass.steps = ap (map (λ e. e.entries)) c.deref.ensures.value ∙ ap (λ (z : ActionPassParts). z.steps) c.pass.view_is in
     let l : c.as_slice.result.now ≡ r.left = c.as_slice.ensures ∙ ap (λ (z : PairParts). z.left) c.pair.view_is in
-    let n : length c.deref.result.now ≡ length turn.steps = sym (length-map c.deref.result.now (λ e. e.entries)) ∙ ap length s in
-    (by_path (λ i. IsTrue (are_below (n i) (l i)))).1 (left_numbers p c.requires.pass turn c.requires.turn r c.requires.pair)
+    let n : length c.deref.result.now ≡ length action_pass.steps = sym (length-map c.deref.result.now (λ e. e.entries)) ∙ ap length s in
+    (by_path (λ i. IsTrue (are_below (n i) (l i)))).1 (left_numbers p c.requires.pass action_pass c.requires.action_pass r c.requires.pair)
 
 pub of_set-requires-2-clause-steps : goal.of_set-requires-2-clause-steps
 of_set-requires-2-clause-steps c =
     let p = c.args.self.now in
-    let turn = c.args.turn.now in
+    let action_pass = c.args.pass.now in
     let r = c.args.pair.now in
     let t : c.self.inside.tables ≡ p.tables = ap (λ (z : PassParts). z.tables) c.self.view_is in
-    let a : c.turn.inside.action ≡ turn.action = ap (λ (z : TurnParts). z.action) c.turn.view_is in
-    let s : map (λ e. e.entries) c.deref-2.result.now ≡ turn.steps = ap (map (λ e. e.entries)) c.deref-2.ensures.value ∙ ap (λ (z : TurnParts). z.steps) c.turn.view_is in
+    let a : c.pass.inside.action ≡ action_pass.action = ap (λ (z : ActionPassParts). z.action) c.pass.view_is in
+    let s : map (λ e. e.entries) c.deref-2.result.now ≡ action_pass.steps = ap (map (λ e. e.entries)) c.deref-2.ensures.value ∙ ap (λ (z : ActionPassParts). z.steps) c.pass.view_is in
     let k : c.as_slice-2.result.now ≡ r.right = c.as_slice-2.ensures ∙ ap (λ (z : PairParts). z.right) c.pair.view_is in
     let mid = c.of_set.new.tables in
     let to_mid = subst (λ z. TablesGrow z mid) t c.of_set.ensures.grows.grows in
-    (by_path (λ i. AreSteps mid (a i) (Has (k i)) (s i))).1 (right_steps p c.requires.pass turn c.requires.turn r c.requires.pair mid to_mid)
+    (by_path (λ i. AreSteps mid (a i) (Has (k i)) (s i))).1 (right_steps p c.requires.pass action_pass c.requires.action_pass r c.requires.pair mid to_mid)
 
 pub of_set-requires-2-clause-numbers : goal.of_set-requires-2-clause-numbers
 of_set-requires-2-clause-numbers c =
     let p = c.args.self.now in
-    let turn = c.args.turn.now in
+    let action_pass = c.args.pass.now in
     let r = c.args.pair.now in
     let t : c.self.inside.tables ≡ p.tables = ap (λ (z : PassParts). z.tables) c.self.view_is in
-    let a : c.turn.inside.action ≡ turn.action = ap (λ (z : TurnParts). z.action) c.turn.view_is in
-    let s : map (λ e. e.entries) c.deref-2.result.now ≡ turn.steps = ap (map (λ e. e.entries)) c.deref-2.ensures.value ∙ ap (λ (z : TurnParts). z.steps) c.turn.view_is in
+    let a : c.pass.inside.action ≡ action_pass.action = ap (λ (z : ActionPassParts). z.action) c.pass.view_is in
+    let s : map (λ e. e.entries) c.deref-2.result.now ≡ action_pass.steps = ap (map (λ e. e.entries)) c.deref-2.ensures.value ∙ ap (λ (z : ActionPassParts). z.steps) c.pass.view_is in
     let k : c.as_slice-2.result.now ≡ r.right = c.as_slice-2.ensures ∙ ap (λ (z : PairParts). z.right) c.pair.view_is in
-    let n : length c.deref-2.result.now ≡ length turn.steps = sym (length-map c.deref-2.result.now (λ e. e.entries)) ∙ ap length s in
-    (by_path (λ i. IsTrue (are_below (n i) (k i)))).1 (right_numbers p c.requires.pass turn c.requires.turn r c.requires.pair)
+    let n : length c.deref-2.result.now ≡ length action_pass.steps = sym (length-map c.deref-2.result.now (λ e. e.entries)) ∙ ap length s in
+    (by_path (λ i. IsTrue (are_below (n i) (k i)))).1 (right_numbers p c.requires.pass action_pass c.requires.action_pass r c.requires.pair)
 
-pub of-requires-clause-own : goal.of-requires-clause-own
-of-requires-clause-own c =
+pub of-requires-clause-pair_test : goal.of-requires-clause-pair_test
+of-requires-clause-pair_test c =
     let p = c.args.self.now in
     let r = c.args.pair.now in
     let t : c.self.inside.tables ≡ p.tables = ap (λ (z : PassParts). z.tables) c.self.view_is in
@@ -77,10 +77,10 @@ of-requires-clause-own c =
 pub of-requires-clause-left : goal.of-requires-clause-left
 of-requires-clause-left c =
     let p = c.args.self.now in
-    let turn = c.args.turn.now in
+    let action_pass = c.args.pass.now in
     let r = c.args.pair.now in
     let t : c.self.inside.tables ≡ p.tables = ap (λ (z : PassParts). z.tables) c.self.view_is in
-    let a : c.turn.inside.action ≡ turn.action = ap (λ (z : TurnParts). z.action) c.turn.view_is in
+    let a : c.pass.inside.action ≡ action_pass.action = ap (λ (z : ActionPassParts). z.action) c.pass.view_is in
     let l : c.as_slice.result.now ≡ r.left = c.as_slice.ensures ∙ ap (λ (z : PairParts). z.left) c.pair.view_is in
     let k : c.as_slice-2.result.now ≡ r.right = c.as_slice-2.ensures ∙ ap (λ (z : PairParts). z.right) c.pair.view_is in
     let mid = c.of_set.new.tables in
@@ -92,15 +92,15 @@ of-requires-clause-left c =
     let own = (by_path (λ i. StandFor mid lefts (set_leads_to (a i) (terms_of (nodes_in (t i)) (l i))))).0 c.in_ok-left.ensures.targets in
     let other = (by_path (λ i. StandFor last rights (set_leads_to (a i) (terms_of (nodes_in mid) (k i))))).0 c.in_ok-right.ensures.targets in
     let test : c.pair.inside.test ≡ r.test = ap (λ (z : PairParts). z.test) c.pair.view_is in
-    left_entries p mid last c.requires.pass to_mid to_last turn c.requires.turn r c.requires.pair lefts rights own other
+    left_entries p mid last c.requires.pass to_mid to_last action_pass c.requires.action_pass r c.requires.pair lefts rights own other
 
 pub of-requires-clause-right : goal.of-requires-clause-right
 of-requires-clause-right c =
     let p = c.args.self.now in
-    let turn = c.args.turn.now in
+    let action_pass = c.args.pass.now in
     let r = c.args.pair.now in
     let t : c.self.inside.tables ≡ p.tables = ap (λ (z : PassParts). z.tables) c.self.view_is in
-    let a : c.turn.inside.action ≡ turn.action = ap (λ (z : TurnParts). z.action) c.turn.view_is in
+    let a : c.pass.inside.action ≡ action_pass.action = ap (λ (z : ActionPassParts). z.action) c.pass.view_is in
     let l : c.as_slice.result.now ≡ r.left = c.as_slice.ensures ∙ ap (λ (z : PairParts). z.left) c.pair.view_is in
     let k : c.as_slice-2.result.now ≡ r.right = c.as_slice-2.ensures ∙ ap (λ (z : PairParts). z.right) c.pair.view_is in
     let mid = c.of_set.new.tables in
@@ -112,15 +112,15 @@ of-requires-clause-right c =
     let own = (by_path (λ i. StandFor mid lefts (set_leads_to (a i) (terms_of (nodes_in (t i)) (l i))))).0 c.in_ok-left.ensures.targets in
     let other = (by_path (λ i. StandFor last rights (set_leads_to (a i) (terms_of (nodes_in mid) (k i))))).0 c.in_ok-right.ensures.targets in
     let test : c.pair.inside.test ≡ r.test = ap (λ (z : PairParts). z.test) c.pair.view_is in
-    right_entries p mid last c.requires.pass to_mid to_last turn c.requires.turn r c.requires.pair lefts rights own other
+    right_entries p mid last c.requires.pass to_mid to_last action_pass c.requires.action_pass r c.requires.pair lefts rights own other
 
 pub least_failure-requires-clause-question : goal.least_failure-requires-clause-question
 least_failure-requires-clause-question c =
     let p = c.args.self.now in
-    let turn = c.args.turn.now in
+    let action_pass = c.args.pass.now in
     let r = c.args.pair.now in
     let t : c.self.inside.tables ≡ p.tables = ap (λ (z : PassParts). z.tables) c.self.view_is in
-    let a : c.turn.inside.action ≡ turn.action = ap (λ (z : TurnParts). z.action) c.turn.view_is in
+    let a : c.pass.inside.action ≡ action_pass.action = ap (λ (z : ActionPassParts). z.action) c.pass.view_is in
     let l : c.as_slice.result.now ≡ r.left = c.as_slice.ensures ∙ ap (λ (z : PairParts). z.left) c.pair.view_is in
     let k : c.as_slice-2.result.now ≡ r.right = c.as_slice-2.ensures ∙ ap (λ (z : PairParts). z.right) c.pair.view_is in
     let mid = c.of_set.new.tables in
@@ -133,8 +133,8 @@ least_failure-requires-clause-question c =
     let other = (by_path (λ i. StandFor last rights (set_leads_to (a i) (terms_of (nodes_in mid) (k i))))).0 c.in_ok-right.ensures.targets in
     let test : c.pair.inside.test ≡ r.test = ap (λ (z : PairParts). z.test) c.pair.view_is in
     let q = c.in_ok-question.question in
-    let asked : IsAskedOf last turn r.test lefts rights q = c.in_ok-question.ensures.question ∙ ap (λ o. question_of last turn o lefts rights q.asked) test in
-    pair_posed p mid last c.requires.pass to_mid to_last turn c.requires.turn r c.requires.pair lefts rights own other q asked c.in_ok-question.ensures.named
+    let asked : IsAskedOf last action_pass r.test lefts rights q = c.in_ok-question.ensures.question ∙ ap (λ o. question_of last action_pass o lefts rights q.asked) test in
+    pair_posed p mid last c.requires.pass to_mid to_last action_pass c.requires.action_pass r c.requires.pair lefts rights own other q asked c.in_ok-question.ensures.named
 
 pub least_failure-requires-clause-decided : goal.least_failure-requires-clause-decided
 least_failure-requires-clause-decided c =
@@ -147,10 +147,10 @@ least_failure-requires-clause-decided c =
 pub returns-clause-failure : goal.returns-clause-failure
 returns-clause-failure c =
     let p = c.args.self.now in
-    let turn = c.args.turn.now in
+    let action_pass = c.args.pass.now in
     let r = c.args.pair.now in
     let t : c.self.inside.tables ≡ p.tables = ap (λ (z : PassParts). z.tables) c.self.view_is in
-    let a : c.turn.inside.action ≡ turn.action = ap (λ (z : TurnParts). z.action) c.turn.view_is in
+    let a : c.pass.inside.action ≡ action_pass.action = ap (λ (z : ActionPassParts). z.action) c.pass.view_is in
     let l : c.as_slice.result.now ≡ r.left = c.as_slice.ensures ∙ ap (λ (z : PairParts). z.left) c.pair.view_is in
     let k : c.as_slice-2.result.now ≡ r.right = c.as_slice-2.ensures ∙ ap (λ (z : PairParts). z.right) c.pair.view_is in
     let mid = c.of_set.new.tables in
@@ -163,8 +163,8 @@ returns-clause-failure c =
     let other = (by_path (λ i. StandFor last rights (set_leads_to (a i) (terms_of (nodes_in mid) (k i))))).0 c.in_ok-right.ensures.targets in
     let test : c.pair.inside.test ≡ r.test = ap (λ (z : PairParts). z.test) c.pair.view_is in
     let q = c.in_ok-question.question in
-    let asked : IsAskedOf last turn r.test lefts rights q = c.in_ok-question.ensures.question ∙ ap (λ o. question_of last turn o lefts rights q.asked) test in
-    let told = pair_told p mid last c.requires.pass to_mid to_last turn c.requires.turn r c.requires.pair lefts rights own other q in
+    let asked : IsAskedOf last action_pass r.test lefts rights q = c.in_ok-question.ensures.question ∙ ap (λ o. question_of last action_pass o lefts rights q.asked) test in
+    let told = pair_told p mid last c.requires.pass to_mid to_last action_pass c.requires.action_pass r c.requires.pair lefts rights own other q in
     IfOk-weaker c.least_failure.result _ _
     (λ o f. told (option_map (λ v. v.items) o) asked (unbounded (MatchAt q.tables q) (undecided (p.tables.width + p.tables.width)) (option_map (λ v. v.items) o) (subst (λ ds. IsFirstFailure (Below (MatchAt q.tables q) None) ds (option_map (λ v. v.items) o)) c.requires.undecided f)))
     c.least_failure.ensures.failure

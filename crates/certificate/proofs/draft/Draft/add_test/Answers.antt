@@ -4,8 +4,8 @@ use Rattle.term_nodes.specs.declared.TestNode.{TestNode}
 use Rattle.certificate.specs.declared.draft.Draft.{Draft}
 use Rattle.certificate.specs.declared.entry.Entry.TheVariants.{TestLine}
 use Rattle.certificate.specs.Working.Readings.{draft_parts}
-use Rattle.certificate.proofs.KnownNodes.{old_known, new_unknown}
-use Rattle.certificate.proofs.Drafts.{known_pushed, test_double, test_passes, added}
+use Rattle.line_format.proofs.KnownLines.{old_known, new_unknown, known_pushed}
+use Rattle.certificate.proofs.Drafts.{test_double, test_passes, added}
 use Rattle.certificate.proofs.draft.Draft.add_test.Goals as goal
 
 pub returns-then-not-is_new : goal.returns-then-not-is_new

@@ -1,11 +1,11 @@
-use Rattle.std.proofs.Common.{◌≡◌, ℕ, ap, ◌++◌, ◌∷◌, [], List}
+use Rattle.std.proofs.Common.{◌≡◌, ap, ◌++◌, ◌∷◌, [], List}
 use Rattle.kat_model.specs.Members.{SameMembers}
 use Rattle.outline_notes.specs.declared.notes.NoteNode.{NoteNode}
 use Rattle.outline_notes.specs.declared.line.NoteLine.TheVariants.{Node}
 use Rattle.outline_notes.specs.declared.draft.Draft.{Draft}
 use Rattle.outline_notes.specs.NoteLists.{notes_of}
 use Rattle.outline_notes.specs.Working.Readings.{draft_parts}
-use Rattle.outline_notes.proofs.KnownNodes.{old_known, new_unknown, known_pushed}
+use Rattle.line_format.proofs.KnownLines.{old_known, new_unknown, known_pushed}
 use Rattle.outline_notes.proofs.Drafts.{node_double, node_passes, added}
 use Rattle.outline_notes.proofs.draft.Draft.add_node.Goals as goal
 

@@ -1,2 +1,0 @@
-pub mod WrittenParts
-mod ShowExamples

@@ -1,6 +1,0 @@
-use Rattle.bisim_worklist.specs.Working.Cases.{open_count}
-use Rattle.bisim_worklist.proofs.branching.+visit.Given as goal
-
--- each split decides a test
-abbrev pub decreases-visit : goal.decreases-visit
-decreases-visit l = open_count l.case.now.decided.items

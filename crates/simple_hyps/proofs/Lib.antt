@@ -1,4 +1,0 @@
-pub mod SimpleForms
-pub mod LeastHypotheses
-pub mod HypothesisSets
-pub mod StepForms

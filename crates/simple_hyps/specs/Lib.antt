@@ -1,2 +1,0 @@
-pub mod TestTerms
-pub mod HypothesisForms

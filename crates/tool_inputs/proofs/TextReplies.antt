@@ -1,0 +1,32 @@
+-- The parts of a reply to a text that has a question, or has none, combined.
+use Rattle.std.proofs.Common.{ℕ, List, Result, Ok, Err, inl, inr, subst}
+use Rattle.kat_model.specs.Problems.{ProblemParts}
+use Rattle.problem_file.specs.Files.{FileParts}
+use Rattle.problem_file.specs.Reads.{Reads}
+use Rattle.tool_inputs.specs.declared.reply.Reply.{Reply}
+use Rattle.tool_inputs.specs.declared.reply.EarlyEnd.{EarlyEnd}
+use Rattle.tool_inputs.specs.FileProblem.{Asks}
+use Rattle.tool_inputs.specs.TextProblem.{HasNoAbstraction, HasNoProblem}
+use Rattle.tool_inputs.specs.Steps.{ReplySpec, IsRefusal, AsksText}
+use Rattle.tool_inputs.specs.ReplySpecs.{Yields, RepliesWith, IsQuestionOf, IsPosedBy}
+use Rattle.tool_inputs.proofs.ReplySpecs.{EndsWith-weaker, RepliesWith-weaker}
+
+-- the question of the file of a text is the problem that the text poses
+pub file_poses : (text : List ℕ) (f : FileParts) → Reads text f → (result : Result ProblemParts EarlyEnd) → Yields (IsQuestionOf f) (IsRefusal (HasNoAbstraction f)) result → IsPosedBy text result
+file_poses text f reads (Ok q) h = record { file = f; reads = reads; abstract = h.0; is_abstract = h.1; question = h.2 }
+file_poses text f reads (Err stop) h = EndsWith-weaker (IsRefusal (HasNoAbstraction f)) (IsRefusal (HasNoProblem text)) (λ status output r. (r.0, inr (f, reads, r.1))) stop h
+
+-- a text that poses no problem is refused; for any other text, the reply is that to its problem
+module _ (text : List ℕ) (GoesOn : ProblemParts → ReplySpec) where
+  pub text_refused : (status : ℕ) (output : List ℕ) → IsRefusal (HasNoProblem text) status output → AsksText text GoesOn status output
+  text_refused status output (two, inl f) = inl (two, f)
+  text_refused status output (two, inr (a, says, n)) = inr (a, says, inl (two, n))
+
+  pub text_posed : (status : ℕ) (output : List ℕ) (q : ProblemParts) → Asks text q → GoesOn q status output → AsksText text GoesOn status output
+  text_posed status output q asks r = inr (asks.file, asks.reads, inr (asks.abstract, asks.is_abstract, subst (λ p. GoesOn p status output) asks.question r))
+
+  pub refused_replied : (result : Result Reply EarlyEnd) → RepliesWith (IsRefusal (HasNoProblem text)) result → RepliesWith (AsksText text GoesOn) result
+  refused_replied result r = RepliesWith-weaker (IsRefusal (HasNoProblem text)) (AsksText text GoesOn) text_refused result r
+
+  pub posed_replied : (q : ProblemParts) → Asks text q → (result : Result Reply EarlyEnd) → RepliesWith (GoesOn q) result → RepliesWith (AsksText text GoesOn) result
+  posed_replied q asks result r = RepliesWith-weaker (GoesOn q) (AsksText text GoesOn) (λ status output h. text_posed status output q asks h) result r

@@ -1,6 +1,0 @@
-use Rattle.std.proofs.Common.{◌≡◌, ◌++◌, drop}
-use Rattle.tool_programs.specs.RunTexts.{values_text}
-use Rattle.tool_programs.proofs.run_text.put_values.Given as goal
-
-abbrev pub invariant-loop-k : goal.invariant-loop-k
-invariant-loop-k l = l.out.items ++ values_text l.scope l.k (drop l.k l.values) ≡ l.initial.out.items ++ values_text l.scope 0 l.values

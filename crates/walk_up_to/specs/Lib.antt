@@ -1,0 +1,5 @@
+pub mod Walks
+pub mod Decisions
+pub mod StoredSides
+pub mod Laws
+pub mod Working

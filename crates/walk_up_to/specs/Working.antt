@@ -1,0 +1,8 @@
+pub mod Visits
+pub mod Listings
+pub mod Indices
+pub mod Marks
+pub mod Covers
+pub mod Cases
+pub mod IdWalks
+pub mod Walking
