@@ -1,0 +1,4 @@
+pub mod Frames
+pub mod Theories
+pub mod SmallStrings
+pub mod StoreStrings

@@ -1,0 +1,4 @@
+pub mod Models
+pub mod SmallStrings
+pub mod StoreStrings
+pub mod Laws

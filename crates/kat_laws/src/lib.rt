@@ -1,0 +1,9 @@
+//! Laws that need the definitions of several crates: relational models with infinitely many states, the size of
+//! shortest counterexamples, and strings that run on stores.
+#![tactic(auto)]
+
+mod laws;
+
+pub use laws::{
+    models_are_tables, shortest_are_small, small_strings_decide, strings_fail_on_stores,
+};
