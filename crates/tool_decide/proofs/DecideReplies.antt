@@ -22,7 +22,7 @@ decided_headline q status output (inl h) = record {
   answers = inl h.0;
   equal = ((λ _. h.1.same), (λ _. h.0));
   different = ((λ e. absurd (not_both status h.0 e)), (λ differ. absurd (differ h.1.same)));
-  certificate = λ e. (h.1.cert, answer_accepted q h.1.cert h.1.answer, h.1.printed.text);
+  certificate = λ e. (h.1.cert, answer_accepted q h.1.cert h.1.answer, h.1.printed);
   string = λ e. absurd (not_both status h.0 e);
 }
 decided_headline q status output (inr h) = record {
@@ -30,7 +30,7 @@ decided_headline q status output (inr h) = record {
   equal = ((λ e. absurd (not_both status e h.0)), (λ same. absurd (h.1.differ same)));
   different = ((λ _. h.1.differ), (λ _. h.0));
   certificate = λ e. absurd (not_both status e h.0);
-  string = λ e. (h.1.string, h.1.shortest, h.1.printed.text);
+  string = λ e. (h.1.string, h.1.shortest, h.1.printed);
 }
 
 pub text_headline : (text : List ℕ) (status : ℕ) (output : List ℕ) (q : ProblemParts) → Asks text q → DecidesText text status output → Headline q status output

@@ -6,3 +6,4 @@ pub mod BatchReplies
 pub mod BenchReplies
 mod PlainTexts
 mod PlainPrograms
+mod PlainExamples

@@ -91,7 +91,7 @@ bare_abstract f l r e problem =
 
 -- ---- the plainest text
 
-plain_asks : (q : ProblemParts) → IsPrintable q → Asks (question_text q) q
+pub plain_asks : (q : ProblemParts) → IsPrintable q → Asks (question_text q) q
 plain_asks q printable =
     let read = reads_back q printable in
     let f = read.file in
