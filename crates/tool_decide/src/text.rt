@@ -10,7 +10,7 @@ ghost use Rattle.problem_file.specs.Files.{GoalTree, FileParts};
 ghost use Rattle.problem_file.specs.Reads.{Reads, ReadsAll};
 ghost use Rattle.problem_file.specs.Concrete.{IsConcrete, Agrees};
 ghost use Rattle.tool_inputs.specs.FileProblem.{Asks};
-ghost use Rattle.tool_inputs.specs.StoreAnswers.{AlwaysEndAlike, AlwaysMeets, StoreHeadline};
+ghost use Rattle.tool_inputs.specs.StoreAnswers.{AlwaysEndAlike, AlwaysMeets, programs_abstraction, triple_abstraction, StoreHeadline};
 ghost use Rattle.tool_decide.specs.Decide.{Headline, DecideReply};
 ghost use Rattle.tool_decide.specs.DecideJson.{ReportHeadline, DecideJsonReply};
 ghost use Rattle.tool_decide.specs.Batch.{BatchHeadline, BatchReply};
@@ -33,9 +33,9 @@ pub fn decide_bytes(alloc: Global, text: &[u8]) -> Result<Reply, NoMemory>
         → IfOk result (λ r. Headline q r.status r.output.items) }
     // For the plainest texts of two programs, and of a triple of one program, over `v` variables of the width `w`.
     ensures programs { (w : Width) (v : ℕ) (p q : ProgTree) → ArePrintable w v p q → text.now ≡ programs_text w v p q
-        → IfOk result (λ r. StoreHeadline (AlwaysEndAlike w v p q) r.status r.output.items) }
+        → IfOk result (λ r. StoreHeadline (programs_abstraction w v p q) (AlwaysEndAlike w v p q) r.status r.output.items) }
     ensures triples { (w : Width) (v : ℕ) (b : CondTree) (p : ProgTree) (c : CondTree) → IsTriplePrintable w v b p c → text.now ≡ triple_text w v b p c
-        → IfOk result (λ r. StoreHeadline (AlwaysMeets w v b p c) r.status r.output.items) }
+        → IfOk result (λ r. StoreHeadline (triple_abstraction w v b p c) (AlwaysMeets w v b p c) r.status r.output.items) }
     // For every text.
     ensures headline { (q : ProblemParts) → Asks text.now q
         → IfOk result (λ r. Headline q r.status r.output.items) }

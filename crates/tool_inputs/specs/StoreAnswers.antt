@@ -1,10 +1,16 @@
 -- The answer to the plainest text of a goal about programs, and what it means for stores.
-use Rattle.std.specs.Prelude.{◌≡◌, ◌⊎◌, ◌↔◌, ℕ, List, length, true}
+use Rattle.std.specs.Prelude.{◌≡◌, ◌⊎◌, ◌↔◌, ℕ, List, [], length, true, Result, Ok, Err}
 use Rattle.kat_model.specs.declared.expression.Width.{Width}
 use Rattle.kat_model.specs.Expressions.{CondTree}
+use Rattle.kat_model.specs.Problems.{ProblemParts}
+use Rattle.kat_model.specs.Relations.{Same}
 use Rattle.kat_model.specs.Stores.{Store, IsStore, holds}
+use Rattle.text_scopes.specs.ScopeParts.{empty_scope}
 use Rattle.while_lang.specs.Programs.{ProgTree}
 use Rattle.while_lang.specs.Runs.{Ends}
+use Rattle.problem_file.specs.Files.{GoalTree, equal, triple, prog_side, FileParts}
+use Rattle.abstraction.specs.Abstracts.{AbstractParts, abstract_of}
+use Rattle.abstraction.specs.declared.fault.AbstractFault.{AbstractFault}
 use Rattle.abstraction.specs.declared.fault.AbstractFault.TheVariants.{TooManyTests, TooManyActions, ProblemTooLarge}
 use Rattle.kat_report.specs.AbstractRefusals.{abstract_fault_line}
 
@@ -27,9 +33,41 @@ IsTooLarge output =
     ⊎ ((output ≡ abstract_fault_line TooManyActions)
     ⊎ (output ≡ abstract_fault_line ProblemTooLarge))
 
--- The status is 0, 1 or 2. If it is 0, the statement about stores is true; if it is 2, the goal is too large. Status 1
--- says nothing about stores.
-pub record StoreHeadline (Sentence : Type 0) (status : ℕ) (output : List ℕ) : Type 0 where
+-- a file with only this goal, over `v` variables of width `w`; its abstraction does not depend on names
+abbrev pub goal_file : Width → ℕ → GoalTree → FileParts
+goal_file w v goal = record {
+  scope = empty_scope;
+  tests = 0;
+  actions = 0;
+  vars = v;
+  terms = 0;
+  progs = [];
+  prog_names = [];
+  hyps = [];
+  rounds = 1;
+  goal = goal;
+  width = w;
+}
+
+-- the abstraction of the goal that two programs are equal, and of a triple of a program; or which limit it exceeds
+abbrev pub programs_abstraction : Width → ℕ → ProgTree → ProgTree → Result AbstractParts AbstractFault
+programs_abstraction w v p q = abstract_of (goal_file w v (equal (prog_side p) (prog_side q)))
+
+abbrev pub triple_abstraction : Width → ℕ → CondTree → ProgTree → CondTree → Result AbstractParts AbstractFault
+triple_abstraction w v b p c = abstract_of (goal_file w v (triple b (prog_side p) c))
+
+-- there is an abstraction, and its problem has this property
+abbrev pub ProblemSatisfies : Result AbstractParts AbstractFault → (ProblemParts → Type 0) → Type 0
+ProblemSatisfies abstraction P = (a : AbstractParts) × (abstraction ≡ Ok a) × P a.problem
+
+-- The status is 0 exactly when both sides of the abstraction are the same, 1 exactly when they are not, and 2 exactly
+-- when there is no abstraction; then the line names the exceeded limit. If the status is 0, the statement about stores is
+-- true. Status 1 says nothing about stores.
+pub record StoreHeadline (abstraction : Result AbstractParts AbstractFault) (Sentence : Type 0) (status : ℕ) (output : List ℕ) : Type 0 where
   pub answers : (status ≡ 0) ⊎ ((status ≡ 1) ⊎ (status ≡ 2))
+  pub same : (status ≡ 0) ↔ ProblemSatisfies abstraction Same
+  pub different : (status ≡ 1) ↔ ProblemSatisfies abstraction (λ q. Same q → ⊥)
+  pub limit : (status ≡ 2) ↔ ((fault : AbstractFault) × (abstraction ≡ Err fault))
   pub equal : status ≡ 0 → Sentence
   pub refused : status ≡ 2 → IsTooLarge output
+  pub line : (fault : AbstractFault) → abstraction ≡ Err fault → output ≡ abstract_fault_line fault

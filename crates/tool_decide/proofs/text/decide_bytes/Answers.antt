@@ -1,6 +1,6 @@
 use Rattle.std.proofs.Common.{◌≡◌}
 use Rattle.problem_file.specs.Concrete.{Agrees}
-use Rattle.tool_inputs.specs.StoreAnswers.{AlwaysEndAlike, AlwaysMeets, StoreHeadline}
+use Rattle.tool_inputs.specs.StoreAnswers.{AlwaysEndAlike, AlwaysMeets, programs_abstraction, triple_abstraction, StoreHeadline}
 use Rattle.tool_decide.specs.Decide.{DecidesText, Headline, DecideReply}
 use Rattle.tool_decide.proofs.DecideReplies.{text_headline, text_stores, decide_reply}
 use Rattle.tool_decide.proofs.PlainTexts.{plain_headline}
@@ -16,13 +16,13 @@ returns-clause-plain c q printable same =
 
 pub returns-clause-programs : goal.returns-clause-programs
 returns-clause-programs c w v p q printable same =
-    into_replied (DecidesText c.args.text.now) (StoreHeadline (AlwaysEndAlike w v p q))
+    into_replied (DecidesText c.args.text.now) (StoreHeadline (programs_abstraction w v p q) (AlwaysEndAlike w v p q))
     (λ status output r. programs_headline c.args.text.now w v status output p q printable same r)
     c.text_reply.result c.into_reply.result c.into_reply.ensures c.text_reply.ensures
 
 pub returns-clause-triples : goal.returns-clause-triples
 returns-clause-triples c w v b p d printable same =
-    into_replied (DecidesText c.args.text.now) (StoreHeadline (AlwaysMeets w v b p d))
+    into_replied (DecidesText c.args.text.now) (StoreHeadline (triple_abstraction w v b p d) (AlwaysMeets w v b p d))
     (λ status output r. triple_headline c.args.text.now w v status output b p d printable same r)
     c.text_reply.result c.into_reply.result c.into_reply.ensures c.text_reply.ensures
 
