@@ -1,0 +1,8 @@
+//! Flow graphs: graphs of blocks and jumps over values of several sorts, with functions of which nothing is known.
+#![tactic(auto)]
+
+mod laws;
+mod sort;
+
+pub use laws::{runs_are_determined, signed_comparisons};
+pub use sort::Sort;
