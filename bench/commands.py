@@ -4,10 +4,9 @@
 
     python3 bench/commands.py [--kat PROGRAM] [--runs N] [CASE[=SIZE] ..]
 
-Without names all cases are measured at the sizes below. The program is the repository's own, which its script `kat`
-proves and builds first where that is wanted. Seconds are of the processor, the least of N runs (3) of the whole process,
-added up where several calls belong together; memory is the greatest peak in MB, with `-` where each run ended before it
-could be read.
+Without names all cases are measured at the sizes below. The program is the one that the script `kat` runs. Seconds are
+of the processor, the least of N runs (3) of the whole process, added up where several calls belong together; memory is
+the greatest peak in MB, with `-` where each run ended before it could be read.
 """
 
 import argparse

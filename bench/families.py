@@ -4,11 +4,11 @@
 
     python3 bench/families.py [--kat PROGRAM] [--runs N] [--keep FOLDER] [FAMILY[=SIZE] ..]
 
-Without names all families are measured at the sizes below. The program is the repository's own, which its script
-`kat` proves and builds first where that is wanted; another that takes the same words may be named. Times are the
-least of N runs (5) of the whole process, in seconds of the processor; memory is the greatest peak of N more, in MB, with
-`-` where each ended before it could be read. `pairs` are those of a certificate, `moves` those of a string, `nodes` and
-`notes` those of an outline. With --keep the problems, their evidence and their notes stay in that folder.
+Without names all families are measured at the sizes below. The program is the one that the script `kat` runs; another
+that takes the same words may be named. Times are the least of N runs (5) of the whole process, in seconds of the
+processor; memory is the greatest peak of N more, in MB, with `-` where each ended before it could be read. `pairs` are
+those of a certificate, `moves` those of a string, `nodes` and `notes` those of an outline. With --keep the problems,
+their evidence and their notes stay in that folder.
 """
 
 import argparse
@@ -321,12 +321,11 @@ def measure(program, name, size, folder, runs):
 
 
 def built(named):
-    """The program that was named. The repository's own is built by its script, and then run without it, since the time
-    and the memory of the script are not to be measured."""
+    """The program that was named. For the script `kat` it is what that runs, since the time and the memory of the script
+    are not to be measured."""
     program = os.path.abspath(named)
     if program == str(TOP / "kat"):
-        subprocess.run([program], stdout=subprocess.DEVNULL)
-        program = str(TOP / "crates/kat/out/kat")
+        program = subprocess.run([program, "--program"], stdout=subprocess.PIPE, text=True).stdout.rstrip("\n")
     return program
 
 

@@ -3,12 +3,11 @@
 
     python3 bench/refusals.py [--kat PROGRAM] [CALL ..]
 
-Without names all calls are made. The program is the repository's own, which its script `kat` proves and builds first
-where that is wanted. It runs as it was built, once for each request: what stands between it and the C library, and
-makes `malloc` or `realloc` answer that there is no memory, is a small library that the C compiler `cc` makes of the text
-below. A run may end with status 6 and no output, or with its own status and its whole output. A line is printed for
-each that ends otherwise, and for each call how many requests it makes and how its runs ended. The status is 0 where none
-ended otherwise.
+Without names all calls are made. The program is the one that the script `kat` runs. It runs as it was built, once for
+each request: what stands between it and the C library, and makes `malloc` or `realloc` answer that there is no memory,
+is a small library that the C compiler `cc` makes of the text below. A run may end with status 6 and no output, or with
+its own status and its whole output. A line is printed for each that ends otherwise, and for each call how many requests
+it makes and how its runs ended. The status is 0 where none ended otherwise.
 """
 
 import argparse
@@ -132,9 +131,8 @@ def main():
         sys.exit(f"no call {lost[0]}; there are {', '.join(CALLS)}")
     program = os.path.abspath(said.kat)
     if program == str(TOP / "kat"):
-        # The script builds it; it is then run without the script, whose own requests are not to be refused.
-        subprocess.run([program], stdout=subprocess.DEVNULL)
-        program = str(TOP / "crates/kat/out/kat")
+        # What the script runs is run without it, since the script's own requests are not to be refused.
+        program = subprocess.run([program, "--program"], stdout=subprocess.PIPE, text=True).stdout.rstrip("\n")
     print("| call | words | status | requests | status 6 | its own | other |\n|---|---|---|---|---|---|---|")
     with tempfile.TemporaryDirectory() as room:
         refuser = Refuser(program, Path(room))

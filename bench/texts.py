@@ -4,9 +4,9 @@ under `kat gkat`, evidence under `kat check` and `kat replay`, proofs under `kat
 
     python3 bench/texts.py [--kat PROGRAM] [--runs N] [CASE ..]
 
-Without names all cases are measured, each at its size and at half of it. The program is the repository's own, which its
-script `kat` proves and builds first where that is wanted. Seconds are of the processor, the least of N runs (3); memory
-is the greatest peak in MB, with `-` where each run ended before it could be read.
+Without names all cases are measured, each at its size and at half of it. The program is the one that the script `kat`
+runs. Seconds are of the processor, the least of N runs (3); memory is the greatest peak in MB, with `-` where each run
+ended before it could be read.
 """
 
 import argparse
