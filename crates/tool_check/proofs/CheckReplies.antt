@@ -14,6 +14,7 @@ use Rattle.problem_file.specs.Files.{FileParts}
 use Rattle.problem_file.specs.Reads.{Reads}
 use Rattle.problem_file.specs.Concrete.{IsConcrete, Agrees}
 use Rattle.tool_inputs.specs.FileProblem.{Asks, HasProblem}
+use Rattle.kat_report.specs.Acceptances.{accepted_line}
 use Rattle.kat_report.specs.InputLines.{too_long_line}
 use Rattle.tool_inputs.specs.TextProblem.{HasNoProblem}
 use Rattle.tool_inputs.specs.EvidenceBytes.{Spells, IsNoEvidence}
@@ -22,6 +23,7 @@ use Rattle.tool_check.specs.Check.{IsChecked, IsRejecting, ChecksBytes, ChecksTe
 use Rattle.tool_inputs.proofs.Steps.{OneStatus, reads_said, text_asks, abstracted_none, text_small, text_once, reads_spelled, reads_no_evidence, reads_evidence_once}
 use Rattle.tool_inputs.proofs.FileReplies.{HasOneReply, unposed, long_unposed, posed}
 use Rattle.tool_inputs.proofs.StoreSentences.{asked_agrees}
+use Rattle.tool_check.proofs.FaultLines.{fault_printed}
 use Rattle.tool_inputs.proofs.Ways.{Ways, at_zero, at_one, at_two, at_three}
 
 -- ---- the reply to bytes
@@ -62,7 +64,11 @@ module _ (q : ProblemParts) (bytes : List ℕ) (status : ℕ) (output : List ℕ
   one_of (inr (inr (inr (inl h)))) = inr (inr (inr h.0))
   one_of (inr (inr (inr (inr h)))) = absurd h.1
 
-  pub checked_headline : ChecksBytes q bytes status output → CheckHeadline bytes q status
+  accepted_printed : (e : Evidence) → Shows q e → IsChecked q e status output → output ≡ accepted_line e
+  accepted_printed e shows (inl a) = a.printed
+  accepted_printed e shows (inr r) = absurd (r.fails shows)
+
+  pub checked_headline : ChecksBytes q bytes status output → CheckHeadline bytes q status output
   checked_headline r =
       let ways : BytesWays q bytes status output = bytes_ways r in
       let equal = at_zero status _ _ _ _ _ ways in
@@ -79,9 +85,12 @@ module _ (q : ProblemParts) (bytes : List ℕ) (status : ℕ) (output : List ℕ
         };
         equal = equal;
         different = different;
+        accepted_output = λ e s shows. accepted_printed e shows (reads_spelled bytes (IsChecked q) status output e s r);
+        faulty_output = λ fault first. fault_printed bytes output fault first (faulty (reads_no_evidence bytes (IsChecked q) status output fault first r));
+        rejected_output = λ e. let h = rejected e in (h.0, h.2.reason, h.1, h.2.first, h.2.printed);
       }
 
-pub texts_headline : (text bytes : List ℕ) (status : ℕ) (output : List ℕ) (q : ProblemParts) → Asks text q → ChecksTexts text bytes status output → CheckHeadline bytes q status
+pub texts_headline : (text bytes : List ℕ) (status : ℕ) (output : List ℕ) (q : ProblemParts) → Asks text q → ChecksTexts text bytes status output → CheckHeadline bytes q status output
 texts_headline text bytes status output q asks r = checked_headline q bytes status output (text_asks text (λ p. ChecksBytes p bytes) status output q asks r)
 
 -- if the status is 0, the goal of a concrete file holds for all its stores

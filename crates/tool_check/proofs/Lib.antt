@@ -1,3 +1,4 @@
+pub mod FaultLines
 pub mod CheckReplies
 pub mod ReplayReplies
 pub mod ChainReplies

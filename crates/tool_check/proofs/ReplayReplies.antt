@@ -15,9 +15,10 @@ use Rattle.kat_report.specs.InputLines.{too_long_line}
 use Rattle.tool_inputs.specs.TextProblem.{HasNoProblem}
 use Rattle.tool_inputs.specs.EvidenceBytes.{Spells, IsNoEvidence}
 use Rattle.tool_inputs.specs.Steps.{IsRefusal}
-use Rattle.tool_check.specs.Replay.{IsTold, IsReplayed, ReplaysBytes, ReplaysTexts, SpellsNoString, ReplayHeadline, ReplayReply}
+use Rattle.tool_check.specs.Replay.{IsTold, IsReplayed, ReplaysBytes, ReplaysTexts, SpellsNoString, IsMisfitLine, ReplayHeadline, ReplayReply}
 use Rattle.tool_inputs.proofs.Steps.{OneStatus, text_asks, abstracted_none, text_small, text_once, reads_spelled, reads_no_evidence, reads_evidence_once}
 use Rattle.tool_inputs.proofs.FileReplies.{HasOneReply, unposed, long_unposed, posed}
+use Rattle.tool_check.proofs.FaultLines.{fault_printed}
 use Rattle.tool_inputs.proofs.Ways.{Ways, at_zero, at_two, at_three}
 
 -- ---- whether a string fits
@@ -68,6 +69,17 @@ module _ (q : ProblemParts) (bytes : List ℕ) (status : ℕ) (output : List ℕ
   one_of (inr (inr (inr (inl h)))) = inr (inr h.0)
   one_of (inr (inr (inr (inr h)))) = absurd h.1
 
+  told_misfit : (x : GuardedString) → Spells bytes (Different x) → (f : Finding) → IsFinding q x f → IsTold x f status output → status ≡ 3 → IsMisfitLine bytes q output
+  told_misfit x s (Shape k) found t three = inl (x, k, s, found, t.1)
+  told_misfit x s (HypBroken h i j) found t three = absurd (omega (arith, three, t.0))
+  told_misfit x s (Refutes left) found t three = absurd (omega (arith, three, t.0))
+  told_misfit x s (EndsAgree both) found t three = absurd (omega (arith, three, t.0))
+
+  misfit_printed : ReplaysBytes q bytes status output → status ≡ 3 → IsMisfitLine bytes q output
+  misfit_printed (inl r) three = absurd (omega (arith, three, r.0))
+  misfit_printed (inr (Equal c, s, t)) three = inr (c, s, t.1)
+  misfit_printed (inr (Different x, s, t)) three = told_misfit x s t.0 t.1 t.2 three
+
   pub replayed_headline : ReplaysBytes q bytes status output → ReplayHeadline bytes q status output
   replayed_headline r =
       let ways : BytesWays q bytes status output = bytes_ways r in
@@ -81,6 +93,8 @@ module _ (q : ProblemParts) (bytes : List ℕ) (status : ℕ) (output : List ℕ
           misfit = (at_three status _ _ _ _ _ ways, (λ h. no_string_status h r));
         };
         told = λ e. let h = told e in (h.0, h.2.1.0, h.1, h.2.1.1, h.2.1.2, h.2.1.3);
+        faulty_output = λ fault first. fault_printed bytes output fault first (faulty (reads_no_evidence bytes (IsReplayed q) status output fault first r));
+        misfit_output = misfit_printed r;
       }
 
 pub texts_headline : (text bytes : List ℕ) (status : ℕ) (output : List ℕ) (q : ProblemParts) → Asks text q → ReplaysTexts text bytes status output → ReplayHeadline bytes q status output

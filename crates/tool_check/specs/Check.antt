@@ -18,6 +18,7 @@ use Rattle.cert_checker.specs.Answers.{Shows, IsFoundBy}
 use Rattle.cert_checker.specs.Laws.{Says}
 use Rattle.kat_report.specs.Acceptances.{accepted_line}
 use Rattle.kat_report.specs.Reasons.{reason_line}
+use Rattle.kat_report.specs.Refusals.{evidence_fault_line}
 use Rattle.tool_inputs.specs.FileProblem.{Asks}
 use Rattle.tool_inputs.specs.TextProblem.{HasNoProblem}
 use Rattle.tool_inputs.specs.EvidenceBytes.{evidence_status, Spells}
@@ -61,17 +62,21 @@ pub record CheckStatus (bytes : List ℕ) (q : ProblemParts) (status : ℕ) : Ty
 
 -- The status is that of the evidence. It is 0 only if the evidence is the text of an accepted certificate, so both
 -- sides denote one relation. It is 1 only if the evidence is the text of a string that refutes the question, so they do
--- not.
-pub record CheckHeadline (evidence : List ℕ) (q : ProblemParts) (status : ℕ) : Type 0 where
+-- not. The printed line accepts the evidence, or gives the first fault of the bytes, or the first reason why their
+-- evidence does not show its claim.
+pub record CheckHeadline (evidence : List ℕ) (q : ProblemParts) (status : ℕ) (output : List ℕ) : Type 0 where
   pub answers : CheckStatus evidence q status
   pub equal : status ≡ 0 → (c : CertParts) × Spells evidence (Equal c) × IsAccepted q c × Same q
   pub different : status ≡ 1 → (x : GuardedString) × Spells evidence (Different x) × Refutes q x × (Same q → ⊥)
+  pub accepted_output : (e : Evidence) → Spells evidence e → Shows q e → output ≡ accepted_line e
+  pub faulty_output : (fault : EvidenceFault) → line_fault evidence ≡ Some fault → output ≡ evidence_fault_line fault
+  pub rejected_output : status ≡ 3 → (e : Evidence) × (reason : Reason) × Spells evidence e × IsFoundBy q e reason × (output ≡ reason_line reason)
 
 -- What a reply of `check` says about its text and the bytes of evidence from any source. The headline holds for the
 -- question of the text. If the file is concrete and the status is 0, its goal holds for all its stores. A text without
 -- a question is refused with its line.
 pub record CheckReply (text bytes : List ℕ) (status : ℕ) (output : List ℕ) : Type 0 where
   pub replies : ChecksTexts text bytes status output
-  pub headline : (q : ProblemParts) → Asks text q → CheckHeadline bytes q status
+  pub headline : (q : ProblemParts) → Asks text q → CheckHeadline bytes q status output
   pub stores : (f : FileParts) → Reads text f → IsConcrete f → status ≡ 0 → Agrees f
   pub declined : (line : List ℕ) → HasNoProblem text line → (status ≡ 2) × (output ≡ line)

@@ -12,6 +12,7 @@ use Rattle.certificate.specs.declared.evidence.Evidence.TheVariants.{Equal, Diff
 use Rattle.certificate.specs.declared.evidence.EvidenceFault.{EvidenceFault}
 use Rattle.cert_checker.specs.declared.answer.Reason.TheVariants.{Shape}
 use Rattle.kat_report.specs.Reasons.{reason_line, no_string_line}
+use Rattle.kat_report.specs.Refusals.{evidence_fault_line}
 use Rattle.kat_report.specs.Replays.{replay_text, Fits}
 use Rattle.tool_inputs.specs.FileProblem.{Asks}
 use Rattle.tool_inputs.specs.TextProblem.{HasNoProblem}
@@ -50,10 +51,19 @@ pub record ReplayStatus (bytes : List ℕ) (q : ProblemParts) (status : ℕ) : T
   pub faulty : (status ≡ 2) ↔ ((fault : EvidenceFault) × (line_fault bytes ≡ Some fault))
   pub misfit : (status ≡ 3) ↔ SpellsNoString bytes q
 
--- The status is that of the evidence. If it is 0, the string is printed with what it shows about the question.
+-- the line with the first position at which a string does not fit, or the line for a certificate
+abbrev pub IsMisfitLine : List ℕ → ProblemParts → List ℕ → Type 0
+IsMisfitLine bytes q output =
+    ((x : GuardedString) × (k : ℕ) × Spells bytes (Different x) × IsFinding q x (Misfit k) × (output ≡ reason_line (Shape k)))
+    ⊎ ((c : CertParts) × Spells bytes (Equal c) × (output ≡ no_string_line))
+
+-- The status is that of the evidence. If it is 0, the string is printed with what it shows about the question. If it is 2
+-- or 3, the printed line gives the first fault of the bytes, or the first position that does not fit.
 pub record ReplayHeadline (evidence : List ℕ) (q : ProblemParts) (status : ℕ) (output : List ℕ) : Type 0 where
   pub answers : ReplayStatus evidence q status
   pub told : status ≡ 0 → (x : GuardedString) × (f : Finding) × Spells evidence (Different x) × IsFinding q x f × Fits f × (output ≡ replay_text x f)
+  pub faulty_output : (fault : EvidenceFault) → line_fault evidence ≡ Some fault → output ≡ evidence_fault_line fault
+  pub misfit_output : status ≡ 3 → IsMisfitLine evidence q output
 
 -- What a reply of `replay` says about its text and the bytes of evidence. The headline holds for the question of the
 -- text. A text without a question is refused with its line.

@@ -27,7 +27,7 @@ use tool_inputs::{Reply, into_reply};
 /// show its claim. Fails only when out of memory.
 pub fn check_bytes(alloc: Global, text: &[u8], evidence: &[u8]) -> Result<Reply, NoMemory>
     ensures headline { (q : ProblemParts) → Asks text.now q
-        → IfOk result (λ r. CheckHeadline evidence.now q r.status) }
+        → IfOk result (λ r. CheckHeadline evidence.now q r.status r.output.items) }
     ensures programs { (w : Width) (v : ℕ) (p q : ProgTree) → ArePrintable w v p q → text.now ≡ programs_text w v p q
         → IfOk result (λ r. r.status ≡ 0 → AlwaysEndAlike w v p q) }
     ensures triples { (w : Width) (v : ℕ) (b : CondTree) (p : ProgTree) (c : CondTree) → IsTriplePrintable w v b p c → text.now ≡ triple_text w v b p c

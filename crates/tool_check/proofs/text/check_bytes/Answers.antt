@@ -9,7 +9,7 @@ use Rattle.tool_check.proofs.text.check_bytes.Goals as goal
 
 pub returns-clause-headline : goal.returns-clause-headline
 returns-clause-headline c q asks =
-    into_replied (ChecksTexts c.args.text.now c.args.evidence.now) (λ status output. CheckHeadline c.args.evidence.now q status)
+    into_replied (ChecksTexts c.args.text.now c.args.evidence.now) (CheckHeadline c.args.evidence.now q)
     (λ status output r. texts_headline c.args.text.now c.args.evidence.now status output q asks r)
     c.texts_reply.result c.into_reply.result c.into_reply.ensures c.texts_reply.ensures
 
