@@ -2,3 +2,4 @@ pub mod Replies
 pub mod Agreement
 pub mod Run
 pub mod Laws
+pub mod HeadlineAgreement

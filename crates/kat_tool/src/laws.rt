@@ -1,4 +1,5 @@
 //! Laws of the top call. Each function does nothing: its contract is the law.
+ghost use Rattle.kat_tool.specs.HeadlineAgreement.{HeadlinesAgree};
 ghost use Rattle.kat_tool.specs.Laws.{CausesExclude, WordsGiveStores, CheckAgrees, NotesFollow};
 
 /// If the content of each file is known and the shelf did not fail, two replies to the same words have one status, so
@@ -20,4 +21,10 @@ pub fn check_agrees()
 /// If `outline` replies with 0, `outline` of the same text and the printed notes accepts them.
 pub fn notes_follow()
     ensures { NotesFollow }
+{}
+
+/// What the headline of `decide` allows as its output with a status, `check` answers with the same status. This speaks
+/// of bytes alone, whatever wrote them.
+pub fn headlines_agree()
+    ensures { HeadlinesAgree }
 {}

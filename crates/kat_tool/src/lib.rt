@@ -4,7 +4,7 @@
 mod laws;
 mod top;
 
-pub use laws::{causes_exclude, check_agrees, notes_follow, words_give_stores};
+pub use laws::{causes_exclude, check_agrees, headlines_agree, notes_follow, words_give_stores};
 pub use tool_check::{chain_bytes, check_bytes, replay_bytes};
 pub use tool_commands::Words;
 pub use tool_decide::{batch_bytes, decide_bytes, decide_json_bytes};
