@@ -1,7 +1,7 @@
 #!/usr/bin/env python3
 """Writes docs/statement.md: the clauses that carry the claim, with every definition behind them.
 
-    docs/statement.py            writes the page, which has the first three parts
+    docs/statement.py            writes the page, which has the first four parts
     docs/statement.py --part N   prints part N of PARTS, without the definitions of earlier parts
     docs/statement.py --check    ends with 1 if the page is not what the sources give, if README.md does not have the
                                  count of the first part, or if that part is longer than a few pages
@@ -17,7 +17,7 @@ from pathlib import Path
 
 TOP = Path(__file__).resolve().parent.parent
 PAGE = TOP / "docs/statement.md"
-ON_PAGE = 3
+ON_PAGE = 4
 MOST_LINES = 350
 
 
@@ -39,14 +39,18 @@ class Part:
 
 PARTS = [
     Part("What `decide` answers", "The bytes are those of the plainest text of a question, so no grammar is needed to "
-         "read this part. What evidence is accepted, and how its text looks, is part 3: the meaning of the statuses does "
-         "not need it.",
-         clauses=[("tool_decide/src/text.rt", "decide_bytes", ["plain"])], later=("IsAccepted", "text_of")),
+         "read this part. What evidence is accepted, and how its text looks, is part 3; relational models and the size of strings "
+         "are part 4: the meaning of the statuses does not need them.",
+         clauses=[("tool_decide/src/text.rt", "decide_bytes", ["plain"])], later=("IsAccepted", "Spells", "SameInModels", "IsSmall")),
     Part("What `decide` answers of programs", "The bytes are those of the plainest text of two programs, or of a triple of "
-         "one, so no grammar is needed here either.",
-         clauses=[("tool_decide/src/text.rt", "decide_bytes", ["programs", "triples"])]),
-    Part("Evidence", "The text of evidence, and the certificates that are accepted.",
-         names=[("certificate", "Accepted", "IsAccepted"), ("certificate", "Texts", "text_of")]),
+         "one, so no grammar is needed here either. The problem of an abstraction (`abstract_of`) is in part 5: the statement "
+         "on stores does not need it.",
+         clauses=[("tool_decide/src/text.rt", "decide_bytes", ["programs", "triples"])], later=("abstract_of",)),
+    Part("Evidence", "The certificates that are accepted, and the bytes that spell evidence.",
+         names=[("certificate", "Accepted", "IsAccepted"), ("tool_inputs", "EvidenceBytes", "Spells")]),
+    Part("Models and the size of strings", "Relational models with finitely or infinitely many states, and how many moves a "
+         "shortest string has at most.",
+         names=[("kat_laws", "Models", "SameInModels"), ("kat_laws", "SmallStrings", "IsSmall")]),
     Part("Every text", "What any text asks, by the grammar of problem files, and what `check` answers.",
          clauses=[("tool_decide/src/text.rt", "decide_bytes", ["headline"]), ("tool_check/src/text.rt", "check_bytes", ["headline"])]),
     Part("Outlines", "What `outline` answers of a triple of a program, and of any notes, whoever wrote them.",

@@ -6,6 +6,8 @@ use Rattle.problem_file.specs.Files.{FileParts}
 use Rattle.problem_file.specs.Reads.{Reads}
 use Rattle.problem_file.specs.Concrete.{IsConcrete, Agrees}
 use Rattle.abstraction.specs.Abstracts.{AbstractParts, abstract_of}
+use Rattle.kat_laws.proofs.Theories.{has_one_theory}
+use Rattle.kat_laws.proofs.SmallStrings.{shortest_small}
 use Rattle.tool_inputs.specs.FileProblem.{Asks}
 use Rattle.kat_report.specs.InputLines.{too_long_line}
 use Rattle.tool_inputs.specs.Steps.{AsksQuestion}
@@ -21,6 +23,7 @@ pub decided_headline : (q : ProblemParts) (status : ℕ) (output : List ℕ) →
 decided_headline q status output (inl h) = record {
   answers = inl h.0;
   equal = ((λ _. h.1.same), (λ _. h.0));
+  models = ((λ _. (has_one_theory q).models.0 h.1.same), (λ _. h.0));
   different = ((λ e. absurd (not_both status h.0 e)), (λ differ. absurd (differ h.1.same)));
   certificate = λ e. (h.1.cert, answer_accepted q h.1.cert h.1.answer, h.1.printed);
   string = λ e. absurd (not_both status h.0 e);
@@ -28,9 +31,10 @@ decided_headline q status output (inl h) = record {
 decided_headline q status output (inr h) = record {
   answers = inr h.0;
   equal = ((λ e. absurd (not_both status e h.0)), (λ same. absurd (h.1.differ same)));
+  models = ((λ e. absurd (not_both status e h.0)), (λ same. absurd (h.1.differ ((has_one_theory q).models.1 same))));
   different = ((λ _. h.1.differ), (λ _. h.0));
   certificate = λ e. absurd (not_both status e h.0);
-  string = λ e. (h.1.string, h.1.shortest, h.1.printed);
+  string = λ e. (h.1.string, h.1.shortest, shortest_small q h.1.string h.1.shortest, h.1.printed);
 }
 
 pub text_headline : (text : List ℕ) (status : ℕ) (output : List ℕ) (q : ProblemParts) → Asks text q → DecidesText text status output → Headline q status output

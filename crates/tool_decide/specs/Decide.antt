@@ -12,6 +12,8 @@ use Rattle.certificate.specs.Certs.{CertParts}
 use Rattle.certificate.specs.Accepted.{set_pairs, IsAccepted}
 use Rattle.certificate.specs.declared.evidence.Evidence.TheVariants.{Equal, Different}
 use Rattle.certificate.specs.Decisions.{IsAnswerCert, IsShortest}
+use Rattle.kat_laws.specs.Models.{SameInModels}
+use Rattle.kat_laws.specs.SmallStrings.{IsSmall}
 use Rattle.tool_inputs.specs.FileProblem.{Asks}
 use Rattle.tool_inputs.specs.TextProblem.{HasNoProblem}
 use Rattle.tool_inputs.specs.EvidenceBytes.{Spells}
@@ -44,13 +46,15 @@ DecidesText text = AsksText text IsDecided
 
 -- The status is 0 exactly when both sides denote one relation in every table that satisfies the hypotheses; then the
 -- output spells an accepted certificate. It is 1 exactly when they do not; then the output spells a shortest string that
--- refutes the question. So `check` accepts the output, whatever wrote it.
+-- refutes the question. So `check` accepts the output, whatever wrote it. Both sides denote one relation in every table
+-- exactly when they do in every relational model that satisfies the hypotheses. A shortest string is small.
 pub record Headline (q : ProblemParts) (status : ℕ) (output : List ℕ) : Type 0 where
   pub answers : (status ≡ 0) ⊎ (status ≡ 1)
   pub equal : (status ≡ 0) ↔ Same q
+  pub models : (status ≡ 0) ↔ SameInModels q
   pub different : (status ≡ 1) ↔ (Same q → ⊥)
   pub certificate : status ≡ 0 → (c : CertParts) × IsAccepted q c × Spells output (Equal c)
-  pub string : status ≡ 1 → (x : GuardedString) × IsShortest q x × Spells output (Different x)
+  pub string : status ≡ 1 → (x : GuardedString) × IsShortest q x × IsSmall q x × Spells output (Different x)
 
 -- What a reply of `decide` says about its text. The headline holds for its question. If the file is concrete and the
 -- status is 0, its goal holds for all its stores. A text without a question is refused with its line.
