@@ -23,9 +23,10 @@ def read_rooms():
     rooms, stands_on = {}, {}
     for block in (TOP / "crates.txt").read_text().split("\n\n")[1:]:
         title, *lines = block.strip().split("\n")
-        pairs = [line.partition(":")[::2] for line in lines]
-        rooms[title.lstrip("# ")] = [name for name, _ in pairs]
-        stands_on.update({name: below.split() for name, below in pairs})
+        # A library for C has its kind after its name.
+        below = {line.split(":")[0].split()[0]: line.partition(":")[2].split() for line in lines}
+        rooms[title.lstrip("# ")] = list(below)
+        stands_on.update(below)
     return rooms, stands_on
 
 
