@@ -1,0 +1,14 @@
+use Rattle.std.proofs.Common.{◌≡◌}
+use Rattle.problem_file.specs.Concrete.{Agrees}
+use Rattle.tool_decide.specs.DecideJson.{ReportHeadline, DecideJsonReply}
+use Rattle.kat_c.proofs.Replies.{given_reply}
+use Rattle.kat_c.proofs.deciding.kat_decide_json.Goals as goal
+
+pub returns-clause-headline : goal.returns-clause-headline
+returns-clause-headline c q asks = given_reply (ReportHeadline q) c.decide_json_bytes.result _ (c.decide_json_bytes.ensures.headline q asks) c.give.ensures
+
+pub returns-clause-stores : goal.returns-clause-stores
+returns-clause-stores c f reads concrete = given_reply (λ status output. status ≡ 0 → Agrees f) c.decide_json_bytes.result _ (c.decide_json_bytes.ensures.stores f reads concrete) c.give.ensures
+
+pub returns-clause-reply : goal.returns-clause-reply
+returns-clause-reply c = given_reply (DecideJsonReply c.args.text.now) c.decide_json_bytes.result _ c.decide_json_bytes.ensures.reply c.give.ensures

@@ -1,0 +1,14 @@
+use Rattle.std.proofs.Common.{◌≡◌}
+use Rattle.problem_file.specs.Concrete.{Agrees}
+use Rattle.tool_outline.specs.OutlineCheck.{NotesHeadline, OutlineCheckReply}
+use Rattle.kat_c.proofs.Replies.{given_reply}
+use Rattle.kat_c.proofs.outlining.kat_outline_check.Goals as goal
+
+pub returns-clause-headline : goal.returns-clause-headline
+returns-clause-headline c q asks = given_reply (NotesHeadline c.args.notes.now asks.file q) c.outline_check_bytes.result _ (c.outline_check_bytes.ensures.headline q asks) c.give.ensures
+
+pub returns-clause-stores : goal.returns-clause-stores
+returns-clause-stores c f reads concrete = given_reply (λ status output. status ≡ 0 → Agrees f) c.outline_check_bytes.result _ (c.outline_check_bytes.ensures.stores f reads concrete) c.give.ensures
+
+pub returns-clause-reply : goal.returns-clause-reply
+returns-clause-reply c = given_reply (OutlineCheckReply c.args.text.now c.args.notes.now) c.outline_check_bytes.result _ c.outline_check_bytes.ensures.reply c.give.ensures

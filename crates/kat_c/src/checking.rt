@@ -1,0 +1,76 @@
+//! `check`, `replay` and `chain`.
+ghost use Rattle.std.specs.Prelude.{◌≡◌, ℕ};
+ghost use Rattle.kat_model.specs.Problems.{ProblemParts};
+ghost use Rattle.kat_model.specs.Expressions.{CondTree};
+ghost use Rattle.kat_model.specs.declared.expression.Width.{Width};
+ghost use Rattle.while_lang.specs.Programs.{ProgTree};
+ghost use Rattle.problem_texts.specs.ProgramTexts.{programs_text, triple_text, ArePrintable, IsTriplePrintable};
+ghost use Rattle.problem_file.specs.Files.{FileParts};
+ghost use Rattle.problem_file.specs.Reads.{Reads};
+ghost use Rattle.problem_file.specs.Concrete.{IsConcrete, Agrees};
+ghost use Rattle.tool_inputs.specs.FileProblem.{Asks};
+ghost use Rattle.tool_inputs.specs.StoreAnswers.{AlwaysEndAlike, AlwaysMeets};
+ghost use Rattle.tool_check.specs.Check.{CheckHeadline, CheckReply};
+ghost use Rattle.tool_check.specs.Replay.{ReplayHeadline, ReplayReply};
+ghost use Rattle.tool_check.specs.Chain.{ChainHeadline, ChainReply};
+ghost use Rattle.kat_c.specs.CallEnds.{call_end, GivesReply};
+
+use crate::giving::give;
+use kat_tool::{chain_bytes, check_bytes, replay_bytes};
+use std::alloc::Global;
+
+/// Gives the caller the reply of `kat_tool::check_bytes`.
+#[unsafe(no_mangle)]
+pub extern "C" fn kat_check(
+    alloc: Global,
+    text: &[u8],
+    evidence: &[u8],
+    out: &mut [u8],
+    needed: &mut usize,
+) -> u8
+    ensures headline { (q : ProblemParts) → Asks text.now q
+        → GivesReply (λ status output. CheckHeadline evidence.now q status) (call_end out.old out.new needed.new result) }
+    ensures programs { (w : Width) (v : ℕ) (p q : ProgTree) → ArePrintable w v p q → text.now ≡ programs_text w v p q
+        → GivesReply (λ status output. status ≡ 0 → AlwaysEndAlike w v p q) (call_end out.old out.new needed.new result) }
+    ensures triples { (w : Width) (v : ℕ) (b : CondTree) (p : ProgTree) (c : CondTree) → IsTriplePrintable w v b p c → text.now ≡ triple_text w v b p c
+        → GivesReply (λ status output. status ≡ 0 → AlwaysMeets w v b p c) (call_end out.old out.new needed.new result) }
+    ensures stores { (f : FileParts) → Reads text.now f → IsConcrete f
+        → GivesReply (λ status output. status ≡ 0 → Agrees f) (call_end out.old out.new needed.new result) }
+    ensures reply { GivesReply (CheckReply text.now evidence.now) (call_end out.old out.new needed.new result) }
+{
+    give(check_bytes(alloc, text, evidence), out, needed)
+}
+
+/// Gives the caller the reply of `kat_tool::replay_bytes`.
+#[unsafe(no_mangle)]
+pub extern "C" fn kat_replay(
+    alloc: Global,
+    text: &[u8],
+    evidence: &[u8],
+    out: &mut [u8],
+    needed: &mut usize,
+) -> u8
+    ensures headline { (q : ProblemParts) → Asks text.now q
+        → GivesReply (ReplayHeadline evidence.now q) (call_end out.old out.new needed.new result) }
+    ensures reply { GivesReply (ReplayReply text.now evidence.now) (call_end out.old out.new needed.new result) }
+{
+    give(replay_bytes(alloc, text, evidence), out, needed)
+}
+
+/// Gives the caller the reply of `kat_tool::chain_bytes`.
+#[unsafe(no_mangle)]
+pub extern "C" fn kat_chain(
+    alloc: Global,
+    text: &[u8],
+    proof: &[u8],
+    out: &mut [u8],
+    needed: &mut usize,
+) -> u8
+    ensures headline { (q : ProblemParts) → Asks text.now q
+        → GivesReply (ChainHeadline proof.now q) (call_end out.old out.new needed.new result) }
+    ensures stores { (f : FileParts) → Reads text.now f → IsConcrete f
+        → GivesReply (λ status output. status ≡ 0 → Agrees f) (call_end out.old out.new needed.new result) }
+    ensures reply { GivesReply (ChainReply text.now proof.now) (call_end out.old out.new needed.new result) }
+{
+    give(chain_bytes(alloc, text, proof), out, needed)
+}
