@@ -29,7 +29,7 @@ pub extern "C" fn kat_check(
     needed: &mut usize,
 ) -> u8
     ensures headline { (q : ProblemParts) → Asks text.now q
-        → GivesReply (λ status output. CheckHeadline evidence.now q status) (call_end out.old out.new needed.new result) }
+        → GivesReply (CheckHeadline evidence.now q) (call_end out.old out.new needed.new result) }
     ensures programs { (w : Width) (v : ℕ) (p q : ProgTree) → ArePrintable w v p q → text.now ≡ programs_text w v p q
         → GivesReply (λ status output. status ≡ 0 → AlwaysEndAlike w v p q) (call_end out.old out.new needed.new result) }
     ensures triples { (w : Width) (v : ℕ) (b : CondTree) (p : ProgTree) (c : CondTree) → IsTriplePrintable w v b p c → text.now ≡ triple_text w v b p c

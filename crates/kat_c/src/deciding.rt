@@ -10,7 +10,7 @@ ghost use Rattle.problem_file.specs.Files.{GoalTree, FileParts};
 ghost use Rattle.problem_file.specs.Reads.{Reads, ReadsAll};
 ghost use Rattle.problem_file.specs.Concrete.{IsConcrete, Agrees};
 ghost use Rattle.tool_inputs.specs.FileProblem.{Asks};
-ghost use Rattle.tool_inputs.specs.StoreAnswers.{AlwaysEndAlike, AlwaysMeets, StoreHeadline};
+ghost use Rattle.tool_inputs.specs.StoreAnswers.{AlwaysEndAlike, AlwaysMeets, programs_abstraction, triple_abstraction, StoreHeadline};
 ghost use Rattle.tool_decide.specs.Decide.{Headline, DecideReply};
 ghost use Rattle.tool_decide.specs.DecideJson.{ReportHeadline, DecideJsonReply};
 ghost use Rattle.tool_decide.specs.Batch.{BatchHeadline, BatchReply};
@@ -26,9 +26,9 @@ pub extern "C" fn kat_decide(alloc: Global, text: &[u8], out: &mut [u8], needed:
     ensures plain { (q : ProblemParts) → IsPrintable q → text.now ≡ question_text q
         → GivesReply (Headline q) (call_end out.old out.new needed.new result) }
     ensures programs { (w : Width) (v : ℕ) (p q : ProgTree) → ArePrintable w v p q → text.now ≡ programs_text w v p q
-        → GivesReply (StoreHeadline (AlwaysEndAlike w v p q)) (call_end out.old out.new needed.new result) }
+        → GivesReply (StoreHeadline (programs_abstraction w v p q) (AlwaysEndAlike w v p q)) (call_end out.old out.new needed.new result) }
     ensures triples { (w : Width) (v : ℕ) (b : CondTree) (p : ProgTree) (c : CondTree) → IsTriplePrintable w v b p c → text.now ≡ triple_text w v b p c
-        → GivesReply (StoreHeadline (AlwaysMeets w v b p c)) (call_end out.old out.new needed.new result) }
+        → GivesReply (StoreHeadline (triple_abstraction w v b p c) (AlwaysMeets w v b p c)) (call_end out.old out.new needed.new result) }
     ensures headline { (q : ProblemParts) → Asks text.now q
         → GivesReply (Headline q) (call_end out.old out.new needed.new result) }
     ensures stores { (f : FileParts) → Reads text.now f → IsConcrete f

@@ -1,6 +1,6 @@
 use Rattle.std.proofs.Common.{◌≡◌}
 use Rattle.problem_file.specs.Concrete.{Agrees}
-use Rattle.tool_inputs.specs.StoreAnswers.{AlwaysEndAlike, AlwaysMeets, StoreHeadline}
+use Rattle.tool_inputs.specs.StoreAnswers.{AlwaysEndAlike, AlwaysMeets, programs_abstraction, triple_abstraction, StoreHeadline}
 use Rattle.tool_decide.specs.Decide.{Headline, DecideReply}
 use Rattle.kat_c.proofs.Replies.{given_reply}
 use Rattle.kat_c.proofs.deciding.kat_decide.Goals as goal
@@ -9,10 +9,10 @@ pub returns-clause-plain : goal.returns-clause-plain
 returns-clause-plain c q printable same = given_reply (Headline q) c.decide_bytes.result _ (c.decide_bytes.ensures.plain q printable same) c.give.ensures
 
 pub returns-clause-programs : goal.returns-clause-programs
-returns-clause-programs c w v p q printable same = given_reply (StoreHeadline (AlwaysEndAlike w v p q)) c.decide_bytes.result _ (c.decide_bytes.ensures.programs w v p q printable same) c.give.ensures
+returns-clause-programs c w v p q printable same = given_reply (StoreHeadline (programs_abstraction w v p q) (AlwaysEndAlike w v p q)) c.decide_bytes.result _ (c.decide_bytes.ensures.programs w v p q printable same) c.give.ensures
 
 pub returns-clause-triples : goal.returns-clause-triples
-returns-clause-triples c w v b p d printable same = given_reply (StoreHeadline (AlwaysMeets w v b p d)) c.decide_bytes.result _ (c.decide_bytes.ensures.triples w v b p d printable same) c.give.ensures
+returns-clause-triples c w v b p d printable same = given_reply (StoreHeadline (triple_abstraction w v b p d) (AlwaysMeets w v b p d)) c.decide_bytes.result _ (c.decide_bytes.ensures.triples w v b p d printable same) c.give.ensures
 
 pub returns-clause-headline : goal.returns-clause-headline
 returns-clause-headline c q asks = given_reply (Headline q) c.decide_bytes.result _ (c.decide_bytes.ensures.headline q asks) c.give.ensures
