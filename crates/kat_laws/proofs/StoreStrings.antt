@@ -1,15 +1,15 @@
 -- A string that refutes the question of a triple, and that a path of stores spells, is a run of the program that breaks
 -- the triple.
-use Rattle.std.proofs.Common.{◌≡◌, ℕ, ⊎_elim, List, refl, sym, ◌∙◌, subst, true, false, Ok}
+use Rattle.std.proofs.Common.{◌≡◌, ⊎_elim, List, sym, ◌∙◌, subst, true, Ok}
 use Rattle.std.specs.Bool.{IsTrue}
 use Rattle.std.proofs.lemmas.Bool.{not-true, both_ways}
-use Rattle.kat_model.specs.Trees.{Term, zero, test, complement}
+use Rattle.kat_model.specs.Trees.{Term, zero, complement}
 use Rattle.kat_model.specs.Expressions.{CondTree}
 use Rattle.kat_model.specs.Members.{IsSubset}
 use Rattle.kat_model.specs.Stores.{modulus, Store, holds}
 use Rattle.kat_model.specs.Steps.{truth}
-use Rattle.kat_model.specs.Relations.{Frame, RelatesIn}
-use Rattle.kat_model.specs.Strings.{GuardedString, accepts, spelled}
+use Rattle.kat_model.specs.Relations.{RelatesIn}
+use Rattle.kat_model.specs.Strings.{GuardedString, accepts}
 use Rattle.kat_model.proofs.Paths.{spelled_relates}
 use Rattle.string_tables.specs.Tables.{RelatesEnds, ExactlyOne, Refutes}
 use Rattle.string_tables.proofs.Parts.{ends_by_acceptance}

@@ -6,7 +6,7 @@ use Rattle.std.proofs.lemmas.Bool.{true≢false, false≢true, ltb-true, lt-ltb,
 use Rattle.kat_model.specs.Trees.{Term, act}
 use Rattle.kat_model.specs.Members.{Has}
 use Rattle.kat_model.specs.Problems.{ProblemParts}
-use Rattle.kat_model.specs.Relations.{Step, Table, atom_at, IsTable, frame_of, Relates, RelatesIn, Keeps, Same}
+use Rattle.kat_model.specs.Relations.{Table, atom_at, IsTable, frame_of, Relates, RelatesIn, Keeps, Same}
 use Rattle.kat_model.specs.Strings.{GuardedString}
 use Rattle.kat_model.specs.Closed.{closed}
 use Rattle.kat_model.specs.Working.Decided.{computes_relation}

@@ -1,6 +1,6 @@
 -- A question, worked by hand, whose plainest text is within the limits: so the premise of the clause on plainest texts can
 -- be met.
-use Rattle.std.proofs.Common.{◌≡◌, ◌≤◌, ◌<◌, List, [], ◌∷◌, ℕ, length, refl, sym, subst, arith}
+use Rattle.std.proofs.Common.{◌≡◌, ◌≤◌, List, [], ◌∷◌, ℕ, length, refl, sym, subst, arith}
 use Rattle.std.specs.Prelude.{codes}
 use Rattle.std.proofs.lemmas.List.Elements.{All-nil, All-cons}
 use Rattle.kat_model.specs.declared.limits.TheConstants.{MAX_OPEN, MAX_TEXT_BYTES}
