@@ -4,6 +4,7 @@ use Rattle.std.specs.Option.{option_map}
 use Rattle.std.specs.Str.{bytes_eq}
 use Rattle.tool_commands.specs.declared.words.Command.{Command as Chosen}
 use Rattle.tool_commands.specs.declared.words.Command.TheVariants.{Decide, DecideJson, Show, Batch, Check, Replay, Chain, Run, OneLoop, Bench, Optimise, Gkat, Outline, OutlineCheck}
+use Rattle.tool_commands.specs.declared.words.TheConstants.{DEFAULT_STEPS}
 use Rattle.tool_commands.specs.Numbers.{number_below, count_of}
 
 -- a command and its words: the file of the problem or of several goals, and the file of the evidence, the proof or the
@@ -68,7 +69,7 @@ with_value name file value =
     else if bytes_eq name (codes "chain") then Some (chain file value)
     else if bytes_eq name (codes "outline") then Some (outline_check file value)
     else if bytes_eq name (codes "oneloop") then Some (oneloop file value)
-    else if bytes_eq name (codes "optimise") then Some (optimise file value 1000)
+    else if bytes_eq name (codes "optimise") then Some (optimise file value DEFAULT_STEPS)
     else None
 
 unfoldable pub with_turns : List ℕ → List ℕ → List ℕ → List ℕ → List ℕ → Option Command

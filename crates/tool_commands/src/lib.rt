@@ -9,4 +9,4 @@ mod words;
 pub use numbers::ProblemCount;
 pub use program_words::program_of;
 pub use store_words::store_of;
-pub use words::{Command, Words};
+pub use words::{Command, DEFAULT_STEPS, Words};

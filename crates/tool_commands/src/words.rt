@@ -8,6 +8,9 @@ use kat_model::NoMemory;
 use std::alloc::Global;
 use std::marker::Model;
 
+/// The number of steps to which `optimise` is limited without `--turns`.
+pub const DEFAULT_STEPS: u64 = 1_000;
+
 /// The words of a command line, without the name of the program.
 #[derive(Drop)]
 pub struct Words {
@@ -197,7 +200,7 @@ fn with_value<'a>(name: &str, file: &'a str, value: &'a str) -> Option<Command<'
         "optimise" => Some(Command::Optimise {
             file,
             prog: value,
-            turns: 1000,
+            turns: DEFAULT_STEPS,
         }),
         _ => None,
     }
