@@ -12,7 +12,7 @@ use kat_model::{NoMemory, Problem};
 use std::alloc::Global;
 use tool_inputs::{EarlyEnd, Reply, problem_in};
 
-/// Returns the number of nodes.
+/// Returns the number of nodes, which is below 2^64.
 pub fn count<T>(nodes: &[T]) -> usize
     ensures { result ≡ length nodes.now }
 {
@@ -25,7 +25,7 @@ pub(crate) fn know_numbers(problem: &Problem, evidence: &Evidence)
     requires { IsDecision problem.now evidence.now }
     ensures { IsEvidence evidence.now }
 {
-    // The proof needs the limits of a problem and, for a certificate, its rules and its numbers of nodes.
+    // A problem has at most 48 tests and 48 actions, and a certificate in memory has fewer than 2^64 nodes.
     let _ = problem.tests();
     match evidence {
         Evidence::Equal(cert) => {
