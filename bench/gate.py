@@ -3,8 +3,8 @@
 
     python3 bench/gate.py [--anew]         runs `rt ci` and prints, for each crate, the processor seconds of its proof,
                                            of its tests and of its must-fail edits; --anew proves and tries all
-    python3 bench/gate.py --functions N..  checks these crates from nothing on one processor, over the libraries that a
-                                           run left, and prints the twenty functions that took longest
+    python3 bench/gate.py --functions N..  checks these crates and their tests from nothing on one processor, over the
+                                           libraries that a run left, and prints the twenty functions that took longest
 
 The gate prints no times, so this looks at the processes that it starts, twice a second, and adds up what each has
 used. A check of less than half a second may be missed. Without --anew, what an earlier run on the machine proved is
@@ -110,7 +110,7 @@ def commands_of(names):
     for crate in rtlib.crates_below(TOP):
         if crate.name in names:
             flags = ["--jobs", "1", "--progress"]
-            yield crate.folder, [rtlib.RATTLE, "check", *crate.words(flags, keeps=False)]
+            yield crate.folder, [rtlib.RATTLE, "check", *crate.words(flags, tests=crate.has_tests(), keeps=False)]
 
 
 def functions(names):
