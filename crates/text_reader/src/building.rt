@@ -39,7 +39,7 @@ fn shift_at<'a, B: Building<'a>>(
     Ok(())
 }
 
-// Makes the values of one step more. Its token, if it takes one, is the last before index `at`. Returns the index of the
+// Makes the values of one more step. Its token, if it takes one, is the last before index `at`. Returns the index of the
 // first token of the steps so far.
 fn take_back<'a, B: Building<'a>>(
     building: &mut B,

@@ -8,7 +8,7 @@ ghost use Rattle.text_reader.specs.Derivations.{Derives, IsLeftmost, IsFirstFaul
 ghost use Rattle.text_reader.specs.declared.rule.Part.TheVariants.{Phrase};
 ghost use Rattle.text_reader.specs.Weights.{AreLight};
 
-/// Tokens have either exactly one leftmost derivation from a phrase or exactly one first fault, never both.
+/// The moves of the reader give tokens exactly one derivation from a phrase or exactly one first fault, never both.
 pub fn one_derivation()
     ensures steps { (rules : List RuleParts) (n : ℕ) (ms : List Mark) (end : ℕ) (a b : List Step) → Derives rules n ms end a → Derives rules n ms end b → a ≡ b }
     ensures faults { (rules : List RuleParts) (n : ℕ) (ms : List Mark) (end : ℕ) (a b : TextFault) → IsFirstFault rules n ms end a → IsFirstFault rules n ms end b → a ≡ b }
