@@ -1,7 +1,7 @@
 -- Members of lists, and of the lists of next terms.
 use Rattle.std.proofs.Common.{◌≡◌, ℕ, ◌⊎◌, inl, inr, ⊎_elim, List, [], ◌∷◌, ◌++◌, map, refl, sym, ap, ◌∙◌, subst, Bool, true, false, cond, eqb}
-use Rattle.std.specs.List.{list_any, flat_map}
-use Rattle.std.proofs.lemmas.Bool.{false≢true, eqb-true, eq-eqb, or_cases, or_left, or_right}
+use Rattle.std.specs.List.{list_any, list_all, flat_map}
+use Rattle.std.proofs.lemmas.Bool.{false≢true, eqb-true, eq-eqb, or_cases, or_left, or_right, and_parts, and_from}
 use Rattle.kat_model.specs.Trees.{Term, one, act, product}
 use Rattle.kat_model.specs.Members.{Has, SameMembers, HasNoDoubles}
 use Rattle.kat_model.specs.Steps.{Atom, dot, out, next}
@@ -29,6 +29,17 @@ module _ {X : Type 0} where
   any_has p [] x h t = absurd h
   any_has p (y ∷ xs) x h t =
       ⊎_elim (λ e. or_left (p y) (list_any p xs) (ap p e ∙ t)) (λ k. or_right (p y) (list_any p xs) (any_has p xs x k t)) h
+
+  -- `list_all` is true exactly when each member passes the test
+  pub has_all : (p : X → Bool) (xs : List X) → list_all p xs ≡ true → (x : X) → Has xs x → p x ≡ true
+  has_all p [] t x h = absurd h
+  has_all p (y ∷ xs) t x h =
+      let both = and_parts (p y) (list_all p xs) t in
+      ⊎_elim (λ e. ap p (sym e) ∙ both.0) (has_all p xs both.1 x) h
+
+  pub all_has : (p : X → Bool) (xs : List X) → ((x : X) → Has xs x → p x ≡ true) → list_all p xs ≡ true
+  all_has p [] each = refl
+  all_has p (y ∷ xs) each = and_from (p y) (list_all p xs) (each y (inl refl)) (all_has p xs (λ x h. each x (inr h)))
 
   pub has_at : (xs : List X) (y : X) (ys : List X) → Has (xs ++ y ∷ ys) y
   has_at xs y ys = has_right xs (y ∷ ys) y (inl refl)

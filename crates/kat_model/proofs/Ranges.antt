@@ -1,8 +1,11 @@
--- Terms in range: their tests, products as a step builds them, and lists of terms.
-use Rattle.std.proofs.Common.{ℕ, List, [], ◌∷◌, ◌++◌}
+-- Terms in range: their tests, products as a step builds them, lists of terms, and balanced sums and products.
+use Rattle.std.proofs.Common.{ℕ, zero as nought, suc, ◌≤◌, List, [], ◌∷◌, ◌++◌, arith}
 use Rattle.kat_model.specs.Trees.{Term, zero, one, test, act, sum, product, star}
 use Rattle.kat_model.specs.Problems.{IsInRange, AreInRange, HasTestsBelow}
 use Rattle.kat_model.specs.Steps.{dot}
+use Rattle.kat_model.specs.Balanced.{sum_of, product_of}
+use Rattle.kat_model.specs.Closed.{actions_below, universal_of}
+use Rattle.kat_model.proofs.BalancedTrees.{balanced_holds}
 
 -- if a property of two terms holds for their product, it also holds for the product that a step builds
 dot_holds : (P : Term → Type 0) → ((e f : Term) → P e → P f → P (product e f)) → (e f : Term) → P e → P f → P (dot e f)
@@ -43,3 +46,24 @@ module _ (tests actions : ℕ) where
   pub AreInRange-append_right : (es fs : List Term) → AreInRange tests actions (es ++ fs) → AreInRange tests actions fs
   AreInRange-append_right [] fs r = r
   AreInRange-append_right (e ∷ es) fs r = AreInRange-append_right es fs r.1
+
+  -- ---- balanced sums and products, and the universal term
+
+  pub IsInRange-sum_of : (es : List Term) → AreInRange tests actions es → IsInRange tests actions (sum_of es)
+  IsInRange-sum_of es =
+      balanced_holds zero sum (λ fs e. AreInRange tests actions fs → IsInRange tests actions e) (λ r. tt) (λ e r. r.0)
+      (λ es fs e f p q r. (p (AreInRange-append_left es fs r), q (AreInRange-append_right es fs r)))
+      es
+
+  pub IsInRange-product_of : (es : List Term) → AreInRange tests actions es → IsInRange tests actions (product_of es)
+  IsInRange-product_of es =
+      balanced_holds one product (λ fs e. AreInRange tests actions fs → IsInRange tests actions e) (λ r. tt) (λ e r. r.0)
+      (λ es fs e f p q r. (p (AreInRange-append_left es fs r), q (AreInRange-append_right es fs r)))
+      es
+
+  pub AreInRange-actions_below : (n : ℕ) → n ≤ actions → AreInRange tests actions (actions_below n)
+  AreInRange-actions_below nought le = tt
+  AreInRange-actions_below (suc n) le = AreInRange-append (actions_below n) (act n ∷ []) (AreInRange-actions_below n (omega arith)) (omega arith, tt)
+
+  pub IsInRange-universal_of : IsInRange tests actions (universal_of actions)
+  IsInRange-universal_of = IsInRange-sum_of (actions_below actions) (AreInRange-actions_below actions (omega arith))

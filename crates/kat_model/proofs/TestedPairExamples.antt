@@ -48,8 +48,22 @@ short_triple = refl
 
 -- moves, one test and one action
 
-abbrev moves_to : Atom → Move
+abbrev pub moves_to : Atom → Move
 moves_to after = record { act = 0; atom = after }
+
+-- what a bisimulation under tests requires of a pair and a move
+abbrev pub IsMatched : List TestedPair → TestedPair → Atom → Move → Type 0
+IsMatched pairs s atom m = IsCongruent None (pairs_at pairs m.atom) (set_next s.sets.left atom m.act) (set_next s.sets.right atom m.act)
+
+-- with one action, every move is a move by action 0
+pub one_action_steps : (hyps : List Term) (pairs : List TestedPair)
+    → ((s : TestedPair) → Has pairs s → (atom after : Atom) → IsAllowedMove hyps atom (moves_to after) → IsMatched pairs s atom (moves_to after))
+    → (s : TestedPair) → Has pairs s → (atom : Atom) → length atom ≡ 1 → IsTrue (truth s.test atom)
+    → (m : Move) → m.act < 1 → length m.atom ≡ 1 → IsAllowedMove hyps atom m → IsMatched pairs s atom m
+one_action_steps hyps pairs each s h atom wide t m la long allowed =
+    let zeroth : m.act ≡ 0 = omega arith in
+    let same : m ≡ moves_to m.atom = λ i. record { act = zeroth i; atom = m.atom } in
+    subst (IsMatched pairs s atom) (sym same) (each s h atom m.atom (subst (IsAllowedMove hyps atom) same allowed))
 
 abbrev hyps : List Term
 hyps = leaves_alone ∷ []
@@ -100,7 +114,7 @@ next_congruent (true ∷ xs) (true ∷ ys) m =
     (listed_same (pairs_at both (true ∷ ys)) (while_b ∷ []) [] (record { pair = inside.sets; listed = inr (inl refl); lefts = λ x. ((λ h. h), (λ h. h)); rights = λ x. ((λ h. h), (λ h. h)) }))
 
 both_accepted : AreAcceptedUnder (short_hyps asks) (with_hyps asks (long_hyps asks)) both
-both_accepted = record { test = top; rest = inside ∷ []; first = refl; holds = λ atom wide allowed. refl; bisimulation = record { outputs = outputs; steps = steps } }
+both_accepted = record { test = top; rest = inside ∷ []; first = refl; holds = λ atom wide allowed. refl; bisimulation = record { outputs = outputs; steps = one_action_steps hyps both steps } }
   where
     outputs : (s : TestedPair) → Has both s → (atom : Atom) → length atom ≡ 1 → IsAllowedAtom hyps atom → IsTrue (truth s.test atom)
         → set_out s.sets.left atom ≡ set_out s.sets.right atom
@@ -115,18 +129,12 @@ both_accepted = record { test = top; rest = inside ∷ []; first = refl; holds =
         absurd k)
         h
 
-    IsMatched : TestedPair → Atom → Move → Type 0
-    IsMatched s atom m = IsCongruent None (pairs_at both m.atom) (set_next s.sets.left atom m.act) (set_next s.sets.right atom m.act)
-
-    steps : (s : TestedPair) → Has both s → (atom : Atom) → length atom ≡ 1 → IsTrue (truth s.test atom)
-        → (m : Move) → m.act < 1 → length m.atom ≡ 1 → IsAllowedMove hyps atom m → IsMatched s atom m
-    steps s h atom wide t m la long allowed =
-        let zeroth : m.act ≡ 0 = omega arith in
-        let same : m ≡ moves_to m.atom = λ i. record { act = zeroth i; atom = m.atom } in
-        let found = next_congruent atom m.atom (subst (IsAllowedMove hyps atom) same allowed) in
+    steps : (s : TestedPair) → Has both s → (atom after : Atom) → IsAllowedMove hyps atom (moves_to after) → IsMatched both s atom (moves_to after)
+    steps s h atom after allowed =
+        let found = next_congruent atom after allowed in
         ⊎_elim
-        (λ e. subst (λ z. IsMatched z atom m) e (subst (IsMatched start atom) (sym same) found))
-        (λ k. ⊎_elim (λ e. subst (λ z. IsMatched z atom m) e (subst (IsMatched inside atom) (sym same) found)) absurd k)
+        (λ e. subst (λ z. IsMatched both z atom (moves_to after)) e found)
+        (λ k. ⊎_elim (λ e. subst (λ z. IsMatched both z atom (moves_to after)) e found) absurd k)
         h
 
 -- so both sides are the same

@@ -13,16 +13,16 @@ use std::marker::Model;
 /// Why the parts do not form a problem: the first reason that applies, in this order.
 #[derive(Clone, Copy, Debug, PartialEq, Eq)]
 pub enum BadProblem {
-    /// There are more than 48 tests: this many.
+    /// There are more than `MAX_TESTS` tests: this many.
     TooManyTests(usize),
-    /// There are more than 48 actions: this many.
+    /// There are more than `MAX_ACTIONS` actions: this many.
     TooManyActions(usize),
     /// This number of a primitive test is not below the number of tests. It is the first number out of
     /// range, in preorder over the hypotheses, left and right.
     TestRange(usize),
     /// This number of an action is not below the number of actions. It is also the first number out of range.
     ActionRange(usize),
-    /// There are more than 100,000 nodes in hypotheses, left and right: this many, saturated at `u64::MAX`.
+    /// There are more than `MAX_TERM_NODES` nodes in hypotheses, left and right: this many, saturated at `u64::MAX`.
     TooLarge(u64),
 }
 
@@ -197,7 +197,7 @@ impl Problem {
         })
     }
 
-    /// Returns the number of tests, at most 48.
+    /// Returns the number of tests, at most `MAX_TESTS`.
     pub fn tests(&self) -> usize
         ensures value { result ≡ self.now.tests }
         ensures within { IsProblem self.now }
@@ -205,7 +205,7 @@ impl Problem {
         self.tests
     }
 
-    /// Returns the number of actions, at most 48.
+    /// Returns the number of actions, at most `MAX_ACTIONS`.
     pub fn actions(&self) -> usize
         ensures value { result ≡ self.now.actions }
         ensures within { IsProblem self.now }
