@@ -66,10 +66,6 @@ module _ (most : ℕ) where
   all_refused_later table more [] h = tt
   all_refused_later table more (x ∷ xs) h = (refused_later table more x h.0, all_refused_later table more xs h.1)
 
-  all_refused_append : (table xs ys : List Atomic) → AllRefused table xs → AllRefused table ys → AllRefused table (xs ++ ys)
-  all_refused_append table [] ys h k = k
-  all_refused_append table (x ∷ xs) ys h k = (h.0, all_refused_append table xs ys h.1 k)
-
   all_refused_right : (table xs ys : List Atomic) → AllRefused table (xs ++ ys) → AllRefused table ys
   all_refused_right table [] ys h = h
   all_refused_right table (x ∷ xs) ys h = all_refused_right table xs ys h.1

@@ -1,6 +1,7 @@
--- Reading the rows of tables gives the tables back.
-use Rattle.std.proofs.Common.{◌≡◌, ℕ, ◌+◌, List, [], ◌∷◌, ◌++◌, length, map, refl, sym, ap, ◌∙◌, arith, Ok, Err, Bool, true, false, cond, nat_lt}
-use Rattle.std.specs.List.{range_with_len}
+-- Places among the rows of tables, and that reading the rows gives the tables back.
+use Rattle.std.proofs.Common.{◌≡◌, ℕ, ◌+◌, List, [], ◌∷◌, ◌++◌, length, map, refl, sym, ap, ◌∙◌, arith, Ok, Err, Some, option_map, Bool, true, false, cond, nat_lt}
+use Rattle.std.specs.List.{range_with_len, position, position_from}
+use Rattle.std.proofs.lemmas.Iterator.Adapters.{position_from-zero}
 use Rattle.std.proofs.lemmas.List.FromFn.{length-range_with_len}
 use Rattle.kat_model.specs.declared.limits.TheConstants.{MAX_TESTS, MAX_ACTIONS, MAX_TERM_NODES}
 use Rattle.kat_model.specs.Problems.{problem_size}
@@ -28,6 +29,24 @@ pub action_row_count : (rows : List ActionRow) → declared_actions rows + lengt
 action_row_count [] = omega arith
 action_row_count (action.Named k ∷ rows) = omega (arith, action_row_count rows)
 action_row_count (action.Assign x f ∷ rows) = omega (arith, action_row_count rows)
+
+-- a place counted from a number on
+position_from-add : {X : Type 0} (p : X → Bool) (m n : ℕ) (xs : List X) → position_from p (m + n) xs ≡ option_map (λ k. m + k) (position_from p n xs)
+position_from-add p m n [] = refl
+position_from-add p m n (x ∷ xs) = by_test (p x) (position_from-add p m (n + 1) xs)
+  where
+    next : m + n + 1 ≡ m + (n + 1)
+    next = omega arith
+
+    by_test : (b : Bool) → position_from p (m + (n + 1)) xs ≡ option_map (λ k. m + k) (position_from p (n + 1) xs)
+        → cond b (Some (m + n)) (position_from p (m + n + 1) xs) ≡ option_map (λ k. m + k) (cond b (Some n) (position_from p (n + 1) xs))
+    by_test true later = refl
+    by_test false later = ap (λ k. position_from p k xs) next ∙ later
+
+pub position_from-position : {X : Type 0} (p : X → Bool) (n : ℕ) (xs : List X) → position_from p n xs ≡ option_map (λ k. n + k) (position p xs)
+position_from-position p n xs =
+    let own : n ≡ n + 0 = omega arith in
+    ap (λ k. position_from p k xs) own ∙ position_from-add p n 0 xs ∙ ap (option_map (λ k. n + k)) (sym (position_from-zero p xs))
 
 -- the rows of tables give the tables back
 named_tests : (ks : List ℕ) (rows : List TestRow) → declared_tests (map test.Named ks ++ rows) ≡ length ks + declared_tests rows

@@ -3,13 +3,11 @@ use Rattle.std.proofs.Common.{◌≡◌, ℕ, ◌+◌, ◌<◌, Bool, true, fals
 use Rattle.std.specs.List.{position, position_or_len}
 use Rattle.std.proofs.lemmas.List.{length-append}
 use Rattle.std.proofs.lemmas.Bool.{ltb-true}
-use Rattle.kat_model.specs.Trees.{TestTree, bottom, prim, complement, Term, one, product}
-use Rattle.kat_model.specs.Balanced.{product_of}
+use Rattle.kat_model.specs.Trees.{TestTree, bottom, prim, complement}
 use Rattle.kat_model.specs.Problems.{IsTestInRange, IsInRange, AreInRange}
 use Rattle.kat_model.specs.Expressions.{CondTree, always, never, named, compared, negation, both, either}
 use Rattle.kat_model.specs.Stores.{modulus}
-use Rattle.kat_model.proofs.BalancedTrees.{balanced_holds}
-use Rattle.kat_model.proofs.Ranges.{AreInRange-append_left, AreInRange-append_right}
+use Rattle.kat_model.proofs.Ranges.{IsInRange-product_of}
 use Rattle.linear_forms.specs.Arithmetic.{normal_form}
 use Rattle.linear_forms.specs.Comparisons.{comparison_form}
 use Rattle.linear_forms.specs.declared.comparison.CondForm.{CondForm}
@@ -20,11 +18,6 @@ use Rattle.problem_file.specs.Ranges.{IsCondInRange, IsProgInRange}
 use Rattle.abstraction.specs.Comparisons.{Assignment, prog_assignments}
 use Rattle.abstraction.specs.Tables.{Tables, is_same_comparison, is_same_assignment}
 use Rattle.abstraction.specs.Tests.{test_number, action_number, form_test, cond_test, assignment_action, prog_flow}
-
-product_of_in : (t a : ℕ) (es : List Term) → AreInRange t a es → IsInRange t a (product_of es)
-product_of_in t a =
-    balanced_holds one product (λ xs x. AreInRange t a xs → IsInRange t a x) (λ h. tt) (λ x h. h.0)
-    (λ xs ys x y f g h. (f (AreInRange-append_left t a xs ys h), g (AreInRange-append_right t a xs ys h)))
 
 -- the number, if there is one, is below n
 abbrev pub OptionBelow : ℕ → Option ℕ → Type 0
@@ -106,15 +99,15 @@ module _ (t : Tables) where
         let c = cond_test_in b h.0 in
         let both_blocks = length-append first second in
         let whole = length-append (first ++ second) (prog_assignments m rest) in
-        let e = product_of_in all_tests all_actions _ (flow_terms_in p h.1 (λ k. some (omega (arith, both_blocks, whole)))) in
-        let f = product_of_in all_tests all_actions _ (flow_terms_in q h.2 (λ k. some (omega (arith, both_blocks, whole)))) in
+        let e = IsInRange-product_of all_tests all_actions _ (flow_terms_in p h.1 (λ k. some (omega (arith, both_blocks, whole)))) in
+        let f = IsInRange-product_of all_tests all_actions _ (flow_terms_in q h.2 (λ k. some (omega (arith, both_blocks, whole)))) in
         (((c, e), (c, f)), flow_terms_in rest h.3 (λ k. some (omega (arith, whole))))
     flow_terms_in (loop_then b p rest) h some =
         let m = modulus t.width in
         let c = cond_test_in b h.0 in
         let lengths = length-append (prog_assignments m p) (prog_assignments m rest) in
-        let e = product_of_in all_tests all_actions _ (flow_terms_in p h.1 (λ k. some (omega (arith, lengths)))) in
+        let e = IsInRange-product_of all_tests all_actions _ (flow_terms_in p h.1 (λ k. some (omega (arith, lengths)))) in
         (((c, e), c), flow_terms_in rest h.2 (λ k. some (omega (arith, lengths))))
 
     pub encoded_in : (p : ProgTree) → IsProgInRange t.tests t.actions vars p → HasSome p → IsInRange all_tests all_actions (encoded (prog_flow t p))
-    encoded_in p h some = product_of_in all_tests all_actions (stmt_terms (prog_flow t p)) (flow_terms_in p h some)
+    encoded_in p h some = IsInRange-product_of all_tests all_actions (stmt_terms (prog_flow t p)) (flow_terms_in p h some)

@@ -1,7 +1,6 @@
 -- The abstraction of a file. All numbers of its problem are in range, so only its size decides whether it is within the
 -- limits.
 use Rattle.std.proofs.Common.{◌≡◌, ℕ, ◌+◌, ◌-◌, ◌<◌, ◌≤◌, length, ⊎_elim, Result, Ok, Err, refl, ap, sym, ◌∙◌, arith}
-use Rattle.std.specs.Result.{IfOk}
 use Rattle.std.proofs.lemmas.List.{length-append}
 use Rattle.std.proofs.lemmas.Bool.{lt-ltb, le-ltb, cases_lt}
 use Rattle.kat_model.specs.Problems.{IsInRange, IsProblem, problem_size}
@@ -68,8 +67,3 @@ module _ (f : FileParts) (numbers : HasNumbersInRange f) (tests : f.tests + leng
   whole (Err TooManyActions) h = absurd h
   whole (Err ProblemTooLarge) h =
       ⊎_elim too_large (λ le. absurd (h (problem_has_no_fault (file_problem f) (problem_in le)))) (cases_lt MAX_TERM_NODES (problem_size (file_problem f)))
-
--- a property of every abstraction of a file holds for a returned one
-pub IfOk-abstraction : (f : FileParts) (r : Result AbstractParts AbstractFault) (P : AbstractParts → Type 0) → ((a : AbstractParts) → abstract_of f ≡ Ok a → P a) → IsAbstraction f r → IfOk r P
-IfOk-abstraction f (Ok a) P all h = all a h
-IfOk-abstraction f (Err e) P all h = tt

@@ -4,18 +4,18 @@ ghost use Rattle.kat_model.specs.Expressions.{cond_tree};
 ghost use Rattle.kat_model.specs.Trees.{test_tree};
 ghost use Rattle.abstraction.specs.Tests.{form_test, cond_test};
 
-use crate::tables::RowTables;
+use crate::tables::Numbering;
 use kat_model::{Cond, NoMemory, Test};
 use linear_forms::{CondForm, normal_cond};
 use std::alloc::Global;
 
 /// Builds the test of a condition form, if it is constant or its comparison is a row.
-pub(crate) fn form_test(
+pub(crate) fn form_test<T: Numbering>(
     alloc: Global,
-    tables: &RowTables,
+    tables: &T,
     cond: &CondForm,
 ) -> Result<Option<Test>, NoMemory>
-    ensures { IfOk result (λ o. option_map test_tree o ≡ form_test tables.now cond.now) }
+    ensures { IfOk result (λ o. option_map test_tree o ≡ form_test (T.tables tables.now) cond.now) }
 {
     match cond {
         CondForm::True => Ok(Some(Test::True)),
@@ -29,15 +29,19 @@ pub(crate) fn form_test(
 }
 
 /// Builds the test of a condition; a comparison that is not a row counts as false.
-pub(crate) fn cond_test(alloc: Global, tables: &RowTables, cond: &Cond) -> Result<Test, NoMemory>
-    ensures { IfOk result (λ t. test_tree t ≡ cond_test tables.now (cond_tree cond.now)) }
+pub(crate) fn cond_test<T: Numbering>(
+    alloc: Global,
+    tables: &T,
+    cond: &Cond,
+) -> Result<Test, NoMemory>
+    ensures { IfOk result (λ t. test_tree t ≡ cond_test (T.tables tables.now) (cond_tree cond.now)) }
 {
     match cond {
         Cond::True => Ok(Test::True),
         Cond::False => Ok(Test::False),
         Cond::Test(k) => Ok(Test::Prim(*k)),
         Cond::Compare(rel, e, f) => {
-            let form = normal_cond(alloc, tables.width, *rel, e, f)?;
+            let form = normal_cond(alloc, tables.width(), *rel, e, f)?;
             match form_test(alloc, tables, &form)? {
                 Some(test) => Ok(test),
                 None => Ok(Test::False),

@@ -10,7 +10,7 @@ ghost use Rattle.abstraction.specs.Working.StatementFlows.{stmt_flow};
 
 use crate::assignments::assigned_form;
 use crate::conditions::cond_test;
-use crate::tables::RowTables;
+use crate::tables::Numbering;
 use kat_model::{Expr, NoMemory};
 use std::alloc::Global;
 use while_lang::{Flow, Flows, Prog, Stmt};
@@ -23,21 +23,21 @@ fn push_flow(list: &mut Vec<Flow>, flow: Flow) -> Result<(), NoMemory>
 }
 
 // Returns the action of an assignment; an assignment that is not a row counts as action 0.
-fn assignment_action(
+fn assignment_action<T: Numbering>(
     alloc: Global,
-    tables: &RowTables,
+    tables: &T,
     var: usize,
     expr: &Expr,
 ) -> Result<usize, NoMemory>
-    ensures { IfOk result (λ k. k ≡ assignment_action tables.now (record { var = var; form = normal_form (modulus tables.now.width) (expr_tree expr.now) })) }
+    ensures { IfOk result (λ k. k ≡ assignment_action (T.tables tables.now) (record { var = var; form = normal_form (modulus (T.tables tables.now).width) (expr_tree expr.now) })) }
 {
-    let assigned = assigned_form(alloc, tables.width, var, expr)?;
+    let assigned = assigned_form(alloc, tables.width(), var, expr)?;
     Ok(tables.action_number(&assigned).unwrap_or(0))
 }
 
 #[cycle(flows)]
-fn stmt_flow(alloc: Global, tables: &RowTables, stmt: &Stmt) -> Result<Flow, NoMemory>
-    ensures { IfOk result (λ s. flow_stmt s ≡ stmt_flow tables.now (stmt_tree stmt.now)) }
+fn stmt_flow<T: Numbering>(alloc: Global, tables: &T, stmt: &Stmt) -> Result<Flow, NoMemory>
+    ensures { IfOk result (λ s. flow_stmt s ≡ stmt_flow (T.tables tables.now) (stmt_tree stmt.now)) }
 {
     match stmt {
         Stmt::Skip => Ok(Flow::Skip),
@@ -61,8 +61,12 @@ fn stmt_flow(alloc: Global, tables: &RowTables, stmt: &Stmt) -> Result<Flow, NoM
 
 /// Builds the flow of a program: its conditions as tests, and its assignments as actions.
 #[cycle(flows)]
-pub(crate) fn prog_flow(alloc: Global, tables: &RowTables, prog: &Prog) -> Result<Flows, NoMemory>
-    ensures { IfOk result (λ f. f ≡ prog_flow tables.now prog.now) }
+pub(crate) fn prog_flow<T: Numbering>(
+    alloc: Global,
+    tables: &T,
+    prog: &Prog,
+) -> Result<Flows, NoMemory>
+    ensures { IfOk result (λ f. f ≡ prog_flow (T.tables tables.now) prog.now) }
 {
     let mut list = Vec::new(alloc);
     for stmt in &prog.list {

@@ -1,7 +1,9 @@
-//! Conditions and programs, read with the tables of an abstraction.
-ghost use Rattle.std.specs.Prelude.{◌≡◌, [], ◌∷◌, ◌++◌, IfOk, OnOk};
+//! Conditions and programs, read with the rows of an abstraction.
+ghost use Rattle.std.specs.Prelude.{◌≡◌, IfOk};
+ghost use Rattle.std.specs.List.{position_from};
 ghost use Rattle.kat_model.specs.Expressions.{cond_tree};
 ghost use Rattle.kat_model.specs.Trees.{test_tree};
+ghost use Rattle.abstraction.specs.Tables.{is_same_comparison, is_same_assignment};
 ghost use Rattle.abstraction.specs.Tests.{cond_test, prog_flow};
 ghost use Rattle.abstraction.specs.ShownTables.{declared_tests, declared_actions, row_comparisons, row_assignments, shown_tables};
 
@@ -9,8 +11,9 @@ use crate::conditions::cond_test;
 use crate::flows::prog_flow;
 use crate::problem::Abstract;
 use crate::rows::{ActionRow, TestRow};
-use crate::tables::{AssignedForm, RowTables};
-use kat_model::{Cond, NoMemory, Test};
+use crate::tables::{AssignedForm, Numbering};
+use crate::unique_rows::Row;
+use kat_model::{Cond, NoMemory, Test, Width};
 use linear_forms::Atomic;
 use std::alloc::Global;
 use while_lang::{Flows, Prog};
@@ -39,56 +42,63 @@ fn declared_actions(rows: &[ActionRow]) -> usize
     count
 }
 
-fn row_comparisons(alloc: Global, rows: &[TestRow]) -> Result<Vec<Atomic>, NoMemory>
-    ensures { IfOk result (λ v. v.items ≡ row_comparisons rows.now) }
+// Returns the number of a comparison among the tests of these rows: the declared ones, then the comparisons.
+fn comparison_number(rows: &[TestRow], atomic: &Atomic) -> Option<usize>
+    ensures { result ≡ position_from (is_same_comparison atomic.now) (declared_tests rows.now) (row_comparisons rows.now) }
 {
-    let mut list = Vec::new(alloc);
+    let mut number = declared_tests(rows);
     for row in rows {
-        if let TestRow::Compare(atomic) = row {
-            list.push(atomic.copy(alloc)?)?;
+        if let TestRow::Compare(other) = row {
+            if atomic.is_same(other) {
+                return Some(number);
+            }
+            number += 1;
         }
     }
-    Ok(list)
+    None
 }
 
-fn row_assignments(alloc: Global, rows: &[ActionRow]) -> Result<Vec<AssignedForm>, NoMemory>
-    ensures { IfOk result (λ v. v.items ≡ row_assignments rows.now) }
+// Returns the number of an assignment among the actions of these rows: the declared ones, then the assignments.
+fn assignment_number(rows: &[ActionRow], assignment: &AssignedForm) -> Option<usize>
+    ensures { result ≡ position_from (is_same_assignment assignment.now) (declared_actions rows.now) (row_assignments rows.now) }
 {
-    let mut list = Vec::new(alloc);
+    let mut number = declared_actions(rows);
     for row in rows {
         if let ActionRow::Assign(var, form) = row {
-            let form = form.copy(alloc)?;
-            list.push(AssignedForm { var: *var, form })?;
+            if assignment.assigns(*var, form) {
+                return Some(number);
+            }
+            number += 1;
         }
     }
-    Ok(list)
+    None
 }
 
-// Builds the tables of the rows of an abstraction.
-fn shown_tables(alloc: Global, shown: &Abstract) -> Result<RowTables, NoMemory>
-    ensures { IfOk result (λ t. t ≡ shown_tables shown.now) }
-{
-    let tests = declared_tests(&shown.tests);
-    let actions = declared_actions(&shown.actions);
-    let comparisons = row_comparisons(alloc, &shown.tests)?;
-    let assignments = row_assignments(alloc, &shown.actions)?;
-    Ok(RowTables {
-        tests,
-        actions,
-        comparisons,
-        assignments,
-        width: shown.width,
-    })
+impl Numbering for Abstract {
+    ghost use Rattle.abstraction.specs.ShownTables.{shown_tables};
+
+    ghost tables = { shown_tables };
+
+    fn width(&self) -> Width {
+        self.width
+    }
+
+    fn test_number(&self, atomic: &Atomic) -> Option<usize> {
+        comparison_number(&self.tests, atomic)
+    }
+
+    fn action_number(&self, assignment: &AssignedForm) -> Option<usize> {
+        assignment_number(&self.actions, assignment)
+    }
 }
 
 /// Builds the flow of a program with the rows of an abstraction: its conditions as tests, and its assignments as
-/// actions. If the abstraction lacks a row, a comparison counts as false and an assignment as action 0. Fails only when
-/// out of memory.
+/// actions. If the abstraction lacks a row, a comparison counts as false and an assignment as action 0. Makes no tables:
+/// the rows are searched. Fails only when out of memory.
 pub fn flow_of(alloc: Global, shown: &Abstract, prog: &Prog) -> Result<Flows, NoMemory>
     ensures { IfOk result (λ f. f ≡ prog_flow (shown_tables shown.now) prog.now) }
 {
-    let tables = shown_tables(alloc, shown)?;
-    prog_flow(alloc, &tables, prog)
+    prog_flow(alloc, shown, prog)
 }
 
 /// Builds the test of a condition with the rows of an abstraction; missing rows count as for `flow_of`. Fails only when
@@ -96,6 +106,5 @@ pub fn flow_of(alloc: Global, shown: &Abstract, prog: &Prog) -> Result<Flows, No
 pub fn test_of(alloc: Global, shown: &Abstract, cond: &Cond) -> Result<Test, NoMemory>
     ensures { IfOk result (λ t. test_tree t ≡ cond_test (shown_tables shown.now) (cond_tree cond.now)) }
 {
-    let tables = shown_tables(alloc, shown)?;
-    cond_test(alloc, &tables, cond)
+    cond_test(alloc, shown, cond)
 }

@@ -35,18 +35,50 @@ impl Row for Atomic {
     }
 }
 
+impl AssignedForm {
+    ghost use Rattle.abstraction.specs.Tables.{is_same_assignment};
+
+    /// Whether it assigns this form to this variable.
+    pub(crate) fn assigns(&self, var: usize, form: &Form) -> bool
+        ensures { result ≡ is_same_assignment self.now (record { var = var; form = form.now }) }
+    {
+        self.var == var && same_form(&self.form, form)
+    }
+}
+
 impl Row for AssignedForm {
     ghost use Rattle.abstraction.specs.Tables.{is_same_assignment};
 
     ghost same = { is_same_assignment };
 
     fn is_same(&self, other: &AssignedForm) -> bool {
-        self.var == other.var && same_form(&self.form, &other.form)
+        self.assigns(other.var, &other.form)
     }
 }
 
-/// The tables with which conditions and programs are read: the numbers of declared tests and actions, and the
-/// comparisons and the assignments that are the tests and actions after the declared ones.
+/// Tables with which conditions and programs are read.
+pub(crate) trait Numbering {
+    ghost use Rattle.abstraction.specs.Tables.{Tables};
+    ghost use Rattle.abstraction.specs.Tests.{test_number, action_number};
+
+    // The tables.
+    ghost tables: { Self → Tables };
+
+    /// Returns the width of numbers.
+    fn width(&self) -> Width
+        ensures { result ≡ (tables self.now).width };
+
+    /// Returns the number of a comparison among the tests.
+    fn test_number(&self, atomic: &Atomic) -> Option<usize>
+        ensures { result ≡ test_number (tables self.now) atomic.now };
+
+    /// Returns the number of an assignment among the actions.
+    fn action_number(&self, assignment: &AssignedForm) -> Option<usize>
+        ensures { result ≡ action_number (tables self.now) assignment.now };
+}
+
+/// The tables of an abstraction under construction: the numbers of declared tests and actions, and the comparisons and
+/// the assignments that are the tests and actions after the declared ones.
 #[derive(Drop)]
 pub(crate) struct RowTables {
     pub(crate) tests: usize,
@@ -77,23 +109,21 @@ impl Model for RowTables {
     ghost invariant = { λ t. (t.tests + length t.comparisons.items < 2 ^ 64) × (t.actions + length t.assignments.items < 2 ^ 64) };
 }
 
-impl RowTables {
-    ghost use Rattle.abstraction.specs.Tests.{test_number, action_number};
+impl Numbering for RowTables {
+    ghost tables = { λ t. t };
 
-    /// Returns the number of a comparison among the tests.
-    pub(crate) fn test_number(&self, atomic: &Atomic) -> Option<usize>
-        ensures { result ≡ test_number self.now atomic.now }
-    {
+    fn width(&self) -> Width {
+        self.width
+    }
+
+    fn test_number(&self, atomic: &Atomic) -> Option<usize> {
         match place_of(&self.comparisons, atomic) {
             Some(k) => Some(self.tests + k),
             None => None,
         }
     }
 
-    /// Returns the number of an assignment among the actions.
-    pub(crate) fn action_number(&self, assignment: &AssignedForm) -> Option<usize>
-        ensures { result ≡ action_number self.now assignment.now }
-    {
+    fn action_number(&self, assignment: &AssignedForm) -> Option<usize> {
         match place_of(&self.assignments, assignment) {
             Some(k) => Some(self.actions + k),
             None => None,

@@ -6,4 +6,4 @@ use Rattle.abstraction.proofs.flows.+flows.Given as goal
 
 -- the flows of the statements so far
 abbrev pub invariant-prog_flow-loop-stmt : goal.invariant-prog_flow-loop-stmt
-invariant-prog_flow-loop-stmt l = map flow_stmt l.list.items ≡ map (λ s. stmt_flow l.tables (stmt_tree s)) (take l.stmt-index l.stmt-items)
+invariant-prog_flow-loop-stmt g l = map flow_stmt l.list.items ≡ map (λ s. stmt_flow (g.T.Numbering.tables l.tables) (stmt_tree s)) (take l.stmt-index l.stmt-items)
