@@ -1,7 +1,8 @@
 -- The nodes that a node names, as a list and by cases.
 use Rattle.std.proofs.Common.{◌≡◌, ℕ, ◌<◌, ◌≤◌, inl, inr, ⊎_elim, List, [], ◌∷◌, true, nat_lt, ltb-true, subst, refl, arith}
-use Rattle.std.proofs.lemmas.Bool.{and_parts, and_from, lt-ltb}
+use Rattle.std.proofs.lemmas.Bool.{lt-ltb}
 use Rattle.kat_model.specs.Members.{Has}
+use Rattle.kat_model.proofs.Lists.{has_all, all_has}
 use Rattle.term_nodes.specs.declared.TestNode.{TestNode}
 use Rattle.term_nodes.specs.declared.TestNode.TheVariants.{False, True, Prim, Not, And, Or}
 use Rattle.term_nodes.specs.declared.TermNode.{TermNode}
@@ -83,14 +84,10 @@ parts-IsOver m n (Star x) tests each = each x (inl refl)
 -- ---- lists of numbers below n
 
 pub below_has : (n : ℕ) (ks : List ℕ) → are_below n ks ≡ true → (k : ℕ) → Has ks k → k < n
-below_has n [] e k h = absurd h
-below_has n (l ∷ ks) e k h =
-    let parts = and_parts (nat_lt l n) (are_below n ks) e in
-    ⊎_elim (λ p. subst (λ m. m < n) p (ltb-true l n parts.0)) (below_has n ks parts.1 k) h
+below_has n ks e k h = ltb-true k n (has_all (λ j. nat_lt j n) ks e k h)
 
 pub has_below : (n : ℕ) (ks : List ℕ) → ((k : ℕ) → Has ks k → k < n) → are_below n ks ≡ true
-has_below n [] each = refl
-has_below n (l ∷ ks) each = and_from (nat_lt l n) (are_below n ks) (lt-ltb l n (each l (inl refl))) (has_below n ks (λ k h. each k (inr h)))
+has_below n ks each = all_has (λ j. nat_lt j n) ks (λ k h. lt-ltb k n (each k h))
 
 pub below_more : (m n : ℕ) (ks : List ℕ) → m ≤ n → are_below m ks ≡ true → are_below n ks ≡ true
 below_more m n ks le e = has_below n ks (λ k h. let low = below_has m ks e k h in omega (arith, low, le))
