@@ -1,4 +1,5 @@
 mod Seen
+mod Words
 pub mod Numerals
 pub mod Parentheses
 pub mod Tokens

@@ -10,3 +10,4 @@ pub mod Folds
 pub mod Scans
 pub mod Ends
 pub mod Faults
+pub mod Working

@@ -5,6 +5,7 @@ ghost use Rattle.std.specs.Char.{is_ascii_digit};
 ghost use Rattle.text_tokens.specs.TokenParts.{parts_of_tokens};
 ghost use Rattle.text_tokens.specs.declared.fault.TextFault.TheVariants.{Syntax};
 ghost use Rattle.text_grammar.specs.Terminals.{terminal_of, is_symbol, heads_symbol, keyword_terminal, number_terminal, symbol_terminal, is_digits, small_number};
+ghost use Rattle.text_grammar.specs.Working.Words.{word_of_four, word_of_five, word_of_six, other_word};
 ghost use Rattle.text_grammar.specs.Lexemes.{lexemes, text_at, Sees, heads, is_terminal, is_sum};
 ghost use Rattle.text_grammar.specs.Parsed.{place_of, Wants, wants};
 
@@ -102,7 +103,7 @@ pub enum Terminal {
     Other,
 }
 
-// Matches the bytes of the text, here and below: a match on strings would compare the text with each string in turn.
+// Matches the bytes of the text: a match on strings would compare the text with each string in turn.
 fn symbol_terminal(text: &str) -> Terminal
     ensures { result ≡ symbol_terminal text.now }
 {
@@ -135,31 +136,67 @@ fn symbol_terminal(text: &str) -> Terminal
     }
 }
 
+fn word_of_four(text: &str) -> Terminal
+    ensures { result ≡ word_of_four text.now }
+{
+    match text {
+        "true" => Terminal::True,
+        "test" => Terminal::Keyword(Keyword::Test),
+        "prog" => Terminal::Keyword(Keyword::Prog),
+        "term" => Terminal::Keyword(Keyword::Term),
+        "goal" => Terminal::Keyword(Keyword::Goal),
+        "skip" => Terminal::Keyword(Keyword::Skip),
+        "else" => Terminal::Keyword(Keyword::Else),
+        _ => Terminal::Name,
+    }
+}
+
+fn word_of_five(text: &str) -> Terminal
+    ensures { result ≡ word_of_five text.now }
+{
+    match text {
+        "false" => Terminal::False,
+        "width" => Terminal::Keyword(Keyword::Width),
+        "equal" => Terminal::Keyword(Keyword::Equal),
+        "below" => Terminal::Keyword(Keyword::Below),
+        "abort" => Terminal::Keyword(Keyword::Abort),
+        "while" => Terminal::Keyword(Keyword::While),
+        _ => Terminal::Name,
+    }
+}
+
+fn word_of_six(text: &str) -> Terminal
+    ensures { result ≡ word_of_six text.now }
+{
+    match text {
+        "action" => Terminal::Keyword(Keyword::Action),
+        "rounds" => Terminal::Keyword(Keyword::Rounds),
+        "triple" => Terminal::Keyword(Keyword::Triple),
+        "assert" => Terminal::Keyword(Keyword::Assert),
+        _ => Terminal::Name,
+    }
+}
+
+fn other_word(text: &str) -> Terminal
+    ensures { result ≡ other_word text.now }
+{
+    match text {
+        "var" => Terminal::Keyword(Keyword::Var),
+        "hyp" => Terminal::Keyword(Keyword::Hyp),
+        "if" => Terminal::Keyword(Keyword::If),
+        _ => Terminal::Name,
+    }
+}
+
+// Compares the text only with the keywords of its length.
 fn keyword_terminal(text: &str) -> Terminal
     ensures { result ≡ keyword_terminal text.now }
 {
-    match text.as_bytes() {
-        b"true" => Terminal::True,
-        b"false" => Terminal::False,
-        b"test" => Terminal::Keyword(Keyword::Test),
-        b"action" => Terminal::Keyword(Keyword::Action),
-        b"var" => Terminal::Keyword(Keyword::Var),
-        b"prog" => Terminal::Keyword(Keyword::Prog),
-        b"term" => Terminal::Keyword(Keyword::Term),
-        b"hyp" => Terminal::Keyword(Keyword::Hyp),
-        b"rounds" => Terminal::Keyword(Keyword::Rounds),
-        b"width" => Terminal::Keyword(Keyword::Width),
-        b"goal" => Terminal::Keyword(Keyword::Goal),
-        b"equal" => Terminal::Keyword(Keyword::Equal),
-        b"below" => Terminal::Keyword(Keyword::Below),
-        b"triple" => Terminal::Keyword(Keyword::Triple),
-        b"skip" => Terminal::Keyword(Keyword::Skip),
-        b"abort" => Terminal::Keyword(Keyword::Abort),
-        b"assert" => Terminal::Keyword(Keyword::Assert),
-        b"if" => Terminal::Keyword(Keyword::If),
-        b"else" => Terminal::Keyword(Keyword::Else),
-        b"while" => Terminal::Keyword(Keyword::While),
-        _ => Terminal::Name,
+    match text.len() {
+        4 => word_of_four(text),
+        5 => word_of_five(text),
+        6 => word_of_six(text),
+        _ => other_word(text),
     }
 }
 
