@@ -8,6 +8,7 @@ use Rattle.term_nodes.specs.Nodes.{IsTestOver, IsOver}
 use Rattle.term_nodes.specs.NodeLists.{NodeParts, AreNodes}
 use Rattle.term_nodes.specs.NodeTrees.{test_tree_in, tree_in, HasTestTree, HasTree}
 use Rattle.term_nodes.specs.TreeParts.{HasTestParts, HasParts}
+use Rattle.term_nodes.specs.Growth.{Grows}
 use Rattle.term_nodes.proofs.TestTrees.{test_node_stands}
 use Rattle.term_nodes.proofs.TermTrees.{node_stands}
 use Rattle.term_nodes.proofs.TreeParts.{test_has_parts, has_parts}
@@ -27,4 +28,19 @@ found r old last new shape e was is over same parts node h =
     let kept = parts (has_parts old was e h) in
     let stands = node_stands last is shape over (subst (HasTree last) (sym same) (subst (λ s. HasTree s e) (sym kept) h)) in
     let found = node stands in
+    (found.0, found.1 ∙ kept)
+
+-- if interning the first of two trees and then the second finds both, the list of nodes is unchanged
+pub tests_found : {P Q : Type 0} (old mid new : NodeParts) (b c : TestTree) → Grows old mid → Grows mid new
+    → (HasTestTree old b → P × (mid ≡ old)) → (HasTestTree mid c → Q × (new ≡ mid)) → HasTestTree old b × HasTestTree old c → Q × (new ≡ old)
+tests_found old mid new b c early late first second both =
+    let kept = (first both.0).1 in
+    let found = second (subst (λ s. HasTestTree s c) (sym kept) both.1) in
+    (found.0, found.1 ∙ kept)
+
+pub trees_found : {P Q : Type 0} (old mid new : NodeParts) (e f : Term) → Grows old mid → Grows mid new
+    → (HasTree old e → P × (mid ≡ old)) → (HasTree mid f → Q × (new ≡ mid)) → HasTree old e × HasTree old f → Q × (new ≡ old)
+trees_found old mid new e f early late first second both =
+    let kept = (first both.0).1 in
+    let found = second (subst (λ s. HasTree s f) (sym kept) both.1) in
     (found.0, found.1 ∙ kept)

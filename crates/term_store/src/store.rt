@@ -179,9 +179,31 @@ impl Store {
             Test::True => Ok(TestShape::True),
             Test::Prim(k) => Ok(TestShape::Prim(*k)),
             Test::Not(b) => Ok(TestShape::Not(self.of_test(b)?)),
-            Test::And(b, c) => Ok(TestShape::And(self.of_test(b)?, self.of_test(c)?)),
-            Test::Or(b, c) => Ok(TestShape::Or(self.of_test(b)?, self.of_test(c)?)),
+            Test::And(b, c) => {
+                let (first, second) = self.two_tests(b, c)?;
+                Ok(TestShape::And(first, second))
+            }
+            Test::Or(b, c) => {
+                let (first, second) = self.two_tests(b, c)?;
+                Ok(TestShape::Or(first, second))
+            }
         }
+    }
+
+    // Returns ids whose trees are these tests. On failure, extra nodes may remain.
+    #[cycle(of_test)]
+    fn two_tests(&mut self, left: &Test, right: &Test) -> Result<(TestId, TestId), NoMemory>
+        ensures trees { IfOk result (λ ids.
+            (test_tree_at self.new ids.0 ≡ test_tree left.now) × (test_tree_at self.new ids.1 ≡ test_tree right.now)) }
+        ensures are_ids { IfOk result (λ ids. IsTest self.new ids.0 × IsTest self.new ids.1) }
+        ensures found { HasTestTree self.old (test_tree left.now) × HasTestTree self.old (test_tree right.now) →
+            IsOk result × (self.new ≡ self.old) }
+        ensures grows { Grows self.old self.new }
+        ensures store { AreNodes self.new }
+    {
+        let first = self.of_test(left)?;
+        let second = self.of_test(right)?;
+        Ok((first, second))
     }
 
     /// Returns an id whose tree is this term. Fails only when out of memory; extra nodes may remain then.
@@ -219,9 +241,31 @@ impl Store {
             Kat::One => Ok(Shape::One),
             Kat::Test(b) => Ok(Shape::Test(self.of_test(b)?)),
             Kat::Act(a) => Ok(Shape::Act(*a)),
-            Kat::Sum(e, f) => Ok(Shape::Sum(self.of_tree(e)?, self.of_tree(f)?)),
-            Kat::Seq(e, f) => Ok(Shape::Seq(self.of_tree(e)?, self.of_tree(f)?)),
+            Kat::Sum(e, f) => {
+                let (first, second) = self.two_trees(e, f)?;
+                Ok(Shape::Sum(first, second))
+            }
+            Kat::Seq(e, f) => {
+                let (first, second) = self.two_trees(e, f)?;
+                Ok(Shape::Seq(first, second))
+            }
             Kat::Star(e) => Ok(Shape::Star(self.of_tree(e)?)),
         }
+    }
+
+    // Returns ids whose trees are these terms. On failure, extra nodes may remain.
+    #[cycle(of_tree)]
+    fn two_trees(&mut self, left: &Kat, right: &Kat) -> Result<(TermId, TermId), NoMemory>
+        ensures trees { IfOk result (λ ids.
+            (tree_at self.new ids.0 ≡ kat_tree left.now) × (tree_at self.new ids.1 ≡ kat_tree right.now)) }
+        ensures are_ids { IfOk result (λ ids. IsTerm self.new ids.0 × IsTerm self.new ids.1) }
+        ensures found { HasTree self.old (kat_tree left.now) × HasTree self.old (kat_tree right.now) →
+            IsOk result × (self.new ≡ self.old) }
+        ensures grows { Grows self.old self.new }
+        ensures store { AreNodes self.new }
+    {
+        let first = self.of_tree(left)?;
+        let second = self.of_tree(right)?;
+        Ok((first, second))
     }
 }
