@@ -279,6 +279,33 @@ impl Finder {
     }
 }
 
+// Does what `outline` does, from the first state of the finder. The finder is borrowed: the proof of a function grows
+// with the exits at which it drops values.
+fn outline_by(
+    finder: &mut Finder,
+    alloc: Global,
+    problem: &Problem,
+    task: &Task,
+) -> Result<Option<Notes>, NoMemory>
+    requires simple { AreSimple problem.now.hyps }
+    requires triple { IsTripleOf problem.now (task_parts task.now) }
+    requires finder { IsFinder problem.now finder.old }
+    requires empty { finder.old.notes.items ≡ [] }
+    requires no_loops { finder.old.loops.entries ≡ [] }
+    requires within { IsProblem problem.now }
+    ensures { IfOk result (λ found. MatchOption found (Same problem.now → ⊥)
+        (λ notes. Same problem.now × Follows problem.now (task_parts task.now) notes)) }
+{
+    let start = parts_by(&mut finder.diagrams, finder.allowed, &task.pre)?;
+    let last = finder.after_flow(problem, &task.flow, start.holds)?;
+    let post = finder.diagrams.of_test(&task.post, Moment::Before)?;
+    if !finder.diagrams.entails(last, post)? {
+        return Ok(None);
+    }
+    let notes = notes_of_sets(alloc, &mut finder.diagrams, &finder.notes)?;
+    Ok(Some(notes))
+}
+
 /// Returns notes that follow, if the triple holds: both sides of the problem denote the same relation in each table
 /// that keeps the hypotheses. Returns `None` if it does not hold. Fails only when out of memory.
 pub fn outline(alloc: Global, problem: &Problem, task: &Task) -> Result<Option<Notes>, NoMemory>
@@ -288,12 +315,5 @@ pub fn outline(alloc: Global, problem: &Problem, task: &Task) -> Result<Option<N
         (λ notes. Same problem.now × Follows problem.now (task_parts task.now) notes)) }
 {
     let mut finder = Finder::new(alloc, problem)?;
-    let start = parts_by(&mut finder.diagrams, finder.allowed, &task.pre)?;
-    let last = finder.after_flow(problem, &task.flow, start.holds)?;
-    let post = finder.diagrams.of_test(&task.post, Moment::Before)?;
-    if !finder.diagrams.entails(last, post)? {
-        return Ok(None);
-    }
-    let notes = notes_of_sets(alloc, &mut finder.diagrams, &finder.notes)?;
-    Ok(Some(notes))
+    outline_by(&mut finder, alloc, problem, task)
 }
