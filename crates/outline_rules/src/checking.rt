@@ -323,6 +323,57 @@ fn least_unmet_check(
     Ok(least)
 }
 
+// Returns the least target of an unmet condition, given the sets of the notes.
+fn least_unmet_from(
+    diagrams: &mut StepDiagrams,
+    problem: &Problem,
+    task: &Task,
+    notes: &Notes,
+    before: &MomentSets,
+    checks: &[Check<'_>],
+    last: usize,
+) -> Result<Option<usize>, NoMemory>
+    requires simple { AreSimple problem.now.hyps }
+    requires tests { diagrams.old.tests ≡ problem.now.tests }
+    requires before { AreMomentSets diagrams.old Before problem.now.hyps notes.now before.now }
+    requires pre { IsTestInRange problem.now.tests (test_tree task.now.pre) }
+    requires post { IsTestInRange problem.now.tests (test_tree task.now.post) }
+    requires in_range { All (HasCheckInRange problem.now.tests) checks.now }
+    ensures { IfOk result (TellsLeastUnmet problem.now (note_holds notes.now)
+        (starts (test_tree task.now.pre) ∷ (map condition_of checks.now ++ ends last (test_tree task.now.post) ∷ []))) }
+{
+    let starts = is_start_met(diagrams, problem, notes, before, &task.pre)?;
+    let within = least_unmet_check(diagrams, problem, notes, before, checks)?;
+    let ends = is_end_met(diagrams, problem, notes, before, last, &task.post)?;
+    let end = next_place(last)?;
+    let later = lesser(within, target_unless(ends, end));
+    Ok(lesser(target_unless(starts, 0), later))
+}
+
+// Returns the least target of an unmet condition. The diagrams are borrowed, and owned where nothing else is: the proof
+// of a function grows with the exits at which it drops values.
+fn least_unmet_over(
+    alloc: Global,
+    diagrams: &mut StepDiagrams,
+    problem: &Problem,
+    task: &Task,
+    notes: &Notes,
+    checks: &[Check<'_>],
+    last: usize,
+) -> Result<Option<usize>, NoMemory>
+    requires simple { AreSimple problem.now.hyps }
+    requires same { diagrams.old.tests ≡ problem.now.tests }
+    requires tests { HasTests problem.now.tests notes.now.nodes }
+    requires pre { IsTestInRange problem.now.tests (test_tree task.now.pre) }
+    requires post { IsTestInRange problem.now.tests (test_tree task.now.post) }
+    requires in_range { All (HasCheckInRange problem.now.tests) checks.now }
+    ensures { IfOk result (TellsLeastUnmet problem.now (note_holds notes.now)
+        (starts (test_tree task.now.pre) ∷ (map condition_of checks.now ++ ends last (test_tree task.now.post) ∷ []))) }
+{
+    let before = moment_sets(alloc, diagrams, problem, notes, Moment::Before)?;
+    least_unmet_from(diagrams, problem, task, notes, &before, checks, last)
+}
+
 // Returns the least target of an unmet condition.
 fn least_unmet(
     alloc: Global,
@@ -341,13 +392,7 @@ fn least_unmet(
         (starts (test_tree task.now.pre) ∷ (map condition_of checks.now ++ ends last (test_tree task.now.post) ∷ []))) }
 {
     let mut diagrams = StepDiagrams::new(alloc, problem.tests())?;
-    let before = moment_sets(alloc, &mut diagrams, problem, notes, Moment::Before)?;
-    let starts = is_start_met(&mut diagrams, problem, notes, &before, &task.pre)?;
-    let within = least_unmet_check(&mut diagrams, problem, notes, &before, checks)?;
-    let ends = is_end_met(&mut diagrams, problem, notes, &before, last, &task.post)?;
-    let end = next_place(last)?;
-    let later = lesser(within, target_unless(ends, end));
-    Ok(lesser(target_unless(starts, 0), later))
+    least_unmet_over(alloc, &mut diagrams, problem, task, notes, checks, last)
 }
 
 /// Checks whether the notes follow from each other by the rules of Hoare logic at every place of the program (Hoare

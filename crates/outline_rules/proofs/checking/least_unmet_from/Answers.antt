@@ -7,13 +7,13 @@ use Rattle.outline_rules.specs.Follows.{starts, ends}
 use Rattle.outline_rules.specs.Working.Checks.{condition_of}
 use Rattle.outline_rules.proofs.NodeSets.{moment_sets_kept}
 use Rattle.outline_rules.proofs.LeastTargets.{least_of_all}
-use Rattle.outline_rules.proofs.checking.least_unmet.Goals as goal
+use Rattle.outline_rules.proofs.checking.least_unmet_from.Goals as goal
 
 pub least_unmet_check-requires-clause-before : goal.least_unmet_check-requires-clause-before
-least_unmet_check-requires-clause-before c = moment_sets_kept _ _ Before _ _ _ c.in_ok-starts.ensures.kept c.in_ok-before.ensures.sets
+least_unmet_check-requires-clause-before c = moment_sets_kept _ _ Before _ _ _ c.in_ok-starts.ensures.kept c.requires.before
 
 pub is_end_met-requires-clause-before : goal.is_end_met-requires-clause-before
-is_end_met-requires-clause-before c = moment_sets_kept _ _ Before _ _ _ (KeepsSteps-trans _ _ _ c.in_ok-starts.ensures.kept c.in_ok-within.ensures.kept) c.in_ok-before.ensures.sets
+is_end_met-requires-clause-before c = moment_sets_kept _ _ Before _ _ _ (KeepsSteps-trans _ _ _ c.in_ok-starts.ensures.kept c.in_ok-within.ensures.kept) c.requires.before
 
 pub returns : goal.returns
 returns c =
