@@ -167,6 +167,19 @@ pub block_step : {E B L T M S : Type 0} (g : BlockActions E B L T M S) (x : Bloc
 unfolding parse_block block_within
 block_step g x d ts = blocks_same g (block_within g (steps x ts)) (parse_block g) (within_short g (steps x ts)) x d ts (λ y e us lt. enough g (steps x ts) (suc (steps y us)) y e us lt (omega arith))
 
+-- the equation at each aim, for searches that shall not unfold the aims inside it
+pub block_aim_step : {E B L T M S : Type 0} (g : BlockActions E B L T M S) (d : ℕ) (ts : List Lexeme) → parse_block g block d ts ≡ block_by g (parse_block g) d ts
+block_aim_step g d ts = block_step g block d ts
+
+pub stmts_after_step : {E B L T M S : Type 0} (g : BlockActions E B L T M S) (s : S) (d : ℕ) (ts : List Lexeme) → parse_block g (stmts_after s) d ts ≡ stmts_by g (parse_block g) s d ts
+stmts_after_step g s d ts = block_step g (stmts_after s) d ts
+
+pub stmt_after_step : {E B L T M S : Type 0} (g : BlockActions E B L T M S) (s : S) (d : ℕ) (ts : List Lexeme) → parse_block g (stmt_after s) d ts ≡ stmt_by g (parse_block g) s d ts
+stmt_after_step g s d ts = block_step g (stmt_after s) d ts
+
+pub branch_after_step : {E B L T M S : Type 0} (g : BlockActions E B L T M S) (s : S) (d : ℕ) (ts : List Lexeme) → parse_block g (branch_after s) d ts ≡ branch_by g (parse_block g) s d ts
+branch_after_step g s d ts = block_step g (branch_after s) d ts
+
 -- the parser consumes at least one token
 pub block_read_short : {E B L T M S : Type 0} (g : BlockActions E B L T M S) → IsShort (parse_block g)
 unfolding parse_block
