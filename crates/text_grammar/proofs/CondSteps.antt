@@ -1,5 +1,5 @@
 -- The equation of the condition parser, without a number of steps.
-use Rattle.std.proofs.Common.{◌≡◌, ℕ, zero, suc, ◌+◌, ◌*◌, ◌<◌, ◌≤◌, List, [], ◌∷◌, length, Ok, refl, ap, arith, drop, length-drop}
+use Rattle.std.proofs.Common.{◌≡◌, ℕ, zero, suc, ◌+◌, ◌*◌, ◌<◌, ◌≤◌, List, [], ◌∷◌, length, if◌then◌else◌, Ok, refl, ap, arith, drop, length-drop}
 use Rattle.text_grammar.specs.declared.terminal.Terminal.TheVariants.{RoundOpen, RoundClose, Bang, And, Or, Compares, Zero, One, Number, WideNumber, True, False, Name}
 use Rattle.text_grammar.specs.declared.reading.Context.{Context}
 use Rattle.text_grammar.specs.Lexemes.{Lexeme, lexeme, heads, is_terminal}
@@ -111,6 +111,22 @@ enough g (suc n) (suc m) x c ts p q = cond_same g (cond_within g n) (cond_within
 pub cond_step : {E B L : Type 0} (g : CondActions E B L) (x : CondAim L) (c : Context) (ts : List Lexeme) → parse_cond g x c ts ≡ cond_by g (parse_cond g) x c ts
 unfolding parse_cond cond_within
 cond_step g x c ts = cond_same g (cond_within g (steps x ts)) (parse_cond g) (within_short g (steps x ts)) x c ts (λ y d us lt. enough g (steps x ts) (suc (steps y us)) y d us lt (omega arith))
+
+-- the equation at each aim, for searches that shall not unfold the aims inside it
+pub disjunction_step : {E B L : Type 0} (g : CondActions E B L) (c : Context) (ts : List Lexeme) → parse_cond g disjunction c ts ≡ (parse_cond g conjunction c ts >>= λ x. parse_cond g (disjunction_after (g.one_of x.0)) c x.1)
+disjunction_step g c ts = cond_step g disjunction c ts
+
+pub disjunction_after_step : {E B L : Type 0} (g : CondActions E B L) (l : L) (c : Context) (ts : List Lexeme) → parse_cond g (disjunction_after l) c ts ≡ (if heads (is_terminal Or) ts then (parse_cond g conjunction c (drop 1 ts) >>= λ x. parse_cond g (disjunction_after (g.more l x.0)) c x.1) else Ok (g.any l, ts))
+disjunction_after_step g l c ts = cond_step g (disjunction_after l) c ts
+
+pub conjunction_step : {E B L : Type 0} (g : CondActions E B L) (c : Context) (ts : List Lexeme) → parse_cond g conjunction c ts ≡ (parse_cond g literal c ts >>= λ x. parse_cond g (conjunction_after (g.one_of x.0)) c x.1)
+conjunction_step g c ts = cond_step g conjunction c ts
+
+pub conjunction_after_step : {E B L : Type 0} (g : CondActions E B L) (l : L) (c : Context) (ts : List Lexeme) → parse_cond g (conjunction_after l) c ts ≡ (if heads (is_terminal And) ts then (parse_cond g literal c (drop 1 ts) >>= λ x. parse_cond g (conjunction_after (g.more l x.0)) c x.1) else Ok (g.all l, ts))
+conjunction_after_step g l c ts = cond_step g (conjunction_after l) c ts
+
+pub literal_step : {E B L : Type 0} (g : CondActions E B L) (c : Context) (ts : List Lexeme) → parse_cond g literal c ts ≡ literal_by g (parse_cond g) c ts
+literal_step g c ts = cond_step g literal c ts
 
 -- the parser consumes at least one token, or none for the rest of a list
 pub cond_read_short : {E B L : Type 0} (g : CondActions E B L) → IsShort (parse_cond g)

@@ -1,5 +1,5 @@
 -- The equation of the expression parser, without a number of steps.
-use Rattle.std.proofs.Common.{◌≡◌, ℕ, zero, suc, ◌+◌, ◌*◌, ◌<◌, ◌≤◌, List, [], ◌∷◌, length, Ok, refl, ap, arith, drop, length-drop}
+use Rattle.std.proofs.Common.{◌≡◌, ℕ, zero, suc, ◌+◌, ◌*◌, ◌<◌, ◌≤◌, List, [], ◌∷◌, length, if◌then◌else◌, Ok, refl, ap, arith, drop, length-drop}
 use Rattle.text_grammar.specs.declared.terminal.Terminal.TheVariants.{RoundOpen, RoundClose, Star, Zero, One, Number, Name}
 use Rattle.text_grammar.specs.declared.reading.Context.{Context}
 use Rattle.text_grammar.specs.declared.reading.Operator.TheVariants.{Multiply}
@@ -82,6 +82,22 @@ enough g (suc n) (suc m) x c ts p q = expr_same g (expr_within g n) (expr_within
 pub expr_step : {E : Type 0} (g : ExprActions E) (x : ExprAim E) (c : Context) (ts : List Lexeme) → parse_expr g x c ts ≡ expr_by g (parse_expr g) x c ts
 unfolding parse_expr expr_within
 expr_step g x c ts = expr_same g (expr_within g (steps x ts)) (parse_expr g) (within_short g (steps x ts)) x c ts (λ y d us lt. enough g (steps x ts) (suc (steps y us)) y d us lt (omega arith))
+
+-- the equation at each aim, for searches that shall not unfold the aims inside it
+pub sums_step : {E : Type 0} (g : ExprActions E) (c : Context) (ts : List Lexeme) → parse_expr g sums c ts ≡ (parse_expr g products c ts >>= λ x. parse_expr g (sums_after x.0) c x.1)
+sums_step g c ts = expr_step g sums c ts
+
+pub sums_after_step : {E : Type 0} (g : ExprActions E) (e : E) (c : Context) (ts : List Lexeme) → parse_expr g (sums_after e) c ts ≡ (if heads is_sum ts then (parse_expr g products c (drop 1 ts) >>= λ x. parse_expr g (sums_after (g.join (operator_at ts) e x.0)) c x.1) else Ok (e, ts))
+sums_after_step g e c ts = expr_step g (sums_after e) c ts
+
+pub products_step : {E : Type 0} (g : ExprActions E) (c : Context) (ts : List Lexeme) → parse_expr g products c ts ≡ (parse_expr g factor c ts >>= λ x. parse_expr g (products_after x.0) c x.1)
+products_step g c ts = expr_step g products c ts
+
+pub products_after_step : {E : Type 0} (g : ExprActions E) (e : E) (c : Context) (ts : List Lexeme) → parse_expr g (products_after e) c ts ≡ (if heads (is_terminal Star) ts then (parse_expr g factor c (drop 1 ts) >>= λ x. parse_expr g (products_after (g.join Multiply e x.0)) c x.1) else Ok (e, ts))
+products_after_step g e c ts = expr_step g (products_after e) c ts
+
+pub factor_step : {E : Type 0} (g : ExprActions E) (c : Context) (ts : List Lexeme) → parse_expr g factor c ts ≡ factor_by g (parse_expr g) c ts
+factor_step g c ts = expr_step g factor c ts
 
 -- the parser consumes at least one token, or none for the rest of a list
 pub expr_read_short : {E : Type 0} (g : ExprActions E) → IsShort (parse_expr g)

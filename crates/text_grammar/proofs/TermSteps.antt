@@ -1,5 +1,5 @@
 -- The equation of the term parser, without a number of steps.
-use Rattle.std.proofs.Common.{◌≡◌, ℕ, zero, suc, ◌+◌, ◌*◌, ◌<◌, ◌≤◌, List, [], ◌∷◌, length, Ok, refl, ap, arith, drop, length-drop}
+use Rattle.std.proofs.Common.{◌≡◌, ℕ, zero, suc, ◌+◌, ◌*◌, ◌<◌, ◌≤◌, List, [], ◌∷◌, length, if◌then◌else◌, Ok, refl, ap, arith, drop, length-drop}
 use Rattle.text_grammar.specs.declared.terminal.Terminal.TheVariants.{RoundOpen, RoundClose, SquareOpen, SquareClose, Bang, Star, Plus, Dot, Zero, One, Name}
 use Rattle.text_grammar.specs.declared.reading.Context.{Context}
 use Rattle.text_grammar.specs.Lexemes.{Lexeme, lexeme, heads, is_terminal}
@@ -108,6 +108,22 @@ enough g (suc n) (suc m) x c ts p q = term_same g (term_within g n) (term_within
 pub term_step : {E B L T M : Type 0} (g : Actions E B L T M) (x : TermAim M) (c : Context) (ts : List Lexeme) → parse_term g x c ts ≡ term_by g (parse_term g) x c ts
 unfolding parse_term term_within
 term_step g x c ts = term_same g (term_within g (steps x ts)) (parse_term g) (within_short g (steps x ts)) x c ts (λ y d us lt. enough g (steps x ts) (suc (steps y us)) y d us lt (omega arith))
+
+-- the equation at each aim, for searches that shall not unfold the aims inside it
+pub choice_step : {E B L T M : Type 0} (g : Actions E B L T M) (c : Context) (ts : List Lexeme) → parse_term g choice c ts ≡ (parse_term g sequence c ts >>= λ x. parse_term g (choice_after (g.one_of x.0)) c x.1)
+choice_step g c ts = term_step g choice c ts
+
+pub choice_after_step : {E B L T M : Type 0} (g : Actions E B L T M) (m : M) (c : Context) (ts : List Lexeme) → parse_term g (choice_after m) c ts ≡ (if heads (is_terminal Plus) ts then (parse_term g sequence c (drop 1 ts) >>= λ x. parse_term g (choice_after (g.more m x.0)) c x.1) else Ok (g.sum m, ts))
+choice_after_step g m c ts = term_step g (choice_after m) c ts
+
+pub sequence_step : {E B L T M : Type 0} (g : Actions E B L T M) (c : Context) (ts : List Lexeme) → parse_term g sequence c ts ≡ (parse_term g unit c ts >>= λ x. star_or_not g c x.0 x.1 >>= λ y. parse_term g (sequence_after (g.one_of y.0)) c y.1)
+sequence_step g c ts = term_step g sequence c ts
+
+pub sequence_after_step : {E B L T M : Type 0} (g : Actions E B L T M) (m : M) (c : Context) (ts : List Lexeme) → parse_term g (sequence_after m) c ts ≡ (if heads (is_terminal Dot) ts then (parse_term g unit c (drop 1 ts) >>= λ x. star_or_not g c x.0 x.1 >>= λ y. parse_term g (sequence_after (g.more m y.0)) c y.1) else Ok (g.product m, ts))
+sequence_after_step g m c ts = term_step g (sequence_after m) c ts
+
+pub unit_step : {E B L T M : Type 0} (g : Actions E B L T M) (c : Context) (ts : List Lexeme) → parse_term g unit c ts ≡ unit_by g (parse_term g) c ts
+unit_step g c ts = term_step g unit c ts
 
 -- the parser consumes at least one token, or none for the rest of a list
 pub term_read_short : {E B L T M : Type 0} (g : Actions E B L T M) → IsShort (parse_term g)

@@ -147,24 +147,22 @@ fn literal<R: Reading>(
     let Some((terminal, at)) = terminal_at(toks, from) else {
         return Err(syntax_fault_at(toks, from));
     };
+    let next = from + 1;
     match terminal {
-        Terminal::True => Ok((reading.always(), from + 1)),
-        Terminal::False => Ok((reading.never(), from + 1)),
-        Terminal::Bang => negation(reading, toks, from + 1, context, at),
+        Terminal::True => Ok((reading.always(), next)),
+        Terminal::False => Ok((reading.never(), next)),
+        Terminal::Bang => negation(reading, toks, next, context, at),
         Terminal::Name => {
-            if begins_expr(toks, from + 1) {
+            if begins_expr(toks, next) {
                 return comparison(reading, toks, from, context);
             }
-            Ok((
-                reading.named_cond(context, at, text_at(toks, from))?,
-                from + 1,
-            ))
+            Ok((reading.named_cond(context, at, text_at(toks, from))?, next))
         }
         Terminal::RoundOpen => {
-            if begins_expr(toks, after_close(toks, from + 1)) {
+            if begins_expr(toks, after_close(toks, next)) {
                 return comparison(reading, toks, from, context);
             }
-            parenthesis(reading, toks, from + 1, context, at)
+            parenthesis(reading, toks, next, context, at)
         }
         Terminal::Zero | Terminal::One | Terminal::Number(_) | Terminal::WideNumber => {
             comparison(reading, toks, from, context)

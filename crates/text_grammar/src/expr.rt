@@ -89,16 +89,14 @@ fn factor<R: Reading>(
     let Some((terminal, at)) = terminal_at(toks, from) else {
         return Err(syntax_fault_at(toks, from));
     };
+    let next = from + 1;
     match terminal {
-        Terminal::Zero => Ok((reading.number(context, at, 0)?, from + 1)),
-        Terminal::One => Ok((reading.number(context, at, 1)?, from + 1)),
-        Terminal::Number(n) => Ok((reading.number(context, at, n)?, from + 1)),
+        Terminal::Zero => Ok((reading.number(context, at, 0)?, next)),
+        Terminal::One => Ok((reading.number(context, at, 1)?, next)),
+        Terminal::Number(n) => Ok((reading.number(context, at, n)?, next)),
         Terminal::WideNumber => Err(TextFault::NumberTooWide(at)),
-        Terminal::Name => Ok((
-            reading.variable(context, at, text_at(toks, from))?,
-            from + 1,
-        )),
-        Terminal::RoundOpen => parenthesis(reading, toks, from + 1, context, at),
+        Terminal::Name => Ok((reading.variable(context, at, text_at(toks, from))?, next)),
+        Terminal::RoundOpen => parenthesis(reading, toks, next, context, at),
         _ => Err(TextFault::Syntax(at)),
     }
 }

@@ -102,16 +102,14 @@ fn unit<R: Reading>(
     let Some((terminal, at)) = terminal_at(toks, from) else {
         return Err(syntax_fault_at(toks, from));
     };
+    let next = from + 1;
     match terminal {
-        Terminal::Zero => Ok((reading.zero(), from + 1)),
-        Terminal::One => Ok((reading.one(), from + 1)),
-        Terminal::Name => Ok((
-            reading.named_term(context, at, text_at(toks, from))?,
-            from + 1,
-        )),
-        Terminal::Bang => negation(reading, toks, from + 1, context, at),
-        Terminal::SquareOpen => bracket(reading, toks, from + 1, context, at),
-        Terminal::RoundOpen => parenthesis(reading, toks, from + 1, context, at),
+        Terminal::Zero => Ok((reading.zero(), next)),
+        Terminal::One => Ok((reading.one(), next)),
+        Terminal::Name => Ok((reading.named_term(context, at, text_at(toks, from))?, next)),
+        Terminal::Bang => negation(reading, toks, next, context, at),
+        Terminal::SquareOpen => bracket(reading, toks, next, context, at),
+        Terminal::RoundOpen => parenthesis(reading, toks, next, context, at),
         _ => Err(TextFault::Syntax(at)),
     }
 }
