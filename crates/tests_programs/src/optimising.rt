@@ -29,24 +29,39 @@ fn has_text(
     Ok(text.as_slice() == want.as_bytes())
 }
 
-fn optimised(
+// Whether the step or no step led to the program that is `want`.
+fn is_expected(
+    alloc: Global,
+    optimised: &Optimised,
+    scope: &Scope,
+    step: Option<u8>,
+    want: &str,
+) -> Result<bool, NoMemory> {
+    let is_done = optimised.ended == Ended::Done;
+    let are_expected = are_steps(&optimised.log, step) && is_done == step.is_some();
+    Ok(are_expected && has_text(alloc, optimised, scope, want)?)
+}
+
+// Whether the program L of the file becomes `want`, by the step or by none.
+fn is_optimised_in(
     alloc: Global,
     file: &File,
-    name: &str,
     turns: u64,
-) -> Result<Option<Optimised>, NoMemory>
+    step: Option<u8>,
+    want: &str,
+) -> Result<bool, NoMemory>
     requires { IsNumbered file.now }
 {
-    match file.prog(name) {
-        None => Ok(None),
+    match file.prog("L") {
+        None => Ok(false),
         Some(prog) => {
             let optimised = optimise(alloc, file, prog, turns)?;
-            Ok(Some(optimised))
+            is_expected(alloc, &optimised, &file.scope, step, want)
         }
     }
 }
 
-// Whether the program L of the text becomes `want`, by the step or by none.
+// The same for the file of a text.
 fn is_optimised(
     alloc: Global,
     text: &str,
@@ -55,14 +70,7 @@ fn is_optimised(
     want: &str,
 ) -> Result<bool, TextFault> {
     let file = read(alloc, text.as_bytes())?;
-    match optimised(alloc, &file, "L", turns)? {
-        None => Ok(false),
-        Some(optimised) => {
-            let is_done = optimised.ended == Ended::Done;
-            let are_expected = are_steps(&optimised.log, step) && is_done == step.is_some();
-            Ok(are_expected && has_text(alloc, &optimised, &file.scope, want)?)
-        }
-    }
+    Ok(is_optimised_in(alloc, &file, turns, step, want)?)
 }
 
 const IF_AFTER_LOOP: &str =

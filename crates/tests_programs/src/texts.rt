@@ -16,9 +16,13 @@ fn shown(alloc: Global, file: &GkatFile) -> Result<Vec<u8>, NoMemory> {
     Ok(out)
 }
 
+fn is_file_shown(alloc: Global, file: &GkatFile, want: &[u8]) -> Result<bool, NoMemory> {
+    Ok(shown(alloc, file)?.as_slice() == want)
+}
+
 fn is_shown(alloc: Global, text: &[u8], want: &[u8]) -> Result<bool, TextFault> {
     let file = read_gkat(alloc, text)?;
-    Ok(shown(alloc, &file)?.as_slice() == want)
+    Ok(is_file_shown(alloc, &file, want)?)
 }
 
 fn fault(alloc: Global, text: &[u8]) -> Option<TextFault> {
