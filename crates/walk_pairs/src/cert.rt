@@ -1,10 +1,10 @@
 //! Building the certificate of listed pairs.
-ghost use Rattle.std.specs.Prelude.{◌≡◌, ◌<◌, ℕ, Some, IfOk, length, map, slice_get};
+ghost use Rattle.std.specs.Prelude.{◌≡◌, ◌<◌, ℕ, List, Some, IfOk, length, map, slice_get};
 ghost use Rattle.kat_model.specs.Members.{Has, IsSubset};
 ghost use Rattle.std.specs.Option.{option_map};
 ghost use Rattle.walk_pairs.specs.StoredPairs.{AreStoredPairs};
 ghost use Rattle.term_nodes.specs.Nodes.{term_parts, tests_of_term, test_parts};
-ghost use Rattle.walk_pairs.specs.Needed.{members_of, tests_of_pairs};
+ghost use Rattle.walk_pairs.specs.Needed.{AreParts, members_of, tests_of_pairs, NamesAllTests};
 ghost use Rattle.walk_pairs.specs.Numbering.{test_node_of, term_node_of, number_of, numbers_of, number_pair_of, test_nodes_of, term_nodes_of, IsCertOf};
 ghost use Rattle.term_nodes.specs.declared.TestNode.{TestNode};
 ghost use Rattle.term_nodes.specs.declared.TermNode.{TermNode};
@@ -139,6 +139,44 @@ fn number_pairs(
     Ok(list)
 }
 
+// Builds the certificate of the pairs over their terms and tests.
+fn cert_over(
+    alloc: Global,
+    store: &Store,
+    style: Style,
+    pairs: &[StoredPair],
+    terms: &Terms,
+    tests: &Tests,
+) -> Result<Cert, NoMemory>
+    requires stored { (n : ℕ) × AreStoredPairs store.now style n pairs.now }
+    requires terms { AreParts (TermNode ℕ ℕ) store.now.terms term_parts (members_of pairs.now) terms.now.keys }
+    requires tests { (named : List ℕ) × NamesAllTests store.now terms.now.keys pairs.now named × AreParts (TestNode ℕ) store.now.tests test_parts named tests.now.keys }
+    ensures { IfOk result (IsCertOf store.now style pairs.now) }
+{
+    // The proof needs the rules of the store.
+    let _ = store.count();
+    let test_nodes = test_nodes(alloc, store, tests)?;
+    let term_nodes = term_nodes(alloc, store, tests, terms)?;
+    let pairs = number_pairs(alloc, tests, terms, pairs)?;
+    Ok(Cert::of_parts(style, test_nodes, term_nodes, pairs))
+}
+
+// Builds the certificate of the pairs over their terms.
+fn cert_over_terms(
+    alloc: Global,
+    store: &Store,
+    style: Style,
+    pairs: &[StoredPair],
+    terms: &Terms,
+) -> Result<Cert, NoMemory>
+    requires stored { (n : ℕ) × AreStoredPairs store.now style n pairs.now }
+    requires terms { AreParts (TermNode ℕ ℕ) store.now.terms term_parts (members_of pairs.now) terms.now.keys }
+    ensures { IfOk result (IsCertOf store.now style pairs.now) }
+{
+    let tests = needed_tests(alloc, store, terms, pairs)?;
+    cert_over(alloc, store, style, pairs, terms, &tests)
+}
+
 /// Builds the certificate of the pairs in this style, with only the nodes that they need. Nodes are in the order of
 /// their ids in the store, so each follows its parts. Fails only when out of memory.
 pub fn cert_of(
@@ -150,12 +188,6 @@ pub fn cert_of(
     requires { (n : ℕ) × AreStoredPairs store.now style n pairs.now }
     ensures { IfOk result (IsCertOf store.now style pairs.now) }
 {
-    // The proof needs the rules of the store.
-    let _ = store.count();
     let terms = needed_terms(alloc, store, pairs)?;
-    let tests = needed_tests(alloc, store, &terms, pairs)?;
-    let test_nodes = test_nodes(alloc, store, &tests)?;
-    let term_nodes = term_nodes(alloc, store, &tests, &terms)?;
-    let pairs = number_pairs(alloc, &tests, &terms, pairs)?;
-    Ok(Cert::of_parts(style, test_nodes, term_nodes, pairs))
+    cert_over_terms(alloc, store, style, pairs, &terms)
 }
