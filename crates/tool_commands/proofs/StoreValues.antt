@@ -1,6 +1,6 @@
 -- The store of a word is a store of the file: it has a number of the width for each variable of the file.
 use Rattle.std.proofs.Common.{◌≡◌, ◌<◌, ◌⊎◌, ℕ, zero, suc, List, [], ◌∷◌, length, map, set, replicate, slice_get, codes, Bool, true, false, ◌&&◌, ◌==◌, cond, nat_lt, Option, None, Some, unwrap_or, refl, sym, ap, ◌∙◌, subst, inl, inr, ⊎_elim, lit<, ltb-true}
-use Rattle.std.specs.Option.{option_map, option_and_then}
+use Rattle.std.specs.Option.{option_map}
 use Rattle.std.specs.List.{slice_split, before_first, after_first}
 use Rattle.std.specs.Str.{bytes_eq}
 use Rattle.std.proofs.lemmas.Bool.{and_parts}
@@ -11,6 +11,7 @@ use Rattle.kat_model.specs.Members.{Has}
 use Rattle.kat_model.specs.Stores.{modulus, Store}
 use Rattle.kat_model.specs.declared.expression.Width.{Width}
 use Rattle.kat_model.specs.declared.expression.Width.TheVariants.{W8, W16, W32, W64}
+use Rattle.kat_model.proofs.Options.{some_of_map, some_of_then, some_of_cond}
 use Rattle.text_scopes.specs.ScopeParts.{ScopeParts, meaning}
 use Rattle.text_grammar.specs.Terminals.{value_from}
 use Rattle.problem_file.specs.Files.{FileParts}
@@ -18,25 +19,11 @@ use Rattle.problem_file.specs.Concrete.{IsStoreOf}
 use Rattle.tool_commands.specs.Numbers.{is_number, number_below}
 use Rattle.tool_commands.specs.StoreWords.{Values, is_free, variable_meant, setting_of, with_setting, with_item, with_items, values_of, store_of}
 
--- ---- options with a value
-
-and_then_some : {A B : Type 0} (f : A → Option B) (o : Option A) (y : B) → option_and_then f o ≡ Some y → (x : A) × (o ≡ Some x) × (f x ≡ Some y)
-and_then_some f None y e = absurd (none-some y e)
-and_then_some f (Some x) y e = (x, refl, e)
-
-map_some : {A B : Type 0} (f : A → B) (o : Option A) (y : B) → option_map f o ≡ Some y → (x : A) × (o ≡ Some x) × (f x ≡ y)
-map_some f None y e = absurd (none-some y e)
-map_some f (Some x) y e = (x, refl, same_Some (f x) y e)
-
-where_some : {A : Type 0} (b : Bool) (x y : A) → cond b (Some x) None ≡ Some y → (b ≡ true) × (x ≡ y)
-where_some true x y e = (refl, same_Some x y e)
-where_some false x y e = absurd (none-some y e)
-
 -- ---- numbers of the width
 
 pub number_is_below : (bound : ℕ) (word : List ℕ) (n : ℕ) → number_below bound word ≡ Some n → n < bound
 number_is_below bound word n e =
-    let made = where_some (is_number word && nat_lt (value_from 0 word) bound) (value_from 0 word) n e in
+    let made = some_of_cond (is_number word && nat_lt (value_from 0 word) bound) (value_from 0 word) n e in
     subst (λ m. m < bound) made.1 (ltb-true (value_from 0 word) bound (and_parts (is_number word) (nat_lt (value_from 0 word) bound) made.0).1)
 
 pub some_numbers : (w : Width) → 0 < modulus w
@@ -48,8 +35,8 @@ some_numbers W64 = lit< tt
 setting_below : (w : ScopeParts) (width : Width) (item : List ℕ) (x : ℕ × ℕ) → setting_of w width item ≡ Some x → x.1 < modulus width
 setting_below w width item x e =
     let number = number_below (modulus width) (after_first (λ b. b == 61) item) in
-    let found = and_then_some (λ k. option_map (λ n. (k, n)) number) (variable_meant (meaning w (before_first (λ b. b == 61) item))) x e in
-    let made = map_some (λ n. (found.0, n)) number x found.2 in
+    let found = some_of_then (λ k. option_map (λ n. (k, n)) number) (variable_meant (meaning w (before_first (λ b. b == 61) item))) x e in
+    let made = some_of_map (λ n. (found.0, n)) number x found.2 in
     subst (λ (p : ℕ × ℕ). p.1 < modulus width) made.2 (number_is_below (modulus width) (after_first (λ b. b == 61) item) made.0 made.1)
 
 -- ---- values
@@ -72,7 +59,7 @@ record Follows (m : ℕ) (vs us : Values) : Type 0 where
 
 setting_follows : (m : ℕ) (vs us : Values) (x : ℕ × ℕ) → x.1 < m → with_setting vs x ≡ Some us → Follows m vs us
 setting_follows m vs us x lt e =
-    let made = where_some (is_free (slice_get vs x.0)) (set vs x.0 (Some x.1)) us e in
+    let made = some_of_cond (is_free (slice_get vs x.0)) (set vs x.0 (Some x.1)) us e in
     subst (Follows m vs) made.1 (record {
       count = length-set vs x.0 (Some x.1);
       below = λ are n h. ⊎_elim {C = n < m} (λ same. subst (λ (k : ℕ). k < m) (same_Some x.1 n same) lt) (are n) (set_has vs x.0 (Some x.1) (Some n) h);
@@ -80,13 +67,13 @@ setting_follows m vs us x lt e =
 
 item_follows : (w : ScopeParts) (width : Width) (vs us : Values) (item : List ℕ) → with_item w width vs item ≡ Some us → Follows (modulus width) vs us
 item_follows w width vs us item e =
-    let made = and_then_some (with_setting vs) (setting_of w width item) us e in
+    let made = some_of_then (with_setting vs) (setting_of w width item) us e in
     setting_follows (modulus width) vs us made.0 (setting_below w width item made.0 made.1) made.2
 
 items_follow : (w : ScopeParts) (width : Width) (vs us : Values) (items : List (List ℕ)) → with_items w width vs items ≡ Some us → Follows (modulus width) vs us
 items_follow w width vs us [] e = subst (Follows (modulus width) vs) (same_Some vs us e) (record { count = refl; below = λ are. are })
 items_follow w width vs us (item ∷ items) e =
-    let made = and_then_some (λ ts. with_items w width ts items) (with_item w width vs item) us e in
+    let made = some_of_then (λ ts. with_items w width ts items) (with_item w width vs item) us e in
     let first = item_follows w width vs made.0 item made.1 in
     let rest = items_follow w width made.0 us items made.2 in
     record { count = rest.count ∙ first.count; below = λ are. rest.below (first.below are) }
@@ -114,7 +101,7 @@ values_follow f word us e = chosen (bytes_eq word (codes "zero")) e
 
 pub store_is : (f : FileParts) (word : List ℕ) (s : Store) → store_of f word ≡ Some s → IsStoreOf f s
 store_is f word s e =
-    let made = map_some (λ vs. map (λ v. unwrap_or v 0) vs) (values_of f word) s e in
+    let made = some_of_map (λ vs. map (λ v. unwrap_or v 0) vs) (values_of f word) s e in
     let follows = values_follow f word made.0 made.1 in
     subst (IsStoreOf f) made.2 (
       length-map made.0 (λ v. unwrap_or v 0) ∙ follows.count ∙ length-replicate f.vars None,
