@@ -1,5 +1,5 @@
 -- The equation of reading an expression, without the bound on steps.
-use Rattle.std.proofs.Common.{◌≡◌, ℕ, zero, suc, ◌+◌, ◌<◌, List, [], ◌∷◌, length, Ok, refl, ap, arith, drop}
+use Rattle.std.proofs.Common.{◌≡◌, ℕ, zero, suc, ◌+◌, ◌<◌, List, [], ◌∷◌, length, if◌then◌else◌, Ok, refl, ap, arith, drop}
 use Rattle.text_grammar.specs.declared.terminal.Terminal.TheVariants.{RoundOpen, RoundClose, SquareOpen, SquareClose, Plus, Dot, Zero, One, Name, Separator}
 use Rattle.text_grammar.specs.declared.terminal.Separator.TheVariants.{Caret}
 use Rattle.text_grammar.specs.Lexemes.{Lexeme, lexeme, heads, is_terminal}
@@ -134,6 +134,13 @@ module _ {C P V : Type 0} (g : GkatActions C P V) where
 pub gkat_step : {C P V : Type 0} (g : GkatActions C P V) (x : GkatAim P) (d : ℕ) (ts : List Lexeme) → parse_gkat g x d ts ≡ gkat_by g (parse_gkat g) x d ts
 unfolding parse_gkat gkat_within
 gkat_step g x d ts = gkat_same g (gkat_within g (length ts)) (parse_gkat g) (within_short g (length ts)) x d ts (λ y e us lt. enough g (length ts) (suc (length us)) y e us lt (omega arith))
+
+-- the equation at each aim, for searches that shall not unfold the aims inside it
+pub whole_step : {C P V : Type 0} (g : GkatActions C P V) (d : ℕ) (ts : List Lexeme) → parse_gkat g whole d ts ≡ (product_by g (parse_gkat g) d ts >>= λ x. choice_by g (parse_gkat g) d x.0 x.1)
+whole_step g d ts = gkat_step g whole d ts
+
+pub factors_after_step : {C P V : Type 0} (g : GkatActions C P V) (p : P) (d : ℕ) (ts : List Lexeme) → parse_gkat g (factors_after p) d ts ≡ (if heads (is_terminal Dot) ts then (factor_by g (parse_gkat g) d (drop 1 ts) >>= λ x. parse_gkat g (factors_after (g.more p x.0)) d x.1) else Ok (g.product p, ts))
+factors_after_step g p d ts = gkat_step g (factors_after p) d ts
 
 -- reading consumes tokens
 pub gkat_read_short : {C P V : Type 0} (g : GkatActions C P V) → IsShort (parse_gkat g)
