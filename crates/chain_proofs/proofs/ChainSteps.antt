@@ -1,5 +1,5 @@
 -- The equation of reading a chain, without the bound on steps.
-use Rattle.std.proofs.Common.{◌≡◌, ℕ, zero, suc, ◌+◌, ◌<◌, List, [], ◌∷◌, length, Bool, true, false, cond, None, Some, Ok, Err, refl, ap, arith, drop, length-drop}
+use Rattle.std.proofs.Common.{◌≡◌, ℕ, zero, suc, ◌+◌, ◌<◌, List, [], ◌∷◌, length, Bool, true, false, cond, if◌then◌else◌, None, Some, Ok, Err, refl, ap, arith, drop, length-drop}
 use Rattle.text_tokens.specs.declared.fault.TextFault.TheVariants.{Syntax}
 use Rattle.text_grammar.specs.declared.terminal.Terminal.TheVariants.{Dot, Separator}
 use Rattle.text_grammar.specs.declared.terminal.Separator.TheVariants.{Semicolon, CurlyOpen, CurlyClose, Equals}
@@ -144,6 +144,13 @@ enough g (suc n) (suc m) x d ts p q = chain_same g (chain_within g n) (chain_wit
 pub chain_step : {Z T R P V : Type 0} (g : ChainActions Z T R P V) (x : ChainAim Z V) (d : ℕ) (ts : List Lexeme) → parse_chain g x d ts ≡ chain_by g (parse_chain g) x d ts
 unfolding parse_chain chain_within
 chain_step g x d ts = chain_same g (chain_within g (length ts)) (parse_chain g) (within_short g (length ts)) x d ts (λ y e us lt. enough g (length ts) (suc (length us)) y e us lt (omega arith))
+
+-- the equation at each aim, for searches that shall not unfold the aims inside it
+pub whole_chain_step : {Z T R P V : Type 0} (g : ChainActions Z T R P V) (z : Z) (d : ℕ) (ts : List Lexeme) → parse_chain g (whole_chain z) d ts ≡ (g.term d z ts >>= λ t. parse_chain g (lines_after (g.first (t.0).0) (t.0).1) d t.1)
+whole_chain_step g z d ts = chain_step g (whole_chain z) d ts
+
+pub lines_after_step : {Z T R P V : Type 0} (g : ChainActions Z T R P V) (v : V) (z : Z) (d : ℕ) (ts : List Lexeme) → parse_chain g (lines_after v z) d ts ≡ (if heads (is_terminal (Separator Equals)) ts then (line_by g (parse_chain g) v z d (drop 1 ts) >>= λ x. parse_chain g (lines_after (x.0).0 (x.0).1) d x.1) else Ok ((v, z), ts))
+lines_after_step g v z d ts = chain_step g (lines_after v z) d ts
 
 -- reading consumes tokens
 pub chain_read_short : {Z T R P V : Type 0} (g : ChainActions Z T R P V) → IsShort (parse_chain g)
