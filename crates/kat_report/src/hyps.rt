@@ -2,29 +2,47 @@
 ghost use Rattle.std.specs.Prelude.{◌≡◌, ◌++◌, None, OnOk};
 ghost use Rattle.std.specs.List.{zip};
 ghost use Rattle.problem_texts.specs.Working.Scopes.{IsPlain};
-ghost use Rattle.kat_report.specs.Shows.{rule_text, rule_comment, is_new, hyps_text};
+ghost use Rattle.kat_report.specs.Shows.{and_test, rule_text, rule_comment, is_new, hyps_text};
 
-use crate::writing::put;
+use crate::writing::{put, put_numbered, put_word};
 use abstraction::Rule;
 use kat_model::{NoMemory, Problem};
 use problem_texts::put_hyp;
 use std::alloc::Global;
 use text_scopes::Scope;
 
+// Writes the name of a rule over two tests, and the tests.
+fn put_fact(
+    alloc: Global,
+    out: &mut Vec<u8>,
+    name: &str,
+    i: usize,
+    j: usize,
+) -> Result<(), NoMemory>
+    ensures { OnOk result (out.new.items ≡ out.old.items ++ (name.now ++ and_test i ++ and_test j)) }
+{
+    put_word(out, name)?;
+    put_numbered(alloc, out, " t", i)?;
+    put_numbered(alloc, out, " t", j)
+}
+
 fn put_rule(alloc: Global, out: &mut Vec<u8>, rule: Rule) -> Result<(), NoMemory>
     ensures { OnOk result (out.new.items ≡ out.old.items ++ rule_text rule) }
 {
     match rule {
-        Rule::Stated(k) => put(out, format!(in alloc; "stated {k}")?.as_bytes()),
-        Rule::Assign(i, j) => put(out, format!(in alloc; "assign a{i} t{j}")?.as_bytes()),
-        Rule::F1(i, j) => put(out, format!(in alloc; "F1 t{i} t{j}")?.as_bytes()),
-        Rule::F2(i, j) => put(out, format!(in alloc; "F2 t{i} t{j}")?.as_bytes()),
-        Rule::F3(i, j) => put(out, format!(in alloc; "F3 t{i} t{j}")?.as_bytes()),
-        Rule::F4(i, j) => put(out, format!(in alloc; "F4 t{i} t{j}")?.as_bytes()),
-        Rule::F5(i, j) => put(out, format!(in alloc; "F5 t{i} t{j}")?.as_bytes()),
+        Rule::Stated(k) => put_numbered(alloc, out, "stated ", k),
+        Rule::Assign(i, j) => {
+            put_numbered(alloc, out, "assign a", i)?;
+            put_numbered(alloc, out, " t", j)
+        }
+        Rule::F1(i, j) => put_fact(alloc, out, "F1", i, j),
+        Rule::F2(i, j) => put_fact(alloc, out, "F2", i, j),
+        Rule::F3(i, j) => put_fact(alloc, out, "F3", i, j),
+        Rule::F4(i, j) => put_fact(alloc, out, "F4", i, j),
+        Rule::F5(i, j) => put_fact(alloc, out, "F5", i, j),
         Rule::F6(i, j, k) => {
-            put(out, format!(in alloc; "F6 t{i} t{j}")?.as_bytes())?;
-            put(out, format!(in alloc; " t{k}")?.as_bytes())
+            put_fact(alloc, out, "F6", i, j)?;
+            put_numbered(alloc, out, " t", k)
         }
     }
 }
