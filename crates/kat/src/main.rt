@@ -5,7 +5,7 @@ use kat_io::{FolderShelf, StdoutSink};
 use kat_model::NoMemory;
 use kat_tool::{Words, run};
 use std::process::ExitCode;
-use std::rt::Env;
+use std::rt::{Env, Files};
 use std::{env, io};
 
 // Why the words cannot be read.
@@ -30,24 +30,29 @@ impl From<NoMemory> for NoWords {
     }
 }
 
-// Returns the words without the program's name.
-fn words(rt: &(impl Env + AllocGlobal)) -> Result<Words, NoWords> {
-    let mut words = Words::new(rt.alloc());
+// Appends the words without the program's name.
+fn push_words(rt: &(impl Env + AllocGlobal), words: &mut Words) -> Result<(), NoWords> {
     for word in env::args(rt)?.skip(1) {
         words.push(word.as_str())?;
     }
-    Ok(words)
+    Ok(())
+}
+
+// Runs the words over the current folder and the standard output, and returns the status.
+fn status_of(rt: &(impl Files + Print + AllocGlobal), words: &Words) -> u8 {
+    let mut shelf = FolderShelf::new(rt);
+    let mut sink = StdoutSink::new(rt);
+    run(rt.alloc(), words, &mut shelf, &mut sink)
 }
 
 // Ends with the status of `run`. If the words cannot be read, nothing is printed; the status is 6 when out of memory,
 // and 8 if the system does not give the words.
 fn main(rt: HostRuntime) -> ExitCode {
-    let words = match words(&rt) {
-        Ok(words) => words,
-        Err(NoWords::Memory) => return ExitCode::from(6),
-        Err(NoWords::System) => return ExitCode::from(8),
+    let mut words = Words::new(rt.alloc());
+    let status = match push_words(&rt, &mut words) {
+        Ok(()) => status_of(&rt, &words),
+        Err(NoWords::Memory) => 6,
+        Err(NoWords::System) => 8,
     };
-    let mut shelf = FolderShelf::new(&rt);
-    let mut sink = StdoutSink::new(&rt);
-    ExitCode::from(run(rt.alloc(), &words, &mut shelf, &mut sink))
+    ExitCode::from(status)
 }
