@@ -41,6 +41,5 @@ module _ (xs ys front other_front : List Stmt) (last other : Stmt) (p q : ProgTr
   )
 
 -- the shared statement follows the `if` of the remaining blocks
-pub shared_list : (b c : CondTree) (p q : ProgTree) (r : StmtTree) (start one two all rest : List StmtTree) → start ≡ [] → one ≡ start ++ branch c p q ∷ [] → c ≡ b → two ≡ one ++ r ∷ [] → all ≡ two ++ rest →
-    all ≡ branch b (prog_of (stmts_of p)) (prog_of (stmts_of q)) ∷ r ∷ rest
-shared_list b c p q r start one two all rest none made copied more last = last ∙ rw (more, made, none, copied, prog_of-stmts_of p, prog_of-stmts_of q) refl
+pub shared_list : (b : CondTree) (p q : ProgTree) (s r : StmtTree) (all rest : List StmtTree) → s ≡ branch b p q → all ≡ s ∷ r ∷ rest → all ≡ branch b (prog_of (stmts_of p)) (prog_of (stmts_of q)) ∷ r ∷ rest
+shared_list b p q s r all rest is whole = whole ∙ rw (is, prog_of-stmts_of p, prog_of-stmts_of q) refl

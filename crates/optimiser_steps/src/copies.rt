@@ -1,6 +1,7 @@
 //! Copies of statements, and equality of statements and conditions.
 ghost use Rattle.std.specs.Prelude.{◌≡◌, ◌↔◌, ◌∷◌, ◌++◌, IsTrue, IfOk, OnOk, map};
 ghost use Rattle.kat_model.specs.Expressions.{cond_tree};
+ghost use Rattle.while_lang.specs.Programs.{branch};
 ghost use Rattle.while_lang.specs.ProgramViews.{stmt_tree};
 ghost use Rattle.optimiser_theory.specs.Statements.{single};
 
@@ -39,6 +40,34 @@ pub(crate) fn list_of(alloc: Global, stmt: Stmt, rest: &[Stmt]) -> Result<Vec<St
     push_stmt(&mut list, stmt)?;
     push_copies(alloc, &mut list, rest)?;
     Ok(list)
+}
+
+/// Returns `first` and `second`, followed by copies of `rest`.
+pub(crate) fn list_of_two(
+    alloc: Global,
+    first: Stmt,
+    second: Stmt,
+    rest: &[Stmt],
+) -> Result<Vec<Stmt>, NoMemory>
+    ensures { IfOk result (λ v. map stmt_tree v.items ≡ stmt_tree first ∷ stmt_tree second ∷ map stmt_tree rest.now) }
+{
+    let mut list = Vec::new(alloc);
+    push_stmt(&mut list, first)?;
+    push_stmt(&mut list, second)?;
+    push_copies(alloc, &mut list, rest)?;
+    Ok(list)
+}
+
+/// Returns an `if` over the two blocks, with a copy of the condition.
+pub(crate) fn branch_of(
+    alloc: Global,
+    cond: &Cond,
+    first: Prog,
+    second: Prog,
+) -> Result<Stmt, NoMemory>
+    ensures { IfOk result (λ s. stmt_tree s ≡ branch (cond_tree cond.now) first second) }
+{
+    Ok(Stmt::If(cond.copy(alloc)?, first, second))
 }
 
 /// Returns copies of `first`, followed by copies of `rest`.

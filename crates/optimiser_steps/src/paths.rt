@@ -1,12 +1,14 @@
 //! A step found in a list, with its path.
 ghost use Rattle.std.specs.Prelude.{◌≡◌, ◌+◌, ◌<◌, [], ◌∷◌, ◌++◌, length, take, drop, IfOk, map};
-ghost use Rattle.while_lang.specs.ProgramViews.{stmt_tree};
+ghost use Rattle.kat_model.specs.Expressions.{cond_tree};
+ghost use Rattle.while_lang.specs.Programs.{branch, loop};
+ghost use Rattle.while_lang.specs.ProgramViews.{stmt_tree, list_tree};
 
-use crate::copies::{copies_of, joined_list, push_copies};
+use crate::copies::{branch_of, copies_of, joined_list, push_copies};
 use crate::rewriting::Made;
-use kat_model::NoMemory;
+use kat_model::{Cond, NoMemory};
 use std::alloc::Global;
-use while_lang::{Stmt, push_stmt};
+use while_lang::{Prog, Stmt, push_stmt};
 
 /// The number of a step, its place, and the list after it.
 #[derive(Drop)]
@@ -64,8 +66,8 @@ fn list_with(
     Ok(whole)
 }
 
-/// Returns a step inside a block of the statement at `position`; the step replaces that statement by `stmt`.
-pub(crate) fn found_inside(
+// Returns a step inside a block of the statement at `position`; the step replaces that statement by `stmt`.
+fn found_inside(
     alloc: Global,
     list: &[Stmt],
     position: usize,
@@ -82,4 +84,88 @@ pub(crate) fn found_inside(
     let path = path_inside(alloc, position, block, path)?;
     let list = list_with(alloc, list, position, stmt)?;
     Ok(Found { step, path, list })
+}
+
+// Returns an `if` over the first block, with copies of the condition and of the second.
+fn with_first(alloc: Global, cond: &Cond, first: Prog, second: &Prog) -> Result<Stmt, NoMemory>
+    ensures { IfOk result (λ s. stmt_tree s ≡ branch (cond_tree cond.now) first second.now) }
+{
+    let second = second.copy(alloc)?;
+    branch_of(alloc, cond, first, second)
+}
+
+// Returns an `if` over the second block, with copies of the condition and of the first.
+fn with_second(alloc: Global, cond: &Cond, first: &Prog, second: Prog) -> Result<Stmt, NoMemory>
+    ensures { IfOk result (λ s. stmt_tree s ≡ branch (cond_tree cond.now) first.now second) }
+{
+    let first = first.copy(alloc)?;
+    branch_of(alloc, cond, first, second)
+}
+
+/// Returns the step `inner` of the first block of the `if` at `position`, as a step of the list.
+pub(crate) fn found_in_first(
+    alloc: Global,
+    list: &[Stmt],
+    position: usize,
+    cond: &Cond,
+    inner: Found,
+    second: &Prog,
+) -> Result<Found, NoMemory>
+    requires { position < length list.now }
+    ensures step { IfOk result (λ m. m.step ≡ inner.step) }
+    ensures path { IfOk result (λ m. m.path.items ≡ position ∷ 0 ∷ inner.path.items) }
+    ensures list { IfOk result (λ m. map stmt_tree m.list.items ≡ take position (map stmt_tree list.now) ++ branch (cond_tree cond.now) (list_tree inner.list.items) second.now ∷ drop (position + 1) (map stmt_tree list.now)) }
+{
+    let Found {
+        step,
+        path,
+        list: block,
+    } = inner;
+    let stmt = with_first(alloc, cond, Prog { list: block }, second)?;
+    found_inside(alloc, list, position, 0, stmt, step, &path)
+}
+
+/// The same for the second block.
+pub(crate) fn found_in_second(
+    alloc: Global,
+    list: &[Stmt],
+    position: usize,
+    cond: &Cond,
+    first: &Prog,
+    inner: Found,
+) -> Result<Found, NoMemory>
+    requires { position < length list.now }
+    ensures step { IfOk result (λ m. m.step ≡ inner.step) }
+    ensures path { IfOk result (λ m. m.path.items ≡ position ∷ 1 ∷ inner.path.items) }
+    ensures list { IfOk result (λ m. map stmt_tree m.list.items ≡ take position (map stmt_tree list.now) ++ branch (cond_tree cond.now) first.now (list_tree inner.list.items) ∷ drop (position + 1) (map stmt_tree list.now)) }
+{
+    let Found {
+        step,
+        path,
+        list: block,
+    } = inner;
+    let stmt = with_second(alloc, cond, first, Prog { list: block })?;
+    found_inside(alloc, list, position, 1, stmt, step, &path)
+}
+
+/// The same for the block of the `while` at `position`.
+pub(crate) fn found_in_body(
+    alloc: Global,
+    list: &[Stmt],
+    position: usize,
+    cond: &Cond,
+    inner: Found,
+) -> Result<Found, NoMemory>
+    requires { position < length list.now }
+    ensures step { IfOk result (λ m. m.step ≡ inner.step) }
+    ensures path { IfOk result (λ m. m.path.items ≡ position ∷ 0 ∷ inner.path.items) }
+    ensures list { IfOk result (λ m. map stmt_tree m.list.items ≡ take position (map stmt_tree list.now) ++ loop (cond_tree cond.now) (list_tree inner.list.items) ∷ drop (position + 1) (map stmt_tree list.now)) }
+{
+    let Found {
+        step,
+        path,
+        list: block,
+    } = inner;
+    let stmt = Stmt::While(cond.copy(alloc)?, Prog { list: block });
+    found_inside(alloc, list, position, 0, stmt, step, &path)
 }

@@ -7,11 +7,11 @@ ghost use Rattle.optimiser_theory.specs.Paths.{NoStepBefore};
 ghost use Rattle.optimiser_steps.specs.Working.Found.{FindsFirst, FindsFirstBefore};
 
 use crate::first_at::step_here;
-use crate::paths::{Found, found_here, found_inside};
+use crate::paths::{Found, found_here, found_in_body, found_in_first, found_in_second};
 use kat_model::NoMemory;
 use problem_file::File;
 use std::alloc::Global;
-use while_lang::{Prog, Stmt};
+use while_lang::Stmt;
 
 // Returns the first step inside the statement at a position. Requires that no earlier step is possible.
 #[cycle(search)]
@@ -31,48 +31,19 @@ fn step_inside(
 {
     match stmt {
         Stmt::If(b, p, q) => {
-            if let Some(
-                Found {
-                    step,
-                    path,
-                    list: block,
-                },
-            ) = first_step_in(alloc, file, &p.list)?
-            {
-                let cond = b.copy(alloc)?;
-                let second = q.copy(alloc)?;
-                let stmt = Stmt::If(cond, Prog { list: block }, second);
-                let found = found_inside(alloc, list, position, 0, stmt, step, &path)?;
+            if let Some(inner) = first_step_in(alloc, file, &p.list)? {
+                let found = found_in_first(alloc, list, position, b, inner, q)?;
                 return Ok(Some(found));
             }
-            if let Some(
-                Found {
-                    step,
-                    path,
-                    list: block,
-                },
-            ) = first_step_in(alloc, file, &q.list)?
-            {
-                let cond = b.copy(alloc)?;
-                let first = p.copy(alloc)?;
-                let stmt = Stmt::If(cond, first, Prog { list: block });
-                let found = found_inside(alloc, list, position, 1, stmt, step, &path)?;
+            if let Some(inner) = first_step_in(alloc, file, &q.list)? {
+                let found = found_in_second(alloc, list, position, b, p, inner)?;
                 return Ok(Some(found));
             }
             Ok(None)
         }
         Stmt::While(b, p) => {
-            if let Some(
-                Found {
-                    step,
-                    path,
-                    list: block,
-                },
-            ) = first_step_in(alloc, file, &p.list)?
-            {
-                let cond = b.copy(alloc)?;
-                let stmt = Stmt::While(cond, Prog { list: block });
-                let found = found_inside(alloc, list, position, 0, stmt, step, &path)?;
+            if let Some(inner) = first_step_in(alloc, file, &p.list)? {
+                let found = found_in_body(alloc, list, position, b, inner)?;
                 return Ok(Some(found));
             }
             Ok(None)

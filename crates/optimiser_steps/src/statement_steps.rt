@@ -9,13 +9,13 @@ ghost use Rattle.while_lang.specs.ProgramViews.{stmt_tree};
 ghost use Rattle.optimiser_theory.specs.Statements.{IsStmtInRange};
 ghost use Rattle.optimiser_steps.specs.Working.Found.{FindsLeast, FindsSharedEnd};
 
-use crate::copies::{copies_of, is_same_stmt, joined_list, list_of, push_copies};
+use crate::copies::{branch_of, copies_of, is_same_stmt, joined_list, list_of, list_of_two};
 use crate::rewriting::Made;
 use crate::validity::{holds_always, holds_never};
 use kat_model::{Cond, NoMemory};
 use problem_file::File;
 use std::alloc::Global;
-use while_lang::{Prog, Stmt, copy_stmt, push_stmt};
+use while_lang::{Prog, Stmt, copy_stmt};
 
 // Tries S2 at an `abort`.
 fn abort_step(alloc: Global, rest: &[Stmt]) -> Result<Option<Made>, NoMemory>
@@ -101,10 +101,8 @@ fn shared_end_step(
                 last,
             },
         ) => {
-            let mut list = Vec::new(alloc);
-            push_stmt(&mut list, Stmt::If(cond.copy(alloc)?, first, second))?;
-            push_stmt(&mut list, last)?;
-            push_copies(alloc, &mut list, rest)?;
+            let stmt = branch_of(alloc, cond, first, second)?;
+            let list = list_of_two(alloc, stmt, last, rest)?;
             Ok(Some(Made { step: 8, list }))
         }
     }

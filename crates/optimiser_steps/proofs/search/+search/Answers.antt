@@ -1,6 +1,5 @@
-use Rattle.std.proofs.Common.{ℕ, ◌+◌, ◌-◌, ◌∷◌, List, length, take, drop, map, refl, ap, ◌∙◌, subst, arith}
+use Rattle.std.proofs.Common.{◌+◌, ◌-◌, List, length, take, drop, map, refl, ap, ◌∙◌, subst, arith}
 use Rattle.std.proofs.lemmas.List.{take_rest, length-map}
-use Rattle.kat_model.specs.Expressions.{cond_tree}
 use Rattle.while_lang.specs.Programs.{StmtTree}
 use Rattle.while_lang.specs.ProgramViews.{stmt_tree, list_tree}
 use Rattle.while_lang.specs.declared.prog.Stmt.{Stmt}
@@ -52,8 +51,8 @@ step_inside-returns-in-Some t c =
     let ss : List StmtTree = map stmt_tree c.args.list.now in
     let k = c.args.position in
     found_in_first c.args.file.now ss k (stmt_tree c.args.stmt.now) (drop (k + 1) ss) _ _ _ c.requires.stmt (ap stmt_tree c.in-If.is) c.deref.result.now (ap list_tree c.deref.ensures.value ∙ c.p.view_is)
-    c.requires.none c.in-Some.field-0 c.in_ok-found-in-If.found (cond_tree c.in_ok-cond-in-If.cond) c.in_ok-second-in-If.second (rw c.in-Some.is at c.in_ok-step-in-If.ensures)
-    c.in_ok-found-in-If.ensures.step (c.in_ok-found-in-If.ensures.path ∙ ap (λ (l : List ℕ). k ∷ 0 ∷ l) c.deref-in-Some.ensures.value) c.in_ok-found-in-If.ensures.list c.in_ok-cond-in-If.ensures c.in_ok-second-in-If.ensures
+    c.requires.none c.in-Some.inner c.in_ok-found-in-If.found _ _ (rw c.in-Some.is at c.in_ok-inner-in-If.ensures)
+    c.in_ok-found-in-If.ensures.step c.in_ok-found-in-If.ensures.path c.in_ok-found-in-If.ensures.list refl refl
 
 pub step_inside-first_step_in-requires-in-If : goal.step_inside-first_step_in-requires-in-If
 step_inside-first_step_in-requires-in-If t c =
@@ -69,10 +68,10 @@ step_inside-returns-in-Some-2 t c =
     let k = c.args.position in
     let s : StmtTree = stmt_tree c.args.stmt.now in
     let none = none_in_first f ss k s (drop (k + 1) ss) _ _ _ c.requires.stmt (ap stmt_tree c.in-If.is) c.deref.result.now (ap list_tree c.deref.ensures.value ∙ c.p.view_is)
-    c.requires.none (rw c.in_default.is at c.in_ok-step-in-If.ensures) in
+    c.requires.none (rw c.in_default.is at c.in_ok-inner-in-If.ensures) in
     found_in_second f ss k s (drop (k + 1) ss) _ _ _ c.requires.stmt (ap stmt_tree c.in-If.is) c.deref-in-If.result.now (ap list_tree c.deref-in-If.ensures.value ∙ c.q.view_is)
-    none c.in-Some-2.field-0 c.in_ok-found-in-If-2.found (cond_tree c.in_ok-cond-in-If-2.cond) c.in_ok-first-in-If.first (rw c.in-Some-2.is at c.in_ok-step-in-If-2.ensures)
-    c.in_ok-found-in-If-2.ensures.step (c.in_ok-found-in-If-2.ensures.path ∙ ap (λ (l : List ℕ). k ∷ 1 ∷ l) c.deref-in-Some-2.ensures.value) c.in_ok-found-in-If-2.ensures.list c.in_ok-cond-in-If-2.ensures c.in_ok-first-in-If.ensures
+    none c.in-Some-2.inner c.in_ok-found-in-If-2.found _ _ (rw c.in-Some-2.is at c.in_ok-inner-in-If-2.ensures)
+    c.in_ok-found-in-If-2.ensures.step c.in_ok-found-in-If-2.ensures.path c.in_ok-found-in-If-2.ensures.list refl refl
 
 pub step_inside-first_step_in-requires-in-While : goal.step_inside-first_step_in-requires-in-While
 step_inside-first_step_in-requires-in-While t c =
@@ -87,8 +86,8 @@ step_inside-returns-in-Some-3 t c =
     let k = c.args.position in
     found_in_body c.args.file.now ss k (stmt_tree c.args.stmt.now) (drop (k + 1) ss) _ _ c.requires.stmt (ap stmt_tree c.in-While.is) c.deref-in-While.result.now
     (ap list_tree c.deref-in-While.ensures.value ∙ c.p-in-While.view_is)
-    c.requires.none c.in-Some-3.field-0 c.in_ok-found-in-While.found (cond_tree c.in_ok-cond-in-While.cond) (rw c.in-Some-3.is at c.in_ok-step-in-While.ensures)
-    c.in_ok-found-in-While.ensures.step (c.in_ok-found-in-While.ensures.path ∙ ap (λ (l : List ℕ). k ∷ 0 ∷ l) c.deref-in-Some-3.ensures.value) c.in_ok-found-in-While.ensures.list c.in_ok-cond-in-While.ensures
+    c.requires.none c.in-Some-3.inner c.in_ok-found-in-While.found _ (rw c.in-Some-3.is at c.in_ok-inner-in-While.ensures)
+    c.in_ok-found-in-While.ensures.step c.in_ok-found-in-While.ensures.path c.in_ok-found-in-While.ensures.list refl
 
 pub step_inside-returns-in_default-2 : goal.step_inside-returns-in_default-2
 step_inside-returns-in_default-2 t c =
@@ -97,10 +96,10 @@ step_inside-returns-in_default-2 t c =
     let k = c.args.position in
     let s : StmtTree = stmt_tree c.args.stmt.now in
     let none = none_in_first f ss k s (drop (k + 1) ss) _ _ _ c.requires.stmt (ap stmt_tree c.in-If.is) c.deref.result.now (ap list_tree c.deref.ensures.value ∙ c.p.view_is)
-    c.requires.none (rw c.in_default.is at c.in_ok-step-in-If.ensures) in
+    c.requires.none (rw c.in_default.is at c.in_ok-inner-in-If.ensures) in
     none_in_if f ss k s (drop (k + 1) ss) _ _ _ c.requires.stmt (ap stmt_tree c.in-If.is)
     (none_in_second f ss k s (drop (k + 1) ss) _ _ _ c.requires.stmt (ap stmt_tree c.in-If.is) c.deref-in-If.result.now (ap list_tree c.deref-in-If.ensures.value ∙ c.q.view_is)
-    none (rw c.in_default-2.is at c.in_ok-step-in-If-2.ensures))
+    none (rw c.in_default-2.is at c.in_ok-inner-in-If-2.ensures))
 
 pub step_inside-returns-in_default-3 : goal.step_inside-returns-in_default-3
 step_inside-returns-in_default-3 t c =
@@ -110,7 +109,7 @@ step_inside-returns-in_default-3 t c =
     let s : StmtTree = stmt_tree c.args.stmt.now in
     none_in_loop f ss k s (drop (k + 1) ss) _ _ c.requires.stmt (ap stmt_tree c.in-While.is)
     (none_in_body f ss k s (drop (k + 1) ss) _ _ c.requires.stmt (ap stmt_tree c.in-While.is) c.deref-in-While.result.now (ap list_tree c.deref-in-While.ensures.value ∙ c.p-in-While.view_is)
-    c.requires.none (rw c.in_default-3.is at c.in_ok-step-in-While.ensures))
+    c.requires.none (rw c.in_default-3.is at c.in_ok-inner-in-While.ensures))
 
 pub step_inside-returns-in-Skip : goal.step_inside-returns-in-Skip
 step_inside-returns-in-Skip t c =
