@@ -7,3 +7,4 @@ pub mod LoopTurns
 pub mod WholeForms
 pub mod KeptStores
 pub mod FormMeanings
+pub mod FormSizes

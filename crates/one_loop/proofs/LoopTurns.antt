@@ -135,7 +135,7 @@ module _ (w : Width) (v m : ℕ) (fits : m < modulus w) where
       let same : only ≡ block = same_Some only block is in
       ((λ g. subst (λ p. Goes w p (with_counter s c) k u) same g), (λ g. subst (λ p. Goes w p (with_counter s c) k u) (sym same) g))
   choice_runs _ _ _ (one_block first only) within s c (suc i) block len at is k u = absurd cc
-  choice_runs _ _ _ (two_parts first j blocks p r less one two) within s c i block len at is k u =
+  choice_runs _ _ _ (two_parts first j blocks p r less half one two) within s c i block len at is k u =
       by_truth (nat_lt c (first + j)) refl
       (λ small before. choice_runs first (take j blocks) p one small s c i block len at (get_take blocks j i before ∙ is) k u)
       (λ small number place. choice_runs (first + j) (drop j blocks) r two small s c (i - j) block len number (get_drop blocks j (i - j) ∙ ap (slice_get blocks) place ∙ is) k u)

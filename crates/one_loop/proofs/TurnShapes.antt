@@ -127,7 +127,7 @@ blocks_are_turns v m points h = All-map (IsTurn v) (block_of v) points (All-weak
 pub choice_is_turn : (v first : ℕ) (blocks : List ProgTree) (q : ProgTree) → Chooses v first blocks q → All (IsTurn v) blocks → IsTurn v q
 choice_is_turn v _ _ _ (no_block first) h = record { straight = refl; concrete = refl; variables = tt }
 choice_is_turn v _ _ _ (one_block first block) h = All-head (IsTurn v) block [] h
-choice_is_turn v _ _ _ (two_parts first i blocks p r less c d) h =
+choice_is_turn v _ _ _ (two_parts first i blocks p r less half c d) h =
     let a = choice_is_turn v first (take i blocks) p c (All-take (IsTurn v) i blocks h) in
     let b = choice_is_turn v (first + i) (drop i blocks) r d (All-drop (IsTurn v) i blocks h) in
     record {

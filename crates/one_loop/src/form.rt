@@ -5,6 +5,7 @@ ghost use Rattle.while_lang.specs.Programs.{is_concrete};
 ghost use Rattle.one_loop.specs.Variables.{HasVarsBelow};
 ghost use Rattle.one_loop.specs.Statements.{HasTooManyStatements};
 ghost use Rattle.one_loop.specs.Forms.{IsOneForm};
+ghost use Rattle.one_loop.specs.Sizes.{IsSmallForm};
 ghost use Rattle.one_loop.specs.Working.Blocks.{loop_from, IsPointLoop};
 
 use crate::blocks::{jump, two_stmts};
@@ -37,7 +38,9 @@ fn point_loop(alloc: Global, prog: &Prog, counter: usize) -> Result<Prog, NoMemo
 
 /// Builds the form of a concrete program over `vars` variables, at most [`MAX_VARS`]: a program with exactly one loop
 /// and one additional variable, its counter, which ends in the same stores followed by the counter (Harel 1980; Kozen
-/// 1997). The counter is variable number `vars`; its initial value does not matter, and it is 0 at the end. Fails with
+/// 1997). The counter is variable number `vars`; its initial value does not matter, and it is 0 at the end. Its nodes are
+/// at most those of the program, eight for each statement and six, and it nests deeper than the program by at most the
+/// logarithm of the number of statements, rounded up, and one. Fails with
 /// `TooManyVars` if there are that many variables, and otherwise with `TooManyStatements` if there are more statements
 /// than the greatest number of the width, including statements of blocks. Otherwise fails only when out of memory.
 ///
@@ -47,6 +50,7 @@ pub fn one_loop(alloc: Global, prog: &Prog, vars: usize, width: Width) -> Result
     requires variables { HasVarsBelow vars prog.now }
     requires within { vars ≤ MAX_VARS }
     ensures form { IfOk result (λ q. IsOneForm width prog.now q vars) }
+    ensures small { IfOk result (λ q. IsSmallForm prog.now q) }
     ensures too_many_vars { (result ≡ Err OneLoopFault.TooManyVars) ↔ (vars ≡ MAX_VARS) }
     ensures too_many_statements { (n : ℕ) → (result ≡ Err (OneLoopFault.TooManyStatements n))
         ↔ ((vars < MAX_VARS) × HasTooManyStatements width prog.now n) }

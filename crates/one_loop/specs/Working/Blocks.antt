@@ -1,5 +1,5 @@
 -- The parts of the loop of a form.
-use Rattle.std.specs.Prelude.{◌≡◌, ◌<◌, ℕ, ◌+◌, List, [], ◌∷◌, length, take, drop, map}
+use Rattle.std.specs.Prelude.{◌≡◌, ◌<◌, ◌≤◌, ℕ, ◌+◌, List, [], ◌∷◌, length, take, drop, map}
 use Rattle.kat_model.specs.Expressions.{CondTree, number, variable, compared}
 use Rattle.kat_model.specs.declared.expression.Rel.TheVariants.{Ne, Lt}
 use Rattle.while_lang.specs.Programs.{ProgTree, empty, skip_then, abort_then, assert_then, assign_then, branch_then, loop_then}
@@ -21,12 +21,16 @@ block_of counter (chooses b met unmet) = branch_then b (jump counter met) (jump 
 abbrev pub is_below : ℕ → ℕ → CondTree
 is_below counter n = compared Lt (variable counter) (number n)
 
+-- i is half of n, rounded down, and there is more than one
+abbrev pub IsHalf : ℕ → ℕ → Type 0
+IsHalf i n = (1 < n) × (i + i ≤ n) × (n ≤ i + i + 1)
+
 -- q chooses among blocks by the counter, where the first block has the number `first`: q is the only block, or a branch
--- that separates the first i blocks from the rest
+-- that separates the first half of the blocks, of which there are i, from the rest
 pub data Chooses (counter : ℕ) : ℕ → List ProgTree → ProgTree → Type 0 where
   no_block : (first : ℕ) → Chooses counter first [] empty
   one_block : (first : ℕ) (block : ProgTree) → Chooses counter first (block ∷ []) block
-  two_parts : (first i : ℕ) (blocks : List ProgTree) (p q : ProgTree) → i < length blocks →
+  two_parts : (first i : ℕ) (blocks : List ProgTree) (p q : ProgTree) → i < length blocks → IsHalf i (length blocks) →
       Chooses counter first (take i blocks) p → Chooses counter (first + i) (drop i blocks) q →
       Chooses counter first blocks (branch_then (is_below counter (first + i)) p q empty)
 

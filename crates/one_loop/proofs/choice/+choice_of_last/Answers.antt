@@ -3,7 +3,7 @@ use Rattle.std.proofs.lemmas.Result.{IfOk-weaker}
 use Rattle.while_lang.specs.ProgramViews.{list_tree}
 use Rattle.std.specs.Vec.{vec_len}
 use Rattle.while_lang.specs.Programs.{empty, branch_then}
-use Rattle.one_loop.specs.Working.Blocks.{is_below}
+use Rattle.one_loop.specs.Working.Blocks.{IsHalf, is_below}
 use Rattle.one_loop.proofs.Choices.{none_chosen, one_chosen, two_chosen}
 use Rattle.one_loop.proofs.choice.+choice_of_last.Goals as goal
 
@@ -20,9 +20,10 @@ returns-clause-choice t c =
     let half = c.args.count / 2 in
     let rest = c.choice_of_last.new.blocks in
     let less : half < c.args.count = omega arith in
+    let halves : IsHalf half c.args.count = (omega arith, omega arith, omega arith) in
     IfOk-weaker c.one_stmt.result _ _
     (λ p e.
     two_chosen c.args.counter c.args.blocks.now.items rest.items (vec_len c.args.blocks.now) (vec_len rest) c.args.count half c.in_ok-first.first c.in_ok-second.second p
-    c.args.blocks.now.ok.0 rest.ok.0 c.requires less c.in_ok-second.ensures.left c.in_ok-second.ensures.choice c.in_ok-first.ensures.choice
+    c.args.blocks.now.ok.0 rest.ok.0 c.requires less halves c.in_ok-second.ensures.left c.in_ok-second.ensures.choice c.in_ok-first.ensures.choice
     (e ∙ ap (λ n. branch_then (is_below c.args.counter (n + 1)) c.in_ok-first.first c.in_ok-second.second empty) c.len.ensures))
     c.one_stmt.ensures
