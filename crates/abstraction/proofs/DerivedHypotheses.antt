@@ -15,7 +15,7 @@ use Rattle.abstraction.specs.Rounds.{tables_of}
 use Rattle.abstraction.specs.Facts.{Hypothesis, TestRowOf, fact_one, fact_two, fact_three, fact_four, fact_five, fact_six}
 use Rattle.abstraction.specs.Derived.{stated_from, assignment_facts, test_rows, action_rows, of_pairs, derived, hypotheses}
 use Rattle.abstraction.specs.Abstracts.{AbstractParts, file_problem, abstract_parts, abstract_of, HasNumbersInRange}
-use Rattle.abstraction.specs.StoreFrames.{store_frame}
+use Rattle.abstraction.specs.StoreFrames.{Sets, store_frame}
 use Rattle.abstraction.specs.Laws.{DerivedHold}
 use Rattle.abstraction.proofs.EachElement.{All-flat_map, All-of_pairs, All-slice_get_past}
 use Rattle.abstraction.proofs.TableForms.{assignments_in_range, comparisons_atomic}
@@ -51,7 +51,7 @@ module _ (frame : Frame Store) (t : Tables) (tests : All (IsTestRow (modulus t.w
   both : (xs ys : List Hypothesis) → Each xs → Each ys → Each (xs ++ ys)
   both = All-append (HoldsIn frame)
 
-  derived_relate_none : Each (derived t)
+  pub derived_relate_none : Each (derived t)
   derived_relate_none =
       let h = modulus_above_one t.width in
       both _ (flat_map (λ a. of_pairs (fact_six m a) (test_rows t) (test_rows t)) (test_rows t))
@@ -74,7 +74,7 @@ length-stated_from k (h ∷ hs) = ap suc (length-stated_from (k + 1) hs)
 
 -- the terms after the stated hypotheses are the terms of the derived ones
 module _ (P : Term → Type 0) (t : Tables) (stated : List Term) where
-  past_stated : (k : ℕ) (h : Term) → length stated ≤ k → All (λ hyp. P hyp.term) (derived t) → slice_get (map (λ hyp. hyp.term) (hypotheses t stated)) k ≡ Some h → P h
+  pub past_stated : (k : ℕ) (h : Term) → length stated ≤ k → All (λ hyp. P hyp.term) (derived t) → slice_get (map (λ hyp. hyp.term) (hypotheses t stated)) k ≡ Some h → P h
   past_stated k h past all e =
       All-slice_get_past P (map (λ hyp. hyp.term) (stated_from 0 stated)) (map (λ hyp. hyp.term) (derived t)) k h
       (subst (λ n. n ≤ k) (sym (length-map (stated_from 0 stated) (λ hyp. hyp.term) ∙ length-stated_from 0 stated)) past)
@@ -107,5 +107,5 @@ derived_hold f a r e = subst (DerivedHold f) (abstract_parts_of f a e) hold
         past_stated (RelatesNone frame) (tables_of f) f.hyps k h past
         (derived_relate_none frame (tables_of f)
         (are_test_rows (modulus f.width) (tables_of f) (comparisons_atomic f r.goal))
-        (are_action_rows (modulus f.width) (tables_of f) frame f.vars (λ s i. i.0) (λ i s u step. step) (assignments_in_range f r.goal)))
+        (are_action_rows (modulus f.width) (tables_of f) frame f.vars (λ s i. i.0) (λ i x g s u row step. subst (λ o. Sets (modulus f.width) o s u) row step) (assignments_in_range f r.goal)))
         at

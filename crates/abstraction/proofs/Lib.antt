@@ -26,4 +26,6 @@ pub mod ProgramRuns
 pub mod RowTruths
 pub mod GoalRows
 pub mod Agreement
+pub mod ReadingRuns
+pub mod ReadingAgreement
 pub mod Answered

@@ -19,10 +19,10 @@ use Rattle.abstraction.specs.Tests.{cond_test, assignment_action, prog_flow}
 
 -- a test before a term: the test holds and the term relates
 module _ {S : Type 0} (frame : Frame S) where
-  guarded_relates : (b : TestTree) (e : Term) (s t : S) → frame.IsState s → truth b (frame.atom s) ≡ true → RelatesIn frame e s t → RelatesIn frame (product (test b) e) s t
+  pub guarded_relates : (b : TestTree) (e : Term) (s t : S) → frame.IsState s → truth b (frame.atom s) ≡ true → RelatesIn frame e s t → RelatesIn frame (product (test b) e) s t
   guarded_relates b e s t ss h r = (s, ss, (refl, h), r)
 
-  relates_guarded : (b : TestTree) (e : Term) (s t : S) → RelatesIn frame (product (test b) e) s t → (truth b (frame.atom s) ≡ true) × RelatesIn frame e s t
+  pub relates_guarded : (b : TestTree) (e : Term) (s t : S) → RelatesIn frame (product (test b) e) s t → (truth b (frame.atom s) ≡ true) × RelatesIn frame e s t
   relates_guarded b e s t r = (r.2.1, subst (λ u. RelatesIn frame e u t) (sym r.2.0) r.3)
 
 -- the test of a condition holds in exactly the states in which the condition does

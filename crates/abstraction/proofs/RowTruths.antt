@@ -1,5 +1,5 @@
 -- The tests and actions of tables, over stores.
-use Rattle.std.proofs.Common.{◌≡◌, ℕ, suc, ◌+◌, ◌<◌, inl, inr, ◌↔◌, List, [], ◌∷◌, ◌++◌, length, map, refl, sym, ap, ◌∙◌, subst, arith, length-append, false, not, ◌&&◌, ◌||◌, slice_get, set, Some, unwrap_or, option_map}
+use Rattle.std.proofs.Common.{◌≡◌, ℕ, suc, ◌+◌, ◌<◌, inl, inr, ◌↔◌, List, [], ◌∷◌, ◌++◌, length, map, refl, sym, ap, ◌∙◌, subst, arith, length-append, Bool, false, not, ◌&&◌, ◌||◌, slice_get, set, Some, unwrap_or, option_map}
 use mathlib.Core.Path.{ap₂}
 use Rattle.std.specs.List.{range_with_len}
 use Rattle.std.proofs.lemmas.List.{length-map, length-set}
@@ -77,7 +77,7 @@ frame_with f cs xs = record {
 }
 
 -- the assignment of an expression, in normal form
-abbrev assigned : FileParts → ℕ → ExprTree → Assignment
+abbrev pub assigned : FileParts → ℕ → ExprTree → Assignment
 assigned f x e = record { var = x; form = normal_form (modulus f.width) e }
 
 -- if a concatenation is a subset of a list, so are its parts
@@ -91,23 +91,27 @@ three_within xs ys zs all within =
     let both = two_within xs ys all front.0 in
     (both.0, both.1, front.1)
 
-module _ (f : FileParts) (cs : List Atomic) (xs : List Assignment) where
+-- rows of tests with any truth values that are those of the comparisons
+module _ (f : FileParts) (cs : List Atomic) (xs : List Assignment) (truths : Store → TestRow → Bool) (compares : (s : Store) (a : Atomic) → truths s (test.Compare a) ≡ atomic_holds (modulus f.width) s a) where
   -- the truth values of the tests in a store
   abbrev atom_of : Store → Atom
-  atom_of s = map (row_holds (modulus f.width) s) (test_rows_of (tables_with f cs xs))
+  atom_of s = map (truths s) (test_rows_of (tables_with f cs xs))
 
-  row_truth : (s : Store) (k : ℕ) (r : TestRow) → slice_get (test_rows_of (tables_with f cs xs)) k ≡ Some r → truth (prim k) (atom_of s) ≡ row_holds (modulus f.width) s r
+  row_truth : (s : Store) (k : ℕ) (r : TestRow) → slice_get (test_rows_of (tables_with f cs xs)) k ≡ Some r → truth (prim k) (atom_of s) ≡ truths s r
   row_truth s k r e =
-      get_or_from_slice_get (atom_of s) k (row_holds (modulus f.width) s r) false
-      (slice_get-map (row_holds (modulus f.width) s) (test_rows_of (tables_with f cs xs)) k ∙ ap (option_map (row_holds (modulus f.width) s)) e)
+      get_or_from_slice_get (atom_of s) k (truths s r) false (slice_get-map (truths s) (test_rows_of (tables_with f cs xs)) k ∙ ap (option_map (truths s)) e)
+
+  -- the truth value of a declared test
+  pub named_truth : (s : Store) (k : ℕ) → k < f.tests → truth (prim k) (atom_of s) ≡ truths s (test.Named k)
+  named_truth s k lt = row_truth s k (test.Named k) (declared_row test.Named test.Compare f.tests cs k lt)
 
   -- the test of a comparison in the table holds exactly when the comparison does
   comparison_truth : (a : Atomic) → Has cs a → (k : ℕ) × (test_number (tables_with f cs xs) a ≡ Some k) × ((s : Store) → truth (prim k) (atom_of s) ≡ atomic_holds (modulus f.width) s a)
   comparison_truth a h =
       let p = position_of_member is_same_comparison is_same_comparison-true is_same_comparison-same cs a h in
-      (f.tests + p.0, ap (option_map (λ k. f.tests + k)) p.1, (λ s. row_truth s (f.tests + p.0) (test.Compare a) (later_row test.Named test.Compare f.tests cs p.0 a p.2)))
+      (f.tests + p.0, ap (option_map (λ k. f.tests + k)) p.1, (λ s. row_truth s (f.tests + p.0) (test.Compare a) (later_row test.Named test.Compare f.tests cs p.0 a p.2) ∙ compares s a))
 
-  form_truth : (s : Store) (b : CondForm) → IsSubset (atomics b) cs → truth (unwrap_or (form_test (tables_with f cs xs) b) bottom) (atom_of s) ≡ cond_form_holds (modulus f.width) s b
+  pub form_truth : (s : Store) (b : CondForm) → IsSubset (atomics b) cs → truth (unwrap_or (form_test (tables_with f cs xs) b) bottom) (atom_of s) ≡ cond_form_holds (modulus f.width) s b
   form_truth s True all = refl
   form_truth s False all = refl
   form_truth s (Pos a) all =
@@ -117,11 +121,12 @@ module _ (f : FileParts) (cs : List Atomic) (xs : List Assignment) where
       let p = comparison_truth a (all a (inl refl)) in
       ap (λ o. truth (unwrap_or (option_map (λ k. complement (prim k)) o) bottom) (atom_of s)) p.1 ∙ ap not (p.2 s)
 
+module _ (f : FileParts) (cs : List Atomic) (xs : List Assignment) where
   pub cond_read : (b : CondTree) → IsCondInRange f.tests f.vars b → IsSubset (cond_comparisons (modulus f.width) b) cs → IsCondRead f.width (tables_with f cs xs) (frame_with f cs xs) b
   cond_read always range all s is = refl
   cond_read never range all s is = refl
-  cond_read (named k) range all s is = row_truth s k (test.Named k) (declared_row test.Named test.Compare f.tests cs k range)
-  cond_read (compared rel d e) range all s is = form_truth s (comparison_form (modulus f.width) rel d e) all ∙ comparison_form_holds f.width s rel d e is.1
+  cond_read (named k) range all s is = named_truth f cs xs (row_holds (modulus f.width)) (λ u a. refl) s k range
+  cond_read (compared rel d e) range all s is = form_truth f cs xs (row_holds (modulus f.width)) (λ u a. refl) s (comparison_form (modulus f.width) rel d e) all ∙ comparison_form_holds f.width s rel d e is.1
   cond_read (negation b) range all s is = ap not (cond_read b range all s is)
   cond_read (both b c) range all s is =
       let parts = two_within (cond_comparisons (modulus f.width) b) (cond_comparisons (modulus f.width) c) cs all in
@@ -130,22 +135,34 @@ module _ (f : FileParts) (cs : List Atomic) (xs : List Assignment) where
       let parts = two_within (cond_comparisons (modulus f.width) b) (cond_comparisons (modulus f.width) c) cs all in
       ap₂ ◌||◌ (cond_read b range.0 parts.0 s is) (cond_read c range.1 parts.1 s is)
 
+  -- the row of an assignment in the table
+  pub assigned_row : (x : ℕ) (e : ExprTree) → Has xs (assigned f x e)
+      → slice_get (action_rows_of (tables_with f cs xs)) (assignment_action (tables_with f cs xs) (assigned f x e)) ≡ Some (action.Assign x (normal_form (modulus f.width) e))
+  assigned_row x e h =
+      let p = position_of_member is_same_assignment is_same_assignment-true is_same_assignment-same xs (assigned f x e) h in
+      ap (λ o. slice_get (action_rows_of (tables_with f cs xs)) (unwrap_or (option_map (λ k. f.actions + k) o) 0)) p.1
+      ∙ later_row action.Named (λ b. action.Assign b.var b.form) f.actions xs p.0 (assigned f x e) p.2
+
+  -- the row of a declared action
+  pub named_row : (a : ℕ) → a < f.actions → slice_get (action_rows_of (tables_with f cs xs)) a ≡ Some (action.Named a)
+  named_row a lt = declared_row action.Named (λ b. action.Assign b.var b.form) f.actions xs a lt
+
+  -- an assignment leads to a store of the file
+  pub assigned_store : (x : ℕ) (e : ExprTree) (s : Store) → IsStoreOf f s → IsStoreOf f (set s x (value f.width s e))
+  assigned_store x e s is = (length-set s x (value f.width s e) ∙ is.0, set_is_store f.width s x (value f.width s e) is.1 (value_below f.width s e is.1))
+
   -- the action of an assignment in the table sets the variable
   assign_read : (x : ℕ) (e : ExprTree) → Has xs (assigned f x e) → IsAssignRead f.width (tables_with f cs xs) (frame_with f cs xs) x e
-  assign_read x e h s is = ((length-set s x (value f.width s e) ∙ is.0, set_is_store f.width s x (value f.width s e) is.1 (value_below f.width s e is.1)), acts)
+  assign_read x e h s is = (assigned_store x e s is, acts)
     where
-      row : slice_get (action_rows_of (tables_with f cs xs)) (assignment_action (tables_with f cs xs) (assigned f x e)) ≡ Some (action.Assign x (normal_form (modulus f.width) e))
-      row =
-          let p = position_of_member is_same_assignment is_same_assignment-true is_same_assignment-same xs (assigned f x e) h in
-          ap (λ o. slice_get (action_rows_of (tables_with f cs xs)) (unwrap_or (option_map (λ k. f.actions + k) o) 0)) p.1
-          ∙ later_row action.Named (λ b. action.Assign b.var b.form) f.actions xs p.0 (assigned f x e) p.2
-
       same : form_value (modulus f.width) s (normal_form (modulus f.width) e) ≡ value f.width s e
       same = form_value-normal_form f.width s e is.1
 
       acts : (u : Store) → Sets (modulus f.width) (slice_get (action_rows_of (tables_with f cs xs)) (assignment_action (tables_with f cs xs) (assigned f x e))) s u ↔ (u ≡ set s x (value f.width s e))
-      acts u =
-          ((λ m. subst (λ o. Sets (modulus f.width) o s u) row m ∙ ap (set s x) same), (λ m. subst (λ o. Sets (modulus f.width) o s u) (sym row) (m ∙ ap (set s x) (sym same))))
+      acts u = (
+        (λ m. subst (λ o. Sets (modulus f.width) o s u) (assigned_row x e h) m ∙ ap (set s x) same),
+        (λ m. subst (λ o. Sets (modulus f.width) o s u) (sym (assigned_row x e h)) (m ∙ ap (set s x) (sym same))),
+      )
 
   pub prog_read : (p : ProgTree) → IsProgInRange f.tests f.actions f.vars p → IsSubset (prog_comparisons (modulus f.width) p) cs → IsSubset (prog_assignments (modulus f.width) p) xs →
       IsProgRead f.width (tables_with f cs xs) (frame_with f cs xs) p
@@ -156,8 +173,7 @@ module _ (f : FileParts) (cs : List Atomic) (xs : List Assignment) where
       let parts = two_within (cond_comparisons (modulus f.width) b) (prog_comparisons (modulus f.width) rest) cs tests in
       (cond_read b range.0 parts.0, prog_read rest range.1 parts.1 acts)
   prog_read (act_then a rest) range tests acts =
-      let row = declared_row action.Named (λ b. action.Assign b.var b.form) f.actions xs a range.0 in
-      ((λ s u m. subst (λ o. Sets (modulus f.width) o s u) row m), prog_read rest range.1 tests acts)
+      ((λ s u m. subst (λ o. Sets (modulus f.width) o s u) (named_row a range.0) m), prog_read rest range.1 tests acts)
   prog_read (assign_then x e rest) range tests acts =
       (assign_read x e (acts (assigned f x e) (inl refl)), prog_read rest range.2 tests (λ a h. acts a (inr h)))
   prog_read (branch_then b p q rest) range tests acts =

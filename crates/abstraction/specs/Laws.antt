@@ -7,6 +7,7 @@ use Rattle.problem_file.specs.Files.{FileParts}
 use Rattle.problem_file.specs.Concrete.{IsStoreOf, IsConcrete, Agrees}
 use Rattle.abstraction.specs.Abstracts.{AbstractParts}
 use Rattle.abstraction.specs.StoreFrames.{Moves}
+use Rattle.abstraction.specs.Readings.{Reading, KeepsStated, GoalHoldsBy}
 
 -- no hypothesis after the stated ones relates two stores of the file
 abbrev pub DerivedHold : FileParts → AbstractParts → Type 0
@@ -18,3 +19,8 @@ DerivedHold f a =
 -- all its stores
 abbrev pub AgreesWhereSame : FileParts → AbstractParts → Type 0
 AgreesWhereSame f a = IsConcrete f → Same a.problem → Agrees f
+
+-- if both sides denote one relation in each table that satisfies the hypotheses, the goal holds for all stores of the file
+-- under every reading of its declared tests and actions that keeps the stated hypotheses
+abbrev pub HoldsByReadings : FileParts → AbstractParts → Type 0
+HoldsByReadings f a = (r : Reading) → KeepsStated f a r → Same a.problem → GoalHoldsBy f a r f.goal

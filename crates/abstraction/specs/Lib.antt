@@ -7,6 +7,7 @@ pub mod Facts
 pub mod Derived
 pub mod Abstracts
 pub mod StoreFrames
+pub mod Readings
 pub mod ShownTables
 pub mod Laws
 pub mod Working

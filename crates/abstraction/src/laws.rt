@@ -4,7 +4,7 @@ ghost use Rattle.problem_file.specs.Files.{FileParts};
 ghost use Rattle.abstraction.specs.Rounds.{tables_of};
 ghost use Rattle.abstraction.specs.Abstracts.{AbstractParts, HasNumbersInRange, abstract_of};
 ghost use Rattle.abstraction.specs.ShownTables.{shown_tables};
-ghost use Rattle.abstraction.specs.Laws.{DerivedHold, AgreesWhereSame};
+ghost use Rattle.abstraction.specs.Laws.{DerivedHold, AgreesWhereSame, HoldsByReadings};
 
 /// The rows of the abstraction of a file give the tables with which its goal was read. So a condition or a program of
 /// the goal has the same test or flow by these rows as in the problem.
@@ -23,4 +23,11 @@ pub fn derived_hypotheses_hold()
 /// every run that ends.
 pub fn same_sides_agree()
     ensures { (f : FileParts) (a : AbstractParts) → HasNumbersInRange f → abstract_of f ≡ Ok a → AgreesWhereSame f a }
+{}
+
+/// The same holds of every file, also with declared tests and actions, terms and stated hypotheses: if both sides denote
+/// one relation in each table that satisfies the hypotheses, the goal holds for all stores of the file, whatever
+/// predicates and relations on stores the declared tests and actions are, as long as they keep the stated hypotheses.
+pub fn goals_hold_by_readings()
+    ensures { (f : FileParts) (a : AbstractParts) → HasNumbersInRange f → abstract_of f ≡ Ok a → HoldsByReadings f a }
 {}

@@ -22,7 +22,9 @@ mod unique_rows;
 
 pub use fault::AbstractFault;
 pub use file_abstract::{abstracted, abstracted_for};
-pub use laws::{derived_hypotheses_hold, same_sides_agree, tables_are_shown};
+pub use laws::{
+    derived_hypotheses_hold, goals_hold_by_readings, same_sides_agree, tables_are_shown,
+};
 pub use problem::Abstract;
 pub use rows::{ActionRow, Rule, TestRow};
 pub use shown::{flow_of, test_of};
