@@ -1,3 +1,4 @@
 pub mod Capped
 pub mod TestTerms
 pub mod HypothesisForms
+pub mod Broken

@@ -1,9 +1,11 @@
 //! Kinds of hypotheses: the short ones of a problem, which concern single atoms and single moves, and the long ones; and
-//! the simple ones, each a test or one action between tests.
+//! the simple ones, each a test or one action between tests. For both, the strings of at most one move that they accept.
 #![tactic(auto)]
 
 mod hyps;
 mod simple;
+mod single;
 
 pub use hyps::{has_short, is_short, long_problem};
 pub use simple::not_simple;
+pub use single::{accepts_atom, accepts_move};
