@@ -30,3 +30,4 @@ pub mod SetQuestions
 pub mod SideTurns
 pub mod StepAnswers
 pub mod StepStates
+pub mod FewerHyps

@@ -7,3 +7,4 @@ pub mod Questions
 pub mod Matching
 pub mod Rounds
 pub mod Places
+pub mod Relevant

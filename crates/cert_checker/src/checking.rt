@@ -1,5 +1,5 @@
 //! The checker.
-ghost use Rattle.std.specs.Prelude.{◌≡◌, ◌↔◌, ◌<◌, ℕ, MatchOption, IfOk};
+ghost use Rattle.std.specs.Prelude.{◌≡◌, ◌↔◌, ◌<◌, ℕ, MatchOption, IfOk, IfSome};
 ghost use Rattle.kat_model.specs.Members.{Has};
 ghost use Rattle.term_nodes.specs.declared.TestNode.TheVariants.{Prim};
 ghost use Rattle.term_nodes.specs.declared.TermNode.TheVariants.{Act};
@@ -8,12 +8,15 @@ ghost use Rattle.cert_checker.specs.declared.answer.Answer.TheVariants.{Accepted
 ghost use Rattle.cert_checker.specs.Answers.{Shows, FailsFirstBy, IsFoundBy, IsAnswer, finding_reason};
 ghost use Rattle.cert_checker.specs.Laws.{Says};
 ghost use Rattle.cert_checker.specs.Working.Places.{place_reason};
+ghost use Rattle.cert_checker.specs.Working.Relevant.{HasFewerHyps};
 
 use crate::answer::{Answer, Reason};
 use crate::index::PairIndex;
 use crate::pass::{Pass, Place};
 use crate::range::{action_out, test_out};
+use crate::relevant::{asked_tests, asks_only};
 use certificate::{Cert, Evidence, Style};
+use hypothesis_kinds::is_short;
 use kat_model::{Items, NoMemory, Problem};
 use std::alloc::Global;
 use string_tables::{Finding, verdict};
@@ -46,7 +49,25 @@ fn pairs_reason(alloc: Global, problem: &Problem, cert: &Cert) -> Result<Option<
     Ok(place.map(|place| reason_of_place(place, cert.style())))
 }
 
-// Returns the first reason why the certificate is not accepted.
+// Returns the problem with its long hypotheses and with those short ones that depend, after each action, only on tests
+// that the tests of pairs name. Which short ones are left out affects only speed.
+fn fewer_hyps(alloc: Global, problem: &Problem, cert: &Cert) -> Result<Option<Problem>, NoMemory>
+    requires { (k : ℕ) → Has cert.now.test_nodes (Prim k) → k < problem.now.tests }
+    ensures { IfOk result (λ o. IfSome o (HasFewerHyps problem.now)) }
+{
+    let known = asked_tests(alloc, cert, problem.tests())?;
+    let mut hyps = Vec::new(alloc);
+    for hyp in problem.hyps() {
+        if !is_short(hyp) || asks_only(hyp, &known, false) {
+            hyps.push(hyp.copy(alloc)?)?;
+        }
+    }
+    let (left, right) = (problem.left().copy(alloc)?, problem.right().copy(alloc)?);
+    Ok(Problem::new(problem.tests(), problem.actions(), hyps, left, right).ok())
+}
+
+// Returns the first reason why the certificate is not accepted. Pairs under tests that are accepted with fewer
+// hypotheses are accepted; other pairs are judged with all hypotheses, so that the reason is the first.
 fn certificate_reason(
     alloc: Global,
     problem: &Problem,
@@ -59,6 +80,11 @@ fn certificate_reason(
     }
     if let Some(k) = action_out(cert.term_nodes(), problem.actions()) {
         return Ok(Some(Reason::TermNode(k)));
+    }
+    if let (Style::Under, Some(fewer)) = (cert.style(), fewer_hyps(alloc, problem, cert)?) {
+        if pairs_reason(alloc, &fewer, cert)?.is_none() {
+            return Ok(None);
+        }
     }
     pairs_reason(alloc, problem, cert)
 }

@@ -20,6 +20,7 @@ mod matching;
 mod pass;
 mod question;
 mod range;
+mod relevant;
 mod saturation;
 
 pub use answer::{Answer, Reason};
