@@ -1,35 +1,36 @@
 -- The finding in the table of a string is what the string shows.
-use Rattle.std.proofs.Common.{◌≡◌, ℕ, suc, ◌-◌, ◌↔◌, inl, inr, ⊎_elim, length, Bool, true, false, refl, subst, arith}
+use Rattle.std.proofs.Common.{◌≡◌, ◌≢◌, ◌↔◌, ℕ, inl, inr, ⊎_elim, Bool, true, false, refl, sym}
 use Rattle.std.specs.Bool.{IsTrue}
-use Rattle.kat_model.specs.Trees.{Term}
+use Rattle.std.proofs.lemmas.Bool.{false≢true, both_ways, true_from_ne_false}
 use Rattle.kat_model.specs.Problems.{ProblemParts}
-use Rattle.kat_model.specs.Relations.{Table, Relates, Keeps}
+use Rattle.kat_model.specs.Relations.{Keeps}
 use Rattle.kat_model.specs.Strings.{GuardedString}
 use Rattle.string_tables.specs.Tables.{table_of, RelatesEnds, Refutes}
 use Rattle.string_tables.specs.declared.finding.Finding.{Finding}
 use Rattle.string_tables.specs.declared.finding.Finding.TheVariants.{Refutes as RefutesBy, Shape, HypBroken, EndsAgree}
-use Rattle.string_tables.specs.Findings.{IsBroken, IsFirstBroken, IsFinding}
+use Rattle.string_tables.specs.Findings.{IsBroken, IsFirstBroken, Counts, IsFinding}
 use Rattle.string_tables.specs.Working.Breaks.{BreaksFirst}
 use Rattle.string_tables.proofs.Fitting.{no_misfit_is_string, string_has_no_misfit}
 use Rattle.kat_model.proofs.Places.{has_at}
 
--- the first and last states of a string's table are the ends of the string
-pub last_state : (x : GuardedString) (t : Table) (e : Term) (b : Bool) → t ≡ table_of x → IsTrue b ↔ Relates t e 0 (t.states - 1) → IsTrue b ↔ RelatesEnds x e
-last_state x t e b same h =
-    let last : suc (length x.rest) - 1 ≡ length x.rest = omega arith in
-    subst (λ j. IsTrue b ↔ Relates (table_of x) e 0 j) last (subst (λ s. IsTrue b ↔ Relates s e 0 (s.states - 1)) same h)
-
 module _ (q : ProblemParts) (x : GuardedString) where
-  pub broken_first : (t : Table) (h i j : ℕ) → t ≡ table_of x → BreaksFirst t q.hyps h i j → IsFirstBroken q x h i j
-  broken_first t h i j same b = at (subst (λ s. BreaksFirst s q.hyps h i j) same b)
-    where
-      at : BreaksFirst (table_of x) q.hyps h i j → IsFirstBroken q x h i j
-      at f =
-          let b = f.breaks in
-          record {
-            broken = record { hyp = b.term; is = b.is; from = b.from; to = b.to; relates = b.relates };
-            first = λ g k l before c. f.first g k l before (record { term = c.hyp; is = c.is; from = c.from; to = c.to; relates = c.relates });
-          }
+  pub broken_first : (h i j : ℕ) → BreaksFirst (table_of x) q.hyps h i j → IsFirstBroken q x h i j
+  broken_first h i j f =
+      let b = f.breaks in
+      record {
+        broken = record { hyp = b.term; is = b.is; from = b.from; to = b.to; relates = b.relates };
+        first = λ g k l before c. f.first g k l before (record { term = c.hyp; is = c.is; from = c.from; to = c.to; relates = c.relates });
+      }
+
+  -- whether the sides relate the ends gives the finding
+
+  pub agree_told : (l r : Bool) → Counts q x → IsTrue l ↔ RelatesEnds x q.left → IsTrue r ↔ RelatesEnds x q.right → l ≡ r → IsFinding q x (EndsAgree l)
+  agree_told true r counts left right same = (counts, left.0 refl, right.0 (sym same))
+  agree_told false r counts left right same = (counts, (λ h. false≢true (left.1 h)), (λ h. both_ways r (sym same) (right.1 h)))
+
+  pub differ_told : (l r : Bool) → Counts q x → IsTrue l ↔ RelatesEnds x q.left → IsTrue r ↔ RelatesEnds x q.right → l ≢ r → IsFinding q x (RefutesBy l)
+  differ_told true r counts left right differ = (counts, left.0 refl, (λ h. differ (sym (right.1 h))))
+  differ_told false r counts left right differ = (counts, (λ h. false≢true (left.1 h)), right.0 (true_from_ne_false r (λ none. differ (sym none))))
 
   -- the finding `Refutes` shows a refutation, and no other finding does
 

@@ -16,7 +16,7 @@ use Rattle.string_tables.proofs.Told.{some_below_same}
 
 -- laws of `and` and `or`
 
-and_over_or : (a b c : Bool) → (a && (b || c)) ≡ ((a && b) || (a && c))
+pub and_over_or : (a b c : Bool) → (a && (b || c)) ≡ ((a && b) || (a && c))
 and_over_or true b c = refl
 and_over_or false b c = refl
 
@@ -34,7 +34,7 @@ and_comm false false = refl
 and_rotate : (a b c : Bool) → (a && (b && c)) ≡ (b && (c && a))
 and_rotate a b c = and_swap a b c ∙ ap (λ d. b && d) (and_comm a c)
 
-or_exchange : (a b c d : Bool) → ((a || b) || (c || d)) ≡ ((a || c) || (b || d))
+pub or_exchange : (a b c d : Bool) → ((a || b) || (c || d)) ≡ ((a || c) || (b || d))
 or_exchange true b c d = refl
 or_exchange false true true d = refl
 or_exchange false true false d = refl

@@ -7,8 +7,10 @@ pub mod OneMoveMore
 pub mod Positions
 pub mod Fitting
 pub mod Counterexamples
+pub mod MarkedTerms
+pub mod MarkedRuns
+pub mod PartSearch
 pub mod FirstBreaks
-pub mod TermHeights
 pub mod Asking
 pub mod Ends
 pub mod Elimination

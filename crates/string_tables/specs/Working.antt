@@ -1,4 +1,5 @@
 pub mod Matrices
 pub mod Filled
 pub mod Breaks
-pub mod Heights
+pub mod Marks
+pub mod Parts

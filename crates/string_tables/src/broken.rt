@@ -1,45 +1,41 @@
-//! The hypotheses that a table breaks.
-ghost use Rattle.std.specs.Prelude.{◌≡◌, ◌≤◌, All, map, false, MatchOption};
+//! The hypotheses that a string breaks.
+ghost use Rattle.std.specs.Prelude.{◌≡◌, ◌↔◌, All, map, IfOk, IsTrue, MatchOption};
 ghost use Rattle.kat_model.specs.Trees.{kat_tree};
 ghost use Rattle.kat_model.specs.Relations.{Keeps};
-ghost use Rattle.string_tables.specs.Tables.{MayBeAsked};
-ghost use Rattle.string_tables.specs.Working.Matrices.{Tells};
-ghost use Rattle.string_tables.specs.Working.Breaks.{IsFirstEntry, BreaksFirst};
+ghost use Rattle.string_tables.specs.Tables.{table_of, RelatesEnds};
+ghost use Rattle.string_tables.specs.Working.Parts.{MayBeRead};
+ghost use Rattle.string_tables.specs.Working.Breaks.{BreaksFirst};
 
-use crate::levels::Levels;
-use crate::table::Table;
-use kat_model::Kat;
+use crate::first_parts::{first_end, first_part};
+use crate::string::GString;
+use kat_model::{Kat, NoMemory};
+use std::alloc::Global;
 
-// Returns the first two states that the term in the top matrix relates.
-fn related_pair(levels: &Levels, n: usize) -> Option<(usize, usize)>
-    requires { n ≤ levels.now.room.states }
-    ensures { MatchOption result (Tells n levels.now.top (λ i j. false)) (λ pair. IsFirstEntry n levels.now.top pair.0 pair.1) }
-{
-    for i in 0..n {
-        for j in 0..n {
-            if levels.at(i, j) {
-                return Some((i, j));
-            }
-        }
-    }
-    None
-}
-
-/// Returns the first hypothesis that relates some states, and the first two states that it relates.
+/// Returns the first hypothesis that relates some states of the string's table, and the first two states that it
+/// relates.
 pub(crate) fn first_broken(
-    levels: &mut Levels,
-    table: &Table,
+    alloc: Global,
+    string: &GString,
     hyps: &[Kat],
-) -> Option<(usize, usize, usize)>
-    requires { All (MayBeAsked levels.old.room table.now) (map kat_tree hyps.now) }
-    ensures found { MatchOption result (Keeps table.now (map kat_tree hyps.now)) (λ three. BreaksFirst table.now (map kat_tree hyps.now) three.0 three.1 three.2) }
-    ensures room { levels.new.room ≡ levels.old.room }
+) -> Result<Option<(usize, usize, usize)>, NoMemory>
+    requires { All (MayBeRead string.now) (map kat_tree hyps.now) }
+    ensures { IfOk result (λ found. MatchOption found (Keeps (table_of string.now) (map kat_tree hyps.now)) (λ three. BreaksFirst (table_of string.now) (map kat_tree hyps.now) three.0 three.1 three.2)) }
 {
     for (h, hyp) in hyps.iter().enumerate() {
-        levels.fill(table, hyp);
-        if let Some((i, j)) = related_pair(levels, table.states) {
-            return Some((h, i, j));
+        let part = first_part(alloc, string, hyp)?;
+        if let Some((i, j)) = part {
+            return Ok(Some((h, i, j)));
         }
     }
-    None
+    Ok(None)
+}
+
+/// Returns whether the term relates the first state of the string's table to the last.
+pub(crate) fn relates_ends(alloc: Global, string: &GString, term: &Kat) -> Result<bool, NoMemory>
+    requires { MayBeRead string.now (kat_tree term.now) }
+    ensures { IfOk result (λ shown. IsTrue shown ↔ RelatesEnds string.now (kat_tree term.now)) }
+{
+    let last = string.rest.as_slice().len();
+    let end = first_end(alloc, string, term, 0, 1, last)?;
+    Ok(end.is_some())
 }

@@ -2,11 +2,8 @@
 ghost use Rattle.std.specs.Prelude.{◌≡◌, ◌↔◌, ◌<◌, ◌≤◌, IfOk, IsTrue};
 ghost use Rattle.kat_model.specs.Trees.{kat_tree};
 ghost use Rattle.kat_model.specs.Relations.{Relates};
-ghost use Rattle.kat_model.specs.Working.Decided.{computes_relation};
 ghost use Rattle.string_tables.specs.Tables.{MayBeAsked};
-ghost use Rattle.string_tables.specs.Working.Matrices.{entry, Tells};
 
-use crate::evaluation::evaluate;
 use crate::following::follow;
 use crate::matrix::{Matrix, Row};
 use crate::table::Table;
@@ -56,24 +53,6 @@ impl Levels {
             set,
             rows,
         })
-    }
-
-    /// Evaluates a term at all states, in the top matrix.
-    pub(crate) fn fill(&mut self, table: &Table, term: &Kat)
-        requires { MayBeAsked self.old.room table.now (kat_tree term.now) }
-        ensures told { Tells table.now.states self.new.top (computes_relation table.now (kat_tree term.now)) }
-        ensures room { self.new.room ≡ self.old.room }
-    {
-        evaluate(table, term, &mut self.top, &mut self.below, &mut self.spare);
-    }
-
-    /// Returns an entry of the top matrix.
-    pub(crate) fn at(&self, i: usize, j: usize) -> bool
-        requires from { i < self.now.room.states }
-        requires to { j < self.now.room.states }
-        ensures { result ≡ entry self.now.top i j }
-    {
-        self.top.at(i, j)
     }
 
     /// Returns whether the term relates i to j, computed only from i. The top matrix may change.

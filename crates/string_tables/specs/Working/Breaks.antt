@@ -1,17 +1,8 @@
 -- The terms of a list that relate states of a table, and the first of them.
-use Rattle.std.specs.Prelude.{◌≡◌, ◌<◌, ℕ, List, slice_get, Some, true, false}
+use Rattle.std.specs.Prelude.{◌≡◌, ◌<◌, ℕ, List, slice_get, Some}
 use Rattle.kat_model.specs.Trees.{Term}
 use Rattle.kat_model.specs.Relations.{Table, Relates}
-use Rattle.string_tables.specs.Working.Matrices.{Square, entry}
 use Rattle.string_tables.specs.Findings.{IsBefore}
-
--- the first true entry of the first n rows and columns, row by row
-pub record IsFirstEntry (n : ℕ) (m : Square) (i j : ℕ) : Type 0 where
-  pub row : i < n
-  pub column : j < n
-  pub is : entry m i j ≡ true
-  pub above : (k l : ℕ) → k < i → l < n → entry m k l ≡ false
-  pub before : (l : ℕ) → l < j → entry m i l ≡ false
 
 -- the term at index h relates state i to state j
 pub record Breaks (t : Table) (terms : List Term) (h i j : ℕ) : Type 0 where
