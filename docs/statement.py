@@ -41,31 +41,31 @@ PARTS = [
     Part("What `decide` answers", "The bytes are those of the plainest text of a question, so no grammar is needed to "
          "read this part. What evidence is accepted, and how its text looks, is part 3; relational models and the size of strings "
          "are part 4: the meaning of the statuses does not need them.",
-         clauses=[("tool_decide/src/text.rt", "decide_bytes", ["plain"])], later=("IsAccepted", "Spells", "SameInModels", "IsSmall")),
+         clauses=[("tool_decide/src/decide.rt", "decide_bytes", ["plain"])], later=("IsAccepted", "Spells", "SameInModels", "IsSmall")),
     Part("What `decide` answers of programs", "The bytes are those of the plainest text of two programs, or of a triple of "
          "one, so no grammar is needed here either. The problem of an abstraction (`abstract_of`) is in part 5: the statement "
          "on stores does not need it.",
-         clauses=[("tool_decide/src/text.rt", "decide_bytes", ["programs", "triples"])], later=("abstract_of",)),
+         clauses=[("tool_decide/src/decide.rt", "decide_bytes", ["programs", "triples"])], later=("abstract_of",)),
     Part("Evidence", "The certificates that are accepted, and the bytes that spell evidence.",
          names=[("certificate", "Accepted", "IsAccepted"), ("tool_inputs", "EvidenceBytes", "Spells")]),
     Part("Models and the size of strings", "Relational models with finitely or infinitely many states, and how many moves a "
          "shortest string has at most.",
          names=[("kat_laws", "Models", "SameInModels"), ("kat_laws", "SmallStrings", "IsSmall")]),
     Part("Every text", "What any text asks, by the grammar of problem files, and what `check` answers.",
-         clauses=[("tool_decide/src/text.rt", "decide_bytes", ["headline"]), ("tool_check/src/text.rt", "check_bytes", ["headline"])]),
+         clauses=[("tool_decide/src/decide.rt", "decide_bytes", ["headline"]), ("tool_check/src/check.rt", "check_bytes", ["headline"])]),
     Part("Outlines", "What `outline` answers of a triple of a program, and of any notes, whoever wrote them.",
-         clauses=[("tool_outline/src/text.rt", "outline_bytes", ["headline"]), ("tool_outline/src/text.rt", "outline_check_bytes", ["headline"])]),
+         clauses=[("tool_outline/src/outline.rt", "outline_bytes", ["headline"]), ("tool_outline/src/outline_check.rt", "outline_check_bytes", ["headline"])]),
     Part("Equational proofs", "What `chain` answers of any proof, whoever wrote it.",
-         clauses=[("tool_check/src/text.rt", "chain_bytes", ["headline"])]),
+         clauses=[("tool_check/src/chain.rt", "chain_bytes", ["headline"])]),
     Part("Runs of programs", "What `run` answers of a text that says a file.",
-         clauses=[("tool_programs/src/text.rt", "run_bytes", ["headline"])]),
+         clauses=[("tool_programs/src/running.rt", "run_bytes", ["headline"])]),
     Part("Programs with one loop", "What `oneloop` answers of a text that says a file.",
-         clauses=[("tool_programs/src/text.rt", "one_loop_bytes", ["headline"])]),
+         clauses=[("tool_programs/src/oneloop.rt", "one_loop_bytes", ["headline"])]),
     Part("The optimiser", "What `optimise` answers of a text that says a file.",
-         clauses=[("tool_optimise/src/text.rt", "optimise_bytes", ["headline"])]),
+         clauses=[("tool_optimise/src/optimise.rt", "optimise_bytes", ["headline"])]),
     Part("The whole program", "The clause of `run` and those of the traits over which it runs: refusals with their "
          "places, first reasons, printed lines and faults of the outside.",
-         clauses=[("kat_tool/src/top.rt", "run", [])], traits=["kat_io/src/outside.rt"]),
+         clauses=[("kat_tool/src/lib.rt", "run", [])], traits=["kat_io/src/outside.rt"]),
 ]
 
 HEAD = re.compile(r"(?:(?:abbrev|opaque|unfoldable|pub|record|data|mutual)\s+)+(\S+)")

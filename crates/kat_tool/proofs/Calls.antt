@@ -1,5 +1,5 @@
 -- Facts about the replies to all commands, and how a call of `run` sends them.
-use Rattle.std.proofs.Common.{◌≡◌, ◌⊎◌, ◌<◌, ◌≤◌, ℕ, List, ◌∷◌, [], None, Some, Result, Ok, Err, IfOk, inl, inr, ⊎_elim, refl, sym, subst, ◌∙◌, codes, arith}
+use Rattle.std.proofs.Common.{◌≡◌, ◌⊎◌, ◌<◌, ◌≤◌, ℕ, List, ◌∷◌, [], None, Some, Result, Ok, Err, IfOk, inl, inr, ⊎_elim, refl, sym, subst, ◌∙◌, arith}
 use Rattle.std.proofs.lemmas.Option.{same_Some}
 use Rattle.std.specs.Io.KnownBytes.{Appends}
 use Rattle.kat_io.specs.Outside.{FaultCounted, AppendsPrefix}
@@ -31,26 +31,27 @@ use Rattle.tool_programs.specs.Gkat.{GkatReply}
 use Rattle.tool_programs.specs.Running.{DoesNotFit, RunReply}
 use Rattle.tool_programs.specs.OneLoop.{LacksProgram, OneLoopReply}
 use Rattle.tool_optimise.specs.Optimise.{LacksAnyProgram, OptimiseReply}
-use Rattle.kat_tool.specs.Replies.{RepliesTo, HasNoCommand, Replies}
-use Rattle.kat_tool.specs.Run.{HasFailed, MayNotFit, IsUnfit, IsReply, Call, IsRun}
+use Rattle.kat_tool.specs.Replies.{RepliesTo, MayNotFit, HasNoCommand, Replies}
+use Rattle.kat_tool.specs.Run.{HasFailed, IsUnfit, IsReply, Call, IsRun}
 use Rattle.kat_tool.specs.Laws.{CausesExclude, CheckAgrees, NotesFollow}
 use Rattle.tool_inputs.proofs.Contents.{held_same}
 use Rattle.tool_inputs.proofs.ReplySpecs.{into_replied}
 use Rattle.tool_inputs.proofs.FileReplies.{HasOneReply, HasOneFileReply, of_both_told, of_file, of_two_files}
-use Rattle.tool_decide.proofs.DecideReplies.{decide_one}
-use Rattle.tool_decide.proofs.ReportReplies.{decide_json_one}
-use Rattle.tool_decide.proofs.BatchReplies.{batch_one}
+use Rattle.tool_decide.specs.Working.DecideReplies.{decide_one}
+use Rattle.tool_decide.specs.Working.ReportReplies.{decide_json_one}
+use Rattle.tool_decide.specs.Working.BatchReplies.{batch_one}
 use Rattle.tool_decide.proofs.BenchReplies.{bench_one}
-use Rattle.tool_check.proofs.CheckReplies.{check_one}
-use Rattle.tool_check.proofs.ReplayReplies.{replay_one}
-use Rattle.tool_check.proofs.ChainReplies.{chain_one}
-use Rattle.tool_outline.proofs.OutlineReplies.{outline_one}
-use Rattle.tool_outline.proofs.NotesReplies.{outline_check_one}
-use Rattle.tool_programs.proofs.ShowReplies.{show_one}
-use Rattle.tool_programs.proofs.GkatReplies.{gkat_one}
-use Rattle.tool_programs.proofs.RunReplies.{run_one}
-use Rattle.tool_programs.proofs.OneLoopReplies.{one_loop_one}
-use Rattle.tool_optimise.proofs.OptimiseReplies.{optimise_one}
+use Rattle.tool_check.specs.Working.CheckReplies.{check_one}
+use Rattle.tool_check.specs.Working.ReplayReplies.{replay_one}
+use Rattle.tool_check.specs.Working.ChainReplies.{chain_one}
+use Rattle.tool_outline.specs.Working.OutlineReplies.{outline_one}
+use Rattle.tool_outline.specs.Working.NotesReplies.{outline_check_one}
+use Rattle.tool_programs.specs.Working.ShowReplies.{show_one}
+use Rattle.tool_programs.specs.Working.GkatReplies.{gkat_one}
+use Rattle.tool_programs.specs.Working.RunReplies.{run_one}
+use Rattle.tool_programs.specs.Working.OneLoopReplies.{one_loop_one}
+use Rattle.tool_optimise.specs.Working.OptimiseReplies.{optimise_one}
+use Rattle.kat_report.specs.InputLines.{words_line}
 
 -- ---- all commands
 
@@ -62,8 +63,8 @@ plain_file s file R one = record { small = λ status output r. plain status outp
     facts = of_file s file R (λ bytes. ⊥) one
 
     plain : (status : ℕ) (output : List ℕ)
-        → (status < 4) ⊎ (((f : List ℕ) × Has (file ∷ []) f × HasFailedOn s f status output) ⊎ ((status ≡ 7) × (((bytes : List ℕ) × MayContain (s.content file) bytes × ⊥) × (output ≡ codes "refused: words\n"))))
-        → (status < 4) ⊎ (((f : List ℕ) × Has (file ∷ []) f × HasFailedOn s f status output) ⊎ ((status ≡ 7) × (⊥ × (output ≡ codes "refused: words\n"))))
+        → (status < 4) ⊎ (((f : List ℕ) × Has (file ∷ []) f × HasFailedOn s f status output) ⊎ ((status ≡ 7) × (((bytes : List ℕ) × MayContain (s.content file) bytes × ⊥) × (output ≡ words_line))))
+        → (status < 4) ⊎ (((f : List ℕ) × Has (file ∷ []) f × HasFailedOn s f status output) ⊎ ((status ≡ 7) × (⊥ × (output ≡ words_line))))
     plain status output (inl lt) = inl lt
     plain status output (inr (inl f)) = inr (inl f)
     plain status output (inr (inr h)) = absurd h.1.0.2
@@ -104,19 +105,19 @@ module _ (s : ShelfUse) (words : List (List ℕ)) (status : ℕ) (output : List 
   Cause = HasNoCommand words status output ⊎ ((c : Command) × (command_of words ≡ Some c) × RepliesTo s c status output)
 
   abbrev Ways : Command → Type 0
-  Ways c = (status < 4) ⊎ (((file : List ℕ) × Has (files_of c) file × HasFailedOn s file status output) ⊎ ((status ≡ 7) × (MayNotFit s c × (output ≡ codes "refused: words\n"))))
+  Ways c = (status < 4) ⊎ (((file : List ℕ) × Has (files_of c) file × HasFailedOn s file status output) ⊎ ((status ≡ 7) × (MayNotFit s c × (output ≡ words_line))))
 
   -- the reply is the reply to the command of the words
   replied_to : (command : Command) → command_of words ≡ Some command → Cause → RepliesTo s command status output
   replied_to command is (inl h) = let none = h.none in absurd cc
   replied_to command is (inr (c, was, r)) = subst (λ d. RepliesTo s d status output) (same_Some c command (sym was ∙ is)) r
 
-  unfit_is : (c : Command) → command_of words ≡ Some c → Ways c → status ≡ 7 → ((command_of words ≡ None) ⊎ IsUnfit s words) × (output ≡ codes "refused: words\n")
+  unfit_is : (c : Command) → command_of words ≡ Some c → Ways c → status ≡ 7 → ((command_of words ≡ None) ⊎ IsUnfit s words) × (output ≡ words_line)
   unfit_is c was (inl lt) seven = absurd (omega (arith, lt, seven))
   unfit_is c was (inr (inl f)) seven = let four = f.2.has_status in absurd (omega (arith, four, seven))
   unfit_is c was (inr (inr h)) seven = (inr (c, was, h.1.0), h.1.1)
 
-  refused_is : Cause → status ≡ 7 → ((command_of words ≡ None) ⊎ IsUnfit s words) × (output ≡ codes "refused: words\n")
+  refused_is : Cause → status ≡ 7 → ((command_of words ≡ None) ⊎ IsUnfit s words) × (output ≡ words_line)
   refused_is (inl h) seven = (inl h.none, h.printed)
   refused_is (inr (c, was, r)) seven = unfit_is c was ((command_one s c).small status output r) seven
 

@@ -1,8 +1,5 @@
 -- What the headline of `decide` allows, the headline of `check` accepts.
-use Rattle.std.proofs.Common.{◌≡◌, ℕ, List, ⊎_elim, sym, ◌∙◌}
-use Rattle.kat_model.specs.Problems.{ProblemParts}
-use Rattle.tool_check.specs.Check.{CheckHeadline}
-use Rattle.tool_decide.specs.Decide.{Headline}
+use Rattle.std.proofs.Common.{⊎_elim, sym, ◌∙◌}
 use Rattle.kat_tool.specs.HeadlineAgreement.{HeadlinesAgree}
 
 pub headlines_agree : HeadlinesAgree

@@ -1,6 +1,7 @@
 -- The replies of the top call to words.
-use Rattle.std.specs.Prelude.{◌≡◌, ◌⊎◌, ℕ, List, None, Some, codes}
+use Rattle.std.specs.Prelude.{◌≡◌, ◌⊎◌, ℕ, List, None, Some}
 use Rattle.tool_commands.specs.Commands.{Command, decide, decide_json, show, gkat, batch, check, replay, outline, outline_check, chain, run, oneloop, bench, optimise, command_of}
+use Rattle.tool_inputs.specs.Contents.{MayContain}
 use Rattle.tool_inputs.specs.FileProblem.{HasProblem}
 use Rattle.tool_inputs.specs.Steps.{ShelfUse, ReplySpec}
 use Rattle.tool_inputs.specs.FileReplies.{OfFile, OfTwoFiles}
@@ -16,9 +17,10 @@ use Rattle.tool_outline.specs.Outline.{OutlineReply}
 use Rattle.tool_outline.specs.OutlineCheck.{OutlineCheckReply}
 use Rattle.tool_programs.specs.Show.{ShowReply}
 use Rattle.tool_programs.specs.Gkat.{GkatReply}
-use Rattle.tool_programs.specs.Running.{RunReply}
-use Rattle.tool_programs.specs.OneLoop.{OneLoopReply}
-use Rattle.tool_optimise.specs.Optimise.{OptimiseReply}
+use Rattle.tool_programs.specs.Running.{DoesNotFit, RunReply}
+use Rattle.tool_programs.specs.OneLoop.{LacksProgram, OneLoopReply}
+use Rattle.tool_optimise.specs.Optimise.{LacksAnyProgram, OptimiseReply}
+use Rattle.kat_report.specs.InputLines.{words_line}
 
 -- the reply to a command
 abbrev pub RepliesTo : ShelfUse → Command → ReplySpec
@@ -37,11 +39,18 @@ RepliesTo s (oneloop file prog) = OfFile s file (λ text. OneLoopReply text prog
 RepliesTo s (bench count) = BenchReply count
 RepliesTo s (optimise file prog turns) = OfFile s file (λ text. OptimiseReply text prog turns)
 
+-- the file of the command may contain a text that its words do not fit
+abbrev pub MayNotFit : ShelfUse → Command → Type 0
+MayNotFit s (run file prog store turns) = (text : List ℕ) × MayContain (s.content file) text × DoesNotFit text prog store
+MayNotFit s (oneloop file prog) = (text : List ℕ) × MayContain (s.content file) text × LacksProgram text prog
+MayNotFit s (optimise file prog turns) = (text : List ℕ) × MayContain (s.content file) text × LacksAnyProgram text prog
+MayNotFit s command = ⊥
+
 -- the words have no command
 pub record HasNoCommand (words : List (List ℕ)) (status : ℕ) (output : List ℕ) : Type 0 where
   pub none : command_of words ≡ None
   pub has_status : status ≡ 7
-  pub printed : output ≡ codes "refused: words\n"
+  pub printed : output ≡ words_line
 
 -- the shelf's count of faults is unchanged, unless the status reports that the shelf failed
 abbrev pub KeepsCount : ShelfUse → ℕ → Type 0

@@ -1,15 +1,12 @@
 -- The statement on the top call.
-use Rattle.std.specs.Prelude.{◌≡◌, ◌≢◌, ◌⊎◌, ℕ, List, Option, None, Some, codes}
+use Rattle.std.specs.Prelude.{◌≡◌, ◌≢◌, ◌⊎◌, ℕ, List, Option, None, Some}
 use Rattle.std.specs.Io.KnownBytes.{Appends, Keeps}
 use Rattle.kat_io.specs.Outside.{FaultCounted, AppendsPrefix}
 use Rattle.kat_model.specs.Members.{Has}
-use Rattle.tool_commands.specs.Commands.{Command, run, oneloop, optimise, command_of, files_of}
-use Rattle.tool_inputs.specs.Contents.{MayContain}
+use Rattle.tool_commands.specs.Commands.{Command, command_of, files_of}
 use Rattle.tool_inputs.specs.Steps.{ShelfUse, HasFailedOn}
-use Rattle.tool_programs.specs.Running.{DoesNotFit}
-use Rattle.tool_programs.specs.OneLoop.{LacksProgram}
-use Rattle.tool_optimise.specs.Optimise.{LacksAnyProgram}
-use Rattle.kat_tool.specs.Replies.{Replies}
+use Rattle.kat_tool.specs.Replies.{MayNotFit, Replies}
+use Rattle.kat_report.specs.InputLines.{words_line}
 
 -- what a call saw of the sink: its count of faults before and after the call, and the bytes it had taken before and
 -- after, if known
@@ -34,13 +31,6 @@ abbrev pub HasFailed : ShelfUse → List (List ℕ) → ℕ → List ℕ → Typ
 HasFailed s words status output =
     (command : Command) × (command_of words ≡ Some command) × ((file : List ℕ) × Has (files_of command) file × HasFailedOn s file status output)
 
--- the file of the command may contain a text that its words do not fit
-abbrev pub MayNotFit : ShelfUse → Command → Type 0
-MayNotFit s (run file prog store turns) = (text : List ℕ) × MayContain (s.content file) text × DoesNotFit text prog store
-MayNotFit s (oneloop file prog) = (text : List ℕ) × MayContain (s.content file) text × LacksProgram text prog
-MayNotFit s (optimise file prog turns) = (text : List ℕ) × MayContain (s.content file) text × LacksAnyProgram text prog
-MayNotFit s command = ⊥
-
 -- the words have a command that may not fit its file
 abbrev pub IsUnfit : ShelfUse → List (List ℕ) → Type 0
 IsUnfit s words = (command : Command) × (command_of words ≡ Some command) × MayNotFit s command
@@ -52,7 +42,7 @@ pub record IsReply (s : ShelfUse) (words : List (List ℕ)) (status : ℕ) (outp
   pub failed : status ≡ 4 → HasFailed s words status output
   pub no_command : command_of words ≡ None → status ≡ 7
   pub refused_words : status ≡ 7 → (command_of words ≡ None) ⊎ IsUnfit s words
-  pub refused_words_line : status ≡ 7 → output ≡ codes "refused: words\n"
+  pub refused_words_line : status ≡ 7 → output ≡ words_line
   pub counts : status ≢ 4 → s.now ≡ s.before
 
 -- With any status but 5 and 6, a reply was sent in full, and the sink did not fail. With 5, the sink failed in this

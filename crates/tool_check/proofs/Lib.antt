@@ -1,5 +1,1 @@
-pub mod FaultLines
-pub mod CheckReplies
-pub mod ReplayReplies
-pub mod ChainReplies
 mod PlainPrograms

@@ -7,7 +7,7 @@ use Rattle.problem_texts.specs.ProgramTexts.{programs_text, triple_text, ArePrin
 use Rattle.tool_inputs.specs.StoreAnswers.{AlwaysEndAlike, AlwaysMeets}
 use Rattle.tool_inputs.proofs.ProgramSentences.{asks_equal, always_alike, asks_triple, always_met}
 use Rattle.tool_check.specs.Check.{ChecksTexts}
-use Rattle.tool_check.proofs.CheckReplies.{texts_stores}
+use Rattle.tool_check.specs.Working.CheckReplies.{texts_stores}
 
 module _ (text : List ℕ) (w : Width) (v : ℕ) (status : ℕ) (output : List ℕ) where
   pub programs_checked : (p q : ProgTree) → ArePrintable w v p q → text ≡ programs_text w v p q → (evidence : List ℕ) → ChecksTexts text evidence status output → status ≡ 0 → AlwaysEndAlike w v p q

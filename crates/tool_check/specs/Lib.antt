@@ -1,3 +1,4 @@
 pub mod Check
 pub mod Replay
 pub mod Chain
+pub mod Working

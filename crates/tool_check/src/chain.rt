@@ -1,19 +1,26 @@
 //! `chain`: checks whether bytes spell a proof of the problem that a text poses.
-ghost use Rattle.std.specs.Prelude.{◌≡◌, ◌≢◌, IfOk};
+ghost use Rattle.std.specs.Prelude.{◌≡◌, ◌≢◌, Some, IfOk};
+ghost use Rattle.kat_model.specs.declared.limits.TheConstants.{MAX_TEXT_BYTES};
+ghost use Rattle.kat_model.specs.Problems.{ProblemParts};
+ghost use Rattle.problem_file.specs.Files.{FileParts};
+ghost use Rattle.problem_file.specs.Reads.{Reads};
+ghost use Rattle.problem_file.specs.Concrete.{IsConcrete, Agrees};
 ghost use Rattle.text_tokens.specs.declared.fault.TextFault.TheVariants.{NoMemory as NoRoom};
-ghost use Rattle.kat_report.specs.Reasons.{chain_reason_line};
-ghost use Rattle.kat_report.specs.Refusals.{chain_fault_line};
 ghost use Rattle.chain_rules.specs.Chained.{HasTermsInRange};
 ghost use Rattle.tool_inputs.specs.Steps.{IsRefusal};
-ghost use Rattle.tool_check.specs.Chain.{IsNoChain, SpellsChain, IsProved, ProvesBytes, ProvesTexts};
-ghost use Rattle.tool_inputs.specs.ReplySpecs.{EndsWith, Yields, RepliesWith};
+ghost use Rattle.tool_inputs.specs.FileProblem.{Asks};
+ghost use Rattle.tool_inputs.specs.ReplySpecs.{EndsWith, Yields};
+ghost use Rattle.kat_report.specs.Reasons.{chain_reason_line};
+ghost use Rattle.kat_report.specs.Refusals.{chain_fault_line};
+ghost use Rattle.kat_report.specs.InputLines.{long_proof_line};
+ghost use Rattle.tool_check.specs.Chain.{IsNoChain, SpellsChain, IsProved, ProvesBytes, ChainHeadline, ChainReply};
 
 use chain_proofs::{Chain, ChainAnswer, ChainReason, check_chain, read_chain};
-use kat_model::{NoMemory, Problem};
-use kat_report::{accepted_chain_line, chain_fault_line, chain_reason_line};
+use kat_model::{MAX_TEXT_BYTES, NoMemory, Problem};
+use kat_report::{accepted_chain_line, chain_fault_line, chain_reason_line, long_proof_line};
 use std::alloc::Global;
 use text_tokens::TextFault;
-use tool_inputs::{EarlyEnd, Reply, line, problem_in};
+use tool_inputs::{EarlyEnd, PairCommand, Reply, line, reply_to_pair};
 
 // Returns the reply to the text of a proof with this fault: a refusal, unless memory ran out.
 fn fault_stop(alloc: Global, fault: TextFault) -> EarlyEnd
@@ -60,18 +67,58 @@ fn chain_reply(alloc: Global, problem: &Problem, chain: &Chain) -> Result<Reply,
     }
 }
 
-/// Returns the reply to a problem and bytes.
-pub(crate) fn bytes_reply(alloc: Global, problem: &Problem, bytes: &[u8]) -> Result<Reply, EarlyEnd>
-    ensures { RepliesWith (ProvesBytes problem.now bytes.now) result }
-{
-    let chain = chain_in(alloc, problem, bytes)?;
-    Ok(chain_reply(alloc, problem, &chain)?)
+/// `chain` FILE PROOF
+#[derive(Clone, Copy)]
+pub struct ChainCommand;
+
+impl PairCommand for ChainCommand {
+    ghost use Rattle.tool_check.specs.Working.ChainReplies.{chain_reply, proof_refused};
+
+    type Question = Problem;
+
+    ghost steps = { λ _. ProvesBytes };
+
+    ghost replies = { λ _. ChainReply };
+
+    ghost limit = { λ _. Some MAX_TEXT_BYTES };
+
+    ghost long_line = { λ _. long_proof_line };
+
+    fn limit(&self) -> Option<u64> {
+        Some(MAX_TEXT_BYTES as u64)
+    }
+
+    fn long_line(&self) -> &'static [u8] {
+        long_proof_line()
+    }
+
+    fn bytes_reply(
+        &self,
+        alloc: Global,
+        question: &Problem,
+        bytes: &[u8],
+    ) -> Result<Reply, EarlyEnd> {
+        let chain = chain_in(alloc, question, bytes)?;
+        Ok(chain_reply(alloc, question, &chain)?)
+    }
+
+    ghost refuses_long = { λ _. proof_refused };
+
+    ghost is_reply = { λ _. chain_reply };
 }
 
-/// Returns the reply to a text and bytes.
-pub(crate) fn texts_reply(alloc: Global, text: &[u8], bytes: &[u8]) -> Result<Reply, EarlyEnd>
-    ensures { RepliesWith (ProvesTexts text.now bytes.now) result }
+/// Returns the reply of `chain` to the bytes of a text and of a proof from any source. If the text asks a question, the
+/// status is 0 exactly when the bytes spell a chain of equations from its left side to its right side by lines that
+/// hold; then both sides denote one relation in every finite table that satisfies the hypotheses, and the goal of a
+/// concrete file holds for all its stores. It is 2 exactly when they spell no chain, with the line of their first
+/// fault, and 3 exactly when they spell a chain that is not such a proof, with the line of the first reason. Fails only
+/// when out of memory.
+pub fn chain_bytes(alloc: Global, text: &[u8], proof: &[u8]) -> Result<Reply, NoMemory>
+    ensures headline { (q : ProblemParts) → Asks text.now q
+        → IfOk result (λ r. ChainHeadline proof.now q r.status r.output.items) }
+    ensures stores { (f : FileParts) → Reads text.now f → IsConcrete f → IfOk result (λ r. r.status ≡ 0 → Agrees f) }
+    ensures reply { IfOk result (λ r. ChainReply text.now proof.now r.status r.output.items) }
 {
-    let problem = problem_in(alloc, text)?;
-    bytes_reply(alloc, &problem, bytes)
+    let reply = reply_to_pair(alloc, &ChainCommand, text, proof)?;
+    Ok(reply)
 }

@@ -4,10 +4,9 @@
 
 mod chain;
 mod check;
-mod files;
 mod replay;
 mod showing;
-mod text;
 
-pub use files::{chain_files, check_files, replay_files};
-pub use text::{chain_bytes, check_bytes, replay_bytes};
+pub use chain::{ChainCommand, chain_bytes};
+pub use check::{CheckCommand, check_bytes};
+pub use replay::{ReplayCommand, replay_bytes};

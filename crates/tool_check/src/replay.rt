@@ -1,7 +1,8 @@
 //! `replay`: prints the string that bytes spell, with what it shows about the problem that a text poses.
-ghost use Rattle.std.specs.Prelude.{IfOk};
-ghost use Rattle.tool_check.specs.Replay.{IsTold, IsReplayed, ReplaysBytes, ReplaysTexts};
-ghost use Rattle.tool_inputs.specs.ReplySpecs.{RepliesWith};
+ghost use Rattle.std.specs.Prelude.{[], None, IfOk};
+ghost use Rattle.kat_model.specs.Problems.{ProblemParts};
+ghost use Rattle.tool_inputs.specs.FileProblem.{Asks};
+ghost use Rattle.tool_check.specs.Replay.{IsTold, IsReplayed, ReplaysBytes, ReplayHeadline, ReplayReply};
 
 use crate::check::rejection;
 use crate::showing::evidence_in;
@@ -11,7 +12,7 @@ use kat_model::{NoMemory, Problem};
 use kat_report::{no_string_line, replay_text};
 use std::alloc::Global;
 use string_tables::{Finding, GString, verdict};
-use tool_inputs::{EarlyEnd, Reply, line, problem_in};
+use tool_inputs::{EarlyEnd, PairCommand, Reply, line, reply_to_pair};
 
 // Returns the reply to a string with this finding.
 fn finding_reply(alloc: Global, string: &GString, finding: &Finding) -> Result<Reply, NoMemory>
@@ -39,18 +40,55 @@ fn replay_reply(alloc: Global, problem: &Problem, evidence: &Evidence) -> Result
     }
 }
 
-/// Returns the reply to a problem and bytes.
-pub(crate) fn bytes_reply(alloc: Global, problem: &Problem, bytes: &[u8]) -> Result<Reply, EarlyEnd>
-    ensures { RepliesWith (ReplaysBytes problem.now bytes.now) result }
-{
-    let evidence = evidence_in(alloc, bytes)?;
-    Ok(replay_reply(alloc, problem, &evidence)?)
+/// `replay` FILE EVIDENCE
+#[derive(Clone, Copy)]
+pub struct ReplayCommand;
+
+impl PairCommand for ReplayCommand {
+    ghost use Rattle.tool_check.specs.Working.ReplayReplies.{replay_reply};
+
+    type Question = Problem;
+
+    ghost steps = { λ _. ReplaysBytes };
+
+    ghost replies = { λ _. ReplayReply };
+
+    ghost limit = { λ _. None };
+
+    ghost long_line = { λ _. [] };
+
+    fn limit(&self) -> Option<u64> {
+        None
+    }
+
+    fn long_line(&self) -> &'static [u8] {
+        b""
+    }
+
+    fn bytes_reply(
+        &self,
+        alloc: Global,
+        question: &Problem,
+        bytes: &[u8],
+    ) -> Result<Reply, EarlyEnd> {
+        let evidence = evidence_in(alloc, bytes)?;
+        Ok(replay_reply(alloc, question, &evidence)?)
+    }
+
+    ghost refuses_long = { λ _ q bytes past. absurd past };
+
+    ghost is_reply = { λ _. replay_reply };
 }
 
-/// Returns the reply to a text and bytes.
-pub(crate) fn texts_reply(alloc: Global, text: &[u8], bytes: &[u8]) -> Result<Reply, EarlyEnd>
-    ensures { RepliesWith (ReplaysTexts text.now bytes.now) result }
+/// Returns the reply of `replay` to the bytes of a text and of evidence. If the text asks a question, the status is 0
+/// exactly when the evidence is the text of a string that fits the question, which is printed with what it shows; 2
+/// exactly when the bytes are not the text of evidence; and 3 exactly when they are the text of a string that does not
+/// fit, or of a certificate. Fails only when out of memory.
+pub fn replay_bytes(alloc: Global, text: &[u8], evidence: &[u8]) -> Result<Reply, NoMemory>
+    ensures headline { (q : ProblemParts) → Asks text.now q
+        → IfOk result (λ r. ReplayHeadline evidence.now q r.status r.output.items) }
+    ensures reply { IfOk result (λ r. ReplayReply text.now evidence.now r.status r.output.items) }
 {
-    let problem = problem_in(alloc, text)?;
-    bytes_reply(alloc, &problem, bytes)
+    let reply = reply_to_pair(alloc, &ReplayCommand, text, evidence)?;
+    Ok(reply)
 }

@@ -1,5 +1,5 @@
 -- The program that a word of the command line names.
-use Rattle.std.specs.Prelude.{◌≡◌, ℕ, List, Option, None, Some, codes, if◌then◌else◌}
+use Rattle.std.specs.Prelude.{ℕ, List, Option, None, Some, if◌then◌else◌}
 use Rattle.std.specs.Option.{option_map}
 use Rattle.while_lang.specs.Programs.{ProgTree, is_concrete}
 use Rattle.problem_file.specs.Files.{FileParts, prog_named}
@@ -12,9 +12,3 @@ where_concrete (Some p) = if is_concrete p then Some p else None
 -- the concrete program of the file with this name
 abbrev pub program_of : FileParts → List ℕ → Option ProgTree
 program_of f name = where_concrete (option_map (λ p. p.tree) (prog_named f.scope f.progs name))
-
--- words that do not fit the file, for this reason, are refused
-pub record HasUnfitWords (Reason : Type 0) (status : ℕ) (output : List ℕ) : Type 0 where
-  pub unfit : Reason
-  pub has_status : status ≡ 7
-  pub printed : output ≡ codes "refused: words\n"

@@ -20,10 +20,11 @@ use Rattle.problem_texts.specs.Laws.{AsksOfPrograms}
 use Rattle.tool_inputs.specs.TextProblem.{HasNoAbstraction}
 use Rattle.tool_inputs.specs.Steps.{AsksQuestion}
 use Rattle.tool_inputs.specs.StoreAnswers.{AlwaysEndAlike, AlwaysMeets, IsTooLarge, goal_file, programs_abstraction, triple_abstraction, StoreHeadline}
-use Rattle.tool_inputs.proofs.Steps.{one_value, not_both, one_line, reads_said}
+use Rattle.tool_inputs.specs.Working.Questions.{not_both}
+use Rattle.tool_inputs.proofs.Steps.{one_value, one_line, reads_said}
 use Rattle.tool_inputs.proofs.ProgramSentences.{asks_equal, always_alike, asks_triple, always_met}
 use Rattle.tool_decide.specs.Decide.{IsDecided, DecidesText}
-use Rattle.tool_decide.proofs.DecideReplies.{text_stores}
+use Rattle.tool_decide.specs.Working.DecideReplies.{text_stores}
 
 -- ---- a file without an abstraction is too large
 

@@ -20,7 +20,7 @@ use Rattle.problem_texts.specs.Questions.{question_text, IsPrintable}
 use Rattle.problem_texts.proofs.PlainReadings.{reads_back}
 use Rattle.tool_inputs.specs.FileProblem.{Asks}
 use Rattle.tool_decide.specs.Decide.{DecidesText, Headline}
-use Rattle.tool_decide.proofs.DecideReplies.{text_headline}
+use Rattle.tool_decide.specs.Working.DecideReplies.{text_headline}
 
 -- ---- the abstraction of a goal of two terms
 

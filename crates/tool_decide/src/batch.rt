@@ -3,14 +3,14 @@ ghost use Rattle.std.specs.Prelude.{◌≡◌, ◌++◌, ℕ, max, List, map, If
 ghost use Rattle.std.specs.Fmt.{decimal};
 ghost use Rattle.kat_model.specs.Members.{Has};
 ghost use Rattle.abstraction.specs.Abstracts.{AbstractParts, HasNumbersInRange, abstract_of, with_goal};
-ghost use Rattle.problem_file.specs.Files.{FileParts};
-ghost use Rattle.problem_file.specs.Reads.{FirstFaultOfAll};
+ghost use Rattle.problem_file.specs.Files.{GoalTree, FileParts};
+ghost use Rattle.problem_file.specs.Reads.{ReadsAll, FirstFaultOfAll};
 ghost use Rattle.problem_file.specs.Laws.{ReadsBoth};
 ghost use Rattle.problem_file.specs.Trees.{goal_tree};
 ghost use Rattle.tool_inputs.specs.TextProblem.{IsFaultOf, HasNoAbstraction};
 ghost use Rattle.tool_inputs.specs.Steps.{IsRefusal};
 ghost use Rattle.tool_decide.specs.Decide.{IsDecided};
-ghost use Rattle.tool_decide.specs.Batch.{with_each, AsksSome, IsFirstRefused, goal_line, IsGoalAnswer, AnswersFrom, AnswersAll, AnswersText};
+ghost use Rattle.tool_decide.specs.Batch.{with_each, AsksSome, IsFirstRefused, goal_line, IsGoalAnswer, AnswersFrom, AnswersAll, BatchHeadline, BatchReply};
 ghost use Rattle.tool_inputs.specs.ReplySpecs.{Yields, RepliesWith, IsQuestionOf};
 ghost use Rattle.tool_decide.specs.Working.Goals.{AreInRange};
 
@@ -21,7 +21,7 @@ use kat_model::{NoMemory, Problem};
 use problem_file::{File, Goal, read_all};
 use std::alloc::Global;
 use term_store::Store;
-use tool_inputs::{EarlyEnd, Reply, abstract_for, text_fault_stop};
+use tool_inputs::{EarlyEnd, Reply, TextCommand, abstract_for, reply_to_text, text_fault_stop};
 
 // Reads a text. Returns the file with its first goal, and the goals after it.
 fn goals_of(alloc: Global, text: &[u8]) -> Result<(File, Vec<Goal>), EarlyEnd>
@@ -127,10 +127,34 @@ fn goals_reply(alloc: Global, file: &File, more: &[Goal]) -> Result<Reply, Early
     Ok(answers(alloc, file, more)?)
 }
 
-/// Returns the reply to a text.
-pub(crate) fn text_reply(alloc: Global, text: &[u8]) -> Result<Reply, EarlyEnd>
-    ensures { RepliesWith (AnswersText text.now) result }
+/// `batch` FILE
+#[derive(Clone, Copy)]
+pub struct BatchCommand;
+
+impl TextCommand for BatchCommand {
+    ghost use Rattle.tool_decide.specs.Working.BatchReplies.{batch_long};
+
+    ghost replies = { λ _. BatchReply };
+
+    fn text_reply(&self, alloc: Global, text: &[u8]) -> Result<Reply, EarlyEnd> {
+        let (file, more) = goals_of(alloc, text)?;
+        goals_reply(alloc, &file, &more)
+    }
+
+    ghost refuses_long = { λ _. batch_long };
+}
+
+/// Returns the reply of `batch` to the bytes of a text with 1 to 64 goals. Each goal is answered as `decide` answers
+/// the file with only that goal, after a line with its number. The status is 0 exactly when both sides of each goal
+/// denote one relation in every finite table that satisfies its hypotheses, and 1 exactly when each goal asks a
+/// question and the sides of some goal do not. It is 2 if the text is not read or a goal is refused, with only the line
+/// of the first refusal. If the status is 0, the goals of a concrete file hold for all its stores. Fails only when out
+/// of memory.
+pub fn batch_bytes(alloc: Global, text: &[u8]) -> Result<Reply, NoMemory>
+    ensures headline { (f : FileParts) (more : List GoalTree) → ReadsAll text.now f more
+        → IfOk result (λ r. BatchHeadline f more r.status r.output.items) }
+    ensures reply { IfOk result (λ r. BatchReply text.now r.status r.output.items) }
 {
-    let (file, more) = goals_of(alloc, text)?;
-    goals_reply(alloc, &file, &more)
+    let reply = reply_to_text(alloc, &BatchCommand, text)?;
+    Ok(reply)
 }

@@ -1,16 +1,26 @@
 //! `decide`: replies to a text with the decision of the problem that it poses.
-ghost use Rattle.std.specs.Prelude.{◌≡◌, length, IfOk};
+ghost use Rattle.std.specs.Prelude.{◌≡◌, ℕ, length, IfOk};
+ghost use Rattle.kat_model.specs.Problems.{ProblemParts};
+ghost use Rattle.kat_model.specs.Expressions.{CondTree};
+ghost use Rattle.kat_model.specs.declared.expression.Width.{Width};
+ghost use Rattle.while_lang.specs.Programs.{ProgTree};
+ghost use Rattle.problem_texts.specs.Questions.{question_text, IsPrintable};
+ghost use Rattle.problem_texts.specs.ProgramTexts.{programs_text, triple_text, ArePrintable, IsTriplePrintable};
+ghost use Rattle.problem_file.specs.Files.{FileParts};
+ghost use Rattle.problem_file.specs.Reads.{Reads};
+ghost use Rattle.problem_file.specs.Concrete.{IsConcrete, Agrees};
 ghost use Rattle.certificate.specs.Decisions.{IsDecision};
 ghost use Rattle.certificate.specs.Texts.{IsEvidence};
 ghost use Rattle.tool_inputs.specs.EvidenceBytes.{Spells, evidence_status};
-ghost use Rattle.tool_decide.specs.Decide.{IsDecided, DecidesText};
-ghost use Rattle.tool_inputs.specs.ReplySpecs.{RepliesWith};
+ghost use Rattle.tool_inputs.specs.FileProblem.{Asks};
+ghost use Rattle.tool_inputs.specs.StoreAnswers.{AlwaysEndAlike, AlwaysMeets, programs_abstraction, triple_abstraction, StoreHeadline};
+ghost use Rattle.tool_decide.specs.Decide.{IsDecided, Headline, DecideReply};
 
 use bisim_worklist::decide;
 use certificate::{Evidence, write};
 use kat_model::{NoMemory, Problem};
 use std::alloc::Global;
-use tool_inputs::{EarlyEnd, Reply, problem_in};
+use tool_inputs::{EarlyEnd, Reply, TextCommand, problem_in, reply_to_text};
 
 /// Returns the number of nodes, which is below 2^64.
 pub fn count<T>(nodes: &[T]) -> usize
@@ -71,10 +81,45 @@ pub fn decide_reply(alloc: Global, problem: &Problem) -> Result<Reply, NoMemory>
     })
 }
 
-/// Returns the reply to a text.
-pub(crate) fn text_reply(alloc: Global, text: &[u8]) -> Result<Reply, EarlyEnd>
-    ensures { RepliesWith (DecidesText text.now) result }
+/// `decide` FILE
+#[derive(Clone, Copy)]
+pub struct DecideCommand;
+
+impl TextCommand for DecideCommand {
+    ghost use Rattle.tool_decide.specs.Working.DecideReplies.{decide_long};
+
+    ghost replies = { λ _. DecideReply };
+
+    fn text_reply(&self, alloc: Global, text: &[u8]) -> Result<Reply, EarlyEnd> {
+        let problem = problem_in(alloc, text)?;
+        Ok(decide_reply(alloc, &problem)?)
+    }
+
+    ghost refuses_long = { λ _. decide_long };
+}
+
+/// Returns the reply of `decide` to the bytes of a text. If the text asks a question, the status is 0 or 1: 0 exactly
+/// when both sides denote one relation in every finite table that satisfies the hypotheses, with the text of an
+/// accepted certificate; 1 exactly when they do not, with the text of a shortest string that refutes the question.
+/// Otherwise it is 2, with the line that gives the reason. If the text is a concrete file and the status is 0, its goal
+/// holds for all its stores: both programs end in the same stores from each store, or the triple holds for every run
+/// that ends. Status 1 says that the question over tests and actions fails, and nothing about stores. Fails only when
+/// out of memory.
+pub fn decide_bytes(alloc: Global, text: &[u8]) -> Result<Reply, NoMemory>
+    // For the plainest text of a question, whose meaning needs no grammar.
+    ensures plain { (q : ProblemParts) → IsPrintable q → text.now ≡ question_text q
+        → IfOk result (λ r. Headline q r.status r.output.items) }
+    // For the plainest texts of two programs, and of a triple of one program, over `v` variables of the width `w`.
+    ensures programs { (w : Width) (v : ℕ) (p q : ProgTree) → ArePrintable w v p q → text.now ≡ programs_text w v p q
+        → IfOk result (λ r. StoreHeadline (programs_abstraction w v p q) (AlwaysEndAlike w v p q) r.status r.output.items) }
+    ensures triples { (w : Width) (v : ℕ) (b : CondTree) (p : ProgTree) (c : CondTree) → IsTriplePrintable w v b p c → text.now ≡ triple_text w v b p c
+        → IfOk result (λ r. StoreHeadline (triple_abstraction w v b p c) (AlwaysMeets w v b p c) r.status r.output.items) }
+    // For every text.
+    ensures headline { (q : ProblemParts) → Asks text.now q
+        → IfOk result (λ r. Headline q r.status r.output.items) }
+    ensures stores { (f : FileParts) → Reads text.now f → IsConcrete f → IfOk result (λ r. r.status ≡ 0 → Agrees f) }
+    ensures reply { IfOk result (λ r. DecideReply text.now r.status r.output.items) }
 {
-    let problem = problem_in(alloc, text)?;
-    Ok(decide_reply(alloc, &problem)?)
+    let reply = reply_to_text(alloc, &DecideCommand, text)?;
+    Ok(reply)
 }

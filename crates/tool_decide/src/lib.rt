@@ -4,11 +4,9 @@
 mod batch;
 mod bench;
 mod decide;
-mod files;
 mod report;
-mod text;
 
+pub use batch::{BatchCommand, batch_bytes};
 pub use bench::bench_reply;
-pub use decide::{count, decide_reply};
-pub use files::{batch_file, decide_file, decide_json_file};
-pub use text::{batch_bytes, decide_bytes, decide_json_bytes};
+pub use decide::{DecideCommand, count, decide_bytes, decide_reply};
+pub use report::{DecideJsonCommand, decide_json_bytes};

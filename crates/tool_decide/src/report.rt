@@ -1,14 +1,18 @@
 //! `decide` with `--json`: replies to a text with a report of the decision of the problem that it poses.
-ghost use Rattle.std.specs.Prelude.{IfOk};
-ghost use Rattle.tool_decide.specs.DecideJson.{IsReported, ReportsText};
-ghost use Rattle.tool_inputs.specs.ReplySpecs.{RepliesWith};
+ghost use Rattle.std.specs.Prelude.{◌≡◌, IfOk};
+ghost use Rattle.kat_model.specs.Problems.{ProblemParts};
+ghost use Rattle.problem_file.specs.Files.{FileParts};
+ghost use Rattle.problem_file.specs.Reads.{Reads};
+ghost use Rattle.problem_file.specs.Concrete.{IsConcrete, Agrees};
+ghost use Rattle.tool_inputs.specs.FileProblem.{Asks};
+ghost use Rattle.tool_decide.specs.DecideJson.{IsReported, ReportHeadline, DecideJsonReply};
 
 use crate::decide::{evidence_status, know_numbers};
 use bisim_worklist::decide;
 use kat_model::{NoMemory, Problem};
 use kat_report::json_report;
 use std::alloc::Global;
-use tool_inputs::{EarlyEnd, Reply, problem_in};
+use tool_inputs::{EarlyEnd, Reply, TextCommand, problem_in, reply_to_text};
 
 // Returns the reply to a problem.
 fn report_reply(alloc: Global, problem: &Problem) -> Result<Reply, NoMemory>
@@ -22,10 +26,31 @@ fn report_reply(alloc: Global, problem: &Problem) -> Result<Reply, NoMemory>
     })
 }
 
-/// Returns the reply to a text.
-pub(crate) fn text_reply(alloc: Global, text: &[u8]) -> Result<Reply, EarlyEnd>
-    ensures { RepliesWith (ReportsText text.now) result }
+/// `decide` FILE `--json`
+#[derive(Clone, Copy)]
+pub struct DecideJsonCommand;
+
+impl TextCommand for DecideJsonCommand {
+    ghost use Rattle.tool_decide.specs.Working.ReportReplies.{decide_json_long};
+
+    ghost replies = { λ _. DecideJsonReply };
+
+    fn text_reply(&self, alloc: Global, text: &[u8]) -> Result<Reply, EarlyEnd> {
+        let problem = problem_in(alloc, text)?;
+        Ok(report_reply(alloc, &problem)?)
+    }
+
+    ghost refuses_long = { λ _. decide_json_long };
+}
+
+/// Returns the reply of `decide` with `--json` to the bytes of a text: that of `decide_bytes`, with one line of JSON
+/// that contains the text of the evidence instead of this text. Fails only when out of memory.
+pub fn decide_json_bytes(alloc: Global, text: &[u8]) -> Result<Reply, NoMemory>
+    ensures headline { (q : ProblemParts) → Asks text.now q
+        → IfOk result (λ r. ReportHeadline q r.status r.output.items) }
+    ensures stores { (f : FileParts) → Reads text.now f → IsConcrete f → IfOk result (λ r. r.status ≡ 0 → Agrees f) }
+    ensures reply { IfOk result (λ r. DecideJsonReply text.now r.status r.output.items) }
 {
-    let problem = problem_in(alloc, text)?;
-    Ok(report_reply(alloc, &problem)?)
+    let reply = reply_to_text(alloc, &DecideJsonCommand, text)?;
+    Ok(reply)
 }

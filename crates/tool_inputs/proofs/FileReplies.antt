@@ -1,24 +1,20 @@
 -- A statement about the reply to bytes holds for the reply to files with these bytes.
-use Rattle.std.proofs.Common.{◌≡◌, ◌⊎◌, ◌<◌, ℕ, List, [], ◌∷◌, length, Option, Some, Result, inl, inr, refl, sym, subst, codes}
+use Rattle.std.proofs.Common.{◌≡◌, ◌⊎◌, ◌<◌, ℕ, List, [], ◌∷◌, length, Option, Some, Result, inl, inr, refl, sym, subst}
 use Rattle.kat_model.specs.declared.limits.TheConstants.{MAX_TEXT_BYTES}
 use Rattle.kat_model.specs.Members.{Has}
 use Rattle.kat_io.specs.KnownContent.{KnownContent, Unknown, Known}
 use Rattle.kat_io.specs.Gets.{IsPast}
 use Rattle.kat_io.specs.Outside.{FaultCounted}
-use Rattle.kat_model.specs.Problems.{ProblemParts}
 use Rattle.tool_inputs.specs.declared.reply.Reply.{Reply}
 use Rattle.tool_inputs.specs.declared.reply.EarlyEnd.{EarlyEnd}
 use Rattle.tool_inputs.specs.Contents.{MayContain}
-use Rattle.tool_inputs.specs.FileProblem.{Asks, HasProblem}
-use Rattle.kat_report.specs.InputLines.{too_long_line}
-use Rattle.tool_inputs.specs.TextProblem.{HasNoProblem}
-use Rattle.tool_inputs.specs.Steps.{ShelfUse, ReplySpec, IsRefusal, FailsOn, HasFailedOn, AsksText, shelf_use}
+use Rattle.kat_report.specs.InputLines.{too_long_line, words_line}
+use Rattle.tool_inputs.specs.Steps.{ShelfUse, ReplySpec, IsRefusal, FailsOn, HasFailedOn, AsksFor, shelf_use}
 use Rattle.tool_inputs.specs.FileReplies.{OfFile, WithSecond, OfTwoFiles, IsTooLong}
 use Rattle.tool_inputs.specs.ReplySpecs.{RepliesWith}
 use Rattle.tool_inputs.proofs.Contents.{held_same, told_bytes}
 use Rattle.tool_inputs.proofs.ReplySpecs.{RepliesWith-weaker}
-use Rattle.tool_inputs.proofs.Steps.{OneStatus, problem_or_none, long_problem}
-use Rattle.tool_inputs.proofs.TextReplies.{text_refused, text_posed}
+use Rattle.tool_inputs.proofs.Steps.{OneStatus}
 
 -- ---- files whose content is known
 
@@ -96,30 +92,34 @@ module _ (s : ShelfUse) (file other : List ℕ) (Accepts : List ℕ → Type 0) 
           result
           r
 
--- the reply to a text that has no question, and any bytes
-module _ (text : List ℕ) (GoesOn : List ℕ → ProblemParts → ReplySpec) (Both : List ℕ → List ℕ → ReplySpec) (is_reply : (bytes : List ℕ) (status : ℕ) (output : List ℕ) → AsksText text (GoesOn bytes) status output → Both text bytes status output) where
-  pub unposed : (status : ℕ) (output : List ℕ) → IsRefusal (HasNoProblem text) status output → (HasProblem text → ⊥) × ((bytes : List ℕ) → Both text bytes status output)
-  unposed status output r = ((λ h. problem_or_none text h.0 output h.1 r.1), (λ bytes. is_reply bytes status output (text_refused text (GoesOn bytes) status output r)))
+-- the reply to a text and any bytes, by what the text poses
+module _ {X : Type 0} (Declines : List ℕ → Type 0) (Poses : X → Type 0) (GoesOn : List ℕ → X → ReplySpec) (Both : List ℕ → ReplySpec) (is_reply : (bytes : List ℕ) (status : ℕ) (output : List ℕ) → AsksFor Declines Poses (GoesOn bytes) status output → Both bytes status output) where
+  -- a text that poses no question
+  pub unposed : (Accepts : Type 0) → ((line : List ℕ) → Declines line → Accepts → ⊥) → (status : ℕ) (output : List ℕ) → IsRefusal Declines status output → (Accepts → ⊥) × ((bytes : List ℕ) → Both bytes status output)
+  unposed Accepts excludes status output r = (excludes output r.1, (λ bytes. is_reply bytes status output (inl r)))
 
-  pub long_unposed : MAX_TEXT_BYTES < length text → (HasProblem text → ⊥) × ((bytes : List ℕ) → Both text bytes 2 too_long_line)
-  long_unposed past = unposed 2 too_long_line (refl, long_problem text past)
+  -- a text that poses a question
+  pub posed : (q : X) → Poses q → (bytes : List ℕ) (status : ℕ) (output : List ℕ) → GoesOn bytes q status output → Both bytes status output
+  posed q poses bytes status output r = is_reply bytes status output (inr (q, poses, r))
 
-  -- the reply to a text that has a question
-  pub posed : (q : ProblemParts) → Asks text q → (bytes : List ℕ) (status : ℕ) (output : List ℕ) → GoesOn bytes q status output → Both text bytes status output
-  posed q asks bytes status output r = is_reply bytes status output (text_posed text (GoesOn bytes) status output q asks r)
+  -- more bytes than the limit of a second file are refused
+  pub second_long : (q : X) → Poses q → (most limit : Option ℕ) → limit ≡ most → (line printed : List ℕ) → printed ≡ line
+      → ((bytes : List ℕ) → IsPast (length bytes) most → GoesOn bytes q 2 line) → (bytes : List ℕ) → IsPast (length bytes) limit → Both bytes 2 printed
+  second_long q poses most limit is line printed same long bytes past =
+      subst (Both bytes 2) (sym same) (posed q poses bytes 2 line (long bytes (subst (IsPast (length bytes)) is past)))
 
 -- ---- what the program needs of every reply
 
 -- the status of a reply to bytes is below 4, or words do not fit; and there is one
 pub record HasOneReply (R : ReplySpec) (Unfit : Type 0) : Type 0 where
-  pub small : (status : ℕ) (output : List ℕ) → R status output → (status < 4) ⊎ ((status ≡ 7) × (Unfit × (output ≡ codes "refused: words\n")))
+  pub small : (status : ℕ) (output : List ℕ) → R status output → (status < 4) ⊎ ((status ≡ 7) × (Unfit × (output ≡ words_line)))
   pub once : OneStatus R
 
 -- the status of a reply to files is below 4, the shelf failed on one of them, or words do not fit; and there is one if the shelf
 -- did not fail and the content of each file is known
 pub record HasOneFileReply (s : ShelfUse) (files : List (List ℕ)) (R : ReplySpec) (Unfit : Type 0) : Type 0 where
   pub small : (status : ℕ) (output : List ℕ) → R status output
-      → (status < 4) ⊎ (((file : List ℕ) × Has files file × HasFailedOn s file status output) ⊎ ((status ≡ 7) × (Unfit × (output ≡ codes "refused: words\n"))))
+      → (status < 4) ⊎ (((file : List ℕ) × Has files file × HasFailedOn s file status output) ⊎ ((status ≡ 7) × (Unfit × (output ≡ words_line))))
   pub once : (FaultCounted s.before s.now → ⊥) → ((file : List ℕ) → s.content file ≡ Unknown → ⊥) → OneStatus R
 
 of_file_once : (s : ShelfUse) (file : List ℕ) (R : List ℕ → ReplySpec) → (FaultCounted s.before s.now → ⊥) → (s.content file ≡ Unknown → ⊥) → ((bytes : List ℕ) → OneStatus (R bytes)) → OneStatus (OfFile s file R)
@@ -132,9 +132,9 @@ of_file s file R Unfit one = record { small = small; once = λ unfailed told. of
   where
     Small : ℕ → List ℕ → Type 0
     Small status output =
-        (status < 4) ⊎ (((f : List ℕ) × Has (file ∷ []) f × HasFailedOn s f status output) ⊎ ((status ≡ 7) × (((bytes : List ℕ) × MayContain (s.content file) bytes × Unfit bytes) × (output ≡ codes "refused: words\n"))))
+        (status < 4) ⊎ (((f : List ℕ) × Has (file ∷ []) f × HasFailedOn s f status output) ⊎ ((status ≡ 7) × (((bytes : List ℕ) × MayContain (s.content file) bytes × Unfit bytes) × (output ≡ words_line))))
 
-    of_bytes : (status : ℕ) (output bytes : List ℕ) → MayContain (s.content file) bytes → (status < 4) ⊎ ((status ≡ 7) × (Unfit bytes × (output ≡ codes "refused: words\n"))) → Small status output
+    of_bytes : (status : ℕ) (output bytes : List ℕ) → MayContain (s.content file) bytes → (status < 4) ⊎ ((status ≡ 7) × (Unfit bytes × (output ≡ words_line))) → Small status output
     of_bytes status output bytes may (inl lt) = inl lt
     of_bytes status output bytes may (inr h) = inr (inr (h.0, ((bytes, may, h.1.0), h.1.1)))
 
@@ -145,9 +145,9 @@ of_file s file R Unfit one = record { small = small; once = λ unfailed told. of
 module _ (s : ShelfUse) (file other : List ℕ) (Accepts : List ℕ → Type 0) (Both : List ℕ → List ℕ → ReplySpec) (one : (text bytes : List ℕ) → HasOneReply (Both text bytes) ⊥) where
   abbrev Small : ℕ → List ℕ → Type 0
   Small status output =
-      (status < 4) ⊎ (((f : List ℕ) × Has (file ∷ other ∷ []) f × HasFailedOn s f status output) ⊎ ((status ≡ 7) × (⊥ × (output ≡ codes "refused: words\n"))))
+      (status < 4) ⊎ (((f : List ℕ) × Has (file ∷ other ∷ []) f × HasFailedOn s f status output) ⊎ ((status ≡ 7) × (⊥ × (output ≡ words_line))))
 
-  of_bytes : (status : ℕ) (output : List ℕ) → (status < 4) ⊎ ((status ≡ 7) × (⊥ × (output ≡ codes "refused: words\n"))) → Small status output
+  of_bytes : (status : ℕ) (output : List ℕ) → (status < 4) ⊎ ((status ≡ 7) × (⊥ × (output ≡ words_line))) → Small status output
   of_bytes status output (inl lt) = inl lt
   of_bytes status output (inr h) = absurd h.1.0
 

@@ -21,6 +21,7 @@ use Rattle.kat_report.specs.InputLines.{too_long_line}
 use Rattle.tool_inputs.specs.TextProblem.{IsFaultOf, IsFaulty, HasNoAbstraction, HasNoProblem}
 use Rattle.tool_inputs.specs.EvidenceBytes.{Spells}
 use Rattle.tool_inputs.specs.Steps.{ReplySpec, ReadsAs, ReadsText, AbstractsFile, AsksQuestion, AsksText, ReadsEvidence}
+use Rattle.tool_inputs.specs.Working.Questions.{not_both}
 
 -- any two such replies have the same status
 abbrev pub OneStatus : ReplySpec → Type 0
@@ -66,9 +67,6 @@ module _ {X Y : Type 0} (r : Result X Y) where
 
   one_error : (x y : Y) → r ≡ Err x → r ≡ Err y → x ≡ y
   one_error x y e h = let both : Err x ≡ Err y = sym e ∙ h in cc
-
-  pub not_both : (x : X) (y : Y) → r ≡ Ok x → r ≡ Err y → ⊥
-  not_both x y e h = let both : Ok x ≡ Err y = sym e ∙ h in absurd cc
 
 module _ (f : FileParts) where
   pub one_line : (a b : List ℕ) → HasNoAbstraction f a → HasNoAbstraction f b → a ≡ b
@@ -120,12 +118,6 @@ pub text_small : (text : List ℕ) (GoesOn : ProblemParts → ReplySpec) → ((q
 text_small text GoesOn small =
     reads_small (Reads text) (FirstFault text) (λ f. AsksQuestion f GoesOn) (λ f status output reads r. abstracts_small f (λ a. GoesOn a.problem) (λ a. small a.problem) status output r)
 
--- no text both has a question and has a reason why it has none
-pub problem_or_none : (text : List ℕ) (q : ProblemParts) (line : List ℕ) → Asks text q → HasNoProblem text line → ⊥
-problem_or_none text q line asks (inl faulty) = have_one_answer.either text asks.file faulty.fault asks.reads faulty.first
-problem_or_none text q line asks (inr (f, reads, none)) =
-    not_both (abstract_of f) asks.abstract none.fault (subst (λ g. abstract_of g ≡ Ok asks.abstract) (have_one_answer.values text asks.file f asks.reads reads) asks.is_abstract) none.has_none
-
 -- a text that is too long is refused with its line
 abbrev pub IsLongFault : (List ℕ → TextFault → Type 0) → Type 0
 IsLongFault Fails = (text : List ℕ) → MAX_TEXT_BYTES < length text → Fails text TooLong
@@ -135,9 +127,6 @@ reads_long Says Fails long text GoesOn past = inl (refl, record { fault = TooLon
 
 pub text_long : (text : List ℕ) (GoesOn : FileParts → ReplySpec) → MAX_TEXT_BYTES < length text → ReadsText text GoesOn 2 too_long_line
 text_long text GoesOn past = reads_long Reads FirstFault (λ t longer. no_text (too_long refl longer)) text GoesOn past
-
-pub long_problem : (text : List ℕ) → MAX_TEXT_BYTES < length text → HasNoProblem text too_long_line
-long_problem text past = inl (record { fault = TooLong; first = no_text (too_long refl past); printed = refl })
 
 -- ---- evidence is read
 

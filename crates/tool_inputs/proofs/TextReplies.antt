@@ -3,13 +3,12 @@ use Rattle.std.proofs.Common.{ℕ, List, Result, Ok, Err, inl, inr, subst}
 use Rattle.kat_model.specs.Problems.{ProblemParts}
 use Rattle.problem_file.specs.Files.{FileParts}
 use Rattle.problem_file.specs.Reads.{Reads}
-use Rattle.tool_inputs.specs.declared.reply.Reply.{Reply}
 use Rattle.tool_inputs.specs.declared.reply.EarlyEnd.{EarlyEnd}
 use Rattle.tool_inputs.specs.FileProblem.{Asks}
 use Rattle.tool_inputs.specs.TextProblem.{HasNoAbstraction, HasNoProblem}
-use Rattle.tool_inputs.specs.Steps.{ReplySpec, IsRefusal, AsksText}
-use Rattle.tool_inputs.specs.ReplySpecs.{Yields, RepliesWith, IsQuestionOf, IsPosedBy}
-use Rattle.tool_inputs.proofs.ReplySpecs.{EndsWith-weaker, RepliesWith-weaker}
+use Rattle.tool_inputs.specs.Steps.{ReplySpec, IsRefusal, AsksText, AsksFor}
+use Rattle.tool_inputs.specs.ReplySpecs.{Yields, IsQuestionOf, IsPosedBy}
+use Rattle.tool_inputs.proofs.ReplySpecs.{EndsWith-weaker}
 
 -- the question of the file of a text is the problem that the text poses
 pub file_poses : (text : List ℕ) (f : FileParts) → Reads text f → (result : Result ProblemParts EarlyEnd) → Yields (IsQuestionOf f) (IsRefusal (HasNoAbstraction f)) result → IsPosedBy text result
@@ -25,8 +24,6 @@ module _ (text : List ℕ) (GoesOn : ProblemParts → ReplySpec) where
   pub text_posed : (status : ℕ) (output : List ℕ) (q : ProblemParts) → Asks text q → GoesOn q status output → AsksText text GoesOn status output
   text_posed status output q asks r = inr (asks.file, asks.reads, inr (asks.abstract, asks.is_abstract, subst (λ p. GoesOn p status output) asks.question r))
 
-  pub refused_replied : (result : Result Reply EarlyEnd) → RepliesWith (IsRefusal (HasNoProblem text)) result → RepliesWith (AsksText text GoesOn) result
-  refused_replied result r = RepliesWith-weaker (IsRefusal (HasNoProblem text)) (AsksText text GoesOn) text_refused result r
-
-  pub posed_replied : (q : ProblemParts) → Asks text q → (result : Result Reply EarlyEnd) → RepliesWith (GoesOn q) result → RepliesWith (AsksText text GoesOn) result
-  posed_replied q asks result r = RepliesWith-weaker (GoesOn q) (AsksText text GoesOn) (λ status output h. text_posed status output q asks h) result r
+  pub asked_text : (status : ℕ) (output : List ℕ) → AsksFor (HasNoProblem text) (Asks text) GoesOn status output → AsksText text GoesOn status output
+  asked_text status output (inl r) = text_refused status output r
+  asked_text status output (inr (q, asks, g)) = text_posed status output q asks g

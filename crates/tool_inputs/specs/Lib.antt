@@ -6,3 +6,4 @@ pub mod Steps
 pub mod FileReplies
 pub mod StoreAnswers
 pub mod ReplySpecs
+pub mod Working

@@ -4,7 +4,7 @@ use Rattle.kat_model.specs.Problems.{ProblemParts}
 use Rattle.kat_io.specs.KnownContent.{KnownContent}
 use Rattle.kat_io.specs.Outside.{FaultCounted}
 use Rattle.certificate.specs.declared.evidence.Evidence.{Evidence}
-use Rattle.kat_report.specs.InputLines.{unread_line}
+use Rattle.kat_report.specs.InputLines.{unread_line, words_line}
 use Rattle.problem_file.specs.Files.{FileParts}
 use Rattle.text_tokens.specs.declared.fault.TextFault.{TextFault}
 use Rattle.problem_file.specs.Reads.{Reads, FirstFault}
@@ -30,6 +30,12 @@ ReplySpec = ℕ → List ℕ → Type 0
 -- a refusal whose line satisfies `IsLine`
 abbrev pub IsRefusal : (List ℕ → Type 0) → ReplySpec
 IsRefusal IsLine status output = (status ≡ 2) × IsLine output
+
+-- words that do not fit the file, for this reason, are refused
+pub record HasUnfitWords (Reason : Type 0) (status : ℕ) (output : List ℕ) : Type 0 where
+  pub unfit : Reason
+  pub has_status : status ≡ 7
+  pub printed : output ≡ words_line
 
 -- the shelf failed in this call, on this file
 abbrev pub FailsOn : ShelfUse → List ℕ → Type 0
@@ -60,6 +66,11 @@ AsksQuestion f GoesOn = AbstractsFile f (λ a. GoesOn a.problem)
 -- a text is read, and the command continues with its question
 abbrev pub AsksText : List ℕ → (ProblemParts → ReplySpec) → ReplySpec
 AsksText text GoesOn = ReadsText text (λ f. AsksQuestion f GoesOn)
+
+-- a text is asked for its question: it poses none, and the printed line gives the reason, or the command continues with
+-- the question
+abbrev pub AsksFor : {X : Type 0} → (List ℕ → Type 0) → (X → Type 0) → (X → ReplySpec) → ReplySpec
+AsksFor {X} Declines Poses GoesOn status output = IsRefusal Declines status output ⊎ ((q : X) × Poses q × GoesOn q status output)
 
 -- evidence is read: the bytes are not the text of evidence, or the command continues with the evidence
 abbrev pub ReadsEvidence : List ℕ → (Evidence → ReplySpec) → ReplySpec

@@ -18,6 +18,10 @@ pub record IsFaultOf (Fails : TextFault → Type 0) (output : List ℕ) : Type 0
 abbrev pub IsFaulty : List ℕ → List ℕ → Type 0
 IsFaulty text output = IsFaultOf (FirstFault text) output
 
+-- some text is read as the file
+abbrev pub IsRead : FileParts → Type 0
+IsRead f = (text : List ℕ) × Reads text f
+
 -- the file has no abstraction and therefore no question; the printed line gives the reason
 pub record HasNoAbstraction (f : FileParts) (output : List ℕ) : Type 0 where
   pub fault : AbstractFault

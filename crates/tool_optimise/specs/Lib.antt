@@ -1,2 +1,3 @@
 pub mod LogTexts
 pub mod Optimise
+pub mod Working

@@ -1,5 +1,5 @@
 -- `optimise`: its reply to a text and a name, and what it says about the program.
-use Rattle.std.specs.Prelude.{◌≡◌, ◌≤◌, ◌⊎◌, ◌↔◌, ℕ, List, length, Option, None, Some, codes}
+use Rattle.std.specs.Prelude.{◌≡◌, ◌≤◌, ◌⊎◌, ◌↔◌, ℕ, List, length, Option, None, Some}
 use Rattle.std.specs.Option.{option_map}
 use Rattle.while_lang.specs.Programs.{ProgTree}
 use Rattle.problem_file.specs.Files.{FileParts, prog_named}
@@ -9,9 +9,9 @@ use Rattle.optimiser_theory.specs.Meanings.{KeepsInTables, KeepsFromStores}
 use Rattle.optimiser_steps.specs.declared.optimising.Ended.{Ended}
 use Rattle.optimiser_steps.specs.declared.optimising.Ended.TheVariants.{Done, TurnLimit}
 use Rattle.tool_inputs.specs.TextProblem.{IsFaulty}
-use Rattle.tool_commands.specs.ProgramWords.{HasUnfitWords}
 use Rattle.tool_optimise.specs.LogTexts.{optimised_text}
-use Rattle.tool_inputs.specs.Steps.{ReplySpec, ReadsText}
+use Rattle.tool_inputs.specs.Steps.{ReplySpec, ReadsText, HasUnfitWords}
+use Rattle.kat_report.specs.InputLines.{words_line}
 
 -- the program of the file with this name
 abbrev pub any_program_of : FileParts → List ℕ → Option ProgTree
@@ -56,7 +56,7 @@ pub record OptimiseHeadline (f : FileParts) (name : List ℕ) (turns status : �
   pub optimised : (status ≡ 0) ↔ ((p : ProgTree) × (any_program_of f name ≡ Some p))
   pub optimised_text : (p : ProgTree) → any_program_of f name ≡ Some p → PrintsOptimised f name turns p output
   pub unfit : (status ≡ 7) ↔ (any_program_of f name ≡ None)
-  pub unfit_line : status ≡ 7 → output ≡ codes "refused: words\n"
+  pub unfit_line : status ≡ 7 → output ≡ words_line
 
 -- the text is read as a file in which no program has the name
 abbrev pub LacksAnyProgram : List ℕ → List ℕ → Type 0

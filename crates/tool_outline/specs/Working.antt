@@ -1,1 +1,4 @@
 pub mod FileTriples
+pub mod TextTriples
+pub mod OutlineReplies
+pub mod NotesReplies

@@ -18,11 +18,11 @@ use kat_model::{NoMemory, Problem};
 use kat_report::{not_a_triple_line, not_simple_line};
 use problem_file::{File, Goal, Side};
 use std::alloc::Global;
-use tool_inputs::{EarlyEnd, Reply, abstract_in, file_of, refusal};
+use tool_inputs::{EarlyEnd, Reply, TextQuestion, abstract_in, file_of, refusal};
 
 /// A problem that asks the triple of a program, and that triple.
 #[derive(Drop)]
-pub(crate) struct Triple {
+pub struct Triple {
     pub problem: Problem,
     pub task: Task,
 }
@@ -119,4 +119,25 @@ pub(crate) fn triple_in(alloc: Global, text: &[u8]) -> Result<Triple, EarlyEnd>
 {
     let file = file_of(alloc, text)?;
     file_triple(alloc, &file)
+}
+
+impl TextQuestion for Triple {
+    ghost use Rattle.tool_outline.specs.Triples.{PosesSomeTask};
+    ghost use Rattle.tool_outline.specs.Working.TextTriples.{IsPosed, some_task, task_or_no_task, long_task};
+
+    ghost poses = { IsPosed };
+
+    ghost accepts = { PosesSomeTask };
+
+    ghost declines = { PosesNoTask };
+
+    fn of_text(alloc: Global, text: &[u8]) -> Result<Triple, EarlyEnd> {
+        triple_in(alloc, text)
+    }
+
+    ghost is_accepted = { some_task };
+
+    ghost is_declined = { task_or_no_task };
+
+    ghost declines_long = { long_task };
 }

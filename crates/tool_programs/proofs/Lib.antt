@@ -1,9 +1,1 @@
-pub mod GkatReplies
-pub mod NamedPrograms
 pub mod RunOutcomes
-pub mod RunReplies
-pub mod FileVariables
-pub mod Counters
-pub mod FormNames
-pub mod OneLoopReplies
-pub mod ShowReplies

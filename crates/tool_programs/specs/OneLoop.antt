@@ -21,8 +21,9 @@ use Rattle.problem_texts.specs.ProgramNumbers.{ProgIsNarrow}
 use Rattle.problem_texts.specs.ProgramTexts.{one_program_text}
 use Rattle.problem_texts.specs.Laws.{SaysProgram}
 use Rattle.tool_inputs.specs.TextProblem.{IsFaulty}
-use Rattle.tool_commands.specs.ProgramWords.{program_of, HasUnfitWords}
-use Rattle.tool_inputs.specs.Steps.{ReplySpec, IsRefusal, ReadsText}
+use Rattle.tool_commands.specs.ProgramWords.{program_of}
+use Rattle.tool_inputs.specs.Steps.{ReplySpec, IsRefusal, ReadsText, HasUnfitWords}
+use Rattle.kat_report.specs.InputLines.{words_line}
 
 -- ---- the counter
 
@@ -114,7 +115,7 @@ pub record OneLoopHeadline (f : FileParts) (name : List ℕ) (status : ℕ) (out
   pub refused : (status ≡ 2) ↔ ((p : ProgTree) × (line : List ℕ) × (program_of f name ≡ Some p) × HasNoForm f p line)
   pub refused_line : (p : ProgTree) (line : List ℕ) → program_of f name ≡ Some p → HasNoForm f p line → output ≡ line
   pub unfit : (status ≡ 7) ↔ (program_of f name ≡ None)
-  pub unfit_line : status ≡ 7 → output ≡ codes "refused: words\n"
+  pub unfit_line : status ≡ 7 → output ≡ words_line
 
 -- the text is read as a file in which no concrete program has the name
 abbrev pub LacksProgram : List ℕ → List ℕ → Type 0

@@ -8,10 +8,11 @@ use Rattle.while_lang.specs.declared.outcome.Outcome.TheVariants.{Done, Stuck, M
 use Rattle.problem_file.specs.Files.{FileParts}
 use Rattle.problem_file.specs.Reads.{Reads}
 use Rattle.tool_inputs.specs.TextProblem.{IsFaulty}
-use Rattle.tool_commands.specs.ProgramWords.{program_of, HasUnfitWords}
+use Rattle.tool_commands.specs.ProgramWords.{program_of}
 use Rattle.tool_commands.specs.StoreWords.{store_of}
 use Rattle.kat_report.specs.RunTexts.{outcome_line}
-use Rattle.tool_inputs.specs.Steps.{ReplySpec, ReadsText}
+use Rattle.tool_inputs.specs.Steps.{ReplySpec, ReadsText, HasUnfitWords}
+use Rattle.kat_report.specs.InputLines.{words_line}
 
 -- the status of an outcome
 abbrev pub outcome_status : Outcome → ℕ
@@ -70,7 +71,7 @@ pub record RunHeadline (f : FileParts) (prog store : List ℕ) (turns status : �
   pub more : ((status ≡ 1) × (output ≡ codes "more\n")) ↔ ((t : Store) × RunsTo f prog store turns More t)
   pub undone : status ≡ 1 → (output ≡ codes "stuck\n") ⊎ (output ≡ codes "more\n")
   pub unfit : (status ≡ 7) ↔ IsUnfit f prog store
-  pub unfit_line : status ≡ 7 → output ≡ codes "refused: words\n"
+  pub unfit_line : status ≡ 7 → output ≡ words_line
 
 -- the text is read as a file that the words do not fit
 abbrev pub DoesNotFit : List ℕ → List ℕ → List ℕ → Type 0

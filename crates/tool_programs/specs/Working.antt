@@ -1,1 +1,9 @@
 pub mod Kinds
+pub mod FileVariables
+pub mod Counters
+pub mod FormNames
+pub mod OneLoopReplies
+pub mod NamedPrograms
+pub mod RunReplies
+pub mod GkatReplies
+pub mod ShowReplies

@@ -6,11 +6,11 @@ ghost use Rattle.text_print.specs.Printing.{name_of};
 ghost use Rattle.problem_texts.specs.Questions.{declaration_text};
 ghost use Rattle.gkat_front.specs.FileViews.{file_parts};
 ghost use Rattle.gkat_front.specs.Reads.{Reads, FirstFault};
-ghost use Rattle.tool_programs.specs.Gkat.{names_line, gkat_text, TranslatesText};
+ghost use Rattle.tool_programs.specs.Gkat.{names_line, gkat_text, GkatHeadline, GkatReply};
 ghost use Rattle.tool_inputs.specs.TextProblem.{IsFaultOf};
 ghost use Rattle.tool_inputs.specs.Steps.{IsRefusal};
 ghost use Rattle.tool_programs.specs.Working.Kinds.{kind_word, kind_meaning};
-ghost use Rattle.tool_inputs.specs.ReplySpecs.{Yields, RepliesWith};
+ghost use Rattle.tool_inputs.specs.ReplySpecs.{Yields};
 
 use gkat_front::{GkatFile, kat_of, read_gkat};
 use kat_model::NoMemory;
@@ -18,7 +18,7 @@ use problem_texts::put_goal;
 use std::alloc::Global;
 use text_print::put_name;
 use text_scopes::{Meaning, Scope};
-use tool_inputs::{EarlyEnd, Reply, text_fault_stop};
+use tool_inputs::{EarlyEnd, Reply, TextCommand, reply_to_text, text_fault_stop};
 
 // The kinds of names that a text of GKAT declares.
 #[derive(Clone, Copy)]
@@ -94,13 +94,33 @@ fn file_of(alloc: Global, text: &[u8]) -> Result<GkatFile, EarlyEnd>
     }
 }
 
-/// Returns the reply to a text.
-pub(crate) fn text_reply(alloc: Global, text: &[u8]) -> Result<Reply, EarlyEnd>
-    ensures { RepliesWith (TranslatesText text.now) result }
+/// `gkat` FILE
+#[derive(Clone, Copy)]
+pub struct GkatCommand;
+
+impl TextCommand for GkatCommand {
+    ghost use Rattle.tool_programs.specs.Working.GkatReplies.{gkat_long};
+
+    ghost replies = { λ _. GkatReply };
+
+    fn text_reply(&self, alloc: Global, text: &[u8]) -> Result<Reply, EarlyEnd> {
+        let file = file_of(alloc, text)?;
+        Ok(Reply {
+            status: 0,
+            output: translation(alloc, &file)?,
+        })
+    }
+
+    ghost refuses_long = { λ _. gkat_long };
+}
+
+/// Returns the reply of `gkat` to the bytes of a text of GKAT. The status is 0 exactly when the text is read; then the
+/// output is the text of a problem file that asks the same question over the terms of the expressions. Otherwise it is
+/// 2, with the line of the first fault. Fails only when out of memory.
+pub fn gkat_bytes(alloc: Global, text: &[u8]) -> Result<Reply, NoMemory>
+    ensures headline { IfOk result (λ r. GkatHeadline text.now r.status r.output.items) }
+    ensures reply { IfOk result (λ r. GkatReply text.now r.status r.output.items) }
 {
-    let file = file_of(alloc, text)?;
-    Ok(Reply {
-        status: 0,
-        output: translation(alloc, &file)?,
-    })
+    let reply = reply_to_text(alloc, &GkatCommand, text)?;
+    Ok(reply)
 }

@@ -3,12 +3,12 @@
 #![tactic(auto)]
 
 mod counter;
-mod files;
 mod gkat;
 mod oneloop;
 mod running;
 mod show;
-mod text;
 
-pub use files::{gkat_file, one_loop_file, run_file, show_file};
-pub use text::{gkat_bytes, one_loop_bytes, run_bytes, show_bytes};
+pub use gkat::{GkatCommand, gkat_bytes};
+pub use oneloop::{OneLoopCommand, one_loop_bytes};
+pub use running::{RunCommand, run_bytes};
+pub use show::{ShowCommand, show_bytes};

@@ -9,10 +9,12 @@ ghost use Rattle.one_loop.specs.declared.fault.OneLoopFault.TheVariants.{NoMemor
 ghost use Rattle.one_loop.specs.Forms.{IsOneForm};
 ghost use Rattle.one_loop.specs.Variables.{HasVarsBelow};
 ghost use Rattle.problem_texts.specs.ProgramTexts.{one_program_text};
+ghost use Rattle.problem_file.specs.Files.{FileParts};
+ghost use Rattle.problem_file.specs.Reads.{Reads};
 ghost use Rattle.problem_file.specs.Ranges.{IsNumbered};
 ghost use Rattle.tool_commands.specs.ProgramWords.{program_of};
 ghost use Rattle.kat_report.specs.FormRefusals.{form_fault_line};
-ghost use Rattle.tool_programs.specs.OneLoop.{HasForm, HasNoForm, IsCounterName, FormsFile, FormsText};
+ghost use Rattle.tool_programs.specs.OneLoop.{HasForm, HasNoForm, IsCounterName, FormsFile, OneLoopHeadline, OneLoopReply};
 ghost use Rattle.tool_inputs.specs.Steps.{IsRefusal};
 ghost use Rattle.tool_inputs.specs.ReplySpecs.{EndsWith, Yields, RepliesWith};
 
@@ -25,7 +27,7 @@ use problem_texts::{declare, one_program_text};
 use std::alloc::Global;
 use text_scopes::{Meaning, Scope};
 use tool_commands::program_of;
-use tool_inputs::{EarlyEnd, Reply, file_of, unfit_stop};
+use tool_inputs::{EarlyEnd, FileCommand, Reply, reply_to_bytes, unfit_stop};
 use while_lang::Prog;
 
 // The reply to a program with this fault, which is a refusal unless memory ran out.
@@ -73,16 +75,16 @@ fn form_text(
     one_program_text(alloc, scope, width, vars + 1, name, form)
 }
 
-// Returns the reply to a file and a name.
-fn file_reply(alloc: Global, mut file: File, name: &str) -> Result<Reply, EarlyEnd>
-    requires numbered { IsNumbered file }
-    requires unnamed { IsUnnamed file.scope (Var file.vars) }
-    ensures { RepliesWith (FormsFile file name.now) result }
+// Returns the reply to a file and a name. The counter is declared in the scope of the file.
+fn program_reply(alloc: Global, file: &mut File, name: &str) -> Result<Reply, EarlyEnd>
+    requires numbered { IsNumbered file.old }
+    requires unnamed { IsUnnamed file.old.scope (Var file.old.vars) }
+    ensures { RepliesWith (FormsFile file.old name.now) result }
 {
-    let Some(prog) = program_of(&file, name) else {
+    let Some(prog) = program_of(file, name) else {
         return Err(unfit_stop(alloc));
     };
-    let form = form_of(alloc, &file, prog)?;
+    let form = form_of(alloc, file, prog)?;
     let vars = file.vars;
     let width = file.width;
     Ok(Reply {
@@ -91,10 +93,37 @@ fn file_reply(alloc: Global, mut file: File, name: &str) -> Result<Reply, EarlyE
     })
 }
 
-/// Returns the reply to a text and a name.
-pub(crate) fn text_reply(alloc: Global, text: &[u8], name: &str) -> Result<Reply, EarlyEnd>
-    ensures { RepliesWith (FormsText text.now name.now) result }
+/// `oneloop` FILE PROG
+#[derive(Clone, Copy)]
+pub struct OneLoopCommand<'a> {
+    pub prog: &'a str,
+}
+
+impl FileCommand for OneLoopCommand<'_> {
+    ghost use Rattle.tool_programs.specs.Working.OneLoopReplies.{one_loop_reply};
+
+    ghost steps = { λ c f. FormsFile f c.prog.now };
+
+    ghost replies = { λ c text. OneLoopReply text c.prog.now };
+
+    fn file_reply(&self, alloc: Global, file: &mut File) -> Result<Reply, EarlyEnd> {
+        program_reply(alloc, file, self.prog)
+    }
+
+    ghost is_reply = { λ c text. one_loop_reply text c.prog.now };
+}
+
+/// Returns the reply of `oneloop` to the bytes of a text and the name of a program. If the text is read, the status is
+/// 0 exactly when a concrete program of the text has the name, there are fewer than 64 variables, and the number of
+/// statements is at most the greatest number of the width. Then the text of a form of the program is printed, which has
+/// one loop and an additional variable, and which ends in the same stores. It is 2 exactly when there are too many
+/// variables or statements, with the line that says so, and 7 exactly when no concrete program of the text has the
+/// name. If the text is not read, it is 2, with the line that gives the reason. Fails only when out of memory.
+pub fn one_loop_bytes(alloc: Global, text: &[u8], prog: &str) -> Result<Reply, NoMemory>
+    ensures headline { (f : FileParts) → Reads text.now f
+        → IfOk result (λ r. OneLoopHeadline f prog.now r.status r.output.items) }
+    ensures reply { IfOk result (λ r. OneLoopReply text.now prog.now r.status r.output.items) }
 {
-    let file = file_of(alloc, text)?;
-    file_reply(alloc, file, name)
+    let reply = reply_to_bytes(alloc, &OneLoopCommand { prog }, text)?;
+    Ok(reply)
 }

@@ -2,15 +2,16 @@
 ghost use Rattle.std.specs.Prelude.{◌≡◌, true, IfOk};
 ghost use Rattle.kat_model.specs.Stores.{IsStore};
 ghost use Rattle.while_lang.specs.Programs.{is_concrete};
-ghost use Rattle.tool_programs.specs.Running.{outcome_status, HasRun, RunsFile, RunsText};
-ghost use Rattle.tool_inputs.specs.ReplySpecs.{RepliesWith};
+ghost use Rattle.problem_file.specs.Files.{FileParts};
+ghost use Rattle.problem_file.specs.Reads.{Reads};
+ghost use Rattle.tool_programs.specs.Running.{outcome_status, HasRun, RunsFile, RunHeadline, RunReply};
 
 use kat_model::NoMemory;
 use kat_report::outcome_line;
 use problem_file::File;
 use std::alloc::Global;
 use tool_commands::{program_of, store_of};
-use tool_inputs::{EarlyEnd, Reply, file_of, unfit_stop};
+use tool_inputs::{EarlyEnd, FileCommand, Reply, reply_to_bytes, unfit_stop};
 use while_lang::{Outcome, Prog, Store, run};
 
 fn outcome_status(outcome: Outcome) -> u8
@@ -41,35 +42,50 @@ fn outcome_reply(
     })
 }
 
-// Returns the reply to a file and words.
-fn file_reply(
-    alloc: Global,
-    file: &File,
-    prog: &str,
-    store: &str,
-    turns: u64,
-) -> Result<Reply, EarlyEnd>
-    ensures { RepliesWith (RunsFile file.now prog.now store.now turns) result }
-{
-    let Some(prog) = program_of(file, prog) else {
-        return Err(unfit_stop(alloc));
-    };
-    let Some(store) = store_of(alloc, file, store)? else {
-        return Err(unfit_stop(alloc));
-    };
-    Ok(outcome_reply(alloc, file, prog, store, turns)?)
+/// `run` FILE PROG STORE TURNS
+#[derive(Clone, Copy)]
+pub struct RunCommand<'a> {
+    pub prog: &'a str,
+    pub store: &'a str,
+    pub turns: u64,
 }
 
-/// Returns the reply to a text and words.
-pub(crate) fn text_reply(
+impl FileCommand for RunCommand<'_> {
+    ghost use Rattle.tool_programs.specs.Working.RunReplies.{run_reply};
+
+    ghost steps = { λ c f. RunsFile f c.prog.now c.store.now c.turns };
+
+    ghost replies = { λ c text. RunReply text c.prog.now c.store.now c.turns };
+
+    fn file_reply(&self, alloc: Global, file: &mut File) -> Result<Reply, EarlyEnd> {
+        let Some(prog) = program_of(file, self.prog) else {
+            return Err(unfit_stop(alloc));
+        };
+        let Some(store) = store_of(alloc, file, self.store)? else {
+            return Err(unfit_stop(alloc));
+        };
+        Ok(outcome_reply(alloc, file, prog, store, self.turns)?)
+    }
+
+    ghost is_reply = { λ c text. run_reply text c.prog.now c.store.now c.turns };
+}
+
+/// Returns the reply of `run` to the bytes of a text and the words of a program, a store and a number of turns. If the
+/// text is read, the status is 0 exactly when the program ends after entering at most `turns` loop bodies, with the
+/// store in which it ends; 1 exactly when it reaches an `abort`, an `assert` that fails, or a loop body with no turn
+/// left; and 7 exactly when no concrete program of the text has the name, or the word of the store gives no store.
+/// Otherwise it is 2, with the line that gives the reason. Fails only when out of memory.
+pub fn run_bytes(
     alloc: Global,
     text: &[u8],
     prog: &str,
     store: &str,
     turns: u64,
-) -> Result<Reply, EarlyEnd>
-    ensures { RepliesWith (RunsText text.now prog.now store.now turns) result }
+) -> Result<Reply, NoMemory>
+    ensures headline { (f : FileParts) → Reads text.now f
+        → IfOk result (λ r. RunHeadline f prog.now store.now turns r.status r.output.items) }
+    ensures reply { IfOk result (λ r. RunReply text.now prog.now store.now turns r.status r.output.items) }
 {
-    let file = file_of(alloc, text)?;
-    file_reply(alloc, &file, prog, store, turns)
+    let reply = reply_to_bytes(alloc, &RunCommand { prog, store, turns }, text)?;
+    Ok(reply)
 }

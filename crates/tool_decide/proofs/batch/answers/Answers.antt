@@ -2,8 +2,8 @@ use Rattle.std.proofs.Common.{map, inl, inr, refl, sym, subst, ap, ◌∙◌, �
 use Rattle.abstraction.specs.Abstracts.{HasNumbersInRange}
 use Rattle.problem_file.specs.Trees.{goal_tree}
 use Rattle.tool_decide.specs.Batch.{AsksSome, goal_line, IsGoalAnswer, AnswersFrom}
-use Rattle.tool_decide.proofs.GoalLists.{own_goal, goal_at, other_has, all_first}
-use Rattle.tool_decide.proofs.BatchReplies.{first_answered, next_answered}
+use Rattle.tool_decide.specs.Working.GoalLists.{own_goal, goal_at, other_has, all_first}
+use Rattle.tool_decide.specs.Working.BatchReplies.{first_answered, next_answered}
 use Rattle.tool_decide.proofs.batch.answers.Goals as goal
 
 pub goal_reply-requires-clause-numbers : goal.goal_reply-requires-clause-numbers

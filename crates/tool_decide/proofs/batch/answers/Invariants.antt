@@ -1,7 +1,7 @@
 use Rattle.std.proofs.Common.{map}
 use Rattle.problem_file.specs.Trees.{goal_tree}
 use Rattle.tool_decide.specs.Batch.{AnswersFrom}
-use Rattle.tool_decide.proofs.GoalLists.{with_first}
+use Rattle.tool_decide.specs.Working.GoalLists.{with_first}
 use Rattle.tool_decide.proofs.batch.answers.Given as goal
 
 -- the goals so far are answered

@@ -3,7 +3,7 @@ use Rattle.abstraction.specs.Abstracts.{with_goal}
 use Rattle.problem_file.specs.Trees.{goal_tree}
 use Rattle.tool_decide.specs.Decide.{IsDecided}
 use Rattle.tool_decide.proofs.Decided.{decided}
-use Rattle.tool_decide.proofs.BatchReplies.{question_answered}
+use Rattle.tool_decide.specs.Working.BatchReplies.{question_answered}
 use Rattle.tool_decide.proofs.batch.goal_reply.Goals as goal
 
 pub returns : goal.returns

@@ -7,7 +7,7 @@ use Rattle.tool_inputs.specs.Steps.{IsRefusal}
 use Rattle.tool_decide.specs.Batch.{with_each, AsksSome, IsFirstRefused}
 use Rattle.tool_inputs.specs.ReplySpecs.{Yields}
 use Rattle.tool_inputs.proofs.ReplySpecs.{Yields-refused}
-use Rattle.tool_decide.proofs.GoalLists.{own_goal, goal_at, other_has, all_first, some_next, refused_at}
+use Rattle.tool_decide.specs.Working.GoalLists.{own_goal, goal_at, other_has, all_first, some_next, refused_at}
 use Rattle.tool_decide.proofs.batch.test_goals.Goals as goal
 
 pub test_goal-requires : goal.test_goal-requires

@@ -3,7 +3,7 @@ use Rattle.kat_model.specs.Members.{Has}
 use Rattle.problem_file.specs.Files.{FileParts}
 use Rattle.problem_file.specs.Trees.{goal_tree}
 use Rattle.tool_decide.specs.Batch.{AsksSome}
-use Rattle.tool_decide.proofs.GoalLists.{with_first}
+use Rattle.tool_decide.specs.Working.GoalLists.{with_first}
 use Rattle.tool_decide.proofs.batch.test_goals.Given as goal
 
 -- the goals so far ask questions

@@ -1,5 +1,5 @@
 use Rattle.std.proofs.Common.{◌<◌, ◌^◌, length, ap, ◌∙◌, subst}
-use Rattle.tool_outline.proofs.OutlineReplies.{narrow_notes}
+use Rattle.tool_outline.specs.Working.OutlineReplies.{narrow_notes}
 use Rattle.tool_outline.proofs.outline.know_numbers.Goals as goal
 
 pub returns : goal.returns

@@ -1,7 +1,7 @@
 use Rattle.std.proofs.Common.{inl, inr, refl}
 use Rattle.std.proofs.lemmas.Result.{IfOk-weaker}
 use Rattle.outline_rules.specs.Tasks.{task_parts}
-use Rattle.tool_outline.proofs.OutlineReplies.{noted_at, none_at, fails_decided}
+use Rattle.tool_outline.specs.Working.OutlineReplies.{noted_at, none_at, fails_decided}
 use Rattle.tool_outline.proofs.outline.outline_reply.Goals as goal
 
 pub notes_text-requires : goal.notes_text-requires

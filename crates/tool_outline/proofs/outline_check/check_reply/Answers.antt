@@ -2,7 +2,7 @@ use Rattle.std.proofs.Common.{subst, ◌∙◌}
 use Rattle.std.proofs.lemmas.Result.{IfOk-weaker}
 use Rattle.outline_rules.specs.Tasks.{task_parts}
 use Rattle.outline_rules.specs.Reasons.{IsNoteAnswer}
-use Rattle.tool_outline.proofs.NotesReplies.{notes_accepted, notes_rejected}
+use Rattle.tool_outline.specs.Working.NotesReplies.{notes_accepted, notes_rejected}
 use Rattle.tool_outline.proofs.outline_check.check_reply.Goals as goal
 
 pub returns-in-Accepted : goal.returns-in-Accepted

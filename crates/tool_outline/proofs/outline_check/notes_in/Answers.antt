@@ -1,7 +1,7 @@
 use Rattle.tool_inputs.specs.Steps.{IsRefusal}
 use Rattle.tool_outline.specs.OutlineCheck.{IsNoNotes}
 use Rattle.tool_inputs.proofs.ReplySpecs.{EndsWith-weaker}
-use Rattle.tool_outline.proofs.NotesReplies.{fault_is}
+use Rattle.tool_outline.specs.Working.NotesReplies.{fault_is}
 use Rattle.tool_outline.proofs.outline_check.notes_in.Goals as goal
 
 pub returns-in-Err : goal.returns-in-Err

@@ -1,4 +1,4 @@
-use Rattle.tool_outline.proofs.Triples.{simple_of_file}
+use Rattle.tool_outline.specs.Working.TextTriples.{simple_of_file}
 use Rattle.tool_outline.proofs.triple.abstract_triple.Goals as goal
 
 pub returns : goal.returns

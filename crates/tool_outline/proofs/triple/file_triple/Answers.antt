@@ -3,7 +3,7 @@ use Rattle.tool_outline.specs.declared.triple.Triple.{Triple}
 use Rattle.tool_inputs.specs.TextProblem.{HasNoAbstraction}
 use Rattle.tool_inputs.specs.Steps.{IsRefusal}
 use Rattle.tool_inputs.specs.ReplySpecs.{Yields}
-use Rattle.tool_outline.proofs.Triples.{no_abstract}
+use Rattle.tool_outline.specs.Working.TextTriples.{no_abstract}
 use Rattle.tool_outline.proofs.triple.file_triple.Goals as goal
 
 pub returns-in_err-shown : goal.returns-in_err-shown

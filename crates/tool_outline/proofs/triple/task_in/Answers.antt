@@ -5,7 +5,7 @@ use Rattle.tool_inputs.specs.Steps.{IsRefusal}
 use Rattle.tool_outline.specs.Triples.{file_task}
 use Rattle.tool_outline.specs.Working.FileTriples.{AsksNoTask}
 use Rattle.tool_inputs.proofs.ReplySpecs.{EndsWith-weaker}
-use Rattle.tool_outline.proofs.Triples.{no_triple}
+use Rattle.tool_outline.specs.Working.TextTriples.{no_triple}
 use Rattle.tool_outline.proofs.triple.task_in.Goals as goal
 
 pub returns-in-Some : goal.returns-in-Some

@@ -4,7 +4,7 @@ use Rattle.tool_inputs.specs.TextProblem.{IsFaulty}
 use Rattle.tool_inputs.specs.Steps.{IsRefusal}
 use Rattle.tool_inputs.specs.ReplySpecs.{Yields}
 use Rattle.tool_inputs.proofs.Ranges.{numbers_in_range}
-use Rattle.tool_outline.proofs.Triples.{no_file, file_posed}
+use Rattle.tool_outline.specs.Working.TextTriples.{no_file, file_posed}
 use Rattle.tool_outline.proofs.triple.triple_in.Goals as goal
 
 pub file_triple-requires : goal.file_triple-requires

@@ -1,7 +1,7 @@
 use Rattle.std.proofs.Common.{◌≡◌, ◌<◌, ◌-◌, ℕ, suc, length, string_bytes}
 use Rattle.text_scopes.specs.ScopeParts.{IsDeclared}
 use Rattle.tool_programs.specs.OneLoop.{pc_name}
-use Rattle.tool_programs.proofs.Counters.{all_lengths}
+use Rattle.tool_programs.specs.Working.Counters.{all_lengths}
 use Rattle.tool_programs.proofs.counter.counter_name.Given as goal
 
 -- names with fewer `_` are declared

@@ -5,7 +5,7 @@ use Rattle.problem_file.specs.Files.{FileParts}
 use Rattle.tool_programs.specs.OneLoop.{HasForm, HasNoForm}
 use Rattle.tool_inputs.specs.Steps.{IsRefusal}
 use Rattle.tool_inputs.specs.ReplySpecs.{EndsWith}
-use Rattle.tool_programs.proofs.OneLoopReplies.{has_form, fault_refused}
+use Rattle.tool_programs.specs.Working.OneLoopReplies.{has_form, fault_refused}
 use Rattle.tool_programs.proofs.oneloop.form_of.Goals as goal
 
 pub returns-in-Ok : goal.returns-in-Ok

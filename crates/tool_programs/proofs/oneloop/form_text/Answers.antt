@@ -4,7 +4,7 @@ use Rattle.text_scopes.specs.declared.meaning.Meaning.TheVariants.{Var}
 use Rattle.text_scopes.specs.ScopeParts.{ScopeParts, IsIdentifier, IsUndeclared, declared}
 use Rattle.text_print.specs.Printing.{name_of}
 use Rattle.problem_texts.specs.ProgramTexts.{one_program_text}
-use Rattle.tool_programs.proofs.Counters.{counter_identifier}
+use Rattle.tool_programs.specs.Working.Counters.{counter_identifier}
 use Rattle.tool_programs.proofs.oneloop.form_text.Goals as goal
 
 pub declare-requires-clause-identifier : goal.declare-requires-clause-identifier

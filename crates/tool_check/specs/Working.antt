@@ -1,0 +1,4 @@
+pub mod FaultLines
+pub mod ChainReplies
+pub mod ReplayReplies
+pub mod CheckReplies

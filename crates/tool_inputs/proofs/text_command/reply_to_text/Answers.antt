@@ -1,0 +1,7 @@
+use Rattle.tool_inputs.proofs.ReplySpecs.{into_replied}
+use Rattle.tool_inputs.proofs.text_command.reply_to_text.Goals as goal
+
+pub returns : goal.returns
+returns g c =
+    let replies = g.C.TextCommand.replies c.args.command.now c.args.text.now in
+    into_replied replies replies (λ status output r. r) c.text_reply.result c.into_reply.result c.into_reply.ensures c.text_reply.ensures
