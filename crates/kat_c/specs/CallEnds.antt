@@ -1,6 +1,7 @@
 -- What a call from C leaves with its caller.
-use Rattle.std.specs.Prelude.{◌≡◌, ◌⊎◌, ◌≤◌, ◌<◌, ◌++◌, ℕ, List, Result, Ok, Err, length, drop, codes}
+use Rattle.std.specs.Prelude.{◌≡◌, ◌⊎◌, ◌≤◌, ◌<◌, ◌++◌, ℕ, List, Result, Ok, Err, length, drop}
 use Rattle.kat_model.specs.declared.tree.NoMemory.{NoMemory}
+use Rattle.kat_report.specs.InputLines.{words_line}
 use Rattle.tool_inputs.specs.declared.reply.Reply.{Reply}
 use Rattle.tool_inputs.specs.Steps.{ReplySpec}
 
@@ -41,4 +42,4 @@ GivesReply IsSo e = IsOutOfMemory e ⊎ ((status : ℕ) × (output : List ℕ) �
 
 -- the reply to a word that is not UTF-8
 abbrev pub RefusesWords : ReplySpec
-RefusesWords status output = (status ≡ 7) × (output ≡ codes "refused: words\n")
+RefusesWords status output = (status ≡ 7) × (output ≡ words_line)

@@ -12,6 +12,7 @@ ghost use Rattle.kat_c.specs.CallEnds.{call_end, GivesReply, RefusesWords};
 
 use crate::giving::give;
 use kat_model::NoMemory;
+use kat_report::words_line;
 use kat_tool::{Reply, gkat_bytes, one_loop_bytes, optimise_bytes, run_bytes, show_bytes};
 use std::alloc::Global;
 use std::str;
@@ -20,7 +21,7 @@ use tool_inputs::line;
 fn refused_words(alloc: Global) -> Result<Reply, NoMemory>
     ensures { IfOk result (λ r. RefusesWords r.status r.output.items) }
 {
-    line(alloc, 7, b"refused: words\n")
+    line(alloc, 7, words_line())
 }
 
 fn run_reply(
