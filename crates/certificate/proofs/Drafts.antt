@@ -22,17 +22,17 @@ module _ (d : Draft) (n : ℕ) where
   -- a known node is a duplicate
   pub test_double : (node : TestNode ℕ) → IsDraft d → MayBeAdded d (TestLine node) → Has d.known_tests.keys node → fault_of entry_format (draft_parts d) n (TestLine node) ≡ Some (DoubleNode n)
   test_double node draft may known =
-      double_fault entry_format (draft_parts d) n (TestLine node) may.stands may.narrow may.earlier (any_same same_test_node same_test_equal test_same_itself d.test_nodes.items node ((draft.tests node).0 known))
+      double_fault entry_format (draft_parts d) n (TestLine node) may.allowed may.narrow may.earlier (any_same same_test_node same_test_equal test_same_itself d.test_nodes.items node ((draft.tests node).0 known))
 
   pub term_double : (node : TermNode ℕ ℕ) → IsDraft d → MayBeAdded d (TermLine node) → Has d.known_terms.keys node → fault_of entry_format (draft_parts d) n (TermLine node) ≡ Some (DoubleNode n)
   term_double node draft may known =
-      double_fault entry_format (draft_parts d) n (TermLine node) may.stands may.narrow may.earlier (any_same same_term_node same_term_equal term_same_itself d.term_nodes.items node ((draft.terms node).0 known))
+      double_fault entry_format (draft_parts d) n (TermLine node) may.allowed may.narrow may.earlier (any_same same_term_node same_term_equal term_same_itself d.term_nodes.items node ((draft.terms node).0 known))
 
   -- a new node passes
   pub test_passes : (node : TestNode ℕ) → IsDraft d → MayBeAdded d (TestLine node) → (Has d.known_tests.keys node → ⊥) → Passes entry_format (draft_parts d) (TestLine node)
   test_passes node draft may new =
       record {
-        allowed = may.stands;
+        allowed = may.allowed;
         narrow = may.narrow;
         earlier = may.earlier;
         new = any_lacks same_test_node same_test_equal test_same_itself d.test_nodes.items node (λ h. new ((draft.tests node).1 h));
@@ -42,7 +42,7 @@ module _ (d : Draft) (n : ℕ) where
   pub term_passes : (node : TermNode ℕ ℕ) → IsDraft d → MayBeAdded d (TermLine node) → (Has d.known_terms.keys node → ⊥) → Passes entry_format (draft_parts d) (TermLine node)
   term_passes node draft may new =
       record {
-        allowed = may.stands;
+        allowed = may.allowed;
         narrow = may.narrow;
         earlier = may.earlier;
         new = any_lacks same_term_node same_term_equal term_same_itself d.term_nodes.items node (λ h. new ((draft.terms node).1 h));
@@ -60,4 +60,4 @@ module _ (d : Draft) (n : ℕ) where
   -- a pair of ascending sets passes
   pub pair_passes : (p : PairParts) → MayBeAdded d (PairLine p) → are_ascending p.left ≡ true → are_ascending p.right ≡ true → Passes entry_format (draft_parts d) (PairLine p)
   pair_passes p may left right =
-      record { allowed = may.stands; narrow = may.narrow; earlier = may.earlier; new = refl; last = rw (left, right) refl }
+      record { allowed = may.allowed; narrow = may.narrow; earlier = may.earlier; new = refl; last = rw (left, right) refl }

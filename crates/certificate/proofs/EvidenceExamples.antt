@@ -1,17 +1,17 @@
 -- Worked examples of evidence: the evidence that texts give, the first faults of other texts, and the trees of nodes.
-use Rattle.std.proofs.Common.{◌≡◌, ◌<◌, inl, inr, ⊎_elim, List, [], ◌∷◌, length, true, false, Some, None, Ok, codes, refl, sym, subst, arith}
+use Rattle.std.proofs.Common.{◌≡◌, inl, inr, ⊎_elim, List, [], ◌∷◌, length, true, false, Some, None, Ok, codes, refl, sym, subst, arith}
 use Rattle.std.specs.Bool.{IsTrue}
 use Rattle.std.proofs.lemmas.Bool.{true≢false}
 use Rattle.kat_model.specs.Trees.{TestTree, top, prim, complement, Term, one, test, act, sum, product, star}
 use Rattle.kat_model.specs.Members.{Has}
-use Rattle.kat_model.specs.Steps.{Atom, truth, set_out, set_next}
-use Rattle.kat_model.specs.Strings.{Move}
+use Rattle.kat_model.specs.Steps.{Atom, truth, set_out}
 use Rattle.kat_model.specs.Problems.{ProblemParts}
 use Rattle.kat_model.specs.Pairs.{IsCongruent}
 use Rattle.kat_model.specs.Degrees.{short_hyps, long_hyps, with_hyps}
 use Rattle.kat_model.specs.AllowedMoves.{IsAllowedAtom, IsAllowedMove}
 use Rattle.kat_model.specs.TestedPairs.{TestedPair, pairs_at, AreAcceptedUnder}
 use Rattle.kat_model.proofs.Congruence.{listed_same}
+use Rattle.kat_model.proofs.TestedPairExamples.{moves_to, IsMatched, one_action_steps}
 use Rattle.term_nodes.specs.declared.TestNode.TheVariants.{True, Prim}
 use Rattle.term_nodes.specs.declared.TermNode.TheVariants.{One, Test, Act, Sum, Seq, Star}
 use Rattle.certificate.specs.declared.nodes.Style.TheVariants.{Plain, Under}
@@ -104,14 +104,14 @@ abbrev asks : ProblemParts
 asks = record { tests = 1; actions = 1; hyps = hyps; left = p; right = product p (test b) }
 
 -- after p, where b holds, the second pair is available
-after_p : (atom after : Atom) → IsAllowedMove hyps atom (record { act = 0; atom = after }) → IsCongruent None (pairs_at both after) (one ∷ []) (test b ∷ [])
+after_p : (atom after : Atom) → IsAllowedMove hyps atom (moves_to after) → IsCongruent None (pairs_at both after) (one ∷ []) (test b ∷ [])
 after_p atom [] m = absurd (true≢false m.move)
 after_p atom (false ∷ after) m = absurd (true≢false m.move)
 after_p atom (true ∷ after) m =
     inl (listed_same (pairs_at both (true ∷ after)) (one ∷ []) (test b ∷ []) (record { pair = second.sets; listed = inr (inl refl); lefts = λ x. ((λ h. h), (λ h. h)); rights = λ x. ((λ h. h), (λ h. h)) }))
 
 both_accepted : AreAcceptedUnder (short_hyps asks) (with_hyps asks (long_hyps asks)) both
-both_accepted = record { test = top; rest = second ∷ []; first = refl; holds = λ atom wide allowed. refl; bisimulation = record { outputs = outputs; steps = steps } }
+both_accepted = record { test = top; rest = second ∷ []; first = refl; holds = λ atom wide allowed. refl; bisimulation = record { outputs = outputs; steps = one_action_steps hyps both steps } }
   where
     IsAlike : TestedPair → Atom → Type 0
     IsAlike s atom = IsTrue (truth s.test atom) → set_out s.sets.left atom ≡ set_out s.sets.right atom
@@ -120,17 +120,11 @@ both_accepted = record { test = top; rest = second ∷ []; first = refl; holds =
     outputs s h atom wide allowed =
         ⊎_elim (λ e. subst (λ z. IsAlike z atom) e (λ t. refl)) (λ k. ⊎_elim (λ e. subst (λ z. IsAlike z atom) e (λ t. rw t refl)) absurd k) h
 
-    IsMatched : TestedPair → Atom → Move → Type 0
-    IsMatched s atom m = IsCongruent None (pairs_at both m.atom) (set_next s.sets.left atom m.act) (set_next s.sets.right atom m.act)
-
-    steps : (s : TestedPair) → Has both s → (atom : Atom) → length atom ≡ 1 → IsTrue (truth s.test atom)
-        → (m : Move) → m.act < 1 → length m.atom ≡ 1 → IsAllowedMove hyps atom m → IsMatched s atom m
-    steps s h atom wide t m la long allowed =
-        let zeroth : m.act ≡ 0 = omega arith in
-        let same : m ≡ record { act = 0; atom = m.atom } = λ i. record { act = zeroth i; atom = m.atom } in
+    steps : (s : TestedPair) → Has both s → (atom after : Atom) → IsAllowedMove hyps atom (moves_to after) → IsMatched both s atom (moves_to after)
+    steps s h atom after allowed =
         ⊎_elim
-        (λ e. subst (λ z. IsMatched z atom m) e (subst (IsMatched first atom) (sym same) (after_p atom m.atom (subst (IsAllowedMove hyps atom) same allowed))))
-        (λ k. ⊎_elim (λ e. subst (λ z. IsMatched z atom m) e (inl (λ x. ((λ h. h), (λ h. h))))) absurd k)
+        (λ e. subst (λ z. IsMatched both z atom (moves_to after)) e (after_p atom after allowed))
+        (λ k. ⊎_elim (λ e. subst (λ z. IsMatched both z atom (moves_to after)) e (inl (λ x. ((λ h. h), (λ h. h))))) absurd k)
         h
 
 lasting_accepted : IsAccepted asks lasting

@@ -24,27 +24,27 @@ use Rattle.certificate.specs.declared.entry.Entry.TheVariants.{TestLine, TermLin
 use Rattle.certificate.specs.PairParts.{PairParts}
 use Rattle.certificate.specs.Certs.{CertParts, IsCert}
 use Rattle.certificate.specs.Texts.{entry_numbers, entries_of, IsNarrow}
-use Rattle.certificate.specs.Faults.{section_of, may_stand, with_entry, entry_format, move_format, no_entries}
-use Rattle.certificate.proofs.Growth.{cert_grown, test_stands, test_below, same_test_equal, test_same_itself, same_term_equal, term_same_itself}
+use Rattle.certificate.specs.Faults.{section_of, is_section_allowed, with_entry, entry_format, move_format, no_entries}
+use Rattle.certificate.proofs.Growth.{cert_grown, test_allowed, test_below, same_test_equal, test_same_itself, same_term_equal, term_same_itself}
 use Rattle.certificate.proofs.Spellings.{entry_back, entry_told, entry_lacks, entry_not_end}
 use Rattle.certificate.proofs.StringSpellings.{move_back, move_told, move_lacks, move_not_end}
 
 -- ---- entries
 
-entries_grown : (c : CertParts) (e : Entry) → may_stand c (section_of e) ≡ true → entries_of (with_entry c e) ≡ entries_of c ++ e ∷ []
-entries_grown c (TestLine n) stands =
-    let none = and_parts (length c.term_nodes == 0) (length c.pairs == 0) stands in
+entries_grown : (c : CertParts) (e : Entry) → is_section_allowed c (section_of e) ≡ true → entries_of (with_entry c e) ≡ entries_of c ++ e ∷ []
+entries_grown c (TestLine n) allowed =
+    let none = and_parts (length c.term_nodes == 0) (length c.pairs == 0) allowed in
     let terms : c.term_nodes ≡ [] = nil_from_length c.term_nodes (eqb-true (length c.term_nodes) 0 none.0) in
     let pairs : c.pairs ≡ [] = nil_from_length c.pairs (eqb-true (length c.pairs) 0 none.1) in
     let alone : (ts : List (TestNode ℕ)) → map TestLine ts ++ (map TermLine c.term_nodes ++ map PairLine c.pairs) ≡ map TestLine ts = λ ts. ap₂ (λ l r. map TestLine ts ++ (map TermLine l ++ map PairLine r)) terms pairs ∙ append-nil (map TestLine ts) in
     alone (c.test_nodes ++ n ∷ []) ∙ map-append TestLine c.test_nodes (n ∷ []) ∙ ap (λ l. l ++ TestLine n ∷ []) (sym (alone c.test_nodes))
-entries_grown c (TermLine n) stands =
-    let pairs : c.pairs ≡ [] = nil_from_length c.pairs (eqb-true (length c.pairs) 0 stands) in
+entries_grown c (TermLine n) allowed =
+    let pairs : c.pairs ≡ [] = nil_from_length c.pairs (eqb-true (length c.pairs) 0 allowed) in
     let tests : List Entry = map TestLine c.test_nodes in
     let alone : (ts : List (TermNode ℕ ℕ)) → tests ++ (map TermLine ts ++ map PairLine c.pairs) ≡ tests ++ map TermLine ts = λ ts. ap (λ r. tests ++ (map TermLine ts ++ map PairLine r)) pairs ∙ ap (λ l. tests ++ l) (append-nil (map TermLine ts)) in
     alone (c.term_nodes ++ n ∷ []) ∙ ap (λ l. tests ++ l) (map-append TermLine c.term_nodes (n ∷ [])) ∙ sym (append_assoc tests (map TermLine c.term_nodes) (TermLine n ∷ []))
     ∙ ap (λ l. l ++ TermLine n ∷ []) (sym (alone c.term_nodes))
-entries_grown c (PairLine p) stands =
+entries_grown c (PairLine p) allowed =
     let tests : List Entry = map TestLine c.test_nodes in
     let terms : List Entry = map TermLine c.term_nodes in
     let pairs : List Entry = map PairLine c.pairs in
@@ -97,7 +97,7 @@ module _ (c : CertParts) (cert : IsCert c) (narrow : (e : Entry) → Has (entrie
       (has_right (map TestLine c.test_nodes) (map TermLine c.term_nodes ++ map PairLine c.pairs) (PairLine p)
       (has_right (map TermLine c.term_nodes) (map PairLine c.pairs) (PairLine p) (map_has PairLine c.pairs p has))) in
       record {
-        allowed = test_stands (parts c.test_nodes c.term_nodes done) (length c.test_nodes) p.test pair.test;
+        allowed = test_allowed (parts c.test_nodes c.term_nodes done) (length c.test_nodes) p.test pair.test;
         narrow = none_wide (entry_numbers (PairLine p)) small;
         earlier = ap₂ (λ a b. a && b) (test_below c.style (length c.test_nodes) p.test pair.test) terms;
         new = refl;
@@ -148,7 +148,7 @@ move_laws =
       read_told = λ line m narrow. move_told line m (narrow m.act (inl refl));
       lacks_feed = λ m narrow. move_lacks m (narrow m.act (inl refl));
       not_end = move_not_end;
-      lines_grown = λ x m stands. refl;
+      lines_grown = λ x m allowed. refl;
     }
 
 -- moves have narrow lines exactly if their actions are below 2^64

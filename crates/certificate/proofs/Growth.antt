@@ -23,7 +23,7 @@ use Rattle.certificate.specs.declared.nodes.Style.TheVariants.{Plain, UpTo, Unde
 use Rattle.certificate.specs.PairParts.{PairParts}
 use Rattle.certificate.specs.Certs.{CertParts, HasItsTest, IsPairOf, IsCert, nodes_of}
 use Rattle.certificate.specs.Texts.{maybe_one}
-use Rattle.certificate.specs.Faults.{pair_section, has_tests, may_stand, with_entry, entry_format}
+use Rattle.certificate.specs.Faults.{pair_section, has_tests, is_section_allowed, with_entry, entry_format}
 
 -- ---- equal nodes
 
@@ -87,20 +87,20 @@ its_some UpTo n k e below = cc
 its_some Under n k e below = (k, refl, below)
 
 -- a pair that is allowed in its section, and whose test is a test node, has the test that its style requires
-pub its_test : (c : CertParts) (n : ℕ) (t : Option ℕ) → may_stand c (pair_section t) ≡ true → are_below n (maybe_one t) ≡ true → HasItsTest c.style n t
-its_test c n None stands below = its_none c.style n stands
-its_test c n (Some k) stands below = its_some c.style n k stands (below_has n (k ∷ []) below k (inl refl))
+pub its_test : (c : CertParts) (n : ℕ) (t : Option ℕ) → is_section_allowed c (pair_section t) ≡ true → are_below n (maybe_one t) ≡ true → HasItsTest c.style n t
+its_test c n None allowed below = its_none c.style n allowed
+its_test c n (Some k) allowed below = its_some c.style n k allowed (below_has n (k ∷ []) below k (inl refl))
 
-style_stands : (c : CertParts) (style : Style) (n : ℕ) (t : Option ℕ) → c.style ≡ style → HasItsTest style n t → may_stand c (pair_section t) ≡ true
-style_stands c Plain n None e its = rw e refl
-style_stands c Plain n (Some k) e its = cc
-style_stands c UpTo n None e its = rw e refl
-style_stands c UpTo n (Some k) e its = cc
-style_stands c Under n None e its = let clash = its.1 in cc
-style_stands c Under n (Some k) e its = rw e refl
+style_allows : (c : CertParts) (style : Style) (n : ℕ) (t : Option ℕ) → c.style ≡ style → HasItsTest style n t → is_section_allowed c (pair_section t) ≡ true
+style_allows c Plain n None e its = rw e refl
+style_allows c Plain n (Some k) e its = cc
+style_allows c UpTo n None e its = rw e refl
+style_allows c UpTo n (Some k) e its = cc
+style_allows c Under n None e its = let clash = its.1 in cc
+style_allows c Under n (Some k) e its = rw e refl
 
-pub test_stands : (c : CertParts) (n : ℕ) (t : Option ℕ) → HasItsTest c.style n t → may_stand c (pair_section t) ≡ true
-test_stands c n t its = style_stands c c.style n t refl its
+pub test_allowed : (c : CertParts) (n : ℕ) (t : Option ℕ) → HasItsTest c.style n t → is_section_allowed c (pair_section t) ≡ true
+test_allowed c n t its = style_allows c c.style n t refl its
 
 pub test_below : (style : Style) (n : ℕ) (t : Option ℕ) → HasItsTest style n t → are_below n (maybe_one t) ≡ true
 test_below style n None its = refl

@@ -47,11 +47,11 @@ abbrev pub is_empty : {X : Type 0} → List X → Bool
 is_empty xs = length xs == 0
 
 -- test nodes precede term nodes, and these precede pairs; pairs have tests if and only if the style does
-abbrev pub may_stand : CertParts → Section → Bool
-may_stand c Tests = is_empty c.term_nodes && is_empty c.pairs
-may_stand c Terms = is_empty c.pairs
-may_stand c Pairs = not (has_tests c.style)
-may_stand c TestedPairs = has_tests c.style
+abbrev pub is_section_allowed : CertParts → Section → Bool
+is_section_allowed c Tests = is_empty c.term_nodes && is_empty c.pairs
+is_section_allowed c Terms = is_empty c.pairs
+is_section_allowed c Pairs = not (has_tests c.style)
+is_section_allowed c TestedPairs = has_tests c.style
 
 -- the test nodes that an entry names, and the term nodes
 abbrev pub tests_named : Entry → List ℕ
@@ -69,10 +69,10 @@ abbrev pub names_earlier : CertParts → Entry → Bool
 names_earlier c e = are_below (length c.test_nodes) (tests_named e) && are_below (length c.term_nodes) (terms_named e)
 
 -- its node equals an earlier node of the same kind
-abbrev pub stands_already : CertParts → Entry → Bool
-stands_already c (TestLine n) = list_any (same_test_node n) c.test_nodes
-stands_already c (TermLine n) = list_any (same_term_node n) c.term_nodes
-stands_already c (PairLine p) = false
+abbrev pub occurs_already : CertParts → Entry → Bool
+occurs_already c (TestLine n) = list_any (same_test_node n) c.test_nodes
+occurs_already c (TermLine n) = list_any (same_term_node n) c.term_nodes
+occurs_already c (PairLine p) = false
 
 -- its sets are ascending
 abbrev pub has_order : Entry → Bool
@@ -101,9 +101,9 @@ entry_format = record {
   words = entry_words;
   read = entry_of;
   numbers = entry_numbers;
-  is_allowed = λ c e. may_stand c (section_of e);
+  is_allowed = λ c e. is_section_allowed c (section_of e);
   names_earlier = names_earlier;
-  occurs_already = stands_already;
+  occurs_already = occurs_already;
   last_test = has_order;
   with_line = with_entry;
   lines = entries_of;

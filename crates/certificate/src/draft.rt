@@ -4,7 +4,7 @@ ghost use Rattle.term_nodes.specs.Nodes.{test_parts, term_parts, tests_of_term};
 ghost use Rattle.term_nodes.specs.NumberSets.{are_below, are_ascending};
 ghost use Rattle.certificate.specs.Certs.{CertParts};
 ghost use Rattle.certificate.specs.Texts.{maybe_one};
-ghost use Rattle.certificate.specs.Faults.{no_entries, has_tests, may_stand, is_wide, names_earlier, entry_format};
+ghost use Rattle.certificate.specs.Faults.{no_entries, has_tests, is_section_allowed, is_wide, names_earlier, entry_format};
 ghost use Rattle.line_format.specs.KnownLines.{TellsApart, IsReflexive};
 ghost use Rattle.certificate.specs.Working.Readings.{draft_parts, IsDraft, MayBeAdded, AddsEntry, unless_memory, is_told, is_passed_on};
 ghost use Rattle.certificate.specs.declared.entry.Entry.{Entry};
@@ -105,8 +105,8 @@ impl Draft {
         }
     }
 
-    fn may_stand(&self, section: Section) -> bool
-        ensures { result ≡ may_stand (draft_parts self.now) section }
+    fn is_section_allowed(&self, section: Section) -> bool
+        ensures { result ≡ is_section_allowed (draft_parts self.now) section }
     {
         match section {
             Section::Tests => self.term_nodes.is_empty() && self.pairs.is_empty(),
@@ -180,7 +180,7 @@ impl Draft {
         requires narrow { is_wide entry ≡ false }
         ensures { AddsEntry self.old number (Some entry) self.new result }
     {
-        if !self.may_stand(entry.section()) {
+        if !self.is_section_allowed(entry.section()) {
             return Err(EvidenceFault::Line(number));
         }
         if !self.names_earlier(&entry) {
@@ -217,7 +217,7 @@ impl LineDraft for Draft {
             Err(LineFault::NoMemory) => Err(EvidenceFault::NoMemory),
             Err(LineFault::Form) => Err(EvidenceFault::Line(number)),
             Err(LineFault::Wide(section)) => {
-                if self.may_stand(section) {
+                if self.is_section_allowed(section) {
                     return Err(EvidenceFault::NumberTooWide(number));
                 }
                 Err(EvidenceFault::Line(number))

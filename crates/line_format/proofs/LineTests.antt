@@ -20,12 +20,9 @@ module _ {L D V F : Type 0} (f : LineFormat L D V F) (d : D) (n : ℕ) (l : L) w
   pub passes_faultless : Passes f d l → fault_of f d n l ≡ None
   passes_faultless p = rw (p.allowed, p.narrow, p.earlier, p.new, p.last) refl
 
-  -- a line that passes the other tests has the fault of the last one
+  -- a line that passes the tests before this one has its fault
   pub double_fault : f.is_allowed d l ≡ true → is_wide f l ≡ false → f.names_earlier d l ≡ true → f.occurs_already d l ≡ true → fault_of f d n l ≡ Some (f.faults.double n)
   double_fault allowed narrow earlier double = rw (allowed, narrow, earlier, double) refl
-
-  pub last_fault : f.is_allowed d l ≡ true → is_wide f l ≡ false → f.names_earlier d l ≡ true → f.occurs_already d l ≡ false → f.last_test l ≡ false → fault_of f d n l ≡ Some (f.faults.last n)
-  last_fault allowed narrow earlier new wrong = rw (allowed, narrow, earlier, new, wrong) refl
 
 pub faultless_passes : {L D V F : Type 0} (f : LineFormat L D V F) (d : D) (n : ℕ) (l : L) → fault_of f d n l ≡ None → Passes f d l
 faultless_passes f d n l h =

@@ -1,5 +1,5 @@
 -- The content of a line of numbers, by a form that depends on how many numbers there are.
-use Rattle.std.proofs.Common.{◌≡◌, ℕ, List, map, length, true, false, Option, Some, None, refl, sym, ap, ◌∙◌, subst}
+use Rattle.std.proofs.Common.{◌≡◌, ℕ, List, map, length, true, Option, Some, refl, sym, ap, ◌∙◌, subst}
 use Rattle.std.specs.List.{list_all, list_any}
 use Rattle.std.specs.Option.{option_map, option_and_then}
 use Rattle.std.specs.Fmt.{decimal}
@@ -7,7 +7,7 @@ use Rattle.kat_model.proofs.Options.{some_of_map, some_of_then}
 use Rattle.line_format.specs.Numerals.{is_numeral, value_of, numbers_of, too_wide}
 use Rattle.line_format.specs.Readings.{HasNumbers}
 use Rattle.line_format.specs.declared.numerals.Numbers.{Numbers}
-use Rattle.line_format.proofs.Words.{AreNarrow, numbers_of_all, numbers_of_none, numbers_told}
+use Rattle.line_format.proofs.Words.{AreNarrow, numbers_of_all, numbers_told}
 
 -- `form_of` gives the content for some numbers, from which `made` makes a line of the section
 module _ {L N S : Type 0} (numbers : L → List ℕ) (section_of : L → S) (form_of : List ℕ → Option N) (made : N → L) (section : S)
@@ -16,30 +16,14 @@ module _ {L N S : Type 0} (numbers : L → List ℕ) (section_of : L → S) (for
   abbrev pub read_form : List (List ℕ) → Option L
   read_form ws = option_map made (option_and_then form_of (numbers_of ws))
 
-  pub no_numerals : (ws : List (List ℕ)) → list_all is_numeral ws ≡ false → read_form ws ≡ None
-  no_numerals ws e = rw (numbers_of_none ws e) refl
-
   form_at : (ws : List (List ℕ)) (o : Option N) → list_all is_numeral ws ≡ true → form_of (map value_of ws) ≡ o → read_form ws ≡ option_map made o
   form_at ws o e f = rw (numbers_of_all ws e, f) refl
-
-  pub no_form : (ws : List (List ℕ)) (v : Numbers) → list_all is_numeral ws ≡ true → HasNumbers (map value_of ws) v → form_of v.values.items ≡ None → read_form ws ≡ None
-  no_form ws v e has none = form_at ws None e (by_cases (form_of (map value_of ws)) refl)
-    where
-      by_cases : (o : Option N) → form_of (map value_of ws) ≡ o → form_of (map value_of ws) ≡ None
-      by_cases None is = is
-      by_cases (Some n) is = let other = same (map value_of ws) v.values.items n (sym has.count) is in let clash : None ≡ Some other.0 = sym none ∙ other.1 in cc
 
   pub wide_form : (ws : List (List ℕ)) (v : Numbers) (n : N) → list_all is_numeral ws ≡ true → HasNumbers (map value_of ws) v → form_of v.values.items ≡ Some n → v.wide ≡ true → (l : L) × (read_form ws ≡ Some l) × (list_any too_wide (numbers l) ≡ true) × (section_of l ≡ section)
   wide_form ws v n e has is wide =
       let other = same v.values.items (map value_of ws) n has.count is in
       let both = told (map value_of ws) other.0 other.1 in
       (made other.0, form_at ws (Some other.0) e other.1, ap (λ l. list_any too_wide l) (sym both.0) ∙ sym has.wide ∙ wide, both.1)
-
-  pub narrow_form : (ws : List (List ℕ)) (v : Numbers) (n : N) → list_all is_numeral ws ≡ true → HasNumbers (map value_of ws) v → form_of v.values.items ≡ Some n → v.wide ≡ false → (read_form ws ≡ Some (made n)) × (list_any too_wide (numbers (made n)) ≡ false)
-  narrow_form ws v n e has is narrow =
-      let there : form_of (map value_of ws) ≡ Some n = ap form_of (sym (has.values narrow)) ∙ is in
-      let ks = (told (map value_of ws) n there).0 in
-      (form_at ws (Some n) e there, ap (λ l. list_any too_wide l) (sym ks) ∙ sym has.wide ∙ narrow)
 
   -- the words of a line that is read are its numbers
   pub form_told : (ws : List (List ℕ)) (l : L) → AreNarrow (numbers l) → read_form ws ≡ Some l → (n : N) × (ks : List ℕ) × (form_of ks ≡ Some n) × (ws ≡ map decimal (numbers (made n))) × (made n ≡ l)

@@ -1,12 +1,11 @@
 -- Numerals and their values.
-use Rattle.std.proofs.Common.{◌≡◌, ◌<◌, ◌≤◌, ◌^◌, ℕ, zero, suc, List, [], ◌∷◌, length, Bool, true, false, ◌&&◌, ◌||◌, ◌==◌, not, nat_lt, ltb-true, Result, refl, subst, arith, rules, get_or, lit<}
+use Rattle.std.proofs.Common.{◌≡◌, ◌<◌, ◌≤◌, ◌^◌, ℕ, zero, suc, List, length, true, ◌&&◌, ◌||◌, ◌==◌, not, nat_lt, ltb-true, Result, refl, subst, arith, rules, get_or, lit<}
 use Rattle.std.proofs.lemmas.Bool.{and_parts}
 use Rattle.std.specs.Char.{is_ascii_digit}
-use Rattle.std.specs.List.{list_all, list_any}
+use Rattle.std.specs.List.{list_all}
 use Rattle.std.specs.Fmt.{decimal}
 use Rattle.std.specs.Str.{IsUtf8}
 use Rattle.std.specs.Str.Parse.{ParsesUnsigned}
-use Rattle.line_format.proofs.Splits.{LacksByte}
 use Rattle.std.specs.Result.{OkIff}
 use Rattle.std.proofs.lemmas.Fmt.{IsAscii-from_digits, decimal-digits_value, digits_decimal, digits_value-decimal, decimal_nonempty, first_decimal, decimal_digit}
 use Rattle.std.specs.Cmp.Derive.{both_true}
@@ -58,19 +57,3 @@ numeral_utf8 ds e = IsUtf8-from_ascii ds (IsAscii-from_digits ds (own.to ds (num
 -- `parse` of a numeral returns its value, if that is below 2^64
 pub numeral_parse : {E : Type 0} (word text : List ℕ) (r : Result ℕ E) → text ≡ word → is_numeral word ≡ true → ParsesUnsigned 64 10 text r → OkIff r ((0 < length word) × (value_of word < 2 ^ 64)) (value_of word)
 numeral_parse word text r same e parsed = parse_digits own 64 word r (subst (λ t. ParsesUnsigned 64 10 t r) same parsed) (numeral_digits word e).0
-
--- a numeral has neither blanks nor line feeds
-pub numeral_lacks : (mark : ℕ) (ds : List ℕ) → mark < 48 → is_numeral ds ≡ true → LacksByte mark ds
-numeral_lacks mark ds low e = digits_lack mark ds low (numeral_digits ds e).0
-  where
-    no_mark : (mark c : ℕ) → mark < 48 → is_ascii_digit c ≡ true → (c == mark) ≡ false
-    no_mark mark c low digit = grind (arith, nat_tests)
-
-    join : (s t : Bool) → s ≡ false → t ≡ false → (s || t) ≡ false
-    join false false e f = refl
-    join false true e f = cc
-    join true t e f = cc
-
-    digits_lack : (mark : ℕ) (ds : List ℕ) → mark < 48 → list_all is_ascii_digit ds ≡ true → LacksByte mark ds
-    digits_lack mark [] low all = refl
-    digits_lack mark (c ∷ cs) low all = let parts = and_parts (is_ascii_digit c) (list_all is_ascii_digit cs) all in join (c == mark) (list_any (λ b. b == mark) cs) (no_mark mark c low parts.0) (digits_lack mark cs low parts.1)

@@ -25,9 +25,6 @@ parts_after (l ∷ ls) rest lacks =
     ∙ split_at 10 l (text_of_lines ls ++ rest) lacks.0
     ∙ ap (λ ps. l ∷ ps) (parts_after ls rest lacks.1)
 
-pub parts_back : (ls : List (List ℕ)) → LackFeeds ls → parts_of (text_of_lines ls) ≡ with_last ls
-parts_back ls lacks = ap parts_of (sym (append-nil (text_of_lines ls))) ∙ parts_after ls [] lacks
-
 joined : (ls : List (List ℕ)) → join_with_byte 10 (with_last ls) ≡ text_of_lines ls
 joined [] = refl
 joined (l ∷ []) = sym (append-nil (l ++ 10 ∷ []))

@@ -19,13 +19,13 @@ module _ (d : Draft) (n : ℕ) where
   -- a node that is known already is a double node
   pub node_double : (node : NoteNode) → IsDraft d → MayBeAdded d (Node node) → Has d.known.keys node → fault_of note_format (draft_parts d) n (Node node) ≡ Some (DoubleNode n)
   node_double node draft may known =
-      double_fault note_format (draft_parts d) n (Node node) may.stands may.narrow may.earlier (any_same same_node same_node_equal node_same_itself d.nodes.items node ((draft.nodes node).0 known))
+      double_fault note_format (draft_parts d) n (Node node) may.allowed may.narrow may.earlier (any_same same_node same_node_equal node_same_itself d.nodes.items node ((draft.nodes node).0 known))
 
   -- an unknown node passes
   pub node_passes : (node : NoteNode) → IsDraft d → MayBeAdded d (Node node) → (Has d.known.keys node → ⊥) → Passes note_format (draft_parts d) (Node node)
   node_passes node draft may new =
       record {
-        allowed = may.stands;
+        allowed = may.allowed;
         narrow = may.narrow;
         earlier = may.earlier;
         new = any_lacks same_node same_node_equal node_same_itself d.nodes.items node (λ h. new ((draft.nodes node).1 h));
@@ -34,7 +34,7 @@ module _ (d : Draft) (n : ℕ) where
 
   -- a note passes
   pub note_passes : (k : ℕ) → MayBeAdded d (Note k) → Passes note_format (draft_parts d) (Note k)
-  note_passes k may = record { allowed = may.stands; narrow = may.narrow; earlier = may.earlier; new = refl; last = refl }
+  note_passes k may = record { allowed = may.allowed; narrow = may.narrow; earlier = may.earlier; new = refl; last = refl }
 
   -- a line that passes extends the draft
   pub added : (l : NoteLine) (new : Draft) → IsDraft d → Passes note_format (draft_parts d) l → draft_parts new ≡ with_line (draft_parts d) l → SameMembers new.known.keys new.nodes.items

@@ -1,9 +1,9 @@
 -- Notes with an additional line that passes keep the rules.
-use Rattle.std.proofs.Common.{◌≡◌, ℕ, ◌<◌, inl, inr, ⊎_elim, List, [], ◌∷◌, length, true, nat_lt, refl, sym, subst, arith, ltb-true}
-use Rattle.std.proofs.lemmas.Bool.{and_parts, lt-ltb}
+use Rattle.std.proofs.Common.{◌≡◌, ℕ, ◌<◌, inl, ⊎_elim, List, [], ◌∷◌, length, true, nat_lt, refl, sym, subst, arith, ltb-true}
+use Rattle.std.proofs.lemmas.Bool.{lt-ltb}
 use Rattle.std.proofs.lemmas.List.{length_push}
 use Rattle.kat_model.specs.Members.{Has}
-use Rattle.kat_model.proofs.Lists.{has_pushed, no_doubles_pushed}
+use Rattle.kat_model.proofs.Lists.{has_pushed, no_doubles_pushed, has_all, all_has}
 use Rattle.kat_model.proofs.Places.{slice_get_last}
 use Rattle.line_format.proofs.KnownLines.{lacks_any}
 use Rattle.line_format.proofs.LineTests.{Passes}
@@ -15,14 +15,10 @@ use Rattle.outline_notes.proofs.KnownNodes.{same_node_equal, node_same_itself}
 
 -- the test `are_below` is true exactly when all numbers are below the count
 pub below_has : (n : ℕ) (ks : List ℕ) → are_below n ks ≡ true → (k : ℕ) → Has ks k → k < n
-below_has n [] e k h = absurd h
-below_has n (j ∷ ks) e k h =
-    let p = and_parts (nat_lt j n) (are_below n ks) e in
-    ⊎_elim (λ q. subst (λ i. i < n) q (ltb-true j n p.0)) (below_has n ks p.1 k) h
+below_has n ks e k h = ltb-true k n (has_all (λ j. nat_lt j n) ks e k h)
 
 pub has_below : (n : ℕ) (ks : List ℕ) → ((k : ℕ) → Has ks k → k < n) → are_below n ks ≡ true
-has_below n [] each = refl
-has_below n (j ∷ ks) each = rw (lt-ltb j n (each j (inl refl)), has_below n ks (λ k h. each k (inr h))) refl
+has_below n ks each = all_has (λ j. nat_lt j n) ks (λ k h. lt-ltb k n (each k h))
 
 pub notes_grown : (ns : NotesParts) (l : NoteLine) → AreNotes ns → Passes note_format ns l → AreNotes (with_line ns l)
 notes_grown ns (Node n) are p =

@@ -22,17 +22,17 @@ use Rattle.outline_notes.specs.declared.line.NoteLine.TheVariants.{Node, Note}
 use Rattle.outline_notes.specs.declared.fault.NotesFault.TheVariants.{Header}
 use Rattle.outline_notes.specs.NoteLists.{NotesParts, notes_of, node_parts, AreNotes}
 use Rattle.outline_notes.specs.Texts.{line_numbers, heading, note_lines, lines_before_end, IsNarrow, AreNarrowNotes}
-use Rattle.outline_notes.specs.Faults.{section_of, may_stand, same_node, with_line, fault_names, note_format, notes_from, no_lines, all_from}
+use Rattle.outline_notes.specs.Faults.{section_of, is_section_allowed, same_node, with_line, fault_names, note_format, notes_from, no_lines, all_from}
 use Rattle.outline_notes.proofs.KnownNodes.{same_node_equal, node_same_itself}
 use Rattle.outline_notes.proofs.Growth.{has_below, notes_grown}
 use Rattle.outline_notes.proofs.Spellings.{line_read, line_told, line_lacks_feed, line_not_end}
 
-lines_grown : (ns : NotesParts) (l : NoteLine) → may_stand ns (section_of l) ≡ true → note_lines (with_line ns l) ≡ note_lines ns ++ l ∷ []
-lines_grown ns (Node n) stands =
-    let none : ns.notes ≡ [] = nil_from_length ns.notes (eqb-true (length ns.notes) 0 stands) in
+lines_grown : (ns : NotesParts) (l : NoteLine) → is_section_allowed ns (section_of l) ≡ true → note_lines (with_line ns l) ≡ note_lines ns ++ l ∷ []
+lines_grown ns (Node n) allowed =
+    let none : ns.notes ≡ [] = nil_from_length ns.notes (eqb-true (length ns.notes) 0 allowed) in
     let alone : (xs : List NoteNode) → map Node xs ++ map Note ns.notes ≡ map Node xs = λ xs. ap (λ r. map Node xs ++ map Note r) none ∙ append-nil (map Node xs) in
     alone (ns.nodes ++ n ∷ []) ∙ map-append Node ns.nodes (n ∷ []) ∙ ap (λ l. l ++ Node n ∷ []) (sym (alone ns.nodes))
-lines_grown ns (Note k) stands =
+lines_grown ns (Note k) allowed =
     let nodes : List NoteLine = map Node ns.nodes in
     ap (λ l. nodes ++ l) (map-append Note ns.notes (k ∷ [])) ∙ sym (append_assoc nodes (map Note ns.notes) (Note k ∷ []))
 

@@ -5,7 +5,7 @@ use Rattle.std.specs.Option.{option_map, option_and_then}
 use Rattle.std.specs.Str.{bytes_eq}
 use Rattle.kat_model.proofs.Options.{some_of_cond, some_of_conds}
 use Rattle.line_format.proofs.LineSteps.{named}
-use Rattle.line_format.proofs.NumberForms.{wide_form, narrow_form, no_form}
+use Rattle.line_format.proofs.NumberForms.{wide_form}
 use Rattle.line_format.specs.Numerals.{is_numeral, value_of, numbers_of}
 use Rattle.line_format.specs.Readings.{HasNumbers}
 use Rattle.line_format.specs.declared.numerals.Numbers.{Numbers}
@@ -73,12 +73,6 @@ node_told_line name ks n e = ((node_told name ks n e).1, refl)
 pub wide_node : (name : List ℕ) (ws : List (List ℕ)) (v : Numbers) (n : NoteNode) → list_all is_numeral ws ≡ true → HasNumbers (map value_of ws) v → node_of name v.values.items ≡ Some n → v.wide ≡ true → (l : NoteLine) × (option_map Node (option_and_then (node_of name) (numbers_of ws)) ≡ Some l) × (is_wide l ≡ true) × (section_of l ≡ Nodes)
 wide_node name = wide_form line_numbers section_of (node_of name) Node Nodes (node_same name) (node_told_line name)
 
-pub narrow_node : (name : List ℕ) (ws : List (List ℕ)) (v : Numbers) (n : NoteNode) → list_all is_numeral ws ≡ true → HasNumbers (map value_of ws) v → node_of name v.values.items ≡ Some n → v.wide ≡ false → (option_map Node (option_and_then (node_of name) (numbers_of ws)) ≡ Some (Node n)) × (is_wide (Node n) ≡ false)
-narrow_node name = narrow_form line_numbers section_of (node_of name) Node Nodes (node_same name) (node_told_line name)
-
-pub no_node : (name : List ℕ) (ws : List (List ℕ)) (v : Numbers) → list_all is_numeral ws ≡ true → HasNumbers (map value_of ws) v → node_of name v.values.items ≡ None → option_map Node (option_and_then (node_of name) (numbers_of ws)) ≡ None
-no_node name = no_form line_numbers section_of (node_of name) Node Nodes (node_same name) (node_told_line name)
-
 -- the same for notes
 own_line : (o : Option NoteLine) → option_map (λ (l : NoteLine). l) o ≡ o
 own_line None = refl
@@ -88,11 +82,3 @@ pub wide_note : (ws : List (List ℕ)) (v : Numbers) (l : NoteLine) → list_all
 wide_note ws v l e has is wide =
     let t = wide_form line_numbers section_of note_of (λ (m : NoteLine). m) Notes note_same note_told ws v l e has is wide in
     (t.0, sym (own_line (option_and_then note_of (numbers_of ws))) ∙ t.1, t.2, t.3)
-
-pub narrow_note : (ws : List (List ℕ)) (v : Numbers) (l : NoteLine) → list_all is_numeral ws ≡ true → HasNumbers (map value_of ws) v → note_of v.values.items ≡ Some l → v.wide ≡ false → (option_and_then note_of (numbers_of ws) ≡ Some l) × (is_wide l ≡ false)
-narrow_note ws v l e has is narrow =
-    let t = narrow_form line_numbers section_of note_of (λ (m : NoteLine). m) Notes note_same note_told ws v l e has is narrow in
-    (sym (own_line (option_and_then note_of (numbers_of ws))) ∙ t.0, t.1)
-
-pub no_note : (ws : List (List ℕ)) (v : Numbers) → list_all is_numeral ws ≡ true → HasNumbers (map value_of ws) v → note_of v.values.items ≡ None → option_and_then note_of (numbers_of ws) ≡ None
-no_note ws v e has none = sym (own_line (option_and_then note_of (numbers_of ws))) ∙ no_form line_numbers section_of note_of (λ (m : NoteLine). m) Notes note_same note_told ws v e has none

@@ -26,9 +26,9 @@ section_of (Node n) = Nodes
 section_of (Note k) = Notes
 
 -- whether a line of the section may come next: nodes precede notes
-abbrev pub may_stand : NotesParts → Section → Bool
-may_stand ns Nodes = length ns.notes == 0
-may_stand ns Notes = true
+abbrev pub is_section_allowed : NotesParts → Section → Bool
+is_section_allowed ns Nodes = length ns.notes == 0
+is_section_allowed ns Notes = true
 
 -- whether all numbers are below the count
 abbrev pub are_below : ℕ → List ℕ → Bool
@@ -51,9 +51,9 @@ same_node (Branch k x y) (Branch l z w) = k == l && (x == z && y == w)
 same_node m n = false
 
 -- whether the line has a node that equals an earlier one
-abbrev pub stands_already : NotesParts → NoteLine → Bool
-stands_already ns (Node n) = list_any (same_node n) ns.nodes
-stands_already ns (Note k) = false
+abbrev pub occurs_already : NotesParts → NoteLine → Bool
+occurs_already ns (Node n) = list_any (same_node n) ns.nodes
+occurs_already ns (Note k) = false
 
 -- the notes with an additional line
 abbrev pub with_line : NotesParts → NoteLine → NotesParts
@@ -71,9 +71,9 @@ note_format = record {
   words = line_words;
   read = read_line;
   numbers = line_numbers;
-  is_allowed = λ ns l. may_stand ns (section_of l);
+  is_allowed = λ ns l. is_section_allowed ns (section_of l);
   names_earlier = names_earlier;
-  occurs_already = stands_already;
+  occurs_already = occurs_already;
   last_test = λ l. true;
   with_line = with_line;
   lines = note_lines;

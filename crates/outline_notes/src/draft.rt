@@ -1,7 +1,7 @@
 //! Notes during reading.
 ghost use Rattle.std.specs.Prelude.{◌≡◌, ◌&&◌, Some, false};
 ghost use Rattle.outline_notes.specs.NoteLists.{NotesParts, node_parts};
-ghost use Rattle.outline_notes.specs.Faults.{are_below, no_lines, may_stand, is_wide, names_earlier, note_format};
+ghost use Rattle.outline_notes.specs.Faults.{are_below, no_lines, is_section_allowed, is_wide, names_earlier, note_format};
 ghost use Rattle.line_format.specs.KnownLines.{TellsApart, IsReflexive};
 ghost use Rattle.outline_notes.specs.Working.Readings.{draft_parts, IsDraft, MayBeAdded, AddsLine, unless_memory, is_told, is_passed_on};
 ghost use Rattle.outline_notes.specs.declared.line.NoteLine.{NoteLine};
@@ -49,8 +49,8 @@ impl Draft {
         }
     }
 
-    fn may_stand(&self, section: Section) -> bool
-        ensures { result ≡ may_stand (draft_parts self.now) section }
+    fn is_section_allowed(&self, section: Section) -> bool
+        ensures { result ≡ is_section_allowed (draft_parts self.now) section }
     {
         match section {
             Section::Nodes => self.notes.is_empty(),
@@ -96,7 +96,7 @@ impl Draft {
         requires narrow { is_wide line ≡ false }
         ensures { AddsLine self.old number (Some line) self.new result }
     {
-        if !self.may_stand(line.section()) {
+        if !self.is_section_allowed(line.section()) {
             return Err(NotesFault::Line(number));
         }
         if !self.names_earlier(line) {
@@ -132,7 +132,7 @@ impl LineDraft for Draft {
             Err(LineFault::NoMemory) => Err(NotesFault::NoMemory),
             Err(LineFault::Form) => Err(NotesFault::Line(number)),
             Err(LineFault::Wide(section)) => {
-                if self.may_stand(section) {
+                if self.is_section_allowed(section) {
                     return Err(NotesFault::NumberTooWide(number));
                 }
                 Err(NotesFault::Line(number))

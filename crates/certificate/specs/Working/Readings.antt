@@ -14,7 +14,7 @@ use Rattle.certificate.specs.declared.string_draft.StringDraft.{StringDraft}
 use Rattle.certificate.specs.declared.evidence.EvidenceFault.{EvidenceFault}
 use Rattle.certificate.specs.declared.evidence.EvidenceFault.TheVariants.{NoMemory}
 use Rattle.certificate.specs.Certs.{CertParts, cert_of, IsCert}
-use Rattle.certificate.specs.Faults.{Answer, is_wide, section_of, may_stand, names_earlier, entry_format}
+use Rattle.certificate.specs.Faults.{Answer, is_wide, section_of, is_section_allowed, names_earlier, entry_format}
 
 -- P, unless the fault is that memory ran out
 abbrev pub unless_memory : EvidenceFault → Type 0 → Type 0
@@ -58,7 +58,7 @@ pub record IsDraft (d : Draft) : Type 0 where
 
 -- the entry passes the first three tests
 pub record MayBeAdded (d : Draft) (e : Entry) : Type 0 where
-  pub stands : may_stand (draft_parts d) (section_of e) ≡ true
+  pub allowed : is_section_allowed (draft_parts d) (section_of e) ≡ true
   pub narrow : is_wide e ≡ false
   pub earlier : names_earlier (draft_parts d) e ≡ true
 

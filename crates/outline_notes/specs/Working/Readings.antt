@@ -9,7 +9,7 @@ use Rattle.outline_notes.specs.declared.fault.NotesFault.{NotesFault}
 use Rattle.outline_notes.specs.declared.fault.NotesFault.TheVariants.{NoMemory}
 use Rattle.outline_notes.specs.NoteLists.{NotesParts, notes_of, AreNotes}
 use Rattle.line_format.specs.NumberedLines.{Answers, AddsTo}
-use Rattle.outline_notes.specs.Faults.{Answer, is_wide, section_of, may_stand, names_earlier, note_format}
+use Rattle.outline_notes.specs.Faults.{Answer, is_wide, section_of, is_section_allowed, names_earlier, note_format}
 
 -- P, unless the fault is that memory ran out
 abbrev pub unless_memory : NotesFault → Type 0 → Type 0
@@ -47,7 +47,7 @@ pub record IsDraft (d : Draft) : Type 0 where
 
 -- the line passes the first three tests
 pub record MayBeAdded (d : Draft) (l : NoteLine) : Type 0 where
-  pub stands : may_stand (draft_parts d) (section_of l) ≡ true
+  pub allowed : is_section_allowed (draft_parts d) (section_of l) ≡ true
   pub narrow : is_wide l ≡ false
   pub earlier : names_earlier (draft_parts d) l ≡ true
 
