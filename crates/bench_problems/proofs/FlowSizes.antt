@@ -4,8 +4,7 @@ use Rattle.std.proofs.lemmas.List.{take-append-drop, length-take, length-drop}
 use Rattle.kat_model.specs.Trees.{prim, Term, zero as nothing, one, test, act, product, term_size}
 use Rattle.kat_model.specs.Problems.{IsInRange, AreInRange}
 use Rattle.kat_model.specs.Balanced.{balanced_within, product_of}
-use Rattle.kat_model.proofs.BalancedTrees.{balanced_holds}
-use Rattle.kat_model.proofs.Ranges.{AreInRange-append, AreInRange-append_left, AreInRange-append_right}
+use Rattle.kat_model.proofs.Ranges.{AreInRange-append, IsInRange-product_of}
 use Rattle.while_lang.specs.Flows.{FlowTree, empty, skip_then, abort_then, assert_then, act_then, branch_then, loop_then}
 use Rattle.while_lang.specs.Encoding.{branch_term, loop_term, stmt_terms, encoded}
 use Rattle.bench_problems.specs.Generator.{followed_by}
@@ -38,14 +37,6 @@ product_size : (es : List Term) → term_size (product_of es) ≤ weight es + 1
 product_size [] = omega arith
 product_size (e ∷ es) = omega (arith, nonempty_size (length (e ∷ es)) (e ∷ es) (omega arith) (omega arith))
 
-product_in_range : (tests actions : ℕ) (es : List Term) → AreInRange tests actions es → IsInRange tests actions (product_of es)
-product_in_range tests actions es =
-    balanced_holds one product (λ fs e. AreInRange tests actions fs → IsInRange tests actions e)
-    (λ r. tt)
-    (λ x r. r.0)
-    (λ xs ys a b p q r. (p (AreInRange-append_left tests actions xs ys r), q (AreInRange-append_right tests actions xs ys r)))
-    es
-
 stmt_terms-followed_by : (f g : FlowTree) → stmt_terms (followed_by f g) ≡ stmt_terms f ++ stmt_terms g
 stmt_terms-followed_by empty g = refl
 stmt_terms-followed_by (skip_then rest) g = ap (λ (es : List Term). one ∷ es) (stmt_terms-followed_by rest g)
@@ -61,7 +52,7 @@ pub record IsFit (bound : ℕ) (f : FlowTree) : Type 0 where
   pub size : weight (stmt_terms f) ≤ bound
 
 pub encoded_in_range : (bound : ℕ) (f : FlowTree) → IsFit bound f → IsInRange 4 4 (encoded f)
-encoded_in_range bound f h = product_in_range 4 4 (stmt_terms f) h.range
+encoded_in_range bound f h = IsInRange-product_of 4 4 (stmt_terms f) h.range
 
 pub encoded_size : (bound : ℕ) (f : FlowTree) → IsFit bound f → term_size (encoded f) ≤ bound + 1
 encoded_size bound f h = omega (arith, product_size (stmt_terms f), h.size)

@@ -1,18 +1,17 @@
 -- The hypotheses and the closed sides of a problem are within its range, and keep their numbers when tables grow.
-use Rattle.std.proofs.Common.{◌≡◌, ⊎_elim, append_assoc, ℕ, ◌<◌, ◌≤◌, zero as nought, suc, inl, List, [], ◌∷◌, ◌++◌, map, length, drop, drop-cons, get_or, refl, sym, ap, ◌∙◌, subst, arith, true, false, cond, nat_lt, Option, Some, None}
+use Rattle.std.proofs.Common.{◌≡◌, ⊎_elim, append_assoc, ℕ, ◌<◌, zero as nought, suc, inl, List, [], ◌∷◌, ◌++◌, map, length, drop, drop-cons, get_or, refl, sym, ap, ◌∙◌, subst, arith, true, false, cond, nat_lt, Option, Some, None}
 use mathlib.Core.Path.{ap₂}
 use Rattle.std.specs.List.{filter}
 use Rattle.std.specs.Option.{option_map}
 use Rattle.std.proofs.lemmas.Bool.{and_parts}
 use Rattle.kat_model.specs.declared.tree.Kat.{Kat}
-use Rattle.kat_model.specs.Trees.{Term, zero, act, sum, kat_tree}
+use Rattle.kat_model.specs.Trees.{Term, sum, kat_tree}
 use Rattle.kat_model.specs.Members.{Has}
 use Rattle.kat_model.specs.Problems.{ProblemParts, IsInRange, AreInRange, HasTestsBelow, IsProblem}
 use Rattle.kat_model.specs.Balanced.{sum_of}
 use Rattle.kat_model.specs.Degrees.{is_short, long_hyps, with_hyps}
-use Rattle.kat_model.specs.Closed.{actions_below, universal_of, inside, closed_under, closed}
-use Rattle.kat_model.proofs.BalancedTrees.{balanced_holds}
-use Rattle.kat_model.proofs.Ranges.{IsInRange-HasTestsBelow, AreInRange-append, AreInRange-append_left, AreInRange-append_right}
+use Rattle.kat_model.specs.Closed.{universal_of, inside, closed_under, closed}
+use Rattle.kat_model.proofs.Ranges.{IsInRange-HasTestsBelow, IsInRange-sum_of, IsInRange-universal_of}
 use Rattle.term_nodes.specs.NumberSets.{are_below, terms_of}
 use Rattle.term_nodes.proofs.Prefixes.{IsPrefix-within}
 use Rattle.term_nodes.proofs.Parts.{below_has, has_below, below_more}
@@ -27,19 +26,6 @@ use Rattle.cert_steps.proofs.StepLists.{grows_longer}
 -- ---- ranges
 
 module _ (t a : ℕ) where
-  sum_of_in_range : (es : List Term) → AreInRange t a es → IsInRange t a (sum_of es)
-  sum_of_in_range es =
-      balanced_holds zero sum (λ xs x. AreInRange t a xs → IsInRange t a x) (λ h. tt) (λ x h. h.0)
-      (λ xs ys x y f g h. (f (AreInRange-append_left t a xs ys h), g (AreInRange-append_right t a xs ys h)))
-      es
-
-  actions_in_range : (n : ℕ) → n ≤ a → AreInRange t a (actions_below n)
-  actions_in_range nought l = tt
-  actions_in_range (suc n) l = AreInRange-append t a (actions_below n) (act n ∷ []) (actions_in_range n (omega arith)) (omega arith, tt)
-
-  universal_in_range : IsInRange t a (universal_of a)
-  universal_in_range = sum_of_in_range (actions_below a) (actions_in_range a (omega arith))
-
   closed_below : (hyps : List Term) (left right : Term) → AreInRange t a hyps → IsInRange t a left → IsInRange t a right → AreClosedBelow t (closed_under a hyps left right)
   closed_below [] left right h l r = record {
     left = IsInRange-HasTestsBelow t a left l;
@@ -49,11 +35,11 @@ module _ (t a : ℕ) where
   closed_below (e ∷ es) left right h l r = record {
     left = IsInRange-HasTestsBelow t a (sum left (inside (universal_of a) (sum_of (e ∷ es)))) (l, around);
     right = IsInRange-HasTestsBelow t a (sum right (inside (universal_of a) (sum_of (e ∷ es)))) (r, around);
-    universal = λ u s. let same : universal_of a ≡ u = cc in subst (HasTestsBelow t) same (IsInRange-HasTestsBelow t a (universal_of a) universal_in_range);
+    universal = λ u s. let same : universal_of a ≡ u = cc in subst (HasTestsBelow t) same (IsInRange-HasTestsBelow t a (universal_of a) (IsInRange-universal_of t a));
   }
     where
       around : IsInRange t a (inside (universal_of a) (sum_of (e ∷ es)))
-      around = (universal_in_range, (sum_of_in_range (e ∷ es) h, universal_in_range))
+      around = (IsInRange-universal_of t a, (IsInRange-sum_of t a (e ∷ es) h, IsInRange-universal_of t a))
 
 problem_below : (q : ProblemParts) → IsProblem q → AreClosedBelow q.tests (closed q)
 problem_below q p = closed_below q.tests q.actions q.hyps q.left q.right p.hyps p.left p.right

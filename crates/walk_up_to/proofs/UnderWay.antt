@@ -10,7 +10,7 @@ use Rattle.kat_model.specs.Problems.{ProblemParts, IsInRange, HasTestsBelow, IsP
 use Rattle.kat_model.specs.Steps.{Atom, set_out, set_next}
 use Rattle.kat_model.specs.Closed.{universal_of, closed_under, closed}
 use Rattle.kat_model.proofs.Places.{has_at}
-use Rattle.kat_model.proofs.Ranges.{IsInRange-HasTestsBelow}
+use Rattle.kat_model.proofs.Ranges.{IsInRange-HasTestsBelow, IsInRange-universal_of}
 use Rattle.term_nodes.specs.NodeLists.{NodeParts, IsTerm, AreNodes}
 use Rattle.term_nodes.specs.NodeTrees.{tree_at}
 use Rattle.term_nodes.specs.Growth.{Grows}
@@ -34,7 +34,7 @@ use Rattle.walk_up_to.specs.declared.worklist.Worklist.{Worklist}
 use Rattle.walk_pairs.specs.declared.found.BothSteps.{BothSteps}
 use Rattle.walk_up_to.proofs.Endings.{walk_few, walk_ended}
 use Rattle.walk_pairs.proofs.PlaceNumbers.{at_mapped}
-use Rattle.walk_pairs.proofs.SideRanges.{universal_in_range, sides_in_range}
+use Rattle.walk_pairs.proofs.SideRanges.{sides_in_range}
 use Rattle.walk_up_to.proofs.WalkSteps.{first_entry, walk_starts, walk_goes_on}
 use Rattle.walk_pairs.proofs.ClosedTerms.{universal_kept}
 use Rattle.walk_pairs.proofs.IdSets.{all_terms}
@@ -49,7 +49,7 @@ universal_below q store u e = go q.hyps e
     go [] f = absurd cc
     go (h ∷ hs) f =
         let same : tree_at store u ≡ universal_of q.actions = cc in
-        subst (HasTestsBelow q.tests) (sym same) (IsInRange-HasTestsBelow q.tests q.actions (universal_of q.actions) (universal_in_range q.tests q.actions))
+        subst (HasTestsBelow q.tests) (sym same) (IsInRange-HasTestsBelow q.tests q.actions (universal_of q.actions) (IsInRange-universal_of q.tests q.actions))
 
 abbrev pub first_ids : ℕ → ℕ → IdEntry
 first_ids left right = record { left = left ∷ []; right = right ∷ []; origin = None }
