@@ -15,7 +15,7 @@ use while_lang::enter;
 
 // A rule, its path, and whether it requires an inner chain.
 #[derive(Drop)]
-struct Reason<R, P> {
+struct RuleReason<R, P> {
     rule: R,
     path: P,
     inner: bool,
@@ -83,7 +83,7 @@ fn rule_and_place<R: ChainReading>(
     reading: &R,
     toks: &[Token],
     from: usize,
-) -> Result<(Reason<R::Rule, R::Path>, usize), TextFault>
+) -> Result<(RuleReason<R::Rule, R::Path>, usize), TextFault>
     ensures value { Reads R.memory (reason_of R.rule R.path) (lexemes toks.now) result (rule_by (R.actions reading.now) (drop from (lexemes toks.now))) }
     ensures goes { Goes from (length toks.now) result }
 {
@@ -92,7 +92,7 @@ fn rule_and_place<R: ChainReading>(
     let rule = reading.read_rule(at, name, number)?;
     let (path, end) = path(reading, toks, end)?;
     let inner = has_inner(name);
-    Ok((Reason { rule, path, inner }, end))
+    Ok((RuleReason { rule, path, inner }, end))
 }
 
 // Reads the chain that begins at `from`, with `depth` open constructs around it and the state `known` after the terms
@@ -141,7 +141,7 @@ fn line<R: ChainReading>(
 {
     let ((next, size), end) = reading.read_term(toks, from, depth, known)?;
     let end = expect_word(toks, end, "by")?;
-    let (Reason { rule, path, inner }, end) = rule_and_place(reading, toks, end)?;
+    let (RuleReason { rule, path, inner }, end) = rule_and_place(reading, toks, end)?;
     let ((inner, size), end) = inner_chain(reading, toks, end, depth, inner, size)?;
     let end = expect(toks, end, Terminal::Separator(Separator::Semicolon))?;
     Ok(((reading.line(list, next, rule, path, inner)?, size), end))

@@ -14,7 +14,7 @@ use Rattle.problem_file.proofs.PhraseFronts.{phrase_long}
 use Rattle.gkat_front.specs.GkatPhrases.{Guard, GkatSymbol, expr, GkatPhrase, one_product, two_products, one_factor, more_factors, once, repeated, zero_unit, one_unit, name_unit, guard_unit, round_unit, guard_onto, gkat_onto, GkatObeys}
 use Rattle.gkat_front.specs.FileActions.{FileActions}
 use Rattle.gkat_front.specs.Items.{sides_by, item_by, items_by}
-use Rattle.gkat_front.specs.FilePhrases.{Item, tests, actions, equal, sides_onto, item_onto, spelled, ItemObeys, ItemsObey}
+use Rattle.gkat_front.specs.FilePhrases.{GkatItem, tests, actions, equal, sides_onto, item_onto, spelled, ItemObeys, ItemsObey}
 use Rattle.gkat_front.specs.FileFolds.{ExprFold, fold_item, fold_items}
 use Rattle.gkat_front.proofs.GkatCompleteness.{Stops}
 
@@ -37,13 +37,13 @@ gkat_long (name_unit l) ts = omega arith
 gkat_long (guard_unit b) ts = guard_long b ts
 gkat_long (round_unit opening e closing) ts = omega (arith, gkat_long e (cons_token RoundClose closing ts))
 
-item_long : (i : Item) (ts : List Lexeme) → length ts < length (item_onto i ts)
+item_long : (i : GkatItem) (ts : List Lexeme) → length ts < length (item_onto i ts)
 item_long (tests keyword ns end) ts = omega (arith, names_long ns (ended end ts))
 item_long (actions keyword ns end) ts = omega (arith, names_long ns (ended end ts))
 item_long (equal keyword p comma q end) ts =
     omega (arith, gkat_long p (cons_token (Separator Comma) comma (gkat_onto q (ended end ts))), gkat_long q (ended end ts))
 
-items_long : (items : List Item) → length items ≤ length (spelled items)
+items_long : (items : List GkatItem) → length items ≤ length (spelled items)
 items_long [] = omega arith
 items_long (i ∷ items) = omega (arith, items_long items, item_long i (spelled items))
 
@@ -70,7 +70,7 @@ module _ {S V : Type 0} (g : FileActions S V) (t : ExprFold S V) (reads : (s : S
       ∙ then_rest vs us (t s p) (λ x. g.expr s x.1 >>= λ y. Ok ((x.0, y.0), y.1)) (λ x. t s q >>= λ y. Ok (x, y))
       (λ x. ap (λ (m : Parsed V). m >>= λ y. Ok ((x, y.0), y.1)) (reads s q us o.1 (refl, refl, refl)) ∙ paired us x (t s q))
 
-  item_folded : (i : Item) (s : S) (ts : List Lexeme) → ItemObeys i ts → item_by g s (item_onto i ts) ≡ before ts (fold_item g t s i)
+  item_folded : (i : GkatItem) (s : S) (ts : List Lexeme) → ItemObeys i ts → item_by g s (item_onto i ts) ≡ before ts (fold_item g t s i)
   item_folded (tests keyword ns end) s ts o = declaration_folded g.declare_test ns s end ts
   item_folded (actions keyword ns end) s ts o = declaration_folded g.declare_action ns s end ts
   item_folded (equal keyword p comma q end) s ts o =
@@ -80,22 +80,22 @@ module _ {S V : Type 0} (g : FileActions S V) (t : ExprFold S V) (reads : (s : S
       ∙ ap (λ (m : Parsed (V × V)). m >>= λ x. before x.1 (g.ask s keyword.at (x.0).0 (x.0).1)) (closed (Separator Semicolon) end ts sides refl)
       ∙ asked (g.ask s keyword.at) ts (t s p) (t s q))
 
-  then_items : (items : List Item) (n : ℕ) (r : Result S TextFault) → ((u : S) → items_within (item_by g) n u (spelled items) ≡ fold_items g t u items) → (before (spelled items) r >>= λ x. items_within (item_by g) n x.0 x.1) ≡ (r >>= λ u. fold_items g t u items)
+  then_items : (items : List GkatItem) (n : ℕ) (r : Result S TextFault) → ((u : S) → items_within (item_by g) n u (spelled items) ≡ fold_items g t u items) → (before (spelled items) r >>= λ x. items_within (item_by g) n x.0 x.1) ≡ (r >>= λ u. fold_items g t u items)
   then_items items n (Ok u) h = h u
   then_items items n (Err e) h = refl
 
   -- reading an item and then the other items
-  item_first : (i : Item) (items : List Item) (s : S) (n : ℕ) → item_by g s (item_onto i (spelled items)) ≡ before (spelled items) (fold_item g t s i) → ((u : S) → items_within (item_by g) n u (spelled items) ≡ fold_items g t u items) →
+  item_first : (i : GkatItem) (items : List GkatItem) (s : S) (n : ℕ) → item_by g s (item_onto i (spelled items)) ≡ before (spelled items) (fold_item g t s i) → ((u : S) → items_within (item_by g) n u (spelled items) ≡ fold_items g t u items) →
       items_within (item_by g) (suc n) s (item_onto i (spelled items)) ≡ (fold_item g t s i >>= λ u. fold_items g t u items)
   item_first (tests keyword ns end) items s n e h = ap (λ (m : Parsed S). m >>= λ x. items_within (item_by g) n x.0 x.1) e ∙ then_items items n (fold_item g t s (tests keyword ns end)) h
   item_first (actions keyword ns end) items s n e h = ap (λ (m : Parsed S). m >>= λ x. items_within (item_by g) n x.0 x.1) e ∙ then_items items n (fold_item g t s (actions keyword ns end)) h
   item_first (equal keyword p comma q end) items s n e h = ap (λ (m : Parsed S). m >>= λ x. items_within (item_by g) n x.0 x.1) e ∙ then_items items n (fold_item g t s (equal keyword p comma q end)) h
 
   -- reading a list of n items takes at most n + 1 steps
-  within_folded : (items : List Item) (s : S) (n : ℕ) → ItemsObey items → length items ≤ n → items_within (item_by g) (suc n) s (spelled items) ≡ fold_items g t s items
+  within_folded : (items : List GkatItem) (s : S) (n : ℕ) → ItemsObey items → length items ≤ n → items_within (item_by g) (suc n) s (spelled items) ≡ fold_items g t s items
   within_folded [] s n o le = refl
   within_folded (i ∷ items) s zero o le = absurd (omega (arith, le))
   within_folded (i ∷ items) s (suc n) o le = item_first i items s (suc n) (item_folded i s (spelled items) o.0) (λ u. within_folded items u n o.1 (omega (arith, le)))
 
-  pub items_folded : (s : S) (items : List Item) → ItemsObey items → items_by g s (spelled items) ≡ fold_items g t s items
+  pub items_folded : (s : S) (items : List GkatItem) → ItemsObey items → items_by g s (spelled items) ≡ fold_items g t s items
   items_folded s items o = within_folded items s (length (spelled items)) o (items_long items)

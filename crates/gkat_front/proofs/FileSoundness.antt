@@ -14,13 +14,13 @@ use Rattle.problem_file.proofs.NameWalks.{declaration_found}
 use Rattle.gkat_front.specs.GkatPhrases.{expr, gkat_onto, IsGkatPhrase}
 use Rattle.gkat_front.specs.FileActions.{FileActions}
 use Rattle.gkat_front.specs.Items.{sides_by, equal_by, item_by, items_by}
-use Rattle.gkat_front.specs.FilePhrases.{Item, tests, actions, equal, item_onto, ItemObeys, ItemFits, AreSpelledBy}
+use Rattle.gkat_front.specs.FilePhrases.{GkatItem, tests, actions, equal, item_onto, ItemObeys, ItemFits, AreSpelledBy}
 
 -- ---- items
 
 -- the tokens begin with an item
 record ItemFound (ts rest : List Lexeme) : Type 0 where
-  item : Item
+  item : GkatItem
   spelled : ts ≡ item_onto item rest
   obeys : ItemObeys item rest
   fits : ItemFits item
@@ -57,7 +57,7 @@ module _ {S V : Type 0} (g : FileActions S V) (expr_is : (s : S) (ts : List Lexe
   item_found s (lexeme (Keyword word.Equal) at text ∷ ts) y e = equal_found s at text ts y e
   item_found s (lexeme _ at text ∷ ts) y e = absurd cc
 
-  within_found : (n : ℕ) (s t : S) (ts : List Lexeme) → items_within (item_by g) n s ts ≡ Ok t → (items : List Item) × AreSpelledBy items ts
+  within_found : (n : ℕ) (s t : S) (ts : List Lexeme) → items_within (item_by g) n s ts ≡ Ok t → (items : List GkatItem) × AreSpelledBy items ts
   within_found zero s t ts e = absurd cc
   within_found (suc n) s t [] e = ([], record { spells = refl; obey = tt; fit = tt })
   within_found (suc n) s t (l ∷ ts) e =
@@ -66,5 +66,5 @@ module _ {S V : Type 0} (g : FileActions S V) (expr_is : (s : S) (ts : List Lexe
       let found = subst (λ (r : List Lexeme). ItemFound (l ∷ ts) r) (more.1).spells (item_found s (l ∷ ts) a.0 a.1) in
       (found.item ∷ more.0, record { spells = found.spelled; obey = (found.obeys, (more.1).obey); fit = (found.fits, (more.1).fit) })
 
-  pub items_found : (s t : S) (ts : List Lexeme) → items_by g s ts ≡ Ok t → (items : List Item) × AreSpelledBy items ts
+  pub items_found : (s t : S) (ts : List Lexeme) → items_by g s ts ≡ Ok t → (items : List GkatItem) × AreSpelledBy items ts
   items_found s t ts e = within_found (suc (length ts)) s t ts e

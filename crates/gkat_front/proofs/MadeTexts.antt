@@ -18,7 +18,7 @@ use Rattle.gkat_front.specs.GkatWalks.{whole, parse_gkat}
 use Rattle.gkat_front.specs.GkatMaking.{guard_at, making_expr}
 use Rattle.gkat_front.specs.GkatPhrases.{expr, GkatPhrase, gkat_onto, GkatObeys}
 use Rattle.gkat_front.specs.GkatFolds.{cond_fold, gkat_of}
-use Rattle.gkat_front.specs.Files.{State, start}
+use Rattle.gkat_front.specs.Files.{GkatState, start}
 use Rattle.gkat_front.specs.Making.{making}
 use Rattle.gkat_front.specs.Laws.{TextsAreMade}
 use Rattle.gkat_front.proofs.GkatCompleteness.{Stops, gkat_read}
@@ -37,7 +37,7 @@ cond_reads w d p ts o last =
     rw (cond_parsed (extents w) p c ts o (longest p ts last), cond_parsed (trees w) p c ts o (longest p ts last))
     (measured_same ts (fold (extents w) c p ((extents w).conds).one_of) (fold (trees w) c p ((trees w).conds).one_of))
 
-expr_reads : (s : State) (p : GkatPhrase expr) (ts : List Lexeme) → GkatObeys p ts → Stops expr ts → parse_gkat (making_expr s.world) whole 0 (gkat_onto p ts) ≡ before ts (gkat_of s.world p)
+expr_reads : (s : GkatState) (p : GkatPhrase expr) (ts : List Lexeme) → GkatObeys p ts → Stops expr ts → parse_gkat (making_expr s.world) whole 0 (gkat_onto p ts) ≡ before ts (gkat_of s.world p)
 expr_reads s p ts o stops = gkat_read (making_expr s.world) (cond_fold s.world) (cond_reads s.world) p 0 ts o stops
 
 pub texts_are_made : TextsAreMade

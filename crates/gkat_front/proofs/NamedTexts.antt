@@ -27,8 +27,8 @@ use Rattle.gkat_front.specs.GkatScans.{scanning_expr}
 use Rattle.gkat_front.specs.GkatMaking.{guard_at, named_by, making_expr}
 use Rattle.gkat_front.specs.FileActions.{FileActions}
 use Rattle.gkat_front.specs.Items.{sides_by, equal_by, item_by, items_by}
-use Rattle.gkat_front.specs.Files.{State, start, check_new, file_with, file_of}
-use Rattle.gkat_front.specs.Making.{scanning, scan_file, making, walk, tested}
+use Rattle.gkat_front.specs.Files.{GkatState, start, check_new, file_with, file_of}
+use Rattle.gkat_front.specs.Making.{scanning, scan_file, making, parse_items, tested}
 use Rattle.problem_file.proofs.Lists.{items_named as all_named}
 use Rattle.problem_file.proofs.NamedBlocks.{wanted_named, enter_named}
 use Rattle.problem_file.proofs.NameWalks.{declaration_named, declaration_short}
@@ -191,11 +191,11 @@ making_named = record {
   asks = λ s at l r. if_named (nat_lt MAX_TERM_NODES (gkat_size l)) (Err (TooLarge at)) _ (λ e. tt) (λ e. if_named (nat_lt MAX_TERM_NODES (gkat_size r)) (Err (TooLarge at)) _ (λ k. tt) (λ k. tt));
 }
 
-file_named : (s : State) (o : Option (GkatTree × GkatTree)) → IsNamed (file_with s o)
+file_named : (s : GkatState) (o : Option (GkatTree × GkatTree)) → IsNamed (file_with s o)
 file_named s None = tt
 file_named s (Some x) = tt
 
 pub tested_named : (ts : List Lexeme) → IsNamed (tested ts)
 tested_named ts =
     then_named (scan_file ts) _ (items_named scanning scanning_named tt ts)
-    (λ u. then_named (walk ts) file_of (items_named making making_named start ts) (λ s. file_named s s.sides))
+    (λ u. then_named (parse_items ts) file_of (items_named making making_named start ts) (λ s. file_named s s.sides))

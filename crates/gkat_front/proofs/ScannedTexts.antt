@@ -19,7 +19,7 @@ use Rattle.gkat_front.specs.GkatWalks.{whole, parse_gkat}
 use Rattle.gkat_front.specs.GkatScans.{scanning_expr}
 use Rattle.gkat_front.specs.GkatPhrases.{Guard, GkatSymbol, expr, factors, factor, unit, GkatPhrase, one_product, two_products, one_factor, more_factors, once, repeated, zero_unit, one_unit, name_unit, guard_unit, round_unit, gkat_onto, GkatObeys, GuardFits, GkatFits}
 use Rattle.gkat_front.specs.GkatFolds.{CondFold, Folded, fold_guard, fold_gkat}
-use Rattle.gkat_front.specs.FilePhrases.{Item, tests, actions, equal, ItemFits, ItemsFit}
+use Rattle.gkat_front.specs.FilePhrases.{GkatItem, tests, actions, equal, ItemFits, ItemsFit}
 use Rattle.gkat_front.specs.FileFolds.{ExprFold, fold_item, fold_items}
 use Rattle.gkat_front.specs.Making.{scanning, scan_file}
 use Rattle.gkat_front.specs.Laws.{TextsAreScanned}
@@ -71,12 +71,12 @@ names_pass : (ns : Names) → fold_names (λ (s : Unit {0}) (at : ℕ) (name : L
 names_pass (one_name l) = refl
 names_pass (more_names l c ns) = names_pass ns
 
-item_passes : (i : Item) → ItemFits i → fold_item scanning expr_scan tt i ≡ Ok tt
+item_passes : (i : GkatItem) → ItemFits i → fold_item scanning expr_scan tt i ≡ Ok tt
 item_passes (tests keyword ns end) fits = names_pass ns
 item_passes (actions keyword ns end) fits = names_pass ns
 item_passes (equal keyword p comma q end) fits = rw (gkat_passes p 0 fits.0, gkat_passes q 0 fits.1) refl
 
-items_pass : (items : List Item) → ItemsFit items → fold_items scanning expr_scan tt items ≡ Ok tt
+items_pass : (items : List GkatItem) → ItemsFit items → fold_items scanning expr_scan tt items ≡ Ok tt
 items_pass [] fit = refl
 items_pass (i ∷ items) fit = rw (item_passes i fit.0) (items_pass items fit.1)
 

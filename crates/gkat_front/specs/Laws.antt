@@ -11,18 +11,18 @@ use Rattle.gkat_terms.specs.Expressions.{GkatTree}
 use Rattle.gkat_front.specs.GkatPhrases.{expr, IsGkatPhrase}
 use Rattle.gkat_front.specs.GkatFolds.{gkat_of}
 use Rattle.gkat_front.specs.Files.{start}
-use Rattle.gkat_front.specs.FilePhrases.{Item, spelled, ItemsObey, AreSpelledBy}
+use Rattle.gkat_front.specs.FilePhrases.{GkatItem, spelled, ItemsObey, AreSpelledBy}
 use Rattle.gkat_front.specs.FileFolds.{made_by}
-use Rattle.gkat_front.specs.Making.{scan_file, walk}
+use Rattle.gkat_front.specs.Making.{scan_file, parse_items}
 use Rattle.gkat_front.specs.Printing.{gkat_pieces, GkatIsNamed, gkat_nesting}
 
 -- the syntax test accepts the tokens if and only if they spell items in which nothing is too deep or too wide
 abbrev pub TextsAreScanned : Type 0
-TextsAreScanned = (ts : List Lexeme) → (scan_file ts ≡ Ok tt) ↔ ((items : List Item) × AreSpelledBy items ts)
+TextsAreScanned = (ts : List Lexeme) → (scan_file ts ≡ Ok tt) ↔ ((items : List GkatItem) × AreSpelledBy items ts)
 
 -- the state after the tokens of items is the state after the items
 abbrev pub TextsAreMade : Type 0
-TextsAreMade = (items : List Item) → ItemsObey items → walk (spelled items) ≡ made_by start items
+TextsAreMade = (items : List GkatItem) → ItemsObey items → parse_items (spelled items) ≡ made_by start items
 
 -- the tokens of the text of the pieces are those of one side of `equal` with nothing after it, and this side has the
 -- given tree in the scope

@@ -9,7 +9,7 @@ use Rattle.gkat_front.specs.GkatScans.{scanning_expr}
 use Rattle.gkat_front.specs.GkatMaking.{making_expr}
 use Rattle.gkat_front.specs.FileActions.{FileActions}
 use Rattle.gkat_front.specs.Items.{items_by}
-use Rattle.gkat_front.specs.Files.{GkatFileParts, State, start, declare_test, declare_action, begin_equal, ask, file_of}
+use Rattle.gkat_front.specs.Files.{GkatFileParts, GkatState, start, declare_test, declare_action, begin_equal, ask, file_of}
 
 -- makes nothing and refuses no part
 abbrev pub scanning : FileActions (Unit {0}) (Unit {0})
@@ -25,7 +25,7 @@ scanning = record {
 abbrev pub scan_file : List Lexeme → Result (Unit {0}) TextFault
 scan_file ts = items_by scanning tt ts
 
-abbrev pub making : FileActions State GkatTree
+abbrev pub making : FileActions GkatState GkatTree
 making = record {
   expr = λ s ts. parse_gkat (making_expr s.world) whole 0 ts;
   declare_test = declare_test;
@@ -35,9 +35,9 @@ making = record {
 }
 
 -- the state after all items, or the first fault of the first item that has one
-abbrev pub walk : List Lexeme → Result State TextFault
-walk ts = items_by making start ts
+abbrev pub parse_items : List Lexeme → Result GkatState TextFault
+parse_items ts = items_by making start ts
 
 -- tests the tokens: first their syntax, then their items
 abbrev pub tested : List Lexeme → Result GkatFileParts TextFault
-tested ts = scan_file ts >>= λ u. walk ts >>= file_of
+tested ts = scan_file ts >>= λ u. parse_items ts >>= file_of

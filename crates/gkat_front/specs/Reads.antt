@@ -9,7 +9,7 @@ use Rattle.problem_file.specs.FirstFaults.{IsFirstFault}
 use Rattle.gkat_front.specs.declared.file.GkatFile.{GkatFile}
 use Rattle.gkat_front.specs.Files.{GkatFileParts}
 use Rattle.gkat_front.specs.FileViews.{file_parts}
-use Rattle.gkat_front.specs.FilePhrases.{Item, AreSpelledBy}
+use Rattle.gkat_front.specs.FilePhrases.{GkatItem, AreSpelledBy}
 use Rattle.gkat_front.specs.FileFolds.{file_made}
 use Rattle.gkat_front.specs.Making.{tested}
 
@@ -18,7 +18,7 @@ use Rattle.gkat_front.specs.Making.{tested}
 pub record Reads (bytes : List ℕ) (f : GkatFileParts) : Type 0 where
   pub parts_of_tokens : List TokenParts
   pub lexes : Lexes bytes parts_of_tokens
-  pub items : List Item
+  pub items : List GkatItem
   pub spells : AreSpelledBy items (map lexeme_of parts_of_tokens)
   pub file : file_made items ≡ Ok f
 

@@ -11,7 +11,7 @@ use text_tokens::{TextFault, Token};
 
 // The kinds of declared names.
 #[derive(Clone, Copy, Debug, PartialEq, Eq)]
-pub(crate) enum Declared {
+pub(crate) enum GkatDeclared {
     Test,
     Action,
 }
@@ -21,7 +21,7 @@ pub(crate) enum Declared {
 //
 // Contracts see the effect of the items so far as `state`, and the methods as `actions`. `memory` is what a `NoMemory`
 // of a method implies: `⊥` if no method returns it.
-pub(crate) trait ItemReading {
+pub(crate) trait GkatItemReading {
     // The value of an expression.
     type Expr: Drop;
 
@@ -43,7 +43,7 @@ pub(crate) trait ItemReading {
         ensures goes { Goes from (length toks.now) result };
 
     // Declares a name.
-    fn declare(&mut self, what: Declared, name: &Token) -> Result<(), TextFault>
+    fn declare(&mut self, what: GkatDeclared, name: &Token) -> Result<(), TextFault>
         requires { IsIdentifier name.now.text.now }
         ensures { Does memory result (state self.new) (declare_by actions what (state self.old) name.now.at name.now.text.now) };
 

@@ -8,18 +8,18 @@ ghost use Rattle.problem_file.specs.Working.Walks.{Steps, Does};
 ghost use Rattle.gkat_front.specs.Items.{sides_by, equal_by, item_by, items_by};
 ghost use Rattle.gkat_front.specs.Working.Declarations.{declare_by};
 
-use crate::item_reading::{Declared, ItemReading};
+use crate::item_reading::{GkatDeclared, GkatItemReading};
 use problem_file::name_at;
 use text_grammar::{Keyword, Separator, Terminal, expect, is_at, syntax_fault_at, terminal_at};
 use text_tokens::{TextFault, Token};
 
 // Declares the name at an index, and returns the index after it.
 #[tactic(auto, using(text_grammar::proofs::Tokens::next_drop))]
-fn read_name<R: ItemReading>(
+fn read_name<R: GkatItemReading>(
     reading: &mut R,
     toks: &[Token],
     from: usize,
-    what: Declared,
+    what: GkatDeclared,
 ) -> Result<usize, TextFault>
     requires tokens { AreTokens toks.now }
     ensures value { Steps R.memory toks.now from result (R.state reading.new) (at_name (declare_by R.actions what (R.state reading.old))) }
@@ -32,11 +32,11 @@ fn read_name<R: ItemReading>(
 
 // Declares names separated by commas.
 #[tactic(auto, using(text_grammar::proofs::Tokens::next_drop))]
-fn read_names<R: ItemReading>(
+fn read_names<R: GkatItemReading>(
     reading: &mut R,
     toks: &[Token],
     from: usize,
-    what: Declared,
+    what: GkatDeclared,
 ) -> Result<usize, TextFault>
     requires tokens { AreTokens toks.now }
     ensures value { Steps R.memory toks.now from result (R.state reading.new) (over_names (declare_by R.actions what) (R.state reading.old)) }
@@ -52,11 +52,11 @@ fn read_names<R: ItemReading>(
     }
 }
 
-fn read_declaration<R: ItemReading>(
+fn read_declaration<R: GkatItemReading>(
     reading: &mut R,
     toks: &[Token],
     from: usize,
-    what: Declared,
+    what: GkatDeclared,
 ) -> Result<usize, TextFault>
     requires tokens { AreTokens toks.now }
     ensures value { Steps R.memory toks.now from result (R.state reading.new) (declaration_by (declare_by R.actions what) (R.state reading.old)) }
@@ -67,7 +67,7 @@ fn read_declaration<R: ItemReading>(
 }
 
 // Reads two expressions separated by a comma.
-fn read_sides<R: ItemReading>(
+fn read_sides<R: GkatItemReading>(
     reading: &R,
     toks: &[Token],
     from: usize,
@@ -81,7 +81,7 @@ fn read_sides<R: ItemReading>(
     Ok(((left, right), end))
 }
 
-fn read_equal<R: ItemReading>(
+fn read_equal<R: GkatItemReading>(
     reading: &mut R,
     toks: &[Token],
     from: usize,
@@ -98,7 +98,7 @@ fn read_equal<R: ItemReading>(
 }
 
 #[tactic(auto, using(text_grammar::proofs::Tokens::next_drop))]
-fn read_item<R: ItemReading>(
+fn read_item<R: GkatItemReading>(
     reading: &mut R,
     toks: &[Token],
     from: usize,
@@ -112,10 +112,10 @@ fn read_item<R: ItemReading>(
     };
     match terminal {
         Terminal::Keyword(Keyword::Test) => {
-            read_declaration(reading, toks, from + 1, Declared::Test)
+            read_declaration(reading, toks, from + 1, GkatDeclared::Test)
         }
         Terminal::Keyword(Keyword::Action) => {
-            read_declaration(reading, toks, from + 1, Declared::Action)
+            read_declaration(reading, toks, from + 1, GkatDeclared::Action)
         }
         Terminal::Keyword(Keyword::Equal) => read_equal(reading, toks, from + 1, at),
         _ => Err(TextFault::Syntax(at)),
@@ -123,7 +123,10 @@ fn read_item<R: ItemReading>(
 }
 
 // Reads all items, up to the first fault. A `Syntax` after the last token has the place `usize::MAX`.
-pub(crate) fn read_items<R: ItemReading>(reading: &mut R, toks: &[Token]) -> Result<(), TextFault>
+pub(crate) fn read_items<R: GkatItemReading>(
+    reading: &mut R,
+    toks: &[Token],
+) -> Result<(), TextFault>
     requires tokens { AreTokens toks.now }
     ensures { Does R.memory result (R.state reading.new) (items_by R.actions (R.state reading.old) (lexemes toks.now)) }
 {

@@ -2,7 +2,7 @@
 ghost use Rattle.problem_file.specs.Working.Numbers.{AreNumbered};
 
 use crate::file::GkatFile;
-use crate::item_reading::{Declared, ItemReading};
+use crate::item_reading::{GkatDeclared, GkatItemReading};
 use crate::making::MakeExpr;
 use crate::walk::read_expr;
 use gkat_terms::Gkat;
@@ -105,15 +105,15 @@ impl GkatReader {
     }
 }
 
-impl ItemReading for GkatReader {
+impl GkatItemReading for GkatReader {
     type Expr = Gkat;
 
     ghost use Rattle.gkat_terms.specs.Expressions.{GkatTree, gkat_tree};
-    ghost use Rattle.gkat_front.specs.Files.{State};
+    ghost use Rattle.gkat_front.specs.Files.{GkatState};
     ghost use Rattle.gkat_front.specs.Making.{making};
     ghost use Rattle.gkat_front.specs.Working.States.{state_of};
 
-    ghost S = { State };
+    ghost S = { GkatState };
 
     ghost V = { GkatTree };
 
@@ -133,10 +133,10 @@ impl ItemReading for GkatReader {
         read_expr(&make, toks, from, 0)
     }
 
-    fn declare(&mut self, what: Declared, name: &Token) -> Result<(), TextFault> {
+    fn declare(&mut self, what: GkatDeclared, name: &Token) -> Result<(), TextFault> {
         match what {
-            Declared::Test => self.declare_test(name),
-            Declared::Action => self.declare_action(name),
+            GkatDeclared::Test => self.declare_test(name),
+            GkatDeclared::Action => self.declare_action(name),
         }
     }
 

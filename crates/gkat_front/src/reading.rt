@@ -7,7 +7,7 @@ ghost use Rattle.text_grammar.specs.Parsed.{Makes};
 ghost use Rattle.problem_file.specs.Tokens.{AreTokens};
 ghost use Rattle.gkat_front.specs.Files.{GkatFileParts};
 ghost use Rattle.gkat_front.specs.FileViews.{file_parts};
-ghost use Rattle.gkat_front.specs.Making.{walk, tested};
+ghost use Rattle.gkat_front.specs.Making.{parse_items, tested};
 ghost use Rattle.gkat_front.specs.Reads.{Reads, Answers};
 ghost use Rattle.gkat_front.specs.Working.States.{state_of};
 
@@ -19,9 +19,9 @@ use problem_file::{fault_in_text, text_of};
 use std::alloc::Global;
 use text_tokens::{TextFault, Token, tokens};
 
-fn walk(alloc: Global, toks: &[Token]) -> Result<GkatReader, TextFault>
+fn parse_items(alloc: Global, toks: &[Token]) -> Result<GkatReader, TextFault>
     requires tokens { AreTokens toks.now }
-    ensures { Makes (Unit {0}) state_of result (walk (lexemes toks.now)) }
+    ensures { Makes (Unit {0}) state_of result (parse_items (lexemes toks.now)) }
 {
     let mut reader = GkatReader::new(alloc);
     read_items(&mut reader, toks)?;
@@ -34,7 +34,7 @@ fn test(alloc: Global, toks: &[Token]) -> Result<GkatFile, TextFault>
     ensures { Makes (Unit {0}) file_parts result (tested (lexemes toks.now)) }
 {
     test_syntax(toks)?;
-    walk(alloc, toks)?.file()
+    parse_items(alloc, toks)?.file()
 }
 
 fn read_text(alloc: Global, text: &str) -> Result<GkatFile, TextFault>

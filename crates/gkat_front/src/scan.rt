@@ -6,7 +6,7 @@ ghost use Rattle.gkat_front.specs.GkatScans.{scanning_expr};
 ghost use Rattle.gkat_front.specs.Making.{scanning, scan_file};
 
 use crate::gkat_reading::GkatReading;
-use crate::item_reading::{Declared, ItemReading};
+use crate::item_reading::{GkatDeclared, GkatItemReading};
 use crate::items::read_items;
 use crate::walk::read_expr;
 use text_grammar::{Context, Scan};
@@ -82,7 +82,7 @@ impl GkatReading for ExprScan {
 #[derive(Drop)]
 struct FileScan;
 
-impl ItemReading for FileScan {
+impl GkatItemReading for FileScan {
     type Expr = ();
 
     ghost S = { Unit {0} };
@@ -101,7 +101,7 @@ impl ItemReading for FileScan {
         read_expr(&ExprScan, toks, from, 0)
     }
 
-    fn declare(&mut self, _: Declared, _: &Token) -> Result<(), TextFault> {
+    fn declare(&mut self, _: GkatDeclared, _: &Token) -> Result<(), TextFault> {
         Ok(())
     }
 

@@ -1,4 +1,4 @@
--- The walk over items never fails with `NoMemory` if its actions never do.
+-- Reading items never fails with `NoMemory` if its actions never do.
 use Rattle.std.proofs.Common.{ℕ, suc, ◌+◌, ◌<◌, List, [], ◌∷◌, length, Bool, true, false, cond, Result, Ok, Err, Option, Some, None, arith, drop, length-drop}
 use Rattle.text_tokens.specs.declared.fault.TextFault.{TextFault}
 use Rattle.text_tokens.specs.declared.fault.TextFault.TheVariants.{Syntax}

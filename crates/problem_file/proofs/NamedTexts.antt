@@ -39,7 +39,7 @@ use Rattle.problem_file.specs.Files.{GoalTree, prog_named, State, start, most_go
 use Rattle.problem_file.specs.Numbers.{check_number, check_numbers}
 use Rattle.problem_file.specs.Items.{lone_name}
 use Rattle.problem_file.specs.Syntax.{checking, scan_file}
-use Rattle.problem_file.specs.Making.{declare, begin_setting, set, built_term, built_cond, built_block, program_or, built_side, built_triple, built_goal, count, triple_nodes, count_sides, count_parts, ask_sides, ask_triple, making, walk}
+use Rattle.problem_file.specs.Making.{declare, begin_setting, set, built_term, built_cond, built_block, program_or, built_side, built_triple, built_goal, count, triple_nodes, count_sides, count_parts, ask_sides, ask_triple, making, parse_items}
 use Rattle.problem_file.specs.Reads.{files_with, check_goal, tested}
 use Rattle.problem_file.proofs.NamedBlocks.{NameBlocks, block_named}
 use Rattle.problem_file.proofs.NamedItems.{NameItems, items_named}
@@ -250,4 +250,4 @@ files_with_named s (Some goal) = tt
 pub tested_named : (limit : GoalLimit) (ts : List Lexeme) → IsNamed (tested limit ts)
 tested_named limit ts =
     then_named (scan_file ts) _ (items_named checking checking_named tt ts)
-    (λ v. then_named (walk (start limit) ts) check_goal (items_named making making_named (start limit) ts) (λ s. files_with_named s (slice_get s.goals 0)))
+    (λ v. then_named (parse_items (start limit) ts) check_goal (items_named making making_named (start limit) ts) (λ s. files_with_named s (slice_get s.goals 0)))

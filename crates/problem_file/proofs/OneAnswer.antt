@@ -12,12 +12,12 @@ use Rattle.problem_file.specs.declared.goal_limit.GoalLimit.{GoalLimit}
 use Rattle.problem_file.specs.declared.goal_limit.GoalLimit.TheVariants.{One, Batch}
 use Rattle.problem_file.specs.Files.{GoalTree, FileParts, State, start, file_of}
 use Rattle.problem_file.specs.Syntax.{scan_file}
-use Rattle.problem_file.specs.Making.{walk}
+use Rattle.problem_file.specs.Making.{parse_items}
 use Rattle.problem_file.specs.Reads.{Says, Reads, FirstFault, FirstFaultOfAll, files_with, check_goal, tested}
 use Rattle.problem_file.specs.Laws.{HaveOneAnswer, ReadsBoth}
 use Rattle.problem_file.proofs.Results.{same_ok}
 use Rattle.problem_file.proofs.ScannedFiles.{files_are_scanned}
-use Rattle.problem_file.proofs.WalkedItems.{items_are_walked}
+use Rattle.problem_file.proofs.WalkedItems.{items_are_made}
 use Rattle.problem_file.proofs.NamedTexts.{tested_named}
 use Rattle.problem_file.proofs.TextAnswers.{Tells, one_answer}
 
@@ -39,7 +39,7 @@ module _ (limit : GoalLimit) (bytes : List ℕ) where
   said_tested x =
       let ts = map lexeme_of x.parts_of_tokens in
       let scanned : scan_file ts ≡ Ok tt = (files_are_scanned ts).1 (x.items, x.spells) in
-      let walked : walk (start limit) ts ≡ Ok x.state = (items_are_walked (start limit) x.state x.items ts (start_limited limit) x.spells).1 x.make in
+      let walked : parse_items (start limit) ts ≡ Ok x.state = (items_are_made (start limit) x.state x.items ts (start_limited limit) x.spells).1 x.make in
       rw (scanned, walked, x.has_goal) refl
 
   goal_told : (s : State) (y : FileParts × List GoalTree) (o : Option GoalTree) → files_with s o ≡ Ok y → (goal : GoalTree) × (o ≡ Some goal) × (y ≡ (file_of s goal, drop 1 s.goals))
@@ -49,8 +49,8 @@ module _ (limit : GoalLimit) (bytes : List ℕ) where
   pub tested_says : (ms : List TokenParts) → Lexes bytes ms → (y : FileParts × List GoalTree) → tested limit (map lexeme_of ms) ≡ Ok y → (x : Says limit bytes) × (y ≡ said x)
   tested_says ms lexes y t =
       let ts = map lexeme_of ms in
-      let scanned = bind_ok (scan_file ts) (λ u. walk (start limit) ts >>= check_goal) y t in
-      let walked = bind_ok (walk (start limit) ts) check_goal y scanned.2 in
+      let scanned = bind_ok (scan_file ts) (λ u. parse_items (start limit) ts >>= check_goal) y t in
+      let walked = bind_ok (parse_items (start limit) ts) check_goal y scanned.2 in
       let goal = goal_told walked.0 y (slice_get (walked.0).goals 0) walked.2 in
       let file = (files_are_scanned ts).0 scanned.1 in (
         record {
@@ -59,7 +59,7 @@ module _ (limit : GoalLimit) (bytes : List ℕ) where
           items = file.0;
           spells = file.1;
           state = walked.0;
-          make = (items_are_walked (start limit) walked.0 file.0 ts (start_limited limit) file.1).0 walked.1;
+          make = (items_are_made (start limit) walked.0 file.0 ts (start_limited limit) file.1).0 walked.1;
           goal = goal.0;
           has_goal = goal.1;
         },

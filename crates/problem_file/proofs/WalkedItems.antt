@@ -29,7 +29,7 @@ use Rattle.problem_file.specs.Phrases.{Names, one_name, more_names, TriplePhrase
 use Rattle.problem_file.specs.Phrases.{braced_onto, triple_onto, sides_onto, ended, spelled, TripleObeys, SidesObey, BodyObeys, ItemsObey, TripleFits, BodyFits, ItemsFit}
 use Rattle.problem_file.specs.Folds.{fold_side, fold_triple, fold_sides, fold_comparison, fold_triple_goal, fold_body, fold_item, fold_items}
 use Rattle.problem_file.specs.Sound.{EachName, DeclaresTest, DeclaresAction, DeclaresVar, side_size, grown, HasRoom, AsksSides, AsksTriple, Makes, MakeAll}
-use Rattle.problem_file.specs.Laws.{ItemsAreWalked}
+use Rattle.problem_file.specs.Laws.{ItemsAreMade}
 use Rattle.problem_file.proofs.Results.{ok_of, same_ok, known}
 use Rattle.problem_file.proofs.FoldedItems.{items_folded}
 use Rattle.problem_file.proofs.MeasuredPhrases.{cond_is, cond_walked, cond_walks, cond_tree_there, after_cond}
@@ -240,8 +240,8 @@ all_walked (i ∷ is) s t limited obey fit e =
     let made = body_walked i.body s a.0 (i.keyword).at (spelled is) limited obey.0 fit.0 a.1 in
     (a.0, made, all_walked is a.0 t (body_limited i.body s a.0 made limited) obey.1 fit.1 a.2)
 
-pub items_are_walked : ItemsAreWalked
-items_are_walked s t items ts limited spells =
+pub items_are_made : ItemsAreMade
+items_are_made s t items ts limited spells =
     let folded = items_folded making s items ts spells.file in (
       (λ e. all_walked items s t limited spells.file.obey spells.fit (sym folded ∙ e)),
       (λ h. folded ∙ all_there items s t limited spells.file.obey spells.fit h),

@@ -7,7 +7,7 @@ use Rattle.text_grammar.specs.Lexemes.{Lexeme}
 use Rattle.while_lang.specs.BlockLaws.{AreLimited}
 use Rattle.problem_file.specs.Files.{GoalTree, FileParts, State}
 use Rattle.problem_file.specs.Syntax.{checking, scan_file}
-use Rattle.problem_file.specs.Making.{making, walk}
+use Rattle.problem_file.specs.Making.{making, parse_items}
 use Rattle.problem_file.specs.Phrases.{Item, IsFile, AreSpelledBy}
 use Rattle.problem_file.specs.Folds.{fold_items}
 use Rattle.problem_file.specs.Sound.{MakeAll}
@@ -22,15 +22,15 @@ abbrev pub FilesAreScanned : Type 0
 FilesAreScanned = (ts : List Lexeme) → (scan_file ts ≡ Ok tt) ↔ IsSomeFile ts
 
 -- from the first state, or from a state with programs within the limit
-abbrev pub ItemsAreWalked : Type 0
-ItemsAreWalked =
+abbrev pub ItemsAreMade : Type 0
+ItemsAreMade =
     (s t : State) (items : List Item) (ts : List Lexeme) → AreLimited s.progs → AreSpelledBy items ts →
-    (walk s ts ≡ Ok t) ↔ MakeAll s items t
+    (parse_items s ts ≡ Ok t) ↔ MakeAll s items t
 
 -- for the tokens of a file, the result of both passes, including a fault, is the fold of their actions over the items
 pub record ItemsAreFolded : Type 0 where
   pub scanned : (items : List Item) (ts : List Lexeme) → IsFile items ts → scan_file ts ≡ fold_items checking tt items
-  pub walked : (s : State) (items : List Item) (ts : List Lexeme) → IsFile items ts → walk s ts ≡ fold_items making s items
+  pub made : (s : State) (items : List Item) (ts : List Lexeme) → IsFile items ts → parse_items s ts ≡ fold_items making s items
 
 -- bytes have exactly one answer or exactly one first fault, which is never `NoMemory`
 pub record HaveOneAnswer {X : Type 0} (Says : List ℕ → X → Type 0) (Fails : List ℕ → TextFault → Type 0) : Type 0 where

@@ -157,5 +157,5 @@ making = record {
 }
 
 -- the state that all items make, or the first fault of the first item that has one
-abbrev pub walk : State → List Lexeme → Result State TextFault
-walk s ts = items_by making s ts
+abbrev pub parse_items : State → List Lexeme → Result State TextFault
+parse_items s ts = items_by making s ts

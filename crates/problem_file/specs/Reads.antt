@@ -11,7 +11,7 @@ use Rattle.problem_file.specs.declared.goal_limit.GoalLimit.TheVariants.{One, Ba
 use Rattle.problem_file.specs.Files.{GoalTree, FileParts, State, start, file_of}
 use Rattle.problem_file.specs.FirstFaults.{IsFirstFault}
 use Rattle.problem_file.specs.Syntax.{scan_file}
-use Rattle.problem_file.specs.Making.{walk}
+use Rattle.problem_file.specs.Making.{parse_items}
 use Rattle.problem_file.specs.Phrases.{Item, AreSpelledBy}
 use Rattle.problem_file.specs.Sound.{MakeAll}
 
@@ -54,7 +54,7 @@ check_goal s = files_with s (slice_get s.goals 0)
 
 -- the checks of tokens in order: first their syntax, then their items
 abbrev pub tested : GoalLimit → List Lexeme → Result (FileParts × List GoalTree) TextFault
-tested limit ts = scan_file ts >>= λ u. walk (start limit) ts >>= check_goal
+tested limit ts = scan_file ts >>= λ u. parse_items (start limit) ts >>= check_goal
 
 -- the first fault of the bytes under this limit of goals
 abbrev pub HasFirstFault : GoalLimit → List ℕ → TextFault → Type 0

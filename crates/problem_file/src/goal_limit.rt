@@ -2,7 +2,7 @@
 use kat_model::MAX_GOALS;
 use text_tokens::TextFault;
 
-// The limit on the number of goals of a text. One walk reads texts with one goal and texts with up to `MAX_GOALS`. What
+// The limit on the number of goals of a text. One reader reads texts with one goal and texts with up to `MAX_GOALS`. What
 // bytes say, their first fault and the law that they have one answer are stated for each limit.
 #[derive(Clone, Copy, Debug, PartialEq, Eq)]
 pub(crate) enum GoalLimit {

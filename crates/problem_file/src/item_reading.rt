@@ -8,7 +8,7 @@ ghost use Rattle.problem_file.specs.Numbers.{until};
 ghost use Rattle.problem_file.specs.Items.{measure_term, measure_cond, measure_block};
 ghost use Rattle.problem_file.specs.Working.Walks.{measured_of, sides_of, triple_of, Tells, Does};
 
-use crate::phrase::{Measured, Sides, Triple};
+use crate::phrase::{Measured, MeasuredSides, MeasuredTriple};
 use text_tokens::{TextFault, Token};
 
 // The kinds of names that an item may declare.
@@ -142,7 +142,7 @@ pub(crate) trait ItemReading {
         &mut self,
         toks: &[Token],
         at: usize,
-        triple: Triple<Self::Measure>,
+        triple: MeasuredTriple<Self::Measure>,
     ) -> Result<(), TextFault>
         ensures { Does memory result (state self.new) (
             (actions).state_triple (state self.old) at (triple_of (lexemes toks.now) triple)
@@ -175,7 +175,7 @@ pub(crate) trait ItemReading {
         toks: &[Token],
         at: usize,
         comparison: Comparison,
-        sides: Sides<Self::Measure>,
+        sides: MeasuredSides<Self::Measure>,
     ) -> Result<(), TextFault>
         ensures { Does memory result (state self.new) (
             (actions).ask_sides comparison (state self.old) at
@@ -187,7 +187,7 @@ pub(crate) trait ItemReading {
         &mut self,
         toks: &[Token],
         at: usize,
-        triple: Triple<Self::Measure>,
+        triple: MeasuredTriple<Self::Measure>,
     ) -> Result<(), TextFault>
         ensures { Does memory result (state self.new) (
             (actions).ask_triple (state self.old) at (triple_of (lexemes toks.now) triple)

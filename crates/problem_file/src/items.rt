@@ -11,7 +11,7 @@ ghost use Rattle.problem_file.specs.Working.Walks.{measured_of, sides_of, triple
 
 use crate::item_reading::{Comparison, Declared, ItemReading, Setting};
 use crate::names::{lone_name, name_at, number_at};
-use crate::phrase::{Measured, Sides, Triple};
+use crate::phrase::{Measured, MeasuredSides, MeasuredTriple};
 use text_grammar::{
     Keyword, Separator, Terminal, expect, is_at, place_at, syntax_fault_at, terminal_at,
 };
@@ -153,28 +153,28 @@ fn triple_at<R: ItemReading>(
     toks: &[Token],
     from: usize,
     in_goal: bool,
-) -> Result<(Triple<R::Measure>, usize), TextFault>
+) -> Result<(MeasuredTriple<R::Measure>, usize), TextFault>
     ensures value { Tells triple_of toks.now from result (triple_by R.actions (R.state reading.now) in_goal) }
     ensures goes { IfOk result (λ x. (from < x.1) × (x.1 ≤ length toks.now)) }
 {
     let (pre, end) = braced_at(reading, toks, from, in_goal)?;
     let (body, end) = middle_at(reading, toks, end, in_goal)?;
     let (post, end) = braced_at(reading, toks, end, in_goal)?;
-    Ok((Triple { pre, body, post }, end))
+    Ok((MeasuredTriple { pre, body, post }, end))
 }
 
 fn sides_at<R: ItemReading>(
     reading: &R,
     toks: &[Token],
     from: usize,
-) -> Result<(Sides<R::Measure>, usize), TextFault>
+) -> Result<(MeasuredSides<R::Measure>, usize), TextFault>
     ensures value { Tells sides_of toks.now from result (sides_by R.actions (R.state reading.now)) }
     ensures goes { IfOk result (λ x. (from < x.1) × (x.1 ≤ length toks.now)) }
 {
     let (left, end) = side_at(reading, toks, from)?;
     let end = expect(toks, end, Terminal::Separator(Separator::Comma))?;
     let (right, end) = side_at(reading, toks, end)?;
-    Ok((Sides { left, right }, end))
+    Ok((MeasuredSides { left, right }, end))
 }
 
 fn block_at<R: ItemReading>(

@@ -1,5 +1,5 @@
 //! Laws of the definitions. Each function does nothing: its contract is the law.
-ghost use Rattle.problem_file.specs.Laws.{FilesAreScanned, ItemsAreFolded, ItemsAreWalked};
+ghost use Rattle.problem_file.specs.Laws.{FilesAreScanned, ItemsAreFolded, ItemsAreMade};
 ghost use Rattle.problem_file.specs.Reads.{Reads, FirstFault, FirstFaultOfAll};
 ghost use Rattle.problem_file.specs.Laws.{HaveOneAnswer, ReadsBoth, AreInRanges, AreAllInRanges};
 
@@ -9,17 +9,17 @@ pub fn files_are_scanned()
     ensures { FilesAreScanned }
 {}
 
-/// For the tokens of a file, the results of the syntax check and of the walk are the folds of their actions over its
+/// For the tokens of a file, the results of the syntax check and of `parse_items` are the folds of their actions over its
 /// items, from the first on. So the first fault is the fault of the first item that has one.
 pub fn items_are_folded()
     ensures { ItemsAreFolded }
 {}
 
-/// If the syntax is correct, the walk over the items succeeds exactly when each item makes a next state, and it returns
-/// the state that they make. This requires that the expressions of earlier programs have at most `MAX_EXPR_NODES`
+/// If the syntax is correct, `parse_items` succeeds exactly when each item makes a next state, and it returns the state
+/// that they make. This requires that the expressions of earlier programs have at most `MAX_EXPR_NODES`
 /// nodes, as those of programs that were read have.
-pub fn items_are_walked()
-    ensures { ItemsAreWalked }
+pub fn items_are_made()
+    ensures { ItemsAreMade }
 {}
 
 /// Bytes have exactly one answer or exactly one first fault, and never both; a first fault is never `NoMemory`.

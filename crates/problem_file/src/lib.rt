@@ -16,7 +16,7 @@ mod triple;
 
 pub use file::{File, Goal, Side};
 pub use laws::{
-    are_in_ranges, files_are_scanned, have_one_answer, items_are_folded, items_are_walked,
+    are_in_ranges, files_are_scanned, have_one_answer, items_are_folded, items_are_made,
 };
 pub use names::{name_at, number_at};
 pub use reading::{fault_in_text, read, read_all, text_of};

@@ -21,7 +21,7 @@ use crate::file::{Goal, Side, prog_meant};
 use crate::item_reader::ItemReader;
 use crate::item_reading::{Comparison, Declared, ItemReading, Setting};
 use crate::names::lone_name;
-use crate::phrase::{Measured, Sides, Triple};
+use crate::phrase::{Measured, MeasuredSides, MeasuredTriple};
 use crate::triple::triple_term;
 use kat_model::{
     Cond, Items, Kat, MAX_HYPS, MAX_OPEN, MAX_ROUNDS, MAX_TERM_NODES, NoMemory, Width,
@@ -43,7 +43,7 @@ fn check_size(at: usize, nodes: u64) -> Result<(), TextFault>
 }
 
 // Returns the total number of nodes of the three phrases, saturated at 2^64 - 1.
-fn nodes_of(triple: Triple<Extent>) -> u64
+fn nodes_of(triple: MeasuredTriple<Extent>) -> u64
     ensures { let pre = triple.pre.measure.nodes in
         let body = triple.body.measure.nodes in
         result ≡ min (pre + body + triple.post.measure.nodes) (2 ^ 64 - 1) }
@@ -164,7 +164,7 @@ impl ItemReader {
         &mut self,
         toks: &[Token],
         at: usize,
-        sides: Sides<Extent>,
+        sides: MeasuredSides<Extent>,
     ) -> Result<(), TextFault>
         ensures { Leaves result self.new (
             count_sides (state_of self.old) at (sides_of (lexemes toks.now) sides)
@@ -182,7 +182,7 @@ impl ItemReader {
         &mut self,
         toks: &[Token],
         at: usize,
-        triple: Triple<Extent>,
+        triple: MeasuredTriple<Extent>,
     ) -> Result<(), TextFault>
         ensures { Leaves result self.new (
             count_parts (state_of self.old) at (triple_of (lexemes toks.now) triple)
@@ -226,7 +226,7 @@ impl ItemReader {
     fn build_triple(
         &self,
         toks: &[Token],
-        triple: Triple<Extent>,
+        triple: MeasuredTriple<Extent>,
     ) -> Result<(Cond, Kat, Cond), TextFault>
         ensures { Builds result (
             built_triple (state_of self.now) (triple_of (lexemes toks.now) triple)
@@ -239,7 +239,7 @@ impl ItemReader {
     }
 
     // Builds the goal that is a triple.
-    fn build_goal(&self, toks: &[Token], triple: Triple<Extent>) -> Result<Goal, TextFault>
+    fn build_goal(&self, toks: &[Token], triple: MeasuredTriple<Extent>) -> Result<Goal, TextFault>
         ensures { Makes (Unit {0}) goal_tree result (
             built_goal (state_of self.now) (triple_of (lexemes toks.now) triple)
             ) }
@@ -415,7 +415,7 @@ impl ItemReading for ItemReader {
         &mut self,
         toks: &[Token],
         at: usize,
-        triple: Triple<Extent>,
+        triple: MeasuredTriple<Extent>,
     ) -> Result<(), TextFault>
         ensures { Leaves result self.new (
             state_triple (state_of self.old) at (triple_of (lexemes toks.now) triple)
@@ -457,7 +457,7 @@ impl ItemReading for ItemReader {
         toks: &[Token],
         at: usize,
         comparison: Comparison,
-        sides: Sides<Extent>,
+        sides: MeasuredSides<Extent>,
     ) -> Result<(), TextFault>
         ensures { Leaves result self.new (
             ask_sides comparison (state_of self.old) at (sides_of (lexemes toks.now) sides)
@@ -474,7 +474,7 @@ impl ItemReading for ItemReader {
         &mut self,
         toks: &[Token],
         at: usize,
-        triple: Triple<Extent>,
+        triple: MeasuredTriple<Extent>,
     ) -> Result<(), TextFault>
         ensures { Leaves result self.new (
             ask_triple (state_of self.old) at (triple_of (lexemes toks.now) triple)

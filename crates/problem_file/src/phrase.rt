@@ -9,14 +9,14 @@ pub(crate) struct Measured<M> {
 
 // The sides of a goal.
 #[derive(Clone, Copy, Debug)]
-pub(crate) struct Sides<M> {
+pub(crate) struct MeasuredSides<M> {
     pub(crate) left: Measured<M>,
     pub(crate) right: Measured<M>,
 }
 
 // The phrases of a triple.
 #[derive(Clone, Copy, Debug)]
-pub(crate) struct Triple<M> {
+pub(crate) struct MeasuredTriple<M> {
     pub(crate) pre: Measured<M>,
     pub(crate) body: Measured<M>,
     pub(crate) post: Measured<M>,

@@ -6,7 +6,7 @@ ghost use Rattle.text_grammar.specs.Parsed.{Makes};
 ghost use Rattle.text_tokens.specs.declared.lexer.TheConstants.{MAX_LEN as MOST};
 ghost use Rattle.problem_file.specs.Files.{GoalTree, FileParts, start};
 ghost use Rattle.problem_file.specs.Trees.{goal_tree};
-ghost use Rattle.problem_file.specs.Making.{walk};
+ghost use Rattle.problem_file.specs.Making.{parse_items};
 ghost use Rattle.problem_file.specs.Tokens.{AreTokens};
 ghost use Rattle.problem_file.specs.Working.States.{state_of};
 ghost use Rattle.problem_file.specs.FirstFaults.{IsNoText, placed};
@@ -48,9 +48,9 @@ pub fn fault_in_text(fault: TextFault, len: usize) -> TextFault
     }
 }
 
-fn walk(alloc: Global, toks: &[Token], limit: GoalLimit) -> Result<ItemReader, TextFault>
+fn parse_items(alloc: Global, toks: &[Token], limit: GoalLimit) -> Result<ItemReader, TextFault>
     requires tokens { AreTokens toks.now }
-    ensures { Makes (Unit {0}) state_of result (walk (start limit) (lexemes toks.now)) }
+    ensures { Makes (Unit {0}) state_of result (parse_items (start limit) (lexemes toks.now)) }
 {
     let mut reader = ItemReader::new(alloc, limit);
     read_items(&mut reader, toks)?;
@@ -63,7 +63,7 @@ fn test(alloc: Global, toks: &[Token], limit: GoalLimit) -> Result<(File, Vec<Go
     ensures { Makes (Unit {0}) (λ x. (x.0, map goal_tree x.1.items)) result (tested limit (lexemes toks.now)) }
 {
     test_syntax(toks)?;
-    walk(alloc, toks, limit)?.files()
+    parse_items(alloc, toks, limit)?.files()
 }
 
 fn read_text(alloc: Global, text: &str, limit: GoalLimit) -> Result<(File, Vec<Goal>), TextFault>

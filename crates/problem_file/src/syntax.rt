@@ -9,7 +9,7 @@ ghost use Rattle.problem_file.specs.Syntax.{checking, scan_file};
 
 use crate::item_reading::{Comparison, Declared, ItemReading, Setting};
 use crate::items::read_items;
-use crate::phrase::{Measured, Sides, Triple};
+use crate::phrase::{Measured, MeasuredSides, MeasuredTriple};
 use text_grammar::{Context, Scan, read_cond, read_term};
 use text_tokens::{TextFault, Token};
 use while_lang::block_end;
@@ -97,7 +97,12 @@ impl ItemReading for Syntax {
         Ok(())
     }
 
-    fn state_triple(&mut self, _: &[Token], _: usize, _: Triple<()>) -> Result<(), TextFault>
+    fn state_triple(
+        &mut self,
+        _: &[Token],
+        _: usize,
+        _: MeasuredTriple<()>,
+    ) -> Result<(), TextFault>
         ensures { result ≡ Ok tt }
     {
         Ok(())
@@ -124,14 +129,14 @@ impl ItemReading for Syntax {
         _: &[Token],
         _: usize,
         _: Comparison,
-        _: Sides<()>,
+        _: MeasuredSides<()>,
     ) -> Result<(), TextFault>
         ensures { result ≡ Ok tt }
     {
         Ok(())
     }
 
-    fn ask_triple(&mut self, _: &[Token], _: usize, _: Triple<()>) -> Result<(), TextFault>
+    fn ask_triple(&mut self, _: &[Token], _: usize, _: MeasuredTriple<()>) -> Result<(), TextFault>
         ensures { result ≡ Ok tt }
     {
         Ok(())

@@ -10,18 +10,18 @@ use Rattle.text_tokens.specs.declared.token.Token.{Token}
 use Rattle.text_grammar.specs.Lexemes.{Lexeme, lexemes}
 use Rattle.text_grammar.specs.Parsed.{Parsed, Makes, Reads}
 use Rattle.problem_file.specs.declared.phrase.Measured.{Measured}
-use Rattle.problem_file.specs.declared.phrase.Sides.{Sides}
-use Rattle.problem_file.specs.declared.phrase.Triple.{Triple}
+use Rattle.problem_file.specs.declared.phrase.MeasuredSides.{MeasuredSides}
+use Rattle.problem_file.specs.declared.phrase.MeasuredTriple.{MeasuredTriple}
 use Rattle.problem_file.specs.ItemActions.{Measurement, SidesMeasurement, TripleMeasurement}
 
 -- a phrase among the tokens
 abbrev pub measured_of : {X : Type 0} → List Lexeme → Measured X → Measurement X
 measured_of ts m = record { measure = m.measure; tokens = drop m.from ts }
 
-abbrev pub sides_of : {X : Type 0} → List Lexeme → Sides X → SidesMeasurement X
+abbrev pub sides_of : {X : Type 0} → List Lexeme → MeasuredSides X → SidesMeasurement X
 sides_of ts m = record { left = measured_of ts m.left; right = measured_of ts m.right }
 
-abbrev pub triple_of : {X : Type 0} → List Lexeme → Triple X → TripleMeasurement X
+abbrev pub triple_of : {X : Type 0} → List Lexeme → MeasuredTriple X → TripleMeasurement X
 triple_of ts m = record { pre = measured_of ts m.pre; body = measured_of ts m.body; post = measured_of ts m.post }
 
 -- the result for the part at an index is the measure of that part, or its fault

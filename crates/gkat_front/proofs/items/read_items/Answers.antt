@@ -17,7 +17,7 @@ items-preserved g c =
     let less : length (drop c.in_ok-at.at ms) < length (drop c.items.at ms) = drop_less c.items.at c.in_ok-at.at ms goes.0 (omega (arith, count, c.items-test.true)) in
     record {
       place = goes.1;
-      left = items_go (item_by g.R.ItemReading.actions) (g.R.ItemReading.state c.items.reading) (g.R.ItemReading.state c.read_item.new.reading) (drop c.items.at ms) (drop c.in_ok-at.at ms) _ c.items.invariant.left some c.in_ok-at.ensures.value less;
+      left = items_go (item_by g.R.GkatItemReading.actions) (g.R.GkatItemReading.state c.items.reading) (g.R.GkatItemReading.state c.read_item.new.reading) (drop c.items.at ms) (drop c.in_ok-at.at ms) _ c.items.invariant.left some c.in_ok-at.ensures.value less;
     }
 
 pub returns-in_err-at : goal.returns-in_err-at
@@ -27,6 +27,6 @@ returns-in_err-at g c =
     let some : 0 < length (drop c.items.at ms) = omega (arith, length-drop c.items.at ms, lexemes_length ts, c.items-test.true) in
     let answer = err_from_is_err_and c.from_residual.result c.from_residual.ensures.1 in
     subst
-    (λ r. Does g.R.ItemReading.memory r (g.R.ItemReading.state c.read_item.new.reading) (items_by g.R.ItemReading.actions (g.R.ItemReading.state c.args.reading.now) ms))
+    (λ r. Does g.R.GkatItemReading.memory r (g.R.GkatItemReading.state c.read_item.new.reading) (items_by g.R.GkatItemReading.actions (g.R.GkatItemReading.state c.args.reading.now) ms))
     (sym (answer.1 ∙ ap (λ (f : TextFault). Err f) answer.2))
-    (item_fails (item_by g.R.ItemReading.actions) g.R.ItemReading.memory (g.R.ItemReading.state c.items.reading) (g.R.ItemReading.state c.read_item.new.reading) ts c.items.at (items_by g.R.ItemReading.actions (g.R.ItemReading.state c.args.reading.now) ms) c.in_err-at.field-0.0 c.items.invariant.left some c.in_err-at.ensures.value)
+    (item_fails (item_by g.R.GkatItemReading.actions) g.R.GkatItemReading.memory (g.R.GkatItemReading.state c.items.reading) (g.R.GkatItemReading.state c.read_item.new.reading) ts c.items.at (items_by g.R.GkatItemReading.actions (g.R.GkatItemReading.state c.args.reading.now) ms) c.in_err-at.field-0.0 c.items.invariant.left some c.in_err-at.ensures.value)

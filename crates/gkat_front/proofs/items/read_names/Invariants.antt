@@ -8,7 +8,7 @@ use Rattle.gkat_front.proofs.items.read_names.Given as goal
 abbrev pub invariant-names : goal.invariant-names
 invariant-names g l = record {
   place : l.from ≤ l.at;
-  left : NamesLeft (declare_by g.R.ItemReading.actions l.what) (g.R.ItemReading.state l.reading) (drop l.at (lexemes l.toks)) (over_names (declare_by g.R.ItemReading.actions l.what) (g.R.ItemReading.state l.fn.reading) (drop l.from (lexemes l.toks)));
+  left : NamesLeft (declare_by g.R.GkatItemReading.actions l.what) (g.R.GkatItemReading.state l.reading) (drop l.at (lexemes l.toks)) (over_names (declare_by g.R.GkatItemReading.actions l.what) (g.R.GkatItemReading.state l.fn.reading) (drop l.from (lexemes l.toks)));
 }
 
 abbrev pub decreases-names : goal.decreases-names

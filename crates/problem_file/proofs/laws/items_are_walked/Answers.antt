@@ -1,5 +1,0 @@
-use Rattle.problem_file.proofs.WalkedItems.{items_are_walked}
-use Rattle.problem_file.proofs.laws.items_are_walked.Goals as goal
-
-pub returns : goal.returns
-returns c = items_are_walked
