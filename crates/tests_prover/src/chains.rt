@@ -12,12 +12,10 @@ fn answer(alloc: Global, problem: &Problem, proof: &str) -> Result<ChainAnswer, 
     Ok(check_chain(alloc, problem, &chain)?)
 }
 
-// A problem, a proof, and the answer or the fault of the proof's text.
-type Row = (&'static str, &'static str, Result<ChainAnswer, TextFault>);
-
 const SUM: &str = "action p, q; goal equal p + q, p;";
 
-const ROWS: &[Row] = &[
+// A problem, a proof, and the answer or the fault of the proof's text.
+const ROWS: &[(&str, &str, Result<ChainAnswer, TextFault>)] = &[
     (
         "action p; hyp p = 0; goal equal p.p, 0;",
         "a0.a0 = 0.a0 by hyp 0 at 0; = 0 by zeroleft;",
@@ -32,18 +30,20 @@ const ROWS: &[Row] = &[
     (SUM, "a0 = a0 by nosuch;", Err(TextFault::UnknownName(11))),
 ];
 
-fn is_answered(alloc: Global, row: &Row) -> Result<bool, TextFault> {
-    let (text, proof, want) = row;
-    match problem(alloc, text)? {
-        Some(problem) => Ok(answer(alloc, &problem, proof) == *want),
-        None => Ok(false),
-    }
+fn is_answered(
+    alloc: Global,
+    text: &str,
+    proof: &str,
+    want: Result<ChainAnswer, TextFault>,
+) -> Result<bool, TextFault> {
+    let problem = problem(alloc, text)?;
+    Ok(answer(alloc, &problem, proof) == want)
 }
 
 #[test]
 fn proofs_are_read_and_checked(rt: HostRuntime) -> Result<(), Fail> {
-    for row in ROWS {
-        assert!(rt; is_answered(rt.alloc(), row)?, "{row:?}");
+    for (text, proof, want) in ROWS {
+        assert!(rt; is_answered(rt.alloc(), text, proof, *want)?, "on {proof}");
     }
     Ok(())
 }

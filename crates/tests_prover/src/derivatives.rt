@@ -48,9 +48,13 @@ fn moves_are_joined_in(alloc: Global, diagrams: &mut Diagrams) -> Result<bool, N
     moves_are_joined(alloc, &mut store, diagrams)
 }
 
+fn are_joined(alloc: Global) -> Result<bool, NoMemory> {
+    let mut diagrams = Diagrams::new(alloc, 1)?;
+    moves_are_joined_in(alloc, &mut diagrams)
+}
+
 #[test]
 fn moves_to_one_term_are_joined(rt: HostRuntime) -> Result<(), Fail> {
-    let mut diagrams = Diagrams::new(rt.alloc(), 1)?;
-    assert!(rt; moves_are_joined_in(rt.alloc(), &mut diagrams)?);
+    assert!(rt; are_joined(rt.alloc())?);
     Ok(())
 }

@@ -3,6 +3,7 @@ ghost use Rattle.std.specs.Prelude.{◌≡◌, ◌<◌, IfOk};
 ghost use Rattle.test_diagrams.specs.Functions.{IsDiagramId};
 
 use kat_model::{NoMemory, Test};
+use std::alloc::Global;
 use std::test::Fail;
 use test_diagrams::{DiagramId, Diagrams};
 
@@ -48,11 +49,14 @@ fn first_tests(diagrams: &mut Diagrams) -> Result<(Option<usize>, Option<usize>)
     Ok((first, diagrams.top(rest)))
 }
 
+fn first_tests_of_forty(alloc: Global) -> Result<(Option<usize>, Option<usize>), NoMemory> {
+    let mut diagrams = Diagrams::new(alloc, 40)?;
+    first_tests(&mut diagrams)
+}
+
 // Takes 2 to the power of 40 steps if results are not stored.
 #[test]
 fn the_parity_of_forty_tests_is_found(rt: HostRuntime) -> Result<(), Fail> {
-    let mut diagrams = Diagrams::new(rt.alloc(), 40)?;
-    let tests = first_tests(&mut diagrams)?;
-    assert!(rt; tests == (Some(0), Some(1)));
+    assert!(rt; first_tests_of_forty(rt.alloc())? == (Some(0), Some(1)));
     Ok(())
 }

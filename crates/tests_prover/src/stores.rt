@@ -59,14 +59,24 @@ fn test_is_sixth(store: &mut Store) -> Result<bool, NoMemory> {
     Ok(store.shape(test) == Shape::Test(prim) && store.count() == 6)
 }
 
+fn nodes_are_one(store: &mut Store) -> Result<bool, NoMemory> {
+    Ok(
+        actions_are_one(store)?
+            && orders_are_two(store)?
+            && one_is_left_out(store)?
+            && products_are_sequences(store)?
+            && test_is_sixth(store)?,
+    )
+}
+
+fn nodes_are_one_in(alloc: Global) -> Result<bool, NoMemory> {
+    let mut store = Store::new(alloc);
+    nodes_are_one(&mut store)
+}
+
 #[test]
 fn equal_nodes_have_one_id(rt: HostRuntime) -> Result<(), Fail> {
-    let mut store = Store::new(rt.alloc());
-    assert!(rt; actions_are_one(&mut store)?);
-    assert!(rt; orders_are_two(&mut store)?);
-    assert!(rt; one_is_left_out(&mut store)?);
-    assert!(rt; products_are_sequences(&mut store)?);
-    assert!(rt; test_is_sixth(&mut store)?);
+    assert!(rt; nodes_are_one_in(rt.alloc())?);
     Ok(())
 }
 
@@ -86,9 +96,13 @@ fn sum_is_one(alloc: Global, store: &mut Store) -> Result<bool, NoMemory> {
     tree_is_one(store, &sum)
 }
 
+fn sum_is_one_in(alloc: Global) -> Result<bool, NoMemory> {
+    let mut store = Store::new(alloc);
+    sum_is_one(alloc, &mut store)
+}
+
 #[test]
 fn equal_trees_have_one_id(rt: HostRuntime) -> Result<(), Fail> {
-    let mut store = Store::new(rt.alloc());
-    assert!(rt; sum_is_one(rt.alloc(), &mut store)?);
+    assert!(rt; sum_is_one_in(rt.alloc())?);
     Ok(())
 }

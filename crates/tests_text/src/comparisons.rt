@@ -1,11 +1,11 @@
 //! Normal forms of comparisons of expressions over x, which is variable 0, and y, which is variable 1; and sums,
 //! differences and copies of forms.
-use crate::fixtures::{cut, sample};
+use crate::fixtures::sample;
+use crate::phrases::cond;
 use kat_model::{Cond, Expr, NoMemory, Rel, Width};
 use linear_forms::{Atomic, CondForm, Form, Mono, canon, minus, normal, normal_cond, plus, subst};
 use std::alloc::Global;
 use std::test::Fail;
-use text_scopes::{Scope, read_cond};
 use text_tokens::TextFault;
 
 // Whether the form is the variable plus the constant.
@@ -42,24 +42,21 @@ fn compares(
     Ok(is_form(&form, kind, 0, constant))
 }
 
-fn cond(alloc: Global, text: &str, scope: &Scope) -> Result<Cond, TextFault> {
-    let found = cut(alloc, text)?;
-    let (cond, _, _) = read_cond(alloc, &found, 0, 0, scope, true)?;
-    Ok(cond)
-}
-
-fn holds(
-    alloc: Global,
-    text: &str,
-    kind: &str,
-    constant: u64,
-    scope: &Scope,
-) -> Result<bool, TextFault> {
-    let cond = cond(alloc, text, scope)?;
-    match &cond {
-        Cond::Compare(rel, left, right) => Ok(compares(alloc, *rel, left, right, kind, constant)?),
+fn is_comparison(alloc: Global, cond: &Cond, kind: &str, constant: u64) -> Result<bool, NoMemory> {
+    match cond {
+        Cond::Compare(rel, left, right) => compares(alloc, *rel, left, right, kind, constant),
         _ => Ok(false),
     }
+}
+
+fn cond_in(alloc: Global, text: &str) -> Result<Cond, TextFault> {
+    let scope = sample(alloc)?;
+    cond(alloc, text, &scope)
+}
+
+fn holds(alloc: Global, text: &str, kind: &str, constant: u64) -> Result<bool, TextFault> {
+    let cond = cond_in(alloc, text)?;
+    Ok(is_comparison(alloc, &cond, kind, constant)?)
 }
 
 const ROWS: &[(&str, &str, u64)] = &[
@@ -73,12 +70,8 @@ const ROWS: &[(&str, &str, u64)] = &[
 
 #[test]
 fn comparisons_have_forms(rt: HostRuntime) -> Result<(), Fail> {
-    let scope = sample(rt.alloc())?;
     for (text, kind, constant) in ROWS {
-        assert!(rt;
-            holds(rt.alloc(), text, kind, *constant, &scope)?,
-            "of {text}"
-        );
+        assert!(rt; holds(rt.alloc(), text, kind, *constant)?, "of {text}");
     }
     Ok(())
 }
@@ -109,17 +102,21 @@ fn sum_and_difference_are(alloc: Global) -> Result<bool, NoMemory> {
 }
 
 // Whether y in place of x in a copy of the comparison `x = 0` gives `y = 0`.
-fn y_takes_the_place(alloc: Global) -> Result<bool, NoMemory> {
+fn y_takes_the_place(alloc: Global, atomic: &Atomic, by: &Form) -> Result<bool, NoMemory> {
+    let copy = atomic.copy(alloc)?;
+    let cond = subst(alloc, Width::W8, &copy, 0, by)?;
+    Ok(is_form(&cond, "=", 1, 0))
+}
+
+fn is_substituted(alloc: Global) -> Result<bool, NoMemory> {
     let atomic = Atomic::Zero(form(alloc, &Expr::Var(0))?);
     let by = form(alloc, &Expr::Var(1))?;
-    let copy = atomic.copy(alloc)?;
-    let cond = subst(alloc, Width::W8, &copy, 0, &by)?;
-    Ok(is_form(&cond, "=", 1, 0))
+    y_takes_the_place(alloc, &atomic, &by)
 }
 
 #[test]
 fn forms_are_added_and_substituted(rt: HostRuntime) -> Result<(), Fail> {
     assert!(rt; sum_and_difference_are(rt.alloc())?);
-    assert!(rt; y_takes_the_place(rt.alloc())?);
+    assert!(rt; is_substituted(rt.alloc())?);
     Ok(())
 }

@@ -1,54 +1,57 @@
 //! Problem files and their faults.
-use problem_file::{File, read, read_all};
+use problem_file::{File, Goal, read_all};
 use std::alloc::Global;
-use std::test::Fail;
 use text_tokens::TextFault;
 
-// Returns the numbers of tests, actions, terms and hypotheses of a file.
-fn counts(file: &File) -> [usize; 4] {
-    [file.tests, file.actions, file.terms, file.hyps.len()]
+// The numbers of tests, actions, terms, hypotheses and goals after the first, and whether the file is concrete and has a
+// program P.
+type Facts = ([usize; 5], bool);
+
+fn facts(file: &File, more: &[Goal]) -> Facts {
+    let counts = [
+        file.tests,
+        file.actions,
+        file.terms,
+        file.hyps.len(),
+        more.len(),
+    ];
+    (counts, file.concrete() && file.prog("P").is_some())
 }
 
-fn counts_of(alloc: Global, text: &str) -> Result<[usize; 4], TextFault> {
-    let file = read(alloc, text.as_bytes())?;
-    Ok(counts(&file))
+fn facts_of(alloc: Global, text: &str) -> Result<Facts, TextFault> {
+    let (file, more) = read_all(alloc, text.as_bytes())?;
+    Ok(facts(&file, &more))
 }
 
-// Returns the number of goals after the first.
-fn goals_after_first(alloc: Global, text: &str) -> Result<usize, TextFault> {
-    let (_, goals) = read_all(alloc, text.as_bytes())?;
-    Ok(goals.len())
-}
+const FILES: &[(&str, Result<Facts, TextFault>)] = &[
+    (
+        "test b, c; action p; term t = b.p + !b; hyp t.c = 0; hyp triple {b} p {c}; goal below t*, (p);",
+        Ok(([2, 1, 1, 2, 0], false)),
+    ),
+    ("test b; goal equal b, ;", Err(TextFault::Syntax(22))),
+    (
+        "test b; term t = !b; goal equal !t, b;",
+        Ok(([1, 0, 1, 0, 0], false)),
+    ),
+    (
+        "action p; term e = p; goal equal !e, 1;",
+        Err(TextFault::Sort(34)),
+    ),
+    (
+        "test b; goal equal b, b; goal below b, 1; goal triple {b} 1 {b};",
+        Ok(([1, 0, 0, 0, 2], false)),
+    ),
+    (
+        "width 16; rounds 2; var x, y; prog P { x := y; } goal triple {x == 1} P {true};",
+        Ok(([0, 0, 0, 0, 0], true)),
+    ),
+    ("prog P { } goal equal P, 1;", Ok(([0, 0, 0, 0, 0], false))),
+    ("prog Q { } goal equal Q, Q;", Ok(([0, 0, 0, 0, 0], false))),
+];
 
 #[test]
-fn files_are_read(rt: HostRuntime) -> Result<(), Fail> {
-    let text =
-        "test b, c; action p; term t = b.p + !b; hyp t.c = 0; hyp triple {b} p {c}; goal below t*, (p);";
-    assert!(rt; counts_of(rt.alloc(), text)? == [2, 1, 1, 2]);
-    let fault = counts_of(rt.alloc(), "test b; goal equal b, ;");
-    assert!(rt; fault == Err(TextFault::Syntax(22)));
-    let goals = "test b; goal equal b, b; goal below b, 1; goal triple {b} 1 {b};";
-    assert!(rt; goals_after_first(rt.alloc(), goals)? == 2);
-    Ok(())
-}
-
-// Whether the file is concrete and has a program P.
-fn is_concrete_with_program(file: &File) -> bool {
-    file.concrete() && file.prog("P").is_some()
-}
-
-fn text_is_concrete(alloc: Global, text: &str) -> Result<bool, TextFault> {
-    let file = read(alloc, text.as_bytes())?;
-    Ok(is_concrete_with_program(&file))
-}
-
-const PROGRAM: &str =
-    "width 16; rounds 2; var x, y; prog P { x := y; } goal triple {x == 1} P {true};";
-
-#[test]
-fn files_of_programs_are_concrete(rt: HostRuntime) -> Result<(), Fail> {
-    assert!(rt; text_is_concrete(rt.alloc(), PROGRAM)?);
-    assert!(rt; !text_is_concrete(rt.alloc(), "prog P { } goal equal P, 1;")?);
-    assert!(rt; !text_is_concrete(rt.alloc(), "prog Q { } goal equal Q, Q;")?);
-    Ok(())
+fn files_are_read(rt: HostRuntime) {
+    for (text, want) in FILES {
+        assert!(rt; facts_of(rt.alloc(), text) == *want, "in {text}");
+    }
 }

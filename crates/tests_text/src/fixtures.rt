@@ -9,7 +9,6 @@ ghost use Rattle.text_tokens.specs.Keywords.{is_keyword};
 ghost use Rattle.text_scopes.specs.ScopeParts.{is_term};
 
 use kat_model::{Kat, NoMemory};
-use problem_file::{File, read};
 use std::alloc::Global;
 use text_print::print_term;
 use text_scopes::{Meaning, Scope};
@@ -49,20 +48,19 @@ fn declare(alloc: Global, scope: &mut Scope, text: &str, meaning: Meaning) -> Re
     scope.declare(&name, meaning)
 }
 
-fn scope_of(file: File) -> Scope {
-    file.scope
-}
-
-fn declare_variables(alloc: Global, scope: &mut Scope) -> Result<(), TextFault> {
+fn declare_names(alloc: Global, scope: &mut Scope) -> Result<(), TextFault> {
+    declare(alloc, scope, "b", Meaning::Test(0))?;
+    declare(alloc, scope, "c", Meaning::Test(1))?;
+    declare(alloc, scope, "p", Meaning::Action(0))?;
+    declare(alloc, scope, "q", Meaning::Action(1))?;
     declare(alloc, scope, "x", Meaning::Var(0))?;
     declare(alloc, scope, "y", Meaning::Var(1))
 }
 
-// Returns a scope with two tests, two actions, two variables, a term that is a test, and a term that is not.
+// Returns a scope with two tests, two actions and two variables.
 pub(crate) fn sample(alloc: Global) -> Result<Scope, TextFault> {
-    let text = "test b, c; action p, q; term t = !(b + c); term e = p.b; goal equal 1, 1;";
-    let mut scope = scope_of(read(alloc, text.as_bytes())?);
-    declare_variables(alloc, &mut scope)?;
+    let mut scope = Scope::new(alloc);
+    declare_names(alloc, &mut scope)?;
     Ok(scope)
 }
 

@@ -5,6 +5,7 @@ use std::alloc::Global;
 use std::test::Fail;
 use text_print::{print_cond, print_term};
 use text_scopes::Scope;
+use text_tokens::TextFault;
 
 // Returns the actions p, q, p, .. .
 fn actions(alloc: Global, count: usize) -> Result<Vec<Kat>, NoMemory> {
@@ -24,36 +25,52 @@ fn tests(alloc: Global, count: usize) -> Result<Vec<Cond>, NoMemory> {
     Ok(list)
 }
 
-fn sum_text(alloc: Global, count: usize, scope: &Scope) -> Result<Vec<u8>, NoMemory> {
+fn is_term(alloc: Global, term: &Kat, scope: &Scope, want: &str) -> Result<bool, NoMemory> {
+    let text = print_term(alloc, term, scope)?;
+    Ok(text.as_slice() == want.as_bytes())
+}
+
+fn is_cond(alloc: Global, cond: &Cond, scope: &Scope, want: &str) -> Result<bool, NoMemory> {
+    let text = print_cond(alloc, cond, scope)?;
+    Ok(text.as_slice() == want.as_bytes())
+}
+
+fn sum_is(alloc: Global, count: usize, scope: &Scope, want: &str) -> Result<bool, NoMemory> {
     let term = sum_of(alloc, actions(alloc, count)?)?;
-    print_term(alloc, &term, scope)
+    is_term(alloc, &term, scope, want)
 }
 
-fn product_text(alloc: Global, count: usize, scope: &Scope) -> Result<Vec<u8>, NoMemory> {
+fn product_is(alloc: Global, count: usize, scope: &Scope, want: &str) -> Result<bool, NoMemory> {
     let term = seq_of(alloc, actions(alloc, count)?)?;
-    print_term(alloc, &term, scope)
+    is_term(alloc, &term, scope, want)
 }
 
-fn any_text(alloc: Global, count: usize, scope: &Scope) -> Result<Vec<u8>, NoMemory> {
+fn any_is(alloc: Global, count: usize, scope: &Scope, want: &str) -> Result<bool, NoMemory> {
     let cond = any_of(alloc, tests(alloc, count)?)?;
-    print_cond(alloc, &cond, scope)
+    is_cond(alloc, &cond, scope, want)
 }
 
-fn all_text(alloc: Global, count: usize, scope: &Scope) -> Result<Vec<u8>, NoMemory> {
+fn all_is(alloc: Global, count: usize, scope: &Scope, want: &str) -> Result<bool, NoMemory> {
     let cond = all_of(alloc, tests(alloc, count)?)?;
-    print_cond(alloc, &cond, scope)
+    is_cond(alloc, &cond, scope, want)
+}
+
+fn are_balanced(alloc: Global, scope: &Scope) -> Result<bool, NoMemory> {
+    Ok(
+        sum_is(alloc, 5, scope, "((p + q) + (p + (q + p)))")?
+            && product_is(alloc, 0, scope, "1")?
+            && any_is(alloc, 3, scope, "(b || (c || b))")?
+            && all_is(alloc, 4, scope, "((b && c) && (b && c))")?,
+    )
+}
+
+fn lists_are_balanced(alloc: Global) -> Result<bool, TextFault> {
+    let scope = sample(alloc)?;
+    Ok(are_balanced(alloc, &scope)?)
 }
 
 #[test]
 fn lists_have_balanced_trees(rt: HostRuntime) -> Result<(), Fail> {
-    let scope = sample(rt.alloc())?;
-    let sum = sum_text(rt.alloc(), 5, &scope)?;
-    assert_eq!(rt; sum.as_slice(), b"((p + q) + (p + (q + p)))".as_slice());
-    let product = product_text(rt.alloc(), 0, &scope)?;
-    assert_eq!(rt; product.as_slice(), b"1".as_slice());
-    let any = any_text(rt.alloc(), 3, &scope)?;
-    assert_eq!(rt; any.as_slice(), b"(b || (c || b))".as_slice());
-    let all = all_text(rt.alloc(), 4, &scope)?;
-    assert_eq!(rt; all.as_slice(), b"((b && c) && (b && c))".as_slice());
+    assert!(rt; lists_are_balanced(rt.alloc())?);
     Ok(())
 }

@@ -2,11 +2,11 @@
 use crate::fixtures::{cut, is_so, sample};
 use kat_model::{Cond, Expr, Kat, NoMemory};
 use std::alloc::Global;
-use std::test::Fail;
 use text_grammar::{cond_end, expr_end, term_end};
 use text_print::{print_cond, print_expr, print_term};
 use text_scopes::{Scope, read_cond, read_expr, read_term};
 use text_tokens::TextFault;
+use while_lang::block_end;
 
 // Returns the index after the phrase at the start of the text, with `depth` open constructs around it.
 fn end(alloc: Global, sort: &str, text: &str, depth: usize) -> Result<usize, TextFault> {
@@ -14,6 +14,7 @@ fn end(alloc: Global, sort: &str, text: &str, depth: usize) -> Result<usize, Tex
     match sort {
         "term" => term_end(&found, 0, depth),
         "cond" => cond_end(&found, 0, depth),
+        "block" => block_end(&found, 0, depth),
         _ => expr_end(&found, 0, depth),
     }
 }
@@ -23,6 +24,9 @@ const ENDS: &[(&str, usize, &str, Result<usize, TextFault>)] = &[
     ("term", 199, "p.([b])", Err(TextFault::TooDeep(3))),
     ("cond", 0, "(b) && (x) == y && 0 != 1", Ok(13)),
     ("expr", 0, "x * true", Err(TextFault::Syntax(4))),
+    ("block", 0, "{ skip; x := y * 2; p; } x", Ok(12)),
+    ("block", 0, "{ skip }", Err(TextFault::Syntax(7))),
+    ("block", 199, "{ if b { } }", Err(TextFault::TooDeep(7))),
 ];
 
 #[test]
@@ -38,7 +42,7 @@ fn term(alloc: Global, text: &str, scope: &Scope) -> Result<Kat, TextFault> {
     Ok(term)
 }
 
-fn cond(alloc: Global, text: &str, scope: &Scope) -> Result<Cond, TextFault> {
+pub(crate) fn cond(alloc: Global, text: &str, scope: &Scope) -> Result<Cond, TextFault> {
     let found = cut(alloc, text)?;
     let (cond, _, _) = read_cond(alloc, &found, 0, 0, scope, true)?;
     Ok(cond)
@@ -81,7 +85,6 @@ fn expr_text(alloc: Global, text: &str, scope: &Scope) -> Result<Vec<u8>, TextFa
     Ok(expr_copy(alloc, &expr, scope)?)
 }
 
-// Prints the phrase.
 fn shown(alloc: Global, sort: &str, text: &str, scope: &Scope) -> Result<Vec<u8>, TextFault> {
     match sort {
         "term" => term_text(alloc, text, scope),
@@ -90,9 +93,19 @@ fn shown(alloc: Global, sort: &str, text: &str, scope: &Scope) -> Result<Vec<u8>
     }
 }
 
+// Prints the phrase.
+fn phrase_text(alloc: Global, sort: &str, text: &str) -> Result<Vec<u8>, TextFault> {
+    let scope = sample(alloc)?;
+    shown(alloc, sort, text, &scope)
+}
+
 const PHRASES: &[(&str, &str, Result<&str, TextFault>)] = &[
-    ("term", "!t + e.p*", Ok("([!!(b || c)] + ((p.b).p*))")),
-    ("term", "b + p.!(c + e)", Err(TextFault::Sort(12))),
+    (
+        "term",
+        "!(b + c) + p.b.p*",
+        Ok("([!(b || c)] + (p.(b.p*)))"),
+    ),
+    ("term", "b + p.!(c + q)", Err(TextFault::Sort(12))),
     (
         "cond",
         "x - 1 - y < 007 && c",
@@ -102,11 +115,11 @@ const PHRASES: &[(&str, &str, Result<&str, TextFault>)] = &[
 ];
 
 #[test]
-fn phrases_are_read(rt: HostRuntime) -> Result<(), Fail> {
-    let scope = sample(rt.alloc())?;
+fn phrases_are_read(rt: HostRuntime) {
     for (sort, text, want) in PHRASES {
-        let found = shown(rt.alloc(), sort, text, &scope);
-        assert!(rt; is_so(found, *want), "in {text}");
+        assert!(rt;
+            is_so(phrase_text(rt.alloc(), sort, text), *want),
+            "in {text}"
+        );
     }
-    Ok(())
 }

@@ -1,36 +1,15 @@
-//! Programs: how they are read, printed and run, and their terms.
+//! Programs: how they are read, printed and run.
 ghost use Rattle.std.specs.Prelude.{IfOk};
 ghost use Rattle.kat_model.specs.Stores.{IsStore};
 ghost use Rattle.kat_model.specs.declared.expression.Width.{Width};
 
 use crate::fixtures::{cut, is_so, sample};
-use kat_model::{Kat, NoMemory, Test, Width};
+use kat_model::{NoMemory, Width};
 use std::alloc::Global;
 use std::test::Fail;
-use text_print::print_term;
 use text_scopes::Scope;
 use text_tokens::TextFault;
-use while_lang::{
-    Flow, Flows, Outcome, Prog, Store, block_end, encode, print_prog, read_block, run,
-};
-
-fn end(alloc: Global, text: &str, depth: usize) -> Result<usize, TextFault> {
-    let found = cut(alloc, text)?;
-    block_end(&found, 0, depth)
-}
-
-const ENDS: &[(usize, &str, Result<usize, TextFault>)] = &[
-    (0, "{ skip; x := y * 2; p; } x", Ok(12)),
-    (0, "{ skip }", Err(TextFault::Syntax(7))),
-    (199, "{ if b { } }", Err(TextFault::TooDeep(7))),
-];
-
-#[test]
-fn blocks_end(rt: HostRuntime) {
-    for (depth, text, want) in ENDS {
-        assert!(rt; end(rt.alloc(), text, *depth) == *want, "in {text}");
-    }
-}
+use while_lang::{Outcome, Prog, Store, print_prog, read_block, run};
 
 fn prog_of(alloc: Global, text: &str, scope: &Scope) -> Result<Prog, TextFault> {
     let found = cut(alloc, text)?;
@@ -47,9 +26,14 @@ fn prog_text(alloc: Global, prog: &Prog, scope: &Scope) -> Result<Vec<u8>, NoMem
     print_prog(alloc, &copy, scope)
 }
 
-fn text_read(alloc: Global, text: &str, scope: &Scope) -> Result<Vec<u8>, TextFault> {
+fn text_in(alloc: Global, text: &str, scope: &Scope) -> Result<Vec<u8>, TextFault> {
     let prog = prog_of(alloc, text, scope)?;
     Ok(prog_text(alloc, &prog, scope)?)
+}
+
+fn text_read(alloc: Global, text: &str) -> Result<Vec<u8>, TextFault> {
+    let scope = sample(alloc)?;
+    text_in(alloc, text, &scope)
 }
 
 const BLOCKS: &[(&str, Result<&str, TextFault>)] = &[
@@ -61,15 +45,10 @@ const BLOCKS: &[(&str, Result<&str, TextFault>)] = &[
 ];
 
 #[test]
-fn programs_are_read_and_printed(rt: HostRuntime) -> Result<(), Fail> {
-    let scope = sample(rt.alloc())?;
+fn programs_are_read_and_printed(rt: HostRuntime) {
     for (text, want) in BLOCKS {
-        assert!(rt;
-            is_so(text_read(rt.alloc(), text, &scope), *want),
-            "of {text}"
-        );
+        assert!(rt; is_so(text_read(rt.alloc(), text), *want), "of {text}");
     }
-    Ok(())
 }
 
 // Returns a store of two variables that are 0.
@@ -97,14 +76,18 @@ fn run_end(
     Ok((outcome, store.values.first().copied().unwrap_or(0)))
 }
 
+fn prog_in(alloc: Global, text: &str) -> Result<Prog, TextFault> {
+    let scope = sample(alloc)?;
+    prog_of(alloc, text, &scope)
+}
+
 fn text_end(
     alloc: Global,
     text: &str,
     width: Width,
     turns: u64,
-    scope: &Scope,
 ) -> Result<(Outcome, u64), TextFault> {
-    let prog = prog_of(alloc, text, scope)?;
+    let prog = prog_in(alloc, text)?;
     Ok(run_end(alloc, &prog, width, turns)?)
 }
 
@@ -131,45 +114,9 @@ const RUNS: &[(&str, Width, u64, (Outcome, u64))] = &[
 
 #[test]
 fn programs_run(rt: HostRuntime) -> Result<(), Fail> {
-    let scope = sample(rt.alloc())?;
     for (text, width, turns, want) in RUNS {
-        let end = text_end(rt.alloc(), text, *width, *turns, &scope)?;
+        let end = text_end(rt.alloc(), text, *width, *turns)?;
         assert!(rt; end == *want, "of {text}");
     }
-    Ok(())
-}
-
-// Returns the flow `if t0 { a0 } else { }` after a `skip`.
-fn branches(alloc: Global) -> Result<Flows, NoMemory> {
-    let mut first = Vec::new(alloc);
-    first.push(Flow::Act(0))?;
-    let branch = Flow::If(
-        Test::Prim(0),
-        Flows { list: first },
-        Flows {
-            list: Vec::new(alloc),
-        },
-    );
-    let mut list = Vec::new(alloc);
-    list.push(Flow::Skip)?;
-    list.push(branch)?;
-    Ok(Flows { list })
-}
-
-fn encoded(alloc: Global) -> Result<Kat, NoMemory> {
-    let flow = branches(alloc)?;
-    encode(alloc, &flow)
-}
-
-fn encoded_text(alloc: Global) -> Result<Vec<u8>, TextFault> {
-    let scope = sample(alloc)?;
-    let term = encoded(alloc)?;
-    Ok(print_term(alloc, &term, &scope)?)
-}
-
-#[test]
-fn programs_are_terms(rt: HostRuntime) -> Result<(), Fail> {
-    let text = encoded_text(rt.alloc())?;
-    assert_eq!(rt; text.as_slice(), b"(1.((b.p) + ([!b].1)))".as_slice());
     Ok(())
 }

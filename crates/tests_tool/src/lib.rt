@@ -1,16 +1,9 @@
-//! Tests of `run` by its words, its files and its output, and of the real shelf and sink of the program.
+//! Tests of `run` by its words, its files and its output, of the calls on bytes, and of the real shelf and sink of the
+//! program.
 #![tactic(auto)]
 
 #[cfg(test)]
-mod batches;
-#[cfg(test)]
-mod benches;
-#[cfg(test)]
-mod chains;
-#[cfg(test)]
-mod checking;
-#[cfg(test)]
-mod deciding;
+mod bytes;
 #[cfg(test)]
 mod ends;
 #[cfg(test)]
@@ -18,18 +11,6 @@ mod faults;
 #[cfg(test)]
 mod fixtures;
 #[cfg(test)]
-mod guarded;
+mod generated;
 #[cfg(test)]
-mod one_loop_forms;
-#[cfg(test)]
-mod optimising;
-#[cfg(test)]
-mod outlines;
-#[cfg(test)]
-mod programs;
-#[cfg(test)]
-mod refusals;
-#[cfg(test)]
-mod reports;
-#[cfg(test)]
-mod running;
+mod lines;

@@ -1,0 +1,157 @@
+//! The calls on bytes.
+use crate::fixtures::{DENESTING, DENESTING_EVIDENCE, STAR_TWICE};
+use kat_model::NoMemory;
+use kat_tool::{
+    Reply, chain_bytes, check_bytes, decide_bytes, optimise_bytes, outline_bytes,
+    outline_check_bytes, replay_bytes, run_bytes, show_bytes,
+};
+use std::alloc::Global;
+use std::test::Fail;
+
+enum Call {
+    Decide,
+    Check,
+    Replay,
+    Show,
+    Run,
+    Optimise,
+    Outline,
+    OutlineCheck,
+    Chain,
+}
+
+// Returns the reply of a call on a text. The second text is evidence, a store, notes or a proof.
+fn reply_of(alloc: Global, call: &Call, text: &str, second: &str) -> Result<Reply, NoMemory> {
+    match call {
+        Call::Decide => decide_bytes(alloc, text.as_bytes()),
+        Call::Check => check_bytes(alloc, text.as_bytes(), second.as_bytes()),
+        Call::Replay => replay_bytes(alloc, text.as_bytes(), second.as_bytes()),
+        Call::Show => show_bytes(alloc, text.as_bytes()),
+        Call::Run => run_bytes(alloc, text.as_bytes(), "P", second, 0),
+        Call::Optimise => optimise_bytes(alloc, text.as_bytes(), "L", 1000),
+        Call::Outline => outline_bytes(alloc, text.as_bytes()),
+        Call::OutlineCheck => outline_check_bytes(alloc, text.as_bytes(), second.as_bytes()),
+        Call::Chain => chain_bytes(alloc, text.as_bytes(), second.as_bytes()),
+    }
+}
+
+// A call, its texts, its status and its output.
+type Row = (Call, &'static str, &'static str, u8, &'static str);
+
+const UNKEPT: &str = "test b; action p; goal triple {b} p {b};";
+
+const UNKEPT_STRING: &str = "kat 1 different\nA 1\nM 0 0\nend\n";
+
+const WRAP_AROUND: &str =
+    "var x; prog P { x := 18446744073709551615; x := x + 1; } rounds 1; goal triple {true} P {x == 0};";
+
+const SHOWN: &str =
+    "# t0 is x == 0\n# t1 is x + 1 == 0\ntest t0, t1;\n# a0 is x := 18446744073709551615\n# a1 is x := x + 1\naction a0, a1;\n# assign a0 t0\nhyp ([false].(a0.[!t0])) = 0;\nhyp ([!false].(a0.t0)) = 0;\n# assign a0 t1\nhyp ([true].(a0.[!t1])) = 0;\nhyp ([!true].(a0.t1)) = 0;\n# assign a1 t0\nhyp (t1.(a1.[!t0])) = 0;\nhyp ([!t1].(a1.t0)) = 0;\n# F1 t0 t1\nhyp (t0.t1) = 0;\ngoal equal ([true].((a0.a1).[!t0])), 0;\n";
+
+const MIXED: &str =
+    "test b; action a; var x, y; prog P { } prog R { a; } prog T { assert b; } goal equal P, P;";
+
+const UNFIT: &str = "refused: words\n";
+
+const IF_AFTER_LOOP: &str =
+    "test b; action p, q; prog L { while b { p; } if b { q; } } goal equal L, L;";
+
+const PASSED_ON: &str =
+    "test b, c; action p; hyp triple {b} p {c}; prog P { p; } goal triple {b} P {c};";
+
+const PASSED_ON_NOTES: &str =
+    "kat 1 outline\nD false\nD true\nD test 0 0 1\nD test 1 0 1\nC 2\nC 3\nend\n";
+
+const ROWS: &[Row] = &[
+    (
+        Call::Decide,
+        "test b; goal equal b, b;",
+        "",
+        0,
+        "kat 2 equal\nT prim 0\nE test 0\nP 0 | 0\nend\n",
+    ),
+    (
+        Call::Decide,
+        "goal equal 0, 1;",
+        "",
+        1,
+        "kat 1 different\nA\nend\n",
+    ),
+    (
+        Call::Decide,
+        "goal equal b, b;",
+        "",
+        2,
+        "refused: UnknownName 11\n",
+    ),
+    (
+        Call::Check,
+        DENESTING,
+        DENESTING_EVIDENCE,
+        0,
+        "accepted equal\n",
+    ),
+    (
+        Call::Check,
+        UNKEPT,
+        UNKEPT_STRING,
+        1,
+        "accepted different\n",
+    ),
+    (
+        Call::Check,
+        STAR_TWICE,
+        DENESTING_EVIDENCE,
+        3,
+        "rejected: TermNode 1\n",
+    ),
+    (
+        Call::Replay,
+        UNKEPT,
+        UNKEPT_STRING,
+        0,
+        "0 t0\na0\n1 !t0\nrefutes: left relates the ends, right does not\n",
+    ),
+    (Call::Show, WRAP_AROUND, "", 0, SHOWN),
+    (Call::Run, MIXED, "y=4,x=3", 0, "done x=3 y=4\n"),
+    (Call::Run, MIXED, "x=3,x=4", 7, UNFIT),
+    (Call::Run, MIXED, "", 7, UNFIT),
+    (Call::Run, MIXED, "x= 3", 7, UNFIT),
+    (Call::Run, MIXED, "x=3 ,y=4", 7, UNFIT),
+    (
+        Call::Optimise,
+        IF_AFTER_LOOP,
+        "",
+        0,
+        "S10 at 0\ndone\nprog L { while b { p; } }\n",
+    ),
+    (Call::Outline, PASSED_ON, "", 0, PASSED_ON_NOTES),
+    (
+        Call::OutlineCheck,
+        PASSED_ON,
+        PASSED_ON_NOTES,
+        0,
+        "accepted outline\n",
+    ),
+    (
+        Call::Chain,
+        "action p, q; goal equal p + q, p;",
+        "a0 + a1 = a1 + a0 by comm;",
+        3,
+        "rejected: chain End\n",
+    ),
+];
+
+fn is_reply(alloc: Global, row: &Row) -> Result<bool, NoMemory> {
+    let (call, text, second, status, output) = row;
+    let found = reply_of(alloc, call, text, second)?;
+    Ok(found.status == *status && found.output.as_slice() == output.as_bytes())
+}
+
+#[test]
+fn calls_on_bytes_reply(rt: HostRuntime) -> Result<(), Fail> {
+    for row in ROWS {
+        assert!(rt; is_reply(rt.alloc(), row)?, "on {} with {}", row.1, row.2);
+    }
+    Ok(())
+}
