@@ -8,10 +8,6 @@ abbrev pub accepted_line : Evidence → List ℕ
 accepted_line (Equal c) = codes "accepted equal\n"
 accepted_line (Different x) = codes "accepted different\n"
 
--- for an equational proof
-abbrev pub accepted_chain_line : List ℕ
-accepted_chain_line = codes "accepted chain\n"
-
 -- for notes
 abbrev pub accepted_outline_line : List ℕ
 accepted_outline_line = codes "accepted outline\n"

@@ -9,10 +9,6 @@ unread_line file = codes "cannot read " ++ file ++ 10 ∷ []
 abbrev pub too_long_line : List ℕ
 too_long_line = codes "refused: TooLong\n"
 
--- the line for the file of an equational proof that has more bytes than the limit
-abbrev pub long_proof_line : List ℕ
-long_proof_line = codes "refused: chain TooLong\n"
-
 -- the line for words that have no command or do not fit a file
 abbrev pub words_line : List ℕ
 words_line = codes "refused: words\n"

@@ -1,10 +1,8 @@
--- The lines with the reasons why evidence and proofs are rejected.
+-- The lines with the reasons why evidence is rejected.
 use Rattle.std.specs.Prelude.{ℕ, List, [], ◌∷◌, ◌++◌, codes}
 use Rattle.std.specs.Fmt.{decimal}
 use Rattle.kat_model.specs.Steps.{Atom}
 use Rattle.certificate.specs.Texts.{bits}
-use Rattle.chain_rules.specs.declared.answer.ChainReason.{ChainReason}
-use Rattle.chain_rules.specs.declared.answer.ChainReason.TheVariants.{Start, End, Step}
 use Rattle.cert_checker.specs.declared.answer.Reason.{Reason}
 use Rattle.cert_checker.specs.declared.answer.Reason.TheVariants.{FirstPair, Output, Missing, MissingTo, Shape, HypBroken, EndsAgree, TestNode, TermNode}
 
@@ -33,13 +31,3 @@ reason_line r = codes "rejected: " ++ reason_text r ++ 10 ∷ []
 -- for a certificate where a string is required
 abbrev pub no_string_line : List ℕ
 no_string_line = codes "rejected: NotAString\n"
-
--- for an equational proof: the word of the reason, and the number of the line that does not hold
-abbrev pub chain_reason_text : ChainReason → List ℕ
-chain_reason_text Start = codes "Start"
-chain_reason_text End = codes "End"
-chain_reason_text (Step n) = codes "Step " ++ decimal n
-
--- `rejected: chain `, the reason, and a line feed
-abbrev pub chain_reason_line : ChainReason → List ℕ
-chain_reason_line r = codes "rejected: chain " ++ chain_reason_text r ++ 10 ∷ []

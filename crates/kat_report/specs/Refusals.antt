@@ -47,10 +47,6 @@ place_text (Some at) = 32 ∷ decimal at
 abbrev pub text_fault_line : TextFault → List ℕ
 text_fault_line fault = codes "refused: " ++ fault_word fault ++ place_text (fault_place fault) ++ 10 ∷ []
 
--- for the text of an equational proof: `refused: chain WORD`, the place, and a line feed
-abbrev pub chain_fault_line : TextFault → List ℕ
-chain_fault_line fault = codes "refused: chain " ++ fault_word fault ++ place_text (fault_place fault) ++ 10 ∷ []
-
 abbrev pub evidence_word : EvidenceFault → List ℕ
 evidence_word NoRoom = codes "NoMemory"
 evidence_word Header = codes "Header"

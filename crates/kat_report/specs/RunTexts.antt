@@ -13,8 +13,15 @@ abbrev pub values_text : ScopeParts → ℕ → List ℕ → List ℕ
 values_text w k [] = []
 values_text w k (v ∷ vs) = codes " " ++ name_of w (Var k) ++ codes "=" ++ decimal v ++ values_text w (k + 1) vs
 
--- `done` and the store, `stuck` or `more`, and a line feed
+-- the line of a run that cannot continue, and of one that has no turn left
+abbrev pub stuck_line : List ℕ
+stuck_line = codes "stuck\n"
+
+abbrev pub more_line : List ℕ
+more_line = codes "more\n"
+
+-- `done` and the store, or one of these lines
 abbrev pub outcome_line : ScopeParts → Outcome → Store → List ℕ
 outcome_line w Done s = codes "done" ++ values_text w 0 s ++ codes "\n"
-outcome_line w Stuck s = codes "stuck\n"
-outcome_line w More s = codes "more\n"
+outcome_line w Stuck s = stuck_line
+outcome_line w More s = more_line

@@ -1,6 +1,6 @@
 //! The lines for what a check accepts.
 ghost use Rattle.std.specs.Prelude.{◌≡◌};
-ghost use Rattle.kat_report.specs.Acceptances.{accepted_line, accepted_chain_line, accepted_outline_line};
+ghost use Rattle.kat_report.specs.Acceptances.{accepted_line, accepted_outline_line};
 
 use certificate::Evidence;
 
@@ -12,13 +12,6 @@ pub fn accepted_line(evidence: &Evidence) -> &'static [u8]
         Evidence::Equal(_) => b"accepted equal\n",
         Evidence::Different(_) => b"accepted different\n",
     }
-}
-
-/// Returns the line for an accepted equational proof, `accepted chain`.
-pub fn accepted_chain_line() -> &'static [u8]
-    ensures { result.now ≡ accepted_chain_line }
-{
-    b"accepted chain\n"
 }
 
 /// Returns the line for accepted notes, `accepted outline`.

@@ -1,6 +1,6 @@
 //! The lines about words that do not fit, and about files that cannot be read or are too long.
 ghost use Rattle.std.specs.Prelude.{◌≡◌, IfOk};
-ghost use Rattle.kat_report.specs.InputLines.{unread_line, too_long_line, long_proof_line, words_line};
+ghost use Rattle.kat_report.specs.InputLines.{unread_line, too_long_line, words_line};
 
 use kat_model::NoMemory;
 use std::alloc::Global;
@@ -20,13 +20,6 @@ pub fn too_long_line() -> &'static [u8]
     ensures { result.now ≡ too_long_line }
 {
     b"refused: TooLong\n"
-}
-
-/// Returns the line for the file of an equational proof with more bytes than the limit, `refused: chain TooLong`.
-pub fn long_proof_line() -> &'static [u8]
-    ensures { result.now ≡ long_proof_line }
-{
-    b"refused: chain TooLong\n"
 }
 
 /// Returns the line for words that have no command or do not fit a file, `refused: words`.

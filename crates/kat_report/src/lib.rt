@@ -4,7 +4,6 @@
 mod abstract_refusal;
 mod accepted;
 mod answer;
-mod chain_reason;
 mod evidence;
 mod form_refusal;
 mod forms;
@@ -20,15 +19,14 @@ mod show;
 mod writing;
 
 pub use abstract_refusal::abstract_fault_line;
-pub use accepted::{accepted_chain_line, accepted_line, accepted_outline_line};
+pub use accepted::{accepted_line, accepted_outline_line};
 pub use answer::json_report;
-pub use chain_reason::chain_reason_line;
 pub use evidence::evidence_fault_line;
 pub use form_refusal::form_fault_line;
-pub use input_lines::{long_proof_line, too_long_line, unread_line, words_line};
+pub use input_lines::{too_long_line, unread_line, words_line};
 pub use outline_lines::{not_a_triple_line, not_simple_line, note_reason_line, notes_fault_line};
 pub use reason::{no_string_line, reason_line};
-pub use refusal::{chain_fault_line, text_fault_line};
+pub use refusal::{put_fault, text_fault_line};
 pub use replay::replay_text;
 pub use run_text::outcome_line;
 pub use show::show_text;

@@ -1,6 +1,6 @@
 //! The line with the reason why a text is refused.
 ghost use Rattle.std.specs.Prelude.{◌≡◌, ◌≢◌, ◌++◌, ◌∷◌, [], codes, IfOk, OnOk};
-ghost use Rattle.kat_report.specs.Refusals.{fault_word, fault_place, text_fault_line, chain_fault_line, place_text};
+ghost use Rattle.kat_report.specs.Refusals.{fault_word, fault_place, text_fault_line, place_text};
 
 use crate::writing::{put_numbered, put_word};
 use kat_model::NoMemory;
@@ -47,8 +47,9 @@ fn place(fault: &TextFault) -> Option<usize>
     }
 }
 
-// Appends the word and the place of the fault, and the end of the line.
-fn put_fault(alloc: Global, line: &mut Vec<u8>, fault: &TextFault) -> Result<(), NoMemory>
+/// Appends the end of a line that refuses a text: the word of the fault, a space and the place in bytes, if any, and a
+/// line feed. Fails only when out of memory.
+pub fn put_fault(alloc: Global, line: &mut Vec<u8>, fault: &TextFault) -> Result<(), NoMemory>
     ensures { OnOk result (line.new.items ≡ line.old.items ++ (fault_word fault.now ++ place_text (fault_place fault.now) ++ 10 ∷ [])) }
 {
     put_word(line, word(fault))?;
@@ -66,17 +67,6 @@ pub fn text_fault_line(alloc: Global, fault: &TextFault) -> Result<Vec<u8>, NoMe
     ensures { IfOk result (λ line. line.items ≡ text_fault_line fault.now) }
 {
     let mut line = b"refused: ".to_vec(alloc)?;
-    put_fault(alloc, &mut line, fault)?;
-    Ok(line)
-}
-
-/// Returns the line with the reason why the text of an equational proof is refused: `refused: chain WORD`, and a space
-/// and the place in bytes, if any. Fails only when out of memory.
-pub fn chain_fault_line(alloc: Global, fault: &TextFault) -> Result<Vec<u8>, NoMemory>
-    requires { fault.now ≢ TextFault.NoMemory }
-    ensures { IfOk result (λ line. line.items ≡ chain_fault_line fault.now) }
-{
-    let mut line = b"refused: chain ".to_vec(alloc)?;
     put_fault(alloc, &mut line, fault)?;
     Ok(line)
 }

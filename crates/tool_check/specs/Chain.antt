@@ -1,21 +1,43 @@
 -- `chain`: its reply to a text and a proof, and what that says of the question.
-use Rattle.std.specs.Prelude.{◌≡◌, ◌⊎◌, ◌↔◌, ℕ, List}
+use Rattle.std.specs.Prelude.{◌≡◌, ◌⊎◌, ◌↔◌, ℕ, List, [], ◌∷◌, ◌++◌, codes}
+use Rattle.std.specs.Fmt.{decimal}
 use Rattle.kat_model.specs.Problems.{ProblemParts}
 use Rattle.kat_model.specs.Relations.{Same}
 use Rattle.text_tokens.specs.declared.fault.TextFault.{TextFault}
-use Rattle.kat_report.specs.Acceptances.{accepted_chain_line}
-use Rattle.kat_report.specs.Reasons.{chain_reason_line}
-use Rattle.kat_report.specs.Refusals.{chain_fault_line}
+use Rattle.kat_report.specs.Refusals.{fault_word, fault_place, place_text}
 use Rattle.problem_file.specs.Files.{FileParts}
 use Rattle.problem_file.specs.Reads.{Reads}
 use Rattle.problem_file.specs.Concrete.{IsConcrete, Agrees}
 use Rattle.chain_rules.specs.Chains.{ChainTree}
 use Rattle.chain_rules.specs.Chained.{IsChained, IsReason}
 use Rattle.chain_rules.specs.declared.answer.ChainReason.{ChainReason}
+use Rattle.chain_rules.specs.declared.answer.ChainReason.TheVariants.{Start, End, Step}
 use Rattle.chain_proofs.specs.Reads.{Reads as ReadsProof, FirstFault}
 use Rattle.tool_inputs.specs.FileProblem.{Asks}
 use Rattle.tool_inputs.specs.TextProblem.{HasNoProblem}
 use Rattle.tool_inputs.specs.Steps.{ReplySpec, IsRefusal, AsksText}
+
+-- ---- its lines
+
+-- the line for an accepted proof
+abbrev pub accepted_chain_line : List ℕ
+accepted_chain_line = codes "accepted chain\n"
+
+-- for the text of a proof with a fault: `refused: chain WORD`, the place, and a line feed
+abbrev pub chain_fault_line : TextFault → List ℕ
+chain_fault_line fault = codes "refused: chain " ++ fault_word fault ++ place_text (fault_place fault) ++ 10 ∷ []
+
+-- for the file of a proof that has more bytes than the limit
+abbrev pub long_proof_line : List ℕ
+long_proof_line = codes "refused: chain TooLong\n"
+
+-- for a rejected proof: the word of the reason, and the number of the line that does not hold
+abbrev pub chain_reason_line : ChainReason → List ℕ
+chain_reason_line Start = codes "rejected: chain Start\n"
+chain_reason_line End = codes "rejected: chain End\n"
+chain_reason_line (Step n) = codes "rejected: chain Step " ++ decimal n ++ codes "\n"
+
+-- ---- the reply
 
 -- the bytes spell this chain over the tests and actions of the question
 abbrev pub SpellsChain : ProblemParts → List ℕ → ChainTree → Type 0

@@ -10,17 +10,47 @@ ghost use Rattle.chain_rules.specs.Chained.{HasTermsInRange};
 ghost use Rattle.tool_inputs.specs.Steps.{IsRefusal};
 ghost use Rattle.tool_inputs.specs.FileProblem.{Asks};
 ghost use Rattle.tool_inputs.specs.ReplySpecs.{EndsWith, Yields};
-ghost use Rattle.kat_report.specs.Reasons.{chain_reason_line};
-ghost use Rattle.kat_report.specs.Refusals.{chain_fault_line};
-ghost use Rattle.kat_report.specs.InputLines.{long_proof_line};
-ghost use Rattle.tool_check.specs.Chain.{IsNoChain, SpellsChain, IsProved, ProvesBytes, ChainHeadline, ChainReply};
+ghost use Rattle.tool_check.specs.Chain.{accepted_chain_line, chain_fault_line, chain_reason_line, long_proof_line, IsNoChain, SpellsChain, IsProved, ProvesBytes, ChainHeadline, ChainReply};
 
 use chain_proofs::{Chain, ChainAnswer, ChainReason, check_chain, read_chain};
 use kat_model::{MAX_TEXT_BYTES, NoMemory, Problem};
-use kat_report::{accepted_chain_line, chain_fault_line, chain_reason_line, long_proof_line};
+use kat_report::put_fault;
 use std::alloc::Global;
 use text_tokens::TextFault;
 use tool_inputs::{EarlyEnd, PairCommand, Reply, line, reply_to_pair};
+
+// Returns the line for an accepted proof.
+fn accepted_line() -> &'static [u8]
+    ensures { result.now ≡ accepted_chain_line }
+{
+    b"accepted chain\n"
+}
+
+// Returns the line with the reason why the text of a proof is refused: `refused: chain WORD`, and a space and the place
+// in bytes, if any.
+fn fault_line(alloc: Global, fault: &TextFault) -> Result<Vec<u8>, NoMemory>
+    ensures { IfOk result (λ line. line.items ≡ chain_fault_line fault.now) }
+{
+    let mut line = b"refused: chain ".to_vec(alloc)?;
+    put_fault(alloc, &mut line, fault)?;
+    Ok(line)
+}
+
+// Returns the line with the reason why a proof is rejected: `rejected: chain Start`, `rejected: chain End`, or
+// `rejected: chain Step N` with the number of the first line that does not hold.
+fn reason_line(alloc: Global, reason: &ChainReason) -> Result<Vec<u8>, NoMemory>
+    ensures { IfOk result (λ line. line.items ≡ chain_reason_line reason.now) }
+{
+    match reason {
+        ChainReason::Start => Ok(b"rejected: chain Start\n".to_vec(alloc)?),
+        ChainReason::End => Ok(b"rejected: chain End\n".to_vec(alloc)?),
+        ChainReason::Step(number) => {
+            let number = *number;
+            let line = format!(in alloc; "rejected: chain Step {number}\n")?;
+            Ok(line.as_bytes().to_vec(alloc)?)
+        }
+    }
+}
 
 // Returns the reply to the text of a proof with this fault: a refusal, unless memory ran out.
 fn fault_stop(alloc: Global, fault: TextFault) -> EarlyEnd
@@ -28,7 +58,7 @@ fn fault_stop(alloc: Global, fault: TextFault) -> EarlyEnd
 {
     match fault {
         TextFault::NoMemory => EarlyEnd::NoMemory,
-        _ => match chain_fault_line(alloc, &fault) {
+        _ => match fault_line(alloc, &fault) {
             Ok(output) => EarlyEnd::Replied(Reply { status: 2, output }),
             Err(NoMemory) => EarlyEnd::NoMemory,
         },
@@ -52,7 +82,7 @@ fn rejection(alloc: Global, reason: &ChainReason) -> Result<Reply, NoMemory>
 {
     Ok(Reply {
         status: 3,
-        output: chain_reason_line(alloc, reason)?,
+        output: reason_line(alloc, reason)?,
     })
 }
 
@@ -62,7 +92,7 @@ fn chain_reply(alloc: Global, problem: &Problem, chain: &Chain) -> Result<Reply,
     ensures { IfOk result (λ r. IsProved problem.now chain.now r.status r.output.items) }
 {
     match check_chain(alloc, problem, chain)? {
-        ChainAnswer::Accepted => line(alloc, 0, accepted_chain_line()),
+        ChainAnswer::Accepted => line(alloc, 0, accepted_line()),
         ChainAnswer::Rejected(reason) => rejection(alloc, &reason),
     }
 }
@@ -89,7 +119,7 @@ impl PairCommand for ChainCommand {
     }
 
     fn long_line(&self) -> &'static [u8] {
-        long_proof_line()
+        b"refused: chain TooLong\n"
     }
 
     fn bytes_reply(

@@ -1,5 +1,5 @@
 -- `run`: its reply to a text and words, and what it says about the program.
-use Rattle.std.specs.Prelude.{◌≡◌, ◌⊎◌, ◌↔◌, ℕ, List, None, Some, codes}
+use Rattle.std.specs.Prelude.{◌≡◌, ◌⊎◌, ◌↔◌, ℕ, List, None, Some}
 use Rattle.kat_model.specs.Stores.{Store}
 use Rattle.while_lang.specs.Programs.{ProgTree}
 use Rattle.while_lang.specs.Runs.{HasOutcome}
@@ -10,7 +10,7 @@ use Rattle.problem_file.specs.Reads.{Reads}
 use Rattle.tool_inputs.specs.TextProblem.{IsFaulty}
 use Rattle.tool_commands.specs.ProgramWords.{program_of}
 use Rattle.tool_commands.specs.StoreWords.{store_of}
-use Rattle.kat_report.specs.RunTexts.{outcome_line}
+use Rattle.kat_report.specs.RunTexts.{outcome_line, stuck_line, more_line}
 use Rattle.tool_inputs.specs.Steps.{ReplySpec, ReadsText, HasUnfitWords}
 use Rattle.kat_report.specs.InputLines.{words_line}
 
@@ -67,9 +67,9 @@ pub record RunHeadline (f : FileParts) (prog store : List ℕ) (turns status : �
   pub answers : (status ≡ 0) ⊎ ((status ≡ 1) ⊎ (status ≡ 7))
   pub done : (status ≡ 0) ↔ ((t : Store) × RunsTo f prog store turns Done t)
   pub done_line : (t : Store) → RunsTo f prog store turns Done t → output ≡ outcome_line f.scope Done t
-  pub stuck : ((status ≡ 1) × (output ≡ codes "stuck\n")) ↔ ((t : Store) × RunsTo f prog store turns Stuck t)
-  pub more : ((status ≡ 1) × (output ≡ codes "more\n")) ↔ ((t : Store) × RunsTo f prog store turns More t)
-  pub undone : status ≡ 1 → (output ≡ codes "stuck\n") ⊎ (output ≡ codes "more\n")
+  pub stuck : ((status ≡ 1) × (output ≡ stuck_line)) ↔ ((t : Store) × RunsTo f prog store turns Stuck t)
+  pub more : ((status ≡ 1) × (output ≡ more_line)) ↔ ((t : Store) × RunsTo f prog store turns More t)
+  pub undone : status ≡ 1 → (output ≡ stuck_line) ⊎ (output ≡ more_line)
   pub unfit : (status ≡ 7) ↔ IsUnfit f prog store
   pub unfit_line : status ≡ 7 → output ≡ words_line
 

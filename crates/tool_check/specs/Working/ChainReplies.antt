@@ -17,10 +17,7 @@ use Rattle.chain_proofs.proofs.OneAnswer.{have_one_answer}
 use Rattle.tool_inputs.specs.FileProblem.{Asks}
 use Rattle.tool_inputs.specs.TextProblem.{HasNoProblem}
 use Rattle.tool_inputs.specs.Steps.{ReplySpec, AsksQuestion, AsksFor}
-use Rattle.kat_report.specs.Acceptances.{accepted_chain_line}
-use Rattle.kat_report.specs.Refusals.{chain_fault_line}
-use Rattle.kat_report.specs.InputLines.{long_proof_line}
-use Rattle.tool_check.specs.Chain.{SpellsChain, HasFault, IsNoChain, ReadsChain, IsUnproving, IsProved, ProvesBytes, ProvesTexts, ChainHeadline, ChainReply}
+use Rattle.tool_check.specs.Chain.{accepted_chain_line, chain_fault_line, long_proof_line, SpellsChain, HasFault, IsNoChain, ReadsChain, IsUnproving, IsProved, ProvesBytes, ProvesTexts, ChainHeadline, ChainReply}
 use Rattle.tool_inputs.proofs.Steps.{OneStatus, reads_said, text_asks, abstracted_none, text_small, text_once}
 use Rattle.tool_inputs.proofs.TextReplies.{asked_text}
 use Rattle.tool_inputs.proofs.FileReplies.{HasOneReply}

@@ -1,5 +1,5 @@
 -- The reply of `run` satisfies the statement on the program.
-use Rattle.std.proofs.Common.{◌≡◌, ◌⊎◌, ◌<◌, ℕ, List, inl, inr, ⊎_elim, sym, ap, subst, ◌∙◌, arith, codes}
+use Rattle.std.proofs.Common.{◌≡◌, ◌⊎◌, ◌<◌, ℕ, List, inl, inr, ⊎_elim, sym, ap, subst, ◌∙◌, arith}
 use Rattle.std.proofs.lemmas.Option.{same_Some, none-some}
 use Rattle.kat_model.specs.Stores.{Store}
 use Rattle.while_lang.specs.Programs.{ProgTree}
@@ -10,7 +10,7 @@ use Rattle.while_lang.proofs.Outcomes.{one_outcome}
 use Rattle.problem_file.specs.Files.{FileParts}
 use Rattle.problem_file.specs.Reads.{Reads}
 use Rattle.kat_report.specs.InputLines.{too_long_line, words_line}
-use Rattle.kat_report.specs.RunTexts.{outcome_line}
+use Rattle.kat_report.specs.RunTexts.{outcome_line, stuck_line, more_line}
 use Rattle.tool_inputs.specs.Steps.{ReplySpec, HasUnfitWords}
 use Rattle.tool_programs.specs.Running.{outcome_status, Fits, IsUnfit, TakesWords, HasRun, RunsFile, RunsText, RunsTo, RunHeadline, DoesNotFit, RunReply}
 use Rattle.tool_inputs.proofs.Steps.{OneStatus, reads_said, reads_faulty, reads_once, small_status, text_long}
@@ -73,7 +73,7 @@ FileWays f prog store turns status output =
     ⊎ (((status ≡ 1) × ((t : Store) × RunsTo f prog store turns More t × (output ≡ outcome_line f.scope More t)))
     ⊎ ((status ≡ 7) × IsUnfit f prog store × (output ≡ words_line))))
 
-stuck_or_more : codes "stuck\n" ≡ codes "more\n" → ⊥
+stuck_or_more : stuck_line ≡ more_line → ⊥
 stuck_or_more e = cc
 
 module _ (f : FileParts) (prog store : List ℕ) (turns status : ℕ) (output : List ℕ) where
@@ -100,7 +100,7 @@ module _ (f : FileParts) (prog store : List ℕ) (turns status : ℕ) (output : 
 
   -- a run with status 1 is stuck or needs more turns
   abbrev Undone : Type 0
-  Undone = ((t : Store) × RunsTo f prog store turns Stuck t × (output ≡ codes "stuck\n")) ⊎ ((t : Store) × RunsTo f prog store turns More t × (output ≡ codes "more\n"))
+  Undone = ((t : Store) × RunsTo f prog store turns Stuck t × (output ≡ stuck_line)) ⊎ ((t : Store) × RunsTo f prog store turns More t × (output ≡ more_line))
 
   at_undone : FileWays f prog store turns status output → status ≡ 1 → Undone
   at_undone (inl h) e = absurd (omega (arith, h.0, e))
@@ -114,11 +114,11 @@ module _ (f : FileParts) (prog store : List ℕ) (turns status : ℕ) (output : 
   at_unfit (inr (inr (inl h))) e = absurd (omega (arith, h.0, e))
   at_unfit (inr (inr (inr h))) e = (h.1, h.2)
 
-  is_stuck : Undone → output ≡ codes "stuck\n" → (t : Store) × RunsTo f prog store turns Stuck t
+  is_stuck : Undone → output ≡ stuck_line → (t : Store) × RunsTo f prog store turns Stuck t
   is_stuck (inl h) e = (h.0, h.1)
   is_stuck (inr h) e = absurd (stuck_or_more (sym e ∙ h.2))
 
-  is_more : Undone → output ≡ codes "more\n" → (t : Store) × RunsTo f prog store turns More t
+  is_more : Undone → output ≡ more_line → (t : Store) × RunsTo f prog store turns More t
   is_more (inl h) e = absurd (stuck_or_more (sym h.2 ∙ e))
   is_more (inr h) e = (h.0, h.1)
 
