@@ -158,6 +158,17 @@ def powers(n):
     return string_of(f"goal equal {' + '.join('.'.join(['p'] * k) for k in range(1, n + 1))}, 0;\n")
 
 
+def moves(n):
+    """A string of n moves, under a hypothesis on its parts of any length."""
+    return "action p, q;\nhyp q.p* = 0;\ngoal equal p*, 1;\n", "kat 1 different\nA\n" + "M 0\n" * n + "end\n"
+
+
+def broken(n):
+    """The same with a last move that breaks the hypothesis."""
+    problem, string = moves(n)
+    return problem, string.replace("end\n", "M 1\nend\n")
+
+
 # Proofs, with the problem that they are of
 
 INNERMOST = "(1 + 1.1) + 1 = (1 + 1) + 1 by oneleft at 0.1; = 1 + 1 by idem at 0; = 1 by idem;"
@@ -233,6 +244,8 @@ CASES = {
     "nested": ("replay", nested, 1_000),
     "product": ("replay", product, 512),
     "powers": ("replay", powers, 199),
+    "moves": ("check", moves, 100_000),
+    "broken": ("check", broken, 100_000),
     "proof": ("chain", proof, 5_000),
     "induction": ("chain", induction, 199),
     "atoms": ("chain", atoms, 48),
