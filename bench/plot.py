@@ -83,21 +83,21 @@ def main():
     reader.add_argument("--points", metavar="FILE")
     reader.add_argument("-o", dest="output", default=str(HERE / "growth.svg"))
     reader.add_argument("family", nargs="*")
-    said = reader.parse_args()
-    lost = [name for name in said.family if name not in SIZES]
-    if lost:
-        sys.exit(f"no family {lost[0]}; there are {', '.join(SIZES)}")
-    if said.points and Path(said.points).is_file():
-        points = json.loads(Path(said.points).read_text())
+    chosen = reader.parse_args()
+    unknown = [name for name in chosen.family if name not in SIZES]
+    if unknown:
+        sys.exit(f"no family {unknown[0]}; the families are {', '.join(SIZES)}")
+    if chosen.points and Path(chosen.points).is_file():
+        points = json.loads(Path(chosen.points).read_text())
     else:
-        program = families.built(said.kat)
+        program = families.built(chosen.kat)
         with tempfile.TemporaryDirectory() as room:
             folder = Path(room)
-            points = {name: measured(program, name, said.runs, said.seconds, folder) for name in said.family or SIZES}
-        if said.points:
-            Path(said.points).write_text(json.dumps(points) + "\n")
+            points = {name: measured(program, name, chosen.runs, chosen.seconds, folder) for name in chosen.family or SIZES}
+        if chosen.points:
+            Path(chosen.points).write_text(json.dumps(points) + "\n")
     print(table(points))
-    if not draw(points, said.output):
+    if not draw(points, chosen.output):
         print("matplotlib is not installed, so nothing was drawn", file=sys.stderr)
         return 1
     return 0

@@ -4,11 +4,12 @@
     tools/report.py [--kat PROGRAM] [--turns N] [--seconds N] FILE.. -o report.html
 
 For each file the page has the answer of `decide`, how long it took, the size of the evidence, and both sides of the
-goal beside each other. For a difference it has the states and actions of the string as a table and as a picture, where
-each program is then, and what `try` found with at most N turns (1000). For a certificate it has the pairs in a table
-that folds. The page is one file, needs no network, and can be printed. Graphviz (`dot`) draws the picture where it is
-installed; otherwise its states stand in a row. The program is the one that the script `kat` runs. A program without
-the commands `explain` and `try` may be named too: then the string is that of `replay` with the names of `show`.
+goal beside each other. For a difference it has the states and actions of the string as a table and as a picture. For a
+certificate it has the pairs in a table that folds. The page is one file, needs no network, and can be printed. Graphviz
+(`dot`) draws the picture if it is installed; otherwise the states are drawn in a row. The program is the one that the
+script `kat` runs, unless --kat names another. If the program has the command `explain`, the page says where each program
+is after the string; otherwise the string is that of `replay` with the names of `show`. If it has the command `try`, the
+page says what that found with at most N turns (1000). A call that takes longer than --seconds (60) is ended.
 """
 
 import argparse
@@ -52,7 +53,7 @@ def shown_names(kat, file):
 
 
 def split_top(text):
-    """The parts of a text between commas that stand in no parentheses or brackets."""
+    """The parts of a text between commas outside parentheses and brackets."""
     parts, depth = [""], 0
     for letter in text:
         depth += (letter in "([") - (letter in ")]")
@@ -133,9 +134,9 @@ def whole_states(states):
 
 
 def parting(states, last):
-    """The state at which the sides part: one of them cannot go on there, has ended too early, or has more to do."""
+    """The state at which the sides part: one of them cannot continue there, has ended too early, or has more to do."""
     for line in last:
-        at = re.search(r"(?:cannot go on|has ended too early,) at (\d+)", line)
+        at = re.search(r"(?:cannot continue|has ended too early,) at (\d+)", line)
         if at:
             return int(at.group(1))
         if "has more to do" in line or "the postcondition fails" in line:
@@ -186,7 +187,7 @@ def laid_out(block):
 
 
 def goal_sides(text):
-    """The sides of the goal with their headings: programs with their blocks, and terms as they stand."""
+    """The sides of the goal with their headings: programs with their blocks, and terms unchanged."""
     text = without_comments(text)
     goal = re.search(r"\bgoal\s+(equal|below|triple)\s+([^;]*);", text)
     if not goal:
@@ -242,8 +243,8 @@ def pairs_of(evidence, names, hyps):
         terms.append(term_text(words, tests, terms, names))
         if k == added:
             of_hyps, terms[k] = terms[k], "H"
-    told = [([terms[k] for k in left], [terms[k] for k in right], tests[test[0]] if test else "") for left, right, test in pairs]
-    return told, of_hyps
+    shown = [([terms[k] for k in left], [terms[k] for k in right], tests[test[0]] if test else "") for left, right, test in pairs]
+    return shown, of_hyps
 
 
 def shortened(words):
@@ -342,10 +343,10 @@ section { border-top: 2px solid var(--line); padding: 1rem 0; }
 pre, code, td { font-family: ui-monospace, monospace; font-size: .85rem; }
 pre { margin: 0; padding: .6rem; background: var(--soft); overflow-x: auto; white-space: pre-wrap; overflow-wrap: anywhere; }
 .wide { overflow-x: auto; } svg { display: block; max-width: none; }
-table { border-collapse: collapse; } td, th { border: 1px solid var(--line); padding: .25rem .5rem; text-align: left; vertical-align: top; overflow-wrap: anywhere; }
+table { border-collapse: collapse; } td, th { border: 1px solid var(--line); padding: .25rem .5rem; text-align: left; vertical-align: top; overflow-wrap: break-word; }
 tr.parted td { border-color: var(--no); background: #fdecec; }
 ul { margin: .3rem 0; padding-left: 1.2rem; } summary { cursor: pointer; }
-.overview td:first-child { overflow-wrap: anywhere; }
+.overview td:first-child { overflow-wrap: anywhere; min-width: 9rem; } .overview td:not(:first-child) { white-space: nowrap; }
 @media print { body { max-width: none; padding: 0; font-size: .8rem; } section { break-inside: avoid-page; } pre, .wide { overflow: visible; } svg { max-width: 100%; height: auto; } }
 """
 
@@ -403,8 +404,8 @@ def pairs_part(report, names):
     if of_hyps:
         notes.append("H is the term of the hypotheses, " + of_hyps)
     table = tag("div", tag("table", "".join(rows)), class_="wide")
-    told = tag("summary", f"The certificate has {counted(len(pairs), 'pair')}")
-    return tag("details", told + table + "".join(tag("p", text(note)) for note in notes))
+    heading = tag("summary", f"The certificate has {counted(len(pairs), 'pair')}")
+    return tag("details", heading + table + "".join(tag("p", text(note)) for note in notes))
 
 
 def counted(count, what):
@@ -464,8 +465,8 @@ class Problem:
         with tempfile.NamedTemporaryFile("w", suffix=".evidence") as evidence:
             evidence.write(self.report["evidence"])
             evidence.flush()
-            told = string_part(*explained(self.kat, self.file, evidence.name, names))
-            return sides + told + try_part(self.kat, self.file, self.turns, evidence.name)
+            string = string_part(*explained(self.kat, self.file, evidence.name, names))
+            return sides + string + try_part(self.kat, self.file, self.turns, evidence.name)
 
 
 def page(problems):
