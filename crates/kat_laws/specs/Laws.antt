@@ -16,7 +16,7 @@ use Rattle.kat_laws.specs.Models.{SameInModels}
 use Rattle.kat_laws.specs.SmallStrings.{IsSmall}
 use Rattle.kat_laws.specs.StoreStrings.{SpellsOnStores, FailsOn}
 
--- finite tables, relational models and guarded strings have one theory
+-- finite tables, decidable models over natural numbers and guarded strings have one theory
 pub record HasOneTheory (q : ProblemParts) : Type 0 where
   pub models : Same q ↔ SameInModels q
   pub strings : Same q ↔ ((x : GuardedString) → Refutes q x → ⊥)

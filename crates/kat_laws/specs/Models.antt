@@ -1,5 +1,5 @@
--- Relational models with finitely or infinitely many states (Kozen and Smith 1996), and the terms that denote one
--- relation in all of them.
+-- Relational models whose states are natural numbers, finitely or infinitely many (Kozen and Smith 1996), and the terms
+-- that denote one relation in all of them.
 use Rattle.std.specs.Prelude.{◌≡◌, ◌<◌, ◌↔◌, ℕ, Bool, IsTrue, length}
 use Rattle.kat_model.specs.Members.{Has}
 use Rattle.kat_model.specs.Trees.{Term}
@@ -25,7 +25,7 @@ pub record IsModel (q : ProblemParts) (m : Model) : Type 0 where
   pub actions : (a i j : ℕ) → IsTrue (m.relates a i j) → a < q.actions
   pub keeps : (h : Term) → Has q.hyps h → (i j : ℕ) → IsTrue (m.is_state i) → IsTrue (m.is_state j) → RelatesIn (frame_of_model m) h i j → ⊥
 
--- both sides denote one relation in each model
+-- both sides denote one relation in each model of the question
 abbrev pub SameInModels : ProblemParts → Type 0
 SameInModels q =
     (m : Model) → IsModel q m → (i j : ℕ) → IsTrue (m.is_state i) → IsTrue (m.is_state j)

@@ -3,8 +3,8 @@
 ghost use Rattle.kat_laws.specs.Laws.{ModelsAreTables, ShortestAreSmall, SmallStringsDecide, StringsFailOnStores};
 
 /// Both sides denote one relation in every finite table that satisfies the hypotheses exactly when they do in every
-/// relational model that satisfies them, also in models with infinitely many states; and exactly when no guarded string
-/// refutes the question (Kozen and Smith 1996).
+/// model that satisfies them whose states are finitely or infinitely many natural numbers and whose tests and actions
+/// are decidable relations on them; and exactly when no guarded string refutes the question (Kozen and Smith 1996).
 pub fn models_are_tables()
     ensures { ModelsAreTables }
 {}

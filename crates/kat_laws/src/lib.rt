@@ -1,4 +1,4 @@
-//! Laws that need the definitions of several crates: relational models with infinitely many states, the size of
+//! Laws that need the definitions of several crates: relational models whose states are natural numbers, the size of
 //! shortest counterexamples, and strings that run on stores.
 #![tactic(auto)]
 
