@@ -48,11 +48,12 @@ PARTS = [
          clauses=[("tool_decide/src/decide.rt", "decide_bytes", ["programs", "triples"])], later=("abstract_of",)),
     Part("Evidence", "The certificates that are accepted, and the bytes that spell evidence.",
          names=[("certificate", "Accepted", "IsAccepted"), ("tool_inputs", "EvidenceBytes", "Spells")]),
-    Part("Models and the size of strings", "Relational models with finitely or infinitely many states, and how many moves a "
-         "shortest string has at most.",
+    Part("Models and the size of strings", "Relational models whose states are finitely or infinitely many natural numbers, and how many moves "
+         "a shortest string has at most.",
          names=[("kat_laws", "Models", "SameInModels"), ("kat_laws", "SmallStrings", "IsSmall")]),
-    Part("Every text", "What any text asks, by the grammar of problem files, and what `check` answers.",
-         clauses=[("tool_decide/src/decide.rt", "decide_bytes", ["headline"]), ("tool_check/src/check.rt", "check_bytes", ["headline"])]),
+    Part("Every text", "What any text asks, by the grammar of problem files, what its goal says of stores, and what `check` "
+         "answers.",
+         clauses=[("tool_decide/src/decide.rt", "decide_bytes", ["headline", "stores", "readings"]), ("tool_check/src/check.rt", "check_bytes", ["headline"])]),
     Part("Outlines", "What `outline` answers of a triple of a program, and of any notes, whoever wrote them.",
          clauses=[("tool_outline/src/outline.rt", "outline_bytes", ["headline"]), ("tool_outline/src/outline_check.rt", "outline_check_bytes", ["headline"])]),
     Part("Equational proofs", "What `chain` answers of any proof, whoever wrote it.",
@@ -242,8 +243,20 @@ def roots_of(part, specs, lines):
     return roots
 
 
+def doubles(definitions):
+    """The names that have two or more of these definitions, each with its files."""
+    found = {}
+    for it in definitions:
+        names = [it.name]
+        if " data " in f" {it.head} ":
+            names += [one[1] for one in map(re.compile(r"\s+(\S+) :").match, it.lines) if one]
+        for name in names:
+            found.setdefault(name, {}).setdefault(it.path.relative_to(TOP))
+    return {name: list(paths) for name, paths in sorted(found.items()) if len(paths) > 1}
+
+
 def parts(specs):
-    """Each part as lines, with the number of its lines of definitions."""
+    """Each part as lines, with the number of its lines of definitions, and its definitions."""
     placed = set()
     for number, part in enumerate(PARTS, 1):
         lines = [f"## {number}. {part.title}", "", part.about, ""]
@@ -251,7 +264,7 @@ def parts(specs):
         lines += shown(gathered)
         total, bare = counted(gathered)
         lines += [f"{total} lines of definitions, {bare} without comments, in {len({it.path for it in gathered})} files.", ""]
-        yield lines, total
+        yield lines, total, gathered
 
 
 def page():
@@ -265,7 +278,14 @@ def page():
              "Other clauses with their definitions: " + "; ".join(
                  f"`docs/statement.py --part {number}`: {part.title.lower()}"
                  for number, part in enumerate(PARTS[ON_PAGE:], ON_PAGE + 1)) + ".", ""]
-    lines += [line for part, _ in found for line in part]
+    lines += [line for part, _, _ in found for line in part]
+    twice = doubles([it for _, _, gathered in found for it in gathered])
+    if twice:
+        lines += ["## Names with two definitions", "",
+                  "Each of these names has two definitions above. In a definition, a name has the meaning that its own file "
+                  "defines or imports.", ""]
+        lines += [f"- `{name}`: " + ", ".join(f"`{path}`" for path in paths) for name, paths in twice.items()]
+        lines.append("")
     modules = sorted({module.removeprefix("Rattle.") for module, _ in specs.kit if ".declared." not in module})
     lines += ["## Not counted", "",
               "The program's types, which clauses see as records and variants, are in the sources. The definitions use these "
@@ -278,7 +298,7 @@ def page():
 def print_part(word):
     if not word.isdecimal() or not 1 <= int(word) <= len(PARTS):
         sys.exit(f"docs/statement.py: the parts are 1 to {len(PARTS)}")
-    *_, (lines, _) = (part for part, _ in zip(parts(Specs()), range(int(word))))
+    *_, (lines, _, _) = (part for part, _ in zip(parts(Specs()), range(int(word))))
     print("\n".join(lines))
 
 

@@ -9,6 +9,7 @@ use Rattle.problem_file.specs.Reads.{ReadsAll, FirstFaultOfAll}
 use Rattle.problem_file.specs.Laws.{ReadsBoth}
 use Rattle.problem_file.specs.Concrete.{IsConcrete, Agrees}
 use Rattle.abstraction.specs.Abstracts.{AbstractParts, abstract_of, with_goal}
+use Rattle.abstraction.specs.Readings.{Reading, KeepsStated, GoalHoldsBy}
 use Rattle.tool_inputs.specs.TextProblem.{IsFaultOf, HasNoAbstraction}
 use Rattle.tool_inputs.specs.Steps.{ReplySpec, IsRefusal, ReadsAs}
 use Rattle.tool_decide.specs.Decide.{IsDecided}
@@ -65,7 +66,8 @@ AnswersText text = ReadsAs (FirstFaultOfAll text) (ReadsBoth text) (λ x. Answer
 
 -- The status is 0 exactly when both sides of each goal denote one relation, 1 exactly when each goal asks a question
 -- and the sides of some goal do not denote one relation, and 2 exactly when some goal asks no question. With 0 and 1,
--- each goal has its answer. If the status is 0, the goals of a concrete file hold for all its stores.
+-- each goal has its answer. If the status is 0, the goals of a concrete file hold for all its stores, and the goals of
+-- any file hold for them under every reading of its declared tests and actions that satisfies its stated hypotheses.
 pub record BatchHeadline (f : FileParts) (more : List GoalTree) (status : ℕ) (output : List ℕ) : Type 0 where
   pub answers : (status ≡ 0) ⊎ ((status ≡ 1) ⊎ (status ≡ 2))
   pub equal : (status ≡ 0) ↔ ((g : FileParts) → Has (with_each f more) g → AsksSame g)
@@ -74,6 +76,7 @@ pub record BatchHeadline (f : FileParts) (more : List GoalTree) (status : ℕ) (
   pub refused_line : (line : List ℕ) → IsFirstRefused (with_each f more) line → output ≡ line
   pub answered : (status ≡ 0) ⊎ (status ≡ 1) → AnswersFrom 0 (with_each f more) status output
   pub stores : status ≡ 0 → (g : FileParts) → Has (with_each f more) g → IsConcrete g → Agrees g
+  pub readings : status ≡ 0 → (g : FileParts) → Has (with_each f more) g → (a : AbstractParts) (r : Reading) → abstract_of g ≡ Ok a → KeepsStated g a r → GoalHoldsBy g a r g.goal
 
 -- What a reply of `batch` says about its text. The headline holds for its goals. A text with a first fault is refused
 -- with the line of the fault.

@@ -1,5 +1,5 @@
 -- `decide`: its reply to a text, and what it says about the question.
-use Rattle.std.specs.Prelude.{◌≡◌, ◌≤◌, ◌+◌, ◌*◌, ◌⊎◌, ◌↔◌, ℕ, List, [], length}
+use Rattle.std.specs.Prelude.{◌≡◌, ◌≤◌, ◌+◌, ◌*◌, ◌⊎◌, ◌↔◌, ℕ, List, [], length, Ok}
 use Rattle.kat_model.specs.Trees.{acts}
 use Rattle.kat_model.specs.Guarded.{IsGuarded}
 use Rattle.kat_model.specs.Problems.{ProblemParts}
@@ -8,6 +8,8 @@ use Rattle.kat_model.specs.Strings.{GuardedString}
 use Rattle.problem_file.specs.Files.{FileParts}
 use Rattle.problem_file.specs.Reads.{Reads}
 use Rattle.problem_file.specs.Concrete.{IsConcrete, Agrees}
+use Rattle.abstraction.specs.Abstracts.{AbstractParts, abstract_of}
+use Rattle.abstraction.specs.Readings.{Reading, KeepsStated, GoalHoldsBy}
 use Rattle.certificate.specs.Certs.{CertParts}
 use Rattle.certificate.specs.Accepted.{set_pairs, IsAccepted}
 use Rattle.certificate.specs.declared.evidence.Evidence.TheVariants.{Equal, Different}
@@ -20,7 +22,8 @@ use Rattle.tool_inputs.specs.EvidenceBytes.{Spells}
 use Rattle.tool_inputs.specs.Steps.{ReplySpec, AsksText}
 
 -- Both sides denote one relation in every table that satisfies the hypotheses, and an accepted certificate is printed.
--- No pair of it is redundant; or, if some hypothesis is short and there are many such pairs, its pairs are under tests.
+-- No pair of it is redundant; or, if some hypothesis is short and some list of many pairs has no redundant one, its
+-- pairs are under tests.
 -- It has few pairs if both sides are guarded and there are no hypotheses.
 pub record IsEqual (q : ProblemParts) (output : List ℕ) : Type 0 where
   pub same : Same q
@@ -47,7 +50,8 @@ DecidesText text = AsksText text IsDecided
 -- The status is 0 exactly when both sides denote one relation in every table that satisfies the hypotheses; then the
 -- output spells an accepted certificate. It is 1 exactly when they do not; then the output spells a shortest string that
 -- refutes the question. So `check` accepts the output, whatever wrote it. Both sides denote one relation in every table
--- exactly when they do in every relational model that satisfies the hypotheses. A shortest string is small.
+-- exactly when they do in every model that satisfies the hypotheses whose states are natural numbers, finitely or
+-- infinitely many, and whose tests and actions are decidable relations on them. A shortest string is small.
 pub record Headline (q : ProblemParts) (status : ℕ) (output : List ℕ) : Type 0 where
   pub answers : (status ≡ 0) ⊎ (status ≡ 1)
   pub equal : (status ≡ 0) ↔ Same q
@@ -56,10 +60,12 @@ pub record Headline (q : ProblemParts) (status : ℕ) (output : List ℕ) : Type
   pub certificate : status ≡ 0 → (c : CertParts) × IsAccepted q c × Spells output (Equal c)
   pub string : status ≡ 1 → (x : GuardedString) × IsShortest q x × IsSmall q x × Spells output (Different x)
 
--- What a reply of `decide` says about its text. The headline holds for its question. If the file is concrete and the
--- status is 0, its goal holds for all its stores. A text without a question is refused with its line.
+-- What a reply of `decide` says about its text. The headline holds for its question. If the status is 0, the goal of a
+-- concrete file holds for all its stores, and the goal of any file holds for them under every reading of its declared
+-- tests and actions that satisfies its stated hypotheses. A text without a question is refused with its line.
 pub record DecideReply (text : List ℕ) (status : ℕ) (output : List ℕ) : Type 0 where
   pub replies : DecidesText text status output
   pub headline : (q : ProblemParts) → Asks text q → Headline q status output
   pub stores : (f : FileParts) → Reads text f → IsConcrete f → status ≡ 0 → Agrees f
+  pub readings : (f : FileParts) (a : AbstractParts) (r : Reading) → Reads text f → abstract_of f ≡ Ok a → KeepsStated f a r → status ≡ 0 → GoalHoldsBy f a r f.goal
   pub declined : (line : List ℕ) → HasNoProblem text line → (status ≡ 2) × (output ≡ line)

@@ -1,10 +1,12 @@
 -- `decide` with `--json`: its reply is that of `decide`, with a report of the evidence instead of its text.
-use Rattle.std.specs.Prelude.{◌≡◌, ℕ, List}
+use Rattle.std.specs.Prelude.{◌≡◌, ℕ, List, Ok}
 use Rattle.kat_model.specs.Problems.{ProblemParts}
 use Rattle.certificate.specs.declared.evidence.Evidence.{Evidence}
 use Rattle.problem_file.specs.Files.{FileParts}
 use Rattle.problem_file.specs.Reads.{Reads}
 use Rattle.problem_file.specs.Concrete.{IsConcrete, Agrees}
+use Rattle.abstraction.specs.Abstracts.{AbstractParts, abstract_of}
+use Rattle.abstraction.specs.Readings.{Reading, KeepsStated, GoalHoldsBy}
 use Rattle.kat_report.specs.Reports.{json_report}
 use Rattle.tool_inputs.specs.FileProblem.{Asks}
 use Rattle.tool_inputs.specs.TextProblem.{HasNoProblem}
@@ -39,4 +41,5 @@ pub record DecideJsonReply (text : List ℕ) (status : ℕ) (output : List ℕ) 
   pub replies : ReportsText text status output
   pub headline : (q : ProblemParts) → Asks text q → ReportHeadline q status output
   pub stores : (f : FileParts) → Reads text f → IsConcrete f → status ≡ 0 → Agrees f
+  pub readings : (f : FileParts) (a : AbstractParts) (r : Reading) → Reads text f → abstract_of f ≡ Ok a → KeepsStated f a r → status ≡ 0 → GoalHoldsBy f a r f.goal
   pub declined : (line : List ℕ) → HasNoProblem text line → (status ≡ 2) × (output ≡ line)

@@ -148,8 +148,9 @@ impl TextCommand for BatchCommand {
 /// the file with only that goal, after a line with its number. The status is 0 exactly when both sides of each goal
 /// denote one relation in every finite table that satisfies its hypotheses, and 1 exactly when each goal asks a
 /// question and the sides of some goal do not. It is 2 if the text is not read or a goal is refused, with only the line
-/// of the first refusal. If the status is 0, the goals of a concrete file hold for all its stores. Fails only when out
-/// of memory.
+/// of the first refusal. If the status is 0, the goals of a concrete file hold for all its stores, and those of any file
+/// hold for them under each reading of its tests and actions that satisfies its hypotheses. Fails only when out of
+/// memory.
 pub fn batch_bytes(alloc: Global, text: &[u8]) -> Result<Reply, NoMemory>
     ensures headline { (f : FileParts) (more : List GoalTree) → ReadsAll text.now f more
         → IfOk result (λ r. BatchHeadline f more r.status r.output.items) }

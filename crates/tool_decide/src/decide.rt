@@ -1,5 +1,5 @@
 //! `decide`: replies to a text with the decision of the problem that it poses.
-ghost use Rattle.std.specs.Prelude.{◌≡◌, ℕ, length, IfOk};
+ghost use Rattle.std.specs.Prelude.{◌≡◌, ℕ, length, Ok, IfOk};
 ghost use Rattle.kat_model.specs.Problems.{ProblemParts};
 ghost use Rattle.kat_model.specs.Expressions.{CondTree};
 ghost use Rattle.kat_model.specs.declared.expression.Width.{Width};
@@ -9,6 +9,8 @@ ghost use Rattle.problem_texts.specs.ProgramTexts.{programs_text, triple_text, A
 ghost use Rattle.problem_file.specs.Files.{FileParts};
 ghost use Rattle.problem_file.specs.Reads.{Reads};
 ghost use Rattle.problem_file.specs.Concrete.{IsConcrete, Agrees};
+ghost use Rattle.abstraction.specs.Abstracts.{AbstractParts, abstract_of};
+ghost use Rattle.abstraction.specs.Readings.{Reading, KeepsStated, GoalHoldsBy};
 ghost use Rattle.certificate.specs.Decisions.{IsDecision};
 ghost use Rattle.certificate.specs.Texts.{IsEvidence};
 ghost use Rattle.tool_inputs.specs.EvidenceBytes.{Spells, evidence_status};
@@ -103,8 +105,9 @@ impl TextCommand for DecideCommand {
 /// accepted certificate; 1 exactly when they do not, with the text of a shortest string that refutes the question.
 /// Otherwise it is 2, with the line that gives the reason. If the text is a concrete file and the status is 0, its goal
 /// holds for all its stores: both programs end in the same stores from each store, or the triple holds for every run
-/// that ends. Status 1 says that the question over tests and actions fails, and nothing about stores. Fails only when
-/// out of memory.
+/// that ends. The goal of any file with status 0 holds for all its stores, whatever predicates and relations on stores
+/// its declared tests and actions are, as long as these satisfy its hypotheses. Status 1 says that the question over
+/// tests and actions fails, and nothing about stores. Fails only when out of memory.
 pub fn decide_bytes(alloc: Global, text: &[u8]) -> Result<Reply, NoMemory>
     // For the plainest text of a question, whose meaning needs no grammar.
     ensures plain { (q : ProblemParts) → IsPrintable q → text.now ≡ question_text q
@@ -118,6 +121,9 @@ pub fn decide_bytes(alloc: Global, text: &[u8]) -> Result<Reply, NoMemory>
     ensures headline { (q : ProblemParts) → Asks text.now q
         → IfOk result (λ r. Headline q r.status r.output.items) }
     ensures stores { (f : FileParts) → Reads text.now f → IsConcrete f → IfOk result (λ r. r.status ≡ 0 → Agrees f) }
+    // For every reading of the declared tests and actions that satisfies the stated hypotheses.
+    ensures readings { (f : FileParts) (a : AbstractParts) (reading : Reading) → Reads text.now f → abstract_of f ≡ Ok a → KeepsStated f a reading
+        → IfOk result (λ r. r.status ≡ 0 → GoalHoldsBy f a reading f.goal) }
     ensures reply { IfOk result (λ r. DecideReply text.now r.status r.output.items) }
 {
     let reply = reply_to_text(alloc, &DecideCommand, text)?;

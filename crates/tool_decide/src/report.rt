@@ -1,9 +1,11 @@
 //! `decide` with `--json`: replies to a text with a report of the decision of the problem that it poses.
-ghost use Rattle.std.specs.Prelude.{◌≡◌, IfOk};
+ghost use Rattle.std.specs.Prelude.{◌≡◌, Ok, IfOk};
 ghost use Rattle.kat_model.specs.Problems.{ProblemParts};
 ghost use Rattle.problem_file.specs.Files.{FileParts};
 ghost use Rattle.problem_file.specs.Reads.{Reads};
 ghost use Rattle.problem_file.specs.Concrete.{IsConcrete, Agrees};
+ghost use Rattle.abstraction.specs.Abstracts.{AbstractParts, abstract_of};
+ghost use Rattle.abstraction.specs.Readings.{Reading, KeepsStated, GoalHoldsBy};
 ghost use Rattle.tool_inputs.specs.FileProblem.{Asks};
 ghost use Rattle.tool_decide.specs.DecideJson.{IsReported, ReportHeadline, DecideJsonReply};
 
@@ -49,6 +51,8 @@ pub fn decide_json_bytes(alloc: Global, text: &[u8]) -> Result<Reply, NoMemory>
     ensures headline { (q : ProblemParts) → Asks text.now q
         → IfOk result (λ r. ReportHeadline q r.status r.output.items) }
     ensures stores { (f : FileParts) → Reads text.now f → IsConcrete f → IfOk result (λ r. r.status ≡ 0 → Agrees f) }
+    ensures readings { (f : FileParts) (a : AbstractParts) (reading : Reading) → Reads text.now f → abstract_of f ≡ Ok a → KeepsStated f a reading
+        → IfOk result (λ r. r.status ≡ 0 → GoalHoldsBy f a reading f.goal) }
     ensures reply { IfOk result (λ r. DecideJsonReply text.now r.status r.output.items) }
 {
     let reply = reply_to_text(alloc, &DecideJsonCommand, text)?;

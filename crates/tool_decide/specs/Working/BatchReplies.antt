@@ -1,5 +1,5 @@
 -- The reply of `batch` satisfies the statement on the goals.
-use Rattle.std.proofs.Common.{◌≡◌, ◌⊎◌, ◌<◌, ℕ, ◌+◌, max, List, [], ◌∷◌, ◌++◌, length, map, slice_get, Some, inl, inr, ⊎_elim, refl, sym, subst, ap, ◌∙◌, arith, append_assoc, append-nil}
+use Rattle.std.proofs.Common.{◌≡◌, ◌⊎◌, ◌<◌, ℕ, ◌+◌, max, List, [], ◌∷◌, ◌++◌, length, map, slice_get, Some, Ok, inl, inr, ⊎_elim, refl, sym, subst, ap, ◌∙◌, arith, append_assoc, append-nil}
 use Rattle.kat_model.specs.Members.{Has}
 use Rattle.kat_model.specs.Problems.{ProblemParts}
 use Rattle.kat_model.specs.Relations.{Same}
@@ -11,7 +11,9 @@ use Rattle.problem_file.specs.Concrete.{IsConcrete, Agrees}
 use Rattle.problem_file.proofs.OneAnswer.{all_have_one_answer}
 use Rattle.problem_file.proofs.NumberedStates.{all_are_in_ranges}
 use Rattle.abstraction.specs.Abstracts.{AbstractParts, HasNumbersInRange, abstract_of, with_goal}
+use Rattle.abstraction.specs.Readings.{Reading, KeepsStated, GoalHoldsBy}
 use Rattle.abstraction.proofs.DerivedHypotheses.{derived_hold}
+use Rattle.abstraction.proofs.ReadingAgreement.{readings_agree}
 use Rattle.abstraction.proofs.Agreement.{same_agrees}
 use Rattle.kat_report.specs.InputLines.{too_long_line}
 use Rattle.tool_decide.specs.Decide.{IsDecided}
@@ -182,6 +184,11 @@ module _ (f : FileParts) (more : List GoalTree) (status : ℕ) (output : List �
       let range = in_range g has in
       same_agrees g h.0 range h.1 (derived_hold g h.0 range h.1) concrete h.2
 
+  readings_if : AreInRange f more → AnswersAll f more status output → status ≡ 0 → (g : FileParts) → Has (with_each f more) g → (a : AbstractParts) (r : Reading) → abstract_of g ≡ Ok a → KeepsStated g a r → GoalHoldsBy g a r g.goal
+  readings_if in_range r zero g has a reading is stated =
+      let h = each_same 0 (with_each f more) status output (below_two r (inl zero)) zero g has in
+      readings_agree g a reading (in_range g has) is stated (subst (λ (x : AbstractParts). Same x.problem) (one_value (abstract_of g) h.0 a h.1 is) h.2)
+
   pub goals_headline : AreInRange f more → AnswersAll f more status output → BatchHeadline f more status output
   goals_headline in_range r = record {
     answers = three r;
@@ -194,6 +201,7 @@ module _ (f : FileParts) (more : List GoalTree) (status : ℕ) (output : List �
     refused_line = λ line first. (refused_if r line first).1;
     answered = below_two r;
     stores = stores_if in_range r;
+    readings = readings_if in_range r;
   }
 
 goals_once : (f : FileParts) (more : List GoalTree) → OneStatus (AnswersAll f more)

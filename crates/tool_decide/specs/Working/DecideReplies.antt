@@ -6,6 +6,8 @@ use Rattle.problem_file.specs.Files.{FileParts}
 use Rattle.problem_file.specs.Reads.{Reads}
 use Rattle.problem_file.specs.Concrete.{IsConcrete, Agrees}
 use Rattle.abstraction.specs.Abstracts.{AbstractParts, abstract_of}
+use Rattle.abstraction.specs.Readings.{Reading, KeepsStated, GoalHoldsBy}
+use Rattle.abstraction.proofs.ReadingAgreement.{readings_agree}
 use Rattle.kat_laws.proofs.Theories.{has_one_theory}
 use Rattle.kat_laws.proofs.SmallStrings.{shortest_small}
 use Rattle.tool_inputs.specs.FileProblem.{Asks}
@@ -14,6 +16,7 @@ use Rattle.tool_inputs.specs.Steps.{AsksQuestion}
 use Rattle.tool_decide.specs.Decide.{IsDecided, DecidesText, Headline, DecideReply}
 use Rattle.tool_inputs.proofs.Steps.{OneStatus, reads_said, text_asks, abstracted_none, small_status, text_small, text_long, text_once}
 use Rattle.tool_inputs.proofs.FileReplies.{RefusesLong, HasOneReply}
+use Rattle.tool_inputs.proofs.Ranges.{numbers_in_range}
 use Rattle.tool_inputs.proofs.StoreSentences.{asked_agrees}
 
 pub not_both : (status : ℕ) → status ≡ 0 → status ≡ 1 → ⊥
@@ -53,6 +56,13 @@ text_stores text status output f reads concrete r zero =
     (λ h. question_stores text f reads concrete h.0 h.1 status output h.2 zero)
     (reads_said text (λ g. AsksQuestion g IsDecided) status output f reads r)
 
+-- if the status is 0, the goal of a file holds for all its stores under every reading that keeps the stated hypotheses
+pub text_readings : (text : List ℕ) (status : ℕ) (output : List ℕ) (f : FileParts) (a : AbstractParts) (r : Reading) → Reads text f → abstract_of f ≡ Ok a → KeepsStated f a r
+    → DecidesText text status output → status ≡ 0 → GoalHoldsBy f a r f.goal
+text_readings text status output f a r reads is stated replies zero =
+    let asks : Asks text a.problem = record { file = f; reads = reads; abstract = a; is_abstract = is; question = refl } in
+    readings_agree f a r (numbers_in_range text f reads) is stated ((text_headline text status output a.problem asks replies).equal.0 zero)
+
 pub decided_once : (q : ProblemParts) → OneStatus (IsDecided q)
 decided_once q a b o p (inl h) y = h.0 ∙ sym ((decided_headline q b p y).equal.1 h.1.same)
 decided_once q a b o p (inr h) y = h.0 ∙ sym ((decided_headline q b p y).different.1 h.1.differ)
@@ -64,6 +74,7 @@ decide_reply text status output r = record {
   replies = r;
   headline = λ q asks. text_headline text status output q asks r;
   stores = λ f reads concrete zero. text_stores text status output f reads concrete r zero;
+  readings = λ f a reading reads is stated zero. text_readings text status output f a reading reads is stated r zero;
   declined = λ line none. abstracted_none text (λ f a. IsDecided a.problem) status output line none r;
 }
 

@@ -1,15 +1,19 @@
 -- The reply of `decide` with `--json` satisfies the statement on the question, as the reply of `decide` does.
-use Rattle.std.proofs.Common.{◌≡◌, ℕ, List, inl, ⊎_elim, arith}
+use Rattle.std.proofs.Common.{◌≡◌, ℕ, List, Ok, inl, ⊎_elim, refl, arith}
 use Rattle.kat_model.specs.Problems.{ProblemParts}
 use Rattle.problem_file.specs.Files.{FileParts}
 use Rattle.problem_file.specs.Reads.{Reads}
 use Rattle.problem_file.specs.Concrete.{IsConcrete, Agrees}
+use Rattle.abstraction.specs.Abstracts.{AbstractParts, abstract_of}
+use Rattle.abstraction.specs.Readings.{Reading, KeepsStated, GoalHoldsBy}
+use Rattle.abstraction.proofs.ReadingAgreement.{readings_agree}
 use Rattle.tool_inputs.specs.FileProblem.{Asks}
 use Rattle.kat_report.specs.InputLines.{too_long_line}
 use Rattle.tool_inputs.specs.Steps.{AsksQuestion}
 use Rattle.tool_decide.specs.DecideJson.{IsReported, ReportsText, ReportHeadline, DecideJsonReply}
 use Rattle.tool_inputs.proofs.Steps.{OneStatus, reads_said, text_asks, abstracted_none, text_small, text_long, text_once}
 use Rattle.tool_inputs.proofs.FileReplies.{RefusesLong, HasOneReply}
+use Rattle.tool_inputs.proofs.Ranges.{numbers_in_range}
 use Rattle.tool_decide.specs.Working.DecideReplies.{decided_headline, decided_once, question_stores, decided_small}
 
 reported_headline : (q : ProblemParts) (status : ℕ) (output : List ℕ) → IsReported q status output → ReportHeadline q status output
@@ -25,6 +29,12 @@ text_stores text status output f reads concrete r zero =
     (λ h. question_stores text f reads concrete h.0 h.1 status h.2.text h.2.decided zero)
     (reads_said text (λ g. AsksQuestion g IsReported) status output f reads r)
 
+pub text_readings : (text : List ℕ) (status : ℕ) (output : List ℕ) (f : FileParts) (a : AbstractParts) (r : Reading) → Reads text f → abstract_of f ≡ Ok a → KeepsStated f a r
+    → ReportsText text status output → status ≡ 0 → GoalHoldsBy f a r f.goal
+text_readings text status output f a r reads is stated replies zero =
+    let asks : Asks text a.problem = record { file = f; reads = reads; abstract = a; is_abstract = is; question = refl } in
+    readings_agree f a r (numbers_in_range text f reads) is stated ((text_headline text status output a.problem asks replies).headline.equal.0 zero)
+
 pub reported_once : (q : ProblemParts) → OneStatus (IsReported q)
 reported_once q a b o p x y = decided_once q a b x.text y.text x.decided y.decided
 
@@ -35,6 +45,7 @@ decide_json_reply text status output r = record {
   replies = r;
   headline = λ q asks. text_headline text status output q asks r;
   stores = λ f reads concrete zero. text_stores text status output f reads concrete r zero;
+  readings = λ f a reading reads is stated zero. text_readings text status output f a reading reads is stated r zero;
   declined = λ line none. abstracted_none text (λ f a. IsReported a.problem) status output line none r;
 }
 
