@@ -2,6 +2,7 @@ pub mod Sorts
 pub mod Expressions
 pub mod Conditions
 pub mod Graphs
+pub mod Polish
 pub mod Interpretations
 pub mod SignedOrder
 pub mod Runs

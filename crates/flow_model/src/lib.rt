@@ -1,8 +1,10 @@
 //! Flow graphs: graphs of blocks and jumps over values of several sorts, with functions of which nothing is known.
 #![tactic(auto)]
 
+mod graph;
 mod laws;
 mod sort;
 
+pub use graph::{Block, CondNode, ExprNode, Jump, Statement};
 pub use laws::{runs_are_determined, signed_comparisons};
 pub use sort::Sort;
