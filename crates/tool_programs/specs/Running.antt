@@ -21,20 +21,20 @@ outcome_status Stuck = 1
 outcome_status More = 1
 
 -- PROG is a concrete program of the file, and STORE gives a store of it
-pub record Fits (f : FileParts) (prog store : List ℕ) (p : ProgTree) (s : Store) : Type 0 where
+pub record StartsRun (f : FileParts) (prog store : List ℕ) (p : ProgTree) (s : Store) : Type 0 where
   pub program : program_of f prog ≡ Some p
   pub values : store_of f store ≡ Some s
 
 -- PROG names no program of the file, or one that is not concrete, or STORE gives no store of the file
-abbrev pub IsUnfit : FileParts → List ℕ → List ℕ → Type 0
-IsUnfit f prog store = (program_of f prog ≡ None) ⊎ (store_of f store ≡ None)
+abbrev pub StartsNoRun : FileParts → List ℕ → List ℕ → Type 0
+StartsNoRun f prog store = (program_of f prog ≡ None) ⊎ (store_of f store ≡ None)
 
 -- ---- the reply
 
 -- the words are compared with the file: they do not fit, or the command continues with the program and the store
 abbrev pub TakesWords : FileParts → List ℕ → List ℕ → (ProgTree → Store → ReplySpec) → ReplySpec
 TakesWords f prog store GoesOn status output =
-    HasUnfitWords (IsUnfit f prog store) status output ⊎ ((p : ProgTree) × (s : Store) × Fits f prog store p s × GoesOn p s status output)
+    HasUnfitWords (StartsNoRun f prog store) status output ⊎ ((p : ProgTree) × (s : Store) × StartsRun f prog store p s × GoesOn p s status output)
 
 -- the program is run on the store, and its outcome is printed
 pub record HasRun (f : FileParts) (turns : ℕ) (p : ProgTree) (s : Store) (status : ℕ) (output : List ℕ) : Type 0 where
@@ -57,7 +57,7 @@ RunsText text prog store turns = ReadsText text (λ f. RunsFile f prog store tur
 pub record RunsTo (f : FileParts) (prog store : List ℕ) (turns : ℕ) (o : Outcome) (t : Store) : Type 0 where
   pub program : ProgTree
   pub start : Store
-  pub fits : Fits f prog store program start
+  pub fits : StartsRun f prog store program start
   pub reached : HasOutcome f.width program start turns o t
 
 -- The status is 0 exactly when the program ends; then `done` and the store in which it ends are printed. It is 1
@@ -70,12 +70,12 @@ pub record RunHeadline (f : FileParts) (prog store : List ℕ) (turns status : �
   pub stuck : ((status ≡ 1) × (output ≡ stuck_line)) ↔ ((t : Store) × RunsTo f prog store turns Stuck t)
   pub more : ((status ≡ 1) × (output ≡ more_line)) ↔ ((t : Store) × RunsTo f prog store turns More t)
   pub undone : status ≡ 1 → (output ≡ stuck_line) ⊎ (output ≡ more_line)
-  pub unfit : (status ≡ 7) ↔ IsUnfit f prog store
+  pub unfit : (status ≡ 7) ↔ StartsNoRun f prog store
   pub unfit_line : status ≡ 7 → output ≡ words_line
 
 -- the text is read as a file that the words do not fit
 abbrev pub DoesNotFit : List ℕ → List ℕ → List ℕ → Type 0
-DoesNotFit text prog store = (f : FileParts) × Reads text f × IsUnfit f prog store
+DoesNotFit text prog store = (f : FileParts) × Reads text f × StartsNoRun f prog store
 
 -- What a reply of `run` says about its text. The headline holds for the file that is read. A text that is not a file is
 -- refused with its line.

@@ -12,7 +12,7 @@ use Rattle.problem_file.specs.Reads.{Reads}
 use Rattle.kat_report.specs.InputLines.{too_long_line, words_line}
 use Rattle.kat_report.specs.RunTexts.{outcome_line, stuck_line, more_line}
 use Rattle.tool_inputs.specs.Steps.{ReplySpec, HasUnfitWords}
-use Rattle.tool_programs.specs.Running.{outcome_status, Fits, IsUnfit, TakesWords, HasRun, RunsFile, RunsText, RunsTo, RunHeadline, DoesNotFit, RunReply}
+use Rattle.tool_programs.specs.Running.{outcome_status, StartsRun, StartsNoRun, TakesWords, HasRun, RunsFile, RunsText, RunsTo, RunHeadline, DoesNotFit, RunReply}
 use Rattle.tool_inputs.proofs.Steps.{OneStatus, reads_said, reads_faulty, reads_once, small_status, text_long}
 use Rattle.tool_inputs.proofs.FileReplies.{RefusesLong, HasOneReply}
 use Rattle.tool_programs.specs.Working.NamedPrograms.{fit_concrete}
@@ -20,30 +20,30 @@ use Rattle.tool_programs.specs.Working.NamedPrograms.{fit_concrete}
 -- ---- the words and the file
 
 module _ (f : FileParts) (prog store : List ℕ) where
-  fit_or_not : (p : ProgTree) (s : Store) → Fits f prog store p s → IsUnfit f prog store → ⊥
+  fit_or_not : (p : ProgTree) (s : Store) → StartsRun f prog store p s → StartsNoRun f prog store → ⊥
   fit_or_not p s fits (inl e) = none-some p (sym e ∙ fits.program)
   fit_or_not p s fits (inr e) = none-some s (sym e ∙ fits.values)
 
-  same_program : (p q : ProgTree) (s t : Store) → Fits f prog store p s → Fits f prog store q t → p ≡ q
+  same_program : (p q : ProgTree) (s t : Store) → StartsRun f prog store p s → StartsRun f prog store q t → p ≡ q
   same_program p q s t x y = same_Some p q (sym x.program ∙ y.program)
 
-  same_start : (p q : ProgTree) (s t : Store) → Fits f prog store p s → Fits f prog store q t → s ≡ t
+  same_start : (p q : ProgTree) (s t : Store) → StartsRun f prog store p s → StartsRun f prog store q t → s ≡ t
   same_start p q s t x y = same_Some s t (sym x.values ∙ y.values)
 
   module _ (GoesOn : ProgTree → Store → ReplySpec) (status : ℕ) (output : List ℕ) where
-    takes_fit : (p : ProgTree) (s : Store) → Fits f prog store p s → TakesWords f prog store GoesOn status output → GoesOn p s status output
+    takes_fit : (p : ProgTree) (s : Store) → StartsRun f prog store p s → TakesWords f prog store GoesOn status output → GoesOn p s status output
     takes_fit p s fits (inl r) = absurd (fit_or_not p s fits r.unfit)
     takes_fit p s fits (inr (q, t, other, g)) =
         subst (λ x. GoesOn x s status output) (same_program q p t s other fits) (subst (λ x. GoesOn q x status output) (same_start q p t s other fits) g)
 
-    takes_unfit : IsUnfit f prog store → TakesWords f prog store GoesOn status output → HasUnfitWords (IsUnfit f prog store) status output
+    takes_unfit : StartsNoRun f prog store → TakesWords f prog store GoesOn status output → HasUnfitWords (StartsNoRun f prog store) status output
     takes_unfit unfit (inl r) = r
     takes_unfit unfit (inr (q, t, other, g)) = absurd (fit_or_not q t other unfit)
 
 -- ---- outcomes
 
 -- if the words fit, the program has one outcome
-module _ (f : FileParts) (prog store : List ℕ) (turns : ℕ) (p : ProgTree) (s : Store) (fits : Fits f prog store p s) where
+module _ (f : FileParts) (prog store : List ℕ) (turns : ℕ) (p : ProgTree) (s : Store) (fits : StartsRun f prog store p s) where
   one : HasOneOutcome f.width p s turns
   one = one_outcome f.width p s turns (fit_concrete f prog p fits.program)
 
@@ -71,13 +71,13 @@ FileWays f prog store turns status output =
     ((status ≡ 0) × ((t : Store) × RunsTo f prog store turns Done t × (output ≡ outcome_line f.scope Done t)))
     ⊎ (((status ≡ 1) × ((t : Store) × RunsTo f prog store turns Stuck t × (output ≡ outcome_line f.scope Stuck t)))
     ⊎ (((status ≡ 1) × ((t : Store) × RunsTo f prog store turns More t × (output ≡ outcome_line f.scope More t)))
-    ⊎ ((status ≡ 7) × IsUnfit f prog store × (output ≡ words_line))))
+    ⊎ ((status ≡ 7) × StartsNoRun f prog store × (output ≡ words_line))))
 
 stuck_or_more : stuck_line ≡ more_line → ⊥
 stuck_or_more e = cc
 
 module _ (f : FileParts) (prog store : List ℕ) (turns status : ℕ) (output : List ℕ) where
-  ran_ways : (p : ProgTree) (s : Store) → Fits f prog store p s → (o : Outcome) (t : Store) → HasOutcome f.width p s turns o t → status ≡ outcome_status o → output ≡ outcome_line f.scope o t → FileWays f prog store turns status output
+  ran_ways : (p : ProgTree) (s : Store) → StartsRun f prog store p s → (o : Outcome) (t : Store) → HasOutcome f.width p s turns o t → status ≡ outcome_status o → output ≡ outcome_line f.scope o t → FileWays f prog store turns status output
   ran_ways p s fits Done t reached e told = inl (e, (t, record { program = p; start = s; fits = fits; reached = reached }, told))
   ran_ways p s fits Stuck t reached e told = inr (inl (e, (t, record { program = p; start = s; fits = fits; reached = reached }, told)))
   ran_ways p s fits More t reached e told = inr (inr (inl (e, (t, record { program = p; start = s; fits = fits; reached = reached }, told))))
@@ -108,7 +108,7 @@ module _ (f : FileParts) (prog store : List ℕ) (turns status : ℕ) (output : 
   at_undone (inr (inr (inl h))) e = inr h.1
   at_undone (inr (inr (inr h))) e = absurd (omega (arith, h.0, e))
 
-  at_unfit : FileWays f prog store turns status output → status ≡ 7 → IsUnfit f prog store × (output ≡ words_line)
+  at_unfit : FileWays f prog store turns status output → status ≡ 7 → StartsNoRun f prog store × (output ≡ words_line)
   at_unfit (inl h) e = absurd (omega (arith, h.0, e))
   at_unfit (inr (inl h)) e = absurd (omega (arith, h.0, e))
   at_unfit (inr (inr (inl h))) e = absurd (omega (arith, h.0, e))
