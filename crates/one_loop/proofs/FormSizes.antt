@@ -12,6 +12,7 @@ use Rattle.one_loop.specs.Sizes.{IsSmallForm}
 use Rattle.one_loop.specs.Working.Machine.{Point, passes, stops, checks, sets, chooses, start_of, points_of}
 use Rattle.one_loop.specs.Working.Blocks.{block_of, Chooses, no_block, one_block, two_parts, is_below, loop_from, IsPointLoop}
 use Rattle.one_loop.proofs.PointLists.{length_points}
+use Rattle.one_loop.proofs.FormNumbers.{form_numbers}
 
 -- ---- nodes
 
@@ -184,4 +185,4 @@ module _ (v : ℕ) (p body : ProgTree) (choice : Chooses v 1 (map (block_of v) (
 
 pub small_form : (v : ℕ) (p q : ProgTree) → IsPointLoop v p q → IsSmallForm p q
 small_form v p q (body, choice, is) =
-    subst (IsSmallForm p) (sym is) (record { nodes = form_nodes v p body choice; exprs = form_exprs v p body choice; levels = form_levels v p body choice })
+    subst (IsSmallForm p) (sym is) (record { nodes = form_nodes v p body choice; exprs = form_exprs v p body choice; levels = form_levels v p body choice; numbers = form_numbers v p body choice })

@@ -7,4 +7,5 @@ pub mod LoopTurns
 pub mod WholeForms
 pub mod KeptStores
 pub mod FormMeanings
+pub mod FormNumbers
 pub mod FormSizes

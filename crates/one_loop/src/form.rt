@@ -40,9 +40,10 @@ fn point_loop(alloc: Global, prog: &Prog, counter: usize) -> Result<Prog, NoMemo
 /// and one additional variable, its counter, which ends in the same stores followed by the counter (Harel 1980; Kozen
 /// 1997). The counter is variable number `vars`; its initial value does not matter, and it is 0 at the end. Its nodes are
 /// at most those of the program, eight for each statement and six, and it nests deeper than the program by at most the
-/// logarithm of the number of statements, rounded up, and one. Fails with
-/// `TooManyVars` if there are that many variables, and otherwise with `TooManyStatements` if there are more statements
-/// than the greatest number of the width, including statements of blocks. Otherwise fails only when out of memory.
+/// logarithm of the number of statements, rounded up, and one. Its numbers are those of the program, and numbers up to
+/// the number of statements. Fails with `TooManyVars` if there are that many variables, and otherwise with
+/// `TooManyStatements` if there are more statements than the greatest number of the width, including statements of
+/// blocks. Otherwise fails only when out of memory.
 ///
 /// The loop body does one statement a turn. Statements without a choice could share a turn; `IsOneForm` allows both.
 pub fn one_loop(alloc: Global, prog: &Prog, vars: usize, width: Width) -> Result<Prog, OneLoopFault>

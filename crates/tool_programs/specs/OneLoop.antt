@@ -1,5 +1,5 @@
 -- `oneloop`: its reply to a text and a name, and what that says of the program.
-use Rattle.std.specs.Prelude.{◌≡◌, ◌≢◌, ◌⊎◌, ◌↔◌, ◌<◌, ◌≤◌, ◌+◌, ℕ, List, ◌++◌, length, None, Some, codes, replicate}
+use Rattle.std.specs.Prelude.{◌≡◌, ◌≢◌, ◌⊎◌, ◌↔◌, ◌<◌, ◌≤◌, ◌+◌, ◌*◌, ◌^◌, ℕ, List, ◌++◌, length, None, Some, codes, replicate}
 use Rattle.kat_model.specs.declared.limits.TheConstants.{MAX_EXPR_NODES, MAX_TERM_NODES, MAX_OPEN, MAX_TEXT_BYTES, MAX_VARS}
 use Rattle.kat_model.specs.declared.expression.Width.{Width}
 use Rattle.kat_model.specs.Stores.{modulus}
@@ -15,6 +15,7 @@ use Rattle.one_loop.specs.declared.fault.OneLoopFault.TheVariants.{NoMemory, Too
 use Rattle.kat_report.specs.FormRefusals.{form_fault_line}
 use Rattle.one_loop.specs.Statements.{HasTooManyStatements}
 use Rattle.one_loop.specs.Forms.{IsOneForm}
+use Rattle.one_loop.specs.Sizes.{IsSmallForm}
 use Rattle.problem_file.specs.Files.{FileParts}
 use Rattle.problem_file.specs.Reads.{Reads}
 use Rattle.problem_texts.specs.ProgramNumbers.{ProgIsNarrow}
@@ -70,6 +71,7 @@ pub record HasForm (f : FileParts) (p : ProgTree) : Type 0 where
 pub record PrintsForm (f : FileParts) (name : List ℕ) (p : ProgTree) (output : List ℕ) : Type 0 where
   pub form : ProgTree
   pub is_form : IsOneForm f.width p form f.vars
+  pub small : IsSmallForm p form
   pub counter : List ℕ
   pub is_counter : IsCounterName f.scope counter
   pub well_formed : IsWellFormed f.scope
@@ -98,10 +100,24 @@ pub record IsWithinText (w : Width) (p : ProgTree) (text : List ℕ) : Type 0 wh
   pub shallow : block_levels p ≤ MAX_OPEN
   pub short : length text ≤ MAX_TEXT_BYTES
 
--- a form of the program is printed; within the limits, the output is read as a file of the same width that has exactly
--- this form under the program's name
+-- The program is small, so each form of it is within the limits of a text: its numbers are below 2 to the width, no
+-- name of its file has more than `longest` bytes, and nodes, nesting and bytes have room for those that a form adds
+pub record IsSmallProgram (f : FileParts) (p : ProgTree) : Type 0 where
+  pub narrow : ProgIsNarrow f.width p
+  pub small_exprs : largest_in p ≤ MAX_EXPR_NODES
+  pub small : prog_size p + 8 * statements p + 6 ≤ MAX_TERM_NODES
+  pub doublings : ℕ
+  pub few : statements p ≤ 2 ^ doublings
+  pub shallow : block_levels p + doublings + 1 ≤ MAX_OPEN
+  pub longest : ℕ
+  pub names : (name : List ℕ) → IsDeclared f.scope name → length name ≤ longest
+  pub short : (longest + 22) * (prog_size p + 8 * statements p + 73) ≤ MAX_TEXT_BYTES
+
+-- a form of the program is printed, and is within the limits if the program is small; within the limits, the output is
+-- read as a file of the same width that has exactly this form under the program's name
 pub record TellsForm (f : FileParts) (name : List ℕ) (p : ProgTree) (output : List ℕ) : Type 0 where
   pub prints : PrintsForm f name p output
+  pub within : IsSmallProgram f p → IsWithinText f.width prints.form output
   pub reads_back : IsWithinText f.width prints.form output →
       (says : SaysProgram output (names_with f prints.counter) f.width (f.vars + 1) name prints.form) × (program_of says.asks.file name ≡ Some prints.form)
 

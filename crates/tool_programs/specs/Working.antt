@@ -2,6 +2,7 @@ pub mod Kinds
 pub mod FileVariables
 pub mod Counters
 pub mod FormNames
+pub mod FormBytes
 pub mod OneLoopReplies
 pub mod NamedPrograms
 pub mod RunReplies

@@ -7,6 +7,7 @@ ghost use Rattle.text_print.specs.Printing.{name_of};
 ghost use Rattle.while_lang.specs.Programs.{is_concrete};
 ghost use Rattle.one_loop.specs.declared.fault.OneLoopFault.TheVariants.{NoMemory as NoRoom};
 ghost use Rattle.one_loop.specs.Forms.{IsOneForm};
+ghost use Rattle.one_loop.specs.Sizes.{IsSmallForm};
 ghost use Rattle.one_loop.specs.Variables.{HasVarsBelow};
 ghost use Rattle.problem_texts.specs.ProgramTexts.{one_program_text};
 ghost use Rattle.problem_file.specs.Files.{FileParts};
@@ -48,7 +49,7 @@ fn form_of(alloc: Global, file: &File, prog: &Prog) -> Result<Prog, EarlyEnd>
     requires concrete { is_concrete prog.now ≡ true }
     requires variables { HasVarsBelow file.now.vars prog.now }
     requires within { file.now.vars ≤ MAX_VARS }
-    ensures { Yields (λ form. HasForm file.now prog.now × IsOneForm file.now.width prog.now form file.now.vars) (IsRefusal (HasNoForm file.now prog.now)) result }
+    ensures { Yields (λ form. HasForm file.now prog.now × IsOneForm file.now.width prog.now form file.now.vars × IsSmallForm prog.now form) (IsRefusal (HasNoForm file.now prog.now)) result }
 {
     match one_loop(alloc, prog, file.vars, file.width) {
         Ok(form) => Ok(form),

@@ -1,11 +1,11 @@
 -- The names in a printed form: each variable has its own name, and no variable has the name of the program.
-use Rattle.std.proofs.Common.{◌≡◌, ◌<◌, ◌+◌, ℕ, List, Option, Some, None, inl, inr, ⊎_elim, refl, sym, ap, ◌∙◌, subst, arith}
+use Rattle.std.proofs.Common.{◌≡◌, ◌<◌, ◌+◌, ◌⊎◌, ℕ, List, Option, Some, None, inl, inr, ⊎_elim, refl, sym, ap, ◌∙◌, subst, arith}
 use Rattle.std.proofs.lemmas.Bool.{cases_lt}
 use Rattle.std.proofs.lemmas.Option.{none-some, same_Some}
-use Rattle.std.specs.Option.{option_map}
+use Rattle.std.specs.Option.{is_some, option_map}
 use Rattle.text_scopes.specs.declared.meaning.Meaning.{Meaning}
 use Rattle.text_scopes.specs.declared.meaning.Meaning.TheVariants.{Test, Action, Var, Term, Prog}
-use Rattle.text_scopes.specs.ScopeParts.{ScopeParts, meaning, Means, IsUnnamed, IsIdentifier, IsWellFormed, IsNameOf, declared}
+use Rattle.text_scopes.specs.ScopeParts.{ScopeParts, meaning, Means, IsDeclared, IsUnnamed, IsIdentifier, IsWellFormed, IsNameOf, declared}
 use Rattle.text_scopes.proofs.Inverse.{insert_extends}
 use Rattle.text_print.proofs.NameOf.{name_is}
 use Rattle.while_lang.specs.Programs.{ProgTree}
@@ -95,6 +95,15 @@ module _ (f : FileParts) (numbered : IsNumbered f) (unnamed : IsUnnamed f.scope 
         (sym (var_named j lj).means ∙ ap (meaning with_counter) e ∙ (var_named k lk).means));
   }
 
+  -- the printed name of a variable is the counter or a name of the file
+  pub counter_or_declared : (k : ℕ) → k < f.vars + 1 → (names_with f counter (Var k) ≡ counter) ⊎ IsDeclared f.scope (names_with f counter (Var k))
+  counter_or_declared k below =
+      let name = names_with f counter (Var k) in
+      ⊎_elim
+      (λ (p : name ≡ counter). inl p)
+      (λ (q : meaning with_counter name ≡ meaning f.scope name). inr (ap is_some (sym q ∙ (var_named k below).means)))
+      ((insert_extends (f.scope).meanings counter (Var f.vars)).others name)
+
   module _ (name : List ℕ) (p : ProgTree) (named : program_of f name ≡ Some p) where
     pub name_identifier : IsIdentifier name
     name_identifier = let i = named_prog f name p named in well.identifiers name (Prog i.0) i.1
@@ -104,3 +113,6 @@ module _ (f : FileParts) (numbered : IsNumbered f) (unnamed : IsUnnamed f.scope 
         let i = named_prog f name p named in
         let both : Var k ≡ Prog i.0 = same_Some (Var k) (Prog i.0) (sym (var_named k below).means ∙ ap (meaning with_counter) e ∙ still name (Prog i.0) i.1) in
         absurd cc
+
+    pub name_declared : IsDeclared f.scope name
+    name_declared = let i = named_prog f name p named in ap is_some i.1

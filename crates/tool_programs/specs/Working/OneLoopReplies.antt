@@ -1,5 +1,5 @@
 -- The reply of `oneloop` satisfies the statement on the program.
-use Rattle.std.proofs.Common.{◌≡◌, ◌≢◌, ◌⊎◌, ◌↔◌, ◌≤◌, ◌<◌, ◌+◌, ◌-◌, ℕ, List, true, ◌&&◌, length, None, Some, Result, Ok, Err, inl, inr, refl, sym, ap, subst, ◌∙◌, arith}
+use Rattle.std.proofs.Common.{◌≡◌, ◌≢◌, ◌⊎◌, ◌↔◌, ◌≤◌, ◌<◌, ◌+◌, ◌-◌, ◌*◌, ⊎_elim, ℕ, List, true, ◌&&◌, length, None, Some, Result, Ok, Err, inl, inr, refl, sym, ap, subst, ◌∙◌, arith}
 use Rattle.std.proofs.lemmas.Bool.{cases_lt, and_parts, false≢true}
 use Rattle.std.proofs.lemmas.Option.{same_Some, none-some}
 use Rattle.kat_model.specs.declared.limits.TheConstants.{MAX_TEXT_BYTES, MAX_VARS}
@@ -8,18 +8,21 @@ use Rattle.kat_model.specs.Expressions.{CondTree, always, never, named as tested
 use Rattle.kat_model.specs.Problems.{counted}
 use Rattle.kat_model.specs.Stores.{modulus}
 use Rattle.text_scopes.specs.declared.meaning.Meaning.TheVariants.{Var}
-use Rattle.text_scopes.specs.ScopeParts.{ScopeParts, IsUnnamed, IsWellFormed, declared}
+use Rattle.text_scopes.specs.ScopeParts.{ScopeParts, IsDeclared, IsUnnamed, IsWellFormed, declared}
 use Rattle.text_print.specs.Printing.{name_of}
+use Rattle.while_lang.specs.ProgramSizes.{prog_size}
 use Rattle.while_lang.specs.Programs.{ProgTree, empty, skip_then, abort_then, assert_then, act_then, assign_then, branch_then, loop_then, is_concrete_cond, is_concrete, statements}
 use Rattle.one_loop.specs.declared.fault.OneLoopFault.{OneLoopFault}
 use Rattle.one_loop.specs.declared.fault.OneLoopFault.TheVariants.{NoMemory, TooManyVars, TooManyStatements}
 use Rattle.one_loop.specs.Variables.{CondHasVarsBelow, HasVarsBelow}
 use Rattle.one_loop.specs.Statements.{HasTooManyStatements}
 use Rattle.one_loop.specs.Forms.{IsOneForm}
+use Rattle.one_loop.specs.Sizes.{IsSmallForm}
 use Rattle.problem_file.specs.Files.{FileParts}
 use Rattle.problem_file.specs.Ranges.{IsCondInRange, IsProgInRange, IsNumbered}
 use Rattle.problem_file.specs.Reads.{Reads}
 use Rattle.problem_file.proofs.NumberedStates.{are_in_ranges}
+use Rattle.problem_texts.specs.ProgramNumbers.{ProgIsNarrow}
 use Rattle.problem_texts.specs.ProgramTexts.{one_program_text, IsOnePrintable}
 use Rattle.problem_texts.specs.Laws.{SaysProgram}
 use Rattle.problem_texts.proofs.ProgramReadings.{program_reads_back}
@@ -29,13 +32,14 @@ use Rattle.tool_commands.specs.ProgramWords.{where_concrete, program_of}
 use Rattle.tool_inputs.specs.Steps.{IsRefusal, HasUnfitWords}
 use Rattle.tool_commands.proofs.StoreValues.{some_numbers}
 use Rattle.kat_report.specs.FormRefusals.{form_fault_line}
-use Rattle.tool_programs.specs.OneLoop.{IsCounterName, names_with, IsFormFault, HasNoForm, HasForm, PrintsForm, FormsProgram, FormsFile, FormsText, IsWithinText, TellsForm, OneLoopHeadline, LacksProgram, OneLoopReply}
+use Rattle.tool_programs.specs.OneLoop.{IsCounterName, names_with, IsFormFault, HasNoForm, HasForm, PrintsForm, FormsProgram, FormsFile, FormsText, IsWithinText, IsSmallProgram, TellsForm, OneLoopHeadline, LacksProgram, OneLoopReply}
 use Rattle.tool_inputs.specs.ReplySpecs.{EndsWith}
 use Rattle.tool_inputs.proofs.ReplySpecs.{EndsWith-weaker}
 use Rattle.tool_inputs.proofs.Steps.{OneStatus, reads_said, reads_faulty, reads_once, small_status, text_long}
 use Rattle.tool_inputs.proofs.FileReplies.{RefusesLong, HasOneReply}
 use Rattle.tool_programs.specs.Working.FileVariables.{next_unnamed}
-use Rattle.tool_programs.specs.Working.FormNames.{names_are, name_identifier, name_no_var}
+use Rattle.tool_programs.specs.Working.FormNames.{names_are, name_identifier, name_no_var, counter_or_declared, name_declared}
+use Rattle.tool_programs.specs.Working.FormBytes.{text_bytes, counter_short}
 
 -- ---- programs without a form
 
@@ -96,11 +100,12 @@ place_free f p has within = elim (cases_lt f.vars MAX_VARS) [ inl lt ↦ lt | in
 -- ---- what is printed
 
 -- a form that is printed with the parts of the file
-pub form_printed : (f : FileParts) (w : ScopeParts) (v : ℕ) (u : Width) (name : List ℕ) (p form : ProgTree) (output : List ℕ) → w ≡ f.scope → v ≡ f.vars → u ≡ f.width → IsOneForm f.width p form f.vars →
+pub form_printed : (f : FileParts) (w : ScopeParts) (v : ℕ) (u : Width) (name : List ℕ) (p form : ProgTree) (output : List ℕ) → w ≡ f.scope → v ≡ f.vars → u ≡ f.width → IsOneForm f.width p form f.vars → IsSmallForm p form →
     ((counter : List ℕ) × IsCounterName w counter × IsWellFormed w × (output ≡ one_program_text (name_of (declared w counter (Var v))) u (v + 1) name form)) → PrintsForm f name p output
-form_printed f w v u name p form output scope vars width is h = record {
+form_printed f w v u name p form output scope vars width is small h = record {
   form = form;
   is_form = is;
+  small = small;
   counter = h.0;
   is_counter = subst (λ (x : ScopeParts). IsCounterName x h.0) scope h.1;
   well_formed = subst IsWellFormed scope h.2;
@@ -152,6 +157,35 @@ module _ (text : List ℕ) (f : FileParts) (reads : Reads text f) (name : List �
   room : (v : ℕ) → v ≤ MAX_VARS → v ≢ MAX_VARS → v + 1 ≤ MAX_VARS
   room v within other = elim (cases_lt v MAX_VARS) [ inl lt ↦ omega (arith, lt) | inr le ↦ absurd (other (omega (arith, le, within))) ]
 
+  -- the names of the variables in the form
+  module _ (longest : ℕ) (short : (word : List ℕ) → IsDeclared f.scope word → length word ≤ longest) where
+    vars_short : (k : ℕ) → k < f.vars + 1 → length (names_with f h.counter (Var k)) ≤ longest + 2
+    vars_short k below =
+        let word = names_with f h.counter (Var k) in
+        ⊎_elim
+        (λ (e : word ≡ h.counter). subst (λ (l : List ℕ). length l ≤ longest + 2) (sym e) (counter_short f.scope h.counter h.is_counter longest short))
+        (λ (there : IsDeclared f.scope word). omega (arith, short word there))
+        (counter_or_declared f numbered (next_unnamed text f reads) h.well_formed h.counter h.is_counter k below)
+
+    name_short : length name ≤ longest + 2
+    name_short = omega (arith, short name (name_declared f numbered (next_unnamed text f reads) h.well_formed h.counter h.is_counter name p named))
+
+  form_range : IsProgInRange 0 0 (f.vars + 1) h.form
+  form_range = concrete_in_range (f.vars + 1) h.form h.is_form.concrete h.is_form.variables
+
+  small_within : IsSmallProgram f p → IsWithinText f.width h.form output
+  small_within s =
+      let narrow : ProgIsNarrow f.width h.form = h.small.numbers (modulus f.width) has.few s.narrow in
+      let size = prog_size p + 8 * statements p + 6 in
+      let bytes = text_bytes (names_with f h.counter) f.width (s.longest + 2) (f.vars + 1) size name h.form (room f.vars numbered.vars has.place) (name_short s.longest s.names) (vars_short s.longest s.names) form_range narrow h.small.nodes (omega (arith, s.short)) in
+      record {
+        narrow = narrow;
+        small_exprs = omega (arith, h.small.exprs, s.small_exprs);
+        small = omega (arith, h.small.nodes, s.small);
+        shallow = omega (arith, h.small.levels s.doublings s.few, s.shallow);
+        short = subst (λ (t : List ℕ). length t ≤ MAX_TEXT_BYTES) (sym h.printed) bytes;
+      }
+
   form_printable : IsWithinText f.width h.form output → IsOnePrintable (names_with f h.counter) f.width (f.vars + 1) name h.form
   form_printable limits =
       let unnamed : IsUnnamed f.scope (Var f.vars) = next_unnamed text f reads in
@@ -161,7 +195,7 @@ module _ (text : List ℕ) (f : FileParts) (reads : Reads text f) (name : List �
         identifier = name_identifier f numbered unnamed h.well_formed h.counter h.is_counter name p named;
         no_var = name_no_var f numbered unnamed h.well_formed h.counter h.is_counter name p named;
         program = record {
-          in_range = concrete_in_range (f.vars + 1) h.form h.is_form.concrete h.is_form.variables;
+          in_range = form_range;
           narrow = limits.narrow;
           small_exprs = limits.small_exprs;
           small = limits.small;
@@ -178,6 +212,7 @@ module _ (text : List ℕ) (f : FileParts) (reads : Reads text f) (name : List �
   tells_form : TellsForm f name p output
   tells_form = record {
     prints = h;
+    within = small_within;
     reads_back = λ limits. let says = form_said limits in (says, ap where_concrete says.program ∙ concrete_kept h.form h.is_form.concrete);
   }
 

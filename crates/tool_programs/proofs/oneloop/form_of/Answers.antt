@@ -1,6 +1,7 @@
 use Rattle.std.proofs.Common.{◌≤◌, sym, subst}
 use Rattle.kat_model.specs.declared.limits.TheConstants.{MAX_VARS}
 use Rattle.one_loop.specs.Forms.{IsOneForm}
+use Rattle.one_loop.specs.Sizes.{IsSmallForm}
 use Rattle.problem_file.specs.Files.{FileParts}
 use Rattle.tool_programs.specs.OneLoop.{HasForm, HasNoForm}
 use Rattle.tool_inputs.specs.Steps.{IsRefusal}
@@ -10,8 +11,8 @@ use Rattle.tool_programs.proofs.oneloop.form_of.Goals as goal
 
 pub returns-in-Ok : goal.returns-in-Ok
 returns-in-Ok c =
-    subst (λ (f : FileParts). HasForm f c.args.prog.now × IsOneForm f.width c.args.prog.now c.in-Ok.form f.vars) c.file.view_is
-    (has_form _ c.args.prog.now c.one_loop.result c.one_loop.ensures.too_many_vars c.one_loop.ensures.too_many_statements c.in-Ok.form c.in-Ok.is (subst (λ (f : FileParts). f.vars ≤ MAX_VARS) (sym c.file.view_is) c.requires.within), c.in-Ok.ensures.form)
+    subst (λ (f : FileParts). HasForm f c.args.prog.now × IsOneForm f.width c.args.prog.now c.in-Ok.form f.vars × IsSmallForm c.args.prog.now c.in-Ok.form) c.file.view_is
+    (has_form _ c.args.prog.now c.one_loop.result c.one_loop.ensures.too_many_vars c.one_loop.ensures.too_many_statements c.in-Ok.form c.in-Ok.is (subst (λ (f : FileParts). f.vars ≤ MAX_VARS) (sym c.file.view_is) c.requires.within), c.in-Ok.ensures.form, c.in-Ok.ensures.small)
 
 pub returns-in-Err : goal.returns-in-Err
 returns-in-Err c =

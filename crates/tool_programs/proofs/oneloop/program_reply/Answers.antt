@@ -45,6 +45,6 @@ returns c =
         c.in_ok-form.ensures.0,
         form_printed c.args.file.now c.file.inside.scope c.file.inside.vars c.file.inside.width c.args.name.now p c.in_ok-form.form c.in_ok-form_text.field-0.items
             (ap (λ (f : FileParts). f.scope) c.file.view_is) (ap (λ (f : FileParts). f.vars) c.file.view_is) (ap (λ (f : FileParts). f.width) c.file.view_is)
-            c.in_ok-form.ensures.1 c.in_ok-form_text.ensures,
+            c.in_ok-form.ensures.1 c.in_ok-form.ensures.2 c.in_ok-form_text.ensures,
       ),
     )
