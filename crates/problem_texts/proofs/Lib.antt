@@ -1,7 +1,10 @@
 pub mod PlainNames
 pub mod PlainScopes
 pub mod ScopeNames
+pub mod Comments
+pub mod Lines
 pub mod PlainPieces
+pub mod PlainLines
 pub mod PlainNumbers
 pub mod PlainItems
 pub mod PlainReadings

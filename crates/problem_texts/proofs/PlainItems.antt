@@ -5,7 +5,7 @@ use Rattle.std.specs.Prelude.{codes}
 use Rattle.kat_model.specs.declared.limits.TheConstants.{MAX_TESTS, MAX_ACTIONS, MAX_TERM_NODES, MAX_TEXT_NODES, MAX_HYPS, MAX_OPEN}
 use Rattle.kat_model.specs.Trees.{Term, term_size}
 use Rattle.kat_model.specs.Problems.{terms_size}
-use Rattle.text_tokens.specs.Pieces.{Piece, word}
+use Rattle.text_tokens.specs.Pieces.{Piece, word, gap}
 use Rattle.text_grammar.specs.declared.terminal.Terminal.{Terminal}
 use Rattle.text_grammar.specs.declared.terminal.Terminal.TheVariants.{Name, Keyword, Separator, Zero}
 use Rattle.text_grammar.specs.declared.terminal.Keyword.TheVariants as keyword
@@ -23,11 +23,13 @@ use Rattle.problem_file.specs.Files.{term_side, State, most_goals, width_of, equ
 use Rattle.problem_file.specs.Phrases.{Names, one_name, more_names, tests, actions, hypothesis, goal_equal, Item, names_onto, ended, spelled, ItemsObey, ItemsFit}
 use Rattle.problem_file.specs.Sound.{with_test, with_action, DeclaresTest, DeclaresAction, EachName, IsTerm, grown, MakeAll}
 use Rattle.problem_texts.specs.Questions.{plain_name}
+use Rattle.problem_texts.specs.CommentedTexts.{first_comments, later_comments}
+use Rattle.problem_texts.proofs.Lines.{gaps}
 use Rattle.problem_texts.proofs.PlainNumbers.{narrow}
 use Rattle.problem_texts.proofs.PlainNames.{test_identifier, action_identifier}
 use Rattle.problem_texts.specs.Working.Scopes.{IsPlain}
 use Rattle.problem_texts.proofs.PlainScopes.{test_is_new, test_plain, action_is_new, action_plain}
-use Rattle.problem_texts.proofs.PlainPieces.{names_pieces, declaration_pieces, zero_pieces, hyps_pieces, end_pieces, right_pieces, goal_pieces, test_names, action_names, AreIdentifiers}
+use Rattle.problem_texts.proofs.PlainPieces.{names_pieces, declaration_pieces, zero_pieces, hyp_pieces, comments_pieces, hyps_pieces, end_pieces, right_pieces, goal_pieces, test_names, action_names, AreIdentifiers}
 
 -- the pieces at place `at` are items that lead from state `s` to a state that satisfies `P`
 pub record AreItems (s : State) (at : ℕ) (ps : List Piece) (P : State → Type 0) : Type 0 where
@@ -92,19 +94,36 @@ goal_items s at left right l r room first =
       holds = record { tests = refl; actions = refl; hyps = sym (append-nil s.hyps); goals = refl };
     }
 
-pub hyps_items : (hyps : List Term) (s : State) (at : ℕ) (left right : Term) → AreWritable s.world hyps → IsWritable s.world left → IsWritable s.world right → length s.hyps + length hyps ≤ MAX_HYPS → s.size + (terms_size hyps + (term_size left + term_size right)) ≤ MAX_TEXT_NODES → length s.goals < most_goals s.limit → AreItems s at (hyps_pieces hyps (goal_pieces left right)) (Asks s hyps left right)
-hyps_items [] s at left right h l r few room first = goal_items s at left right l r (omega arith) first
-hyps_items (e ∷ es) s at left right h l r few room first =
-    let a = (term_back s.world plain_name e h.0.named).0 (at + 3 + 1) (zero_pieces (hyps_pieces es (goal_pieces left right))) in
+-- a separator before items
+gap_items : (b : ℕ) (s : State) (at : ℕ) (ps : List Piece) (P : State → Type 0) → AreItems s (at + 1) ps P → AreItems s at (gap b ∷ ps) P
+gap_items b s at ps P rest = record { items = rest.items; spells = rest.spells; obey = rest.obey; fit = rest.fit; final = rest.final; make = rest.make; holds = rest.holds }
+
+gaps_items : (bs : List ℕ) (s : State) (at : ℕ) (ps : List Piece) (P : State → Type 0) → ((n : ℕ) → AreItems s n ps P) → AreItems s at (gaps bs ps) P
+gaps_items [] s at ps P items = items at
+gaps_items (b ∷ bs) s at ps P items = gap_items b s at (gaps bs ps) P (gaps_items bs s (at + 1) ps P items)
+
+-- comments before pieces that are items at any place
+pub comments_items : (cs : List (List ℕ)) (s : State) (at : ℕ) (ps : List Piece) (P : State → Type 0) → ((n : ℕ) → AreItems s n ps P) → AreItems s at (comments_pieces cs ps) P
+comments_items [] s at ps P items = items at
+comments_items (c ∷ cs) s at ps P items =
+    let rest = comments_pieces cs ps in
+    gap_items 35 s at (gaps c (gap 10 ∷ rest)) P
+    (gaps_items c s (at + 1) (gap 10 ∷ rest) P (λ n. gap_items 10 s n rest P (comments_items cs s (n + 1) ps P items)))
+
+pub hyps_items : (cs : List (List (List ℕ))) (hyps : List Term) (s : State) (at : ℕ) (left right : Term) → AreWritable s.world hyps → IsWritable s.world left → IsWritable s.world right → length s.hyps + length hyps ≤ MAX_HYPS → s.size + (terms_size hyps + (term_size left + term_size right)) ≤ MAX_TEXT_NODES → length s.goals < most_goals s.limit → AreItems s at (hyps_pieces cs hyps (goal_pieces left right)) (Asks s hyps left right)
+hyps_items cs [] s at left right h l r few room first = goal_items s at left right l r (omega arith) first
+hyps_items cs (e ∷ es) s at left right h l r few room first =
+    comments_items (first_comments cs) s at (hyp_pieces e (hyps_pieces (later_comments cs) es (goal_pieces left right))) (Asks s (e ∷ es) left right) (λ n.
+    let a = (term_back s.world plain_name e h.0.named).0 (n + 3 + 1) (zero_pieces (hyps_pieces (later_comments cs) es (goal_pieces left right))) in
     let next = a.end + 1 + 1 + 1 + 1 + 1 + 1 in
     let u = state_hyp (grown s (term_size e)) e in
     let longer : length (s.hyps ++ e ∷ []) ≡ length s.hyps + 1 = length-append s.hyps (e ∷ []) in
-    let rest = hyps_items es u next left right h.1 l r (omega arith) (omega arith) first in
+    let rest = hyps_items (later_comments cs) es u next left right h.1 l r (omega arith) (omega arith) first in
     let before : List Lexeme → List Lexeme = λ (ts : List Lexeme). lexeme (Separator Equals) (a.end + 1) (codes "=") ∷ lexeme Zero (a.end + 1 + 1 + 1) (codes "0") ∷ lexeme (Separator Semicolon) (a.end + 1 + 1 + 1 + 1) (codes ";") ∷ ts in
     record {
-      items = record { keyword = leaf at (codes "hyp"); body = hypothesis (one_prod (one_star a.phrase)) (leaf (a.end + 1) (codes "=")) (leaf (a.end + 1 + 1 + 1) (codes "0")) (leaf (a.end + 1 + 1 + 1 + 1) (codes ";")) } ∷ rest.items;
+      items = record { keyword = leaf n (codes "hyp"); body = hypothesis (one_prod (one_star a.phrase)) (leaf (a.end + 1) (codes "=")) (leaf (a.end + 1 + 1 + 1) (codes "0")) (leaf (a.end + 1 + 1 + 1 + 1) (codes ";")) } ∷ rest.items;
       spells =
-          ap (λ (ts : List Lexeme). lexeme (Keyword keyword.Hyp) at (codes "hyp") ∷ ts)
+          ap (λ (ts : List Lexeme). lexeme (Keyword keyword.Hyp) n (codes "hyp") ∷ ts)
           (a.spelled ∙ ap (λ (ts : List Lexeme). yield_before a.phrase (before ts)) rest.spells);
       obey = (subst (λ (ts : List Lexeme). MeetsLookahead a.phrase (before ts)) rest.spells a.obeys, rest.obey);
       fit = (a.holds.fits 0 (omega (arith, h.0.shallow)), rest.fit);
@@ -120,7 +139,7 @@ hyps_items (e ∷ es) s at left right h l r few room first =
         hyps = rest.holds.hyps ∙ append_assoc s.hyps (e ∷ []) es;
         goals = rest.holds.goals;
       };
-    }
+    })
 
 -- ---- declarations
 

@@ -1,5 +1,6 @@
 -- The pieces of a plain text spell it, and no piece extends the one before it.
 use Rattle.std.proofs.Common.{◌≡◌, ℕ, List, [], ◌∷◌, ◌++◌, map, refl, sym, ap, ◌∙◌, append_assoc}
+use Rattle.std.proofs.lemmas.List.{append-nil}
 use Rattle.std.specs.Prelude.{codes, flat_map}
 use Rattle.std.specs.List.{range_with_len}
 use Rattle.kat_model.specs.Trees.{Term}
@@ -14,6 +15,8 @@ use Rattle.text_print.specs.Printing.{term_text, term_pieces, TermIsNamed}
 use Rattle.text_print.proofs.PieceTexts.{term_spells}
 use Rattle.text_print.proofs.Separate.{EndsWords, term_separate}
 use Rattle.problem_texts.specs.Questions.{plain_name, declaration_text, tests_text, actions_text, hyp_text, goal_text, question_text}
+use Rattle.problem_texts.specs.CommentedTexts.{comment_text, comments_text, Comments, first_comments, later_comments, commented_hyps, commented_text}
+use Rattle.problem_texts.proofs.Lines.{comment_pieces, spelled-comment}
 
 -- the further names of a declaration, and its end
 abbrev pub names_pieces : List (List ℕ) → List Piece → List Piece
@@ -31,9 +34,15 @@ zero_pieces ps = gap 32 ∷ symbol (codes "=") ∷ gap 32 ∷ number (codes "0")
 abbrev pub hyp_pieces : Term → List Piece → List Piece
 hyp_pieces e ps = word (codes "hyp") ∷ gap 32 ∷ term_pieces plain_name e (zero_pieces ps)
 
-abbrev pub hyps_pieces : List Term → List Piece → List Piece
-hyps_pieces [] ps = ps
-hyps_pieces (e ∷ es) ps = hyp_pieces e (hyps_pieces es ps)
+-- comments, each on a line
+abbrev pub comments_pieces : List (List ℕ) → List Piece → List Piece
+comments_pieces [] ps = ps
+comments_pieces (c ∷ cs) ps = comment_pieces c (comments_pieces cs ps)
+
+-- hypotheses, each after its comments
+abbrev pub hyps_pieces : List (List (List ℕ)) → List Term → List Piece → List Piece
+hyps_pieces cs [] ps = ps
+hyps_pieces cs (e ∷ es) ps = comments_pieces (first_comments cs) (hyp_pieces e (hyps_pieces (later_comments cs) es ps))
 
 -- the pieces after the right side of a goal, and those after its left side
 abbrev pub end_pieces : List Piece
@@ -52,11 +61,15 @@ test_names k n = map (λ j. plain_name (Test j)) (range_with_len k n)
 abbrev pub action_names : ℕ → ℕ → List (List ℕ)
 action_names k n = map (λ j. plain_name (Action j)) (range_with_len k n)
 
-abbrev pub asked_pieces : ProblemParts → List Piece
-asked_pieces q = hyps_pieces q.hyps (goal_pieces q.left q.right)
+abbrev pub asked_pieces : Comments → ProblemParts → List Piece
+asked_pieces c q = hyps_pieces c.hyps q.hyps (goal_pieces q.left q.right)
 
-abbrev pub question_pieces : ProblemParts → List Piece
-question_pieces q = declaration_pieces (codes "test") (test_names 0 q.tests) (declaration_pieces (codes "action") (action_names 0 q.actions) (asked_pieces q))
+-- the actions, and what follows them
+abbrev pub acting_pieces : Comments → ProblemParts → List Piece
+acting_pieces c q = comments_pieces c.actions (declaration_pieces (codes "action") (action_names 0 q.actions) (asked_pieces c q))
+
+abbrev pub question_pieces : Comments → ProblemParts → List Piece
+question_pieces c q = comments_pieces c.tests (declaration_pieces (codes "test") (test_names 0 q.tests) (acting_pieces c q))
 
 -- ---- the texts of the pieces
 
@@ -83,12 +96,24 @@ hyp_spells e ps =
     ap (λ (l : List ℕ). 104 ∷ 121 ∷ 112 ∷ 32 ∷ l) (term_spells plain_name e (zero_pieces ps))
     ∙ sym (hyp_regrouped (term_text plain_name e) (spelled ps))
 
-hyps_spell : (es : List Term) (ps : List Piece) → spelled (hyps_pieces es ps) ≡ flat_map (hyp_text plain_name) es ++ spelled ps
-hyps_spell [] ps = refl
-hyps_spell (e ∷ es) ps =
-    hyp_spells e (hyps_pieces es ps)
-    ∙ ap (λ (l : List ℕ). hyp_text plain_name e ++ l) (hyps_spell es ps)
-    ∙ sym (append_assoc (hyp_text plain_name e) (flat_map (hyp_text plain_name) es) (spelled ps))
+comments_spell : (cs : List (List ℕ)) (ps : List Piece) → spelled (comments_pieces cs ps) ≡ comments_text cs ++ spelled ps
+comments_spell [] ps = refl
+comments_spell (c ∷ cs) ps =
+    spelled-comment c (comments_pieces cs ps)
+    ∙ ap (λ (l : List ℕ). comment_text c ++ l) (comments_spell cs ps)
+    ∙ sym (append_assoc (comment_text c) (comments_text cs) (spelled ps))
+
+hyps_regrouped : (a b c d : List ℕ) → a ++ b ++ c ++ d ≡ a ++ (b ++ (c ++ d))
+hyps_regrouped a b c d = simp append_assoc
+
+hyps_spell : (cs : List (List (List ℕ))) (es : List Term) (ps : List Piece) → spelled (hyps_pieces cs es ps) ≡ commented_hyps cs es ++ spelled ps
+hyps_spell cs [] ps = refl
+hyps_spell cs (e ∷ es) ps =
+    comments_spell (first_comments cs) (hyp_pieces e (hyps_pieces (later_comments cs) es ps))
+    ∙ ap (λ (l : List ℕ). comments_text (first_comments cs) ++ l)
+    (hyp_spells e (hyps_pieces (later_comments cs) es ps)
+    ∙ ap (λ (l : List ℕ). hyp_text plain_name e ++ l) (hyps_spell (later_comments cs) es ps))
+    ∙ sym (hyps_regrouped (comments_text (first_comments cs)) (hyp_text plain_name e) (commented_hyps (later_comments cs) es) (spelled ps))
 
 goal_regrouped : (x y : List ℕ) → codes "goal equal " ++ x ++ codes ", " ++ y ++ codes ";\n" ≡ codes "goal equal " ++ (x ++ (44 ∷ 32 ∷ (y ++ (59 ∷ 10 ∷ []))))
 goal_regrouped x y = simp append_assoc
@@ -100,19 +125,37 @@ goal_spells left right =
     ∙ ap (λ (l : List ℕ). term_text plain_name left ++ (44 ∷ 32 ∷ l)) (term_spells plain_name right end_pieces))
     ∙ sym (goal_regrouped (term_text plain_name left) (term_text plain_name right))
 
-question_regrouped : (a b c d : List ℕ) → a ++ b ++ c ++ d ≡ a ++ (b ++ (c ++ d))
-question_regrouped a b c d = simp append_assoc
+question_regrouped : (a b c d e g : List ℕ) → a ++ b ++ c ++ d ++ e ++ g ≡ a ++ (b ++ (c ++ (d ++ (e ++ g))))
+question_regrouped a b c d e g = simp append_assoc
 
-pub question_spells : (q : ProblemParts) → spelled (question_pieces q) ≡ question_text q
-question_spells q =
+pub question_spells : (c : Comments) (q : ProblemParts) → spelled (question_pieces c q) ≡ commented_text c q
+question_spells c q =
     let goal = goal_pieces q.left q.right in
-    let asked = asked_pieces q in
+    let asked = asked_pieces c q in
     let actions = declaration_pieces (codes "action") (action_names 0 q.actions) asked in
-    declaration_spells (codes "test") (test_names 0 q.tests) actions
+    let acting = acting_pieces c q in
+    comments_spell c.tests (declaration_pieces (codes "test") (test_names 0 q.tests) acting)
+    ∙ ap (λ (l : List ℕ). comments_text c.tests ++ l)
+    (declaration_spells (codes "test") (test_names 0 q.tests) acting
     ∙ ap (λ (l : List ℕ). tests_text q.tests ++ l)
+    (comments_spell c.actions actions
+    ∙ ap (λ (l : List ℕ). comments_text c.actions ++ l)
     (declaration_spells (codes "action") (action_names 0 q.actions) asked
-    ∙ ap (λ (l : List ℕ). actions_text q.actions ++ l) (hyps_spell q.hyps goal ∙ ap (λ (l : List ℕ). flat_map (hyp_text plain_name) q.hyps ++ l) (goal_spells q.left q.right)))
-    ∙ sym (question_regrouped (tests_text q.tests) (actions_text q.actions) (flat_map (hyp_text plain_name) q.hyps) (goal_text plain_name q.left q.right))
+    ∙ ap (λ (l : List ℕ). actions_text q.actions ++ l) (hyps_spell c.hyps q.hyps goal ∙ ap (λ (l : List ℕ). commented_hyps c.hyps q.hyps ++ l) (goal_spells q.left q.right)))))
+    ∙ sym (question_regrouped (comments_text c.tests) (tests_text q.tests) (comments_text c.actions) (actions_text q.actions) (commented_hyps c.hyps q.hyps) (goal_text plain_name q.left q.right))
+
+-- the text without comments
+abbrev pub no_comments : Comments
+no_comments = record { tests = []; actions = []; hyps = [] }
+
+uncommented_hyps : (es : List Term) → commented_hyps [] es ≡ flat_map (hyp_text plain_name) es
+uncommented_hyps [] = refl
+uncommented_hyps (e ∷ es) = ap (λ (l : List ℕ). hyp_text plain_name e ++ l) (uncommented_hyps es)
+
+pub uncommented_text : (q : ProblemParts) → commented_text no_comments q ≡ question_text q
+uncommented_text q =
+    ap (λ (l : List ℕ). l ++ actions_text q.actions ++ commented_hyps [] q.hyps ++ goal_text plain_name q.left q.right) (append-nil (tests_text q.tests))
+    ∙ ap (λ (l : List ℕ). tests_text q.tests ++ actions_text q.actions ++ l ++ goal_text plain_name q.left q.right) (uncommented_hyps q.hyps)
 
 -- ---- the pieces are separate
 
@@ -137,11 +180,10 @@ module _ (w : ScopeParts) where
   AreNamed [] = Unit {0}
   AreNamed (e ∷ es) = TermIsNamed w plain_name e × AreNamed es
 
-  pub hyps_separate : (es : List Term) (ps : List Piece) → AreNamed es → AreSeparate ps → AreSeparate (hyps_pieces es ps)
-  hyps_separate [] ps is after = after
-  hyps_separate (e ∷ es) ps is after =
-      let rest : AreSeparate (zero_pieces (hyps_pieces es ps)) = (refl, (refl, refl, (refl, (refl, refl, (refl, refl, (refl, hyps_separate es ps is.1 after)))))) in
-      (keyword_is_name (codes "hyp") refl, refl, (refl, term_separate w plain_name e is.0 (zero_pieces (hyps_pieces es ps)) (record { name = λ b. refl; number = λ b. refl }) rest))
+  pub hyp_separate : (e : Term) (ps : List Piece) → TermIsNamed w plain_name e → AreSeparate ps → AreSeparate (hyp_pieces e ps)
+  hyp_separate e ps is after =
+      let rest : AreSeparate (zero_pieces ps) = (refl, (refl, refl, (refl, (refl, refl, (refl, refl, (refl, after)))))) in
+      (keyword_is_name (codes "hyp") refl, refl, (refl, term_separate w plain_name e is (zero_pieces ps) (record { name = λ b. refl; number = λ b. refl }) rest))
 
   pub goal_separate : (left right : Term) → TermIsNamed w plain_name left → TermIsNamed w plain_name right → AreSeparate (goal_pieces left right)
   goal_separate left right l r =

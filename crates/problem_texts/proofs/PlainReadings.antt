@@ -2,24 +2,26 @@
 use Rattle.std.proofs.Common.{◌≡◌, ◌≤◌, ◌+◌, ℕ, List, [], ◌∷◌, ◌++◌, length, refl, sym, ap, ◌∙◌, subst, arith}
 use Rattle.std.proofs.lemmas.List.Elements.{All-head, All-tail}
 use Rattle.std.specs.Prelude.{codes, All}
-use Rattle.kat_model.specs.declared.limits.TheConstants.{MAX_TESTS, MAX_ACTIONS, MAX_TERM_NODES, MAX_OPEN}
+use Rattle.kat_model.specs.declared.limits.TheConstants.{MAX_TESTS, MAX_ACTIONS, MAX_TERM_NODES, MAX_OPEN, MAX_TEXT_BYTES}
 use Rattle.kat_model.specs.Trees.{Term, term_size}
 use Rattle.kat_model.specs.Problems.{ProblemParts, IsInRange, AreInRange, terms_size}
 use Rattle.text_tokens.specs.declared.lexer.TheConstants.{MAX_LEN}
 use Rattle.text_tokens.specs.Lex.{Lexes}
-use Rattle.text_tokens.specs.Pieces.{AreSeparate, parts_from}
-use Rattle.text_tokens.proofs.Printed.{printed}
+use Rattle.text_tokens.specs.Pieces.{Piece, spelled, parts_from}
 use Rattle.text_tokens.proofs.Words.{keyword_is_name}
 use Rattle.text_scopes.specs.ScopeParts.{ScopeParts}
 use Rattle.text_print.specs.Printing.{term_nesting}
 use Rattle.problem_file.specs.Files.{term_side, GoalTree, State, file_of, equal}
 use Rattle.problem_file.specs.Reads.{start_one}
 use Rattle.problem_texts.specs.Questions.{question_text, IsPrintable}
+use Rattle.problem_texts.specs.CommentedTexts.{Comments, commented_text, IsCommentedPrintable}
 use Rattle.problem_texts.specs.Laws.{AsksEqual}
 use Rattle.problem_texts.specs.Working.Scopes.{IsPlain}
 use Rattle.problem_texts.proofs.PlainScopes.{empty_plain, plain_as, term_named}
-use Rattle.problem_texts.proofs.PlainPieces.{declaration_pieces, test_names, action_names, asked_pieces, goal_pieces, question_pieces, question_spells, AreNamed, declaration_separate, hyps_separate, goal_separate}
-use Rattle.problem_texts.proofs.PlainItems.{AreItems, IsWritable, AreWritable, hyps_items, Declares, tests_items, actions_items, tests_are_identifiers, actions_are_identifiers}
+use Rattle.problem_texts.proofs.PlainPieces.{declaration_pieces, test_names, action_names, asked_pieces, acting_pieces, question_pieces, question_spells, no_comments, uncommented_text, AreNamed}
+use Rattle.problem_texts.proofs.Lines.{AreLines, lines_pieces, lines_printed}
+use Rattle.problem_texts.proofs.PlainLines.{asked_lines, question_lines, question_are, asked_good, question_good}
+use Rattle.problem_texts.proofs.PlainItems.{AreItems, IsWritable, AreWritable, comments_items, hyps_items, Declares, tests_items, actions_items, tests_are_identifiers, actions_are_identifiers}
 
 -- the text of the term is within the limit on nesting
 abbrev IsShallow : Term → Type 0
@@ -41,85 +43,106 @@ all_named w (e ∷ es) h = (h.0.named, all_named w es h.1)
 same_parts : (q : ProblemParts) (tests actions : ℕ) (hyps : List Term) → tests ≡ q.tests → actions ≡ q.actions → hyps ≡ q.hyps → q ≡ record { tests = tests; actions = actions; hyps = hyps; left = q.left; right = q.right }
 same_parts q tests actions hyps e f g = rw (e, f, g) refl
 
--- the state has the question, and the pieces after the declarations are separate
-record IsAsked (q : ProblemParts) (t : State) : Type 0 where
+-- the state has the question, and no piece after the declarations extends the one before it
+record IsAsked (c : Comments) (q : ProblemParts) (t : State) : Type 0 where
   goals : t.goals ≡ equal (term_side q.left) (term_side q.right) ∷ []
   question : q ≡ record { tests = t.tests; actions = t.actions; hyps = t.hyps; left = q.left; right = q.right }
-  separate : AreSeparate (asked_pieces q)
+  separate : AreLines (asked_lines c q)
 
--- the pieces after the declarations are items
-asked_items : (q : ProblemParts) → IsPrintable q → (u : State) (at : ℕ) → Declares start_one q.tests q.actions u → AreItems u at (asked_pieces q) (IsAsked q)
-asked_items q printable u at d =
-    let problem = printable.problem in
-    let goal = goal_pieces q.left q.right in
-    let shallow = All-tail IsShallow q.left (q.right ∷ q.hyps) printable.shallow in
-    let size = problem.size in
-    let hyps = all_writable u.world q.tests q.actions problem.tests problem.actions d.plain q.hyps problem.hyps (All-tail IsShallow q.right q.hyps shallow) (omega arith) in
-    let left = writable u.world q.tests q.actions problem.tests problem.actions d.plain q.left problem.left (All-head IsShallow q.left (q.right ∷ q.hyps) printable.shallow) (omega arith) in
-    let right = writable u.world q.tests q.actions problem.tests problem.actions d.plain q.right problem.right (All-head IsShallow q.right q.hyps shallow) (omega arith) in
-    let made = hyps_items q.hyps u at q.left q.right hyps left right (omega (arith, ap length d.hyps, printable.hyps)) (omega (arith, d.size, size)) (rw (d.goals, d.limit) (omega arith)) in
-    record {
-      items = made.items;
-      spells = made.spells;
-      obey = made.obey;
-      fit = made.fit;
-      final = made.final;
-      make = made.make;
-      holds = record {
-        goals = made.holds.goals ∙ ap (λ (l : List GoalTree). l ++ equal (term_side q.left) (term_side q.right) ∷ []) d.goals;
-        question = same_parts q (made.final).tests (made.final).actions (made.final).hyps (made.holds.tests ∙ d.tests) (made.holds.actions ∙ d.actions) (made.holds.hyps ∙ ap (λ (l : List Term). l ++ q.hyps) d.hyps);
-        separate = hyps_separate u.world q.hyps goal (all_named u.world q.hyps hyps) (goal_separate u.world q.left q.right left.named right.named);
-      };
-    }
+module _ (c : Comments) (q : ProblemParts) (printable : IsCommentedPrintable c q) where
+  -- the pieces after the declarations are items
+  asked_items : (u : State) (at : ℕ) → Declares start_one q.tests q.actions u → AreItems u at (asked_pieces c q) (IsAsked c q)
+  asked_items u at d =
+      let problem = printable.problem in
+      let shallow = All-tail IsShallow q.left (q.right ∷ q.hyps) printable.shallow in
+      let size = problem.size in
+      let hyps = all_writable u.world q.tests q.actions problem.tests problem.actions d.plain q.hyps problem.hyps (All-tail IsShallow q.right q.hyps shallow) (omega arith) in
+      let left = writable u.world q.tests q.actions problem.tests problem.actions d.plain q.left problem.left (All-head IsShallow q.left (q.right ∷ q.hyps) printable.shallow) (omega arith) in
+      let right = writable u.world q.tests q.actions problem.tests problem.actions d.plain q.right problem.right (All-head IsShallow q.right q.hyps shallow) (omega arith) in
+      let made = hyps_items c.hyps q.hyps u at q.left q.right hyps left right (omega (arith, ap length d.hyps, printable.hyps)) (omega (arith, d.size, size)) (rw (d.goals, d.limit) (omega arith)) in
+      record {
+        items = made.items;
+        spells = made.spells;
+        obey = made.obey;
+        fit = made.fit;
+        final = made.final;
+        make = made.make;
+        holds = record {
+          goals = made.holds.goals ∙ ap (λ (l : List GoalTree). l ++ equal (term_side q.left) (term_side q.right) ∷ []) d.goals;
+          question = same_parts q (made.final).tests (made.final).actions (made.final).hyps (made.holds.tests ∙ d.tests) (made.holds.actions ∙ d.actions) (made.holds.hyps ∙ ap (λ (l : List Term). l ++ q.hyps) d.hyps);
+          separate = asked_good u.world c q printable.comments.hyps (all_named u.world q.hyps hyps) left.named right.named;
+        };
+      }
 
-question_items : (q : ProblemParts) → IsPrintable q → AreItems start_one 0 (question_pieces q) (IsAsked q)
-question_items q printable =
-    let problem = printable.problem in
-    let few = problem.tests in
-    let small = problem.actions in
-    tests_items q.tests start_one 0 (declaration_pieces (codes "action") (action_names 0 q.actions) (asked_pieces q)) (IsAsked q) (omega (arith, few)) (omega arith) empty_plain
-    (λ t at d. subst (λ (k : ℕ). AreItems t at (declaration_pieces (codes "action") (action_names k q.actions) (asked_pieces q)) (IsAsked q)) d.actions
-    (actions_items q.actions t at (asked_pieces q) (IsAsked q) (omega (arith, d.actions, small)) (omega (arith, d.tests, few)) (rw (d.tests, d.actions) d.plain)
-    (λ u next e. asked_items q printable u next (record {
-      tests = e.tests ∙ d.tests ∙ omega arith;
-      actions = omega (arith, e.actions, d.actions);
-      hyps = e.hyps ∙ d.hyps;
-      limit = e.limit ∙ d.limit;
-      goals = e.goals ∙ d.goals;
-      size = e.size ∙ d.size;
-      plain = plain_as u.world t.tests q.tests (t.actions + q.actions) q.actions (d.tests ∙ omega arith) (omega (arith, d.actions)) e.plain;
-    }))))
+  question_items : AreItems start_one 0 (question_pieces c q) (IsAsked c q)
+  question_items =
+      let problem = printable.problem in
+      let few = problem.tests in
+      let small = problem.actions in
+      comments_items c.tests start_one 0 (declaration_pieces (codes "test") (test_names 0 q.tests) (acting_pieces c q)) (IsAsked c q) (λ n.
+      tests_items q.tests start_one n (acting_pieces c q) (IsAsked c q) (omega (arith, few)) (omega arith) empty_plain
+      (λ t at d. comments_items c.actions t at (declaration_pieces (codes "action") (action_names 0 q.actions) (asked_pieces c q)) (IsAsked c q) (λ m.
+      subst (λ (k : ℕ). AreItems t m (declaration_pieces (codes "action") (action_names k q.actions) (asked_pieces c q)) (IsAsked c q)) d.actions
+      (actions_items q.actions t m (asked_pieces c q) (IsAsked c q) (omega (arith, d.actions, small)) (omega (arith, d.tests, few)) (rw (d.tests, d.actions) d.plain)
+      (λ u next e. asked_items u next (record {
+        tests = e.tests ∙ d.tests ∙ omega arith;
+        actions = omega (arith, e.actions, d.actions);
+        hyps = e.hyps ∙ d.hyps;
+        limit = e.limit ∙ d.limit;
+        goals = e.goals ∙ d.goals;
+        size = e.size ∙ d.size;
+        plain = plain_as u.world t.tests q.tests (t.actions + q.actions) q.actions (d.tests ∙ omega arith) (omega (arith, d.actions)) e.plain;
+      }))))))
 
-question_separate : (q : ProblemParts) → IsPrintable q → AreSeparate (asked_pieces q) → AreSeparate (question_pieces q)
-question_separate q printable asked =
-    let problem = printable.problem in
-    let few = problem.tests in
-    let small = problem.actions in
-    declaration_separate (codes "test") (test_names 0 q.tests) (declaration_pieces (codes "action") (action_names 0 q.actions) (asked_pieces q)) (keyword_is_name (codes "test") refl) (tests_are_identifiers q.tests 0 (omega (arith, few)))
-    (declaration_separate (codes "action") (action_names 0 q.actions) (asked_pieces q) (keyword_is_name (codes "action") refl) (actions_are_identifiers q.actions 0 (omega (arith, small))) asked)
+  question_separate : AreLines (asked_lines c q) → AreLines (question_lines c q)
+  question_separate asked =
+      let problem = printable.problem in
+      let few = problem.tests in
+      let small = problem.actions in
+      question_good c q printable.comments.tests printable.comments.actions (keyword_is_name (codes "test") refl) (keyword_is_name (codes "action") refl) (tests_are_identifiers q.tests 0 (omega (arith, few)))
+      (actions_are_identifiers q.actions 0 (omega (arith, small))) asked
 
+  -- the tokens of the text are those of its pieces
+  question_lexes : AreLines (question_lines c q) → Lexes (commented_text c q) (parts_from 0 (question_pieces c q))
+  question_lexes good =
+      let lines : question_pieces c q ≡ lines_pieces (question_lines c q) = question_are c q in
+      let text : spelled (lines_pieces (question_lines c q)) ≡ commented_text c q = ap (λ (ps : List Piece). spelled ps) (sym lines) ∙ question_spells c q in
+      let short : length (spelled (lines_pieces (question_lines c q))) ≤ MAX_LEN = subst (λ (l : List ℕ). length l ≤ MAX_LEN) (sym text) printable.short in
+      subst (λ (ps : List Piece). Lexes (commented_text c q) (parts_from 0 ps)) (sym lines)
+      (subst (λ (l : List ℕ). Lexes l (parts_from 0 (lines_pieces (question_lines c q)))) text (lines_printed (question_lines c q) good short))
+
+  pub commented_reads_back : AsksEqual (commented_text c q) q
+  commented_reads_back =
+      let made = question_items in
+      let pieces = question_pieces c q in
+      let goal = equal (term_side q.left) (term_side q.right) in
+      record {
+        file = file_of made.final goal;
+        reads = record {
+          says = record {
+            parts_of_tokens = parts_from 0 pieces;
+            lexes = question_lexes (question_separate made.holds.separate);
+            items = made.items;
+            spells = record { file = record { spells = made.spells; obey = made.obey }; fit = made.fit };
+            state = made.final;
+            make = made.make;
+            goal = goal;
+            has_goal = rw (made.holds.goals) refl;
+          };
+          file = refl;
+        };
+        goal = refl;
+        question = made.holds.question;
+      }
+
+-- the text without comments
 pub reads_back : (q : ProblemParts) → IsPrintable q → AsksEqual (question_text q) q
 reads_back q printable =
-    let made = question_items q printable in
-    let pieces = question_pieces q in
-    let separate = question_separate q printable made.holds.separate in
-    let text = question_spells q in
-    let goal = equal (term_side q.left) (term_side q.right) in
-    record {
-      file = file_of made.final goal;
-      reads = record {
-        says = record {
-          parts_of_tokens = parts_from 0 pieces;
-          lexes = subst (λ (l : List ℕ). Lexes l (parts_from 0 pieces)) text (printed pieces separate (subst (λ (l : List ℕ). length l ≤ MAX_LEN) (sym text) printable.short));
-          items = made.items;
-          spells = record { file = record { spells = made.spells; obey = made.obey }; fit = made.fit };
-          state = made.final;
-          make = made.make;
-          goal = goal;
-          has_goal = rw (made.holds.goals) refl;
-        };
-        file = refl;
-      };
-      goal = refl;
-      question = made.holds.question;
-    }
+    subst (λ (l : List ℕ). AsksEqual l q) (uncommented_text q)
+    (commented_reads_back no_comments q (record {
+      problem = printable.problem;
+      hyps = printable.hyps;
+      shallow = printable.shallow;
+      comments = record { tests = tt; actions = tt; hyps = tt };
+      short = subst (λ (l : List ℕ). length l ≤ MAX_TEXT_BYTES) (sym (uncommented_text q)) printable.short;
+    }))

@@ -6,6 +6,7 @@ ghost use Rattle.kat_model.specs.declared.expression.Width.{Width};
 ghost use Rattle.text_scopes.specs.declared.meaning.Meaning.{Meaning};
 ghost use Rattle.while_lang.specs.Programs.{ProgTree};
 ghost use Rattle.problem_file.specs.Files.{prog_side, equal, triple};
+ghost use Rattle.problem_texts.specs.CommentedTexts.{Comments, commented_text, IsCommentedPrintable};
 ghost use Rattle.problem_texts.specs.Questions.{question_text, IsPrintable};
 ghost use Rattle.problem_texts.specs.ProgramTexts.{one_program_text, programs_text, triple_text, IsOnePrintable, ArePrintable, IsTriplePrintable};
 ghost use Rattle.problem_texts.specs.Laws.{AsksEqual, AsksOfPrograms, SaysProgram};
@@ -13,6 +14,11 @@ ghost use Rattle.problem_texts.specs.Laws.{AsksEqual, AsksOfPrograms, SaysProgra
 /// The plain text of a question reads back as exactly that question, if it is within the limits of a text.
 pub fn plain_texts_read_back()
     ensures { (q : ProblemParts) → IsPrintable q → AsksEqual (question_text q) q }
+{}
+
+/// The same holds of the text with comments, each a line of text, before its declarations and its hypotheses.
+pub fn commented_texts_read_back()
+    ensures { (c : Comments) (q : ProblemParts) → IsCommentedPrintable c q → AsksEqual (commented_text c q) q }
 {}
 
 /// The plain text of two programs reads back as the goal that they are equal, if it is within the limits of a text. The

@@ -9,8 +9,8 @@ mod scope;
 mod writing;
 
 pub use laws::{
-    named_programs_read_back, plain_programs_read_back, plain_texts_read_back,
-    plain_triples_read_back,
+    commented_texts_read_back, named_programs_read_back, plain_programs_read_back,
+    plain_texts_read_back, plain_triples_read_back,
 };
 pub use program_writing::one_program_text;
 pub use scope::{declare, numbered_scope, plain_scope};
