@@ -6,7 +6,7 @@ use Rattle.std.proofs.lemmas.List.Elements.{All-nil, All-cons, All-head, All-app
 use Rattle.while_lang.specs.Programs.{ProgTree, empty, skip_then, abort_then, assert_then, act_then, assign_then, branch_then, loop_then, statements}
 use Rattle.one_loop.specs.Sizes.{HasNumbersBelow}
 use Rattle.one_loop.specs.Working.Machine.{Point, passes, stops, checks, sets, chooses, start_of, points_of}
-use Rattle.one_loop.specs.Working.Blocks.{block_of, Chooses, no_block, one_block, two_parts, is_below, loop_from}
+use Rattle.one_loop.specs.Working.Blocks.{block_of, Chooses, no_block, one_block, two_parts, loop_from}
 use Rattle.one_loop.proofs.PointLists.{length_points}
 
 -- a choice compares the counter with numbers of blocks
