@@ -2,3 +2,4 @@ mod Appending
 mod JsonTexts
 pub mod WrittenParts
 mod ShowExamples
+pub mod ShownComments

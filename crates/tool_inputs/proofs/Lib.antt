@@ -1,6 +1,7 @@
 pub mod Contents
 pub mod ReplySpecs
 pub mod Ranges
+pub mod EqualGoals
 pub mod Steps
 pub mod TextReplies
 pub mod FileReplies
