@@ -1,0 +1,74 @@
+//! Flow files as they are spelled, with the tokens by which they name things. Each list is from its last member to its
+//! first, since the values of a derivation are made from its last step to its first.
+
+use text_tokens::Token;
+
+/// The first name or conversion in an expression that is in no argument and under no conversion.
+#[derive(Clone, Copy)]
+pub enum FirstName<'a> {
+    NoName,
+    /// A name, of a variable or of a function.
+    Name(Token<'a>),
+    /// The word of a conversion.
+    Word(Token<'a>),
+}
+
+/// A node of an expression. An expression is in Polish notation: each node is before its operands.
+#[derive(Clone, Copy)]
+pub enum Node<'a> {
+    Numeral(Token<'a>),
+    Named(Token<'a>),
+    /// A call, with the number of its arguments.
+    Called(Token<'a>, usize),
+    /// A conversion, with the first name in its operand.
+    Converted(Token<'a>, FirstName<'a>),
+    Operation(Token<'a>),
+}
+
+/// A node of a condition, which is in Polish notation too. A comparison has both expressions.
+#[derive(Drop)]
+pub enum CondNode<'a> {
+    Always,
+    Never,
+    Compared(Token<'a>, Vec<Node<'a>>, Vec<Node<'a>>),
+    ComparedSigned(Token<'a>, Vec<Node<'a>>, Vec<Node<'a>>),
+    Negation,
+    Both,
+    Either,
+}
+
+#[derive(Drop)]
+pub enum Statement<'a> {
+    /// The variables that are set, the token `:=`, and the values.
+    Assign(Vec<Token<'a>>, Token<'a>, Vec<Vec<Node<'a>>>),
+    Claim(Vec<CondNode<'a>>),
+}
+
+#[derive(Drop)]
+pub enum Jump<'a> {
+    Goto(Token<'a>),
+    Branch(Vec<CondNode<'a>>, Token<'a>, Token<'a>),
+    Return(Token<'a>, Vec<Vec<Node<'a>>>),
+    Abort,
+}
+
+#[derive(Drop)]
+pub struct Block<'a> {
+    pub is_cut: bool,
+    pub name: Token<'a>,
+    pub statements: Vec<Statement<'a>>,
+    pub jump: Jump<'a>,
+}
+
+/// An item, with its keyword.
+#[derive(Drop)]
+pub enum Item<'a> {
+    Sorts(Token<'a>, Vec<Token<'a>>),
+    /// The sort of the result, the name and the sorts of the parameters.
+    Function(Token<'a>, Token<'a>, Token<'a>, Vec<Token<'a>>),
+    Variables(Token<'a>, Token<'a>, Vec<Token<'a>>),
+    Graph(Token<'a>, Token<'a>, Vec<Block<'a>>),
+    Rounds(Token<'a>, Token<'a>),
+    Split(Token<'a>),
+    Equal(Token<'a>, Token<'a>, Token<'a>),
+}
