@@ -119,11 +119,52 @@ def literal(pick, tests_of):
     return f"{pick.choice(['', '!'])}{pick.choice(tests_of)}"
 
 
-def corners(n):
-    """`frames` with as many random hypotheses more: each rules out one of its actions in a corner of three tests, or fewer."""
+def corner(pick, t):
+    return f"{literal(pick, t)}.{literal(pick, t)}.{pick.choice('pq')}.{literal(pick, t)}"
+
+
+def cornered(n, count, rests=0, goal=frames):
+    """`frames` with random hypotheses more: each rules out one of its actions in a corner of three tests, or fewer. The
+    left side of the goal has some of their terms more, so that the goal rests on these hypotheses."""
     pick, t = random.Random(1), names("b", n)
-    more = "".join(f"hyp {literal(pick, t)}.{literal(pick, t)}.{pick.choice('pq')}.{literal(pick, t)} = 0;\n" for _ in t)
-    return frames(n).replace("goal", f"{more}goal")
+    terms = [corner(pick, t) for _ in range(count)]
+    text = goal(n).replace("goal", "".join(f"hyp {it} = 0;\n" for it in terms) + "goal")
+    return text.replace("goal equal ", "goal equal " + "".join(f"{it} + " for it in terms[:rests]))
+
+
+def corners(n):
+    """`frames` with as many random hypotheses more."""
+    return cornered(n, n)
+
+
+def manycorners(n):
+    """`frames` with four times as many random hypotheses more."""
+    return cornered(n, 4 * n)
+
+
+def wrongcorners(n):
+    """`frameless` with as many random hypotheses more."""
+    return cornered(n, n, 0, frameless)
+
+
+def resting(n):
+    """`corners` over 46 tests, where the goal rests on n of the random hypotheses."""
+    return cornered(46, 46, n)
+
+
+def keep(n):
+    """n tests that an action keeps, which hold after a loop if they hold before it: the goal rests on each."""
+    t = names("b", n)
+    text = declared("test", [*t, "c"]) + "action p;\n" + "".join(f"hyp {it}.p.!{it} = 0;\n" for it in t)
+    return text + f"goal equal {'.'.join(t)}.(c.p)*.!c, {'.'.join(t)}.(c.p)*.!c.{'.'.join(t)};\n"
+
+
+def idle(family):
+    """A family with one hypothesis more, on a test and an action of its own."""
+    def text(n):
+        return "test idle;\naction idles;\nhyp idle.idles.!idle = 0;\n" + family(n)
+    text.__doc__ = family.__doc__
+    return text
 
 
 def asked(n):
@@ -194,6 +235,50 @@ def structured(n):
     return f"{before}prog P {{ {left} }}\nprog Q {{ {right} }}\ngoal equal P, Q;\n"
 
 
+def twice_goal(before, guard, body, second):
+    """A loop, and the loop with two turns in front of it, of which the second is the same or another."""
+    loop = f"while {guard} {{ {body} }}"
+    turns = f"if {guard} {{ {body} if {guard} {{ {second} {loop} }} }}"
+    return f"{before}prog P {{ {loop} }}\nprog Q {{ {turns} }}\ngoal equal P, Q;\n"
+
+
+def subtractions(n):
+    """The greatest common divisor of two numbers by subtractions, its loop unrolled twice, with n rounds."""
+    body = "if x < y { y := y - x; } else { x := x - y; }"
+    return twice_goal(f"rounds {n};\nvar x, y;\n", "x != y", body, body)
+
+
+def wrongsubtractions(n):
+    """The same with the branches of the second turn exchanged."""
+    body = "if x < y { y := y - x; } else { x := x - y; }"
+    return twice_goal(f"rounds {n};\nvar x, y;\n", "x != y", body, "if x < y { x := x - y; } else { y := y - x; }")
+
+
+def rotated(n):
+    """A loop over a list with an early exit, with its condition at the end in place of the start, with n rounds."""
+    before, body = f"rounds {n};\nvar i, n, s, k;\n", "s := s + i; i := i + 1;"
+    loop = f"while i < n && s != k {{ {body} }}"
+    return f"{before}prog P {{ {loop} }}\nprog Q {{ if i < n {{ if s != k {{ {body} {loop} }} }} }}\ngoal equal P, Q;\n"
+
+
+def wrongrotated(n):
+    """The same with the early exit left out in front of the first turn."""
+    return rotated(n).replace("if s != k {", "if s == s {", 1)
+
+
+def strings(n):
+    """A comparison of two strings by functions that read and go on, which leave n tests alone, unrolled twice."""
+    t = names("b", n)
+    before = declared("test", ["same", "end", *t]) + "action read, next, less, more;\n"
+    for action in ("read", "next"):
+        before += "".join(f"hyp triple {{{it}}} {action} {{{it}}};\nhyp triple {{!{it}}} {action} {{!{it}}};\n" for it in t)
+    last = "if same { skip; } else { if b0 { less; } else { more; } }"
+    loop = "while same && !end { next; read; }"
+    turn = "if same && !end { next; read;"
+    return (f"{before}prog P {{ read; {loop} {last} }}\n"
+            f"prog Q {{ read; if b0 {{ {turn} {turn} {loop} }} }} }} else {{ {loop} }} {last} }}\ngoal equal P, Q;\n")
+
+
 def unswitched(_):
     """A test taken out of a loop, and dead branches removed: an ordinary use."""
     return (TOP / "examples/holds/program-unswitched.kat").read_text()
@@ -250,13 +335,25 @@ FAMILIES = {
     "differ": (differ, 256),
     "frames": (frames, 5),
     "frameless": (frameless, 5),
-    "corners": (corners, 12),
+    "corners": (corners, 46),
+    "manycorners": (manycorners, 46),
+    "wrongcorners": (wrongcorners, 46),
+    "resting": (resting, 10),
+    "keep": (keep, 46),
+    "idlenest": (idle(nest), 12),
+    "idlediffer": (idle(differ), 256),
     "asked": (asked, 4),
     "moves": (moves, 10),
     "unswitched": (unswitched, 1),
     "untouched": (untouched, 5),
     "line": (line, 40),
     "structured": (structured, 500),
+    "idlestructured": (idle(structured), 3000),
+    "subtractions": (subtractions, 5),
+    "wrongsubtractions": (wrongsubtractions, 5),
+    "rotated": (rotated, 5),
+    "wrongrotated": (wrongrotated, 5),
+    "strings": (strings, 46),
 }
 
 # Those that are measured by `outline`, and by `decide` and `check` beside it.

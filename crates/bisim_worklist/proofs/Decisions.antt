@@ -9,7 +9,7 @@ use Rattle.term_nodes.specs.NodeTrees.{HasTree}
 use Rattle.certificate.specs.declared.evidence.Evidence.{Evidence}
 use Rattle.certificate.specs.declared.evidence.Evidence.TheVariants.{Equal, Different}
 use Rattle.certificate.specs.Accepted.{set_pairs}
-use Rattle.certificate.specs.Decisions.{IsDecision, has_short, HasManyPairs, node_terms}
+use Rattle.certificate.specs.Decisions.{IsDecision, has_short, node_terms}
 use Rattle.walk_under.specs.Decisions.{IsDecisionUnder}
 use Rattle.walk_up_to.specs.Decisions.{IsDecisionUpTo}
 use Rattle.walk_up_to.specs.StoredSides.{HasSides}
@@ -21,9 +21,9 @@ pub up_to_decides : (q : ProblemParts) (e : Evidence) → IsDecisionUpTo q (limi
 up_to_decides q (Equal c) d = (d.0, inl (record { concise = d.1; few = few_where_limited q (limit_of q) (length (set_pairs c)) refl d.2 }))
 up_to_decides q (Different x) d = d
 
-pub under_decides : (q : ProblemParts) → IsTrue (has_short q) → HasManyPairs q → (e : Evidence) → IsDecisionUnder q e → IsDecision q e
-under_decides q short many (Equal c) d = (d.0, inr (record { concise = d.1; short = short; many = many }))
-under_decides q short many (Different x) d = d
+pub under_decides : (q : ProblemParts) → IsTrue (has_short q) → (e : Evidence) → IsDecisionUnder q e → IsDecision q e
+under_decides q short (Equal c) d = (d.0, inr (record { concise = d.1; short = short }))
+under_decides q short (Different x) d = d
 
 pub has_ids : (q : ProblemParts) (store : NodeParts) → HasSides store q → (e : Evidence) → ((t : Term) → Has (node_terms e) t → HasTree store t) → HasIdsOf store q e
 has_ids q store sides e nodes = record { left = sides.left; right = sides.right; nodes = nodes }

@@ -1,8 +1,9 @@
 -- The limit of a problem on the pairs of a walk without tests.
-use Rattle.std.proofs.Common.{◌≡◌, ◌≤◌, ◌<◌, ◌+◌, ℕ, Bool, true, false, cond, length, Option, Some, None, refl, sym, ◌∙◌, subst}
+use Rattle.std.proofs.Common.{◌≡◌, ◌≤◌, ℕ, Bool, true, false, cond, Option, Some, None, refl, sym, ◌∙◌, subst}
+use Rattle.std.specs.Prelude.{IsSome}
 use Rattle.std.specs.Bool.{IsTrue}
 use Rattle.kat_model.specs.Problems.{ProblemParts}
-use Rattle.certificate.specs.Decisions.{has_short, untested_limit, HasManyPairs}
+use Rattle.certificate.specs.Decisions.{has_short, untested_limit}
 use Rattle.walk_up_to.specs.Decisions.{IsWithinLimit, HasPairsPast}
 use Rattle.bisim_worklist.specs.Working.Limits.{limit_of}
 
@@ -17,21 +18,15 @@ limit_is_if q = go (has_short q)
     go true = refl
     go false = refl
 
-pub short_where_limited : (q : ProblemParts) (limit : Option ℕ) → limit ≡ limit_of q → HasPairsPast q limit → IsTrue (has_short q)
-short_where_limited q limit same past = go (has_short q) (sym past.limited ∙ same ∙ limit_is_if q)
+pub short_where_some : (q : ProblemParts) (limit : Option ℕ) → limit ≡ limit_of q → IsSome limit → IsTrue (has_short q)
+short_where_some q limit same some = go (has_short q) (subst IsSome (same ∙ limit_is_if q) some)
   where
-    go : (b : Bool) → Some past.most ≡ limit_if b → b ≡ true
+    go : (b : Bool) → IsSome (limit_if b) → b ≡ true
     go true e = refl
     go false e = absurd cc
 
-pub many_where_past : (q : ProblemParts) (limit : Option ℕ) → limit ≡ limit_of q → HasPairsPast q limit → HasManyPairs q
-many_where_past q limit same past =
-    let most : past.most ≡ untested_limit = limit_is (has_short q) past.most (sym past.limited ∙ same ∙ limit_is_if q) in
-    record { rest = past.rest; needed = past.needed; many = subst (λ n. n < length past.rest + 1) most past.many }
-  where
-    limit_is : (b : Bool) (m : ℕ) → Some m ≡ limit_if b → m ≡ untested_limit
-    limit_is true m e = cc
-    limit_is false m e = absurd cc
+pub short_where_past : (q : ProblemParts) (limit : Option ℕ) → limit ≡ limit_of q → HasPairsPast q limit → IsTrue (has_short q)
+short_where_past q limit same past = short_where_some q limit same (subst IsSome (sym past.limited) refl)
 
 pub few_where_limited : (q : ProblemParts) (limit : Option ℕ) (n : ℕ) → limit ≡ limit_of q → IsWithinLimit limit n → IsTrue (has_short q) → n ≤ untested_limit
 few_where_limited q limit n same within short = go (has_short q) short (subst (λ o. IsWithinLimit o n) (same ∙ limit_is_if q) within)

@@ -44,13 +44,15 @@ pub fn decide_in(alloc: Global, store: &mut Store, problem: &Problem) -> Result<
         Ok(evidence) => Ok(evidence),
         Err(EarlyStop::NoMemory) => Err(NoMemory),
         Err(EarlyStop::PairLimit) => decide_under(alloc, store, problem),
+        Err(EarlyStop::CostLimit) => decide_under(alloc, store, problem),
     }
 }
 
 /// Decides whether both sides of `problem` denote the same relation in each table that satisfies the hypotheses.
 /// Returns evidence: a certificate whose pairs are a bisimulation up to congruence without redundant pairs (Bonchi and
-/// Pous 2013), or a string that refutes the problem and has the fewest moves. If some hypothesis is short and more than
-/// 2,000 such pairs are found, the certificate has pairs under tests. Fails only when out of memory.
+/// Pous 2013), or a string that refutes the problem and has the fewest moves. If some hypothesis is short, and the search
+/// for such pairs finds more than 2,000 or takes too many steps, the certificate has pairs under tests. Fails only when
+/// out of memory.
 pub fn decide(alloc: Global, problem: &Problem) -> Result<Evidence, NoMemory>
     ensures { IfOk result (IsDecision problem.now) }
 {
@@ -69,5 +71,6 @@ pub fn is_same(alloc: Global, problem: &Problem) -> Result<bool, NoMemory>
         Ok(same) => Ok(same),
         Err(EarlyStop::NoMemory) => Err(NoMemory),
         Err(EarlyStop::PairLimit) => is_same_under(alloc, &mut store, problem),
+        Err(EarlyStop::CostLimit) => is_same_under(alloc, &mut store, problem),
     }
 }

@@ -1,7 +1,7 @@
 //! The prover: decides whether the two sides of a problem are the same, and returns evidence.
 //!
 //! The prover walks over pairs of sets of terms up to congruence (`walk_up_to`). If some hypothesis is short and that
-//! walk needs too many pairs, it walks over pairs under tests (`walk_under`).
+//! walk needs too many pairs or too many steps, it walks over pairs under tests (`walk_under`).
 #![tactic(auto)]
 
 mod deciding;

@@ -49,8 +49,8 @@ fn pairs_reason(alloc: Global, problem: &Problem, cert: &Cert) -> Result<Option<
     Ok(place.map(|place| reason_of_place(place, cert.style())))
 }
 
-// Returns the problem with its long hypotheses and with those short ones that depend, after each action, only on tests
-// that the tests of pairs name. Which short ones are left out affects only speed.
+// Returns the problem with its long hypotheses and with those short ones that depend, after each action or without one,
+// only on tests that the tests of pairs name. Which short ones are left out affects only speed.
 fn fewer_hyps(alloc: Global, problem: &Problem, cert: &Cert) -> Result<Option<Problem>, NoMemory>
     requires { (k : ℕ) → Has cert.now.test_nodes (Prim k) → k < problem.now.tests }
     ensures { IfOk result (λ o. IfSome o (HasFewerHyps problem.now)) }
@@ -58,7 +58,7 @@ fn fewer_hyps(alloc: Global, problem: &Problem, cert: &Cert) -> Result<Option<Pr
     let known = asked_tests(alloc, cert, problem.tests())?;
     let mut hyps = Vec::new(alloc);
     for hyp in problem.hyps() {
-        if !is_short(hyp) || asks_only(hyp, &known, false) {
+        if !is_short(hyp) || asks_only(hyp, &known, hyp.acts() == 0) {
             hyps.push(hyp.copy(alloc)?)?;
         }
     }

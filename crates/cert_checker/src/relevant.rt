@@ -1,5 +1,5 @@
-//! The short hypotheses that are likely to matter to pairs under tests: after each action they depend only on tests that
-//! the tests of pairs name. With fewer hypotheses there are fewer cases.
+//! The short hypotheses that are likely to matter to pairs under tests: after each action, and if they have no action,
+//! they depend only on tests that the tests of pairs name. With fewer hypotheses there are fewer cases.
 ghost use Rattle.cert_steps.specs.NodeTables.{ArePrimsBelow};
 
 use crate::asked::with_parts;
@@ -35,8 +35,8 @@ fn names_only(test: &Test, known: &[usize]) -> bool {
     }
 }
 
-/// Returns whether the tests of the term that follow an action name only known primitive tests. If `late` is true, the
-/// whole term follows one.
+/// Returns whether the tests of the term that follow an action name only known primitive tests. If `late` is true, all
+/// its tests must.
 pub(crate) fn asks_only(term: &Kat, known: &[usize], late: bool) -> bool {
     match term {
         Kat::Zero | Kat::One | Kat::Act(_) => true,

@@ -1,5 +1,5 @@
 -- The answers of the prover: a certificate without redundant pairs (Bonchi and Pous 2013), a certificate of pairs under
--- tests if there are many such pairs and some hypothesis is short, or a shortest string that refutes.
+-- tests if some hypothesis is short, or a shortest string that refutes.
 use Rattle.std.specs.Prelude.{◌≡◌, ◌⊎◌, ◌≤◌, ◌<◌, ◌+◌, ◌*◌, ◌^◌, ℕ, Bool, List, [], ◌∷◌, ◌++◌, length, IsTrue}
 use Rattle.std.specs.List.{list_any}
 use Rattle.kat_model.specs.Trees.{Term, acts}
@@ -66,22 +66,15 @@ has_short q = list_any is_short q.hyps
 abbrev pub untested_limit : ℕ
 untested_limit = 2000
 
--- there are more pairs than that from the closed sides on, and none is redundant
-pub record HasManyPairs (q : ProblemParts) : Type 0 where
-  pub rest : List SetPair
-  pub needed : HasNoRedundantPair q (record { left = (closed q).left ∷ []; right = (closed q).right ∷ [] } ∷ rest)
-  pub many : untested_limit < length rest + 1
-
 -- a certificate without tests; it has few pairs if some hypothesis is short
 pub record IsUntestedAnswer (q : ProblemParts) (c : CertParts) : Type 0 where
   pub concise : IsConcise q c
   pub few : IsTrue (has_short q) → length (set_pairs c) ≤ untested_limit
 
--- a certificate of pairs under tests; some hypothesis is short, and there are many pairs without tests
+-- a certificate of pairs under tests; some hypothesis is short
 pub record IsTestedAnswer (q : ProblemParts) (c : CertParts) : Type 0 where
   pub concise : IsConciseUnder q c
   pub short : IsTrue (has_short q)
-  pub many : HasManyPairs q
 
 -- the certificate is an answer of the prover
 abbrev pub IsAnswerCert : ProblemParts → CertParts → Type 0

@@ -1,7 +1,8 @@
--- Concise certificates of pairs under tests: all pairs have different sets, and each pair is reached by allowed moves.
+-- Concise certificates of pairs under tests: all pairs have different sets, and each pair is reached by moves that
+-- short hypotheses allow.
 use Rattle.std.specs.Prelude.{◌≡◌, ◌≤◌, ◌<◌, ◌+◌, ◌*◌, ◌^◌, ℕ, List, [], ◌∷◌, ◌++◌, length, IsTrue}
 use Rattle.kat_model.specs.Trees.{Term, acts}
-use Rattle.kat_model.specs.Members.{Has, SameMembers}
+use Rattle.kat_model.specs.Members.{Has, IsSubset, SameMembers}
 use Rattle.kat_model.specs.Steps.{Atom, truth, set_next}
 use Rattle.kat_model.specs.Strings.{Move}
 use Rattle.kat_model.specs.Problems.{ProblemParts}
@@ -50,12 +51,15 @@ abbrev pub AreAllReached : List Term → ℕ → ℕ → List TestedPair → Typ
 AreAllReached shorts tests actions [] = Unit {0}
 AreAllReached shorts tests actions (p ∷ ps) = AreReachedPairs shorts tests actions (p ∷ []) ps
 
--- The certificate is accepted, in the style of tests. Its pairs have different sets and are reached, and their number
--- is bounded. The bound is lower if both sides are guarded and no hypothesis is long.
+-- The certificate is accepted, in the style of tests. Its pairs have different sets, and each is reached along moves
+-- that some list of short hypotheses allows (all short ones, or fewer). Their number is bounded. The bound is lower if
+-- both sides are guarded and no hypothesis is long.
 pub record IsConciseUnder (q : ProblemParts) (c : CertParts) : Type 0 where
   pub accepted : IsAccepted q c
   pub under : c.style ≡ Under
   pub differ : AllDiffer (set_pairs c)
-  pub reached : AreAllReached (short_hyps q) q.tests q.actions (tested_pairs c)
+  pub counted : List Term
+  pub fewer : IsSubset counted (short_hyps q)
+  pub reached : AreAllReached counted q.tests q.actions (tested_pairs c)
   pub bounded : length (set_pairs c) ≤ 2 ^ (acts (closed_long q).left + 1) * 2 ^ (acts (closed_long q).right + 1)
   pub guarded : long_hyps q ≡ [] → IsGuarded q.left → IsGuarded q.right → length (set_pairs c) ≤ (acts q.left + 2) * (acts q.right + 2)

@@ -1,5 +1,5 @@
 -- Finding an atom at which a diagram is true, test by test.
-use Rattle.std.proofs.Common.{◌≡◌, ◌≢◌, ◌<◌, ◌+◌, ℕ, Bool, true, false, nat_eq, [], ◌∷◌, ◌++◌, length, get_or, set, drop, refl, sym, ap, ◌∙◌, arith, append_assoc, append-nil, ◌≤◌}
+use Rattle.std.proofs.Common.{◌≡◌, ◌≢◌, ◌<◌, ◌+◌, ◌⊎◌, inl, inr, ⊎_elim, ℕ, Bool, true, false, not, nat_eq, [], ◌∷◌, ◌++◌, length, get_or, set, drop, refl, sym, ap, ◌∙◌, arith, append_assoc, append-nil, ◌≤◌}
 use Rattle.std.specs.Bool.{IsTrue}
 use Rattle.std.proofs.lemmas.Bool.{true_from_ne_false, false≢true}
 use Rattle.std.proofs.lemmas.List.{set-get_or, drop-set, drop_all}
@@ -10,30 +10,36 @@ use Rattle.test_diagrams.specs.Reduced.{IsReduced}
 use Rattle.test_diagrams.proofs.Apart.{different_apart}
 use Rattle.walk_pairs.specs.Outputs.{one_of, IsSomewhereTrue, IsFirstValue}
 
-module _ (d e : DiagramsParts) (id low never test : ℕ) (tests : e.tests ≡ d.tests) (is_low : IsDiagramOf e low (λ atom. value_of d id (set atom test false))) (is_never : IsDiagramOf e never (λ atom. false)) where
-  -- if the diagram is false everywhere with the test false, it is true somewhere with the test true
-  other_value : low ≡ never → IsSomewhereTrue d id → IsFirstValue d id test true
-  other_value same s = go (get_or s.atom test false) refl
-    where
-      go : (b : Bool) → get_or s.atom test false ≡ b → IsFirstValue d id test true
-      go true own = record { atom = s.atom; fits = s.fits; holds = ap (value_of d id) (ap (set s.atom test) (sym own) ∙ set-get_or s.atom test false) ∙ s.holds }
-      go false own =
-          let wide : IsAtomOf e s.atom = s.fits ∙ sym tests in
-          let there : value_of e low s.atom ≡ true = is_low.value s.atom wide ∙ ap (value_of d id) (ap (set s.atom test) (sym own) ∙ set-get_or s.atom test false) ∙ s.holds in
-          absurd (false≢true (sym (is_never.value s.atom wide) ∙ sym (ap (λ i. value_of e i s.atom) same) ∙ there))
+-- a truth value is the wished one or its negation
+same_or_not : (b wish : Bool) → (b ≡ wish) ⊎ (b ≡ not wish)
+same_or_not true true = inl refl
+same_or_not true false = inr refl
+same_or_not false true = inr refl
+same_or_not false false = inl refl
 
-  this_value : IsReduced e → low ≢ never → IsFirstValue d id test false
+module _ (d e : DiagramsParts) (id part never test : ℕ) (wish : Bool) (tests : e.tests ≡ d.tests) (is_part : IsDiagramOf e part (λ atom. value_of d id (set atom test wish))) (is_never : IsDiagramOf e never (λ atom. false)) where
+  holds_here : (s : IsSomewhereTrue d id) (b : Bool) → get_or s.atom test false ≡ b → IsTrue (value_of d id (set s.atom test b))
+  holds_here s b own = ap (value_of d id) (ap (set s.atom test) (sym own) ∙ set-get_or s.atom test false) ∙ s.holds
+
+  -- if the diagram is false everywhere with the wished value, it is true somewhere with the other
+  pub other_value : part ≡ never → IsSomewhereTrue d id → IsFirstValue d id test (not wish)
+  other_value same s =
+      ⊎_elim
+      (λ own.
+      let wide : IsAtomOf e s.atom = s.fits ∙ sym tests in
+      let there : value_of e part s.atom ≡ true = is_part.value s.atom wide ∙ holds_here s wish own in
+      absurd (false≢true (sym (is_never.value s.atom wide) ∙ sym (ap (λ i. value_of e i s.atom) same) ∙ there)))
+      (λ own. record { atom = s.atom; fits = s.fits; holds = holds_here s (not wish) own })
+      (same_or_not (get_or s.atom test false) wish)
+
+  pub this_value : IsReduced e → part ≢ never → IsFirstValue d id test wish
   this_value r differ =
-      let apart = different_apart e r low never is_low.in_range is_never.in_range differ in
+      let apart = different_apart e r part never is_part.in_range is_never.in_range differ in
       record {
         atom = apart.atom;
         fits = apart.fits ∙ tests;
-        holds = sym (is_low.value apart.atom apart.fits) ∙ true_from_ne_false (value_of e low apart.atom) (λ f. apart.apart (f ∙ sym (is_never.value apart.atom apart.fits)));
+        holds = sym (is_part.value apart.atom apart.fits) ∙ true_from_ne_false (value_of e part apart.atom) (λ f. apart.apart (f ∙ sym (is_never.value apart.atom apart.fits)));
       }
-
-  pub value_found : (b : Bool) → b ≡ nat_eq low never → IsReduced e → IsSomewhereTrue d id → IsFirstValue d id test b
-  value_found true is r s = other_value (grind (arith, is)) s
-  value_found false is r s = this_value r (grind (arith, is))
 
 -- ---- test by test
 

@@ -17,5 +17,5 @@ pub use found::{BothSteps, Difference};
 pub use items::{Ends, Item, Side, ends_of, guard_across, guard_on, items_of};
 pub use needed::add_all;
 pub use order::actions_in_order;
-pub use outputs::{and_not, differing_atom, true_atom};
+pub use outputs::{and_not, difference, differing_atom, true_atom};
 pub use pair::StoredPair;

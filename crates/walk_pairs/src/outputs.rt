@@ -20,8 +20,12 @@ pub fn and_not(diagrams: &mut Diagrams, a: DiagramId, b: DiagramId) -> Result<Di
     diagrams.and(a, not_b)
 }
 
-// Returns the diagram of the exclusive or of `a` and `b`.
-fn difference(diagrams: &mut Diagrams, a: DiagramId, b: DiagramId) -> Result<DiagramId, NoMemory>
+/// Returns the diagram of the exclusive or of `a` and `b`. On failure, extra diagrams may remain.
+pub fn difference(
+    diagrams: &mut Diagrams,
+    a: DiagramId,
+    b: DiagramId,
+) -> Result<DiagramId, NoMemory>
     requires first { IsDiagramId diagrams.old a }
     requires second { IsDiagramId diagrams.old b }
     ensures function { IfOk result (λ id. IsDiagramOf diagrams.new id (λ atom. one_of (value_of diagrams.old a atom) (value_of diagrams.old b atom))) }
@@ -33,23 +37,34 @@ fn difference(diagrams: &mut Diagrams, a: DiagramId, b: DiagramId) -> Result<Dia
     diagrams.or(only_a, only_b)
 }
 
-// Returns a value of the test with which the diagram is true at some atom. The diagram must be true somewhere.
-fn value_for(diagrams: &mut Diagrams, id: DiagramId, test: usize) -> Result<bool, NoMemory>
+// Returns a value of the test with which the diagram is true at some atom, if possible `wish`. The diagram must be true
+// somewhere.
+fn value_for(
+    diagrams: &mut Diagrams,
+    id: DiagramId,
+    test: usize,
+    wish: bool,
+) -> Result<bool, NoMemory>
     requires id { IsDiagramId diagrams.old id }
     requires in_range { test < diagrams.old.tests }
     requires somewhere { IsSomewhereTrue diagrams.old id }
     ensures value { IfOk result (IsFirstValue diagrams.old id test) }
     ensures kept { KeepsFunctions diagrams.old diagrams.new }
 {
-    let low = diagrams.fix(id, test, false)?;
-    Ok(low == diagrams.constant(false))
+    let part = diagrams.fix(id, test, wish)?;
+    if part == diagrams.constant(false) {
+        return Ok(!wish);
+    }
+    Ok(wish)
 }
 
-/// Returns an atom at which the diagram is true. The diagram must be true somewhere.
+/// Returns an atom at which the diagram is true. The diagram must be true somewhere. From the first test on, each has
+/// its value in `like` where possible, and otherwise is false where possible; no clause depends on this.
 pub fn true_atom(
     alloc: Global,
     diagrams: &mut Diagrams,
     id: DiagramId,
+    like: &[bool],
 ) -> Result<Vec<bool>, NoMemory>
     requires id { IsDiagramId diagrams.old id }
     requires somewhere { IsSomewhereTrue diagrams.old id }
@@ -60,7 +75,8 @@ pub fn true_atom(
     let mut rest = id;
     let mut atom = Vec::new(alloc);
     for test in 0..diagrams.tests() {
-        let value = value_for(diagrams, rest, test)?;
+        let wish = like.get(test).copied().unwrap_or(false);
+        let value = value_for(diagrams, rest, test, wish)?;
         rest = diagrams.fix(rest, test, value)?;
         atom.push(value)?;
     }
@@ -82,5 +98,5 @@ pub fn differing_atom(
     ensures kept { KeepsFunctions diagrams.old diagrams.new }
 {
     let apart = difference(diagrams, a, b)?;
-    true_atom(alloc, diagrams, apart)
+    true_atom(alloc, diagrams, apart, &[])
 }

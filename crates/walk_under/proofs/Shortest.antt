@@ -1,6 +1,6 @@
 -- The string of the steps to a pair whose sets accept different atoms refutes the problem, and no shorter string does.
 -- It is built from its end.
-use Rattle.std.proofs.Common.{◌≡◌, ◌≢◌, ◌+◌, ◌<◌, ⊎_elim, ℕ, zero, suc, List, [], ◌∷◌, length, slice_get, Option, Some, None, refl, sym, ap, ◌∙◌, subst, arith}
+use Rattle.std.proofs.Common.{◌≡◌, ◌≢◌, ◌+◌, ◌<◌, ⊎_elim, ℕ, zero, suc, List, [], ◌∷◌, length, slice_get, Some, None, sym, ap, ◌∙◌, subst, arith}
 use Rattle.std.specs.Bool.{IsTrue}
 use Rattle.std.proofs.lemmas.Option.{same_Some}
 use Rattle.kat_model.specs.Trees.{Term}
@@ -13,7 +13,6 @@ use Rattle.kat_model.specs.Degrees.{with_hyps, AreSplit}
 use Rattle.kat_model.specs.AllowedMoves.{IsAllowedAtom, IsAllowedMove, AreAllowed}
 use Rattle.kat_model.proofs.Acceptance.{set_accepts-cons, set_accepts-single, set_accepts_same}
 use Rattle.kat_model.proofs.AllowedStrings.{allowed_first}
-use Rattle.kat_model.proofs.Places.{place_of_member}
 use Rattle.string_tables.specs.Tables.{Refutes}
 use Rattle.certificate.specs.Decisions.{IsShortest}
 use Rattle.walk_under.specs.TestedWalks.{TestedOrigin, TestedEntry, IsRegion, ComesFrom, IsTestedWalk}
@@ -125,25 +124,3 @@ module _ (whole : ProblemParts) (shorts longs : List Term) (split : AreSplit who
           ∙ short_agree shorts (with_hyps whole longs) es done walk last here y.rest y.first 0 (first_entry (with_hyps whole longs) walk.start) walk.first
           (walk.everywhere y.first d.0.first (allowed_first shorts y.first y.rest d.1)) (let n = count in omega arith) d.0.first d.0.rest d.1
           ∙ set_accepts-single (closed (with_hyps whole longs)).right y.first y.rest)
-
-  -- backward steps lead to the first entry
-  pub some_shortest : (bound k : ℕ) (x : GuardedString) (s : IsSuffix shorts (with_hyps whole longs) es last.level k x) (e : TestedEntry) → slice_get es k ≡ Some e → e.level < bound → (y : GuardedString) × IsShortest whole y
-  some_shortest zero k x s e at l = absurd (omega (arith, l))
-  some_shortest (suc bound) k x s e at l =
-      let own : s.entry.level ≡ e.level = ap (λ (y : TestedEntry). y.level) (same_Some s.entry e (sym s.at ∙ at)) in
-      go s.entry.origin refl (λ place y t f here low. some_shortest bound place y t f here (omega (arith, own, low, l)))
-    where
-      go : (o : Option TestedOrigin) → s.entry.origin ≡ o
-          → ((place : ℕ) (y : GuardedString) → IsSuffix shorts (with_hyps whole longs) es last.level place y → (f : TestedEntry) → slice_get es place ≡ Some f → f.level < s.entry.level → (z : GuardedString) × IsShortest whole z)
-          → (y : GuardedString) × IsShortest whole y
-      go None none back = (x, suffix_end k x s none)
-      go (Some o) is back =
-          let c = origin_at shorts (with_hyps whole longs) es done walk k s.entry o s.at is in
-          let source = c.sources x.first s.fits.first s.there in
-          let found = c.region.within source.before source.of_tests source.there in
-          let place = place_of_member es found.entry found.member in
-          let up = c.level in
-          let level = found.level in
-          back place.0 (preceded source.before c.origin.act x)
-          (suffix_step shorts (with_hyps whole longs) es done walk last.level k x s c.origin c.is c.from c.at source.before source.of_tests source.there source.allowed place.0 found.entry place.1 found.sets found.level found.there)
-          found.entry place.1 (omega (arith, up, level))

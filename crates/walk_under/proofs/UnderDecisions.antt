@@ -4,7 +4,7 @@ use Rattle.std.specs.Bool.{IsTrue}
 use Rattle.std.specs.Option.{option_to_list}
 use Rattle.std.proofs.lemmas.List.{length-map}
 use Rattle.kat_model.specs.Trees.{Term, acts}
-use Rattle.kat_model.specs.Members.{Has}
+use Rattle.kat_model.specs.Members.{Has, IsSubset}
 use Rattle.kat_model.specs.Problems.{ProblemParts, IsProblem, IsTestInRange, IsInRange}
 use Rattle.kat_model.specs.Steps.{Atom, truth}
 use Rattle.kat_model.specs.Strings.{GuardedString}
@@ -28,6 +28,7 @@ use Rattle.certificate.specs.Accepted.{set_pairs, ShowsSame, IsAccepted}
 use Rattle.certificate.specs.UnderTests.{AreReachedPairs, AreAllReached, IsConciseUnder}
 use Rattle.certificate.specs.Decisions.{IsShortest}
 use Rattle.hypothesis_kinds.proofs.LongProblems.{long_is_problem}
+use Rattle.hypothesis_kinds.proofs.FewerHypotheses.{fewer_accepted}
 use Rattle.walk_pairs.specs.Needed.{members_of, tests_of_pairs}
 use Rattle.walk_pairs.specs.Numbering.{ArePairsWithin, IsCertOf}
 use Rattle.walk_pairs.specs.StoredPairs.{AreStoredPairs}
@@ -59,12 +60,12 @@ reached_somewhere shorts tests actions before (q ∷ ps) r p h =
     (reached_somewhere shorts tests actions _ ps r.1 p)
     h
 
-module _ (whole : ProblemParts) (problem : IsProblem whole) (start t : NodeParts) (grows : Grows start t) (sound : AreNodes t) (w : TestedWorklist) where
+module _ (whole : ProblemParts) (problem : IsProblem whole) (counted : List Term) (fewer : IsSubset counted (short_hyps whole)) (start t : NodeParts) (grows : Grows start t) (sound : AreNodes t) (w : TestedWorklist) where
   abbrev longs : ProblemParts
   longs = with_hyps whole (long_hyps whole)
 
   abbrev s : WalkContext
-  s = walk_context (short_hyps whole) longs start
+  s = walk_context counted longs start
 
   abbrev ids : List EntryParts
   ids = w.listing.entries.items
@@ -79,21 +80,25 @@ module _ (whole : ProblemParts) (problem : IsProblem whole) (start t : NodeParts
     are_merged : AreMergedPairs longs es pairs
     are_merged = merged s t grows sound w (length ids) u ps m
 
-    ended : IsTestedWalk (short_hyps whole) longs es (length es)
-    ended = subst (IsTestedWalk (short_hyps whole) longs es) (sym (length-map ids (entry_of start w.diagrams))) u.walk
+    ended : IsTestedWalk counted longs es (length es)
+    ended = subst (IsTestedWalk counted longs es) (sym (length-map ids (entry_of start w.diagrams))) u.walk
 
-    accepted : AreAcceptedUnder (short_hyps whole) longs pairs
-    accepted = ended_accepted (short_hyps whole) longs es ended pairs are_merged
+    accepted : AreAcceptedUnder counted longs pairs
+    accepted = ended_accepted counted longs es ended pairs are_merged
 
-    all_reached : AreAllReached (short_hyps whole) whole.tests whole.actions pairs
+    -- so they are accepted if all short hypotheses count
+    all_accepted : AreAcceptedUnder (short_hyps whole) longs pairs
+    all_accepted = fewer_accepted counted (short_hyps whole) fewer longs pairs accepted
+
+    all_reached : AreAllReached counted whole.tests whole.actions pairs
     all_reached = reached s t grows sound w (length ids) u ps m
 
     all_differ : AllDiffer (sets_of pairs)
     all_differ = differ s t grows sound w (length ids) u ps m
 
     few : AreFewPairs longs pairs
-    few = merged_few (short_hyps whole) longs es (length es) ended pairs are_merged all_differ
-        (λ p h. reached_somewhere (short_hyps whole) whole.tests whole.actions _ are_merged.rest (subst (AreAllReached (short_hyps whole) whole.tests whole.actions) are_merged.first all_reached) p h)
+    few = merged_few counted longs es (length es) ended pairs are_merged all_differ
+        (λ p h. reached_somewhere counted whole.tests whole.actions _ are_merged.rest (subst (AreAllReached counted whole.tests whole.actions) are_merged.first all_reached) p h)
 
     pub stored : AreStoredPairs t Under w.diagrams.tests ps
     stored p h =
@@ -107,13 +112,13 @@ module _ (whole : ProblemParts) (problem : IsProblem whole) (start t : NodeParts
       where
         left_range : (e : EntryParts) → Has ids e → (i : ℕ) → Has e.left i → IsInRange whole.tests whole.actions (tree_at t i)
         left_range e h i k =
-            let r = entry_reached (short_hyps whole) longs es (length es) ended (entry_of start w.diagrams e) (map_has (entry_of start w.diagrams) ids e h) in
+            let r = entry_reached counted longs es (length es) ended (entry_of start w.diagrams e) (map_has (entry_of start w.diagrams) ids e h) in
             subst (IsInRange whole.tests whole.actions) (sym (grows.trees i ((u.entries e h).left.there i k).is_id))
             (within_side longs (closed longs).left (tree_at start i) (sides_in_range longs (long_is_problem whole problem)).0 (r.left (tree_at start i) (map_has (tree_at start) e.left i k)))
 
         right_range : (e : EntryParts) → Has ids e → (i : ℕ) → Has e.right i → IsInRange whole.tests whole.actions (tree_at t i)
         right_range e h i k =
-            let r = entry_reached (short_hyps whole) longs es (length es) ended (entry_of start w.diagrams e) (map_has (entry_of start w.diagrams) ids e h) in
+            let r = entry_reached counted longs es (length es) ended (entry_of start w.diagrams e) (map_has (entry_of start w.diagrams) ids e h) in
             subst (IsInRange whole.tests whole.actions) (sym (grows.trees i ((u.entries e h).right.there i k).is_id))
             (within_side longs (closed longs).right (tree_at start i) (sides_in_range longs (long_is_problem whole problem)).1 (r.right (tree_at start i) (map_has (tree_at start) e.right i k)))
 
@@ -140,7 +145,7 @@ module _ (whole : ProblemParts) (problem : IsProblem whole) (start t : NodeParts
       is_accepted = record {
         tests = cert.tests_in_range whole.tests whole.actions within;
         actions = cert.actions_in_range whole.tests whole.actions within;
-        pairs = subst (λ style. ShowsSame style whole c) (sym cert.style_is) (subst (AreAcceptedUnder (short_hyps whole) longs) (sym cert.pairs) accepted);
+        pairs = subst (λ style. ShowsSame style whole c) (sym cert.style_is) (subst (AreAcceptedUnder (short_hyps whole) longs) (sym cert.pairs) all_accepted);
       }
 
       sets_are : set_pairs c ≡ sets_of pairs
@@ -154,7 +159,9 @@ module _ (whole : ProblemParts) (problem : IsProblem whole) (start t : NodeParts
         accepted = is_accepted;
         under = cert.style_is;
         differ = subst AllDiffer (sym sets_are) all_differ;
-        reached = subst (AreAllReached (short_hyps whole) whole.tests whole.actions) (sym cert.pairs) all_reached;
+        counted = counted;
+        fewer = fewer;
+        reached = subst (AreAllReached counted whole.tests whole.actions) (sym cert.pairs) all_reached;
         bounded = subst (λ n. n ≤ 2 ^ (acts (closed longs).left + 1) * 2 ^ (acts (closed longs).right + 1)) (sym count) few.all;
         guarded = λ none left right. subst (λ n. n ≤ (acts whole.left + 2) * (acts whole.right + 2)) (sym count) (guarded_few none left right);
       }
@@ -168,7 +175,7 @@ module _ (whole : ProblemParts) (problem : IsProblem whole) (start t : NodeParts
               (few.guarded (subst IsGuarded (sym left_same) left) (subst IsGuarded (sym right_same) right)))
 
       pub certified : IsDecisionUnder whole (Equal c)
-      certified = (accepted_under_same whole (short_hyps whole) (long_hyps whole) pairs (split_by_degree whole) accepted, is_concise)
+      certified = (accepted_under_same whole (short_hyps whole) (long_hyps whole) pairs (split_by_degree whole) all_accepted, is_concise)
 
 -- the ids of the closed sides, in a grown store
 pub closed_known : (s t : NodeParts) (q : ProblemParts) → IsProblem q → (ids : ClosedIds) → Grows s t → AreNodes t → AreIdsOf s (closed q) ids → AreClosedIds q t ids
@@ -183,6 +190,10 @@ closed_known s t q problem ids grows sound are =
       universal_id = later.universal_id;
       universal = later.universal;
     }
+
+pub closed_later : (s t : NodeParts) (q : ProblemParts) → IsProblem q → (ids : ClosedIds) → Grows s t → AreNodes t → AreClosedIds q s ids → AreClosedIds q t ids
+closed_later s t q problem ids grows sound are =
+    closed_known s t q problem ids grows sound (record { left = are.left; left_id = are.left_id.is_id; right = are.right; right_id = are.right_id.is_id; universal = are.universal; universal_id = are.universal_id })
 
 pub refuted : (whole : ProblemParts) (x : GuardedString) → IsShortest whole x → IsDecisionUnder whole (Different x)
 refuted whole x shortest = (refuted_not_same whole x shortest.refutes, shortest)

@@ -8,3 +8,4 @@ pub mod Listings
 pub mod Walking
 pub mod StoredTests
 pub mod Merging
+pub mod Counting

@@ -82,7 +82,8 @@ impl AllowedMoves {
     }
 
     /// Returns an atom of `region` from which an allowed move by `act` leads to `after`. The contract requires that one
-    /// exists.
+    /// exists. The atom has the values of `after` where possible: a move rarely changes many tests, so fewer hypotheses
+    /// that do not count are broken.
     pub(crate) fn source(
         &self,
         alloc: Global,
@@ -101,6 +102,6 @@ impl AllowedMoves {
         ensures kept { KeepsFunctions diagrams.old diagrams.new }
     {
         let sources = self.actions[act].sources(diagrams, region, after)?;
-        true_atom(alloc, diagrams, sources)
+        true_atom(alloc, diagrams, sources, after)
     }
 }

@@ -1,44 +1,45 @@
-//! Decides a problem by a walk under tests.
-ghost use Rattle.std.specs.Prelude.{◌≡◌, ◌↔◌, ℕ, All, map, length, IfOk, IsTrue};
+//! Decides a problem by walks under tests that count more and more of its short hypotheses.
+ghost use Rattle.std.specs.Prelude.{◌≡◌, ◌↔◌, ◌<◌, ℕ, List, true, false, length, slice_index_or, IfOk, MatchOption, IsTrue};
 ghost use Rattle.kat_model.specs.Members.{Has};
 ghost use Rattle.kat_model.specs.Trees.{Term};
 ghost use Rattle.kat_model.specs.Problems.{IsProblem};
 ghost use Rattle.kat_model.specs.Relations.{Same};
 ghost use Rattle.kat_model.specs.Closed.{closed};
-ghost use Rattle.kat_model.specs.Degrees.{short_hyps, long_hyps, with_hyps};
-ghost use Rattle.term_nodes.specs.NodeLists.{AreNodes};
+ghost use Rattle.kat_model.specs.Degrees.{long_hyps, with_hyps};
+ghost use Rattle.string_tables.specs.Tables.{Refutes};
+ghost use Rattle.certificate.specs.Decisions.{IsShortest, node_terms};
+ghost use Rattle.term_nodes.specs.NodeLists.{NodeParts, AreNodes};
 ghost use Rattle.term_nodes.specs.NodeTrees.{tree_at, HasTree};
 ghost use Rattle.term_nodes.specs.Growth.{Grows};
-ghost use Rattle.partial_derivs.specs.Moves.{IsTermOf};
-ghost use Rattle.certificate.specs.Decisions.{node_terms};
+ghost use Rattle.test_diagrams.specs.Functions.{IsDiagramId};
 ghost use Rattle.walk_pairs.specs.ClosedTerms.{AreIdsOf};
 ghost use Rattle.walk_under.specs.Decisions.{IsDecisionUnder};
-ghost use Rattle.walk_under.specs.Working.Walking.{walk_context, IsUnderWay};
+ghost use Rattle.walk_under.specs.Working.Counting.{uncounted, AreShortHyps, IsCountedList, IsFoundUnder, HasEnded, IsOutcome};
+ghost use Rattle.walk_under.specs.Working.Walking.{walk_context, AreClosedIds, IsUnderWay, IsDifference};
 
-use crate::walk::TestedWorklist;
+use crate::counting::{
+    ShortHyp, broken_by, count_all, count_next, counted_ids, first_counts, has_some, limit_of,
+    short_hyps,
+};
+use crate::smoothing::smoothed;
+use crate::walk::{FoundDifference, FoundString, RunEnd, TestedWorklist};
 use certificate::{Evidence, Style};
 use goal_forms::eliminate;
-use hypothesis_kinds::{is_short, long_problem};
+use hypothesis_kinds::long_problem;
 use kat_model::{NoMemory, Problem};
 use std::alloc::Global;
-use term_store::{Store, TermId};
+use string_tables::{GString, refutes};
+use term_store::Store;
+use test_diagrams::{DiagramId, Diagrams};
 use walk_pairs::{ClosedIds, cert_of, closed_ids};
 
-// Returns the ids of the short hypotheses.
-fn short_ids(alloc: Global, store: &mut Store, problem: &Problem) -> Result<Vec<TermId>, NoMemory>
-    ensures trees { IfOk result (λ v. map (tree_at store.new) v.items ≡ short_hyps problem.now) }
-    ensures terms { IfOk result (λ v. (i : ℕ) → Has v.items i → IsTermOf store.new problem.now.tests i) }
-    ensures kept { Grows store.old store.new }
-{
-    // The proof needs the limits of the problem.
-    let _tests = problem.tests();
-    let mut shorts = Vec::new(alloc);
-    for hyp in problem.hyps() {
-        if is_short(hyp) {
-            shorts.push(store.of_tree(hyp)?)?;
-        }
-    }
-    Ok(shorts)
+/// How the walks of a problem end.
+#[derive(Drop)]
+pub(crate) enum Outcome {
+    /// A walk found no difference.
+    Alike(TestedWorklist),
+    /// The string refutes the problem.
+    Refuted(GString),
 }
 
 // Returns the ids of the closed sides of the problem with only its long hypotheses.
@@ -51,23 +52,173 @@ fn side_ids(alloc: Global, store: &mut Store, problem: &Problem) -> Result<Close
     closed_ids(store, &closed)
 }
 
-// Returns a walk over the store that has listed the pair of the closed sides of the problem with only its long
-// hypotheses.
-fn walk_of(alloc: Global, store: &mut Store, problem: &Problem) -> Result<TestedWorklist, NoMemory>
-    ensures within { IfOk result (λ w. IsProblem problem.now) }
-    ensures under_way { IfOk result (λ w. IsUnderWay (walk_context (short_hyps problem.now) (with_hyps problem.now (long_hyps problem.now)) store.new) w 0) }
-    ensures kept { Grows store.old store.new }
+// Whether the string has as many moves as the other.
+fn has_as_many(string: &GString, other: &GString) -> bool
+    ensures { IsTrue result → length string.now.rest ≡ length other.now.rest }
 {
-    let sides = side_ids(alloc, store, problem)?;
-    let shorts = short_ids(alloc, store, problem)?;
-    // The proof needs the invariants of the store.
-    let _ = store.count();
-    let tests = problem.tests();
-    let actions = problem.actions();
-    TestedWorklist::new(alloc, store, tests, actions, &shorts, &sides)
+    let count = string.rest.as_slice().len();
+    let wanted = other.rest.as_slice().len();
+    count == wanted
 }
 
-// Runs the walk of the problem and returns its evidence.
+// Whether the string refutes the problem and has as many moves as the other.
+fn is_answer(
+    alloc: Global,
+    problem: &Problem,
+    string: &GString,
+    other: &GString,
+) -> Result<bool, NoMemory>
+    ensures count { IfOk result (λ shown. IsTrue shown → length string.now.rest ≡ length other.now.rest) }
+    ensures refutes { IfOk result (λ shown. IsTrue shown → Refutes problem.now string.now) }
+{
+    let alike = has_as_many(string, other);
+    if !alike {
+        return Ok(false);
+    }
+    refutes(alloc, problem, string)
+}
+
+// Judges a string that breaks hypotheses which do not count. Returns a string of as many moves that refutes the problem,
+// if one along the same regions is found; otherwise makes more hypotheses count. The walk is given up then: its later
+// differences are no answers, since the pair of the first may also be reached along allowed moves.
+fn judge(
+    alloc: Global,
+    problem: &Problem,
+    diagrams: &Diagrams,
+    hyps: &[ShortHyp],
+    counts: &mut [bool],
+    found: &FoundString,
+    last: DiagramId,
+    broken: &[usize],
+) -> Result<Option<GString>, NoMemory>
+    requires flags { length counts.old ≡ length hyps.now }
+    requires hyps { (store : NodeParts) × AreShortHyps problem.now store hyps.now }
+    requires found { IsFoundUnder problem.now hyps.now counts.old found.now.string }
+    requires regions { (id : ℕ) → Has found.now.regions.items id → IsDiagramId diagrams.now id }
+    requires last { IsDiagramId diagrams.now last }
+    requires some { 0 < length broken.now }
+    requires broken { (i : ℕ) → Has broken.now i → (i < length counts.old) × (slice_index_or counts.old i true ≡ false) }
+    ensures answer { IfOk result (λ answer. MatchOption answer (uncounted counts.new < uncounted counts.old) (IsShortest problem.now)) }
+    ensures flags { length counts.new ≡ length counts.old }
+{
+    let string = smoothed(alloc, diagrams, hyps, counts, found, last)?;
+    let rest = broken_by(alloc, hyps, counts, &string)?;
+    let places = rest.as_slice();
+    let breaks = has_some(places);
+    if breaks {
+        count_next(alloc, hyps, counts, places)?;
+        return Ok(None);
+    }
+    let shown = is_answer(alloc, problem, &string, &found.string)?;
+    if shown {
+        return Ok(Some(string));
+    }
+    count_next(alloc, hyps, counts, broken)?;
+    Ok(None)
+}
+
+// Returns a string that refutes the problem and has the fewest moves if the difference leads to one; otherwise makes
+// more hypotheses count.
+fn string_of(
+    alloc: Global,
+    problem: &Problem,
+    walk: &mut TestedWorklist,
+    hyps: &[ShortHyp],
+    counts: &mut [bool],
+    found: FoundDifference,
+) -> Result<Option<GString>, NoMemory>
+    requires flags { length counts.old ≡ length hyps.now }
+    requires region { IsDiagramId walk.old.diagrams found.region }
+    requires found { (store : NodeParts) × (counted : List Term) × IsCountedList problem.now hyps.now counts.old counted
+        × IsUnderWay (walk_context counted (with_hyps problem.now (long_hyps problem.now)) store) walk.old found.place
+        × IsDifference (walk_context counted (with_hyps problem.now (long_hyps problem.now)) store) walk.old found.place found.atom.items }
+    requires hyps { (store : NodeParts) × AreShortHyps problem.now store hyps.now }
+    ensures answer { IfOk result (λ answer. MatchOption answer (uncounted counts.new < uncounted counts.old) (IsShortest problem.now)) }
+    ensures flags { length counts.new ≡ length counts.old }
+{
+    let string = walk.string_to(alloc, found.place, found.atom)?;
+    let broken = broken_by(alloc, hyps, counts, &string.string)?;
+    let places = broken.as_slice();
+    let breaks = has_some(places);
+    if !breaks {
+        return Ok(Some(string.string));
+    }
+    let diagrams = walk.diagrams();
+    judge(
+        alloc,
+        problem,
+        diagrams,
+        hyps,
+        counts,
+        &string,
+        found.region,
+        places,
+    )
+}
+
+// Runs a walk that counts these hypotheses. Returns how the walks of the problem end; without a result, makes more
+// hypotheses count.
+fn turn(
+    alloc: Global,
+    store: &mut Store,
+    problem: &Problem,
+    sides: &ClosedIds,
+    hyps: &[ShortHyp],
+    counts: &mut [bool],
+) -> Result<Option<Outcome>, NoMemory>
+    requires flags { length counts.old ≡ length hyps.now }
+    requires hyps { AreShortHyps problem.now store.old hyps.now }
+    requires sides { AreClosedIds (with_hyps problem.now (long_hyps problem.now)) store.old sides.now }
+    ensures outcome { IfOk result (λ outcome. MatchOption outcome (uncounted counts.new < uncounted counts.old) (IsOutcome problem.now store.new)) }
+    ensures flags { length counts.new ≡ length counts.old }
+    ensures kept { Grows store.old store.new }
+{
+    let ids = counted_ids(alloc, hyps, counts)?;
+    let tests = problem.tests();
+    let actions = problem.actions();
+    let mut walk = TestedWorklist::new(alloc, store, tests, actions, &ids, sides)?;
+    let limit = limit_of(counts);
+    let end = walk.run(alloc, store, actions, limit)?;
+    match end {
+        RunEnd::Ended => Ok(Some(Outcome::Alike(walk))),
+        RunEnd::Full => {
+            count_all(counts);
+            Ok(None)
+        }
+        RunEnd::Found(found) => {
+            let answer = string_of(alloc, problem, &mut walk, hyps, counts, found)?;
+            match answer {
+                Some(string) => Ok(Some(Outcome::Refuted(string))),
+                None => Ok(None),
+            }
+        }
+    }
+}
+
+// Runs walks that count more and more short hypotheses, until one finds no difference or finds a string that refutes
+// the problem.
+fn outcome_of(alloc: Global, store: &mut Store, problem: &Problem) -> Result<Outcome, NoMemory>
+    ensures within { IfOk result (λ outcome. IsProblem problem.now) }
+    ensures outcome { IfOk result (IsOutcome problem.now store.new) }
+    ensures kept { Grows store.old store.new }
+{
+    // The proof needs the limits of the problem.
+    let _tests = problem.tests();
+    let sides = side_ids(alloc, store, problem)?;
+    let shorts = short_hyps(alloc, store, problem)?;
+    let hyps = shorts.as_slice();
+    // The proof needs the invariants of the store.
+    let _ = store.count();
+    let mut flags = first_counts(alloc, hyps)?;
+    let counts = flags.as_mut_slice();
+    'walks: loop {
+        if let Some(outcome) = turn(alloc, store, problem, &sides, hyps, counts)? {
+            return Ok(outcome);
+        }
+    }
+}
+
+// Returns the certificate of a walk that found no difference.
 fn evidence_of(
     alloc: Global,
     store: &mut Store,
@@ -75,47 +226,23 @@ fn evidence_of(
     walk: &mut TestedWorklist,
 ) -> Result<Evidence, NoMemory>
     requires within { IsProblem problem.now }
-    requires under_way { IsUnderWay (walk_context (short_hyps problem.now) (with_hyps problem.now (long_hyps problem.now)) store.old) walk.old 0 }
+    requires ended { HasEnded problem.now store.old walk.old }
     ensures decision { IfOk result (IsDecisionUnder problem.now) }
     ensures nodes { IfOk result (λ e. (t : Term) → Has (node_terms e) t → HasTree store.new t) }
     ensures kept { Grows store.old store.new }
 {
-    match walk.run(alloc, store, problem.actions())? {
-        Some(difference) => {
-            let string = walk.string_to(alloc, difference.place, difference.atom)?;
-            Ok(Evidence::Different(string))
-        }
-        None => {
-            let pairs = walk.merge(alloc, store)?;
-            // The proof needs the invariants of the store.
-            let _ = store.count();
-            let cert = cert_of(alloc, store, Style::Under, &pairs)?;
-            Ok(Evidence::Equal(cert))
-        }
-    }
-}
-
-// Runs the walk of the problem. Returns whether it found no difference.
-fn ends_same(
-    alloc: Global,
-    store: &mut Store,
-    problem: &Problem,
-    walk: &mut TestedWorklist,
-) -> Result<bool, NoMemory>
-    requires { IsUnderWay (walk_context (short_hyps problem.now) (with_hyps problem.now (long_hyps problem.now)) store.old) walk.old 0 }
-    ensures same { IfOk result (λ same. IsTrue same ↔ Same problem.now) }
-    ensures kept { Grows store.old store.new }
-{
-    if let Some(_) = walk.run(alloc, store, problem.actions())? {
-        return Ok(false);
-    }
-    Ok(true)
+    let pairs = walk.merge(alloc, store)?;
+    // The proof needs the invariants of the store.
+    let _ = store.count();
+    let cert = cert_of(alloc, store, Style::Under, &pairs)?;
+    Ok(Evidence::Equal(cert))
 }
 
 /// Decides whether both sides of `problem` denote the same relation in each table that satisfies the hypotheses.
 /// Returns evidence: a certificate of pairs under tests, or a string that refutes the problem and has the fewest moves.
-/// Short hypotheses are not eliminated. On success the store has ids of the terms of a certificate's nodes. All older
-/// ids keep their trees. Fails only when out of memory; on failure, extra nodes may remain.
+/// Short hypotheses are not eliminated, and only those count that strings show to matter. On success the store has ids
+/// of the terms of a certificate's nodes. All older ids keep their trees. Fails only when out of memory; on failure,
+/// extra nodes may remain.
 pub fn decide_under(
     alloc: Global,
     store: &mut Store,
@@ -125,17 +252,23 @@ pub fn decide_under(
     ensures nodes { IfOk result (λ e. (t : Term) → Has (node_terms e) t → HasTree store.new t) }
     ensures kept { Grows store.old store.new }
 {
-    let mut walk = walk_of(alloc, store, problem)?;
-    evidence_of(alloc, store, problem, &mut walk)
+    let outcome = outcome_of(alloc, store, problem)?;
+    match outcome {
+        Outcome::Alike(mut walk) => evidence_of(alloc, store, problem, &mut walk),
+        Outcome::Refuted(string) => Ok(Evidence::Different(string)),
+    }
 }
 
 /// Returns whether both sides of `problem` denote the same relation in each table that satisfies the hypotheses, by the
-/// walk of `decide_under`, but without evidence. All older ids keep their trees. Fails only when out of memory; on
+/// walks of `decide_under`, but without a certificate. All older ids keep their trees. Fails only when out of memory; on
 /// failure, extra nodes may remain.
 pub fn is_same_under(alloc: Global, store: &mut Store, problem: &Problem) -> Result<bool, NoMemory>
     ensures same { IfOk result (λ same. IsTrue same ↔ Same problem.now) }
     ensures kept { Grows store.old store.new }
 {
-    let mut walk = walk_of(alloc, store, problem)?;
-    ends_same(alloc, store, problem, &mut walk)
+    let outcome = outcome_of(alloc, store, problem)?;
+    match outcome {
+        Outcome::Alike(_) => Ok(true),
+        Outcome::Refuted(_) => Ok(false),
+    }
 }

@@ -4,6 +4,7 @@
 mod allowed;
 mod asking;
 mod bars;
+mod counting;
 mod deciding;
 mod entry;
 mod laws;
@@ -11,6 +12,7 @@ mod listing;
 mod merging;
 mod parts;
 mod reaching;
+mod smoothing;
 mod test_table;
 mod walk;
 

@@ -32,10 +32,29 @@ pub(crate) struct TargetSets<'a> {
     pub open_right: &'a [TermId],
 }
 
-// Whether `ids` equals `others`.
+// Whether `ids` and `others` have equally many elements and the same last one.
+fn end_alike(ids: &[TermId], others: &[TermId]) -> bool
+    ensures { ids.now ≡ others.now → IsTrue result }
+{
+    let count = ids.len();
+    if count != others.len() {
+        return false;
+    }
+    if count == 0 {
+        return true;
+    }
+    let last = count - 1;
+    ids[last] == others[last]
+}
+
+// Whether `ids` equals `others`. Compares the last elements first, because sets that are listed one after the other
+// often have a common prefix.
 fn are_same(ids: &[TermId], others: &[TermId]) -> bool
     ensures { IsTrue result ↔ (ids.now ≡ others.now) }
 {
+    if !end_alike(ids, others) {
+        return false;
+    }
     ids == others
 }
 

@@ -1,5 +1,5 @@
 //! The walk over pairs under tests.
-ghost use Rattle.std.specs.Prelude.{◌≡◌, ◌<◌, ◌+◌, ◌^◌, ℕ, List, map, length, slice_get, All, Some, MatchOption, IfOk, OnOk, IsTrue};
+ghost use Rattle.std.specs.Prelude.{◌≡◌, ◌<◌, ◌+◌, ◌^◌, ℕ, List, map, length, slice_get, All, Some, MatchOption, IfOk, IfSome, IsSome, OnOk, IsTrue};
 ghost use Rattle.kat_model.specs.Trees.{Term};
 ghost use Rattle.kat_model.specs.Members.{Has};
 ghost use Rattle.kat_model.specs.Problems.{ProblemParts};
@@ -13,7 +13,8 @@ ghost use Rattle.test_diagrams.specs.Functions.{value_of, IsDiagramId, IsAtomOf,
 ghost use Rattle.walk_under.specs.Working.Entries.{EntryParts};
 ghost use Rattle.walk_under.specs.Working.Listings.{IsNextPart, IsLevelAtom, IsPlaceWith};
 ghost use Rattle.walk_under.specs.Working.Merging.{AreMergedIds};
-ghost use Rattle.walk_under.specs.Working.Walking.{WalkContext, walk_context, first_ids, new_ids, AreClosedIds, IsUnderWay, IsAtSource, IsOpenAt, IsVisited, AreNextItems, IsTaking, IsTakenPair, HasStepped, IsDifference, TellApart, AcceptAlike};
+ghost use Rattle.walk_under.specs.Working.Walking.{WalkContext, walk_context, first_ids, new_ids, AreClosedIds, IsUnderWay, IsAtSource, IsOpenAt, IsVisited, AreNextItems, IsTaking, IsTakenPair, HasStepped, IsDifference, TellApart, AcceptAlike, IsRunEnd};
+ghost use Rattle.walk_under.specs.declared.walk.RunEnd.TheVariants.{Full};
 
 use crate::allowed::AllowedMoves;
 use crate::entry::{Entry, StepOrigin};
@@ -28,7 +29,7 @@ use string_tables::{GString, Move};
 use term_store::{Store, TermId};
 use test_diagrams::{DiagramId, Diagrams};
 use walk_pairs::{
-    BothSteps, ClosedIds, Difference, Item, StoredPair, actions_in_order, differing_atom, items_of,
+    BothSteps, ClosedIds, Item, StoredPair, actions_in_order, difference, differing_atom, items_of,
 };
 
 /// The state of a walk: the listed pairs, the allowed moves, and the derivatives of terms with their diagrams.
@@ -56,6 +57,51 @@ pub(crate) struct TakenPair {
     pub place: usize,
     pub level: usize,
     pub test: DiagramId,
+}
+
+/// An atom at which exactly one set of a pair accepts, and the diagram of such atoms.
+#[derive(Drop)]
+pub(crate) struct Distinction {
+    pub atom: Vec<bool>,
+    pub region: DiagramId,
+}
+
+/// The listed pair at `place` whose sets do not accept alike: an atom at which exactly one of them accepts, and the
+/// diagram of such atoms.
+#[derive(Drop)]
+pub(crate) struct FoundDifference {
+    pub place: usize,
+    pub atom: Vec<bool>,
+    pub region: DiagramId,
+}
+
+/// How a run of a walk ends.
+#[derive(Drop)]
+pub(crate) enum RunEnd {
+    /// The pairs are a bisimulation under tests.
+    Ended,
+    /// The sets of a pair do not accept alike.
+    Found(FoundDifference),
+    /// The walk has more pairs than it may have.
+    Full,
+}
+
+/// The string of the steps that lead to a pair, and for each step the atoms from which it leads to its pair, those of
+/// the last step first.
+#[derive(Drop)]
+pub(crate) struct FoundString {
+    pub string: GString,
+    pub regions: Vec<DiagramId>,
+}
+
+// Whether a walk with this number of pairs has more than it may have.
+fn is_full(limit: Option<usize>, count: usize) -> bool
+    ensures { IsTrue result → IsSome limit }
+{
+    match limit {
+        Some(most) => count > most,
+        None => false,
+    }
 }
 
 // Returns the pair of the closed sides, at the atoms of `test`.
@@ -269,11 +315,12 @@ impl TestedWorklist {
         alloc: Global,
         test: DiagramId,
         steps: &BothSteps,
-    ) -> Result<Option<Vec<bool>>, NoMemory>
+    ) -> Result<Option<Distinction>, NoMemory>
         requires test { IsDiagramId self.old.diagrams test }
         requires left { IsDiagramId self.old.diagrams steps.now.left.accepts }
         requires right { IsDiagramId self.old.diagrams steps.now.right.accepts }
-        ensures found { IfOk result (λ found. MatchOption found (AcceptAlike self.old.diagrams test steps.now) (λ atom. TellApart self.old.diagrams test steps.now atom.items)) }
+        ensures found { IfOk result (λ found. MatchOption found (AcceptAlike self.old.diagrams test steps.now) (λ f. TellApart self.old.diagrams test steps.now f.atom.items)) }
+        ensures region { IfOk result (λ found. IfSome found (λ f. IsDiagramId self.new.diagrams f.region)) }
         ensures listing { self.new.listing ≡ self.old.listing }
         ensures moves { self.new.moves ≡ self.old.moves }
         ensures derivatives { self.new.derivatives ≡ self.old.derivatives }
@@ -285,7 +332,9 @@ impl TestedWorklist {
             return Ok(None);
         }
         let atom = differing_atom(alloc, &mut self.diagrams, left, right)?;
-        Ok(Some(atom))
+        let (own, other) = (steps.left.accepts, steps.right.accepts);
+        let region = difference(&mut self.diagrams, own, other)?;
+        Ok(Some(Distinction { atom, region }))
     }
 
     // Lists pairs until, after the allowed moves by each action from the atoms of the pair, its next sets are joined.
@@ -323,47 +372,56 @@ impl TestedWorklist {
         store: &mut Store,
         actions: usize,
         place: usize,
-    ) -> Result<Option<Vec<bool>>, NoMemory>
+    ) -> Result<Option<Distinction>, NoMemory>
         requires under_way { (shorts : List Term) × (q : ProblemParts) × IsUnderWay (walk_context shorts q store.old) self.old place × (actions ≡ q.actions) }
         requires place { place < length self.old.listing.entries.items }
         requires small { place + 1 < 2 ^ 64 }
         ensures taken { IfOk result (λ found. (shorts : List Term) (q : ProblemParts) → actions ≡ q.actions → IsUnderWay (walk_context shorts q store.old) self.old place →
             MatchOption found (IsUnderWay (walk_context shorts q store.new) self.new (place + 1))
-            (λ atom. IsUnderWay (walk_context shorts q store.new) self.new place × IsDifference (walk_context shorts q store.new) self.new place atom.items)) }
+            (λ f. IsUnderWay (walk_context shorts q store.new) self.new place × IsDifference (walk_context shorts q store.new) self.new place f.atom.items)) }
+        ensures region { IfOk result (λ found. IfSome found (λ f. IsDiagramId self.new.diagrams f.region)) }
         ensures kept { Grows store.old store.new }
     {
         let steps = self.steps_at(alloc, store, place)?;
         let test = self.test_at(place);
-        if let Some(atom) = self.difference(alloc, test, &steps)? {
-            return Ok(Some(atom));
+        if let Some(found) = self.difference(alloc, test, &steps)? {
+            return Ok(Some(found));
         }
         let taken_pair = self.taken_pair_at(place)?;
         self.expand(alloc, &taken_pair, actions, &steps)?;
         Ok(None)
     }
 
-    /// Processes the listed pairs in order, including those that are listed meanwhile. Returns the first difference, or
-    /// `None` if the pairs are a bisimulation under tests.
+    /// Processes the listed pairs in order, including those that are listed meanwhile, until the sets of one do not
+    /// accept alike. With a limit, stops if there are more pairs than `limit`.
     pub(crate) fn run(
         &mut self,
         alloc: Global,
         store: &mut Store,
         actions: usize,
-    ) -> Result<Option<Difference>, NoMemory>
+        limit: Option<usize>,
+    ) -> Result<RunEnd, NoMemory>
         requires { (shorts : List Term) × (q : ProblemParts) × IsUnderWay (walk_context shorts q store.old) self.old 0 × (actions ≡ q.actions) }
-        ensures answer { IfOk result (λ found. (shorts : List Term) (q : ProblemParts) → actions ≡ q.actions → IsUnderWay (walk_context shorts q store.old) self.old 0 →
-            MatchOption found (IsUnderWay (walk_context shorts q store.new) self.new (length self.new.listing.entries.items))
-            (λ d. IsUnderWay (walk_context shorts q store.new) self.new d.place × IsDifference (walk_context shorts q store.new) self.new d.place d.atom.items)) }
+        ensures answer { IfOk result (λ end. (shorts : List Term) (q : ProblemParts) → actions ≡ q.actions → IsUnderWay (walk_context shorts q store.old) self.old 0
+            → IsRunEnd (walk_context shorts q store.new) self.new end) }
+        ensures limited { IfOk result (λ end. end ≡ Full → IsSome limit) }
         ensures kept { Grows store.old store.new }
     {
         let mut place = 0;
         while place < self.listing.entries.len() {
-            if let Some(atom) = self.take(alloc, store, actions, place)? {
-                return Ok(Some(Difference { place, atom }));
+            if is_full(limit, self.listing.entries.len()) {
+                return Ok(RunEnd::Full);
+            }
+            if let Some(found) = self.take(alloc, store, actions, place)? {
+                return Ok(RunEnd::Found(FoundDifference {
+                    place,
+                    atom: found.atom,
+                    region: found.region,
+                }));
             }
             place += 1;
         }
-        Ok(None)
+        Ok(RunEnd::Ended)
     }
 
     // Returns the step that led to the pair at `place`, unless it is the first.
@@ -395,14 +453,17 @@ impl TestedWorklist {
         alloc: Global,
         place: usize,
         last: Vec<bool>,
-    ) -> Result<GString, NoMemory>
+    ) -> Result<FoundString, NoMemory>
         requires { (s : WalkContext) × IsUnderWay s self.old place × IsDifference s self.old place last.items }
-        ensures { IfOk result (λ x. (whole : ProblemParts) (shorts longs : List Term) (store : NodeParts) → AreSplit whole.hyps shorts longs
-            → IsUnderWay (walk_context shorts (with_hyps whole longs) store) self.old place → IsDifference (walk_context shorts (with_hyps whole longs) store) self.old place last.items → IsShortest whole x) }
+        ensures shortest { IfOk result (λ f. (whole : ProblemParts) (shorts longs : List Term) (store : NodeParts) → AreSplit whole.hyps shorts longs
+            → IsUnderWay (walk_context shorts (with_hyps whole longs) store) self.old place → IsDifference (walk_context shorts (with_hyps whole longs) store) self.old place last.items → IsShortest whole f.string) }
+        ensures regions { IfOk result (λ f. (id : ℕ) → Has f.regions.items id → IsDiagramId self.new.diagrams id) }
+        ensures kept { OnOk result (KeepsFunctions self.old.diagrams self.new.diagrams) }
     {
         let mut place = place;
         let mut first = last;
         let mut moves = Vec::new(alloc);
+        let mut regions = Vec::new(alloc);
         while let Some(origin) = self.origin_at(place) {
             let after = first.as_slice();
             let before = self.moves.source(
@@ -418,12 +479,21 @@ impl TestedWorklist {
                 atom,
             })?;
             place = self.place_at(origin.place, first.as_slice());
+            regions.push(origin.region)?;
         }
         moves.reverse();
-        Ok(GString {
+        let string = GString {
             first: Items::of(first),
             rest: Items::of(moves),
-        })
+        };
+        Ok(FoundString { string, regions })
+    }
+
+    /// Returns the diagrams of the walk.
+    pub(crate) fn diagrams(&self) -> &Diagrams
+        ensures { result.now ≡ self.now.diagrams }
+    {
+        &self.diagrams
     }
 
     /// Returns the listed pairs, each once, at all atoms at which it was reached. Fails only when out of memory; on

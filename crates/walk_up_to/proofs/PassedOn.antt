@@ -1,8 +1,12 @@
 -- The stop that `?` propagates.
 use Rattle.std.proofs.Common.{◌≡◌, Result, Ok, Err, IsErrAnd, sym, ◌∙◌}
 use Rattle.walk_up_to.specs.declared.stop.EarlyStop.{EarlyStop}
-use Rattle.walk_up_to.specs.declared.stop.EarlyStop.TheVariants.{PairLimit}
+use Rattle.walk_up_to.specs.declared.stop.EarlyStop.TheVariants.{PairLimit, CostLimit}
 
 pub passed_on : {T : Type 0} (r : Result T EarlyStop) (stop : EarlyStop) → IsErrAnd r (λ h. h ≡ stop) → r ≡ Err PairLimit → stop ≡ PairLimit
 passed_on (Ok x) stop same is = absurd same
 passed_on (Err h) stop same is = let other : h ≡ PairLimit = cc in sym same ∙ other
+
+pub passed_cost : {T : Type 0} (r : Result T EarlyStop) (stop : EarlyStop) → IsErrAnd r (λ h. h ≡ stop) → r ≡ Err CostLimit → stop ≡ CostLimit
+passed_cost (Ok v) stop same is = absurd cc
+passed_cost (Err h) stop same is = let other : h ≡ CostLimit = cc in sym same ∙ other

@@ -1,10 +1,10 @@
 //! Lists the pairs of sets that a step of a listed pair by one action leads to, unless they are congruent already.
-ghost use Rattle.std.specs.Prelude.{◌≡◌, ◌++◌, ◌∷◌, [], Some, None, Err, length, replicate, OnOk};
+ghost use Rattle.std.specs.Prelude.{◌≡◌, ◌++◌, ◌∷◌, [], Some, None, Err, length, replicate, IsSome, OnOk};
 ghost use Rattle.test_diagrams.specs.Functions.{KeepsFunctions};
 ghost use Rattle.walk_pairs.specs.Items.{AreItems, targets_under};
 ghost use Rattle.walk_up_to.specs.Working.Cases.{IsCase, AreConstant, least_of};
 ghost use Rattle.walk_up_to.specs.Working.IdWalks.{Visits, PassesLimit};
-ghost use Rattle.walk_up_to.specs.declared.stop.EarlyStop.TheVariants.{PairLimit};
+ghost use Rattle.walk_up_to.specs.declared.stop.EarlyStop.TheVariants.{PairLimit, CostLimit};
 ghost use Rattle.walk_pairs.specs.declared.items.Side.TheVariants.{Left as OnLeft, Right as OnRight};
 
 use crate::cases::{Case, case_with, is_lighter, least_atom};
@@ -95,6 +95,7 @@ fn visit_leaf(
     requires constant { AreConstant diagrams.now case.now.items.items }
     ensures visited { OnOk result (Visits diagrams.now source.now case.now.decided.items case.now.items.items listed.old listed.new) }
     ensures full { result ≡ Err PairLimit → PassesLimit diagrams.now source.now case.now.decided.items case.now.items.items listed.old }
+    ensures limited { result ≡ Err CostLimit → IsSome listed.old.limit }
     ensures limit { listed.new.limit ≡ listed.old.limit }
 {
     let ends = ends_of(diagrams);
@@ -124,12 +125,14 @@ fn visit(
     requires case { IsCase diagrams.old case.now.decided.items case.now.items.items }
     ensures visited { OnOk result (Visits diagrams.old source.now case.now.decided.items case.now.items.items listed.old listed.new) }
     ensures full { result ≡ Err PairLimit → PassesLimit diagrams.old source.now case.now.decided.items case.now.items.items listed.old }
+    ensures limited { result ≡ Err CostLimit → IsSome listed.old.limit }
     ensures limit { listed.new.limit ≡ listed.old.limit }
     ensures kept { KeepsFunctions diagrams.old diagrams.new }
 {
     let Some(test) = next_test(listed.universal(), diagrams, &case.items) else {
         return visit_leaf(alloc, marked, listed, diagrams, source, case);
     };
+    marked.count_case(listed.limit())?;
     let ends = ends_of(diagrams);
     let counts = counts_of(&ends, &case.items);
     if before != Some(counts) {
@@ -149,7 +152,8 @@ fn visit(
 
 /// Lists pairs until, at each atom, the sets to which the step leads are congruent under the listed pairs. Each pair
 /// that is listed consists of two such sets, and is not congruent under the pairs before it. Stops with
-/// `EarlyStop::PairLimit` if it needs more pairs than may be listed.
+/// `EarlyStop::PairLimit` if it needs more pairs than may be listed, and with `EarlyStop::CostLimit` if it costs more
+/// than a limited walk may cost.
 pub(crate) fn visit_all(
     alloc: Global,
     marked: &mut MarkSet,
@@ -161,6 +165,7 @@ pub(crate) fn visit_all(
     requires items { AreItems diagrams.old items.items }
     ensures visited { OnOk result (Visits diagrams.old source.now (replicate diagrams.old.tests None) items.items listed.old listed.new) }
     ensures full { result ≡ Err PairLimit → PassesLimit diagrams.old source.now (replicate diagrams.old.tests None) items.items listed.old }
+    ensures limited { result ≡ Err CostLimit → IsSome listed.old.limit }
     ensures limit { listed.new.limit ≡ listed.old.limit }
     ensures kept { KeepsFunctions diagrams.old diagrams.new }
 {

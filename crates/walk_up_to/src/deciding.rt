@@ -1,5 +1,5 @@
 //! Decides a problem by a walk up to congruence.
-ghost use Rattle.std.specs.Prelude.{◌≡◌, ◌↔◌, ℕ, Err, IfOk, OnOk, OnErr, IsTrue};
+ghost use Rattle.std.specs.Prelude.{◌≡◌, ◌↔◌, ℕ, Err, IfOk, OnOk, OnErr, IsSome, IsTrue};
 ghost use Rattle.kat_model.specs.Trees.{Term};
 ghost use Rattle.kat_model.specs.Members.{Has};
 ghost use Rattle.kat_model.specs.Problems.{IsProblem};
@@ -11,7 +11,7 @@ ghost use Rattle.certificate.specs.Decisions.{node_terms};
 ghost use Rattle.walk_up_to.specs.Decisions.{IsWithinLimit, IsDecisionUpTo, HasPairsPast};
 ghost use Rattle.walk_up_to.specs.StoredSides.{HasSides};
 ghost use Rattle.walk_up_to.specs.Working.Walking.{IsUnderWay};
-ghost use Rattle.walk_up_to.specs.declared.stop.EarlyStop.TheVariants.{PairLimit};
+ghost use Rattle.walk_up_to.specs.declared.stop.EarlyStop.TheVariants.{PairLimit, CostLimit};
 
 use crate::pair::stored_pairs_of;
 use crate::stop::EarlyStop;
@@ -55,7 +55,7 @@ fn walk_of(
     )
 }
 
-// Runs the walk and returns its evidence, unless it needs more pairs than it may list.
+// Runs the walk and returns its evidence, unless it stops at a limit.
 fn evidence_of(
     alloc: Global,
     store: &mut Store,
@@ -67,6 +67,7 @@ fn evidence_of(
     ensures decision { IfOk result (IsDecisionUpTo problem.now walk.old.listed.limit) }
     ensures nodes { IfOk result (λ e. (t : Term) → Has (node_terms e) t → HasTree store.new t) }
     ensures past { result ≡ Err PairLimit → HasPairsPast problem.now walk.old.listed.limit }
+    ensures limited { result ≡ Err CostLimit → IsSome walk.old.listed.limit }
     ensures kept { Grows store.old store.new }
     ensures store { AreNodes store.new }
 {
@@ -86,7 +87,7 @@ fn evidence_of(
     }
 }
 
-// Runs the walk. Returns whether it found no difference, unless it needs more pairs than it may list.
+// Runs the walk. Returns whether it found no difference, unless it stops at a limit.
 fn ends_same(
     alloc: Global,
     store: &mut Store,
@@ -96,6 +97,7 @@ fn ends_same(
     requires { IsUnderWay problem.now store.old walk.old 0 }
     ensures same { IfOk result (λ same. IsTrue same ↔ Same problem.now) }
     ensures past { result ≡ Err PairLimit → HasPairsPast problem.now walk.old.listed.limit }
+    ensures limited { result ≡ Err CostLimit → IsSome walk.old.listed.limit }
     ensures kept { Grows store.old store.new }
 {
     if let Some(_) = walk.run(alloc, store, problem)? {
@@ -107,9 +109,9 @@ fn ends_same(
 /// Decides whether both sides of `problem` denote the same relation in each table that satisfies the hypotheses.
 /// Returns evidence: a certificate whose pairs are a bisimulation up to congruence without redundant pairs (Bonchi and
 /// Pous 2013), at most `limit` if there is a limit, or a string that refutes the problem and has the fewest moves. Fails
-/// with `EarlyStop::PairLimit` only if there are more such pairs than the limit. Unless it runs out of memory, the store
-/// has ids of both closed sides, and then of the terms of a certificate's nodes. All older ids keep their trees; on
-/// failure, extra nodes may remain.
+/// with `EarlyStop::PairLimit` only if there are more such pairs than the limit, and with `EarlyStop::CostLimit` only if
+/// there is a limit. Unless it runs out of memory, the store has ids of both closed sides, and then of the terms of a
+/// certificate's nodes. All older ids keep their trees; on failure, extra nodes may remain.
 pub fn decide_up_to(
     alloc: Global,
     store: &mut Store,
@@ -121,7 +123,9 @@ pub fn decide_up_to(
     ensures nodes { IfOk result (λ e. (t : Term) → Has (node_terms e) t → HasTree store.new t) }
     ensures sides { OnOk result (HasSides store.new problem.now) }
     ensures past { result ≡ Err PairLimit → HasPairsPast problem.now limit }
+    ensures limited { result ≡ Err CostLimit → IsSome limit }
     ensures past_sides { result ≡ Err PairLimit → HasSides store.new problem.now }
+    ensures limited_sides { result ≡ Err CostLimit → HasSides store.new problem.now }
     ensures kept { Grows store.old store.new }
     ensures store { AreNodes store.new }
 {
@@ -131,7 +135,8 @@ pub fn decide_up_to(
 
 /// Returns whether both sides of `problem` denote the same relation in each table that satisfies the hypotheses, by the
 /// walk of `decide_up_to`, but without evidence. Fails with `EarlyStop::PairLimit` only if there are more pairs without a
-/// redundant one than the limit. All older ids keep their trees; on failure, extra nodes may remain.
+/// redundant one than the limit, and with `EarlyStop::CostLimit` only if there is a limit. All older ids keep their
+/// trees; on failure, extra nodes may remain.
 pub fn is_same_up_to(
     alloc: Global,
     store: &mut Store,
@@ -141,6 +146,7 @@ pub fn is_same_up_to(
     requires room { IsWithinLimit limit 1 }
     ensures same { IfOk result (λ same. IsTrue same ↔ Same problem.now) }
     ensures past { result ≡ Err PairLimit → HasPairsPast problem.now limit }
+    ensures limited { result ≡ Err CostLimit → IsSome limit }
     ensures kept { Grows store.old store.new }
 {
     let mut walk = walk_of(alloc, store, problem, limit)?;

@@ -120,6 +120,13 @@ impl ListedPairs {
         self.count
     }
 
+    /// Returns the limit on the number of pairs, if there is one.
+    pub(crate) fn limit(&self) -> Option<usize>
+        ensures { result ≡ self.now.limit }
+    {
+        self.limit
+    }
+
     /// Whether no further pair may be listed.
     pub(crate) fn is_full(&self) -> bool
         ensures { result ≡ is_full' self.now }

@@ -1,21 +1,33 @@
 //! A set of terms: a mark for each id of a store, and the marked terms in the order in which they were marked. One set
 //! is reused for all queries, because allocating the marks for each query would cost more than most queries.
-ghost use Rattle.std.specs.Prelude.{◌≡◌, ◌||◌, [], ℕ, false, true, length, replicate, slice_index_or, slice_set, IfOk, OnOk};
+ghost use Rattle.std.specs.Prelude.{◌≡◌, ◌||◌, [], ℕ, false, true, Err, length, replicate, slice_index_or, slice_set, IfOk, IsSome, OnOk};
+ghost use Rattle.walk_up_to.specs.declared.stop.EarlyStop.TheVariants.{PairLimit, CostLimit};
 ghost use Rattle.walk_up_to.specs.Working.Marks.{are_marked, with_marks, without_marks, with_side_marked, AreAmong, IsMore};
 
 use crate::pair::ListedPair;
+use crate::stop::EarlyStop;
 use kat_model::NoMemory;
 use std::alloc::Global;
 use std::marker::Model;
 use term_store::TermId;
 use walk_pairs::Side;
 
-/// The marks, the marked terms, and for each id the number of queries whose set had its term, as far as counted.
+// The maximal cost of a walk whose number of pairs is limited. Long before a walk lists many pairs, the guards of a
+// single step can make very many cases (`moves`), and with a thousand pairs each case visits some thousand sets
+// (`corners`).
+const COST_LIMIT: usize = 2_000_000;
+
+// The cost of a case that is split. A set that is visited costs 1.
+const CASE_COST: usize = 50;
+
+/// The marks, the marked terms, for each id the number of queries whose set had its term, as far as counted, and the
+/// cost of the walk so far.
 #[derive(Drop)]
 pub(crate) struct MarkSet {
     marks: Vec<bool>,
     terms: Vec<TermId>,
     uses: Vec<usize>,
+    cost: usize,
 }
 
 impl Model for MarkSet {
@@ -78,7 +90,29 @@ impl MarkSet {
             marks: Vec::new(alloc),
             terms: Vec::new(alloc),
             uses: Vec::new(alloc),
+            cost: 0,
         }
+    }
+
+    /// Adds to the cost of the walk. Affects only when a limited walk stops.
+    pub(crate) fn spend(&mut self, cost: usize)
+        ensures { self.new ≡ self.old }
+    {
+        self.cost = self.cost.saturating_add(cost);
+    }
+
+    /// Counts a case that is split. With a limit on the number of pairs, fails with `EarlyStop::CostLimit` if the walk
+    /// has cost as much as a limited walk may cost.
+    pub(crate) fn count_case(&mut self, limit: Option<usize>) -> Result<(), EarlyStop>
+        ensures same { self.new ≡ self.old }
+        ensures limited { result ≡ Err CostLimit → IsSome limit }
+        ensures pairs { result ≡ Err PairLimit → ⊥ }
+    {
+        if limit.is_some() && self.cost >= COST_LIMIT {
+            return Err(EarlyStop::CostLimit);
+        }
+        self.spend(CASE_COST);
+        Ok(())
     }
 
     /// Removes all marks, and sets the number of marks to `count`. One set of marks serves all queries: to make and

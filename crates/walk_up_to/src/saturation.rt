@@ -185,7 +185,7 @@ fn look_back(marked: &mut MarkSet, listed: &ListedPairs, targets: &[TermId]) -> 
 
 // Adds the other set of each pair of which the set may contain one, until the universal term or all targets are
 // reached. Returns whether a term is new; if not, the set is closed.
-fn round(marked: &mut MarkSet, listed: &ListedPairs, targets: &[TermId]) -> Result<bool, NoMemory>
+fn add_all(marked: &mut MarkSet, listed: &ListedPairs, targets: &[TermId]) -> Result<bool, NoMemory>
     ensures made { OnOk result (IsMade listed.now.pairs marked.old.marks marked.new.marks) }
     ensures closed { IfOk result (λ b. b ≡ false → AreClosed listed.now.pairs marked.new.marks) }
     ensures more { IfOk result (IsMore marked.old marked.new) }
@@ -194,6 +194,17 @@ fn round(marked: &mut MarkSet, listed: &ListedPairs, targets: &[TermId]) -> Resu
     let count = marked.terms().len();
     let from_terms = add_under_first(marked, listed, count, targets)?;
     Ok(either(from_apart, from_terms))
+}
+
+// Calls `add_all`, and counts the sets that are indexed under the marked terms as its cost.
+fn round(marked: &mut MarkSet, listed: &ListedPairs, targets: &[TermId]) -> Result<bool, NoMemory>
+    ensures made { OnOk result (IsMade listed.now.pairs marked.old.marks marked.new.marks) }
+    ensures closed { IfOk result (λ b. b ≡ false → AreClosed listed.now.pairs marked.new.marks) }
+    ensures more { IfOk result (IsMore marked.old marked.new) }
+{
+    let cost = load(listed, marked.terms());
+    marked.spend(cost);
+    add_all(marked, listed, targets)
 }
 
 // Whether there is a universal term and it is a member of a pair.

@@ -12,6 +12,8 @@ pub enum EarlyStop {
     NoMemory,
     /// The walk needs more pairs than may be listed.
     PairLimit,
+    /// There is a limit on the number of pairs, and the walk costs more than a limited walk may cost.
+    CostLimit,
 }
 
 impl From<NoMemory> for EarlyStop {

@@ -1,5 +1,5 @@
 //! The walk over the listed pairs, in order.
-ghost use Rattle.std.specs.Prelude.{◌≡◌, ◌≢◌, ◌<◌, ◌+◌, ◌∷◌, [], ℕ, length, IfOk, OnOk, MatchOption, Some, Err, slice_get};
+ghost use Rattle.std.specs.Prelude.{◌≡◌, ◌≢◌, ◌<◌, ◌+◌, ◌∷◌, [], ℕ, length, IfOk, OnOk, MatchOption, Some, Err, IsSome, slice_get};
 ghost use Rattle.kat_model.specs.Problems.{ProblemParts, IsProblem};
 ghost use Rattle.kat_model.specs.Closed.{closed};
 ghost use Rattle.std.specs.Option.{option_map};
@@ -10,7 +10,7 @@ ghost use Rattle.test_diagrams.specs.Functions.{value_of, IsDiagramId, IsAtomOf,
 ghost use Rattle.walk_up_to.specs.Working.Listings.{IdEntry};
 ghost use Rattle.walk_up_to.specs.Decisions.{IsWithinLimit};
 ghost use Rattle.walk_up_to.specs.Working.IdWalks.{IsPastLimit};
-ghost use Rattle.walk_up_to.specs.declared.stop.EarlyStop.TheVariants.{PairLimit};
+ghost use Rattle.walk_up_to.specs.declared.stop.EarlyStop.TheVariants.{PairLimit, CostLimit};
 ghost use Rattle.walk_up_to.specs.Working.Walking.{IsUnderWay, AreStepsAt, HasStepIds, IsExpanded, IsDifference};
 
 use crate::branching::{StepSource, visit_all};
@@ -125,6 +125,7 @@ impl Worklist {
         ensures tests { self.new.diagrams.tests ≡ self.old.diagrams.tests }
         ensures full { result ≡ Err PairLimit → (q : ProblemParts) (store : NodeParts) (e : IdEntry) → actions ≡ q.actions → IsUnderWay q store self.old place
             → slice_get self.old.listed.pairs place ≡ Some e → AreStepsAt store self.old e steps.now → IsPastLimit q self.old.listed.limit }
+        ensures limited { result ≡ Err CostLimit → IsSome self.old.listed.limit }
         ensures limit { self.new.listed.limit ≡ self.old.listed.limit }
     {
         let left = &steps.left.moves;
@@ -182,6 +183,7 @@ impl Worklist {
             MatchOption found (IsUnderWay q store.new self.new (place + 1))
             (λ atom. IsUnderWay q store.new self.new place × IsDifference q store.new self.new place atom.items)) }
         ensures full { result ≡ Err PairLimit → (q : ProblemParts) → actions ≡ q.actions → IsUnderWay q store.old self.old place → IsPastLimit q self.old.listed.limit }
+        ensures limited { result ≡ Err CostLimit → IsSome self.old.listed.limit }
         ensures limit { self.new.listed.limit ≡ self.old.listed.limit }
         ensures kept { Grows store.old store.new }
     {
@@ -195,7 +197,7 @@ impl Worklist {
 
     /// Processes the listed pairs in order, including those that are listed meanwhile. Returns the first difference, or
     /// `None` if the pairs are a bisimulation up to congruence. Stops with `EarlyStop::PairLimit` if it needs more pairs
-    /// than may be listed.
+    /// than may be listed, and with `EarlyStop::CostLimit` if it costs more than a limited walk may cost.
     pub(crate) fn run(
         &mut self,
         alloc: Global,
@@ -207,6 +209,7 @@ impl Worklist {
             MatchOption found (IsUnderWay problem.now store.new self.new (length self.new.listed.pairs))
             (λ d. IsUnderWay problem.now store.new self.new d.place × IsDifference problem.now store.new self.new d.place d.atom.items)) }
         ensures full { result ≡ Err PairLimit → IsPastLimit problem.now self.old.listed.limit }
+        ensures limited { result ≡ Err CostLimit → IsSome self.old.listed.limit }
         ensures limit { self.new.listed.limit ≡ self.old.listed.limit }
         ensures kept { Grows store.old store.new }
     {

@@ -24,6 +24,8 @@ use Rattle.walk_under.specs.declared.parts.Part.{Part}
 use Rattle.walk_under.specs.declared.walk.TestedWorklist.{TestedWorklist}
 use Rattle.walk_under.specs.declared.walk.StepSource.{StepSource}
 use Rattle.walk_under.specs.declared.walk.TakenPair.{TakenPair}
+use Rattle.walk_under.specs.declared.walk.RunEnd.{RunEnd}
+use Rattle.walk_under.specs.declared.walk.RunEnd.TheVariants.{Ended, Found, Full}
 use Rattle.walk_pairs.specs.declared.closed.ClosedIds.{ClosedIds}
 use Rattle.walk_pairs.specs.declared.found.BothSteps.{BothSteps}
 
@@ -159,3 +161,9 @@ pub record AreClosedIds (q : ProblemParts) (store : NodeParts) (sides : ClosedId
   pub right : tree_at store sides.right ≡ (closed q).right
   pub universal_id : (u : ℕ) → sides.universal ≡ Some u → IsTerm store u
   pub universal : option_map (tree_at store) sides.universal ≡ (closed q).universal
+
+-- the end of a run: all pairs are processed, the sets of a pair do not accept alike, or the walk stopped at its limit
+abbrev pub IsRunEnd : WalkContext → TestedWorklist → RunEnd → Type 0
+IsRunEnd s w Ended = IsUnderWay s w (length w.listing.entries.items)
+IsRunEnd s w (Found d) = IsUnderWay s w d.place × IsDifference s w d.place d.atom.items × IsDiagramId w.diagrams d.region
+IsRunEnd s w Full = Unit {0}

@@ -1,8 +1,15 @@
-use Rattle.term_nodes.proofs.Growing.{Grows-trans}
+use Rattle.std.proofs.Common.{refl}
+use Rattle.std.proofs.lemmas.Bool.{false≢true}
+use Rattle.string_tables.proofs.Counterexamples.{refuted_not_same}
+use Rattle.walk_under.proofs.EndedSame.{ended_alike_all}
 use Rattle.walk_under.proofs.deciding.is_same_under.Goals as goal
 
-pub ends_same-requires : goal.ends_same-requires
-ends_same-requires c = c.in_ok-walk.ensures.under_way
+pub returns-in-Alike-clause-same : goal.returns-in-Alike-clause-same
+returns-in-Alike-clause-same c =
+    let ended = rw c.in-Alike.is at c.in_ok-outcome.ensures.outcome in
+    ((λ e. ended_alike_all c.args.problem.now c.outcome_of.new.store _ ended), (λ s. refl))
 
-pub returns-clause-kept : goal.returns-clause-kept
-returns-clause-kept c = Grows-trans _ _ _ c.in_ok-walk.ensures.kept c.ends_same.ensures.kept
+pub returns-clause-same : goal.returns-clause-same
+returns-clause-same c =
+    let shortest = rw c.in-Refuted.is at c.in_ok-outcome.ensures.outcome in
+    ((λ e. absurd (false≢true e)), (λ s. absurd (refuted_not_same c.args.problem.now _ shortest.refutes s)))

@@ -1,10 +1,11 @@
 use Rattle.std.proofs.Common.{◌<◌, true, false, sym, ap, ◌∙◌, subst, arith, Err}
+use Rattle.std.specs.Prelude.{IsSome}
 use Rattle.std.proofs.lemmas.Result.{on_ok_weaker}
 use Rattle.test_diagrams.proofs.Kept.{KeepsFunctions-itself, KeepsFunctions-trans}
 use Rattle.walk_up_to.specs.Working.Cases.{IsNextTest, IsOpen, open_count}
 use Rattle.walk_up_to.specs.Working.Covers.{covers}
 use Rattle.walk_up_to.specs.Working.IdWalks.{Visits}
-use Rattle.walk_up_to.proofs.PassedOn.{passed_on}
+use Rattle.walk_up_to.proofs.PassedOn.{passed_on, passed_cost}
 use Rattle.walk_up_to.proofs.Leaves.{visits_covered}
 use Rattle.walk_up_to.proofs.Splits.{Carries, next_open, case_kept, first_carries, second_carries, visits_both, passes_first, passes_second, fewer_part}
 use Rattle.walk_up_to.proofs.branching.+visit.Goals as goal
@@ -121,3 +122,21 @@ returns-clause-full t c = λ is.
     (subst (Carries c.args.diagrams.now c.args.case.now.items.items c.args.case.now.decided.items c.visit-2.new.diagrams c.in_ok-high.high.items.items) (sym c.in_ok-high.ensures.decided) (second_carries c.args.diagrams.now c.case_with.new.diagrams c.case_with-2.new.diagrams c.visit-2.new.diagrams c.args.case.now.items.items c.in_ok-high.high.items.items c.args.case.now.decided.items c.in-Some.test true c.requires.case.are c.in_ok-low.ensures.kept c.in_ok-high.ensures.items undecided c.in_ok-high.ensures.kept c.in_ok-visit-2.ensures.kept))
     c.in_ok-visit-2.ensures.visited c.visit-2.ensures.limit
     (c.visit-3.ensures.full is)
+
+pub returns-in_err-count_case-clause-full : goal.returns-in_err-count_case-clause-full
+returns-in_err-count_case-clause-full t c = λ is. absurd (c.in_err-count_case.ensures.pairs (ap Err (passed_on c.from_residual.result c.in_err-count_case.field-0.0 c.from_residual.ensures.1 is)))
+
+pub returns-in_err-count_case-clause-limited : goal.returns-in_err-count_case-clause-limited
+returns-in_err-count_case-clause-limited t c = λ is. subst IsSome c.limit.ensures (c.in_err-count_case.ensures.limited (ap Err (passed_cost c.from_residual.result c.in_err-count_case.field-0.0 c.from_residual.ensures.1 is)))
+
+pub returns-in_err-visit-clause-limited : goal.returns-in_err-visit-clause-limited
+returns-in_err-visit-clause-limited t c = λ is. c.in_err-visit.ensures.limited (ap Err (passed_cost c.from_residual-in_err-visit.result c.in_err-visit.field-0.0 c.from_residual-in_err-visit.ensures.1 is))
+
+pub returns-then-is_lighter-clause-limited : goal.returns-then-is_lighter-clause-limited
+returns-then-is_lighter-clause-limited t c = λ is. subst IsSome c.visit.ensures.limit (c.visit-then-is_lighter.ensures.limited is)
+
+pub returns-in_err-visit-2-clause-limited : goal.returns-in_err-visit-2-clause-limited
+returns-in_err-visit-2-clause-limited t c = λ is. c.in_err-visit-2.ensures.limited (ap Err (passed_cost c.from_residual-in_err-visit-2.result c.in_err-visit-2.field-0.0 c.from_residual-in_err-visit-2.ensures.1 is))
+
+pub returns-clause-limited : goal.returns-clause-limited
+returns-clause-limited t c = λ is. subst IsSome c.visit-2.ensures.limit (c.visit-3.ensures.limited is)

@@ -1,4 +1,5 @@
 use Rattle.std.proofs.Common.{subst}
+use Rattle.std.specs.Prelude.{IsSome}
 use Rattle.std.proofs.lemmas.Result.{IfOk-weaker}
 use Rattle.term_nodes.proofs.Growing.{Grows-trans}
 use Rattle.walk_up_to.specs.Decisions.{IsDecisionUpTo, HasPairsPast}
@@ -25,3 +26,9 @@ returns-clause-past_sides c = λ is. sides_later c.args.problem.now c.walk_of.ne
 
 pub returns-clause-kept : goal.returns-clause-kept
 returns-clause-kept c = Grows-trans c.args.store.now c.walk_of.new.store c.evidence_of.new.store c.in_ok-walk.ensures.kept c.evidence_of.ensures.kept
+
+pub returns-clause-limited : goal.returns-clause-limited
+returns-clause-limited c = λ is. subst IsSome c.in_ok-walk.ensures.limit (c.evidence_of.ensures.limited is)
+
+pub returns-clause-limited_sides : goal.returns-clause-limited_sides
+returns-clause-limited_sides c = λ is. sides_later c.args.problem.now c.walk_of.new.store c.evidence_of.new.store c.evidence_of.ensures.kept c.in_ok-walk.ensures.sides

@@ -1,6 +1,6 @@
 use Rattle.std.proofs.Common.{Err, refl, ap}
 use Rattle.std.proofs.lemmas.Bool.{false≢true}
-use Rattle.walk_up_to.proofs.PassedOn.{passed_on}
+use Rattle.walk_up_to.proofs.PassedOn.{passed_on, passed_cost}
 use Rattle.walk_up_to.proofs.PairLimits.{pairs_past}
 use Rattle.walk_up_to.proofs.Decisions.{ended_same, ended_apart}
 use Rattle.walk_up_to.proofs.deciding.ends_same.Goals as goal
@@ -17,3 +17,6 @@ returns-clause-same c =
 
 pub returns-in_err-run-clause-past : goal.returns-in_err-run-clause-past
 returns-in_err-run-clause-past c = λ is. pairs_past c.args.problem.now c.args.walk.now.listed.limit (c.in_err-run.ensures.full (ap Err (passed_on c.from_residual.result c.in_err-run.field-0.0 c.from_residual.ensures.1 is)))
+
+pub returns-in_err-run-clause-limited : goal.returns-in_err-run-clause-limited
+returns-in_err-run-clause-limited c = λ is. c.in_err-run.ensures.limited (ap Err (passed_cost c.from_residual.result c.in_err-run.field-0.0 c.from_residual.ensures.1 is))

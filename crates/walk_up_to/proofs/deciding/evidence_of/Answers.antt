@@ -3,7 +3,7 @@ use Rattle.certificate.specs.declared.nodes.Style.TheVariants.{UpTo}
 use Rattle.walk_up_to.specs.Working.Listings.{AreTraced, untested_of}
 use Rattle.walk_pairs.specs.StoredPairs.{AreStoredPairs}
 use Rattle.walk_pairs.specs.Numbering.{IsCertOf}
-use Rattle.walk_up_to.proofs.PassedOn.{passed_on}
+use Rattle.walk_up_to.proofs.PassedOn.{passed_on, passed_cost}
 use Rattle.walk_up_to.proofs.PairLimits.{pairs_past}
 use Rattle.walk_up_to.proofs.Decisions.{traced, stored, certified, difference_within, refuted}
 use Rattle.walk_up_to.proofs.deciding.evidence_of.Goals as goal
@@ -44,3 +44,6 @@ returns-in_ok-cert-in-None-clause-decision c =
 
 pub returns-in_ok-cert-in-None-clause-nodes : goal.returns-in_ok-cert-in-None-clause-nodes
 returns-in_ok-cert-in-None-clause-nodes c = c.in_ok-cert-in-None.ensures.ids
+
+pub returns-in_err-difference-clause-limited : goal.returns-in_err-difference-clause-limited
+returns-in_err-difference-clause-limited c = λ is. c.in_err-difference.ensures.limited (ap Err (passed_cost c.from_residual.result c.in_err-difference.field-0.0 c.from_residual.ensures.1 is))

@@ -1,11 +1,11 @@
-use Rattle.std.proofs.Common.{◌<◌, length, sym, ap, ◌∙◌, subst}
-use Rattle.kat_model.specs.Members.{Has}
-use Rattle.walk_up_to.specs.Working.Indices.{IndexParts}
-use Rattle.walk_up_to.proofs.Closures.{round_closed}
+use Rattle.std.proofs.Common.{subst}
+use Rattle.std.specs.Prelude.{IfOk, OnOk}
+use Rattle.walk_up_to.specs.Working.Marks.{IsMade, IsMore, MarkSetParts}
 use Rattle.walk_up_to.proofs.saturation.round.Goals as goal
 
-pub returns-clause-closed : goal.returns-clause-closed
-returns-clause-closed c =
-    round_closed c.args.listed.now c.add_sides.new.marked c.add_under_first.new.marked c.in_ok-from_apart.from_apart c.in_ok-from_terms.from_terms c.either.result c.either.ensures c.in_ok-from_terms.ensures.more c.index.ensures.indexed c.terms-count.ensures.among
-    (λ f k h. c.in_ok-from_apart.ensures.closed f k (subst (λ ks. Has ks k) (sym (c.as_slice.ensures ∙ c.apart.ensures ∙ ap (λ (x : IndexParts). x.apart) c.index.ensures.value)) h))
-    (λ f i low. c.in_ok-from_terms.ensures.closed f i (subst (λ n. i < n) (sym (ap length c.terms-count.ensures.value)) low))
+pub returns-clause-made : goal.returns-clause-made
+returns-clause-made c =
+    subst (λ (m : MarkSetParts). OnOk c.add_all.result (IsMade c.args.listed.now.pairs m.marks c.add_all.new.marked.marks)) c.spend.ensures c.add_all.ensures.made
+
+pub returns-clause-more : goal.returns-clause-more
+returns-clause-more c = subst (λ (m : MarkSetParts). IfOk c.add_all.result (IsMore m c.add_all.new.marked)) c.spend.ensures c.add_all.ensures.more

@@ -29,5 +29,12 @@ returns-clause-found c =
     outputs_apart c.args.self.now.diagrams c.and.new.self c.and-2.new.self c.in_ok-left.ensures.kept c.in_ok-right.ensures.kept c.args.test c.in_ok-left.left c.in_ok-right.right c.args.steps.now c.requires.test c.requires.right c.in_ok-left.ensures.function c.in_ok-right.ensures.function
     c.in_ok-atom.atom.items c.in_ok-atom.ensures.fits c.in_ok-atom.ensures.differ
 
+pub difference-requires-clause-first : goal.difference-requires-clause-first
+difference-requires-clause-first c = c.in_ok-atom.ensures.kept.ids c.args.steps.now.left.accepts (c.in_ok-right.ensures.kept.ids c.args.steps.now.left.accepts (c.in_ok-left.ensures.kept.ids c.args.steps.now.left.accepts c.requires.left))
+
+pub difference-requires-clause-second : goal.difference-requires-clause-second
+difference-requires-clause-second c = c.in_ok-atom.ensures.kept.ids c.args.steps.now.right.accepts (c.in_ok-right.ensures.kept.ids c.args.steps.now.right.accepts (c.in_ok-left.ensures.kept.ids c.args.steps.now.right.accepts c.requires.right))
+
 pub returns-clause-kept : goal.returns-clause-kept
-returns-clause-kept c = KeepsFunctions-trans _ _ _ c.in_ok-left.ensures.kept (KeepsFunctions-trans _ _ _ c.in_ok-right.ensures.kept c.in_ok-atom.ensures.kept)
+returns-clause-kept c =
+    KeepsFunctions-trans _ _ _ c.in_ok-left.ensures.kept (KeepsFunctions-trans _ _ _ c.in_ok-right.ensures.kept (KeepsFunctions-trans _ _ _ c.in_ok-atom.ensures.kept c.in_ok-region.ensures.kept))

@@ -16,7 +16,7 @@ loop-place-smaller c =
     let b = c.loop-place.invariant.some in
     let s = walk_context b.0 b.1 c.loop-place.store in
     let t = walk_context b.0 b.1 c.take.new.store in
-    let after : IsUnderWay t c.take.new.self (c.loop-place.place + 1) = rw c.in_default.is at (c.in_ok-atom.ensures.taken b.0 b.1 b.3 b.2) in
+    let after : IsUnderWay t c.take.new.self (c.loop-place.place + 1) = rw c.in_default.is at (c.in_ok-found.ensures.taken b.0 b.1 b.3 b.2) in
     let was = limit_is s c.loop-place.self c.loop-place.place b.2 in
     let now = limit_is t c.take.new.self (c.loop-place.place + 1) after in
     let few = few_entries s c.loop-place.self c.loop-place.place b.2 in
@@ -28,13 +28,15 @@ pub loop-place-preserved : goal.loop-place-preserved
 loop-place-preserved c =
     let b = c.loop-place.invariant.some in
     record {
-      some = (b.0, b.1, rw c.in_default.is at (c.in_ok-atom.ensures.taken b.0 b.1 b.3 b.2), b.3);
-      each = λ shorts q count u. rw c.in_default.is at (c.in_ok-atom.ensures.taken shorts q count (c.loop-place.invariant.each shorts q count u));
-      kept = Grows-trans c.args.store.now c.loop-place.store c.take.new.store c.loop-place.invariant.kept c.in_ok-atom.ensures.kept;
+      some = (b.0, b.1, rw c.in_default.is at (c.in_ok-found.ensures.taken b.0 b.1 b.3 b.2), b.3);
+      each = λ shorts q count u. rw c.in_default.is at (c.in_ok-found.ensures.taken shorts q count (c.loop-place.invariant.each shorts q count u));
+      kept = Grows-trans c.args.store.now c.loop-place.store c.take.new.store c.loop-place.invariant.kept c.in_ok-found.ensures.kept;
     }
 
 pub returns-in-Some-clause-answer : goal.returns-in-Some-clause-answer
-returns-in-Some-clause-answer c shorts q count u = rw c.in-Some.is at (c.in_ok-atom.ensures.taken shorts q count (c.loop-place.invariant.each shorts q count u))
+returns-in-Some-clause-answer c shorts q count u =
+    let found = rw c.in-Some.is at (c.in_ok-found.ensures.taken shorts q count (c.loop-place.invariant.each shorts q count u)) in
+    (found.0, found.1, rw c.in-Some.is at c.in_ok-found.ensures.region)
 
 pub returns-clause-answer : goal.returns-clause-answer
 returns-clause-answer c shorts q count u =

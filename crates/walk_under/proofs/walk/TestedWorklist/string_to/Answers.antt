@@ -1,13 +1,14 @@
-use Rattle.std.proofs.Common.{◌≡◌, ◌<◌, ℕ, Bool, List, [], ◌∷◌, ◌++◌, length, reverse, slice_get, Some, None, refl, sym, ap, ◌∙◌, subst, arith}
+use Rattle.std.proofs.Common.{◌≡◌, ◌<◌, ⊎_elim, ℕ, Bool, List, [], ◌∷◌, ◌++◌, length, reverse, slice_get, Some, None, refl, sym, ap, ◌∙◌, subst, arith}
 use Rattle.std.specs.Bool.{IsTrue}
 use Rattle.kat_model.specs.Members.{Has}
 use Rattle.kat_model.specs.Trees.{Term}
 use Rattle.kat_model.specs.Steps.{Atom}
 use Rattle.kat_model.specs.AllowedMoves.{IsAllowedAtom}
-use Rattle.test_diagrams.specs.Functions.{DiagramsParts, value_of, IsAtomOf, KeepsFunctions}
+use Rattle.test_diagrams.specs.Functions.{DiagramsParts, value_of, IsDiagramId, IsAtomOf, KeepsFunctions}
 use Rattle.kat_model.specs.Strings.{Move, GuardedString}
 use Rattle.kat_model.specs.Degrees.{with_hyps}
 use Rattle.kat_model.proofs.Places.{element_at, has_at}
+use Rattle.kat_model.proofs.Lists.{has_pushed}
 use Rattle.certificate.specs.Decisions.{IsShortest}
 use Rattle.test_diagrams.proofs.Kept.{KeepsFunctions-itself, KeepsFunctions-trans}
 use Rattle.walk_under.specs.declared.entry.StepOrigin.{StepOrigin}
@@ -35,6 +36,7 @@ loop-origin-init c =
       kept = KeepsFunctions-itself w.diagrams;
       listing = refl;
       same = refl;
+      regions = λ id h. absurd (subst (λ l. Has l id) c.new-regions.ensures.items h);
       some = (r.0, r.2.from.level, r.1, subst (IsSoFar r.0 w r.2.from.level c.args.place c.args.last.items) (sym c.new-moves.ensures.items) (so_far_start r.0 w c.args.place c.args.last.items r.1 r.2));
       each = λ s u d. subst (IsSoFar s w d.from.level c.args.place c.args.last.items) (sym c.new-moves.ensures.items) (so_far_start s w c.args.place c.args.last.items u d);
     }
@@ -271,16 +273,22 @@ loop-origin-preserved c =
     let was : c.of-atom.result ≡ first = c.of-atom.ensures ∙ ap (λ x. x.items) c.replace.ensures.value in
     let moves_are : c.push.new.self.items ≡ moves ++ record { act = o.act; atom = first } ∷ [] = c.in_ok-push.ensures.items ∙ ap (λ (a : List Bool). moves ++ record { act = o.act; atom = a } ∷ []) was in
     let placed = placed_by w v d o.place c.place_at-place.result c.as_slice.result.now c.replace.new.dest.items c.as_slice.ensures.value b.listing c.place_at-place.ensures in
+    let region : IsDiagramId d o.region = later.ids o.region (origin_region s w c.args.place f.2 f.1 k first moves f.3 e.0 e.1 o is) in
     record {
       kept = later;
       listing = b.listing;
       same = b.same;
+      regions = λ id h.
+          ⊎_elim
+          (λ old. c.in_ok-before.ensures.kept.ids id (b.regions id old))
+          (λ last. subst (IsDiagramId d) last region)
+          (has_pushed c.loop-origin.regions.items o.region id (subst (λ l. Has l id) c.in_ok-push-2.ensures.items h));
       some = (s, f.1, f.2, go_on s w v c.args.place f.1 k b.kept b.same f.2 first moves f.3 e.0 e.1 o is before found d later c.replace.new.dest.items first_is c.place_at-place.result placed c.push.new.self.items moves_are);
       each = λ z u x. go_on z w v c.args.place x.from.level k b.kept b.same u first moves (b.each z u x) e.0 e.1 o is before found d later c.replace.new.dest.items first_is c.place_at-place.result placed c.push.new.self.items moves_are;
     }
 
-pub returns : goal.returns
-returns c whole shorts longs store split u d =
+pub returns-clause-shortest : goal.returns-clause-shortest
+returns-clause-shortest c whole shorts longs store split u d =
     let w : TestedWorklist = c.args.self.now in
     let b = c.loop-origin.invariant in
     let k = c.loop-origin.place in
@@ -293,3 +301,9 @@ returns c whole shorts longs store split u d =
     let rest : c.of-2.result ≡ reverse moves = c.of-2.ensures ∙ c.reverse.ensures.items in
     let same : as_string c.of.result c.of-2.result ≡ string_of first moves = ap (λ a. as_string a c.of-2.result) c.of.ensures ∙ ap (as_string first) rest in
     subst (IsShortest whole) (sym same) (so_far_shortest whole shorts longs split store w c.args.place u d.from d.at k first moves f e.0 e.1 none)
+
+pub returns-clause-regions : goal.returns-clause-regions
+returns-clause-regions c id h = c.loop-origin.invariant.regions id h
+
+pub returns-clause-kept : goal.returns-clause-kept
+returns-clause-kept c = c.loop-origin.invariant.kept

@@ -40,23 +40,26 @@ returns-in-Some-clause-taken c shorts q count u =
     let s : WalkContext = walk_context shorts q c.steps_at.new.store in
     let w : TestedWorklist = c.steps_at.new.self in
     let x : TestedWorklist = c.difference.new.self in
-    let d = c.in_ok-atom.ensures in
+    let d = c.in_ok-found.ensures in
     let t = c.in_ok-steps.ensures.steps shorts q e.0 u e.1 in
     let found = rw c.in-Some.is at d.found in (
       (taking_later s w x c.args.place e.0 c.in_ok-steps.steps d.kept t d.listing d.moves d.derivatives).under_way,
-      is_difference s w x c.args.place e.0 c.in_ok-steps.steps c.test_at-test.result c.in-Some.atom.items d.kept d.listing t (c.test_at-test.ensures e.0 t.at) found,
+      is_difference s w x c.args.place e.0 c.in_ok-steps.steps c.test_at-test.result c.in-Some.found.atom.items d.kept d.listing t (c.test_at-test.ensures e.0 t.at) found,
     )
+
+pub returns-in-Some-clause-region : goal.returns-in-Some-clause-region
+returns-in-Some-clause-region c = rw c.in-Some.is at c.in_ok-found.ensures.region
 
 pub taken_pair_at-requires-clause-place : goal.taken_pair_at-requires-clause-place
 taken_pair_at-requires-clause-place c =
-    subst (λ (l : List EntryParts). c.args.place < length l) (sym (ap (λ (l : Listing). l.entries.items) c.in_ok-atom.ensures.listing ∙ c.in_ok-steps.ensures.entries)) c.requires.place
+    subst (λ (l : List EntryParts). c.args.place < length l) (sym (ap (λ (l : Listing). l.entries.items) c.in_ok-found.ensures.listing ∙ c.in_ok-steps.ensures.entries)) c.requires.place
 
 pub taken_pair_at-requires-clause-tests : goal.taken_pair_at-requires-clause-tests
 taken_pair_at-requires-clause-tests c f h =
     let u = c.requires.under_way in
     let e = element_at c.args.self.now.listing.entries.items c.args.place c.requires.place in
     let s : WalkContext = walk_context u.0 u.1 c.steps_at.new.store in
-    let d = c.in_ok-atom.ensures in
+    let d = c.in_ok-found.ensures in
     let t = c.in_ok-steps.ensures.steps u.0 u.1 e.0 u.2 e.1 in
     ((taking_later s c.steps_at.new.self c.difference.new.self c.args.place e.0 c.in_ok-steps.steps d.kept t d.listing d.moves d.derivatives).under_way.entries f h).test
 
@@ -65,7 +68,7 @@ expand-requires-clause-level c =
     let u = c.requires.under_way in
     let e = element_at c.args.self.now.listing.entries.items c.args.place c.requires.place in
     let s : WalkContext = walk_context u.0 u.1 c.steps_at.new.store in
-    let d = c.in_ok-atom.ensures in
+    let d = c.in_ok-found.ensures in
     let t = c.in_ok-steps.ensures.steps u.0 u.1 e.0 u.2 e.1 in
     let later = taking_later s c.steps_at.new.self c.difference.new.self c.args.place e.0 c.in_ok-steps.steps d.kept t d.listing d.moves d.derivatives in
     let level : e.0.level ≤ c.args.place = level_within (walk_context u.0 u.1 c.args.store.now) c.args.self.now c.args.place e.0 u.2 e.1 in
@@ -80,7 +83,7 @@ expand-requires-clause-taking c =
     let s : WalkContext = walk_context u.0 u.1 c.steps_at.new.store in
     let x : TestedWorklist = c.difference.new.self in
     let y : TestedWorklist = c.taken_pair_at.new.self in
-    let d = c.in_ok-atom.ensures in
+    let d = c.in_ok-found.ensures in
     let r = c.in_ok-taken_pair.ensures in
     let t = c.in_ok-steps.ensures.steps u.0 u.1 e.0 u.2 e.1 in
     let later = taking_later s c.steps_at.new.self x c.args.place e.0 c.in_ok-steps.steps d.kept t d.listing d.moves d.derivatives in (
@@ -102,7 +105,7 @@ returns-clause-taken c shorts q count u =
     let steps = c.in_ok-steps.steps in
     let taken_pair = c.in_ok-taken_pair.taken_pair in
     let test = c.test_at-test.result in
-    let d = c.in_ok-atom.ensures in
+    let d = c.in_ok-found.ensures in
     let r = c.in_ok-taken_pair.ensures in
     let t = c.in_ok-steps.ensures.steps shorts q e.0 u e.1 in
     let same : test ≡ e.0.test = c.test_at-test.ensures e.0 t.at in

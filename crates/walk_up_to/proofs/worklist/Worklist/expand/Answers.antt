@@ -1,11 +1,12 @@
 use Rattle.std.proofs.Common.{◌<◌, ◌≤◌, ℕ, length, take, get_or, refl, sym, ◌∙◌, subst, Err, ap}
+use Rattle.std.specs.Prelude.{IsSome}
 use Rattle.std.proofs.lemmas.List.{take_more, take_all}
 use Rattle.std.proofs.lemmas.Option.{slice_get-get_or}
 use Rattle.kat_model.specs.Members.{Has}
 use Rattle.kat_model.proofs.Places.{has_at}
 use Rattle.test_diagrams.proofs.Kept.{KeepsFunctions-trans}
 use Rattle.walk_pairs.specs.Items.{AreItemsOf, AreLedTo}
-use Rattle.walk_up_to.proofs.PassedOn.{passed_on}
+use Rattle.walk_up_to.proofs.PassedOn.{passed_on, passed_cost}
 use Rattle.walk_up_to.proofs.Expanding.{StepsBy, steps_more, steps_pass, steps_all}
 use Rattle.walk_up_to.proofs.worklist.Worklist.expand.Goals as goal
 
@@ -55,3 +56,7 @@ returns-clause-expanded c =
     let past : length acts ≤ i = c.loop-act-test.false in
     let all : (a : ℕ) → a < c.args.actions → Has (take i acts) a = λ a l. subst (λ xs. Has xs a) (sym (take_all i acts past)) (subst (λ xs. Has xs a) (sym c.deref-act-items.ensures.value) ((c.in_ok-actions_in_order.ensures a).1 l)) in
     steps_all c.args.actions c.args.self.now c.args.place c.args.steps.now (take i acts) c.loop-act.self before.kept before.same all before.stepped
+
+pub returns-in_err-visit_all-clause-limited : goal.returns-in_err-visit_all-clause-limited
+returns-in_err-visit_all-clause-limited c = λ is.
+    subst IsSome c.loop-act.invariant.limit (c.in_err-visit_all.ensures.limited (ap Err (passed_cost c.from_residual-in_err-visit_all.result c.in_err-visit_all.field-0.0 c.from_residual-in_err-visit_all.ensures.1 is)))

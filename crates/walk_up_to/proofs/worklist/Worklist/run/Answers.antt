@@ -1,9 +1,10 @@
 use Rattle.std.proofs.Common.{◌≤◌, ◌<◌, ◌∙◌, length, Err, ap, subst}
+use Rattle.std.specs.Prelude.{IsSome}
 use borrow.Author.Count.{falls}
 use Rattle.term_nodes.proofs.Growing.{Grows-trans}
 use Rattle.walk_up_to.specs.Working.IdWalks.{IsPastLimit}
 use Rattle.certificate.specs.Decisions.{pair_limit}
-use Rattle.walk_up_to.proofs.PassedOn.{passed_on}
+use Rattle.walk_up_to.proofs.PassedOn.{passed_on, passed_cost}
 use Rattle.walk_up_to.proofs.UnderWay.{place_limit, all_taken}
 use Rattle.walk_up_to.proofs.worklist.Worklist.run.Goals as goal
 
@@ -45,3 +46,7 @@ returns-in-Some-clause-kept c = Grows-trans c.args.store.now c.loop-place.store 
 
 pub returns-in_err-atom-clause-kept : goal.returns-in_err-atom-clause-kept
 returns-in_err-atom-clause-kept c = Grows-trans c.args.store.now c.loop-place.store c.take.new.store c.loop-place.invariant.kept c.in_err-atom.ensures.kept
+
+pub returns-in_err-atom-clause-limited : goal.returns-in_err-atom-clause-limited
+returns-in_err-atom-clause-limited c = λ is.
+    subst IsSome c.loop-place.invariant.limit (c.in_err-atom.ensures.limited (ap Err (passed_cost c.from_residual.result c.in_err-atom.field-0.0 c.from_residual.ensures.1 is)))

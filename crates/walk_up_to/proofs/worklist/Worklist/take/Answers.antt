@@ -1,8 +1,9 @@
 use Rattle.std.proofs.Common.{◌≡◌, slice_get, Some, ap, ◌∙◌, subst, Err}
+use Rattle.std.specs.Prelude.{IsSome}
 use Rattle.walk_up_to.specs.Working.Marks.{ListedPairsParts}
 use Rattle.walk_up_to.specs.Working.IdWalks.{IsPastLimit}
 use Rattle.kat_model.proofs.Places.{element_at}
-use Rattle.walk_up_to.proofs.PassedOn.{passed_on}
+use Rattle.walk_up_to.proofs.PassedOn.{passed_on, passed_cost}
 use Rattle.walk_up_to.proofs.UnderWay.{under_way_more, step_ids_more, steps_at_more, alike, apart, taken}
 use Rattle.walk_up_to.proofs.worklist.Worklist.take.Goals as goal
 
@@ -65,3 +66,8 @@ returns-in_err-expand-clause-full c = λ is q acts under_way.
     (under_way_more q c.steps_at.new.store c.args.place c.steps_at.new.self c.difference.new.self c.in_ok-atom.ensures.kept c.in_ok-atom.ensures.listed c.in_ok-atom.ensures.derivatives stepped.0)
     here
     (steps_at_more c.steps_at.new.store c.steps_at.new.self c.difference.new.self c.in_ok-atom.ensures.kept c.in_ok-steps.steps e.0 stepped.1))
+
+pub returns-in_err-expand-clause-limited : goal.returns-in_err-expand-clause-limited
+returns-in_err-expand-clause-limited c = λ is.
+    let limit : c.difference.new.self.listed.limit ≡ c.args.self.now.listed.limit = ap (λ (r : ListedPairsParts). r.limit) c.in_ok-atom.ensures.listed ∙ c.in_ok-steps.ensures.limit in
+    subst IsSome limit (c.in_err-expand.ensures.limited (ap Err (passed_cost c.from_residual-in_err-expand.result c.in_err-expand.field-0.0 c.from_residual-in_err-expand.ensures.1 is)))

@@ -1,0 +1,5 @@
+use Rattle.walk_under.proofs.Uncounted.{set_no_more}
+use Rattle.walk_under.proofs.counting.count_if.Goals as goal
+
+pub returns-clause-fewer : goal.returns-clause-fewer
+returns-clause-fewer c = set_no_more c.args.counts.now c.args.place

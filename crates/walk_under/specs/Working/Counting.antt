@@ -1,0 +1,65 @@
+-- The short hypotheses of a problem as the program stores them, and those that count in a walk.
+use Rattle.std.specs.Prelude.{◌≡◌, ◌<◌, ℕ, suc, Bool, true, false, List, [], ◌∷◌, ◌++◌, map, length, slice_get, slice_index_or, Some, IsTrue}
+use Rattle.kat_model.specs.Trees.{Term, kat_tree}
+use Rattle.kat_model.specs.Members.{Has, IsSubset}
+use Rattle.kat_model.specs.Problems.{ProblemParts}
+use Rattle.kat_model.specs.Strings.{GuardedString}
+use Rattle.kat_model.specs.Degrees.{short_hyps, long_hyps, with_hyps}
+use Rattle.term_nodes.specs.NodeLists.{NodeParts}
+use Rattle.term_nodes.specs.NodeTrees.{tree_at}
+use Rattle.partial_derivs.specs.Moves.{IsTermOf}
+use Rattle.hypothesis_kinds.specs.Broken.{IsBrokenBy}
+use Rattle.certificate.specs.Decisions.{IsShortest}
+use Rattle.walk_under.specs.Working.Walking.{walk_context, IsUnderWay}
+use Rattle.walk_under.specs.declared.counting.ShortHyp.{ShortHyp}
+use Rattle.walk_under.specs.declared.deciding.Outcome.{Outcome}
+use Rattle.walk_under.specs.declared.deciding.Outcome.TheVariants.{Alike, Refuted}
+use Rattle.walk_under.specs.declared.walk.TestedWorklist.{TestedWorklist}
+
+-- the hypotheses are the short ones of the problem in their order, with their ids
+pub record AreShortHyps (q : ProblemParts) (store : NodeParts) (hyps : List ShortHyp) : Type 0 where
+  pub trees : map (λ (h : ShortHyp). kat_tree h.hyp) hyps ≡ short_hyps q
+  pub terms : (h : ShortHyp) → Has hyps h → IsTermOf store q.tests h.term × (tree_at store h.term ≡ kat_tree h.hyp)
+
+-- the ids are those of hypotheses, and each hypothesis that counts is among them
+pub record AreCounted (hyps : List ShortHyp) (counts : List Bool) (ids : List ℕ) : Type 0 where
+  pub there : (i : ℕ) (h : ShortHyp) → slice_get hyps i ≡ Some h → IsTrue (slice_index_or counts i false) → Has ids h.term
+  pub back : (k : ℕ) → Has ids k → (h : ShortHyp) × Has hyps h × (h.term ≡ k)
+
+-- the places of the hypotheses that do not count and that the string breaks
+pub record AreBroken (hyps : List ShortHyp) (counts : List Bool) (x : GuardedString) (places : List ℕ) : Type 0 where
+  pub there : (i : ℕ) (h : ShortHyp) → slice_get hyps i ≡ Some h → slice_index_or counts i false ≡ false → IsBrokenBy (kat_tree h.hyp) x.first x.rest → Has places i
+  pub back : (i : ℕ) → Has places i → (i < length counts) × (slice_index_or counts i true ≡ false)
+  pub each : (i : ℕ) (h : ShortHyp) → Has places i → slice_get hyps i ≡ Some h → IsBrokenBy (kat_tree h.hyp) x.first x.rest
+
+-- the number of hypotheses that do not count
+abbrev pub uncounted : List Bool → ℕ
+uncounted [] = 0
+uncounted (true ∷ bs) = uncounted bs
+uncounted (false ∷ bs) = suc (uncounted bs)
+
+-- the problem with these short hypotheses and all long ones
+abbrev pub with_counted : ProblemParts → List Term → ProblemParts
+with_counted q counted = with_hyps q (counted ++ long_hyps q)
+
+-- The terms are short hypotheses of the problem, and each hypothesis that counts is among them.
+pub record IsCountedList (q : ProblemParts) (hyps : List ShortHyp) (counts : List Bool) (counted : List Term) : Type 0 where
+  pub fewer : IsSubset counted (short_hyps q)
+  pub there : (i : ℕ) (h : ShortHyp) → slice_get hyps i ≡ Some h → IsTrue (slice_index_or counts i false) → Has counted (kat_tree h.hyp)
+
+-- the string is a shortest one of the problem with the short hypotheses that count
+pub record IsFoundUnder (q : ProblemParts) (hyps : List ShortHyp) (counts : List Bool) (x : GuardedString) : Type 0 where
+  pub counted : List Term
+  pub list : IsCountedList q hyps counts counted
+  pub shortest : IsShortest (with_counted q counted) x
+
+-- a walk under short hypotheses of the problem has processed all its pairs
+pub record HasEnded (q : ProblemParts) (store : NodeParts) (w : TestedWorklist) : Type 0 where
+  pub counted : List Term
+  pub fewer : IsSubset counted (short_hyps q)
+  pub under_way : IsUnderWay (walk_context counted (with_hyps q (long_hyps q)) store) w (length w.listing.entries.items)
+
+-- a walk has ended, or a string is a shortest one that refutes the problem
+abbrev pub IsOutcome : ProblemParts → NodeParts → Outcome → Type 0
+IsOutcome q store (Alike w) = HasEnded q store w
+IsOutcome q store (Refuted x) = IsShortest q x
