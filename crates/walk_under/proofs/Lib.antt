@@ -19,6 +19,7 @@ pub mod PartCases
 pub mod JoinedAt
 pub mod FreshParts
 pub mod LevelAtoms
+pub mod Filing
 pub mod Standing
 pub mod Visiting
 pub mod Taking

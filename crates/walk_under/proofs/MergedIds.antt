@@ -16,7 +16,7 @@ use Rattle.certificate.specs.PairParts.{PairParts}
 use Rattle.test_diagrams.specs.Functions.{DiagramsParts, value_of, IsDiagramId, IsAtomOf, IsDiagramOf, KeepsFunctions}
 use Rattle.walk_under.specs.Working.Entries.{EntryParts}
 use Rattle.walk_under.specs.Working.StoredTests.{IsTestFor}
-use Rattle.walk_under.specs.Working.Merging.{IsReachedThere, AreAtomsOf, IsMergedPair, HasPairOf, IsFirst, AreFirst}
+use Rattle.walk_under.specs.Working.Merging.{IsReachedThere, AreAtomsOf, IsMergedPair, HasPairOf, HasEarlierAlike, IsFirst, AreFirst}
 
 -- ---- the atoms of two sets
 
@@ -143,3 +143,27 @@ each_more P ps p each own q h = ⊎_elim (each q) (λ m. ⊎_elim (λ s. subst P
 
 pub covered_all : (es : List EntryParts) (ps : List PairParts) → ((k : ℕ) (e : EntryParts) → slice_get es k ≡ Some e → HasPairOf ps e) → (e : EntryParts) → Has es e → HasPairOf ps e
 covered_all es ps all e h = let k = place_of_member es e h in all k.0 e k.1
+
+-- ---- entries with the same sets
+
+-- the pairs have sets of entries before place i
+abbrev pub AreEarly : List EntryParts → List PairParts → ℕ → Type 0
+AreEarly es ps i = (p : PairParts) → Has ps p → (k : ℕ) × (e : EntryParts) × (k < i) × (slice_get es k ≡ Some e) × (e.left ≡ p.left) × (e.right ≡ p.right)
+
+pub early_later : (es : List EntryParts) (ps : List PairParts) (i : ℕ) → AreEarly es ps i → AreEarly es ps (i + 1)
+early_later es ps i early p h = let r = early p h in let lt = r.2 in (r.0, r.1, omega (arith, lt), r.3, r.4, r.5)
+
+pub early_more : (es : List EntryParts) (ps : List PairParts) (i : ℕ) (e : EntryParts) (p : PairParts) → slice_get es i ≡ Some e → p.left ≡ e.left → p.right ≡ e.right → AreEarly es ps i → AreEarly es (ps ++ p ∷ []) (i + 1)
+early_more es ps i e p at left right early =
+    each_more (λ (q : PairParts). (k : ℕ) × (f : EntryParts) × (k < i + 1) × (slice_get es k ≡ Some f) × (f.left ≡ q.left) × (f.right ≡ q.right)) ps p
+    (early_later es ps i early) (i, e, omega arith, at, sym left, sym right)
+
+pub no_pair : (es : List EntryParts) (ps : List PairParts) (i : ℕ) (e : EntryParts) → AreEarly es ps i → (HasEarlierAlike es i e → ⊥) → HasPairOf ps e → ⊥
+no_pair es ps i e early none h =
+    let r = early h.pair h.member in
+    none (r.0, record { before = r.2; entry = r.1; at = r.3; left_is = r.4 ∙ sym h.left_is; right_is = r.5 ∙ sym h.right_is })
+
+pub pair_of_earlier : (es : List EntryParts) (ps : List PairParts) (i : ℕ) (e : EntryParts) → AreCovered es ps i → HasEarlierAlike es i e → HasPairOf ps e
+pair_of_earlier es ps i e covers a =
+    let h = covers a.0 a.1.entry a.1.before a.1.at in
+    record { pair = h.pair; member = h.member; left_is = sym a.1.left_is ∙ h.left_is; right_is = sym a.1.right_is ∙ h.right_is }

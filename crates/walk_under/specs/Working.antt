@@ -2,6 +2,7 @@ pub mod Bars
 pub mod Asking
 pub mod Allowance
 pub mod Entries
+pub mod Filing
 pub mod Reaching
 pub mod Parts
 pub mod Listings

@@ -1,5 +1,8 @@
 //! Pairs of sets of terms with the atoms at which the walk reached them.
-use kat_model::Items;
+ghost use Rattle.std.specs.Prelude.{◌≡◌, IfOk};
+
+use kat_model::{Items, NoMemory};
+use std::alloc::Global;
 use std::marker::Model;
 use term_store::TermId;
 use test_diagrams::DiagramId;
@@ -29,4 +32,21 @@ impl Model for Entry {
     ghost Value = { EntryParts };
 
     ghost view = { λ e. record { left = e.left; right = e.right; test = e.test; level = e.level; origin = e.origin } };
+}
+
+impl Entry {
+    /// Returns a copy.
+    pub(crate) fn copy(&self, alloc: Global) -> Result<Entry, NoMemory>
+        ensures { IfOk result (λ e. e ≡ self.now) }
+    {
+        let left = Vec::from_slice(alloc, self.left.as_slice())?;
+        let right = Vec::from_slice(alloc, self.right.as_slice())?;
+        Ok(Entry {
+            left: Items::of(left),
+            right: Items::of(right),
+            test: self.test,
+            level: self.level,
+            origin: self.origin,
+        })
+    }
 }

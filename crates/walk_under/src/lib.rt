@@ -7,6 +7,7 @@ mod bars;
 mod counting;
 mod deciding;
 mod entry;
+mod entry_list;
 mod laws;
 mod listing;
 mod merging;

@@ -3,10 +3,12 @@ ghost use Rattle.std.specs.Prelude.{◌≡◌, ◌↔◌, ◌++◌, ◌∷◌, [
 ghost use Rattle.kat_model.specs.Members.{Has};
 ghost use Rattle.test_diagrams.specs.Functions.{value_of, IsDiagramId, IsAtomOf, KeepsFunctions};
 ghost use Rattle.walk_under.specs.Working.Entries.{EntryParts};
+ghost use Rattle.walk_under.specs.Working.Filing.{AreAlike, AddsAlike};
 ghost use Rattle.walk_under.specs.Working.Reaching.{IsPartOf, IsReachedAt, IsOpenPart};
 ghost use Rattle.walk_under.specs.Working.Listings.{IsWithoutPair, IsFreshPart, IsWith, AreLevelAtoms, IsLevelAtom, IsPlaceWith};
 
 use crate::entry::Entry;
+use crate::entry_list::EntryList;
 use crate::reaching::{mark_all, reached_at, saturate};
 use kat_model::NoMemory;
 use std::alloc::Global;
@@ -18,7 +20,7 @@ use walk_pairs::and_not;
 /// store; the ids of the pairs are below it.
 #[derive(Drop)]
 pub(crate) struct Listing {
-    pub entries: Vec<Entry>,
+    pub entries: EntryList,
     pub universal: Option<TermId>,
     pub count: usize,
 }
@@ -69,6 +71,47 @@ pub(crate) fn has_sets(entry: &Entry, left: &[TermId], right: &[TermId]) -> bool
     same_left && same_right
 }
 
+// Appends a copy of the pair at `place` to the list, if it has these sets.
+fn add_alike(
+    alloc: Global,
+    list: &mut Vec<Entry>,
+    entries: &[Entry],
+    place: usize,
+    left: &[TermId],
+    right: &[TermId],
+) -> Result<(), NoMemory>
+    ensures { OnOk result (AddsAlike entries.now place left.now right.now list.old.items list.new.items) }
+{
+    let Some(entry) = entries.get(place) else {
+        return Ok(());
+    };
+    let same = has_sets(entry, left, right);
+    if !same {
+        return Ok(());
+    }
+    let copy = entry.copy(alloc)?;
+    list.push(copy)?;
+    Ok(())
+}
+
+/// Returns copies of the pairs that have these sets.
+pub(crate) fn alike_entries(
+    alloc: Global,
+    entries: &EntryList,
+    left: &[TermId],
+    right: &[TermId],
+) -> Result<Vec<Entry>, NoMemory>
+    ensures { IfOk result (λ v. AreAlike entries.now.items left.now right.now v.items) }
+{
+    let all = entries.as_slice();
+    let places = entries.places(left, right);
+    let mut alike = Vec::new(alloc);
+    for place in places {
+        add_alike(alloc, &mut alike, all, *place, left, right)?;
+    }
+    Ok(alike)
+}
+
 // Returns the atoms of the diagram `id`, without those of `entry` if it has these sets.
 fn without_pair(
     diagrams: &mut Diagrams,
@@ -89,8 +132,8 @@ fn without_pair(
     Ok(id)
 }
 
-/// Returns the atoms of `within` at which no entry has these sets.
-pub(crate) fn fresh_part(
+// Returns the atoms of `within` at which no entry has these sets.
+fn fresh_part(
     diagrams: &mut Diagrams,
     entries: &[Entry],
     left: &[TermId],
@@ -107,6 +150,24 @@ pub(crate) fn fresh_part(
         id = without_pair(diagrams, id, entry, left, right)?;
     }
     Ok(id)
+}
+
+/// Returns the atoms of `within` at which no listed pair has these sets.
+pub(crate) fn unlisted_part(
+    alloc: Global,
+    diagrams: &mut Diagrams,
+    entries: &EntryList,
+    left: &[TermId],
+    right: &[TermId],
+    within: DiagramId,
+) -> Result<DiagramId, NoMemory>
+    requires tests { (e : EntryParts) → Has entries.now.items e → IsDiagramId diagrams.old e.test }
+    requires within { IsDiagramId diagrams.old within }
+    ensures part { IfOk result (IsFreshPart diagrams.new entries.now.items left.now right.now within) }
+    ensures kept { OnOk result (KeepsFunctions diagrams.old diagrams.new) }
+{
+    let alike = alike_entries(alloc, entries, left, right)?;
+    fresh_part(diagrams, &alike, left, right, within)
 }
 
 // Whether `entry` has the sets and the level of `pair`.
@@ -137,8 +198,8 @@ fn with_entry(
     Ok(id)
 }
 
-/// Returns the atoms at which some entry has the sets and the level of `pair`.
-pub(crate) fn level_atoms(
+// Returns the atoms at which some entry has the sets and the level of `pair`.
+fn level_atoms(
     diagrams: &mut Diagrams,
     entries: &[Entry],
     pair: &Entry,
@@ -154,6 +215,21 @@ pub(crate) fn level_atoms(
     Ok(id)
 }
 
+/// Returns the atoms at which some listed pair has the sets and the level of `pair`.
+pub(crate) fn listed_atoms(
+    alloc: Global,
+    diagrams: &mut Diagrams,
+    entries: &EntryList,
+    pair: &Entry,
+) -> Result<DiagramId, NoMemory>
+    requires tests { (e : EntryParts) → Has entries.now.items e → IsDiagramId diagrams.old e.test }
+    ensures atoms { IfOk result (AreLevelAtoms diagrams.new entries.now.items pair.now) }
+    ensures kept { KeepsFunctions diagrams.old diagrams.new }
+{
+    let alike = alike_entries(alloc, entries, pair.left.as_slice(), pair.right.as_slice())?;
+    level_atoms(diagrams, &alike, pair)
+}
+
 // Whether `entry` has the sets and the level of `pair`, and was reached at `atom`.
 fn is_reached_with(diagrams: &Diagrams, entry: &Entry, pair: &Entry, atom: &[bool]) -> bool
     requires test { IsDiagramId diagrams.now entry.now.test }
@@ -164,28 +240,71 @@ fn is_reached_with(diagrams: &Diagrams, entry: &Entry, pair: &Entry, atom: &[boo
     same && diagrams.value_at(entry.test, atom)
 }
 
-/// Returns the place of an entry that has the sets and the level of `pair` and was reached at `atom`. The contract
+// Whether the entry at `place` has the sets and the level of `pair`, and was reached at `atom`.
+fn is_place_with(
+    diagrams: &Diagrams,
+    entries: &[Entry],
+    place: usize,
+    pair: &Entry,
+    atom: &[bool],
+) -> bool
+    requires tests { (e : EntryParts) → Has entries.now e → IsDiagramId diagrams.now e.test }
+    requires atom { IsAtomOf diagrams.now atom.now }
+    ensures { IsTrue result ↔ IsPlaceWith diagrams.now entries.now pair.now atom.now place }
+{
+    match entries.get(place) {
+        Some(entry) => is_reached_with(diagrams, entry, pair, atom),
+        None => false,
+    }
+}
+
+/// Returns the place of a listed pair that has the sets and the level of `pair` and was reached at `atom`. The contract
 /// requires that one exists.
 pub(crate) fn place_with(
     diagrams: &Diagrams,
-    entries: &[Entry],
+    entries: &EntryList,
     pair: &Entry,
     atom: &[bool],
 ) -> usize
-    requires tests { (e : EntryParts) → Has entries.now e → IsDiagramId diagrams.now e.test }
+    requires tests { (e : EntryParts) → Has entries.now.items e → IsDiagramId diagrams.now e.test }
     requires atom { IsAtomOf diagrams.now atom.now }
-    requires listed { IsLevelAtom diagrams.now entries.now pair.now atom.now }
-    ensures { IsPlaceWith diagrams.now entries.now pair.now atom.now result }
+    requires listed { IsLevelAtom diagrams.now entries.now.items pair.now atom.now }
+    ensures { IsPlaceWith diagrams.now entries.now.items pair.now atom.now result }
 {
-    for (place, entry) in entries.iter().enumerate() {
-        if is_reached_with(diagrams, entry, pair, atom) {
-            return place;
+    let all = entries.as_slice();
+    let places = entries.places(pair.left.as_slice(), pair.right.as_slice());
+    for place in places {
+        if is_place_with(diagrams, all, *place, pair, atom) {
+            return *place;
         }
     }
     0
 }
 
 impl Listing {
+    // Whether the term is in the set or in a pair.
+    fn is_known(&self, set: &[TermId], term: TermId) -> bool {
+        self.entries.has_member(term) || set.iter().any(|id| *id == term)
+    }
+
+    // Whether all of the terms are in the set or in pairs.
+    fn are_known(&self, set: &[TermId], terms: &[TermId]) -> bool {
+        terms.iter().all(|term| self.is_known(set, *term))
+    }
+
+    // Whether the closure of `set` under the pairs may contain the targets or the universal term.
+    fn may_reach(&self, set: &[TermId], targets: &[TermId]) -> bool {
+        let Some(term) = self.universal else {
+            return self.are_known(set, targets);
+        };
+        self.is_known(set, term) || self.are_known(set, targets)
+    }
+
+    // Whether the pairs may join the sides at some atom. Affects only speed: where they cannot, no term is marked.
+    fn may_join(&self, sides: &TargetSets<'_>) -> bool {
+        self.may_reach(sides.right, sides.open_left) && self.may_reach(sides.left, sides.open_right)
+    }
+
     // Returns atoms of `within` at which the closure of `set` under the pairs contains the targets or the universal
     // term.
     fn reached(
@@ -212,7 +331,7 @@ impl Listing {
         let mut list = vec![in alloc; never; self.count]?;
         let marks = list.as_mut_slice();
         mark_all(diagrams, marks, set, within)?;
-        saturate(diagrams, marks, &self.entries)?;
+        saturate(diagrams, marks, self.entries.as_slice())?;
         reached_at(diagrams, marks, self.universal, targets, within)
     }
 
@@ -230,6 +349,9 @@ impl Listing {
         ensures part { IfOk result (IsOpenPart diagrams.new self.now.entries.items self.now.universal sides.now.left.now sides.now.right.now sides.now.open_left.now sides.now.open_right.now within) }
         ensures kept { KeepsFunctions diagrams.old diagrams.new }
     {
+        if !self.may_join(sides) {
+            return Ok(within);
+        }
         let left = self.reached(alloc, diagrams, sides.right, sides.open_left, within)?;
         let both = self.reached(alloc, diagrams, sides.left, sides.open_right, left)?;
         and_not(diagrams, within, both)

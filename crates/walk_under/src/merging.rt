@@ -5,10 +5,11 @@ ghost use Rattle.term_nodes.specs.Growth.{Grows};
 ghost use Rattle.test_diagrams.specs.Functions.{DiagramsParts, IsDiagramId, KeepsFunctions};
 ghost use Rattle.walk_under.specs.Working.Entries.{EntryParts};
 ghost use Rattle.walk_under.specs.Working.StoredTests.{AreTestsFor};
-ghost use Rattle.walk_under.specs.Working.Merging.{AreAtomsOf, IsMergedPair, HasPairOf, AreMergedIds};
+ghost use Rattle.walk_under.specs.Working.Merging.{AreAtomsOf, IsMergedPair, IsEarlierAlike, HasEarlierAlike, AreMergedIds};
 
 use crate::entry::Entry;
-use crate::listing::has_sets;
+use crate::entry_list::EntryList;
+use crate::listing::{alike_entries, has_sets};
 use crate::test_table::TestTable;
 use kat_model::{Items, NoMemory};
 use std::alloc::Global;
@@ -55,19 +56,43 @@ fn atoms_of(
     Ok(id)
 }
 
-// Whether `pair` has the sets of `entry`.
-fn is_pair_of(pair: &StoredPair, entry: &Entry) -> bool
-    ensures { IsTrue result ↔ ((entry.now.left ≡ pair.now.left) × (entry.now.right ≡ pair.now.right)) }
+// Returns the atoms at which some listed pair has these sets.
+fn all_atoms_of(
+    alloc: Global,
+    diagrams: &mut Diagrams,
+    entries: &EntryList,
+    left: &[TermId],
+    right: &[TermId],
+) -> Result<DiagramId, NoMemory>
+    requires tests { (e : EntryParts) → Has entries.now.items e → IsDiagramId diagrams.old e.test }
+    ensures atoms { IfOk result (AreAtomsOf diagrams.old diagrams.new entries.now.items left.now right.now) }
+    ensures kept { KeepsFunctions diagrams.old diagrams.new }
 {
-    has_sets(entry, pair.left.as_slice(), pair.right.as_slice())
+    let alike = alike_entries(alloc, entries, left, right)?;
+    atoms_of(diagrams, &alike, left, right)
 }
 
-// Whether one of the pairs has the sets of the entry.
-fn has_pair_of(pairs: &[StoredPair], entry: &Entry) -> bool
-    ensures { IsTrue result ↔ HasPairOf pairs.now entry.now }
+// Whether the entry at `place` is before the entry at `own` and has the sets of `entry`.
+fn is_earlier(entries: &[Entry], place: usize, own: usize, entry: &Entry) -> bool
+    ensures { IsTrue result ↔ IsEarlierAlike entries.now place own entry.now }
 {
-    for pair in pairs {
-        if is_pair_of(pair, entry) {
+    if place >= own {
+        return false;
+    }
+    match entries.get(place) {
+        Some(other) => has_sets(other, entry.left.as_slice(), entry.right.as_slice()),
+        None => false,
+    }
+}
+
+// Whether an entry before the entry at `own` has the sets of `entry`.
+fn has_earlier(entries: &EntryList, own: usize, entry: &Entry) -> bool
+    ensures { IsTrue result ↔ HasEarlierAlike entries.now.items own entry.now }
+{
+    let all = entries.as_slice();
+    let places = entries.places(entry.left.as_slice(), entry.right.as_slice());
+    for place in places {
+        if is_earlier(all, *place, own, entry) {
             return true;
         }
     }
@@ -80,21 +105,21 @@ fn merged_pair(
     store: &mut Store,
     diagrams: &mut Diagrams,
     table: &mut TestTable,
-    entries: &[Entry],
+    entries: &EntryList,
     entry: &Entry,
 ) -> Result<StoredPair, NoMemory>
-    requires tests { (e : EntryParts) → Has entries.now e → IsDiagramId diagrams.old e.test }
+    requires tests { (e : EntryParts) → Has entries.now.items e → IsDiagramId diagrams.old e.test }
     requires table { AreTestsFor store.old diagrams.old table.old.tests.entries }
     ensures left { IfOk result (λ p. p.left ≡ entry.now.left) }
     ensures right { IfOk result (λ p. p.right ≡ entry.now.right) }
-    ensures pair { IfOk result (IsMergedPair store.new diagrams.old entries.now) }
+    ensures pair { IfOk result (IsMergedPair store.new diagrams.old entries.now.items) }
     ensures table { OnOk result (AreTestsFor store.new diagrams.new table.new.tests.entries) }
     ensures grows { Grows store.old store.new }
     ensures kept { KeepsFunctions diagrams.old diagrams.new }
 {
     let left = entry.left.as_slice();
     let right = entry.right.as_slice();
-    let atoms = atoms_of(diagrams, entries, left, right)?;
+    let atoms = all_atoms_of(alloc, diagrams, entries, left, right)?;
     let test = table.test_of(store, diagrams, atoms)?;
     Ok(StoredPair {
         left: Items::of(Vec::from_slice(alloc, left)?),
@@ -109,16 +134,17 @@ pub(crate) fn merged_pairs(
     alloc: Global,
     store: &mut Store,
     diagrams: &mut Diagrams,
-    entries: &[Entry],
+    entries: &EntryList,
 ) -> Result<Vec<StoredPair>, NoMemory>
-    requires tests { (e : EntryParts) → Has entries.now e → IsDiagramId diagrams.old e.test }
-    ensures merged { IfOk result (λ v. AreMergedIds store.new diagrams.old entries.now v.items) }
+    requires tests { (e : EntryParts) → Has entries.now.items e → IsDiagramId diagrams.old e.test }
+    ensures merged { IfOk result (λ v. AreMergedIds store.new diagrams.old entries.now.items v.items) }
     ensures grows { Grows store.old store.new }
 {
+    let all = entries.as_slice();
     let mut table = TestTable::new(alloc);
     let mut pairs = Vec::new(alloc);
-    for entry in entries {
-        if !has_pair_of(&pairs, entry) {
+    for (place, entry) in all.iter().enumerate() {
+        if !has_earlier(entries, place, entry) {
             let pair = merged_pair(alloc, store, diagrams, &mut table, entries, entry)?;
             pairs.push(pair)?;
         }

@@ -18,7 +18,8 @@ ghost use Rattle.walk_under.specs.declared.walk.RunEnd.TheVariants.{Full};
 
 use crate::allowed::AllowedMoves;
 use crate::entry::{Entry, StepOrigin};
-use crate::listing::{Listing, TargetSets, fresh_part, level_atoms, place_with};
+use crate::entry_list::EntryList;
+use crate::listing::{Listing, TargetSets, listed_atoms, place_with, unlisted_part};
 use crate::merging::merged_pairs;
 use crate::parts::{Part, differing_part, parts_of};
 use kat_model::{Items, NoMemory};
@@ -172,8 +173,8 @@ impl TestedWorklist {
             actions,
         )?;
         let entry = first_entry(alloc, sides, moves.allowed())?;
-        let mut entries = Vec::new(alloc);
-        entries.push(entry)?;
+        let mut entries = EntryList::new(alloc);
+        entries.push(alloc, entry)?;
         let listing = Listing {
             entries,
             universal: sides.universal,
@@ -202,7 +203,14 @@ impl TestedWorklist {
             .moves
             .image(&mut self.diagrams, part.region, source.act)?;
         let entries = &self.listing.entries;
-        let fresh = fresh_part(&mut self.diagrams, entries, &part.left, &part.right, image)?;
+        let fresh = unlisted_part(
+            alloc,
+            &mut self.diagrams,
+            entries,
+            &part.left,
+            &part.right,
+            image,
+        )?;
         let sides = TargetSets {
             left: &part.left,
             right: &part.right,
@@ -231,7 +239,7 @@ impl TestedWorklist {
             return Ok(());
         }
         let entry = entry_of(alloc, source, part, test)?;
-        self.listing.entries.push(entry)?;
+        self.listing.entries.push(alloc, entry)?;
         Ok(())
     }
 
@@ -256,7 +264,7 @@ impl TestedWorklist {
     // Returns the pair at `place`, with all atoms at which the same number of moves reached its sets. Single entries
     // pass on their own parts, and their number doubles with each test that two actions leave unchanged. One entry for
     // each pair and level would need an origin for each step that added atoms.
-    fn taken_pair_at(&mut self, place: usize) -> Result<TakenPair, NoMemory>
+    fn taken_pair_at(&mut self, alloc: Global, place: usize) -> Result<TakenPair, NoMemory>
         requires place { place < length self.old.listing.entries.items }
         requires tests { (e : EntryParts) → Has self.old.listing.entries.items e → IsDiagramId self.old.diagrams e.test }
         ensures place { IfOk result (λ t. t.place ≡ place) }
@@ -266,8 +274,9 @@ impl TestedWorklist {
         ensures derivatives { self.new.derivatives ≡ self.old.derivatives }
         ensures kept { OnOk result (KeepsFunctions self.old.diagrams self.new.diagrams) }
     {
-        let entry = &self.listing.entries[place];
-        let test = level_atoms(&mut self.diagrams, &self.listing.entries, entry)?;
+        let entries = &self.listing.entries;
+        let entry = entries.at(place);
+        let test = listed_atoms(alloc, &mut self.diagrams, entries, entry)?;
         Ok(TakenPair {
             place,
             level: entry.level,
@@ -289,7 +298,7 @@ impl TestedWorklist {
         ensures entries { self.new.listing.entries.items ≡ self.old.listing.entries.items }
         ensures kept { Grows store.old store.new }
     {
-        let entry = &self.listing.entries[place];
+        let entry = self.listing.entries.at(place);
         let left = self
             .derivatives
             .step(alloc, store, &mut self.diagrams, entry.left.as_slice())?;
@@ -305,7 +314,7 @@ impl TestedWorklist {
         requires { place < length self.now.listing.entries.items }
         ensures { (e : EntryParts) → slice_get self.now.listing.entries.items place ≡ Some e → result ≡ e.test }
     {
-        let entry = &self.listing.entries[place];
+        let entry = self.listing.entries.at(place);
         entry.test
     }
 
@@ -387,7 +396,7 @@ impl TestedWorklist {
         if let Some(found) = self.difference(alloc, test, &steps)? {
             return Ok(Some(found));
         }
-        let taken_pair = self.taken_pair_at(place)?;
+        let taken_pair = self.taken_pair_at(alloc, place)?;
         self.expand(alloc, &taken_pair, actions, &steps)?;
         Ok(None)
     }
@@ -429,7 +438,7 @@ impl TestedWorklist {
         requires { place < length self.now.listing.entries.items }
         ensures { (e : EntryParts) → slice_get self.now.listing.entries.items place ≡ Some e → result ≡ e.origin }
     {
-        let entry = &self.listing.entries[place];
+        let entry = self.listing.entries.at(place);
         entry.origin
     }
 
@@ -442,7 +451,7 @@ impl TestedWorklist {
         requires listed { (e : EntryParts) → slice_get self.now.listing.entries.items place ≡ Some e → IsLevelAtom self.now.diagrams self.now.listing.entries.items e atom.now }
         ensures { (e : EntryParts) → slice_get self.now.listing.entries.items place ≡ Some e → IsPlaceWith self.now.diagrams self.now.listing.entries.items e atom.now result }
     {
-        let pair = &self.listing.entries[place];
+        let pair = self.listing.entries.at(place);
         place_with(&self.diagrams, &self.listing.entries, pair, atom)
     }
 

@@ -40,6 +40,18 @@ pub record HasPairOf (ps : List PairParts) (e : EntryParts) : Type 0 where
   pub left_is : e.left ≡ pair.left
   pub right_is : e.right ≡ pair.right
 
+-- the entry at the place is before the place `own` and has the sets of the other
+pub record IsEarlierAlike (es : List EntryParts) (place own : ℕ) (other : EntryParts) : Type 0 where
+  pub before : place < own
+  pub entry : EntryParts
+  pub at : slice_get es place ≡ Some entry
+  pub left_is : entry.left ≡ other.left
+  pub right_is : entry.right ≡ other.right
+
+-- an entry before the place has the sets of the other
+abbrev pub HasEarlierAlike : List EntryParts → ℕ → EntryParts → Type 0
+HasEarlierAlike es own other = (k : ℕ) × IsEarlierAlike es k own other
+
 -- the pair has the sets of an entry, no pair before it has these sets, and all earlier entries have a pair before it
 pub record IsFirst (es : List EntryParts) (before : List PairParts) (p : PairParts) : Type 0 where
   pub place : ℕ

@@ -1,6 +1,21 @@
+use Rattle.std.proofs.lemmas.Bool.{both_ways}
 use Rattle.std.proofs.lemmas.Result.{IfOk-weaker}
+use Rattle.test_diagrams.specs.Functions.{value_of}
+use Rattle.test_diagrams.proofs.Kept.{KeepsFunctions-itself}
 use Rattle.walk_under.proofs.Marking.{open_part}
 use Rattle.walk_under.proofs.listing.Listing.open_part.Goals as goal
+
+pub returns-then-not-may_join-clause-part : goal.returns-then-not-may_join-clause-part
+returns-then-not-may_join-clause-part c =
+    let d = c.args.diagrams.now in
+    record {
+      part = record { is_id = c.requires.within; within = λ atom fits h. h };
+      lefts = λ atom fits there none. absurd (both_ways (value_of d c.args.within atom) none there);
+      rights = λ atom fits there none. absurd (both_ways (value_of d c.args.within atom) none there);
+    }
+
+pub returns-then-not-may_join-clause-kept : goal.returns-then-not-may_join-clause-kept
+returns-then-not-may_join-clause-kept c = KeepsFunctions-itself c.args.diagrams.now
 
 pub returns-clause-part : goal.returns-clause-part
 returns-clause-part c =

@@ -19,6 +19,6 @@ returns-clause-reached c =
     let set : List ℕ = c.args.set.now in
     let first = first_marks d es c.requires.tests set c.args.self.now.count c.constant-never.result c.as_mut_slice-marks.result.now c.in_ok-list.list.items c.constant-never.ensures.function c.as_mut_slice-marks.ensures.value (c.in_ok-list.ensures.items_if_clones_equal (λ y e. e)) in
     let own = c.in_ok-mark_all.ensures.marks es set first (brings_own d es set c.args.within) in
-    let same : c.deref.result.now ≡ es = c.deref.ensures.value in
+    let same : c.as_slice.result.now ≡ es = c.as_slice.ensures in
     let full = c.in_ok-saturate.ensures.marks set (subst (λ l. AreMarks c.mark_all.new.diagrams l set c.mark_all.new.marks) (sym same) own) in
     IfOk-weaker c.reached_at.result _ _ (λ id reached. reached es set (subst (λ l. AreMarks c.saturate.new.diagrams l set c.saturate.new.marks) same full)) c.reached_at.ensures.reached

@@ -1,7 +1,5 @@
-use Rattle.std.proofs.Common.{◌<◌, List, refl, sym, subst}
+use Rattle.std.proofs.Common.{◌<◌, refl, sym, subst}
 use Rattle.std.proofs.lemmas.Result.{IfOk-weaker}
-use Rattle.kat_model.specs.Members.{Has}
-use Rattle.walk_under.specs.Working.Entries.{EntryParts}
 use Rattle.walk_under.specs.Working.Allowance.{IsAllowance}
 use Rattle.walk_under.specs.declared.walk.TestedWorklist.{TestedWorklist}
 use Rattle.walk_under.proofs.Visiting.{region_within, open_at}
@@ -19,12 +17,11 @@ image-requires-clause-region c = c.requires.3.region
 pub image-requires-clause-act : goal.image-requires-clause-act
 image-requires-clause-act c = subst (λ n. c.args.source.now.act < n) (sym c.requires.2.under_way.allowance.count) c.requires.2.of_actions
 
-pub fresh_part-requires-clause-tests : goal.fresh_part-requires-clause-tests
-fresh_part-requires-clause-tests c e h =
-    c.image.ensures.kept.ids e.test (c.requires.2.under_way.entries e (subst (λ (l : List EntryParts). Has l e) c.deref.ensures.value h)).test
+pub unlisted_part-requires-clause-tests : goal.unlisted_part-requires-clause-tests
+unlisted_part-requires-clause-tests c e h = c.image.ensures.kept.ids e.test (c.requires.2.under_way.entries e h).test
 
-pub fresh_part-requires-clause-within : goal.fresh_part-requires-clause-within
-fresh_part-requires-clause-within c =
+pub unlisted_part-requires-clause-within : goal.unlisted_part-requires-clause-within
+unlisted_part-requires-clause-within c =
     let s = c.requires.0 in
     (c.in_ok-image.ensures.image s.shorts s.problem.actions c.requires.2.under_way.allowance (region_within s c.args.self.now c.args.source.now c.requires.1 c.args.part.now c.requires.2 c.requires.3)).is_id
 
@@ -40,9 +37,9 @@ returns c =
     let x : TestedWorklist = record { listing = w.listing; moves = c.image.new.self; diagrams = c.open_part.new.diagrams; derivatives = w.derivatives } in
     IfOk-weaker c.open_part.result _ _
     (λ id is s from stands next.
-    open_at s w x c.args.source.now from c.args.part.now stands next c.image.new.diagrams c.fresh_part.new.diagrams c.in_ok-image.ensures.kept c.in_ok-fresh.ensures.kept c.open_part.ensures.kept
+    open_at s w x c.args.source.now from c.args.part.now stands next c.image.new.diagrams c.unlisted_part.new.diagrams c.in_ok-image.ensures.kept c.in_ok-fresh.ensures.kept c.open_part.ensures.kept
     refl refl c.in_ok-image.ensures.allowed (c.in_ok-image.ensures.moves s.shorts s.problem.actions stands.under_way.allowance) c.in_ok-image.image c.in_ok-fresh.fresh id
     (c.in_ok-image.ensures.image s.shorts s.problem.actions stands.under_way.allowance (region_within s w c.args.source.now from c.args.part.now stands next))
-    (rw (c.deref.ensures.value, c.deref-2.ensures.value, c.deref-3.ensures.value) at c.in_ok-fresh.ensures.part)
-    (rw (c.deref-4.ensures.value, c.deref-5.ensures.value, c.deref-6.ensures.value, c.deref-7.ensures.value) at is))
+    (rw (c.deref.ensures.value, c.deref-2.ensures.value) at c.in_ok-fresh.ensures.part)
+    (rw (c.deref-3.ensures.value, c.deref-4.ensures.value, c.deref-5.ensures.value, c.deref-6.ensures.value) at is))
     c.open_part.ensures.part

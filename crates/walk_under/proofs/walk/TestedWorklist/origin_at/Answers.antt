@@ -5,7 +5,7 @@ use Rattle.walk_under.proofs.walk.TestedWorklist.origin_at.Goals as goal
 
 pub returns : goal.returns
 returns c e at =
-    let own : EntryParts = c.index-entry.result.now in
-    let here : slice_get c.args.self.now.listing.entries.items c.args.place ≡ Some own = slice_get-get_or c.args.self.now.listing.entries.items c.args.place own c.requires ∙ ap (λ (x : EntryParts). Some x) (sym c.index-entry.ensures) in
+    let own : EntryParts = c.at-entry.result.now in
+    let here : slice_get c.args.self.now.listing.entries.items c.args.place ≡ Some own = slice_get-get_or c.args.self.now.listing.entries.items c.args.place own c.requires ∙ ap (λ (x : EntryParts). Some x) (sym c.at-entry.ensures) in
     let same : own ≡ e = same_Some own e (sym here ∙ at) in
     ap (λ (x : EntryParts). x.origin) (c.entry.view_is ∙ same)

@@ -15,8 +15,8 @@ use Rattle.walk_under.proofs.walk.TestedWorklist.steps_at.Goals as goal
 pub step-requires-clause-terms : goal.step-requires-clause-terms
 step-requires-clause-terms c =
     let w : TestedWorklist = c.args.self.now in
-    let own : EntryParts = c.index-entry.result.now in
-    let here : slice_get w.listing.entries.items c.args.place ≡ Some own = slice_get-get_or w.listing.entries.items c.args.place own c.requires.place ∙ ap (λ (x : EntryParts). Some x) (sym c.index-entry.ensures) in
+    let own : EntryParts = c.at-entry.result.now in
+    let here : slice_get w.listing.entries.items c.args.place ≡ Some own = slice_get-get_or w.listing.entries.items c.args.place own c.requires.place ∙ ap (λ (x : EntryParts). Some x) (sym c.at-entry.ensures) in
     let is = c.requires.under_way.2.entries own (has_at w.listing.entries.items c.args.place own here) in
     let left : c.as_slice.result.now ≡ own.left = c.as_slice.ensures ∙ ap (λ (x : EntryParts). x.left) c.entry.view_is in
     subst (All (IsTermOf c.args.store.now w.diagrams.tests)) (sym left) (all_terms c.args.store.now w.diagrams.tests own.left is.left)
@@ -27,8 +27,8 @@ step-requires-clause-right c = c.requires.under_way.2.right
 pub step-requires-2-clause-terms : goal.step-requires-2-clause-terms
 step-requires-2-clause-terms c =
     let w : TestedWorklist = c.args.self.now in
-    let own : EntryParts = c.index-entry.result.now in
-    let here : slice_get w.listing.entries.items c.args.place ≡ Some own = slice_get-get_or w.listing.entries.items c.args.place own c.requires.place ∙ ap (λ (x : EntryParts). Some x) (sym c.index-entry.ensures) in
+    let own : EntryParts = c.at-entry.result.now in
+    let here : slice_get w.listing.entries.items c.args.place ≡ Some own = slice_get-get_or w.listing.entries.items c.args.place own c.requires.place ∙ ap (λ (x : EntryParts). Some x) (sym c.at-entry.ensures) in
     let is = c.requires.under_way.2.entries own (has_at w.listing.entries.items c.args.place own here) in
     let right : c.as_slice-2.result.now ≡ own.right = c.as_slice-2.ensures ∙ ap (λ (x : EntryParts). x.right) c.entry.view_is in
     let set = set_kept c.args.store.now c.step.new.store w.diagrams c.step.new.diagrams c.in_ok-left.ensures.kept own.right is.right in
@@ -37,8 +37,8 @@ step-requires-2-clause-terms c =
 pub returns-clause-steps : goal.returns-clause-steps
 returns-clause-steps c shorts q e u at =
     let w : TestedWorklist = c.args.self.now in
-    let own : EntryParts = c.index-entry.result.now in
-    let here : slice_get w.listing.entries.items c.args.place ≡ Some own = slice_get-get_or w.listing.entries.items c.args.place own c.requires.place ∙ ap (λ (x : EntryParts). Some x) (sym c.index-entry.ensures) in
+    let own : EntryParts = c.at-entry.result.now in
+    let here : slice_get w.listing.entries.items c.args.place ≡ Some own = slice_get-get_or w.listing.entries.items c.args.place own c.requires.place ∙ ap (λ (x : EntryParts). Some x) (sym c.at-entry.ensures) in
     let same : own ≡ e = same_Some own e (sym here ∙ at) in
     let left : c.as_slice.result.now ≡ e.left = c.as_slice.ensures ∙ ap (λ (x : EntryParts). x.left) (c.entry.view_is ∙ same) in
     let right : c.as_slice-2.result.now ≡ e.right = c.as_slice-2.ensures ∙ ap (λ (x : EntryParts). x.right) (c.entry.view_is ∙ same) in
