@@ -22,9 +22,8 @@ use Rattle.tool_inputs.specs.EvidenceBytes.{Spells}
 use Rattle.tool_inputs.specs.Steps.{ReplySpec, AsksText}
 
 -- Both sides denote one relation in every table that satisfies the hypotheses, and an accepted certificate is printed.
--- No pair of it is redundant; or, if some hypothesis is short and some list of many pairs has no redundant one, its
--- pairs are under tests.
--- It has few pairs if both sides are guarded and there are no hypotheses.
+-- No pair of it is redundant; or, only if some hypothesis is short, its pairs are under tests. It has few pairs if both
+-- sides are guarded and there are no hypotheses.
 pub record IsEqual (q : ProblemParts) (output : List ℕ) : Type 0 where
   pub same : Same q
   pub cert : CertParts
