@@ -14,7 +14,7 @@ ghost use Rattle.tool_decide.specs.Batch.{with_each, AsksSome, IsFirstRefused, g
 ghost use Rattle.tool_inputs.specs.ReplySpecs.{Yields, RepliesWith, IsQuestionOf};
 ghost use Rattle.tool_decide.specs.Working.Goals.{AreInRange};
 
-use crate::decide::{evidence_status, text};
+use crate::decide::decided_reply;
 use abstraction::{Abstract, AbstractFault, abstracted_for};
 use bisim_worklist::decide_in;
 use kat_model::{NoMemory, Problem};
@@ -77,10 +77,7 @@ fn goal_reply(alloc: Global, store: &mut Store, file: &File, goal: &Goal) -> Res
 {
     let problem = question_of(alloc, file, goal)?;
     let evidence = decide_in(alloc, store, &problem)?;
-    Ok(Reply {
-        status: evidence_status(&evidence),
-        output: text(alloc, &problem, &evidence)?,
-    })
+    decided_reply(alloc, &problem, &evidence)
 }
 
 // Appends the answer to goal `k`.
@@ -96,24 +93,38 @@ fn put_answer(alloc: Global, all: &mut Reply, k: usize, answer: &Reply) -> Resul
     Ok(())
 }
 
-// Returns the answers to all goals.
+// Returns the answers to all goals, decided with this store.
+fn answers_in(
+    alloc: Global,
+    store: &mut Store,
+    file: &File,
+    more: &[Goal],
+) -> Result<Reply, NoMemory>
+    requires numbers { AreInRange file.now (map goal_tree more.now) }
+    requires asks { (f : FileParts) → Has (with_each file.now (map goal_tree more.now)) f → AsksSome f }
+    ensures { IfOk result (λ r. AnswersFrom 0 (with_each file.now (map goal_tree more.now)) r.status r.output.items) }
+{
+    let mut all = Reply {
+        status: 0,
+        output: Vec::new(alloc),
+    };
+    let first = goal_reply(alloc, store, file, &file.goal)?;
+    put_answer(alloc, &mut all, 0, &first)?;
+    for (k, goal) in more.iter().enumerate() {
+        let answer = goal_reply(alloc, store, file, goal)?;
+        put_answer(alloc, &mut all, k + 1, &answer)?;
+    }
+    Ok(all)
+}
+
+// Returns the answers to all goals. The store is owned where nothing else can fail.
 fn answers(alloc: Global, file: &File, more: &[Goal]) -> Result<Reply, NoMemory>
     requires numbers { AreInRange file.now (map goal_tree more.now) }
     requires asks { (f : FileParts) → Has (with_each file.now (map goal_tree more.now)) f → AsksSome f }
     ensures { IfOk result (λ r. AnswersFrom 0 (with_each file.now (map goal_tree more.now)) r.status r.output.items) }
 {
     let mut store = Store::new(alloc);
-    let mut all = Reply {
-        status: 0,
-        output: Vec::new(alloc),
-    };
-    let first = goal_reply(alloc, &mut store, file, &file.goal)?;
-    put_answer(alloc, &mut all, 0, &first)?;
-    for (k, goal) in more.iter().enumerate() {
-        let answer = goal_reply(alloc, &mut store, file, goal)?;
-        put_answer(alloc, &mut all, k + 1, &answer)?;
-    }
-    Ok(all)
+    answers_in(alloc, &mut store, file, more)
 }
 
 // Returns the reply to a file and the goals after its first. Each goal is abstracted twice: all goals are checked

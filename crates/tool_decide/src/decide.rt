@@ -48,12 +48,8 @@ pub(crate) fn know_numbers(problem: &Problem, evidence: &Evidence)
     }
 }
 
-/// Returns the text of a decision, which reads back as the same decision.
-pub(crate) fn text(
-    alloc: Global,
-    problem: &Problem,
-    evidence: &Evidence,
-) -> Result<Vec<u8>, NoMemory>
+// Returns the text of a decision, which reads back as the same decision.
+fn text(alloc: Global, problem: &Problem, evidence: &Evidence) -> Result<Vec<u8>, NoMemory>
     requires { IsDecision problem.now evidence.now }
     ensures { IfOk result (λ v. Spells v.items evidence.now) }
 {
@@ -70,6 +66,21 @@ pub(crate) fn evidence_status(evidence: &Evidence) -> u8
     }
 }
 
+/// Returns the reply with the text of a decision.
+pub(crate) fn decided_reply(
+    alloc: Global,
+    problem: &Problem,
+    evidence: &Evidence,
+) -> Result<Reply, NoMemory>
+    requires { IsDecision problem.now evidence.now }
+    ensures { IfOk result (λ r. IsDecided problem.now r.status r.output.items) }
+{
+    Ok(Reply {
+        status: evidence_status(evidence),
+        output: text(alloc, problem, evidence)?,
+    })
+}
+
 /// Returns the reply of `decide` to a problem. If both sides denote one relation in every table that satisfies the
 /// hypotheses, the status is 0 with the text of a certificate; otherwise it is 1 with the text of a shortest string
 /// that refutes the problem. Fails only when out of memory.
@@ -77,10 +88,7 @@ pub fn decide_reply(alloc: Global, problem: &Problem) -> Result<Reply, NoMemory>
     ensures { IfOk result (λ r. IsDecided problem.now r.status r.output.items) }
 {
     let evidence = decide(alloc, problem)?;
-    Ok(Reply {
-        status: evidence_status(&evidence),
-        output: text(alloc, problem, &evidence)?,
-    })
+    decided_reply(alloc, problem, &evidence)
 }
 
 /// `decide` FILE

@@ -4,7 +4,7 @@ use Rattle.problem_file.specs.Trees.{goal_tree}
 use Rattle.tool_decide.specs.Batch.{AsksSome, goal_line, IsGoalAnswer, AnswersFrom}
 use Rattle.tool_decide.specs.Working.GoalLists.{own_goal, goal_at, other_has, all_first}
 use Rattle.tool_decide.specs.Working.BatchReplies.{first_answered, next_answered}
-use Rattle.tool_decide.proofs.batch.answers.Goals as goal
+use Rattle.tool_decide.proofs.batch.answers_in.Goals as goal
 
 pub goal_reply-requires-clause-numbers : goal.goal_reply-requires-clause-numbers
 goal_reply-requires-clause-numbers c = subst HasNumbersInRange (sym (own_goal c.args.file.now _ c.file.view_is)) (c.requires.numbers c.args.file.now (inl refl))

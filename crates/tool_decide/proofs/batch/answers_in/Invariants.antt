@@ -2,7 +2,7 @@ use Rattle.std.proofs.Common.{map}
 use Rattle.problem_file.specs.Trees.{goal_tree}
 use Rattle.tool_decide.specs.Batch.{AnswersFrom}
 use Rattle.tool_decide.specs.Working.GoalLists.{with_first}
-use Rattle.tool_decide.proofs.batch.answers.Given as goal
+use Rattle.tool_decide.proofs.batch.answers_in.Given as goal
 
 -- the goals so far are answered
 abbrev pub invariant-loop-k : goal.invariant-loop-k
