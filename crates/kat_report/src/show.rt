@@ -1,5 +1,6 @@
 //! An abstraction as the text of a problem.
 ghost use Rattle.std.specs.Prelude.{◌≡◌, IfOk};
+ghost use Rattle.problem_texts.specs.Working.Scopes.{IsPlain};
 ghost use Rattle.kat_report.specs.Shows.{show_text};
 
 use crate::hyps::put_hyps;
@@ -9,6 +10,23 @@ use kat_model::NoMemory;
 use problem_file::File;
 use problem_texts::{plain_scope, put_actions, put_goal, put_tests};
 use std::alloc::Global;
+use text_scopes::Scope;
+
+// Returns the text of the problem, given a scope with its names.
+fn text_in(alloc: Global, file: &File, shown: &Abstract, plain: &Scope) -> Result<Vec<u8>, NoMemory>
+    requires { IsPlain plain.now shown.now.problem.tests shown.now.problem.actions }
+    ensures { IfOk result (λ v. v.items ≡ show_text file.now.scope shown.now) }
+{
+    let problem = &shown.problem;
+    let mut out = Vec::new(alloc);
+    put_test_comments(alloc, &mut out, &shown.tests, &file.scope)?;
+    put_tests(alloc, &mut out, problem.tests())?;
+    put_action_comments(alloc, &mut out, &shown.actions, &file.scope)?;
+    put_actions(alloc, &mut out, problem.actions())?;
+    put_hyps(alloc, &mut out, &shown.rules, problem, plain)?;
+    put_goal(alloc, &mut out, problem.left(), problem.right(), plain)?;
+    Ok(out)
+}
 
 /// Returns the problem of an abstraction as the text of a problem file, one item per line. Comments give the meaning of
 /// each test and each action with the names of the file, and the reason for each hypothesis, once for adjacent
@@ -19,12 +37,5 @@ pub fn show_text(alloc: Global, file: &File, shown: &Abstract) -> Result<Vec<u8>
 {
     let problem = &shown.problem;
     let plain = plain_scope(alloc, problem.tests(), problem.actions())?;
-    let mut out = Vec::new(alloc);
-    put_test_comments(alloc, &mut out, &shown.tests, &file.scope)?;
-    put_tests(alloc, &mut out, problem.tests())?;
-    put_action_comments(alloc, &mut out, &shown.actions, &file.scope)?;
-    put_actions(alloc, &mut out, problem.actions())?;
-    put_hyps(alloc, &mut out, &shown.rules, problem, &plain)?;
-    put_goal(alloc, &mut out, problem.left(), problem.right(), &plain)?;
-    Ok(out)
+    text_in(alloc, file, shown, &plain)
 }

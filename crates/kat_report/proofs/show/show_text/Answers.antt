@@ -1,12 +1,10 @@
-use Rattle.kat_model.specs.Trees.{kat_tree}
-use Rattle.kat_report.proofs.WrittenParts.{shown_written}
+use Rattle.std.proofs.Common.{ap, ◌∙◌, subst}
+use Rattle.problem_texts.specs.Working.Scopes.{IsPlain}
+use Rattle.abstraction.specs.Abstracts.{AbstractParts}
 use Rattle.kat_report.proofs.show.show_text.Goals as goal
 
-pub returns : goal.returns
-returns c =
-    let whole = shown_written c.file.inside.scope c.in_ok-plain.plain c.shown.inside.problem c.deref.result.now c.deref-2.result.now c.deref-3.result.now
-    c.tests.result c.actions.result c.tests-2.result c.actions-2.result (kat_tree c.left.result.now) (kat_tree c.right.result.now)
-    c.new-out.result.items c.put_test_comments.new.out.items c.put_tests.new.out.items c.put_action_comments.new.out.items c.put_actions.new.out.items c.put_hyps.new.out.items c.put_goal.new.out.items
-    c.left.ensures.within c.in_ok-plain.ensures c.tests.ensures.value c.actions.ensures.value c.tests-2.ensures.value c.actions-2.ensures.value c.left.ensures.value c.right.ensures.value
-    c.new-out.ensures.items c.in_ok-put_test_comments.ensures c.in_ok-put_tests.ensures c.in_ok-put_action_comments.ensures c.in_ok-put_actions.ensures c.in_ok-put_hyps.ensures c.in_ok-put_goal.ensures in
-    rw (← c.file.view_is, ← c.shown.view_is, ← c.deref.ensures.value, ← c.deref-2.ensures.value, ← c.deref-3.ensures.value) whole
+pub text_in-requires : goal.text_in-requires
+text_in-requires c =
+    let tests = c.tests.ensures.value ∙ ap (λ (z : AbstractParts). z.problem.tests) c.shown.view_is in
+    let actions = c.actions.ensures.value ∙ ap (λ (z : AbstractParts). z.problem.actions) c.shown.view_is in
+    subst (λ n. IsPlain c.in_ok-plain.plain n c.args.shown.now.problem.actions) tests (subst (IsPlain c.in_ok-plain.plain c.tests.result) actions c.in_ok-plain.ensures)
