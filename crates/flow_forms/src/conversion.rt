@@ -1,0 +1,270 @@
+//! Conversions of forms from one width to another.
+ghost use Rattle.std.specs.Prelude.{◌≡◌, ◌+◌, ◌-◌, ◌^◌, ◌<◌, false, IfOk, if◌then◌else◌};
+ghost use Rattle.kat_model.specs.Stores.{modulus};
+ghost use Rattle.flow_model.specs.Interpretations.{is_negative as is_negative_number, conversion as number_conversion};
+ghost use Rattle.flow_forms.specs.Forms.{converted as converted_form, form_tree, cell_form};
+ghost use Rattle.flow_forms.specs.Conversions.{is_narrower as has_fewer_bits, is_same_width as has_same_bits, shortened as shortened_form, truncated as truncated_form, is_one as has_no_cells, is_zero as is_zero_form, is_alone as is_product_alone, is_kept as keeps_form, widened_cell as widened_from_cell, widened_product as widened_from_product, widened as widened_form, sum_conversion as converted_sum, form_conversion};
+
+use crate::arithmetic::{multiple, product, sum};
+use crate::form::FlowForm;
+use crate::order::bits as bits_of;
+use kat_model::{NoMemory, Width};
+use std::alloc::Global;
+
+fn is_narrower(left: Width, right: Width) -> bool
+    ensures { result ≡ has_fewer_bits left right }
+{
+    bits_of(left) < bits_of(right)
+}
+
+fn is_same_width(left: Width, right: Width) -> bool
+    ensures { result ≡ has_same_bits left right }
+{
+    bits_of(left) == bits_of(right)
+}
+
+// Returns whether a number of a width is negative as two's complement.
+fn is_negative(width: Width, number: u64) -> bool
+    ensures { result ≡ is_negative_number width number }
+{
+    match width {
+        Width::W8 => number >= 0x80,
+        Width::W16 => number >= 0x8000,
+        Width::W32 => number >= 0x8000_0000,
+        Width::W64 => number >= 0x8000_0000_0000_0000,
+    }
+}
+
+// Returns the number of 64 bits with the same value as two's complement.
+fn sign_extended(width: Width, number: u64) -> u64
+    requires { number < modulus width }
+    ensures { result ≡ (if is_negative_number width number then number + (2 ^ 64 - modulus width) else number) }
+{
+    if is_negative(width, number) {
+        return number + (u64::MAX - width.greatest());
+    }
+    number
+}
+
+/// Converts a number of the width `from` to the width `to`, as two's complement if `signed`.
+pub fn convert_number(signed: bool, from: Width, to: Width, number: u64) -> u64
+    requires { number < modulus from }
+    ensures { result ≡ number_conversion signed from to number }
+{
+    if signed {
+        return to.residue(sign_extended(from, number));
+    }
+    to.residue(number)
+}
+
+// Returns the sum that is one conversion.
+fn conversion_cell(
+    alloc: Global,
+    signed: bool,
+    from: Width,
+    to: Width,
+    form: FlowForm,
+) -> Result<FlowForm, NoMemory>
+    ensures { IfOk result (λ f. form_tree f ≡ cell_form (converted_form signed from to (form_tree form))) }
+{
+    let cell = FlowForm::new_converted(alloc, signed, from, to, form)?;
+    FlowForm::of_cell(alloc, cell)
+}
+
+// Returns a cell, converted without sign.
+fn truncated_cell(
+    alloc: Global,
+    from: Width,
+    to: Width,
+    cell: &FlowForm,
+) -> Result<FlowForm, NoMemory>
+    ensures { IfOk result (λ f. form_tree f ≡ cell_form (converted_form false from to (cell_form (form_tree cell.now)))) }
+{
+    let form = FlowForm::of_cell(alloc, cell.copy(alloc)?)?;
+    conversion_cell(alloc, false, from, to, form)
+}
+
+// Returns a form with the bits of a width of fewer bits.
+#[cycle(truncated)]
+fn truncated(alloc: Global, from: Width, to: Width, form: &FlowForm) -> Result<FlowForm, NoMemory>
+    ensures { IfOk result (λ f. form_tree f ≡ truncated_form from to (form_tree form.now)) }
+{
+    match form {
+        FlowForm::Constant(c) => Ok(FlowForm::Constant(to.residue(*c))),
+        FlowForm::Term(t, cells, rest) => {
+            let rest = truncated(alloc, from, to, rest)?;
+            let cells = truncated(alloc, from, to, cells)?;
+            let first = multiple(alloc, to, *t, cells)?;
+            sum(alloc, to, first, rest)
+        }
+        FlowForm::One => Ok(FlowForm::Constant(1)),
+        FlowForm::Factor(cell, rest) => {
+            let cell = truncated(alloc, from, to, cell)?;
+            let rest = truncated(alloc, from, to, rest)?;
+            product(alloc, to, &cell, &rest)
+        }
+        FlowForm::Converted(signed, v, w, inner) => {
+            if is_same_width(*w, from) {
+                return shortened(alloc, *signed, *v, to, inner);
+            }
+            truncated_cell(alloc, from, to, form)
+        }
+        _ => truncated_cell(alloc, from, to, form),
+    }
+}
+
+// Returns the conversion of a form, of which only the bits of a third width are kept.
+#[cycle(truncated)]
+fn shortened(
+    alloc: Global,
+    signed: bool,
+    from: Width,
+    to: Width,
+    form: &FlowForm,
+) -> Result<FlowForm, NoMemory>
+    ensures { IfOk result (λ f. form_tree f ≡ shortened_form signed from to (form_tree form.now) (truncated_form from to (form_tree form.now))) }
+{
+    if is_narrower(to, from) {
+        return truncated(alloc, from, to, form);
+    }
+    if is_narrower(from, to) {
+        return conversion_cell(alloc, signed, from, to, form.copy(alloc)?);
+    }
+    form.copy(alloc)
+}
+
+fn is_one(product: &FlowForm) -> bool
+    ensures { result ≡ has_no_cells (form_tree product.now) }
+{
+    match product {
+        FlowForm::One => true,
+        _ => false,
+    }
+}
+
+fn is_zero(form: &FlowForm) -> bool
+    ensures { result ≡ is_zero_form (form_tree form.now) }
+{
+    match form {
+        FlowForm::Constant(c) => *c == 0,
+        _ => false,
+    }
+}
+
+// Returns whether a term with this coefficient before this sum is its product alone.
+fn is_alone(times: u64, rest: &FlowForm) -> bool
+    ensures { result ≡ is_product_alone times (form_tree rest.now) }
+{
+    times == 1 && is_zero(rest)
+}
+
+// Returns whether a conversion may be converted from its own form.
+fn is_kept(signed: bool, from: Width, inner: bool, v: Width, w: Width) -> bool
+    ensures { result ≡ keeps_form signed from inner v w }
+{
+    is_same_width(w, from) && is_narrower(v, w) && (signed || !inner)
+}
+
+// Returns the conversion of a form that is one cell to a width of more bits.
+fn widened_cell(
+    alloc: Global,
+    signed: bool,
+    from: Width,
+    to: Width,
+    form: &FlowForm,
+    cell: &FlowForm,
+) -> Result<FlowForm, NoMemory>
+    ensures { IfOk result (λ f. form_tree f ≡ widened_from_cell signed from to (form_tree form.now) (form_tree cell.now)) }
+{
+    match cell {
+        FlowForm::Converted(inner, v, w, part) => {
+            if is_kept(signed, from, *inner, *v, *w) {
+                return conversion_cell(alloc, *inner, *v, to, part.copy(alloc)?);
+            }
+            conversion_cell(alloc, signed, from, to, form.copy(alloc)?)
+        }
+        _ => conversion_cell(alloc, signed, from, to, form.copy(alloc)?),
+    }
+}
+
+// Returns the conversion of a form that is one product to a width of more bits.
+fn widened_product(
+    alloc: Global,
+    signed: bool,
+    from: Width,
+    to: Width,
+    form: &FlowForm,
+    product: &FlowForm,
+) -> Result<FlowForm, NoMemory>
+    ensures { IfOk result (λ f. form_tree f ≡ widened_from_product signed from to (form_tree form.now) (form_tree product.now)) }
+{
+    match product {
+        FlowForm::Factor(cell, rest) => {
+            if is_one(rest) {
+                return widened_cell(alloc, signed, from, to, form, cell);
+            }
+            conversion_cell(alloc, signed, from, to, form.copy(alloc)?)
+        }
+        _ => conversion_cell(alloc, signed, from, to, form.copy(alloc)?),
+    }
+}
+
+// Returns the conversion of a form to a width of more bits.
+fn widened(
+    alloc: Global,
+    signed: bool,
+    from: Width,
+    to: Width,
+    form: &FlowForm,
+) -> Result<FlowForm, NoMemory>
+    ensures { IfOk result (λ f. form_tree f ≡ widened_form signed from to (form_tree form.now)) }
+{
+    match form {
+        FlowForm::Term(times, product, rest) => {
+            if is_alone(*times, rest) {
+                return widened_product(alloc, signed, from, to, form, product);
+            }
+            conversion_cell(alloc, signed, from, to, form.copy(alloc)?)
+        }
+        _ => conversion_cell(alloc, signed, from, to, form.copy(alloc)?),
+    }
+}
+
+// Returns the conversion of a form that is not a constant.
+fn sum_conversion(
+    alloc: Global,
+    signed: bool,
+    from: Width,
+    to: Width,
+    form: &FlowForm,
+) -> Result<FlowForm, NoMemory>
+    ensures { IfOk result (λ f. form_tree f ≡ converted_sum signed from to (form_tree form.now)) }
+{
+    if is_narrower(to, from) {
+        return truncated(alloc, from, to, form);
+    }
+    if is_narrower(from, to) {
+        return widened(alloc, signed, from, to, form);
+    }
+    form.copy(alloc)
+}
+
+/// Returns a form converted from the width `from` to the width `to`, as two's complement if `signed`. Fails only when
+/// out of memory.
+pub fn convert(
+    alloc: Global,
+    signed: bool,
+    from: Width,
+    to: Width,
+    form: &FlowForm,
+) -> Result<FlowForm, NoMemory>
+    ensures { IfOk result (λ f. form_tree f ≡ form_conversion signed from to (form_tree form.now)) }
+{
+    match form {
+        FlowForm::Constant(c) => {
+            let number = convert_number(signed, from, to, from.residue(*c));
+            Ok(FlowForm::Constant(number))
+        }
+        _ => sum_conversion(alloc, signed, from, to, form),
+    }
+}
