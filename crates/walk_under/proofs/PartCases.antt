@@ -149,6 +149,21 @@ module _ (c₀ c₁ c₂ : DiagramsParts) (first : KeepsFunctions c₀ c₁) (se
           ∙ sym (chosen_kept c₀ c₂ both_kept Right (items ++ i ∷ []) all_guards atom);
     }
 
+  more_guards : (items : List Item) → ((j : Item) → Has items j → IsDiagramId c₀ j.left × IsDiagramId c₀ j.right) → (j : Item) → Has (items ++ i ∷ []) j → IsDiagramId c₀ j.left × IsDiagramId c₀ j.right
+  more_guards items guards j h =
+      ⊎_elim (guards j) (λ l. ⊎_elim (λ e. subst (λ (x : Item). IsDiagramId c₀ x.left × IsDiagramId c₀ x.right) e (l_is, r_is)) (λ a. absurd a) l) (has_append items (i ∷ []) j h)
+
+  -- an empty part may have any terms
+  pub part_empty : (items : List Item) (whole : ℕ) → IsPart c₀ items whole p → (new : Part) → new.region ≡ region → ((atom : Atom) → IsAtomOf c₂ atom → IsTrue (value_of c₂ new.region atom) → ⊥) → IsPart c₂ (items ++ i ∷ []) whole new
+  part_empty items whole part new same none = record {
+    is_id = subst (IsDiagramId c₂) (sym same) on_right.is_id;
+    is_whole = second.ids whole (first.ids whole part.is_whole);
+    guards = λ j h. let g = more_guards items part.guards j h in (second.ids j.left (first.ids j.left g.0), second.ids j.right (first.ids j.right g.1));
+    within = λ atom fits h. absurd (none atom fits h);
+    lefts = λ atom fits h. absurd (none atom fits h);
+    rights = λ atom fits h. absurd (none atom fits h);
+  }
+
 -- ---- an additional part in a list
 
 pub parts_pushed : (d : DiagramsParts) (items : List Item) (whole : ℕ) (ps new : List Part) (p : Part) → new ≡ ps ++ p ∷ [] → AreParts d items whole ps → IsPart d items whole p → IsSomewhereTrue d p.region → AreParts d items whole new

@@ -61,7 +61,8 @@ fn with_target(
     Ok(list)
 }
 
-// Returns the part of `part` at which the guards of the item have these values.
+// Returns the part of `part` at which the guards of the item have these values. An empty part gets no terms: most cases
+// are empty, and copies of their terms were a tenth of a walk.
 fn part_where(
     alloc: Global,
     diagrams: &mut Diagrams,
@@ -80,6 +81,15 @@ fn part_where(
 {
     let beside = region_where(diagrams, part.region, item.left, left)?;
     let region = region_where(diagrams, beside, item.right, right)?;
+    if region == diagrams.constant(false) {
+        let no_left = Vec::new(alloc);
+        let no_right = Vec::new(alloc);
+        return Ok(Part {
+            region,
+            left: no_left,
+            right: no_right,
+        });
+    }
     Ok(Part {
         region,
         left: with_target(alloc, &part.left, item.target, left)?,
