@@ -178,8 +178,11 @@ impl Bars {
         ensures bars { OnOk result (self.new.bars ≡ self.old.bars) }
         ensures kept { KeepsFunctions diagrams.old diagrams.new }
     {
-        let rest = forget(diagrams, region, &self.unasked)?;
         let count = self.bars.len();
+        if count == 0 {
+            return self.image_under(diagrams, region, 0);
+        }
+        let rest = forget(diagrams, region, &self.unasked)?;
         self.image_under(diagrams, rest, count)
     }
 
