@@ -10,7 +10,7 @@ use Rattle.kat_model.specs.Members.{Has}
 use Rattle.kat_model.specs.Problems.{ProblemParts, IsInRange, AreInRange, HasTestsBelow, IsProblem}
 use Rattle.kat_model.specs.Balanced.{sum_of}
 use Rattle.kat_model.specs.Degrees.{is_short, long_hyps, with_hyps}
-use Rattle.kat_model.specs.Closed.{universal_of, inside, closed_under, closed}
+use Rattle.kat_model.specs.Closed.{Closed, universal_of, inside, closed_under, closed}
 use Rattle.kat_model.proofs.Ranges.{IsInRange-HasTestsBelow, IsInRange-sum_of, IsInRange-universal_of}
 use Rattle.term_nodes.specs.NumberSets.{are_below, terms_of}
 use Rattle.term_nodes.proofs.Prefixes.{IsPrefix-within}
@@ -18,7 +18,7 @@ use Rattle.term_nodes.proofs.Parts.{below_has, has_below, below_more}
 use Rattle.certificate.specs.declared.nodes.Style.{Style}
 use Rattle.certificate.specs.declared.nodes.Style.TheVariants.{Plain, UpTo, Under}
 use Rattle.cert_steps.specs.NodeTables.{TableParts, TablesGrow, IsTerm, term_at, nodes_in}
-use Rattle.cert_checker.specs.Working.Roots.{AreClosedBelow, AreSideNumbers, AreRoots, compared, counted_short}
+use Rattle.cert_checker.specs.Working.Roots.{AreClosedBelow, AreClosedNumbers, AreSideNumbers, AreRoots, compared, counted_short}
 use Rattle.hypothesis_kinds.proofs.LongProblems.{long_is_problem}
 use Rattle.cert_steps.proofs.GrowingTables.{grows_trans}
 use Rattle.cert_steps.proofs.StepLists.{grows_longer}
@@ -147,10 +147,10 @@ roots_stay s q t new left right universal shorts grows a = record {
 }
 
 -- the numbers that are assigned one after another, while tables grow
-pub sides_made : (s : Style) (q : ProblemParts) (first second last : TableParts) (left right : ℕ) (universal : Option ℕ) → TablesGrow first second → TablesGrow second last
-    → IsTerm first left → term_at first left ≡ (compared s q).left → IsTerm second right → term_at second right ≡ (compared s q).right
-    → ((u : ℕ) → universal ≡ Some u → IsTerm last u) × (option_map (term_at last) universal ≡ (compared s q).universal) → AreSideNumbers s q last left right universal
-sides_made s q first second last left right universal to_second to_last left_there left_is right_there right_is u =
+pub numbers_made : (c : Closed) (first second last : TableParts) (left right : ℕ) (universal : Option ℕ) → TablesGrow first second → TablesGrow second last
+    → IsTerm first left → term_at first left ≡ c.left → IsTerm second right → term_at second right ≡ c.right
+    → ((u : ℕ) → universal ≡ Some u → IsTerm last u) × (option_map (term_at last) universal ≡ c.universal) → AreClosedNumbers c last left right universal
+numbers_made c first second last left right universal to_second to_last left_there left_is right_there right_is u =
     let l = term_stays first last (grows_trans first second last to_second to_last) left _ left_there left_is in
     let r = term_stays second last to_last right _ right_there right_is in
     record {

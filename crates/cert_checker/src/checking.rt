@@ -7,16 +7,16 @@ ghost use Rattle.certificate.specs.Accepted.{IsAccepted};
 ghost use Rattle.cert_checker.specs.declared.answer.Answer.TheVariants.{Accepted};
 ghost use Rattle.cert_checker.specs.Answers.{Shows, FailsFirstBy, IsFoundBy, IsAnswer, finding_reason};
 ghost use Rattle.cert_checker.specs.Laws.{Says};
-ghost use Rattle.cert_checker.specs.Working.Places.{place_reason};
+ghost use Rattle.cert_checker.specs.Working.Places.{IsPass, place_reason};
 ghost use Rattle.cert_checker.specs.Working.Relevant.{HasFewerHyps};
 
 use crate::answer::{Answer, Reason};
 use crate::index::PairIndex;
 use crate::pass::{Pass, Place};
 use crate::range::{action_out, test_out};
-use crate::relevant::{asked_tests, asks_only};
+use crate::relevant::asked_tests;
 use certificate::{Cert, Evidence, Style};
-use hypothesis_kinds::is_short;
+use hypothesis_kinds::{asks_only, is_short};
 use kat_model::{Items, NoMemory, Problem};
 use std::alloc::Global;
 use string_tables::{Finding, verdict};
@@ -34,6 +34,21 @@ fn reason_of_place(place: Place, style: Style) -> Reason
     }
 }
 
+// Returns the first reason of the pairs, by a pass over them. All nodes must be in range.
+fn pass_reason(pass: &mut Pass, style: Style) -> Result<Option<Reason>, NoMemory>
+    requires pass { IsPass pass.old }
+    requires style { style ≡ pass.old.cert.style }
+    requires tests { (k : ℕ) → Has pass.old.cert.test_nodes (Prim k) → k < pass.old.problem.tests }
+    requires actions { (a : ℕ) → Has pass.old.cert.term_nodes (Act a) → a < pass.old.problem.actions }
+    ensures { IfOk result (λ o. MatchOption o (IsAccepted pass.old.problem pass.old.cert) (λ r. FailsFirstBy pass.old.problem pass.old.cert r)) }
+{
+    if !pass.begins()? {
+        return Ok(Some(Reason::FirstPair));
+    }
+    let place = pass.first_place()?;
+    Ok(place.map(|place| reason_of_place(place, style)))
+}
+
 // Returns the first reason of the pairs. All nodes must be in range.
 fn pairs_reason(alloc: Global, problem: &Problem, cert: &Cert) -> Result<Option<Reason>, NoMemory>
     requires tests { (k : ℕ) → Has cert.now.test_nodes (Prim k) → k < problem.now.tests }
@@ -42,11 +57,7 @@ fn pairs_reason(alloc: Global, problem: &Problem, cert: &Cert) -> Result<Option<
 {
     let index = PairIndex::of(alloc, cert.pairs())?;
     let mut pass = Pass::of(alloc, problem, cert, &index)?;
-    if !pass.begins()? {
-        return Ok(Some(Reason::FirstPair));
-    }
-    let place = pass.first_place()?;
-    Ok(place.map(|place| reason_of_place(place, cert.style())))
+    pass_reason(&mut pass, cert.style())
 }
 
 // Returns the problem with its long hypotheses and with those short ones that depend, after each action or without one,
@@ -68,11 +79,7 @@ fn fewer_hyps(alloc: Global, problem: &Problem, cert: &Cert) -> Result<Option<Pr
 
 // Returns the first reason why the certificate is not accepted. Pairs under tests that are accepted with fewer
 // hypotheses are accepted; other pairs are judged with all hypotheses, so that the reason is the first.
-fn certificate_reason(
-    alloc: Global,
-    problem: &Problem,
-    cert: &Cert,
-) -> Result<Option<Reason>, NoMemory>
+fn cert_reason(alloc: Global, problem: &Problem, cert: &Cert) -> Result<Option<Reason>, NoMemory>
     ensures { IfOk result (λ o. MatchOption o (IsAccepted problem.now cert.now) (λ r. FailsFirstBy problem.now cert.now r)) }
 {
     if let Some(k) = test_out(cert.test_nodes(), problem.tests()) {
@@ -110,7 +117,7 @@ fn first_reason(
     ensures { IfOk result (λ o. MatchOption o (Shows problem.now evidence.now) (λ r. IsFoundBy problem.now evidence.now r)) }
 {
     match evidence {
-        Evidence::Equal(cert) => certificate_reason(alloc, problem, cert),
+        Evidence::Equal(cert) => cert_reason(alloc, problem, cert),
         Evidence::Different(string) => Ok(string_reason(verdict(alloc, problem, string)?)),
     }
 }

@@ -2,14 +2,16 @@
 ghost use Rattle.std.specs.Prelude.{◌≡◌, ◌≤◌, ℕ, Some, IsTrue, IfOk, length};
 ghost use Rattle.std.specs.Option.{option_map};
 ghost use Rattle.kat_model.specs.Members.{Has};
+ghost use Rattle.kat_model.specs.Problems.{IsProblem};
 ghost use Rattle.kat_model.specs.Steps.{set_out};
 ghost use Rattle.term_nodes.specs.NumberSets.{are_below, terms_of};
 ghost use Rattle.goal_forms.specs.ClosedTrees.{closed_trees};
-ghost use Rattle.cert_steps.specs.NodeTables.{AreTables, TablesGrow, TestsGrow, IsTerm, HasValues, term_at, nodes_in};
+ghost use Rattle.cert_steps.specs.NodeTables.{AreTables, TablesGrow, TestsGrow, IsTerm, HasValues, term_at, nodes_in, tables_of};
 ghost use Rattle.cert_steps.specs.Marks.{IsMarked};
 ghost use Rattle.cert_steps.specs.Targets.{AreAcceptances};
-ghost use Rattle.cert_checker.specs.Working.Roots.{AreClosedBelow, AreSideNumbers, compared, counted_short};
-ghost use Rattle.cert_checker.specs.Working.Places.{AreNeeded, IsLeastOf};
+ghost use Rattle.cert_checker.specs.Working.Indices.{IndexParts, AreIndexed};
+ghost use Rattle.cert_checker.specs.Working.Roots.{AreClosedBelow, AreClosedNumbers, compared, counted_short};
+ghost use Rattle.cert_checker.specs.Working.Places.{AreNeeded, IsLeastOf, IsPass, pass_of};
 
 use crate::asked::with_parts;
 use crate::cases::least_failure;
@@ -38,15 +40,21 @@ pub(crate) struct Place {
 }
 
 /// The state of a pass over a certificate: its nodes and the root terms of the problem, followed by the terms that
-/// steps lead to; the numbers of the compared closed sides, of their universal term if there is one, and of the
-/// hypotheses that count as short; the tests that are true where terms accept and where a short hypothesis does; and
-/// marks of the terms whose steps are computed.
+/// steps lead to; and its numbers.
 #[derive(Drop)]
 pub(crate) struct Pass<'a> {
     problem: &'a Problem,
     cert: &'a Cert,
     index: &'a PairIndex,
     tables: Tables,
+    parts: PassNumbers,
+}
+
+/// The numbers of a pass: those of the compared closed sides, of their universal term if there is one, and of the
+/// hypotheses that count as short; the tests that are true where terms accept and where a short hypothesis does; and
+/// marks of the terms whose steps are computed.
+#[derive(Drop)]
+pub(crate) struct PassNumbers {
     left: usize,
     right: usize,
     universal: Option<usize>,
@@ -65,7 +73,7 @@ impl<'a> Model for Pass<'a> {
 
     ghost coded = { Prim.hlevel (codes, coded_term) };
 
-    ghost view = { λ p. record { problem = p.problem.now; cert = p.cert.now; index = p.index.now; tables = p.tables; left = p.left; right = p.right; universal = p.universal; shorts = p.shorts.items; acceptance_tests = p.acceptance_tests.items; forbidden_atoms = p.forbidden_atoms; needed_terms = p.needed_terms.items } };
+    ghost view = { λ p. record { problem = p.problem.now; cert = p.cert.now; index = p.index.now; tables = p.tables; left = p.parts.left; right = p.parts.right; universal = p.parts.universal; shorts = p.parts.shorts.items; acceptance_tests = p.parts.acceptance_tests.items; forbidden_atoms = p.parts.forbidden_atoms; needed_terms = p.parts.needed_terms.items } };
 }
 
 // Returns the closed sides that the style compares.
@@ -78,19 +86,14 @@ fn closed_sides(alloc: Global, problem: &Problem, style: Style) -> Result<Closed
     }
 }
 
-// Returns the numbers of these sides, and of the universal term if there is one. The tables have one number for each
+// Returns the numbers of closed sides, and of their universal term if there is one. The tables have one number for each
 // tree of the certificate, so a side is found part by part, and no tree is compared with nodes.
-fn side_numbers(
-    tables: &mut Tables,
-    problem: &Problem,
-    style: Style,
-) -> Result<(usize, usize, Option<usize>), NoMemory>
+fn sides_in(tables: &mut Tables, closed: &Closed) -> Result<(usize, usize, Option<usize>), NoMemory>
     requires tables { AreTables tables.old }
-    requires below { AreClosedBelow tables.old.width (compared style problem.now) }
-    ensures sides { IfOk result (λ n. AreSideNumbers style problem.now tables.new n.0 n.1 n.2) }
+    requires below { AreClosedBelow tables.old.width (closed_trees closed.now) }
+    ensures numbers { IfOk result (λ n. AreClosedNumbers (closed_trees closed.now) tables.new n.0 n.1 n.2) }
     ensures grows { TablesGrow tables.old tables.new }
 {
-    let closed = closed_sides(tables.alloc(), problem, style)?;
     let left = tables.number_of(&closed.left)?;
     let right = tables.number_of(&closed.right)?;
     let universal = match &closed.universal {
@@ -101,11 +104,7 @@ fn side_numbers(
 }
 
 // Returns the numbers of the hypotheses that count as short.
-fn short_numbers(
-    tables: &mut Tables,
-    problem: &Problem,
-    style: Style,
-) -> Result<Vec<usize>, NoMemory>
+fn short_hyps(tables: &mut Tables, problem: &Problem, style: Style) -> Result<Vec<usize>, NoMemory>
     requires tables { AreTables tables.old }
     requires width { problem.now.tests ≡ tables.old.width }
     ensures terms { IfOk result (λ v. terms_of (nodes_in tables.new) v.items ≡ counted_short style problem.now) }
@@ -167,8 +166,38 @@ fn needed_terms(tables: &Tables, cert: &Cert, shorts: &[usize]) -> Result<Vec<bo
     Ok(marks)
 }
 
+// Returns what a pass over the certificate needs, and adds its nodes to tables with only those of the certificate. The
+// tables are borrowed here, where much can fail.
+fn pass_numbers(
+    tables: &mut Tables,
+    problem: &Problem,
+    cert: &Cert,
+    closed: &Closed,
+) -> Result<PassNumbers, NoMemory>
+    requires problem { IsProblem problem.now }
+    requires tables { AreTables tables.old }
+    requires nodes { tables.old ≡ tables_of problem.now.tests cert.now }
+    requires closed { closed_trees closed.now ≡ compared cert.now.style problem.now }
+    ensures { IfOk result (λ n. (index : IndexParts) → AreIndexed index cert.now.pairs → IsPass (pass_of problem.now cert.now index tables.new n)) }
+{
+    let (left, right, universal) = sides_in(tables, closed)?;
+    let shorts = short_hyps(tables, problem, cert.style())?;
+    let acceptance_tests = acceptances(tables)?;
+    let forbidden_atoms = acceptance(tables, &acceptance_tests, &shorts)?;
+    let needed_terms = needed_terms(tables, cert, &shorts)?;
+    Ok(PassNumbers {
+        left,
+        right,
+        universal,
+        shorts,
+        acceptance_tests,
+        forbidden_atoms,
+        needed_terms,
+    })
+}
+
 impl<'a> Pass<'a> {
-    ghost use Rattle.std.specs.Prelude.{◌≡◌, ◌↔◌, ◌<◌, ◌+◌, ℕ, IsTrue, IfOk, OnOk, length, map};
+    ghost use Rattle.std.specs.Prelude.{◌≡◌, ◌↔◌, ◌<◌, ◌+◌, ℕ, None, IsTrue, IfOk, OnOk, length, map};
     ghost use Rattle.std.specs.Option.{option_map};
     ghost use Rattle.kat_model.specs.Members.{Has};
     ghost use Rattle.kat_model.specs.Steps.{Atom};
@@ -193,24 +222,15 @@ impl<'a> Pass<'a> {
         ensures pass { IfOk result IsPass }
         ensures of { IfOk result (λ p. (p.problem ≡ problem.now) × (p.cert ≡ cert.now)) }
     {
+        let closed = closed_sides(alloc, problem, cert.style())?;
         let mut tables = Tables::of(alloc, cert, problem.tests())?;
-        let (left, right, universal) = side_numbers(&mut tables, problem, cert.style())?;
-        let shorts = short_numbers(&mut tables, problem, cert.style())?;
-        let acceptance_tests = acceptances(&mut tables)?;
-        let forbidden_atoms = acceptance(&mut tables, &acceptance_tests, &shorts)?;
-        let needed_terms = needed_terms(&tables, cert, &shorts)?;
+        let parts = pass_numbers(&mut tables, problem, cert, &closed)?;
         Ok(Pass {
             problem,
             cert,
             index,
             tables,
-            left,
-            right,
-            universal,
-            shorts,
-            acceptance_tests,
-            forbidden_atoms,
-            needed_terms,
+            parts,
         })
     }
 
@@ -227,14 +247,14 @@ impl<'a> Pass<'a> {
         ensures grows { PassGrows self.old self.new }
     {
         let mut forbidden = Vec::new(self.tables.alloc());
-        if self.shorts.is_empty() {
+        if self.parts.shorts.is_empty() {
             return Ok(forbidden);
         }
         let always = self.tables.constant(true)?;
-        forbidden.push((self.forbidden_atoms, always))?;
+        forbidden.push((self.parts.forbidden_atoms, always))?;
         if action.is_some() {
-            forbidden.push((always, self.forbidden_atoms))?;
-            let targets = of_set(&mut self.tables, steps, &self.shorts, action)?;
+            forbidden.push((always, self.parts.forbidden_atoms))?;
+            let targets = of_set(&mut self.tables, steps, &self.parts.shorts, action)?;
             let outputs = acceptances(&mut self.tables)?;
             for (term, guard) in targets.iter() {
                 forbidden.push((*guard, outputs[*term]))?;
@@ -256,10 +276,10 @@ impl<'a> Pass<'a> {
         let no_pairs: &[Pair] = &[];
         let (style, pairs, universal) = match action {
             None => (Style::UpTo, no_pairs, None),
-            Some(_) => (cert.style(), cert.pairs(), self.universal),
+            Some(_) => (cert.style(), cert.pairs(), self.parts.universal),
         };
-        let tables = &mut self.tables;
-        let steps = steps(tables, &self.acceptance_tests, &self.needed_terms, action)?;
+        let (tables, parts) = (&mut self.tables, &self.parts);
+        let steps = steps(tables, &parts.acceptance_tests, &parts.needed_terms, action)?;
         let forbidden = self.forbidden(&steps, action)?;
         let mut begin = BTreeSet::new(self.tables.alloc());
         let mut end = BTreeSet::new(self.tables.alloc());
@@ -338,6 +358,23 @@ impl<'a> Pass<'a> {
         Ok(place)
     }
 
+    // Whether the test is true at each allowed atom, by the pass without an action.
+    fn holds_in(&mut self, action_pass: &ActionPass, test: usize) -> Result<bool, NoMemory>
+        requires pass { IsPass self.old }
+        requires action_pass { IsActionPass self.old action_pass.now }
+        requires outputs { action_pass.now.action ≡ None }
+        requires is_test { IsTest self.old.tables test }
+        ensures holds { IfOk result (λ b. IsTrue b ↔ ((atom : Atom) → length atom ≡ self.old.problem.tests → IsAllowedAtom (counted_short self.old.cert.style self.old.problem) atom → IsTrue (holds_at self.old.tables test atom))) }
+        ensures grows { PassGrows self.old self.new }
+    {
+        let always = self.tables.constant(true)?;
+        let left = empty_product(&mut self.tables, test)?;
+        let right = empty_product(&mut self.tables, always)?;
+        let mut case = TestCase::new(self.tables.alloc(), self.tables.width())?;
+        let question = Question::of(&self.tables, action_pass, None, left, right)?;
+        Ok(least_failure(&question, &mut case, None)?.is_none())
+    }
+
     // Whether the test is true at each allowed atom.
     fn holds_throughout(&mut self, test: usize) -> Result<bool, NoMemory>
         requires pass { IsPass self.old }
@@ -346,12 +383,7 @@ impl<'a> Pass<'a> {
         ensures grows { PassGrows self.old self.new }
     {
         let action_pass = self.action_pass(None)?;
-        let always = self.tables.constant(true)?;
-        let left = empty_product(&mut self.tables, test)?;
-        let right = empty_product(&mut self.tables, always)?;
-        let mut case = TestCase::new(self.tables.alloc(), self.tables.width())?;
-        let question = Question::of(&self.tables, &action_pass, None, left, right)?;
-        Ok(least_failure(&question, &mut case, None)?.is_none())
+        self.holds_in(&action_pass, test)
     }
 
     /// Whether the first pair is the two closed sides, each as a set of one term, under a test that is true at each
@@ -365,8 +397,8 @@ impl<'a> Pass<'a> {
         let Some(pair) = cert.pairs().first() else {
             return Ok(false);
         };
-        if pair.left.as_slice() != [self.left].as_slice()
-            || pair.right.as_slice() != [self.right].as_slice()
+        if pair.left.as_slice() != [self.parts.left].as_slice()
+            || pair.right.as_slice() != [self.parts.right].as_slice()
         {
             return Ok(false);
         }

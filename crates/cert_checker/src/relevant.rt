@@ -5,7 +5,7 @@ ghost use Rattle.cert_steps.specs.NodeTables.{ArePrimsBelow};
 use crate::asked::with_parts;
 use cert_steps::Tables;
 use certificate::{Cert, TestNode};
-use kat_model::{Kat, NoMemory, Test};
+use kat_model::NoMemory;
 use std::alloc::Global;
 use std::collections::BTreeSet;
 
@@ -23,26 +23,4 @@ pub(crate) fn asked_tests(alloc: Global, cert: &Cert, width: usize) -> Result<Ve
         }
     }
     Ok(prims)
-}
-
-// Whether the test names only known primitive tests.
-fn names_only(test: &Test, known: &[usize]) -> bool {
-    match test {
-        Test::False | Test::True => true,
-        Test::Prim(k) => known.contains(k),
-        Test::Not(b) => names_only(b, known),
-        Test::And(b, c) | Test::Or(b, c) => names_only(b, known) && names_only(c, known),
-    }
-}
-
-/// Returns whether the tests of the term that follow an action name only known primitive tests. If `late` is true, all
-/// its tests must.
-pub(crate) fn asks_only(term: &Kat, known: &[usize], late: bool) -> bool {
-    match term {
-        Kat::Zero | Kat::One | Kat::Act(_) => true,
-        Kat::Test(b) => !late || names_only(b, known),
-        Kat::Sum(e, f) => asks_only(e, known, late) && asks_only(f, known, late),
-        Kat::Seq(e, f) => asks_only(e, known, late) && asks_only(f, known, late || e.acts() > 0),
-        Kat::Star(e) => asks_only(e, known, late),
-    }
 }

@@ -52,13 +52,16 @@ pub(crate) fn counts(counted: &Counted, pair: &Pair) -> bool
     }
 }
 
-fn has_all(reached: &IndexSet<usize>, set: &[usize]) -> bool
+// The terms that are reached so far.
+type Reached = IndexSet<usize>;
+
+fn has_all(reached: &Reached, set: &[usize]) -> bool
     ensures { IsTrue result ↔ IsSubset set.now reached.now.keys }
 {
     set.iter().all(|term| reached.contains(term))
 }
 
-fn add_all(reached: &mut IndexSet<usize>, set: &[usize]) -> Result<(), NoMemory>
+fn add_all(reached: &mut Reached, set: &[usize]) -> Result<(), NoMemory>
     ensures { OnOk result (AreAdded set.now reached.old.keys reached.new.keys) }
 {
     for term in set {
@@ -68,7 +71,7 @@ fn add_all(reached: &mut IndexSet<usize>, set: &[usize]) -> Result<(), NoMemory>
 }
 
 // Adds the second set if all of the first is reached.
-fn bring(reached: &mut IndexSet<usize>, set: &[usize], other: &[usize]) -> Result<(), NoMemory>
+fn bring(reached: &mut Reached, set: &[usize], other: &[usize]) -> Result<(), NoMemory>
     ensures { OnOk result (IsBrought set.now other.now reached.old.keys reached.new.keys) }
 {
     if !has_all(reached, set) {
@@ -79,11 +82,7 @@ fn bring(reached: &mut IndexSet<usize>, set: &[usize], other: &[usize]) -> Resul
 
 // Visits the pairs under the term, or those with an empty set. If a pair counts and all of one of its sets is reached,
 // adds the other set.
-fn add_pairs(
-    reached: &mut IndexSet<usize>,
-    counted: &Counted,
-    last: Option<usize>,
-) -> Result<(), NoMemory>
+fn add_pairs(reached: &mut Reached, counted: &Counted, last: Option<usize>) -> Result<(), NoMemory>
     ensures goes_on { OnOk result (GoesOn (counting_in counted.now) reached.old.keys reached.new.keys) }
     ensures tended { OnOk result (AreTendedAt counted.now.action_pass.now.pairs counted.now.also_open counted.now.known.now reached.old.keys reached.new.keys (places_at counted.now.action_pass.now.index last)) }
 {
@@ -100,11 +99,7 @@ fn add_pairs(
 }
 
 // Visits the pairs under these terms.
-fn add_under(
-    reached: &mut IndexSet<usize>,
-    counted: &Counted,
-    terms: &[usize],
-) -> Result<(), NoMemory>
+fn add_under(reached: &mut Reached, counted: &Counted, terms: &[usize]) -> Result<(), NoMemory>
     ensures { OnOk result (GoesOn (counting_in counted.now) reached.old.keys reached.new.keys) }
 {
     for term in terms {
@@ -115,11 +110,7 @@ fn add_under(
 
 // Visits the pairs under each reached term, including terms that are added on the way, until all wanted terms are
 // reached.
-fn add_round(
-    reached: &mut IndexSet<usize>,
-    counted: &Counted,
-    wanted: &[usize],
-) -> Result<(), NoMemory>
+fn add_round(reached: &mut Reached, counted: &Counted, wanted: &[usize]) -> Result<(), NoMemory>
     ensures goes_on { OnOk result (GoesOn (counting_in counted.now) reached.old.keys reached.new.keys) }
     ensures tended { OnOk result (IsSubset wanted.now reached.new.keys ⊎ ((term : ℕ) → Has reached.new.keys term → AreTendedAt counted.now.action_pass.now.pairs counted.now.also_open counted.now.known.now reached.old.keys reached.new.keys (places_under counted.now.action_pass.now.index term))) }
 {

@@ -2,10 +2,12 @@
 //! the simple ones, each a test or one action between tests. For both, the strings of at most one move that they accept.
 #![tactic(auto)]
 
+mod asked;
 mod hyps;
 mod simple;
 mod single;
 
+pub use asked::asks_only;
 pub use hyps::{has_short, is_short, long_problem};
 pub use simple::not_simple;
 pub use single::{accepts_atom, accepts_move};

@@ -18,6 +18,7 @@ use Rattle.cert_steps.specs.NodeTables.{TableParts, TablesGrow, tables_of, IsTes
 use Rattle.cert_steps.specs.Marks.{IsMarked, AreClosed}
 use Rattle.cert_steps.specs.Targets.{AreAcceptances, AreSteps}
 use Rattle.cert_checker.specs.declared.pass.Place.{Place}
+use Rattle.cert_checker.specs.declared.pass.PassNumbers.{PassNumbers}
 use Rattle.cert_checker.specs.declared.answer.Reason.{Reason}
 use Rattle.cert_checker.specs.declared.answer.Reason.TheVariants.{FirstPair, Output, Missing, MissingTo, Shape, HypBroken, EndsAgree, TestNode, TermNode}
 use Rattle.cert_checker.specs.Answers.{Turn, turn_of, IsEarlier, FailsBy, OutputsHold, StepHolds, MoveHolds}
@@ -69,6 +70,10 @@ pub record PassParts : Type 0 where
   pub acceptance_tests : List ℕ
   pub forbidden_atoms : ℕ
   pub needed_terms : List Bool
+
+-- the pass with these numbers
+abbrev pub pass_of : ProblemParts → CertParts → IndexParts → TableParts → PassNumbers → PassParts
+pass_of q c x t n = record { problem = q; cert = c; index = x; tables = t; left = n.left; right = n.right; universal = n.universal; shorts = n.shorts.items; acceptance_tests = n.acceptance_tests.items; forbidden_atoms = n.forbidden_atoms; needed_terms = n.needed_terms.items }
 
 -- the members of listed pairs and the short hypotheses are marked, and so are their parts
 pub record AreNeeded (t : TableParts) (c : CertParts) (numbers : List ℕ) (marks : List Bool) : Type 0 where

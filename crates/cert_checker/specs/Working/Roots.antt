@@ -28,14 +28,18 @@ pub record AreClosedBelow (n : ℕ) (c : Closed) : Type 0 where
   pub right : HasTestsBelow n c.right
   pub universal : (u : Term) → c.universal ≡ Some u → HasTestsBelow n u
 
--- the numbers of the closed sides, and of the universal term if there is one
-pub record AreSideNumbers (s : Style) (q : ProblemParts) (t : TableParts) (l r : ℕ) (u : Option ℕ) : Type 0 where
-  pub left : term_at t l ≡ (compared s q).left
+-- the numbers of closed sides, and of their universal term if there is one
+pub record AreClosedNumbers (c : Closed) (t : TableParts) (l r : ℕ) (u : Option ℕ) : Type 0 where
+  pub left : term_at t l ≡ c.left
   pub left_there : IsTerm t l
-  pub right : term_at t r ≡ (compared s q).right
+  pub right : term_at t r ≡ c.right
   pub right_there : IsTerm t r
-  pub universal : option_map (term_at t) u ≡ (compared s q).universal
+  pub universal : option_map (term_at t) u ≡ c.universal
   pub universal_there : (k : ℕ) → u ≡ Some k → IsTerm t k
+
+-- those of the sides that a style compares
+abbrev pub AreSideNumbers : Style → ProblemParts → TableParts → ℕ → ℕ → Option ℕ → Type 0
+AreSideNumbers s q t l r u = AreClosedNumbers (compared s q) t l r u
 
 -- and the numbers of the short hypotheses
 pub record AreRoots (s : Style) (q : ProblemParts) (t : TableParts) (l r : ℕ) (u : Option ℕ) (ks : List ℕ) : Type 0 where

@@ -24,16 +24,16 @@ forbidden-requires-clause-pass c = pass_with _ c.steps.new.tables c.steps.ensure
 pub forbidden-requires-clause-steps : goal.forbidden-requires-clause-steps
 forbidden-requires-clause-steps c =
     let t = c.steps.new.tables in
-    let marks : c.deref-2.result.now ≡ c.self.inside.needed_terms.items = c.deref-2.ensures.value in
+    let marks : c.deref-2.result.now ≡ c.self.inside.parts.needed_terms.items = c.deref-2.ensures.value in
     let made = map (λ e. e.entries) c.in_ok-steps.steps.items in
-    let all : length made ≡ length c.self.inside.needed_terms.items = length-map c.in_ok-steps.steps.items (λ e. e.entries) ∙ c.in_ok-steps.ensures.all ∙ ap length marks in
-    let stand : StepsOf t c.args.action c.self.inside.needed_terms.items made =
+    let all : length made ≡ length c.self.inside.parts.needed_terms.items = length-map c.in_ok-steps.steps.items (λ e. e.entries) ∙ c.in_ok-steps.ensures.all ∙ ap length marks in
+    let stand : StepsOf t c.args.action c.self.inside.parts.needed_terms.items made =
     record { steps = subst (λ m. AreSteps t c.args.action (IsMarked m) made) marks c.in_ok-steps.ensures.steps; count = all } in
-    subst (λ l. StepsOf t c.args.action c.self.inside.needed_terms.items (map (λ e. e.entries) l)) (sym c.deref-3.ensures.value) stand
+    subst (λ l. StepsOf t c.args.action c.self.inside.parts.needed_terms.items (map (λ e. e.entries) l)) (sym c.deref-3.ensures.value) stand
 
 pub with_parts-requires : goal.with_parts-requires
 with_parts-requires c =
-    let old : PassParts = record { problem = c.self.inside.problem.now; cert = c.self.inside.cert.now; index = c.self.inside.index.now; tables = c.steps.new.tables; left = c.self.inside.left; right = c.self.inside.right; universal = c.self.inside.universal; shorts = c.self.inside.shorts.items; acceptance_tests = c.self.inside.acceptance_tests.items; forbidden_atoms = c.self.inside.forbidden_atoms; needed_terms = c.self.inside.needed_terms.items } in
+    let old : PassParts = record { problem = c.self.inside.problem.now; cert = c.self.inside.cert.now; index = c.self.inside.index.now; tables = c.steps.new.tables; left = c.self.inside.parts.left; right = c.self.inside.parts.right; universal = c.self.inside.parts.universal; shorts = c.self.inside.parts.shorts.items; acceptance_tests = c.self.inside.parts.acceptance_tests.items; forbidden_atoms = c.self.inside.parts.forbidden_atoms; needed_terms = c.self.inside.parts.needed_terms.items } in
     let begun = pass_with _ c.steps.new.tables c.steps.ensures.grows (subst IsPass (sym c.self.view_is) c.requires) in
     let p = c.forbidden.new.self in
     let grows = c.forbidden.ensures.grows in
@@ -49,7 +49,7 @@ with_parts-requires c =
 
 pub with_parts-requires-2 : goal.with_parts-requires-2
 with_parts-requires-2 c =
-    let old : PassParts = record { problem = c.self.inside.problem.now; cert = c.self.inside.cert.now; index = c.self.inside.index.now; tables = c.steps.new.tables; left = c.self.inside.left; right = c.self.inside.right; universal = c.self.inside.universal; shorts = c.self.inside.shorts.items; acceptance_tests = c.self.inside.acceptance_tests.items; forbidden_atoms = c.self.inside.forbidden_atoms; needed_terms = c.self.inside.needed_terms.items } in
+    let old : PassParts = record { problem = c.self.inside.problem.now; cert = c.self.inside.cert.now; index = c.self.inside.index.now; tables = c.steps.new.tables; left = c.self.inside.parts.left; right = c.self.inside.parts.right; universal = c.self.inside.parts.universal; shorts = c.self.inside.parts.shorts.items; acceptance_tests = c.self.inside.parts.acceptance_tests.items; forbidden_atoms = c.self.inside.parts.forbidden_atoms; needed_terms = c.self.inside.parts.needed_terms.items } in
     let begun = pass_with _ c.steps.new.tables c.steps.ensures.grows (subst IsPass (sym c.self.view_is) c.requires) in
     let p = c.forbidden.new.self in
     let grows = c.forbidden.ensures.grows in
@@ -76,12 +76,12 @@ with_parts-requires-2 c =
 pub returns-clause-action_pass : goal.returns-clause-action_pass
 returns-clause-action_pass c =
     let t = c.steps.new.tables in
-    let marks : c.deref-2.result.now ≡ c.self.inside.needed_terms.items = c.deref-2.ensures.value in
+    let marks : c.deref-2.result.now ≡ c.self.inside.parts.needed_terms.items = c.deref-2.ensures.value in
     let made = map (λ e. e.entries) c.in_ok-steps.steps.items in
-    let all : length made ≡ length c.self.inside.needed_terms.items = length-map c.in_ok-steps.steps.items (λ e. e.entries) ∙ c.in_ok-steps.ensures.all ∙ ap length marks in
-    let stand : StepsOf t c.args.action c.self.inside.needed_terms.items made =
+    let all : length made ≡ length c.self.inside.parts.needed_terms.items = length-map c.in_ok-steps.steps.items (λ e. e.entries) ∙ c.in_ok-steps.ensures.all ∙ ap length marks in
+    let stand : StepsOf t c.args.action c.self.inside.parts.needed_terms.items made =
     record { steps = subst (λ m. AreSteps t c.args.action (IsMarked m) made) marks c.in_ok-steps.ensures.steps; count = all } in
-    let old : PassParts = record { problem = c.self.inside.problem.now; cert = c.self.inside.cert.now; index = c.self.inside.index.now; tables = c.steps.new.tables; left = c.self.inside.left; right = c.self.inside.right; universal = c.self.inside.universal; shorts = c.self.inside.shorts.items; acceptance_tests = c.self.inside.acceptance_tests.items; forbidden_atoms = c.self.inside.forbidden_atoms; needed_terms = c.self.inside.needed_terms.items } in
+    let old : PassParts = record { problem = c.self.inside.problem.now; cert = c.self.inside.cert.now; index = c.self.inside.index.now; tables = c.steps.new.tables; left = c.self.inside.parts.left; right = c.self.inside.parts.right; universal = c.self.inside.parts.universal; shorts = c.self.inside.parts.shorts.items; acceptance_tests = c.self.inside.parts.acceptance_tests.items; forbidden_atoms = c.self.inside.parts.forbidden_atoms; needed_terms = c.self.inside.parts.needed_terms.items } in
     let begun = pass_with _ c.steps.new.tables c.steps.ensures.grows (subst IsPass (sym c.self.view_is) c.requires) in
     let p = c.forbidden.new.self in
     let grows = c.forbidden.ensures.grows in
@@ -102,11 +102,11 @@ returns-clause-action_pass c =
     let second = rw c.in_ok-extend-2.was at second_made in
     let third_made = items_from_extend c.extend-3.result c.extend-3.ensures.ran (YieldsList-from_filter_map _ (λ (r : PairParts). r.test) (YieldsList-from_slice prs cc) c.filter_map.ensures.closure (λ x r q k. search (rules, tests))) in
     let third = rw c.in_ok-extend-3.was at third_made in
-    let low : length c.self.inside.needed_terms.items ≤ length t.terms = omega (arith, begun.marks, begun.there) in
+    let low : length c.self.inside.parts.needed_terms.items ≤ length t.terms = omega (arith, begun.marks, begun.there) in
     let begin_asked = subst (λ z. AreAsked z c.in_ok-with_parts.field-0.items) tables c.in_ok-with_parts.ensures.asked in
     let end_asked = subst (λ z. AreAsked z c.in_ok-with_parts-2.field-0.items) tables c.in_ok-with_parts-2.ensures.asked in
     record {
-      steps = subst (λ (z : PassParts). StepsOf p.tables c.args.action z.needed_terms made) (sym grows.same) (steps_stay t p.tables grows.tables c.args.action c.self.inside.needed_terms.items made low stand);
+      steps = subst (λ (z : PassParts). StepsOf p.tables c.args.action z.needed_terms made) (sym grows.same) (steps_stay t p.tables grows.tables c.args.action c.self.inside.parts.needed_terms.items made low stand);
       style = asked.0 ∙ ap (λ (z : PassParts). option_map_or (λ a. z.cert.style) c.args.action UpTo) (sym grows.same);
       pairs = asked.1 ∙ ap (λ (z : PassParts). option_map_or (λ a. z.cert.pairs) c.args.action []) (sym grows.same);
       index = ap (λ (z : PassParts). z.index) c.self-2.view_is;

@@ -30,9 +30,9 @@ of_set-requires-clause-steps c =
     let t = c.self.inside.tables in
     let list = map (λ e. e.entries) c.args.steps.now in
     let steps = subst (λ (z : PassParts). AreSteps z.tables c.args.action (IsMarked z.needed_terms) list) (sym c.self.view_is) c.requires.steps.steps in
-    let count : length list ≡ length c.self.inside.needed_terms.items = c.requires.steps.count ∙ sym (ap (λ (z : PassParts). length z.needed_terms) c.self.view_is) in
+    let count : length list ≡ length c.self.inside.parts.needed_terms.items = c.requires.steps.count ∙ sym (ap (λ (z : PassParts). length z.needed_terms) c.self.view_is) in
     let low : length list ≤ length t.terms = omega (arith, count, pass.marks, pass.there) in
-    let grown_steps = all_step t c.constant.new.self c.constant.ensures.grows.grows.was c.constant.ensures.grows.grows c.args.action (IsMarked c.self.inside.needed_terms.items) list low steps in
+    let grown_steps = all_step t c.constant.new.self c.constant.ensures.grows.grows.was c.constant.ensures.grows.grows c.args.action (IsMarked c.self.inside.parts.needed_terms.items) list low steps in
     λ k es h at. grown_steps k es (pass.needed_terms.shorts k (subst (λ (l : List ℕ). Has l k) c.deref.ensures.value h)) at
 
 pub loop-term-init : goal.loop-term-init
@@ -70,8 +70,8 @@ loop-term-preserved c =
 pub returns-then-is_empty-clause-forbidden : goal.returns-then-is_empty-clause-forbidden
 returns-then-is_empty-clause-forbidden c =
     let pass = subst IsPass (sym c.self.view_is) c.requires.pass in
-    let len : c.self.inside.shorts.len ≡ 0 = eqb-true c.self.inside.shorts.len 0 (sym c.is_empty.ensures ∙ c.if-is_empty.true) in
-    let none : c.self.inside.shorts.items ≡ [] = nil_from_length c.self.inside.shorts.items (omega (arith, len, c.self.inside.shorts.ok.0)) in
+    let len : c.self.inside.parts.shorts.len ≡ 0 = eqb-true c.self.inside.parts.shorts.len 0 (sym c.is_empty.ensures ∙ c.if-is_empty.true) in
+    let none : c.self.inside.parts.shorts.items ≡ [] = nil_from_length c.self.inside.parts.shorts.items (omega (arith, len, c.self.inside.parts.shorts.ok.0)) in
     let short : counted_short c.self.inside.cert.now.style c.self.inside.problem.now ≡ [] = sym pass.roots.shorts ∙ ap (terms_of (nodes_in c.self.inside.tables)) none in
     subst (λ (z : PassParts). AreForbidden z.tables z.cert z.problem c.args.action c.new-forbidden.result.items) c.self.view_is
     (subst (λ fs. AreForbidden c.self.inside.tables c.self.inside.cert.now c.self.inside.problem.now c.args.action fs) (sym c.new-forbidden.ensures.items) (none_forbidden c.self.inside.tables c.self.inside.cert.now c.self.inside.problem.now short c.args.action))
@@ -79,7 +79,7 @@ returns-then-is_empty-clause-forbidden c =
 pub returns-clause-forbidden : goal.returns-clause-forbidden
 returns-clause-forbidden c =
     let pass = subst IsPass (sym c.self.view_is) c.requires.pass in
-    let old : PassParts = record { problem = c.self.inside.problem.now; cert = c.self.inside.cert.now; index = c.self.inside.index.now; tables = c.self.inside.tables; left = c.self.inside.left; right = c.self.inside.right; universal = c.self.inside.universal; shorts = c.self.inside.shorts.items; acceptance_tests = c.self.inside.acceptance_tests.items; forbidden_atoms = c.self.inside.forbidden_atoms; needed_terms = c.self.inside.needed_terms.items } in
+    let old : PassParts = record { problem = c.self.inside.problem.now; cert = c.self.inside.cert.now; index = c.self.inside.index.now; tables = c.self.inside.tables; left = c.self.inside.parts.left; right = c.self.inside.parts.right; universal = c.self.inside.parts.universal; shorts = c.self.inside.parts.shorts.items; acceptance_tests = c.self.inside.parts.acceptance_tests.items; forbidden_atoms = c.self.inside.parts.forbidden_atoms; needed_terms = c.self.inside.parts.needed_terms.items } in
     let t = c.self.inside.tables in
     let first = c.constant.new.self in
     let begun = c.constant.ensures.grows.grows in

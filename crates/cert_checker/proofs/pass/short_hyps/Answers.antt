@@ -3,8 +3,8 @@ use Rattle.kat_model.specs.Trees.{kat_tree}
 use Rattle.kat_model.specs.Problems.{HasTestsBelow}
 use Rattle.cert_checker.proofs.RootRanges.{hyp_below, shorts_more, shorts_same}
 use Rattle.cert_steps.proofs.GrowingTables.{grows_itself}
-use Rattle.cert_checker.proofs.pass.short_numbers.Goals as goal
-use Rattle.cert_checker.proofs.pass.short_numbers.Goals.{then-is_short+in_ok-number_of+in_ok-push, else-is_short}
+use Rattle.cert_checker.proofs.pass.short_hyps.Goals as goal
+use Rattle.cert_checker.proofs.pass.short_hyps.Goals.{then-is_short+in_ok-number_of+in_ok-push, else-is_short}
 
 pub number_of-requires : goal.number_of-requires
 number_of-requires c =

@@ -7,7 +7,7 @@ use Rattle.cert_checker.specs.Working.Ranges.{IsFirstOut}
 use Rattle.cert_checker.specs.Working.Relevant.{HasFewerHyps}
 use Rattle.cert_checker.proofs.FirstReasons.{first_term}
 use Rattle.cert_checker.proofs.FewerHyps.{accepted_by_fewer}
-use Rattle.cert_checker.proofs.checking.certificate_reason.Goals as goal
+use Rattle.cert_checker.proofs.checking.cert_reason.Goals as goal
 
 pub returns-in-Some-action_out : goal.returns-in-Some-action_out
 returns-in-Some-action_out c =
