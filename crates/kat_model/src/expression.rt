@@ -16,13 +16,25 @@ pub enum Width {
 }
 
 /// An expression, whose value is a number modulo 2 to the width. Variables are numbered from 0.
-#[derive(Drop)]
 pub enum Expr {
     Num(u64),
     Var(usize),
     Add(Box<Expr>, Box<Expr>),
     Sub(Box<Expr>, Box<Expr>),
     Mul(Box<Expr>, Box<Expr>),
+}
+
+// Explicit, as for tests.
+impl Drop for Expr {
+    fn drop(self) {
+        match self {
+            Expr::Num(_value) => {}
+            Expr::Var(_number) => {}
+            Expr::Add(_left, _right) => {}
+            Expr::Sub(_left, _right) => {}
+            Expr::Mul(_left, _right) => {}
+        }
+    }
 }
 
 /// How two numbers are compared: equal, not equal, less, at most, greater, at least.
@@ -38,7 +50,6 @@ pub enum Rel {
 
 /// A condition of a program: a Boolean combination of named tests, numbered from 0, and of comparisons of values as
 /// unsigned numbers.
-#[derive(Drop)]
 pub enum Cond {
     True,
     False,
@@ -47,6 +58,21 @@ pub enum Cond {
     Not(Box<Cond>),
     And(Box<Cond>, Box<Cond>),
     Or(Box<Cond>, Box<Cond>),
+}
+
+// Explicit, as for tests.
+impl Drop for Cond {
+    fn drop(self) {
+        match self {
+            Cond::True => {}
+            Cond::False => {}
+            Cond::Test(_number) => {}
+            Cond::Compare(_, _left, _right) => {}
+            Cond::Not(_inner) => {}
+            Cond::And(_left, _right) => {}
+            Cond::Or(_left, _right) => {}
+        }
+    }
 }
 
 impl Expr {

@@ -28,13 +28,25 @@ pub enum BadProblem {
 
 /// A question within the limits: do `left` and `right` denote one relation in every table in which no hypothesis
 /// relates any states? Tests and actions are numbered from 0.
-#[derive(Drop)]
 pub struct Problem {
     tests: usize,
     actions: usize,
     hyps: Vec<Kat>,
     left: Kat,
     right: Kat,
+}
+
+// Explicit, as for tests.
+impl Drop for Problem {
+    fn drop(self) {
+        let Problem {
+            tests: _,
+            actions: _,
+            hyps: _hyps,
+            left: _left,
+            right: _right,
+        } = self;
+    }
 }
 
 impl Model for Problem {

@@ -37,7 +37,6 @@ pub(crate) fn boxed_pair<T: Drop>(
 
 /// A test: an element of a Boolean algebra over primitive tests, numbered from 0 (Kozen, *Kleene algebra with tests*,
 /// 1997).
-#[derive(Drop)]
 pub enum Test {
     False,
     True,
@@ -47,8 +46,22 @@ pub enum Test {
     Or(Box<Test>, Box<Test>),
 }
 
+// Explicit, so that this crate proves it once: a derived drop is a part of the proof of each function that owns a
+// test, with a case for each form at each of its ends.
+impl Drop for Test {
+    fn drop(self) {
+        match self {
+            Test::False => {}
+            Test::True => {}
+            Test::Prim(_number) => {}
+            Test::Not(_inner) => {}
+            Test::And(_left, _right) => {}
+            Test::Or(_left, _right) => {}
+        }
+    }
+}
+
 /// A term of Kleene algebra with tests over primitive actions, numbered from 0 (Kozen 1997).
-#[derive(Drop)]
 pub enum Kat {
     Zero,
     One,
@@ -57,6 +70,21 @@ pub enum Kat {
     Sum(Box<Kat>, Box<Kat>),
     Seq(Box<Kat>, Box<Kat>),
     Star(Box<Kat>),
+}
+
+// Explicit, as for tests.
+impl Drop for Kat {
+    fn drop(self) {
+        match self {
+            Kat::Zero => {}
+            Kat::One => {}
+            Kat::Test(_test) => {}
+            Kat::Act(_action) => {}
+            Kat::Sum(_left, _right) => {}
+            Kat::Seq(_first, _second) => {}
+            Kat::Star(_inner) => {}
+        }
+    }
 }
 
 impl Test {
