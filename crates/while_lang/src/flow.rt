@@ -18,7 +18,6 @@ pub struct Flows {
 
 /// A statement over tests and actions, which are numbered from 0.
 #[cycle(flow)]
-#[derive(Drop)]
 pub enum Flow {
     Skip,
     Abort,
@@ -28,6 +27,21 @@ pub enum Flow {
     If(Test, Flows, Flows),
     /// Repeats the block while the test holds.
     While(Test, Flows),
+}
+
+// Explicit, as for statements of programs.
+impl Drop for Flow {
+    #[cycle(flow)]
+    fn drop(self) {
+        match self {
+            Flow::Skip => {}
+            Flow::Abort => {}
+            Flow::Assert(_test) => {}
+            Flow::Act(_action) => {}
+            Flow::If(_test, _first, _second) => {}
+            Flow::While(_test, _body) => {}
+        }
+    }
 }
 
 impl Model for Flows {

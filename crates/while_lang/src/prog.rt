@@ -18,7 +18,6 @@ pub struct Prog {
 
 /// A statement. Actions and variables are numbered from 0.
 #[cycle(prog)]
-#[derive(Drop)]
 pub enum Stmt {
     Skip,
     /// Stops every run.
@@ -33,6 +32,23 @@ pub enum Stmt {
     If(Cond, Prog, Prog),
     /// Repeats the block while the condition holds.
     While(Cond, Prog),
+}
+
+// Explicit, so that this crate proves it once: a derived drop is a part of the proof of each function that owns a
+// statement, with a case for each form at each of its ends.
+impl Drop for Stmt {
+    #[cycle(prog)]
+    fn drop(self) {
+        match self {
+            Stmt::Skip => {}
+            Stmt::Abort => {}
+            Stmt::Assert(_cond) => {}
+            Stmt::Act(_action) => {}
+            Stmt::Assign(_var, _expr) => {}
+            Stmt::If(_cond, _first, _second) => {}
+            Stmt::While(_cond, _body) => {}
+        }
+    }
 }
 
 impl Model for Prog {
