@@ -20,7 +20,10 @@ pub(crate) fn form_test<T: Numbering>(
     match cond {
         CondForm::True => Ok(Some(Test::True)),
         CondForm::False => Ok(Some(Test::False)),
-        CondForm::Pos(atomic) => Ok(tables.test_number(atomic).map(Test::Prim)),
+        CondForm::Pos(atomic) => match tables.test_number(atomic) {
+            Some(k) => Ok(Some(Test::Prim(k))),
+            None => Ok(None),
+        },
         CondForm::Neg(atomic) => match tables.test_number(atomic) {
             Some(k) => Ok(Some(Test::new_not(alloc, Test::Prim(k))?)),
             None => Ok(None),
