@@ -9,7 +9,6 @@ use std::alloc::Global;
 
 /// An expression of guarded Kleene algebra with tests over primitive tests and actions, which are numbered from 0
 /// (Smolka et al., *Guarded Kleene algebra with tests*, 2020).
-#[derive(Drop)]
 pub enum Gkat {
     Test(Test),
     Act(usize),
@@ -18,6 +17,20 @@ pub enum Gkat {
     Choice(Test, Box<Gkat>, Box<Gkat>),
     /// The expression repeated as long as the test holds.
     Loop(Test, Box<Gkat>),
+}
+
+// Explicit, so that this crate proves it once: a derived drop is a part of the proof of each function that owns an
+// expression, with a case for each form at each of its ends.
+impl Drop for Gkat {
+    fn drop(self) {
+        match self {
+            Gkat::Test(_test) => {}
+            Gkat::Act(_action) => {}
+            Gkat::Seq(_first, _second) => {}
+            Gkat::Choice(_guard, _first, _second) => {}
+            Gkat::Loop(_guard, _body) => {}
+        }
+    }
 }
 
 impl Gkat {
