@@ -1,19 +1,18 @@
 -- The marks of a term along a string: a set of remaining terms accepts the rest of the string if the term accepts the
 -- string from some earlier beginning on. So the end of the term is reached where such a part ends.
-use Rattle.std.proofs.Common.{◌≡◌, ◌≢◌, ⊎_elim, ℕ, suc, ◌+◌, ◌-◌, ◌<◌, ◌≤◌, List, [], ◌∷◌, ◌++◌, take, drop, length, replicate, get_or, nat_le, Bool, true, false, ◌&&◌, ◌||◌, refl, sym, ap, ◌∙◌, subst, arith, add-one, append_assoc, append-nil, length-drop, take-suc, get_or-drop}
+use Rattle.std.proofs.Common.{◌≡◌, ◌≢◌, ⊎_elim, ℕ, suc, ◌+◌, ◌-◌, ◌<◌, ◌≤◌, List, [], ◌∷◌, ◌++◌, take, drop, length, get_or, nat_le, Bool, true, false, ◌&&◌, ◌||◌, refl, sym, ap, ◌∙◌, subst, arith, add-one, append_assoc, append-nil, length-drop, take-suc, get_or-drop}
 use mathlib.Core.Path.{ap₂}
 use Rattle.std.proofs.lemmas.Bool.{and_parts, and_cases, both_ways, leb-true, le-leb}
-use Rattle.std.proofs.lemmas.List.{length-replicate}
-use Rattle.kat_model.specs.Trees.{Term, acts}
+use Rattle.kat_model.specs.Trees.{Term}
 use Rattle.kat_model.specs.Steps.{Atom, out}
 use Rattle.kat_model.specs.Strings.{Move, GuardedString, last_atom, accepts, set_accepts}
 use Rattle.kat_model.specs.Working.Decided.{some_below}
 use Rattle.kat_model.proofs.Cuts.{last_atom-append}
 use Rattle.kat_model.proofs.Numbers.{below_next}
-use Rattle.string_tables.specs.Working.Marks.{reached, moved}
+use Rattle.string_tables.specs.Working.Marks.{MarkTree, nowhere, reached, moved}
 use Rattle.string_tables.specs.Working.Parts.{atom_of, accepts_part, is_between, ends_at, HasNoEnd}
 use Rattle.string_tables.proofs.Told.{some_below_same}
-use Rattle.string_tables.proofs.MarkedTerms.{marked, reached_told, moved_told, length-moved, none_marked}
+use Rattle.string_tables.proofs.MarkedTerms.{marked, reached_told, moved_told, none_marked}
 
 or_comm : (a b : Bool) → (a || b) ≡ (b || a)
 or_comm true true = refl
@@ -54,18 +53,14 @@ module _ (x : GuardedString) (e : Term) (from to : ℕ) where
   led k after = some_below (λ i. is_between from to i && accepts e (atom_of x i) (take (k - i) (drop i x.rest) ++ after)) k
 
   -- the marks at position k
-  pub record AreMarksAt (k : ℕ) (marks : List Bool) : Type 0 where
-    pub count : length marks ≡ acts e
-    pub remain : (after : List Move) → set_accepts (marked e marks 0) (atom_of x k) after ≡ led k after
+  abbrev pub AreMarksAt : ℕ → MarkTree → Type 0
+  AreMarksAt k marks = (after : List Move) → set_accepts (marked e marks) (atom_of x k) after ≡ led k after
 
-  pub marks_begin : AreMarksAt 0 (replicate (acts e) false)
-  marks_begin = record {
-    count = length-replicate (acts e) false;
-    remain = λ after. none_marked e (acts e) 0 (λ f. accepts f (atom_of x 0) after);
-  }
+  pub marks_begin : AreMarksAt 0 nowhere
+  marks_begin after = none_marked e (λ f. accepts f (atom_of x 0) after)
 
-  pub marks_step : (k : ℕ) (m : Move) (marks : List Bool) → k < length x.rest → m ≡ get_or x.rest k m → AreMarksAt k marks → AreMarksAt (suc k) (moved e marks 0 (is_between from to k) (atom_of x k) m.act)
-  marks_step k m marks lt is at = record { count = length-moved marks (atom_of x k) m.act e 0 (is_between from to k); remain = remain }
+  pub marks_step : (k : ℕ) (m : Move) (marks : MarkTree) → k < length x.rest → m ≡ get_or x.rest k m → AreMarksAt k marks → AreMarksAt (suc k) (moved e marks (is_between from to k) (atom_of x k) m.act)
+  marks_step k m marks lt is at = remain
     where
       here : (after : List Move) → (is_between from to k && accepts e (atom_of x k) (m ∷ after)) ≡ (is_between from to k && accepts e (atom_of x k) (take (suc k - k) (drop k x.rest) ++ after))
       here after =
@@ -78,18 +73,18 @@ module _ (x : GuardedString) (e : Term) (from to : ℕ) where
           let le : i ≤ k = omega arith in
           ap (λ l. is_between from to i && accepts e (atom_of x i) l) (sym (part_more x.rest after i k m le lt is)))
 
-      remain : (after : List Move) → set_accepts (marked e (moved e marks 0 (is_between from to k) (atom_of x k) m.act) 0) (atom_of x (suc k)) after ≡ led (suc k) after
+      remain : (after : List Move) → set_accepts (marked e (moved e marks (is_between from to k) (atom_of x k) m.act)) (atom_of x (suc k)) after ≡ led (suc k) after
       remain after =
-          ap (λ a. set_accepts (marked e (moved e marks 0 (is_between from to k) (atom_of x k) m.act) 0) a after) (atom_after x k m lt is)
-          ∙ moved_told marks (atom_of x k) m.act e (λ f. accepts f m.atom after) (is_between from to k)
-          ∙ ap (λ b. b || (is_between from to k && accepts e (atom_of x k) (m ∷ after))) (at.remain (m ∷ after))
+          ap (λ a. set_accepts (marked e (moved e marks (is_between from to k) (atom_of x k) m.act)) a after) (atom_after x k m lt is)
+          ∙ moved_told (atom_of x k) m.act e (λ f. accepts f m.atom after) marks (is_between from to k)
+          ∙ ap (λ b. b || (is_between from to k && accepts e (atom_of x k) (m ∷ after))) (at (m ∷ after))
           ∙ or_comm (led k (m ∷ after)) (is_between from to k && accepts e (atom_of x k) (m ∷ after))
           ∙ ap₂ ◌||◌ (here after) (earlier after)
 
-  pub reached_ends : (k : ℕ) (marks : List Bool) → AreMarksAt k marks → reached e marks 0 (is_between from to k) (atom_of x k) ≡ ends_at x e from to k
+  pub reached_ends : (k : ℕ) (marks : MarkTree) → AreMarksAt k marks → reached e marks (is_between from to k) (atom_of x k) ≡ ends_at x e from to k
   reached_ends k marks at =
-      reached_told (atom_of x k) e marks 0 (is_between from to k)
-      ∙ ap (λ b. b || (is_between from to k && out e (atom_of x k))) (at.remain [])
+      reached_told (atom_of x k) e marks (is_between from to k)
+      ∙ ap (λ b. b || (is_between from to k && out e (atom_of x k))) (at [])
       ∙ or_comm (led k []) (is_between from to k && out e (atom_of x k))
       ∙ ap₂ ◌||◌ here earlier
     where
@@ -101,15 +96,15 @@ module _ (x : GuardedString) (e : Term) (from to : ℕ) where
 
   -- the loop over the moves: the marks after a move, whether a part ends, and where none did so far
 
-  pub run_more : (k : ℕ) (m : Move) (marks new : List Bool) (begins : Bool) (atom : Atom) (action : ℕ) → k < length x.rest → m ≡ get_or x.rest k m → begins ≡ is_between from to k → atom ≡ atom_of x k → action ≡ m.act
-      → new ≡ moved e marks 0 begins atom action → AreMarksAt k marks → AreMarksAt (k + 1) new
+  pub run_more : (k : ℕ) (m : Move) (marks new : MarkTree) (begins : Bool) (atom : Atom) (action : ℕ) → k < length x.rest → m ≡ get_or x.rest k m → begins ≡ is_between from to k → atom ≡ atom_of x k → action ≡ m.act
+      → new ≡ moved e marks begins atom action → AreMarksAt k marks → AreMarksAt (k + 1) new
   run_more k m marks new begins atom action lt is begun there named made at =
-      let made_so : new ≡ moved e marks 0 (is_between from to k) (atom_of x k) m.act = made ∙ ap₂ (λ b a. moved e marks 0 b a action) begun there ∙ ap (moved e marks 0 (is_between from to k) (atom_of x k)) named in
+      let made_so : new ≡ moved e marks (is_between from to k) (atom_of x k) m.act = made ∙ ap₂ (λ b a. moved e marks b a action) begun there ∙ ap (moved e marks (is_between from to k) (atom_of x k)) named in
       let more = subst (AreMarksAt (suc k)) (sym made_so) (marks_step k m marks lt is at) in
       rw add-one more
 
-  pub run_ends : (k : ℕ) (marks : List Bool) (begins ends : Bool) (atom : Atom) → begins ≡ is_between from to k → atom ≡ atom_of x k → ends ≡ reached e marks 0 begins atom → AreMarksAt k marks → ends ≡ ends_at x e from to k
-  run_ends k marks begins ends atom begun there told at = told ∙ ap₂ (reached e marks 0) begun there ∙ reached_ends k marks at
+  pub run_ends : (k : ℕ) (marks : MarkTree) (begins ends : Bool) (atom : Atom) → begins ≡ is_between from to k → atom ≡ atom_of x k → ends ≡ reached e marks begins atom → AreMarksAt k marks → ends ≡ ends_at x e from to k
+  run_ends k marks begins ends atom begun there told at = told ∙ ap₂ (reached e marks) begun there ∙ reached_ends k marks at
 
   pub none_yet : (after k : ℕ) → ((j : ℕ) → after ≤ j → j < k → ends_at x e from to j ≡ false) → (after ≤ k → ends_at x e from to k ≡ false) → (j : ℕ) → after ≤ j → j < k + 1 → ends_at x e from to j ≡ false
   none_yet after k before here j le lt =

@@ -1,17 +1,16 @@
 -- Terms with marks: the terms that remain after the marked actions, whether one of them accepts an atom, and how a move
 -- changes them.
-use Rattle.std.proofs.Common.{◌≡◌, ℕ, zero as nought, suc, ◌+◌, List, [], ◌∷◌, ◌++◌, map, length, replicate, Bool, true, false, cond, ◌&&◌, ◌||◌, eqb, refl, sym, ap, ◌∙◌, append_assoc, append-nil, slice_index_or}
+use Rattle.std.proofs.Common.{◌≡◌, ℕ, List, [], ◌∷◌, ◌++◌, map, Bool, true, false, cond, ◌&&◌, ◌||◌, eqb, refl, sym, ap, ◌∙◌}
 use mathlib.Core.Path.{ap₂}
 use Rattle.std.specs.List.{list_any}
 use Rattle.std.proofs.Math.Bool.{or-false}
-use Rattle.std.proofs.lemmas.Bool.{and_right}
-use Rattle.std.proofs.lemmas.List.{length-append, get_or_at}
+use Rattle.std.proofs.lemmas.Bool.{and_right, both_ways}
 use Rattle.std.proofs.lemmas.List.Folds.{list_any-append}
-use Rattle.kat_model.specs.Trees.{Term, zero, one, test, act, sum, product, star, acts}
+use Rattle.kat_model.specs.Trees.{Term, zero, one, test, act, sum, product, star}
 use Rattle.kat_model.specs.Steps.{Atom, dot, out, next, set_out}
 use Rattle.kat_model.proofs.Acceptance.{accepts-dot}
 use Rattle.kat_model.proofs.Reach.{next-dot}
-use Rattle.string_tables.specs.Working.Marks.{reached, moved}
+use Rattle.string_tables.specs.Working.Marks.{MarkTree, nowhere, here, both, is_nowhere, is_here, left, right, joined, reached, moved}
 use Rattle.string_tables.proofs.Images.{and_over_or, or_exchange}
 
 -- laws of `and` and `or`
@@ -102,15 +101,35 @@ module _ {X : Type 0} where
   any_cond p true xs = refl
   any_cond p false xs = refl
 
+-- the marks of the parts after a step
+
+left_joined : (l r : MarkTree) → left (joined l r) ≡ l
+left_joined nowhere nowhere = refl
+left_joined nowhere here = refl
+left_joined nowhere (both a b) = refl
+left_joined here r = refl
+left_joined (both a b) r = refl
+
+right_joined : (l r : MarkTree) → right (joined l r) ≡ r
+right_joined nowhere nowhere = refl
+right_joined nowhere here = refl
+right_joined nowhere (both a b) = refl
+right_joined here r = refl
+right_joined (both a b) r = refl
+
+here_told : (b : Bool) → is_here (cond b here nowhere) ≡ b
+here_told true = refl
+here_told false = refl
+
 -- the terms that remain after the marked actions
-abbrev pub marked : Term → List Bool → ℕ → List Term
-marked zero marks k = []
-marked one marks k = []
-marked (test b) marks k = []
-marked (act a) marks k = cond (slice_index_or marks k false) (one ∷ []) []
-marked (sum e f) marks k = marked e marks k ++ marked f marks (k + acts e)
-marked (product e f) marks k = map (λ x. dot x f) (marked e marks k) ++ marked f marks (k + acts e)
-marked (star e) marks k = map (λ x. dot x (star e)) (marked e marks k)
+abbrev pub marked : Term → MarkTree → List Term
+marked zero marks = []
+marked one marks = []
+marked (test b) marks = []
+marked (act a) marks = cond (is_here marks) (one ∷ []) []
+marked (sum e f) marks = marked e (left marks) ++ marked f (right marks)
+marked (product e f) marks = map (λ x. dot x f) (marked e (left marks)) ++ marked f (right marks)
+marked (star e) marks = map (λ x. dot x (star e)) (marked e marks)
 
 -- the end of the term is reached if a remaining term accepts the atom or, at its beginning, the term does
 
@@ -121,48 +140,36 @@ module _ (atom : Atom) where
       ∙ any_same _ (λ x. out x atom && out f atom) es (λ x. accepts-dot x f atom [])
       ∙ any_and (λ x. out x atom) (out f atom) es
 
-  pub reached_told : (e : Term) (marks : List Bool) (k : ℕ) (begins : Bool) → reached e marks k begins atom ≡ (set_out (marked e marks k) atom || (begins && out e atom))
-  reached_told zero marks k begins = sym (and_right begins false refl)
-  reached_told one marks k begins = sym (and_true begins)
-  reached_told (test b) marks k begins = refl
-  reached_told (act a) marks k begins =
-      let m = slice_index_or marks k false in
+  pub reached_told : (e : Term) (marks : MarkTree) (begins : Bool) → reached e marks begins atom ≡ (set_out (marked e marks) atom || (begins && out e atom))
+  reached_told zero marks begins = sym (and_right begins false refl)
+  reached_told one marks begins = sym (and_true begins)
+  reached_told (test b) marks begins = refl
+  reached_told (act a) marks begins =
+      let m = is_here marks in
       sym (ap₂ ◌||◌ (any_cond (λ x. out x atom) m (one ∷ []) ∙ and_true m) (and_right begins false refl) ∙ or-false m)
-  reached_told (sum e f) marks k begins =
-      let l = k + acts e in
-      ap₂ ◌||◌ (reached_told e marks k begins) (reached_told f marks l begins)
-      ∙ either_part (set_out (marked e marks k) atom) (out e atom) (set_out (marked f marks l) atom) (out f atom) begins
-      ∙ ap (λ b. b || (begins && (out e atom || out f atom))) (sym (list_any-append (λ x. out x atom) (marked e marks k) (marked f marks l)))
-  reached_told (product e f) marks k begins =
-      let l = k + acts e in
-      let first = set_out (marked e marks k) atom in
-      let second = set_out (marked f marks l) atom in
-      reached_told f marks l (reached e marks k begins atom)
-      ∙ ap (λ b. second || (b && out f atom)) (reached_told e marks k begins)
+  reached_told (sum e f) marks begins =
+      ap₂ ◌||◌ (reached_told e (left marks) begins) (reached_told f (right marks) begins)
+      ∙ either_part (set_out (marked e (left marks)) atom) (out e atom) (set_out (marked f (right marks)) atom) (out f atom) begins
+      ∙ ap (λ b. b || (begins && (out e atom || out f atom))) (sym (list_any-append (λ x. out x atom) (marked e (left marks)) (marked f (right marks))))
+  reached_told (product e f) marks begins =
+      let first = set_out (marked e (left marks)) atom in
+      let second = set_out (marked f (right marks)) atom in
+      reached_told f (right marks) (reached e (left marks) begins atom)
+      ∙ ap (λ b. second || (b && out f atom)) (reached_told e (left marks) begins)
       ∙ second_part first (out e atom) second (out f atom) begins
-      ∙ ap (λ b. (b || second) || (begins && (out e atom && out f atom))) (sym (out_after f (marked e marks k)))
-      ∙ ap (λ b. b || (begins && (out e atom && out f atom))) (sym (list_any-append (λ x. out x atom) (map (λ x. dot x f) (marked e marks k)) (marked f marks l)))
-  reached_told (star e) marks k begins =
-      ap (λ b. begins || b) (reached_told e marks k false)
-      ∙ repeated_end (set_out (marked e marks k) atom) begins
-      ∙ ap (λ b. b || (begins && true)) (sym (out_after (star e) (marked e marks k)))
+      ∙ ap (λ b. (b || second) || (begins && (out e atom && out f atom))) (sym (out_after f (marked e (left marks))))
+      ∙ ap (λ b. b || (begins && (out e atom && out f atom))) (sym (list_any-append (λ x. out x atom) (map (λ x. dot x f) (marked e (left marks))) (marked f (right marks))))
+  reached_told (star e) marks begins =
+      ap (λ b. begins || b) (reached_told e marks false)
+      ∙ repeated_end (set_out (marked e marks) atom) begins
+      ∙ ap (λ b. b || (begins && true)) (sym (out_after (star e) (marked e marks)))
 
 -- a move leads to the next terms of the remaining terms and, at its beginning, of the term
 
-module _ (marks : List Bool) (atom : Atom) (a : ℕ) where
+module _ (atom : Atom) (a : ℕ) where
   -- some next term of a set passes the test
   abbrev pub some_next : (Term → Bool) → List Term → Bool
   some_next p es = list_any (λ x. list_any p (next x atom a)) es
-
-  pub length-moved : (e : Term) (k : ℕ) (begins : Bool) → length (moved e marks k begins atom a) ≡ acts e
-  length-moved zero k begins = refl
-  length-moved one k begins = refl
-  length-moved (test b) k begins = refl
-  length-moved (act b) k begins = refl
-  length-moved (sum e f) k begins = length-append (moved e marks k begins atom a) _ ∙ ap₂ ◌+◌ (length-moved e k begins) (length-moved f (k + acts e) begins)
-  length-moved (product e f) k begins =
-      length-append (moved e marks k begins atom a) _ ∙ ap₂ ◌+◌ (length-moved e k begins) (length-moved f (k + acts e) (reached e marks k begins atom))
-  length-moved (star e) k begins = length-moved e k (begins || reached e marks k false atom)
 
   next_after : (p : Term → Bool) (f x : Term) → list_any p (next (dot x f) atom a) ≡ (list_any (λ y. p (dot y f)) (next x atom a) || (out x atom && list_any p (next f atom a)))
   next_after p f x =
@@ -177,102 +184,93 @@ module _ (marks : List Bool) (atom : Atom) (a : ℕ) where
       ∙ any_or (λ x. list_any (λ y. p (dot y f)) (next x atom a)) (λ x. out x atom && list_any p (next f atom a)) es
       ∙ ap (λ b. some_next (λ y. p (dot y f)) es || b) (any_and (λ x. out x atom) (list_any p (next f atom a)) es)
 
-  -- the marks of a term with others before and after them
-  module _ (p : Term → Bool) (e f : Term) (front first second rest : List Bool) (count : length first ≡ acts e) where
-    as_first : front ++ ((first ++ second) ++ rest) ≡ front ++ (first ++ (second ++ rest))
-    as_first = ap (λ l. front ++ l) (append_assoc first second rest)
-
-    as_second : front ++ ((first ++ second) ++ rest) ≡ (front ++ first) ++ (second ++ rest)
-    as_second = as_first ∙ sym (append_assoc front first (second ++ rest))
-
-    place : length front + acts e ≡ length (front ++ first)
-    place = sym (length-append front first ∙ ap (λ n. length front + n) count)
-
-    in_first : list_any p (marked e (front ++ ((first ++ second) ++ rest)) (length front)) ≡ list_any p (marked e (front ++ (first ++ (second ++ rest))) (length front))
-    in_first = ap (λ l. list_any p (marked e l (length front))) as_first
-
-    in_second : list_any p (marked f (front ++ ((first ++ second) ++ rest)) (length front + acts e)) ≡ list_any p (marked f ((front ++ first) ++ (second ++ rest)) (length (front ++ first)))
-    in_second = ap₂ (λ l n. list_any p (marked f l n)) as_second place
-
-  moved_within : (e : Term) (p : Term → Bool) (front rest : List Bool) (k : ℕ) (begins : Bool) → list_any p (marked e (front ++ (moved e marks k begins atom a ++ rest)) (length front)) ≡ (some_next p (marked e marks k) || (begins && list_any p (next e atom a)))
-  moved_within zero p front rest k begins = sym (and_right begins false refl)
-  moved_within one p front rest k begins = sym (and_right begins false refl)
-  moved_within (test b) p front rest k begins = sym (and_right begins false refl)
-  moved_within (act b) p front rest k begins =
-      let m = slice_index_or marks k false in
+  pub moved_told : (e : Term) (p : Term → Bool) (marks : MarkTree) (begins : Bool) → list_any p (marked e (moved e marks begins atom a)) ≡ (some_next p (marked e marks) || (begins && list_any p (next e atom a)))
+  moved_told zero p marks begins = sym (and_right begins false refl)
+  moved_told one p marks begins = sym (and_right begins false refl)
+  moved_told (test b) p marks begins = sym (and_right begins false refl)
+  moved_told (act b) p marks begins =
+      let m = is_here marks in
       let is = begins && eqb a b in
-      let read : slice_index_or (front ++ (is ∷ rest)) (length front) false ≡ is = get_or_at front is rest false (length front) refl in
       let none : some_next p (cond m (one ∷ []) []) ≡ false = any_cond (λ x. list_any p (next x atom a)) m (one ∷ []) ∙ and_right m false refl in
-      ap (λ c. list_any p (cond c (one ∷ []) [])) read
+      ap (λ c. list_any p (cond c (one ∷ []) [])) (here_told is)
       ∙ any_cond p is (one ∷ [])
       ∙ and_assoc begins (eqb a b) (list_any p (one ∷ []))
       ∙ ap (λ c. begins && c) (sym (any_cond p (eqb a b) (one ∷ [])))
       ∙ ap (λ c. c || (begins && list_any p (cond (eqb a b) (one ∷ []) []))) (sym none)
-  moved_within (sum e f) p front rest k begins =
-      let l = k + acts e in
-      let first = moved e marks k begins atom a in
-      let second = moved f marks l begins atom a in
-      let count = length-moved e k begins in
-      list_any-append p (marked e (front ++ ((first ++ second) ++ rest)) (length front)) (marked f (front ++ ((first ++ second) ++ rest)) (length front + acts e))
-      ∙ ap₂ ◌||◌ (in_first p e f front first second rest count ∙ moved_within e p front (second ++ rest) k begins) (in_second p e f front first second rest count ∙ moved_within f p (front ++ first) rest l begins)
-      ∙ either_part (some_next p (marked e marks k)) (list_any p (next e atom a)) (some_next p (marked f marks l)) (list_any p (next f atom a)) begins
-      ∙ ap₂ (λ b c. b || (begins && c)) (sym (list_any-append (λ x. list_any p (next x atom a)) (marked e marks k) (marked f marks l))) (sym (list_any-append p (next e atom a) (next f atom a)))
-  moved_within (product e f) p front rest k begins =
-      let l = k + acts e in
+  moved_told (sum e f) p marks begins =
+      let m = left marks in
+      let n = right marks in
+      let first = moved e m begins atom a in
+      let second = moved f n begins atom a in
+      list_any-append p (marked e (left (joined first second))) (marked f (right (joined first second)))
+      ∙ ap₂ ◌||◌ (ap (λ t. list_any p (marked e t)) (left_joined first second) ∙ moved_told e p m begins) (ap (λ t. list_any p (marked f t)) (right_joined first second) ∙ moved_told f p n begins)
+      ∙ either_part (some_next p (marked e m)) (list_any p (next e atom a)) (some_next p (marked f n)) (list_any p (next f atom a)) begins
+      ∙ ap₂ (λ b c. b || (begins && c)) (sym (list_any-append (λ x. list_any p (next x atom a)) (marked e m) (marked f n))) (sym (list_any-append p (next e atom a) (next f atom a)))
+  moved_told (product e f) p marks begins =
+      let m = left marks in
+      let n = right marks in
       let q : Term → Bool = λ y. p (dot y f) in
-      let between = reached e marks k begins atom in
-      let first = moved e marks k begins atom a in
-      let second = moved f marks l between atom a in
-      let count = length-moved e k begins in
+      let between = reached e m begins atom in
+      let first = moved e m begins atom a in
+      let second = moved f n between atom a in
       let later = list_any p (next f atom a) in
-      list_any-append p (map (λ y. dot y f) (marked e (front ++ ((first ++ second) ++ rest)) (length front))) (marked f (front ++ ((first ++ second) ++ rest)) (length front + acts e))
-      ∙ ap₂ ◌||◌ (any_map p (λ y. dot y f) _ ∙ in_first q e f front first second rest count ∙ moved_within e q front (second ++ rest) k begins)
-      (in_second p e f front first second rest count ∙ moved_within f p (front ++ first) rest l between ∙ ap (λ b. some_next p (marked f marks l) || (b && later)) (reached_told atom e marks k begins))
-      ∙ both_parts (some_next q (marked e marks k)) (list_any q (next e atom a)) (set_out (marked e marks k) atom) (out e atom) (some_next p (marked f marks l)) later begins
-      ∙ ap₂ (λ b c. (b || some_next p (marked f marks l)) || (begins && c)) (sym (some_after p f (marked e marks k))) (sym (list_any-append p (map (λ y. dot y f) (next e atom a)) (cond (out e atom) (next f atom a) []) ∙ ap₂ ◌||◌ (any_map p (λ y. dot y f) (next e atom a)) (any_cond p (out e atom) (next f atom a))))
-      ∙ ap (λ b. b || (begins && list_any p (next (product e f) atom a))) (sym (list_any-append (λ x. list_any p (next x atom a)) (map (λ y. dot y f) (marked e marks k)) (marked f marks l)))
-  moved_within (star e) p front rest k begins =
+      list_any-append p (map (λ y. dot y f) (marked e (left (joined first second)))) (marked f (right (joined first second)))
+      ∙ ap₂ ◌||◌ (any_map p (λ y. dot y f) _ ∙ ap (λ t. list_any q (marked e t)) (left_joined first second) ∙ moved_told e q m begins)
+      (ap (λ t. list_any p (marked f t)) (right_joined first second) ∙ moved_told f p n between ∙ ap (λ b. some_next p (marked f n) || (b && later)) (reached_told atom e m begins))
+      ∙ both_parts (some_next q (marked e m)) (list_any q (next e atom a)) (set_out (marked e m) atom) (out e atom) (some_next p (marked f n)) later begins
+      ∙ ap₂ (λ b c. (b || some_next p (marked f n)) || (begins && c)) (sym (some_after p f (marked e m))) (sym (list_any-append p (map (λ y. dot y f) (next e atom a)) (cond (out e atom) (next f atom a) []) ∙ ap₂ ◌||◌ (any_map p (λ y. dot y f) (next e atom a)) (any_cond p (out e atom) (next f atom a))))
+      ∙ ap (λ b. b || (begins && list_any p (next (product e f) atom a))) (sym (list_any-append (λ x. list_any p (next x atom a)) (map (λ y. dot y f) (marked e m)) (marked f n)))
+  moved_told (star e) p marks begins =
       let q : Term → Bool = λ y. p (dot y (star e)) in
-      let again = begins || reached e marks k false atom in
+      let again = begins || reached e marks false atom in
       let onward = any_map p (λ y. dot y (star e)) (next e atom a) in
       any_map p (λ y. dot y (star e)) _
-      ∙ moved_within e q front rest k again
-      ∙ ap (λ b. some_next q (marked e marks k) || ((begins || b) && list_any q (next e atom a))) (reached_told atom e marks k false)
-      ∙ repeated (some_next q (marked e marks k)) (list_any q (next e atom a)) (set_out (marked e marks k) atom) begins
-      ∙ ap₂ (λ b c. (some_next q (marked e marks k) || (set_out (marked e marks k) atom && b)) || (begins && c)) (sym onward) (sym onward)
-      ∙ ap (λ b. b || (begins && list_any p (next (star e) atom a))) (sym (some_after p (star e) (marked e marks k)))
-
-  pub moved_told : (e : Term) (p : Term → Bool) (begins : Bool) → list_any p (marked e (moved e marks 0 begins atom a) 0) ≡ (some_next p (marked e marks 0) || (begins && list_any p (next e atom a)))
-  moved_told e p begins =
-      ap (λ l. list_any p (marked e l 0)) (sym (append-nil (moved e marks 0 begins atom a))) ∙ moved_within e p [] [] 0 begins
-
--- marks that are added one term after another
-
-module _ (e f : Term) (marks front after : List Bool) (begins : Bool) (atom : Atom) (a : ℕ) (first : after ≡ front ++ moved e marks (length front) begins atom a) where
-  pub length_grown : length after ≡ length front + acts e
-  length_grown = ap length first ∙ length-append front _ ∙ ap (λ n. length front + n) (length-moved marks atom a e (length front) begins)
-
-  pub grown_twice : (again : Bool) → after ++ moved f marks (length after) again atom a ≡ front ++ (moved e marks (length front) begins atom a ++ moved f marks (length front + acts e) again atom a)
-  grown_twice again =
-      ap (λ n. after ++ moved f marks n again atom a) length_grown
-      ∙ ap (λ l. l ++ moved f marks (length front + acts e) again atom a) first
-      ∙ append_assoc front (moved e marks (length front) begins atom a) (moved f marks (length front + acts e) again atom a)
+      ∙ moved_told e q marks again
+      ∙ ap (λ b. some_next q (marked e marks) || ((begins || b) && list_any q (next e atom a))) (reached_told atom e marks false)
+      ∙ repeated (some_next q (marked e marks)) (list_any q (next e atom a)) (set_out (marked e marks) atom) begins
+      ∙ ap₂ (λ b c. (some_next q (marked e marks) || (set_out (marked e marks) atom && b)) || (begins && c)) (sym onward) (sym onward)
+      ∙ ap (λ b. b || (begins && list_any p (next (star e) atom a))) (sym (some_after p (star e) (marked e marks)))
 
 -- without a mark no term remains
 
-false_read : (n k : ℕ) → slice_index_or (replicate n false) k false ≡ false
-false_read nought k = refl
-false_read (suc n) nought = refl
-false_read (suc n) (suc k) = false_read n k
+pub none_marked : (e : Term) (p : Term → Bool) → list_any p (marked e nowhere) ≡ false
+none_marked zero p = refl
+none_marked one p = refl
+none_marked (test b) p = refl
+none_marked (act a) p = refl
+none_marked (sum e f) p = list_any-append p (marked e nowhere) (marked f nowhere) ∙ ap₂ ◌||◌ (none_marked e p) (none_marked f p)
+none_marked (product e f) p =
+    list_any-append p (map (λ x. dot x f) (marked e nowhere)) (marked f nowhere)
+    ∙ ap₂ ◌||◌ (any_map p (λ x. dot x f) (marked e nowhere) ∙ none_marked e (λ x. p (dot x f))) (none_marked f p)
+none_marked (star e) p = any_map p (λ x. dot x (star e)) (marked e nowhere) ∙ none_marked e (λ x. p (dot x (star e)))
 
-pub none_marked : (e : Term) (n k : ℕ) (p : Term → Bool) → list_any p (marked e (replicate n false) k) ≡ false
-none_marked zero n k p = refl
-none_marked one n k p = refl
-none_marked (test b) n k p = refl
-none_marked (act a) n k p = ap (λ m. list_any p (cond m (one ∷ []) [])) (false_read n k)
-none_marked (sum e f) n k p =
-    list_any-append p (marked e (replicate n false) k) (marked f (replicate n false) (k + acts e)) ∙ ap₂ ◌||◌ (none_marked e n k p) (none_marked f n (k + acts e) p)
-none_marked (product e f) n k p =
-    list_any-append p (map (λ x. dot x f) (marked e (replicate n false) k)) (marked f (replicate n false) (k + acts e))
-    ∙ ap₂ ◌||◌ (any_map p (λ x. dot x f) (marked e (replicate n false) k) ∙ none_marked e n k (λ x. p (dot x f))) (none_marked f n (k + acts e) p)
-none_marked (star e) n k p = any_map p (λ x. dot x (star e)) (marked e (replicate n false) k) ∙ none_marked e n k (λ x. p (dot x (star e)))
+-- a term without a mark that does not begin is left as it is, and its end is not reached
+
+module _ (atom : Atom) where
+  nothing_reached : (e : Term) → reached e nowhere false atom ≡ false
+  nothing_reached zero = refl
+  nothing_reached one = refl
+  nothing_reached (test b) = refl
+  nothing_reached (act a) = refl
+  nothing_reached (sum e f) = ap₂ ◌||◌ (nothing_reached e) (nothing_reached f)
+  nothing_reached (product e f) = ap (λ b. reached f nowhere b atom) (nothing_reached e) ∙ nothing_reached f
+  nothing_reached (star e) = nothing_reached e
+
+  nothing_moved : (e : Term) (a : ℕ) → moved e nowhere false atom a ≡ nowhere
+  nothing_moved zero a = refl
+  nothing_moved one a = refl
+  nothing_moved (test b) a = refl
+  nothing_moved (act b) a = refl
+  nothing_moved (sum e f) a = ap₂ joined (nothing_moved e a) (nothing_moved f a)
+  nothing_moved (product e f) a = ap₂ joined (nothing_moved e a) (ap (λ b. moved f nowhere b atom a) (nothing_reached e) ∙ nothing_moved f a)
+  nothing_moved (star e) a = ap (λ b. moved e nowhere b atom a) (nothing_reached e) ∙ nothing_moved e a
+
+  pub rests : (e : Term) (marks : MarkTree) (begins : Bool) → begins ≡ false → is_nowhere marks ≡ true → false ≡ reached e marks begins atom
+  rests e nowhere begins idle none = sym (ap (λ b. reached e nowhere b atom) idle ∙ nothing_reached e)
+  rests e here begins idle none = absurd (both_ways false refl none)
+  rests e (both l r) begins idle none = absurd (both_ways false refl none)
+
+  pub stays : (e : Term) (marks : MarkTree) (begins : Bool) (a : ℕ) → begins ≡ false → is_nowhere marks ≡ true → marks ≡ moved e marks begins atom a
+  stays e nowhere begins a idle none = sym (ap (λ b. moved e nowhere b atom a) idle ∙ nothing_moved e a)
+  stays e here begins a idle none = absurd (both_ways false refl none)
+  stays e (both l r) begins a idle none = absurd (both_ways false refl none)

@@ -30,8 +30,8 @@ pub enum Finding {
 /// 3. `EndsAgree(true)` if both sides relate the first position to the last, and `EndsAgree(false)` if neither does.
 /// 4. `Refutes(b)`: exactly one side relates them, the left side if b is true.
 ///
-/// A pass over the string takes time by the size of the term, and memory by the number of its actions. Fails only when
-/// out of memory.
+/// A pass over the string visits at each move the parts of the term that have a mark or begin, and takes memory by the
+/// marks. Fails only when out of memory.
 pub fn verdict(alloc: Global, problem: &Problem, string: &GString) -> Result<Finding, NoMemory>
     ensures { IfOk result (λ finding. IsFinding problem.now string.now finding) }
 {

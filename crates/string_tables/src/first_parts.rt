@@ -3,7 +3,7 @@ ghost use Rattle.std.specs.Prelude.{◌≡◌, ◌≤◌, ◌+◌, ◌&&◌, nat
 ghost use Rattle.kat_model.specs.Trees.{kat_tree};
 ghost use Rattle.string_tables.specs.Working.Parts.{atom_of, is_between as is_between', MayBeRead, IsFirstEnd, HasNoEnd, AcceptsNoneBefore, HasPart, IsFirstPart};
 
-use crate::marks::{add_marks, reach, step};
+use crate::marks::{Marks, reach, step};
 use crate::string::GString;
 use kat_model::{Kat, NoMemory};
 use std::alloc::Global;
@@ -49,13 +49,11 @@ pub(crate) fn first_end(
     ensures { IfOk result (λ end. MatchOption end (HasNoEnd string.now (kat_tree term.now) from to after) (λ j. IsFirstEnd string.now (kat_tree term.now) from to after j)) }
 {
     let moves = string.rest.as_slice();
-    let mut marks = Vec::new(alloc);
-    add_marks(term, &mut marks)?;
-    let mut spare = Vec::new(alloc);
+    let mut marks = Marks::Nowhere;
     for (k, m) in moves.iter().enumerate() {
         let begins = is_between(k, from, to);
         let atom = atom_at(string, k);
-        let ends = step(term, &mut marks, &mut spare, begins, atom, m.act)?;
+        let ends = step(alloc, term, &mut marks, begins, atom, m.act)?;
         if is_late(ends, after, k) {
             return Ok(Some(k));
         }
@@ -63,7 +61,7 @@ pub(crate) fn first_end(
     let last = moves.len();
     let starts = is_between(last, from, to);
     let final_atom = atom_at(string, last);
-    let is_reached = reach(term, &marks, 0, starts, final_atom).0;
+    let is_reached = reach(term, &marks, starts, final_atom);
     if is_late(is_reached, after, last) {
         Ok(Some(last))
     } else {

@@ -2,7 +2,7 @@ use Rattle.std.proofs.Common.{◌≡◌, ◌<◌, ◌≤◌, ℕ, List, false, l
 use Rattle.kat_model.specs.Trees.{kat_tree}
 use Rattle.kat_model.specs.Problems.{HasTestsBelow}
 use Rattle.kat_model.specs.Strings.{Move, GuardedString}
-use Rattle.string_tables.specs.Working.Marks.{reached}
+use Rattle.string_tables.specs.Working.Marks.{mark_tree}
 use Rattle.string_tables.specs.Working.Parts.{ends_at}
 use Rattle.string_tables.proofs.MarkedRuns.{AreMarksAt, marks_begin, run_more, run_ends, none_yet, late_end, no_late_end, no_end}
 use Rattle.string_tables.proofs.first_parts.first_end.Goals as goal
@@ -13,12 +13,12 @@ loop-k-init c =
     let e = kat_tree c.args.term.now in
     record {
       within = omega arith;
-      at = subst (AreMarksAt x e c.args.from c.args.to 0) (sym (rw c.new-marks.ensures.items at c.in_ok-add_marks.ensures)) (marks_begin x e c.args.from c.args.to);
+      at = marks_begin x e c.args.from c.args.to;
       none = λ j le lt. absurd (omega arith);
     }
 
-pub step-requires-clause-tests : goal.step-requires-clause-tests
-step-requires-clause-tests c =
+pub step-requires : goal.step-requires
+step-requires c =
     let x : GuardedString = c.args.string.now in
     let e = kat_tree c.args.term.now in
     let shown : c.as_slice-moves.result.now ≡ x.rest = c.as_slice-moves.ensures ∙ ap (λ (s : GuardedString). s.rest) c.string.view_is in
@@ -35,10 +35,10 @@ loop-k-preserved c =
     let lt : k < length x.rest = omega (arith, ap length shown) in
     let is : m ≡ get_or x.rest k m = c.index-moves-k.is ∙ ap (λ (l : List Move). get_or l k m) shown in
     let named = ap (λ (n : Move). n.act) c.m.view_is in
-    let ends = run_ends x e c.args.from c.args.to k c.loop-k.marks.items _ c.in_ok-ends.ends _ c.is_between-begins.ensures c.atom_at-atom.ensures c.in_ok-ends.ensures.end c.loop-k.invariant.at in
+    let ends = run_ends x e c.args.from c.args.to k (mark_tree c.loop-k.marks) _ c.in_ok-ends.ends _ c.is_between-begins.ensures c.atom_at-atom.ensures c.in_ok-ends.ensures.end c.loop-k.invariant.at in
     record {
       within = omega arith;
-      at = run_more x e c.args.from c.args.to k m c.loop-k.marks.items _ _ _ _ lt is c.is_between-begins.ensures c.atom_at-atom.ensures named c.in_ok-ends.ensures.marks c.loop-k.invariant.at;
+      at = run_more x e c.args.from c.args.to k m (mark_tree c.loop-k.marks) _ _ _ _ lt is c.is_between-begins.ensures c.atom_at-atom.ensures named c.in_ok-ends.ensures.marks c.loop-k.invariant.at;
       none = none_yet x e c.args.from c.args.to c.args.after k c.loop-k.invariant.none (no_late_end x e c.args.from c.args.to c.args.after k c.in_ok-ends.ends _ ends c.is_late.ensures c.if-is_late.false);
     }
 
@@ -47,7 +47,7 @@ returns-then-is_late c =
     let x : GuardedString = c.args.string.now in
     let e = kat_tree c.args.term.now in
     let k = c.loop-k.k in
-    let ends = run_ends x e c.args.from c.args.to k c.loop-k.marks.items _ c.in_ok-ends.ends _ c.is_between-begins.ensures c.atom_at-atom.ensures c.in_ok-ends.ensures.end c.loop-k.invariant.at in
+    let ends = run_ends x e c.args.from c.args.to k (mark_tree c.loop-k.marks) _ c.in_ok-ends.ends _ c.is_between-begins.ensures c.atom_at-atom.ensures c.in_ok-ends.ensures.end c.loop-k.invariant.at in
     let shown : c.as_slice-moves.result.now ≡ x.rest = c.as_slice-moves.ensures ∙ ap (λ (s : GuardedString). s.rest) c.string.view_is in
     let late = late_end x e c.args.from c.args.to c.args.after k c.in_ok-ends.ends _ ends c.is_late.ensures c.if-is_late.true in
     record { late = late.0; within = omega (arith, ap length shown); is = late.1; first = c.loop-k.invariant.none }
@@ -59,15 +59,15 @@ returns-then-is_late-2 c =
     let from = c.args.from in
     let to = c.args.to in
     let after = c.args.after in
-    let marks = c.loop-k.marks.items in
+    let marks = mark_tree c.loop-k.marks in
     let last = length c.as_slice-moves.result.now in
     let shown : c.as_slice-moves.result.now ≡ x.rest = c.as_slice-moves.ensures ∙ ap (λ (s : GuardedString). s.rest) c.string.view_is in
     let ended : c.loop-k.k ≡ last = omega (arith, c.loop-k.invariant.within, c.loop-k-test.false) in
     let at = subst (λ n. AreMarksAt x e from to n marks) ended c.loop-k.invariant.at in
     let none = subst (λ n. (j : ℕ) → after ≤ j → j < n → ends_at x e from to j ≡ false) ended c.loop-k.invariant.none in
-    let told = c.reach-is_reached.ensures.end ∙ ap (λ l. reached e l 0 c.is_between-starts.result c.atom_at-final_atom.result.now) c.deref.ensures.value in
-    let ends = run_ends x e from to last marks _ c.reach-is_reached.result.0 _ c.is_between-starts.ensures c.atom_at-final_atom.ensures told at in
-    let late = late_end x e from to after last c.reach-is_reached.result.0 _ ends c.is_late-2.ensures c.if-is_late-2.true in
+    let told = c.reach-is_reached.ensures in
+    let ends = run_ends x e from to last marks _ c.reach-is_reached.result _ c.is_between-starts.ensures c.atom_at-final_atom.ensures told at in
+    let late = late_end x e from to after last c.reach-is_reached.result _ ends c.is_late-2.ensures c.if-is_late-2.true in
     record { late = late.0; within = omega (arith, ap length shown); is = late.1; first = none }
 
 pub returns : goal.returns
@@ -77,12 +77,12 @@ returns c =
     let from = c.args.from in
     let to = c.args.to in
     let after = c.args.after in
-    let marks = c.loop-k.marks.items in
+    let marks = mark_tree c.loop-k.marks in
     let last = length c.as_slice-moves.result.now in
     let shown : c.as_slice-moves.result.now ≡ x.rest = c.as_slice-moves.ensures ∙ ap (λ (s : GuardedString). s.rest) c.string.view_is in
     let ended : c.loop-k.k ≡ last = omega (arith, c.loop-k.invariant.within, c.loop-k-test.false) in
     let at = subst (λ n. AreMarksAt x e from to n marks) ended c.loop-k.invariant.at in
     let none = subst (λ n. (j : ℕ) → after ≤ j → j < n → ends_at x e from to j ≡ false) ended c.loop-k.invariant.none in
-    let told = c.reach-is_reached.ensures.end ∙ ap (λ l. reached e l 0 c.is_between-starts.result c.atom_at-final_atom.result.now) c.deref.ensures.value in
-    let ends = run_ends x e from to last marks _ c.reach-is_reached.result.0 _ c.is_between-starts.ensures c.atom_at-final_atom.ensures told at in
-    no_end x e from to after last (ap length shown) none (no_late_end x e from to after last c.reach-is_reached.result.0 _ ends c.is_late-2.ensures c.if-is_late-2.false)
+    let told = c.reach-is_reached.ensures in
+    let ends = run_ends x e from to last marks _ c.reach-is_reached.result _ c.is_between-starts.ensures c.atom_at-final_atom.ensures told at in
+    no_end x e from to after last (ap length shown) none (no_late_end x e from to after last c.reach-is_reached.result _ ends c.is_late-2.ensures c.if-is_late-2.false)
