@@ -3,7 +3,7 @@ use Rattle.std.proofs.Common.{◌≡◌, ◌↔◌, ◌<◌, ◌≤◌, ℕ, zer
 use Rattle.std.specs.Bool.{IsTrue}
 use Rattle.std.proofs.lemmas.Bool.{both_ways}
 use Rattle.std.proofs.lemmas.List.{nil_from_length}
-use Rattle.walk_under.specs.Working.Counting.{uncounted}
+use Rattle.walk_under.specs.Working.Counting.{uncounted, StillCount}
 
 pub set_no_more : (bs : List Bool) (i : ℕ) → uncounted (set bs i true) ≤ uncounted bs
 set_no_more [] i = omega arith
@@ -18,6 +18,24 @@ set_fewer (true ∷ bs) zero e = absurd cc
 set_fewer (false ∷ bs) zero e = omega arith
 set_fewer (true ∷ bs) (suc i) e = set_fewer bs i e
 set_fewer (false ∷ bs) (suc i) e = let l = set_fewer bs i e in omega arith
+
+-- what counted still counts when one more does
+pub set_keeps : (bs : List Bool) (k : ℕ) → StillCount bs (set bs k true)
+set_keeps [] k i e = e
+set_keeps (b ∷ bs) zero zero e = refl
+set_keeps (b ∷ bs) zero (suc i) e = e
+set_keeps (b ∷ bs) (suc k) zero e = e
+set_keeps (b ∷ bs) (suc k) (suc i) e = set_keeps bs k i e
+
+-- a place that counts is one of the list
+counted_within : (bs : List Bool) (i : ℕ) → get_or bs i false ≡ true → i < length bs
+counted_within [] i e = absurd cc
+counted_within (b ∷ bs) zero e = omega arith
+counted_within (b ∷ bs) (suc i) e = let l = counted_within bs i e in omega arith
+
+-- where all count, each that counted does
+pub all_still_count : (before after : List Bool) → ((i : ℕ) → i < length before → get_or after i false ≡ true) → StillCount before after
+all_still_count before after all i e = all i (counted_within before i e)
 
 -- a hypothesis does not count
 pub some_uncounted : (bs : List Bool) (i : ℕ) → get_or bs i true ≡ false → 0 < uncounted bs

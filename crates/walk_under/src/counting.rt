@@ -10,7 +10,7 @@ ghost use Rattle.term_nodes.specs.NodeLists.{IsTerm};
 ghost use Rattle.term_nodes.specs.NodeTrees.{tree_at};
 ghost use Rattle.term_nodes.specs.Growth.{Grows};
 ghost use Rattle.hypothesis_kinds.specs.Broken.{IsBrokenBy};
-ghost use Rattle.walk_under.specs.Working.Counting.{uncounted, AreShortHyps, AreCounted, AreBroken};
+ghost use Rattle.walk_under.specs.Working.Counting.{uncounted, AreShortHyps, AreCounted, AreBroken, StillCount, CountsSome};
 
 use hypothesis_kinds::{accepts_atom, accepts_move, is_short};
 use kat_model::{Kat, MAX_TESTS, NoMemory, Problem, Test};
@@ -234,6 +234,8 @@ pub(crate) fn has_some(places: &[usize]) -> bool
 pub(crate) fn count_all(counts: &mut [bool])
     requires { 0 < uncounted counts.old }
     ensures fewer { uncounted counts.new < uncounted counts.old }
+    ensures kept { StillCount counts.old counts.new }
+    ensures all { (i : ℕ) → i < length counts.old → slice_index_or counts.new i false ≡ true }
     ensures flags { length counts.new ≡ length counts.old }
 {
     for place in 0..counts.len() {
@@ -313,6 +315,7 @@ fn next_place(hyps: &[ShortHyp], known: &[bool], broken: &[usize]) -> usize
 fn count_if(counts: &mut [bool], place: usize, same: bool)
     requires { place < length counts.old }
     ensures fewer { uncounted counts.new ≤ uncounted counts.old }
+    ensures kept { StillCount counts.old counts.new }
     ensures flags { length counts.new ≡ length counts.old }
 {
     if !same {
@@ -327,6 +330,8 @@ fn count_like(hyps: &[ShortHyp], counts: &mut [bool], place: usize)
     requires place { place < length counts.old }
     requires uncounted { slice_index_or counts.old place true ≡ false }
     ensures fewer { uncounted counts.new < uncounted counts.old }
+    ensures kept { StillCount counts.old counts.new }
+    ensures place { slice_index_or counts.new place false ≡ true }
     ensures flags { length counts.new ≡ length counts.old }
 {
     counts[place] = true;
@@ -337,7 +342,7 @@ fn count_like(hyps: &[ShortHyp], counts: &mut [bool], place: usize)
     }
 }
 
-/// Makes at least one of the broken hypotheses count.
+/// Makes at least one of the broken hypotheses count. What counted still counts.
 pub(crate) fn count_next(
     alloc: Global,
     hyps: &[ShortHyp],
@@ -348,6 +353,8 @@ pub(crate) fn count_next(
     requires some { 0 < length broken.now }
     requires broken { (i : ℕ) → Has broken.now i → (i < length counts.old) × (slice_index_or counts.old i true ≡ false) }
     ensures fewer { OnOk result (uncounted counts.new < uncounted counts.old) }
+    ensures kept { StillCount counts.old counts.new }
+    ensures some { OnOk result (CountsSome broken.now counts.new) }
     ensures flags { length counts.new ≡ length counts.old }
 {
     let known = known_tests(alloc, hyps, counts)?;

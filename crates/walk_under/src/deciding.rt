@@ -14,7 +14,7 @@ ghost use Rattle.term_nodes.specs.Growth.{Grows};
 ghost use Rattle.test_diagrams.specs.Functions.{IsDiagramId};
 ghost use Rattle.walk_pairs.specs.ClosedTerms.{AreIdsOf};
 ghost use Rattle.walk_under.specs.Decisions.{IsDecisionUnder};
-ghost use Rattle.walk_under.specs.Working.Counting.{uncounted, AreShortHyps, IsCountedList, IsFoundUnder, HasEnded, IsOutcome};
+ghost use Rattle.walk_under.specs.Working.Counting.{uncounted, AreShortHyps, IsCountedList, IsFoundUnder, HasEnded, IsOutcome, StillCount};
 ghost use Rattle.walk_under.specs.Working.Walking.{walk_context, AreClosedIds, IsUnderWay, IsDifference};
 
 use crate::counting::{
@@ -99,6 +99,7 @@ fn judge(
     requires some { 0 < length broken.now }
     requires broken { (i : ℕ) → Has broken.now i → (i < length counts.old) × (slice_index_or counts.old i true ≡ false) }
     ensures answer { IfOk result (λ answer. MatchOption answer (uncounted counts.new < uncounted counts.old) (IsShortest problem.now)) }
+    ensures counting { StillCount counts.old counts.new }
     ensures flags { length counts.new ≡ length counts.old }
 {
     let string = smoothed(alloc, diagrams, hyps, counts, found, last)?;
@@ -134,6 +135,7 @@ fn string_of(
         × IsDifference (walk_context counted (with_hyps problem.now (long_hyps problem.now)) store) walk.old found.place found.atom.items }
     requires hyps { (store : NodeParts) × AreShortHyps problem.now store hyps.now }
     ensures answer { IfOk result (λ answer. MatchOption answer (uncounted counts.new < uncounted counts.old) (IsShortest problem.now)) }
+    ensures counting { StillCount counts.old counts.new }
     ensures flags { length counts.new ≡ length counts.old }
 {
     let string = walk.string_to(alloc, found.place, found.atom)?;
@@ -170,6 +172,7 @@ fn turn(
     requires hyps { AreShortHyps problem.now store.old hyps.now }
     requires sides { AreClosedIds (with_hyps problem.now (long_hyps problem.now)) store.old sides.now }
     ensures outcome { IfOk result (λ outcome. MatchOption outcome (uncounted counts.new < uncounted counts.old) (IsOutcome problem.now store.new)) }
+    ensures counting { StillCount counts.old counts.new }
     ensures flags { length counts.new ≡ length counts.old }
     ensures kept { Grows store.old store.new }
 {

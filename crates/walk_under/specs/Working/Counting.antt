@@ -38,6 +38,14 @@ uncounted [] = 0
 uncounted (true ∷ bs) = uncounted bs
 uncounted (false ∷ bs) = suc (uncounted bs)
 
+-- each hypothesis that counted still counts
+abbrev pub StillCount : List Bool → List Bool → Type 0
+StillCount before after = (i : ℕ) → slice_index_or before i false ≡ true → slice_index_or after i false ≡ true
+
+-- the hypothesis at one of these places counts
+abbrev pub CountsSome : List ℕ → List Bool → Type 0
+CountsSome places counts = (i : ℕ) × Has places i × (slice_index_or counts i false ≡ true)
+
 -- the problem with these short hypotheses and all long ones
 abbrev pub with_counted : ProblemParts → List Term → ProblemParts
 with_counted q counted = with_hyps q (counted ++ long_hyps q)
