@@ -54,7 +54,7 @@ shortened_value I s signed v w to g short h k = by_tests (is_narrower to v) (is_
         ∙ sym (conversion_cut signed v w to (polynomial I s g % modulus v) h)
     by_tests false false p q = dropped (q refl)
 
-same_bits : (v w : Width) → is_same_width v w ≡ true → v ≡ w
+pub same_bits : (v w : Width) → is_same_width v w ≡ true → v ≡ w
 same_bits W8 W8 h = refl
 same_bits W16 W16 h = refl
 same_bits W32 W32 h = refl
@@ -84,15 +84,15 @@ polynomial-truncated I s from to (converted signed v w g) h =
     by_width false e k = cut_cell I s from to (converted signed v w g) h
 polynomial-truncated I s from to f h = cut_cell I s from to f h
 
-no_cells : (p : FlowFormTree) → is_one p ≡ true → p ≡ one
+pub no_cells : (p : FlowFormTree) → is_one p ≡ true → p ≡ one
 no_cells one e = refl
 no_cells _ e = absurd cc
 
-zero_form : (f : FlowFormTree) → is_zero f ≡ true → f ≡ constant 0
+pub zero_form : (f : FlowFormTree) → is_zero f ≡ true → f ≡ constant 0
 zero_form (constant c) e = ap constant (let n : c ≡ 0 = grind (arith, nat_tests) in n)
 zero_form _ e = absurd cc
 
-product_alone : (t : ℕ) (p rest : FlowFormTree) → is_alone t rest ≡ true → term t p rest ≡ term 1 p (constant 0)
+pub product_alone : (t : ℕ) (p rest : FlowFormTree) → is_alone t rest ≡ true → term t p rest ≡ term 1 p (constant 0)
 product_alone t p rest e =
     let both = and_parts (nat_eq t 1) (is_zero rest) e in
     let n : t ≡ 1 = grind (arith, nat_tests, both.0) in

@@ -2,5 +2,11 @@ pub mod SameForms
 pub mod Polynomials
 pub mod Widths
 pub mod ConvertedValues
+pub mod EquationValues
+pub mod ComparisonValues
+pub mod ExpressionValues
+pub mod SubstitutedValues
+pub mod Evaluated
 pub mod Measures
 pub mod OtherForms
+pub mod Bounds

@@ -85,7 +85,7 @@ modulus_above _ w h = absurd (omega (arith, h, widest w))
 not_negative : (v w : Width) (n : ℕ) → bits v < bits w → n < modulus v → nat_lt n (2 ^ (bits w - 1)) ≡ true
 not_negative v w n h k = let a = half_above v w h in grind (arith, nat_tests, a)
 
-unchanged : (v w : Width) (n : ℕ) → bits v < bits w → n < modulus v → n % modulus w ≡ n
+pub unchanged : (v w : Width) (n : ℕ) → bits v < bits w → n < modulus v → n % modulus w ≡ n
 unchanged v w n h k = let a = modulus_above v w h in mod-eq_of_lt (omega (arith, a, k))
 
 -- a negative number, with more bits

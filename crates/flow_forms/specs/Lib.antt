@@ -3,4 +3,10 @@ pub mod Values
 pub mod Order
 pub mod Arithmetic
 pub mod Conversions
+pub mod Comparisons
+pub mod Equations
+pub mod Expressions
+pub mod Sizes
+pub mod Evaluation
+pub mod Substitution
 pub mod Laws

@@ -11,13 +11,13 @@ use crate::order::bits as bits_of;
 use kat_model::{NoMemory, Width};
 use std::alloc::Global;
 
-fn is_narrower(left: Width, right: Width) -> bool
+pub(crate) fn is_narrower(left: Width, right: Width) -> bool
     ensures { result ≡ has_fewer_bits left right }
 {
     bits_of(left) < bits_of(right)
 }
 
-fn is_same_width(left: Width, right: Width) -> bool
+pub(crate) fn is_same_width(left: Width, right: Width) -> bool
     ensures { result ≡ has_same_bits left right }
 {
     bits_of(left) == bits_of(right)
@@ -133,7 +133,7 @@ fn shortened(
     form.copy(alloc)
 }
 
-fn is_one(product: &FlowForm) -> bool
+pub(crate) fn is_one(product: &FlowForm) -> bool
     ensures { result ≡ has_no_cells (form_tree product.now) }
 {
     match product {
@@ -142,7 +142,7 @@ fn is_one(product: &FlowForm) -> bool
     }
 }
 
-fn is_zero(form: &FlowForm) -> bool
+pub(crate) fn is_zero(form: &FlowForm) -> bool
     ensures { result ≡ is_zero_form (form_tree form.now) }
 {
     match form {
@@ -152,7 +152,7 @@ fn is_zero(form: &FlowForm) -> bool
 }
 
 // Returns whether a term with this coefficient before this sum is its product alone.
-fn is_alone(times: u64, rest: &FlowForm) -> bool
+pub(crate) fn is_alone(times: u64, rest: &FlowForm) -> bool
     ensures { result ≡ is_product_alone times (form_tree rest.now) }
 {
     times == 1 && is_zero(rest)

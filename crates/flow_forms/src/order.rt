@@ -32,7 +32,7 @@ fn cmp_sort(left: Sort, right: Sort) -> Ordering
     }
 }
 
-fn sign_rank(signed: bool) -> u32
+pub(crate) fn sign_rank(signed: bool) -> u32
     ensures { result ≡ rank_of_sign signed }
 {
     if signed { 1 } else { 0 }
