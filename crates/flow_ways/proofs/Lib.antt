@@ -1,0 +1,5 @@
+pub mod CondValues
+pub mod States
+pub mod WaysAreRuns
+pub mod LiveRuns
+pub mod ActionValues

@@ -1,0 +1,10 @@
+//! Ways: runs of flow graphs with forms in place of values, from a place to the next.
+#![tactic(auto)]
+
+mod condition;
+mod laws;
+
+pub use condition::{
+    FlowCond, Known, both_conds, either_cond, of_literal, opposite_cond, simplified, value_known,
+};
+pub use laws::{actions_are_runs, runs_go_by_live_variables, ways_are_runs};
