@@ -3,3 +3,4 @@ pub mod States
 pub mod WaysAreRuns
 pub mod LiveRuns
 pub mod ActionValues
+pub mod CondForms

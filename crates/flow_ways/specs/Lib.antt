@@ -1,5 +1,6 @@
 pub mod Conditions
 pub mod CondTrees
+pub mod CondForms
 pub mod Ways
 pub mod Sorted
 pub mod Stops

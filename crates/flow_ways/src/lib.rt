@@ -1,9 +1,11 @@
 //! Ways: runs of flow graphs with forms in place of values, from a place to the next.
 #![tactic(auto)]
 
+mod cond_form;
 mod condition;
 mod laws;
 
+pub use cond_form::condition_form;
 pub use condition::{
     FlowCond, Known, both_conds, either_cond, of_literal, opposite_cond, simplified, value_known,
 };
