@@ -4,3 +4,13 @@ pub mod Actions
 pub mod SyntaxViews
 pub mod Productions
 pub mod Spelling
+pub mod Scopes
+pub mod ScopeViews
+pub mod Resolving
+pub mod Sizes
+pub mod Checking
+pub mod KnownViews
+pub mod ResultViews
+pub mod FileViews
+pub mod Texts
+pub mod Working

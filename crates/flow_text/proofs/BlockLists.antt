@@ -1,0 +1,35 @@
+-- The numbers of blocks by their names, one block more.
+use Rattle.std.proofs.Common.{◌≡◌, ◌<◌, ℕ, ◌+◌, List, [], ◌∷◌, length, take, get_or, Some, cond, sym, ap, ◌∙◌, String, string_bytes}
+use Rattle.std.specs.Str.{bytes_eq}
+use Rattle.std.specs.Map.{lookup}
+use Rattle.std.specs.BTreeMap.{BTreeMap, is_at, get_by_text, UpdatesBy}
+use Rattle.std.specs.Ordering.{nat_cmp}
+use Rattle.std.specs.Cmp.Lexicographic.{slice_cmp}
+use Rattle.std.specs.String.{string_cmp}
+use Rattle.std.specs.declared.alloc.Global.{Global}
+use Rattle.std.proofs.lemmas.List.{take_more}
+use Rattle.std.proofs.lemmas.Map.Text.{btree_map_updates_text}
+use Rattle.flow_text.specs.declared.written.Block.{Block}
+use Rattle.flow_text.specs.SyntaxViews.{block_syntax, blocks_syntax}
+use Rattle.flow_text.specs.Checking.{found, block_names}
+use Rattle.flow_text.proofs.Stacked.{blocks_push, blocks_none}
+
+-- the block before the last `i` blocks
+pub blocks_more : (bs : List Block) (i : ℕ) (b : Block) → i < length bs → b ≡ get_or bs i b → blocks_syntax (take (i + 1) bs) ≡ block_syntax b ∷ blocks_syntax (take i bs)
+blocks_more bs i b lt is =
+    ap blocks_syntax (take_more bs i b lt) ∙ blocks_push (take i bs) (get_or bs i b) ∙ ap (λ c. block_syntax c ∷ blocks_syntax (take i bs)) (sym is)
+
+-- the name of a block before others is that block's
+pub found_first : (bs : List Block) (i k : ℕ) (b : Block) (text : List ℕ) → i < length bs → b ≡ get_or bs i b → found (block_names k (blocks_syntax (take (i + 1) bs))) text ≡ cond (bytes_eq b.name.text.now text) (Some k) (found (block_names (k + 1) (blocks_syntax (take i bs))) text)
+found_first bs i k b text lt is = ap (λ cs. found (block_names k cs) text) (blocks_more bs i b lt is)
+
+-- no name of no block
+pub none_found : (m : BTreeMap (String Global) ℕ) (k : ℕ) (text : List ℕ) → m.entries ≡ [] → get_by_text m text ≡ found (block_names k (blocks_syntax [])) text
+none_found m k text empty = ap (λ es. lookup (is_at (λ key. slice_cmp nat_cmp text (string_bytes key))) es) empty ∙ sym (ap (λ bs. found (block_names k bs) text) blocks_none)
+
+pub name_found : (bs : List Block) (i k : ℕ) (b : Block) (m n : BTreeMap (String Global) ℕ) (key : String Global) → i < length bs → b ≡ get_or bs i b → string_bytes key ≡ b.name.text.now → UpdatesBy string_cmp (string_cmp key) m n (Some k) → ((text : List ℕ) → get_by_text m text ≡ found (block_names (k + 1) (blocks_syntax (take i bs))) text) → (text : List ℕ) → get_by_text n text ≡ found (block_names k (blocks_syntax (take (i + 1) bs))) text
+name_found bs i k b m n key lt is named updates kept text =
+    btree_map_updates_text (string_bytes key) m n (Some k) updates text
+    ∙ ap (λ (name : List ℕ). cond (bytes_eq name text) (Some k) (get_by_text m text)) named
+    ∙ ap (cond (bytes_eq b.name.text.now text) (Some k)) (kept text)
+    ∙ sym (found_first bs i k b text lt is)

@@ -1,0 +1,290 @@
+-- No item has the fault `NoMemory`.
+use Rattle.std.proofs.Common.{ℕ, ◌+◌, List, [], ◌∷◌, ◌++◌, length, Bool, true, false, cond, Option, Some, None, Result, not, nat_eq, nat_lt}
+use Rattle.std.specs.Prelude.{◌&&◌}
+use Rattle.kat_model.specs.Stores.{modulus}
+use Rattle.kat_model.specs.declared.expression.Rel.{Rel}
+use Rattle.kat_model.specs.declared.expression.Rel.TheVariants.{Eq, Ne}
+use Rattle.kat_model.specs.declared.expression.Width.{Width}
+use Rattle.kat_model.specs.declared.limits.TheConstants.{MAX_ROUNDS}
+use Rattle.text_tokens.specs.declared.fault.TextFault.{TextFault}
+use Rattle.text_tokens.specs.TokenParts.{TokenParts, bytes_of}
+use Rattle.text_grammar.proofs.NamedFaults.{IsNamedFault, IsNamed, then_named}
+use Rattle.flow_model.specs.declared.sort.Sort.{Sort}
+use Rattle.flow_model.specs.declared.sort.Sort.TheVariants.{Number, Opaque}
+use Rattle.flow_model.specs.declared.graph.ExprNode.{ExprNode}
+use Rattle.flow_model.specs.declared.graph.ExprNode.TheVariants as node
+use Rattle.flow_model.specs.Expressions.{ExprTree}
+use Rattle.flow_model.specs.Polish.{CondPart}
+use Rattle.flow_model.specs.Graphs.{StatementTree, Graph}
+use Rattle.flow_text.specs.declared.limits.TheConstants.{MAX_BLOCKS, MAX_PARAMETERS}
+use Rattle.flow_text.specs.declared.meaning.Meaning.{Meaning}
+use Rattle.flow_text.specs.declared.meaning.Meaning.TheVariants.{SortName, Function, Variable, GraphName}
+use Rattle.flow_text.specs.Terminals.{spelled_number}
+use Rattle.flow_text.specs.Syntax.{NodeSyntax, numeral, named, called, converted, operation, ExprSyntax, CondNodeSyntax, always, never, compared, compared_signed, negation, both, either, CondSyntax, StatementSyntax, assign, claim, JumpSyntax, goto, branch, return, abort, BlockSyntax, a_block, ItemSyntax, sorts, function, variables, graph, rounds, split, equal}
+use Rattle.flow_text.specs.Scopes.{FunctionParts, function_parts, ScopeParts, meaning, meaning_in, may_declare, with_sort, with_variable, sorts_declared, variables_declared, sort_meant, sort_or_width, sort_named, width_named, few_parameters, next_parameter, parameters_after, same_sort, may_have_function, may_have_graph, scope_before}
+use Rattle.flow_text.specs.Resolving.{Wanted, operand, second_operand, number_of_width, number_in, with_sort_wanted, variable_in, application_of, function_in, conversion_in, sort_or_u64, sort_of_first, sort_of_sides, node_in, sort_wanted, next_node, nodes_after, expression_of, relation_on, rel_named, width_of_sort, comparison_of, signed_comparison_of, part_of, parts_after, condition_of}
+use Rattle.flow_text.specs.Sizes.{nodes_with}
+use Rattle.flow_text.specs.Checking.{is_set, target_of, target_meant, next_target, targets_after, expressions_after, expressions_of, seconds, assigned, statement_of, statements_after, block_or_fault, found, block_names, block_name, returned, jump_of, may_have_block, block_of, next_block, blocks_after, graph_of, GraphSyntax, a_graph, Known, nothing_known, graph_meant, at_most_once, with_nodes, few_rounds, item_known, items_known, sorts_returned, shared_sorts, whole_graph, next_graph, graphs_after, with_goal, file_of}
+
+if_named : {A : Type 0} (b : Bool) (x y : Result A TextFault) → IsNamed x → IsNamed y → IsNamed (cond b x y)
+if_named true x y h k = h
+if_named false x y h k = k
+
+-- ---- names
+
+declare_named : (m : Option Meaning) (count limit : ℕ) (t : TokenParts) → IsNamed (may_declare m count limit t)
+declare_named (Some m) count limit t = tt
+declare_named None count limit t = if_named (nat_lt count limit) _ _ tt tt
+
+sorts_declared_named : (s : ScopeParts) (ts : List TokenParts) → IsNamed (sorts_declared s ts)
+sorts_declared_named s [] = tt
+sorts_declared_named s (t ∷ ts) = then_named (with_sort s t) _ (then_named (may_declare (meaning s t) s.sorts _ t) _ (declare_named (meaning s t) s.sorts _ t) (λ u. tt)) (λ u. sorts_declared_named u ts)
+
+variables_declared_named : (s : ScopeParts) (sort : Sort) (ts : List TokenParts) → IsNamed (variables_declared s sort ts)
+variables_declared_named s sort [] = tt
+variables_declared_named s sort (t ∷ ts) =
+    then_named (with_variable s sort t) _ (then_named (may_declare (meaning s t) (length s.variables) _ t) _ (declare_named (meaning s t) (length s.variables) _ t) (λ u. tt)) (λ u. variables_declared_named u sort ts)
+
+sort_meant_named : (t : TokenParts) (m : Option Meaning) → IsNamed (sort_meant t m)
+sort_meant_named t None = tt
+sort_meant_named t (Some (SortName k)) = tt
+sort_meant_named t (Some other) = tt
+
+sort_or_width_named : (s : ScopeParts) (t : TokenParts) (x : Option (Bool × Width)) → IsNamed (sort_or_width s t x)
+sort_or_width_named s t None = sort_meant_named t (meaning s t)
+sort_or_width_named s t (Some x) = tt
+
+sort_named_named : (s : ScopeParts) (t : TokenParts) → IsNamed (sort_named s t)
+sort_named_named s t = sort_or_width_named s t (width_named (bytes_of t))
+
+next_parameter_named : (s : ScopeParts) (t : TokenParts) (count : ℕ) → IsNamed (next_parameter s t count)
+next_parameter_named s t count = then_named (sort_named s t) (few_parameters t count) (sort_named_named s t) (λ sort. if_named (nat_lt count MAX_PARAMETERS) _ _ tt tt)
+
+parameters_named : (s : ScopeParts) (made : List Sort) (ts : List TokenParts) → IsNamed (parameters_after s made ts)
+parameters_named s made [] = tt
+parameters_named s made (t ∷ ts) = then_named (next_parameter s t (length made)) _ (next_parameter_named s t (length made)) (λ x. parameters_named s (made ++ x ∷ []) ts)
+
+-- ---- expressions
+
+number_of_width_named : (w : Width) (t : TokenParts) (n : Option ℕ) → IsNamed (number_of_width w t n)
+number_of_width_named w t None = tt
+number_of_width_named w t (Some n) = if_named (nat_lt n (modulus w)) _ _ tt tt
+
+number_named : (sort : Sort) (t : TokenParts) → IsNamed (number_in sort t)
+number_named (Opaque k) t = tt
+number_named (Number w) t = number_of_width_named w t (spelled_number t)
+
+with_sort_named : (wanted : Sort) (t : TokenParts) (n : ExprNode) (sort : Option Sort) → IsNamed (with_sort_wanted wanted t n sort)
+with_sort_named wanted t n None = tt
+with_sort_named wanted t n (Some sort) = if_named (same_sort sort wanted) _ _ tt tt
+
+variable_named : (s : ScopeParts) (wanted : Sort) (t : TokenParts) (m : Option Meaning) → IsNamed (variable_in s wanted t m)
+variable_named s wanted t None = tt
+variable_named s wanted t (Some (Variable k)) = with_sort_named wanted t (node.Variable k) _
+variable_named s wanted t (Some other) = tt
+
+application_named : (wanted : Sort) (t : TokenParts) (count k : ℕ) (f : Option FunctionParts) → IsNamed (application_of wanted t count k f)
+application_named wanted t count k None = tt
+application_named wanted t count k (Some (function_parts result parameters)) = if_named (same_sort result wanted && nat_eq count (length parameters)) _ _ tt tt
+
+function_named : (s : ScopeParts) (wanted : Sort) (t : TokenParts) (count : ℕ) (m : Option Meaning) → IsNamed (function_in s wanted t count m)
+function_named s wanted t count None = tt
+function_named s wanted t count (Some (Function k)) = application_named wanted t count k _
+function_named s wanted t count (Some other) = tt
+
+conversion_named : (wanted : Sort) (word : TokenParts) (x : Option (Bool × Width)) (sort : Sort) → IsNamed (conversion_in wanted word x sort)
+conversion_named (Number v) word (Some x) (Number from) = if_named (same_sort (Number x.1) (Number v)) _ _ tt tt
+conversion_named wanted word x sort = tt
+
+node_named : (s : ScopeParts) (wanted : Sort) (ws : List Wanted) (n : NodeSyntax) → IsNamed (node_in s wanted ws n)
+node_named s wanted ws (numeral t) = then_named (number_in wanted t) _ (number_named wanted t) (λ n. tt)
+node_named s wanted ws (named t) = then_named (variable_in s wanted t (meaning_in s t)) _ (variable_named s wanted t (meaning_in s t)) (λ n. tt)
+node_named s wanted ws (called t count) = then_named (function_in s wanted t count (meaning_in s t)) _ (function_named s wanted t count (meaning_in s t)) (λ n. tt)
+node_named s wanted ws (converted word first) =
+    let sort : Sort = sort_or_u64 (sort_of_first s first) in
+    then_named (conversion_in wanted word (width_named (bytes_of word)) sort) _ (conversion_named wanted word (width_named (bytes_of word)) sort) (λ c. tt)
+node_named s wanted ws (operation o) = tt
+
+sort_wanted_named : (w : Wanted) → IsNamed (sort_wanted w)
+sort_wanted_named (operand sort) = tt
+sort_wanted_named (second_operand o (Opaque k)) = tt
+sort_wanted_named (second_operand o (Number w)) = tt
+
+next_node_named : (s : ScopeParts) (w : Wanted) (ws : List Wanted) (n : NodeSyntax) → IsNamed (next_node s w ws n)
+next_node_named s w ws n = then_named (sort_wanted w) _ (sort_wanted_named w) (λ sort. node_named s sort ws n)
+
+nodes_named : (s : ScopeParts) (made : List ExprNode) (ws : List Wanted) (e : ExprSyntax) → IsNamed (nodes_after s made ws e)
+nodes_named s made ws [] = tt
+nodes_named s made [] (n ∷ ns) = tt
+nodes_named s made (w ∷ ws) (n ∷ ns) = then_named (next_node s w ws n) _ (next_node_named s w ws n) (λ x. nodes_named s (made ++ x.0 ∷ []) x.1 ns)
+
+expression_named : (s : ScopeParts) (sort : Sort) (e : ExprSyntax) → IsNamed (expression_of s sort e)
+expression_named s sort e = then_named (nodes_after s [] (operand sort ∷ []) e) _ (nodes_named s [] (operand sort ∷ []) e) (λ ns. tt)
+
+-- ---- conditions
+
+relation_named : (sort : Sort) (t : TokenParts) (rel : Rel) → IsNamed (relation_on sort t rel)
+relation_named (Number w) t rel = tt
+relation_named (Opaque k) t Eq = tt
+relation_named (Opaque k) t Ne = tt
+relation_named (Opaque k) t rel = tt
+
+width_named_sort : (sort : Sort) (t : TokenParts) → IsNamed (width_of_sort sort t)
+width_named_sort (Number w) t = tt
+width_named_sort (Opaque k) t = tt
+
+comparison_named : (s : ScopeParts) (sort : Sort) (t : TokenParts) (e f : ExprSyntax) → IsNamed (comparison_of s sort t e f)
+comparison_named s sort t e f =
+    then_named (expression_of s sort e) _ (expression_named s sort e) (λ x.
+    then_named (relation_on sort t (rel_named (bytes_of t))) _ (relation_named sort t (rel_named (bytes_of t))) (λ rel.
+    then_named (expression_of s sort f) _ (expression_named s sort f) (λ y. tt)))
+
+signed_named : (s : ScopeParts) (sort : Sort) (t : TokenParts) (e f : ExprSyntax) → IsNamed (signed_comparison_of s sort t e f)
+signed_named s sort t e f =
+    then_named (width_of_sort sort t) _ (width_named_sort sort t) (λ w.
+    then_named (expression_of s (Number w) e) _ (expression_named s (Number w) e) (λ x.
+    then_named (expression_of s (Number w) f) _ (expression_named s (Number w) f) (λ y. tt)))
+
+part_named : (s : ScopeParts) (n : CondNodeSyntax) → IsNamed (part_of s n)
+part_named s always = tt
+part_named s never = tt
+part_named s (compared t e f) = comparison_named s (sort_of_sides s e f) t e f
+part_named s (compared_signed t e f) = signed_named s (sort_of_sides s e f) t e f
+part_named s negation = tt
+part_named s both = tt
+part_named s either = tt
+
+parts_named : (s : ScopeParts) (made : List CondPart) (b : CondSyntax) → IsNamed (parts_after s made b)
+parts_named s made [] = tt
+parts_named s made (n ∷ ns) = then_named (part_of s n) _ (part_named s n) (λ x. parts_named s (made ++ x ∷ []) ns)
+
+condition_named : (s : ScopeParts) (b : CondSyntax) → IsNamed (condition_of s b)
+condition_named s b = then_named (parts_after s [] b) _ (parts_named s [] b) (λ ps. tt)
+
+-- ---- statements
+
+target_of_named : (made : List (ℕ × Sort)) (t : TokenParts) (k : ℕ) (sort : Option Sort) → IsNamed (target_of made t k sort)
+target_of_named made t k None = tt
+target_of_named made t k (Some sort) = if_named (is_set made k) _ _ tt tt
+
+target_meant_named : (s : ScopeParts) (made : List (ℕ × Sort)) (t : TokenParts) (m : Option Meaning) → IsNamed (target_meant s made t m)
+target_meant_named s made t None = tt
+target_meant_named s made t (Some (Variable k)) = target_of_named made t k _
+target_meant_named s made t (Some other) = tt
+
+targets_named : (s : ScopeParts) (made : List (ℕ × Sort)) (ts : List TokenParts) → IsNamed (targets_after s made ts)
+targets_named s made [] = tt
+targets_named s made (t ∷ ts) = then_named (next_target s made t) _ (target_meant_named s made t (meaning_in s t)) (λ x. targets_named s (made ++ x ∷ []) ts)
+
+expressions_named : (s : ScopeParts) (made : List ExprTree) (wanted : List Sort) (es : List ExprSyntax) → IsNamed (expressions_after s made wanted es)
+expressions_named s made [] es = tt
+expressions_named s made (sort ∷ wanted) [] = tt
+expressions_named s made (sort ∷ wanted) (e ∷ es) = then_named (expression_of s sort e) _ (expression_named s sort e) (λ x. expressions_named s (made ++ x ∷ []) wanted es)
+
+assigned_named : (s : ScopeParts) (targets : List TokenParts) (becomes : TokenParts) (es : List ExprSyntax) → IsNamed (assigned s targets becomes es)
+assigned_named s targets becomes es =
+    then_named (targets_after s [] targets) _ (targets_named s [] targets) (λ xs.
+    if_named (nat_eq (length targets) (length es)) _ _ (then_named (expressions_of s (seconds xs) es) _ (expressions_named s [] (seconds xs) es) (λ vs. tt)) tt)
+
+statement_named : (s : ScopeParts) (x : StatementSyntax) → IsNamed (statement_of s x)
+statement_named s (assign targets becomes es) = assigned_named s targets becomes es
+statement_named s (claim b) = then_named (condition_of s b) _ (condition_named s b) (λ x. tt)
+
+statements_named : (s : ScopeParts) (made : List StatementTree) (xs : List StatementSyntax) → IsNamed (statements_after s made xs)
+statements_named s made [] = tt
+statements_named s made (x ∷ xs) = then_named (statement_of s x) _ (statement_named s x) (λ y. statements_named s (made ++ y ∷ []) xs)
+
+-- ---- blocks
+
+module _ (s : ScopeParts) (results : Option (List Sort)) (find : List ℕ → Option ℕ) where
+  block_or_fault_named : (t : TokenParts) (k : Option ℕ) → IsNamed (block_or_fault t k)
+  block_or_fault_named t None = tt
+  block_or_fault_named t (Some k) = tt
+
+  returned_named : (wanted : Option (List Sort)) (word : TokenParts) (es : List ExprSyntax) → IsNamed (returned s wanted word es)
+  returned_named None word es = tt
+  returned_named (Some wanted) word es = if_named (nat_eq (length wanted) (length es)) _ _ (then_named (expressions_of s wanted es) _ (expressions_named s [] wanted es) (λ vs. tt)) tt
+
+  jump_named : (j : JumpSyntax) → IsNamed (jump_of s results find j)
+  jump_named (goto t) = then_named (block_or_fault t (find (bytes_of t))) _ (block_or_fault_named t (find (bytes_of t))) (λ k. tt)
+  jump_named (branch b t u) =
+      then_named (condition_of s b) _ (condition_named s b) (λ x.
+      then_named (block_or_fault t (find (bytes_of t))) _ (block_or_fault_named t (find (bytes_of t))) (λ k.
+      then_named (block_or_fault u (find (bytes_of u))) _ (block_or_fault_named u (find (bytes_of u))) (λ l. tt)))
+  jump_named (return word es) = returned_named results word es
+  jump_named abort = tt
+
+  may_have_named : (k : ℕ) (t : TokenParts) (j : Option ℕ) → IsNamed (may_have_block k t j)
+  may_have_named k t None = tt
+  may_have_named k t (Some j) = if_named (not (nat_eq j k)) _ _ tt (if_named (nat_lt k MAX_BLOCKS) _ _ tt tt)
+
+  block_named : (b : BlockSyntax) → IsNamed (block_of s results find b)
+  block_named (a_block is_cut name statements jump) =
+      then_named (statements_after s [] statements) _ (statements_named s [] statements) (λ xs. then_named (jump_of s results find jump) _ (jump_named jump) (λ j. tt))
+
+  blocks_named : (made : Graph) (bs : List BlockSyntax) → IsNamed (blocks_after s results find made bs)
+  blocks_named made [] = tt
+  blocks_named made (b ∷ bs) =
+      then_named (next_block s results find (length made) b) _
+      (then_named (may_have_block (length made) (block_name b) (find (bytes_of (block_name b)))) _ (may_have_named (length made) (block_name b) (find (bytes_of (block_name b)))) (λ u. block_named b))
+      (λ x. blocks_named (made ++ x ∷ []) bs)
+
+graph_named : (s : ScopeParts) (results : Option (List Sort)) (bs : List BlockSyntax) → IsNamed (graph_of s results bs)
+graph_named s results bs = blocks_named s results (found (block_names 0 bs)) [] bs
+
+-- ---- items
+
+graph_meant_named : (t : TokenParts) (m : Option Meaning) → IsNamed (graph_meant t m)
+graph_meant_named t None = tt
+graph_meant_named t (Some (GraphName k)) = tt
+graph_meant_named t (Some other) = tt
+
+once_named : {X : Type 0} (x : Option X) (e : TextFault) → IsNamedFault e → IsNamed (at_most_once x e)
+once_named None e h = tt
+once_named (Some x) e h = h
+
+nodes_with_named : (k : Known) (word t : TokenParts) (bs : List BlockSyntax) (n : Option ℕ) → IsNamed (with_nodes k word t bs n)
+nodes_with_named k word t bs None = tt
+nodes_with_named k word t bs (Some n) = tt
+
+few_rounds_named : (t : TokenParts) (n : Option ℕ) → IsNamed (few_rounds t n)
+few_rounds_named t None = tt
+few_rounds_named t (Some n) = if_named (nat_lt n (MAX_ROUNDS + 1)) _ _ tt tt
+
+item_named : (k : Known) (x : ItemSyntax) → IsNamed (item_known k x)
+item_named k (sorts word names) = then_named (sorts_declared k.scope names) _ (sorts_declared_named k.scope names) (λ s. tt)
+item_named k (function word result name parameters) =
+    then_named (sort_named k.scope result) _ (sort_named_named k.scope result) (λ r.
+    then_named (may_have_function k.scope name) _ (declare_named (meaning k.scope name) _ _ name) (λ u.
+    then_named (parameters_after k.scope [] parameters) _ (parameters_named k.scope [] parameters) (λ ps. tt)))
+item_named k (variables word sort names) =
+    then_named (sort_named k.scope sort) _ (sort_named_named k.scope sort) (λ x. then_named (variables_declared k.scope x names) _ (variables_declared_named k.scope x names) (λ s. tt))
+item_named k (graph word name blocks) =
+    then_named (may_have_graph k.scope name) _ (declare_named (meaning k.scope name) 0 1 name) (λ u.
+    then_named (graph_of k.scope None blocks) _ (graph_named k.scope None blocks) (λ g. nodes_with_named k word name blocks (nodes_with k.nodes blocks)))
+item_named k (rounds word number) =
+    then_named (at_most_once k.rounds _) _ (once_named k.rounds _ tt) (λ u. then_named (few_rounds number (spelled_number number)) _ (few_rounds_named number (spelled_number number)) (λ n. tt))
+item_named k (split word) = if_named k.splits _ _ tt tt
+item_named k (equal word before after) =
+    then_named (at_most_once k.goal _) _ (once_named k.goal _ tt) (λ u.
+    then_named (graph_meant before (meaning k.scope before)) _ (graph_meant_named before (meaning k.scope before)) (λ i.
+    then_named (graph_meant after (meaning k.scope after)) _ (graph_meant_named after (meaning k.scope after)) (λ j. tt)))
+
+items_named : (k : Known) (xs : List ItemSyntax) → IsNamed (items_known k xs)
+items_named k [] = tt
+items_named k (x ∷ xs) = then_named (item_known k x) _ (item_named k x) (λ l. items_named l xs)
+
+whole_named : (s : ScopeParts) (results : List Sort) (g : GraphSyntax) → IsNamed (whole_graph s results g)
+whole_named s results (a_graph before bs) = graph_named (scope_before s before) (Some results) bs
+
+graphs_named : (s : ScopeParts) (goal : ℕ × ℕ) (shared : List Sort) (made : List Graph) (gs : List GraphSyntax) → IsNamed (graphs_after s goal shared made gs)
+graphs_named s goal shared made [] = tt
+graphs_named s goal shared made (g ∷ gs) =
+    then_named (next_graph s goal shared (length made) g) _ (whole_named s (sorts_returned s goal shared (length made) g) g) (λ x. graphs_named s goal shared (made ++ x ∷ []) gs)
+
+goal_named : (k : Known) (goal : Option (ℕ × ℕ)) → IsNamed (with_goal k goal)
+goal_named k None = tt
+goal_named k (Some goal) = then_named (graphs_after k.scope goal (shared_sorts k.scope goal k.graphs) [] k.graphs) _ (graphs_named k.scope goal (shared_sorts k.scope goal k.graphs) [] k.graphs) (λ gs. tt)
+
+pub file_named : (is : List ItemSyntax) → IsNamed (file_of is)
+file_named is = then_named (items_known nothing_known is) _ (items_named nothing_known is) (λ k. goal_named k k.goal)

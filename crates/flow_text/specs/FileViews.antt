@@ -1,0 +1,14 @@
+-- A flow file as definitions see it.
+use Rattle.std.specs.Prelude.{List, map, Vec}
+use Rattle.std.specs.declared.alloc.Global.{Global}
+use Rattle.flow_model.specs.declared.graph.Block.{Block}
+use Rattle.flow_model.specs.Graphs.{Graph}
+use Rattle.flow_model.specs.Polish.{graph_of}
+use Rattle.flow_text.specs.declared.reading.FlowFile.{FlowFile}
+use Rattle.flow_text.specs.Checking.{FlowFileParts}
+
+abbrev pub graphs_of : List (Vec Block Global) → List Graph
+graphs_of gs = map (λ g. graph_of g.items) gs
+
+abbrev pub file_parts : FlowFile → FlowFileParts
+file_parts f = record { sorts = f.sorts.items; graphs = graphs_of f.graphs.items; before = f.before; after = f.after; rounds = f.rounds; splits = f.splits }

@@ -1,0 +1,186 @@
+//! Statements with their names resolved and their sorts checked.
+ghost use Rattle.std.specs.Prelude.{◌≡◌, [], map, IfOk};
+ghost use Rattle.text_tokens.specs.TokenParts.{parts_of_token};
+ghost use Rattle.text_grammar.specs.Parsed.{Makes};
+ghost use Rattle.flow_model.specs.Polish.{statement_of, values_of};
+ghost use Rattle.flow_text.specs.Checking.{is_set, target_of, next_target, targets_after, expressions_of, firsts, seconds, assigned, statements_after};
+ghost use Rattle.flow_text.specs.Checking as checking;
+ghost use Rattle.flow_text.specs.Syntax as spelled;
+ghost use Rattle.flow_text.specs.ScopeViews.{sight_parts};
+ghost use Rattle.flow_text.specs.SyntaxViews.{tokens_syntax, exprs_syntax, cond_syntax, statement_syntax, statements_syntax};
+
+use crate::meaning::Meaning;
+use crate::resolve_cond::resolve_cond;
+use crate::resolve_expr::resolve_expr;
+use crate::sight::{Sight, sort_at};
+use crate::written::{CondNode, Node, Statement};
+use flow_model::{ExprNode, Sort};
+use kat_model::NoMemory;
+use std::alloc::Global;
+use text_tokens::{TextFault, Token};
+
+fn is_set(targets: &[(usize, Sort)], k: usize) -> bool
+    ensures { result ≡ is_set targets.now k }
+{
+    targets.iter().any(|target| target.0 == k)
+}
+
+// Returns the variable with this number, which has a sort if it is declared.
+fn target_of(
+    before: &[(usize, Sort)],
+    name: &Token,
+    k: usize,
+    sort: Option<Sort>,
+) -> Result<(usize, Sort), TextFault>
+    ensures { result ≡ target_of before.now (parts_of_token name.now) k sort }
+{
+    match sort {
+        None => Err(TextFault::UnknownName(name.at)),
+        Some(sort) => {
+            if is_set(before, k) {
+                Err(TextFault::DoubleName(name.at))
+            } else {
+                Ok((k, sort))
+            }
+        }
+    }
+}
+
+fn next_target(
+    sight: &Sight,
+    before: &[(usize, Sort)],
+    name: &Token,
+) -> Result<(usize, Sort), TextFault>
+    ensures { result ≡ next_target (sight_parts sight.now) before.now (parts_of_token name.now) }
+{
+    match sight.meaning(name) {
+        None => Err(TextFault::UnknownName(name.at)),
+        Some(meaning) => match meaning {
+            Meaning::Variable(k) => target_of(before, name, k, sort_at(sight.variables, k)),
+            Meaning::SortName(_) => Err(TextFault::Sort(name.at)),
+            Meaning::Function(_) => Err(TextFault::Sort(name.at)),
+            Meaning::GraphName(_) => Err(TextFault::Sort(name.at)),
+        },
+    }
+}
+
+// Returns the variables that an assignment sets, with their sorts.
+#[tactic(auto, using(crate::proofs::Stacked::pushes, crate::proofs::Checked::targets, crate::proofs::LastTaken::last))]
+fn targets(alloc: Global, sight: &Sight, names: &[Token]) -> Result<Vec<(usize, Sort)>, TextFault>
+    ensures { Makes (Unit {0}) (λ v. v.items) result (targets_after (sight_parts sight.now) [] (tokens_syntax names.now)) }
+{
+    let mut targets = Vec::new(alloc);
+    let mut rest = names;
+    'names: while let Some((name, _)) = rest.split_last() {
+        let target = next_target(sight, &targets, name)?;
+        targets.push(target)?;
+        rest = &rest[..rest.len() - 1];
+    }
+    Ok(targets)
+}
+
+/// Returns expressions of the sorts, one for each.
+#[tactic(auto, using(crate::proofs::Stacked::pushes, crate::proofs::Checked::expressions, crate::proofs::LastTaken::last))]
+pub(crate) fn resolve_all(
+    alloc: Global,
+    sight: &Sight,
+    sorts: &[Sort],
+    exprs: &[Vec<Node>],
+) -> Result<Vec<Vec<ExprNode>>, TextFault>
+    ensures { Makes (Unit {0}) (λ v. values_of v.items) result (expressions_of (sight_parts sight.now) sorts.now (exprs_syntax exprs.now)) }
+{
+    let mut values = Vec::new(alloc);
+    let mut rest = exprs;
+    for sort in sorts {
+        let Some((expr, _)) = rest.split_last() else {
+            return Ok(values);
+        };
+        let value = resolve_expr(alloc, sight, *sort, expr)?;
+        values.push(value)?;
+        rest = &rest[..rest.len() - 1];
+    }
+    Ok(values)
+}
+
+fn variables_of(alloc: Global, targets: &[(usize, Sort)]) -> Result<Vec<usize>, NoMemory>
+    ensures { IfOk result (λ v. v.items ≡ firsts targets.now) }
+{
+    let mut variables = Vec::new(alloc);
+    for target in targets {
+        variables.push(target.0)?;
+    }
+    Ok(variables)
+}
+
+fn sorts_of(alloc: Global, targets: &[(usize, Sort)]) -> Result<Vec<Sort>, NoMemory>
+    ensures { IfOk result (λ v. v.items ≡ seconds targets.now) }
+{
+    let mut sorts = Vec::new(alloc);
+    for target in targets {
+        sorts.push(target.1)?;
+    }
+    Ok(sorts)
+}
+
+#[tactic(auto, using(crate::proofs::Checked::tokens_length, crate::proofs::NodeLists::exprs_length))]
+fn assign(
+    alloc: Global,
+    sight: &Sight,
+    names: &[Token],
+    becomes: &Token,
+    exprs: &[Vec<Node>],
+) -> Result<flow_model::Statement, TextFault>
+    ensures { Makes (Unit {0}) statement_of result (assigned (sight_parts sight.now) (tokens_syntax names.now) (parts_of_token becomes.now) (exprs_syntax exprs.now)) }
+{
+    let targets = targets(alloc, sight, names)?;
+    if names.len() != exprs.len() {
+        return Err(TextFault::Sort(becomes.at));
+    }
+    let sorts = sorts_of(alloc, &targets)?;
+    let values = resolve_all(alloc, sight, &sorts, exprs)?;
+    let variables = variables_of(alloc, &targets)?;
+    Ok(flow_model::Statement::Assign(variables, values))
+}
+
+fn claim(
+    alloc: Global,
+    sight: &Sight,
+    cond: &[CondNode],
+) -> Result<flow_model::Statement, TextFault>
+    ensures { Makes (Unit {0}) statement_of result (checking.statement_of (sight_parts sight.now) (spelled.claim (cond_syntax cond.now))) }
+{
+    let cond = resolve_cond(alloc, sight, cond)?;
+    Ok(flow_model::Statement::Claim(cond))
+}
+
+fn check_statement(
+    alloc: Global,
+    sight: &Sight,
+    statement: &Statement,
+) -> Result<flow_model::Statement, TextFault>
+    ensures { Makes (Unit {0}) statement_of result (checking.statement_of (sight_parts sight.now) (statement_syntax statement.now)) }
+{
+    match statement {
+        Statement::Assign(names, becomes, exprs) => assign(alloc, sight, names, becomes, exprs),
+        Statement::Claim(cond) => claim(alloc, sight, cond),
+    }
+}
+
+/// Returns the statements with their names resolved, or their first fault in text order.
+#[tactic(auto, using(crate::proofs::Stacked::pushes, crate::proofs::Checked::statements, crate::proofs::LastTaken::last))]
+pub(crate) fn check_statements(
+    alloc: Global,
+    sight: &Sight,
+    statements: &[Statement],
+) -> Result<Vec<flow_model::Statement>, TextFault>
+    ensures { Makes (Unit {0}) (λ v. map statement_of v.items) result (statements_after (sight_parts sight.now) [] (statements_syntax statements.now)) }
+{
+    let mut checked = Vec::new(alloc);
+    let mut rest = statements;
+    'statements: while let Some((statement, _)) = rest.split_last() {
+        let statement = check_statement(alloc, sight, statement)?;
+        checked.push(statement)?;
+        rest = &rest[..rest.len() - 1];
+    }
+    Ok(checked)
+}

@@ -1,0 +1,264 @@
+//! The items of a text, checked one by one.
+ghost use Rattle.std.specs.Prelude.{◌≡◌, []};
+ghost use Rattle.text_tokens.specs.TokenParts.{parts_of_token};
+ghost use Rattle.text_grammar.specs.Parsed.{Makes};
+ghost use Rattle.problem_file.specs.Working.Walks.{Does};
+ghost use Rattle.flow_text.specs.Scopes.{sort_meant, sort_named, next_parameter, parameters_after};
+ghost use Rattle.flow_text.specs.Checking.{nothing_known, few_rounds, graph_meant, sorts_known, function_known, variables_known, graph_known, rounds_known, split_known, goal_known, item_known, items_known};
+ghost use Rattle.flow_text.specs.ScopeViews.{scope_parts};
+ghost use Rattle.flow_text.specs.KnownViews.{known_parts};
+ghost use Rattle.flow_text.specs.SyntaxViews.{tokens_syntax, blocks_syntax, item_syntax, items_syntax};
+
+use crate::check_blocks::check_graph;
+use crate::limits::MAX_PARAMETERS;
+use crate::meaning::Meaning;
+use crate::node_counts::nodes_with;
+use crate::scope::Scope;
+use crate::sight::{sight_of_all, width_named};
+use crate::terminal::spelled_number;
+use crate::written::{Block, Item};
+use flow_model::Sort;
+use kat_model::MAX_ROUNDS;
+use std::alloc::Global;
+use text_tokens::{TextFault, Token};
+
+/// A graph with the numbers of sorts, functions, variables and graphs that are declared before it.
+#[derive(Drop)]
+pub(crate) struct WrittenGraph<'a> {
+    pub(crate) sorts: usize,
+    pub(crate) functions: usize,
+    pub(crate) variables: usize,
+    pub(crate) graphs: usize,
+    pub(crate) blocks: Vec<Block<'a>>,
+}
+
+/// What is known of the items so far.
+#[derive(Drop)]
+pub(crate) struct Known<'a> {
+    pub(crate) alloc: Global,
+    pub(crate) scope: Scope,
+    pub(crate) graphs: Vec<WrittenGraph<'a>>,
+    pub(crate) rounds: Option<u64>,
+    pub(crate) splits: bool,
+    pub(crate) goal: Option<(usize, usize)>,
+    pub(crate) nodes: u64,
+}
+
+fn sort_meant(token: &Token, meaning: Option<Meaning>) -> Result<Sort, TextFault>
+    ensures { result ≡ sort_meant (parts_of_token token.now) meaning }
+{
+    match meaning {
+        None => Err(TextFault::UnknownName(token.at)),
+        Some(meaning) => match meaning {
+            Meaning::SortName(k) => Ok(Sort::Opaque(k)),
+            Meaning::Function(_) => Err(TextFault::Sort(token.at)),
+            Meaning::Variable(_) => Err(TextFault::Sort(token.at)),
+            Meaning::GraphName(_) => Err(TextFault::Sort(token.at)),
+        },
+    }
+}
+
+fn sort_named(scope: &Scope, token: &Token) -> Result<Sort, TextFault>
+    ensures { result ≡ sort_named (scope_parts scope.now) (parts_of_token token.now) }
+{
+    match width_named(token.text) {
+        Some((_, width)) => Ok(Sort::Number(width)),
+        None => sort_meant(token, scope.meaning(token)),
+    }
+}
+
+// Returns the sort of a parameter after `count` others.
+fn next_parameter(scope: &Scope, token: &Token, count: usize) -> Result<Sort, TextFault>
+    ensures { result ≡ next_parameter (scope_parts scope.now) (parts_of_token token.now) count }
+{
+    let sort = sort_named(scope, token)?;
+    if count < MAX_PARAMETERS {
+        return Ok(sort);
+    }
+    Err(TextFault::TooMany(token.at))
+}
+
+#[tactic(auto, using(crate::proofs::Stacked::pushes, crate::proofs::KnownSteps::parameters, crate::proofs::LastTaken::last))]
+fn parameter_sorts(alloc: Global, scope: &Scope, tokens: &[Token]) -> Result<Vec<Sort>, TextFault>
+    ensures { Makes (Unit {0}) (λ v. v.items) result (parameters_after (scope_parts scope.now) [] (tokens_syntax tokens.now)) }
+{
+    let mut sorts = Vec::new(alloc);
+    let mut rest = tokens;
+    'tokens: while let Some((token, _)) = rest.split_last() {
+        let sort = next_parameter(scope, token, sorts.len())?;
+        sorts.push(sort)?;
+        rest = &rest[..rest.len() - 1];
+    }
+    Ok(sorts)
+}
+
+fn few_rounds(token: &Token, number: Option<u64>) -> Result<u64, TextFault>
+    ensures { result ≡ few_rounds (parts_of_token token.now) number }
+{
+    match number {
+        Some(n) => {
+            if n < MAX_ROUNDS + 1 {
+                return Ok(n);
+            }
+            Err(TextFault::TooMany(token.at))
+        }
+        None => Err(TextFault::TooMany(token.at)),
+    }
+}
+
+fn graph_meant(token: &Token, meaning: Option<Meaning>) -> Result<usize, TextFault>
+    ensures { result ≡ graph_meant (parts_of_token token.now) meaning }
+{
+    match meaning {
+        None => Err(TextFault::UnknownName(token.at)),
+        Some(meaning) => match meaning {
+            Meaning::GraphName(k) => Ok(k),
+            Meaning::SortName(_) => Err(TextFault::Sort(token.at)),
+            Meaning::Function(_) => Err(TextFault::Sort(token.at)),
+            Meaning::Variable(_) => Err(TextFault::Sort(token.at)),
+        },
+    }
+}
+
+impl<'a> Known<'a> {
+    pub(crate) fn new(alloc: Global) -> Known<'a>
+        ensures { known_parts result ≡ nothing_known }
+    {
+        Known {
+            alloc,
+            scope: Scope::new(alloc),
+            graphs: Vec::new(alloc),
+            rounds: None,
+            splits: false,
+            goal: None,
+            nodes: 0,
+        }
+    }
+
+    fn declare_sorts(&mut self, names: &[Token]) -> Result<(), TextFault>
+        ensures { Does (Unit {0}) result (known_parts self.new) (sorts_known (known_parts self.old) (tokens_syntax names.now)) }
+    {
+        self.scope.declare_sorts(names)?;
+        Ok(())
+    }
+
+    fn declare_function(
+        &mut self,
+        result_sort: &Token,
+        name: &Token,
+        parameters: &[Token],
+    ) -> Result<(), TextFault>
+        ensures { Does (Unit {0}) result (known_parts self.new) (function_known (known_parts self.old) (parts_of_token result_sort.now) (parts_of_token name.now) (tokens_syntax parameters.now)) }
+    {
+        let result_sort = sort_named(&self.scope, result_sort)?;
+        self.scope.may_have_function(name)?;
+        let parameters = parameter_sorts(self.alloc, &self.scope, parameters)?;
+        self.scope.declare_function(name, result_sort, parameters)?;
+        Ok(())
+    }
+
+    fn declare_variables(&mut self, sort: &Token, names: &[Token]) -> Result<(), TextFault>
+        ensures { Does (Unit {0}) result (known_parts self.new) (variables_known (known_parts self.old) (parts_of_token sort.now) (tokens_syntax names.now)) }
+    {
+        let sort = sort_named(&self.scope, sort)?;
+        self.scope.declare_variables(sort, names)?;
+        Ok(())
+    }
+
+    fn add_graph(
+        &mut self,
+        word: &Token,
+        name: &Token,
+        blocks: Vec<Block<'a>>,
+    ) -> Result<(), TextFault>
+        ensures { Does (Unit {0}) result (known_parts self.new) (graph_known (known_parts self.old) (parts_of_token word.now) (parts_of_token name.now) (blocks_syntax blocks.entry.items)) }
+    {
+        self.scope.may_have_graph(name)?;
+        let sight = sight_of_all(&self.scope);
+        let _ = check_graph(self.alloc, &sight, None, &blocks)?;
+        let Some(nodes) = nodes_with(self.nodes, &blocks) else {
+            return Err(TextFault::TooLarge(word.at));
+        };
+        let graph = WrittenGraph {
+            sorts: self.scope.sorts,
+            functions: self.scope.functions.len(),
+            variables: self.scope.variables.len(),
+            graphs: self.scope.graphs,
+            blocks,
+        };
+        self.scope.declare_graph(name, self.graphs.len())?;
+        self.graphs.push(graph)?;
+        self.scope.graphs = self.graphs.len();
+        self.nodes = nodes;
+        Ok(())
+    }
+
+    fn set_rounds(&mut self, word: &Token, number: &Token) -> Result<(), TextFault>
+        ensures { Does (Unit {0}) result (known_parts self.new) (rounds_known (known_parts self.old) (parts_of_token word.now) (parts_of_token number.now)) }
+    {
+        match self.rounds {
+            Some(_) => Err(TextFault::DoubleName(word.at)),
+            None => {
+                let rounds = few_rounds(number, spelled_number(number))?;
+                self.rounds = Some(rounds);
+                Ok(())
+            }
+        }
+    }
+
+    fn set_split(&mut self, word: &Token) -> Result<(), TextFault>
+        ensures { Does (Unit {0}) result (known_parts self.new) (split_known (known_parts self.old) (parts_of_token word.now)) }
+    {
+        if self.splits {
+            return Err(TextFault::DoubleName(word.at));
+        }
+        self.splits = true;
+        Ok(())
+    }
+
+    fn set_goal(&mut self, word: &Token, before: &Token, after: &Token) -> Result<(), TextFault>
+        ensures { Does (Unit {0}) result (known_parts self.new) (goal_known (known_parts self.old) (parts_of_token word.now) (parts_of_token before.now) (parts_of_token after.now)) }
+    {
+        match self.goal {
+            Some(_) => Err(TextFault::TwoGoals(word.at)),
+            None => {
+                let before = graph_meant(before, self.scope.meaning(before))?;
+                let after = graph_meant(after, self.scope.meaning(after))?;
+                self.goal = Some((before, after));
+                Ok(())
+            }
+        }
+    }
+
+    /// Checks one more item.
+    pub(crate) fn add(&mut self, item: Item<'a>) -> Result<(), TextFault>
+        ensures { Does (Unit {0}) result (known_parts self.new) (item_known (known_parts self.old) (item_syntax item.entry)) }
+    {
+        match item {
+            Item::Sorts(_, names) => self.declare_sorts(&names),
+            Item::Function(_, result_sort, name, parameters) => {
+                self.declare_function(&result_sort, &name, &parameters)
+            }
+            Item::Variables(_, sort, names) => self.declare_variables(&sort, &names),
+            Item::Graph(word, name, blocks) => self.add_graph(&word, &name, blocks),
+            Item::Rounds(word, number) => self.set_rounds(&word, &number),
+            Item::Split(word) => self.set_split(&word),
+            Item::Equal(word, before, after) => self.set_goal(&word, &before, &after),
+        }
+    }
+}
+
+/// Checks all items, which are from the last to the first.
+#[tactic(auto, using(crate::proofs::Stacked::pushes, crate::proofs::KnownSteps::known))]
+pub(crate) fn check_items<'a>(
+    alloc: Global,
+    mut items: Vec<Item<'a>>,
+) -> Result<Known<'a>, TextFault>
+    ensures { Makes (Unit {0}) known_parts result (items_known nothing_known (items_syntax items.entry.items)) }
+{
+    let mut known = Known::new(alloc);
+    'items: while let Some(item) = items.pop() {
+        known.add(item)?;
+    }
+    Ok(known)
+}

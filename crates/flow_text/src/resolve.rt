@@ -1,0 +1,292 @@
+//! Expressions with their names resolved and their sorts checked.
+ghost use Rattle.std.specs.Prelude.{◌≡◌, [], ◌∷◌, ◌++◌, map, Ok, Some, IfSome, IfNone, OnOk};
+ghost use Rattle.text_tokens.specs.TokenParts.{parts_of_token};
+ghost use Rattle.text_grammar.specs.Parsed.{Makes};
+ghost use Rattle.flow_text.specs.Resolving.{operand, number_in, number_of_width, with_sort_wanted, application_of, function_in, variable_in, conversion_in, operator_on, operator_in, with_parameters, with_operand, node_in, sort_wanted, next_node, resolved};
+ghost use Rattle.flow_text.specs.Scopes.{meaning, width_named};
+ghost use Rattle.flow_text.specs.ScopeViews.{function_of, sight_parts};
+ghost use Rattle.flow_text.specs.SyntaxViews.{node_syntax, expr_syntax};
+ghost use Rattle.flow_text.specs.Working.Wanting.{wanted_syntax, wanted_stack, Gives};
+
+use crate::meaning::Meaning;
+use crate::scope::Function;
+use crate::sight::{Sight, function_at, sort_at, sort_or_u64, width_named};
+use crate::terminal::spelled_number;
+use crate::written::Node;
+use flow_model::{ExprNode, Sort};
+use kat_model::{NoMemory, Width};
+use std::alloc::Global;
+use text_tokens::{TextFault, Token};
+
+/// What is wanted next: an operand of a sort, which is the second one of an operator, or not.
+#[derive(Clone, Copy)]
+pub(crate) enum Wanted<'a> {
+    Operand(Sort),
+    SecondOperand(Token<'a>, Sort),
+}
+
+#[tactic(auto, using(crate::proofs::WantedStacks::wants))]
+fn push_wanted<'a>(stack: &mut Vec<Wanted<'a>>, wanted: Wanted<'a>) -> Result<(), NoMemory>
+    ensures { OnOk result (wanted_stack stack.new.items ≡ wanted_syntax wanted.entry ∷ wanted_stack stack.old.items) }
+{
+    Ok(stack.push(wanted)?)
+}
+
+#[tactic(auto, using(crate::proofs::WantedStacks::wants))]
+fn pop_wanted<'a>(stack: &mut Vec<Wanted<'a>>) -> Option<Wanted<'a>>
+    ensures some { IfSome result (λ wanted. wanted_stack stack.old.items ≡ wanted_syntax wanted ∷ wanted_stack stack.new.items) }
+    ensures none { IfNone result (wanted_stack stack.old.items ≡ []) }
+{
+    stack.pop()
+}
+
+// Pushes operands of these sorts, of which the first is wanted next.
+fn push_operands(stack: &mut Vec<Wanted>, sorts: &[Sort]) -> Result<(), NoMemory>
+    ensures { OnOk result (wanted_stack stack.new.items ≡ map operand sorts.now ++ wanted_stack stack.old.items) }
+{
+    let mut left = sorts.len();
+    'sorts: while left > 0 {
+        left -= 1;
+        push_wanted(stack, Wanted::Operand(sorts[left]))?;
+    }
+    Ok(())
+}
+
+fn sort_wanted(wanted: Wanted) -> Result<Sort, TextFault>
+    ensures { result ≡ sort_wanted (wanted_syntax wanted.entry) }
+{
+    match wanted {
+        Wanted::Operand(sort) => Ok(sort),
+        Wanted::SecondOperand(operator, sort) => match sort {
+            Sort::Opaque(_) => Err(TextFault::Sort(operator.at)),
+            Sort::Number(width) => Ok(Sort::Number(width)),
+        },
+    }
+}
+
+fn number_of_width(width: Width, token: &Token, number: Option<u64>) -> Result<ExprNode, TextFault>
+    ensures { result ≡ number_of_width width (parts_of_token token.now) number }
+{
+    match number {
+        None => Err(TextFault::NumberTooWide(token.at)),
+        Some(n) => {
+            if n <= width.greatest() {
+                Ok(ExprNode::Number(width, n))
+            } else {
+                Err(TextFault::NumberTooWide(token.at))
+            }
+        }
+    }
+}
+
+fn number_in(wanted: Sort, token: &Token) -> Result<ExprNode, TextFault>
+    ensures { result ≡ number_in wanted (parts_of_token token.now) }
+{
+    match wanted {
+        Sort::Opaque(_) => Err(TextFault::Sort(token.at)),
+        Sort::Number(width) => number_of_width(width, token, spelled_number(token)),
+    }
+}
+
+// Returns a variable, which has a sort if it is declared.
+fn with_sort_wanted(
+    wanted: Sort,
+    token: &Token,
+    variable: usize,
+    sort: Option<Sort>,
+) -> Result<ExprNode, TextFault>
+    ensures { result ≡ with_sort_wanted wanted (parts_of_token token.now) (ExprNode.Variable variable) sort }
+{
+    match sort {
+        None => Err(TextFault::UnknownName(token.at)),
+        Some(sort) => {
+            if sort == wanted {
+                Ok(ExprNode::Variable(variable))
+            } else {
+                Err(TextFault::Sort(token.at))
+            }
+        }
+    }
+}
+
+fn variable_in(
+    sight: &Sight,
+    wanted: Sort,
+    token: &Token,
+    meaning: Option<Meaning>,
+) -> Result<ExprNode, TextFault>
+    ensures { result ≡ variable_in (sight_parts sight.now) wanted (parts_of_token token.now) meaning }
+{
+    match meaning {
+        None => Err(TextFault::UnknownName(token.at)),
+        Some(meaning) => match meaning {
+            Meaning::Variable(k) => with_sort_wanted(wanted, token, k, sort_at(sight.variables, k)),
+            Meaning::SortName(_) => Err(TextFault::Sort(token.at)),
+            Meaning::Function(_) => Err(TextFault::Sort(token.at)),
+            Meaning::GraphName(_) => Err(TextFault::Sort(token.at)),
+        },
+    }
+}
+
+// Returns the call of a function with `count` arguments, and pushes its parameters.
+fn apply_function(
+    wanted: Sort,
+    token: &Token,
+    count: usize,
+    k: usize,
+    function: &Function,
+    stack: &mut Vec<Wanted>,
+) -> Result<ExprNode, TextFault>
+    ensures { Gives result (wanted_stack stack.new.items) (with_parameters (wanted_stack stack.old.items) (application_of wanted (parts_of_token token.now) count k (Some (function_of function.now)))) }
+{
+    if function.result_sort == wanted && count == function.parameters.len() {
+        push_operands(stack, &function.parameters)?;
+        return Ok(ExprNode::Applied(k, function.result_sort, count));
+    }
+    Err(TextFault::Sort(token.at))
+}
+
+fn function_in(
+    sight: &Sight,
+    wanted: Sort,
+    token: &Token,
+    count: usize,
+    meaning: Option<Meaning>,
+    stack: &mut Vec<Wanted>,
+) -> Result<ExprNode, TextFault>
+    ensures { Gives result (wanted_stack stack.new.items) (with_parameters (wanted_stack stack.old.items) (function_in (sight_parts sight.now) wanted (parts_of_token token.now) count meaning)) }
+{
+    match meaning {
+        None => Err(TextFault::UnknownName(token.at)),
+        Some(meaning) => match meaning {
+            Meaning::Function(k) => match function_at(sight.functions, k) {
+                None => Err(TextFault::UnknownName(token.at)),
+                Some(function) => apply_function(wanted, token, count, k, function, stack),
+            },
+            Meaning::SortName(_) => Err(TextFault::Sort(token.at)),
+            Meaning::Variable(_) => Err(TextFault::Sort(token.at)),
+            Meaning::GraphName(_) => Err(TextFault::Sort(token.at)),
+        },
+    }
+}
+
+// Returns the conversion and the width of its operand.
+fn conversion_in(
+    wanted: Sort,
+    token: &Token,
+    word: Option<(bool, Width)>,
+    operand: Sort,
+) -> Result<(ExprNode, Width), TextFault>
+    ensures { result ≡ conversion_in wanted (parts_of_token token.now) word operand }
+{
+    match word {
+        None => Err(TextFault::Sort(token.at)),
+        Some((signed, to)) => match operand {
+            Sort::Opaque(_) => Err(TextFault::Sort(token.at)),
+            Sort::Number(from) => {
+                if Sort::Number(to) == wanted {
+                    Ok((ExprNode::Converted(signed, from, to), from))
+                } else {
+                    Err(TextFault::Sort(token.at))
+                }
+            }
+        },
+    }
+}
+
+fn operator_on(width: Width, text: &str) -> ExprNode
+    ensures { result ≡ operator_on width text.now }
+{
+    match text.as_bytes() {
+        b"+" => ExprNode::Plus(width),
+        b"-" => ExprNode::Minus(width),
+        _ => ExprNode::Times(width),
+    }
+}
+
+fn operator_in(wanted: Sort, text: &str) -> ExprNode
+    ensures { result ≡ operator_in wanted text.now }
+{
+    match wanted {
+        Sort::Number(width) => operator_on(width, text),
+        Sort::Opaque(_) => operator_on(Width::W64, text),
+    }
+}
+
+// Returns the conversion, and pushes its operand.
+fn convert<'a>(
+    wanted: Sort,
+    word: Token<'a>,
+    sort: Sort,
+    stack: &mut Vec<Wanted<'a>>,
+) -> Result<ExprNode, TextFault>
+    ensures { Gives result (wanted_stack stack.new.items) (with_operand (wanted_stack stack.old.items) (conversion_in wanted (parts_of_token word.entry) (width_named word.entry.text.now) sort)) }
+{
+    let (made, from) = conversion_in(wanted, &word, width_named(word.text), sort)?;
+    push_wanted(stack, Wanted::Operand(Sort::Number(from)))?;
+    Ok(made)
+}
+
+// Returns the node where a sort is wanted, and pushes what is wanted of its operands.
+fn node_in<'a>(
+    sight: &Sight,
+    wanted: Sort,
+    node: &Node<'a>,
+    stack: &mut Vec<Wanted<'a>>,
+) -> Result<ExprNode, TextFault>
+    ensures { Gives result (wanted_stack stack.new.items) (node_in (sight_parts sight.now) wanted (wanted_stack stack.old.items) (node_syntax node.now)) }
+{
+    match *node {
+        Node::Numeral(token) => number_in(wanted, &token),
+        Node::Named(name) => variable_in(sight, wanted, &name, sight.meaning(&name)),
+        Node::Called(name, count) => {
+            function_in(sight, wanted, &name, count, sight.meaning(&name), stack)
+        }
+        Node::Converted(word, first) => {
+            let sort = sort_or_u64(sight.sort_of_first(first));
+            convert(wanted, word, sort, stack)
+        }
+        Node::Operation(operator) => {
+            push_wanted(stack, Wanted::SecondOperand(operator, wanted))?;
+            push_wanted(stack, Wanted::Operand(wanted))?;
+            Ok(operator_in(wanted, operator.text))
+        }
+    }
+}
+
+fn next_node<'a>(
+    sight: &Sight,
+    wanted: Wanted<'a>,
+    node: &Node<'a>,
+    stack: &mut Vec<Wanted<'a>>,
+) -> Result<ExprNode, TextFault>
+    ensures { Gives result (wanted_stack stack.new.items) (next_node (sight_parts sight.now) (wanted_syntax wanted.entry) (wanted_stack stack.old.items) (node_syntax node.now)) }
+{
+    let sort = sort_wanted(wanted)?;
+    node_in(sight, sort, node, stack)
+}
+
+/// Returns the expression with its names resolved, where a sort is wanted, or its first fault in text order.
+#[tactic(auto, using(crate::proofs::Stacked::pushes, crate::proofs::WantedStacks::wants, crate::proofs::ResolvedSteps::steps, crate::proofs::LastTaken::last))]
+pub(crate) fn resolve<'a>(
+    alloc: Global,
+    sight: &Sight,
+    wanted: Sort,
+    expr: &[Node<'a>],
+) -> Result<Vec<ExprNode>, TextFault>
+    ensures { Makes (Unit {0}) (λ v. v.items) result (resolved (sight_parts sight.now) wanted (expr_syntax expr.now)) }
+{
+    let mut stack = Vec::new(alloc);
+    push_wanted(&mut stack, Wanted::Operand(wanted))?;
+    let mut nodes = Vec::new(alloc);
+    let mut rest = expr;
+    'nodes: while let Some((node, _)) = rest.split_last() {
+        let Some(next) = pop_wanted(&mut stack) else {
+            return Ok(nodes);
+        };
+        let made = next_node(sight, next, node, &mut stack)?;
+        nodes.push(made)?;
+        rest = &rest[..rest.len() - 1];
+    }
+    Ok(nodes)
+}

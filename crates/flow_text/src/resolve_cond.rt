@@ -1,0 +1,143 @@
+//! Conditions with their names resolved and their sorts checked.
+ghost use Rattle.std.specs.Prelude.{◌≡◌, [], map};
+ghost use Rattle.text_tokens.specs.TokenParts.{parts_of_token};
+ghost use Rattle.text_grammar.specs.Parsed.{Makes};
+ghost use Rattle.flow_model.specs.Polish.{cond_part, cond_of};
+ghost use Rattle.flow_text.specs.Resolving.{rel_named, sort_of_sides, signed_rel_named, relation_on, width_of_sort, comparison_of, signed_comparison_of, part_of, parts_after, condition_of};
+ghost use Rattle.flow_text.specs.ScopeViews.{sight_parts};
+ghost use Rattle.flow_text.specs.SyntaxViews.{cond_node_syntax, cond_syntax, expr_syntax};
+
+use crate::resolve_expr::resolve_expr;
+use crate::sight::Sight;
+use crate::written::{CondNode, Node};
+use flow_model::Sort;
+use kat_model::{Rel, Width};
+use std::alloc::Global;
+use text_tokens::{TextFault, Token};
+
+fn rel_named(text: &str) -> Rel
+    ensures { result ≡ rel_named text.now }
+{
+    match text.as_bytes() {
+        b"==" => Rel::Eq,
+        b"!=" => Rel::Ne,
+        b"<" => Rel::Lt,
+        b"<=" => Rel::Le,
+        b">" => Rel::Gt,
+        _ => Rel::Ge,
+    }
+}
+
+fn signed_rel_named(text: &str) -> Rel
+    ensures { result ≡ signed_rel_named text.now }
+{
+    match text.as_bytes() {
+        b"slt" => Rel::Lt,
+        b"sle" => Rel::Le,
+        b"sgt" => Rel::Gt,
+        _ => Rel::Ge,
+    }
+}
+
+fn relation_on(sort: Sort, token: &Token, rel: Rel) -> Result<Rel, TextFault>
+    ensures { result ≡ relation_on sort (parts_of_token token.now) rel }
+{
+    match sort {
+        Sort::Number(_) => Ok(rel),
+        Sort::Opaque(_) => match rel {
+            Rel::Eq => Ok(Rel::Eq),
+            Rel::Ne => Ok(Rel::Ne),
+            _ => Err(TextFault::Sort(token.at)),
+        },
+    }
+}
+
+fn width_of_sort(sort: Sort, token: &Token) -> Result<Width, TextFault>
+    ensures { result ≡ width_of_sort sort (parts_of_token token.now) }
+{
+    match sort {
+        Sort::Number(width) => Ok(width),
+        Sort::Opaque(_) => Err(TextFault::Sort(token.at)),
+    }
+}
+
+fn compare(
+    alloc: Global,
+    sight: &Sight,
+    relation: &Token,
+    left: &[Node],
+    right: &[Node],
+) -> Result<flow_model::CondNode, TextFault>
+    ensures { Makes (Unit {0}) cond_part result (comparison_of (sight_parts sight.now) (sort_of_sides (sight_parts sight.now) (expr_syntax left.now) (expr_syntax right.now)) (parts_of_token relation.now) (expr_syntax left.now) (expr_syntax right.now)) }
+{
+    let sort = sight.sort_of_sides(left, right);
+    let left = resolve_expr(alloc, sight, sort, left)?;
+    let rel = relation_on(sort, relation, rel_named(relation.text))?;
+    let right = resolve_expr(alloc, sight, sort, right)?;
+    Ok(flow_model::CondNode::Compared(rel, left, right))
+}
+
+fn compare_signed(
+    alloc: Global,
+    sight: &Sight,
+    word: &Token,
+    left: &[Node],
+    right: &[Node],
+) -> Result<flow_model::CondNode, TextFault>
+    ensures { Makes (Unit {0}) cond_part result (signed_comparison_of (sight_parts sight.now) (sort_of_sides (sight_parts sight.now) (expr_syntax left.now) (expr_syntax right.now)) (parts_of_token word.now) (expr_syntax left.now) (expr_syntax right.now)) }
+{
+    let width = width_of_sort(sight.sort_of_sides(left, right), word)?;
+    let left = resolve_expr(alloc, sight, Sort::Number(width), left)?;
+    let right = resolve_expr(alloc, sight, Sort::Number(width), right)?;
+    let rel = signed_rel_named(word.text);
+    Ok(flow_model::CondNode::ComparedSigned(rel, width, left, right))
+}
+
+fn resolve_node(
+    alloc: Global,
+    sight: &Sight,
+    node: &CondNode,
+) -> Result<flow_model::CondNode, TextFault>
+    ensures { Makes (Unit {0}) cond_part result (part_of (sight_parts sight.now) (cond_node_syntax node.now)) }
+{
+    match node {
+        CondNode::Always => Ok(flow_model::CondNode::Always),
+        CondNode::Never => Ok(flow_model::CondNode::Never),
+        CondNode::Compared(relation, left, right) => compare(alloc, sight, relation, left, right),
+        CondNode::ComparedSigned(word, left, right) => {
+            compare_signed(alloc, sight, word, left, right)
+        }
+        CondNode::Negation => Ok(flow_model::CondNode::Negation),
+        CondNode::Both => Ok(flow_model::CondNode::Both),
+        CondNode::Either => Ok(flow_model::CondNode::Either),
+    }
+}
+
+#[tactic(auto, using(crate::proofs::Stacked::pushes, crate::proofs::CondSteps::nodes, crate::proofs::LastTaken::last))]
+fn resolve_nodes(
+    alloc: Global,
+    sight: &Sight,
+    cond: &[CondNode],
+) -> Result<Vec<flow_model::CondNode>, TextFault>
+    ensures { Makes (Unit {0}) (λ v. map cond_part v.items) result (parts_after (sight_parts sight.now) [] (cond_syntax cond.now)) }
+{
+    let mut nodes = Vec::new(alloc);
+    let mut rest = cond;
+    'nodes: while let Some((node, _)) = rest.split_last() {
+        let node = resolve_node(alloc, sight, node)?;
+        nodes.push(node)?;
+        rest = &rest[..rest.len() - 1];
+    }
+    Ok(nodes)
+}
+
+/// Returns the condition with its names resolved, or its first fault in text order.
+pub(crate) fn resolve_cond(
+    alloc: Global,
+    sight: &Sight,
+    cond: &[CondNode],
+) -> Result<Vec<flow_model::CondNode>, TextFault>
+    ensures { Makes (Unit {0}) (λ v. cond_of v.items) result (condition_of (sight_parts sight.now) (cond_syntax cond.now)) }
+{
+    resolve_nodes(alloc, sight, cond)
+}

@@ -1,0 +1,25 @@
+//! Expressions of a sort.
+ghost use Rattle.text_grammar.specs.Parsed.{Makes};
+ghost use Rattle.flow_model.specs.Polish.{expr_of};
+ghost use Rattle.flow_text.specs.Resolving.{expression_of};
+ghost use Rattle.flow_text.specs.ScopeViews.{sight_parts};
+ghost use Rattle.flow_text.specs.SyntaxViews.{expr_syntax};
+
+use crate::resolve::resolve;
+use crate::sight::Sight;
+use crate::written::Node;
+use flow_model::{ExprNode, Sort};
+use std::alloc::Global;
+use text_tokens::TextFault;
+
+/// Returns the expression with its names resolved, where a sort is wanted, or its first fault in text order.
+pub(crate) fn resolve_expr(
+    alloc: Global,
+    sight: &Sight,
+    wanted: Sort,
+    expr: &[Node],
+) -> Result<Vec<ExprNode>, TextFault>
+    ensures { Makes (Unit {0}) (λ v. expr_of v.items) result (expression_of (sight_parts sight.now) wanted (expr_syntax expr.now)) }
+{
+    resolve(alloc, sight, wanted, expr)
+}

@@ -1,0 +1,206 @@
+//! The sorts of results.
+ghost use Rattle.std.specs.Prelude.{◌≡◌, None, Some, IfOk, OnOk};
+ghost use Rattle.std.specs.Option.{option_map};
+ghost use Rattle.flow_text.specs.Scopes.{counts, scope_before};
+ghost use Rattle.flow_text.specs.Checking.{first_sort, next_first, other_exprs, first_sorts, named_sorts, with_return, with_jump, with_results, with_all_results, with_graph_results, with_named, known_sorts, sorts_or_u64};
+ghost use Rattle.flow_text.specs.ScopeViews.{scope_parts, sight_parts};
+ghost use Rattle.flow_text.specs.KnownViews.{graph_syntax};
+ghost use Rattle.flow_text.specs.ResultViews.{result_sorts};
+ghost use Rattle.flow_text.specs.SyntaxViews.{first_syntax, exprs_syntax, jump_syntax, block_syntax, blocks_syntax};
+
+use crate::known::WrittenGraph;
+use crate::making_exprs::first_name;
+use crate::scope::Scope;
+use crate::sight::{Sight, sort_or_u64};
+use crate::written::{Block, FirstName, Jump, Node};
+use flow_model::Sort;
+use kat_model::NoMemory;
+use std::alloc::Global;
+
+/// The sorts of results, as far as they are known: `None` before the first `return`.
+#[derive(Drop)]
+pub(crate) struct Results {
+    alloc: Global,
+    pub(crate) sorts: Option<Vec<Option<Sort>>>,
+}
+
+/// Returns what a graph may name.
+#[tactic(auto, using(std::proofs::lemmas::List::take_min, crate::proofs::ScopeLists::functions_before))]
+pub(crate) fn sight_of<'s>(scope: &'s Scope, graph: &WrittenGraph) -> Sight<'s>
+    ensures { sight_parts result ≡ scope_before (scope_parts scope.now) (counts graph.now.sorts graph.now.functions graph.now.variables graph.now.graphs) }
+{
+    Sight {
+        scope,
+        sorts: graph.sorts,
+        functions: &scope.functions[..graph.functions.min(scope.functions.len())],
+        variables: &scope.variables[..graph.variables.min(scope.variables.len())],
+        graphs: graph.graphs,
+    }
+}
+
+#[tactic(auto, using(crate::proofs::Stacked::pushes, crate::proofs::LastTaken::last))]
+fn next_first<'a>(exprs: &[Vec<Node<'a>>]) -> FirstName<'a>
+    ensures { first_syntax result ≡ next_first (exprs_syntax exprs.now) }
+{
+    match exprs.split_last() {
+        None => FirstName::NoName,
+        Some((expr, _)) => first_name(expr),
+    }
+}
+
+#[tactic(auto, using(crate::proofs::ResultSteps::other_taken))]
+fn other_exprs<'x, 'a>(exprs: &'x [Vec<Node<'a>>]) -> &'x [Vec<Node<'a>>]
+    ensures { exprs_syntax result.now ≡ other_exprs (exprs_syntax exprs.now) }
+{
+    &exprs[..exprs.len().saturating_sub(1)]
+}
+
+fn first_sort(sort: Option<Sort>, other: Option<Sort>) -> Option<Sort>
+    ensures { result ≡ first_sort sort other }
+{
+    match sort {
+        Some(sort) => Some(sort),
+        None => other,
+    }
+}
+
+// Gives each place that has no sort yet the sort of the first name of the expression there.
+fn first_sorts(
+    alloc: Global,
+    sorts: &[Option<Sort>],
+    sight: &Sight,
+    exprs: &[Vec<Node>],
+) -> Result<Vec<Option<Sort>>, NoMemory>
+    ensures { IfOk result (λ v. v.items ≡ first_sorts (sight_parts sight.now) sorts.now (exprs_syntax exprs.now)) }
+{
+    let mut known = Vec::new(alloc);
+    let mut rest = exprs;
+    for sort in sorts {
+        let next = sight.sort_of_first(next_first(rest));
+        known.push(first_sort(*sort, next))?;
+        rest = other_exprs(rest);
+    }
+    Ok(known)
+}
+
+// Returns the sorts of the first names of the expressions.
+#[tactic(auto, using(crate::proofs::Stacked::pushes, crate::proofs::LastTaken::last))]
+fn named_sorts(
+    alloc: Global,
+    sight: &Sight,
+    exprs: &[Vec<Node>],
+) -> Result<Vec<Option<Sort>>, NoMemory>
+    ensures { IfOk result (λ v. v.items ≡ named_sorts (sight_parts sight.now) (exprs_syntax exprs.now)) }
+{
+    let mut known = Vec::new(alloc);
+    let mut rest = exprs;
+    'exprs: while let Some((expr, _)) = rest.split_last() {
+        known.push(sight.sort_of_first(first_name(expr)))?;
+        rest = &rest[..rest.len() - 1];
+    }
+    Ok(known)
+}
+
+// Returns the sorts with those of one more `return`.
+fn with_return(
+    alloc: Global,
+    sorts: &Option<Vec<Option<Sort>>>,
+    sight: &Sight,
+    exprs: &[Vec<Node>],
+) -> Result<Vec<Option<Sort>>, NoMemory>
+    ensures { IfOk result (λ v. Some v.items ≡ with_return (sight_parts sight.now) (option_map (λ w. w.items) sorts.now) (exprs_syntax exprs.now)) }
+{
+    match sorts {
+        None => named_sorts(alloc, sight, exprs),
+        Some(sorts) => first_sorts(alloc, sorts, sight, exprs),
+    }
+}
+
+fn all_or_u64(alloc: Global, sorts: &[Option<Sort>]) -> Result<Vec<Sort>, NoMemory>
+    ensures { IfOk result (λ v. v.items ≡ sorts_or_u64 sorts.now) }
+{
+    let mut known = Vec::new(alloc);
+    for sort in sorts {
+        known.push(sort_or_u64(*sort))?;
+    }
+    Ok(known)
+}
+
+impl Results {
+    pub(crate) fn new(alloc: Global) -> Results
+        ensures { result_sorts result ≡ None }
+    {
+        Results { alloc, sorts: None }
+    }
+
+    fn add_return(&mut self, sight: &Sight, exprs: &[Vec<Node>]) -> Result<(), NoMemory>
+        ensures { OnOk result (result_sorts self.new ≡ with_return (sight_parts sight.now) (result_sorts self.old) (exprs_syntax exprs.now)) }
+    {
+        let sorts = with_return(self.alloc, &self.sorts, sight, exprs)?;
+        self.sorts = Some(sorts);
+        Ok(())
+    }
+
+    fn add_jump(&mut self, sight: &Sight, jump: &Jump) -> Result<(), NoMemory>
+        ensures { OnOk result (result_sorts self.new ≡ with_jump (sight_parts sight.now) (result_sorts self.old) (jump_syntax jump.now)) }
+    {
+        match jump {
+            Jump::Goto(_) => Ok(()),
+            Jump::Branch(_, _, _) => Ok(()),
+            Jump::Return(_, exprs) => self.add_return(sight, exprs),
+            Jump::Abort => Ok(()),
+        }
+    }
+
+    fn add_block(&mut self, sight: &Sight, block: &Block) -> Result<(), NoMemory>
+        ensures { OnOk result (result_sorts self.new ≡ with_results (sight_parts sight.now) (result_sorts self.old) (block_syntax block.now)) }
+    {
+        self.add_jump(sight, &block.jump)
+    }
+
+    #[tactic(auto, using(crate::proofs::Stacked::pushes, crate::proofs::ResultSteps::results, crate::proofs::LastTaken::last))]
+    fn add_blocks(&mut self, sight: &Sight, blocks: &[Block]) -> Result<(), NoMemory>
+        ensures { OnOk result (result_sorts self.new ≡ with_all_results (sight_parts sight.now) (result_sorts self.old) (blocks_syntax blocks.now)) }
+    {
+        let mut rest = blocks;
+        'each: while let Some((block, _)) = rest.split_last() {
+            self.add_block(sight, block)?;
+            rest = &rest[..rest.len() - 1];
+        }
+        Ok(())
+    }
+
+    /// Adds the results of a graph.
+    pub(crate) fn add_graph(&mut self, scope: &Scope, graph: &WrittenGraph) -> Result<(), NoMemory>
+        ensures { OnOk result (result_sorts self.new ≡ with_graph_results (scope_parts scope.now) (result_sorts self.old) (graph_syntax graph.now)) }
+    {
+        let sight = sight_of(scope, graph);
+        self.add_blocks(&sight, &graph.blocks)
+    }
+
+    /// Adds the results of the graph with this number, if the goal names it.
+    pub(crate) fn add_named(
+        &mut self,
+        scope: &Scope,
+        goal: (usize, usize),
+        number: usize,
+        graph: &WrittenGraph,
+    ) -> Result<(), NoMemory>
+        ensures { OnOk result (result_sorts self.new ≡ with_named (scope_parts scope.now) goal (result_sorts self.old) number (graph_syntax graph.now)) }
+    {
+        if number == goal.0 || number == goal.1 {
+            return self.add_graph(scope, graph);
+        }
+        Ok(())
+    }
+
+    /// Returns the sorts, u64 where none is known.
+    pub(crate) fn known(&self) -> Result<Vec<Sort>, NoMemory>
+        ensures { IfOk result (λ v. v.items ≡ known_sorts (result_sorts self.now)) }
+    {
+        match &self.sorts {
+            None => Ok(Vec::new(self.alloc)),
+            Some(sorts) => all_or_u64(self.alloc, sorts),
+        }
+    }
+}

@@ -1,0 +1,156 @@
+//! The names that an expression may use, and their sorts.
+ghost use Rattle.std.specs.Prelude.{◌≡◌, slice_get};
+ghost use Rattle.std.specs.Option.{option_map};
+ghost use Rattle.text_tokens.specs.TokenParts.{parts_of_token};
+ghost use Rattle.flow_text.specs.Scopes.{is_declared, meaning_in, width_named};
+ghost use Rattle.flow_text.specs.Resolving.{sort_of_meaning, sort_of_word, sort_of_first, sort_or_u64, sort_of_sides};
+ghost use Rattle.flow_text.specs.ScopeViews.{function_of, functions_of, scope_parts, sight_parts};
+ghost use Rattle.flow_text.specs.SyntaxViews.{first_syntax, expr_syntax};
+
+use crate::making_exprs::{first_name, first_of};
+use crate::meaning::Meaning;
+use crate::scope::{Function, Scope};
+use crate::written::{FirstName, Node};
+use flow_model::Sort;
+use kat_model::Width;
+use text_tokens::Token;
+
+/// A scope with the first of its functions and variables and numbers of its sorts and graphs, which are declared before a
+/// graph.
+#[derive(Clone, Copy)]
+pub(crate) struct Sight<'s> {
+    pub(crate) scope: &'s Scope,
+    pub(crate) sorts: usize,
+    pub(crate) functions: &'s [Function],
+    pub(crate) variables: &'s [Sort],
+    pub(crate) graphs: usize,
+}
+
+/// Returns what a graph may name that is declared next.
+pub(crate) fn sight_of_all<'s>(scope: &'s Scope) -> Sight<'s>
+    ensures { sight_parts result ≡ scope_parts scope.now }
+{
+    Sight {
+        scope,
+        sorts: scope.sorts,
+        functions: &scope.functions,
+        variables: &scope.variables,
+        graphs: scope.graphs,
+    }
+}
+
+/// Returns the width that a word names, if it does, and whether it names a signed one.
+pub(crate) fn width_named(text: &str) -> Option<(bool, Width)>
+    ensures { result ≡ width_named text.now }
+{
+    match text.as_bytes() {
+        b"u8" => Some((false, Width::W8)),
+        b"u16" => Some((false, Width::W16)),
+        b"u32" => Some((false, Width::W32)),
+        b"u64" => Some((false, Width::W64)),
+        b"s8" => Some((true, Width::W8)),
+        b"s16" => Some((true, Width::W16)),
+        b"s32" => Some((true, Width::W32)),
+        b"s64" => Some((true, Width::W64)),
+        _ => None,
+    }
+}
+
+/// Returns the sort, or u64 if there is none.
+pub(crate) fn sort_or_u64(sort: Option<Sort>) -> Sort
+    ensures { result ≡ sort_or_u64 sort }
+{
+    match sort {
+        Some(sort) => sort,
+        None => Sort::Number(Width::W64),
+    }
+}
+
+fn sort_of_word(word: Option<(bool, Width)>) -> Option<Sort>
+    ensures { result ≡ sort_of_word word }
+{
+    match word {
+        Some((_, width)) => Some(Sort::Number(width)),
+        None => None,
+    }
+}
+
+/// Returns the sort with this number, if there is one.
+#[tactic(auto, using(std::proofs::lemmas::Option::slice_get_read, std::proofs::lemmas::Option::slice_get_past))]
+pub(crate) fn sort_at(sorts: &[Sort], k: usize) -> Option<Sort>
+    ensures { result ≡ slice_get sorts.now k }
+{
+    sorts.get(k).copied()
+}
+
+/// Returns the function with this number, if there is one.
+pub(crate) fn function_at(functions: &[Function], k: usize) -> Option<&Function>
+    ensures { option_map (λ f. function_of f.now) result ≡ slice_get (functions_of functions.now) k }
+{
+    functions.get(k)
+}
+
+impl<'s> Sight<'s> {
+    fn is_declared(&self, meaning: Meaning) -> bool
+        ensures { result ≡ is_declared (sight_parts self.now) meaning }
+    {
+        match meaning {
+            Meaning::SortName(k) => k < self.sorts,
+            Meaning::Function(k) => k < self.functions.len(),
+            Meaning::Variable(k) => k < self.variables.len(),
+            Meaning::GraphName(k) => k < self.graphs,
+        }
+    }
+
+    /// Returns what a token means as a name, if that is declared.
+    pub(crate) fn meaning(&self, name: &Token) -> Option<Meaning>
+        ensures { result ≡ meaning_in (sight_parts self.now) (parts_of_token name.now) }
+    {
+        match self.scope.meaning(name) {
+            None => None,
+            Some(meaning) => {
+                if self.is_declared(meaning) {
+                    Some(meaning)
+                } else {
+                    None
+                }
+            }
+        }
+    }
+
+    fn sort_of_meaning(&self, meaning: Option<Meaning>) -> Option<Sort>
+        ensures { result ≡ sort_of_meaning (sight_parts self.now) meaning }
+    {
+        match meaning {
+            None => None,
+            Some(meaning) => match meaning {
+                Meaning::Variable(k) => sort_at(self.variables, k),
+                Meaning::Function(k) => match function_at(self.functions, k) {
+                    Some(function) => Some(function.result_sort),
+                    None => None,
+                },
+                Meaning::SortName(_) => None,
+                Meaning::GraphName(_) => None,
+            },
+        }
+    }
+
+    /// Returns the sort of the first name of an expression.
+    pub(crate) fn sort_of_first(&self, first: FirstName) -> Option<Sort>
+        ensures { result ≡ sort_of_first (sight_parts self.now) (first_syntax first.entry) }
+    {
+        match first {
+            FirstName::NoName => None,
+            FirstName::Name(name) => self.sort_of_meaning(self.meaning(&name)),
+            FirstName::Word(word) => sort_of_word(width_named(word.text)),
+        }
+    }
+
+    /// Returns the sort of both sides of a comparison.
+    pub(crate) fn sort_of_sides(&self, left: &[Node], right: &[Node]) -> Sort
+        ensures { result ≡ sort_of_sides (sight_parts self.now) (expr_syntax left.now) (expr_syntax right.now) }
+    {
+        let first = first_of(first_name(left), first_name(right));
+        sort_or_u64(self.sort_of_first(first))
+    }
+}
