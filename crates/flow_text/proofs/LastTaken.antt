@@ -1,5 +1,5 @@
 -- A list without its last member.
-use Rattle.std.proofs.Common.{◌≡◌, ◌⊎◌, inl, inr, ⊎_elim, ℕ, ◌+◌, ◌-◌, List, [], ◌∷◌, ◌++◌, length, take, refl, sym, ap, ◌∙◌, arith, length-append, take_all}
+use Rattle.std.proofs.Common.{◌≡◌, ℕ, ◌+◌, ◌-◌, List, [], ◌∷◌, ◌++◌, length, take, refl, sym, ap, ◌∙◌, arith, length-append, take_all}
 use Rattle.std.proofs.lemmas.List.{nil_from_length, take-append-le}
 
 before_last_at : {X : Type 0} (before : List X) (x : X) (n : ℕ) → n ≡ length before → take n (before ++ x ∷ []) ≡ before
@@ -12,11 +12,6 @@ before_last xs before x e =
 
 pub nothing_left : {X : Type 0} (xs : List X) → length xs ≡ 0 → xs ≡ []
 nothing_left xs e = nil_from_length xs e
-
--- a list is empty, or has a last member
-pub last_or_none : {X : Type 0} (xs : List X) → (xs ≡ []) ⊎ ((before : List X) × (x : X) × (xs ≡ before ++ x ∷ []))
-last_or_none [] = inl refl
-last_or_none (x ∷ xs) = ⊎_elim (λ none. inr ([], x, ap (λ l. x ∷ l) none)) (λ w. inr (x ∷ w.0, w.1, ap (λ l. x ∷ l) w.2)) (last_or_none xs)
 
 pub ruleset last = (before_last, nothing_left)
 

@@ -2,17 +2,17 @@
 ghost use Rattle.std.specs.Prelude.{◌≡◌, None, Some, IfOk, OnOk};
 ghost use Rattle.std.specs.Option.{option_map};
 ghost use Rattle.flow_text.specs.Scopes.{counts, scope_before};
-ghost use Rattle.flow_text.specs.Checking.{first_sort, next_first, other_exprs, first_sorts, named_sorts, with_return, with_jump, with_results, with_all_results, with_graph_results, with_named, known_sorts, sorts_or_u64};
+ghost use Rattle.flow_text.specs.Checking.{first_sort, first_sorts, named_sorts, with_return, with_jump, with_results, with_all_results, with_graph_results, with_named, known_sorts, sorts_or_u64};
 ghost use Rattle.flow_text.specs.ScopeViews.{scope_parts, sight_parts};
 ghost use Rattle.flow_text.specs.KnownViews.{graph_syntax};
 ghost use Rattle.flow_text.specs.ResultViews.{result_sorts};
-ghost use Rattle.flow_text.specs.SyntaxViews.{first_syntax, exprs_syntax, jump_syntax, block_syntax, blocks_syntax};
+ghost use Rattle.flow_text.specs.SyntaxViews.{exprs_syntax, jump_syntax, block_syntax, blocks_syntax};
 
 use crate::known::WrittenGraph;
 use crate::making_exprs::first_name;
 use crate::scope::Scope;
 use crate::sight::{Sight, sort_or_u64};
-use crate::written::{Block, FirstName, Jump, Node};
+use crate::written::{Block, Jump, Node};
 use flow_model::Sort;
 use kat_model::NoMemory;
 use std::alloc::Global;
@@ -38,23 +38,6 @@ pub(crate) fn sight_of<'s>(scope: &'s Scope, graph: &WrittenGraph) -> Sight<'s>
     }
 }
 
-#[tactic(auto, using(crate::proofs::Stacked::pushes, crate::proofs::LastTaken::last))]
-fn next_first<'a>(exprs: &[Vec<Node<'a>>]) -> FirstName<'a>
-    ensures { first_syntax result ≡ next_first (exprs_syntax exprs.now) }
-{
-    match exprs.split_last() {
-        None => FirstName::NoName,
-        Some((expr, _)) => first_name(expr),
-    }
-}
-
-#[tactic(auto, using(crate::proofs::ResultSteps::other_taken))]
-fn other_exprs<'x, 'a>(exprs: &'x [Vec<Node<'a>>]) -> &'x [Vec<Node<'a>>]
-    ensures { exprs_syntax result.now ≡ other_exprs (exprs_syntax exprs.now) }
-{
-    &exprs[..exprs.len().saturating_sub(1)]
-}
-
 fn first_sort(sort: Option<Sort>, other: Option<Sort>) -> Option<Sort>
     ensures { result ≡ first_sort sort other }
 {
@@ -65,22 +48,17 @@ fn first_sort(sort: Option<Sort>, other: Option<Sort>) -> Option<Sort>
 }
 
 // Gives each place that has no sort yet the sort of the first name of the expression there.
-fn first_sorts(
-    alloc: Global,
-    sorts: &[Option<Sort>],
-    sight: &Sight,
-    exprs: &[Vec<Node>],
-) -> Result<Vec<Option<Sort>>, NoMemory>
-    ensures { IfOk result (λ v. v.items ≡ first_sorts (sight_parts sight.now) sorts.now (exprs_syntax exprs.now)) }
+fn first_sorts(sorts: &mut [Option<Sort>], sight: &Sight, exprs: &[Vec<Node>])
+    ensures { sorts.new ≡ first_sorts (sight_parts sight.now) sorts.old (exprs_syntax exprs.now) }
 {
-    let mut known = Vec::new(alloc);
     let mut rest = exprs;
-    for sort in sorts {
-        let next = sight.sort_of_first(next_first(rest));
-        known.push(first_sort(*sort, next))?;
-        rest = other_exprs(rest);
+    for sort in sorts.iter_mut() {
+        let Some((expr, _)) = rest.split_last() else {
+            return;
+        };
+        *sort = first_sort(*sort, sight.sort_of_first(first_name(expr)));
+        rest = &rest[..rest.len() - 1];
     }
-    Ok(known)
 }
 
 // Returns the sorts of the first names of the expressions.
@@ -104,15 +82,18 @@ fn named_sorts(
 // Returns the sorts with those of one more `return`.
 fn with_return(
     alloc: Global,
-    sorts: &Option<Vec<Option<Sort>>>,
+    sorts: Option<Vec<Option<Sort>>>,
     sight: &Sight,
     exprs: &[Vec<Node>],
 ) -> Result<Vec<Option<Sort>>, NoMemory>
-    ensures { IfOk result (λ v. Some v.items ≡ with_return (sight_parts sight.now) (option_map (λ w. w.items) sorts.now) (exprs_syntax exprs.now)) }
+    ensures { IfOk result (λ v. Some v.items ≡ with_return (sight_parts sight.now) (option_map (λ w. w.items) sorts) (exprs_syntax exprs.now)) }
 {
     match sorts {
         None => named_sorts(alloc, sight, exprs),
-        Some(sorts) => first_sorts(alloc, sorts, sight, exprs),
+        Some(mut sorts) => {
+            first_sorts(&mut sorts, sight, exprs);
+            Ok(sorts)
+        }
     }
 }
 
@@ -136,7 +117,7 @@ impl Results {
     fn add_return(&mut self, sight: &Sight, exprs: &[Vec<Node>]) -> Result<(), NoMemory>
         ensures { OnOk result (result_sorts self.new ≡ with_return (sight_parts sight.now) (result_sorts self.old) (exprs_syntax exprs.now)) }
     {
-        let sorts = with_return(self.alloc, &self.sorts, sight, exprs)?;
+        let sorts = with_return(self.alloc, self.sorts.take(), sight, exprs)?;
         self.sorts = Some(sorts);
         Ok(())
     }

@@ -1,4 +1,4 @@
-use Rattle.std.proofs.Common.{◌≡◌, ◌++◌, drop}
+use Rattle.std.proofs.Common.{◌≡◌, ◌++◌, drop, take}
 use Rattle.flow_text.specs.Checking.{first_sorts}
 use Rattle.flow_text.specs.ScopeViews.{sight_parts}
 use Rattle.flow_text.specs.SyntaxViews.{exprs_syntax}
@@ -6,4 +6,5 @@ use Rattle.flow_text.proofs.results.first_sorts.Given as goal
 
 -- the sorts so far, and those of the places that are left
 abbrev pub invariant-loop-sort : goal.invariant-loop-sort
-invariant-loop-sort l = l.known.items ++ first_sorts (sight_parts l.sight) (drop l.sort-index l.sorts) (exprs_syntax l.rest) ≡ first_sorts (sight_parts l.sight) l.sorts (exprs_syntax l.fn.exprs)
+invariant-loop-sort l =
+    take l.sort-index l.sorts ++ first_sorts (sight_parts l.sight) (drop l.sort-index l.sorts) (exprs_syntax l.rest) ≡ first_sorts (sight_parts l.sight) l.fn.sorts (exprs_syntax l.fn.exprs)
