@@ -10,6 +10,8 @@ mod files;
 #[cfg(test)]
 mod fixtures;
 #[cfg(test)]
+mod flow_files;
+#[cfg(test)]
 mod goals;
 #[cfg(test)]
 mod lists;

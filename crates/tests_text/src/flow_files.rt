@@ -1,0 +1,84 @@
+//! Flow files and their faults.
+use flow_text::{FlowFile, read};
+use std::alloc::Global;
+use std::test::Fail;
+use text_tokens::TextFault;
+
+const SEARCH: &str = "sort mem; fun u8 load(mem, u64); var u64 p, q, n; var mem m;
+graph before {
+  block entry { q := p; goto head; }
+  cut block head { if load(m, q) == 0 goto done else next; }
+  block next { q := q + 1; goto head; }
+  block done { return q - p; }
+}
+graph after {
+  block entry { n := 0; goto head; }
+  block head { if load(m, p + n) == 0 goto done else next; }
+  block next { n := n + 1; goto head; }
+  block done { return n; }
+}
+rounds 2; split; equal before, after;";
+
+// Returns the numbers of variables, graphs and rounds, and the numbers of both graphs of the goal.
+fn counts(file: &FlowFile) -> [usize; 5] {
+    [
+        file.sorts.len(),
+        file.graphs.len(),
+        file.rounds as usize,
+        file.before,
+        file.after,
+    ]
+}
+
+fn counts_of(alloc: Global, text: &str) -> Result<[usize; 5], TextFault> {
+    let file = read(alloc, text.as_bytes())?;
+    Ok(counts(&file))
+}
+
+#[test]
+fn flow_files_are_read(rt: HostRuntime) -> Result<(), Fail> {
+    assert!(rt; counts_of(rt.alloc(), SEARCH)? == [4, 2, 2, 0, 1]);
+    Ok(())
+}
+
+// Returns the fault of a graph of this block, over `x` and `y` of u8, `a` and `b` of an opaque sort, and a function.
+fn fault_of(alloc: Global, body: &str) -> Option<TextFault> {
+    let Ok(text) = format!(in alloc; "{START}{body} }} }} equal g, g;") else {
+        return Some(TextFault::NoMemory);
+    };
+    match read(alloc, text.as_bytes()) {
+        Ok(_) => None,
+        Err(fault) => Some(fault),
+    }
+}
+
+// Its 70 bytes precede the block.
+const START: &str = "sort s; var u8 x, y; var s a, b; fun u8 f(u8, s); graph g { block k { ";
+
+const BODIES: &[(&str, Option<TextFault>)] = &[
+    ("x, y := y, x; return x;", None),
+    ("x := f(y, a); return x;", None),
+    ("x := 255; return u32(x);", None),
+    ("x := 256; return;", Some(TextFault::NumberTooWide(75))),
+    ("a := x; return;", Some(TextFault::Sort(75))),
+    ("a := b + 1; return;", Some(TextFault::Sort(77))),
+    ("assert a < b; return;", Some(TextFault::Sort(79))),
+    ("assert slt(a, b); return;", Some(TextFault::Sort(77))),
+    ("x := f(y); return;", Some(TextFault::Sort(75))),
+    ("x, y := 1; return;", Some(TextFault::Sort(75))),
+    ("x, x := 1, 2; return;", Some(TextFault::DoubleName(73))),
+    ("z := 1; return;", Some(TextFault::UnknownName(70))),
+    ("goto l;", Some(TextFault::UnknownName(75))),
+    ("assert u32(x) == 300; return;", None),
+    (
+        "assert x == 300; return;",
+        Some(TextFault::NumberTooWide(82)),
+    ),
+];
+
+#[test]
+fn sorts_are_checked(rt: HostRuntime) {
+    for (body, want) in BODIES {
+        assert!(rt; fault_of(rt.alloc(), body) == *want, "in {body}");
+    }
+}
