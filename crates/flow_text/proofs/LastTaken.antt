@@ -1,5 +1,5 @@
 -- A list without its last member.
-use Rattle.std.proofs.Common.{◌≡◌, ℕ, ◌+◌, ◌-◌, List, [], ◌∷◌, ◌++◌, length, take, refl, sym, ap, ◌∙◌, arith, length-append, take_all}
+use Rattle.std.proofs.Common.{◌≡◌, ℕ, ◌+◌, ◌-◌, List, [], ◌∷◌, ◌++◌, length, take, sym, ap, ◌∙◌, arith, length-append, take_all}
 use Rattle.std.proofs.lemmas.List.{nil_from_length, take-append-le}
 
 before_last_at : {X : Type 0} (before : List X) (x : X) (n : ℕ) → n ≡ length before → take n (before ++ x ∷ []) ≡ before
