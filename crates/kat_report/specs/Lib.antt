@@ -10,3 +10,4 @@ pub mod Reports
 pub mod RunTexts
 pub mod Shows
 pub mod Working
+pub mod Paths
