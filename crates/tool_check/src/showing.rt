@@ -9,7 +9,7 @@ use std::alloc::Global;
 use tool_inputs::{EarlyEnd, Reply};
 
 /// Returns the evidence whose text is these bytes. Other bytes are refused with the line of their first fault.
-pub(crate) fn evidence_in(alloc: Global, bytes: &[u8]) -> Result<Evidence, EarlyEnd>
+pub fn evidence_in(alloc: Global, bytes: &[u8]) -> Result<Evidence, EarlyEnd>
     ensures { Yields (Spells bytes.now) (IsRefusal (IsNoEvidence bytes.now)) result }
 {
     match read(alloc, bytes) {

@@ -1,0 +1,5 @@
+pub mod Signed
+pub mod Differences
+pub mod Certificates
+pub mod Explain
+pub mod Working

@@ -1,0 +1,4 @@
+pub mod Findings
+pub mod FormParts
+pub mod ShownTexts
+pub mod ExplainReplies

@@ -1,0 +1,198 @@
+//! What a certificate says, in a few lines.
+ghost use Rattle.std.specs.Prelude.{◌≡◌, ◌++◌, [], None, codes, if◌then◌else◌, OnOk, IfOk};
+ghost use Rattle.std.specs.Fmt.{decimal};
+ghost use Rattle.std.specs.List.{zip};
+ghost use Rattle.kat_model.specs.Trees.{kat_tree};
+ghost use Rattle.text_print.specs.Printing.{name_of};
+ghost use Rattle.kat_report.specs.Shows.{is_new};
+ghost use Rattle.tool_explain.specs.Certificates.{style_text, pairs_line, count_line, known_test, known_action, pair_text, rule_line, rules_text, certificate_text};
+
+use crate::signed::{put_action_at, put_test_at};
+use crate::writing::{put, put_numbered};
+use abstraction::{Abstract, Rule};
+use certificate::{Cert, Style};
+use kat_model::{Kat, NoMemory};
+use problem_file::File;
+use problem_texts::put_hyp;
+use std::alloc::Global;
+use text_scopes::Scope;
+
+fn style_text(style: Style) -> &'static [u8]
+    ensures { result.now ≡ style_text style }
+{
+    match style {
+        Style::Plain => b", closed under all steps\n",
+        Style::UpTo => b", closed under steps up to congruence\n",
+        Style::Under => b" under tests, closed under steps up to congruence\n",
+    }
+}
+
+fn put_pairs_line(alloc: Global, out: &mut Vec<u8>, cert: &Cert) -> Result<(), NoMemory>
+    ensures { OnOk result (out.new.items ≡ out.old.items ++ pairs_line cert.now) }
+{
+    put_numbered(alloc, out, b"equal: pairs ", cert.pairs().len())?;
+    put(out, style_text(cert.style()))
+}
+
+// Writes the number of hypotheses, and how many of them are stated.
+fn put_counts(alloc: Global, out: &mut Vec<u8>, hyps: usize, stated: usize) -> Result<(), NoMemory>
+    ensures { OnOk result (out.new.items ≡ out.old.items ++ (codes "hypotheses " ++ decimal hyps ++ codes ", stated " ++ decimal stated ++ codes "\n")) }
+{
+    put_numbered(alloc, out, b"hypotheses ", hyps)?;
+    put_numbered(alloc, out, b", stated ", stated)?;
+    put(out, b"\n")
+}
+
+fn put_count_line(
+    alloc: Global,
+    out: &mut Vec<u8>,
+    file: &File,
+    shown: &Abstract,
+) -> Result<(), NoMemory>
+    ensures { OnOk result (out.new.items ≡ out.old.items ++ count_line file.now shown.now) }
+{
+    put_counts(alloc, out, shown.problem.hyps().len(), file.hyps.len())
+}
+
+fn put_known(
+    alloc: Global,
+    out: &mut Vec<u8>,
+    shown: &Abstract,
+    test: usize,
+    scope: &Scope,
+) -> Result<(), NoMemory>
+    ensures { OnOk result (out.new.items ≡ out.old.items ++ known_test (name_of scope.now) shown.now test) }
+{
+    put_test_at(alloc, out, shown.width, shown.tests.get(test), scope)
+}
+
+fn put_known_action(
+    alloc: Global,
+    out: &mut Vec<u8>,
+    shown: &Abstract,
+    action: usize,
+    scope: &Scope,
+) -> Result<(), NoMemory>
+    ensures { OnOk result (out.new.items ≡ out.old.items ++ known_action (name_of scope.now) shown.now action) }
+{
+    put_action_at(alloc, out, shown.width, shown.actions.get(action), scope)
+}
+
+fn put_pair(
+    alloc: Global,
+    out: &mut Vec<u8>,
+    shown: &Abstract,
+    first: usize,
+    second: usize,
+    scope: &Scope,
+) -> Result<(), NoMemory>
+    ensures { OnOk result (out.new.items ≡ out.old.items ++ pair_text (name_of scope.now) shown.now first second) }
+{
+    put(out, b"known together: ")?;
+    put_known(alloc, out, shown, first, scope)?;
+    put(out, b", ")?;
+    put_known(alloc, out, shown, second, scope)
+}
+
+// Writes what is known of an assignment and a comparison.
+fn put_assigned(
+    alloc: Global,
+    out: &mut Vec<u8>,
+    shown: &Abstract,
+    action: usize,
+    test: usize,
+    scope: &Scope,
+) -> Result<(), NoMemory>
+    ensures { OnOk result (out.new.items ≡ out.old.items ++ (codes "known after " ++ known_action (name_of scope.now) shown.now action ++ codes ": " ++ known_test (name_of scope.now) shown.now test)) }
+{
+    put(out, b"known after ")?;
+    put_known_action(alloc, out, shown, action, scope)?;
+    put(out, b": ")?;
+    put_known(alloc, out, shown, test, scope)
+}
+
+// Writes the line of a hypothesis.
+fn put_rule(
+    alloc: Global,
+    out: &mut Vec<u8>,
+    shown: &Abstract,
+    rule: Rule,
+    hyp: &Kat,
+    scope: &Scope,
+) -> Result<(), NoMemory>
+    ensures { OnOk result (out.new.items ≡ out.old.items ++ rule_line (name_of scope.now) shown.now rule (kat_tree hyp.now)) }
+{
+    match rule {
+        Rule::Stated(_) => return put_hyp(alloc, out, hyp, scope),
+        Rule::Assign(i, j) => put_assigned(alloc, out, shown, i, j, scope)?,
+        Rule::F1(i, j) | Rule::F2(i, j) | Rule::F3(i, j) | Rule::F4(i, j) | Rule::F5(i, j) => {
+            put_pair(alloc, out, shown, i, j, scope)?
+        }
+        Rule::F6(i, j, k) => {
+            put_pair(alloc, out, shown, i, j, scope)?;
+            put(out, b", ")?;
+            put_known(alloc, out, shown, k, scope)?
+        }
+    }
+    put(out, b"\n")
+}
+
+fn is_new(before: Option<Rule>, rule: Rule) -> bool
+    ensures { result ≡ is_new before rule }
+{
+    match before {
+        None => true,
+        Some(before) => before != rule,
+    }
+}
+
+// Writes the line of a hypothesis whose rule is new.
+fn put_new_rule(
+    alloc: Global,
+    out: &mut Vec<u8>,
+    shown: &Abstract,
+    new: bool,
+    rule: Rule,
+    hyp: &Kat,
+    scope: &Scope,
+) -> Result<(), NoMemory>
+    ensures { OnOk result (out.new.items ≡ out.old.items ++ (if new then rule_line (name_of scope.now) shown.now rule (kat_tree hyp.now) else [])) }
+{
+    if !new {
+        return Ok(());
+    }
+    put_rule(alloc, out, shown, rule, hyp, scope)
+}
+
+fn put_rules(
+    alloc: Global,
+    out: &mut Vec<u8>,
+    shown: &Abstract,
+    scope: &Scope,
+) -> Result<(), NoMemory>
+    ensures { OnOk result (out.new.items ≡ out.old.items ++ rules_text (name_of scope.now) shown.now None (zip shown.now.rules shown.now.problem.hyps)) }
+{
+    let mut before = None;
+    for (rule, hyp) in shown.rules.iter().zip(shown.problem.hyps()) {
+        put_new_rule(alloc, out, shown, is_new(before, *rule), *rule, hyp, scope)?;
+        before = Some(*rule);
+    }
+    Ok(())
+}
+
+/// Returns the number of pairs of a certificate, how they are connected, and the hypotheses of the problem, in the
+/// words of the file. Fails only when out of memory.
+pub(crate) fn certificate_text(
+    alloc: Global,
+    file: &File,
+    shown: &Abstract,
+    cert: &Cert,
+) -> Result<Vec<u8>, NoMemory>
+    ensures { IfOk result (λ text. text.items ≡ certificate_text file.now shown.now cert.now) }
+{
+    let mut out = Vec::new(alloc);
+    put_pairs_line(alloc, &mut out, cert)?;
+    put_count_line(alloc, &mut out, file, shown)?;
+    put_rules(alloc, &mut out, shown, &file.scope)?;
+    Ok(out)
+}
