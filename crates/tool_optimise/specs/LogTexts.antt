@@ -5,19 +5,10 @@ use Rattle.text_scopes.specs.ScopeParts.{ScopeParts}
 use Rattle.text_print.specs.Printing.{name_of}
 use Rattle.while_lang.specs.Programs.{ProgTree}
 use Rattle.problem_texts.specs.ProgramTexts.{prog_text}
+use Rattle.kat_report.specs.Paths.{path_text}
 use Rattle.optimiser_theory.specs.Logs.{LogLineParts}
 use Rattle.optimiser_steps.specs.declared.optimising.Ended.{Ended}
 use Rattle.optimiser_steps.specs.declared.optimising.Ended.TheVariants.{Done, TurnLimit}
-
--- each number after a dot
-abbrev pub dotted : List ℕ → List ℕ
-dotted [] = []
-dotted (k ∷ ks) = (codes "." ++ decimal k) ++ dotted ks
-
--- the numbers of a path with dots between them
-abbrev pub path_text : List ℕ → List ℕ
-path_text [] = []
-path_text (k ∷ ks) = decimal k ++ dotted ks
 
 -- `SN at PATH` for each step, a line each
 abbrev pub step_line : LogLineParts → List ℕ

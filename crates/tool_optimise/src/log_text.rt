@@ -1,51 +1,14 @@
 //! The output of `optimise`.
-ghost use Rattle.std.specs.Prelude.{◌≡◌, ◌++◌, OnOk, IfOk, codes};
-ghost use Rattle.std.specs.Fmt.{decimal};
-ghost use Rattle.tool_optimise.specs.LogTexts.{dotted, path_text, step_line, log_text, end_line, optimised_text};
+ghost use Rattle.std.specs.Prelude.{◌≡◌, ◌++◌, OnOk, IfOk};
+ghost use Rattle.tool_optimise.specs.LogTexts.{step_line, log_text, end_line, optimised_text};
 
 use kat_model::NoMemory;
+use kat_report::put_path;
 use optimiser_steps::{Ended, LogLine, Optimised};
 use std::alloc::Global;
 use std::fmt::Write;
 use text_scopes::Scope;
 use while_lang::print_prog;
-
-fn put_number(alloc: Global, out: &mut Vec<u8>, number: usize) -> Result<(), NoMemory>
-    ensures { OnOk result (out.new.items ≡ out.old.items ++ decimal number) }
-{
-    out.extend_from_slice(format!(in alloc; "{number}")?.as_bytes())?;
-    Ok(())
-}
-
-// Appends a dot and a number.
-fn put_part(alloc: Global, out: &mut Vec<u8>, number: usize) -> Result<(), NoMemory>
-    ensures { OnOk result (out.new.items ≡ out.old.items ++ (codes "." ++ decimal number)) }
-{
-    out.push(b'.')?;
-    put_number(alloc, out, number)
-}
-
-fn put_dotted(alloc: Global, out: &mut Vec<u8>, path: &[usize]) -> Result<(), NoMemory>
-    ensures { OnOk result (out.new.items ≡ out.old.items ++ dotted path.now) }
-{
-    for k in path {
-        put_part(alloc, out, *k)?;
-    }
-    Ok(())
-}
-
-fn put_path(alloc: Global, out: &mut Vec<u8>, path: &[usize]) -> Result<(), NoMemory>
-    ensures { OnOk result (out.new.items ≡ out.old.items ++ path_text path.now) }
-{
-    match path {
-        [] => Ok(()),
-        [first, rest @ ..] => {
-            put_number(alloc, out, *first)?;
-            put_dotted(alloc, out, rest)?;
-            Ok(())
-        }
-    }
-}
 
 fn put_step(alloc: Global, out: &mut Vec<u8>, line: &LogLine) -> Result<(), NoMemory>
     ensures { OnOk result (out.new.items ≡ out.old.items ++ step_line line.now) }
