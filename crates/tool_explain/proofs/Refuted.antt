@@ -1,5 +1,4 @@
 -- The finding of a string that refutes a problem.
-use Rattle.std.proofs.Common.{◌≡◌, Bool}
 use Rattle.kat_model.specs.Problems.{ProblemParts}
 use Rattle.kat_model.specs.Strings.{GuardedString}
 use Rattle.string_tables.specs.Tables.{Refutes}

@@ -1,5 +1,5 @@
 -- The name of the first program of a file that has a tree.
-use Rattle.std.proofs.Common.{◌≡◌, ◌+◌, ◌<◌, ◌≤◌, ◌⊎◌, ℕ, List, length, get_or, map, slice_get, Option, Some, None, refl, sym, ap, ◌∙◌, ⊎_elim, below_more, arith}
+use Rattle.std.proofs.Common.{◌≡◌, ◌+◌, ◌<◌, ◌≤◌, ℕ, List, length, get_or, map, slice_get, Option, Some, refl, sym, ap, ◌∙◌, ⊎_elim, below_more, arith}
 use Rattle.std.specs.Option.{option_map}
 use Rattle.std.proofs.lemmas.Bool.{cases_lt}
 use Rattle.std.proofs.lemmas.List.{length-map}

@@ -1,6 +1,6 @@
 -- A string that refutes a question, in the words of the file: its states and actions, which side relates its ends, and
 -- where each side that is a program is then.
-use Rattle.std.specs.Prelude.{◌≡◌, ◌≢◌, ◌<◌, ◌⊎◌, ℕ, suc, List, [], ◌∷◌, ◌++◌, codes, Bool, true, false, ◌&&◌, nat_eq, if◌then◌else◌, slice_get, length, map, Some}
+use Rattle.std.specs.Prelude.{◌≡◌, ◌<◌, ◌⊎◌, ℕ, suc, List, [], ◌∷◌, ◌++◌, codes, Bool, true, false, ◌&&◌, nat_eq, if◌then◌else◌, slice_get, length, map, Some}
 use Rattle.std.specs.Fmt.{decimal}
 use Rattle.kat_model.specs.Stores.{modulus}
 use Rattle.kat_model.specs.Steps.{Atom}

@@ -1,5 +1,5 @@
 -- The reply of `explain` satisfies the statement on the evidence.
-use Rattle.std.proofs.Common.{◌≡◌, ◌⊎◌, ◌<◌, ℕ, List, [], Some, Ok, inl, inr, sym, ap, ◌∙◌, arith}
+use Rattle.std.proofs.Common.{◌≡◌, ◌⊎◌, ◌<◌, ℕ, List, Some, Ok, inl, inr, sym, ap, ◌∙◌, arith}
 use Rattle.std.proofs.lemmas.Option.{same_Some}
 use Rattle.certificate.specs.Faults.{line_fault}
 use Rattle.certificate.specs.declared.evidence.EvidenceFault.{EvidenceFault}

@@ -3,7 +3,7 @@ use Rattle.std.proofs.Common.{◌≡◌, ℕ, List, Ok, inl, inr, refl}
 use Rattle.problem_file.specs.Files.{FileParts}
 use Rattle.problem_file.specs.Reads.{Reads}
 use Rattle.abstraction.specs.Abstracts.{AbstractParts, abstract_of}
-use Rattle.tool_inputs.specs.FileProblem.{Asks, HasProblem}
+use Rattle.tool_inputs.specs.FileProblem.{HasProblem}
 use Rattle.tool_inputs.specs.TextProblem.{HasNoProblem}
 use Rattle.tool_inputs.specs.Steps.{ReplySpec, IsRefusal, ReadsText, AbstractsFile, AsksFor}
 use Rattle.tool_explain.specs.declared.shown.ShownFile.{ShownFile}
