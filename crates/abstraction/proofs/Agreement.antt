@@ -10,9 +10,9 @@ use Rattle.kat_model.specs.Stores.{modulus, Store, holds}
 use Rattle.kat_model.specs.Relations.{RelatesIn, Same}
 use Rattle.kat_model.proofs.Places.{place_of_member}
 use Rattle.linear_forms.specs.declared.comparison.Atomic.{Atomic}
-use Rattle.problem_file.specs.Files.{FileParts, GoalTree, equal, triple, prog_side}
-use Rattle.problem_file.specs.Concrete.{AsksOfProgs, IsStoreOf, EndAlike, MeetsTriple, GoalAgrees}
-use Rattle.problem_file.specs.Ranges.{IsProgInRange, IsGoalInRange}
+use Rattle.file_parts.specs.Files.{FileParts, GoalTree, equal, triple, prog_side}
+use Rattle.file_parts.specs.Concrete.{AsksOfProgs, IsStoreOf, EndAlike, MeetsTriple, GoalAgrees}
+use Rattle.file_parts.specs.Ranges.{IsProgInRange, IsGoalInRange}
 use Rattle.while_lang.specs.Programs.{ProgTree}
 use Rattle.abstraction.specs.Abstracts.{AbstractParts, test_rows_of, action_rows_of, file_problem, abstract_parts, abstract_of, HasNumbersInRange}
 use Rattle.abstraction.specs.Comparisons.{Assignment, goal_comparisons, goal_assignments, cond_comparisons, prog_comparisons, prog_assignments}

@@ -9,7 +9,7 @@ use Rattle.linear_forms.specs.Forms.{FormTree, constant, var_term, form_of_var}
 use Rattle.linear_forms.specs.declared.comparison.Atomic.TheVariants.{Zero, Less}
 use Rattle.text_scopes.specs.ScopeParts.{empty_scope}
 use Rattle.while_lang.specs.Programs.{empty, assign_then}
-use Rattle.problem_file.specs.Files.{prog_side, GoalTree, triple, FileParts}
+use Rattle.file_parts.specs.Files.{prog_side, GoalTree, triple, FileParts}
 use Rattle.abstraction.specs.declared.rows.Rule.{Rule}
 use Rattle.abstraction.specs.declared.rows.Rule.TheVariants.{Assign, F1, F2, F3, F4, F5, F6}
 use Rattle.abstraction.specs.declared.rows.TestRow.TheVariants.{Compare}

@@ -5,7 +5,7 @@ use Rattle.kat_model.specs.Members.{Has, IsSubset}
 use Rattle.kat_model.specs.Stores.{modulus}
 use Rattle.kat_model.proofs.Lists.{has_left, has_right, has_any}
 use Rattle.linear_forms.specs.declared.comparison.Atomic.{Atomic}
-use Rattle.problem_file.specs.Files.{FileParts}
+use Rattle.file_parts.specs.Files.{FileParts}
 use Rattle.abstraction.specs.Comparisons.{Assignment, goal_comparisons, goal_assignments}
 use Rattle.abstraction.specs.Tables.{is_same_comparison, is_same_assignment, with_new, with_all_new, first_comparisons, file_assignments}
 use Rattle.abstraction.specs.Rounds.{is_appended, append_all, substitutions, round, rounds, file_comparisons}

@@ -14,7 +14,7 @@ use Rattle.abstraction.specs.Tests.{form_test}
 use Rattle.abstraction.specs.Facts.{Hypothesis, TestRowOf, fact_if, fact_one, fact_two, fact_three, fact_four, decided_by, fact_five, fact_six, excludes, implies}
 use Rattle.abstraction.specs.Derived.{ActionRowOf, stated_from, keeps_before, assignment_facts, test_rows, action_rows, of_pairs, derived, hypotheses}
 use Rattle.abstraction.proofs.TestRanges.{OptionInRange, all_tests, all_actions, form_test_in}
-use Rattle.problem_file.proofs.NumberedStates.{IsInRange-more}
+use Rattle.file_parts.proofs.RangesGrow.{IsInRange-more}
 
 -- the property holds for all members of a list
 abbrev pub AllOf : {X : Type 0} → (X → Type 0) → List X → Type 0

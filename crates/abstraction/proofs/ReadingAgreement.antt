@@ -10,9 +10,9 @@ use Rattle.kat_model.specs.Stores.{modulus, Store}
 use Rattle.kat_model.specs.Steps.{truth}
 use Rattle.kat_model.specs.Relations.{RelatesIn, Same}
 use Rattle.kat_model.proofs.Places.{place_of_member}
-use Rattle.problem_file.specs.Files.{FileParts, SideTree, term_side, prog_side, GoalTree, equal, below, triple}
-use Rattle.problem_file.specs.Concrete.{IsStoreOf}
-use Rattle.problem_file.specs.Ranges.{IsSideInRange, IsGoalInRange}
+use Rattle.file_parts.specs.Files.{FileParts, SideTree, term_side, prog_side, GoalTree, equal, below, triple}
+use Rattle.file_parts.specs.Concrete.{IsStoreOf}
+use Rattle.file_parts.specs.Ranges.{IsSideInRange, IsGoalInRange}
 use Rattle.abstraction.specs.declared.rows.ActionRow.{ActionRow}
 use Rattle.abstraction.specs.declared.rows.ActionRow.TheVariants as action
 use Rattle.abstraction.specs.declared.rows.TestRow.TheVariants as test

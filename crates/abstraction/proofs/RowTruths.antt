@@ -23,9 +23,9 @@ use Rattle.linear_forms.proofs.StoredValues.{value_below, form_value-normal_form
 use Rattle.linear_forms.proofs.Truths.{comparison_form_holds}
 use Rattle.while_lang.specs.Programs.{ProgTree, empty, skip_then, abort_then, assert_then, act_then, assign_then, branch_then, loop_then}
 use Rattle.while_lang.proofs.StoreValues.{set_is_store}
-use Rattle.problem_file.specs.Files.{FileParts}
-use Rattle.problem_file.specs.Concrete.{IsStoreOf}
-use Rattle.problem_file.specs.Ranges.{IsCondInRange, IsProgInRange}
+use Rattle.file_parts.specs.Files.{FileParts}
+use Rattle.file_parts.specs.Concrete.{IsStoreOf}
+use Rattle.file_parts.specs.Ranges.{IsCondInRange, IsProgInRange}
 use Rattle.abstraction.specs.Abstracts.{test_rows_of, action_rows_of}
 use Rattle.abstraction.specs.Comparisons.{Assignment, atomics, cond_comparisons, prog_comparisons, prog_assignments}
 use Rattle.abstraction.specs.StoreFrames.{row_holds, Sets}

@@ -12,8 +12,8 @@ use Rattle.linear_forms.specs.declared.comparison.CondForm.TheVariants.{True, Fa
 use Rattle.linear_forms.proofs.StoredValues.{modulus_above_one}
 use Rattle.linear_forms.proofs.Forming.{is_form_normal, is_cond_comparison, is_cond_substituted}
 use Rattle.while_lang.specs.Programs.{ProgTree, empty, skip_then, abort_then, assert_then, act_then, assign_then, branch_then, loop_then}
-use Rattle.problem_file.specs.Files.{SideTree, term_side, prog_side, GoalTree, equal, below, triple, FileParts}
-use Rattle.problem_file.specs.Ranges.{IsProgInRange, IsSideInRange, IsGoalInRange}
+use Rattle.file_parts.specs.Files.{SideTree, term_side, prog_side, GoalTree, equal, below, triple, FileParts}
+use Rattle.file_parts.specs.Ranges.{IsProgInRange, IsSideInRange, IsGoalInRange}
 use Rattle.abstraction.specs.Comparisons.{Assignment, atomics, cond_comparisons, prog_comparisons, side_comparisons, goal_comparisons, prog_assignments, side_assignments, goal_assignments}
 use Rattle.abstraction.specs.Tables.{is_same_comparison, is_same_assignment, first_comparisons, file_assignments}
 use Rattle.abstraction.specs.Rounds.{substitutions, round, rounds, file_comparisons}

@@ -14,7 +14,7 @@ use Rattle.linear_forms.specs.declared.comparison.CondForm.{CondForm}
 use Rattle.linear_forms.specs.declared.comparison.CondForm.TheVariants.{True, False, Pos, Neg}
 use Rattle.while_lang.specs.Programs.{ProgTree, empty, skip_then, abort_then, assert_then, act_then, assign_then, branch_then, loop_then}
 use Rattle.while_lang.specs.Encoding.{stmt_terms, encoded}
-use Rattle.problem_file.specs.Ranges.{IsCondInRange, IsProgInRange}
+use Rattle.file_parts.specs.Ranges.{IsCondInRange, IsProgInRange}
 use Rattle.abstraction.specs.Comparisons.{Assignment, prog_assignments}
 use Rattle.abstraction.specs.Tables.{Tables, is_same_comparison, is_same_assignment}
 use Rattle.abstraction.specs.Tests.{test_number, action_number, form_test, cond_test, assignment_action, prog_flow}

@@ -7,9 +7,9 @@ use Rattle.kat_model.specs.Problems.{IsInRange, IsProblem, problem_size}
 use Rattle.kat_model.specs.Stores.{modulus}
 use Rattle.kat_model.specs.declared.limits.TheConstants.{MAX_TESTS, MAX_ACTIONS, MAX_TERM_NODES}
 use Rattle.kat_model.proofs.Faults.{problem_has_no_fault}
-use Rattle.problem_file.specs.Files.{FileParts, SideTree, term_side, prog_side, GoalTree, equal, below, triple}
-use Rattle.problem_file.specs.Ranges.{IsSideInRange, IsGoalInRange}
-use Rattle.problem_file.proofs.NumberedStates.{IsInRange-more}
+use Rattle.file_parts.specs.Files.{FileParts, SideTree, term_side, prog_side, GoalTree, equal, below, triple}
+use Rattle.file_parts.specs.Ranges.{IsSideInRange, IsGoalInRange}
+use Rattle.file_parts.proofs.RangesGrow.{IsInRange-more}
 use Rattle.abstraction.specs.declared.fault.AbstractFault.{AbstractFault}
 use Rattle.abstraction.specs.declared.fault.AbstractFault.TheVariants.{NoMemory, TooManyTests, TooManyActions, ProblemTooLarge}
 use Rattle.abstraction.specs.Comparisons.{side_assignments, goal_assignments}

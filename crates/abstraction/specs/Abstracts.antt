@@ -4,8 +4,8 @@ use Rattle.std.specs.List.{range_with_len}
 use Rattle.kat_model.specs.declared.expression.Width.{Width}
 use Rattle.kat_model.specs.declared.limits.TheConstants.{MAX_TESTS, MAX_ACTIONS, MAX_TERM_NODES}
 use Rattle.kat_model.specs.Problems.{ProblemParts, AreInRange, problem_size}
-use Rattle.problem_file.specs.Files.{FileParts, GoalTree}
-use Rattle.problem_file.specs.Ranges.{IsGoalInRange}
+use Rattle.file_parts.specs.Files.{FileParts, GoalTree}
+use Rattle.file_parts.specs.Ranges.{IsGoalInRange}
 use Rattle.abstraction.specs.declared.rows.ActionRow.{ActionRow}
 use Rattle.abstraction.specs.declared.rows.ActionRow.TheVariants as action
 use Rattle.abstraction.specs.declared.rows.TestRow.{TestRow}

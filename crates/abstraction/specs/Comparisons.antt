@@ -9,7 +9,7 @@ use Rattle.linear_forms.specs.declared.comparison.Atomic.{Atomic}
 use Rattle.linear_forms.specs.declared.comparison.CondForm.{CondForm}
 use Rattle.linear_forms.specs.declared.comparison.CondForm.TheVariants.{True, False, Pos, Neg}
 use Rattle.while_lang.specs.Programs.{ProgTree, empty, skip_then, abort_then, assert_then, act_then, assign_then, branch_then, loop_then}
-use Rattle.problem_file.specs.Files.{SideTree, term_side, prog_side, GoalTree, equal, below, triple}
+use Rattle.file_parts.specs.Files.{SideTree, term_side, prog_side, GoalTree, equal, below, triple}
 
 -- an assignment of a form to a variable
 pub record Assignment : Type 0 where

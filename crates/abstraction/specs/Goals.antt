@@ -2,7 +2,7 @@
 use Rattle.kat_model.specs.Trees.{Term}
 use Rattle.goal_forms.specs.Sides.{SideTrees, below_sides, triple_sides}
 use Rattle.while_lang.specs.Encoding.{encoded}
-use Rattle.problem_file.specs.Files.{SideTree, term_side, prog_side, GoalTree, equal, below, triple}
+use Rattle.file_parts.specs.Files.{SideTree, term_side, prog_side, GoalTree, equal, below, triple}
 use Rattle.abstraction.specs.Tables.{Tables}
 use Rattle.abstraction.specs.Tests.{cond_test, prog_flow}
 

@@ -5,7 +5,7 @@ use Rattle.kat_model.specs.declared.limits.TheConstants.{MAX_TESTS}
 use Rattle.kat_model.specs.Stores.{modulus}
 use Rattle.linear_forms.specs.Comparisons.{atomic_nodes, substituted}
 use Rattle.linear_forms.specs.declared.comparison.Atomic.{Atomic}
-use Rattle.problem_file.specs.Files.{FileParts}
+use Rattle.file_parts.specs.Files.{FileParts}
 use Rattle.abstraction.specs.Comparisons.{Assignment, atomics}
 use Rattle.abstraction.specs.Tables.{is_same_comparison, Tables, first_comparisons, file_assignments}
 use Rattle.abstraction.specs.declared.rounds.TheConstants.{MAX_APPENDED_NODES}

@@ -8,7 +8,7 @@ use Rattle.linear_forms.specs.Forms.{FormTree}
 use Rattle.linear_forms.specs.Order.{form_cmp}
 use Rattle.linear_forms.specs.declared.comparison.Atomic.{Atomic}
 use Rattle.linear_forms.specs.declared.comparison.Atomic.TheVariants.{Zero, Less}
-use Rattle.problem_file.specs.Files.{FileParts}
+use Rattle.file_parts.specs.Files.{FileParts}
 use Rattle.abstraction.specs.Comparisons.{Assignment, goal_comparisons, goal_assignments}
 
 -- whether two forms are the same tree; the same for two comparisons and for two assignments

@@ -5,16 +5,16 @@ ghost use Rattle.kat_model.specs.Stores.{modulus};
 ghost use Rattle.linear_forms.specs.Arithmetic.{normal_form};
 ghost use Rattle.while_lang.specs.Programs.{with_stmt, empty};
 ghost use Rattle.while_lang.specs.ProgramViews.{stmt_tree};
-ghost use Rattle.problem_file.specs.Trees.{side_tree, goal_tree};
+ghost use Rattle.file_parts.specs.Trees.{side_tree, goal_tree};
 ghost use Rattle.abstraction.specs.Comparisons.{prog_assignments, side_assignments, goal_assignments};
 ghost use Rattle.abstraction.specs.Tables.{is_same_assignment};
 ghost use Rattle.abstraction.specs.Working.CappedRows.{with_all_new_within};
 
 use crate::tables::AssignedForm;
 use crate::unique_rows::add_row;
+use file_parts::{Goal, Side};
 use kat_model::{Expr, NoMemory, Width};
 use linear_forms::normal;
-use problem_file::{Goal, Side};
 use std::alloc::Global;
 use while_lang::{Prog, Stmt};
 

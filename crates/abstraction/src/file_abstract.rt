@@ -3,7 +3,7 @@ ghost use Rattle.std.specs.Prelude.{◌≡◌, ◌++◌, [], ◌∷◌, map, len
 ghost use Rattle.std.specs.List.{range_with_len};
 ghost use Rattle.kat_model.specs.Trees.{kat_tree};
 ghost use Rattle.goal_forms.specs.Sides.{side_trees};
-ghost use Rattle.problem_file.specs.Trees.{goal_tree};
+ghost use Rattle.file_parts.specs.Trees.{goal_tree};
 ghost use Rattle.abstraction.specs.Comparisons.{Assignment};
 ghost use Rattle.abstraction.specs.Facts.{Hypothesis};
 ghost use Rattle.abstraction.specs.Laws.{DerivedHold, AgreesWhereSame};
@@ -18,10 +18,10 @@ use crate::hypotheses::hypotheses;
 use crate::problem::Abstract;
 use crate::rows::{ActionRow, Rule, TestRow};
 use crate::tables::{AssignedForm, RowTables};
+use file_parts::{File, Goal};
 use goal_forms::Sides;
 use kat_model::{Kat, NoMemory, Problem};
 use linear_forms::Atomic;
-use problem_file::{File, Goal};
 use std::alloc::Global;
 
 fn declared_tests(alloc: Global, count: usize) -> Result<Vec<TestRow>, NoMemory>

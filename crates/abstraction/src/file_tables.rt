@@ -2,7 +2,7 @@
 ghost use Rattle.std.specs.Prelude.{◌≡◌, ◌+◌, ◌-◌, ◌≤◌, length, [], IfOk, IfErr, Err};
 ghost use Rattle.kat_model.specs.Stores.{modulus};
 ghost use Rattle.kat_model.specs.declared.limits.TheConstants.{MAX_TESTS, MAX_ACTIONS};
-ghost use Rattle.problem_file.specs.Trees.{goal_tree};
+ghost use Rattle.file_parts.specs.Trees.{goal_tree};
 ghost use Rattle.abstraction.specs.Tables.{first_comparisons, file_assignments};
 ghost use Rattle.abstraction.specs.Rounds.{tables_of};
 ghost use Rattle.abstraction.specs.Abstracts.{with_goal};
@@ -13,9 +13,9 @@ use crate::comparisons::first_comparisons;
 use crate::fault::AbstractFault;
 use crate::rounds::add_rounds;
 use crate::tables::{AssignedForm, RowTables};
+use file_parts::{File, Goal};
 use kat_model::{MAX_ACTIONS, MAX_TESTS};
 use linear_forms::Atomic;
-use problem_file::{File, Goal};
 use std::alloc::Global;
 
 // Returns the comparisons of the goal, unless there are too many.

@@ -2,15 +2,15 @@
 ghost use Rattle.std.specs.Prelude.{◌≡◌, IfOk};
 ghost use Rattle.kat_model.specs.Trees.{kat_tree};
 ghost use Rattle.goal_forms.specs.Sides.{side_trees};
-ghost use Rattle.problem_file.specs.Trees.{side_tree, goal_tree};
+ghost use Rattle.file_parts.specs.Trees.{side_tree, goal_tree};
 ghost use Rattle.abstraction.specs.Goals.{side_term, goal_sides};
 
 use crate::conditions::cond_test;
 use crate::flows::prog_flow;
 use crate::tables::RowTables;
+use file_parts::{Goal, Side};
 use goal_forms::{Sides, below, triple};
 use kat_model::{Kat, NoMemory};
-use problem_file::{Goal, Side};
 use std::alloc::Global;
 use while_lang::encode;
 

@@ -1,10 +1,11 @@
 //! The problem of a file.
+ghost use Rattle.std.specs.Prelude.{◌≡◌};
+
 use crate::rows::{ActionRow, Rule, TestRow};
 use kat_model::{Problem, Width};
 use std::marker::Model;
 
 /// The problem of a file, with the meanings of its tests, actions and hypotheses, by their numbers.
-#[derive(Drop)]
 pub struct Abstract {
     pub problem: Problem,
     /// The meaning of each action: the declared ones, then the assignments of the goal.
@@ -15,6 +16,20 @@ pub struct Abstract {
     pub rules: Vec<Rule>,
     /// The width of the numbers in the file.
     pub width: Width,
+}
+
+// Explicit, so that this crate proves it once: a derived drop is a part of the proof of each function that owns an
+// abstraction, at each of its ends.
+impl Drop for Abstract {
+    fn drop(self) {
+        let Abstract {
+            problem: _problem,
+            actions: _actions,
+            tests: _tests,
+            rules: _rules,
+            width: _,
+        } = self;
+    }
 }
 
 impl Model for Abstract {
@@ -34,4 +49,20 @@ impl Model for Abstract {
       rules = a.rules.items;
       width = a.width;
     } };
+}
+
+impl Abstract {
+    /// Returns the problem, and drops the rest.
+    pub fn into_problem(self) -> Problem
+        ensures { result ≡ self.problem }
+    {
+        let Abstract {
+            problem,
+            actions: _actions,
+            tests: _tests,
+            rules: _rules,
+            width: _,
+        } = self;
+        problem
+    }
 }

@@ -16,9 +16,9 @@ use Rattle.string_tables.proofs.Parts.{ends_by_acceptance}
 use Rattle.linear_forms.specs.declared.comparison.Atomic.{Atomic}
 use Rattle.while_lang.specs.Programs.{ProgTree}
 use Rattle.while_lang.specs.Encoding.{encoded}
-use Rattle.problem_file.specs.Files.{FileParts, GoalTree, triple, prog_side}
-use Rattle.problem_file.specs.Concrete.{IsStoreOf, MeetsTriple, GoalAgrees, Agrees}
-use Rattle.problem_file.specs.Ranges.{IsGoalInRange}
+use Rattle.file_parts.specs.Files.{FileParts, GoalTree, triple, prog_side}
+use Rattle.file_parts.specs.Concrete.{IsStoreOf, MeetsTriple, GoalAgrees, Agrees}
+use Rattle.file_parts.specs.Ranges.{IsGoalInRange}
 use Rattle.abstraction.specs.Abstracts.{AbstractParts, abstract_parts, abstract_of, HasNumbersInRange}
 use Rattle.abstraction.specs.Comparisons.{Assignment, goal_comparisons, goal_assignments, cond_comparisons, prog_comparisons}
 use Rattle.abstraction.specs.Goals.{goal_sides}

@@ -7,7 +7,7 @@ use crate::hyps::put_hyps;
 use crate::rows::{put_action_comments, put_test_comments};
 use abstraction::Abstract;
 use kat_model::NoMemory;
-use problem_file::File;
+use file_parts::File;
 use problem_texts::{plain_scope, put_actions, put_goal, put_tests};
 use std::alloc::Global;
 use text_scopes::Scope;

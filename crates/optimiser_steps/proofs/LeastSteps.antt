@@ -2,7 +2,7 @@
 use Rattle.std.proofs.Common.{◌≡◌, ◌<◌, ◌≤◌, ◌+◌, ℕ, ⊎_elim, List, [], ◌∷◌, length, map, Option, Some, None, refl, sym, ap, ◌∙◌, subst, arith}
 use Rattle.std.proofs.lemmas.Bool.{cases_eq, cases_lt}
 use Rattle.kat_model.specs.Expressions.{ExprTree, CondTree, always, negation}
-use Rattle.problem_file.specs.Files.{FileParts}
+use Rattle.file_parts.specs.Files.{FileParts}
 use Rattle.while_lang.specs.Programs.{ProgTree, empty, branch_then, loop_then, StmtTree, skip, abort, assert, act, assign, branch, loop, prog_of, stmts_of}
 use Rattle.while_lang.specs.ProgramViews.{stmt_tree}
 use Rattle.while_lang.specs.declared.prog.Stmt.{Stmt}

@@ -4,7 +4,7 @@ use Rattle.std.proofs.lemmas.Bool.{both_ways}
 use Rattle.std.specs.Bool.{IsTrue}
 use Rattle.kat_model.specs.Expressions.{CondTree}
 use Rattle.kat_model.specs.Relations.{Same}
-use Rattle.problem_file.specs.Files.{FileParts, triple, prog_side}
+use Rattle.file_parts.specs.Files.{FileParts, triple, prog_side}
 use Rattle.while_lang.specs.Programs.{ProgTree}
 use Rattle.abstraction.specs.declared.fault.AbstractFault.{AbstractFault}
 use Rattle.abstraction.specs.Abstracts.{AbstractParts, abstract_of, with_goal}

@@ -9,8 +9,8 @@ use crate::loop_steps::step_nested;
 use crate::rewriting::Made;
 use crate::sequence_steps::step_after;
 use crate::statement_steps::step_alone;
+use file_parts::File;
 use kat_model::NoMemory;
-use problem_file::File;
 use std::alloc::Global;
 use while_lang::Stmt;
 

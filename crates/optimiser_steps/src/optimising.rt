@@ -5,8 +5,8 @@ ghost use Rattle.optimiser_theory.specs.Meanings.{HasProgInRange, KeepsInTables,
 
 use crate::paths::Found;
 use crate::search::first_step_in;
+use file_parts::File;
 use kat_model::NoMemory;
-use problem_file::File;
 use std::alloc::Global;
 use std::marker::Model;
 use while_lang::Prog;

@@ -8,8 +8,8 @@ ghost use Rattle.optimiser_steps.specs.Working.Found.{FindsFirst, FindsFirstBefo
 
 use crate::first_at::step_here;
 use crate::paths::{Found, found_here, found_in_body, found_in_first, found_in_second};
+use file_parts::File;
 use kat_model::NoMemory;
-use problem_file::File;
 use std::alloc::Global;
 use while_lang::Stmt;
 

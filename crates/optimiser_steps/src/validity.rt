@@ -2,8 +2,8 @@
 ghost use Rattle.std.specs.Prelude.{◌≡◌, ◌↔◌, IsTrue, IfOk};
 ghost use Rattle.kat_model.specs.Problems.{AreInRange};
 ghost use Rattle.kat_model.specs.Expressions.{always, negation, cond_tree};
-ghost use Rattle.problem_file.specs.Trees.{goal_tree};
-ghost use Rattle.problem_file.specs.Ranges.{IsCondInRange, IsProgInRange};
+ghost use Rattle.file_parts.specs.Trees.{goal_tree};
+ghost use Rattle.file_parts.specs.Ranges.{IsCondInRange, IsProgInRange};
 ghost use Rattle.abstraction.specs.Abstracts.{with_goal, HasNumbersInRange};
 ghost use Rattle.optimiser_theory.specs.Validity.{IsValid, HoldsAlways, HoldsNever};
 ghost use Rattle.optimiser_theory.specs.Statements.{single, IsStmtInRange};
@@ -13,8 +13,8 @@ ghost use Rattle.optimiser_steps.specs.Working.Goals.{GoalIsSame};
 use crate::copies::single;
 use abstraction::{AbstractFault, abstracted_for};
 use bisim_worklist::is_same;
+use file_parts::{File, Goal, Side};
 use kat_model::{Cond, NoMemory};
-use problem_file::{File, Goal, Side};
 use std::alloc::Global;
 use while_lang::{Prog, Stmt, copy_stmt};
 

@@ -10,8 +10,8 @@ use Rattle.linear_forms.specs.Forms.{constant}
 use Rattle.linear_forms.specs.Arithmetic.{normal_form}
 use Rattle.linear_forms.specs.Comparisons.{constantly, opposite, compared_form}
 use Rattle.while_lang.specs.Programs.{ProgTree, empty, skip_then, abort_then, assert_then, act_then, assign_then, branch_then, loop_then}
-use Rattle.problem_file.specs.Files.{FileParts, triple, prog_side}
-use Rattle.problem_file.specs.Ranges.{IsExprInRange, IsCondInRange, IsProgInRange}
+use Rattle.file_parts.specs.Files.{FileParts, triple, prog_side}
+use Rattle.file_parts.specs.Ranges.{IsExprInRange, IsCondInRange, IsProgInRange}
 use Rattle.abstraction.specs.Comparisons.{atomics, cond_comparisons, prog_comparisons, prog_assignments}
 use Rattle.abstraction.specs.Tables.{Tables, first_comparisons, file_assignments}
 use Rattle.abstraction.specs.Rounds.{rounds, tables_of}

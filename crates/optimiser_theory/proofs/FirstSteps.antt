@@ -2,7 +2,7 @@
 use Rattle.std.proofs.Common.{◌≡◌, ◌<◌, ◌≤◌, ◌+◌, ℕ, zero, suc, ◌⊎◌, inl, inr, ⊎_elim, List, [], ◌∷◌, ◌++◌, length, take, drop, Some, None, refl, sym, ap, ◌∙◌, subst, arith}
 use Rattle.std.proofs.lemmas.Bool.{cases_lt, cases_eq}
 use Rattle.std.proofs.lemmas.Option.{same_Some}
-use Rattle.problem_file.specs.Files.{FileParts}
+use Rattle.file_parts.specs.Files.{FileParts}
 use Rattle.while_lang.specs.Programs.{ProgTree, StmtTree, prog_of, stmts_of}
 use Rattle.while_lang.proofs.ProgramLists.{stmts_of-prog_of}
 use Rattle.optimiser_theory.specs.Statements.{block, with_block}

@@ -1,6 +1,6 @@
 -- What the steps of a log preserve.
 use Rattle.std.proofs.Common.{List, [], ◌∷◌, subst}
-use Rattle.problem_file.specs.Files.{FileParts}
+use Rattle.file_parts.specs.Files.{FileParts}
 use Rattle.while_lang.specs.Programs.{ProgTree, stmts_of}
 use Rattle.optimiser_theory.specs.Logs.{LogLineParts, FirstStep, IsLog}
 use Rattle.optimiser_theory.specs.Meanings.{HasProgInRange}

@@ -5,9 +5,9 @@ use Rattle.std.specs.Option.{option_map}
 use Rattle.text_scopes.specs.ScopeParts.{meaning}
 use Rattle.while_lang.specs.Programs.{ProgTree}
 use Rattle.while_lang.specs.NamedProgs.{ProgParts}
-use Rattle.problem_file.specs.Files.{FileParts, prog_named}
-use Rattle.problem_file.specs.Ranges.{IsProgInRange, IsNumbered}
-use Rattle.problem_file.proofs.NumberedStates.{meant_in}
+use Rattle.file_parts.specs.Files.{FileParts, prog_named}
+use Rattle.file_parts.specs.Ranges.{IsProgInRange, IsNumbered}
+use Rattle.file_parts.proofs.RangesGrow.{meant_in}
 use Rattle.optimiser_theory.specs.Meanings.{HasProgInRange}
 
 -- if the program is found, p is its tree and has the property

@@ -1,8 +1,8 @@
 -- Steps keep the numbers of statements in range.
 use Rattle.std.proofs.Common.{◌≡◌, ℕ, zero, suc, inl, inr, List, [], ◌∷◌, ◌++◌, take, drop, Some, subst}
 use Rattle.std.proofs.lemmas.Option.{same_Some}
-use Rattle.problem_file.specs.Files.{FileParts}
-use Rattle.problem_file.specs.Ranges.{IsProgInRange}
+use Rattle.file_parts.specs.Files.{FileParts}
+use Rattle.file_parts.specs.Ranges.{IsProgInRange}
 use Rattle.while_lang.specs.Programs.{ProgTree, empty, skip_then, abort_then, assert_then, act_then, assign_then, branch_then, loop_then, StmtTree, skip, abort, assert, act, assign, branch, loop, with_stmt, prog_of, stmts_of}
 use Rattle.while_lang.proofs.BlockMeasures.{prog_of-stmts_of}
 use Rattle.optimiser_theory.specs.Statements.{block, with_block, single, IsStmtInRange, AreStmtsInRange}

@@ -5,8 +5,8 @@ use Rattle.std.proofs.lemmas.Bool.{cases_Bool, not-true, not_from_false}
 use Rattle.std.proofs.lemmas.Option.{same_Some}
 use Rattle.kat_model.specs.Expressions.{CondTree, always, negation}
 use Rattle.kat_model.specs.Relations.{Along}
-use Rattle.problem_file.specs.Files.{FileParts}
-use Rattle.problem_file.specs.Ranges.{IsCondInRange, IsProgInRange}
+use Rattle.file_parts.specs.Files.{FileParts}
+use Rattle.file_parts.specs.Ranges.{IsCondInRange, IsProgInRange}
 use Rattle.while_lang.specs.Programs.{ProgTree, empty, branch_then, loop_then, StmtTree, skip, abort, assert, branch, loop, prog_of, stmts_of}
 use Rattle.optimiser_theory.specs.Validity.{IsValid, HoldsAlways, HoldsNever}
 use Rattle.optimiser_theory.specs.Statements.{block, with_block, single, IsStmtInRange, AreStmtsInRange}

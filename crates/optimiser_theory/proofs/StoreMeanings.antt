@@ -6,9 +6,9 @@ use Rattle.kat_model.specs.Stores.{Store, value, holds}
 use Rattle.kat_model.specs.Problems.{AreInRange}
 use Rattle.kat_model.specs.Relations.{Along}
 use Rattle.linear_forms.proofs.StoredValues.{value_below}
-use Rattle.problem_file.specs.Files.{FileParts, triple, prog_side}
-use Rattle.problem_file.specs.Concrete.{IsStoreOf, IsConcrete, EndAlike}
-use Rattle.problem_file.specs.Ranges.{IsProgInRange}
+use Rattle.file_parts.specs.Files.{FileParts, triple, prog_side}
+use Rattle.file_parts.specs.Concrete.{IsStoreOf, IsConcrete, EndAlike}
+use Rattle.file_parts.specs.Ranges.{IsProgInRange}
 use Rattle.while_lang.specs.Programs.{ProgTree, empty, skip_then, abort_then, assert_then, act_then, assign_then, branch_then, loop_then, stmts_of}
 use Rattle.while_lang.specs.Runs.{condition, Leaves, Turns, Goes, Ends}
 use Rattle.while_lang.proofs.StoreValues.{set_is_store}

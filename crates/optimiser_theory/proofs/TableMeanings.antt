@@ -4,8 +4,8 @@ use Rattle.kat_model.specs.Expressions.{CondTree}
 use Rattle.kat_model.specs.Relations.{Table, IsTable, frame_of, Relates, Keeps, Same}
 use Rattle.goal_forms.specs.Laws.{DenoteOne, HoldsTriple}
 use Rattle.goal_forms.proofs.Meanings.{goals_mean_lem}
-use Rattle.problem_file.specs.Files.{FileParts, triple, prog_side}
-use Rattle.problem_file.specs.Ranges.{IsCondInRange, IsProgInRange}
+use Rattle.file_parts.specs.Files.{FileParts, triple, prog_side}
+use Rattle.file_parts.specs.Ranges.{IsCondInRange, IsProgInRange}
 use Rattle.while_lang.specs.Programs.{ProgTree, stmts_of}
 use Rattle.abstraction.specs.Tables.{Tables}
 use Rattle.abstraction.specs.Tests.{cond_test}

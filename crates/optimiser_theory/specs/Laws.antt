@@ -1,6 +1,6 @@
 -- The laws of steps and logs. Each is the contract of a function of the crate that does nothing.
 use Rattle.std.specs.Prelude.{◌≡◌, List}
-use Rattle.problem_file.specs.Files.{FileParts}
+use Rattle.file_parts.specs.Files.{FileParts}
 use Rattle.while_lang.specs.Programs.{ProgTree}
 use Rattle.optimiser_theory.specs.Logs.{LogLineParts, FirstStep, IsLog}
 use Rattle.optimiser_theory.specs.Meanings.{HasProgInRange, KeepsInTables, KeepsFromStores}

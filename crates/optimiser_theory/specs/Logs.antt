@@ -1,6 +1,6 @@
 -- Logs: the steps that take one program to another.
 use Rattle.std.specs.Prelude.{◌≡◌, ℕ, List, [], ◌∷◌}
-use Rattle.problem_file.specs.Files.{FileParts}
+use Rattle.file_parts.specs.Files.{FileParts}
 use Rattle.while_lang.specs.Programs.{ProgTree, stmts_of}
 use Rattle.optimiser_theory.specs.Paths.{NoStep, IsFirstStep}
 

@@ -5,9 +5,9 @@ use Rattle.kat_model.specs.Problems.{AreInRange}
 use Rattle.kat_model.specs.Relations.{Table, IsTable, Relates, Keeps}
 use Rattle.while_lang.specs.Programs.{ProgTree}
 use Rattle.while_lang.specs.Encoding.{encoded}
-use Rattle.problem_file.specs.Files.{FileParts}
-use Rattle.problem_file.specs.Concrete.{EndAlike}
-use Rattle.problem_file.specs.Ranges.{IsProgInRange}
+use Rattle.file_parts.specs.Files.{FileParts}
+use Rattle.file_parts.specs.Concrete.{EndAlike}
+use Rattle.file_parts.specs.Ranges.{IsProgInRange}
 use Rattle.abstraction.specs.Tables.{Tables}
 use Rattle.abstraction.specs.Tests.{prog_flow}
 

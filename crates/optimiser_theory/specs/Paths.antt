@@ -1,7 +1,7 @@
 -- The places of steps. A path is a position in a list of statements, and then for each level down the number of a block
 -- of the statement there and a position in that block.
 use Rattle.std.specs.Prelude.{◌≡◌, ◌<◌, ◌⊎◌, ℕ, List, [], ◌∷◌, ◌++◌, take, drop, Some}
-use Rattle.problem_file.specs.Files.{FileParts}
+use Rattle.file_parts.specs.Files.{FileParts}
 use Rattle.while_lang.specs.Programs.{ProgTree, StmtTree, stmts_of}
 use Rattle.optimiser_theory.specs.Statements.{block, with_block}
 use Rattle.optimiser_theory.specs.Steps.{Step}

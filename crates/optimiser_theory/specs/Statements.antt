@@ -1,7 +1,7 @@
 -- The blocks of statements, and the numbers in statements.
 use Rattle.std.specs.Prelude.{ℕ, zero, suc, ◌<◌, List, [], ◌∷◌, Option, Some, None}
-use Rattle.problem_file.specs.Files.{FileParts}
-use Rattle.problem_file.specs.Ranges.{IsExprInRange, IsCondInRange, IsProgInRange}
+use Rattle.file_parts.specs.Files.{FileParts}
+use Rattle.file_parts.specs.Ranges.{IsExprInRange, IsCondInRange, IsProgInRange}
 use Rattle.while_lang.specs.Programs.{ProgTree, StmtTree, skip, abort, assert, act, assign, branch, loop, prog_of}
 
 -- the block of a statement with this number: an `if` has blocks 0 and 1, a `while` has block 0

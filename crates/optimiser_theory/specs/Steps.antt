@@ -1,7 +1,7 @@
 -- The twelve steps of the optimiser. Each rewrites the first statement of a list, or the first two.
 use Rattle.std.specs.Prelude.{◌≡◌, ℕ, zero, suc, List, [], ◌∷◌, ◌++◌}
 use Rattle.kat_model.specs.Expressions.{always, negation}
-use Rattle.problem_file.specs.Files.{FileParts}
+use Rattle.file_parts.specs.Files.{FileParts}
 use Rattle.while_lang.specs.Programs.{empty, branch_then, loop_then, StmtTree, skip, abort, assert, branch, loop, prog_of, stmts_of}
 use Rattle.optimiser_theory.specs.Validity.{IsValid, HoldsAlways, HoldsNever}
 use Rattle.optimiser_theory.specs.Statements.{single}

@@ -3,7 +3,7 @@ use Rattle.std.specs.Prelude.{◌≡◌, Ok}
 use Rattle.kat_model.specs.Expressions.{CondTree, always, negation}
 use Rattle.kat_model.specs.Relations.{Same}
 use Rattle.while_lang.specs.Programs.{ProgTree, empty}
-use Rattle.problem_file.specs.Files.{FileParts, triple, prog_side}
+use Rattle.file_parts.specs.Files.{FileParts, triple, prog_side}
 use Rattle.abstraction.specs.Abstracts.{AbstractParts, with_goal, abstract_of}
 
 -- the abstraction of the file with the triple {pre} body {post} as its goal is within its limits, and both sides of its

@@ -1,13 +1,13 @@
 -- The items of a text use only numbers of declared tests, actions, variables and programs, and each declared one has a
 -- name.
-use Rattle.std.proofs.Common.{◌≡◌, ◌≤◌, ◌<◌, ◌+◌, ⊎_elim, ℕ, zero, suc, List, [], ◌∷◌, ◌++◌, length, drop, nat_lt, Bool, slice_get, Option, Some, None, refl, sym, ap, subst, ◌∙◌, false, true, arith, length-append}
+use Rattle.std.proofs.Common.{◌≡◌, ◌≤◌, ◌<◌, ◌+◌, ⊎_elim, ℕ, List, [], ◌∷◌, ◌++◌, length, drop, nat_lt, Bool, slice_get, Option, Some, None, refl, sym, ap, subst, ◌∙◌, false, true, arith, length-append}
 use Rattle.std.proofs.lemmas.Bool.{ltb-true, ltb-false}
 use Rattle.std.proofs.lemmas.Option.{slice_get_past, none-some}
 use Rattle.std.specs.FinMap.{get, insert}
 use Rattle.kat_model.specs.declared.limits.TheConstants.{MAX_TESTS, MAX_ACTIONS, MAX_VARS}
-use Rattle.kat_model.specs.Trees.{TestTree, bottom, top, prim, complement, meet, join, Term, zero as nothing, one, test, act, sum, product, star, term_size}
+use Rattle.kat_model.specs.Trees.{Term, term_size}
 use Rattle.kat_model.specs.Expressions.{ExprTree, number, variable, plus, minus, times, CondTree, always, never, named, compared, negation, both, either}
-use Rattle.kat_model.specs.Problems.{IsTestInRange, IsInRange, AreInRange}
+use Rattle.kat_model.specs.Problems.{IsInRange, AreInRange}
 use Rattle.kat_model.specs.Members.{Has}
 use Rattle.kat_model.proofs.Places.{slice_get_last}
 use Rattle.kat_model.proofs.Ranges.{AreInRange-append}
@@ -23,38 +23,22 @@ use Rattle.while_lang.specs.Programs.{ProgTree, empty, skip_then, abort_then, as
 use Rattle.while_lang.specs.ProgramSizes.{prog_size}
 use Rattle.while_lang.specs.NamedProgs.{ProgParts}
 use Rattle.while_lang.specs.BlockSound.{block_nesting}
+use Rattle.file_parts.proofs.RangesGrow.{IsInRange-more, progs_at, meant_in}
 use Rattle.problem_file.specs.declared.goal_limit.GoalLimit.{GoalLimit}
 use Rattle.problem_file.specs.declared.goal_limit.GoalLimit.TheVariants.{One, Batch}
 use Rattle.problem_file.specs.Working.Numbers.{AreNumbered}
-use Rattle.problem_file.specs.Files.{FileParts, SideTree, term_side, prog_side, GoalTree, equal, below, triple, prog_meant, State, start, file_of, add_prog, state_hyp, state_goal, triple_term}
+use Rattle.file_parts.specs.Files.{FileParts, SideTree, term_side, prog_side, GoalTree, equal, below, triple, prog_meant}
+use Rattle.problem_file.specs.Files.{State, start, file_of, add_prog, state_hyp, state_goal, triple_term}
 use Rattle.problem_file.specs.Phrases.{Names, one_name, more_names, Body, tests, actions, variables, definition, program, hypothesis, hyp_triple, rounds, width, goal_equal, goal_below, goal_triple, Item, lone_leaf}
 use Rattle.problem_file.specs.Sound.{with_test, with_action, with_var, grown, EachName, DeclaresTest, DeclaresAction, DeclaresVar, named_by, IsSide, side_size, AsksSides, Makes, MakeAll}
-use Rattle.problem_file.specs.Ranges.{IsExprInRange, IsCondInRange, IsProgInRange, AreProgsInRange, IsSideInRange, IsGoalInRange, AreNamed, AreNamesOfProgs, IsNumbered}
+use Rattle.file_parts.specs.Ranges.{IsExprInRange, IsCondInRange, IsProgInRange, AreProgsInRange, IsSideInRange, IsGoalInRange, AreNamed, AreNamesOfProgs, IsNumbered}
 use Rattle.problem_file.specs.Reads.{Says}
 use Rattle.problem_file.specs.Laws.{AreInRanges, AreAllInRanges}
 use Rattle.problem_file.proofs.Numbering.{empty_numbered, test_numbered, action_numbered, var_numbered, prog_numbered, term_numbered}
 use Rattle.problem_file.proofs.InRanges.{DefinedInRange, test_of_in, term_in, cond_in}
-use Rattle.problem_file.proofs.BlockRanges.{ProgsInRange, block_in}
+use Rattle.problem_file.proofs.BlockRanges.{block_in}
 
 -- ---- additional tests, actions and variables
-
-module _ (t a u b : ℕ) (tests : t ≤ u) (actions : a ≤ b) where
-  pub IsTestInRange-more : (e : TestTree) → IsTestInRange t e → IsTestInRange u e
-  IsTestInRange-more bottom h = tt
-  IsTestInRange-more top h = tt
-  IsTestInRange-more (prim k) h = omega arith
-  IsTestInRange-more (complement e) h = IsTestInRange-more e h
-  IsTestInRange-more (meet e f) h = (IsTestInRange-more e h.0, IsTestInRange-more f h.1)
-  IsTestInRange-more (join e f) h = (IsTestInRange-more e h.0, IsTestInRange-more f h.1)
-
-  pub IsInRange-more : (e : Term) → IsInRange t a e → IsInRange u b e
-  IsInRange-more nothing h = tt
-  IsInRange-more one h = tt
-  IsInRange-more (test e) h = IsTestInRange-more e h
-  IsInRange-more (act k) h = omega arith
-  IsInRange-more (sum e f) h = (IsInRange-more e h.0, IsInRange-more f h.1)
-  IsInRange-more (product e f) h = (IsInRange-more e h.0, IsInRange-more f h.1)
-  IsInRange-more (star e) h = IsInRange-more e h
 
 expr_more : (v x : ℕ) → v ≤ x → (e : ExprTree) → IsExprInRange v e → IsExprInRange x e
 expr_more v x more (number n) h = tt
@@ -128,20 +112,6 @@ module _ (t a v : ℕ) where
   progs_last : (ps : List ProgParts) (p : ProgParts) → AreProgsInRange t a v ps → IsProgInRange t a v p.tree → AreProgsInRange t a v (ps ++ p ∷ [])
   progs_last [] p h k = (k, tt)
   progs_last (q ∷ ps) p h k = (h.0, progs_last ps p h.1 k)
-
-  progs_at : (ps : List ProgParts) → AreProgsInRange t a v ps → ProgsInRange ps t a v
-  progs_at [] h i p e = let none : slice_get [] i ≡ None = slice_get_past [] i (omega arith) in absurd (none-some p (sym none ∙ e))
-  progs_at (q ∷ ps) h zero p e = let same : q ≡ p = cc in subst (λ (x : ProgParts). IsProgInRange t a v x.tree) same h.0
-  progs_at (q ∷ ps) h (suc i) p e = progs_at ps h.1 i p e
-
-  -- the numbers in a program that a name stands for are below the bounds
-  pub meant_in : (ps : List ProgParts) (o : Option Meaning) (d : ProgParts) → AreProgsInRange t a v ps → prog_meant ps o ≡ Some d → IsProgInRange t a v d.tree
-  meant_in ps None d h e = absurd cc
-  meant_in ps (Some (Test k)) d h e = absurd cc
-  meant_in ps (Some (Action k)) d h e = absurd cc
-  meant_in ps (Some (Var k)) d h e = absurd cc
-  meant_in ps (Some (TermName k)) d h e = absurd cc
-  meant_in ps (Some (Prog i)) d h e = progs_at ps h i d e
 
 goals_more : (t a v u b x : ℕ) → t ≤ u → a ≤ b → v ≤ x → (gs : List GoalTree) → GoalsInRange t a v gs → GoalsInRange u b x gs
 goals_more t a v u b x p q r [] h = tt

@@ -21,7 +21,8 @@ use Rattle.while_lang.specs.BlockLaws.{AreLimited}
 use Rattle.problem_file.specs.declared.item_reading.Declared.TheVariants as what
 use Rattle.problem_file.specs.declared.item_reading.Comparison.{Comparison}
 use Rattle.problem_file.specs.declared.item_reading.Comparison.TheVariants.{Equal, Below}
-use Rattle.problem_file.specs.Files.{SideTree, State, most_goals, triple, width_of, state_goal}
+use Rattle.file_parts.specs.Files.{SideTree, triple}
+use Rattle.problem_file.specs.Files.{State, most_goals, width_of, state_goal}
 use Rattle.problem_file.specs.Numbers.{AreNarrow, check_numbers}
 use Rattle.problem_file.specs.ItemActions.{Measurement, SidesMeasurement, TripleMeasurement}
 use Rattle.problem_file.specs.Making.{built_cond, built_side, built_goal, count_sides, count_parts, begin_goal, compared, ask_sides, ask_triple, making}

@@ -1,5 +1,5 @@
--- The parts of a problem file, and the state that its items have declared, defined and stated so far.
-use Rattle.std.specs.Prelude.{ℕ, ◌+◌, List, [], ◌∷◌, ◌++◌, length, slice_get, Bool, ◌||◌, if◌then◌else◌, nat_lt, nat_eq, Result, Ok, Err, Option, Some, None, unwrap_or, nat_le}
+-- The state that the items of a problem file have declared, defined and stated so far.
+use Rattle.std.specs.Prelude.{ℕ, ◌+◌, List, [], ◌∷◌, ◌++◌, length, Bool, ◌||◌, if◌then◌else◌, nat_lt, nat_eq, Result, Ok, Err, Option, Some, None, unwrap_or, nat_le}
 use Rattle.std.specs.Option.{is_some}
 use Rattle.kat_model.specs.declared.limits.TheConstants.{MAX_TESTS, MAX_ACTIONS, MAX_VARS, MAX_ROUNDS, MAX_GOALS, MAX_TERM_NODES, MAX_TEXT_NODES}
 use Rattle.kat_model.specs.Trees.{Term}
@@ -9,52 +9,13 @@ use Rattle.kat_model.specs.declared.expression.Width.TheVariants.{W8, W16, W32, 
 use Rattle.goal_forms.specs.Sides.{failing_run}
 use Rattle.text_tokens.specs.declared.fault.TextFault.{TextFault}
 use Rattle.text_tokens.specs.declared.fault.TextFault.TheVariants.{DoubleName, TooMany, TooLarge, TwoGoals, Sort}
-use Rattle.text_scopes.specs.declared.meaning.Meaning.{Meaning}
 use Rattle.text_scopes.specs.declared.meaning.Meaning.TheVariants.{Test, Action, Var, Prog}
 use Rattle.text_scopes.specs.ScopeParts.{ScopeParts, meaning, empty_scope, declared, defined}
 use Rattle.while_lang.specs.Programs.{ProgTree}
 use Rattle.while_lang.specs.NamedProgs.{ProgParts}
 use Rattle.problem_file.specs.declared.goal_limit.GoalLimit.{GoalLimit}
 use Rattle.problem_file.specs.declared.goal_limit.GoalLimit.TheVariants.{One, Batch}
-
--- ---- goals
-
--- a side of a goal
-pub data SideTree : Type 0 where
-  term_side : (e : Term) → SideTree
-  prog_side : (p : ProgTree) → SideTree
-
--- a goal of two sides, or of a side between two conditions
-pub data GoalTree : Type 0 where
-  equal : (l r : SideTree) → GoalTree
-  below : (l r : SideTree) → GoalTree
-  triple : (pre : CondTree) → (body : SideTree) → (post : CondTree) → GoalTree
-
--- ---- files
-
--- the parts of a file: its names, the numbers of tests, actions, variables and terms, its programs and their names, the
--- terms that it states to be 0, its rounds, its goal and its width
-pub record FileParts : Type 0 where
-  pub scope : ScopeParts
-  pub tests : ℕ
-  pub actions : ℕ
-  pub vars : ℕ
-  pub terms : ℕ
-  pub progs : List ProgParts
-  pub prog_names : List (List ℕ)
-  pub hyps : List Term
-  pub rounds : ℕ
-  pub goal : GoalTree
-  pub width : Width
-
--- the program of a meaning; programs are listed by their numbers
-abbrev pub prog_meant : List ProgParts → Option Meaning → Option ProgParts
-prog_meant ps (Some (Prog i)) = slice_get ps i
-prog_meant ps m = None
-
--- the program that a name stands for
-abbrev pub prog_named : ScopeParts → List ProgParts → List ℕ → Option ProgParts
-prog_named w ps name = prog_meant ps (meaning w name)
+use Rattle.file_parts.specs.Files.{GoalTree, FileParts}
 
 -- ---- states
 

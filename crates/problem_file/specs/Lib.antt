@@ -1,6 +1,5 @@
 pub mod Files
 pub mod Numbers
-pub mod Trees
 pub mod ItemActions
 pub mod Items
 pub mod Tokens
@@ -9,8 +8,6 @@ pub mod Making
 pub mod Phrases
 pub mod Folds
 pub mod Sound
-pub mod Ranges
-pub mod Concrete
 pub mod FirstFaults
 pub mod Reads
 pub mod Laws

@@ -20,7 +20,8 @@ use Rattle.while_lang.specs.BlockPhrases.{block, BlockPhrase}
 use Rattle.while_lang.specs.BlockFolds.{fold_block}
 use Rattle.while_lang.specs.BlockBuilding.{block_trees}
 use Rattle.while_lang.specs.BlockSound.{BlockIsSound, block_nesting}
-use Rattle.problem_file.specs.Files.{SideTree, term_side, prog_side, GoalTree, equal, below, triple, prog_named, State, most_goals, width_of, has_begun, with_rounds, with_width, width_with}
+use Rattle.file_parts.specs.Files.{SideTree, term_side, prog_side, GoalTree, equal, below, triple, prog_named}
+use Rattle.problem_file.specs.Files.{State, most_goals, width_of, has_begun, with_rounds, with_width, width_with}
 use Rattle.problem_file.specs.Files.{define, add_prog, state_hyp, state_goal, triple_term}
 use Rattle.problem_file.specs.Numbers.{AreNarrow}
 use Rattle.problem_file.specs.Phrases.{Names, one_name, more_names, Numeral, TriplePhrase, Body, tests, actions, variables, definition, program, hypothesis, hyp_triple, rounds, width, goal_equal, goal_below, goal_triple, Item}

@@ -1,7 +1,6 @@
 //! Problem files: tests, actions, variables, terms, programs, hypotheses and a goal, read from their text.
 #![tactic(auto)]
 
-mod file;
 mod goal_limit;
 mod item_reader;
 mod item_reading;
@@ -14,7 +13,7 @@ mod reading;
 mod syntax;
 mod triple;
 
-pub use file::{File, Goal, Side};
+pub use file_parts::{File, Goal, Side};
 pub use laws::{
     are_in_ranges, files_are_scanned, have_one_answer, items_are_folded, items_are_made,
 };

@@ -4,8 +4,9 @@ ghost use Rattle.text_tokens.specs.declared.fault.TextFault.TheVariants.{NoMemor
 ghost use Rattle.text_grammar.specs.Lexemes.{lexemes};
 ghost use Rattle.text_grammar.specs.Parsed.{Makes};
 ghost use Rattle.text_tokens.specs.declared.lexer.TheConstants.{MAX_LEN as MOST};
-ghost use Rattle.problem_file.specs.Files.{GoalTree, FileParts, start};
-ghost use Rattle.problem_file.specs.Trees.{goal_tree};
+ghost use Rattle.file_parts.specs.Files.{GoalTree, FileParts};
+ghost use Rattle.problem_file.specs.Files.{start};
+ghost use Rattle.file_parts.specs.Trees.{goal_tree};
 ghost use Rattle.problem_file.specs.Making.{parse_items};
 ghost use Rattle.problem_file.specs.Tokens.{AreTokens};
 ghost use Rattle.problem_file.specs.Working.States.{state_of};
@@ -13,11 +14,11 @@ ghost use Rattle.problem_file.specs.FirstFaults.{IsNoText, placed};
 ghost use Rattle.problem_file.specs.Reads.{Says, HasFirstFault, Reads, ReadsAll, FirstFaultOfAll, tested, Answers};
 ghost use Rattle.problem_file.specs.Working.Files.{AnswersFor};
 
-use crate::file::{File, Goal};
 use crate::goal_limit::GoalLimit;
 use crate::item_reader::ItemReader;
 use crate::items::read_items;
 use crate::syntax::test_syntax;
+use file_parts::{File, Goal};
 use std::alloc::Global;
 use text_tokens::{MAX_LEN, TextFault, Token, tokens};
 

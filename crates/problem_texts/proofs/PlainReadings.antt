@@ -11,7 +11,8 @@ use Rattle.text_tokens.specs.Pieces.{Piece, spelled, parts_from}
 use Rattle.text_tokens.proofs.Words.{keyword_is_name}
 use Rattle.text_scopes.specs.ScopeParts.{ScopeParts}
 use Rattle.text_print.specs.Printing.{term_nesting}
-use Rattle.problem_file.specs.Files.{term_side, GoalTree, State, file_of, equal}
+use Rattle.file_parts.specs.Files.{term_side, GoalTree, equal}
+use Rattle.problem_file.specs.Files.{State, file_of}
 use Rattle.problem_file.specs.Reads.{start_one}
 use Rattle.problem_texts.specs.Questions.{question_text, IsPrintable}
 use Rattle.problem_texts.specs.CommentedTexts.{Comments, commented_text, IsCommentedPrintable}

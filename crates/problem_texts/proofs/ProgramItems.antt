@@ -22,9 +22,10 @@ use Rattle.text_print.proofs.WordTerminals.{name_terminal}
 use Rattle.text_print.proofs.PrintedPhrases.{lexemes_from, leaf}
 use Rattle.while_lang.specs.Programs.{ProgTree}
 use Rattle.while_lang.specs.ProgramSizes.{prog_size}
-use Rattle.while_lang.specs.ProgramPrinting.{block_pieces, ProgIsNamed, block_levels}
+use Rattle.while_print.specs.ProgramPrinting.{block_pieces, ProgIsNamed, block_levels}
 use Rattle.while_lang.specs.BlockPhrases.{block_before, BlockObeys}
-use Rattle.problem_file.specs.Files.{prog_side, State, most_goals, width_of, width_with, with_width, prog_meant, add_prog, equal, triple, state_goal}
+use Rattle.file_parts.specs.Files.{prog_side, prog_meant, equal, triple}
+use Rattle.problem_file.specs.Files.{State, most_goals, width_of, width_with, with_width, add_prog, state_goal}
 use Rattle.problem_file.specs.Numbers.{AreNarrow}
 use Rattle.problem_file.specs.Phrases.{TriplePhrase, variables, program, width, other_number, goal_equal, goal_triple, names_onto, triple_onto, ended}
 use Rattle.problem_file.specs.Sound.{with_var, DeclaresVar, EachName, NamesProg, grown}

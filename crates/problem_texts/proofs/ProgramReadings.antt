@@ -15,9 +15,10 @@ use Rattle.text_scopes.specs.ScopeParts.{ScopeParts, IsUndeclared, declared}
 use Rattle.text_print.specs.Printing.{CondIsNamed}
 use Rattle.while_lang.specs.Programs.{ProgTree}
 use Rattle.while_lang.specs.ProgramSizes.{prog_size}
-use Rattle.while_lang.specs.ProgramPrinting.{ProgIsNamed}
-use Rattle.problem_file.specs.Concrete.{IsConcrete}
-use Rattle.problem_file.specs.Files.{prog_side, GoalTree, State, prog_meant, rounds_of, width_of, file_of, equal, triple}
+use Rattle.while_print.specs.ProgramPrinting.{ProgIsNamed}
+use Rattle.file_parts.specs.Concrete.{IsConcrete}
+use Rattle.file_parts.specs.Files.{prog_side, GoalTree, prog_meant, equal, triple}
+use Rattle.problem_file.specs.Files.{State, rounds_of, width_of, file_of}
 use Rattle.problem_file.specs.Sound.{MakeAll}
 use Rattle.problem_file.specs.Reads.{start_one}
 use Rattle.problem_texts.specs.ProgramTexts.{one_program_text, IsOnePrintable, var_name, programs_text, triple_text, ArePrintable, IsTriplePrintable}

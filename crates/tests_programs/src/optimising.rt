@@ -1,5 +1,5 @@
 //! An optimised program of a text, with the steps that led to it.
-ghost use Rattle.problem_file.specs.Ranges.{IsNumbered};
+ghost use Rattle.file_parts.specs.Ranges.{IsNumbered};
 
 use kat_model::NoMemory;
 use optimiser_steps::{Ended, LogLine, Optimised, optimise};
@@ -8,7 +8,7 @@ use std::alloc::Global;
 use std::test::Fail;
 use text_scopes::Scope;
 use text_tokens::TextFault;
-use while_lang::print_prog;
+use while_print::print_prog;
 
 // Whether the log has no step, or only this one, at the first statement.
 fn are_steps(log: &[LogLine], step: Option<u8>) -> bool {

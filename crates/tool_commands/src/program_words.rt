@@ -3,7 +3,7 @@ ghost use Rattle.std.specs.Prelude.{◌≡◌};
 ghost use Rattle.std.specs.Option.{option_map};
 ghost use Rattle.tool_commands.specs.ProgramWords.{program_of};
 
-use problem_file::File;
+use file_parts::File;
 use while_lang::Prog;
 
 /// Returns the program of the file with this name, if it is concrete: no named test and no action occurs in it. `None`

@@ -8,7 +8,7 @@ ghost use Rattle.tool_commands.specs.StoreWords.{variable_meant, setting_of, wit
 
 use crate::numbers::number_within;
 use kat_model::{NoMemory, Width};
-use problem_file::File;
+use file_parts::File;
 use std::alloc::Global;
 use text_scopes::{Meaning, Scope};
 use while_lang::Store;

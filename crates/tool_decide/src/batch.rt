@@ -3,10 +3,10 @@ ghost use Rattle.std.specs.Prelude.{◌≡◌, ◌++◌, ℕ, max, List, map, If
 ghost use Rattle.std.specs.Fmt.{decimal};
 ghost use Rattle.kat_model.specs.Members.{Has};
 ghost use Rattle.abstraction.specs.Abstracts.{AbstractParts, HasNumbersInRange, abstract_of, with_goal};
-ghost use Rattle.problem_file.specs.Files.{GoalTree, FileParts};
+ghost use Rattle.file_parts.specs.Files.{GoalTree, FileParts};
 ghost use Rattle.problem_file.specs.Reads.{ReadsAll, FirstFaultOfAll};
 ghost use Rattle.problem_file.specs.Laws.{ReadsBoth};
-ghost use Rattle.problem_file.specs.Trees.{goal_tree};
+ghost use Rattle.file_parts.specs.Trees.{goal_tree};
 ghost use Rattle.tool_inputs.specs.TextProblem.{IsFaultOf, HasNoAbstraction};
 ghost use Rattle.tool_inputs.specs.Steps.{IsRefusal};
 ghost use Rattle.tool_decide.specs.Decide.{IsDecided};
@@ -15,7 +15,7 @@ ghost use Rattle.tool_inputs.specs.ReplySpecs.{Yields, RepliesWith, IsQuestionOf
 ghost use Rattle.tool_decide.specs.Working.Goals.{AreInRange};
 
 use crate::decide::decided_reply;
-use abstraction::{Abstract, AbstractFault, abstracted_for};
+use abstraction::{AbstractFault, abstracted_for};
 use bisim_worklist::decide_in;
 use kat_model::{NoMemory, Problem};
 use problem_file::{File, Goal, read_all};
@@ -63,7 +63,7 @@ fn question_of(alloc: Global, file: &File, goal: &Goal) -> Result<Problem, NoMem
     ensures { IfOk result (IsQuestionOf (with_goal file.now (goal_tree goal.now))) }
 {
     match abstracted_for(alloc, file, goal) {
-        Ok(Abstract { problem, .. }) => Ok(problem),
+        Ok(shown) => Ok(shown.into_problem()),
         Err(AbstractFault::NoMemory) => Err(NoMemory),
         Err(_) => unreachable!(),
     }

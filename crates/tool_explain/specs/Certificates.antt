@@ -7,7 +7,7 @@ use Rattle.kat_model.specs.Stores.{modulus}
 use Rattle.text_scopes.specs.declared.meaning.Meaning.{Meaning}
 use Rattle.text_print.specs.Printing.{name_of}
 use Rattle.problem_texts.specs.Questions.{hyp_text}
-use Rattle.problem_file.specs.Files.{FileParts}
+use Rattle.file_parts.specs.Files.{FileParts}
 use Rattle.abstraction.specs.Abstracts.{AbstractParts}
 use Rattle.abstraction.specs.declared.rows.Rule.{Rule}
 use Rattle.abstraction.specs.declared.rows.Rule.TheVariants.{Stated, Assign, F1, F2, F3, F4, F5, F6}

@@ -12,7 +12,7 @@ use crate::writing::{put, put_numbered};
 use abstraction::{Abstract, Rule};
 use certificate::{Cert, Style};
 use kat_model::{Kat, NoMemory};
-use problem_file::File;
+use file_parts::File;
 use problem_texts::put_hyp;
 use std::alloc::Global;
 use text_scopes::Scope;

@@ -1,6 +1,6 @@
 //! `explain`: evidence that shows what it says, in the words of the file.
 ghost use Rattle.std.specs.Prelude.{◌≡◌, ◌++◌, [], None, Ok, IfOk, OnOk};
-ghost use Rattle.problem_file.specs.Files.{FileParts};
+ghost use Rattle.file_parts.specs.Files.{FileParts};
 ghost use Rattle.problem_file.specs.Reads.{Reads};
 ghost use Rattle.abstraction.specs.Abstracts.{AbstractParts, abstract_of};
 ghost use Rattle.string_tables.specs.Findings.{IsFinding};
@@ -21,7 +21,7 @@ use cert_checker::{Answer, Reason, check};
 use certificate::{Cert, Evidence};
 use kat_model::{NoMemory, Problem};
 use kat_report::reason_line;
-use problem_file::File;
+use file_parts::File;
 use std::alloc::Global;
 use string_tables::{Finding, GString, verdict};
 use tool_check::evidence_in;

@@ -7,7 +7,7 @@ ghost use Rattle.tool_inputs.specs.ReplySpecs.{Yields};
 ghost use Rattle.tool_explain.specs.Working.ShownTexts.{IsShown, IsShownFile};
 
 use abstraction::Abstract;
-use problem_file::File;
+use file_parts::File;
 use std::alloc::Global;
 use tool_inputs::{EarlyEnd, TextQuestion, abstract_in, file_of};
 

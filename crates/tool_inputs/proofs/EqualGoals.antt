@@ -6,7 +6,7 @@ use Rattle.kat_model.specs.declared.limits.TheConstants.{MAX_TESTS, MAX_ACTIONS,
 use Rattle.kat_model.specs.Trees.{Term}
 use Rattle.kat_model.specs.Stores.{modulus}
 use Rattle.kat_model.specs.Problems.{ProblemParts, IsProblem, problem_size}
-use Rattle.problem_file.specs.Files.{FileParts, GoalTree, term_side, equal}
+use Rattle.file_parts.specs.Files.{FileParts, GoalTree, term_side, equal}
 use Rattle.abstraction.specs.declared.fault.AbstractFault.TheVariants.{TooManyTests, TooManyActions, ProblemTooLarge}
 use Rattle.abstraction.specs.Comparisons.{goal_comparisons, goal_assignments}
 use Rattle.abstraction.specs.Tables.{Tables, is_same_comparison, is_same_assignment, with_all_new, first_comparisons, file_assignments}

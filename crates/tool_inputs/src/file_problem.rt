@@ -1,7 +1,7 @@
 //! The problem of a file, which is that of its abstraction.
 ghost use Rattle.std.specs.Prelude.{◌≡◌, ◌≢◌, Ok};
 ghost use Rattle.abstraction.specs.declared.fault.AbstractFault.TheVariants.{NoMemory as NoRoom};
-ghost use Rattle.problem_file.specs.Trees.{goal_tree};
+ghost use Rattle.file_parts.specs.Trees.{goal_tree};
 ghost use Rattle.abstraction.specs.Abstracts.{HasNumbersInRange, abstract_of, with_goal};
 ghost use Rattle.kat_report.specs.AbstractRefusals.{abstract_fault_line};
 ghost use Rattle.tool_inputs.specs.TextProblem.{HasNoAbstraction};
@@ -12,7 +12,7 @@ use crate::reply::{EarlyEnd, Reply};
 use abstraction::{Abstract, AbstractFault, abstracted, abstracted_for};
 use kat_model::{NoMemory, Problem};
 use kat_report::abstract_fault_line;
-use problem_file::{File, Goal};
+use file_parts::{File, Goal};
 use std::alloc::Global;
 
 // Returns the reply to a file that has no abstraction for this reason: a refusal, unless memory ran out.
@@ -56,6 +56,5 @@ pub(crate) fn problem_of(alloc: Global, file: &File) -> Result<Problem, EarlyEnd
     requires { HasNumbersInRange file.now }
     ensures { Yields (IsQuestionOf file.now) (IsRefusal (HasNoAbstraction file.now)) result }
 {
-    let Abstract { problem, .. } = abstract_in(alloc, file)?;
-    Ok(problem)
+    Ok(abstract_in(alloc, file)?.into_problem())
 }

@@ -2,7 +2,7 @@
 use Rattle.std.specs.Prelude.{◌≡◌, ◌≤◌, ◌⊎◌, ◌↔◌, ℕ, List, length, Option, None, Some}
 use Rattle.std.specs.Option.{option_map}
 use Rattle.while_lang.specs.Programs.{ProgTree}
-use Rattle.problem_file.specs.Files.{FileParts, prog_named}
+use Rattle.file_parts.specs.Files.{FileParts, prog_named}
 use Rattle.problem_file.specs.Reads.{Reads}
 use Rattle.optimiser_theory.specs.Logs.{LogLineParts, IsLog, IsFinished, HasStep}
 use Rattle.optimiser_theory.specs.Meanings.{KeepsInTables, KeepsFromStores}

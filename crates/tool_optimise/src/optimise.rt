@@ -1,6 +1,6 @@
 //! `optimise`: replies to a text and the name of a program with the log of the optimiser and the resulting program.
 ghost use Rattle.std.specs.Prelude.{IfOk};
-ghost use Rattle.problem_file.specs.Files.{FileParts};
+ghost use Rattle.file_parts.specs.Files.{FileParts};
 ghost use Rattle.problem_file.specs.Reads.{Reads};
 ghost use Rattle.optimiser_theory.specs.Meanings.{HasProgInRange};
 ghost use Rattle.tool_optimise.specs.Optimise.{PrintsOptimised, OptimisesFile, OptimiseHeadline, OptimiseReply};
@@ -8,7 +8,7 @@ ghost use Rattle.tool_optimise.specs.Optimise.{PrintsOptimised, OptimisesFile, O
 use crate::log_text::optimised_text;
 use kat_model::NoMemory;
 use optimiser_steps::optimise;
-use problem_file::File;
+use file_parts::File;
 use std::alloc::Global;
 use tool_inputs::{EarlyEnd, FileCommand, Reply, reply_to_bytes, unfit_stop};
 use while_lang::Prog;

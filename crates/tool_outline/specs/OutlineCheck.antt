@@ -2,9 +2,9 @@
 use Rattle.std.specs.Prelude.{◌≡◌, ◌⊎◌, ◌↔◌, ℕ, List, Some}
 use Rattle.kat_model.specs.Problems.{ProblemParts}
 use Rattle.kat_model.specs.Relations.{Same}
-use Rattle.problem_file.specs.Files.{FileParts}
+use Rattle.file_parts.specs.Files.{FileParts}
 use Rattle.problem_file.specs.Reads.{Reads}
-use Rattle.problem_file.specs.Concrete.{IsConcrete, Agrees}
+use Rattle.file_parts.specs.Concrete.{IsConcrete, Agrees}
 use Rattle.outline_notes.specs.NoteLists.{NotesParts}
 use Rattle.outline_notes.specs.Texts.{text_of, AreNarrowNotes}
 use Rattle.outline_notes.specs.Faults.{notes_fault}

@@ -1,9 +1,9 @@
 //! `outline` of a file and notes: checks whether bytes are notes that prove the triple that a text asks.
 ghost use Rattle.std.specs.Prelude.{◌≡◌, ◌≢◌, [], None, IfOk};
 ghost use Rattle.kat_model.specs.Problems.{ProblemParts};
-ghost use Rattle.problem_file.specs.Files.{FileParts};
+ghost use Rattle.file_parts.specs.Files.{FileParts};
 ghost use Rattle.problem_file.specs.Reads.{Reads};
-ghost use Rattle.problem_file.specs.Concrete.{IsConcrete, Agrees};
+ghost use Rattle.file_parts.specs.Concrete.{IsConcrete, Agrees};
 ghost use Rattle.hypothesis_kinds.specs.TestTerms.{AreSimple};
 ghost use Rattle.outline_notes.specs.declared.fault.NotesFault.TheVariants.{NoMemory as NoRoom};
 ghost use Rattle.outline_rules.specs.Tasks.{task_parts, IsTripleOf};

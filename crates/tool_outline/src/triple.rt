@@ -1,7 +1,7 @@
 //! The triple of a program that a text asks.
 ghost use Rattle.std.specs.Prelude.{◌≡◌, Some, Ok, IfOk};
 ghost use Rattle.std.specs.Option.{option_map};
-ghost use Rattle.problem_file.specs.Trees.{goal_tree};
+ghost use Rattle.file_parts.specs.Trees.{goal_tree};
 ghost use Rattle.abstraction.specs.Abstracts.{HasNumbersInRange, abstract_of};
 ghost use Rattle.abstraction.specs.ShownTables.{shown_tables};
 ghost use Rattle.hypothesis_kinds.specs.TestTerms.{AreSimple};
@@ -16,7 +16,7 @@ use abstraction::{Abstract, flow_of, test_of};
 use hoare_outlines::{Task, not_simple};
 use kat_model::{NoMemory, Problem};
 use kat_report::{not_a_triple_line, not_simple_line};
-use problem_file::{File, Goal, Side};
+use file_parts::{File, Goal, Side};
 use std::alloc::Global;
 use tool_inputs::{EarlyEnd, Reply, TextQuestion, abstract_in, file_of, refusal};
 
@@ -89,7 +89,7 @@ fn test_hypotheses(alloc: Global, problem: &Problem) -> Result<(), EarlyEnd>
 fn simple_triple(alloc: Global, shown: Abstract, task: Task) -> Result<Triple, EarlyEnd>
     ensures { Yields (IsSimpleTriple shown task) (IsRefusal (TellsNotSimple shown.problem.hyps)) result }
 {
-    let Abstract { problem, .. } = shown;
+    let problem = shown.into_problem();
     test_hypotheses(alloc, &problem)?;
     Ok(Triple { problem, task })
 }

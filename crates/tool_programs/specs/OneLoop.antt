@@ -9,14 +9,14 @@ use Rattle.text_scopes.specs.ScopeParts.{ScopeParts, IsDeclared, IsUndeclared, I
 use Rattle.text_print.specs.Printing.{name_of}
 use Rattle.while_lang.specs.Programs.{ProgTree, statements}
 use Rattle.while_lang.specs.ProgramSizes.{prog_size, largest_in}
-use Rattle.while_lang.specs.ProgramPrinting.{block_levels}
+use Rattle.while_print.specs.ProgramPrinting.{block_levels}
 use Rattle.one_loop.specs.declared.fault.OneLoopFault.{OneLoopFault}
 use Rattle.one_loop.specs.declared.fault.OneLoopFault.TheVariants.{NoMemory, TooManyVars, TooManyStatements}
 use Rattle.kat_report.specs.FormRefusals.{form_fault_line}
 use Rattle.one_loop.specs.Statements.{HasTooManyStatements}
 use Rattle.one_loop.specs.Forms.{IsOneForm}
 use Rattle.one_loop.specs.Sizes.{IsSmallForm}
-use Rattle.problem_file.specs.Files.{FileParts}
+use Rattle.file_parts.specs.Files.{FileParts}
 use Rattle.problem_file.specs.Reads.{Reads}
 use Rattle.problem_texts.specs.ProgramNumbers.{ProgIsNarrow}
 use Rattle.problem_texts.specs.ProgramTexts.{one_program_text}

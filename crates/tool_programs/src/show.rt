@@ -7,7 +7,7 @@ ghost use Rattle.tool_programs.specs.Show.{ShowsFile, ShowHeadline, ShowReply};
 use abstraction::Abstract;
 use kat_model::NoMemory;
 use kat_report::show_text;
-use problem_file::File;
+use file_parts::File;
 use std::alloc::Global;
 use tool_inputs::{EarlyEnd, FileCommand, Reply, abstract_in, reply_to_bytes};
 

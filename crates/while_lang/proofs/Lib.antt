@@ -13,6 +13,3 @@ pub mod ScannedBlocks
 pub mod BlockScanFaults
 pub mod BlockNestings
 pub mod BlockMeasures
-pub mod ProgramPieces
-pub mod SeparatePrograms
-pub mod PrintedBlocks

@@ -1,15 +1,11 @@
 -- The folds over blocks, and how the measures of a block relate to its tree.
-use Rattle.std.specs.Prelude.{◌≡◌, ◌↔◌, ◌≤◌, ◌+◌, ℕ, min, List, [], length, slice_get, Some, IsOk, Ok}
-use Rattle.kat_model.specs.declared.limits.TheConstants.{MAX_TERM_NODES, MAX_EXPR_NODES, MAX_OPEN}
-use Rattle.text_tokens.specs.declared.lexer.TheConstants.{MAX_LEN}
-use Rattle.text_tokens.specs.Pieces.{spelled}
+use Rattle.std.specs.Prelude.{◌≡◌, ◌↔◌, ◌≤◌, ◌+◌, ℕ, min, List, [], slice_get, Some, IsOk, Ok}
+use Rattle.kat_model.specs.declared.limits.TheConstants.{MAX_EXPR_NODES, MAX_OPEN}
 use Rattle.text_grammar.specs.Lexemes.{Lexeme}
 use Rattle.text_grammar.specs.Parsed.{◌>>=◌, before}
 use Rattle.text_scopes.specs.declared.extent.Extent.{Extent}
-use Rattle.text_scopes.specs.declared.meaning.Meaning.{Meaning}
 use Rattle.text_scopes.specs.ScopeParts.{ScopeParts}
 use Rattle.text_scopes.specs.Laws.{told_nodes}
-use Rattle.text_print.specs.Laws.{ReadsBack}
 use Rattle.while_lang.specs.Programs.{ProgTree, prog_of}
 use Rattle.while_lang.specs.ProgramSizes.{prog_size, largest_in}
 use Rattle.while_lang.specs.NamedProgs.{ProgParts}
@@ -19,8 +15,6 @@ use Rattle.while_lang.specs.BlockFolds.{fold_block}
 use Rattle.while_lang.specs.BlockBuilding.{block_trees}
 use Rattle.while_lang.specs.BlockMeasuring.{extent, block_extents}
 use Rattle.while_lang.specs.BlockSound.{BlockIsSound, block_nesting}
-use Rattle.while_lang.specs.BlockReadings.{block_at}
-use Rattle.while_lang.specs.ProgramPrinting.{block_pieces, ProgIsNamed, block_levels}
 
 -- a pass over the tokens of a block gives the fold of its actions, in text order
 abbrev pub BlocksAreFolded : Type 0
@@ -51,11 +45,3 @@ abbrev pub MeasuresAreOfTrees : Type 0
 MeasuresAreOfTrees =
     (w : ScopeParts) (ps : List ProgParts) (d : ℕ) (p : BlockPhrase block_symbol) (m : Extent) → AreLimited ps →
     fold_block (block_extents w ps) d p (extent 0 0) ≡ Ok m → MeasuresBlock w ps d p m
-
--- a program printed with the only name of each meaning reads back as the same program with no tokens left, if the text,
--- the sizes of the program and the nesting of the text are within the limits
-abbrev pub PrintedReadsBack : Type 0
-PrintedReadsBack =
-    (w : ScopeParts) (ps : List ProgParts) (names : Meaning → List ℕ) (p : ProgTree) (d : ℕ) → AreLimited ps → ProgIsNamed w names p →
-    length (spelled (block_pieces names p [])) ≤ MAX_LEN → largest_in p ≤ MAX_EXPR_NODES → prog_size p ≤ MAX_TERM_NODES → d + block_levels p ≤ MAX_OPEN →
-    ReadsBack (block_pieces names p []) (block_at w ps d) p (block_levels p)

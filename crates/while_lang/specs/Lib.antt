@@ -22,6 +22,5 @@ pub mod BlockBuilding
 pub mod BlockMeasuring
 pub mod BlockReadings
 pub mod BlockSound
-pub mod ProgramPrinting
 pub mod BlockLaws
 pub mod Working

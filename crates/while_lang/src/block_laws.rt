@@ -1,6 +1,6 @@
 //! Laws of blocks. Each function does nothing: its contract is the law.
 ghost use Rattle.while_lang.specs.BlockScans.{TakesBlocks};
-ghost use Rattle.while_lang.specs.BlockLaws.{BlocksAreFolded, SoundAreMeasured, MeasuresAreOfTrees, PrintedReadsBack};
+ghost use Rattle.while_lang.specs.BlockLaws.{BlocksAreFolded, SoundAreMeasured, MeasuresAreOfTrees};
 
 /// The syntax check accepts exactly the blocks of the grammar that nest at most `MAX_OPEN` constructs and have no
 /// number of 2^64 or more.
@@ -23,10 +23,4 @@ pub fn sound_blocks_are_measured()
 /// limit plus one.
 pub fn block_measures_are_of_trees()
     ensures { MeasuresAreOfTrees }
-{}
-
-/// A printed program reads back as the same program with no tokens left, if the text, the sizes of the program and the
-/// nesting of the text are within the limits.
-pub fn printed_programs_read_back()
-    ensures { PrintedReadsBack }
 {}

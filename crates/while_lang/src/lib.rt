@@ -13,7 +13,6 @@ mod flow;
 mod laws;
 mod named;
 mod outcome;
-mod print;
 mod prog;
 mod runs;
 mod size;
@@ -21,8 +20,7 @@ mod store;
 
 pub use block_build::build_block;
 pub use block_laws::{
-    block_measures_are_of_trees, blocks_are_folded, blocks_are_scanned, printed_programs_read_back,
-    sound_blocks_are_measured,
+    block_measures_are_of_trees, blocks_are_folded, blocks_are_scanned, sound_blocks_are_measured,
 };
 pub use block_measure::measure_block;
 pub use block_read::read_block;
@@ -32,7 +30,6 @@ pub use flow::{Flow, Flows, branch_term, encode, loop_term};
 pub use laws::{flows_are_guarded, loops_unfold, runs_have_one_end};
 pub use named::NamedProg;
 pub use outcome::Outcome;
-pub use print::print_prog;
 pub use prog::{Prog, Stmt, copy_stmt, push_stmt};
 pub use runs::run;
 pub use store::Store;

@@ -5,7 +5,7 @@ use Rattle.kat_model.specs.declared.limits.TheConstants.{MAX_TESTS, MAX_ACTIONS,
 use Rattle.kat_model.specs.Problems.{problem_size, problem_fault}
 use Rattle.linear_forms.specs.declared.comparison.Atomic.{Atomic}
 use Rattle.goal_forms.specs.Sides.{SideTrees}
-use Rattle.problem_file.specs.Files.{FileParts}
+use Rattle.file_parts.specs.Files.{FileParts}
 use Rattle.abstraction.specs.declared.fault.AbstractFault.{AbstractFault}
 use Rattle.abstraction.specs.declared.fault.AbstractFault.TheVariants.{NoMemory, TooManyTests, TooManyActions, ProblemTooLarge}
 use Rattle.abstraction.specs.Comparisons.{Assignment}

@@ -1,6 +1,6 @@
 -- What the search for steps of a list returns.
 use Rattle.std.specs.Prelude.{◌≡◌, ◌≤◌, ◌<◌, ℕ, List, [], ◌∷◌, ◌++◌, map, Option, MatchOption}
-use Rattle.problem_file.specs.Files.{FileParts}
+use Rattle.file_parts.specs.Files.{FileParts}
 use Rattle.while_lang.specs.Programs.{ProgTree, StmtTree, stmts_of}
 use Rattle.while_lang.specs.ProgramViews.{stmt_tree}
 use Rattle.optimiser_theory.specs.Steps.{Step}

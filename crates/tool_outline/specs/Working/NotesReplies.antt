@@ -2,9 +2,9 @@
 use Rattle.std.proofs.Common.{◌≡◌, ◌≢◌, ◌⊎◌, ◌<◌, ℕ, List, Some, inl, inr, ⊎_elim, refl, sym, ap, subst, ◌∙◌, arith}
 use Rattle.std.proofs.lemmas.Option.{same_Some}
 use Rattle.kat_model.specs.Problems.{ProblemParts}
-use Rattle.problem_file.specs.Files.{FileParts}
+use Rattle.file_parts.specs.Files.{FileParts}
 use Rattle.problem_file.specs.Reads.{Reads}
-use Rattle.problem_file.specs.Concrete.{IsConcrete, Agrees}
+use Rattle.file_parts.specs.Concrete.{IsConcrete, Agrees}
 use Rattle.outline_notes.specs.declared.fault.NotesFault.{NotesFault}
 use Rattle.outline_notes.specs.declared.fault.NotesFault.TheVariants.{NoMemory}
 use Rattle.outline_notes.specs.NoteLists.{NotesParts}

@@ -7,9 +7,9 @@ use Rattle.kat_model.specs.Problems.{ProblemParts, IsProblem}
 use Rattle.kat_model.specs.Relations.{Same}
 use Rattle.kat_model.proofs.Lists.{has_append, has_map}
 use Rattle.kat_model.proofs.Places.{place_of_member}
-use Rattle.problem_file.specs.Files.{FileParts}
+use Rattle.file_parts.specs.Files.{FileParts}
 use Rattle.problem_file.specs.Reads.{Reads}
-use Rattle.problem_file.specs.Concrete.{IsConcrete, Agrees}
+use Rattle.file_parts.specs.Concrete.{IsConcrete, Agrees}
 use Rattle.outline_notes.specs.declared.notes.NoteNode.{NoteNode}
 use Rattle.outline_notes.specs.declared.notes.NoteNode.TheVariants.{False, True, Branch}
 use Rattle.outline_notes.specs.NoteLists.{NotesParts, AreNotes}

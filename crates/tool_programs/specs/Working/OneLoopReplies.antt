@@ -18,8 +18,8 @@ use Rattle.one_loop.specs.Variables.{CondHasVarsBelow, HasVarsBelow}
 use Rattle.one_loop.specs.Statements.{HasTooManyStatements}
 use Rattle.one_loop.specs.Forms.{IsOneForm}
 use Rattle.one_loop.specs.Sizes.{IsSmallForm}
-use Rattle.problem_file.specs.Files.{FileParts}
-use Rattle.problem_file.specs.Ranges.{IsCondInRange, IsProgInRange, IsNumbered}
+use Rattle.file_parts.specs.Files.{FileParts}
+use Rattle.file_parts.specs.Ranges.{IsCondInRange, IsProgInRange, IsNumbered}
 use Rattle.problem_file.specs.Reads.{Reads}
 use Rattle.problem_file.proofs.NumberedStates.{are_in_ranges}
 use Rattle.problem_texts.specs.ProgramNumbers.{ProgIsNarrow}

@@ -1,7 +1,7 @@
 use Rattle.std.proofs.Common.{◌≡◌, ◌∙◌, ap, map, subst, refl}
 use Rattle.kat_model.specs.Trees.{kat_tree}
 use Rattle.goal_forms.specs.Sides.{side_trees}
-use Rattle.problem_file.specs.Trees.{goal_tree}
+use Rattle.file_parts.specs.Trees.{goal_tree}
 use Rattle.abstraction.specs.Rounds.{tables_of}
 use Rattle.abstraction.specs.Goals.{goal_sides}
 use Rattle.abstraction.specs.Derived.{hypotheses}

@@ -1,7 +1,7 @@
 use Rattle.std.proofs.Common.{◌≡◌, ◌-◌, ◌∙◌, length, arith}
 use Rattle.kat_model.specs.declared.limits.TheConstants.{MAX_ACTIONS}
 use Rattle.kat_model.specs.Stores.{modulus}
-use Rattle.problem_file.specs.Trees.{goal_tree}
+use Rattle.file_parts.specs.Trees.{goal_tree}
 use Rattle.abstraction.specs.Comparisons.{goal_assignments}
 use Rattle.abstraction.specs.Tables.{is_same_assignment}
 use Rattle.abstraction.proofs.CappedTables.{first_rows, too_many_rows}

@@ -1,9 +1,9 @@
 //! The parts of a problem file.
 ghost use Rattle.std.specs.Prelude.{◌≡◌, ◌↔◌, IsTrue, option_map};
 ghost use Rattle.while_lang.specs.NamedProgs.{prog_parts, parts_of_progs};
-ghost use Rattle.problem_file.specs.Files.{prog_meant, prog_named};
-ghost use Rattle.problem_file.specs.Trees.{goal_tree};
-ghost use Rattle.problem_file.specs.Concrete.{AsksOfProgs, IsConcrete};
+ghost use Rattle.file_parts.specs.Files.{prog_meant, prog_named};
+ghost use Rattle.file_parts.specs.Trees.{goal_tree};
+ghost use Rattle.file_parts.specs.Concrete.{AsksOfProgs, IsConcrete};
 
 use kat_model::{Cond, Kat, Width};
 use std::marker::Model;
@@ -79,13 +79,13 @@ impl Model for File {
     ghost use Rattle.text_scopes.specs.Definitions.{coded_meanings};
     ghost use Rattle.while_lang.specs.ProgramCodes.{coded_prog};
     ghost use Rattle.while_lang.specs.NamedProgs.{parts_of_progs};
-    ghost use Rattle.problem_file.specs.Files.{FileParts};
+    ghost use Rattle.file_parts.specs.Files.{FileParts};
 
     ghost Value = { FileParts };
 
     ghost coded = { Prim.hlevel (codes, coded_term, coded_cond, coded_meanings, coded_prog) };
 
-    ghost use Rattle.problem_file.specs.Trees.{goal_tree, names_of_progs};
+    ghost use Rattle.file_parts.specs.Trees.{goal_tree, names_of_progs};
 
     ghost view = { λ f. record {
       scope = f.scope;
@@ -102,8 +102,8 @@ impl Model for File {
     } };
 }
 
-// Returns the program of a meaning; `progs` is indexed by program number.
-pub(crate) fn prog_meant(progs: &[NamedProg], meaning: Option<Meaning>) -> Option<&NamedProg>
+/// Returns the program of a meaning; `progs` is indexed by program number.
+pub fn prog_meant(progs: &[NamedProg], meaning: Option<Meaning>) -> Option<&NamedProg>
     ensures { option_map (λ n. prog_parts n.now) result ≡ prog_meant (parts_of_progs progs.now) meaning }
 {
     match meaning {

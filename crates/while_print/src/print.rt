@@ -4,14 +4,14 @@ ghost use Rattle.kat_model.specs.Expressions.{expr_tree, cond_tree};
 ghost use Rattle.text_tokens.specs.Pieces.{spelled};
 ghost use Rattle.text_print.specs.Printing.{name_of, expr_text, cond_text};
 ghost use Rattle.while_lang.specs.ProgramViews.{stmt_tree};
-ghost use Rattle.while_lang.specs.ProgramPrinting.{block_pieces};
-ghost use Rattle.while_lang.specs.Working.ProgramTexts.{stmt_text, stmts_text};
+ghost use Rattle.while_print.specs.ProgramPrinting.{block_pieces};
+ghost use Rattle.while_print.specs.Working.ProgramTexts.{stmt_text, stmts_text};
 
-use crate::prog::{Prog, Stmt};
 use kat_model::{Cond, Expr, NoMemory};
 use std::alloc::Global;
 use text_print::{print_cond, print_expr, put_name};
 use text_scopes::{Meaning, Scope};
+use while_lang::{Prog, Stmt};
 
 fn put(out: &mut Vec<u8>, text: &[u8]) -> Result<(), NoMemory>
     ensures { OnOk result (out.new.items ≡ out.old.items ++ text.now) }

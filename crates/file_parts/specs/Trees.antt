@@ -3,11 +3,11 @@ use Rattle.std.specs.Prelude.{ℕ, List, map}
 use Rattle.kat_model.specs.Trees.{kat_tree}
 use Rattle.kat_model.specs.Expressions.{cond_tree}
 use Rattle.while_lang.specs.declared.named.NamedProg.{NamedProg}
-use Rattle.problem_file.specs.declared.file.Side.{Side}
-use Rattle.problem_file.specs.declared.file.Side.TheVariants.{Term, Prog}
-use Rattle.problem_file.specs.declared.file.Goal.{Goal}
-use Rattle.problem_file.specs.declared.file.Goal.TheVariants.{Equal, Below, Triple}
-use Rattle.problem_file.specs.Files.{SideTree, term_side, prog_side, GoalTree, equal, below, triple}
+use Rattle.file_parts.specs.declared.file.Side.{Side}
+use Rattle.file_parts.specs.declared.file.Side.TheVariants.{Term, Prog}
+use Rattle.file_parts.specs.declared.file.Goal.{Goal}
+use Rattle.file_parts.specs.declared.file.Goal.TheVariants.{Equal, Below, Triple}
+use Rattle.file_parts.specs.Files.{SideTree, term_side, prog_side, GoalTree, equal, below, triple}
 
 abbrev pub side_tree : Side → SideTree
 side_tree (Term e) = term_side (kat_tree e)

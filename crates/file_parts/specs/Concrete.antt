@@ -4,7 +4,7 @@ use Rattle.kat_model.specs.Expressions.{CondTree}
 use Rattle.kat_model.specs.Stores.{Store, IsStore, holds}
 use Rattle.while_lang.specs.Programs.{ProgTree}
 use Rattle.while_lang.specs.Runs.{Ends}
-use Rattle.problem_file.specs.Files.{GoalTree, equal, triple, prog_side, FileParts}
+use Rattle.file_parts.specs.Files.{GoalTree, equal, triple, prog_side, FileParts}
 
 -- the goal equates two programs, or is a triple of a program
 abbrev pub AsksOfProgs : GoalTree → Type 0

@@ -9,7 +9,7 @@ use Rattle.text_scopes.specs.ScopeParts.{ScopeParts, Means}
 use Rattle.while_lang.specs.Programs.{ProgTree}
 use Rattle.while_lang.specs.Leaves.{Anything, EveryExprLeaf, EveryCondLeaf, EveryLeaf}
 use Rattle.while_lang.specs.NamedProgs.{ProgParts}
-use Rattle.problem_file.specs.Files.{SideTree, term_side, prog_side, GoalTree, equal, below, triple, FileParts}
+use Rattle.file_parts.specs.Files.{SideTree, term_side, prog_side, GoalTree, equal, below, triple, FileParts}
 
 -- each variable of the expression is below the number of variables
 abbrev pub IsExprInRange : ℕ → ExprTree → Type 0

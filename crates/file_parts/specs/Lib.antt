@@ -1,0 +1,4 @@
+pub mod Files
+pub mod Trees
+pub mod Concrete
+pub mod Ranges

@@ -1,0 +1,3 @@
+pub mod ProgramPieces
+pub mod SeparatePrograms
+pub mod PrintedBlocks

@@ -1,0 +1,3 @@
+pub mod ProgramPrinting
+pub mod Laws
+pub mod Working
