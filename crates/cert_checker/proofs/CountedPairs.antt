@@ -2,7 +2,7 @@
 use Rattle.std.proofs.Common.{◌≡◌, ◌↔◌, ℕ, inl, inr, ⊎_elim, List, [], ◌∷◌, map, refl, sym, ap, ◌∙◌, subst, Bool, true, false, cond, Option, None}
 use Rattle.kat_model.specs.Members.{Has}
 use Rattle.term_nodes.specs.NumberSets.{NumberPair, are_below}
-use Rattle.certificate.specs.PairParts.{PairParts, sets_of}
+use Rattle.certificate.specs.PairParts.{PairParts, only_sets}
 use Rattle.cert_checker.specs.declared.known.Truth.{Truth}
 use Rattle.cert_checker.specs.declared.saturation.Counted.{Counted}
 use Rattle.cert_checker.specs.Working.Reaching.{ArePairsBelow}
@@ -24,24 +24,24 @@ counted_as P counted action_pass known also e f g =
     )
 
 module _ (also : Bool) (known : List Truth) where
-  pub counting_has : (ps : List PairParts) (n : NumberPair) → Has (counting also known ps) n → (p : PairParts) × Has ps p × (does_count also known p ≡ true) × (sets_of p ≡ n)
+  pub counting_has : (ps : List PairParts) (n : NumberPair) → Has (counting also known ps) n → (p : PairParts) × Has ps p × (does_count also known p ≡ true) × (only_sets p ≡ n)
   counting_has [] n h = absurd h
   counting_has (p ∷ ps) n h = go (does_count also known p) refl (λ k. let f = counting_has ps n k in (f.0, inr f.1, f.2, f.3)) h
     where
-      go : (b : Bool) → does_count also known p ≡ b → (Has (counting also known ps) n → (r : PairParts) × Has (p ∷ ps) r × (does_count also known r ≡ true) × (sets_of r ≡ n)) → Has (cond b (sets_of p ∷ counting also known ps) (counting also known ps)) n → (r : PairParts) × Has (p ∷ ps) r × (does_count also known r ≡ true) × (sets_of r ≡ n)
+      go : (b : Bool) → does_count also known p ≡ b → (Has (counting also known ps) n → (r : PairParts) × Has (p ∷ ps) r × (does_count also known r ≡ true) × (only_sets r ≡ n)) → Has (cond b (only_sets p ∷ counting also known ps) (counting also known ps)) n → (r : PairParts) × Has (p ∷ ps) r × (does_count also known r ≡ true) × (only_sets r ≡ n)
       go true e later k = ⊎_elim (λ s. (p, inl refl, e, s)) later k
       go false e later k = later k
 
-  pub has_counting : (ps : List PairParts) (p : PairParts) → Has ps p → does_count also known p ≡ true → Has (counting also known ps) (sets_of p)
+  pub has_counting : (ps : List PairParts) (p : PairParts) → Has ps p → does_count also known p ≡ true → Has (counting also known ps) (only_sets p)
   has_counting [] p h e = absurd h
   has_counting (q ∷ ps) p h e = ⊎_elim (λ s. here s) (λ k. later (does_count also known q) (has_counting ps p k e)) h
     where
-      later : (b : Bool) → Has (counting also known ps) (sets_of p) → Has (cond b (sets_of q ∷ counting also known ps) (counting also known ps)) (sets_of p)
+      later : (b : Bool) → Has (counting also known ps) (only_sets p) → Has (cond b (only_sets q ∷ counting also known ps) (counting also known ps)) (only_sets p)
       later true k = inr k
       later false k = k
 
-      here : q ≡ p → Has (cond (does_count also known q) (sets_of q ∷ counting also known ps) (counting also known ps)) (sets_of p)
-      here s = subst (λ z. Has (cond (does_count also known z) (sets_of z ∷ counting also known ps) (counting also known ps)) (sets_of p)) (sym s) (rw e (inl refl))
+      here : q ≡ p → Has (cond (does_count also known q) (only_sets q ∷ counting also known ps) (counting also known ps)) (only_sets p)
+      here s = subst (λ z. Has (cond (does_count also known z) (only_sets z ∷ counting also known ps) (counting also known ps)) (only_sets p)) (sym s) (rw e (inl refl))
 
   pub counting_below : (n : ℕ) (ps : List PairParts) → ((p : PairParts) → Has ps p → (are_below n p.left ≡ true) × (are_below n p.right ≡ true)) → ArePairsBelow n (counting also known ps)
   counting_below n ps numbers m h =
@@ -49,8 +49,8 @@ module _ (also : Bool) (known : List Truth) where
       subst (λ (p : NumberPair). (are_below n p.left ≡ true) × (are_below n p.right ≡ true)) f.3 (numbers f.0 f.1)
 
   -- without tests all pairs count
-  pub counting_all : (ps : List PairParts) → ((p : PairParts) → Has ps p → p.test ≡ None) → counting also known ps ≡ map sets_of ps
+  pub counting_all : (ps : List PairParts) → ((p : PairParts) → Has ps p → p.test ≡ None) → counting also known ps ≡ map only_sets ps
   counting_all [] untested = refl
   counting_all (p ∷ ps) untested =
       let on : does_count also known p ≡ true = ap (λ (o : Option ℕ). may_be also (known_test known o)) (untested p (inl refl)) in
-      rw on (ap (λ (ns : List NumberPair). sets_of p ∷ ns) (counting_all ps (λ q h. untested q (inr h))))
+      rw on (ap (λ (ns : List NumberPair). only_sets p ∷ ns) (counting_all ps (λ q h. untested q (inr h))))

@@ -20,7 +20,7 @@ use Rattle.kat_model.proofs.Places.{has_at}
 use Rattle.term_nodes.proofs.TermTrees.{one_id_a_tree}
 use Rattle.certificate.specs.declared.nodes.Style.{Style}
 use Rattle.certificate.specs.declared.nodes.Style.TheVariants.{Plain, UpTo, Under}
-use Rattle.certificate.specs.PairParts.{PairParts, sets_of}
+use Rattle.certificate.specs.PairParts.{PairParts, only_sets}
 use Rattle.certificate.specs.Certs.{CertParts, IsPairOf, HasItsTest, nodes_of}
 use Rattle.certificate.specs.Accepted.{set_pairs, test_of, tested_pair_of, tested_pairs}
 use Rattle.cert_steps.specs.NodeTables.{TableParts, AreTables, TablesGrow, IsTest, IsTerm, HasValues, term_at, holds_at, nodes_in}
@@ -166,10 +166,10 @@ module _ (q : ProblemParts) (c : CertParts) (p : PairParts) (first : slice_get c
       go (r ∷ rs) e = let same : r ≡ p = cc in (rs, ap (λ (z : PairParts). z ∷ rs) same)
 
   abbrev other_sets : List SetPair
-  other_sets = map (λ (n : NumberPair). record { left = terms_of (nodes_of c) n.left; right = terms_of (nodes_of c) n.right }) (map sets_of rest.0)
+  other_sets = map (λ (n : NumberPair). record { left = terms_of (nodes_of c) n.left; right = terms_of (nodes_of c) n.right }) (map only_sets rest.0)
 
   sets_split : set_pairs c ≡ record { left = terms_of (nodes_of c) p.left; right = terms_of (nodes_of c) p.right } ∷ other_sets
-  sets_split = ap (λ (ps : List PairParts). map (λ (n : NumberPair). record { left = terms_of (nodes_of c) n.left; right = terms_of (nodes_of c) n.right }) (map sets_of ps)) rest.1
+  sets_split = ap (λ (ps : List PairParts). map (λ (n : NumberPair). record { left = terms_of (nodes_of c) n.left; right = terms_of (nodes_of c) n.right }) (map only_sets ps)) rest.1
 
   tested_split : tested_pairs c ≡ tested_pair_of (nodes_of c) p ∷ map (tested_pair_of (nodes_of c)) rest.0
   tested_split = ap (map (tested_pair_of (nodes_of c))) rest.1

@@ -12,7 +12,7 @@ use Rattle.kat_model.proofs.Lists.{has_map, map_has}
 use Rattle.term_nodes.specs.NumberSets.{NumberPair, terms_of}
 use Rattle.certificate.specs.declared.nodes.Style.{Style}
 use Rattle.certificate.specs.declared.nodes.Style.TheVariants.{Plain, UpTo, Under}
-use Rattle.certificate.specs.PairParts.{sets_of}
+use Rattle.certificate.specs.PairParts.{only_sets}
 use Rattle.term_nodes.specs.declared.TestNode.TheVariants.{Prim}
 use Rattle.term_nodes.specs.declared.TermNode.TheVariants.{Act}
 use Rattle.certificate.specs.Certs.{CertParts, nodes_of, number_pairs}
@@ -103,7 +103,7 @@ module _ (q : ProblemParts) (c : CertParts) where
             tested : (s : SetPair) → Has (set_pairs c) s → (p : TestedPair) × Has (tested_pairs c) p × (p.sets ≡ s)
             tested s h =
                 let n = has_map (λ (n : NumberPair). record { left = terms_of (nodes_of c) n.left; right = terms_of (nodes_of c) n.right }) (number_pairs c) s h in
-                let m = has_map sets_of c.pairs n.0 n.1 in
+                let m = has_map only_sets c.pairs n.0 n.1 in
                 (tested_pair_of (nodes_of c) m.0, map_has (tested_pair_of (nodes_of c)) c.pairs m.0 m.1, ap (λ (n : NumberPair). record { left = terms_of (nodes_of c) n.left; right = terms_of (nodes_of c) n.right }) m.2 ∙ n.2)
 
             by_style : (s : Style) → Begins s q c → ((p : TestedPair) → Has (tested_pairs c) p → (atom : Atom) → length atom ≡ q.tests → OutputsHold s q p atom)

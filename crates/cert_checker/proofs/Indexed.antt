@@ -17,7 +17,7 @@ use Rattle.kat_model.proofs.Numbers.{below_next}
 use Rattle.kat_model.proofs.Lists.{has_left, has_right, has_append, has_any, any_has}
 use Rattle.kat_model.proofs.Places.{has_at, place_of_member}
 use Rattle.term_nodes.specs.NumberSets.{NumberPair}
-use Rattle.certificate.specs.PairParts.{PairParts, sets_of}
+use Rattle.certificate.specs.PairParts.{PairParts, only_sets}
 use Rattle.cert_checker.specs.declared.known.Truth.{Truth}
 use Rattle.cert_checker.specs.Working.Indices.{IndexParts, places_under, places_by, KeepsPlaces, AreIndexedTo, AreIndexed}
 use Rattle.cert_checker.specs.Working.Matching.{does_count, counting, lists}
@@ -130,7 +130,7 @@ module _ (ps : List PairParts) (also : Bool) (known : List Truth) (ks ls : List 
 
   pub one_listed : (j : ℕ) (p : PairParts) → slice_get ps j ≡ Some p → does_count also known p ≡ true → pointwise nat_eq p.left ks ≡ true → pointwise nat_eq p.right ls ≡ true → lists (counting also known ps) ks ls ≡ true
   one_listed j p at on left right =
-      any_has (λ (n : NumberPair). pointwise nat_eq n.left ks && pointwise nat_eq n.right ls) (counting also known ps) (sets_of p) (has_counting also known ps p (has_at ps j p at) on) (and_from (pointwise nat_eq p.left ks) (pointwise nat_eq p.right ls) left right)
+      any_has (λ (n : NumberPair). pointwise nat_eq n.left ks && pointwise nat_eq n.right ls) (counting also known ps) (only_sets p) (has_counting also known ps p (has_at ps j p at) on) (and_from (pointwise nat_eq p.left ks) (pointwise nat_eq p.right ls) left right)
 
   -- the search checked all places at which the pair can be listed
   pub none_listed : (x : IndexParts) (places : List ℕ) → AreIndexed x ps → ((j : ℕ) → Has (places_by x ks) j → Has (places_by x ls) j → Has places j) → ((j : ℕ) → Has places j → IsOther j) → lists (counting also known ps) ks ls ≡ false

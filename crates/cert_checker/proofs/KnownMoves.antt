@@ -13,7 +13,7 @@ use Rattle.kat_model.proofs.Lists.{has_any, has_map, map_has, has_append}
 use Rattle.kat_model.proofs.Places.{has_at}
 use Rattle.kat_model.proofs.PairsUnderTests.{has_pairs_at, pairs_at_has}
 use Rattle.term_nodes.specs.NumberSets.{NumberPair, set_pairs_of, terms_of}
-use Rattle.certificate.specs.PairParts.{PairParts, sets_of}
+use Rattle.certificate.specs.PairParts.{PairParts, only_sets}
 use Rattle.certificate.specs.Accepted.{tested_pair_of}
 use Rattle.cert_steps.specs.NodeTables.{TableParts, holds_at, nodes_in}
 use Rattle.cert_checker.specs.declared.known.TestCase.{TestCase}
@@ -148,7 +148,7 @@ module _ (t : TableParts) (first : ℕ) (decided : List (Option Bool)) (known : 
         let counts = true_may_be also (known_test known m.0.test) (⊎_elim inl (λ z. inr (z m.0 m.1)) settled) (λ e. true≢false (sym holds ∙ test_value m.0.test (told m.0 m.1) false e)) in
         let same : (tested_pair_of (nodes_in t) m.0).sets ≡ s = ap (λ (p : TestedPair). p.sets) m.2 ∙ k.3 in
         subst (Has (set_pairs_of (nodes_in t) (counting also known ps))) same
-        (map_has (λ (p : NumberPair). record { left = terms_of (nodes_in t) p.left; right = terms_of (nodes_in t) p.right }) (counting also known ps) (sets_of m.0) (has_counting also known ps m.0 m.1 counts))
+        (map_has (λ (p : NumberPair). record { left = terms_of (nodes_in t) p.left; right = terms_of (nodes_in t) p.right }) (counting also known ps) (only_sets m.0) (has_counting also known ps m.0 m.1 counts))
 
 -- known values at two atoms give what is known of the move
 module _ (t : TableParts) (q : QuestionParts) (c : TestCase) (atom to : Atom) (own : (b : Bool) → known_test c.begin.items q.pair_test ≡ Known b → test_holds t q.pair_test atom ≡ b)

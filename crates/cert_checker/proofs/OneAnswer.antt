@@ -30,7 +30,7 @@ use Rattle.certificate.specs.declared.evidence.Evidence.TheVariants.{Equal, Diff
 use Rattle.certificate.specs.declared.nodes.Style.{Style}
 use Rattle.certificate.specs.declared.nodes.Style.TheVariants.{Plain, UpTo, Under}
 use Rattle.certificate.specs.Accepted.{IsAccepted, ShowsSame, set_pairs, tested_pair_of, tested_pairs}
-use Rattle.certificate.specs.PairParts.{sets_of}
+use Rattle.certificate.specs.PairParts.{only_sets}
 use Rattle.cert_checker.specs.declared.answer.Reason.{Reason}
 use Rattle.cert_checker.specs.declared.answer.Reason.TheVariants.{FirstPair, Output, Missing, MissingTo, Shape, HypBroken, EndsAgree, TestNode, TermNode}
 use Rattle.cert_checker.specs.declared.answer.Answer.TheVariants.{Accepted, Rejected}
@@ -174,7 +174,7 @@ module _ (q : ProblemParts) (c : CertParts) where
   among : (p : TestedPair) → Has (tested_pairs c) p → Has (set_pairs c) p.sets
   among p h =
       let m = has_map (tested_pair_of (nodes_of c)) c.pairs p h in
-      subst (Has (set_pairs c)) (ap (λ (z : TestedPair). z.sets) m.2) (map_has (λ (n : NumberPair). record { left = terms_of (nodes_of c) n.left; right = terms_of (nodes_of c) n.right }) (number_pairs c) (sets_of m.0) (map_has sets_of c.pairs m.0 m.1))
+      subst (Has (set_pairs c)) (ap (λ (z : TestedPair). z.sets) m.2) (map_has (λ (n : NumberPair). record { left = terms_of (nodes_of c) n.left; right = terms_of (nodes_of c) n.right }) (number_pairs c) (only_sets m.0) (map_has only_sets c.pairs m.0 m.1))
 
   shown_begins : (s : Style) → ShowsSame s q c → Begins s q c
   shown_begins Plain a = (a.rest, a.first)

@@ -18,7 +18,7 @@ use Rattle.term_nodes.proofs.Parts.{below_more}
 use Rattle.term_nodes.proofs.Prefixes.{IsPrefix-within}
 use Rattle.certificate.specs.declared.nodes.Style.{Style}
 use Rattle.certificate.specs.declared.nodes.Style.TheVariants.{Plain, UpTo, Under}
-use Rattle.certificate.specs.PairParts.{PairParts, sets_of}
+use Rattle.certificate.specs.PairParts.{PairParts, only_sets}
 use Rattle.certificate.specs.Certs.{CertParts, IsCert, IsPairOf, HasItsTest, nodes_of, number_pairs}
 use Rattle.certificate.specs.Accepted.{set_pairs, test_of, tested_pair_of, tested_pairs}
 use Rattle.cert_steps.specs.NodeTables.{TableParts, TablesGrow, IsTest, tables_of, term_at, nodes_in}
@@ -64,17 +64,17 @@ module _ (q : ProblemParts) (c : CertParts) (rules : IsCert c) (t : TableParts) 
   pub sets_kept : set_pairs_of (nodes_in t) (number_pairs c) ≡ set_pairs c
   sets_kept = go c.pairs rules.pairs
     where
-      go : (ps : List PairParts) → ((p : PairParts) → Has ps p → IsPairOf c p) → set_pairs_of (nodes_in t) (map sets_of ps) ≡ set_pairs_of (nodes_of c) (map sets_of ps)
+      go : (ps : List PairParts) → ((p : PairParts) → Has ps p → IsPairOf c p) → set_pairs_of (nodes_in t) (map only_sets ps) ≡ set_pairs_of (nodes_of c) (map only_sets ps)
       go [] each = refl
       go (p ∷ ps) each = ap₂ (λ (x : SetPair) (xs : List SetPair). x ∷ xs) (λ i. (pair_kept p (each p (inl refl)) i).sets) (go ps (λ r h. each r (inr h)))
 
 -- without tests all listed pairs count at each atom
-untested_all : (nodes : NodeParts) (ps : List PairParts) (atom : Atom) → ((p : PairParts) → Has ps p → p.test ≡ None) → pairs_at (map (tested_pair_of nodes) ps) atom ≡ set_pairs_of nodes (map sets_of ps)
+untested_all : (nodes : NodeParts) (ps : List PairParts) (atom : Atom) → ((p : PairParts) → Has ps p → p.test ≡ None) → pairs_at (map (tested_pair_of nodes) ps) atom ≡ set_pairs_of nodes (map only_sets ps)
 untested_all nodes [] atom none = refl
 untested_all nodes (p ∷ ps) atom none = go p.test (none p (inl refl)) (untested_all nodes ps atom (λ r h. none r (inr h)))
   where
-    go : (o : Option ℕ) → o ≡ None → pairs_at (map (tested_pair_of nodes) ps) atom ≡ set_pairs_of nodes (map sets_of ps)
-        → pairs_at (record { sets = record { left = terms_of nodes p.left; right = terms_of nodes p.right }; test = test_of nodes o } ∷ map (tested_pair_of nodes) ps) atom ≡ record { left = terms_of nodes p.left; right = terms_of nodes p.right } ∷ set_pairs_of nodes (map sets_of ps)
+    go : (o : Option ℕ) → o ≡ None → pairs_at (map (tested_pair_of nodes) ps) atom ≡ set_pairs_of nodes (map only_sets ps)
+        → pairs_at (record { sets = record { left = terms_of nodes p.left; right = terms_of nodes p.right }; test = test_of nodes o } ∷ map (tested_pair_of nodes) ps) atom ≡ record { left = terms_of nodes p.left; right = terms_of nodes p.right } ∷ set_pairs_of nodes (map only_sets ps)
     go None e rest = ap (λ l. record { left = terms_of nodes p.left; right = terms_of nodes p.right } ∷ l) rest
     go (Some k) e rest = absurd cc
 

@@ -2,7 +2,7 @@
 use Rattle.std.proofs.Common.{◌≡◌, ◌↔◌, ℕ, List, length, refl, sym, ◌∙◌, subst, Bool, true}
 use Rattle.kat_model.specs.Trees.{Term}
 use Rattle.kat_model.specs.Members.{Has, IsSubset}
-use Rattle.kat_model.specs.Pairs.{SetPair, holds, sat}
+use Rattle.kat_model.specs.Pairs.{SetPair, has_term, sat}
 use Rattle.kat_model.proofs.Saturation.{Each, Respects, sat_keeps, sat_each}
 use Rattle.kat_model.proofs.SaturationEnds.{sat_closed}
 use Rattle.kat_model.proofs.Lists.{has_map, map_has}
@@ -19,7 +19,7 @@ terms_pair t p = record { left = terms_of (nodes_in t) p.left; right = terms_of 
 
 -- the numbers of the terms of a set, and the terms whose numbers are all in a set
 abbrev numbers_in : TableParts → List Term → ℕ → Bool
-numbers_in t es k = holds es (term_at t k)
+numbers_in t es k = has_term es (term_at t k)
 
 abbrev IsIn : TableParts → (ℕ → Bool) → Term → Type 0
 IsIn t set x = (k : ℕ) → IsTerm t k → term_at t k ≡ x → set k ≡ true

@@ -10,7 +10,7 @@ use Rattle.kat_model.specs.Members.{Has, IsSubset}
 use Rattle.kat_model.proofs.Lists.{has_left, has_right, has_append, has_any, any_has}
 use Rattle.kat_model.proofs.Places.{has_at, place_of_member, element_at, slice_get-append_some}
 use Rattle.term_nodes.specs.NumberSets.{NumberPair}
-use Rattle.certificate.specs.PairParts.{PairParts, sets_of}
+use Rattle.certificate.specs.PairParts.{PairParts, only_sets}
 use Rattle.cert_checker.specs.declared.known.Truth.{Truth}
 use Rattle.cert_checker.specs.Working.Indices.{IndexParts, places_under, places_by, AreIndexed}
 use Rattle.cert_checker.specs.Working.Reaching.{HoldsAll, IsClosed, AreReached}
@@ -149,7 +149,7 @@ module _ (ps : List PairParts) (also : Bool) (known : List Truth) where
   pair_goes p member on a b c x y = record {
     kept = λ j k e. y.kept j k (x.kept j k e);
     made = λ set closed h.
-        let both = closed (sets_of p) (has_counting also known ps p member on) in
+        let both = closed (only_sets p) (has_counting also known ps p member on) in
         let mid : HoldsAll set b = λ k m. ⊎_elim (h k) (λ o. both.0 (λ i l. h i (o.0 i l)) k o.1) (x.only k m) in
         λ k m. ⊎_elim (mid k) (λ o. both.1 (λ i l. mid i (o.0 i l)) k o.1) (y.only k m);
   }

@@ -8,7 +8,7 @@ use Rattle.kat_model.specs.TestedPairs.{pairs_at}
 use Rattle.kat_model.proofs.Congruence.{congruent_more}
 use Rattle.certificate.specs.declared.nodes.Style.{Style}
 use Rattle.certificate.specs.declared.nodes.Style.TheVariants.{Plain, UpTo, Under}
-use Rattle.certificate.specs.PairParts.{PairParts, sets_of}
+use Rattle.certificate.specs.PairParts.{PairParts, only_sets}
 use Rattle.certificate.specs.Accepted.{tested_pair_of}
 use Rattle.term_nodes.specs.NumberSets.{NumberPair, IsNumberSet, set_pairs_of}
 use Rattle.cert_steps.specs.NodeTables.{TableParts, AreTables, holds_at, term_at, nodes_in}
@@ -89,7 +89,7 @@ module _ (t : TableParts) (are : AreTables t) (q : QuestionParts) (is : IsQuesti
         subst (λ (m : NumberPair). IsNumberSet (length t.terms) m.left × IsNumberSet (length t.terms) m.right) f.3 (is.pairs f.0 f.1)
 
     -- in the plain style all pairs count
-    plain_pairs : q.action_pass.style ≡ Plain → counting false c.end.items q.action_pass.pairs ≡ map sets_of q.action_pass.pairs
+    plain_pairs : q.action_pass.style ≡ Plain → counting false c.end.items q.action_pass.pairs ≡ map only_sets q.action_pass.pairs
     plain_pairs e = counting_all false c.end.items q.action_pass.pairs (is.untested e)
 
     module _ (s : TargetSides) (sides : AreTargetSides c.begin.items q.left q.right s) where
@@ -112,7 +112,7 @@ module _ (t : TableParts) (are : AreTables t) (q : QuestionParts) (is : IsQuesti
           (option_map (term_at t) q.action_pass.universal) (chosen t q.left (take t.width x)) (chosen t q.right (take t.width x)) m)
 
       listed_here : AreSettled c.begin.items q.left → AreSettled c.begin.items q.right → q.action_pass.style ≡ Plain → lists (counting false c.end.items q.action_pass.pairs) s.left.sure.items s.right.sure.items ≡ true
-          → IsListed (set_pairs_of (nodes_in t) (map sets_of q.action_pass.pairs)) (chosen t q.left (take t.width x)) (chosen t q.right (take t.width x))
+          → IsListed (set_pairs_of (nodes_in t) (map only_sets q.action_pass.pairs)) (chosen t q.left (take t.width x)) (chosen t q.right (take t.width x))
       listed_here sl sr plain e =
           subst (λ (ns : List NumberPair). IsListed (set_pairs_of (nodes_in t) ns) (chosen t q.left (take t.width x)) (chosen t q.right (take t.width x))) (plain_pairs plain)
           (listed_holds t are c.begin.items (take t.width x) q.action_pass.universal q.left q.right is.left is.right lefts rights (counting false c.end.items q.action_pass.pairs) sl sr

@@ -17,7 +17,7 @@ use Rattle.certificate.specs.declared.entry.Entry.{Entry}
 use Rattle.certificate.specs.declared.entry.Entry.TheVariants.{TestLine, TermLine, PairLine}
 use Rattle.certificate.specs.declared.evidence.Evidence.{Evidence}
 use Rattle.certificate.specs.declared.evidence.Evidence.TheVariants.{Equal, Different}
-use Rattle.certificate.specs.Texts.{test_name, test_numbers, term_name, term_numbers, last_words, entry_words, bits, bit_words, atom_words, move_words, heading, entries_of, lines_before_end, lines_of, text_of}
+use Rattle.certificate.specs.Texts.{test_name, test_numbers, term_name, term_numbers, last_words, entry_words, atom_bits, bit_words, atom_words, move_words, heading, entries_of, lines_before_end, lines_of, text_of}
 use Rattle.certificate.specs.Laws.{is_plain, IsPlain}
 use Rattle.line_format.specs.Lines.{line_of, text_of_lines}
 use Rattle.line_format.proofs.TextParts.{text-cons}
@@ -100,7 +100,7 @@ entry_plain (PairLine p) = (
       (refl, appended (map decimal p.right) (last_words p.test) (decimals_plain p.right) (last_plain p.test)),
 )
 
-bits_plain : (atom : Atom) → IsPlain (bits atom)
+bits_plain : (atom : Atom) → IsPlain (atom_bits atom)
 bits_plain [] = refl
 bits_plain (true ∷ bs) = bits_plain bs
 bits_plain (false ∷ bs) = bits_plain bs

@@ -12,28 +12,28 @@ use Rattle.kat_model.specs.Strings.{Move}
 use Rattle.line_format.proofs.Words.{IsWord, AreWords, AreLineWords, words_back, line_back, line_lacks, decimals_words}
 use Rattle.line_format.specs.Lines.{line_of, words_of}
 use Rattle.line_format.specs.Numerals.{is_numeral, value_of}
-use Rattle.certificate.specs.Texts.{bits, bit_words, atom_words, move_words}
+use Rattle.certificate.specs.Texts.{atom_bits, bit_words, atom_words, move_words}
 use Rattle.certificate.specs.Forms.{is_bit, bits_of, atom_of_words, first_of_words, first_of, move_after, move_of_words, move_of}
 use Rattle.line_format.proofs.Splits.{LacksByte}
 use Rattle.line_format.proofs.NumeralValues.{numeral_decimal, decimal_numeral}
 use Rattle.line_format.proofs.LineSteps.{named}
 
-bits_word : (atom : Atom) → IsWord (bits atom)
+bits_word : (atom : Atom) → IsWord (atom_bits atom)
 bits_word [] = refl
 bits_word (true ∷ bs) = bits_word bs
 bits_word (false ∷ bs) = bits_word bs
 
-all_are_bits : (atom : Atom) → list_all is_bit (bits atom) ≡ true
+all_are_bits : (atom : Atom) → list_all is_bit (atom_bits atom) ≡ true
 all_are_bits [] = refl
 all_are_bits (true ∷ bs) = all_are_bits bs
 all_are_bits (false ∷ bs) = all_are_bits bs
 
-bits_back : (atom : Atom) → map (λ c. c == 49) (bits atom) ≡ atom
+bits_back : (atom : Atom) → map (λ c. c == 49) (atom_bits atom) ≡ atom
 bits_back [] = refl
 bits_back (true ∷ bs) = ap (λ l. true ∷ l) (bits_back bs)
 bits_back (false ∷ bs) = ap (λ l. false ∷ l) (bits_back bs)
 
-some_bits : (b : Bool) (bs : Atom) → nat_lt 0 (length (bits (b ∷ bs))) ≡ true
+some_bits : (b : Bool) (bs : Atom) → nat_lt 0 (length (atom_bits (b ∷ bs))) ≡ true
 some_bits true bs = grind (arith, nat_tests)
 some_bits false bs = grind (arith, nat_tests)
 
@@ -50,7 +50,7 @@ bit_are_words (b ∷ bs) = (bits_word (b ∷ bs), tt)
 bit_back : (c : ℕ) → is_bit c ≡ true → cond (c == 49) 49 48 ≡ c
 bit_back c e = grind (arith, nat_tests)
 
-word_back : (w : List ℕ) → list_all is_bit w ≡ true → bits (map (λ c. c == 49) w) ≡ w
+word_back : (w : List ℕ) → list_all is_bit w ≡ true → atom_bits (map (λ c. c == 49) w) ≡ w
 word_back [] all = refl
 word_back (c ∷ w) all =
     let parts = and_parts (is_bit c) (list_all is_bit w) all in

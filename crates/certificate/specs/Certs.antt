@@ -5,7 +5,7 @@ use Rattle.term_nodes.specs.declared.TestNode.{TestNode}
 use Rattle.term_nodes.specs.declared.TermNode.{TermNode}
 use Rattle.term_nodes.specs.NodeLists.{NodeParts, AreNodes}
 use Rattle.term_nodes.specs.NumberSets.{NumberPair, IsNumberSet}
-use Rattle.certificate.specs.PairParts.{PairParts, sets_of}
+use Rattle.certificate.specs.PairParts.{PairParts, only_sets}
 use Rattle.certificate.specs.declared.nodes.Style.{Style}
 use Rattle.certificate.specs.declared.nodes.Style.TheVariants.{Plain, UpTo, Under}
 
@@ -25,7 +25,7 @@ nodes_of c = record { tests = c.test_nodes; terms = c.term_nodes }
 
 -- the sets of its pairs
 abbrev pub number_pairs : CertParts → List NumberPair
-number_pairs c = map sets_of c.pairs
+number_pairs c = map only_sets c.pairs
 
 -- in the style with tests, the test of a pair is a test node; in the other styles a pair has no test
 abbrev pub HasItsTest : Style → ℕ → Option ℕ → Type 0

@@ -8,5 +8,5 @@ pub record PairParts : Type 0 where
   pub test : Option ℕ
 
 -- only the sets
-abbrev pub sets_of : PairParts → NumberPair
-sets_of p = record { left = p.left; right = p.right }
+abbrev pub only_sets : PairParts → NumberPair
+only_sets p = record { left = p.left; right = p.right }

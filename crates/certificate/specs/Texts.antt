@@ -76,12 +76,12 @@ entry_numbers (TermLine n) = term_numbers n
 entry_numbers (PairLine p) = p.left ++ (p.right ++ maybe_one p.test)
 
 -- one `0` or `1` for each test, and no word if there are no tests
-abbrev pub bits : Atom → List ℕ
-bits atom = map (λ b. if b then 49 else 48) atom
+abbrev pub atom_bits : Atom → List ℕ
+atom_bits atom = map (λ b. if b then 49 else 48) atom
 
 abbrev pub bit_words : Atom → List (List ℕ)
 bit_words [] = []
-bit_words (b ∷ bs) = bits (b ∷ bs) ∷ []
+bit_words (b ∷ bs) = atom_bits (b ∷ bs) ∷ []
 
 -- the words of the lines of a string
 abbrev pub atom_words : Atom → List (List ℕ)

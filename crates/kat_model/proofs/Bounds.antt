@@ -4,7 +4,7 @@ use Rattle.std.proofs.lemmas.List.{length-map}
 use Rattle.kat_model.specs.Trees.{Term, acts}
 use Rattle.kat_model.specs.Members.{Has, IsSubset, SameMembers}
 use Rattle.kat_model.specs.Steps.{reach}
-use Rattle.kat_model.specs.Pairs.{SetPair, holds, AllDiffer}
+use Rattle.kat_model.specs.Pairs.{SetPair, has_term, AllDiffer}
 use Rattle.kat_model.specs.Guarded.{IsSingle}
 use Rattle.kat_model.specs.Laws.{AreReached, AreSingle}
 use Rattle.kat_model.proofs.Lists.{map_has, same_members_sym, same_members_trans}
@@ -43,14 +43,14 @@ module _ {Y Z : Type 0} (ys : List Y) (zs : List Z) (Left : Y → List Term → 
 -- the key of a set of these terms: which of the terms it contains
 module _ (us : List Term) where
   abbrev HasThese : List Bool → List Term → Type 0
-  HasThese bits es = IsSubset es us × (map (holds es) us ≡ bits)
+  HasThese bits es = IsSubset es us × (map (has_term es) us ≡ bits)
 
-  holds-at : (vs es fs : List Term) (x : Term) → map (holds es) vs ≡ map (holds fs) vs → Has vs x → holds es x ≡ holds fs x
+  holds-at : (vs es fs : List Term) (x : Term) → map (has_term es) vs ≡ map (has_term fs) vs → Has vs x → has_term es x ≡ has_term fs x
   holds-at [] es fs x e h = absurd h
   holds-at (v ∷ vs) es fs x e h =
-      let first : holds es v ≡ holds fs v = cc in
-      let rest : map (holds es) vs ≡ map (holds fs) vs = cc in
-      ⊎_elim (λ s. subst (λ z. holds es z ≡ holds fs z) s first) (λ k. holds-at vs es fs x rest k) h
+      let first : has_term es v ≡ has_term fs v = cc in
+      let rest : map (has_term es) vs ≡ map (has_term fs) vs = cc in
+      ⊎_elim (λ s. subst (λ z. has_term es z ≡ has_term fs z) s first) (λ k. holds-at vs es fs x rest k) h
 
   same_these : (bits : List Bool) (es fs : List Term) → HasThese bits es → HasThese bits fs → SameMembers es fs
   same_these bits es fs h k x =
@@ -62,7 +62,7 @@ module _ (us : List Term) where
   subsets_told : AreTold (all_bits (length us)) HasThese (λ es. IsSubset es us)
   subsets_told =
       record {
-        told = λ es h. (map (holds es) us, subst (λ n. Has (all_bits n) (map (holds es) us)) (length-map us (holds es)) (all_bits_has (map (holds es) us)), (h, refl));
+        told = λ es h. (map (has_term es) us, subst (λ n. Has (all_bits n) (map (has_term es) us)) (length-map us (has_term es)) (all_bits_has (map (has_term es) us)), (h, refl));
         same = same_these;
       }
 

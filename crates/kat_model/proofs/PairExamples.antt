@@ -6,7 +6,7 @@ use Rattle.kat_model.specs.Trees.{Term, one, product, star}
 use Rattle.kat_model.specs.Members.{Has, SameMembers}
 use Rattle.kat_model.specs.Steps.{Atom, set_out, set_next}
 use Rattle.kat_model.specs.Problems.{ProblemParts}
-use Rattle.kat_model.specs.Pairs.{holds, holds_all, SetPair, sat, IsListed, IsCongruent, plain, up_to, AreMatched, IsBisimulation, AreAccepted, AllDiffer}
+use Rattle.kat_model.specs.Pairs.{has_term, holds_all, SetPair, sat, IsListed, IsCongruent, plain, up_to, AreMatched, IsBisimulation, AreAccepted, AllDiffer}
 use Rattle.kat_model.proofs.Examples.{p, q}
 
 abbrev once : Term
@@ -32,10 +32,10 @@ next_right atom = refl
 
 -- membership in a set
 
-holds_example : holds (once ∷ twice ∷ []) twice ≡ true
+holds_example : has_term (once ∷ twice ∷ []) twice ≡ true
 holds_example = refl
 
-holds_other : holds (once ∷ twice ∷ []) p ≡ false
+holds_other : has_term (once ∷ twice ∷ []) p ≡ false
 holds_other = refl
 
 holds_all_example : holds_all (once ∷ twice ∷ []) (twice ∷ twice ∷ []) ≡ true

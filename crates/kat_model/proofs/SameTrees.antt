@@ -3,7 +3,7 @@ use Rattle.std.proofs.Common.{◌≡◌, inl, inr, ⊎_elim, List, [], ◌∷◌
 use Rattle.std.proofs.lemmas.Bool.{eqb-true, eq-eqb, and_parts, and_from}
 use Rattle.kat_model.specs.Trees.{TestTree, bottom, top, prim, complement, meet, join, Term, zero, one, test, act, sum, product, star}
 use Rattle.kat_model.specs.Members.{Has, IsSubset}
-use Rattle.kat_model.specs.Pairs.{same_test, same_term, holds, holds_all}
+use Rattle.kat_model.specs.Pairs.{same_test, same_term, has_term, holds_all}
 use Rattle.kat_model.proofs.Lists.{has_any, any_has}
 
 -- `same_test` is true exactly for equal trees
@@ -52,19 +52,19 @@ same_term-itself (product e f) = and_from _ _ (same_term-itself e) (same_term-it
 same_term-itself (star e) = same_term-itself e
 
 -- `holds` finds exactly the members
-pub holds-true : (es : List Term) (e : Term) → holds es e ≡ true → Has es e
+pub holds-true : (es : List Term) (e : Term) → has_term es e ≡ true → Has es e
 holds-true es e h =
     let r = has_any (λ x. same_term x e) es h in
     subst (Has es) (same_term-true r.0 e r.2) r.1
 
-pub has-holds : (es : List Term) (e : Term) → Has es e → holds es e ≡ true
+pub has-holds : (es : List Term) (e : Term) → Has es e → has_term es e ≡ true
 has-holds es e h = any_has (λ x. same_term x e) es e h (same_term-itself e)
 
 -- `holds_all` finds exactly the subsets
 pub holds_all-true : (es fs : List Term) → holds_all es fs ≡ true → IsSubset fs es
 holds_all-true es [] h x k = absurd k
 holds_all-true es (f ∷ fs) h x k =
-    let s = and_parts (holds es f) (holds_all es fs) h in
+    let s = and_parts (has_term es f) (holds_all es fs) h in
     ⊎_elim (λ e. subst (Has es) e (holds-true es f s.0)) (λ l. holds_all-true es fs s.1 x l) k
 
 pub subset-holds_all : (es fs : List Term) → IsSubset fs es → holds_all es fs ≡ true

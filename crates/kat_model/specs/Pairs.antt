@@ -29,12 +29,12 @@ same_term (star e) (star f) = same_term e f
 same_term e f = false
 
 -- whether the set contains the term
-abbrev pub holds : List Term → Term → Bool
-holds es e = list_any (λ x. same_term x e) es
+abbrev pub has_term : List Term → Term → Bool
+has_term es e = list_any (λ x. same_term x e) es
 
 -- whether the set contains all terms of another set
 abbrev pub holds_all : List Term → List Term → Bool
-holds_all es fs = list_all (holds es) fs
+holds_all es fs = list_all (has_term es) fs
 
 -- two sets of terms that should accept the same strings
 pub record SetPair : Type 0 where

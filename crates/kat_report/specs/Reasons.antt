@@ -2,14 +2,14 @@
 use Rattle.std.specs.Prelude.{ℕ, List, [], ◌∷◌, ◌++◌, codes}
 use Rattle.std.specs.Fmt.{decimal}
 use Rattle.kat_model.specs.Steps.{Atom}
-use Rattle.certificate.specs.Texts.{bits}
+use Rattle.certificate.specs.Texts.{atom_bits}
 use Rattle.cert_checker.specs.declared.answer.Reason.{Reason}
 use Rattle.cert_checker.specs.declared.answer.Reason.TheVariants.{FirstPair, Output, Missing, MissingTo, Shape, HypBroken, EndsAgree, TestNode, TermNode}
 
 -- one `0` or `1` for each test, or a dash if there are no tests
 abbrev pub atom_text : Atom → List ℕ
 atom_text [] = codes "-"
-atom_text (b ∷ bs) = bits (b ∷ bs)
+atom_text (b ∷ bs) = atom_bits (b ∷ bs)
 
 -- the word and the numbers of the reason
 abbrev pub reason_text : Reason → List ℕ

@@ -1,7 +1,7 @@
 //! The line with the reason why evidence is rejected.
 ghost use Rattle.std.specs.Prelude.{◌≡◌, ◌++◌, codes, if◌then◌else◌, IfOk, OnOk};
 ghost use Rattle.std.specs.Fmt.{decimal};
-ghost use Rattle.certificate.specs.Texts.{bits};
+ghost use Rattle.certificate.specs.Texts.{atom_bits};
 ghost use Rattle.kat_report.specs.Reasons.{atom_text, reason_text, reason_line, no_string_line};
 
 use crate::writing::{put_numbered, put_word};
@@ -16,7 +16,7 @@ fn bit(value: bool) -> u8
 }
 
 fn put_bits(out: &mut Vec<u8>, atom: &[bool]) -> Result<(), NoMemory>
-    ensures { OnOk result (out.new.items ≡ out.old.items ++ bits atom.now) }
+    ensures { OnOk result (out.new.items ≡ out.old.items ++ atom_bits atom.now) }
 {
     for value in atom {
         out.push(bit(*value))?;

@@ -5,7 +5,7 @@ use Rattle.kat_model.specs.Trees.{TestTree, bottom, top, prim, complement, meet,
 use Rattle.kat_model.specs.Problems.{ProblemParts}
 use Rattle.text_tokens.specs.declared.token.Kind.TheVariants.{Name}
 use Rattle.text_tokens.specs.Kinds.{IsToken}
-use Rattle.text_tokens.specs.Pieces.{Piece, word, number, symbol, gap, AreSeparate}
+use Rattle.text_tokens.specs.Pieces.{Piece, word, numeral, symbol, gap, AreSeparate}
 use Rattle.text_scopes.specs.declared.meaning.Meaning.{Meaning}
 use Rattle.text_scopes.specs.ScopeParts.{ScopeParts}
 use Rattle.text_print.specs.Printing.{cond_of, is_star, in_round, spaced, cond_pieces, test_pieces, term_pieces, TermIsNamed}
@@ -82,7 +82,7 @@ comments_lines (c ∷ cs) ls = remark c ∷ comments_lines cs ls
 
 -- what follows the term of a hypothesis on its line
 abbrev zero_line : List Piece
-zero_line = gap 32 ∷ symbol (codes "=") ∷ gap 32 ∷ number (codes "0") ∷ symbol (codes ";") ∷ []
+zero_line = gap 32 ∷ symbol (codes "=") ∷ gap 32 ∷ numeral (codes "0") ∷ symbol (codes ";") ∷ []
 
 abbrev hyp_line : Term → List Piece
 hyp_line e = word (codes "hyp") ∷ gap 32 ∷ term_pieces plain_name e zero_line

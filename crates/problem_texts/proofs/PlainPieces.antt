@@ -5,7 +5,7 @@ use Rattle.std.specs.Prelude.{codes, flat_map}
 use Rattle.std.specs.List.{range_with_len}
 use Rattle.kat_model.specs.Trees.{Term}
 use Rattle.kat_model.specs.Problems.{ProblemParts}
-use Rattle.text_tokens.specs.Pieces.{Piece, word, number, symbol, gap, spelled, AreSeparate}
+use Rattle.text_tokens.specs.Pieces.{Piece, word, numeral, symbol, gap, spelled, AreSeparate}
 use Rattle.text_tokens.specs.declared.token.Kind.TheVariants.{Name}
 use Rattle.text_tokens.specs.Kinds.{IsToken}
 use Rattle.text_tokens.proofs.Words.{keyword_is_name}
@@ -29,7 +29,7 @@ declaration_pieces keyword (name ∷ names) ps = word keyword ∷ gap 32 ∷ wor
 
 -- the pieces after the term of a hypothesis
 abbrev pub zero_pieces : List Piece → List Piece
-zero_pieces ps = gap 32 ∷ symbol (codes "=") ∷ gap 32 ∷ number (codes "0") ∷ symbol (codes ";") ∷ gap 10 ∷ ps
+zero_pieces ps = gap 32 ∷ symbol (codes "=") ∷ gap 32 ∷ numeral (codes "0") ∷ symbol (codes ";") ∷ gap 10 ∷ ps
 
 abbrev pub hyp_pieces : Term → List Piece → List Piece
 hyp_pieces e ps = word (codes "hyp") ∷ gap 32 ∷ term_pieces plain_name e (zero_pieces ps)

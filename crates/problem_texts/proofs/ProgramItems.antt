@@ -5,7 +5,7 @@ use Rattle.kat_model.specs.declared.limits.TheConstants.{MAX_VARS, MAX_TERM_NODE
 use Rattle.kat_model.specs.Expressions.{CondTree}
 use Rattle.kat_model.specs.declared.expression.Width.{Width}
 use Rattle.kat_model.specs.declared.expression.Width.TheVariants.{W8, W16, W32, W64}
-use Rattle.text_tokens.specs.Pieces.{Piece, word, number, symbol, gap}
+use Rattle.text_tokens.specs.Pieces.{Piece, word, numeral, symbol, gap}
 use Rattle.text_grammar.specs.declared.terminal.Terminal.{Terminal}
 use Rattle.text_grammar.specs.declared.terminal.Terminal.TheVariants.{Name, Number, Keyword, Separator}
 use Rattle.text_grammar.specs.declared.terminal.Keyword.TheVariants as keyword
@@ -45,7 +45,7 @@ Follow s ps P = (at : ℕ) → AreItems s at ps P
 -- ---- the width
 
 width_number_items : (w : Width) (n : ℕ) (text : List ℕ) → number_terminal text ≡ Number n → width_with n ≡ Some w → (at : ℕ) (ps : List Piece) (P : State → Type 0) → Follow (with_width start_one w) ps P
-    → AreItems start_one at (word (codes "width") ∷ gap 32 ∷ number text ∷ symbol (codes ";") ∷ gap 10 ∷ ps) P
+    → AreItems start_one at (word (codes "width") ∷ gap 32 ∷ numeral text ∷ symbol (codes ";") ∷ gap 10 ∷ ps) P
 width_number_items w n text is meant at ps P follow =
     let stop = at + 5 + 1 + length text in
     let rest = follow (stop + 1 + 1) in

@@ -5,7 +5,7 @@ use Rattle.std.specs.List.{range_with_len}
 use Rattle.kat_model.specs.declared.expression.Width.{Width}
 use Rattle.kat_model.specs.declared.expression.Width.TheVariants.{W8, W16, W32, W64}
 use Rattle.kat_model.specs.Expressions.{CondTree}
-use Rattle.text_tokens.specs.Pieces.{Piece, word, number, symbol, gap, spelled, AreSeparate}
+use Rattle.text_tokens.specs.Pieces.{Piece, word, numeral, symbol, gap, spelled, AreSeparate}
 use Rattle.text_tokens.proofs.Words.{word_is_name, keyword_is_name}
 use Rattle.text_scopes.specs.declared.meaning.Meaning.{Meaning}
 use Rattle.text_scopes.specs.declared.meaning.Meaning.TheVariants.{Var}
@@ -36,7 +36,7 @@ bits_text W32 = codes "32"
 bits_text W64 = codes "64"
 
 abbrev pub width_pieces : Width → List Piece → List Piece
-width_pieces w ps = word (codes "width") ∷ gap 32 ∷ number (bits_text w) ∷ symbol (codes ";") ∷ gap 10 ∷ ps
+width_pieces w ps = word (codes "width") ∷ gap 32 ∷ numeral (bits_text w) ∷ symbol (codes ";") ∷ gap 10 ∷ ps
 
 abbrev pub prog_pieces : (Meaning → List ℕ) → List ℕ → ProgTree → List Piece → List Piece
 prog_pieces names name p ps = word (codes "prog") ∷ gap 32 ∷ word name ∷ gap 32 ∷ block_pieces names p (gap 10 ∷ ps)

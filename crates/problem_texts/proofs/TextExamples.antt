@@ -7,7 +7,7 @@ use Rattle.std.specs.Cmp.Lexicographic.{slice_cmp}
 use Rattle.std.specs.FinMap.{get-empty}
 use Rattle.kat_model.specs.Trees.{prim, meet, test, act, product, star as star_term}
 use Rattle.kat_model.specs.Expressions.{named, negation}
-use Rattle.text_tokens.specs.Pieces.{Piece, word, number, symbol, gap, parts_from, AreSeparate}
+use Rattle.text_tokens.specs.Pieces.{Piece, word, numeral, symbol, gap, parts_from, AreSeparate}
 use Rattle.text_tokens.proofs.Words.{word_is_name}
 use Rattle.text_tokens.proofs.Printed.{printed}
 use Rattle.text_grammar.specs.Actions.{context}
@@ -202,7 +202,7 @@ abbrev pb_pieces : List Piece
 pb_pieces =
     word (codes "action") ∷ gap 32 ∷ word (codes "p") ∷ symbol (codes ";") ∷ gap 32 ∷ word (codes "test") ∷ gap 32 ∷ word (codes "b") ∷ symbol (codes ";")
     ∷ gap 32 ∷ word (codes "hyp") ∷ gap 32 ∷ word (codes "p") ∷ symbol (codes ".") ∷ word (codes "b") ∷ gap 32 ∷ symbol (codes "=") ∷ gap 32
-    ∷ number (codes "0") ∷ symbol (codes ";") ∷ gap 32 ∷ word (codes "goal") ∷ gap 32 ∷ word (codes "triple") ∷ gap 32 ∷ symbol (codes "{")
+    ∷ numeral (codes "0") ∷ symbol (codes ";") ∷ gap 32 ∷ word (codes "goal") ∷ gap 32 ∷ word (codes "triple") ∷ gap 32 ∷ symbol (codes "{")
     ∷ word (codes "b") ∷ symbol (codes "}") ∷ gap 32 ∷ word (codes "p") ∷ symbol (codes "*") ∷ gap 32 ∷ symbol (codes "{") ∷ symbol (codes "!")
     ∷ word (codes "b") ∷ symbol (codes "}") ∷ symbol (codes ";") ∷ []
 

@@ -3,7 +3,7 @@
 use Rattle.std.proofs.Common.{◌≡◌, ℕ, ◌+◌, List, [], ◌∷◌, ◌++◌, map, false, true, Ok, Err, refl}
 use Rattle.std.specs.Prelude.{codes}
 use Rattle.text_tokens.specs.declared.fault.TextFault.TheVariants.{Syntax, TooDeep, NumberTooWide}
-use Rattle.text_tokens.specs.Pieces.{Piece, word, number, symbol, gap, parts_from}
+use Rattle.text_tokens.specs.Pieces.{Piece, word, numeral, symbol, gap, parts_from}
 use Rattle.text_grammar.specs.declared.reading.Operator.{Operator}
 use Rattle.text_grammar.specs.declared.reading.Operator.TheVariants.{Add, Subtract, Multiply}
 use Rattle.text_grammar.specs.Lexemes.{Lexeme, lexeme_of}
@@ -37,7 +37,7 @@ unfolding parse_term term_within
 starred_scanned = refl
 
 -- `(b && c) + 1 == 2`: the parenthesis begins an expression, in which `&&` cannot occur
-compared_scanned : scan_cond 0 (lexemes_of (symbol (codes "(") ∷ word (codes "b") ∷ gap 32 ∷ symbol (codes "&&") ∷ gap 32 ∷ word (codes "c") ∷ symbol (codes ")") ∷ gap 32 ∷ symbol (codes "+") ∷ gap 32 ∷ number (codes "1") ∷ gap 32 ∷ symbol (codes "==") ∷ gap 32 ∷ number (codes "2") ∷ [])) ≡ Err (Syntax 3)
+compared_scanned : scan_cond 0 (lexemes_of (symbol (codes "(") ∷ word (codes "b") ∷ gap 32 ∷ symbol (codes "&&") ∷ gap 32 ∷ word (codes "c") ∷ symbol (codes ")") ∷ gap 32 ∷ symbol (codes "+") ∷ gap 32 ∷ numeral (codes "1") ∷ gap 32 ∷ symbol (codes "==") ∷ gap 32 ∷ numeral (codes "2") ∷ [])) ≡ Err (Syntax 3)
 unfolding parse_cond cond_within parse_expr expr_within
 compared_scanned = refl
 
@@ -65,7 +65,7 @@ unended_scanned : scan_expr 0 (lexemes_of (word (codes "x") ∷ symbol (codes "+
 unfolding parse_expr expr_within
 unended_scanned = refl
 
-wide_scanned : scan_expr 0 (lexemes_of (gap 32 ∷ number (codes "18446744073709551616") ∷ [])) ≡ Err (NumberTooWide 1)
+wide_scanned : scan_expr 0 (lexemes_of (gap 32 ∷ numeral (codes "18446744073709551616") ∷ [])) ≡ Err (NumberTooWide 1)
 unfolding parse_expr expr_within
 wide_scanned = refl
 
@@ -85,6 +85,6 @@ grouping = record {
   enclosed = λ e. e;
 }
 
-grouped_to_the_left : parse_expr grouping sums (context 0 false true) (lexemes_of (word (codes "x") ∷ symbol (codes "-") ∷ word (codes "y") ∷ symbol (codes "-") ∷ number (codes "2") ∷ symbol (codes "*") ∷ word (codes "z") ∷ [])) ≡ Ok (codes "((x-y)-(2*z))", [])
+grouped_to_the_left : parse_expr grouping sums (context 0 false true) (lexemes_of (word (codes "x") ∷ symbol (codes "-") ∷ word (codes "y") ∷ symbol (codes "-") ∷ numeral (codes "2") ∷ symbol (codes "*") ∷ word (codes "z") ∷ [])) ≡ Ok (codes "((x-y)-(2*z))", [])
 unfolding parse_expr expr_within
 grouped_to_the_left = refl

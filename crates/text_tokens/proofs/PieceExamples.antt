@@ -4,12 +4,12 @@ use Rattle.std.specs.Prelude.{codes}
 use Rattle.text_tokens.specs.declared.token.Kind.TheVariants.{Name, Number, Symbol}
 use Rattle.text_tokens.specs.TokenParts.{token_parts}
 use Rattle.text_tokens.specs.Lex.{Lexes}
-use Rattle.text_tokens.specs.Pieces.{Piece, word, number, symbol, gap, AreSeparate}
+use Rattle.text_tokens.specs.Pieces.{Piece, word, numeral, symbol, gap, AreSeparate}
 use Rattle.text_tokens.proofs.Printed.{printed}
 use Rattle.text_tokens.proofs.Words.{word_is_name}
 
 abbrev set_x : List Piece
-set_x = word (codes "x") ∷ gap 32 ∷ symbol (codes ":=") ∷ gap 32 ∷ number (codes "12") ∷ symbol (codes ";") ∷ gap 10 ∷ []
+set_x = word (codes "x") ∷ gap 32 ∷ symbol (codes ":=") ∷ gap 32 ∷ numeral (codes "12") ∷ symbol (codes ";") ∷ gap 10 ∷ []
 
 set_x_is_separate : AreSeparate set_x
 set_x_is_separate = (word_is_name (codes "x") refl, refl, (refl, (refl, refl, (refl, (refl, refl, (refl, refl, (refl, tt)))))))

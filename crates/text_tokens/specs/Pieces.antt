@@ -15,8 +15,8 @@ pub data Piece : Type 0 where
 abbrev pub word : List ℕ → Piece
 word bytes = lexeme Name bytes
 
-abbrev pub number : List ℕ → Piece
-number bytes = lexeme Number bytes
+abbrev pub numeral : List ℕ → Piece
+numeral bytes = lexeme Number bytes
 
 abbrev pub symbol : List ℕ → Piece
 symbol bytes = lexeme Symbol bytes

@@ -4,7 +4,7 @@ use Rattle.kat_model.specs.Pairs.{SetPair}
 use Rattle.kat_model.specs.TestedPairs.{sets_of}
 use Rattle.term_nodes.specs.NodeLists.{NodeParts}
 use Rattle.term_nodes.specs.NumberSets.{terms_of, set_pairs_of}
-use Rattle.certificate.specs.PairParts.{PairParts, sets_of as numbers_of_sets}
+use Rattle.certificate.specs.PairParts.{PairParts, only_sets as numbers_of_sets}
 use Rattle.certificate.specs.Certs.{CertParts, nodes_of}
 use Rattle.certificate.specs.Accepted.{set_pairs, tested_pair_of, tested_pairs}
 

@@ -8,7 +8,7 @@ use Rattle.kat_model.specs.Members.{Has, IsSubset, SameMembers}
 use Rattle.kat_model.specs.Problems.{ProblemParts}
 use Rattle.kat_model.specs.Steps.{Atom, reach}
 use Rattle.kat_model.specs.Closed.{closed}
-use Rattle.kat_model.specs.Pairs.{holds}
+use Rattle.kat_model.specs.Pairs.{has_term}
 use Rattle.kat_model.proofs.Places.{place_of_member}
 use Rattle.kat_model.proofs.Reach.{length-reach}
 use Rattle.kat_model.proofs.ReachedPairs.{next_within}
@@ -20,14 +20,14 @@ use Rattle.walk_under.proofs.WalkSteps.{first_entry}
 -- a set is determined by the terms of `us` that it contains
 module _ (us : List Term) where
   abbrev IsToldBy : List Bool → List Term → Type 0
-  IsToldBy bits es = IsSubset es us × (map (holds es) us ≡ bits)
+  IsToldBy bits es = IsSubset es us × (map (has_term es) us ≡ bits)
 
-  holds-at : (vs es fs : List Term) (x : Term) → map (holds es) vs ≡ map (holds fs) vs → Has vs x → holds es x ≡ holds fs x
+  holds-at : (vs es fs : List Term) (x : Term) → map (has_term es) vs ≡ map (has_term fs) vs → Has vs x → has_term es x ≡ has_term fs x
   holds-at [] es fs x e h = absurd h
   holds-at (v ∷ vs) es fs x e h =
-      let first : holds es v ≡ holds fs v = cc in
-      let rest : map (holds es) vs ≡ map (holds fs) vs = cc in
-      ⊎_elim (λ s. subst (λ z. holds es z ≡ holds fs z) s first) (λ k. holds-at vs es fs x rest k) h
+      let first : has_term es v ≡ has_term fs v = cc in
+      let rest : map (has_term es) vs ≡ map (has_term fs) vs = cc in
+      ⊎_elim (λ s. subst (λ z. has_term es z ≡ has_term fs z) s first) (λ k. holds-at vs es fs x rest k) h
 
   told_same : (bits : List Bool) (es fs : List Term) → IsToldBy bits es → IsToldBy bits fs → SameMembers es fs
   told_same bits es fs h k x =
@@ -37,7 +37,7 @@ module _ (us : List Term) where
       )
 
   told : (es : List Term) → IsSubset es us → (bits : List Bool) × Has (all_bits (length us)) bits × IsToldBy bits es
-  told es within = (map (holds es) us, subst (λ n. Has (all_bits n) (map (holds es) us)) (length-map us (holds es)) (all_bits_has (map (holds es) us)), (within, refl))
+  told es within = (map (has_term es) us, subst (λ n. Has (all_bits n) (map (has_term es) us)) (length-map us (has_term es)) (all_bits_has (map (has_term es) us)), (within, refl))
 
 -- the key of an entry: two sets and an atom
 abbrev Key : Type 0

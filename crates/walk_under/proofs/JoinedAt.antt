@@ -8,7 +8,7 @@ use Rattle.kat_model.specs.Members.{Has, IsSubset, SameMembers}
 use Rattle.kat_model.specs.Steps.{Atom}
 use Rattle.kat_model.specs.Problems.{ProblemParts}
 use Rattle.kat_model.specs.Closed.{closed}
-use Rattle.kat_model.specs.Pairs.{SetPair, sat, holds, IsCongruent}
+use Rattle.kat_model.specs.Pairs.{SetPair, sat, has_term, IsCongruent}
 use Rattle.kat_model.proofs.Lists.{has_map, map_has}
 use Rattle.kat_model.proofs.SameTrees.{holds-true, has-holds}
 use Rattle.kat_model.proofs.Saturation.{sat_keeps}
@@ -81,7 +81,7 @@ module _ (q : ProblemParts) (store : NodeParts) (d : DiagramsParts) (es : List E
 
     -- whether the closure has the term of the id
     abbrev is_made : ℕ → Bool
-    is_made i = holds made (tree_at store i)
+    is_made i = has_term made (tree_at store i)
 
     all_made : (ids : List ℕ) → AllHold is_made ids → IsSubset (terms_of store ids) made
     all_made ids all x h = let f = has_map (tree_at store) ids x h in subst (Has made) f.2 (holds-true made (tree_at store f.0) (all f.0 f.1))

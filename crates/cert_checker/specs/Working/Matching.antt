@@ -10,7 +10,7 @@ use Rattle.kat_model.specs.Members.{Has}
 use Rattle.certificate.specs.declared.nodes.Style.{Style}
 use Rattle.certificate.specs.declared.nodes.Style.TheVariants.{Plain, UpTo, Under}
 use Rattle.term_nodes.specs.NumberSets.{NumberPair}
-use Rattle.certificate.specs.PairParts.{PairParts, sets_of}
+use Rattle.certificate.specs.PairParts.{PairParts, only_sets}
 use Rattle.cert_steps.specs.Targets.{guard_of}
 use Rattle.cert_checker.specs.Working.Cases.{known_of, known_test, known_and, truly, falsely}
 use Rattle.cert_checker.specs.Working.Reaching.{AreReached, IsReachedByBoth}
@@ -54,7 +54,7 @@ does_count also known p = may_be also (known_test known p.test)
 -- the sets of the pairs whose test is true, or may be
 abbrev pub counting : Bool → List Truth → List PairParts → List NumberPair
 counting also known [] = []
-counting also known (p ∷ ps) = if does_count also known p then sets_of p ∷ counting also known ps else counting also known ps
+counting also known (p ∷ ps) = if does_count also known p then only_sets p ∷ counting also known ps else counting also known ps
 
 -- whether some pair has exactly these numbers
 abbrev pub lists : List NumberPair → List ℕ → List ℕ → Bool

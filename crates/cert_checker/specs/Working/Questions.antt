@@ -10,7 +10,7 @@ use Rattle.certificate.specs.declared.nodes.Style.{Style}
 use Rattle.certificate.specs.declared.nodes.Style.TheVariants.{Plain, UpTo, Under}
 use Rattle.term_nodes.specs.NodeLists.{NodeParts}
 use Rattle.term_nodes.specs.NumberSets.{set_pairs_of, IsNumberSet}
-use Rattle.certificate.specs.PairParts.{PairParts, sets_of}
+use Rattle.certificate.specs.PairParts.{PairParts, only_sets}
 use Rattle.certificate.specs.Accepted.{test_of, tested_pair_of}
 use Rattle.cert_steps.specs.NodeTables.{TableParts, AreTables, IsTest, IsTerm, term_at, holds_at, nodes_in}
 use Rattle.cert_steps.specs.Targets.{AreEntries, chosen}
@@ -112,7 +112,7 @@ pub record Counts (t : TableParts) (q : QuestionParts) (atom to : Atom) : Type 0
 -- these pairs match two sets of terms in a style; in the styles up to congruence only the pairs whose test is true at
 -- the atom count
 abbrev pub AreMatchedIn : NodeParts → Style → Option Term → List PairParts → List Term → List Term → Atom → Type 0
-AreMatchedIn nodes Plain u ps es fs to = AreMatched plain u (set_pairs_of nodes (map sets_of ps)) es fs
+AreMatchedIn nodes Plain u ps es fs to = AreMatched plain u (set_pairs_of nodes (map only_sets ps)) es fs
 AreMatchedIn nodes UpTo u ps es fs to = IsCongruent u (pairs_at (map (tested_pair_of nodes) ps) to) es fs
 AreMatchedIn nodes Under u ps es fs to = IsCongruent u (pairs_at (map (tested_pair_of nodes) ps) to) es fs
 
