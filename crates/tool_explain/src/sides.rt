@@ -5,9 +5,9 @@ ghost use Rattle.tool_explain.specs.Differences.{IsNameOfProg, IsListed, IsSideN
 
 use crate::writing::{put, put_numbered};
 use abstraction::{Abstract, flow_of};
+use file_parts::{File, Goal, Side};
 use kat_model::NoMemory;
 use kat_report::put_path;
-use file_parts::{File, Goal, Side};
 use std::alloc::Global;
 use string_tables::GString;
 use while_lang::Prog;

@@ -12,9 +12,9 @@ ghost use Rattle.tool_inputs.specs.ReplySpecs.{RepliesWith, KeepsFaultCount};
 use crate::getting::file_text;
 use crate::reply::{EarlyEnd, Reply, into_reply};
 use crate::text_problem::file_of;
+use file_parts::File;
 use kat_io::Shelf;
 use kat_model::NoMemory;
-use file_parts::File;
 use std::alloc::Global;
 
 /// A command on the file that a text is read as, with the words after its file. `steps` are its possible replies to

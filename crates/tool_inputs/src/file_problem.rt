@@ -10,9 +10,9 @@ ghost use Rattle.tool_inputs.specs.ReplySpecs.{Yields, EndsWith, IsQuestionOf};
 
 use crate::reply::{EarlyEnd, Reply};
 use abstraction::{Abstract, AbstractFault, abstracted, abstracted_for};
+use file_parts::{File, Goal};
 use kat_model::{NoMemory, Problem};
 use kat_report::abstract_fault_line;
-use file_parts::{File, Goal};
 use std::alloc::Global;
 
 // Returns the reply to a file that has no abstraction for this reason: a refusal, unless memory ran out.

@@ -6,9 +6,9 @@ ghost use Rattle.optimiser_theory.specs.Meanings.{HasProgInRange};
 ghost use Rattle.tool_optimise.specs.Optimise.{PrintsOptimised, OptimisesFile, OptimiseHeadline, OptimiseReply};
 
 use crate::log_text::optimised_text;
+use file_parts::File;
 use kat_model::NoMemory;
 use optimiser_steps::optimise;
-use file_parts::File;
 use std::alloc::Global;
 use tool_inputs::{EarlyEnd, FileCommand, Reply, reply_to_bytes, unfit_stop};
 use while_lang::Prog;

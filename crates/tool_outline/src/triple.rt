@@ -13,10 +13,10 @@ ghost use Rattle.tool_inputs.specs.ReplySpecs.{EndsWith, Yields};
 ghost use Rattle.tool_outline.specs.Working.FileTriples.{IsSimpleTriple, IsTripleOfFile, AsksNoTask};
 
 use abstraction::{Abstract, flow_of, test_of};
+use file_parts::{File, Goal, Side};
 use hoare_outlines::{Task, not_simple};
 use kat_model::{NoMemory, Problem};
 use kat_report::{not_a_triple_line, not_simple_line};
-use file_parts::{File, Goal, Side};
 use std::alloc::Global;
 use tool_inputs::{EarlyEnd, Reply, TextQuestion, abstract_in, file_of, refusal};
 

@@ -20,10 +20,10 @@ ghost use Rattle.tool_inputs.specs.Steps.{IsRefusal};
 ghost use Rattle.tool_inputs.specs.ReplySpecs.{EndsWith, Yields, RepliesWith};
 
 use crate::counter::counter_name;
+use file_parts::File;
 use kat_model::{NoMemory, Width};
 use kat_report::form_fault_line;
 use one_loop::{OneLoopFault, one_loop};
-use file_parts::File;
 use problem_texts::{declare, one_program_text};
 use std::alloc::Global;
 use text_scopes::{Meaning, Scope};

@@ -6,9 +6,9 @@ ghost use Rattle.file_parts.specs.Files.{FileParts};
 ghost use Rattle.problem_file.specs.Reads.{Reads};
 ghost use Rattle.tool_programs.specs.Running.{outcome_status, HasRun, RunsFile, RunHeadline, RunReply};
 
+use file_parts::File;
 use kat_model::NoMemory;
 use kat_report::outcome_line;
-use file_parts::File;
 use std::alloc::Global;
 use tool_commands::{program_of, store_of};
 use tool_inputs::{EarlyEnd, FileCommand, Reply, reply_to_bytes, unfit_stop};

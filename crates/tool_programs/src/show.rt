@@ -5,9 +5,9 @@ ghost use Rattle.text_scopes.specs.ScopeParts.{IsWellFormed};
 ghost use Rattle.tool_programs.specs.Show.{ShowsFile, ShowHeadline, ShowReply};
 
 use abstraction::Abstract;
+use file_parts::File;
 use kat_model::NoMemory;
 use kat_report::show_text;
-use file_parts::File;
 use std::alloc::Global;
 use tool_inputs::{EarlyEnd, FileCommand, Reply, abstract_in, reply_to_bytes};
 
