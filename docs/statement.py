@@ -6,8 +6,9 @@
     docs/statement.py --check    ends with 1 if the page is not what the sources give, if README.md does not have the
                                  count of the first part, or if that part is longer than a few pages
 
-It follows definitions by name through the `use` lines of the crates' specs/, from the clauses named in PARTS. Each
-definition occurs once, after those that it needs, with its file and line. Each part ends with its counts.
+It follows definitions by name through the `use` lines of the crates' specs/, from the clauses named in PARTS, and the
+constants that they name to the crates' src/. Each definition occurs once, after those that it needs, with its file and
+line. Each part ends with its counts.
 """
 
 import re
@@ -69,6 +70,7 @@ PARTS = [
          clauses=[("kat_tool/src/lib.rt", "run", [])], traits=["kat_io/src/outside.rt"]),
 ]
 
+CONSTANT = re.compile(r"(?m)^((?:///.*\n)*)(pub(?:\(crate\))? const (\w+): [^;]*;)$")
 HEAD = re.compile(r"(?:(?:abbrev|opaque|unfoldable|pub|record|data|mutual)\s+)+(\S+)")
 USE = re.compile(r"(?m)^[ \t]*(?:ghost )?use ([\w.]+?)\.\{([^}]*)\}")
 WORD = re.compile(r"[\s\[\](){},;.λ×]+")
@@ -93,7 +95,7 @@ def words(text):
 
 @dataclass(eq=False)
 class Definition:
-    """A definition of a file of specs/, with the comment over it."""
+    """A definition of a file of specs/, or a constant of src/, with the comment over it."""
 
     module: str
     name: str
@@ -114,6 +116,17 @@ class Specs:
         for path in sorted(TOP.glob("crates/*/specs/**/*.antt")):
             below = path.relative_to(TOP / "crates").with_suffix("").parts
             self.read(path, ".".join(["Rattle", *below]))
+        for path in sorted(TOP.glob("crates/*/src/**/*.rt")):
+            crate, _, *below = path.relative_to(TOP / "crates").with_suffix("").parts
+            self.read_constants(path, ".".join(["Rattle", crate, "specs.declared", *below, "TheConstants"]))
+
+    def read_constants(self, path, module):
+        text = path.read_text()
+        self.imported[module] = {}
+        for constant in CONSTANT.finditer(text):
+            comment, line, name = constant.groups()
+            number = text.count("\n", 0, constant.start(2)) + 1
+            self.found[module, name] = Definition(module, name, path, number, line, [*comment.splitlines(), line])
 
     def read(self, path, module):
         text = path.read_text()
@@ -216,7 +229,7 @@ def traits(path):
 
 def counted(definitions):
     lines = [line for it in definitions for line in it.lines if line.strip()]
-    return len(lines), sum(not line.strip().startswith("--") for line in lines)
+    return len(lines), sum(not line.strip().startswith(("--", "///")) for line in lines)
 
 
 def shown(definitions):
