@@ -66,6 +66,8 @@ CALLS = {
     "under-tests": (["check", "f", "e"],
                     {"f": example("holds/second-test.kat"), "e": example("holds/second-test.under.evidence")}),
     "string": (["replay", "f", "e"], {"f": example("fails/unkept.kat"), "e": example("fails/unkept.evidence")}),
+    "explained": (["explain", "f", "e"],
+                  {"f": example("fails/assignment-hoisted.kat"), "e": example("fails/assignment-hoisted.out")}),
     "shown": (["show", "f"], {"f": example("holds/wrapped-around.kat")}),
     "proof": (["chain", "f", "p"], {"f": example("chains/star-twice.kat"), "p": example("chains/star-twice.proof")}),
     "run": (["run", "f", "gcd", "a=12,b=18", "100"], {"f": example("runs/euclid.kat")}),

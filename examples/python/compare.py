@@ -45,6 +45,8 @@ def others(prover):
     yield "show", prover.show(read(shown.with_suffix(".kat"))) == (0, read(shown))
     replayed, problem = first_of("fails/*.replay")
     yield "replay", prover.replay(read(problem.with_suffix(".kat")), read(replayed.with_suffix(".evidence")))[1] == read(replayed)
+    explained, _ = first_of("fails/*.explain")
+    yield "explain", prover.explain(read(explained.with_suffix(".kat")), read(explained.with_suffix(".out"))) == (0, read(explained))
     proof, problem = first_of("chains/*.proof")
     yield "chain", prover.chain(read(problem.with_suffix(".kat")), read(proof))[1] == read(proof.with_suffix(".out"))
     outline, _ = first_of("outlines/*.kat")

@@ -1,5 +1,5 @@
-//! `check`, `replay` and `chain`.
-ghost use Rattle.std.specs.Prelude.{◌≡◌, ℕ};
+//! `check`, `replay`, `explain` and `chain`.
+ghost use Rattle.std.specs.Prelude.{◌≡◌, ℕ, Ok};
 ghost use Rattle.kat_model.specs.Problems.{ProblemParts};
 ghost use Rattle.kat_model.specs.Expressions.{CondTree};
 ghost use Rattle.kat_model.specs.declared.expression.Width.{Width};
@@ -8,15 +8,17 @@ ghost use Rattle.problem_texts.specs.ProgramTexts.{programs_text, triple_text, A
 ghost use Rattle.file_parts.specs.Files.{FileParts};
 ghost use Rattle.problem_file.specs.Reads.{Reads};
 ghost use Rattle.file_parts.specs.Concrete.{IsConcrete, Agrees};
+ghost use Rattle.abstraction.specs.Abstracts.{AbstractParts, abstract_of};
 ghost use Rattle.tool_inputs.specs.FileProblem.{Asks};
 ghost use Rattle.tool_inputs.specs.StoreAnswers.{AlwaysEndAlike, AlwaysMeets};
 ghost use Rattle.tool_check.specs.Check.{CheckHeadline, CheckReply};
 ghost use Rattle.tool_check.specs.Replay.{ReplayHeadline, ReplayReply};
 ghost use Rattle.tool_check.specs.Chain.{ChainHeadline, ChainReply};
+ghost use Rattle.tool_explain.specs.Explain.{ExplainHeadline, ExplainReply};
 ghost use Rattle.kat_c.specs.CallEnds.{call_end, GivesReply};
 
 use crate::giving::give;
-use kat_tool::{chain_bytes, check_bytes, replay_bytes};
+use kat_tool::{chain_bytes, check_bytes, explain_bytes, replay_bytes};
 use std::alloc::Global;
 
 /// Gives the caller the reply of `kat_tool::check_bytes`.
@@ -55,6 +57,22 @@ pub extern "C" fn kat_replay(
     ensures reply { GivesReply (ReplayReply text.now evidence.now) (call_end out.old out.new needed.new result) }
 {
     give(replay_bytes(alloc, text, evidence), out, needed)
+}
+
+/// Gives the caller the reply of `kat_tool::explain_bytes`.
+#[unsafe(no_mangle)]
+pub extern "C" fn kat_explain(
+    alloc: Global,
+    text: &[u8],
+    evidence: &[u8],
+    out: &mut [u8],
+    needed: &mut usize,
+) -> u8
+    ensures headline { (f : FileParts) (a : AbstractParts) → Reads text.now f → abstract_of f ≡ Ok a
+        → GivesReply (ExplainHeadline evidence.now f a) (call_end out.old out.new needed.new result) }
+    ensures reply { GivesReply (ExplainReply text.now evidence.now) (call_end out.old out.new needed.new result) }
+{
+    give(explain_bytes(alloc, text, evidence), out, needed)
 }
 
 /// Gives the caller the reply of `kat_tool::chain_bytes`.

@@ -1,6 +1,6 @@
 -- The replies of the top call to words.
 use Rattle.std.specs.Prelude.{◌≡◌, ◌⊎◌, ℕ, List, None, Some}
-use Rattle.tool_commands.specs.Commands.{Command, decide, decide_json, show, gkat, batch, check, replay, outline, outline_check, chain, run, oneloop, bench, optimise, command_of}
+use Rattle.tool_commands.specs.Commands.{Command, decide, decide_json, show, gkat, batch, check, replay, explain, outline, outline_check, chain, run, oneloop, bench, optimise, command_of}
 use Rattle.tool_inputs.specs.Contents.{MayContain}
 use Rattle.tool_inputs.specs.FileProblem.{HasProblem}
 use Rattle.tool_inputs.specs.Steps.{ShelfUse, ReplySpec}
@@ -12,6 +12,7 @@ use Rattle.tool_decide.specs.Bench.{BenchReply}
 use Rattle.tool_check.specs.Check.{CheckReply}
 use Rattle.tool_check.specs.Replay.{ReplayReply}
 use Rattle.tool_check.specs.Chain.{ChainReply}
+use Rattle.tool_explain.specs.Explain.{ExplainReply}
 use Rattle.tool_outline.specs.Triples.{PosesSomeTask}
 use Rattle.tool_outline.specs.Outline.{OutlineReply}
 use Rattle.tool_outline.specs.OutlineCheck.{OutlineCheckReply}
@@ -31,6 +32,7 @@ RepliesTo s (gkat file) = OfFile s file GkatReply
 RepliesTo s (batch file) = OfFile s file BatchReply
 RepliesTo s (check file evidence) = OfTwoFiles s file evidence HasProblem CheckReply
 RepliesTo s (replay file evidence) = OfTwoFiles s file evidence HasProblem ReplayReply
+RepliesTo s (explain file evidence) = OfTwoFiles s file evidence HasProblem ExplainReply
 RepliesTo s (outline file) = OfFile s file OutlineReply
 RepliesTo s (outline_check file notes) = OfTwoFiles s file notes PosesSomeTask OutlineCheckReply
 RepliesTo s (chain file proof) = OfTwoFiles s file proof HasProblem ChainReply

@@ -21,6 +21,8 @@ use tool_commands::Command;
 pub use tool_commands::Words;
 pub use tool_decide::{batch_bytes, decide_bytes, decide_json_bytes};
 use tool_decide::{BatchCommand, DecideCommand, DecideJsonCommand, bench_reply};
+use tool_explain::ExplainCommand;
+pub use tool_explain::explain_bytes;
 pub use tool_inputs::Reply;
 use tool_inputs::{EarlyEnd, into_reply, line, reply_to_file, reply_to_files, reply_to_text_file};
 use tool_optimise::OptimiseCommand;
@@ -47,6 +49,7 @@ fn command_reply<S: Shelf>(
         Command::Batch(file) => reply_to_text_file(alloc, &BatchCommand, file, shelf),
         Command::Check(file, other) => reply_to_files(alloc, &CheckCommand, file, other, shelf),
         Command::Replay(file, other) => reply_to_files(alloc, &ReplayCommand, file, other, shelf),
+        Command::Explain(file, other) => reply_to_files(alloc, &ExplainCommand, file, other, shelf),
         Command::Outline(file) => reply_to_text_file(alloc, &OutlineCommand, file, shelf),
         Command::OutlineCheck(file, other) => {
             reply_to_files(alloc, &OutlineCheckCommand, file, other, shelf)

@@ -2,7 +2,7 @@
 use crate::fixtures::{DENESTING, DENESTING_EVIDENCE, STAR_TWICE};
 use kat_model::NoMemory;
 use kat_tool::{
-    Reply, chain_bytes, check_bytes, decide_bytes, optimise_bytes, outline_bytes,
+    Reply, chain_bytes, check_bytes, decide_bytes, explain_bytes, optimise_bytes, outline_bytes,
     outline_check_bytes, replay_bytes, run_bytes, show_bytes,
 };
 use std::alloc::Global;
@@ -12,6 +12,7 @@ enum Call {
     Decide,
     Check,
     Replay,
+    Explain,
     Show,
     Run,
     Optimise,
@@ -26,6 +27,7 @@ fn reply_of(alloc: Global, call: &Call, text: &str, second: &str) -> Result<Repl
         Call::Decide => decide_bytes(alloc, text.as_bytes()),
         Call::Check => check_bytes(alloc, text.as_bytes(), second.as_bytes()),
         Call::Replay => replay_bytes(alloc, text.as_bytes(), second.as_bytes()),
+        Call::Explain => explain_bytes(alloc, text.as_bytes(), second.as_bytes()),
         Call::Show => show_bytes(alloc, text.as_bytes()),
         Call::Run => run_bytes(alloc, text.as_bytes(), "P", second, 0),
         Call::Optimise => optimise_bytes(alloc, text.as_bytes(), "L", 1000),
@@ -111,6 +113,27 @@ const ROWS: &[Row] = &[
         UNKEPT_STRING,
         0,
         "0 t0\na0\n1 !t0\nrefutes: left relates the ends, right does not\n",
+    ),
+    (
+        Call::Explain,
+        UNKEPT,
+        UNKEPT_STRING,
+        0,
+        "0: b\n  p\n1: !b\nbody relates the ends: the precondition holds at 0, the postcondition fails at 1\n",
+    ),
+    (
+        Call::Explain,
+        DENESTING,
+        DENESTING_EVIDENCE,
+        0,
+        "equal: pairs 2, closed under all steps\nhypotheses 0, stated 0\n",
+    ),
+    (
+        Call::Explain,
+        STAR_TWICE,
+        DENESTING_EVIDENCE,
+        3,
+        "rejected: TermNode 1\n",
     ),
     (Call::Show, WRAP_AROUND, "", 0, SHOWN),
     (Call::Run, MIXED, "y=4,x=3", 0, "done x=3 y=4\n"),

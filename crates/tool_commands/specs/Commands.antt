@@ -3,7 +3,7 @@ use Rattle.std.specs.Prelude.{ℕ, ◌^◌, List, [], ◌∷◌, Option, None, S
 use Rattle.std.specs.Option.{option_map}
 use Rattle.std.specs.Str.{bytes_eq}
 use Rattle.tool_commands.specs.declared.words.Command.{Command as Chosen}
-use Rattle.tool_commands.specs.declared.words.Command.TheVariants.{Decide, DecideJson, Show, Batch, Check, Replay, Chain, Run, OneLoop, Bench, Optimise, Gkat, Outline, OutlineCheck}
+use Rattle.tool_commands.specs.declared.words.Command.TheVariants.{Decide, DecideJson, Show, Batch, Check, Replay, Explain, Chain, Run, OneLoop, Bench, Optimise, Gkat, Outline, OutlineCheck}
 use Rattle.tool_commands.specs.declared.words.TheConstants.{DEFAULT_STEPS}
 use Rattle.tool_commands.specs.Numbers.{number_below, count_of}
 
@@ -17,6 +17,7 @@ pub data Command : Type 0 where
   batch : (file : List ℕ) → Command
   check : (file evidence : List ℕ) → Command
   replay : (file evidence : List ℕ) → Command
+  explain : (file evidence : List ℕ) → Command
   outline : (file : List ℕ) → Command
   outline_check : (file notes : List ℕ) → Command
   chain : (file proof : List ℕ) → Command
@@ -34,6 +35,7 @@ command_seen (Gkat file) = gkat file.now
 command_seen (Batch file) = batch file.now
 command_seen (Check file evidence) = check file.now evidence.now
 command_seen (Replay file evidence) = replay file.now evidence.now
+command_seen (Explain file evidence) = explain file.now evidence.now
 command_seen (Outline file) = outline file.now
 command_seen (OutlineCheck file notes) = outline_check file.now notes.now
 command_seen (Chain file proof) = chain file.now proof.now
@@ -66,6 +68,7 @@ unfoldable pub with_value : List ℕ → List ℕ → List ℕ → Option Comman
 with_value name file value =
     if bytes_eq name (codes "check") then Some (check file value)
     else if bytes_eq name (codes "replay") then Some (replay file value)
+    else if bytes_eq name (codes "explain") then Some (explain file value)
     else if bytes_eq name (codes "chain") then Some (chain file value)
     else if bytes_eq name (codes "outline") then Some (outline_check file value)
     else if bytes_eq name (codes "oneloop") then Some (oneloop file value)
@@ -96,6 +99,7 @@ files_of (gkat file) = file ∷ []
 files_of (batch file) = file ∷ []
 files_of (check file evidence) = file ∷ evidence ∷ []
 files_of (replay file evidence) = file ∷ evidence ∷ []
+files_of (explain file evidence) = file ∷ evidence ∷ []
 files_of (outline file) = file ∷ []
 files_of (outline_check file notes) = file ∷ notes ∷ []
 files_of (chain file proof) = file ∷ proof ∷ []

@@ -43,6 +43,8 @@ pub enum Command<'a> {
     Check(&'a str, &'a str),
     /// `replay` FILE EVIDENCE
     Replay(&'a str, &'a str),
+    /// `explain` FILE EVIDENCE
+    Explain(&'a str, &'a str),
     /// `outline` FILE
     Outline(&'a str),
     /// `outline` FILE NOTES
@@ -194,6 +196,7 @@ fn with_value<'a>(name: &str, file: &'a str, value: &'a str) -> Option<Command<'
     match name {
         "check" => Some(Command::Check(file, value)),
         "replay" => Some(Command::Replay(file, value)),
+        "explain" => Some(Command::Explain(file, value)),
         "chain" => Some(Command::Chain(file, value)),
         "outline" => Some(Command::OutlineCheck(file, value)),
         "oneloop" => Some(Command::OneLoop(file, value)),

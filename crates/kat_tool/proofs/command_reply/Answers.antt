@@ -6,6 +6,9 @@ returns-in-Check-clause-replied g c = rw c.in-Check.is c.reply_to_files.ensures.
 pub returns-in-Replay-clause-replied : goal.returns-in-Replay-clause-replied
 returns-in-Replay-clause-replied g c = rw c.in-Replay.is c.reply_to_files-in-Replay.ensures.replied
 
+pub returns-in-Explain-clause-replied : goal.returns-in-Explain-clause-replied
+returns-in-Explain-clause-replied g c = rw c.in-Explain.is c.reply_to_files-in-Explain.ensures.replied
+
 pub returns-in-Run-clause-replied : goal.returns-in-Run-clause-replied
 returns-in-Run-clause-replied g c = rw c.in-Run.is c.reply_to_file-in-Run.ensures.replied
 
