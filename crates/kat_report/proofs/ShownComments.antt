@@ -19,6 +19,7 @@ use Rattle.problem_texts.specs.Questions.{plain_name, tests_text, actions_text, 
 use Rattle.problem_texts.specs.CommentedTexts.{IsComment, comment_text, comments_text, Comments, commented_hyps, commented_text, AreComments, EachAreComments, AreOneLine}
 use Rattle.problem_texts.specs.Laws.{AsksEqual}
 use Rattle.problem_texts.proofs.Comments.{comment_nil, comment_append, comment_chosen, shown_comment, comment_decimal, name_is_comment}
+use Rattle.problem_texts.proofs.PlainNames.{plain_are_names}
 use Rattle.problem_texts.proofs.PlainReadings.{commented_reads_back}
 use Rattle.abstraction.specs.Abstracts.{AbstractParts}
 use Rattle.abstraction.specs.declared.rows.ActionRow.{ActionRow}
@@ -84,14 +85,14 @@ rule_line : (new : Bool) (rule : Rule) → rule_comment new rule ≡ comments_te
 rule_line true rule = simp (append_assoc, append-nil)
 rule_line false rule = refl
 
-hyps_lines : (before : Option Rule) (rules : List Rule) (es : List Term) → length rules ≡ length es → hyps_text before (zip rules es) ≡ commented_hyps (rule_comments before rules) es
+hyps_lines : (before : Option Rule) (rules : List Rule) (es : List Term) → length rules ≡ length es → hyps_text before (zip rules es) ≡ commented_hyps plain_name (rule_comments before rules) es
 hyps_lines before [] [] same = refl
 hyps_lines before [] (e ∷ es) same = absurd (omega (arith, same))
 hyps_lines before (rule ∷ rules) [] same = absurd (omega (arith, same))
 hyps_lines before (rule ∷ rules) (e ∷ es) same =
     ap₂ (λ (l : List ℕ). λ (r : List ℕ). l ++ hyp_text plain_name e ++ r) (rule_line (is_new before rule) rule) (hyps_lines (Some rule) rules es (omega (arith, same)))
 
-pub shown_is_commented : (w : ScopeParts) (a : AbstractParts) → length a.rules ≡ length a.problem.hyps → show_text w a ≡ commented_text (shown_comments w a) a.problem
+pub shown_is_commented : (w : ScopeParts) (a : AbstractParts) → length a.rules ≡ length a.problem.hyps → show_text w a ≡ commented_text plain_name (shown_comments w a) a.problem
 shown_is_commented w a same =
     ap (λ (l : List ℕ). l ++ tests_text a.problem.tests ++ flat_map (action_comment (name_of w)) (enumerate_from 0 a.actions) ++ actions_text a.problem.actions ++ hyps_text None (zip a.rules a.problem.hyps) ++ goal_text plain_name a.problem.left a.problem.right)
     (tests_lines w (enumerate_from 0 a.tests))
@@ -206,8 +207,9 @@ pub shown_reads_back : (w : ScopeParts) (a : AbstractParts) → IsWellFormed w �
 shown_reads_back w a well same problem hyps shallow short =
     let text = shown_is_commented w a same in
     subst (λ (l : List ℕ). AsksEqual l a.problem) (sym text)
-    (commented_reads_back (shown_comments w a) a.problem (record {
+    (commented_reads_back plain_name (shown_comments w a) a.problem (record {
       problem = problem;
+      named = plain_are_names a.problem.tests a.problem.actions (omega (arith, problem.tests)) (omega (arith, problem.actions));
       hyps = hyps;
       shallow = shallow;
       comments = shown_are_lines w well a;

@@ -1,12 +1,15 @@
--- The plainest text that asks a question, with comments before its declarations and its hypotheses.
+-- The text that asks a question, with any names and with comments before its declarations and its hypotheses.
 use Rattle.std.specs.Prelude.{◌≡◌, ◌≤◌, ℕ, List, [], ◌∷◌, ◌++◌, length, true, not, ◌==◌, codes, All, flat_map}
 use Rattle.std.specs.List.{list_all}
 use Rattle.std.specs.Str.{IsUtf8}
 use Rattle.kat_model.specs.declared.limits.TheConstants.{MAX_HYPS, MAX_OPEN, MAX_TEXT_BYTES}
 use Rattle.kat_model.specs.Trees.{Term}
 use Rattle.kat_model.specs.Problems.{ProblemParts, IsProblem}
+use Rattle.text_scopes.specs.declared.meaning.Meaning.{Meaning}
+use Rattle.text_scopes.specs.declared.meaning.Meaning.TheVariants.{Test, Action}
 use Rattle.text_print.specs.Printing.{term_nesting}
-use Rattle.problem_texts.specs.Questions.{plain_name, tests_text, actions_text, hyp_text, goal_text}
+use Rattle.problem_texts.specs.Questions.{hyp_text, goal_text}
+use Rattle.problem_texts.specs.NamedTexts.{names_line, AreNames}
 
 -- the bytes are text in one line
 abbrev pub IsComment : List ℕ → Type 0
@@ -34,14 +37,15 @@ abbrev pub later_comments : List (List (List ℕ)) → List (List (List ℕ))
 later_comments [] = []
 later_comments (c ∷ cs) = cs
 
-abbrev pub commented_hyps : List (List (List ℕ)) → List Term → List ℕ
-commented_hyps cs [] = []
-commented_hyps cs (e ∷ es) = comments_text (first_comments cs) ++ hyp_text plain_name e ++ commented_hyps (later_comments cs) es
+abbrev pub commented_hyps : (Meaning → List ℕ) → List (List (List ℕ)) → List Term → List ℕ
+commented_hyps names cs [] = []
+commented_hyps names cs (e ∷ es) = comments_text (first_comments cs) ++ hyp_text names e ++ commented_hyps names (later_comments cs) es
 
--- the text that asks the question, with comments
-abbrev pub commented_text : Comments → ProblemParts → List ℕ
-commented_text c q =
-    comments_text c.tests ++ tests_text q.tests ++ comments_text c.actions ++ actions_text q.actions ++ commented_hyps c.hyps q.hyps ++ goal_text plain_name q.left q.right
+-- the text that asks the question, with comments, where each meaning has a name
+abbrev pub commented_text : (Meaning → List ℕ) → Comments → ProblemParts → List ℕ
+commented_text names c q =
+    comments_text c.tests ++ names_line (codes "test") names Test q.tests ++ comments_text c.actions ++ names_line (codes "action") names Action q.actions
+    ++ commented_hyps names c.hyps q.hyps ++ goal_text names q.left q.right
 
 abbrev pub AreComments : List (List ℕ) → Type 0
 AreComments [] = Unit {0}
@@ -57,10 +61,12 @@ pub record AreOneLine (c : Comments) : Type 0 where
   pub actions : AreComments c.actions
   pub hyps : EachAreComments c.hyps
 
--- the question is a problem, the comments are lines, and the text with comments is within the limits
-pub record IsCommentedPrintable (c : Comments) (q : ProblemParts) : Type 0 where
+-- the question is a problem whose tests and actions have names, the comments are lines, and the text with comments is
+-- within the limits
+pub record IsCommentedPrintable (names : Meaning → List ℕ) (c : Comments) (q : ProblemParts) : Type 0 where
   pub problem : IsProblem q
+  pub named : AreNames names q.tests q.actions
   pub hyps : length q.hyps ≤ MAX_HYPS
   pub shallow : All (λ e. term_nesting e ≤ MAX_OPEN) (q.left ∷ q.right ∷ q.hyps)
   pub comments : AreOneLine c
-  pub short : length (commented_text c q) ≤ MAX_TEXT_BYTES
+  pub short : length (commented_text names c q) ≤ MAX_TEXT_BYTES

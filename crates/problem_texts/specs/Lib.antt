@@ -1,4 +1,5 @@
 pub mod Questions
+pub mod NamedTexts
 pub mod CommentedTexts
 pub mod NumberedScopes
 pub mod ProgramNumbers

@@ -7,6 +7,7 @@ ghost use Rattle.text_scopes.specs.declared.meaning.Meaning.{Meaning};
 ghost use Rattle.while_lang.specs.Programs.{ProgTree};
 ghost use Rattle.file_parts.specs.Files.{prog_side, equal, triple};
 ghost use Rattle.problem_texts.specs.CommentedTexts.{Comments, commented_text, IsCommentedPrintable};
+ghost use Rattle.problem_texts.specs.NamedTexts.{named_text, IsNamedPrintable};
 ghost use Rattle.problem_texts.specs.Questions.{question_text, IsPrintable};
 ghost use Rattle.problem_texts.specs.ProgramTexts.{one_program_text, programs_text, triple_text, IsOnePrintable, ArePrintable, IsTriplePrintable};
 ghost use Rattle.problem_texts.specs.Laws.{AsksEqual, AsksOfPrograms, SaysProgram};
@@ -16,9 +17,14 @@ pub fn plain_texts_read_back()
     ensures { (q : ProblemParts) → IsPrintable q → AsksEqual (question_text q) q }
 {}
 
-/// The same holds of the text with comments, each a line of text, before its declarations and its hypotheses.
+/// The same holds of the text with any names of the tests and actions: identifiers, of which no two are the same.
+pub fn named_texts_read_back()
+    ensures { (names : Meaning → List ℕ) (q : ProblemParts) → IsNamedPrintable names q → AsksEqual (named_text names q) q }
+{}
+
+/// It also holds with comments, each a line of text, before the declarations and the hypotheses.
 pub fn commented_texts_read_back()
-    ensures { (c : Comments) (q : ProblemParts) → IsCommentedPrintable c q → AsksEqual (commented_text c q) q }
+    ensures { (names : Meaning → List ℕ) (c : Comments) (q : ProblemParts) → IsCommentedPrintable names c q → AsksEqual (commented_text names c q) q }
 {}
 
 /// The plain text of two programs reads back as the goal that they are equal, if it is within the limits of a text. The

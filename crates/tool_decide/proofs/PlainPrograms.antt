@@ -19,7 +19,7 @@ use Rattle.problem_texts.specs.ProgramTexts.{programs_text, triple_text, ArePrin
 use Rattle.problem_texts.specs.Laws.{AsksOfPrograms}
 use Rattle.tool_inputs.specs.TextProblem.{HasNoAbstraction}
 use Rattle.tool_inputs.specs.Steps.{AsksQuestion}
-use Rattle.tool_inputs.specs.StoreAnswers.{AlwaysEndAlike, AlwaysMeets, IsTooLarge, goal_file, programs_abstraction, triple_abstraction, StoreHeadline}
+use Rattle.tool_inputs.specs.StoreAnswers.{AlwaysEndAlike, AlwaysMeets, IsLimitLine, goal_file, programs_abstraction, triple_abstraction, StoreHeadline}
 use Rattle.tool_inputs.specs.Working.Questions.{not_both}
 use Rattle.tool_inputs.proofs.Steps.{one_value, one_line, reads_said}
 use Rattle.tool_inputs.proofs.ProgramSentences.{asks_equal, always_alike, asks_triple, always_met}
@@ -29,15 +29,15 @@ use Rattle.tool_decide.specs.Working.DecideReplies.{text_stores}
 -- ---- a file without an abstraction is too large
 
 -- the error is that of the first exceeded limit, so the goal is too large
-first_error : {X : Type 0} (b c d : Bool) (x : X) (fault : AbstractFault) → (if b then Err TooManyTests else if c then Err TooManyActions else if d then Err ProblemTooLarge else Ok x) ≡ Err fault → IsTooLarge (abstract_fault_line fault)
+first_error : {X : Type 0} (b c d : Bool) (x : X) (fault : AbstractFault) → (if b then Err TooManyTests else if c then Err TooManyActions else if d then Err ProblemTooLarge else Ok x) ≡ Err fault → IsLimitLine (abstract_fault_line fault)
 first_error true c d x fault e = let same : TooManyTests ≡ fault = cc in inl (ap abstract_fault_line (sym same))
 first_error false true d x fault e = let same : TooManyActions ≡ fault = cc in inr (inl (ap abstract_fault_line (sym same)))
 first_error false false true x fault e = let same : ProblemTooLarge ≡ fault = cc in inr (inr (ap abstract_fault_line (sym same)))
 first_error false false false x fault e = absurd cc
 
-too_large : (f : FileParts) (output : List ℕ) → HasNoAbstraction f output → IsTooLarge output
-too_large f output none =
-    subst IsTooLarge (sym none.printed)
+limit_line : (f : FileParts) (output : List ℕ) → HasNoAbstraction f output → IsLimitLine output
+limit_line f output none =
+    subst IsLimitLine (sym none.printed)
     (first_error (nat_lt MAX_TESTS (f.tests + length (first_comparisons f))) (nat_lt MAX_ACTIONS (f.actions + length (file_assignments f)))
     (nat_lt MAX_TERM_NODES (problem_size (file_problem f))) (abstract_parts f) none.fault none.has_none)
 
@@ -94,7 +94,7 @@ module _ (f : FileParts) (Sentence : Type 0) (status : ℕ) (output : List ℕ) 
     different = ((λ one. absurd (omega (arith, one, refusal.0))), (λ h. absurd (not_both (abstract_of f) h.0 refusal.1.fault h.1 refusal.1.has_none)));
     limit = ((λ two. (refusal.1.fault, refusal.1.has_none)), (λ h. refusal.0));
     equal = says;
-    refused = λ two. too_large f output refusal.1;
+    refused = λ two. limit_line f output refusal.1;
     line = λ fault none. refused_line f output refusal.1 fault none;
   }
   question_headline says (inr (a, is, inl d)) = record {

@@ -27,8 +27,8 @@ abbrev pub AlwaysMeets : Width → ℕ → CondTree → ProgTree → CondTree �
 AlwaysMeets w v b p c = (s t : Store) → IsStoreWith w v s → IsStoreWith w v t → holds w s b ≡ true → Ends w p s t → holds w t c ≡ true
 
 -- the line of a goal with too many tests, too many actions, or too many nodes including the derived hypotheses
-abbrev pub IsTooLarge : List ℕ → Type 0
-IsTooLarge output =
+abbrev pub IsLimitLine : List ℕ → Type 0
+IsLimitLine output =
     (output ≡ abstract_fault_line TooManyTests)
     ⊎ ((output ≡ abstract_fault_line TooManyActions)
     ⊎ (output ≡ abstract_fault_line ProblemTooLarge))
@@ -69,5 +69,5 @@ pub record StoreHeadline (abstraction : Result AbstractParts AbstractFault) (Sen
   pub different : (status ≡ 1) ↔ ProblemSatisfies abstraction (λ q. Same q → ⊥)
   pub limit : (status ≡ 2) ↔ ((fault : AbstractFault) × (abstraction ≡ Err fault))
   pub equal : status ≡ 0 → Sentence
-  pub refused : status ≡ 2 → IsTooLarge output
+  pub refused : status ≡ 2 → IsLimitLine output
   pub line : (fault : AbstractFault) → abstraction ≡ Err fault → output ≡ abstract_fault_line fault

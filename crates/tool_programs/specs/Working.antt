@@ -6,5 +6,6 @@ pub mod FormBytes
 pub mod OneLoopReplies
 pub mod NamedPrograms
 pub mod RunReplies
+pub mod GkatNumbers
 pub mod GkatReplies
 pub mod ShowReplies

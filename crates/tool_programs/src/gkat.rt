@@ -1,12 +1,11 @@
 //! `gkat`: replies to a text of GKAT with the problem that it asks, as the text of a problem file.
-ghost use Rattle.std.specs.Prelude.{◌≡◌, ◌++◌, ℕ, List, map, IfOk, OnOk, codes};
-ghost use Rattle.std.specs.List.{range_with_len};
-ghost use Rattle.text_scopes.specs.declared.meaning.Meaning.{Meaning};
+ghost use Rattle.std.specs.Prelude.{◌≡◌, ◌++◌, IfOk, OnOk};
+ghost use Rattle.text_scopes.specs.ScopeParts.{IsWellFormed};
 ghost use Rattle.text_print.specs.Printing.{name_of};
-ghost use Rattle.problem_texts.specs.Questions.{declaration_text};
+ghost use Rattle.problem_texts.specs.NamedTexts.{names_line};
 ghost use Rattle.gkat_front.specs.FileViews.{file_parts};
 ghost use Rattle.gkat_front.specs.Reads.{Reads, FirstFault};
-ghost use Rattle.tool_programs.specs.Gkat.{names_line, gkat_text, GkatHeadline, GkatReply};
+ghost use Rattle.tool_programs.specs.Gkat.{gkat_text, GkatHeadline, GkatReply};
 ghost use Rattle.tool_inputs.specs.TextProblem.{IsFaultOf};
 ghost use Rattle.tool_inputs.specs.Steps.{IsRefusal};
 ghost use Rattle.tool_programs.specs.Working.Kinds.{kind_word, kind_meaning};
@@ -84,6 +83,13 @@ fn translation(alloc: Global, file: &GkatFile) -> Result<Vec<u8>, NoMemory>
     Ok(out)
 }
 
+// Shows that the names of a file are identifiers.
+fn know_names(file: &GkatFile)
+    ensures { IsWellFormed file.now.scope }
+{
+    let _ = file.scope.find("t0");
+}
+
 // Reads a text of GKAT. A text with a first fault is refused with the line of the fault.
 fn file_of(alloc: Global, text: &[u8]) -> Result<GkatFile, EarlyEnd>
     ensures { Yields (λ f. Reads text.now (file_parts f)) (IsRefusal (IsFaultOf (FirstFault text.now))) result }
@@ -105,6 +111,7 @@ impl TextCommand for GkatCommand {
 
     fn text_reply(&self, alloc: Global, text: &[u8]) -> Result<Reply, EarlyEnd> {
         let file = file_of(alloc, text)?;
+        know_names(&file);
         Ok(Reply {
             status: 0,
             output: translation(alloc, &file)?,
@@ -115,8 +122,9 @@ impl TextCommand for GkatCommand {
 }
 
 /// Returns the reply of `gkat` to the bytes of a text of GKAT. The status is 0 exactly when the text is read; then the
-/// output is the text of a problem file that asks the same question over the terms of the expressions. Otherwise it is
-/// 2, with the line of the first fault. Fails only when out of memory.
+/// output is a text with the terms of both expressions. If the terms are within the limit of a problem, and the output is
+/// within the limits of a text, it asks exactly whether they are equal. Otherwise the status is 2, with the line of the
+/// first fault. Fails only when out of memory.
 pub fn gkat_bytes(alloc: Global, text: &[u8]) -> Result<Reply, NoMemory>
     ensures headline { IfOk result (λ r. GkatHeadline text.now r.status r.output.items) }
     ensures reply { IfOk result (λ r. GkatReply text.now r.status r.output.items) }

@@ -1,18 +1,15 @@
--- The scopes of plain texts.
-use Rattle.std.specs.Prelude.{◌≡◌, ◌<◌, ℕ, List}
+-- The scopes of texts of questions.
+use Rattle.std.specs.Prelude.{◌≡◌, ℕ, List}
 use Rattle.text_scopes.specs.declared.meaning.Meaning.{Meaning}
-use Rattle.text_scopes.specs.declared.meaning.Meaning.TheVariants.{Test, Action}
 use Rattle.text_scopes.specs.ScopeParts.{ScopeParts, Means}
 use Rattle.problem_texts.specs.Questions.{plain_name}
-
--- a test or an action whose number is in range
-abbrev pub IsOneOf : ℕ → ℕ → Meaning → Type 0
-IsOneOf tests actions (Test k) = k < tests
-IsOneOf tests actions (Action a) = a < actions
-IsOneOf tests actions _ = ⊥
+use Rattle.problem_texts.specs.NamedTexts.{IsOneOf}
 
 -- the scope declares the names of `tests` tests and `actions` actions, and no others
-pub record IsPlain (w : ScopeParts) (tests actions : ℕ) : Type 0 where
-  pub tests_mean : (k : ℕ) → k < tests → Means w (plain_name (Test k)) (Test k)
-  pub actions_mean : (a : ℕ) → a < actions → Means w (plain_name (Action a)) (Action a)
-  pub names : (name : List ℕ) (m : Meaning) → Means w name m → (name ≡ plain_name m) × IsOneOf tests actions m
+pub record DeclaresNames (names : Meaning → List ℕ) (w : ScopeParts) (tests actions : ℕ) : Type 0 where
+  pub means : (m : Meaning) → IsOneOf tests actions m → Means w (names m) m
+  pub only : (name : List ℕ) (m : Meaning) → Means w name m → (name ≡ names m) × IsOneOf tests actions m
+
+-- the names are the plain ones
+abbrev pub IsPlain : ScopeParts → ℕ → ℕ → Type 0
+IsPlain w tests actions = DeclaresNames plain_name w tests actions

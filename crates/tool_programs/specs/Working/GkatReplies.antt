@@ -1,14 +1,69 @@
 -- The reply of `gkat` satisfies the statement on the text.
-use Rattle.std.proofs.Common.{◌≡◌, ◌⊎◌, ◌<◌, ℕ, List, inl, inr, refl, sym, ◌∙◌, arith}
+use Rattle.std.proofs.Common.{◌≡◌, ◌≤◌, ◌⊎◌, ◌<◌, ℕ, List, [], ◌++◌, length, inl, inr, refl, sym, ap, subst, ◌∙◌, arith}
+use Rattle.std.proofs.lemmas.List.{append-nil}
+use Rattle.std.proofs.lemmas.Option.{same_Some}
+use Rattle.std.specs.Prelude.{codes}
+use Rattle.kat_model.specs.declared.limits.TheConstants.{MAX_TERM_NODES, MAX_TEXT_BYTES}
+use Rattle.kat_model.specs.Problems.{IsProblem, problem_size}
+use Rattle.text_scopes.specs.declared.meaning.Meaning.{Meaning}
+use Rattle.text_scopes.specs.declared.meaning.Meaning.TheVariants.{Test, Action, Var, Term, Prog}
+use Rattle.text_scopes.specs.ScopeParts.{meaning, Means, IsWellFormed}
+use Rattle.text_print.specs.Printing.{name_of}
+use Rattle.text_print.proofs.NameOf.{name_stands}
+use Rattle.problem_texts.specs.Questions.{goal_text}
+use Rattle.problem_texts.specs.NamedTexts.{names_line, named_text, IsOneOf, AreNames}
+use Rattle.problem_texts.specs.Laws.{AsksEqual}
+use Rattle.problem_texts.proofs.PlainReadings.{named_reads_back}
+use Rattle.gkat_terms.specs.Expressions.{kat_of}
 use Rattle.problem_file.specs.FirstFaults.{too_long, no_text}
 use Rattle.gkat_front.specs.Files.{GkatFileParts}
 use Rattle.gkat_front.specs.Reads.{Reads, FirstFault}
 use Rattle.gkat_front.proofs.OneAnswer.{have_one_answer}
 use Rattle.kat_report.specs.InputLines.{too_long_line}
 use Rattle.tool_inputs.specs.TextProblem.{IsFaultOf}
-use Rattle.tool_programs.specs.Gkat.{IsTranslated, TranslatesText, GkatHeadline, GkatReply}
+use Rattle.tool_inputs.specs.FileProblem.{Asks}
+use Rattle.tool_inputs.proofs.EqualGoals.{asks_equal}
+use Rattle.tool_programs.specs.Show.{IsReadable}
+use Rattle.tool_programs.specs.Gkat.{gkat_text, gkat_question, IsTranslated, TranslatesText, GkatHeadline, GkatReply}
+use Rattle.tool_programs.specs.Working.GkatNumbers.{GkatIsNumbered, read_numbered}
 use Rattle.tool_inputs.proofs.Steps.{OneStatus, said_one, faulty_one, read_once, reads_long}
 use Rattle.tool_inputs.proofs.FileReplies.{RefusesLong, HasOneReply}
+
+-- ---- what is printed
+
+module _ (f : GkatFileParts) where
+  -- the text of the question of the file, with its names
+  text_is_named : gkat_text f ≡ named_text (name_of f.scope) (gkat_question f)
+  text_is_named =
+      let names = name_of f.scope in
+      ap (λ (l : List ℕ). l ++ goal_text names (kat_of f.left) (kat_of f.right)) (sym (append-nil (names_line (codes "test") names Test f.tests ++ names_line (codes "action") names Action f.actions)))
+
+  module _ (numbered : GkatIsNumbered f) (well : IsWellFormed f.scope) where
+    names_mean : (m : Meaning) → IsOneOf f.tests f.actions m → Means f.scope (name_of f.scope m) m
+    names_mean (Test k) h = let x = numbered.named_tests k h in name_stands f.scope (Test k) x.0 x.1
+    names_mean (Action k) h = let x = numbered.named_actions k h in name_stands f.scope (Action k) x.0 x.1
+    names_mean (Var k) h = absurd h
+    names_mean (Term k) h = absurd h
+    names_mean (Prog k) h = absurd h
+
+    -- the names of the file are identifiers, and no two are the same
+    file_names : AreNames (name_of f.scope) f.tests f.actions
+    file_names = record {
+      identifiers = λ m h. well.identifiers (name_of f.scope m) m (names_mean m h);
+      apart = λ m n h i e. same_Some m n (sym (names_mean m h) ∙ ap (meaning f.scope) e ∙ names_mean n i);
+    }
+
+-- the text of a file asks its question
+translated_asks : (text : List ℕ) (f : GkatFileParts) (status : ℕ) (output : List ℕ) → Reads text f → IsTranslated f status output → problem_size (gkat_question f) ≤ MAX_TERM_NODES → IsReadable (gkat_question f) output → Asks output (gkat_question f)
+translated_asks text f status output reads translated few within =
+    let q = gkat_question f in
+    let names = name_of f.scope in
+    let numbered = read_numbered text f reads in
+    let problem : IsProblem q = record { tests = numbered.tests; actions = numbered.actions; hyps = tt; left = numbered.left; right = numbered.right; size = few } in
+    let same : output ≡ named_text names q = translated.printed ∙ text_is_named f in
+    let short : length (named_text names q) ≤ MAX_TEXT_BYTES = subst (λ (l : List ℕ). length l ≤ MAX_TEXT_BYTES) same within.short in
+    let read : AsksEqual (named_text names q) q = named_reads_back names q (record { problem = problem; named = file_names f numbered translated.well_formed; hyps = within.hyps; shallow = within.shallow; short = short }) in
+    asks_equal output q problem (subst (λ (l : List ℕ). AsksEqual l q) (sym same) read)
 
 -- ---- the reply to a text
 
@@ -25,7 +80,7 @@ module _ (text : List ℕ) (status : ℕ) (output : List ℕ) where
 
   text_ways : TranslatesText text status output → TextWays
   text_ways (inl r) = inr r
-  text_ways (inr (f, reads, translated)) = inl (translated.0, (f, reads))
+  text_ways (inr (f, reads, translated)) = inl (translated.has_status, (f, reads))
 
   one_of : TextWays → (status ≡ 0) ⊎ (status ≡ 2)
   one_of (inl h) = inl h.0
@@ -44,14 +99,15 @@ module _ (text : List ℕ) (status : ℕ) (output : List ℕ) where
       let ways : TextWays = text_ways r in
       record {
         answers = one_of ways;
-        translated = (at_translated ways, (λ h. (is_translated h.0 h.1 r).0));
-        translated_text = λ f reads. (is_translated f reads r).1;
+        translated = (at_translated ways, (λ h. (is_translated h.0 h.1 r).has_status));
+        translated_text = λ f reads. (is_translated f reads r).printed;
+        asks = λ f reads few within. translated_asks text f status output reads (is_translated f reads r) few within;
         refused = (at_refused ways, (λ h. (is_refused h.0 h.1 r).0));
         refused_line = λ line fault. (is_refused line fault r).1;
       }
 
 translates_once : (text : List ℕ) → OneStatus (TranslatesText text)
-translates_once text = read_once Reads FirstFault have_one_answer text IsTranslated (λ f a b o p x y. x.0 ∙ sym y.0)
+translates_once text = read_once Reads FirstFault have_one_answer text IsTranslated (λ f a b o p x y. x.has_status ∙ sym y.has_status)
 
 -- ---- what the reply says
 

@@ -16,4 +16,4 @@ returns-in_err-file c =
     RepliesWith-weaker (IsRefusal (IsFaultOf (FirstFault text))) (GkatReply text) (λ status output h. gkat_reply text status output (inl h)) c.from_residual.result r
 
 pub returns : goal.returns
-returns c = gkat_reply c.args.text.now 0 c.in_ok-translation.field-0.items (inr (file_parts c.in_ok-file.file, c.in_ok-file.ensures, (refl, c.in_ok-translation.ensures)))
+returns c = gkat_reply c.args.text.now 0 c.in_ok-translation.field-0.items (inr (file_parts c.in_ok-file.file, c.in_ok-file.ensures, record { has_status = refl; printed = c.in_ok-translation.ensures; well_formed = c.know_names.ensures }))
