@@ -4,4 +4,6 @@ pub mod ShownFiles
 pub mod SideNames
 pub mod SignedSums
 pub mod WrittenRules
+pub mod MarkedLists
+pub mod UsedTexts
 pub mod WrittenStates

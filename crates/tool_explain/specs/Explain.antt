@@ -23,11 +23,12 @@ use Rattle.tool_inputs.specs.TextProblem.{HasNoProblem}
 use Rattle.tool_inputs.specs.EvidenceBytes.{Spells}
 use Rattle.tool_inputs.specs.Steps.{ReplySpec, ReadsText, AbstractsFile, ReadsEvidence}
 use Rattle.tool_explain.specs.Differences.{ExplainsString}
-use Rattle.tool_explain.specs.Certificates.{certificate_text}
+use Rattle.tool_explain.specs.Used.{with_marked}
+use Rattle.tool_explain.specs.Certificates.{certificate_text, ExplainsCertificate}
 
 -- the output explains the evidence: a string by which side relates its ends, or a certificate
 abbrev pub IsExplanation : FileParts → AbstractParts → Evidence → List ℕ → Type 0
-IsExplanation f a (Equal c) output = output ≡ certificate_text f a c
+IsExplanation f a (Equal c) output = ExplainsCertificate f a c output
 IsExplanation f a (Different x) output = (left : Bool) × IsFinding a.problem x (RefutesBy left) × ExplainsString f a x left output
 
 -- the evidence shows what it says, and is explained
@@ -64,13 +65,15 @@ pub record ExplainStatus (bytes : List ℕ) (q : ProblemParts) (status : ℕ) : 
   pub rejected : (status ≡ 3) ↔ ((e : Evidence) × Spells bytes e × (Shows q e → ⊥))
 
 -- The status is that of the evidence. A string that refutes the question is explained by the file and its abstraction,
--- and then the sides are not the same; an accepted certificate is described, and then they are. Otherwise the printed
--- line gives the first fault of the bytes, or the first reason why their evidence does not show its claim.
+-- and then the sides are not the same; an accepted certificate is described, and then they are, also under the listed
+-- hypotheses alone. Otherwise the printed line gives the first fault of the bytes, or the first reason why their evidence
+-- does not show its claim.
 pub record ExplainHeadline (bytes : List ℕ) (f : FileParts) (a : AbstractParts) (status : ℕ) (output : List ℕ) : Type 0 where
   pub answers : ExplainStatus bytes a.problem status
   pub difference : (x : GuardedString) → Spells bytes (Different x) → Refutes a.problem x
       → (Same a.problem → ⊥) × ((left : Bool) × IsFinding a.problem x (RefutesBy left) × ExplainsString f a x left output)
-  pub equality : (c : CertParts) → Spells bytes (Equal c) → IsAccepted a.problem c → Same a.problem × (output ≡ certificate_text f a c)
+  pub equality : (c : CertParts) → Spells bytes (Equal c) → IsAccepted a.problem c
+      → Same a.problem × ((used : List Bool) × Same (with_marked a.problem used) × (output ≡ certificate_text f a c used))
   pub faulty_output : (fault : EvidenceFault) → line_fault bytes ≡ Some fault → output ≡ evidence_fault_line fault
   pub rejected_output : status ≡ 3 → (e : Evidence) × (reason : Reason) × Spells bytes e × IsFoundBy a.problem e reason × (output ≡ reason_line reason)
 

@@ -1,5 +1,6 @@
 pub mod Signed
 pub mod Differences
+pub mod Used
 pub mod Certificates
 pub mod Explain
 pub mod Working

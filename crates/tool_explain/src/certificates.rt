@@ -1,16 +1,18 @@
 //! What a certificate says, in a few lines.
-ghost use Rattle.std.specs.Prelude.{◌≡◌, ◌++◌, [], None, codes, if◌then◌else◌, OnOk, IfOk};
+ghost use Rattle.std.specs.Prelude.{◌≡◌, ◌++◌, [], None, codes, if◌then◌else◌, length, map, OnOk, IfOk};
 ghost use Rattle.std.specs.Fmt.{decimal};
 ghost use Rattle.std.specs.List.{zip};
 ghost use Rattle.kat_model.specs.Trees.{kat_tree};
 ghost use Rattle.text_print.specs.Printing.{name_of};
 ghost use Rattle.kat_report.specs.Shows.{is_new};
-ghost use Rattle.tool_explain.specs.Certificates.{style_text, pairs_line, count_line, known_test, known_action, pair_text, rule_line, rules_text, certificate_text};
+ghost use Rattle.certificate.specs.Accepted.{IsAccepted};
+ghost use Rattle.tool_explain.specs.Certificates.{style_text, pairs_line, counts_text, used_text, count_line, known_test, known_action, pair_text, rule_line, rules_text, ExplainsCertificate};
 
 use crate::signed::{put_action_at, put_test_at};
+use crate::used::{marked_hyps, marked_rules, used_marks};
 use crate::writing::{put, put_numbered};
 use abstraction::{Abstract, Rule};
-use certificate::{Cert, Style};
+use certificate::{Cert, Evidence, Style};
 use file_parts::File;
 use kat_model::{Kat, NoMemory};
 use problem_texts::put_hyp;
@@ -36,10 +38,16 @@ fn put_pairs_line(alloc: Global, out: &mut Vec<u8>, cert: &Cert) -> Result<(), N
 
 // Writes the number of hypotheses, and how many of them are stated.
 fn put_counts(alloc: Global, out: &mut Vec<u8>, hyps: usize, stated: usize) -> Result<(), NoMemory>
-    ensures { OnOk result (out.new.items ≡ out.old.items ++ (codes "hypotheses " ++ decimal hyps ++ codes ", stated " ++ decimal stated ++ codes "\n")) }
+    ensures { OnOk result (out.new.items ≡ out.old.items ++ counts_text hyps stated) }
 {
     put_numbered(alloc, out, b"hypotheses ", hyps)?;
-    put_numbered(alloc, out, b", stated ", stated)?;
+    put_numbered(alloc, out, b", stated ", stated)
+}
+
+fn put_used(alloc: Global, out: &mut Vec<u8>, used: usize) -> Result<(), NoMemory>
+    ensures { OnOk result (out.new.items ≡ out.old.items ++ used_text used) }
+{
+    put_numbered(alloc, out, b", used ", used)?;
     put(out, b"\n")
 }
 
@@ -48,10 +56,12 @@ fn put_count_line(
     out: &mut Vec<u8>,
     file: &File,
     shown: &Abstract,
+    used: usize,
 ) -> Result<(), NoMemory>
-    ensures { OnOk result (out.new.items ≡ out.old.items ++ count_line file.now shown.now) }
+    ensures { OnOk result (out.new.items ≡ out.old.items ++ count_line file.now shown.now used) }
 {
-    put_counts(alloc, out, shown.problem.hyps().len(), file.hyps.len())
+    put_counts(alloc, out, shown.problem.hyps().len(), file.hyps.len())?;
+    put_used(alloc, out, used)
 }
 
 fn put_known(
@@ -164,35 +174,59 @@ fn put_new_rule(
     put_rule(alloc, out, shown, rule, hyp, scope)
 }
 
+// Writes the lines of hypotheses with their rules.
 fn put_rules(
     alloc: Global,
     out: &mut Vec<u8>,
     shown: &Abstract,
+    rules: &[Rule],
+    hyps: &[Kat],
     scope: &Scope,
 ) -> Result<(), NoMemory>
-    ensures { OnOk result (out.new.items ≡ out.old.items ++ rules_text (name_of scope.now) shown.now None (zip shown.now.rules shown.now.problem.hyps)) }
+    ensures { OnOk result (out.new.items ≡ out.old.items ++ rules_text (name_of scope.now) shown.now None (zip rules.now (map kat_tree hyps.now))) }
 {
     let mut before = None;
-    for (rule, hyp) in shown.rules.iter().zip(shown.problem.hyps()) {
+    for (rule, hyp) in rules.iter().zip(hyps) {
         put_new_rule(alloc, out, shown, is_new(before, *rule), *rule, hyp, scope)?;
         before = Some(*rule);
     }
     Ok(())
 }
 
-/// Returns the number of pairs of a certificate, how they are connected, and the hypotheses of the problem, in the
-/// words of the file. Fails only when out of memory.
+// Writes what the certificate says, with the used hypotheses and their rules.
+fn put_certificate(
+    alloc: Global,
+    out: &mut Vec<u8>,
+    file: &File,
+    shown: &Abstract,
+    cert: &Cert,
+    rules: &[Rule],
+    hyps: &[Kat],
+) -> Result<(), NoMemory>
+    ensures { OnOk result (out.new.items ≡ out.old.items ++ (pairs_line cert.now ++ count_line file.now shown.now (length hyps.now) ++ rules_text (name_of file.now.scope) shown.now None (zip rules.now (map kat_tree hyps.now)))) }
+{
+    put_pairs_line(alloc, out, cert)?;
+    put_count_line(alloc, out, file, shown, hyps.len())?;
+    put_rules(alloc, out, shown, rules, hyps, &file.scope)
+}
+
+/// Returns the number of pairs of an accepted certificate, how they are connected, and the hypotheses with which alone it
+/// is accepted, in the words of the file. Fails only when out of memory.
 pub(crate) fn certificate_text(
     alloc: Global,
     file: &File,
     shown: &Abstract,
+    evidence: &Evidence,
     cert: &Cert,
 ) -> Result<Vec<u8>, NoMemory>
-    ensures { IfOk result (λ text. text.items ≡ certificate_text file.now shown.now cert.now) }
+    requires cert { evidence.now ≡ Evidence.Equal cert.now }
+    requires accepted { IsAccepted shown.now.problem cert.now }
+    ensures { IfOk result (λ text. ExplainsCertificate file.now shown.now cert.now text.items) }
 {
+    let marks = used_marks(alloc, &shown.problem, evidence, cert)?;
+    let rules = marked_rules(alloc, &shown.rules, &marks)?;
+    let hyps = marked_hyps(alloc, &shown.problem, &marks)?;
     let mut out = Vec::new(alloc);
-    put_pairs_line(alloc, &mut out, cert)?;
-    put_count_line(alloc, &mut out, file, shown)?;
-    put_rules(alloc, &mut out, shown, &file.scope)?;
+    put_certificate(alloc, &mut out, file, shown, cert, &rules, &hyps)?;
     Ok(out)
 }

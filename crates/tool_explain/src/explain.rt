@@ -107,14 +107,16 @@ fn certificate_reply(
     alloc: Global,
     file: &File,
     shown: &Abstract,
+    evidence: &Evidence,
     cert: &Cert,
 ) -> Result<Reply, NoMemory>
-    requires { IsAccepted shown.now.problem cert.now }
+    requires cert { evidence.now ≡ Evidence.Equal cert.now }
+    requires accepted { IsAccepted shown.now.problem cert.now }
     ensures { IfOk result (λ r. IsExplaining file.now shown.now (Evidence.Equal cert.now) r.status r.output.items) }
 {
     Ok(Reply {
         status: 0,
-        output: certificate_text(alloc, file, shown, cert)?,
+        output: certificate_text(alloc, file, shown, evidence, cert)?,
     })
 }
 
@@ -129,7 +131,7 @@ fn accepted_reply(
     ensures { IfOk result (λ r. IsExplaining file.now shown.now evidence.now r.status r.output.items) }
 {
     match evidence {
-        Evidence::Equal(cert) => certificate_reply(alloc, file, shown, cert),
+        Evidence::Equal(cert) => certificate_reply(alloc, file, shown, evidence, cert),
         Evidence::Different(string) => string_reply(alloc, file, shown, string),
     }
 }

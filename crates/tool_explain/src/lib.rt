@@ -7,6 +7,7 @@ mod shown;
 mod sides;
 mod signed;
 mod states;
+mod used;
 mod writing;
 
 pub use explain::{ExplainCommand, explain_bytes};

@@ -13,6 +13,7 @@ use Rattle.kat_report.specs.Refusals.{evidence_fault_line}
 use Rattle.tool_inputs.specs.EvidenceBytes.{Spells, IsNoEvidence}
 use Rattle.tool_inputs.specs.TextProblem.{HasNoProblem}
 use Rattle.tool_inputs.specs.Steps.{AbstractsFile, AsksFor}
+use Rattle.tool_explain.specs.Used.{with_marked}
 use Rattle.tool_explain.specs.Explain.{IsExplaining, IsDoubting, IsExplained, ExplainsBytes, ExplainsTexts, ExplainHeadline, ExplainReply}
 use Rattle.tool_inputs.proofs.Steps.{OneStatus, reads_said, reads_once, abstracts_as, abstracts_once, abstracts_small, abstracted_none, reads_spelled, reads_no_evidence, reads_evidence_once, small_status}
 use Rattle.tool_inputs.proofs.FileReplies.{HasOneReply}
@@ -67,7 +68,7 @@ module _ (f : FileParts) (a : AbstractParts) (bytes : List ℕ) (status : ℕ) (
           rejected = ((λ e. let h = rejected e in (h.0, h.1, h.2.fails)), (λ h. doubted_status h.0 h.2 (spelled h.0 h.1)));
         };
         difference = λ x s refutes. (shown_so a.problem (Different x) refutes, (shown_reply (Different x) refutes (spelled (Different x) s)).explains);
-        equality = λ c s accepted. (shown_so a.problem (Equal c) accepted, (shown_reply (Equal c) accepted (spelled (Equal c) s)).explains);
+        equality = λ c s accepted. let x = (shown_reply (Equal c) accepted (spelled (Equal c) s)).explains in (shown_so a.problem (Equal c) accepted, (x.used, shown_so (with_marked a.problem x.used) (Equal c) x.alone, x.printed));
         faulty_output = λ fault first. fault_printed bytes output fault first (faulty (reads_no_evidence bytes (IsExplained f a) status output fault first r));
         rejected_output = λ e. let h = rejected e in (h.0, h.2.reason, h.1, h.2.first, h.2.printed);
       }

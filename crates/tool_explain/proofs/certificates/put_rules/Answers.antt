@@ -13,7 +13,7 @@ loop-rule-preserved c =
     let shown = c.args.shown.now in
     rule_written names shown c.loop-rule.before c.in-Some.rule.now c.loop-rule.rule-iterator.a.rest.now c.next.new.self.a.rest.now
     (kat_tree c.in-Some.hyp.now) (map kat_tree c.loop-rule.rule-iterator.b.rest.now) (map kat_tree c.next.new.self.b.rest.now)
-    c.is_new.result (c.args.out.now.items ++ rules_text names shown None (zip shown.rules shown.problem.hyps)) c.loop-rule.out.items c.put_new_rule.new.out.items
+    c.is_new.result (c.args.out.now.items ++ rules_text names shown None (zip c.args.rules.now (map kat_tree c.args.hyps.now))) c.loop-rule.out.items c.put_new_rule.new.out.items
     c.in-Some.ensures.steps.0 (ap (map kat_tree) c.in-Some.ensures.steps.1) c.is_new.ensures c.in_ok-put_new_rule.ensures c.loop-rule.invariant
 
 pub returns : goal.returns

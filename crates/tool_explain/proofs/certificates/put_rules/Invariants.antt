@@ -9,4 +9,4 @@ use Rattle.tool_explain.proofs.certificates.put_rules.Given as goal
 abbrev pub invariant-loop-rule : goal.invariant-loop-rule
 invariant-loop-rule l =
     l.out.items ++ rules_text (name_of l.scope) l.shown l.before (zip l.rule-iterator.a.rest.now (map kat_tree l.rule-iterator.b.rest.now))
-    ≡ l.initial.out.items ++ rules_text (name_of l.scope) l.shown None (zip l.shown.rules l.shown.problem.hyps)
+    ≡ l.initial.out.items ++ rules_text (name_of l.scope) l.shown None (zip l.rules (map kat_tree l.hyps))
