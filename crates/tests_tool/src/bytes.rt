@@ -126,7 +126,7 @@ const ROWS: &[Row] = &[
         DENESTING,
         DENESTING_EVIDENCE,
         0,
-        "equal: pairs 2, closed under all steps\nhypotheses 0, stated 0\n",
+        "equal: pairs 2, closed under all steps\nhypotheses 0, stated 0, used 0\n",
     ),
     (
         Call::Explain,
