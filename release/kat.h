@@ -51,9 +51,13 @@ uint8_t kat_batch(const uint8_t *text, size_t length, uint8_t *out, size_t room,
 uint8_t kat_check(const uint8_t *text, size_t length, const uint8_t *evidence, size_t evidence_length,
                   uint8_t *out, size_t room, size_t *needed);
 
-/* Explains the string of evidence, state by state: 0 if it is a string that fits the problem. */
+/* Prints the string of evidence, state by state: 0 if it is a string that fits the problem. */
 uint8_t kat_replay(const uint8_t *text, size_t length, const uint8_t *evidence, size_t evidence_length,
                    uint8_t *out, size_t room, size_t *needed);
+
+/* Explains evidence in the words of the problem file: 0 if it shows what it claims. */
+uint8_t kat_explain(const uint8_t *text, size_t length, const uint8_t *evidence, size_t evidence_length,
+                    uint8_t *out, size_t room, size_t *needed);
 
 /* Checks a proof that turns one side of the goal into the other by axioms: 0 if it is one. */
 uint8_t kat_chain(const uint8_t *text, size_t length, const uint8_t *proof, size_t proof_length,
