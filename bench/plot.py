@@ -69,6 +69,9 @@ def draw(points, output):
         axis.plot(sizes, [max(decide, 0.001) for _, decide, _ in of], "o-", label="decide", markersize=3)
         axis.plot(sizes, [max(check, 0.001) for _, _, check in of], "s--", label="check", markersize=3)
         axis.set(title=name, xlabel="n", ylabel="s", xscale="log", yscale="log")
+        # Without labels between the powers of ten, and at least one power high.
+        axis.minorticks_off()
+        axis.set_ylim(0.0008, max(0.012, 1.5 * max(max(decide, check) for _, decide, check in of)))
     axes.flat[0].legend()
     figure.tight_layout()
     figure.savefig(output, metadata={"Date": None})
