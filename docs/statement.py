@@ -53,8 +53,9 @@ PARTS = [
          "a shortest string has at most.",
          names=[("kat_laws", "Models", "SameInModels"), ("kat_laws", "SmallStrings", "IsSmall")]),
     Part("Every text", "What any text asks, by the grammar of problem files, what its goal says of stores, and what `check` "
-         "answers.",
-         clauses=[("tool_decide/src/decide.rt", "decide_bytes", ["headline", "stores", "readings"]), ("tool_check/src/check.rt", "check_bytes", ["headline"])]),
+         "and `explain` answer.",
+         clauses=[("tool_decide/src/decide.rt", "decide_bytes", ["headline", "stores", "readings", "reply"]), ("tool_check/src/check.rt", "check_bytes", ["headline", "reply"]),
+                  ("tool_explain/src/explain.rt", "explain_bytes", ["headline"])]),
     Part("Outlines", "What `outline` answers of a triple of a program, and of any notes, whoever wrote them.",
          clauses=[("tool_outline/src/outline.rt", "outline_bytes", ["headline"]), ("tool_outline/src/outline_check.rt", "outline_check_bytes", ["headline"])]),
     Part("Equational proofs", "What `chain` answers of any proof, whoever wrote it.",
