@@ -1,0 +1,16 @@
+pub mod Eliminations
+pub mod Agreements
+pub mod SameActions
+pub mod EdgeRelations
+pub mod RunStops
+pub mod GraphTerms
+pub mod AssignedValues
+pub mod AssignmentsHold
+pub mod FlowFactsHold
+pub mod Arcs
+pub mod IntervalsHold
+pub mod TableMembers
+pub mod SplitValues
+pub mod SplitEdges
+pub mod WholeProblems
+pub mod ProblemExamples

@@ -1,0 +1,21 @@
+-- The laws of flow problems.
+use Rattle.std.specs.Prelude.{◌≡◌, Ok}
+use Rattle.kat_model.specs.Relations.{Same}
+use Rattle.flow_model.specs.Graphs.{Pair}
+use Rattle.flow_model.specs.Agreement.{AgreeAlways}
+use Rattle.flow_problem.specs.Points.{FlowProblem, AsksOf}
+use Rattle.flow_problem.specs.FlowProblems.{FlowQuestion, PairMarks, HasMarks, problem_by}
+
+-- where both sides of a problem that asks of two graphs are the same, the graphs always return the same
+abbrev pub SameAgree : Type 0
+SameAgree = (pair : Pair) (p : FlowProblem) → AsksOf pair p → Same p.problem → AgreeAlways pair
+
+-- the problem of a question asks of its graphs
+abbrev pub ProblemsAsk : Type 0
+ProblemsAsk =
+    (q : FlowQuestion) (marks : PairMarks) (p : FlowProblem) → HasMarks q.pair marks → problem_by q marks ≡ Ok p → AsksOf q.pair p
+
+-- where both sides of the problem of a question are the same, its graphs always return the same
+abbrev pub FlowAgrees : Type 0
+FlowAgrees =
+    (q : FlowQuestion) (marks : PairMarks) (p : FlowProblem) → HasMarks q.pair marks → problem_by q marks ≡ Ok p → Same p.problem → AgreeAlways q.pair

@@ -1,0 +1,10 @@
+pub mod Edges
+pub mod Points
+pub mod Elimination
+pub mod EdgeTerms
+pub mod Substitutions
+pub mod FlowFacts
+pub mod FlowRounds
+pub mod Splits
+pub mod FlowProblems
+pub mod Laws
