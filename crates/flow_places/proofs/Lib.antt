@@ -1,0 +1,10 @@
+pub mod Walked
+pub mod Reaching
+pub mod CutRuns
+pub mod LiveTests
+pub mod Walks
+pub mod PlaceMarks
+pub mod Marks
+pub mod NodeReads
+pub mod LiveRows
+pub mod Sweeps

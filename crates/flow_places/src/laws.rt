@@ -1,0 +1,23 @@
+//! Laws of places and live variables. Each function does nothing: its contract is the law.
+ghost use Rattle.flow_places.specs.Laws.{PlacesCutRuns, ReachedExactly, UnmarkedAreCut, LiveExactly};
+
+/// Where each loop that is reached has a place, a run from a place comes to a place, returns or gets stuck within as
+/// many blocks as the graph has.
+pub fn places_cut_runs()
+    ensures { PlacesCutRuns }
+{}
+
+/// The depth-first walk from the entry leaves exactly the blocks to which jumps lead from the entry.
+pub fn walks_reach_blocks()
+    ensures { ReachedExactly }
+{}
+
+/// The targets of back edges cut every loop: where no block that is reached is marked, no loop is left.
+pub fn back_edges_cut_loops()
+    ensures { UnmarkedAreCut }
+{}
+
+/// The test of liveness tells the least sets of the equations of liveness.
+pub fn live_sets_are_least()
+    ensures { LiveExactly }
+{}
