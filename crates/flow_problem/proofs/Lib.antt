@@ -13,4 +13,5 @@ pub mod TableMembers
 pub mod SplitValues
 pub mod SplitEdges
 pub mod WholeProblems
+pub mod PlacedGraphs
 pub mod ProblemExamples

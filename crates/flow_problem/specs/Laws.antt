@@ -5,6 +5,7 @@ use Rattle.flow_model.specs.Graphs.{Pair}
 use Rattle.flow_model.specs.Agreement.{AgreeAlways}
 use Rattle.flow_problem.specs.Points.{FlowProblem, AsksOf}
 use Rattle.flow_problem.specs.FlowProblems.{FlowQuestion, PairMarks, HasMarks, problem_by}
+use Rattle.flow_problem.specs.PlacedProblems.{IsFlowPair, IsFlowProblem}
 
 -- where both sides of a problem that asks of two graphs are the same, the graphs always return the same
 abbrev pub SameAgree : Type 0
@@ -15,7 +16,11 @@ abbrev pub ProblemsAsk : Type 0
 ProblemsAsk =
     (q : FlowQuestion) (marks : PairMarks) (p : FlowProblem) → HasMarks q.pair marks → problem_by q marks ≡ Ok p → AsksOf q.pair p
 
--- where both sides of the problem of a question are the same, its graphs always return the same
-abbrev pub FlowAgrees : Type 0
-FlowAgrees =
+-- where both sides of a problem with such marks are the same, the graphs always return the same
+abbrev pub MarkedAgree : Type 0
+MarkedAgree =
     (q : FlowQuestion) (marks : PairMarks) (p : FlowProblem) → HasMarks q.pair marks → problem_by q marks ≡ Ok p → Same p.problem → AgreeAlways q.pair
+
+-- where both sides of the problem of two graphs are the same, the graphs always return the same
+abbrev pub FlowAgrees : Type 0
+FlowAgrees = (q : FlowQuestion) (p : FlowProblem) → IsFlowPair q.pair → IsFlowProblem q p → Same p.problem → AgreeAlways q.pair

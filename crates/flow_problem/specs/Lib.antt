@@ -7,4 +7,5 @@ pub mod FlowFacts
 pub mod FlowRounds
 pub mod Splits
 pub mod FlowProblems
+pub mod PlacedProblems
 pub mod Laws

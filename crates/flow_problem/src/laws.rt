@@ -1,5 +1,5 @@
 //! Laws of flow problems. Each function does nothing: its contract is the law.
-ghost use Rattle.flow_problem.specs.Laws.{SameAgree, ProblemsAsk, FlowAgrees};
+ghost use Rattle.flow_problem.specs.Laws.{SameAgree, ProblemsAsk, MarkedAgree, FlowAgrees};
 
 /// A problem asks of two graphs if its hypotheses hold of all states under all interpretations and its sides lead from
 /// each state to the ends of the runs of the graphs. If its sides denote one relation in each table that satisfies the
@@ -12,6 +12,12 @@ pub fn same_sides_agree()
 /// no states under any interpretation, and the terms that elimination gives lead from each state to the ends of the runs.
 pub fn problems_ask()
     ensures { ProblemsAsk }
+{}
+
+/// If both sides of the problem of two graphs, by places that cut each loop and by live variables, denote one relation in
+/// each table that satisfies the hypotheses, both graphs return the same.
+pub fn marked_problems_agree()
+    ensures { MarkedAgree }
 {}
 
 /// If both sides of the problem of two graphs denote one relation in each table that satisfies the hypotheses, both

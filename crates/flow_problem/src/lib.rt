@@ -4,4 +4,4 @@
 
 mod laws;
 
-pub use laws::{flow_agrees, problems_ask, same_sides_agree};
+pub use laws::{flow_agrees, marked_problems_agree, problems_ask, same_sides_agree};
