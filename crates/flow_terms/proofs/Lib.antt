@@ -1,0 +1,3 @@
+pub mod RowTerms
+pub mod TermShapes
+pub mod Rounds
