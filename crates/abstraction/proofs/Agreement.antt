@@ -25,7 +25,7 @@ use Rattle.abstraction.specs.declared.rows.ActionRow.{ActionRow}
 use Rattle.abstraction.specs.declared.rows.ActionRow.TheVariants as action
 use Rattle.abstraction.specs.declared.rows.TestRow.TheVariants as test
 use Rattle.abstraction.proofs.DerivedHypotheses.{abstract_parts_of}
-use Rattle.abstraction.proofs.PathTables.{FitsProblem, same_in_frame}
+use Rattle.kat_model.proofs.PathTables.{FitsProblem, same_in_frame}
 use Rattle.abstraction.proofs.ProgramRuns.{ends_as_related, holds_read, fails_read}
 use Rattle.abstraction.proofs.RowTruths.{length-rows, tables_with, frame_with, two_within, three_within, cond_read, prog_read}
 use Rattle.abstraction.proofs.GoalRows.{goal_comparisons_within, goal_assignments_within}

@@ -8,9 +8,9 @@ use Rattle.std.proofs.lemmas.Bool.{true≢false, ltb-true, ltb-false, le-ltb, or
 use Rattle.linear_forms.specs.Comparisons.{atomic_nodes, substituted}
 use Rattle.linear_forms.specs.declared.comparison.Atomic.{Atomic}
 use Rattle.abstraction.specs.Comparisons.{Assignment, atomics}
-use Rattle.abstraction.specs.Tables.{is_same_comparison}
+use Rattle.linear_forms.specs.Sameness.{is_same_comparison}
 use Rattle.abstraction.specs.Rounds.{is_appended, append_all, substitutions, round, rounds}
-use Rattle.abstraction.proofs.SameRows.{is_same_comparison-same}
+use Rattle.linear_forms.proofs.Sameness.{is_same_comparison-same}
 use Rattle.abstraction.specs.declared.rounds.TheConstants.{MAX_APPENDED_NODES}
 
 list_any-append : {X : Type 0} (p : X → Bool) (xs ys : List X) → list_any p xs ≡ true → list_any p (xs ++ ys) ≡ true

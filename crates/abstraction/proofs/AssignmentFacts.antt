@@ -17,7 +17,7 @@ use Rattle.abstraction.specs.Tables.{Tables}
 use Rattle.abstraction.specs.Tests.{form_test}
 use Rattle.abstraction.specs.Facts.{Hypothesis, TestRowOf}
 use Rattle.abstraction.specs.Derived.{ActionRowOf, test_rows, keeps_before, assignment_facts}
-use Rattle.abstraction.proofs.RelatesNothing.{around_action}
+use Rattle.kat_model.proofs.RelatesNothing.{around_action}
 use Rattle.abstraction.proofs.TestRows.{IsTestRow, holds_at, fails_at, form_test_holds}
 use Rattle.abstraction.proofs.FactsHold.{HoldsIn}
 

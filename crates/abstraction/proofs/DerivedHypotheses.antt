@@ -19,7 +19,7 @@ use Rattle.abstraction.specs.StoreFrames.{Sets, store_frame}
 use Rattle.abstraction.specs.Laws.{DerivedHold}
 use Rattle.abstraction.proofs.EachElement.{All-flat_map, All-of_pairs, All-slice_get_past}
 use Rattle.abstraction.proofs.TableForms.{assignments_in_range, comparisons_atomic}
-use Rattle.abstraction.proofs.RelatesNothing.{RelatesNone}
+use Rattle.kat_model.proofs.RelatesNothing.{RelatesNone}
 use Rattle.abstraction.proofs.TestRows.{IsTestRow}
 use Rattle.abstraction.proofs.FactsHold.{HoldsIn, fact_one_holds, fact_two_holds, fact_three_holds, fact_four_holds, fact_five_holds, fact_six_holds}
 use Rattle.abstraction.proofs.AssignmentFacts.{IsActionRow, assignment_facts_hold}

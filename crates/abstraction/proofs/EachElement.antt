@@ -4,7 +4,7 @@ use Rattle.std.specs.List.{list_any}
 use Rattle.std.proofs.lemmas.List.Elements.{All-nil, All-head, All-tail, All-append, All-push, All-get_or, All-weaker}
 use Rattle.std.proofs.lemmas.Option.{slice_get_within, get_or_from_slice_get}
 use Rattle.linear_forms.specs.declared.comparison.Atomic.{Atomic}
-use Rattle.abstraction.specs.Tables.{with_new, with_all_new}
+use Rattle.unique_rows.specs.UniqueRows.{with_new, with_all_new}
 use Rattle.abstraction.specs.Rounds.{is_appended, append_all}
 use Rattle.abstraction.specs.Derived.{of_pairs}
 

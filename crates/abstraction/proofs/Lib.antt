@@ -1,5 +1,4 @@
 pub mod SameRows
-pub mod CappedTables
 pub mod StatementRows
 pub mod AppendedRows
 pub mod FlowLists
@@ -13,15 +12,12 @@ pub mod WholeAbstracts
 pub mod EachElement
 pub mod TableForms
 pub mod TestRows
-pub mod RelatesNothing
 pub mod FactValues
 pub mod FactsHold
 pub mod AssignmentFacts
 pub mod StoreRows
 pub mod DerivedHypotheses
 pub mod FactExamples
-pub mod PathTables
-pub mod MemberPlaces
 pub mod ProgramRuns
 pub mod RowTruths
 pub mod GoalRows

@@ -27,9 +27,9 @@ use Rattle.abstraction.specs.Tables.{file_assignments}
 use Rattle.abstraction.specs.Tests.{cond_test}
 use Rattle.abstraction.proofs.DerivedHypotheses.{derived_relate_none, past_stated, abstract_parts_of}
 use Rattle.abstraction.proofs.GoalRows.{goal_comparisons_within, goal_assignments_within}
-use Rattle.abstraction.proofs.PathTables.{FitsProblem, same_in_frame}
+use Rattle.kat_model.proofs.PathTables.{FitsProblem, same_in_frame}
 use Rattle.abstraction.proofs.ReadingRuns.{frame_by, cond_by, leads_as_related}
-use Rattle.abstraction.proofs.RelatesNothing.{RelatesNone}
+use Rattle.kat_model.proofs.RelatesNothing.{RelatesNone}
 use Rattle.abstraction.proofs.RowTruths.{length-rows, two_within, three_within}
 use Rattle.abstraction.proofs.StoreRows.{are_rows_with, are_action_rows}
 use Rattle.abstraction.proofs.TableForms.{assignments_in_range, comparisons_atomic}

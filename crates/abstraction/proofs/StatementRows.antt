@@ -6,9 +6,10 @@ use Rattle.while_lang.specs.Programs.{ProgTree, empty, StmtTree, skip, abort, as
 use Rattle.while_lang.specs.ProgramViews.{stmt_tree, list_tree}
 use Rattle.while_lang.specs.declared.prog.Stmt.{Stmt}
 use Rattle.abstraction.specs.Comparisons.{Assignment, prog_comparisons, prog_assignments}
-use Rattle.abstraction.specs.Tables.{is_same_comparison, is_same_assignment}
-use Rattle.abstraction.specs.Working.CappedRows.{with_all_new_within}
-use Rattle.abstraction.proofs.CappedTables.{with_all_new_within-append}
+use Rattle.linear_forms.specs.Sameness.{is_same_comparison}
+use Rattle.abstraction.specs.Tables.{is_same_assignment}
+use Rattle.unique_rows.specs.UniqueRows.{with_all_new_within}
+use Rattle.unique_rows.proofs.CappedTables.{with_all_new_within-append}
 
 pub prog_comparisons-with_stmt : (m : ℕ) (s : StmtTree) (rest : ProgTree) → prog_comparisons m (with_stmt s rest) ≡ prog_comparisons m (with_stmt s empty) ++ prog_comparisons m rest
 prog_comparisons-with_stmt m skip rest = refl

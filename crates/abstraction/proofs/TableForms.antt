@@ -15,7 +15,8 @@ use Rattle.while_lang.specs.Programs.{ProgTree, empty, skip_then, abort_then, as
 use Rattle.file_parts.specs.Files.{SideTree, term_side, prog_side, GoalTree, equal, below, triple, FileParts}
 use Rattle.file_parts.specs.Ranges.{IsProgInRange, IsSideInRange, IsGoalInRange}
 use Rattle.abstraction.specs.Comparisons.{Assignment, atomics, cond_comparisons, prog_comparisons, side_comparisons, goal_comparisons, prog_assignments, side_assignments, goal_assignments}
-use Rattle.abstraction.specs.Tables.{is_same_comparison, is_same_assignment, first_comparisons, file_assignments}
+use Rattle.linear_forms.specs.Sameness.{is_same_comparison}
+use Rattle.abstraction.specs.Tables.{is_same_assignment, first_comparisons, file_assignments}
 use Rattle.abstraction.specs.Rounds.{substitutions, round, rounds, file_comparisons}
 use Rattle.abstraction.proofs.EachElement.{All-every, All-with_all_new, All-flat_map, All-append_all}
 

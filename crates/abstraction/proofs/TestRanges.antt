@@ -16,7 +16,8 @@ use Rattle.while_lang.specs.Programs.{ProgTree, empty, skip_then, abort_then, as
 use Rattle.while_lang.specs.Encoding.{stmt_terms, encoded}
 use Rattle.file_parts.specs.Ranges.{IsCondInRange, IsProgInRange}
 use Rattle.abstraction.specs.Comparisons.{Assignment, prog_assignments}
-use Rattle.abstraction.specs.Tables.{Tables, is_same_comparison, is_same_assignment}
+use Rattle.linear_forms.specs.Sameness.{is_same_comparison}
+use Rattle.abstraction.specs.Tables.{Tables, is_same_assignment}
 use Rattle.abstraction.specs.Tests.{test_number, action_number, form_test, cond_test, assignment_action, prog_flow}
 
 -- the number, if there is one, is below n

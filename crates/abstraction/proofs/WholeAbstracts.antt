@@ -18,7 +18,7 @@ use Rattle.abstraction.specs.Rounds.{tables_of}
 use Rattle.abstraction.specs.Goals.{side_term, goal_sides}
 use Rattle.abstraction.specs.Abstracts.{AbstractParts, abstract_of, abstract_parts, file_problem, IsAbstraction, HasNumbersInRange}
 use Rattle.abstraction.specs.Working.FileTables.{IsWithinLimits}
-use Rattle.abstraction.proofs.CappedTables.{first_rows_some}
+use Rattle.unique_rows.proofs.CappedTables.{first_rows_some}
 use Rattle.abstraction.proofs.AppendedRows.{rounds_length}
 use Rattle.abstraction.proofs.TestRanges.{all_tests, all_actions, cond_test_in, encoded_in}
 use Rattle.abstraction.proofs.HypothesisRanges.{hypotheses_in}

@@ -8,7 +8,7 @@ use Rattle.linear_forms.specs.declared.comparison.Atomic.{Atomic}
 use Rattle.linear_forms.specs.declared.comparison.Atomic.TheVariants.{Zero, Less}
 use Rattle.abstraction.specs.declared.rows.Rule.{Rule}
 use Rattle.abstraction.specs.declared.rows.Rule.TheVariants.{F1, F2, F3, F4, F5, F6}
-use Rattle.abstraction.specs.Tables.{is_same_form}
+use Rattle.linear_forms.specs.Sameness.{is_same_form}
 
 -- a term that is stated or derived to be 0, and the reason
 pub record Hypothesis : Type 0 where

@@ -7,7 +7,8 @@ use Rattle.linear_forms.specs.Comparisons.{atomic_nodes, substituted}
 use Rattle.linear_forms.specs.declared.comparison.Atomic.{Atomic}
 use Rattle.file_parts.specs.Files.{FileParts}
 use Rattle.abstraction.specs.Comparisons.{Assignment, atomics}
-use Rattle.abstraction.specs.Tables.{is_same_comparison, Tables, first_comparisons, file_assignments}
+use Rattle.linear_forms.specs.Sameness.{is_same_comparison}
+use Rattle.abstraction.specs.Tables.{Tables, first_comparisons, file_assignments}
 use Rattle.abstraction.specs.declared.rounds.TheConstants.{MAX_APPENDED_NODES}
 
 -- whether a comparison is appended to a table with at most `most` comparisons: it is not in the table yet, has at most

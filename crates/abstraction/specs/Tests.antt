@@ -12,7 +12,8 @@ use Rattle.while_lang.specs.Programs.{ProgTree, empty, skip_then, abort_then, as
 use Rattle.while_lang.specs.Flows as flow
 use Rattle.while_lang.specs.Flows.{FlowTree}
 use Rattle.abstraction.specs.Comparisons.{Assignment}
-use Rattle.abstraction.specs.Tables.{is_same_comparison, is_same_assignment, Tables}
+use Rattle.linear_forms.specs.Sameness.{is_same_comparison}
+use Rattle.abstraction.specs.Tables.{is_same_assignment, Tables}
 
 -- the number of a comparison among the tests, and of an assignment among the actions; the declared ones come first
 abbrev pub test_number : Tables → Atomic → Option ℕ

@@ -1,4 +1,3 @@
-pub mod CappedRows
 pub mod StatementFlows
 pub mod ConstantForms
 pub mod PairFacts

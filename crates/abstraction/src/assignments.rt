@@ -8,14 +8,14 @@ ghost use Rattle.while_lang.specs.ProgramViews.{stmt_tree};
 ghost use Rattle.file_parts.specs.Trees.{side_tree, goal_tree};
 ghost use Rattle.abstraction.specs.Comparisons.{prog_assignments, side_assignments, goal_assignments};
 ghost use Rattle.abstraction.specs.Tables.{is_same_assignment};
-ghost use Rattle.abstraction.specs.Working.CappedRows.{with_all_new_within};
+ghost use Rattle.unique_rows.specs.UniqueRows.{with_all_new_within};
 
 use crate::tables::AssignedForm;
-use crate::unique_rows::add_row;
 use file_parts::{Goal, Side};
 use kat_model::{Expr, NoMemory, Width};
 use linear_forms::normal;
 use std::alloc::Global;
+use unique_rows::add_row;
 use while_lang::{Prog, Stmt};
 
 /// Builds the assignment of the normal form of an expression.

@@ -7,14 +7,14 @@ ghost use Rattle.while_lang.specs.Programs.{with_stmt, empty};
 ghost use Rattle.while_lang.specs.ProgramViews.{stmt_tree};
 ghost use Rattle.file_parts.specs.Trees.{side_tree, goal_tree};
 ghost use Rattle.abstraction.specs.Comparisons.{atomics, cond_comparisons, prog_comparisons, side_comparisons, goal_comparisons};
-ghost use Rattle.abstraction.specs.Tables.{is_same_comparison};
-ghost use Rattle.abstraction.specs.Working.CappedRows.{with_all_new_within};
+ghost use Rattle.linear_forms.specs.Sameness.{is_same_comparison};
+ghost use Rattle.unique_rows.specs.UniqueRows.{with_all_new_within};
 
-use crate::unique_rows::add_row;
 use file_parts::{Goal, Side};
 use kat_model::{Cond, NoMemory, Width};
 use linear_forms::{Atomic, CondForm, normal_cond};
 use std::alloc::Global;
+use unique_rows::add_row;
 use while_lang::{Prog, Stmt};
 
 // Adds the comparison of a condition form; a constant form has none.

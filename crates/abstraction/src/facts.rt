@@ -4,7 +4,7 @@ ghost use Rattle.kat_model.specs.Stores.{modulus};
 ghost use Rattle.kat_model.specs.Trees.{prim, complement, test, kat_tree};
 ghost use Rattle.linear_forms.specs.Arithmetic.{form_sum, form_difference};
 ghost use Rattle.linear_forms.specs.Comparisons.{canonical};
-ghost use Rattle.abstraction.specs.Tables.{is_same_form};
+ghost use Rattle.linear_forms.specs.Sameness.{is_same_form};
 ghost use Rattle.abstraction.specs.Facts.{excludes, implies, one_holds, is_nonzero, are_less, fact_one, fact_two, fact_three, fact_four, decided_by, fact_five, fact_six};
 ghost use Rattle.abstraction.specs.Working.ConstantForms.{constant_value};
 

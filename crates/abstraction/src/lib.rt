@@ -18,7 +18,6 @@ mod rounds;
 mod rows;
 mod shown;
 mod tables;
-mod unique_rows;
 
 pub use fault::AbstractFault;
 pub use file_abstract::{abstracted, abstracted_for};

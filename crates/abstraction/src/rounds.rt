@@ -6,10 +6,10 @@ ghost use Rattle.abstraction.specs.Comparisons.{atomics};
 ghost use Rattle.abstraction.specs.Rounds.{is_appended, append_all, substitutions, rounds};
 
 use crate::tables::AssignedForm;
-use crate::unique_rows::has_row;
 use kat_model::{NoMemory, Width};
 use linear_forms::{Atomic, CondForm, atomic_size, subst};
 use std::alloc::Global;
+use unique_rows::has_row;
 
 // The maximum number of nodes of a comparison that a round appends.
 const MAX_APPENDED_NODES: u64 = 1_000;

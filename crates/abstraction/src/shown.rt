@@ -3,7 +3,8 @@ ghost use Rattle.std.specs.Prelude.{◌≡◌, IfOk};
 ghost use Rattle.std.specs.List.{position_from};
 ghost use Rattle.kat_model.specs.Expressions.{cond_tree};
 ghost use Rattle.kat_model.specs.Trees.{test_tree};
-ghost use Rattle.abstraction.specs.Tables.{is_same_comparison, is_same_assignment};
+ghost use Rattle.linear_forms.specs.Sameness.{is_same_comparison};
+ghost use Rattle.abstraction.specs.Tables.{is_same_assignment};
 ghost use Rattle.abstraction.specs.Tests.{cond_test, prog_flow};
 ghost use Rattle.abstraction.specs.ShownTables.{declared_tests, declared_actions, row_comparisons, row_assignments, shown_tables};
 
@@ -12,10 +13,10 @@ use crate::flows::prog_flow;
 use crate::problem::Abstract;
 use crate::rows::{ActionRow, TestRow};
 use crate::tables::{AssignedForm, Numbering};
-use crate::unique_rows::Row;
 use kat_model::{Cond, NoMemory, Test, Width};
 use linear_forms::Atomic;
 use std::alloc::Global;
+use unique_rows::TableRow;
 use while_lang::{Flows, Prog};
 
 fn declared_tests(rows: &[TestRow]) -> usize

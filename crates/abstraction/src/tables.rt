@@ -1,10 +1,10 @@
 //! The tables of an abstraction: the comparisons that are its tests, and the assignments that are its actions.
 ghost use Rattle.std.specs.Prelude.{◌≡◌, option_map};
 
-use crate::unique_rows::{Row, place_of};
 use kat_model::Width;
-use linear_forms::{Atomic, Form, same_atomic, same_form};
+use linear_forms::{Atomic, Form, same_form};
 use std::marker::Model;
+use unique_rows::{TableRow, place_of};
 
 /// An assignment of a form to a variable, by its number.
 #[derive(Drop)]
@@ -25,16 +25,6 @@ impl Model for AssignedForm {
     ghost view = { λ a. record { var = a.var; form = a.form } };
 }
 
-impl Row for Atomic {
-    ghost use Rattle.abstraction.specs.Tables.{is_same_comparison};
-
-    ghost same = { is_same_comparison };
-
-    fn is_same(&self, other: &Atomic) -> bool {
-        same_atomic(self, other)
-    }
-}
-
 impl AssignedForm {
     ghost use Rattle.abstraction.specs.Tables.{is_same_assignment};
 
@@ -46,7 +36,7 @@ impl AssignedForm {
     }
 }
 
-impl Row for AssignedForm {
+impl TableRow for AssignedForm {
     ghost use Rattle.abstraction.specs.Tables.{is_same_assignment};
 
     ghost same = { is_same_assignment };

@@ -2,6 +2,7 @@ pub mod SameForms
 pub mod Polynomials
 pub mod Widths
 pub mod ConvertedValues
+pub mod SameComparisons
 pub mod EquationValues
 pub mod ComparisonValues
 pub mod ExpressionValues

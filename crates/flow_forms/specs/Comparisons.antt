@@ -35,6 +35,13 @@ comparison_tree (Zero w f) = zero_form w (form_tree f)
 comparison_tree (Less w f g) = less_form w (form_tree f) (form_tree g)
 comparison_tree (Same f g) = same_form (form_tree f) (form_tree g)
 
+-- whether two comparisons are one
+abbrev pub is_same_comparison : FlowComparisonTree → FlowComparisonTree → Bool
+is_same_comparison (zero_form v f) (zero_form w g) = is_same_width v w && is_eq (form_cmp f g)
+is_same_comparison (less_form v d e) (less_form w f g) = is_same_width v w && is_eq (form_cmp d f) && is_eq (form_cmp e g)
+is_same_comparison (same_form d e) (same_form f g) = is_eq (form_cmp d f) && is_eq (form_cmp e g)
+is_same_comparison _ _ = false
+
 abbrev pub literal_tree : FlowLiteral → FlowLiteralTree
 literal_tree (Decided b) = decided b
 literal_tree (Holds c) = holding (comparison_tree c)

@@ -7,6 +7,7 @@ use crate::form::FlowForm;
 use crate::order::{bits, same_form};
 use kat_model::{NoMemory, Width};
 use std::alloc::Global;
+use unique_rows::TableRow;
 
 /// A comparison: that a form of a width is 0, that the first form of a width is less than the second as unsigned
 /// numbers, or that two opaque values are the same.
@@ -68,6 +69,16 @@ pub fn same_comparison(left: &FlowComparison, right: &FlowComparison) -> bool
             same_form(d, f) && same_form(e, g)
         }
         _ => false,
+    }
+}
+
+impl TableRow for FlowComparison {
+    ghost use Rattle.flow_forms.specs.Comparisons.{comparison_tree, is_same_comparison};
+
+    ghost same = { λ c d. is_same_comparison (comparison_tree c) (comparison_tree d) };
+
+    fn is_same(&self, other: &FlowComparison) -> bool {
+        same_comparison(self, other)
     }
 }
 

@@ -1,4 +1,4 @@
--- Runs from places come to places, return or get stuck within as many blocks as the graph has.
+-- Runs from places reach places, return or get stuck within the number of blocks of the graph.
 use Rattle.std.proofs.Common.{◌≡◌, inl, inr, ℕ, zero, suc, ◌<◌, ◌≤◌, Bool, true, false, List, [], ◌∷◌, length, Option, Some, None, slice_get, if◌then◌else◌, refl, sym, ap, subst, arith}
 use Rattle.kat_model.specs.Members.{Has}
 use Rattle.flow_model.specs.Sorts.{State}
@@ -17,7 +17,7 @@ use Rattle.flow_places.proofs.Reaching.{cut_follows, left_by_cuts, loop_shown, p
 abbrev on_from : Interpretation → Graph → (ℕ → Bool) → ℕ → ℕ → State → Stop
 on_from I g p n l t = if p l then came_to l t else stop_from I g p n l t
 
--- a jump comes to one stop if the runs from its targets do
+-- a jump has one stop if the runs from its targets do
 jump_same : (I : Interpretation) (go other : ℕ → State → Stop) (jump : JumpTree) (t : State) → ((l : ℕ) → Has (jump_targets jump) l → IsSettled (other l t) → go l t ≡ other l t) →
     IsSettled (jump_stop I other jump t) → jump_stop I go jump t ≡ jump_stop I other jump t
 jump_same I go other (goto l) t f h = f l (inl refl) h
@@ -41,7 +41,7 @@ nowhere : (I : Interpretation) (g : Graph) (p : ℕ → Bool) (m l : ℕ) (t : S
 nowhere I g p zero l t e h = h
 nowhere I g p (suc m) l t e h = subst (λ o. IsSettled (block_stop I (on_from I g p m) o t)) e h
 
--- more blocks do not change where the run from a block of the list comes to
+-- more blocks do not change where the run from a block of the list ends
 abbrev SettlesFrom : Interpretation → Graph → (ℕ → Bool) → List ℕ → Type 0
 SettlesFrom I g p left =
     (k : ℕ) → Has left k → (n m : ℕ) (s : State) → length left ≤ n → IsSettled (stop_from I g p m k s) → stop_from I g p n k s ≡ stop_from I g p m k s
@@ -139,7 +139,7 @@ no_heads : (g : Graph) (heads : List ℕ) → ((k : ℕ) → Has heads k → ⊥
 no_heads g [] f = refl
 no_heads g (k ∷ heads) f = absurd (f k (inl refl))
 
--- without an uncut loop, runs from places come to an end
+-- without an uncut loop, runs from places end
 pub comes_to_end : (I : Interpretation) (g : Graph) (k : ℕ) (s : State) → (HasUncutLoop g → ⊥) → is_place g k ≡ true → ComesToEnd I g k s
 comes_to_end I g k s cut place =
     let walk = (cut_follows g).goes.walk in

@@ -1,4 +1,4 @@
--- The test of liveness tells the least sets: within as many blocks as the graph has nothing is added any more.
+-- The test of liveness is true on the least sets: after the number of blocks of the graph nothing is added.
 use Rattle.std.proofs.Common.{◌≡◌, ◌⊎◌, ◌↔◌, inl, inr, ⊎_elim, ℕ, zero, suc, ◌<◌, ◌≤◌, Bool, true, false, not, ◌&&◌, ◌||◌, List, [], ◌∷◌, length, Option, Some, None, slice_get, if◌then◌else◌, refl, sym, ◌∙◌, ap, subst, arith}
 use Rattle.std.specs.List.{list_any, range_with_len}
 use Rattle.std.proofs.lemmas.Bool.{false≢true, and_parts, and_from, or_cases, or_left, or_right, cases_Bool, cases_lt}
@@ -40,7 +40,7 @@ within_more g x zero k e = absurd (false≢true e)
 within_more g x (suc n) k e =
     live_at_block_more x (live_within g x n) (live_within g x (suc n)) (λ l h. within_more g x n l h) (slice_get g k) e
 
--- what the test tells is live
+-- what passes the test is live
 block_sound : (g : Graph) (x k : ℕ) (at_target : ℕ → Bool) → ((l : ℕ) → at_target l ≡ true → IsLive g x l) → (block : Block) → slice_get g k ≡ Some block →
     live_before x block.statements (live_at_jump x at_target block.jump) ≡ true → IsLive g x k
 block_sound g x k at_target f block e h = by_jump (cases_Bool (list_any at_target (jump_targets block.jump)))
@@ -111,7 +111,7 @@ grown f h m (k ∷ ks) = by_tests (f k) (h k) (m k) refl refl (grown f h m ks)
     by_tests false false i a b (inl r) = inl (none (inr b) r.0, r.1)
     by_tests false false i a b (inr r) = inr r
 
--- one block more adds nothing
+-- another block adds nothing
 abbrev IsStable : Graph → ℕ → ℕ → Type 0
 IsStable g x n = (k : ℕ) → live_within g x (suc n) k ≡ true → live_within g x n k ≡ true
 
@@ -156,7 +156,7 @@ stable_at_end g x = by_count (stable_or_more g x (length g))
     by_count (inr h) =
         absurd (omega (arith, h, count_within (live_within g x (suc (length g))) (range_with_len 0 (length g)), length-range_with_len 0 (length g)))
 
--- the test tells what is live
+-- the test is true of what is live
 pub live_exactly : (g : Graph) (k x : ℕ) → (live g k x ≡ true) ↔ IsLive g x k
 live_exactly g k x = (
   (λ e. within_sound g x (length g) k e),

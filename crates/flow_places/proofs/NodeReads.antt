@@ -27,7 +27,7 @@ none_first : (x m : ℕ) → first_reads x m [] ≡ false
 none_first x zero = refl
 none_first x (suc m) = refl
 
--- a tree more
+-- another tree
 one_first : (x m : ℕ) (es : List ExprTree) → (reads x (first_expr es) || first_reads x m (other_exprs es)) ≡ first_reads x (suc m) es
 one_first x m [] = none_first x m
 one_first x m (e ∷ es) = refl

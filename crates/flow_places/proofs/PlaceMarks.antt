@@ -40,7 +40,7 @@ one_at_most : (go : ℕ → Walk → Walk) (b : Bool) (k : ℕ) (w : Walk) → w
 one_at_most go true k w = refl
 one_at_most go false k w = refl
 
--- the walk from one block more
+-- the walk from another block
 pub one_place_more : (go : ℕ → Walk → Walk) (p : ℕ → Bool) (n : ℕ) (w : Walk) → walk_all go (filter p (range_with_len 0 (suc n))) w ≡ (if p n then go n (walk_all go (filter p (range_with_len 0 n)) w) else walk_all go (filter p (range_with_len 0 n)) w)
 one_place_more go p n w =
     let last : 0 + n ≡ n = omega arith in

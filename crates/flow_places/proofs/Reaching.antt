@@ -19,7 +19,7 @@ use Rattle.flow_places.proofs.Walked.{among_has, has_among, in_range, IsBlock, b
 root : (g : Graph) (stops : ℕ → Bool) (k : ℕ) → ((block : Block) → slice_get g k ≡ Some block → IsReached g k) → IsWayTo g stops [] k
 root g stops k h = record { leads = tt; distinct = tt; members = λ j m. absurd m; reaches = h }
 
--- a whole walk has left what it has come to
+-- a whole walk has left what it has reached
 come_to : (g : Graph) (stops : ℕ → Bool) (w : Walk) (k : ℕ) → IsWalk g stops [] w → IsHandled g w.heads w.left k → IsBlock g k → Has w.left k
 come_to g stops w k i (inl h) there = ⊎_elim (λ a. a) absurd (i.seen k h)
 come_to g stops w k i (inr (inl h)) there = h
@@ -185,7 +185,7 @@ unmarked_cut g e (k, r, loop) =
     no_loop g (is_place g) (entry_walk g).left k (order_without g (is_place g) (entry_walk g).heads (entry_walk g).left (λ l h. head_is_place g l e h) (entry_goes g).goes.walk.in_order)
     (entry_goes g).goes.walk.distinct (left_by_entry g k r) loop (block_reached g k r)
 
--- the back edges that the program has met tell whether a loop is left
+-- the back edges that the program has met show whether a loop is left
 pub loop_told : (g : Graph) (heads : List ℕ) (k : ℕ) → reverse heads ≡ (cut_walk g).heads → Has heads k → HasUncutLoop g
 loop_told g [] k e h = absurd h
 loop_told g (l ∷ heads) k e h = loop_shown g l (subst (λ hs. Has hs l) e (subst (λ hs. Has hs l) (sym (reverse-append (l ∷ []) heads)) (has_right (reverse heads) (l ∷ []) l (inl refl))))

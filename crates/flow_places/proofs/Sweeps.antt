@@ -20,7 +20,7 @@ none_swept g x first old h = record {
   reached = λ k le e. absurd (false≢true (sym (ap (live_at_block x old) (slice_get_past g k (omega (arith, h, le)))) ∙ e));
 }
 
--- one block more has been brought up to date
+-- another block is up to date
 pub one_swept : (g : Graph) (x k : ℕ) (old mid new : ℕ → Bool) → IsSwept g x (suc k) old mid → new k ≡ (live_at_block x mid (slice_get g k) || mid k) → ((j : ℕ) → j ≢ k → new j ≡ mid j) → IsSwept g x k old new
 one_swept g x k old mid new swept here elsewhere = record { kept = λ j e. keeps j (swept.kept j e); sound = λ f j e. sound f j e (cases_eq j k); reached = λ j le e. reached j le e (cases_eq j k) }
   where

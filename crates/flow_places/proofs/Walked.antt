@@ -1,4 +1,4 @@
--- What a depth-first walk leaves: the blocks that it has left are in order, each block before those that come to it
+-- What a depth-first walk leaves: the blocks that it has left are in order, each block before those that lead to it
 -- along jumps that are no back edges, and the target of a back edge is on a loop.
 use Rattle.std.proofs.Common.{◌≡◌, ◌⊎◌, inl, inr, ⊎_elim, ℕ, zero, suc, ◌+◌, ◌<◌, ◌≤◌, Bool, true, false, List, [], ◌∷◌, length, Option, Some, None, slice_get, nat_eq, if◌then◌else◌, refl, sym, ◌∙◌, ap, subst, arith}
 use Rattle.std.specs.List.{range_with_len}
@@ -122,7 +122,7 @@ pub record GoesTo (g : Graph) (stops : ℕ → Bool) (path : List ℕ) (k : ℕ)
   pub goes : GoesOn g stops path v w
   pub handled : IsHandled g w.heads w.left k
 
--- a walk goes on to another, which has come to the block unless it is left out
+-- a walk goes on to another, which has reached the block unless it is left out
 pub record Follows (g : Graph) (stops skips : ℕ → Bool) (path : List ℕ) (k : ℕ) (v w : Walk) : Type 0 where
   pub goes : GoesOn g stops path v w
   pub handled : skips k ≡ false → IsHandled g w.heads w.left k

@@ -14,13 +14,13 @@ use Rattle.flow_places.specs.Live.{live}
 abbrev pub JumpsInside : Graph → Type 0
 JumpsInside g = (k l : ℕ) → Has (targets g k) l → l < length g
 
--- The run from a block comes to a place, returns or gets stuck within as many blocks as the graph has: more blocks do
--- not change where it comes to, and within the graph it always comes to an end.
+-- The run from a block reaches a place, returns or gets stuck within the number of blocks of the graph: more blocks do
+-- not change where it ends, and within the graph it always ends.
 pub record ComesToEnd (I : Interpretation) (g : Graph) (k : ℕ) (s : State) : Type 0 where
   pub settles : (n : ℕ) → IsSettled (stop_from I g (is_place g) n k s) → stop_from I g (is_place g) (length g) k s ≡ stop_from I g (is_place g) n k s
   pub ends : JumpsInside g → stop_from I g (is_place g) (length g) k s ≡ unfinished → ⊥
 
--- where each loop that is reached has a place, runs from places come to an end
+-- where each loop that is reached has a place, runs from places end
 abbrev pub PlacesCutRuns : Type 0
 PlacesCutRuns =
     (I : Interpretation) (g : Graph) (k : ℕ) (s : State) → (HasUncutLoop g → ⊥) → is_place g k ≡ true → ComesToEnd I g k s

@@ -4,7 +4,7 @@ use Rattle.std.specs.List.{list_any}
 use Rattle.flow_model.specs.Graphs.{JumpTree, Block, Graph}
 use Rattle.flow_ways.specs.Liveness.{live_before, jump_reads, jump_targets}
 
--- whether variable x is live before the jump of a block; `at_target` tells whether it is live at a block
+-- whether variable x is live before the jump of a block; `at_target` says whether it is live at a block
 abbrev pub live_at_jump : ℕ → (ℕ → Bool) → JumpTree → Bool
 live_at_jump x at_target jump = jump_reads x jump || list_any at_target (jump_targets jump)
 

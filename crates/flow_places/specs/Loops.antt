@@ -18,7 +18,7 @@ pub data IsReached (g : Graph) : ℕ → Type 0 where
   entry : (k : ℕ) (block : Block) → k ≡ 0 → slice_get g k ≡ Some block → IsReached g k
   jumped : (k l : ℕ) (block : Block) → IsReached g k → Has (targets g k) l → slice_get g l ≡ Some block → IsReached g l
 
--- one jump or more lead from block k to block l, and no block that they come to is a place
+-- one jump or more lead from block k to block l, and no block that they reach is a place
 pub data Avoids (g : Graph) (is_place : ℕ → Bool) : ℕ → ℕ → Type 0 where
   one_jump : (k l : ℕ) → Has (targets g k) l → is_place l ≡ false → Avoids g is_place k l
   more_jumps : (k l m : ℕ) → Has (targets g k) l → is_place l ≡ false → Avoids g is_place l m → Avoids g is_place k m

@@ -24,7 +24,7 @@ abbrev pub walk_all : (ℕ → Walk → Walk) → List ℕ → Walk → Walk
 walk_all go [] w = w
 walk_all go (k ∷ ks) w = walk_all go ks (go k w)
 
--- the walk after a block that it had not come to: the targets of the block's jump come first, the first one first
+-- the walk after a block that it had not reached: the targets of the block's jump come first, the first one first
 abbrev pub walk_into : (ℕ → Walk → Walk) → ℕ → Option Block → Walk → Walk
 walk_into go k None w = w
 walk_into go k (Some block) w = with_left k (walk_all go (jump_targets block.jump) w)

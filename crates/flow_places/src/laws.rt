@@ -1,8 +1,8 @@
 //! Laws of places and live variables. Each function does nothing: its contract is the law.
 ghost use Rattle.flow_places.specs.Laws.{PlacesCutRuns, ReachedExactly, UnmarkedAreCut, LiveExactly};
 
-/// Where each loop that is reached has a place, a run from a place comes to a place, returns or gets stuck within as
-/// many blocks as the graph has.
+/// Where each loop that is reached has a place, a run from a place reaches a place, returns or gets stuck within
+/// the number of blocks of the graph.
 pub fn places_cut_runs()
     ensures { PlacesCutRuns }
 {}
@@ -17,7 +17,7 @@ pub fn back_edges_cut_loops()
     ensures { UnmarkedAreCut }
 {}
 
-/// The test of liveness tells the least sets of the equations of liveness.
+/// The test of liveness is true exactly on the least sets of the equations of liveness.
 pub fn live_sets_are_least()
     ensures { LiveExactly }
 {}

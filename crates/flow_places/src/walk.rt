@@ -16,7 +16,7 @@ pub(crate) struct Walk {
     pub(crate) heads: Vec<usize>,
 }
 
-/// Returns a walk that has come to no block.
+/// Returns a walk that has reached no block.
 pub(crate) fn new_walk(alloc: Global) -> Walk
     ensures { walk_of result ≡ no_walk }
 {

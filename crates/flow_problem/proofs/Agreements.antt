@@ -1,4 +1,4 @@
--- If both sides of a problem that asks of two graphs are the same, the graphs always return the same.
+-- If both sides of a problem of two graphs are the same, the graphs always return the same.
 use Rattle.std.proofs.Common.{◌≡◌, ℕ, ◌<◌, ◌↔◌, List, length, refl, sym, ◌∙◌, subst, slice_get, Option, Some, None}
 use Rattle.std.proofs.lemmas.List.{length-map}
 use Rattle.std.proofs.lemmas.Option.{slice_get_within}
@@ -9,7 +9,7 @@ use Rattle.flow_model.specs.Interpretations.{Interpretation}
 use Rattle.flow_model.specs.Runs.{Returns}
 use Rattle.flow_model.specs.Agreement.{AgreeAlways}
 use Rattle.flow_forms.specs.Comparisons.{comparison_holds}
-use Rattle.abstraction.proofs.PathTables.{FitsProblem, same_in_frame}
+use Rattle.kat_model.proofs.PathTables.{FitsProblem, same_in_frame}
 use Rattle.flow_problem.specs.Edges.{FlowActionTree}
 use Rattle.flow_problem.specs.Points.{RunPoint, at, numbers_at, IsPoint, ActsAt, point_frame, FlowProblem, AsksOf}
 

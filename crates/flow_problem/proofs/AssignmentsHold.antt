@@ -12,15 +12,14 @@ use Rattle.flow_model.specs.declared.sort.Sort.{Sort}
 use Rattle.flow_model.specs.Sorts.{State, IsState}
 use Rattle.flow_model.specs.Interpretations.{Interpretation}
 use Rattle.flow_forms.specs.Forms.{FlowFormTree}
-use Rattle.flow_forms.specs.Comparisons.{FlowComparisonTree, FlowLiteralTree, decided, holding, failing, comparison_holds, literal_holds}
-use Rattle.flow_ways.specs.Conditions.{is_same_comparison}
+use Rattle.flow_forms.specs.Comparisons.{FlowComparisonTree, FlowLiteralTree, decided, holding, failing, comparison_holds, literal_holds, is_same_comparison}
 use Rattle.flow_ways.specs.Actions.{after_action}
-use Rattle.abstraction.proofs.RelatesNothing.{RelatesNone, around_action}
+use Rattle.kat_model.proofs.RelatesNothing.{RelatesNone, around_action}
 use Rattle.flow_problem.specs.Edges.{FlowActionTree, assigned, given}
 use Rattle.flow_problem.specs.Points.{RunPoint, at, ended, numbers_at, IsPoint, ActsAt, point_frame}
 use Rattle.flow_problem.specs.Substitutions.{literal_after, prim_of, complement_of}
 use Rattle.flow_problem.specs.FlowFacts.{FlowRule, by_assignment, FlowHypothesis, NumberedTest, NumberedAction, ends_in, ends_outside, keeps_test, keeps_prim, keeps_complement, keeps_literal, keeps_if_known, action_facts}
-use Rattle.flow_problem.proofs.SameActions.{one_comparison}
+use Rattle.flow_forms.proofs.SameComparisons.{one_comparison}
 use Rattle.flow_problem.proofs.EdgeRelations.{test_there}
 use Rattle.flow_problem.proofs.AssignedValues.{holds-literal_after}
 

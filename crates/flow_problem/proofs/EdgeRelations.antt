@@ -17,15 +17,16 @@ use Rattle.flow_model.specs.declared.sort.Sort.{Sort}
 use Rattle.flow_model.specs.Sorts.{State, IsState}
 use Rattle.flow_model.specs.Interpretations.{Interpretation}
 use Rattle.flow_forms.specs.Forms.{FlowFormTree}
-use Rattle.flow_forms.specs.Comparisons.{FlowComparisonTree, comparison_holds}
-use Rattle.flow_ways.specs.Conditions.{FlowCondTree, constantly, atom, negation, both, either, cond_holds, is_same_comparison}
+use Rattle.flow_forms.specs.Comparisons.{FlowComparisonTree, comparison_holds, is_same_comparison}
+use Rattle.flow_ways.specs.Conditions.{FlowCondTree, constantly, atom, negation, both, either, cond_holds}
 use Rattle.flow_ways.specs.Ways.{AllHold}
 use Rattle.flow_ways.specs.Actions.{after_from}
-use Rattle.abstraction.proofs.MemberPlaces.{position_of_member}
+use Rattle.kat_model.proofs.MemberPlaces.{position_of_member}
 use Rattle.flow_problem.specs.Edges.{FlowActionTree, assigned, given, Edge, sets_nothing, is_idle, is_same_action}
 use Rattle.flow_problem.specs.Points.{RunPoint, at, IsPoint, point_after, ActsAt, point_frame}
 use Rattle.flow_problem.specs.EdgeTerms.{comparisons_of, edge_comparisons, row_number, test_of_cond, action_terms, edge_term, comes_to, is_end}
-use Rattle.flow_problem.proofs.SameActions.{one_comparison, own_comparison, one_action, own_action}
+use Rattle.flow_forms.proofs.SameComparisons.{one_comparison, own_comparison}
+use Rattle.flow_problem.proofs.SameActions.{one_action, own_action}
 
 -- an action that changes nothing
 pub after_none : (I : Interpretation) (s : State) (sorts : List Sort) (os : List (Option FlowFormTree)) (ns : State) → sets_nothing os ≡ true → after_from I s sorts os ns ≡ ns

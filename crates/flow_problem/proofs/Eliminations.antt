@@ -120,7 +120,7 @@ module _ {S : Type 0} (frame : Frame S) where
     around_first i s u t ss su st r (v, sv, loop, inr (j, lt, w, sw, g, p)) =
         (suc p.0, (j, lt, w, sw, (plus_relates (steps i j) (around_place steps n i (steps n j)) s w).1 (inr ((through_relates steps n i (steps n j) s w ss sw).1 (u, su, r, (v, sv, loop, g)))), p.1))
 
-    -- paths over one place more are paths over these
+    -- paths over another place are paths over these
     record Shortened (m : ℕ) : Type 0 where
       earlier : (i : ℕ) (s t : S) → i < n → frame.IsState s → frame.IsState t → PathOf (suc n) steps ends m i s t → HasPath n fewer_steps fewer_ends i s t
       last : (s t : S) → frame.IsState s → frame.IsState t → PathOf (suc n) steps ends m n s t → Leaves s t

@@ -21,12 +21,12 @@ use Rattle.flow_forms.proofs.ConvertedValues.{same_bits}
 use Rattle.flow_forms.proofs.EquationValues.{positive}
 use Rattle.flow_forms.proofs.Polynomials.{value-form_sum}
 use Rattle.flow_forms.proofs.ComparisonValues.{holds-compared_numbers}
-use Rattle.abstraction.proofs.RelatesNothing.{RelatesNone, two_tests, three_tests}
+use Rattle.kat_model.proofs.RelatesNothing.{RelatesNone, two_tests, three_tests}
 use Rattle.flow_problem.specs.Edges.{FlowActionTree}
 use Rattle.flow_problem.specs.Points.{RunPoint, numbers_at, point_frame}
 use Rattle.flow_problem.specs.Substitutions.{complement_of}
 use Rattle.flow_problem.specs.FlowFacts.{FlowRule, NumberedTest, by_order, by_equality, by_three_ways, by_next_number, fact_where, never_both, is_one_form, are_turned, is_comparison, says_equal, says_less, none_of_three, order_fact, equality_fact, three_way_fact, next_number_fact}
-use Rattle.flow_problem.proofs.SameActions.{one_form, one_comparison}
+use Rattle.flow_forms.proofs.SameComparisons.{one_form, one_comparison}
 use Rattle.flow_problem.proofs.EdgeRelations.{test_there}
 use Rattle.flow_problem.proofs.AssignmentsHold.{Hold, hold_none, one_holds}
 

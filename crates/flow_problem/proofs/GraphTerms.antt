@@ -77,7 +77,7 @@ module _ (I : Interpretation) (g : Graph) (sorts : List Sort) (marks : Marks) (o
   abbrev stop_at : ℕ → State → Stop
   stop_at k s = stop_from I g marks.is_place (length g) k s
 
-  -- ---- ways that come to a place
+  -- ---- ways that reach a place
 
   record StepsTo (k : ℕ) (s : State) (j : ℕ) (u : RunPoint) : Type 0 where
     to : State
@@ -196,7 +196,7 @@ module _ (I : Interpretation) (g : Graph) (sorts : List Sort) (marks : Marks) (o
     stops_alike : (k : ℕ) (s t : State) → Alike k s t → StopsAgree g (stop_at k s) (stop_at k t)
     stops_alike k s t a = sorted_runs_alike I g sorts marks.is_place o (length g) k s t a.wide a.live
 
-    -- where a step leads, a run that agrees comes to the same place
+    -- where a step leads, a run that agrees reaches the same place
     record GoesAlike (k : ℕ) (s t : State) (j : ℕ) (u : RunPoint) : Type 0 where
       to : State
       there : u ≡ at to
@@ -270,7 +270,7 @@ module _ (I : Interpretation) (g : Graph) (sorts : List Sort) (marks : Marks) (o
         (record { edge = edge.0; has = edge.1; passes = ap is_end (edge.2.target ∙ end.0); tests_hold = edge.2.edge_tests; ends = sym edge.2.point }) in
         record { point = point_after I sorts (end_action marks sorts way.0.end) s; is_point = end.1; path = (0, last); end = end.2 }
 
-    -- a run from a state that comes to a place has a step to a state that agrees with it
+    -- a run from a state that reaches a place has a step to a state that agrees with it
     record StepFrom (k : ℕ) (s t : State) (j : ℕ) (state : State) : Type 0 where
       to : State
       relates : RelatesIn frame (block_steps k j) (at s) (at to)

@@ -22,11 +22,11 @@ use Rattle.flow_forms.specs.Comparisons.{FlowComparisonTree, zero_form, less_for
 use Rattle.flow_forms.proofs.ConvertedValues.{same_bits}
 use Rattle.flow_forms.proofs.EquationValues.{positive}
 use Rattle.flow_forms.proofs.Polynomials.{polynomial-negative}
-use Rattle.abstraction.proofs.RelatesNothing.{RelatesNone, two_tests, three_tests}
+use Rattle.kat_model.proofs.RelatesNothing.{RelatesNone, two_tests, three_tests}
 use Rattle.flow_problem.specs.Edges.{FlowActionTree}
 use Rattle.flow_problem.specs.Points.{RunPoint, numbers_at, point_frame}
 use Rattle.flow_problem.specs.FlowFacts.{FlowHypothesis, NumberedTest, by_intervals, is_one_form, none_of_three, Arc, lies_in, have_common, varying_part, constant_part, Interval, interval_of_sum, interval_below, interval_of, is_same_interval_form, literal_arc, literal_test, two_arc_fact, two_arc_facts, pair_of_intervals, two_interval_fact, is_least, three_arc_fact, three_arc_facts, triple_of_intervals, three_interval_fact}
-use Rattle.flow_problem.proofs.SameActions.{one_form, own_test}
+use Rattle.flow_forms.proofs.SameComparisons.{one_form, own_test}
 use Rattle.flow_problem.proofs.EdgeRelations.{test_there}
 use Rattle.flow_problem.proofs.AssignmentsHold.{Hold, hold_none, hold_both}
 use Rattle.flow_problem.proofs.FlowFactsHold.{number_at, number_below, if_holds}

@@ -1,5 +1,5 @@
--- The functions that compare comparisons and actions decide equality.
-use Rattle.std.proofs.Common.{◌≡◌, true, ◌&&◌, List, [], ◌∷◌, Option, Some, None, refl, sym, ap, Equal}
+-- The function that compares actions decides equality.
+use Rattle.std.proofs.Common.{◌≡◌, true, ◌&&◌, List, [], ◌∷◌, Option, Some, None, refl, ap, Equal}
 use mathlib.Core.Path.{ap₂}
 use Rattle.std.specs.Ordering.{is_eq}
 use Rattle.std.proofs.lemmas.Bool.{and_parts, and_from}
@@ -10,35 +10,9 @@ use Rattle.flow_model.specs.declared.sort.Sort.{Sort}
 use Rattle.flow_model.specs.declared.sort.Sort.TheVariants.{Number, Opaque}
 use Rattle.flow_forms.specs.Forms.{FlowFormTree}
 use Rattle.flow_forms.specs.Order.{sort_cmp, form_cmp}
-use Rattle.flow_forms.specs.Conversions.{is_same_width}
-use Rattle.flow_forms.specs.Comparisons.{FlowComparisonTree, zero_form, less_form, same_form}
-use Rattle.flow_forms.proofs.SameForms.{same_form as equal_forms, same_sort, own_form}
-use Rattle.flow_forms.proofs.ConvertedValues.{same_bits}
-use Rattle.flow_ways.specs.Conditions.{is_same_comparison}
-use Rattle.flow_ways.proofs.CondValues.{same_answers}
+use Rattle.flow_forms.proofs.SameForms.{same_sort}
+use Rattle.flow_forms.proofs.SameComparisons.{one_form, own_test}
 use Rattle.flow_problem.specs.Edges.{FlowActionTree, assigned, given, is_same_set, are_same_sets, are_same_results, is_same_action}
-
-pub one_form : (f g : FlowFormTree) → is_eq (form_cmp f g) ≡ true → f ≡ g
-one_form f g e = equal_forms f g (is_eq-true (form_cmp f g) e)
-
-pub own_test : (f : FlowFormTree) → is_eq (form_cmp f f) ≡ true
-own_test f = ap is_eq (own_form f)
-
-pub one_comparison : (c d : FlowComparisonTree) → is_same_comparison c d ≡ true → c ≡ d
-one_comparison (zero_form v f) (zero_form w g) e =
-    let h = and_parts (is_same_width v w) (is_eq (form_cmp f g)) e in
-    ap₂ zero_form (same_bits v w h.0) (one_form f g h.1)
-one_comparison (less_form v d e) (less_form w f g) q =
-    let h = and_parts (is_same_width v w && is_eq (form_cmp d f)) (is_eq (form_cmp e g)) q in
-    let k = and_parts (is_same_width v w) (is_eq (form_cmp d f)) h.0 in
-    rw (same_bits v w k.0, one_form d f k.1, one_form e g h.1) refl
-one_comparison (same_form d e) (same_form f g) q =
-    let h = and_parts (is_eq (form_cmp d f)) (is_eq (form_cmp e g)) q in
-    ap₂ same_form (one_form d f h.0) (one_form e g h.1)
-one_comparison _ _ e = absurd cc
-
-pub own_comparison : (c : FlowComparisonTree) → is_same_comparison c c ≡ true
-own_comparison c = sym (same_answers true c c ((λ _. refl), (λ _. refl)))
 
 own_sort : (a : Sort) → sort_cmp a a ≡ Equal
 own_sort (Number w) = nat_cmp-own (bits w)

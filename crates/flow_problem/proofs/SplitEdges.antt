@@ -6,15 +6,15 @@ use Rattle.kat_model.proofs.Lists.{has_left, has_right, has_append, has_flat_map
 use Rattle.flow_model.specs.declared.sort.Sort.{Sort}
 use Rattle.flow_model.specs.Sorts.{State, IsState}
 use Rattle.flow_model.specs.Interpretations.{Interpretation}
-use Rattle.flow_forms.specs.Comparisons.{FlowComparisonTree, comparison_holds}
-use Rattle.flow_ways.specs.Conditions.{FlowCondTree, atom, negation, Fact, facts_of, value_known, is_same_comparison}
+use Rattle.flow_forms.specs.Comparisons.{FlowComparisonTree, comparison_holds, is_same_comparison}
+use Rattle.flow_ways.specs.Conditions.{FlowCondTree, atom, negation, Fact, facts_of, value_known}
 use Rattle.flow_ways.specs.Ways.{Way, AllHold}
 use Rattle.flow_ways.proofs.CondValues.{FactsHold, FactsHold-append, facts_hold}
 use Rattle.flow_problem.specs.Edges.{Edge, Marks}
 use Rattle.flow_problem.specs.Points.{point_after}
 use Rattle.flow_problem.specs.EdgeTerms.{comparisons_of, edge_comparisons}
 use Rattle.flow_problem.specs.Splits.{CellTest, cell_test, cell_tests, action_reads, action_fits, edge_where_equal, edge_where_other, edges_by, facts_of_all, split_edge, split_edges}
-use Rattle.flow_problem.proofs.SameActions.{one_comparison}
+use Rattle.flow_forms.proofs.SameComparisons.{one_comparison}
 use Rattle.flow_problem.proofs.GraphTerms.{DoesAs, AreWays}
 use Rattle.flow_problem.proofs.SplitValues.{IsTestOf, action_same, test_of_cell}
 

@@ -30,7 +30,7 @@ use Rattle.flow_ways.proofs.States.{has_forms, own_value, own_state, own_length}
 use Rattle.flow_problem.specs.Edges.{FlowActionTree, assigned, given}
 use Rattle.flow_problem.specs.Points.{at, ended, point_after}
 use Rattle.flow_problem.specs.Splits.{CellTest, is_number_of, is_cell_of, cell_test_if, signed_cell_test, product_test, sum_test, cell_test, is_same_cell, named, sorts_with, forms_with, with_cell_number, set_with, sets_with, action_with}
-use Rattle.flow_problem.proofs.SameActions.{one_form}
+use Rattle.flow_forms.proofs.SameComparisons.{one_form}
 use Rattle.flow_problem.proofs.GraphTerms.{length-state}
 use Rattle.flow_problem.proofs.Arcs.{SumIs, sum_is, OppositeIs, opposite_is}
 

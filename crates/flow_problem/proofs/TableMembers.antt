@@ -1,42 +1,14 @@
 -- What is met in graphs is in the tables of a problem.
-use Rattle.std.proofs.Common.{◌≡◌, ℕ, zero, suc, ◌+◌, inl, inr, Bool, true, false, not, ◌&&◌, nat_lt, List, [], ◌∷◌, ◌++◌, length, flat_map, slice_get, Some, if◌then◌else◌, refl, sym, ◌∙◌, ap, subst, arith}
+use Rattle.std.proofs.Common.{◌≡◌, ℕ, zero, suc, ◌+◌, inl, inr, Bool, true, false, not, ◌&&◌, nat_lt, List, [], ◌∷◌, ◌++◌, length, flat_map, slice_get, Some, if◌then◌else◌, refl, ◌∙◌, ap, subst, arith}
 use Rattle.std.specs.List.{list_any, enumerate_from}
 use Rattle.kat_model.specs.Members.{Has, IsSubset}
 use Rattle.kat_model.specs.declared.limits.TheConstants.{MAX_TESTS}
-use Rattle.kat_model.proofs.Lists.{has_left, has_right, has_any}
+use Rattle.kat_model.proofs.Lists.{has_left}
 use Rattle.flow_model.specs.declared.sort.Sort.{Sort}
-use Rattle.flow_forms.specs.Comparisons.{FlowComparisonTree}
-use Rattle.flow_ways.specs.Conditions.{is_same_comparison}
-use Rattle.abstraction.specs.Tables.{with_new, with_all_new}
+use Rattle.flow_forms.specs.Comparisons.{FlowComparisonTree, is_same_comparison}
 use Rattle.flow_problem.specs.Edges.{FlowActionTree, Edge, is_idle}
 use Rattle.flow_problem.specs.EdgeTerms.{edge_actions}
 use Rattle.flow_problem.specs.FlowRounds.{comparisons_before, with_comparison, with_comparisons, flow_round, flow_rounds}
-
--- ---- lists of which each element is taken once
-
-module _ {X : Type 0} (same : X → X → Bool) (is : (x y : X) → same x y ≡ true → x ≡ y) where
-  new_keeps : (xs : List X) (y x : X) → Has xs x → Has (with_new same xs y) x
-  new_keeps xs y x h = go (list_any (same y) xs)
-    where
-      go : (b : Bool) → Has (if b then xs else xs ++ y ∷ []) x
-      go true = h
-      go false = has_left xs (y ∷ []) x h
-
-  new_has : (xs : List X) (x : X) → Has (with_new same xs x) x
-  new_has xs x = go (list_any (same x) xs) refl
-    where
-      go : (b : Bool) → list_any (same x) xs ≡ b → Has (if b then xs else xs ++ x ∷ []) x
-      go true e = let y = has_any (same x) xs e in subst (Has xs) (sym (is x y.0 y.2)) y.1
-      go false e = has_right xs (x ∷ []) x (inl refl)
-
-  all_new_keep : (xs ys : List X) (x : X) → Has xs x → Has (with_all_new same xs ys) x
-  all_new_keep xs [] x h = h
-  all_new_keep xs (y ∷ ys) x h = all_new_keep (with_new same xs y) ys x (new_keeps xs y x h)
-
-  pub all_new_has : (xs ys : List X) → IsSubset ys (with_all_new same xs ys)
-  all_new_has xs [] x h = absurd h
-  all_new_has xs (y ∷ ys) x (inl e) = all_new_keep (with_new same xs y) ys x (subst (Has (with_new same xs y)) e (new_has xs y))
-  all_new_has xs (y ∷ ys) x (inr h) = all_new_has (with_new same xs y) ys x h
 
 -- ---- rounds keep what is in the table
 

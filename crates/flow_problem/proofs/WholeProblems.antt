@@ -10,24 +10,25 @@ use Rattle.flow_model.specs.declared.sort.Sort.{Sort}
 use Rattle.flow_model.specs.Sorts.{State, IsState}
 use Rattle.flow_model.specs.Graphs.{Graph}
 use Rattle.flow_model.specs.Interpretations.{Interpretation}
-use Rattle.flow_forms.specs.Comparisons.{FlowComparisonTree}
-use Rattle.flow_ways.specs.Conditions.{is_same_comparison}
+use Rattle.flow_forms.specs.Comparisons.{FlowComparisonTree, is_same_comparison}
 use Rattle.flow_ways.specs.Ways.{Way, ways, AllHold}
-use Rattle.abstraction.proofs.RelatesNothing.{RelatesNone}
+use Rattle.kat_model.proofs.RelatesNothing.{RelatesNone}
 use Rattle.flow_problem.specs.Edges.{FlowActionTree, Edge, Marks, is_idle, is_same_action, edge_of, way_edges}
 use Rattle.flow_problem.specs.Points.{FlowProblem, point_frame, AsksOf}
 use Rattle.flow_problem.specs.EdgeTerms.{edge_comparisons, edge_actions, all_edges}
 use Rattle.flow_problem.specs.Splits.{cell_tests}
 use Rattle.flow_problem.specs.FlowFacts.{FlowHypothesis, NumberedTest, order_fact, equality_fact, three_way_fact, two_interval_fact, three_interval_fact, next_number_fact, for_pairs, for_triples, action_facts, facts_between, flow_hypotheses}
 use Rattle.flow_problem.specs.FlowProblems.{FlowQuestion, PairMarks, too_many_tests, too_many_actions, problem_too_large, first_tests, edges_with, edges_before, edges_after, flow_actions, flow_tests, flow_parts, whole_problem, problem_by, HasMarks}
-use Rattle.flow_problem.proofs.SameActions.{one_comparison, one_action}
+use Rattle.flow_forms.proofs.SameComparisons.{one_comparison}
+use Rattle.flow_problem.proofs.SameActions.{one_action}
 use Rattle.flow_problem.proofs.EdgeRelations.{IsListed}
 use Rattle.flow_problem.proofs.GraphTerms.{DoesAs, AreWays, term_of_runs}
 use Rattle.flow_problem.proofs.AssignmentsHold.{Hold, hold_both, action_facts_hold}
 use Rattle.flow_problem.proofs.FlowFactsHold.{order_fact_holds, equality_fact_holds, three_way_fact_holds, next_number_fact_holds}
 use Rattle.flow_problem.proofs.IntervalsHold.{two_interval_fact_holds, three_interval_fact_holds}
 use Rattle.flow_problem.proofs.SplitEdges.{Refines, refines_itself, split_all_refine, refined_ways, AreWithin, split_all_within, cell_tests_are, cell_tests_there}
-use Rattle.flow_problem.proofs.TableMembers.{all_new_has, rounds_keep, action_met, row_there}
+use Rattle.unique_rows.proofs.RowMembers.{with_all_new_has}
+use Rattle.flow_problem.proofs.TableMembers.{rounds_keep, action_met, row_there}
 
 -- ---- hypotheses
 
@@ -160,7 +161,7 @@ module _ (q : FlowQuestion) (marks : PairMarks) (has : HasMarks q.pair marks) wh
   -- the comparisons of the edges that are met are in the table
   comparisons_there : AreWithin table (met_before ++ met_after)
   comparisons_there e h c m =
-      all_new_has is_same_comparison one_comparison [] (flat_map edge_comparisons (met_before ++ met_after)) c
+      with_all_new_has is_same_comparison one_comparison [] (flat_map edge_comparisons (met_before ++ met_after)) c
       (flat_map_has edge_comparisons (met_before ++ met_after) e c h m)
 
   abbrev acting_before : List Edge
@@ -171,7 +172,7 @@ module _ (q : FlowQuestion) (marks : PairMarks) (has : HasMarks q.pair marks) wh
 
   action_there : (e : Edge) → Has (acting_before ++ acting_after) e → is_idle e.action ≡ false → Has actions e.action
   action_there e h busy =
-      all_new_has is_same_action one_action [] (flat_map edge_actions (acting_before ++ acting_after)) e.action
+      with_all_new_has is_same_action one_action [] (flat_map edge_actions (acting_before ++ acting_after)) e.action
       (flat_map_has edge_actions (acting_before ++ acting_after) e e.action h (action_met e busy))
 
   -- the edges from a place, before they are split and after

@@ -2,8 +2,8 @@
 use Rattle.std.specs.Prelude.{ℕ, ◌-◌, Bool, true, false, nat_eq, List, [], ◌∷◌, ◌++◌, length, map, filter, flat_map, position, unwrap_or, slice_index_or, Option, Some, None, if◌then◌else◌}
 use Rattle.kat_model.specs.Trees.{TestTree, bottom, top, prim, complement, meet, join, Term, test, act}
 use Rattle.kat_model.specs.Balanced.{sum_of, product_of}
-use Rattle.flow_forms.specs.Comparisons.{FlowComparisonTree}
-use Rattle.flow_ways.specs.Conditions.{FlowCondTree, constantly, atom, negation, both, either, is_same_comparison}
+use Rattle.flow_forms.specs.Comparisons.{FlowComparisonTree, is_same_comparison}
+use Rattle.flow_ways.specs.Conditions.{FlowCondTree, constantly, atom, negation, both, either}
 use Rattle.flow_problem.specs.Edges.{FlowActionTree, Edge, is_idle, is_same_action}
 use Rattle.flow_problem.specs.Elimination.{eliminated}
 

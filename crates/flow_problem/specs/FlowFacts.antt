@@ -12,8 +12,7 @@ use Rattle.flow_forms.specs.Forms.{FlowFormTree, constant, term}
 use Rattle.flow_forms.specs.Order.{form_cmp}
 use Rattle.flow_forms.specs.Arithmetic.{form_sum}
 use Rattle.flow_forms.specs.Conversions.{is_same_width}
-use Rattle.flow_forms.specs.Comparisons.{FlowComparisonTree, zero_form, less_form, FlowLiteralTree, decided, holding, failing, canonical, compared_numbers}
-use Rattle.flow_ways.specs.Conditions.{is_same_comparison}
+use Rattle.flow_forms.specs.Comparisons.{FlowComparisonTree, zero_form, less_form, FlowLiteralTree, decided, holding, failing, canonical, compared_numbers, is_same_comparison}
 use Rattle.flow_problem.specs.Edges.{FlowActionTree, assigned, given}
 use Rattle.flow_problem.specs.Substitutions.{literal_after, prim_of, complement_of}
 

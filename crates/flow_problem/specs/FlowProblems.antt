@@ -7,12 +7,11 @@ use Rattle.flow_model.specs.declared.sort.Sort.{Sort}
 use Rattle.flow_model.specs.Sorts.{State}
 use Rattle.flow_model.specs.Graphs.{Graph, Pair}
 use Rattle.flow_model.specs.Interpretations.{Interpretation}
-use Rattle.flow_forms.specs.Comparisons.{FlowComparisonTree}
-use Rattle.flow_ways.specs.Conditions.{is_same_comparison}
+use Rattle.flow_forms.specs.Comparisons.{FlowComparisonTree, is_same_comparison}
 use Rattle.flow_ways.specs.Sorted.{IsSortedGraph}
 use Rattle.flow_ways.specs.Stops.{stop_from, IsSettled}
 use Rattle.flow_ways.specs.Liveness.{IsLive}
-use Rattle.abstraction.specs.Tables.{with_all_new}
+use Rattle.unique_rows.specs.UniqueRows.{with_all_new}
 use Rattle.flow_problem.specs.Edges.{FlowActionTree, Edge, Marks, is_same_action, way_edges}
 use Rattle.flow_problem.specs.Points.{FlowProblem}
 use Rattle.flow_problem.specs.EdgeTerms.{edge_comparisons, edge_actions, place_block, graph_term, all_edges}
@@ -20,7 +19,7 @@ use Rattle.flow_problem.specs.FlowFacts.{flow_hypotheses}
 use Rattle.flow_problem.specs.FlowRounds.{flow_rounds}
 use Rattle.flow_problem.specs.Splits.{cell_tests, split_edges}
 
--- what a flow file asks: of two graphs, with so many rounds, and with or without splits
+-- what a flow file asks: whether two graphs agree, with a number of rounds, and with or without splits
 pub record FlowQuestion : Type 0 where
   pub pair : Pair
   pub rounds : ℕ
@@ -87,7 +86,7 @@ problem_by q marks =
     else Ok (whole_problem q marks)
 
 -- Marks that cut each loop of a graph and have each live variable: the entry is the first place, and a run from a place
--- that comes to a place or returns does so within the number of blocks.
+-- that reaches a place or returns does so within the number of blocks.
 pub record MarksGraph (g : Graph) (marks : Marks) : Type 0 where
   pub entry : marks.is_place 0 ≡ true
   pub first : place_block marks.places 0 ≡ 0

@@ -3,8 +3,7 @@ use Rattle.std.specs.Prelude.{ℕ, zero, suc, ◌&&◌, not, nat_lt, List, [], �
 use Rattle.std.specs.List.{list_any}
 use Rattle.kat_model.specs.declared.limits.TheConstants.{MAX_TESTS}
 use Rattle.flow_model.specs.declared.sort.Sort.{Sort}
-use Rattle.flow_forms.specs.Comparisons.{FlowComparisonTree, FlowLiteralTree, decided, holding, failing}
-use Rattle.flow_ways.specs.Conditions.{is_same_comparison}
+use Rattle.flow_forms.specs.Comparisons.{FlowComparisonTree, FlowLiteralTree, decided, holding, failing, is_same_comparison}
 use Rattle.flow_problem.specs.Edges.{FlowActionTree, assigned, given}
 use Rattle.flow_problem.specs.Substitutions.{literal_after}
 

@@ -146,7 +146,7 @@ action_with sorts x (given rs) = given (map (λ r. (r.0, with_cell_number sorts 
 
 -- ---- edges
 
--- an edge with more tests, and with the number in the place of the cell, or as it is
+-- an edge with more tests, and with the number in the place of the cell, or unchanged
 abbrev pub edge_where_equal : List Sort → CellTest → List FlowCondTree → Edge → Edge
 edge_where_equal sorts x bs e = record { tests = e.tests ++ bs; action = action_with sorts x e.action; target = e.target }
 

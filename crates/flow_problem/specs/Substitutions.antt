@@ -3,11 +3,10 @@ use Rattle.std.specs.Prelude.{ℕ, suc, Bool, false, ◌&&◌, ◌||◌, nat_eq,
 use Rattle.kat_model.specs.Trees.{TestTree, prim, complement}
 use Rattle.flow_model.specs.declared.sort.Sort.{Sort}
 use Rattle.flow_forms.specs.Forms.{FlowFormTree, constant, term, one, factor, variable, applied, converted, no_arguments, argument}
-use Rattle.flow_forms.specs.Comparisons.{FlowComparisonTree, zero_form, less_form, same_form, FlowLiteralTree, holding}
+use Rattle.flow_forms.specs.Comparisons.{FlowComparisonTree, zero_form, less_form, same_form, FlowLiteralTree, holding, is_same_comparison}
 use Rattle.flow_forms.specs.Expressions.{form_of_cell}
 use Rattle.flow_forms.specs.declared.substitution.Place.TheVariants as place
 use Rattle.flow_forms.specs.Substitution.{substitution_fits, comparison_after}
-use Rattle.flow_ways.specs.Conditions.{is_same_comparison}
 use Rattle.flow_ways.specs.CondForms.{literal_is_small}
 
 -- the forms of the variables after a parallel assignment: those that are set have theirs, the others stay themselves

@@ -1,14 +1,10 @@
 -- The form of a condition holds exactly when the condition does.
-use Rattle.std.proofs.Common.{◌≡◌, ℕ, Bool, true, false, not, ◌&&◌, ◌||◌, IsTrue, ◌↔◌, List, [], ◌∷◌, ◌++◌, Option, Some, None, if◌then◌else◌, refl, sym, ◌∙◌, ap, subst}
+use Rattle.std.proofs.Common.{◌≡◌, ℕ, Bool, true, false, not, ◌&&◌, ◌||◌, List, [], ◌∷◌, ◌++◌, Option, Some, None, if◌then◌else◌, refl, sym, ◌∙◌, ap}
 use mathlib.Core.Path.{ap₂}
 use Rattle.std.proofs.lemmas.Bool.{and_parts}
-use Rattle.std.specs.Ordering.{is_eq}
 use Rattle.kat_model.specs.Stores.{compares}
-use Rattle.kat_model.specs.declared.expression.Width.{Width}
-use Rattle.kat_model.specs.declared.expression.Width.TheVariants.{W8, W16, W32, W64}
 use Rattle.kat_model.specs.declared.expression.Rel.{Rel}
 use Rattle.kat_model.specs.declared.expression.Rel.TheVariants.{Eq, Ne, Lt, Le, Gt, Ge}
-use Rattle.linear_forms.proofs.SameOrder.{is_eq-true}
 use Rattle.flow_model.specs.declared.sort.Sort.{Sort}
 use Rattle.flow_model.specs.declared.sort.Sort.TheVariants.{Number, Opaque}
 use Rattle.flow_model.specs.Sorts.{State}
@@ -17,15 +13,12 @@ use Rattle.flow_model.specs.Conditions.{CondTree}
 use Rattle.flow_model.specs.Conditions as cond
 use Rattle.flow_forms.specs.Forms.{FlowFormTree}
 use Rattle.flow_forms.specs.Values.{polynomial, form_value}
-use Rattle.flow_forms.specs.Order.{form_cmp}
-use Rattle.flow_forms.specs.Conversions.{is_same_width}
-use Rattle.flow_forms.specs.Comparisons.{FlowComparisonTree, zero_form, less_form, same_form, FlowLiteralTree, decided, holding, failing, comparison_holds, literal_holds, same_literal, compared_signed}
+use Rattle.flow_forms.specs.Comparisons.{FlowComparisonTree, FlowLiteralTree, decided, holding, failing, comparison_holds, literal_holds, same_literal, compared_signed, is_same_comparison}
 use Rattle.flow_forms.specs.Expressions.{sort_of, form_of, HasForms}
-use Rattle.flow_forms.proofs.SameForms.{same_form as equal_forms, own_form}
-use Rattle.flow_forms.proofs.ConvertedValues.{same_bits}
 use Rattle.flow_forms.proofs.ComparisonValues.{holds-opposite, holds-same_literal, holds-compared_numbers, holds-compared_signed}
 use Rattle.flow_forms.proofs.ExpressionValues.{kept}
-use Rattle.flow_ways.specs.Conditions.{FlowCondTree, constantly, atom, negation, both, either, cond_holds, of_literal, opposite_cond, is_true, is_false, both_conds, either_cond, is_same_comparison, Fact, value_known, known_or, simplified, facts_of, compared_opaque, compared_values, cond_form, MayCompare, IsSortedCond}
+use Rattle.flow_forms.proofs.SameComparisons.{one_comparison}
+use Rattle.flow_ways.specs.Conditions.{FlowCondTree, constantly, atom, negation, both, either, cond_holds, of_literal, opposite_cond, is_true, is_false, both_conds, either_cond, Fact, value_known, known_or, simplified, facts_of, compared_opaque, compared_values, cond_form, MayCompare, IsSortedCond}
 
 not_not : (b : Bool) → not (not b) ≡ b
 not_not true = refl
@@ -98,44 +91,6 @@ FactsHold I s (f ∷ fs) = (comparison_holds I s f.0 ≡ f.1) × FactsHold I s f
 pub FactsHold-append : (I : Interpretation) (s : State) (fs gs : List Fact) → FactsHold I s fs → FactsHold I s gs → FactsHold I s (fs ++ gs)
 FactsHold-append I s [] gs h k = k
 FactsHold-append I s (f ∷ fs) gs h k = (h.0, FactsHold-append I s fs gs h.1 k)
-
-one_form : (f g : FlowFormTree) → is_eq (form_cmp f g) ≡ true → f ≡ g
-one_form f g e = equal_forms f g (is_eq-true (form_cmp f g) e)
-
-one_comparison : (c d : FlowComparisonTree) → is_same_comparison c d ≡ true → c ≡ d
-one_comparison (zero_form v f) (zero_form w g) e =
-    let h = and_parts (is_same_width v w) (is_eq (form_cmp f g)) e in
-    ap₂ zero_form (same_bits v w h.0) (one_form f g h.1)
-one_comparison (less_form v d e) (less_form w f g) q =
-    let h = and_parts (is_same_width v w && is_eq (form_cmp d f)) (is_eq (form_cmp e g)) q in
-    let k = and_parts (is_same_width v w) (is_eq (form_cmp d f)) h.0 in
-    rw (same_bits v w k.0, one_form d f k.1, one_form e g h.1) refl
-one_comparison (same_form d e) (same_form f g) q =
-    let h = and_parts (is_eq (form_cmp d f)) (is_eq (form_cmp e g)) q in
-    ap₂ same_form (one_form d f h.0) (one_form e g h.1)
-one_comparison _ _ e = absurd cc
-
-own_width : (w : Width) → is_same_width w w ≡ true
-own_width W8 = refl
-own_width W16 = refl
-own_width W32 = refl
-own_width W64 = refl
-
-own_test : (f : FlowFormTree) → is_eq (form_cmp f f) ≡ true
-own_test f = ap is_eq (own_form f)
-
-own_comparison : (c : FlowComparisonTree) → is_same_comparison c c ≡ true
-own_comparison (zero_form w f) = ap₂ (λ x y. x && y) (own_width w) (own_test f)
-own_comparison (less_form w f g) = ap₂ (λ x y. x && y) (ap₂ (λ x y. x && y) (own_width w) (own_test f)) (own_test g)
-own_comparison (same_form f g) = ap₂ (λ x y. x && y) (own_test f) (own_test g)
-
-pub same_answers : (r : Bool) (c d : FlowComparisonTree) → IsTrue r ↔ (c ≡ d) → r ≡ is_same_comparison c d
-same_answers true c d h = sym (subst (λ e. is_same_comparison c e ≡ true) (h.0 refl) (own_comparison c))
-same_answers false c d h = by_test (is_same_comparison c d) (one_comparison c d)
-  where
-    by_test : (b : Bool) → (b ≡ true → c ≡ d) → false ≡ b
-    by_test true k = h.1 (k refl)
-    by_test false k = refl
 
 known_holds : (I : Interpretation) (s : State) (fs : List Fact) (c : FlowComparisonTree) (v : Bool) → FactsHold I s fs → value_known fs c ≡ Some v → comparison_holds I s c ≡ v
 known_holds I s [] c v h e = absurd cc

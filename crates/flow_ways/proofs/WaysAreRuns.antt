@@ -23,7 +23,7 @@ use Rattle.flow_ways.specs.Laws.{AreRuns}
 use Rattle.flow_ways.proofs.CondValues.{FactsHold, FactsHold-append, holds-opposite_cond, holds-simplified, facts_hold, holds-cond_form}
 use Rattle.flow_ways.proofs.States.{has_forms, length-with_forms, state_of-with_forms, own_state, own_length}
 
--- the course follows a run from the state s that has come to the state t
+-- the course follows a run from the state s that has reached the state t
 pub record Follows (I : Interpretation) (s : State) (sorts : List Sort) (t : State) (course : Course) : Type 0 where
   pub state : state_of I s sorts course.forms ≡ t
   pub lengths : length course.forms ≡ length sorts
@@ -144,7 +144,7 @@ comes I s sorts (claim b ∷ rest) t course next v o e h =
     let true_there : holds I t b ≡ true = sym (condition_holds I s sorts t course b v o.0 before) ∙ leads.holds_there later.before in
     record { to = later.to; after = after_claim I t b rest true_there ∙ later.after; follows = later.follows; before = before }
 
--- the course of statements that a run goes through
+-- the course of statements that a run takes
 record Courses (I : Interpretation) (s : State) (sorts : List Sort) (to : State) (course : Course) (stmts : List StatementTree) : Type 0 where
   next : Course
   after : after_statements sorts stmts course ≡ Some next

@@ -47,7 +47,7 @@ pub record Acts (I : Interpretation) (s : State) (sorts : List Sort) (live : ℕ
   pub is_state : IsState sorts (after_action I s sorts (action_of live sorts forms))
   pub agrees : (x : ℕ) → live x ≡ true → slice_index_or (after_action I s sorts (action_of live sorts forms)) x 0 ≡ slice_index_or t x 0
 
--- a way that ends at a place and whose tests hold in the state `s`: the run from this state comes to that place, in the
+-- a way that ends at a place and whose tests hold in the state `s`: the run from this state reaches that place, in the
 -- state to which the action leads where variables are live
 abbrev pub ActsAsRun : Interpretation → Graph → List Sort → (ℕ → Bool) → (ℕ → ℕ → Bool) → ℕ → State → Type 0
 ActsAsRun I g sorts is_place live k s =

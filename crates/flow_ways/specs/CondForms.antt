@@ -1,4 +1,4 @@
--- Conditions in Polish notation are brought to conditions of forms from the last node to the first, over a stack.
+-- Conditions in Polish notation become conditions of forms from the last node to the first, over a stack.
 use Rattle.std.specs.Prelude.{Bool, true, ◌&&◌, List, [], ◌∷◌}
 use Rattle.kat_model.specs.declared.expression.Rel.{Rel}
 use Rattle.kat_model.specs.declared.expression.Width.{Width}

@@ -1,6 +1,5 @@
 -- Conditions of forms: Boolean combinations of comparisons, with what is known left out.
 use Rattle.std.specs.Prelude.{◌≡◌, Bool, true, false, not, ◌&&◌, ◌||◌, List, [], ◌∷◌, ◌++◌, Option, Some, None, if◌then◌else◌}
-use Rattle.std.specs.Ordering.{is_eq}
 use Rattle.flow_model.specs.declared.sort.Sort.{Sort}
 use Rattle.flow_model.specs.declared.sort.Sort.TheVariants.{Number, Opaque}
 use Rattle.flow_model.specs.Sorts.{State}
@@ -10,9 +9,7 @@ use Rattle.flow_model.specs.Conditions.{CondTree}
 use Rattle.kat_model.specs.declared.expression.Rel.{Rel}
 use Rattle.kat_model.specs.declared.expression.Rel.TheVariants.{Eq, Ne}
 use Rattle.flow_forms.specs.Forms.{FlowFormTree}
-use Rattle.flow_forms.specs.Order.{form_cmp}
-use Rattle.flow_forms.specs.Conversions.{is_same_width}
-use Rattle.flow_forms.specs.Comparisons.{FlowComparisonTree, zero_form, less_form, same_form, FlowLiteralTree, decided, holding, failing, comparison_holds, opposite, same_literal, compared_numbers, compared_signed}
+use Rattle.flow_forms.specs.Comparisons.{FlowComparisonTree, FlowLiteralTree, decided, holding, failing, comparison_holds, opposite, same_literal, compared_numbers, compared_signed, is_same_comparison}
 use Rattle.flow_forms.specs.Expressions.{sort_of, IsSorted, form_of}
 
 -- a truth value, a comparison, or a negation, conjunction or disjunction; truth values are only whole conditions
@@ -65,13 +62,6 @@ either_cond b c =
     else if is_false c then b
     else if is_true c then constantly true
     else either b c
-
--- whether two comparisons are one
-abbrev pub is_same_comparison : FlowComparisonTree → FlowComparisonTree → Bool
-is_same_comparison (zero_form v f) (zero_form w g) = is_same_width v w && is_eq (form_cmp f g)
-is_same_comparison (less_form v d e) (less_form w f g) = is_same_width v w && is_eq (form_cmp d f) && is_eq (form_cmp e g)
-is_same_comparison (same_form d e) (same_form f g) = is_eq (form_cmp d f) && is_eq (form_cmp e g)
-is_same_comparison _ _ = false
 
 -- a comparison with its truth value
 abbrev pub Fact : Type 0

@@ -11,7 +11,7 @@ use Rattle.flow_ways.specs.Sorted.{IsSortedGraph}
 use Rattle.flow_ways.specs.Liveness.{AgreeLive, StopsAgree}
 use Rattle.flow_ways.specs.Actions.{ActsAsRun}
 
--- a way whose tests hold in a state ends where the run from this state comes to, and each run that comes to a place or
+-- a way whose tests hold in a state ends where the run from this state ends, and each run that reaches a place or
 -- returns has such a way
 pub record AreRuns (I : Interpretation) (g : Graph) (sorts : List Sort) (is_place : ℕ → Bool) (k : ℕ) (s : State) : Type 0 where
   pub sound : (way : Way) → Has (ways g sorts is_place k) way → AllHold I s way.tests → EndsAs I s sorts way.end (stop_from I g is_place (length g) k s)

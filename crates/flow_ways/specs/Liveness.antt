@@ -56,7 +56,7 @@ jump_targets (branch b k l) = k ∷ l ∷ []
 jump_targets (return es) = []
 jump_targets abort = []
 
--- Variable x is live at the beginning of a block: the block reads it before it sets it, or leaves it as it is and it is
+-- Variable x is live at the beginning of a block: the block reads it before it sets it, or leaves it unchanged and it is
 -- live at a target of the block's jump. These are the least sets of the equations of liveness (Aho, Lam, Sethi and
 -- Ullman, *Compilers*, 2006).
 pub data IsLive (g : Graph) (x : ℕ) : ℕ → Type 0 where
@@ -67,7 +67,7 @@ pub data IsLive (g : Graph) (x : ℕ) : ℕ → Type 0 where
 abbrev pub AgreeLive : Graph → ℕ → State → State → Type 0
 AgreeLive g k s t = (x : ℕ) → IsLive g x k → slice_index_or s x 0 ≡ slice_index_or t x 0
 
--- both runs come to one place in states that agree on what is live there, return the same values, or end alike
+-- both runs reach one place in states that agree on what is live there, return the same values, or end alike
 abbrev pub StopsAgree : Graph → Stop → Stop → Type 0
 StopsAgree g (came_to k s) (came_to l t) = (k ≡ l) × (length s ≡ length t) × AgreeLive g k s t
 StopsAgree g (returned vs) (returned ws) = vs ≡ ws

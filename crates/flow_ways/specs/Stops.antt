@@ -8,7 +8,7 @@ use Rattle.flow_model.specs.Runs.{after_statements}
 use Rattle.flow_forms.specs.Values.{form_value}
 use Rattle.flow_ways.specs.Ways.{WayEnd, at_place, at_return, state_of}
 
--- how a run that leaves a place goes on: it comes to a place, returns, gets stuck, or is not there within the number of
+-- how a run that leaves a place goes on: it reaches a place, returns, gets stuck, or is not there within the number of
 -- blocks
 pub data Stop : Type 0 where
   came_to : (block : ℕ) (s : State) → Stop
@@ -30,19 +30,19 @@ abbrev pub block_stop : Interpretation → (ℕ → State → Stop) → Option B
 block_stop I go None s = stuck
 block_stop I go (Some block) s = jump_stop_if I go block.jump (after_statements I s block.statements)
 
--- where the run from the beginning of block k in state s comes to if it goes through at most n blocks
+-- where the run from the beginning of block k in state s ends within n blocks
 abbrev pub stop_from : Interpretation → Graph → (ℕ → Bool) → ℕ → ℕ → State → Stop
 stop_from I g is_place zero k s = unfinished
 stop_from I g is_place (suc n) k s =
     block_stop I (λ l t. if is_place l then came_to l t else stop_from I g is_place n l t) (slice_get g k) s
 
--- the end of a way from the state `s` is where the run comes to
+-- the end of a way from the state `s` is the end of the run
 abbrev pub EndsAs : Interpretation → State → List Sort → WayEnd → Stop → Type 0
 EndsAs I s sorts (at_place k forms) (came_to l t) = (k ≡ l) × (state_of I s sorts forms ≡ t)
 EndsAs I s sorts (at_return results) (returned vs) = map (λ r. form_value I s r.0 r.1) results ≡ vs
 EndsAs I s sorts end stop = ⊥
 
--- the run comes to a place or returns
+-- the run reaches a place or returns
 abbrev pub IsSettled : Stop → Type 0
 IsSettled (came_to k s) = Unit {0}
 IsSettled (returned vs) = Unit {0}

@@ -76,7 +76,7 @@ abbrev pub block_ways : List Sort → (ℕ → Course → List Way) → Option B
 block_ways sorts go None course = []
 block_ways sorts go (Some block) course = ways_if (after_statements sorts block.statements course) (jump_ways sorts go block.jump)
 
--- the ways from the beginning of block k that go through at most n blocks; `is_place` tells the places
+-- the ways from the beginning of block k of at most n blocks; `is_place` is true of the places
 abbrev pub ways_from : Graph → List Sort → (ℕ → Bool) → ℕ → ℕ → Course → List Way
 ways_from g sorts is_place zero k course = []
 ways_from g sorts is_place (suc n) k course =

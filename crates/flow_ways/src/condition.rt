@@ -1,7 +1,7 @@
 //! Conditions of forms, with what is known left out.
 ghost use Rattle.std.specs.Prelude.{◌≡◌, ◌∷◌, IfOk, map};
-ghost use Rattle.flow_forms.specs.Comparisons.{comparison_tree, literal_tree};
-ghost use Rattle.flow_ways.specs.Conditions.{negation, both, either, of_literal as cond_of_literal, opposite_cond as opposite_of, is_true as is_true_cond, is_false as is_false_cond, both_conds as both_of, either_cond as either_of, is_same_comparison, value_known as known_value, known_or as cond_known_or, simplified as simplified_cond};
+ghost use Rattle.flow_forms.specs.Comparisons.{comparison_tree, literal_tree, is_same_comparison};
+ghost use Rattle.flow_ways.specs.Conditions.{negation, both, either, of_literal as cond_of_literal, opposite_cond as opposite_of, is_true as is_true_cond, is_false as is_false_cond, both_conds as both_of, either_cond as either_of, value_known as known_value, known_or as cond_known_or, simplified as simplified_cond};
 ghost use Rattle.flow_ways.specs.CondTrees.{cond_tree, known_fact};
 
 use flow_forms::{FlowComparison, FlowLiteral, same_comparison};
@@ -69,7 +69,8 @@ pub fn opposite_cond(alloc: Global, cond: FlowCond) -> Result<FlowCond, NoMemory
     }
 }
 
-pub(crate) fn is_true(cond: &FlowCond) -> bool
+/// Whether a condition is the constant that holds.
+pub fn is_true(cond: &FlowCond) -> bool
     ensures { result ≡ is_true_cond (cond_tree cond.now) }
 {
     match cond {
@@ -78,7 +79,8 @@ pub(crate) fn is_true(cond: &FlowCond) -> bool
     }
 }
 
-pub(crate) fn is_false(cond: &FlowCond) -> bool
+/// Whether a condition is the constant that does not hold.
+pub fn is_false(cond: &FlowCond) -> bool
     ensures { result ≡ is_false_cond (cond_tree cond.now) }
 {
     match cond {

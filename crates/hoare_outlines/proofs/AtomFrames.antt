@@ -5,7 +5,7 @@ use Rattle.kat_model.specs.Members.{Has}
 use Rattle.kat_model.specs.Problems.{ProblemParts}
 use Rattle.kat_model.specs.Steps.{Atom, out}
 use Rattle.kat_model.specs.Relations.{RelatesIn}
-use Rattle.abstraction.proofs.PathTables.{FitsProblem}
+use Rattle.kat_model.proofs.PathTables.{FitsProblem}
 use Rattle.hypothesis_kinds.specs.TestTerms.{StepForm, HasStepForm, AreSimple}
 use Rattle.hypothesis_kinds.proofs.StepForms.{test_related, step_related}
 use Rattle.hoare_outlines.specs.Working.Reached.{atom_frame}

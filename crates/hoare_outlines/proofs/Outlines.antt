@@ -9,7 +9,7 @@ use Rattle.kat_model.specs.Steps.{Atom, truth}
 use Rattle.kat_model.specs.Relations.{RelatesIn, Same}
 use Rattle.kat_model.proofs.Lists.{has_append}
 use Rattle.kat_model.proofs.ProductRelations.{product_of_relations}
-use Rattle.abstraction.proofs.PathTables.{same_in_frame}
+use Rattle.kat_model.proofs.PathTables.{same_in_frame}
 use Rattle.goal_forms.specs.Sides.{SideTrees, failing_run}
 use Rattle.while_lang.specs.Encoding.{stmt_terms, encoded}
 use Rattle.outline_diagrams.specs.StepFunctions.{StepDiagramsParts, step_value, IsStepId, IsStepDiagram, KeepsSteps, Entails}

@@ -16,7 +16,7 @@ use Rattle.kat_model.proofs.Sameness.{AcceptAlike, alike_relates, closed_relates
 use Rattle.string_tables.specs.Tables.{Refutes}
 use Rattle.string_tables.proofs.Counterexamples.{refuted_not_same}
 use Rattle.string_tables.proofs.Elimination.{differ_refuted}
-use Rattle.abstraction.proofs.PathTables.{same_in_frame}
+use Rattle.kat_model.proofs.PathTables.{same_in_frame}
 use Rattle.kat_laws.specs.Models.{Model, frame_of_model, IsModel, SameInModels}
 use Rattle.kat_laws.specs.Laws.{HasOneTheory}
 use Rattle.kat_laws.proofs.Frames.{relates_too}

@@ -3,6 +3,7 @@ pub mod Options
 pub mod Lists
 pub mod Filters
 pub mod Places
+pub mod MemberPlaces
 pub mod SetKeys
 pub mod NumberKeys
 pub mod ValuesInOrder
@@ -15,6 +16,8 @@ pub mod BalancedSums
 pub mod ProductRelations
 pub mod Universal
 pub mod Paths
+pub mod RelatesNothing
+pub mod PathTables
 pub mod SameTrees
 pub mod Saturation
 pub mod SaturationEnds

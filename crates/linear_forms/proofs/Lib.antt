@@ -2,6 +2,7 @@ pub mod Terms
 pub mod Counting
 pub mod SameOrder
 pub mod TotalOrder
+pub mod Sameness
 pub mod Comparing
 pub mod Merging
 pub mod Modulo

@@ -4,6 +4,7 @@ pub mod Ranks
 pub mod Views
 pub mod Falls
 pub mod Order
+pub mod Sameness
 pub mod Arithmetic
 pub mod Values
 pub mod Substitution

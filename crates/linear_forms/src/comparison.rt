@@ -14,6 +14,7 @@ use crate::order::{cmp_form, same_form};
 use kat_model::{Expr, NoMemory, Rel, Width};
 use std::alloc::Global;
 use std::cmp::Ordering;
+use unique_rows::TableRow;
 
 /// A comparison: that a form is 0, or that the first form is less than the second, as unsigned numbers.
 pub enum Atomic {
@@ -66,6 +67,16 @@ pub fn same_atomic(left: &Atomic, right: &Atomic) -> bool
         (Atomic::Zero(d), Atomic::Zero(f)) => same_form(d, f),
         (Atomic::Less(d, e), Atomic::Less(f, g)) => same_form(d, f) && same_form(e, g),
         _ => false,
+    }
+}
+
+impl TableRow for Atomic {
+    ghost use Rattle.linear_forms.specs.Sameness.{is_same_comparison};
+
+    ghost same = { is_same_comparison };
+
+    fn is_same(&self, other: &Atomic) -> bool {
+        same_atomic(self, other)
     }
 }
 

@@ -9,7 +9,9 @@ use Rattle.kat_model.specs.Problems.{ProblemParts, IsProblem, problem_size}
 use Rattle.file_parts.specs.Files.{FileParts, GoalTree, term_side, equal}
 use Rattle.abstraction.specs.declared.fault.AbstractFault.TheVariants.{TooManyTests, TooManyActions, ProblemTooLarge}
 use Rattle.abstraction.specs.Comparisons.{goal_comparisons, goal_assignments}
-use Rattle.abstraction.specs.Tables.{Tables, is_same_comparison, is_same_assignment, with_all_new, first_comparisons, file_assignments}
+use Rattle.linear_forms.specs.Sameness.{is_same_comparison}
+use Rattle.abstraction.specs.Tables.{Tables, is_same_assignment, first_comparisons, file_assignments}
+use Rattle.unique_rows.specs.UniqueRows.{with_all_new}
 use Rattle.abstraction.specs.Rounds.{rounds, tables_of}
 use Rattle.abstraction.specs.Goals.{goal_sides}
 use Rattle.abstraction.specs.Derived.{stated_from, hypotheses}

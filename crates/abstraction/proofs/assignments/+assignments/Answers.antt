@@ -5,7 +5,7 @@ use Rattle.kat_model.specs.Stores.{modulus}
 use Rattle.while_lang.specs.ProgramViews.{list_tree}
 use Rattle.abstraction.specs.Comparisons.{prog_assignments}
 use Rattle.abstraction.specs.Tables.{is_same_assignment}
-use Rattle.abstraction.proofs.CappedTables.{with_all_new_within-append, with_all_new_within-over}
+use Rattle.unique_rows.proofs.CappedTables.{with_all_new_within-append, with_all_new_within-over}
 use Rattle.abstraction.proofs.StatementRows.{assignments_go_on}
 use Rattle.abstraction.proofs.assignments.+assignments.Goals as goal
 

@@ -3,7 +3,7 @@ use Rattle.kat_model.specs.Stores.{modulus}
 use Rattle.while_lang.specs.ProgramViews.{list_tree}
 use Rattle.abstraction.specs.Comparisons.{prog_assignments}
 use Rattle.abstraction.specs.Tables.{is_same_assignment}
-use Rattle.abstraction.specs.Working.CappedRows.{with_all_new_within}
+use Rattle.unique_rows.specs.UniqueRows.{with_all_new_within}
 use Rattle.abstraction.proofs.assignments.+assignments.Given as goal
 
 -- the remaining statements add the remaining assignments

@@ -1,6 +1,6 @@
 use Rattle.std.proofs.Common.{rules}
 use Rattle.std.proofs.lemmas.Result.{IfOk-equal}
-use Rattle.abstraction.proofs.CappedTables.{with_all_new_within-append}
+use Rattle.unique_rows.proofs.CappedTables.{with_all_new_within-append}
 use Rattle.abstraction.proofs.assignments.add_goal.Goals as goal
 
 pub returns-in_ok-add_side-in-Equal : goal.returns-in_ok-add_side-in-Equal

@@ -3,8 +3,8 @@ use Rattle.std.proofs.lemmas.List.{append-nil}
 use Rattle.std.proofs.lemmas.Result.{IfOk-equal}
 use Rattle.while_lang.specs.ProgramViews.{list_tree}
 use Rattle.abstraction.specs.Comparisons.{prog_comparisons}
-use Rattle.abstraction.specs.Tables.{is_same_comparison}
-use Rattle.abstraction.proofs.CappedTables.{with_all_new_within-append, with_all_new_within-over}
+use Rattle.linear_forms.specs.Sameness.{is_same_comparison}
+use Rattle.unique_rows.proofs.CappedTables.{with_all_new_within-append, with_all_new_within-over}
 use Rattle.kat_model.specs.Stores.{modulus}
 use Rattle.abstraction.proofs.StatementRows.{comparisons_go_on}
 use Rattle.abstraction.proofs.comparisons.+comparisons.Goals as goal

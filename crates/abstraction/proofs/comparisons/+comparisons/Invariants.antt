@@ -2,8 +2,8 @@ use Rattle.std.proofs.Common.{◌≡◌, drop}
 use Rattle.kat_model.specs.Stores.{modulus}
 use Rattle.while_lang.specs.ProgramViews.{list_tree}
 use Rattle.abstraction.specs.Comparisons.{prog_comparisons}
-use Rattle.abstraction.specs.Tables.{is_same_comparison}
-use Rattle.abstraction.specs.Working.CappedRows.{with_all_new_within}
+use Rattle.linear_forms.specs.Sameness.{is_same_comparison}
+use Rattle.unique_rows.specs.UniqueRows.{with_all_new_within}
 use Rattle.abstraction.proofs.comparisons.+comparisons.Given as goal
 
 -- the remaining statements add the remaining comparisons

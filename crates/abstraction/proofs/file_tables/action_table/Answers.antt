@@ -4,7 +4,7 @@ use Rattle.kat_model.specs.Stores.{modulus}
 use Rattle.file_parts.specs.Trees.{goal_tree}
 use Rattle.abstraction.specs.Comparisons.{goal_assignments}
 use Rattle.abstraction.specs.Tables.{is_same_assignment}
-use Rattle.abstraction.proofs.CappedTables.{first_rows, too_many_rows}
+use Rattle.unique_rows.proofs.CappedTables.{first_rows, too_many_rows}
 use Rattle.abstraction.proofs.file_tables.action_table.Goals as goal
 
 pub returns-then-len-most : goal.returns-then-len-most

@@ -1,6 +1,6 @@
 use Rattle.std.proofs.Common.{ap, arith}
 use Rattle.std.specs.List.{position_from}
-use Rattle.abstraction.specs.Tables.{is_same_comparison}
+use Rattle.linear_forms.specs.Sameness.{is_same_comparison}
 use Rattle.abstraction.specs.ShownTables.{row_comparisons}
 use Rattle.abstraction.proofs.ShownRows.{test_row_count}
 use Rattle.abstraction.proofs.shown.comparison_number.Goals as goal

@@ -1,5 +1,5 @@
 use Rattle.flow_forms.specs.Comparisons.{comparison_tree}
-use Rattle.flow_ways.proofs.CondValues.{same_answers}
+use Rattle.flow_forms.proofs.SameComparisons.{same_answers}
 use Rattle.flow_ways.proofs.condition.is_same.Goals as goal
 
 pub returns : goal.returns

@@ -1,6 +1,6 @@
 use Rattle.std.proofs.Common.{ap, ◌∙◌}
 use Rattle.std.specs.List.{position_from}
-use Rattle.abstraction.specs.Tables.{is_same_comparison}
+use Rattle.linear_forms.specs.Sameness.{is_same_comparison}
 use Rattle.abstraction.specs.ShownTables.{declared_tests, row_comparisons}
 use Rattle.abstraction.proofs.ShownRows.{position_from-position}
 use Rattle.abstraction.proofs.shown.AbstractNumbering.test_number.Goals as goal

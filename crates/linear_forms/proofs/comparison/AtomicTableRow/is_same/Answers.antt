@@ -1,7 +1,7 @@
 use Rattle.std.proofs.lemmas.Bool.Decides.{same_from_decides}
-use Rattle.abstraction.specs.Tables.{is_same_comparison}
-use Rattle.abstraction.proofs.SameRows.{is_same_comparison-decides}
-use Rattle.abstraction.proofs.tables.AtomicRow.is_same.Goals as goal
+use Rattle.linear_forms.specs.Sameness.{is_same_comparison}
+use Rattle.linear_forms.proofs.Sameness.{is_same_comparison-decides}
+use Rattle.linear_forms.proofs.comparison.AtomicTableRow.is_same.Goals as goal
 
 pub returns : goal.returns
 returns c =

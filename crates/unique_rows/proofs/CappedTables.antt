@@ -3,8 +3,8 @@ use Rattle.std.proofs.Common.{◌≡◌, ℕ, ◌<◌, ◌≤◌, Bool, true, fa
 use Rattle.std.specs.List.{list_any}
 use Rattle.std.proofs.lemmas.List.{length-append}
 use Rattle.std.proofs.lemmas.Bool.{lt-ltb, le-ltb, cases_lt}
-use Rattle.abstraction.specs.Tables.{with_new, with_all_new}
-use Rattle.abstraction.specs.Working.CappedRows.{with_new_within, with_all_new_within}
+use Rattle.unique_rows.specs.UniqueRows.{with_new, with_all_new}
+use Rattle.unique_rows.specs.UniqueRows.{with_new_within, with_all_new_within}
 
 module _ {X : Type 0} (n : ℕ) (same : X → X → Bool) where
   pub with_all_new_within-append : (xs ys zs : List X) → with_all_new_within n same xs (ys ++ zs) ≡ with_all_new_within n same (with_all_new_within n same xs ys) zs

@@ -1,12 +1,12 @@
 //! Tables that have each row once.
 ghost use Rattle.std.specs.Prelude.{◌≡◌, ◌≤◌, ◌<◌, [], ◌∷◌, length, position, IfOk, OnOk, Ok, Err};
 ghost use Rattle.std.specs.List.{list_any};
-ghost use Rattle.abstraction.specs.Working.CappedRows.{with_new_within};
+ghost use Rattle.unique_rows.specs.UniqueRows.{with_new_within};
 
 use kat_model::NoMemory;
 
 /// A row of a table.
-pub(crate) trait Row {
+pub trait TableRow {
     ghost use Rattle.std.specs.Prelude.{Bool};
 
     // Whether two rows are the same.
@@ -17,21 +17,21 @@ pub(crate) trait Row {
 }
 
 /// Returns the index of a row in a table.
-pub(crate) fn place_of<T: Row>(rows: &[T], row: &T) -> Option<usize>
+pub fn place_of<T: TableRow>(rows: &[T], row: &T) -> Option<usize>
     ensures { result ≡ position (T.same row.now) rows.now }
 {
     rows.iter().position(|x| row.is_same(x))
 }
 
 /// Whether a table has a row.
-pub(crate) fn has_row<T: Row>(rows: &[T], row: &T) -> bool
+pub fn has_row<T: TableRow>(rows: &[T], row: &T) -> bool
     ensures { result ≡ list_any (T.same row.now) rows.now }
 {
     rows.iter().any(|x| row.is_same(x))
 }
 
 /// Appends a row, unless the table has it already or has more than `most` rows.
-pub(crate) fn add_row<T: Row + Drop>(rows: &mut Vec<T>, most: usize, row: T) -> Result<(), NoMemory>
+pub fn add_row<T: TableRow + Drop>(rows: &mut Vec<T>, most: usize, row: T) -> Result<(), NoMemory>
     ensures { OnOk result (rows.new.items ≡ with_new_within most T.same rows.old.items row) }
 {
     if rows.len() > most || has_row(rows, &row) {
